@@ -1,7 +1,7 @@
 -- Files and their pictures.
 use Rattle.std.proofs.Common.{◌≡◌, ◌∙◌, sym, ap, refl, [], ◌∷◌, add-zero, zero-add, append-nil, take-add, ℕ, zero, suc, ◌+◌, ◌*◌, ◌<◌, ◌≤◌, ℤ, pos, ◌+ℤ◌, true, rules, mul_comm, unsigned_abs, arith, length, map, take, drop, get_or, List, ◌++◌, codes, decimal, append_assoc, Result, Ok, Err, IfOk, String, string_bytes}
 use Rattle.std.specs.List.{flat_map, range_with_len}
-use Rattle.std.proofs.lemmas.List.{length-map, get_or-map, take_all, length-take-le, length-drop, get_or-take, get_or-drop}
+use Rattle.std.proofs.lemmas.List.{append_cancel_left, length-map, get_or-map, take_all, length-take-le, length-drop, get_or-take, get_or-drop}
 use Rattle.std.proofs.lemmas.List.Concat.{flat_map-append}
 use Rattle.std.proofs.Math.Nat.{mul-le-mul_right}
 use Rattle.std.proofs.lemmas.Nat.{mul-add-lt}
@@ -88,3 +88,8 @@ output_is p samples whole =
     raster_is p.width p.height _ (map (sample_of p.body) samples) (length-map samples (sample_of p.body) ∙ whole ∙ mul_comm p.width p.height)
     (λ x y across down. output_at p.body _ (pos x) (pos y) _ (input_at p.width p.height samples x y across down)
     ∙ sym (get_or-map (sample_of p.body) samples (y * p.width + x) 0 0 (omega (arith, whole, mul-add-lt y p.width x p.height down across, mul_comm p.width p.height))))
+
+-- what follows one header is one raster
+pub one_raster : (file front start found samples : List ℕ) → file ≡ front ++ found → front ≡ start → file ≡ start ++ samples → found ≡ samples
+one_raster file front start found samples first is second =
+    append_cancel_left start found samples (sym (first ∙ ap (λ f. f ++ found) is) ∙ second)

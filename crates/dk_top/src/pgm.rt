@@ -1,6 +1,6 @@
 //! Pictures as binary PGM files of samples up to 255.
 
-ghost use Rattle.std.specs.Prelude.{◌≡◌, ◌≤◌, ◌*◌, ◌+◌, ℕ, List, length, None, IfOk, IfSome, string_bytes};
+ghost use Rattle.std.specs.Prelude.{◌≡◌, ◌≤◌, ◌*◌, ◌+◌, ℕ, List, length, IfOk, IfSome, IsSomeAnd, string_bytes};
 ghost use Rattle.dk_top.specs.Pgm.{Fits};
 
 use crate::bytes::after;
@@ -19,8 +19,8 @@ pub fn header(alloc: Global, width: u32, height: u32) -> Result<String, Memory>
 /// The samples of a file that is an image of the program's size. `header` is the one of that size.
 pub fn samples<'a>(file: &'a [u8], header: &[u8], program: &Program) -> Option<&'a [u8]>
     requires { header.now ≡ Rattle.dk_top.specs.Pgm.header program.now.width program.now.height }
-    ensures some { IfSome result (λ samples. Fits program.now file.now samples.now) }
-    ensures none { result ≡ None → (samples : List ℕ) → ¬ Fits program.now file.now samples }
+    ensures sound { IfSome result (λ samples. Fits program.now file.now samples.now) }
+    ensures complete { (samples : List ℕ) → Fits program.now file.now samples → IsSomeAnd result (λ found. found.now ≡ samples) }
 {
     let samples = after(file, header)?;
     if samples.len() as u64 == u64::from(program.width) * u64::from(program.height) {

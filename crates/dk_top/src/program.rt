@@ -1,6 +1,6 @@
 //! The programs that are built so far, and the reading of their texts.
 
-ghost use Rattle.std.specs.Prelude.{◌≡◌, ◌≢◌, ◌<◌, ◌≤◌, ◌^◌, ◌↔◌, ℕ, IsTrue, List, ◌∷◌, ◌++◌, length, None, Some, IfSome, IsSomeAnd, Contains, decimal};
+ghost use Rattle.std.specs.Prelude.{◌≡◌, ◌*◌, ◌<◌, ◌≤◌, ◌^◌, ◌↔◌, ℕ, IsTrue, List, ◌∷◌, ◌++◌, length, None, Some, IfSome, IsSomeAnd, Contains, decimal};
 ghost use Rattle.dk_top.specs.declared.program.Program.{Program};
 ghost use Rattle.dk_top.specs.Program.{IsSide, IsWritten, sized_text, tail_text};
 
@@ -28,6 +28,16 @@ pub struct Program {
     /// In pixels.
     pub height: u32,
     pub body: Body,
+}
+
+impl Program {
+    /// How many pixels a frame has.
+    pub fn area(&self) -> usize
+        ensures value { result ≡ self.now.width * self.now.height }
+        ensures limit { IsSide self.now.width → IsSide self.now.height → result ≤ 16777216 }
+    {
+        self.width as usize * self.height as usize
+    }
 }
 
 /// The number that these digits write.
