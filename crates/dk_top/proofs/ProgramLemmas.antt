@@ -1,5 +1,5 @@
 -- Texts of programs are of one program.
-use Rattle.std.proofs.Common.{◌≡◌, ◌≢◌, ℕ, ◌<◌, ◌≤◌, ◌+◌, ◌^◌, Bool, true, false, ◌&&◌, nat_lt, List, [], ◌∷◌, ◌++◌, length, get_or, refl, sym, ap, ◌∙◌, arith, lit<, codes, decimal, append_assoc, rules, Contains, Option, None, Some, Result, Ok, Err, IsSomeAnd, MatchResult}
+use Rattle.std.proofs.Common.{◌≡◌, ◌≢◌, ℕ, suc, ◌<◌, ◌≤◌, ◌+◌, ◌^◌, Bool, true, false, ◌&&◌, nat_lt, List, [], ◌∷◌, ◌++◌, length, get_or, refl, sym, ap, ◌∙◌, arith, lit<, codes, decimal, append_assoc, rules, Contains, Option, None, Some, Result, Ok, Err, IsSomeAnd, MatchResult}
 use Rattle.std.specs.Result.{result_ok}
 use Rattle.std.specs.Borrow.{Bor}
 use Rattle.std.specs.List.{list_all}
@@ -9,7 +9,7 @@ use Rattle.std.specs.Str.{IsAscii, IsUtf8}
 use Rattle.std.proofs.lemmas.Str.{IsAscii-append, IsUtf8-from_ascii}
 use Rattle.std.proofs.lemmas.Str.Pattern.{IsSplitOnceResult, split_after}
 use Rattle.std.proofs.lemmas.Grind.{get_or_default_zero, common_steps}
-use Rattle.std.proofs.lemmas.Fmt.{decimal_is_IsNumeral, IsAscii-decimal}
+use Rattle.std.proofs.lemmas.Fmt.{decimal_is_IsNumeral, decimal_injective, IsAscii-decimal}
 use Rattle.std.proofs.lemmas.Str.Parse.{digit_at}
 use Rattle.std.specs.Str.Parse.{AllDigits}
 use Rattle.dk_top.specs.declared.program.Body.{Body}
@@ -113,3 +113,40 @@ same_program width height body p w h b =
     let height_is : height ≡ p.height = cc in
     let body_is : body ≡ p.body = cc in
     rw (width_is, height_is, body_is) refl
+
+-- a byte that a list lacks is not its head, and its tail lacks it
+head_apart : (c byte : ℕ) (a : List ℕ) → ¬ (Contains (c ∷ a) byte) → c ≡ byte → ⊥
+head_apart c byte a lacks is = lacks (0, some c a, is)
+  where
+    some : (c : ℕ) (a : List ℕ) → 0 < length (c ∷ a)
+    some c a = omega arith
+
+tail_lacks : (c byte : ℕ) (a : List ℕ) → ¬ (Contains (c ∷ a) byte) → ¬ (Contains a byte)
+tail_lacks c byte a lacks (k, inside, is) = lacks (suc k, omega (arith, inside), is)
+
+-- two words before the same byte, where neither has it
+cut_once : (byte : ℕ) (a b x y : List ℕ) → ¬ (Contains a byte) → ¬ (Contains b byte) → a ++ byte ∷ x ≡ b ++ byte ∷ y → (a ≡ b) × (x ≡ y)
+cut_once byte [] [] x y la lb e = (refl, cc)
+cut_once byte [] (c ∷ b) x y la lb e = absurd (head_apart c byte b lb (cc))
+cut_once byte (c ∷ a) [] x y la lb e = absurd (head_apart c byte a la (cc))
+cut_once byte (c ∷ a) (d ∷ b) x y la lb e =
+    let heads : c ≡ d = cc in
+    let rest : a ++ byte ∷ x ≡ b ++ byte ∷ y = cc in
+    let more = cut_once byte a b x y (tail_lacks c byte a la) (tail_lacks d byte b lb) rest in
+    (ap (λ h. h ∷ a) heads ∙ ap (λ t. d ∷ t) more.0, more.1)
+
+-- programs with equal parts
+same_parts : (p q : Program) → p.width ≡ q.width → p.height ≡ q.height → p.body ≡ q.body → p ≡ q
+same_parts p q width height body = λ i. record { width = width i; height = height i; body = body i }
+
+-- a text is of one program
+pub one_program : (text : List ℕ) (p q : Program) → IsWritten text p → IsWritten text q → p ≡ q
+one_program text p q x y =
+    let words = sym (sized_words (decimal p.width) (decimal p.height) (tail_text p.body)) ∙ sym x.is ∙ y.is ∙ sized_words (decimal q.width) (decimal q.height) (tail_text q.body) in
+    let sizes = cut_once 32 (codes "size") (codes "size") (decimal p.width ++ 32 ∷ (decimal p.height ++ 10 ∷ tail_text p.body)) (decimal q.width ++ 32 ∷ (decimal q.height ++ 10 ∷ tail_text q.body)) size_lacks size_lacks words in
+    let widths = cut_once 32 (decimal p.width) (decimal q.width) (decimal p.height ++ 10 ∷ tail_text p.body) (decimal q.height ++ 10 ∷ tail_text q.body) (width_lacks p text x) (width_lacks q text y) sizes.1 in
+    let heights = cut_once 10 (decimal p.height) (decimal q.height) (tail_text p.body) (tail_text q.body) (height_lacks p text x) (height_lacks q text y) widths.1 in
+    same_parts p q
+    (decimal_injective p.width q.width (omega (arith, x.width.greatest)) (omega (arith, y.width.greatest)) widths.0)
+    (decimal_injective p.height q.height (omega (arith, x.height.greatest)) (omega (arith, y.height.greatest)) heights.0)
+    (one_tail p.body q.body heights.1)
