@@ -41,10 +41,10 @@ pub enum Ending {
 }
 
 /// The room for a line to Fault, in bytes.
-const LINE_BYTES: usize = 160;
+pub const LINE_BYTES: usize = 160;
 
 /// A line to Fault, in room of its own.
-type Line = ArrayString<LINE_BYTES>;
+pub type Line = ArrayString<LINE_BYTES>;
 
 /// A line that ends in a number.
 fn numbered(before: &str, number: usize) -> Line
@@ -70,8 +70,8 @@ fn plain(text: &str) -> Line
 }
 
 impl Ending {
-    /// The line that goes to Fault. It takes no memory.
-    pub fn line(&self) -> ArrayString<LINE_BYTES>
+    /// The line that goes to Fault, with its line end; after Done there is none. It takes no memory.
+    pub fn line(&self) -> Line
         ensures { result.bytes ≡ fault_line self.now }
     {
         match self {

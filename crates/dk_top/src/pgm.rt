@@ -23,7 +23,7 @@ pub fn samples<'a>(file: &'a [u8], header: &[u8], program: &Program) -> Option<&
     ensures complete { (samples : List ℕ) → Fits program.now file.now samples → IsSomeAnd result (λ found. found.now ≡ samples) }
 {
     let samples = after(file, header)?;
-    if samples.len() as u64 == u64::from(program.width) * u64::from(program.height) {
+    if samples.len() == program.area() {
         Some(samples)
     } else {
         None

@@ -54,7 +54,7 @@ fn simulate<D: Desk>(
 
 /// The output file of a program for the samples of its input: its circuit is printed, the text is read again, and the module that
 /// was read is clocked. `header` is the one of the program's size.
-pub fn clocked<D: Desk>(
+pub fn clocked_output<D: Desk>(
     alloc: Global,
     desk: &mut D,
     program: &Program,

@@ -1,6 +1,6 @@
 use Rattle.std.proofs.Common.{◌∙◌}
 use Rattle.dk_top.proofs.RunLemmas.{notes_run, output_made}
-use Rattle.dk_top.proofs.simulate.clocked.Goals as goal
+use Rattle.dk_top.proofs.simulate.clocked_output.Goals as goal
 
 pub returns-clause-notes : goal.returns-clause-notes
 returns-clause-notes g c =
