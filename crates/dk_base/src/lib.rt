@@ -1,5 +1,24 @@
-//! The limits of the compiler, and want of memory: what every crate names.
+//! What every crate names: spans, texts, types of whole numbers and their operators, frames, kept images and their reads, and the limits.
 #![tactic(auto)]
+
+mod frame;
+mod number;
+mod operator;
+mod span;
+mod stencil_tests;
+mod stencils;
+#[cfg(test)]
+mod tests;
+mod text;
+mod ty;
+
+pub use frame::FrameSize;
+pub use number::{bits_for, saturate, saturate_law, wrap, wrap_law};
+pub use operator::{Binary, Conversion, Scaling, Unary, select_type};
+pub use span::Span;
+pub use stencils::{Image, LiveRead, Stencils};
+pub use text::Text;
+pub use ty::Ty;
 
 /// Want of memory: the error of a call that can fail in no other way.
 pub type Memory = std::alloc::AllocError;
@@ -51,3 +70,33 @@ pub const MAX_CLOCKS: u64 = 100_000_000;
 
 /// The greatest number that `make` is given.
 pub const MAX_MADE: u32 = 4_194_303;
+
+/// The greatest width of a type of values, in bits. The least is 1.
+pub const MAX_WIDTH: u8 = 64;
+
+/// The greatest number by which a value is shifted, in bits.
+pub const MAX_SHIFT: u64 = 63;
+
+/// The greatest number of inputs of a program. The least is 1.
+pub const MAX_INPUTS: usize = 8;
+
+/// The greatest number of outputs of a program. The least is 1.
+pub const MAX_OUTPUTS: usize = 8;
+
+/// The greatest number of kept images: the inputs and the definitions.
+pub const MAX_KEPT_IMAGES: usize = 264;
+
+/// The greatest number of images in a PGM file. The least is 1.
+pub const MAX_FILE_IMAGES: u64 = 65_536;
+
+/// The greatest length of a PGM file, in bytes.
+pub const MAX_PGM_BYTES: u64 = 268_435_456;
+
+/// The greatest age that is asked of each live read, in clocks.
+pub const MAX_AGE: u64 = 64;
+
+/// The greatest number of clocks that `sim` lets pass between two held clocks. The least is 1.
+pub const MAX_HOLD: u64 = 1_000_000;
+
+/// The greatest length of a report that is read, in bytes.
+pub const MAX_REPORT_BYTES: usize = 4_194_304;

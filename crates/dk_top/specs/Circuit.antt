@@ -1,5 +1,5 @@
 -- The circuit of a program: its Verilog text, and what it shows at each clock.
-use Rattle.std.specs.Prelude.{◌≡◌, ℕ, ◌+◌, ◌%◌, Bool, true, false, not, List, [], ◌∷◌, ◌++◌, map, codes}
+use Rattle.std.specs.Prelude.{◌≡◌, ℕ, ◌+◌, ◌%◌, Bool, true, false, not, List, ◌∷◌, ◌++◌, map, codes}
 use Rattle.std.specs.List.{filter}
 use Rattle.dk_top.specs.declared.circuit.Right.{Right}
 use Rattle.dk_top.specs.declared.circuit.Right.TheVariants.{Din, DinPlusDin}

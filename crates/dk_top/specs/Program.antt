@@ -1,13 +1,16 @@
 -- The programs that are built so far: their texts, and their meaning at a point.
-use Rattle.std.specs.Prelude.{◌≡◌, ℕ, ◌+◌, ◌%◌, ◌≤◌, ◌<◌, ℤ, pos, ◌+ℤ◌, List, ◌++◌, length, codes, decimal}
-use Rattle.std.specs.Int.{int_rem_euclid}
+use Rattle.std.specs.Prelude.{◌≡◌, ℕ, ◌+◌, ◌%◌, ◌≤◌, ◌<◌, List, ◌++◌, length, codes, decimal}
 use Rattle.dk_base.specs.declared.TheConstants.{MAX_SIDE, MAX_SOURCE_BYTES}
 use Rattle.dk_top.specs.declared.program.Body.{Body}
 use Rattle.dk_top.specs.declared.program.Body.TheVariants.{Copy, Double}
 use Rattle.dk_top.specs.declared.program.Program.{Program}
 use Rattle.dk_top.specs.declared.ending.SourceFault.{SourceFault}
 use Rattle.dk_top.specs.declared.ending.SourceFault.TheVariants.{TooLong, NotBuilt}
-use Rattle.dk_top.specs.Picture.{Picture}
+use Rattle.dk_base.specs.declared.ty.Ty.TheVariants.{Unsigned}
+use Rattle.dk_base.specs.declared.operator.Binary.TheVariants.{Add}
+use Rattle.dk_base.specs.declared.operator.Conversion.TheVariants.{Cast}
+use Rattle.dk_base.specs.Frames.{Picture}
+use Rattle.dk_base.specs.Operators.{binary_value, conversion_value}
 
 -- the expression of a body
 abbrev pub body_text : Body → List ℕ
@@ -47,14 +50,10 @@ abbrev pub IsSourceFault : List ℕ → SourceFault → Type 0
 IsSourceFault text TooLong = MAX_SOURCE_BYTES < length text
 IsSourceFault text NotBuilt = (length text ≤ MAX_SOURCE_BYTES) × ((program : Program) → ¬ IsAccepted text program)
 
--- the number from 0 to 255 that is equal to v modulo 256
-abbrev pub wrap_u8 : ℤ → ℤ
-wrap_u8 v = int_rem_euclid v (pos 256)
-
 -- The meaning of the program: the value of its output `f` at a point, for the picture of its input `a`.
 abbrev pub meaning : Body → Picture → Picture
 meaning Copy a x y = a x y
-meaning Double a x y = wrap_u8 (a x y +ℤ a x y)
+meaning Double a x y = conversion_value Cast (Unsigned 8) (binary_value Add (a x y) (a x y))
 
 -- the output's sample for a sample of the input
 abbrev pub sample_of : Body → ℕ → ℕ

@@ -1,4 +1,4 @@
-use Rattle.dk_top.specs.Circuit.{text_with, module_head, module_end}
+use Rattle.dk_top.specs.Circuit.{module_head, module_end}
 use Rattle.dk_top.proofs.CircuitLemmas.{right_sound, right_complete}
 use Rattle.std.proofs.Common.{◌++◌}
 use Rattle.dk_top.proofs.circuit.right_of.Goals as goal

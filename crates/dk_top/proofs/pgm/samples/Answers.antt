@@ -1,4 +1,3 @@
-use Rattle.std.proofs.Common.{◌∙◌, ap, sym, ◌++◌}
 use Rattle.dk_top.proofs.PictureLemmas.{one_raster}
 use Rattle.dk_top.proofs.pgm.samples.Goals as goal
 

@@ -1,5 +1,4 @@
-use Rattle.std.proofs.Common.{◌≡◌, decimal, sym, ap, ◌∙◌, Some, None}
-use Rattle.dk_top.specs.declared.program.Program.{Program}
+use Rattle.std.proofs.Common.{◌≡◌, decimal, Some, None}
 use Rattle.dk_top.specs.Program.{tail_text}
 use Rattle.dk_top.proofs.ProgramLemmas.{width_lacks, height_lacks, apart, same_program}
 use Rattle.dk_top.proofs.program.program_of.Goals as goal

@@ -1,4 +1,4 @@
-use Rattle.std.proofs.Common.{sym, ◌∙◌}
+use Rattle.std.proofs.Common.{sym}
 use Rattle.dk_top.proofs.ProgramLemmas.{written_is_utf8, no_text}
 use Rattle.dk_top.proofs.program.read_program.Goals as goal
 

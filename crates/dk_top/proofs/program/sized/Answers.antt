@@ -1,4 +1,4 @@
-use Rattle.std.proofs.Common.{List, ℕ, ◌++◌, ◌∷◌, ◌∙◌, codes, sym}
+use Rattle.std.proofs.Common.{◌++◌, ◌∷◌, ◌∙◌, codes}
 use Rattle.dk_top.proofs.ProgramLemmas.{sized_from_words, sized_words, size_lacks}
 use Rattle.dk_top.proofs.program.sized.Goals as goal
 

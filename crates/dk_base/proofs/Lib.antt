@@ -1,0 +1,15 @@
+pub mod Congruence
+pub mod Codes
+pub mod Products
+pub mod Resize
+pub mod Ranges
+pub mod Compare
+pub mod Scale
+pub mod Signs
+pub mod Wrapping
+pub mod Nearest
+pub mod BitCounts
+pub mod Operations
+pub mod Orders
+pub mod Rasters
+pub mod Table

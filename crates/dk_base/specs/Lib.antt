@@ -1,0 +1,6 @@
+pub mod Types
+pub mod Numbers
+pub mod Operators
+pub mod Frames
+pub mod FrameSizes
+pub mod Stencils
