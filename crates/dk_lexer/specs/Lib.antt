@@ -1,0 +1,4 @@
+pub mod Bytes
+pub mod Lexis
+pub mod Answer
+pub mod Faithful

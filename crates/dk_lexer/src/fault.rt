@@ -1,0 +1,60 @@
+// Why a text has no tokens.
+
+ghost use Rattle.std.specs.Prelude.{◌≡◌};
+
+use dk_base::Span;
+use std::alloc::{AllocError, AllocFailed};
+
+/// What is wrong with a text.
+#[derive(Clone, Copy, Debug, PartialEq, Eq)]
+pub enum LexKind {
+    /// A byte that begins no token.
+    BadByte,
+    /// A number above 2^64 - 1.
+    NumberTooGreat,
+    /// A word of more than 64 bytes.
+    NameTooLong,
+}
+
+/// What is wrong with a text, and where.
+#[derive(Clone, Copy, Debug, PartialEq, Eq)]
+pub struct LexFault {
+    pub span: Span,
+    pub kind: LexKind,
+}
+
+/// Why there is no token at the front of a text: a fault of so many bytes, or want of memory.
+#[derive(Debug, Drop)]
+pub(crate) enum Refusal {
+    Fault(LexKind, usize),
+    Memory,
+}
+
+/// Why a text has no tokens: its first fault, or want of memory.
+#[derive(Debug, Drop)]
+pub enum LexError {
+    Fault(LexFault),
+    Memory,
+}
+
+impl From<AllocError> for Refusal {
+    ghost use Rattle.std.specs.Prelude.{◌≡◌};
+    ghost use Rattle.dk_lexer.specs.declared.fault.Refusal.TheVariants.{Memory};
+
+    ghost from_gives = { λ _ e. e ≡ Memory };
+
+    fn from(_e: AllocError) -> Refusal {
+        Refusal::Memory
+    }
+}
+
+impl<T: Drop> From<AllocFailed<T>> for LexError {
+    ghost use Rattle.std.specs.Prelude.{◌≡◌};
+    ghost use Rattle.dk_lexer.specs.declared.fault.LexError.TheVariants.{Memory};
+
+    ghost from_gives = { λ _ e. e ≡ Memory };
+
+    fn from(_e: AllocFailed<T>) -> LexError {
+        LexError::Memory
+    }
+}

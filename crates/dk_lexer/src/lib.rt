@@ -1,0 +1,13 @@
+//! The tokens of a program's text, or the first fault in it.
+#![tactic(auto)]
+
+mod fault;
+mod lexeme;
+#[cfg(test)]
+mod tests;
+mod token;
+mod tokens;
+
+pub use fault::{LexError, LexFault, LexKind};
+pub use token::{Symbol, Token, TokenKind};
+pub use tokens::{faithful, lex, one_reading};
