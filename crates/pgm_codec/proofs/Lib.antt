@@ -1,0 +1,15 @@
+pub mod ByteTests
+pub mod Steps
+pub mod Forward
+pub mod Backward
+pub mod Begun
+pub mod Verdicts
+pub mod Stays
+pub mod Unique
+pub mod Scanning
+pub mod Sizes
+pub mod Decoding
+pub mod Judged
+pub mod RoundTrip
+pub mod Rows
+pub mod Cuts

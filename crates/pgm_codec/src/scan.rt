@@ -1,0 +1,26 @@
+//! What is known of a header after some of its bytes.
+
+ghost use Rattle.std.specs.Prelude.{◌≡◌, ◌<◌};
+ghost use Rattle.pgm_codec.specs.declared.scan.Scan.TheVariants.{More};
+
+use crate::header::{Header, HeaderFault};
+use crate::reading::Reading;
+
+/// What is known of a header after some of its bytes.
+#[derive(Clone, Copy, Debug, PartialEq, Eq)]
+pub enum Scan {
+    /// The bytes begin a header and hold none whole.
+    More,
+    /// The bytes begin with this header.
+    Done(Header),
+    /// The bytes do not begin with a header, whatever comes.
+    Fault(HeaderFault),
+}
+
+/// Takes a header byte by byte.
+#[derive(Clone, Copy, Debug)]
+pub struct HeaderScan {
+    pub(crate) reading: Reading,
+    pub(crate) answer: Scan,
+    ghost short: { answer ≡ More → reading.length < 65536 },
+}
