@@ -1,0 +1,13 @@
+pub mod Depths
+pub mod Nesting
+pub mod Tokens
+pub mod ReadLaws
+pub mod Laws
+pub mod Resumes
+pub mod Stucks
+pub mod Insides
+pub mod Edges
+pub mod Free
+pub mod Keeping
+pub mod Ending
+pub mod LexedEnd

@@ -1,0 +1,48 @@
+-- The first token, and how it goes on with what stands before it.
+use Rattle.std.specs.Prelude.{◌≡◌, ℕ, suc, ◌<◌, [], ◌∷◌, length}
+use Rattle.dk_lexer.specs.declared.token.Token.{Token}
+use Rattle.dk_parser.specs.declared.terminal.Keyword.TheVariants.{Edge}
+use Rattle.dk_parser.specs.declared.terminal.Terminal.{Terminal}
+use Rattle.dk_parser.specs.declared.tree.Start.{Start}
+use Rattle.dk_parser.specs.declared.terminal.Terminal.TheVariants.{Keyword}
+use Rattle.dk_parser.specs.declared.tree.Binding.{Binding}
+use Rattle.dk_parser.specs.declared.tree.Binding.TheVariants.{Operator, Clamps, Stops}
+use Rattle.dk_parser.specs.Terminals.{terminal}
+use Rattle.dk_parser.specs.Grammar.{Tokens, Form, comparison, level, steps, primary, enclosed, binding, start}
+
+pub record IsFront (ts : Tokens) (tok : Token) (kind : Terminal) (after : Tokens) : Type 0 where
+  pub whole : ts ≡ tok ∷ after
+  pub kind_is : terminal tok ≡ kind
+  pub fewer : length after < length ts
+
+-- how loosely the next token binds what stands before it: `edge` 1, an operator 1 more than its strength, what is none 10
+abbrev pub loose : Binding → ℕ
+loose Clamps = 1
+loose (Operator n s) = suc n
+loose Stops = 10
+
+abbrev pub rank : Tokens → ℕ
+rank [] = 10
+rank (t ∷ ts) = loose (binding (terminal t))
+
+-- the tokens that continue a phrase of a form bind at most so loosely
+abbrev pub bound : Form → ℕ
+bound comparison = 9
+bound (level n) = suc n
+bound (steps n l) = suc (suc n)
+bound primary = 1
+bound enclosed = 0
+
+-- the tokens begin with `edge`
+pub record IsEdge (ts after : Tokens) : Type 0 where
+  pub tok : Token
+  pub whole : ts ≡ tok ∷ after
+  pub is_edge : terminal tok ≡ Keyword Edge
+  pub fewer : length after < length ts
+
+-- the tokens begin with what this begins
+pub record Begins (k : Start) (ts : Tokens) : Type 0 where
+  pub tok : Token
+  pub after : Tokens
+  pub whole : ts ≡ tok ∷ after
+  pub starts : start (terminal tok) ≡ k

@@ -1,0 +1,16 @@
+pub mod Tree
+pub mod Terminals
+pub mod Marks
+pub mod Words
+pub mod Reads
+pub mod Grammar
+pub mod Front
+pub mod Faults
+pub mod Ahead
+pub mod Depth
+pub mod Grown
+pub mod Nest
+pub mod Ended
+pub mod Programs
+pub mod Judged
+pub mod Kept

@@ -1,0 +1,25 @@
+-- Unclosed brackets.
+use Rattle.std.specs.Prelude.{◌≡◌, ℕ, suc, ◌-◌, ◌≤◌, ◌⊎◌, [], ◌∷◌}
+use Rattle.dk_base.specs.declared.span.Span.{Span}
+use Rattle.dk_lexer.specs.declared.token.Symbol.TheVariants.{Open, Close}
+use Rattle.dk_parser.specs.declared.terminal.Terminal.{Terminal}
+use Rattle.dk_parser.specs.declared.terminal.Terminal.TheVariants.{Symbol as Sym}
+use Rattle.dk_parser.specs.Terminals.{terminal}
+use Rattle.dk_parser.specs.Grammar.{Tokens}
+
+-- how many brackets are unclosed behind a terminal, after so many before it
+abbrev pub unclosed : ℕ → Terminal → ℕ
+unclosed n (Sym Open) = suc n
+unclosed n (Sym Close) = n - 1
+unclosed n _ = n
+
+-- at most 128 are unclosed anywhere in the tokens, after so many before them
+abbrev pub StaysShallow : ℕ → Tokens → Type 0
+StaysShallow n [] = n ≤ 128
+StaysShallow n (t ∷ ts) = (n ≤ 128) × StaysShallow (unclosed n (terminal t)) ts
+
+-- a bracket at this span is the first that is the 129th unclosed one
+abbrev pub PassesAt : ℕ → Tokens → Span → Type 0
+PassesAt n [] span = ⊥
+PassesAt n (t ∷ ts) span =
+    ((n ≡ 128) × (terminal t ≡ Sym Open) × (span ≡ t.span)) ⊎ ((unclosed n (terminal t) ≤ 128) × PassesAt (unclosed n (terminal t)) ts span)

@@ -1,0 +1,214 @@
+// What a terminal means where an expression begins, and where one goes on.
+
+ghost use Rattle.std.specs.Prelude.{◌≡◌, ◌<◌, [], MatchOption};
+ghost use Rattle.dk_parser.specs.Ahead.{IsAhead};
+ghost use Rattle.dk_parser.specs.Front.{IsFront, IsEdge, rank};
+ghost use Rattle.dk_parser.specs.Terminals.{terminal_of, terminal_of_word, same_codes, type_or_name as type_or_name_of, width_of};
+ghost use Rattle.dk_parser.specs.Grammar.{binding as binding_of, start as start_of};
+
+use crate::terminal::{Keyword, Terminal};
+use crate::tree::{BinaryOperator, Binding, ScaleOperator, Start, Step, UnaryOperator};
+use dk_base::Ty;
+use dk_lexer::{Symbol, Token, TokenKind};
+
+/// The first token, what the grammar sees of it, and the tokens after it.
+pub(crate) fn front(tokens: &[Token]) -> Option<(&Token, Terminal, &[Token])>
+    ensures { MatchOption result (tokens.now ≡ []) (λ x. IsFront tokens.now x.0.now x.1 x.2.now) }
+{
+    let (first, after) = tokens.split_first()?;
+    Some((first, terminal(first), after))
+}
+
+/// How the tokens go on with an expression before them, at a level of operators.
+#[derive(Drop)]
+pub enum Ahead<'a> {
+    /// An operator of the level that wants an operand, and the tokens after it.
+    Operand(BinaryOperator, &'a [Token]),
+    /// An operator of the level that wants a number or a type, and the tokens after it.
+    Suffix(Step, &'a [Token]),
+    /// An operator that binds tighter than the level.
+    Tighter,
+    /// Nothing that the level takes.
+    End,
+}
+
+pub(crate) fn look_ahead<'a>(loose: u8, tokens: &'a [Token]) -> Ahead<'a>
+    requires some { 0 < loose }
+    requires few { loose < 9 }
+    ensures { IsAhead loose tokens.now result }
+{
+    let Some((_, kind, after)) = front(tokens) else {
+        return Ahead::End;
+    };
+    let (at, step) = match binding(kind) {
+        Binding::Operator(at, step) => (at, step),
+        Binding::Clamps => return Ahead::Tighter,
+        Binding::Stops => return Ahead::End,
+    };
+    if at < loose {
+        return Ahead::Tighter;
+    }
+    if loose < at {
+        return Ahead::End;
+    }
+    match step {
+        Step::Operand(operator) => Ahead::Operand(operator, after),
+        _ => Ahead::Suffix(step, after),
+    }
+}
+
+/// The tokens behind the word that makes a read a clamped one, where it stands first.
+#[tactic(auto, using(crate::proofs::Edges::not_edge))]
+pub(crate) fn edge(tokens: &[Token]) -> Option<&[Token]>
+    ensures { MatchOption result (1 < rank tokens.now) (λ x. IsEdge tokens.now x.now) }
+{
+    let (_, kind, after) = front(tokens)?;
+    if kind == Terminal::Keyword(Keyword::Edge) {
+        Some(after)
+    } else {
+        None
+    }
+}
+
+#[tactic(auto, unfolding(crate::specs::Terminals::terminal_of))]
+pub(crate) fn terminal(token: &Token) -> Terminal
+    ensures { result ≡ terminal_of token.now.kind }
+{
+    match &token.kind {
+        TokenKind::Word(text) => word(text.as_bytes()),
+        TokenKind::Number(value) => Terminal::Number(*value),
+        TokenKind::Symbol(symbol) => Terminal::Symbol(*symbol),
+        TokenKind::End => Terminal::EndOfText,
+    }
+}
+
+/// A reserved word, a type word or a name.
+fn word(bytes: &[u8]) -> Terminal
+    ensures { result ≡ terminal_of_word bytes.now }
+{
+    if same(bytes, b"size") {
+        Terminal::Keyword(Keyword::Size)
+    } else if same(bytes, b"input") {
+        Terminal::Keyword(Keyword::Input)
+    } else if same(bytes, b"let") {
+        Terminal::Keyword(Keyword::Let)
+    } else if same(bytes, b"inline") {
+        Terminal::Keyword(Keyword::Inline)
+    } else if same(bytes, b"im") {
+        Terminal::Keyword(Keyword::Im)
+    } else if same(bytes, b"end") {
+        Terminal::Keyword(Keyword::End)
+    } else if same(bytes, b"output") {
+        Terminal::Keyword(Keyword::Output)
+    } else if same(bytes, b"as") {
+        Terminal::Keyword(Keyword::As)
+    } else if same(bytes, b"select") {
+        Terminal::Keyword(Keyword::Select)
+    } else if same(bytes, b"min") {
+        Terminal::Keyword(Keyword::Min)
+    } else if same(bytes, b"max") {
+        Terminal::Keyword(Keyword::Max)
+    } else if same(bytes, b"abs") {
+        Terminal::Keyword(Keyword::Abs)
+    } else if same(bytes, b"sat") {
+        Terminal::Keyword(Keyword::Sat)
+    } else if same(bytes, b"x") {
+        Terminal::Keyword(Keyword::X)
+    } else if same(bytes, b"y") {
+        Terminal::Keyword(Keyword::Y)
+    } else if same(bytes, b"edge") {
+        Terminal::Keyword(Keyword::Edge)
+    } else if same(bytes, b"clamp") {
+        Terminal::Keyword(Keyword::Clamp)
+    } else {
+        type_or_name(bytes)
+    }
+}
+
+fn same(left: &[u8], right: &[u8]) -> bool
+    ensures { result ≡ same_codes left.now right.now }
+{
+    left == right
+}
+
+fn type_or_name(bytes: &[u8]) -> Terminal
+    ensures { result ≡ type_or_name_of bytes.now }
+{
+    match bytes {
+        [b'u', digits @ ..] => match width(digits) {
+            Some(bits) => Terminal::TypeWord(Ty::Unsigned(bits)),
+            None => Terminal::Name,
+        },
+        [b's', digits @ ..] => match width(digits) {
+            Some(bits) => Terminal::TypeWord(Ty::Signed(bits)),
+            None => Terminal::Name,
+        },
+        _ => Terminal::Name,
+    }
+}
+
+/// 1 to 64 in decimal, without a leading zero.
+fn width(digits: &[u8]) -> Option<u8>
+    ensures { result ≡ width_of digits.now }
+{
+    match digits {
+        [ones @ b'1'..=b'9'] => Some(*ones - b'0'),
+        [tens @ b'1'..=b'9', ones @ b'0'..=b'9'] => {
+            let bits = 10 * (*tens - b'0') + (*ones - b'0');
+            if bits <= 64 { Some(bits) } else { None }
+        }
+        _ => None,
+    }
+}
+
+pub(crate) fn binding(terminal: Terminal) -> Binding
+    ensures { result ≡ binding_of terminal }
+{
+    match terminal {
+        Terminal::Keyword(Keyword::As) => Binding::Operator(1, Step::Type),
+        Terminal::Keyword(Keyword::Edge) => Binding::Clamps,
+        Terminal::Symbol(symbol) => symbol_binding(symbol),
+        _ => Binding::Stops,
+    }
+}
+
+fn symbol_binding(symbol: Symbol) -> Binding
+    ensures { result ≡ binding_of (Terminal.Symbol symbol) }
+{
+    match symbol {
+        Symbol::Star => Binding::Operator(2, Step::Operand(BinaryOperator::Multiply)),
+        Symbol::Slash => Binding::Operator(2, Step::Number(ScaleOperator::Divide)),
+        Symbol::Plus => Binding::Operator(3, Step::Operand(BinaryOperator::Add)),
+        Symbol::Minus => Binding::Operator(3, Step::Operand(BinaryOperator::Subtract)),
+        Symbol::ShiftLeft => Binding::Operator(4, Step::Number(ScaleOperator::ShiftLeft)),
+        Symbol::ShiftRight => Binding::Operator(4, Step::Number(ScaleOperator::ShiftRight)),
+        Symbol::Ampersand => Binding::Operator(5, Step::Operand(BinaryOperator::And)),
+        Symbol::Caret => Binding::Operator(6, Step::Operand(BinaryOperator::Xor)),
+        Symbol::Bar => Binding::Operator(7, Step::Operand(BinaryOperator::Or)),
+        Symbol::Less => Binding::Operator(8, Step::Operand(BinaryOperator::Less)),
+        Symbol::LessEqual => Binding::Operator(8, Step::Operand(BinaryOperator::LessEqual)),
+        Symbol::Greater => Binding::Operator(8, Step::Operand(BinaryOperator::Greater)),
+        Symbol::GreaterEqual => Binding::Operator(8, Step::Operand(BinaryOperator::GreaterEqual)),
+        Symbol::EqualEqual => Binding::Operator(8, Step::Operand(BinaryOperator::Equal)),
+        Symbol::NotEqual => Binding::Operator(8, Step::Operand(BinaryOperator::NotEqual)),
+        _ => Binding::Stops,
+    }
+}
+
+pub(crate) fn start(terminal: Terminal) -> Start
+    ensures { result ≡ start_of terminal }
+{
+    match terminal {
+        Terminal::Symbol(Symbol::Minus) => Start::Prefix(UnaryOperator::Negate),
+        Terminal::Symbol(Symbol::Bang) => Start::Prefix(UnaryOperator::Not),
+        Terminal::Symbol(Symbol::Open) => Start::Bracket,
+        Terminal::Number(value) => Start::Constant(value),
+        Terminal::Name => Start::Image,
+        Terminal::Keyword(Keyword::Min) => Start::Pair(BinaryOperator::Min),
+        Terminal::Keyword(Keyword::Max) => Start::Pair(BinaryOperator::Max),
+        Terminal::Keyword(Keyword::Abs) => Start::Absolute,
+        Terminal::Keyword(Keyword::Sat) => Start::Saturate,
+        Terminal::Keyword(Keyword::Select) => Start::Choice,
+        _ => Start::Nothing,
+    }
+}

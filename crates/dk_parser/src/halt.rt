@@ -1,0 +1,31 @@
+// Why a parser stops early.
+
+ghost use Rattle.std.specs.Prelude.{◌≡◌};
+ghost use Rattle.dk_parser.specs.declared.halt.Halt.TheVariants.{Memory};
+
+use dk_lexer::Token;
+use std::alloc::{AllocError, AllocFailed};
+
+/// Why no tree was made.
+#[derive(Drop)]
+pub enum Halt<'a> {
+    /// The tokens from the faulty one on.
+    Faulty(&'a [Token]),
+    Memory,
+}
+
+impl<'a> From<AllocError> for Halt<'a> {
+    ghost from_gives = { λ _ e. e ≡ Memory };
+
+    fn from(_e: AllocError) -> Halt<'a> {
+        Halt::Memory
+    }
+}
+
+impl<'a, T: Drop> From<AllocFailed<T>> for Halt<'a> {
+    ghost from_gives = { λ _ e. e ≡ Memory };
+
+    fn from(_e: AllocFailed<T>) -> Halt<'a> {
+        Halt::Memory
+    }
+}

@@ -1,0 +1,79 @@
+// Programs.
+
+ghost use Rattle.std.specs.Prelude.{◌≡◌, MatchResult};
+ghost use Rattle.dk_parser.specs.declared.whole.ParseError.{ParseError};
+ghost use Rattle.dk_parser.specs.Faults.{Halts};
+ghost use Rattle.dk_parser.specs.Grammar.{Tokens};
+ghost use Rattle.dk_lexer.specs.Faithful.{IsEnded};
+ghost use Rattle.dk_parser.specs.Programs.{Source, AProgram, source_of};
+ghost use Rattle.dk_parser.specs.Judged.{Derives, Accepted, Faults};
+ghost use Rattle.dk_parser.specs.Kept.{GrownProgram};
+
+use crate::halt::Halt;
+use crate::items::{self, Parts};
+use crate::terminal::{Keyword, Mark};
+use crate::tree::{Literal, Program};
+use crate::{classes, nest, single};
+use dk_base::Span;
+use dk_lexer::Token;
+use std::alloc::Global;
+
+/// Why tokens have no program.
+#[derive(Debug, Drop)]
+pub enum ParseError {
+    /// The first bracket that leaves too many unclosed.
+    Nest { span: Span },
+    /// The faulty token.
+    Syntax { span: Span },
+    /// The first subtree that is too deep.
+    Depth { span: Span },
+    Memory,
+}
+
+/// A program, of which a body may be too deep.
+fn program<'a>(
+    alloc: Global,
+    tokens: &'a [Token],
+) -> Result<(Literal, Literal, Parts, &'a [Token]), Halt<'a>>
+    ensures parsed { MatchResult result (λ x. GrownProgram tokens.now x.0 x.1 x.2 x.3.now) (λ e. Halts AProgram tokens.now e) }
+{
+    let (_, width_at) = single::mark(Mark::Reserved(Keyword::Size), tokens)?;
+    let (width, height_at) = single::literal(width_at)?;
+    let (height, input_at) = single::literal(height_at)?;
+    let (_, items_at) = single::mark(Mark::Reserved(Keyword::Input), input_at)?;
+    let (parts, rest) = items::items(alloc, items_at)?;
+    Ok((width, height, parts, rest))
+}
+
+/// The program of these tokens, of which the last and no other is the end of the text.
+pub fn parse(alloc: Global, tokens: &[Token]) -> Result<Program, ParseError>
+    requires { IsEnded tokens.now }
+    ensures { MatchResult result (λ p. Accepted tokens.now (source_of p)) (λ fault. Faults tokens.now fault) }
+{
+    if let Some(span) = nest::overflow(tokens) {
+        return Err(ParseError::Nest { span });
+    }
+    match program(alloc, tokens) {
+        Ok((width, height, parts, _)) => match parts.deep {
+            Some(span) => Err(ParseError::Depth { span }),
+            None => Ok(Program {
+                width,
+                height,
+                inputs: parts.inputs,
+                definitions: parts.definitions,
+                outputs: parts.outputs,
+            }),
+        },
+        Err(Halt::Memory) => Err(ParseError::Memory),
+        Err(Halt::Faulty(at)) => match classes::front(at) {
+            Some((first, _, _)) => Err(ParseError::Syntax { span: first.span }),
+            None => unreachable!(),
+        },
+    }
+}
+
+/// Tokens have one program, and no fault beside it but want of memory.
+pub fn one_judgement()
+    ensures program { (ts : Tokens) (p q : Source) → Derives ts p → Derives ts q → p ≡ q }
+    ensures fault { (ts : Tokens) (p : Source) (f : ParseError) → Accepted ts p → Faults ts f → f ≡ ParseError.Memory }
+{}
