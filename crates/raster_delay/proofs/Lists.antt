@@ -6,7 +6,7 @@ use Rattle.std.proofs.lemmas.Int.{ints}
 use Rattle.std.proofs.lemmas.List.{length-map}
 use Rattle.std.proofs.lemmas.List.FromFn.{length-range_with_len, get_or-range_with_len}
 use Rattle.std.proofs.lemmas.List.Elements.{All-map, All-weaker}
-use Rattle.raster_delay.specs.Delays.{offset, begin_of, begin_count, end_of, node_count, hold, read, keep, holds_of, AreReads, AreBounded, NoReturn, IsSmall, IsNear}
+use Rattle.raster_delay.specs.Delays.{offset, begin_count, node_count, hold, read, keep, holds_of, AreReads, AreBounded, NoReturn, IsSmall, IsNear}
 use Rattle.raster_delay.specs.declared.network.Constraint.{Constraint}
 use Rattle.raster_delay.specs.declared.placed.PlacedRead.{PlacedRead}
 

@@ -1,6 +1,6 @@
 -- Reads by place are in the form that a system's constraints need.
-use Rattle.std.proofs.Common.{◌≡◌, ◌<◌, ◌≤◌, ℕ, ℤ, suc, pos, negsuc, List, length, map, slice_index, slice_index_or, ◌*◌, ap, ◌∙◌, arith, inl, inr}
-use Rattle.std.specs.Prelude.{◌+ℤ◌, ◌*ℤ◌, ◌<ℤ◌, neg_ℤ, All}
+use Rattle.std.proofs.Common.{◌≡◌, ◌<◌, ◌≤◌, ℕ, ℤ, suc, pos, negsuc, List, length, slice_index_or, ◌*◌, ap, arith, inl, inr}
+use Rattle.std.specs.Prelude.{◌+ℤ◌, ◌*ℤ◌, ◌<ℤ◌, neg_ℤ}
 use Rattle.std.proofs.Math.IntN.{pos-*ℤ-pos, negsuc-*ℤ-pos}
 use Rattle.std.proofs.Math.Nat.{mul-le-mul_right}
 use Rattle.std.proofs.lemmas.Int.{ints}
@@ -10,10 +10,10 @@ use Rattle.std.proofs.lemmas.List.Elements.{All-map}
 use Rattle.dk_base.specs.declared.stencils.Image.{Image}
 use Rattle.dk_base.specs.declared.stencils.LiveRead.{LiveRead}
 use Rattle.dk_base.specs.Stencils.{Parts as Stencils, place, IsKept, Ascends, IsStencils}
-use Rattle.dk_base.proofs.Orders.{at_place, place_at, number_at}
+use Rattle.dk_base.proofs.Orders.{at_place, number_at}
 use Rattle.raster_delay.specs.declared.placed.PlacedRead.{PlacedRead}
 use Rattle.raster_delay.specs.Delays.{offset, AreReads, IsNear, IsForm}
-use Rattle.raster_delay.specs.Placing.{widths_of, placed, reads_of}
+use Rattle.raster_delay.specs.Placing.{placed, reads_of}
 use Rattle.raster_delay.specs.Systems.{Parts, IsSystem, image_count, widths, placed_reads}
 
 abbrev none : Image

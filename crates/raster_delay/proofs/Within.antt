@@ -6,7 +6,7 @@ use Rattle.std.proofs.lemmas.Int.{ints}
 use Rattle.std.proofs.lemmas.List.FromFn.{length-range_with_len, get_or-range_with_len}
 use Rattle.std.proofs.lemmas.List.Elements.{All-map, All-append, All-from_recursion, recursion_from_All, All-weaker}
 use Rattle.raster_delay.specs.Network.{Holds, Buffer, IsFlow, IsWithin, Keeps, worth, objective}
-use Rattle.raster_delay.specs.Delays.{begin_of, begin_count, end_of, node_count, hold, start, read, keep, holds_of, starts_of, constraints_of, buffer, buffers_of, bits_of, depth_of, AreReads, AreCausal, IsForm, IsSmall}
+use Rattle.raster_delay.specs.Delays.{begin_count, node_count, hold, start, read, keep, holds_of, starts_of, constraints_of, buffer, buffers_of, bits_of, AreCausal, IsForm, IsSmall}
 use Rattle.raster_delay.specs.declared.network.Constraint.{Constraint}
 use Rattle.raster_delay.specs.declared.placed.PlacedRead.{PlacedRead}
 use Rattle.raster_delay.proofs.Bridge.{rec_map_in, rec_map_out, rec_left, rec_right, rec_range_out, numbers_of, numbers_hold, begins_of, ends_of, objective-same}

@@ -8,11 +8,13 @@ mod network;
 mod numbers;
 mod placed;
 mod system;
+#[cfg(test)]
+mod tests;
 
 pub use build::{begin_node, end_node};
 pub use laws::{flow_shows_least, weak_duality};
 pub use measure::{age_held, bits, causal, depth};
 pub use network::Constraint;
-pub use numbers::{begin_numbers, earliest, earliest_numbers};
+pub use numbers::{begin_numbers, earliest, earliest_numbers, end_numbers};
 pub use placed::{PlacedRead, offset};
 pub use system::System;

@@ -1,6 +1,6 @@
 // Whether delays are causal, and the bits that they need.
 
-ghost use Rattle.std.specs.Prelude.{◌≡◌, ◌≤◌, ◌<◌, ◌^◌, ◌↔◌, ◌==◌, if◌then◌else◌, ℕ, pos, ◌≤ℤ◌, IsTrue, unsigned_abs, length, slice_index, All};
+ghost use Rattle.std.specs.Prelude.{◌≡◌, ◌≢◌, max, ◌≤◌, ◌<◌, ◌^◌, ◌↔◌, ◌==◌, if◌then◌else◌, ℕ, pos, ◌≤ℤ◌, IsTrue, unsigned_abs, length, slice_index, All};
 ghost use Rattle.raster_delay.specs.Network.{coefficient};
 ghost use Rattle.raster_delay.specs.Delays.{IsNear, AreReads, AreNear, offset, age_of, depth_of, bits_of, buffers_of};
 ghost use Rattle.raster_delay.specs.Placing.{widths_of};
@@ -96,6 +96,25 @@ pub fn causal(system: &System, delays: &[u64]) -> bool
     )
 }
 
+// The greatest of an age and of a read's age, where the read is of the image at place `g`.
+fn deeper(row: u32, delays: &[u64], r: PlacedRead, g: usize, greatest: u64) -> u64
+    requires row { row ≤ 4096 }
+    requires near { IsNear (offset row r) }
+    requires reader { r.f < length delays.now }
+    requires earlier { r.g < length delays.now }
+    requires small { AreNear delays.now }
+    requires due { pos 0 ≤ℤ age_of row delays.now r }
+    ensures of_it { r.g ≡ g → result ≡ max greatest (unsigned_abs (age_of row delays.now r)) }
+    ensures of_others { r.g ≢ g → result ≡ greatest }
+    ensures near { greatest ≤ 2 ^ 35 → result ≤ 2 ^ 35 }
+{
+    if r.g == g {
+        greatest.max(age_held(row, delays, r))
+    } else {
+        greatest
+    }
+}
+
 // The greatest age of a read of the image at place `g`, 0 without any.
 fn depth_among(row: u32, inputs: usize, delays: &[u64], reads: &[PlacedRead], g: usize) -> u64
     requires row { row ≤ 4096 }
@@ -107,9 +126,7 @@ fn depth_among(row: u32, inputs: usize, delays: &[u64], reads: &[PlacedRead], g:
 {
     let mut greatest: u64 = 0;
     for r in reads {
-        if r.g == g {
-            greatest = greatest.max(age_held(row, delays, *r));
-        }
+        greatest = deeper(row, delays, *r, g, greatest);
     }
     greatest
 }

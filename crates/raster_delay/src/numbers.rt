@@ -2,10 +2,10 @@
 
 ghost use Rattle.std.specs.Prelude.{◌≡◌, ◌≢◌, ◌≤◌, ◌<◌, ◌+◌, ◌^◌, ◌+ℤ◌, ◌≤ℤ◌, ℕ, pos, List, length, slice_index, All, IfOk};
 ghost use Rattle.raster_delay.specs.Network.{Holds, constraint_at};
-ghost use Rattle.raster_delay.specs.Delays.{IsSmall, AreBounded, begin_of};
+ghost use Rattle.raster_delay.specs.Delays.{IsSmall, AreBounded, begin_of, end_of};
 ghost use Rattle.raster_delay.specs.Systems.{IsCausal, constraints_in, image_count, nodes};
 
-use crate::build::begin_node;
+use crate::build::{begin_node, end_node};
 use crate::network::Constraint;
 use crate::system::System;
 use dk_base::Memory;
@@ -84,6 +84,22 @@ pub fn begin_numbers(alloc: Global, system: &System, numbers: &[u64]) -> Result<
         delays.push(numbers[begin_node(inputs, k)])?;
     }
     Ok(delays)
+}
+
+/// The numbers of the nodes at which the kept images end, one for each image in order.
+pub fn end_numbers(alloc: Global, system: &System, numbers: &[u64]) -> Result<Vec<u64>, Memory>
+    requires { length numbers.now ≡ nodes system.now }
+    ensures length { IfOk result (λ ends. length ends.items ≡ image_count system.now) }
+    ensures numbers { IfOk result (λ ends. (k : ℕ) → k < image_count system.now → slice_index ends.items k ≡ slice_index numbers.now (end_of system.now.stencils.inputs (image_count system.now) k)) }
+{
+    system.law();
+    let inputs = system.inputs();
+    let images = system.images().len();
+    let mut ends = Vec::new(alloc);
+    for k in 0..images {
+        ends.push(numbers[end_node(inputs, images, k)])?;
+    }
+    Ok(ends)
 }
 
 /// The causal delays that are least in every place among all causal delays, one for each kept image in order, in clocks.

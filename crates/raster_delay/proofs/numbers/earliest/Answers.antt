@@ -1,11 +1,10 @@
-use Rattle.std.proofs.Common.{◌≡◌, ◌<◌, ◌≤◌, ℕ, length, slice_index, arith, ap, ◌∙◌, inl, inr, sym, subst}
-use Rattle.std.specs.Prelude.{All}
+use Rattle.std.proofs.Common.{slice_index, arith, ap, ◌∙◌, inl, inr}
 use Rattle.std.proofs.lemmas.Bool.{cases_lt}
 use Rattle.std.proofs.lemmas.List.{get_or_past}
 use Rattle.std.proofs.lemmas.List.Elements.{All-from_recursion, recursion_from_All}
 use Rattle.raster_delay.specs.Network.{Holds}
 use Rattle.raster_delay.specs.Delays.{begin_of}
-use Rattle.raster_delay.specs.Systems.{image_count, placed_reads, widths, constraints_in}
+use Rattle.raster_delay.specs.Systems.{image_count, placed_reads, constraints_in}
 use Rattle.raster_delay.proofs.Bridge.{holds_causal, numbers_of, numbers_hold, begins_of}
 use Rattle.raster_delay.proofs.Places.{system_form}
 use Rattle.raster_delay.proofs.numbers.earliest.Goals as goal

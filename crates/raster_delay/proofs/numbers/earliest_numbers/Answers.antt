@@ -1,4 +1,4 @@
-use Rattle.std.proofs.Common.{◌≡◌, ◌∙◌, length, drop, sym, subst, rules}
+use Rattle.std.proofs.Common.{◌≡◌, length, drop, sym, subst, rules}
 use Rattle.std.specs.Prelude.{All}
 use Rattle.std.proofs.lemmas.List.{take_at}
 use Rattle.raster_delay.specs.Network.{Holds}

@@ -1,4 +1,4 @@
-use Rattle.std.proofs.Common.{◌≡◌, ◌<◌, ◌≤◌, ◌+◌, ◌^◌, ℕ, List, pos, length, slice_index, arith, ◌∙◌}
+use Rattle.std.proofs.Common.{◌≡◌, ◌<◌, ◌+◌, ◌^◌, ℕ, pos, slice_index, arith, ◌∙◌}
 use Rattle.std.specs.Prelude.{map, All}
 use Rattle.raster_delay.specs.Network.{Holds}
 use Rattle.raster_delay.specs.Delays.{begin_count, read, keep, holds_of}

@@ -2,7 +2,6 @@ use Rattle.std.proofs.Common.{◌≡◌, length, ap, ◌∙◌, rules}
 use Rattle.std.specs.Prelude.{All}
 use Rattle.dk_base.specs.Stencils.{IsKept}
 use Rattle.raster_delay.specs.Placing.{reads_of}
-use Rattle.raster_delay.specs.Delays.{AreReads}
 use Rattle.raster_delay.proofs.Places.{placed_are}
 use Rattle.raster_delay.proofs.system.System.aged.Goals as goal
 
