@@ -1,13 +1,13 @@
 -- Numbers that keep each constraint, are tight where there is flow, and are the least of these, are the least vector of least bits.
-use Rattle.std.proofs.Common.{◌≡◌, ◌<◌, ◌≤◌, ℕ, pos, List, length, slice_index, ◌+◌, ◌-◌, refl, ap, sym, ◌∙◌, arith, inl, inr}
-use Rattle.std.specs.Prelude.{◌≤ℤ◌, ◌+ℤ◌, All}
+use Rattle.std.proofs.Common.{◌≡◌, ◌<◌, ◌≤◌, ℕ, pos, List, length, slice_index, ◌+◌, refl, ap, sym, ◌∙◌, arith, inl, inr}
+use Rattle.std.specs.Prelude.{◌+ℤ◌}
 use Rattle.std.specs.List.{AllByRecursion}
 use Rattle.std.proofs.lemmas.Int.{ints}
 use Rattle.std.proofs.lemmas.Bool.{cases_lt}
 use Rattle.std.proofs.lemmas.List.{get_or_past}
 use Rattle.std.proofs.lemmas.List.Elements.{All-from_recursion, recursion_from_All}
-use Rattle.raster_delay.specs.Network.{Holds, IsFlow, IsComplementary, worth, objective}
-use Rattle.raster_delay.specs.Delays.{AreCausal, begin_of, end_of, depth_of, bits_of, constraints_of, buffers_of, node_count, IsForm}
+use Rattle.raster_delay.specs.Network.{Holds, objective}
+use Rattle.raster_delay.specs.Delays.{begin_of, end_of, IsForm}
 use Rattle.raster_delay.specs.Systems.{Parts, IsSystem, IsCausal, image_count, widths, placed_reads, nodes, constraints_in, buffers, bits, depth, worth_of}
 use Rattle.raster_delay.proofs.Duality.{bits_are, spare, spare-complementary, complementary-spare}
 use Rattle.raster_delay.proofs.Within.{within_all, keeps_all, numbers_keep, numbers_objective}

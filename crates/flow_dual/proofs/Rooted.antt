@@ -5,7 +5,7 @@ use Rattle.std.proofs.lemmas.Int.{ints}
 use Rattle.std.proofs.lemmas.Bool.{cases_lt}
 use Rattle.std.proofs.lemmas.List.Elements.{All-from_get_or}
 use Rattle.raster_delay.specs.Network.{constraint_at, Holds, IsComplementary}
-use Rattle.raster_delay.specs.Delays.{begin_of, begin_count, end_of, node_count, constraints_of}
+use Rattle.raster_delay.specs.Delays.{begin_count, node_count, constraints_of}
 use Rattle.raster_delay.specs.declared.network.Constraint.{Constraint}
 use Rattle.raster_delay.specs.declared.placed.PlacedRead.{PlacedRead}
 use Rattle.raster_delay.proofs.Parts.{hold_at, start_at, length_all}
@@ -19,8 +19,7 @@ pub rooted : (row age inputs images : ℕ) (reads : List PlacedRead) → 1 ≤ i
 rooted row age inputs images reads some kept = λ v low high. elim (cases_lt v (begin_count inputs images)) [
   | inl h ↦
       let k : ℕ = v + inputs - 1 in
-      let at = start_at row age inputs images reads kept k (omega arith) (omega arith) in
-      (
+      let at = start_at row age inputs images reads kept k (omega arith) (omega arith) in (
         images + (k - inputs),
         omega (arith, length_all row age inputs images reads kept),
         omega (arith, ap (λ (c : Constraint). c.target) at),
@@ -29,8 +28,7 @@ rooted row age inputs images reads some kept = λ v low high. elim (cases_lt v (
       )
   | inr h ↦
       let k : ℕ = v - begin_count inputs images in
-      let at = hold_at row age inputs images reads kept k (omega arith) in
-      (
+      let at = hold_at row age inputs images reads kept k (omega arith) in (
         k,
         omega (arith, length_all row age inputs images reads kept),
         omega (arith, ap (λ (c : Constraint). c.target) at),

@@ -1,5 +1,5 @@
 -- What a solution of a system is.
-use Rattle.std.specs.Prelude.{◌≡◌, ℕ, pos, ◌+◌, ◌^◌, ◌<◌, ◌≤◌, List, length, slice_index, All}
+use Rattle.std.specs.Prelude.{◌≡◌, ℕ, pos, ◌+◌, ◌<◌, ◌≤◌, List, length, slice_index, All}
 use Rattle.raster_delay.specs.Network.{Holds, IsComplementary}
 use Rattle.raster_delay.specs.Delays.{AreNear}
 use Rattle.raster_delay.specs.Systems.{Parts, IsCausal, IsBalanced, image_count, nodes, constraints_in, bits, depth, worth_of}

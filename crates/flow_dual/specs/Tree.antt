@@ -1,5 +1,5 @@
 -- A tree of the nodes that are reached from a root, and flow pushed along it.
-use Rattle.std.specs.Prelude.{◌≡◌, ◌≢◌, ℕ, pos, neg_ℤ, ◌≤ℤ◌, ◌+ℤ◌, ◌+◌, ◌^◌, ◌<◌, ◌≤◌, ◌==◌, nat_lt, if◌then◌else◌, List, length, slice_index, All, count_by, ◌⊎◌}
+use Rattle.std.specs.Prelude.{◌≡◌, ◌≢◌, ℕ, pos, ◌≤ℤ◌, ◌+ℤ◌, ◌+◌, ◌^◌, ◌<◌, ◌≤◌, ◌==◌, nat_lt, if◌then◌else◌, List, length, slice_index, All, count_by, ◌⊎◌}
 use Rattle.raster_delay.specs.Network.{constraint_at, inflow, outflow, Holds, IsTight, IsComplementary}
 use Rattle.raster_delay.specs.Delays.{IsSmall}
 use Rattle.raster_delay.specs.declared.network.Constraint.{Constraint}

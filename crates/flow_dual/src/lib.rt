@@ -9,6 +9,8 @@ mod settling;
 mod shifting;
 mod solution;
 mod solving;
+#[cfg(test)]
+mod tests;
 mod tree;
 
 pub use solution::{Numbers, Solution};

@@ -1,4 +1,4 @@
-use Rattle.std.proofs.Common.{◌≡◌, ◌≤◌, ◌<◌, ◌+◌, length, get_or, slice_index, arith, ap, sym, ◌∙◌}
+use Rattle.std.proofs.Common.{◌≡◌, ◌≤◌, ◌<◌, length, get_or, slice_index, arith, ap, sym, ◌∙◌}
 use Rattle.std.proofs.lemmas.Int.{ints}
 use Rattle.std.proofs.lemmas.List.{get_or-map, length-map}
 use Rattle.dk_base.specs.declared.stencils.Image.{Image}
@@ -46,8 +46,7 @@ send-requires-clause-hold c =
     let n = image_count s in
     let kept = (system_form s c.law.ensures).inputs_kept in
     let below : c.loop-image.image < n = omega (arith, ap length c.images-images.ensures) in
-    rw c.constraints-constraints.ensures.form
-    (
+    rw c.constraints-constraints.ensures.form (
       omega (arith, length_all s.stencils.width s.age s.stencils.inputs n (placed_reads s) kept, below),
       ap (λ (c : Constraint). c.cost) (hold_at s.stencils.width s.age s.stencils.inputs n (placed_reads s) kept c.loop-image.image below),
     )
