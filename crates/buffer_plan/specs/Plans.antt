@@ -1,0 +1,93 @@
+-- What a plan says of each kept image, and when there is none.
+use Rattle.std.specs.Prelude.{◌≡◌, ℕ, ◌+◌, ◌*◌, ◌<◌, ◌≤◌, ◌==◌, ◌↔◌, max, List, [], ◌∷◌, length, map, filter, Contains, unsigned_abs, slice_index, slice_index_or, Result, Ok, Err}
+use Rattle.std.specs.List.Sorted.{IsStrictlyIncreasing}
+use Rattle.dk_base.specs.declared.stencils.Image.{Image}
+use Rattle.dk_base.specs.declared.stencils.LiveRead.{LiveRead}
+use Rattle.dk_base.specs.declared.TheConstants.{MAX_BUFFER_BITS, MAX_LATENCY}
+use Rattle.dk_base.specs.Stencils.{place}
+use Rattle.raster_delay.specs.declared.placed.PlacedRead.{PlacedRead}
+use Rattle.raster_delay.specs.Delays.{age_of, AreNear}
+use Rattle.raster_delay.specs.Systems.{Parts as System, IsSystem, IsCausal, image_count, placed_reads, widths, depth, bits}
+use Rattle.buffer_plan.specs.declared.fault.PlanFault.{PlanFault}
+use Rattle.buffer_plan.specs.declared.fault.PlanFault.TheVariants.{Bits, Latency, Memory}
+
+-- a system, and the delays that were taken for it
+pub record Parts : Type 0 where
+  pub system : System
+  pub delays : List ℕ
+
+-- where an image stands among the kept ones
+abbrev pub place_in : Parts → ℕ → ℕ
+place_in p g = place p.system.stencils.images g
+
+abbrev pub delay_of : Parts → ℕ → ℕ
+delay_of p g = slice_index p.delays (place_in p g)
+
+-- the greatest age among the live reads that read image g, 0 without any
+abbrev pub depth_of : Parts → ℕ → ℕ
+depth_of p g = depth p.system p.delays (place_in p g)
+
+-- the ages of the live reads that read the image at place k, in the order of the reads
+abbrev pub ages_in : (row : ℕ) → List ℕ → ℕ → List PlacedRead → List ℕ
+ages_in row d k reads = map (λ r. unsigned_abs (age_of row d r)) (filter (λ r. r.g == k) reads)
+
+-- the distinct numbers of a list, ascending
+pub record AreDistinct (all distinct : List ℕ) : Type 0 where
+  pub ascending : IsStrictlyIncreasing distinct
+  pub same : (a : ℕ) → Contains distinct a ↔ Contains all a
+
+-- the distinct ages of the live reads that read image g, ascending
+abbrev pub AreAges : Parts → ℕ → List ℕ → Type 0
+AreAges p g ages = AreDistinct (ages_in p.system.stencils.width p.delays (place_in p g) (placed_reads p.system)) ages
+
+-- the live reads that image f makes
+abbrev pub reads_by : ℕ → List LiveRead → List LiveRead
+reads_by f reads = filter (λ r. r.f == f) reads
+
+abbrev pub width_of : Parts → ℕ → ℕ
+width_of p g = slice_index (widths p.system) (place_in p g)
+
+-- the delay of the output numbered k
+abbrev pub latency_of : Parts → ℕ → ℕ
+latency_of p k = delay_of p (slice_index p.system.stencils.outputs k)
+
+-- the greatest delay of these images, 0 of none
+abbrev pub greatest_delay : List Image → List ℕ → List ℕ → ℕ
+greatest_delay images d [] = 0
+greatest_delay images d (g ∷ gs) = max (slice_index d (place images g)) (greatest_delay images d gs)
+
+-- the greatest delay of an output
+abbrev pub latency : Parts → ℕ
+latency p = greatest_delay p.system.stencils.images p.delays p.system.stencils.outputs
+
+-- the clocks from an image's first pixel to the last pixel of the latest output
+abbrev pub clocks : Parts → ℕ
+clocks p = p.system.stencils.width * p.system.stencils.height + latency p
+
+abbrev pub bits_of : Parts → ℕ
+bits_of p = bits p.system p.delays
+
+-- causal delays within the limits
+pub record IsPlan (p : Parts) : Type 0 where
+  pub system : IsSystem p.system
+  pub causal : IsCausal p.system p.delays
+  pub near : AreNear p.delays
+  pub bits_limit : bits_of p ≤ MAX_BUFFER_BITS
+  pub latency_limit : latency p ≤ MAX_LATENCY
+
+-- Bits exactly where the bits pass the limit; else Latency exactly where the latency does; else these delays, or want of memory
+abbrev pub Judges : Parts → Result Parts PlanFault → Type 0
+Judges p (Ok plan) = (plan ≡ p) × (bits_of p ≤ MAX_BUFFER_BITS) × (latency p ≤ MAX_LATENCY)
+Judges p (Err (Bits least)) = (MAX_BUFFER_BITS < bits_of p) × (least ≡ bits_of p)
+Judges p (Err (Latency clocks)) = (bits_of p ≤ MAX_BUFFER_BITS) × (MAX_LATENCY < latency p) × (clocks ≡ latency p)
+Judges p (Err Memory) = (bits_of p ≤ MAX_BUFFER_BITS) × (latency p ≤ MAX_LATENCY)
+
+-- what a plan keeps beside its value: each image's depth and ages, the latency and the bits
+pub record IsHeld (p : Parts) (depths : List ℕ) (ages : List (List ℕ)) (greatest total : ℕ) : Type 0 where
+  pub plan : IsPlan p
+  pub one_depth_each : length depths ≡ image_count p.system
+  pub depths_are : (k : ℕ) → k < image_count p.system → slice_index depths k ≡ depth p.system p.delays k
+  pub one_list_each : length ages ≡ image_count p.system
+  pub ages_are : (k : ℕ) → k < image_count p.system → AreDistinct (ages_in p.system.stencils.width p.delays k (placed_reads p.system)) (slice_index_or ages k [])
+  pub latency_is : greatest ≡ latency p
+  pub bits_are : total ≡ bits_of p

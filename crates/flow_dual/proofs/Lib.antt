@@ -1,0 +1,5 @@
+pub mod Pushes
+pub mod Raising
+pub mod Least
+pub mod Optimal
+pub mod Rooted

@@ -1,0 +1,27 @@
+-- What a solution of a system is.
+use Rattle.std.specs.Prelude.{◌≡◌, ℕ, pos, ◌+◌, ◌<◌, ◌≤◌, List, length, slice_index, All}
+use Rattle.raster_delay.specs.Network.{Holds, IsComplementary}
+use Rattle.raster_delay.specs.Delays.{AreNear}
+use Rattle.raster_delay.specs.Systems.{Parts, IsCausal, IsBalanced, image_count, nodes, constraints_in, bits, depth, worth_of}
+use Rattle.flow_dual.specs.declared.solution.Solution.{Solution}
+
+-- the causal delays of least bits that are least in every place among those, each with its depth as an end, and a flow whose worth is the bits
+pub record IsSolution (s : Parts) (x : Solution) : Type 0 where
+  pub causal : IsCausal s x.delays
+  pub least_bits : (d : List ℕ) → IsCausal s d → bits s x.delays ≤ bits s d
+  pub least_vector : (d : List ℕ) → IsCausal s d → bits s d ≡ bits s x.delays → (k : ℕ) → k < image_count s → slice_index x.delays k ≤ slice_index d k
+  pub ends_are : (k : ℕ) → k < image_count s → slice_index x.ends k ≡ slice_index x.delays k + depth s x.delays k
+  pub one_end_each : length x.ends ≡ image_count s
+  pub balanced : IsBalanced s x.flow
+  pub worth_is : worth_of s x.flow ≡ pos (bits s x.delays)
+  pub near : AreNear x.delays
+
+-- numbers of the nodes and a flow: the numbers keep the constraints, the flow is balanced and on tight constraints alone, and the numbers are the least that suit it
+pub record IsOptimum (s : Parts) (p flow : List ℕ) : Type 0 where
+  pub one_each : length p ≡ nodes s
+  pub inputs_at_once : slice_index p 0 ≡ 0
+  pub holds : All (Holds p) (constraints_in s)
+  pub carries : IsComplementary (constraints_in s) flow p
+  pub balanced : IsBalanced s flow
+  pub least : (d : List ℕ) → All (Holds d) (constraints_in s) → IsComplementary (constraints_in s) flow d → (v : ℕ) → v < nodes s → slice_index p v ≤ slice_index d v
+  pub near : AreNear p

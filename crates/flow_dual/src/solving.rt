@@ -1,0 +1,86 @@
+// The least vector of least bits, and a flow that shows them least.
+
+ghost use Rattle.std.specs.Prelude.{◌≡◌, ◌<◌, ◌≤◌, ◌^◌, ℕ, length, slice_index, All, IfOk, OnOk};
+ghost use Rattle.raster_delay.specs.Network.{Holds};
+ghost use Rattle.raster_delay.specs.Delays.{begin_of, end_of};
+ghost use Rattle.raster_delay.specs.Systems.{constraints_in, image_count, nodes};
+ghost use Rattle.flow_dual.specs.Solutions.{IsOptimum, IsSolution};
+
+use crate::sending::send_all;
+use crate::settling::settle;
+use crate::shifting::rebase;
+use crate::solution::{Numbers, Solution};
+use crate::tree::incidence;
+use dk_base::Memory;
+use raster_delay::{System, begin_numbers, earliest_numbers, end_numbers};
+use std::alloc::Global;
+
+// Finds a balanced flow, and the least numbers of the nodes that show its worth to be the greatest.
+fn balance(
+    alloc: Global,
+    system: &System,
+    numbers: &mut [u64],
+    flow: &mut [u64],
+) -> Result<(), Memory>
+    requires nodes { length numbers.old ≡ nodes system.now }
+    requires flows { length flow.old ≡ length (constraints_in system.now) }
+    requires empty { (i : ℕ) → slice_index flow.old i ≡ 0 }
+    requires numbers { (v : ℕ) → slice_index numbers.old v ≤ 2 ^ 41 }
+    requires holds { All (Holds numbers.old) (constraints_in system.now) }
+    ensures { OnOk result (IsOptimum system.now numbers.new flow.new) }
+{
+    system.law();
+    let incident = incidence(alloc, system.constraints(), numbers.len())?;
+    send_all(alloc, system, &incident, numbers, flow)?;
+    rebase(numbers);
+    settle(alloc, system.constraints(), &incident, numbers, flow)?;
+    Ok(())
+}
+
+// The delays among numbers of the nodes.
+fn delays_among(alloc: Global, system: &System, numbers: &[u64]) -> Result<Numbers, Memory>
+    requires { length numbers.now ≡ nodes system.now }
+    ensures length { IfOk result (λ delays. length delays ≡ image_count system.now) }
+    ensures numbers { IfOk result (λ delays. (k : ℕ) → k < image_count system.now → slice_index delays k ≡ slice_index numbers.now (begin_of system.now.stencils.inputs k)) }
+{
+    let delays = begin_numbers(alloc, system, numbers)?;
+    Ok(Numbers::new(delays))
+}
+
+// The ends among numbers of the nodes.
+fn ends_among(alloc: Global, system: &System, numbers: &[u64]) -> Result<Numbers, Memory>
+    requires { length numbers.now ≡ nodes system.now }
+    ensures length { IfOk result (λ ends. length ends ≡ image_count system.now) }
+    ensures numbers { IfOk result (λ ends. (k : ℕ) → k < image_count system.now → slice_index ends k ≡ slice_index numbers.now (end_of system.now.stencils.inputs (image_count system.now) k)) }
+{
+    let ends = end_numbers(alloc, system, numbers)?;
+    Ok(Numbers::new(ends))
+}
+
+// The solution that an optimum tells.
+fn answer(
+    alloc: Global,
+    system: &System,
+    numbers: &[u64],
+    flow: Vec<u64>,
+) -> Result<Solution, Memory>
+    requires { IsOptimum system.now numbers.now flow.items }
+    ensures { IfOk result (λ x. IsSolution system.now x) }
+{
+    system.law();
+    let delays = delays_among(alloc, system, numbers)?;
+    let ends = ends_among(alloc, system, numbers)?;
+    let flow = Numbers::new(flow);
+    Ok(Solution { delays, ends, flow })
+}
+
+/// The least vector of least bits: of all causal delays that need the least bits, those that are least in every place. With them the ends, and a flow whose worth is these bits.
+pub fn solve(alloc: Global, system: &System) -> Result<Solution, Memory>
+    ensures { IfOk result (λ x. IsSolution system.now x) }
+{
+    let mut numbers = earliest_numbers(alloc, system)?;
+    let mut flow = vec![in alloc; 0u64; system.constraints().len()]?;
+    balance(alloc, system, &mut numbers, &mut flow)?;
+    let solution = answer(alloc, system, &numbers, flow)?;
+    Ok(solution)
+}

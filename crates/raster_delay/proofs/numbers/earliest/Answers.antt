@@ -1,0 +1,46 @@
+use Rattle.std.proofs.Common.{slice_index, arith, ap, ◌∙◌, inl, inr}
+use Rattle.std.proofs.lemmas.Bool.{cases_lt}
+use Rattle.std.proofs.lemmas.List.{get_or_past}
+use Rattle.std.proofs.lemmas.List.Elements.{All-from_recursion, recursion_from_All}
+use Rattle.raster_delay.specs.Network.{Holds}
+use Rattle.raster_delay.specs.Delays.{begin_of}
+use Rattle.raster_delay.specs.Systems.{image_count, placed_reads, constraints_in}
+use Rattle.raster_delay.proofs.Bridge.{holds_causal, numbers_of, numbers_hold, begins_of}
+use Rattle.raster_delay.proofs.Places.{system_form}
+use Rattle.raster_delay.proofs.numbers.earliest.Goals as goal
+
+pub returns-clause-causal : goal.returns-clause-causal
+returns-clause-causal c =
+    let s = c.args.system.now in
+    let form = system_form s c.law.ensures in
+    let told = c.in_ok-numbers.ensures in
+    let p = c.in_ok-numbers.numbers.items in
+    let value = c.deref.ensures.value in
+    holds_causal s.stencils.width s.age s.stencils.inputs (image_count s) (placed_reads s) form.reads_are form.some_inputs form.inputs_kept p c.in_ok-delays.delays.items
+    (recursion_from_All (Holds p) (constraints_in s) told.holds) c.in_ok-delays.ensures.length
+    (λ k h. c.in_ok-delays.ensures.numbers k h ∙ ap (λ xs. slice_index xs (begin_of s.stencils.inputs k)) value) told.zero
+
+pub returns-clause-least : goal.returns-clause-least
+returns-clause-least c = λ d causal k.
+    let s = c.args.system.now in
+    let form = system_form s c.law.ensures in
+    let told = c.in_ok-numbers.ensures in
+    let p = c.in_ok-numbers.numbers.items in
+    let value = c.deref.ensures.value in
+    let delays = c.in_ok-delays.delays.items in
+    let reads = placed_reads s in
+    let images = image_count s in
+    let inputs = s.stencils.inputs in
+    let row = s.stencils.width in
+    elim (cases_lt k images) [
+      | inl h ↦ omega (
+        arith,
+        c.in_ok-delays.ensures.numbers k h,
+        ap (λ xs. slice_index xs (begin_of inputs k)) value,
+        told.least (numbers_of row inputs images reads d)
+            (All-from_recursion (Holds (numbers_of row inputs images reads d)) (constraints_in s) (numbers_hold row s.age inputs images reads form.reads_are form.some_inputs form.inputs_kept d causal))
+            (begin_of inputs k),
+        begins_of row inputs images reads d form.some_inputs form.inputs_kept causal.inputs_at_once k h,
+      )
+      | inr h ↦ omega (arith, get_or_past delays k 0 (omega (arith, h, c.in_ok-delays.ensures.length)))
+    ]

@@ -1,0 +1,121 @@
+-- Delays of the kept images, by their place in order, and the system of constraints on them.
+use Rattle.std.specs.Prelude.{◌≡◌, ℕ, ℤ, pos, neg_ℤ, ◌+◌, ◌-◌, ◌*◌, ◌^◌, ◌<◌, ◌≤◌, ◌+ℤ◌, ◌-ℤ◌, ◌*ℤ◌, ◌≤ℤ◌, ◌==◌, if◌then◌else◌, max, unsigned_abs, List, [], ◌∷◌, ◌++◌, length, map, slice_index, slice_index_or, All, sum_by}
+use Rattle.std.specs.List.{enumerate_from, range_with_len}
+use Rattle.raster_delay.specs.Network.{Buffer, constraint_at}
+use Rattle.raster_delay.specs.declared.network.Constraint.{Constraint}
+use Rattle.raster_delay.specs.declared.placed.PlacedRead.{PlacedRead}
+
+-- how much later in raster order the pixel that is read stands
+abbrev pub offset : ℕ → PlacedRead → ℤ
+offset row r = r.dy *ℤ pos row +ℤ r.dx
+
+-- how old a read is: how long before the reader's pixel the pixel that is read came
+abbrev pub age_of : ℕ → List ℕ → PlacedRead → ℤ
+age_of row d r = pos (slice_index d r.f) -ℤ pos (slice_index d r.g) -ℤ offset row r
+
+-- a delay for each image, 0 for each input, and each age at least so much
+pub record AreCausal (row age inputs images : ℕ) (reads : List PlacedRead) (d : List ℕ) : Type 0 where
+  pub one_each : length d ≡ images
+  pub inputs_at_once : (k : ℕ) → k < inputs → slice_index d k ≡ 0
+  pub ages : All (λ r. pos age ≤ℤ age_of row d r) reads
+
+-- the greatest age among the reads that read image g, 0 without any
+abbrev pub depth_of : ℕ → List ℕ → List PlacedRead → ℕ → ℕ
+depth_of row d [] g = 0
+depth_of row d (r ∷ reads) g = if r.g == g then max (unsigned_abs (age_of row d r)) (depth_of row d reads g) else depth_of row d reads g
+
+-- the sum of width times depth
+abbrev pub bits_of : ℕ → List ℕ → List PlacedRead → List ℕ → ℕ
+bits_of row d reads widths = sum_by (λ x. x.1 * depth_of row d reads x.0) (enumerate_from 0 widths)
+
+-- the node at which image k begins: node 0 for each input, and then one for each other image in order
+abbrev pub begin_of : (inputs k : ℕ) → ℕ
+begin_of inputs k = k + 1 - inputs
+
+-- how many nodes images begin at
+abbrev pub begin_count : (inputs images : ℕ) → ℕ
+begin_count inputs images = images + 1 - inputs
+
+-- the node at which image k ends: behind the others, one for each image in order
+abbrev pub end_of : (inputs images k : ℕ) → ℕ
+end_of inputs images k = begin_count inputs images + k
+
+abbrev pub node_count : (inputs images : ℕ) → ℕ
+node_count inputs images = begin_count inputs images + images
+
+-- an image ends no earlier than it begins
+abbrev pub hold : (inputs images k : ℕ) → Constraint
+hold inputs images k = record { source = begin_of inputs k; target = end_of inputs images k; cost = pos 0 }
+
+-- an image begins no earlier than the inputs
+abbrev pub start : (inputs k : ℕ) → Constraint
+start inputs k = record { source = 0; target = begin_of inputs k; cost = pos 0 }
+
+-- a read's age is at least so much
+abbrev pub read : (row age inputs : ℕ) → PlacedRead → Constraint
+read row age inputs r = record { source = begin_of inputs r.g; target = begin_of inputs r.f; cost = offset row r +ℤ pos age }
+
+-- a read's age is at most the depth of what is read
+abbrev pub keep : (row inputs images : ℕ) → PlacedRead → Constraint
+keep row inputs images r = record { source = begin_of inputs r.f; target = end_of inputs images r.g; cost = neg_ℤ (offset row r) }
+
+abbrev pub holds_of : (inputs images : ℕ) → List Constraint
+holds_of inputs images = map (hold inputs images) (range_with_len 0 images)
+
+-- for each image that is no input
+abbrev pub starts_of : (inputs images : ℕ) → List Constraint
+starts_of inputs images = map (start inputs) (range_with_len inputs (images - inputs))
+
+-- all constraints, in the order of their kinds
+abbrev pub constraints_of : (row age inputs images : ℕ) → List PlacedRead → List Constraint
+constraints_of row age inputs images reads =
+    ((holds_of inputs images ++ starts_of inputs images) ++ map (read row age inputs) reads) ++ map (keep row inputs images) reads
+
+-- each image's width is held from its beginning to its end
+abbrev pub buffer : (inputs images : ℕ) → ℕ × ℕ → Buffer
+buffer inputs images x = record { begin = begin_of inputs x.0; end = end_of inputs images x.0; width = x.1 }
+
+abbrev pub buffers_of : (inputs images : ℕ) → List ℕ → List Buffer
+buffers_of inputs images widths = map (buffer inputs images) (enumerate_from 0 widths)
+
+abbrev pub IsNear : ℤ → Type 0
+IsNear z = (neg_ℤ (pos (2 ^ 24)) ≤ℤ z) × (z ≤ℤ pos (2 ^ 24))
+
+-- images before what reads them, inputs that read nothing, reads in the order of their readers, and numbers within limits
+pub record AreReads (row inputs images : ℕ) (reads : List PlacedRead) : Type 0 where
+  pub earlier : All (λ r. r.g < r.f) reads
+  pub readers : All (λ r. inputs ≤ r.f) reads
+  pub among : All (λ r. r.f < images) reads
+  pub near : All (λ r. IsNear (offset row r)) reads
+  pub in_order : (i j : ℕ) (d : PlacedRead) → i ≤ j → j < length reads → (slice_index_or reads i d).f ≤ (slice_index_or reads j d).f
+
+-- numbers within the limits of programs
+pub record IsForm (row age inputs images : ℕ) (widths : List ℕ) (reads : List PlacedRead) : Type 0 where
+  pub row_limit : row ≤ 4096
+  pub age_limit : age ≤ 64
+  pub some_inputs : 1 ≤ inputs
+  pub inputs_kept : inputs ≤ images
+  pub image_limit : images ≤ 264
+  pub count : length reads ≤ 4096
+  pub one_width_each : length widths ≡ images
+  pub bits : All (λ w. w ≤ 64) widths
+  pub reads_are : AreReads row inputs images reads
+
+-- no constraint leads away from where a later one leads
+abbrev pub NoReturn : List Constraint → Type 0
+NoReturn cs = (i j : ℕ) → i ≤ j → j < length cs → (constraint_at cs i).source ≡ (constraint_at cs j).target → ⊥
+
+abbrev pub IsSmall : Constraint → Type 0
+IsSmall c = (neg_ℤ (pos (2 ^ 24 + 64)) ≤ℤ c.cost) × (c.cost ≤ℤ pos (2 ^ 24 + 64))
+
+-- constraints between nodes below n, few and of small costs, that can be kept in one pass
+pub record AreBounded (n : ℕ) (cs : List Constraint) : Type 0 where
+  pub sources : All (λ c. c.source < n) cs
+  pub targets : All (λ c. c.target < n) cs
+  pub costs : All IsSmall cs
+  pub no_return : NoReturn cs
+  pub count : length cs ≤ 2 ^ 14
+
+-- every delay is below 2^34
+abbrev pub AreNear : List ℕ → Type 0
+AreNear d = (k : ℕ) → slice_index d k < 2 ^ 34

@@ -1,0 +1,4 @@
+pub mod Network
+pub mod Delays
+pub mod Placing
+pub mod Systems

@@ -1,0 +1,20 @@
+//! The system of constraints on the delays of kept images: which delays are causal, which are the earliest, the bits that they need, and what a flow says of them.
+#![tactic(auto)]
+
+mod build;
+mod laws;
+mod measure;
+mod network;
+mod numbers;
+mod placed;
+mod system;
+#[cfg(test)]
+mod tests;
+
+pub use build::{begin_node, end_node};
+pub use laws::{flow_shows_least, weak_duality};
+pub use measure::{age_held, bits, causal, depth};
+pub use network::Constraint;
+pub use numbers::{begin_numbers, earliest, earliest_numbers, end_numbers};
+pub use placed::{PlacedRead, offset};
+pub use system::System;
