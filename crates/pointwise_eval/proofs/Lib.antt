@@ -1,3 +1,5 @@
 pub mod Operands
 pub mod Shown
 pub mod Marks
+pub mod Rendered
+pub mod Outputs

@@ -1,5 +1,5 @@
 -- The values of an image in raster order, and the picture that they make.
-use Rattle.std.specs.Prelude.{◌≡◌, ℕ, ◌*◌, ◌+◌, ◌<◌, ℤ, pos, ◌+ℤ◌, unsigned_abs, List, length, map, slice_get, slice_index_or, Option, Some, Bool, true, false}
+use Rattle.std.specs.Prelude.{◌≡◌, ℕ, ◌*◌, ◌+◌, ◌<◌, ℤ, pos, ◌+ℤ◌, unsigned_abs, List, length, map, slice_get, slice_index_or, Option, Some, Bool, true, IsTrue, IsFalse, []}
 use Rattle.dk_base.specs.declared.frame.FrameSize.{FrameSize}
 use Rattle.dk_base.specs.declared.ty.Ty.{Ty}
 use Rattle.dk_base.specs.Types.{IsType, IsIn}
@@ -7,6 +7,7 @@ use Rattle.dk_base.specs.Frames.{Size, area, Picture}
 use Rattle.pointwise_ir.specs.declared.expr.Edge.{Edge}
 use Rattle.pointwise_ir.specs.Trees.{Tree, EachImage}
 use Rattle.pointwise_ir.specs.Typing.{HasType}
+use Rattle.pointwise_ir.specs.Programs.{IsPort}
 use Rattle.pointwise_ir.specs.Meaning.{framed, edged, value, picture_at}
 use Rattle.pointwise_eval.specs.declared.plane.Plane.{Plane}
 
@@ -45,3 +46,23 @@ pub record LeadsTo (size : Size) (edge : Edge) (x y : ℤ) (u v : ℕ) : Type 0 
   pub across : u < size.width
   pub down : v < size.height
   pub same : (picture : Picture) → edged size edge picture x y ≡ picture (pos u) (pos v)
+
+-- the plane of an image that is no input: where it is wanted, the expression's value at each pixel, and else empty
+pub record IsPlaneOf (size : Size) (planes : List Plane) (e : Tree) (wanted : Bool) (plane : Plane) : Type 0 where
+  pub whole : IsTrue wanted → length plane.values.items ≡ area size
+  pub shown : IsTrue wanted → shown size plane.values.items ≡ framed size (value size (all_shown size planes) e)
+  pub empty : IsFalse wanted → plane.values.items ≡ []
+
+-- the planes of images of which the needed ones have these pictures
+pub record ShowsNeeded (size : Size) (types : List Ty) (known : List Picture) (needed : List Bool) (planes : List Plane) : Type 0 where
+  pub one_each : length planes ≡ length types
+  pub values : AreValues size types planes
+  pub whole : (g : ℕ) → slice_get needed g ≡ Some true → g < length planes → IsWhole size planes g
+  pub pictures : (g : ℕ) → slice_get needed g ≡ Some true → g < length planes → picture_at (all_shown size planes) g ≡ picture_at known g
+
+-- a whole plane whose values are samples of an output
+pub record IsOutputPlane (size : Size) (planes : List Plane) (g : ℕ) : Type 0 where
+  pub whole : IsWhole size planes g
+  pub ty : Ty
+  pub port : IsPort ty
+  pub values : (x y : ℤ) → IsIn ty (picture_at (all_shown size planes) g x y)

@@ -1,10 +1,12 @@
 //! The pictures of a program, each pixel computed from the definition.
 #![tactic(auto)]
 
+mod evaluation;
 mod frame;
 mod need;
 mod plane;
 mod point;
 mod value;
 
+pub use evaluation::evaluate;
 pub use frame::{Frame, Samples};

@@ -85,11 +85,14 @@ taken_entry (y ∷ xs) (suc k) (suc j) x h = let r = taken_entry xs k j x h in (
 abbrev pub DefinedBelow : ℕ → List Input → List Definition → Type 0
 DefinedBelow k inputs images = (j : ℕ) (image : Definition) → j < k → slice_get images j ≡ Some image → IsDefined (all_types inputs (take j images)) image
 
-pub types_below : (inputs : List Input) (images : List Definition) (k : ℕ) → All (λ i. IsPort i.ty) inputs → DefinedBelow k inputs images → All IsType (all_types inputs (take k images))
-types_below inputs images k ports below = all_typed _ (types_are inputs (take k images) ports (λ j image is.
+pub taken_types : (inputs : List Input) (images : List Definition) (k : ℕ) → All (λ i. IsPort i.ty) inputs → DefinedBelow k inputs images → AreTypes (all_types inputs (take k images))
+taken_types inputs images k ports below = types_are inputs (take k images) ports (λ j image is.
     let r = taken_entry images k j image is in
     let P : List Definition → Type 0 = λ ds. IsDefined (all_types inputs ds) image in
-    subst P (sym r.2) (below j image r.0 r.1)))
+    subst P (sym r.2) (below j image r.0 r.1))
+
+pub types_below : (inputs : List Input) (images : List Definition) (k : ℕ) → All (λ i. IsPort i.ty) inputs → DefinedBelow k inputs images → All IsType (all_types inputs (take k images))
+types_below inputs images k ports below = all_typed _ (taken_types inputs images k ports below)
 
 -- one image more
 pub defined_more : (inputs : List Input) (images earlier : List Definition) (k : ℕ) (d : Definition) → earlier ≡ take k images → slice_get images k ≡ Some d → IsDefined (all_types inputs earlier) d →

@@ -58,7 +58,7 @@ picture_is size (b ∷ bodies) known reads (suc k) e is x y =
     ap (λ j. picture_at (pictures_from size known (b ∷ bodies)) j x y) (sym (at k)) ∙ picture_is size bodies (known ++ p ∷ []) more k e is x y
 
 -- of a list of images by the list of what is taken of each
-mapped_entry : {A B : Type 0} (f : A → B) (xs : List A) (k : ℕ) (y : B) → slice_get (map f xs) k ≡ Some y → (x : A) × (slice_get xs k ≡ Some x) × (f x ≡ y)
+pub mapped_entry : {A B : Type 0} (f : A → B) (xs : List A) (k : ℕ) (y : B) → slice_get (map f xs) k ≡ Some y → (x : A) × (slice_get xs k ≡ Some x) × (f x ≡ y)
 mapped_entry f [] k y is = absurd (let e : ⊥ = cc in e)
 mapped_entry f (x ∷ xs) zero y is = (x, refl, let e : f x ≡ y = cc in e)
 mapped_entry f (x ∷ xs) (suc k) y is = mapped_entry f xs k y is
