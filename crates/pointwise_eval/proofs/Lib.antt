@@ -3,3 +3,4 @@ pub mod Shown
 pub mod Marks
 pub mod Rendered
 pub mod Outputs
+pub mod Fits

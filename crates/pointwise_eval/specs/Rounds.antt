@@ -16,10 +16,14 @@ pub record IsInputFrame (size : Size) (t : Ty) (f : Frame) : Type 0 where
   pub whole : length f.samples ≡ area size
   pub values : All (λ s. s < above t) f.samples
 
+-- each frame fits the input at its place
+abbrev pub AreInputFrames : Size → List Input → List Frame → Type 0
+AreInputFrames size inputs frames = (k : ℕ) (f : Frame) (input : Input) → slice_get frames k ≡ Some f → slice_get inputs k ≡ Some input → IsInputFrame size input.ty f
+
 -- one frame for each input in order
 pub record AreFrames (p : Program) (frames : List Frame) : Type 0 where
   pub one_each : length frames ≡ length p.inputs
-  pub each : (k : ℕ) (f : Frame) (input : Input) → slice_get frames k ≡ Some f → slice_get p.inputs k ≡ Some input → IsInputFrame p.size input.ty f
+  pub each : AreInputFrames p.size p.inputs frames
 
 -- their pictures
 abbrev pub round_of : Size → List Frame → List Picture

@@ -2,6 +2,7 @@
 #![tactic(auto)]
 
 mod evaluation;
+mod fit;
 mod frame;
 mod need;
 mod plane;
@@ -9,4 +10,5 @@ mod point;
 mod value;
 
 pub use evaluation::evaluate;
+pub use fit::frames_fit;
 pub use frame::{Frame, Samples};
