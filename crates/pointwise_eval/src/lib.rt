@@ -7,6 +7,8 @@ mod frame;
 mod need;
 mod plane;
 mod point;
+#[cfg(test)]
+mod tests;
 mod value;
 
 pub use evaluation::evaluate;

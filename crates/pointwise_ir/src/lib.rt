@@ -5,6 +5,8 @@ mod expr;
 mod ir;
 mod laws;
 mod rewrite;
+#[cfg(test)]
+mod tests;
 mod typing;
 mod values;
 
