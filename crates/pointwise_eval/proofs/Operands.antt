@@ -30,7 +30,9 @@ pub takes_two : (size : Size) (planes : List Plane) (op : Binary) (a b : Tree) â
 takes_two size planes op a b can v u x y is also =
     let (s, r, has, too, rule) = can.typed in
     record {
-      a = s; b = r; t = can.ty;
+      a = s;
+      b = r;
+      t = can.ty;
       left_typed = type_typed can.types can.types_are a s has;
       right_typed = type_typed can.types can.types_are b r too;
       left = part_in size planes (binary op a b) can a s has v x y is;

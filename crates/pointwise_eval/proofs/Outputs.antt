@@ -46,8 +46,10 @@ place_is size k lt =
     positive : (w : ℕ) → k < w * size.height → 0 < w
     positive zero h = absurd (omega (arith, h))
     positive (suc w) h = omega arith
+
     turned : (w : ℕ) → w * (k / w) + k % w ≡ k → k / w * w + k % w ≡ k
     turned w h = omega (arith, h)
+
     fewer : (w q r n : ℕ) → q * w + r < w * n → q < n
     fewer w q r n h = elim (cases_lt q n) [
       | inl low ↦ low
@@ -73,8 +75,8 @@ output_range size planes g q out is = subst (λ (r : Plane). All (λ v. (pos 0 �
     let values = out.whole.plane.values.items in
     let at = place_is size k (let h : k < area size = (let e = out.whole.whole in omega (arith, lt, e)) in h) in
     let same : picture_at (all_shown size planes) g (pos (k % size.width)) (pos (k / size.width)) ≡ get_or values k d =
-        ap (λ (r : Picture). r (pos (k % size.width)) (pos (k / size.width))) (shown_entry size planes g out.whole.plane out.whole.there)
-        ∙ shown_pixel size values (k % size.width) (k / size.width) at.column at.row ∙ ap (λ i. get_or values i (pos 0)) at.place ∙ get_or_default values k (pos 0) d lt in
+    ap (λ (r : Picture). r (pos (k % size.width)) (pos (k / size.width))) (shown_entry size planes g out.whole.plane out.whole.there)
+    ∙ shown_pixel size values (k % size.width) (k / size.width) at.column at.row ∙ ap (λ i. get_or values i (pos 0)) at.place ∙ get_or_default values k (pos 0) d lt in
     subst (λ v. (pos 0 ≤ℤ v) × (v <ℤ pos 65536)) same (port_range out.ty _ out.port (out.values (pos (k % size.width)) (pos (k / size.width)))))
 
 -- they are the pixels of its picture in raster order
@@ -83,9 +85,9 @@ output_is size planes g q out is =
     let values = out.whole.plane.values.items in
     let whole = out.whole.whole in
     let pixels = raster_is size (picture_at (all_shown size planes) g) (map unsigned_abs values) (length-map values unsigned_abs ∙ whole) (λ x y p r.
-        let within : y * size.width + x < length values = rw whole (mul-add-lt y size.width x size.height r p) in
-        ap (λ (s : Picture). unsigned_abs (s (pos x) (pos y))) (shown_entry size planes g out.whole.plane out.whole.there)
-        ∙ ap unsigned_abs (shown_pixel size values x y p r) ∙ sym (get_or-map unsigned_abs values (y * size.width + x) (pos 0) 0 within)) in
+    let within : y * size.width + x < length values = rw whole (mul-add-lt y size.width x size.height r p) in
+    ap (λ (s : Picture). unsigned_abs (s (pos x) (pos y))) (shown_entry size planes g out.whole.plane out.whole.there)
+    ∙ ap unsigned_abs (shown_pixel size values x y p r) ∙ sym (get_or-map unsigned_abs values (y * size.width + x) (pos 0) 0 within)) in
     sym (ap (λ (r : Plane). map unsigned_abs r.values.items) (plane_is size planes g q out.whole is)) ∙ sym pixels
 
 pub output_frame_is : (size : Size) (planes : List Plane) (g : ℕ) (q : Plane) (f : Frame) → IsOutputPlane size planes g → q ≡ get_or planes g q → f ≡ record { width = size.width; height = size.height; samples = map unsigned_abs q.values.items } →

@@ -129,7 +129,7 @@ shows_inputs p frames needed planes is are same =
     let shows : all_shown size planes ≡ round = frames_shown size planes frames same in
     let ok = round_is p frames is are in
     let as_many : length planes ≡ length p.inputs =
-        sym (length-map planes (λ q. q.values.items)) ∙ ap length same ∙ length-map frames (λ f. map pos f.samples) ∙ are.one_each in
+    sym (length-map planes (λ q. q.values.items)) ∙ ap length same ∙ length-map frames (λ f. map pos f.samples) ∙ are.one_each in
     record {
       one_each = as_many ∙ sym (length-map p.inputs (λ i. i.ty)) ∙ sym (ap length (append-nil types));
       values = λ g t there x y.
@@ -305,7 +305,7 @@ shows_more p round needed planes k d wanted b q is needs one_each there test pla
             let holds = needed_is needed g (length p.inputs + k) wanted b test (here ∙ as_many) wants in
             let both = each_both (IsNeeded needed) (λ h. h < length p.inputs + k) e (needs.bodies g e (k, here ∙ as_many, listed) wants) (reads_earlier p is k e listed) in
             let same : Agree (value size (all_shown size planes) e) (value size known e) =
-                value_agrees size (λ h. IsNeeded needed h × (h < length p.inputs + k)) (all_shown size planes) known (λ h w x y. ap (λ (r : Picture). r x y) (shows.pictures h w.0 (let z = w.1 in omega (arith, z, as_many)))) e both in
+            value_agrees size (λ h. IsNeeded needed h × (h < length p.inputs + k)) (all_shown size planes) known (λ h w x y. ap (λ (r : Picture). r x y) (shows.pictures h w.0 (let z = w.1 in omega (arith, z, as_many)))) e both in
             last_shown size planes q g here ∙ plane.shown holds
             ∙ same_picture (framed size (value size (all_shown size planes) e)) (framed size (value size known e)) (framed_agrees size (value size (all_shown size planes) e) (value size known e) same)
             ∙ sym (same_picture (picture_at known g) (framed size (value size known e)) (picture_of_body p is round one_each g e (k, here ∙ as_many, listed)))

@@ -108,11 +108,26 @@ fn samples(
 /// The body of a row of the table of values, which reads nothing.
 fn value(alloc: Global, row: usize) -> Result<Expr, AllocError> {
     match row {
-        0 => convert(alloc, Conversion::Cast, Expr::Constant(200, BYTE), Ty::Signed(8)),
+        0 => convert(
+            alloc,
+            Conversion::Cast,
+            Expr::Constant(200, BYTE),
+            Ty::Signed(8),
+        ),
         1 => scale(alloc, Scaling::Divide, Expr::Constant(-7, Ty::Signed(4)), 2),
-        2 => scale(alloc, Scaling::ShiftRight, Expr::Constant(-7, Ty::Signed(4)), 1),
+        2 => scale(
+            alloc,
+            Scaling::ShiftRight,
+            Expr::Constant(-7, Ty::Signed(4)),
+            1,
+        ),
         3 => unary(alloc, Unary::Negate, Expr::Constant(255, BYTE)),
-        4 => binary(alloc, Binary::Subtract, Expr::Constant(3, BYTE), Expr::Constant(10, BYTE)),
+        4 => binary(
+            alloc,
+            Binary::Subtract,
+            Expr::Constant(3, BYTE),
+            Expr::Constant(10, BYTE),
+        ),
         5 => binary(
             alloc,
             Binary::Min,
@@ -132,7 +147,12 @@ fn value(alloc: Global, row: usize) -> Result<Expr, AllocError> {
             Expr::Constant(1, Ty::Unsigned(1)),
         ),
         8 => unary(alloc, Unary::Abs, Expr::Constant(-128, Ty::Signed(8))),
-        9 => scale(alloc, Scaling::ShiftLeft, Expr::Constant(5, Ty::Unsigned(3)), 3),
+        9 => scale(
+            alloc,
+            Scaling::ShiftLeft,
+            Expr::Constant(5, Ty::Unsigned(3)),
+            3,
+        ),
         10 => convert(
             alloc,
             Conversion::Saturate,
@@ -167,7 +187,12 @@ fn table_of_values(rt: HostRuntime) -> Result<(), Fail> {
         (11, Ty::Signed(8), 65_408),
     ] {
         let wide = Ty::Unsigned(16);
-        let out = convert(alloc, Conversion::Cast, Expr::Read(Edge::Zero, 1, 0, 0), wide)?;
+        let out = convert(
+            alloc,
+            Conversion::Cast,
+            Expr::Read(Edge::Zero, 1, 0, 0),
+            wide,
+        )?;
         let mut images = Vec::new(alloc);
         images.push(image(alloc, ty, value(alloc, row)?))?;
         images.push(image(alloc, wide, out))?;
@@ -202,7 +227,12 @@ fn same_distance(alloc: Global) -> Result<Expr, AllocError> {
 
 /// A choice between a pixel and its right neighbour, where the pixel is below 3.
 fn choice(alloc: Global) -> Result<Expr, AllocError> {
-    let test = binary(alloc, Binary::Less, read(0, 0), Expr::Constant(3, Ty::Unsigned(2)))?;
+    let test = binary(
+        alloc,
+        Binary::Less,
+        read(0, 0),
+        Expr::Constant(3, Ty::Unsigned(2)),
+    )?;
     let condition = Box::new(alloc, test)?;
     let left = Box::new(alloc, read(0, 0))?;
     Ok(Expr::Select(condition, left, Box::new(alloc, read(1, 0))?))
@@ -224,7 +254,12 @@ fn body(alloc: Global, row: usize) -> Result<Expr, AllocError> {
         9 => Ok(clamped(0, -1)),
         10 => Ok(clamped(0, 1)),
         11 => Ok(clamped(1, 1)),
-        12 => shifted(alloc, Edge::Zero, 1, binary(alloc, Binary::Add, read(0, 0), more)?),
+        12 => shifted(
+            alloc,
+            Edge::Zero,
+            1,
+            binary(alloc, Binary::Add, read(0, 0), more)?,
+        ),
         13 => shifted(alloc, Edge::Zero, 2, read(1, 0)),
         14 => shifted(alloc, Edge::Clamp, 1, read(-1, 0)),
         15 => same_distance(alloc),
@@ -239,7 +274,14 @@ fn pictures_of_one_input(rt: HostRuntime) -> Result<(), Fail> {
     let twelve = [1u16, 2, 3, 4, 5, 6, 7, 8, 9, 10, 11, 12].as_slice();
     let squares = [10u16, 14, 20, 28, 25, 36, 49, 64, 81, 100, 121, 144].as_slice();
     for (row, bits, width, height, given, want) in [
-        (0, 8, 4, 1, [3u16, 6, 9, 12].as_slice(), [3u16, 6, 9, 7].as_slice()),
+        (
+            0,
+            8,
+            4,
+            1,
+            [3u16, 6, 9, 12].as_slice(),
+            [3u16, 6, 9, 7].as_slice(),
+        ),
         (1, 8, 2, 3, &[1, 2, 3, 4, 5, 6], &[3, 4, 5, 6, 0, 0]),
         (2, 16, 4, 3, twelve, squares),
         (3, 3, 2, 2, &[9, 9, 9, 9], &[7, 7, 7, 7]),

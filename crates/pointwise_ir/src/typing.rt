@@ -190,6 +190,14 @@ fn are_inputs(inputs: &[Input]) -> bool
     true
 }
 
+// The images before image `k`.
+fn earlier(images: &[Definition], k: usize) -> &[Definition]
+    requires { k < length images.now }
+    ensures { result.now ≡ take k images.now }
+{
+    images.split_at(k).0
+}
+
 // Whether each image is defined over the inputs and the images before it.
 #[tactic(auto, using(crate::proofs::Defined::types_below))]
 fn are_images(inputs: &[Input], images: &[Definition]) -> bool
@@ -198,7 +206,7 @@ fn are_images(inputs: &[Input], images: &[Definition]) -> bool
     ensures no { AreDefined inputs.now images.now → IsTrue result }
 {
     for k in 0..images.len() {
-        if !is_defined(&images[k], inputs, images.split_at(k).0) {
+        if !is_defined(&images[k], inputs, earlier(images, k)) {
             return false;
         }
     }
