@@ -12,7 +12,7 @@ use Rattle.pointwise_ir.specs.Meaning.{value}
 use Rattle.pointwise_ir.specs.Operands.{TakesOne, TakesTwo, TakesScaled}
 use Rattle.pointwise_ir.proofs.Typed.{type_typed, value_in}
 use Rattle.pointwise_eval.specs.declared.plane.Plane.{Plane}
-use Rattle.pointwise_eval.specs.Planes.{all_shown, AreValues, CanEvaluate}
+use Rattle.pointwise_eval.specs.Planes.{all_shown, CanEvaluate}
 
 -- the value of a typed part is in its type
 part_in : (size : Size) (planes : List Plane) (e : Tree) → (can : CanEvaluate size planes e) → (a : Tree) (s : Ty) → HasType can.types a s → (v x y : ℤ) → v ≡ value size (all_shown size planes) a x y → IsIn s v

@@ -1,5 +1,5 @@
 -- The frames of the outputs.
-use Rattle.std.proofs.Common.{◌≡◌, ℕ, zero, suc, ◌+◌, ◌*◌, ◌/◌, ◌%◌, ◌^◌, ◌<◌, ◌≤◌, Bool, true, false, List, [], ◌∷◌, ◌++◌, length, map, take, get_or, ℤ, pos, negsuc, unsigned_abs, ◌≤ℤ◌, ◌<ℤ◌, Some, slice_get, refl, ap, sym, ◌∙◌, subst, arith, inl, inr, mul_comm, if◌then◌else◌}
+use Rattle.std.proofs.Common.{◌≡◌, ℕ, zero, suc, ◌+◌, ◌*◌, ◌/◌, ◌%◌, ◌^◌, ◌<◌, ◌≤◌, Bool, List, [], ◌∷◌, ◌++◌, length, map, take, get_or, ℤ, pos, unsigned_abs, ◌≤ℤ◌, ◌<ℤ◌, Some, slice_get, refl, ap, sym, ◌∙◌, subst, arith, inl, inr, mul_comm, if◌then◌else◌}
 use Rattle.std.specs.List.{All}
 use Rattle.std.proofs.Math.Nat.{mod-lt, div-add-mod, mul-le-mul_right}
 use Rattle.std.proofs.lemmas.Bool.{cases_lt}
@@ -11,7 +11,7 @@ use Rattle.std.proofs.lemmas.Option.{slice_get_within, get_or_from_slice_get}
 use Rattle.dk_base.specs.declared.ty.Ty.{Ty}
 use Rattle.dk_base.specs.declared.ty.Ty.TheVariants.{Unsigned, Signed}
 use Rattle.dk_base.specs.Types.{IsIn}
-use Rattle.dk_base.specs.Frames.{Size, area, in_frame, Picture, raster}
+use Rattle.dk_base.specs.Frames.{Size, area, Picture, raster}
 use Rattle.dk_base.proofs.Rasters.{inside, raster_is}
 use Rattle.pointwise_ir.specs.Programs.{Program, IsProgram, IsPort, types_of}
 use Rattle.pointwise_ir.specs.Meaning.{picture_at}

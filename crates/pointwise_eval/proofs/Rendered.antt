@@ -1,6 +1,6 @@
 -- The planes of all images, one after another.
-use Rattle.std.proofs.Common.{◌≡◌, ℕ, zero, suc, ◌+◌, ◌-◌, ◌*◌, ◌/◌, ◌%◌, ◌^◌, ◌<◌, ◌≤◌, Bool, true, false, List, [], ◌∷◌, ◌++◌, length, map, take, get_or, ℤ, pos, negsuc, unsigned_abs, Option, Some, None, slice_get, refl, ap, sym, ◌∙◌, subst, arith, ◌⊎◌, inl, inr, append-nil, append_assoc, length-append, if◌then◌else◌}
-use Rattle.std.specs.Prelude.{IsTrue, IsFalse, ◌≤ℤ◌, ◌<ℤ◌, IfOk, Result, Ok, Err}
+use Rattle.std.proofs.Common.{◌≡◌, ℕ, zero, suc, ◌+◌, ◌-◌, ◌*◌, ◌<◌, ◌≤◌, Bool, true, false, List, [], ◌∷◌, ◌++◌, length, map, take, get_or, ℤ, pos, unsigned_abs, Some, slice_get, refl, ap, sym, ◌∙◌, subst, arith, inl, inr, append-nil, append_assoc, length-append, if◌then◌else◌}
+use Rattle.std.specs.Prelude.{IsTrue, IfOk, Result, Ok, Err}
 use Rattle.std.specs.List.{All}
 use Rattle.std.specs.Option.{option_map}
 use Rattle.std.proofs.Math.ListN.{get_or-append}
@@ -13,21 +13,20 @@ use Rattle.std.proofs.lemmas.Option.{slice_get_within, slice_get-get_or, slice_g
 use Rattle.dk_base.specs.declared.ty.Ty.{Ty}
 use Rattle.dk_base.specs.declared.ty.Ty.TheVariants.{Unsigned, Signed}
 use Rattle.dk_base.specs.Types.{IsType, IsIn, above}
-use Rattle.dk_base.specs.Frames.{Size, area, in_frame, raster_number, Picture, picture_of, raster}
-use Rattle.dk_base.proofs.Rasters.{inside, raster_is}
+use Rattle.dk_base.specs.Frames.{Size, area, in_frame, raster_number, Picture, picture_of}
 use Rattle.pointwise_ir.specs.declared.ir.Input.{Input}
 use Rattle.pointwise_ir.specs.declared.ir.Definition.{Definition}
 use Rattle.pointwise_ir.specs.Trees.{Tree, constant, read, shifted, unary, binary, select, convert, scale, tree_of, EachImage}
-use Rattle.pointwise_ir.specs.Programs.{Program, IsProgram, IsPort, IsOutput, IsDefined, all_types, types_of, bodies_of, AreDefined}
+use Rattle.pointwise_ir.specs.Programs.{Program, IsProgram, IsPort, all_types, bodies_of}
 use Rattle.pointwise_ir.specs.Meaning.{framed, picture_at, value, pictures, IsPicture, IsRound}
 use Rattle.pointwise_ir.proofs.Agreement.{Agree, framed_agrees, value_agrees, each_weaker}
-use Rattle.pointwise_ir.proofs.Typed.{AreTypes, type_typed, zero_in, framed_in, value_in}
+use Rattle.pointwise_ir.proofs.Typed.{type_typed, zero_in, framed_in, value_in}
 use Rattle.pointwise_ir.proofs.Defined.{last_entry, taken_types}
 use Rattle.pointwise_ir.proofs.Pictured.{first_pictures, reads_earlier, picture_of_body, mapped_entry}
 use Rattle.pointwise_eval.specs.declared.plane.Plane.{Plane}
 use Rattle.pointwise_eval.specs.declared.frame.Frame.{Frame}
-use Rattle.pointwise_eval.specs.Planes.{shown, all_shown, IsWhole, AreValues, CanEvaluate, IsPlaneOf, ShowsNeeded, IsOutputPlane}
-use Rattle.pointwise_eval.specs.Rounds.{IsInputFrame, AreFrames, round_of, frame_of}
+use Rattle.pointwise_eval.specs.Planes.{shown, all_shown, IsWhole, CanEvaluate, IsPlaneOf, ShowsNeeded}
+use Rattle.pointwise_eval.specs.Rounds.{IsInputFrame, AreFrames, round_of}
 use Rattle.pointwise_eval.specs.Needs.{IsNeeded, AreNeeds}
 
 -- pictures with the same pixels at all points are one

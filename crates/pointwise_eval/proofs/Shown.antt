@@ -1,11 +1,11 @@
 -- Values in raster order and the picture that they make.
-use Rattle.std.proofs.Common.{◌≡◌, ℕ, ◌+◌, ◌*◌, ◌/◌, ◌%◌, ◌<◌, Bool, true, false, List, [], ◌∷◌, ◌++◌, length, get_or, ℤ, pos, negsuc, unsigned_abs, refl, ap, sym, ◌∙◌, arith, inl, inr, length-append, if◌then◌else◌}
+use Rattle.std.proofs.Common.{◌≡◌, ℕ, ◌+◌, ◌*◌, ◌/◌, ◌%◌, ◌<◌, Bool, true, false, List, [], ◌∷◌, ◌++◌, length, get_or, ℤ, pos, unsigned_abs, refl, ap, sym, ◌∙◌, arith, inl, inr, length-append, if◌then◌else◌}
 use Rattle.std.specs.Prelude.{IsTrue}
 use Rattle.std.proofs.Math.ListN.{get_or-append}
 use Rattle.std.proofs.Math.Seq.{get_or-append_seam}
 use Rattle.std.proofs.lemmas.Nat.{mul-add-lt, div-mul-add, mod-mul-add}
 use Rattle.std.proofs.lemmas.Bool.{cases_lt}
-use Rattle.dk_base.specs.Frames.{Size, area, is_below, in_frame, Picture}
+use Rattle.dk_base.specs.Frames.{Size, area, in_frame, Picture}
 use Rattle.dk_base.proofs.Rasters.{below_is, inside_is}
 use Rattle.pointwise_ir.specs.Meaning.{framed}
 use Rattle.pointwise_eval.specs.Planes.{shown}

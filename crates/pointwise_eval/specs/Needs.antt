@@ -1,5 +1,5 @@
 -- The images that the outputs need.
-use Rattle.std.specs.Prelude.{◌≡◌, ℕ, ◌+◌, List, length, Bool, true, slice_get, Option, Some}
+use Rattle.std.specs.Prelude.{◌≡◌, ℕ, ◌+◌, List, length, Bool, true, slice_get, Some}
 use Rattle.std.specs.List.{All}
 use Rattle.pointwise_ir.specs.Trees.{Tree, EachImage}
 use Rattle.pointwise_ir.specs.Programs.{Program, IsBody}

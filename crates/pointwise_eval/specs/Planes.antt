@@ -1,6 +1,5 @@
 -- The values of an image in raster order, and the picture that they make.
-use Rattle.std.specs.Prelude.{◌≡◌, ℕ, ◌*◌, ◌+◌, ◌<◌, ℤ, pos, ◌+ℤ◌, unsigned_abs, List, length, map, slice_get, slice_index_or, Option, Some, Bool, true, IsTrue, IsFalse, []}
-use Rattle.dk_base.specs.declared.frame.FrameSize.{FrameSize}
+use Rattle.std.specs.Prelude.{◌≡◌, ℕ, ◌*◌, ◌+◌, ◌<◌, ℤ, pos, unsigned_abs, List, length, map, slice_get, slice_index_or, Some, Bool, true, IsTrue, IsFalse, []}
 use Rattle.dk_base.specs.declared.ty.Ty.{Ty}
 use Rattle.dk_base.specs.Types.{IsType, IsIn}
 use Rattle.dk_base.specs.Frames.{Size, area, Picture}

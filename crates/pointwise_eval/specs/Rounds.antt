@@ -1,5 +1,5 @@
 -- The frames of a round, and those of its outputs.
-use Rattle.std.specs.Prelude.{◌≡◌, ℕ, ◌<◌, List, length, map, slice_get, Option, Some}
+use Rattle.std.specs.Prelude.{◌≡◌, ℕ, ◌<◌, List, length, map, slice_get, Some}
 use Rattle.std.specs.List.{All}
 use Rattle.dk_base.specs.declared.ty.Ty.{Ty}
 use Rattle.dk_base.specs.Types.{above}

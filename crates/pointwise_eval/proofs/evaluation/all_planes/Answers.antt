@@ -1,7 +1,5 @@
-use Rattle.std.proofs.Common.{◌≡◌, ◌∷◌, ◌++◌, [], ◌<◌, length, slice_get, get_or, Some, ap, sym, ◌∙◌, refl, subst, rules}
+use Rattle.std.proofs.Common.{◌<◌, length, get_or, refl}
 use Rattle.std.proofs.lemmas.Option.{slice_get-get_or}
-use Rattle.pointwise_ir.specs.declared.ir.Definition.{Definition}
-use Rattle.pointwise_ir.specs.Programs.{Program}
 use Rattle.pointwise_eval.specs.Rounds.{round_of}
 use Rattle.pointwise_eval.proofs.Rendered.{shows_inputs, can_next, shows_more, round_is}
 use Rattle.pointwise_eval.proofs.evaluation.all_planes.Goals as goal

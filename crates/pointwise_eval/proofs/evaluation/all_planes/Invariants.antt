@@ -1,4 +1,4 @@
-use Rattle.std.proofs.Common.{◌≡◌, length, take}
+use Rattle.std.proofs.Common.{take}
 use Rattle.pointwise_ir.specs.Programs.{all_types}
 use Rattle.pointwise_ir.specs.Meaning.{pictures}
 use Rattle.pointwise_eval.specs.Planes.{ShowsNeeded}

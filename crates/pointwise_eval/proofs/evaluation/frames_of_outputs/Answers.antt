@@ -1,4 +1,4 @@
-use Rattle.std.proofs.Common.{◌≡◌, ◌∷◌, ◌++◌, [], get_or, refl}
+use Rattle.std.proofs.Common.{get_or}
 use Rattle.dk_base.specs.FrameSizes.{size_of}
 use Rattle.pointwise_ir.specs.Meaning.{picture_at}
 use Rattle.pointwise_eval.specs.Planes.{all_shown}

@@ -1,4 +1,4 @@
-use Rattle.std.proofs.Common.{◌≡◌, ◌∙◌, length, ap, sym}
+use Rattle.std.proofs.Common.{◌∙◌, length, ap}
 use Rattle.pointwise_eval.proofs.fit.frames_fit.Goals as goal
 
 pub returns-clause-yes : goal.returns-clause-yes

@@ -1,11 +1,9 @@
-use Rattle.std.proofs.Common.{rules, ◌≡◌, ◌∙◌, ap, pos}
+use Rattle.std.proofs.Common.{rules, pos}
 use Rattle.std.specs.Prelude.{FitsSigned}
 use Rattle.std.proofs.lemmas.Int.{to_z-of_z}
 use mir.Syntax.{w128}
 use Rattle.dk_base.specs.FrameSizes.{size_of}
 use Rattle.pointwise_ir.specs.Trees.{tree_of}
-use Rattle.pointwise_ir.specs.Meaning.{value}
-use Rattle.pointwise_eval.specs.Planes.{all_shown}
 use Rattle.pointwise_eval.proofs.Operands.{takes_one, takes_two, takes_scaled}
 use Rattle.pointwise_eval.proofs.value.+value_at.Goals as goal
 
