@@ -62,7 +62,8 @@ each_weaker P Q all (scale op a k) each = each_weaker P Q all a each
 at_end : (known : List Picture) (p : Picture) (g : ℕ) → length known ≤ g → picture_at (known ++ p ∷ []) g ≡ picture_at (p ∷ []) (g - length known)
 at_end known p g past = get_or-append_right known (p ∷ []) g (λ _ _. pos 0) past
 
-one_more : (one other : List Picture) (p q : Picture) → length one ≡ length other → ((g : ℕ) → Agree (picture_at one g) (picture_at other g)) → Agree p q →
+-- one picture more on both sides
+pub one_more : (one other : List Picture) (p q : Picture) → length one ≡ length other → ((g : ℕ) → Agree (picture_at one g) (picture_at other g)) → Agree p q →
     (g : ℕ) → Agree (picture_at (one ++ p ∷ []) g) (picture_at (other ++ q ∷ []) g)
 one_more one other p q long same also g x y = elim (cases_lt g (length one)) [
   | inl lt ↦

@@ -3,4 +3,5 @@ pub mod Typed
 pub mod Defined
 pub mod Pictured
 pub mod Chains
+pub mod Rewritten
 pub mod Operated

@@ -97,7 +97,8 @@ picture_of_body p is round long f e (k, here, at) x y =
 abbrev pub ArePictures : Size → List Ty → List Picture → Type 0
 ArePictures size types known = (g : ℕ) (t : Ty) → slice_get types g ≡ Some t → IsPicture size t (picture_at known g)
 
-framed_picture : (size : Size) (t : Ty) (q : Picture) → ((x y : ℤ) → IsIn t (q x y)) → IsPicture size t (framed size q)
+-- a picture in the frame, of values in the type
+pub framed_picture : (size : Size) (t : Ty) (q : Picture) → ((x y : ℤ) → IsIn t (q x y)) → IsPicture size t (framed size q)
 framed_picture size t q all = record {
   values = framed_in size t q all;
   outside = λ x y out. ap (λ b. if b then q x y else pos 0) out;

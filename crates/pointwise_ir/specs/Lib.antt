@@ -4,4 +4,5 @@ pub mod Programs
 pub mod Meaning
 pub mod Reads
 pub mod Passes
+pub mod Rewritings
 pub mod Operands

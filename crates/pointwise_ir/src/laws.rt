@@ -4,7 +4,9 @@ ghost use Rattle.std.specs.Prelude.{◌≡◌, ℕ, ℤ, ◌<◌, List, Some, le
 ghost use Rattle.dk_base.specs.declared.ty.Ty.{Ty};
 ghost use Rattle.dk_base.specs.Frames.{Picture};
 ghost use Rattle.pointwise_ir.specs.Trees.{Tree};
-ghost use Rattle.pointwise_ir.specs.Programs.{IsBody, types_of};
+ghost use Rattle.pointwise_ir.specs.Programs.{Program, IsProgram, IsBody, types_of};
+ghost use Rattle.pointwise_ir.specs.Rewritings.{IsSameBut};
+ghost use Rattle.pointwise_ir.specs.Passes.{KeepsMeaning};
 ghost use Rattle.pointwise_ir.specs.Meaning.{framed, value, picture_at, pictures, IsRound, IsPicture, AgreeInside};
 
 use crate::ir::Ir;
@@ -18,3 +20,9 @@ pub fn meaning_law(ir: &Ir)
 {
     ir.law();
 }
+
+/// A law: what is a program but for bodies that may stand for its own is a program, and keeps its meaning.
+pub fn rewriting_law()
+    ensures program { (old new : Program) → IsProgram old → IsSameBut old new → IsProgram new }
+    ensures meaning { (old new : Program) → IsProgram old → IsSameBut old new → KeepsMeaning old new }
+{}

@@ -12,6 +12,6 @@ mod values;
 
 pub use expr::{Edge, Expr};
 pub use ir::{Definition, Input, Ir, Parts};
-pub use laws::meaning_law;
+pub use laws::{meaning_law, rewriting_law};
 pub use rewrite::{Rewrite, run_passes};
 pub use values::{binary_value, conversion_value, scaling_value, select_value, unary_value};
