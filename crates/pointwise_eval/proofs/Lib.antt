@@ -1,0 +1,6 @@
+pub mod Operands
+pub mod Shown
+pub mod Marks
+pub mod Rendered
+pub mod Outputs
+pub mod Fits

@@ -1,0 +1,5 @@
+use Rattle.std.proofs.Common.{◌≡◌, map, take, pos}
+use Rattle.pointwise_eval.proofs.evaluation.input_planes.Given as goal
+
+abbrev pub invariant-loop-frame : goal.invariant-loop-frame
+invariant-loop-frame l = map (λ p. p.values.items) l.planes.items ≡ map (λ f. map pos f.samples) (take l.frame-index l.frames)

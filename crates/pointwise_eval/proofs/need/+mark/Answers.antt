@@ -1,0 +1,46 @@
+use Rattle.std.proofs.Common.{◌∙◌}
+use Rattle.pointwise_ir.specs.Trees.{tree_of}
+use Rattle.pointwise_ir.proofs.Agreement.{each_weaker}
+use Rattle.pointwise_eval.specs.Needs.{IsNeeded}
+use Rattle.pointwise_eval.proofs.need.+mark.Goals as goal
+
+pub returns-in-Shifted-clause-others : goal.returns-in-Shifted-clause-others
+returns-in-Shifted-clause-others t c = λ n each g past. c.mark.ensures.others n (rw c.deref.ensures (rw c.in-Shifted.is at each)) g past
+
+pub returns-in-Unary-clause-others : goal.returns-in-Unary-clause-others
+returns-in-Unary-clause-others t c = λ n each g past. c.mark-in-Unary.ensures.others n (rw c.deref-in-Unary.ensures (rw c.in-Unary.is at each)) g past
+
+pub returns-in-Convert-clause-others : goal.returns-in-Convert-clause-others
+returns-in-Convert-clause-others t c = λ n each g past. c.mark-in-Convert.ensures.others n (rw c.deref-in-Convert.ensures (rw c.in-Convert.is at each)) g past
+
+pub returns-in-Scale-clause-others : goal.returns-in-Scale-clause-others
+returns-in-Scale-clause-others t c = λ n each g past. c.mark-in-Scale.ensures.others n (rw c.deref-in-Scale.ensures (rw c.in-Scale.is at each)) g past
+
+pub returns-in-Binary-clause-reads : goal.returns-in-Binary-clause-reads
+returns-in-Binary-clause-reads t c =
+    let left = rw c.deref-in-Binary.ensures at c.mark-in-Binary.ensures.reads in
+    let right = rw c.deref-in-Binary-2.ensures at c.mark-in-Binary-2.ensures.reads in
+    rw c.in-Binary.is (each_weaker (IsNeeded c.mark-in-Binary.new.needed) (IsNeeded c.mark-in-Binary-2.new.needed) c.mark-in-Binary-2.ensures.kept (tree_of c.in-Binary.left.value) left, right)
+
+pub returns-in-Binary-clause-others : goal.returns-in-Binary-clause-others
+returns-in-Binary-clause-others t c = λ n each g past.
+    let parts = rw c.in-Binary.is at each in
+    c.mark-in-Binary-2.ensures.others n (rw c.deref-in-Binary-2.ensures parts.1) g past ∙ c.mark-in-Binary.ensures.others n (rw c.deref-in-Binary.ensures parts.0) g past
+
+pub returns-in-Select-clause-reads : goal.returns-in-Select-clause-reads
+returns-in-Select-clause-reads t c =
+    let condition = rw c.deref-in-Select.ensures at c.mark-in-Select.ensures.reads in
+    let left = rw c.deref-in-Select-2.ensures at c.mark-in-Select-2.ensures.reads in
+    let right = rw c.deref-in-Select-3.ensures at c.mark-in-Select-3.ensures.reads in
+    rw c.in-Select.is (
+      each_weaker (IsNeeded c.mark-in-Select.new.needed) (IsNeeded c.mark-in-Select-3.new.needed) (λ g h. c.mark-in-Select-3.ensures.kept g (c.mark-in-Select-2.ensures.kept g h)) (tree_of c.in-Select.condition.value) condition,
+      each_weaker (IsNeeded c.mark-in-Select-2.new.needed) (IsNeeded c.mark-in-Select-3.new.needed) c.mark-in-Select-3.ensures.kept (tree_of c.in-Select.left.value) left,
+      right,
+    )
+
+pub returns-in-Select-clause-others : goal.returns-in-Select-clause-others
+returns-in-Select-clause-others t c = λ n each g past.
+    let parts = rw c.in-Select.is at each in
+    c.mark-in-Select-3.ensures.others n (rw c.deref-in-Select-3.ensures parts.2) g past
+    ∙ c.mark-in-Select-2.ensures.others n (rw c.deref-in-Select-2.ensures parts.1) g past
+    ∙ c.mark-in-Select.ensures.others n (rw c.deref-in-Select.ensures parts.0) g past

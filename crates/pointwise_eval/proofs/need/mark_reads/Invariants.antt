@@ -1,0 +1,15 @@
+use Rattle.std.proofs.Common.{◌≡◌, ◌+◌, ◌≤◌, ℕ, Some, length, map, slice_get}
+use Rattle.pointwise_ir.specs.Trees.{Tree, tree_of, EachImage}
+use Rattle.pointwise_eval.specs.Needs.{IsNeeded}
+use Rattle.pointwise_eval.proofs.need.mark_reads.Given as goal
+
+abbrev pub invariant-loop-k : goal.invariant-loop-k
+invariant-loop-k l = record {
+  long : length l.needed ≡ l.inputs + length l.images;
+  within : l.k ≤ length l.images;
+  kept : (g : ℕ) → IsNeeded l.fn.needed g → IsNeeded l.needed g;
+  closed : (j : ℕ) (e : Tree) → l.k ≤ j → slice_get (map (λ d. tree_of d.body) l.images) j ≡ Some e → IsNeeded l.needed (l.inputs + j) → EachImage (IsNeeded l.needed) e;
+}
+
+abbrev pub decreases-loop-k : goal.decreases-loop-k
+decreases-loop-k l = l.k

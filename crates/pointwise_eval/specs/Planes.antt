@@ -1,0 +1,67 @@
+-- The values of an image in raster order, and the picture that they make.
+use Rattle.std.specs.Prelude.{◌≡◌, ℕ, ◌*◌, ◌+◌, ◌<◌, ℤ, pos, unsigned_abs, List, length, map, slice_get, slice_index_or, Some, Bool, true, IsTrue, IsFalse, []}
+use Rattle.dk_base.specs.declared.ty.Ty.{Ty}
+use Rattle.dk_base.specs.Types.{IsType, IsIn}
+use Rattle.dk_base.specs.Frames.{Size, area, Picture}
+use Rattle.pointwise_ir.specs.declared.expr.Edge.{Edge}
+use Rattle.pointwise_ir.specs.Trees.{Tree, EachImage}
+use Rattle.pointwise_ir.specs.Typing.{HasType}
+use Rattle.pointwise_ir.specs.Programs.{IsPort}
+use Rattle.pointwise_ir.specs.Meaning.{framed, edged, value, picture_at}
+use Rattle.pointwise_eval.specs.declared.plane.Plane.{Plane}
+
+-- the picture of values in raster order
+abbrev pub shown : Size → List ℤ → Picture
+shown size values = framed size (λ x y. slice_index_or values (unsigned_abs y * size.width + unsigned_abs x) (pos 0))
+
+abbrev pub all_shown : Size → List Plane → List Picture
+all_shown size planes = map (λ p. shown size p.values.items) planes
+
+-- the plane of image g has a value for each pixel
+pub record IsWhole (size : Size) (planes : List Plane) (g : ℕ) : Type 0 where
+  pub plane : Plane
+  pub there : slice_get planes g ≡ Some plane
+  pub whole : length plane.values.items ≡ area size
+
+-- the values of the images are in their types
+abbrev pub AreValues : Size → List Ty → List Plane → Type 0
+AreValues size types planes = (g : ℕ) (t : Ty) → slice_get types g ≡ Some t → (x y : ℤ) → IsIn t (picture_at (all_shown size planes) g x y)
+
+-- The expression has a type over images of these types, which the planes have values of, and the planes that it reads are whole.
+pub record CanEvaluate (size : Size) (planes : List Plane) (e : Tree) : Type 0 where
+  pub types : List Ty
+  pub ty : Ty
+  pub typed : HasType types e ty
+  pub types_are : (g : ℕ) (t : Ty) → slice_get types g ≡ Some t → IsType t
+  pub values : AreValues size types planes
+  pub whole : EachImage (IsWhole size planes) e
+
+-- a step to the point (x, y) that leads nowhere: what stands there is 0
+abbrev pub IsNowhere : Size → Edge → (x y : ℤ) → Type 0
+IsNowhere size edge x y = (picture : Picture) → edged size edge picture x y ≡ pos 0
+
+-- a step to the point (x, y) that leads to the pixel (u, v)
+pub record LeadsTo (size : Size) (edge : Edge) (x y : ℤ) (u v : ℕ) : Type 0 where
+  pub across : u < size.width
+  pub down : v < size.height
+  pub same : (picture : Picture) → edged size edge picture x y ≡ picture (pos u) (pos v)
+
+-- the plane of an image that is no input: where it is wanted, the expression's value at each pixel, and else empty
+pub record IsPlaneOf (size : Size) (planes : List Plane) (e : Tree) (wanted : Bool) (plane : Plane) : Type 0 where
+  pub whole : IsTrue wanted → length plane.values.items ≡ area size
+  pub shown : IsTrue wanted → shown size plane.values.items ≡ framed size (value size (all_shown size planes) e)
+  pub empty : IsFalse wanted → plane.values.items ≡ []
+
+-- the planes of images of which the needed ones have these pictures
+pub record ShowsNeeded (size : Size) (types : List Ty) (known : List Picture) (needed : List Bool) (planes : List Plane) : Type 0 where
+  pub one_each : length planes ≡ length types
+  pub values : AreValues size types planes
+  pub whole : (g : ℕ) → slice_get needed g ≡ Some true → g < length planes → IsWhole size planes g
+  pub pictures : (g : ℕ) → slice_get needed g ≡ Some true → g < length planes → picture_at (all_shown size planes) g ≡ picture_at known g
+
+-- a whole plane whose values are samples of an output
+pub record IsOutputPlane (size : Size) (planes : List Plane) (g : ℕ) : Type 0 where
+  pub whole : IsWhole size planes g
+  pub ty : Ty
+  pub port : IsPort ty
+  pub values : (x y : ℤ) → IsIn ty (picture_at (all_shown size planes) g x y)

@@ -1,0 +1,74 @@
+// Whether frames fit the inputs of a program.
+
+ghost use Rattle.std.specs.Prelude.{◌≡◌, ◌<◌, IsTrue, length};
+ghost use Rattle.std.specs.List.{All};
+ghost use Rattle.dk_base.specs.FrameSizes.{size_of};
+ghost use Rattle.dk_base.specs.Types.{IsType, above};
+ghost use Rattle.pointwise_ir.specs.Programs.{IsPort};
+ghost use Rattle.pointwise_eval.specs.Rounds.{IsInputFrame, AreInputFrames, AreFrames};
+
+use crate::frame::Frame;
+use dk_base::{FrameSize, Ty};
+use pointwise_ir::{Input, Ir};
+
+// Whether the samples are in the range of the type.
+fn samples_fit(samples: &[u16], ty: Ty) -> bool
+    requires { IsType ty }
+    ensures yes { IsTrue result → All (λ s. s < above ty) samples.now }
+    ensures no { All (λ s. s < above ty) samples.now → IsTrue result }
+{
+    let greatest = ty.greatest();
+    for sample in samples {
+        if greatest < i128::from(*sample) {
+            return false;
+        }
+    }
+    true
+}
+
+// Whether the frame has the size, and samples in the range of the type.
+fn frame_fits(size: FrameSize, ty: Ty, frame: &Frame) -> bool
+    requires { IsPort ty }
+    ensures yes { IsTrue result → IsInputFrame (size_of size) ty frame.now }
+    ensures no { IsInputFrame (size_of size) ty frame.now → IsTrue result }
+{
+    if frame.width != size.width {
+        return false;
+    }
+    if frame.height != size.height {
+        return false;
+    }
+    let samples = frame.samples.as_slice();
+    if samples.len() as u64 != size.area() {
+        return false;
+    }
+    samples_fit(samples, ty)
+}
+
+// Whether each frame fits the input at its place.
+fn each_fits(size: FrameSize, inputs: &[Input], frames: &[Frame]) -> bool
+    requires ports { All (λ i. IsPort i.ty) inputs.now }
+    requires one_each { length frames.now ≡ length inputs.now }
+    ensures yes { IsTrue result → AreInputFrames (size_of size) inputs.now frames.now }
+    ensures no { AreInputFrames (size_of size) inputs.now frames.now → IsTrue result }
+{
+    for k in 0..frames.len() {
+        if !frame_fits(size, inputs[k].ty, &frames[k]) {
+            return false;
+        }
+    }
+    true
+}
+
+/// Whether there is one frame for each input in order, each of the program's size and with samples in the range of its input's type.
+pub fn frames_fit(ir: &Ir, frames: &[Frame]) -> bool
+    ensures yes { IsTrue result → AreFrames ir.now frames.now }
+    ensures no { AreFrames ir.now frames.now → IsTrue result }
+{
+    ir.law();
+    let inputs = ir.inputs();
+    if frames.len() != inputs.len() {
+        return false;
+    }
+    each_fits(ir.size(), inputs, frames)
+}

@@ -1,0 +1,77 @@
+// The value of an expression at a pixel.
+
+ghost use Rattle.std.specs.Prelude.{◌≡◌, ◌<◌, pos, IfOk, length};
+ghost use Rattle.dk_base.specs.Frames.{area};
+ghost use Rattle.dk_base.specs.FrameSizes.{size_of};
+ghost use Rattle.pointwise_ir.specs.Trees.{tree_of};
+ghost use Rattle.pointwise_ir.specs.Meaning.{framed, value, picture_at};
+ghost use Rattle.pointwise_eval.specs.Planes.{shown, all_shown, IsWhole, CanEvaluate};
+
+use crate::plane::Plane;
+use crate::point::{Point, step};
+use dk_base::{FrameSize, Memory};
+use pointwise_ir::{Expr, binary_value, conversion_value, scaling_value, unary_value};
+use std::alloc::Global;
+
+// The value of an image at a pixel.
+fn sample(size: FrameSize, planes: &[Plane], image: u32, at: Point) -> i128
+    requires whole { IsWhole (size_of size) planes.now image }
+    requires across { at.x < size.width }
+    requires down { at.y < size.height }
+    ensures { result ≡ picture_at (all_shown (size_of size) planes.now) image (pos at.x) (pos at.y) }
+{
+    let place = at.y as usize * size.width as usize + at.x as usize;
+    planes[image as usize].values[place]
+}
+
+/// The value of an expression at a pixel.
+pub fn value_at(size: FrameSize, planes: &[Plane], e: &Expr, at: Point) -> i128
+    requires can { CanEvaluate (size_of size) planes.now (tree_of e.now) }
+    requires across { at.x < size.width }
+    requires down { at.y < size.height }
+    ensures { result ≡ value (size_of size) (all_shown (size_of size) planes.now) (tree_of e.now) (pos at.x) (pos at.y) }
+{
+    match e {
+        Expr::Constant(value, _) => *value,
+        Expr::Read(edge, image, dx, dy) => match step(size, *edge, at, *dx, *dy) {
+            Some(there) => sample(size, planes, *image, there),
+            None => 0,
+        },
+        Expr::Shifted(edge, dx, dy, body) => match step(size, *edge, at, *dx, *dy) {
+            Some(there) => value_at(size, planes, body, there),
+            None => 0,
+        },
+        Expr::Unary(op, body) => unary_value(*op, value_at(size, planes, body, at)),
+        Expr::Binary(op, left, right) => {
+            let left = value_at(size, planes, left, at);
+            let right = value_at(size, planes, right, at);
+            binary_value(*op, left, right)
+        }
+        Expr::Select(condition, left, right) => {
+            if value_at(size, planes, condition, at) > 0 {
+                value_at(size, planes, left, at)
+            } else {
+                value_at(size, planes, right, at)
+            }
+        }
+        Expr::Convert(how, body, ty) => {
+            conversion_value(*how, *ty, value_at(size, planes, body, at))
+        }
+        Expr::Scale(op, body, by) => scaling_value(*op, value_at(size, planes, body, at), *by),
+    }
+}
+
+/// The values of an expression at all pixels.
+pub fn render(alloc: Global, size: FrameSize, planes: &[Plane], e: &Expr) -> Result<Plane, Memory>
+    requires can { CanEvaluate (size_of size) planes.now (tree_of e.now) }
+    ensures whole { IfOk result (λ p. length p.values.items ≡ area (size_of size)) }
+    ensures value { IfOk result (λ p. shown (size_of size) p.values.items ≡ framed (size_of size) (value (size_of size) (all_shown (size_of size) planes.now) (tree_of e.now))) }
+{
+    let mut values = Vec::new(alloc);
+    for y in 0..size.height {
+        for x in 0..size.width {
+            values.push(value_at(size, planes, e, Point { x, y }))?;
+        }
+    }
+    Ok(Plane { values })
+}

@@ -1,0 +1,118 @@
+// A program as images.
+
+use crate::expr::Expr;
+use crate::typing::is_program;
+use dk_base::{FrameSize, Text, Ty};
+use std::marker::Model;
+
+/// An input: its name, and the type of its pixels.
+#[derive(Drop)]
+pub struct Input {
+    pub name: Text,
+    pub ty: Ty,
+}
+
+/// An image that is no input: its name, the type of its pixels, and the expression that gives them.
+#[derive(Drop)]
+pub struct Definition {
+    pub name: Text,
+    pub ty: Ty,
+    pub body: Expr,
+}
+
+/// The parts of an `Ir`. The images are the inputs, numbered from 0, and then the definitions, numbered on; `outputs` has the numbers of those that are outputs.
+#[derive(Drop)]
+pub struct Parts {
+    pub size: FrameSize,
+    pub inputs: Vec<Input>,
+    pub images: Vec<Definition>,
+    pub outputs: Vec<u32>,
+}
+
+/// A program whose inline images are substituted: images over a frame, each an expression of earlier ones.
+#[derive(Drop)]
+pub struct Ir {
+    parts: Parts,
+}
+
+impl Model for Ir {
+    ghost use Rattle.std.specs.Coded.{codes};
+    ghost use Rattle.pointwise_ir.specs.contracts.expr.Expr as e;
+    ghost use Rattle.pointwise_ir.specs.Programs.{Program, program_of, IsProgram};
+
+    ghost Value = { Program };
+
+    ghost coded = { Prim.hlevel (codes, e.the_row.coded) };
+
+    ghost view = { λ a. program_of a.parts };
+
+    ghost invariant = { λ a. IsProgram (program_of a.parts) };
+}
+
+impl Ir {
+    ghost use Rattle.std.specs.Prelude.{◌≡◌, IsSome, IfSome, ◌↔◌};
+    ghost use Rattle.dk_base.specs.FrameSizes.{size_of};
+    ghost use Rattle.pointwise_ir.specs.Programs.{program_of, IsProgram};
+
+    /// The Ir of these parts. It takes no memory.
+    pub fn new(parts: Parts) -> Ir
+        requires { IsProgram (program_of parts) }
+        ensures { result ≡ program_of parts }
+    {
+        Ir { parts }
+    }
+
+    /// The Ir of these parts, or None where they are none. It takes no memory.
+    pub fn checked(parts: Parts) -> Option<Ir>
+        ensures made { IsSome result ↔ IsProgram (program_of parts) }
+        ensures parts { IfSome result (λ ir. ir ≡ program_of parts) }
+    {
+        if is_program(&parts) {
+            Some(Ir { parts })
+        } else {
+            None
+        }
+    }
+
+    /// A law: what the type keeps.
+    pub fn law(&self)
+        ensures { IsProgram self.now }
+    {
+        let _parts = &self.parts;
+    }
+
+    /// The parts, given back in the memory that they came in.
+    pub fn into_parts(self) -> Parts
+        ensures parts { program_of result ≡ self }
+    {
+        self.parts
+    }
+
+    /// The frame's size.
+    pub fn size(&self) -> FrameSize
+        ensures { size_of result ≡ self.now.size }
+    {
+        self.parts.size
+    }
+
+    /// The inputs, which are the images 0, 1 and so on.
+    pub fn inputs(&self) -> &[Input]
+        ensures { result.now ≡ self.now.inputs }
+    {
+        &self.parts.inputs
+    }
+
+    /// The images that are no inputs, in order: their numbers go on from those of the inputs.
+    pub fn images(&self) -> &[Definition]
+        ensures { result.now ≡ self.now.images }
+    {
+        &self.parts.images
+    }
+
+    /// The numbers of the images that are outputs, in order.
+    pub fn outputs(&self) -> &[u32]
+        ensures { result.now ≡ self.now.outputs }
+    {
+        &self.parts.outputs
+    }
+}

@@ -1,0 +1,17 @@
+//! Programs as images that are expressions of earlier images: their pointwise meaning, their reads, and passes that keep both.
+#![tactic(auto)]
+
+mod expr;
+mod ir;
+mod laws;
+mod rewrite;
+#[cfg(test)]
+mod tests;
+mod typing;
+mod values;
+
+pub use expr::{Edge, Expr};
+pub use ir::{Definition, Input, Ir, Parts};
+pub use laws::{meaning_law, rewriting_law};
+pub use rewrite::{Rewrite, run_passes};
+pub use values::{binary_value, conversion_value, scaling_value, select_value, unary_value};
