@@ -12,4 +12,5 @@ pub mod Ordered
 pub mod Tabled
 pub mod Next
 pub mod Marking
+pub mod MarkLists
 pub mod Histories

@@ -1,5 +1,5 @@
 -- A table grows with the items.
-use Rattle.std.proofs.Common.{◌≡◌, ◌≢◌, ◌⊎◌, ℕ, zero, suc, ◌+◌, ◌<◌, List, [], ◌∷◌, ◌++◌, length, get_or, take, ap, subst, sym, ◌∙◌, inl, inr, arith, Option, Some, None}
+use Rattle.std.proofs.Common.{◌≡◌, ◌≢◌, ◌⊎◌, ℕ, zero, suc, ◌+◌, ◌<◌, ◌≤◌, List, [], ◌∷◌, ◌++◌, length, take, refl, ap, subst, sym, ◌∙◌, inl, inr, arith, Option, Some, None}
 use Rattle.std.specs.Prelude.{slice_get}
 use Rattle.std.proofs.lemmas.List.{take_more, length-take-le}
 use Rattle.std.proofs.lemmas.Option.{same_Some, slice_get_within, get_or_from_slice_get, none-some}
@@ -21,8 +21,14 @@ take_in (y ∷ xs) zero k x l e = absurd (omega (arith, l))
 take_in (y ∷ xs) (suc n) zero x l e = e
 take_in (y ∷ xs) (suc n) (suc k) x l e = take_in xs n k x (omega (arith, l)) e
 
-take_step : {X : Type 0} (xs : List X) (i : ℕ) (x : X) → slice_get xs i ≡ Some x → take (i + 1) xs ≡ take i xs ++ x ∷ []
+pub take_step : {X : Type 0} (xs : List X) (i : ℕ) (x : X) → slice_get xs i ≡ Some x → take (i + 1) xs ≡ take i xs ++ x ∷ []
 take_step xs i x at = take_more xs i x (slice_get_within xs i x at) ∙ ap (λ y. take i xs ++ y ∷ []) (get_or_from_slice_get xs i x x at)
+
+pub take_whole : {X : Type 0} (xs : List X) (i : ℕ) → length xs ≤ i → take i xs ≡ xs
+take_whole [] zero l = refl
+take_whole [] (suc i) l = refl
+take_whole (x ∷ xs) zero l = absurd (omega (arith, l))
+take_whole (x ∷ xs) (suc i) l = ap (λ ys. x ∷ ys) (take_whole xs i (omega (arith, l)))
 
 module _ {X T : Type 0} (cases : (a b : T) → (a ≡ b) ⊎ (a ≢ b)) (target : X → T) where
   module _ (items : List X) (d e : T → Option ℕ) (table : IsTableOf target items d) (a : X) (free : d (target a) ≡ None) (notes : Notes d e (target a) (length items)) where

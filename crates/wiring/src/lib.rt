@@ -1,6 +1,7 @@
 //! Synchronous netlists without names: what they are, when they are well formed, and what a clock does to them.
 #![tactic(auto)]
 
+pub mod buffer;
 pub mod drivers;
 pub mod laws;
 pub mod marks;

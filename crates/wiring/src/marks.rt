@@ -1,9 +1,8 @@
 // Marks on nets and arrays.
 
-ghost use Rattle.std.specs.Prelude.{◌≡◌, ℕ, ◌×◌, true, false, IfOk, All, IfNone, IfSome, MatchBool};
+ghost use Rattle.std.specs.Prelude.{◌≡◌, ℕ, false, replicate, IfOk, MatchBool};
 ghost use Rattle.wiring.specs.declared.netlist.Holder.{Holder};
-ghost use Rattle.wiring.specs.declared.netlist.Assign.{Assign};
-ghost use Rattle.wiring.specs.declared.netlist.Update.{Update};
+ghost use Rattle.wiring.specs.declared.netlist.Holder.TheVariants.{OfNet, OfArray};
 ghost use Rattle.wiring.specs.Netlist.{netlist_of, update_target};
 ghost use Rattle.wiring.specs.BufferBits.{atom_reads, right_reads, update_reads, assign_drive, update_drive};
 ghost use Rattle.wiring.specs.Marks.{is_marked, any_marked, HasMark, HasMarks, Adds, IsClosed, IsOpen};
@@ -22,17 +21,24 @@ pub struct Marks {
     pub arrays: Vec<bool>,
 }
 
+fn bare(alloc: Global, length: usize) -> Result<Vec<bool>, AllocError>
+    ensures { IfOk result (λ v. v.items ≡ replicate length false) }
+{
+    let marks = vec![in alloc; false; length]?;
+    Ok(marks)
+}
+
 /// No marks, with a place for each.
 pub fn no_marks(alloc: Global, wiring: &Wiring) -> Result<Marks, AllocError>
     ensures size { IfOk result (HasMarks (netlist_of wiring.now)) }
     ensures none { IfOk result (λ d. (h : Holder) → is_marked d h ≡ false) }
 {
     Ok(Marks {
-        inputs: vec![in alloc; false; wiring.inputs.len()]?,
-        outputs: vec![in alloc; false; wiring.outputs.len()]?,
-        wires: vec![in alloc; false; wiring.wires.len()]?,
-        regs: vec![in alloc; false; wiring.regs.len()]?,
-        arrays: vec![in alloc; false; wiring.arrays.len()]?,
+        inputs: bare(alloc, wiring.inputs.len())?,
+        outputs: bare(alloc, wiring.outputs.len())?,
+        wires: bare(alloc, wiring.wires.len())?,
+        regs: bare(alloc, wiring.regs.len())?,
+        arrays: bare(alloc, wiring.arrays.len())?,
     })
 }
 
@@ -51,6 +57,27 @@ impl Marks {
     }
 }
 
+fn add_net_mark(marks: &mut Marks, net: Net)
+    requires place { HasMark marks.old (OfNet net) }
+    requires free { is_marked marks.old (OfNet net) ≡ false }
+    ensures { Adds marks.old marks.new (OfNet net) }
+{
+    match net {
+        Net::Input(i) => marks.inputs[i] = true,
+        Net::Output(i) => marks.outputs[i] = true,
+        Net::Wire(i) => marks.wires[i] = true,
+        Net::Reg(i) => marks.regs[i] = true,
+    }
+}
+
+fn add_array_mark(marks: &mut Marks, array: usize)
+    requires place { HasMark marks.old (OfArray array) }
+    requires free { is_marked marks.old (OfArray array) ≡ false }
+    ensures { Adds marks.old marks.new (OfArray array) }
+{
+    marks.arrays[array] = true;
+}
+
 /// Gives it a mark.
 pub fn add_mark(marks: &mut Marks, holder: Holder)
     requires place { HasMark marks.old holder }
@@ -58,11 +85,8 @@ pub fn add_mark(marks: &mut Marks, holder: Holder)
     ensures { Adds marks.old marks.new holder }
 {
     match holder {
-        Holder::OfNet(Net::Input(i)) => marks.inputs[i] = true,
-        Holder::OfNet(Net::Output(i)) => marks.outputs[i] = true,
-        Holder::OfNet(Net::Wire(i)) => marks.wires[i] = true,
-        Holder::OfNet(Net::Reg(i)) => marks.regs[i] = true,
-        Holder::OfArray(i) => marks.arrays[i] = true,
+        Holder::OfNet(net) => add_net_mark(marks, net),
+        Holder::OfArray(array) => add_array_mark(marks, array),
     }
 }
 

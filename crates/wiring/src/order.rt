@@ -76,7 +76,7 @@ fn third(right: &Right<Net, usize>) -> Option<Net>
     }
 }
 
-fn read_at(right: &Right<Net, usize>, place: usize) -> Option<Net>
+pub(crate) fn read_at(right: &Right<Net, usize>, place: usize) -> Option<Net>
     ensures { result ≡ reads_at right.now place }
 {
     match place {
