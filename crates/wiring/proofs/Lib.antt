@@ -13,4 +13,5 @@ pub mod Tabled
 pub mod Next
 pub mod Marking
 pub mod MarkLists
+pub mod Counts
 pub mod Histories

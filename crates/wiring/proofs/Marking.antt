@@ -1,5 +1,5 @@
 -- Marks spread along what reads what.
-use Rattle.std.proofs.Common.{◌≡◌, ◌≢◌, ℕ, zero, suc, ◌+◌, ◌<◌, ◌≤◌, Bool, true, false, ◌||◌, List, [], ◌∷◌, ◌++◌, length, set, get_or, refl, ap, subst, sym, ◌∙◌, inl, inr, arith, Some}
+use Rattle.std.proofs.Common.{◌≡◌, ℕ, zero, suc, ◌<◌, ◌≤◌, Bool, true, false, ◌||◌, List, [], ◌∷◌, ◌++◌, length, set, get_or, refl, ap, subst, sym, ◌∙◌, inl, inr, arith, Some}
 use Rattle.std.specs.Prelude.{Contains, All, map, slice_get}
 use Rattle.std.specs.Option.{option_map}
 use Rattle.std.proofs.lemmas.Option.{slice_get-map}
@@ -7,13 +7,13 @@ use Rattle.std.proofs.lemmas.List.Elements.{All-contains, All-append, All-map, C
 use Rattle.wiring.specs.declared.netlist.Net.{Net}
 use Rattle.wiring.specs.declared.netlist.Net.TheVariants.{Input, Output, Wire, Reg}
 use Rattle.wiring.specs.declared.netlist.Holder.{Holder}
-use Rattle.wiring.specs.declared.netlist.Holder.TheVariants.{OfNet, OfArray}
+use Rattle.wiring.specs.declared.netlist.Holder.TheVariants.{OfNet}
 use Rattle.wiring.specs.declared.netlist.Assign.{Assign}
 use Rattle.wiring.specs.declared.netlist.Update.{Update}
 use Rattle.wiring.specs.declared.marks.Marks.{Marks}
 use Rattle.wiring.specs.Netlist.{Netlist, first_din, IsDriven, update_target}
 use Rattle.wiring.specs.BufferBits.{Drive, IsFed, by_port, by_drive, drives, assign_drive, update_drive}
-use Rattle.wiring.specs.Marks.{is_marked, any_marked, HasMark, HasMarks, unmarked, gap, Adds, IsSound, Spreads, IsOpen, IsClosed}
+use Rattle.wiring.specs.Marks.{is_marked, any_marked, HasMark, HasMarks, unmarked, Adds, IsSound, Spreads, IsOpen, IsClosed}
 use Rattle.wiring.specs.declared.netlist.Update.TheVariants.{Set, Put}
 use Rattle.wiring.specs.Rules.{KeepsRules, AssignIsSound, UpdateIsSound}
 use Rattle.wiring.proofs.Lists.{Contains-at, All-at}

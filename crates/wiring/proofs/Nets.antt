@@ -1,5 +1,5 @@
 -- Nets, and the widths of sound netlists.
-use Rattle.std.proofs.Common.{◌≡◌, ◌≢◌, ℕ, suc, ◌≤◌, ◌⊎◌, inl, inr, ap, subst, sym, Bool, true, false, List, [], ◌∷◌, arith, lit≤}
+use Rattle.std.proofs.Common.{◌≡◌, ◌≢◌, ℕ, suc, ◌⊎◌, inl, inr, ap, subst, sym, Bool, true, false, List, [], ◌∷◌, arith, lit≤}
 use Rattle.std.specs.Prelude.{All, if◌then◌else◌}
 use Rattle.std.proofs.lemmas.List.Elements.{All-weaker, All-cons}
 use Rattle.std.proofs.lemmas.Bool.{cases_eq}

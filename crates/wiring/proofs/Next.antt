@@ -1,17 +1,14 @@
 -- The contents after an edge are one.
-use Rattle.std.proofs.Common.{◌≡◌, ◌≢◌, ℕ, zero, suc, ◌+◌, ◌<◌, ◌≤◌, List, [], ◌∷◌, length, get_or, set, refl, ap, subst, sym, ◌∙◌, inl, inr, arith, add-one, Some}
-use Rattle.std.specs.Prelude.{All, slice_get, slice_set, slice_index_or}
+use Rattle.std.proofs.Common.{◌≡◌, ◌≢◌, ℕ, zero, suc, ◌<◌, ◌≤◌, List, [], length, refl, ap, subst, sym, ◌∙◌, inl, inr, arith, Some}
+use Rattle.std.specs.Prelude.{slice_get, slice_set, slice_index_or}
 use Rattle.std.proofs.lemmas.List.{length-set, ext_get_or}
 use Rattle.std.proofs.lemmas.Option.{slice_get_within, slice_get_cases, get_or_from_slice_get}
 use Rattle.std.proofs.lemmas.Bool.{cases_lt}
-use Rattle.wiring.specs.declared.right.Atom.{Atom}
-use Rattle.wiring.specs.declared.netlist.Net.{Net}
 use Rattle.wiring.specs.declared.netlist.Net.TheVariants.{Reg}
 use Rattle.wiring.specs.declared.netlist.Update.{Update}
 use Rattle.wiring.specs.declared.netlist.Update.TheVariants.{Set, Put}
 use Rattle.wiring.specs.Rights.{atom_value}
 use Rattle.wiring.specs.Netlist.{Netlist, update_target}
-use Rattle.wiring.specs.declared.netlist.Holder.{Holder}
 use Rattle.wiring.specs.declared.netlist.Holder.TheVariants.{OfNet, OfArray}
 use Rattle.wiring.specs.Snapshot.{Contents, Snapshot, net_value, TakesPlace, IsNext, HasPlaces, HasOneNext}
 use Rattle.wiring.specs.Rules.{KeepsRules, UpdateIsSound}

@@ -1,6 +1,5 @@
 -- Marks on nets and arrays, while what the inputs feed is searched.
 use Rattle.std.specs.Prelude.{◌≡◌, ◌≢◌, ℕ, suc, ◌+◌, ◌<◌, ◌≤◌, Bool, true, false, ◌||◌, List, [], ◌∷◌, length, slice_index_or}
-use Rattle.wiring.specs.declared.netlist.Net.{Net}
 use Rattle.wiring.specs.declared.netlist.Net.TheVariants.{Input, Output, Wire, Reg}
 use Rattle.wiring.specs.declared.netlist.Holder.{Holder}
 use Rattle.wiring.specs.declared.netlist.Holder.TheVariants.{OfNet, OfArray}

@@ -1,5 +1,5 @@
 -- Tables of what drives each net and array.
-use Rattle.std.specs.Prelude.{◌≡◌, ◌≢◌, ℕ, ◌<◌, List, length, slice_get, Option, Some, None, unwrap_or}
+use Rattle.std.specs.Prelude.{◌≡◌, ◌≢◌, ℕ, ◌<◌, List, slice_get, Option, Some, None, unwrap_or}
 use Rattle.wiring.specs.declared.netlist.Net.{Net}
 use Rattle.wiring.specs.declared.netlist.Net.TheVariants.{Input, Output, Wire, Reg}
 use Rattle.wiring.specs.declared.netlist.Assign.{Assign}

@@ -7,6 +7,7 @@ ghost use Rattle.wiring.specs.Netlist.{update_target};
 ghost use Rattle.wiring.specs.declared.netlist.Holder.TheVariants.{OfNet, OfArray};
 ghost use Rattle.wiring.specs.Tables.{assign_target, driver_of, updater_of, IsTable, IsUpdateTable, IsTwice, IsTarget, IsStateTarget, Notes};
 ghost use Rattle.wiring.specs.declared.netlist.Net.TheVariants.{Reg};
+ghost use Rattle.wiring.specs.declared.drivers.TableFault.TheVariants.{Twice};
 
 use crate::netlist::{Assign, Net, Update};
 use std::alloc::{AllocError, Global};
@@ -86,6 +87,13 @@ fn note_driver(drivers: &mut Drivers, net: Net, assign: usize)
     }
 }
 
+// The fault of two items with one target.
+fn twice(_first: usize, second: usize) -> TableFault
+    ensures { result ≡ Twice second }
+{
+    TableFault::Twice(second)
+}
+
 /// The assign of each output and wire, or the second assign of one.
 pub fn drivers_of(
     alloc: Global,
@@ -103,7 +111,7 @@ pub fn drivers_of(
     };
     for (k, assign) in assigns.iter().enumerate() {
         match drivers.of(assign.target) {
-            Some(_) => return Err(TableFault::Twice(k)),
+            Some(first) => return Err(twice(first, k)),
             None => note_driver(&mut drivers, assign.target, k),
         }
     }
@@ -148,7 +156,7 @@ pub fn updaters_of(
     };
     for (k, update) in updates.iter().enumerate() {
         match updater(&updaters, update) {
-            Some(_) => return Err(TableFault::Twice(k)),
+            Some(first) => return Err(twice(first, k)),
             None => note_updater(&mut updaters, update, k),
         }
     }

@@ -7,6 +7,7 @@ ghost use Rattle.wiring.specs.Netlist.{Netlist};
 ghost use Rattle.wiring.specs.Rules.{KeepsRules};
 ghost use Rattle.wiring.specs.Order.{IsEvaluationOrder, IsAcyclic};
 ghost use Rattle.wiring.specs.Snapshot.{HasOneSnapshot, HasOneNext, Contents, Snapshot};
+ghost use Rattle.wiring.specs.BufferBits.{IsBufferBits};
 ghost use Rattle.wiring.specs.Clock.{Clock};
 ghost use Rattle.wiring.specs.Runs.{Runs};
 ghost use Rattle.wiring.specs.History.{After};
@@ -27,6 +28,11 @@ pub fn one_next()
 /// A law: where there is an evaluation order no assign depends on itself.
 pub fn no_cycle()
     ensures { (m : Netlist) (order : List ℕ) → IsEvaluationOrder m.assigns order → IsAcyclic m.assigns }
+{}
+
+/// A law: a netlist has one number of buffer bits.
+pub fn one_count()
+    ensures { (m : Netlist) (a b : ℕ) → IsBufferBits m a → IsBufferBits m b → a ≡ b }
 {}
 
 /// A law: right sides that `==` finds equal are equal.

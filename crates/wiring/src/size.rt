@@ -1,8 +1,6 @@
 // Sizes of nets and arrays, and numbers with a size.
 ghost use Rattle.std.specs.Prelude.{◌≡◌, ◌≤◌, ◌^◌};
 
-
-
 use std::marker::Model;
 
 /// A width in bits, 1 to 64.

@@ -1,10 +1,9 @@
 use Rattle.std.proofs.Common.{◌≡◌, Some, subst, List}
-use Rattle.std.specs.Prelude.{slice_get, All}
+use Rattle.std.specs.Prelude.{slice_get}
 use Rattle.wiring.specs.declared.netlist.Assign.{Assign}
-use Rattle.wiring.specs.BufferBits.{assign_drive}
 use Rattle.wiring.specs.Netlist.{netlist_of}
-use Rattle.wiring.specs.Marks.{HasMark, IsClosed}
-use Rattle.wiring.proofs.Marking.{assign_opens, assign_place, all_drives}
+use Rattle.wiring.specs.Marks.{HasMark}
+use Rattle.wiring.proofs.Marking.{assign_opens, assign_place}
 use Rattle.wiring.proofs.buffer.close.Goals as goal
 
 pub add_mark-requires-clause-place : goal.add_mark-requires-clause-place

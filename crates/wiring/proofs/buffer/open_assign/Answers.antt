@@ -1,4 +1,4 @@
-use Rattle.std.proofs.Common.{take, length, subst, sym, refl, List, ap, ◌∙◌}
+use Rattle.std.proofs.Common.{take, length, subst, sym, refl}
 use Rattle.std.specs.Prelude.{All}
 use Rattle.std.proofs.lemmas.List.Elements.{All-push}
 use Rattle.std.proofs.lemmas.Option.{slice_get_read}

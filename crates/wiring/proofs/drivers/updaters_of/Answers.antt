@@ -1,6 +1,7 @@
-use Rattle.std.proofs.Common.{sym, ◌∙◌, refl, length}
+use Rattle.std.proofs.Common.{sym, subst, ◌∙◌, refl, length}
 use Rattle.std.proofs.lemmas.Option.{slice_get_read}
-use Rattle.wiring.specs.Tables.{updater_of}
+use Rattle.wiring.specs.declared.drivers.TableFault.{TableFault}
+use Rattle.wiring.specs.Tables.{IsTwice, updater_of}
 use Rattle.wiring.specs.Netlist.{update_target}
 use Rattle.wiring.proofs.Nets.{holder_cases}
 use Rattle.wiring.proofs.Tabled.{table_step, second_of}
@@ -9,7 +10,8 @@ use Rattle.wiring.proofs.drivers.updaters_of.Goals as goal
 pub returns-in-Some-clause-twice : goal.returns-in-Some-clause-twice
 returns-in-Some-clause-twice c =
     let at = slice_get_read c.args.updates.now (length c.args.updates.now) c.loop-k.k c.index-updates-k.result refl c.loop-k-test.true c.index-updates-k.is in
-    second_of holder_cases update_target c.args.updates.now (updater_of c.loop-k.updaters) c.loop-k.k c.index-updates-k.result c.in-Some.field-0 at c.loop-k.invariant.table (sym c.updater.ensures ∙ c.in-Some.is)
+    subst (λ (f : TableFault). IsTwice update_target c.args.updates.now f) (sym c.twice.ensures)
+    (second_of holder_cases update_target c.args.updates.now (updater_of c.loop-k.updaters) c.loop-k.k c.index-updates-k.result c.in-Some.first at c.loop-k.invariant.table (sym c.updater.ensures ∙ c.in-Some.is))
 
 pub loop-k-preserved : goal.loop-k-preserved
 loop-k-preserved c =

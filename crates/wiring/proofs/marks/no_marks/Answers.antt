@@ -1,6 +1,5 @@
-use Rattle.std.proofs.Common.{◌≡◌, false, ap, sym, ◌∙◌, get_or, List, Bool, length, replicate}
+use Rattle.std.proofs.Common.{false, ap, ◌∙◌, get_or, List, Bool}
 use Rattle.wiring.specs.declared.netlist.Net.TheVariants.{Input, Output, Wire, Reg}
-use Rattle.wiring.specs.declared.netlist.Holder.{Holder}
 use Rattle.wiring.specs.declared.netlist.Holder.TheVariants.{OfNet, OfArray}
 use Rattle.wiring.proofs.MarkLists.{none_at}
 use Rattle.wiring.proofs.marks.no_marks.Goals as goal
