@@ -1,0 +1,16 @@
+//! Modules: netlists with names that keep the net rules.
+#![tactic(auto)]
+
+mod buffer;
+mod module;
+mod names;
+mod parts;
+
+pub use buffer::buffer_bits;
+pub use module::Module;
+pub use names::Names;
+pub use net_names::Name;
+pub use parts::{Declaration, Direction, NamedAssign, NamedUpdate, Parts, Port, Sort};
+pub use wiring::{
+    Assign, Atom, Constant, Depth, Net, Operator, Right, Shape, Update, Width, Wiring,
+};
