@@ -9,7 +9,7 @@ use std::alloc::Global;
 
 /// The bits of all arrays, and of each register that takes in what the inputs were fed, through assigns and state.
 pub fn buffer_bits(alloc: Global, module: &Module) -> Result<u128, Memory>
-    ensures { IfOk result (IsBufferBits module.now.netlist) }
+    ensures { IfOk result (IsBufferBits «module».now.netlist) }
 {
     let bits = wiring::buffer_bits(alloc, module.wiring())?;
     Ok(bits)

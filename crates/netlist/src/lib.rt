@@ -2,11 +2,15 @@
 #![tactic(auto)]
 
 mod buffer;
+mod fault;
+mod laws;
 mod module;
 mod names;
 mod parts;
 
 pub use buffer::buffer_bits;
+pub use fault::{Declared, NetFault, Statement};
+pub use laws::one_fault;
 pub use module::Module;
 pub use names::Names;
 pub use net_names::Name;
