@@ -1,13 +1,11 @@
 -- Two faults of the same parts agree, and parts that make a module have none.
-use Rattle.std.proofs.Common.{◌≡◌, ℕ, zero, suc, ◌+◌, ◌<◌, ◌≤◌, List, length, refl, ap, subst, sym, ◌∙◌, inl, inr, arith, Some}
+use Rattle.std.proofs.Common.{◌≡◌, ℕ, zero, suc, ◌<◌, ◌≤◌, List, refl, ap, subst, sym, ◌∙◌, inl, inr, arith, Some}
 use Rattle.std.specs.Prelude.{slice_get, All}
 use Rattle.std.proofs.lemmas.Bool.{cases_lt}
 use Rattle.std.proofs.lemmas.Option.{same_Some}
 use Rattle.wiring.specs.declared.netlist.Assign.{Assign}
-use Rattle.wiring.specs.declared.netlist.Update.{Update}
 use Rattle.wiring.specs.Netlist.{update_target}
 use Rattle.wiring.specs.Tables.{IsSecond, assign_target}
-use Rattle.wiring.specs.Order.{IsAcyclic}
 use Rattle.wiring.specs.Rules.{DivisorIsConstant}
 use Rattle.wiring.proofs.Lists.{All-at, at_one}
 use Rattle.netlist.specs.declared.parts.Parts.{Parts}

@@ -1,5 +1,5 @@
 -- The names beside a netlist.
-use Rattle.std.specs.Prelude.{◌≡◌, ℕ, zero, suc, ◌+◌, ◌-◌, ◌/◌, Bool, true, if◌then◌else◌, List, [], ◌∷◌, ◌++◌, length, slice_get, Some, All, codes}
+use Rattle.std.specs.Prelude.{◌≡◌, ℕ, zero, suc, ◌+◌, ◌-◌, ◌/◌, true, if◌then◌else◌, List, [], ◌∷◌, ◌++◌, length, slice_get, Some, All, codes}
 use Rattle.net_names.specs.Words.{is_name}
 use Rattle.wiring.specs.Netlist.{Netlist, first_din}
 use Rattle.netlist.specs.declared.names.Names.{Names}

@@ -1,5 +1,5 @@
 -- What the names of a text stand for, and the module that the parts of a text make.
-use Rattle.std.specs.Prelude.{◌≡◌, ℕ, suc, Bool, true, false, if◌then◌else◌, List, [], ◌∷◌, ◌++◌, map, Option, Some, None, codes}
+use Rattle.std.specs.Prelude.{ℕ, suc, Bool, false, if◌then◌else◌, List, [], ◌∷◌, ◌++◌, Option, Some, None, codes}
 use Rattle.std.specs.Option.{option_map, option_to_list}
 use Rattle.net_names.specs.Words.{same_codes}
 use Rattle.wiring.specs.declared.right.Atom.{Atom}

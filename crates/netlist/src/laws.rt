@@ -1,6 +1,10 @@
-// What the definitions of net faults say together.
+// What the definitions say together.
 
-ghost use Rattle.std.specs.Prelude.{◌≡◌};
+ghost use Rattle.std.specs.Prelude.{◌≡◌, ◌⊎◌, ℕ, List};
+ghost use Rattle.wiring.specs.Netlist.{Netlist};
+ghost use Rattle.wiring.specs.Snapshot.{Contents, Snapshot, HasPlaces, HasOneSnapshot, HasOneNext};
+ghost use Rattle.wiring.specs.Clock.{Clock};
+ghost use Rattle.wiring.specs.Runs.{Runs, RunStops};
 ghost use Rattle.netlist.specs.declared.parts.Parts.{Parts};
 ghost use Rattle.netlist.specs.declared.fault.NetFault.{NetFault};
 ghost use Rattle.netlist.specs.declared.fault.NetFault.TheVariants.{Memory};
@@ -11,4 +15,12 @@ ghost use Rattle.netlist.specs.Faults.{IsFault, IsModuleOf, Agrees};
 pub fn one_fault()
     ensures agree { (p : Parts) (f g : NetFault) → IsFault p f → IsFault p g → Agrees f g }
     ensures apart { (p : Parts) (m : NamedNetlist) (f : NetFault) → IsModuleOf p m → IsFault p f → f ≡ Memory }
+{}
+
+/// A law: over each list of clocks a run from contents with their places goes to the end or to a clock that stops, and there is one such run.
+pub fn one_run()
+    ensures some { (m : Netlist) → HasOneSnapshot m → HasOneNext m → (from : Contents) (clocks : List Clock) → HasPlaces m from → ((shots : List Snapshot) × (to : Contents) × Runs m from clocks shots to) ⊎ ((shots : List Snapshot) × (x : ℕ) × (i : ℕ) × RunStops m from clocks shots x i) }
+    ensures one { (m : Netlist) → HasOneSnapshot m → HasOneNext m → (from : Contents) (clocks : List Clock) (shots other : List Snapshot) (to end : Contents) → HasPlaces m from → Runs m from clocks shots to → Runs m from clocks other end → (shots ≡ other) × (to ≡ end) }
+    ensures stop { (m : Netlist) → HasOneSnapshot m → HasOneNext m → (from : Contents) (clocks : List Clock) (shots other : List Snapshot) (x i y j : ℕ) → HasPlaces m from → RunStops m from clocks shots x i → RunStops m from clocks other y j → (shots ≡ other) × (x ≡ y) × (i ≡ j) }
+    ensures apart { (m : Netlist) → HasOneSnapshot m → HasOneNext m → (from : Contents) (clocks : List Clock) (shots other : List Snapshot) (to : Contents) (x i : ℕ) → HasPlaces m from → Runs m from clocks shots to → RunStops m from clocks other x i → ⊥ }
 {}
