@@ -1,8 +1,11 @@
 // What the definitions say together.
 
-ghost use Rattle.std.specs.Prelude.{◌≡◌, ◌⊎◌, ℕ, List};
-ghost use Rattle.wiring.specs.Netlist.{Netlist};
-ghost use Rattle.wiring.specs.Snapshot.{Contents, Snapshot, HasPlaces, HasOneSnapshot, HasOneNext};
+ghost use Rattle.std.specs.Prelude.{◌≡◌, ◌<◌, ◌^◌, ◌⊎◌, ℕ, List};
+ghost use Rattle.wiring.specs.Netlist.{Netlist, net_width, IsDeclared};
+ghost use Rattle.wiring.specs.declared.netlist.Net.{Net};
+ghost use Rattle.wiring.specs.Order.{IsEvaluationOrder};
+ghost use Rattle.wiring.specs.Rules.{KeepsRules};
+ghost use Rattle.wiring.specs.Snapshot.{Contents, Snapshot, HasPlaces, HasOneSnapshot, HasOneNext, Fit, FitsContents, IsSettled, IsNext, net_value};
 ghost use Rattle.wiring.specs.Clock.{Clock};
 ghost use Rattle.wiring.specs.Runs.{Runs, RunStops};
 ghost use Rattle.netlist.specs.declared.parts.Parts.{Parts};
@@ -23,4 +26,10 @@ pub fn one_run()
     ensures one { (m : Netlist) → HasOneSnapshot m → HasOneNext m → (from : Contents) (clocks : List Clock) (shots other : List Snapshot) (to end : Contents) → HasPlaces m from → Runs m from clocks shots to → Runs m from clocks other end → (shots ≡ other) × (to ≡ end) }
     ensures stop { (m : Netlist) → HasOneSnapshot m → HasOneNext m → (from : Contents) (clocks : List Clock) (shots other : List Snapshot) (x i y j : ℕ) → HasPlaces m from → RunStops m from clocks shots x i → RunStops m from clocks other y j → (shots ≡ other) × (x ≡ y) × (i ≡ j) }
     ensures apart { (m : Netlist) → HasOneSnapshot m → HasOneNext m → (from : Contents) (clocks : List Clock) (shots other : List Snapshot) (to : Contents) (x i : ℕ) → HasPlaces m from → Runs m from clocks shots to → RunStops m from clocks other x i → ⊥ }
+{}
+
+/// A law: in a clock in which contents and inputs fit their widths each net's value fits its own, and the contents after the edge fit.
+pub fn values_fit()
+    ensures nets { (m : Netlist) (order : List ℕ) → KeepsRules m → IsEvaluationOrder m.assigns order → (s : Snapshot) → IsSettled m s → FitsContents m s.contents → Fit m.inputs s.inputs → (n : Net) → IsDeclared m n → net_value s n < 2 ^ net_width m n }
+    ensures next { (m : Netlist) (order : List ℕ) → KeepsRules m → IsEvaluationOrder m.assigns order → (s : Snapshot) → IsSettled m s → FitsContents m s.contents → Fit m.inputs s.inputs → (new : Contents) → IsNext m s new → FitsContents m new }
 {}
