@@ -1,3 +1,5 @@
 pub mod Agreement
 pub mod RunLaws
 pub mod FitLaws
+pub mod Scoped
+pub mod Kept

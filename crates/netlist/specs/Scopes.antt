@@ -1,5 +1,5 @@
 -- What the names of a text stand for, and the module that the parts of a text make.
-use Rattle.std.specs.Prelude.{ℕ, suc, Bool, false, if◌then◌else◌, List, [], ◌∷◌, ◌++◌, Option, Some, None, codes}
+use Rattle.std.specs.Prelude.{ℕ, suc, Bool, false, if◌then◌else◌, List, [], ◌∷◌, ◌++◌, Option, Some, None, codes, All}
 use Rattle.std.specs.Option.{option_map, option_to_list}
 use Rattle.net_names.specs.Words.{same_codes}
 use Rattle.wiring.specs.declared.right.Atom.{Atom}
@@ -12,6 +12,9 @@ use Rattle.wiring.specs.declared.netlist.Shape.{Shape}
 use Rattle.wiring.specs.declared.netlist.Assign.{Assign}
 use Rattle.wiring.specs.declared.netlist.Update.{Update}
 use Rattle.wiring.specs.declared.netlist.Update.TheVariants.{Set, Put}
+use Rattle.wiring.specs.Sizes.{IsWidth, IsConstant, SizedNumber}
+use Rattle.wiring.specs.Rights.{atom_constants, constants_of}
+use Rattle.wiring.specs.Rules.{IsShape}
 use Rattle.wiring.specs.Netlist.{Netlist}
 use Rattle.netlist.specs.declared.parts.Parts.{Parts}
 use Rattle.netlist.specs.declared.parts.Port.{Port}
@@ -213,3 +216,18 @@ names_of_parts p = record {
 
 abbrev pub module_of : Parts → NamedNetlist
 module_of p = record { netlist = netlist_of_parts p; names = names_of_parts p }
+
+-- widths, shapes and constants in their ranges, as the types of the parts keep them
+abbrev pub SortFits : Sort → Type 0
+SortFits (OfWire w) = IsWidth w
+SortFits (OfReg w) = IsWidth w
+SortFits (OfArray s) = IsShape s
+
+abbrev pub update_constants : NamedUpdate → List SizedNumber
+update_constants (NamedSet r a) = atom_constants a
+update_constants (NamedPut m i a) = atom_constants i ++ atom_constants a
+
+pub record SizesFit (p : Parts) : Type 0 where
+  pub declarations : All (λ (d : Declaration). SortFits d.sort) p.declarations.items
+  pub assigns : All (λ (a : NamedAssign). All IsConstant (constants_of a.right)) p.assigns.items
+  pub updates : All (λ (u : NamedUpdate). All IsConstant (update_constants u)) p.updates.items

@@ -12,6 +12,7 @@ ghost use Rattle.netlist.specs.declared.parts.Parts.{Parts};
 ghost use Rattle.netlist.specs.declared.fault.NetFault.{NetFault};
 ghost use Rattle.netlist.specs.declared.fault.NetFault.TheVariants.{Memory};
 ghost use Rattle.netlist.specs.Names.{NamedNetlist};
+ghost use Rattle.netlist.specs.Scopes.{SizesFit};
 ghost use Rattle.netlist.specs.Faults.{IsFault, IsModuleOf, Agrees};
 
 /// A law: two faults of the same parts are one, but for the target that Cycle names and want of memory; parts that make a module have no fault.
@@ -32,4 +33,9 @@ pub fn one_run()
 pub fn values_fit()
     ensures nets { (m : Netlist) (order : List ℕ) → KeepsRules m → IsEvaluationOrder m.assigns order → (s : Snapshot) → IsSettled m s → FitsContents m s.contents → Fit m.inputs s.inputs → (n : Net) → IsDeclared m n → net_value s n < 2 ^ net_width m n }
     ensures next { (m : Netlist) (order : List ℕ) → KeepsRules m → IsEvaluationOrder m.assigns order → (s : Snapshot) → IsSettled m s → FitsContents m s.contents → Fit m.inputs s.inputs → (new : Contents) → IsNext m s new → FitsContents m new }
+{}
+
+/// A law: a module of parts whose sizes are in range, as their types keep them, keeps the net rules.
+pub fn rules_kept()
+    ensures { (p : Parts) (m : NamedNetlist) → SizesFit p → IsModuleOf p m → KeepsRules m.netlist }
 {}

@@ -10,7 +10,7 @@ mod parts;
 
 pub use buffer::buffer_bits;
 pub use fault::{Declared, NetFault, Statement};
-pub use laws::{one_fault, one_run, values_fit};
+pub use laws::{one_fault, one_run, rules_kept, values_fit};
 pub use module::Module;
 pub use names::Names;
 pub use net_names::Name;
