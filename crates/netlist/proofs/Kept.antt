@@ -44,7 +44,7 @@ option_all P None g = All-nil P
 option_all P (Some y) g = All-cons P y [] (g y refl) (All-nil P)
 
 -- what holds of each that is made holds of all that are collected
-collected_all : {X Y : Type 0} (f : X → Option Y) (P : Y → Type 0) (xs : List X) → ((k : ℕ) (x : X) (y : Y) → slice_get xs k ≡ Some x → f x ≡ Some y → P y) → All P (collected f xs)
+pub collected_all : {X Y : Type 0} (f : X → Option Y) (P : Y → Type 0) (xs : List X) → ((k : ℕ) (x : X) (y : Y) → slice_get xs k ≡ Some x → f x ≡ Some y → P y) → All P (collected f xs)
 collected_all f P [] h = All-nil P
 collected_all f P (x ∷ xs) h =
     All-append P (option_to_list (f x)) (collected f xs) (option_all P (f x) (λ y e. h zero x y refl e)) (collected_all f P xs (λ k z y at e. h (suc k) z y at e))
@@ -53,25 +53,25 @@ collected_all f P (x ∷ xs) h =
 taking_none : (q : Port) (ports : List Port) → q.direction ≡ Gives → takings (q ∷ ports) ≡ takings ports
 taking_none q ports e = ap (λ (d : Direction). option_to_list (taken d q.width) ++ takings ports) e
 
-taking_one : (q : Port) (ports : List Port) → q.direction ≡ Takes → takings (q ∷ ports) ≡ q.width ∷ takings ports
+pub taking_one : (q : Port) (ports : List Port) → q.direction ≡ Takes → takings (q ∷ ports) ≡ q.width ∷ takings ports
 taking_one q ports e = ap (λ (d : Direction). option_to_list (taken d q.width) ++ takings ports) e
 
-giving_none : (q : Port) (ports : List Port) → q.direction ≡ Takes → givings (q ∷ ports) ≡ givings ports
+pub giving_none : (q : Port) (ports : List Port) → q.direction ≡ Takes → givings (q ∷ ports) ≡ givings ports
 giving_none q ports e = ap (λ (d : Direction). option_to_list (given d q.width) ++ givings ports) e
 
 giving_one : (q : Port) (ports : List Port) → q.direction ≡ Gives → givings (q ∷ ports) ≡ q.width ∷ givings ports
 giving_one q ports e = ap (λ (d : Direction). option_to_list (given d q.width) ++ givings ports) e
 
 -- the ports from the dins on
-record Rest (ports : List Port) (dins douts : ℕ) : Type 0 where
-  ws : List ℕ
-  ds : List ℕ
-  taken_are : takings ports ≡ ws
-  given_are : givings ports ≡ with_valids ds
-  din_count : length ws ≡ dins
-  dout_count : length ds ≡ douts
-  din_widths : All IsPortWidth ws
-  dout_widths : All IsPortWidth ds
+pub record Rest (ports : List Port) (dins douts : ℕ) : Type 0 where
+  pub ws : List ℕ
+  pub ds : List ℕ
+  pub taken_are : takings ports ≡ ws
+  pub given_are : givings ports ≡ with_valids ds
+  pub din_count : length ws ≡ dins
+  pub dout_count : length ds ≡ douts
+  pub din_widths : All IsPortWidth ws
+  pub dout_widths : All IsPortWidth ds
 
 outputs_part : (o j : ℕ) (ports : List Port) → AllZip FitsRule ports (output_rules j o) → Rest ports 0 o
 outputs_part zero j [] fit = record { ws = []; ds = []; taken_are = refl; given_are = refl; din_count = refl; dout_count = refl; din_widths = All-nil IsPortWidth; dout_widths = All-nil IsPortWidth }
@@ -94,7 +94,7 @@ outputs_part (suc o) j (v ∷ (d ∷ ports)) fit =
       dout_widths = All-cons IsPortWidth d.width rest.ds fit.1.0.width rest.dout_widths;
     }
 
-dins_part : (n k o : ℕ) (ports : List Port) → AllZip FitsRule ports (din_rules k n ++ output_rules 0 o) → Rest ports n o
+pub dins_part : (n k o : ℕ) (ports : List Port) → AllZip FitsRule ports (din_rules k n ++ output_rules 0 o) → Rest ports n o
 dins_part zero k o ports fit = outputs_part o 0 ports fit
 dins_part (suc n) k o [] fit = absurd fit
 dins_part (suc n) k o (q ∷ ports) fit =

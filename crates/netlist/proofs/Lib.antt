@@ -3,3 +3,4 @@ pub mod RunLaws
 pub mod FitLaws
 pub mod Scoped
 pub mod Kept
+pub mod Named

@@ -1,7 +1,7 @@
 -- What the names of a text stand for, and the module that the parts of a text make.
-use Rattle.std.specs.Prelude.{ℕ, suc, Bool, false, if◌then◌else◌, List, [], ◌∷◌, ◌++◌, Option, Some, None, codes, All}
+use Rattle.std.specs.Prelude.{ℕ, suc, Bool, false, if◌then◌else◌, List, [], ◌∷◌, ◌++◌, Option, Some, None, codes, All, ◌≡◌, true}
 use Rattle.std.specs.Option.{option_map, option_to_list}
-use Rattle.net_names.specs.Words.{same_codes}
+use Rattle.net_names.specs.Words.{same_codes, is_name}
 use Rattle.wiring.specs.declared.right.Atom.{Atom}
 use Rattle.wiring.specs.declared.right.Atom.TheVariants as atom
 use Rattle.wiring.specs.declared.right.Right.{Right}
@@ -231,3 +231,8 @@ pub record SizesFit (p : Parts) : Type 0 where
   pub declarations : All (λ (d : Declaration). SortFits d.sort) p.declarations.items
   pub assigns : All (λ (a : NamedAssign). All IsConstant (constants_of a.right)) p.assigns.items
   pub updates : All (λ (u : NamedUpdate). All IsConstant (update_constants u)) p.updates.items
+
+-- the names are names, as the types of the parts keep them
+pub record NamesAre (p : Parts) : Type 0 where
+  pub «module» : is_name p.name ≡ true
+  pub declarations : All (λ (d : Declaration). is_name d.name ≡ true) p.declarations.items

@@ -11,8 +11,8 @@ ghost use Rattle.wiring.specs.Runs.{Runs, RunStops};
 ghost use Rattle.netlist.specs.declared.parts.Parts.{Parts};
 ghost use Rattle.netlist.specs.declared.fault.NetFault.{NetFault};
 ghost use Rattle.netlist.specs.declared.fault.NetFault.TheVariants.{Memory};
-ghost use Rattle.netlist.specs.Names.{NamedNetlist};
-ghost use Rattle.netlist.specs.Scopes.{SizesFit};
+ghost use Rattle.netlist.specs.Names.{HasNames, NamedNetlist};
+ghost use Rattle.netlist.specs.Scopes.{NamesAre, SizesFit};
 ghost use Rattle.netlist.specs.Faults.{IsFault, IsModuleOf, Agrees};
 
 /// A law: two faults of the same parts are one, but for the target that Cycle names and want of memory; parts that make a module have no fault.
@@ -35,7 +35,8 @@ pub fn values_fit()
     ensures next { (m : Netlist) (order : List ℕ) → KeepsRules m → IsEvaluationOrder m.assigns order → (s : Snapshot) → IsSettled m s → FitsContents m s.contents → Fit m.inputs s.inputs → (new : Contents) → IsNext m s new → FitsContents m new }
 {}
 
-/// A law: a module of parts whose sizes are in range, as their types keep them, keeps the net rules.
+/// A law: a module of parts whose sizes and names are in their rules, as their types keep them, keeps the net rules and has fitting names.
 pub fn rules_kept()
-    ensures { (p : Parts) (m : NamedNetlist) → SizesFit p → IsModuleOf p m → KeepsRules m.netlist }
+    ensures rules { (p : Parts) (m : NamedNetlist) → SizesFit p → IsModuleOf p m → KeepsRules m.netlist }
+    ensures names { (p : Parts) (m : NamedNetlist) → NamesAre p → IsModuleOf p m → HasNames m.netlist m.names }
 {}
