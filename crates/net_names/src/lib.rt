@@ -1,0 +1,10 @@
+//! Names of Verilog texts, and the words that are none.
+#![tactic(auto)]
+
+mod name;
+#[cfg(test)]
+mod tests;
+mod word;
+
+pub use name::Name;
+pub use word::{is_name, is_refused_word, is_structure_word, is_word};

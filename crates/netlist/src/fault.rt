@@ -1,0 +1,40 @@
+// Net faults.
+
+/// What is declared: a port or a declaration, by its number in its list.
+#[derive(Clone, Copy, Debug, PartialEq, Eq)]
+pub enum Declared {
+    Port(usize),
+    Declaration(usize),
+}
+
+/// What drives: an assign or an update, by its number in its list.
+#[derive(Clone, Copy, Debug, PartialEq, Eq)]
+pub enum Statement {
+    Assign(usize),
+    Update(usize),
+}
+
+/// Why parts make no module. The passes come in this order but for Width, which stands behind Divisor.
+#[derive(Clone, Copy, Debug, PartialEq, Eq)]
+pub enum NetFault {
+    /// A name is declared a second time here.
+    Duplicate(Declared),
+    /// The ports are not the profile's.
+    Ports,
+    /// A name is not declared.
+    Unknown(Statement),
+    /// A name stands for something of another sort.
+    WrongSort(Statement),
+    /// The divisor is no constant, or 0.
+    Divisor(Statement),
+    /// Widths do not agree.
+    Width(Statement),
+    /// The second driver of a wire, output, register or array.
+    DrivenTwice(Statement),
+    /// Nothing drives it.
+    Undriven(Declared),
+    /// The assign of this number depends on itself.
+    Cycle(usize),
+    /// There was not enough memory to tell.
+    Memory,
+}

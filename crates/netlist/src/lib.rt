@@ -1,0 +1,20 @@
+//! Modules: netlists with names that keep the net rules.
+#![tactic(auto)]
+
+mod buffer;
+mod fault;
+mod laws;
+mod module;
+mod names;
+mod parts;
+
+pub use buffer::buffer_bits;
+pub use fault::{Declared, NetFault, Statement};
+pub use laws::{one_fault, one_run, rules_kept, values_fit};
+pub use module::Module;
+pub use names::Names;
+pub use net_names::Name;
+pub use parts::{Declaration, Direction, NamedAssign, NamedUpdate, Parts, Port, Sort};
+pub use wiring::{
+    Assign, Atom, Constant, Depth, Net, Operator, Right, Shape, Update, Width, Wiring,
+};

@@ -1,0 +1,17 @@
+pub mod Lists
+pub mod Local
+pub mod Valuation
+pub mod Settle
+pub mod Same
+pub mod Fits
+pub mod Nets
+pub mod Search
+pub mod Places
+pub mod Step
+pub mod Ordered
+pub mod Tabled
+pub mod Next
+pub mod Marking
+pub mod MarkLists
+pub mod Counts
+pub mod Histories

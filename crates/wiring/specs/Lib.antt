@@ -1,0 +1,13 @@
+pub mod Sizes
+pub mod Rights
+pub mod Netlist
+pub mod Snapshot
+pub mod Clock
+pub mod Runs
+pub mod History
+pub mod Tables
+pub mod Order
+pub mod Moves
+pub mod Rules
+pub mod BufferBits
+pub mod Marks

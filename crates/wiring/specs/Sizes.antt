@@ -1,0 +1,20 @@
+-- Sizes of nets and arrays, and numbers with a size.
+use Rattle.std.specs.Prelude.{ℕ, ◌^◌, ◌<◌, ◌≤◌}
+
+-- a width in bits
+abbrev pub IsWidth : ℕ → Type 0
+IsWidth w = (1 ≤ w) × (w ≤ 64)
+
+-- a number of words
+abbrev pub IsDepth : ℕ → Type 0
+IsDepth d = (1 ≤ d) × (d ≤ 67108864)
+
+-- a number with its size in bits
+pub record SizedNumber : Type 0 where
+  pub width : ℕ
+  pub value : ℕ
+
+-- the number fits its size
+pub record IsConstant (c : SizedNumber) : Type 0 where
+  pub width : IsWidth c.width
+  pub fits : c.value < 2 ^ c.width

@@ -1,0 +1,21 @@
+//! Synchronous netlists without names: what they are, when they keep the net rules, what a clock does to them, and which bits they buffer.
+#![tactic(auto)]
+
+mod buffer;
+mod drivers;
+mod laws;
+mod marks;
+mod netlist;
+mod order;
+mod right;
+mod size;
+#[cfg(test)]
+mod tests;
+
+pub use buffer::buffer_bits;
+pub use drivers::{Drivers, TableFault, Updaters, drivers_of, updaters_of};
+pub use laws::{equal_rights, no_cycle, one_count, one_next, one_valuation, runs_are_histories};
+pub use netlist::{Assign, Holder, Net, Shape, Update, Wiring};
+pub use order::{OrderFault, evaluation_order};
+pub use right::{Atom, Operator, Right};
+pub use size::{Constant, Depth, Width};
