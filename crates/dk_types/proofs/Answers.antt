@@ -153,10 +153,10 @@ is_a_type t h =
 
 pub not_type : (t : Ty) → ¬ IsType t → is_type t ≡ false
 not_type t n = by (is_type t) refl
-    where
-      by : (b : Bool) → is_type t ≡ b → is_type t ≡ false
-      by true e = absurd (n (is_a_type t e))
-      by false e = e
+  where
+    by : (b : Bool) → is_type t ≡ b → is_type t ≡ false
+    by true e = absurd (n (is_a_type t e))
+    by false e = e
 
 too_wide : (t : Ty) → 64 < width_of t → limited t ≡ None
 too_wide t h = let e : nat_le (width_of t) 64 ≡ false = grind arith in rw e refl
@@ -167,12 +167,12 @@ if_some false o t h = absurd (let e : ⊥ = cc in e)
 
 none_barred : (o : BinaryOperator) (a b : Ty) → are_operands (binary_of o) a b ≡ true → (is_barred o a ≡ false) × (is_barred o b ≡ false)
 none_barred o a b h = by (is_bitwise (binary_of o)) (is_signed a) (is_signed b) h
-    where
-      by : (p x y : Bool) → not (p && (x || y)) ≡ true → ((p && x) ≡ false) × ((p && y) ≡ false)
-      by true true y h = true_or_false (sym h)
-      by true false true h = true_or_false (sym h)
-      by true false false h = (refl, refl)
-      by false x y h = (refl, refl)
+  where
+    by : (p x y : Bool) → not (p && (x || y)) ≡ true → ((p && x) ≡ false) × ((p && y) ≡ false)
+    by true true y h = true_or_false (sym h)
+    by true false true h = true_or_false (sym h)
+    by true false false h = (refl, refl)
+    by false x y h = (refl, refl)
 
 takes_operands : (o : BinaryOperator) (a b t : Ty) → binary_type (binary_of o) a b ≡ Some t → are_operands (binary_of o) a b ≡ true
 takes_operands o a b t h =

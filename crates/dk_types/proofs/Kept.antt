@@ -108,5 +108,5 @@ typed_is_kept p t h =
       few_outputs = omega arith;
       inputs = ports h.inputs;
       bodies = subst B (append-nil (input_types t.inputs)) (bodies h.definitions);
-      outputs = subst O (types_scope t.inputs t.definitions) (outputs_of h.outputs)
+      outputs = subst O (types_scope t.inputs t.definitions) (outputs_of h.outputs);
     }

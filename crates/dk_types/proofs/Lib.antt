@@ -6,3 +6,4 @@ pub mod Sequences
 pub mod Places
 pub mod Kept
 pub mod Finds
+pub mod Values

@@ -71,10 +71,10 @@ fuller scope es name t full room is e =
     subst P (sym e) (record {
       few = let l = length-append scope ((record { name = name; ty = t }) ∷ []) in omega (arith, l);
       typed = λ g u h.
-        elim (last_or_before (types_in scope) t g u (sym (ap (λ ts. slice_get ts g) (map-append (λ (i : Named). i.ty) scope ((record { name = name; ty = t }) ∷ []))) ∙ h)) [
-          | inl before ↦ full.typed g u before
-          | inr last ↦ subst IsType last is
-        ]
+          elim (last_or_before (types_in scope) t g u (sym (ap (λ ts. slice_get ts g) (map-append (λ (i : Named). i.ty) scope ((record { name = name; ty = t }) ∷ []))) ∙ h)) [
+            | inl before ↦ full.typed g u before
+            | inr last ↦ subst IsType last is
+          ];
     })
 
 pub full_is : (scope : Scope) (es : Entries) → named_in es ≡ scope → IsFull (named_in es) → IsFull scope

@@ -79,10 +79,10 @@ module _ (scope : Scope) (inputs : List TypedInput) (ds : List P.Definition) (do
   told_body m name ne u h =
       let R : Scope → Type 0 = λ s. Stops (Faulty s d.body) x in
       by x (subst R e h)
-      where
-        by : (y : TypeError) → Stops (Faulty (scope_of inputs done) d.body) y → Stops (DefinitionFault inputs ds done d) y
-        by (Fault f) g = DefinitionFault.in_body (omega arith) (is_new name ne u) g
-        by Memory g = tt
+    where
+      by : (y : TypeError) → Stops (Faulty (scope_of inputs done) d.body) y → Stops (DefinitionFault inputs ds done d) y
+      by (Fault f) g = DefinitionFault.in_body (omega arith) (is_new name ne u) g
+      by Memory g = tt
 
   pub told_not_taken : (s : Span) → x ≡ Fault (at s NotConvertible) → s ≡ span_of d.body → n < 256 → (name : List ℕ) → name ≡ d.name.text → IsUnknown scope name
       → (b : Typed) (t : Ty) → HasType scope d.body b → type_of b ≡ t → (u : Option Ty) → u ≡ declared_type d.declared → ¬ Takes u t → Stops (DefinitionFault inputs ds done d) x

@@ -73,10 +73,10 @@ is_a_port (Signed n) h = true_or_false (sym h)
 
 pub not_port : (t : Ty) → ¬ IsPort t → port_test t ≡ false
 not_port t n = by (port_test t) refl
-    where
-      by : (b : Bool) → port_test t ≡ b → port_test t ≡ false
-      by true e = absurd (n (is_a_port t e))
-      by false e = e
+  where
+    by : (b : Bool) → port_test t ≡ b → port_test t ≡ false
+    by true e = absurd (n (is_a_port t e))
+    by false e = e
 
 abbrev takes_test : Option Ty → Ty → Bool
 takes_test None body = true
@@ -92,10 +92,10 @@ is_taken (Some u) t h = let p = both (is_type u) (converts t u) h in record { is
 
 not_taken : (u : Option Ty) (t : Ty) → ¬ Takes u t → takes_test u t ≡ false
 not_taken u t n = by (takes_test u t) refl
-    where
-      by : (b : Bool) → takes_test u t ≡ b → takes_test u t ≡ false
-      by true e = absurd (n (is_taken u t e))
-      by false e = e
+  where
+    by : (b : Bool) → takes_test u t ≡ b → takes_test u t ≡ false
+    by true e = absurd (n (is_taken u t e))
+    by false e = e
 
 abbrev side_test : ℕ → Bool
 side_test n = nat_le 1 n && nat_le n 4096
@@ -114,10 +114,10 @@ is_a_side n h =
 
 not_side : (n : ℕ) → ¬ IsSide n → side_test n ≡ false
 not_side n refused = by (side_test n) refl
-    where
-      by : (b : Bool) → side_test n ≡ b → side_test n ≡ false
-      by true e = absurd (refused (is_a_side n e))
-      by false e = e
+  where
+    by : (b : Bool) → side_test n ≡ b → side_test n ≡ false
+    by true e = absurd (refused (is_a_side n e))
+    by false e = e
 
 few : (n m : ℕ) → n < m → nat_lt n m ≡ true
 few n m h = grind arith
@@ -243,10 +243,13 @@ program_answer p = with_sides p (side_test p.width.value) (side_test p.height.va
 
 typing_answer : (p : Source) (t : Typing) → IsTyping p t → program_answer p ≡ Ok t
 typing_answer p t h =
-    rw (side_is p.width.value h.width, side_is p.height.value h.height,
-        each_answer input_answer IsInput input_rules h.inputs,
-        each_answer (definition_answer t.inputs) (IsDefinition t.inputs) (definition_rules t.inputs) h.definitions,
-        each_answer (output_answer (scope_of t.inputs t.definitions)) (IsOutput (scope_of t.inputs t.definitions)) (output_rules (scope_of t.inputs t.definitions)) h.outputs)
+    rw (
+      side_is p.width.value h.width,
+      side_is p.height.value h.height,
+      each_answer input_answer IsInput input_rules h.inputs,
+      each_answer (definition_answer t.inputs) (IsDefinition t.inputs) (definition_rules t.inputs) h.definitions,
+      each_answer (output_answer (scope_of t.inputs t.definitions)) (IsOutput (scope_of t.inputs t.definitions)) (output_rules (scope_of t.inputs t.definitions)) h.outputs,
+    )
     (ap (λ (s : Size). Ok (record { size = s; inputs = t.inputs; definitions = t.definitions; outputs = t.outputs })) (sym h.size))
 
 fault_answer : (p : Source) (f : TypeFault) → IsFirstFault p f → program_answer p ≡ Err f
@@ -255,12 +258,20 @@ fault_answer p _ (F.height w h) = rw (side_is p.width.value w, not_side p.height
 fault_answer p _ (F.input w h i) =
     rw (side_is p.width.value w, side_is p.height.value h, first_answer input_answer IsInput input_rules InputFault input_faults i) refl
 fault_answer p _ (F.definition {is = is} w h i d) =
-    rw (side_is p.width.value w, side_is p.height.value h, each_answer input_answer IsInput input_rules i,
-        first_answer (definition_answer is) (IsDefinition is) (definition_rules is) (DefinitionFault is) (definition_faults is) d) refl
+    rw (
+      side_is p.width.value w,
+      side_is p.height.value h,
+      each_answer input_answer IsInput input_rules i,
+      first_answer (definition_answer is) (IsDefinition is) (definition_rules is) (DefinitionFault is) (definition_faults is) d,
+    ) refl
 fault_answer p _ (F.output {is = is} {ds = ds} w h i d o) =
-    rw (side_is p.width.value w, side_is p.height.value h, each_answer input_answer IsInput input_rules i,
-        each_answer (definition_answer is) (IsDefinition is) (definition_rules is) d,
-        first_answer (output_answer (scope_of is ds)) (IsOutput (scope_of is ds)) (output_rules (scope_of is ds)) (OutputFault (scope_of is ds)) (output_faults (scope_of is ds)) o) refl
+    rw (
+      side_is p.width.value w,
+      side_is p.height.value h,
+      each_answer input_answer IsInput input_rules i,
+      each_answer (definition_answer is) (IsDefinition is) (definition_rules is) d,
+      first_answer (output_answer (scope_of is ds)) (IsOutput (scope_of is ds)) (output_rules (scope_of is ds)) (OutputFault (scope_of is ds)) (output_faults (scope_of is ds)) o,
+    ) refl
 
 -- the laws
 pub one_type : (p : Source) (t u : Typing) → IsTyping p t → IsTyping p u → t ≡ u

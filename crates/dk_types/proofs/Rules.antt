@@ -111,7 +111,7 @@ pub told_binary : (scope : Scope) (s : Span) (o : BinaryOperator) (a b : Tree) (
 told_binary scope s o a b e f l r u found x xe fits ue re n h g te tf =
     let operands : are_operands (binary_of o) (type_of e) (type_of f) ≡ true = ap (λ z. are_operands (binary_of o) z (type_of f)) te ∙ (ap (are_operands (binary_of o) l) tf ∙ fits) in
     let none : binary_type (binary_of o) (type_of e) (type_of f) ≡ None =
-          ap (λ z. binary_type (binary_of o) z (type_of f)) te ∙ (ap (binary_type (binary_of o) l) tf ∙ (ap (λ v. binary_type v l r) (sym ue) ∙ (sym re ∙ n))) in
+    ap (λ z. binary_type (binary_of o) z (type_of f)) te ∙ (ap (binary_type (binary_of o) l) tf ∙ (ap (λ v. binary_type v l r) (sym ue) ∙ (sym re ∙ n))) in
     told (Faulty scope (T.binary s o a b)) x (at s WidthTooGreat) (at s WidthTooGreat) xe refl (F.wide_result h g operands none)
 
 -- a division or a shift
@@ -141,15 +141,15 @@ scale_refused scope s scale.ShiftRight a k e h n =
     let q : nat_lt 63 k.value ≡ true = grind (arith, far) in
     rw q (F.far_shift {k = k} h right_is_none (grind (arith, far)))
 scale_refused scope s scale.ShiftLeft a k e h n = by (nat_le k.value 63) refl
-    where
-      by : (b : Bool) → nat_le k.value 63 ≡ b → Faulty scope (T.scale s scale.ShiftLeft a k) (scale_fault scale.ShiftLeft s k)
-      by true near =
-          let q : nat_lt 63 k.value ≡ false = grind (arith, near) in
-          let n' : limited (shifted_type (type_of e) k.value) ≡ None = rw near at n in
-          rw q (F.wide_shift {k = k} h (grind (arith, near)) (none_wide (shifted_type (type_of e) k.value) n'))
-      by false far =
-          let q : nat_lt 63 k.value ≡ true = grind (arith, far) in
-          rw q (F.far_shift {k = k} h left_is_none (grind (arith, far)))
+  where
+    by : (b : Bool) → nat_le k.value 63 ≡ b → Faulty scope (T.scale s scale.ShiftLeft a k) (scale_fault scale.ShiftLeft s k)
+    by true near =
+        let q : nat_lt 63 k.value ≡ false = grind (arith, near) in
+        let n' : limited (shifted_type (type_of e) k.value) ≡ None = rw near at n in
+        rw q (F.wide_shift {k = k} h (grind (arith, near)) (none_wide (shifted_type (type_of e) k.value) n'))
+    by false far =
+        let q : nat_lt 63 k.value ≡ true = grind (arith, far) in
+        rw q (F.far_shift {k = k} h left_is_none (grind (arith, far)))
 
 pub divided : (o : ScaleOperator) (s : Span) (k : Literal) → o ≡ scale.Divide → scale_fault o s k ≡ at k.span ZeroDivisor
 divided o s k e = ap (λ x. scale_fault x s k) e
@@ -169,7 +169,7 @@ pub told_scale : (scope : Scope) (s : Span) (o : ScaleOperator) (a : Tree) (k : 
     → HasType scope a e → type_of e ≡ t → Stops (Faulty scope (T.scale s o a k)) x
 told_scale scope s o a k e t u r x f xe fe ue re n h te =
     let none : scaling_type (scaling_of o) (type_of e) k.value ≡ None =
-          ap (λ z. scaling_type (scaling_of o) z k.value) te ∙ (ap (λ v. scaling_type v t k.value) (sym ue) ∙ (sym re ∙ n)) in
+    ap (λ z. scaling_type (scaling_of o) z k.value) te ∙ (ap (λ v. scaling_type v t k.value) (sym ue) ∙ (sym re ∙ n)) in
     told (Faulty scope (T.scale s o a k)) x f (scale_fault o s k) xe fe (scale_refused scope s o a k e h none)
 
 -- a choice
@@ -213,7 +213,7 @@ binary_is scope s o a b x y x' y' u t xe ye ue k h g =
     let S : TypedExpr → Type 0 = λ z. HasType scope (T.binary s o a b) (double t u (typed_of x) (typed_of z)) in
     let Q : Binary → Type 0 = λ v. HasType scope (T.binary s o a b) (double t v (typed_of x) (typed_of y)) in
     let typed : binary_type (binary_of o) (type_of (typed_of x)) (type_of (typed_of y)) ≡ Some t =
-          ap (λ z. binary_type (binary_of o) z (type_of (typed_of y))) (type_at x.ty x.node) ∙ (ap (binary_type (binary_of o) x.ty) (type_at y.ty y.node) ∙ k) in
+    ap (λ z. binary_type (binary_of o) z (type_of (typed_of y))) (type_at x.ty x.node) ∙ (ap (binary_type (binary_of o) x.ty) (type_at y.ty y.node) ∙ k) in
     subst R (sym xe) (subst S (sym ye) (subst Q (sym ue) (H.binary h g typed)))
 
 pub scale_is : (scope : Scope) (s : Span) (o : ScaleOperator) (a : Tree) (k : Literal) (x y : TypedExpr) (u : Scaling) (t : Ty)
@@ -247,8 +247,8 @@ select_is scope s c a b x y z x' y' z' t xe ye ze k h g i =
     let S : TypedExpr → Type 0 = λ v. HasType scope (T.select s c a b) (chosen t (typed_of x) (typed_of v) (typed_of z')) in
     let Q : TypedExpr → Type 0 = λ v. HasType scope (T.select s c a b) (chosen t (typed_of x) (typed_of y) (typed_of v)) in
     let typed : select_type (type_of (typed_of x)) (type_of (typed_of y)) (type_of (typed_of z)) ≡ Some t =
-          ap (λ v. select_type v (type_of (typed_of y)) (type_of (typed_of z))) (type_at x.ty x.node)
-          ∙ (ap (λ v. select_type x.ty v (type_of (typed_of z))) (type_at y.ty y.node) ∙ (ap (select_type x.ty y.ty) (type_at z.ty z.node) ∙ k)) in
+    ap (λ v. select_type v (type_of (typed_of y)) (type_of (typed_of z))) (type_at x.ty x.node)
+    ∙ (ap (λ v. select_type x.ty v (type_of (typed_of z))) (type_at y.ty y.node) ∙ (ap (select_type x.ty y.ty) (type_at z.ty z.node) ∙ k)) in
     subst R (sym xe) (subst S (sym ye) (subst Q (sym ze) (H.select h g i typed)))
 
 -- reads

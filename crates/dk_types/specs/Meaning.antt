@@ -1,7 +1,7 @@
 -- What a typed program means: the pictures of its images on a round of frames.
 use Rattle.std.specs.Prelude.{◌≡◌, ℕ, ℤ, pos, ◌+ℤ◌, List, [], ◌∷◌, ◌++◌, fold, map, slice_get, slice_index_or, Some, if◌then◌else◌}
 use Rattle.dk_base.specs.declared.ty.Ty.{Ty}
-use Rattle.dk_base.specs.Types.{IsIn}
+use Rattle.dk_base.specs.Types.{IsType, IsIn}
 use Rattle.dk_base.specs.Frames.{Size, Picture, in_frame, clamped, picture_of}
 use Rattle.dk_base.specs.Operators.{unary_value, binary_value, scaling_value, conversion_value, select_value}
 use Rattle.dk_types.specs.declared.typed.TypedRead.{TypedRead}
@@ -51,3 +51,7 @@ meaning_on p round = meaning p (map (picture_of p.size) round)
 -- the values of these pictures are in these types
 abbrev pub AreIn : List Ty → List Picture → Type 0
 AreIn types known = (g : ℕ) (t : Ty) → slice_get types g ≡ Some t → (x y : ℤ) → IsIn t (picture_at known g x y)
+
+-- types of 1 to 64 bits
+abbrev pub AreTypes : List Ty → Type 0
+AreTypes types = (g : ℕ) (t : Ty) → slice_get types g ≡ Some t → IsType t

@@ -1,5 +1,5 @@
 -- Which images a program reads, and where: live reads and kept images.
-use Rattle.std.specs.Prelude.{◌≡◌, ◌⊎◌, ℕ, ◌+◌, ◌<◌, ◌≤◌, ℤ, ◌+ℤ◌, Bool, true, false, IsTrue, List, [], ◌∷◌, length, slice_get, Some, Contains, if◌then◌else◌}
+use Rattle.std.specs.Prelude.{◌≡◌, ◌⊎◌, ℕ, ◌+◌, ◌<◌, ℤ, ◌+ℤ◌, Bool, true, false, IsTrue, List, length, slice_get, Some, Contains}
 use Rattle.dk_base.specs.Frames.{Size, in_frame, clamped}
 use Rattle.dk_types.specs.declared.typed.TypedRead.{TypedRead}
 use Rattle.dk_types.specs.Typed.{Typed, constant, fetch, single, double, scaled, converted, chosen, Definition, Typing}
@@ -22,17 +22,19 @@ IsDefinitionOf p g d = (k : ℕ) × (g ≡ length p.inputs + k) × (slice_get p.
 abbrev pub IsStored : Typing → ℕ → Type 0
 IsStored p g = (g < length p.inputs) ⊎ ((d : Definition) × IsDefinitionOf p g d × (d.inline ≡ false))
 
--- A step from a point: an unclamped one moves it and stays in the frame; a clamped one moves it and then takes the nearest point of the frame.
+-- Where a move to (u, v) ends: an unclamped one there, in the frame; a clamped one at the nearest point of the frame.
+abbrev pub Ends : (is_clamped : Bool) → Size → (u v x y : ℤ) → Type 0
+Ends true size u v x y = (x ≡ clamped size.width u) × (y ≡ clamped size.height v)
+Ends false size u v x y = (x ≡ u) × (y ≡ v) × IsTrue (in_frame size x y)
+
+-- a step of a read from one point to another
 abbrev pub Steps : Size → TypedRead → (x y x' y' : ℤ) → Type 0
-Steps size r x y x' y' =
-    if r.clamped
-    then (x' ≡ clamped size.width (x +ℤ r.dx)) × (y' ≡ clamped size.height (y +ℤ r.dy))
-    else (x' ≡ x +ℤ r.dx) × (y' ≡ y +ℤ r.dy) × IsTrue (in_frame size x' y')
+Steps size r x y x' y' = Ends r.clamped size (x +ℤ r.dx) (y +ℤ r.dy) x' y'
 
 -- The expression e at (x, y) reads image g at (x', y'), step by step through the bodies of inline images.
 pub data Reads (p : Typing) : Typed → (x y : ℤ) → (g : ℕ) → (x' y' : ℤ) → Type 0 where
-  directly : {e : Typed} {r : TypedRead} {x y x' y' : ℤ} → Mentions e r → Steps p.size r x y x' y' → IsStored p r.image → Reads p e x y r.image x' y'
-  through : {e : Typed} {r : TypedRead} {d : Definition} {g : ℕ} {x y u v x' y' : ℤ}
+  directly : {e : Typed} (r : TypedRead) {x y x' y' : ℤ} → Mentions e r → Steps p.size r x y x' y' → IsStored p r.image → Reads p e x y r.image x' y'
+  through : {e : Typed} (r : TypedRead) (d : Definition) {g : ℕ} {x y x' y' : ℤ} (u v : ℤ)
       → Mentions e r → Steps p.size r x y u v → IsDefinitionOf p r.image d → d.inline ≡ true → Reads p d.body u v g x' y' → Reads p e x y g x' y'
 
 -- in some pixel, image f reads image g so many columns to the right and rows down

@@ -30,7 +30,11 @@ fn offset(offset: Option<Offset>) -> Result<i32, Span>
         return Err(offset.amount.span);
     }
     let amount = offset.amount.value as i32;
-    if offset.negative { Ok(-amount) } else { Ok(amount) }
+    if offset.negative {
+        Ok(-amount)
+    } else {
+        Ok(amount)
+    }
 }
 
 fn read(scope: &Scope, span: Span, read: &ImageRead) -> Result<TypedExpr, TypeError>
@@ -168,11 +172,7 @@ fn select(
 }
 
 /// The typed form of an expression.
-pub(crate) fn expression(
-    alloc: Global,
-    scope: &Scope,
-    e: &Expr,
-) -> Result<TypedExpr, TypeError>
+pub(crate) fn expression(alloc: Global, scope: &Scope, e: &Expr) -> Result<TypedExpr, TypeError>
     ensures { Judged scope.now (tree_of e.now) result }
 {
     match &e.node {

@@ -192,11 +192,7 @@ fn output(scope: &Scope, before: &[Name], item: &Name) -> Result<u32, TypeError>
 }
 
 /// The images that are outputs.
-pub(crate) fn outputs(
-    alloc: Global,
-    scope: &Scope,
-    items: &[Name],
-) -> Result<Vec<u32>, TypeError>
+pub(crate) fn outputs(alloc: Global, scope: &Scope, items: &[Name]) -> Result<Vec<u32>, TypeError>
     ensures { MatchResult result (λ v. AreOutputs scope.now items.now v.items) (λ stop. Stops (FaultyOutputs scope.now items.now) stop) }
 {
     let mut done = Vec::new(alloc);

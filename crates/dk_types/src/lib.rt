@@ -13,4 +13,4 @@ mod whole;
 
 pub use fault::{TypeError, TypeFault, TypeFaultKind};
 pub use typed::{TypedDefinition, TypedExpr, TypedInput, TypedNode, TypedProgram, TypedRead};
-pub use whole::{check, one_typing};
+pub use whole::{check, one_typing, values_in_types};

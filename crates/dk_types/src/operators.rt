@@ -3,7 +3,7 @@
 ghost use Rattle.std.specs.Prelude.{◌≡◌, Some, true, IsTrue, ◌↔◌, IfOk, IfErr, MatchOption};
 ghost use Rattle.dk_base.specs.declared.ty.Ty.{Ty};
 ghost use Rattle.dk_base.specs.Types.{IsType};
-ghost use Rattle.dk_base.specs.Operators.{unary_type as type_of_unary, binary_type as type_of_binary, are_operands, scaling_type as type_of_scaling, select_type as type_of_select};
+ghost use Rattle.dk_base.specs.Operators.{unary_type as type_of_unary, binary_type as type_of_binary, is_bitwise as works_bit_by_bit, are_operands, scaling_type as type_of_scaling, select_type as type_of_select};
 ghost use Rattle.dk_parser.specs.Tree as T;
 ghost use Rattle.dk_parser.specs.Tree.{Tree, span_of};
 ghost use Rattle.dk_types.specs.Scopes.{Scope};
@@ -79,6 +79,16 @@ pub(crate) fn unary_type(
     }
 }
 
+/// Whether the operator works bit by bit, and so on unsigned operands only.
+fn is_bitwise(operator: BinaryOperator) -> bool
+    ensures { result ≡ works_bit_by_bit (binary_of operator) }
+{
+    match operator {
+        BinaryOperator::And | BinaryOperator::Or | BinaryOperator::Xor => true,
+        _ => false,
+    }
+}
+
 /// The first operand that is signed where the operator works bit by bit.
 fn signed_operand(
     span: Span,
@@ -90,7 +100,7 @@ fn signed_operand(
 ) -> Option<TypeError>
     ensures { MatchOption result (are_operands (binary_of operator) left right ≡ true) (λ stop. (scope : Scope) (a b : Tree) (e f : Typed) → HasType scope a e → HasType scope b f → type_of e ≡ left → type_of f ≡ right → span_of a ≡ first → span_of b ≡ second → Stops (Faulty scope (T.binary span operator a b)) stop) }
 {
-    if !binary(operator).is_bitwise() {
+    if !is_bitwise(operator) {
         return None;
     }
     if left.is_signed() {
@@ -121,7 +131,7 @@ pub(crate) fn binary_type(
         return Err(stop);
     }
     match binary(operator).result_type(left, right) {
-        Some(ty) => Ok(ty),
+        Some(result_ty) => Ok(result_ty),
         None => Err(fault(span, TypeFaultKind::WidthTooGreat)),
     }
 }

@@ -151,7 +151,8 @@ fn declared_types(rt: HostRuntime) -> Result<(), Fail> {
 #[test]
 fn whole_texts(rt: HostRuntime) -> Result<(), Fail> {
     let alloc = rt.alloc();
-    let eight = b"size 1 1 input a:u1 input b:u1 input c:u1 input d:u1 input e:u1 input g:u1 input h:u1 input i:u1";
+    let eight =
+        b"size 1 1 input a:u1 input b:u1 input c:u1 input d:u1 input e:u1 input g:u1 input h:u1 input i:u1";
     for (first, last, want) in [
         (
             b"size 1 1\ninput a : u16\nlet f = im(x,y) (a(x,y)<<17)*(a(x,y)<<17) end\n".as_slice(),
@@ -159,21 +160,41 @@ fn whole_texts(rt: HostRuntime) -> Result<(), Fail> {
             "WidthTooGreat 39-64",
         ),
         (b"size 0 0 input a:u8", b" output a", "SizeRange 5-6"),
-        (b"size 4096 4097 input a:u8", b" output a", "SizeRange 10-14"),
+        (
+            b"size 4096 4097 input a:u8",
+            b" output a",
+            "SizeRange 10-14",
+        ),
         (b"size 4096 4096 input a:u16", b" output a", "ok"),
         (b"size 1 1 input a:u17", b" output a", "InputType 17-20"),
         (b"size 1 1 input a:s8", b" output a", "InputType 17-19"),
         (b"size 1 1 input a:u1 input a:u99", b" output a", "no tree"),
-        (b"size 1 1 input a:u1 input a:s9", b" output a", "DuplicateName 26-27"),
-        (eight, b" output a output b output c output d output e output g output h output i", "ok"),
+        (
+            b"size 1 1 input a:u1 input a:s9",
+            b" output a",
+            "DuplicateName 26-27",
+        ),
+        (
+            eight,
+            b" output a output b output c output d output e output g output h output i",
+            "ok",
+        ),
         (eight, b" input j:u1 output a", "TooManyInputs 103-104"),
         (
             eight,
             b" output a output b output c output d output e output g output h output i output a",
             "TooManyOutputs 176-177",
         ),
-        (b"size 1 1 input a:u1", b" output a output a", "DuplicateName 36-37"),
-        (b"size 1 1 input a:u1", b" let a=im(x,y) 1 end output a", "DuplicateName 24-25"),
+        (
+            b"size 1 1 input a:u1",
+            b" output a output a",
+            "DuplicateName 36-37",
+        ),
+        (
+            b"size 1 1 input a:u1",
+            b" let a=im(x,y) 1 end output a",
+            "DuplicateName 24-25",
+        ),
         (b"size 1 1 input a:u1", b" output b", "UnknownImage 27-28"),
         (
             b"size 1 1 input a:u16",
@@ -229,7 +250,8 @@ fn reads(alloc: Global, program: &TypedProgram) -> Result<String, Fail> {
 #[test]
 fn one_program(rt: HostRuntime) -> Result<(), Fail> {
     let alloc = rt.alloc();
-    let source = b"size 2 1 input a:u8 input b:u4 let f=im(x,y) b(x-3,y+5) edge clamp end inline let g:u9=im(x,y) f(x,y) end output g output b";
+    let source =
+        b"size 2 1 input a:u8 input b:u4 let f=im(x,y) b(x-3,y+5) edge clamp end inline let g:u9=im(x,y) f(x,y) end output g output b";
     let Ok(tokens) = lex(alloc, source) else {
         return Err(Fail::new("no tokens"));
     };
@@ -240,7 +262,10 @@ fn one_program(rt: HostRuntime) -> Result<(), Fail> {
         return Err(Fail::new("no types"));
     };
     let found = reads(alloc, &program)?;
-    assert_eq!(rt; found.as_str(), "1 -3 5 true false None;2 0 0 false true Some(Unsigned(9));");
+    assert_eq!(rt;
+        found.as_str(),
+        "1 -3 5 true false None;2 0 0 false true Some(Unsigned(9));"
+    );
     assert_eq!(rt; program.outputs(), [3, 1].as_slice());
     assert_eq!(rt; program.inputs().len(), 2);
     assert_eq!(rt; program.size().area(), 2);

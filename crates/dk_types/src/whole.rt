@@ -1,11 +1,16 @@
 // Programs.
 
-ghost use Rattle.std.specs.Prelude.{◌≡◌, ◌⊎◌, IfOk, IfErr, MatchResult};
+ghost use Rattle.std.specs.Prelude.{◌≡◌, ◌⊎◌, ℤ, List, length, IfOk, IfErr, MatchResult};
 ghost use Rattle.std.specs.Result.{IsErrAnd};
+ghost use Rattle.dk_base.specs.declared.ty.Ty.{Ty};
+ghost use Rattle.dk_base.specs.Types.{IsIn};
+ghost use Rattle.dk_base.specs.Frames.{Size, Picture};
 ghost use Rattle.dk_parser.specs.Programs.{Source, source_of};
 ghost use Rattle.dk_types.specs.declared.fault.TypeFault.{TypeFault};
-ghost use Rattle.dk_types.specs.Typed.{Typing, typing_of};
+ghost use Rattle.dk_types.specs.Typed.{Typed, Typing, typing_of, type_of, types_of, input_types};
 ghost use Rattle.dk_types.specs.Types.{IsTyping};
+ghost use Rattle.dk_types.specs.Kept.{IsTyped, IsWell};
+ghost use Rattle.dk_types.specs.Meaning.{AreIn, AreTypes, meaning, value};
 ghost use Rattle.dk_types.specs.Faults.{IsFirstFault, Stops};
 
 use crate::fault::TypeError;
@@ -49,4 +54,10 @@ pub fn one_typing()
     ensures typing { (p : Source) (one other : Typing) → IsTyping p one → IsTyping p other → one ≡ other }
     ensures fault { (p : Source) (one other : TypeFault) → IsFirstFault p one → IsFirstFault p other → one ≡ other }
     ensures either { (p : Source) (t : Typing) (f : TypeFault) → IsTyping p t → IsFirstFault p f → ⊥ }
+{}
+
+/// Wherever the values of the inputs are in their types, so are the values of each image, and of each part of a body.
+pub fn values_in_types()
+    ensures images { (p : Typing) (inputs : List Picture) → IsTyped p → length inputs ≡ length p.inputs → AreIn (input_types p.inputs) inputs → AreIn (types_of p) (meaning p inputs) }
+    ensures parts { (size : Size) (types : List Ty) (known : List Picture) (e : Typed) → AreTypes types → AreIn types known → IsWell types e → (x y : ℤ) → IsIn (type_of e) (value size known e x y) }
 {}

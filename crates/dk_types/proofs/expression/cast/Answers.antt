@@ -16,5 +16,6 @@ returns-in_err-ty c = λ scope h.
 
 pub returns : goal.returns
 returns c = λ scope h. record {
-    has = R.cast_is scope c.args.span (tree_of c.args.a.now) c.args.to c.args.operand c.in_ok-new.field-0.value c.in_ok-ty.ty c.in_ok-new.ensures.ok c.in_ok-ty.ensures.typed c.in_ok-ty.ensures.is_type h.has;
-    is_type = c.in_ok-ty.ensures.is_type }
+  has = R.cast_is scope c.args.span (tree_of c.args.a.now) c.args.to c.args.operand c.in_ok-new.field-0.value c.in_ok-ty.ty c.in_ok-new.ensures.ok c.in_ok-ty.ensures.typed c.in_ok-ty.ensures.is_type h.has;
+  is_type = c.in_ok-ty.ensures.is_type;
+}

@@ -21,5 +21,5 @@ returns c =
     let y = c.in-Ok-offset.ensures.near in
     record {
       has = R.read_is c.args.scope.now c.args.span c.args.read.now c.in-Some.image c.in-Some.ty _ _ i (R.stored c.in-Ok.dx c.args.read.now.x x) x.1 (R.stored c.in-Ok-offset.dy c.args.read.now.y y) y.1;
-      is_type = c.in-Some.ensures.is_type
+      is_type = c.in-Some.ensures.is_type;
     }

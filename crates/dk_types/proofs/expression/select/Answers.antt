@@ -13,5 +13,6 @@ returns-in_err-ty c = λ scope h g i.
 
 pub returns : goal.returns
 returns c = λ scope h g i. record {
-    has = R.select_is scope c.args.span (tree_of c.args.c.now) (tree_of c.args.a.now) (tree_of c.args.b.now) c.args.condition c.args.left c.args.right c.in_ok-condition.condition.value c.in_ok-left.left.value c.in_ok-right.right.value c.in_ok-ty.ty c.in_ok-condition.ensures.ok c.in_ok-left.ensures.ok c.in_ok-right.ensures.ok c.in_ok-ty.ensures.typed h.has g.has i.has;
-    is_type = c.in_ok-ty.ensures.is_type }
+  has = R.select_is scope c.args.span (tree_of c.args.c.now) (tree_of c.args.a.now) (tree_of c.args.b.now) c.args.condition c.args.left c.args.right c.in_ok-condition.condition.value c.in_ok-left.left.value c.in_ok-right.right.value c.in_ok-ty.ty c.in_ok-condition.ensures.ok c.in_ok-left.ensures.ok c.in_ok-right.ensures.ok c.in_ok-ty.ensures.typed h.has g.has i.has;
+  is_type = c.in_ok-ty.ensures.is_type;
+}

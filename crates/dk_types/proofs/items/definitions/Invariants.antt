@@ -8,7 +8,7 @@ use Rattle.dk_types.proofs.items.definitions.Given as goal
 
 abbrev pub invariant-loop-item : goal.invariant-loop-item
 invariant-loop-item l = record {
-    kept : (is : List TypedInput) → l.fn.scope ≡ inputs_scope is → AreDefinitions is (sources_as (take l.item-index l.items)) (definitions_as l.done.items);
-    names : (is : List TypedInput) → l.fn.scope ≡ inputs_scope is → l.scope ≡ scope_of is (definitions_as l.done.items);
-    long : length l.scope ≤ length l.done.items + 8
-  }
+  kept : (is : List TypedInput) → l.fn.scope ≡ inputs_scope is → AreDefinitions is (sources_as (take l.item-index l.items)) (definitions_as l.done.items);
+  names : (is : List TypedInput) → l.fn.scope ≡ inputs_scope is → l.scope ≡ scope_of is (definitions_as l.done.items);
+  long : length l.scope ≤ length l.done.items + 8;
+}

@@ -19,7 +19,7 @@ returns-in_err-typed c =
     let a = around c.args.items.now c.loop-item.item-index c.item-item.result c.loop-item-test.true c.item-item.is in
     let before = take c.loop-item.item-index c.args.items.now in
     rw (p.1, p.2) (fails_at IsInput InputFault before _ c.args.items.now c.item-item.result c.loop-item.done.items c.in_err-typed.field-0.0 a.whole
-        c.loop-item.invariant.kept (c.in_err-typed.ensures before c.loop-item.done.items c.loop-item.invariant.names))
+    c.loop-item.invariant.kept (c.in_err-typed.ensures before c.loop-item.done.items c.loop-item.invariant.names))
 
 pub loop-item-preserved : goal.loop-item-preserved
 loop-item-preserved c =
@@ -28,5 +28,5 @@ loop-item-preserved c =
     let r = c.in_ok-typed.ensures before c.loop-item.done.items c.loop-item.invariant.names in
     record {
       kept = more_at IsInput before _ c.item-item.result c.loop-item.done.items _ c.in_ok-typed.typed a.upto c.loop-item.invariant.kept r.0 c.in_ok-push.ensures.items;
-      names = r.1 ∙ ap inputs_scope (sym c.in_ok-push.ensures.items)
+      names = r.1 ∙ ap inputs_scope (sym c.in_ok-push.ensures.items);
     }

@@ -17,7 +17,7 @@ returns-in_err-image c =
     let before = take c.loop-k.k c.args.items.now in
     let P : List Name → Type 0 = λ l. Stops (OutputFault c.args.scope.now l c.loop-k.done.items c.index-items-k.result) c.in_err-image.field-0.0 in
     rw (p.1, p.2) (fails_at (IsOutput c.args.scope.now) (OutputFault c.args.scope.now) before _ c.args.items.now c.index-items-k.result c.loop-k.done.items c.in_err-image.field-0.0 a.whole
-        c.loop-k.invariant (subst P c.split_at.ensures.front (c.in_err-image.ensures c.loop-k.done.items)))
+    c.loop-k.invariant (subst P c.split_at.ensures.front (c.in_err-image.ensures c.loop-k.done.items)))
 
 pub loop-k-preserved : goal.loop-k-preserved
 loop-k-preserved c =
@@ -25,4 +25,4 @@ loop-k-preserved c =
     let before = take c.loop-k.k c.args.items.now in
     let P : List Name → Type 0 = λ l. IsOutput c.args.scope.now l c.loop-k.done.items c.index-items-k.result c.in_ok-image.image in
     more_at (IsOutput c.args.scope.now) before _ c.index-items-k.result c.loop-k.done.items _ c.in_ok-image.image a.upto c.loop-k.invariant
-      (subst P c.split_at.ensures.front (c.in_ok-image.ensures c.loop-k.done.items)) c.in_ok-push.ensures.items
+    (subst P c.split_at.ensures.front (c.in_ok-image.ensures c.loop-k.done.items)) c.in_ok-push.ensures.items

@@ -44,7 +44,7 @@ returns-in_err-outputs c =
 
 pub new-requires : goal.new-requires
 new-requires c =
-    let I : List Input → Type 0 = λ l. AreInputs l c.in_ok-inputs.inputs.items in let is = subst I c.deref.ensures.value c.in_ok-inputs.ensures.0 in let D : List Def → Type 0 = λ l. AreDefinitions c.in_ok-inputs.inputs.items (sources_as l) (definitions_as c.in_ok-definitions.definitions.items) in let r = c.in_ok-definitions.ensures c.in_ok-inputs.inputs.items c.in_ok-inputs.ensures.1 in let ds = subst D c.deref-2.ensures.value r.0 in 
+    let I : List Input → Type 0 = λ l. AreInputs l c.in_ok-inputs.inputs.items in let is = subst I c.deref.ensures.value c.in_ok-inputs.ensures.0 in let D : List Def → Type 0 = λ l. AreDefinitions c.in_ok-inputs.inputs.items (sources_as l) (definitions_as c.in_ok-definitions.definitions.items) in let r = c.in_ok-definitions.ensures c.in_ok-inputs.inputs.items c.in_ok-inputs.ensures.1 in let ds = subst D c.deref-2.ensures.value r.0 in
     let O : List Name → Type 0 = λ l. AreOutputs c.definitions.new.scope l c.in_ok-outputs.outputs.items in
     let S : Scope → Type 0 = λ z. AreOutputs z c.args.program.now.outputs.items c.in_ok-outputs.outputs.items in
     let os = subst S r.1 (subst O c.deref-3.ensures.value c.in_ok-outputs.ensures) in
@@ -54,13 +54,13 @@ new-requires c =
       size = same_size _ _ _ _ _ c.in-Some.ensures.size c.in_ok-width.ensures.1 c.in_ok-height.ensures.1;
       inputs = is;
       definitions = ds;
-      outputs = os
+      outputs = os;
     } in
     typed_is_kept (source_of c.args.program.now) _ whole
 
 pub returns : goal.returns
 returns c =
-    let I : List Input → Type 0 = λ l. AreInputs l c.in_ok-inputs.inputs.items in let is = subst I c.deref.ensures.value c.in_ok-inputs.ensures.0 in let D : List Def → Type 0 = λ l. AreDefinitions c.in_ok-inputs.inputs.items (sources_as l) (definitions_as c.in_ok-definitions.definitions.items) in let r = c.in_ok-definitions.ensures c.in_ok-inputs.inputs.items c.in_ok-inputs.ensures.1 in let ds = subst D c.deref-2.ensures.value r.0 in 
+    let I : List Input → Type 0 = λ l. AreInputs l c.in_ok-inputs.inputs.items in let is = subst I c.deref.ensures.value c.in_ok-inputs.ensures.0 in let D : List Def → Type 0 = λ l. AreDefinitions c.in_ok-inputs.inputs.items (sources_as l) (definitions_as c.in_ok-definitions.definitions.items) in let r = c.in_ok-definitions.ensures c.in_ok-inputs.inputs.items c.in_ok-inputs.ensures.1 in let ds = subst D c.deref-2.ensures.value r.0 in
     let O : List Name → Type 0 = λ l. AreOutputs c.definitions.new.scope l c.in_ok-outputs.outputs.items in
     let S : Scope → Type 0 = λ z. AreOutputs z c.args.program.now.outputs.items c.in_ok-outputs.outputs.items in
     let os = subst S r.1 (subst O c.deref-3.ensures.value c.in_ok-outputs.ensures) in
@@ -70,7 +70,7 @@ returns c =
       size = same_size _ _ _ _ _ c.in-Some.ensures.size c.in_ok-width.ensures.1 c.in_ok-height.ensures.1;
       inputs = is;
       definitions = ds;
-      outputs = os
+      outputs = os;
     } in
     let V : Parts → Type 0 = λ v. IsTyping (source_of c.args.program.now) (typing_of v) in
     subst V (sym c.new.ensures) whole
