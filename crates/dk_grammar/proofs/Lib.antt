@@ -1,3 +1,4 @@
 pub mod Clears
 pub mod Stucks
 pub mod Chains
+pub mod Faulty

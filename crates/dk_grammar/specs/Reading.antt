@@ -24,6 +24,15 @@ Then {T = T} {U = U} P Q ts v rest = (u : U) × (mid : List T) × P ts u mid × 
 abbrev pub Done : {T V : Type 0} → V → Phrases T V
 Done v ts v' rest = (v ≡ v') × (ts ≡ rest)
 
+-- any number of them one after another
+pub data Many {T V : Type 0} (P : Phrases T V) : List T → List V → List T → Type 0 where
+  none : {ts : List T} → Many P ts [] ts
+  more : {ts mid rest : List T} {v : V} {vs : List V} → P ts v mid → Many P mid vs rest → Many P ts (v ∷ vs) rest
+
+-- one or more of them
+abbrev pub Several : {T V : Type 0} → Phrases T V → Phrases T (List V)
+Several P = Then P (λ v. Then (Many P) (λ vs. Done (v ∷ vs)))
+
 -- Elements one after another. The function says of the token after each of them whether it is followed by another one.
 pub data Listed {T V : Type 0} (P : Phrases T V) (more : T → Option Bool) : List T → List V → List T → Type 0 where
   last : {ts mid rest : List T} {t : T} {v : V} → P ts v mid → mid ≡ t ∷ rest → more t ≡ Some false → Listed P more ts (v ∷ []) rest

@@ -1,12 +1,12 @@
 -- Where a program ends, and the faulty token from where the parser stops.
-use Rattle.std.proofs.Common.{◌≡◌, ◌≢◌, ◌≤◌, inl, inr, ℕ, suc, List, [], ◌∷◌, ◌++◌, length, drop, Option, Some, None, Bool, true, false, if◌then◌else◌, Bor, refl, sym, ap, ◌∙◌, subst, arith}
-use Rattle.std.proofs.lemmas.List.{take-append-drop}
+use Rattle.std.proofs.Common.{◌≡◌, ◌≢◌, ◌≤◌, inl, inr, ℕ, suc, List, [], ◌∷◌, ◌++◌, length, Option, Some, None, Bool, true, false, if◌then◌else◌, Bor, refl, sym, ap, ◌∙◌, subst, arith}
 use Rattle.dk_base.specs.declared.span.Span.{Span}
 use Rattle.dk_lexer.specs.declared.token.Token.{Token}
 use Rattle.dk_lexer.specs.declared.token.Symbol.TheVariants.{Open, Close, Comma, Colon, Equal}
 use Rattle.dk_grammar.specs.Reading.{Stuck, end, link}
 use Rattle.dk_grammar.proofs.Clears.{append_nil}
 use Rattle.dk_grammar.proofs.Stucks.{faulty}
+use Rattle.dk_grammar.proofs.Faulty.{none_faulty}
 use Rattle.dk_parser.specs.declared.halt.Halt.{Halt}
 use Rattle.dk_parser.specs.declared.halt.Halt.TheVariants.{Faulty}
 use Rattle.dk_parser.specs.declared.items.Lead.{Lead}
@@ -24,7 +24,7 @@ use Rattle.dk_parser.specs.Faults.{Halts}
 use Rattle.dk_parser.specs.Grammar.{Tokens}
 use Rattle.dk_parser.specs.Nest.{unclosed, StaysShallow, PassesAt}
 use Rattle.dk_parser.specs.Programs.{Source, Definition, Item, declares, AfterDeclares, ADefinition, AnItem, lead_of, allowed, may_follow, next, is_end, Items, AProgram}
-use Rattle.dk_parser.specs.Judged.{Derives, IsFaultyAt, Accepted, AreShallow, first_deep, Faults}
+use Rattle.dk_parser.specs.Judged.{Derives, IsProgram, IsFaultyAt, Accepted, AreShallow, first_deep, Faults}
 use Rattle.dk_parser.proofs.Depths.{shallow}
 use Rattle.dk_parser.proofs.Free.{Free, Front, IsFree, both, one, free_then, free_one, free_done, free_mark, free_name, free_literal, free_type, free_closed, no_more, ended_rest}
 use Rattle.dk_parser.proofs.Keeping.{clear_program}
@@ -71,11 +71,11 @@ picked : (b : Bool) (m n : Lead) → (if b then Some m else None) ≡ Some n →
 picked true m n e = some_same m n e
 picked false m n e = absurd (cc (e))
 
-allowed_some : (l : Lead) (o : Option Lead) (n : Lead) → allowed l o ≡ Some n → o ≡ Some n
+pub allowed_some : (l : Lead) (o : Option Lead) (n : Lead) → allowed l o ≡ Some n → o ≡ Some n
 allowed_some l None n e = absurd (cc (e))
 allowed_some l (Some m) n e = ap Some (picked (may_follow l m) m n e)
 
-ends_only : (k : Terminal) → lead_of k ≡ Some lead.End → k ≡ EndOfText
+pub ends_only : (k : Terminal) → lead_of k ≡ Some lead.End → k ≡ EndOfText
 ends_only EndOfText e = refl
 ends_only (Keyword word.Input) e = absurd (cc (e))
 ends_only _ e = absurd (cc (e))
@@ -154,7 +154,7 @@ few : (n : ℕ) (ts : Tokens) → StaysShallow n ts → n ≤ 128
 few n [] s = s
 few n (t ∷ ts) s = s.0
 
-not_both : (n : ℕ) (ts : Tokens) (span : Span) → StaysShallow n ts → PassesAt n ts span → ⊥
+pub not_both : (n : ℕ) (ts : Tokens) (span : Span) → StaysShallow n ts → PassesAt n ts span → ⊥
 not_both n [] span s p = p
 not_both n (t ∷ ts) span s (inl p) =
     let k = p.1 in
@@ -169,9 +169,7 @@ none_deep (d ∷ ds) a = rw (shallow d.body a.0) (none_deep ds a.1)
 pub no_fault : (ts : Tokens) (p : Source) (f : ParseError) → Accepted ts p → Faults ts f → f ≡ Memory
 no_fault ts p (Nest span) a q = absurd (not_both 0 ts span a.nests q)
 no_fault ts p (Syntax span) a q =
-    let f = q.1.faulty in
-    let k = suc q.1.index in
-    absurd (f.none (drop k ts, (p, subst (λ x. Derives x p) (sym (take-append-drop k ts)) a.derives)))
+    absurd (none_faulty IsProgram ts q.1.index (p, a.derives) q.1.faulty)
 no_fault ts p (Depth span) a q =
     let d = q.1 in
     let same : d.program ≡ p = one_program ts d.program p d.derives a.derives in

@@ -11,3 +11,6 @@ pub mod Free
 pub mod Keeping
 pub mod Ending
 pub mod LexedEnd
+pub mod Ruled
+pub mod Exclusion
+pub mod TypeWords

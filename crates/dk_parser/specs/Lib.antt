@@ -12,5 +12,6 @@ pub mod Grown
 pub mod Nest
 pub mod Ended
 pub mod Programs
+pub mod Rules
 pub mod Judged
 pub mod Kept

@@ -71,6 +71,7 @@ fn bodies(rt: HostRuntime) -> Result<(), Fail> {
     for (source, want) in [
         (b"a(x,y)/3 as u8".as_slice(), "Syntax 43-45"),
         (b"a(x,y)<1<2", "Syntax 42-43"),
+        (b"1<2|3<4", "Syntax 39-40"),
         (b"!-a(x,y)", "Syntax 35-36"),
         (b"a(x,y) as u8 as s9", "ok"),
         (b"1<<3+1", "Syntax 38-39"),

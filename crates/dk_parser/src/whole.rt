@@ -1,11 +1,15 @@
 // Programs.
 
-ghost use Rattle.std.specs.Prelude.{◌≡◌, MatchResult};
+ghost use Rattle.std.specs.Prelude.{◌≡◌, ◌≢◌, ◌↔◌, ℕ, List, MatchResult};
 ghost use Rattle.dk_parser.specs.declared.whole.ParseError.{ParseError};
 ghost use Rattle.dk_parser.specs.Faults.{Halts};
+ghost use Rattle.dk_base.specs.declared.ty.Ty.{Ty};
+ghost use Rattle.dk_parser.specs.declared.terminal.Terminal.{Terminal};
+ghost use Rattle.dk_parser.specs.Terminals.{terminal_of_word};
 ghost use Rattle.dk_parser.specs.Grammar.{Tokens};
 ghost use Rattle.dk_lexer.specs.Faithful.{IsEnded};
 ghost use Rattle.dk_parser.specs.Programs.{Source, AProgram, source_of};
+ghost use Rattle.dk_parser.specs.Rules.{ProgramRule, IsTypeWord};
 ghost use Rattle.dk_parser.specs.Judged.{Derives, Accepted, Faults};
 ghost use Rattle.dk_parser.specs.Kept.{GrownProgram};
 
@@ -72,8 +76,11 @@ pub fn parse(alloc: Global, tokens: &[Token]) -> Result<Program, ParseError>
     }
 }
 
-/// Tokens have one program, and no fault beside it but want of memory.
+/// Tokens have one program, or one fault, but for want of memory; and a program is what the rules of the grammar say.
 pub fn one_judgement()
     ensures program { (ts : Tokens) (p q : Source) → Derives ts p → Derives ts q → p ≡ q }
-    ensures fault { (ts : Tokens) (p : Source) (f : ParseError) → Accepted ts p → Faults ts f → f ≡ ParseError.Memory }
+    ensures none_beside { (ts : Tokens) (p : Source) (f : ParseError) → Accepted ts p → Faults ts f → f ≡ ParseError.Memory }
+    ensures one_fault { (ts : Tokens) (f g : ParseError) → Faults ts f → Faults ts g → f ≢ ParseError.Memory → g ≢ ParseError.Memory → f ≡ g }
+    ensures rules { (ts : Tokens) (p : Source) (rest : Tokens) → AProgram ts p rest ↔ ProgramRule ts p rest }
+    ensures type_words { (bytes : List ℕ) (t : Ty) → terminal_of_word bytes ≡ Terminal.TypeWord t ↔ IsTypeWord bytes t }
 {}
