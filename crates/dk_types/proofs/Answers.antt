@@ -1,9 +1,7 @@
 -- The one answer for each expression: its types and its first fault are that answer.
-use Rattle.std.proofs.Common.{◌≡◌, ℕ, ◌<◌, ◌≤◌, Bool, true, false, not, ◌&&◌, ◌||◌, nat_lt, nat_le, Option, Some, None, Result, Ok, Err, slice_get, if◌then◌else◌, cond, refl, sym, ap, ◌∙◌, arith}
+use Rattle.std.proofs.Common.{◌≡◌, ℕ, ◌<◌, ◌≤◌, Bool, true, false, not, ◌&&◌, ◌||◌, nat_lt, nat_le, Option, Some, None, Result, Ok, Err, slice_get, if◌then◌else◌, refl, sym, arith}
 use Rattle.dk_base.specs.declared.span.Span.{Span}
 use Rattle.dk_base.specs.declared.ty.Ty.{Ty}
-use Rattle.dk_base.specs.declared.ty.Ty.TheVariants.{Unsigned, Signed}
-use Rattle.dk_base.specs.declared.operator.Binary.{Binary}
 use Rattle.dk_base.specs.declared.operator.Conversion.{Conversion}
 use Rattle.dk_base.specs.declared.operator.Conversion.TheVariants.{Cast, Saturate}
 use Rattle.dk_base.specs.Types.{IsType, width_of, is_signed, is_bit, common_type, negation_type, shifted_type}
@@ -20,9 +18,8 @@ use Rattle.dk_parser.specs.Tree.{Tree, span_of}
 use Rattle.dk_parser.specs.Tree as T
 use Rattle.dk_types.specs.declared.fault.TypeFault.{TypeFault}
 use Rattle.dk_types.specs.declared.fault.TypeFaultKind.TheVariants.{UnknownImage, OffsetRange, WidthTooGreat, NotOneBit, SignedBits, ZeroDivisor, ShiftRange}
-use Rattle.dk_types.specs.declared.typed.TypedRead.{TypedRead}
 use Rattle.dk_types.specs.Typed.{Typed, constant, fetch, single, double, scaled, converted, chosen, type_of}
-use Rattle.dk_types.specs.Scopes.{Scope, IsImage, IsUnknown, image_of, types_in}
+use Rattle.dk_types.specs.Scopes.{Scope, image_of, types_in}
 use Rattle.dk_types.specs.Operations.{unary_of, binary_of, scaling_of, amount_of, offset_of}
 use Rattle.dk_types.specs.Types.{HasType}
 use Rattle.dk_types.specs.Types as H

@@ -1,10 +1,9 @@
 -- From the parts of a program to the whole.
-use Rattle.std.proofs.Common.{◌≡◌, ℕ, ◌≤◌, ◌⊎◌, inl, inr, List, length, Result, Ok, Err, MatchResult, refl, sym, ap, ◌∙◌, subst, arith}
+use Rattle.std.proofs.Common.{◌≡◌, ℕ, ◌≤◌, ◌⊎◌, inl, inr, List, length, Result, Ok, Err, MatchResult, refl, ap, ◌∙◌, subst, arith}
 use Rattle.std.specs.Result.{IsErrAnd}
 use Rattle.dk_base.specs.Frames.{Size}
 use Rattle.dk_parser.specs.declared.tree.Input.{Input}
 use Rattle.dk_parser.specs.declared.tree.Name.{Name}
-use Rattle.dk_parser.specs.declared.tree.Def.{Def}
 use Rattle.dk_parser.specs.Programs.{Source, definitions_as as sources_as}
 use Rattle.dk_parser.specs.Programs as P
 use Rattle.dk_types.specs.declared.fault.TypeFault.{TypeFault}
@@ -13,7 +12,7 @@ use Rattle.dk_types.specs.declared.fault.TypeError.TheVariants.{Fault, Memory}
 use Rattle.dk_types.specs.declared.typed.TypedInput.{TypedInput}
 use Rattle.dk_types.specs.Typed.{Definition, Typing}
 use Rattle.dk_types.specs.Scopes.{Scope, inputs_scope, scope_of}
-use Rattle.dk_types.specs.Types.{IsSide, IsInput, AreInputs, AreDefinitions, AreOutputs, IsTyping}
+use Rattle.dk_types.specs.Types.{IsSide, AreInputs, AreDefinitions, IsTyping}
 use Rattle.dk_types.specs.Faults.{Stops, FaultyInputs, FaultyDefinitions, FaultyOutputs, IsFirstFault}
 use Rattle.dk_types.specs.Faults as F
 use Rattle.dk_types.proofs.Kept.{inputs_few}

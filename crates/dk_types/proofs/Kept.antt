@@ -1,9 +1,8 @@
 -- A program that has a typing keeps what the type promises.
-use Rattle.std.proofs.Common.{◌≡◌, ℕ, zero, suc, ◌+◌, ◌<◌, ◌≤◌, Bool, true, false, ℤ, pos, neg_ℤ, List, [], ◌∷◌, ◌++◌, length, map, slice_get, Option, Some, None, refl, sym, ap, ◌∙◌, subst, arith, length-append, append_assoc, append-nil}
+use Rattle.std.proofs.Common.{◌≡◌, ℕ, zero, suc, ◌+◌, ◌≤◌, Bool, true, false, List, [], ◌∷◌, ◌++◌, length, map, Option, Some, None, refl, sym, ap, ◌∙◌, subst, arith, length-append, append_assoc, append-nil}
 use Rattle.std.proofs.lemmas.List.{map-append}
 use Rattle.std.proofs.lemmas.Int.{ints}
 use Rattle.dk_base.specs.declared.ty.Ty.{Ty}
-use Rattle.dk_base.specs.Types.{IsType}
 use Rattle.dk_base.specs.Frames.{Size, IsFrame}
 use Rattle.dk_parser.specs.declared.tree.Offset.{Offset}
 use Rattle.dk_parser.specs.declared.tree.Name.{Name}
@@ -12,13 +11,13 @@ use Rattle.dk_parser.specs.Tree.{Tree}
 use Rattle.dk_parser.specs.Programs.{Source}
 use Rattle.dk_parser.specs.Programs as P
 use Rattle.dk_types.specs.declared.typed.TypedInput.{TypedInput}
-use Rattle.dk_types.specs.Typed.{Typed, type_of, Definition, Typing, image_type, input_types, types_of}
-use Rattle.dk_types.specs.Scopes.{Named, Scope, types_in, inputs_scope, scope_of, input_named, definition_named}
+use Rattle.dk_types.specs.Typed.{Typed, type_of, Definition, Typing, image_type, input_types}
+use Rattle.dk_types.specs.Scopes.{Named, Scope, types_in, inputs_scope, scope_of, definition_named}
 use Rattle.dk_types.specs.Operations.{amount_of, offset_of, signed}
 use Rattle.dk_types.specs.Sequences.{Each, none, next}
 use Rattle.dk_types.specs.Types.{HasType, IsPort, Takes, IsInput, IsDefinition, IsOutput, IsTyping}
 use Rattle.dk_types.specs.Types as H
-use Rattle.dk_types.specs.Kept.{IsNear, IsReadOf, IsWell, AreWell, ArePorts, IsOutputOf, AreOutputsOf, IsTyped}
+use Rattle.dk_types.specs.Kept.{IsNear, IsWell, AreWell, ArePorts, AreOutputsOf, IsTyped}
 
 signed_near : (b : Bool) (n : ℕ) → n ≤ 64 → IsNear (signed b n)
 signed_near false n h = record { least = omega (arith, ints); most = omega (arith, ints) }

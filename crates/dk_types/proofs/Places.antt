@@ -1,5 +1,5 @@
 -- From what the code finds to the rules on inputs, definitions and outputs.
-use Rattle.std.proofs.Common.{◌≡◌, ◌≢◌, ℕ, suc, ◌+◌, ◌<◌, ◌≤◌, Bool, true, false, IsTrue, ◌↔◌, List, [], ◌∷◌, ◌++◌, length, map, Option, Some, None, refl, sym, ap, ◌∙◌, subst, arith, length-append}
+use Rattle.std.proofs.Common.{◌≡◌, ℕ, suc, ◌<◌, ◌≤◌, Bool, true, false, IsTrue, ◌↔◌, List, [], ◌∷◌, ◌++◌, length, Option, Some, None, refl, sym, ap, ◌∙◌, subst, arith}
 use Rattle.std.proofs.lemmas.List.{map-append}
 use Rattle.dk_base.specs.declared.span.Span.{Span}
 use Rattle.dk_base.specs.declared.ty.Ty.{Ty}
@@ -12,12 +12,12 @@ use Rattle.dk_parser.specs.Programs as P
 use Rattle.dk_types.specs.declared.fault.TypeFault.{TypeFault}
 use Rattle.dk_types.specs.declared.fault.TypeError.{TypeError}
 use Rattle.dk_types.specs.declared.fault.TypeError.TheVariants.{Fault, Memory}
-use Rattle.dk_types.specs.declared.fault.TypeFaultKind.TheVariants.{SizeRange, InputType, TooManyInputs, TooManyOutputs, TooManyImages, DuplicateName, UnknownImage, NotConvertible, OutputType}
+use Rattle.dk_types.specs.declared.fault.TypeFaultKind.TheVariants.{InputType, TooManyInputs, TooManyOutputs, TooManyImages, DuplicateName, UnknownImage, NotConvertible, OutputType}
 use Rattle.dk_types.specs.declared.typed.TypedInput.{TypedInput}
 use Rattle.dk_types.specs.declared.typed.TypedDefinition.{TypedDefinition}
 use Rattle.dk_types.specs.Typed.{Typed, type_of, Definition, definition_of, definitions_as}
 use Rattle.dk_types.specs.Scopes.{Scope, IsImage, IsUnknown, inputs_scope, scope_of, name_among}
-use Rattle.dk_types.specs.Types.{HasType, IsPort, Takes, declared_type, IsInput, IsDefinition, IsOutput}
+use Rattle.dk_types.specs.Types.{HasType, IsPort, Takes, declared_type}
 use Rattle.dk_types.specs.Faults.{Faulty, Stops, at, InputFault, DefinitionFault, OutputFault}
 use Rattle.dk_types.proofs.Rules.{told}
 

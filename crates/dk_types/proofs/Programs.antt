@@ -1,26 +1,24 @@
 -- The one answer for each program.
-use Rattle.std.proofs.Common.{◌≡◌, ◌≢◌, ℕ, ◌<◌, ◌≤◌, Bool, true, false, ◌&&◌, nat_lt, nat_le, List, [], ◌∷◌, ◌++◌, length, Option, Some, None, Result, Ok, Err, if◌then◌else◌, cond, refl, sym, ap, ◌∙◌, subst, append-nil, append_assoc, arith}
+use Rattle.std.proofs.Common.{◌≡◌, ℕ, ◌<◌, ◌≤◌, Bool, true, false, ◌&&◌, nat_lt, nat_le, List, [], ◌∷◌, ◌++◌, length, Option, Some, None, Ok, Err, refl, sym, ap, arith}
 use Rattle.dk_base.specs.declared.ty.Ty.{Ty}
 use Rattle.dk_base.specs.declared.ty.Ty.TheVariants.{Unsigned, Signed}
 use Rattle.dk_base.specs.Frames.{Size}
-use Rattle.dk_base.specs.Types.{IsType, converts}
-use Rattle.dk_parser.specs.declared.tree.Literal.{Literal}
+use Rattle.dk_base.specs.Types.{converts}
 use Rattle.dk_parser.specs.declared.tree.Name.{Name}
 use Rattle.dk_parser.specs.declared.tree.Input.{Input}
-use Rattle.dk_parser.specs.Tree.{Tree, span_of}
+use Rattle.dk_parser.specs.Tree.{span_of}
 use Rattle.dk_parser.specs.Programs.{Source}
 use Rattle.dk_parser.specs.Programs as P
 use Rattle.dk_types.specs.declared.fault.TypeFault.{TypeFault}
-use Rattle.dk_types.specs.declared.fault.TypeFaultKind.{TypeFaultKind}
 use Rattle.dk_types.specs.declared.fault.TypeFaultKind.TheVariants.{SizeRange, InputType, TooManyInputs, TooManyOutputs, TooManyImages, DuplicateName, UnknownImage, NotConvertible, OutputType}
 use Rattle.dk_types.specs.declared.typed.TypedInput.{TypedInput}
 use Rattle.dk_types.specs.Typed.{Typed, type_of, Definition, Typing}
 use Rattle.dk_types.specs.Scopes.{Scope, image_of, types_in, inputs_scope, scope_of, name_among}
 use Rattle.dk_types.specs.Sequences.{Each, First, none, next, here, later}
-use Rattle.dk_types.specs.Types.{IsSide, IsPort, IsTaken, Takes, declared_type, IsInput, IsDefinition, IsOutput, IsTyping}
+use Rattle.dk_types.specs.Types.{IsSide, IsPort, Takes, declared_type, IsInput, IsDefinition, IsOutput, IsTyping}
 use Rattle.dk_types.specs.Faults.{at, InputFault, DefinitionFault, OutputFault, IsFirstFault}
 use Rattle.dk_types.specs.Faults as F
-use Rattle.dk_types.proofs.Answers.{Answer, answer, is_type, type_is, is_a_type, not_type, typed_answer, faulty_answer, true_or_false}
+use Rattle.dk_types.proofs.Answers.{Answer, answer, is_type, type_is, is_a_type, typed_answer, faulty_answer, true_or_false}
 use Rattle.std.specs.Prelude.{slice_get}
 
 -- sequences

@@ -1,10 +1,10 @@
 -- From what the code finds to the rules on types and faults of expressions.
-use Rattle.std.proofs.Common.{◌≡◌, ◌≢◌, ℕ, ◌<◌, ◌≤◌, ◌^◌, Bool, true, false, nat_eq, nat_lt, nat_le, Option, Some, None, if◌then◌else◌, refl, sym, ap, ◌∙◌, subst, arith, Fits, w64, w32, List, ℤ, zero, suc}
+use Rattle.std.proofs.Common.{◌≡◌, ℕ, ◌<◌, ◌≤◌, Bool, true, false, nat_eq, nat_lt, nat_le, Option, Some, None, if◌then◌else◌, refl, sym, ap, ◌∙◌, subst, arith, Fits, w64, w32, List, ℤ, zero, suc}
 use Rattle.std.proofs.Common.{SFits, to_z, of_z}
 use Rattle.std.proofs.lemmas.Int.{to_z-of_z}
 use Rattle.dk_base.specs.declared.span.Span.{Span}
 use Rattle.dk_base.specs.declared.ty.Ty.{Ty}
-use Rattle.dk_base.specs.declared.ty.Ty.TheVariants.{Unsigned, Signed}
+use Rattle.dk_base.specs.declared.ty.Ty.TheVariants.{Unsigned}
 use Rattle.dk_base.specs.declared.operator.Unary.{Unary}
 use Rattle.dk_base.specs.declared.operator.Binary.{Binary}
 use Rattle.dk_base.specs.declared.operator.Scaling.{Scaling}

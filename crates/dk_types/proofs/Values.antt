@@ -1,6 +1,5 @@
 -- The values of expressions and images are in their types.
-use Rattle.std.proofs.Common.{◌≡◌, ℕ, zero, suc, ◌+◌, ◌-◌, ◌<◌, ◌≤◌, ◌^◌, Bool, true, false, nat_eq, nat_le, ℤ, pos, ◌+ℤ◌, List, [], ◌∷◌, ◌++◌, length, map, slice_get, Option, Some, None, if◌then◌else◌, refl, sym, ap, ◌∙◌, subst, arith, append-nil, append_assoc, length-append}
-use Rattle.std.specs.Prelude.{slice_index_or}
+use Rattle.std.proofs.Common.{◌≡◌, ℕ, zero, suc, ◌-◌, ◌≤◌, Bool, true, false, nat_eq, nat_le, ℤ, pos, ◌+ℤ◌, List, [], ◌∷◌, ◌++◌, length, map, Option, Some, None, if◌then◌else◌, refl, sym, ap, ◌∙◌, subst, arith, append-nil, append_assoc, length-append}
 use Rattle.std.proofs.lemmas.Int.{ints}
 use Rattle.std.proofs.lemmas.Nat.{pow_pos}
 use Rattle.dk_base.specs.declared.ty.Ty.{Ty}
@@ -11,7 +10,7 @@ use Rattle.dk_base.specs.declared.operator.Scaling.{Scaling}
 use Rattle.dk_base.specs.declared.operator.Scaling.TheVariants.{Divide, ShiftLeft, ShiftRight}
 use Rattle.dk_base.specs.Types.{IsType, IsIn, width_of, is_bit, common_type, negation_type, magnitude_type, shifted_type}
 use Rattle.dk_base.specs.Numbers.{bit_count}
-use Rattle.dk_base.specs.Operators.{limited, literal_type, unary_type, scaling_type, select_type}
+use Rattle.dk_base.specs.Operators.{limited, unary_type, scaling_type, select_type}
 use Rattle.dk_base.specs.Frames.{Size, Picture, in_frame, clamped}
 use Rattle.dk_base.proofs.BitCounts.{bit_count_is, bit_count_type, bit_count_in}
 use Rattle.dk_base.proofs.Ranges.{common_some}
@@ -21,7 +20,7 @@ use Rattle.dk_types.specs.declared.typed.TypedRead.{TypedRead}
 use Rattle.dk_types.specs.Typed.{Typed, constant, fetch, single, double, scaled, converted, chosen, type_of, Definition, Typing, declared_or, image_type, input_types, types_of}
 use Rattle.dk_types.specs.Types.{IsPort, Takes}
 use Rattle.dk_types.specs.Kept.{IsReadOf, IsWell, AreWell, ArePorts, IsTyped}
-use Rattle.dk_types.specs.Meaning.{nothing, picture_at, framed, read_value, value, pictures, meaning, AreIn, AreTypes}
+use Rattle.dk_types.specs.Meaning.{picture_at, framed, read_value, value, pictures, meaning, AreIn, AreTypes}
 
 -- types of results
 limited_type : (s t : Ty) → 1 ≤ width_of s → limited s ≡ Some t → IsType t

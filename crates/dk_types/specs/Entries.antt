@@ -1,9 +1,9 @@
 -- The images that a map of names keeps.
-use Rattle.std.specs.Prelude.{◌≡◌, ℕ, ◌≤◌, List, [], ◌∷◌, length, slice_get, map, Some}
+use Rattle.std.specs.Prelude.{◌≡◌, ℕ, ◌≤◌, List, length, slice_get, map, Some}
 use Rattle.std.specs.Borrow.{Bor}
 use Rattle.dk_base.specs.declared.ty.Ty.{Ty}
 use Rattle.dk_base.specs.Types.{IsType}
-use Rattle.dk_types.specs.Scopes.{Named, Scope, IsImage, types_in}
+use Rattle.dk_types.specs.Scopes.{Scope, IsImage, types_in}
 
 -- the entries of a map, each a slice and a type, as images
 abbrev pub named_in : List (Bor (List ℕ) × Ty) → Scope

@@ -1,5 +1,5 @@
 -- What the operators of the text mean.
-use Rattle.std.specs.Prelude.{Bool, true, false, ℕ, ℤ, pos, neg_ℤ, Option, Some, None, if◌then◌else◌}
+use Rattle.std.specs.Prelude.{Bool, ℕ, ℤ, pos, neg_ℤ, Option, Some, None, if◌then◌else◌}
 use Rattle.dk_base.specs.declared.operator.Unary.{Unary}
 use Rattle.dk_base.specs.declared.operator.Unary.TheVariants as unary
 use Rattle.dk_base.specs.declared.operator.Binary.{Binary}

@@ -1,5 +1,5 @@
 -- What names stand for: the images that may be read at a place of the text.
-use Rattle.std.specs.Prelude.{◌≡◌, ℕ, ◌≤◌, Bool, List, ◌++◌, map, length, nat_eq, slice_get, position, Option, Some, None}
+use Rattle.std.specs.Prelude.{◌≡◌, ℕ, Bool, List, ◌++◌, map, nat_eq, slice_get, position, Option, Some, None}
 use Rattle.std.specs.Cmp.Lexicographic.{pointwise}
 use Rattle.dk_base.specs.declared.ty.Ty.{Ty}
 use Rattle.dk_parser.specs.declared.tree.Name.{Name}

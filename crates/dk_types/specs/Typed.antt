@@ -1,5 +1,5 @@
 -- Typed programs, without where they lie in memory.
-use Rattle.std.specs.Prelude.{ℕ, Bool, List, [], ◌∷◌, ◌++◌, map, Option, Some, None}
+use Rattle.std.specs.Prelude.{ℕ, Bool, List, ◌++◌, map, Option, Some, None}
 use Rattle.dk_base.specs.declared.ty.Ty.{Ty}
 use Rattle.dk_base.specs.declared.operator.Unary.{Unary}
 use Rattle.dk_base.specs.declared.operator.Binary.{Binary}

@@ -1,9 +1,7 @@
-use Rattle.std.proofs.Common.{ap, sym, ◌∙◌}
 use Rattle.std.proofs.lemmas.Result.{err_from_is_err_and}
 use Rattle.dk_parser.specs.Tree.{tree_of}
 use Rattle.dk_parser.proofs.Depths.{span_at}
 use Rattle.dk_types.specs.Typed.{typed_of}
-use Rattle.dk_types.specs.Operations.{unary_of, binary_of, scaling_of}
 use Rattle.dk_types.proofs.Rules as R
 use Rattle.dk_types.proofs.expression.binary.Goals as goal
 

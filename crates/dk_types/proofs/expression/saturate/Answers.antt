@@ -1,9 +1,6 @@
-use Rattle.std.proofs.Common.{ap, sym, ◌∙◌, refl}
+use Rattle.std.proofs.Common.{refl}
 use Rattle.std.proofs.lemmas.Result.{err_from_is_err_and}
 use Rattle.dk_parser.specs.Tree.{tree_of}
-use Rattle.dk_parser.proofs.Depths.{span_at}
-use Rattle.dk_types.specs.Typed.{typed_of}
-use Rattle.dk_types.specs.Operations.{unary_of, binary_of, scaling_of}
 use Rattle.dk_parser.specs.Tree as T
 use Rattle.dk_types.specs.Faults.{Faulty, at}
 use Rattle.dk_types.specs.Faults as F

@@ -1,4 +1,4 @@
-use Rattle.std.proofs.Common.{sym, ap, ◌∙◌, subst, [], ◌∷◌, ◌++◌, List, take, drop, ◌+◌, ◌≡◌, arith, append-nil, length, length-append}
+use Rattle.std.proofs.Common.{sym, ap, ◌∙◌, subst, [], ◌∷◌, List, take, arith, append-nil, length, length-append}
 use Rattle.std.proofs.lemmas.Result.{err_from_is_err_and}
 use Rattle.dk_parser.specs.Programs.{definition_of as source_of, definitions_as as sources_as}
 use Rattle.dk_types.specs.declared.typed.TypedDefinition.{TypedDefinition}

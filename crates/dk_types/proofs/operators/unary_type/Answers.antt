@@ -1,4 +1,3 @@
-use Rattle.std.proofs.Common.{rules}
 use Rattle.dk_types.proofs.Rules as R
 use Rattle.dk_types.proofs.operators.unary_type.Goals as goal
 

@@ -1,11 +1,11 @@
-use Rattle.std.proofs.Common.{refl, sym, ap, ◌∙◌, subst, List}
+use Rattle.std.proofs.Common.{refl, sym, ap, subst, List}
 use Rattle.std.proofs.lemmas.Result.{err_from_is_err_and}
 use Rattle.dk_parser.specs.declared.tree.Input.{Input}
 use Rattle.dk_parser.specs.declared.tree.Name.{Name}
 use Rattle.dk_parser.specs.declared.tree.Def.{Def}
 use Rattle.dk_parser.specs.Programs.{source_of, definitions_as as sources_as}
 use Rattle.dk_types.specs.Typed.{Parts, typing_of, parts_of, definitions_as}
-use Rattle.dk_types.specs.Scopes.{Scope, scope_of}
+use Rattle.dk_types.specs.Scopes.{Scope}
 use Rattle.dk_types.specs.Types.{IsTyping, AreInputs, AreDefinitions, AreOutputs}
 use Rattle.dk_types.specs.Faults.{IsFirstFault}
 use Rattle.dk_types.specs.Faults as F
