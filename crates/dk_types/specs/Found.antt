@@ -1,0 +1,28 @@
+-- What is answered for an expression.
+use Rattle.std.specs.Prelude.{◌≡◌, ◌<◌, Option, Some, Result, MatchResult}
+use Rattle.dk_base.specs.declared.span.Span.{Span}
+use Rattle.dk_base.specs.Types.{IsType}
+use Rattle.dk_parser.specs.declared.tree.Offset.{Offset}
+use Rattle.dk_parser.specs.Tree.{Tree}
+use Rattle.dk_types.specs.declared.typed.TypedExpr.{TypedExpr}
+use Rattle.dk_types.specs.declared.fault.TypeError.{TypeError}
+use Rattle.dk_types.specs.Scopes.{Scope}
+use Rattle.dk_types.specs.Typed.{typed_of}
+use Rattle.dk_types.specs.Types.{HasType}
+use Rattle.dk_types.specs.Faults.{Faulty, Stops}
+
+-- the expression is typed so
+pub record IsTypedAs (scope : Scope) (e : Tree) (t : TypedExpr) : Type 0 where
+  pub has : HasType scope e (typed_of t)
+  pub is_type : IsType t.ty
+
+-- the expression's typed form, or its first fault
+abbrev pub Judged : Scope → Tree → Result TypedExpr TypeError → Type 0
+Judged scope e r = MatchResult r (λ t. IsTypedAs scope e t) (λ stop. Stops (Faulty scope e) stop)
+
+-- the number of this offset is too great
+pub record IsFarAt (offset : Option Offset) (span : Span) : Type 0 where
+  pub written : Offset
+  pub is : offset ≡ Some written
+  pub far : 64 < written.amount.value
+  pub stands : written.amount.span ≡ span

@@ -1,0 +1,11 @@
+pub mod Typed
+pub mod Scopes
+pub mod Entries
+pub mod Sequences
+pub mod Operations
+pub mod Types
+pub mod Faults
+pub mod Found
+pub mod Kept
+pub mod Meaning
+pub mod Reads

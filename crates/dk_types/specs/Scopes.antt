@@ -1,0 +1,53 @@
+-- What names stand for: the images that may be read at a place of the text.
+use Rattle.std.specs.Prelude.{◌≡◌, ℕ, Bool, List, ◌++◌, map, nat_eq, slice_get, position, Option, Some, None}
+use Rattle.std.specs.Cmp.Lexicographic.{pointwise}
+use Rattle.dk_base.specs.declared.ty.Ty.{Ty}
+use Rattle.dk_parser.specs.declared.tree.Name.{Name}
+use Rattle.dk_types.specs.declared.typed.TypedInput.{TypedInput}
+use Rattle.dk_types.specs.Typed.{Definition, image_type}
+
+-- an image, by its name
+pub record Named : Type 0 where
+  pub name : List ℕ
+  pub ty : Ty
+
+-- images in the order of the text, inputs first
+abbrev pub Scope : Type 0
+Scope = List Named
+
+-- the same bytes
+abbrev pub is_same : List ℕ → List ℕ → Bool
+is_same a b = pointwise nat_eq a b
+
+-- the number of the first image with this name
+abbrev pub image_of : Scope → List ℕ → Option ℕ
+image_of scope name = position (λ i. is_same name i.name) scope
+
+abbrev pub types_in : Scope → List Ty
+types_in scope = map (λ i. i.ty) scope
+
+-- the name stands for image g, which has the type t
+pub record IsImage (scope : Scope) (name : List ℕ) (g : ℕ) (t : Ty) : Type 0 where
+  pub number : image_of scope name ≡ Some g
+  pub type : slice_get (types_in scope) g ≡ Some t
+
+-- the name stands for no image
+abbrev pub IsUnknown : Scope → List ℕ → Type 0
+IsUnknown scope name = image_of scope name ≡ None
+
+abbrev pub input_named : TypedInput → Named
+input_named i = record { name = i.name.text; ty = i.ty }
+
+abbrev pub definition_named : Definition → Named
+definition_named d = record { name = d.name.text; ty = image_type d }
+
+-- the images that inputs make, and those that inputs and definitions make
+abbrev pub inputs_scope : List TypedInput → Scope
+inputs_scope is = map input_named is
+
+abbrev pub scope_of : List TypedInput → List Definition → Scope
+scope_of is ds = inputs_scope is ++ map definition_named ds
+
+-- the name is among these
+abbrev pub name_among : List Name → List ℕ → Option ℕ
+name_among names name = position (λ n. is_same name n.text) names

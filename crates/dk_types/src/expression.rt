@@ -1,0 +1,209 @@
+// The types of expressions.
+
+ghost use Rattle.std.specs.Prelude.{◌≡◌, ◌≤◌, IfOk, IfErr};
+ghost use Rattle.dk_base.specs.Types.{IsType};
+ghost use Rattle.dk_parser.specs.Tree.{tree_of};
+ghost use Rattle.dk_parser.specs.Tree as T;
+ghost use Rattle.dk_types.specs.Scopes.{Scope as Names};
+ghost use Rattle.dk_types.specs.Operations.{offset_of, amount_of};
+ghost use Rattle.dk_types.specs.Found.{Judged, IsTypedAs, IsFarAt};
+
+use crate::fault::{TypeError, TypeFaultKind, fault};
+use crate::operators;
+use crate::scope::Scope;
+use crate::typed::{TypedExpr, TypedNode, TypedRead};
+use dk_base::{Conversion, MAX_OFFSET, Span, Ty, bits_for};
+use dk_parser::{
+    BinaryOperator, Expr, ImageRead, Literal, Node, Offset, ScaleOperator, TypeWord, UnaryOperator,
+};
+use std::alloc::Global;
+
+/// An offset as a number, or where it is too great.
+fn offset(offset: Option<Offset>) -> Result<i32, Span>
+    ensures near { IfOk result (λ v. (v ≡ offset_of offset) × (amount_of offset ≤ 64)) }
+    ensures far { IfErr result (λ s. IsFarAt offset s) }
+{
+    let Some(offset) = offset else {
+        return Ok(0);
+    };
+    if MAX_OFFSET < offset.amount.value {
+        return Err(offset.amount.span);
+    }
+    let amount = offset.amount.value as i32;
+    if offset.negative {
+        Ok(-amount)
+    } else {
+        Ok(amount)
+    }
+}
+
+fn read(scope: &Scope, span: Span, read: &ImageRead) -> Result<TypedExpr, TypeError>
+    ensures { Judged scope.now (T.read span read.now) result }
+{
+    let Some((image, ty)) = scope.find(read.name.text.as_bytes()) else {
+        return Err(fault(read.name.span, TypeFaultKind::UnknownImage));
+    };
+    let dx = match offset(read.x) {
+        Ok(dx) => dx,
+        Err(far) => return Err(fault(far, TypeFaultKind::OffsetRange)),
+    };
+    let dy = match offset(read.y) {
+        Ok(dy) => dy,
+        Err(far) => return Err(fault(far, TypeFaultKind::OffsetRange)),
+    };
+    let node = TypedNode::Read(TypedRead {
+        image,
+        dx,
+        dy,
+        clamped: read.clamped,
+    });
+    Ok(TypedExpr { ty, node })
+}
+
+fn number(span: Span, value: u64) -> TypedExpr
+    ensures { (scope : Names) → IsTypedAs scope (T.number span value) result }
+{
+    TypedExpr {
+        ty: Ty::Unsigned(bits_for(value)),
+        node: TypedNode::Number(value),
+    }
+}
+
+fn unary(
+    alloc: Global,
+    span: Span,
+    operator: UnaryOperator,
+    a: &Expr,
+    operand: TypedExpr,
+) -> Result<TypedExpr, TypeError>
+    requires { IsType operand.ty }
+    ensures { (scope : Names) → IsTypedAs scope (tree_of a.now) operand → Judged scope (T.unary span operator (tree_of a.now)) result }
+{
+    let ty = operators::unary_type(span, operator, a.span, operand.ty)?;
+    let node = TypedNode::Unary(operators::unary(operator), Box::new(alloc, operand)?);
+    Ok(TypedExpr { ty, node })
+}
+
+fn binary(
+    alloc: Global,
+    span: Span,
+    operator: BinaryOperator,
+    a: &Expr,
+    left: TypedExpr,
+    b: &Expr,
+    right: TypedExpr,
+) -> Result<TypedExpr, TypeError>
+    requires left { IsType left.ty }
+    requires right { IsType right.ty }
+    ensures { (scope : Names) → IsTypedAs scope (tree_of a.now) left → IsTypedAs scope (tree_of b.now) right → Judged scope (T.binary span operator (tree_of a.now) (tree_of b.now)) result }
+{
+    let ty = operators::binary_type(span, operator, a.span, left.ty, b.span, right.ty)?;
+    let left = Box::new(alloc, left)?;
+    let right = Box::new(alloc, right)?;
+    let node = TypedNode::Binary(operators::binary(operator), left, right);
+    Ok(TypedExpr { ty, node })
+}
+
+fn scale(
+    alloc: Global,
+    span: Span,
+    operator: ScaleOperator,
+    a: &Expr,
+    operand: TypedExpr,
+    by: Literal,
+) -> Result<TypedExpr, TypeError>
+    requires { IsType operand.ty }
+    ensures { (scope : Names) → IsTypedAs scope (tree_of a.now) operand → Judged scope (T.scale span operator (tree_of a.now) by) result }
+{
+    let ty = operators::scale_type(span, operator, operand.ty, by)?;
+    let operand = Box::new(alloc, operand)?;
+    let node = TypedNode::Scale(operators::scaling(operator), operand, by.value);
+    Ok(TypedExpr { ty, node })
+}
+
+fn cast(
+    alloc: Global,
+    span: Span,
+    a: &Expr,
+    operand: TypedExpr,
+    to: TypeWord,
+) -> Result<TypedExpr, TypeError>
+    ensures { (scope : Names) → IsTypedAs scope (tree_of a.now) operand → Judged scope (T.cast span (tree_of a.now) to) result }
+{
+    let ty = operators::conversion_type(span, to)?;
+    let node = TypedNode::Convert(Conversion::Cast, Box::new(alloc, operand)?);
+    Ok(TypedExpr { ty, node })
+}
+
+fn saturate(
+    alloc: Global,
+    span: Span,
+    a: &Expr,
+    operand: TypedExpr,
+    to: TypeWord,
+) -> Result<TypedExpr, TypeError>
+    ensures { (scope : Names) → IsTypedAs scope (tree_of a.now) operand → Judged scope (T.sat span (tree_of a.now) to) result }
+{
+    let ty = operators::conversion_type(span, to)?;
+    let node = TypedNode::Convert(Conversion::Saturate, Box::new(alloc, operand)?);
+    Ok(TypedExpr { ty, node })
+}
+
+fn select(
+    alloc: Global,
+    span: Span,
+    c: &Expr,
+    condition: TypedExpr,
+    a: &Expr,
+    left: TypedExpr,
+    b: &Expr,
+    right: TypedExpr,
+) -> Result<TypedExpr, TypeError>
+    requires left { IsType left.ty }
+    requires right { IsType right.ty }
+    ensures { (scope : Names) → IsTypedAs scope (tree_of c.now) condition → IsTypedAs scope (tree_of a.now) left → IsTypedAs scope (tree_of b.now) right → Judged scope (T.select span (tree_of c.now) (tree_of a.now) (tree_of b.now)) result }
+{
+    let ty = operators::select_type(span, c.span, condition.ty, left.ty, right.ty)?;
+    let condition = Box::new(alloc, condition)?;
+    let left = Box::new(alloc, left)?;
+    let right = Box::new(alloc, right)?;
+    let node = TypedNode::Select(condition, left, right);
+    Ok(TypedExpr { ty, node })
+}
+
+/// The typed form of an expression.
+pub(crate) fn expression(alloc: Global, scope: &Scope, e: &Expr) -> Result<TypedExpr, TypeError>
+    ensures { Judged scope.now (tree_of e.now) result }
+{
+    match &e.node {
+        Node::Number(value) => Ok(number(e.span, *value)),
+        Node::Read(image_read) => read(scope, e.span, image_read),
+        Node::Unary(operator, a) => {
+            let operand = expression(alloc, scope, a)?;
+            unary(alloc, e.span, *operator, a, operand)
+        }
+        Node::Binary(operator, a, b) => {
+            let left = expression(alloc, scope, a)?;
+            let right = expression(alloc, scope, b)?;
+            binary(alloc, e.span, *operator, a, left, b, right)
+        }
+        Node::Scale(operator, a, by) => {
+            let operand = expression(alloc, scope, a)?;
+            scale(alloc, e.span, *operator, a, operand, *by)
+        }
+        Node::Cast(a, to) => {
+            let operand = expression(alloc, scope, a)?;
+            cast(alloc, e.span, a, operand, *to)
+        }
+        Node::Sat(a, to) => {
+            let operand = expression(alloc, scope, a)?;
+            saturate(alloc, e.span, a, operand, *to)
+        }
+        Node::Select(c, a, b) => {
+            let condition = expression(alloc, scope, c)?;
+            let left = expression(alloc, scope, a)?;
+            let right = expression(alloc, scope, b)?;
+            select(alloc, e.span, c, condition, a, left, b, right)
+        }
+    }
+}

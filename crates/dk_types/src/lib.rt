@@ -1,0 +1,16 @@
+//! The types of a program: each expression with its one type, or the first fault.
+#![tactic(auto)]
+
+mod expression;
+mod fault;
+mod items;
+mod operators;
+mod scope;
+#[cfg(test)]
+mod tests;
+mod typed;
+mod whole;
+
+pub use fault::{TypeError, TypeFault, TypeFaultKind};
+pub use typed::{TypedDefinition, TypedExpr, TypedInput, TypedNode, TypedProgram, TypedRead};
+pub use whole::{check, one_typing, values_in_types};

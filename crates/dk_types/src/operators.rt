@@ -1,0 +1,200 @@
+// The types of what operators give, or the operators' own faults.
+
+ghost use Rattle.std.specs.Prelude.{◌≡◌, Some, true, IsTrue, ◌↔◌, IfOk, IfErr, MatchOption};
+ghost use Rattle.dk_base.specs.declared.ty.Ty.{Ty};
+ghost use Rattle.dk_base.specs.Types.{IsType};
+ghost use Rattle.dk_base.specs.Operators.{unary_type as type_of_unary, binary_type as type_of_binary, is_bitwise as works_bit_by_bit, are_operands, scaling_type as type_of_scaling, select_type as type_of_select};
+ghost use Rattle.dk_parser.specs.Tree as T;
+ghost use Rattle.dk_parser.specs.Tree.{Tree, span_of};
+ghost use Rattle.dk_types.specs.Scopes.{Scope};
+ghost use Rattle.dk_types.specs.Typed.{Typed, type_of};
+ghost use Rattle.dk_types.specs.Types.{HasType};
+ghost use Rattle.dk_types.specs.Faults.{Faulty, Stops, at};
+ghost use Rattle.dk_types.specs.declared.fault.TypeFaultKind.TheVariants.{SignedBits};
+ghost use Rattle.dk_types.specs.Operations.{unary_of, binary_of, scaling_of};
+
+use crate::fault::{TypeError, TypeFaultKind, fault};
+use dk_base::{Binary, MAX_SHIFT, MAX_WIDTH, Scaling, Span, Ty, Unary};
+use dk_parser::{BinaryOperator, Literal, ScaleOperator, TypeWord, UnaryOperator};
+
+pub(crate) fn unary(operator: UnaryOperator) -> Unary
+    ensures { result ≡ unary_of operator }
+{
+    match operator {
+        UnaryOperator::Negate => Unary::Negate,
+        UnaryOperator::Not => Unary::Not,
+        UnaryOperator::Absolute => Unary::Abs,
+    }
+}
+
+pub(crate) fn binary(operator: BinaryOperator) -> Binary
+    ensures { result ≡ binary_of operator }
+{
+    match operator {
+        BinaryOperator::Less => Binary::Less,
+        BinaryOperator::LessEqual => Binary::LessOrEqual,
+        BinaryOperator::Greater => Binary::Greater,
+        BinaryOperator::GreaterEqual => Binary::GreaterOrEqual,
+        BinaryOperator::Equal => Binary::Equal,
+        BinaryOperator::NotEqual => Binary::NotEqual,
+        BinaryOperator::Or => Binary::Or,
+        BinaryOperator::Xor => Binary::Xor,
+        BinaryOperator::And => Binary::And,
+        BinaryOperator::Add => Binary::Add,
+        BinaryOperator::Subtract => Binary::Subtract,
+        BinaryOperator::Multiply => Binary::Multiply,
+        BinaryOperator::Min => Binary::Min,
+        BinaryOperator::Max => Binary::Max,
+    }
+}
+
+pub(crate) fn scaling(operator: ScaleOperator) -> Scaling
+    ensures { result ≡ scaling_of operator }
+{
+    match operator {
+        ScaleOperator::ShiftLeft => Scaling::ShiftLeft,
+        ScaleOperator::ShiftRight => Scaling::ShiftRight,
+        ScaleOperator::Divide => Scaling::Divide,
+    }
+}
+
+/// The type of what an operator at `span` gives with an operand at `first`.
+pub(crate) fn unary_type(
+    span: Span,
+    operator: UnaryOperator,
+    first: Span,
+    operand: Ty,
+) -> Result<Ty, TypeError>
+    requires { IsType operand }
+    ensures typed { IfOk result (λ t. type_of_unary (unary_of operator) operand ≡ Some t) }
+    ensures is_type { IfOk result (λ t. IsType t) }
+    ensures faulty { IfErr result (λ stop. (scope : Scope) (a : Tree) (e : Typed) → HasType scope a e → type_of e ≡ operand → span_of a ≡ first → Stops (Faulty scope (T.unary span operator a)) stop) }
+{
+    match unary(operator).result_type(operand) {
+        Some(ty) => Ok(ty),
+        None => match operator {
+            UnaryOperator::Not => Err(fault(first, TypeFaultKind::NotOneBit)),
+            _ => Err(fault(span, TypeFaultKind::WidthTooGreat)),
+        },
+    }
+}
+
+/// Whether the operator works bit by bit, and so on unsigned operands only.
+fn is_bitwise(operator: BinaryOperator) -> bool
+    ensures { result ≡ works_bit_by_bit (binary_of operator) }
+{
+    match operator {
+        BinaryOperator::And | BinaryOperator::Or | BinaryOperator::Xor => true,
+        _ => false,
+    }
+}
+
+/// The first operand that is signed where the operator works bit by bit.
+fn signed_operand(
+    span: Span,
+    operator: BinaryOperator,
+    first: Span,
+    left: Ty,
+    second: Span,
+    right: Ty,
+) -> Option<TypeError>
+    ensures { MatchOption result (are_operands (binary_of operator) left right ≡ true) (λ stop. (scope : Scope) (a b : Tree) (e f : Typed) → HasType scope a e → HasType scope b f → type_of e ≡ left → type_of f ≡ right → span_of a ≡ first → span_of b ≡ second → Stops (Faulty scope (T.binary span operator a b)) stop) }
+{
+    if !is_bitwise(operator) {
+        return None;
+    }
+    if left.is_signed() {
+        return Some(fault(first, TypeFaultKind::SignedBits));
+    }
+    if right.is_signed() {
+        return Some(fault(second, TypeFaultKind::SignedBits));
+    }
+    None
+}
+
+/// The type of what an operator at `span` gives with operands at `first` and `second`.
+pub(crate) fn binary_type(
+    span: Span,
+    operator: BinaryOperator,
+    first: Span,
+    left: Ty,
+    second: Span,
+    right: Ty,
+) -> Result<Ty, TypeError>
+    requires left { IsType left }
+    requires right { IsType right }
+    ensures typed { IfOk result (λ t. type_of_binary (binary_of operator) left right ≡ Some t) }
+    ensures is_type { IfOk result (λ t. IsType t) }
+    ensures faulty { IfErr result (λ stop. (scope : Scope) (a b : Tree) (e f : Typed) → HasType scope a e → HasType scope b f → type_of e ≡ left → type_of f ≡ right → span_of a ≡ first → span_of b ≡ second → Stops (Faulty scope (T.binary span operator a b)) stop) }
+{
+    if let Some(stop) = signed_operand(span, operator, first, left, second, right) {
+        return Err(stop);
+    }
+    match binary(operator).result_type(left, right) {
+        Some(result_ty) => Ok(result_ty),
+        None => Err(fault(span, TypeFaultKind::WidthTooGreat)),
+    }
+}
+
+/// The type of what a division or a shift at `span` gives.
+pub(crate) fn scale_type(
+    span: Span,
+    operator: ScaleOperator,
+    operand: Ty,
+    by: Literal,
+) -> Result<Ty, TypeError>
+    requires { IsType operand }
+    ensures typed { IfOk result (λ t. type_of_scaling (scaling_of operator) operand by.value ≡ Some t) }
+    ensures is_type { IfOk result (λ t. IsType t) }
+    ensures faulty { IfErr result (λ stop. (scope : Scope) (a : Tree) (e : Typed) → HasType scope a e → type_of e ≡ operand → Stops (Faulty scope (T.scale span operator a by)) stop) }
+{
+    match scaling(operator).result_type(operand, by.value) {
+        Some(ty) => Ok(ty),
+        None => match operator {
+            ScaleOperator::Divide => Err(fault(by.span, TypeFaultKind::ZeroDivisor)),
+            _ if MAX_SHIFT < by.value => Err(fault(by.span, TypeFaultKind::ShiftRange)),
+            _ => Err(fault(span, TypeFaultKind::WidthTooGreat)),
+        },
+    }
+}
+
+/// Whether a type has 1 to 64 bits.
+pub(crate) fn is_type(ty: Ty) -> bool
+    ensures { IsTrue result ↔ IsType ty }
+{
+    1 <= ty.width() && ty.width() <= MAX_WIDTH
+}
+
+/// The type that a conversion at `span` brings values into.
+pub(crate) fn conversion_type(span: Span, to: TypeWord) -> Result<Ty, TypeError>
+    ensures typed { IfOk result (λ t. t ≡ to.ty) }
+    ensures is_type { IfOk result (λ t. IsType t) }
+    ensures faulty { IfErr result (λ stop. ¬ IsType to.ty × (stop ≡ TypeError.Fault (at span TypeFaultKind.WidthTooGreat))) }
+{
+    if is_type(to.ty) {
+        Ok(to.ty)
+    } else {
+        Err(fault(span, TypeFaultKind::WidthTooGreat))
+    }
+}
+
+/// The type of a choice at `span`, whose condition stands at `first`.
+pub(crate) fn select_type(
+    span: Span,
+    first: Span,
+    condition: Ty,
+    left: Ty,
+    right: Ty,
+) -> Result<Ty, TypeError>
+    requires left { IsType left }
+    requires right { IsType right }
+    ensures typed { IfOk result (λ t. type_of_select condition left right ≡ Some t) }
+    ensures is_type { IfOk result (λ t. IsType t) }
+    ensures faulty { IfErr result (λ stop. (scope : Scope) (c a b : Tree) (d e f : Typed) → HasType scope c d → HasType scope a e → HasType scope b f → type_of d ≡ condition → type_of e ≡ left → type_of f ≡ right → span_of c ≡ first → Stops (Faulty scope (T.select span c a b)) stop) }
+{
+    match dk_base::select_type(condition, left, right) {
+        Some(ty) => Ok(ty),
+        None if condition.is_bit() => Err(fault(span, TypeFaultKind::WidthTooGreat)),
+        None => Err(fault(first, TypeFaultKind::NotOneBit)),
+    }
+}

@@ -1,0 +1,63 @@
+// Programs.
+
+ghost use Rattle.std.specs.Prelude.{◌≡◌, ◌⊎◌, ℤ, List, length, IfOk, IfErr, MatchResult};
+ghost use Rattle.std.specs.Result.{IsErrAnd};
+ghost use Rattle.dk_base.specs.declared.ty.Ty.{Ty};
+ghost use Rattle.dk_base.specs.Types.{IsIn};
+ghost use Rattle.dk_base.specs.Frames.{Size, Picture};
+ghost use Rattle.dk_parser.specs.Programs.{Source, source_of};
+ghost use Rattle.dk_types.specs.declared.fault.TypeFault.{TypeFault};
+ghost use Rattle.dk_types.specs.Typed.{Typed, Typing, typing_of, type_of, types_of, input_types};
+ghost use Rattle.dk_types.specs.Types.{IsTyping};
+ghost use Rattle.dk_types.specs.Kept.{IsTyped, IsWell};
+ghost use Rattle.dk_types.specs.Meaning.{AreIn, AreTypes, meaning, value};
+ghost use Rattle.dk_types.specs.Faults.{IsFirstFault, Stops};
+
+use crate::fault::TypeError;
+use crate::items;
+use crate::scope::Scope;
+use crate::typed::TypedProgram;
+use dk_base::FrameSize;
+use dk_parser::Program;
+use std::alloc::Global;
+
+/// Gives each expression of a program its one type and each name its image, or finds the first fault.
+pub fn check(alloc: Global, program: &Program) -> Result<TypedProgram, TypeError>
+    // What is answered is so.
+    ensures typed { IfOk result (λ t. IsTyping (source_of program.now) (typing_of t)) }
+    ensures fault { IfErr result (λ stop. Stops (IsFirstFault (source_of program.now)) stop) }
+
+    // What is so is answered, but for want of memory.
+    ensures accepts { (t : Typing) → IsTyping (source_of program.now) t → MatchResult result (λ found. typing_of found ≡ t) (λ stop. stop ≡ TypeError.Memory) }
+    ensures refuses { (f : TypeFault) → IsFirstFault (source_of program.now) f → IsErrAnd result (λ stop. (stop ≡ TypeError.Fault f) ⊎ (stop ≡ TypeError.Memory)) }
+{
+    judged(alloc, program)
+}
+
+fn judged(alloc: Global, program: &Program) -> Result<TypedProgram, TypeError>
+    ensures { MatchResult result (λ t. IsTyping (source_of program.now) (typing_of t)) (λ stop. Stops (IsFirstFault (source_of program.now)) stop) }
+{
+    let width = items::side(program.width)?;
+    let height = items::side(program.height)?;
+    let Some(size) = FrameSize::checked(width, height) else {
+        unreachable!()
+    };
+    let mut scope = Scope::new(alloc);
+    let inputs = items::inputs(alloc, &mut scope, &program.inputs)?;
+    let definitions = items::definitions(alloc, &mut scope, &program.definitions)?;
+    let outputs = items::outputs(alloc, &scope, &program.outputs)?;
+    Ok(TypedProgram::new(size, inputs, definitions, outputs))
+}
+
+/// A program has one typing, or one first fault, and never both.
+pub fn one_typing()
+    ensures typing { (p : Source) (one other : Typing) → IsTyping p one → IsTyping p other → one ≡ other }
+    ensures fault { (p : Source) (one other : TypeFault) → IsFirstFault p one → IsFirstFault p other → one ≡ other }
+    ensures either { (p : Source) (t : Typing) (f : TypeFault) → IsTyping p t → IsFirstFault p f → ⊥ }
+{}
+
+/// Wherever the values of the inputs are in their types, so are the values of each image, and of each part of a body.
+pub fn values_in_types()
+    ensures images { (p : Typing) (inputs : List Picture) → IsTyped p → length inputs ≡ length p.inputs → AreIn (input_types p.inputs) inputs → AreIn (types_of p) (meaning p inputs) }
+    ensures parts { (size : Size) (types : List Ty) (known : List Picture) (e : Typed) → AreTypes types → AreIn types known → IsWell types e → (x y : ℤ) → IsIn (type_of e) (value size known e x y) }
+{}
