@@ -159,6 +159,16 @@ fn whole_texts(rt: HostRuntime) -> Result<(), Fail> {
             b"output f\n".as_slice(),
             "WidthTooGreat 39-64",
         ),
+        (
+            b"size 1 1\ninput a : u8\nlet f = im(x,y) b(x,y) end\n",
+            b"output f\n",
+            "UnknownImage 38-39",
+        ),
+        (
+            b"size 1 1\ninput a : u8\nlet f = im(x,y) a(x+65,y) end\n",
+            b"output f\n",
+            "OffsetRange 42-44",
+        ),
         (b"size 0 0 input a:u8", b" output a", "SizeRange 5-6"),
         (
             b"size 4096 4097 input a:u8",
