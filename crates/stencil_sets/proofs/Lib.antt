@@ -1,0 +1,12 @@
+pub mod Chains
+pub mod Walked
+pub mod Ordered
+pub mod Rows
+pub mod Readers
+pub mod Sources
+pub mod Marked
+pub mod Programs
+pub mod Numbered
+pub mod Stenciled
+pub mod Unique
+pub mod Same

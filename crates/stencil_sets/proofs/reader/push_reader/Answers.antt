@@ -1,0 +1,11 @@
+use Rattle.std.proofs.Common.{refl}
+use Rattle.stencil_sets.proofs.Sources.{sources_more, sources_done}
+use Rattle.stencil_sets.proofs.reader.push_reader.Goals as goal
+
+pub loop-g-preserved : goal.loop-g-preserved
+loop-g-preserved c =
+    sources_more c.args.all.now.items c.loop-g.all.items c.push_source.new.all.items c.args.rects.now c.args.f c.loop-g.g _ c.loop-g-test.true refl c.loop-g.invariant
+    c.in_ok-push_source.ensures.order c.in_ok-push_source.ensures.found c.in_ok-push_source.ensures.before
+
+pub returns-clause-found : goal.returns-clause-found
+returns-clause-found c = sources_done c.args.all.now.items c.loop-g.all.items c.args.rects.now c.args.f c.loop-g.g c.loop-g-test.false c.loop-g.invariant

@@ -1,0 +1,11 @@
+-- Why a program has no stencils.
+use Rattle.std.specs.Prelude.{◌<◌}
+use Rattle.pointwise_ir.specs.Programs.{Program}
+use Rattle.stencil_sets.specs.declared.live.StencilFault.{StencilFault}
+use Rattle.stencil_sets.specs.declared.live.StencilFault.TheVariants.{Reads, Memory}
+use Rattle.stencil_sets.specs.Live.{HasCount}
+
+-- it has too many live reads, and so many, or there is no memory
+abbrev pub IsFault : Program → StencilFault → Type 0
+IsFault p (Reads count) = (4096 < count) × HasCount p count
+IsFault p Memory = Unit {0}

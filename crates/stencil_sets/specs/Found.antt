@@ -1,0 +1,106 @@
+-- Live reads as they are found, one after another in order.
+use Rattle.std.specs.Prelude.{◌≡◌, ℕ, ℤ, ◌≤ℤ◌, ◌<ℤ◌, ◌⊎◌, ◌↔◌, List, [], ◌∷◌, length}
+use Rattle.dk_base.specs.declared.stencils.LiveRead.{LiveRead}
+use Rattle.dk_base.specs.Stencils.{IsBefore, AreInOrder}
+use Rattle.stencil_sets.specs.declared.found.Halt.{Halt}
+use Rattle.stencil_sets.specs.declared.found.Halt.TheVariants.{Full, Memory}
+use Rattle.stencil_sets.specs.declared.path.Rect.{Rect}
+use Rattle.stencil_sets.specs.Moves.{IsOffset}
+
+-- the read is that of image g by image f at this offset
+pub record IsThe (r : LiveRead) (f g : ℕ) (dx dy : ℤ) : Type 0 where
+  pub reader : r.f ≡ f
+  pub source : r.g ≡ g
+  pub across : r.dx ≡ dx
+  pub down : r.dy ≡ dy
+
+-- it is one of these
+abbrev pub Has : List LiveRead → (f g : ℕ) → (dx dy : ℤ) → Type 0
+Has [] f g dx dy = ⊥
+Has (r ∷ rs) f g dx dy = IsThe r f g dx dy ⊎ Has rs f g dx dy
+
+-- all of these stand before it
+abbrev pub AllBefore : List LiveRead → LiveRead → Type 0
+AllBefore [] r = Unit {0}
+AllBefore (a ∷ rs) r = IsBefore a r × AllBefore rs r
+
+abbrev pub the : (f g : ℕ) → (dx dy : ℤ) → LiveRead
+the f g dx dy = record { f = f; g = g; dx = dx; dy = dy }
+
+-- a row of the rectangle has the column offset
+pub record InRow (rect : Rect) (dy dx : ℤ) : Type 0 where
+  pub down : IsOffset rect.down dy
+  pub across : IsOffset rect.across dx
+
+-- the row of some rectangle does
+abbrev pub InRows : List Rect → (dy dx : ℤ) → Type 0
+InRows [] dy dx = ⊥
+InRows (r ∷ rs) dy dx = InRow r dy dx ⊎ InRows rs dy dx
+
+-- each begins at this column offset or later
+abbrev pub AllFrom : ℤ → List Rect → Type 0
+AllFrom least [] = Unit {0}
+AllFrom least (r ∷ rs) = (least ≤ℤ r.across.least) × AllFrom least rs
+
+-- in the order of their first column offsets
+abbrev pub AreSorted : List Rect → Type 0
+AreSorted [] = Unit {0}
+AreSorted (r ∷ rs) = AllFrom r.across.least rs × AreSorted rs
+
+-- reads of image b by image a in one row, from a column offset on
+pub record IsLeft (rects : List Rect) (a b : ℕ) (row from : ℤ) (f g : ℕ) (dx dy : ℤ) : Type 0 where
+  pub reader : f ≡ a
+  pub source : g ≡ b
+  pub down : dy ≡ row
+  pub low : from ≤ℤ dx
+  pub in_row : InRows rects row dx
+
+-- reads of image b by image a, from a row on
+pub record IsBelow (rects : List Rect) (a b : ℕ) (row : ℤ) (f g : ℕ) (dx dy : ℤ) : Type 0 where
+  pub reader : f ≡ a
+  pub source : g ≡ b
+  pub low : row ≤ℤ dy
+  pub in_rows : InRows rects dy dx
+
+-- reads of image b by image a
+pub record IsOf (rects : List Rect) (a b : ℕ) (f g : ℕ) (dx dy : ℤ) : Type 0 where
+  pub reader : f ≡ a
+  pub source : g ≡ b
+  pub in_rows : InRows rects dy dx
+
+-- its rows are among those from one to before another
+pub record IsAmong (first end : ℤ) (rect : Rect) : Type 0 where
+  pub least : first ≤ℤ rect.down.least
+  pub greatest : rect.down.greatest <ℤ end
+
+-- from `end` on, nothing of the rectangle's row is left, and between `next` and there it has all from its first column offset on
+pub record IsBehind (rect : Rect) (dy next end : ℤ) : Type 0 where
+  pub later : next ≤ℤ end
+  pub covered : (dx : ℤ) → next ≤ℤ dx → rect.across.least ≤ℤ dx → dx <ℤ end → InRow rect dy dx
+
+-- more reads than are counted
+abbrev pub Stopped : Halt → List LiveRead → Type 0
+Stopped Full reads = length reads ≡ 65537
+Stopped Memory reads = Unit {0}
+
+-- the new list has what the old one has, and these
+abbrev pub Gains : (old new : List LiveRead) → ((f g : ℕ) → (dx dy : ℤ) → Type 0) → Type 0
+Gains old new R = (f g : ℕ) (dx dy : ℤ) → Has new f g dx dy ↔ (Has old f g dx dy ⊎ R f g dx dy)
+
+-- it has nothing else
+abbrev pub Within : (old new : List LiveRead) → ((f g : ℕ) → (dx dy : ℤ) → Type 0) → Type 0
+Within old new R = (f g : ℕ) (dx dy : ℤ) → Has new f g dx dy → Has old f g dx dy ⊎ R f g dx dy
+
+-- reads of image g by image f in one row, from one column offset to before another
+pub record IsRun (a b : ℕ) (row from end : ℤ) (f g : ℕ) (dx dy : ℤ) : Type 0 where
+  pub reader : f ≡ a
+  pub source : g ≡ b
+  pub down : dy ≡ row
+  pub low : from ≤ℤ dx
+  pub high : dx <ℤ end
+
+-- what holds while a run is found: it is found up to before this column offset
+pub record RunSoFar (old new : List LiveRead) (a b : ℕ) (row from col : ℤ) : Type 0 where
+  pub order : AreInOrder new
+  pub gains : Gains old new (λ f g dx dy. IsRun a b row from col f g dx dy)
+  pub before : AllBefore new (the a b col row)

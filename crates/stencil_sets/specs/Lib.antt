@@ -1,0 +1,6 @@
+pub mod Moves
+pub mod Paths
+pub mod Found
+pub mod Live
+pub mod Marks
+pub mod Faults

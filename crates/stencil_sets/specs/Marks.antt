@@ -1,0 +1,30 @@
+-- Which images are kept, by marks.
+use Rattle.std.specs.Prelude.{◌≡◌, ℕ, ℤ, ◌+◌, ◌<◌, ◌≤◌, ◌⊎◌, Bool, true, List, length, slice_get, Some}
+use Rattle.pointwise_ir.specs.Trees.{Tree}
+use Rattle.pointwise_ir.specs.Programs.{Program, bodies_of}
+use Rattle.pointwise_ir.specs.Reads.{Kept}
+use Rattle.stencil_sets.specs.Live.{ReadsAt}
+
+abbrev pub IsMarked : List Bool → ℕ → Type 0
+IsMarked kept g = slice_get kept g ≡ Some true
+
+-- the images that are kept, and no others, are marked
+pub record AreMarks (p : Program) (kept : List Bool) : Type 0 where
+  pub one_each : length kept ≡ length p.inputs + length p.images
+  pub sound : (g : ℕ) → IsMarked kept g → Kept p g
+  pub complete : (g : ℕ) → Kept p g → IsMarked kept g
+
+-- these are marked too, where they are there, and no others
+pub record MarksMore (old new : List Bool) (P : ℕ → Type 0) : Type 0 where
+  pub length_stays : length new ≡ length old
+  pub stay : (g : ℕ) → IsMarked old g → IsMarked new g
+  pub marked : (g : ℕ) → g < length old → P g → IsMarked new g
+  pub only : (g : ℕ) → IsMarked new g → IsMarked old g ⊎ P g
+
+-- all images that the outputs need, from the last on
+pub record MarkedSoFar (p : Program) (first now : List Bool) (k : ℕ) : Type 0 where
+  pub one_each : length now ≡ length p.inputs + length p.images
+  pub within : k ≤ length p.images
+  pub stay : (g : ℕ) → IsMarked first g → IsMarked now g
+  pub sound : (g : ℕ) → IsMarked now g → Kept p g
+  pub closed : (j : ℕ) (e : Tree) → k ≤ j → slice_get (bodies_of p) j ≡ Some e → IsMarked now (length p.inputs + j) → (g : ℕ) (dx dy : ℤ) → ReadsAt p.size e g dx dy → IsMarked now g

@@ -1,0 +1,51 @@
+// The kept images with their widths.
+
+ghost use Rattle.std.specs.Prelude.{◌≡◌, ◌++◌, ◌∷◌, [], ◌+◌, ◌<◌, Some, OnOk, IfOk, length, slice_get};
+ghost use Rattle.dk_base.specs.Types.{width_of};
+ghost use Rattle.dk_base.specs.Stencils.{AreKeptImages};
+ghost use Rattle.pointwise_ir.specs.Programs.{types_of};
+ghost use Rattle.stencil_sets.specs.Live.{AreImages};
+ghost use Rattle.stencil_sets.specs.Marks.{AreMarks};
+
+use dk_base::{Image, Memory, Ty};
+use pointwise_ir::Ir;
+use std::alloc::Global;
+
+// The type of image g.
+fn type_of(ir: &Ir, g: usize) -> Ty
+    requires there { g < length ir.now.inputs + length ir.now.images }
+    ensures { slice_get (types_of ir.now) g ≡ Some result }
+{
+    let inputs = ir.inputs();
+    let images = ir.images();
+    if g < inputs.len() {
+        inputs[g].ty
+    } else {
+        images[g - inputs.len()].ty
+    }
+}
+
+// One image more.
+fn push_kept(images: &mut Vec<Image>, number: u32, ty: Ty) -> Result<(), Memory>
+    ensures { OnOk result (images.new.items ≡ images.old.items ++ (record { number = number; width = width_of ty }) ∷ []) }
+{
+    let width = ty.width();
+    images.push(Image { number, width })?;
+    Ok(())
+}
+
+/// The images that are marked, in order.
+pub(crate) fn images_of(alloc: Global, ir: &Ir, kept: &[bool]) -> Result<Vec<Image>, Memory>
+    requires { AreMarks ir.now kept.now }
+    ensures images { IfOk result (λ v. AreImages ir.now v.items) }
+    ensures form { IfOk result (λ v. AreKeptImages (length ir.now.inputs) v.items) }
+{
+    ir.law();
+    let mut images = Vec::new(alloc);
+    for g in 0..kept.len() {
+        if kept[g] {
+            push_kept(&mut images, g as u32, type_of(ir, g))?;
+        }
+    }
+    Ok(images)
+}

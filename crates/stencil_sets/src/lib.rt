@@ -1,0 +1,17 @@
+//! The live reads of a program: exactly those that some pixel makes.
+#![tactic(auto)]
+
+mod found;
+mod images;
+mod kept;
+mod laws;
+mod live;
+mod moves;
+mod path;
+mod reader;
+mod reads;
+#[cfg(test)]
+mod tests;
+
+pub use laws::one_answer;
+pub use live::{StencilFault, live_reads};

@@ -1,0 +1,100 @@
+// The live reads of a program.
+
+ghost use Rattle.std.specs.Prelude.{◌≡◌, ◌≤◌, ◌<◌, IfOk, IfErr, length};
+ghost use Rattle.dk_base.specs.Stencils.{AreKeptImages};
+ghost use Rattle.stencil_sets.specs.Live.{AreReads, AreImages, AreStencilsOf};
+ghost use Rattle.stencil_sets.specs.Marks.{AreMarks};
+ghost use Rattle.stencil_sets.specs.Faults.{IsFault};
+
+use crate::found::Halt;
+use crate::images::images_of;
+use crate::kept::kept_images;
+use crate::reads::push_marked;
+use dk_base::{Image, LiveRead, Memory, Stencils};
+use pointwise_ir::Ir;
+use std::alloc::Global;
+
+/// Why a program has no stencils.
+#[derive(Clone, Copy, Debug, PartialEq, Eq)]
+pub enum StencilFault {
+    /// How many live reads there are, where they are more than 4,096; 65,537 where they are more than 65,536.
+    Reads { count: u32 },
+    Memory,
+}
+
+// How many reads there are, where more than 65,536 are 65,537.
+fn count_of(reads: &[LiveRead]) -> u32
+    ensures few { length reads.now ≤ 65536 → result ≡ length reads.now }
+    ensures many { 65536 < length reads.now → result ≡ 65537 }
+{
+    if reads.len() <= 65_536 {
+        reads.len() as u32
+    } else {
+        65_537
+    }
+}
+
+// The live reads of the images that are marked.
+fn reads_of(alloc: Global, ir: &Ir, kept: &[bool]) -> Result<Vec<LiveRead>, StencilFault>
+    requires { AreMarks ir.now kept.now }
+    ensures reads { IfOk result (λ v. AreReads ir.now v.items) }
+    ensures fault { IfErr result (λ fault. IsFault ir.now fault) }
+{
+    let mut all = Vec::new(alloc);
+    match push_marked(alloc, ir, kept, &mut all) {
+        Ok(()) => Ok(all),
+        Err(Halt::Full) => Err(StencilFault::Reads { count: 65_537 }),
+        Err(Halt::Memory) => Err(StencilFault::Memory),
+    }
+}
+
+// The stencils of these images and reads.
+fn stencils_of(
+    ir: &Ir,
+    outputs: Vec<u32>,
+    images: Vec<Image>,
+    reads: Vec<LiveRead>,
+) -> Result<Stencils, StencilFault>
+    requires outputs { outputs.items ≡ ir.now.outputs }
+    requires images { AreImages ir.now images.items }
+    requires form { AreKeptImages (length ir.now.inputs) images.items }
+    requires reads { AreReads ir.now reads.items }
+    ensures stencils { IfOk result (λ s. AreStencilsOf ir.now s) }
+    ensures fault { IfErr result (λ fault. IsFault ir.now fault) }
+{
+    ir.law();
+    let size = ir.size();
+    let inputs = ir.inputs().len() as u32;
+    let count = count_of(&reads);
+    match Stencils::checked(size.width, size.height, inputs, outputs, images, reads) {
+        Some(stencils) => Ok(stencils),
+        None => Err(StencilFault::Reads { count }),
+    }
+}
+
+// The kept images with their widths, and the outputs.
+fn kept_of(alloc: Global, ir: &Ir, kept: &[bool]) -> Result<(Vec<u32>, Vec<Image>), Memory>
+    requires { AreMarks ir.now kept.now }
+    ensures outputs { IfOk result (λ r. r.0.items ≡ ir.now.outputs) }
+    ensures images { IfOk result (λ r. AreImages ir.now r.1.items) }
+    ensures form { IfOk result (λ r. AreKeptImages (length ir.now.inputs) r.1.items) }
+{
+    let outputs = Vec::from_slice(alloc, ir.outputs())?;
+    let images = images_of(alloc, ir, kept)?;
+    Ok((outputs, images))
+}
+
+/// The stencils of a program: its kept images, which are the inputs, the outputs and what they need, and exactly the reads that some pixel of the frame makes; or how many of them there are, where they are more than 4,096.
+pub fn live_reads(alloc: Global, ir: &Ir) -> Result<Stencils, StencilFault>
+    ensures stencils { IfOk result (λ s. AreStencilsOf ir.now s) }
+    ensures fault { IfErr result (λ fault. IsFault ir.now fault) }
+{
+    let Ok(kept) = kept_images(alloc, ir) else {
+        return Err(StencilFault::Memory);
+    };
+    let Ok((outputs, images)) = kept_of(alloc, ir, &kept) else {
+        return Err(StencilFault::Memory);
+    };
+    let reads = reads_of(alloc, ir, &kept)?;
+    stencils_of(ir, outputs, images, reads)
+}

@@ -1,0 +1,65 @@
+// The live reads of all kept images.
+
+ghost use Rattle.std.specs.Prelude.{◌≡◌, [], ◌<◌, ◌≤◌, ℕ, ℤ, pos, neg_ℤ, OnOk, IfErr};
+ghost use Rattle.dk_base.specs.FrameSizes.{size_of};
+ghost use Rattle.dk_base.specs.Stencils.{AreInOrder};
+ghost use Rattle.pointwise_ir.specs.Trees.{tree_of, depth_of, AreNear};
+ghost use Rattle.stencil_sets.specs.Found.{AllBefore, the, Stopped, Gains, Within};
+ghost use Rattle.stencil_sets.specs.Live.{ReadsAt, IsReadOf, AreReads, AreSome};
+ghost use Rattle.stencil_sets.specs.Marks.{AreMarks};
+
+use crate::found::Halt;
+use crate::reader::{push_reader, rects_of};
+use dk_base::{FrameSize, LiveRead};
+use pointwise_ir::{Expr, Ir};
+use std::alloc::Global;
+
+// The reads of image f, whose body this is.
+fn push_body(
+    alloc: Global,
+    all: &mut Vec<LiveRead>,
+    f: u32,
+    size: FrameSize,
+    body: &Expr,
+) -> Result<(), Halt>
+    requires order { AreInOrder all.old.items }
+    requires before { AllBefore all.old.items (the f 0 (neg_ℤ (pos 8192)) (neg_ℤ (pos 8192))) }
+    requires depth { depth_of (tree_of body.now) ≤ 1024 }
+    requires near { AreNear (tree_of body.now) }
+    requires earlier { (g : ℕ) (dx dy : ℤ) → ReadsAt (size_of size) (tree_of body.now) g dx dy → g < f }
+    ensures order { AreInOrder all.new.items }
+    ensures found { OnOk result (Gains all.old.items all.new.items (λ f' g dx dy. IsReadOf (size_of size) (tree_of body.now) f f' g dx dy)) }
+    ensures sound { Within all.old.items all.new.items (λ f' g dx dy. IsReadOf (size_of size) (tree_of body.now) f f' g dx dy) }
+    ensures before { OnOk result ((g : ℕ) × (d : ℤ) × (e : ℤ) × AllBefore all.new.items (the f g d e)) }
+    ensures stopped { IfErr result (λ halt. Stopped halt all.new.items) }
+{
+    match rects_of(alloc, size, body) {
+        Ok(rects) => push_reader(alloc, all, f, &rects),
+        Err(_) => Err(Halt::Memory),
+    }
+}
+
+// The live reads of the images that are marked.
+pub(crate) fn push_marked(
+    alloc: Global,
+    ir: &Ir,
+    kept: &[bool],
+    all: &mut Vec<LiveRead>,
+) -> Result<(), Halt>
+    requires marks { AreMarks ir.now kept.now }
+    requires none { all.old.items ≡ [] }
+    ensures exact { OnOk result (AreReads ir.now all.new.items) }
+    ensures sound { AreSome ir.now all.new.items }
+    ensures stopped { IfErr result (λ halt. Stopped halt all.new.items) }
+{
+    ir.law();
+    let size = ir.size();
+    let inputs = ir.inputs().len();
+    let images = ir.images();
+    for k in 0..images.len() {
+        if kept[inputs + k] {
+            push_body(alloc, all, (inputs + k) as u32, size, &images[k].body)?;
+        }
+    }
+    Ok(())
+}
