@@ -3,6 +3,7 @@
 //! A primal-dual way: each image's width is sent from its begin node to its end node along tight constraints, and where there is no way the numbers of the nodes that are reached are raised.
 #![tactic(auto)]
 
+mod lifting;
 mod pushing;
 mod sending;
 mod settling;
