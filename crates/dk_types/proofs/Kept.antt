@@ -1,9 +1,17 @@
 -- A program that has a typing keeps what the type promises.
-use Rattle.std.proofs.Common.{◌≡◌, ℕ, zero, suc, ◌+◌, ◌≤◌, Bool, true, false, List, [], ◌∷◌, ◌++◌, length, map, Option, Some, None, refl, sym, ap, ◌∙◌, subst, arith, length-append, append_assoc, append-nil}
+use Rattle.std.proofs.Common.{◌≡◌, ℕ, zero, suc, ◌+◌, ◌<◌, ◌≤◌, Bool, true, false, List, [], ◌∷◌, ◌++◌, length, map, get_or, position, Option, Some, None, refl, sym, ap, ◌∙◌, subst, arith, inl, inr, lt-ltb, length-append, append_assoc, append-nil}
+use Rattle.std.specs.Cmp.Lexicographic.{same_text}
+use Rattle.std.specs.List.{position_or_len}
+use Rattle.std.proofs.Math.Seq.{get_or-append_seam}
+use Rattle.std.proofs.lemmas.Bool.{cases_lt}
+use Rattle.std.proofs.lemmas.Cmp.{nat_list_eq_equiv}
+use Rattle.std.proofs.lemmas.List.Quantifiers.{position-Some}
+use Rattle.std.proofs.lemmas.List.Sums.{fails_before_first}
 use Rattle.std.proofs.lemmas.List.{map-append}
 use Rattle.std.proofs.lemmas.Int.{ints}
 use Rattle.dk_base.specs.declared.ty.Ty.{Ty}
 use Rattle.dk_base.specs.Frames.{Size, IsFrame}
+use Rattle.dk_base.specs.Stencils.{IsDistinct}
 use Rattle.dk_parser.specs.declared.tree.Offset.{Offset}
 use Rattle.dk_parser.specs.declared.tree.Name.{Name}
 use Rattle.dk_parser.specs.declared.tree.Input.{Input}
@@ -12,7 +20,7 @@ use Rattle.dk_parser.specs.Programs.{Source}
 use Rattle.dk_parser.specs.Programs as P
 use Rattle.dk_types.specs.declared.typed.TypedInput.{TypedInput}
 use Rattle.dk_types.specs.Typed.{Typed, type_of, Definition, Typing, image_type, input_types}
-use Rattle.dk_types.specs.Scopes.{Named, Scope, types_in, inputs_scope, scope_of, definition_named}
+use Rattle.dk_types.specs.Scopes.{Named, Scope, is_same, image_of, types_in, inputs_scope, scope_of, definition_named, name_among}
 use Rattle.dk_types.specs.Operations.{amount_of, offset_of, signed}
 use Rattle.dk_types.specs.Sequences.{Each, none, next}
 use Rattle.dk_types.specs.Types.{HasType, IsPort, Takes, IsInput, IsDefinition, IsOutput, IsTyping}
@@ -61,6 +69,47 @@ outputs_of : {scope : Scope} {is : List Name} {os : List ℕ} {xs : List Name} {
 outputs_of none = tt
 outputs_of (next r g) = (record { ty = r.ty; image = r.image.type; port = r.port }, outputs_of g)
 
+-- where no place is found, there is none
+all_fail : {A : Type 0} (p : A → Bool) (xs : List A) → position p xs ≡ None → length xs ≤ position_or_len p xs
+all_fail p xs e = elim (cases_lt (position_or_len p xs) (length xs)) [
+  | inl lt ↦ absurd (let t = lt-ltb (position_or_len p xs) (length xs) lt in let f : ⊥ = cc in f)
+  | inr ge ↦ ge
+]
+
+-- a new name is not the same as one of those before it
+apart : (start rest : List Name) (n : Name) (name : List ℕ) → name_among (start ++ n ∷ rest) name ≡ None → is_same name n.text ≡ false
+apart start rest n name e =
+    let long = all_fail (λ (m : Name). is_same name m.text) (start ++ n ∷ rest) e in
+    let l = length-append start (n ∷ rest) in
+    ap (λ (m : Name). is_same name m.text) (sym (get_or-append_seam start n rest n))
+    ∙ fails_before_first (λ (m : Name). is_same name m.text) (start ++ n ∷ rest) (length start) n (omega (arith, long, l))
+
+-- names that stand for one image are the same
+one_name : (scope : Scope) (a b : List ℕ) (g : ℕ) (t : Ty) → image_of scope a ≡ Some g → image_of scope b ≡ Some g → is_same b a ≡ true
+one_name scope a b g t here there =
+    let d : Named = record { name = a; ty = t } in
+    let left = same_text a (get_or scope g d).name (sym (position-Some (λ (i : Named). is_same a i.name) scope g d here).1) in
+    let right = same_text b (get_or scope g d).name (sym (position-Some (λ (i : Named). is_same b i.name) scope g d there).1) in
+    ap (λ z. is_same z a) (right ∙ sym left) ∙ nat_list_eq_equiv.refl a
+
+-- later outputs are other images
+differ : {scope : Scope} {is : List Name} {os : List ℕ} {xs : List Name} {ys : List ℕ} → Each (IsOutput scope) is os xs ys → (start rest : List Name) (n : Name) → is ≡ start ++ n ∷ rest
+    → (g : ℕ) (t : Ty) → image_of scope n.text ≡ Some g → (j : ℕ) → j < length ys → g ≡ get_or ys j 0 → ⊥
+differ none start rest n e g t image j lt same = omega arith
+differ {scope} (next {i = i} {o = o} r h) start rest n e g t image zero lt same =
+    let new = apart start rest n i.text (ap (λ l. name_among l i.text) (sym e) ∙ r.new) in
+    let one = one_name scope n.text i.text g t image (r.image.number ∙ ap Some (sym same)) in
+    let f : ⊥ = cc in f
+differ {scope} (next {is = is} {i = i} r h) start rest n e g t image (suc j) lt same =
+    differ h start (rest ++ i ∷ []) n (ap (λ l. l ++ i ∷ []) e ∙ append_assoc start (n ∷ rest) (i ∷ [])) g t image j (omega (arith, lt)) same
+
+outputs_distinct : {scope : Scope} {is : List Name} {os : List ℕ} {xs : List Name} {ys : List ℕ} → Each (IsOutput scope) is os xs ys → IsDistinct ys
+outputs_distinct none i j lt within same = omega arith
+outputs_distinct (next {is = is} {i = n} {o = o} r h) zero zero lt within same = omega arith
+outputs_distinct (next {is = is} {i = n} {o = o} r h) zero (suc j) lt within same = differ h is [] n refl o r.ty r.image.number j (omega (arith, within)) same
+outputs_distinct (next r h) (suc i) zero lt within same = omega arith
+outputs_distinct (next r h) (suc i) (suc j) lt within same = outputs_distinct h i j (omega (arith, lt)) (omega (arith, within)) same
+
 -- types of scopes
 types_inputs : (is : List TypedInput) → types_in (inputs_scope is) ≡ input_types is
 types_inputs [] = refl
@@ -108,4 +157,5 @@ typed_is_kept p t h =
       inputs = ports h.inputs;
       bodies = subst B (append-nil (input_types t.inputs)) (bodies h.definitions);
       outputs = subst O (types_scope t.inputs t.definitions) (outputs_of h.outputs);
+      distinct = outputs_distinct h.outputs;
     }

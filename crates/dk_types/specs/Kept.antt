@@ -4,6 +4,7 @@ use Rattle.dk_base.specs.declared.ty.Ty.{Ty}
 use Rattle.dk_base.specs.Types.{IsType}
 use Rattle.dk_base.specs.Operators.{literal_type, unary_type, binary_type, scaling_type, select_type}
 use Rattle.dk_base.specs.Frames.{IsFrame}
+use Rattle.dk_base.specs.Stencils.{IsDistinct}
 use Rattle.dk_types.specs.declared.typed.TypedRead.{TypedRead}
 use Rattle.dk_types.specs.declared.typed.TypedInput.{TypedInput}
 use Rattle.dk_types.specs.Typed.{Typed, constant, fetch, single, double, scaled, converted, chosen, type_of, Definition, Typing, image_type, input_types, types_of}
@@ -57,3 +58,4 @@ pub record IsTyped (p : Typing) : Type 0 where
   pub inputs : ArePorts p.inputs
   pub bodies : AreWell (input_types p.inputs) p.definitions
   pub outputs : AreOutputsOf (types_of p) p.outputs
+  pub distinct : IsDistinct p.outputs
