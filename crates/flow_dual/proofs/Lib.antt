@@ -3,3 +3,4 @@ pub mod Raising
 pub mod Least
 pub mod Optimal
 pub mod Rooted
+pub mod Balances

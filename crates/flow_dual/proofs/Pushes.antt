@@ -27,12 +27,12 @@ spot-add k a b v = elim (eqb k v) as (λ t. cond t (a + b) 0 ≡ cond t a 0 + co
 placed_zero : (k v : ℕ) → spot k 0 v ≡ zero
 placed_zero k v = elim (eqb k v) as (λ t. ◌≡◌ {A = ℕ} (cond t 0 0) 0) [ true ↦ refl | false ↦ refl ]
 
-target_at : (cs : List Constraint) (i : ℕ) → get_or (map (λ (c : Constraint). c.target) cs) i 0 ≡ (constraint_at cs i).target
+pub target_at : (cs : List Constraint) (i : ℕ) → get_or (map (λ (c : Constraint). c.target) cs) i 0 ≡ (constraint_at cs i).target
 target_at [] i = refl
 target_at (c ∷ cs) zero = refl
 target_at (c ∷ cs) (suc i) = target_at cs i
 
-source_at : (cs : List Constraint) (i : ℕ) → get_or (map (λ (c : Constraint). c.source) cs) i 0 ≡ (constraint_at cs i).source
+pub source_at : (cs : List Constraint) (i : ℕ) → get_or (map (λ (c : Constraint). c.source) cs) i 0 ≡ (constraint_at cs i).source
 source_at [] i = refl
 source_at (c ∷ cs) zero = refl
 source_at (c ∷ cs) (suc i) = source_at cs i

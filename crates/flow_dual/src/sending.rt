@@ -6,10 +6,9 @@ ghost use Rattle.raster_delay.specs.Delays.{IsSmall};
 ghost use Rattle.raster_delay.specs.Systems.{IsBalanced, constraints_in, nodes};
 ghost use Rattle.flow_dual.specs.Tree.{Moves, IsHold};
 
-use crate::lifting::lift;
 use crate::pushing::push;
 use crate::shifting::{least_slack, raise};
-use crate::tree::find;
+use crate::tree::reach;
 use dk_base::Memory;
 use raster_delay::{Constraint, System};
 use std::alloc::Global;
@@ -43,29 +42,9 @@ fn send(
 {
     let begin = constraints[image].source;
     let end = constraints[image].target;
-    let most = (1 << 41) + (image as u64) * (1 << 36) + (1 << 35);
     let mut rest = u64::from(width);
     while rest > 0 {
-        let way = lift(
-            alloc,
-            constraints,
-            incident,
-            numbers,
-            flow,
-            begin,
-            end,
-            most,
-        )?;
-        let tree = find(
-            alloc,
-            constraints,
-            incident,
-            numbers,
-            flow,
-            begin,
-            end,
-            &way,
-        )?;
+        let tree = reach(alloc, constraints, incident, numbers, flow, begin)?;
         let order = tree.order.as_slice();
         if order[end] != 0 {
             let parent = tree.parent.as_slice();

@@ -1,19 +1,51 @@
 // The least vector of least bits, and a flow that shows them least.
 
 ghost use Rattle.std.specs.Prelude.{◌≡◌, ◌<◌, ◌≤◌, ◌^◌, ℕ, length, slice_index, All, IfOk, OnOk};
-ghost use Rattle.raster_delay.specs.Network.{Holds};
+ghost use Rattle.raster_delay.specs.Network.{Holds, IsComplementary};
 ghost use Rattle.raster_delay.specs.Delays.{begin_of, end_of};
-ghost use Rattle.raster_delay.specs.Systems.{constraints_in, image_count, nodes};
+ghost use Rattle.raster_delay.specs.Systems.{IsBalanced, constraints_in, image_count, nodes};
 ghost use Rattle.flow_dual.specs.Solutions.{IsOptimum, IsSolution};
 
+use crate::checking::is_optimal;
 use crate::sending::send_all;
 use crate::settling::settle;
 use crate::shifting::rebase;
+use crate::simplex::propose;
 use crate::solution::{Numbers, Solution};
 use crate::tree::incidence;
 use dk_base::Memory;
 use raster_delay::{System, begin_numbers, earliest_numbers, end_numbers};
 use std::alloc::Global;
+
+// Finds a balanced flow, and numbers of the nodes that show its worth to be the greatest. What the simplex proposes is taken where
+// it is that, as in every trial it was. Otherwise the flow is sent image by image, which is slow.
+fn find_flow(
+    alloc: Global,
+    system: &System,
+    incident: &[Vec<usize>],
+    numbers: &mut [u64],
+    flow: &mut [u64],
+) -> Result<(), Memory>
+    requires nodes { length numbers.old ≡ nodes system.now }
+    requires flows { length flow.old ≡ length (constraints_in system.now) }
+    requires empty { (i : ℕ) → slice_index flow.old i ≡ 0 }
+    requires numbers { (v : ℕ) → slice_index numbers.old v ≤ 2 ^ 41 }
+    requires holds { All (Holds numbers.old) (constraints_in system.now) }
+    ensures numbers { OnOk result ((v : ℕ) → slice_index numbers.new v < 2 ^ 60) }
+    ensures holds { OnOk result (All (Holds numbers.new) (constraints_in system.now)) }
+    ensures carries { OnOk result (IsComplementary (constraints_in system.now) flow.new numbers.new) }
+    ensures balanced { OnOk result (IsBalanced system.now flow.new) }
+{
+    let proposal = propose(alloc, system)?;
+    let optimal = is_optimal(alloc, system, &proposal.numbers, &proposal.flow)?;
+    if optimal && proposal.numbers.len() == numbers.len() && proposal.flow.len() == flow.len() {
+        numbers.copy_from_slice(&proposal.numbers);
+        flow.copy_from_slice(&proposal.flow);
+        return Ok(());
+    }
+    send_all(alloc, system, incident, numbers, flow)?;
+    Ok(())
+}
 
 // Finds a balanced flow, and the least numbers of the nodes that show its worth to be the greatest.
 fn balance(
@@ -31,7 +63,7 @@ fn balance(
 {
     system.law();
     let incident = incidence(alloc, system.constraints(), numbers.len())?;
-    send_all(alloc, system, &incident, numbers, flow)?;
+    find_flow(alloc, system, &incident, numbers, flow)?;
     rebase(numbers);
     settle(alloc, system.constraints(), &incident, numbers, flow)?;
     Ok(())

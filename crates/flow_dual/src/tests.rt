@@ -1,5 +1,7 @@
 //! Systems whose least vectors were worked out by hand.
 
+use crate::checking::is_optimal;
+use crate::simplex::propose;
 use crate::solve;
 use dk_base::{Image, LiveRead, Memory, Stencils};
 use raster_delay::{Constraint, System};
@@ -179,5 +181,27 @@ fn the_only_flow_is_found(rt: HostRuntime) -> Result<(), Fail> {
     let system = System::of(alloc, &stencils)?;
     let flow = solve(alloc, &system)?.flow.into_vec();
     assert_eq!(rt; flow.as_slice(), [0, 8, 0, 0, 0, 8, 8, 0, 0].as_slice());
+    Ok(())
+}
+
+// No clause says so, and without it `solve` would be slow.
+#[test]
+fn the_simplex_proposes_an_optimum(rt: HostRuntime) -> Result<(), Fail> {
+    let alloc = rt.alloc();
+    for (program, age) in [
+        (&MEAN, 1),
+        (&ROW_BELOW, 0),
+        (&SQUARE, 1),
+        (&CONSTANT_TWICE, 0),
+        (&TWO_INPUTS, 0),
+    ] {
+        let Some(system) = system(alloc, program, age)? else {
+            assert!(rt; false, "these are stencils");
+            return Ok(());
+        };
+        let proposal = propose(alloc, &system)?;
+        let optimal = is_optimal(alloc, &system, &proposal.numbers, &proposal.flow)?;
+        assert!(rt; optimal);
+    }
     Ok(())
 }

@@ -176,68 +176,6 @@ pub struct Tree {
     pub parent: Vec<usize>,
 }
 
-// The tree that constraints give which are taken in their order.
-fn follow(
-    alloc: Global,
-    constraints: &[Constraint],
-    numbers: &[u64],
-    flow: &[u64],
-    root: usize,
-    way: &[usize],
-) -> Result<Tree, Memory>
-    requires state { IsState constraints.now numbers.now flow.now }
-    requires root { root < length numbers.now }
-    ensures sizes { IfOk result (λ t. (length t.order.items ≡ length numbers.now) × (length t.parent.items ≡ length numbers.now)) }
-    ensures tree { IfOk result (λ t. IsTree constraints.now flow.now t.order.items t.parent.items root) }
-    ensures tight { IfOk result (λ t. HangsTight constraints.now numbers.now t.order.items t.parent.items root) }
-    ensures bound { IfOk result (λ t. (v : ℕ) → slice_index t.order.items v ≤ length numbers.now) }
-{
-    let mut order = vec![in alloc; 0usize; numbers.len()]?;
-    let mut parent = vec![in alloc; 0usize; numbers.len()]?;
-    let mut found = vec![in alloc; root; numbers.len()]?;
-    order[root] = 1;
-    explore_from(
-        constraints,
-        numbers,
-        flow,
-        root,
-        &mut order,
-        &mut parent,
-        &mut found,
-        way,
-        1,
-    );
-    Ok(Tree { order, parent })
-}
-
-// A tree that reaches a node by the way that is given, or one of all nodes that are reached.
-pub fn find(
-    alloc: Global,
-    constraints: &[Constraint],
-    incident: &[Vec<usize>],
-    numbers: &[u64],
-    flow: &[u64],
-    root: usize,
-    end: usize,
-    way: &[usize],
-) -> Result<Tree, Memory>
-    requires state { IsState constraints.now numbers.now flow.now }
-    requires root { root < length numbers.now }
-    requires end { end < length numbers.now }
-    ensures sizes { IfOk result (λ t. (length t.order.items ≡ length numbers.now) × (length t.parent.items ≡ length numbers.now)) }
-    ensures tree { IfOk result (λ t. IsTree constraints.now flow.now t.order.items t.parent.items root) }
-    ensures tight { IfOk result (λ t. HangsTight constraints.now numbers.now t.order.items t.parent.items root) }
-    ensures closed { IfOk result (λ t. slice_index t.order.items end ≡ 0 → IsClosed constraints.now numbers.now flow.now t.order.items) }
-    ensures bound { IfOk result (λ t. (v : ℕ) → slice_index t.order.items v ≤ length numbers.now) }
-{
-    let tree = follow(alloc, constraints, numbers, flow, root, way)?;
-    if tree.order[end] != 0 {
-        return Ok(tree);
-    }
-    let tree = reach(alloc, constraints, incident, numbers, flow, root)?;
-    Ok(tree)
-}
-
 pub fn reach(
     alloc: Global,
     constraints: &[Constraint],

@@ -166,7 +166,7 @@ impl System {
     }
 
     // The constraints from where each image begins to where it ends.
-    pub fn hold_constraints(&self) -> &[Constraint]
+    pub(crate) fn hold_constraints(&self) -> &[Constraint]
         ensures items { result.now ≡ holds_of self.now.stencils.inputs (image_count self.now) }
         ensures ends { All (λ c. begin_count self.now.stencils.inputs (image_count self.now) ≤ c.target) result.now }
         ensures bounds { AreBounded (nodes self.now) result.now }
@@ -178,7 +178,7 @@ impl System {
     }
 
     // The constraints from what is read to what reads it.
-    pub fn read_constraints(&self) -> &[Constraint]
+    pub(crate) fn read_constraints(&self) -> &[Constraint]
         ensures items { result.now ≡ map (read self.now.stencils.width self.now.age self.now.stencils.inputs) (placed_reads self.now) }
         ensures later { All (λ c. 0 < c.target) result.now }
         ensures bounds { AreBounded (nodes self.now) result.now }
@@ -192,7 +192,7 @@ impl System {
     }
 
     // The constraints from what reads an image to where that ends.
-    pub fn keep_constraints(&self) -> &[Constraint]
+    pub(crate) fn keep_constraints(&self) -> &[Constraint]
         ensures items { result.now ≡ map (keep self.now.stencils.width self.now.stencils.inputs (image_count self.now)) (placed_reads self.now) }
         ensures ends { All (λ c. begin_count self.now.stencils.inputs (image_count self.now) ≤ c.target) result.now }
         ensures bounds { AreBounded (nodes self.now) result.now }

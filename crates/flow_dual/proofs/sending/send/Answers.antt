@@ -9,17 +9,13 @@ use Rattle.flow_dual.proofs.sending.send.Goals.{then-order-end-ne0, else-order-e
 
 pub least_slack-by-requires-clause-closed : goal.least_slack-by-requires-clause-closed
 least_slack-by-requires-clause-closed c =
-    let value = c.as_slice-order.ensures.value in
-    let end = (constraint_at c.args.constraints.now c.args.image).target in
-    let stops : slice_index c.in_ok-tree.tree.order.items end ≡ 0 = rw (← value) c.if-order-end-ne0.false in
-    let closed = subst (IsClosed c.args.constraints.now c.lift.new.numbers c.loop-rest.flow) (sym value) (c.in_ok-tree.ensures.closed stops) in
+    let closed = subst (IsClosed c.args.constraints.now c.loop-rest.numbers c.loop-rest.flow) (sym c.as_slice-order.ensures.value) c.in_ok-tree.ensures.closed in
     λ i h. (closed i h).forward
 
 pub loop-rest-preserved : goal.loop-rest-preserved
 loop-rest-preserved c =
     let cs = c.args.constraints.now in
-    let p = c.lift.new.numbers in
-    let lifted = c.in_ok-way.ensures in
+    let p = c.loop-rest.numbers in
     let flow = c.loop-rest.flow in
     let begin = (constraint_at cs c.args.image).source in
     let end = (constraint_at cs c.args.image).target in
@@ -34,11 +30,11 @@ loop-rest-preserved c =
           let changes : ChangesOnlyOn order parent begin end flow w.push-rest.new.flow = rw (← value, ← w.as_slice-parent.ensures.value) w.push-rest.ensures.changes in
           rw (w.numbers-is, w.flow-is, w.rest-is) (record {
             rest = omega arith;
-            numbers = lifted.numbers;
-            end = omega (arith, lifted.end, invariant.end);
+            numbers = invariant.numbers;
+            end = invariant.end;
             amounts = λ i. omega (arith, w.push-rest.ensures.grows i, invariant.amounts i);
-            holds = lifted.holds;
-            carries = pushed_complementary cs p order parent flow w.push-rest.new.flow begin end told.tight changes lifted.carries;
+            holds = invariant.holds;
+            carries = pushed_complementary cs p order parent flow w.push-rest.new.flow begin end told.tight changes invariant.carries;
             moves = Moves-more cs c.args.flow.now flow w.push-rest.new.flow begin end (c.args.width - c.loop-rest.rest) amount (c.args.width - (c.loop-rest.rest - amount))
                 (omega arith) invariant.moves w.push-rest.ensures.moves;
           })
@@ -55,13 +51,13 @@ loop-rest-preserved c =
           rw (w.numbers-is, w.flow-is, w.rest-is) (record {
             rest = invariant.rest;
             numbers = λ v. elim (cases_zero (slice_index order v)) [
-              | inl out ↦ omega (arith, others v out, lifted.numbers v)
-              | inr in' ↦ omega (arith, reached v in', near_root cs p flow order parent begin told.tree told.tight c.requires.costs v in', told.bound v, below, lifted.end, invariant.end)
+              | inl out ↦ omega (arith, others v out, invariant.numbers v)
+              | inr in' ↦ omega (arith, reached v in', near_root cs p flow order parent begin told.tree told.tight c.requires.costs v in', told.bound v, below, invariant.end)
             ];
-            end = omega (arith, others end stops, lifted.end, invariant.end);
+            end = omega (arith, others end stops, invariant.end);
             amounts = invariant.amounts;
-            holds = shifted_holds cs flow order p new by shifts room lifted.holds;
-            carries = shifted_complementary cs flow order p new by shifts (told.closed stops) lifted.carries;
+            holds = shifted_holds cs flow order p new by shifts room invariant.holds;
+            carries = shifted_complementary cs flow order p new by shifts told.closed invariant.carries;
             moves = invariant.moves;
           })
     ]

@@ -1,6 +1,6 @@
 use Rattle.std.proofs.Common.{◌<◌, ℕ, slice_index}
 use Rattle.raster_delay.specs.Network.{constraint_at, Holds, IsTight}
-use Rattle.flow_dual.proofs.lifting.carries.Given as goal
+use Rattle.flow_dual.proofs.checking.carries.Given as goal
 
 abbrev pub invariant-loop-i : goal.invariant-loop-i
 invariant-loop-i l = record {

@@ -1,0 +1,9 @@
+use Rattle.std.proofs.Common.{◌≡◌, ◌≤◌, ◌*◌, ◌^◌, ℕ, slice_index, take}
+use Rattle.raster_delay.specs.Network.{amount_at, taken}
+use Rattle.flow_dual.proofs.checking.add_outflows.Given as goal
+
+abbrev pub invariant-loop-i : goal.invariant-loop-i
+invariant-loop-i l = record {
+  value : (v : ℕ) → slice_index l.outflows v ≡ amount_at (take l.i (taken l.constraints l.flow)) v;
+  near : (v : ℕ) → slice_index l.outflows v ≤ l.i * 2 ^ 32;
+}
