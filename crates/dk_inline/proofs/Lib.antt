@@ -1,0 +1,14 @@
+pub mod Substituted
+pub mod Framed
+pub mod Meant
+pub mod Pictures
+pub mod Followed
+pub mod Kept
+pub mod Welltyped
+pub mod Programs
+pub mod Bodies
+pub mod Counted
+pub mod Listed
+pub mod Whole
+pub mod Folding
+pub mod FoldedImages

@@ -1,0 +1,35 @@
+use Rattle.dk_inline.proofs.Folding.{still_typed, stands_on, shifted_stands, unary_stands, binary_stands, select_stands, convert_stands, scale_stands}
+use Rattle.dk_inline.proofs.fold.+fold.Goals as goal
+
+pub fold_expression-constant_of-requires-clause-typed : goal.fold_expression-constant_of-requires-clause-typed
+fold_expression-constant_of-requires-clause-typed t c = still_typed _ _ c.fold_operands.ensures.stands c.requires
+
+pub fold_expression-returns-in-Some-clause-stands : goal.fold_expression-returns-in-Some-clause-stands
+fold_expression-returns-in-Some-clause-stands t c = rw c.put.ensures (stands_on _ _ _ c.fold_operands.ensures.stands c.in-Some.ensures.found)
+
+pub fold_operands-returns-in-Shifted-clause-stands : goal.fold_operands-returns-in-Shifted-clause-stands
+fold_operands-returns-in-Shifted-clause-stands t c =
+    rw c.in-Shifted.is (shifted_stands c.in-Shifted.field-0 c.in-Shifted.field-1 c.in-Shifted.field-2 _ _ (rw c.deref_mut.ensures.value at c.fold_expression.ensures.stands))
+
+pub fold_operands-returns-in-Unary-clause-stands : goal.fold_operands-returns-in-Unary-clause-stands
+fold_operands-returns-in-Unary-clause-stands t c =
+    rw c.in-Unary.is (unary_stands c.in-Unary.field-0 _ _ (rw c.deref_mut-in-Unary.ensures.value at c.fold_expression-in-Unary.ensures.stands))
+
+pub fold_operands-returns-in-Binary-clause-stands : goal.fold_operands-returns-in-Binary-clause-stands
+fold_operands-returns-in-Binary-clause-stands t c =
+    rw c.in-Binary.is (binary_stands c.in-Binary.field-0 _ _ _ _ (rw c.deref_mut-in-Binary.ensures.value at c.fold_expression-in-Binary.ensures.stands)
+    (rw c.deref_mut-in-Binary-2.ensures.value at c.fold_expression-in-Binary-2.ensures.stands))
+
+pub fold_operands-returns-in-Select-clause-stands : goal.fold_operands-returns-in-Select-clause-stands
+fold_operands-returns-in-Select-clause-stands t c =
+    rw c.in-Select.is (select_stands _ _ _ _ _ _ (rw c.deref_mut-in-Select.ensures.value at c.fold_expression-in-Select.ensures.stands)
+    (rw c.deref_mut-in-Select-2.ensures.value at c.fold_expression-in-Select-2.ensures.stands)
+    (rw c.deref_mut-in-Select-3.ensures.value at c.fold_expression-in-Select-3.ensures.stands))
+
+pub fold_operands-returns-in-Convert-clause-stands : goal.fold_operands-returns-in-Convert-clause-stands
+fold_operands-returns-in-Convert-clause-stands t c =
+    rw c.in-Convert.is (convert_stands c.in-Convert.field-0 _ _ c.in-Convert.field-2 (rw c.deref_mut-in-Convert.ensures.value at c.fold_expression-in-Convert.ensures.stands))
+
+pub fold_operands-returns-in-Scale-clause-stands : goal.fold_operands-returns-in-Scale-clause-stands
+fold_operands-returns-in-Scale-clause-stands t c =
+    rw c.in-Scale.is (scale_stands c.in-Scale.field-0 _ _ c.in-Scale.field-2 (rw c.deref_mut-in-Scale.ensures.value at c.fold_expression-in-Scale.ensures.stands))

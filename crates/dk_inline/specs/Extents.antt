@@ -1,0 +1,30 @@
+-- How large expressions are, as the counting tells it.
+use Rattle.std.specs.Prelude.{◌≡◌, ℕ, min, List, length, slice_get, slice_index_or, Option, Some, None}
+use Rattle.dk_types.specs.Typed.{Definition, Typing}
+use Rattle.pointwise_ir.specs.Trees.{Tree, depth_of}
+use Rattle.dk_inline.specs.declared.extent.Extent.{Extent}
+use Rattle.dk_inline.specs.Inlined.{Substitute, itself, body, inlined_body, substitutes}
+use Rattle.dk_inline.specs.Nodes.{nodes_of}
+
+-- the number, or 2^64 - 1 where it is greater
+abbrev pub saturated : ℕ → ℕ
+saturated n = min n 18446744073709551615
+
+pub record IsExtent (x : Extent) (e : Tree) : Type 0 where
+  pub nodes : x.nodes ≡ saturated (nodes_of e)
+  pub depth : x.depth ≡ saturated (depth_of e)
+
+-- of what stands in place of an image: none of an image that stays
+abbrev pub IsExtentOf : Option Extent → Substitute → Type 0
+IsExtentOf None itself = Unit {0}
+IsExtentOf (Some x) (body e) = IsExtent x e
+IsExtentOf None (body e) = ⊥
+IsExtentOf (Some x) itself = ⊥
+
+abbrev pub AreExtents : List (Option Extent) → List Substitute → Type 0
+AreExtents known images = (g : ℕ) → IsExtentOf (slice_index_or known g None) (slice_index_or images g itself)
+
+-- of the definitions' inlined bodies
+pub record HaveExtents (p : Typing) (extents : List Extent) : Type 0 where
+  pub long : length extents ≡ length p.definitions
+  pub each : (k : ℕ) (d : Definition) (x : Extent) → slice_get p.definitions k ≡ Some d → slice_get extents k ≡ Some x → IsExtent x (inlined_body (substitutes p) d)

@@ -1,0 +1,6 @@
+pub mod Inlined
+pub mod Nodes
+pub mod Answers
+pub mod Extents
+pub mod Folded
+pub mod Standing

@@ -1,0 +1,38 @@
+-- Expressions that stand for others, with folded parts.
+use Rattle.std.specs.Prelude.{◌≡◌, List}
+use Rattle.dk_base.specs.declared.ty.Ty.{Ty}
+use Rattle.dk_base.specs.Frames.{Size}
+use Rattle.pointwise_ir.specs.declared.ir.Definition.{Definition}
+use Rattle.pointwise_ir.specs.Trees.{Tree, constant, read, shifted, unary, binary, select, convert, scale, tree_of, AreNear}
+use Rattle.pointwise_ir.specs.Typing.{HasType}
+use Rattle.pointwise_ir.specs.Rewritings.{IsRewriting}
+use Rattle.dk_inline.specs.Folded.{HasFoldedParts}
+
+-- over some images the expression has a type, and its offsets are near
+pub record IsTyped (e : Tree) : Type 0 where
+  pub types : List Ty
+  pub ty : Ty
+  pub typed : HasType types e ty
+  pub offsets : AreNear e
+
+-- wherever a has a type, b may stand for it
+pub record StandsFor (a b : Tree) : Type 0 where
+  pub rewriting : (size : Size) (types : List Ty) (t : Ty) → HasType types a t → AreNear a → IsRewriting size types t a b
+
+-- each operand has folded parts
+abbrev pub HasFoldedOperands : Tree → Type 0
+HasFoldedOperands (constant v t) = Unit {0}
+HasFoldedOperands (read edge g dx dy) = Unit {0}
+HasFoldedOperands (shifted edge dx dy a) = HasFoldedParts a
+HasFoldedOperands (unary op a) = HasFoldedParts a
+HasFoldedOperands (binary op a b) = HasFoldedParts a × HasFoldedParts b
+HasFoldedOperands (select c a b) = HasFoldedParts c × HasFoldedParts a × HasFoldedParts b
+HasFoldedOperands (convert how a t) = HasFoldedParts a
+HasFoldedOperands (scale op a k) = HasFoldedParts a
+
+-- d' is d with a body that stands for d's and has folded parts
+pub record IsFoldOf (d d' : Definition) : Type 0 where
+  pub name : d'.name ≡ d.name
+  pub ty : d'.ty ≡ d.ty
+  pub stands : StandsFor (tree_of d.body) (tree_of d'.body)
+  pub folded : HasFoldedParts (tree_of d'.body)

@@ -1,0 +1,200 @@
+// How large a program is after inlining, counted before anything is substituted.
+
+ghost use Rattle.std.specs.Prelude.{◌≡◌, ℕ, ◌+◌, ◌<◌, max, List, length, IsTrue, ◌↔◌, IfOk, MatchOption, Some, None, slice_get, slice_index_or, if◌then◌else◌};
+ghost use Rattle.dk_types.specs.Typed.{Definition, typed_of, definition_of, typing_of};
+ghost use Rattle.dk_inline.specs.Inlined.{Substitute, inlined, inlined_body, substitutes, stays as stays_at};
+ghost use Rattle.dk_inline.specs.Nodes.{nodes_of, node_count as node_count_of, IsDeep, IsFirstDeep};
+ghost use Rattle.dk_inline.specs.Extents.{saturated, IsExtent, AreExtents, HaveExtents};
+
+use dk_base::{MAX_INLINED_DEPTH, Span};
+use dk_types::{TypedDefinition, TypedExpr, TypedNode, TypedProgram};
+use std::alloc::{AllocError, Global};
+
+/// The nodes and the depth of an expression after inlining. Both saturate.
+#[derive(Clone, Copy)]
+pub struct Extent {
+    pub nodes: u64,
+    pub depth: u64,
+}
+
+// Of a constant or a read.
+fn leaf() -> Extent
+    ensures nodes { result.nodes ≡ 1 }
+    ensures depth { result.depth ≡ 1 }
+{
+    Extent { nodes: 1, depth: 1 }
+}
+
+// Of a form with such operands.
+fn above(operands: Extent) -> Extent
+    ensures nodes { result.nodes ≡ saturated (operands.nodes + 1) }
+    ensures depth { result.depth ≡ saturated (operands.depth + 1) }
+{
+    Extent {
+        nodes: operands.nodes.saturating_add(1),
+        depth: operands.depth.saturating_add(1),
+    }
+}
+
+// Of operands side by side.
+fn beside(a: Extent, b: Extent) -> Extent
+    ensures nodes { result.nodes ≡ saturated (a.nodes + b.nodes) }
+    ensures depth { result.depth ≡ max a.depth b.depth }
+{
+    Extent {
+        nodes: a.nodes.saturating_add(b.nodes),
+        depth: a.depth.max(b.depth),
+    }
+}
+
+// Of the body of an image, where it is inline.
+fn known_extent(known: &[Option<Extent>], image: u32) -> Option<Extent>
+    ensures { result ≡ slice_index_or known.now image None }
+{
+    match known.get(image as usize) {
+        Some(found) => *found,
+        None => None,
+    }
+}
+
+// Of an expression, where `known` has those of the images.
+fn extent_of(known: &[Option<Extent>], e: &TypedExpr) -> Extent
+    ensures { (images : List Substitute) → AreExtents known.now images → IsExtent result (inlined images (typed_of e.now)) }
+{
+    match &e.node {
+        TypedNode::Number(_) => leaf(),
+        TypedNode::Read(read) => match known_extent(known, read.image) {
+            Some(body) => above(body),
+            None => leaf(),
+        },
+        TypedNode::Unary(_, a) => above(extent_of(known, a)),
+        TypedNode::Scale(_, a, _) => above(extent_of(known, a)),
+        TypedNode::Convert(_, a) => above(extent_of(known, a)),
+        TypedNode::Binary(_, a, b) => {
+            let left = extent_of(known, a);
+            let right = extent_of(known, b);
+            above(beside(left, right))
+        }
+        TypedNode::Select(c, a, b) => {
+            let condition = extent_of(known, c);
+            let left = extent_of(known, a);
+            let right = extent_of(known, b);
+            above(beside(condition, beside(left, right)))
+        }
+    }
+}
+
+// Of a definition's body, brought into its declared type.
+fn body_extent(known: &[Option<Extent>], definition: &TypedDefinition) -> Extent
+    ensures { (images : List Substitute) → AreExtents known.now images → IsExtent result (inlined_body images (definition_of definition.now)) }
+{
+    let body = extent_of(known, &definition.body);
+    match definition.declared {
+        Some(_) => above(body),
+        None => body,
+    }
+}
+
+// What a read of the definition's image adds.
+fn read_extent(definition: &TypedDefinition, body: Extent) -> Option<Extent>
+    ensures { result ≡ (if definition.now.inline then Some body else None) }
+{
+    if definition.inline { Some(body) } else { None }
+}
+
+// What reads of so many inputs add.
+fn unread(alloc: Global, inputs: usize) -> Result<Vec<Option<Extent>>, AllocError>
+    ensures long { IfOk result (λ v. length v.items ≡ inputs) }
+    ensures none { IfOk result (λ v. (g : ℕ) → slice_index_or v.items g None ≡ None) }
+{
+    Ok(vec![in alloc; None; inputs]?)
+}
+
+/// Of the bodies of all definitions, in order.
+pub(crate) fn extents(alloc: Global, program: &TypedProgram) -> Result<Vec<Extent>, AllocError>
+    ensures { IfOk result (λ all. HaveExtents (typing_of program.now) all.items) }
+{
+    program.law();
+    let definitions = program.definitions();
+    let mut known = unread(alloc, program.inputs().len())?;
+    let mut all = Vec::new(alloc);
+    for k in 0..definitions.len() {
+        let definition = &definitions[k];
+        let body = body_extent(&known, definition);
+        known.push(read_extent(definition, body))?;
+        all.push(body)?;
+    }
+    Ok(all)
+}
+
+/// Whether the definition of this number stays an image.
+pub(crate) fn stays(program: &TypedProgram, number: usize) -> bool
+    requires { number < length program.now.definitions }
+    ensures { (d : Definition) → slice_get (typing_of program.now).definitions number ≡ Some d → result ≡ stays_at (typing_of program.now) number d }
+{
+    program.law();
+    if !program.definitions()[number].inline {
+        return true;
+    }
+    let image = program.inputs().len() + number;
+    program.outputs().contains(&(image as u32))
+}
+
+// The nodes that a definition counts.
+fn counted(program: &TypedProgram, extents: &[Extent], number: usize) -> u64
+    requires extents { HaveExtents (typing_of program.now) extents.now }
+    requires number { number < length extents.now }
+    ensures { (d : Definition) → slice_get (typing_of program.now).definitions number ≡ Some d → result ≡ saturated (if stays_at (typing_of program.now) number d then nodes_of (inlined_body (substitutes (typing_of program.now)) d) else 0) }
+{
+    if stays(program, number) {
+        extents[number].nodes
+    } else {
+        0
+    }
+}
+
+/// The nodes of the program after inlining. The count saturates.
+pub(crate) fn node_count(program: &TypedProgram, extents: &[Extent]) -> u64
+    requires { HaveExtents (typing_of program.now) extents.now }
+    ensures { result ≡ saturated (node_count_of (typing_of program.now)) }
+{
+    let mut count: u64 = 0;
+    for k in 0..extents.len() {
+        count = count.saturating_add(counted(program, extents, k));
+    }
+    count
+}
+
+// Whether a depth passes the limit.
+fn passes(depth: u64) -> bool
+    ensures { IsTrue result ↔ (1024 < depth) }
+{
+    (MAX_INLINED_DEPTH as u64) < depth
+}
+
+// Whether a definition stays and is too deep.
+fn is_deep(program: &TypedProgram, extents: &[Extent], number: usize) -> bool
+    requires extents { HaveExtents (typing_of program.now) extents.now }
+    requires number { number < length extents.now }
+    ensures yes { IsTrue result → (d : Definition) → slice_get (typing_of program.now).definitions number ≡ Some d → IsDeep (typing_of program.now) number d }
+    ensures no { (d : Definition) → IsDeep (typing_of program.now) number d → IsTrue result }
+{
+    if !stays(program, number) {
+        return false;
+    }
+    let extent = extents[number];
+    passes(extent.depth)
+}
+
+/// The name of the first definition that is too deep.
+pub(crate) fn first_deep(program: &TypedProgram, extents: &[Extent]) -> Option<Span>
+    requires { HaveExtents (typing_of program.now) extents.now }
+    ensures { MatchOption result ((k : ℕ) (d : Definition) → IsDeep (typing_of program.now) k d → ⊥) (λ name. IsFirstDeep (typing_of program.now) name) }
+{
+    for k in 0..extents.len() {
+        if is_deep(program, extents, k) {
+            return Some(program.definitions()[k].name.span);
+        }
+    }
+    None
+}
