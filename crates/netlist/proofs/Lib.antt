@@ -4,3 +4,11 @@ pub mod FitLaws
 pub mod Scoped
 pub mod Kept
 pub mod Named
+mod Naming
+mod Resolving
+mod Declaring
+mod Profiles
+mod Driving
+mod Fine
+mod Turning
+mod Making

@@ -1,3 +1,7 @@
 pub mod Names
 pub mod Scopes
 pub mod Faults
+pub mod Entries
+pub mod Statements
+pub mod Profile
+pub mod Driven

@@ -1,5 +1,10 @@
 // Net faults.
 
+ghost use Rattle.std.specs.Prelude.{◌≡◌};
+ghost use Rattle.netlist.specs.declared.fault.NetFault.TheVariants.{Memory};
+
+use std::alloc::{AllocError, AllocFailed};
+
 /// What is declared: a port or a declaration, by its number in its list.
 #[derive(Clone, Copy, Debug, PartialEq, Eq)]
 pub enum Declared {
@@ -37,4 +42,20 @@ pub enum NetFault {
     Cycle(usize),
     /// There was not enough memory to tell.
     Memory,
+}
+
+impl From<AllocError> for NetFault {
+    ghost from_gives = { λ _ e. e ≡ Memory };
+
+    fn from(_: AllocError) -> Self {
+        NetFault::Memory
+    }
+}
+
+impl<T: Drop> From<AllocFailed<T>> for NetFault {
+    ghost from_gives = { λ _ e. e ≡ Memory };
+
+    fn from(_: AllocFailed<T>) -> Self {
+        NetFault::Memory
+    }
 }

@@ -2,11 +2,21 @@
 #![tactic(auto)]
 
 mod buffer;
+mod checking;
+mod declare;
+mod drive;
 mod fault;
 mod laws;
 mod module;
 mod names;
 mod parts;
+mod profile;
+mod resolve;
+mod scope;
+mod statement;
+#[cfg(test)]
+mod tests;
+mod width;
 
 pub use buffer::buffer_bits;
 pub use fault::{Declared, NetFault, Statement};

@@ -1,0 +1,12 @@
+use Rattle.std.proofs.Common.{◌≡◌, take}
+use Rattle.wiring.specs.Netlist.{netlist_of}
+use Rattle.netlist.specs.Scopes.{collected, update_named}
+use Rattle.netlist.specs.Statements.{IsGoodUpdate}
+use Rattle.netlist.proofs.Resolving.{Before}
+use Rattle.netlist.proofs.statement.checked_updates.Given as goal
+
+abbrev pub invariant-loop-k : goal.invariant-loop-k
+invariant-loop-k l = record {
+  made : l.updates.items ≡ collected (update_named l.scope) (take l.k l.named);
+  good : Before (IsGoodUpdate l.scope (netlist_of l.wiring)) l.named l.k;
+}

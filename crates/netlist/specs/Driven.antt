@@ -1,0 +1,74 @@
+-- What the tables of drivers say of the nets and arrays of a scope.
+use Rattle.std.specs.Prelude.{◌≡◌, ◌⊎◌, ℕ, Bool, true, is_some, List, Option}
+use Rattle.std.specs.Option.{option_map}
+use Rattle.wiring.specs.declared.netlist.Net.TheVariants.{Input, Output, Wire, Reg}
+use Rattle.wiring.specs.declared.netlist.Holder.TheVariants.{OfNet, OfArray}
+use Rattle.wiring.specs.Netlist.{Netlist, netlist_of, update_target}
+use Rattle.wiring.specs.Tables.{IsSecond, assign_target, driver_of, updater_of, IsTable, IsUpdateTable}
+use Rattle.wiring.specs.Order.{DependsOn, IsEvaluationOrder}
+use Rattle.wiring.specs.declared.netlist.Shape.{Shape}
+use Rattle.netlist.specs.declared.parts.Declaration.{Declaration}
+use Rattle.netlist.specs.declared.parts.Parts.{Parts}
+use Rattle.netlist.specs.declared.fault.Declared.{Declared}
+use Rattle.netlist.specs.declared.fault.Statement.TheVariants.{Assign as AssignAt, Update as UpdateAt}
+use Rattle.netlist.specs.declared.fault.NetFault.{NetFault}
+use Rattle.netlist.specs.declared.fault.NetFault.TheVariants.{DrivenTwice, Undriven, Cycle}
+use Rattle.netlist.specs.declared.drive.Tables.{Tables}
+use Rattle.netlist.specs.declared.checking.Wired.{Wired}
+use Rattle.netlist.specs.Scopes.{Meaning, clock, net, array, Entry, SizesFit, NamesAre, wire_width, reg_width, array_shape, netlist_of_parts}
+use Rattle.netlist.specs.Faults.{FirstWrong, IsPlace, TargetsDiffer, PassesDrivers}
+
+-- whether the tables have what drives it; the clock and inputs need nothing
+abbrev pub is_driven_by : Tables → Meaning → Bool
+is_driven_by d clock = true
+is_driven_by d (net (Input i)) = true
+is_driven_by d (net (Output i)) = is_some (driver_of d.drivers (Output i))
+is_driven_by d (net (Wire i)) = is_some (driver_of d.drivers (Wire i))
+is_driven_by d (net (Reg i)) = is_some (updater_of d.updaters (OfNet (Reg i)))
+is_driven_by d (array x) = is_some (updater_of d.updaters (OfArray x))
+
+abbrev pub IsDrivenEntry : Tables → Entry → Type 0
+IsDrivenEntry d e = is_driven_by d e.meaning ≡ true
+
+pub record AreTables (m : Netlist) (d : Tables) : Type 0 where
+  pub drivers : IsTable m.assigns d.drivers
+  pub updaters : IsUpdateTable m.updates d.updaters
+
+-- the assign, or update, that is the first second one of its target
+abbrev pub IsSecondAssign : Netlist → NetFault → Type 0
+IsSecondAssign m f = (k : ℕ) × (f ≡ DrivenTwice (AssignAt k)) × IsSecond assign_target m.assigns k
+
+abbrev pub IsSecondUpdate : Netlist → NetFault → Type 0
+IsSecondUpdate m f = (k : ℕ) × (f ≡ DrivenTwice (UpdateAt k)) × IsSecond update_target m.updates k
+
+abbrev pub IsDrivenTwice : Netlist → NetFault → Type 0
+IsDrivenTwice m f = IsSecondAssign m f ⊎ (TargetsDiffer assign_target m.assigns × IsSecondUpdate m f)
+
+-- the first of the scope that nothing drives
+pub record IsFirstUndriven (p : Parts) (scope : List Entry) (d : Tables) (f : NetFault) : Type 0 where
+  pub declared : Declared
+  pub place : ℕ
+  pub fault : f ≡ Undriven declared
+  pub is_place : IsPlace p declared place
+  pub first : FirstWrong (IsDrivenEntry d) (λ e. IsDrivenEntry d e → ⊥) scope place
+
+abbrev pub IsCycle : Netlist → NetFault → Type 0
+IsCycle m f = (k : ℕ) × (f ≡ Cycle k) × DependsOn m.assigns k k
+
+-- the parts with nets and arrays in place of names, and an order of their assigns
+pub record IsWired (p : Parts) (w : Wired) : Type 0 where
+  pub netlist : netlist_of w.wiring ≡ netlist_of_parts p
+  pub passes : PassesDrivers p
+  pub ordered : IsEvaluationOrder (netlist_of_parts p).assigns w.order.items
+  pub sizes : SizesFit p
+  pub names : NamesAre p
+
+-- the name of a declaration, where it is a wire, a register or an array
+abbrev pub wire_name : Declaration → Option (List ℕ)
+wire_name d = option_map (λ (w : ℕ). d.name) (wire_width d.sort)
+
+abbrev pub reg_name : Declaration → Option (List ℕ)
+reg_name d = option_map (λ (w : ℕ). d.name) (reg_width d.sort)
+
+abbrev pub array_name : Declaration → Option (List ℕ)
+array_name d = option_map (λ (s : Shape). d.name) (array_shape d.sort)

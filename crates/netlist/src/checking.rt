@@ -1,0 +1,138 @@
+// The module that parts make, or their first fault.
+
+ghost use Rattle.std.specs.Prelude.{◌≡◌, ◌++◌, reverse, OnOk, IfOk, IfErr};
+ghost use Rattle.std.specs.Option.{option_to_list};
+ghost use Rattle.wiring.specs.Netlist.{netlist_of};
+ghost use Rattle.netlist.specs.Names.{names_of as names_told};
+ghost use Rattle.netlist.specs.Scopes.{scope_of, netlist_of_parts, names_of_parts, collected, SizesFit};
+ghost use Rattle.netlist.specs.Faults.{PassesPorts, PassesStatements, IsFault, IsModuleOf};
+ghost use Rattle.netlist.specs.Driven.{IsWired, wire_name, reg_name, array_name};
+
+use crate::fault::NetFault;
+use crate::laws::rules_kept;
+use crate::module::Module;
+use crate::names::Names;
+use crate::parts::{Declaration, Parts, Sort};
+use crate::scope::Scope;
+use crate::{declare, drive, profile, statement};
+use net_names::Name;
+use std::alloc::{AllocError, Global};
+use wiring::Wiring;
+
+/// Parts with nets and arrays in place of names, and an order of their assigns.
+#[derive(Debug, Drop)]
+pub(crate) struct Wired {
+    pub wiring: Wiring,
+    pub order: Vec<usize>,
+}
+
+// The nets, and the statements that drive them.
+fn wiring_of(alloc: Global, parts: &Parts, scope: &Scope) -> Result<Wiring, NetFault>
+    requires passes { PassesPorts parts.now }
+    requires scope { scope.now ≡ scope_of parts.now }
+    ensures netlist { IfOk result (λ w. netlist_of w ≡ netlist_of_parts parts.now) }
+    ensures passes { OnOk result (PassesStatements parts.now) }
+    ensures sizes { OnOk result (SizesFit parts.now) }
+    ensures fault { IfErr result (IsFault parts.now) }
+{
+    let nets = declare::nets_of(alloc, parts)?;
+    let assigns = statement::checked_assigns(alloc, scope, &nets, &parts.assigns)?;
+    let updates = statement::checked_updates(alloc, scope, &nets, &parts.updates)?;
+    Ok(Wiring {
+        assigns,
+        updates,
+        ..nets
+    })
+}
+
+// The parts with nets and arrays in place of names.
+fn wired_of(alloc: Global, parts: &Parts) -> Result<Wired, NetFault>
+    ensures ok { IfOk result (IsWired parts.now) }
+    ensures fault { IfErr result (IsFault parts.now) }
+{
+    let scope = declare::scope_of(alloc, parts)?;
+    profile::check_ports(parts)?;
+    let wiring = wiring_of(alloc, parts, &scope)?;
+    let tables = drive::tables_of(alloc, &wiring)?;
+    drive::check_driven(parts, &scope, &tables)?;
+    let order = drive::order_of(alloc, &wiring, &tables.drivers)?;
+    Ok(Wired { wiring, order })
+}
+
+// Adds the name of a declaration to those of its sort.
+fn note_name(names: &mut Names, declaration: Declaration) -> Result<(), AllocError>
+    ensures top { OnOk result (names.new.module ≡ names.old.module) }
+    ensures wires { OnOk result (names.new.wires.items ≡ names.old.wires.items ++ option_to_list (wire_name declaration)) }
+    ensures regs { OnOk result (names.new.regs.items ≡ names.old.regs.items ++ option_to_list (reg_name declaration)) }
+    ensures arrays { OnOk result (names.new.arrays.items ≡ names.old.arrays.items ++ option_to_list (array_name declaration)) }
+{
+    let Declaration { name, sort } = declaration;
+    match sort {
+        Sort::Wire(_) => names.wires.push(name)?,
+        Sort::Reg(_) => names.regs.push(name)?,
+        Sort::Array(_) => names.arrays.push(name)?,
+    }
+    Ok(())
+}
+
+// The names of declarations, the last first.
+fn names_backwards(
+    alloc: Global,
+    name: Name,
+    mut declarations: Vec<Declaration>,
+) -> Result<Names, AllocError>
+    ensures top { IfOk result (λ n. n.module ≡ name) }
+    ensures wires { IfOk result (λ n. reverse n.wires.items ≡ collected wire_name declarations.items) }
+    ensures regs { IfOk result (λ n. reverse n.regs.items ≡ collected reg_name declarations.items) }
+    ensures arrays { IfOk result (λ n. reverse n.arrays.items ≡ collected array_name declarations.items) }
+{
+    let mut names = Names {
+        module: name,
+        wires: Vec::new(alloc),
+        regs: Vec::new(alloc),
+        arrays: Vec::new(alloc),
+    };
+    while let Some(declaration) = declarations.pop() {
+        note_name(&mut names, declaration)?;
+    }
+    Ok(names)
+}
+
+fn turn(names: &mut Vec<Name>)
+    ensures { names.new.items ≡ reverse names.old.items }
+{
+    names.reverse();
+}
+
+// The names of the module and of what is declared behind the ports.
+fn names_of(alloc: Global, parts: Parts) -> Result<Names, AllocError>
+    ensures { IfOk result (λ n. names_told n ≡ names_of_parts parts) }
+{
+    let Parts {
+        name,
+        ports: _,
+        declarations,
+        assigns: _,
+        updates: _,
+    } = parts;
+    let mut names = names_backwards(alloc, name, declarations)?;
+    turn(&mut names.wires);
+    turn(&mut names.regs);
+    turn(&mut names.arrays);
+    Ok(names)
+}
+
+impl Module {
+    /// The module that these parts make, or their first fault in the order of the passes.
+    pub fn checked(alloc: Global, parts: Parts) -> Result<Module, NetFault>
+        ensures made { IfOk result (IsModuleOf parts) }
+        ensures fault { IfErr result (IsFault parts) }
+    {
+        let Wired { wiring, order } = wired_of(alloc, &parts)?;
+        let names = names_of(alloc, parts)?;
+        wiring::no_cycle();
+        rules_kept();
+        let made = Module::in_order(names, wiring, order);
+        Ok(made)
+    }
+}
