@@ -1,0 +1,12 @@
+pub mod Parts
+pub mod Grown
+pub mod Drafts
+pub mod Known
+pub mod Room
+pub mod Updated
+pub mod MadeNames
+pub mod Finished
+pub mod Inputs
+pub mod Ended
+pub mod Fitting
+pub mod Shifts

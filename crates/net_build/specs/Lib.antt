@@ -1,0 +1,3 @@
+pub mod Includes
+pub mod Draft
+pub mod Naming
