@@ -1,0 +1,15 @@
+pub mod Repeated
+pub mod Flat
+pub mod Renamed
+pub mod Runs
+pub mod Edges
+pub mod Ranges
+pub mod NextReady
+pub mod Lengths
+pub mod Pieces
+pub mod Simulates
+pub mod Built
+pub mod Initial
+pub mod Given
+pub mod RunsJoin
+pub mod Masks

@@ -1,0 +1,9 @@
+pub mod Slots
+pub mod Code
+pub mod Edge
+pub mod Ready
+pub mod OneClock
+pub mod Simulated
+pub mod Filled
+pub mod Ports
+pub mod Runs

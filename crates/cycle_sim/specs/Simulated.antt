@@ -1,0 +1,48 @@
+-- A netlist in a simulator.
+use Rattle.std.specs.Prelude.{◌≡◌, ℕ, ◌+◌, List, length, drop, map}
+use Rattle.wiring.specs.Netlist.{Netlist}
+use Rattle.wiring.specs.Snapshot.{Contents, Snapshot, accesses}
+use Rattle.wiring.specs.Order.{IsEvaluationOrder}
+use Rattle.wiring.specs.Rules.{KeepsRules}
+use Rattle.cycle_sim.specs.declared.machine.Program.{Program}
+use Rattle.cycle_sim.specs.declared.build.Layout.{Layout}
+use Rattle.cycle_sim.specs.Slots.{all_values, all_widths}
+use Rattle.cycle_sim.specs.Code.{IsCode}
+use Rattle.cycle_sim.specs.Edge.{access, edge}
+use Rattle.cycle_sim.specs.Ready.{IsReady, ArraysFit}
+
+-- a netlist, and what its registers and arrays hold
+pub record Machine : Type 0 where
+  pub netlist : Netlist
+  pub contents : Contents
+
+abbrev pub contents_of : Netlist → List ℕ → List (List ℕ) → Contents
+contents_of m values words = record { regs = drop (length m.inputs + length m.outputs + length m.wires) values; arrays = words }
+
+-- where the nets of each sort begin
+pub record IsLayout (m : Netlist) (l : Layout) : Type 0 where
+  pub first_output : l.first_output ≡ length m.inputs
+  pub first_wire : l.first_wire ≡ length m.inputs + length m.outputs
+  pub first_reg : l.first_reg ≡ length m.inputs + length m.outputs + length m.wires
+  pub slots : l.slots ≡ length m.inputs + length m.outputs + length m.wires + length m.regs
+
+-- the program is the netlist's
+pub record IsProgram (m : Netlist) (order : List ℕ) (p : Program) : Type 0 where
+  pub code : IsCode m order p.code.items
+  pub widths : p.widths.items ≡ all_widths m
+  pub accessing : p.accesses.items ≡ map (access m) (accesses m)
+  pub edges : p.edges.items ≡ map (edge m) m.updates
+  pub enable : p.enable ≡ m.enable
+  pub first_reg : p.first_reg ≡ length m.inputs + length m.outputs + length m.wires
+
+-- the slots, the registers' room and the words are those of a snapshot of the netlist
+pub record IsCircuit (m : Netlist) (order : List ℕ) (p : Program) (slots room : List ℕ) (held : List (List ℕ)) : Type 0 where
+  pub rules : KeepsRules m
+  pub ordered : IsEvaluationOrder m.assigns order
+  pub program : IsProgram m order p
+  pub staged : length room ≡ length m.regs
+  pub shot : Snapshot
+  pub slots_are : slots ≡ all_values shot
+  pub words : held ≡ shot.contents.arrays
+  pub ready : IsReady m shot
+  pub fit : ArraysFit m held

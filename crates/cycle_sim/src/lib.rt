@@ -1,0 +1,21 @@
+//! A simulator of modules, a clock at a time.
+#![tactic(auto)]
+
+mod build;
+mod circuit;
+mod edge;
+mod evaluate;
+mod fill;
+mod machine;
+mod ports;
+mod running;
+mod settle;
+mod sim;
+#[cfg(test)]
+mod tests;
+
+pub use edge::IndexRange;
+pub use fill::Fill;
+pub use ports::Out;
+pub use running::{Clock, RunFault, run};
+pub use sim::Sim;
