@@ -1,0 +1,5 @@
+pub mod Once
+pub mod Ports
+pub mod Forms
+pub mod Apart
+pub mod Agreed

@@ -1,0 +1,36 @@
+-- The faults of the lower crates as faults of a text.
+use Rattle.dk_lexer.specs.declared.fault.LexError.{LexError}
+use Rattle.dk_lexer.specs.declared.fault.LexError.TheVariants as lexer
+use Rattle.dk_parser.specs.declared.whole.ParseError.{ParseError}
+use Rattle.dk_parser.specs.declared.whole.ParseError.TheVariants as parser
+use Rattle.dk_types.specs.declared.fault.TypeError.{TypeError}
+use Rattle.dk_types.specs.declared.fault.TypeError.TheVariants as types
+use Rattle.dk_inline.specs.declared.inlining.InlineFault.{InlineFault}
+use Rattle.dk_inline.specs.declared.inlining.InlineFault.TheVariants as inlining
+use Rattle.stencil_sets.specs.declared.live.StencilFault.{StencilFault}
+use Rattle.stencil_sets.specs.declared.live.StencilFault.TheVariants as stencils
+use Rattle.dk_compile.specs.declared.fault.SourceFault.{SourceFault}
+use Rattle.dk_compile.specs.declared.fault.SourceFault.TheVariants.{Lex, Nest, Syntax, Depth, Types, Nodes, InlineDepth, Reads, Memory}
+
+abbrev pub of_lexer : LexError → SourceFault
+of_lexer (lexer.Fault fault) = Lex fault
+of_lexer lexer.Memory = Memory
+
+abbrev pub of_parser : ParseError → SourceFault
+of_parser (parser.Nest span) = Nest span
+of_parser (parser.Syntax span) = Syntax span
+of_parser (parser.Depth span) = Depth span
+of_parser parser.Memory = Memory
+
+abbrev pub of_types : TypeError → SourceFault
+of_types (types.Fault fault) = Types fault
+of_types types.Memory = Memory
+
+abbrev pub of_inlining : InlineFault → SourceFault
+of_inlining (inlining.Nodes count) = Nodes count
+of_inlining (inlining.InlineDepth span) = InlineDepth span
+of_inlining inlining.Memory = Memory
+
+abbrev pub of_stencils : StencilFault → SourceFault
+of_stencils (stencils.Reads count) = Reads count
+of_stencils stencils.Memory = Memory

@@ -1,0 +1,108 @@
+// Why a text is no program within the limits.
+
+ghost use Rattle.std.specs.Prelude.{◌≡◌};
+ghost use Rattle.dk_lexer.specs.declared.fault.LexError.{LexError as LexStop};
+ghost use Rattle.dk_compile.specs.Faults.{of_lexer, of_parser, of_types, of_inlining, of_stencils};
+
+use dk_base::Span;
+use dk_inline::InlineFault;
+use dk_lexer::{LexError, LexFault};
+use dk_parser::ParseError;
+use dk_types::{TypeError, TypeFault};
+use stencil_sets::StencilFault;
+
+/// Why a text is no program within the limits, in the order in which it is judged. Spans are in bytes of the text.
+#[derive(Clone, Copy, Debug, PartialEq, Eq)]
+pub enum SourceFault {
+    /// The text has no tokens.
+    Lex(LexFault),
+    /// The first bracket that leaves too many unclosed.
+    Nest { span: Span },
+    /// The faulty token.
+    Syntax { span: Span },
+    /// The first subtree that is too deep.
+    Depth { span: Span },
+    /// The program has no types.
+    Types(TypeFault),
+    /// More than 65,536 nodes after inlining. The count saturates.
+    Nodes { count: u64 },
+    /// The name of the first definition that is deeper than 1,024 after inlining.
+    InlineDepth { span: Span },
+    /// More than 4,096 live reads. The count is 65,537 where there are more than 65,536.
+    Reads { count: u32 },
+    /// There was not enough memory to tell.
+    Memory,
+}
+
+impl From<LexError> for SourceFault {
+    ghost use Rattle.std.specs.Prelude.{◌≡◌};
+    ghost use Rattle.dk_compile.specs.Faults.{of_lexer};
+
+    ghost from_gives = { λ e f. f ≡ of_lexer e };
+
+    fn from(error: LexError) -> Self {
+        match error {
+            LexError::Fault(fault) => SourceFault::Lex(fault),
+            LexError::Memory => SourceFault::Memory,
+        }
+    }
+}
+
+impl From<ParseError> for SourceFault {
+    ghost use Rattle.std.specs.Prelude.{◌≡◌};
+    ghost use Rattle.dk_compile.specs.Faults.{of_parser};
+
+    ghost from_gives = { λ e f. f ≡ of_parser e };
+
+    fn from(error: ParseError) -> Self {
+        match error {
+            ParseError::Nest { span } => SourceFault::Nest { span },
+            ParseError::Syntax { span } => SourceFault::Syntax { span },
+            ParseError::Depth { span } => SourceFault::Depth { span },
+            ParseError::Memory => SourceFault::Memory,
+        }
+    }
+}
+
+impl From<TypeError> for SourceFault {
+    ghost use Rattle.std.specs.Prelude.{◌≡◌};
+    ghost use Rattle.dk_compile.specs.Faults.{of_types};
+
+    ghost from_gives = { λ e f. f ≡ of_types e };
+
+    fn from(error: TypeError) -> Self {
+        match error {
+            TypeError::Fault(fault) => SourceFault::Types(fault),
+            TypeError::Memory => SourceFault::Memory,
+        }
+    }
+}
+
+impl From<InlineFault> for SourceFault {
+    ghost use Rattle.std.specs.Prelude.{◌≡◌};
+    ghost use Rattle.dk_compile.specs.Faults.{of_inlining};
+
+    ghost from_gives = { λ e f. f ≡ of_inlining e };
+
+    fn from(fault: InlineFault) -> Self {
+        match fault {
+            InlineFault::Nodes { count } => SourceFault::Nodes { count },
+            InlineFault::InlineDepth { span } => SourceFault::InlineDepth { span },
+            InlineFault::Memory => SourceFault::Memory,
+        }
+    }
+}
+
+impl From<StencilFault> for SourceFault {
+    ghost use Rattle.std.specs.Prelude.{◌≡◌};
+    ghost use Rattle.dk_compile.specs.Faults.{of_stencils};
+
+    ghost from_gives = { λ e f. f ≡ of_stencils e };
+
+    fn from(fault: StencilFault) -> Self {
+        match fault {
+            StencilFault::Reads { count } => SourceFault::Reads { count },
+            StencilFault::Memory => SourceFault::Memory,
+        }
+    }
+}

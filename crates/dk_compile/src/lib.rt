@@ -1,0 +1,14 @@
+//! Programs as texts, on their way to circuits.
+#![tactic(auto)]
+
+mod accepted;
+mod fault;
+mod laws;
+mod reading;
+#[cfg(test)]
+mod tests;
+
+pub use accepted::Front;
+pub use fault::SourceFault;
+pub use laws::one_source;
+pub use reading::front;
