@@ -1,5 +1,5 @@
 -- Counting before anything is substituted.
-use Rattle.std.proofs.Common.{◌≡◌, ℕ, zero, suc, ◌+◌, ◌<◌, ◌≤◌, Bool, true, false, List, [], ◌∷◌, ◌++◌, length, take, drop, slice_get, slice_index_or, Option, Some, None, if◌then◌else◌, refl, ap, sym, ◌∙◌, subst, arith, length-append, inl, inr}
+use Rattle.std.proofs.Common.{◌≡◌, ℕ, zero, suc, ◌+◌, ◌<◌, ◌≤◌, Bool, true, false, List, [], ◌∷◌, ◌++◌, length, take, drop, slice_get, slice_index_or, Option, Some, None, if◌then◌else◌, ap, sym, ◌∙◌, subst, arith, length-append, inl, inr}
 use Rattle.std.proofs.Math.ListN.{get_or-append}
 use Rattle.std.proofs.Math.Seq.{get_or-append_seam}
 use Rattle.std.proofs.lemmas.Bool.{cases_lt}
@@ -15,6 +15,7 @@ use Rattle.dk_inline.specs.Inlined.{Substitute, itself, body, inlined_body, subs
 use Rattle.dk_inline.specs.Nodes.{nodes_of, nodes_from, node_count, IsDeep, IsFirstDeep}
 use Rattle.dk_inline.specs.Extents.{saturated, IsExtent, IsExtentOf, AreExtents, HaveExtents}
 use Rattle.dk_inline.proofs.Substituted.{body_same, input, definition, well_at, earlier}
+use Rattle.dk_inline.proofs.Lists.{entry, past_end, none_left, length-taken}
 use Rattle.dk_inline.proofs.Bodies.{entry_as}
 
 -- numbers
@@ -71,22 +72,10 @@ count_more p k count own d is owned before =
     sums : (count own exact left rest whole : ℕ) → own ≡ saturated exact → left ≡ exact + rest → saturated (count + left) ≡ saturated whole → saturated (saturated (count + own) + rest) ≡ saturated whole
     sums count own exact left rest whole a b c = omega (arith, a, b, c)
 
-past_end : {A : Type 0} (xs : List A) (k : ℕ) → length xs ≤ k → drop k xs ≡ []
-past_end [] zero h = refl
-past_end [] (suc k) h = refl
-past_end (x ∷ xs) zero h = absurd (omega (arith, h))
-past_end (x ∷ xs) (suc k) h = past_end xs k (omega (arith, h))
-
 pub count_whole : (p : Typing) (k count : ℕ) → length p.definitions ≤ k → count ≤ 18446744073709551615 → saturated (count + nodes_from p k (drop k p.definitions)) ≡ saturated (node_count p) → count ≡ saturated (node_count p)
 count_whole p k count past few is =
-    let none : nodes_from p k (drop k p.definitions) ≡ 0 = ap (nodes_from p k) (past_end p.definitions k past) in
+    let none : nodes_from p k (drop k p.definitions) ≡ 0 = ap (nodes_from p k) (none_left p.definitions k past) in
     omega (arith, none, few, is)
-
--- there is an entry at each place of a list
-pub entry : {A : Type 0} (xs : List A) (k : ℕ) → k < length xs → (x : A) × (slice_get xs k ≡ Some x)
-entry [] k lt = absurd (omega (arith, lt))
-entry (x ∷ xs) zero lt = (x, refl)
-entry (x ∷ xs) (suc k) lt = entry xs k (omega (arith, lt))
 
 pub definition_count : (p : Parts) → length (typing_of p).definitions ≡ length p.definitions
 definition_count p = length-map p.definitions definition_of
@@ -125,17 +114,6 @@ none_is p xs k have past before j d is =
 -- what stands in place of the inputs and the first k definitions
 abbrev pub images_before : Typing → ℕ → List Substitute
 images_before p k = take (length p.inputs + k) (substitutes p)
-
-past : {A : Type 0} (xs : List A) (g : ℕ) (d : A) → length xs ≤ g → slice_index_or xs g d ≡ d
-past [] g d h = refl
-past (x ∷ xs) zero d h = absurd (omega (arith, h))
-past (x ∷ xs) (suc g) d h = past xs g d (omega (arith, h))
-
-length-taken : {A : Type 0} (n : ℕ) (xs : List A) → length (take n xs) ≤ n
-length-taken zero [] = omega arith
-length-taken zero (x ∷ xs) = omega arith
-length-taken (suc n) [] = omega arith
-length-taken (suc n) (x ∷ xs) = let l = length-taken n xs in omega (arith, l)
 
 body_of_all : (p : Typing) → IsTyped p → (k : ℕ) (d : Definition) → slice_get p.definitions k ≡ Some d → inlined_body (images_before p k) d ≡ inlined_body (substitutes p) d
 body_of_all p typed k d is =
@@ -180,7 +158,7 @@ known_more p typed k known x d is counted are extent = (more, own)
             let l = length-taken (length p.inputs + (k + 1)) (substitutes p) in
             let a : length (known ++ new ∷ []) ≤ g = omega (arith, size, above) in
             let b : length (images_before p (k + 1)) ≤ g = omega (arith, l, above, counted) in
-            same_extent None _ itself _ (sym (past (known ++ new ∷ []) g None a)) (sym (past (images_before p (k + 1)) g itself b)) tt
+            same_extent None _ itself _ (sym (past_end (known ++ new ∷ []) g None a)) (sym (past_end (images_before p (k + 1)) g itself b)) tt
         | inr at_most ↦
             let here : length known ≡ g = omega (arith, high, at_most) in
             let place : g ≡ length p.inputs + k = omega (arith, here, counted) in
@@ -200,7 +178,7 @@ known_first p known none g = elim (cases_lt g (length p.inputs)) [
       same_extent None _ itself _ (sym (none g)) (sym (get_or-take (length p.inputs + 0) (substitutes p) g itself lt ∙ input p g low)) tt
   | inr high ↦
       let l = length-taken (length p.inputs + 0) (substitutes p) in
-      same_extent None _ itself _ (sym (none g)) (sym (past (images_before p 0) g itself (omega (arith, l, high)))) tt
+      same_extent None _ itself _ (sym (none g)) (sym (past_end (images_before p 0) g itself (omega (arith, l, high)))) tt
 ]
 
 -- those that are there are of the definitions' bodies

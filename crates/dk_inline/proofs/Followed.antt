@@ -1,5 +1,5 @@
 -- An expression and its inlined form read the same pixels.
-use Rattle.std.proofs.Common.{◌≡◌, ℕ, zero, suc, ◌+◌, ◌-◌, ◌<◌, ◌≤◌, List, [], ◌∷◌, ◌++◌, length, map, take, ℤ, ◌+ℤ◌, Option, Some, None, slice_get, refl, ap, sym, ◌∙◌, subst, arith, ◌⊎◌, inl, inr}
+use Rattle.std.proofs.Common.{◌≡◌, ℕ, zero, suc, ◌+◌, ◌-◌, ◌<◌, ◌≤◌, List, ◌++◌, length, map, take, ℤ, ◌+ℤ◌, Option, Some, None, slice_get, refl, ap, sym, ◌∙◌, subst, arith, ◌⊎◌, inl, inr}
 use Rattle.std.specs.Prelude.{Bool, true, false, if◌then◌else◌, IsTrue, ◌↔◌}
 use Rattle.std.proofs.lemmas.Bool.{cases_lt}
 use Rattle.std.proofs.lemmas.Option.{slice_get_within}
@@ -12,6 +12,7 @@ use Rattle.dk_types.specs.Reads.{Mentions, IsDefinitionOf, IsStored, Ends, Reads
 use Rattle.pointwise_ir.specs.Trees.{Tree}
 use Rattle.pointwise_ir.specs.Reads as R
 use Rattle.dk_inline.specs.Inlined.{Substitute, itself, body, edge_of, read_of, inlined, declared_as, inlined_body, substitutes}
+use Rattle.dk_inline.proofs.Lists.{entry}
 use Rattle.dk_inline.proofs.Substituted.{substitute_at, input, definition, well_at, earlier}
 
 -- a step ends at the same point on both sides
@@ -79,11 +80,6 @@ mention_below ts (chosen t c a b) r well (inr (inl m)) = mention_below ts a r we
 mention_below ts (chosen t c a b) r well (inr (inr m)) = mention_below ts b r well.2 m
 
 -- an image is an input or a definition
-entry : {A : Type 0} (xs : List A) (k : ℕ) → k < length xs → (x : A) × (slice_get xs k ≡ Some x)
-entry [] k lt = absurd (omega arith)
-entry (x ∷ xs) zero lt = (x, refl)
-entry (x ∷ xs) (suc k) lt = entry xs k (omega (arith, lt))
-
 pub image_at : (p : Typing) (g : ℕ) → g < length p.inputs + length p.definitions → (g < length p.inputs) ⊎ ((d : Definition) × IsDefinitionOf p g d)
 image_at p g lt = elim (cases_lt g (length p.inputs)) [
   | inl less ↦ inl less

@@ -1,3 +1,4 @@
+pub mod Lists
 pub mod Substituted
 pub mod Framed
 pub mod Meant

@@ -13,6 +13,7 @@ use Rattle.dk_types.specs.Types.{Takes}
 use Rattle.dk_types.specs.Kept.{IsWell, AreWell, IsTyped}
 use Rattle.pointwise_ir.specs.Trees.{unary, binary, select, convert, scale}
 use Rattle.dk_inline.specs.Inlined.{Substitute, itself, body, read_of, inlined, declared_as, inlined_body, substitute_of, substitutes_from, substitutes}
+use Rattle.dk_inline.proofs.Lists.{past_end, length-taken}
 
 -- what stands in place of image g
 abbrev pub substitute_at : List Substitute → ℕ → Substitute
@@ -97,11 +98,6 @@ inputs_stay [] g = refl
 inputs_stay (i ∷ is) zero = refl
 inputs_stay (i ∷ is) (suc g) = inputs_stay is g
 
-past_end : (known : List Substitute) (g : ℕ) → length known ≤ g → substitute_at known g ≡ itself
-past_end [] g ge = refl
-past_end (s ∷ known) zero ge = absurd (omega arith)
-past_end (s ∷ known) (suc g) ge = past_end known g (omega (arith, ge))
-
 -- of a whole program
 pub long : (p : Typing) → length (substitutes p) ≡ length p.inputs + length p.definitions
 long p =
@@ -121,16 +117,10 @@ definition p typed k d is =
     ap (λ n. substitute_at (substitutes p) (n + k)) (sym a) ∙ definition_from p.definitions (input_types p.inputs) known (a ∙ sym b) typed.bodies k d is
 
 pub past : (p : Typing) (g : ℕ) → length p.inputs + length p.definitions ≤ g → substitute_at (substitutes p) g ≡ itself
-past p g ge = past_end (substitutes p) g (let e = long p in omega (arith, ge, e))
+past p g ge = past_end (substitutes p) g itself (let e = long p in omega (arith, ge, e))
 
 pub well_at : (p : Typing) → IsTyped p → (k : ℕ) (d : Definition) → slice_get p.definitions k ≡ Some d → IsWell (input_types p.inputs ++ map image_type (take k p.definitions)) d.body × Takes d.declared (type_of d.body)
 well_at p typed k d is = well_from p.definitions (input_types p.inputs) typed.bodies k d is
-
-length-taken : {A : Type 0} (k : ℕ) (xs : List A) → length (take k xs) ≤ k
-length-taken zero [] = omega arith
-length-taken zero (x ∷ xs) = omega arith
-length-taken (suc k) [] = omega arith
-length-taken (suc k) (x ∷ xs) = let l = length-taken k xs in omega (arith, l)
 
 -- the images that the k-th definition may read are those before it
 pub earlier : (p : Typing) (k : ℕ) → length (input_types p.inputs ++ map image_type (take k p.definitions)) ≤ length p.inputs + k
