@@ -7,15 +7,16 @@ use Rattle.wiring.specs.declared.netlist.Net.{Net}
 use Rattle.wiring.specs.declared.netlist.Net.TheVariants.{Input, Output, Wire, Reg}
 use Rattle.wiring.specs.declared.netlist.Assign.{Assign}
 use Rattle.wiring.specs.Sizes.{IsConstant}
-use Rattle.wiring.specs.Netlist.{Netlist, IsDeclared, IsDriven}
-use Rattle.wiring.specs.Rights.{nets_of}
+use Rattle.wiring.specs.Netlist.{Netlist, net_width, IsDeclared, IsDriven}
+use Rattle.wiring.specs.Rights.{nets_of, right_value}
+use Rattle.wiring.specs.Snapshot.{net_value, word_value}
 use Rattle.wiring.specs.Rules.{KeepsRules, AssignIsSound, UpdateIsSound}
 use Rattle.wiring.specs.Order.{Feeds, IsEvaluationOrder}
 use Rattle.wiring.proofs.Lists.{All-at, All-from_at, slice_get-append}
 use Rattle.wiring.proofs.Ordered.{order_acyclic}
-use Rattle.net_build.specs.Includes.{Includes}
+use Rattle.net_build.specs.Includes.{Includes, InEach}
 use Rattle.net_build.specs.Draft.{IsDraft, AreSources, IsCounted, AllUpdated, output_assign, output_assigns, with_outputs}
-use Rattle.net_build.proofs.Parts.{Begins-refl}
+use Rattle.net_build.proofs.Parts.{Begins-refl, at_Begins}
 use Rattle.net_build.proofs.Grown.{assign_more, update_more, width_more, declared_more}
 use Rattle.net_build.proofs.Drafts.{append_at, append_behind}
 
@@ -34,6 +35,18 @@ output_there k [] i n e = cc
 output_there k (x ∷ ns) zero n e =
     ap (λ (y : Net). Some (output_assign k y)) (same_Some x n e) ∙ ap (λ (j : ℕ). Some (output_assign j n)) (let h : k ≡ k + 0 = omega arith in h)
 output_there k (x ∷ ns) (suc i) n e = output_there (suc k) ns i n e ∙ ap (λ (j : ℕ). Some (output_assign j n)) (let g : suc k + i ≡ k + suc i = omega arith in g)
+
+pub includes_outputs : (b : Netlist) (sources : List Net) → Includes (with_outputs b sources) b
+includes_outputs b sources = record {
+  enable = refl;
+  inputs = refl;
+  outputs = refl;
+  wires = Begins-refl b.wires;
+  regs = Begins-refl b.regs;
+  arrays = Begins-refl b.arrays;
+  assigns = (output_assigns 0 sources, refl);
+  updates = Begins-refl b.updates;
+}
 
 module _ (b : Netlist) (draft : IsDraft b) (sources : List Net) (are : AreSources b sources) where
   abbrev m : Netlist
@@ -59,16 +72,7 @@ module _ (b : Netlist) (draft : IsDraft b) (sources : List Net) (are : AreSource
       (output_there 0 sources j x at ∙ ap (λ (i : ℕ). Some (output_assign i x)) (let e : 0 + j ≡ j = omega arith in e))
 
   part : Includes m b
-  part = record {
-    enable = refl;
-    inputs = refl;
-    outputs = refl;
-    wires = Begins-refl b.wires;
-    regs = Begins-refl b.regs;
-    arrays = Begins-refl b.arrays;
-    assigns = (output_assigns 0 sources, refl);
-    updates = Begins-refl b.updates;
-  }
+  part = includes_outputs b sources
 
   output_sound : (j : ℕ) (x : Net) → slice_get sources j ≡ Some x → AssignIsSound m (output_assign j x)
   output_sound j x at =
@@ -167,3 +171,12 @@ module _ (b : Netlist) (draft : IsDraft b) (sources : List Net) (are : AreSource
       updated = record { some = all; one = draft.once };
       acyclic = order_acyclic m.assigns order finished_ordered;
     }
+
+-- each output shows its net
+pub output_shown : (b : Netlist) (sources : List Net) (k : ℕ) (n : Net) → slice_get sources k ≡ Some n → InEach (with_outputs b sources) (λ m s. net_value s (Output k) ≡ net_value s n)
+output_shown b sources k n at m s part settled =
+    let whole : Netlist = with_outputs b sources in
+    let there : slice_get whole.assigns (length b.assigns + k) ≡ Some (output_assign k n) =
+    append_behind b.assigns (output_assigns 0 sources) k (output_assign k n) (output_there 0 sources k n at ∙ ap (λ (i : ℕ). Some (output_assign i n)) (let e : 0 + k ≡ k = omega arith in e)) in
+    All-at (λ (a : Assign). net_value s a.target ≡ right_value (net_width m) (word_value s) (net_value s) a.right) m.assigns (length b.assigns + k) (output_assign k n) settled.assigns
+    (at_Begins whole.assigns m.assigns (length b.assigns + k) (output_assign k n) part.assigns there)

@@ -13,7 +13,7 @@ use Rattle.wiring.specs.declared.netlist.Shape.{Shape}
 use Rattle.wiring.specs.declared.netlist.Assign.{Assign}
 use Rattle.wiring.specs.Rights.{nets_of, right_value}
 use Rattle.wiring.specs.Netlist.{Netlist, net_width, word_width, IsDeclared}
-use Rattle.wiring.specs.Snapshot.{Snapshot, net_value, word_value, Fit, FitsContents, IsSettled}
+use Rattle.wiring.specs.Snapshot.{Contents, Snapshot, net_value, word_value, Fit, FitsContents, IsSettled}
 use Rattle.wiring.specs.Rules.{AssignIsSound}
 use Rattle.wiring.proofs.Lists.{All-at}
 use Rattle.wiring.proofs.Fits.{right_lt}
@@ -28,6 +28,10 @@ zip_get R [] ys k x d all e = absurd (omega (arith, slice_get_within [] k x e))
 zip_get R (a ∷ xs) [] k x d all e = absurd all
 zip_get R (a ∷ xs) (b ∷ ys) zero x d all e = subst (λ z. R z b) (same_Some a x e) all.0
 zip_get R (a ∷ xs) (b ∷ ys) (suc k) x d all e = zip_get R xs ys k x d all.1 e
+
+-- contents that fit have each word of an array
+pub array_long : (m : Netlist) (c : Contents) (x : ℕ) (shape : Shape) → FitsContents m c → slice_get m.arrays x ≡ Some shape → length (slice_index_or c.arrays x []) ≡ shape.depth
+array_long m c x shape fits at = (zip_get (λ (s : Shape) words. (length words ≡ s.depth) × All (λ w. w < 2 ^ s.width) words) m.arrays c.arrays x shape [] fits.arrays at).0
 
 -- a word of a list, 0 past its end
 word_fits : (words : List ℕ) (i w : ℕ) → All (λ v. v < 2 ^ w) words → get_or words i 0 < 2 ^ w

@@ -14,7 +14,7 @@ use Rattle.wiring.specs.declared.netlist.Net.TheVariants.{Input, Output, Wire, R
 use Rattle.wiring.specs.declared.netlist.Shape.{Shape}
 use Rattle.wiring.specs.declared.netlist.Assign.{Assign}
 use Rattle.wiring.specs.Rights.{nets_of, atom_nets, atom_width, right_width, operator_width}
-use Rattle.wiring.specs.Netlist.{Netlist, net_width, word_width, IsDeclared, IsDriven}
+use Rattle.wiring.specs.Netlist.{Netlist, net_width, word_width, depth, IsDeclared, IsDriven}
 use Rattle.wiring.specs.Rules.{RightIsSound, AssignIsSound, AtomIsSound, UpdateIsSound, WidthsAgree, ArrayIsDeclared}
 use Rattle.wiring.specs.declared.netlist.Update.{Update}
 use Rattle.wiring.specs.declared.netlist.Update.TheVariants.{Set, Put}
@@ -23,7 +23,7 @@ use Rattle.net_build.specs.Includes.{Begins, Includes}
 use Rattle.net_build.specs.Draft.{IsNet, IsOperation}
 use Rattle.wiring.proofs.Lists.{slice_get-append}
 
-length_begins : {X : Type 0} (xs ys : List X) → Begins xs ys → length xs ≤ length ys
+pub length_begins : {X : Type 0} (xs ys : List X) → Begins xs ys → length xs ≤ length ys
 length_begins xs ys b = omega (arith, ap length b.1, length-append xs b.0)
 
 index_begins : (xs ys : List ℕ) (i : ℕ) → Begins xs ys → i < length xs → slice_index ys i ≡ slice_index xs i
@@ -42,12 +42,21 @@ module _ (m b : Netlist) (f : Includes m b) where
   width_more (Wire i) d = index_begins b.wires m.wires i f.wires d
   width_more (Reg i) d = index_begins b.regs m.regs i f.regs d
 
-  array_more : (x : ℕ) → x < length b.arrays → word_width m x ≡ word_width b x
+  pub array_more : (x : ℕ) → x < length b.arrays → word_width m x ≡ word_width b x
   array_more x l =
       elim (slice_get_cases b.arrays x).1 as (λ _. word_width m x ≡ word_width b x) [
         | inl h ↦
             let there : slice_get m.arrays x ≡ Some h.0 = ap (λ (ss : List Shape). slice_get ss x) f.arrays.1 ∙ slice_get-append b.arrays f.arrays.0 x h.0 h.2 in
             ap (λ o. unwrap_or (option_map (λ (s : Shape). s.width) o) 0) (there ∙ sym h.2)
+        | inr h ↦ absurd (omega (arith, h.0, l))
+      ]
+
+  pub depth_more : (x : ℕ) → x < length b.arrays → depth m x ≡ depth b x
+  depth_more x l =
+      elim (slice_get_cases b.arrays x).1 as (λ _. depth m x ≡ depth b x) [
+        | inl h ↦
+            let there : slice_get m.arrays x ≡ Some h.0 = ap (λ (ss : List Shape). slice_get ss x) f.arrays.1 ∙ slice_get-append b.arrays f.arrays.0 x h.0 h.2 in
+            ap (λ o. unwrap_or (option_map (λ (s : Shape). s.depth) o) 0) (there ∙ sym h.2)
         | inr h ↦ absurd (omega (arith, h.0, l))
       ]
 

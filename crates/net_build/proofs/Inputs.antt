@@ -1,9 +1,9 @@
 -- The inputs of a draft.
-use Rattle.std.proofs.Common.{◌≡◌, ℕ, ◌+◌, ◌<◌, Bool, true, false, length, ap, arith}
+use Rattle.std.proofs.Common.{◌≡◌, ℕ, suc, ◌∷◌, sym, subst, ◌∙◌, ◌+◌, ◌<◌, Bool, true, false, length, ap, arith}
 use Rattle.std.specs.Prelude.{IsTrue, List, slice_index, if◌then◌else◌}
 use Rattle.wiring.specs.declared.netlist.Net.TheVariants.{Input, Output}
 use Rattle.wiring.specs.Netlist.{Netlist, net_width, first_din}
-use Rattle.wiring.specs.Rules.{ArePorts}
+use Rattle.wiring.specs.Rules.{ArePorts, IsPortWidth}
 use Rattle.net_build.specs.Draft.{IsNet, IsDraft}
 
 input_net : (b : Netlist) (k : ℕ) → k < length b.inputs → IsNet b (Input k)
@@ -36,3 +36,16 @@ en_width b draft h = en_one b.inputs b.outputs b.enable h draft.ports
 
 pub din_within : (b : Netlist) → IsDraft b → first_din b + 0 < length b.inputs
 din_within b draft = din_in b.inputs b.outputs b.enable draft.ports
+
+-- each din has the width of a port
+module _ (outputs : List ℕ) (k : ℕ) where
+  din_wide : (enable : Bool) (inputs : List ℕ) → ArePorts enable inputs outputs → (if enable then 2 else 1) + k < length inputs → IsPortWidth (slice_index inputs ((if enable then 2 else 1) + k))
+  din_wide true inputs p within =
+      let at : slice_index inputs (2 + k) ≡ slice_index p.dins k = ap (λ (l : List ℕ). slice_index l (2 + k)) p.inputs_are ∙ ap (λ (j : ℕ). slice_index (1 ∷ (1 ∷ p.dins)) j) (let e : 2 + k ≡ suc (suc k) = omega arith in e) in
+      subst IsPortWidth (sym at) (p.din_widths k 0 (omega (arith, within, ap length p.inputs_are)))
+  din_wide false inputs p within =
+      let at : slice_index inputs (1 + k) ≡ slice_index p.dins k = ap (λ (l : List ℕ). slice_index l (1 + k)) p.inputs_are ∙ ap (λ (j : ℕ). slice_index (1 ∷ p.dins) j) (let e : 1 + k ≡ suc k = omega arith in e) in
+      subst IsPortWidth (sym at) (p.din_widths k 0 (omega (arith, within, ap length p.inputs_are)))
+
+pub din_width : (b : Netlist) (k : ℕ) → IsDraft b → first_din b + k < length b.inputs → IsPortWidth (net_width b (Input (first_din b + k)))
+din_width b k draft within = din_wide b.outputs k b.enable b.inputs draft.ports within

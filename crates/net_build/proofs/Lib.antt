@@ -1,4 +1,5 @@
 pub mod Parts
+pub mod Runs
 pub mod Grown
 pub mod Drafts
 pub mod Known
@@ -8,5 +9,9 @@ pub mod MadeNames
 pub mod Finished
 pub mod Inputs
 pub mod Ended
+pub mod Stops
+pub mod Operands
+pub mod Updating
+pub mod Control
+pub mod Reading
 pub mod Fitting
-pub mod Shifts

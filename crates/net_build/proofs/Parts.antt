@@ -37,3 +37,7 @@ Includes-trans c b a f g = record {
 -- what holds in each netlist with a part holds in each with more
 pub InEach-more : (P : Netlist → Snapshot → Type 0) (b a : Netlist) → Includes b a → InEach a P → InEach b P
 InEach-more P b a f h m s g settled = h m s (Includes-trans m b a g f) settled
+
+-- the same in the order of growth, for chains of calls
+pub includes_on : (a b c : Netlist) → Includes b a → Includes c b → Includes c a
+includes_on a b c f g = Includes-trans c b a g f

@@ -5,6 +5,7 @@ use Rattle.wiring.specs.declared.netlist.Net.{Net}
 use Rattle.wiring.specs.declared.netlist.Holder.TheVariants.{OfNet, OfArray}
 use Rattle.wiring.specs.declared.netlist.Update.{Update}
 use Rattle.wiring.specs.declared.netlist.Update.TheVariants.{Set, Put}
+use Rattle.wiring.specs.declared.right.Atom.{Atom}
 use Rattle.wiring.specs.declared.right.Atom.TheVariants as atom
 use Rattle.wiring.specs.Sizes.{IsConstant}
 use Rattle.wiring.specs.Netlist.{Netlist, net_width, word_width, IsDeclared, update_target}
@@ -12,6 +13,10 @@ use Rattle.wiring.specs.Rules.{UpdateIsSound, AtomIsSound}
 use Rattle.wiring.specs.Snapshot.{TakesPlace}
 use Rattle.net_build.specs.Includes.{Includes, AtEachEdge}
 use Rattle.net_build.specs.Draft.{IsDraft, IsNet, IsRegister, IsFree, number, with_update}
+use Rattle.net_build.specs.Runs.{StaysInside, NeverStops}
+use Rattle.net_build.specs.Control.{IsControl, IsControlled}
+use Rattle.net_build.proofs.Stops.{update_stops}
+use Rattle.net_build.proofs.Control.{update_control}
 use Rattle.net_build.proofs.Drafts.{draft_update, includes_update, last_update}
 use Rattle.net_build.proofs.Room.{has_room}
 
@@ -65,3 +70,22 @@ includes_updated b self us u same e = subst (λ (n : Netlist). Includes (updated
 
 pub edge_updated : (b : Netlist) (us : List Update) (u : Update) → us ≡ b.updates ++ u ∷ [] → AtEachEdge (updated b us) (λ s next. TakesPlace s next u)
 edge_updated b us u e = subst (λ (l : List Update). AtEachEdge (updated b l) (λ s next. TakesPlace s next u)) (sym e) (last_update b u)
+
+pub stops_set : (b self : Netlist) (us : List Update) (r : ℕ) (a : Atom Net) → b ≡ self → us ≡ b.updates ++ Set r a ∷ [] → NeverStops self → NeverStops (updated b us)
+stops_set b self us r a same e never =
+    subst (λ (l : List Update). NeverStops (updated b l)) (sym e) (update_stops b (Set r a) (subst NeverStops (sym same) never) (All-nil (StaysInside (with_update b (Set r a)))))
+
+pub stops_put : (b self : Netlist) (us : List Update) (x : ℕ) (i a : Atom Net) → b ≡ self → us ≡ b.updates ++ Put x i a ∷ [] → NeverStops self → StaysInside (updated b us) (x, i) → NeverStops (updated b us)
+stops_put b self us x i a same e never inside =
+    let n : Netlist = with_update b (Put x i a) in
+    let there : StaysInside n (x, i) = subst (λ (l : List Update). StaysInside (updated b l) (x, i)) e inside in
+    subst (λ (l : List Update). NeverStops (updated b l)) (sym e) (update_stops b (Put x i a) (subst NeverStops (sym same) never) (All-cons (StaysInside n) (x, i) [] there (All-nil (StaysInside n))))
+
+pub control_set : (b self : Netlist) (us : List Update) (r : ℕ) (value : Net) → b ≡ self → us ≡ b.updates ++ Set r (atom.Net value) ∷ [] → IsControlled self → IsControl (updated b us) (OfNet value) → IsControlled (updated b us)
+control_set b self us r value same e is takes =
+    let n : Netlist = with_update b (Set r (atom.Net value)) in
+    let here : IsControl n (OfNet value) = subst (λ (l : List Update). IsControl (updated b l) (OfNet value)) e takes in
+    subst (λ (l : List Update). IsControlled (updated b l)) (sym e) (update_control b (Set r (atom.Net value)) (subst IsControlled (sym same) is) (All-cons (IsControl n) (OfNet value) [] here (All-nil (IsControl n))))
+
+pub control_put : (b self : Netlist) (us : List Update) (x : ℕ) (i a : Atom Net) → b ≡ self → us ≡ b.updates ++ Put x i a ∷ [] → IsControlled self → IsControlled (updated b us)
+control_put b self us x i a same e is = subst (λ (l : List Update). IsControlled (updated b l)) (sym e) (update_control b (Put x i a) (subst IsControlled (sym same) is) tt)

@@ -1,7 +1,8 @@
 -- A netlist in the making: each of its wires has its assign, and no output has one yet.
-use Rattle.std.specs.Prelude.{◌≡◌, ◌≢◌, ℕ, suc, ◌<◌, ◌^◌, Bool, if◌then◌else◌, List, [], ◌∷◌, ◌++◌, length, slice_get, Some, All, Contains}
+use Rattle.std.specs.Prelude.{◌≡◌, ◌≢◌, ◌⊎◌, ℕ, suc, ◌<◌, ◌^◌, Bool, if◌then◌else◌, List, [], ◌∷◌, ◌++◌, length, slice_get, Some, All, Contains}
 use Rattle.wiring.specs.declared.right.Right.{Right}
 use Rattle.wiring.specs.declared.right.Right.TheVariants.{Copy}
+use Rattle.wiring.specs.declared.right.Atom.{Atom}
 use Rattle.wiring.specs.declared.right.Atom.TheVariants as atom
 use Rattle.wiring.specs.declared.netlist.Net.{Net}
 use Rattle.wiring.specs.declared.netlist.Net.TheVariants.{Input, Output, Wire, Reg}
@@ -10,10 +11,10 @@ use Rattle.wiring.specs.declared.netlist.Assign.{Assign}
 use Rattle.wiring.specs.declared.netlist.Update.{Update}
 use Rattle.wiring.specs.declared.netlist.Holder.{Holder}
 use Rattle.wiring.specs.Netlist.{Netlist, net_width, word_width, IsDeclared, IsState, update_target}
-use Rattle.wiring.specs.Sizes.{IsWidth}
+use Rattle.wiring.specs.Sizes.{IsWidth, IsConstant}
 use Rattle.wiring.specs.Snapshot.{Snapshot, FitsContents, Fit, IsSettled, net_value}
 use Rattle.net_build.specs.Includes.{Includes}
-use Rattle.wiring.specs.Rights.{nets_of, right_width}
+use Rattle.wiring.specs.Rights.{nets_of, atom_nets, atom_constants, atom_width, right_width}
 use Rattle.wiring.specs.Rules.{ArePorts, IsShape, RightIsSound, AssignIsSound, UpdateIsSound, with_valids}
 
 -- no assigns, no registers and no arrays
@@ -47,6 +48,12 @@ pub record IsOperation (b : Netlist) (r : Right Net ℕ) : Type 0 where
   pub readable : IsReadable r
   pub wide : IsWidth (width_of b r)
 
+-- what may stand in a right side of the draft, of this width
+pub record IsOperand (b : Netlist) (a : Atom Net) (width : ℕ) : Type 0 where
+  pub nets : (n : Net) → Contains (atom_nets a) n → IsNet b n
+  pub constants : All IsConstant (atom_constants a)
+  pub width_is : atom_width (net_width b) a ≡ width
+
 -- the wire of this number has this right side
 abbrev pub HasWire : Netlist → ℕ → Right Net ℕ → Type 0
 HasWire b k r = slice_get b.assigns k ≡ Some (record { target = Wire k; right = r })
@@ -54,6 +61,12 @@ HasWire b k r = slice_get b.assigns k ≡ Some (record { target = Wire k; right 
 -- one more wire, with this right side
 abbrev pub with_wire : Netlist → Right Net ℕ → Netlist
 with_wire b r = record b { wires = b.wires ++ width_of b r ∷ []; assigns = b.assigns ++ (record { target = Wire (length b.wires); right = r }) ∷ [] }
+
+-- the new draft has more wires, and nothing else
+pub record AddsWires (new old : Netlist) : Type 0 where
+  pub regs : new.regs ≡ old.regs
+  pub arrays : new.arrays ≡ old.arrays
+  pub updates : new.updates ≡ old.updates
 
 -- one more register, array or update
 abbrev pub with_reg : Netlist → ℕ → Netlist
@@ -73,9 +86,17 @@ RightsDiffer assigns = (j k : ℕ) (a b : Assign) → slice_get assigns j ≡ So
 abbrev pub IsFree : Netlist → Holder → Type 0
 IsFree b h = (k : ℕ) (u : Update) → slice_get b.updates k ≡ Some u → update_target u ≢ h
 
+-- a register or an array has its update
+abbrev pub HasUpdate : Netlist → Holder → Type 0
+HasUpdate b h = (k : ℕ) × (u : Update) × (slice_get b.updates k ≡ Some u) × (update_target u ≡ h)
+
+-- each register and each array has its update, or is one of these
+abbrev pub UpdatedBut : Netlist → List Holder → Type 0
+UpdatedBut b free = (h : Holder) → IsState b h → Contains free h ⊎ HasUpdate b h
+
 -- each register and each array has its update
 abbrev pub AllUpdated : Netlist → Type 0
-AllUpdated b = (h : Holder) → IsState b h → (k : ℕ) × (u : Update) × (slice_get b.updates k ≡ Some u) × (update_target u ≡ h)
+AllUpdated b = (h : Holder) → IsState b h → HasUpdate b h
 
 -- the k-th assign drives the k-th wire and reads earlier wires alone, and no two updates are of the same register or array
 pub record IsDraft (b : Netlist) : Type 0 where

@@ -31,18 +31,23 @@ impl Model for Builder {
 }
 
 impl Builder {
-    ghost use Rattle.std.specs.Prelude.{◌≡◌, ◌+◌, ◌<◌, ◌⊎◌, ◌++◌, ◌∷◌, [], length, true, false, IsTrue, All, Contains, Some, slice_get, slice_index_or, slice_set, IfOk, OnOk, OnErr};
+    ghost use Rattle.std.specs.Prelude.{ℕ, Bool, ◌^◌, ◌≡◌, ◌+◌, ◌<◌, ◌⊎◌, ◌++◌, ◌∷◌, [], length, true, false, IsTrue, All, Contains, Some, slice_get, slice_index_or, slice_set, IfOk, OnOk, OnErr};
+    ghost use Rattle.wiring.specs.declared.netlist.Net.{Net};
     ghost use Rattle.wiring.specs.declared.netlist.Net.TheVariants.{Input, Reg};
+    ghost use Rattle.wiring.specs.declared.netlist.Holder.{Holder};
     ghost use Rattle.wiring.specs.declared.netlist.Holder.TheVariants.{OfNet, OfArray};
     ghost use Rattle.wiring.specs.declared.netlist.Update.TheVariants.{Set, Put};
     ghost use Rattle.wiring.specs.declared.right.Atom.TheVariants as atom;
     ghost use Rattle.wiring.specs.Netlist.{net_width, word_width, reset_net, enable_net, first_din, din_net};
     ghost use Rattle.wiring.specs.Rights.{right_value};
+    ghost use Rattle.wiring.specs.BufferBits.{right_reads, array_bits, IsBufferBits};
     ghost use Rattle.wiring.specs.Sizes.{IsWidth, IsDepth};
     ghost use Rattle.wiring.specs.Rules.{IsPortCount, IsPortWidth};
-    ghost use Rattle.wiring.specs.Snapshot.{net_value, word_value};
+    ghost use Rattle.wiring.specs.Snapshot.{net_value, word_value, right_accesses};
     ghost use Rattle.net_build.specs.Includes.{Includes, InEach, AtEachEdge};
-    ghost use Rattle.net_build.specs.Draft.{empty_draft, IsNet, IsOperation, width_of, with_wire, with_reg, with_array, with_update, RightsDiffer, IsFree, IsRegister, number, flat, IsSource, AreSources, AllUpdated, ValuesFit};
+    ghost use Rattle.net_build.specs.Draft.{empty_draft, IsNet, IsOperation, width_of, with_wire, with_reg, with_array, with_update, AddsWires, RightsDiffer, IsFree, IsRegister, number, flat, IsSource, AreSources, AllUpdated, ValuesFit};
+    ghost use Rattle.net_build.specs.Runs.{IsWhole, NeverStops, StaysBelow, StaysInside, RunsOn};
+    ghost use Rattle.net_build.specs.Control.{IsMadeOf, IsControl, IsControlled};
     ghost use Rattle.net_build.specs.Naming.{finished};
 
     /// A builder of a module with these widths of ports, each 1 to 16 bits, and with `en` where it is wanted.
@@ -56,7 +61,9 @@ impl Builder {
         requires din_widths { All IsPortWidth dins.now }
         requires dout_count { IsPortCount (length douts.now) }
         requires dout_widths { All IsPortWidth douts.now }
-        ensures { IfOk result (λ b. b ≡ empty_draft enable dins.now douts.now) }
+        ensures ports { IfOk result (λ b. b ≡ empty_draft enable dins.now douts.now) }
+        ensures stops { IfOk result NeverStops }
+        ensures control { IfOk result IsControlled }
     {
         let inputs = ports::input_widths(alloc, enable, dins)?;
         let outputs = ports::output_widths(alloc, douts)?;
@@ -80,7 +87,9 @@ impl Builder {
     pub fn new(alloc: Global, din: u8, dout: u8) -> Result<Builder, Memory>
         requires din { IsPortWidth din }
         requires dout { IsPortWidth dout }
-        ensures { IfOk result (λ b. b ≡ empty_draft false (din ∷ []) (dout ∷ [])) }
+        ensures ports { IfOk result (λ b. b ≡ empty_draft false (din ∷ []) (dout ∷ [])) }
+        ensures stops { IfOk result NeverStops }
+        ensures control { IfOk result IsControlled }
     {
         let dins = [din];
         let douts = [dout];
@@ -92,7 +101,9 @@ impl Builder {
     pub fn with_enable(alloc: Global, din: u8, dout: u8) -> Result<Builder, Memory>
         requires din { IsPortWidth din }
         requires dout { IsPortWidth dout }
-        ensures { IfOk result (λ b. b ≡ empty_draft true (din ∷ []) (dout ∷ [])) }
+        ensures ports { IfOk result (λ b. b ≡ empty_draft true (din ∷ []) (dout ∷ [])) }
+        ensures stops { IfOk result NeverStops }
+        ensures control { IfOk result IsControlled }
     {
         let dins = [din];
         let douts = [dout];
@@ -126,8 +137,9 @@ impl Builder {
         requires { first_din self.now + k < length self.now.inputs }
         ensures din { result ≡ din_net self.now k }
         ensures net { IsNet self.now result }
+        ensures width { IsPortWidth (net_width self.now result) }
     {
-        let first = if self.wiring.enable { 2 } else { 1 };
+        let first = ports::first_din(self.wiring.enable);
         Net::Input(first + k)
     }
 
@@ -135,15 +147,17 @@ impl Builder {
     pub fn din(&self) -> Net
         ensures din { result ≡ din_net self.now 0 }
         ensures net { IsNet self.now result }
+        ensures width { IsPortWidth (net_width self.now result) }
     {
         let _wiring = &self.wiring;
         self.din_at(0)
     }
 
-    /// A law: no two assigns have the same right side, and in every netlist that includes this one values fit their widths where contents and inputs do.
+    /// A law: no two assigns have the same right side, and in every netlist that includes this one values fit their widths where contents and inputs do, as they do in runs.
     pub fn law(&self)
         ensures differ { RightsDiffer self.now.assigns }
         ensures fits { ValuesFit self.now }
+        ensures below { (n : Net) → IsNet self.now n → StaysBelow self.now (2 ^ net_width self.now n) n }
     {
         let _wiring = &self.wiring;
     }
@@ -158,6 +172,10 @@ impl Builder {
         ensures made { IfOk result (λ n. Contains self.new.assigns (record { target = n; right = operation })) }
         ensures ok { OnOk result ((self.new ≡ self.old) ⊎ (self.new ≡ with_wire self.old operation)) }
         ensures err { OnErr result (self.new ≡ self.old) }
+        ensures wires { AddsWires self.new self.old }
+        ensures stops { NeverStops self.old → All (StaysInside self.new) (right_accesses operation) → NeverStops self.new }
+        ensures made_of { IfOk result (λ n. (base : Holder → Bool) → All (IsMadeOf self.new base) (right_reads operation) → IsMadeOf self.new base (OfNet n)) }
+        ensures control { IsControlled self.old → IsControlled self.new }
     {
         let k = grow::wire_of(&mut self.wiring, &mut self.known, &operation)?;
         Ok(Net::Wire(k))
@@ -167,9 +185,15 @@ impl Builder {
     pub fn reg(&mut self, width: u8) -> Result<Net, Memory>
         requires { IsWidth width }
         ensures includes { Includes self.new self.old }
-        ensures net { IfOk result (λ n. n ≡ Reg (length self.old.regs)) }
+        ensures number { IfOk result (λ n. n ≡ Reg (length self.old.regs)) }
+        ensures net { IfOk result (IsNet self.new) }
+        ensures register { IfOk result (IsRegister self.new) }
+        ensures width { IfOk result (λ n. net_width self.new n ≡ width) }
+        ensures free { IfOk result (λ n. IsFree self.new (OfNet n)) }
         ensures ok { OnOk result (self.new ≡ with_reg self.old width) }
         ensures err { OnErr result (self.new ≡ self.old) }
+        ensures stops { NeverStops self.old → NeverStops self.new }
+        ensures control { IsControlled self.old → IsControlled self.new }
     {
         let k = grow::add_reg(&mut self.wiring, Width::new(width))?;
         Ok(Net::Reg(k))
@@ -181,8 +205,12 @@ impl Builder {
         requires depth { IsDepth depth }
         ensures includes { Includes self.new self.old }
         ensures number { IfOk result (λ x. x ≡ length self.old.arrays) }
+        ensures shape { IfOk result (λ x. slice_get self.new.arrays x ≡ Some (record { width = width; depth = depth })) }
+        ensures free { IfOk result (λ x. IsFree self.new (OfArray x)) }
         ensures ok { OnOk result (self.new ≡ with_array self.old (record { width = width; depth = depth })) }
         ensures err { OnErr result (self.new ≡ self.old) }
+        ensures stops { NeverStops self.old → NeverStops self.new }
+        ensures control { IsControlled self.old → IsControlled self.new }
     {
         let shape = Shape {
             width: Width::new(width),
@@ -201,6 +229,8 @@ impl Builder {
         ensures includes { Includes self.new self.old }
         ensures update { self.new ≡ with_update self.old (Set (number reg) (atom.Net value)) }
         ensures edge { AtEachEdge self.new (λ s next. slice_get next.regs (number reg) ≡ Some (net_value s value)) }
+        ensures stops { NeverStops self.old → NeverStops self.new }
+        ensures control { IsControlled self.old → IsControl self.new (OfNet value) → IsControlled self.new }
     {
         grow::add_set(&mut self.wiring.updates, reg, value);
     }
@@ -215,6 +245,8 @@ impl Builder {
         ensures includes { Includes self.new self.old }
         ensures update { self.new ≡ with_update self.old (Put array (atom.Net index) (atom.Net value)) }
         ensures edge { AtEachEdge self.new (λ s next. slice_get next.arrays array ≡ Some (slice_set (slice_index_or s.contents.arrays array []) (net_value s index) (net_value s value))) }
+        ensures stops { NeverStops self.old → StaysInside self.new (array, atom.Net index) → NeverStops self.new }
+        ensures control { IsControlled self.old → IsControlled self.new }
     {
         grow::add_put(&mut self.wiring.updates, array, index, value);
     }
@@ -223,7 +255,10 @@ impl Builder {
     pub fn finish_all(self, outs: &[(Net, Net)]) -> Result<Module, Memory>
         requires outs { AreSources self (flat outs.now) }
         requires updated { AllUpdated self }
-        ensures { IfOk result (λ m. m ≡ finished self (flat outs.now)) }
+        ensures made { IfOk result (λ m. m ≡ finished self (flat outs.now)) }
+        ensures whole { IfOk result (λ m. IsWhole m.netlist self) }
+        ensures runs { NeverStops self → IfOk result (λ m. RunsOn m.netlist) }
+        ensures bits { IsControlled self → IfOk result (λ m. (n : ℕ) → IsBufferBits m.netlist n → n ≡ array_bits self.arrays) }
     {
         let Builder {
             alloc,
@@ -243,7 +278,10 @@ impl Builder {
         requires valid { IsSource self 0 valid }
         requires dout { IsSource self 1 dout }
         requires updated { AllUpdated self }
-        ensures { IfOk result (λ m. m ≡ finished self (valid ∷ (dout ∷ []))) }
+        ensures made { IfOk result (λ m. m ≡ finished self (valid ∷ (dout ∷ []))) }
+        ensures whole { IfOk result (λ m. IsWhole m.netlist self) }
+        ensures runs { NeverStops self → IfOk result (λ m. RunsOn m.netlist) }
+        ensures bits { IsControlled self → IfOk result (λ m. (n : ℕ) → IsBufferBits m.netlist n → n ≡ array_bits self.arrays) }
     {
         let outs = [(valid, dout)];
         let module = self.finish_all(&outs)?;

@@ -4,6 +4,7 @@
 mod builder;
 mod finish;
 mod grow;
+mod laws;
 mod naming;
 mod ports;
 mod size;
@@ -11,3 +12,4 @@ mod size;
 mod tests;
 
 pub use builder::Builder;
+pub use laws::{outputs_shown, parts_grow, ports_shown, reads_grow, runs_last, runs_on};

@@ -52,3 +52,10 @@ pub fn output_widths(alloc: Global, douts: &[u8]) -> Result<Vec<Width>, Memory>
     }
     Ok(widths)
 }
+
+/// The number of the first `din` among the inputs.
+pub fn first_din(enable: bool) -> usize
+    ensures { result ≡ (if enable then 2 else 1) }
+{
+    if enable { 2 } else { 1 }
+}

@@ -5,14 +5,19 @@ use dk_base::Memory;
 use netlist::buffer_bits;
 use std::alloc::Global;
 use std::test::Fail;
-use wiring::{Atom, Right};
+use wiring::{Atom, Constant, Net, Operator, Right, Width};
 
-// Whether two calls with the same right side give one net.
+fn complement(b: &mut Builder) -> Result<Net, Memory> {
+    let din = b.din();
+    let net = b.op(Right::Not(Atom::Net(din)))?;
+    Ok(net)
+}
+
+// Whether calls with the same right side give one net.
 fn is_shared(alloc: Global) -> Result<bool, Memory> {
     let mut b = Builder::new(alloc, 8, 8)?;
-    let din = b.din();
-    let one = b.op(Right::Not(Atom::Net(din)))?;
-    let other = b.op(Right::Not(Atom::Net(din)))?;
+    let one = complement(&mut b)?;
+    let other = complement(&mut b)?;
     Ok(one == other)
 }
 
@@ -30,6 +35,19 @@ fn shift_bits(alloc: Global) -> Result<u128, Memory> {
     Ok(bits)
 }
 
+// The buffer bits of a register that counts.
+fn counter_bits(alloc: Global) -> Result<u128, Memory> {
+    let mut b = Builder::new(alloc, 8, 8)?;
+    let count = b.reg(8)?;
+    let one = Atom::Constant(Constant::new(Width::new(8), 1));
+    let next = b.op(Right::Binary(Operator::Add, Atom::Net(count), one))?;
+    b.set(count, next);
+    let valid = b.rst();
+    let module = b.finish(valid, count)?;
+    let bits = buffer_bits(alloc, &module)?;
+    Ok(bits)
+}
+
 #[test]
 fn equal_right_sides_are_one_net(rt: HostRuntime) -> Result<(), Fail> {
     assert_eq!(rt; is_shared(rt.alloc())?, true);
@@ -39,5 +57,11 @@ fn equal_right_sides_are_one_net(rt: HostRuntime) -> Result<(), Fail> {
 #[test]
 fn shift_register_has_its_bits(rt: HostRuntime) -> Result<(), Fail> {
     assert_eq!(rt; shift_bits(rt.alloc())?, 16);
+    Ok(())
+}
+
+#[test]
+fn counter_has_no_bits(rt: HostRuntime) -> Result<(), Fail> {
+    assert_eq!(rt; counter_bits(rt.alloc())?, 0);
     Ok(())
 }

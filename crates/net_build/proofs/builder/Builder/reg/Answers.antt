@@ -1,10 +1,16 @@
-use Rattle.std.proofs.Common.{map, sym, subst, ap, ◌∙◌}
+use Rattle.std.proofs.Common.{map, refl, sym, subst, ap, ◌∙◌}
 use Rattle.wiring.specs.declared.netlist.Assign.{Assign}
+use Rattle.wiring.specs.declared.netlist.Net.TheVariants.{Reg}
 use Rattle.wiring.specs.Sizes.{IsWidth}
 use Rattle.wiring.specs.Netlist.{Netlist, netlist_of}
 use Rattle.net_build.specs.Includes.{Includes}
 use Rattle.net_build.specs.Draft.{IsDraft}
 use Rattle.net_build.proofs.Drafts.{draft_reg, includes_reg, includes_same}
+use Rattle.net_build.specs.Runs.{NeverStops}
+use Rattle.net_build.proofs.Stops.{reg_stops}
+use Rattle.net_build.proofs.Updating.{fresh}
+use Rattle.net_build.specs.Control.{IsControlled}
+use Rattle.net_build.proofs.Control.{reg_control}
 use Rattle.net_build.proofs.builder.Builder.reg.Goals as goal
 
 pub invariant_of-self-2 : goal.invariant_of-self-2
@@ -19,3 +25,27 @@ pub returns-clause-includes : goal.returns-clause-includes
 returns-clause-includes c =
     let b : Netlist = netlist_of c.self.inside.wiring in
     subst (λ (n : Netlist). Includes (netlist_of c.add_reg.new.wiring) n) c.self.view_is (includes_same _ (netlist_of c.add_reg.new.wiring) b c.in_ok-k.ensures.ok (includes_reg b c.new.result))
+
+pub returns-in_err-k-clause-stops : goal.returns-in_err-k-clause-stops
+returns-in_err-k-clause-stops c never = subst NeverStops (sym c.in_err-k.ensures.err) (subst NeverStops (sym c.self.view_is) never)
+
+pub returns-clause-stops : goal.returns-clause-stops
+returns-clause-stops c never = subst NeverStops (sym c.in_ok-k.ensures.ok) (reg_stops (netlist_of c.self.inside.wiring) c.new.result (subst NeverStops (sym c.self.view_is) never))
+
+pub returns-clause-free : goal.returns-clause-free
+returns-clause-free c = (fresh (netlist_of c.self.inside.wiring) (netlist_of c.add_reg.new.wiring) (Reg c.in_ok-k.k) c.in_ok-k.k c.new.result c.self.invariant.0 c.in_ok-k.ensures.ok refl c.in_ok-k.ensures.number).free
+
+pub returns-clause-net : goal.returns-clause-net
+returns-clause-net c = (fresh (netlist_of c.self.inside.wiring) (netlist_of c.add_reg.new.wiring) (Reg c.in_ok-k.k) c.in_ok-k.k c.new.result c.self.invariant.0 c.in_ok-k.ensures.ok refl c.in_ok-k.ensures.number).net
+
+pub returns-clause-register : goal.returns-clause-register
+returns-clause-register c = (fresh (netlist_of c.self.inside.wiring) (netlist_of c.add_reg.new.wiring) (Reg c.in_ok-k.k) c.in_ok-k.k c.new.result c.self.invariant.0 c.in_ok-k.ensures.ok refl c.in_ok-k.ensures.number).register
+
+pub returns-clause-width : goal.returns-clause-width
+returns-clause-width c = (fresh (netlist_of c.self.inside.wiring) (netlist_of c.add_reg.new.wiring) (Reg c.in_ok-k.k) c.in_ok-k.k c.new.result c.self.invariant.0 c.in_ok-k.ensures.ok refl c.in_ok-k.ensures.number).width_is ∙ c.new.ensures
+
+pub returns-in_err-k-clause-control : goal.returns-in_err-k-clause-control
+returns-in_err-k-clause-control c is = subst IsControlled (sym c.in_err-k.ensures.err) (subst IsControlled (sym c.self.view_is) is)
+
+pub returns-clause-control : goal.returns-clause-control
+returns-clause-control c is = subst IsControlled (sym c.in_ok-k.ensures.ok) (reg_control (netlist_of c.self.inside.wiring) c.new.result (subst IsControlled (sym c.self.view_is) is))
