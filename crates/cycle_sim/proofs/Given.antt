@@ -1,21 +1,14 @@
 -- What the ports are given, and what is shown of a clock.
-use Rattle.std.proofs.Common.{◌≡◌, ℕ, ◌*◌, ◌^◌, ◌<◌, Bool, true, false, List, ◌∷◌, length, take, drop, refl, ap, sym, subst, ◌∙◌, arith, Some, lit<}
-use Rattle.std.specs.Prelude.{if◌then◌else◌, slice_get, Result, OnOk}
-use Rattle.std.proofs.lemmas.List.{take_all}
+use Rattle.std.proofs.Common.{◌≡◌, ℕ, ◌*◌, ◌^◌, ◌<◌, Bool, true, false, List, [], ◌∷◌, length, drop, refl, ap, sym, subst, ◌∙◌, arith, Some, lit<}
+use Rattle.std.specs.Prelude.{if◌then◌else◌, slice_get}
 use Rattle.std.proofs.lemmas.Option.{slice_get_within, same_Some}
 use Rattle.wiring.specs.Netlist.{Netlist}
-use Rattle.wiring.specs.Snapshot.{Contents, Snapshot, Fit}
-use Rattle.wiring.specs.Clock.{Clock, bit, given, Steps}
-use Rattle.wiring.specs.Rules.{KeepsRules, ArePorts}
+use Rattle.wiring.specs.Snapshot.{Snapshot, Fit}
+use Rattle.wiring.specs.Clock.{Clock, bit, given}
+use Rattle.wiring.specs.Rules.{KeepsRules, ArePorts, with_valids}
 use Rattle.cycle_sim.specs.declared.ports.Out.{Out}
-use Rattle.cycle_sim.specs.Slots.{all_values, all_widths}
 use Rattle.cycle_sim.specs.OneClock.{port_values}
 use Rattle.cycle_sim.specs.Ports.{din_widths, out_of, IsShown, AreShown}
-use Rattle.std.proofs.lemmas.Result.{on_ok_weaker}
-use Rattle.cycle_sim.specs.declared.edge.IndexRange.{IndexRange}
-use Rattle.cycle_sim.specs.Ready.{HasShape}
-use Rattle.cycle_sim.proofs.Flat.{length-all_values, length-all_widths}
-use Rattle.cycle_sim.proofs.Pieces.{take_outputs}
 
 bit_fits : (b : Bool) → bit b < 2 ^ 1
 bit_fits true = lit< tt
@@ -31,16 +24,10 @@ fit_by false inputs outputs ports r e dins h =
 pub given_fit : (m : Netlist) → KeepsRules m → (c : Clock) → Fit (din_widths m) c.dins → Fit m.inputs (given m c)
 given_fit m rules c fits = fit_by m.enable m.inputs m.outputs rules.ports c.reset c.enable c.dins fits
 
--- the outputs among all values
-module _ (m : Netlist) (old new : Contents) (inputs seen : List ℕ) (count : ℕ) (r : Result (Unit {0}) IndexRange) where
-  pub outputs_seen : count ≡ length m.outputs → OnOk r ((s : Snapshot) × Steps m old inputs s new × (seen ≡ take count (drop (length m.inputs) (all_values s))) × HasShape m s) →
-      OnOk r ((s : Snapshot) × Steps m old inputs s new × (seen ≡ s.outputs))
-  outputs_seen n h = on_ok_weaker r (λ ok. (ok.0, ok.1, ok.2 ∙ take_outputs ok.0.inputs ok.0.outputs ok.0.wires ok.0.contents.regs (length m.inputs) count ok.3.inputs (ok.3.outputs ∙ sym n))) h
-
-  -- all values are seen
-  pub all_seen : count ≡ length (all_widths m) → OnOk r ((s : Snapshot) × Steps m old inputs s new × (seen ≡ take count (drop 0 (all_values s))) × HasShape m s) →
-      OnOk r ((s : Snapshot) × Steps m old inputs s new × (seen ≡ all_values s))
-  all_seen n h = on_ok_weaker r (λ ok. (ok.0, ok.1, ok.2 ∙ take_all count (all_values ok.0) (omega (arith, n, length-all_values ok.0, length-all_widths m, ok.3.inputs, ok.3.outputs, ok.3.wires, ok.3.regs)))) h
+-- each output has two ports
+pub valids_even : (douts : List ℕ) → length (with_valids douts) ≡ 2 * length douts
+valids_even [] = refl
+valids_even (w ∷ douts) = omega (arith, valids_even douts)
 
 -- what is shown of them
 pub one_shown : (s : Snapshot) (values : List ℕ) (k : ℕ) (out : Out) → values ≡ s.outputs → out ≡ out_of values k → IsShown s k out

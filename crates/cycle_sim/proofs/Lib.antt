@@ -12,4 +12,6 @@ pub mod Built
 pub mod Initial
 pub mod Given
 pub mod RunsJoin
+pub mod Fitted
+pub mod Exactly
 pub mod Masks

@@ -14,6 +14,14 @@ module _ (i o w r : List ℕ) where
   pub take_outputs : (n k : ℕ) → length i ≡ n → length o ≡ k → take k (drop n (i ++ o ++ w ++ r)) ≡ o
   take_outputs n k e f = ap (λ (l : List ℕ). take k l) (drop_inputs n e) ∙ take_at o (w ++ r) k f
 
+  pub take_inputs : (n : ℕ) → length i ≡ n → take n (i ++ o ++ w ++ r) ≡ i
+  take_inputs n e = ap (λ (l : List ℕ). take n l) regroup ∙ take_at i (o ++ (w ++ r)) n e
+
+  pub take_wires : (n k : ℕ) → length i + length o ≡ n → length w ≡ k → take k (drop n (i ++ o ++ w ++ r)) ≡ w
+  take_wires n k e f =
+      let front : length (i ++ o) ≡ n = length-append i o ∙ e in
+      ap (λ (l : List ℕ). take k l) (ap (λ (l : List ℕ). drop n l) (append_assoc (i ++ o) w r) ∙ drop_at (i ++ o) (w ++ r) n front) ∙ take_at w r k f
+
   front_length : length (i ++ o ++ w) ≡ length i + length o + length w
   front_length = omega (arith, length-append (i ++ o) w, length-append i o)
 
@@ -44,3 +52,10 @@ length_fit [] [] h = refl
 length_fit [] (v ∷ vs) h = absurd h
 length_fit (w ∷ ws) [] h = absurd h
 length_fit (w ∷ ws) (v ∷ vs) h = ap suc (length_fit ws vs h.1)
+
+-- numbers that fit one by one
+pub fit_from : (widths values : List ℕ) → length values ≡ length widths → ((k : ℕ) → k < length widths → slice_index values k < 2 ^ slice_index widths k) → Fit widths values
+fit_from [] [] e h = tt
+fit_from [] (v ∷ vs) e h = absurd (omega (arith, e))
+fit_from (w ∷ ws) [] e h = absurd (omega (arith, e))
+fit_from (w ∷ ws) (v ∷ vs) e h = (h 0 (omega arith), fit_from ws vs (omega (arith, e)) (λ k l. h (suc k) (omega (arith, l))))

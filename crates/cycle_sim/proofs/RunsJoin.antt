@@ -9,10 +9,8 @@ use Rattle.wiring.specs.Snapshot.{Contents, Snapshot, net_value}
 use Rattle.wiring.specs.Clock.{Clock, given, Steps, Stops}
 use Rattle.wiring.specs.Runs.{Runs, RunStops, picture}
 use Rattle.cycle_sim.specs.declared.ports.Out.{Out}
-use Rattle.cycle_sim.specs.declared.running.RunFault.{RunFault}
-use Rattle.cycle_sim.specs.declared.running.RunFault.TheVariants.{Stopped, Memory}
 use Rattle.cycle_sim.specs.Ports.{IsShown}
-use Rattle.cycle_sim.specs.Runs.{Ran, RanToStop, EndsEarly}
+use Rattle.cycle_sim.specs.Runs.{Ran, RanToStop}
 
 chosen : (f : Snapshot → ℕ) (p : Snapshot → Bool) (s : Snapshot) (b : Bool) → p s ≡ b → (if b then f s ∷ [] else []) ≡ map f (filter p (s ∷ []))
 chosen f p s true e = sym (ap (λ (c : Bool). map f (if c then s ∷ [] else [])) e)
@@ -82,10 +80,9 @@ module _ (m : Netlist) where
     stop_after cs c rest from mid to before between samples x i h (t ∷ []) stop run shown = absurd stop.2
     stop_after cs c rest from mid to before between samples x i h (t ∷ u ∷ shots) stop run shown = absurd stop.2
 
-    pub early_after : (cs : List Clock) (c : Clock) (rest : List Clock) (from mid to : Contents) (before between samples : List ℕ) (fault : RunFault) → Ran m output cs from before mid between →
-        EndsEarly m output (c ∷ []) mid between to samples fault → EndsEarly m output (cs ++ c ∷ rest) from before to samples fault
-    early_after cs c rest from mid to before between samples (Stopped range) h g = stop_after cs c rest from mid to before between samples range.array range.index h g.shots g.stop g.run g.shown
-    early_after cs c rest from mid to before between samples Memory h g = tt
+    pub stop_later : (cs : List Clock) (c : Clock) (rest : List Clock) (from mid to : Contents) (before between samples : List ℕ) (x i : ℕ) → Ran m output cs from before mid between →
+        RanToStop m output (c ∷ []) mid between to samples x i → RanToStop m output (cs ++ c ∷ rest) from before to samples x i
+    stop_later cs c rest from mid to before between samples x i h g = stop_after cs c rest from mid to before between samples x i h g.shots g.stop g.run g.shown
 
 -- an item of a list, what stands before it, and what stands behind it, each under a function
 around_suc : {A B : Type 0} (f : A → B) (xs : List A) (k : ℕ) (x : A) → slice_get xs k ≡ Some x → (map f (take (suc k) xs) ≡ map f (take k xs) ++ f x ∷ []) × (map f xs ≡ map f (take k xs) ++ f x ∷ map f (drop (suc k) xs))

@@ -1,11 +1,11 @@
 -- A clock over slots is one of the netlist.
 use Rattle.std.proofs.Common.{◌≡◌, ℕ, Bool, ◌≤◌, ◌+◌, ◌^◌, ◌<◌, List, ◌++◌, length, take, drop, map, refl, ap, sym, subst, ◌∙◌, arith}
-use Rattle.std.specs.Prelude.{All, slice_get, Result, Ok, Err, OnOk, OnErr, IfErr}
+use Rattle.std.specs.Prelude.{All, slice_get, Result, Ok, Err, OnOk, IfErr}
 use Rattle.wiring.specs.declared.netlist.Net.{Net}
 use Rattle.wiring.specs.declared.netlist.Net.TheVariants.{Input, Output, Wire, Reg}
 use Rattle.wiring.specs.Netlist.{Netlist, net_width, IsDeclared}
-use Rattle.wiring.specs.Snapshot.{Contents, Snapshot, Fit, net_value, IsSettled, SnapshotOf, IsInRange, IsNext, accesses}
-use Rattle.wiring.specs.Clock.{Clock, given, Steps, Stops}
+use Rattle.wiring.specs.Snapshot.{Contents, Snapshot, Fit, net_value, IsSettled, SnapshotOf, IsInRange, StopsAt, IsNext, accesses}
+use Rattle.wiring.specs.Clock.{Clock, given}
 use Rattle.wiring.proofs.Settle.{settled_none, settled_all}
 use Rattle.cycle_sim.specs.declared.edge.Edge.{Edge}
 use Rattle.cycle_sim.specs.declared.edge.IndexRange.{IndexRange}
@@ -14,22 +14,137 @@ use Rattle.cycle_sim.specs.Slots.{all_values, all_widths}
 use Rattle.cycle_sim.specs.Code.{run_code, CodeIsSafe}
 use Rattle.cycle_sim.specs.Edge.{run_sets, run_puts, IsAccessInside, IsFirstOutside, EdgesAreSafe, access, edge}
 use Rattle.cycle_sim.specs.Ready.{HasShape, IsReady, ArraysFit}
-use Rattle.cycle_sim.specs.OneClock.{port_values, with_inputs, settled_values, Clocks}
-use Rattle.cycle_sim.specs.Simulated.{Machine, contents_of, IsCircuit}
+use Rattle.cycle_sim.specs.OneClock.{port_values, with_inputs, settled_values}
+use Rattle.cycle_sim.specs.Simulated.{contents_of, shot_of, IsCircuit}
 use Rattle.cycle_sim.proofs.Flat.{length-all_values, length-all_widths}
 use Rattle.cycle_sim.proofs.Runs.{Settles, code_settles}
 use Rattle.cycle_sim.proofs.Edges.{length-run_sets}
 use Rattle.cycle_sim.proofs.Ranges.{in_range, stops_at, all_edges_safe, is_next}
 use Rattle.cycle_sim.proofs.NextReady.{later, later_ready, later_fit}
-use Rattle.cycle_sim.proofs.Pieces.{new_inputs, new_regs, drop_front, fit_at, length_fit}
-
--- a netlist with contents
-abbrev pub machine : Netlist → Contents → Machine
-machine m c = record { netlist = m; contents = c }
+use Rattle.cycle_sim.proofs.Pieces.{new_inputs, new_regs, drop_front, take_inputs, take_outputs, take_wires, fit_at, length_fit}
 
 -- the contents are those in the slots
 pub contents_flat : (m : Netlist) (s : Snapshot) → HasShape m s → contents_of m (all_values s) s.contents.arrays ≡ s.contents
 contents_flat m s shape = rw (drop_front s.inputs s.outputs s.wires s.contents.regs (length m.inputs + length m.outputs + length m.wires) (omega (arith, shape.inputs, shape.outputs, shape.wires))) refl
+
+-- and so are the values of the nets
+pub shot_flat : (m : Netlist) (s : Snapshot) → HasShape m s → shot_of m (all_values s) s.contents.arrays ≡ s
+shot_flat m s shape =
+    rw (
+      take_inputs s.inputs s.outputs s.wires s.contents.regs (length m.inputs) shape.inputs,
+      take_outputs s.inputs s.outputs s.wires s.contents.regs (length m.inputs) (length m.outputs) shape.inputs shape.outputs,
+      take_wires s.inputs s.outputs s.wires s.contents.regs (length m.inputs + length m.outputs) (length m.wires) (omega (arith, shape.inputs, shape.outputs)) shape.wires,
+      contents_flat m s shape,
+    ) refl
+
+-- there are as many slots as nets
+pub slots_long : (m : Netlist) (order : List ℕ) (p : Program) (values staged : List ℕ) (words : List (List ℕ)) → IsCircuit m order p values staged words → length values ≡ length (all_widths m)
+slots_long m order p values staged words sim =
+    ap length sim.slots_are ∙ omega (arith, length-all_values sim.shot, length-all_widths m, sim.ready.shape.inputs, sim.ready.shape.outputs, sim.ready.shape.wires, sim.ready.shape.regs)
+
+module _ (m : Netlist) (order : List ℕ) (p : Program) (values staged : List ℕ) (words : List (List ℕ)) (sim : IsCircuit m order p values staged words) where
+  -- what is held is the snapshot
+  pub shot_is : shot_of m values words ≡ sim.shot
+  shot_is =
+      ap (λ (v : List ℕ). shot_of m v words) sim.slots_are
+      ∙ ap (λ (l : List (List ℕ)). shot_of m (all_values sim.shot) l) sim.words
+      ∙ shot_flat m sim.shot sim.ready.shape
+
+  pub values_are : values ≡ all_values (shot_of m values words)
+  values_are = sim.slots_are ∙ ap (λ (s : Snapshot). all_values s) (sym shot_is)
+
+  pub outputs_within : length m.inputs + length m.outputs ≤ length values
+  outputs_within = omega (arith, slots_long m order p values staged words sim, length-all_widths m)
+
+  pub regs_within : p.first_reg + length staged ≤ length values
+  regs_within = omega (arith, sim.staged, sim.program.first_reg, slots_long m order p values staged words sim, length-all_widths m)
+
+  fit : ArraysFit m sim.shot.contents.arrays
+  fit = subst (λ (l : List (List ℕ)). ArraysFit m l) sim.words sim.fit
+
+  -- no access is outside its array, over slots as in the netlist
+  range_of : All (IsAccessInside words values) p.accesses.items → IsInRange m (shot_of m values words)
+  range_of h =
+      let inside : All (IsAccessInside sim.shot.contents.arrays (all_values sim.shot)) (map (access m) (accesses m)) = rw (← sim.words, ← sim.slots_are, ← sim.program.accessing) h in
+      subst (λ (s : Snapshot). IsInRange m s) (sym shot_is) (in_range m sim.rules sim.shot sim.ready.shape fit inside)
+
+  stop_of : (range : IndexRange) → IsFirstOutside words values p.accesses.items range → StopsAt m (shot_of m values words) range.array range.index
+  stop_of range h =
+      subst (λ (s : Snapshot). StopsAt m s range.array range.index) (sym shot_is)
+      (stops_at m sim.rules sim.shot sim.ready.shape fit range (rw (← sim.words, ← sim.slots_are, ← sim.program.accessing) h))
+
+  in_range_ok : (r : Result (Unit {0}) IndexRange) → OnOk r (All (IsAccessInside words values) p.accesses.items) → OnOk r (IsInRange m (shot_of m values words))
+  in_range_ok (Ok u) h = range_of h
+  in_range_ok (Err e) h = tt
+
+  stops_err : (r : Result (Unit {0}) IndexRange) → IfErr r (IsFirstOutside words values p.accesses.items) → IfErr r (λ (range : IndexRange). StopsAt m (shot_of m values words) range.array range.index)
+  stops_err (Ok u) h = tt
+  stops_err (Err e) h = stop_of e h
+
+  module _ (h : IsInRange m (shot_of m values words)) where
+    inside : IsInRange m sim.shot
+    inside = subst (λ (s : Snapshot). IsInRange m s) shot_is h
+
+    pub edges_safe : EdgesAreSafe values p.edges.items (length staged) words
+    edges_safe =
+        let safe = all_edges_safe m sim.rules sim.shot sim.ready.shape fit (length staged) sim.staged inside in
+        let at_words = subst (λ (l : List (List ℕ)). EdgesAreSafe (all_values sim.shot) (map (edge m) m.updates) (length staged) l) (sym sim.words) safe in
+        let at_edges = subst (λ (es : List Edge). EdgesAreSafe (all_values sim.shot) es (length staged) words) (sym sim.program.edges) at_words in
+        subst (λ (v : List ℕ). EdgesAreSafe v p.edges.items (length staged) words) (sym sim.slots_are) at_edges
+
+    module _ (new_values new_staged : List ℕ) (new_words : List (List ℕ)) (staged_are : new_staged ≡ run_sets values p.edges.items staged)
+        (values_become : new_values ≡ take p.first_reg values ++ new_staged ++ drop (p.first_reg + length new_staged) values) (words_become : new_words ≡ run_puts values p.edges.items words) where
+      abbrev next_contents : Contents
+      next_contents = record { regs = new_staged; arrays = new_words }
+
+      staged_is : new_staged ≡ run_sets (all_values sim.shot) (map (edge m) m.updates) staged
+      staged_is =
+          staged_are
+          ∙ ap (λ (v : List ℕ). run_sets v p.edges.items staged) sim.slots_are
+          ∙ ap (λ (es : List Edge). run_sets (all_values sim.shot) es staged) sim.program.edges
+
+      words_after : new_words ≡ run_puts (all_values sim.shot) (map (edge m) m.updates) sim.shot.contents.arrays
+      words_after =
+          words_become
+          ∙ ap (λ (v : List ℕ). run_puts v p.edges.items words) sim.slots_are
+          ∙ ap (λ (es : List Edge). run_puts (all_values sim.shot) es words) sim.program.edges
+          ∙ ap (λ (l : List (List ℕ)). run_puts (all_values sim.shot) (map (edge m) m.updates) l) sim.words
+
+      next : IsNext m sim.shot next_contents
+      next = rw (staged_is, words_after) (is_next m sim.rules sim.shot sim.ready.shape fit staged sim.staged)
+
+      length_staged : length new_staged ≡ length m.regs
+      length_staged = ap length staged_is ∙ length-run_sets m (all_values sim.shot) m.updates staged ∙ sim.staged
+
+      abbrev after : Snapshot
+      after = later m sim.rules sim.shot next_contents sim.ready fit next
+
+      values_after : new_values ≡ all_values after
+      values_after =
+          values_become ∙ rw sim.slots_are
+          (new_regs sim.shot.inputs sim.shot.outputs sim.shot.wires sim.shot.contents.regs new_staged p.first_reg (length_staged ∙ sym sim.ready.shape.regs)
+          (omega (arith, sim.ready.shape.inputs, sim.ready.shape.outputs, sim.ready.shape.wires, sim.program.first_reg)))
+
+      pub after_edge : IsCircuit m order p new_values new_staged new_words
+      after_edge = record {
+        rules = sim.rules;
+        ordered = sim.ordered;
+        program = sim.program;
+        staged = length_staged;
+        shot = after;
+        slots_are = values_after;
+        words = refl;
+        ready = later_ready m sim.rules sim.shot next_contents sim.ready fit next;
+        fit = later_fit m sim.rules sim.shot next_contents sim.ready fit next;
+      }
+
+      contents_after : contents_of m new_values new_words ≡ next_contents
+      contents_after = rw values_after (contents_flat m after (later_ready m sim.rules sim.shot next_contents sim.ready fit next).shape)
+
+      pub next_of : IsNext m (shot_of m values words) (contents_of m new_values new_words)
+      next_of =
+          let at_next : IsNext m sim.shot (contents_of m new_values new_words) = subst (λ (c : Contents). IsNext m sim.shot c) (sym contents_after) next in
+          subst (λ (s : Snapshot). IsNext m s (contents_of m new_values new_words)) (sym shot_is) at_next
 
 module _ (m : Netlist) (order : List ℕ) (p : Program) (values staged : List ℕ) (words : List (List ℕ)) (sim : IsCircuit m order p values staged words)
     (given : List ℕ) (fits : Fit m.inputs given) where
@@ -55,14 +170,14 @@ module _ (m : Netlist) (order : List ℕ) (p : Program) (values staged : List �
       ap (λ (l : List ℕ). given ++ drop (length given) l) sim.slots_are
       ∙ new_inputs sim.shot.inputs sim.shot.outputs sim.shot.wires sim.shot.contents.regs given (length_fit m.inputs given fits ∙ sym sim.ready.shape.inputs)
 
-  pub run : Settles m sim.rules order sim.ordered order p.code.items 0 start
+  run : Settles m sim.rules order sim.ordered order p.code.items 0 start
   run = code_settles m sim.rules order sim.ordered order p.code.items 0 start start_ready sim.program.code
       (λ i. ap (λ (q : ℕ). slice_get order q) (let e : i ≡ 0 + i = omega arith in e)) (settled_none m sim.rules order sim.ordered start)
 
-  pub code_safe : CodeIsSafe p.widths.items words p.code.items (with_inputs given values)
+  code_safe : CodeIsSafe p.widths.items words p.code.items (with_inputs given values)
   code_safe = rw (start_flat, sim.program.widths, sim.words) run.safe
 
-  pub settled_flat : settled_values p words given values ≡ all_values run.settled
+  settled_flat : settled_values p words given values ≡ all_values run.settled
   settled_flat =
       ap (λ (vs : List ℕ). run_code p.widths.items words p.code.items vs) start_flat
       ∙ ap (λ (ws : List ℕ). run_code ws words p.code.items (all_values start)) sim.program.widths
@@ -77,39 +192,20 @@ module _ (m : Netlist) (order : List ℕ) (p : Program) (values staged : List �
   old = contents_of m values words
 
   old_is : run.settled.contents ≡ old
-  old_is = run.contents ∙ sym (contents_flat m sim.shot sim.ready.shape) ∙ rw (sim.slots_are, sim.words) refl
+  old_is = run.contents ∙ ap (λ (s : Snapshot). s.contents) (sym (shot_is m order p values staged words sim))
 
-  pub snapshot : SnapshotOf m old given run.settled
+  snapshot : SnapshotOf m old given run.settled
   snapshot = record { inputs = run.inputs; contents = old_is; settled = settled }
 
   words_are : words ≡ run.settled.contents.arrays
   words_are = sim.words ∙ ap (λ (c : Contents). c.arrays) (sym run.contents)
 
-  fit : ArraysFit m run.settled.contents.arrays
-  fit = subst (λ (l : List (List ℕ)). ArraysFit m l) words_are sim.fit
-
-  pub edges_safe : All (IsAccessInside words (settled_values p words given values)) p.accesses.items → EdgesAreSafe (settled_values p words given values) p.edges.items (length staged) words
-  edges_safe h =
-      let inside : All (IsAccessInside run.settled.contents.arrays (all_values run.settled)) (map (access m) (accesses m)) = rw (← words_are, ← settled_flat, ← sim.program.accessing) h in
-      let safe = all_edges_safe m sim.rules run.settled run.ready.shape fit (length staged) sim.staged (in_range m sim.rules run.settled run.ready.shape fit inside) in
-      let at_words = subst (λ (l : List (List ℕ)). EdgesAreSafe (all_values run.settled) (map (edge m) m.updates) (length staged) l) (sym words_are) safe in
-      let at_edges = subst (λ (es : List Edge). EdgesAreSafe (all_values run.settled) es (length staged) words) (sym sim.program.edges) at_words in
-      subst (λ (v : List ℕ). EdgesAreSafe v p.edges.items (length staged) words) (sym settled_flat) at_edges
-
-  pub stops : (range : IndexRange) → IsFirstOutside words (settled_values p words given values) p.accesses.items range → Stops m old given range.array range.index
-  stops range h = record {
-    shot = run.settled;
-    snapshot = snapshot;
-    stops = stops_at m sim.rules run.settled run.ready.shape fit range (rw (← words_are, ← settled_flat, ← sim.program.accessing) h);
-  }
-
-  -- after a refusal
-  pub refused : (room : List ℕ) → length room ≡ length m.regs → IsCircuit m order p (settled_values p words given values) room words
-  refused room l = record {
+  pub settled_circuit : IsCircuit m order p (settled_values p words given values) staged words
+  settled_circuit = record {
     rules = sim.rules;
     ordered = sim.ordered;
     program = sim.program;
-    staged = l;
+    staged = sim.staged;
     shot = run.settled;
     slots_are = settled_flat;
     words = words_are;
@@ -117,105 +213,14 @@ module _ (m : Netlist) (order : List ℕ) (p : Program) (values staged : List �
     fit = sim.fit;
   }
 
-  pub refused_contents : contents_of m (settled_values p words given values) words ≡ old
-  refused_contents =
-      ap (λ (v : List ℕ). contents_of m v words) settled_flat
-      ∙ ap (λ (l : List (List ℕ)). contents_of m (all_values run.settled) l) words_are
-      ∙ contents_flat m run.settled run.ready.shape
-      ∙ old_is
+  settled_is : shot_of m (settled_values p words given values) words ≡ run.settled
+  settled_is =
+      ap (λ (v : List ℕ). shot_of m v words) settled_flat
+      ∙ ap (λ (l : List (List ℕ)). shot_of m (all_values run.settled) l) words_are
+      ∙ shot_flat m run.settled run.ready.shape
 
-  module _ (new_values new_staged : List ℕ) (new_words : List (List ℕ)) (from count : ℕ) (seen : List ℕ) (clocks : Clocks p words given values staged from count new_values new_staged new_words seen) where
-    inside : IsInRange m run.settled
-    inside = in_range m sim.rules run.settled run.ready.shape fit (rw (← words_are, ← settled_flat, ← sim.program.accessing) clocks.inside)
-
-    abbrev next_contents : Contents
-    next_contents = record { regs = new_staged; arrays = new_words }
-
-    staged_is : new_staged ≡ run_sets (all_values run.settled) (map (edge m) m.updates) staged
-    staged_is =
-        clocks.staged
-        ∙ ap (λ (v : List ℕ). run_sets v p.edges.items staged) settled_flat
-        ∙ ap (λ (es : List Edge). run_sets (all_values run.settled) es staged) sim.program.edges
-
-    words_after : new_words ≡ run_puts (all_values run.settled) (map (edge m) m.updates) run.settled.contents.arrays
-    words_after =
-        clocks.arrays
-        ∙ ap (λ (v : List ℕ). run_puts v p.edges.items words) settled_flat
-        ∙ ap (λ (es : List Edge). run_puts (all_values run.settled) es words) sim.program.edges
-        ∙ ap (λ (l : List (List ℕ)). run_puts (all_values run.settled) (map (edge m) m.updates) l) words_are
-
-    next : IsNext m run.settled next_contents
-    next = rw (staged_is, words_after) (is_next m sim.rules run.settled run.ready.shape fit staged sim.staged)
-
-    length_staged : length new_staged ≡ length m.regs
-    length_staged = ap length staged_is ∙ length-run_sets m (all_values run.settled) m.updates staged ∙ sim.staged
-
-    abbrev after : Snapshot
-    after = later m sim.rules run.settled next_contents run.ready fit next
-
-    values_after : new_values ≡ all_values after
-    values_after =
-        clocks.values ∙ rw settled_flat
-        (new_regs run.settled.inputs run.settled.outputs run.settled.wires run.settled.contents.regs new_staged p.first_reg (length_staged ∙ sym run.ready.shape.regs)
-        (omega (arith, run.ready.shape.inputs, run.ready.shape.outputs, run.ready.shape.wires, sim.program.first_reg)))
-
-    pub accepted : IsCircuit m order p new_values new_staged new_words
-    accepted = record {
-      rules = sim.rules;
-      ordered = sim.ordered;
-      program = sim.program;
-      staged = length_staged;
-      shot = after;
-      slots_are = values_after;
-      words = refl;
-      ready = later_ready m sim.rules run.settled next_contents run.ready fit next;
-      fit = later_fit m sim.rules run.settled next_contents run.ready fit next;
-    }
-
-    contents_after : contents_of m new_values new_words ≡ next_contents
-    contents_after = rw values_after (contents_flat m after (later_ready m sim.rules run.settled next_contents run.ready fit next).shape)
-
-    pub steps : Steps m old given run.settled (contents_of m new_values new_words)
-    steps = record { snapshot = snapshot; in_range = inside; next = rw contents_after next }
-
-    pub seen_are : seen ≡ take count (drop from (all_values run.settled))
-    seen_are = clocks.shown ∙ ap (λ (v : List ℕ). take count (drop from v)) settled_flat
-
--- there are as many slots as nets
-pub slots_long : (m : Netlist) (order : List ℕ) (p : Program) (values staged : List ℕ) (words : List (List ℕ)) → IsCircuit m order p values staged words → length values ≡ length (all_widths m)
-slots_long m order p values staged words sim =
-    ap length sim.slots_are ∙ omega (arith, length-all_values sim.shot, length-all_widths m, sim.ready.shape.inputs, sim.ready.shape.outputs, sim.ready.shape.wires, sim.ready.shape.regs)
-
--- after a clock, whatever it answers
-pub either : (m : Netlist) (order : List ℕ) (p : Program) (values staged : List ℕ) (words : List (List ℕ)) (sim : IsCircuit m order p values staged words)
-    (given : List ℕ) (fits : Fit m.inputs given) (new_values new_staged : List ℕ) (new_words : List (List ℕ)) (from count : ℕ) (seen : List ℕ) (r : Result (Unit {0}) IndexRange) →
-    OnOk r (Clocks p words given values staged from count new_values new_staged new_words seen) → OnErr r (new_values ≡ settled_values p words given values) → OnErr r (new_words ≡ words) →
-    length new_staged ≡ length m.regs → IsCircuit m order p new_values new_staged new_words
-either m order p values staged words sim given fits new_values new_staged new_words from count seen (Ok u) ok err_values err_words l = accepted m order p values staged words sim given fits new_values new_staged new_words from count seen ok
-either m order p values staged words sim given fits new_values new_staged new_words from count seen (Err e) ok err_values err_words l =
-    rw (err_values, err_words) (refused m order p values staged words sim given fits new_staged l)
-
-module _ (m : Netlist) (order : List ℕ) (p : Program) (values staged : List ℕ) (words : List (List ℕ)) (sim : IsCircuit m order p values staged words)
-    (given : List ℕ) (fits : Fit m.inputs given) (new_values new_staged : List ℕ) (new_words : List (List ℕ)) (from count : ℕ) (seen : List ℕ) where
-  pub ok_steps : (r : Result (Unit {0}) IndexRange) → OnOk r (Clocks p words given values staged from count new_values new_staged new_words seen) →
-      OnOk r ((s : Snapshot) × Steps m (contents_of m values words) given s (contents_of m new_values new_words) × (seen ≡ take count (drop from (all_values s))) × HasShape m s)
-  ok_steps (Ok u) clocks = (
-    (run m order p values staged words sim given fits).settled,
-    steps m order p values staged words sim given fits new_values new_staged new_words from count seen clocks,
-    seen_are m order p values staged words sim given fits new_values new_staged new_words from count seen clocks,
-    (run m order p values staged words sim given fits).ready.shape,
-  )
-  ok_steps (Err e) clocks = tt
-
-  pub err_stops : (r : Result (Unit {0}) IndexRange) → IfErr r (IsFirstOutside words (settled_values p words given values) p.accesses.items) →
-      IfErr r (λ (range : IndexRange). Stops m (contents_of m values words) given range.array range.index)
-  err_stops (Ok u) h = tt
-  err_stops (Err e) h = stops m order p values staged words sim given fits e h
-
-  pub err_same : (r : Result (Unit {0}) IndexRange) → OnErr r (new_values ≡ settled_values p words given values) → OnErr r (new_words ≡ words) →
-      OnErr r (machine m (contents_of m new_values new_words) ≡ machine m (contents_of m values words))
-  err_same (Ok u) h g = tt
-  err_same (Err e) h g = ap (λ (c : Contents). machine m c) (rw (h, g) (refused_contents m order p values staged words sim given fits))
+  pub settled_shot : SnapshotOf m old given (shot_of m (settled_values p words given values) words)
+  settled_shot = subst (λ (s : Snapshot). SnapshotOf m old given s) (sym settled_is) snapshot
 
 -- a clock by what its ports are given
 module _ (m : Netlist) (order : List ℕ) (p : Program) (values staged : List ℕ) (words : List (List ℕ)) (sim : IsCircuit m order p values staged words)
@@ -232,32 +237,22 @@ module _ (m : Netlist) (order : List ℕ) (p : Program) (values staged : List �
   pub ports_within : length ports ≤ length values
   ports_within = omega (arith, length_fit m.inputs ports ports_fit, slots_long m order p values staged words sim, length-all_widths m)
 
-  pub regs_within : p.first_reg + length staged ≤ length values
-  regs_within = omega (arith, sim.staged, sim.program.first_reg, slots_long m order p values staged words sim, length-all_widths m)
+  pub ports_code : CodeIsSafe p.widths.items words p.code.items (with_inputs ports values)
+  ports_code = code_safe m order p values staged words sim ports ports_fit
 
-  pub clock_code : CodeIsSafe p.widths.items words p.code.items (with_inputs ports values)
-  clock_code = code_safe m order p values staged words sim ports ports_fit
+  module _ (new_values : List ℕ) (settle : new_values ≡ settled_values p words ports values) where
+    pub clock_circuit : IsCircuit m order p new_values staged words
+    clock_circuit = subst (λ (v : List ℕ). IsCircuit m order p v staged words) (sym settle) (settled_circuit m order p values staged words sim ports ports_fit)
 
-  pub clock_edges : All (IsAccessInside words (settled_values p words ports values)) p.accesses.items → EdgesAreSafe (settled_values p words ports values) p.edges.items (length staged) words
-  clock_edges = edges_safe m order p values staged words sim ports ports_fit
+    pub clock_shot : SnapshotOf m (contents_of m values words) (given m clock) (shot_of m new_values words)
+    clock_shot =
+        let at_ports = settled_shot m order p values staged words sim ports ports_fit in
+        let at_given = subst (λ (g : List ℕ). SnapshotOf m (contents_of m values words) g (shot_of m (settled_values p words ports values) words)) same_ports at_ports in
+        subst (λ (v : List ℕ). SnapshotOf m (contents_of m values words) (given m clock) (shot_of m v words)) (sym settle) at_given
 
-  module _ (new_values new_staged : List ℕ) (new_words : List (List ℕ)) (from count : ℕ) (seen : List ℕ) (r : Result (Unit {0}) IndexRange) where
-    pub clock_either : OnOk r (Clocks p words ports values staged from count new_values new_staged new_words seen) → OnErr r (new_values ≡ settled_values p words ports values) → OnErr r (new_words ≡ words) →
-        length new_staged ≡ length staged → IsCircuit m order p new_values new_staged new_words
-    clock_either ok err_values err_words l = either m order p values staged words sim ports ports_fit new_values new_staged new_words from count seen r ok err_values err_words (l ∙ sim.staged)
+    pub clock_range : (r : Result (Unit {0}) IndexRange) → OnOk r (All (IsAccessInside words (settled_values p words ports values)) p.accesses.items) → OnOk r (IsInRange m (shot_of m new_values words))
+    clock_range r h = in_range_ok m order p new_values staged words clock_circuit r (subst (λ (v : List ℕ). OnOk r (All (IsAccessInside words v) p.accesses.items)) (sym settle) h)
 
-    pub clock_steps : OnOk r (Clocks p words ports values staged from count new_values new_staged new_words seen) →
-        OnOk r ((s : Snapshot) × Steps m (contents_of m values words) (given m clock) s (contents_of m new_values new_words) × (seen ≡ take count (drop from (all_values s))) × HasShape m s)
-    clock_steps ok =
-        subst (λ (g : List ℕ). OnOk r ((s : Snapshot) × Steps m (contents_of m values words) g s (contents_of m new_values new_words) × (seen ≡ take count (drop from (all_values s))) × HasShape m s)) same_ports
-        (ok_steps m order p values staged words sim ports ports_fit new_values new_staged new_words from count seen r ok)
-
-    pub clock_stops : IfErr r (IsFirstOutside words (settled_values p words ports values) p.accesses.items) →
-        IfErr r (λ (range : IndexRange). Stops m (contents_of m values words) (given m clock) range.array range.index)
-    clock_stops h =
-        subst (λ (g : List ℕ). IfErr r (λ (range : IndexRange). Stops m (contents_of m values words) g range.array range.index)) same_ports
-        (err_stops m order p values staged words sim ports ports_fit new_values new_staged new_words from count seen r h)
-
-    pub clock_same : OnErr r (new_values ≡ settled_values p words ports values) → OnErr r (new_words ≡ words) →
-        OnErr r (machine m (contents_of m new_values new_words) ≡ machine m (contents_of m values words))
-    clock_same h g = err_same m order p values staged words sim ports ports_fit new_values new_staged new_words from count seen r h g
+    pub clock_stop : (r : Result (Unit {0}) IndexRange) → IfErr r (IsFirstOutside words (settled_values p words ports values) p.accesses.items) →
+        IfErr r (λ (range : IndexRange). StopsAt m (shot_of m new_values words) range.array range.index)
+    clock_stop r h = stops_err m order p new_values staged words clock_circuit r (subst (λ (v : List ℕ). IfErr r (IsFirstOutside words v p.accesses.items)) (sym settle) h)

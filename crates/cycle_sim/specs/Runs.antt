@@ -27,6 +27,7 @@ pub record RanToStop (m : Netlist) (output : ℕ) (clocks : List Clock) (from : 
   pub run : Runs m from (take (length shots) clocks) shots to
   pub shown : samples ≡ before ++ picture output shots
 
+-- a run stops, or for want of memory no clock of it takes place
 abbrev pub EndsEarly : Netlist → ℕ → List Clock → Contents → List ℕ → Contents → List ℕ → RunFault → Type 0
 EndsEarly m output clocks from before to samples (Stopped range) = RanToStop m output clocks from before to samples range.array range.index
-EndsEarly m output clocks from before to samples Memory = Unit {0}
+EndsEarly m output clocks from before to samples Memory = (to ≡ from) × (samples ≡ before)

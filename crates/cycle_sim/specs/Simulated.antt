@@ -1,5 +1,5 @@
 -- A netlist in a simulator.
-use Rattle.std.specs.Prelude.{◌≡◌, ℕ, ◌+◌, List, length, drop, map}
+use Rattle.std.specs.Prelude.{◌≡◌, ℕ, ◌+◌, List, length, take, drop, map}
 use Rattle.wiring.specs.Netlist.{Netlist}
 use Rattle.wiring.specs.Snapshot.{Contents, Snapshot, accesses}
 use Rattle.wiring.specs.Order.{IsEvaluationOrder}
@@ -18,6 +18,19 @@ pub record Machine : Type 0 where
 
 abbrev pub contents_of : Netlist → List ℕ → List (List ℕ) → Contents
 contents_of m values words = record { regs = drop (length m.inputs + length m.outputs + length m.wires) values; arrays = words }
+
+-- a netlist at a moment: the values of its nets, and what its registers and arrays hold
+pub record Moment : Type 0 where
+  pub netlist : Netlist
+  pub shot : Snapshot
+
+abbrev pub shot_of : Netlist → List ℕ → List (List ℕ) → Snapshot
+shot_of m values words = record {
+  inputs = take (length m.inputs) values;
+  outputs = take (length m.outputs) (drop (length m.inputs) values);
+  wires = take (length m.wires) (drop (length m.inputs + length m.outputs) values);
+  contents = contents_of m values words;
+}
 
 -- where the nets of each sort begin
 pub record IsLayout (m : Netlist) (l : Layout) : Type 0 where

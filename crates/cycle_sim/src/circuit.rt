@@ -1,21 +1,21 @@
 // A netlist in a simulator.
-ghost use Rattle.std.specs.Prelude.{◌≡◌, ◌+◌, ◌≤◌, length, take, drop, IfOk, OnOk, IfErr, OnErr};
+ghost use Rattle.std.specs.Prelude.{◌≡◌, ℕ, Err, ◌+◌, ◌*◌, ◌≤◌, length, take, drop, IsTrue, IfOk, OnOk, IfErr};
 ghost use Rattle.cycle_sim.specs.Slots.{all_values, all_widths};
-ghost use Rattle.cycle_sim.specs.Ready.{HasShape};
 ghost use Rattle.cycle_sim.specs.Ports.{din_widths};
-ghost use Rattle.wiring.specs.Snapshot.{Snapshot, Fit};
-ghost use Rattle.wiring.specs.Clock.{given, Steps, Stops};
+ghost use Rattle.wiring.specs.Snapshot.{Fit, SnapshotOf, IsInRange, StopsAt, IsNext};
+ghost use Rattle.wiring.specs.Clock.{given, Stops};
 ghost use Rattle.wiring.specs.Netlist.{netlist_of};
 
 use crate::build::program_of;
 use crate::edge::IndexRange;
 use crate::fill::{Fill, filled_arrays, filled_slots};
-use crate::machine::{Program, vec_clock};
+use crate::machine::{Program, edge_vec, settle_vec};
+use crate::ports::{all_fit, dins_of, output_count};
 use netlist::{Module, Wiring};
 use std::alloc::{AllocError, Global};
 use std::marker::Model;
 
-/// A netlist with what its registers and arrays hold.
+/// A netlist with the values of its nets, and what its registers and arrays hold.
 #[derive(Debug, Drop)]
 pub struct Circuit {
     wiring: Wiring,
@@ -29,11 +29,11 @@ pub struct Circuit {
 impl Model for Circuit {
     ghost use Rattle.wiring.specs.Netlist.{netlist_of};
     ghost use Rattle.cycle_sim.specs.Slots.{words_of};
-    ghost use Rattle.cycle_sim.specs.Simulated.{Machine, contents_of, IsCircuit};
+    ghost use Rattle.cycle_sim.specs.Simulated.{Moment, shot_of, IsCircuit};
 
-    ghost Value = { Machine };
+    ghost Value = { Moment };
 
-    ghost view = { λ s. record { netlist = netlist_of s.wiring; contents = contents_of (netlist_of s.wiring) s.values.items (words_of s.arrays.items) } };
+    ghost view = { λ s. record { netlist = netlist_of s.wiring; shot = shot_of (netlist_of s.wiring) s.values.items (words_of s.arrays.items) } };
 
     ghost invariant = { λ s. IsCircuit (netlist_of s.wiring) s.order.items s.program s.values.items s.staged.items (words_of s.arrays.items) };
 }
@@ -54,14 +54,24 @@ fn copy_of(alloc: Global, wiring: &Wiring) -> Result<Wiring, AllocError>
     })
 }
 
+// So many numbers from this place on.
+fn part(numbers: &[u64], from: usize, count: usize) -> &[u64]
+    requires { from + count ≤ length numbers.now }
+    ensures items { result.now ≡ take count (drop from numbers.now) }
+    ensures count { length result.now ≡ count }
+{
+    numbers.split_at(from).1.split_at(count).0
+}
+
 impl Circuit {
-    ghost use Rattle.cycle_sim.specs.Simulated.{Machine};
+    ghost use Rattle.wiring.specs.Snapshot.{HasOneSnapshot, HasOneNext, HasPlaces, FitsContents};
+    ghost use Rattle.cycle_sim.specs.Simulated.{Moment};
     ghost use Rattle.cycle_sim.specs.Filled.{filled_contents};
 
     /// The netlist of a module, with these contents at power-up.
     pub fn new(alloc: Global, module: &Module, fill: Fill) -> Result<Circuit, AllocError>
         ensures netlist { IfOk result (λ s. s.netlist ≡ «module».now.netlist) }
-        ensures contents { IfOk result (λ s. s.contents ≡ filled_contents fill «module».now.netlist) }
+        ensures contents { IfOk result (λ s. s.shot.contents ≡ filled_contents fill «module».now.netlist) }
     {
         let wiring = copy_of(alloc, module.wiring())?;
         let order = Vec::from_slice(alloc, module.order())?;
@@ -79,48 +89,80 @@ impl Circuit {
         })
     }
 
-    /// The number of nets.
-    pub fn nets(&self) -> usize
-        ensures { result ≡ length (all_widths self.now.netlist) }
+    /// A law: one valuation for each contents and inputs, one next contents, and contents that fit.
+    pub fn law(&self)
+        ensures one_valuation { HasOneSnapshot self.now.netlist }
+        ensures one_next { HasOneNext self.now.netlist }
+        ensures places { HasPlaces self.now.netlist self.now.shot.contents }
+        ensures fit { FitsContents self.now.netlist self.now.shot.contents }
     {
-        self.values.len()
+        let _order = &self.order;
+        wiring::one_valuation();
+        wiring::one_next();
     }
 
-    /// The number of inputs, which is the slot of the first output.
-    pub fn inputs(&self) -> usize
-        ensures { result ≡ length self.now.netlist.inputs }
+    /// Whether these are a number for each din, each fitting its port.
+    pub fn fits(&self, dins: &[u64]) -> bool
+        ensures yes { IsTrue result → Fit (din_widths self.now.netlist) dins.now }
+        ensures no { Fit (din_widths self.now.netlist) dins.now → IsTrue result }
     {
-        self.wiring.inputs.len()
+        all_fit(dins_of(&self.wiring), dins)
     }
 
-    /// One clock. The nets from this one on, inputs before outputs before wires before registers, are shown as they are before
-    /// the edge. After a refusal all is as before. It takes no memory.
-    pub fn clock(
-        &mut self,
-        reset: bool,
-        enable: bool,
-        dins: &[u64],
-        from: usize,
-        seen: &mut [u64],
-    ) -> Result<(), IndexRange>
-        requires dins { Fit (din_widths self.old.netlist) dins.now }
-        requires seen { from + length seen.old ≤ length (all_widths self.old.netlist) }
+    /// The number of outputs, of two ports each.
+    pub fn output_count(&self) -> usize
+        ensures { length self.now.netlist.outputs ≡ 2 * result }
+    {
+        output_count(&self.wiring)
+    }
+
+    /// The values of all nets: inputs before outputs before wires before registers.
+    pub fn values(&self) -> &[u64]
+        ensures values { result.now ≡ all_values self.now.shot }
+        ensures count { length result.now ≡ length (all_widths self.now.netlist) }
+    {
+        &self.values
+    }
+
+    /// The values of the outputs.
+    pub fn outputs(&self) -> &[u64]
+        ensures values { result.now ≡ self.now.shot.outputs }
+        ensures count { length result.now ≡ length self.now.netlist.outputs }
+    {
+        let first = self.wiring.inputs.len();
+        part(&self.values, first, self.wiring.outputs.len())
+    }
+
+    /// The nets take the values of a clock that is given these. Told is the first access outside its array. It takes no memory.
+    pub fn settle(&mut self, reset: bool, enable: bool, dins: &[u64]) -> Result<(), IndexRange>
+        requires { Fit (din_widths self.old.netlist) dins.now }
         ensures netlist { self.new.netlist ≡ self.old.netlist }
-        ensures ok { OnOk result ((s : Snapshot) × Steps self.old.netlist self.old.contents (given self.old.netlist (record { reset = reset; enable = enable; dins = dins.now })) s self.new.contents × (seen.new ≡ take (length seen.old) (drop from (all_values s))) × HasShape self.old.netlist s) }
-        ensures stops { IfErr result (λ r. Stops self.old.netlist self.old.contents (given self.old.netlist (record { reset = reset; enable = enable; dins = dins.now })) r.array r.index) }
-        ensures err { OnErr result (self.new ≡ self.old) }
-        ensures seen { OnErr result (seen.new ≡ seen.old) }
+        ensures shot { SnapshotOf self.old.netlist self.old.shot.contents (given self.old.netlist (record { reset = reset; enable = enable; dins = dins.now })) self.new.shot }
+        ensures ok { OnOk result (IsInRange self.old.netlist self.new.shot) }
+        ensures stops { IfErr result (λ r. StopsAt self.old.netlist self.new.shot r.array r.index) }
+        ensures only { (x i : ℕ) → Stops self.old.netlist self.old.shot.contents (given self.old.netlist (record { reset = reset; enable = enable; dins = dins.now })) x i → result ≡ Err (record { array = x; index = i }) }
     {
-        vec_clock(
+        settle_vec(
+            &self.program,
+            &mut self.values,
+            &self.arrays,
+            reset,
+            enable,
+            dins,
+        )
+    }
+
+    /// The clock edge. It takes no memory.
+    pub fn edge(&mut self)
+        requires { IsInRange self.old.netlist self.old.shot }
+        ensures netlist { self.new.netlist ≡ self.old.netlist }
+        ensures next { IsNext self.old.netlist self.old.shot self.new.shot.contents }
+    {
+        edge_vec(
             &self.program,
             &mut self.values,
             &mut self.staged,
             &mut self.arrays,
-            reset,
-            enable,
-            dins,
-            from,
-            seen,
-        )
+        );
     }
 }

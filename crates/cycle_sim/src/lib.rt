@@ -7,6 +7,8 @@ mod edge;
 mod evaluate;
 mod fill;
 mod machine;
+#[cfg(test)]
+mod module_tests;
 mod ports;
 mod running;
 mod settle;
@@ -17,5 +19,5 @@ mod tests;
 pub use edge::IndexRange;
 pub use fill::Fill;
 pub use ports::Out;
-pub use running::{Clock, RunFault, run};
+pub use running::{Clock, RunFault, clocks_fit, run};
 pub use sim::Sim;

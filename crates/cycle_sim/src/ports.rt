@@ -1,7 +1,13 @@
-// What the output ports show.
+// What the ports take and show.
 
-ghost use Rattle.std.specs.Prelude.{◌≡◌, ℕ, ◌+◌, ◌*◌, ◌<◌, length, slice_get, Some};
-ghost use Rattle.cycle_sim.specs.Ports.{out_of};
+ghost use Rattle.std.specs.Prelude.{◌≡◌, ℕ, ◌+◌, ◌*◌, ◌<◌, length, slice_get, Some, IsTrue, if◌then◌else◌};
+ghost use Rattle.wiring.specs.Netlist.{netlist_of};
+ghost use Rattle.wiring.specs.Rules.{KeepsRules};
+ghost use Rattle.wiring.specs.Snapshot.{Fit};
+ghost use Rattle.cycle_sim.specs.Ports.{din_widths, out_of};
+
+use crate::evaluate::limit;
+use netlist::{Width, Wiring};
 
 /// What the two ports of an output show.
 #[derive(Clone, Copy, Debug, PartialEq, Eq)]
@@ -30,4 +36,43 @@ pub fn show_outs(outputs: &[u64], outs: &mut [Out])
     for output in 0..outs.len() {
         outs[output] = out_at(outputs, output);
     }
+}
+
+/// Whether there is a number for each width, and each fits its own.
+pub fn all_fit(widths: &[Width], numbers: &[u64]) -> bool
+    ensures yes { IsTrue result → Fit widths.now numbers.now }
+    ensures no { Fit widths.now numbers.now → IsTrue result }
+{
+    if widths.len() != numbers.len() {
+        return false;
+    }
+    for k in 0..widths.len() {
+        if numbers[k] as u128 >= limit(widths[k].bits()) {
+            return false;
+        }
+    }
+    true
+}
+
+// The number of the first din among the inputs.
+fn first_din(has_enable: bool) -> usize
+    ensures { result ≡ (if has_enable then 2 else 1) }
+{
+    if has_enable { 2 } else { 1 }
+}
+
+/// The widths of the din ports.
+pub fn dins_of(wiring: &Wiring) -> &[Width]
+    requires { KeepsRules (netlist_of wiring.now) }
+    ensures { result.now ≡ din_widths (netlist_of wiring.now) }
+{
+    wiring.inputs.split_at(first_din(wiring.enable)).1
+}
+
+/// The number of outputs.
+pub fn output_count(wiring: &Wiring) -> usize
+    requires { KeepsRules (netlist_of wiring.now) }
+    ensures { length (netlist_of wiring.now).outputs ≡ 2 * result }
+{
+    wiring.outputs.len() / 2
 }

@@ -1,15 +1,18 @@
 // Runs over lists of clocks.
 
-ghost use Rattle.std.specs.Prelude.{◌≡◌, ◌+◌, ◌*◌, ◌<◌, ◌++◌, [], ◌∷◌, length, All, OnOk, IfErr, if◌then◌else◌};
+ghost use Rattle.std.specs.Prelude.{◌≡◌, ◌≢◌, ◌⊎◌, ℕ, List, ◌+◌, ◌*◌, ◌<◌, ◌≤◌, ◌++◌, [], ◌∷◌, length, All, IsTrue, Err, IsOk, OnOk, IfErr, if◌then◌else◌};
+ghost use Rattle.std.specs.Vec.{vec_capacity, vec_len};
+ghost use Rattle.wiring.specs.Snapshot.{Contents};
 ghost use Rattle.cycle_sim.specs.declared.running.Clock.{Clock as GivenClock};
 ghost use Rattle.wiring.specs.Snapshot.{Fit};
 ghost use Rattle.cycle_sim.specs.Ports.{din_widths};
-ghost use Rattle.cycle_sim.specs.Runs.{clock_of, clocks_of, Ran, EndsEarly};
+ghost use Rattle.cycle_sim.specs.Runs.{clock_of, clocks_of, Ran, RanToStop, EndsEarly};
+ghost use Rattle.cycle_sim.specs.declared.running.RunFault.TheVariants.{Stopped, Memory};
 
 use crate::edge::IndexRange;
 use crate::ports::Out;
 use crate::sim::Sim;
-use std::alloc::AllocError;
+use netlist::one_run;
 
 /// What the ports are given in a clock. Without the port `en` its value is not looked at.
 #[derive(Debug, Drop)]
@@ -24,19 +27,33 @@ pub struct Clock {
 pub enum RunFault {
     /// An index is not below the depth of its array.
     Stopped(IndexRange),
-    /// There was not enough memory for the samples.
+    /// There was not enough memory for the samples. No clock took place.
     Memory,
 }
 
-// Adds what an output shows, where its valid is 1.
-fn note(samples: &mut Vec<u64>, out: Out) -> Result<(), AllocError>
-    ensures { OnOk result (samples.new.items ≡ samples.old.items ++ (if out.valid then out.dout ∷ [] else [])) }
+/// Whether a simulator can take what each of the clocks gives to its din ports: what `run` asks of them.
+pub fn clocks_fit(sim: &Sim, clocks: &[Clock]) -> bool
+    ensures yes { IsTrue result → All (λ (c : GivenClock). Fit (din_widths sim.now.netlist) c.dins.items) clocks.now }
+    ensures no { All (λ (c : GivenClock). Fit (din_widths sim.now.netlist) c.dins.items) clocks.now → IsTrue result }
 {
-    if !out.valid {
-        return Ok(());
+    for clock in clocks {
+        if !sim.fits(&clock.dins) {
+            return false;
+        }
     }
-    samples.push(out.dout)?;
-    Ok(())
+    true
+}
+
+// Adds what an output shows, where its valid is 1. There is room for it.
+fn note(samples: &mut Vec<u64>, out: Out)
+    requires { vec_len samples.old < vec_capacity samples.old }
+    ensures items { samples.new.items ≡ samples.old.items ++ (if out.valid then out.dout ∷ [] else []) }
+    ensures count { vec_len samples.new ≤ vec_len samples.old + 1 }
+    ensures capacity { vec_capacity samples.new ≡ vec_capacity samples.old }
+{
+    if out.valid {
+        samples.push_reserved(out.dout);
+    }
 }
 
 fn run_clock(
@@ -44,24 +61,50 @@ fn run_clock(
     clock: &Clock,
     output: usize,
     samples: &mut Vec<u64>,
-) -> Result<(), RunFault>
+) -> Result<(), IndexRange>
     requires dins { Fit (din_widths sim.old.netlist) clock.now.dins.items }
     requires output { 2 * output + 1 < length sim.old.netlist.outputs }
+    requires room { vec_len samples.old < vec_capacity samples.old }
     ensures netlist { sim.new.netlist ≡ sim.old.netlist }
     ensures ok { OnOk result (Ran sim.old.netlist output (clock_of clock.now ∷ []) sim.old.contents samples.old.items sim.new.contents samples.new.items) }
-    ensures err { IfErr result (EndsEarly sim.old.netlist output (clock_of clock.now ∷ []) sim.old.contents samples.old.items sim.new.contents samples.new.items) }
+    ensures stop { IfErr result (λ r. RanToStop sim.old.netlist output (clock_of clock.now ∷ []) sim.old.contents samples.old.items sim.new.contents samples.new.items r.array r.index) }
+    ensures count { vec_len samples.new ≤ vec_len samples.old + 1 }
+    ensures capacity { vec_capacity samples.new ≡ vec_capacity samples.old }
 {
     match sim.step_output(clock.reset, clock.enable, &clock.dins, output) {
-        Err(range) => Err(RunFault::Stopped(range)),
-        Ok(out) => match note(samples, out) {
-            Err(_) => Err(RunFault::Memory),
-            Ok(()) => Ok(()),
-        },
+        Err(range) => Err(range),
+        Ok(out) => {
+            note(samples, out);
+            Ok(())
+        }
     }
 }
 
+// The same over a list of clocks, to its end or the first that stops.
+fn run_clocks(
+    sim: &mut Sim,
+    clocks: &[Clock],
+    output: usize,
+    samples: &mut Vec<u64>,
+) -> Result<(), IndexRange>
+    requires dins { All (λ (c : GivenClock). Fit (din_widths sim.old.netlist) c.dins.items) clocks.now }
+    requires output { 2 * output + 1 < length sim.old.netlist.outputs }
+    requires room { vec_len samples.old + length clocks.now ≤ vec_capacity samples.old }
+    ensures netlist { sim.new.netlist ≡ sim.old.netlist }
+    ensures ok { OnOk result (Ran sim.old.netlist output (clocks_of clocks.now) sim.old.contents samples.old.items sim.new.contents samples.new.items) }
+    ensures stop { IfErr result (λ r. RanToStop sim.old.netlist output (clocks_of clocks.now) sim.old.contents samples.old.items sim.new.contents samples.new.items r.array r.index) }
+    ensures count { vec_len samples.new ≤ vec_len samples.old + length clocks.now }
+    ensures capacity { vec_capacity samples.new ≡ vec_capacity samples.old }
+{
+    for clock in clocks {
+        run_clock(sim, clock, output, samples)?;
+    }
+    Ok(())
+}
+
 /// Runs the clocks in their order, to the end of the list or the first that stops, and adds to the samples what the output of
-/// this number shows: its dout in each clock with its valid 1, the values being those before the edge.
+/// this number shows: its dout in each clock with its valid 1, the values being those before the edge. Room for one sample a
+/// clock is made before the first clock, so without memory nothing changes; where that room is there, no memory is taken.
 pub fn run(
     sim: &mut Sim,
     clocks: &[Clock],
@@ -73,9 +116,19 @@ pub fn run(
     ensures netlist { sim.new.netlist ≡ sim.old.netlist }
     ensures ok { OnOk result (Ran sim.old.netlist output (clocks_of clocks.now) sim.old.contents samples.old.items sim.new.contents samples.new.items) }
     ensures err { IfErr result (EndsEarly sim.old.netlist output (clocks_of clocks.now) sim.old.contents samples.old.items sim.new.contents samples.new.items) }
+    ensures to_end { (to : Contents) (all : List ℕ) → Ran sim.old.netlist output (clocks_of clocks.now) sim.old.contents samples.old.items to all → (result ≡ Err Memory) ⊎ (IsOk result × (sim.new.contents ≡ to) × (samples.new.items ≡ all)) }
+    ensures to_stop { (to : Contents) (all : List ℕ) (x i : ℕ) → RanToStop sim.old.netlist output (clocks_of clocks.now) sim.old.contents samples.old.items to all x i → (result ≡ Err Memory) ⊎ ((result ≡ Err (Stopped (record { array = x; index = i }))) × (sim.new.contents ≡ to) × (samples.new.items ≡ all)) }
+    ensures room { vec_len samples.old + length clocks.now ≤ vec_capacity samples.old → result ≢ Err Memory }
+    ensures count { vec_len samples.new ≤ vec_len samples.old + length clocks.now }
+    ensures capacity { vec_capacity samples.old ≤ vec_capacity samples.new }
 {
-    for clock in clocks {
-        run_clock(sim, clock, output, samples)?;
+    sim.law();
+    one_run();
+    if samples.try_reserve(clocks.len()).is_err() {
+        return Err(RunFault::Memory);
     }
-    Ok(())
+    match run_clocks(sim, clocks, output, samples) {
+        Err(range) => Err(RunFault::Stopped(range)),
+        Ok(()) => Ok(()),
+    }
 }

@@ -1,7 +1,7 @@
 // The simulator.
 
-ghost use Rattle.std.specs.Prelude.{◌≡◌, ◌<◌, ◌+◌, ◌*◌, [], ◌∷◌, true, length, OnOk, IfOk, IfErr, OnErr};
-ghost use Rattle.wiring.specs.Snapshot.{Snapshot, Fit};
+ghost use Rattle.std.specs.Prelude.{◌≡◌, ℕ, Err, ◌<◌, ◌+◌, ◌*◌, [], ◌∷◌, true, length, IsTrue, OnOk, IfOk, IfErr, OnErr};
+ghost use Rattle.wiring.specs.Snapshot.{Snapshot, Fit, HasOneSnapshot, HasOneNext, HasPlaces, FitsContents};
 ghost use Rattle.wiring.specs.Clock.{given, Steps, Stops};
 ghost use Rattle.cycle_sim.specs.Slots.{all_values, all_widths};
 ghost use Rattle.cycle_sim.specs.Ports.{din_widths, IsShown, AreShown};
@@ -20,57 +20,14 @@ use std::marker::Model;
 #[derive(Debug, Drop)]
 pub struct Sim {
     circuit: Circuit,
-    room: Vec<u64>,
 }
 
 impl Model for Sim {
-    ghost use Rattle.std.specs.Prelude.{◌≡◌, length};
     ghost use Rattle.cycle_sim.specs.Simulated.{Machine};
 
     ghost Value = { Machine };
 
-    ghost view = { λ s. s.circuit };
-
-    ghost invariant = { λ s. length s.room.items ≡ length s.circuit.netlist.outputs };
-}
-
-// One clock, after which the room has the outputs as they are before the edge.
-fn clock_outputs(
-    circuit: &mut Circuit,
-    room: &mut [u64],
-    reset: bool,
-    enable: bool,
-    dins: &[u64],
-) -> Result<(), IndexRange>
-    requires dins { Fit (din_widths circuit.old.netlist) dins.now }
-    requires room { length room.old ≡ length circuit.old.netlist.outputs }
-    ensures netlist { circuit.new.netlist ≡ circuit.old.netlist }
-    ensures room { length room.new ≡ length room.old }
-    ensures ok { OnOk result ((s : Snapshot) × Steps circuit.old.netlist circuit.old.contents (given circuit.old.netlist (record { reset = reset; enable = enable; dins = dins.now })) s circuit.new.contents × (room.new ≡ s.outputs)) }
-    ensures stops { IfErr result (λ r. Stops circuit.old.netlist circuit.old.contents (given circuit.old.netlist (record { reset = reset; enable = enable; dins = dins.now })) r.array r.index) }
-    ensures err { OnErr result (circuit.new ≡ circuit.old) }
-{
-    let first = circuit.inputs();
-    circuit.clock(reset, enable, dins, first, room)
-}
-
-// The same with a vector.
-fn vec_outputs(
-    circuit: &mut Circuit,
-    room: &mut Vec<u64>,
-    reset: bool,
-    enable: bool,
-    dins: &[u64],
-) -> Result<(), IndexRange>
-    requires dins { Fit (din_widths circuit.old.netlist) dins.now }
-    requires room { length room.old.items ≡ length circuit.old.netlist.outputs }
-    ensures netlist { circuit.new.netlist ≡ circuit.old.netlist }
-    ensures room { length room.new.items ≡ length room.old.items }
-    ensures ok { OnOk result ((s : Snapshot) × Steps circuit.old.netlist circuit.old.contents (given circuit.old.netlist (record { reset = reset; enable = enable; dins = dins.now })) s circuit.new.contents × (room.new.items ≡ s.outputs)) }
-    ensures stops { IfErr result (λ r. Stops circuit.old.netlist circuit.old.contents (given circuit.old.netlist (record { reset = reset; enable = enable; dins = dins.now })) r.array r.index) }
-    ensures err { OnErr result (circuit.new ≡ circuit.old) }
-{
-    clock_outputs(circuit, room, reset, enable, dins)
+    ghost view = { λ s. record { netlist = s.circuit.netlist; contents = s.circuit.shot.contents } };
 }
 
 impl Sim {
@@ -79,14 +36,39 @@ impl Sim {
         ensures netlist { IfOk result (λ s. s.netlist ≡ «module».now.netlist) }
         ensures contents { IfOk result (λ s. s.contents ≡ filled_contents fill «module».now.netlist) }
     {
-        let room = vec![in alloc; 0; module.wiring().outputs.len()]?;
         let circuit = Circuit::new(alloc, module, fill)?;
-        let sim = Sim { circuit, room };
+        let sim = Sim { circuit };
         Ok(sim)
     }
 
+    /// A law: there is one valuation for each contents and inputs and one next contents, and what registers and arrays hold fits them.
+    pub fn law(&self)
+        ensures one_valuation { HasOneSnapshot self.now.netlist }
+        ensures one_next { HasOneNext self.now.netlist }
+        ensures places { HasPlaces self.now.netlist self.now.contents }
+        ensures fit { FitsContents self.now.netlist self.now.contents }
+    {
+        self.circuit.law();
+    }
+
+    /// Whether these are a number for each din, the first din first, each fitting its port: what a step asks of them.
+    pub fn fits(&self, dins: &[u64]) -> bool
+        ensures yes { IsTrue result → Fit (din_widths self.now.netlist) dins.now }
+        ensures no { Fit (din_widths self.now.netlist) dins.now → IsTrue result }
+    {
+        self.circuit.fits(dins)
+    }
+
+    /// The number of outputs, each of a valid and a dout.
+    pub fn outputs(&self) -> usize
+        ensures { length self.now.netlist.outputs ≡ 2 * result }
+    {
+        self.circuit.output_count()
+    }
+
     /// One clock of a module of any ports, with one number for each din, the first din first, each fitting its port. The outputs
-    /// are as they are before the edge, in their order. After a refusal the simulator and the outputs are as before. It takes no memory.
+    /// are as they are before the edge, in their order. It answers IndexRange exactly where the clock stops, with the first access
+    /// outside its array, and the simulator and the outputs are then as before. It takes no memory.
     pub fn step_all(
         &mut self,
         reset: bool,
@@ -99,12 +81,18 @@ impl Sim {
         ensures netlist { self.new.netlist ≡ self.old.netlist }
         ensures ok { OnOk result ((s : Snapshot) × Steps self.old.netlist self.old.contents (given self.old.netlist (record { reset = reset; enable = enable; dins = dins.now })) s self.new.contents × AreShown s outs.new) }
         ensures stops { IfErr result (λ r. Stops self.old.netlist self.old.contents (given self.old.netlist (record { reset = reset; enable = enable; dins = dins.now })) r.array r.index) }
+        ensures only { (x i : ℕ) → Stops self.old.netlist self.old.contents (given self.old.netlist (record { reset = reset; enable = enable; dins = dins.now })) x i → result ≡ Err (record { array = x; index = i }) }
         ensures err { OnErr result (self.new ≡ self.old) }
         ensures outs { OnErr result (outs.new ≡ outs.old) }
     {
-        vec_outputs(&mut self.circuit, &mut self.room, reset, enable, dins)?;
-        show_outs(&self.room, outs);
-        Ok(())
+        match self.circuit.settle(reset, enable, dins) {
+            Err(range) => Err(range),
+            Ok(()) => {
+                show_outs(self.circuit.outputs(), outs);
+                self.circuit.edge();
+                Ok(())
+            }
+        }
     }
 
     /// One clock, and what the output of this number shows before the edge. Otherwise as `step_all`.
@@ -120,10 +108,17 @@ impl Sim {
         ensures netlist { self.new.netlist ≡ self.old.netlist }
         ensures ok { IfOk result (λ out. (s : Snapshot) × Steps self.old.netlist self.old.contents (given self.old.netlist (record { reset = reset; enable = enable; dins = dins.now })) s self.new.contents × IsShown s output out) }
         ensures stops { IfErr result (λ r. Stops self.old.netlist self.old.contents (given self.old.netlist (record { reset = reset; enable = enable; dins = dins.now })) r.array r.index) }
+        ensures only { (x i : ℕ) → Stops self.old.netlist self.old.contents (given self.old.netlist (record { reset = reset; enable = enable; dins = dins.now })) x i → result ≡ Err (record { array = x; index = i }) }
         ensures err { OnErr result (self.new ≡ self.old) }
     {
-        vec_outputs(&mut self.circuit, &mut self.room, reset, enable, dins)?;
-        Ok(out_at(&self.room, output))
+        match self.circuit.settle(reset, enable, dins) {
+            Err(range) => Err(range),
+            Ok(()) => {
+                let out = out_at(self.circuit.outputs(), output);
+                self.circuit.edge();
+                Ok(out)
+            }
+        }
     }
 
     /// One clock of a module of one din and one output, with the port `en` at this value where there is that port. Otherwise as `step_all`.
@@ -133,6 +128,7 @@ impl Sim {
         ensures netlist { self.new.netlist ≡ self.old.netlist }
         ensures ok { IfOk result (λ out. (s : Snapshot) × Steps self.old.netlist self.old.contents (given self.old.netlist (record { reset = reset; enable = enable; dins = din ∷ [] })) s self.new.contents × IsShown s 0 out) }
         ensures stops { IfErr result (λ r. Stops self.old.netlist self.old.contents (given self.old.netlist (record { reset = reset; enable = enable; dins = din ∷ [] })) r.array r.index) }
+        ensures only { (x i : ℕ) → Stops self.old.netlist self.old.contents (given self.old.netlist (record { reset = reset; enable = enable; dins = din ∷ [] })) x i → result ≡ Err (record { array = x; index = i }) }
         ensures err { OnErr result (self.new ≡ self.old) }
     {
         self.step_output(reset, enable, &[din], 0)
@@ -145,6 +141,7 @@ impl Sim {
         ensures netlist { self.new.netlist ≡ self.old.netlist }
         ensures ok { IfOk result (λ out. (s : Snapshot) × Steps self.old.netlist self.old.contents (given self.old.netlist (record { reset = reset; enable = true; dins = din ∷ [] })) s self.new.contents × IsShown s 0 out) }
         ensures stops { IfErr result (λ r. Stops self.old.netlist self.old.contents (given self.old.netlist (record { reset = reset; enable = true; dins = din ∷ [] })) r.array r.index) }
+        ensures only { (x i : ℕ) → Stops self.old.netlist self.old.contents (given self.old.netlist (record { reset = reset; enable = true; dins = din ∷ [] })) x i → result ≡ Err (record { array = x; index = i }) }
         ensures err { OnErr result (self.new ≡ self.old) }
     {
         self.step_enabled(reset, true, din)
@@ -154,7 +151,7 @@ impl Sim {
     pub fn variables(&self) -> usize
         ensures { result ≡ length (all_widths self.now.netlist) }
     {
-        self.circuit.nets()
+        self.circuit.values().len()
     }
 
     /// One clock, with the value of each variable before the edge: inputs, outputs, wires and registers, each in the module's order.
@@ -171,9 +168,17 @@ impl Sim {
         ensures netlist { self.new.netlist ≡ self.old.netlist }
         ensures ok { OnOk result ((s : Snapshot) × Steps self.old.netlist self.old.contents (given self.old.netlist (record { reset = reset; enable = enable; dins = dins.now })) s self.new.contents × (seen.new ≡ all_values s)) }
         ensures stops { IfErr result (λ r. Stops self.old.netlist self.old.contents (given self.old.netlist (record { reset = reset; enable = enable; dins = dins.now })) r.array r.index) }
+        ensures only { (x i : ℕ) → Stops self.old.netlist self.old.contents (given self.old.netlist (record { reset = reset; enable = enable; dins = dins.now })) x i → result ≡ Err (record { array = x; index = i }) }
         ensures err { OnErr result (self.new ≡ self.old) }
         ensures seen { OnErr result (seen.new ≡ seen.old) }
     {
-        self.circuit.clock(reset, enable, dins, 0, seen)
+        match self.circuit.settle(reset, enable, dins) {
+            Err(range) => Err(range),
+            Ok(()) => {
+                seen.copy_from_slice(self.circuit.values());
+                self.circuit.edge();
+                Ok(())
+            }
+        }
     }
 }
