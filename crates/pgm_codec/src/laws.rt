@@ -1,10 +1,12 @@
 //! Laws of the form, as contracts of functions that do nothing.
 
-ghost use Rattle.std.specs.Prelude.{◌≡◌, ◌<◌, ◌≤◌, ◌++◌, ◌+◌, ◌*◌, ℕ, List, length, slice_index, Ok};
+ghost use Rattle.std.specs.Prelude.{◌≡◌, ◌<◌, ◌≤◌, ◌++◌, ◌+◌, ◌*◌, ℕ, List, length, slice_index, Result, Ok};
 ghost use Rattle.std.specs.List.{AllByRecursion};
 ghost use Rattle.pgm_codec.specs.declared.header.Header.{Header as TheHeader};
-ghost use Rattle.pgm_codec.specs.Answers.{Whole};
-ghost use Rattle.pgm_codec.specs.Rasters.{JudgesRow, sample_at};
+ghost use Rattle.pgm_codec.specs.declared.header.HeaderFault.{HeaderFault as TheHeaderFault};
+ghost use Rattle.pgm_codec.specs.declared.raster.RasterFault.{RasterFault as TheRasterFault};
+ghost use Rattle.pgm_codec.specs.Answers.{Whole, Judges, Reads};
+ghost use Rattle.pgm_codec.specs.Rasters.{JudgesRaster, JudgesRow, sample_at};
 ghost use Rattle.pgm_codec.specs.Images.{IsRaster, Picture, IsPicture, IsFile, CanBeWritten, file_of};
 ghost use Rattle.pgm_codec.specs.Rounds.{Fits};
 
@@ -34,4 +36,10 @@ pub fn read_again()
 pub fn one_cut()
     ensures { (width height : ℕ) (inputs : List ℕ) (pictures : List Picture) (rounds others : List (List Picture)) → 0 < length inputs
         → Fits width height inputs pictures rounds → Fits width height inputs pictures others → rounds ≡ others }
+{}
+
+/// The bytes decide one answer on a header, and one on the raster behind it.
+pub fn one_answer()
+    ensures header { (bytes : List ℕ) (a b : Result TheHeader TheHeaderFault) → Judges bytes a → Judges bytes b → a ≡ b }
+    ensures raster { (bytes : List ℕ) (header : TheHeader) → Reads bytes header → (a b : Result Unit TheRasterFault) → JudgesRaster bytes header a → JudgesRaster bytes header b → a ≡ b }
 {}

@@ -14,7 +14,7 @@ mod tests;
 mod write;
 
 pub use header::{Header, HeaderFault};
-pub use laws::{one_cut, one_reading, read_again, rows_are_rasters};
+pub use laws::{one_answer, one_cut, one_reading, read_again, rows_are_rasters};
 pub use raster::{RasterFault, check_raster, check_row, sample};
 pub use read::read_header;
 pub use scan::{HeaderScan, Scan};

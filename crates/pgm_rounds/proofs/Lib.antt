@@ -1,0 +1,11 @@
+pub mod Readings
+pub mod Fronts
+pub mod Places
+pub mod Refusals
+pub mod Takings
+pub mod Digits
+pub mod Errors
+pub mod Rasters
+pub mod Steps
+pub mod Endings
+pub mod Written

@@ -1,0 +1,62 @@
+// Why a file does not fit a program.
+
+ghost use Rattle.std.specs.Prelude.{◌≡◌};
+ghost use Rattle.pgm_rounds.specs.declared.fault.FileError.TheVariants.{Fault as AFault, Memory};
+
+use std::alloc::{AllocError, AllocFailed};
+
+/// What is wrong with a file of images. Images and bytes are counted from the start of the file.
+#[derive(Clone, Copy, Debug, PartialEq, Eq)]
+pub enum ImageFault {
+    /// An image that does not begin with `P5`.
+    Magic { offset: usize },
+    /// A header of more than 65,536 bytes.
+    LongHeader,
+    /// The first byte that continues no header, or the end of the file inside one.
+    Number { offset: usize },
+    /// The first digit of a maxval that is 0 or above 65,535.
+    Range { offset: usize },
+    /// An image of another size than the program's frames, in pixels.
+    Size { width: u32, height: u32 },
+    /// A maxval that the type of the image's input does not have.
+    Maxval { maxval: u16 },
+    /// The first sample above its image's maxval, counted from 0 over the samples of all images.
+    SampleTooGreat { index: usize },
+    /// Bytes of an image's raster that are there, and bytes that it has to have.
+    Short { held: u128, need: u128 },
+    /// A byte behind 65,536 images.
+    Count,
+    /// The images of the last round that are there, and those that it has to have.
+    Round { held: usize, need: usize },
+}
+
+/// Why a file was not read: its first fault, or want of memory.
+#[derive(Clone, Copy, Debug, PartialEq, Eq)]
+pub enum FileError {
+    Fault(ImageFault),
+    Memory,
+}
+
+impl From<ImageFault> for FileError {
+    ghost from_gives = { λ f e. e ≡ AFault f };
+
+    fn from(fault: ImageFault) -> FileError {
+        FileError::Fault(fault)
+    }
+}
+
+impl From<AllocError> for FileError {
+    ghost from_gives = { λ _ e. e ≡ Memory };
+
+    fn from(_e: AllocError) -> FileError {
+        FileError::Memory
+    }
+}
+
+impl<T: Drop> From<AllocFailed<T>> for FileError {
+    ghost from_gives = { λ _ e. e ≡ Memory };
+
+    fn from(_e: AllocFailed<T>) -> FileError {
+        FileError::Memory
+    }
+}

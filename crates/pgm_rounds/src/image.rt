@@ -1,0 +1,200 @@
+// The image that comes next in a file.
+
+ghost use Rattle.std.specs.Prelude.{◌≡◌, ◌+◌, ◌*◌, ◌<◌, ◌≤◌, ◌^◌, ℕ, List, length, IfOk, IfErr, MatchResult, false};
+ghost use Rattle.dk_base.specs.Frames.{Size as TheSize, IsFrame, area as area_of};
+ghost use Rattle.dk_base.specs.FrameSizes.{size_of};
+ghost use Rattle.dk_base.specs.Types.{width_of};
+ghost use Rattle.pgm_codec.specs.Answers.{Reads};
+ghost use Rattle.pgm_codec.specs.Rasters.{BeginsImage, raster_length as length_of_raster};
+ghost use Rattle.pointwise_ir.specs.Programs.{IsPort};
+ghost use Rattle.pgm_rounds.specs.Files.{HasSize, IsHeaded, Refused};
+ghost use Rattle.pgm_rounds.specs.Standing.{IsAccepted, AreSamples, IsNext, IsRefusal};
+
+use crate::fault::{FileError, ImageFault};
+use dk_base::{FrameSize, Memory, Ty};
+use pgm_codec::{Header, HeaderFault, RasterFault, check_raster, read_header};
+use pointwise_eval::{Frame, Samples};
+use std::alloc::Global;
+
+/// Where an image stands in a file: behind so many images and so many bytes.
+#[derive(Clone, Copy)]
+pub(crate) struct Place {
+    pub(crate) images: usize,
+    pub(crate) offset: usize,
+}
+
+/// The header with which the bytes at this offset begin.
+fn next_header(offset: usize, rest: &[u8]) -> Result<Header, ImageFault>
+    requires { offset + length rest.now < 2 ^ 63 }
+    ensures { MatchResult result (λ h. Reads rest.now h) (λ f. (size : TheSize) (bits number : ℕ) → Refused size bits number offset rest.now f) }
+{
+    match read_header(rest) {
+        Ok(header) => Ok(header),
+        Err(HeaderFault::Magic) => Err(ImageFault::Magic { offset }),
+        Err(HeaderFault::LongHeader) => Err(ImageFault::LongHeader),
+        Err(HeaderFault::Number { offset: inside }) => Err(ImageFault::Number {
+            offset: offset + inside,
+        }),
+        Err(HeaderFault::Range { offset: inside }) => Err(ImageFault::Range {
+            offset: offset + inside,
+        }),
+    }
+}
+
+/// Whether the image has the frame's size, and a maxval in the type of its input.
+fn check_header(size: FrameSize, ty: Ty, header: &Header, rest: &[u8]) -> Result<(), ImageFault>
+    requires port { IsPort ty }
+    requires reads { Reads rest.now header.now }
+    ensures headed { IfOk result (λ _. IsHeaded (size_of size) (width_of ty) rest.now header.now) }
+    ensures fault { IfErr result (λ f. (number offset : ℕ) → Refused (size_of size) (width_of ty) number offset rest.now f) }
+{
+    if header.width != size.width || header.height != size.height {
+        return Err(ImageFault::Size {
+            width: header.width,
+            height: header.height,
+        });
+    }
+    if ty.greatest() < i128::from(header.maxval) {
+        return Err(ImageFault::Maxval {
+            maxval: header.maxval,
+        });
+    }
+    Ok(())
+}
+
+/// The number of pixels.
+fn area(size: FrameSize) -> usize
+    requires { IsFrame size.width size.height }
+    ensures is { result ≡ area_of (size_of size) }
+    ensures most { result ≤ 16777216 }
+{
+    size.width as usize * size.height as usize
+}
+
+/// Whether the raster is there, and each sample is at most maxval.
+fn check_samples(
+    size: FrameSize,
+    images: usize,
+    header: &Header,
+    rest: &[u8],
+) -> Result<(), ImageFault>
+    requires frame { IsFrame size.width size.height }
+    requires few { images < 65536 }
+    requires reads { Reads rest.now header.now }
+    requires sized { HasSize (size_of size) header.now }
+    ensures image { IfOk result (λ _. (samples : List ℕ) × BeginsImage rest.now header.now samples) }
+    ensures fault { IfErr result (λ f. (bits offset : ℕ) → IsHeaded (size_of size) bits rest.now header.now → Refused (size_of size) bits images offset rest.now f) }
+{
+    match check_raster(header, rest) {
+        Ok(()) => Ok(()),
+        Err(RasterFault::SampleTooGreat { index }) => Err(ImageFault::SampleTooGreat {
+            index: images * area(size) + index,
+        }),
+        Err(RasterFault::Short { held, need }) => Err(ImageFault::Short { held, need }),
+    }
+}
+
+/// The header of the image with which the bytes at this place begin.
+fn judge(size: FrameSize, ty: Ty, place: Place, rest: &[u8]) -> Result<Header, ImageFault>
+    requires frame { IsFrame size.width size.height }
+    requires port { IsPort ty }
+    requires few { place.images < 65536 }
+    requires within { place.offset + length rest.now < 2 ^ 63 }
+    ensures accepted { IfOk result (IsAccepted (size_of size) (width_of ty) rest.now) }
+    ensures fault { IfErr result (Refused (size_of size) (width_of ty) place.images place.offset rest.now) }
+{
+    let header = next_header(place.offset, rest)?;
+    check_header(size, ty, &header, rest)?;
+    check_samples(size, place.images, &header, rest)?;
+    Ok(header)
+}
+
+/// The samples of one byte each.
+fn bytes_of(alloc: Global, raster: &[u8]) -> Result<Vec<u16>, Memory>
+    ensures { IfOk result (λ samples. samples.items ≡ raster.now) }
+{
+    let mut samples = Vec::with_capacity(alloc, raster.len())?;
+    for byte in raster {
+        samples.push(u16::from(*byte))?;
+    }
+    Ok(samples)
+}
+
+/// So many samples of two bytes each.
+fn pairs_of(alloc: Global, raster: &[u8], count: usize) -> Result<Vec<u16>, Memory>
+    requires { 2 * count ≤ length raster.now }
+    ensures { IfOk result (λ samples. AreSamples false raster.now count samples.items) }
+{
+    let mut samples = Vec::with_capacity(alloc, count)?;
+    for k in 0..count {
+        let high = u16::from(raster[2 * k]);
+        let low = u16::from(raster[2 * k + 1]);
+        samples.push(256 * high + low)?;
+    }
+    Ok(samples)
+}
+
+/// The samples of the image with which the bytes begin.
+fn read_samples(alloc: Global, header: &Header, rest: &[u8]) -> Result<Vec<u16>, Memory>
+    requires reads { Reads rest.now header.now }
+    requires image { (samples : List ℕ) × BeginsImage rest.now header.now samples }
+    requires few { header.now.width * header.now.height ≤ 16777216 }
+    ensures { IfOk result (λ read. (samples : List ℕ) → BeginsImage rest.now header.now samples → read.items ≡ samples) }
+{
+    pgm_codec::one_answer();
+    pgm_codec::rows_are_rasters();
+    let raster = rest.split_at(header.length).1;
+    let count = header.width as usize * header.height as usize;
+    if header.maxval < 256 {
+        bytes_of(alloc, raster.split_at(count).0)
+    } else {
+        pairs_of(alloc, raster, count)
+    }
+}
+
+/// The number of bytes of the raster.
+fn raster_length(header: &Header) -> usize
+    requires { header.now.width * header.now.height ≤ 16777216 }
+    ensures { result ≡ length_of_raster header.now }
+{
+    let count = header.width as usize * header.height as usize;
+    if header.maxval < 256 {
+        count
+    } else {
+        2 * count
+    }
+}
+
+/// An image that was read: its frame, and the number of its bytes.
+#[derive(Drop)]
+pub(crate) struct ReadImage {
+    pub(crate) frame: Frame,
+    pub(crate) length: usize,
+}
+
+/// The image with which the bytes at this place begin.
+pub(crate) fn read_image(
+    alloc: Global,
+    size: FrameSize,
+    ty: Ty,
+    place: Place,
+    rest: &[u8],
+) -> Result<ReadImage, FileError>
+    requires frame { IsFrame size.width size.height }
+    requires port { IsPort ty }
+    requires few { place.images < 65536 }
+    requires within { place.offset + length rest.now < 2 ^ 63 }
+    ensures next { IfOk result (λ image. IsNext (size_of size) (width_of ty) rest.now image.length image.frame) }
+    ensures refusal { IfErr result (IsRefusal (size_of size) (width_of ty) place.images place.offset rest.now) }
+{
+    pgm_codec::one_answer();
+    let header = judge(size, ty, place, rest)?;
+    let samples = read_samples(alloc, &header, rest)?;
+    let length = header.length + raster_length(&header);
+    let frame = Frame {
+        width: header.width,
+        height: header.height,
+        samples: Samples::new(samples),
+    };
+    Ok(ReadImage { frame, length })
+}

@@ -1,0 +1,98 @@
+// Where the reading of a file stands.
+
+ghost use Rattle.std.specs.Prelude.{◌≡◌, ◌+◌, ◌<◌, ◌++◌, ◌∷◌, [], length, OnOk, IfOk, IfErr};
+ghost use Rattle.pgm_rounds.specs.declared.fault.ImageFault.TheVariants.{Round as OpenRound};
+ghost use Rattle.pgm_rounds.specs.declared.fault.FileError.TheVariants.{Fault};
+ghost use Rattle.pgm_rounds.specs.Ports.{ports_of};
+ghost use Rattle.pgm_rounds.specs.Files.{IsError, frames_of};
+ghost use Rattle.pgm_rounds.specs.Standing.{Stands};
+
+use crate::fault::{FileError, ImageFault};
+use crate::image::{Place, read_image};
+use crate::round::Round;
+use dk_base::Memory;
+use pointwise_eval::Frame;
+use pointwise_ir::Ir;
+use std::alloc::Global;
+
+/// The rounds that were read, the frames of the round that is begun, and the place behind them.
+#[derive(Drop)]
+pub(crate) struct Reading {
+    pub(crate) rounds: Vec<Round>,
+    pub(crate) frames: Vec<Frame>,
+    pub(crate) place: Place,
+}
+
+impl Reading {
+    pub(crate) fn new(alloc: Global) -> Reading
+        ensures rounds { result.rounds.items ≡ [] }
+        ensures frames { result.frames.items ≡ [] }
+        ensures images { result.place.images ≡ 0 }
+        ensures offset { result.place.offset ≡ 0 }
+    {
+        Reading {
+            rounds: Vec::new(alloc),
+            frames: Vec::new(alloc),
+            place: Place {
+                images: 0,
+                offset: 0,
+            },
+        }
+    }
+
+    /// Adds a frame to the round that is begun, and closes the round with its last frame.
+    fn add(&mut self, alloc: Global, frame: Frame, inputs: usize) -> Result<(), Memory>
+        ensures place { self.new.place ≡ self.old.place }
+        ensures begun { OnOk result (length self.old.frames.items + 1 < inputs → self.new.frames.items ≡ self.old.frames.items ++ frame ∷ []) }
+        ensures kept { OnOk result (length self.old.frames.items + 1 < inputs → frames_of self.new.rounds.items ≡ frames_of self.old.rounds.items) }
+        ensures fresh { OnOk result (length self.old.frames.items + 1 ≡ inputs → self.new.frames.items ≡ []) }
+        ensures whole { OnOk result (length self.old.frames.items + 1 ≡ inputs → frames_of self.new.rounds.items ≡ frames_of self.old.rounds.items ++ (self.old.frames.items ++ frame ∷ []) ∷ []) }
+    {
+        self.frames.push(frame)?;
+        if self.frames.len() == inputs {
+            let frames = std::mem::replace(&mut self.frames, Vec::new(alloc));
+            self.rounds.push(Round { frames })?;
+        }
+        Ok(())
+    }
+
+    /// Reads the image that comes next.
+    pub(crate) fn read_next(
+        &mut self,
+        alloc: Global,
+        ir: &Ir,
+        bytes: &[u8],
+    ) -> Result<(), FileError>
+        requires few { self.old.place.images < 65536 }
+        requires some { 0 < self.old.place.images → self.old.place.offset < length bytes.now }
+        requires stands { Stands (ports_of ir.now) bytes.now (frames_of self.old.rounds.items) self.old.frames.items self.old.place.images self.old.place.offset }
+        ensures images { OnOk result (self.new.place.images ≡ self.old.place.images + 1) }
+        ensures stands { OnOk result (Stands (ports_of ir.now) bytes.now (frames_of self.new.rounds.items) self.new.frames.items self.new.place.images self.new.place.offset) }
+        ensures fault { IfErr result (IsError (ports_of ir.now) bytes.now) }
+    {
+        ir.law();
+        let inputs = ir.inputs();
+        let ty = inputs[self.frames.len()].ty;
+        let rest = bytes.split_at(self.place.offset).1;
+        let image = read_image(alloc, ir.size(), ty, self.place, rest)?;
+        self.place.images += 1;
+        self.place.offset += image.length;
+        self.add(alloc, image.frame, inputs.len())?;
+        Ok(())
+    }
+
+    /// The rounds that were read, where none is begun.
+    pub(crate) fn finish(self, inputs: usize) -> Result<Vec<Round>, FileError>
+        ensures rounds { IfOk result (λ rounds. (rounds.items ≡ self.rounds.items) × (self.frames.items ≡ [])) }
+        ensures begun { IfErr result (λ e. (e ≡ Fault (OpenRound (length self.frames.items) inputs)) × (0 < length self.frames.items)) }
+    {
+        if self.frames.is_empty() {
+            Ok(self.rounds)
+        } else {
+            Err(FileError::Fault(ImageFault::Round {
+                held: self.frames.len(),
+                need: inputs,
+            }))
+        }
+    }
+}
