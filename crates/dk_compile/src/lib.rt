@@ -11,4 +11,4 @@ mod tests;
 pub use accepted::Front;
 pub use fault::SourceFault;
 pub use laws::one_source;
-pub use reading::front;
+pub use reading::{front, typed};

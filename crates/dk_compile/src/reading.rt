@@ -29,8 +29,8 @@ fn tree(alloc: Global, text: &[u8]) -> Result<Program, SourceFault>
     Ok(program)
 }
 
-// The typed program of a text.
-fn typed(alloc: Global, text: &[u8]) -> Result<TypedProgram, SourceFault>
+/// The typed program of a text, or the first fault of the text among those of its tokens, its tree and its types. Limits on bytes are the caller's.
+pub fn typed(alloc: Global, text: &[u8]) -> Result<TypedProgram, SourceFault>
     ensures text { IfOk result (λ p. IsText text.now (typing_of p)) }
     ensures some_inputs { IfOk result (λ p. 1 ≤ length p.inputs) }
     ensures some_outputs { IfOk result (λ p. 1 ≤ length p.outputs) }

@@ -1,9 +1,9 @@
 -- The texts of circuits.
-use Rattle.std.proofs.Common.{◌≡◌, ◌≢◌, ℕ, List, ◌++◌, Option, None, Some, IfSome, IsSomeAnd, MatchOption, refl, sym, ap, ◌∙◌, append_assoc, rules, ◌+◌, ◌<◌, ◌≤◌, length, take, get_or, subst, Bor, Bool, true, false, [], ◌∷◌, map, option_map}
+use Rattle.std.proofs.Common.{◌≡◌, ◌≢◌, ℕ, List, ◌++◌, Option, None, Some, IfSome, IsSomeAnd, MatchOption, refl, sym, ap, ◌∙◌, append_assoc, rules, ◌+◌, ◌<◌, ◌≤◌, length, take, get_or, subst, append-nil, Bor, Bool, true, false, [], ◌∷◌, map, option_map}
 use Rattle.dk_desk.specs.Calls.{IsIfTold}
 use Rattle.dk_top.specs.declared.circuit.Circuit.{Circuit}
 use Rattle.std.proofs.lemmas.List.{append_cancel_left, append_cancel_right, take_all, take_more}
-use Rattle.dk_top.specs.Circuit.{text_with, module_head, module_end, shown, run_of, frame_drive, picture_shown}
+use Rattle.dk_top.specs.Circuit.{text_with, module_head, module_end, right_value, shown, run_of, pixel_clocks, picture_shown}
 
 -- the part of a text after its front is the part before its end
 pub right_sound : (text rest : List ℕ) (r : Option (Bor (List ℕ))) → text ≡ module_head ++ rest → MatchOption r ((front : List ℕ) → rest ≢ front ++ module_end) (λ x. rest ≡ x.now ++ module_end) → IfSome r (λ x. text ≡ text_with x.now)
@@ -20,14 +20,6 @@ pub appended : (one two three r head right end : List ℕ) → one ≡ head → 
 appended one two three r head right end first second third is =
     third ∙ ap (λ t. t ++ end) (second ∙ ap (λ t. t ++ r) first ∙ ap (λ t. head ++ t) is) ∙ append_assoc head right end
 
--- one clock more, at the end of a run
-pub run_more : (c : Circuit) (samples : List ℕ) (s : ℕ) → run_of c (frame_drive (samples ++ s ∷ [])) ≡ run_of c (frame_drive samples) ++ shown c (false, s) ∷ []
-run_more c samples s = ap (λ rest. shown c (true, 0) ∷ rest) (at_end samples)
-  where
-    at_end : (xs : List ℕ) → map (shown c) (map (λ (x : ℕ). (false, x)) (xs ++ s ∷ [])) ≡ map (shown c) (map (λ (x : ℕ). (false, x)) xs) ++ shown c (false, s) ∷ []
-    at_end [] = refl
-    at_end (x ∷ xs) = ap (λ rest. shown c (false, x) ∷ rest) (at_end xs)
-
 -- the picture that two runs show, one after the other
 pub picture_shown-append : (xs ys : List (Bool × ℕ)) → picture_shown (xs ++ ys) ≡ picture_shown xs ++ picture_shown ys
 picture_shown-append [] ys = refl
@@ -42,42 +34,48 @@ noted_more None (Some m) (Some n) xs ys first second = absurd (cc)
 noted_more (Some l) None (Some n) xs ys first second = absurd (cc)
 noted_more (Some l) (Some m) (Some n) xs ys first second = search (rules, append_assoc)
 
--- the run so far, one sample later
-run_take : (c : Circuit) (samples : List ℕ) (i s : ℕ) → i < length samples → s ≡ get_or samples i 0 → run_of c (frame_drive (take (i + 1) samples)) ≡ run_of c (frame_drive (take i samples)) ++ shown c (false, s) ∷ []
-run_take c samples i s inside is =
-    ap (λ (xs : List ℕ). run_of c (frame_drive xs)) (take_more samples i 0 inside ∙ ap (λ x. take i samples ++ x ∷ []) (sym is)) ∙ run_more c (take i samples) s
+-- the clocks of two lists of samples, one after the other
+pub run_append : (c : Circuit) (xs ys : List ℕ) → run_of c (pixel_clocks (xs ++ ys)) ≡ run_of c (pixel_clocks xs) ++ run_of c (pixel_clocks ys)
+run_append c [] ys = refl
+run_append c (x ∷ xs) ys = ap (λ rest. shown c (false, x) ∷ rest) (run_append c xs ys)
 
-pub noted_sample : (c : Circuit) (samples : List ℕ) (i s : ℕ) (old mid new : Option (List (Bool × ℕ))) → i < length samples → s ≡ get_or samples i 0 → IsIfTold mid (option_map (λ n. n ++ run_of c (frame_drive (take i samples))) old) → IsIfTold new (option_map (λ n. n ++ shown c (false, s) ∷ []) mid) → IsIfTold new (option_map (λ n. n ++ run_of c (frame_drive (take (i + 1) samples))) old)
+-- nothing is noted
+pub noted_none : (old new : Option (List (Bool × ℕ))) → new ≡ old → IsIfTold new (option_map (λ n. n ++ []) old)
+noted_none old None same = tt
+noted_none None (Some n) same = absurd (cc)
+noted_none (Some m) (Some n) same = let e : m ≡ n = cc in ap Some (append-nil m ∙ e)
+
+-- the run so far, one sample later
+run_take : (c : Circuit) (samples : List ℕ) (i s : ℕ) → i < length samples → s ≡ get_or samples i 0 → run_of c (pixel_clocks (take (i + 1) samples)) ≡ run_of c (pixel_clocks (take i samples)) ++ shown c (false, s) ∷ []
+run_take c samples i s inside is =
+    ap (λ (xs : List ℕ). run_of c (pixel_clocks xs)) (take_more samples i 0 inside ∙ ap (λ x. take i samples ++ x ∷ []) (sym is)) ∙ run_append c (take i samples) (s ∷ [])
+
+pub noted_sample : (c : Circuit) (samples : List ℕ) (i s : ℕ) (old mid new : Option (List (Bool × ℕ))) → i < length samples → s ≡ get_or samples i 0 → IsIfTold mid (option_map (λ n. n ++ run_of c (pixel_clocks (take i samples))) old)
+    → IsIfTold new (option_map (λ n. n ++ shown c (false, s) ∷ []) mid) → IsIfTold new (option_map (λ n. n ++ run_of c (pixel_clocks (take (i + 1) samples))) old)
 noted_sample c samples i s old mid new inside is before now =
     let P : List (Bool × ℕ) → Type 0 = λ run. IsIfTold new (option_map (λ n. n ++ run) old) in
     subst P (sym (run_take c samples i s inside is)) (noted_more old mid new _ _ before now)
 
-pub shown_sample : (c : Circuit) (samples : List ℕ) (i s : ℕ) (old mid new : List ℕ) → i < length samples → s ≡ get_or samples i 0 → mid ≡ old ++ picture_shown (run_of c (frame_drive (take i samples))) → new ≡ mid ++ picture_shown (shown c (false, s) ∷ []) → new ≡ old ++ picture_shown (run_of c (frame_drive (take (i + 1) samples)))
+pub shown_sample : (c : Circuit) (samples : List ℕ) (i s : ℕ) (old mid new : List ℕ) → i < length samples → s ≡ get_or samples i 0 → mid ≡ old ++ picture_shown (run_of c (pixel_clocks (take i samples))) → new ≡ mid ++ picture_shown (shown c (false, s) ∷ [])
+    → new ≡ old ++ picture_shown (run_of c (pixel_clocks (take (i + 1) samples)))
 shown_sample c samples i s old mid new inside is before now =
-    let run = run_of c (frame_drive (take i samples)) in
+    let run = run_of c (pixel_clocks (take i samples)) in
     let last = shown c (false, s) ∷ [] in
     now ∙ ap (λ xs. xs ++ picture_shown last) before ∙ append_assoc old (picture_shown run) (picture_shown last)
     ∙ ap (λ xs. old ++ xs) (sym (picture_shown-append run last)) ∙ ap (λ r. old ++ picture_shown r) (sym (run_take c samples i s inside is))
 
 -- the run over all samples, once the loop is through
-pub noted_all : (c : Circuit) (samples : List ℕ) (i : ℕ) (old new : Option (List (Bool × ℕ))) → length samples ≤ i → IsIfTold new (option_map (λ n. n ++ run_of c (frame_drive (take i samples))) old) → IsIfTold new (option_map (λ n. n ++ run_of c (frame_drive samples)) old)
+pub noted_all : (c : Circuit) (samples : List ℕ) (i : ℕ) (old new : Option (List (Bool × ℕ))) → length samples ≤ i → IsIfTold new (option_map (λ n. n ++ run_of c (pixel_clocks (take i samples))) old) → IsIfTold new (option_map (λ n. n ++ run_of c (pixel_clocks samples)) old)
 noted_all c samples i old new through noted =
-    let P : List ℕ → Type 0 = λ xs. IsIfTold new (option_map (λ n. n ++ run_of c (frame_drive xs)) old) in
+    let P : List ℕ → Type 0 = λ xs. IsIfTold new (option_map (λ n. n ++ run_of c (pixel_clocks xs)) old) in
     subst P (take_all i samples through) noted
 
-pub shown_all : (c : Circuit) (samples : List ℕ) (i : ℕ) (old new : List ℕ) → length samples ≤ i → new ≡ old ++ picture_shown (run_of c (frame_drive (take i samples))) → new ≡ old ++ picture_shown (run_of c (frame_drive samples))
+pub shown_all : (c : Circuit) (samples : List ℕ) (i : ℕ) (old new : List ℕ) → length samples ≤ i → new ≡ old ++ picture_shown (run_of c (pixel_clocks (take i samples))) → new ≡ old ++ picture_shown (run_of c (pixel_clocks samples))
 shown_all c samples i old new through shown =
-    let P : List ℕ → Type 0 = λ xs. new ≡ old ++ picture_shown (run_of c (frame_drive xs)) in
+    let P : List ℕ → Type 0 = λ xs. new ≡ old ++ picture_shown (run_of c (pixel_clocks xs)) in
     subst P (take_all i samples through) shown
 
--- without the reset clock a run shows a sample at each clock
-rest_shown : (c : Circuit) (f : ℕ → ℕ) (samples : List ℕ) → ((rst : Bool) (din : ℕ) → (shown c (rst, din)).1 ≡ f din) → picture_shown (map (shown c) (map (λ (x : ℕ). (false, x)) samples)) ≡ map f samples
-rest_shown c f [] each = refl
-rest_shown c f (x ∷ xs) each = cons-same (each false x) (rest_shown c f xs each)
-  where
-    cons-same : {a b : ℕ} {xs ys : List ℕ} → a ≡ b → xs ≡ ys → a ∷ xs ≡ b ∷ ys
-    cons-same first rest = cc
-
--- the picture of a run over a frame has one sample for each of the frame's
-pub run_shown : (c : Circuit) (f : ℕ → ℕ) (samples : List ℕ) → ((rst : Bool) (din : ℕ) → (shown c (rst, din)).1 ≡ f din) → picture_shown (run_of c (frame_drive samples)) ≡ map f samples
-run_shown c f samples each = rest_shown c f samples each
+-- a run without reset clocks shows a sample at each clock
+pub pixels_shown : (c : Circuit) (samples : List ℕ) → picture_shown (run_of c (pixel_clocks samples)) ≡ map (right_value c.dout) samples
+pixels_shown c [] = refl
+pixels_shown c (x ∷ xs) = ap (λ rest. right_value c.dout x ∷ rest) (pixels_shown c xs)

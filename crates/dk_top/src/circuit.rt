@@ -1,13 +1,11 @@
-//! The circuit of a program: its Verilog text, and what it shows at each clock.
+//! The circuit of a program that is clocked: its Verilog text, and what it shows at each clock.
 
-ghost use Rattle.std.specs.Prelude.{◌≡◌, ℕ, Bool, List, IfOk, IfSome, IsSomeAnd, Some};
+ghost use Rattle.std.specs.Prelude.{◌≡◌, ℕ, List, IfOk, IfSome, IsSomeAnd, Some};
 ghost use Rattle.dk_top.specs.declared.circuit.Circuit.{Circuit};
 ghost use Rattle.dk_top.specs.declared.circuit.Right.{Right};
 ghost use Rattle.dk_top.specs.Circuit.{right_text, shown, text_with, verilog_text};
-ghost use Rattle.dk_top.specs.Program.{sample_of};
 
 use crate::bytes::{after, before};
-use crate::program::Body;
 use dk_base::Memory;
 use std::alloc::Global;
 
@@ -29,17 +27,6 @@ pub enum Right {
 #[derive(Clone, Copy, Debug, PartialEq, Eq)]
 pub struct Circuit {
     pub dout: Right,
-}
-
-/// The circuit of a program with this body.
-pub fn circuit_of(body: Body) -> Circuit
-    ensures { (rst : Bool) → (din : ℕ) → (shown result (rst, din)).1 ≡ sample_of body din }
-{
-    let dout = match body {
-        Body::Copy => Right::Din,
-        Body::Double => Right::DinPlusDin,
-    };
-    Circuit { dout }
 }
 
 impl Right {

@@ -1,26 +1,42 @@
-//! How a call ends, its exit status, and the line that it writes to Fault.
+//! How a call ends, and its exit status.
 
-ghost use Rattle.std.specs.Prelude.{◌≡◌, ◌≤◌, ◌++◌, length, codes, decimal};
-ghost use Rattle.dk_top.specs.State.{fault_line, status_of};
+ghost use Rattle.std.specs.Prelude.{◌≡◌};
+ghost use Rattle.dk_top.specs.Lines.{status_of};
 
-use arrayvec::ArrayString;
-use dk_base::MAX_SOURCE_BYTES;
-use itoa::Buffer;
+use dk_base::Span;
+use dk_lexer::LexFault;
+use dk_types::TypeFault;
 
-/// Why a program's text is refused.
+/// Why a program's text is refused, in the order in which it is judged. Spans are in bytes of the text.
 #[derive(Clone, Copy, Debug, PartialEq, Eq)]
 pub enum SourceFault {
     /// The text is longer than `MAX_SOURCE_BYTES`.
     TooLong,
-    /// The text is of none of the forms that are built so far.
-    NotBuilt,
+    /// The text has no tokens.
+    Lex(LexFault),
+    /// The first bracket that leaves too many unclosed.
+    Nest { span: Span },
+    /// The faulty token.
+    Syntax { span: Span },
+    /// The first subtree that is too deep.
+    Depth { span: Span },
+    /// The program has no types.
+    Types(TypeFault),
+    /// More than 65,536 nodes after inlining. The count saturates.
+    Nodes { count: u64 },
+    /// The name of the first definition that is deeper than 1,024 after inlining.
+    InlineDepth { span: Span },
+    /// More than 4,096 live reads. The count is 65,537 where there are more than 65,536.
+    Reads { count: u32 },
 }
 
-/// Why an image is refused.
+/// Why a file of images is refused.
 #[derive(Clone, Copy, Debug, PartialEq, Eq)]
 pub enum ImageFault {
-    /// The file is not of the form that is built so far, or not of the program's size.
-    NotBuilt,
+    /// The file is longer than `MAX_IMAGE_BYTES`.
+    TooLong,
+    /// The first fault of its images.
+    File(pgm_rounds::ImageFault),
 }
 
 /// How a call ends.
@@ -40,56 +56,7 @@ pub enum Ending {
     Memory,
 }
 
-/// The room for a line to Fault, in bytes.
-pub const LINE_BYTES: usize = 160;
-
-/// A line to Fault, in room of its own.
-pub type Line = ArrayString<LINE_BYTES>;
-
-/// A line that ends in a number.
-fn numbered(before: &str, number: usize) -> Line
-    requires { length before.now ≤ 100 }
-    ensures { result.bytes ≡ before.now ++ decimal number ++ codes "\n" }
-{
-    let mut line = Line::new();
-    let mut digits = Buffer::new();
-    line.push_str(before);
-    line.push_str(digits.format(number));
-    line.push_str("\n");
-    line
-}
-
-/// A line of one text.
-fn plain(text: &str) -> Line
-    requires { length text.now ≤ 160 }
-    ensures { result.bytes ≡ text.now }
-{
-    let mut line = Line::new();
-    line.push_str(text);
-    line
-}
-
 impl Ending {
-    /// The line that goes to Fault, with its line end; after Done there is none. It takes no memory.
-    pub fn line(&self) -> Line
-        ensures { result.bytes ≡ fault_line self.now }
-    {
-        match self {
-            Ending::Done => plain(""),
-            Ending::Usage => plain(
-                "usage: run PROG IN OUT | compile PROG OUT | plan PROG | sim VERILOG CLOCKS IN OUT | eval PROG IN OUT | make N\n",
-            ),
-            Ending::Source(SourceFault::TooLong) => {
-                numbered("program: TooLong ", MAX_SOURCE_BYTES)
-            }
-            Ending::Source(SourceFault::NotBuilt) => plain("program: NotBuilt\n"),
-            Ending::Image(ImageFault::NotBuilt) => plain("image: NotBuilt\n"),
-            Ending::ReadFault => plain("cannot read\n"),
-            Ending::WriteFault => plain("cannot write\n"),
-            Ending::Memory => plain("out of memory\n"),
-        }
-    }
-
     /// The exit status.
     pub fn status(&self) -> u8
         ensures { result ≡ status_of self.now }

@@ -1,4 +1,4 @@
--- What `run` reads where none of its three words is like an option.
+-- What a command of three files reads where none of its words is like an option.
 use Rattle.std.proofs.Common.{◌≡◌, ℕ, ◌==◌, ◌&&◌, Bool, true, false, cond, List, [], ◌∷◌, Some, None, refl, ap, ◌∙◌, codes, option_and_then}
 use Rattle.std.specs.List.{list_all}
 use Rattle.std.specs.Str.{bytes_eq}
@@ -8,9 +8,9 @@ use Rattle.clap.specs.Takes.{takes, walk_passes}
 use Rattle.clap.specs.Walk.{Held, Rule, Text, Walk, after_step, arg_by_index, finished, idle, nothing_held, rows_after, to_positional, value, walk, walked, word_met}
 use Rattle.clap.specs.Simple.{Shape}
 use Rattle.dk_words.specs.Words.{is_like_option}
-use Rattle.dk_words.specs.Command.{command_of, run, run_of}
+use Rattle.dk_words.specs.Command.{Command, command_of, command_of_rows, run, eval}
 use Rattle.dk_words.proofs.Joined.{both}
-use Rattle.dk_words.proofs.TakenLemmas.{run_shape}
+use Rattle.dk_words.proofs.TakenLemmas.{file_shape}
 
 -- ---- a word that is not like an option
 
@@ -68,54 +68,63 @@ turn s h position word e step =
 
 -- ---- the three words
 
-module _ (p i o : Text) where
+module _ (name : Text) (command : Text → Text → Text → Command) (p i o : Text) where
   abbrev words : List Text
   words = p ∷ i ∷ o ∷ []
 
   -- what is held after each word
   abbrev one : Held
-  one = (to_positional run_shape.rules (arg_by_index run_shape.rules 1) p (standing nothing_held 1) nothing_held).held
+  one = (to_positional (file_shape name).rules (arg_by_index (file_shape name).rules 1) p (standing nothing_held 1) nothing_held).held
 
   abbrev two : Held
-  two = (to_positional run_shape.rules (arg_by_index run_shape.rules 2) i (standing one 2) one).held
+  two = (to_positional (file_shape name).rules (arg_by_index (file_shape name).rules 2) i (standing one 2) one).held
 
   abbrev three : Held
-  three = (to_positional run_shape.rules (arg_by_index run_shape.rules 3) o (standing two 3) two).held
+  three = (to_positional (file_shape name).rules (arg_by_index (file_shape name).rules 3) o (standing two 3) two).held
 
   module _ (ep : is_like_option p ≡ false) (ei : is_like_option i ≡ false) (eo : is_like_option o ≡ false) where
-    first : walked run_shape.rules [] (standing nothing_held 1) p ≡ standing one 2
-    first = moved run_shape.rules nothing_held 1 p ep
+    first : walked (file_shape name).rules [] (standing nothing_held 1) p ≡ standing one 2
+    first = moved (file_shape name).rules nothing_held 1 p ep
 
-    second : walked run_shape.rules [] (standing one 2) i ≡ standing two 3
-    second = moved run_shape.rules one 2 i ei
+    second : walked (file_shape name).rules [] (standing one 2) i ≡ standing two 3
+    second = moved (file_shape name).rules one 2 i ei
 
-    third : walked run_shape.rules [] (standing two 3) o ≡ standing three 4
-    third = moved run_shape.rules two 3 o eo
+    third : walked (file_shape name).rules [] (standing two 3) o ≡ standing three 4
+    third = moved (file_shape name).rules two 3 o eo
 
-    whole : walk run_shape.rules [] nothing_held words ≡ standing three 4
-    whole = ap (λ w. walked run_shape.rules [] (walked run_shape.rules [] w i) o) first ∙ (ap (λ w. walked run_shape.rules [] w o) second ∙ third)
+    whole : walk (file_shape name).rules [] nothing_held words ≡ standing three 4
+    whole = ap (λ w. walked (file_shape name).rules [] (walked (file_shape name).rules [] w i) o) first ∙ (ap (λ w. walked (file_shape name).rules [] w o) second ∙ third)
 
-    passes : walk_passes run_shape [] (standing nothing_held 1) words ≡ true
+    passes : walk_passes (file_shape name) [] (standing nothing_held 1) words ≡ true
     unfolding walk_passes
     passes =
-        both _ _ (turn run_shape nothing_held 1 p ep refl) (ap (λ w. walk_passes run_shape [] w (i ∷ o ∷ [])) first
-        ∙ both _ _ (turn run_shape one 2 i ei refl) (ap (λ w. walk_passes run_shape [] w (o ∷ [])) second
-        ∙ both _ _ (turn run_shape two 3 o eo refl) refl))
+        both _ _ (turn (file_shape name) nothing_held 1 p ep refl) (ap (λ w. walk_passes (file_shape name) [] w (i ∷ o ∷ [])) first
+        ∙ both _ _ (turn (file_shape name) one 2 i ei refl) (ap (λ w. walk_passes (file_shape name) [] w (o ∷ [])) second
+        ∙ both _ _ (turn (file_shape name) two 3 o eo refl) refl))
 
-    level : pass.level_passes run_shape [] nothing_held words false ≡ true
+    level : pass.level_passes (file_shape name) [] nothing_held words false ≡ true
     level =
-        let after : Walk → Bool = λ w. pass.settle_passes run_shape.rules run_shape.args_override_self w.held && (list_all pass.default_passes run_shape.rules && pass.is_valid run_shape (finished run_shape.rules w.held) false) in
+        let after : Walk → Bool = λ w. pass.settle_passes (file_shape name).rules (file_shape name).args_override_self w.held && (list_all pass.default_passes (file_shape name).rules && pass.is_valid (file_shape name) (finished (file_shape name).rules w.held) false) in
         both _ _ passes (ap after whole)
 
-    reads : run_of (rows_after run_shape.rules [] words) ≡ Some (run p i o)
-    reads = ap (λ (w : Walk). run_of (finished run_shape.rules w.held)) whole
+    reads : command_of_rows command (rows_after (file_shape name).rules [] words) ≡ Some (command p i o)
+    reads = ap (λ (w : Walk). command_of_rows command (finished (file_shape name).rules w.held)) whole
 
 -- the three words are those of `run`
 pub run_reads : (name p i o : Text) → is_like_option p ≡ false → is_like_option i ≡ false → is_like_option o ≡ false → command_of (name ∷ codes "run" ∷ p ∷ i ∷ o ∷ []) ≡ Some (run p i o)
 unfolding walked walk_passes
-run_reads name p i o ep ei eo = ap (λ b. cond b (run_of (rows_after run_shape.rules [] (words p i o))) None) (both _ _ (level p i o ep ei eo) refl) ∙ reads p i o ep ei eo
+run_reads name p i o ep ei eo = ap (λ b. cond b (command_of_rows run (rows_after (file_shape (codes "run")).rules [] (words (codes "run") run p i o))) None) (both _ _ (level (codes "run") run p i o ep ei eo) refl) ∙ reads (codes "run") run p i o ep ei eo
+
+-- and those of `eval`
+pub eval_reads : (name p i o : Text) → is_like_option p ≡ false → is_like_option i ≡ false → is_like_option o ≡ false → command_of (name ∷ codes "eval" ∷ p ∷ i ∷ o ∷ []) ≡ Some (eval p i o)
+unfolding walked walk_passes
+eval_reads name p i o ep ei eo = ap (λ b. cond b (command_of_rows eval (rows_after (file_shape (codes "eval")).rules [] (words (codes "eval") eval p i o))) None) (both _ _ (level (codes "eval") eval p i o ep ei eo) refl) ∙ reads (codes "eval") eval p i o ep ei eo
 
 -- after `--` all words are file words
 pub run_reads_after : (name p i o : Text) → command_of (name ∷ codes "run" ∷ codes "--" ∷ p ∷ i ∷ o ∷ []) ≡ Some (run p i o)
 unfolding walked walk_passes
 run_reads_after name p i o = refl
+
+pub eval_reads_after : (name p i o : Text) → command_of (name ∷ codes "eval" ∷ codes "--" ∷ p ∷ i ∷ o ∷ []) ≡ Some (eval p i o)
+unfolding walked walk_passes
+eval_reads_after name p i o = refl

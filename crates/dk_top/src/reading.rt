@@ -1,0 +1,236 @@
+//! What a command reads: the program, and the file of images.
+
+ghost use Rattle.std.specs.Prelude.{◌≡◌, ◌≢◌, ℕ, ◌<◌, ◌≤◌, List, length, map, Some, Err, IfOk, IfErr, IfSome, vec_len};
+ghost use Rattle.std.specs.List.{All};
+ghost use Rattle.dk_desk.specs.Outside.{Outside, input};
+ghost use Rattle.dk_desk.specs.Calls.{HasCauseIn, IsIfTold, OpensOnly};
+ghost use Rattle.dk_types.specs.Typed.{Typing};
+ghost use Rattle.dk_compile.specs.Sources.{IsFault};
+ghost use Rattle.pgm_codec.specs.Images.{Picture as Image};
+ghost use Rattle.pgm_rounds.specs.Files.{frame_of, frames_of};
+ghost use Rattle.pointwise_eval.specs.Rounds.{AreFrames};
+ghost use Rattle.dk_top.specs.Program.{HasForm, IsAccepted};
+ghost use Rattle.dk_top.specs.Output.{Fits};
+ghost use Rattle.dk_top.specs.Verdict.{bytes_of, IsAnswer};
+ghost use Rattle.dk_top.specs.Reading.{IsSourceEnding, IsImageEnding, IsRead, Stops};
+
+use crate::MAX_IMAGE_BYTES;
+use crate::ending::{Ending, ImageFault, SourceFault};
+use dk_base::MAX_SOURCE_BYTES;
+use dk_compile::{front, one_source};
+use dk_desk::transfer::{ReadAll, read_all};
+use dk_desk::{Desk, InSlot, Stage};
+use pgm_rounds::{FileError, Round, one_file, read_rounds};
+use pointwise_ir::Ir;
+use std::alloc::Global;
+
+/// Opens an input and reads it whole.
+fn read_input<D: Desk>(
+    alloc: Global,
+    desk: &mut D,
+    slot: InSlot,
+    name: &str,
+    limit: usize,
+) -> Result<Vec<u8>, ReadAll>
+    requires fresh { (input (D.outside desk.old) slot).stage ≡ Stage.Unasked }
+    requires before_create { (D.outside desk.old).file.stage ≡ Stage.Unasked }
+    ensures whole { IfOk result (λ bytes. IfSome (D.outside desk.old).files (λ files. bytes.items ≡ bytes_of files name.now)) }
+    ensures within { IfOk result (λ bytes. vec_len bytes ≤ limit) }
+    ensures too_long { result ≡ Err ReadAll.TooLong → IfSome (D.outside desk.old).files (λ files. limit < length (bytes_of files name.now)) }
+    ensures name { IsIfTold (input (D.outside desk.new) slot).name (Some name.now) }
+    ensures only { OpensOnly slot (D.outside desk.old) (D.outside desk.new) }
+    ensures cause { HasCauseIn (result ≡ Err ReadAll.Failed) (D.outside desk.old).input_failures (D.outside desk.new).input_failures }
+{
+    desk.open_in(slot, name)?;
+    read_all(alloc, desk, slot, limit)
+}
+
+/// The program's text.
+fn read_text<D: Desk>(alloc: Global, desk: &mut D, name: &str) -> Result<Vec<u8>, Ending>
+    requires fresh { (D.outside desk.old).program.stage ≡ Stage.Unasked }
+    requires before_create { (D.outside desk.old).file.stage ≡ Stage.Unasked }
+    ensures whole { IfOk result (λ bytes. IfSome (D.outside desk.old).files (λ files. bytes.items ≡ bytes_of files name.now)) }
+    ensures within { IfOk result (λ bytes. vec_len bytes ≤ MAX_SOURCE_BYTES) }
+    ensures fault { IfErr result (λ e. IfSome (D.outside desk.old).files (λ files. IsSourceEnding (bytes_of files name.now) e)) }
+    ensures stops { IfErr result Stops }
+    ensures name { IsIfTold (D.outside desk.new).program.name (Some name.now) }
+    ensures only { OpensOnly InSlot.Program (D.outside desk.old) (D.outside desk.new) }
+    ensures cause { HasCauseIn (result ≡ Err Ending.ReadFault) (D.outside desk.old).input_failures (D.outside desk.new).input_failures }
+{
+    match read_input(alloc, desk, InSlot::Program, name, MAX_SOURCE_BYTES) {
+        Ok(text) => Ok(text),
+        Err(ReadAll::Failed) => Err(Ending::ReadFault),
+        Err(ReadAll::TooLong) => Err(Ending::Source(SourceFault::TooLong)),
+        Err(ReadAll::Memory) => Err(Ending::Memory),
+    }
+}
+
+/// How a call ends whose text is no program within the limits.
+fn ending_of(fault: dk_compile::SourceFault) -> Ending
+    ensures fault { (source : List ℕ) → length source ≤ MAX_SOURCE_BYTES → IsFault source fault → IsSourceEnding source result }
+    ensures stops { Stops result }
+    ensures judged { result ≢ Ending.ReadFault }
+{
+    match fault {
+        dk_compile::SourceFault::Lex(fault) => Ending::Source(SourceFault::Lex(fault)),
+        dk_compile::SourceFault::Nest { span } => Ending::Source(SourceFault::Nest { span }),
+        dk_compile::SourceFault::Syntax { span } => Ending::Source(SourceFault::Syntax { span }),
+        dk_compile::SourceFault::Depth { span } => Ending::Source(SourceFault::Depth { span }),
+        dk_compile::SourceFault::Types(fault) => Ending::Source(SourceFault::Types(fault)),
+        dk_compile::SourceFault::Nodes { count } => Ending::Source(SourceFault::Nodes { count }),
+        dk_compile::SourceFault::InlineDepth { span } => {
+            Ending::Source(SourceFault::InlineDepth { span })
+        }
+        dk_compile::SourceFault::Reads { count } => Ending::Source(SourceFault::Reads { count }),
+        dk_compile::SourceFault::Memory => Ending::Memory,
+    }
+}
+
+/// The form of the program that a text within its limit is accepted as.
+fn read_form(alloc: Global, text: &[u8]) -> Result<Ir, Ending>
+    requires { length text.now ≤ MAX_SOURCE_BYTES }
+    ensures accepted { IfOk result (λ ir. (p : Typing) × HasForm text.now p ir) }
+    ensures every { IfOk result (λ ir. (p : Typing) → IsAccepted text.now p → HasForm text.now p ir) }
+    ensures fault { IfErr result (IsSourceEnding text.now) }
+    ensures stops { IfErr result Stops }
+    ensures judged { result ≢ Err Ending.ReadFault }
+{
+    one_source();
+    match front(alloc, text) {
+        Ok(front) => Ok(front.ir),
+        Err(fault) => Err(ending_of(fault)),
+    }
+}
+
+/// The bytes of the file of images.
+fn read_file<D: Desk>(alloc: Global, desk: &mut D, name: &str) -> Result<Vec<u8>, Ending>
+    requires fresh { (D.outside desk.old).image.stage ≡ Stage.Unasked }
+    requires before_create { (D.outside desk.old).file.stage ≡ Stage.Unasked }
+    ensures whole { IfOk result (λ bytes. IfSome (D.outside desk.old).files (λ files. bytes.items ≡ bytes_of files name.now)) }
+    ensures within { IfOk result (λ bytes. vec_len bytes ≤ MAX_IMAGE_BYTES) }
+    ensures fault { IfErr result (λ e. IfSome (D.outside desk.old).files (λ files. (p : Typing) → IsImageEnding p (bytes_of files name.now) e)) }
+    ensures stops { IfErr result Stops }
+    ensures name { IsIfTold (D.outside desk.new).image.name (Some name.now) }
+    ensures only { OpensOnly InSlot.Image (D.outside desk.old) (D.outside desk.new) }
+    ensures cause { HasCauseIn (result ≡ Err Ending.ReadFault) (D.outside desk.old).input_failures (D.outside desk.new).input_failures }
+{
+    match read_input(alloc, desk, InSlot::Image, name, MAX_IMAGE_BYTES) {
+        Ok(file) => Ok(file),
+        Err(ReadAll::Failed) => Err(Ending::ReadFault),
+        Err(ReadAll::TooLong) => Err(Ending::Image(ImageFault::TooLong)),
+        Err(ReadAll::Memory) => Err(Ending::Memory),
+    }
+}
+
+/// The rounds of a file that is within its limit, for the program of this form.
+fn read_frames(alloc: Global, ir: &Ir, file: &[u8]) -> Result<Vec<Round>, Ending>
+    requires { length file.now ≤ MAX_IMAGE_BYTES }
+    ensures fits { IfOk result (λ rounds. (source : List ℕ) (p : Typing) → HasForm source p ir.now → (images : List (List Image)) × Fits p file.now images) }
+    ensures read { IfOk result (λ rounds. (source : List ℕ) (p : Typing) → HasForm source p ir.now → (images : List (List Image)) → Fits p file.now images → frames_of rounds.items ≡ map (map frame_of) images) }
+    ensures frames { IfOk result (λ rounds. All (λ r. AreFrames ir.now r.frames.items) rounds.items) }
+    ensures fault { IfErr result (λ e. (source : List ℕ) (p : Typing) → HasForm source p ir.now → IsImageEnding p file.now e) }
+    ensures stops { IfErr result Stops }
+    ensures judged { result ≢ Err Ending.ReadFault }
+{
+    one_file();
+    ir.law();
+    match read_rounds(alloc, ir, file) {
+        Ok(rounds) => Ok(rounds),
+        Err(FileError::Fault(fault)) => Err(Ending::Image(ImageFault::File(fault))),
+        Err(FileError::Memory) => Err(Ending::Memory),
+    }
+}
+
+/// A program that is accepted: its text and its form.
+#[derive(Drop)]
+struct Source {
+    text: Vec<u8>,
+    ir: Ir,
+}
+
+/// Reads and judges the program.
+fn read_source<D: Desk>(alloc: Global, desk: &mut D, name: &str) -> Result<Source, Ending>
+    requires fresh { (D.outside desk.old).program.stage ≡ Stage.Unasked }
+    requires before_create { (D.outside desk.old).file.stage ≡ Stage.Unasked }
+    ensures text { IfOk result (λ source. IfSome (D.outside desk.old).files (λ files. source.text.items ≡ bytes_of files name.now)) }
+    ensures accepted { IfOk result (λ source. (p : Typing) × HasForm source.text.items p source.ir) }
+    ensures every { IfOk result (λ source. (p : Typing) → IsAccepted source.text.items p → HasForm source.text.items p source.ir) }
+    ensures fault { IfErr result (λ e. IfSome (D.outside desk.old).files (λ files. IsSourceEnding (bytes_of files name.now) e)) }
+    ensures stops { IfErr result Stops }
+    ensures name { IsIfTold (D.outside desk.new).program.name (Some name.now) }
+    ensures only { OpensOnly InSlot.Program (D.outside desk.old) (D.outside desk.new) }
+    ensures cause { HasCauseIn (result ≡ Err Ending.ReadFault) (D.outside desk.old).input_failures (D.outside desk.new).input_failures }
+{
+    let text = match read_text(alloc, desk, name) {
+        Ok(text) => text,
+        Err(ending) => return Err(ending),
+    };
+    match read_form(alloc, &text) {
+        Ok(ir) => Ok(Source { text, ir }),
+        Err(ending) => Err(ending),
+    }
+}
+
+/// Reads and judges the file of images, for the program of this form.
+fn read_images<D: Desk>(
+    alloc: Global,
+    desk: &mut D,
+    ir: &Ir,
+    name: &str,
+) -> Result<Vec<Round>, Ending>
+    requires fresh { (D.outside desk.old).image.stage ≡ Stage.Unasked }
+    requires before_create { (D.outside desk.old).file.stage ≡ Stage.Unasked }
+    ensures fits { IfOk result (λ rounds. IfSome (D.outside desk.old).files (λ files. (source : List ℕ) (p : Typing) → HasForm source p ir.now → (images : List (List Image)) × Fits p (bytes_of files name.now) images)) }
+    ensures read { IfOk result (λ rounds. IfSome (D.outside desk.old).files (λ files. (source : List ℕ) (p : Typing) → HasForm source p ir.now → (images : List (List Image)) → Fits p (bytes_of files name.now) images → frames_of rounds.items ≡ map (map frame_of) images)) }
+    ensures frames { IfOk result (λ rounds. All (λ r. AreFrames ir.now r.frames.items) rounds.items) }
+    ensures fault { IfErr result (λ e. IfSome (D.outside desk.old).files (λ files. (source : List ℕ) (p : Typing) → HasForm source p ir.now → IsImageEnding p (bytes_of files name.now) e)) }
+    ensures stops { IfErr result Stops }
+    ensures name { IsIfTold (D.outside desk.new).image.name (Some name.now) }
+    ensures only { OpensOnly InSlot.Image (D.outside desk.old) (D.outside desk.new) }
+    ensures cause { HasCauseIn (result ≡ Err Ending.ReadFault) (D.outside desk.old).input_failures (D.outside desk.new).input_failures }
+{
+    let file = match read_file(alloc, desk, name) {
+        Ok(file) => file,
+        Err(ending) => return Err(ending),
+    };
+    read_frames(alloc, ir, &file)
+}
+
+/// What a command works on: the program's text and form, and the frames of its rounds.
+#[derive(Drop)]
+pub struct Given {
+    pub text: Vec<u8>,
+    pub ir: Ir,
+    pub rounds: Vec<Round>,
+}
+
+/// Reads and judges the program, and then the file of images.
+pub fn read_given<D: Desk>(
+    alloc: Global,
+    desk: &mut D,
+    program: &str,
+    image: &str,
+) -> Result<Given, Ending>
+    requires program { (D.outside desk.old).program.stage ≡ Stage.Unasked }
+    requires image { (D.outside desk.old).image.stage ≡ Stage.Unasked }
+    requires file { (D.outside desk.old).file.stage ≡ Stage.Unasked }
+    ensures accepted { IfOk result (λ given. (p : Typing) × HasForm given.text.items p given.ir) }
+    ensures text { IfOk result (λ given. IfSome (D.outside desk.old).files (λ files. given.text.items ≡ bytes_of files program.now)) }
+    ensures read { IfOk result (λ given. IfSome (D.outside desk.old).files (λ files. IsRead (bytes_of files program.now) (bytes_of files image.now) given.ir given.rounds.items)) }
+    ensures frames { IfOk result (λ given. All (λ r. AreFrames given.ir r.frames.items) given.rounds.items) }
+    ensures fault { IfErr result (λ e. IfSome (D.outside desk.old).files (λ files. IsAnswer (bytes_of files program.now) (bytes_of files image.now) e)) }
+    ensures stops { IfErr result Stops }
+    ensures program_name { (D.outside desk.new).program.stage ≢ Stage.Unasked → IsIfTold (D.outside desk.new).program.name (Some program.now) }
+    ensures image_name { (D.outside desk.new).image.stage ≢ Stage.Unasked → IsIfTold (D.outside desk.new).image.name (Some image.now) }
+    ensures only { D.outside desk.new ≡ record (D.outside desk.old) { program = (D.outside desk.new).program; image = (D.outside desk.new).image; input_failures = (D.outside desk.new).input_failures } }
+    ensures cause { HasCauseIn (result ≡ Err Ending.ReadFault) (D.outside desk.old).input_failures (D.outside desk.new).input_failures }
+{
+    let Source { text, ir } = match read_source(alloc, desk, program) {
+        Ok(source) => source,
+        Err(ending) => return Err(ending),
+    };
+    match read_images(alloc, desk, &ir, image) {
+        Ok(rounds) => Ok(Given { text, ir, rounds }),
+        Err(ending) => Err(ending),
+    }
+}
