@@ -1,7 +1,9 @@
 -- What the commands write and note.
-use Rattle.std.proofs.Common.{◌≡◌, ℕ, Bool, List, ◌++◌, Option, None, Some, IfSome, OnOk, Result, Ok, Err, option_map, refl, sym, ap, ◌∙◌, subst}
+use Rattle.std.proofs.Common.{◌≡◌, ◌≢◌, ℕ, Bool, List, ◌++◌, Option, None, Some, IfSome, OnOk, Result, Ok, Err, option_map, refl, sym, ap, ◌∙◌, subst}
 use Rattle.std.specs.List.{flat_map, All}
 use Rattle.dk_base.specs.Frames.{Size}
+use Rattle.dk_desk.specs.declared.Stage.TheVariants.{Unasked}
+use Rattle.dk_desk.specs.Outside.{Input, Outside}
 use Rattle.dk_desk.specs.Calls.{IsIfTold}
 use Rattle.dk_types.specs.Typed.{Typing}
 use Rattle.pointwise_ir.specs.Programs.{Program, IsProgram}
@@ -19,7 +21,8 @@ use Rattle.dk_top.specs.Circuit.{IsClocked, run_of, frame_drive}
 use Rattle.dk_top.specs.Clocking.{IsByteRound, ClockedNotes, clocked_images, samples_of}
 use Rattle.dk_top.specs.Output.{output_file, all_samples}
 use Rattle.dk_top.specs.Verdict.{Files, bytes_of, OfPair}
-use Rattle.dk_top.specs.State.{RunNoted}
+use Rattle.dk_top.specs.Command.{Command, run, eval}
+use Rattle.dk_top.specs.State.{AsksInOrder, RunNoted}
 use Rattle.dk_top.specs.Reading.{IsRead, IsFormOf}
 use Rattle.dk_top.proofs.OutputLemmas.{evaluated_is}
 use Rattle.dk_top.proofs.ClockedLemmas.{byte_rounds, clocked_is, samples_same, shown_is}
@@ -105,3 +108,10 @@ pub noted_told : (told : Option Files) (program image text : List ℕ) (ir : Pro
 noted_told None program image text ir rounds old new is read noted = tt
 noted_told (Some f) program image text ir rounds old new is read noted = λ p images accepted fits.
     noted (bytes_of f image) (subst (λ t. IsRead t (bytes_of f image) ir rounds) (sym is) read) p images (subst (λ t. IsAccepted t p) (sym is) accepted) fits
+
+-- a line to Fault leaves what was asked for
+pub order_stays : (command : Option Command) (files : Option Files) (mid new : Outside) → new.image ≡ mid.image → IfSome command (λ c. IfSome files (λ f. AsksInOrder c f mid)) → IfSome command (λ c. IfSome files (λ f. AsksInOrder c f new))
+order_stays None files mid new same h = tt
+order_stays (Some c) None mid new same h = tt
+order_stays (Some (run p i o)) (Some f) mid new same h = λ asked. h (subst (λ (s : Input). s.stage ≢ Unasked) same asked)
+order_stays (Some (eval p i o)) (Some f) mid new same h = λ asked. h (subst (λ (s : Input). s.stage ≢ Unasked) same asked)

@@ -11,7 +11,7 @@ ghost use Rattle.dk_top.specs.Command.{run as run_command, eval as eval_command}
 ghost use Rattle.dk_top.specs.Program.{HasForm};
 ghost use Rattle.dk_top.specs.Output.{output_file};
 ghost use Rattle.dk_top.specs.Verdict.{IsVerdict, OfPair};
-ghost use Rattle.dk_top.specs.State.{AsksOnly, CreatesNothing, CreatesOut, FilesStay, IsHeld, IsNoted, IsPrefix, OthersStay, RunNoted};
+ghost use Rattle.dk_top.specs.State.{AsksOnly, AsksInOrder, CreatesNothing, CreatesOut, FilesStay, IsHeld, IsNoted, IsPrefix, OthersStay, RunNoted};
 ghost use Rattle.dk_top.specs.Reading.{IsRead, IsFormOf};
 
 use crate::circuit::Right;
@@ -89,6 +89,7 @@ pub fn eval<D: Desk>(alloc: Global, program: &str, image: &str, out: &str, desk:
     ensures taken { result ≢ Ending.Usage }
     ensures verdict { IfSome (D.outside desk.old).files (λ files. IsVerdict (eval_command program.now image.now out.now) files result) }
     ensures asked { AsksOnly (Some (eval_command program.now image.now out.now)) (D.outside desk.new) }
+    ensures order { IfSome (D.outside desk.old).files (λ files. AsksInOrder (eval_command program.now image.now out.now) files (D.outside desk.new)) }
     ensures created { CreatesNothing result → (D.outside desk.new).file.stage ≡ Stage.Unasked }
     ensures written { result ≡ Ending.Done → CreatesOut (Some (eval_command program.now image.now out.now)) (D.outside desk.new) }
     ensures output { (D.outside desk.new).file.stage ≡ Stage.Open → IfSome (D.outside desk.old).files (λ files. IfSome (D.outside desk.new).file.bytes (IsHeld result (eval_command program.now image.now out.now) files)) }
@@ -123,6 +124,7 @@ pub fn run<D: Desk>(alloc: Global, program: &str, image: &str, out: &str, desk: 
     ensures taken { result ≢ Ending.Usage }
     ensures verdict { IfSome (D.outside desk.old).files (λ files. IsVerdict (run_command program.now image.now out.now) files result) }
     ensures asked { AsksOnly (Some (run_command program.now image.now out.now)) (D.outside desk.new) }
+    ensures order { IfSome (D.outside desk.old).files (λ files. AsksInOrder (run_command program.now image.now out.now) files (D.outside desk.new)) }
     ensures created { CreatesNothing result → (D.outside desk.new).file.stage ≡ Stage.Unasked }
     ensures written { result ≡ Ending.Done → CreatesOut (Some (run_command program.now image.now out.now)) (D.outside desk.new) }
     ensures output { (D.outside desk.new).file.stage ≡ Stage.Open → IfSome (D.outside desk.old).files (λ files. IfSome (D.outside desk.new).file.bytes (IsHeld result (run_command program.now image.now out.now) files)) }

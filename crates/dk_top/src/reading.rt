@@ -12,6 +12,7 @@ ghost use Rattle.pointwise_eval.specs.Rounds.{AreFrames};
 ghost use Rattle.dk_top.specs.Program.{HasForm, IsAccepted};
 ghost use Rattle.dk_top.specs.Output.{Fits};
 ghost use Rattle.dk_top.specs.Verdict.{bytes_of, IsAnswer};
+ghost use Rattle.dk_top.specs.State.{AsksWhereAccepted};
 ghost use Rattle.dk_top.specs.Reading.{IsSourceEnding, IsImageEnding, IsRead, Stops};
 
 use crate::MAX_IMAGE_BYTES;
@@ -215,6 +216,7 @@ pub fn read_given<D: Desk>(
     requires image { (D.outside desk.old).image.stage ≡ Stage.Unasked }
     requires file { (D.outside desk.old).file.stage ≡ Stage.Unasked }
     ensures accepted { IfOk result (λ given. (p : Typing) × HasForm given.text.items p given.ir) }
+    ensures order { IfSome (D.outside desk.old).files (λ files. AsksWhereAccepted (bytes_of files program.now) (D.outside desk.new)) }
     ensures text { IfOk result (λ given. IfSome (D.outside desk.old).files (λ files. given.text.items ≡ bytes_of files program.now)) }
     ensures read { IfOk result (λ given. IfSome (D.outside desk.old).files (λ files. IsRead (bytes_of files program.now) (bytes_of files image.now) given.ir given.rounds.items)) }
     ensures frames { IfOk result (λ given. All (λ r. AreFrames given.ir r.frames.items) given.rounds.items) }
