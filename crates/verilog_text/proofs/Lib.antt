@@ -1,0 +1,6 @@
+mod Unique
+mod Parsing
+mod Parsed
+mod Modules
+mod Sameness
+mod Exclusion
