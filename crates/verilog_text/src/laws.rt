@@ -19,7 +19,7 @@ pub fn one_reading()
     ensures source { (tokens : List OneToken) (s t : Source) → Module tokens s → Module tokens t → s ≡ t }
 {}
 
-/// A law: a text stands for one module. Two faults of a text are one, but for the target that Cycle names and want of memory. A text that stands for a module has no fault.
+/// A law: a text stands for one module. Two faults of a text are one, but for the target that Cycle names and want of memory. A text that stands for a module has no fault but want of memory.
 pub fn one_module()
     ensures one { (text : List ℕ) (m n : NamedNetlist) → StandsFor text m → StandsFor text n → m ≡ n }
     ensures agree { (text : List ℕ) (f g : OneFault) → IsFault text f → IsFault text g → Agrees f g }
