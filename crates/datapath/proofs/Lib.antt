@@ -1,0 +1,12 @@
+pub mod Growth
+pub mod Made
+pub mod Parts
+pub mod Carried
+pub mod Resized
+pub mod Compared
+pub mod Divided
+pub mod Limits
+pub mod Shifted
+pub mod Named
+pub mod Bitwise
+pub mod Gates

@@ -1,0 +1,16 @@
+use Rattle.std.proofs.Common.{ap, refl}
+use Rattle.datapath.specs.Nets.{bits_of}
+use Rattle.datapath.proofs.Carried.{negation_carries}
+use Rattle.datapath.proofs.Growth.{then_grows}
+use Rattle.datapath.proofs.arithmetic.negation.Goals as goal
+
+pub returns-clause-value : goal.returns-clause-value
+returns-clause-value c =
+    negation_carries _ _ _ c.args.x c.constant.result _ _ _ _ c.width-width.ensures refl c.requires.ty c.requires.x c.resized.ensures.grows.includes c.subtract.ensures.grows.includes (λ nets. ap (bits_of nets) c.constant.ensures.is)
+    c.in_ok-right.ensures.word c.in_ok-atom.ensures.word
+
+pub returns-in_err-atom-clause-grows : goal.returns-in_err-atom-clause-grows
+returns-in_err-atom-clause-grows c = then_grows c.resized.ensures.grows c.subtract.ensures.grows
+
+pub returns-clause-grows : goal.returns-clause-grows
+returns-clause-grows c = then_grows c.resized.ensures.grows c.subtract.ensures.grows

@@ -1,0 +1,23 @@
+use Rattle.std.proofs.Common.{bit_and, ◌≡◌, max, rules}
+use Rattle.dk_base.specs.Types.{width_of}
+use Rattle.datapath.proofs.Bitwise.{bitwise_common}
+use Rattle.datapath.proofs.Growth.{then_grows, width_later}
+use Rattle.datapath.proofs.bits.conjunction.Goals as goal
+
+pub returns-clause-value : goal.returns-clause-value
+returns-clause-value c =
+    let wider : c.max-width.result ≡ max (width_of c.args.x.ty) (width_of c.args.y.ty) = search rules in
+    bitwise_common bit_and _ _ _ _ c.args.x c.args.y _ _ _ _ wider c.requires.unsigned c.requires.x c.requires.y c.resized.ensures.grows.includes c.resized-2.ensures.grows.includes c.and.ensures.grows.includes
+    c.in_ok-left.ensures.word c.in_ok-right.ensures.word c.in_ok-bits.ensures.word
+
+pub returns-in_err-right-clause-grows : goal.returns-in_err-right-clause-grows
+returns-in_err-right-clause-grows c = then_grows c.resized.ensures.grows c.resized-2.ensures.grows
+
+pub and-requires-clause-x : goal.and-requires-clause-x
+and-requires-clause-x c = width_later _ _ _ _ c.resized-2.ensures.grows c.in_ok-left.ensures.word.width
+
+pub returns-in_err-bits-clause-grows : goal.returns-in_err-bits-clause-grows
+returns-in_err-bits-clause-grows c = then_grows (then_grows c.resized.ensures.grows c.resized-2.ensures.grows) c.and.ensures.grows
+
+pub returns-clause-grows : goal.returns-clause-grows
+returns-clause-grows c = then_grows (then_grows c.resized.ensures.grows c.resized-2.ensures.grows) c.and.ensures.grows

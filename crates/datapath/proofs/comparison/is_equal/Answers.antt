@@ -1,0 +1,18 @@
+use Rattle.datapath.proofs.Compared.{equal_carries}
+use Rattle.datapath.proofs.Growth.{then_grows, width_later}
+use Rattle.datapath.proofs.comparison.is_equal.Goals as goal
+
+pub returns-clause-value : goal.returns-clause-value
+returns-clause-value c = equal_carries _ _ _ _ c.args.x c.args.y _ _ _ c.common-ty.result _ c.common-ty.ensures c.width-width.ensures c.requires.ty c.requires.x c.requires.y c.resized.ensures.grows.includes c.resized-2.ensures.grows.includes c.equal.ensures.grows.includes c.in_ok-left.ensures.word c.in_ok-right.ensures.word c.in_ok-atom.ensures.word
+
+pub returns-in_err-right-clause-grows : goal.returns-in_err-right-clause-grows
+returns-in_err-right-clause-grows c = then_grows c.resized.ensures.grows c.resized-2.ensures.grows
+
+pub equal-requires-clause-x : goal.equal-requires-clause-x
+equal-requires-clause-x c = width_later _ _ _ _ c.resized-2.ensures.grows c.in_ok-left.ensures.word.width
+
+pub returns-in_err-atom-clause-grows : goal.returns-in_err-atom-clause-grows
+returns-in_err-atom-clause-grows c = then_grows (then_grows c.resized.ensures.grows c.resized-2.ensures.grows) c.equal.ensures.grows
+
+pub returns-clause-grows : goal.returns-clause-grows
+returns-clause-grows c = then_grows (then_grows c.resized.ensures.grows c.resized-2.ensures.grows) c.equal.ensures.grows

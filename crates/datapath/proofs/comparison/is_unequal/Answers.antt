@@ -1,0 +1,12 @@
+use Rattle.datapath.proofs.Compared.{opposite_carries}
+use Rattle.datapath.proofs.Growth.{then_grows}
+use Rattle.datapath.proofs.comparison.is_unequal.Goals as goal
+
+pub returns-clause-value : goal.returns-clause-value
+returns-clause-value c = opposite_carries _ _ _ _ _ c.negated.ensures.grows.includes c.in_ok-opposite.ensures.value c.in_ok-negation.ensures.value
+
+pub returns-in_err-negation-clause-grows : goal.returns-in_err-negation-clause-grows
+returns-in_err-negation-clause-grows c = then_grows c.is_equal.ensures.grows c.negated.ensures.grows
+
+pub returns-clause-grows : goal.returns-clause-grows
+returns-clause-grows c = then_grows c.is_equal.ensures.grows c.negated.ensures.grows

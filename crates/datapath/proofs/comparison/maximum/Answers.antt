@@ -1,0 +1,12 @@
+use Rattle.datapath.proofs.Compared.{greater_carries}
+use Rattle.datapath.proofs.Growth.{then_grows}
+use Rattle.datapath.proofs.comparison.maximum.Goals as goal
+
+pub returns-in_err-greater-clause-grows : goal.returns-in_err-greater-clause-grows
+returns-in_err-greater-clause-grows c = then_grows c.is_less.ensures.grows c.choice.ensures.grows
+
+pub returns-clause-grows : goal.returns-clause-grows
+returns-clause-grows c = then_grows c.is_less.ensures.grows c.choice.ensures.grows
+
+pub returns-clause-value : goal.returns-clause-value
+returns-clause-value c = greater_carries _ _ c.in_ok-below.below c.args.x c.args.y _ _ c.choice.ensures.grows.includes c.in_ok-below.ensures.value c.in_ok-greater.ensures.value

@@ -1,0 +1,9 @@
+use Rattle.datapath.proofs.Divided.{unsigned_magnitude_carries}
+use Rattle.datapath.proofs.Growth.{grows_itself}
+use Rattle.datapath.proofs.division.magnitude.Goals as goal
+
+pub returns-in-Unsigned-clause-value : goal.returns-in-Unsigned-clause-value
+returns-in-Unsigned-clause-value c = unsigned_magnitude_carries _ c.args.x _ c.in-Unsigned.is c.requires.x
+
+pub returns-in-Unsigned-clause-grows : goal.returns-in-Unsigned-clause-grows
+returns-in-Unsigned-clause-grows c = grows_itself _

@@ -1,0 +1,12 @@
+use Rattle.datapath.proofs.Divided.{magnitude_carries}
+use Rattle.datapath.proofs.Growth.{then_grows}
+use Rattle.datapath.proofs.division.signed_magnitude.Goals as goal
+
+pub returns-clause-value : goal.returns-clause-value
+returns-clause-value c = magnitude_carries _ _ _ c.args.x _ _ _ c.requires.ty c.requires.x c.part.ensures.grows.includes c.turned.ensures.grows.includes c.in_ok-sign.ensures.word c.in_ok-atom.ensures.word
+
+pub returns-in_err-atom-clause-grows : goal.returns-in_err-atom-clause-grows
+returns-in_err-atom-clause-grows c = then_grows c.part.ensures.grows c.turned.ensures.grows
+
+pub returns-clause-grows : goal.returns-clause-grows
+returns-clause-grows c = then_grows c.part.ensures.grows c.turned.ensures.grows

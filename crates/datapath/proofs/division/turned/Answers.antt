@@ -1,0 +1,20 @@
+use Rattle.std.proofs.Common.{ap}
+use Rattle.datapath.specs.Nets.{bits_of}
+use Rattle.datapath.proofs.Divided.{turned_word}
+use Rattle.datapath.proofs.Growth.{then_grows, width_later}
+use Rattle.datapath.proofs.division.turned.Goals as goal
+
+pub returns-clause-word : goal.returns-clause-word
+returns-clause-word c = turned_word _ _ c.args.sign c.args.x c.constant.result _ _ _ c.choose.ensures.grows.includes (λ nets. ap (bits_of nets) c.constant.ensures.is) c.in_ok-negative.ensures.word c.in_ok-atom.ensures.word
+
+pub returns-in_err-atom-clause-grows : goal.returns-in_err-atom-clause-grows
+returns-in_err-atom-clause-grows c = then_grows c.subtract.ensures.grows c.choose.ensures.grows
+
+pub returns-clause-grows : goal.returns-clause-grows
+returns-clause-grows c = then_grows c.subtract.ensures.grows c.choose.ensures.grows
+
+pub choose-requires-clause-c : goal.choose-requires-clause-c
+choose-requires-clause-c c = width_later _ _ _ _ c.subtract.ensures.grows c.requires.sign
+
+pub choose-requires-clause-y : goal.choose-requires-clause-y
+choose-requires-clause-y c = width_later _ _ _ _ c.subtract.ensures.grows c.requires.x

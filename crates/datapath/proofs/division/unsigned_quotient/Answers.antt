@@ -1,0 +1,17 @@
+use Rattle.std.proofs.Common.{◌≤◌, ◌^◌, ap, arith, rules}
+use Rattle.datapath.specs.Nets.{bits_of, HasWidth}
+use Rattle.datapath.proofs.Divided.{zero_quotient_carries, unsigned_quotient_carries}
+use Rattle.datapath.proofs.Growth.{grows_itself}
+use Rattle.datapath.proofs.division.unsigned_quotient.Goals as goal
+
+pub returns-then-by-greatest-clause-value : goal.returns-then-by-greatest-clause-value
+returns-then-by-greatest-clause-value c =
+    let big : 2 ^ c.args.width ≤ c.args.by = omega (arith, c.if-by-greatest.true, c.greatest.ensures) in
+    let width : HasWidth c.args.b.now c.constant.result c.args.width = search rules in
+    zero_quotient_carries _ c.args.x c.constant.result _ c.args.by c.requires.ty c.requires.x width (λ nets. ap (bits_of nets) c.constant.ensures.is) big
+
+pub returns-clause-value : goal.returns-clause-value
+returns-clause-value c = unsigned_quotient_carries _ _ c.args.x c.constant-2.result _ _ c.args.by c.requires.ty c.requires.x c.divide.ensures.grows.includes (λ nets. ap (bits_of nets) c.constant-2.ensures.is) c.in_ok-atom.ensures.word
+
+pub returns-then-by-greatest-clause-grows : goal.returns-then-by-greatest-clause-grows
+returns-then-by-greatest-clause-grows c = grows_itself _

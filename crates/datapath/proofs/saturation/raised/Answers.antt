@@ -1,0 +1,33 @@
+use Rattle.datapath.proofs.Growth.{then_grows, width_later, grows_itself, has_width_of}
+use Rattle.std.proofs.Common.{◌≡◌, ◌<◌, ◌≤◌, ◌-◌, ap, ◌∙◌, arith}
+use Rattle.datapath.specs.Nets.{bits_of}
+use Rattle.dk_base.specs.Types.{below}
+use Rattle.datapath.proofs.Limits.{not_raised, is_raised}
+use Rattle.datapath.proofs.saturation.raised.Goals as goal
+
+pub returns-then-deep-least-clause-word : goal.returns-then-deep-least-clause-word
+returns-then-deep-least-clause-word c =
+    let le : below c.args.x.ty ≤ below c.args.ty = omega (arith, c.if-deep-least.true, c.below-deep.ensures.value, c.below-least.ensures.value) in
+    not_raised _ c.args.x c.args.ty c.args.bits c.requires.x c.requires.bits le
+
+pub returns-clause-word : goal.returns-clause-word
+returns-clause-word c =
+    let lt : below c.args.ty < below c.args.x.ty = omega (arith, c.if-deep-least.false, c.below-deep.ensures.value, c.below-least.ensures.value) in
+    let limit : c.below-deep.result - c.below-least.result ≡ below c.args.x.ty - below c.args.ty = omega (arith, c.below-deep.ensures.value, c.below-least.ensures.value) in
+    is_raised _ _ _ _ c.args.x c.args.ty c.args.bits _ c.constant-limit.result _ c.constant.result _ _ _ c.requires.x c.width-3.ensures lt c.offset.ensures.grows.includes c.less.ensures.grows.includes c.choose.ensures.grows.includes
+    (λ nets. ap (bits_of nets) c.constant-limit.ensures.is ∙ limit) (λ nets. ap (bits_of nets) c.constant.ensures.is ∙ c.below-least.ensures.value) c.in_ok-up.ensures.word c.in_ok-low.ensures.word c.in_ok-atom.ensures.word
+
+pub returns-then-deep-least-clause-grows : goal.returns-then-deep-least-clause-grows
+returns-then-deep-least-clause-grows c = grows_itself _
+
+pub returns-in_err-low-clause-grows : goal.returns-in_err-low-clause-grows
+returns-in_err-low-clause-grows c = then_grows c.offset.ensures.grows c.less.ensures.grows
+
+pub choose-requires-clause-y : goal.choose-requires-clause-y
+choose-requires-clause-y c = width_later _ _ _ _ (then_grows c.offset.ensures.grows c.less.ensures.grows) (has_width_of c.width-3.ensures c.requires.bits)
+
+pub returns-in_err-atom-clause-grows : goal.returns-in_err-atom-clause-grows
+returns-in_err-atom-clause-grows c = then_grows (then_grows c.offset.ensures.grows c.less.ensures.grows) c.choose.ensures.grows
+
+pub returns-clause-grows : goal.returns-clause-grows
+returns-clause-grows c = then_grows (then_grows c.offset.ensures.grows c.less.ensures.grows) c.choose.ensures.grows

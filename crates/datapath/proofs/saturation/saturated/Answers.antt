@@ -1,0 +1,15 @@
+use Rattle.datapath.proofs.Growth.{then_grows}
+use Rattle.datapath.proofs.Limits.{saturated_carries}
+use Rattle.datapath.proofs.saturation.saturated.Goals as goal
+
+pub returns-clause-value : goal.returns-clause-value
+returns-clause-value c = saturated_carries _ _ _ c.args.x _ _ _ c.args.ty _ c.width-width.ensures c.requires.ty c.raised.ensures.grows.includes c.lowered.ensures.grows.includes c.in_ok-bits.ensures.word c.in_ok-low.ensures.word c.in_ok-atom.ensures.word
+
+pub returns-in_err-low-clause-grows : goal.returns-in_err-low-clause-grows
+returns-in_err-low-clause-grows c = then_grows c.resized.ensures.grows c.raised.ensures.grows
+
+pub returns-in_err-atom-clause-grows : goal.returns-in_err-atom-clause-grows
+returns-in_err-atom-clause-grows c = then_grows (then_grows c.resized.ensures.grows c.raised.ensures.grows) c.lowered.ensures.grows
+
+pub returns-clause-grows : goal.returns-clause-grows
+returns-clause-grows c = then_grows (then_grows c.resized.ensures.grows c.raised.ensures.grows) c.lowered.ensures.grows

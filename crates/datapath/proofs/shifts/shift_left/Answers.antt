@@ -1,0 +1,14 @@
+use Rattle.std.proofs.Common.{ap}
+use Rattle.datapath.specs.Nets.{bits_of}
+use Rattle.datapath.proofs.Shifted.{shift_carries, unshifted_carries}
+use Rattle.datapath.proofs.Growth.{grows_itself}
+use Rattle.datapath.proofs.shifts.shift_left.Goals as goal
+
+pub returns-clause-value : goal.returns-clause-value
+returns-clause-value c = shift_carries _ _ c.args.x c.constant.result _ c.shifted-ty.result _ _ c.shifted-ty.ensures c.width-width.ensures c.requires.ty c.requires.x c.join.ensures.grows.includes (λ nets. ap (bits_of nets) c.constant.ensures.is) c.in_ok-atom.ensures.word
+
+pub returns-then-by-eq0-clause-value : goal.returns-then-by-eq0-clause-value
+returns-then-by-eq0-clause-value c = unshifted_carries _ c.args.x _ c.if-by-eq0.true c.requires.x
+
+pub returns-then-by-eq0-clause-grows : goal.returns-then-by-eq0-clause-grows
+returns-then-by-eq0-clause-grows c = grows_itself _

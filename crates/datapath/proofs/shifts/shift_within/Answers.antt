@@ -1,0 +1,12 @@
+use Rattle.datapath.proofs.Shifted.{within_carries}
+use Rattle.datapath.proofs.Growth.{then_grows}
+use Rattle.datapath.proofs.shifts.shift_within.Goals as goal
+
+pub returns-clause-value : goal.returns-clause-value
+returns-clause-value c = within_carries _ _ _ c.args.x c.in_ok-high.high _ _ c.args.by c.width.ensures c.requires.x c.high_bits.ensures.grows.includes c.resized.ensures.grows.includes c.in_ok-high.ensures.value c.in_ok-atom.ensures.word
+
+pub returns-in_err-atom-clause-grows : goal.returns-in_err-atom-clause-grows
+returns-in_err-atom-clause-grows c = then_grows c.high_bits.ensures.grows c.resized.ensures.grows
+
+pub returns-clause-grows : goal.returns-clause-grows
+returns-clause-grows c = then_grows c.high_bits.ensures.grows c.resized.ensures.grows

@@ -1,0 +1,18 @@
+use Rattle.datapath.proofs.Made.{choose_is_operation, choose_made}
+use Rattle.datapath.proofs.Growth.{signal_of}
+use Rattle.datapath.proofs.words.choose.Goals as goal
+
+pub atom-condition-requires : goal.atom-condition-requires
+atom-condition-requires c = signal_of _ _ _ c.requires.c
+
+pub atom-left-requires : goal.atom-left-requires
+atom-left-requires c = signal_of _ _ _ c.requires.x
+
+pub atom-right-requires : goal.atom-right-requires
+atom-right-requires c = signal_of _ _ _ c.requires.y
+
+pub net_for-requires-clause-operation : goal.net_for-requires-clause-operation
+net_for-requires-clause-operation c = choose_is_operation _ c.args.c c.args.x c.args.y _ _ _ _ c.atom-condition.ensures c.atom-left.ensures c.atom-right.ensures c.requires.width c.requires.c c.requires.x c.requires.y
+
+pub returns-clause-word : goal.returns-clause-word
+returns-clause-word c = choose_made _ _ _ c.args.c c.args.x c.args.y _ _ _ _ c.atom-condition.ensures c.atom-left.ensures c.atom-right.ensures c.requires.x c.in_ok-net.ensures.net

@@ -1,0 +1,12 @@
+use Rattle.datapath.proofs.Made.{not_is_operation, not_made}
+use Rattle.datapath.proofs.Growth.{signal_of}
+use Rattle.datapath.proofs.words.complement.Goals as goal
+
+pub atom-operand-requires : goal.atom-operand-requires
+atom-operand-requires c = signal_of _ _ _ c.requires.x
+
+pub net_for-requires-clause-operation : goal.net_for-requires-clause-operation
+net_for-requires-clause-operation c = not_is_operation _ c.args.x _ _ c.atom-operand.ensures c.requires.width c.requires.x
+
+pub returns-clause-word : goal.returns-clause-word
+returns-clause-word c = not_made _ _ _ c.args.x _ _ c.atom-operand.ensures c.requires.x c.net_for.ensures.grows.includes c.in_ok-net.ensures.net

@@ -1,0 +1,17 @@
+use Rattle.std.proofs.Common.{subst, sym}
+use Rattle.wiring.specs.Rules.{DividesByDivisor}
+use Rattle.datapath.proofs.Made.{binary_operation, binary_made}
+use Rattle.datapath.proofs.Growth.{signal_of}
+use Rattle.datapath.proofs.words.operated.Goals as goal
+
+pub atom-left-requires : goal.atom-left-requires
+atom-left-requires c = signal_of _ _ _ c.requires.x
+
+pub atom-right-requires : goal.atom-right-requires
+atom-right-requires c = signal_of _ _ _ c.requires.y
+
+pub net_for-requires-clause-operation : goal.net_for-requires-clause-operation
+net_for-requires-clause-operation c = binary_operation _ c.args.operator c.args.x c.args.y _ _ _ c.atom-left.ensures c.atom-right.ensures c.requires.width c.requires.x c.requires.y (subst (DividesByDivisor c.args.operator) (sym c.atom-right.ensures) c.requires.divisor)
+
+pub returns-clause-word : goal.returns-clause-word
+returns-clause-word c = binary_made _ _ _ c.args.operator c.args.x c.args.y _ _ _ c.atom-left.ensures c.atom-right.ensures c.requires.x c.net_for.ensures.grows.includes c.in_ok-net.ensures.net

@@ -1,0 +1,18 @@
+use Rattle.datapath.proofs.Parts.{whole_part, part_word}
+use Rattle.datapath.proofs.Growth.{then_grows, grows_itself}
+use Rattle.datapath.proofs.words.part.Goals as goal
+
+pub returns-then-count-width-clause-word : goal.returns-then-count-width-clause-word
+returns-then-count-width-clause-word c = whole_part _ _ c.args.low _ _ c.if-count-width.true c.requires.inside c.requires.x
+
+pub returns-clause-word : goal.returns-clause-word
+returns-clause-word c = part_word _ _ _ _ c.args.x _ _ _ c.slice.ensures.grows.includes c.in_ok-whole.ensures.word c.in_ok-atom.ensures.word
+
+pub returns-then-count-width-clause-grows : goal.returns-then-count-width-clause-grows
+returns-then-count-width-clause-grows c = grows_itself _
+
+pub returns-in_err-atom-clause-grows : goal.returns-in_err-atom-clause-grows
+returns-in_err-atom-clause-grows c = then_grows c.net_of.ensures.grows c.slice.ensures.grows
+
+pub returns-clause-grows : goal.returns-clause-grows
+returns-clause-grows c = then_grows c.net_of.ensures.grows c.slice.ensures.grows

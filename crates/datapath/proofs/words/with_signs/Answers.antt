@@ -1,0 +1,18 @@
+use Rattle.datapath.proofs.Parts.{signs_of}
+use Rattle.datapath.proofs.Growth.{then_grows, width_later}
+use Rattle.datapath.proofs.words.with_signs.Goals as goal
+
+pub returns-clause-word : goal.returns-clause-word
+returns-clause-word c = signs_of _ _ _ c.args.x _ _ _ _ _ c.repeat.ensures.grows.includes c.join.ensures.grows.includes c.in_ok-sign.ensures.word c.in_ok-signs.ensures.word c.in_ok-atom.ensures.word
+
+pub returns-in_err-signs-clause-grows : goal.returns-in_err-signs-clause-grows
+returns-in_err-signs-clause-grows c = then_grows c.part.ensures.grows c.repeat.ensures.grows
+
+pub join-requires-clause-y : goal.join-requires-clause-y
+join-requires-clause-y c = width_later _ _ _ _ (then_grows c.part.ensures.grows c.repeat.ensures.grows) c.requires.x
+
+pub returns-in_err-atom-clause-grows : goal.returns-in_err-atom-clause-grows
+returns-in_err-atom-clause-grows c = then_grows (then_grows c.part.ensures.grows c.repeat.ensures.grows) c.join.ensures.grows
+
+pub returns-clause-grows : goal.returns-clause-grows
+returns-clause-grows c = then_grows (then_grows c.part.ensures.grows c.repeat.ensures.grows) c.join.ensures.grows

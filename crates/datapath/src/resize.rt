@@ -1,0 +1,41 @@
+// The bits of an operand's number at any width.
+
+ghost use Rattle.std.specs.Prelude.{◌≡◌, ◌+◌, ◌≤◌, ◌<◌, ◌-◌, ◌*◌, ◌/◌, ◌%◌, ◌^◌, IfOk};
+ghost use Rattle.dk_base.specs.Types.{IsType, width_of};
+ghost use Rattle.dk_base.specs.Numbers.{code};
+ghost use Rattle.datapath.specs.Nets.{Grows, HasWidth, IsWord, bits_of};
+ghost use Rattle.wiring.specs.Rights.{repeated};
+ghost use Rattle.wiring.specs.Sizes.{IsWidth};
+ghost use Rattle.datapath.specs.Operands.{IsOperand, worth};
+
+use crate::operand::{Operand, Signal};
+use crate::words::{part, with_signs, with_zeros};
+use dk_base::{Memory, Ty};
+use net_build::Builder;
+
+/// The bits of an operand's number in a width of any size.
+pub fn resized(b: &mut Builder, x: Operand, width: u8) -> Result<Signal, Memory>
+    requires operand { IsOperand b.old x }
+    requires width { IsWidth width }
+    ensures grows { Grows b.old b.new }
+    ensures word { IfOk result (λ r. IsWord b.new r width (λ nets. code width (worth nets x))) }
+{
+    match x.ty {
+        Ty::Unsigned(low) => {
+            if width <= low {
+                let atom = part(b, low, x.bits, 0, width)?;
+                return Ok(atom);
+            }
+            let atom = with_zeros(b, width - low, low, x.bits)?;
+            Ok(atom)
+        }
+        Ty::Signed(low) => {
+            if width <= low {
+                let atom = part(b, low, x.bits, 0, width)?;
+                return Ok(atom);
+            }
+            let atom = with_signs(b, width - low, low, x.bits)?;
+            Ok(atom)
+        }
+    }
+}

@@ -1,0 +1,361 @@
+// Nets by one operator each, over nets and constants of known widths.
+
+ghost use Rattle.std.specs.Prelude.{◌≡◌, ◌+◌, ◌-◌, ◌*◌, ◌/◌, ◌%◌, ◌^◌, ◌<◌, ◌≤◌, [], IfOk, nat_lt, nat_eq, bit_and, bit_or, bit_xor, if◌then◌else◌};
+ghost use Rattle.datapath.specs.declared.operand.Signal.TheVariants as signal;
+ghost use Rattle.wiring.specs.Netlist.{Netlist};
+ghost use Rattle.wiring.specs.Rights.{repeated, operator_width, operator_value};
+ghost use Rattle.wiring.specs.Rules.{IsDivisor, DividesByDivisor};
+ghost use Rattle.wiring.specs.Sizes.{IsWidth};
+ghost use Rattle.wiring.specs.Snapshot.{right_accesses};
+ghost use Rattle.net_build.specs.Draft.{IsOperation};
+ghost use Rattle.datapath.specs.Nets.{Grows, HasWidth, IsWord, IsNetOf, IsSignal, atom_of, bits_of, bit};
+
+use crate::operand::Signal;
+use dk_base::Memory;
+use net_build::Builder;
+use wiring::{Atom, Constant, Net, Operator, Right, Width};
+
+// A net or a constant, in a right side.
+fn atom(x: Signal) -> Atom<Net>
+    requires { IsSignal x }
+    ensures { result ≡ atom_of x }
+{
+    match x {
+        Signal::Net(net) => Atom::Net(net),
+        Signal::Constant(width, value) => {
+            Atom::Constant(Constant::new(Width::new(width), value))
+        }
+    }
+}
+
+/// The constant of `width` bits of this value.
+pub(crate) fn constant(width: u8, value: u64) -> Signal
+    requires width { IsWidth width }
+    requires fits { value < 2 ^ width }
+    ensures is { result ≡ signal.Constant width value }
+    ensures width { (b : Netlist) → HasWidth b result width }
+{
+    Signal::Constant(width, value)
+}
+
+// The number of `width` bits whose highest bit alone is 1.
+#[tactic(auto, using(std::proofs::lemmas::Nat::one_shl, std::proofs::lemmas::Nat::pow_below))]
+fn half(width: u8) -> u64
+    requires { IsWidth width }
+    ensures value { result ≡ 2 ^ (width - 1) }
+    ensures fits { result < 2 ^ width }
+{
+    1 << (width - 1)
+}
+
+/// The constant of `width` bits whose highest bit alone is 1.
+pub(crate) fn top_bit(width: u8) -> Signal
+    requires { IsWidth width }
+    ensures is { result ≡ signal.Constant width (2 ^ (width - 1)) }
+    ensures width { (b : Netlist) → HasWidth b result width }
+{
+    constant(width, half(width))
+}
+
+// The net of a right side that reads no array.
+fn net_for(b: &mut Builder, operation: Right<Net, usize>) -> Result<Net, Memory>
+    requires operation { IsOperation b.old operation }
+    requires no_array { right_accesses operation ≡ [] }
+    ensures grows { Grows b.old b.new }
+    ensures net { IfOk result (IsNetOf b.old b.new operation) }
+{
+    let net = b.op(operation)?;
+    b.law();
+    Ok(net)
+}
+
+// The net of an operator of two operands.
+fn operated(
+    b: &mut Builder,
+    operator: Operator,
+    width: u8,
+    x: Signal,
+    y: Signal,
+) -> Result<Signal, Memory>
+    requires width { IsWidth (operator_width operator width) }
+    requires x { HasWidth b.old x width }
+    requires y { HasWidth b.old y width }
+    requires divisor { DividesByDivisor operator (atom_of y) }
+    ensures grows { Grows b.old b.new }
+    ensures word { IfOk result (λ r. IsWord b.new r (operator_width operator width) (λ s. operator_value operator width (bits_of s x) (bits_of s y))) }
+{
+    let (left, right) = (atom(x), atom(y));
+    let net = net_for(b, Right::Binary(operator, left, right))?;
+    Ok(Signal::Net(net))
+}
+
+// The sum, modulo 2 to the width.
+pub(crate) fn add(b: &mut Builder, width: u8, x: Signal, y: Signal) -> Result<Signal, Memory>
+    requires width { IsWidth width }
+    requires x { HasWidth b.old x width }
+    requires y { HasWidth b.old y width }
+    ensures grows { Grows b.old b.new }
+    ensures word { IfOk result (λ r. IsWord b.new r width (λ s. (bits_of s x + bits_of s y) % 2 ^ width)) }
+{
+    let atom = operated(b, Operator::Add, width, x, y)?;
+    Ok(atom)
+}
+
+// The difference, modulo 2 to the width.
+pub(crate) fn subtract(b: &mut Builder, width: u8, x: Signal, y: Signal) -> Result<Signal, Memory>
+    requires width { IsWidth width }
+    requires x { HasWidth b.old x width }
+    requires y { HasWidth b.old y width }
+    ensures grows { Grows b.old b.new }
+    ensures word { IfOk result (λ r. IsWord b.new r width (λ s. (bits_of s x + 2 ^ width - bits_of s y) % 2 ^ width)) }
+{
+    let atom = operated(b, Operator::Subtract, width, x, y)?;
+    Ok(atom)
+}
+
+// The product, modulo 2 to the width.
+pub(crate) fn multiply(b: &mut Builder, width: u8, x: Signal, y: Signal) -> Result<Signal, Memory>
+    requires width { IsWidth width }
+    requires x { HasWidth b.old x width }
+    requires y { HasWidth b.old y width }
+    ensures grows { Grows b.old b.new }
+    ensures word { IfOk result (λ r. IsWord b.new r width (λ s. bits_of s x * bits_of s y % 2 ^ width)) }
+{
+    let atom = operated(b, Operator::Multiply, width, x, y)?;
+    Ok(atom)
+}
+
+// The quotient by a constant.
+pub(crate) fn divide(b: &mut Builder, width: u8, x: Signal, y: Signal) -> Result<Signal, Memory>
+    requires width { IsWidth width }
+    requires x { HasWidth b.old x width }
+    requires y { HasWidth b.old y width }
+    requires divisor { IsDivisor (atom_of y) }
+    ensures grows { Grows b.old b.new }
+    ensures word { IfOk result (λ r. IsWord b.new r width (λ s. bits_of s x / bits_of s y)) }
+{
+    let atom = operated(b, Operator::Divide, width, x, y)?;
+    Ok(atom)
+}
+
+// Whether the first is less.
+pub(crate) fn less(b: &mut Builder, width: u8, x: Signal, y: Signal) -> Result<Signal, Memory>
+    requires x { HasWidth b.old x width }
+    requires y { HasWidth b.old y width }
+    ensures grows { Grows b.old b.new }
+    ensures word { IfOk result (λ r. IsWord b.new r 1 (λ s. bit (nat_lt (bits_of s x) (bits_of s y)))) }
+{
+    let atom = operated(b, Operator::Less, width, x, y)?;
+    Ok(atom)
+}
+
+// Whether both are equal.
+pub(crate) fn equal(b: &mut Builder, width: u8, x: Signal, y: Signal) -> Result<Signal, Memory>
+    requires x { HasWidth b.old x width }
+    requires y { HasWidth b.old y width }
+    ensures grows { Grows b.old b.new }
+    ensures word { IfOk result (λ r. IsWord b.new r 1 (λ s. bit (nat_eq (bits_of s x) (bits_of s y)))) }
+{
+    let atom = operated(b, Operator::Equal, width, x, y)?;
+    Ok(atom)
+}
+
+// The bits that both have.
+pub(crate) fn and(b: &mut Builder, width: u8, x: Signal, y: Signal) -> Result<Signal, Memory>
+    requires width { IsWidth width }
+    requires x { HasWidth b.old x width }
+    requires y { HasWidth b.old y width }
+    ensures grows { Grows b.old b.new }
+    ensures word { IfOk result (λ r. IsWord b.new r width (λ s. bit_and (bits_of s x) (bits_of s y))) }
+{
+    let atom = operated(b, Operator::And, width, x, y)?;
+    Ok(atom)
+}
+
+// The bits that one of them has.
+pub(crate) fn or(b: &mut Builder, width: u8, x: Signal, y: Signal) -> Result<Signal, Memory>
+    requires width { IsWidth width }
+    requires x { HasWidth b.old x width }
+    requires y { HasWidth b.old y width }
+    ensures grows { Grows b.old b.new }
+    ensures word { IfOk result (λ r. IsWord b.new r width (λ s. bit_or (bits_of s x) (bits_of s y))) }
+{
+    let atom = operated(b, Operator::Or, width, x, y)?;
+    Ok(atom)
+}
+
+// The bits that one of them alone has.
+pub(crate) fn xor(b: &mut Builder, width: u8, x: Signal, y: Signal) -> Result<Signal, Memory>
+    requires width { IsWidth width }
+    requires x { HasWidth b.old x width }
+    requires y { HasWidth b.old y width }
+    ensures grows { Grows b.old b.new }
+    ensures word { IfOk result (λ r. IsWord b.new r width (λ s. bit_xor (bits_of s x) (bits_of s y))) }
+{
+    let atom = operated(b, Operator::Xor, width, x, y)?;
+    Ok(atom)
+}
+
+// The first where the bit is 1, else the second.
+pub(crate) fn choose(
+    b: &mut Builder,
+    width: u8,
+    c: Signal,
+    x: Signal,
+    y: Signal,
+) -> Result<Signal, Memory>
+    requires width { IsWidth width }
+    requires c { HasWidth b.old c 1 }
+    requires x { HasWidth b.old x width }
+    requires y { HasWidth b.old y width }
+    ensures grows { Grows b.old b.new }
+    ensures word { IfOk result (λ r. IsWord b.new r width (λ s. if nat_eq (bits_of s c) 1 then bits_of s x else bits_of s y)) }
+{
+    let condition = atom(c);
+    let (left, right) = (atom(x), atom(y));
+    let net = net_for(b, Right::Choose(condition, left, right))?;
+    Ok(Signal::Net(net))
+}
+
+// The first above the second.
+pub(crate) fn join(
+    b: &mut Builder,
+    high: u8,
+    x: Signal,
+    low: u8,
+    y: Signal,
+) -> Result<Signal, Memory>
+    requires some { 1 ≤ low }
+    requires most { high + low ≤ 64 }
+    requires x { HasWidth b.old x high }
+    requires y { HasWidth b.old y low }
+    ensures grows { Grows b.old b.new }
+    ensures word { IfOk result (λ r. IsWord b.new r (high + low) (λ s. bits_of s x * 2 ^ low + bits_of s y)) }
+{
+    let (left, right) = (atom(x), atom(y));
+    let net = net_for(b, Right::Join(left, right))?;
+    Ok(Signal::Net(net))
+}
+
+// So many copies of a bit.
+pub(crate) fn repeat(b: &mut Builder, count: u8, x: Signal) -> Result<Signal, Memory>
+    requires width { IsWidth count }
+    requires x { HasWidth b.old x 1 }
+    ensures grows { Grows b.old b.new }
+    ensures word { IfOk result (λ r. IsWord b.new r count (λ s. repeated count 1 (bits_of s x))) }
+{
+    let operand = atom(x);
+    let net = net_for(b, Right::Repeat(count, operand))?;
+    Ok(Signal::Net(net))
+}
+
+// The other bits.
+pub(crate) fn complement(b: &mut Builder, width: u8, x: Signal) -> Result<Signal, Memory>
+    requires width { IsWidth width }
+    requires x { HasWidth b.old x width }
+    ensures grows { Grows b.old b.new }
+    ensures word { IfOk result (λ r. IsWord b.new r width (λ s. 2 ^ width - 1 - bits_of s x)) }
+{
+    let operand = atom(x);
+    let net = net_for(b, Right::Not(operand))?;
+    Ok(Signal::Net(net))
+}
+
+// A constant as a net.
+fn copied(b: &mut Builder, width: u8, x: Signal) -> Result<Net, Memory>
+    requires width { IsWidth width }
+    requires x { HasWidth b.old x width }
+    ensures grows { Grows b.old b.new }
+    ensures word { IfOk result (λ n. IsWord b.new (signal.Net n) width (λ s. bits_of s x)) }
+{
+    let operand = atom(x);
+    let net = net_for(b, Right::Copy(operand))?;
+    Ok(net)
+}
+
+/// The net of an operand.
+#[tactic(auto, using(crate::proofs::Growth::later))]
+pub(crate) fn net_of(b: &mut Builder, width: u8, x: Signal) -> Result<Net, Memory>
+    requires width { IsWidth width }
+    requires x { HasWidth b.old x width }
+    ensures grows { Grows b.old b.new }
+    ensures word { IfOk result (λ n. IsWord b.new (signal.Net n) width (λ s. bits_of s x)) }
+{
+    match x {
+        Signal::Net(net) => Ok(net),
+        Signal::Constant(_, _) => {
+            let net = copied(b, width, x)?;
+            Ok(net)
+        }
+    }
+}
+
+// The `count` bits of a net from bit `low` on, which are not all.
+fn slice(b: &mut Builder, width: u8, x: Net, low: u8, count: u8) -> Result<Signal, Memory>
+    requires width { IsWidth width }
+    requires some { 1 ≤ count }
+    requires inside { low + count ≤ width }
+    requires proper { count < width }
+    requires x { HasWidth b.old (signal.Net x) width }
+    ensures grows { Grows b.old b.new }
+    ensures word { IfOk result (λ r. IsWord b.new r count (λ s. bits_of s (signal.Net x) / 2 ^ low % 2 ^ count)) }
+{
+    let first = low as u64;
+    let last = first + count as u64 - 1;
+    let net = net_for(b, Right::Slice(x, last, first))?;
+    Ok(Signal::Net(net))
+}
+
+/// The `count` bits from bit `low` on.
+#[tactic(auto, using(crate::proofs::Growth::later))]
+pub(crate) fn part(
+    b: &mut Builder,
+    width: u8,
+    x: Signal,
+    low: u8,
+    count: u8,
+) -> Result<Signal, Memory>
+    requires width { IsWidth width }
+    requires some { 1 ≤ count }
+    requires inside { low + count ≤ width }
+    requires x { HasWidth b.old x width }
+    ensures grows { Grows b.old b.new }
+    ensures word { IfOk result (λ r. IsWord b.new r count (λ s. bits_of s x / 2 ^ low % 2 ^ count)) }
+{
+    if count == width {
+        return Ok(x);
+    }
+    let whole = net_of(b, width, x)?;
+    let atom = slice(b, width, whole, low, count)?;
+    Ok(atom)
+}
+
+/// Zeros above `low` bits.
+pub(crate) fn with_zeros(b: &mut Builder, high: u8, low: u8, x: Signal) -> Result<Signal, Memory>
+    requires high { 1 ≤ high }
+    requires low { 1 ≤ low }
+    requires most { high + low ≤ 64 }
+    requires x { HasWidth b.old x low }
+    ensures grows { Grows b.old b.new }
+    ensures word { IfOk result (λ r. IsWord b.new r (high + low) (λ s. bits_of s x)) }
+{
+    let zeros = constant(high, 0);
+    let atom = join(b, high, zeros, low, x)?;
+    Ok(atom)
+}
+
+/// Copies of the highest bit above `low` bits.
+#[tactic(auto, using(crate::proofs::Growth::later))]
+pub(crate) fn with_signs(b: &mut Builder, high: u8, low: u8, x: Signal) -> Result<Signal, Memory>
+    requires high { 1 ≤ high }
+    requires low { 1 ≤ low }
+    requires most { high + low ≤ 64 }
+    requires x { HasWidth b.old x low }
+    ensures grows { Grows b.old b.new }
+    ensures word { IfOk result (λ r. IsWord b.new r (high + low) (λ s. repeated high 1 (bits_of s x / 2 ^ (low - 1) % 2 ^ 1) * 2 ^ low + bits_of s x)) }
+{
+    let sign = part(b, low, x, low - 1, 1)?;
+    let signs = repeat(b, high, sign)?;
+    let atom = join(b, high, signs, low, x)?;
+    Ok(atom)
+}
