@@ -1,4 +1,4 @@
-mod Unique
+pub mod Unique
 mod Parsing
 mod Parsed
 mod Modules

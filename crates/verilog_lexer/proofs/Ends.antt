@@ -1,0 +1,93 @@
+-- No lexeme is the end of the text.
+use Rattle.std.proofs.Common.{◌≡◌, ◌≢◌, ℕ, ◌^◌, List, [], ◌∷◌, take, drop, Option, Some, None, Ok, Err, nat_lt, nat_eq, ◌&&◌, refl, sym, subst, inl, inr, if◌then◌else◌}
+use Rattle.std.specs.List.{prefix_len}
+use Rattle.std.proofs.lemmas.Bool.{cases_Bool}
+use Rattle.net_names.specs.Words.{is_letter, is_digit, is_word_byte, same_codes, is_refused_word}
+use Rattle.wiring.specs.Sizes.{SizedNumber}
+use Rattle.verilog_text.specs.declared.token.Keyword.{Keyword}
+use Rattle.verilog_text.specs.declared.token.Symbol.{Symbol}
+use Rattle.verilog_text.specs.declared.token.TokenKind.{TokenKind}
+use Rattle.verilog_text.specs.declared.token.TokenKind.TheVariants as kind
+use Rattle.verilog_text.specs.Bytes.{is_in_number, is_in_constant, value_of, constant_of, two_byte_symbol, one_byte_symbol, keywords, keyword_or, refused_or_name}
+use Rattle.verilog_text.specs.Lexis.{Lexeme, lexeme, word_at, plain_of, sized_of, number_at, number_here, word_here, is_tick_first, one_byte_lexeme, two_byte_lexeme, symbol_at}
+use Rattle.std.proofs.Common.{codes}
+
+-- a fault is none
+abbrev IsNoEnd : Lexeme → Type 0
+IsNoEnd (Ok x) = x.0 ≢ kind.End
+IsNoEnd (Err e) = Unit {0}
+
+clock_is : (bytes : List ℕ) → (if same_codes bytes (codes "clk") then kind.Clock else kind.Name) ≢ kind.End
+clock_is bytes = elim (cases_Bool (same_codes bytes (codes "clk"))) as (λ _. (if same_codes bytes (codes "clk") then kind.Clock else kind.Name) ≢ kind.End) [
+  | inl t ↦ rw t (λ e. cc)
+  | inr f ↦ rw f (λ e. cc)
+]
+
+name_is : (bytes : List ℕ) → refused_or_name bytes ≢ kind.End
+name_is bytes = elim (cases_Bool (is_refused_word bytes)) as (λ _. refused_or_name bytes ≢ kind.End) [
+  | inl t ↦ rw t (λ e. cc)
+  | inr f ↦ rw f (clock_is bytes)
+]
+
+keyword_is : (bytes : List ℕ) (ws : List (List ℕ × Keyword)) (other : TokenKind) → other ≢ kind.End → keyword_or bytes ws other ≢ kind.End
+keyword_is bytes [] other h = h
+keyword_is bytes (w ∷ ws) other h = elim (cases_Bool (same_codes bytes w.0)) as (λ _. keyword_or bytes (w ∷ ws) other ≢ kind.End) [
+  | inl t ↦ rw t (λ e. cc)
+  | inr f ↦ rw f (keyword_is bytes ws other h)
+]
+
+word_is : (bytes : List ℕ) (n : ℕ) → IsNoEnd (word_at bytes n)
+word_is bytes n = elim (cases_Bool (nat_lt 64 n)) as (λ _. IsNoEnd (word_at bytes n)) [
+  | inl t ↦ rw t tt
+  | inr f ↦ rw f (keyword_is (take n bytes) keywords (refused_or_name (take n bytes)) (name_is (take n bytes)))
+]
+
+plain_is : (v n : ℕ) → IsNoEnd (plain_of v n)
+plain_is v n = elim (cases_Bool (nat_lt v (2 ^ 64))) as (λ _. IsNoEnd (plain_of v n)) [
+  | inl t ↦ rw t (λ e. cc)
+  | inr f ↦ rw f tt
+]
+
+sized_is : (o : Option SizedNumber) (n : ℕ) → IsNoEnd (sized_of o n)
+sized_is None n = tt
+sized_is (Some c) n = λ e. cc
+
+number_is : (bytes : List ℕ) (n m : ℕ) → IsNoEnd (number_at bytes n m)
+number_is bytes n m = elim (cases_Bool (is_tick_first (drop n bytes))) as (λ _. IsNoEnd (number_at bytes n m)) [
+  | inl t ↦ rw t (sized_is (constant_of (take m bytes)) m)
+  | inr f ↦ rw f (plain_is (value_of 10 (take n bytes)) n)
+]
+
+one_is : (o : Option Symbol) → IsNoEnd (one_byte_lexeme o)
+one_is None = tt
+one_is (Some s) = λ e. cc
+
+two_is : (o : Option Symbol) (a : ℕ) → IsNoEnd (two_byte_lexeme o a)
+two_is None a = one_is (one_byte_symbol a)
+two_is (Some s) a = λ e. cc
+
+symbol_is : (a : ℕ) (bs : List ℕ) → IsNoEnd (symbol_at a bs)
+symbol_is a [] = one_is (one_byte_symbol a)
+symbol_is a (b ∷ bs) = elim (cases_Bool (nat_eq a 47 && nat_eq b 42)) as (λ _. IsNoEnd (symbol_at a (b ∷ bs))) [
+  | inl t ↦ rw t tt
+  | inr f ↦ rw f (two_is (two_byte_symbol a b) a)
+]
+
+lexeme_is : (a : ℕ) (bs : List ℕ) → IsNoEnd (lexeme a bs)
+unfolding lexeme
+lexeme_is a bs = elim (cases_Bool (is_letter a)) as (λ _. IsNoEnd (lexeme a bs)) [
+  | inl t ↦
+      let e : lexeme a bs ≡ word_here (a ∷ bs) = rw t refl in
+      subst IsNoEnd (sym e) (word_is (a ∷ bs) (prefix_len is_word_byte (a ∷ bs)))
+  | inr f ↦ elim (cases_Bool (is_digit a)) as (λ _. IsNoEnd (lexeme a bs)) [
+    | inl t ↦
+        let e : lexeme a bs ≡ number_here (a ∷ bs) = rw (f, t) refl in
+        subst IsNoEnd (sym e) (number_is (a ∷ bs) (prefix_len is_in_number (a ∷ bs)) (prefix_len is_in_constant (a ∷ bs)))
+    | inr g ↦
+        let e : lexeme a bs ≡ symbol_at a bs = rw (f, g) refl in
+        subst IsNoEnd (sym e) (symbol_is a bs)
+  ]
+]
+
+pub no_end : (a n : ℕ) (bs : List ℕ) (k : TokenKind) → lexeme a bs ≡ Ok (k, n) → k ≢ kind.End
+no_end a n bs k e = subst IsNoEnd e (lexeme_is a bs)

@@ -1,0 +1,7 @@
+pub mod Numbers
+pub mod Runs
+pub mod Gaps
+pub mod Lefts
+pub mod Positive
+pub mod Ends
+pub mod Cuts

@@ -1,0 +1,10 @@
+use Rattle.std.proofs.Common.{◌≤◌, ◌^◌, arith}
+use Rattle.verilog_text.specs.Bytes.{value_of}
+use Rattle.verilog_lexer.proofs.Numbers.{value_at}
+use Rattle.verilog_lexer.proofs.number.value.Goals as goal
+
+pub returns-in_err-value : goal.returns-in_err-value
+returns-in_err-value c =
+    let big : 2 ^ 64 ≤ value_of c.args.base c.args.digits.now =
+    omega (arith, c.loop-digit.invariant, c.in_err-value.ensures, value_at c.args.base c.loop-digit.value c.args.digits.now c.loop-digit.digit-index c.requires.base c.loop-digit-test.true) in
+    rw c.from_residual.ensures big

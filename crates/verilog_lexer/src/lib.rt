@@ -1,0 +1,13 @@
+//! The tokens of a Verilog text, each cut as it is reached, or the first fault in the text.
+#![tactic(auto)]
+
+mod byte;
+mod lexeme;
+mod number;
+mod symbol;
+#[cfg(test)]
+mod tests;
+mod tokens;
+mod word;
+
+pub use tokens::Tokens;
