@@ -1,7 +1,7 @@
 -- Items that are written one after another.
 use Rattle.std.proofs.Common.{◌≡◌, ◌+◌, ℕ, zero, suc, arith, List, [], ◌∷◌, ◌++◌, drop, Some, sym, ap, ◌∙◌, subst, append_assoc, slice_get}
 use Rattle.std.proofs.lemmas.Option.{slice_get_within, same_Some}
-use Rattle.verilog_print.specs.Layout.{each_at}
+use Rattle.verilog_layout.specs.Layout.{each_at}
 
 drop_at : {X : Type 0} (xs : List X) (k : ℕ) (x : X) → slice_get xs k ≡ Some x → drop k xs ≡ x ∷ drop (suc k) xs
 drop_at [] k x e = absurd (omega (arith, slice_get_within [] k x e))

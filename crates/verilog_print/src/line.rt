@@ -2,7 +2,7 @@
 
 ghost use Rattle.std.specs.Prelude.{◌≡◌, ◌++◌, OnOk, codes};
 ghost use Rattle.wiring.specs.declared.netlist.Update.TheVariants as update;
-ghost use Rattle.verilog_print.specs.Layout.{net_line, array_line, assign_layout, update_layout, named_layout, each, each_at};
+ghost use Rattle.verilog_layout.specs.Layout.{net_line, array_line, assign_layout, update_layout, named_layout, each, each_at};
 
 use crate::name::{push_array, push_atom, push_name, push_net};
 use crate::number::{push_number, push_range};

@@ -2,7 +2,7 @@
 
 ghost use Rattle.std.specs.Prelude.{◌≡◌, ◌++◌, OnOk};
 ghost use Rattle.netlist.specs.Names.{din_names, output_names};
-ghost use Rattle.verilog_print.specs.Layout.{name_at, all_inputs, all_outputs, net_name as name_of_net, array_name as name_of_array, atom_layout};
+ghost use Rattle.verilog_layout.specs.Layout.{name_at, all_inputs, all_outputs, net_name as name_of_net, array_name as name_of_array, atom_layout};
 
 use crate::number::push_constant;
 use netlist::{Atom, Module, Name, Net};

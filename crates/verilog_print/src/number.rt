@@ -1,7 +1,7 @@
 // Numbers, constants and ranges of bits.
 
 ghost use Rattle.std.specs.Prelude.{◌≡◌, ◌++◌, ◌-◌, OnOk, decimal};
-ghost use Rattle.verilog_print.specs.Layout.{constant_layout, range_layout};
+ghost use Rattle.verilog_layout.specs.Layout.{constant_layout, range_layout};
 
 use itoa::Buffer;
 use netlist::{Constant, Width};

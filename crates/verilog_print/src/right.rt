@@ -2,7 +2,7 @@
 
 ghost use Rattle.std.specs.Prelude.{◌≡◌, ◌++◌, OnOk, codes};
 ghost use Rattle.wiring.specs.declared.right.Right.TheVariants as right;
-ghost use Rattle.verilog_print.specs.Layout.{operator_layout, right_layout};
+ghost use Rattle.verilog_layout.specs.Layout.{operator_layout, right_layout};
 
 use crate::name::{push_array, push_atom, push_net};
 use crate::number::push_number;

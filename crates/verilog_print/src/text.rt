@@ -1,7 +1,11 @@
 // The text of a module.
 
-ghost use Rattle.std.specs.Prelude.{◌≡◌, ◌++◌, OnOk, IfOk};
-ghost use Rattle.verilog_print.specs.Layout.{layout, head_layout, declarations_layout, block_head, whole_block, block_layout, input_layout, output_layout, each_at};
+ghost use Rattle.std.specs.Prelude.{◌≡◌, ◌≤◌, ◌++◌, OnOk, IfOk};
+ghost use Rattle.dk_base.specs.declared.TheConstants.{MAX_BUFFER_BITS};
+ghost use Rattle.wiring.specs.BufferBits.{array_bits};
+ghost use Rattle.netlist.specs.Names.{NamedNetlist};
+ghost use Rattle.verilog_text.specs.Stands.{StandsFor};
+ghost use Rattle.verilog_layout.specs.Layout.{layout, head_layout, declarations_layout, block_head, whole_block, block_layout, input_layout, output_layout, each_at};
 
 use crate::line::{push_arrays, push_assigns, push_named, push_nets, push_updates};
 use crate::name::{input_name, output_name};
@@ -69,7 +73,7 @@ fn push_declarations(out: &mut Vec<u8>, module: &Module) -> Result<(), AllocErro
     Ok(())
 }
 
-#[tactic(auto, unfolding(crate::specs::Layout::block_head))]
+#[tactic(auto, unfolding(verilog_layout::specs::Layout::block_head))]
 fn push_block_head(out: &mut Vec<u8>) -> Result<(), AllocError>
     ensures { OnOk result (out.new.items ≡ out.old.items ++ block_head) }
 {
@@ -114,16 +118,28 @@ fn room_for(module: &Module) -> usize {
         .saturating_add(statements.saturating_mul(STATEMENT_BYTES))
 }
 
-/// The Verilog text of a module. Every byte is fixed by the module. The only error is want of memory.
-pub fn print(alloc: Global, module: &Module) -> Result<Vec<u8>, AllocError>
-    ensures text { IfOk result (λ t. t.items ≡ layout «module».now) }
+fn push_text(text: &mut Vec<u8>, module: &Module) -> Result<(), AllocError>
+    ensures { OnOk result (text.new.items ≡ text.old.items ++ layout «module».now) }
 {
     let wiring = module.wiring();
-    let mut text = Vec::with_capacity(alloc, room_for(module))?;
-    push_head(&mut text, module)?;
-    push_declarations(&mut text, module)?;
-    push_assigns(&mut text, module, &wiring.assigns)?;
-    push_block(&mut text, module, &wiring.updates)?;
+    push_head(text, module)?;
+    push_declarations(text, module)?;
+    push_assigns(text, module, &wiring.assigns)?;
+    push_block(text, module, &wiring.updates)?;
     text.extend_from_slice(b"endmodule\n")?;
+    Ok(())
+}
+
+/// The Verilog text of a module, whose every byte is fixed by the module. It stands for this module, and for no other, where the arrays have no more than 67,108,864 bits, which is what a text may have. The only error is want of memory. The layout is that of docs/VERILOG.md, part 12, in the language of IEEE Std 1364-2005.
+pub fn print(alloc: Global, module: &Module) -> Result<Vec<u8>, AllocError>
+    ensures text { IfOk result (λ t. t.items ≡ layout «module».now) }
+    ensures stands { array_bits «module».now.netlist.arrays ≤ MAX_BUFFER_BITS → IfOk result (λ t. StandsFor t.items «module».now) }
+    ensures only { array_bits «module».now.netlist.arrays ≤ MAX_BUFFER_BITS → IfOk result (λ t. (other : NamedNetlist) → StandsFor t.items other → other ≡ «module».now) }
+{
+    let mut text = Vec::with_capacity(alloc, room_for(module))?;
+    push_text(&mut text, module)?;
+    let _rules = module.wiring();
+    let _names = module.names();
+    verilog_layout::layout_stands();
     Ok(text)
 }

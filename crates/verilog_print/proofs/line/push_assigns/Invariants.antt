@@ -1,5 +1,5 @@
 use Rattle.std.proofs.Common.{◌≡◌, ◌++◌, drop}
-use Rattle.verilog_print.specs.Layout.{each, assign_layout}
+use Rattle.verilog_layout.specs.Layout.{each, assign_layout}
 use Rattle.verilog_print.proofs.line.push_assigns.Given as goal
 
 abbrev pub invariant-loop-assign : goal.invariant-loop-assign

@@ -1,5 +1,5 @@
 use Rattle.std.proofs.Common.{◌≡◌, ◌++◌, drop}
-use Rattle.verilog_print.specs.Layout.{each_at, net_line}
+use Rattle.verilog_layout.specs.Layout.{each_at, net_line}
 use Rattle.verilog_print.proofs.line.push_nets.Given as goal
 
 abbrev pub invariant-loop-k : goal.invariant-loop-k

@@ -1,5 +1,5 @@
 use Rattle.std.proofs.Common.{◌≡◌, ◌++◌, drop}
-use Rattle.verilog_print.specs.Layout.{each, update_layout}
+use Rattle.verilog_layout.specs.Layout.{each, update_layout}
 use Rattle.verilog_print.proofs.line.push_updates.Given as goal
 
 abbrev pub invariant-loop-update : goal.invariant-loop-update

@@ -1,6 +1,6 @@
-use Rattle.std.proofs.Common.{refl, length, ◌++◌}
+use Rattle.std.proofs.Common.{refl, length}
 use Rattle.std.proofs.lemmas.Option.{slice_get_read}
-use Rattle.verilog_print.specs.Layout.{input_layout}
+use Rattle.verilog_layout.specs.Layout.{input_layout}
 use Rattle.verilog_print.proofs.Lines.{each_at_step}
 use Rattle.verilog_print.proofs.text.push_inputs.Goals as goal
 

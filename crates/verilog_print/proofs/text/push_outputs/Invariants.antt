@@ -1,5 +1,5 @@
 use Rattle.std.proofs.Common.{◌≡◌, ◌++◌, drop}
-use Rattle.verilog_print.specs.Layout.{each_at, output_layout}
+use Rattle.verilog_layout.specs.Layout.{each_at, output_layout}
 use Rattle.verilog_print.proofs.text.push_outputs.Given as goal
 
 abbrev pub invariant-loop-k : goal.invariant-loop-k

@@ -1,5 +1,5 @@
 -- The layout of a printed text.
-use Rattle.std.specs.Prelude.{ℕ, zero, suc, ◌-◌, Bool, if◌then◌else◌, nat_eq, List, [], ◌∷◌, ◌++◌, slice_get, unwrap_or, codes, decimal}
+use Rattle.std.specs.Prelude.{ℕ, suc, ◌-◌, Bool, if◌then◌else◌, nat_eq, List, [], ◌∷◌, ◌++◌, slice_get, unwrap_or, codes, decimal}
 use Rattle.wiring.specs.Sizes.{SizedNumber}
 use Rattle.wiring.specs.declared.right.Atom.{Atom}
 use Rattle.wiring.specs.declared.right.Atom.TheVariants as atom

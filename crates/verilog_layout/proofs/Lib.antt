@@ -1,0 +1,17 @@
+mod Spelling
+mod Pieces
+mod Named
+mod Words
+mod Clear
+mod Text
+mod Derived
+mod Modules
+mod Within
+mod Written
+mod Entries
+mod Distinct
+mod Resolved
+mod Made
+mod Held
+mod Decimals
+mod Standing
