@@ -1,10 +1,12 @@
 -- Operands that carry the values of operators.
-use Rattle.std.proofs.Common.{ℕ, ◌≡◌, ◌+◌, ◌-◌, ◌%◌, ◌^◌, ℤ, pos, ◌-ℤ◌, ap, refl, subst, sym, ◌∙◌}
+use Rattle.std.proofs.Common.{ℕ, ◌≡◌, ◌+◌, ◌-◌, ◌%◌, ◌^◌, ◌<◌, ◌≤◌, ℤ, pos, ◌-ℤ◌, ap, refl, subst, sym, ◌∙◌, arith}
 use Rattle.dk_base.specs.declared.ty.Ty.{Ty}
 use Rattle.dk_base.specs.Types.{IsType, IsIn, width_of}
-use Rattle.dk_base.specs.Numbers.{code, number}
-use Rattle.dk_base.specs.declared.ty.Ty.TheVariants.{Signed}
-use Rattle.dk_base.proofs.Codes.{number_is, number_in, code_pos, code_subtract}
+use Rattle.dk_base.specs.Numbers.{code, number, wrap}
+use Rattle.dk_base.specs.declared.ty.Ty.TheVariants.{Unsigned, Signed}
+use Rattle.dk_base.proofs.Codes.{number_low, number_is, number_in, code_pos, code_subtract}
+use Rattle.dk_base.proofs.Congruence.{code_below}
+use Rattle.std.proofs.Math.Pow.{pow_mono}
 use Rattle.dk_base.proofs.Ranges.{negation_in}
 use Rattle.std.proofs.lemmas.Nat.{pow_pos}
 use Rattle.datapath.specs.Nets.{IsValuation, IsPartOf, Grows, HasWidth, IsWord, InEachFit, bits_of}
@@ -88,3 +90,13 @@ literal_carries b v t w n {x} e k is width ok inside =
       operand = record { ty = ok; width = subst W e width };
       value = λ m s more holds. number_is t v (bits_of s x) ok inside (ap (bits_of s) is ∙ k ∙ ap (λ i. code i v) e);
     }
+
+-- the bits of a number, by the unsigned type of the same width
+pub wrapped_code : (t : Ty) (w : ℕ) (v : ℤ) → w ≡ width_of t → wrap (Unsigned w) v ≡ pos (code (width_of t) v)
+wrapped_code t w v e = number_low (Unsigned w) (code w v) (code_below w v) ∙ ap (λ i. pos (code i v)) e
+
+pub code_small : (t : Ty) (v : ℤ) → IsType t → code (width_of t) v < 2 ^ 64
+code_small t v ok =
+    let b = code_below (width_of t) v in
+    let p : 2 ^ width_of t ≤ 2 ^ 64 = pow_mono ok.most in
+    omega (arith, b, p)

@@ -1,10 +1,8 @@
 -- A netlist that grows keeps what it had.
-use Rattle.std.proofs.Common.{ℕ, ◌≡◌, ◌⊎◌, ◌<◌, ◌^◌, Bool, [], refl, subst, sym, ◌∙◌, inl, Result, Ok, Err, OnOk, OnErr}
-use Rattle.std.specs.Prelude.{All}
-use Rattle.std.proofs.lemmas.List.Elements.{All-nil, All-head}
+use Rattle.std.proofs.Common.{ℕ, ◌≡◌, ◌⊎◌, ◌<◌, ◌^◌, [], refl, subst, sym, ◌∙◌, inl, Result, Ok, Err, OnOk, OnErr}
+use Rattle.std.specs.Prelude.{All, Contains}
+use Rattle.std.proofs.lemmas.List.Elements.{All-nil, All-head, All-contains, Contains-append_left}
 use Rattle.wiring.specs.declared.right.Right.{Right}
-use Rattle.wiring.specs.declared.netlist.Holder.{Holder}
-use Rattle.wiring.specs.declared.netlist.Holder.TheVariants.{OfNet}
 use Rattle.wiring.specs.Rights.{right_value}
 use Rattle.wiring.specs.BufferBits.{right_reads}
 use Rattle.datapath.specs.declared.operand.Signal.{Signal}
@@ -15,7 +13,8 @@ use Rattle.wiring.specs.Snapshot.{Snapshot, net_value, word_value, right_accesse
 use Rattle.wiring.specs.Sizes.{IsWidth, IsConstant, SizedNumber}
 use Rattle.net_build.specs.Includes.{Includes, InEach}
 use Rattle.net_build.specs.Runs.{NeverStops, StaysInside}
-use Rattle.net_build.specs.Control.{IsMadeOf, IsControlled}
+use Rattle.net_build.specs.Control.{IsMadeOf, by_assign, IsControlled}
+use Rattle.wiring.specs.declared.netlist.Assign.{Assign}
 use Rattle.net_build.specs.Draft.{IsNet, ValuesFit, AddsWires, with_wire, width_of}
 use Rattle.net_build.proofs.Operands.{operand_more as atom_more, constant_operand, net_operand}
 use Rattle.net_build.proofs.Parts.{Includes-trans, Includes-refl}
@@ -105,8 +104,14 @@ grown old new r answer none includes ok err wires stops control = record {
 
 -- the net of that call
 pub net_is : (old new : Netlist) (r : Right Net ℕ) (n : Net) → ValuesFit new → IsNet new n → net_width new n ≡ width_of old r → InEach new (λ m s. net_value s n ≡ right_value (net_width m) (word_value s) (net_value s) r) →
-    ((base : Holder → Bool) → All (IsMadeOf new base) (right_reads r) → IsMadeOf new base (OfNet n)) → IsNetOf old new r n
-net_is old new r n fit net width value made = record { width = net_has new n (width_of old r) fit net width; value = value; made_of = made }
+    Contains new.assigns (record { target = n; right = r }) → IsNetOf old new r n
+net_is old new r n fit net width value at = record {
+  width = net_has new n (width_of old r) fit net width;
+  value = value;
+  made_of = λ m base more all.
+      let there = subst (λ l. Contains l (let a : Assign = record { target = n; right = r } in a)) (sym more.assigns.1) (Contains-append_left new.assigns more.assigns.0 _ at) in
+      by_assign (record { target = n; right = r }) there refl (λ g c. All-contains (IsMadeOf m base) (right_reads r) g all c);
+}
 
 -- one growth after another
 pub then_grows : {a b c : Netlist} → Grows a b → Grows b c → Grows a c

@@ -10,3 +10,8 @@ pub mod Shifted
 pub mod Named
 pub mod Bitwise
 pub mod Gates
+pub mod Over
+pub mod Parted
+pub mod Walked
+pub mod Formed
+pub mod Leaved

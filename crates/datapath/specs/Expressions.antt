@@ -10,14 +10,18 @@ use Rattle.dk_base.specs.Types.{IsType, IsIn, width_of, common_type, negation_ty
 use Rattle.dk_base.specs.Numbers.{number}
 use Rattle.dk_base.specs.Operators.{unary_value, are_operands, binary_result, binary_value, scaling_value, conversion_value, select_value}
 use Rattle.wiring.specs.declared.netlist.Net.{Net}
+use Rattle.wiring.specs.declared.netlist.Holder.{Holder}
+use Rattle.wiring.specs.declared.netlist.Holder.TheVariants.{OfNet}
 use Rattle.wiring.specs.Netlist.{Netlist, net_width}
 use Rattle.wiring.specs.Snapshot.{Snapshot, net_value}
 use Rattle.net_build.specs.Draft.{IsNet}
+use Rattle.net_build.specs.Control.{IsMadeOf}
 use Rattle.pointwise_ir.specs.declared.expr.Edge.{Edge}
 use Rattle.pointwise_ir.specs.declared.expr.Edge.TheVariants.{Zero, Clamp}
 use Rattle.pointwise_ir.specs.Trees.{Tree, constant, read, shifted, unary, binary, select, convert, scale}
+use Rattle.datapath.specs.declared.operand.Signal.{Signal}
 use Rattle.datapath.specs.declared.operand.Signal.TheVariants as signal
-use Rattle.datapath.specs.Nets.{HasWidth}
+use Rattle.datapath.specs.Nets.{HasWidth, IsPartOf, IsMade}
 use Rattle.datapath.specs.Operands.{IsOperand, Carries}
 
 -- the types of what the operators give, of any width
@@ -91,6 +95,17 @@ IsTyped (select c a b) types n =
 IsTyped (convert how a t) types n = IsTyped a types n × IsType t
 IsTyped (scale op a k) types n = IsTyped a types n × TakesNumber op k × IsType (scaling_result op (type_of a types n) k)
 
+-- the reads, from the n-th on, stand for images of these types
+abbrev pub AreReadsOf : List Ty → Tree → (ℕ → Ty) → ℕ → Type 0
+AreReadsOf images (constant v t) types n = Unit {0}
+AreReadsOf images (read edge g dx dy) types n = slice_get images g ≡ Some (types n)
+AreReadsOf images (shifted edge dx dy a) types n = AreReadsOf images a types n
+AreReadsOf images (unary op a) types n = AreReadsOf images a types n
+AreReadsOf images (binary op a b) types n = AreReadsOf images a types n × AreReadsOf images b types (n + reads_in a)
+AreReadsOf images (select c a b) types n = AreReadsOf images c types n × AreReadsOf images a types (n + reads_in c) × AreReadsOf images b types (n + reads_in c + reads_in a)
+AreReadsOf images (convert how a t) types n = AreReadsOf images a types n
+AreReadsOf images (scale op a k) types n = AreReadsOf images a types n
+
 -- a shifted part with its bit
 abbrev pub edged : Edge → Bool → ℤ → ℤ
 edged Zero inside v = if inside then v else pos 0
@@ -100,7 +115,7 @@ edged Clamp inside v = v
 abbrev pub leaf_value : Tree → (ℕ → ℤ) → (ℕ → Bool) → (n k : ℕ) → ℤ
 leaf_value (constant v t) reads bits n k = v
 leaf_value (read edge g dx dy) reads bits n k = reads n
-leaf_value (shifted edge dx dy a) reads bits n k = edged edge (bits k) (leaf_value a reads bits n (edge_bits edge + k))
+leaf_value (shifted edge dx dy a) reads bits n k = edged edge (bits k) (leaf_value a reads bits n (k + edge_bits edge))
 leaf_value (unary op a) reads bits n k = unary_value op (leaf_value a reads bits n k)
 leaf_value (binary op a b) reads bits n k = binary_value op (leaf_value a reads bits n k) (leaf_value b reads bits (n + reads_in a) (k + bits_in a))
 leaf_value (select c a b) reads bits n k =
@@ -148,6 +163,15 @@ pub record HasLeaves (e : Tree) (reads : List (Ty × Net)) (bits : List Net) : T
   pub typed : IsTyped e (types_in reads) 0
   pub reads_are : length reads ≡ reads_in e
   pub bits_are : length bits ≡ bits_in e
+
+-- the leaves' nets are made of the base
+pub record AreLeavesMade (m : Netlist) (base : Holder → Bool) (reads : List (Ty × Net)) (bits : List Net) : Type 0 where
+  pub read : (k : ℕ) (leaf : Ty × Net) → slice_get reads k ≡ Some leaf → IsMadeOf m base (OfNet leaf.1)
+  pub bit : (k : ℕ) (n : Net) → slice_get bits k ≡ Some n → IsMadeOf m base (OfNet n)
+
+-- made of the leaves' nets alone: in every netlist that includes this one it is made of whatever they are made of
+pub record IsMadeOfLeaves (part : Netlist) (r : Signal) (reads : List (Ty × Net)) (bits : List Net) : Type 0 where
+  pub made : (m : Netlist) (base : Holder → Bool) → IsPartOf part m → AreLeavesMade m base reads bits → IsMade m base r
 
 -- In each valuation the net's bits, read in the expression's type, are the expression's value over what the leaves' nets say.
 abbrev pub IsLowered : Netlist → Tree → List (Ty × Net) → List Net → Net → Type 0

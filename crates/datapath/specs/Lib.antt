@@ -1,3 +1,4 @@
 pub mod Nets
 pub mod Operands
 pub mod Expressions
+pub mod Walks

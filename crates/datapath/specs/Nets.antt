@@ -1,5 +1,5 @@
 -- What the nets of a netlist in the making are worth.
-use Rattle.std.specs.Prelude.{◌≡◌, ℕ, ◌^◌, ◌<◌, Bool, All, if◌then◌else◌}
+use Rattle.std.specs.Prelude.{◌≡◌, ℕ, ◌^◌, ◌<◌, Bool, List, [], ◌∷◌, All, if◌then◌else◌}
 use Rattle.wiring.specs.declared.right.Atom.{Atom}
 use Rattle.wiring.specs.declared.right.Atom.TheVariants as atom
 use Rattle.wiring.specs.declared.right.Right.{Right}
@@ -69,8 +69,21 @@ pub record Grows (old new : Netlist) : Type 0 where
   pub stops : NeverStops old → NeverStops new
   pub control : IsControlled old → IsControlled new
 
+-- Made of the base: a net through assigns, and a constant of nothing.
+abbrev pub IsMade : Netlist → (Holder → Bool) → Signal → Type 0
+IsMade m base (signal.Net n) = IsMadeOf m base (OfNet n)
+IsMade m base (signal.Constant w v) = Unit {0}
+
+abbrev pub AreMade : Netlist → (Holder → Bool) → List Signal → Type 0
+AreMade m base [] = Unit {0}
+AreMade m base (x ∷ xs) = IsMade m base x × AreMade m base xs
+
+-- made of these alone: in every netlist that includes this one it is made of whatever they are made of
+pub record IsMadeOver (part : Netlist) (r : Signal) (xs : List Signal) : Type 0 where
+  pub made : (m : Netlist) (base : Holder → Bool) → IsPartOf part m → AreMade m base xs → IsMade m base r
+
 -- a net of the new netlist that has the value of a right side over the old one, and is made of what it reads
 pub record IsNetOf (old new : Netlist) (r : Right Net ℕ) (n : Net) : Type 0 where
   pub width : HasWidth new (signal.Net n) (width_of old r)
   pub value : InEach new (λ m s. net_value s n ≡ right_value (net_width m) (word_value s) (net_value s) r)
-  pub made_of : (base : Holder → Bool) → All (IsMadeOf new base) (right_reads r) → IsMadeOf new base (OfNet n)
+  pub made_of : (m : Netlist) (base : Holder → Bool) → Includes m new → All (IsMadeOf m base) (right_reads r) → IsMadeOf m base (OfNet n)

@@ -1,11 +1,11 @@
 // The net of an operator.
 
-ghost use Rattle.std.specs.Prelude.{◌≡◌, IsTrue, Bool, pos, nat_eq, if◌then◌else◌, IfOk};
+ghost use Rattle.std.specs.Prelude.{◌≡◌, IsTrue, Bool, pos, nat_eq, if◌then◌else◌, IfOk, ◌∷◌, []};
 ghost use Rattle.wiring.specs.Snapshot.{net_value};
 ghost use Rattle.dk_base.specs.Types.{IsType, common_type};
 ghost use Rattle.dk_base.specs.Operators.{unary_value, are_operands, binary_result, binary_value, scaling_value, conversion_value};
 ghost use Rattle.datapath.specs.declared.operand.Signal.TheVariants as signal;
-ghost use Rattle.datapath.specs.Nets.{Grows, HasWidth};
+ghost use Rattle.datapath.specs.Nets.{Grows, HasWidth, IsMadeOver};
 ghost use Rattle.datapath.specs.Operands.{IsOperand, Carries, worth};
 ghost use Rattle.datapath.specs.Expressions.{unary_result, scaling_result, TakesOperand, TakesNumber};
 
@@ -32,6 +32,7 @@ pub fn binary(b: &mut Builder, operator: Binary, x: Operand, y: Operand) -> Resu
     requires ty { IsType (binary_result operator x.ty y.ty) }
     ensures grows { Grows b.old b.new }
     ensures value { IfOk result (λ r. Carries b.new r (binary_result operator x.ty y.ty) (λ s. binary_value operator (worth s x) (worth s y))) }
+    ensures made { IfOk result (λ r. IsMadeOver b.new r.bits (x.bits ∷ (y.bits ∷ []))) }
 {
     match operator {
         Binary::Add => sum(b, x, y),
@@ -58,6 +59,7 @@ pub fn unary(b: &mut Builder, operator: Unary, x: Operand) -> Result<Operand, Me
     requires ty { IsType (unary_result operator x.ty) }
     ensures grows { Grows b.old b.new }
     ensures value { IfOk result (λ r. Carries b.new r (unary_result operator x.ty) (λ s. unary_value operator (worth s x))) }
+    ensures made { IfOk result (λ r. IsMadeOver b.new r.bits (x.bits ∷ [])) }
 {
     match operator {
         Unary::Negate => negation(b, x),
@@ -73,6 +75,7 @@ pub fn scaled(b: &mut Builder, operator: Scaling, x: Operand, by: u64) -> Result
     requires ty { IsType (scaling_result operator x.ty by) }
     ensures grows { Grows b.old b.new }
     ensures value { IfOk result (λ r. Carries b.new r (scaling_result operator x.ty by) (λ s. scaling_value operator (worth s x) by)) }
+    ensures made { IfOk result (λ r. IsMadeOver b.new r.bits (x.bits ∷ [])) }
 {
     match operator {
         Scaling::Divide => quotient(b, x, by),
@@ -87,6 +90,7 @@ pub fn converted(b: &mut Builder, how: Conversion, x: Operand, ty: Ty) -> Result
     requires ty { IsType ty }
     ensures grows { Grows b.old b.new }
     ensures value { IfOk result (λ r. Carries b.new r ty (λ s. conversion_value how ty (worth s x))) }
+    ensures made { IfOk result (λ r. IsMadeOver b.new r.bits (x.bits ∷ [])) }
 {
     match how {
         Conversion::Cast => cast(b, x, ty),
@@ -101,6 +105,7 @@ pub fn gated(b: &mut Builder, bit: Net, x: Operand) -> Result<Operand, Memory>
     requires x { IsOperand b.old x }
     ensures grows { Grows b.old b.new }
     ensures value { IfOk result (λ r. Carries b.new r x.ty (λ s. if nat_eq (net_value s bit) 1 then worth s x else pos 0)) }
+    ensures made { IfOk result (λ r. IsMadeOver b.new r.bits ((signal.Net bit) ∷ (x.bits ∷ []))) }
 {
     let width = x.ty.width();
     let nothing = constant(width, 0);

@@ -1,8 +1,8 @@
 // Sums, differences and products.
 
-ghost use Rattle.std.specs.Prelude.{◌≡◌, pos, ◌+ℤ◌, ◌-ℤ◌, ◌*ℤ◌, IfOk};
+ghost use Rattle.std.specs.Prelude.{◌≡◌, pos, ◌+ℤ◌, ◌-ℤ◌, ◌*ℤ◌, IfOk, ◌∷◌, []};
 ghost use Rattle.dk_base.specs.Types.{IsType, sum_type, difference_type, product_type, negation_type};
-ghost use Rattle.datapath.specs.Nets.{Grows};
+ghost use Rattle.datapath.specs.Nets.{Grows, IsMadeOver};
 ghost use Rattle.datapath.specs.Operands.{IsOperand, Carries, worth};
 
 use crate::operand::Operand;
@@ -19,6 +19,7 @@ pub fn sum(b: &mut Builder, x: Operand, y: Operand) -> Result<Operand, Memory>
     requires ty { IsType (sum_type x.ty y.ty) }
     ensures grows { Grows b.old b.new }
     ensures value { IfOk result (λ r. Carries b.new r (sum_type x.ty y.ty) (λ nets. worth nets x +ℤ worth nets y)) }
+    ensures made { IfOk result (λ r. IsMadeOver b.new r.bits (x.bits ∷ (y.bits ∷ []))) }
 {
     let ty = x.ty.sum(y.ty);
     let wider = ty.width();
@@ -36,6 +37,7 @@ pub fn difference(b: &mut Builder, x: Operand, y: Operand) -> Result<Operand, Me
     requires ty { IsType (difference_type x.ty y.ty) }
     ensures grows { Grows b.old b.new }
     ensures value { IfOk result (λ r. Carries b.new r (difference_type x.ty y.ty) (λ nets. worth nets x -ℤ worth nets y)) }
+    ensures made { IfOk result (λ r. IsMadeOver b.new r.bits (x.bits ∷ (y.bits ∷ []))) }
 {
     let ty = x.ty.difference(y.ty);
     let width = ty.width();
@@ -53,6 +55,7 @@ pub fn product(b: &mut Builder, x: Operand, y: Operand) -> Result<Operand, Memor
     requires ty { IsType (product_type x.ty y.ty) }
     ensures grows { Grows b.old b.new }
     ensures value { IfOk result (λ r. Carries b.new r (product_type x.ty y.ty) (λ nets. worth nets x *ℤ worth nets y)) }
+    ensures made { IfOk result (λ r. IsMadeOver b.new r.bits (x.bits ∷ (y.bits ∷ []))) }
 {
     let ty = x.ty.product(y.ty);
     let width = ty.width();
@@ -69,6 +72,7 @@ pub fn negation(b: &mut Builder, x: Operand) -> Result<Operand, Memory>
     requires ty { IsType (negation_type x.ty) }
     ensures grows { Grows b.old b.new }
     ensures value { IfOk result (λ r. Carries b.new r (negation_type x.ty) (λ nets. pos 0 -ℤ worth nets x)) }
+    ensures made { IfOk result (λ r. IsMadeOver b.new r.bits (x.bits ∷ [])) }
 {
     let width = x.ty.width() + 1;
     let right = resized(b, x, width)?;

@@ -1,8 +1,8 @@
 // Operators on bits.
 
-ghost use Rattle.std.specs.Prelude.{◌≡◌, IsTrue, not, ◌||◌, pos, ◌-ℤ◌, bit_and, bit_or, bit_xor, unsigned_abs, IfOk};
+ghost use Rattle.std.specs.Prelude.{◌≡◌, IsTrue, not, ◌||◌, pos, ◌-ℤ◌, bit_and, bit_or, bit_xor, unsigned_abs, IfOk, ◌∷◌, []};
 ghost use Rattle.dk_base.specs.Types.{is_signed, common_type};
-ghost use Rattle.datapath.specs.Nets.{Grows};
+ghost use Rattle.datapath.specs.Nets.{Grows, IsMadeOver};
 ghost use Rattle.datapath.specs.Operands.{IsOperand, Carries, worth};
 
 use crate::operand::Operand;
@@ -20,6 +20,7 @@ pub fn conjunction(b: &mut Builder, x: Operand, y: Operand) -> Result<Operand, M
     requires unsigned { IsTrue (not (is_signed x.ty || is_signed y.ty)) }
     ensures grows { Grows b.old b.new }
     ensures value { IfOk result (λ r. Carries b.new r (common_type x.ty y.ty) (λ s. pos (bit_and (unsigned_abs (worth s x)) (unsigned_abs (worth s y))))) }
+    ensures made { IfOk result (λ r. IsMadeOver b.new r.bits (x.bits ∷ (y.bits ∷ []))) }
 {
     let width = max(x.ty.width(), y.ty.width());
     let left = resized(b, x, width)?;
@@ -39,6 +40,7 @@ pub fn disjunction(b: &mut Builder, x: Operand, y: Operand) -> Result<Operand, M
     requires unsigned { IsTrue (not (is_signed x.ty || is_signed y.ty)) }
     ensures grows { Grows b.old b.new }
     ensures value { IfOk result (λ r. Carries b.new r (common_type x.ty y.ty) (λ s. pos (bit_or (unsigned_abs (worth s x)) (unsigned_abs (worth s y))))) }
+    ensures made { IfOk result (λ r. IsMadeOver b.new r.bits (x.bits ∷ (y.bits ∷ []))) }
 {
     let width = max(x.ty.width(), y.ty.width());
     let left = resized(b, x, width)?;
@@ -58,6 +60,7 @@ pub fn parity(b: &mut Builder, x: Operand, y: Operand) -> Result<Operand, Memory
     requires unsigned { IsTrue (not (is_signed x.ty || is_signed y.ty)) }
     ensures grows { Grows b.old b.new }
     ensures value { IfOk result (λ r. Carries b.new r (common_type x.ty y.ty) (λ s. pos (bit_xor (unsigned_abs (worth s x)) (unsigned_abs (worth s y))))) }
+    ensures made { IfOk result (λ r. IsMadeOver b.new r.bits (x.bits ∷ (y.bits ∷ []))) }
 {
     let width = max(x.ty.width(), y.ty.width());
     let left = resized(b, x, width)?;
@@ -76,6 +79,7 @@ pub fn negated(b: &mut Builder, x: Operand) -> Result<Operand, Memory>
     requires bit { x.ty ≡ Ty.Unsigned 1 }
     ensures grows { Grows b.old b.new }
     ensures value { IfOk result (λ r. Carries b.new r (Ty.Unsigned 1) (λ s. pos 1 -ℤ worth s x)) }
+    ensures made { IfOk result (λ r. IsMadeOver b.new r.bits (x.bits ∷ [])) }
 {
     let bits = complement(b, 1, x.bits)?;
     Ok(Operand {

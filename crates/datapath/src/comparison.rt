@@ -1,9 +1,9 @@
 // Comparisons, choices and conversions.
 
-ghost use Rattle.std.specs.Prelude.{◌≡◌, not, pos, ◌+ℤ◌, ◌-ℤ◌, ◌*ℤ◌, int_lt, unsigned_abs, IfOk};
+ghost use Rattle.std.specs.Prelude.{◌≡◌, not, pos, ◌+ℤ◌, ◌-ℤ◌, ◌*ℤ◌, int_lt, unsigned_abs, IfOk, ◌∷◌, []};
 ghost use Rattle.dk_base.specs.Types.{IsType, IsWithin, common_type, width_of, below};
 ghost use Rattle.dk_base.specs.Numbers.{wrap};
-ghost use Rattle.datapath.specs.Nets.{Grows, IsWord};
+ghost use Rattle.datapath.specs.Nets.{Grows, IsWord, IsMadeOver};
 ghost use Rattle.datapath.specs.Operands.{IsOperand, Carries, worth};
 ghost use Rattle.dk_base.specs.Operators.{truth, select_value as chosen};
 ghost use Rattle.std.specs.Int.{int_min, int_max};
@@ -24,6 +24,7 @@ pub fn offset(b: &mut Builder, x: Operand, ty: Ty) -> Result<Signal, Memory>
     requires within { IsWithin x.ty ty }
     ensures grows { Grows b.old b.new }
     ensures word { IfOk result (λ r. IsWord b.new r (width_of ty) (λ nets. unsigned_abs (worth nets x +ℤ pos (below ty)))) }
+    ensures made { IfOk result (λ r. IsMadeOver b.new r (x.bits ∷ [])) }
 {
     match ty {
         Ty::Unsigned(width) => {
@@ -47,6 +48,7 @@ pub fn is_less(b: &mut Builder, x: Operand, y: Operand) -> Result<Operand, Memor
     requires ty { IsType (common_type x.ty y.ty) }
     ensures grows { Grows b.old b.new }
     ensures value { IfOk result (λ r. Carries b.new r (Ty.Unsigned 1) (λ nets. truth (int_lt (worth nets x) (worth nets y)))) }
+    ensures made { IfOk result (λ r. IsMadeOver b.new r.bits (x.bits ∷ (y.bits ∷ []))) }
 {
     let ty = x.ty.common(y.ty);
     let left = offset(b, x, ty)?;
@@ -66,6 +68,7 @@ pub fn is_equal(b: &mut Builder, x: Operand, y: Operand) -> Result<Operand, Memo
     requires ty { IsType (common_type x.ty y.ty) }
     ensures grows { Grows b.old b.new }
     ensures value { IfOk result (λ r. Carries b.new r (Ty.Unsigned 1) (λ nets. truth (int_eq (worth nets x) (worth nets y)))) }
+    ensures made { IfOk result (λ r. IsMadeOver b.new r.bits (x.bits ∷ (y.bits ∷ []))) }
 {
     let ty = x.ty.common(y.ty);
     let width = ty.width();
@@ -93,6 +96,7 @@ pub fn choice(
     requires ty { IsType (common_type x.ty y.ty) }
     ensures grows { Grows b.old b.new }
     ensures value { IfOk result (λ r. Carries b.new r (common_type x.ty y.ty) (λ nets. chosen (worth nets condition) (worth nets x) (worth nets y))) }
+    ensures made { IfOk result (λ r. IsMadeOver b.new r.bits (condition.bits ∷ (x.bits ∷ (y.bits ∷ [])))) }
 {
     let ty = x.ty.common(y.ty);
     let width = ty.width();
@@ -109,6 +113,7 @@ pub fn cast(b: &mut Builder, x: Operand, ty: Ty) -> Result<Operand, Memory>
     requires ty { IsType ty }
     ensures grows { Grows b.old b.new }
     ensures value { IfOk result (λ r. Carries b.new r ty (λ nets. wrap ty (worth nets x))) }
+    ensures made { IfOk result (λ r. IsMadeOver b.new r.bits (x.bits ∷ [])) }
 {
     let width = ty.width();
     let atom = resized(b, x, width)?;
@@ -123,6 +128,7 @@ pub fn minimum(b: &mut Builder, x: Operand, y: Operand) -> Result<Operand, Memor
     requires ty { IsType (common_type x.ty y.ty) }
     ensures grows { Grows b.old b.new }
     ensures value { IfOk result (λ r. Carries b.new r (common_type x.ty y.ty) (λ nets. int_min (worth nets x) (worth nets y))) }
+    ensures made { IfOk result (λ r. IsMadeOver b.new r.bits (x.bits ∷ (y.bits ∷ []))) }
 {
     let above = is_less(b, y, x)?;
     let lesser = choice(b, above, y, x)?;
@@ -137,6 +143,7 @@ pub fn maximum(b: &mut Builder, x: Operand, y: Operand) -> Result<Operand, Memor
     requires ty { IsType (common_type x.ty y.ty) }
     ensures grows { Grows b.old b.new }
     ensures value { IfOk result (λ r. Carries b.new r (common_type x.ty y.ty) (λ nets. int_max (worth nets x) (worth nets y))) }
+    ensures made { IfOk result (λ r. IsMadeOver b.new r.bits (x.bits ∷ (y.bits ∷ []))) }
 {
     let below = is_less(b, y, x)?;
     let greater = choice(b, below, x, y)?;
@@ -151,6 +158,7 @@ pub fn is_at_most(b: &mut Builder, x: Operand, y: Operand) -> Result<Operand, Me
     requires ty { IsType (common_type x.ty y.ty) }
     ensures grows { Grows b.old b.new }
     ensures value { IfOk result (λ r. Carries b.new r (Ty.Unsigned 1) (λ s. truth (not (int_lt (worth s y) (worth s x))))) }
+    ensures made { IfOk result (λ r. IsMadeOver b.new r.bits (x.bits ∷ (y.bits ∷ []))) }
 {
     let opposite = is_less(b, y, x)?;
     let negation = negated(b, opposite)?;
@@ -165,6 +173,7 @@ pub fn is_at_least(b: &mut Builder, x: Operand, y: Operand) -> Result<Operand, M
     requires ty { IsType (common_type x.ty y.ty) }
     ensures grows { Grows b.old b.new }
     ensures value { IfOk result (λ r. Carries b.new r (Ty.Unsigned 1) (λ s. truth (not (int_lt (worth s x) (worth s y))))) }
+    ensures made { IfOk result (λ r. IsMadeOver b.new r.bits (x.bits ∷ (y.bits ∷ []))) }
 {
     let opposite = is_less(b, x, y)?;
     let negation = negated(b, opposite)?;
@@ -179,6 +188,7 @@ pub fn is_unequal(b: &mut Builder, x: Operand, y: Operand) -> Result<Operand, Me
     requires ty { IsType (common_type x.ty y.ty) }
     ensures grows { Grows b.old b.new }
     ensures value { IfOk result (λ r. Carries b.new r (Ty.Unsigned 1) (λ s. truth (not (int_eq (worth s x) (worth s y))))) }
+    ensures made { IfOk result (λ r. IsMadeOver b.new r.bits (x.bits ∷ (y.bits ∷ []))) }
 {
     let opposite = is_equal(b, x, y)?;
     let negation = negated(b, opposite)?;

@@ -1,10 +1,10 @@
 // Absolute values, and quotients rounded toward zero.
 
-ghost use Rattle.std.specs.Prelude.{◌≡◌, ◌+◌, ◌-◌, ◌/◌, ◌%◌, ◌^◌, ◌<◌, ◌≤◌, pos, int_div, unsigned_abs, nat_eq, if◌then◌else◌, IfOk};
+ghost use Rattle.std.specs.Prelude.{◌≡◌, ◌+◌, ◌-◌, ◌/◌, ◌%◌, ◌^◌, ◌<◌, ◌≤◌, pos, int_div, unsigned_abs, nat_eq, if◌then◌else◌, IfOk, ◌∷◌, []};
 ghost use Rattle.dk_base.specs.Types.{IsType, width_of, magnitude_type};
 ghost use Rattle.dk_base.specs.Numbers.{number};
 ghost use Rattle.dk_base.specs.declared.ty.Ty.TheVariants.{Signed};
-ghost use Rattle.datapath.specs.Nets.{Grows, HasWidth, IsWord, bits_of};
+ghost use Rattle.datapath.specs.Nets.{Grows, HasWidth, IsWord, bits_of, IsMadeOver};
 ghost use Rattle.wiring.specs.Sizes.{IsWidth};
 ghost use Rattle.datapath.specs.Operands.{IsOperand, Carries, worth};
 
@@ -22,6 +22,7 @@ fn turned(b: &mut Builder, width: u8, sign: Signal, x: Signal) -> Result<Signal,
     requires x { HasWidth b.old x width }
     ensures grows { Grows b.old b.new }
     ensures word { IfOk result (λ r. IsWord b.new r width (λ nets. if nat_eq (bits_of nets sign) 1 then (0 + 2 ^ width - bits_of nets x) % 2 ^ width else bits_of nets x)) }
+    ensures made { IfOk result (λ r. IsMadeOver b.new r (sign ∷ (x ∷ []))) }
 {
     let negative = subtract(b, width, constant(width, 0), x)?;
     let atom = choose(b, width, sign, negative, x)?;
@@ -35,6 +36,7 @@ fn signed_magnitude(b: &mut Builder, width: u8, x: Operand) -> Result<Operand, M
     requires ty { x.ty ≡ Signed width }
     ensures grows { Grows b.old b.new }
     ensures value { IfOk result (λ r. Carries b.new r (Ty.Unsigned width) (λ nets. pos (unsigned_abs (worth nets x)))) }
+    ensures made { IfOk result (λ r. IsMadeOver b.new r.bits (x.bits ∷ [])) }
 {
     let sign = part(b, width, x.bits, width - 1, 1)?;
     let atom = turned(b, width, sign, x.bits)?;
@@ -52,6 +54,7 @@ fn unsigned_quotient(b: &mut Builder, width: u8, x: Operand, by: u64) -> Result<
     requires by { 0 < by }
     ensures grows { Grows b.old b.new }
     ensures value { IfOk result (λ r. Carries b.new r (Ty.Unsigned width) (λ nets. int_div (worth nets x) (pos by))) }
+    ensures made { IfOk result (λ r. IsMadeOver b.new r.bits (x.bits ∷ [])) }
 {
     let ty = Ty::Unsigned(width);
     if by > greatest(ty) {
@@ -71,6 +74,7 @@ pub fn quotient(b: &mut Builder, x: Operand, by: u64) -> Result<Operand, Memory>
     requires by { 0 < by }
     ensures grows { Grows b.old b.new }
     ensures value { IfOk result (λ r. Carries b.new r x.ty (λ nets. int_div (worth nets x) (pos by))) }
+    ensures made { IfOk result (λ r. IsMadeOver b.new r.bits (x.bits ∷ [])) }
 {
     match x.ty {
         Ty::Unsigned(width) => {
@@ -96,6 +100,7 @@ pub fn magnitude(b: &mut Builder, x: Operand) -> Result<Operand, Memory>
     requires x { IsOperand b.old x }
     ensures grows { Grows b.old b.new }
     ensures value { IfOk result (λ r. Carries b.new r (magnitude_type x.ty) (λ nets. pos (unsigned_abs (worth nets x)))) }
+    ensures made { IfOk result (λ r. IsMadeOver b.new r.bits (x.bits ∷ [])) }
 {
     match x.ty {
         Ty::Unsigned(_) => Ok(x),

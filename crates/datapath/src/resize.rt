@@ -1,9 +1,9 @@
 // The bits of an operand's number at any width.
 
-ghost use Rattle.std.specs.Prelude.{◌≡◌, ◌+◌, ◌≤◌, ◌<◌, ◌-◌, ◌*◌, ◌/◌, ◌%◌, ◌^◌, IfOk};
+ghost use Rattle.std.specs.Prelude.{◌≡◌, ◌+◌, ◌≤◌, ◌<◌, ◌-◌, ◌*◌, ◌/◌, ◌%◌, ◌^◌, IfOk, ◌∷◌, []};
 ghost use Rattle.dk_base.specs.Types.{IsType, width_of};
 ghost use Rattle.dk_base.specs.Numbers.{code};
-ghost use Rattle.datapath.specs.Nets.{Grows, HasWidth, IsWord, bits_of};
+ghost use Rattle.datapath.specs.Nets.{Grows, HasWidth, IsWord, bits_of, IsMadeOver};
 ghost use Rattle.wiring.specs.Rights.{repeated};
 ghost use Rattle.wiring.specs.Sizes.{IsWidth};
 ghost use Rattle.datapath.specs.Operands.{IsOperand, worth};
@@ -19,6 +19,7 @@ pub fn resized(b: &mut Builder, x: Operand, width: u8) -> Result<Signal, Memory>
     requires width { IsWidth width }
     ensures grows { Grows b.old b.new }
     ensures word { IfOk result (λ r. IsWord b.new r width (λ nets. code width (worth nets x))) }
+    ensures made { IfOk result (λ r. IsMadeOver b.new r (x.bits ∷ [])) }
 {
     match x.ty {
         Ty::Unsigned(low) => {

@@ -1,9 +1,9 @@
 // Products with powers of two, and quotients by them.
 
-ghost use Rattle.std.specs.Prelude.{◌≡◌, ◌+◌, ◌-◌, ◌^◌, ◌<◌, ◌≤◌, pos, ◌*ℤ◌, IfOk};
+ghost use Rattle.std.specs.Prelude.{◌≡◌, ◌+◌, ◌-◌, ◌^◌, ◌<◌, ◌≤◌, pos, ◌*ℤ◌, IfOk, ◌∷◌, []};
 ghost use Rattle.std.specs.Int.{int_div_euclid};
 ghost use Rattle.dk_base.specs.Types.{IsType, width_of, shifted_type, narrowed_type};
-ghost use Rattle.datapath.specs.Nets.{Grows};
+ghost use Rattle.datapath.specs.Nets.{Grows, IsMadeOver};
 ghost use Rattle.datapath.specs.Operands.{IsOperand, Carries, worth};
 
 use crate::operand::Operand;
@@ -20,6 +20,7 @@ pub fn shift_left(b: &mut Builder, x: Operand, by: u8) -> Result<Operand, Memory
     requires ty { IsType (shifted_type x.ty by) }
     ensures grows { Grows b.old b.new }
     ensures value { IfOk result (λ r. Carries b.new r (shifted_type x.ty by) (λ nets. worth nets x *ℤ pos (2 ^ by))) }
+    ensures made { IfOk result (λ r. IsMadeOver b.new r.bits (x.bits ∷ [])) }
 {
     if by == 0 {
         return Ok(x);
@@ -37,6 +38,7 @@ fn high_bits(b: &mut Builder, x: Operand, by: u8) -> Result<Operand, Memory>
     requires by { by < width_of x.ty }
     ensures grows { Grows b.old b.new }
     ensures value { IfOk result (λ r. Carries b.new r (narrowed_type x.ty by) (λ nets. int_div_euclid (worth nets x) (pos (2 ^ by)))) }
+    ensures made { IfOk result (λ r. IsMadeOver b.new r.bits (x.bits ∷ [])) }
 {
     let ty = x.ty.narrowed(by);
     let width = x.ty.width();
@@ -51,6 +53,7 @@ fn shift_within(b: &mut Builder, x: Operand, by: u8) -> Result<Operand, Memory>
     requires by { by < width_of x.ty }
     ensures grows { Grows b.old b.new }
     ensures value { IfOk result (λ r. Carries b.new r x.ty (λ nets. int_div_euclid (worth nets x) (pos (2 ^ by)))) }
+    ensures made { IfOk result (λ r. IsMadeOver b.new r.bits (x.bits ∷ [])) }
 {
     let high = high_bits(b, x, by)?;
     let atom = resized(b, high, x.ty.width())?;
@@ -66,6 +69,7 @@ pub fn shift_right(b: &mut Builder, x: Operand, by: u8) -> Result<Operand, Memor
     requires x { IsOperand b.old x }
     ensures grows { Grows b.old b.new }
     ensures value { IfOk result (λ r. Carries b.new r x.ty (λ nets. int_div_euclid (worth nets x) (pos (2 ^ by)))) }
+    ensures made { IfOk result (λ r. IsMadeOver b.new r.bits (x.bits ∷ [])) }
 {
     match x.ty {
         Ty::Unsigned(width) => {

@@ -1,6 +1,6 @@
 // Nets by one operator each, over nets and constants of known widths.
 
-ghost use Rattle.std.specs.Prelude.{◌≡◌, ◌+◌, ◌-◌, ◌*◌, ◌/◌, ◌%◌, ◌^◌, ◌<◌, ◌≤◌, [], IfOk, nat_lt, nat_eq, bit_and, bit_or, bit_xor, if◌then◌else◌};
+ghost use Rattle.std.specs.Prelude.{◌≡◌, ◌+◌, ◌-◌, ◌*◌, ◌/◌, ◌%◌, ◌^◌, ◌<◌, ◌≤◌, [], IfOk, nat_lt, nat_eq, bit_and, bit_or, bit_xor, if◌then◌else◌, ◌∷◌};
 ghost use Rattle.datapath.specs.declared.operand.Signal.TheVariants as signal;
 ghost use Rattle.wiring.specs.Netlist.{Netlist};
 ghost use Rattle.wiring.specs.Rights.{repeated, operator_width, operator_value};
@@ -8,7 +8,7 @@ ghost use Rattle.wiring.specs.Rules.{IsDivisor, DividesByDivisor};
 ghost use Rattle.wiring.specs.Sizes.{IsWidth};
 ghost use Rattle.wiring.specs.Snapshot.{right_accesses};
 ghost use Rattle.net_build.specs.Draft.{IsOperation};
-ghost use Rattle.datapath.specs.Nets.{Grows, HasWidth, IsWord, IsNetOf, IsSignal, atom_of, bits_of, bit};
+ghost use Rattle.datapath.specs.Nets.{Grows, HasWidth, IsWord, IsNetOf, IsSignal, atom_of, bits_of, bit, IsMadeOver};
 
 use crate::operand::Signal;
 use dk_base::Memory;
@@ -34,6 +34,7 @@ pub(crate) fn constant(width: u8, value: u64) -> Signal
     requires fits { value < 2 ^ width }
     ensures is { result ≡ signal.Constant width value }
     ensures width { (b : Netlist) → HasWidth b result width }
+    ensures made { (b : Netlist) → IsMadeOver b result [] }
 {
     Signal::Constant(width, value)
 }
@@ -53,6 +54,7 @@ pub(crate) fn top_bit(width: u8) -> Signal
     requires { IsWidth width }
     ensures is { result ≡ signal.Constant width (2 ^ (width - 1)) }
     ensures width { (b : Netlist) → HasWidth b result width }
+    ensures made { (b : Netlist) → IsMadeOver b result [] }
 {
     constant(width, half(width))
 }
@@ -83,6 +85,7 @@ fn operated(
     requires divisor { DividesByDivisor operator (atom_of y) }
     ensures grows { Grows b.old b.new }
     ensures word { IfOk result (λ r. IsWord b.new r (operator_width operator width) (λ s. operator_value operator width (bits_of s x) (bits_of s y))) }
+    ensures made { IfOk result (λ r. IsMadeOver b.new r (x ∷ (y ∷ []))) }
 {
     let (left, right) = (atom(x), atom(y));
     let net = net_for(b, Right::Binary(operator, left, right))?;
@@ -96,6 +99,7 @@ pub(crate) fn add(b: &mut Builder, width: u8, x: Signal, y: Signal) -> Result<Si
     requires y { HasWidth b.old y width }
     ensures grows { Grows b.old b.new }
     ensures word { IfOk result (λ r. IsWord b.new r width (λ s. (bits_of s x + bits_of s y) % 2 ^ width)) }
+    ensures made { IfOk result (λ r. IsMadeOver b.new r (x ∷ (y ∷ []))) }
 {
     let atom = operated(b, Operator::Add, width, x, y)?;
     Ok(atom)
@@ -108,6 +112,7 @@ pub(crate) fn subtract(b: &mut Builder, width: u8, x: Signal, y: Signal) -> Resu
     requires y { HasWidth b.old y width }
     ensures grows { Grows b.old b.new }
     ensures word { IfOk result (λ r. IsWord b.new r width (λ s. (bits_of s x + 2 ^ width - bits_of s y) % 2 ^ width)) }
+    ensures made { IfOk result (λ r. IsMadeOver b.new r (x ∷ (y ∷ []))) }
 {
     let atom = operated(b, Operator::Subtract, width, x, y)?;
     Ok(atom)
@@ -120,6 +125,7 @@ pub(crate) fn multiply(b: &mut Builder, width: u8, x: Signal, y: Signal) -> Resu
     requires y { HasWidth b.old y width }
     ensures grows { Grows b.old b.new }
     ensures word { IfOk result (λ r. IsWord b.new r width (λ s. bits_of s x * bits_of s y % 2 ^ width)) }
+    ensures made { IfOk result (λ r. IsMadeOver b.new r (x ∷ (y ∷ []))) }
 {
     let atom = operated(b, Operator::Multiply, width, x, y)?;
     Ok(atom)
@@ -133,6 +139,7 @@ pub(crate) fn divide(b: &mut Builder, width: u8, x: Signal, y: Signal) -> Result
     requires divisor { IsDivisor (atom_of y) }
     ensures grows { Grows b.old b.new }
     ensures word { IfOk result (λ r. IsWord b.new r width (λ s. bits_of s x / bits_of s y)) }
+    ensures made { IfOk result (λ r. IsMadeOver b.new r (x ∷ (y ∷ []))) }
 {
     let atom = operated(b, Operator::Divide, width, x, y)?;
     Ok(atom)
@@ -144,6 +151,7 @@ pub(crate) fn less(b: &mut Builder, width: u8, x: Signal, y: Signal) -> Result<S
     requires y { HasWidth b.old y width }
     ensures grows { Grows b.old b.new }
     ensures word { IfOk result (λ r. IsWord b.new r 1 (λ s. bit (nat_lt (bits_of s x) (bits_of s y)))) }
+    ensures made { IfOk result (λ r. IsMadeOver b.new r (x ∷ (y ∷ []))) }
 {
     let atom = operated(b, Operator::Less, width, x, y)?;
     Ok(atom)
@@ -155,6 +163,7 @@ pub(crate) fn equal(b: &mut Builder, width: u8, x: Signal, y: Signal) -> Result<
     requires y { HasWidth b.old y width }
     ensures grows { Grows b.old b.new }
     ensures word { IfOk result (λ r. IsWord b.new r 1 (λ s. bit (nat_eq (bits_of s x) (bits_of s y)))) }
+    ensures made { IfOk result (λ r. IsMadeOver b.new r (x ∷ (y ∷ []))) }
 {
     let atom = operated(b, Operator::Equal, width, x, y)?;
     Ok(atom)
@@ -167,6 +176,7 @@ pub(crate) fn and(b: &mut Builder, width: u8, x: Signal, y: Signal) -> Result<Si
     requires y { HasWidth b.old y width }
     ensures grows { Grows b.old b.new }
     ensures word { IfOk result (λ r. IsWord b.new r width (λ s. bit_and (bits_of s x) (bits_of s y))) }
+    ensures made { IfOk result (λ r. IsMadeOver b.new r (x ∷ (y ∷ []))) }
 {
     let atom = operated(b, Operator::And, width, x, y)?;
     Ok(atom)
@@ -179,6 +189,7 @@ pub(crate) fn or(b: &mut Builder, width: u8, x: Signal, y: Signal) -> Result<Sig
     requires y { HasWidth b.old y width }
     ensures grows { Grows b.old b.new }
     ensures word { IfOk result (λ r. IsWord b.new r width (λ s. bit_or (bits_of s x) (bits_of s y))) }
+    ensures made { IfOk result (λ r. IsMadeOver b.new r (x ∷ (y ∷ []))) }
 {
     let atom = operated(b, Operator::Or, width, x, y)?;
     Ok(atom)
@@ -191,6 +202,7 @@ pub(crate) fn xor(b: &mut Builder, width: u8, x: Signal, y: Signal) -> Result<Si
     requires y { HasWidth b.old y width }
     ensures grows { Grows b.old b.new }
     ensures word { IfOk result (λ r. IsWord b.new r width (λ s. bit_xor (bits_of s x) (bits_of s y))) }
+    ensures made { IfOk result (λ r. IsMadeOver b.new r (x ∷ (y ∷ []))) }
 {
     let atom = operated(b, Operator::Xor, width, x, y)?;
     Ok(atom)
@@ -210,6 +222,7 @@ pub(crate) fn choose(
     requires y { HasWidth b.old y width }
     ensures grows { Grows b.old b.new }
     ensures word { IfOk result (λ r. IsWord b.new r width (λ s. if nat_eq (bits_of s c) 1 then bits_of s x else bits_of s y)) }
+    ensures made { IfOk result (λ r. IsMadeOver b.new r (c ∷ (x ∷ (y ∷ [])))) }
 {
     let condition = atom(c);
     let (left, right) = (atom(x), atom(y));
@@ -231,6 +244,7 @@ pub(crate) fn join(
     requires y { HasWidth b.old y low }
     ensures grows { Grows b.old b.new }
     ensures word { IfOk result (λ r. IsWord b.new r (high + low) (λ s. bits_of s x * 2 ^ low + bits_of s y)) }
+    ensures made { IfOk result (λ r. IsMadeOver b.new r (x ∷ (y ∷ []))) }
 {
     let (left, right) = (atom(x), atom(y));
     let net = net_for(b, Right::Join(left, right))?;
@@ -243,6 +257,7 @@ pub(crate) fn repeat(b: &mut Builder, count: u8, x: Signal) -> Result<Signal, Me
     requires x { HasWidth b.old x 1 }
     ensures grows { Grows b.old b.new }
     ensures word { IfOk result (λ r. IsWord b.new r count (λ s. repeated count 1 (bits_of s x))) }
+    ensures made { IfOk result (λ r. IsMadeOver b.new r (x ∷ [])) }
 {
     let operand = atom(x);
     let net = net_for(b, Right::Repeat(count, operand))?;
@@ -255,6 +270,7 @@ pub(crate) fn complement(b: &mut Builder, width: u8, x: Signal) -> Result<Signal
     requires x { HasWidth b.old x width }
     ensures grows { Grows b.old b.new }
     ensures word { IfOk result (λ r. IsWord b.new r width (λ s. 2 ^ width - 1 - bits_of s x)) }
+    ensures made { IfOk result (λ r. IsMadeOver b.new r (x ∷ [])) }
 {
     let operand = atom(x);
     let net = net_for(b, Right::Not(operand))?;
@@ -267,6 +283,7 @@ fn copied(b: &mut Builder, width: u8, x: Signal) -> Result<Net, Memory>
     requires x { HasWidth b.old x width }
     ensures grows { Grows b.old b.new }
     ensures word { IfOk result (λ n. IsWord b.new (signal.Net n) width (λ s. bits_of s x)) }
+    ensures made { IfOk result (λ r. IsMadeOver b.new (signal.Net r) (x ∷ [])) }
 {
     let operand = atom(x);
     let net = net_for(b, Right::Copy(operand))?;
@@ -280,6 +297,7 @@ pub(crate) fn net_of(b: &mut Builder, width: u8, x: Signal) -> Result<Net, Memor
     requires x { HasWidth b.old x width }
     ensures grows { Grows b.old b.new }
     ensures word { IfOk result (λ n. IsWord b.new (signal.Net n) width (λ s. bits_of s x)) }
+    ensures made { IfOk result (λ r. IsMadeOver b.new (signal.Net r) (x ∷ [])) }
 {
     match x {
         Signal::Net(net) => Ok(net),
@@ -299,6 +317,7 @@ fn slice(b: &mut Builder, width: u8, x: Net, low: u8, count: u8) -> Result<Signa
     requires x { HasWidth b.old (signal.Net x) width }
     ensures grows { Grows b.old b.new }
     ensures word { IfOk result (λ r. IsWord b.new r count (λ s. bits_of s (signal.Net x) / 2 ^ low % 2 ^ count)) }
+    ensures made { IfOk result (λ r. IsMadeOver b.new r ((signal.Net x) ∷ [])) }
 {
     let first = low as u64;
     let last = first + count as u64 - 1;
@@ -321,6 +340,7 @@ pub(crate) fn part(
     requires x { HasWidth b.old x width }
     ensures grows { Grows b.old b.new }
     ensures word { IfOk result (λ r. IsWord b.new r count (λ s. bits_of s x / 2 ^ low % 2 ^ count)) }
+    ensures made { IfOk result (λ r. IsMadeOver b.new r (x ∷ [])) }
 {
     if count == width {
         return Ok(x);
@@ -338,6 +358,7 @@ pub(crate) fn with_zeros(b: &mut Builder, high: u8, low: u8, x: Signal) -> Resul
     requires x { HasWidth b.old x low }
     ensures grows { Grows b.old b.new }
     ensures word { IfOk result (λ r. IsWord b.new r (high + low) (λ s. bits_of s x)) }
+    ensures made { IfOk result (λ r. IsMadeOver b.new r (x ∷ [])) }
 {
     let zeros = constant(high, 0);
     let atom = join(b, high, zeros, low, x)?;
@@ -353,6 +374,7 @@ pub(crate) fn with_signs(b: &mut Builder, high: u8, low: u8, x: Signal) -> Resul
     requires x { HasWidth b.old x low }
     ensures grows { Grows b.old b.new }
     ensures word { IfOk result (λ r. IsWord b.new r (high + low) (λ s. repeated high 1 (bits_of s x / 2 ^ (low - 1) % 2 ^ 1) * 2 ^ low + bits_of s x)) }
+    ensures made { IfOk result (λ r. IsMadeOver b.new r (x ∷ [])) }
 {
     let sign = part(b, low, x, low - 1, 1)?;
     let signs = repeat(b, high, sign)?;

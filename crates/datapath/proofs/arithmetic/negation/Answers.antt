@@ -2,6 +2,7 @@ use Rattle.std.proofs.Common.{ap, refl}
 use Rattle.datapath.specs.Nets.{bits_of}
 use Rattle.datapath.proofs.Carried.{negation_carries}
 use Rattle.datapath.proofs.Growth.{then_grows}
+use Rattle.datapath.proofs.Over.{then_two, nothing_over, over_later}
 use Rattle.datapath.proofs.arithmetic.negation.Goals as goal
 
 pub returns-clause-value : goal.returns-clause-value
@@ -14,3 +15,6 @@ returns-in_err-atom-clause-grows c = then_grows c.resized.ensures.grows c.subtra
 
 pub returns-clause-grows : goal.returns-clause-grows
 returns-clause-grows c = then_grows c.resized.ensures.grows c.subtract.ensures.grows
+
+pub returns-clause-made : goal.returns-clause-made
+returns-clause-made c = then_two c.in_ok-atom.ensures.made (nothing_over (c.constant.ensures.made _)) (over_later c.subtract.ensures.grows.includes c.in_ok-right.ensures.made)

@@ -3,6 +3,7 @@ use Rattle.dk_base.proofs.Products.{code_multiply}
 use Rattle.dk_base.proofs.Ranges.{product_in}
 use Rattle.datapath.proofs.Carried.{binary_carries}
 use Rattle.datapath.proofs.Growth.{then_grows, width_later}
+use Rattle.datapath.proofs.Over.{two_over}
 use Rattle.datapath.proofs.arithmetic.product.Goals as goal
 
 pub returns-clause-value : goal.returns-clause-value
@@ -21,3 +22,6 @@ returns-in_err-atom-clause-grows c = then_grows (then_grows c.resized.ensures.gr
 
 pub returns-clause-grows : goal.returns-clause-grows
 returns-clause-grows c = then_grows (then_grows c.resized.ensures.grows c.resized-2.ensures.grows) c.multiply.ensures.grows
+
+pub returns-clause-made : goal.returns-clause-made
+returns-clause-made c = two_over c.resized-2.ensures.grows.includes c.multiply.ensures.grows.includes c.in_ok-left.ensures.made c.in_ok-right.ensures.made c.in_ok-atom.ensures.made

@@ -2,6 +2,7 @@ use Rattle.std.proofs.Common.{bit_and, ◌≡◌, max, rules}
 use Rattle.dk_base.specs.Types.{width_of}
 use Rattle.datapath.proofs.Bitwise.{bitwise_common}
 use Rattle.datapath.proofs.Growth.{then_grows, width_later}
+use Rattle.datapath.proofs.Over.{two_over}
 use Rattle.datapath.proofs.bits.conjunction.Goals as goal
 
 pub returns-clause-value : goal.returns-clause-value
@@ -21,3 +22,6 @@ returns-in_err-bits-clause-grows c = then_grows (then_grows c.resized.ensures.gr
 
 pub returns-clause-grows : goal.returns-clause-grows
 returns-clause-grows c = then_grows (then_grows c.resized.ensures.grows c.resized-2.ensures.grows) c.and.ensures.grows
+
+pub returns-clause-made : goal.returns-clause-made
+returns-clause-made c = two_over c.resized-2.ensures.grows.includes c.and.ensures.grows.includes c.in_ok-left.ensures.made c.in_ok-right.ensures.made c.in_ok-bits.ensures.made

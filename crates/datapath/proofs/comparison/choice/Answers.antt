@@ -2,6 +2,7 @@ use Rattle.std.proofs.Common.{ap, sym}
 use Rattle.dk_base.specs.Types.{width_of}
 use Rattle.datapath.proofs.Compared.{choice_carries}
 use Rattle.datapath.proofs.Growth.{then_grows, width_later, has_width_of}
+use Rattle.datapath.proofs.Over.{three_over}
 use Rattle.datapath.proofs.comparison.choice.Goals as goal
 
 pub returns-clause-value : goal.returns-clause-value
@@ -21,3 +22,6 @@ returns-clause-grows c = then_grows (then_grows c.resized.ensures.grows c.resize
 
 pub choose-requires-clause-c : goal.choose-requires-clause-c
 choose-requires-clause-c c = width_later _ _ _ _ (then_grows c.resized.ensures.grows c.resized-2.ensures.grows) (has_width_of (sym (ap width_of c.requires.bit)) c.requires.condition.width)
+
+pub returns-clause-made : goal.returns-clause-made
+returns-clause-made c = three_over c.resized-2.ensures.grows.includes c.choose.ensures.grows.includes c.in_ok-left.ensures.made c.in_ok-right.ensures.made c.in_ok-atom.ensures.made

@@ -1,5 +1,6 @@
 use Rattle.datapath.proofs.Compared.{opposite_carries}
 use Rattle.datapath.proofs.Growth.{then_grows}
+use Rattle.datapath.proofs.Over.{then_one, then_two, over_later, first_over, second_over}
 use Rattle.datapath.proofs.comparison.is_at_most.Goals as goal
 
 pub returns-clause-value : goal.returns-clause-value
@@ -10,3 +11,6 @@ returns-in_err-negation-clause-grows c = then_grows c.is_less.ensures.grows c.ne
 
 pub returns-clause-grows : goal.returns-clause-grows
 returns-clause-grows c = then_grows c.is_less.ensures.grows c.negated.ensures.grows
+
+pub returns-clause-made : goal.returns-clause-made
+returns-clause-made c = then_one c.in_ok-negation.ensures.made (over_later c.negated.ensures.grows.includes (then_two c.in_ok-opposite.ensures.made second_over first_over))

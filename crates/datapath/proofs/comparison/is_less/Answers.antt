@@ -1,5 +1,6 @@
 use Rattle.datapath.proofs.Compared.{within_left, within_right, less_carries}
 use Rattle.datapath.proofs.Growth.{then_grows, width_later, has_width_of}
+use Rattle.datapath.proofs.Over.{two_over}
 use Rattle.datapath.proofs.comparison.is_less.Goals as goal
 
 pub offset-requires-clause-within : goal.offset-requires-clause-within
@@ -22,3 +23,6 @@ returns-clause-grows c = then_grows (then_grows c.offset.ensures.grows c.offset-
 
 pub less-requires-clause-x : goal.less-requires-clause-x
 less-requires-clause-x c = width_later _ _ _ _ c.offset-2.ensures.grows (has_width_of c.width.ensures c.in_ok-left.ensures.word.width)
+
+pub returns-clause-made : goal.returns-clause-made
+returns-clause-made c = two_over c.offset-2.ensures.grows.includes c.less.ensures.grows.includes c.in_ok-left.ensures.made c.in_ok-right.ensures.made c.in_ok-atom.ensures.made

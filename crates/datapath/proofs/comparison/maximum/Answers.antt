@@ -1,5 +1,6 @@
 use Rattle.datapath.proofs.Compared.{greater_carries}
 use Rattle.datapath.proofs.Growth.{then_grows}
+use Rattle.datapath.proofs.Over.{then_two, then_three, over_later, first_over, second_over}
 use Rattle.datapath.proofs.comparison.maximum.Goals as goal
 
 pub returns-in_err-greater-clause-grows : goal.returns-in_err-greater-clause-grows
@@ -10,3 +11,6 @@ returns-clause-grows c = then_grows c.is_less.ensures.grows c.choice.ensures.gro
 
 pub returns-clause-value : goal.returns-clause-value
 returns-clause-value c = greater_carries _ _ c.in_ok-below.below c.args.x c.args.y _ _ c.choice.ensures.grows.includes c.in_ok-below.ensures.value c.in_ok-greater.ensures.value
+
+pub returns-clause-made : goal.returns-clause-made
+returns-clause-made c = then_three c.in_ok-greater.ensures.made (over_later c.choice.ensures.grows.includes (then_two c.in_ok-below.ensures.made second_over first_over)) first_over second_over

@@ -2,6 +2,7 @@ use Rattle.datapath.proofs.Growth.{then_grows}
 use Rattle.std.proofs.Common.{ap}
 use Rattle.datapath.specs.Nets.{bits_of}
 use Rattle.datapath.proofs.Compared.{offset_unsigned_word, offset_signed_word}
+use Rattle.datapath.proofs.Over.{then_two, nothing_over, over_later}
 use Rattle.datapath.proofs.comparison.offset.Goals as goal
 
 pub returns-in_ok-atom-in-Unsigned-clause-word : goal.returns-in_ok-atom-in-Unsigned-clause-word
@@ -19,3 +20,6 @@ returns-in_err-atom-in-Signed-clause-grows c = then_grows c.resized-in-Signed.en
 
 pub returns-in_ok-atom-in-Signed-clause-grows : goal.returns-in_ok-atom-in-Signed-clause-grows
 returns-in_ok-atom-in-Signed-clause-grows c = then_grows c.resized-in-Signed.ensures.grows c.add.ensures.grows
+
+pub returns-in_ok-atom-in-Signed-clause-made : goal.returns-in_ok-atom-in-Signed-clause-made
+returns-in_ok-atom-in-Signed-clause-made c = then_two c.in_ok-atom-in-Signed.ensures.made (over_later c.add.ensures.grows.includes c.in_ok-bits-in-Signed.ensures.made) (nothing_over (c.top_bit-half.ensures.made _))

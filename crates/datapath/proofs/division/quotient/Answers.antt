@@ -1,5 +1,6 @@
 use Rattle.datapath.proofs.Growth.{then_grows}
 use Rattle.datapath.proofs.Divided.{signed_quotient_carries}
+use Rattle.datapath.proofs.Over.{then_one, then_two, over_later}
 use Rattle.datapath.proofs.division.quotient.Goals as goal
 
 pub returns-in_ok-atom-in-Signed-clause-value : goal.returns-in_ok-atom-in-Signed-clause-value
@@ -18,3 +19,6 @@ returns-in_err-atom-in-Signed-clause-grows c = then_grows (then_grows (then_grow
 
 pub returns-in_ok-atom-in-Signed-clause-grows : goal.returns-in_ok-atom-in-Signed-clause-grows
 returns-in_ok-atom-in-Signed-clause-grows c = then_grows (then_grows (then_grows c.signed_magnitude.ensures.grows c.unsigned_quotient-in-Signed.ensures.grows) c.part.ensures.grows) c.turned.ensures.grows
+
+pub returns-in_ok-atom-in-Signed-clause-made : goal.returns-in_ok-atom-in-Signed-clause-made
+returns-in_ok-atom-in-Signed-clause-made c = then_two c.in_ok-atom-in-Signed.ensures.made (over_later c.turned.ensures.grows.includes c.in_ok-sign-in-Signed.ensures.made) (over_later c.turned.ensures.grows.includes (over_later c.part.ensures.grows.includes (then_one c.in_ok-q-in-Signed.ensures.made (over_later c.unsigned_quotient-in-Signed.ensures.grows.includes c.in_ok-size-in-Signed.ensures.made))))

@@ -1,5 +1,6 @@
 use Rattle.datapath.proofs.Divided.{magnitude_carries}
 use Rattle.datapath.proofs.Growth.{then_grows}
+use Rattle.datapath.proofs.Over.{then_two, itself_over, over_later}
 use Rattle.datapath.proofs.division.signed_magnitude.Goals as goal
 
 pub returns-clause-value : goal.returns-clause-value
@@ -10,3 +11,6 @@ returns-in_err-atom-clause-grows c = then_grows c.part.ensures.grows c.turned.en
 
 pub returns-clause-grows : goal.returns-clause-grows
 returns-clause-grows c = then_grows c.part.ensures.grows c.turned.ensures.grows
+
+pub returns-clause-made : goal.returns-clause-made
+returns-clause-made c = then_two c.in_ok-atom.ensures.made (over_later c.turned.ensures.grows.includes c.in_ok-sign.ensures.made) itself_over

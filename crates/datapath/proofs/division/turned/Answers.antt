@@ -2,6 +2,7 @@ use Rattle.std.proofs.Common.{ap}
 use Rattle.datapath.specs.Nets.{bits_of}
 use Rattle.datapath.proofs.Divided.{turned_word}
 use Rattle.datapath.proofs.Growth.{then_grows, width_later}
+use Rattle.datapath.proofs.Over.{then_two, then_three, nothing_over, over_later, first_over, second_over}
 use Rattle.datapath.proofs.division.turned.Goals as goal
 
 pub returns-clause-word : goal.returns-clause-word
@@ -18,3 +19,6 @@ choose-requires-clause-c c = width_later _ _ _ _ c.subtract.ensures.grows c.requ
 
 pub choose-requires-clause-y : goal.choose-requires-clause-y
 choose-requires-clause-y c = width_later _ _ _ _ c.subtract.ensures.grows c.requires.x
+
+pub returns-clause-made : goal.returns-clause-made
+returns-clause-made c = then_three c.in_ok-atom.ensures.made first_over (over_later c.choose.ensures.grows.includes (then_two c.in_ok-negative.ensures.made (nothing_over (c.constant.ensures.made _)) second_over)) second_over

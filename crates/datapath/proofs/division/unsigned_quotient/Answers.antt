@@ -2,6 +2,7 @@ use Rattle.std.proofs.Common.{◌≤◌, ◌^◌, ap, arith, rules}
 use Rattle.datapath.specs.Nets.{bits_of, HasWidth}
 use Rattle.datapath.proofs.Divided.{zero_quotient_carries, unsigned_quotient_carries}
 use Rattle.datapath.proofs.Growth.{grows_itself}
+use Rattle.datapath.proofs.Over.{then_two, itself_over, nothing_over}
 use Rattle.datapath.proofs.division.unsigned_quotient.Goals as goal
 
 pub returns-then-by-greatest-clause-value : goal.returns-then-by-greatest-clause-value
@@ -15,3 +16,9 @@ returns-clause-value c = unsigned_quotient_carries _ _ c.args.x c.constant-2.res
 
 pub returns-then-by-greatest-clause-grows : goal.returns-then-by-greatest-clause-grows
 returns-then-by-greatest-clause-grows c = grows_itself _
+
+pub returns-then-by-greatest-clause-made : goal.returns-then-by-greatest-clause-made
+returns-then-by-greatest-clause-made c = nothing_over (c.constant.ensures.made _)
+
+pub returns-clause-made : goal.returns-clause-made
+returns-clause-made c = then_two c.in_ok-atom.ensures.made itself_over (nothing_over (c.constant-2.ensures.made _))

@@ -4,6 +4,7 @@ use Rattle.std.proofs.Common.{◌≡◌, ◌≤◌, ◌+◌, ap, ◌∙◌, arit
 use Rattle.datapath.specs.Nets.{bits_of}
 use Rattle.dk_base.specs.Types.{below, above}
 use Rattle.datapath.proofs.Limits.{not_lowered, is_lowered}
+use Rattle.datapath.proofs.Over.{then_one, then_two, then_three, nothing_over, over_later, first_over, second_over}
 use Rattle.datapath.proofs.saturation.lowered.Goals as goal
 
 pub returns-then-most-greatest-clause-word : goal.returns-then-most-greatest-clause-word
@@ -43,3 +44,9 @@ less-requires-clause-x c = has_width_of (c.width-2.ensures ∙ sym c.width.ensur
 
 pub choose-requires-clause-x : goal.choose-requires-clause-x
 choose-requires-clause-x c = has_width_of (c.width-3.ensures ∙ sym c.width-4.ensures) (c.constant.ensures.width _)
+
+pub returns-then-most-greatest-clause-made : goal.returns-then-most-greatest-clause-made
+returns-then-most-greatest-clause-made c = second_over
+
+pub returns-clause-made : goal.returns-clause-made
+returns-clause-made c = then_three c.in_ok-atom.ensures.made (over_later c.choose.ensures.grows.includes (then_two c.in_ok-high.ensures.made (nothing_over (c.constant-limit.ensures.made _)) (over_later c.less.ensures.grows.includes (then_one c.in_ok-up.ensures.made first_over)))) (nothing_over (c.constant.ensures.made _)) second_over

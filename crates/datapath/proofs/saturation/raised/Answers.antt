@@ -3,6 +3,7 @@ use Rattle.std.proofs.Common.{◌≡◌, ◌<◌, ◌≤◌, ◌-◌, ap, ◌∙
 use Rattle.datapath.specs.Nets.{bits_of}
 use Rattle.dk_base.specs.Types.{below}
 use Rattle.datapath.proofs.Limits.{not_raised, is_raised}
+use Rattle.datapath.proofs.Over.{then_one, then_two, then_three, nothing_over, over_later, first_over, second_over}
 use Rattle.datapath.proofs.saturation.raised.Goals as goal
 
 pub returns-then-deep-least-clause-word : goal.returns-then-deep-least-clause-word
@@ -31,3 +32,9 @@ returns-in_err-atom-clause-grows c = then_grows (then_grows c.offset.ensures.gro
 
 pub returns-clause-grows : goal.returns-clause-grows
 returns-clause-grows c = then_grows (then_grows c.offset.ensures.grows c.less.ensures.grows) c.choose.ensures.grows
+
+pub returns-then-deep-least-clause-made : goal.returns-then-deep-least-clause-made
+returns-then-deep-least-clause-made c = second_over
+
+pub returns-clause-made : goal.returns-clause-made
+returns-clause-made c = then_three c.in_ok-atom.ensures.made (over_later c.choose.ensures.grows.includes (then_two c.in_ok-low.ensures.made (over_later c.less.ensures.grows.includes (then_one c.in_ok-up.ensures.made first_over)) (nothing_over (c.constant-limit.ensures.made _)))) (nothing_over (c.constant.ensures.made _)) second_over

@@ -1,5 +1,6 @@
 use Rattle.datapath.proofs.Growth.{then_grows}
 use Rattle.datapath.proofs.Limits.{saturated_carries}
+use Rattle.datapath.proofs.Over.{then_two, itself_over, over_later}
 use Rattle.datapath.proofs.saturation.saturated.Goals as goal
 
 pub returns-clause-value : goal.returns-clause-value
@@ -13,3 +14,6 @@ returns-in_err-atom-clause-grows c = then_grows (then_grows c.resized.ensures.gr
 
 pub returns-clause-grows : goal.returns-clause-grows
 returns-clause-grows c = then_grows (then_grows c.resized.ensures.grows c.raised.ensures.grows) c.lowered.ensures.grows
+
+pub returns-clause-made : goal.returns-clause-made
+returns-clause-made c = then_two c.in_ok-atom.ensures.made itself_over (over_later c.lowered.ensures.grows.includes (then_two c.in_ok-low.ensures.made itself_over (over_later c.raised.ensures.grows.includes c.in_ok-bits.ensures.made)))

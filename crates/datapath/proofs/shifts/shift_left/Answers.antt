@@ -2,6 +2,7 @@ use Rattle.std.proofs.Common.{ap}
 use Rattle.datapath.specs.Nets.{bits_of}
 use Rattle.datapath.proofs.Shifted.{shift_carries, unshifted_carries}
 use Rattle.datapath.proofs.Growth.{grows_itself}
+use Rattle.datapath.proofs.Over.{then_two, itself_over, nothing_over}
 use Rattle.datapath.proofs.shifts.shift_left.Goals as goal
 
 pub returns-clause-value : goal.returns-clause-value
@@ -12,3 +13,9 @@ returns-then-by-eq0-clause-value c = unshifted_carries _ c.args.x _ c.if-by-eq0.
 
 pub returns-then-by-eq0-clause-grows : goal.returns-then-by-eq0-clause-grows
 returns-then-by-eq0-clause-grows c = grows_itself _
+
+pub returns-then-by-eq0-clause-made : goal.returns-then-by-eq0-clause-made
+returns-then-by-eq0-clause-made c = itself_over
+
+pub returns-clause-made : goal.returns-clause-made
+returns-clause-made c = then_two c.in_ok-atom.ensures.made itself_over (nothing_over (c.constant.ensures.made _))

@@ -3,6 +3,7 @@ use Rattle.datapath.specs.Nets.{bits_of}
 use Rattle.datapath.specs.Nets.{HasWidth}
 use Rattle.datapath.proofs.Shifted.{out_carries, sign_carries}
 use Rattle.datapath.proofs.Growth.{grows_itself}
+use Rattle.datapath.proofs.Over.{nothing_over}
 use Rattle.datapath.proofs.shifts.shift_right.Goals as goal
 
 pub returns-then-by-width-clause-value : goal.returns-then-by-width-clause-value
@@ -17,3 +18,6 @@ returns-in_ok-shifted-in-Signed-clause-value c =
 
 pub returns-then-by-width-clause-grows : goal.returns-then-by-width-clause-grows
 returns-then-by-width-clause-grows c = grows_itself _
+
+pub returns-then-by-width-clause-made : goal.returns-then-by-width-clause-made
+returns-then-by-width-clause-made c = nothing_over (c.constant.ensures.made _)

@@ -1,5 +1,6 @@
 use Rattle.datapath.proofs.Shifted.{within_carries}
 use Rattle.datapath.proofs.Growth.{then_grows}
+use Rattle.datapath.proofs.Over.{then_one, over_later}
 use Rattle.datapath.proofs.shifts.shift_within.Goals as goal
 
 pub returns-clause-value : goal.returns-clause-value
@@ -10,3 +11,6 @@ returns-in_err-atom-clause-grows c = then_grows c.high_bits.ensures.grows c.resi
 
 pub returns-clause-grows : goal.returns-clause-grows
 returns-clause-grows c = then_grows c.high_bits.ensures.grows c.resized.ensures.grows
+
+pub returns-clause-made : goal.returns-clause-made
+returns-clause-made c = then_one c.in_ok-atom.ensures.made (over_later c.resized.ensures.grows.includes c.in_ok-high.ensures.made)

@@ -1,5 +1,6 @@
 use Rattle.datapath.proofs.Made.{choose_is_operation, choose_made}
 use Rattle.datapath.proofs.Growth.{signal_of}
+use Rattle.datapath.proofs.Over.{choose_over}
 use Rattle.datapath.proofs.words.choose.Goals as goal
 
 pub atom-condition-requires : goal.atom-condition-requires
@@ -16,3 +17,6 @@ net_for-requires-clause-operation c = choose_is_operation _ c.args.c c.args.x c.
 
 pub returns-clause-word : goal.returns-clause-word
 returns-clause-word c = choose_made _ _ _ c.args.c c.args.x c.args.y _ _ _ _ c.atom-condition.ensures c.atom-left.ensures c.atom-right.ensures c.requires.x c.in_ok-net.ensures.net
+
+pub returns-clause-made : goal.returns-clause-made
+returns-clause-made c = choose_over _ _ _ c.args.c c.args.x c.args.y _ _ _ c.atom-condition.ensures c.atom-left.ensures c.atom-right.ensures c.in_ok-net.ensures.net

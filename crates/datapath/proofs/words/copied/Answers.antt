@@ -1,5 +1,6 @@
 use Rattle.datapath.proofs.Made.{copy_is_operation, copy_made}
 use Rattle.datapath.proofs.Growth.{signal_of}
+use Rattle.datapath.proofs.Over.{copy_over}
 use Rattle.datapath.proofs.words.copied.Goals as goal
 
 pub atom-operand-requires : goal.atom-operand-requires
@@ -10,3 +11,6 @@ net_for-requires-clause-operation c = copy_is_operation _ c.args.x _ _ c.atom-op
 
 pub returns-clause-word : goal.returns-clause-word
 returns-clause-word c = copy_made _ _ _ c.args.x _ _ c.atom-operand.ensures c.requires.x c.in_ok-net.ensures.net
+
+pub returns-clause-made : goal.returns-clause-made
+returns-clause-made c = copy_over _ _ _ c.args.x _ c.atom-operand.ensures c.in_ok-net.ensures.net

@@ -1,6 +1,7 @@
 use Rattle.std.proofs.Common.{arith}
 use Rattle.datapath.proofs.Made.{join_operation, join_made}
 use Rattle.datapath.proofs.Growth.{signal_of}
+use Rattle.datapath.proofs.Over.{join_over}
 use Rattle.datapath.proofs.words.join.Goals as goal
 
 pub atom-left-requires : goal.atom-left-requires
@@ -14,3 +15,6 @@ net_for-requires-clause-operation c = join_operation _ c.args.x c.args.y _ _ c.a
 
 pub returns-clause-word : goal.returns-clause-word
 returns-clause-word c = join_made _ _ _ c.args.x c.args.y _ _ c.args.high c.args.low c.atom-left.ensures c.atom-right.ensures c.requires.x c.requires.y c.net_for.ensures.grows.includes c.in_ok-net.ensures.net
+
+pub returns-clause-made : goal.returns-clause-made
+returns-clause-made c = join_over _ _ _ c.args.x c.args.y _ _ c.atom-left.ensures c.atom-right.ensures c.in_ok-net.ensures.net

@@ -2,6 +2,7 @@ use Rattle.std.proofs.Common.{subst, sym}
 use Rattle.wiring.specs.Rules.{DividesByDivisor}
 use Rattle.datapath.proofs.Made.{binary_operation, binary_made}
 use Rattle.datapath.proofs.Growth.{signal_of}
+use Rattle.datapath.proofs.Over.{binary_over}
 use Rattle.datapath.proofs.words.operated.Goals as goal
 
 pub atom-left-requires : goal.atom-left-requires
@@ -15,3 +16,6 @@ net_for-requires-clause-operation c = binary_operation _ c.args.operator c.args.
 
 pub returns-clause-word : goal.returns-clause-word
 returns-clause-word c = binary_made _ _ _ c.args.operator c.args.x c.args.y _ _ _ c.atom-left.ensures c.atom-right.ensures c.requires.x c.net_for.ensures.grows.includes c.in_ok-net.ensures.net
+
+pub returns-clause-made : goal.returns-clause-made
+returns-clause-made c = binary_over _ _ _ c.args.operator c.args.x c.args.y _ _ c.atom-left.ensures c.atom-right.ensures c.in_ok-net.ensures.net

@@ -1,5 +1,6 @@
 use Rattle.datapath.proofs.Parts.{whole_part, part_word}
 use Rattle.datapath.proofs.Growth.{then_grows, grows_itself}
+use Rattle.datapath.proofs.Over.{itself_over, then_one, over_later}
 use Rattle.datapath.proofs.words.part.Goals as goal
 
 pub returns-then-count-width-clause-word : goal.returns-then-count-width-clause-word
@@ -16,3 +17,9 @@ returns-in_err-atom-clause-grows c = then_grows c.net_of.ensures.grows c.slice.e
 
 pub returns-clause-grows : goal.returns-clause-grows
 returns-clause-grows c = then_grows c.net_of.ensures.grows c.slice.ensures.grows
+
+pub returns-then-count-width-clause-made : goal.returns-then-count-width-clause-made
+returns-then-count-width-clause-made c = itself_over
+
+pub returns-clause-made : goal.returns-clause-made
+returns-clause-made c = then_one c.in_ok-atom.ensures.made (over_later c.slice.ensures.grows.includes c.in_ok-whole.ensures.made)

@@ -1,5 +1,6 @@
 use Rattle.datapath.proofs.Parts.{signs_of}
 use Rattle.datapath.proofs.Growth.{then_grows, width_later}
+use Rattle.datapath.proofs.Over.{itself_over, then_one, then_two, over_later}
 use Rattle.datapath.proofs.words.with_signs.Goals as goal
 
 pub returns-clause-word : goal.returns-clause-word
@@ -16,3 +17,6 @@ returns-in_err-atom-clause-grows c = then_grows (then_grows c.part.ensures.grows
 
 pub returns-clause-grows : goal.returns-clause-grows
 returns-clause-grows c = then_grows (then_grows c.part.ensures.grows c.repeat.ensures.grows) c.join.ensures.grows
+
+pub returns-clause-made : goal.returns-clause-made
+returns-clause-made c = then_two c.in_ok-atom.ensures.made (over_later c.join.ensures.grows.includes (then_one c.in_ok-signs.ensures.made (over_later c.repeat.ensures.grows.includes c.in_ok-sign.ensures.made))) itself_over

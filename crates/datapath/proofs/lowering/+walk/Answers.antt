@@ -1,0 +1,171 @@
+use Rattle.std.proofs.Common.{ap, refl, rules, FitsSigned}
+use Rattle.std.proofs.lemmas.Int.{to_z-of_z}
+use mir.Syntax.{w128}
+use Rattle.pointwise_ir.specs.Trees.{tree_of}
+use Rattle.datapath.proofs.Growth.{then_grows, grows_itself}
+use Rattle.datapath.proofs.Carried.{operand_later}
+use Rattle.datapath.proofs.Gates.{leaves_later}
+use Rattle.datapath.proofs.Parted.{constant_typed, read_place, shifted_place, unary_takes, convert_type, scale_takes, binary_takes, condition_type, select_type}
+use Rattle.datapath.proofs.Formed.{shifted_tree, unary_tree, convert_tree, scale_tree, binary_tree, select_tree}
+use Rattle.datapath.proofs.Walked.{literal_walked, read_walked, shifted_walked, unary_walked, convert_walked, scale_walked, binary_walked, select_walked}
+use Rattle.datapath.proofs.lowering.«+walk».Goals as goal
+
+pub literal-requires-clause-ty : goal.literal-requires-clause-ty
+literal-requires-clause-ty t c = (constant_typed _ _ _ _ _ c.requires.part _ _ (ap tree_of c.in-Constant.is)).0
+
+pub literal-requires-clause-value : goal.literal-requires-clause-value
+literal-requires-clause-value t c =
+    let value : FitsSigned w128 c.in-Constant.value = search rules in
+    rw (to_z-of_z w128 c.in-Constant.value value) (constant_typed _ _ _ _ _ c.requires.part _ _ (ap tree_of c.in-Constant.is)).1
+
+pub returns-in-Constant-clause-grows : goal.returns-in-Constant-clause-grows
+returns-in-Constant-clause-grows t c = grows_itself _
+
+pub returns-in-Constant-clause-walked : goal.returns-in-Constant-clause-walked
+returns-in-Constant-clause-walked t c =
+    let value : FitsSigned w128 c.in-Constant.value = search rules in
+    literal_walked _ _ _ _ _ _ c.literal.result c.in-Constant.value _ c.in-Constant.ty (ap tree_of c.in-Constant.is) (to_z-of_z w128 c.in-Constant.value value) (c.literal.ensures.value _) (c.literal.ensures.made _)
+
+pub returns-in-Read-clause-grows : goal.returns-in-Read-clause-grows
+returns-in-Read-clause-grows t c = grows_itself _
+
+pub read_at-ty-requires : goal.read_at-ty-requires
+read_at-ty-requires t c = read_place _ _ _ _ _ c.requires.part _ _ _ _ (ap tree_of c.in-Read.is)
+
+pub returns-in-Read-clause-walked : goal.returns-in-Read-clause-walked
+returns-in-Read-clause-walked t c = read_walked _ _ _ _ _ _ _ _ _ _ _ _ (ap tree_of c.in-Read.is) refl c.requires.leaves c.read_at-ty.ensures
+
+pub returns-in_err-operand-in-Unary-clause-grows : goal.returns-in_err-operand-in-Unary-clause-grows
+returns-in_err-operand-in-Unary-clause-grows t c = then_grows c.walk-in-Unary.ensures.grows c.unary.ensures.grows
+
+pub returns-in_ok-operand-in-Unary-clause-grows : goal.returns-in_ok-operand-in-Unary-clause-grows
+returns-in_ok-operand-in-Unary-clause-grows t c = then_grows c.walk-in-Unary.ensures.grows c.unary.ensures.grows
+
+pub returns-in_ok-operand-in-Unary-clause-walked : goal.returns-in_ok-operand-in-Unary-clause-walked
+returns-in_ok-operand-in-Unary-clause-walked t c = unary_walked _ _ _ _ _ _ _ c.in_ok-x-in-Unary.x _ _ _ (unary_tree _ _ _ _ _ c.in-Unary.is c.deref-in-Unary.ensures) c.unary.ensures.grows.includes c.in_ok-x-in-Unary.ensures.walked c.in_ok-operand-in-Unary.ensures.value c.in_ok-operand-in-Unary.ensures.made
+
+pub returns-in_err-operand-in-Convert-clause-grows : goal.returns-in_err-operand-in-Convert-clause-grows
+returns-in_err-operand-in-Convert-clause-grows t c = then_grows c.walk-in-Convert.ensures.grows c.converted.ensures.grows
+
+pub returns-in_ok-operand-in-Convert-clause-grows : goal.returns-in_ok-operand-in-Convert-clause-grows
+returns-in_ok-operand-in-Convert-clause-grows t c = then_grows c.walk-in-Convert.ensures.grows c.converted.ensures.grows
+
+pub returns-in_ok-operand-in-Convert-clause-walked : goal.returns-in_ok-operand-in-Convert-clause-walked
+returns-in_ok-operand-in-Convert-clause-walked t c = convert_walked _ _ _ _ _ _ _ c.in_ok-x-in-Convert.x _ _ _ _ (convert_tree _ _ _ _ _ _ c.in-Convert.is c.deref-in-Convert.ensures) c.converted.ensures.grows.includes c.in_ok-x-in-Convert.ensures.walked c.in_ok-operand-in-Convert.ensures.value c.in_ok-operand-in-Convert.ensures.made
+
+pub returns-in_err-operand-in-Scale-clause-grows : goal.returns-in_err-operand-in-Scale-clause-grows
+returns-in_err-operand-in-Scale-clause-grows t c = then_grows c.walk-in-Scale.ensures.grows c.scaled.ensures.grows
+
+pub returns-in_ok-operand-in-Scale-clause-grows : goal.returns-in_ok-operand-in-Scale-clause-grows
+returns-in_ok-operand-in-Scale-clause-grows t c = then_grows c.walk-in-Scale.ensures.grows c.scaled.ensures.grows
+
+pub returns-in_ok-operand-in-Scale-clause-walked : goal.returns-in_ok-operand-in-Scale-clause-walked
+returns-in_ok-operand-in-Scale-clause-walked t c = scale_walked _ _ _ _ _ _ _ c.in_ok-x-in-Scale.x _ _ _ _ (scale_tree _ _ _ _ _ _ c.in-Scale.is c.deref-in-Scale.ensures) c.scaled.ensures.grows.includes c.in_ok-x-in-Scale.ensures.walked c.in_ok-operand-in-Scale.ensures.value c.in_ok-operand-in-Scale.ensures.made
+
+pub unary-requires-clause-x : goal.unary-requires-clause-x
+unary-requires-clause-x t c = c.in_ok-x-in-Unary.ensures.walked.carries.operand
+
+pub unary-requires-clause-takes : goal.unary-requires-clause-takes
+unary-requires-clause-takes t c = (unary_takes _ _ _ _ _ c.requires.part _ _ _ (unary_tree _ _ _ _ _ c.in-Unary.is c.deref-in-Unary.ensures) c.in_ok-x-in-Unary.ensures.walked.carries.is).0
+
+pub unary-requires-clause-ty : goal.unary-requires-clause-ty
+unary-requires-clause-ty t c = (unary_takes _ _ _ _ _ c.requires.part _ _ _ (unary_tree _ _ _ _ _ c.in-Unary.is c.deref-in-Unary.ensures) c.in_ok-x-in-Unary.ensures.walked.carries.is).1
+
+pub converted-requires-clause-x : goal.converted-requires-clause-x
+converted-requires-clause-x t c = c.in_ok-x-in-Convert.ensures.walked.carries.operand
+
+pub converted-requires-clause-ty : goal.converted-requires-clause-ty
+converted-requires-clause-ty t c = convert_type _ _ _ _ _ c.requires.part _ _ _ (convert_tree _ _ _ _ _ _ c.in-Convert.is c.deref-in-Convert.ensures)
+
+pub scaled-requires-clause-x : goal.scaled-requires-clause-x
+scaled-requires-clause-x t c = c.in_ok-x-in-Scale.ensures.walked.carries.operand
+
+pub scaled-requires-clause-by : goal.scaled-requires-clause-by
+scaled-requires-clause-by t c = (scale_takes _ _ _ _ _ c.requires.part _ _ _ _ (scale_tree _ _ _ _ _ _ c.in-Scale.is c.deref-in-Scale.ensures) c.in_ok-x-in-Scale.ensures.walked.carries.is).0
+
+pub scaled-requires-clause-ty : goal.scaled-requires-clause-ty
+scaled-requires-clause-ty t c = (scale_takes _ _ _ _ _ c.requires.part _ _ _ _ (scale_tree _ _ _ _ _ _ c.in-Scale.is c.deref-in-Scale.ensures) c.in_ok-x-in-Scale.ensures.walked.carries.is).1
+
+pub shifted-requires-clause-x : goal.shifted-requires-clause-x
+shifted-requires-clause-x t c = c.in_ok-x-in-Shifted.ensures.walked.carries.operand
+
+pub shifted-requires-clause-bit : goal.shifted-requires-clause-bit
+shifted-requires-clause-bit t c = shifted_place _ _ _ _ _ c.requires.part _ _ _ _ (shifted_tree _ _ _ _ _ _ _ c.in-Shifted.is c.deref.ensures)
+
+pub shifted-requires-clause-one_bit : goal.shifted-requires-clause-one_bit
+shifted-requires-clause-one_bit t c = (leaves_later _ _ _ _ c.walk.ensures.grows c.requires.leaves).one_bit
+
+pub returns-in_err-operand-in-Shifted-clause-grows : goal.returns-in_err-operand-in-Shifted-clause-grows
+returns-in_err-operand-in-Shifted-clause-grows t c = then_grows c.walk.ensures.grows c.shifted.ensures.grows
+
+pub returns-in_ok-operand-in-Shifted-clause-grows : goal.returns-in_ok-operand-in-Shifted-clause-grows
+returns-in_ok-operand-in-Shifted-clause-grows t c = then_grows c.walk.ensures.grows c.shifted.ensures.grows
+
+pub returns-in_ok-operand-in-Shifted-clause-walked : goal.returns-in_ok-operand-in-Shifted-clause-walked
+returns-in_ok-operand-in-Shifted-clause-walked t c = shifted_walked _ _ _ _ _ _ _ c.in_ok-x-in-Shifted.x _ _ _ _ _ _ _ (shifted_tree _ _ _ _ _ _ _ c.in-Shifted.is c.deref.ensures) c.shifted.ensures.grows.includes c.below_edge.ensures.read c.below_edge.ensures.bit c.in_ok-x-in-Shifted.ensures.walked c.in_ok-operand-in-Shifted.ensures.value (c.in_ok-operand-in-Shifted.ensures.made _ c.in_ok-x-in-Shifted.ensures.walked.made)
+
+pub returns-in_err-y-in-Binary-clause-grows : goal.returns-in_err-y-in-Binary-clause-grows
+returns-in_err-y-in-Binary-clause-grows t c = then_grows c.walk-in-Binary.ensures.grows c.walk-in-Binary-2.ensures.grows
+
+pub returns-in_err-operand-in-Binary-clause-grows : goal.returns-in_err-operand-in-Binary-clause-grows
+returns-in_err-operand-in-Binary-clause-grows t c = then_grows (then_grows c.walk-in-Binary.ensures.grows c.walk-in-Binary-2.ensures.grows) c.binary.ensures.grows
+
+pub returns-in_ok-operand-in-Binary-clause-grows : goal.returns-in_ok-operand-in-Binary-clause-grows
+returns-in_ok-operand-in-Binary-clause-grows t c = then_grows (then_grows c.walk-in-Binary.ensures.grows c.walk-in-Binary-2.ensures.grows) c.binary.ensures.grows
+
+pub binary-requires-clause-x : goal.binary-requires-clause-x
+binary-requires-clause-x t c = operand_later _ _ _ c.walk-in-Binary-2.ensures.grows c.in_ok-x-in-Binary.ensures.walked.carries.operand
+
+pub binary-requires-clause-y : goal.binary-requires-clause-y
+binary-requires-clause-y t c = c.in_ok-y-in-Binary.ensures.walked.carries.operand
+
+pub binary-requires-clause-takes : goal.binary-requires-clause-takes
+binary-requires-clause-takes t c = (binary_takes _ _ _ _ _ c.requires.part _ _ _ _ _ _ (binary_tree _ _ _ _ _ _ _ _ c.in-Binary.is c.deref-in-Binary.ensures c.deref-right.ensures) c.in_ok-x-in-Binary.ensures.walked.read c.in_ok-x-in-Binary.ensures.walked.carries.is c.in_ok-y-in-Binary.ensures.walked.carries.is).0
+
+pub binary-requires-clause-common : goal.binary-requires-clause-common
+binary-requires-clause-common t c = (binary_takes _ _ _ _ _ c.requires.part _ _ _ _ _ _ (binary_tree _ _ _ _ _ _ _ _ c.in-Binary.is c.deref-in-Binary.ensures c.deref-right.ensures) c.in_ok-x-in-Binary.ensures.walked.read c.in_ok-x-in-Binary.ensures.walked.carries.is c.in_ok-y-in-Binary.ensures.walked.carries.is).1
+
+pub binary-requires-clause-ty : goal.binary-requires-clause-ty
+binary-requires-clause-ty t c = (binary_takes _ _ _ _ _ c.requires.part _ _ _ _ _ _ (binary_tree _ _ _ _ _ _ _ _ c.in-Binary.is c.deref-in-Binary.ensures c.deref-right.ensures) c.in_ok-x-in-Binary.ensures.walked.read c.in_ok-x-in-Binary.ensures.walked.carries.is c.in_ok-y-in-Binary.ensures.walked.carries.is).2
+
+pub returns-in_ok-operand-in-Binary-clause-walked : goal.returns-in_ok-operand-in-Binary-clause-walked
+returns-in_ok-operand-in-Binary-clause-walked t c = binary_walked _ _ _ _ _ _ _ _ c.in_ok-x-in-Binary.x c.in_ok-y-in-Binary.y _ _ _ _ (binary_tree _ _ _ _ _ _ _ _ c.in-Binary.is c.deref-in-Binary.ensures c.deref-right.ensures) c.walk-in-Binary-2.ensures.grows.includes c.binary.ensures.grows.includes c.in_ok-x-in-Binary.ensures.walked c.in_ok-y-in-Binary.ensures.walked c.in_ok-operand-in-Binary.ensures.value c.in_ok-operand-in-Binary.ensures.made
+
+pub returns-in_err-x-in-Select-clause-grows : goal.returns-in_err-x-in-Select-clause-grows
+returns-in_err-x-in-Select-clause-grows t c = then_grows c.walk-in-Select.ensures.grows c.walk-in-Select-2.ensures.grows
+
+pub returns-in_err-y-in-Select-clause-grows : goal.returns-in_err-y-in-Select-clause-grows
+returns-in_err-y-in-Select-clause-grows t c = then_grows (then_grows c.walk-in-Select.ensures.grows c.walk-in-Select-2.ensures.grows) c.walk-in-Select-3.ensures.grows
+
+pub returns-in_err-operand-in-Select-clause-grows : goal.returns-in_err-operand-in-Select-clause-grows
+returns-in_err-operand-in-Select-clause-grows t c = then_grows (then_grows (then_grows c.walk-in-Select.ensures.grows c.walk-in-Select-2.ensures.grows) c.walk-in-Select-3.ensures.grows) c.choice.ensures.grows
+
+pub returns-in_ok-operand-in-Select-clause-grows : goal.returns-in_ok-operand-in-Select-clause-grows
+returns-in_ok-operand-in-Select-clause-grows t c = then_grows (then_grows (then_grows c.walk-in-Select.ensures.grows c.walk-in-Select-2.ensures.grows) c.walk-in-Select-3.ensures.grows) c.choice.ensures.grows
+
+pub choice-requires-clause-condition : goal.choice-requires-clause-condition
+choice-requires-clause-condition t c = operand_later _ _ _ (then_grows c.walk-in-Select-2.ensures.grows c.walk-in-Select-3.ensures.grows) c.in_ok-c-in-Select.ensures.walked.carries.operand
+
+pub choice-requires-clause-x : goal.choice-requires-clause-x
+choice-requires-clause-x t c = operand_later _ _ _ c.walk-in-Select-3.ensures.grows c.in_ok-x-in-Select.ensures.walked.carries.operand
+
+pub choice-requires-clause-y : goal.choice-requires-clause-y
+choice-requires-clause-y t c = c.in_ok-y-in-Select.ensures.walked.carries.operand
+
+pub choice-requires-clause-bit : goal.choice-requires-clause-bit
+choice-requires-clause-bit t c = condition_type _ _ _ _ _ c.requires.part _ _ _ _ (select_tree _ _ _ _ _ _ _ _ _ _ c.in-Select.is c.deref-in-Select.ensures c.deref-first.ensures c.deref-second.ensures) c.in_ok-c-in-Select.ensures.walked.carries.is
+
+pub choice-requires-clause-ty : goal.choice-requires-clause-ty
+choice-requires-clause-ty t c = select_type _ _ _ _ _ c.requires.part _ _ _ _ _ _ _ (select_tree _ _ _ _ _ _ _ _ _ _ c.in-Select.is c.deref-in-Select.ensures c.deref-first.ensures c.deref-second.ensures) c.in_ok-c-in-Select.ensures.walked.read c.in_ok-x-in-Select.ensures.walked.read c.in_ok-x-in-Select.ensures.walked.carries.is c.in_ok-y-in-Select.ensures.walked.carries.is
+
+pub returns-in_ok-operand-in-Select-clause-walked : goal.returns-in_ok-operand-in-Select-clause-walked
+returns-in_ok-operand-in-Select-clause-walked t c = select_walked _ _ _ _ _ _ _ _ _ c.in_ok-c-in-Select.c c.in_ok-x-in-Select.x c.in_ok-y-in-Select.y _ _ _ _ (select_tree _ _ _ _ _ _ _ _ _ _ c.in-Select.is c.deref-in-Select.ensures c.deref-first.ensures c.deref-second.ensures) c.walk-in-Select-2.ensures.grows.includes c.walk-in-Select-3.ensures.grows.includes c.choice.ensures.grows.includes c.in_ok-c-in-Select.ensures.walked c.in_ok-x-in-Select.ensures.walked c.in_ok-y-in-Select.ensures.walked c.in_ok-operand-in-Select.ensures.value c.in_ok-operand-in-Select.ensures.made
+
+pub begins-requires-clause-leaves : goal.begins-requires-clause-leaves
+begins-requires-clause-leaves t c = leaves_later _ _ _ _ c.walk-in-Binary.ensures.grows c.requires.leaves
+
+pub begins-requires-in-Select-clause-leaves : goal.begins-requires-in-Select-clause-leaves
+begins-requires-in-Select-clause-leaves t c = leaves_later _ _ _ _ c.walk-in-Select.ensures.grows c.requires.leaves
+
+pub begins-requires-in-Select-2-clause-leaves : goal.begins-requires-in-Select-2-clause-leaves
+begins-requires-in-Select-2-clause-leaves t c = leaves_later _ _ _ _ (then_grows c.walk-in-Select.ensures.grows c.walk-in-Select-2.ensures.grows) c.requires.leaves

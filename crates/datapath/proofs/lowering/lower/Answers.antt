@@ -1,0 +1,28 @@
+use Rattle.datapath.proofs.Named.{named_carries}
+use Rattle.datapath.proofs.Gates.{leaves_have}
+use Rattle.datapath.proofs.Growth.{then_grows}
+use Rattle.datapath.proofs.Parted.{leaves_one}
+use Rattle.datapath.proofs.Walked.{whole_part, leaves_as, part_as, walked_over}
+use Rattle.datapath.proofs.lowering.lower.Goals as goal
+
+pub walk-requires-clause-leaves : goal.walk-requires-clause-leaves
+walk-requires-clause-leaves c = leaves_as _ _ _ _ _ c.as_slice-reads.ensures.value c.as_slice-bits.ensures.value (leaves_have _ _ _ c.law.ensures.fits c.requires.nets)
+
+pub walk-requires-clause-part : goal.walk-requires-clause-part
+walk-requires-clause-part c = part_as _ _ _ _ _ c.as_slice-reads.ensures.value c.as_slice-bits.ensures.value (whole_part _ _ _ c.requires.leaves)
+
+pub returns-in_err-net-clause-grows : goal.returns-in_err-net-clause-grows
+returns-in_err-net-clause-grows c = then_grows c.walk.ensures.grows c.net_of.ensures.grows
+
+pub returns-clause-grows : goal.returns-clause-grows
+returns-clause-grows c = then_grows c.walk.ensures.grows c.net_of.ensures.grows
+
+pub returns-clause-value : goal.returns-clause-value
+returns-clause-value c =
+    let walked = walked_over _ _ _ _ _ _ _ c.as_slice-reads.ensures.value c.as_slice-bits.ensures.value c.in_ok-x.ensures.walked in
+    named_carries _ _ c.in_ok-x.x.operand _ _ c.width.result _ c.width.ensures c.net_of.ensures.grows.includes walked.carries c.in_ok-net.ensures.word
+
+pub returns-clause-made : goal.returns-clause-made
+returns-clause-made c =
+    let walked = walked_over _ _ _ _ _ _ _ c.as_slice-reads.ensures.value c.as_slice-bits.ensures.value c.in_ok-x.ensures.walked in
+    leaves_one c.net_of.ensures.grows.includes c.in_ok-net.ensures.made walked.made
