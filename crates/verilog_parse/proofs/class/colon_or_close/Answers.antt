@@ -1,0 +1,7 @@
+use Rattle.std.proofs.Common.{sym}
+use Rattle.verilog_parse.specs.Forms.{colon_or_close}
+use Rattle.verilog_parse.proofs.Fronts as F
+use Rattle.verilog_parse.proofs.class.colon_or_close.Goals as goal
+
+pub returns-in-None : goal.returns-in-None
+returns-in-None c = record { parsed = F.stuck_first (λ k s. colon_or_close k) _ _ _ F.colon_or_close_class c.peek-token.ensures.next.1 (sym c.in-None.ensures) }

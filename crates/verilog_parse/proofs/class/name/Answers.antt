@@ -1,0 +1,7 @@
+use Rattle.std.proofs.Common.{sym}
+use Rattle.verilog_text.specs.Grammar.{named}
+use Rattle.verilog_parse.proofs.Fronts as F
+use Rattle.verilog_parse.proofs.class.name.Goals as goal
+
+pub returns-in-None : goal.returns-in-None
+returns-in-None c = record { parsed = F.stuck_first named _ _ _ F.name_class c.peek-token.ensures.next.1 (sym c.in-None.ensures) }

@@ -1,0 +1,60 @@
+// Declarations.
+
+ghost use Rattle.std.specs.Prelude.{◌≡◌, MatchResult};
+ghost use Rattle.verilog_parse.specs.Forms.{Halts};
+ghost use Rattle.verilog_parse.specs.Sections.{AWire, AfterReg, AReg};
+
+use crate::class;
+use crate::halt::Halt;
+use crate::kind::{RangedName, Tail};
+use crate::port::{bits, ranged};
+use verilog_lexer::Tokens;
+use verilog_text::{Symbol, WrittenDeclaration, WrittenSort};
+
+/// What stands behind `wire`.
+pub(crate) fn wire(tokens: &mut Tokens<'_>) -> Result<WrittenDeclaration, Halt>
+    ensures parsed { MatchResult result (λ v. AWire tokens.old v tokens.new) (λ e. Halts AWire tokens.old tokens.new e) }
+{
+    let found = ranged(tokens)?;
+    class::sign(Symbol::Semicolon, tokens)?;
+    Ok(WrittenDeclaration {
+        sort: WrittenSort::Wire,
+        bits: found.bits,
+        name: found.name,
+    })
+}
+
+fn after_reg(
+    found: RangedName,
+    tail: Tail,
+    tokens: &mut Tokens<'_>,
+) -> Result<WrittenDeclaration, Halt>
+    ensures parsed { MatchResult result (λ v. AfterReg found tail tokens.old v tokens.new) (λ e. Halts (AfterReg found tail) tokens.old tokens.new e) }
+{
+    match tail {
+        Tail::End => Ok(WrittenDeclaration {
+            sort: WrittenSort::Reg,
+            bits: found.bits,
+            name: found.name,
+        }),
+        Tail::Words => {
+            let words = bits(tokens)?;
+            class::sign(Symbol::Semicolon, tokens)?;
+            Ok(WrittenDeclaration {
+                sort: WrittenSort::Array(words),
+                bits: found.bits,
+                name: found.name,
+            })
+        }
+    }
+}
+
+/// What stands behind `reg`.
+pub(crate) fn reg(tokens: &mut Tokens<'_>) -> Result<WrittenDeclaration, Halt>
+    ensures parsed { MatchResult result (λ v. AReg tokens.old v tokens.new) (λ e. Halts AReg tokens.old tokens.new e) }
+{
+    let found = ranged(tokens)?;
+    let tail = class::tail(tokens)?;
+    let declaration = after_reg(found, tail, tokens)?;
+    Ok(declaration)
+}

@@ -1,0 +1,17 @@
+//! What is written in a Verilog text, or the first fault of its tokens or of its grammar.
+#![tactic(auto)]
+
+mod class;
+mod declaration;
+mod halt;
+mod kind;
+mod module;
+mod port;
+mod right;
+mod table;
+#[cfg(test)]
+mod tests;
+mod text;
+mod update;
+
+pub use text::{name_span, parse};

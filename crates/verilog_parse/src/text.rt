@@ -1,0 +1,70 @@
+// Whole texts.
+
+ghost use Rattle.std.specs.Prelude.{◌≡◌, ℕ, List, IfOk, IfErr, MatchResult};
+ghost use Rattle.verilog_text.specs.declared.fault.TextFault.{TextFault as OneFault};
+ghost use Rattle.verilog_text.specs.declared.fault.TextFault.TheVariants.{Memory};
+ghost use Rattle.verilog_text.specs.Grammar.{Source, source_of};
+ghost use Rattle.verilog_text.specs.Stands.{IsWritten};
+ghost use Rattle.verilog_text.specs.Faults.{Agrees};
+ghost use Rattle.verilog_parse.specs.Fault.{IsParseFault, fault_at as fault_at_token};
+
+use crate::halt::Halt;
+use crate::module::module;
+use dk_base::Span;
+use std::alloc::Global;
+use verilog_lexer::Tokens;
+use verilog_text::{TextFault, Token, TokenKind, Written};
+
+/// What is written in a text, or the first fault of its tokens, or else of its grammar.
+pub fn parse(alloc: Global, text: &[u8]) -> Result<Written, TextFault>
+    // What is answered is so.
+    ensures written { IfOk result (λ w. IsWritten text.now (source_of w)) }
+    ensures fault { IfErr result (λ f. IsParseFault text.now f) }
+
+    // What is so is answered, but for want of memory.
+    ensures accepts { (s : Source) → IsWritten text.now s → MatchResult result (λ w. source_of w ≡ s) (λ f. f ≡ Memory) }
+    ensures refuses { (f : OneFault) → IsParseFault text.now f → MatchResult result (λ w. f ≡ Memory) (λ g. Agrees g f) }
+{
+    verilog_text::one_reading();
+    read(alloc, text)
+}
+
+// The fault of a module that this token doesn't continue.
+fn fault_at(token: Token) -> TextFault
+    ensures { result ≡ fault_at_token token }
+{
+    match token.kind {
+        TokenKind::Refused => TextFault::NotInSubset(token.span),
+        _ => TextFault::Syntax(token.span),
+    }
+}
+
+fn read(alloc: Global, text: &[u8]) -> Result<Written, TextFault>
+    ensures { MatchResult result (λ w. IsWritten text.now (source_of w)) (λ f. IsParseFault text.now f) }
+{
+    let mut tokens = match Tokens::of(text) {
+        Ok(tokens) => tokens,
+        Err(fault) => return Err(TextFault::Lex(fault)),
+    };
+    match module(alloc, &mut tokens) {
+        Ok(written) => Ok(written),
+        Err(Halt::Faulty) => Err(fault_at(tokens.peek())),
+        Err(Halt::Memory) => Err(TextFault::Memory),
+    }
+}
+
+/// The span of the module's name in a text in which a module is written. It takes no memory.
+pub fn name_span(text: &[u8]) -> Span
+    requires { (s : Source) × IsWritten text.now s }
+    ensures { (s : Source) → IsWritten text.now s → result ≡ s.name }
+{
+    verilog_text::one_reading();
+    match Tokens::of(text) {
+        Ok(tokens) => {
+            let mut tokens = tokens;
+            tokens.take();
+            tokens.peek().span
+        }
+        Err(_) => unreachable!(),
+    }
+}
