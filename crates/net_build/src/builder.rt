@@ -132,6 +132,13 @@ impl Builder {
         Net::Input(1)
     }
 
+    /// Whether there is `en`.
+    pub fn has_en(&self) -> bool
+        ensures { result ≡ self.now.enable }
+    {
+        self.wiring.enable
+    }
+
     /// The net of the `din` of this number.
     pub fn din_at(&self, k: usize) -> Net
         requires { first_din self.now + k < length self.now.inputs }

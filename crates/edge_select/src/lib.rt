@@ -1,0 +1,14 @@
+//! Where a pixel stands, and whether a read falls inside: counters of column and row, and tests at the edges of a frame.
+#![tactic(auto)]
+
+mod counters;
+mod frame_tests;
+mod laws;
+mod pixel;
+mod step;
+
+pub use counters::position;
+pub use frame_tests::{at, constant_test, inside, is_always};
+pub use laws::pixels_last;
+pub use pixel::Pixel;
+pub use step::Step;
