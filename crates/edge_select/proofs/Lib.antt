@@ -1,1 +1,6 @@
 pub mod Lasting
+pub mod Logic
+pub mod Counting
+pub mod Leading
+pub mod Following
+pub mod Registering

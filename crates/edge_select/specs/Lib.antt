@@ -1,3 +1,4 @@
 pub mod Steps
 pub mod Logic
 pub mod Pixels
+pub mod Counters

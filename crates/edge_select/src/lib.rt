@@ -3,6 +3,7 @@
 
 mod counters;
 mod frame_tests;
+mod gates;
 mod laws;
 mod pixel;
 mod step;
