@@ -1,5 +1,7 @@
 pub mod Lasting
 pub mod Logic
+pub mod Chains
+pub mod Walks
 pub mod Counting
 pub mod Leading
 pub mod Following

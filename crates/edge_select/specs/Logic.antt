@@ -1,5 +1,5 @@
 -- What further wires compute.
-use Rattle.std.specs.Prelude.{◌≡◌, ℕ, Bool, true, List, All, Contains, Option, Some, None}
+use Rattle.std.specs.Prelude.{◌≡◌, ℕ, ◌+◌, nat_lt, nat_le, bit_and, Bool, true, ◌&&◌, if◌then◌else◌, List, [], ◌∷◌, All, Contains, Option, Some, None}
 use Rattle.wiring.specs.declared.right.Right.{Right}
 use Rattle.wiring.specs.declared.netlist.Net.{Net}
 use Rattle.wiring.specs.declared.netlist.Holder.{Holder}
@@ -44,3 +44,28 @@ pub record IsGate (new old : Netlist) (r : Right Net ℕ) (n : Net) : Type 0 whe
   pub width : net_width new n ≡ width_of old r
   pub value : InEach new (λ m s. net_value s n ≡ right_value (net_width m) (word_value s) (net_value s) r)
   pub made_of : (base : Holder → Bool) → All (IsMadeOf new base) (right_reads r) → IsMadeOf new base (OfNet n)
+
+-- a test's net, where it has one, has one bit
+abbrev pub IsBit : Netlist → Option Net → Type 0
+IsBit b None = Unit {0}
+IsBit b (Some n) = IsNet b n × (net_width b n ≡ 1)
+
+-- the test passes where both do
+abbrev pub IsBoth : (new old : Netlist) (one other both : Option Net) → Type 0
+IsBoth new old None other both = both ≡ other
+IsBoth new old (Some n) None both = both ≡ Some n
+IsBoth new old (Some n) (Some o) None = ⊥
+IsBoth new old (Some n) (Some o) (Some k) = Computes new old (n ∷ (o ∷ [])) 1 (λ s. bit_and (net_value s n) (net_value s o)) k
+
+-- the net of a test
+abbrev pub IsTestNet : (new old : Netlist) → Option Net → Net → Type 0
+IsTestNet new old None n = Computes new old [] 1 (λ s. 1) n
+IsTestNet new old (Some k) n = n ≡ k
+
+-- a coordinate is at most `last`, where the side has so many coordinates
+abbrev pub is_up_to : (side last : ℕ) → ℕ → Bool
+is_up_to side last x = if nat_lt (last + 1) side then nat_lt x (last + 1) else true
+
+-- it is in the interval
+abbrev pub is_within : (side first last : ℕ) → ℕ → Bool
+is_within side first last x = nat_le first x && is_up_to side last x

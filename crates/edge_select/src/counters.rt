@@ -1,9 +1,9 @@
 // Counters of column and row.
 
-ghost use Rattle.std.specs.Prelude.{ℕ, suc, ◌≡◌, ◌+◌, ◌-◌, ◌<◌, ◌≤◌, ◌==◌, ◌^◌, nat_lt, if◌then◌else◌, List, [], ◌∷◌, ◌++◌, length, IfOk, OnOk};
+ghost use Rattle.std.specs.Prelude.{ℕ, suc, ◌≡◌, ◌+◌, ◌-◌, ◌<◌, ◌==◌, ◌^◌, nat_lt, if◌then◌else◌, List, [], ◌∷◌, ◌++◌, length, IfOk, OnOk};
 ghost use Rattle.dk_base.specs.Frames.{IsFrame, column, row, area};
 ghost use Rattle.dk_base.specs.FrameSizes.{size_of};
-ghost use Rattle.dk_base.specs.Numbers.{bit_count, IsBitCount};
+ghost use Rattle.dk_base.specs.Numbers.{bit_count};
 ghost use Rattle.wiring.specs.declared.netlist.Net.TheVariants.{Reg};
 ghost use Rattle.wiring.specs.declared.netlist.Holder.{Holder};
 ghost use Rattle.wiring.specs.declared.netlist.Holder.TheVariants.{OfNet};
@@ -20,29 +20,10 @@ ghost use Rattle.edge_select.specs.Pixels.{HasPixel, Follows, AddsCounters};
 ghost use Rattle.edge_select.specs.Counters.{after, row_after, lead_in, control_nets, taken, Advances};
 
 use crate::gates::{gate, number};
-use crate::pixel::Pixel;
-use dk_base::{FrameSize, Memory, bits_for};
+use crate::pixel::{Pixel, last_of, width_for};
+use dk_base::{FrameSize, Memory};
 use net_build::Builder;
 use wiring::{Atom, Net, Operator, Right};
-
-// The last of so many columns or rows.
-fn last_of(side: u32) -> u64
-    requires { 1 ≤ side }
-    ensures { result ≡ side - 1 }
-{
-    u64::from(side) - 1
-}
-
-// The width in bits of a register for so many columns or rows.
-fn width_for(side: u32) -> u8
-    requires some { 1 ≤ side }
-    requires most { side ≤ 4096 }
-    ensures count { result ≡ bit_count (side - 1) }
-    ensures width { IsWidth result }
-    ensures fits { side - 1 < 2 ^ result }
-{
-    bits_for(last_of(side))
-}
 
 // Whether a count is before its last number, and what follows.
 #[derive(Clone, Copy)]

@@ -5,6 +5,8 @@ mod counters;
 mod frame_tests;
 mod gates;
 mod laws;
+mod moves;
+mod paths;
 mod pixel;
 mod step;
 
