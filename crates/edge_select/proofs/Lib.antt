@@ -6,3 +6,4 @@ pub mod Counting
 pub mod Leading
 pub mod Following
 pub mod Registering
+pub mod Combining
