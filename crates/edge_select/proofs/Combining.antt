@@ -145,8 +145,8 @@ both_tests new mid old from f g (Some n) (Some o) (Some k) grows p q e =
     computes_through new mid old from (n ∷ (o ∷ [])) 1 (λ s. bit_and (net_value s n) (net_value s o)) (λ s. bit (f s && g s)) k e
     (λ base all. two_made mid base n o (p.made_of base all) (q.made_of base all))
     (λ m s part settled.
-        let in_mid : Includes m mid = Includes-trans m new mid part grows in
-        ap (λ (v : ℕ). bit_and v (net_value s o)) (p.value m s in_mid settled) ∙ ap (λ (v : ℕ). bit_and (bit (f s)) v) (q.value m s in_mid settled) ∙ and_bits (f s) (g s))
+    let in_mid : Includes m mid = Includes-trans m new mid part grows in
+    ap (λ (v : ℕ). bit_and v (net_value s o)) (p.value m s in_mid settled) ∙ ap (λ (v : ℕ). bit_and (bit (f s)) v) (q.value m s in_mid settled) ∙ and_bits (f s) (g s))
 
 pub test_computes : (new mid old : Netlist) (from : List Net) (t : Snapshot → Bool) (o : Option Net) (n : Net) → Includes new mid → Includes mid old → Tests mid old from t o → IsTestNet new mid o n → Computes new old from 1 (λ s. bit (t s)) n
 test_computes new mid old from t None n grows older is net =

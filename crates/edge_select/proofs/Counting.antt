@@ -174,14 +174,14 @@ advances new mid one old p now next n bits next_bits first worth f g h at c d =
     let grows : Includes mid old = Includes-trans mid one old g h in
     computes_through new mid old from (control_nets mid.enable ++ now ∷ (next ∷ [])) bits (λ s. taken mid.enable first (net_value s now) (net_value s next) s) (λ s. taken old.enable first (net_value s now) (worth s) s) n d
     (λ base all x in_via.
-        let pixel_made : AreMadeOf old base own = λ y k. all y (Contains-append_right (control_nets old.enable) own y k) in
-        elim (Contains-append_cases (control_nets mid.enable) (now ∷ (next ∷ [])) x in_via) as (λ _. IsMadeOf mid base (OfNet x)) [
-          | inl k ↦ made_more mid old base grows (all x (Contains-append_left (control_nets old.enable) own x (subst (λ (e : Bool). Contains (control_nets e) x) grows.enable k)))
-          | inr k ↦ two_made mid base now next (made_more mid old base grows (pixel_made now at)) (made_more mid one base g (c.made_of base pixel_made)) x k
-        ])
+    let pixel_made : AreMadeOf old base own = λ y k. all y (Contains-append_right (control_nets old.enable) own y k) in
+    elim (Contains-append_cases (control_nets mid.enable) (now ∷ (next ∷ [])) x in_via) as (λ _. IsMadeOf mid base (OfNet x)) [
+      | inl k ↦ made_more mid old base grows (all x (Contains-append_left (control_nets old.enable) own x (subst (λ (e : Bool). Contains (control_nets e) x) grows.enable k)))
+      | inr k ↦ two_made mid base now next (made_more mid old base grows (pixel_made now at)) (made_more mid one base g (c.made_of base pixel_made)) x k
+    ])
     (λ m s part settled.
-        ap (λ (e : Bool). taken e first (net_value s now) (net_value s next) s) grows.enable
-        ∙ ap (λ (v : ℕ). taken old.enable first (net_value s now) v s) (c.value m s (Includes-trans m mid one (Includes-trans m new mid part f) g) settled))
+    ap (λ (e : Bool). taken e first (net_value s now) (net_value s next) s) grows.enable
+    ∙ ap (λ (v : ℕ). taken old.enable first (net_value s now) v s) (c.value m s (Includes-trans m mid one (Includes-trans m new mid part f) g) settled))
   where
     two_made : (b : Netlist) (base : Holder → Bool) (y z : Net) → IsMadeOf b base (OfNet y) → IsMadeOf b base (OfNet z) → AreMadeOf b base (y ∷ (z ∷ []))
     two_made b base y z p q x (zero, l, e) = subst (λ (w : Net). IsMadeOf b base (OfNet w)) e p

@@ -1,5 +1,5 @@
 -- Steps, an axis at a time.
-use Rattle.std.proofs.Common.{◌≡◌, ℕ, zero, suc, length, ◌<◌, ◌≤◌, ℤ, pos, ◌+ℤ◌, Bool, true, false, List, [], ◌∷◌, Some, refl, sym, ap, subst, ◌∙◌, arith}
+use Rattle.std.proofs.Common.{◌≡◌, ℕ, zero, suc, ◌+◌, ◌-◌, length, ◌<◌, ◌≤◌, ℤ, pos, ◌+ℤ◌, Bool, true, false, List, [], ◌∷◌, Some, refl, sym, ap, subst, ◌∙◌, arith}
 use Rattle.std.specs.Prelude.{IsTrue, ◌&&◌, drop, Option}
 use Rattle.dk_base.specs.Frames.{Size, is_below, in_frame}
 use Rattle.pointwise_ir.specs.declared.expr.Edge.{Edge}
@@ -12,7 +12,8 @@ use Rattle.edge_select.specs.declared.moves.Moves.{Moves}
 use Rattle.edge_select.specs.declared.moves.Interval.{Interval}
 use Rattle.edge_select.specs.declared.paths.Passing.{Passing}
 use Rattle.edge_select.specs.Steps.{Lead, LeadBy}
-use Rattle.edge_select.specs.Moves.{Leads, LeadsThen, Ends, along, LeadAlong, LeadsOnAlong, IsInOn, PassesOn}
+use Rattle.edge_select.specs.Moves.{Leads, LeadsThen, Ends, along, LeadAlong, LeadsOnAlong, IsInOn, Passes, PassesOn}
+use Rattle.edge_select.specs.Pixels.{AllPass}
 
 and_parts : (a b : Bool) → IsTrue (a && b) → IsTrue a × IsTrue b
 and_parts true b h = (refl, h)
@@ -84,3 +85,31 @@ passes_is size steps dx dy x y across down both a d j = (
   (λ p. let t = j.0 p in lead_joined size steps (pos x) (pos y) (pos x +ℤ dx) (pos y +ℤ dy) (a.0 t.0) (d.0 t.1)),
   (λ l. let t = lead_apart size steps (pos x) (pos y) (pos x +ℤ dx) (pos y +ℤ dy) l in j.1 (a.1 t.0, d.1 t.1)),
 )
+
+-- one step that is not clamped leads exactly where its point is in the frame
+abbrev pub one_step : (dx dy : ℤ) → List Step
+one_step dx dy = (record { edge = Zero; dx = dx; dy = dy }) ∷ []
+
+pub one_to : (size : Size) (dx dy : ℤ) (x y : ℕ) → LeadBy size (one_step dx dy) dx dy x y → IsTrue (in_frame size (pos x +ℤ dx) (pos y +ℤ dy))
+one_to size dx dy x y k = k.2.2
+
+pub one_from : (size : Size) (dx dy : ℤ) (x y : ℕ) → IsTrue (in_frame size (pos x +ℤ dx) (pos y +ℤ dy)) → LeadBy size (one_step dx dy) dx dy x y
+one_from size dx dy x y h = (pos x +ℤ dx, pos y +ℤ dy, (refl, refl, h), (refl, refl))
+
+-- the interval is the whole side
+abbrev pub IsWhole : Interval → ℕ → Type 0
+IsWhole i side = (i.first ≡ 0) × (side ≤ i.last + 1)
+
+pub whole_passes : (width height : ℕ) (r : Passing) (L : (x y : ℕ) → Type 0) → IsWhole r.across width → IsWhole r.down height → ((x y : ℕ) → x < width → y < height → Same (Passes r x y) (L x y)) → AllPass width height L
+whole_passes width height r L a d same x y low high = (same x y low high).0 (record {
+  across = record { first = omega (arith, a.0); last = omega (arith, a.1, low) };
+  down = record { first = omega (arith, d.0); last = omega (arith, d.1, high) };
+})
+
+pub passes_whole : (width height : ℕ) (r : Passing) (L : (x y : ℕ) → Type 0) → 1 ≤ width → 1 ≤ height → AllPass width height L → ((x y : ℕ) → x < width → y < height → Same (Passes r x y) (L x y)) → IsWhole r.across width × IsWhole r.down height
+passes_whole width height r L some tall all same =
+    let low : width - 1 < width = omega (arith, some) in
+    let high : height - 1 < height = omega (arith, tall) in
+    let first = (same 0 0 some tall).1 (all 0 0 some tall) in
+    let last = (same (width - 1) (height - 1) low high).1 (all (width - 1) (height - 1) low high) in
+    ((omega (arith, first.across.first), omega (arith, last.across.last, some)), (omega (arith, first.down.first), omega (arith, last.down.last, tall)))

@@ -41,9 +41,18 @@ fn count(b: &mut Builder, at: Net, bits: u8, last: u64) -> Result<Counted, Memor
     ensures going { IfOk result (λ c. Computes b.new b.old (at ∷ []) 1 (λ s. bit (nat_lt (net_value s at) last)) c.going) }
     ensures next { IfOk result (λ c. Computes b.new b.old (at ∷ []) bits (λ s. after last (net_value s at)) c.next) }
 {
-    let going = gate(b, Right::Binary(Operator::Less, Atom::Net(at), number(bits, last)))?;
-    let more = gate(b, Right::Binary(Operator::Add, Atom::Net(at), number(bits, 1)))?;
-    let next = gate(b, Right::Choose(Atom::Net(going), Atom::Net(more), number(bits, 0)))?;
+    let going = gate(
+        b,
+        Right::Binary(Operator::Less, Atom::Net(at), number(bits, last)),
+    )?;
+    let more = gate(
+        b,
+        Right::Binary(Operator::Add, Atom::Net(at), number(bits, 1)),
+    )?;
+    let next = gate(
+        b,
+        Right::Choose(Atom::Net(going), Atom::Net(more), number(bits, 0)),
+    )?;
     Ok(Counted { going, next })
 }
 
@@ -64,8 +73,18 @@ fn next_pixel(b: &mut Builder, pixel: &Pixel) -> Result<Values, Memory>
     let size = pixel.size;
     let across = count(b, pixel.column, width_for(size.width), last_of(size.width))?;
     let down = count(b, pixel.row, width_for(size.height), last_of(size.height))?;
-    let row = gate(b, Right::Choose(Atom::Net(across.going), Atom::Net(pixel.row), Atom::Net(down.next)))?;
-    Ok(Values { column: across.next, row })
+    let row = gate(
+        b,
+        Right::Choose(
+            Atom::Net(across.going),
+            Atom::Net(pixel.row),
+            Atom::Net(down.next),
+        ),
+    )?;
+    Ok(Values {
+        column: across.next,
+        row,
+    })
 }
 
 // A pixel by its column and row.
@@ -102,7 +121,10 @@ fn unless_held(b: &mut Builder, now: Net, next: Net, bits: u8) -> Result<Net, Me
 {
     if b.has_en() {
         let en = b.en();
-        let net = gate(b, Right::Choose(Atom::Net(en), Atom::Net(next), Atom::Net(now)))?;
+        let net = gate(
+            b,
+            Right::Choose(Atom::Net(en), Atom::Net(next), Atom::Net(now)),
+        )?;
         return Ok(net);
     }
     Ok(next)
@@ -121,7 +143,10 @@ fn register_value(b: &mut Builder, now: Net, next: Net, bits: u8, first: u64) ->
 {
     let going = unless_held(b, now, next, bits)?;
     let reset = b.rst();
-    let net = gate(b, Right::Choose(Atom::Net(reset), number(bits, first), Atom::Net(going)))?;
+    let net = gate(
+        b,
+        Right::Choose(Atom::Net(reset), number(bits, first), Atom::Net(going)),
+    )?;
     Ok(net)
 }
 
@@ -134,7 +159,13 @@ fn pixel_values(b: &mut Builder, pixel: &Pixel, delay: u64) -> Result<Values, Me
     let size = pixel.size;
     let first = first_place(size, delay);
     let next = next_pixel(b, pixel)?;
-    let column = register_value(b, pixel.column, next.column, width_for(size.width), first.column)?;
+    let column = register_value(
+        b,
+        pixel.column,
+        next.column,
+        width_for(size.width),
+        first.column,
+    )?;
     let row = register_value(b, pixel.row, next.row, width_for(size.height), first.row)?;
     Ok(Values { column, row })
 }

@@ -22,7 +22,7 @@ use crate::step::Step;
 use dk_base::{FrameSize, Memory};
 use net_build::Builder;
 use pointwise_ir::Edge;
-use wiring::{Net, Operator, Right, Atom};
+use wiring::{Atom, Net, Operator, Right};
 
 // The test that a coordinate is at least `first`, or None where each is.
 fn at_least(b: &mut Builder, x: Net, bits: u8, first: u32) -> Result<Option<Net>, Memory>
@@ -55,7 +55,10 @@ fn at_most(b: &mut Builder, x: Net, bits: u8, last: u32, side: u32) -> Result<Op
     if end >= side {
         return Ok(None);
     }
-    let net = gate(b, Right::Binary(Operator::Less, Atom::Net(x), number(bits, u64::from(end))))?;
+    let net = gate(
+        b,
+        Right::Binary(Operator::Less, Atom::Net(x), number(bits, u64::from(end))),
+    )?;
     Ok(Some(net))
 }
 
@@ -71,7 +74,10 @@ fn both(b: &mut Builder, one: Option<Net>, other: Option<Net>) -> Result<Option<
         Some(left) => match other {
             None => Ok(one),
             Some(right) => {
-                let net = gate(b, Right::Binary(Operator::And, Atom::Net(left), Atom::Net(right)))?;
+                let net = gate(
+                    b,
+                    Right::Binary(Operator::And, Atom::Net(left), Atom::Net(right)),
+                )?;
                 Ok(Some(net))
             }
         },
