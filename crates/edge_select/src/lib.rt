@@ -9,9 +9,11 @@ mod moves;
 mod paths;
 mod pixel;
 mod step;
+#[cfg(test)]
+mod tests;
 
 pub use counters::position;
 pub use frame_tests::{at, constant_test, inside, is_always};
-pub use laws::pixels_last;
+pub use laws::{one_step, pixels_last};
 pub use pixel::Pixel;
 pub use step::Step;
