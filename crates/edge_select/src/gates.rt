@@ -1,0 +1,32 @@
+// Wires over nets and constants.
+
+ghost use Rattle.std.specs.Prelude.{◌≡◌, ◌<◌, ◌^◌, [], IfOk};
+ghost use Rattle.wiring.specs.declared.right.Atom.TheVariants as atom;
+ghost use Rattle.wiring.specs.Sizes.{IsWidth};
+ghost use Rattle.wiring.specs.Snapshot.{right_accesses};
+ghost use Rattle.net_build.specs.Draft.{IsOperation};
+ghost use Rattle.edge_select.specs.Logic.{AddsLogic, IsGate};
+
+use dk_base::Memory;
+use net_build::Builder;
+use wiring::{Atom, Constant, Net, Right, Width};
+
+/// A number of so many bits.
+pub fn number(bits: u8, value: u64) -> Atom<Net>
+    requires bits { IsWidth bits }
+    requires fits { value < 2 ^ bits }
+    ensures { result ≡ atom.Constant (record { width = bits; value = value }) }
+{
+    Atom::Constant(Constant::new(Width::new(bits), value))
+}
+
+/// The net of a right side that reads no array.
+pub fn gate(b: &mut Builder, right: Right<Net, usize>) -> Result<Net, Memory>
+    requires operation { IsOperation b.old right }
+    requires no_array { right_accesses right ≡ [] }
+    ensures logic { AddsLogic b.new b.old }
+    ensures gate { IfOk result (IsGate b.new b.old right) }
+{
+    let net = b.op(right)?;
+    Ok(net)
+}

@@ -1,0 +1,19 @@
+//! Where a pixel stands, and whether a read falls inside: counters of column and row, and tests at the edges of a frame.
+#![tactic(auto)]
+
+mod counters;
+mod frame_tests;
+mod gates;
+mod laws;
+mod moves;
+mod paths;
+mod pixel;
+mod step;
+#[cfg(test)]
+mod tests;
+
+pub use counters::position;
+pub use frame_tests::{at, constant_test, inside, is_always};
+pub use laws::{one_step, pixels_last};
+pub use pixel::Pixel;
+pub use step::Step;

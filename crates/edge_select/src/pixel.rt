@@ -1,0 +1,35 @@
+// Pixels of a frame, as nets.
+
+ghost use Rattle.std.specs.Prelude.{◌≡◌, ◌-◌, ◌<◌, ◌≤◌, ◌^◌};
+ghost use Rattle.dk_base.specs.Numbers.{bit_count};
+ghost use Rattle.wiring.specs.Sizes.{IsWidth};
+
+use dk_base::{FrameSize, bits_for};
+use wiring::Net;
+
+/// A pixel of a frame of this size, by the nets of its column and its row, each counted from 0.
+#[derive(Clone, Copy, Debug)]
+pub struct Pixel {
+    pub size: FrameSize,
+    pub column: Net,
+    pub row: Net,
+}
+
+/// The last of so many columns or rows.
+pub fn last_of(side: u32) -> u64
+    requires { 1 ≤ side }
+    ensures { result ≡ side - 1 }
+{
+    u64::from(side) - 1
+}
+
+/// The width in bits of a net of so many columns or rows.
+pub fn width_for(side: u32) -> u8
+    requires some { 1 ≤ side }
+    requires most { side ≤ 4096 }
+    ensures count { result ≡ bit_count (side - 1) }
+    ensures width { IsWidth result }
+    ensures fits { side - 1 < 2 ^ result }
+{
+    bits_for(last_of(side))
+}
