@@ -1,0 +1,5 @@
+mod Words
+mod Standing
+mod Written
+mod Limited
+mod Judged

@@ -1,0 +1,11 @@
+//! The module of a Verilog text, or its first fault.
+#![tactic(auto)]
+
+mod limits;
+mod parts;
+#[cfg(test)]
+mod tests;
+mod text;
+
+pub use text::read;
+pub use verilog_parse::name_span;

@@ -1,0 +1,130 @@
+// Whole texts.
+
+ghost use Rattle.std.specs.Prelude.{◌≡◌, ℕ, List, Some, None, IfOk, IfErr, IfSome, IfNone, MatchResult};
+ghost use Rattle.dk_base.specs.declared.span.Span.{Span as OneSpan};
+ghost use Rattle.netlist.specs.Names.{NamedNetlist};
+ghost use Rattle.verilog_text.specs.declared.fault.TextFault.{TextFault as OneFault};
+ghost use Rattle.verilog_text.specs.declared.fault.TextFault.TheVariants.{Net, Memory};
+ghost use Rattle.verilog_text.specs.Grammar.{source_of};
+ghost use Rattle.verilog_text.specs.Limits.{limit_fault};
+ghost use Rattle.verilog_text.specs.Stands.{IsWritten, ArePartsOf, StandsFor};
+ghost use Rattle.verilog_text.specs.Faults.{declared_span as span_declared, driven_span as span_driven, fault_span as span_of_fault, IsFault, Agrees};
+
+use crate::limits::check_limits;
+use crate::parts::parts_of;
+use dk_base::Span;
+use netlist::{Declared, Module, NetFault, Statement};
+use std::alloc::Global;
+use verilog_text::{TextFault, Written, WrittenUpdate};
+
+// The span of a name that is declared.
+fn declared_span(written: &Written, declared: Declared) -> Option<Span>
+    ensures { result ≡ span_declared (source_of written.now) declared }
+{
+    match declared {
+        Declared::Port(k) => match written.ports.get(k) {
+            Some(port) => Some(port.name),
+            None => None,
+        },
+        Declared::Declaration(k) => match written.declarations.get(k) {
+            Some(declaration) => Some(declaration.name),
+            None => None,
+        },
+    }
+}
+
+// The span of the name of what is driven.
+fn driven_span(written: &Written, statement: Statement) -> Option<Span>
+    ensures { result ≡ span_driven (source_of written.now) statement }
+{
+    match statement {
+        Statement::Assign(k) => match written.assigns.get(k) {
+            Some(assign) => Some(assign.target),
+            None => None,
+        },
+        Statement::Update(k) => match written.updates.get(k) {
+            Some(WrittenUpdate::Set(target, _)) => Some(*target),
+            Some(WrittenUpdate::Put(target, _, _)) => Some(*target),
+            None => None,
+        },
+    }
+}
+
+// The span of a net fault; want of memory has none.
+fn fault_span(written: &Written, fault: NetFault) -> Option<Span>
+    ensures { result ≡ span_of_fault (source_of written.now) fault }
+{
+    match fault {
+        NetFault::Duplicate(declared) => declared_span(written, declared),
+        NetFault::Undriven(declared) => declared_span(written, declared),
+        NetFault::Ports => Some(written.name),
+        NetFault::Unknown(statement) => driven_span(written, statement),
+        NetFault::WrongSort(statement) => driven_span(written, statement),
+        NetFault::Divisor(statement) => driven_span(written, statement),
+        NetFault::Width(statement) => driven_span(written, statement),
+        NetFault::DrivenTwice(statement) => driven_span(written, statement),
+        NetFault::Cycle(k) => driven_span(written, Statement::Assign(k)),
+        NetFault::Memory => None,
+    }
+}
+
+// The fault of a text whose parts have a net fault.
+fn net_fault(written: &Written, fault: NetFault) -> TextFault
+    ensures spanned { (span : OneSpan) → span_of_fault (source_of written.now) fault ≡ Some span → result ≡ Net span fault }
+    ensures none { span_of_fault (source_of written.now) fault ≡ None → result ≡ Memory }
+{
+    match fault_span(written, fault) {
+        Some(span) => TextFault::Net { span, fault },
+        None => TextFault::Memory,
+    }
+}
+
+// What is written within the limits, judged by the net rules.
+fn module_of(alloc: Global, text: &[u8], written: &Written) -> Result<Module, TextFault>
+    requires written { IsWritten text.now (source_of written.now) }
+    requires limits { limit_fault (source_of written.now) ≡ None }
+    ensures { MatchResult result (StandsFor text.now) (IsFault text.now) }
+{
+    let parts = match parts_of(alloc, text, written) {
+        Ok(parts) => parts,
+        Err(_) => return Err(TextFault::Memory),
+    };
+    match Module::checked(alloc, parts) {
+        Ok(module) => Ok(module),
+        Err(fault) => Err(net_fault(written, fault)),
+    }
+}
+
+// What is written, judged by the limits and then by the net rules.
+fn within(alloc: Global, text: &[u8], written: &Written) -> Result<Module, TextFault>
+    requires { IsWritten text.now (source_of written.now) }
+    ensures { MatchResult result (StandsFor text.now) (IsFault text.now) }
+{
+    match check_limits(written) {
+        Ok(()) => module_of(alloc, text, written),
+        Err(fault) => Err(TextFault::Limit(fault)),
+    }
+}
+
+fn judged(alloc: Global, text: &[u8]) -> Result<Module, TextFault>
+    ensures { MatchResult result (StandsFor text.now) (IsFault text.now) }
+{
+    match verilog_parse::parse(alloc, text) {
+        Ok(written) => within(alloc, text, &written),
+        Err(fault) => Err(fault),
+    }
+}
+
+/// The module that a text of the Verilog subset stands for, or its first fault. The passes are tokens, grammar, limits and net rules, each over the whole text. The subset is that of docs/VERILOG.md, which narrows IEEE Std 1364-2005.
+pub fn read(alloc: Global, text: &[u8]) -> Result<Module, TextFault>
+    // What is answered is so.
+    ensures stands { IfOk result (StandsFor text.now) }
+    ensures fault { IfErr result (IsFault text.now) }
+
+    // What is so is answered, but for want of memory.
+    ensures accepts { (m : NamedNetlist) → StandsFor text.now m → MatchResult result (λ n. n ≡ m) (λ f. f ≡ Memory) }
+    ensures refuses { (f : OneFault) → IsFault text.now f → MatchResult result (λ m. f ≡ Memory) (λ g. Agrees g f) }
+{
+    verilog_text::one_module();
+    judged(alloc, text)
+}
