@@ -1,53 +1,20 @@
 -- Whole modules as they are read are the grammar's.
-use Rattle.std.proofs.Common.{◌≡◌, ◌≢◌, ◌++◌, ◌<◌, ℕ, List, [], ◌∷◌, Option, Some, None, Bool, true, false, refl, sym, ap, ◌∙◌, subst, length, arith, append_assoc}
+use Rattle.std.proofs.Common.{◌≡◌, ℕ, List, [], ◌∷◌, Some, true, false, refl, sym, ap, ◌∙◌, subst}
 use Rattle.dk_base.specs.declared.span.Span.{Span}
-use Rattle.wiring.specs.declared.right.Atom.{Atom}
-use Rattle.wiring.specs.declared.right.Atom.TheVariants as atom
-use Rattle.wiring.specs.declared.right.Operator.{Operator}
-use Rattle.wiring.specs.declared.right.Operator.TheVariants as operator
-use Rattle.netlist.specs.declared.parts.Direction.{Direction}
 use Rattle.verilog_text.specs.declared.token.Token.{Token}
-use Rattle.verilog_text.specs.declared.token.Symbol.{Symbol}
-use Rattle.verilog_text.specs.declared.token.Symbol.TheVariants as symbol
-use Rattle.verilog_text.specs.declared.token.Keyword.{Keyword}
 use Rattle.verilog_text.specs.declared.token.Keyword.TheVariants as keyword
-use Rattle.verilog_text.specs.declared.token.TokenKind.{TokenKind}
 use Rattle.verilog_text.specs.declared.token.TokenKind.TheVariants as kind
-use Rattle.verilog_text.specs.declared.written.Count.{Count}
-use Rattle.verilog_text.specs.declared.written.Range.{Range}
 use Rattle.verilog_text.specs.declared.written.WrittenPort.{WrittenPort}
-use Rattle.verilog_text.specs.declared.written.WrittenSort.{WrittenSort}
-use Rattle.verilog_text.specs.declared.written.WrittenSort.TheVariants as sort
 use Rattle.verilog_text.specs.declared.written.WrittenDeclaration.{WrittenDeclaration}
-use Rattle.verilog_text.specs.declared.written.WrittenRight.{WrittenRight}
-use Rattle.verilog_text.specs.declared.written.WrittenRight.TheVariants as right
 use Rattle.verilog_text.specs.declared.written.WrittenAssign.{WrittenAssign}
 use Rattle.verilog_text.specs.declared.written.WrittenUpdate.{WrittenUpdate}
-use Rattle.verilog_text.specs.declared.written.WrittenUpdate.TheVariants as update
-use Rattle.verilog_parse.specs.declared.kind.Start.{Start}
-use Rattle.verilog_parse.specs.declared.kind.Start.TheVariants as start
-use Rattle.verilog_parse.specs.declared.kind.Item.{Item}
-use Rattle.verilog_parse.specs.declared.kind.Item.TheVariants as items
-use Rattle.verilog_parse.specs.declared.kind.Follow.{Follow}
-use Rattle.verilog_parse.specs.declared.kind.Follow.TheVariants as follow
-use Rattle.verilog_parse.specs.declared.kind.Head.{Head}
-use Rattle.verilog_parse.specs.declared.kind.Head.TheVariants as heads
-use Rattle.verilog_parse.specs.declared.kind.Lead.{Lead}
-use Rattle.verilog_parse.specs.declared.kind.Lead.TheVariants as leads
-use Rattle.verilog_parse.specs.declared.kind.Tail.{Tail}
-use Rattle.verilog_parse.specs.declared.kind.Tail.TheVariants as tails
-use Rattle.verilog_parse.specs.declared.kind.Arrow.{Arrow}
-use Rattle.verilog_parse.specs.declared.kind.Arrow.TheVariants as arrows
-use Rattle.verilog_parse.specs.declared.kind.Target.{Target}
-use Rattle.verilog_parse.specs.declared.kind.Target.TheVariants as targets
 use Rattle.verilog_parse.specs.declared.kind.Section.{Section}
 use Rattle.verilog_parse.specs.declared.kind.Section.TheVariants as sections
-use Rattle.verilog_parse.specs.declared.kind.RangedName.{RangedName}
-use Rattle.dk_grammar.specs.Reading.{Phrases, One, Then, Done, Chain, end, link, Stuck, IsFaulty}
+use Rattle.dk_grammar.specs.Reading.{end, link, IsFaulty}
 use Rattle.dk_grammar.proofs.Clears.{append_nil}
-use Rattle.verilog_text.specs.Grammar.{named, Declares, Assign, Update, Each, none, more as further, Block, left_out, always, Source, Module, whole}
+use Rattle.verilog_text.specs.Grammar.{Declares, Assign, Update, Each, none, more as further, Block, left_out, always, Source, Module, whole}
 use Rattle.verilog_text.specs.Faults.{IsModule}
-use Rattle.verilog_parse.specs.Sections.{section_of, statement_of, last_of, section_after, AWire, AReg, ABlock, Piece, declaration, assign as assigned_piece, block, AfterSection, is_last, next_section, SectionsFrom, Sections, Ports as read_ports, gather, declared, assigned, updated, AHead, AModule, source_with}
+use Rattle.verilog_parse.specs.Sections.{section_of, statement_of, last_of, ABlock, Piece, declaration, assign as assigned_piece, block, SectionsFrom, Ports as read_ports, gather, declared, assigned, updated, AModule, source_with}
 use Rattle.verilog_parse.proofs.Means.{SectionMeans, section_means, is_statement, is_closing, is_ending, statement_means, last_means}
 use Rattle.verilog_parse.proofs.AgreeRights.{from_assign, to_assign}
 use Rattle.verilog_parse.proofs.AgreeParts.{from_ports, to_ports, to_wire, to_reg, IsDeclared, of_wire, of_reg, from_declares, to_updates, from_updates}

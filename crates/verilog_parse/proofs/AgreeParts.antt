@@ -1,35 +1,17 @@
 -- Names with their ranges, ports, declarations and updates as they are read are the grammar's.
-use Rattle.std.proofs.Common.{◌≡◌, ◌≢◌, ◌++◌, ◌<◌, ℕ, List, [], ◌∷◌, Option, Some, None, Bool, true, false, refl, sym, ap, ◌∙◌, subst, length, arith, append_assoc}
+use Rattle.std.proofs.Common.{◌≡◌, List, ◌∷◌, Option, Some, true, false, refl, sym, ap, ◌∙◌, subst}
 use Rattle.dk_base.specs.declared.span.Span.{Span}
-use Rattle.wiring.specs.declared.right.Atom.{Atom}
-use Rattle.wiring.specs.declared.right.Atom.TheVariants as atom
-use Rattle.wiring.specs.declared.right.Operator.{Operator}
-use Rattle.wiring.specs.declared.right.Operator.TheVariants as operator
 use Rattle.netlist.specs.declared.parts.Direction.{Direction}
 use Rattle.verilog_text.specs.declared.token.Token.{Token}
-use Rattle.verilog_text.specs.declared.token.Symbol.{Symbol}
 use Rattle.verilog_text.specs.declared.token.Symbol.TheVariants as symbol
-use Rattle.verilog_text.specs.declared.token.Keyword.{Keyword}
 use Rattle.verilog_text.specs.declared.token.Keyword.TheVariants as keyword
-use Rattle.verilog_text.specs.declared.token.TokenKind.{TokenKind}
 use Rattle.verilog_text.specs.declared.token.TokenKind.TheVariants as kind
-use Rattle.verilog_text.specs.declared.written.Count.{Count}
 use Rattle.verilog_text.specs.declared.written.Range.{Range}
 use Rattle.verilog_text.specs.declared.written.WrittenPort.{WrittenPort}
 use Rattle.verilog_text.specs.declared.written.WrittenSort.{WrittenSort}
-use Rattle.verilog_text.specs.declared.written.WrittenSort.TheVariants as sort
 use Rattle.verilog_text.specs.declared.written.WrittenDeclaration.{WrittenDeclaration}
-use Rattle.verilog_text.specs.declared.written.WrittenRight.{WrittenRight}
-use Rattle.verilog_text.specs.declared.written.WrittenRight.TheVariants as right
-use Rattle.verilog_text.specs.declared.written.WrittenAssign.{WrittenAssign}
 use Rattle.verilog_text.specs.declared.written.WrittenUpdate.{WrittenUpdate}
 use Rattle.verilog_text.specs.declared.written.WrittenUpdate.TheVariants as update
-use Rattle.verilog_parse.specs.declared.kind.Start.{Start}
-use Rattle.verilog_parse.specs.declared.kind.Start.TheVariants as start
-use Rattle.verilog_parse.specs.declared.kind.Item.{Item}
-use Rattle.verilog_parse.specs.declared.kind.Item.TheVariants as items
-use Rattle.verilog_parse.specs.declared.kind.Follow.{Follow}
-use Rattle.verilog_parse.specs.declared.kind.Follow.TheVariants as follow
 use Rattle.verilog_parse.specs.declared.kind.Head.{Head}
 use Rattle.verilog_parse.specs.declared.kind.Head.TheVariants as heads
 use Rattle.verilog_parse.specs.declared.kind.Lead.{Lead}
@@ -40,15 +22,13 @@ use Rattle.verilog_parse.specs.declared.kind.Arrow.{Arrow}
 use Rattle.verilog_parse.specs.declared.kind.Arrow.TheVariants as arrows
 use Rattle.verilog_parse.specs.declared.kind.Target.{Target}
 use Rattle.verilog_parse.specs.declared.kind.Target.TheVariants as targets
-use Rattle.verilog_parse.specs.declared.kind.Section.{Section}
-use Rattle.verilog_parse.specs.declared.kind.Section.TheVariants as sections
 use Rattle.verilog_parse.specs.declared.kind.RangedName.{RangedName}
-use Rattle.dk_grammar.specs.Reading.{Phrases, One, Then, Done, Listed, last as last', another, Chain, end, link}
+use Rattle.dk_grammar.specs.Reading.{One, last as last', another, end, link}
 use Rattle.verilog_text.specs.Grammar as grammar
 use Rattle.verilog_text.specs.Grammar.{named, counted, directed, Bits, bits, Ranged, one_bit, wide, Port, plain, wire as wire_port, last, more, Declares, wire, reg, array, Update, set, put, Each, none, more as further}
 use Rattle.verilog_parse.specs.Forms.{Gives}
-use Rattle.verilog_parse.specs.Sections.{comma_or_close, heading, leading, tailing, arrowing, targeting, ABits, AfterHead, ARanged, AfterLead, APort, Ports, AWire, AfterReg, AReg, AfterArrow, AnUpdate, AfterTarget, UpdatesFrom, Updates}
-use Rattle.verilog_parse.proofs.Means.{HeadMeans, LeadMeans, CommaMeans, TailMeans, ArrowMeans, TargetMeans, head_means, lead_means, comma_means, tail_means, arrow_means, target_means, head_name, lead_name, target_name}
+use Rattle.verilog_parse.specs.Sections.{comma_or_close, heading, leading, tailing, arrowing, targeting, ABits, AfterHead, ARanged, AfterLead, APort, Ports, AWire, AfterReg, AReg, AfterArrow, AnUpdate, UpdatesFrom, Updates}
+use Rattle.verilog_parse.proofs.Means.{HeadMeans, LeadMeans, TailMeans, ArrowMeans, TargetMeans, head_means, lead_means, comma_means, tail_means, arrow_means, target_means, head_name, lead_name, target_name}
 
 -- a range behind its opening bracket
 pub record Opened (ts : List Token) (r : Range) (rest : List Token) : Type 0 where

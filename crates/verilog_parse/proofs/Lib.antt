@@ -6,3 +6,5 @@ pub mod AgreeRights
 pub mod AgreeParts
 pub mod AgreeModule
 pub mod OneAnswer
+pub mod NamedTokens
+pub mod NamedParts

@@ -1,29 +1,14 @@
 -- What a class of tokens says of a token's kind, and which kinds are in it.
-use Rattle.std.proofs.Common.{◌≡◌, ◌≢◌, ◌++◌, ◌<◌, ℕ, List, [], ◌∷◌, Option, Some, None, Bool, true, false, refl, sym, ap, ◌∙◌, subst, length, arith, append_assoc}
+use Rattle.std.proofs.Common.{◌≡◌, Some, Bool, true, false, refl, sym, ap, subst}
 use Rattle.dk_base.specs.declared.span.Span.{Span}
 use Rattle.wiring.specs.declared.right.Atom.{Atom}
 use Rattle.wiring.specs.declared.right.Atom.TheVariants as atom
 use Rattle.wiring.specs.declared.right.Operator.{Operator}
-use Rattle.wiring.specs.declared.right.Operator.TheVariants as operator
-use Rattle.netlist.specs.declared.parts.Direction.{Direction}
-use Rattle.verilog_text.specs.declared.token.Token.{Token}
-use Rattle.verilog_text.specs.declared.token.Symbol.{Symbol}
 use Rattle.verilog_text.specs.declared.token.Symbol.TheVariants as symbol
-use Rattle.verilog_text.specs.declared.token.Keyword.{Keyword}
 use Rattle.verilog_text.specs.declared.token.Keyword.TheVariants as keyword
 use Rattle.verilog_text.specs.declared.token.TokenKind.{TokenKind}
 use Rattle.verilog_text.specs.declared.token.TokenKind.TheVariants as kind
 use Rattle.verilog_text.specs.declared.written.Count.{Count}
-use Rattle.verilog_text.specs.declared.written.Range.{Range}
-use Rattle.verilog_text.specs.declared.written.WrittenPort.{WrittenPort}
-use Rattle.verilog_text.specs.declared.written.WrittenSort.{WrittenSort}
-use Rattle.verilog_text.specs.declared.written.WrittenSort.TheVariants as sort
-use Rattle.verilog_text.specs.declared.written.WrittenDeclaration.{WrittenDeclaration}
-use Rattle.verilog_text.specs.declared.written.WrittenRight.{WrittenRight}
-use Rattle.verilog_text.specs.declared.written.WrittenRight.TheVariants as right
-use Rattle.verilog_text.specs.declared.written.WrittenAssign.{WrittenAssign}
-use Rattle.verilog_text.specs.declared.written.WrittenUpdate.{WrittenUpdate}
-use Rattle.verilog_text.specs.declared.written.WrittenUpdate.TheVariants as update
 use Rattle.verilog_parse.specs.declared.kind.Start.{Start}
 use Rattle.verilog_parse.specs.declared.kind.Start.TheVariants as start
 use Rattle.verilog_parse.specs.declared.kind.Item.{Item}
@@ -42,7 +27,6 @@ use Rattle.verilog_parse.specs.declared.kind.Target.{Target}
 use Rattle.verilog_parse.specs.declared.kind.Target.TheVariants as targets
 use Rattle.verilog_parse.specs.declared.kind.Section.{Section}
 use Rattle.verilog_parse.specs.declared.kind.Section.TheVariants as sections
-use Rattle.verilog_parse.specs.declared.kind.RangedName.{RangedName}
 use Rattle.verilog_text.specs.Grammar.{named, atomic, counted, binary}
 use Rattle.verilog_parse.specs.Forms.{starting, item, following, square, colon_or_close}
 use Rattle.verilog_parse.specs.Sections.{comma_or_close, heading, leading, tailing, arrowing, targeting, section_of, statement_of, last_of}

@@ -1,5 +1,5 @@
 -- A text has one source, or one fault of its tokens and its grammar, and never both.
-use Rattle.std.proofs.Common.{◌≡◌, ◌≢◌, ◌++◌, ℕ, suc, List, [], ◌∷◌, Option, Some, None, length, slice_get, refl, sym, ap, ◌∙◌, subst, Ok, Err, Result, MatchResult}
+use Rattle.std.proofs.Common.{◌≡◌, ◌≢◌, ◌++◌, ℕ, List, [], ◌∷◌, Some, length, slice_get, refl, sym, ap, ◌∙◌, subst, Ok, Err, Result, MatchResult, IfOk}
 use Rattle.dk_base.specs.declared.span.Span.{Span}
 use Rattle.dk_grammar.specs.Reading.{Stuck, IsFaulty}
 use Rattle.dk_grammar.proofs.Clears.{first_same, rest_same}
@@ -14,11 +14,13 @@ use Rattle.verilog_text.specs.declared.fault.TextFault.{TextFault}
 use Rattle.verilog_text.specs.declared.fault.TextFault.TheVariants.{Lex, Syntax, NotInSubset, Limit, Net, Memory}
 use Rattle.verilog_text.specs.declared.written.Written.{Written}
 use Rattle.verilog_text.specs.Lexis.{HasTokens, HasLexFault}
-use Rattle.verilog_text.specs.Grammar.{named, Source, source_of, Module, whole}
+use Rattle.verilog_text.specs.Grammar.{named as named_as, Source, source_of, Module, whole}
 use Rattle.verilog_text.specs.Stands.{IsWritten}
-use Rattle.verilog_text.specs.Faults.{IsModule, IsFaultyToken, IsSyntaxAt, IsRefusedAt, Agrees}
+use Rattle.verilog_text.specs.Faults.{IsModule, IsFaultyToken, Agrees}
 use Rattle.verilog_parse.specs.Fault.{IsParseFault, fault_of, fault_at}
 use Rattle.verilog_parse.specs.Sections.{AModule}
+use Rattle.verilog_parse.specs.Named.{IsNamedSource}
+use Rattle.verilog_parse.proofs.NamedParts.{written_named}
 use Rattle.verilog_parse.proofs.AgreeModule.{to_module, faulty_module}
 
 -- the token behind these
@@ -117,8 +119,12 @@ pub refuses : OneReading → (text : List ℕ) (r : Result Written TextFault) �
 refuses l text (Ok w) a f h = no_fault l text (source_of w) f a h
 refuses l text (Err g) a f h = one_fault l text g f a h
 
+pub named : (text : List ℕ) (r : Result Written TextFault) → Answers text r → IfOk r (λ w. IsNamedSource text (source_of w))
+named text (Ok w) a = written_named text (source_of w) a
+named text (Err f) a = tt
+
 -- the second token is the name
-name_here : (t : Token) (k : TokenKind) (n : Span) → t.kind ≡ k → named k t.span ≡ Some n → t.span ≡ n
+name_here : (t : Token) (k : TokenKind) (n : Span) → t.kind ≡ k → named_as k t.span ≡ Some n → t.span ≡ n
 name_here t kind.Name n e h = let f : Some t.span ≡ Some n = h in cc
 name_here t kind.Clock n e h = let f : Some t.span ≡ Some n = h in cc
 name_here t (kind.Keyword w) n e h = absurd (cc)

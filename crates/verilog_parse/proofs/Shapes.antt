@@ -1,29 +1,14 @@
 -- The forms are clear.
-use Rattle.std.proofs.Common.{◌≡◌, ◌≢◌, ◌++◌, ◌<◌, ℕ, List, [], ◌∷◌, Option, Some, None, Bool, true, false, refl, sym, ap, ◌∙◌, subst, length, arith, append_assoc}
+use Rattle.std.proofs.Common.{◌≡◌, ◌++◌, List, [], ◌∷◌, Bool, true, false, refl}
 use Rattle.dk_base.specs.declared.span.Span.{Span}
 use Rattle.wiring.specs.declared.right.Atom.{Atom}
-use Rattle.wiring.specs.declared.right.Atom.TheVariants as atom
-use Rattle.wiring.specs.declared.right.Operator.{Operator}
-use Rattle.wiring.specs.declared.right.Operator.TheVariants as operator
-use Rattle.netlist.specs.declared.parts.Direction.{Direction}
 use Rattle.verilog_text.specs.declared.token.Token.{Token}
 use Rattle.verilog_text.specs.declared.token.Symbol.{Symbol}
 use Rattle.verilog_text.specs.declared.token.Symbol.TheVariants as symbol
 use Rattle.verilog_text.specs.declared.token.Keyword.{Keyword}
 use Rattle.verilog_text.specs.declared.token.Keyword.TheVariants as keyword
-use Rattle.verilog_text.specs.declared.token.TokenKind.{TokenKind}
 use Rattle.verilog_text.specs.declared.token.TokenKind.TheVariants as kind
 use Rattle.verilog_text.specs.declared.written.Count.{Count}
-use Rattle.verilog_text.specs.declared.written.Range.{Range}
-use Rattle.verilog_text.specs.declared.written.WrittenPort.{WrittenPort}
-use Rattle.verilog_text.specs.declared.written.WrittenSort.{WrittenSort}
-use Rattle.verilog_text.specs.declared.written.WrittenSort.TheVariants as sort
-use Rattle.verilog_text.specs.declared.written.WrittenDeclaration.{WrittenDeclaration}
-use Rattle.verilog_text.specs.declared.written.WrittenRight.{WrittenRight}
-use Rattle.verilog_text.specs.declared.written.WrittenRight.TheVariants as right
-use Rattle.verilog_text.specs.declared.written.WrittenAssign.{WrittenAssign}
-use Rattle.verilog_text.specs.declared.written.WrittenUpdate.{WrittenUpdate}
-use Rattle.verilog_text.specs.declared.written.WrittenUpdate.TheVariants as update
 use Rattle.verilog_parse.specs.declared.kind.Start.{Start}
 use Rattle.verilog_parse.specs.declared.kind.Start.TheVariants as start
 use Rattle.verilog_parse.specs.declared.kind.Item.{Item}
@@ -43,14 +28,13 @@ use Rattle.verilog_parse.specs.declared.kind.Target.TheVariants as targets
 use Rattle.verilog_parse.specs.declared.kind.Section.{Section}
 use Rattle.verilog_parse.specs.declared.kind.Section.TheVariants as sections
 use Rattle.verilog_parse.specs.declared.kind.RangedName.{RangedName}
-use Rattle.dk_grammar.specs.Reading.{Phrases, One, Then, Done, Clear, Stuck, Listed, Chain, end, link}
+use Rattle.dk_grammar.specs.Reading.{Phrases, One, Clear, Stuck, end, link}
 use Rattle.dk_grammar.proofs.Clears.{clear_one, clear_then, clear_done, clear_listed, extend}
 use Rattle.dk_grammar.proofs.Chains.{AllClear, AllLive, clear_chain}
 use Rattle.verilog_parse.specs.declared.halt.Halt.{Halt}
 use Rattle.verilog_parse.specs.declared.halt.Halt.TheVariants.{Faulty, Memory}
-use Rattle.verilog_text.specs.Grammar.{Source}
-use Rattle.verilog_parse.specs.Forms.{Halts, Is, Gives, Sign, Word, AName, ACount, AnAtom, Closed, Ended, AfterFirst, AfterItem, AfterAtom, AfterBrace, AfterStart, ARight, AnAssign}
-use Rattle.verilog_parse.specs.Sections.{comma_or_close, ABits, AfterHead, ARanged, AfterLead, APort, Ports, AWire, AfterReg, AReg, AfterArrow, AnUpdate, AfterTarget, is_end, next_target, UpdatesFrom, Updates, ATrigger, ABlock, Piece, declaration, assign as assigned, block, AfterSection, is_last, next_section, SectionsFrom, Sections, AHeadline, AHead, AModule}
+use Rattle.verilog_parse.specs.Forms.{Halts, Is, Sign, Word, AName, ACount, AnAtom, Closed, Ended, AfterFirst, AfterItem, AfterAtom, AfterBrace, AfterStart, ARight, AnAssign}
+use Rattle.verilog_parse.specs.Sections.{comma_or_close, ABits, AfterHead, ARanged, AfterLead, APort, Ports, AWire, AfterReg, AReg, AfterArrow, AnUpdate, AfterTarget, is_end, next_target, UpdatesFrom, Updates, ATrigger, ABlock, AfterSection, is_last, next_section, SectionsFrom, Sections, AHeadline, AHead}
 use Rattle.verilog_parse.proofs.Fronts as F
 
 pub halts : {U V : Type 0} {P : Phrases Token U} {Q : Phrases Token V} {mid ts : List Token} → ((at : List Token) → Stuck P mid at → Stuck Q ts at) → (at : List Token) (e : Halt) → Halts P mid at e → Halts Q ts at e

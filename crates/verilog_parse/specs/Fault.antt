@@ -1,7 +1,7 @@
 -- The faults that are found before any limit is judged.
 use Rattle.std.specs.Prelude.{ℕ, List}
 use Rattle.verilog_text.specs.declared.fault.TextFault.{TextFault}
-use Rattle.verilog_text.specs.declared.fault.TextFault.TheVariants.{Lex, Syntax, NotInSubset, Limit, Net, Memory}
+use Rattle.verilog_text.specs.declared.fault.TextFault.TheVariants.{Syntax, NotInSubset, Limit, Net}
 use Rattle.dk_base.specs.declared.span.Span.{Span}
 use Rattle.verilog_text.specs.declared.token.Token.{Token}
 use Rattle.verilog_text.specs.declared.token.TokenKind.{TokenKind}

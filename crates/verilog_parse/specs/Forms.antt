@@ -1,23 +1,21 @@
 -- The grammar as it is read, with one token ahead.
-use Rattle.std.specs.Prelude.{◌≡◌, ℕ, List, [], ◌∷◌, Option, Some, None, Bool, true, false}
+use Rattle.std.specs.Prelude.{◌≡◌, List, Option, Some, None, Bool, true, false}
 use Rattle.wiring.specs.declared.right.Atom.{Atom}
 use Rattle.wiring.specs.declared.right.Atom.TheVariants as atom
-use Rattle.wiring.specs.declared.right.Operator.{Operator}
 use Rattle.wiring.specs.declared.right.Operator.TheVariants as operator
-use Rattle.dk_grammar.specs.Reading.{Phrases, One, Then, Done, Listed, Stuck}
+use Rattle.dk_grammar.specs.Reading.{Phrases, One, Then, Done, Stuck}
 use Rattle.dk_base.specs.declared.span.Span.{Span}
 use Rattle.verilog_text.specs.declared.token.Token.{Token}
 use Rattle.verilog_text.specs.declared.token.Symbol.{Symbol}
 use Rattle.verilog_text.specs.declared.token.Symbol.TheVariants as symbol
 use Rattle.verilog_text.specs.declared.token.Keyword.{Keyword}
-use Rattle.verilog_text.specs.declared.token.Keyword.TheVariants as keyword
 use Rattle.verilog_text.specs.declared.token.TokenKind.{TokenKind}
 use Rattle.verilog_text.specs.declared.token.TokenKind.TheVariants as kind
 use Rattle.verilog_text.specs.declared.written.Count.{Count}
 use Rattle.verilog_text.specs.declared.written.WrittenRight.{WrittenRight}
 use Rattle.verilog_text.specs.declared.written.WrittenRight.TheVariants as right
 use Rattle.verilog_text.specs.declared.written.WrittenAssign.{WrittenAssign}
-use Rattle.verilog_text.specs.Grammar.{named, atomic, counted, binary}
+use Rattle.verilog_text.specs.Grammar.{named, atomic, counted}
 use Rattle.verilog_parse.specs.declared.kind.Start.{Start}
 use Rattle.verilog_parse.specs.declared.kind.Start.TheVariants as start
 use Rattle.verilog_parse.specs.declared.kind.Item.{Item}

@@ -1,3 +1,4 @@
 pub mod Forms
 pub mod Sections
 pub mod Fault
+pub mod Named

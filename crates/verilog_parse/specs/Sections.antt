@@ -1,8 +1,7 @@
 -- Ports and the sections of a module as they are read, with one token ahead.
-use Rattle.std.specs.Prelude.{◌≡◌, ℕ, List, [], ◌∷◌, ◌++◌, Option, Some, None, Bool, true, false}
+use Rattle.std.specs.Prelude.{◌≡◌, List, [], ◌∷◌, ◌++◌, Option, Some, None, Bool, true, false}
 use Rattle.dk_grammar.specs.Reading.{Phrases, One, Then, Done, Listed, Chain}
 use Rattle.dk_base.specs.declared.span.Span.{Span}
-use Rattle.netlist.specs.declared.parts.Direction.{Direction}
 use Rattle.verilog_text.specs.declared.token.Token.{Token}
 use Rattle.verilog_text.specs.declared.token.Symbol.TheVariants as symbol
 use Rattle.verilog_text.specs.declared.token.Keyword.TheVariants as keyword
@@ -16,7 +15,7 @@ use Rattle.verilog_text.specs.declared.written.WrittenAssign.{WrittenAssign}
 use Rattle.verilog_text.specs.declared.written.WrittenUpdate.{WrittenUpdate}
 use Rattle.verilog_text.specs.declared.written.WrittenUpdate.TheVariants as update
 use Rattle.verilog_text.specs.declared.written.Written.{Written}
-use Rattle.verilog_text.specs.Grammar.{named, counted, directed, Source}
+use Rattle.verilog_text.specs.Grammar.{directed, Source}
 use Rattle.verilog_parse.specs.declared.kind.Head.{Head}
 use Rattle.verilog_parse.specs.declared.kind.Head.TheVariants as heads
 use Rattle.verilog_parse.specs.declared.kind.Lead.{Lead}
@@ -30,7 +29,7 @@ use Rattle.verilog_parse.specs.declared.kind.Target.{Target}
 use Rattle.verilog_parse.specs.declared.kind.Target.TheVariants as targets
 use Rattle.verilog_parse.specs.declared.kind.Section.{Section}
 use Rattle.verilog_parse.specs.declared.kind.Section.TheVariants as sections
-use Rattle.verilog_parse.specs.Forms.{Is, Gives, Sign, Word, AName, ACount, AnAtom, Closed, AnAssign}
+use Rattle.verilog_parse.specs.Forms.{Is, Gives, Sign, Word, AName, ACount, Closed, AnAssign}
 
 abbrev pub comma_or_close : TokenKind → Option Bool
 comma_or_close (kind.Symbol symbol.Comma) = Some true

@@ -6,6 +6,7 @@ ghost use Rattle.verilog_text.specs.declared.fault.TextFault.TheVariants.{Memory
 ghost use Rattle.verilog_text.specs.Grammar.{Source, source_of};
 ghost use Rattle.verilog_text.specs.Stands.{IsWritten};
 ghost use Rattle.verilog_text.specs.Faults.{Agrees};
+ghost use Rattle.verilog_parse.specs.Named.{IsNamedSource};
 ghost use Rattle.verilog_parse.specs.Fault.{IsParseFault, fault_at as fault_at_token};
 
 use crate::halt::Halt;
@@ -20,6 +21,7 @@ pub fn parse(alloc: Global, text: &[u8]) -> Result<Written, TextFault>
     // What is answered is so.
     ensures written { IfOk result (λ w. IsWritten text.now (source_of w)) }
     ensures fault { IfErr result (λ f. IsParseFault text.now f) }
+    ensures named { IfOk result (λ w. IsNamedSource text.now (source_of w)) }
 
     // What is so is answered, but for want of memory.
     ensures accepts { (s : Source) → IsWritten text.now s → MatchResult result (λ w. source_of w ≡ s) (λ f. f ≡ Memory) }

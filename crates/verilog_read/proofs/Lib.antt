@@ -1,5 +1,2 @@
-mod Words
-mod Standing
-mod Written
 mod Limited
 mod Judged

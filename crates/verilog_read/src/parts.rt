@@ -5,7 +5,7 @@ ghost use Rattle.verilog_text.specs.Grammar.{source_of};
 ghost use Rattle.verilog_text.specs.Limits.{width_fault, right_fault, limit_fault};
 ghost use Rattle.verilog_text.specs.Stands.{bytes_at, port_of as named_port, sort_of as told_sort, declaration_of as named_declaration, atom_of as named_atom, right_of as named_right, assign_of as named_assign, update_of as named_update, ArePartsOf};
 ghost use Rattle.verilog_read.specs.Within.{WordsFit, PortFits, DeclarationFits, AssignFits};
-ghost use Rattle.verilog_read.specs.Named.{IsNameAt, IsNamedAtom, IsNamedRight, IsNamedAssign, IsNamedUpdate, IsNamedSource};
+ghost use Rattle.verilog_parse.specs.Named.{IsNameSpan, IsNamedAtom, IsNamedRight, IsNamedAssign, IsNamedUpdate, IsNamedSource};
 
 use crate::limits::{depth_of, width_of};
 use dk_base::{Memory, Span};
@@ -20,7 +20,7 @@ use wiring::{Atom, Depth, Right, Shape, Width};
 
 // The name that stands at a span.
 fn name_at(alloc: Global, text: &[u8], span: Span) -> Result<Name, Memory>
-    requires { IsNameAt text.now span }
+    requires { IsNameSpan text.now span }
     ensures { IfOk result (λ n. n ≡ bytes_at text.now span) }
 {
     let (_, behind) = text.split_at(span.start);
@@ -43,7 +43,7 @@ fn atom_of(alloc: Global, text: &[u8], atom: &Atom<Span>) -> Result<Atom<Name>, 
 }
 
 fn port_of(alloc: Global, text: &[u8], port: &WrittenPort) -> Result<Port, Memory>
-    requires name { IsNameAt text.now port.now.name }
+    requires name { IsNameSpan text.now port.now.name }
     requires width { width_fault port.now.bits ≡ None }
     ensures { IfOk result (λ p. p ≡ named_port text.now port.now) }
 {
@@ -77,7 +77,7 @@ fn declaration_of(
     text: &[u8],
     declaration: &WrittenDeclaration,
 ) -> Result<Declaration, Memory>
-    requires name { IsNameAt text.now declaration.now.name }
+    requires name { IsNameSpan text.now declaration.now.name }
     requires width { width_fault declaration.now.bits ≡ None }
     requires words { WordsFit declaration.now.sort }
     ensures { IfOk result (λ d. d ≡ named_declaration text.now declaration.now) }
@@ -167,7 +167,7 @@ fn update_of(alloc: Global, text: &[u8], update: &WrittenUpdate) -> Result<Named
 }
 
 fn ports_of(alloc: Global, text: &[u8], ports: &[WrittenPort]) -> Result<Vec<Port>, Memory>
-    requires names { All (λ p. IsNameAt text.now p.name) ports.now }
+    requires names { All (λ p. IsNameSpan text.now p.name) ports.now }
     requires fit { All PortFits ports.now }
     ensures { IfOk result (λ v. v.items ≡ map (named_port text.now) ports.now) }
 {
@@ -183,7 +183,7 @@ fn declarations_of(
     text: &[u8],
     declarations: &[WrittenDeclaration],
 ) -> Result<Vec<Declaration>, Memory>
-    requires names { All (λ d. IsNameAt text.now d.name) declarations.now }
+    requires names { All (λ d. IsNameSpan text.now d.name) declarations.now }
     requires fit { All DeclarationFits declarations.now }
     ensures { IfOk result (λ v. v.items ≡ map (named_declaration text.now) declarations.now) }
 {

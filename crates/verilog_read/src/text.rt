@@ -8,6 +8,7 @@ ghost use Rattle.verilog_text.specs.declared.fault.TextFault.TheVariants.{Net, M
 ghost use Rattle.verilog_text.specs.Grammar.{source_of};
 ghost use Rattle.verilog_text.specs.Limits.{limit_fault};
 ghost use Rattle.verilog_text.specs.Stands.{IsWritten, ArePartsOf, StandsFor};
+ghost use Rattle.verilog_parse.specs.Named.{IsNamedSource};
 ghost use Rattle.verilog_text.specs.Faults.{declared_span as span_declared, driven_span as span_driven, fault_span as span_of_fault, IsFault, Agrees};
 
 use crate::limits::check_limits;
@@ -82,6 +83,7 @@ fn net_fault(written: &Written, fault: NetFault) -> TextFault
 // What is written within the limits, judged by the net rules.
 fn module_of(alloc: Global, text: &[u8], written: &Written) -> Result<Module, TextFault>
     requires written { IsWritten text.now (source_of written.now) }
+    requires named { IsNamedSource text.now (source_of written.now) }
     requires limits { limit_fault (source_of written.now) ≡ None }
     ensures { MatchResult result (StandsFor text.now) (IsFault text.now) }
 {
@@ -97,7 +99,8 @@ fn module_of(alloc: Global, text: &[u8], written: &Written) -> Result<Module, Te
 
 // What is written, judged by the limits and then by the net rules.
 fn within(alloc: Global, text: &[u8], written: &Written) -> Result<Module, TextFault>
-    requires { IsWritten text.now (source_of written.now) }
+    requires written { IsWritten text.now (source_of written.now) }
+    requires named { IsNamedSource text.now (source_of written.now) }
     ensures { MatchResult result (StandsFor text.now) (IsFault text.now) }
 {
     match check_limits(written) {

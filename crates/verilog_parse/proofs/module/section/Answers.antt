@@ -1,6 +1,6 @@
-use Rattle.std.proofs.Common.{◌≡◌, refl, sym}
+use Rattle.std.proofs.Common.{refl}
 use Rattle.std.proofs.lemmas.Result.{err_from_is_err_and}
-use Rattle.dk_grammar.proofs.Clears.{clear_one, clear_then, clear_done}
+use Rattle.dk_grammar.proofs.Clears.{clear_done}
 use Rattle.dk_grammar.proofs.Stucks as S
 use Rattle.verilog_parse.proofs.Shapes as C
 use Rattle.verilog_parse.proofs.Loops as L

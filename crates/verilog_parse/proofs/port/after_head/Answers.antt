@@ -1,4 +1,4 @@
-use Rattle.std.proofs.Common.{◌≡◌, refl}
+use Rattle.std.proofs.Common.{refl}
 use Rattle.std.proofs.lemmas.Result.{err_from_is_err_and}
 use Rattle.dk_grammar.proofs.Clears.{clear_then, clear_done}
 use Rattle.dk_grammar.proofs.Stucks as S

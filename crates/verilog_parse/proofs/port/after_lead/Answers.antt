@@ -1,4 +1,3 @@
-use Rattle.std.proofs.Common.{◌≡◌}
 use Rattle.std.proofs.lemmas.Result.{err_from_is_err_and}
 use Rattle.verilog_parse.proofs.Shapes as C
 use Rattle.verilog_parse.proofs.port.after_lead.Goals as goal

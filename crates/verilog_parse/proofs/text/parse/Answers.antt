@@ -6,3 +6,6 @@ returns-clause-accepts c = O.accepts (record { tokens = c.one_reading.ensures.to
 
 pub returns-clause-refuses : goal.returns-clause-refuses
 returns-clause-refuses c = O.refuses (record { tokens = c.one_reading.ensures.tokens; fault = c.one_reading.ensures.fault; apart = c.one_reading.ensures.apart; source = c.one_reading.ensures.source }) _ _ c.read.ensures
+
+pub returns-clause-named : goal.returns-clause-named
+returns-clause-named c = O.named _ _ c.read.ensures

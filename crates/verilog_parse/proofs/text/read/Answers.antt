@@ -1,4 +1,4 @@
-use Rattle.std.proofs.Common.{rules, subst, sym}
+use Rattle.std.proofs.Common.{subst, sym}
 use Rattle.verilog_parse.specs.Fault.{IsParseFault}
 use Rattle.verilog_parse.proofs.OneAnswer as O
 use Rattle.verilog_parse.proofs.text.read.Goals as goal

@@ -1,10 +1,6 @@
 use Rattle.verilog_text.specs.Grammar.{source_of}
-use Rattle.verilog_read.proofs.Written.{written_names}
 use Rattle.verilog_read.proofs.Judged.{net_is}
 use Rattle.verilog_read.proofs.text.module_of.Goals as goal
-
-pub parts_of-requires-clause-names : goal.parts_of-requires-clause-names
-parts_of-requires-clause-names c = written_names c.args.text.now (source_of c.args.written.now) c.requires.written
 
 pub returns-in-Err-checked : goal.returns-in-Err-checked
 returns-in-Err-checked c =

@@ -1,7 +1,7 @@
--- The spans of names in a text.
-use Rattle.std.specs.Prelude.{◌≡◌, ℕ, ◌≤◌, List, length, true, All}
-use Rattle.dk_base.specs.declared.span.Span.{Span}
+-- The names that are written in a text are names.
+use Rattle.std.specs.Prelude.{◌≡◌, ◌≤◌, ℕ, List, length, true, All}
 use Rattle.net_names.specs.Words.{is_name}
+use Rattle.dk_base.specs.declared.span.Span.{Span}
 use Rattle.wiring.specs.declared.right.Atom.{Atom}
 use Rattle.wiring.specs.declared.right.Atom.TheVariants as atom
 use Rattle.verilog_text.specs.declared.written.WrittenPort.{WrittenPort}
@@ -14,16 +14,15 @@ use Rattle.verilog_text.specs.declared.written.WrittenUpdate.TheVariants as upda
 use Rattle.verilog_text.specs.Grammar.{Source}
 use Rattle.verilog_text.specs.Stands.{bytes_at}
 
--- a name stands at the span
-pub record IsNameAt (text : List ℕ) (s : Span) : Type 0 where
-  pub order : s.start ≤ s.stop
+-- a name stands at this span of the text
+pub record IsNameSpan (text : List ℕ) (s : Span) : Type 0 where
+  pub ordered : s.start ≤ s.stop
   pub within : s.stop ≤ length text
   pub name : is_name (bytes_at text s) ≡ true
 
--- names stand where names are written
 module _ (text : List ℕ) where
   abbrev pub IsNamedAtom : Atom Span → Type 0
-  IsNamedAtom (atom.Net s) = IsNameAt text s
+  IsNamedAtom (atom.Net s) = IsNameSpan text s
   IsNamedAtom (atom.Constant c) = Unit {0}
 
   abbrev pub IsNamedRight : WrittenRight → Type 0
@@ -33,20 +32,22 @@ module _ (text : List ℕ) where
   IsNamedRight (right.Choose c a b) = IsNamedAtom c × IsNamedAtom a × IsNamedAtom b
   IsNamedRight (right.Join a b) = IsNamedAtom a × IsNamedAtom b
   IsNamedRight (right.Repeat n a) = IsNamedAtom a
-  IsNamedRight (right.Bit v k) = IsNameAt text v
-  IsNamedRight (right.Slice v m l) = IsNameAt text v
-  IsNamedRight (right.Word m i) = IsNameAt text m × IsNamedAtom i
+  IsNamedRight (right.Bit v k) = IsNameSpan text v
+  IsNamedRight (right.Slice v m l) = IsNameSpan text v
+  IsNamedRight (right.Word m i) = IsNameSpan text m × IsNamedAtom i
 
-  abbrev pub IsNamedAssign : WrittenAssign → Type 0
-  IsNamedAssign a = IsNameAt text a.target × IsNamedRight a.right
+  pub record IsNamedAssign (a : WrittenAssign) : Type 0 where
+    pub target : IsNameSpan text a.target
+    pub right : IsNamedRight a.right
 
   abbrev pub IsNamedUpdate : WrittenUpdate → Type 0
-  IsNamedUpdate (update.Set r a) = IsNameAt text r × IsNamedAtom a
-  IsNamedUpdate (update.Put m i a) = IsNameAt text m × IsNamedAtom i × IsNamedAtom a
+  IsNamedUpdate (update.Set r a) = IsNameSpan text r × IsNamedAtom a
+  IsNamedUpdate (update.Put m i a) = IsNameSpan text m × IsNamedAtom i × IsNamedAtom a
 
-  pub record IsNamedSource (s : Source) : Type 0 where
-    pub name : IsNameAt text s.name
-    pub ports : All (λ (p : WrittenPort). IsNameAt text p.name) s.ports
-    pub declarations : All (λ (d : WrittenDeclaration). IsNameAt text d.name) s.declarations
-    pub assigns : All IsNamedAssign s.assigns
-    pub updates : All IsNamedUpdate s.updates
+-- each name of the source stands at its span
+pub record IsNamedSource (text : List ℕ) (s : Source) : Type 0 where
+  pub name : IsNameSpan text s.name
+  pub ports : All (λ (p : WrittenPort). IsNameSpan text p.name) s.ports
+  pub declarations : All (λ (d : WrittenDeclaration). IsNameSpan text d.name) s.declarations
+  pub assigns : All (IsNamedAssign text) s.assigns
+  pub updates : All (IsNamedUpdate text) s.updates
