@@ -1,5 +1,5 @@
 -- Chains of steps in one coordinate.
-use Rattle.std.proofs.Common.{◌≡◌, ℕ, ◌≤◌, ◌<◌, ℤ, pos, negsuc, ◌+ℤ◌, ◌-ℤ◌, ◌≤ℤ◌, ◌<ℤ◌, ◌⊎◌, inl, inr, refl, sym, ◌∙◌, ap, neg_ℤ, unsigned_abs, FitsSigned, ◌^◌, w32, w64, to_z, of_z, arith, IsTrue}
+use Rattle.std.proofs.Common.{◌≡◌, ℕ, ◌≤◌, ◌<◌, ℤ, pos, negsuc, ◌+ℤ◌, ◌-ℤ◌, ◌≤ℤ◌, ◌<ℤ◌, ◌⊎◌, inl, inr, refl, sym, ◌∙◌, ap, neg_ℤ, unsigned_abs, FitsSigned, ◌^◌, w64, to_z, of_z, arith, IsTrue}
 use Rattle.std.proofs.lemmas.Int.{ints, clamps, to_z-of_z, fits_signed_from_abs}
 use Rattle.std.specs.Int.{int_min, int_max}
 use Rattle.std.proofs.lemmas.Bool.{cases_lt, ltb-true, lt-ltb}
@@ -13,9 +13,6 @@ same64 z h = to_z-of_z w64 z h
 
 pub small64 : (z : ℤ) → unsigned_abs z < 2 ^ 63 → to_z w64 (of_z w64 z) ≡ z
 small64 z h = same64 z (fits_signed_from_abs w64 z h)
-
-pub small32 : (z : ℤ) → unsigned_abs z < 2 ^ 31 → to_z w32 (of_z w32 z) ≡ z
-small32 z h = to_z-of_z w32 z (fits_signed_from_abs w32 z h)
 
 pub record AreSmall (m : Moves) : Type 0 where
   pub first : unsigned_abs m.first < 2 ^ 63
@@ -56,11 +53,6 @@ brought_by l h v o (inr a) (inr b) = inr (inr (omega (arith, ints, a), omega (ar
 
 pub brought_is : (l h v : ℤ) → l ≤ℤ h → Brought l h v (brought l h v)
 brought_is l h v o = brought_by l h v o (either v l) (either h v)
-
-pub brought_small : (side : ℕ) (m : Moves) (v : ℤ) → IsMoves side m → side ≤ 4096 → unsigned_abs (brought m.least m.most v) < 4096
-brought_small side m v is h =
-    let b = brought_is m.least m.most v is.order in
-    omega (arith, ints, b, is.least, is.order, is.most, h)
 
 pub clamped_is : (side : ℕ) (v : ℤ) → 1 ≤ side → clamped side v ≡ brought (pos 0) (pos side -ℤ pos 1) v
 clamped_is side (pos n) h = omega (arith, ints, clamps)

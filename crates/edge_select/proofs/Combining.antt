@@ -1,11 +1,11 @@
 -- Tests of a pixel, combined.
-use Rattle.std.proofs.Common.{◌≡◌, ◌⊎◌, ℕ, zero, suc, ◌+◌, ◌-◌, ◌^◌, ◌<◌, ◌≤◌, nat_lt, nat_le, Bool, true, false, List, [], ◌∷◌, Option, Some, None, refl, sym, ap, subst, ◌∙◌, inl, inr, arith, lit≤, lit<}
-use Rattle.std.specs.Prelude.{if◌then◌else◌, ◌&&◌, IsTrue, bit_and, Contains}
+use Rattle.std.proofs.Common.{◌≡◌, ℕ, zero, suc, ◌+◌, ◌-◌, ◌^◌, ◌<◌, ◌≤◌, nat_lt, nat_le, Bool, true, false, List, [], ◌∷◌, Option, Some, None, refl, sym, ap, subst, ◌∙◌, inl, inr, arith}
+use Rattle.std.specs.Prelude.{if◌then◌else◌, ◌&&◌, IsTrue, bit_and}
 use Rattle.std.proofs.lemmas.Bool.{cases_lt}
 use Rattle.wiring.specs.declared.right.Atom.{Atom}
 use Rattle.wiring.specs.declared.right.Atom.TheVariants as atom
 use Rattle.wiring.specs.declared.right.Operator.TheVariants.{Less, And}
-use Rattle.wiring.specs.declared.right.Right.TheVariants.{Copy, Binary}
+use Rattle.wiring.specs.declared.right.Right.TheVariants.{Binary}
 use Rattle.wiring.specs.declared.netlist.Net.{Net}
 use Rattle.wiring.specs.declared.netlist.Holder.{Holder}
 use Rattle.wiring.specs.declared.netlist.Holder.TheVariants.{OfNet}
@@ -23,18 +23,15 @@ use Rattle.edge_select.specs.declared.paths.Passing.{Passing}
 use Rattle.edge_select.specs.declared.pixel.Pixel.{Pixel}
 use Rattle.edge_select.specs.Logic.{AreMadeOf, Computes, IsGate, Tests, IsBit, IsBoth, IsTestNet, is_up_to, is_within}
 use Rattle.edge_select.specs.Moves.{IsIn, Passes}
-use Rattle.edge_select.specs.Pixels.{IsOnFrame, IsBitOf, IsTest}
-use Rattle.edge_select.proofs.Logic.{Source, given_source, number_source, computes_more, computes_as, computes_from, computes_since, computes_through, binary_computes, AreIn, first_in, second_in, none_in, more_in}
-use Rattle.edge_select.proofs.Counting.{one_wide, yes_lt, no_lt}
+use Rattle.edge_select.specs.Pixels.{IsBitOf, IsTest}
+use Rattle.edge_select.proofs.Logic.{given_source, number_source, computes_more, computes_as, computes_from, computes_since, computes_through, binary_computes, AreIn, first_in, second_in, none_in}
+use Rattle.edge_select.proofs.Counting.{yes_lt, no_lt}
 
 yes_le : (a b : ℕ) → a ≤ b → nat_le a b ≡ true
 yes_le a b h = grind arith
 
 no_le : (a b : ℕ) → b < a → nat_le a b ≡ false
 no_le a b h = grind arith
-
-pub from_zero : (first x : ℕ) → first ≡ 0 → nat_le first x ≡ true
-from_zero first x e = yes_le first x (omega (arith, e))
 
 before_is : (first x : ℕ) → 0 < first → nat_lt (first - 1) x ≡ nat_le first x
 before_is first x some =
@@ -66,15 +63,6 @@ at_most_is b0 b1 x n bits side last end a f is width wide fits end_is lt e g =
     (λ s. ap bit (up_to_is side last end (net_value s x) end_is lt))
 
 -- both of two tests
-pub both_none : (new old : Netlist) (one other : Option Net) → one ≡ None → IsBoth new old one other other
-both_none new old None other e = refl
-both_none new old (Some n) other e = cc
-
-pub both_left : (new old : Netlist) (one other : Option Net) (n : Net) → one ≡ Some n → other ≡ None → IsBoth new old one other one
-both_left new old None other n e f = cc
-both_left new old (Some k) None n e f = refl
-both_left new old (Some k) (Some j) n e f = cc
-
 pub both_net : (new old : Netlist) (one other : Option Net) (left right n : Net) → one ≡ Some left → other ≡ Some right → IsBit old one → IsBit old other → Includes new old → IsGate new old (Binary And (atom.Net left) (atom.Net right)) n → IsBoth new old one other (Some n)
 both_net new old one other left right n e f is is' grows g =
     let from : List Net = left ∷ (right ∷ []) in
@@ -158,9 +146,6 @@ pub bit_of : (P : Type 0) (t : Bool) → (IsTrue t → P) → (P → IsTrue t) �
 bit_of P true f g = inl (f refl, refl)
 bit_of P false f g = inr ((λ p. (let h : IsTrue false = g p in cc)), refl)
 
-le_true : (a b : ℕ) → a ≤ b → IsTrue (nat_le a b)
-le_true a b h = yes_le a b h
-
 true_le : (a b : ℕ) → IsTrue (nat_le a b) → a ≤ b
 true_le a b h = grind arith
 
@@ -236,6 +221,3 @@ test_as new old p passes other n is f g = record {
     by : (x y v : ℕ) → IsBitOf (passes x y) v → IsBitOf (other x y) v
     by x y v (inl h) = inl (f x y h.0, h.1)
     by x y v (inr h) = inr ((λ q. h.0 (g x y q)), h.1)
-
-pub passes_none : (P : Type 0) → (⊥ → P) × (P → ⊥) → P → ⊥
-passes_none P f p = f.1 p

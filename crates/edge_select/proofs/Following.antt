@@ -1,6 +1,6 @@
 -- Registers that follow the pixels of frames back to back.
-use Rattle.std.proofs.Common.{◌≡◌, ◌⊎◌, ℕ, zero, suc, ◌+◌, ◌-◌, ◌%◌, ◌/◌, ◌<◌, ◌≤◌, ◌==◌, Bool, true, false, List, [], ◌∷◌, length, refl, sym, ap, subst, ◌∙◌, inl, inr, arith}
-use Rattle.std.specs.Prelude.{if◌then◌else◌, ◌&&◌, not, IsTrue, slice_get, slice_index, Some}
+use Rattle.std.proofs.Common.{◌≡◌, ◌⊎◌, ℕ, suc, ◌+◌, ◌-◌, ◌%◌, ◌/◌, ◌<◌, ◌≤◌, ◌==◌, Bool, true, false, List, [], ◌∷◌, length, refl, sym, ap, subst, ◌∙◌, inl, inr, arith}
+use Rattle.std.specs.Prelude.{if◌then◌else◌, ◌&&◌, not, IsTrue, slice_get, Some}
 use Rattle.std.proofs.lemmas.Option.{get_or_from_slice_get, slice_get_within, slice_get_cases}
 use Rattle.dk_base.specs.Frames.{Size, area, column, row}
 use Rattle.dk_base.specs.FrameSizes.{size_of}
@@ -11,7 +11,7 @@ use Rattle.wiring.specs.Netlist.{Netlist, reset_net, enable_net}
 use Rattle.wiring.specs.Snapshot.{Contents, Snapshot, IsNext, net_value}
 use Rattle.wiring.specs.Clock.{Clock, bit}
 use Rattle.wiring.specs.History.{was_reset, is_held, counted}
-use Rattle.net_build.specs.Includes.{Includes, InEach, AtEachEdge}
+use Rattle.net_build.specs.Includes.{InEach, AtEachEdge}
 use Rattle.net_build.specs.Runs.{IsClockOf, IsKept}
 use Rattle.net_build.proofs.Runs.{clock_before, reset_shown, enable_shown}
 use Rattle.edge_select.specs.declared.pixel.Pixel.{Pixel}

@@ -1,38 +1,34 @@
 -- What further wires compute, one after another.
-use Rattle.std.proofs.Common.{◌≡◌, ◌≢◌, ◌⊎◌, ℕ, suc, zero, Bool, true, false, List, [], ◌∷◌, ◌++◌, ◌==◌, refl, sym, ap, subst, ◌∙◌, inl, inr, arith}
+use Rattle.std.proofs.Common.{◌≡◌, ◌⊎◌, ℕ, suc, zero, Bool, false, List, [], ◌∷◌, ◌++◌, ◌==◌, refl, sym, ap, subst, ◌∙◌, arith}
 use Rattle.std.specs.Prelude.{All, Contains, if◌then◌else◌}
-use Rattle.std.proofs.lemmas.List.Elements.{All-nil, All-cons, All-append, All-weaker}
+use Rattle.std.proofs.lemmas.List.Elements.{All-nil, All-append, All-weaker}
 use Rattle.wiring.specs.declared.right.Atom.{Atom}
 use Rattle.wiring.specs.declared.right.Atom.TheVariants as atom
 use Rattle.wiring.specs.declared.right.Operator.{Operator}
 use Rattle.wiring.specs.declared.right.Right.{Right}
-use Rattle.wiring.specs.declared.right.Right.TheVariants.{Copy, Binary, Choose}
+use Rattle.wiring.specs.declared.right.Right.TheVariants.{Binary, Choose}
 use Rattle.wiring.specs.declared.netlist.Net.{Net}
 use Rattle.wiring.specs.declared.netlist.Holder.{Holder}
-use Rattle.wiring.specs.declared.netlist.Holder.TheVariants.{OfNet}
 use Rattle.wiring.specs.Sizes.{IsConstant, SizedNumber}
-use Rattle.wiring.specs.Rights.{atom_value, atom_width, operator_value, operator_width}
+use Rattle.wiring.specs.Rights.{atom_value, operator_value, operator_width}
 use Rattle.wiring.specs.BufferBits.{atom_reads}
 use Rattle.wiring.specs.Netlist.{Netlist, net_width}
 use Rattle.wiring.specs.Snapshot.{Snapshot, net_value, right_accesses}
 use Rattle.net_build.specs.Includes.{Includes, InEach}
 use Rattle.net_build.specs.Draft.{IsNet, IsOperand, AddsWires, with_wire}
 use Rattle.net_build.specs.Runs.{NeverStops, StaysInside}
-use Rattle.net_build.specs.Control.{IsMadeOf, IsControlled, AddsNoReads}
+use Rattle.net_build.specs.Control.{IsMadeOf, IsControlled}
 use Rattle.net_build.proofs.Parts.{Includes-refl, Includes-trans, InEach-more}
 use Rattle.net_build.proofs.Grown.{net_more, width_more}
 use Rattle.net_build.proofs.Control.{made_more, made_net, made_constant}
 use Rattle.net_build.proofs.Operands.{net_operand, constant_operand, operand_more}
 use Rattle.net_build.proofs.Reading.{reads_none, reads_nets, reads_joined}
-use Rattle.net_build.proofs.Updating.{wires_none, wires_same, wires_joined}
+use Rattle.net_build.proofs.Updating.{wires_none, wires_joined}
 use Rattle.edge_select.specs.Logic.{AddsLogic, AreMadeOf, Computes, IsGate}
 
 -- logic after logic
 pub logic_none : (b : Netlist) → AddsLogic b b
 logic_none b = record { includes = Includes-refl b; wires = wires_none b; reads = reads_none b b (λ x. false) refl; stops = λ h. h; control = λ h. h }
-
-pub logic_same : (new old : Netlist) → new ≡ old → AddsLogic new old
-logic_same new old e = subst (λ (n : Netlist). AddsLogic n old) (sym e) (logic_none old)
 
 pub logic_on : (a b c : Netlist) → AddsLogic b a → AddsLogic c b → AddsLogic c a
 logic_on a b c f g = record {
@@ -106,14 +102,6 @@ computes_as new old from bits other_bits worth other n e is same = record {
 }
 
 module _ (new b old : Netlist) (from : List Net) (grows : Includes new b) (bits : ℕ) where
-  pub copy_computes : (worth : Snapshot → ℕ) (a : Atom Net) (n : Net) → Source b old from bits worth a → IsGate new b (Copy a) n → Computes new old from bits worth n
-  copy_computes worth a n s g = record {
-    net = g.net;
-    width = g.width ∙ s.operand.width_is;
-    value = λ m t part settled. g.value m t part settled ∙ s.value m t (Includes-trans m new b part grows) settled;
-    made_of = λ base all. g.made_of base ((source_more new b old from bits worth a grows s).made_of base all);
-  }
-
   pub binary_computes : (o : Operator) (left right : Snapshot → ℕ) (a x : Atom Net) (n : Net) → Source b old from bits left a → Source b old from bits right x → IsGate new b (Binary o a x) n → Computes new old from (operator_width o bits) (λ s. operator_value o bits (left s) (right s)) n
   binary_computes o left right a x n p q g = record {
     net = g.net;

@@ -1,25 +1,22 @@
 -- Two registers that are made, and then set.
-use Rattle.std.proofs.Common.{◌≡◌, ◌≢◌, ◌⊎◌, ℕ, zero, suc, ◌-◌, Bool, true, false, List, [], ◌∷◌, ◌++◌, length, Some, refl, sym, ap, subst, ◌∙◌, inl, inr, arith, append_assoc}
+use Rattle.std.proofs.Common.{◌≡◌, ◌≢◌, ℕ, zero, suc, ◌-◌, Bool, true, false, List, [], ◌∷◌, ◌++◌, length, Some, refl, sym, ap, subst, ◌∙◌, inl, inr, arith, append_assoc}
 use Rattle.std.specs.Prelude.{IsTrue, slice_get, Contains}
 use Rattle.std.proofs.lemmas.List.{length_push}
 use Rattle.std.proofs.lemmas.List.Elements.{All-nil, All-cons, Contains-append_cases}
 use Rattle.dk_base.specs.Frames.{area, column, row}
 use Rattle.dk_base.specs.FrameSizes.{size_of}
-use Rattle.dk_base.specs.Numbers.{bit_count}
 use Rattle.wiring.specs.declared.right.Atom.TheVariants as atom
 use Rattle.wiring.specs.declared.netlist.Net.{Net}
 use Rattle.wiring.specs.declared.netlist.Net.TheVariants.{Reg}
-use Rattle.wiring.specs.declared.netlist.Shape.{Shape}
-use Rattle.wiring.specs.declared.netlist.Assign.{Assign}
 use Rattle.wiring.specs.declared.netlist.Holder.{Holder}
 use Rattle.wiring.specs.declared.netlist.Holder.TheVariants.{OfNet}
 use Rattle.wiring.specs.declared.netlist.Update.{Update}
 use Rattle.wiring.specs.declared.netlist.Update.TheVariants.{Set}
-use Rattle.wiring.specs.Netlist.{Netlist, reset_net, enable_net, update_target}
+use Rattle.wiring.specs.Netlist.{Netlist, reset_net, update_target}
 use Rattle.wiring.specs.Snapshot.{Contents, Snapshot, net_value}
-use Rattle.net_build.specs.Includes.{Includes, InEach, AtEachEdge}
+use Rattle.net_build.specs.Includes.{Includes, AtEachEdge}
 use Rattle.net_build.specs.Draft.{IsFree, UpdatedBut, number, with_reg, with_update}
-use Rattle.net_build.specs.Control.{IsMadeOf, by_itself, is_control, IsControl, TakesControl, AddsNoReads}
+use Rattle.net_build.specs.Control.{IsMadeOf, by_itself, is_control, IsControl, AddsNoReads}
 use Rattle.net_build.proofs.Parts.{Includes-trans}
 use Rattle.net_build.proofs.Drafts.{at_push, includes_update, includes_reg}
 use Rattle.net_build.proofs.Runs.{AtEachEdge-more}
@@ -27,7 +24,7 @@ use Rattle.net_build.proofs.Control.{made_more}
 use Rattle.net_build.proofs.Updating.{but_reg, but_wires, but_update, but_swap}
 use Rattle.net_build.proofs.Reading.{reads_none, reads_joined}
 use Rattle.edge_select.specs.declared.pixel.Pixel.{Pixel}
-use Rattle.edge_select.specs.Logic.{AddsLogic, AreMadeOf, Computes}
+use Rattle.edge_select.specs.Logic.{AddsLogic, AreMadeOf}
 use Rattle.edge_select.specs.Pixels.{Follows, AddsCounters}
 use Rattle.edge_select.specs.Counters.{after, row_after, lead_in, control_nets, taken, pixel_nets, Advances}
 use Rattle.edge_select.proofs.Following.{follows}

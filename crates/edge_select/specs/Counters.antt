@@ -1,5 +1,5 @@
 -- What the counters of column and row take.
-use Rattle.std.specs.Prelude.{◌≡◌, ℕ, ◌+◌, ◌-◌, ◌%◌, ◌==◌, nat_lt, Bool, if◌then◌else◌, List, [], ◌∷◌, ◌++◌}
+use Rattle.std.specs.Prelude.{ℕ, ◌+◌, ◌-◌, ◌%◌, ◌==◌, nat_lt, Bool, if◌then◌else◌, List, [], ◌∷◌, ◌++◌}
 use Rattle.dk_base.specs.Frames.{Size, column, row}
 use Rattle.dk_base.specs.FrameSizes.{size_of}
 use Rattle.dk_base.specs.Numbers.{bit_count}

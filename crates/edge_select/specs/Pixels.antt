@@ -1,5 +1,5 @@
 -- The pixel at which an image is, by the nets of its column and row.
-use Rattle.std.specs.Prelude.{◌≡◌, ◌⊎◌, ℕ, suc, ◌+◌, ◌-◌, ◌<◌, IsTrue, Bool, List, [], ◌∷◌, ◌++◌, length, Contains}
+use Rattle.std.specs.Prelude.{◌≡◌, ◌⊎◌, ℕ, suc, ◌+◌, ◌-◌, ◌<◌, IsTrue, Bool, [], ◌∷◌, ◌++◌, length}
 use Rattle.dk_base.specs.Frames.{column, row}
 use Rattle.dk_base.specs.FrameSizes.{size_of}
 use Rattle.dk_base.specs.Numbers.{bit_count}
@@ -11,10 +11,10 @@ use Rattle.wiring.specs.declared.netlist.Update.TheVariants.{Set}
 use Rattle.wiring.specs.Netlist.{Netlist, net_width}
 use Rattle.wiring.specs.Snapshot.{Snapshot, net_value}
 use Rattle.wiring.specs.History.{was_reset, counted}
-use Rattle.net_build.specs.Includes.{Includes, InEach}
+use Rattle.net_build.specs.Includes.{InEach}
 use Rattle.net_build.specs.Draft.{IsNet}
-use Rattle.net_build.specs.Runs.{InEachRun, IsStill, NeverStops}
-use Rattle.net_build.specs.Control.{IsMadeOf, TakesControl, IsControlled, AddsNoReads}
+use Rattle.net_build.specs.Runs.{InEachRun, IsStill}
+use Rattle.net_build.specs.Control.{IsMadeOf, TakesControl, AddsNoReads}
 use Rattle.edge_select.specs.declared.pixel.Pixel.{Pixel}
 
 -- the netlist has the nets, each with as many bits as the greatest column or row needs

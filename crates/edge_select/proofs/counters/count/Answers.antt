@@ -1,8 +1,7 @@
-use Rattle.std.proofs.Common.{◌∙◌, arith}
+use Rattle.std.proofs.Common.{◌∙◌}
 use Rattle.std.proofs.Math.Pow.{pow_pos}
 use Rattle.wiring.specs.declared.right.Atom.TheVariants as atom
 use Rattle.wiring.specs.declared.right.Operator.TheVariants.{Add}
-use Rattle.net_build.proofs.Parts.{Includes-refl}
 use Rattle.net_build.proofs.Grown.{width_more}
 use Rattle.net_build.proofs.Operands.{net_operand, binary_operation, choose_operation}
 use Rattle.edge_select.proofs.Logic.{logic_on}

@@ -1,4 +1,4 @@
-use Rattle.std.proofs.Common.{◌≡◌, ◌-◌, ◌^◌, ◌<◌, arith, ap, ◌∙◌, ℕ}
+use Rattle.std.proofs.Common.{◌-◌, ◌^◌, ◌<◌, arith, ap, ◌∙◌, ℕ}
 use Rattle.wiring.specs.declared.right.Atom.TheVariants as atom
 use Rattle.edge_select.proofs.Logic.{logic_none}
 use Rattle.edge_select.proofs.Combining.{at_least_is}

@@ -1,4 +1,4 @@
-use Rattle.std.proofs.Common.{◌≡◌, ℕ, ℤ, ◌<◌, IsTrue, false, subst, rules, to_z, of_z, w32}
+use Rattle.std.proofs.Common.{◌≡◌, ℕ, ℤ, ◌<◌, subst, rules, to_z, of_z, w32}
 use Rattle.std.proofs.lemmas.Int.{to_z-of_z}
 use Rattle.dk_base.specs.Frames.{Size}
 use Rattle.edge_select.specs.Steps.{LeadBy}

@@ -1,7 +1,6 @@
 use Rattle.std.proofs.Common.{[], ◌∷◌}
 use Rattle.wiring.specs.Snapshot.{net_value}
 use Rattle.net_build.proofs.Parts.{includes_on}
-use Rattle.net_build.proofs.Grown.{net_more}
 use Rattle.edge_select.specs.Logic.{is_within}
 use Rattle.edge_select.proofs.Logic.{logic_on, first_in, second_in, none_in, more_in}
 use Rattle.edge_select.proofs.Combining.{tests_bit, bit_more, tests_more, tests_since, tests_from, both_tests, test_computes}

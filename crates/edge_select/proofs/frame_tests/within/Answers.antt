@@ -1,6 +1,5 @@
 use Rattle.std.proofs.Common.{nat_le, [], ◌∷◌}
 use Rattle.wiring.specs.Snapshot.{net_value}
-use Rattle.net_build.proofs.Parts.{includes_on}
 use Rattle.edge_select.specs.Logic.{is_up_to}
 use Rattle.edge_select.proofs.Logic.{logic_on}
 use Rattle.edge_select.proofs.Combining.{tests_bit, bit_more, tests_more, tests_since, both_tests}

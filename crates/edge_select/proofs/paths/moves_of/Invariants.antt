@@ -1,4 +1,4 @@
-use Rattle.std.proofs.Common.{◌≡◌, ◌≤◌, unsigned_abs, drop}
+use Rattle.std.proofs.Common.{◌≤◌, unsigned_abs, drop}
 use Rattle.edge_select.specs.Moves.{IsMoves}
 use Rattle.edge_select.proofs.Walks.{IsSoFar}
 use Rattle.edge_select.proofs.paths.moves_of.Given as goal

@@ -1,4 +1,4 @@
-use Rattle.std.proofs.Common.{arith, rules, ◌≡◌, ◌⊎◌, ℤ, ◌≤ℤ◌, ◌<ℤ◌, ◌-ℤ◌, subst, to_z, of_z, w32, w64, sym, ◌∙◌}
+use Rattle.std.proofs.Common.{arith, rules, ◌≡◌, ◌⊎◌, ℤ, ◌≤ℤ◌, ◌<ℤ◌, ◌-ℤ◌, subst, to_z, of_z, w32, w64, ◌∙◌}
 use Rattle.std.proofs.lemmas.Int.{ints, to_z-of_z}
 use Rattle.edge_select.proofs.Chains.{AreEnds, led_none, led_inside, led_interval, led_is, same64, small64, are_small}
 use Rattle.edge_select.proofs.moves.Moves.led_by.Goals as goal

@@ -1,4 +1,4 @@
-use Rattle.std.proofs.Common.{arith, rules, ◌∙◌}
+use Rattle.std.proofs.Common.{arith, rules}
 use Rattle.edge_select.proofs.Chains.{near_leads, same64, small64, are_small}
 use Rattle.edge_select.proofs.moves.Moves.near.Goals as goal
 

@@ -1,6 +1,6 @@
-use Rattle.std.proofs.Common.{◌≡◌, arith, rules, subst, to_z, of_z, w32, w64, sym, ◌∙◌}
+use Rattle.std.proofs.Common.{◌≡◌, rules, subst, to_z, of_z, w32, w64, sym, ◌∙◌}
 use Rattle.std.proofs.lemmas.Int.{to_z-of_z}
-use Rattle.edge_select.specs.Moves.{LeadsOn, LeadsThen}
+use Rattle.edge_select.specs.Moves.{LeadsThen}
 use Rattle.edge_select.proofs.Chains.{same64}
 use Rattle.edge_select.proofs.moves.Moves.step.Goals as goal
 
