@@ -1,2 +1,3 @@
 mod Limited
 mod Judged
+mod Spanned

@@ -1,8 +1,10 @@
 // Whole texts.
 
-ghost use Rattle.std.specs.Prelude.{◌≡◌, ℕ, List, Some, None, IfOk, IfErr, IfSome, IfNone, MatchResult};
+ghost use Rattle.std.specs.Prelude.{◌≡◌, ◌↔◌, IsTrue, ℕ, List, Some, None, IfOk, IfErr, IfSome, IfNone, MatchResult};
 ghost use Rattle.dk_base.specs.declared.span.Span.{Span as OneSpan};
+ghost use Rattle.netlist.specs.declared.fault.NetFault.TheVariants.{Memory as NoMemory};
 ghost use Rattle.netlist.specs.Names.{NamedNetlist};
+ghost use Rattle.verilog_read.specs.Spanned.{IsOf};
 ghost use Rattle.verilog_text.specs.declared.fault.TextFault.{TextFault as OneFault};
 ghost use Rattle.verilog_text.specs.declared.fault.TextFault.TheVariants.{Net, Memory};
 ghost use Rattle.verilog_text.specs.Grammar.{source_of};
@@ -69,14 +71,27 @@ fn fault_span(written: &Written, fault: NetFault) -> Option<Span>
     }
 }
 
+fn is_memory(fault: NetFault) -> bool
+    ensures { IsTrue result ↔ (fault ≡ NoMemory) }
+{
+    match fault {
+        NetFault::Memory => true,
+        _ => false,
+    }
+}
+
 // The fault of a text whose parts have a net fault.
 fn net_fault(written: &Written, fault: NetFault) -> TextFault
+    requires { IsOf (source_of written.now) fault }
     ensures spanned { (span : OneSpan) → span_of_fault (source_of written.now) fault ≡ Some span → result ≡ Net span fault }
     ensures none { span_of_fault (source_of written.now) fault ≡ None → result ≡ Memory }
 {
+    if is_memory(fault) {
+        return TextFault::Memory;
+    }
     match fault_span(written, fault) {
         Some(span) => TextFault::Net { span, fault },
-        None => TextFault::Memory,
+        None => unreachable!(),
     }
 }
 
