@@ -7,3 +7,4 @@ pub mod Leading
 pub mod Following
 pub mod Registering
 pub mod Combining
+mod Finished
