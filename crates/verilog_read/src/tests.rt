@@ -57,6 +57,10 @@ fn one_line_put_in(rt: HostRuntime) -> Result<(), Fail> {
         net(106, 108, NetFault::WrongSort(first))
     );
     assert_eq!(rt;
+        fault_with(alloc, b"  wire n0;\n  assign n0 = din[1'd0];\n")?,
+        net(90, 92, NetFault::WrongSort(first))
+    );
+    assert_eq!(rt;
         fault_with(alloc, b"  wire n0;\n  assign n0 = din / rst;\n")?,
         net(90, 92, NetFault::Divisor(first))
     );
@@ -83,6 +87,98 @@ fn one_line_put_in(rt: HostRuntime) -> Result<(), Fail> {
     Ok(())
 }
 
+// The fault of a text that ends with this word, where the name of a module stands.
+fn fault_at_word(alloc: Global, word: &[u8]) -> Result<Option<TextFault>, Fail> {
+    let mut text = Vec::from_slice(alloc, b"module ")?;
+    text.extend_from_slice(word)?;
+    Ok(fault_of(alloc, &text))
+}
+
+#[test]
+fn words_that_are_no_names(rt: HostRuntime) -> Result<(), Fail> {
+    let alloc = rt.alloc();
+    for word in [
+        &b"module"[..],
+        b"endmodule",
+        b"input",
+        b"output",
+        b"wire",
+        b"reg",
+        b"assign",
+        b"always",
+        b"posedge",
+        b"begin",
+        b"end",
+    ] {
+        let span = Span {
+            start: 7,
+            stop: word.len().saturating_add(7),
+        };
+        assert_eq!(rt; fault_at_word(alloc, word)?, Some(TextFault::Syntax(span)));
+    }
+    for word in [
+        &b"and"[..],
+        b"case",
+        b"casex",
+        b"casez",
+        b"deassign",
+        b"default",
+        b"defparam",
+        b"disable",
+        b"else",
+        b"endcase",
+        b"endfunction",
+        b"endgenerate",
+        b"endtask",
+        b"event",
+        b"for",
+        b"force",
+        b"forever",
+        b"fork",
+        b"function",
+        b"generate",
+        b"genvar",
+        b"if",
+        b"initial",
+        b"inout",
+        b"integer",
+        b"join",
+        b"localparam",
+        b"nand",
+        b"negedge",
+        b"nor",
+        b"not",
+        b"or",
+        b"parameter",
+        b"real",
+        b"realtime",
+        b"release",
+        b"repeat",
+        b"signed",
+        b"supply0",
+        b"supply1",
+        b"task",
+        b"time",
+        b"tri",
+        b"wait",
+        b"wand",
+        b"while",
+        b"wor",
+        b"xnor",
+        b"xor",
+    ] {
+        let span = Span {
+            start: 7,
+            stop: word.len().saturating_add(7),
+        };
+        assert_eq!(rt;
+            fault_at_word(alloc, word)?,
+            Some(TextFault::NotInSubset(span))
+        );
+    }
+    Ok(())
+}
+
 #[test]
 fn whole_texts(rt: HostRuntime) -> Result<(), Fail> {
     let alloc = rt.alloc();
@@ -92,6 +188,9 @@ fn whole_texts(rt: HostRuntime) -> Result<(), Fail> {
     let turned =
         b"module m(input rst, input clk, input din, output valid, output dout);\n  assign valid = ~rst;\n  assign dout = din;\nendmodule\n";
     assert_eq!(rt; fault_of(alloc, turned), net(7, 8, NetFault::Ports));
+    let swapped =
+        b"module m(input clk, input rst, input din, output dout, output valid);\n  assign valid = ~rst;\n  assign dout = din;\nendmodule\n";
+    assert_eq!(rt; fault_of(alloc, swapped), net(7, 8, NetFault::Ports));
     let narrow =
         b"module m(input clk, input rst, input [3:0] din, output valid, output [7:0] dout);\n  assign valid = ~rst;\n  assign dout = din + 8'd1;\nendmodule\n";
     assert_eq!(rt;
