@@ -7,9 +7,10 @@ examples=$(cd "$(dirname "$0")" && pwd)
 work=$(mktemp -d) || exit 2
 trap 'rm -rf "$work"' EXIT
 cd "$work" || exit 2
-cp "$examples"/*.dk "$examples"/*.pgm . || exit 2
+cp "$examples"/*.dk "$examples"/*.pgm "$examples"/reports/*.dk "$examples"/reports/*.txt . || exit 2
+cp "$examples"/sim/*.v . || exit 2
 failed=0
-usage='usage: run PROG IN OUT | compile PROG OUT | plan PROG | sim VERILOG CLOCKS IN OUT | eval PROG IN OUT | make N'
+usage='usage: run PROG IN OUT | compile PROG OUT | plan [--age K] PROG | sim VERILOG CLOCKS IN OUT [--fill FILL] [--hold K] | eval PROG IN OUT | make N | check PROG REPORT'
 
 # ends STATUS LINE WORD..: the program with these words ends with this status, prints nothing, and says this line on standard error
 ends() {
@@ -171,6 +172,155 @@ truncate -s 268435457 zeros.pgm
 ends 4 'image: TooLong 268435456' eval copy.dk zeros.pgm out.pgm
 none
 rm zeros.pgm
+
+# prints TEXT WORD..: the program with these words is done, prints this text and says nothing
+prints() {
+    text=$1
+    shift
+    "$program" "$@" >stdout 2>stderr
+    got=$?
+    if [ "$got" != 0 ] || [ -s stderr ] || [ "$(cat stdout)" != "$text" ]; then
+        echo "examples: dk $*: status $got, '$(cat stdout)', '$(cat stderr)' where '$text' was wanted" >&2
+        failed=1
+    fi
+}
+
+# Verilog texts, clocked. What must come out of NAME.v is sim/NAME.pgm.
+for name in line_buffer median enabled; do
+    ends 0 '' sim $name.v 3072 scene.pgm out.pgm
+    holds "$examples/sim/$name.pgm"
+done
+ends 0 '' sim enabled.v 3072 scene.pgm out.pgm --hold 1
+holds "$examples/sim/enabled.pgm"
+ends 0 '' sim --hold 7 enabled.v 3072 scene.pgm out.pgm
+holds "$examples/sim/enabled.pgm"
+ends 0 '' sim line_buffer.v 3072 --fill=ones scene.pgm out.pgm
+holds "$examples/sim/line_buffer_ones.pgm"
+printf 'P5 4 1 1\n\0\0\0\0' >bits.pgm
+printf 'P5\n4 1\n1\n\001\0\001\0' >wanted.pgm
+ends 0 '' sim toggle.v 4 bits.pgm out.pgm
+holds wanted.pgm
+printf 'P5\n4 1\n1\n\001\001\001\001' >wanted.pgm
+ends 0 '' sim toggle.v 4 bits.pgm out.pgm --fill ones
+holds wanted.pgm
+printf 'P5 4 1 3\n\0\0\001\002' >rising.pgm
+printf 'P5 4 1 3\n\0\0\001\003' >past.pgm
+printf 'P5 0 1 3\n' >empty.pgm
+ends 6 'stopped: clock 3 array 0 index 3' sim words.v 4 past.pgm out.pgm
+ends 6 'stopped: count 3 of 4' sim words.v 3 rising.pgm out.pgm
+ends 6 'stopped: count 5 of 4' sim words.v 5 rising.pgm out.pgm
+ends 6 'stopped: count 0 of 4' sim words.v 0 rising.pgm out.pgm
+ends 4 'image: Maxval 255' sim words.v 4 gradient.pgm out.pgm
+ends 4 'image: Size 0 1' sim words.v 4 empty.pgm out.pgm
+ends 7 'cannot read' sim missing.v 4 rising.pgm out.pgm
+ends 7 'cannot read' sim words.v 4 missing.pgm out.pgm
+none
+
+# refuses LINE TEXT: the Verilog text ends with this line, before the images are asked for
+refuses() {
+    printf '%b' "$2" >text.v
+    shown=$1
+    shift 2
+    ends 5 "$shown" sim text.v 4 missing.pgm out.pgm "$@"
+    none
+}
+
+refuses 'verilog 0-0: Syntax' ''
+refuses 'verilog 21-28: NotInSubset' 'module m(input clk); initial'
+refuses 'verilog 0-1: BadByte' '/* open'
+refuses 'verilog 0-6: BadConstant' "8'd256"
+refuses 'verilog 114-118: Width' "module m(input clk, input rst, input [3:0] din, output valid, output [7:0] dout);\n  assign valid = ~rst;\n  assign dout = din + 8'd1;\nendmodule\n"
+refuses 'verilog 7-8: Ports' 'module m(input clk, input rst, input din, output valid, output dout);\n  assign valid = ~rst;\n  assign dout = din;\nendmodule\n' --hold 1
+truncate -s 268435457 zeros.v
+ends 5 'verilog: TooLong 268435456' sim zeros.v 4 missing.pgm out.pgm
+rm zeros.v
+ends 2 "$usage" sim words.v 4 rising.pgm words.v
+ends 2 "$usage" sim words.v 4 rising.pgm rising.pgm
+ends 2 "$usage" sim words.v 007 rising.pgm out.pgm
+ends 2 "$usage" sim words.v 100000001 rising.pgm out.pgm
+ends 2 "$usage" sim words.v 4 rising.pgm out.pgm --fill two
+ends 2 "$usage" sim words.v 4 rising.pgm out.pgm --hold 0
+ends 2 "$usage" sim words.v 4 rising.pgm out.pgm --hold -1
+ends 2 "$usage" sim words.v 4 rising.pgm out.pgm --fill ones --fill ones
+none
+ends 8 'cannot write' sim words.v 4 rising.pgm /dev/full
+
+# Reports: each line of plans.txt is a program of reports/ with an age, and its image lines, latencies, bits and reads. The flow may be any, and the report holds.
+while IFS='|' read -r name age bits latency lines <&3; do
+    "$program" plan "$name.dk" --age "$age" >plan.txt 2>stderr || {
+        echo "examples: plan $name.dk --age $age: $(cat stderr)" >&2
+        failed=1
+    }
+    [ "$(grep -v '^flow\|^limits\|^end' plan.txt | tr '\n' ',')" = "$lines" ] || {
+        echo "examples: plan $name.dk --age $age gave $(tr '\n' ',' <plan.txt)" >&2
+        failed=1
+    }
+    prints "report holds: bits $bits latency $latency" check "$name.dk" plan.txt
+done 3<"$examples/reports/plans.txt"
+prints "$(cat "$examples/reports/mean_plan.txt")" plan mean.dk
+for example in "$examples"/*.dk; do
+    "$program" plan "$example" >plan.txt 2>stderr && "$program" check "$example" plan.txt >stdout 2>stderr || {
+        echo "examples: the plan of $example does not hold: $(cat stderr)" >&2
+        failed=1
+    }
+done
+# a report of another maker, and faults of reports
+prints 'report holds: bits 456 latency 17' check skip.dk skip.txt
+sed 's/^image across 10 1 32$/image across 10 1 33/' skip.txt >wrong.txt
+ends 10 'report: line 6' check skip.dk wrong.txt
+prints 'report holds: bits 64 latency 8' check square.dk square.txt
+sed 's/^flow hold p 8$/flow hold p 9/' square.txt >wrong.txt
+ends 10 'report: line 15' check square.dk wrong.txt
+sed 's/^image p 16 8 0$/image p 16 7 0/' square.txt >wrong.txt
+ends 10 'report: line 2' check square.dk wrong.txt
+sed 's/^image a 8 0 8$/image a 8 0 0/; s/^image p 16 8 0$/image p 16 0 8/; s/^bits 64$/bits 128/' square.txt >wrong.txt
+ends 10 'report: line 15' check square.dk wrong.txt
+printf '%s' "$(cat square.txt)" >wrong.txt
+ends 10 'report: line 15' check square.dk wrong.txt
+sed 's/^image s /image p /' square.txt >wrong.txt
+ends 10 'report: line 4' check square.dk wrong.txt
+ends 10 'report: line 1' check mean.dk square.txt
+grep -v '^end' mean_plan.txt >wrong.txt
+ends 10 'report: line 14' check mean.dk wrong.txt
+head -c 4194305 /dev/zero >long.txt
+ends 10 'report: TooLong 4194304' check mean.dk long.txt
+ends 3 'program 0-1: BadByte' check byte.dk missing.txt
+ends 7 'cannot read' check mean.dk missing.txt
+ends 7 'cannot read' check missing.dk square.txt
+ends 3 'program 0-1: BadByte' plan byte.dk
+ends 7 'cannot read' plan missing.dk
+ends 2 "$usage" plan mean.dk --age 65
+ends 2 "$usage" plan mean.dk --age=
+ends 2 "$usage" plan mean.dk --age 01
+ends 2 "$usage" plan --age 1 --age 1 mean.dk
+ends 2 "$usage" --age 1 plan mean.dk
+ends 2 "$usage" plan --ag 1 mean.dk
+ends 2 "$usage" check mean.dk
+{
+    printf 'size 4096 4096 input f0 : u16 '
+    k=1
+    while [ $k -le 17 ]; do
+        printf 'let f%d = im(x,y) f%d(x,y-64) end ' $k $((k - 1))
+        k=$((k + 1))
+    done
+    printf 'output f17'
+} >bits.dk
+ends 3 'program: Bits 71303168' plan bits.dk
+{
+    printf 'size 4096 4096 input f0 : u16 '
+    k=1
+    while [ $k -le 256 ]; do
+        printf 'let f%d = im(x,y) f%d(x+64,y+64) end ' $k $((k - 1))
+        k=$((k + 1))
+    done
+    printf 'output f256'
+} >late.dk
+ends 3 'program: Latency 67125248' plan late.dk
+"$program" plan mean.dk >/dev/full 2>stderr
+[ $? = 8 ] && [ "$(cat stderr)" = 'cannot write' ] || {
+    echo "examples: a full standard output is not told" >&2
+    failed=1
+}
 
 ends 7 'cannot read' run missing.dk gradient.pgm out.pgm
 ends 7 'cannot read' run copy.dk missing.pgm out.pgm

@@ -1,0 +1,32 @@
+-- What the reader's functions answer, from what they call.
+use Rattle.std.proofs.Common.{◌≡◌, ◌≢◌, ◌<◌, ◌≤◌, ◌+◌, ◌^◌, ℕ, List, [], ◌∷◌, ◌++◌, length, take, drop, eqb, refl, ap, sym, arith, Bool, true, false}
+use Rattle.std.specs.Prelude.{Option, Some, None, MatchOption, nat_eq, nat_lt}
+use Rattle.std.specs.Cmp.Lexicographic.{pointwise}
+use Rattle.std.proofs.lemmas.Bool.{eqb-true, lt-ltb, false_from_ne_true, ltb-true}
+use Rattle.std.proofs.lemmas.Bool.Decides.{Decides-eqb}
+use Rattle.std.proofs.lemmas.Slice.Eq.{strip_prefix_is}
+use denote.Ref.{Bor}
+use Rattle.report_text.proofs.Fields.{strip_again}
+use Rattle.report_text.specs.Reading.{strip, numeral, value_of, is_canonical}
+
+-- words
+strip_none : (word bytes : List ℕ) → ((rest : List ℕ) → bytes ≢ word ++ rest) → strip word bytes ≡ None
+strip_none [] bytes h = absurd (h bytes refl)
+strip_none (w ∷ word) [] h = refl
+strip_none (w ∷ word) (b ∷ bytes) h = by (nat_eq w b) refl (λ e. strip_none word bytes (λ rest f. h rest (let q = eqb-true w b e in cc)))
+  where
+    by : (t : Bool) → nat_eq w b ≡ t → (nat_eq w b ≡ true → strip word bytes ≡ None) → strip (w ∷ word) (b ∷ bytes) ≡ None
+    by true e none = rw e (none e)
+    by false e none = rw e refl
+
+pub strip_answer : (word bytes : List ℕ) (r : Option (Bor (List ℕ))) → MatchOption r (pointwise eqb (take (length word) bytes) word ≡ false) (λ x. (pointwise eqb (take (length word) bytes) word ≡ true) × (x.now ≡ drop (length word) bytes) × (length x.now + length word ≡ length bytes)) → MatchOption r (strip word bytes ≡ None) (λ x. strip word bytes ≡ Some x.now)
+strip_answer word bytes r a = by r (strip_prefix_is Decides-eqb bytes word r a)
+  where
+    by : (r : Option (Bor (List ℕ))) → MatchOption r ((rest : List ℕ) → bytes ≢ word ++ rest) (λ x. bytes ≡ word ++ x.now) → MatchOption r (strip word bytes ≡ None) (λ x. strip word bytes ≡ Some x.now)
+    by None none = strip_none word bytes none
+    by (Some x) e = rw e (strip_again word x.now)
+
+-- numbers
+pub numeral_answer : (ds : List ℕ) (r : Option ℕ) → is_canonical ds ≡ true → MatchOption r (2 ^ 64 ≤ value_of ds) (λ v. v ≡ value_of ds) → ((v : ℕ) → r ≡ Some v → v < 2 ^ 64) → MatchOption r (numeral ds ≡ None) (λ n. numeral ds ≡ Some n)
+numeral_answer ds None c big small = rw (c, false_from_ne_true (nat_lt (value_of ds) (2 ^ 64)) (λ t. let f = ltb-true _ _ t in omega (arith, f, big))) refl
+numeral_answer ds (Some v) c is small = let l : value_of ds < 2 ^ 64 = omega (arith, small v refl, is) in rw (c, lt-ltb _ _ l) (ap (λ x. Some x) (sym is))

@@ -1,0 +1,6 @@
+use Rattle.std.proofs.Common.{◌∙◌}
+use Rattle.report_text.proofs.Lines.{follows_last}
+use Rattle.report_text.proofs.flow.may_follow.Goals as goal
+
+pub returns-in-Some : goal.returns-in-Some
+returns-in-Some c = c.is_before.ensures ∙ follows_last c.args.flow.now c.args.line c.in-Some.last.now c.in-Some.ensures.value

@@ -1,0 +1,7 @@
+pub mod Names
+pub mod Reports
+pub mod Layout
+pub mod Texts
+pub mod Reading
+pub mod Answers
+pub mod Steps

@@ -1,0 +1,128 @@
+-- What a report says, and what its values keep.
+use Rattle.std.specs.Prelude.{◌≡◌, ◌≢◌, ℕ, ℤ, pos, neg_ℤ, ◌^◌, ◌<◌, ◌≤◌, ◌≤ℤ◌, Bool, true, false, ◌&&◌, ◌||◌, nat_lt, nat_eq, int_lt, if◌then◌else◌, List, [], ◌∷◌, length, map, slice_index_or}
+use Rattle.std.specs.List.{AllByRecursion}
+use Rattle.std.specs.Ordering.{int_eq}
+use Rattle.report_text.specs.declared.report.ImageLine.{ImageLine}
+use Rattle.report_text.specs.declared.report.FlowLine.{FlowLine}
+use Rattle.report_text.specs.declared.report.FlowLine.TheVariants.{Hold, Start, Read, Keep}
+use Rattle.report_text.specs.declared.report.Report.{Report}
+use Rattle.report_text.specs.Names.{is_name}
+
+-- the values of a report, with its lists as lists
+pub record Parts : Type 0 where
+  pub version : ℕ
+  pub bits_limit : ℕ
+  pub latency_limit : ℕ
+  pub age : ℕ
+  pub width : ℕ
+  pub height : ℕ
+  pub images : List ImageLine
+  pub latencies : List ℕ
+  pub clocks : ℕ
+  pub bits : ℕ
+  pub reads : ℕ
+  pub flow : List FlowLine
+
+abbrev pub parts_of : Report → Parts
+parts_of r = record { version = r.version; bits_limit = r.limits.bits; latency_limit = r.limits.latency; age = r.age; width = r.width; height = r.height; images = r.images.items; latencies = r.latencies.items; clocks = r.clocks; bits = r.bits; reads = r.reads; flow = r.flow.items }
+
+abbrev pub names_of : List ImageLine → List (List ℕ)
+names_of images = map (λ i. i.name) images
+
+-- no two of them are the same
+abbrev pub AreDistinct : List (List ℕ) → Type 0
+AreDistinct names = (i j : ℕ) → i < j → j < length names → slice_index_or names i [] ≢ slice_index_or names j []
+
+-- the values of an image line
+pub record IsImageLine (i : ImageLine) : Type 0 where
+  pub name : is_name i.name ≡ true
+  pub some_bits : 1 ≤ i.width
+  pub most_bits : i.width ≤ 64
+  pub delay : i.delay < 2 ^ 64
+  pub depth : i.depth < 2 ^ 64
+
+-- an offset of at most 4,095 to either side
+pub record IsOffset (z : ℤ) : Type 0 where
+  pub low : neg_ℤ (pos 4095) ≤ℤ z
+  pub high : z ≤ℤ pos 4095
+
+-- a flow of at least 1
+pub record IsAmount (n : ℕ) : Type 0 where
+  pub some : 1 ≤ n
+  pub most : n < 2 ^ 64
+
+-- places of images below `count`, offsets and a flow of at least 1
+abbrev pub IsFlowLine : (count : ℕ) → FlowLine → Type 0
+IsFlowLine count (Hold g n) = (g < count) × IsAmount n
+IsFlowLine count (Start f n) = (f < count) × IsAmount n
+IsFlowLine count (Read f g dx dy n) = (f < count) × (g < count) × IsOffset dx × IsOffset dy × IsAmount n
+IsFlowLine count (Keep f g dx dy n) = (f < count) × (g < count) × IsOffset dx × IsOffset dy × IsAmount n
+
+-- one read stands before another: by the image that reads, then by the one that is read, then by row, then by column
+abbrev pub is_read_before : (f g : ℕ) (dx dy : ℤ) (f' g' : ℕ) (dx' dy' : ℤ) → Bool
+is_read_before f g dx dy f' g' dx' dy' =
+    nat_lt f f' || (nat_eq f f' && (nat_lt g g' || (nat_eq g g' && (int_lt dy dy' || (int_eq dy dy' && int_lt dx dx')))))
+
+-- one flow line stands before another: by kind, and then by the images
+abbrev pub is_before : FlowLine → FlowLine → Bool
+is_before (Hold g n) (Hold g' n') = nat_lt g g'
+is_before (Hold g n) (Start f' n') = true
+is_before (Hold g n) (Read f' g' dx' dy' n') = true
+is_before (Hold g n) (Keep f' g' dx' dy' n') = true
+is_before (Start f n) (Hold g' n') = false
+is_before (Start f n) (Start f' n') = nat_lt f f'
+is_before (Start f n) (Read f' g' dx' dy' n') = true
+is_before (Start f n) (Keep f' g' dx' dy' n') = true
+is_before (Read f g dx dy n) (Hold g' n') = false
+is_before (Read f g dx dy n) (Start f' n') = false
+is_before (Read f g dx dy n) (Read f' g' dx' dy' n') = is_read_before f g dx dy f' g' dx' dy'
+is_before (Read f g dx dy n) (Keep f' g' dx' dy' n') = true
+is_before (Keep f g dx dy n) (Hold g' n') = false
+is_before (Keep f g dx dy n) (Start f' n') = false
+is_before (Keep f g dx dy n) (Read f' g' dx' dy' n') = false
+is_before (Keep f g dx dy n) (Keep f' g' dx' dy' n') = is_read_before f g dx dy f' g' dx' dy'
+
+-- each stands before the next one
+abbrev pub Ascend : List FlowLine → Type 0
+Ascend [] = Unit {0}
+Ascend (a ∷ []) = Unit {0}
+Ascend (a ∷ b ∷ more) = (is_before a b ≡ true) × Ascend (b ∷ more)
+
+-- a report of version 3 is for any number of inputs and outputs
+abbrev pub most_images : (version : ℕ) → ℕ
+most_images version = if nat_eq version 3 then 264 else 257
+
+abbrev pub most_latencies : (version : ℕ) → ℕ
+most_latencies version = if nat_eq version 3 then 8 else 1
+
+-- what version 1 lacks
+pub record IsBare (r : Parts) : Type 0 where
+  pub bits_limit : r.bits_limit ≡ 0
+  pub latency_limit : r.latency_limit ≡ 0
+  pub age : r.age ≡ 0
+  pub reads : r.reads ≡ 0
+
+-- the values of a report of its version
+pub record Meets (r : Parts) : Type 0 where
+  pub first_version : 1 ≤ r.version
+  pub last_version : r.version ≤ 3
+  pub bare : r.version ≡ 1 → IsBare r
+  pub bits_limit : r.bits_limit < 2 ^ 64
+  pub latency_limit : r.latency_limit < 2 ^ 64
+  pub age : r.age ≤ 64
+  pub some_columns : 1 ≤ r.width
+  pub most_columns : r.width ≤ 4096
+  pub some_rows : 1 ≤ r.height
+  pub most_rows : r.height ≤ 4096
+  pub some_images : 1 ≤ length r.images
+  pub image_limit : length r.images ≤ most_images r.version
+  pub images : AllByRecursion IsImageLine r.images
+  pub distinct : AreDistinct (names_of r.images)
+  pub some_latencies : 1 ≤ length r.latencies
+  pub latency_count : length r.latencies ≤ most_latencies r.version
+  pub latencies : AllByRecursion (λ n. n < 2 ^ 64) r.latencies
+  pub clocks : r.clocks < 2 ^ 64
+  pub bits : r.bits < 2 ^ 64
+  pub reads : r.reads < 2 ^ 64
+  pub flow : AllByRecursion (IsFlowLine (length r.images)) r.flow
+  pub ascending : Ascend r.flow
