@@ -1,0 +1,8 @@
+use Rattle.std.proofs.Common.{◌≡◌, map, drop, ◌++◌}
+use Rattle.latency_report.specs.Printed.{read_maker, carried}
+use Rattle.latency_report.proofs.flow.push_reads.Given as goal
+
+abbrev pub invariant-loop-k : goal.invariant-loop-k
+invariant-loop-k l =
+    l.lines.items ++ carried (drop l.k (map read_maker l.reads)) (drop l.k l.flow)
+    ≡ l.initial.lines.items ++ carried (map read_maker l.reads) l.flow

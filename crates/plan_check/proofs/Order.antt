@@ -1,0 +1,123 @@
+-- Live reads by place stand in order, so that none stands twice.
+use Rattle.std.proofs.Common.{◌≡◌, ◌<◌, ◌≤◌, ℕ, ℤ, pos, true, false, Bool, eqb, ltb, List, length, slice_index_or, ◌⊎◌, ◌+◌, ◌∙◌, refl, sym, ap, subst, arith, inl, inr}
+use Rattle.std.specs.Prelude.{◌<ℤ◌, ◌&&◌, ◌||◌, int_lt}
+use Rattle.std.specs.Ordering.{int_eq}
+use Rattle.std.proofs.lemmas.Int.{ints}
+use Rattle.std.proofs.lemmas.Bool.{cases_eq}
+use Rattle.std.proofs.lemmas.Bool.Decides.{nat_tests, Decides-int_eq}
+use Rattle.std.proofs.lemmas.List.{get_or-map, get_or_default, length-map}
+use Rattle.dk_base.specs.declared.stencils.Image.{Image}
+use Rattle.dk_base.specs.declared.stencils.LiveRead.{LiveRead}
+use Rattle.dk_base.specs.Stencils.{place, IsKept, Ascends, IsBefore}
+use Rattle.dk_base.proofs.Orders.{at_place}
+use Rattle.dk_base.proofs.Compare.{int_lt_cases}
+use Rattle.raster_delay.specs.declared.placed.PlacedRead.{PlacedRead}
+use Rattle.raster_delay.specs.Placing.{placed}
+use Rattle.raster_delay.specs.Systems.{Parts, IsSystem, placed_reads}
+use Rattle.raster_delay.proofs.Places.{place_le}
+use Rattle.report_text.specs.Reports.{is_read_before}
+use Rattle.plan_check.specs.Orders.{IsEarlier, AreSorted}
+
+-- not one before the other and the other before the one
+pub not_both : (a b : PlacedRead) → IsEarlier a b → IsEarlier b a → ⊥
+not_both a b p q =
+    let pf = p.reader in
+    let qf = q.reader in
+    let e : a.f ≡ b.f = omega (arith, pf, qf) in
+    let pg = p.source e in
+    let qg = q.source (sym e) in
+    let g : a.g ≡ b.g = omega (arith, pg, qg) in
+    let py = p.rows e g in
+    let qy = q.rows (sym e) (sym g) in
+    let y : a.dy ≡ b.dy = omega (arith, ints, py, qy) in
+    let px = p.columns e g y in
+    let qx = q.columns (sym e) (sym g) (sym y) in
+    absurd (omega (arith, ints, px, qx))
+
+module _ (images : List Image) (up : Ascends images) where
+  place_same : (a b : ℕ) → IsKept images a → IsKept images b → place images a ≡ place images b → a ≡ b
+  place_same a b ka kb e =
+      let none : Image = record { number = 0; width = 0 } in
+      omega (arith, at_place images a none ka, at_place images b none kb, ap (λ k. (slice_index_or images k none).number) e)
+
+  earlier_placed : (a b : LiveRead) → IsKept images a.f → IsKept images a.g → IsKept images b.f → IsKept images b.g → IsBefore a b → IsEarlier (placed images a) (placed images b)
+  earlier_placed a b af ag bf bg h = record {
+    reader = place_le images up a.f b.f af bf h.reader;
+    source = λ e. place_le images up a.g b.g ag bg (h.source (place_same a.f b.f af bf e));
+    rows = λ e g. h.rows (place_same a.f b.f af bf e) (place_same a.g b.g ag bg g);
+    columns = λ e g y. h.columns (place_same a.f b.f af bf e) (place_same a.g b.g ag bg g) y;
+  }
+
+pub in_order : (s : Parts) → IsSystem s → (i j : ℕ) (d : PlacedRead) → i < j → j < length (placed_reads s) → IsEarlier (slice_index_or (placed_reads s) i d) (slice_index_or (placed_reads s) j d)
+in_order s is i j d lt below =
+    let none : LiveRead = record { f = 0; g = 0; dx = pos 0; dy = pos 0 } in
+    let images = s.stencils.images in
+    let reads = s.stencils.reads in
+    let short : j < length reads = omega (arith, length-map reads (placed images)) in
+    let a = slice_index_or reads i none in
+    let b = slice_index_or reads j none in
+    let ra = is.stencils.reads.between i none (omega arith) in
+    let rb = is.stencils.reads.between j none short in
+    let here = earlier_placed images is.stencils.images.ascending a b ra.reader_kept ra.source_kept rb.reader_kept rb.source_kept (is.stencils.reads.in_order i j none lt short) in
+    subst (λ x. IsEarlier x (slice_index_or (placed_reads s) j d)) (sym (get_or-map (placed images) reads i none d (omega arith)))
+    (subst (λ y. IsEarlier (placed images a) y) (sym (get_or-map (placed images) reads j none d short)) here)
+
+-- the last part of a test by four parts
+third : (a b c d e k l : Bool) → (a || (b && (c || (d && (e || (k && l)))))) ≡ true → a ≡ false → c ≡ false → (e ≡ true) ⊎ ((k ≡ true) × (l ≡ true))
+third true b c d e k l h p q = absurd (let e : ⊥ = cc in e)
+third false false c d e k l h p q = absurd (let e : ⊥ = cc in e)
+third false true true d e k l h p q = absurd (let e : ⊥ = cc in e)
+third false true false false e k l h p q = absurd (let e : ⊥ = cc in e)
+third false true false true true k l h p q = inl refl
+third false true false true false true true h p q = inr (refl, refl)
+third false true false true false true false h p q = absurd (let e : ⊥ = cc in e)
+third false true false true false false l h p q = absurd (let e : ⊥ = cc in e)
+
+ltb_same : (a b : ℕ) → a ≡ b → ltb a b ≡ false
+ltb_same a b e = grind (arith, nat_tests)
+
+int_less : (a b : ℤ) → int_lt a b ≡ true → a <ℤ b
+int_less a b t = elim (int_lt_cases a b) [ inl h ↦ h.0 | inr h ↦ absurd (let e : ⊥ = cc (h.1, t) in e) ]
+
+-- what the test on flow lines says
+module _ (f g : ℕ) (dx dy : ℤ) (f' g' : ℕ) (dx' dy' : ℤ) (h : is_read_before f g dx dy f' g' dx' dy' ≡ true) where
+  last_parts : f ≡ f' → g ≡ g' → (int_lt dy dy' ≡ true) ⊎ ((int_eq dy dy' ≡ true) × (int_lt dx dx' ≡ true))
+  last_parts e k = third (ltb f f') (eqb f f') (ltb g g') (eqb g g') (int_lt dy dy') (int_eq dy dy') (int_lt dx dx') h (ltb_same f f' e) (ltb_same g g' k)
+
+  pub earlier_from_test : IsEarlier (record { f = f; g = g; dx = dx; dy = dy }) (record { f = f'; g = g'; dx = dx'; dy = dy' })
+  earlier_from_test = record {
+    reader = grind (arith, nat_tests, h);
+    source = λ e. grind (arith, nat_tests, h, e);
+    rows = λ e k. elim (last_parts e k) [
+      | inl t ↦ let l = int_less dy dy' t in omega (arith, ints, l)
+      | inr t ↦ let y : dy ≡ dy' = (Decides-int_eq dy dy').0 t.0 in omega (arith, ints, y)
+    ];
+    columns = λ e k y. elim (last_parts e k) [
+      | inl t ↦ let l = int_less dy dy' t in absurd (omega (arith, ints, l, y))
+      | inr t ↦ int_less dx dx' t.1
+    ];
+  }
+
+-- no two reads at places of a list in order are the same, and none is the same as one that stands before or behind its place
+pub AreSorted-placed : (s : Parts) → IsSystem s → AreSorted (placed_reads s)
+AreSorted-placed s is i j d lt below = in_order s is i j d lt below
+
+module _ (reads : List PlacedRead) (sorted : AreSorted reads) (r : PlacedRead) (m : ℕ) (d : PlacedRead) (within : m < length reads) where
+  pub not_before : IsEarlier (slice_index_or reads m d) r → (k : ℕ) (e : PlacedRead) → k < m + 1 → slice_index_or reads k e ≡ r → ⊥
+  not_before h k e lt same =
+      let at : slice_index_or reads k d ≡ r = get_or_default reads k d e (omega (arith, lt, within)) ∙ same in
+      elim (cases_eq k m) [
+        | inl is ↦ not_both r r (itself (ap (λ j. slice_index_or reads j d) (sym is) ∙ at)) (itself (ap (λ j. slice_index_or reads j d) (sym is) ∙ at))
+        | inr ne ↦ not_both (slice_index_or reads m d) r h (subst (λ x. IsEarlier x (slice_index_or reads m d)) at (sorted k m d (omega (arith, lt)) within))
+      ]
+    where
+      itself : slice_index_or reads m d ≡ r → IsEarlier r r
+      itself same = subst (λ x. IsEarlier x r) same h
+
+  pub not_behind : (IsEarlier (slice_index_or reads m d) r → ⊥) → (slice_index_or reads m d ≡ r → ⊥) → (k : ℕ) (e : PlacedRead) → m ≤ k → k < length reads → slice_index_or reads k e ≡ r → ⊥
+  not_behind not_early not_same k e le below same =
+      let at : slice_index_or reads k d ≡ r = get_or_default reads k d e below ∙ same in
+      elim (cases_eq k m) [
+        | inl is ↦ not_same (ap (λ j. slice_index_or reads j d) (sym is) ∙ at)
+        | inr ne ↦ not_early (subst (λ x. IsEarlier (slice_index_or reads m d) x) at (sorted m k d (omega (arith, le)) below))
+      ]

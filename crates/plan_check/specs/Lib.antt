@@ -1,0 +1,5 @@
+pub mod Orders
+pub mod Numbering
+pub mod Holding
+pub mod Judging
+pub mod Program

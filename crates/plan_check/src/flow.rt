@@ -1,0 +1,283 @@
+// Whether the flow is balanced, and what it is worth.
+
+ghost use Rattle.std.specs.Prelude.{◌≡◌, ◌≤◌, ◌<◌, ◌^◌, ◌+◌, ◌==◌, ◌↔◌, if◌then◌else◌, ℕ, pos, neg_ℤ, ◌-ℤ◌, ◌*ℤ◌, ◌≤ℤ◌, length, slice_index, All, Contains, IsTrue};
+ghost use Rattle.raster_delay.specs.Network.{inflow, outflow, worth};
+ghost use Rattle.raster_delay.specs.Delays.{IsNear, IsSmall, offset, hold, start, read, keep};
+ghost use Rattle.raster_delay.specs.Systems.{image_count, placed_reads, nodes, coefficient_in};
+ghost use Rattle.plan_check.specs.Holding.{HasConstraint, constraint_of, amount_of, carriers, amounts, FlowHolds};
+
+use crate::lines::named;
+use raster_delay::{Constraint, PlacedRead, System, begin_node, end_node, offset};
+use report_text::FlowLine;
+
+/// The most nodes of a system: those of 264 images and one input.
+const MOST_NODES: usize = 528;
+
+// What a system's limits say of a live read.
+fn read_law(system: &System, r: PlacedRead)
+    requires { Contains (placed_reads system.now) r }
+    ensures near { IsNear (offset system.now.stencils.width r) }
+    ensures reader { r.f < image_count system.now }
+    ensures source { r.g < image_count system.now }
+{
+    system.law();
+}
+
+// What a system's limits are.
+fn limits(system: &System)
+    ensures row { system.now.stencils.width ≤ 4096 }
+    ensures age { system.now.age ≤ 64 }
+    ensures inputs { system.now.stencils.inputs ≤ image_count system.now }
+    ensures images { image_count system.now ≤ 264 }
+{
+    system.law();
+}
+
+fn hold_of(system: &System, k: usize) -> Constraint
+    requires { k < image_count system.now }
+    ensures { result ≡ hold system.now.stencils.inputs (image_count system.now) k }
+{
+    limits(system);
+    let inputs = system.inputs();
+    Constraint {
+        source: begin_node(inputs, k),
+        target: end_node(inputs, system.images().len(), k),
+        cost: 0,
+    }
+}
+
+fn start_of(system: &System, k: usize) -> Constraint
+    requires { k < image_count system.now }
+    ensures { result ≡ start system.now.stencils.inputs k }
+{
+    limits(system);
+    Constraint {
+        source: 0,
+        target: begin_node(system.inputs(), k),
+        cost: 0,
+    }
+}
+
+fn read_of(system: &System, r: PlacedRead) -> Constraint
+    requires { Contains (placed_reads system.now) r }
+    ensures { result ≡ read system.now.stencils.width system.now.age system.now.stencils.inputs r }
+{
+    limits(system);
+    read_law(system, r);
+    let inputs = system.inputs();
+    let least = offset(system.width(), r) + i64::from(system.age());
+    Constraint {
+        source: begin_node(inputs, r.g),
+        target: begin_node(inputs, r.f),
+        cost: least,
+    }
+}
+
+fn keep_of(system: &System, r: PlacedRead) -> Constraint
+    requires { Contains (placed_reads system.now) r }
+    ensures { result ≡ keep system.now.stencils.width system.now.stencils.inputs (image_count system.now) r }
+{
+    limits(system);
+    read_law(system, r);
+    let inputs = system.inputs();
+    let most = -offset(system.width(), r);
+    Constraint {
+        source: begin_node(inputs, r.f),
+        target: end_node(inputs, system.images().len(), r.g),
+        cost: most,
+    }
+}
+
+// The constraint that a flow line names.
+fn constraint_of(system: &System, line: FlowLine) -> Constraint
+    requires { HasConstraint system.now line }
+    ensures { result ≡ constraint_of system.now line }
+{
+    match line {
+        FlowLine::Hold { image, .. } => hold_of(system, image),
+        FlowLine::Start { image, .. } => start_of(system, image),
+        FlowLine::Read {
+            reader,
+            source,
+            dx,
+            dy,
+            ..
+        } => read_of(system, named(reader, source, dx, dy)),
+        FlowLine::Keep {
+            reader,
+            source,
+            dx,
+            dy,
+            ..
+        } => keep_of(system, named(reader, source, dx, dy)),
+    }
+}
+
+// What a flow line carries.
+fn amount_of(line: FlowLine) -> u64
+    ensures { result ≡ amount_of line }
+{
+    match line {
+        FlowLine::Hold { flow, .. } => flow,
+        FlowLine::Start { flow, .. } => flow,
+        FlowLine::Read { flow, .. } => flow,
+        FlowLine::Keep { flow, .. } => flow,
+    }
+}
+
+// Between which nodes a flow line's constraint is.
+fn node_law(system: &System, line: FlowLine)
+    requires { HasConstraint system.now line }
+    ensures source { (constraint_of system.now line).source < nodes system.now }
+    ensures target { (constraint_of system.now line).target < nodes system.now }
+{
+    system.law();
+}
+
+// Adds an amount to the sum of a node.
+fn add_at(sums: &mut [u128], node: usize, amount: u64)
+    requires within { node < length sums.old }
+    requires room { slice_index sums.old node ≤ 2 ^ 100 }
+    ensures value { (v : ℕ) → slice_index sums.new v ≡ slice_index sums.old v + (if node == v then amount else 0) }
+    ensures most { (v : ℕ) → slice_index sums.new v ≤ slice_index sums.old v + 2 ^ 64 }
+{
+    sums[node] += u128::from(amount);
+}
+
+// Adds what a flow line brings to its target, and what it takes from its source.
+fn add_line(system: &System, line: FlowLine, brought: &mut [u128], taken: &mut [u128])
+    requires constraint { HasConstraint system.now line }
+    requires some_brought { nodes system.now ≤ length brought.old }
+    requires some_taken { nodes system.now ≤ length taken.old }
+    requires brought { (v : ℕ) → slice_index brought.old v ≤ 2 ^ 100 }
+    requires taken { (v : ℕ) → slice_index taken.old v ≤ 2 ^ 100 }
+    ensures brought { (v : ℕ) → slice_index brought.new v ≡ slice_index brought.old v + (if (constraint_of system.now line).target == v then amount_of line else 0) }
+    ensures taken { (v : ℕ) → slice_index taken.new v ≡ slice_index taken.old v + (if (constraint_of system.now line).source == v then amount_of line else 0) }
+    ensures few_brought { (v : ℕ) → slice_index brought.new v ≤ slice_index brought.old v + 2 ^ 64 }
+    ensures few_taken { (v : ℕ) → slice_index taken.new v ≤ slice_index taken.old v + 2 ^ 64 }
+{
+    node_law(system, line);
+    let constraint = constraint_of(system, line);
+    let amount = amount_of(line);
+    add_at(brought, constraint.target, amount);
+    add_at(taken, constraint.source, amount);
+}
+
+// What flows into each node, and what flows out.
+fn tally(system: &System, flow: &[FlowLine], brought: &mut [u128], taken: &mut [u128])
+    requires constraints { All (HasConstraint system.now) flow.now }
+    requires few { length flow.now ≤ 2 ^ 32 }
+    requires some_brought { nodes system.now ≤ length brought.old }
+    requires some_taken { nodes system.now ≤ length taken.old }
+    requires none_brought { (v : ℕ) → slice_index brought.old v ≡ 0 }
+    requires none_taken { (v : ℕ) → slice_index taken.old v ≡ 0 }
+    ensures brought { (v : ℕ) → slice_index brought.new v ≡ inflow (carriers system.now flow.now) (amounts flow.now) v }
+    ensures taken { (v : ℕ) → slice_index taken.new v ≡ outflow (carriers system.now flow.now) (amounts flow.now) v }
+    ensures few_brought { (v : ℕ) → slice_index brought.new v ≤ 2 ^ 100 }
+    ensures few_taken { (v : ℕ) → slice_index taken.new v ≤ 2 ^ 100 }
+{
+    for line in flow {
+        add_line(system, *line, brought, taken);
+    }
+}
+
+// Whether what flows into a node less what flows out is the coefficient.
+fn is_even(system: &System, node: usize, brought: u128, taken: u128) -> bool
+    requires brought { brought ≤ 2 ^ 100 }
+    requires taken { taken ≤ 2 ^ 100 }
+    ensures { IsTrue result ↔ (pos brought -ℤ pos taken ≡ coefficient_in system.now node) }
+{
+    brought as i128 - taken as i128 == i128::from(system.coefficient(node))
+}
+
+// Whether that holds at each node.
+fn are_even(system: &System, brought: &[u128], taken: &[u128]) -> bool
+    requires some_brought { nodes system.now ≤ length brought.now }
+    requires some_taken { nodes system.now ≤ length taken.now }
+    requires few_brought { (v : ℕ) → slice_index brought.now v ≤ 2 ^ 100 }
+    requires few_taken { (v : ℕ) → slice_index taken.now v ≤ 2 ^ 100 }
+    ensures yes { IsTrue result → (v : ℕ) → v < nodes system.now → pos (slice_index brought.now v) -ℤ pos (slice_index taken.now v) ≡ coefficient_in system.now v }
+    ensures no { ((v : ℕ) → v < nodes system.now → pos (slice_index brought.now v) -ℤ pos (slice_index taken.now v) ≡ coefficient_in system.now v) → IsTrue result }
+{
+    for node in 0..system.nodes() {
+        if !is_even(system, node, brought[node], taken[node]) {
+            return false;
+        }
+    }
+    true
+}
+
+// Whether at each node what flows in less what flows out is the coefficient, in one pass over the flow lines.
+fn is_balanced(system: &System, flow: &[FlowLine]) -> bool
+    requires constraints { All (HasConstraint system.now) flow.now }
+    requires few { length flow.now ≤ 2 ^ 32 }
+    ensures yes { IsTrue result → (v : ℕ) → v < nodes system.now → pos (inflow (carriers system.now flow.now) (amounts flow.now) v) -ℤ pos (outflow (carriers system.now flow.now) (amounts flow.now) v) ≡ coefficient_in system.now v }
+    ensures no { ((v : ℕ) → v < nodes system.now → pos (inflow (carriers system.now flow.now) (amounts flow.now) v) -ℤ pos (outflow (carriers system.now flow.now) (amounts flow.now) v) ≡ coefficient_in system.now v) → IsTrue result }
+{
+    system.law();
+    let mut brought = [0; MOST_NODES];
+    let mut taken = [0; MOST_NODES];
+    tally(system, flow, &mut brought, &mut taken);
+    are_even(system, &brought, &taken)
+}
+
+// A cost times an amount.
+fn price(cost: i64, amount: u64) -> i128
+    requires low { neg_ℤ (pos (2 ^ 25)) ≤ℤ cost }
+    requires high { cost ≤ℤ pos (2 ^ 25) }
+    ensures value { result ≡ cost *ℤ pos amount }
+    ensures least { neg_ℤ (pos (2 ^ 89)) ≤ℤ result }
+    ensures most { result ≤ℤ pos (2 ^ 89) }
+{
+    let size = u128::from(cost.unsigned_abs()) * u128::from(amount);
+    if cost < 0 {
+        -(size as i128)
+    } else {
+        size as i128
+    }
+}
+
+// The sum of cost times flow.
+fn worth(system: &System, flow: &[FlowLine]) -> i128
+    requires constraints { All (HasConstraint system.now) flow.now }
+    requires few { length flow.now ≤ 2 ^ 32 }
+    ensures { result ≡ worth (carriers system.now flow.now) (amounts flow.now) }
+{
+    let mut sum: i128 = 0;
+    for line in flow {
+        sum += price_of(system, *line);
+    }
+    sum
+}
+
+// What a system's limits say of the cost of a constraint.
+fn cost_law(system: &System, line: FlowLine)
+    requires { HasConstraint system.now line }
+    ensures { IsSmall (constraint_of system.now line) }
+{
+    system.law();
+}
+
+// The cost of a flow line's constraint, times what it carries.
+fn price_of(system: &System, line: FlowLine) -> i128
+    requires { HasConstraint system.now line }
+    ensures value { result ≡ (constraint_of system.now line).cost *ℤ pos (amount_of line) }
+    ensures least { neg_ℤ (pos (2 ^ 89)) ≤ℤ result }
+    ensures most { result ≤ℤ pos (2 ^ 89) }
+{
+    cost_law(system, line);
+    price(constraint_of(system, line).cost, amount_of(line))
+}
+
+/// Whether the flow is balanced and worth these bits.
+pub(crate) fn flow_holds(system: &System, flow: &[FlowLine], bits: u64) -> bool
+    requires constraints { All (HasConstraint system.now) flow.now }
+    requires few { length flow.now ≤ 2 ^ 32 }
+    ensures yes { IsTrue result → FlowHolds system.now flow.now bits }
+    ensures no { FlowHolds system.now flow.now bits → IsTrue result }
+{
+    if !is_balanced(system, flow) {
+        return false;
+    }
+    worth(system, flow) == i128::from(bits)
+}

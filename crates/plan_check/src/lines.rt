@@ -1,0 +1,155 @@
+// Whether the lines of images, latencies and flow hold.
+
+ghost use Rattle.std.specs.Prelude.{◌≡◌, ◌≤◌, ◌<◌, length, slice_index, IsTrue, Contains};
+ghost use Rattle.dk_base.specs.Stencils.{place};
+ghost use Rattle.raster_delay.specs.Systems.{image_count, placed_reads};
+ghost use Rattle.plan_check.specs.Orders.{IsEarlier, AreSorted};
+ghost use Rattle.plan_check.specs.Holding.{ImageHolds, LatencyHolds, HasConstraint, read_at};
+
+use crate::ages::{are_old, depth};
+use crate::sums::place_of;
+use raster_delay::{PlacedRead, System};
+use report_text::{FlowLine, ImageLine};
+
+/// Whether the image line at a place is right.
+pub(crate) fn image_holds(system: &System, images: &[ImageLine], k: usize) -> bool
+    requires count { length images.now ≡ image_count system.now }
+    requires place { k < length images.now }
+    ensures yes { IsTrue result → ImageHolds system.now images.now k }
+    ensures no { ImageHolds system.now images.now k → IsTrue result }
+{
+    system.law();
+    let row = system.width();
+    let inputs = system.inputs();
+    let reads = system.placed_reads();
+    let line = &images[k];
+    if line.width != system.images()[k].width {
+        return false;
+    }
+    if k < inputs && line.delay != 0 {
+        return false;
+    }
+    if !are_old(row, system.age(), inputs, images, reads, k) {
+        return false;
+    }
+    depth(row, inputs, images, reads, k) == u128::from(line.depth)
+}
+
+// The place of the output numbered `k` among the kept images.
+fn output_place(system: &System, k: usize) -> usize
+    requires { k < length system.now.stencils.outputs }
+    ensures place { result ≡ place system.now.stencils.images (slice_index system.now.stencils.outputs k) }
+    ensures within { result < image_count system.now }
+{
+    system.law();
+    place_of(system.images(), system.outputs()[k])
+}
+
+/// Whether the latency line of the output at a place is right.
+pub(crate) fn latency_holds(
+    system: &System,
+    images: &[ImageLine],
+    latencies: &[u64],
+    k: usize,
+) -> bool
+    requires count { length images.now ≡ image_count system.now }
+    requires outputs { length latencies.now ≡ length system.now.stencils.outputs }
+    requires place { k < length latencies.now }
+    ensures yes { IsTrue result → LatencyHolds system.now images.now latencies.now k }
+    ensures no { LatencyHolds system.now images.now latencies.now k → IsTrue result }
+{
+    let place = output_place(system, k);
+    latencies[k] == images[place].delay
+}
+
+// Whether one live read stands before another.
+fn is_earlier(a: PlacedRead, b: PlacedRead) -> bool
+    ensures yes { IsTrue result → IsEarlier a b }
+    ensures no { IsEarlier a b → IsTrue result }
+{
+    if a.f != b.f {
+        return a.f < b.f;
+    }
+    if a.g != b.g {
+        return a.g < b.g;
+    }
+    if a.dy != b.dy {
+        return a.dy < b.dy;
+    }
+    a.dx < b.dx
+}
+
+// A law: a system's live reads stand in order.
+fn order_law(system: &System)
+    ensures { AreSorted (placed_reads system.now) }
+{
+    system.law();
+}
+
+fn is_same(a: PlacedRead, b: PlacedRead) -> bool
+    ensures yes { IsTrue result → a ≡ b }
+    ensures no { a ≡ b → IsTrue result }
+{
+    a == b
+}
+
+// Whether there is such a live read, by halves.
+fn is_read(reads: &[PlacedRead], read: PlacedRead) -> bool
+    requires { AreSorted reads.now }
+    ensures yes { IsTrue result → Contains reads.now read }
+    ensures no { Contains reads.now read → IsTrue result }
+{
+    let mut low = 0;
+    let mut high = reads.len();
+    while low < high {
+        let middle = low + (high - low) / 2;
+        if is_same(reads[middle], read) {
+            return true;
+        }
+        if is_earlier(reads[middle], read) {
+            low = middle + 1;
+        } else {
+            high = middle;
+        }
+    }
+    false
+}
+
+// The read that a flow line names.
+pub(crate) fn named(reader: usize, source: usize, dx: i32, dy: i32) -> PlacedRead
+    ensures { result ≡ read_at reader source dx dy }
+{
+    PlacedRead {
+        f: reader,
+        g: source,
+        dx,
+        dy,
+    }
+}
+
+/// Whether there is the constraint of a flow line.
+pub(crate) fn has_constraint(system: &System, line: FlowLine) -> bool
+    ensures yes { IsTrue result → HasConstraint system.now line }
+    ensures no { HasConstraint system.now line → IsTrue result }
+{
+    order_law(system);
+    let reads = system.placed_reads();
+    match line {
+        FlowLine::Hold { image, .. } => image < system.images().len(),
+        FlowLine::Start { image, .. } => image >= system.inputs() && image < system.images().len(),
+        FlowLine::Read {
+            reader,
+            source,
+            dx,
+            dy,
+            ..
+        } => is_read(reads, named(reader, source, dx, dy)),
+        FlowLine::Keep {
+            reader,
+            source,
+            dx,
+            dy,
+            ..
+        } => is_read(reads, named(reader, source, dx, dy)),
+    }
+}

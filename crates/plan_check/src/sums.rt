@@ -1,0 +1,50 @@
+// The numbers that follow from the image lines and the latency lines.
+
+ghost use Rattle.std.specs.Prelude.{◌≡◌, ◌≤◌, ◌<◌, ◌^◌, ◌*◌, length, max, sum_by};
+ghost use Rattle.dk_base.specs.Stencils.{place};
+ghost use Rattle.plan_check.specs.Holding.{greatest, bits_of_lines};
+
+use dk_base::Image;
+use report_text::ImageLine;
+
+/// The greatest of these numbers, 0 of none.
+pub(crate) fn greatest(numbers: &[u64]) -> u64
+    ensures { result ≡ greatest numbers.now }
+{
+    let mut most: u64 = 0;
+    for number in numbers {
+        most = most.max(*number);
+    }
+    most
+}
+
+// An image's width times its depth.
+fn bits_of(image: &ImageLine) -> u128
+    ensures value { result ≡ image.now.width * image.now.depth }
+    ensures most { result ≤ 2 ^ 72 }
+{
+    u128::from(image.width) * u128::from(image.depth)
+}
+
+/// The sum of width times depth.
+pub(crate) fn bits(images: &[ImageLine]) -> u128
+    requires { length images.now ≤ 264 }
+    ensures { result ≡ bits_of_lines images.now }
+{
+    let mut total: u128 = 0;
+    for image in images {
+        total += bits_of(image);
+    }
+    total
+}
+
+/// The place of an image among the kept ones, or their count where it is not kept.
+pub(crate) fn place_of(images: &[Image], number: u32) -> usize
+    ensures { result ≡ place images.now number }
+{
+    let mut place = 0;
+    while place < images.len() && images[place].number != number {
+        place += 1;
+    }
+    place
+}
