@@ -154,8 +154,7 @@ fn most_lines(report: &Report)
     requires { Meets (parts_of report.now) }
     ensures images { length report.now.images.items ≤ 264 }
     ensures latencies { length report.now.latencies.items ≤ 8 }
-{
-}
+{}
 
 /// The first line that is wrong by the program.
 pub(crate) fn foreign_line(ir: &Ir, stencils: &Stencils, report: &Report) -> Option<u64>

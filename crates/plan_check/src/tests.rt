@@ -55,11 +55,7 @@ fn system(alloc: Global, square: u8) -> Result<Option<System>, Memory> {
 }
 
 // The image lines of these delays and depths.
-fn lines(
-    alloc: Global,
-    system: &System,
-    numbers: &[(u64, u64)],
-) -> Result<Vec<ImageLine>, Memory> {
+fn lines(alloc: Global, system: &System, numbers: &[(u64, u64)]) -> Result<Vec<ImageLine>, Memory> {
     let mut lines = Vec::new(alloc);
     for (image, (delay, depth)) in system.images().iter().zip(numbers) {
         lines.push(ImageLine {
@@ -154,37 +150,27 @@ fn answer(
 #[test]
 fn reports_are_judged(rt: HostRuntime) -> Result<(), Fail> {
     let alloc = rt.alloc();
-    for (square, numbers, bits, held, found) in [
-        (16, [(0, 8), (8, 0), (8, 0), (8, 0)], 64, 8, Verdict::Yes),
-        (
-            16,
-            [(0, 8), (8, 0), (8, 0), (8, 0)],
-            64,
-            9,
-            Verdict::No { line: 15 },
-        ),
-        (
-            16,
-            [(0, 8), (7, 0), (8, 0), (8, 0)],
-            64,
-            8,
-            Verdict::No { line: 2 },
-        ),
-        (
-            16,
-            [(0, 0), (0, 8), (8, 0), (8, 0)],
-            128,
-            8,
-            Verdict::No { line: 15 },
-        ),
+    // The first wrong line, None where the report holds.
+    for (square, numbers, bits, held, wrong) in [
+        (16, [(0, 8), (8, 0), (8, 0), (8, 0)], 64, 8, None),
+        (16, [(0, 8), (8, 0), (8, 0), (8, 0)], 64, 9, Some(15)),
+        (16, [(0, 8), (7, 0), (8, 0), (8, 0)], 64, 8, Some(2)),
+        (16, [(0, 0), (0, 8), (8, 0), (8, 0)], 128, 8, Some(15)),
         // Where the square has 8 bits, it may come at any clock between, and a flow of 0 adds nothing.
-        (8, [(0, 3), (3, 5), (8, 0), (8, 0)], 64, 0, Verdict::Yes),
+        (8, [(0, 3), (3, 5), (8, 0), (8, 0)], 64, 0, None),
     ] {
         let Some(system) = system(alloc, square)? else {
             assert!(rt; false, "these are stencils");
             return Ok(());
         };
-        assert_eq!(rt; answer(alloc, &system, &numbers, bits, held)?, Some(found));
+        let verdict = match wrong {
+            None => Verdict::Yes,
+            Some(line) => Verdict::No { line },
+        };
+        assert_eq!(rt;
+            answer(alloc, &system, &numbers, bits, held)?,
+            Some(verdict)
+        );
     }
     least_agree();
     Ok(())

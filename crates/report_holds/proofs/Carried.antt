@@ -1,7 +1,7 @@
 -- The flow lines of a flow carry what it carries: lines of flow 0 add nothing.
-use Rattle.std.proofs.Common.{◌≡◌, ◌<◌, ◌≤◌, ◌+◌, ◌-◌, ◌*◌, ◌∙◌, ℕ, ℤ, pos, negsuc, zero, suc, List, [], ◌∷◌, ◌++◌, map, length, slice_index_or, cond, eqb, refl, ap, sym, arith}
+use Rattle.std.proofs.Common.{◌≡◌, ◌+◌, ◌-◌, ◌*◌, ◌∙◌, ℕ, ℤ, pos, negsuc, zero, suc, List, [], ◌∷◌, ◌++◌, map, cond, eqb, refl, ap, arith}
 use Rattle.std.specs.Prelude.{All, Contains, ◌+ℤ◌, ◌*ℤ◌, neg_ℤ}
-use Rattle.std.specs.List.{zip, AllByRecursion, range_with_len}
+use Rattle.std.specs.List.{AllByRecursion, range_with_len}
 use Rattle.std.proofs.lemmas.Int.{ints}
 use Rattle.std.proofs.lemmas.Bool.Decides.{nat_tests}
 use Rattle.std.proofs.Math.IntN.{pos-*ℤ-pos, negsuc-*ℤ-pos}
@@ -9,14 +9,12 @@ use Rattle.std.proofs.lemmas.List.Sums.{sum_by-cons}
 use Rattle.std.proofs.lemmas.List.Elements.{All-contains_itself, recursion_from_All, All-from_recursion}
 use Rattle.raster_delay.specs.Network.{inflow, outflow, worth, brought, taken}
 use Rattle.raster_delay.specs.Delays.{hold, start, read, keep, holds_of, starts_of}
-use Rattle.raster_delay.specs.Systems.{Parts, IsSystem, image_count, placed_reads, constraints_in}
+use Rattle.raster_delay.specs.Systems.{Parts, image_count, placed_reads, constraints_in}
 use Rattle.raster_delay.specs.declared.network.Constraint.{Constraint}
 use Rattle.raster_delay.specs.declared.placed.PlacedRead.{PlacedRead}
 use Rattle.raster_delay.proofs.Bridge.{rec_range_in}
-use Rattle.raster_delay.proofs.Places.{system_form}
 use Rattle.report_text.specs.declared.report.FlowLine.{FlowLine}
-use Rattle.report_text.specs.declared.report.FlowLine.TheVariants.{Hold, Start, Read, Keep}
-use Rattle.latency_report.specs.Printed.{makers, carried}
+use Rattle.latency_report.specs.Printed.{hold_maker, start_maker, read_maker, keep_maker, makers, carried}
 use Rattle.plan_check.specs.Holding.{HasConstraint, constraint_of, amount_of, carriers, amounts}
 use Rattle.plan_check.proofs.Flowing.{inflow_cons, outflow_cons}
 
@@ -44,34 +42,34 @@ module _ (s : Parts) where
   make_map f g [] h = tt
   make_map f g (x ∷ xs) h = (h.0, make_map f g xs h.1)
 
-  holds_made : Make (map (λ k n. Hold k n) (range_with_len 0 (image_count s))) (holds_of s.stencils.inputs (image_count s))
-  holds_made = make_map (λ k n. Hold k n) (hold s.stencils.inputs (image_count s)) (range_with_len 0 (image_count s))
-      (rec_range_in (λ k. (n : ℕ) → IsMade (hold s.stencils.inputs (image_count s) k) n (Hold k n)) 0 (image_count s)
+  holds_made : Make (map hold_maker (range_with_len 0 (image_count s))) (holds_of s.stencils.inputs (image_count s))
+  holds_made = make_map hold_maker (hold s.stencils.inputs (image_count s)) (range_with_len 0 (image_count s))
+      (rec_range_in (λ k. (n : ℕ) → IsMade (hold s.stencils.inputs (image_count s) k) n (hold_maker k n)) 0 (image_count s)
       (λ k low high n. record { constraint_is = refl; amount_is = refl; has = omega (arith, high) }))
 
-  starts_made : Make (map (λ k n. Start k n) (range_with_len s.stencils.inputs (image_count s - s.stencils.inputs))) (starts_of s.stencils.inputs (image_count s))
-  starts_made = make_map (λ k n. Start k n) (start s.stencils.inputs) (range_with_len s.stencils.inputs (image_count s - s.stencils.inputs))
-      (rec_range_in (λ k. (n : ℕ) → IsMade (start s.stencils.inputs k) n (Start k n)) s.stencils.inputs (image_count s - s.stencils.inputs)
+  starts_made : Make (map start_maker (range_with_len s.stencils.inputs (image_count s - s.stencils.inputs))) (starts_of s.stencils.inputs (image_count s))
+  starts_made = make_map start_maker (start s.stencils.inputs) (range_with_len s.stencils.inputs (image_count s - s.stencils.inputs))
+      (rec_range_in (λ k. (n : ℕ) → IsMade (start s.stencils.inputs k) n (start_maker k n)) s.stencils.inputs (image_count s - s.stencils.inputs)
       (λ k low high n. record { constraint_is = refl; amount_is = refl; has = (low, omega (arith, low, high)) }))
 
   their_reads : AllByRecursion (Contains (placed_reads s)) (placed_reads s)
   their_reads = recursion_from_All (Contains (placed_reads s)) (placed_reads s) (All-contains_itself (placed_reads s))
 
-  reads_made : Make (map (λ (r : PlacedRead) n. Read r.f r.g r.dx r.dy n) (placed_reads s)) (map (read s.stencils.width s.age s.stencils.inputs) (placed_reads s))
-  reads_made = make_map (λ (r : PlacedRead) n. Read r.f r.g r.dx r.dy n) (read s.stencils.width s.age s.stencils.inputs) (placed_reads s)
+  reads_made : Make (map read_maker (placed_reads s)) (map (read s.stencils.width s.age s.stencils.inputs) (placed_reads s))
+  reads_made = make_map read_maker (read s.stencils.width s.age s.stencils.inputs) (placed_reads s)
       (weaken (placed_reads s) their_reads)
     where
       weaken : (xs : List PlacedRead) → AllByRecursion (Contains (placed_reads s)) xs
-          → AllByRecursion (λ (r : PlacedRead). (n : ℕ) → IsMade (read s.stencils.width s.age s.stencils.inputs r) n (Read r.f r.g r.dx r.dy n)) xs
+          → AllByRecursion (λ (r : PlacedRead). (n : ℕ) → IsMade (read s.stencils.width s.age s.stencils.inputs r) n (read_maker r n)) xs
       weaken [] h = tt
       weaken (x ∷ xs) h = (λ n. record { constraint_is = refl; amount_is = refl; has = h.0 }, weaken xs h.1)
 
-  keeps_made : Make (map (λ (r : PlacedRead) n. Keep r.f r.g r.dx r.dy n) (placed_reads s)) (map (keep s.stencils.width s.stencils.inputs (image_count s)) (placed_reads s))
-  keeps_made = make_map (λ (r : PlacedRead) n. Keep r.f r.g r.dx r.dy n) (keep s.stencils.width s.stencils.inputs (image_count s)) (placed_reads s)
+  keeps_made : Make (map keep_maker (placed_reads s)) (map (keep s.stencils.width s.stencils.inputs (image_count s)) (placed_reads s))
+  keeps_made = make_map keep_maker (keep s.stencils.width s.stencils.inputs (image_count s)) (placed_reads s)
       (weaken (placed_reads s) their_reads)
     where
       weaken : (xs : List PlacedRead) → AllByRecursion (Contains (placed_reads s)) xs
-          → AllByRecursion (λ (r : PlacedRead). (n : ℕ) → IsMade (keep s.stencils.width s.stencils.inputs (image_count s) r) n (Keep r.f r.g r.dx r.dy n)) xs
+          → AllByRecursion (λ (r : PlacedRead). (n : ℕ) → IsMade (keep s.stencils.width s.stencils.inputs (image_count s) r) n (keep_maker r n)) xs
       weaken [] h = tt
       weaken (x ∷ xs) h = (λ n. record { constraint_is = refl; amount_is = refl; has = h.0 }, weaken xs h.1)
 

@@ -1,6 +1,6 @@
 -- The report of causal delays with a balanced flow that is worth their bits holds.
-use Rattle.std.proofs.Common.{◌≡◌, ◌<◌, ◌≤◌, ◌+◌, ◌*◌, ◌∙◌, ℕ, ℤ, pos, zero, suc, List, [], ◌∷◌, map, length, slice_index, slice_index_or, max, refl, ap, sym, subst, arith}
-use Rattle.std.specs.Prelude.{All, ◌-ℤ◌, ◌≤ℤ◌, sum_by}
+use Rattle.std.proofs.Common.{◌≡◌, ◌<◌, ◌+◌, ◌*◌, ◌∙◌, ℕ, pos, zero, suc, List, [], ◌∷◌, map, length, slice_index, slice_index_or, max, refl, ap, sym, subst, arith}
+use Rattle.std.specs.Prelude.{◌≤ℤ◌, sum_by}
 use Rattle.std.specs.List.{enumerate_from}
 use Rattle.std.proofs.lemmas.Int.{ints}
 use Rattle.std.proofs.lemmas.List.{get_or-map, length-map}
@@ -8,13 +8,13 @@ use Rattle.dk_base.specs.Stencils.{place}
 use Rattle.dk_base.specs.declared.stencils.Image.{Image}
 use Rattle.pointwise_ir.specs.Programs.{Program, names_of}
 use Rattle.raster_delay.specs.Delays.{age_of, depth_of}
-use Rattle.raster_delay.specs.Systems.{Parts as System, IsSystem, IsCausal, IsBalanced, image_count, widths, placed_reads, depth, bits, worth_of, nodes, coefficient_in, constraints_in}
+use Rattle.raster_delay.specs.Systems.{Parts as System, IsSystem, IsCausal, IsBalanced, image_count, widths, placed_reads, depth, bits, worth_of, constraints_in}
 use Rattle.buffer_plan.specs.Plans.{Parts as Plan, greatest_delay}
 use Rattle.report_text.specs.declared.report.ImageLine.{ImageLine}
 use Rattle.report_text.specs.Reports.{Parts as Report}
 use Rattle.latency_report.specs.Printed.{line_of, image_lines, latencies, makers, carried, report_of, name_of}
 use Rattle.plan_check.specs.Holding.{ImageHolds, Holds, FlowHolds, delays_of, depths_of, widths_of, greatest, bits_of_lines}
-use Rattle.plan_check.specs.Program.{IsNamed, IsOf, HoldsOf}
+use Rattle.plan_check.specs.Program.{HoldsOf}
 use Rattle.plan_check.proofs.Least.{bits_same, same_list}
 use Rattle.report_holds.proofs.Carried.{all_made, in_same, out_same, worth_same, carried_has}
 
