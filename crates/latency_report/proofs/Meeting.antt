@@ -161,11 +161,12 @@ module _ (p : Program) (s : System) (d ends flow : List ℕ) where
         let columns = is.plan.system.stencils.frame.most_columns in
         let rows = is.plan.system.stencils.frame.most_rows in
         let across = h.0.across in
-        let down = h.0.down in
-        ((λ n amount. line (placed s.stencils.images r) n h.0.reader_kept h.0.source_kept
-            (record { low = omega (arith, ints, columns, across.low); high = omega (arith, ints, columns, across.high) })
-            (record { low = omega (arith, ints, rows, down.low); high = omega (arith, ints, rows, down.high) }) amount),
-         reads_in f line reads h.1)
+        let down = h.0.down in (
+          (λ n amount. line (placed s.stencils.images r) n h.0.reader_kept h.0.source_kept
+              (record { low = omega (arith, ints, columns, across.low); high = omega (arith, ints, columns, across.high) })
+              (record { low = omega (arith, ints, rows, down.low); high = omega (arith, ints, rows, down.high) }) amount),
+          reads_in f line reads h.1,
+        )
 
     abbrev holds : List Maker
     holds = map hold_maker (range_with_len 0 (image_count s))

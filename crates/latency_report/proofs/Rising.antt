@@ -77,9 +77,10 @@ eq_true a b e = grind (arith, nat_tests)
 module _ (f : ℕ → Maker) (up : (j k m n : ℕ) → j < k → is_before (f j m) (f k n) ≡ true) where
   pub range_rises : (a n : ℕ) → Rises (map f (range_with_len a n))
   range_rises a zero = tt
-  range_rises a (suc n) =
-      (rec_map_in (Precedes (f a)) f (range_with_len (a + 1) n) (rec_range_in (λ k. Precedes (f a) (f k)) (a + 1) n (λ k le lt. λ i j. up a k i j (omega arith))),
-       range_rises (a + 1) n)
+  range_rises a (suc n) = (
+    rec_map_in (Precedes (f a)) f (range_with_len (a + 1) n) (rec_range_in (λ k. Precedes (f a) (f k)) (a + 1) n (λ k le lt. λ i j. up a k i j (omega arith))),
+    range_rises (a + 1) n,
+  )
 
 pub holds_rise : (a n : ℕ) → Rises (map hold_maker (range_with_len a n))
 holds_rise a n = range_rises hold_maker (λ j k x y lt. lt_true j k lt) a n
@@ -158,6 +159,7 @@ module _ (images : List Image) (up : Ascends images) where
 
     pub reads_rise : (reads : List LiveRead) → AllByRecursion (AreKept images) reads → AreInOrder reads → Rises (map f (map (placed images) reads))
     reads_rise [] kept order = tt
-    reads_rise (r ∷ reads) kept order =
-        (first_of_reads r reads kept.0 kept.1 (recursion_from_All (IsBefore r) reads (λ k d lt. order 0 (suc k) d (omega arith) (omega arith))),
-         reads_rise reads kept.1 (λ i j d lt below. order (suc i) (suc j) d (omega arith) (omega arith)))
+    reads_rise (r ∷ reads) kept order = (
+      first_of_reads r reads kept.0 kept.1 (recursion_from_All (IsBefore r) reads (λ k d lt. order 0 (suc k) d (omega arith) (omega arith))),
+      reads_rise reads kept.1 (λ i j d lt below. order (suc i) (suc j) d (omega arith) (omega arith)),
+    )

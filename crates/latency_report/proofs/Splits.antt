@@ -49,11 +49,11 @@ four h s r k n1 n2 n3 flow e1 e2 e3 le =
     let ck = carried k (drop n3 f2) in
     let nested : ((h ++ s) ++ r) ++ k ≡ h ++ (s ++ (r ++ k)) = append_assoc (h ++ s) r k ∙ append_assoc h s (r ++ k) in
     let one : carried (h ++ (s ++ (r ++ k))) flow ≡ ch ++ carried (s ++ (r ++ k)) f1 =
-        carried_append h (s ++ (r ++ k)) flow (omega arith) ∙ ap (λ n. carried h (take n flow) ++ carried (s ++ (r ++ k)) (drop n flow)) e1 in
+    carried_append h (s ++ (r ++ k)) flow (omega arith) ∙ ap (λ n. carried h (take n flow) ++ carried (s ++ (r ++ k)) (drop n flow)) e1 in
     let two : carried (s ++ (r ++ k)) f1 ≡ cs ++ carried (r ++ k) f2 =
-        carried_append s (r ++ k) f1 (omega (arith, l1)) ∙ ap (λ n. carried s (take n f1) ++ carried (r ++ k) (drop n f1)) e2 in
+    carried_append s (r ++ k) f1 (omega (arith, l1)) ∙ ap (λ n. carried s (take n f1) ++ carried (r ++ k) (drop n f1)) e2 in
     let three : carried (r ++ k) f2 ≡ cr ++ ck =
-        carried_append r k f2 (omega (arith, l1, l2)) ∙ ap (λ n. carried r (take n f2) ++ carried k (drop n f2)) e3 in
+    carried_append r k f2 (omega (arith, l1, l2)) ∙ ap (λ n. carried r (take n f2) ++ carried k (drop n f2)) e3 in
     ap (λ ms. carried ms flow) nested
     ∙ (one ∙ (ap (λ l. ch ++ l) (two ∙ ap (λ l. cs ++ l) three)
     ∙ sym (append_assoc (ch ++ cs) cr ck ∙ append_assoc ch cs (cr ++ ck))))
@@ -75,28 +75,28 @@ module _ (s : System) (flow : List ℕ) (n1 n2 n3 : ℕ) where
       let u4 : f4 ≡ drop n3 (drop n2 (drop n1 flow)) = d3 ∙ ap (drop n3) v2 in
       let k1 : length f1 ≡ image_count s = ap (λ (xs : List ℕ). length xs) t1 ∙ (let e = length-take n1 flow in omega (arith, e, en1, size, count)) in
       let k2 : length f2 ≡ image_count s - s.stencils.inputs =
-          ap (λ (xs : List ℕ). length xs) u2 ∙ (let e = length-take n2 (drop n1 flow) in let g = length-drop n1 flow in omega (arith, e, g, en1, en2, size, count)) in
+      ap (λ (xs : List ℕ). length xs) u2 ∙ (let e = length-take n2 (drop n1 flow) in let g = length-drop n1 flow in omega (arith, e, g, en1, en2, size, count)) in
       let c1 = ap (λ n. carried (map hold_maker (range_with_len 0 n)) f1) k1 ∙ ap (carried (map hold_maker (range_with_len 0 (image_count s)))) t1 in
       let c2 = ap (λ n. carried (map start_maker (range_with_len first n)) f2) k2
-          ∙ (ap (λ i. carried (map start_maker (range_with_len i (image_count s - s.stencils.inputs))) f2) ei
-          ∙ ap (carried (map start_maker (range_with_len s.stencils.inputs (image_count s - s.stencils.inputs)))) u2) in
+      ∙ (ap (λ i. carried (map start_maker (range_with_len i (image_count s - s.stencils.inputs))) f2) ei
+      ∙ ap (carried (map start_maker (range_with_len s.stencils.inputs (image_count s - s.stencils.inputs)))) u2) in
       let c3 = ap (λ rs. carried (map read_maker rs) f3) er ∙ ap (carried (map read_maker (placed_reads s))) u3 in
       let c4 = ap (λ rs. carried (map keep_maker rs) f4) er ∙ ap (carried (map keep_maker (placed_reads s))) u4 in
       let b1 = p1 ∙ (ap (λ l. l ++ carried (map hold_maker (range_with_len 0 (length f1))) f1) p0 ∙ c1) in
       let b2 = p2 ∙ (ap (λ l. l ++ carried (map start_maker (range_with_len first (length f2))) f2) b1 ∙ ap (λ l. carried (map hold_maker (range_with_len 0 (image_count s))) (take n1 flow) ++ l) c2) in
       let b3 = p3 ∙ (ap (λ l. l ++ carried (map read_maker reads) f3) b2
-          ∙ ap (λ l. (carried (map hold_maker (range_with_len 0 (image_count s))) (take n1 flow)
-          ++ carried (map start_maker (range_with_len s.stencils.inputs (image_count s - s.stencils.inputs))) (take n2 (drop n1 flow))) ++ l) c3) in
+      ∙ ap (λ l. (carried (map hold_maker (range_with_len 0 (image_count s))) (take n1 flow)
+      ++ carried (map start_maker (range_with_len s.stencils.inputs (image_count s - s.stencils.inputs))) (take n2 (drop n1 flow))) ++ l) c3) in
       p4 ∙ (ap (λ l. l ++ carried (map keep_maker reads) f4) b3
       ∙ (ap (λ l. ((carried (map hold_maker (range_with_len 0 (image_count s))) (take n1 flow)
-          ++ carried (map start_maker (range_with_len s.stencils.inputs (image_count s - s.stencils.inputs))) (take n2 (drop n1 flow)))
-          ++ carried (map read_maker (placed_reads s)) (take n3 (drop n2 (drop n1 flow)))) ++ l) c4
+      ++ carried (map start_maker (range_with_len s.stencils.inputs (image_count s - s.stencils.inputs))) (take n2 (drop n1 flow)))
+      ++ carried (map read_maker (placed_reads s)) (take n3 (drop n2 (drop n1 flow)))) ++ l) c4
       ∙ sym (four (map hold_maker (range_with_len 0 (image_count s))) (map start_maker (range_with_len s.stencils.inputs (image_count s - s.stencils.inputs)))
-          (map read_maker (placed_reads s)) (map keep_maker (placed_reads s)) n1 n2 n3 flow
-          (length-map (range_with_len 0 (image_count s)) hold_maker ∙ (length-range_with_len 0 (image_count s) ∙ sym en1))
-          (length-map (range_with_len s.stencils.inputs (image_count s - s.stencils.inputs)) start_maker ∙ (length-range_with_len s.stencils.inputs (image_count s - s.stencils.inputs) ∙ sym en2))
-          (length-map (placed_reads s) read_maker ∙ sym en3)
-          (omega (arith, en1, en2, en3, size, count)))))
+      (map read_maker (placed_reads s)) (map keep_maker (placed_reads s)) n1 n2 n3 flow
+      (length-map (range_with_len 0 (image_count s)) hold_maker ∙ (length-range_with_len 0 (image_count s) ∙ sym en1))
+      (length-map (range_with_len s.stencils.inputs (image_count s - s.stencils.inputs)) start_maker ∙ (length-range_with_len s.stencils.inputs (image_count s - s.stencils.inputs) ∙ sym en2))
+      (length-map (placed_reads s) read_maker ∙ sym en3)
+      (omega (arith, en1, en2, en3, size, count)))))
 
 -- the line of the image at a place, and all of them
 module _ (p : Program) (s : System) (d ends : List ℕ) where
@@ -115,12 +115,12 @@ module _ (p : Program) (s : System) (d ends : List ℕ) where
       let inside : k < length s.stencils.images = omega (arith, lt, ap (λ (xs : List Image). length xs) ei) in
       let size = length-enumerate_from 0 s.stencils.images in
       let deep : get_or es k 0 - get_or ds k 0 ≡ depth s d k =
-          ap (λ xs. get_or xs k 0 - get_or ds k 0) ee ∙ (ap (λ xs. get_or ends k 0 - get_or xs k 0) ed ∙ (let e = end in omega (arith, e))) in
+      ap (λ xs. get_or xs k 0 - get_or ds k 0) ee ∙ (ap (λ xs. get_or ends k 0 - get_or xs k 0) ed ∙ (let e = end in omega (arith, e))) in
       let at : get_or (enumerate_from 0 s.stencils.images) k (0, none) ≡ (k, get_or s.stencils.images k none) =
-          get_or-enumerate_from 0 s.stencils.images k (0, none) inside ∙ ap (λ j. (j, get_or s.stencils.images k none)) (let h : 0 + k ≡ k = omega arith in h) in
+      get_or-enumerate_from 0 s.stencils.images k (0, none) inside ∙ ap (λ j. (j, get_or s.stencils.images k none)) (let h : 0 + k ≡ k = omega arith in h) in
       let right : line ≡ line_of p (record { system = s; delays = d }) (get_or (enumerate_from 0 s.stencils.images) k (0, none)) =
-          is ∙ (ap (λ xs. line_with xs ds k (get_or es k 0 - get_or ds k 0)) ei ∙ (ap (λ xs. line_with s.stencils.images xs k (get_or es k 0 - get_or ds k 0)) ed
-          ∙ (ap (λ n. line_with s.stencils.images d k n) deep ∙ ap (line_of p (record { system = s; delays = d })) (sym at)))) in
+      is ∙ (ap (λ xs. line_with xs ds k (get_or es k 0 - get_or ds k 0)) ei ∙ (ap (λ xs. line_with s.stencils.images xs k (get_or es k 0 - get_or ds k 0)) ed
+      ∙ (ap (λ n. line_with s.stencils.images d k n) deep ∙ ap (line_of p (record { system = s; delays = d })) (sym at)))) in
       more (line_of p (record { system = s; delays = d })) (enumerate_from 0 s.stencils.images) whole k (0, none) line old new (omega (arith, size)) right made so
 
   pub lines_all : (images : List Image) (k : ℕ) (old whole : List ImageLine) → images ≡ s.stencils.images → length images ≤ k
