@@ -11,7 +11,8 @@ use Rattle.report_text.specs.declared.reading.ReportFault.TheVariants as reader
 use Rattle.report_text.specs.Answers.{Refuses}
 use Rattle.dk_plan.specs.declared.planning.PlanFault.{PlanFault}
 use Rattle.dk_plan.specs.declared.planning.PlanFault.TheVariants.{Source, Bits, Latency, Memory}
-use Rattle.dk_plan.specs.Planned.{HasSystem, IsLeastVector, Passes, HasNone, IsPlanFault, HasReport, IsPlanOf, KeepsLimits, HasPlan}
+use Rattle.dk_plan.specs.Planned.{HasSystem, IsLeastVector, IsPlanFault, IsPlanOf, HasPlan}
+use Rattle.dk_plan.specs.Limits.{Passes, HasNone, HasReport, KeepsLimits}
 use Rattle.dk_plan.specs.Judged.{IsCheckFault, of_reader, faulty}
 
 -- the error that a `?` hands on

@@ -16,7 +16,8 @@ use Rattle.report_text.specs.Layout.{layout}
 use Rattle.latency_report.specs.Printed.{line_of, image_lines, report_of}
 use Rattle.plan_check.specs.Holding.{delays_of}
 use Rattle.plan_check.specs.Program.{HoldsOf}
-use Rattle.dk_plan.specs.Planned.{IsLeastVector, latency_in, HasReport, IsWithinLimits}
+use Rattle.dk_plan.specs.Planned.{IsLeastVector, latency_in}
+use Rattle.dk_plan.specs.Limits.{HasReport, IsWithinLimits}
 
 pub least_vector : (s : System) (x : Solution) → IsSolution s x → IsLeastVector s x.delays
 least_vector s x is = record { causal = is.causal; least_bits = is.least_bits; least = is.least_vector }

@@ -1,2 +1,3 @@
 pub mod Planned
+pub mod Limits
 pub mod Judged

@@ -1,6 +1,6 @@
 // Whether a report holds of a program.
 
-ghost use Rattle.std.specs.Prelude.{◌≡◌, ℕ, List, IfOk, IfErr, length, slice_index, ◌<◌};
+ghost use Rattle.std.specs.Prelude.{ℕ, List, IfOk, IfErr};
 ghost use Rattle.dk_types.specs.Typed.{Typing};
 ghost use Rattle.dk_compile.specs.Sources.{IsAccepted};
 ghost use Rattle.dk_plan.specs.Judged.{IsConfirmed, IsCheckFault};

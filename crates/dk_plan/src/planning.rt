@@ -5,7 +5,8 @@ ghost use Rattle.dk_types.specs.Typed.{Typing};
 ghost use Rattle.dk_compile.specs.Sources.{IsAccepted};
 ghost use Rattle.pointwise_ir.specs.Programs.{names_of};
 ghost use Rattle.flow_dual.specs.Solutions.{IsSolution};
-ghost use Rattle.dk_plan.specs.Planned.{IsPlanOf, IsPlanFault, HasPlan, HasReport, IsWithinLimits, Passes, HasNone, KeepsLimits};
+ghost use Rattle.dk_plan.specs.Planned.{IsPlanOf, IsPlanFault, HasPlan};
+ghost use Rattle.dk_plan.specs.Limits.{HasReport, IsWithinLimits, Passes, HasNone, KeepsLimits};
 
 use buffer_plan::{Plan, PlanFault as LimitFault, plan};
 use dk_base::Memory;

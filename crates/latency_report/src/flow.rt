@@ -2,7 +2,7 @@
 
 ghost use Rattle.std.specs.Prelude.{◌≡◌, ◌+◌, ◌++◌, ◌≤◌, [], ◌∷◌, length, map, nat_eq, if◌then◌else◌, IfOk, OnOk};
 ghost use Rattle.std.specs.List.{range_with_len};
-ghost use Rattle.raster_delay.specs.Systems.{image_count, constraints_in};
+ghost use Rattle.raster_delay.specs.Systems.{constraints_in};
 ghost use Rattle.latency_report.specs.Printed.{hold_maker, start_maker, read_maker, keep_maker, makers, carried};
 
 use dk_base::Memory;

@@ -1,11 +1,10 @@
 // The lines of the kept images, and the latencies.
 
-ghost use Rattle.std.specs.Prelude.{◌≡◌, ◌<◌, length, slice_index, slice_index_or, All, IfOk, map};
+ghost use Rattle.std.specs.Prelude.{◌≡◌, ◌<◌, length, All, IfOk};
 ghost use Rattle.dk_base.specs.declared.stencils.Image.{Image as Kept};
 ghost use Rattle.flow_dual.specs.Solutions.{IsSolution};
 ghost use Rattle.pointwise_ir.specs.Programs.{names_of};
-ghost use Rattle.raster_delay.specs.Systems.{image_count};
-ghost use Rattle.latency_report.specs.Printed.{name_of, line_of, image_lines, latencies};
+ghost use Rattle.latency_report.specs.Printed.{name_of, image_lines, latencies};
 
 use buffer_plan::Plan;
 use dk_base::{Image, Memory, Text};

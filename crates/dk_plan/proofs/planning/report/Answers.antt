@@ -3,7 +3,7 @@ use Rattle.std.specs.Prelude.{All}
 use Rattle.dk_base.specs.declared.stencils.Image.{Image}
 use Rattle.pointwise_ir.specs.Programs.{names_of}
 use Rattle.raster_delay.specs.Systems.{Parts as System}
-use Rattle.dk_plan.specs.Planned.{HasNone, HasReport, KeepsLimits}
+use Rattle.dk_plan.specs.Limits.{HasNone, HasReport, KeepsLimits}
 use Rattle.dk_plan.proofs.Ready.{ready}
 use Rattle.dk_plan.proofs.Reporting.{least_vector, has_report}
 use Rattle.dk_plan.proofs.Exits.{if_err, none_of}
