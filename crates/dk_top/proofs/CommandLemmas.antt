@@ -1,5 +1,5 @@
 -- What the commands write and note.
-use Rattle.std.proofs.Common.{◌≡◌, ◌≢◌, ℕ, Bool, List, ◌++◌, Option, None, Some, IfSome, OnOk, Result, Ok, Err, option_map, refl, sym, ap, ◌∙◌, subst}
+use Rattle.std.proofs.Common.{◌≡◌, ◌≢◌, ◌⊎◌, inl, inr, ℕ, Bool, List, ◌++◌, Option, None, Some, IfSome, OnOk, Result, Ok, Err, option_map, refl, sym, ap, ◌∙◌, subst}
 use Rattle.std.specs.List.{flat_map, All}
 use Rattle.dk_base.specs.Frames.{Size}
 use Rattle.dk_desk.specs.declared.Stage.TheVariants.{Unasked}
@@ -20,9 +20,11 @@ use Rattle.dk_top.specs.Program.{HasForm, IsAccepted}
 use Rattle.dk_top.specs.Circuit.{IsClocked, run_of, frame_drive}
 use Rattle.dk_top.specs.Clocking.{IsByteRound, ClockedNotes, clocked_images, samples_of}
 use Rattle.dk_top.specs.Output.{output_file, all_samples}
-use Rattle.dk_top.specs.Verdict.{Files, bytes_of, OfPair}
-use Rattle.dk_top.specs.Command.{Command, run, eval}
-use Rattle.dk_top.specs.State.{AsksInOrder, RunNoted}
+use Rattle.dk_endings.specs.declared.ending.Ending.{Ending}
+use Rattle.dk_endings.specs.declared.ending.Ending.TheVariants as ending
+use Rattle.dk_top.specs.Verdict.{Files, bytes_of, OfPair, IsVerdict}
+use Rattle.dk_top.specs.Command.{Command, run, eval, sim, plan, check}
+use Rattle.dk_top.specs.State.{AsksInOrder, IsNoted, IsReported, RunNoted}
 use Rattle.dk_top.specs.Reading.{IsRead, IsFormOf}
 use Rattle.dk_top.proofs.OutputLemmas.{evaluated_is}
 use Rattle.dk_top.proofs.ClockedLemmas.{byte_rounds, clocked_is, samples_same, shown_is}
@@ -115,3 +117,72 @@ order_stays None files mid new same h = tt
 order_stays (Some c) None mid new same h = tt
 order_stays (Some (run p i o)) (Some f) mid new same h = λ asked. h (subst (λ (s : Input). s.stage ≢ Unasked) same asked)
 order_stays (Some (eval p i o)) (Some f) mid new same h = λ asked. h (subst (λ (s : Input). s.stage ≢ Unasked) same asked)
+order_stays (Some (sim v c i o p h)) (Some f) mid new same h' = λ asked. h' (subst (λ (s : Input). s.stage ≢ Unasked) same asked)
+order_stays (Some (plan p a)) (Some f) mid new same h = tt
+order_stays (Some (check p r)) (Some f) mid new same h = λ asked. h (subst (λ (s : Input). s.stage ≢ Unasked) same asked)
+
+-- what is left where the words are not taken, or for which there was no memory
+memory_verdict : (c : Command) (f : Files) → IsVerdict c f ending.Memory
+memory_verdict (run p i o) f = tt
+memory_verdict (eval p i o) f = tt
+memory_verdict (sim v c i o p h) f = tt
+memory_verdict (plan p a) f = tt
+memory_verdict (check p r) f = tt
+
+pub words_verdict : (command : Option Command) (files : Option Files) (e : Ending) → (e ≡ ending.Usage → command ≡ None) → (e ≡ ending.Usage) ⊎ (e ≡ ending.Memory) → IfSome command (λ c. IfSome files (λ f. IsVerdict c f e))
+words_verdict None files e usage either = tt
+words_verdict (Some c) None e usage either = tt
+words_verdict (Some c) (Some f) e usage (inl is) = absurd (let n : Some c ≡ None = usage is in let x : ⊥ = cc in x)
+words_verdict (Some c) (Some f) e usage (inr is) = subst (λ x. IsVerdict c f x) (sym is) (memory_verdict c f)
+
+unasked_order : (c : Command) (f : Files) (o : Outside) → o.image.stage ≡ Unasked → AsksInOrder c f o
+unasked_order (run p i out) f o fresh = λ asked. absurd (asked fresh)
+unasked_order (eval p i out) f o fresh = λ asked. absurd (asked fresh)
+unasked_order (sim v c i out p h) f o fresh = λ asked. absurd (asked fresh)
+unasked_order (plan p a) f o fresh = tt
+unasked_order (check p r) f o fresh = λ asked. absurd (asked fresh)
+
+pub words_order : (command : Option Command) (files : Option Files) (o : Outside) → o.image.stage ≡ Unasked → IfSome command (λ c. IfSome files (λ f. AsksInOrder c f o))
+words_order None files o fresh = tt
+words_order (Some c) None o fresh = tt
+words_order (Some c) (Some f) o fresh = unasked_order c f o fresh
+
+usage_report : (c : Command) (f : Files) (r : Option (List ℕ)) → IsReported ending.Usage c f r r
+usage_report (run p i o) f r = refl
+usage_report (eval p i o) f r = refl
+usage_report (sim v c i o p h) f r = refl
+usage_report (plan p a) f r = refl
+usage_report (check p t) f r = refl
+
+memory_report : (c : Command) (f : Files) (r : Option (List ℕ)) → IsReported ending.Memory c f r r
+memory_report (run p i o) f r = refl
+memory_report (eval p i o) f r = refl
+memory_report (sim v c i o p h) f r = refl
+memory_report (plan p a) f r = refl
+memory_report (check p t) f r = refl
+
+pub words_report : (command : Option Command) (files : Option Files) (e : Ending) (r : Option (List ℕ)) → (e ≡ ending.Usage) ⊎ (e ≡ ending.Memory) → IfSome command (λ c. IfSome files (λ f. IsReported e c f r r))
+words_report None files e r either = tt
+words_report (Some c) None e r either = tt
+words_report (Some c) (Some f) e r (inl is) = subst (λ x. IsReported x c f r r) (sym is) (usage_report c f r)
+words_report (Some c) (Some f) e r (inr is) = subst (λ x. IsReported x c f r r) (sym is) (memory_report c f r)
+
+usage_notes : (c : Command) (f : Files) (n : Option (List (Bool × ℕ))) → IsNoted c ending.Usage f n n
+usage_notes (run p i o) f n = tt
+usage_notes (eval p i o) f n = refl
+usage_notes (sim v c i o p h) f n = tt
+usage_notes (plan p a) f n = refl
+usage_notes (check p t) f n = refl
+
+memory_notes : (c : Command) (f : Files) (n : Option (List (Bool × ℕ))) → IsNoted c ending.Memory f n n
+memory_notes (run p i o) f n = tt
+memory_notes (eval p i o) f n = refl
+memory_notes (sim v c i o p h) f n = tt
+memory_notes (plan p a) f n = refl
+memory_notes (check p t) f n = refl
+
+pub words_notes : (command : Option Command) (files : Option Files) (e : Ending) (n : Option (List (Bool × ℕ))) → (e ≡ ending.Usage) ⊎ (e ≡ ending.Memory) → IfSome command (λ c. IfSome files (λ f. IsNoted c e f n n))
+words_notes None files e n either = tt
+words_notes (Some c) None e n either = tt
+words_notes (Some c) (Some f) e n (inl is) = subst (λ x. IsNoted c x f n n) (sym is) (usage_notes c f n)
+words_notes (Some c) (Some f) e n (inr is) = subst (λ x. IsNoted c x f n n) (sym is) (memory_notes c f n)

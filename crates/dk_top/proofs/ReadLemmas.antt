@@ -13,20 +13,18 @@ use Rattle.pgm_codec.specs.Images.{Picture as Image}
 use Rattle.pgm_rounds.specs.declared.round.Round.{Round}
 use Rattle.pgm_rounds.specs.Ports.{Ports, ports_from, ports_of}
 use Rattle.pgm_rounds.specs.Files.{FitsFile, frame_of, frames_of}
-use Rattle.dk_top.specs.declared.ending.Ending.{Ending}
-use Rattle.dk_top.specs.declared.ending.Ending.TheVariants as ending
+use Rattle.dk_endings.specs.declared.ending.Ending.{Ending}
+use Rattle.dk_endings.specs.declared.ending.Ending.TheVariants as ending
+use Rattle.dk_endings.specs.declared.ending.ImageFault.TheVariants as image
 use Rattle.dk_top.specs.Program.{HasForm, IsAccepted, ports}
 use Rattle.dk_top.specs.Output.{Fits}
 use Rattle.dk_top.specs.Verdict.{Files, bytes_of, IsAnswer}
-use Rattle.dk_top.specs.Reading.{IsSourceEnding, IsImageEnding, IsRead, Stops}
+use Rattle.dk_top.specs.Reading.{IsSourceEnding, IsImageEnding, IsUnread, IsRead, Stops}
 
 -- a form asks of files what its program asks
 pub ports_same : (p : Typing) (ir : Program) → IsForm p ir → ports_of ir ≡ ports p
 ports_same p ir f =
-    ap (λ s. ports_from s (map (λ i. i.ty) ir.inputs) (P.types_of ir) ir.outputs) f.size
-    ∙ ap (λ is. ports_from p.size is (P.types_of ir) ir.outputs) f.inputs
-    ∙ ap (λ ts. ports_from p.size (map (λ i. i.ty) p.inputs) ts ir.outputs) f.types
-    ∙ ap (λ os. ports_from p.size (map (λ i. i.ty) p.inputs) (types_of p) os) f.outputs
+    ap (λ s. ports_from s (map (λ i. i.ty) ir.inputs)) f.size ∙ ap (λ is. ports_from p.size is) f.inputs
 
 some_inputs : (ir : Program) → IsProgram ir → 0 < length (ports_of ir).inputs
 some_inputs ir is =
@@ -51,6 +49,9 @@ misfit_answer source file p accepted ending.Usage stops is = absurd stops
 misfit_answer source file p accepted ending.WriteFault stops is = absurd stops
 misfit_answer source file p accepted (ending.Source f) stops is = absurd is
 misfit_answer source file p accepted (ending.Image f) stops is = record { program = p; accepted = accepted; unfit = is }
+misfit_answer source file p accepted (ending.Verilog f) stops is = absurd is
+misfit_answer source file p accepted (ending.Stopped f) stops is = absurd is
+misfit_answer source file p accepted (ending.Rejected f) stops is = absurd is
 misfit_answer source file p accepted ending.ReadFault stops is = tt
 misfit_answer source file p accepted ending.Memory stops is = tt
 
@@ -61,6 +62,9 @@ source_answer source file ending.Usage stops is = absurd stops
 source_answer source file ending.WriteFault stops is = absurd stops
 source_answer source file (ending.Source f) stops is = is
 source_answer source file (ending.Image f) stops is = absurd is
+source_answer source file (ending.Verilog f) stops is = absurd is
+source_answer source file (ending.Stopped f) stops is = absurd is
+source_answer source file (ending.Rejected f) stops is = absurd is
 source_answer source file ending.ReadFault stops is = tt
 source_answer source file ending.Memory stops is = tt
 
@@ -83,10 +87,23 @@ err_told (Ok a) told file name Q is h = tt
 err_told (Err e) None file name Q is h = tt
 err_told (Err e) (Some f) file name Q is h = subst (Q e) is h
 
--- a file that was not read has no other ending for another program
-pub unread_told : (told : Option Files) (image : List ℕ) (ir : Program) (e : Ending) → IfSome told (λ f. (p : Typing) → IsImageEnding p (bytes_of f image) e) → IfSome told (λ f. (source : List ℕ) (p : Typing) → HasForm source p ir → IsImageEnding p (bytes_of f image) e)
+-- a file that was not read has no other ending, whatever the program
+pub unread_ending : (file : List ℕ) (p : Typing) (e : Ending) → IsUnread file e → IsImageEnding p file e
+unread_ending file p (ending.Image image.TooLong) h = h
+unread_ending file p (ending.Image (image.File f)) h = absurd h
+unread_ending file p ending.ReadFault h = tt
+unread_ending file p ending.Memory h = tt
+unread_ending file p ending.Done h = absurd h
+unread_ending file p ending.Usage h = absurd h
+unread_ending file p ending.WriteFault h = absurd h
+unread_ending file p (ending.Source f) h = absurd h
+unread_ending file p (ending.Verilog f) h = absurd h
+unread_ending file p (ending.Stopped f) h = absurd h
+unread_ending file p (ending.Rejected f) h = absurd h
+
+pub unread_told : (told : Option Files) (image : List ℕ) (ir : Program) (e : Ending) → IfSome told (λ f. IsUnread (bytes_of f image) e) → IfSome told (λ f. (source : List ℕ) (p : Typing) → HasForm source p ir → IsImageEnding p (bytes_of f image) e)
 unread_told None image ir e h = tt
-unread_told (Some f) image ir e h = λ source p has. h p
+unread_told (Some f) image ir e h = λ source p has. unread_ending (bytes_of f image) p e h
 
 -- both files are read
 pub read_told : (told between : Option Files) (program image text : List ℕ) (ir : Program) (rounds : List Round) → between ≡ told → IfSome told (λ f. text ≡ bytes_of f program) → ((p : Typing) × HasForm text p ir) → ((p : Typing) → IsAccepted text p → HasForm text p ir)

@@ -6,9 +6,9 @@ use Rattle.dk_types.specs.Meaning.{meaning_on}
 use Rattle.pgm_codec.specs.Images.{Picture as Image, file_of}
 use Rattle.pgm_rounds.specs.Files.{FitsFile, IsFault, joined}
 use Rattle.pgm_rounds.specs.Outputs.{output_images}
-use Rattle.dk_top.specs.declared.ending.ImageFault.{ImageFault}
-use Rattle.dk_top.specs.declared.ending.ImageFault.TheVariants.{TooLong, File}
-use Rattle.dk_top.specs.declared.TheConstants.{MAX_IMAGE_BYTES}
+use Rattle.dk_endings.specs.declared.ending.ImageFault.{ImageFault}
+use Rattle.dk_endings.specs.declared.ending.ImageFault.TheVariants.{TooLong, File}
+use Rattle.dk_endings.specs.declared.TheConstants.{MAX_IMAGE_BYTES}
 use Rattle.dk_top.specs.Program.{ports}
 
 -- the file is within its limit and one of these rounds, which fit the program

@@ -1,12 +1,14 @@
 -- What is read of a command's files, for the private functions.
-use Rattle.std.specs.Prelude.{◌≡◌, ℕ, List, Option, None, Some, ⊤, map}
+use Rattle.std.specs.Prelude.{◌≡◌, ℕ, ◌<◌, List, Option, None, Some, ⊤, length, map}
 use Rattle.dk_types.specs.Typed.{Typing}
 use Rattle.pgm_codec.specs.Images.{Picture as Image}
 use Rattle.pgm_rounds.specs.declared.round.Round.{Round}
 use Rattle.pgm_rounds.specs.Files.{frame_of, frames_of}
 use Rattle.pointwise_ir.specs.Programs.{Program}
-use Rattle.dk_top.specs.declared.ending.Ending.{Ending}
-use Rattle.dk_top.specs.declared.ending.Ending.TheVariants as ending
+use Rattle.dk_endings.specs.declared.ending.Ending.{Ending}
+use Rattle.dk_endings.specs.declared.ending.Ending.TheVariants as ending
+use Rattle.dk_endings.specs.declared.ending.ImageFault.TheVariants as image
+use Rattle.dk_endings.specs.declared.TheConstants.{MAX_IMAGE_BYTES}
 use Rattle.dk_top.specs.declared.circuit.Right.{Right}
 use Rattle.dk_top.specs.Circuit.{IsClocked, IsNotClocked}
 use Rattle.dk_top.specs.Program.{HasForm, IsAccepted, IsSourceFault}
@@ -24,12 +26,25 @@ Stops _ = ⊤
 abbrev pub IsSourceEnding : List ℕ → Ending → Type 0
 IsSourceEnding source (ending.Source fault) = IsSourceFault source fault
 IsSourceEnding source (ending.Image fault) = ⊥
+IsSourceEnding source (ending.Verilog fault) = ⊥
+IsSourceEnding source (ending.Stopped stop) = ⊥
+IsSourceEnding source (ending.Rejected fault) = ⊥
 IsSourceEnding source _ = ⊤
+
+-- why a file of images was not read whole: its length, or a failure
+abbrev pub IsUnread : List ℕ → Ending → Type 0
+IsUnread file (ending.Image image.TooLong) = MAX_IMAGE_BYTES < length file
+IsUnread file ending.ReadFault = ⊤
+IsUnread file ending.Memory = ⊤
+IsUnread file _ = ⊥
 
 -- the ending of a file of images, where the text is accepted as this program
 abbrev pub IsImageEnding : Typing → List ℕ → Ending → Type 0
 IsImageEnding p file (ending.Image fault) = IsImageFault p file fault
 IsImageEnding p file (ending.Source fault) = ⊥
+IsImageEnding p file (ending.Verilog fault) = ⊥
+IsImageEnding p file (ending.Stopped stop) = ⊥
+IsImageEnding p file (ending.Rejected fault) = ⊥
 IsImageEnding p file _ = ⊤
 
 -- The text is accepted, and the file fits its program. This is the program's form, and these are the frames of the rounds, whichever program and rounds the text and the file are read as.

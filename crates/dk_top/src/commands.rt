@@ -16,31 +16,15 @@ ghost use Rattle.dk_top.specs.Reading.{IsRead, IsFormOf};
 
 use crate::circuit::Right;
 use crate::clocking::clocked_output;
-use crate::ending::Ending;
+use crate::files::write_file;
 use crate::form::form_of;
 use crate::reading::{Given, read_given};
 use dk_base::Memory;
 use dk_compile::{one_source, typed};
-use dk_desk::transfer::write_all;
-use dk_desk::{Desk, Failed, OutSlot, Stage};
+use dk_desk::{Desk, Stage};
+use dk_endings::Ending;
 use pgm_rounds::write_outputs;
 use std::alloc::{AllocError, Global};
-
-/// Begins the output and writes it whole.
-fn write_file<D: Desk>(desk: &mut D, name: &str, bytes: &[u8]) -> Result<(), Failed>
-    requires { (D.outside desk.old).file.stage ≡ Stage.Unasked }
-    ensures whole { OnOk result (IfSome (D.outside desk.new).file.bytes (λ written. written ≡ bytes.now)) }
-    ensures prefix { OnErr result ((D.outside desk.new).file.stage ≡ Stage.Open → IfSome (D.outside desk.new).file.bytes (λ written. IsPrefix written bytes.now)) }
-    ensures opened { OnOk result ((D.outside desk.new).file.stage ≡ Stage.Open) }
-    ensures name { IsIfTold (D.outside desk.new).file.name (Some name.now) }
-    ensures files { OthersStay name.now (D.outside desk.old).files (D.outside desk.new).files }
-    ensures files_stay { (D.outside desk.new).file.stage ≢ Stage.Open → (D.outside desk.new).files ≡ (D.outside desk.old).files }
-    ensures only { CreatesOnly (D.outside desk.old) (D.outside desk.new) }
-    ensures cause { HasCauseIn (IsErr result) (D.outside desk.old).output_failures (D.outside desk.new).output_failures }
-{
-    desk.create(name)?;
-    write_all(desk, OutSlot::File, bytes)
-}
 
 /// The output file by the program's meaning.
 fn evaluated(alloc: Global, given: &Given) -> Result<Vec<u8>, Memory>

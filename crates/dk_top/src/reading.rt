@@ -15,39 +15,18 @@ ghost use Rattle.dk_top.specs.Verdict.{bytes_of, IsAnswer};
 ghost use Rattle.dk_top.specs.State.{AsksWhereAccepted};
 ghost use Rattle.dk_top.specs.Reading.{IsSourceEnding, IsImageEnding, IsRead, Stops};
 
-use crate::MAX_IMAGE_BYTES;
-use crate::ending::{Ending, ImageFault, SourceFault};
+use crate::files::{read_file, read_input};
 use dk_base::MAX_SOURCE_BYTES;
 use dk_compile::{front, one_source};
-use dk_desk::transfer::{ReadAll, read_all};
+use dk_desk::transfer::ReadAll;
 use dk_desk::{Desk, InSlot, Stage};
+use dk_endings::{Ending, ImageFault, MAX_IMAGE_BYTES, SourceFault};
 use pgm_rounds::{FileError, Round, one_file, read_rounds};
 use pointwise_ir::Ir;
 use std::alloc::Global;
 
-/// Opens an input and reads it whole.
-fn read_input<D: Desk>(
-    alloc: Global,
-    desk: &mut D,
-    slot: InSlot,
-    name: &str,
-    limit: usize,
-) -> Result<Vec<u8>, ReadAll>
-    requires fresh { (input (D.outside desk.old) slot).stage ≡ Stage.Unasked }
-    requires before_create { (D.outside desk.old).file.stage ≡ Stage.Unasked }
-    ensures whole { IfOk result (λ bytes. IfSome (D.outside desk.old).files (λ files. bytes.items ≡ bytes_of files name.now)) }
-    ensures within { IfOk result (λ bytes. vec_len bytes ≤ limit) }
-    ensures too_long { result ≡ Err ReadAll.TooLong → IfSome (D.outside desk.old).files (λ files. limit < length (bytes_of files name.now)) }
-    ensures name { IsIfTold (input (D.outside desk.new) slot).name (Some name.now) }
-    ensures only { OpensOnly slot (D.outside desk.old) (D.outside desk.new) }
-    ensures cause { HasCauseIn (result ≡ Err ReadAll.Failed) (D.outside desk.old).input_failures (D.outside desk.new).input_failures }
-{
-    desk.open_in(slot, name)?;
-    read_all(alloc, desk, slot, limit)
-}
-
 /// The program's text.
-fn read_text<D: Desk>(alloc: Global, desk: &mut D, name: &str) -> Result<Vec<u8>, Ending>
+pub fn read_text<D: Desk>(alloc: Global, desk: &mut D, name: &str) -> Result<Vec<u8>, Ending>
     requires fresh { (D.outside desk.old).program.stage ≡ Stage.Unasked }
     requires before_create { (D.outside desk.old).file.stage ≡ Stage.Unasked }
     ensures whole { IfOk result (λ bytes. IfSome (D.outside desk.old).files (λ files. bytes.items ≡ bytes_of files name.now)) }
@@ -67,7 +46,7 @@ fn read_text<D: Desk>(alloc: Global, desk: &mut D, name: &str) -> Result<Vec<u8>
 }
 
 /// How a call ends whose text is no program within the limits.
-fn ending_of(fault: dk_compile::SourceFault) -> Ending
+pub fn ending_of(fault: dk_compile::SourceFault) -> Ending
     ensures fault { (source : List ℕ) → length source ≤ MAX_SOURCE_BYTES → IsFault source fault → IsSourceEnding source result }
     ensures stops { Stops result }
     ensures judged { result ≢ Ending.ReadFault }
@@ -100,26 +79,6 @@ fn read_form(alloc: Global, text: &[u8]) -> Result<Ir, Ending>
     match front(alloc, text) {
         Ok(front) => Ok(front.ir),
         Err(fault) => Err(ending_of(fault)),
-    }
-}
-
-/// The bytes of the file of images.
-fn read_file<D: Desk>(alloc: Global, desk: &mut D, name: &str) -> Result<Vec<u8>, Ending>
-    requires fresh { (D.outside desk.old).image.stage ≡ Stage.Unasked }
-    requires before_create { (D.outside desk.old).file.stage ≡ Stage.Unasked }
-    ensures whole { IfOk result (λ bytes. IfSome (D.outside desk.old).files (λ files. bytes.items ≡ bytes_of files name.now)) }
-    ensures within { IfOk result (λ bytes. vec_len bytes ≤ MAX_IMAGE_BYTES) }
-    ensures fault { IfErr result (λ e. IfSome (D.outside desk.old).files (λ files. (p : Typing) → IsImageEnding p (bytes_of files name.now) e)) }
-    ensures stops { IfErr result Stops }
-    ensures name { IsIfTold (D.outside desk.new).image.name (Some name.now) }
-    ensures only { OpensOnly InSlot.Image (D.outside desk.old) (D.outside desk.new) }
-    ensures cause { HasCauseIn (result ≡ Err Ending.ReadFault) (D.outside desk.old).input_failures (D.outside desk.new).input_failures }
-{
-    match read_input(alloc, desk, InSlot::Image, name, MAX_IMAGE_BYTES) {
-        Ok(file) => Ok(file),
-        Err(ReadAll::Failed) => Err(Ending::ReadFault),
-        Err(ReadAll::TooLong) => Err(Ending::Image(ImageFault::TooLong)),
-        Err(ReadAll::Memory) => Err(Ending::Memory),
     }
 }
 

@@ -13,6 +13,6 @@ mod tests;
 
 pub use fault::{FileError, ImageFault};
 pub use laws::one_file;
-pub use outputs::write_outputs;
+pub use outputs::{write_image, write_outputs};
 pub use round::Round;
 pub use rounds::read_rounds;

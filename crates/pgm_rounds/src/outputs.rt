@@ -2,6 +2,7 @@
 
 ghost use Rattle.std.specs.Prelude.{◌≡◌, ◌<◌, ◌≤◌, ◌-◌, ◌^◌, ◌++◌, OnOk, Some, length, slice_get};
 ghost use Rattle.std.specs.List.{All};
+ghost use Rattle.dk_base.specs.Frames.{IsFrame};
 ghost use Rattle.pgm_codec.specs.Images.{header_of, raster_of, file_of};
 ghost use Rattle.pointwise_ir.specs.Programs.{types_of, IsOutput};
 ghost use Rattle.pointwise_ir.specs.Meaning.{pictures};
@@ -11,7 +12,7 @@ ghost use Rattle.pgm_rounds.specs.Outputs.{output_images};
 ghost use Rattle.pgm_rounds.specs.Writing.{AreOutputFrames, images_with};
 
 use crate::round::Round;
-use dk_base::{Memory, Ty};
+use dk_base::{FrameSize, Memory, Ty};
 use pgm_codec::{put_sample, write_header};
 use pointwise_eval::{Frame, evaluate};
 use pointwise_ir::{Ir, meaning_law};
@@ -67,23 +68,26 @@ fn add_samples(samples: &[u16], maxval: u16, file: &mut Vec<u8>) -> Result<(), M
 }
 
 /// The number of bytes of an image, or more.
-fn room(frame: &Frame, maxval: u16) -> usize {
-    let samples = frame.samples.as_slice().len();
+fn room(samples: &[u16], maxval: u16) -> usize {
     let sample = if maxval < 256 { 1 } else { 2 };
-    samples.saturating_mul(sample).saturating_add(19)
+    samples.len().saturating_mul(sample).saturating_add(19)
 }
 
-/// Adds the image of a frame.
-fn add_image(frame: &Frame, maxval: u16, file: &mut Vec<u8>) -> Result<(), Memory>
-    requires width { (0 < frame.now.width) × (frame.now.width ≤ 4096) }
-    requires height { (0 < frame.now.height) × (frame.now.height ≤ 4096) }
+/// Adds an image: its header, and its samples in raster order, in one byte each where `maxval` is below 256, and else in two. Without memory the file may have a front of the image.
+pub fn write_image(
+    size: FrameSize,
+    maxval: u16,
+    samples: &[u16],
+    file: &mut Vec<u8>,
+) -> Result<(), Memory>
+    requires frame { IsFrame size.width size.height }
     requires maxval { 0 < maxval }
-    requires bounded { All (λ s. s ≤ maxval) frame.now.samples }
-    ensures { OnOk result (file.new.items ≡ file.old.items ++ (header_of frame.now.width frame.now.height maxval ++ raster_of maxval frame.now.samples)) }
+    requires bounded { All (λ s. s ≤ maxval) samples.now }
+    ensures { OnOk result (file.new.items ≡ file.old.items ++ (header_of size.width size.height maxval ++ raster_of maxval samples.now)) }
 {
-    file.reserve(room(frame, maxval))?;
-    add_header(frame.width, frame.height, maxval, file)?;
-    add_samples(frame.samples.as_slice(), maxval, file)?;
+    file.reserve(room(samples, maxval))?;
+    add_header(size.width, size.height, maxval, file)?;
+    add_samples(samples, maxval, file)?;
     Ok(())
 }
 
@@ -96,7 +100,12 @@ fn add_images(ir: &Ir, frames: &[Frame], file: &mut Vec<u8>) -> Result<(), Memor
     let outputs = ir.outputs();
     for k in 0..outputs.len() {
         let maxval = greatest_sample(ir, outputs[k]);
-        add_image(&frames[k], maxval, file)?;
+        let frame = &frames[k];
+        let size = FrameSize {
+            width: frame.width,
+            height: frame.height,
+        };
+        write_image(size, maxval, frame.samples.as_slice(), file)?;
     }
     Ok(())
 }

@@ -1,4 +1,5 @@
-use Rattle.dk_words.proofs.FileWords.{run_reads, run_reads_after, eval_reads, eval_reads_after}
+use Rattle.dk_words.proofs.FileWords.{run_reads, run_reads_after, eval_reads, eval_reads_after, check_reads, check_reads_after, plan_reads, plan_reads_after}
+use Rattle.dk_words.proofs.DecimalWords.{plan_age_first, plan_age_last, sim_after, sim_alone, sim_hold, sim_ones, sim_ones_hold}
 use Rattle.dk_words.proofs.commands_read_their_words.Goals as goal
 
 pub returns-clause-run : goal.returns-clause-run
@@ -12,3 +13,36 @@ returns-clause-eval c = eval_reads
 
 pub returns-clause-eval_after_dashes : goal.returns-clause-eval_after_dashes
 returns-clause-eval_after_dashes c = eval_reads_after
+
+pub returns-clause-check : goal.returns-clause-check
+returns-clause-check c = check_reads
+
+pub returns-clause-check_after_dashes : goal.returns-clause-check_after_dashes
+returns-clause-check_after_dashes c = check_reads_after
+
+pub returns-clause-plan : goal.returns-clause-plan
+returns-clause-plan c = plan_reads
+
+pub returns-clause-plan_after_dashes : goal.returns-clause-plan_after_dashes
+returns-clause-plan_after_dashes c = plan_reads_after
+
+pub returns-clause-plan_age_first : goal.returns-clause-plan_age_first
+returns-clause-plan_age_first c = λ name p age low ep. plan_age_first name p age low ep
+
+pub returns-clause-plan_age_last : goal.returns-clause-plan_age_last
+returns-clause-plan_age_last c = λ name p age low ep. plan_age_last name p age low ep
+
+pub returns-clause-sim : goal.returns-clause-sim
+returns-clause-sim c = λ name v i o n few ev ei eo. sim_alone name v i o n few ev ei eo
+
+pub returns-clause-sim_after_dashes : goal.returns-clause-sim_after_dashes
+returns-clause-sim_after_dashes c = λ name v i o n few. sim_after name v i o n few
+
+pub returns-clause-sim_ones : goal.returns-clause-sim_ones
+returns-clause-sim_ones c = λ name v i o n few ev ei eo. sim_ones name v i o n few ev ei eo
+
+pub returns-clause-sim_hold : goal.returns-clause-sim_hold
+returns-clause-sim_hold c = λ name v i o n k few low high ev ei eo. sim_hold name v i o n few ev ei eo k low high
+
+pub returns-clause-sim_ones_hold : goal.returns-clause-sim_ones_hold
+returns-clause-sim_ones_hold c = λ name v i o n k few low high ev ei eo. sim_ones_hold name v i o n few ev ei eo k low high

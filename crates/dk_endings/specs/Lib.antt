@@ -1,0 +1,2 @@
+pub mod Verilog
+pub mod Lines

@@ -1,0 +1,161 @@
+-- The lines that endings write to Fault, and their exit statuses.
+use Rattle.std.specs.Prelude.{ℕ, ℤ, List, [], ◌++◌, codes, decimal}
+use Rattle.std.specs.Fmt.{signed_decimal}
+use Rattle.dk_base.specs.declared.TheConstants.{MAX_SOURCE_BYTES, MAX_HEADER_BYTES}
+use Rattle.dk_base.specs.declared.span.Span.{Span}
+use Rattle.dk_lexer.specs.declared.fault.LexKind.{LexKind}
+use Rattle.dk_lexer.specs.declared.fault.LexKind.TheVariants as lexer
+use Rattle.dk_types.specs.declared.fault.TypeFaultKind.{TypeFaultKind}
+use Rattle.dk_types.specs.declared.fault.TypeFaultKind.TheVariants as types
+use Rattle.pgm_rounds.specs.declared.fault.ImageFault.{ImageFault as FileFault}
+use Rattle.pgm_rounds.specs.declared.fault.ImageFault.TheVariants as file
+use Rattle.test_bench.specs.declared.stop.Stop.{Stop}
+use Rattle.test_bench.specs.declared.stop.Stop.TheVariants as stop
+use Rattle.dk_endings.specs.declared.TheConstants.{MAX_IMAGE_BYTES, MAX_VERILOG_BYTES, MAX_REPORT_BYTES}
+use Rattle.dk_endings.specs.declared.ending.Ending.{Ending}
+use Rattle.dk_endings.specs.declared.ending.Ending.TheVariants as ending
+use Rattle.dk_endings.specs.declared.ending.SourceFault.{SourceFault}
+use Rattle.dk_endings.specs.declared.ending.SourceFault.TheVariants as source
+use Rattle.dk_endings.specs.declared.ending.ImageFault.{ImageFault}
+use Rattle.dk_endings.specs.declared.ending.ImageFault.TheVariants as image
+use Rattle.dk_endings.specs.declared.ending.ReportFault.{ReportFault}
+use Rattle.dk_endings.specs.declared.ending.ReportFault.TheVariants as report
+use Rattle.dk_endings.specs.declared.verilog.VerilogFault.{VerilogFault}
+use Rattle.dk_endings.specs.declared.verilog.VerilogFault.TheVariants as verilog
+use Rattle.dk_endings.specs.declared.verilog.VerilogKind.{VerilogKind}
+use Rattle.dk_endings.specs.declared.verilog.VerilogKind.TheVariants as kind
+
+-- what is wrong with a token
+abbrev pub lexer_kind : LexKind → List ℕ
+lexer_kind lexer.BadByte = codes "BadByte"
+lexer_kind lexer.NumberTooGreat = codes "NumberTooGreat"
+lexer_kind lexer.NameTooLong = codes "NameTooLong"
+
+-- what is wrong with a program's names and types
+abbrev pub types_kind : TypeFaultKind → List ℕ
+types_kind types.SizeRange = codes "SizeRange"
+types_kind types.InputType = codes "InputType"
+types_kind types.TooManyInputs = codes "TooManyInputs"
+types_kind types.TooManyOutputs = codes "TooManyOutputs"
+types_kind types.TooManyImages = codes "TooManyImages"
+types_kind types.DuplicateName = codes "DuplicateName"
+types_kind types.UnknownImage = codes "UnknownImage"
+types_kind types.OffsetRange = codes "OffsetRange"
+types_kind types.WidthTooGreat = codes "WidthTooGreat"
+types_kind types.NotOneBit = codes "NotOneBit"
+types_kind types.SignedBits = codes "SignedBits"
+types_kind types.ZeroDivisor = codes "ZeroDivisor"
+types_kind types.ShiftRange = codes "ShiftRange"
+types_kind types.NotConvertible = codes "NotConvertible"
+types_kind types.OutputType = codes "OutputType"
+
+-- a line that ends in a number, or in two
+abbrev pub numbered : List ℕ → ℕ → List ℕ
+numbered front number = front ++ decimal number ++ codes "\n"
+
+abbrev pub twice_numbered : List ℕ → (first second : ℕ) → List ℕ
+twice_numbered front first second = front ++ decimal first ++ codes " " ++ decimal second ++ codes "\n"
+
+-- a fault of a text at these bytes
+abbrev pub spanned : List ℕ → Span → List ℕ → List ℕ
+spanned front span kind = front ++ decimal span.start ++ codes "-" ++ decimal span.stop ++ codes ": " ++ kind ++ codes "\n"
+
+abbrev pub source_line : SourceFault → List ℕ
+source_line source.TooLong = numbered (codes "program: TooLong ") MAX_SOURCE_BYTES
+source_line (source.Lex fault) = spanned (codes "program ") fault.span (lexer_kind fault.kind)
+source_line (source.Nest span) = spanned (codes "program ") span (codes "Nest")
+source_line (source.Syntax span) = spanned (codes "program ") span (codes "Syntax")
+source_line (source.Depth span) = spanned (codes "program ") span (codes "Depth")
+source_line (source.Types fault) = spanned (codes "program ") fault.span (types_kind fault.kind)
+source_line (source.Nodes count) = numbered (codes "program: Nodes ") count
+source_line (source.InlineDepth span) = spanned (codes "program ") span (codes "InlineDepth")
+source_line (source.Reads count) = numbered (codes "program: Reads ") count
+source_line (source.Bits least) = numbered (codes "program: Bits ") least
+source_line (source.Latency clocks) = numbered (codes "program: Latency ") clocks
+
+abbrev pub file_line : FileFault → List ℕ
+file_line (file.Magic offset) = numbered (codes "image: Magic ") offset
+file_line file.LongHeader = numbered (codes "image: LongHeader ") MAX_HEADER_BYTES
+file_line (file.Number offset) = numbered (codes "image: Number ") offset
+file_line (file.Range offset) = numbered (codes "image: Range ") offset
+file_line (file.Size width height) = twice_numbered (codes "image: Size ") width height
+file_line (file.Maxval maxval) = numbered (codes "image: Maxval ") maxval
+file_line (file.SampleTooGreat index) = numbered (codes "image: SampleTooGreat ") index
+file_line (file.Short held need) = twice_numbered (codes "image: Short ") held need
+file_line file.Count = numbered (codes "image: Count ") 65536
+file_line (file.Round held need) = twice_numbered (codes "image: Round ") held need
+
+abbrev pub image_line : ImageFault → List ℕ
+image_line image.TooLong = numbered (codes "image: TooLong ") MAX_IMAGE_BYTES
+image_line (image.File fault) = file_line fault
+
+-- what is wrong with a Verilog text
+abbrev pub verilog_kind : VerilogKind → List ℕ
+verilog_kind kind.BadByte = codes "BadByte"
+verilog_kind kind.BadConstant = codes "BadConstant"
+verilog_kind kind.NumberTooGreat = codes "NumberTooGreat"
+verilog_kind kind.NameTooLong = codes "NameTooLong"
+verilog_kind kind.Syntax = codes "Syntax"
+verilog_kind kind.NotInSubset = codes "NotInSubset"
+verilog_kind kind.Width = codes "Width"
+verilog_kind kind.Words = codes "Words"
+verilog_kind kind.ArrayBits = codes "ArrayBits"
+verilog_kind kind.Repeat = codes "Repeat"
+verilog_kind kind.Duplicate = codes "Duplicate"
+verilog_kind kind.Ports = codes "Ports"
+verilog_kind kind.Unknown = codes "Unknown"
+verilog_kind kind.WrongSort = codes "WrongSort"
+verilog_kind kind.Divisor = codes "Divisor"
+verilog_kind kind.DrivenTwice = codes "DrivenTwice"
+verilog_kind kind.Undriven = codes "Undriven"
+verilog_kind kind.Cycle = codes "Cycle"
+
+abbrev pub verilog_line : VerilogFault → List ℕ
+verilog_line verilog.TooLong = numbered (codes "verilog: TooLong ") MAX_VERILOG_BYTES
+verilog_line (verilog.At span fault) = spanned (codes "verilog ") span (verilog_kind fault)
+
+-- a clock with its sign, and two numbers
+abbrev pub index_line : ℤ → (array index : ℕ) → List ℕ
+index_line clock array index = codes "stopped: clock " ++ signed_decimal clock ++ codes " array " ++ decimal array ++ codes " index " ++ decimal index ++ codes "\n"
+
+abbrev pub count_line : (shown wanted : ℕ) → List ℕ
+count_line shown wanted = codes "stopped: count " ++ decimal shown ++ codes " of " ++ decimal wanted ++ codes "\n"
+
+abbrev pub stop_line : Stop → List ℕ
+stop_line (stop.Index clock array index) = index_line clock array index
+stop_line (stop.Count shown wanted) = count_line shown wanted
+
+abbrev pub report_line : ReportFault → List ℕ
+report_line report.TooLong = numbered (codes "report: TooLong ") MAX_REPORT_BYTES
+report_line (report.Line number) = numbered (codes "report: line ") number
+
+-- the line that an ending writes to Fault
+abbrev pub fault_line : Ending → List ℕ
+fault_line ending.Done = []
+fault_line ending.Usage =
+    codes "usage: run PROG IN OUT | compile PROG OUT | plan [--age K] PROG | sim VERILOG CLOCKS IN OUT [--fill FILL] [--hold K] | eval PROG IN OUT | make N | check PROG REPORT\n"
+fault_line (ending.Source fault) = source_line fault
+fault_line (ending.Image fault) = image_line fault
+fault_line (ending.Verilog fault) = verilog_line fault
+fault_line (ending.Stopped stop) = stop_line stop
+fault_line (ending.Rejected fault) = report_line fault
+fault_line ending.ReadFault = codes "cannot read\n"
+fault_line ending.WriteFault = codes "cannot write\n"
+fault_line ending.Memory = codes "out of memory\n"
+
+-- the exit status of an ending
+abbrev pub status_of : Ending → ℕ
+status_of ending.Done = 0
+status_of ending.Usage = 2
+status_of (ending.Source _) = 3
+status_of (ending.Image _) = 4
+status_of (ending.Verilog _) = 5
+status_of (ending.Stopped _) = 6
+status_of ending.ReadFault = 7
+status_of ending.WriteFault = 8
+status_of ending.Memory = 9
+status_of (ending.Rejected _) = 10
+
+-- the line that `check` writes of a report that holds
+abbrev pub holds_line : (bits latency : ℕ) → List ℕ
+holds_line bits latency = codes "report holds: bits " ++ decimal bits ++ codes " latency " ++ decimal latency ++ codes "\n"

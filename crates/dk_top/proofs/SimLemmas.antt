@@ -1,0 +1,353 @@
+-- A Verilog text and a file decide one ending of `sim`.
+use Rattle.std.proofs.Common.{◌≡◌, ◌⊎◌, inl, inr, ℕ, ◌<◌, ◌≤◌, List, [], ◌∷◌, Option, None, Some, IsSome, unwrap_or, refl, ap, subst, sym, ◌∙◌, arith, length, true, false}
+use Rattle.std.specs.List.{flat_map, AllByRecursion}
+use Rattle.pgm_codec.specs.Rounds.{FitsInputs}
+use Rattle.dk_base.specs.declared.span.Span.{Span}
+use Rattle.dk_base.specs.Frames.{Size}
+use Rattle.wiring.specs.Netlist.{Netlist}
+use Rattle.wiring.specs.Snapshot.{HasOneSnapshot, HasOneNext}
+use Rattle.netlist.specs.Names.{NamedNetlist}
+use Rattle.netlist.specs.declared.fault.NetFault.TheVariants as net
+use Rattle.verilog_text.specs.declared.token.Token.{Token}
+use Rattle.verilog_text.specs.declared.fault.TextFault.{TextFault}
+use Rattle.verilog_text.specs.declared.fault.TextFault.TheVariants as text
+use Rattle.verilog_text.specs.Lexis.{HasTokens}
+use Rattle.verilog_text.specs.Grammar.{Source, Module}
+use Rattle.verilog_text.specs.Stands.{IsWritten, StandsFor}
+use Rattle.verilog_text.specs.Faults.{IsFault, Agrees}
+use Rattle.pgm_codec.specs.Images.{Picture as Image}
+use Rattle.pgm_rounds.specs.declared.fault.ImageFault.{ImageFault as FileFault}
+use Rattle.cycle_sim.specs.Ports.{din_widths}
+use Rattle.test_bench.specs.declared.drive.Drive.{Drive}
+use Rattle.test_bench.specs.declared.stop.Stop.{Stop}
+use Rattle.test_bench.specs.Stimulus.{Rounds}
+use Rattle.test_bench.specs.Inputs.{FitsBench, IsBenchFault, samples_of}
+use Rattle.test_bench.specs.Showing.{IsShown}
+use Rattle.test_bench.specs.Stops.{IsStop}
+use Rattle.dk_endings.specs.declared.ending.Ending.{Ending}
+use Rattle.dk_endings.specs.declared.ending.Ending.TheVariants as ending
+use Rattle.dk_endings.specs.declared.ending.ImageFault.{ImageFault}
+use Rattle.dk_endings.specs.declared.ending.ImageFault.TheVariants as image
+use Rattle.dk_endings.specs.declared.verilog.VerilogFault.{VerilogFault}
+use Rattle.dk_endings.specs.declared.verilog.VerilogFault.TheVariants.{TooLong, At}
+use Rattle.dk_endings.specs.declared.verilog.VerilogKind.{VerilogKind}
+use Rattle.dk_endings.specs.declared.verilog.VerilogKind.TheVariants as kind
+use Rattle.dk_endings.specs.declared.TheConstants.{MAX_IMAGE_BYTES, MAX_VERILOG_BYTES}
+use Rattle.dk_endings.specs.Verilog.{fault_told}
+use Rattle.dk_top.specs.Simulation.{of_text, of_ports, IsModuleOf, LacksEnable, IsTextFault, IsVerilogFault, FitsModule, IsFileFault, IsSimulated, IsUnfit, IsStopped}
+use Rattle.dk_top.specs.Verdict.{AreAlike, CanBeSimulated, IsSimAnswer, IsJudged, IsOrMemory}
+
+-- the laws of Verilog texts, of files for a bench and of what a bench gives
+abbrev pub OneModule : Type 0
+OneModule = (t : List ℕ) (m n : NamedNetlist) → StandsFor t m → StandsFor t n → m ≡ n
+
+abbrev pub OneAgreed : Type 0
+OneAgreed = (t : List ℕ) (f g : TextFault) → IsFault t f → IsFault t g → Agrees f g
+
+abbrev pub ModuleApart : Type 0
+ModuleApart = (t : List ℕ) (m : NamedNetlist) (f : TextFault) → StandsFor t m → IsFault t f → f ≡ text.Memory
+
+abbrev pub OneTokens : Type 0
+OneTokens = (t : List ℕ) (a b : List Token) → HasTokens t a → HasTokens t b → a ≡ b
+
+abbrev pub OneTree : Type 0
+OneTree = (tokens : List Token) (s t : Source) → Module tokens s → Module tokens t → s ≡ t
+
+abbrev pub OneRounds : Type 0
+OneRounds = (widths : List ℕ) → 0 < length widths → (bytes : List ℕ) (s t : Size) (a b : List (List Image)) → FitsBench widths bytes s a → FitsBench widths bytes t b → (s ≡ t) × (a ≡ b)
+
+abbrev pub RoundsApart : Type 0
+RoundsApart = (widths : List ℕ) → 0 < length widths → (bytes : List ℕ) (s : Size) (a : List (List Image)) (f : FileFault) → FitsBench widths bytes s a → IsBenchFault widths bytes f → ⊥
+
+abbrev pub OneBenchFault : Type 0
+OneBenchFault = (widths : List ℕ) → 0 < length widths → (bytes : List ℕ) (f g : FileFault) → IsBenchFault widths bytes f → IsBenchFault widths bytes g → f ≡ g
+
+abbrev pub OneStop : Type 0
+OneStop = (m : Netlist) → HasOneSnapshot m → HasOneNext m → (drive : Drive) (size : Size) (rounds : Rounds) (s t : Stop) → IsStop m drive size rounds s → IsStop m drive size rounds t → s ≡ t
+
+abbrev pub ShownApart : Type 0
+ShownApart = (m : Netlist) → HasOneSnapshot m → HasOneNext m → (drive : Drive) (size : Size) (rounds : Rounds) (file : List ℕ) (s : Stop) → IsShown m drive size rounds file → IsStop m drive size rounds s → ⊥
+
+-- a file that fits is one for some dins
+none_fit : (width height : ℕ) (rounds : List (List Image)) (images : List Image) → 0 < length images → images ≡ flat_map (λ r. r) rounds → AllByRecursion (FitsInputs width height []) rounds → ⊥
+none_fit width height [] [] some e fit = let x : ⊥ = omega (arith, some) in x
+none_fit width height [] (i ∷ images) some e fit = let x : ⊥ = cc in x
+none_fit width height ([] ∷ rounds) images some e fit = none_fit width height rounds images some e fit.1
+none_fit width height ((p ∷ ps) ∷ rounds) images some e fit = fit.0
+
+pub fits_some : (widths bytes : List ℕ) (s : Size) (a : List (List Image)) → FitsBench widths bytes s a → 0 < length widths
+fits_some (w ∷ ws) bytes s a f = omega arith
+fits_some [] bytes s a f = absurd (none_fit s.width s.height a f.fits.images f.fits.file.0 f.fits.fits.joined f.fits.fits.fit)
+
+-- an ending is like itself
+alike_kind : (s : Span) (k : VerilogKind) → AreAlike (ending.Verilog (At s k)) (ending.Verilog (At s k))
+alike_kind s kind.Cycle = tt
+alike_kind s kind.BadByte = refl
+alike_kind s kind.BadConstant = refl
+alike_kind s kind.NumberTooGreat = refl
+alike_kind s kind.NameTooLong = refl
+alike_kind s kind.Syntax = refl
+alike_kind s kind.NotInSubset = refl
+alike_kind s kind.Width = refl
+alike_kind s kind.Words = refl
+alike_kind s kind.ArrayBits = refl
+alike_kind s kind.Repeat = refl
+alike_kind s kind.Duplicate = refl
+alike_kind s kind.Ports = refl
+alike_kind s kind.Unknown = refl
+alike_kind s kind.WrongSort = refl
+alike_kind s kind.Divisor = refl
+alike_kind s kind.DrivenTwice = refl
+alike_kind s kind.Undriven = refl
+
+pub alike_self : (e : Ending) → AreAlike e e
+alike_self (ending.Verilog TooLong) = refl
+alike_self (ending.Verilog (At s k)) = alike_kind s k
+alike_self ending.Done = refl
+alike_self ending.Usage = refl
+alike_self (ending.Source f) = refl
+alike_self (ending.Image f) = refl
+alike_self (ending.Stopped f) = refl
+alike_self (ending.Rejected f) = refl
+alike_self ending.ReadFault = refl
+alike_self ending.WriteFault = refl
+alike_self ending.Memory = refl
+
+pub alike_of : (a b : Ending) → a ≡ b → AreAlike a b
+alike_of a b e = subst (λ x. AreAlike a x) e (alike_self a)
+
+-- what an option holds
+some_is : {A : Type 0} (a b : A) → Some a ≡ Some b → a ≡ b
+some_is a b e = ap (λ o. unwrap_or o a) e
+
+-- the same fault is told the same
+same_told : (f g : TextFault) (x y : VerilogFault) → f ≡ g → fault_told f ≡ Some x → fault_told g ≡ Some y → AreAlike (ending.Verilog x) (ending.Verilog y)
+same_told f g x y e a b = alike_of (ending.Verilog x) (ending.Verilog y) (ap ending.Verilog (some_is x y (sym a ∙ (ap fault_told e ∙ b))))
+
+-- two cycles
+both_cycles : (s t : Span) (x y : VerilogFault) → At s kind.Cycle ≡ x → At t kind.Cycle ≡ y → AreAlike (ending.Verilog x) (ending.Verilog y)
+both_cycles s t x y a b =
+    let first : AreAlike (ending.Verilog x) (ending.Verilog (At t kind.Cycle)) = subst (λ z. AreAlike (ending.Verilog z) (ending.Verilog (At t kind.Cycle))) a tt in
+    subst (λ z. AreAlike (ending.Verilog x) (ending.Verilog z)) b first
+
+nothing_told : {P : Type 0} (x : VerilogFault) → fault_told text.Memory ≡ Some x → P
+nothing_told x e = absurd (let f : ⊥ = cc in f)
+
+-- faults that agree are told alike
+told_alike : (f g : TextFault) (x y : VerilogFault) → Agrees f g → fault_told f ≡ Some x → fault_told g ≡ Some y → AreAlike (ending.Verilog x) (ending.Verilog y)
+told_alike (text.Lex p) (text.Lex q) x y same a b = same_told (text.Lex p) (text.Lex q) x y same a b
+told_alike (text.Lex p) (text.Syntax q) x y same a b = same_told (text.Lex p) (text.Syntax q) x y same a b
+told_alike (text.Lex p) (text.NotInSubset q) x y same a b = same_told (text.Lex p) (text.NotInSubset q) x y same a b
+told_alike (text.Lex p) (text.Limit q) x y same a b = same_told (text.Lex p) (text.Limit q) x y same a b
+told_alike (text.Lex p) (text.Net t n) x y same a b = same_told (text.Lex p) (text.Net t n) x y same a b
+told_alike (text.Lex p) text.Memory x y same a b = nothing_told y b
+told_alike (text.Syntax p) (text.Lex q) x y same a b = same_told (text.Syntax p) (text.Lex q) x y same a b
+told_alike (text.Syntax p) (text.Syntax q) x y same a b = same_told (text.Syntax p) (text.Syntax q) x y same a b
+told_alike (text.Syntax p) (text.NotInSubset q) x y same a b = same_told (text.Syntax p) (text.NotInSubset q) x y same a b
+told_alike (text.Syntax p) (text.Limit q) x y same a b = same_told (text.Syntax p) (text.Limit q) x y same a b
+told_alike (text.Syntax p) (text.Net t n) x y same a b = same_told (text.Syntax p) (text.Net t n) x y same a b
+told_alike (text.Syntax p) text.Memory x y same a b = nothing_told y b
+told_alike (text.NotInSubset p) (text.Lex q) x y same a b = same_told (text.NotInSubset p) (text.Lex q) x y same a b
+told_alike (text.NotInSubset p) (text.Syntax q) x y same a b = same_told (text.NotInSubset p) (text.Syntax q) x y same a b
+told_alike (text.NotInSubset p) (text.NotInSubset q) x y same a b = same_told (text.NotInSubset p) (text.NotInSubset q) x y same a b
+told_alike (text.NotInSubset p) (text.Limit q) x y same a b = same_told (text.NotInSubset p) (text.Limit q) x y same a b
+told_alike (text.NotInSubset p) (text.Net t n) x y same a b = same_told (text.NotInSubset p) (text.Net t n) x y same a b
+told_alike (text.NotInSubset p) text.Memory x y same a b = nothing_told y b
+told_alike (text.Limit p) (text.Lex q) x y same a b = same_told (text.Limit p) (text.Lex q) x y same a b
+told_alike (text.Limit p) (text.Syntax q) x y same a b = same_told (text.Limit p) (text.Syntax q) x y same a b
+told_alike (text.Limit p) (text.NotInSubset q) x y same a b = same_told (text.Limit p) (text.NotInSubset q) x y same a b
+told_alike (text.Limit p) (text.Limit q) x y same a b = same_told (text.Limit p) (text.Limit q) x y same a b
+told_alike (text.Limit p) (text.Net t n) x y same a b = same_told (text.Limit p) (text.Net t n) x y same a b
+told_alike (text.Limit p) text.Memory x y same a b = nothing_told y b
+told_alike (text.Net s (net.Duplicate j)) (text.Lex q) x y same a b = same_told (text.Net s (net.Duplicate j)) (text.Lex q) x y same a b
+told_alike (text.Net s (net.Duplicate j)) (text.Syntax q) x y same a b = same_told (text.Net s (net.Duplicate j)) (text.Syntax q) x y same a b
+told_alike (text.Net s (net.Duplicate j)) (text.NotInSubset q) x y same a b = same_told (text.Net s (net.Duplicate j)) (text.NotInSubset q) x y same a b
+told_alike (text.Net s (net.Duplicate j)) (text.Limit q) x y same a b = same_told (text.Net s (net.Duplicate j)) (text.Limit q) x y same a b
+told_alike (text.Net s (net.Duplicate j)) (text.Net t n) x y same a b = same_told (text.Net s (net.Duplicate j)) (text.Net t n) x y same a b
+told_alike (text.Net s (net.Duplicate j)) text.Memory x y same a b = nothing_told y b
+told_alike (text.Net s net.Ports) (text.Lex q) x y same a b = same_told (text.Net s net.Ports) (text.Lex q) x y same a b
+told_alike (text.Net s net.Ports) (text.Syntax q) x y same a b = same_told (text.Net s net.Ports) (text.Syntax q) x y same a b
+told_alike (text.Net s net.Ports) (text.NotInSubset q) x y same a b = same_told (text.Net s net.Ports) (text.NotInSubset q) x y same a b
+told_alike (text.Net s net.Ports) (text.Limit q) x y same a b = same_told (text.Net s net.Ports) (text.Limit q) x y same a b
+told_alike (text.Net s net.Ports) (text.Net t n) x y same a b = same_told (text.Net s net.Ports) (text.Net t n) x y same a b
+told_alike (text.Net s net.Ports) text.Memory x y same a b = nothing_told y b
+told_alike (text.Net s (net.Unknown j)) (text.Lex q) x y same a b = same_told (text.Net s (net.Unknown j)) (text.Lex q) x y same a b
+told_alike (text.Net s (net.Unknown j)) (text.Syntax q) x y same a b = same_told (text.Net s (net.Unknown j)) (text.Syntax q) x y same a b
+told_alike (text.Net s (net.Unknown j)) (text.NotInSubset q) x y same a b = same_told (text.Net s (net.Unknown j)) (text.NotInSubset q) x y same a b
+told_alike (text.Net s (net.Unknown j)) (text.Limit q) x y same a b = same_told (text.Net s (net.Unknown j)) (text.Limit q) x y same a b
+told_alike (text.Net s (net.Unknown j)) (text.Net t n) x y same a b = same_told (text.Net s (net.Unknown j)) (text.Net t n) x y same a b
+told_alike (text.Net s (net.Unknown j)) text.Memory x y same a b = nothing_told y b
+told_alike (text.Net s (net.WrongSort j)) (text.Lex q) x y same a b = same_told (text.Net s (net.WrongSort j)) (text.Lex q) x y same a b
+told_alike (text.Net s (net.WrongSort j)) (text.Syntax q) x y same a b = same_told (text.Net s (net.WrongSort j)) (text.Syntax q) x y same a b
+told_alike (text.Net s (net.WrongSort j)) (text.NotInSubset q) x y same a b = same_told (text.Net s (net.WrongSort j)) (text.NotInSubset q) x y same a b
+told_alike (text.Net s (net.WrongSort j)) (text.Limit q) x y same a b = same_told (text.Net s (net.WrongSort j)) (text.Limit q) x y same a b
+told_alike (text.Net s (net.WrongSort j)) (text.Net t n) x y same a b = same_told (text.Net s (net.WrongSort j)) (text.Net t n) x y same a b
+told_alike (text.Net s (net.WrongSort j)) text.Memory x y same a b = nothing_told y b
+told_alike (text.Net s (net.Divisor j)) (text.Lex q) x y same a b = same_told (text.Net s (net.Divisor j)) (text.Lex q) x y same a b
+told_alike (text.Net s (net.Divisor j)) (text.Syntax q) x y same a b = same_told (text.Net s (net.Divisor j)) (text.Syntax q) x y same a b
+told_alike (text.Net s (net.Divisor j)) (text.NotInSubset q) x y same a b = same_told (text.Net s (net.Divisor j)) (text.NotInSubset q) x y same a b
+told_alike (text.Net s (net.Divisor j)) (text.Limit q) x y same a b = same_told (text.Net s (net.Divisor j)) (text.Limit q) x y same a b
+told_alike (text.Net s (net.Divisor j)) (text.Net t n) x y same a b = same_told (text.Net s (net.Divisor j)) (text.Net t n) x y same a b
+told_alike (text.Net s (net.Divisor j)) text.Memory x y same a b = nothing_told y b
+told_alike (text.Net s (net.Width j)) (text.Lex q) x y same a b = same_told (text.Net s (net.Width j)) (text.Lex q) x y same a b
+told_alike (text.Net s (net.Width j)) (text.Syntax q) x y same a b = same_told (text.Net s (net.Width j)) (text.Syntax q) x y same a b
+told_alike (text.Net s (net.Width j)) (text.NotInSubset q) x y same a b = same_told (text.Net s (net.Width j)) (text.NotInSubset q) x y same a b
+told_alike (text.Net s (net.Width j)) (text.Limit q) x y same a b = same_told (text.Net s (net.Width j)) (text.Limit q) x y same a b
+told_alike (text.Net s (net.Width j)) (text.Net t n) x y same a b = same_told (text.Net s (net.Width j)) (text.Net t n) x y same a b
+told_alike (text.Net s (net.Width j)) text.Memory x y same a b = nothing_told y b
+told_alike (text.Net s (net.DrivenTwice j)) (text.Lex q) x y same a b = same_told (text.Net s (net.DrivenTwice j)) (text.Lex q) x y same a b
+told_alike (text.Net s (net.DrivenTwice j)) (text.Syntax q) x y same a b = same_told (text.Net s (net.DrivenTwice j)) (text.Syntax q) x y same a b
+told_alike (text.Net s (net.DrivenTwice j)) (text.NotInSubset q) x y same a b = same_told (text.Net s (net.DrivenTwice j)) (text.NotInSubset q) x y same a b
+told_alike (text.Net s (net.DrivenTwice j)) (text.Limit q) x y same a b = same_told (text.Net s (net.DrivenTwice j)) (text.Limit q) x y same a b
+told_alike (text.Net s (net.DrivenTwice j)) (text.Net t n) x y same a b = same_told (text.Net s (net.DrivenTwice j)) (text.Net t n) x y same a b
+told_alike (text.Net s (net.DrivenTwice j)) text.Memory x y same a b = nothing_told y b
+told_alike (text.Net s (net.Undriven j)) (text.Lex q) x y same a b = same_told (text.Net s (net.Undriven j)) (text.Lex q) x y same a b
+told_alike (text.Net s (net.Undriven j)) (text.Syntax q) x y same a b = same_told (text.Net s (net.Undriven j)) (text.Syntax q) x y same a b
+told_alike (text.Net s (net.Undriven j)) (text.NotInSubset q) x y same a b = same_told (text.Net s (net.Undriven j)) (text.NotInSubset q) x y same a b
+told_alike (text.Net s (net.Undriven j)) (text.Limit q) x y same a b = same_told (text.Net s (net.Undriven j)) (text.Limit q) x y same a b
+told_alike (text.Net s (net.Undriven j)) (text.Net t n) x y same a b = same_told (text.Net s (net.Undriven j)) (text.Net t n) x y same a b
+told_alike (text.Net s (net.Undriven j)) text.Memory x y same a b = nothing_told y b
+told_alike (text.Net s net.Memory) (text.Lex q) x y same a b = same_told (text.Net s net.Memory) (text.Lex q) x y same a b
+told_alike (text.Net s net.Memory) (text.Syntax q) x y same a b = same_told (text.Net s net.Memory) (text.Syntax q) x y same a b
+told_alike (text.Net s net.Memory) (text.NotInSubset q) x y same a b = same_told (text.Net s net.Memory) (text.NotInSubset q) x y same a b
+told_alike (text.Net s net.Memory) (text.Limit q) x y same a b = same_told (text.Net s net.Memory) (text.Limit q) x y same a b
+told_alike (text.Net s net.Memory) (text.Net t n) x y same a b = same_told (text.Net s net.Memory) (text.Net t n) x y same a b
+told_alike (text.Net s net.Memory) text.Memory x y same a b = nothing_told y b
+told_alike (text.Net s (net.Cycle j)) (text.Lex q) x y same a b = same_told (text.Net s (net.Cycle j)) (text.Lex q) x y same a b
+told_alike (text.Net s (net.Cycle j)) (text.Syntax q) x y same a b = same_told (text.Net s (net.Cycle j)) (text.Syntax q) x y same a b
+told_alike (text.Net s (net.Cycle j)) (text.NotInSubset q) x y same a b = same_told (text.Net s (net.Cycle j)) (text.NotInSubset q) x y same a b
+told_alike (text.Net s (net.Cycle j)) (text.Limit q) x y same a b = same_told (text.Net s (net.Cycle j)) (text.Limit q) x y same a b
+told_alike (text.Net s (net.Cycle j)) (text.Net t (net.Duplicate k)) x y same a b = same_told (text.Net s (net.Cycle j)) (text.Net t (net.Duplicate k)) x y same a b
+told_alike (text.Net s (net.Cycle j)) (text.Net t net.Ports) x y same a b = same_told (text.Net s (net.Cycle j)) (text.Net t net.Ports) x y same a b
+told_alike (text.Net s (net.Cycle j)) (text.Net t (net.Unknown k)) x y same a b = same_told (text.Net s (net.Cycle j)) (text.Net t (net.Unknown k)) x y same a b
+told_alike (text.Net s (net.Cycle j)) (text.Net t (net.WrongSort k)) x y same a b = same_told (text.Net s (net.Cycle j)) (text.Net t (net.WrongSort k)) x y same a b
+told_alike (text.Net s (net.Cycle j)) (text.Net t (net.Divisor k)) x y same a b = same_told (text.Net s (net.Cycle j)) (text.Net t (net.Divisor k)) x y same a b
+told_alike (text.Net s (net.Cycle j)) (text.Net t (net.Width k)) x y same a b = same_told (text.Net s (net.Cycle j)) (text.Net t (net.Width k)) x y same a b
+told_alike (text.Net s (net.Cycle j)) (text.Net t (net.DrivenTwice k)) x y same a b = same_told (text.Net s (net.Cycle j)) (text.Net t (net.DrivenTwice k)) x y same a b
+told_alike (text.Net s (net.Cycle j)) (text.Net t (net.Undriven k)) x y same a b = same_told (text.Net s (net.Cycle j)) (text.Net t (net.Undriven k)) x y same a b
+told_alike (text.Net s (net.Cycle j)) (text.Net t net.Memory) x y same a b = same_told (text.Net s (net.Cycle j)) (text.Net t net.Memory) x y same a b
+told_alike (text.Net s (net.Cycle j)) (text.Net t (net.Cycle k)) x y same a b = both_cycles s t x y (some_is _ _ a) (some_is _ _ b)
+told_alike (text.Net s (net.Cycle j)) text.Memory x y same a b = nothing_told y b
+told_alike text.Memory g x y same a b = nothing_told x a
+
+-- what the laws say together
+module _ (one : OneModule) (agree : OneAgreed) (text_apart : ModuleApart) (tokens : OneTokens) (tree : OneTree) (rounds : OneRounds) (file_apart : RoundsApart) (one_file : OneBenchFault) (one_stop : OneStop) (shown_apart : ShownApart) where
+  -- a text that lacks `en` is that of a module without it
+  without_enable : (hold : Option ℕ) (t : List ℕ) (m : NamedNetlist) (name : Span) → IsModuleOf hold t m → LacksEnable hold t name → ⊥
+  without_enable hold t m name is lacks =
+      let same : m ≡ lacks.m = one t m lacks.m is.stands lacks.stands in
+      let e : true ≡ false = sym (is.enable lacks.holds) ∙ (ap (λ (n : NamedNetlist). n.netlist.enable) same ∙ lacks.without) in
+      let f : ⊥ = cc in f
+
+  own_apart : (t : List ℕ) (m : NamedNetlist) (f : TextFault) (told : VerilogFault) → StandsFor t m → IsFault t f → fault_told f ≡ Some told → ⊥
+  own_apart t m f told stands is e = nothing_told told (subst (λ g. fault_told g ≡ Some told) (text_apart t m f stands is) e)
+
+  -- a text that is in order has no fault
+  module_no_text_fault : (hold : Option ℕ) (t : List ℕ) (m : NamedNetlist) (told : VerilogFault) → IsModuleOf hold t m → IsTextFault hold t told → ⊥
+  module_no_text_fault hold t m told is (of_text f fault e) = own_apart t m f told is.stands fault e
+  module_no_text_fault hold t m told is (of_ports name lacks e) = without_enable hold t m name is lacks
+
+  module_no_fault : (hold : Option ℕ) (t : List ℕ) (m : NamedNetlist) (f : VerilogFault) → IsModuleOf hold t m → IsVerilogFault hold t f → ⊥
+  module_no_fault hold t m TooLong is h = let a = is.within in absurd (omega (arith, a, h))
+  module_no_fault hold t m (At s k) is h = module_no_text_fault hold t m (At s k) is h.1
+
+  one_name : (t : List ℕ) (a b : Source) → IsWritten t a → IsWritten t b → a ≡ b
+  one_name t a b x y = tree x.tokens a b x.is_module (subst (λ ts. Module ts b) (sym (tokens t x.tokens y.tokens x.has_tokens y.has_tokens)) y.is_module)
+
+  one_lack : (hold : Option ℕ) (t : List ℕ) (a b : Span) → LacksEnable hold t a → LacksEnable hold t b → a ≡ b
+  one_lack hold t a b x y = x.name_is ∙ (ap (λ (s : Source). s.name) (one_name t x.source y.source x.written y.written) ∙ sym y.name_is)
+
+  one_text : (hold : Option ℕ) (t : List ℕ) (x y : VerilogFault) → IsTextFault hold t x → IsTextFault hold t y → AreAlike (ending.Verilog x) (ending.Verilog y)
+  one_text hold t x y (of_text f fault a) (of_text g other b) = told_alike f g x y (agree t f g fault other) a b
+  one_text hold t x y (of_text f fault a) (of_ports name lacks b) = absurd (own_apart t lacks.m f x lacks.stands fault a)
+  one_text hold t x y (of_ports name lacks a) (of_text g other b) = absurd (own_apart t lacks.m g y lacks.stands other b)
+  one_text hold t x y (of_ports name lacks a) (of_ports other more b) = alike_of (ending.Verilog x) (ending.Verilog y) (ap ending.Verilog (a ∙ (ap (λ s. At s kind.Ports) (one_lack hold t name other lacks more) ∙ sym b)))
+
+  one_verilog : (hold : Option ℕ) (t : List ℕ) (x y : VerilogFault) → IsVerilogFault hold t x → IsVerilogFault hold t y → AreAlike (ending.Verilog x) (ending.Verilog y)
+  one_verilog hold t TooLong TooLong a b = refl
+  one_verilog hold t TooLong (At s k) a b = let l = b.0 in absurd (omega (arith, a, l))
+  one_verilog hold t (At s k) TooLong a b = let l = a.0 in absurd (omega (arith, b, l))
+  one_verilog hold t (At s k) (At r l) a b = one_text hold t (At s k) (At r l) a.1 b.1
+
+  -- a file that fits has no fault, and another has one
+  fits_no_fault : (m : NamedNetlist) (file : List ℕ) (size : Size) (images : List (List Image)) (f : ImageFault) → FitsModule m file size images → IsFileFault m file f → ⊥
+  fits_no_fault m file size images image.TooLong fits h = let a = fits.within in absurd (omega (arith, a, h))
+  fits_no_fault m file size images (image.File f) fits h = file_apart (din_widths m.netlist) h.1.some file size images f fits.fits h.1.is
+
+  one_file_fault : (m : NamedNetlist) (file : List ℕ) (f g : ImageFault) → IsFileFault m file f → IsFileFault m file g → f ≡ g
+  one_file_fault m file image.TooLong image.TooLong x y = refl
+  one_file_fault m file image.TooLong (image.File g) x y = let l = y.0 in absurd (omega (arith, x, l))
+  one_file_fault m file (image.File f) image.TooLong x y = let l = x.0 in absurd (omega (arith, y, l))
+  one_file_fault m file (image.File f) (image.File g) x y = ap image.File (one_file (din_widths m.netlist) x.1.some file f g x.1.is y.1.is)
+
+  module _ (drive : Drive) (t file : List ℕ) where
+    unfit_apart : (m : NamedNetlist) (size : Size) (images : List (List Image)) (f : ImageFault) → IsModuleOf drive.hold t m → FitsModule m file size images → IsUnfit drive t file f → ⊥
+    unfit_apart m size images f is fits u =
+        fits_no_fault m file size images f fits (subst (λ n. IsFileFault n file f) (one t u.m m u.made.stands is.stands) u.unfit)
+
+    one_unfit : (f g : ImageFault) → IsUnfit drive t file f → IsUnfit drive t file g → f ≡ g
+    one_unfit f g x y = one_file_fault x.m file f g x.unfit (subst (λ n. IsFileFault n file g) (one t y.m x.m y.made.stands x.made.stands) y.unfit)
+
+    -- the same module, size and images
+    simulated_apart : (pictures : List ℕ) (s : Stop) → IsSimulated drive t file pictures → IsStopped drive t file s → ⊥
+    simulated_apart pictures s x y =
+        let m : x.m ≡ y.m = one t x.m y.m x.made.stands y.made.stands in
+        let fits : FitsModule y.m file x.size x.images = subst (λ n. FitsModule n file x.size x.images) m x.fits in
+        let both = rounds (din_widths y.m.netlist) (fits_some (din_widths y.m.netlist) file y.size y.images y.fits.fits) file x.size y.size x.images y.images fits.fits y.fits.fits in
+        let first : IsShown y.m.netlist drive x.size (samples_of x.images) pictures = subst (λ (n : NamedNetlist). IsShown n.netlist drive x.size (samples_of x.images) pictures) m x.shown in
+        let second : IsShown y.m.netlist drive y.size (samples_of x.images) pictures = subst (λ z. IsShown y.m.netlist drive z (samples_of x.images) pictures) both.0 first in
+        let third : IsShown y.m.netlist drive y.size (samples_of y.images) pictures = subst (λ z. IsShown y.m.netlist drive y.size (samples_of z) pictures) both.1 second in
+        shown_apart y.m.netlist y.one_valuation y.one_next drive y.size (samples_of y.images) pictures s third y.stops
+
+    stops_once : (s r : Stop) → IsStopped drive t file s → IsStopped drive t file r → s ≡ r
+    stops_once s r x y =
+        let m : x.m ≡ y.m = one t x.m y.m x.made.stands y.made.stands in
+        let fits : FitsModule y.m file x.size x.images = subst (λ n. FitsModule n file x.size x.images) m x.fits in
+        let both = rounds (din_widths y.m.netlist) (fits_some (din_widths y.m.netlist) file y.size y.images y.fits.fits) file x.size y.size x.images y.images fits.fits y.fits.fits in
+        let first : IsStop y.m.netlist drive x.size (samples_of x.images) s = subst (λ (n : NamedNetlist). IsStop n.netlist drive x.size (samples_of x.images) s) m x.stops in
+        let second : IsStop y.m.netlist drive y.size (samples_of x.images) s = subst (λ z. IsStop y.m.netlist drive z (samples_of x.images) s) both.0 first in
+        let third : IsStop y.m.netlist drive y.size (samples_of y.images) s = subst (λ z. IsStop y.m.netlist drive y.size (samples_of z) s) both.1 second in
+        one_stop y.m.netlist y.one_valuation y.one_next drive y.size (samples_of y.images) s r third y.stops
+
+    pub sim_answer : (a b : Ending) → IsJudged a → IsJudged b → IsSimAnswer drive t file a → IsSimAnswer drive t file b → AreAlike a b
+    sim_answer ending.Done ending.Done _ _ x y = refl
+    sim_answer ending.Done (ending.Verilog f) _ _ x y = absurd (module_no_fault drive.hold t x.1.m f x.1.made y)
+    sim_answer ending.Done (ending.Image f) _ _ x y = absurd (unfit_apart x.1.m x.1.size x.1.images f x.1.made x.1.fits y)
+    sim_answer ending.Done (ending.Stopped s) _ _ x y = absurd (simulated_apart x.0 s x.1 y)
+    sim_answer (ending.Verilog f) ending.Done _ _ x y = absurd (module_no_fault drive.hold t y.1.m f y.1.made x)
+    sim_answer (ending.Verilog f) (ending.Verilog g) _ _ x y = one_verilog drive.hold t f g x y
+    sim_answer (ending.Verilog f) (ending.Image g) _ _ x y = absurd (module_no_fault drive.hold t y.m f y.made x)
+    sim_answer (ending.Verilog f) (ending.Stopped s) _ _ x y = absurd (module_no_fault drive.hold t y.m f y.made x)
+    sim_answer (ending.Image f) ending.Done _ _ x y = absurd (unfit_apart y.1.m y.1.size y.1.images f y.1.made y.1.fits x)
+    sim_answer (ending.Image f) (ending.Verilog g) _ _ x y = absurd (module_no_fault drive.hold t x.m g x.made y)
+    sim_answer (ending.Image f) (ending.Image g) _ _ x y = ap ending.Image (one_unfit f g x y)
+    sim_answer (ending.Image f) (ending.Stopped s) _ _ x y = absurd (unfit_apart y.m y.size y.images f y.made y.fits x)
+    sim_answer (ending.Stopped s) ending.Done _ _ x y = absurd (simulated_apart y.0 s y.1 x)
+    sim_answer (ending.Stopped s) (ending.Verilog g) _ _ x y = absurd (module_no_fault drive.hold t x.m g x.made y)
+    sim_answer (ending.Stopped s) (ending.Image g) _ _ x y = absurd (unfit_apart x.m x.size x.images g x.made x.fits y)
+    sim_answer (ending.Stopped s) (ending.Stopped r) _ _ x y = ap ending.Stopped (stops_once s r x y)
+    sim_answer (ending.Source f) b _ _ x y = absurd x
+    sim_answer (ending.Rejected f) b _ _ x y = absurd x
+    sim_answer ending.Usage b j _ x y = absurd j
+    sim_answer ending.ReadFault b j _ x y = absurd j
+    sim_answer ending.WriteFault b j _ x y = absurd j
+    sim_answer ending.Memory b j _ x y = absurd j
+    sim_answer _ (ending.Source f) _ _ x y = absurd y
+    sim_answer _ (ending.Rejected f) _ _ x y = absurd y
+    sim_answer _ ending.Usage _ j x y = absurd j
+    sim_answer _ ending.ReadFault _ j x y = absurd j
+    sim_answer _ ending.WriteFault _ j x y = absurd j
+    sim_answer _ ending.Memory _ j x y = absurd j
+
+    -- where a module shows pictures the call is done, if nothing outside fails and there is memory
+    pub good_sim : (result : Ending) → IsSimAnswer drive t file result → CanBeSimulated drive t file → (result ≡ ending.ReadFault → ⊥) → (result ≡ ending.WriteFault → ⊥) → IsOrMemory result ending.Done
+    good_sim ending.Done answer good no_read no_write = inl refl
+    good_sim ending.Memory answer good no_read no_write = inr refl
+    good_sim ending.ReadFault answer good no_read no_write = absurd (no_read refl)
+    good_sim ending.WriteFault answer good no_read no_write = absurd (no_write refl)
+    good_sim ending.Usage answer good no_read no_write = absurd answer
+    good_sim (ending.Source f) answer good no_read no_write = absurd answer
+    good_sim (ending.Rejected f) answer good no_read no_write = absurd answer
+    good_sim (ending.Verilog f) answer good no_read no_write = absurd (module_no_fault drive.hold t good.1.m f good.1.made answer)
+    good_sim (ending.Image f) answer good no_read no_write = absurd (unfit_apart good.1.m good.1.size good.1.images f good.1.made good.1.fits answer)
+    good_sim (ending.Stopped s) answer good no_read no_write = absurd (simulated_apart good.0 s good.1 answer)

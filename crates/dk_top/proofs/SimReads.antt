@@ -1,0 +1,212 @@
+-- What `sim` reads, and what it shows.
+use Rattle.std.proofs.Common.{◌≡◌, ◌≢◌, ◌≤◌, ℕ, Bool, List, [], ◌∷◌, ◌++◌, length, map, Option, None, Some, IfSome, Result, Ok, Err, IfOk, OnOk, option_map, refl, sym, ap, ◌∙◌, subst}
+use Rattle.dk_base.specs.Frames.{Size}
+use Rattle.dk_desk.specs.Calls.{IsIfTold}
+use Rattle.wiring.specs.Netlist.{Netlist}
+use Rattle.wiring.specs.Snapshot.{HasOneSnapshot, HasOneNext}
+use Rattle.netlist.specs.Names.{NamedNetlist}
+use Rattle.verilog_text.specs.declared.fault.TextFault.{TextFault}
+use Rattle.verilog_text.specs.Faults.{IsFault}
+use Rattle.cycle_sim.specs.Ports.{din_widths}
+use Rattle.pgm_codec.specs.Images.{Picture as Image}
+use Rattle.pointwise_eval.specs.declared.frame.Frame.{Frame}
+use Rattle.pgm_rounds.specs.declared.round.Round.{Round}
+use Rattle.pgm_rounds.specs.Files.{frame_of, frames_of}
+use Rattle.test_bench.specs.declared.drive.Drive.{Drive}
+use Rattle.test_bench.specs.declared.stop.Stop.{Stop}
+use Rattle.test_bench.specs.Stimulus.{Rounds}
+use Rattle.test_bench.specs.Given.{rounds_of}
+use Rattle.test_bench.specs.Inputs.{FitsBench, samples_of}
+use Rattle.test_bench.specs.Showing.{IsShown, IsNoted as AreNotes}
+use Rattle.test_bench.specs.Stops.{IsStop}
+use Rattle.dk_words.specs.declared.command.PowerUp.{PowerUp}
+use Rattle.dk_endings.specs.declared.ending.Ending.{Ending}
+use Rattle.dk_endings.specs.declared.ending.Ending.TheVariants as ending
+use Rattle.dk_endings.specs.declared.ending.ImageFault.TheVariants as image
+use Rattle.netlist.specs.declared.fault.NetFault.TheVariants as net
+use Rattle.verilog_text.specs.declared.fault.TextFault.TheVariants as text
+use Rattle.dk_endings.specs.declared.verilog.VerilogFault.{VerilogFault}
+use Rattle.dk_endings.specs.declared.verilog.VerilogFault.TheVariants.{TooLong, At}
+use Rattle.dk_endings.specs.declared.TheConstants.{MAX_VERILOG_BYTES}
+use Rattle.dk_endings.specs.Verilog.{fault_told}
+use Rattle.dk_top.specs.Simulation.{of_text, drive_of, IsModuleOf, IsVerilogFault, FitsModule, IsSimulated, IsStopped}
+use Rattle.dk_top.specs.Verdict.{Files, bytes_of, IsSimAnswer}
+use Rattle.dk_top.specs.State.{NotesSim}
+use Rattle.dk_top.specs.Reading.{IsUnread, Stops}
+use Rattle.dk_top.specs.Simulating.{IsModuleEnding, IsFileEnding, IsInput, IsSimInput}
+use Rattle.dk_top.proofs.SimLemmas.{OneModule, OneRounds, fits_some}
+
+-- no fault of a text is told as its length
+never_long : {P : Type 0} (f : TextFault) → fault_told f ≡ Some TooLong → P
+never_long (text.Lex p) e = absurd (let f : ⊥ = cc in f)
+never_long (text.Syntax p) e = absurd (let f : ⊥ = cc in f)
+never_long (text.NotInSubset p) e = absurd (let f : ⊥ = cc in f)
+never_long (text.Limit p) e = absurd (let f : ⊥ = cc in f)
+never_long (text.Net s (net.Duplicate k)) e = absurd (let f : ⊥ = cc in f)
+never_long (text.Net s net.Ports) e = absurd (let f : ⊥ = cc in f)
+never_long (text.Net s (net.Unknown k)) e = absurd (let f : ⊥ = cc in f)
+never_long (text.Net s (net.WrongSort k)) e = absurd (let f : ⊥ = cc in f)
+never_long (text.Net s (net.Divisor k)) e = absurd (let f : ⊥ = cc in f)
+never_long (text.Net s (net.Width k)) e = absurd (let f : ⊥ = cc in f)
+never_long (text.Net s (net.DrivenTwice k)) e = absurd (let f : ⊥ = cc in f)
+never_long (text.Net s (net.Undriven k)) e = absurd (let f : ⊥ = cc in f)
+never_long (text.Net s (net.Cycle k)) e = absurd (let f : ⊥ = cc in f)
+never_long (text.Net s net.Memory) e = absurd (let f : ⊥ = cc in f)
+never_long text.Memory e = absurd (let f : ⊥ = cc in f)
+
+-- what is told of a text's fault is a fault of the text
+pub told_ending : (f : TextFault) (told : VerilogFault) → fault_told f ≡ Some told → (hold : Option ℕ) (t : List ℕ) → length t ≤ MAX_VERILOG_BYTES → IsFault t f → IsVerilogFault hold t told
+told_ending f TooLong e = never_long f e
+told_ending f (At s k) e = λ hold t within is. (within, of_text f is e)
+
+-- an ending of a text, whatever clocks are held
+pub for_hold : (told : Option Files) (name : List ℕ) (hold : Option ℕ) (e : Ending) → IfSome told (λ f. (h : Option ℕ) → IsModuleEnding h (bytes_of f name) e) → IfSome told (λ f. IsModuleEnding hold (bytes_of f name) e)
+for_hold None name hold e h = tt
+for_hold (Some f) name hold e h = h hold
+
+-- a file that was not read has no other ending, whatever the module
+unread_ending : (m : NamedNetlist) (file : List ℕ) (e : Ending) → IsUnread file e → IsFileEnding m file e
+unread_ending m file (ending.Image image.TooLong) h = h
+unread_ending m file (ending.Image (image.File f)) h = absurd h
+unread_ending m file ending.ReadFault h = tt
+unread_ending m file ending.Memory h = tt
+unread_ending m file ending.Done h = absurd h
+unread_ending m file ending.Usage h = absurd h
+unread_ending m file ending.WriteFault h = absurd h
+unread_ending m file (ending.Source f) h = absurd h
+unread_ending m file (ending.Verilog f) h = absurd h
+unread_ending m file (ending.Stopped f) h = absurd h
+unread_ending m file (ending.Rejected f) h = absurd h
+
+pub unread_for : (told : Option Files) (name : List ℕ) (m : NamedNetlist) (e : Ending) → IfSome told (λ f. IsUnread (bytes_of f name) e) → IfSome told (λ f. IsFileEnding m (bytes_of f name) e)
+unread_for None name m e h = tt
+unread_for (Some f) name m e h = unread_ending m (bytes_of f name) e h
+
+-- the text is not in order
+module_answer : (clocks : ℕ) (power : PowerUp) (hold : Option ℕ) (t file : List ℕ) (e : Ending) → Stops e → IsModuleEnding hold t e → IsSimAnswer (drive_of clocks power hold) t file e
+module_answer clocks power hold t file (ending.Verilog f) stops h = h
+module_answer clocks power hold t file ending.ReadFault stops h = tt
+module_answer clocks power hold t file ending.Memory stops h = tt
+module_answer clocks power hold t file ending.Done stops h = absurd stops
+module_answer clocks power hold t file ending.Usage stops h = absurd stops
+module_answer clocks power hold t file ending.WriteFault stops h = absurd stops
+module_answer clocks power hold t file (ending.Source f) stops h = absurd h
+module_answer clocks power hold t file (ending.Image f) stops h = absurd h
+module_answer clocks power hold t file (ending.Stopped f) stops h = absurd h
+module_answer clocks power hold t file (ending.Rejected f) stops h = absurd h
+
+pub module_told : (told : Option Files) (verilog image : List ℕ) (hold : Option ℕ) (e : Ending) → Stops e → IfSome told (λ f. IsModuleEnding hold (bytes_of f verilog) e)
+    → IfSome told (λ f. (clocks : ℕ) (power : PowerUp) → IsSimAnswer (drive_of clocks power hold) (bytes_of f verilog) (bytes_of f image) e)
+module_told None verilog image hold e stops h = tt
+module_told (Some f) verilog image hold e stops h = λ clocks power. module_answer clocks power hold (bytes_of f verilog) (bytes_of f image) e stops h
+
+-- the file does not fit
+file_answer : (clocks : ℕ) (power : PowerUp) (hold : Option ℕ) (t file : List ℕ) (m : NamedNetlist) (e : Ending) → IsModuleOf hold t m → Stops e → IsFileEnding m file e → IsSimAnswer (drive_of clocks power hold) t file e
+file_answer clocks power hold t file m (ending.Image f) made stops h = record { m = m; made = made; unfit = h }
+file_answer clocks power hold t file m ending.ReadFault made stops h = tt
+file_answer clocks power hold t file m ending.Memory made stops h = tt
+file_answer clocks power hold t file m ending.Done made stops h = absurd stops
+file_answer clocks power hold t file m ending.Usage made stops h = absurd stops
+file_answer clocks power hold t file m ending.WriteFault made stops h = absurd stops
+file_answer clocks power hold t file m (ending.Source f) made stops h = absurd h
+file_answer clocks power hold t file m (ending.Verilog f) made stops h = absurd h
+file_answer clocks power hold t file m (ending.Stopped f) made stops h = absurd h
+file_answer clocks power hold t file m (ending.Rejected f) made stops h = absurd h
+
+pub file_told : (told between : Option Files) (verilog image : List ℕ) (hold : Option ℕ) (m : NamedNetlist) (e : Ending) → between ≡ told → IfSome told (λ f. IsModuleOf hold (bytes_of f verilog) m) → Stops e → IfSome between (λ f. IsFileEnding m (bytes_of f image) e)
+    → IfSome told (λ f. (clocks : ℕ) (power : PowerUp) → IsSimAnswer (drive_of clocks power hold) (bytes_of f verilog) (bytes_of f image) e)
+file_told None between verilog image hold m e same made stops h = tt
+file_told (Some f) between verilog image hold m e same made stops h = λ clocks power.
+    let Fault : Option Files → Type 0 = λ o. IfSome o (λ g. IsFileEnding m (bytes_of g image) e) in
+    file_answer clocks power hold (bytes_of f verilog) (bytes_of f image) m e made stops (subst Fault same h)
+
+-- both are in order
+pub input_told : (told between : Option Files) (verilog image : List ℕ) (hold : Option ℕ) (m : NamedNetlist) (size : Size) (rounds : List Round) → between ≡ told → IfSome told (λ f. IsModuleOf hold (bytes_of f verilog) m) → IfSome between (λ f. IsInput m (bytes_of f image) size rounds)
+    → IfSome told (λ f. IsSimInput hold (bytes_of f verilog) (bytes_of f image) m size rounds)
+input_told None between verilog image hold m size rounds same made h = tt
+input_told (Some f) between verilog image hold m size rounds same made h =
+    let Given : Option Files → Type 0 = λ o. IfSome o (λ g. IsInput m (bytes_of g image) size rounds) in
+    record { made = made; input = subst Given same h }
+
+-- the samples of the frames are those of the images
+frame_samples : (images : List Image) → map (λ (f : Frame). f.samples) (map frame_of images) ≡ map (λ (i : Image). i.samples) images
+frame_samples [] = refl
+frame_samples (i ∷ images) = ap (λ rest. i.samples ∷ rest) (frame_samples images)
+
+all_samples : (images : List (List Image)) → map (λ (fs : List Frame). map (λ (f : Frame). f.samples) fs) (map (map frame_of) images) ≡ samples_of images
+all_samples [] = refl
+all_samples (round ∷ images) = ap (λ x. x ∷ map (λ (fs : List Frame). map (λ (f : Frame). f.samples) fs) (map (map frame_of) images)) (frame_samples round) ∙ ap (λ rest. map (λ (i : Image). i.samples) round ∷ rest) (all_samples images)
+
+samples_same : (rounds : List Round) (images : List (List Image)) → frames_of rounds ≡ map (map frame_of) images → rounds_of rounds ≡ samples_of images
+samples_same rounds images e = ap (λ fs. map (λ (x : List Frame). map (λ (f : Frame). f.samples) x) fs) e ∙ all_samples images
+
+module _ (drive : Drive) (m : NamedNetlist) (size : Size) (rounds : List Round) where
+  -- what the module shows is what the command shows
+  pub shown_of : (file : List ℕ) → IsShown m.netlist drive size (rounds_of rounds) file → (t images : List ℕ) → IsSimInput drive.hold t images m size rounds → IsSimulated drive t images file
+  shown_of file shown t images given = record {
+    m = m;
+    made = given.made;
+    size = size;
+    images = given.input.images;
+    fits = given.input.fits;
+    shown = subst (λ rs. IsShown m.netlist drive size rs file) (samples_same rounds given.input.images given.input.frames) shown;
+  }
+
+  pub stopped_of : (stop : Stop) → HasOneSnapshot m.netlist → HasOneNext m.netlist → IsStop m.netlist drive size (rounds_of rounds) stop → (t images : List ℕ) → IsSimInput drive.hold t images m size rounds → IsStopped drive t images stop
+  stopped_of stop valuation next stops t images given = record {
+    m = m;
+    made = given.made;
+    size = size;
+    images = given.input.images;
+    fits = given.input.fits;
+    one_valuation = valuation;
+    one_next = next;
+    stops = subst (λ rs. IsStop m.netlist drive size rs stop) (samples_same rounds given.input.images given.input.frames) stops;
+  }
+
+  pub notes_of_run : (old new : Option (List (Bool × ℕ))) → ((notes : List (Bool × ℕ)) × AreNotes m.netlist drive (rounds_of rounds) notes × IsIfTold new (option_map (λ before. before ++ notes) old)) → (t images : List ℕ) → IsSimInput drive.hold t images m size rounds → NotesSim drive t images old new
+  notes_of_run old new (notes, are, told) t images given = record {
+    m = m;
+    made = given.made;
+    size = size;
+    images = given.input.images;
+    fits = given.input.fits;
+    gained = notes;
+    run = subst (λ rs. AreNotes m.netlist drive rs notes) (samples_same rounds given.input.images given.input.frames) are;
+    told = told;
+  }
+
+  -- there is one file of pictures
+  pub one_shown : OneModule → OneRounds → ((n : Netlist) → HasOneSnapshot n → HasOneNext n → (d : Drive) (s : Size) (rs : Rounds) (a b : List ℕ) → IsShown n d s rs a → IsShown n d s rs b → a ≡ b) → HasOneSnapshot m.netlist → HasOneNext m.netlist
+      → (file : List ℕ) → IsShown m.netlist drive size (rounds_of rounds) file → (t images : List ℕ) → IsSimInput drive.hold t images m size rounds → (pictures : List ℕ) → IsSimulated drive t images pictures → pictures ≡ file
+  one_shown one rounds_once shown_once valuation next file shown t images given pictures other =
+      let same : other.m ≡ m = one t other.m m other.made.stands given.made.stands in
+      let fits : FitsModule m images other.size other.images = subst (λ n. FitsModule n images other.size other.images) same other.fits in
+      let both = rounds_once (din_widths m.netlist) (fits_some (din_widths m.netlist) images size given.input.images given.input.fits.fits) images other.size size other.images given.input.images fits.fits given.input.fits.fits in
+      let first : IsShown m.netlist drive other.size (samples_of other.images) pictures = subst (λ (n : NamedNetlist). IsShown n.netlist drive other.size (samples_of other.images) pictures) same other.shown in
+      let second : IsShown m.netlist drive size (samples_of other.images) pictures = subst (λ z. IsShown m.netlist drive z (samples_of other.images) pictures) both.0 first in
+      let third : IsShown m.netlist drive size (samples_of given.input.images) pictures = subst (λ z. IsShown m.netlist drive size (samples_of z) pictures) both.1 second in
+      let fourth : IsShown m.netlist drive size (rounds_of rounds) pictures = subst (λ rs. IsShown m.netlist drive size rs pictures) (sym (samples_same rounds given.input.images given.input.frames)) third in
+      shown_once m.netlist valuation next drive size (rounds_of rounds) pictures file fourth shown
+
+-- an ending whatever clocks are asked for is that of these
+pub for_clocks : (told : Option Files) (verilog image : List ℕ) (clocks : ℕ) (power : PowerUp) (hold : Option ℕ) (e : Ending) → IfSome told (λ f. (n : ℕ) (p : PowerUp) → IsSimAnswer (drive_of n p hold) (bytes_of f verilog) (bytes_of f image) e)
+    → IfSome told (λ f. IsSimAnswer (drive_of clocks power hold) (bytes_of f verilog) (bytes_of f image) e)
+for_clocks None verilog image clocks power hold e h = tt
+for_clocks (Some f) verilog image clocks power hold e h = h clocks power
+
+-- what is said of any input of the drive's holds is said of the files
+pub of_input : (told : Option Files) (verilog image : List ℕ) (d drive : Drive) (m : NamedNetlist) (size : Size) (rounds : List Round) (P : Drive → (t i : List ℕ) → Type 0) → d ≡ drive → IfSome told (λ f. IsSimInput d.hold (bytes_of f verilog) (bytes_of f image) m size rounds)
+    → ((t i : List ℕ) → IsSimInput d.hold t i m size rounds → P d t i) → IfSome told (λ f. P drive (bytes_of f verilog) (bytes_of f image))
+of_input None verilog image d drive m size rounds P e given h = tt
+of_input (Some f) verilog image d drive m size rounds P e given h = subst (λ x. P x (bytes_of f verilog) (bytes_of f image)) e (h (bytes_of f verilog) (bytes_of f image) given)
+
+-- what is written stands to the pictures as it stands to what was made
+pub held_sim : (told : Option Files) (verilog image : List ℕ) (d drive : Drive) (m : NamedNetlist) (size : Size) (rounds : List Round) (bytes : Option (List ℕ)) (file : List ℕ) (R : List ℕ → List ℕ → Type 0) → d ≡ drive → IfSome told (λ f. IsSimInput d.hold (bytes_of f verilog) (bytes_of f image) m size rounds)
+    → ((t i : List ℕ) → IsSimInput d.hold t i m size rounds → (pictures : List ℕ) → IsSimulated d t i pictures → pictures ≡ file) → IfSome bytes (λ written. R written file)
+    → IfSome told (λ f. IfSome bytes (λ written. (pictures : List ℕ) → IsSimulated drive (bytes_of f verilog) (bytes_of f image) pictures → R written pictures))
+held_sim None verilog image d drive m size rounds bytes file R e given only written = tt
+held_sim (Some f) verilog image d drive m size rounds None file R e given only written = tt
+held_sim (Some f) verilog image d drive m size rounds (Some b) file R e given only written = λ pictures is.
+    let same : pictures ≡ file = only (bytes_of f verilog) (bytes_of f image) given pictures (subst (λ x. IsSimulated x (bytes_of f verilog) (bytes_of f image) pictures) (sym e) is) in
+    subst (R b) (sym same) written

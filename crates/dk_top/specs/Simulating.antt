@@ -1,0 +1,35 @@
+-- What `sim` reads, for the private functions.
+use Rattle.std.specs.Prelude.{◌≡◌, ℕ, ◌<◌, List, length, map, Option, ⊤}
+use Rattle.dk_base.specs.Frames.{Size}
+use Rattle.netlist.specs.Names.{NamedNetlist}
+use Rattle.pgm_codec.specs.Images.{Picture as Image}
+use Rattle.pgm_rounds.specs.declared.round.Round.{Round}
+use Rattle.pgm_rounds.specs.Files.{frame_of, frames_of}
+use Rattle.dk_endings.specs.declared.ending.Ending.{Ending}
+use Rattle.dk_endings.specs.declared.ending.Ending.TheVariants as ending
+use Rattle.dk_top.specs.Simulation.{IsVerilogFault, IsFileFault, IsModuleOf, FitsModule}
+
+-- the ending of a Verilog text: its fault, or a failure
+abbrev pub IsModuleEnding : Option ℕ → List ℕ → Ending → Type 0
+IsModuleEnding hold text (ending.Verilog fault) = IsVerilogFault hold text fault
+IsModuleEnding hold text ending.ReadFault = ⊤
+IsModuleEnding hold text ending.Memory = ⊤
+IsModuleEnding hold text _ = ⊥
+
+-- the ending of a file of images for this module
+abbrev pub IsFileEnding : NamedNetlist → List ℕ → Ending → Type 0
+IsFileEnding m file (ending.Image fault) = IsFileFault m file fault
+IsFileEnding m file ending.ReadFault = ⊤
+IsFileEnding m file ending.Memory = ⊤
+IsFileEnding m file _ = ⊥
+
+-- The file fits the module, with this size and with the frames of these rounds.
+pub record IsInput (m : NamedNetlist) (file : List ℕ) (size : Size) (rounds : List Round) : Type 0 where
+  pub images : List (List Image)
+  pub fits : FitsModule m file size images
+  pub frames : frames_of rounds ≡ map (map frame_of) images
+
+-- The text is that of this module, and the file fits it.
+pub record IsSimInput (hold : Option ℕ) (text file : List ℕ) (m : NamedNetlist) (size : Size) (rounds : List Round) : Type 0 where
+  pub made : IsModuleOf hold text m
+  pub input : IsInput m file size rounds

@@ -1,0 +1,103 @@
+-- What `sim` judges: a Verilog text, a file of images for its module, and the run of the module.
+use Rattle.std.specs.Prelude.{◌≡◌, ℕ, ◌<◌, ◌≤◌, false, true, List, length, Option, IsSome, Some}
+use Rattle.dk_base.specs.declared.span.Span.{Span}
+use Rattle.dk_base.specs.Frames.{Size}
+use Rattle.netlist.specs.Names.{NamedNetlist}
+use Rattle.wiring.specs.Snapshot.{HasOneSnapshot, HasOneNext}
+use Rattle.cycle_sim.specs.declared.fill.Fill.{Fill}
+use Rattle.cycle_sim.specs.declared.fill.Fill.TheVariants as fill
+use Rattle.cycle_sim.specs.Ports.{din_widths}
+use Rattle.verilog_text.specs.declared.fault.TextFault.{TextFault}
+use Rattle.verilog_text.specs.Grammar.{Source}
+use Rattle.verilog_text.specs.Stands.{IsWritten, StandsFor}
+use Rattle.verilog_text.specs.Faults.{IsFault}
+use Rattle.pgm_codec.specs.Images.{Picture as Image}
+use Rattle.pgm_rounds.specs.declared.fault.ImageFault.{ImageFault as FileFault}
+use Rattle.test_bench.specs.declared.drive.Drive.{Drive}
+use Rattle.test_bench.specs.declared.stop.Stop.{Stop}
+use Rattle.test_bench.specs.Inputs.{FitsBench, IsBenchFault, samples_of}
+use Rattle.test_bench.specs.Showing.{IsShown}
+use Rattle.test_bench.specs.Stops.{IsStop}
+use Rattle.dk_words.specs.declared.command.PowerUp.{PowerUp}
+use Rattle.dk_words.specs.declared.command.PowerUp.TheVariants.{Zeros, Ones}
+use Rattle.dk_endings.specs.declared.ending.ImageFault.{ImageFault}
+use Rattle.dk_endings.specs.declared.ending.ImageFault.TheVariants.{TooLong as LongFile, File}
+use Rattle.dk_endings.specs.declared.verilog.VerilogFault.{VerilogFault}
+use Rattle.dk_endings.specs.declared.verilog.VerilogFault.TheVariants.{TooLong, At}
+use Rattle.dk_endings.specs.declared.verilog.VerilogKind.TheVariants.{Ports}
+use Rattle.dk_endings.specs.declared.TheConstants.{MAX_IMAGE_BYTES, MAX_VERILOG_BYTES}
+use Rattle.dk_endings.specs.Verilog.{fault_told}
+
+-- how the command's words drive a module
+abbrev pub fill_of : PowerUp → Fill
+fill_of Zeros = fill.Zeros
+fill_of Ones = fill.Ones
+
+abbrev pub drive_of : (clocks : ℕ) → PowerUp → Option ℕ → Drive
+drive_of clocks power hold = record { clocks = clocks; fill = fill_of power; hold = hold }
+
+-- The text is within its limit and stands for this module, which has the port `en` where clocks are to be held.
+pub record IsModuleOf (hold : Option ℕ) (text : List ℕ) (m : NamedNetlist) : Type 0 where
+  pub within : length text ≤ MAX_VERILOG_BYTES
+  pub stands : StandsFor text m
+  pub enable : IsSome hold → m.netlist.enable ≡ true
+
+-- Clocks are to be held, and the text's module, whose name stands here, has no port `en`.
+pub record LacksEnable (hold : Option ℕ) (text : List ℕ) (name : Span) : Type 0 where
+  pub holds : IsSome hold
+  pub m : NamedNetlist
+  pub stands : StandsFor text m
+  pub without : m.netlist.enable ≡ false
+  pub source : Source
+  pub written : IsWritten text source
+  pub name_is : name ≡ source.name
+
+-- the first fault of a text within its limit: its own, and then that of a missing `en`
+pub data IsTextFault (hold : Option ℕ) (text : List ℕ) (told : VerilogFault) : Type 0 where
+  of_text : (f : TextFault) → IsFault text f → fault_told f ≡ Some told → IsTextFault hold text told
+  of_ports : (name : Span) → LacksEnable hold text name → told ≡ At name Ports → IsTextFault hold text told
+
+abbrev pub IsVerilogFault : Option ℕ → List ℕ → VerilogFault → Type 0
+IsVerilogFault hold text TooLong = MAX_VERILOG_BYTES < length text
+IsVerilogFault hold text (At span kind) = (length text ≤ MAX_VERILOG_BYTES) × IsTextFault hold text (At span kind)
+
+-- The file is within its limit and one of these rounds of images, which fit the module's dins.
+pub record FitsModule (m : NamedNetlist) (file : List ℕ) (size : Size) (images : List (List Image)) : Type 0 where
+  pub within : length file ≤ MAX_IMAGE_BYTES
+  pub fits : FitsBench (din_widths m.netlist) file size images
+
+-- the first fault of a file's images, for dins of these widths, of which there are some
+pub record IsImagesFault (widths file : List ℕ) (fault : FileFault) : Type 0 where
+  pub some : 0 < length widths
+  pub is : IsBenchFault widths file fault
+
+-- the first fault of a file: its length, and then its images one after another
+abbrev pub IsFileFault : NamedNetlist → List ℕ → ImageFault → Type 0
+IsFileFault m file LongFile = MAX_IMAGE_BYTES < length file
+IsFileFault m file (File fault) = (length file ≤ MAX_IMAGE_BYTES) × IsImagesFault (din_widths m.netlist) file fault
+
+-- the text and the file are in order, and the module shows this file of pictures
+pub record IsSimulated (drive : Drive) (text file pictures : List ℕ) : Type 0 where
+  pub m : NamedNetlist
+  pub made : IsModuleOf drive.hold text m
+  pub size : Size
+  pub images : List (List Image)
+  pub fits : FitsModule m file size images
+  pub shown : IsShown m.netlist drive size (samples_of images) pictures
+
+-- the text is in order, and this is the first fault of the file
+pub record IsUnfit (drive : Drive) (text file : List ℕ) (fault : ImageFault) : Type 0 where
+  pub m : NamedNetlist
+  pub made : IsModuleOf drive.hold text m
+  pub unfit : IsFileFault m file fault
+
+-- Both are in order, and the module, which has one run over each list of clocks, shows no pictures for this reason.
+pub record IsStopped (drive : Drive) (text file : List ℕ) (stop : Stop) : Type 0 where
+  pub m : NamedNetlist
+  pub made : IsModuleOf drive.hold text m
+  pub size : Size
+  pub images : List (List Image)
+  pub fits : FitsModule m file size images
+  pub one_valuation : HasOneSnapshot m.netlist
+  pub one_next : HasOneNext m.netlist
+  pub stops : IsStop m.netlist drive size (samples_of images) stop

@@ -1,0 +1,80 @@
+//! Inputs that are read whole, and outputs that are written whole.
+
+ghost use Rattle.std.specs.Prelude.{◌≡◌, ◌≢◌, ◌<◌, ◌≤◌, Some, Err, IfOk, IfErr, IfSome, OnOk, OnErr, IsErr, length, vec_len};
+ghost use Rattle.dk_desk.specs.Outside.{Outside, input};
+ghost use Rattle.dk_desk.specs.Calls.{HasCauseIn, IsIfTold, OpensOnly, CreatesOnly, grown};
+ghost use Rattle.dk_top.specs.Verdict.{bytes_of};
+ghost use Rattle.dk_top.specs.State.{IsPrefix, OthersStay, ReportsFront};
+ghost use Rattle.dk_top.specs.Reading.{IsUnread, Stops};
+
+use dk_desk::transfer::{ReadAll, read_all, write_all};
+use dk_desk::{Desk, Failed, InSlot, OutSlot, Stage};
+use dk_endings::{Ending, ImageFault, MAX_IMAGE_BYTES};
+use std::alloc::Global;
+
+/// Opens an input and reads it whole.
+pub fn read_input<D: Desk>(
+    alloc: Global,
+    desk: &mut D,
+    slot: InSlot,
+    name: &str,
+    limit: usize,
+) -> Result<Vec<u8>, ReadAll>
+    requires fresh { (input (D.outside desk.old) slot).stage ≡ Stage.Unasked }
+    requires before_create { (D.outside desk.old).file.stage ≡ Stage.Unasked }
+    ensures whole { IfOk result (λ bytes. IfSome (D.outside desk.old).files (λ files. bytes.items ≡ bytes_of files name.now)) }
+    ensures within { IfOk result (λ bytes. vec_len bytes ≤ limit) }
+    ensures too_long { result ≡ Err ReadAll.TooLong → IfSome (D.outside desk.old).files (λ files. limit < length (bytes_of files name.now)) }
+    ensures name { IsIfTold (input (D.outside desk.new) slot).name (Some name.now) }
+    ensures only { OpensOnly slot (D.outside desk.old) (D.outside desk.new) }
+    ensures cause { HasCauseIn (result ≡ Err ReadAll.Failed) (D.outside desk.old).input_failures (D.outside desk.new).input_failures }
+{
+    desk.open_in(slot, name)?;
+    read_all(alloc, desk, slot, limit)
+}
+
+/// Begins the output and writes it whole.
+pub fn write_file<D: Desk>(desk: &mut D, name: &str, bytes: &[u8]) -> Result<(), Failed>
+    requires { (D.outside desk.old).file.stage ≡ Stage.Unasked }
+    ensures whole { OnOk result (IfSome (D.outside desk.new).file.bytes (λ written. written ≡ bytes.now)) }
+    ensures prefix { OnErr result ((D.outside desk.new).file.stage ≡ Stage.Open → IfSome (D.outside desk.new).file.bytes (λ written. IsPrefix written bytes.now)) }
+    ensures opened { OnOk result ((D.outside desk.new).file.stage ≡ Stage.Open) }
+    ensures name { IsIfTold (D.outside desk.new).file.name (Some name.now) }
+    ensures files { OthersStay name.now (D.outside desk.old).files (D.outside desk.new).files }
+    ensures files_stay { (D.outside desk.new).file.stage ≢ Stage.Open → (D.outside desk.new).files ≡ (D.outside desk.old).files }
+    ensures only { CreatesOnly (D.outside desk.old) (D.outside desk.new) }
+    ensures cause { HasCauseIn (IsErr result) (D.outside desk.old).output_failures (D.outside desk.new).output_failures }
+{
+    desk.create(name)?;
+    write_all(desk, OutSlot::File, bytes)
+}
+
+/// Writes a text to Report.
+pub fn write_report<D: Desk>(desk: &mut D, text: &[u8]) -> Result<(), Failed>
+    ensures whole { OnOk result (IsIfTold (D.outside desk.new).report (grown (D.outside desk.old).report text.now)) }
+    ensures front { OnErr result (ReportsFront text.now (D.outside desk.old).report (D.outside desk.new).report) }
+    ensures only { D.outside desk.new ≡ record (D.outside desk.old) { report = (D.outside desk.new).report; output_failures = (D.outside desk.new).output_failures } }
+    ensures cause { HasCauseIn (IsErr result) (D.outside desk.old).output_failures (D.outside desk.new).output_failures }
+{
+    write_all(desk, OutSlot::Report, text)
+}
+
+/// The bytes of the file of images.
+pub fn read_file<D: Desk>(alloc: Global, desk: &mut D, name: &str) -> Result<Vec<u8>, Ending>
+    requires fresh { (D.outside desk.old).image.stage ≡ Stage.Unasked }
+    requires before_create { (D.outside desk.old).file.stage ≡ Stage.Unasked }
+    ensures whole { IfOk result (λ bytes. IfSome (D.outside desk.old).files (λ files. bytes.items ≡ bytes_of files name.now)) }
+    ensures within { IfOk result (λ bytes. vec_len bytes ≤ MAX_IMAGE_BYTES) }
+    ensures fault { IfErr result (λ e. IfSome (D.outside desk.old).files (λ files. IsUnread (bytes_of files name.now) e)) }
+    ensures stops { IfErr result Stops }
+    ensures name { IsIfTold (D.outside desk.new).image.name (Some name.now) }
+    ensures only { OpensOnly InSlot.Image (D.outside desk.old) (D.outside desk.new) }
+    ensures cause { HasCauseIn (result ≡ Err Ending.ReadFault) (D.outside desk.old).input_failures (D.outside desk.new).input_failures }
+{
+    match read_input(alloc, desk, InSlot::Image, name, MAX_IMAGE_BYTES) {
+        Ok(file) => Ok(file),
+        Err(ReadAll::Failed) => Err(Ending::ReadFault),
+        Err(ReadAll::TooLong) => Err(Ending::Image(ImageFault::TooLong)),
+        Err(ReadAll::Memory) => Err(Ending::Memory),
+    }
+}

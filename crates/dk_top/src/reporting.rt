@@ -1,0 +1,265 @@
+//! `plan` and `check`: reports of delays and buffer bits.
+
+ghost use Rattle.std.specs.Prelude.{◌≡◌, ◌≢◌, ◌≤◌, ◌<◌, ℕ, List, Some, None, Err, IfOk, IfErr, IfSome, OnOk, length, vec_len};
+ghost use Rattle.dk_base.specs.declared.TheConstants.{MAX_SOURCE_BYTES};
+ghost use Rattle.dk_desk.specs.Outside.{Outside};
+ghost use Rattle.dk_desk.specs.Calls.{HasCauseIn, IsIfTold, OpensOnly};
+ghost use Rattle.dk_types.specs.Typed.{Typing};
+ghost use Rattle.dk_compile.specs.Sources as of;
+ghost use Rattle.dk_plan.specs.Planned.{HasPlan, IsPlanOf, IsPlanFault};
+ghost use Rattle.dk_plan.specs.Judged.{IsCheckFault};
+ghost use Rattle.dk_top.specs.Command.{plan as plan_command, check as check_command};
+ghost use Rattle.dk_top.specs.Program.{IsAccepted};
+ghost use Rattle.dk_top.specs.Reports.{CanBePlanned, IsFaultAt, IsChecked};
+ghost use Rattle.dk_top.specs.Verdict.{bytes_of, IsVerdict, IsPlanAnswer, IsCheckAnswer};
+ghost use Rattle.dk_top.specs.State.{AsksOnly, AsksInOrder, AsksWhereAccepted, CreatesNothing, CreatesOut, FilesStay, IsHeld, IsNoted, IsReported, WritesNothing};
+ghost use Rattle.dk_top.specs.Reading.{Stops, IsSourceEnding};
+ghost use Rattle.dk_top.specs.Reporting.{HasFront, IsPlanEnding, IsReportEnding};
+
+use crate::files::{read_input, write_report};
+use crate::reading::{ending_of, read_text};
+use dk_base::MAX_SOURCE_BYTES;
+use dk_compile::{Front, front};
+use dk_desk::transfer::ReadAll;
+use dk_desk::{Desk, InSlot, Stage};
+use dk_endings::{Ending, MAX_REPORT_BYTES, ReportFault, SourceFault, holds_line};
+use dk_plan::{CheckFault, Claim, PlanFault, judge_report, plan_text};
+use dk_words::{CheckWords, PlanWords};
+use std::alloc::Global;
+
+/// How a call ends whose text has no report.
+fn plan_ending(fault: PlanFault) -> Ending
+    ensures fault { (source : List ℕ) (age : ℕ) → length source ≤ MAX_SOURCE_BYTES → IsPlanFault source age fault → IsPlanEnding age source result }
+    ensures stops { Stops result }
+    ensures judged { result ≢ Ending.ReadFault }
+{
+    match fault {
+        PlanFault::Source(fault) => ending_of(fault),
+        PlanFault::Bits { least } => Ending::Source(SourceFault::Bits { least }),
+        PlanFault::Latency { clocks } => Ending::Source(SourceFault::Latency { clocks }),
+        PlanFault::Memory => Ending::Memory,
+    }
+}
+
+/// The report of a text within its limit.
+fn planned(alloc: Global, text: &[u8], age: u8) -> Result<Vec<u8>, Ending>
+    requires within { length text.now ≤ MAX_SOURCE_BYTES }
+    requires age { age ≤ 64 }
+    ensures plan { IfOk result (λ report. IsPlanOf text.now age report.items) }
+    ensures good { OnOk result (CanBePlanned text.now age) }
+    ensures fault { IfErr result (IsPlanEnding age text.now) }
+    ensures stops { IfErr result Stops }
+    ensures judged { result ≢ Err Ending.ReadFault }
+{
+    match plan_text(alloc, text, age) {
+        Ok(report) => Ok(report),
+        Err(fault) => Err(plan_ending(fault)),
+    }
+}
+
+/// Reads and judges the program at an age, and gives its report.
+fn read_plan<D: Desk>(alloc: Global, desk: &mut D, name: &str, age: u8) -> Result<Vec<u8>, Ending>
+    requires fresh { (D.outside desk.old).program.stage ≡ Stage.Unasked }
+    requires before_create { (D.outside desk.old).file.stage ≡ Stage.Unasked }
+    requires age { age ≤ 64 }
+    ensures plan { IfOk result (λ report. IfSome (D.outside desk.old).files (λ files. IsPlanOf (bytes_of files name.now) age report.items)) }
+    ensures good { OnOk result (IfSome (D.outside desk.old).files (λ files. CanBePlanned (bytes_of files name.now) age)) }
+    ensures fault { IfErr result (λ e. IfSome (D.outside desk.old).files (λ files. IsPlanEnding age (bytes_of files name.now) e)) }
+    ensures stops { IfErr result Stops }
+    ensures name { IsIfTold (D.outside desk.new).program.name (Some name.now) }
+    ensures only { OpensOnly InSlot.Program (D.outside desk.old) (D.outside desk.new) }
+    ensures cause { HasCauseIn (result ≡ Err Ending.ReadFault) (D.outside desk.old).input_failures (D.outside desk.new).input_failures }
+{
+    let text = match read_text(alloc, desk, name) {
+        Ok(text) => text,
+        Err(ending) => return Err(ending),
+    };
+    planned(alloc, &text, age)
+}
+
+/// Writes the report of the program to Report.
+pub fn plan<D: Desk>(alloc: Global, words: &PlanWords<'_>, desk: &mut D) -> Ending
+    requires age { words.now.age ≤ 64 }
+    requires program { (D.outside desk.old).program.stage ≡ Stage.Unasked }
+    requires image { (D.outside desk.old).image.stage ≡ Stage.Unasked }
+    requires file { (D.outside desk.old).file.stage ≡ Stage.Unasked }
+    ensures taken { result ≢ Ending.Usage }
+    ensures verdict { IfSome (D.outside desk.old).files (λ files. IsVerdict (plan_command words.now.program.now words.now.age) files result) }
+    ensures asked { AsksOnly (Some (plan_command words.now.program.now words.now.age)) (D.outside desk.new) }
+    ensures order { IfSome (D.outside desk.old).files (λ files. AsksInOrder (plan_command words.now.program.now words.now.age) files (D.outside desk.new)) }
+    ensures created { CreatesNothing result → (D.outside desk.new).file.stage ≡ Stage.Unasked }
+    ensures written { result ≡ Ending.Done → CreatesOut (Some (plan_command words.now.program.now words.now.age)) (D.outside desk.new) }
+    ensures output { (D.outside desk.new).file.stage ≡ Stage.Open → IfSome (D.outside desk.old).files (λ files. IfSome (D.outside desk.new).file.bytes (IsHeld result (plan_command words.now.program.now words.now.age) files)) }
+    ensures files { FilesStay (Some (plan_command words.now.program.now words.now.age)) (D.outside desk.old).files (D.outside desk.new).files }
+    ensures files_stay { (D.outside desk.new).file.stage ≢ Stage.Open → (D.outside desk.new).files ≡ (D.outside desk.old).files }
+    ensures report_stays { WritesNothing (Some (plan_command words.now.program.now words.now.age)) result → (D.outside desk.new).report ≡ (D.outside desk.old).report }
+    ensures report { IfSome (D.outside desk.old).files (λ files. IsReported result (plan_command words.now.program.now words.now.age) files (D.outside desk.old).report (D.outside desk.new).report) }
+    ensures notes { IfSome (D.outside desk.old).files (λ files. IsNoted (plan_command words.now.program.now words.now.age) result files (D.outside desk.old).notes (D.outside desk.new).notes) }
+    ensures fault { (D.outside desk.new).fault ≡ (D.outside desk.old).fault }
+    ensures fault_count { (D.outside desk.new).fault_failures ≡ (D.outside desk.old).fault_failures }
+    ensures read_fault { HasCauseIn (result ≡ Ending.ReadFault) (D.outside desk.old).input_failures (D.outside desk.new).input_failures }
+    ensures write_fault { HasCauseIn (result ≡ Ending.WriteFault) (D.outside desk.old).output_failures (D.outside desk.new).output_failures }
+{
+    let report = match read_plan(alloc, desk, words.program, words.age) {
+        Ok(report) => report,
+        Err(ending) => return ending,
+    };
+    match write_report(desk, &report) {
+        Ok(()) => Ending::Done,
+        Err(_) => Ending::WriteFault,
+    }
+}
+
+/// The program of a text within its limit, with its live reads.
+fn accepted(alloc: Global, text: &[u8]) -> Result<Front, Ending>
+    requires { length text.now ≤ MAX_SOURCE_BYTES }
+    ensures accepted { IfOk result (λ front. (p : Typing) × of.IsAccepted text.now p front.ir front.stencils) }
+    ensures fault { IfErr result (IsSourceEnding text.now) }
+    ensures stops { IfErr result Stops }
+    ensures judged { result ≢ Err Ending.ReadFault }
+{
+    match front(alloc, text) {
+        Ok(front) => Ok(front),
+        Err(fault) => Err(ending_of(fault)),
+    }
+}
+
+/// Reads and judges the program.
+fn read_front<D: Desk>(alloc: Global, desk: &mut D, name: &str) -> Result<Front, Ending>
+    requires fresh { (D.outside desk.old).program.stage ≡ Stage.Unasked }
+    requires before_create { (D.outside desk.old).file.stage ≡ Stage.Unasked }
+    ensures accepted { IfOk result (λ front. IfSome (D.outside desk.old).files (λ files. HasFront (bytes_of files name.now) front.ir front.stencils)) }
+    ensures some { IfOk result (λ front. (source : List ℕ) × HasFront source front.ir front.stencils) }
+    ensures fault { IfErr result (λ e. IfSome (D.outside desk.old).files (λ files. IsSourceEnding (bytes_of files name.now) e)) }
+    ensures stops { IfErr result Stops }
+    ensures name { IsIfTold (D.outside desk.new).program.name (Some name.now) }
+    ensures only { OpensOnly InSlot.Program (D.outside desk.old) (D.outside desk.new) }
+    ensures cause { HasCauseIn (result ≡ Err Ending.ReadFault) (D.outside desk.old).input_failures (D.outside desk.new).input_failures }
+{
+    let text = match read_text(alloc, desk, name) {
+        Ok(text) => text,
+        Err(ending) => return Err(ending),
+    };
+    accepted(alloc, &text)
+}
+
+/// What a report within its limit says, where it holds of an accepted program.
+fn judged(alloc: Global, front: &Front, report: &[u8]) -> Result<Claim, Ending>
+    requires within { length report.now ≤ MAX_REPORT_BYTES }
+    requires accepted { (source : List ℕ) × HasFront source front.now.ir front.now.stencils }
+    ensures holds { IfOk result (λ claim. (source : List ℕ) → HasFront source front.now.ir front.now.stencils → IsChecked source report.now claim) }
+    ensures fault { IfErr result (λ e. (source : List ℕ) → HasFront source front.now.ir front.now.stencils → IsReportEnding source report.now e) }
+    ensures stops { IfErr result Stops }
+    ensures judged { result ≢ Err Ending.ReadFault }
+{
+    match judge_report(alloc, front, report) {
+        Ok(claim) => Ok(claim),
+        Err(CheckFault::Line { number }) => Err(Ending::Rejected(ReportFault::Line { number })),
+        Err(CheckFault::Memory) => Err(Ending::Memory),
+    }
+}
+
+/// The bytes of the report.
+fn report_bytes<D: Desk>(alloc: Global, desk: &mut D, name: &str) -> Result<Vec<u8>, Ending>
+    requires fresh { (D.outside desk.old).image.stage ≡ Stage.Unasked }
+    requires before_create { (D.outside desk.old).file.stage ≡ Stage.Unasked }
+    ensures whole { IfOk result (λ bytes. IfSome (D.outside desk.old).files (λ files. bytes.items ≡ bytes_of files name.now)) }
+    ensures within { IfOk result (λ bytes. vec_len bytes ≤ MAX_REPORT_BYTES) }
+    ensures fault { IfErr result (λ e. IfSome (D.outside desk.old).files (λ files. (source : List ℕ) → IsReportEnding source (bytes_of files name.now) e)) }
+    ensures stops { IfErr result Stops }
+    ensures name { IsIfTold (D.outside desk.new).image.name (Some name.now) }
+    ensures only { OpensOnly InSlot.Image (D.outside desk.old) (D.outside desk.new) }
+    ensures cause { HasCauseIn (result ≡ Err Ending.ReadFault) (D.outside desk.old).input_failures (D.outside desk.new).input_failures }
+{
+    match read_input(alloc, desk, InSlot::Image, name, MAX_REPORT_BYTES) {
+        Ok(report) => Ok(report),
+        Err(ReadAll::Failed) => Err(Ending::ReadFault),
+        Err(ReadAll::TooLong) => Err(Ending::Rejected(ReportFault::TooLong)),
+        Err(ReadAll::Memory) => Err(Ending::Memory),
+    }
+}
+
+/// Reads and judges the report, for an accepted program.
+fn read_report<D: Desk>(
+    alloc: Global,
+    desk: &mut D,
+    front: &Front,
+    name: &str,
+) -> Result<Claim, Ending>
+    requires fresh { (D.outside desk.old).image.stage ≡ Stage.Unasked }
+    requires before_create { (D.outside desk.old).file.stage ≡ Stage.Unasked }
+    requires accepted { (source : List ℕ) × HasFront source front.now.ir front.now.stencils }
+    ensures holds { IfOk result (λ claim. IfSome (D.outside desk.old).files (λ files. (source : List ℕ) → HasFront source front.now.ir front.now.stencils → IsChecked source (bytes_of files name.now) claim)) }
+    ensures fault { IfErr result (λ e. IfSome (D.outside desk.old).files (λ files. (source : List ℕ) → HasFront source front.now.ir front.now.stencils → IsReportEnding source (bytes_of files name.now) e)) }
+    ensures stops { IfErr result Stops }
+    ensures name { IsIfTold (D.outside desk.new).image.name (Some name.now) }
+    ensures only { OpensOnly InSlot.Image (D.outside desk.old) (D.outside desk.new) }
+    ensures cause { HasCauseIn (result ≡ Err Ending.ReadFault) (D.outside desk.old).input_failures (D.outside desk.new).input_failures }
+{
+    let report = match report_bytes(alloc, desk, name) {
+        Ok(report) => report,
+        Err(ending) => return Err(ending),
+    };
+    judged(alloc, front, &report)
+}
+
+/// Reads and judges the program, and then the report.
+fn read_claim<D: Desk>(
+    alloc: Global,
+    desk: &mut D,
+    program: &str,
+    report: &str,
+) -> Result<Claim, Ending>
+    requires program { (D.outside desk.old).program.stage ≡ Stage.Unasked }
+    requires image { (D.outside desk.old).image.stage ≡ Stage.Unasked }
+    requires file { (D.outside desk.old).file.stage ≡ Stage.Unasked }
+    ensures order { IfSome (D.outside desk.old).files (λ files. AsksWhereAccepted (bytes_of files program.now) (D.outside desk.new)) }
+    ensures holds { IfOk result (λ claim. IfSome (D.outside desk.old).files (λ files. IsChecked (bytes_of files program.now) (bytes_of files report.now) claim)) }
+    ensures fault { IfErr result (λ e. IfSome (D.outside desk.old).files (λ files. IsCheckAnswer (bytes_of files program.now) (bytes_of files report.now) e)) }
+    ensures stops { IfErr result Stops }
+    ensures program_name { (D.outside desk.new).program.stage ≢ Stage.Unasked → IsIfTold (D.outside desk.new).program.name (Some program.now) }
+    ensures image_name { (D.outside desk.new).image.stage ≢ Stage.Unasked → IsIfTold (D.outside desk.new).image.name (Some report.now) }
+    ensures only { D.outside desk.new ≡ record (D.outside desk.old) { program = (D.outside desk.new).program; image = (D.outside desk.new).image; input_failures = (D.outside desk.new).input_failures } }
+    ensures cause { HasCauseIn (result ≡ Err Ending.ReadFault) (D.outside desk.old).input_failures (D.outside desk.new).input_failures }
+{
+    let front = match read_front(alloc, desk, program) {
+        Ok(front) => front,
+        Err(ending) => return Err(ending),
+    };
+    match read_report(alloc, desk, &front, report) {
+        Ok(claim) => Ok(claim),
+        Err(ending) => Err(ending),
+    }
+}
+
+/// Judges a report, whoever made it, and writes to Report what it says where it holds.
+pub fn check<D: Desk>(alloc: Global, words: &CheckWords<'_>, desk: &mut D) -> Ending
+    requires program { (D.outside desk.old).program.stage ≡ Stage.Unasked }
+    requires image { (D.outside desk.old).image.stage ≡ Stage.Unasked }
+    requires file { (D.outside desk.old).file.stage ≡ Stage.Unasked }
+    ensures taken { result ≢ Ending.Usage }
+    ensures verdict { IfSome (D.outside desk.old).files (λ files. IsVerdict (check_command words.now.program.now words.now.report.now) files result) }
+    ensures asked { AsksOnly (Some (check_command words.now.program.now words.now.report.now)) (D.outside desk.new) }
+    ensures order { IfSome (D.outside desk.old).files (λ files. AsksInOrder (check_command words.now.program.now words.now.report.now) files (D.outside desk.new)) }
+    ensures created { CreatesNothing result → (D.outside desk.new).file.stage ≡ Stage.Unasked }
+    ensures written { result ≡ Ending.Done → CreatesOut (Some (check_command words.now.program.now words.now.report.now)) (D.outside desk.new) }
+    ensures output { (D.outside desk.new).file.stage ≡ Stage.Open → IfSome (D.outside desk.old).files (λ files. IfSome (D.outside desk.new).file.bytes (IsHeld result (check_command words.now.program.now words.now.report.now) files)) }
+    ensures files { FilesStay (Some (check_command words.now.program.now words.now.report.now)) (D.outside desk.old).files (D.outside desk.new).files }
+    ensures files_stay { (D.outside desk.new).file.stage ≢ Stage.Open → (D.outside desk.new).files ≡ (D.outside desk.old).files }
+    ensures report_stays { WritesNothing (Some (check_command words.now.program.now words.now.report.now)) result → (D.outside desk.new).report ≡ (D.outside desk.old).report }
+    ensures report { IfSome (D.outside desk.old).files (λ files. IsReported result (check_command words.now.program.now words.now.report.now) files (D.outside desk.old).report (D.outside desk.new).report) }
+    ensures notes { IfSome (D.outside desk.old).files (λ files. IsNoted (check_command words.now.program.now words.now.report.now) result files (D.outside desk.old).notes (D.outside desk.new).notes) }
+    ensures fault { (D.outside desk.new).fault ≡ (D.outside desk.old).fault }
+    ensures fault_count { (D.outside desk.new).fault_failures ≡ (D.outside desk.old).fault_failures }
+    ensures read_fault { HasCauseIn (result ≡ Ending.ReadFault) (D.outside desk.old).input_failures (D.outside desk.new).input_failures }
+    ensures write_fault { HasCauseIn (result ≡ Ending.WriteFault) (D.outside desk.old).output_failures (D.outside desk.new).output_failures }
+{
+    let claim = match read_claim(alloc, desk, words.program, words.report) {
+        Ok(claim) => claim,
+        Err(ending) => return ending,
+    };
+    match write_report(desk, holds_line(claim.bits, claim.latency).as_bytes()) {
+        Ok(()) => Ending::Done,
+        Err(_) => Ending::WriteFault,
+    }
+}

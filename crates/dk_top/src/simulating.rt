@@ -1,0 +1,298 @@
+//! `sim`: any Verilog text of the subset is clocked on the images of a file.
+
+ghost use Rattle.std.specs.Prelude.{◌≡◌, ◌≢◌, ◌≤◌, ◌<◌, ◌++◌, ℕ, Bool, List, Option, Some, None, Err, true, IsSome, IfOk, IfErr, IfSome, IfNone, OnOk, length, vec_len};
+ghost use Rattle.std.specs.Option.{option_map};
+ghost use Rattle.dk_base.specs.Frames.{IsFrame};
+ghost use Rattle.dk_base.specs.FrameSizes.{size_of};
+ghost use Rattle.dk_desk.specs.Outside.{Outside};
+ghost use Rattle.dk_desk.specs.Calls.{HasCauseIn, IsIfTold, OpensOnly};
+ghost use Rattle.verilog_text.specs.Stands.{StandsFor};
+ghost use Rattle.verilog_text.specs.Faults.{IsFault};
+ghost use Rattle.test_bench.specs.Showing.{IsNoted as AreNotes};
+ghost use Rattle.cycle_sim.specs.Ports.{din_widths};
+ghost use Rattle.test_bench.specs.Given.{AreBenchFrames, rounds_of};
+ghost use Rattle.dk_words.specs.declared.command.PowerUp.{PowerUp as OnePower};
+ghost use Rattle.dk_top.specs.Command.{sim as sim_command};
+ghost use Rattle.dk_top.specs.Simulation.{drive_of, fill_of as fill_named, IsModuleOf, LacksEnable, IsSimulated};
+ghost use Rattle.dk_top.specs.Verdict.{bytes_of, IsVerdict, IsSimAnswer};
+ghost use Rattle.dk_top.specs.State.{AsksOnly, AsksInOrder, AsksWhereModule, CreatesNothing, CreatesOut, FilesStay, IsHeld, IsNoted, NotesSim};
+ghost use Rattle.dk_top.specs.Simulating.{IsModuleEnding, IsFileEnding, IsInput, IsSimInput};
+ghost use Rattle.dk_top.specs.Reading.{Stops};
+
+use crate::files::{read_file, read_input, write_file};
+use cycle_sim::Fill;
+use dk_base::Span;
+use dk_desk::transfer::ReadAll;
+use dk_desk::{Desk, InSlot, Stage};
+use dk_endings::{
+    Ending, ImageFault, MAX_IMAGE_BYTES, MAX_VERILOG_BYTES, VerilogFault, VerilogKind,
+};
+use dk_words::{PowerUp, SimWords};
+use netlist::Module;
+use pgm_rounds::FileError;
+use std::alloc::Global;
+use test_bench::{BenchFault, BenchInput, Drive, dins_of, run_bench};
+use verilog_read::name_span;
+use verilog_text::TextFault;
+
+/// How a call ends whose text stands for no module.
+fn ending_of(fault: TextFault) -> Ending
+    ensures fault { (hold : Option ℕ) (text : List ℕ) → length text ≤ MAX_VERILOG_BYTES → IsFault text fault → IsModuleEnding hold text result }
+    ensures stops { Stops result }
+    ensures judged { result ≢ Ending.ReadFault }
+{
+    match VerilogFault::of(fault) {
+        Some(fault) => Ending::Verilog(fault),
+        None => Ending::Memory,
+    }
+}
+
+/// The name of a module that is to hold clocks and has no port `en`.
+fn lacking_enable(module: &Module, hold: Option<u32>, text: &[u8]) -> Option<Span>
+    requires { StandsFor text.now «module».now }
+    ensures lacks { IfSome result (LacksEnable hold text.now) }
+    ensures has { IfNone result (IsSome hold → «module».now.netlist.enable ≡ true) }
+{
+    match hold {
+        None => None,
+        Some(_) => {
+            if module.wiring().enable {
+                None
+            } else {
+                Some(name_span(text))
+            }
+        }
+    }
+}
+
+/// The module of a text within its limit, which has the port `en` where clocks are to be held.
+fn module_of(alloc: Global, text: &[u8], hold: Option<u32>) -> Result<Module, Ending>
+    requires { length text.now ≤ MAX_VERILOG_BYTES }
+    ensures made { IfOk result (IsModuleOf hold text.now) }
+    ensures fault { IfErr result (IsModuleEnding hold text.now) }
+    ensures stops { IfErr result Stops }
+    ensures judged { result ≢ Err Ending.ReadFault }
+{
+    let module = match verilog_read::read(alloc, text) {
+        Ok(module) => module,
+        Err(fault) => return Err(ending_of(fault)),
+    };
+    match lacking_enable(&module, hold, text) {
+        None => Ok(module),
+        Some(span) => Err(Ending::Verilog(VerilogFault::At {
+            span,
+            kind: VerilogKind::Ports,
+        })),
+    }
+}
+
+/// The bytes of the Verilog text.
+fn read_text<D: Desk>(alloc: Global, desk: &mut D, name: &str) -> Result<Vec<u8>, Ending>
+    requires fresh { (D.outside desk.old).program.stage ≡ Stage.Unasked }
+    requires before_create { (D.outside desk.old).file.stage ≡ Stage.Unasked }
+    ensures whole { IfOk result (λ bytes. IfSome (D.outside desk.old).files (λ files. bytes.items ≡ bytes_of files name.now)) }
+    ensures within { IfOk result (λ bytes. vec_len bytes ≤ MAX_VERILOG_BYTES) }
+    ensures fault { IfErr result (λ e. IfSome (D.outside desk.old).files (λ files. (hold : Option ℕ) → IsModuleEnding hold (bytes_of files name.now) e)) }
+    ensures stops { IfErr result Stops }
+    ensures name { IsIfTold (D.outside desk.new).program.name (Some name.now) }
+    ensures only { OpensOnly InSlot.Program (D.outside desk.old) (D.outside desk.new) }
+    ensures cause { HasCauseIn (result ≡ Err Ending.ReadFault) (D.outside desk.old).input_failures (D.outside desk.new).input_failures }
+{
+    match read_input(alloc, desk, InSlot::Program, name, MAX_VERILOG_BYTES) {
+        Ok(text) => Ok(text),
+        Err(ReadAll::Failed) => Err(Ending::ReadFault),
+        Err(ReadAll::TooLong) => Err(Ending::Verilog(VerilogFault::TooLong)),
+        Err(ReadAll::Memory) => Err(Ending::Memory),
+    }
+}
+
+/// Reads and judges the Verilog text.
+fn read_module<D: Desk>(
+    alloc: Global,
+    desk: &mut D,
+    name: &str,
+    hold: Option<u32>,
+) -> Result<Module, Ending>
+    requires fresh { (D.outside desk.old).program.stage ≡ Stage.Unasked }
+    requires before_create { (D.outside desk.old).file.stage ≡ Stage.Unasked }
+    ensures made { IfOk result (λ m. IfSome (D.outside desk.old).files (λ files. IsModuleOf hold (bytes_of files name.now) m)) }
+    ensures fault { IfErr result (λ e. IfSome (D.outside desk.old).files (λ files. IsModuleEnding hold (bytes_of files name.now) e)) }
+    ensures stops { IfErr result Stops }
+    ensures name { IsIfTold (D.outside desk.new).program.name (Some name.now) }
+    ensures only { OpensOnly InSlot.Program (D.outside desk.old) (D.outside desk.new) }
+    ensures cause { HasCauseIn (result ≡ Err Ending.ReadFault) (D.outside desk.old).input_failures (D.outside desk.new).input_failures }
+{
+    let text = match read_text(alloc, desk, name) {
+        Ok(text) => text,
+        Err(ending) => return Err(ending),
+    };
+    module_of(alloc, &text, hold)
+}
+
+/// The rounds of a file within its limit, for a module.
+fn rounds_for(alloc: Global, module: &Module, file: &[u8]) -> Result<BenchInput, Ending>
+    requires { length file.now ≤ MAX_IMAGE_BYTES }
+    ensures input { IfOk result (λ input. IsInput «module».now file.now (size_of input.size) input.rounds.items) }
+    ensures frame { IfOk result (λ input. IsFrame input.size.width input.size.height) }
+    ensures frames { IfOk result (λ input. AreBenchFrames (din_widths «module».now.netlist) (size_of input.size) input.rounds.items) }
+    ensures fault { IfErr result (IsFileEnding «module».now file.now) }
+    ensures stops { IfErr result Stops }
+    ensures judged { result ≢ Err Ending.ReadFault }
+{
+    match test_bench::read_input(alloc, dins_of(module), file) {
+        Ok(input) => Ok(input),
+        Err(FileError::Fault(fault)) => Err(Ending::Image(ImageFault::File(fault))),
+        Err(FileError::Memory) => Err(Ending::Memory),
+    }
+}
+
+/// Reads and judges the file of images, for a module.
+fn read_images<D: Desk>(
+    alloc: Global,
+    desk: &mut D,
+    module: &Module,
+    name: &str,
+) -> Result<BenchInput, Ending>
+    requires fresh { (D.outside desk.old).image.stage ≡ Stage.Unasked }
+    requires before_create { (D.outside desk.old).file.stage ≡ Stage.Unasked }
+    ensures input { IfOk result (λ input. IfSome (D.outside desk.old).files (λ files. IsInput «module».now (bytes_of files name.now) (size_of input.size) input.rounds.items)) }
+    ensures frame { IfOk result (λ input. IsFrame input.size.width input.size.height) }
+    ensures frames { IfOk result (λ input. AreBenchFrames (din_widths «module».now.netlist) (size_of input.size) input.rounds.items) }
+    ensures fault { IfErr result (λ e. IfSome (D.outside desk.old).files (λ files. IsFileEnding «module».now (bytes_of files name.now) e)) }
+    ensures stops { IfErr result Stops }
+    ensures name { IsIfTold (D.outside desk.new).image.name (Some name.now) }
+    ensures only { OpensOnly InSlot.Image (D.outside desk.old) (D.outside desk.new) }
+    ensures cause { HasCauseIn (result ≡ Err Ending.ReadFault) (D.outside desk.old).input_failures (D.outside desk.new).input_failures }
+{
+    let file = match read_file(alloc, desk, name) {
+        Ok(file) => file,
+        Err(ending) => return Err(ending),
+    };
+    rounds_for(alloc, module, &file)
+}
+
+/// What `sim` works on: a module, and the images that it is driven with.
+#[derive(Drop)]
+struct SimInput {
+    module: Module,
+    input: BenchInput,
+}
+
+/// Reads and judges the Verilog text, and then the file of images.
+fn read_all<D: Desk>(
+    alloc: Global,
+    desk: &mut D,
+    verilog: &str,
+    image: &str,
+    hold: Option<u32>,
+) -> Result<SimInput, Ending>
+    requires program { (D.outside desk.old).program.stage ≡ Stage.Unasked }
+    requires image { (D.outside desk.old).image.stage ≡ Stage.Unasked }
+    requires file { (D.outside desk.old).file.stage ≡ Stage.Unasked }
+    ensures order { IfSome (D.outside desk.old).files (λ files. AsksWhereModule hold (bytes_of files verilog.now) (D.outside desk.new)) }
+    ensures input { IfOk result (λ given. IfSome (D.outside desk.old).files (λ files. IsSimInput hold (bytes_of files verilog.now) (bytes_of files image.now) given.«module» (size_of given.input.size) given.input.rounds.items)) }
+    ensures frame { IfOk result (λ given. IsFrame given.input.size.width given.input.size.height) }
+    ensures frames { IfOk result (λ given. AreBenchFrames (din_widths given.«module».netlist) (size_of given.input.size) given.input.rounds.items) }
+    ensures fault { IfErr result (λ e. IfSome (D.outside desk.old).files (λ files. (clocks : ℕ) (power : OnePower) → IsSimAnswer (drive_of clocks power hold) (bytes_of files verilog.now) (bytes_of files image.now) e)) }
+    ensures stops { IfErr result Stops }
+    ensures program_name { (D.outside desk.new).program.stage ≢ Stage.Unasked → IsIfTold (D.outside desk.new).program.name (Some verilog.now) }
+    ensures image_name { (D.outside desk.new).image.stage ≢ Stage.Unasked → IsIfTold (D.outside desk.new).image.name (Some image.now) }
+    ensures only { D.outside desk.new ≡ record (D.outside desk.old) { program = (D.outside desk.new).program; image = (D.outside desk.new).image; input_failures = (D.outside desk.new).input_failures } }
+    ensures cause { HasCauseIn (result ≡ Err Ending.ReadFault) (D.outside desk.old).input_failures (D.outside desk.new).input_failures }
+{
+    let module = match read_module(alloc, desk, verilog, hold) {
+        Ok(module) => module,
+        Err(ending) => return Err(ending),
+    };
+    match read_images(alloc, desk, &module, image) {
+        Ok(input) => Ok(SimInput { module, input }),
+        Err(ending) => Err(ending),
+    }
+}
+
+/// What registers and arrays hold at power-up, by the command's word.
+fn fill_of(power: PowerUp) -> Fill
+    ensures { result ≡ fill_named power }
+{
+    match power {
+        PowerUp::Zeros => Fill::Zeros,
+        PowerUp::Ones => Fill::Ones,
+    }
+}
+
+/// The file of the pictures that the module shows.
+fn pictures<D: Desk>(
+    alloc: Global,
+    desk: &mut D,
+    given: &SimInput,
+    drive: Drive,
+) -> Result<Vec<u8>, Ending>
+    requires hold { IfSome drive.hold (λ count. 0 < count) }
+    requires frame { IsFrame given.now.input.size.width given.now.input.size.height }
+    requires frames { AreBenchFrames (din_widths given.now.«module».netlist) (size_of given.now.input.size) given.now.input.rounds.items }
+    ensures only { D.outside desk.new ≡ record (D.outside desk.old) { notes = (D.outside desk.new).notes } }
+    ensures file { IfOk result (λ file. (text images : List ℕ) → IsSimInput drive.hold text images given.now.«module» (size_of given.now.input.size) given.now.input.rounds.items → IsSimulated drive text images file.items) }
+    ensures only_file { IfOk result (λ file. (text images : List ℕ) → IsSimInput drive.hold text images given.now.«module» (size_of given.now.input.size) given.now.input.rounds.items → (pictures : List ℕ) → IsSimulated drive text images pictures → pictures ≡ file.items) }
+    ensures notes { OnOk result ((text images : List ℕ) → IsSimInput drive.hold text images given.now.«module» (size_of given.now.input.size) given.now.input.rounds.items → NotesSim drive text images (D.outside desk.old).notes (D.outside desk.new).notes) }
+    ensures fault { IfErr result (λ e. (text images : List ℕ) → IsSimInput drive.hold text images given.now.«module» (size_of given.now.input.size) given.now.input.rounds.items → IsSimAnswer drive text images e) }
+    ensures stops { IfErr result Stops }
+    ensures judged { result ≢ Err Ending.ReadFault }
+{
+    verilog_text::one_module();
+    test_bench::one_input();
+    test_bench::one_bench();
+    given.module.law();
+    match run_bench(
+        alloc,
+        desk,
+        &given.module,
+        drive,
+        given.input.size,
+        &given.input.rounds,
+    ) {
+        Ok(file) => Ok(file),
+        Err(BenchFault::Stopped(stop)) => Err(Ending::Stopped(stop)),
+        Err(BenchFault::Memory) => Err(Ending::Memory),
+    }
+}
+
+/// Clocks the module of a Verilog text on the images of a file, and writes the pictures that it shows.
+pub fn sim<D: Desk>(alloc: Global, words: &SimWords<'_>, desk: &mut D) -> Ending
+    requires hold { IfSome words.now.hold (λ count. 0 < count) }
+    requires program { (D.outside desk.old).program.stage ≡ Stage.Unasked }
+    requires image { (D.outside desk.old).image.stage ≡ Stage.Unasked }
+    requires file { (D.outside desk.old).file.stage ≡ Stage.Unasked }
+    ensures taken { result ≢ Ending.Usage }
+    ensures verdict { IfSome (D.outside desk.old).files (λ files. IsVerdict (sim_command words.now.verilog.now words.now.clocks words.now.image.now words.now.out.now words.now.fill words.now.hold) files result) }
+    ensures asked { AsksOnly (Some (sim_command words.now.verilog.now words.now.clocks words.now.image.now words.now.out.now words.now.fill words.now.hold)) (D.outside desk.new) }
+    ensures order { IfSome (D.outside desk.old).files (λ files. AsksInOrder (sim_command words.now.verilog.now words.now.clocks words.now.image.now words.now.out.now words.now.fill words.now.hold) files (D.outside desk.new)) }
+    ensures created { CreatesNothing result → (D.outside desk.new).file.stage ≡ Stage.Unasked }
+    ensures written { result ≡ Ending.Done → CreatesOut (Some (sim_command words.now.verilog.now words.now.clocks words.now.image.now words.now.out.now words.now.fill words.now.hold)) (D.outside desk.new) }
+    ensures output { (D.outside desk.new).file.stage ≡ Stage.Open → IfSome (D.outside desk.old).files (λ files. IfSome (D.outside desk.new).file.bytes (IsHeld result (sim_command words.now.verilog.now words.now.clocks words.now.image.now words.now.out.now words.now.fill words.now.hold) files)) }
+    ensures files { FilesStay (Some (sim_command words.now.verilog.now words.now.clocks words.now.image.now words.now.out.now words.now.fill words.now.hold)) (D.outside desk.old).files (D.outside desk.new).files }
+    ensures files_stay { (D.outside desk.new).file.stage ≢ Stage.Open → (D.outside desk.new).files ≡ (D.outside desk.old).files }
+    ensures report { (D.outside desk.new).report ≡ (D.outside desk.old).report }
+    ensures notes { IfSome (D.outside desk.old).files (λ files. IsNoted (sim_command words.now.verilog.now words.now.clocks words.now.image.now words.now.out.now words.now.fill words.now.hold) result files (D.outside desk.old).notes (D.outside desk.new).notes) }
+    ensures fault { (D.outside desk.new).fault ≡ (D.outside desk.old).fault }
+    ensures fault_count { (D.outside desk.new).fault_failures ≡ (D.outside desk.old).fault_failures }
+    ensures read_fault { HasCauseIn (result ≡ Ending.ReadFault) (D.outside desk.old).input_failures (D.outside desk.new).input_failures }
+    ensures write_fault { HasCauseIn (result ≡ Ending.WriteFault) (D.outside desk.old).output_failures (D.outside desk.new).output_failures }
+{
+    let given = match read_all(alloc, desk, words.verilog, words.image, words.hold) {
+        Ok(given) => given,
+        Err(ending) => return ending,
+    };
+    let drive = Drive {
+        clocks: words.clocks,
+        fill: fill_of(words.fill),
+        hold: words.hold,
+    };
+    let output = match pictures(alloc, desk, &given, drive) {
+        Ok(output) => output,
+        Err(ending) => return ending,
+    };
+    match write_file(desk, words.out, &output) {
+        Ok(()) => Ending::Done,
+        Err(_) => Ending::WriteFault,
+    }
+}

@@ -1,0 +1,110 @@
+-- The numbers of a command that words name are in their ranges.
+use Rattle.std.proofs.Common.{◌≡◌, ℕ, ◌≤◌, ◌&&◌, refl, Bool, true, false, cond, List, Option, None, Some, IfSome, Result, Ok, Err, IfOk, option_and_then, option_map, subst, arith, nat_le, codes}
+use Rattle.std.proofs.lemmas.Bool.Decides.{nat_tests}
+use Rattle.std.specs.Str.{bytes_eq}
+use Rattle.clap.specs.Walk.{Row, Text, first_of}
+use Rattle.clap.specs.Simple.{subcommand_of}
+use Rattle.clap.specs.Takes.{takes}
+use Rattle.dk_words.specs.Words.{program}
+use Rattle.dk_words.specs.Numbers.{number_of, number_within, within}
+use Rattle.dk_words.specs.Command.{Command, IsInRange, age_number, age_of, check_of_rows, check_on, clocks_of, command_asked, command_from, command_of, command_of_rows, command_on, eval, fill_of, hold_number, hold_of, plan_of_rows, plan_on, run, sim_of_rows, sim_on}
+use Rattle.dk_words.specs.declared.NoCommand.{NoCommand}
+use Rattle.dk_words.specs.declared.command.Asked.{Asked}
+use Rattle.dk_words.specs.declared.command.PowerUp.{PowerUp}
+
+-- ---- numbers
+
+-- a number that is read within a range is in it
+number_in : (low high : ℕ) (word : Text) → IfSome (number_within low high word) (λ n. (low ≤ n) × (n ≤ high))
+number_in low high word = read (number_of word)
+  where
+    tested : (n : ℕ) (b : Bool) → (nat_le low n && nat_le n high) ≡ b → IfSome (cond b (Some n) None) (λ m. (low ≤ m) × (m ≤ high))
+    tested n true e = (grind (arith, nat_tests), grind (arith, nat_tests))
+    tested n false e = tt
+
+    read : (o : Option ℕ) → IfSome (option_and_then (within low high) o) (λ n. (low ≤ n) × (n ≤ high))
+    read None = tt
+    read (Some n) = tested n (nat_le low n && nat_le n high) refl
+
+-- CLOCKS
+clocks_in : (o : Option Text) → IfSome (option_and_then clocks_of o) (λ n. n ≤ 100000000)
+clocks_in None = tt
+clocks_in (Some word) = read (clocks_of word) (number_in 0 100000000 word)
+  where
+    read : (n : Option ℕ) → IfSome n (λ m. (0 ≤ m) × (m ≤ 100000000)) → IfSome n (λ m. m ≤ 100000000)
+    read None e = tt
+    read (Some n) e = e.1
+
+-- `--hold`
+hold_in : (o : Option Text) → IfSome (hold_of o) (λ h. IfSome h (λ k. (1 ≤ k) × (k ≤ 1000000)))
+hold_in None = tt
+hold_in (Some word) = read (hold_number word) (number_in 1 1000000 word)
+  where
+    read : (n : Option ℕ) → IfSome n (λ k. (1 ≤ k) × (k ≤ 1000000)) → IfSome (option_map (λ k. Some k) n) (λ h. IfSome h (λ k. (1 ≤ k) × (k ≤ 1000000)))
+    read None e = tt
+    read (Some n) e = e
+
+-- `--age`
+age_in : (o : Option Text) → IfSome (age_of o) (λ a. a ≤ 64)
+age_in None = omega arith
+age_in (Some word) = read (age_number word) (number_in 0 64 word)
+  where
+    read : (n : Option ℕ) → IfSome n (λ m. (0 ≤ m) × (m ≤ 64)) → IfSome n (λ m. m ≤ 64)
+    read None e = tt
+    read (Some n) e = e.1
+
+-- ---- commands
+
+-- a command of three files, whose kind has no numbers
+files_in : (command : Text → Text → Text → Command) (p i o : Option Text) → ((a b c : Text) → IsInRange (command a b c)) → IfSome (command_on command p i o) IsInRange
+files_in command None i o all = tt
+files_in command (Some p) None o all = tt
+files_in command (Some p) (Some i) None all = tt
+files_in command (Some p) (Some i) (Some o) all = all p i o
+
+sim_in : (v : Option Text) (n : Option ℕ) (i o : Option Text) (f : Option PowerUp) (h : Option (Option ℕ)) → IfSome n (λ m. m ≤ 100000000) → IfSome h (λ x. IfSome x (λ k. (1 ≤ k) × (k ≤ 1000000))) → IfSome (sim_on v n i o f h) IsInRange
+sim_in None n i o f h few held = tt
+sim_in (Some v) None i o f h few held = tt
+sim_in (Some v) (Some n) None o f h few held = tt
+sim_in (Some v) (Some n) (Some i) None f h few held = tt
+sim_in (Some v) (Some n) (Some i) (Some o) None h few held = tt
+sim_in (Some v) (Some n) (Some i) (Some o) (Some f) None few held = tt
+sim_in (Some v) (Some n) (Some i) (Some o) (Some f) (Some h) few held = (few, held)
+
+plan_in : (p : Option Text) (a : Option ℕ) → IfSome a (λ m. m ≤ 64) → IfSome (plan_on p a) IsInRange
+plan_in None a low = tt
+plan_in (Some p) None low = tt
+plan_in (Some p) (Some a) low = low
+
+check_in : (p r : Option Text) → IfSome (check_on p r) IsInRange
+check_in None r = tt
+check_in (Some p) None = tt
+check_in (Some p) (Some r) = tt
+
+-- one of two commands
+one_in : (b : Bool) (x y : Option Command) → IfSome x IsInRange → IfSome y IsInRange → IfSome (cond b x y) IsInRange
+one_in true x y first second = first
+one_in false x y first second = second
+
+-- the command of a subcommand
+from_in : (found : Option (Text × List Row)) → IfSome (command_from found) IsInRange
+from_in None = tt
+from_in (Some p) =
+    one_in (bytes_eq p.0 (codes "run")) (command_of_rows run p.1) _ (files_in run (first_of (codes "PROG") p.1) (first_of (codes "IN") p.1) (first_of (codes "OUT") p.1) (λ a b c. tt))
+    (one_in (bytes_eq p.0 (codes "eval")) (command_of_rows eval p.1) _ (files_in eval (first_of (codes "PROG") p.1) (first_of (codes "IN") p.1) (first_of (codes "OUT") p.1) (λ a b c. tt))
+    (one_in (bytes_eq p.0 (codes "sim")) (sim_of_rows p.1) _
+    (sim_in (first_of (codes "VERILOG") p.1) (option_and_then clocks_of (first_of (codes "CLOCKS") p.1)) (first_of (codes "IN") p.1) (first_of (codes "OUT") p.1) (fill_of (first_of (codes "fill") p.1)) (hold_of (first_of (codes "hold") p.1))
+    (clocks_in (first_of (codes "CLOCKS") p.1)) (hold_in (first_of (codes "hold") p.1)))
+    (one_in (bytes_eq p.0 (codes "plan")) (plan_of_rows p.1) _ (plan_in (first_of (codes "PROG") p.1) (age_of (first_of (codes "age") p.1)) (age_in (first_of (codes "age") p.1)))
+    (one_in (bytes_eq p.0 (codes "check")) (check_of_rows p.1) None (check_in (first_of (codes "PROG") p.1) (first_of (codes "REPORT") p.1)) tt))))
+
+-- the command that words name
+pub named_in : (ws : List Text) (command : Command) → command_of ws ≡ Some command → IsInRange command
+named_in ws command is =
+    let P : Option Command → Type 0 = λ o. IfSome o IsInRange in
+    subst P is (one_in (takes program ws) (command_from (subcommand_of program ws)) None (from_in (subcommand_of program ws)) tt)
+
+-- and the command that is read
+pub read_in : (ws : List Text) (r : Result Asked NoCommand) → IfOk r (λ asked. command_of ws ≡ Some (command_asked asked)) → IfOk r (λ asked. IsInRange (command_asked asked))
+read_in ws (Ok asked) is = named_in ws (command_asked asked) is
+read_in ws (Err e) is = tt

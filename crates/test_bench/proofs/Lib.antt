@@ -1,0 +1,12 @@
+pub mod Runs
+pub mod Inputs
+pub mod Clocks
+pub mod Streams
+pub mod Stimuli
+pub mod Pictures
+pub mod Ranges
+pub mod Written
+pub mod Benches
+pub mod Stimulated
+pub mod Takings
+pub mod Ends

@@ -1,0 +1,7 @@
+pub mod Stimulus
+pub mod Given
+pub mod Showing
+pub mod Stops
+pub mod Inputs
+pub mod Clocking
+pub mod Writing

@@ -1,0 +1,162 @@
+// The run of a module on a test bench.
+
+ghost use Rattle.std.specs.Prelude.{◌≡◌, ℕ, ◌+◌, ◌*◌, ◌<◌, ◌≤◌, ◌++◌, [], List, length, Bool, IfOk, IfErr, OnOk, IfSome, All, Some, slice_get, vec_capacity};
+ghost use Rattle.std.specs.Option.{option_map};
+ghost use Rattle.dk_base.specs.Frames.{IsFrame, area as area_of};
+ghost use Rattle.dk_base.specs.FrameSizes.{size_of};
+ghost use Rattle.dk_desk.specs.Outside.{Outside};
+ghost use Rattle.dk_desk.specs.Calls.{IsIfTold};
+ghost use Rattle.std.specs.List.{flat_map, range_with_len};
+ghost use Rattle.pgm_codec.specs.Images.{file_of};
+ghost use Rattle.wiring.specs.Netlist.{netlist_of};
+ghost use Rattle.wiring.specs.Rules.{KeepsRules, IsPortCount, IsPortWidth};
+ghost use Rattle.cycle_sim.specs.Filled.{filled_contents};
+ghost use Rattle.cycle_sim.specs.Ports.{din_widths};
+ghost use Rattle.test_bench.specs.Stimulus.{greatest_dins};
+ghost use Rattle.test_bench.specs.Given.{rounds_of, AreBenchFrames};
+ghost use Rattle.test_bench.specs.Showing.{asked as asked_of, IsShown, IsNoted};
+ghost use Rattle.test_bench.specs.Stops.{IsBenchEnd};
+ghost use Rattle.test_bench.specs.Clocking.{IsBench, AreKept};
+ghost use Rattle.test_bench.specs.Writing.{AreFilled, HasEnough, IsShort, round_kept};
+
+use crate::clocking::{Bench, Feed, all_clocks};
+use crate::drive::Drive;
+use crate::picture::Shown;
+use crate::pixels::{greatest_of, zeros};
+use crate::stop::{BenchFault, Stop};
+use crate::writing::{area, first_short, write_rounds};
+use cycle_sim::{Fill, Out, Sim};
+use dk_base::{FrameSize, Memory};
+use dk_desk::Desk;
+use netlist::{Module, Width, Wiring};
+use pgm_rounds::Round;
+use std::alloc::Global;
+
+/// The widths behind those of the other inputs.
+fn dins_in(wiring: &Wiring) -> &[Width]
+    requires { KeepsRules (netlist_of wiring.now) }
+    ensures { result.now ≡ din_widths (netlist_of wiring.now) }
+{
+    let first = if wiring.enable { 2 } else { 1 };
+    wiring.inputs.split_at(first).1
+}
+
+/// The widths of a module's dins in bits, the first din first: what `read_input` asks for.
+pub fn dins_of(module: &Module) -> &[Width]
+    ensures widths { result.now ≡ din_widths «module».now.netlist }
+    ensures count { IsPortCount (length result.now) }
+    ensures ports { All IsPortWidth result.now }
+{
+    let wiring = module.wiring();
+    dins_in(wiring)
+}
+
+/// So many outputs that show nothing.
+fn no_outs(alloc: Global, count: usize) -> Result<Vec<Out>, Memory>
+    ensures { IfOk result (λ outs. length outs.items ≡ count) }
+{
+    let out = Out {
+        valid: false,
+        dout: 0,
+    };
+    let outs = vec![in alloc; out; count]?;
+    Ok(outs)
+}
+
+/// So many pictures without samples, with room for `most` samples each.
+fn no_pictures(alloc: Global, count: usize, most: usize) -> Result<Vec<Shown>, Memory>
+    ensures count { IfOk result (λ pictures. length pictures.items ≡ count) }
+    ensures kept { IfOk result (λ pictures. AreKept most [] pictures.items) }
+    ensures room { IfOk result (λ pictures. All (λ shown. most ≤ vec_capacity shown.samples) pictures.items) }
+{
+    let mut pictures = Vec::with_capacity(alloc, count)?;
+    for _ in 0..count {
+        let shown = Shown::new(alloc, most)?;
+        pictures.push(shown)?;
+    }
+    Ok(pictures)
+}
+
+/// A bench with this module, before the first clock.
+fn set_up(alloc: Global, module: &Module, fill: Fill, most: usize) -> Result<Bench, Memory>
+    ensures bench { IfOk result IsBench }
+    ensures netlist { IfOk result (λ bench. bench.sim.netlist ≡ «module».now.netlist) }
+    ensures contents { IfOk result (λ bench. bench.sim.contents ≡ filled_contents fill «module».now.netlist) }
+    ensures most { IfOk result (λ bench. bench.most ≡ most) }
+    ensures made { IfOk result (λ bench. bench.made ≡ 0) }
+    ensures kept { IfOk result (λ bench. AreKept most [] bench.pictures.items) }
+{
+    let _wiring = module.wiring();
+    let _order = module.order();
+    let sim = Sim::new(alloc, module, fill)?;
+    let count = sim.outputs();
+    let outs = no_outs(alloc, count)?;
+    let pictures = no_pictures(alloc, count, most)?;
+    Ok(Bench {
+        sim,
+        outs,
+        pictures,
+        most,
+        made: 0,
+    })
+}
+
+/// The file of the pictures, or the first output that has not shown what is asked.
+fn finish(
+    alloc: Global,
+    ports: &[Width],
+    size: FrameSize,
+    rounds: usize,
+    pictures: &[Shown],
+) -> Result<Vec<u8>, BenchFault>
+    requires frame { IsFrame size.width size.height }
+    requires rounds { rounds ≤ 65536 }
+    requires filled { AreFilled (size_of size) ports.now rounds pictures.now }
+    ensures file { IfOk result (λ file. ((k : ℕ) → HasEnough pictures.now (rounds * area_of (size_of size)) k) × (file.items ≡ file_of (flat_map (round_kept (size_of size) ports.now pictures.now) (range_with_len 0 rounds)))) }
+    ensures short { IfErr result (IsShort pictures.now (rounds * area_of (size_of size))) }
+{
+    let wanted = (rounds * area(size)) as u64;
+    match first_short(pictures, wanted) {
+        Some(shown) => Err(BenchFault::Stopped(Stop::Count { shown, wanted })),
+        None => {
+            let file = write_rounds(alloc, size, ports, pictures, rounds)?;
+            Ok(file)
+        }
+    }
+}
+
+/// Runs a module on the images of a file, and gives the file of the pictures that it shows: for each round one image for each output in order, of the size of the file's images, with the greatest value of the output's dout as maxval. Each clock is told to the desk, one pair of valid and dout for each output in order. It answers Stopped where an index is past its array, or where an output has not shown what is asked.
+pub fn run_bench<D: Desk>(
+    alloc: Global,
+    desk: &mut D,
+    module: &Module,
+    drive: Drive,
+    size: FrameSize,
+    rounds: &[Round],
+) -> Result<Vec<u8>, BenchFault>
+    requires hold { IfSome drive.hold (λ count. 0 < count) }
+    requires frame { IsFrame size.width size.height }
+    requires frames { AreBenchFrames (din_widths «module».now.netlist) (size_of size) rounds.now }
+    ensures only { D.outside desk.new ≡ record (D.outside desk.old) { notes = (D.outside desk.new).notes } }
+    ensures file { IfOk result (λ file. IsShown «module».now.netlist drive (size_of size) (rounds_of rounds.now) file.items) }
+    ensures notes { OnOk result ((notes : List (Bool × ℕ)) × IsNoted «module».now.netlist drive (rounds_of rounds.now) notes × IsIfTold (D.outside desk.new).notes (option_map (λ before. before ++ notes) (D.outside desk.old).notes)) }
+    ensures stop { IfErr result (λ f. IsBenchEnd «module».now.netlist drive (size_of size) (rounds_of rounds.now) f) }
+{
+    let wiring = module.wiring();
+    let widths = dins_of(module);
+    let pixels = area(size);
+    let mut bench = set_up(alloc, module, drive.fill, rounds.len() * pixels)?;
+    let mut dins = zeros(alloc, widths.len())?;
+    let held = greatest_of(alloc, widths)?;
+    let feed = Feed {
+        area: pixels,
+        hold: drive.hold,
+        held,
+    };
+    match all_clocks(desk, &mut bench, &feed, rounds, drive.clocks, &mut dins) {
+        Err(stop) => return Err(BenchFault::Stopped(stop)),
+        Ok(()) => {}
+    }
+    let file = finish(alloc, &wiring.outputs, size, rounds.len(), &bench.pictures)?;
+    Ok(file)
+}

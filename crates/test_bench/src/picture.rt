@@ -1,0 +1,41 @@
+// What the outputs show.
+
+ghost use Rattle.std.specs.Prelude.{◌≡◌, ℕ, ◌+◌, ◌^◌, ◌<◌, ◌≤◌, ◌++◌, [], ◌∷◌, List, length, min, take, IfOk, All, vec_capacity, if◌then◌else◌};
+ghost use Rattle.test_bench.specs.Clocking.{IsKept};
+
+use cycle_sim::Out;
+use dk_base::Memory;
+use std::alloc::Global;
+
+/// The first samples of a picture, in raster order, and how many it has.
+#[derive(Drop)]
+pub(crate) struct Shown {
+    pub(crate) samples: Vec<u16>,
+    pub(crate) count: u64,
+}
+
+impl Shown {
+    /// A picture without samples, with room for so many.
+    pub(crate) fn new(alloc: Global, most: usize) -> Result<Shown, Memory>
+        ensures kept { IfOk result (λ shown. IsKept most [] shown) }
+        ensures room { IfOk result (λ shown. most ≤ vec_capacity shown.samples) }
+    {
+        let samples = Vec::with_capacity(alloc, most)?;
+        Ok(Shown { samples, count: 0 })
+    }
+
+    /// Adds what the output shows in a clock, where its valid is 1.
+    pub(crate) fn add(&mut self, most: usize, out: Out)
+        requires room { most ≤ vec_capacity self.old.samples }
+        requires dout { out.dout < 2 ^ 16 }
+        ensures room { most ≤ vec_capacity self.new.samples }
+        ensures kept { (whole : List ℕ) → IsKept most whole self.old → IsKept most (whole ++ (if out.valid then out.dout ∷ [] else [])) self.new }
+    {
+        if out.valid {
+            self.count = self.count.saturating_add(1);
+            if self.samples.len() < most {
+                self.samples.push_reserved(out.dout as u16);
+            }
+        }
+    }
+}

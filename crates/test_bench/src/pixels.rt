@@ -1,0 +1,70 @@
+// What the dins are given.
+
+ghost use Rattle.std.specs.Prelude.{◌≡◌, ℕ, ◌-◌, ◌^◌, ◌<◌, ◌≤◌, List, length, replicate, slice_index, IfOk};
+ghost use Rattle.std.specs.List.{All};
+ghost use Rattle.dk_base.specs.Frames.{Size, area as area_of};
+ghost use Rattle.wiring.specs.Sizes.{IsWidth};
+ghost use Rattle.wiring.specs.Rules.{IsPortWidth};
+ghost use Rattle.wiring.specs.Snapshot.{Fit};
+ghost use Rattle.test_bench.specs.Stimulus.{stream, dins_at, greatest_dins};
+ghost use Rattle.test_bench.specs.Given.{rounds_of, AreBenchFrames};
+
+use dk_base::Memory;
+use netlist::Width;
+use pgm_rounds::Round;
+use std::alloc::Global;
+
+/// A pixel of an input, counted over all rounds, or 0 after the last one.
+fn pixel(rounds: &[Round], area: usize, input: usize, number: u32) -> u64
+    requires area { 0 < area }
+    requires frames { (widths : List ℕ) × (size : Size) × AreBenchFrames widths size rounds.now × (input < length widths) × (area ≡ area_of size) }
+    ensures { result ≡ slice_index (stream (rounds_of rounds.now) input) number }
+{
+    let place = number as usize;
+    let round = place / area;
+    if rounds.len() <= round {
+        return 0;
+    }
+    let frame = &rounds[round].frames[input];
+    u64::from(frame.samples.as_slice()[place % area])
+}
+
+/// Gives each din its pixel.
+pub(crate) fn fill_dins(rounds: &[Round], area: usize, number: u32, dins: &mut Vec<u64>)
+    requires area { 0 < area }
+    requires frames { (widths : List ℕ) × (size : Size) × AreBenchFrames widths size rounds.now × (length dins.old.items ≡ length widths) × (area ≡ area_of size) }
+    ensures is { dins.new.items ≡ dins_at (length dins.old.items) (rounds_of rounds.now) number }
+    ensures count { length dins.new.items ≡ length dins.old.items }
+{
+    for input in 0..dins.len() {
+        dins[input] = pixel(rounds, area, input, number);
+    }
+}
+
+/// The greatest number of so many bits.
+fn greatest(width: Width) -> u64
+    requires { width ≤ 16 }
+    ensures { result ≡ 2 ^ width - 1 }
+{
+    (1 << width.bits()) - 1
+}
+
+/// The greatest number of each din.
+pub(crate) fn greatest_of(alloc: Global, widths: &[Width]) -> Result<Vec<u64>, Memory>
+    requires { All IsPortWidth widths.now }
+    ensures { IfOk result (λ dins. dins.items ≡ greatest_dins widths.now) }
+{
+    let mut dins = Vec::with_capacity(alloc, widths.len())?;
+    for width in widths {
+        dins.push(greatest(*width))?;
+    }
+    Ok(dins)
+}
+
+/// So many zeros.
+pub(crate) fn zeros(alloc: Global, count: usize) -> Result<Vec<u64>, Memory>
+    ensures { IfOk result (λ dins. dins.items ≡ replicate count 0) }
+{
+    let dins = vec![in alloc; 0; count]?;
+    Ok(dins)
+}
