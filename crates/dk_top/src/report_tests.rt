@@ -183,7 +183,11 @@ fn texts_are_simulated(rt: HostRuntime) -> Result<(), Fail> {
         ),
     ];
     for (line, verilog, image, want) in cases {
-        assert_eq!(rt; left(alloc, line, verilog, image)?, want, "at {line}");
+        assert_eq!(rt;
+            left(alloc, line, verilog, image)?.as_slice(),
+            want,
+            "at {line}"
+        );
     }
     Ok(())
 }
@@ -236,7 +240,11 @@ fn reports_are_planned_and_checked(rt: HostRuntime) -> Result<(), Fail> {
         ),
     ];
     for (line, program, report, want) in cases {
-        assert_eq!(rt; left(alloc, line, program, report)?, want, "at {line}");
+        assert_eq!(rt;
+            left(alloc, line, program, report)?.as_slice(),
+            want,
+            "at {line}"
+        );
     }
     Ok(())
 }
