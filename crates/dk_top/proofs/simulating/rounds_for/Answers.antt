@@ -10,12 +10,12 @@ returns-in-Ok-clause-input c =
     let read = c.in-Ok.ensures.fits in
     record {
       images = read.0;
-      fits = record { within = c.requires; fits = subst (λ (w : List ℕ). FitsBench w c.args.file.now (size_of c.in-Ok.input.size) read.0) c.dins_of.ensures.widths read.1.0 };
-      frames = read.1.1;
+      fits = record { within = c.requires; fits = subst (λ (w : List ℕ). FitsBench w c.args.file.now (size_of c.in-Ok.input.size) read.0) c.dins_of.ensures.widths read.1 };
+      frames = read.2;
     }
 
 pub returns-in-Ok-clause-frame : goal.returns-in-Ok-clause-frame
-returns-in-Ok-clause-frame c = c.in-Ok.ensures.fits.1.0.frame
+returns-in-Ok-clause-frame c = c.in-Ok.ensures.fits.1.frame
 
 pub returns-in-Ok-clause-frames : goal.returns-in-Ok-clause-frames
 returns-in-Ok-clause-frames c = subst (λ (w : List ℕ). AreBenchFrames w (size_of c.in-Ok.input.size) c.in-Ok.input.rounds.items) c.dins_of.ensures.widths c.in-Ok.ensures.frames
