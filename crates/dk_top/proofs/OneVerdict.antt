@@ -1,10 +1,10 @@
 -- The words and the files decide one ending.
-use Rattle.std.proofs.Common.{◌≡◌, ◌⊎◌, ℕ, List, Option, None, Some, IfSome, refl}
+use Rattle.std.proofs.Common.{◌≡◌, Option, None, Some, IfSome}
 use Rattle.dk_endings.specs.declared.ending.Ending.{Ending}
 use Rattle.dk_endings.specs.declared.ending.Ending.TheVariants as ending
 use Rattle.dk_top.specs.Command.{Command, run, eval, sim, plan, check}
 use Rattle.dk_top.specs.Simulation.{drive_of}
-use Rattle.dk_top.specs.Verdict.{Files, bytes_of, AreAlike, IsAnswer, IsVerdict, IsJudged, HasOneVerdict, IsGood, IsOrMemory}
+use Rattle.dk_top.specs.Verdict.{Files, bytes_of, IsVerdict, HasOneVerdict, IsGood, IsOrMemory}
 use Rattle.dk_top.proofs.VerdictLemmas.{OneProgram, TextApart, OneTextFault, FileApart, OneFileFault, one_answer, good_answer}
 use Rattle.dk_top.proofs.SimLemmas.{OneModule, OneAgreed, ModuleApart, OneTokens, OneTree, OneRounds, RoundsApart, OneBenchFault, OneStop, ShownApart, alike_of, sim_answer, good_sim}
 use Rattle.dk_top.proofs.PlanLemmas.{PlanApart, OnePlanFault, WrongApart, OneLine, plan_answer, good_plan, check_answer, good_check}

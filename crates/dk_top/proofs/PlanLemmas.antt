@@ -1,10 +1,7 @@
 -- A program's text decides one ending of `plan`, and with a report one of `check`.
-use Rattle.std.proofs.Common.{◌≡◌, ◌⊎◌, inl, inr, ℕ, ◌<◌, ◌≤◌, List, refl, ap, subst, sym, ◌∙◌, arith, length}
+use Rattle.std.proofs.Common.{◌≡◌, ◌⊎◌, inl, inr, ℕ, ◌<◌, ◌≤◌, List, refl, ap, sym, ◌∙◌, arith, length}
 use Rattle.dk_base.specs.declared.TheConstants.{MAX_SOURCE_BYTES}
-use Rattle.dk_base.specs.Stencils.{Parts}
 use Rattle.dk_types.specs.Typed.{Typing}
-use Rattle.pointwise_ir.specs.Programs.{Program}
-use Rattle.dk_compile.specs.Sources as C
 use Rattle.dk_compile.specs.declared.fault.SourceFault.{SourceFault as TextFault}
 use Rattle.dk_compile.specs.declared.fault.SourceFault.TheVariants as of_text
 use Rattle.dk_plan.specs.declared.planning.PlanFault.{PlanFault}
@@ -18,11 +15,10 @@ use Rattle.dk_endings.specs.declared.ending.SourceFault.{SourceFault}
 use Rattle.dk_endings.specs.declared.ending.SourceFault.TheVariants as source
 use Rattle.dk_endings.specs.declared.ending.ReportFault.{ReportFault}
 use Rattle.dk_endings.specs.declared.ending.ReportFault.TheVariants as report
-use Rattle.dk_endings.specs.declared.TheConstants.{MAX_REPORT_BYTES}
 use Rattle.dk_top.specs.Program.{IsAccepted, IsSourceFault}
-use Rattle.dk_top.specs.Reports.{CanBePlanned, IsFaultAt, IsChecked, IsReportFault, IsRefused}
+use Rattle.dk_top.specs.Reports.{CanBePlanned, IsFaultAt, IsChecked, IsReportFault}
 use Rattle.dk_top.specs.Verdict.{IsJudged, IsOrMemory, IsPlanAnswer, CanBeChecked, IsCheckAnswer}
-use Rattle.dk_top.proofs.VerdictLemmas.{OneProgram, TextApart, OneTextFault, FileApart, OneFileFault, IsTold, told_as, told_of, accepted_no_fault, one_fault}
+use Rattle.dk_top.proofs.VerdictLemmas.{OneProgram, TextApart, OneTextFault, FileApart, OneFileFault, told_as, told_of, accepted_no_fault, one_fault}
 
 -- the laws of plans and of reports
 abbrev pub PlanApart : Type 0

@@ -3,9 +3,8 @@ use Rattle.std.proofs.Common.{◌≡◌, ℕ, ◌≤◌, ◌<◌, List, length, 
 use Rattle.std.proofs.lemmas.List.{length-map}
 use Rattle.dk_base.specs.declared.TheConstants.{MAX_SOURCE_BYTES}
 use Rattle.dk_base.specs.Types.{width_of}
-use Rattle.dk_types.specs.Typed.{Typing, types_of}
+use Rattle.dk_types.specs.Typed.{Typing}
 use Rattle.pointwise_ir.specs.Programs.{Program, IsProgram}
-use Rattle.pointwise_ir.specs.Programs as P
 use Rattle.dk_base.specs.Stencils.{Parts}
 use Rattle.dk_compile.specs.Sources.{IsForm, IsText}
 use Rattle.dk_compile.specs.Sources as C

@@ -1,17 +1,15 @@
 -- What `plan` and `check` read, and what they write to Report.
-use Rattle.std.proofs.Common.{◌≡◌, ◌≢◌, ℕ, ◌≤◌, List, length, take, Option, None, Some, IfSome, Result, Ok, Err, IfOk, OnOk, refl, sym, ap, ◌∙◌, subst, arith}
+use Rattle.std.proofs.Common.{◌≡◌, ℕ, List, length, Option, None, Some, IfSome, refl, sym, subst, arith}
 use Rattle.std.proofs.Math.Seq.{take-length}
 use Rattle.dk_base.specs.Stencils.{Parts}
-use Rattle.dk_base.specs.declared.TheConstants.{MAX_SOURCE_BYTES}
 use Rattle.dk_desk.specs.Calls.{IsIfTold, grown}
 use Rattle.pointwise_ir.specs.Programs.{Program}
-use Rattle.dk_compile.specs.Sources as C
 use Rattle.dk_plan.specs.declared.judging.Claim.{Claim}
-use Rattle.dk_plan.specs.Planned.{HasPlan, IsPlanOf}
+use Rattle.dk_plan.specs.Planned.{IsPlanOf}
 use Rattle.dk_endings.specs.declared.ending.Ending.{Ending}
 use Rattle.dk_endings.specs.declared.ending.Ending.TheVariants as ending
 use Rattle.dk_endings.specs.Lines.{holds_line}
-use Rattle.dk_top.specs.Reports.{CanBePlanned, IsChecked}
+use Rattle.dk_top.specs.Reports.{IsChecked}
 use Rattle.dk_top.specs.Verdict.{Files, bytes_of, IsPlanAnswer, IsCheckAnswer, CanBeChecked}
 use Rattle.dk_desk.specs.Outside.{Outside}
 use Rattle.dk_top.specs.State.{AsksWhereAccepted, GainsText, IsClaimLine, ReportsFront}

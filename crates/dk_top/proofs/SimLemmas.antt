@@ -1,5 +1,5 @@
 -- A Verilog text and a file decide one ending of `sim`.
-use Rattle.std.proofs.Common.{◌≡◌, ◌⊎◌, inl, inr, ℕ, ◌<◌, ◌≤◌, List, [], ◌∷◌, Option, None, Some, IsSome, unwrap_or, refl, ap, subst, sym, ◌∙◌, arith, length, true, false}
+use Rattle.std.proofs.Common.{◌≡◌, inl, inr, ℕ, ◌<◌, List, [], ◌∷◌, Option, Some, unwrap_or, refl, ap, subst, sym, ◌∙◌, arith, length, true, false}
 use Rattle.std.specs.List.{flat_map, AllByRecursion}
 use Rattle.pgm_codec.specs.Rounds.{FitsInputs}
 use Rattle.dk_base.specs.declared.span.Span.{Span}
@@ -32,7 +32,6 @@ use Rattle.dk_endings.specs.declared.verilog.VerilogFault.{VerilogFault}
 use Rattle.dk_endings.specs.declared.verilog.VerilogFault.TheVariants.{TooLong, At}
 use Rattle.dk_endings.specs.declared.verilog.VerilogKind.{VerilogKind}
 use Rattle.dk_endings.specs.declared.verilog.VerilogKind.TheVariants as kind
-use Rattle.dk_endings.specs.declared.TheConstants.{MAX_IMAGE_BYTES, MAX_VERILOG_BYTES}
 use Rattle.dk_endings.specs.Verilog.{fault_told}
 use Rattle.dk_top.specs.Simulation.{of_text, of_ports, IsModuleOf, LacksEnable, IsTextFault, IsVerilogFault, FitsModule, IsFileFault, IsSimulated, IsUnfit, IsStopped}
 use Rattle.dk_top.specs.Verdict.{AreAlike, CanBeSimulated, IsSimAnswer, IsJudged, IsOrMemory}

@@ -1,5 +1,5 @@
 -- What `sim` reads, and what it shows.
-use Rattle.std.proofs.Common.{◌≡◌, ◌≢◌, ◌≤◌, ℕ, Bool, List, [], ◌∷◌, ◌++◌, length, map, Option, None, Some, IfSome, Result, Ok, Err, IfOk, OnOk, option_map, refl, sym, ap, ◌∙◌, subst}
+use Rattle.std.proofs.Common.{◌≡◌, ◌≤◌, ℕ, Bool, List, [], ◌∷◌, ◌++◌, length, map, Option, None, Some, IfSome, option_map, refl, sym, ap, ◌∙◌, subst}
 use Rattle.dk_base.specs.Frames.{Size}
 use Rattle.dk_desk.specs.Calls.{IsIfTold}
 use Rattle.wiring.specs.Netlist.{Netlist}
@@ -16,7 +16,7 @@ use Rattle.test_bench.specs.declared.drive.Drive.{Drive}
 use Rattle.test_bench.specs.declared.stop.Stop.{Stop}
 use Rattle.test_bench.specs.Stimulus.{Rounds}
 use Rattle.test_bench.specs.Given.{rounds_of}
-use Rattle.test_bench.specs.Inputs.{FitsBench, samples_of}
+use Rattle.test_bench.specs.Inputs.{samples_of}
 use Rattle.test_bench.specs.Showing.{IsShown, IsNoted as AreNotes}
 use Rattle.test_bench.specs.Stops.{IsStop}
 use Rattle.dk_words.specs.declared.command.PowerUp.{PowerUp}

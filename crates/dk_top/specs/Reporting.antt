@@ -1,5 +1,5 @@
 -- What `plan` and `check` read, for the private functions.
-use Rattle.std.specs.Prelude.{◌≡◌, ℕ, ◌≤◌, List, length, ⊤}
+use Rattle.std.specs.Prelude.{ℕ, ◌≤◌, List, length, ⊤}
 use Rattle.dk_base.specs.declared.TheConstants.{MAX_SOURCE_BYTES}
 use Rattle.dk_base.specs.Stencils.{Parts}
 use Rattle.dk_types.specs.Typed.{Typing}

@@ -1,9 +1,9 @@
 -- What `plan` and `check` judge, and what they write to Report.
-use Rattle.std.specs.Prelude.{◌≡◌, ℕ, ◌<◌, ◌≤◌, List, length}
+use Rattle.std.specs.Prelude.{ℕ, ◌<◌, ◌≤◌, List, length}
 use Rattle.dk_base.specs.declared.TheConstants.{MAX_SOURCE_BYTES}
 use Rattle.dk_types.specs.Typed.{Typing}
 use Rattle.dk_plan.specs.declared.judging.Claim.{Claim}
-use Rattle.dk_plan.specs.Planned.{HasPlan, IsPlanOf, PassesBits, PassesLatency}
+use Rattle.dk_plan.specs.Planned.{HasPlan, PassesBits, PassesLatency}
 use Rattle.dk_plan.specs.Judged.{IsConfirmed, IsWrongLine}
 use Rattle.dk_endings.specs.declared.ending.SourceFault.{SourceFault}
 use Rattle.dk_endings.specs.declared.ending.SourceFault.TheVariants.{Bits, Latency}

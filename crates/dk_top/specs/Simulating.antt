@@ -1,5 +1,5 @@
 -- What `sim` reads, for the private functions.
-use Rattle.std.specs.Prelude.{◌≡◌, ℕ, ◌<◌, List, length, map, Option, ⊤}
+use Rattle.std.specs.Prelude.{◌≡◌, ℕ, List, map, Option, ⊤}
 use Rattle.dk_base.specs.Frames.{Size}
 use Rattle.netlist.specs.Names.{NamedNetlist}
 use Rattle.pgm_codec.specs.Images.{Picture as Image}

@@ -1,7 +1,7 @@
 use Rattle.std.proofs.Common.{List, ℕ}
 use Rattle.dk_top.specs.Reports.{IsChecked}
-use Rattle.dk_top.specs.Reporting.{HasFront, IsReportEnding}
-use Rattle.dk_top.proofs.ReadLemmas.{ok_told, err_told}
+use Rattle.dk_top.specs.Reporting.{HasFront}
+use Rattle.dk_top.proofs.ReadLemmas.{ok_told}
 use Rattle.dk_top.proofs.ReportLemmas.{any_front}
 use Rattle.dk_top.proofs.reporting.read_report.Goals as goal
 

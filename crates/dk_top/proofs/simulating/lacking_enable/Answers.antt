@@ -1,4 +1,4 @@
-use Rattle.std.proofs.Common.{◌≡◌, sym, ap, ◌∙◌, false, rules}
+use Rattle.std.proofs.Common.{sym, ap, ◌∙◌, rules}
 use Rattle.wiring.specs.Netlist.{Netlist}
 use Rattle.dk_top.proofs.simulating.lacking_enable.Goals as goal
 

@@ -1,4 +1,4 @@
-use Rattle.std.proofs.Common.{◌≡◌, subst, List, ℕ, Bool, ◌++◌, option_map}
+use Rattle.std.proofs.Common.{subst, List, ℕ, Bool, ◌++◌, option_map}
 use Rattle.dk_base.specs.FrameSizes.{size_of}
 use Rattle.dk_desk.specs.Calls.{IsIfTold}
 use Rattle.pgm_rounds.specs.declared.round.Round.{Round}

@@ -1,4 +1,4 @@
-use Rattle.std.proofs.Common.{◌≡◌, ◌<◌, ◌≤◌, List, ℕ, length, subst, arith, ap}
+use Rattle.std.proofs.Common.{◌<◌, List, ℕ, length, subst}
 use Rattle.dk_base.specs.FrameSizes.{size_of}
 use Rattle.cycle_sim.specs.Ports.{din_widths}
 use Rattle.test_bench.specs.Inputs.{FitsBench, IsBenchError}

@@ -1,4 +1,4 @@
-use Rattle.std.proofs.Common.{◌≡◌, ap, subst, sym, List, ℕ, IfSome}
+use Rattle.std.proofs.Common.{◌≡◌, ap, subst, sym, IfSome}
 use Rattle.dk_base.specs.FrameSizes.{size_of}
 use Rattle.dk_desk.specs.Outside.{Outside}
 use Rattle.cycle_sim.specs.declared.fill.Fill.{Fill}
