@@ -296,25 +296,19 @@ ends 2 "$usage" plan --age 1 --age 1 mean.dk
 ends 2 "$usage" --age 1 plan mean.dk
 ends 2 "$usage" plan --ag 1 mean.dk
 ends 2 "$usage" check mean.dk
-{
+# images in a row, each of which reads the one before: how many, and the read
+chain() {
     printf 'size 4096 4096 input f0 : u16 '
     k=1
-    while [ $k -le 17 ]; do
-        printf 'let f%d = im(x,y) f%d(x,y-64) end ' $k $((k - 1))
+    while [ $k -le "$1" ]; do
+        printf "let f%d = im(x,y) f%d$2 end " $k $((k - 1))
         k=$((k + 1))
     done
-    printf 'output f17'
-} >bits.dk
+    printf 'output f%d' "$1"
+}
+chain 17 '(x,y-64)' >bits.dk
 ends 3 'program: Bits 71303168' plan bits.dk
-{
-    printf 'size 4096 4096 input f0 : u16 '
-    k=1
-    while [ $k -le 256 ]; do
-        printf 'let f%d = im(x,y) f%d(x+64,y+64) end ' $k $((k - 1))
-        k=$((k + 1))
-    done
-    printf 'output f256'
-} >late.dk
+chain 256 '(x+64,y+64)' >late.dk
 ends 3 'program: Latency 67125248' plan late.dk
 "$program" plan mean.dk >/dev/full 2>stderr
 [ $? = 8 ] && [ "$(cat stderr)" = 'cannot write' ] || {
