@@ -1,15 +1,12 @@
--- What a plan says of each kept image, and when there is none.
-use Rattle.std.specs.Prelude.{◌≡◌, ℕ, ◌+◌, ◌*◌, ◌<◌, ◌≤◌, ◌==◌, ◌↔◌, max, List, [], ◌∷◌, length, map, filter, Contains, unsigned_abs, slice_index, slice_index_or, Result, Ok, Err}
+-- What a plan says of each kept image.
+use Rattle.std.specs.Prelude.{◌≡◌, ℕ, ◌+◌, ◌*◌, ◌<◌, ◌==◌, ◌↔◌, List, [], length, map, filter, Contains, unsigned_abs, slice_index, slice_index_or}
 use Rattle.std.specs.List.Sorted.{IsStrictlyIncreasing}
-use Rattle.dk_base.specs.declared.stencils.Image.{Image}
 use Rattle.dk_base.specs.declared.stencils.LiveRead.{LiveRead}
-use Rattle.dk_base.specs.declared.TheConstants.{MAX_BUFFER_BITS, MAX_LATENCY}
 use Rattle.dk_base.specs.Stencils.{place}
 use Rattle.raster_delay.specs.declared.placed.PlacedRead.{PlacedRead}
 use Rattle.raster_delay.specs.Delays.{age_of, AreNear}
 use Rattle.raster_delay.specs.Systems.{Parts as System, IsSystem, IsCausal, image_count, placed_reads, widths, depth, bits}
-use Rattle.buffer_plan.specs.declared.fault.PlanFault.{PlanFault}
-use Rattle.buffer_plan.specs.declared.fault.PlanFault.TheVariants.{Bits, Latency, Memory}
+use Rattle.buffer_plan.specs.Limits.{latency_in, IsWithinLimits}
 
 -- a system, and the delays that were taken for it
 pub record Parts : Type 0 where
@@ -51,14 +48,9 @@ width_of p g = slice_index (widths p.system) (place_in p g)
 abbrev pub latency_of : Parts → ℕ → ℕ
 latency_of p k = delay_of p (slice_index p.system.stencils.outputs k)
 
--- the greatest delay of these images, 0 of none
-abbrev pub greatest_delay : List Image → List ℕ → List ℕ → ℕ
-greatest_delay images d [] = 0
-greatest_delay images d (g ∷ gs) = max (slice_index d (place images g)) (greatest_delay images d gs)
-
 -- the greatest delay of an output
 abbrev pub latency : Parts → ℕ
-latency p = greatest_delay p.system.stencils.images p.delays p.system.stencils.outputs
+latency p = latency_in p.system p.delays
 
 -- the clocks from an image's first pixel to the last pixel of the latest output
 abbrev pub clocks : Parts → ℕ
@@ -72,15 +64,7 @@ pub record IsPlan (p : Parts) : Type 0 where
   pub system : IsSystem p.system
   pub causal : IsCausal p.system p.delays
   pub near : AreNear p.delays
-  pub bits_limit : bits_of p ≤ MAX_BUFFER_BITS
-  pub latency_limit : latency p ≤ MAX_LATENCY
-
--- Bits exactly where the bits pass the limit; else Latency exactly where the latency does; else these delays, or want of memory
-abbrev pub Judges : Parts → Result Parts PlanFault → Type 0
-Judges p (Ok plan) = (plan ≡ p) × (bits_of p ≤ MAX_BUFFER_BITS) × (latency p ≤ MAX_LATENCY)
-Judges p (Err (Bits least)) = (MAX_BUFFER_BITS < bits_of p) × (least ≡ bits_of p)
-Judges p (Err (Latency clocks)) = (bits_of p ≤ MAX_BUFFER_BITS) × (MAX_LATENCY < latency p) × (clocks ≡ latency p)
-Judges p (Err Memory) = (bits_of p ≤ MAX_BUFFER_BITS) × (latency p ≤ MAX_LATENCY)
+  pub within : IsWithinLimits p.system p.delays
 
 -- what a plan keeps beside its value: each image's depth and ages, the latency and the bits
 pub record IsHeld (p : Parts) (depths : List ℕ) (ages : List (List ℕ)) (greatest total : ℕ) : Type 0 where

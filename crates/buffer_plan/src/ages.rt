@@ -1,6 +1,7 @@
 // The depth and the ages of each image.
 
 ghost use Rattle.std.specs.Prelude.{◌≡◌, ◌≤◌, ◌<◌, ◌≤ℤ◌, ℕ, pos, [], length, slice_index, slice_index_or, All, IfOk};
+ghost use Rattle.dk_base.specs.declared.TheConstants.{MAX_SIDE};
 ghost use Rattle.raster_delay.specs.Delays.{AreReads, AreNear, age_of};
 ghost use Rattle.raster_delay.specs.Systems.{IsCausal, image_count, placed_reads, depth};
 ghost use Rattle.buffer_plan.specs.Plans.{ages_in, AreDistinct};
@@ -19,7 +20,7 @@ fn ages_read(
     reads: &[PlacedRead],
     k: usize,
 ) -> Result<Vec<u64>, Memory>
-    requires row { row ≤ 4096 }
+    requires row { row ≤ MAX_SIDE }
     requires reads { AreReads row inputs (length delays.now) reads.now }
     requires small { AreNear delays.now }
     requires due { All (λ r. pos 0 ≤ℤ age_of row delays.now r) reads.now }

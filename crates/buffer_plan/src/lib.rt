@@ -4,11 +4,11 @@
 mod ages;
 mod fault;
 mod find;
+mod laws;
 mod planning;
 mod plans;
-#[cfg(test)]
-mod tests;
 
 pub use fault::PlanFault;
+pub use laws::one_limit;
 pub use planning::plan;
 pub use plans::Plan;

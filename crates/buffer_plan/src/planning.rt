@@ -1,9 +1,9 @@
 // The plan of a solution, or why there is none.
 
-ghost use Rattle.std.specs.Prelude.{◌≡◌, length, All};
+ghost use Rattle.std.specs.Prelude.{◌≡◌, Err, length, All, IfOk, IfErr, OnOk};
 ghost use Rattle.dk_base.specs.Stencils.{IsKept, Ascends};
 ghost use Rattle.flow_dual.specs.Solutions.{IsSolution};
-ghost use Rattle.buffer_plan.specs.Plans.{Judges, greatest_delay};
+ghost use Rattle.buffer_plan.specs.Limits.{greatest_delay, IsWithinLimits, Passes};
 
 use crate::fault::PlanFault;
 use crate::find::place_of;
@@ -30,7 +30,10 @@ fn greatest_delay(images: &[Image], delays: &[u64], numbers: &[u32]) -> u64
 /// The plan of a solution, if its bits and then its latency are within the limits.
 pub fn plan(alloc: Global, system: &System, solution: &Solution) -> Result<Plan, PlanFault>
     requires { IsSolution system.now solution.now }
-    ensures { Judges (record { system = system.now; delays = solution.now.delays }) result }
+    ensures plan { IfOk result (λ p. p ≡ record { system = system.now; delays = solution.now.delays }) }
+    ensures within { OnOk result (IsWithinLimits system.now solution.now.delays) }
+    ensures fault { IfErr result (Passes system.now solution.now.delays) }
+    ensures memory { result ≡ Err PlanFault.Memory → IsWithinLimits system.now solution.now.delays }
 {
     system.law();
     let delays = solution.delays.as_slice();

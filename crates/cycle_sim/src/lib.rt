@@ -7,14 +7,10 @@ mod edge;
 mod evaluate;
 mod fill;
 mod machine;
-#[cfg(test)]
-mod module_tests;
 mod ports;
 mod running;
 mod settle;
 mod sim;
-#[cfg(test)]
-mod tests;
 
 pub use edge::IndexRange;
 pub use fill::Fill;

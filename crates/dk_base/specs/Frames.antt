@@ -1,6 +1,7 @@
 -- Frames: points by two whole coordinates, pictures, and pixels in raster order.
 use Rattle.std.specs.Prelude.{ℕ, ◌+◌, ◌-◌, ◌*◌, ◌/◌, ◌%◌, ◌≤◌, min, ℤ, pos, negsuc, ◌+ℤ◌, ◌*ℤ◌, Bool, false, ◌&&◌, nat_lt, List, map, slice_index, unsigned_abs, if◌then◌else◌}
 use Rattle.std.specs.List.{flat_map, range_with_len}
+use Rattle.dk_base.specs.declared.TheConstants.{MAX_SIDE}
 
 pub record Size : Type 0 where
   pub width : ℕ
@@ -9,9 +10,9 @@ pub record Size : Type 0 where
 -- both sides have 1 to 4,096 pixels
 pub record IsFrame (width height : ℕ) : Type 0 where
   pub some_columns : 1 ≤ width
-  pub most_columns : width ≤ 4096
+  pub most_columns : width ≤ MAX_SIDE
   pub some_rows : 1 ≤ height
-  pub most_rows : height ≤ 4096
+  pub most_rows : height ≤ MAX_SIDE
 
 -- the number of pixels of a frame
 abbrev pub area : Size → ℕ

@@ -1,3 +1,4 @@
+pub mod Ascii
 pub mod Types
 pub mod Numbers
 pub mod Operators

@@ -2,6 +2,7 @@
 use Rattle.std.specs.Prelude.{ℕ, zero, suc, ◌^◌, nat_eq, nat_le, not, ◌&&◌, ◌||◌, Bool, true, false, ℤ, pos, negsuc, ◌+ℤ◌, ◌-ℤ◌, ◌*ℤ◌, int_lt, int_div, unsigned_abs, bit_and, bit_or, bit_xor, Option, Some, None, if◌then◌else◌}
 use Rattle.std.specs.Int.{int_min, int_max, int_div_euclid}
 use Rattle.std.specs.Ordering.{int_eq}
+use Rattle.dk_base.specs.declared.TheConstants.{MAX_WIDTH, MAX_SHIFT}
 use Rattle.dk_base.specs.declared.ty.Ty.{Ty}
 use Rattle.dk_base.specs.declared.ty.Ty.TheVariants.{Unsigned}
 use Rattle.dk_base.specs.declared.operator.Unary.{Unary}
@@ -17,7 +18,7 @@ use Rattle.dk_base.specs.Numbers.{bit_count, wrap, saturate}
 
 -- the type, where it is at most 64 bits wide
 abbrev pub limited : Ty → Option Ty
-limited t = if nat_le (width_of t) 64 then Some t else None
+limited t = if nat_le (width_of t) MAX_WIDTH then Some t else None
 
 -- a literal has the least unsigned type that holds it
 abbrev pub literal_type : ℕ → Ty
@@ -75,7 +76,7 @@ binary_result Max a b = common_type a b
 -- the type of what the operator gives: the common type of the operands and the result's have at most 64 bits
 abbrev pub binary_type : Binary → Ty → Ty → Option Ty
 binary_type op a b =
-    if are_operands op a b && nat_le (width_of (common_type a b)) 64 then limited (binary_result op a b) else None
+    if are_operands op a b && nat_le (width_of (common_type a b)) MAX_WIDTH then limited (binary_result op a b) else None
 
 -- 1 where it holds, else 0
 abbrev pub truth : Bool → ℤ
@@ -100,8 +101,8 @@ binary_value Max v u = int_max v u
 -- an operand and a number that the program writes: a divisor is above 0, and a shift is by at most 63 bits
 abbrev pub scaling_type : Scaling → Ty → ℕ → Option Ty
 scaling_type Divide a k = if nat_eq k 0 then None else Some a
-scaling_type ShiftLeft a k = if nat_le k 63 then limited (shifted_type a k) else None
-scaling_type ShiftRight a k = if nat_le k 63 then Some a else None
+scaling_type ShiftLeft a k = if nat_le k MAX_SHIFT then limited (shifted_type a k) else None
+scaling_type ShiftRight a k = if nat_le k MAX_SHIFT then Some a else None
 
 -- a quotient rounded toward zero, a product with 2 ^ k, and a quotient by 2 ^ k rounded down
 abbrev pub scaling_value : Scaling → ℤ → ℕ → ℤ

@@ -3,6 +3,7 @@ use Rattle.std.specs.Prelude.{◌≡◌, ℕ, ℤ, pos, neg_ℤ, ◌<◌, ◌≤
 use Rattle.std.specs.List.{All, position_or_len}
 use Rattle.dk_base.specs.declared.stencils.Image.{Image}
 use Rattle.dk_base.specs.declared.stencils.LiveRead.{LiveRead}
+use Rattle.dk_base.specs.declared.TheConstants.{MAX_INPUTS, MAX_OUTPUTS, MAX_KEPT_IMAGES, MAX_LIVE_READS, MAX_WIDTH}
 use Rattle.dk_base.specs.Frames.{IsFrame}
 
 -- The frame's sides in pixels, how many inputs there are, the images that are outputs, the kept images in order, and their live reads. The inputs are the images 0, 1 and so on.
@@ -32,7 +33,7 @@ Ascends images = (i j : ℕ) (d : Image) → i < j → j < length images → (sl
 -- the type of an image's values has 1 to 64 bits
 pub record HasWidth (image : Image) : Type 0 where
   pub some : 1 ≤ image.width
-  pub most : image.width ≤ 64
+  pub most : image.width ≤ MAX_WIDTH
 
 -- the number at k stands before it too
 abbrev pub Repeats : List ℕ → ℕ → Type 0
@@ -70,8 +71,8 @@ pub record IsRead (width height inputs : ℕ) (images : List Image) (r : LiveRea
 -- kept images in order, the inputs first
 pub record AreKeptImages (inputs : ℕ) (images : List Image) : Type 0 where
   pub some_inputs : 1 ≤ inputs
-  pub most_inputs : inputs ≤ 8
-  pub most_images : length images ≤ 264
+  pub most_inputs : inputs ≤ MAX_INPUTS
+  pub most_images : length images ≤ MAX_KEPT_IMAGES
   pub inputs_kept : inputs ≤ length images
   pub ascending : Ascends images
   pub inputs_first : (k : ℕ) → k < inputs → slice_index (numbers images) k ≡ k
@@ -80,13 +81,13 @@ pub record AreKeptImages (inputs : ℕ) (images : List Image) : Type 0 where
 -- kept images that are outputs
 pub record AreOutputs (images : List Image) (outputs : List ℕ) : Type 0 where
   pub some_outputs : 1 ≤ length outputs
-  pub most_outputs : length outputs ≤ 8
+  pub most_outputs : length outputs ≤ MAX_OUTPUTS
   pub distinct : IsDistinct outputs
   pub outputs_kept : All (IsKept images) outputs
 
 -- live reads between kept images, each once
 pub record AreLiveReads (width height inputs : ℕ) (images : List Image) (reads : List LiveRead) : Type 0 where
-  pub most_reads : length reads ≤ 4096
+  pub most_reads : length reads ≤ MAX_LIVE_READS
   pub in_order : AreInOrder reads
   pub between : All (IsRead width height inputs images) reads
 

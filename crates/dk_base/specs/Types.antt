@@ -1,5 +1,6 @@
 -- Types of whole numbers: their widths and ranges, and the types of what the operators give.
 use Rattle.std.specs.Prelude.{ℕ, ◌+◌, ◌-◌, ◌^◌, ◌≤◌, max, nat_eq, nat_le, nat_lt, Bool, true, false, ℤ, pos, ◌+ℤ◌, ◌-ℤ◌, ◌≤ℤ◌, ◌<ℤ◌, neg_ℤ}
+use Rattle.dk_base.specs.declared.TheConstants.{MAX_WIDTH}
 use Rattle.dk_base.specs.declared.ty.Ty.{Ty}
 use Rattle.dk_base.specs.declared.ty.Ty.TheVariants.{Unsigned, Signed}
 
@@ -19,7 +20,7 @@ is_bit (Signed n) = false
 -- a type of values has 1 to 64 bits
 pub record IsType (t : Ty) : Type 0 where
   pub some : 1 ≤ width_of t
-  pub most : width_of t ≤ 64
+  pub most : width_of t ≤ MAX_WIDTH
 
 -- how many numbers below 0 a type has, and how many from 0 on
 abbrev pub below : Ty → ℕ

@@ -1,18 +1,20 @@
 //! What every crate names: spans, texts, types of whole numbers and their operators, frames, kept images and their reads, and the limits.
 #![tactic(auto)]
 
+mod ascii;
 mod frame;
+mod limit;
 mod number;
 mod operator;
 mod span;
 mod stencil_tests;
 mod stencils;
-#[cfg(test)]
-mod tests;
 mod text;
 mod ty;
 
+pub use ascii::{digits_length, is_digit, is_letter, is_white, is_word_byte, word_length};
 pub use frame::FrameSize;
+pub use limit::limits;
 pub use number::{bits_for, saturate, saturate_law, wrap, wrap_law};
 pub use operator::{Binary, Conversion, Scaling, Unary, select_type};
 pub use span::Span;
@@ -64,6 +66,9 @@ pub const MAX_NAME_BYTES: usize = 64;
 
 /// The greatest length of a PGM header with its `P5`, in bytes.
 pub const MAX_HEADER_BYTES: usize = 65_536;
+
+/// The greatest maxval of a PGM image. The least is 1.
+pub const MAX_MAXVAL: u16 = 65_535;
 
 /// The greatest number of clocks that `sim` is asked for.
 pub const MAX_CLOCKS: u64 = 100_000_000;

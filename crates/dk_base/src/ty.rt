@@ -1,6 +1,7 @@
 // The types of values.
 
 ghost use Rattle.std.specs.Prelude.{◌≡◌, ◌+◌, ◌≤◌, ◌^◌, pos, IsTrue, ◌↔◌};
+ghost use Rattle.dk_base.specs.declared.TheConstants.{MAX_WIDTH};
 ghost use Rattle.dk_base.specs.Types.{width_of, is_signed, is_bit, common_type, sum_type, difference_type, product_type, negation_type, magnitude_type, shifted_type, narrowed_type, converts, least_of, greatest_of, IsType, IsIn};
 
 use std::cmp::max;
@@ -15,7 +16,7 @@ pub enum Ty {
 // 2 to the power `exponent`.
 #[tactic(auto, using(std::proofs::lemmas::Nat::one_shl, std::proofs::lemmas::Nat::pow_below))]
 pub(crate) fn power(exponent: u8) -> i128
-    requires { exponent ≤ 64 }
+    requires { exponent ≤ MAX_WIDTH }
     ensures { result ≡ pos (2 ^ exponent) }
 {
     let bits: u128 = 1 << exponent;

@@ -13,18 +13,16 @@ use Rattle.dk_types.specs.declared.fault.TypeFault.{TypeFault}
 use Rattle.dk_types.specs.Typed.{Definition, Typing}
 use Rattle.dk_types.specs.Types.{IsTyping}
 use Rattle.dk_types.specs.Faults.{IsFirstFault}
-use Rattle.pointwise_ir.specs.Programs.{Program}
 use Rattle.dk_inline.specs.declared.inlining.InlineFault.TheVariants as inlining
 use Rattle.dk_inline.specs.Nodes.{IsFirstDeep}
 use Rattle.dk_inline.specs.Answers.{IsWithin}
 use Rattle.dk_inline.specs.Answers as I
-use Rattle.stencil_sets.specs.Live.{HasCount}
 use Rattle.dk_compile.specs.declared.fault.SourceFault.{SourceFault}
 use Rattle.dk_compile.specs.declared.fault.SourceFault.TheVariants.{Lex, Nest, Syntax, Depth, Types, Nodes, InlineDepth, Reads, Memory}
 use Rattle.dk_compile.specs.Faults.{of_parser}
 use Rattle.dk_compile.specs.Sources.{HasTree, IsText, HasTooMany, IsFault}
 use Rattle.dk_compile.proofs.Once.{tree_one, text_one}
-use Rattle.dk_compile.proofs.Apart.{count_same}
+use Rattle.dk_compile.proofs.Counts.{too_many_once}
 
 -- a fault by the pass that finds it
 data Found (text : List ℕ) (f : SourceFault) : Type 0 where
@@ -72,8 +70,7 @@ module _ (tokens_once : (text : List ℕ) (ts us : List Token) → HasTokens tex
     (no_parse : (ts : List Token) (p : Source) (f : ParseError) → Accepted ts p → Faults ts f → f ≡ parser.Memory)
     (typing_once : (a : Source) (p q : Typing) → IsTyping a p → IsTyping a q → p ≡ q)
     (type_once : (a : Source) (f g : TypeFault) → IsFirstFault a f → IsFirstFault a g → f ≡ g)
-    (no_type : (a : Source) (p : Typing) (f : TypeFault) → IsTyping a p → IsFirstFault a f → ⊥)
-    (count_once : (ir : Program) (m n : ℕ) → HasCount ir m → HasCount ir n → m ≡ n) where
+    (no_type : (a : Source) (p : Typing) (f : TypeFault) → IsTyping a p → IsFirstFault a f → ⊥) where
   same_program : (text : List ℕ) (p q : Typing) → IsText text p → IsText text q → p ≡ q
   same_program text p q = text_one tokens_once tree_once typing_once text p q
 
@@ -158,8 +155,7 @@ module _ (tokens_once : (text : List ℕ) (ts us : List Token) → HasTokens tex
       let deep = (late text q p is of (λ r. I.IsFault r (inlining.InlineDepth s)) told).1 in
       absurd (within.depth deep.place deep.definition deep.is)
   meet text f g (read m p e is within many) (read n q h of also more) =
-      let one = late text p q is of (λ r. HasTooMany r m) many in
-      inr (inr (e ∙ ap Reads (count_once more.ir m n (count_same q one.ir more.ir one.form more.form m one.counted) more.counted) ∙ sym h))
+      inr (inr (e ∙ ap Reads (too_many_once q m n (late text p q is of (λ r. HasTooMany r m) many) more) ∙ sym h))
 
   pub agree : (text : List ℕ) (f g : SourceFault) → IsFault text f → IsFault text g → Agrees f g
   agree text f g is of = meet text f g (found text f is) (found text g of)

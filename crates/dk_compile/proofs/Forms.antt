@@ -7,7 +7,7 @@ use Rattle.pointwise_ir.specs.Programs.{Program}
 use Rattle.pointwise_ir.specs.Meaning.{picture_at, IsPicture, IsRound}
 use Rattle.pointwise_ir.specs.Passes.{KeepsMeaning}
 use Rattle.dk_inline.specs.Answers.{IsInlining, KeepsProgram}
-use Rattle.dk_compile.specs.Sources.{IsForm}
+use Rattle.dk_compile.specs.Fronts.{IsForm}
 
 round_before : (old new : Program) → KeepsMeaning old new → (round : List Picture) → IsRound new round → IsRound old round
 round_before old new keeps round is = record {

@@ -1,27 +1,20 @@
 -- Texts as programs within the limits, and the first fault of those that are none.
-use Rattle.std.specs.Prelude.{◌≡◌, ◌↔◌, ℕ, ◌<◌, ◌≤◌, ℤ, List, length, map}
-use Rattle.dk_base.specs.Frames.{Picture}
-use Rattle.dk_base.specs.Stencils.{Parts}
+use Rattle.std.specs.Prelude.{◌≡◌, ◌⊎◌, ◌↔◌, ℕ, ◌<◌, ◌≤◌, List, length, Contains}
+use Rattle.dk_base.specs.declared.TheConstants.{MAX_LIVE_READS}
+use Rattle.dk_base.specs.declared.stencils.LiveRead.{LiveRead}
+use Rattle.dk_base.specs.Stencils.{AreInOrder}
 use Rattle.dk_lexer.specs.declared.token.Token.{Token}
 use Rattle.dk_lexer.specs.Lexis.{HasTokens, HasFault}
 use Rattle.dk_parser.specs.declared.whole.ParseError.TheVariants as parser
 use Rattle.dk_parser.specs.Programs.{Source}
 use Rattle.dk_parser.specs.Judged.{Accepted, Faults}
-use Rattle.dk_types.specs.Typed.{Typing, types_of}
+use Rattle.dk_types.specs.Typed.{Typing}
 use Rattle.dk_types.specs.Types.{IsTyping}
 use Rattle.dk_types.specs.Faults.{IsFirstFault}
-use Rattle.dk_types.specs.Meaning.{meaning}
 use Rattle.dk_types.specs.Reads.{IsLive, IsKept}
-use Rattle.pointwise_ir.specs.Programs.{Program, names_of}
-use Rattle.pointwise_ir.specs.Programs as P
-use Rattle.pointwise_ir.specs.Meaning.{picture_at, pictures, IsRound}
-use Rattle.pointwise_ir.specs.Reads as R
 use Rattle.dk_inline.specs.declared.inlining.InlineFault.TheVariants as inlining
-use Rattle.dk_inline.specs.Inlined.{Stays}
-use Rattle.dk_inline.specs.Answers.{IsWithin, image_names}
+use Rattle.dk_inline.specs.Answers.{IsWithin}
 use Rattle.dk_inline.specs.Answers as I
-use Rattle.dk_inline.specs.Folded.{IsFolded}
-use Rattle.stencil_sets.specs.Live.{AreStencilsOf, HasCount}
 use Rattle.dk_compile.specs.declared.fault.SourceFault.{SourceFault}
 use Rattle.dk_compile.specs.declared.fault.SourceFault.TheVariants.{Lex, Nest, Syntax, Depth, Types, Nodes, InlineDepth, Reads, Memory}
 
@@ -37,32 +30,43 @@ pub record IsText (text : List ℕ) (p : Typing) : Type 0 where
   pub parsed : HasTree text tree
   pub typed : IsTyping tree p
 
--- Images without inline ones that mean what the program means: the same sizes, names and types; of each image that stays the same picture on any round; the same kept images, and the same live reads of each.
-pub record IsForm (p : Typing) (ir : Program) : Type 0 where
-  pub size : ir.size ≡ p.size
-  pub inputs : map (λ i. i.ty) ir.inputs ≡ map (λ i. i.ty) p.inputs
-  pub names : names_of ir ≡ image_names p
-  pub types : P.types_of ir ≡ types_of p
-  pub outputs : ir.outputs ≡ p.outputs
-  pub meaning : (round : List Picture) → IsRound ir round → (g : ℕ) → Stays p g → (x y : ℤ) → picture_at (pictures ir round) g x y ≡ picture_at (meaning p round) g x y
-  pub kept : (g : ℕ) → R.Kept ir g ↔ IsKept p g
-  pub live : (f g : ℕ) (dx dy : ℤ) → IsKept p f → R.IsLive ir f g dx dy ↔ IsLive p f g dx dy
+-- a live read by a kept image
+pub record IsKeptRead (p : Typing) (r : LiveRead) : Type 0 where
+  pub kept : IsKept p r.f
+  pub live : IsLive p r.f r.g r.dx r.dy
 
--- the text is a program within all limits, with this form and these stencils
-pub record IsAccepted (text : List ℕ) (p : Typing) (ir : Program) (s : Parts) : Type 0 where
+-- they are the live reads of the kept images, in order, so that none stands twice
+pub record AreReadsOf (p : Typing) (reads : List LiveRead) : Type 0 where
+  pub in_order : AreInOrder reads
+  pub exact : (r : LiveRead) → Contains reads r ↔ IsKeptRead p r
+
+-- the text is that of this program, which is within all limits: on nodes, on depth after inlining, and on live reads
+pub record IsAccepted (text : List ℕ) (p : Typing) : Type 0 where
   pub program : IsText text p
   pub within : IsWithin p
-  pub form : IsForm p ir
-  pub folded : IsFolded ir
-  pub stencils : AreStencilsOf ir s
-  pub few : length s.reads ≤ 4096
+  pub reads : List LiveRead
+  pub are_reads : AreReadsOf p reads
+  pub few : length reads ≤ MAX_LIVE_READS
 
--- so many live reads of kept images, more than 4,096, counted in a form of the program
+-- so many live reads of kept images
+pub record HasReads (p : Typing) (count : ℕ) : Type 0 where
+  pub reads : List LiveRead
+  pub are_reads : AreReadsOf p reads
+  pub count_is : count ≡ length reads
+  pub few : count ≤ 65536
+
+-- more than 65,536 of them, which count as 65,537
+pub record HasManyReads (p : Typing) (count : ℕ) : Type 0 where
+  pub reads : List LiveRead
+  pub in_order : AreInOrder reads
+  pub sound : (r : LiveRead) → Contains reads r → IsKeptRead p r
+  pub many : 65536 < length reads
+  pub count_is : count ≡ 65537
+
+-- so many live reads of kept images, which are too many
 pub record HasTooMany (p : Typing) (count : ℕ) : Type 0 where
-  pub ir : Program
-  pub form : IsForm p ir
-  pub more : 4096 < count
-  pub counted : HasCount ir count
+  pub more : MAX_LIVE_READS < count
+  pub counted : HasReads p count ⊎ HasManyReads p count
 
 -- The first fault of a text: tokens, tree, types, nodes, depth after inlining, live reads. Each is told where all before it is in order.
 abbrev pub IsFault : List ℕ → SourceFault → Type 0

@@ -12,25 +12,34 @@ use dk_types::{TypeError, TypeFault};
 use stencil_sets::StencilFault;
 
 /// Why a text is no program within the limits, in the order in which it is judged. Spans are in bytes of the text.
-#[derive(Clone, Copy, Debug, PartialEq, Eq)]
+#[derive(Clone, Copy, Debug, PartialEq, Eq, thiserror::Error)]
 pub enum SourceFault {
     /// The text has no tokens.
+    #[error("{0}")]
     Lex(LexFault),
     /// The first bracket that leaves too many unclosed.
+    #[error("{}-{}: Nest", .span.start, .span.stop)]
     Nest { span: Span },
     /// The faulty token.
+    #[error("{}-{}: Syntax", .span.start, .span.stop)]
     Syntax { span: Span },
     /// The first subtree that is too deep.
+    #[error("{}-{}: Depth", .span.start, .span.stop)]
     Depth { span: Span },
     /// The program has no types.
+    #[error("{0}")]
     Types(TypeFault),
     /// More than 65,536 nodes after inlining. The count saturates.
+    #[error("Nodes {count}")]
     Nodes { count: u64 },
     /// The name of the first definition that is deeper than 1,024 after inlining.
+    #[error("{}-{}: InlineDepth", .span.start, .span.stop)]
     InlineDepth { span: Span },
     /// More than 4,096 live reads. The count is 65,537 where there are more than 65,536.
+    #[error("Reads {count}")]
     Reads { count: u32 },
     /// There was not enough memory to tell.
+    #[error("out of memory")]
     Memory,
 }
 

@@ -5,8 +5,6 @@ mod accepted;
 mod fault;
 mod laws;
 mod reading;
-#[cfg(test)]
-mod tests;
 
 pub use accepted::Front;
 pub use fault::SourceFault;

@@ -6,7 +6,8 @@ ghost use Rattle.dk_types.specs.Typed.{Typing, typing_of};
 ghost use Rattle.pointwise_ir.specs.Passes.{KeepsMeaning};
 ghost use Rattle.dk_inline.specs.Folded.{IsFolded};
 ghost use Rattle.dk_inline.specs.Answers.{IsWithin};
-ghost use Rattle.dk_compile.specs.Sources.{HasTree, IsText, IsForm, IsAccepted, IsFault};
+ghost use Rattle.dk_compile.specs.Sources.{HasTree, IsText, IsAccepted, IsFault};
+ghost use Rattle.dk_compile.specs.Fronts.{IsForm, IsFront};
 
 use crate::accepted::Front;
 use crate::fault::SourceFault;
@@ -67,7 +68,7 @@ fn form(alloc: Global, text: &[u8]) -> Result<Ir, SourceFault>
 
 /// The program of a text, or the first fault of the text. Limits on bytes are the caller's.
 pub fn front(alloc: Global, text: &[u8]) -> Result<Front, SourceFault>
-    ensures accepted { IfOk result (λ front. (p : Typing) × IsAccepted text.now p front.ir front.stencils) }
+    ensures accepted { IfOk result (λ front. (p : Typing) × IsAccepted text.now p × IsFront text.now p front.ir front.stencils) }
     ensures fault { IfErr result (IsFault text.now) }
 {
     let ir = form(alloc, text)?;

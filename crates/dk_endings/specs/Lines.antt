@@ -1,7 +1,7 @@
 -- The lines that endings write to Fault, and their exit statuses.
 use Rattle.std.specs.Prelude.{ℕ, ℤ, List, [], ◌++◌, codes, decimal}
 use Rattle.std.specs.Fmt.{signed_decimal}
-use Rattle.dk_base.specs.declared.TheConstants.{MAX_SOURCE_BYTES, MAX_HEADER_BYTES}
+use Rattle.dk_base.specs.declared.TheConstants.{MAX_SOURCE_BYTES, MAX_HEADER_BYTES, MAX_FILE_IMAGES, MAX_PGM_BYTES, MAX_VERILOG_BYTES, MAX_REPORT_BYTES}
 use Rattle.dk_base.specs.declared.span.Span.{Span}
 use Rattle.dk_lexer.specs.declared.fault.LexKind.{LexKind}
 use Rattle.dk_lexer.specs.declared.fault.LexKind.TheVariants as lexer
@@ -11,7 +11,6 @@ use Rattle.pgm_rounds.specs.declared.fault.ImageFault.{ImageFault as FileFault}
 use Rattle.pgm_rounds.specs.declared.fault.ImageFault.TheVariants as file
 use Rattle.test_bench.specs.declared.stop.Stop.{Stop}
 use Rattle.test_bench.specs.declared.stop.Stop.TheVariants as stop
-use Rattle.dk_endings.specs.declared.TheConstants.{MAX_IMAGE_BYTES, MAX_VERILOG_BYTES, MAX_REPORT_BYTES}
 use Rattle.dk_endings.specs.declared.ending.Ending.{Ending}
 use Rattle.dk_endings.specs.declared.ending.Ending.TheVariants as ending
 use Rattle.dk_endings.specs.declared.ending.SourceFault.{SourceFault}
@@ -82,11 +81,11 @@ file_line (file.Size width height) = twice_numbered (codes "image: Size ") width
 file_line (file.Maxval maxval) = numbered (codes "image: Maxval ") maxval
 file_line (file.SampleTooGreat index) = numbered (codes "image: SampleTooGreat ") index
 file_line (file.Short held need) = twice_numbered (codes "image: Short ") held need
-file_line file.Count = numbered (codes "image: Count ") 65536
+file_line file.Count = numbered (codes "image: Count ") MAX_FILE_IMAGES
 file_line (file.Round held need) = twice_numbered (codes "image: Round ") held need
 
 abbrev pub image_line : ImageFault → List ℕ
-image_line image.TooLong = numbered (codes "image: TooLong ") MAX_IMAGE_BYTES
+image_line image.TooLong = numbered (codes "image: TooLong ") MAX_PGM_BYTES
 image_line (image.File fault) = file_line fault
 
 -- what is wrong with a Verilog text

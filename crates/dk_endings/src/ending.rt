@@ -39,7 +39,7 @@ pub enum SourceFault {
 /// Why a file of images is refused.
 #[derive(Clone, Copy, Debug, PartialEq, Eq)]
 pub enum ImageFault {
-    /// The file is longer than `MAX_IMAGE_BYTES`.
+    /// The file is longer than `MAX_PGM_BYTES`.
     TooLong,
     /// The first fault of its images.
     File(pgm_rounds::ImageFault),

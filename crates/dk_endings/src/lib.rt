@@ -8,12 +8,3 @@ mod verilog;
 pub use ending::{Ending, ImageFault, ReportFault, SourceFault};
 pub use line::{LINE_BYTES, Line, holds_line};
 pub use verilog::{VerilogFault, VerilogKind};
-
-/// The greatest length of a file of images that is read whole, in bytes.
-pub const MAX_IMAGE_BYTES: usize = 268_435_456;
-
-/// The greatest length of a Verilog text, in bytes.
-pub const MAX_VERILOG_BYTES: usize = 268_435_456;
-
-/// The greatest length of a report, in bytes.
-pub const MAX_REPORT_BYTES: usize = 4_194_304;

@@ -6,9 +6,11 @@ ghost use Rattle.dk_endings.specs.Lines.{lexer_kind as lexer_word, types_kind as
 
 use crate::ending::{Ending, ImageFault, ReportFault, SourceFault};
 use crate::verilog::{VerilogFault, VerilogKind};
-use crate::{MAX_IMAGE_BYTES, MAX_REPORT_BYTES, MAX_VERILOG_BYTES};
 use arrayvec::ArrayString;
-use dk_base::{MAX_HEADER_BYTES, MAX_SOURCE_BYTES, Span};
+use dk_base::{
+    MAX_FILE_IMAGES, MAX_HEADER_BYTES, MAX_PGM_BYTES, MAX_REPORT_BYTES, MAX_SOURCE_BYTES,
+    MAX_VERILOG_BYTES, Span,
+};
 use dk_lexer::LexKind;
 use dk_types::TypeFaultKind;
 use itoa::Buffer;
@@ -147,7 +149,7 @@ fn file_line(fault: &FileFault) -> Line
         FileFault::Maxval { maxval } => numbered("image: Maxval ", u128::from(*maxval)),
         FileFault::SampleTooGreat { index } => numbered("image: SampleTooGreat ", *index as u128),
         FileFault::Short { held, need } => twice_numbered("image: Short ", *held, *need),
-        FileFault::Count => numbered("image: Count ", 65536),
+        FileFault::Count => numbered("image: Count ", u128::from(MAX_FILE_IMAGES)),
         FileFault::Round { held, need } => {
             twice_numbered("image: Round ", *held as u128, *need as u128)
         }
@@ -271,7 +273,7 @@ impl Ending {
             ),
             Ending::Source(fault) => source_line(fault),
             Ending::Image(ImageFault::TooLong) => {
-                numbered("image: TooLong ", MAX_IMAGE_BYTES as u128)
+                numbered("image: TooLong ", MAX_PGM_BYTES as u128)
             }
             Ending::Image(ImageFault::File(fault)) => file_line(fault),
             Ending::Verilog(fault) => verilog_line(fault),

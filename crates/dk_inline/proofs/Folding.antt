@@ -19,7 +19,7 @@ use Rattle.pointwise_ir.specs.Operands.{TakesTwo}
 use Rattle.pointwise_ir.proofs.Agreement.{edged_agrees}
 use Rattle.pointwise_ir.proofs.Defined.{depth_some}
 use Rattle.pointwise_ir.proofs.Typed.{AreTypes, type_typed, value_in}
-use Rattle.dk_inline.specs.Folded.{IsPart, IsClosed, IsConstant, HasFoldedParts}
+use Rattle.dk_inline.specs.Folded.{IsPart, IsClosed, IsConstant, HasFoldedParts, IsWorth}
 use Rattle.dk_inline.specs.Standing.{IsTyped, StandsFor}
 
 -- an expression with no read and no shift has its type over no images too
@@ -83,39 +83,74 @@ constant_stands a v s closed same worth = record {
 same_some : (t s : Ty) → Some t ≡ Some s → t ≡ s
 same_some t s e = cc
 
--- the constants that the operators give
-pub unary_constant_stands : (op : Unary) (a : Tree) (v : ℤ) (r s : Ty) → a ≡ constant v r → unary_type op r ≡ Some s → StandsFor (unary op a) (constant (unary_value op v) s)
-unary_constant_stands op a v r s e rule =
-    let P : Tree → Type 0 = λ x. StandsFor (unary op x) (constant (unary_value op v) s) in
-    subst P (sym e) (constant_stands (unary op (constant v r)) (unary_value op v) s tt
-    (λ types t (q, h, is). same_some t s (sym is ∙ ap (unary_type op) h.2 ∙ rule)) (λ size known x y. refl))
+-- one type at most
+one_type : (types : List Ty) (e : Tree) (s t : Ty) → HasType types e s → HasType types e t → s ≡ t
+one_type types (constant v r) s t h k = h.2 ∙ sym k.2
+one_type types (read edge g dx dy) s t h k = same_some s t (sym h ∙ k)
+one_type types (shifted edge dx dy a) s t h k = one_type types a s t h k
+one_type types (unary op a) s t (p, h, is) (q, k, of) = same_some s t (sym is ∙ ap (unary_type op) (one_type types a p q h k) ∙ of)
+one_type types (binary op a b) s t (p, q, h, i, is) (l, m, k, n, of) =
+    same_some s t (sym is ∙ ap (λ w. binary_type op w q) (one_type types a p l h k) ∙ ap (binary_type op l) (one_type types b q m i n) ∙ of)
+one_type types (select c a b) s t (o, p, q, g, h, i, is) (j, l, m, f, k, n, of) =
+    same_some s t (sym is ∙ ap (λ w. select_type w p q) (one_type types c o j g f) ∙ ap (λ w. select_type j w q) (one_type types a p l h k) ∙ ap (select_type j l) (one_type types b q m i n) ∙ of)
+one_type types (convert how a r) s t (ok, is, p, h) (also, of, q, k) = is ∙ sym of
+one_type types (scale op a n) s t (p, h, is) (q, k, of) = same_some s t (sym is ∙ ap (λ w. scaling_type op w n) (one_type types a p q h k) ∙ of)
 
-pub binary_constant_stands : (op : Binary) (a b : Tree) (v u : ℤ) (r q s : Ty) → a ≡ constant v r → b ≡ constant u q → binary_type op r q ≡ Some s → StandsFor (binary op a b) (constant (binary_value op v u) s)
-binary_constant_stands op a b v u r q s e f rule =
-    let P : Tree → Type 0 = λ x. StandsFor (binary op x b) (constant (binary_value op v u) s) in
-    let Q : Tree → Type 0 = λ x. StandsFor (binary op (constant v r) x) (constant (binary_value op v u) s) in
-    subst P (sym e) (subst Q (sym f) (constant_stands (binary op (constant v r) (constant u q)) (binary_value op v u) s (tt, tt)
-    (λ types t (n, m, h, k, is). same_some t s (sym is ∙ ap (λ w. binary_type op w m) h.2 ∙ ap (binary_type op r) k.2 ∙ rule)) (λ size known x y. refl)))
+-- the constant of its value and its type stands for an expression
+pub worth_stands : (a : Tree) (v : ℤ) (s : Ty) → IsWorth a v s → StandsFor a (constant v s)
+worth_stands a v s w = constant_stands a v s w.closed (λ types t has. one_type [] a t s (closed_typed types a t w.closed has) w.typed) w.value
 
-pub select_constant_stands : (c a b : Tree) (w v u : ℤ) (p r q s : Ty) → c ≡ constant w p → a ≡ constant v r → b ≡ constant u q → select_type p r q ≡ Some s →
-    StandsFor (select c a b) (constant (select_value w v u) s)
-select_constant_stands c a b w v u p r q s d e f rule =
-    let N : Tree → Type 0 = λ x. StandsFor (select x a b) (constant (select_value w v u) s) in
-    let P : Tree → Type 0 = λ x. StandsFor (select (constant w p) x b) (constant (select_value w v u) s) in
-    let Q : Tree → Type 0 = λ x. StandsFor (select (constant w p) (constant v r) x) (constant (select_value w v u) s) in
-    subst N (sym d) (subst P (sym e) (subst Q (sym f) (constant_stands (select (constant w p) (constant v r) (constant u q)) (select_value w v u) s (tt, tt, tt)
-    (λ types t (l, n, m, g, h, k, is). same_some t s (sym is ∙ ap (λ z. select_type z n m) g.2 ∙ ap (λ z. select_type p z m) h.2 ∙ ap (select_type p r) k.2 ∙ rule)) (λ size known x y. refl))))
+-- what the operators make of constants
+pub constant_worth : (v : ℤ) (r : Ty) → IsTyped (constant v r) → IsWorth (constant v r) v r
+constant_worth v r typed = record { closed = tt; typed = (typed.typed.0, typed.typed.1, refl); value = λ size known x y. refl }
 
-pub convert_constant_stands : (how : Conversion) (a : Tree) (v : ℤ) (r s : Ty) → a ≡ constant v r → StandsFor (convert how a s) (constant (conversion_value how s v) s)
-convert_constant_stands how a v r s e =
-    let P : Tree → Type 0 = λ x. StandsFor (convert how x s) (constant (conversion_value how s v) s) in
-    subst P (sym e) (constant_stands (convert how (constant v r) s) (conversion_value how s v) s tt (λ types t (ok, is, q, h). is) (λ size known x y. refl))
+pub unary_worth : (op : Unary) (a : Tree) (v : ℤ) (r s : Ty) → a ≡ constant v r → IsTyped (unary op a) → unary_type op r ≡ Some s → IsWorth (unary op a) (unary_value op v) s
+unary_worth op a v r s e typed rule =
+    let P : Tree → Type 0 = λ x. HasType typed.types x typed.typed.0 in
+    let Q : Tree → Type 0 = λ x. IsWorth (unary op x) (unary_value op v) s in
+    let has = subst P e typed.typed.1 in
+    subst Q (sym e) (record { closed = tt; typed = (r, (has.0, has.1, refl), rule); value = λ size known x y. refl })
 
-pub scale_constant_stands : (op : Scaling) (a : Tree) (v : ℤ) (k : ℕ) (r s : Ty) → a ≡ constant v r → scaling_type op r k ≡ Some s → StandsFor (scale op a k) (constant (scaling_value op v k) s)
-scale_constant_stands op a v k r s e rule =
-    let P : Tree → Type 0 = λ x. StandsFor (scale op x k) (constant (scaling_value op v k) s) in
-    subst P (sym e) (constant_stands (scale op (constant v r) k) (scaling_value op v k) s tt
-    (λ types t (q, h, is). same_some t s (sym is ∙ ap (λ w. scaling_type op w k) h.2 ∙ rule)) (λ size known x y. refl))
+pub binary_worth : (op : Binary) (a b : Tree) (v u : ℤ) (r q s : Ty) → a ≡ constant v r → b ≡ constant u q → IsTyped (binary op a b) → binary_type op r q ≡ Some s → IsWorth (binary op a b) (binary_value op v u) s
+binary_worth op a b v u r q s e f typed rule =
+    let P : Tree → Type 0 = λ x. HasType typed.types x typed.typed.0 in
+    let Q : Tree → Type 0 = λ x. HasType typed.types x typed.typed.1 in
+    let left = subst P e typed.typed.2 in
+    let right = subst Q f typed.typed.3 in
+    let R : Tree → Type 0 = λ x. IsWorth (binary op x b) (binary_value op v u) s in
+    let S : Tree → Type 0 = λ x. IsWorth (binary op (constant v r) x) (binary_value op v u) s in
+    subst R (sym e) (subst S (sym f) (record { closed = (tt, tt); typed = (r, q, (left.0, left.1, refl), (right.0, right.1, refl), rule); value = λ size known x y. refl }))
+
+pub select_worth : (c a b : Tree) (w v u : ℤ) (p r q s : Ty) → c ≡ constant w p → a ≡ constant v r → b ≡ constant u q → IsTyped (select c a b) → select_type p r q ≡ Some s → IsWorth (select c a b) (select_value w v u) s
+select_worth c a b w v u p r q s d e f typed rule =
+    let N : Tree → Type 0 = λ x. HasType typed.types x typed.typed.0 in
+    let P : Tree → Type 0 = λ x. HasType typed.types x typed.typed.1 in
+    let Q : Tree → Type 0 = λ x. HasType typed.types x typed.typed.2 in
+    let first = subst N d typed.typed.3 in
+    let left = subst P e typed.typed.4 in
+    let right = subst Q f typed.typed.5 in
+    let R : Tree → Type 0 = λ x. IsWorth (select x a b) (select_value w v u) s in
+    let S : Tree → Type 0 = λ x. IsWorth (select (constant w p) x b) (select_value w v u) s in
+    let T : Tree → Type 0 = λ x. IsWorth (select (constant w p) (constant v r) x) (select_value w v u) s in
+    subst R (sym d) (subst S (sym e) (subst T (sym f) (record {
+      closed = (tt, tt, tt);
+      typed = (p, r, q, (first.0, first.1, refl), (left.0, left.1, refl), (right.0, right.1, refl), rule);
+      value = λ size known x y. refl;
+    })))
+
+pub convert_worth : (how : Conversion) (a : Tree) (v : ℤ) (r s : Ty) → a ≡ constant v r → IsTyped (convert how a s) → IsWorth (convert how a s) (conversion_value how s v) s
+convert_worth how a v r s e typed =
+    let P : Tree → Type 0 = λ x. HasType typed.types x typed.typed.2 in
+    let Q : Tree → Type 0 = λ x. IsWorth (convert how x s) (conversion_value how s v) s in
+    let has = subst P e typed.typed.3 in
+    subst Q (sym e) (record { closed = tt; typed = (typed.typed.0, refl, r, (has.0, has.1, refl)); value = λ size known x y. refl })
+
+pub scale_worth : (op : Scaling) (a : Tree) (v : ℤ) (k : ℕ) (r s : Ty) → a ≡ constant v r → IsTyped (scale op a k) → scaling_type op r k ≡ Some s → IsWorth (scale op a k) (scaling_value op v k) s
+scale_worth op a v k r s e typed rule =
+    let P : Tree → Type 0 = λ x. HasType typed.types x typed.typed.0 in
+    let Q : Tree → Type 0 = λ x. IsWorth (scale op x k) (scaling_value op v k) s in
+    let has = subst P e typed.typed.1 in
+    subst Q (sym e) (record { closed = tt; typed = (r, (has.0, has.1, refl), rule); value = λ size known x y. refl })
 
 -- two constants are operands, where the operator gives a type
 pub takes_two : (op : Binary) (a b : Tree) (v u : ℤ) (r q s : Ty) → a ≡ constant v r → b ≡ constant u q → IsTyped (binary op a b) → binary_type op r q ≡ Some s → TakesTwo op v u
@@ -250,7 +285,7 @@ whole : (part e : Tree) → (IsClosed e → ⊥) → part ≡ e → IsClosed par
 whole part e never is closed = absurd (never (let P : Tree → Type 0 = λ e. IsClosed e in subst P is closed))
 
 -- what has folded parts and is no constant is not closed
-not_closed : (e : Tree) → HasFoldedParts e → (IsConstant e → ⊥) → IsClosed e → ⊥
+pub not_closed : (e : Tree) → HasFoldedParts e → (IsConstant e → ⊥) → IsClosed e → ⊥
 not_closed e folded not closed = not (folded e (itself e) closed)
   where
     itself : (e : Tree) → IsPart e e

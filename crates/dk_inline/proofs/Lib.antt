@@ -12,4 +12,6 @@ pub mod Counted
 pub mod Listed
 pub mod Whole
 pub mod Folding
+pub mod Folds
+pub mod WorkedFolds
 pub mod FoldedImages

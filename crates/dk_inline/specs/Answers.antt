@@ -1,5 +1,6 @@
 -- What inlining answers: a program that means the same, or the first limit that is passed.
 use Rattle.std.specs.Prelude.{◌≡◌, ◌↔◌, ℕ, ◌<◌, ◌≤◌, min, ℤ, List, ◌++◌, map}
+use Rattle.dk_base.specs.declared.TheConstants.{MAX_NODES}
 use Rattle.dk_base.specs.Frames.{Picture}
 use Rattle.dk_types.specs.Typed.{Definition, Typing, types_of}
 use Rattle.dk_types.specs.Meaning.{meaning}
@@ -19,7 +20,7 @@ image_names p = map (λ i. i.name.text) p.inputs ++ map (λ (d : Definition). d.
 
 -- the program is within both limits
 pub record IsWithin (p : Typing) : Type 0 where
-  pub nodes : node_count p ≤ 65536
+  pub nodes : node_count p ≤ MAX_NODES
   pub depth : (k : ℕ) (d : Definition) → IsDeep p k d → ⊥
 
 -- the same images with inlined bodies
@@ -40,6 +41,6 @@ pub record KeepsProgram (p : Typing) (ir : Program) : Type 0 where
 
 -- the limit that is passed first; a count of nodes is told up to 2^64 - 1
 abbrev pub IsFault : Typing → InlineFault → Type 0
-IsFault p (Nodes count) = (65536 < node_count p) × (count ≡ min (node_count p) 18446744073709551615)
-IsFault p (InlineDepth name) = (node_count p ≤ 65536) × IsFirstDeep p name
+IsFault p (Nodes count) = (MAX_NODES < node_count p) × (count ≡ min (node_count p) 18446744073709551615)
+IsFault p (InlineDepth name) = (node_count p ≤ MAX_NODES) × IsFirstDeep p name
 IsFault p Memory = Unit {0}

@@ -4,3 +4,4 @@ pub mod Answers
 pub mod Extents
 pub mod Folded
 pub mod Standing
+pub mod Worked

@@ -1,5 +1,6 @@
 -- How many nodes a program has after inlining, and which definition is too deep.
 use Rattle.std.specs.Prelude.{◌≡◌, ℕ, suc, ◌+◌, ◌<◌, true, if◌then◌else◌, List, [], ◌∷◌, slice_get, Some}
+use Rattle.dk_base.specs.declared.TheConstants.{MAX_INLINED_DEPTH}
 use Rattle.dk_base.specs.declared.span.Span.{Span}
 use Rattle.dk_types.specs.Typed.{Definition, Typing}
 use Rattle.pointwise_ir.specs.Trees.{Tree, constant, read, shifted, unary, binary, select, convert, scale, depth_of}
@@ -28,7 +29,7 @@ node_count p = nodes_from p 0 p.definitions
 pub record IsDeep (p : Typing) (k : ℕ) (d : Definition) : Type 0 where
   pub at : slice_get p.definitions k ≡ Some d
   pub stays : stays p k d ≡ true
-  pub deep : 1024 < depth_of (inlined_body (substitutes p) d)
+  pub deep : MAX_INLINED_DEPTH < depth_of (inlined_body (substitutes p) d)
 
 -- the first such definition has its name there
 pub record IsFirstDeep (p : Typing) (name : Span) : Type 0 where

@@ -6,7 +6,7 @@ use Rattle.pointwise_ir.specs.declared.ir.Definition.{Definition}
 use Rattle.pointwise_ir.specs.Trees.{Tree, constant, read, shifted, unary, binary, select, convert, scale, tree_of, AreNear}
 use Rattle.pointwise_ir.specs.Typing.{HasType}
 use Rattle.pointwise_ir.specs.Rewritings.{IsRewriting}
-use Rattle.dk_inline.specs.Folded.{HasFoldedParts}
+use Rattle.dk_inline.specs.Folded.{HasFoldedParts, IsFoldOf}
 
 -- over some images the expression has a type, and its offsets are near
 pub record IsTyped (e : Tree) : Type 0 where
@@ -30,9 +30,21 @@ HasFoldedOperands (select c a b) = HasFoldedParts c × HasFoldedParts a × HasFo
 HasFoldedOperands (convert how a t) = HasFoldedParts a
 HasFoldedOperands (scale op a k) = HasFoldedParts a
 
--- d' is d with a body that stands for d's and has folded parts
-pub record IsFoldOf (d d' : Definition) : Type 0 where
+-- the new expression is the old one with folded operands
+abbrev pub AreOperandsFolded : (old new : Tree) → Type 0
+AreOperandsFolded (constant v t) new = new ≡ constant v t
+AreOperandsFolded (read edge g dx dy) new = new ≡ read edge g dx dy
+AreOperandsFolded (shifted edge dx dy a) new = (b : Tree) × (new ≡ shifted edge dx dy b) × IsFoldOf a b
+AreOperandsFolded (unary op a) new = (b : Tree) × (new ≡ unary op b) × IsFoldOf a b
+AreOperandsFolded (binary op a b) new = (c : Tree) × (d : Tree) × (new ≡ binary op c d) × IsFoldOf a c × IsFoldOf b d
+AreOperandsFolded (select a b c) new = (d : Tree) × (e : Tree) × (f : Tree) × (new ≡ select d e f) × IsFoldOf a d × IsFoldOf b e × IsFoldOf c f
+AreOperandsFolded (convert how a t) new = (b : Tree) × (new ≡ convert how b t) × IsFoldOf a b
+AreOperandsFolded (scale op a k) new = (b : Tree) × (new ≡ scale op b k) × IsFoldOf a b
+
+-- d' is d with its body folded, which stands for d's and has folded parts
+pub record IsFoldedImage (d d' : Definition) : Type 0 where
   pub name : d'.name ≡ d.name
   pub ty : d'.ty ≡ d.ty
   pub stands : StandsFor (tree_of d.body) (tree_of d'.body)
   pub folded : HasFoldedParts (tree_of d'.body)
+  pub fold : IsFoldOf (tree_of d.body) (tree_of d'.body)

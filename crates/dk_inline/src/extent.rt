@@ -1,6 +1,7 @@
 // How large a program is after inlining, counted before anything is substituted.
 
 ghost use Rattle.std.specs.Prelude.{◌≡◌, ℕ, ◌+◌, ◌<◌, max, List, length, IsTrue, ◌↔◌, IfOk, MatchOption, Some, None, slice_get, slice_index_or, if◌then◌else◌};
+ghost use Rattle.dk_base.specs.declared.TheConstants.{MAX_INLINED_DEPTH};
 ghost use Rattle.dk_types.specs.Typed.{Definition, typed_of, definition_of, typing_of};
 ghost use Rattle.dk_inline.specs.Inlined.{Substitute, inlined, inlined_body, substitutes, stays as stays_at};
 ghost use Rattle.dk_inline.specs.Nodes.{nodes_of, node_count as node_count_of, IsDeep, IsFirstDeep};
@@ -167,7 +168,7 @@ pub(crate) fn node_count(program: &TypedProgram, extents: &[Extent]) -> u64
 
 // Whether a depth passes the limit.
 fn passes(depth: u64) -> bool
-    ensures { IsTrue result ↔ (1024 < depth) }
+    ensures { IsTrue result ↔ (MAX_INLINED_DEPTH < depth) }
 {
     (MAX_INLINED_DEPTH as u64) < depth
 }

@@ -5,8 +5,8 @@ ghost use Rattle.pointwise_ir.specs.Trees.{constant, unary, binary, select, conv
 ghost use Rattle.pointwise_ir.specs.Programs.{IsProgram, program_of};
 ghost use Rattle.pointwise_ir.specs.Passes.{KeepsMeaning};
 ghost use Rattle.pointwise_ir.specs.Rewritings.{IsSameBut};
-ghost use Rattle.dk_inline.specs.Folded.{IsConstant, HasFoldedParts, IsFolded};
-ghost use Rattle.dk_inline.specs.Standing.{IsTyped, StandsFor, HasFoldedOperands, IsFoldOf};
+ghost use Rattle.dk_inline.specs.Folded.{IsConstant, HasFoldedParts, IsFolded, IsWorth, IsFoldOf, IsFolding};
+ghost use Rattle.dk_inline.specs.Standing.{IsTyped, StandsFor, HasFoldedOperands, AreOperandsFolded, IsFoldedImage};
 ghost use Rattle.pointwise_ir.specs.declared.ir.Definition.{Definition};
 
 use dk_base::{Binary, Conversion, Memory, Scaling, Ty, Unary, select_type};
@@ -15,9 +15,6 @@ use pointwise_ir::{
     scaling_value, select_value, unary_value,
 };
 use std::alloc::Global;
-
-#[cfg(test)]
-mod tests;
 
 /// Replaces each part without a read and without a shift by its one constant, of the same type. It takes no memory.
 #[derive(Drop)]
@@ -30,6 +27,7 @@ impl Rewrite for Fold {
         ensures made { IsOk result }
         ensures meaning { IfOk result (λ new. KeepsMeaning ir new) }
         ensures gives { IfOk result (λ new. IsFolded new) }
+        ensures folding { IfOk result (λ new. IsFolding ir new) }
     {
         ir.law();
         let mut parts = ir.into_parts();
@@ -63,7 +61,7 @@ fn constant_in(e: &Expr) -> Option<Constant>
 // The constant that an operator of one operand gives, where the operand is one.
 fn unary_constant(op: Unary, operand: &Expr) -> Option<Constant>
     requires { IsTyped (unary op (tree_of operand.now)) }
-    ensures found { IfSome result (λ c. StandsFor (unary op (tree_of operand.now)) (constant c.value c.ty)) }
+    ensures found { IfSome result (λ c. IsWorth (unary op (tree_of operand.now)) c.value c.ty) }
     ensures none { IfNone result (IsConstant (tree_of operand.now) → ⊥) }
 {
     let operand = constant_in(operand)?;
@@ -75,7 +73,7 @@ fn unary_constant(op: Unary, operand: &Expr) -> Option<Constant>
 // The constant that an operator of two operands gives, where both are one.
 fn binary_constant(op: Binary, left: &Expr, right: &Expr) -> Option<Constant>
     requires { IsTyped (binary op (tree_of left.now) (tree_of right.now)) }
-    ensures found { IfSome result (λ c. StandsFor (binary op (tree_of left.now) (tree_of right.now)) (constant c.value c.ty)) }
+    ensures found { IfSome result (λ c. IsWorth (binary op (tree_of left.now) (tree_of right.now)) c.value c.ty) }
     ensures none { IfNone result (IsConstant (tree_of left.now) → IsConstant (tree_of right.now) → ⊥) }
 {
     let left = constant_in(left)?;
@@ -88,7 +86,7 @@ fn binary_constant(op: Binary, left: &Expr, right: &Expr) -> Option<Constant>
 // The constant that a choice gives, where the condition and both arms are one.
 fn select_constant(condition: &Expr, left: &Expr, right: &Expr) -> Option<Constant>
     requires { IsTyped (select (tree_of condition.now) (tree_of left.now) (tree_of right.now)) }
-    ensures found { IfSome result (λ c. StandsFor (select (tree_of condition.now) (tree_of left.now) (tree_of right.now)) (constant c.value c.ty)) }
+    ensures found { IfSome result (λ c. IsWorth (select (tree_of condition.now) (tree_of left.now) (tree_of right.now)) c.value c.ty) }
     ensures none { IfNone result (IsConstant (tree_of condition.now) → IsConstant (tree_of left.now) → IsConstant (tree_of right.now) → ⊥) }
 {
     let condition = constant_in(condition)?;
@@ -102,7 +100,7 @@ fn select_constant(condition: &Expr, left: &Expr, right: &Expr) -> Option<Consta
 // The constant that a conversion gives, where the operand is one.
 fn converted_constant(how: Conversion, operand: &Expr, ty: Ty) -> Option<Constant>
     requires { IsTyped (convert how (tree_of operand.now) ty) }
-    ensures found { IfSome result (λ c. StandsFor (convert how (tree_of operand.now) ty) (constant c.value c.ty)) }
+    ensures found { IfSome result (λ c. IsWorth (convert how (tree_of operand.now) ty) c.value c.ty) }
     ensures none { IfNone result (IsConstant (tree_of operand.now) → ⊥) }
 {
     let operand = constant_in(operand)?;
@@ -113,7 +111,7 @@ fn converted_constant(how: Conversion, operand: &Expr, ty: Ty) -> Option<Constan
 // The constant that a division or a shift of bits gives, where the operand is one.
 fn scaled_constant(op: Scaling, operand: &Expr, by: u64) -> Option<Constant>
     requires { IsTyped (scale op (tree_of operand.now) by) }
-    ensures found { IfSome result (λ c. StandsFor (scale op (tree_of operand.now) by) (constant c.value c.ty)) }
+    ensures found { IfSome result (λ c. IsWorth (scale op (tree_of operand.now) by) c.value c.ty) }
     ensures none { IfNone result (IsConstant (tree_of operand.now) → ⊥) }
 {
     let operand = constant_in(operand)?;
@@ -126,7 +124,7 @@ fn scaled_constant(op: Scaling, operand: &Expr, by: u64) -> Option<Constant>
 fn constant_of(e: &Expr) -> Option<Constant>
     requires typed { IsTyped (tree_of e.now) }
     requires operands { HasFoldedOperands (tree_of e.now) }
-    ensures found { IfSome result (λ c. StandsFor (tree_of e.now) (constant c.value c.ty)) }
+    ensures found { IfSome result (λ c. IsWorth (tree_of e.now) c.value c.ty) }
     ensures none { IfNone result (HasFoldedParts (tree_of e.now)) }
 {
     match e {
@@ -152,6 +150,7 @@ fn fold_operands(e: &mut Expr)
     requires { IsTyped (tree_of e.old) }
     ensures stands { StandsFor (tree_of e.old) (tree_of e.new) }
     ensures operands { HasFoldedOperands (tree_of e.new) }
+    ensures folds { AreOperandsFolded (tree_of e.old) (tree_of e.new) }
 {
     match e {
         Expr::Constant(..) | Expr::Read(..) => {}
@@ -177,6 +176,7 @@ fn fold_expression(e: &mut Expr)
     requires { IsTyped (tree_of e.old) }
     ensures stands { StandsFor (tree_of e.old) (tree_of e.new) }
     ensures folded { HasFoldedParts (tree_of e.new) }
+    ensures fold { IsFoldOf (tree_of e.old) (tree_of e.new) }
 {
     fold_operands(e);
     if let Some(constant) = constant_of(e) {
@@ -187,7 +187,7 @@ fn fold_expression(e: &mut Expr)
 // Folds the body.
 fn fold_image(image: &mut Definition)
     requires { IsTyped (tree_of image.old.body) }
-    ensures { IsFoldOf image.old image.new }
+    ensures { IsFoldedImage image.old image.new }
 {
     fold_expression(&mut image.body);
 }
@@ -195,7 +195,7 @@ fn fold_image(image: &mut Definition)
 // Folds each body.
 fn fold_images(images: &mut [Definition])
     requires { All (λ d. IsTyped (tree_of d.body)) images.old }
-    ensures { (k : ℕ) (d : Definition) → k < length images.old → IsFoldOf (slice_index_or images.old k d) (slice_index_or images.new k d) }
+    ensures { (k : ℕ) (d : Definition) → k < length images.old → IsFoldedImage (slice_index_or images.old k d) (slice_index_or images.new k d) }
 {
     for image in images.iter_mut() {
         fold_image(image);
@@ -207,6 +207,7 @@ fn fold_parts(parts: &mut Parts)
     requires { IsProgram (program_of parts.old) }
     ensures same { IsSameBut (program_of parts.old) (program_of parts.new) }
     ensures folded { IsFolded (program_of parts.new) }
+    ensures folding { IsFolding (program_of parts.old) (program_of parts.new) }
 {
     fold_images(parts.images.as_mut_slice());
 }

@@ -13,13 +13,16 @@ use pointwise_ir::{Ir, Parts};
 use std::alloc::{AllocError, AllocFailed, Global};
 
 /// Why a program is not inlined.
-#[derive(Clone, Copy, Debug, PartialEq, Eq)]
+#[derive(Clone, Copy, Debug, PartialEq, Eq, thiserror::Error)]
 pub enum InlineFault {
     /// More than 65,536 nodes after inlining. The count saturates.
+    #[error("Nodes {count}")]
     Nodes { count: u64 },
     /// A definition deeper than 1,024 after inlining, at its name.
+    #[error("{}-{}: InlineDepth", .span.start, .span.stop)]
     InlineDepth { span: Span },
     /// There was not enough memory to tell.
+    #[error("out of memory")]
     Memory,
 }
 

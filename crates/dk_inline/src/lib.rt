@@ -5,8 +5,8 @@ mod extent;
 mod fold;
 mod inlining;
 mod substitution;
-#[cfg(test)]
-mod tests;
+mod worked;
 
 pub use fold::Fold;
 pub use inlining::{InlineFault, inline};
+pub use worked::worked_folds;

@@ -1,6 +1,6 @@
 -- Decimal numbers grow with their digits.
 use Rattle.std.proofs.Common.{ℕ, ◌+◌, ◌*◌, ◌-◌, ◌≤◌, List, [], ◌∷◌, ◌<◌, arith, get_or, length, drop, drop-cons, suc}
-use Rattle.dk_lexer.specs.Bytes.{value_after}
+use Rattle.dk_base.specs.Ascii.{value_after}
 
 pub value_grows : (v : ℕ) (ds : List ℕ) → v ≤ value_after v ds
 value_grows v [] = omega arith

@@ -6,7 +6,7 @@ use Rattle.std.proofs.lemmas.List.{drop-drop, take_at, drop_at, take_rest, drop_
 use Rattle.dk_lexer.specs.declared.token.Token.{Token}
 use Rattle.dk_lexer.specs.declared.token.TokenKind.{TokenKind}
 use Rattle.dk_lexer.specs.declared.token.TokenKind.TheVariants.{Word, Number, Symbol as Sym, End}
-use Rattle.dk_lexer.specs.Bytes.{is_white}
+use Rattle.dk_base.specs.Ascii.{is_white}
 use Rattle.dk_lexer.specs.Lexis.{Gap, Solid, Lexes, finish, next, lexeme, span_at}
 use Rattle.dk_lexer.specs.Faithful.{Stands, Blank, Follow, with_line_end, IsEnded, IsFaithful}
 use Rattle.dk_lexer.proofs.Stretches.{Front, front_of, last_gap}

@@ -2,7 +2,8 @@
 use Rattle.std.proofs.Common.{◌≡◌, ◌≢◌, ◌+◌, ◌++◌, List, [], ◌∷◌, ℕ, suc, drop, arith, refl, sym, subst, ap, ◌∙◌, append_assoc, true, false, Bool}
 use Rattle.std.specs.List.{All, prefix_len}
 use Rattle.std.proofs.lemmas.List.Elements.{All-cons, All-nil}
-use Rattle.dk_lexer.specs.Bytes.{is_white, is_in_line}
+use Rattle.dk_base.specs.Ascii.{is_white}
+use Rattle.dk_lexer.specs.Bytes.{is_in_line}
 use Rattle.dk_lexer.specs.Lexis.{Gap, none, white, comment}
 use Rattle.dk_lexer.specs.Faithful.{Blank, nothing, white as blank_white, comment as blank_comment}
 

@@ -5,7 +5,8 @@ use Rattle.dk_lexer.specs.declared.token.Token.{Token}
 use Rattle.dk_lexer.specs.declared.token.TokenKind.{TokenKind}
 use Rattle.dk_lexer.specs.declared.token.TokenKind.TheVariants.{End}
 use Rattle.dk_lexer.specs.declared.fault.LexFault.{LexFault}
-use Rattle.dk_lexer.specs.Bytes.{is_white, is_in_line}
+use Rattle.dk_base.specs.Ascii.{is_white}
+use Rattle.dk_lexer.specs.Bytes.{is_in_line}
 use Rattle.dk_lexer.specs.Lexis.{Gap, none, white, comment, Solid, Lexes, finish, next, Refused, here, later, lexeme, Lexeme, span_at, HasTokens, HasFault}
 use Rattle.dk_lexer.proofs.Written.{found}
 

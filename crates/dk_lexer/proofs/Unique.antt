@@ -4,7 +4,7 @@ use Rattle.dk_lexer.specs.declared.token.Token.{Token}
 use Rattle.dk_lexer.specs.declared.token.TokenKind.{TokenKind}
 use Rattle.dk_lexer.specs.declared.fault.LexKind.{LexKind}
 use Rattle.dk_lexer.specs.declared.fault.LexFault.{LexFault}
-use Rattle.dk_lexer.specs.Bytes.{is_white}
+use Rattle.dk_base.specs.Ascii.{is_white}
 use Rattle.dk_lexer.specs.Lexis.{Gap, none, white, comment, Solid, Lexes, finish, next, Refused, here, later, lexeme, Lexeme}
 
 not_white : (b : ℕ) (text : List ℕ) → Solid (b ∷ text) → is_white b ≡ true → ⊥

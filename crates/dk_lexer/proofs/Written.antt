@@ -9,7 +9,8 @@ use Rattle.dk_lexer.specs.declared.token.TokenKind.{TokenKind}
 use Rattle.dk_lexer.specs.declared.token.TokenKind.TheVariants.{End}
 use Rattle.dk_lexer.specs.declared.token.Symbol.{Symbol}
 use Rattle.dk_lexer.specs.declared.token.Symbol.TheVariants.{ShiftLeft, LessEqual, ShiftRight, GreaterEqual, EqualEqual, NotEqual, Less, Greater, Equal, Bang, Bar, Caret, Ampersand, Plus, Minus, Star, Slash, Open, Close, Comma, Colon}
-use Rattle.dk_lexer.specs.Bytes.{is_letter, is_digit, is_word_byte, value_after, value_of, one_byte_symbol, two_byte_symbol}
+use Rattle.dk_base.specs.Ascii.{is_letter, is_digit, is_word_byte, value_after, value_of}
+use Rattle.dk_lexer.specs.Bytes.{one_byte_symbol, two_byte_symbol}
 use Rattle.dk_lexer.specs.Lexis.{Lexeme, lexeme, one_byte_lexeme, two_byte_lexeme, symbol_at, word_here, number_here}
 use Rattle.dk_lexer.specs.Faithful.{spelling, IsWord, Writes}
 

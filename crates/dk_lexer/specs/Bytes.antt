@@ -1,32 +1,10 @@
 -- The bytes of the language.
-use Rattle.std.specs.Prelude.{ℕ, ◌+◌, ◌*◌, ◌-◌, List, [], ◌∷◌, Option, Some, None, Bool, ◌&&◌, ◌||◌, not, nat_lt, nat_eq, if◌then◌else◌}
+use Rattle.std.specs.Prelude.{ℕ, Option, Some, None, Bool, ◌&&◌, not, nat_eq, if◌then◌else◌}
 use Rattle.dk_lexer.specs.declared.token.Symbol.{Symbol}
 use Rattle.dk_lexer.specs.declared.token.Symbol.TheVariants.{ShiftLeft, LessEqual, ShiftRight, GreaterEqual, EqualEqual, NotEqual, Less, Greater, Equal, Bang, Bar, Caret, Ampersand, Plus, Minus, Star, Slash, Open, Close, Comma, Colon}
 
--- blank, TAB, CR, LF
-abbrev pub is_white : ℕ → Bool
-is_white b = nat_eq b 32 || nat_eq b 9 || nat_eq b 13 || nat_eq b 10
-
-abbrev pub is_letter : ℕ → Bool
-is_letter b = (nat_lt 64 b && nat_lt b 91) || (nat_lt 96 b && nat_lt b 123) || nat_eq b 95
-
-abbrev pub is_digit : ℕ → Bool
-is_digit b = nat_lt 47 b && nat_lt b 58
-
-abbrev pub is_word_byte : ℕ → Bool
-is_word_byte b = is_letter b || is_digit b
-
 abbrev pub is_in_line : ℕ → Bool
 is_in_line b = not (nat_eq b 10)
-
--- the number of decimal digits, read after a number
-abbrev pub value_after : ℕ → List ℕ → ℕ
-value_after v [] = v
-value_after v (d ∷ ds) = value_after (10 * v + (d - 48)) ds
-
--- the number of decimal digits
-abbrev pub value_of : List ℕ → ℕ
-value_of digits = value_after 0 digits
 
 -- a symbol of two bytes
 abbrev pub two_byte_symbol : ℕ → ℕ → Option Symbol

@@ -7,7 +7,7 @@ use Rattle.dk_lexer.specs.declared.token.TokenKind.{TokenKind}
 use Rattle.dk_lexer.specs.declared.token.TokenKind.TheVariants.{Word, Number, Symbol as Sym, End}
 use Rattle.dk_lexer.specs.declared.token.Symbol.{Symbol}
 use Rattle.dk_lexer.specs.declared.token.Symbol.TheVariants.{ShiftLeft, LessEqual, ShiftRight, GreaterEqual, EqualEqual, NotEqual, Less, Greater, Equal, Bang, Bar, Caret, Ampersand, Plus, Minus, Star, Slash, Open, Close, Comma, Colon}
-use Rattle.dk_lexer.specs.Bytes.{is_white, is_letter, is_digit, is_word_byte}
+use Rattle.dk_base.specs.Ascii.{is_white, is_letter, is_digit, is_word_byte}
 
 -- how a symbol is spelled
 abbrev pub spelling : Symbol → List ℕ

@@ -10,7 +10,8 @@ use Rattle.dk_lexer.specs.declared.token.Symbol.{Symbol}
 use Rattle.dk_lexer.specs.declared.fault.LexKind.{LexKind}
 use Rattle.dk_lexer.specs.declared.fault.LexKind.TheVariants.{BadByte, NumberTooGreat, NameTooLong}
 use Rattle.dk_lexer.specs.declared.fault.LexFault.{LexFault}
-use Rattle.dk_lexer.specs.Bytes.{is_white, is_letter, is_digit, is_word_byte, is_in_line, value_of, two_byte_symbol, one_byte_symbol}
+use Rattle.dk_base.specs.Ascii.{is_white, is_letter, is_digit, is_word_byte, value_of}
+use Rattle.dk_lexer.specs.Bytes.{is_in_line, two_byte_symbol, one_byte_symbol}
 
 -- what stands at the front of a text, and how many bytes it has
 abbrev pub Lexeme : Type 0

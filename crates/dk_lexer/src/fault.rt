@@ -17,7 +17,8 @@ pub enum LexKind {
 }
 
 /// What is wrong with a text, and where.
-#[derive(Clone, Copy, Debug, PartialEq, Eq)]
+#[derive(Clone, Copy, Debug, PartialEq, Eq, thiserror::Error)]
+#[error("{}-{}: {kind:?}", .span.start, .span.stop)]
 pub struct LexFault {
     pub span: Span,
     pub kind: LexKind,
@@ -31,9 +32,11 @@ pub(crate) enum Refusal {
 }
 
 /// Why a text has no tokens: its first fault, or want of memory.
-#[derive(Debug, Drop)]
+#[derive(Debug, Drop, thiserror::Error)]
 pub enum LexError {
+    #[error("{0}")]
     Fault(LexFault),
+    #[error("out of memory")]
     Memory,
 }
 

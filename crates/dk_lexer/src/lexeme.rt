@@ -2,52 +2,15 @@
 
 ghost use Rattle.std.specs.Prelude.{◌≡◌, ◌<◌, ◌≤◌, ◌+◌, ◌-◌, ◌*◌, ◌∷◌, [], suc, length, take, drop, MatchOption, MatchResult, ◌^◌};
 ghost use Rattle.std.specs.List.{prefix_len};
-ghost use Rattle.dk_lexer.specs.Bytes.{is_letter as letter, is_digit as digit, is_word_byte as word_byte, is_in_line, is_white as white, value_of, two_byte_symbol as two_byte_symbol_of, one_byte_symbol as one_byte_symbol_of};
+ghost use Rattle.dk_base.specs.Ascii.{is_letter as letter, is_digit as digit, is_word_byte as word_byte, is_white as white, value_of};
+ghost use Rattle.dk_lexer.specs.Bytes.{is_in_line, two_byte_symbol as two_byte_symbol_of, one_byte_symbol as one_byte_symbol_of};
 ghost use Rattle.dk_lexer.specs.Answer.{Answers, FitsIn};
 ghost use Rattle.dk_lexer.specs.Lexis.{lexeme as lexeme_of, word_here, number_here, symbol_at as symbol_of, Gap, Solid};
 
 use crate::fault::{LexKind, Refusal};
 use crate::token::{Symbol, TokenKind};
-use dk_base::{MAX_NAME_BYTES, Text};
+use dk_base::{MAX_NAME_BYTES, Text, digits_length, is_digit, is_letter, is_white, word_length};
 use std::alloc::Global;
-
-fn is_white(byte: u8) -> bool
-    ensures { result ≡ white byte }
-{
-    byte == b' ' || byte == b'\t' || byte == b'\r' || byte == b'\n'
-}
-
-fn is_letter(byte: u8) -> bool
-    ensures { result ≡ letter byte }
-{
-    byte.is_ascii_alphabetic() || byte == b'_'
-}
-
-fn is_digit(byte: u8) -> bool
-    ensures { result ≡ digit byte }
-{
-    byte.is_ascii_digit()
-}
-
-fn is_word_byte(byte: u8) -> bool
-    ensures { result ≡ word_byte byte }
-{
-    is_letter(byte) || is_digit(byte)
-}
-
-fn word_length(bytes: &[u8]) -> usize
-    ensures is { result ≡ prefix_len word_byte bytes.now }
-    ensures within { result ≤ length bytes.now }
-{
-    bytes.iter().take_while(|byte| is_word_byte(**byte)).count()
-}
-
-fn digits_length(bytes: &[u8]) -> usize
-    ensures is { result ≡ prefix_len digit bytes.now }
-    ensures within { result ≤ length bytes.now }
-{
-    bytes.iter().take_while(|byte| is_digit(**byte)).count()
-}
 
 fn line_length(bytes: &[u8]) -> usize
     ensures is { result ≡ prefix_len is_in_line bytes.now }

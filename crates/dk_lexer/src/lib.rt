@@ -3,8 +3,6 @@
 
 mod fault;
 mod lexeme;
-#[cfg(test)]
-mod tests;
 mod token;
 mod tokens;
 

@@ -117,7 +117,7 @@ program_closes {ts = ts} {rest = rest} p =
     (closes_behind h.1 i.1 rest ((free_mark (mark.Reserved word.Input) (λ e. cc)).free i.2) c)))
 
 -- The parser does not stop behind the end of the text.
-not_behind : (ts : Tokens) → Ended ts → Stuck AProgram ts [] → ⊥
+pub not_behind : (ts : Tokens) → Ended ts → Stuck AProgram ts [] → ⊥
 not_behind ts h s =
     let e : ts ≡ s.taken = s.whole ∙ append_nil s.taken in
     let f = program_closes s.begins in
@@ -136,7 +136,7 @@ stuck_there ts s x e h = subst (λ y. Halts AProgram ts y) e h
 pub not_behind_at : (ts : Tokens) (s : Bor Tokens) (x : Halt) → x ≡ Faulty s → Ended ts → s.now ≡ [] → Halts AProgram ts x → ⊥
 not_behind_at ts s x e h n k = not_behind ts h (subst (λ y. Stuck AProgram ts y) n (stuck_there ts s x e k))
 
-faulty_at : (ts after : Tokens) (t : Token) → Stuck AProgram ts (t ∷ after) → IsFaultyAt ts t.span
+pub faulty_at : (ts after : Tokens) (t : Token) → Stuck AProgram ts (t ∷ after) → IsFaultyAt ts t.span
 faulty_at ts after t s = record {
   index = length s.taken;
   faulty = faulty AProgram ts after t s;

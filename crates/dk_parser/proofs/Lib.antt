@@ -14,3 +14,5 @@ pub mod LexedEnd
 pub mod Ruled
 pub mod Exclusion
 pub mod TypeWords
+pub mod Readers
+pub mod Total

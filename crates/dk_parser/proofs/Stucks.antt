@@ -188,7 +188,7 @@ comparison_whole ts rest after behind l r tok o p e b q h = record {
 level_front : {n : ℕ} {ts r : Tokens} {e : Tree} → Phrase (level (suc n)) ts e r → suc (suc n) < rank r → (u : Tree) × (s : Tokens) × Ends (level n) ts u s
 level_front (chain {mid = m} {l = l} p q) h = (l, m, (p, steps_first q h))
 
-level_first : (n : ℕ) (ts at : Tokens) → n < 8 → Stuck (Ends (level n)) ts at → Stuck (Ends (level (suc n))) ts at
+pub level_first : (n : ℕ) (ts at : Tokens) → n < 8 → Stuck (Ends (level n)) ts at → Stuck (Ends (level (suc n))) ts at
 level_first n ts at g k =
     stuck_within {P = Ends (level n)} {Q = Ends (level (suc n))} [] (λ w u p. (u, (chain p.0 done, omega (arith, g)))) (λ w r v a q. level_front q.0 q.1) k
 
@@ -198,7 +198,7 @@ level_out {n = n} (chain {mid = m} {l = l'} p q) h l w p' k =
     let i = unique p' k l' m p (steps_first q h) in
     moved (ap (λ x. steps n x) (sym i.0)) (sym i.1) q
 
-level_second : (n : ℕ) (ts mid at : Tokens) (l : Tree) → Parsed (level n) ts l mid → Stuck (Ends (steps n l)) mid at → Stuck (Ends (level (suc n))) ts at
+pub level_second : (n : ℕ) (ts mid at : Tokens) (l : Tree) → Parsed (level n) ts l mid → Stuck (Ends (steps n l)) mid at → Stuck (Ends (level (suc n))) ts at
 level_second n ts mid at l p k =
     let i = local p.phrase in
     rw i.whole (stuck_within {P = Ends (steps n l)} {Q = Ends (level (suc n))} i.own
@@ -213,7 +213,7 @@ level_first_at m n ts x e g h = rw e (halts (λ at k. level_first n ts at g k) x
 pub level_second_at : (m n : ℕ) (ts mid : Tokens) (l : Tree) (x : Halt) → m ≡ suc n → Parsed (level n) ts l mid → Halts (Ends (steps n l)) mid x → Halts (Ends (level m)) ts x
 level_second_at m n ts mid l x e p h = rw e (halts (λ at k. level_second n ts mid at l p k) x h)
 
-level_whole : (n : ℕ) (ts mid rest : Tokens) (l e : Tree) → Parsed (level n) ts l mid → Parsed (steps n l) mid e rest → Parsed (level (suc n)) ts e rest
+pub level_whole : (n : ℕ) (ts mid rest : Tokens) (l e : Tree) → Parsed (level n) ts l mid → Parsed (steps n l) mid e rest → Parsed (level (suc n)) ts e rest
 level_whole n ts mid rest l e p q = record { phrase = chain p.phrase q.phrase; ends = q.ends; fewer = omega (arith, p.fewer, q.fewer) }
 
 pub level_whole_at : (m n : ℕ) (ts mid rest : Tokens) (l x : Tree) → m ≡ suc n → Parsed (level n) ts l mid → Parsed (steps n l) mid x rest → Parsed (level m) ts x rest

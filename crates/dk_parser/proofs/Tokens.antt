@@ -70,13 +70,13 @@ some_same v w e = cc
 pub gives_class : {V : Type 0} (f : Token → Option V) (t : Token) (v : V) → f t ≡ Some v → IsClass (Gives f)
 gives_class f t v e = record { one = λ u v w p q. some_same v w (sym p ∙ q); token = t; value = v; some = e }
 
-name_class : IsClass (Gives name)
+pub name_class : IsClass (Gives name)
 name_class = let t = name_token in gives_class name t.0 (record { span = t.0.span; text = spelling t.0.kind }) (ap (λ k. name_at k t.0.span (spelling t.0.kind)) t.1)
 
-literal_class : IsClass (Gives literal)
+pub literal_class : IsClass (Gives literal)
 literal_class = let t = number_token 0 in gives_class literal t.0 (record { span = t.0.span; value = 0 }) (ap (λ k. literal_at k t.0.span) t.1)
 
-type_class : IsClass (Gives type_word)
+pub type_class : IsClass (Gives type_word)
 type_class = let t = type_token in gives_class type_word t.0 (record { span = t.0.span; ty = Unsigned 8 }) (ap (λ k. type_at k t.0.span) t.1)
 
 mark_class : (m : Mark) → IsClass (IsMark m)

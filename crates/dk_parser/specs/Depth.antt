@@ -1,5 +1,6 @@
 -- How deep a tree is, and where it first gets too deep.
-use Rattle.std.specs.Prelude.{◌≡◌, ℕ, ◌+◌, ◌≤◌, max, Option, Some, None, nat_eq, if◌then◌else◌}
+use Rattle.std.specs.Prelude.{◌≡◌, ℕ, suc, ◌+◌, ◌≤◌, max, Option, Some, None, nat_eq, if◌then◌else◌}
+use Rattle.dk_base.specs.declared.TheConstants.{MAX_SOURCE_DEPTH}
 use Rattle.dk_base.specs.declared.span.Span.{Span}
 use Rattle.dk_parser.specs.declared.built.Built.{Built}
 use Rattle.dk_parser.specs.declared.built.Built.TheVariants.{Whole, Deep}
@@ -22,9 +23,9 @@ first None other = other
 first (Some s) other = Some s
 
 abbrev pub here : Tree → Option Span
-here e = if nat_eq (depth e) 513 then Some (span_of e) else None
+here e = if nat_eq (depth e) (suc MAX_SOURCE_DEPTH) then Some (span_of e) else None
 
--- the first subtree of depth 513, operands before their operator, below the tree itself
+-- the first subtree that is deeper than the limit by one, operands before their operator, below the tree itself
 abbrev pub below : Tree → Option Span
 below (number s v) = None
 below (read s r) = None
@@ -38,7 +39,7 @@ below (select s a b c) = first (first (below a) (here a)) (first (first (below b
 abbrev pub too_deep : Tree → Option Span
 too_deep e = first (below e) (here e)
 
--- What is kept of a tree: all of it while it is no deeper than 513, or else only where it first got too deep.
+-- What is kept of a tree: all of it while it is deeper than the limit by one at most, or else only where it first got too deep.
 abbrev pub Stands : Built → Tree → Type 0
-Stands (Whole x d) e = (tree_of x ≡ e) × (depth e ≡ d) × (d ≤ 513)
+Stands (Whole x d) e = (tree_of x ≡ e) × (depth e ≡ d) × (d ≤ suc MAX_SOURCE_DEPTH)
 Stands (Deep s) e = below e ≡ Some s

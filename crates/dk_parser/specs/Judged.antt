@@ -1,5 +1,6 @@
 -- Programs within the limits, and the fault of tokens that are none.
 use Rattle.std.specs.Prelude.{◌≡◌, ◌≤◌, ℕ, List, [], ◌∷◌, ◌++◌, length, Option, Some, None}
+use Rattle.dk_base.specs.declared.TheConstants.{MAX_SOURCE_DEPTH}
 use Rattle.dk_base.specs.declared.span.Span.{Span}
 use Rattle.dk_lexer.specs.declared.token.Token.{Token}
 use Rattle.dk_grammar.specs.Reading.{IsFaulty}
@@ -20,9 +21,9 @@ IsProgram ts = (p : Source) × Derives ts p
 -- every body is shallow enough
 abbrev pub AreShallow : List Definition → Type 0
 AreShallow [] = Unit {0}
-AreShallow (d ∷ ds) = (depth d.body ≤ 512) × AreShallow ds
+AreShallow (d ∷ ds) = (depth d.body ≤ MAX_SOURCE_DEPTH) × AreShallow ds
 
--- the first subtree of depth 513
+-- the first subtree that is deeper than the limit by one
 abbrev pub first_deep : List Definition → Option Span
 first_deep [] = None
 first_deep (d ∷ ds) = first (too_deep d.body) (first_deep ds)

@@ -23,7 +23,7 @@ pub enum Built {
 /// A tree that becomes an operand, or where it is too deep.
 fn operand(built: Built) -> Result<(Expr, usize), Span>
     ensures stands { (e : Tree) → Stands built e → MatchResult result (λ x. (tree_of x.0 ≡ e) × (depth e ≡ x.1)) (λ s. too_deep e ≡ Some s) }
-    ensures shallow { IfOk result (λ x. x.1 ≤ 512) }
+    ensures shallow { IfOk result (λ x. x.1 ≤ MAX_SOURCE_DEPTH) }
 {
     match built {
         Built::Whole(tree, depth) => {
@@ -238,7 +238,7 @@ pub(crate) fn bracketed(span: Span, built: Built) -> Built
 
 /// The tree of a program, or where it is too deep.
 pub(crate) fn finished(built: Built) -> Result<Expr, Span>
-    ensures { (e : Tree) → Stands built e → MatchResult result (λ x. (tree_of x ≡ e) × (depth e ≤ 512)) (λ s. too_deep e ≡ Some s) }
+    ensures { (e : Tree) → Stands built e → MatchResult result (λ x. (tree_of x ≡ e) × (depth e ≤ MAX_SOURCE_DEPTH)) (λ s. too_deep e ≡ Some s) }
 {
     match operand(built) {
         Ok((tree, _)) => Ok(tree),

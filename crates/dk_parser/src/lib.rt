@@ -10,8 +10,6 @@ mod nest;
 mod read;
 mod single;
 mod terminal;
-#[cfg(test)]
-mod tests;
 mod tree;
 mod whole;
 

@@ -9,7 +9,7 @@ use dk_base::{MAX_OPEN_BRACKETS, Span};
 use dk_lexer::{Symbol, Token};
 
 fn unclosed(before: usize, terminal: Terminal) -> usize
-    requires { before ≤ 128 }
+    requires { before ≤ MAX_OPEN_BRACKETS }
     ensures { result ≡ unclosed_of before terminal }
 {
     match terminal {

@@ -1,6 +1,6 @@
 // Programs.
 
-ghost use Rattle.std.specs.Prelude.{◌≡◌, ◌≢◌, ◌↔◌, ℕ, List, MatchResult};
+ghost use Rattle.std.specs.Prelude.{◌⊎◌, ◌≡◌, ◌≢◌, ◌↔◌, ℕ, List, MatchResult};
 ghost use Rattle.dk_parser.specs.declared.whole.ParseError.{ParseError};
 ghost use Rattle.dk_parser.specs.Faults.{Halts};
 ghost use Rattle.dk_base.specs.declared.ty.Ty.{Ty};
@@ -23,14 +23,18 @@ use dk_lexer::Token;
 use std::alloc::Global;
 
 /// Why tokens have no program.
-#[derive(Debug, Drop)]
+#[derive(Debug, Drop, thiserror::Error)]
 pub enum ParseError {
     /// The first bracket that leaves too many unclosed.
+    #[error("{}-{}: Nest", .span.start, .span.stop)]
     Nest { span: Span },
     /// The faulty token.
+    #[error("{}-{}: Syntax", .span.start, .span.stop)]
     Syntax { span: Span },
     /// The first subtree that is too deep.
+    #[error("{}-{}: Depth", .span.start, .span.stop)]
     Depth { span: Span },
+    #[error("out of memory")]
     Memory,
 }
 
@@ -76,11 +80,12 @@ pub fn parse(alloc: Global, tokens: &[Token]) -> Result<Program, ParseError>
     }
 }
 
-/// Tokens have one program, or one fault, but for want of memory; and a program is what the rules of the grammar say.
+/// Tokens that end as those of a text have one program, or one fault, but for want of memory; and a program is what the rules of the grammar say.
 pub fn one_judgement()
     ensures program { (ts : Tokens) (p q : Source) → Derives ts p → Derives ts q → p ≡ q }
     ensures none_beside { (ts : Tokens) (p : Source) (f : ParseError) → Accepted ts p → Faults ts f → f ≡ ParseError.Memory }
     ensures one_fault { (ts : Tokens) (f g : ParseError) → Faults ts f → Faults ts g → f ≢ ParseError.Memory → g ≢ ParseError.Memory → f ≡ g }
+    ensures some { (ts : Tokens) → IsEnded ts → ((p : Source) × Accepted ts p) ⊎ ((f : ParseError) × Faults ts f × (f ≢ ParseError.Memory)) }
     ensures rules { (ts : Tokens) (p : Source) (rest : Tokens) → AProgram ts p rest ↔ ProgramRule ts p rest }
     ensures type_words { (bytes : List ℕ) (t : Ty) → terminal_of_word bytes ≡ Terminal.TypeWord t ↔ IsTypeWord bytes t }
 {}

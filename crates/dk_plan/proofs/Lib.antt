@@ -1,11 +1,5 @@
-pub mod Spelled
-pub mod Worded
-pub mod Treed
-pub mod Scoped
-pub mod Naming
-pub mod Ready
+pub mod Carried
+pub mod Printing
 pub mod Reporting
 pub mod Exits
-pub mod Verdicts
-pub mod Forms
 pub mod Once

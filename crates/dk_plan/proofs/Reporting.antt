@@ -8,7 +8,7 @@ use Rattle.dk_base.specs.declared.TheConstants.{MAX_LATENCY}
 use Rattle.pointwise_ir.specs.Programs.{Program, names_of}
 use Rattle.raster_delay.specs.Systems.{Parts as System, image_count}
 use Rattle.flow_dual.specs.declared.solution.Solution.{Solution}
-use Rattle.flow_dual.specs.Solutions.{IsSolution}
+use Rattle.flow_dual.specs.Solutions.{IsLeastVector, IsSolution}
 use Rattle.buffer_plan.specs.Plans.{Parts as Plan}
 use Rattle.report_text.specs.declared.report.ImageLine.{ImageLine}
 use Rattle.report_text.specs.Reports.{Meets}
@@ -16,11 +16,8 @@ use Rattle.report_text.specs.Layout.{layout}
 use Rattle.latency_report.specs.Printed.{line_of, image_lines, report_of}
 use Rattle.plan_check.specs.Holding.{delays_of}
 use Rattle.plan_check.specs.Program.{HoldsOf}
-use Rattle.dk_plan.specs.Planned.{IsLeastVector, latency_in}
-use Rattle.dk_plan.specs.Limits.{HasReport, IsWithinLimits}
-
-pub least_vector : (s : System) (x : Solution) → IsSolution s x → IsLeastVector s x.delays
-least_vector s x is = record { causal = is.causal; least_bits = is.least_bits; least = is.least_vector }
+use Rattle.buffer_plan.specs.Limits.{latency_in, IsWithinLimits}
+use Rattle.dk_plan.specs.Planned.{IsReportText}
 
 module _ (p : Program) (s : System) (x : Solution) where
   abbrev plan : Plan
@@ -44,10 +41,10 @@ module _ (p : Program) (s : System) (x : Solution) where
       ∙ (ap (λ (i : ImageLine). i.delay) (get_or-map (line_of p plan) places k (0, none) some (omega (arith, inside, long)) ∙ ap (line_of p plan) (get_or-enumerate_from 0 s.stencils.images k (0, none) inside))
       ∙ ap (slice_index x.delays) (let e : 0 + k ≡ k = omega arith in e)))
 
-  pub has_report : (q : Plan) (bytes : List ℕ) → q ≡ plan → IsSolution s x → IsWithinLimits s x.delays → Meets (report_of p q x.flow) → HoldsOf (names_of p) s (report_of p plan x.flow)
-      → bytes ≡ layout (report_of p q x.flow) → HasReport (names_of p) s bytes
-  has_report q bytes e is within meets holds written =
-      let same = printed_delays is.causal.one_each in
+  pub report_text : (q : Plan) (bytes : List ℕ) → q ≡ plan → IsSolution s x → IsWithinLimits s x.delays → Meets (report_of p q x.flow) → HoldsOf (names_of p) s (report_of p plan x.flow)
+      → bytes ≡ layout (report_of p q x.flow) → IsReportText (names_of p) s bytes
+  report_text q bytes e is within meets holds written =
+      let same = printed_delays is.vector.causal.one_each in
       record {
         report = report_of p plan x.flow;
         stands = record {
@@ -60,7 +57,7 @@ module _ (p : Program) (s : System) (x : Solution) where
           latency_limit = refl;
           age = refl;
           holds = holds;
-          least = subst (IsLeastVector s) (sym same) (least_vector s x is);
+          least = subst (IsLeastVector s) (sym same) is.vector;
           few_bits = within.few_bits;
           short = subst (λ d. latency_in s d ≤ MAX_LATENCY) (sym same) within.short;
         };

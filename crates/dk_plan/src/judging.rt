@@ -1,13 +1,13 @@
 // Whether a report holds of a program.
 
-ghost use Rattle.std.specs.Prelude.{ℕ, List, IfOk, IfErr};
-ghost use Rattle.dk_types.specs.Typed.{Typing};
-ghost use Rattle.dk_compile.specs.Sources.{IsAccepted};
+ghost use Rattle.std.specs.Prelude.{◌<◌, length, All, IfOk, IfErr};
+ghost use Rattle.dk_base.specs.declared.stencils.Image.{Image};
+ghost use Rattle.pointwise_ir.specs.Programs.{names_of};
 ghost use Rattle.dk_plan.specs.Judged.{IsConfirmed, IsCheckFault};
 
-use dk_base::Memory;
-use dk_compile::Front;
+use dk_base::{Memory, Stencils};
 use plan_check::{Verdict, judge};
+use pointwise_ir::Ir;
 use raster_delay::System;
 use report_text::{ReportFault, read};
 use std::alloc::Global;
@@ -20,10 +20,12 @@ pub struct Claim {
 }
 
 /// Why a report does not hold.
-#[derive(Clone, Copy, Debug, PartialEq, Eq)]
+#[derive(Clone, Copy, Debug, PartialEq, Eq, thiserror::Error)]
 pub enum CheckFault {
     /// The first line that continues no report or is wrong, counted from 1.
+    #[error("line {number}")]
     Line { number: u64 },
+    #[error("out of memory")]
     Memory,
 }
 
@@ -52,15 +54,20 @@ impl From<ReportFault> for CheckFault {
     }
 }
 
-/// Whether a report, whoever made it, holds of an accepted program at the report's own age, and what it then says. Bits and Latency of the program are not judged.
-pub fn judge_report(alloc: Global, front: &Front, report: &[u8]) -> Result<Claim, CheckFault>
-    requires accepted { (text : List ℕ) × (p : Typing) × IsAccepted text p front.now.ir front.now.stencils }
-    ensures holds { IfOk result (λ claim. (text : List ℕ) (p : Typing) → IsAccepted text p front.now.ir front.now.stencils → IsConfirmed text report.now claim) }
-    ensures fault { IfErr result (λ f. (text : List ℕ) (p : Typing) → IsAccepted text p front.now.ir front.now.stencils → IsCheckFault text report.now f) }
+/// Whether a report, whoever made it, holds of a program with these live reads at the report's own age, and what it then says. The kept images are images of the program. Limits on bits and latency are not judged.
+pub fn judge_report(
+    alloc: Global,
+    ir: &Ir,
+    stencils: &Stencils,
+    report: &[u8],
+) -> Result<Claim, CheckFault>
+    requires images { All (λ (i : Image). i.number < length (names_of ir.now)) stencils.now.images }
+    ensures holds { IfOk result (IsConfirmed (names_of ir.now) stencils.now report.now) }
+    ensures fault { IfErr result (IsCheckFault (names_of ir.now) stencils.now report.now) }
 {
     let said = read(alloc, report)?;
-    let system = System::aged(alloc, &front.stencils, said.age)?;
-    match judge(&front.ir, &front.stencils, &system, &said) {
+    let system = System::aged(alloc, stencils, said.age)?;
+    match judge(ir, stencils, &system, &said) {
         Verdict::Yes => Ok(Claim {
             bits: said.bits,
             latency: said.latencies[0],

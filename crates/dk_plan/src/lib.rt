@@ -1,12 +1,13 @@
-//! The report of a program's text, and whether a report holds of it.
+//! The report of a program's delays, and whether a report holds of a program.
 #![tactic(auto)]
 
 mod judging;
 mod one;
 mod planning;
-#[cfg(test)]
-mod tests;
+mod printed;
 
+pub use buffer_plan::PlanFault;
 pub use judging::{CheckFault, Claim, judge_report};
 pub use one::one_plan;
-pub use planning::{PlanFault, plan_text};
+pub use planning::plan_report;
+pub use printed::{printed_holds, printed_yes};

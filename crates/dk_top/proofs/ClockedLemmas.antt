@@ -16,14 +16,14 @@ use Rattle.dk_types.specs.Meaning.{framed, value, pictures, meaning_on}
 use Rattle.dk_types.specs.Meaning as M
 use Rattle.pointwise_ir.specs.declared.ir.Input.{Input}
 use Rattle.pointwise_ir.specs.Programs.{Program}
-use Rattle.pointwise_eval.specs.declared.frame.Frame.{Frame}
+use Rattle.dk_frames.specs.declared.frame.Frame.{Frame}
 use Rattle.pointwise_eval.specs.Rounds.{AreFrames, IsInputFrame}
-use Rattle.dk_compile.specs.Sources.{IsForm}
+use Rattle.dk_compile.specs.Fronts.{IsForm}
 use Rattle.pgm_codec.specs.Images.{Picture as Image, file_of, header_of, raster_of}
 use Rattle.pgm_rounds.specs.declared.round.Round.{Round}
-use Rattle.pgm_rounds.specs.Ports.{bits_of}
+use Rattle.program_images.specs.Ports.{bits_of}
 use Rattle.pgm_rounds.specs.Files.{joined, frame_of, frames_of}
-use Rattle.pgm_rounds.specs.Outputs.{image_of}
+use Rattle.program_images.specs.Outputs.{image_of}
 use Rattle.dk_top.specs.declared.circuit.Right.{Right}
 use Rattle.dk_top.specs.declared.circuit.Right.TheVariants.{Din, DinPlusDin}
 use Rattle.dk_top.specs.declared.circuit.Circuit.{Circuit}

@@ -14,7 +14,7 @@ use Rattle.dk_compile.specs.Sources.{IsText}
 use Rattle.pgm_codec.specs.Images.{file_of}
 use Rattle.pgm_rounds.specs.declared.round.Round.{Round}
 use Rattle.pgm_rounds.specs.Files.{frames_of}
-use Rattle.pgm_rounds.specs.Outputs.{output_images}
+use Rattle.program_images.specs.Outputs.{output_images}
 use Rattle.dk_top.specs.declared.circuit.Right.{Right}
 use Rattle.dk_top.specs.Program.{HasForm, IsAccepted}
 use Rattle.dk_top.specs.Circuit.{IsClocked, run_of, frame_drive}
@@ -35,21 +35,21 @@ pub evaluated_pair : (ir : Program) (rounds : List Round) (output : List ℕ) �
     → (source file : List ℕ) → IsRead source file ir rounds → OfPair source file (λ p images. output ≡ output_file p images)
 evaluated_pair ir rounds output program all is source file read = λ p images accepted fits.
     let has = read.formed p accepted in
-    is ∙ evaluated_is source p ir has.accepted.program has.accepted.form program rounds images (read.frames p images accepted fits) all
+    is ∙ evaluated_is source p ir has.front.program has.front.form program rounds images (read.frames p images accepted fits) all
 
 -- what is clocked is the output file
 pub clocked_pair : (ir : Program) (rounds : List Round) (dout : Right) (size : Size) (output source : List ℕ) → size ≡ ir.size → output ≡ clocked_images size (record { dout = dout }) (frames_of rounds) → All (λ r. AreFrames ir r.frames.items) rounds
     → ((p : Typing) → IsText source p → IsFormOf p (Some dout)) → (file : List ℕ) → IsRead source file ir rounds → OfPair source file (λ p images. output ≡ output_file p images)
 clocked_pair ir rounds dout size output source same is all form file read = λ p images accepted fits.
     let has = read.formed p accepted in
-    is ∙ ap (λ s. clocked_images s (record { dout = dout }) (frames_of rounds)) same ∙ clocked_is p dout ir rounds images (form p has.accepted.program) has.accepted.form (read.frames p images accepted fits) all
+    is ∙ ap (λ s. clocked_images s (record { dout = dout }) (frames_of rounds)) same ∙ clocked_is p dout ir rounds images (form p has.front.program) has.front.form (read.frames p images accepted fits) all
 
 -- and its clocks are noted
 pub clocked_notes : (ir : Program) (rounds : List Round) (dout : Right) (source : List ℕ) (old new : Option (List (Bool × ℕ))) → ClockedNotes dout (samples_of (frames_of rounds)) old new → All (λ r. AreFrames ir r.frames.items) rounds
     → ((p : Typing) → IsText source p → IsFormOf p (Some dout)) → (file : List ℕ) → IsRead source file ir rounds → OfPair source file (λ p images. RunNoted p images old new)
 clocked_notes ir rounds dout source old new notes all form file read = λ p images accepted fits.
     let has = read.formed p accepted in
-    let clocked : IsClocked p dout = form p has.accepted.program in
+    let clocked : IsClocked p dout = form p has.front.program in
     let frames = read.frames p images accepted fits in
     let samples : samples_of (frames_of rounds) ≡ all_samples images = ap samples_of frames ∙ samples_same images in
     let told : IsIfTold new (option_map (λ n. n ++ run_of notes.circuit (frame_drive (all_samples images))) old) =
@@ -62,7 +62,7 @@ clocked_notes ir rounds dout source old new notes all form file read = λ p imag
           text = notes.text;
           stands = notes.stands;
           clocked = refl;
-          picture = shown_is p dout ir rounds images notes.circuit notes.is clocked has.accepted.form frames all;
+          picture = shown_is p dout ir rounds images notes.circuit notes.is clocked has.front.form frames all;
         };
         told = told;
       };
@@ -74,13 +74,13 @@ pub unclocked_notes : (ir : Program) (rounds : List Round) (source : List ℕ) (
 unclocked_notes ir rounds source old new same form file read = λ p images accepted fits.
     let has = read.formed p accepted in
     record {
-      clocked = λ dout is. absurd (form p has.accepted.program dout is);
+      clocked = λ dout is. absurd (form p has.front.program dout is);
       others = λ none. same;
     }
 
 -- the rounds of a text that is clocked
 pub rounds_of_text : (source : List ℕ) (ir : Program) (rounds : List Round) (dout : Right) → ((p : Typing) × HasForm source p ir) → ((p : Typing) → IsText source p → IsFormOf p (Some dout)) → All (λ r. AreFrames ir r.frames.items) rounds → All (λ r. IsByteRound r.frames.items) rounds
-rounds_of_text source ir rounds dout (p, has) form all = byte_rounds p dout ir rounds (form p has.accepted.program) has.accepted.form all
+rounds_of_text source ir rounds dout (p, has) form all = byte_rounds p dout ir rounds (form p has.front.program) has.front.form all
 
 -- which of the programs that are clocked a text is, whatever program it is of
 pub form_is : ((text : List ℕ) (p q : Typing) → IsText text p → IsText text q → p ≡ q) → (text : List ℕ) (found : Typing) (o : Option Right) → IsText text found → IfSome o (IsClocked found) → ((dout : Right) → IsClocked found dout → o ≡ Some dout)

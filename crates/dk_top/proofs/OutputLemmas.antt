@@ -10,15 +10,16 @@ use Rattle.dk_types.specs.Meaning.{meaning}
 use Rattle.pointwise_ir.specs.Programs.{Program, IsProgram}
 use Rattle.pointwise_ir.specs.Programs as P
 use Rattle.pointwise_ir.specs.Meaning.{picture_at, pictures, IsRound}
-use Rattle.pointwise_eval.specs.declared.frame.Frame.{Frame}
+use Rattle.dk_frames.specs.declared.frame.Frame.{Frame}
 use Rattle.pointwise_eval.specs.Rounds.{AreFrames, round_of}
 use Rattle.pointwise_eval.proofs.Rendered.{round_is}
-use Rattle.dk_compile.specs.Sources.{IsForm, IsText}
+use Rattle.dk_compile.specs.Sources.{IsText}
+use Rattle.dk_compile.specs.Fronts.{IsForm}
 use Rattle.pgm_codec.specs.Images.{Picture as Image, file_of, header_of, raster_of}
 use Rattle.pgm_rounds.specs.declared.round.Round.{Round}
-use Rattle.pgm_rounds.specs.Ports.{bits_of}
+use Rattle.program_images.specs.Ports.{bits_of}
 use Rattle.pgm_rounds.specs.Files.{joined, frame_of, frames_of}
-use Rattle.pgm_rounds.specs.Outputs.{image_of, output_images}
+use Rattle.program_images.specs.Outputs.{image_of, output_images}
 use Rattle.dk_top.specs.Output.{outputs_of, output_file}
 use Rattle.dk_top.proofs.RoundLemmas.{pieces_of_map}
 use Rattle.dk_top.proofs.TextLemmas.{output_stays}

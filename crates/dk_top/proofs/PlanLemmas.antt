@@ -1,14 +1,7 @@
 -- A program's text decides one ending of `plan`, and with a report one of `check`.
-use Rattle.std.proofs.Common.{◌≡◌, ◌⊎◌, inl, inr, ℕ, ◌<◌, ◌≤◌, List, refl, ap, sym, ◌∙◌, arith, length}
-use Rattle.dk_base.specs.declared.TheConstants.{MAX_SOURCE_BYTES}
+use Rattle.std.proofs.Common.{◌≡◌, inl, inr, ℕ, ◌≤◌, List, refl, ap, arith}
 use Rattle.dk_types.specs.Typed.{Typing}
-use Rattle.dk_compile.specs.declared.fault.SourceFault.{SourceFault as TextFault}
-use Rattle.dk_compile.specs.declared.fault.SourceFault.TheVariants as of_text
-use Rattle.dk_plan.specs.declared.planning.PlanFault.{PlanFault}
-use Rattle.dk_plan.specs.declared.planning.PlanFault.TheVariants as plan
 use Rattle.dk_plan.specs.declared.judging.Claim.{Claim}
-use Rattle.dk_plan.specs.Planned.{HasPlan, IsPlanFault}
-use Rattle.dk_plan.specs.Judged.{IsConfirmed, IsWrongLine}
 use Rattle.dk_endings.specs.declared.ending.Ending.{Ending}
 use Rattle.dk_endings.specs.declared.ending.Ending.TheVariants as ending
 use Rattle.dk_endings.specs.declared.ending.SourceFault.{SourceFault}
@@ -16,16 +9,18 @@ use Rattle.dk_endings.specs.declared.ending.SourceFault.TheVariants as source
 use Rattle.dk_endings.specs.declared.ending.ReportFault.{ReportFault}
 use Rattle.dk_endings.specs.declared.ending.ReportFault.TheVariants as report
 use Rattle.dk_top.specs.Program.{IsAccepted, IsSourceFault}
+use Rattle.dk_top.specs.Plans.{IsConfirmed, IsWrongLine}
 use Rattle.dk_top.specs.Reports.{CanBePlanned, IsFaultAt, IsChecked, IsReportFault}
 use Rattle.dk_top.specs.Verdict.{IsJudged, IsOrMemory, IsPlanAnswer, CanBeChecked, IsCheckAnswer}
-use Rattle.dk_top.proofs.VerdictLemmas.{OneProgram, TextApart, OneTextFault, FileApart, OneFileFault, told_as, told_of, accepted_no_fault, one_fault}
+use Rattle.dk_top.proofs.VerdictLemmas.{OneProgram, TextApart, OneTextFault, FileApart, OneFileFault, accepted_no_fault, one_fault}
+use Rattle.dk_top.proofs.PlanFaults.{accepted_of}
 
 -- the laws of plans and of reports
 abbrev pub PlanApart : Type 0
-PlanApart = (text : List ℕ) (age : ℕ) (f : PlanFault) → HasPlan text age → IsPlanFault text age f → (f ≡ plan.Memory) ⊎ (f ≡ plan.Source of_text.Memory)
+PlanApart = (text : List ℕ) (age : ℕ) (f : SourceFault) → CanBePlanned text age → IsFaultAt text age f → ⊥
 
 abbrev pub OnePlanFault : Type 0
-OnePlanFault = (text : List ℕ) (age : ℕ) (f g : PlanFault) → IsPlanFault text age f → IsPlanFault text age g → (f ≡ plan.Memory) ⊎ (f ≡ plan.Source of_text.Memory) ⊎ (g ≡ plan.Memory) ⊎ (g ≡ plan.Source of_text.Memory) ⊎ (f ≡ g)
+OnePlanFault = (text : List ℕ) (age : ℕ) (f g : SourceFault) → IsFaultAt text age f → IsFaultAt text age g → f ≡ g
 
 abbrev pub WrongApart : Type 0
 WrongApart = (text bytes : List ℕ) (c : Claim) (line : ℕ) → IsConfirmed text bytes c → IsWrongLine text bytes line → ⊥
@@ -33,91 +28,7 @@ WrongApart = (text bytes : List ℕ) (c : Claim) (line : ℕ) → IsConfirmed te
 abbrev pub OneLine : Type 0
 OneLine = (text bytes : List ℕ) (m n : ℕ) → IsWrongLine text bytes m → IsWrongLine text bytes n → m ≡ n
 
--- a fault of `plan` that is told, as a source's
-abbrev told_plan : PlanFault → SourceFault
-told_plan (plan.Source f) = told_as f
-told_plan (plan.Bits n) = source.Bits n
-told_plan (plan.Latency n) = source.Latency n
-told_plan plan.Memory = source.TooLong
-
--- it is none of the answers for want of memory
-abbrev IsJudgedFault : PlanFault → Type 0
-IsJudgedFault f = ((f ≡ plan.Memory) → ⊥) × ((f ≡ plan.Source of_text.Memory) → ⊥)
-
-record IsToldAt (text : List ℕ) (age : ℕ) (f : SourceFault) : Type 0 where
-  within : length text ≤ MAX_SOURCE_BYTES
-  fault : PlanFault
-  is : IsPlanFault text age fault
-  told : told_plan fault ≡ f
-  judged : IsJudgedFault fault
-
-source_fault : (f g : TextFault) → plan.Source f ≡ plan.Source g → f ≡ g
-source_fault f g e = ap (λ x. inner x) e where
-  inner : PlanFault → TextFault
-  inner (plan.Source h) = h
-  inner (plan.Bits n) = f
-  inner (plan.Latency n) = f
-  inner plan.Memory = f
-
-from_text : (text : List ℕ) (age : ℕ) (f : SourceFault) → IsSourceFault text f → ((MAX_SOURCE_BYTES < length text) × (f ≡ source.TooLong)) ⊎ IsToldAt text age f
-from_text text age f h = elim (told_of text f h) [
-  | inl long ↦ inl long
-  | inr t ↦ inr (record {
-    within = t.is.0;
-    fault = plan.Source t.fault;
-    is = t.is.1;
-    told = t.told;
-    judged = (λ e. absurd (let f : ⊥ = cc in f), λ e. t.judged (source_fault t.fault of_text.Memory e));
-  })
-]
-
-told_at : (text : List ℕ) (age : ℕ) (f : SourceFault) → IsFaultAt text age f → ((MAX_SOURCE_BYTES < length text) × (f ≡ source.TooLong)) ⊎ IsToldAt text age f
-told_at text age (source.Bits n) h = inr (record { within = h.0; fault = plan.Bits n; is = h.1; told = refl; judged = (λ e. absurd (let f : ⊥ = cc in f), λ e. absurd (let f : ⊥ = cc in f)) })
-told_at text age (source.Latency n) h = inr (record { within = h.0; fault = plan.Latency n; is = h.1; told = refl; judged = (λ e. absurd (let f : ⊥ = cc in f), λ e. absurd (let f : ⊥ = cc in f)) })
-told_at text age source.TooLong h = from_text text age source.TooLong h
-told_at text age (source.Lex x) h = from_text text age (source.Lex x) h
-told_at text age (source.Nest x) h = from_text text age (source.Nest x) h
-told_at text age (source.Syntax x) h = from_text text age (source.Syntax x) h
-told_at text age (source.Depth x) h = from_text text age (source.Depth x) h
-told_at text age (source.Types x) h = from_text text age (source.Types x) h
-told_at text age (source.Nodes x) h = from_text text age (source.Nodes x) h
-told_at text age (source.InlineDepth x) h = from_text text age (source.InlineDepth x) h
-told_at text age (source.Reads x) h = from_text text age (source.Reads x) h
-
-module _ (plan_apart : PlanApart) (one_plan_fault : OnePlanFault) where
-  planned_no_fault : (text : List ℕ) (age : ℕ) (f : SourceFault) → CanBePlanned text age → IsFaultAt text age f → ⊥
-  planned_no_fault text age f can h = elim (told_at text age f h) [
-    | inl long ↦ let a = can.within in let b = long.0 in absurd (omega (arith, a, b))
-    | inr t ↦ elim (plan_apart text age t.fault can.plan t.is) [
-      | inl e ↦ t.judged.0 e
-      | inr e ↦ t.judged.1 e
-    ]
-  ]
-
-  one_fault_at : (text : List ℕ) (age : ℕ) (a b : SourceFault) → IsFaultAt text age a → IsFaultAt text age b → a ≡ b
-  one_fault_at text age a b x y = elim (told_at text age a x) [
-    | inl long ↦ elim (told_at text age b y) [
-      | inl other ↦ long.1 ∙ sym other.1
-      | inr t ↦ let l = long.0 in let m = t.within in absurd (omega (arith, l, m))
-    ]
-    | inr s ↦ elim (told_at text age b y) [
-      | inl other ↦ let l = other.0 in let m = s.within in absurd (omega (arith, l, m))
-      | inr t ↦ elim (one_plan_fault text age s.fault t.fault s.is t.is) [
-        | inl e ↦ absurd (s.judged.0 e)
-        | inr rest ↦ elim rest [
-          | inl e ↦ absurd (s.judged.1 e)
-          | inr more ↦ elim more [
-            | inl e ↦ absurd (t.judged.0 e)
-            | inr last ↦ elim last [
-              | inl e ↦ absurd (t.judged.1 e)
-              | inr same ↦ sym s.told ∙ (ap told_plan same ∙ t.told)
-            ]
-          ]
-        ]
-      ]
-    ]
-  ]
-
+module _ (planned_no_fault : PlanApart) (one_fault_at : OnePlanFault) where
   pub plan_answer : (age : ℕ) (text : List ℕ) (a b : Ending) → IsJudged a → IsJudged b → IsPlanAnswer age text a → IsPlanAnswer age text b → a ≡ b
   plan_answer age text ending.Done ending.Done _ _ x y = refl
   plan_answer age text ending.Done (ending.Source f) _ _ x y = absurd (planned_no_fault text age f x y)
@@ -154,9 +65,7 @@ module _ (plan_apart : PlanApart) (one_plan_fault : OnePlanFault) where
 
 -- a report that holds is one of an accepted text
 checked_accepted : (text bytes : List ℕ) (c : Claim) → IsChecked text bytes c → (p : Typing) × IsAccepted text p
-checked_accepted text bytes c is =
-    let has = is.confirmed.has in
-    (has.program, (has.form, record { within = is.within; stencils = is.confirmed.system.stencils; accepted = has.accepted }))
+checked_accepted text bytes c is = accepted_of text is.confirmed.names is.confirmed.stencils is.within is.confirmed.has
 
 module _ (one : OneProgram) (text_apart : TextApart) (one_text : OneTextFault) (file_apart : FileApart) (one_file : OneFileFault) (wrong_apart : WrongApart) (one_line : OneLine) where
   no_source : (text : List ℕ) (f : SourceFault) → ((p : Typing) × IsAccepted text p) → IsSourceFault text f → ⊥

@@ -6,11 +6,13 @@ use Rattle.dk_base.specs.Types.{width_of}
 use Rattle.dk_types.specs.Typed.{Typing}
 use Rattle.pointwise_ir.specs.Programs.{Program, IsProgram}
 use Rattle.dk_base.specs.Stencils.{Parts}
-use Rattle.dk_compile.specs.Sources.{IsForm, IsText}
+use Rattle.dk_compile.specs.Sources.{IsText}
+use Rattle.dk_compile.specs.Fronts.{IsForm, IsFront}
 use Rattle.dk_compile.specs.Sources as C
 use Rattle.pgm_codec.specs.Images.{Picture as Image}
 use Rattle.pgm_rounds.specs.declared.round.Round.{Round}
-use Rattle.pgm_rounds.specs.Ports.{Ports, ports_from, ports_of}
+use Rattle.pgm_rounds.specs.Ports.{Ports}
+use Rattle.program_images.specs.Ports.{ports_from, ports_of}
 use Rattle.pgm_rounds.specs.Files.{FitsFile, frame_of, frames_of}
 use Rattle.dk_endings.specs.declared.ending.Ending.{Ending}
 use Rattle.dk_endings.specs.declared.ending.Ending.TheVariants as ending
@@ -38,7 +40,7 @@ pub frames_read : ((ports : Ports) → 0 < length ports.inputs → (bytes : List
     → (source : List ℕ) (p : Typing) → HasForm source p ir → (images : List (List Image)) → Fits p file images → frames_of rounds ≡ map (map frame_of) images
 frames_read one ir file rounds is (found, fits, frames) source p has images other =
     let P : Ports → Type 0 = λ q. FitsFile q file images in
-    let there : FitsFile (ports_of ir) file images = subst P (sym (ports_same p ir has.accepted.form)) other.holds in
+    let there : FitsFile (ports_of ir) file images = subst P (sym (ports_same p ir has.front.form)) other.holds in
     frames ∙ ap (map (map frame_of)) (one (ports_of ir) (some_inputs ir is) file found images fits there)
 
 -- a text that is accepted and a file that does not fit
@@ -68,11 +70,11 @@ source_answer source file ending.ReadFault stops is = tt
 source_answer source file ending.Memory stops is = tt
 
 -- the form of an accepted text is that of whatever program the text is of
-pub every_form : ((text : List ℕ) (p q : Typing) → IsText text p → IsText text q → p ≡ q) → (text : List ℕ) (ir : Program) (s : Parts) → length text ≤ MAX_SOURCE_BYTES → ((p : Typing) × C.IsAccepted text p ir s) → (p : Typing) → IsAccepted text p → HasForm text p ir
-every_form one text ir s within (found, accepted) p (other, has) = record {
-  within = within;
+pub every_form : ((text : List ℕ) (p q : Typing) → IsText text p → IsText text q → p ≡ q) → (text : List ℕ) (ir : Program) (s : Parts) → ((p : Typing) × C.IsAccepted text p × IsFront text p ir s) → (p : Typing) → IsAccepted text p → HasForm text p ir
+every_form one text ir s (found, accepted, front) p is = record {
+  accepted = is;
   stencils = s;
-  accepted = let P : Typing → Type 0 = λ q. C.IsAccepted text q ir s in subst P (one text found p accepted.program has.accepted.program) accepted;
+  front = let P : Typing → Type 0 = λ q. IsFront text q ir s in subst P (one text found p front.program is.accepted.program) front;
 }
 
 -- what holds of the bytes that were read holds of those of the file, as far as it is told
@@ -116,7 +118,7 @@ read_told (Some f) between program image text ir rounds same is (p, has) every f
     let fit = (subst Fit same fits) text p has in
     let Whole : List ℕ → Type 0 = λ source. IsRead source (bytes_of f image) ir rounds in
     subst Whole is (record {
-      good = record { program = p; rounds = fit.0; accepted = (ir, has); fits = fit.1 };
+      good = record { program = p; rounds = fit.0; accepted = has.accepted; fits = fit.1 };
       formed = every;
       frames = λ q images a other. (subst Shown same read) text q (every q a) images other;
     })
@@ -128,7 +130,7 @@ misfit_told None between program image text ir e same is accepted stops fault = 
 misfit_told (Some f) between program image text ir e same is (p, has) stops fault =
     let Fault : Option Files → Type 0 = λ o. IfSome o (λ f. (source : List ℕ) (p : Typing) → HasForm source p ir → IsImageEnding p (bytes_of f image) e) in
     let Whole : List ℕ → Type 0 = λ source. IsAnswer source (bytes_of f image) e in
-    subst Whole is (misfit_answer text (bytes_of f image) p (ir, has) e stops ((subst Fault same fault) text p has))
+    subst Whole is (misfit_answer text (bytes_of f image) p has.accepted e stops ((subst Fault same fault) text p has))
 
 -- the program is not accepted
 pub source_told : (told : Option Files) (program image : List ℕ) (e : Ending) → Stops e → IfSome told (λ f. IsSourceEnding (bytes_of f program) e) → IfSome told (λ f. IsAnswer (bytes_of f program) (bytes_of f image) e)

@@ -5,10 +5,10 @@ use Rattle.dk_base.specs.Stencils.{Parts}
 use Rattle.dk_desk.specs.Calls.{IsIfTold, grown}
 use Rattle.pointwise_ir.specs.Programs.{Program}
 use Rattle.dk_plan.specs.declared.judging.Claim.{Claim}
-use Rattle.dk_plan.specs.Planned.{IsPlanOf}
 use Rattle.dk_endings.specs.declared.ending.Ending.{Ending}
 use Rattle.dk_endings.specs.declared.ending.Ending.TheVariants as ending
 use Rattle.dk_endings.specs.Lines.{holds_line}
+use Rattle.dk_top.specs.Plans.{IsPlanOf}
 use Rattle.dk_top.specs.Reports.{IsChecked}
 use Rattle.dk_top.specs.Verdict.{Files, bytes_of, IsPlanAnswer, IsCheckAnswer, CanBeChecked}
 use Rattle.dk_desk.specs.Outside.{Outside}
@@ -59,7 +59,7 @@ report_ended source report ir s (ending.Source f) has stops h = absurd h
 report_ended source report ir s (ending.Image f) has stops h = absurd h
 report_ended source report ir s (ending.Verilog f) has stops h = absurd h
 report_ended source report ir s (ending.Stopped f) has stops h = absurd h
-report_ended source report ir s (ending.Rejected f) has stops h = record { program = has.program; accepted = (ir, record { within = has.within; stencils = s; accepted = has.accepted }); fault_is = h }
+report_ended source report ir s (ending.Rejected f) has stops h = record { program = has.program; accepted = record { within = has.within; accepted = has.accepted }; fault_is = h }
 report_ended source report ir s ending.ReadFault has stops h = tt
 report_ended source report ir s ending.Memory has stops h = tt
 
@@ -134,4 +134,4 @@ any_front (Some f) name ir s e h = λ source has. h source
 -- the report is asked for where the program is accepted
 pub order_front : (told : Option Files) (program : List ℕ) (ir : Program) (s : Parts) (o : Outside) → IfSome told (λ f. HasFront (bytes_of f program) ir s) → IfSome told (λ f. AsksWhereAccepted (bytes_of f program) o)
 order_front None program ir s o h = tt
-order_front (Some f) program ir s o h = λ asked. (h.program, (ir, record { within = h.within; stencils = s; accepted = h.accepted }))
+order_front (Some f) program ir s o h = λ asked. (h.program, record { within = h.within; accepted = h.accepted })

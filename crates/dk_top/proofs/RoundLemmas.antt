@@ -8,7 +8,7 @@ use Rattle.dk_desk.specs.Calls.{IsIfTold}
 use Rattle.pgm_codec.specs.Images.{header_of}
 use Rattle.pgm_rounds.specs.declared.round.Round.{Round}
 use Rattle.pgm_rounds.specs.Files.{frames_of}
-use Rattle.pointwise_eval.specs.declared.frame.Frame.{Frame}
+use Rattle.dk_frames.specs.declared.frame.Frame.{Frame}
 use Rattle.dk_top.specs.declared.circuit.Right.{Right}
 use Rattle.dk_top.specs.declared.circuit.Circuit.{Circuit}
 use Rattle.dk_top.specs.Circuit.{shown, run_of, pixel_clocks, picture_shown}

@@ -9,7 +9,7 @@ use Rattle.verilog_text.specs.declared.fault.TextFault.{TextFault}
 use Rattle.verilog_text.specs.Faults.{IsFault}
 use Rattle.cycle_sim.specs.Ports.{din_widths}
 use Rattle.pgm_codec.specs.Images.{Picture as Image}
-use Rattle.pointwise_eval.specs.declared.frame.Frame.{Frame}
+use Rattle.dk_frames.specs.declared.frame.Frame.{Frame}
 use Rattle.pgm_rounds.specs.declared.round.Round.{Round}
 use Rattle.pgm_rounds.specs.Files.{frame_of, frames_of}
 use Rattle.test_bench.specs.declared.drive.Drive.{Drive}
@@ -27,7 +27,7 @@ use Rattle.netlist.specs.declared.fault.NetFault.TheVariants as net
 use Rattle.verilog_text.specs.declared.fault.TextFault.TheVariants as text
 use Rattle.dk_endings.specs.declared.verilog.VerilogFault.{VerilogFault}
 use Rattle.dk_endings.specs.declared.verilog.VerilogFault.TheVariants.{TooLong, At}
-use Rattle.dk_endings.specs.declared.TheConstants.{MAX_VERILOG_BYTES}
+use Rattle.dk_base.specs.declared.TheConstants.{MAX_VERILOG_BYTES}
 use Rattle.dk_endings.specs.Verilog.{fault_told}
 use Rattle.dk_top.specs.Simulation.{of_text, drive_of, IsModuleOf, IsVerilogFault, FitsModule, IsSimulated, IsStopped}
 use Rattle.dk_top.specs.Verdict.{Files, bytes_of, IsSimAnswer}

@@ -5,21 +5,21 @@ use Rattle.dk_types.specs.Typed.{Typing, types_of}
 use Rattle.dk_types.specs.Meaning.{meaning_on}
 use Rattle.pgm_codec.specs.Images.{Picture as Image, file_of}
 use Rattle.pgm_rounds.specs.Files.{FitsFile, IsFault, joined}
-use Rattle.pgm_rounds.specs.Outputs.{output_images}
+use Rattle.program_images.specs.Outputs.{output_images}
 use Rattle.dk_endings.specs.declared.ending.ImageFault.{ImageFault}
 use Rattle.dk_endings.specs.declared.ending.ImageFault.TheVariants.{TooLong, File}
-use Rattle.dk_endings.specs.declared.TheConstants.{MAX_IMAGE_BYTES}
+use Rattle.dk_base.specs.declared.TheConstants.{MAX_PGM_BYTES}
 use Rattle.dk_top.specs.Program.{ports}
 
 -- the file is within its limit and one of these rounds, which fit the program
 pub record Fits (p : Typing) (file : List ℕ) (rounds : List (List Image)) : Type 0 where
-  pub within : length file ≤ MAX_IMAGE_BYTES
+  pub within : length file ≤ MAX_PGM_BYTES
   pub holds : FitsFile (ports p) file rounds
 
 -- The first fault of a file: its length, and then its images one after another.
 abbrev pub IsImageFault : Typing → List ℕ → ImageFault → Type 0
-IsImageFault p file TooLong = MAX_IMAGE_BYTES < length file
-IsImageFault p file (File fault) = (length file ≤ MAX_IMAGE_BYTES) × IsFault (ports p) file fault
+IsImageFault p file TooLong = MAX_PGM_BYTES < length file
+IsImageFault p file (File fault) = (length file ≤ MAX_PGM_BYTES) × IsFault (ports p) file fault
 
 -- the images of a round's outputs, by the program's meaning
 abbrev pub outputs_of : Typing → List Image → List Image

@@ -5,21 +5,24 @@ use Rattle.dk_base.specs.Stencils.{Parts}
 use Rattle.dk_types.specs.Typed.{Typing}
 use Rattle.pointwise_ir.specs.Programs.{Program}
 use Rattle.dk_compile.specs.Sources as of
+use Rattle.dk_compile.specs.Fronts.{IsFront}
 use Rattle.dk_compile.specs.declared.fault.SourceFault.{SourceFault as TextFault}
 use Rattle.dk_compile.specs.declared.fault.SourceFault.TheVariants as of_text
-use Rattle.pgm_rounds.specs.Ports.{Ports, ports_from}
+use Rattle.pgm_rounds.specs.Ports.{Ports}
+use Rattle.program_images.specs.Ports.{ports_from}
 use Rattle.dk_endings.specs.declared.ending.SourceFault.{SourceFault}
 use Rattle.dk_endings.specs.declared.ending.SourceFault.TheVariants.{TooLong, Lex, Nest, Syntax, Depth, Types, Nodes, InlineDepth, Reads, Bits, Latency}
 
--- the text is within its limit, and that of this program, which is within all limits and has this form
-pub record HasForm (text : List ℕ) (p : Typing) (form : Program) : Type 0 where
-  pub within : length text ≤ MAX_SOURCE_BYTES
-  pub stencils : Parts
-  pub accepted : of.IsAccepted text p form stencils
+-- The text is within its limit, and that of this program, which is within all limits. Bits and latency are not judged.
+pub record IsAccepted (source : List ℕ) (p : Typing) : Type 0 where
+  pub within : length source ≤ MAX_SOURCE_BYTES
+  pub accepted : of.IsAccepted source p
 
--- the text is accepted, and is that of this program
-abbrev pub IsAccepted : List ℕ → Typing → Type 0
-IsAccepted source p = (form : Program) × HasForm source p form
+-- the text is accepted, and its program has this form
+pub record HasForm (text : List ℕ) (p : Typing) (form : Program) : Type 0 where
+  pub accepted : IsAccepted text p
+  pub stencils : Parts
+  pub front : IsFront text p form stencils
 
 -- the first fault of a text that is within its limit
 abbrev pub IsTextFault : List ℕ → TextFault → Type 0

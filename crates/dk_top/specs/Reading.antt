@@ -8,7 +8,7 @@ use Rattle.pointwise_ir.specs.Programs.{Program}
 use Rattle.dk_endings.specs.declared.ending.Ending.{Ending}
 use Rattle.dk_endings.specs.declared.ending.Ending.TheVariants as ending
 use Rattle.dk_endings.specs.declared.ending.ImageFault.TheVariants as image
-use Rattle.dk_endings.specs.declared.TheConstants.{MAX_IMAGE_BYTES}
+use Rattle.dk_base.specs.declared.TheConstants.{MAX_PGM_BYTES}
 use Rattle.dk_top.specs.declared.circuit.Right.{Right}
 use Rattle.dk_top.specs.Circuit.{IsClocked, IsNotClocked}
 use Rattle.dk_top.specs.Program.{HasForm, IsAccepted, IsSourceFault}
@@ -33,7 +33,7 @@ IsSourceEnding source _ = ⊤
 
 -- why a file of images was not read whole: its length, or a failure
 abbrev pub IsUnread : List ℕ → Ending → Type 0
-IsUnread file (ending.Image image.TooLong) = MAX_IMAGE_BYTES < length file
+IsUnread file (ending.Image image.TooLong) = MAX_PGM_BYTES < length file
 IsUnread file ending.ReadFault = ⊤
 IsUnread file ending.Memory = ⊤
 IsUnread file _ = ⊥

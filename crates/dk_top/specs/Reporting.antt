@@ -5,6 +5,7 @@ use Rattle.dk_base.specs.Stencils.{Parts}
 use Rattle.dk_types.specs.Typed.{Typing}
 use Rattle.pointwise_ir.specs.Programs.{Program}
 use Rattle.dk_compile.specs.Sources as of
+use Rattle.dk_compile.specs.Fronts.{IsFront}
 use Rattle.dk_endings.specs.declared.ending.Ending.{Ending}
 use Rattle.dk_endings.specs.declared.ending.Ending.TheVariants as ending
 use Rattle.dk_top.specs.Reports.{IsFaultAt, IsReportFault}
@@ -20,7 +21,8 @@ IsPlanEnding age source _ = ⊥
 pub record HasFront (source : List ℕ) (ir : Program) (s : Parts) : Type 0 where
   pub within : length source ≤ MAX_SOURCE_BYTES
   pub program : Typing
-  pub accepted : of.IsAccepted source program ir s
+  pub accepted : of.IsAccepted source program
+  pub front : IsFront source program ir s
 
 -- the ending of a report of an accepted text
 abbrev pub IsReportEnding : (source report : List ℕ) → Ending → Type 0

@@ -25,7 +25,7 @@ use Rattle.dk_endings.specs.declared.ending.ImageFault.TheVariants.{TooLong as L
 use Rattle.dk_endings.specs.declared.verilog.VerilogFault.{VerilogFault}
 use Rattle.dk_endings.specs.declared.verilog.VerilogFault.TheVariants.{TooLong, At}
 use Rattle.dk_endings.specs.declared.verilog.VerilogKind.TheVariants.{Ports}
-use Rattle.dk_endings.specs.declared.TheConstants.{MAX_IMAGE_BYTES, MAX_VERILOG_BYTES}
+use Rattle.dk_base.specs.declared.TheConstants.{MAX_PGM_BYTES, MAX_VERILOG_BYTES}
 use Rattle.dk_endings.specs.Verilog.{fault_told}
 
 -- how the command's words drive a module
@@ -63,7 +63,7 @@ IsVerilogFault hold text (At span kind) = (length text ≤ MAX_VERILOG_BYTES) ×
 
 -- The file is within its limit and one of these rounds of images, which fit the module's dins.
 pub record FitsModule (m : NamedNetlist) (file : List ℕ) (size : Size) (images : List (List Image)) : Type 0 where
-  pub within : length file ≤ MAX_IMAGE_BYTES
+  pub within : length file ≤ MAX_PGM_BYTES
   pub fits : FitsBench (din_widths m.netlist) file size images
 
 -- the first fault of a file's images, for dins of these widths, of which there are some
@@ -73,8 +73,8 @@ pub record IsImagesFault (widths file : List ℕ) (fault : FileFault) : Type 0 w
 
 -- the first fault of a file: its length, and then its images one after another
 abbrev pub IsFileFault : NamedNetlist → List ℕ → ImageFault → Type 0
-IsFileFault m file LongFile = MAX_IMAGE_BYTES < length file
-IsFileFault m file (File fault) = (length file ≤ MAX_IMAGE_BYTES) × IsImagesFault (din_widths m.netlist) file fault
+IsFileFault m file LongFile = MAX_PGM_BYTES < length file
+IsFileFault m file (File fault) = (length file ≤ MAX_PGM_BYTES) × IsImagesFault (din_widths m.netlist) file fault
 
 -- the text and the file are in order, and the module shows this file of pictures
 pub record IsSimulated (drive : Drive) (text file pictures : List ℕ) : Type 0 where

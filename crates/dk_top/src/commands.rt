@@ -23,7 +23,7 @@ use dk_base::Memory;
 use dk_compile::{one_source, typed};
 use dk_desk::{Desk, Stage};
 use dk_endings::Ending;
-use pgm_rounds::write_outputs;
+use program_images::write_outputs;
 use std::alloc::{AllocError, Global};
 
 /// The output file by the program's meaning.

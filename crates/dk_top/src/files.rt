@@ -7,9 +7,10 @@ ghost use Rattle.dk_top.specs.Verdict.{bytes_of};
 ghost use Rattle.dk_top.specs.State.{IsPrefix, OthersStay, ReportsFront};
 ghost use Rattle.dk_top.specs.Reading.{IsUnread, Stops};
 
+use dk_base::MAX_PGM_BYTES;
 use dk_desk::transfer::{ReadAll, read_all, write_all};
 use dk_desk::{Desk, Failed, InSlot, OutSlot, Stage};
-use dk_endings::{Ending, ImageFault, MAX_IMAGE_BYTES};
+use dk_endings::{Ending, ImageFault};
 use std::alloc::Global;
 
 /// Opens an input and reads it whole.
@@ -64,14 +65,14 @@ pub fn read_file<D: Desk>(alloc: Global, desk: &mut D, name: &str) -> Result<Vec
     requires fresh { (D.outside desk.old).image.stage ≡ Stage.Unasked }
     requires before_create { (D.outside desk.old).file.stage ≡ Stage.Unasked }
     ensures whole { IfOk result (λ bytes. IfSome (D.outside desk.old).files (λ files. bytes.items ≡ bytes_of files name.now)) }
-    ensures within { IfOk result (λ bytes. vec_len bytes ≤ MAX_IMAGE_BYTES) }
+    ensures within { IfOk result (λ bytes. vec_len bytes ≤ MAX_PGM_BYTES) }
     ensures fault { IfErr result (λ e. IfSome (D.outside desk.old).files (λ files. IsUnread (bytes_of files name.now) e)) }
     ensures stops { IfErr result Stops }
     ensures name { IsIfTold (D.outside desk.new).image.name (Some name.now) }
     ensures only { OpensOnly InSlot.Image (D.outside desk.old) (D.outside desk.new) }
     ensures cause { HasCauseIn (result ≡ Err Ending.ReadFault) (D.outside desk.old).input_failures (D.outside desk.new).input_failures }
 {
-    match read_input(alloc, desk, InSlot::Image, name, MAX_IMAGE_BYTES) {
+    match read_input(alloc, desk, InSlot::Image, name, MAX_PGM_BYTES as usize) {
         Ok(file) => Ok(file),
         Err(ReadAll::Failed) => Err(Ending::ReadFault),
         Err(ReadAll::TooLong) => Err(Ending::Image(ImageFault::TooLong)),

@@ -16,13 +16,14 @@ ghost use Rattle.dk_top.specs.State.{AsksWhereAccepted};
 ghost use Rattle.dk_top.specs.Reading.{IsSourceEnding, IsImageEnding, IsRead, Stops};
 
 use crate::files::{read_file, read_input};
-use dk_base::MAX_SOURCE_BYTES;
+use dk_base::{MAX_PGM_BYTES, MAX_SOURCE_BYTES};
 use dk_compile::{front, one_source};
 use dk_desk::transfer::ReadAll;
 use dk_desk::{Desk, InSlot, Stage};
-use dk_endings::{Ending, ImageFault, MAX_IMAGE_BYTES, SourceFault};
-use pgm_rounds::{FileError, Round, one_file, read_rounds};
+use dk_endings::{Ending, ImageFault, SourceFault};
+use pgm_rounds::{FileError, Round, one_file};
 use pointwise_ir::Ir;
+use program_images::read_program_rounds;
 use std::alloc::Global;
 
 /// The program's text.
@@ -84,7 +85,7 @@ fn read_form(alloc: Global, text: &[u8]) -> Result<Ir, Ending>
 
 /// The rounds of a file that is within its limit, for the program of this form.
 fn read_frames(alloc: Global, ir: &Ir, file: &[u8]) -> Result<Vec<Round>, Ending>
-    requires { length file.now ≤ MAX_IMAGE_BYTES }
+    requires { length file.now ≤ MAX_PGM_BYTES }
     ensures fits { IfOk result (λ rounds. (source : List ℕ) (p : Typing) → HasForm source p ir.now → (images : List (List Image)) × Fits p file.now images) }
     ensures read { IfOk result (λ rounds. (source : List ℕ) (p : Typing) → HasForm source p ir.now → (images : List (List Image)) → Fits p file.now images → frames_of rounds.items ≡ map (map frame_of) images) }
     ensures frames { IfOk result (λ rounds. All (λ r. AreFrames ir.now r.frames.items) rounds.items) }
@@ -94,7 +95,7 @@ fn read_frames(alloc: Global, ir: &Ir, file: &[u8]) -> Result<Vec<Round>, Ending
 {
     one_file();
     ir.law();
-    match read_rounds(alloc, ir, file) {
+    match read_program_rounds(alloc, ir, file) {
         Ok(rounds) => Ok(rounds),
         Err(FileError::Fault(fault)) => Err(Ending::Image(ImageFault::File(fault))),
         Err(FileError::Memory) => Err(Ending::Memory),

@@ -1,15 +1,19 @@
 //! `plan` and `check`: reports of delays and buffer bits.
 
 ghost use Rattle.std.specs.Prelude.{◌≡◌, ◌≢◌, ◌≤◌, ◌<◌, ℕ, List, Some, None, Err, IfOk, IfErr, IfSome, OnOk, length, vec_len};
-ghost use Rattle.dk_base.specs.declared.TheConstants.{MAX_SOURCE_BYTES};
+ghost use Rattle.dk_base.specs.declared.TheConstants.{MAX_SOURCE_BYTES, MAX_AGE};
 ghost use Rattle.dk_desk.specs.Outside.{Outside};
 ghost use Rattle.dk_desk.specs.Calls.{HasCauseIn, IsIfTold, OpensOnly};
 ghost use Rattle.dk_types.specs.Typed.{Typing};
 ghost use Rattle.dk_compile.specs.Sources as of;
-ghost use Rattle.dk_plan.specs.Planned.{HasPlan, IsPlanOf, IsPlanFault};
-ghost use Rattle.dk_plan.specs.Judged.{IsCheckFault};
+ghost use Rattle.dk_compile.specs.Fronts.{IsFront};
+ghost use Rattle.pointwise_ir.specs.Programs.{Program};
+ghost use Rattle.dk_base.specs.Stencils.{Parts as Stencils};
+ghost use Rattle.buffer_plan.specs.Limits.{IsPlanFault};
+ghost use Rattle.dk_plan.specs.Planned.{aged};
 ghost use Rattle.dk_top.specs.Command.{plan as plan_command, check as check_command};
 ghost use Rattle.dk_top.specs.Program.{IsAccepted};
+ghost use Rattle.dk_top.specs.Plans.{IsPlanOf};
 ghost use Rattle.dk_top.specs.Reports.{CanBePlanned, IsFaultAt, IsChecked};
 ghost use Rattle.dk_top.specs.Verdict.{bytes_of, IsVerdict, IsPlanAnswer, IsCheckAnswer};
 ghost use Rattle.dk_top.specs.State.{AsksOnly, AsksInOrder, AsksWhereAccepted, CreatesNothing, CreatesOut, FilesStay, IsHeld, IsNoted, IsReported, WritesNothing};
@@ -18,42 +22,63 @@ ghost use Rattle.dk_top.specs.Reporting.{HasFront, IsPlanEnding, IsReportEnding}
 
 use crate::files::{read_input, write_report};
 use crate::reading::{ending_of, read_text};
-use dk_base::MAX_SOURCE_BYTES;
+use dk_base::{MAX_REPORT_BYTES, MAX_SOURCE_BYTES};
 use dk_compile::{Front, front};
 use dk_desk::transfer::ReadAll;
 use dk_desk::{Desk, InSlot, Stage};
-use dk_endings::{Ending, MAX_REPORT_BYTES, ReportFault, SourceFault, holds_line};
-use dk_plan::{CheckFault, Claim, PlanFault, judge_report, plan_text};
+use dk_endings::{Ending, ReportFault, SourceFault, holds_line};
+use dk_plan::{CheckFault, Claim, PlanFault, judge_report, plan_report};
 use dk_words::{CheckWords, PlanWords};
+use source_names::source_names;
 use std::alloc::Global;
 
-/// How a call ends whose text has no report.
+/// How a call ends whose program has no report.
 fn plan_ending(fault: PlanFault) -> Ending
-    ensures fault { (source : List ℕ) (age : ℕ) → length source ≤ MAX_SOURCE_BYTES → IsPlanFault source age fault → IsPlanEnding age source result }
+    ensures fault { (source : List ℕ) (age : ℕ) (ir : Program) (s : Stencils) → HasFront source ir s → IsPlanFault (aged s age) fault → IsPlanEnding age source result }
     ensures stops { Stops result }
     ensures judged { result ≢ Ending.ReadFault }
 {
     match fault {
-        PlanFault::Source(fault) => ending_of(fault),
         PlanFault::Bits { least } => Ending::Source(SourceFault::Bits { least }),
         PlanFault::Latency { clocks } => Ending::Source(SourceFault::Latency { clocks }),
         PlanFault::Memory => Ending::Memory,
     }
 }
 
+/// The report of an accepted program.
+fn report_of(alloc: Global, front: &Front, age: u8) -> Result<Vec<u8>, Ending>
+    requires age { age ≤ MAX_AGE }
+    requires accepted { (source : List ℕ) × HasFront source front.now.ir front.now.stencils }
+    ensures plan { IfOk result (λ report. (source : List ℕ) → HasFront source front.now.ir front.now.stencils → IsPlanOf source age report.items) }
+    ensures good { OnOk result ((source : List ℕ) → HasFront source front.now.ir front.now.stencils → CanBePlanned source age) }
+    ensures fault { IfErr result (λ e. (source : List ℕ) → HasFront source front.now.ir front.now.stencils → IsPlanEnding age source e) }
+    ensures stops { IfErr result Stops }
+    ensures judged { result ≢ Err Ending.ReadFault }
+{
+    source_names();
+    match plan_report(alloc, &front.ir, &front.stencils, age) {
+        Ok(report) => Ok(report),
+        Err(fault) => Err(plan_ending(fault)),
+    }
+}
+
 /// The report of a text within its limit.
 fn planned(alloc: Global, text: &[u8], age: u8) -> Result<Vec<u8>, Ending>
     requires within { length text.now ≤ MAX_SOURCE_BYTES }
-    requires age { age ≤ 64 }
+    requires age { age ≤ MAX_AGE }
     ensures plan { IfOk result (λ report. IsPlanOf text.now age report.items) }
     ensures good { OnOk result (CanBePlanned text.now age) }
     ensures fault { IfErr result (IsPlanEnding age text.now) }
     ensures stops { IfErr result Stops }
     ensures judged { result ≢ Err Ending.ReadFault }
 {
-    match plan_text(alloc, text, age) {
+    let front = match accepted(alloc, text) {
+        Ok(front) => front,
+        Err(ending) => return Err(ending),
+    };
+    match report_of(alloc, &front, age) {
         Ok(report) => Ok(report),
-        Err(fault) => Err(plan_ending(fault)),
+        Err(ending) => Err(ending),
     }
 }
 
@@ -61,7 +86,7 @@ fn planned(alloc: Global, text: &[u8], age: u8) -> Result<Vec<u8>, Ending>
 fn read_plan<D: Desk>(alloc: Global, desk: &mut D, name: &str, age: u8) -> Result<Vec<u8>, Ending>
     requires fresh { (D.outside desk.old).program.stage ≡ Stage.Unasked }
     requires before_create { (D.outside desk.old).file.stage ≡ Stage.Unasked }
-    requires age { age ≤ 64 }
+    requires age { age ≤ MAX_AGE }
     ensures plan { IfOk result (λ report. IfSome (D.outside desk.old).files (λ files. IsPlanOf (bytes_of files name.now) age report.items)) }
     ensures good { OnOk result (IfSome (D.outside desk.old).files (λ files. CanBePlanned (bytes_of files name.now) age)) }
     ensures fault { IfErr result (λ e. IfSome (D.outside desk.old).files (λ files. IsPlanEnding age (bytes_of files name.now) e)) }
@@ -79,7 +104,7 @@ fn read_plan<D: Desk>(alloc: Global, desk: &mut D, name: &str, age: u8) -> Resul
 
 /// Writes the report of the program to Report.
 pub fn plan<D: Desk>(alloc: Global, words: &PlanWords<'_>, desk: &mut D) -> Ending
-    requires age { words.now.age ≤ 64 }
+    requires age { words.now.age ≤ MAX_AGE }
     requires program { (D.outside desk.old).program.stage ≡ Stage.Unasked }
     requires image { (D.outside desk.old).image.stage ≡ Stage.Unasked }
     requires file { (D.outside desk.old).file.stage ≡ Stage.Unasked }
@@ -113,7 +138,7 @@ pub fn plan<D: Desk>(alloc: Global, words: &PlanWords<'_>, desk: &mut D) -> Endi
 /// The program of a text within its limit, with its live reads.
 fn accepted(alloc: Global, text: &[u8]) -> Result<Front, Ending>
     requires { length text.now ≤ MAX_SOURCE_BYTES }
-    ensures accepted { IfOk result (λ front. (p : Typing) × of.IsAccepted text.now p front.ir front.stencils) }
+    ensures accepted { IfOk result (λ front. (p : Typing) × of.IsAccepted text.now p × IsFront text.now p front.ir front.stencils) }
     ensures fault { IfErr result (IsSourceEnding text.now) }
     ensures stops { IfErr result Stops }
     ensures judged { result ≢ Err Ending.ReadFault }
@@ -152,7 +177,7 @@ fn judged(alloc: Global, front: &Front, report: &[u8]) -> Result<Claim, Ending>
     ensures stops { IfErr result Stops }
     ensures judged { result ≢ Err Ending.ReadFault }
 {
-    match judge_report(alloc, front, report) {
+    match judge_report(alloc, &front.ir, &front.stencils, report) {
         Ok(claim) => Ok(claim),
         Err(CheckFault::Line { number }) => Err(Ending::Rejected(ReportFault::Line { number })),
         Err(CheckFault::Memory) => Err(Ending::Memory),

@@ -21,12 +21,10 @@ ghost use Rattle.dk_top.specs.Reading.{Stops};
 
 use crate::files::{read_file, read_input, write_file};
 use cycle_sim::Fill;
-use dk_base::Span;
+use dk_base::{MAX_PGM_BYTES, MAX_VERILOG_BYTES, Span};
 use dk_desk::transfer::ReadAll;
 use dk_desk::{Desk, InSlot, Stage};
-use dk_endings::{
-    Ending, ImageFault, MAX_IMAGE_BYTES, MAX_VERILOG_BYTES, VerilogFault, VerilogKind,
-};
+use dk_endings::{Ending, ImageFault, VerilogFault, VerilogKind};
 use dk_words::{PowerUp, SimWords};
 use netlist::Module;
 use pgm_rounds::FileError;
@@ -131,7 +129,7 @@ fn read_module<D: Desk>(
 
 /// The rounds of a file within its limit, for a module.
 fn rounds_for(alloc: Global, module: &Module, file: &[u8]) -> Result<BenchInput, Ending>
-    requires { length file.now ≤ MAX_IMAGE_BYTES }
+    requires { length file.now ≤ MAX_PGM_BYTES }
     ensures input { IfOk result (λ input. IsInput «module».now file.now (size_of input.size) input.rounds.items) }
     ensures frame { IfOk result (λ input. IsFrame input.size.width input.size.height) }
     ensures frames { IfOk result (λ input. AreBenchFrames (din_widths «module».now.netlist) (size_of input.size) input.rounds.items) }

@@ -1,5 +1,7 @@
 pub mod Answers
+pub mod Literals
 pub mod Programs
+pub mod Total
 pub mod Rules
 pub mod Names
 pub mod Sequences

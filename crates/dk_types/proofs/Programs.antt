@@ -62,7 +62,7 @@ port_is (Unsigned n) h =
     rw (a, b) refl
 port_is (Signed n) h = absurd h
 
-is_a_port : (t : Ty) → port_test t ≡ true → IsPort t
+pub is_a_port : (t : Ty) → port_test t ≡ true → IsPort t
 is_a_port (Unsigned n) h =
     let p = both (nat_le 1 n) (nat_le n 16) h in
     let a = p.0 in let b = p.1 in
@@ -76,15 +76,15 @@ not_port t n = by (port_test t) refl
     by true e = absurd (n (is_a_port t e))
     by false e = e
 
-abbrev takes_test : Option Ty → Ty → Bool
+abbrev pub takes_test : Option Ty → Ty → Bool
 takes_test None body = true
 takes_test (Some u) body = is_type u && converts body u
 
-takes_is : (u : Option Ty) (t : Ty) → Takes u t → takes_test u t ≡ true
+pub takes_is : (u : Option Ty) (t : Ty) → Takes u t → takes_test u t ≡ true
 takes_is None t h = refl
 takes_is (Some u) t h = rw (type_is u h.is_type, h.fits) refl
 
-is_taken : (u : Option Ty) (t : Ty) → takes_test u t ≡ true → Takes u t
+pub is_taken : (u : Option Ty) (t : Ty) → takes_test u t ≡ true → Takes u t
 is_taken None t h = tt
 is_taken (Some u) t h = let p = both (is_type u) (converts t u) h in record { is_type = is_a_type u p.0; fits = p.1 }
 
@@ -95,16 +95,16 @@ not_taken u t n = by (takes_test u t) refl
     by true e = absurd (n (is_taken u t e))
     by false e = e
 
-abbrev side_test : ℕ → Bool
+abbrev pub side_test : ℕ → Bool
 side_test n = nat_le 1 n && nat_le n 4096
 
-side_is : (n : ℕ) → IsSide n → side_test n ≡ true
+pub side_is : (n : ℕ) → IsSide n → side_test n ≡ true
 side_is n h =
     let a : nat_le 1 n ≡ true = grind (arith, h.some) in
     let b : nat_le n 4096 ≡ true = grind (arith, h.most) in
     rw (a, b) refl
 
-is_a_side : (n : ℕ) → side_test n ≡ true → IsSide n
+pub is_a_side : (n : ℕ) → side_test n ≡ true → IsSide n
 is_a_side n h =
     let p = both (nat_le 1 n) (nat_le n 4096) h in
     let a = p.0 in let b = p.1 in

@@ -1,5 +1,6 @@
 -- The first fault of an expression and of a program.
 use Rattle.std.specs.Prelude.{◌≡◌, ◌≢◌, ℕ, ◌≤◌, ◌<◌, List, [], Some, None, true, false, length}
+use Rattle.dk_base.specs.declared.TheConstants.{MAX_INPUTS, MAX_DEFINITIONS, MAX_OUTPUTS, MAX_OFFSET, MAX_WIDTH, MAX_SHIFT}
 use Rattle.dk_base.specs.declared.span.Span.{Span}
 use Rattle.dk_base.specs.declared.ty.Ty.{Ty}
 use Rattle.dk_base.specs.Types.{IsType, width_of, is_signed, is_bit, common_type, negation_type, shifted_type}
@@ -41,16 +42,16 @@ pub data Faulty (scope : Scope) : Tree → TypeFault → Type 0 where
   -- a read: its name, then x, then y
   unknown : {s : Span} {r : ImageRead} → IsUnknown scope r.name.text → Faulty scope (T.read s r) (at r.name.span UnknownImage)
   far_in_x : {s : Span} {r : ImageRead} {g : ℕ} {t : Ty} {o : Offset}
-      → IsImage scope r.name.text g t → r.x ≡ Some o → 64 < o.amount.value
+      → IsImage scope r.name.text g t → r.x ≡ Some o → MAX_OFFSET < o.amount.value
       → Faulty scope (T.read s r) (at o.amount.span OffsetRange)
   far_in_y : {s : Span} {r : ImageRead} {g : ℕ} {t : Ty} {o : Offset}
-      → IsImage scope r.name.text g t → amount_of r.x ≤ 64 → r.y ≡ Some o → 64 < o.amount.value
+      → IsImage scope r.name.text g t → amount_of r.x ≤ MAX_OFFSET → r.y ≡ Some o → MAX_OFFSET < o.amount.value
       → Faulty scope (T.read s r) (at o.amount.span OffsetRange)
   -- an operator of one operand
   in_unary : {s : Span} {o : UnaryOperator} {a : Tree} {f : TypeFault} → Faulty scope a f → Faulty scope (T.unary s o a) f
   not_a_bit : {s : Span} {a : Tree} {e : Typed} → HasType scope a e → is_bit (type_of e) ≡ false → Faulty scope (T.unary s Not a) (at (span_of a) NotOneBit)
   wide_negation : {s : Span} {a : Tree} {e : Typed}
-      → HasType scope a e → 64 < width_of (negation_type (type_of e)) → Faulty scope (T.unary s Negate a) (at s WidthTooGreat)
+      → HasType scope a e → MAX_WIDTH < width_of (negation_type (type_of e)) → Faulty scope (T.unary s Negate a) (at s WidthTooGreat)
   -- an operator of two operands
   in_left : {s : Span} {o : BinaryOperator} {a b : Tree} {f : TypeFault} → Faulty scope a f → Faulty scope (T.binary s o a b) f
   in_right : {s : Span} {o : BinaryOperator} {a b : Tree} {e : Typed} {f : TypeFault}
@@ -70,9 +71,9 @@ pub data Faulty (scope : Scope) : Tree → TypeFault → Type 0 where
   zero_divisor : {s : Span} {a : Tree} {k : Literal} {e : Typed}
       → HasType scope a e → k.value ≡ 0 → Faulty scope (T.scale s Divide a k) (at k.span ZeroDivisor)
   far_shift : {s : Span} {o : ScaleOperator} {a : Tree} {k : Literal} {e : Typed}
-      → HasType scope a e → o ≢ Divide → 63 < k.value → Faulty scope (T.scale s o a k) (at k.span ShiftRange)
+      → HasType scope a e → o ≢ Divide → MAX_SHIFT < k.value → Faulty scope (T.scale s o a k) (at k.span ShiftRange)
   wide_shift : {s : Span} {a : Tree} {k : Literal} {e : Typed}
-      → HasType scope a e → k.value ≤ 63 → 64 < width_of (shifted_type (type_of e) k.value)
+      → HasType scope a e → k.value ≤ MAX_SHIFT → MAX_WIDTH < width_of (shifted_type (type_of e) k.value)
       → Faulty scope (T.scale s ShiftLeft a k) (at s WidthTooGreat)
   -- a conversion; no type of the language is refused here
   in_cast : {s : Span} {a : Tree} {w : TypeWord} {f : TypeFault} → Faulty scope a f → Faulty scope (T.cast s a w) f
@@ -92,30 +93,30 @@ pub data Faulty (scope : Scope) : Tree → TypeFault → Type 0 where
       → Faulty scope (T.select s c a b) (at (span_of c) NotOneBit)
   wide_choice : {s : Span} {c a b : Tree} {d e f : Typed}
       → HasType scope c d → HasType scope a e → HasType scope b f → is_bit (type_of d) ≡ true
-      → 64 < width_of (common_type (type_of e) (type_of f))
+      → MAX_WIDTH < width_of (common_type (type_of e) (type_of f))
       → Faulty scope (T.select s c a b) (at s WidthTooGreat)
 
 -- The fault of an input, after these: its place in the list, then its name, then its type.
 pub data InputFault (before : List Input) (done : List TypedInput) (i : Input) : TypeFault → Type 0 where
-  ninth : 8 ≤ length done → InputFault before done i (at i.name.span TooManyInputs)
-  again : {g : ℕ} → length done < 8 → image_of (inputs_scope done) i.name.text ≡ Some g → InputFault before done i (at i.name.span DuplicateName)
-  no_port : length done < 8 → IsUnknown (inputs_scope done) i.name.text → ¬ IsPort i.ty.ty → InputFault before done i (at i.ty.span InputType)
+  ninth : MAX_INPUTS ≤ length done → InputFault before done i (at i.name.span TooManyInputs)
+  again : {g : ℕ} → length done < MAX_INPUTS → image_of (inputs_scope done) i.name.text ≡ Some g → InputFault before done i (at i.name.span DuplicateName)
+  no_port : length done < MAX_INPUTS → IsUnknown (inputs_scope done) i.name.text → ¬ IsPort i.ty.ty → InputFault before done i (at i.ty.span InputType)
 
 -- The fault of a definition, after the inputs and these definitions: its place in the list, then its name, then its body, then its declared type.
 pub data DefinitionFault (inputs : List TypedInput) (before : List P.Definition) (done : List Definition) (d : P.Definition) : TypeFault → Type 0 where
-  too_many : 256 ≤ length done → DefinitionFault inputs before done d (at d.name.span TooManyImages)
-  again : {g : ℕ} → length done < 256 → image_of (scope_of inputs done) d.name.text ≡ Some g → DefinitionFault inputs before done d (at d.name.span DuplicateName)
-  in_body : {f : TypeFault} → length done < 256 → IsUnknown (scope_of inputs done) d.name.text → Faulty (scope_of inputs done) d.body f → DefinitionFault inputs before done d f
-  not_taken : {e : Typed} → length done < 256 → IsUnknown (scope_of inputs done) d.name.text
+  too_many : MAX_DEFINITIONS ≤ length done → DefinitionFault inputs before done d (at d.name.span TooManyImages)
+  again : {g : ℕ} → length done < MAX_DEFINITIONS → image_of (scope_of inputs done) d.name.text ≡ Some g → DefinitionFault inputs before done d (at d.name.span DuplicateName)
+  in_body : {f : TypeFault} → length done < MAX_DEFINITIONS → IsUnknown (scope_of inputs done) d.name.text → Faulty (scope_of inputs done) d.body f → DefinitionFault inputs before done d f
+  not_taken : {e : Typed} → length done < MAX_DEFINITIONS → IsUnknown (scope_of inputs done) d.name.text
       → HasType (scope_of inputs done) d.body e → ¬ Takes (declared_type d.declared) (type_of e)
       → DefinitionFault inputs before done d (at (span_of d.body) NotConvertible)
 
 -- The fault of an output, after these: its place in the list, then its name, then its type.
 pub data OutputFault (scope : Scope) (before : List Name) (done : List ℕ) (n : Name) : TypeFault → Type 0 where
-  ninth : 8 ≤ length before → OutputFault scope before done n (at n.span TooManyOutputs)
-  again : {k : ℕ} → length before < 8 → name_among before n.text ≡ Some k → OutputFault scope before done n (at n.span DuplicateName)
-  unknown : length before < 8 → name_among before n.text ≡ None → IsUnknown scope n.text → OutputFault scope before done n (at n.span UnknownImage)
-  no_port : {g : ℕ} {t : Ty} → length before < 8 → name_among before n.text ≡ None → IsImage scope n.text g t → ¬ IsPort t
+  ninth : MAX_OUTPUTS ≤ length before → OutputFault scope before done n (at n.span TooManyOutputs)
+  again : {k : ℕ} → length before < MAX_OUTPUTS → name_among before n.text ≡ Some k → OutputFault scope before done n (at n.span DuplicateName)
+  unknown : length before < MAX_OUTPUTS → name_among before n.text ≡ None → IsUnknown scope n.text → OutputFault scope before done n (at n.span UnknownImage)
+  no_port : {g : ℕ} {t : Ty} → length before < MAX_OUTPUTS → name_among before n.text ≡ None → IsImage scope n.text g t → ¬ IsPort t
       → OutputFault scope before done n (at n.span OutputType)
 
 -- the first fault among inputs, among definitions and among outputs

@@ -1,5 +1,6 @@
 -- What is answered for an expression.
 use Rattle.std.specs.Prelude.{◌≡◌, ◌<◌, Option, Some, Result, MatchResult}
+use Rattle.dk_base.specs.declared.TheConstants.{MAX_OFFSET}
 use Rattle.dk_base.specs.declared.span.Span.{Span}
 use Rattle.dk_base.specs.Types.{IsType}
 use Rattle.dk_parser.specs.declared.tree.Offset.{Offset}
@@ -24,5 +25,5 @@ Judged scope e r = MatchResult r (λ t. IsTypedAs scope e t) (λ stop. Stops (Fa
 pub record IsFarAt (offset : Option Offset) (span : Span) : Type 0 where
   pub written : Offset
   pub is : offset ≡ Some written
-  pub far : 64 < written.amount.value
+  pub far : MAX_OFFSET < written.amount.value
   pub stands : written.amount.span ≡ span

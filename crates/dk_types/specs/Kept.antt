@@ -1,5 +1,6 @@
 -- What each typed program keeps.
 use Rattle.std.specs.Prelude.{◌≡◌, ℕ, ◌≤◌, ◌<◌, ◌^◌, ℤ, pos, ◌≤ℤ◌, neg_ℤ, List, [], ◌∷◌, ◌++◌, length, slice_get, Some}
+use Rattle.dk_base.specs.declared.TheConstants.{MAX_OFFSET, MAX_INPUTS, MAX_DEFINITIONS, MAX_OUTPUTS}
 use Rattle.dk_base.specs.declared.ty.Ty.{Ty}
 use Rattle.dk_base.specs.Types.{IsType}
 use Rattle.dk_base.specs.Operators.{literal_type, unary_type, binary_type, scaling_type, select_type}
@@ -12,8 +13,8 @@ use Rattle.dk_types.specs.Types.{IsPort, Takes}
 
 -- -64 to 64
 pub record IsNear (v : ℤ) : Type 0 where
-  pub least : neg_ℤ (pos 64) ≤ℤ v
-  pub most : v ≤ℤ pos 64
+  pub least : neg_ℤ (pos MAX_OFFSET) ≤ℤ v
+  pub most : v ≤ℤ pos MAX_OFFSET
 
 -- the image is among those with these types, and has this one
 pub record IsReadOf (types : List Ty) (t : Ty) (r : TypedRead) : Type 0 where
@@ -52,9 +53,9 @@ AreOutputsOf types (g ∷ gs) = IsOutputOf types g × AreOutputsOf types gs
 
 pub record IsTyped (p : Typing) : Type 0 where
   pub frame : IsFrame p.size.width p.size.height
-  pub few_inputs : length p.inputs ≤ 8
-  pub few_definitions : length p.definitions ≤ 256
-  pub few_outputs : length p.outputs ≤ 8
+  pub few_inputs : length p.inputs ≤ MAX_INPUTS
+  pub few_definitions : length p.definitions ≤ MAX_DEFINITIONS
+  pub few_outputs : length p.outputs ≤ MAX_OUTPUTS
   pub inputs : ArePorts p.inputs
   pub bodies : AreWell (input_types p.inputs) p.definitions
   pub outputs : AreOutputsOf (types_of p) p.outputs

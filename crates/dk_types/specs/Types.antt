@@ -1,5 +1,6 @@
 -- Which expressions and programs have types.
 use Rattle.std.specs.Prelude.{◌≡◌, ℕ, ◌≤◌, ◌<◌, ◌^◌, List, [], Option, Some, None, true, length}
+use Rattle.dk_base.specs.declared.TheConstants.{MAX_SIDE, MAX_INPUTS, MAX_DEFINITIONS, MAX_OUTPUTS, MAX_OFFSET}
 use Rattle.dk_base.specs.declared.span.Span.{Span}
 use Rattle.dk_base.specs.declared.ty.Ty.{Ty}
 use Rattle.dk_base.specs.declared.ty.Ty.TheVariants.{Unsigned, Signed}
@@ -30,7 +31,7 @@ pub data HasType (scope : Scope) : Tree → Typed → Type 0 where
   literal : {s : Span} {v : ℕ} → v < 2 ^ 64 → HasType scope (T.number s v) (constant (literal_type v) v)
   -- a read has the type of its image, and each of its offsets is at most 64 in size
   read : {s : Span} {r : ImageRead} {g : ℕ} {t : Ty}
-      → IsImage scope r.name.text g t → amount_of r.x ≤ 64 → amount_of r.y ≤ 64
+      → IsImage scope r.name.text g t → amount_of r.x ≤ MAX_OFFSET → amount_of r.y ≤ MAX_OFFSET
       → HasType scope (T.read s r) (fetch t (record { image = g; dx = offset_of r.x; dy = offset_of r.y; clamped = r.clamped }))
   unary : {s : Span} {o : UnaryOperator} {a : Tree} {e : Typed} {t : Ty}
       → HasType scope a e → unary_type (unary_of o) (type_of e) ≡ Some t
@@ -49,10 +50,21 @@ pub data HasType (scope : Scope) : Tree → Typed → Type 0 where
       → HasType scope c d → HasType scope a e → HasType scope b f → select_type (type_of d) (type_of e) (type_of f) ≡ Some t
       → HasType scope (T.select s c a b) (chosen t d e f)
 
+-- Each number of the expression is below 2 ^ 64, as those of a text's tokens are.
+abbrev pub HasNumbers : Tree → Type 0
+HasNumbers (T.number s v) = v < 2 ^ 64
+HasNumbers (T.read s r) = Unit {0}
+HasNumbers (T.unary s o a) = HasNumbers a
+HasNumbers (T.binary s o a b) = HasNumbers a × HasNumbers b
+HasNumbers (T.scale s o a k) = HasNumbers a
+HasNumbers (T.cast s a w) = HasNumbers a
+HasNumbers (T.sat s a w) = HasNumbers a
+HasNumbers (T.select s c a b) = HasNumbers c × HasNumbers a × HasNumbers b
+
 -- 1 to 4,096 pixels
 pub record IsSide (n : ℕ) : Type 0 where
   pub some : 1 ≤ n
-  pub most : n ≤ 4096
+  pub most : n ≤ MAX_SIDE
 
 -- an unsigned type of 1 to 16 bits
 abbrev pub IsPort : Ty → Type 0
@@ -74,14 +86,14 @@ declared_type (Some w) = Some w.ty
 
 -- an input, after these
 pub record IsInput (before : List Input) (done : List TypedInput) (i : Input) (t : TypedInput) : Type 0 where
-  pub few : length done < 8
+  pub few : length done < MAX_INPUTS
   pub new : IsUnknown (inputs_scope done) i.name.text
   pub port : IsPort i.ty.ty
   pub is : t ≡ record { name = i.name; ty = i.ty.ty }
 
 -- a definition, after the inputs and these definitions
 pub record IsDefinition (inputs : List TypedInput) (before : List P.Definition) (done : List Definition) (d : P.Definition) (t : Definition) : Type 0 where
-  pub few : length done < 256
+  pub few : length done < MAX_DEFINITIONS
   pub new : IsUnknown (scope_of inputs done) d.name.text
   pub body : Typed
   pub typed : HasType (scope_of inputs done) d.body body
@@ -90,7 +102,7 @@ pub record IsDefinition (inputs : List TypedInput) (before : List P.Definition) 
 
 -- an output, after these
 pub record IsOutput (scope : Scope) (before : List Name) (done : List ℕ) (n : Name) (g : ℕ) : Type 0 where
-  pub few : length before < 8
+  pub few : length before < MAX_OUTPUTS
   pub new : name_among before n.text ≡ None
   pub ty : Ty
   pub image : IsImage scope n.text g ty

@@ -1,6 +1,7 @@
 // The types of expressions.
 
 ghost use Rattle.std.specs.Prelude.{◌≡◌, ◌≤◌, IfOk, IfErr};
+ghost use Rattle.dk_base.specs.declared.TheConstants.{MAX_OFFSET};
 ghost use Rattle.dk_base.specs.Types.{IsType};
 ghost use Rattle.dk_parser.specs.Tree.{tree_of};
 ghost use Rattle.dk_parser.specs.Tree as T;
@@ -20,7 +21,7 @@ use std::alloc::Global;
 
 /// An offset as a number, or where it is too great.
 fn offset(offset: Option<Offset>) -> Result<i32, Span>
-    ensures near { IfOk result (λ v. (v ≡ offset_of offset) × (amount_of offset ≤ 64)) }
+    ensures near { IfOk result (λ v. (v ≡ offset_of offset) × (amount_of offset ≤ MAX_OFFSET)) }
     ensures far { IfErr result (λ s. IsFarAt offset s) }
 {
     let Some(offset) = offset else {

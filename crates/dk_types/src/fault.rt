@@ -42,16 +42,19 @@ pub enum TypeFaultKind {
 }
 
 /// What is wrong with a program, and where.
-#[derive(Clone, Copy, Debug, PartialEq, Eq)]
+#[derive(Clone, Copy, Debug, PartialEq, Eq, thiserror::Error)]
+#[error("{}-{}: {kind:?}", .span.start, .span.stop)]
 pub struct TypeFault {
     pub span: Span,
     pub kind: TypeFaultKind,
 }
 
 /// Why a program has no types: its first fault, or want of memory.
-#[derive(Debug, Drop)]
+#[derive(Debug, Drop, thiserror::Error)]
 pub enum TypeError {
+    #[error("{0}")]
     Fault(TypeFault),
+    #[error("out of memory")]
     Memory,
 }
 

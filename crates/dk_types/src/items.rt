@@ -1,6 +1,7 @@
 // The types of inputs, definitions and outputs.
 
 ghost use Rattle.std.specs.Prelude.{◌≡◌, ◌≤◌, ◌+◌, ◌++◌, ◌∷◌, [], ℕ, List, length, IsTrue, ◌↔◌, MatchResult, MatchOption, IfOk, OnOk, IfSome};
+ghost use Rattle.dk_base.specs.declared.TheConstants.{MAX_INPUTS};
 ghost use Rattle.dk_base.specs.Types.{IsType};
 ghost use Rattle.dk_parser.specs.declared.tree.Input.{Input};
 ghost use Rattle.dk_parser.specs.Programs.{definition_of as source_of, definitions_as as sources_as};
@@ -124,7 +125,7 @@ fn definition<'a>(
     before: usize,
     item: &'a Def,
 ) -> Result<TypedDefinition, TypeError>
-    requires { length scope.old ≤ before + 8 }
+    requires { length scope.old ≤ before + MAX_INPUTS }
     ensures one_more { OnOk result (length scope.new ≡ length scope.old + 1) }
     ensures judged { (is : List TypedInput) (ds : List P.Definition) (done : List Definition) → length done ≡ before → scope.old ≡ scope_of is done → MatchResult result (λ t. IsDefinition is ds done (source_of item.now) (definition_of t) × (scope.new ≡ scope_of is (done ++ definition_of t ∷ []))) (λ stop. Stops (DefinitionFault is ds done (source_of item.now)) stop) }
 {
@@ -155,7 +156,7 @@ pub(crate) fn definitions<'a>(
     scope: &mut Scope<'a>,
     items: &'a [Def],
 ) -> Result<Vec<TypedDefinition>, TypeError>
-    requires { length scope.old ≤ 8 }
+    requires { length scope.old ≤ MAX_INPUTS }
     ensures { (is : List TypedInput) → scope.old ≡ inputs_scope is → MatchResult result (λ v. AreDefinitions is (sources_as items.now) (definitions_as v.items) × (scope.new ≡ scope_of is (definitions_as v.items))) (λ stop. Stops (FaultyDefinitions is (sources_as items.now)) stop) }
 {
     let mut done = Vec::new(alloc);

@@ -6,11 +6,11 @@ mod fault;
 mod items;
 mod operators;
 mod scope;
-#[cfg(test)]
-mod tests;
 mod typed;
 mod whole;
+mod worked;
 
 pub use fault::{TypeError, TypeFault, TypeFaultKind};
 pub use typed::{TypedDefinition, TypedExpr, TypedInput, TypedNode, TypedProgram, TypedRead};
 pub use whole::{check, one_typing, values_in_types};
+pub use worked::worked_types;

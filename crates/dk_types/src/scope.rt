@@ -26,6 +26,7 @@ impl<'a> Model for Scope<'a> {
 
 impl<'a> Scope<'a> {
     ghost use Rattle.std.specs.Prelude.{◌≡◌, ◌<◌, ◌++◌, ◌∷◌, [], length, MatchOption, MatchResult};
+    ghost use Rattle.dk_base.specs.declared.TheConstants.{MAX_KEPT_IMAGES};
     ghost use Rattle.dk_base.specs.Types.{IsType};
     ghost use Rattle.dk_types.specs.Scopes.{IsImage, IsUnknown};
     ghost use Rattle.dk_types.specs.Entries.{IsFound};
@@ -49,7 +50,7 @@ impl<'a> Scope<'a> {
     /// Adds the next image, which has a new name.
     pub(crate) fn add(&mut self, name: &'a [u8], ty: Ty) -> Result<(), TypeError>
         requires new { IsUnknown self.old name.now }
-        requires room { length self.old < 264 }
+        requires room { length self.old < MAX_KEPT_IMAGES }
         requires is_type { IsType ty }
         ensures { MatchResult result (λ _. self.new ≡ self.old ++ (record { name = name.now; ty = ty }) ∷ []) (λ stop. stop ≡ TypeError.Memory) }
     {

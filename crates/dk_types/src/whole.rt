@@ -1,6 +1,6 @@
 // Programs.
 
-ghost use Rattle.std.specs.Prelude.{◌≡◌, ◌⊎◌, ℤ, List, length, IfOk, IfErr, MatchResult};
+ghost use Rattle.std.specs.Prelude.{◌≡◌, ◌⊎◌, ℤ, List, length, IfOk, IfErr, MatchResult, All};
 ghost use Rattle.std.specs.Result.{IsErrAnd};
 ghost use Rattle.dk_base.specs.declared.ty.Ty.{Ty};
 ghost use Rattle.dk_base.specs.Types.{IsIn};
@@ -8,7 +8,7 @@ ghost use Rattle.dk_base.specs.Frames.{Size, Picture};
 ghost use Rattle.dk_parser.specs.Programs.{Source, source_of};
 ghost use Rattle.dk_types.specs.declared.fault.TypeFault.{TypeFault};
 ghost use Rattle.dk_types.specs.Typed.{Typed, Typing, typing_of, type_of, types_of, input_types};
-ghost use Rattle.dk_types.specs.Types.{IsTyping};
+ghost use Rattle.dk_types.specs.Types.{IsTyping, HasNumbers};
 ghost use Rattle.dk_types.specs.Kept.{IsTyped, IsWell};
 ghost use Rattle.dk_types.specs.Meaning.{AreIn, AreTypes, meaning, value};
 ghost use Rattle.dk_types.specs.Faults.{IsFirstFault, Stops};
@@ -49,11 +49,12 @@ fn judged(alloc: Global, program: &Program) -> Result<TypedProgram, TypeError>
     Ok(TypedProgram::new(size, inputs, definitions, outputs))
 }
 
-/// A program has one typing, or one first fault, and never both.
+/// A program has one typing, or one first fault, and never both; and where its numbers are below 2^64, as a text's are, it has one of them.
 pub fn one_typing()
     ensures typing { (p : Source) (one other : Typing) → IsTyping p one → IsTyping p other → one ≡ other }
     ensures fault { (p : Source) (one other : TypeFault) → IsFirstFault p one → IsFirstFault p other → one ≡ other }
     ensures either { (p : Source) (t : Typing) (f : TypeFault) → IsTyping p t → IsFirstFault p f → ⊥ }
+    ensures some { (p : Source) → All (λ d. HasNumbers d.body) p.definitions → ((t : Typing) × IsTyping p t) ⊎ ((f : TypeFault) × IsFirstFault p f) }
 {}
 
 /// Wherever the values of the inputs are in their types, so are the values of each image, and of each part of a body.

@@ -1,5 +1,6 @@
 -- What commands with numbers read, where the numbers are decimals in their ranges.
 use Rattle.std.proofs.Common.{◌≡◌, ℕ, ◌≤◌, false, [], ◌∷◌, Some, None, codes, arith, decimal}
+use Rattle.dk_base.specs.declared.TheConstants.{MAX_CLOCKS, MAX_HOLD, MAX_AGE}
 use Rattle.clap.specs.Walk.{Text}
 use Rattle.dk_words.specs.Words.{is_like_option}
 use Rattle.dk_words.specs.Command.{age_number, clocks_of, command_of, hold_number, plan, sim}
@@ -9,22 +10,22 @@ use Rattle.dk_words.proofs.NumberLemmas.{plain-decimal, within-decimal}
 
 -- ---- the ranges
 
-clocks_decimal : (n : ℕ) → n ≤ 100000000 → clocks_of (decimal n) ≡ Some n
-clocks_decimal n h = within-decimal 0 100000000 n (omega arith) h (omega arith)
+clocks_decimal : (n : ℕ) → n ≤ MAX_CLOCKS → clocks_of (decimal n) ≡ Some n
+clocks_decimal n h = within-decimal 0 MAX_CLOCKS n (omega arith) h (omega arith)
 
-hold_decimal : (n : ℕ) → 1 ≤ n → n ≤ 1000000 → hold_number (decimal n) ≡ Some n
-hold_decimal n l h = within-decimal 1 1000000 n l h (omega arith)
+hold_decimal : (n : ℕ) → 1 ≤ n → n ≤ MAX_HOLD → hold_number (decimal n) ≡ Some n
+hold_decimal n l h = within-decimal 1 MAX_HOLD n l h (omega arith)
 
-age_decimal : (n : ℕ) → n ≤ 64 → age_number (decimal n) ≡ Some n
-age_decimal n h = within-decimal 0 64 n (omega arith) h (omega arith)
+age_decimal : (n : ℕ) → n ≤ MAX_AGE → age_number (decimal n) ≡ Some n
+age_decimal n h = within-decimal 0 MAX_AGE n (omega arith) h (omega arith)
 
 -- a decimal in a range is no option
-plain : (n : ℕ) → n ≤ 100000000 → is_like_option (decimal n) ≡ false
+plain : (n : ℕ) → n ≤ MAX_CLOCKS → is_like_option (decimal n) ≡ false
 plain n h = plain-decimal n (omega arith)
 
 -- ---- the commands
 
-module _ (name v i o : Text) (n : ℕ) (few : n ≤ 100000000) where
+module _ (name v i o : Text) (n : ℕ) (few : n ≤ MAX_CLOCKS) where
   pub sim_after : command_of (name ∷ codes "sim" ∷ codes "--" ∷ v ∷ decimal n ∷ i ∷ o ∷ []) ≡ Some (sim v n i o Zeros None)
   sim_after = sim_reads_after name v (decimal n) i o n (clocks_decimal n few)
 
@@ -35,14 +36,14 @@ module _ (name v i o : Text) (n : ℕ) (few : n ≤ 100000000) where
     pub sim_ones : command_of (name ∷ codes "sim" ∷ v ∷ decimal n ∷ i ∷ o ∷ codes "--fill" ∷ codes "ones" ∷ []) ≡ Some (sim v n i o Ones None)
     sim_ones = ones_reads v (decimal n) i o ev (plain n few) ei eo name n (clocks_decimal n few)
 
-    module _ (k : ℕ) (low : 1 ≤ k) (high : k ≤ 1000000) where
+    module _ (k : ℕ) (low : 1 ≤ k) (high : k ≤ MAX_HOLD) where
       pub sim_hold : command_of (name ∷ codes "sim" ∷ v ∷ decimal n ∷ i ∷ o ∷ codes "--hold" ∷ decimal k ∷ []) ≡ Some (sim v n i o Zeros (Some k))
       sim_hold = hold_reads v (decimal n) i o ev (plain n few) ei eo name n (clocks_decimal n few) (decimal k) (plain k (omega arith)) k (hold_decimal k low high)
 
       pub sim_ones_hold : command_of (name ∷ codes "sim" ∷ v ∷ decimal n ∷ i ∷ o ∷ codes "--fill" ∷ codes "ones" ∷ codes "--hold" ∷ decimal k ∷ []) ≡ Some (sim v n i o Ones (Some k))
       sim_ones_hold = both_reads v (decimal n) i o ev (plain n few) ei eo name n (clocks_decimal n few) (decimal k) (plain k (omega arith)) k (hold_decimal k low high)
 
-module _ (name p : Text) (age : ℕ) (low : age ≤ 64) (ep : is_like_option p ≡ false) where
+module _ (name p : Text) (age : ℕ) (low : age ≤ MAX_AGE) (ep : is_like_option p ≡ false) where
   pub plan_age_first : command_of (name ∷ codes "plan" ∷ codes "--age" ∷ decimal age ∷ p ∷ []) ≡ Some (plan p age)
   plan_age_first = age_first_reads p (decimal age) ep (plain age (omega arith)) name age (age_decimal age low)
 

@@ -2,6 +2,7 @@
 use Rattle.std.proofs.Common.{◌≡◌, ℕ, ◌≤◌, ◌&&◌, refl, Bool, true, false, cond, List, Option, None, Some, IfSome, Result, Ok, Err, IfOk, option_and_then, option_map, subst, arith, nat_le, codes}
 use Rattle.std.proofs.lemmas.Bool.Decides.{nat_tests}
 use Rattle.std.specs.Str.{bytes_eq}
+use Rattle.dk_base.specs.declared.TheConstants.{MAX_CLOCKS, MAX_HOLD, MAX_AGE}
 use Rattle.clap.specs.Walk.{Row, Text, first_of}
 use Rattle.clap.specs.Simple.{subcommand_of}
 use Rattle.clap.specs.Takes.{takes}
@@ -27,29 +28,29 @@ number_in low high word = read (number_of word)
     read (Some n) = tested n (nat_le low n && nat_le n high) refl
 
 -- CLOCKS
-clocks_in : (o : Option Text) → IfSome (option_and_then clocks_of o) (λ n. n ≤ 100000000)
+clocks_in : (o : Option Text) → IfSome (option_and_then clocks_of o) (λ n. n ≤ MAX_CLOCKS)
 clocks_in None = tt
-clocks_in (Some word) = read (clocks_of word) (number_in 0 100000000 word)
+clocks_in (Some word) = read (clocks_of word) (number_in 0 MAX_CLOCKS word)
   where
-    read : (n : Option ℕ) → IfSome n (λ m. (0 ≤ m) × (m ≤ 100000000)) → IfSome n (λ m. m ≤ 100000000)
+    read : (n : Option ℕ) → IfSome n (λ m. (0 ≤ m) × (m ≤ MAX_CLOCKS)) → IfSome n (λ m. m ≤ MAX_CLOCKS)
     read None e = tt
     read (Some n) e = e.1
 
 -- `--hold`
-hold_in : (o : Option Text) → IfSome (hold_of o) (λ h. IfSome h (λ k. (1 ≤ k) × (k ≤ 1000000)))
+hold_in : (o : Option Text) → IfSome (hold_of o) (λ h. IfSome h (λ k. (1 ≤ k) × (k ≤ MAX_HOLD)))
 hold_in None = tt
-hold_in (Some word) = read (hold_number word) (number_in 1 1000000 word)
+hold_in (Some word) = read (hold_number word) (number_in 1 MAX_HOLD word)
   where
-    read : (n : Option ℕ) → IfSome n (λ k. (1 ≤ k) × (k ≤ 1000000)) → IfSome (option_map (λ k. Some k) n) (λ h. IfSome h (λ k. (1 ≤ k) × (k ≤ 1000000)))
+    read : (n : Option ℕ) → IfSome n (λ k. (1 ≤ k) × (k ≤ MAX_HOLD)) → IfSome (option_map (λ k. Some k) n) (λ h. IfSome h (λ k. (1 ≤ k) × (k ≤ MAX_HOLD)))
     read None e = tt
     read (Some n) e = e
 
 -- `--age`
-age_in : (o : Option Text) → IfSome (age_of o) (λ a. a ≤ 64)
+age_in : (o : Option Text) → IfSome (age_of o) (λ a. a ≤ MAX_AGE)
 age_in None = omega arith
-age_in (Some word) = read (age_number word) (number_in 0 64 word)
+age_in (Some word) = read (age_number word) (number_in 0 MAX_AGE word)
   where
-    read : (n : Option ℕ) → IfSome n (λ m. (0 ≤ m) × (m ≤ 64)) → IfSome n (λ m. m ≤ 64)
+    read : (n : Option ℕ) → IfSome n (λ m. (0 ≤ m) × (m ≤ MAX_AGE)) → IfSome n (λ m. m ≤ MAX_AGE)
     read None e = tt
     read (Some n) e = e.1
 
@@ -62,7 +63,7 @@ files_in command (Some p) None o all = tt
 files_in command (Some p) (Some i) None all = tt
 files_in command (Some p) (Some i) (Some o) all = all p i o
 
-sim_in : (v : Option Text) (n : Option ℕ) (i o : Option Text) (f : Option PowerUp) (h : Option (Option ℕ)) → IfSome n (λ m. m ≤ 100000000) → IfSome h (λ x. IfSome x (λ k. (1 ≤ k) × (k ≤ 1000000))) → IfSome (sim_on v n i o f h) IsInRange
+sim_in : (v : Option Text) (n : Option ℕ) (i o : Option Text) (f : Option PowerUp) (h : Option (Option ℕ)) → IfSome n (λ m. m ≤ MAX_CLOCKS) → IfSome h (λ x. IfSome x (λ k. (1 ≤ k) × (k ≤ MAX_HOLD))) → IfSome (sim_on v n i o f h) IsInRange
 sim_in None n i o f h few held = tt
 sim_in (Some v) None i o f h few held = tt
 sim_in (Some v) (Some n) None o f h few held = tt
@@ -71,7 +72,7 @@ sim_in (Some v) (Some n) (Some i) (Some o) None h few held = tt
 sim_in (Some v) (Some n) (Some i) (Some o) (Some f) None few held = tt
 sim_in (Some v) (Some n) (Some i) (Some o) (Some f) (Some h) few held = (few, held)
 
-plan_in : (p : Option Text) (a : Option ℕ) → IfSome a (λ m. m ≤ 64) → IfSome (plan_on p a) IsInRange
+plan_in : (p : Option Text) (a : Option ℕ) → IfSome a (λ m. m ≤ MAX_AGE) → IfSome (plan_on p a) IsInRange
 plan_in None a low = tt
 plan_in (Some p) None low = tt
 plan_in (Some p) (Some a) low = low

@@ -6,6 +6,7 @@ ghost use Rattle.dk_words.specs.Command as command;
 
 use crate::numbers::number_within;
 use clap::ArgMatches;
+use dk_base::{MAX_AGE, MAX_CLOCKS, MAX_HOLD};
 
 /// The names of a command's files.
 #[derive(Clone, Copy, Debug, PartialEq, Eq)]
@@ -26,12 +27,12 @@ pub enum PowerUp {
 #[derive(Clone, Copy, Debug, PartialEq, Eq)]
 pub struct SimWords<'a> {
     pub verilog: &'a str,
-    /// How many clocks are not held, 0 to 100,000,000.
+    /// How many clocks are not held, 0 to `MAX_CLOCKS`.
     pub clocks: u32,
     pub image: &'a str,
     pub out: &'a str,
     pub fill: PowerUp,
-    /// After how many clocks a held one is put in, 1 to 1,000,000; None where there are no held clocks.
+    /// After how many clocks a held one is put in, 1 to `MAX_HOLD`; None where there are no held clocks.
     pub hold: Option<u32>,
 }
 
@@ -39,7 +40,7 @@ pub struct SimWords<'a> {
 #[derive(Clone, Copy, Debug, PartialEq, Eq)]
 pub struct PlanWords<'a> {
     pub program: &'a str,
-    /// The least age of each live read, 0 to 64.
+    /// The least age of each live read, 0 to `MAX_AGE`.
     pub age: u8,
 }
 
@@ -85,7 +86,7 @@ fn read_files<'a>(matches: &ArgMatches<'a>) -> Option<FileNames<'a>>
 fn read_clocks(matches: &ArgMatches) -> Option<u32>
     ensures { result ≡ option_and_then command.clocks_of (first_of (codes "CLOCKS") (rows_of (found_of matches.now))) }
 {
-    number_within(given(matches, "CLOCKS")?, 0, 100_000_000)
+    number_within(given(matches, "CLOCKS")?, 0, MAX_CLOCKS as u32)
 }
 
 /// What registers and arrays hold at power-up.
@@ -106,7 +107,7 @@ fn read_hold(matches: &ArgMatches) -> Option<Option<u32>>
 {
     match given(matches, "hold") {
         None => Some(None),
-        Some(word) => Some(Some(number_within(word, 1, 1_000_000)?)),
+        Some(word) => Some(Some(number_within(word, 1, MAX_HOLD as u32)?)),
     }
 }
 
@@ -116,7 +117,7 @@ fn read_age(matches: &ArgMatches) -> Option<u8>
 {
     match given(matches, "age") {
         None => Some(0),
-        Some(word) => Some(number_within(word, 0, 64)? as u8),
+        Some(word) => Some(number_within(word, 0, MAX_AGE as u32)? as u8),
     }
 }
 

@@ -18,11 +18,12 @@ use Rattle.net_build.specs.Draft.{IsNet}
 use Rattle.net_build.specs.Control.{IsMadeOf}
 use Rattle.net_build.proofs.Parts.{Includes-refl, Includes-trans, InEach-more}
 use Rattle.net_build.proofs.Grown.{net_more, width_more}
-use Rattle.edge_select.specs.declared.moves.Interval.{Interval}
+use Rattle.frame_paths.specs.declared.moves.Interval.{Interval}
+use Rattle.frame_paths.specs.Moves.{IsIn}
 use Rattle.edge_select.specs.declared.paths.Passing.{Passing}
 use Rattle.edge_select.specs.declared.pixel.Pixel.{Pixel}
 use Rattle.edge_select.specs.Logic.{AreMadeOf, Computes, IsGate, Tests, IsBit, IsBoth, IsTestNet, is_up_to, is_within}
-use Rattle.edge_select.specs.Moves.{IsIn, Passes}
+use Rattle.edge_select.specs.Passes.{Passes}
 use Rattle.edge_select.specs.Pixels.{IsBitOf, IsTest}
 use Rattle.edge_select.proofs.Logic.{given_source, number_source, computes_more, computes_as, computes_from, computes_since, computes_through, binary_computes, AreIn, first_in, second_in, none_in}
 use Rattle.edge_select.proofs.Counting.{yes_lt, no_lt}

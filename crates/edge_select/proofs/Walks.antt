@@ -1,90 +1,60 @@
--- Steps, an axis at a time.
-use Rattle.std.proofs.Common.{◌≡◌, ℕ, zero, suc, ◌+◌, ◌-◌, length, ◌<◌, ◌≤◌, ℤ, pos, ◌+ℤ◌, Bool, true, false, List, [], ◌∷◌, refl, sym, subst, arith}
-use Rattle.std.specs.Prelude.{IsTrue, ◌&&◌, drop, Option}
+-- Steps as a path, and the pixels that it leads by some way.
+use Rattle.std.proofs.Common.{◌≡◌, ℕ, ◌+◌, ◌-◌, ◌<◌, ◌≤◌, ℤ, pos, ◌+ℤ◌, List, [], ◌∷◌, refl, sym, subst, arith}
+use Rattle.std.specs.Prelude.{IsTrue, Option}
+use Rattle.std.proofs.lemmas.Bool.{lt-ltb}
 use Rattle.dk_base.specs.Frames.{Size, is_below, in_frame}
-use Rattle.pointwise_ir.specs.declared.expr.Edge.{Edge}
-use Rattle.pointwise_ir.specs.declared.expr.Edge.TheVariants.{Zero, Clamp}
-use Rattle.pointwise_ir.specs.Reads.{EndsAt}
+use Rattle.pointwise_ir.specs.declared.expr.Edge.TheVariants.{Zero}
+use Rattle.frame_paths.specs.declared.moves.Interval.{Interval}
+use Rattle.frame_paths.specs.declared.path.Path.{Path}
+use Rattle.frame_paths.specs.Moves.{Leads, IsInOn}
+use Rattle.frame_paths.specs.Paths.{LeadsTo, StepsTo}
+use Rattle.frame_paths.proofs.Walks.{true_both}
 use Rattle.edge_select.specs.declared.step.Step.{Step}
-use Rattle.edge_select.specs.declared.step.Axis.{Axis}
-use Rattle.edge_select.specs.declared.step.Axis.TheVariants.{Across, Down}
-use Rattle.edge_select.specs.declared.moves.Moves.{Moves}
-use Rattle.edge_select.specs.declared.moves.Interval.{Interval}
 use Rattle.edge_select.specs.declared.paths.Passing.{Passing}
 use Rattle.edge_select.specs.Steps.{Lead, LeadBy}
-use Rattle.edge_select.specs.Moves.{Leads, LeadsThen, Ends, along, LeadAlong, LeadsOnAlong, IsInOn, Passes, PassesOn}
+use Rattle.edge_select.specs.Passes.{LeadsThenOn, Passes, PassesOn}
 use Rattle.edge_select.specs.Pixels.{AllPass}
-
-and_parts : (a b : Bool) → IsTrue (a && b) → IsTrue a × IsTrue b
-and_parts true b h = (refl, h)
-and_parts false b h = cc
-
-and_is : (a b : Bool) → IsTrue a → IsTrue b → IsTrue (a && b)
-and_is true b h g = g
-and_is false b h g = cc
-
-ends_apart : (size : Size) (edge : Edge) (x y u v : ℤ) → EndsAt size edge x y u v → Ends size.width edge x u × Ends size.height edge y v
-ends_apart size Zero x y u v (e, f, h) = let b = and_parts (is_below x size.width) (is_below y size.height) h in ((e, b.0), (f, b.1))
-ends_apart size Clamp x y u v (e, f) = (e, f)
-
-ends_joined : (size : Size) (edge : Edge) (x y u v : ℤ) → Ends size.width edge x u → Ends size.height edge y v → EndsAt size edge x y u v
-ends_joined size Zero x y u v (e, h) (f, g) = (e, f, and_is (is_below x size.width) (is_below y size.height) h g)
-ends_joined size Clamp x y u v e f = (e, f)
-
-pub lead_apart : (size : Size) (steps : List Step) (x y u v : ℤ) → Lead size steps x y u v → LeadAlong Across size.width steps x u × LeadAlong Down size.height steps y v
-lead_apart size [] x y u v (e, f) = (e, f)
-lead_apart size (step ∷ steps) x y u v (w, z, ends, on) =
-    let e = ends_apart size step.edge (x +ℤ step.dx) (y +ℤ step.dy) w z ends in
-    let r = lead_apart size steps w z u v on in
-    ((w, e.0, r.0), (z, e.1, r.1))
-
-pub lead_joined : (size : Size) (steps : List Step) (x y u v : ℤ) → LeadAlong Across size.width steps x u → LeadAlong Down size.height steps y v → Lead size steps x y u v
-lead_joined size [] x y u v e f = (e, f)
-lead_joined size (step ∷ steps) x y u v (w, e, on) (z, f, on') = (w, z, ends_joined size step.edge (x +ℤ step.dx) (y +ℤ step.dy) w z e f, lead_joined size steps w z u v on on')
 
 abbrev pub Same : Type 0 → Type 0 → Type 0
 Same P Q = (P → Q) × (Q → P)
 
--- the moves so far, with the steps to come
-abbrev pub IsSoFar : Axis → (side : ℕ) → Moves → (rest steps : List Step) → Type 0
-IsSoFar axis side m rest steps = (x u : ℤ) → IsTrue (is_below x side) → Same (LeadsOnAlong axis side m rest x u) (LeadAlong axis side steps x u)
+-- the path so far, with the steps to come
+abbrev pub IsSoFar : Size → Path → (rest steps : List Step) → Type 0
+IsSoFar size p rest steps = (x y u v : ℤ) → IsTrue (in_frame size x y) → Same (LeadsThenOn size p rest x y u v) (Lead size steps x y u v)
 
-pub so_far_first : (axis : Axis) (side : ℕ) (m : Moves) (steps : List Step) → ((x u : ℤ) → Same (Leads m x u) ((u ≡ x) × IsTrue (is_below x side))) → IsSoFar axis side m steps steps
-so_far_first axis side m steps none x u below = (
-  (λ k. let e = ((none x k.0).0 k.1).0 in subst (λ (w : ℤ). LeadAlong axis side steps w u) e k.2),
-  (λ k. (x, (none x x).1 (refl, below), k)),
+pub so_far_first : (size : Size) (p : Path) (steps : List Step) → ((x y u v : ℤ) → Same (LeadsTo p x y u v) ((u ≡ x) × (v ≡ y) × IsTrue (in_frame size x y))) → IsSoFar size p steps steps
+so_far_first size p steps none x y u v inside = (
+  (λ k. let e = (none x y k.0 k.1).0 k.2 in subst (λ (w : ℤ). Lead size steps w y u v) e.0 (subst (λ (z : ℤ). Lead size steps k.0 z u v) e.1 k.3)),
+  (λ k. (x, y, (none x y x y).1 (refl, refl, inside), k)),
 )
 
-pub so_far_next : (axis : Axis) (side : ℕ) (m n : Moves) (step : Step) (rest steps : List Step) → IsSoFar axis side m (step ∷ rest) steps → ((x u : ℤ) → Same (Leads n x u) (LeadsThen side m step.edge (along axis step) x u)) → IsSoFar axis side n rest steps
-so_far_next axis side m n step rest steps so far x u below = (
-  (λ k. let t = (far x k.0).0 k.1 in (so x u below).0 (t.0, t.1, (k.0, t.2, k.2))),
-  (λ k. let t = (so x u below).1 k in (t.2.0, (far x t.2.0).1 (t.0, t.1, t.2.1), t.2.2)),
+pub so_far_next : (size : Size) (p q : Path) (step : Step) (rest steps : List Step) → IsSoFar size p (step ∷ rest) steps → ((x y u v : ℤ) → Same (LeadsTo q x y u v) (StepsTo size p step.edge step.dx step.dy x y u v)) → IsSoFar size q rest steps
+so_far_next size p q step rest steps so far x y u v inside = (
+  (λ k. let t = (far x y k.0 k.1).0 k.2 in (so x y u v inside).0 (t.0, t.1, t.2, (k.0, k.1, t.3, k.3))),
+  (λ k. let t = (so x y u v inside).1 k in (t.3.0, t.3.1, (far x y t.3.0 t.3.1).1 (t.0, t.1, t.2, t.3.2), t.3.3)),
 )
 
-pub so_far_nowhere : (axis : Axis) (side : ℕ) (m : Moves) (step : Step) (rest steps : List Step) → IsSoFar axis side m (step ∷ rest) steps → ((x u : ℤ) → LeadsThen side m step.edge (along axis step) x u → ⊥) → (x u : ℤ) → IsTrue (is_below x side) → LeadAlong axis side steps x u → ⊥
-so_far_nowhere axis side m step rest steps so none x u below k = let t = (so x u below).1 k in none x t.2.0 (t.0, t.1, t.2.1)
+pub so_far_nowhere : (size : Size) (p : Path) (step : Step) (rest steps : List Step) → IsSoFar size p (step ∷ rest) steps → ((x y u v : ℤ) → StepsTo size p step.edge step.dx step.dy x y u v → ⊥) → (x y u v : ℤ) → IsTrue (in_frame size x y) → Lead size steps x y u v → ⊥
+so_far_nowhere size p step rest steps so none x y u v inside k = let t = (so x y u v inside).1 k in none x y t.3.0 t.3.1 (t.0, t.1, t.2, t.3.2)
 
-pub so_far_last : (axis : Axis) (side : ℕ) (m : Moves) (steps : List Step) → IsSoFar axis side m [] steps → (x u : ℤ) → IsTrue (is_below x side) → Same (Leads m x u) (LeadAlong axis side steps x u)
-so_far_last axis side m steps so x u below = (
-  (λ k. (so x u below).0 (u, k, refl)),
-  (λ k. let t = (so x u below).1 k in subst (λ (w : ℤ). Leads m x w) (sym t.2) t.1),
+pub so_far_last : (size : Size) (p : Path) (steps : List Step) → IsSoFar size p [] steps → (x y u v : ℤ) → IsTrue (in_frame size x y) → Same (LeadsTo p x y u v) (Lead size steps x y u v)
+so_far_last size p steps so x y u v inside = (
+  (λ k. (so x y u v inside).0 (u, v, k, (refl, refl))),
+  (λ k. let t = (so x y u v inside).1 k in subst (λ (w : ℤ). LeadsTo p x y w v) (sym t.3.0) (subst (λ (z : ℤ). LeadsTo p x y t.0 z) (sym t.3.1) t.2)),
 )
 
-pub drop_all : {X : Type 0} (xs : List X) (i : ℕ) → length xs ≤ i → drop i xs ≡ []
-drop_all [] zero h = refl
-drop_all [] (suc i) h = refl
-drop_all (x ∷ xs) zero h = absurd (omega (arith, h))
-drop_all (x ∷ xs) (suc i) h = drop_all xs i (omega (arith, h))
+pub led_is : (p : Path) (dx dy : ℤ) (x y : ℕ) (across down : Option Interval) (both : Option Passing) → Same (IsInOn across x) (Leads p.across (pos x) (pos x +ℤ dx)) → Same (IsInOn down y) (Leads p.down (pos y) (pos y +ℤ dy)) → Same (PassesOn both x y) (IsInOn across x × IsInOn down y) →
+    Same (PassesOn both x y) (LeadsTo p (pos x) (pos y) (pos x +ℤ dx) (pos y +ℤ dy))
+led_is p dx dy x y across down both a d j = (
+  (λ k. let t = j.0 k in record { across = a.0 t.0; down = d.0 t.1 }),
+  (λ l. j.1 (a.1 l.across, d.1 l.down)),
+)
 
 pub led_through : {P Q R : Type 0} → Same P Q → Same Q R → Same P R
 led_through f g = ((λ p. g.0 (f.0 p)), (λ r. f.1 (g.1 r)))
 
-pub passes_is : (size : Size) (steps : List Step) (dx dy : ℤ) (x y : ℕ) (across down : Option Interval) (both : Option Passing) → Same (IsInOn across x) (LeadAlong Across size.width steps (pos x) (pos x +ℤ dx)) → Same (IsInOn down y) (LeadAlong Down size.height steps (pos y) (pos y +ℤ dy)) →
-    Same (PassesOn both x y) (IsInOn across x × IsInOn down y) → Same (PassesOn both x y) (LeadBy size steps dx dy x y)
-passes_is size steps dx dy x y across down both a d j = (
-  (λ p. let t = j.0 p in lead_joined size steps (pos x) (pos y) (pos x +ℤ dx) (pos y +ℤ dy) (a.0 t.0) (d.0 t.1)),
-  (λ l. let t = lead_apart size steps (pos x) (pos y) (pos x +ℤ dx) (pos y +ℤ dy) l in j.1 (a.1 t.0, d.1 t.1)),
-)
+pub pixel_inside : (size : Size) (x y : ℕ) → x < size.width → y < size.height → IsTrue (in_frame size (pos x) (pos y))
+pixel_inside size x y low high = true_both (is_below (pos x) size.width) (is_below (pos y) size.height) (lt-ltb x size.width low) (lt-ltb y size.height high)
 
 -- one step that is not clamped leads exactly where its point is in the frame
 abbrev pub one_step : (dx dy : ℤ) → List Step

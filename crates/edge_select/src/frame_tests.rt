@@ -1,6 +1,7 @@
 // Tests of where a pixel's neighbours are.
 
 ghost use Rattle.std.specs.Prelude.{ℕ, ◌≡◌, ◌+◌, ◌-◌, ◌<◌, ◌≤◌, ◌^◌, ◌↔◌, ◌&&◌, nat_le, ℤ, pos, ◌+ℤ◌, IsTrue, true, [], ◌∷◌, Some, IfOk};
+ghost use Rattle.dk_base.specs.declared.TheConstants.{MAX_SIDE};
 ghost use Rattle.dk_base.specs.Frames.{IsFrame, in_frame};
 ghost use Rattle.dk_base.specs.FrameSizes.{size_of};
 ghost use Rattle.dk_base.specs.Numbers.{bit_count};
@@ -10,16 +11,17 @@ ghost use Rattle.wiring.specs.Snapshot.{net_value};
 ghost use Rattle.wiring.specs.Clock.{bit};
 ghost use Rattle.net_build.specs.Draft.{IsNet};
 ghost use Rattle.edge_select.specs.Steps.{LeadBy};
-ghost use Rattle.edge_select.specs.Moves.{IsInterval, IsPassing};
+ghost use Rattle.frame_paths.specs.Moves.{IsInterval};
+ghost use Rattle.edge_select.specs.Passes.{IsPassing};
 ghost use Rattle.edge_select.specs.Logic.{AddsLogic, Computes, Tests, IsBit, IsBoth, IsTestNet, is_up_to, is_within};
 ghost use Rattle.edge_select.specs.Pixels.{HasPixel, IsTest, AllPass};
 
 use crate::gates::{gate, number};
-use crate::moves::Interval;
 use crate::paths::{Passing, passing_pixels};
 use crate::pixel::{Pixel, width_for};
 use crate::step::Step;
 use dk_base::{FrameSize, Memory};
+use frame_paths::Interval;
 use net_build::Builder;
 use pointwise_ir::Edge;
 use wiring::{Atom, Net, Operator, Right};
@@ -87,7 +89,7 @@ fn both(b: &mut Builder, one: Option<Net>, other: Option<Net>) -> Result<Option<
 // The test that a coordinate is in the interval, or None where each of the side is.
 fn within(b: &mut Builder, x: Net, side: u32, interval: Interval) -> Result<Option<Net>, Memory>
     requires some { 1 ≤ side }
-    requires most { side ≤ 4096 }
+    requires most { side ≤ MAX_SIDE }
     requires x { IsNet b.old x }
     requires width { net_width b.old x ≡ bit_count (side - 1) }
     requires interval { IsInterval side interval }

@@ -5,12 +5,9 @@ mod counters;
 mod frame_tests;
 mod gates;
 mod laws;
-mod moves;
 mod paths;
 mod pixel;
 mod step;
-#[cfg(test)]
-mod tests;
 
 pub use counters::position;
 pub use frame_tests::{at, constant_test, inside, is_always};

@@ -1,14 +1,16 @@
 // The pixels that steps lead by exactly some way.
 
-ghost use Rattle.std.specs.Prelude.{◌≡◌, ◌<◌, ◌≤◌, ◌↔◌, ℕ, ℤ, pos, ◌+ℤ◌, IsTrue, IfSome, Some, unsigned_abs};
-ghost use Rattle.dk_base.specs.Frames.{is_below};
+ghost use Rattle.std.specs.Prelude.{◌≡◌, ◌<◌, ◌↔◌, ℕ, ℤ, pos, ◌+ℤ◌, IsTrue, IfSome, Some};
+ghost use Rattle.dk_base.specs.Frames.{in_frame};
 ghost use Rattle.dk_base.specs.FrameSizes.{size_of};
-ghost use Rattle.edge_select.specs.Steps.{LeadBy};
-ghost use Rattle.edge_select.specs.Moves.{LeadsOn, LeadAlong, IsMoves, IsInterval, IsInOn, IsPassing, PassesOn};
+ghost use Rattle.frame_paths.specs.Moves.{IsInOn};
+ghost use Rattle.frame_paths.specs.Paths.{LeadsTo, LeadsToOn, IsPath};
+ghost use Rattle.edge_select.specs.Steps.{Lead, LeadBy};
+ghost use Rattle.edge_select.specs.Passes.{IsPassing, PassesOn};
 
-use crate::moves::{Interval, Moves};
-use crate::step::{Axis, Step};
+use crate::step::Step;
 use dk_base::FrameSize;
+use frame_paths::{Interval, Path};
 
 /// The pixels that are in one of these columns and in one of these rows.
 #[derive(Clone, Copy)]
@@ -17,35 +19,19 @@ pub struct Passing {
     pub down: Interval,
 }
 
-// What the steps make of one coordinate, or None where they lead nowhere.
-fn moves_of(steps: &[Step], axis: Axis, side: u32) -> Option<Moves>
-    requires some { 1 ≤ side }
-    requires most { side ≤ 4096 }
-    ensures moves { IfSome result (λ m. IsMoves side m) }
-    ensures shift { IfSome result (λ m. unsigned_abs m.shift ≤ 4096) }
-    ensures leads { (x u : ℤ) → IsTrue (is_below x side) → LeadsOn result x u ↔ LeadAlong axis side steps.now x u }
+// What the steps make of the frame's pixels, or None where they lead nowhere.
+fn path_of(steps: &[Step], size: FrameSize) -> Option<Path>
+    ensures path { IfSome result (λ p. IsPath (size_of size) p) }
+    ensures leads { (x y u v : ℤ) → IsTrue (in_frame (size_of size) x y) → LeadsToOn result x y u v ↔ Lead (size_of size) steps.now x y u v }
 {
-    let mut moves = Moves::none(side);
+    let mut path = Path::none(size);
     for step in steps {
-        match moves.step(side, step.edge, step.along(axis)) {
-            Some(further) => moves = further,
+        match path.step(size, step.edge, step.dx, step.dy) {
+            Some(further) => path = further,
             None => return None,
         }
     }
-    Some(moves)
-}
-
-// The coordinates that the steps lead by exactly `by`.
-fn interval_of(steps: &[Step], axis: Axis, side: u32, by: i32) -> Option<Interval>
-    requires some { 1 ≤ side }
-    requires most { side ≤ 4096 }
-    ensures interval { IfSome result (λ i. IsInterval side i) }
-    ensures led { (x : ℕ) → x < side → IsInOn result x ↔ LeadAlong axis side steps.now (pos x) (pos x +ℤ by) }
-{
-    match moves_of(steps, axis, side) {
-        Some(moves) => moves.led_by(side, by),
-        None => None,
-    }
+    Some(path)
 }
 
 // Both, or None where either is None.
@@ -62,12 +48,24 @@ fn joined(across: Option<Interval>, down: Option<Interval>) -> Option<Passing>
     }
 }
 
+// The pixels that the path leads by exactly `dx` columns to the right and `dy` rows down, or None where there is none.
+fn led_by(path: Path, size: FrameSize, dx: i32, dy: i32) -> Option<Passing>
+    requires { IsPath (size_of size) path }
+    ensures within { IfSome result (λ p. IsPassing (size_of size) p) }
+    ensures passes { (x y : ℕ) → PassesOn result x y ↔ LeadsTo path (pos x) (pos y) (pos x +ℤ dx) (pos y +ℤ dy) }
+{
+    let across = path.across.led_by(size.width, dx);
+    let down = path.down.led_by(size.height, dy);
+    joined(across, down)
+}
+
 /// The pixels that the steps lead by exactly `dx` columns to the right and `dy` rows down, or None where there is none.
 pub fn passing_pixels(steps: &[Step], size: FrameSize, dx: i32, dy: i32) -> Option<Passing>
     ensures within { IfSome result (λ p. IsPassing (size_of size) p) }
     ensures passes { (x y : ℕ) → x < size.width → y < size.height → PassesOn result x y ↔ LeadBy (size_of size) steps.now dx dy x y }
 {
-    let across = interval_of(steps, Axis::Across, size.width, dx);
-    let down = interval_of(steps, Axis::Down, size.height, dy);
-    joined(across, down)
+    match path_of(steps, size) {
+        Some(path) => led_by(path, size, dx, dy),
+        None => None,
+    }
 }

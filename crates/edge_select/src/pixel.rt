@@ -1,6 +1,7 @@
 // Pixels of a frame, as nets.
 
 ghost use Rattle.std.specs.Prelude.{◌≡◌, ◌-◌, ◌<◌, ◌≤◌, ◌^◌};
+ghost use Rattle.dk_base.specs.declared.TheConstants.{MAX_SIDE};
 ghost use Rattle.dk_base.specs.Numbers.{bit_count};
 ghost use Rattle.wiring.specs.Sizes.{IsWidth};
 
@@ -26,7 +27,7 @@ pub fn last_of(side: u32) -> u64
 /// The width in bits of a net of so many columns or rows.
 pub fn width_for(side: u32) -> u8
     requires some { 1 ≤ side }
-    requires most { side ≤ 4096 }
+    requires most { side ≤ MAX_SIDE }
     ensures count { result ≡ bit_count (side - 1) }
     ensures width { IsWidth result }
     ensures fits { side - 1 < 2 ^ result }

@@ -82,9 +82,11 @@ module _ (s : Parts) (is : IsSystem s) (p flow : List ℕ) (best : IsOptimum s p
 
   pub solution_of : IsSolution s x
   solution_of = record {
-    causal = delays_causal;
-    least_bits = λ d causal. omega (arith, bits_objective, others_objective d causal);
-    least_vector = λ d causal same k h. omega (arith, begins k h, below d causal same (begin_of s.stencils.inputs k) (omega (arith, h, form.inputs_kept)), begin_is d causal k h);
+    vector = record {
+      causal = delays_causal;
+      least_bits = λ d causal. omega (arith, bits_objective, others_objective d causal);
+      least = λ d causal same k h. omega (arith, begins k h, below d causal same (begin_of s.stencils.inputs k) (omega (arith, h, form.inputs_kept)), begin_is d causal k h);
+    };
     ends_are = λ k h. omega (arith, ends k h, room k h, below x.delays delays_causal refl (end_of s.stencils.inputs (image_count s) k) (omega (arith, h)), end_is x.delays k h);
     one_end_each = end_size;
     balanced = rw same_flow best.balanced;

@@ -5,11 +5,15 @@ use Rattle.raster_delay.specs.Delays.{AreNear}
 use Rattle.raster_delay.specs.Systems.{Parts, IsCausal, IsBalanced, image_count, nodes, constraints_in, bits, depth, worth_of}
 use Rattle.flow_dual.specs.declared.solution.Solution.{Solution}
 
--- the causal delays of least bits that are least in every place among those, each with its depth as an end, and a flow whose worth is the bits
+-- Causal delays of least bits, of which each is as small as in any other of least bits.
+pub record IsLeastVector (s : Parts) (d : List ℕ) : Type 0 where
+  pub causal : IsCausal s d
+  pub least_bits : (e : List ℕ) → IsCausal s e → bits s d ≤ bits s e
+  pub least : (e : List ℕ) → IsCausal s e → bits s e ≡ bits s d → (k : ℕ) → k < image_count s → slice_index d k ≤ slice_index e k
+
+-- the least vector, each delay with its depth as an end, and a flow whose worth is the bits
 pub record IsSolution (s : Parts) (x : Solution) : Type 0 where
-  pub causal : IsCausal s x.delays
-  pub least_bits : (d : List ℕ) → IsCausal s d → bits s x.delays ≤ bits s d
-  pub least_vector : (d : List ℕ) → IsCausal s d → bits s d ≡ bits s x.delays → (k : ℕ) → k < image_count s → slice_index x.delays k ≤ slice_index d k
+  pub vector : IsLeastVector s x.delays
   pub ends_are : (k : ℕ) → k < image_count s → slice_index x.ends k ≡ slice_index x.delays k + depth s x.delays k
   pub one_end_each : length x.ends ≡ image_count s
   pub balanced : IsBalanced s x.flow

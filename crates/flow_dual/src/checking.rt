@@ -157,7 +157,7 @@ fn is_balanced(alloc: Global, system: &System, flow: &[u64]) -> Result<bool, Mem
     Ok(balanced)
 }
 
-// Whether numbers keep the constraints, and a flow is balanced and on tight constraints alone.
+/// Whether numbers of the nodes keep the constraints, and a flow is balanced and on tight constraints alone. It may say no to numbers above 2^59 and flows above 2^32.
 pub fn is_optimal(
     alloc: Global,
     system: &System,

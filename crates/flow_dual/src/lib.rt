@@ -11,9 +11,9 @@ mod shifting;
 mod simplex;
 mod solution;
 mod solving;
-#[cfg(test)]
-mod tests;
 mod tree;
 
+pub use checking::is_optimal;
+pub use simplex::{Proposal, propose};
 pub use solution::{Numbers, Solution};
 pub use solving::solve;

@@ -1,6 +1,7 @@
 // Each image's width sent from where it begins to where it ends.
 
 ghost use Rattle.std.specs.Prelude.{◌≡◌, ◌<◌, ◌≤◌, ◌+◌, ◌*◌, ◌^◌, ℕ, length, slice_index, All, OnOk};
+ghost use Rattle.dk_base.specs.declared.TheConstants.{MAX_KEPT_IMAGES};
 ghost use Rattle.raster_delay.specs.Network.{Holds, IsComplementary, constraint_at};
 ghost use Rattle.raster_delay.specs.Delays.{IsSmall};
 ghost use Rattle.raster_delay.specs.Systems.{IsBalanced, constraints_in, nodes};
@@ -28,7 +29,7 @@ fn send(
     requires targets { All (λ c. c.target < length numbers.old) constraints.now }
     requires costs { All IsSmall constraints.now }
     requires nodes { length numbers.old ≤ 528 }
-    requires images { image < 264 }
+    requires images { image < MAX_KEPT_IMAGES }
     requires hold { IsHold constraints.now image }
     requires numbers { (v : ℕ) → slice_index numbers.old v ≤ 2 ^ 41 + image * 2 ^ 36 }
     requires amounts { (i : ℕ) → slice_index flow.old i ≤ image * 2 ^ 8 }

@@ -14,7 +14,7 @@ const BLOCK: usize = 64;
 // comes twice, but nothing proved says so.
 const MOST_EXCHANGES: usize = 65_536;
 
-// Numbers of the nodes, and a flow.
+/// Numbers of the nodes, and a flow.
 #[derive(Drop)]
 pub struct Proposal {
     pub numbers: Vec<u64>,
@@ -398,7 +398,7 @@ fn numbers_from(alloc: Global, numbers: &[i64]) -> Result<Vec<u64>, Memory> {
     Ok(all)
 }
 
-// Numbers of the nodes that keep the constraints, and a flow that shows them to be of least bits.
+/// Numbers of the nodes that keep the constraints, and a flow that shows them to be of least bits, as far as the simplex finds them. Nothing is promised: `is_optimal` says whether they are.
 pub fn propose(alloc: Global, system: &System) -> Result<Proposal, Memory> {
     let constraints = system.constraints();
     let nodes = system.nodes();

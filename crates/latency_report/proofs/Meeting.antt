@@ -217,8 +217,8 @@ module _ (p : Program) (s : System) (d ends flow : List ℕ) where
     meets =
         let stencils = is.plan.system.stencils in
         let frame = stencils.frame in
-        let bits_limit = is.plan.bits_limit in
-        let latency_limit = is.plan.latency_limit in
+        let bits_limit = is.plan.within.few_bits in
+        let latency_limit = is.plan.within.short in
         let some_inputs = stencils.images.some_inputs in
         let inputs_kept = stencils.images.inputs_kept in
         let outputs = stencils.outputs in

@@ -1,6 +1,7 @@
 // The lines of the flow: a line for each constraint that carries some, in the order of the constraints.
 
 ghost use Rattle.std.specs.Prelude.{◌≡◌, ◌+◌, ◌++◌, ◌≤◌, [], ◌∷◌, length, map, nat_eq, if◌then◌else◌, IfOk, OnOk};
+ghost use Rattle.dk_base.specs.declared.TheConstants.{MAX_KEPT_IMAGES};
 ghost use Rattle.std.specs.List.{range_with_len};
 ghost use Rattle.raster_delay.specs.Systems.{constraints_in};
 ghost use Rattle.latency_report.specs.Printed.{hold_maker, start_maker, read_maker, keep_maker, makers, carried};
@@ -38,7 +39,7 @@ fn push_holds(lines: &mut Vec<FlowLine>, flow: &[u64]) -> Result<(), Memory>
 
 // The lines of kind start, of the images from this place on.
 fn push_starts(lines: &mut Vec<FlowLine>, first: usize, flow: &[u64]) -> Result<(), Memory>
-    requires { first + length flow.now ≤ 264 }
+    requires { first + length flow.now ≤ MAX_KEPT_IMAGES }
     ensures { OnOk result (lines.new.items ≡ lines.old.items ++ carried (map start_maker (range_with_len first (length flow.now))) flow.now) }
 {
     for k in 0..flow.len() {

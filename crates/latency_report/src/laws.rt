@@ -1,12 +1,10 @@
 // The report of a plan is a report of its version.
 
-ghost use Rattle.std.specs.Prelude.{◌≡◌, ◌<◌, ◌≤◌, ◌+◌, ◌^◌, ℕ, true, length, slice_index, All};
-ghost use Rattle.dk_base.specs.declared.TheConstants.{MAX_DEFINITIONS};
+ghost use Rattle.std.specs.Prelude.{◌≡◌, ◌<◌, ◌^◌, ℕ, length, slice_index, All};
 ghost use Rattle.dk_base.specs.declared.stencils.Image.{Image};
 ghost use Rattle.flow_dual.specs.Solutions.{IsSolution};
 ghost use Rattle.pointwise_ir.specs.Programs.{names_of};
-ghost use Rattle.report_text.specs.Names.{is_name};
-ghost use Rattle.report_text.specs.Reports.{AreDistinct, Meets};
+ghost use Rattle.report_text.specs.Reports.{AreNames, Meets};
 ghost use Rattle.latency_report.specs.Printed.{report_of};
 
 use buffer_plan::Plan;
@@ -26,9 +24,7 @@ pub fn printed_meets(ir: &Ir, plan: &Plan, system: &System, solution: &Solution)
     requires solution { IsSolution system.now solution.now }
     requires plan { plan.now ≡ record { system = system.now; delays = solution.now.delays } }
     requires images { All (λ (i : Image). i.number < length (names_of ir.now)) system.now.stencils.images }
-    requires names { All (λ name. is_name name ≡ true) (names_of ir.now) }
-    requires distinct { AreDistinct (names_of ir.now) }
-    requires definitions { length (names_of ir.now) ≤ system.now.stencils.inputs + MAX_DEFINITIONS }
+    requires names { AreNames system.now.stencils.inputs (names_of ir.now) }
     ensures { Meets (report_of ir.now plan.now solution.now.flow) }
 {
     plan.law();

@@ -1,10 +1,11 @@
 -- The names that a builder gives are names, and each has its own.
-use Rattle.std.proofs.Common.{◌≡◌, ◌≢◌, ◌⊎◌, ℕ, zero, suc, ◌+◌, ◌-◌, ◌*◌, ◌/◌, ◌<◌, ◌≤◌, ◌^◌, Bool, true, false, ◌&&◌, not, List, [], ◌∷◌, ◌++◌, length, get_or, Some, refl, sym, ap, ◌∙◌, inl, inr, arith, codes, decimal, nat_lt}
+use Rattle.std.proofs.Common.{◌≡◌, ◌≢◌, ◌⊎◌, ℕ, zero, suc, ◌+◌, ◌-◌, ◌*◌, ◌/◌, ◌<◌, ◌≤◌, ◌^◌, Bool, true, false, ◌&&◌, not, List, [], ◌∷◌, ◌++◌, length, get_or, Some, refl, sym, ap, ◌∙◌, inl, inr, arith, codes, decimal, nat_le}
 use Rattle.std.specs.Prelude.{slice_get, nat_eq, if◌then◌else◌}
 use Rattle.std.specs.List.{prefix_len}
 use Rattle.std.proofs.lemmas.Str.Parse.{digit_at}
 use Rattle.std.proofs.lemmas.Fmt.{decimal_is_IsNumeral, decimal_injective, length-decimal-le}
-use Rattle.std.proofs.lemmas.Bool.{lt-ltb}
+use Rattle.std.proofs.lemmas.Bool.{le-leb}
+use Rattle.net_names.specs.declared.TheConstants.{MOST_NAME_BYTES}
 use Rattle.std.proofs.lemmas.Option.{same_Some, slice_get_within, get_or_from_slice_get}
 use Rattle.std.proofs.lemmas.List.{length_push}
 use Rattle.std.proofs.lemmas.Bool.Decides.{nat_tests}
@@ -69,9 +70,9 @@ made_word l k letter small =
 
 pub made_is_name : (l k : ℕ) → Letter l → k < 2 ^ 64 → is_name (made_name l k) ≡ true
 made_is_name l k letter small =
-    all_of (is_word (made_name l k)) (nat_lt (length (made_name l k)) 65) (is_structure_word (made_name l k)) (is_refused_word (made_name l k))
+    all_of (is_word (made_name l k)) (nat_le (length (made_name l k)) MOST_NAME_BYTES) (is_structure_word (made_name l k)) (is_refused_word (made_name l k))
     (made_word l k letter small)
-    (lt-ltb (length (made_name l k)) 65 (omega (arith, length-decimal-le 20 k (omega arith) (omega (arith, small)) small)))
+    (le-leb (length (made_name l k)) MOST_NAME_BYTES (omega (arith, length-decimal-le 20 k (omega arith) (omega (arith, small)) small)))
     (no_structure_word l (decimal k) letter)
     (no_refused_word l (decimal k) letter)
 

@@ -8,8 +8,6 @@ mod laws;
 mod naming;
 mod ports;
 mod size;
-#[cfg(test)]
-mod tests;
 
 pub use builder::Builder;
 pub use laws::{outputs_shown, parts_grow, ports_shown, reads_grow, runs_last, runs_on};

@@ -2,7 +2,5 @@
 #![tactic(auto)]
 
 mod delay;
-#[cfg(test)]
-mod tests;
 
 pub use delay::{delay_three, ring};

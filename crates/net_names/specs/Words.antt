@@ -1,6 +1,7 @@
 -- The words of Verilog texts, and which of them are names.
-use Rattle.std.specs.Prelude.{ℕ, List, [], ◌∷◌, length, Bool, true, false, ◌&&◌, ◌||◌, not, nat_lt, nat_eq, codes}
+use Rattle.std.specs.Prelude.{ℕ, List, [], ◌∷◌, length, Bool, true, false, ◌&&◌, ◌||◌, not, nat_lt, nat_le, nat_eq, codes}
 use Rattle.std.specs.List.{prefix_len}
+use Rattle.net_names.specs.declared.TheConstants.{MOST_NAME_BYTES}
 
 abbrev pub is_letter : ℕ → Bool
 is_letter b = (nat_lt 64 b && nat_lt b 91) || (nat_lt 96 b && nat_lt b 123) || nat_eq b 95
@@ -55,6 +56,6 @@ is_structure_word bytes = is_among bytes structure_words
 abbrev pub is_refused_word : List ℕ → Bool
 is_refused_word bytes = is_among bytes refused_a_to_d || is_among bytes refused_e || is_among bytes refused_f || is_among bytes refused_g_to_n || is_among bytes refused_o_to_s || is_among bytes refused_t_to_x
 
--- a word of at most 64 bytes that is none of those
+-- a word of at most so many bytes that is none of those
 abbrev pub is_name : List ℕ → Bool
-is_name bytes = (is_word bytes && nat_lt (length bytes) 65) && not (is_structure_word bytes) && not (is_refused_word bytes)
+is_name bytes = (is_word bytes && nat_le (length bytes) MOST_NAME_BYTES) && not (is_structure_word bytes) && not (is_refused_word bytes)

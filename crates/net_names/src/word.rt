@@ -4,6 +4,8 @@ ghost use Rattle.std.specs.Prelude.{◌≡◌};
 ghost use Rattle.std.specs.List.{prefix_len};
 ghost use Rattle.net_names.specs.Words.{is_letter as letter, is_digit as digit, is_word_byte as word_byte, is_word as word, same_codes, is_among, structure_words, refused_a_to_d, refused_e, refused_f, refused_g_to_n, refused_o_to_s, refused_t_to_x, is_structure_word as structure_word, is_refused_word as refused_word, is_name as name};
 
+use crate::MOST_NAME_BYTES;
+
 fn is_letter(byte: u8) -> bool
     ensures { result ≡ letter byte }
 {
@@ -152,9 +154,12 @@ pub fn is_refused_word(bytes: &[u8]) -> bool
         || is_refused_t_to_x(bytes)
 }
 
-/// Whether the bytes are a name: a word of at most 64 bytes that is none of the words of the grammar and none of those that the subset refuses.
+/// Whether the bytes are a name: a word of at most `MOST_NAME_BYTES` that is none of the words of the grammar and none of those that the subset refuses.
 pub fn is_name(bytes: &[u8]) -> bool
     ensures { result ≡ name bytes.now }
 {
-    is_word(bytes) && bytes.len() < 65 && !is_structure_word(bytes) && !is_refused_word(bytes)
+    is_word(bytes)
+        && bytes.len() <= MOST_NAME_BYTES
+        && !is_structure_word(bytes)
+        && !is_refused_word(bytes)
 }

@@ -20,27 +20,37 @@ pub enum Statement {
 }
 
 /// Why parts make no module. The passes come in this order but for Width, which stands behind Divisor.
-#[derive(Clone, Copy, Debug, PartialEq, Eq)]
+#[derive(Clone, Copy, Debug, PartialEq, Eq, thiserror::Error)]
 pub enum NetFault {
     /// A name is declared a second time here.
+    #[error("Duplicate {0:?}")]
     Duplicate(Declared),
     /// The ports are not the profile's.
+    #[error("Ports")]
     Ports,
     /// A name is not declared.
+    #[error("Unknown {0:?}")]
     Unknown(Statement),
     /// A name stands for something of another sort.
+    #[error("WrongSort {0:?}")]
     WrongSort(Statement),
     /// The divisor is no constant, or 0.
+    #[error("Divisor {0:?}")]
     Divisor(Statement),
     /// Widths do not agree.
+    #[error("Width {0:?}")]
     Width(Statement),
     /// The second driver of a wire, output, register or array.
+    #[error("DrivenTwice {0:?}")]
     DrivenTwice(Statement),
     /// Nothing drives it.
+    #[error("Undriven {0:?}")]
     Undriven(Declared),
     /// The assign of this number depends on itself.
+    #[error("Cycle at assign {0}")]
     Cycle(usize),
     /// There was not enough memory to tell.
+    #[error("out of memory")]
     Memory,
 }
 

@@ -1,6 +1,9 @@
 // What the definitions say together.
 
 ghost use Rattle.std.specs.Prelude.{◌≡◌, ◌<◌, ◌^◌, ◌⊎◌, ℕ, List};
+ghost use Rattle.dk_base.specs.declared.TheConstants.{MAX_NAME_BYTES, MAX_WIDTH, MAX_BUFFER_BITS};
+ghost use Rattle.net_names.specs.declared.TheConstants.{MOST_NAME_BYTES};
+ghost use Rattle.wiring.specs.declared.TheConstants.{MOST_BITS, MOST_WORDS};
 ghost use Rattle.wiring.specs.Netlist.{Netlist, net_width, IsDeclared};
 ghost use Rattle.wiring.specs.declared.netlist.Net.{Net};
 ghost use Rattle.wiring.specs.Order.{IsEvaluationOrder};
@@ -39,4 +42,11 @@ pub fn values_fit()
 pub fn rules_kept()
     ensures rules { (p : Parts) (m : NamedNetlist) → SizesFit p → IsModuleOf p m → KeepsRules m.netlist }
     ensures names { (p : Parts) (m : NamedNetlist) → NamesAre p → IsModuleOf p m → HasNames m.netlist m.names }
+{}
+
+/// A law: the greatest name, width and array are those of the limits.
+pub fn bounds_are_limits()
+    ensures name { MOST_NAME_BYTES ≡ MAX_NAME_BYTES }
+    ensures width { MOST_BITS ≡ MAX_WIDTH }
+    ensures words { MOST_WORDS ≡ MAX_BUFFER_BITS }
 {}

@@ -14,13 +14,11 @@ mod profile;
 mod resolve;
 mod scope;
 mod statement;
-#[cfg(test)]
-mod tests;
 mod width;
 
 pub use buffer::buffer_bits;
 pub use fault::{Declared, NetFault, Statement};
-pub use laws::{one_fault, one_run, rules_kept, values_fit};
+pub use laws::{bounds_are_limits, one_fault, one_run, rules_kept, values_fit};
 pub use module::Module;
 pub use names::Names;
 pub use net_names::Name;

@@ -6,7 +6,8 @@ use Rattle.pgm_codec.specs.declared.reading.Stage.TheVariants.{Start, Letter, Ga
 use Rattle.pgm_codec.specs.declared.reading.Number.{Number}
 use Rattle.pgm_codec.specs.declared.reading.Number.TheVariants.{Width, Height, Maxval}
 use Rattle.pgm_codec.specs.declared.reading.Reading.{Reading}
-use Rattle.pgm_codec.specs.Headers.{is_white, is_line_end, is_digit}
+use Rattle.dk_base.specs.Ascii.{is_white, is_digit}
+use Rattle.pgm_codec.specs.Headers.{is_line_end}
 use Rattle.pgm_codec.specs.Machine.{reading, start, step, step_at, run, digit_after, finished}
 use Rattle.pgm_codec.specs.Answers.{Whole as IsWhole, Begins, Inside}
 use Rattle.pgm_codec.proofs.Forward.{whole, run_append}

@@ -5,7 +5,8 @@ use Rattle.pgm_codec.specs.declared.reading.Stage.TheVariants.{Gap, Filled, Comm
 use Rattle.pgm_codec.specs.declared.reading.Number.{Number}
 use Rattle.pgm_codec.specs.declared.reading.Number.TheVariants.{Width, Height, Maxval}
 use Rattle.pgm_codec.specs.declared.reading.Reading.{Reading}
-use Rattle.pgm_codec.specs.Headers.{is_white, IsInLine, Filling, none, white, comment, IsGap, AreDigits, IsNumeral, value_after, value_of, Field, Fields, last, field, HeaderText, capped}
+use Rattle.dk_base.specs.Ascii.{is_white, value_after, value_of}
+use Rattle.pgm_codec.specs.Headers.{IsInLine, Filling, none, white, comment, IsGap, AreDigits, IsNumeral, Field, Fields, last, field, HeaderText, capped}
 use Rattle.pgm_codec.specs.Machine.{reading, start, step, run, digit_after}
 use Rattle.pgm_codec.proofs.ByteTests.{capped_digit, digit_capped}
 use Rattle.pgm_codec.proofs.Steps.{in_line, line_ends, still_filled, gap_begins, number_begins, digit_more, number_ends}

@@ -5,7 +5,8 @@ use Rattle.std.proofs.lemmas.List.{append_cancel_left}
 use Rattle.std.proofs.lemmas.Fmt.{digits_decimal, digits_value-decimal, decimal_nonempty, length-decimal-le}
 use Rattle.std.proofs.lemmas.Str.Parse.{IsNumeralModel, numerals_by_fold}
 use Rattle.std.proofs.Common.{rules}
-use Rattle.pgm_codec.specs.Headers.{Field, Fields, last, field, HeaderText, IsHeader, AreDigits, IsNumeral, IsGap, none, value_after, capped}
+use Rattle.dk_base.specs.Ascii.{value_after}
+use Rattle.pgm_codec.specs.Headers.{Field, Fields, last, field, HeaderText, IsHeader, AreDigits, IsNumeral, IsGap, none, capped}
 use Rattle.pgm_codec.specs.Images.{is_narrow, spelled, raster_of, Picture, IsPicture, AreImages, IsFile, CanBeWritten, header_of, file_of}
 use Rattle.pgm_codec.specs.Rasters.{sample_by}
 use Rattle.pgm_codec.specs.Answers.{Whole}
@@ -101,7 +102,7 @@ header_text w h m a b c = record {
   numbers = number_field w 10 2 _ _ a (refl, none) (number_field h 32 _ _ _ b (refl, none) (number_field m 10 _ _ _ c (refl, none) (last refl)));
 }
 
-is_header : (w h m : ℕ) → w < 2 ^ 32 → h < 2 ^ 32 → m < 65536 → IsHeader (header_of w h m) w h m (2 + 1 + length (decimal w) + 1 + length (decimal h) + 1)
+is_header : (w h m : ℕ) → w < 2 ^ 32 → h < 2 ^ 32 → m ≤ 65535 → IsHeader (header_of w h m) w h m (2 + 1 + length (decimal w) + 1 + length (decimal h) + 1)
 is_header w h m a b c = record {
   across = at_place w (2 + 1);
   down = at_place h (2 + 1 + length (decimal w) + 1);
@@ -111,7 +112,7 @@ is_header w h m a b c = record {
   limit = short w h m a b c;
 }
   where
-    short : (w h m : ℕ) → w < 2 ^ 32 → h < 2 ^ 32 → m < 65536 → length (header_of w h m) ≤ 65536
+    short : (w h m : ℕ) → w < 2 ^ 32 → h < 2 ^ 32 → m ≤ 65535 → length (header_of w h m) ≤ 65536
     short w h m a b c = omega (
       arith,
       length-append (decimal w) (32 ∷ (decimal h ++ 10 ∷ (decimal m ++ 10 ∷ []))),

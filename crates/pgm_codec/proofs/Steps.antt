@@ -2,7 +2,8 @@
 use Rattle.std.proofs.Common.{◌≡◌, refl, ℕ, ◌+◌, ◌-◌, true, false}
 use Rattle.pgm_codec.specs.declared.reading.Stage.TheVariants.{Gap, Filled, Comment, Digits}
 use Rattle.pgm_codec.specs.declared.reading.Number.{Number}
-use Rattle.pgm_codec.specs.Headers.{is_white, is_line_end, is_digit}
+use Rattle.dk_base.specs.Ascii.{is_white, is_digit}
+use Rattle.pgm_codec.specs.Headers.{is_line_end}
 use Rattle.pgm_codec.specs.Machine.{reading, step, digit_after, finished}
 use Rattle.pgm_codec.proofs.ByteTests.{digit_not_white, digit_not_hash, white_not_digit}
 

@@ -75,11 +75,11 @@ one_header f g w h m p w' h' m' p' e a b =
       place = ap (λ r. r.first) z;
     }
 
-pub same_small : (m m' : ℕ) → m < 65536 → m' < 65536 → capped m ≡ capped m' → m ≡ m'
+pub same_small : (m m' : ℕ) → m ≤ 65535 → m' ≤ 65535 → capped m ≡ capped m' → m ≡ m'
 unfolding capped
 same_small m m' a b e = omega arith
 
-not_in_range : (m m' : ℕ) → 0 < m → m < 65536 → (m' ≡ 0) ⊎ (65535 < m') → capped m ≡ capped m' → ⊥
+not_in_range : (m m' : ℕ) → 0 < m → m ≤ 65535 → (m' ≡ 0) ⊎ (65535 < m') → capped m ≡ capped m' → ⊥
 unfolding capped
 not_in_range m m' a b (inl z) e = omega arith
 not_in_range m m' a b (inr g) e = omega arith

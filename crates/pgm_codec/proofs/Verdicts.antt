@@ -31,7 +31,7 @@ zero_capped m e = grind (arith, nat_tests)
 not_zero : (m : ℕ) → nat_eq m 0 ≡ false → 0 < m
 not_zero m e = grind (arith, nat_tests)
 
-not_great : (m : ℕ) → nat_lt 65535 m ≡ false → m < 65536
+not_great : (m : ℕ) → nat_lt 65535 m ≡ false → m ≤ 65535
 not_great m e = grind (arith, nat_tests)
 
 whole_reads : (bytes : List ℕ) (w h m : Field) → HeaderText bytes w h m → length bytes ≤ 65536 → nat_eq (capped m.value) 0 ≡ false → nat_lt 65535 (capped m.value) ≡ false

@@ -1,5 +1,6 @@
 -- What is answered on bytes, in words of the definition of a header alone.
 use Rattle.std.specs.Prelude.{◌≡◌, ℕ, ◌+◌, ◌<◌, ◌≤◌, List, ◌∷◌, ◌++◌, length, take, Result, Ok, Err, ◌⊎◌}
+use Rattle.dk_base.specs.declared.TheConstants.{MAX_HEADER_BYTES, MAX_MAXVAL}
 use Rattle.pgm_codec.specs.Headers.{Field, HeaderText, IsHeader}
 use Rattle.pgm_codec.specs.declared.header.Header.{Header}
 use Rattle.pgm_codec.specs.declared.header.HeaderFault.{HeaderFault}
@@ -31,7 +32,7 @@ pub record Reads (bytes : List ℕ) (header : Header) : Type 0 where
   pub parts : bytes ≡ front ++ rest
   pub heads : IsHeader front header.width header.height header.maxval place
   pub positive : 0 < header.maxval
-  pub small : header.maxval < 65536
+  pub small : header.maxval ≤ MAX_MAXVAL
   pub length_is : header.length ≡ length front
 
 -- The bytes begin with a header whose maxval is not in its range; its first digit is at this offset.
@@ -43,18 +44,18 @@ pub record OutOfRange (bytes : List ℕ) (offset : ℕ) : Type 0 where
   pub maxval : ℕ
   pub parts : bytes ≡ front ++ rest
   pub heads : IsHeader front width height maxval offset
-  pub range : (maxval ≡ 0) ⊎ (65535 < maxval)
+  pub range : (maxval ≡ 0) ⊎ (MAX_MAXVAL < maxval)
 
 -- The first 65,536 bytes begin a header and hold none whole.
 pub record TooLong (bytes : List ℕ) : Type 0 where
-  pub enough : 65536 ≤ length bytes
-  pub inside : Inside (take 65536 bytes)
+  pub enough : MAX_HEADER_BYTES ≤ length bytes
+  pub inside : Inside (take MAX_HEADER_BYTES bytes)
 
 -- The byte at this offset is the first that continues no header, or the bytes end there inside one.
 pub record StopsAt (bytes : List ℕ) (offset : ℕ) : Type 0 where
   pub magic : HasMagic bytes
   pub within : offset ≤ length bytes
-  pub limit : offset < 65536
+  pub limit : offset < MAX_HEADER_BYTES
   pub inside : Inside (take offset bytes)
   pub stops : offset < length bytes → Begins (take (offset + 1) bytes) → ⊥
 
@@ -73,7 +74,7 @@ Judges bytes (Err fault) = Refuses bytes fault
 -- fewer than 65,536 bytes that begin a header and hold none whole
 pub record Undecided (bytes : List ℕ) : Type 0 where
   pub inside : Inside bytes
-  pub limit : length bytes < 65536
+  pub limit : length bytes < MAX_HEADER_BYTES
 
 -- what a scan answers once it was given these bytes
 abbrev pub Answers : List ℕ → Scan → Type 0

@@ -1,16 +1,11 @@
 -- The header of a PGM image, in the binary form.
-use Rattle.std.specs.Prelude.{◌≡◌, ℕ, ◌+◌, ◌*◌, ◌-◌, ◌≤◌, List, [], ◌∷◌, ◌++◌, length, Bool, true, false, ◌&&◌, ◌||◌, nat_lt, nat_eq}
-
--- blank, TAB, CR, LF
-abbrev pub is_white : ℕ → Bool
-is_white b = nat_eq b 32 || nat_eq b 9 || nat_eq b 13 || nat_eq b 10
+use Rattle.std.specs.Prelude.{◌≡◌, ℕ, ◌+◌, ◌-◌, ◌≤◌, List, [], ◌∷◌, ◌++◌, length, Bool, true, false, ◌||◌, nat_eq}
+use Rattle.dk_base.specs.declared.TheConstants.{MAX_HEADER_BYTES}
+use Rattle.dk_base.specs.Ascii.{is_white, is_digit, value_of}
 
 -- CR, LF
 abbrev pub is_line_end : ℕ → Bool
 is_line_end b = nat_eq b 13 || nat_eq b 10
-
-abbrev pub is_digit : ℕ → Bool
-is_digit b = nat_lt 47 b && nat_lt b 58
 
 -- no CR or LF
 abbrev pub IsInLine : List ℕ → Type 0
@@ -36,15 +31,6 @@ AreDigits (d ∷ ds) = (is_digit d ≡ true) × AreDigits ds
 abbrev pub IsNumeral : List ℕ → Type 0
 IsNumeral [] = ⊥
 IsNumeral (d ∷ ds) = (is_digit d ≡ true) × AreDigits ds
-
--- the number of decimal digits, read after a number
-abbrev pub value_after : ℕ → List ℕ → ℕ
-value_after v [] = v
-value_after v (d ∷ ds) = value_after (10 * v + (d - 48)) ds
-
--- the number of decimal digits
-abbrev pub value_of : List ℕ → ℕ
-value_of digits = value_after 0 digits
 
 -- a number of a header, and the offset of its first digit
 pub record Field : Type 0 where
@@ -76,4 +62,4 @@ pub record IsHeader (bytes : List ℕ) (width height maxval place : ℕ) : Type 
   pub text : HeaderText bytes across down (record { value = maxval; place = place })
   pub width_is : width ≡ capped across.value
   pub height_is : height ≡ capped down.value
-  pub limit : length bytes ≤ 65536
+  pub limit : length bytes ≤ MAX_HEADER_BYTES

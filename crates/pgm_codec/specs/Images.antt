@@ -2,6 +2,7 @@
 use Rattle.std.specs.Prelude.{◌≡◌, ℕ, ◌*◌, ◌/◌, ◌%◌, ◌^◌, ◌<◌, ◌≤◌, Bool, true, false, List, [], ◌∷◌, ◌++◌, length, nat_lt, codes}
 use Rattle.std.specs.List.{flat_map, AllByRecursion}
 use Rattle.std.specs.Fmt.{decimal}
+use Rattle.dk_base.specs.declared.TheConstants.{MAX_FILE_IMAGES, MAX_MAXVAL}
 use Rattle.pgm_codec.specs.Headers.{IsHeader}
 
 -- samples of an image with this maxval have one byte
@@ -42,7 +43,7 @@ pub record IsImage (bytes : List ℕ) (width height maxval : ℕ) (samples : Lis
   pub parts : bytes ≡ header ++ raster
   pub heads : IsHeader header width height maxval place
   pub positive : 0 < maxval
-  pub small : maxval < 65536
+  pub small : maxval ≤ MAX_MAXVAL
   pub holds : IsRaster raster width height maxval samples
 
 -- an image with its header's numbers
@@ -63,7 +64,7 @@ AreImages bytes (p ∷ ps) = (first : List ℕ) × (rest : List ℕ) × (bytes �
 
 -- The bytes are a file of these 1 to 65,536 images.
 abbrev pub IsFile : List ℕ → List Picture → Type 0
-IsFile bytes pictures = (0 < length pictures) × (length pictures ≤ 65536) × AreImages bytes pictures
+IsFile bytes pictures = (0 < length pictures) × (length pictures ≤ MAX_FILE_IMAGES) × AreImages bytes pictures
 
 -- the header that is written
 abbrev pub header_of : ℕ → ℕ → ℕ → List ℕ
@@ -74,7 +75,7 @@ pub record CanBeWritten (p : Picture) : Type 0 where
   pub width : p.width < 2 ^ 32
   pub height : p.height < 2 ^ 32
   pub positive : 0 < p.maxval
-  pub small : p.maxval < 65536
+  pub small : p.maxval ≤ MAX_MAXVAL
   pub count : length p.samples ≡ p.width * p.height
   pub bounded : AllByRecursion (λ sample. sample ≤ p.maxval) p.samples
 

@@ -1,5 +1,6 @@
 -- How a header is read, byte after byte.
 use Rattle.std.specs.Prelude.{ℕ, ◌+◌, ◌*◌, ◌-◌, List, [], ◌∷◌, nat_eq, nat_lt, ◌||◌, if◌then◌else◌}
+use Rattle.dk_base.specs.declared.TheConstants.{MAX_HEADER_BYTES, MAX_MAXVAL}
 use Rattle.pgm_codec.specs.declared.reading.Stage.{Stage}
 use Rattle.pgm_codec.specs.declared.reading.Stage.TheVariants.{Start, Letter, Gap, Filled, Comment, Digits, Whole, Lost}
 use Rattle.pgm_codec.specs.declared.reading.Number.{Number}
@@ -9,7 +10,8 @@ use Rattle.pgm_codec.specs.declared.header.HeaderFault.{HeaderFault}
 use Rattle.pgm_codec.specs.declared.header.HeaderFault.TheVariants.{Magic, LongHeader, Number as NumberFault, Range}
 use Rattle.pgm_codec.specs.declared.scan.Scan.{Scan}
 use Rattle.pgm_codec.specs.declared.scan.Scan.TheVariants.{More, Done, Fault}
-use Rattle.pgm_codec.specs.Headers.{is_white, is_line_end, is_digit, capped}
+use Rattle.dk_base.specs.Ascii.{is_white, is_digit}
+use Rattle.pgm_codec.specs.Headers.{is_line_end, capped}
 
 abbrev pub reading : Stage → Number → ℕ → ℕ → ℕ → ℕ → ℕ → Reading
 reading stage number width height value first length = record { stage = stage; number = number; width = width; height = height; value = value; first = first; length = length }
@@ -67,11 +69,11 @@ fault_at offset = if nat_lt offset 2 then Magic else NumberFault offset
 
 abbrev pub ranged : Reading → Scan
 ranged r =
-    if nat_eq r.value 0 || nat_lt 65535 r.value then Fault (Range r.first)
+    if nat_eq r.value 0 || nat_lt MAX_MAXVAL r.value then Fault (Range r.first)
     else Done (record { width = r.width; height = r.height; maxval = r.value; length = r.length })
 
 abbrev pub going : Reading → Scan
-going r = if nat_lt r.length 65536 then More else Fault LongHeader
+going r = if nat_lt r.length MAX_HEADER_BYTES then More else Fault LongHeader
 
 abbrev pub verdict_at : Stage → Reading → Scan
 verdict_at Start r = going r

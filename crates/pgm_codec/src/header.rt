@@ -10,14 +10,18 @@ pub struct Header {
 }
 
 /// Why bytes do not begin with a header.
-#[derive(Clone, Copy, Debug, PartialEq, Eq)]
+#[derive(Clone, Copy, Debug, PartialEq, Eq, thiserror::Error)]
 pub enum HeaderFault {
     /// The first two bytes are not `P5`.
+    #[error("Magic")]
     Magic,
     /// The first 65,536 bytes begin a header and hold none whole.
+    #[error("LongHeader")]
     LongHeader,
     /// The first byte that continues no header, or the end of the bytes inside one.
+    #[error("Number {offset}")]
     Number { offset: usize },
     /// The first digit of a maxval that is 0 or above 65,535.
+    #[error("Range {offset}")]
     Range { offset: usize },
 }

@@ -2,6 +2,7 @@
 
 ghost use Rattle.std.specs.Prelude.{◌≡◌, ◌<◌, ◌≤◌, ◌++◌, ◌+◌, ◌*◌, ℕ, List, length, slice_index, Result, Ok};
 ghost use Rattle.std.specs.List.{AllByRecursion};
+ghost use Rattle.dk_base.specs.declared.TheConstants.{MAX_FILE_IMAGES};
 ghost use Rattle.pgm_codec.specs.declared.header.Header.{Header as TheHeader};
 ghost use Rattle.pgm_codec.specs.declared.header.HeaderFault.{HeaderFault as TheHeaderFault};
 ghost use Rattle.pgm_codec.specs.declared.raster.RasterFault.{RasterFault as TheRasterFault};
@@ -29,7 +30,7 @@ pub fn rows_are_rasters()
 
 /// What is written is read again.
 pub fn read_again()
-    ensures { (pictures : List Picture) → 0 < length pictures → length pictures ≤ 65536 → AllByRecursion CanBeWritten pictures → IsFile (file_of pictures) pictures }
+    ensures { (pictures : List Picture) → 0 < length pictures → length pictures ≤ MAX_FILE_IMAGES → AllByRecursion CanBeWritten pictures → IsFile (file_of pictures) pictures }
 {}
 
 /// The images of a file are cut into rounds in one way.

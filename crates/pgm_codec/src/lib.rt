@@ -9,8 +9,6 @@ mod raster;
 mod read;
 mod reading;
 mod scan;
-#[cfg(test)]
-mod tests;
 mod write;
 
 pub use header::{Header, HeaderFault};

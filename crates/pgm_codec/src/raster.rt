@@ -9,11 +9,13 @@ ghost use Rattle.pgm_codec.specs.Rasters.{sample_by, sample_at, AllFit, FirstGre
 use crate::header::Header;
 
 /// Why the bytes behind a header are not its raster.
-#[derive(Clone, Copy, Debug, PartialEq, Eq)]
+#[derive(Clone, Copy, Debug, PartialEq, Eq, thiserror::Error)]
 pub enum RasterFault {
     /// The first sample above maxval, counted from 0.
+    #[error("SampleTooGreat {index}")]
     SampleTooGreat { index: usize },
     /// Bytes of the raster that are there, and bytes that it has to have.
+    #[error("Short {held} {need}")]
     Short { held: u128, need: u128 },
 }
 

@@ -1,6 +1,7 @@
 //! A header taken byte by byte, and from a slice.
 
 ghost use Rattle.std.specs.Prelude.{◌≡◌, ◌≢◌, ◌<◌, ◌≤◌, ℕ, List, [], ◌∷◌, ◌++◌, Result, Ok, Err};
+ghost use Rattle.dk_base.specs.declared.TheConstants.{MAX_HEADER_BYTES};
 ghost use Rattle.pgm_codec.specs.declared.header.Header.{Header as TheHeader};
 ghost use Rattle.pgm_codec.specs.declared.header.HeaderFault.{HeaderFault as TheFault};
 ghost use Rattle.pgm_codec.specs.Answers.{Answers, Judges, Refuses};
@@ -10,7 +11,7 @@ ghost use Rattle.pgm_codec.specs.Machine.{verdict, ranged as ranged_of, fault_at
 use crate::header::{Header, HeaderFault};
 use crate::reading::{Reading, Stage};
 use crate::scan::{HeaderScan, Scan};
-use dk_base::MAX_HEADER_BYTES;
+use dk_base::{MAX_HEADER_BYTES, MAX_MAXVAL};
 
 /// The fault of bytes that end here, or have a byte here that continues no header.
 fn fault_at(offset: usize) -> HeaderFault
@@ -27,7 +28,7 @@ fn fault_at(offset: usize) -> HeaderFault
 fn ranged(reading: Reading) -> Scan
     ensures { result ≡ ranged_of reading }
 {
-    if reading.value == 0 || reading.value > 65535 {
+    if reading.value == 0 || reading.value > u32::from(MAX_MAXVAL) {
         Scan::Fault(HeaderFault::Range {
             offset: reading.first,
         })
@@ -44,7 +45,7 @@ fn ranged(reading: Reading) -> Scan
 /// What is known where this was read.
 fn answer_of(reading: Reading) -> Scan
     ensures is { result ≡ verdict reading }
-    ensures short { result ≡ Scan.More → reading.length < 65536 }
+    ensures short { result ≡ Scan.More → reading.length < MAX_HEADER_BYTES }
 {
     match reading.stage {
         Stage::Whole => ranged(reading),

@@ -1,8 +1,12 @@
 //! A header while it is read, byte after byte.
 
 ghost use Rattle.std.specs.Prelude.{◌≡◌, ◌<◌, IsTrue, if◌then◌else◌};
-ghost use Rattle.pgm_codec.specs.Headers.{is_white as white, is_line_end as line_end, is_digit as digit};
+ghost use Rattle.dk_base.specs.declared.TheConstants.{MAX_HEADER_BYTES};
+ghost use Rattle.dk_base.specs.Ascii.{is_white as white, is_digit as digit};
+ghost use Rattle.pgm_codec.specs.Headers.{is_line_end as line_end};
 ghost use Rattle.pgm_codec.specs.Machine.{start, lost as lost_of, moved as moved_to, finished as finished_at, in_filling as filling_step, in_digits as digits_step, step as step_of};
+
+use dk_base::{is_digit, is_white};
 
 /// What was read last.
 #[derive(Clone, Copy, Debug, PartialEq, Eq)]
@@ -47,24 +51,11 @@ pub(crate) struct Reading {
     pub(crate) length: usize,
 }
 
-/// Blank, TAB, CR or LF.
-fn is_white(byte: u8) -> bool
-    ensures { result ≡ white byte }
-{
-    byte == b' ' || byte == b'\t' || byte == b'\r' || byte == b'\n'
-}
-
 /// CR or LF.
 fn is_line_end(byte: u8) -> bool
     ensures { result ≡ line_end byte }
 {
     byte == b'\r' || byte == b'\n'
-}
-
-fn is_digit(byte: u8) -> bool
-    ensures { result ≡ digit byte }
-{
-    byte.is_ascii_digit()
 }
 
 /// The number with one digit more, at most 4,294,967,295.
@@ -105,7 +96,7 @@ impl Reading {
 
     /// One byte more was read.
     fn moved(self, stage: Stage) -> Self
-        requires { self.length < 65536 }
+        requires { self.length < MAX_HEADER_BYTES }
         ensures { result ≡ moved_to stage self }
     {
         Reading {
@@ -117,7 +108,7 @@ impl Reading {
 
     /// The white space byte behind a number was read.
     fn finished(self) -> Self
-        requires { self.length < 65536 }
+        requires { self.length < MAX_HEADER_BYTES }
         ensures { result ≡ finished_at self.number self }
     {
         let length = self.length + 1;
@@ -145,7 +136,7 @@ impl Reading {
     }
 
     fn in_filling(self, byte: u8) -> Self
-        requires { self.length < 65536 }
+        requires { self.length < MAX_HEADER_BYTES }
         ensures { result ≡ filling_step self byte }
     {
         if is_white(byte) {
@@ -166,7 +157,7 @@ impl Reading {
     }
 
     fn in_digits(self, byte: u8) -> Self
-        requires { self.length < 65536 }
+        requires { self.length < MAX_HEADER_BYTES }
         ensures { result ≡ digits_step self byte }
     {
         if is_digit(byte) {
@@ -184,7 +175,7 @@ impl Reading {
     }
 
     fn moved_if(self, is: bool, stage: Stage) -> Self
-        requires { self.length < 65536 }
+        requires { self.length < MAX_HEADER_BYTES }
         ensures { result ≡ (if is then moved_to stage self else lost_of self) }
     {
         if is { self.moved(stage) } else { self.lost() }
@@ -192,7 +183,7 @@ impl Reading {
 
     /// Reads one byte more.
     pub(crate) fn step(self, byte: u8) -> Self
-        requires { self.length < 65536 }
+        requires { self.length < MAX_HEADER_BYTES }
         ensures { result ≡ step_of self byte }
     {
         match self.stage {

@@ -1,6 +1,7 @@
 //! What is known of a header after some of its bytes.
 
 ghost use Rattle.std.specs.Prelude.{◌≡◌, ◌<◌};
+ghost use Rattle.dk_base.specs.declared.TheConstants.{MAX_HEADER_BYTES};
 ghost use Rattle.pgm_codec.specs.declared.scan.Scan.TheVariants.{More};
 
 use crate::header::{Header, HeaderFault};
@@ -22,5 +23,5 @@ pub enum Scan {
 pub struct HeaderScan {
     pub(crate) reading: Reading,
     pub(crate) answer: Scan,
-    ghost short: { answer ≡ More → reading.length < 65536 },
+    ghost short: { answer ≡ More → reading.length < MAX_HEADER_BYTES },
 }

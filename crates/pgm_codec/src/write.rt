@@ -1,6 +1,7 @@
 //! The bytes of an output file.
 
 ghost use Rattle.std.specs.Prelude.{◌≡◌, ◌<◌, ◌≤◌, ◌+◌, ◌^◌, ◌++◌, ◌∷◌, [], length, take, decimal};
+ghost use Rattle.dk_base.specs.declared.TheConstants.{MAX_SIDE};
 ghost use Rattle.pgm_codec.specs.Images.{header_of, sample_bytes};
 
 use itoa::Buffer;
@@ -29,8 +30,8 @@ fn put_number(out: &mut [u8], at: usize, number: u32, last: u8) -> usize
 
 /// Writes the header of an image, and answers how many bytes it has.
 pub fn write_header(width: u32, height: u32, maxval: u16, out: &mut [u8; 19]) -> usize
-    requires width { (0 < width) × (width ≤ 4096) }
-    requires height { (0 < height) × (height ≤ 4096) }
+    requires width { (0 < width) × (width ≤ MAX_SIDE) }
+    requires height { (0 < height) × (height ≤ MAX_SIDE) }
     requires maxval { 0 < maxval }
     ensures header { take result out.new ≡ header_of width height maxval }
     ensures length { result ≡ length (header_of width height maxval) }

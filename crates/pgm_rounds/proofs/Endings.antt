@@ -1,22 +1,15 @@
 -- Where the reading of a file ends.
-use Rattle.std.proofs.Common.{◌≡◌, ◌∙◌, sym, ap, refl, subst, [], ◌∷◌, ◌++◌, List, ℕ, zero, suc, ◌+◌, ◌-◌, ◌*◌, ◌^◌, ◌<◌, ◌≤◌, arith, length, map, append-nil, length-append, Some, slice_get}
-use Rattle.std.specs.List.{All, AllByRecursion}
+use Rattle.std.proofs.Common.{◌≡◌, ◌∙◌, sym, ap, refl, subst, [], ◌∷◌, ◌++◌, List, ℕ, zero, suc, ◌+◌, ◌-◌, ◌*◌, ◌^◌, ◌<◌, ◌≤◌, arith, length, map, append-nil, length-append}
+use Rattle.std.specs.List.{All, AllByRecursion, AllZip}
 use Rattle.std.proofs.lemmas.List.{length-map}
-use Rattle.std.proofs.lemmas.Option.{slice_get_within, get_or_from_slice_get}
 use Rattle.std.proofs.Math.Pow.{pow_pos}
-use Rattle.dk_base.specs.declared.ty.Ty.{Ty}
-use Rattle.dk_base.specs.declared.ty.Ty.TheVariants.{Unsigned, Signed}
-use Rattle.dk_base.specs.Types.{width_of}
 use Rattle.dk_base.specs.Frames.{Size}
-use Rattle.pointwise_ir.specs.declared.ir.Input.{Input}
-use Rattle.pointwise_ir.specs.Programs.{Program, IsPort}
-use Rattle.pointwise_eval.specs.declared.frame.Frame.{Frame}
-use Rattle.pointwise_eval.specs.Rounds.{IsInputFrame, AreFrames}
+use Rattle.dk_frames.specs.declared.frame.Frame.{Frame}
 use Rattle.pgm_codec.specs.Images.{Picture as Image, AreImages}
 use Rattle.pgm_codec.specs.Rounds.{FitsInputs}
 use Rattle.pgm_rounds.specs.declared.round.Round.{Round}
-use Rattle.pgm_rounds.specs.Ports.{Ports, ports_of}
-use Rattle.pgm_rounds.specs.Files.{joined, FitsFile, Taken, EndsInRound, IsTooMany, frame_of, frames_of}
+use Rattle.pgm_rounds.specs.Ports.{Ports}
+use Rattle.pgm_rounds.specs.Files.{joined, FitsFile, Taken, EndsInRound, IsTooMany, IsPortFrame, IsPortRound, frame_of, frames_of}
 use Rattle.pgm_rounds.specs.Standing.{Stands}
 
 nothing : {X : Type 0} (xs : List X) → length xs ≡ 0 → xs ≡ []
@@ -92,37 +85,19 @@ below_all m n [] a l k d lt = absurd (omega arith)
 below_all m n (s ∷ samples) a l zero d lt = omega (arith, a.0, l)
 below_all m n (s ∷ samples) a l (suc k) d lt = below_all m n samples a.1 l k d (omega arith)
 
-input_frame : (size : Size) (t : Ty) (q : Image) → IsPort t → q.width ≡ size.width → q.height ≡ size.height → q.maxval ≤ 2 ^ width_of t - 1 → IsSound q → IsInputFrame size t (frame_of q)
-input_frame size (Signed n) q port w h m s = absurd port
-input_frame size (Unsigned n) q port w h m s = record {
+port_frame : (size : Size) (bits : ℕ) (q : Image) → q.width ≡ size.width → q.height ≡ size.height → q.maxval ≤ 2 ^ bits - 1 → IsSound q → IsPortFrame size bits (frame_of q)
+port_frame size bits q w h m s = record {
   width = w;
   height = h;
   whole = s.count ∙ ap (λ x. x * q.height) w ∙ ap (λ x. size.width * x) h;
-  values = below_all q.maxval (2 ^ n) q.samples s.bounded (let some : 0 < 2 ^ n = pow_pos n in omega (arith, m, some));
+  values = below_all q.maxval (2 ^ bits) q.samples s.bounded (let some : 0 < 2 ^ bits = pow_pos bits in omega (arith, m, some));
 }
 
-abbrev bits_of_inputs : List Input → List ℕ
-bits_of_inputs inputs = map width_of (map (λ (i : Input). i.ty) inputs)
-
-module _ (size : Size) where
-  round_frames : (inputs : List Input) (round : List Image) → ((k : ℕ) (i : Input) → slice_get inputs k ≡ Some i → IsPort i.ty) → FitsInputs size.width size.height (bits_of_inputs inputs) round → AllByRecursion IsSound round
-      → (k : ℕ) (f : Frame) (input : Input) → slice_get (map frame_of round) k ≡ Some f → slice_get inputs k ≡ Some input → IsInputFrame size input.ty f
-  round_frames [] round ports fits sound k f input is at = absurd (let e : ⊥ = cc in e)
-  round_frames (i ∷ inputs) [] ports fits sound k f input is at = absurd fits
-  round_frames (i ∷ inputs) (q ∷ round) ports fits sound zero f input is at =
-      let e : frame_of q ≡ f = cc in
-      let d : i ≡ input = cc in
-      subst (λ x. IsInputFrame size input.ty x) e (subst (λ (x : Input). IsInputFrame size x.ty (frame_of q)) d (input_frame size i.ty q (ports 0 i refl) fits.0 fits.1 fits.2 sound.0))
-  round_frames (i ∷ inputs) (q ∷ round) ports fits sound (suc k) f input is at = round_frames inputs round (λ n j e. ports (suc n) j e) fits.3 sound.1 k f input is at
-
-  one_frame_each : (inputs : List Input) (round : List Image) → FitsInputs size.width size.height (bits_of_inputs inputs) round → length (map frame_of round) ≡ length inputs
-  one_frame_each [] [] f = refl
-  one_frame_each [] (q ∷ round) f = absurd f
-  one_frame_each (i ∷ inputs) [] f = absurd f
-  one_frame_each (i ∷ inputs) (q ∷ round) f = ap suc (one_frame_each inputs round f.3)
-
-port_at : (inputs : List Input) → All (λ (i : Input). IsPort i.ty) inputs → (k : ℕ) (i : Input) → slice_get inputs k ≡ Some i → IsPort i.ty
-port_at inputs ports k i e = subst (λ (x : Input). IsPort x.ty) (get_or_from_slice_get inputs k i i e) (ports k i (slice_get_within inputs k i e))
+port_round : (size : Size) (inputs : List ℕ) (round : List Image) → FitsInputs size.width size.height inputs round → AllByRecursion IsSound round → AllZip (IsPortFrame size) inputs (map frame_of round)
+port_round size [] [] fits sound = tt
+port_round size [] (q ∷ round) fits sound = absurd fits
+port_round size (b ∷ bs) [] fits sound = absurd fits
+port_round size (b ∷ bs) (q ∷ round) fits sound = (port_frame size b q fits.0 fits.1 fits.2 sound.0, port_round size bs round fits.3 sound.1)
 
 abbrev first_frames : List (List Frame) → List Frame
 first_frames [] = []
@@ -132,19 +107,12 @@ abbrev other_frames : List (List Frame) → List (List Frame)
 other_frames [] = []
 other_frames (f ∷ fs) = fs
 
-module _ (p : Program) (ports : All (λ (i : Input). IsPort i.ty) p.inputs) where
-  each_round : (rs : List Round) (rounds : List (List Image)) → frames_of rs ≡ map (map frame_of) rounds → AllByRecursion (FitsInputs p.size.width p.size.height (bits_of_inputs p.inputs)) rounds → AllByRecursion IsSound (joined rounds)
-      → All (λ (r : Round). AreFrames p r.frames.items) rs
-  each_round [] rounds e fits sound k d lt = absurd (omega arith)
-  each_round (r ∷ rs) [] e fits sound k d lt = absurd (omega (arith, ap length e))
-  each_round (r ∷ rs) (round ∷ rounds) e fits sound zero d lt =
-      let same : r.frames.items ≡ map frame_of round = ap (λ x. first_frames x) e in
-      record {
-        one_each = ap length same ∙ one_frame_each p.size p.inputs round fits.0;
-        each = λ k f input is at.
-            round_frames p.size p.inputs round (port_at p.inputs ports) fits.0 (front_of IsSound round (joined rounds) sound) k f input (ap (λ x. slice_get x k) (sym same) ∙ is) at;
-      }
-  each_round (r ∷ rs) (round ∷ rounds) e fits sound (suc k) d lt = each_round rs rounds (ap (λ x. other_frames x) e) fits.1 (back_of IsSound round (joined rounds) sound) k d (omega arith)
+each_round : (ports : Ports) (rs : List Round) (rounds : List (List Image)) → frames_of rs ≡ map (map frame_of) rounds → AllByRecursion (FitsInputs ports.size.width ports.size.height ports.inputs) rounds → AllByRecursion IsSound (joined rounds) → All (IsPortRound ports) rs
+each_round ports [] rounds e fits sound k d lt = absurd (omega arith)
+each_round ports (r ∷ rs) [] e fits sound k d lt = absurd (omega (arith, ap length e))
+each_round ports (r ∷ rs) (round ∷ rounds) e fits sound zero d lt =
+    subst (λ fs. AllZip (IsPortFrame ports.size) ports.inputs fs) (sym (ap (λ x. first_frames x) e)) (port_round ports.size ports.inputs round fits.0 (front_of IsSound round (joined rounds) sound))
+each_round ports (r ∷ rs) (round ∷ rounds) e fits sound (suc k) d lt = each_round ports rs rounds (ap (λ x. other_frames x) e) fits.1 (back_of IsSound round (joined rounds) sound) k d (omega arith)
 
-  pub are_frames : (bytes : List ℕ) (rs : List Round) (rounds : List (List Image)) → frames_of rs ≡ map (map frame_of) rounds → FitsFile (ports_of p) bytes rounds → All (λ (r : Round). AreFrames p r.frames.items) rs
-  are_frames bytes rs rounds e f = each_round rs rounds e f.fits.fit (subst (λ x. AllByRecursion IsSound x) f.fits.joined (all_sound bytes f.images f.file.2))
+pub port_rounds : (ports : Ports) (bytes : List ℕ) (rs : List Round) (rounds : List (List Image)) → frames_of rs ≡ map (map frame_of) rounds → FitsFile ports bytes rounds → All (IsPortRound ports) rs
+port_rounds ports bytes rs rounds e f = each_round ports rs rounds e f.fits.fit (subst (λ x. AllByRecursion IsSound x) f.fits.joined (all_sound bytes f.images f.file.2))

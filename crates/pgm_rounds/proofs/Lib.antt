@@ -8,4 +8,3 @@ pub mod Errors
 pub mod Rasters
 pub mod Steps
 pub mod Endings
-pub mod Written

@@ -10,7 +10,7 @@ use Rattle.pgm_codec.specs.Answers.{Reads}
 use Rattle.pgm_codec.specs.Images.{is_narrow, size_of, sample_size, spelled}
 use Rattle.pgm_codec.specs.Rasters.{sample_by, sample_at, raster_length, BeginsImage}
 use Rattle.dk_base.specs.Frames.{Size}
-use Rattle.pointwise_eval.specs.declared.frame.Frame.{Frame}
+use Rattle.dk_frames.specs.declared.frame.Frame.{Frame}
 use Rattle.pgm_rounds.specs.Standing.{IsAccepted, AreSamples, IsNext}
 use Rattle.pgm_rounds.proofs.Readings.{OneHeader, SamplesPlaced}
 

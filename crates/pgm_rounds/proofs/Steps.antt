@@ -1,23 +1,19 @@
 -- How the reading of a file goes on by one image.
-use Rattle.std.proofs.Common.{◌≡◌, ◌∙◌, sym, ap, refl, subst, [], ◌∷◌, ◌++◌, List, ℕ, zero, suc, ◌+◌, ◌-◌, ◌^◌, ◌<◌, ◌≤◌, arith, length, map, take, drop, append_assoc, append-nil, length-append, Some, slice_get, get_or, inl, inr}
+use Rattle.std.proofs.Common.{◌≡◌, ◌∙◌, sym, ap, refl, subst, [], ◌∷◌, ◌++◌, List, ℕ, zero, suc, ◌+◌, ◌-◌, ◌^◌, ◌<◌, ◌≤◌, arith, length, map, take, drop, append_assoc, append-nil, length-append, Some, slice_get, slice_index, inl, inr}
 use Rattle.std.specs.List.{AllByRecursion}
 use Rattle.std.proofs.Math.Seq.{drop-append_seam}
 use Rattle.std.proofs.lemmas.List.{length-map, map-append, take_all}
 use Rattle.std.proofs.lemmas.Grind.{flat_map-append}
 use Rattle.std.proofs.lemmas.Bool.{cases_lt}
-use Rattle.dk_base.specs.Types.{width_of}
-use Rattle.dk_base.specs.Frames.{Size}
-use Rattle.pointwise_ir.specs.declared.ir.Input.{Input}
-use Rattle.pointwise_ir.specs.Programs.{Program}
 use Rattle.pgm_codec.specs.Images.{Picture as Image, IsPicture, AreImages}
 use Rattle.pgm_codec.specs.Rounds.{FitsInputs}
-use Rattle.pointwise_eval.specs.declared.frame.Frame.{Frame}
+use Rattle.dk_frames.specs.declared.frame.Frame.{Frame}
 use Rattle.pgm_rounds.specs.declared.fault.ImageFault.{ImageFault}
 use Rattle.pgm_rounds.specs.declared.fault.ImageFault.TheVariants.{Magic, LongHeader, Number, Range, Size as WrongSize, Maxval, SampleTooGreat, Short, Count, Round as OpenRound}
 use Rattle.pgm_rounds.specs.declared.fault.FileError.{FileError}
 use Rattle.pgm_rounds.specs.declared.fault.FileError.TheVariants as error
 use Rattle.pgm_rounds.specs.declared.round.Round.{Round}
-use Rattle.pgm_rounds.specs.Ports.{Ports, ports_of}
+use Rattle.pgm_rounds.specs.Ports.{Ports}
 use Rattle.pgm_rounds.specs.Files.{joined, Refused, IsRefused, IsFault, IsError, frame_of, frames_of}
 use Rattle.pgm_rounds.specs.Standing.{IsNext, IsRefusal, Stands}
 use Rattle.pgm_rounds.proofs.Places.{FitsOne}
@@ -172,54 +168,43 @@ module _ (ports : Ports) (bytes : List ℕ) (read : List (List Frame)) (begun : 
       }
 
 -- the bits of the input at a place
-input_at : (xs : List Input) (k : ℕ) (i : Input) → k < length xs → i ≡ get_or xs k i → slice_get (map width_of (map (λ (x : Input). x.ty) xs)) k ≡ Some (width_of i.ty)
-input_at [] k i l e = absurd (omega arith)
-input_at (x ∷ xs) zero i l e = ap (λ (y : Input). Some (width_of y.ty)) (sym e)
-input_at (x ∷ xs) (suc k) i l e = input_at xs k i (omega arith) e
+input_at : (xs : List ℕ) (k : ℕ) → k < length xs → slice_get xs k ≡ Some (slice_index xs k)
+input_at [] k l = absurd (omega arith)
+input_at (y ∷ ys) zero l = refl
+input_at (y ∷ ys) (suc k) l = input_at ys k (omega arith)
 
-pub inputs_length : (xs : List Input) → length (map width_of (map (λ (x : Input). x.ty) xs)) ≡ length xs
-inputs_length xs = length-map (map (λ (x : Input). x.ty) xs) width_of ∙ length-map xs (λ (x : Input). x.ty)
+module _ (ports : Ports) (bytes : List ℕ) (read : List (List Frame)) (begun : List Frame) (number offset : ℕ) (s : Stands ports bytes read begun number offset)
+    (k : ℕ) (at : k ≡ length begun) (width : ℕ) (width_is : width ≡ slice_index ports.inputs k) (rest : List ℕ) (rest_is : rest ≡ drop offset bytes) where
+  given : slice_get ports.inputs (length begun) ≡ Some width
+  given = ap (λ n. slice_get ports.inputs n) (sym at) ∙ input_at ports.inputs k (omega (arith, at, begun_room ports bytes read begun number offset s)) ∙ ap (λ x. Some x) (sym width_is)
 
-module _ (p : Program) (bytes : List ℕ) (read : List (List Frame)) (begun : List Frame) (number offset : ℕ) (s : Stands (ports_of p) bytes read begun number offset)
-    (inputs : List Input) (inputs_are : inputs ≡ p.inputs) (k : ℕ) (at : k ≡ length begun) (input : Input) (input_is : input ≡ get_or inputs k input)
-    (size : Size) (size_is : size ≡ p.size) (rest : List ℕ) (rest_is : rest ≡ drop offset bytes) where
-  given : slice_get (ports_of p).inputs (length begun) ≡ Some (width_of input.ty)
-  given =
-      let room : k < length inputs = omega (arith, at, begun_room (ports_of p) bytes read begun number offset s, inputs_length p.inputs, ap length inputs_are) in
-      ap (λ n. slice_get (ports_of p).inputs n) (sym at) ∙ ap (λ xs. slice_get (map width_of (map (λ (x : Input). x.ty) xs)) k) (sym inputs_are) ∙ input_at inputs k input room input_is
+  pub error_next : (e : FileError) → number < 65536 → (0 < number → offset < length bytes) → IsRefusal ports.size width number offset rest e → IsError ports bytes e
+  error_next e few some r = is_error ports bytes read begun number offset s width e few some given (subst (λ x. IsRefusal ports.size width number offset x e) rest_is r)
 
-  pub error_next : (e : FileError) → number < 65536 → (0 < number → offset < length bytes) → IsRefusal size (width_of input.ty) number offset rest e → IsError (ports_of p) bytes e
-  error_next e few some r =
-      is_error (ports_of p) bytes read begun number offset s (width_of input.ty) e few some given
-      (subst (λ x. IsRefusal p.size (width_of input.ty) number offset x e) rest_is (subst (λ x. IsRefusal x (width_of input.ty) number offset rest e) size_is r))
-
-  module _ (len : ℕ) (frame : Frame) (n : IsNext size (width_of input.ty) rest len frame) where
-    next_here : IsNext p.size (width_of input.ty) (drop offset bytes) len frame
-    next_here = subst (λ x. IsNext p.size (width_of input.ty) x len frame) rest_is (subst (λ x. IsNext x (width_of input.ty) rest len frame) size_is n)
+  module _ (len : ℕ) (frame : Frame) (n : IsNext ports.size width rest len frame) where
+    next_here : IsNext ports.size width (drop offset bytes) len frame
+    next_here = subst (λ x. IsNext ports.size width x len frame) rest_is n
 
     pub length_fits : offset + len ≤ length bytes
-    length_fits = offset_fits (ports_of p) bytes read begun number offset s (width_of input.ty) len frame given next_here
+    length_fits = offset_fits ports bytes read begun number offset s width len frame given next_here
 
-    moved : (read new : List (List Frame)) (begun other : List Frame) (m n a b : ℕ) → new ≡ read → other ≡ begun → m ≡ n → a ≡ b → Stands (ports_of p) bytes read begun n b → Stands (ports_of p) bytes new other m a
+    moved : (read new : List (List Frame)) (begun other : List Frame) (m n a b : ℕ) → new ≡ read → other ≡ begun → m ≡ n → a ≡ b → Stands ports bytes read begun n b → Stands ports bytes new other m a
     moved read new begun other m n a b d e f g x =
-        subst (λ t. Stands (ports_of p) bytes new other m t) (sym g) (subst (λ t. Stands (ports_of p) bytes new other t b) (sym f)
-        (subst (λ t. Stands (ports_of p) bytes new t n b) (sym e) (subst (λ t. Stands (ports_of p) bytes t begun n b) (sym d) x)))
+        subst (λ t. Stands ports bytes new other m t) (sym g) (subst (λ t. Stands ports bytes new other t b) (sym f)
+        (subst (λ t. Stands ports bytes new t n b) (sym e) (subst (λ t. Stands ports bytes t begun n b) (sym d) x)))
 
     pub stands_next : (new : List (List Frame)) (other : List Frame) (images place : ℕ) → images ≡ number + 1 → place ≡ offset + len
-        → (length begun + 1 < length inputs → other ≡ begun ++ frame ∷ []) → (length begun + 1 < length inputs → new ≡ read)
-        → (length begun + 1 ≡ length inputs → other ≡ []) → (length begun + 1 ≡ length inputs → new ≡ read ++ (begun ++ frame ∷ []) ∷ []) → Stands (ports_of p) bytes new other images place
-    stands_next new other images place a b more_begun kept fresh whole = elim (cases_lt (length begun + 1) (length inputs)) [
-      | inl l ↦
-          let more : length begun + 1 < length (ports_of p).inputs = omega (arith, l, inputs_length p.inputs, ap length inputs_are) in
-          moved read new (begun ++ frame ∷ []) other images (number + 1) place (offset + len) (kept l) (more_begun l) a b (goes_on (ports_of p) bytes read begun number offset s (width_of input.ty) len frame given next_here more)
+        → (length begun + 1 < length ports.inputs → other ≡ begun ++ frame ∷ []) → (length begun + 1 < length ports.inputs → new ≡ read)
+        → (length begun + 1 ≡ length ports.inputs → other ≡ []) → (length begun + 1 ≡ length ports.inputs → new ≡ read ++ (begun ++ frame ∷ []) ∷ []) → Stands ports bytes new other images place
+    stands_next new other images place a b more_begun kept fresh whole = elim (cases_lt (length begun + 1) (length ports.inputs)) [
+      | inl l ↦ moved read new (begun ++ frame ∷ []) other images (number + 1) place (offset + len) (kept l) (more_begun l) a b (goes_on ports bytes read begun number offset s width len frame given next_here l)
       | inr l ↦
-          let all : length begun + 1 ≡ length (ports_of p).inputs = omega (arith, l, inputs_length p.inputs, ap length inputs_are, begun_room (ports_of p) bytes read begun number offset s) in
-          let same : length begun + 1 ≡ length inputs = omega (arith, all, inputs_length p.inputs, ap length inputs_are) in
-          moved (read ++ (begun ++ frame ∷ []) ∷ []) new [] other images (number + 1) place (offset + len) (whole same) (fresh same) a b
-          (is_whole (ports_of p) bytes read begun number offset s (width_of input.ty) len frame given next_here all)
+          let all : length begun + 1 ≡ length ports.inputs = omega (arith, l, begun_room ports bytes read begun number offset s) in
+          moved (read ++ (begun ++ frame ∷ []) ∷ []) new [] other images (number + 1) place (offset + len) (whole all) (fresh all) a b
+          (is_whole ports bytes read begun number offset s width len frame given next_here all)
     ]
 
-pub starts : (p : Program) (bytes : List ℕ) (rounds : List Round) (frames : List Frame) (images offset : ℕ) → 1 ≤ length p.inputs → rounds ≡ [] → frames ≡ [] → images ≡ 0 → offset ≡ 0 → Stands (ports_of p) bytes (frames_of rounds) frames images offset
-starts p bytes rounds frames images offset some a b c d =
-    subst (λ t. Stands (ports_of p) bytes (frames_of rounds) frames images t) (sym d) (subst (λ t. Stands (ports_of p) bytes (frames_of rounds) frames t 0) (sym c)
-    (subst (λ t. Stands (ports_of p) bytes (frames_of rounds) t 0 0) (sym b) (subst (λ (t : List Round). Stands (ports_of p) bytes (frames_of t) [] 0 0) (sym a) (start (ports_of p) bytes (omega (arith, some, inputs_length p.inputs))))))
+pub starts : (ports : Ports) (bytes : List ℕ) (rounds : List Round) (frames : List Frame) (images offset : ℕ) → 0 < length ports.inputs → rounds ≡ [] → frames ≡ [] → images ≡ 0 → offset ≡ 0 → Stands ports bytes (frames_of rounds) frames images offset
+starts ports bytes rounds frames images offset some a b c d =
+    subst (λ t. Stands ports bytes (frames_of rounds) frames images t) (sym d) (subst (λ t. Stands ports bytes (frames_of rounds) frames t 0) (sym c)
+    (subst (λ t. Stands ports bytes (frames_of rounds) t 0 0) (sym b) (subst (λ (t : List Round). Stands ports bytes (frames_of t) [] 0 0) (sym a) (start ports bytes some))))

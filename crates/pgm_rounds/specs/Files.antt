@@ -1,6 +1,7 @@
 -- Files of images as rounds of a program: which of them fit, and the first fault of those that do not.
 use Rattle.std.specs.Prelude.{◌≡◌, ℕ, ◌+◌, ◌*◌, ◌-◌, ◌^◌, ◌<◌, ◌≤◌, List, [], ◌++◌, length, take, map, slice_get, Some, Err}
-use Rattle.std.specs.List.{flat_map, AllByRecursion}
+use Rattle.std.specs.List.{flat_map, All, AllByRecursion, AllZip}
+use Rattle.dk_base.specs.declared.TheConstants.{MAX_FILE_IMAGES}
 use Rattle.dk_base.specs.Frames.{Size, area}
 use Rattle.pgm_codec.specs.declared.header.Header.{Header}
 use Rattle.pgm_codec.specs.declared.header.HeaderFault.TheVariants as header
@@ -9,7 +10,7 @@ use Rattle.pgm_codec.specs.Answers.{Reads, Refuses}
 use Rattle.pgm_codec.specs.Images.{Picture as Image, AreImages, IsFile}
 use Rattle.pgm_codec.specs.Rasters.{JudgesRaster}
 use Rattle.pgm_codec.specs.Rounds.{FitsInputs, Fits}
-use Rattle.pointwise_eval.specs.declared.frame.Frame.{Frame}
+use Rattle.dk_frames.specs.declared.frame.Frame.{Frame}
 use Rattle.pgm_rounds.specs.declared.fault.ImageFault.{ImageFault}
 use Rattle.pgm_rounds.specs.declared.fault.ImageFault.TheVariants.{Magic, LongHeader, Number, Range, Size as WrongSize, Maxval, SampleTooGreat, Short, Count, Round as OpenRound}
 use Rattle.pgm_rounds.specs.declared.fault.FileError.{FileError}
@@ -68,7 +69,7 @@ pub record IsRefused (ports : Ports) (bytes : List ℕ) (fault : ImageFault) : T
   pub bits : ℕ
   pub taken : Taken ports bytes rounds further front rest
   pub some : 0 < length (joined rounds ++ further) → 0 < length rest
-  pub few : length (joined rounds ++ further) < 65536
+  pub few : length (joined rounds ++ further) < MAX_FILE_IMAGES
   pub input : slice_get ports.inputs (length further) ≡ Some bits
   pub refused : Refused ports.size bits (length (joined rounds ++ further)) (length front) rest fault
 
@@ -79,7 +80,7 @@ pub record IsTooMany (ports : Ports) (bytes : List ℕ) : Type 0 where
   pub front : List ℕ
   pub rest : List ℕ
   pub taken : Taken ports bytes rounds further front rest
-  pub full : length (joined rounds ++ further) ≡ 65536
+  pub full : length (joined rounds ++ further) ≡ MAX_FILE_IMAGES
   pub more : 0 < length rest
 
 -- All images are in order, and the last round has so many of its images.
@@ -87,7 +88,7 @@ pub record EndsInRound (ports : Ports) (bytes : List ℕ) (held : ℕ) : Type 0 
   pub rounds : List (List Image)
   pub further : List Image
   pub taken : Taken ports bytes rounds further bytes []
-  pub few : length (joined rounds ++ further) ≤ 65536
+  pub few : length (joined rounds ++ further) ≤ MAX_FILE_IMAGES
   pub some : 0 < length further
   pub held_is : held ≡ length further
 
@@ -115,3 +116,14 @@ frame_of image = record { width = image.width; height = image.height; samples = 
 
 abbrev pub frames_of : List Round → List (List Frame)
 frames_of rounds = map (λ r. r.frames.items) rounds
+
+-- a whole frame of this size for an input of so many bits
+pub record IsPortFrame (size : Size) (bits : ℕ) (f : Frame) : Type 0 where
+  pub width : f.width ≡ size.width
+  pub height : f.height ≡ size.height
+  pub whole : length f.samples ≡ area size
+  pub values : All (λ s. s < 2 ^ bits) f.samples
+
+-- one frame for each input in order
+abbrev pub IsPortRound : Ports → Round → Type 0
+IsPortRound ports round = AllZip (IsPortFrame ports.size) ports.inputs round.frames.items

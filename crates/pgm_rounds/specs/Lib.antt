@@ -1,5 +1,3 @@
 pub mod Ports
 pub mod Files
 pub mod Standing
-pub mod Outputs
-pub mod Writing

@@ -4,7 +4,7 @@ use Rattle.dk_base.specs.Frames.{Size}
 use Rattle.pgm_codec.specs.declared.header.Header.{Header}
 use Rattle.pgm_codec.specs.Images.{Picture as Image, IsPicture}
 use Rattle.pgm_codec.specs.Rasters.{sample_by, BeginsImage}
-use Rattle.pointwise_eval.specs.declared.frame.Frame.{Frame}
+use Rattle.dk_frames.specs.declared.frame.Frame.{Frame}
 use Rattle.pgm_rounds.specs.declared.fault.FileError.{FileError}
 use Rattle.pgm_rounds.specs.declared.fault.FileError.TheVariants as error
 use Rattle.pgm_rounds.specs.Ports.{Ports}

@@ -1,19 +1,18 @@
 // The image that comes next in a file.
 
-ghost use Rattle.std.specs.Prelude.{◌≡◌, ◌+◌, ◌*◌, ◌<◌, ◌≤◌, ◌^◌, ℕ, List, length, IfOk, IfErr, MatchResult, false};
+ghost use Rattle.std.specs.Prelude.{◌≡◌, ◌+◌, ◌-◌, ◌*◌, ◌<◌, ◌≤◌, ◌^◌, ℕ, List, length, IfOk, IfErr, MatchResult, false};
+ghost use Rattle.dk_base.specs.declared.TheConstants.{MAX_FILE_IMAGES, MAX_SIDE};
 ghost use Rattle.dk_base.specs.Frames.{Size as TheSize, IsFrame, area as area_of};
 ghost use Rattle.dk_base.specs.FrameSizes.{size_of};
-ghost use Rattle.dk_base.specs.Types.{width_of};
 ghost use Rattle.pgm_codec.specs.Answers.{Reads};
 ghost use Rattle.pgm_codec.specs.Rasters.{BeginsImage, raster_length as length_of_raster};
-ghost use Rattle.pointwise_ir.specs.Programs.{IsPort};
 ghost use Rattle.pgm_rounds.specs.Files.{HasSize, IsHeaded, Refused};
 ghost use Rattle.pgm_rounds.specs.Standing.{IsAccepted, AreSamples, IsNext, IsRefusal};
 
 use crate::fault::{FileError, ImageFault};
-use dk_base::{FrameSize, Memory, Ty};
+use dk_base::{FrameSize, Memory};
+use dk_frames::{Frame, Samples};
 use pgm_codec::{Header, HeaderFault, RasterFault, check_raster, read_header};
-use pointwise_eval::{Frame, Samples};
 use std::alloc::Global;
 
 /// Where an image stands in a file: behind so many images and so many bytes.
@@ -41,12 +40,20 @@ fn next_header(offset: usize, rest: &[u8]) -> Result<Header, ImageFault>
     }
 }
 
-/// Whether the image has the frame's size, and a maxval in the type of its input.
-fn check_header(size: FrameSize, ty: Ty, header: &Header, rest: &[u8]) -> Result<(), ImageFault>
-    requires port { IsPort ty }
+/// The greatest sample of so many bits.
+fn greatest_sample(width: u8) -> u32
+    requires { width ≤ 16 }
+    ensures { result ≡ 2 ^ width - 1 }
+{
+    (1 << width) - 1
+}
+
+/// Whether the image has the frame's size, and a maxval that an input of so many bits takes.
+fn check_header(size: FrameSize, width: u8, header: &Header, rest: &[u8]) -> Result<(), ImageFault>
+    requires width { width ≤ 16 }
     requires reads { Reads rest.now header.now }
-    ensures headed { IfOk result (λ _. IsHeaded (size_of size) (width_of ty) rest.now header.now) }
-    ensures fault { IfErr result (λ f. (number offset : ℕ) → Refused (size_of size) (width_of ty) number offset rest.now f) }
+    ensures headed { IfOk result (λ _. IsHeaded (size_of size) width rest.now header.now) }
+    ensures fault { IfErr result (λ f. (number offset : ℕ) → Refused (size_of size) width number offset rest.now f) }
 {
     if header.width != size.width || header.height != size.height {
         return Err(ImageFault::Size {
@@ -54,7 +61,7 @@ fn check_header(size: FrameSize, ty: Ty, header: &Header, rest: &[u8]) -> Result
             height: header.height,
         });
     }
-    if ty.greatest() < i128::from(header.maxval) {
+    if greatest_sample(width) < u32::from(header.maxval) {
         return Err(ImageFault::Maxval {
             maxval: header.maxval,
         });
@@ -64,9 +71,8 @@ fn check_header(size: FrameSize, ty: Ty, header: &Header, rest: &[u8]) -> Result
 
 /// The number of pixels.
 fn area(size: FrameSize) -> usize
-    requires { IsFrame size.width size.height }
     ensures is { result ≡ area_of (size_of size) }
-    ensures most { result ≤ 16777216 }
+    ensures most { result ≤ MAX_SIDE * MAX_SIDE }
 {
     size.width as usize * size.height as usize
 }
@@ -78,8 +84,7 @@ fn check_samples(
     header: &Header,
     rest: &[u8],
 ) -> Result<(), ImageFault>
-    requires frame { IsFrame size.width size.height }
-    requires few { images < 65536 }
+    requires few { images < MAX_FILE_IMAGES }
     requires reads { Reads rest.now header.now }
     requires sized { HasSize (size_of size) header.now }
     ensures image { IfOk result (λ _. (samples : List ℕ) × BeginsImage rest.now header.now samples) }
@@ -95,16 +100,15 @@ fn check_samples(
 }
 
 /// The header of the image with which the bytes at this place begin.
-fn judge(size: FrameSize, ty: Ty, place: Place, rest: &[u8]) -> Result<Header, ImageFault>
-    requires frame { IsFrame size.width size.height }
-    requires port { IsPort ty }
-    requires few { place.images < 65536 }
+fn judge(size: FrameSize, width: u8, place: Place, rest: &[u8]) -> Result<Header, ImageFault>
+    requires width { width ≤ 16 }
+    requires few { place.images < MAX_FILE_IMAGES }
     requires within { place.offset + length rest.now < 2 ^ 63 }
-    ensures accepted { IfOk result (IsAccepted (size_of size) (width_of ty) rest.now) }
-    ensures fault { IfErr result (Refused (size_of size) (width_of ty) place.images place.offset rest.now) }
+    ensures accepted { IfOk result (IsAccepted (size_of size) width rest.now) }
+    ensures fault { IfErr result (Refused (size_of size) width place.images place.offset rest.now) }
 {
     let header = next_header(place.offset, rest)?;
-    check_header(size, ty, &header, rest)?;
+    check_header(size, width, &header, rest)?;
     check_samples(size, place.images, &header, rest)?;
     Ok(header)
 }
@@ -138,7 +142,7 @@ fn pairs_of(alloc: Global, raster: &[u8], count: usize) -> Result<Vec<u16>, Memo
 fn read_samples(alloc: Global, header: &Header, rest: &[u8]) -> Result<Vec<u16>, Memory>
     requires reads { Reads rest.now header.now }
     requires image { (samples : List ℕ) × BeginsImage rest.now header.now samples }
-    requires few { header.now.width * header.now.height ≤ 16777216 }
+    requires few { header.now.width * header.now.height ≤ MAX_SIDE * MAX_SIDE }
     ensures { IfOk result (λ read. (samples : List ℕ) → BeginsImage rest.now header.now samples → read.items ≡ samples) }
 {
     pgm_codec::one_answer();
@@ -154,7 +158,7 @@ fn read_samples(alloc: Global, header: &Header, rest: &[u8]) -> Result<Vec<u16>,
 
 /// The number of bytes of the raster.
 fn raster_length(header: &Header) -> usize
-    requires { header.now.width * header.now.height ≤ 16777216 }
+    requires { header.now.width * header.now.height ≤ MAX_SIDE * MAX_SIDE }
     ensures { result ≡ length_of_raster header.now }
 {
     let count = header.width as usize * header.height as usize;
@@ -172,23 +176,22 @@ pub(crate) struct ReadImage {
     pub(crate) length: usize,
 }
 
-/// The image with which the bytes at this place begin.
+/// The image with which the bytes at this place begin, for an input of so many bits.
 pub(crate) fn read_image(
     alloc: Global,
     size: FrameSize,
-    ty: Ty,
+    width: u8,
     place: Place,
     rest: &[u8],
 ) -> Result<ReadImage, FileError>
-    requires frame { IsFrame size.width size.height }
-    requires port { IsPort ty }
-    requires few { place.images < 65536 }
+    requires width { width ≤ 16 }
+    requires few { place.images < MAX_FILE_IMAGES }
     requires within { place.offset + length rest.now < 2 ^ 63 }
-    ensures next { IfOk result (λ image. IsNext (size_of size) (width_of ty) rest.now image.length image.frame) }
-    ensures refusal { IfErr result (IsRefusal (size_of size) (width_of ty) place.images place.offset rest.now) }
+    ensures next { IfOk result (λ image. IsNext (size_of size) width rest.now image.length image.frame) }
+    ensures refusal { IfErr result (IsRefusal (size_of size) width place.images place.offset rest.now) }
 {
     pgm_codec::one_answer();
-    let header = judge(size, ty, place, rest)?;
+    let header = judge(size, width, place, rest)?;
     let samples = read_samples(alloc, &header, rest)?;
     let length = header.length + raster_length(&header);
     let frame = Frame {

@@ -1,18 +1,21 @@
 // Where the reading of a file stands.
 
-ghost use Rattle.std.specs.Prelude.{◌≡◌, ◌+◌, ◌<◌, ◌++◌, ◌∷◌, [], length, OnOk, IfOk, IfErr};
+ghost use Rattle.std.specs.Prelude.{◌≡◌, ◌+◌, ◌<◌, ◌≤◌, ◌++◌, ◌∷◌, [], length, OnOk, IfOk, IfErr};
+ghost use Rattle.std.specs.List.{All};
+ghost use Rattle.dk_base.specs.declared.TheConstants.{MAX_FILE_IMAGES};
+ghost use Rattle.dk_base.specs.Frames.{IsFrame};
+ghost use Rattle.dk_base.specs.FrameSizes.{size_of};
 ghost use Rattle.pgm_rounds.specs.declared.fault.ImageFault.TheVariants.{Round as OpenRound};
 ghost use Rattle.pgm_rounds.specs.declared.fault.FileError.TheVariants.{Fault};
-ghost use Rattle.pgm_rounds.specs.Ports.{ports_of};
+ghost use Rattle.pgm_rounds.specs.Ports.{ports_with};
 ghost use Rattle.pgm_rounds.specs.Files.{IsError, frames_of};
 ghost use Rattle.pgm_rounds.specs.Standing.{Stands};
 
 use crate::fault::{FileError, ImageFault};
 use crate::image::{Place, read_image};
 use crate::round::Round;
-use dk_base::Memory;
-use pointwise_eval::Frame;
-use pointwise_ir::Ir;
+use dk_base::{FrameSize, Memory};
+use dk_frames::Frame;
 use std::alloc::Global;
 
 /// The rounds that were read, the frames of the round that is begun, and the place behind them.
@@ -60,24 +63,24 @@ impl Reading {
     pub(crate) fn read_next(
         &mut self,
         alloc: Global,
-        ir: &Ir,
+        size: FrameSize,
+        widths: &[u8],
         bytes: &[u8],
     ) -> Result<(), FileError>
-        requires few { self.old.place.images < 65536 }
+        requires widths { All (λ width. width ≤ 16) widths.now }
+        requires few { self.old.place.images < MAX_FILE_IMAGES }
         requires some { 0 < self.old.place.images → self.old.place.offset < length bytes.now }
-        requires stands { Stands (ports_of ir.now) bytes.now (frames_of self.old.rounds.items) self.old.frames.items self.old.place.images self.old.place.offset }
+        requires stands { Stands (ports_with (size_of size) widths.now) bytes.now (frames_of self.old.rounds.items) self.old.frames.items self.old.place.images self.old.place.offset }
         ensures images { OnOk result (self.new.place.images ≡ self.old.place.images + 1) }
-        ensures stands { OnOk result (Stands (ports_of ir.now) bytes.now (frames_of self.new.rounds.items) self.new.frames.items self.new.place.images self.new.place.offset) }
-        ensures fault { IfErr result (IsError (ports_of ir.now) bytes.now) }
+        ensures stands { OnOk result (Stands (ports_with (size_of size) widths.now) bytes.now (frames_of self.new.rounds.items) self.new.frames.items self.new.place.images self.new.place.offset) }
+        ensures fault { IfErr result (IsError (ports_with (size_of size) widths.now) bytes.now) }
     {
-        ir.law();
-        let inputs = ir.inputs();
-        let ty = inputs[self.frames.len()].ty;
+        let width = widths[self.frames.len()];
         let rest = bytes.split_at(self.place.offset).1;
-        let image = read_image(alloc, ir.size(), ty, self.place, rest)?;
+        let image = read_image(alloc, size, width, self.place, rest)?;
         self.place.images += 1;
         self.place.offset += image.length;
-        self.add(alloc, image.frame, inputs.len())?;
+        self.add(alloc, image.frame, widths.len())?;
         Ok(())
     }
 

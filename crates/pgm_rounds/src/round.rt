@@ -1,8 +1,8 @@
 // The frames of a round.
 
-use pointwise_eval::Frame;
+use dk_frames::Frame;
 
-/// One frame for each input of a program, in order.
+/// One frame for each input, in order.
 #[derive(Debug, Drop)]
 pub struct Round {
     pub frames: Vec<Frame>,

@@ -1,5 +1,6 @@
 -- Which lines of a report are wrong, and what is answered.
 use Rattle.std.specs.Prelude.{◌≡◌, ℕ, ◌<◌, ◌≤◌, List, length, slice_index_or}
+use Rattle.dk_base.specs.declared.TheConstants.{MAX_SIDE}
 use Rattle.raster_delay.specs.Systems.{Parts as System, image_count}
 use Rattle.report_text.specs.declared.report.FlowLine.{FlowLine}
 use Rattle.report_text.specs.declared.report.FlowLine.TheVariants.{Hold}
@@ -39,8 +40,8 @@ Judges s r (No line) = IsFirstWrong s r line
 -- A report at the system's age, of as many images and outputs as the system has, and in whose text the flow lines stand in order. Every report that meets its version and is of this age and these counts suits.
 pub record Suits (s : System) (r : Report) : Type 0 where
   pub age : r.age ≡ s.age
-  pub columns : r.width ≤ 4096
-  pub rows : r.height ≤ 4096
+  pub columns : r.width ≤ MAX_SIDE
+  pub rows : r.height ≤ MAX_SIDE
   pub images : length r.images ≡ image_count s
   pub latencies : length r.latencies ≡ length s.stencils.outputs
   pub ascending : Ascend r.flow

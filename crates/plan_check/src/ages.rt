@@ -1,6 +1,7 @@
 // The ages of live reads by printed delays, which may be any numbers of 64 bits.
 
 ghost use Rattle.std.specs.Prelude.{◌≡◌, ◌≢◌, max, ◌≤◌, ◌<◌, pos, ◌≤ℤ◌, IsTrue, unsigned_abs, length, All};
+ghost use Rattle.dk_base.specs.declared.TheConstants.{MAX_SIDE};
 ghost use Rattle.raster_delay.specs.Delays.{IsNear, AreReads, offset, age_of, depth_of};
 ghost use Rattle.plan_check.specs.Holding.{delays_of};
 
@@ -9,7 +10,7 @@ use report_text::ImageLine;
 
 // How old a read is: negative where the pixel that is read comes later.
 fn age(row: u32, images: &[ImageLine], r: PlacedRead) -> i128
-    requires row { row ≤ 4096 }
+    requires row { row ≤ MAX_SIDE }
     requires near { IsNear (offset row r) }
     requires reader { r.f < length images.now }
     requires earlier { r.g < length images.now }
@@ -20,7 +21,7 @@ fn age(row: u32, images: &[ImageLine], r: PlacedRead) -> i128
 
 // Whether a read is at least so old, where it is of the image at place `g`.
 fn is_old(row: u32, least: u8, images: &[ImageLine], r: PlacedRead, g: usize) -> bool
-    requires row { row ≤ 4096 }
+    requires row { row ≤ MAX_SIDE }
     requires near { IsNear (offset row r) }
     requires reader { r.f < length images.now }
     requires earlier { r.g < length images.now }
@@ -42,7 +43,7 @@ pub(crate) fn are_old(
     reads: &[PlacedRead],
     g: usize,
 ) -> bool
-    requires row { row ≤ 4096 }
+    requires row { row ≤ MAX_SIDE }
     requires reads { AreReads row inputs (length images.now) reads.now }
     ensures yes { IsTrue result → All (λ r. r.g ≡ g → pos least ≤ℤ age_of row (delays_of images.now) r) reads.now }
     ensures no { All (λ r. r.g ≡ g → pos least ≤ℤ age_of row (delays_of images.now) r) reads.now → IsTrue result }
@@ -57,7 +58,7 @@ pub(crate) fn are_old(
 
 // The greatest of an age and of a read's age, where the read is of the image at place `g`.
 fn deeper(row: u32, images: &[ImageLine], r: PlacedRead, g: usize, greatest: u128) -> u128
-    requires row { row ≤ 4096 }
+    requires row { row ≤ MAX_SIDE }
     requires near { IsNear (offset row r) }
     requires reader { r.f < length images.now }
     requires earlier { r.g < length images.now }
@@ -79,7 +80,7 @@ pub(crate) fn depth(
     reads: &[PlacedRead],
     g: usize,
 ) -> u128
-    requires row { row ≤ 4096 }
+    requires row { row ≤ MAX_SIDE }
     requires reads { AreReads row inputs (length images.now) reads.now }
     ensures { result ≡ depth_of row (delays_of images.now) reads.now g }
 {

@@ -1,6 +1,7 @@
 // Whether a report holds by its printed numbers.
 
 ghost use Rattle.std.specs.Prelude.{◌≡◌, ◌≤◌, ◌<◌, ◌^◌, ◌+◌, ℕ, [], ◌∷◌, length, All, IsTrue, MatchOption};
+ghost use Rattle.dk_base.specs.declared.TheConstants.{MAX_SIDE, MAX_KEPT_IMAGES, MAX_OUTPUTS};
 ghost use Rattle.raster_delay.specs.Systems.{image_count};
 ghost use Rattle.report_text.specs.Reports.{parts_of, Ascend};
 ghost use Rattle.plan_check.specs.declared.verdict.Verdict.TheVariants as verdict;
@@ -77,8 +78,8 @@ fn between(report: &Report) -> u64
 
 // The number of the last line.
 fn last_line(report: &Report) -> u64
-    requires images { length report.now.images.items ≤ 264 }
-    requires latencies { length report.now.latencies.items ≤ 8 }
+    requires images { length report.now.images.items ≤ MAX_KEPT_IMAGES }
+    requires latencies { length report.now.latencies.items ≤ MAX_OUTPUTS }
     requires few { length report.now.flow.items ≤ 2 ^ 32 }
     ensures { result ≡ last_number (parts_of report.now) }
 {
@@ -88,8 +89,8 @@ fn last_line(report: &Report) -> u64
 // How many lines of images and latencies there are.
 fn counts(system: &System, report: &Report)
     requires { Suits system.now (parts_of report.now) }
-    ensures images { length report.now.images.items ≤ 264 }
-    ensures latencies { length report.now.latencies.items ≤ 8 }
+    ensures images { length report.now.images.items ≤ MAX_KEPT_IMAGES }
+    ensures latencies { length report.now.latencies.items ≤ MAX_OUTPUTS }
 {
     system.law();
 }
@@ -121,8 +122,8 @@ fn faulty_latency(system: &System, report: &Report) -> Option<u64>
 
 // The clocks that follow from the printed size and latencies.
 fn clocks(report: &Report) -> u128
-    requires width { report.now.width ≤ 4096 }
-    requires height { report.now.height ≤ 4096 }
+    requires width { report.now.width ≤ MAX_SIDE }
+    requires height { report.now.height ≤ MAX_SIDE }
     ensures { result ≡ clocks_of (parts_of report.now) }
 {
     let pixels = u64::from(report.width) * u64::from(report.height);

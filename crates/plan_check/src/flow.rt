@@ -1,6 +1,7 @@
 // Whether the flow is balanced, and what it is worth.
 
 ghost use Rattle.std.specs.Prelude.{◌≡◌, ◌≤◌, ◌<◌, ◌^◌, ◌+◌, ◌==◌, ◌↔◌, if◌then◌else◌, ℕ, pos, neg_ℤ, ◌-ℤ◌, ◌*ℤ◌, ◌≤ℤ◌, length, slice_index, All, Contains, IsTrue};
+ghost use Rattle.dk_base.specs.declared.TheConstants.{MAX_SIDE, MAX_AGE, MAX_KEPT_IMAGES};
 ghost use Rattle.raster_delay.specs.Network.{inflow, outflow, worth};
 ghost use Rattle.raster_delay.specs.Delays.{IsNear, IsSmall, offset, hold, start, read, keep};
 ghost use Rattle.raster_delay.specs.Systems.{image_count, placed_reads, nodes, coefficient_in};
@@ -25,10 +26,10 @@ fn read_law(system: &System, r: PlacedRead)
 
 // What a system's limits are.
 fn limits(system: &System)
-    ensures row { system.now.stencils.width ≤ 4096 }
-    ensures age { system.now.age ≤ 64 }
+    ensures row { system.now.stencils.width ≤ MAX_SIDE }
+    ensures age { system.now.age ≤ MAX_AGE }
     ensures inputs { system.now.stencils.inputs ≤ image_count system.now }
-    ensures images { image_count system.now ≤ 264 }
+    ensures images { image_count system.now ≤ MAX_KEPT_IMAGES }
 {
     system.law();
 }

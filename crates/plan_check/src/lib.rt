@@ -10,8 +10,6 @@ mod lines;
 mod numbering;
 mod program;
 mod sums;
-#[cfg(test)]
-mod tests;
 mod verdict;
 
 pub use checking::check;

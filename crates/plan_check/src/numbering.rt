@@ -1,6 +1,7 @@
 // At which lines of a report its parts stand.
 
 ghost use Rattle.std.specs.Prelude.{◌≡◌, ◌≤◌, ◌^◌, length};
+ghost use Rattle.dk_base.specs.declared.TheConstants.{MAX_KEPT_IMAGES, MAX_OUTPUTS};
 ghost use Rattle.report_text.specs.Reports.{parts_of};
 ghost use Rattle.plan_check.specs.Numbering.{size_number, clocks_number, bits_number};
 
@@ -16,8 +17,8 @@ pub(crate) fn size_line(report: &Report) -> u64
 
 /// The number of the line of the clocks.
 pub(crate) fn clocks_line(report: &Report) -> u64
-    requires images { length report.now.images.items ≤ 264 }
-    requires latencies { length report.now.latencies.items ≤ 8 }
+    requires images { length report.now.images.items ≤ MAX_KEPT_IMAGES }
+    requires latencies { length report.now.latencies.items ≤ MAX_OUTPUTS }
     ensures value { result ≡ clocks_number (parts_of report.now) }
     ensures most { result ≤ 2 ^ 10 }
 {
@@ -26,8 +27,8 @@ pub(crate) fn clocks_line(report: &Report) -> u64
 
 /// The number of the line of the bits.
 pub(crate) fn bits_line(report: &Report) -> u64
-    requires images { length report.now.images.items ≤ 264 }
-    requires latencies { length report.now.latencies.items ≤ 8 }
+    requires images { length report.now.images.items ≤ MAX_KEPT_IMAGES }
+    requires latencies { length report.now.latencies.items ≤ MAX_OUTPUTS }
     ensures value { result ≡ bits_number (parts_of report.now) }
     ensures most { result ≤ 2 ^ 11 }
 {

@@ -1,6 +1,7 @@
 // Whether the lines of a report are those of a program.
 
 ghost use Rattle.std.specs.Prelude.{◌≡◌, ◌<◌, ◌≤◌, ◌^◌, ℕ, [], length, slice_index_or, All, IsTrue, MatchOption};
+ghost use Rattle.dk_base.specs.declared.TheConstants.{MAX_KEPT_IMAGES, MAX_OUTPUTS};
 ghost use Rattle.dk_base.specs.declared.stencils.Image.{Image};
 ghost use Rattle.pointwise_ir.specs.Programs.{names_of};
 ghost use Rattle.report_text.specs.Reports.{Meets, parts_of};
@@ -92,7 +93,7 @@ pub(crate) fn is_of_counts(system: &System, report: &Report) -> bool
 // The line of the size or of an image, where it is wrong by the program and none before it is.
 fn foreign_image(ir: &Ir, stencils: &Stencils, report: &Report) -> Option<u64>
     requires images { All (λ (i : Image). i.number < length (names_of ir.now)) stencils.now.images }
-    requires limit { length report.now.images.items ≤ 264 }
+    requires limit { length report.now.images.items ≤ MAX_KEPT_IMAGES }
     ensures { MatchOption result (IsOfSize stencils.now (parts_of report.now) × ((k : ℕ) → k < length report.now.images.items → IsNamed (names_of ir.now) stencils.now report.now.images.items k) × IsNative (names_of ir.now) stencils.now (parts_of report.now) (latency_number (parts_of report.now) 0)) (λ line. IsFirstForeign (names_of ir.now) stencils.now (parts_of report.now) line) }
 {
     if !is_of_size(stencils, report) {
@@ -106,8 +107,8 @@ fn foreign_image(ir: &Ir, stencils: &Stencils, report: &Report) -> Option<u64>
 
 // The line at which there are too few images or too many latencies, where none before it is wrong by the program.
 fn foreign_latency(ir: &Ir, stencils: &Stencils, report: &Report) -> Option<u64>
-    requires images { length report.now.images.items ≤ 264 }
-    requires latencies { length report.now.latencies.items ≤ 8 }
+    requires images { length report.now.images.items ≤ MAX_KEPT_IMAGES }
+    requires latencies { length report.now.latencies.items ≤ MAX_OUTPUTS }
     requires native { IsNative (names_of ir.now) stencils.now (parts_of report.now) (latency_number (parts_of report.now) 0) }
     ensures { MatchOption result ((length stencils.now.images ≤ length report.now.images.items) × (length report.now.latencies.items ≤ length stencils.now.outputs) × IsNative (names_of ir.now) stencils.now (parts_of report.now) (clocks_number (parts_of report.now))) (λ line. IsFirstForeign (names_of ir.now) stencils.now (parts_of report.now) line) }
 {
@@ -134,8 +135,8 @@ fn has_reads(stencils: &Stencils, report: &Report) -> bool
 
 // The line of the clocks where there are too few latencies, or of the reads, where it is wrong by the program and none before it is.
 fn foreign_sum(ir: &Ir, stencils: &Stencils, report: &Report) -> Option<u64>
-    requires images { length report.now.images.items ≤ 264 }
-    requires latencies { length report.now.latencies.items ≤ 8 }
+    requires images { length report.now.images.items ≤ MAX_KEPT_IMAGES }
+    requires latencies { length report.now.latencies.items ≤ MAX_OUTPUTS }
     requires enough { length stencils.now.images ≤ length report.now.images.items }
     requires native { IsNative (names_of ir.now) stencils.now (parts_of report.now) (clocks_number (parts_of report.now)) }
     ensures { MatchOption result ((length stencils.now.outputs ≤ length report.now.latencies.items) × ((report.now.version ≡ 1 → ⊥) → report.now.reads ≡ length stencils.now.reads) × ((m : ℕ) → IsNative (names_of ir.now) stencils.now (parts_of report.now) m)) (λ line. IsFirstForeign (names_of ir.now) stencils.now (parts_of report.now) line) }
@@ -152,8 +153,8 @@ fn foreign_sum(ir: &Ir, stencils: &Stencils, report: &Report) -> Option<u64>
 // How many lines of images and latencies there are at most.
 fn most_lines(report: &Report)
     requires { Meets (parts_of report.now) }
-    ensures images { length report.now.images.items ≤ 264 }
-    ensures latencies { length report.now.latencies.items ≤ 8 }
+    ensures images { length report.now.images.items ≤ MAX_KEPT_IMAGES }
+    ensures latencies { length report.now.latencies.items ≤ MAX_OUTPUTS }
 {}
 
 /// The first line that is wrong by the program.

@@ -1,6 +1,7 @@
 // The numbers that follow from the image lines and the latency lines.
 
 ghost use Rattle.std.specs.Prelude.{◌≡◌, ◌≤◌, ◌<◌, ◌^◌, ◌*◌, length, max, sum_by};
+ghost use Rattle.dk_base.specs.declared.TheConstants.{MAX_KEPT_IMAGES};
 ghost use Rattle.dk_base.specs.Stencils.{place};
 ghost use Rattle.plan_check.specs.Holding.{greatest, bits_of_lines};
 
@@ -28,7 +29,7 @@ fn bits_of(image: &ImageLine) -> u128
 
 /// The sum of width times depth.
 pub(crate) fn bits(images: &[ImageLine]) -> u128
-    requires { length images.now ≤ 264 }
+    requires { length images.now ≤ MAX_KEPT_IMAGES }
     ensures { result ≡ bits_of_lines images.now }
 {
     let mut total: u128 = 0;

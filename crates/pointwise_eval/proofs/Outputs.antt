@@ -16,7 +16,7 @@ use Rattle.dk_base.proofs.Rasters.{inside, raster_is}
 use Rattle.pointwise_ir.specs.Programs.{Program, IsProgram, IsPort, types_of}
 use Rattle.pointwise_ir.specs.Meaning.{picture_at}
 use Rattle.pointwise_eval.specs.declared.plane.Plane.{Plane}
-use Rattle.pointwise_eval.specs.declared.frame.Frame.{Frame}
+use Rattle.dk_frames.specs.declared.frame.Frame.{Frame}
 use Rattle.pointwise_eval.specs.Planes.{shown, all_shown, IsWhole, ShowsNeeded, IsOutputPlane}
 use Rattle.pointwise_eval.specs.Rounds.{frame_of}
 use Rattle.pointwise_eval.specs.Needs.{AreNeeds}

@@ -24,7 +24,7 @@ use Rattle.pointwise_ir.proofs.Typed.{type_typed, zero_in, framed_in, value_in}
 use Rattle.pointwise_ir.proofs.Defined.{last_entry, taken_types}
 use Rattle.pointwise_ir.proofs.Pictured.{first_pictures, reads_earlier, picture_of_body, mapped_entry}
 use Rattle.pointwise_eval.specs.declared.plane.Plane.{Plane}
-use Rattle.pointwise_eval.specs.declared.frame.Frame.{Frame}
+use Rattle.dk_frames.specs.declared.frame.Frame.{Frame}
 use Rattle.pointwise_eval.specs.Planes.{shown, all_shown, IsWhole, CanEvaluate, IsPlaneOf, ShowsNeeded}
 use Rattle.pointwise_eval.specs.Rounds.{IsInputFrame, AreFrames, round_of}
 use Rattle.pointwise_eval.specs.Needs.{IsNeeded, AreNeeds}

@@ -7,7 +7,7 @@ use Rattle.dk_base.specs.Frames.{Size, area, Picture, picture_of, raster}
 use Rattle.pointwise_ir.specs.declared.ir.Input.{Input}
 use Rattle.pointwise_ir.specs.Programs.{Program}
 use Rattle.pointwise_ir.specs.Meaning.{picture_at}
-use Rattle.pointwise_eval.specs.declared.frame.Frame.{Frame}
+use Rattle.dk_frames.specs.declared.frame.Frame.{Frame}
 
 -- a frame of this size whose samples are in the range of an input's type
 pub record IsInputFrame (size : Size) (t : Ty) (f : Frame) : Type 0 where

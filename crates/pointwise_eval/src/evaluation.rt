@@ -10,11 +10,11 @@ ghost use Rattle.pointwise_eval.specs.Needs.{AreNeeds};
 ghost use Rattle.pointwise_eval.specs.Planes.{all_shown, IsWhole, CanEvaluate, IsPlaneOf, ShowsNeeded, IsOutputPlane};
 ghost use Rattle.pointwise_eval.specs.Rounds.{AreFrames, round_of, frame_of, output_frames};
 
-use crate::frame::{Frame, Samples};
 use crate::need::needs;
 use crate::plane::Plane;
 use crate::value::render;
 use dk_base::{FrameSize, Memory};
+use dk_frames::{Frame, Samples};
 use pointwise_ir::{Expr, Ir};
 use std::alloc::Global;
 

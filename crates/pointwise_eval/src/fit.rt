@@ -7,8 +7,8 @@ ghost use Rattle.dk_base.specs.Types.{IsType, above};
 ghost use Rattle.pointwise_ir.specs.Programs.{IsPort};
 ghost use Rattle.pointwise_eval.specs.Rounds.{IsInputFrame, AreInputFrames, AreFrames};
 
-use crate::frame::Frame;
 use dk_base::{FrameSize, Ty};
+use dk_frames::Frame;
 use pointwise_ir::{Input, Ir};
 
 // Whether the samples are in the range of the type.

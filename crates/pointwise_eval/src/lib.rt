@@ -3,14 +3,11 @@
 
 mod evaluation;
 mod fit;
-mod frame;
 mod need;
 mod plane;
 mod point;
-#[cfg(test)]
-mod tests;
 mod value;
 
+pub use dk_frames::{Frame, Samples};
 pub use evaluation::evaluate;
 pub use fit::frames_fit;
-pub use frame::{Frame, Samples};

@@ -1,6 +1,7 @@
 -- Programs as images: inputs, and images that are defined by expressions of earlier ones.
 use Rattle.std.specs.Prelude.{◌≡◌, ℕ, ◌+◌, ◌≤◌, List, ◌++◌, Some, length, map, take, slice_get}
 use Rattle.std.specs.List.{All}
+use Rattle.dk_base.specs.declared.TheConstants.{MAX_INPUTS, MAX_OUTPUTS, MAX_KEPT_IMAGES, MAX_INLINED_DEPTH}
 use Rattle.dk_base.specs.declared.ty.Ty.{Ty}
 use Rattle.dk_base.specs.declared.ty.Ty.TheVariants.{Unsigned, Signed}
 use Rattle.dk_base.specs.Frames.{Size, IsFrame}
@@ -53,7 +54,7 @@ pub record IsOutput (types : List Ty) (g : ℕ) : Type 0 where
 -- the body has the image's type, where `earlier` are the types of the images before it, which are the only ones that it reads
 pub record IsDefined (earlier : List Ty) (image : Definition) : Type 0 where
   pub typed : HasType earlier (tree_of image.body) image.ty
-  pub depth : depth_of (tree_of image.body) ≤ 1024
+  pub depth : depth_of (tree_of image.body) ≤ MAX_INLINED_DEPTH
   pub offsets : AreNear (tree_of image.body)
 
 -- each image is defined over the inputs and the images before it
@@ -63,11 +64,11 @@ AreDefined inputs images = (k : ℕ) (image : Definition) → slice_get images k
 pub record IsProgram (p : Program) : Type 0 where
   pub frame : IsFrame p.size.width p.size.height
   pub some_inputs : 1 ≤ length p.inputs
-  pub most_inputs : length p.inputs ≤ 8
+  pub most_inputs : length p.inputs ≤ MAX_INPUTS
   pub inputs : All (λ i. IsPort i.ty) p.inputs
-  pub most_images : length p.inputs + length p.images ≤ 264
+  pub most_images : length p.inputs + length p.images ≤ MAX_KEPT_IMAGES
   pub images : AreDefined p.inputs p.images
   pub some_outputs : 1 ≤ length p.outputs
-  pub most_outputs : length p.outputs ≤ 8
+  pub most_outputs : length p.outputs ≤ MAX_OUTPUTS
   pub distinct : IsDistinct p.outputs
   pub outputs : All (IsOutput (types_of p)) p.outputs

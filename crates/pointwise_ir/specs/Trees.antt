@@ -5,6 +5,7 @@ use Rattle.dk_base.specs.declared.operator.Unary.{Unary}
 use Rattle.dk_base.specs.declared.operator.Binary.{Binary}
 use Rattle.dk_base.specs.declared.operator.Scaling.{Scaling}
 use Rattle.dk_base.specs.declared.operator.Conversion.{Conversion}
+use Rattle.pointwise_ir.specs.declared.TheConstants.{FARTHEST}
 use Rattle.pointwise_ir.specs.declared.expr.Edge.{Edge}
 use Rattle.pointwise_ir.specs.declared.expr.Expr.{Expr}
 use Rattle.pointwise_ir.specs.declared.expr.Expr.TheVariants.{Constant, Read, Shifted', Unary', Binary', Select', Convert', Scale'}
@@ -42,8 +43,8 @@ depth_of (scale op a k) = depth_of a + 1
 
 -- An offset of at most 65,536 to either side. A frame's side is at most 4,096, so that a farther point is outside of every frame, and clamped it is the same as at 65,536.
 pub record IsNear (dx dy : ℤ) : Type 0 where
-  pub across : unsigned_abs dx ≤ 65536
-  pub down : unsigned_abs dy ≤ 65536
+  pub across : unsigned_abs dx ≤ FARTHEST
+  pub down : unsigned_abs dy ≤ FARTHEST
 
 -- each offset is near
 abbrev pub AreNear : Tree → Type 0

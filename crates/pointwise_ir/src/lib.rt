@@ -5,8 +5,6 @@ mod expr;
 mod ir;
 mod laws;
 mod rewrite;
-#[cfg(test)]
-mod tests;
 mod typing;
 mod values;
 
@@ -15,3 +13,6 @@ pub use ir::{Definition, Input, Ir, Parts};
 pub use laws::{meaning_law, rewriting_law};
 pub use rewrite::{Rewrite, run_passes};
 pub use values::{binary_value, conversion_value, scaling_value, select_value, unary_value};
+
+/// The greatest size of an offset in an expression, to either side. Offsets in texts are smaller; those of inlined paths are summed.
+pub const FARTHEST: u32 = 65_536;

@@ -8,14 +8,12 @@ ghost use Rattle.pointwise_ir.specs.Trees.{tree_of, depth_of, IsNear, AreNear};
 ghost use Rattle.pointwise_ir.specs.Typing.{HasType};
 ghost use Rattle.pointwise_ir.specs.Programs.{all_types, IsPort, IsOutput, IsDefined, AreDefined, IsProgram, program_of};
 
+use crate::FARTHEST;
 use crate::expr::Expr;
 use crate::ir::{Definition, Input, Parts};
 use dk_base::{
     MAX_INLINED_DEPTH, MAX_INPUTS, MAX_KEPT_IMAGES, MAX_OUTPUTS, MAX_WIDTH, Ty, select_type,
 };
-
-/// The greatest size of an offset, to either side.
-const FARTHEST: u32 = 65_536;
 
 /// The greatest width of an input's and of an output's type, in bits.
 const MAX_PORT_WIDTH: u8 = 16;

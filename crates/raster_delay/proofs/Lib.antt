@@ -6,3 +6,4 @@ pub mod Lists
 pub mod Within
 pub mod Places
 pub mod Amounts
+pub mod Early

@@ -1,6 +1,7 @@
 -- Delays of the kept images, by their place in order, and the system of constraints on them.
 use Rattle.std.specs.Prelude.{◌≡◌, ℕ, ℤ, pos, neg_ℤ, ◌+◌, ◌-◌, ◌*◌, ◌^◌, ◌<◌, ◌≤◌, ◌+ℤ◌, ◌-ℤ◌, ◌*ℤ◌, ◌≤ℤ◌, ◌==◌, if◌then◌else◌, max, unsigned_abs, List, [], ◌∷◌, ◌++◌, length, map, slice_index, slice_index_or, All, sum_by}
 use Rattle.std.specs.List.{enumerate_from, range_with_len}
+use Rattle.dk_base.specs.declared.TheConstants.{MAX_SIDE, MAX_AGE, MAX_WIDTH, MAX_KEPT_IMAGES, MAX_LIVE_READS}
 use Rattle.raster_delay.specs.Network.{Buffer, constraint_at}
 use Rattle.raster_delay.specs.declared.network.Constraint.{Constraint}
 use Rattle.raster_delay.specs.declared.placed.PlacedRead.{PlacedRead}
@@ -91,14 +92,14 @@ pub record AreReads (row inputs images : ℕ) (reads : List PlacedRead) : Type 0
 
 -- numbers within the limits of programs
 pub record IsForm (row age inputs images : ℕ) (widths : List ℕ) (reads : List PlacedRead) : Type 0 where
-  pub row_limit : row ≤ 4096
-  pub age_limit : age ≤ 64
+  pub row_limit : row ≤ MAX_SIDE
+  pub age_limit : age ≤ MAX_AGE
   pub some_inputs : 1 ≤ inputs
   pub inputs_kept : inputs ≤ images
-  pub image_limit : images ≤ 264
-  pub count : length reads ≤ 4096
+  pub image_limit : images ≤ MAX_KEPT_IMAGES
+  pub count : length reads ≤ MAX_LIVE_READS
   pub one_width_each : length widths ≡ images
-  pub bits : All (λ w. w ≤ 64) widths
+  pub bits : All (λ w. w ≤ MAX_WIDTH) widths
   pub reads_are : AreReads row inputs images reads
 
 -- no constraint leads away from where a later one leads
@@ -106,7 +107,7 @@ abbrev pub NoReturn : List Constraint → Type 0
 NoReturn cs = (i j : ℕ) → i ≤ j → j < length cs → (constraint_at cs i).source ≡ (constraint_at cs j).target → ⊥
 
 abbrev pub IsSmall : Constraint → Type 0
-IsSmall c = (neg_ℤ (pos (2 ^ 24 + 64)) ≤ℤ c.cost) × (c.cost ≤ℤ pos (2 ^ 24 + 64))
+IsSmall c = (neg_ℤ (pos (2 ^ 24 + MAX_AGE)) ≤ℤ c.cost) × (c.cost ≤ℤ pos (2 ^ 24 + MAX_AGE))
 
 -- constraints between nodes below n, few and of small costs, that can be kept in one pass
 pub record AreBounded (n : ℕ) (cs : List Constraint) : Type 0 where

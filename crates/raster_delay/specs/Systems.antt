@@ -1,5 +1,6 @@
 -- What the definitions on delays say of a system, which is some stencils with the age that is asked of each read.
 use Rattle.std.specs.Prelude.{◌≡◌, ℕ, ℤ, ◌≤◌, List, length}
+use Rattle.dk_base.specs.declared.TheConstants.{MAX_AGE}
 use Rattle.dk_base.specs.Stencils.{Parts as Stencils, IsStencils}
 use Rattle.raster_delay.specs.Placing.{widths_of, reads_of}
 use Rattle.raster_delay.specs.Network.{IsFlow, Buffer, worth, coefficient}
@@ -13,7 +14,7 @@ pub record Parts : Type 0 where
 
 pub record IsSystem (s : Parts) : Type 0 where
   pub stencils : IsStencils s.stencils
-  pub age_limit : s.age ≤ 64
+  pub age_limit : s.age ≤ MAX_AGE
 
 -- how many images are kept
 abbrev pub image_count : Parts → ℕ

@@ -1,6 +1,7 @@
 // The constraints of a system, in the order of their kinds.
 
 ghost use Rattle.std.specs.Prelude.{◌≡◌, ◌≤◌, ◌<◌, ◌^◌, ◌++◌, IfOk, OnOk, map};
+ghost use Rattle.dk_base.specs.declared.TheConstants.{MAX_SIDE};
 ghost use Rattle.raster_delay.specs.Delays.{AreReads, IsNear, offset, begin_of, end_of, hold, start, read, keep, holds_of, starts_of, constraints_of};
 
 use crate::network::Constraint;
@@ -42,7 +43,7 @@ fn hold_constraint(inputs: usize, images: usize, k: usize) -> Constraint
 
 // A read's age is at least so much.
 fn read_constraint(row: u32, age: u8, inputs: usize, r: PlacedRead) -> Constraint
-    requires row { row ≤ 4096 }
+    requires row { row ≤ MAX_SIDE }
     requires near { IsNear (offset row r) }
     requires reader { r.f < 2 ^ 32 }
     requires earlier { r.g < 2 ^ 32 }
@@ -58,7 +59,7 @@ fn read_constraint(row: u32, age: u8, inputs: usize, r: PlacedRead) -> Constrain
 
 // A read's age is at most the depth of what is read.
 fn keep_constraint(row: u32, inputs: usize, images: usize, r: PlacedRead) -> Constraint
-    requires row { row ≤ 4096 }
+    requires row { row ≤ MAX_SIDE }
     requires near { IsNear (offset row r) }
     requires inputs { inputs ≤ images }
     requires images { images < 2 ^ 32 }
@@ -108,7 +109,7 @@ fn add_reads(
     images: usize,
     reads: &[PlacedRead],
 ) -> Result<(), Memory>
-    requires row { row ≤ 4096 }
+    requires row { row ≤ MAX_SIDE }
     requires images { images < 2 ^ 32 }
     requires reads { AreReads row inputs images reads.now }
     ensures { OnOk result (all.new.items ≡ all.old.items ++ map (read row age inputs) reads.now) }
@@ -126,7 +127,7 @@ fn add_keeps(
     images: usize,
     reads: &[PlacedRead],
 ) -> Result<(), Memory>
-    requires row { row ≤ 4096 }
+    requires row { row ≤ MAX_SIDE }
     requires inputs { inputs ≤ images }
     requires images { images < 2 ^ 32 }
     requires reads { AreReads row inputs images reads.now }
@@ -147,7 +148,7 @@ pub fn constraints(
     images: usize,
     reads: &[PlacedRead],
 ) -> Result<Vec<Constraint>, Memory>
-    requires row { row ≤ 4096 }
+    requires row { row ≤ MAX_SIDE }
     requires inputs { inputs ≤ images }
     requires images { images < 2 ^ 32 }
     requires reads { AreReads row inputs images reads.now }

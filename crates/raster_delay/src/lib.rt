@@ -8,8 +8,6 @@ mod network;
 mod numbers;
 mod placed;
 mod system;
-#[cfg(test)]
-mod tests;
 
 pub use build::{begin_node, end_node};
 pub use laws::{flow_shows_least, weak_duality};

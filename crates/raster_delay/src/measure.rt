@@ -1,6 +1,7 @@
 // Whether delays are causal, and the bits that they need.
 
 ghost use Rattle.std.specs.Prelude.{◌≡◌, ◌≢◌, max, ◌≤◌, ◌<◌, ◌^◌, ◌↔◌, ◌==◌, if◌then◌else◌, ℕ, pos, ◌≤ℤ◌, IsTrue, unsigned_abs, length, slice_index, All};
+ghost use Rattle.dk_base.specs.declared.TheConstants.{MAX_SIDE, MAX_KEPT_IMAGES};
 ghost use Rattle.raster_delay.specs.Network.{coefficient};
 ghost use Rattle.raster_delay.specs.Delays.{IsNear, AreReads, AreNear, offset, age_of, depth_of, bits_of, buffers_of};
 ghost use Rattle.raster_delay.specs.Placing.{widths_of};
@@ -13,7 +14,7 @@ use dk_base::Image;
 
 // How old a read is: negative where the pixel that is read comes later.
 fn age(row: u32, delays: &[u64], r: PlacedRead) -> i128
-    requires row { row ≤ 4096 }
+    requires row { row ≤ MAX_SIDE }
     requires near { IsNear (offset row r) }
     requires reader { r.f < length delays.now }
     requires earlier { r.g < length delays.now }
@@ -24,7 +25,7 @@ fn age(row: u32, delays: &[u64], r: PlacedRead) -> i128
 
 // Whether a read is at least so old.
 fn is_due(row: u32, least: u8, delays: &[u64], r: PlacedRead) -> bool
-    requires row { row ≤ 4096 }
+    requires row { row ≤ MAX_SIDE }
     requires near { IsNear (offset row r) }
     requires reader { r.f < length delays.now }
     requires earlier { r.g < length delays.now }
@@ -35,7 +36,7 @@ fn is_due(row: u32, least: u8, delays: &[u64], r: PlacedRead) -> bool
 
 /// How old a read is, in clocks, where it is of no pixel that comes later. A frame has `row` columns.
 pub fn age_held(row: u32, delays: &[u64], r: PlacedRead) -> u64
-    requires row { row ≤ 4096 }
+    requires row { row ≤ MAX_SIDE }
     requires near { IsNear (offset row r) }
     requires reader { r.f < length delays.now }
     requires earlier { r.g < length delays.now }
@@ -63,7 +64,7 @@ fn are_at_once(delays: &[u64], inputs: usize) -> bool
 
 // Whether each read is at least so old.
 fn are_due(row: u32, least: u8, inputs: usize, delays: &[u64], reads: &[PlacedRead]) -> bool
-    requires row { row ≤ 4096 }
+    requires row { row ≤ MAX_SIDE }
     requires reads { AreReads row inputs (length delays.now) reads.now }
     ensures yes { IsTrue result → All (λ r. pos least ≤ℤ age_of row delays.now r) reads.now }
     ensures no { All (λ r. pos least ≤ℤ age_of row delays.now r) reads.now → IsTrue result }
@@ -98,7 +99,7 @@ pub fn causal(system: &System, delays: &[u64]) -> bool
 
 // The greatest of an age and of a read's age, where the read is of the image at place `g`.
 fn deeper(row: u32, delays: &[u64], r: PlacedRead, g: usize, greatest: u64) -> u64
-    requires row { row ≤ 4096 }
+    requires row { row ≤ MAX_SIDE }
     requires near { IsNear (offset row r) }
     requires reader { r.f < length delays.now }
     requires earlier { r.g < length delays.now }
@@ -117,7 +118,7 @@ fn deeper(row: u32, delays: &[u64], r: PlacedRead, g: usize, greatest: u64) -> u
 
 // The greatest age of a read of the image at place `g`, 0 without any.
 fn depth_among(row: u32, inputs: usize, delays: &[u64], reads: &[PlacedRead], g: usize) -> u64
-    requires row { row ≤ 4096 }
+    requires row { row ≤ MAX_SIDE }
     requires reads { AreReads row inputs (length delays.now) reads.now }
     requires small { AreNear delays.now }
     requires due { All (λ r. pos 0 ≤ℤ age_of row delays.now r) reads.now }
@@ -175,7 +176,7 @@ fn amount(at: usize, width: u8, node: usize) -> i64
 // The widths of the images that end at a node, less those of the images that begin there.
 pub fn coefficient(inputs: usize, images: &[Image], node: usize) -> i64
     requires inputs { inputs ≤ length images.now }
-    requires images { length images.now ≤ 264 }
+    requires images { length images.now ≤ MAX_KEPT_IMAGES }
     ensures { result ≡ coefficient (buffers_of inputs (length images.now) (widths_of images.now)) node }
 {
     let mut sum: i64 = 0;

@@ -2,7 +2,7 @@
 
 ghost use Rattle.std.specs.Prelude.{◌≡◌, ◌≢◌, ◌≤◌, ◌<◌, ◌+◌, ◌^◌, ◌+ℤ◌, ◌≤ℤ◌, ℕ, pos, List, length, slice_index, All, IfOk};
 ghost use Rattle.raster_delay.specs.Network.{Holds, constraint_at};
-ghost use Rattle.raster_delay.specs.Delays.{IsSmall, AreBounded, begin_of, end_of};
+ghost use Rattle.raster_delay.specs.Delays.{IsSmall, AreBounded, AreNear, begin_of, end_of};
 ghost use Rattle.raster_delay.specs.Systems.{IsCausal, constraints_in, image_count, nodes};
 
 use crate::build::{begin_node, end_node};
@@ -106,6 +106,7 @@ pub fn end_numbers(alloc: Global, system: &System, numbers: &[u64]) -> Result<Ve
 pub fn earliest(alloc: Global, system: &System) -> Result<Vec<u64>, Memory>
     ensures causal { IfOk result (λ delays. IsCausal system.now delays.items) }
     ensures least { IfOk result (λ delays. (d : List ℕ) → IsCausal system.now d → (k : ℕ) → slice_index delays.items k ≤ slice_index d k) }
+    ensures near { IfOk result (λ delays. AreNear delays.items) }
 {
     system.law();
     let numbers = earliest_numbers(alloc, system)?;

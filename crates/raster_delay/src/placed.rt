@@ -1,6 +1,7 @@
 // Live reads by the places of their images among the kept ones.
 
 ghost use Rattle.std.specs.Prelude.{◌≡◌, ◌≤◌, IfOk, All};
+ghost use Rattle.dk_base.specs.declared.TheConstants.{MAX_SIDE};
 ghost use Rattle.dk_base.specs.Stencils.{IsKept, place};
 ghost use Rattle.raster_delay.specs.Delays.{offset};
 ghost use Rattle.raster_delay.specs.Placing.{reads_of};
@@ -53,7 +54,7 @@ pub fn placed_reads(
 
 /// How much later in raster order the pixel that is read stands, in a frame with `row` columns.
 pub fn offset(row: u32, r: PlacedRead) -> i64
-    requires row { row ≤ 4096 }
+    requires row { row ≤ MAX_SIDE }
     ensures { result ≡ offset row r }
 {
     i64::from(r.dy) * i64::from(row) + i64::from(r.dx)

@@ -37,6 +37,7 @@ impl Model for System {
 
 impl System {
     ghost use Rattle.std.specs.Prelude.{◌≡◌, ◌≤◌, ◌<◌, IfOk, All, map};
+    ghost use Rattle.dk_base.specs.declared.TheConstants.{MAX_AGE};
     ghost use Rattle.raster_delay.specs.Delays.{holds_of, read, keep, begin_count, AreBounded};
     ghost use Rattle.raster_delay.specs.Systems.{IsSystem, image_count, placed_reads, constraints_in, nodes, coefficient_in};
 
@@ -49,7 +50,7 @@ impl System {
 
     /// The system of these stencils, in which each age is at least `age` clocks.
     pub fn aged(alloc: Global, stencils: &Stencils, age: u8) -> Result<System, Memory>
-        requires { age ≤ 64 }
+        requires { age ≤ MAX_AGE }
         ensures { IfOk result (λ s. s ≡ record { stencils = stencils.now; age = age }) }
     {
         stencils.law();

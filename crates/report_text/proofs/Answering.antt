@@ -7,7 +7,8 @@ use Rattle.std.proofs.lemmas.Bool.Decides.{Decides-eqb}
 use Rattle.std.proofs.lemmas.Slice.Eq.{strip_prefix_is}
 use denote.Ref.{Bor}
 use Rattle.report_text.proofs.Fields.{strip_again}
-use Rattle.report_text.specs.Reading.{strip, numeral, value_of, is_canonical}
+use Rattle.dk_base.specs.Ascii.{value_of}
+use Rattle.report_text.specs.Reading.{strip, numeral, is_canonical}
 
 -- words
 strip_none : (word bytes : List ℕ) → ((rest : List ℕ) → bytes ≢ word ++ rest) → strip word bytes ≡ None

@@ -7,7 +7,7 @@ use Rattle.std.proofs.lemmas.Bool.{eqb-true, ne_eqb}
 use Rattle.report_text.specs.declared.report.ImageLine.{ImageLine}
 use Rattle.report_text.specs.declared.report.FlowLine.{FlowLine}
 use Rattle.report_text.specs.declared.report.FlowLine.TheVariants.{Hold, Start, Read, Keep}
-use Rattle.report_text.specs.Names.{is_digit, is_word_byte}
+use Rattle.dk_base.specs.Ascii.{is_digit, is_word_byte}
 use Rattle.report_text.specs.Reports.{Parts, Meets, IsImageLine, IsOffset, IsAmount, IsFlowLine}
 use Rattle.report_text.specs.Layout.{number_line, pair_line, plan_line, limits_line, age_line, image_line, latency_line, reads_line, name_at, held, carried, flow_line, end_line, head_lines, unless_first, lines, joined}
 use Rattle.report_text.specs.Texts.{onto_first, cut}

@@ -6,9 +6,10 @@ use Rattle.std.proofs.lemmas.Bool.{eqb-true, eq-eqb, ne_eqb, ltb-true, lt-ltb, a
 use Rattle.std.proofs.lemmas.List.{take-append-drop, take_at, drop_at}
 use Rattle.std.proofs.lemmas.Str.Parse.{IsNumeralModel, numerals_by_fold}
 use Rattle.std.proofs.lemmas.Fmt.{digits_decimal, digits_value-decimal, decimal-digits_value, decimal_nonempty, first_decimal, decimal_digit}
-use Rattle.report_text.specs.Names.{is_digit}
+use Rattle.dk_base.specs.Ascii.{is_digit}
 use Rattle.report_text.specs.Layout.{number_line, pair_line}
-use Rattle.report_text.specs.Reading.{◌>>=◌, strip, is_end, value_of, value_after, is_canonical, numeral, number_at, number_line_at, pair_line_at}
+use Rattle.dk_base.specs.Ascii.{value_of, value_after}
+use Rattle.report_text.specs.Reading.{◌>>=◌, strip, is_end, is_canonical, numeral, number_at, number_line_at, pair_line_at}
 use Rattle.report_text.proofs.Options.{some_same, bind_some, if_some}
 
 -- words

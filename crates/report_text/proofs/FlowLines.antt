@@ -7,7 +7,7 @@ use Rattle.std.proofs.lemmas.Bool.{ltb-true, lt-ltb}
 use Rattle.report_text.specs.declared.report.ImageLine.{ImageLine}
 use Rattle.report_text.specs.declared.report.FlowLine.{FlowLine}
 use Rattle.report_text.specs.declared.report.FlowLine.TheVariants.{Hold, Start, Read, Keep}
-use Rattle.report_text.specs.Names.{is_word_byte}
+use Rattle.dk_base.specs.Ascii.{is_word_byte}
 use Rattle.report_text.specs.Layout.{name_at, number_line, held, carried, flow_line}
 use Rattle.report_text.specs.Reports.{AreDistinct, names_of, IsImageLine, IsOffset, IsAmount, IsFlowLine}
 use Rattle.report_text.specs.Reading.{◌>>=◌, strip, number_line_at, word_at, find, offset_at, amount_at, held_at, carried_at, flow_at}

@@ -5,7 +5,7 @@ use Rattle.std.specs.Fmt.{signed_decimal}
 use Rattle.std.proofs.lemmas.Bool.{ne_eqb, ltb-false, le-ltb, or_parts}
 use Rattle.std.proofs.lemmas.Int.{ints}
 use Rattle.std.proofs.lemmas.Fmt.{decimal_nonempty}
-use Rattle.report_text.specs.Names.{is_digit}
+use Rattle.dk_base.specs.Ascii.{is_digit}
 use Rattle.report_text.specs.Reports.{IsOffset}
 use Rattle.report_text.specs.Reading.{strip, number_at, unsigned_at, negative_at, offset_by, offset_at}
 use Rattle.report_text.proofs.Options.{bind_some, unless_some}

@@ -6,7 +6,8 @@ use Rattle.std.proofs.lemmas.Bool.{eqb-true, eq-eqb, ltb-true, lt-ltb, and_parts
 use Rattle.std.proofs.lemmas.List.{take-append-drop, take_at, drop_at, take_all, get_or-map, length-map}
 use Rattle.std.proofs.lemmas.List.Sums.{passes_at_first, position_or_len_is}
 use Rattle.report_text.specs.declared.report.ImageLine.{ImageLine}
-use Rattle.report_text.specs.Names.{is_letter, is_word, is_word_byte, is_name, same_codes}
+use Rattle.dk_base.specs.Ascii.{is_letter, is_word_byte}
+use Rattle.report_text.specs.Names.{is_word, is_name, same_codes}
 use Rattle.report_text.specs.Layout.{name_at}
 use Rattle.report_text.specs.Reports.{AreDistinct, names_of}
 use Rattle.report_text.specs.Reading.{word_at, place_of, find}

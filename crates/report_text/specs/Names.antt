@@ -1,15 +1,7 @@
 -- Names of the source language.
 use Rattle.std.specs.Prelude.{ℕ, ◌+◌, ◌*◌, ◌-◌, List, [], ◌∷◌, length, Bool, true, false, ◌&&◌, ◌||◌, not, nat_lt, nat_eq, codes}
 use Rattle.std.specs.List.{prefix_len}
-
-abbrev pub is_letter : ℕ → Bool
-is_letter b = (nat_lt 64 b && nat_lt b 91) || (nat_lt 96 b && nat_lt b 123) || nat_eq b 95
-
-abbrev pub is_digit : ℕ → Bool
-is_digit b = nat_lt 47 b && nat_lt b 58
-
-abbrev pub is_word_byte : ℕ → Bool
-is_word_byte b = is_letter b || is_digit b
+use Rattle.dk_base.specs.Ascii.{is_letter, is_word_byte}
 
 -- a letter or `_`, followed by letters, digits or `_`
 abbrev pub is_word : List ℕ → Bool

@@ -1,12 +1,15 @@
 -- How a report's text is read, as functions on bytes.
-use Rattle.std.specs.Prelude.{ℕ, ℤ, pos, neg_ℤ, suc, ◌+◌, ◌*◌, ◌-◌, ◌^◌, List, [], ◌∷◌, ◌++◌, length, take, drop, codes, Option, Some, None, Result, Ok, Err, Bool, true, false, ◌&&◌, ◌||◌, not, nat_lt, nat_eq, if◌then◌else◌}
+use Rattle.std.specs.Prelude.{ℕ, ℤ, pos, neg_ℤ, suc, ◌-◌, ◌^◌, List, [], ◌∷◌, ◌++◌, length, take, drop, codes, Option, Some, None, Result, Ok, Err, Bool, true, false, ◌&&◌, ◌||◌, not, nat_lt, nat_eq, if◌then◌else◌}
 use Rattle.std.specs.List.{prefix_len, position_or_len}
+use Rattle.dk_base.specs.declared.TheConstants.{MAX_SIDE, MAX_AGE, MAX_WIDTH}
 use Rattle.report_text.specs.declared.report.ImageLine.{ImageLine}
 use Rattle.report_text.specs.declared.report.FlowLine.{FlowLine}
 use Rattle.report_text.specs.declared.report.FlowLine.TheVariants.{Hold, Start as StartFlow, Read, Keep}
 use Rattle.report_text.specs.declared.step.Stage.{Stage}
 use Rattle.report_text.specs.declared.step.Stage.TheVariants.{Start, Plan, Limits, Age, Size, Images, Latencies, Clocks, Bits, Reads, Flow, End}
-use Rattle.report_text.specs.Names.{is_digit, is_word_byte, is_name, same_codes}
+use Rattle.dk_base.specs.Ascii.{is_digit, is_word_byte}
+use Rattle.report_text.specs.Names.{is_name, same_codes}
+use Rattle.dk_base.specs.Ascii.{value_of}
 use Rattle.report_text.specs.Reports.{Parts, is_before, most_images, most_latencies}
 
 infixl 10 ◌>>=◌
@@ -31,14 +34,6 @@ is_end [] = false
 is_end (b ∷ []) = nat_eq b 10
 is_end (b ∷ c ∷ bytes) = false
 
--- the number of decimal digits, read after a number
-abbrev pub value_after : ℕ → List ℕ → ℕ
-value_after v [] = v
-value_after v (d ∷ ds) = value_after (10 * v + (d - 48)) ds
-
-abbrev pub value_of : List ℕ → ℕ
-value_of digits = value_after 0 digits
-
 -- some digits, the first of several not 0
 abbrev pub is_canonical : List ℕ → Bool
 is_canonical [] = false
@@ -55,16 +50,16 @@ number_at bytes = do
   v ← numeral (take (prefix_len is_digit bytes) bytes)
   Some (v, drop (prefix_len is_digit bytes) bytes)
 
--- an offset of at most 4,095, and no -0
+-- an offset within a row or a column of the greatest frame, and no -0
 abbrev pub unsigned_at : List ℕ → Option (ℤ × List ℕ)
 unsigned_at bytes = do
   n ← number_at bytes
-  if nat_lt 4095 n.0 then None else Some (pos n.0, n.1)
+  if nat_lt (MAX_SIDE - 1) n.0 then None else Some (pos n.0, n.1)
 
 abbrev pub negative_at : List ℕ → Option (ℤ × List ℕ)
 negative_at bytes = do
   n ← number_at bytes
-  if nat_eq n.0 0 || nat_lt 4095 n.0 then None else Some (neg_ℤ (pos n.0), n.1)
+  if nat_eq n.0 0 || nat_lt (MAX_SIDE - 1) n.0 then None else Some (neg_ℤ (pos n.0), n.1)
 
 abbrev pub offset_by : Option (List ℕ) → List ℕ → Option (ℤ × List ℕ)
 offset_by None bytes = unsigned_at bytes
@@ -101,7 +96,7 @@ image_at line = do
   after ← strip (codes " ") (word_at rest).1
   bits ← number_at after
   rows ← pair_line_at (codes " ") bits.1
-  if is_name (word_at rest).0 && within 64 bits.0 then Some (record { name = (word_at rest).0; width = bits.0; delay = rows.0; depth = rows.1 }) else None
+  if is_name (word_at rest).0 && within MAX_WIDTH bits.0 then Some (record { name = (word_at rest).0; width = bits.0; delay = rows.0; depth = rows.1 }) else None
 
 -- the place of the image line of this name
 abbrev pub place_of : List ImageLine → List ℕ → ℕ
@@ -152,7 +147,7 @@ follows (a ∷ b ∷ more) x = follows (b ∷ more) x
 abbrev pub sized : Parts → List ℕ → Option (Stage × Parts)
 sized r line = do
   x ← pair_line_at (codes "size ") line
-  if within 4096 x.0 && within 4096 x.1 then Some (Size, record r { width = x.0; height = x.1 }) else None
+  if within MAX_SIDE x.0 && within MAX_SIDE x.1 then Some (Size, record r { width = x.0; height = x.1 }) else None
 
 abbrev pub imaged : Parts → List ℕ → Option (Stage × Parts)
 imaged r line = do
@@ -180,7 +175,7 @@ planned r line = do
 abbrev pub aged : Parts → List ℕ → Option (Stage × Parts)
 aged r line = do
   n ← number_line_at (codes "age ") line
-  if nat_lt 64 n then None else Some (Age, record r { age = n })
+  if nat_lt MAX_AGE n then None else Some (Age, record r { age = n })
 
 abbrev pub counted : Parts → List ℕ → Option (Stage × Parts)
 counted r line = do

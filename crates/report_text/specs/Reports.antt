@@ -1,7 +1,8 @@
 -- What a report says, and what its values keep.
-use Rattle.std.specs.Prelude.{◌≡◌, ◌≢◌, ℕ, ℤ, pos, neg_ℤ, ◌^◌, ◌<◌, ◌≤◌, ◌≤ℤ◌, Bool, true, false, ◌&&◌, ◌||◌, nat_lt, nat_eq, int_lt, if◌then◌else◌, List, [], ◌∷◌, length, map, slice_index_or}
+use Rattle.std.specs.Prelude.{◌≡◌, ◌≢◌, ℕ, ℤ, pos, neg_ℤ, ◌+◌, ◌-◌, ◌^◌, ◌<◌, ◌≤◌, ◌≤ℤ◌, Bool, true, false, ◌&&◌, ◌||◌, nat_lt, nat_eq, int_lt, if◌then◌else◌, List, [], ◌∷◌, length, map, slice_index_or, All}
 use Rattle.std.specs.List.{AllByRecursion}
 use Rattle.std.specs.Ordering.{int_eq}
+use Rattle.dk_base.specs.declared.TheConstants.{MAX_SIDE, MAX_AGE, MAX_WIDTH, MAX_DEFINITIONS, MAX_KEPT_IMAGES, MAX_OUTPUTS}
 use Rattle.report_text.specs.declared.report.ImageLine.{ImageLine}
 use Rattle.report_text.specs.declared.report.FlowLine.{FlowLine}
 use Rattle.report_text.specs.declared.report.FlowLine.TheVariants.{Hold, Start, Read, Keep}
@@ -33,18 +34,24 @@ names_of images = map (λ i. i.name) images
 abbrev pub AreDistinct : List (List ℕ) → Type 0
 AreDistinct names = (i j : ℕ) → i < j → j < length names → slice_index_or names i [] ≢ slice_index_or names j []
 
+-- what the names of a program's images keep: each is one of the source language, no two are the same, and at most 256 are no inputs
+pub record AreNames (inputs : ℕ) (names : List (List ℕ)) : Type 0 where
+  pub each : All (λ name. is_name name ≡ true) names
+  pub distinct : AreDistinct names
+  pub few : length names ≤ inputs + MAX_DEFINITIONS
+
 -- the values of an image line
 pub record IsImageLine (i : ImageLine) : Type 0 where
   pub name : is_name i.name ≡ true
   pub some_bits : 1 ≤ i.width
-  pub most_bits : i.width ≤ 64
+  pub most_bits : i.width ≤ MAX_WIDTH
   pub delay : i.delay < 2 ^ 64
   pub depth : i.depth < 2 ^ 64
 
--- an offset of at most 4,095 to either side
+-- an offset that stays within a row or a column of the greatest frame
 pub record IsOffset (z : ℤ) : Type 0 where
-  pub low : neg_ℤ (pos 4095) ≤ℤ z
-  pub high : z ≤ℤ pos 4095
+  pub low : neg_ℤ (pos (MAX_SIDE - 1)) ≤ℤ z
+  pub high : z ≤ℤ pos (MAX_SIDE - 1)
 
 -- a flow of at least 1
 pub record IsAmount (n : ℕ) : Type 0 where
@@ -88,12 +95,12 @@ Ascend [] = Unit {0}
 Ascend (a ∷ []) = Unit {0}
 Ascend (a ∷ b ∷ more) = (is_before a b ≡ true) × Ascend (b ∷ more)
 
--- a report of version 3 is for any number of inputs and outputs
+-- a report of version 3 is for any number of inputs and outputs, and the others are for one of each
 abbrev pub most_images : (version : ℕ) → ℕ
-most_images version = if nat_eq version 3 then 264 else 257
+most_images version = if nat_eq version 3 then MAX_KEPT_IMAGES else MAX_DEFINITIONS + 1
 
 abbrev pub most_latencies : (version : ℕ) → ℕ
-most_latencies version = if nat_eq version 3 then 8 else 1
+most_latencies version = if nat_eq version 3 then MAX_OUTPUTS else 1
 
 -- what version 1 lacks
 pub record IsBare (r : Parts) : Type 0 where
@@ -109,11 +116,11 @@ pub record Meets (r : Parts) : Type 0 where
   pub bare : r.version ≡ 1 → IsBare r
   pub bits_limit : r.bits_limit < 2 ^ 64
   pub latency_limit : r.latency_limit < 2 ^ 64
-  pub age : r.age ≤ 64
+  pub age : r.age ≤ MAX_AGE
   pub some_columns : 1 ≤ r.width
-  pub most_columns : r.width ≤ 4096
+  pub most_columns : r.width ≤ MAX_SIDE
   pub some_rows : 1 ≤ r.height
-  pub most_rows : r.height ≤ 4096
+  pub most_rows : r.height ≤ MAX_SIDE
   pub some_images : 1 ≤ length r.images
   pub image_limit : length r.images ≤ most_images r.version
   pub images : AllByRecursion IsImageLine r.images

@@ -2,16 +2,18 @@
 
 ghost use Rattle.std.specs.Prelude.{◌≡◌, ◌≤◌, ◌+◌, ◌*◌, ◌-◌, ◌^◌, Some, None, MatchOption, IfOk, length, codes, position};
 ghost use Rattle.std.specs.List.{prefix_len};
-ghost use Rattle.report_text.specs.Names.{is_digit as digit, same_codes};
-ghost use Rattle.report_text.specs.Reading.{strip as strip_of, is_end as end, value_of, is_canonical as canonical, numeral as numeral_of, number_at as number_of, offset_at as offset_of, unsigned_at, negative_at, word_at as word_of, number_line_at, pair_line_at, image_at, find as find_of, amount_at};
+ghost use Rattle.dk_base.specs.Ascii.{is_digit as digit};
+ghost use Rattle.report_text.specs.Names.{same_codes};
+ghost use Rattle.dk_base.specs.Ascii.{value_of};
+ghost use Rattle.report_text.specs.Reading.{strip as strip_of, is_end as end, is_canonical as canonical, numeral as numeral_of, number_at as number_of, offset_at as offset_of, unsigned_at, negative_at, word_at as word_of, number_line_at, pair_line_at, image_at, find as find_of, amount_at};
 
 use crate::report::ImageLine;
-use crate::word::{is_digit, is_name, same, word_length};
-use dk_base::{Memory, Text};
+use crate::word::{is_name, same};
+use dk_base::{MAX_SIDE, Memory, Text, digits_length, word_length};
 use std::alloc::Global;
 
 /// The greatest size of an offset, to either side.
-const MAX_OFFSET: u64 = 4_095;
+const MAX_OFFSET: u64 = MAX_SIDE as u64 - 1;
 
 /// The bytes behind a word.
 pub(crate) fn strip<'a>(word: &[u8], bytes: &'a [u8]) -> Option<&'a [u8]>
@@ -28,13 +30,6 @@ fn is_end(bytes: &[u8]) -> bool
         [last] => *last == b'\n',
         _ => false,
     }
-}
-
-fn digits_length(bytes: &[u8]) -> usize
-    ensures is { result ≡ prefix_len digit bytes.now }
-    ensures within { result ≤ length bytes.now }
-{
-    bytes.iter().take_while(|byte| is_digit(**byte)).count()
 }
 
 /// A number with one digit more, unless it passes 64 bits.

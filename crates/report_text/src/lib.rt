@@ -7,8 +7,6 @@ mod reading;
 mod reading_laws;
 mod report;
 mod step;
-#[cfg(test)]
-mod tests;
 mod word;
 mod writing;
 

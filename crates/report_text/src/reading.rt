@@ -13,10 +13,12 @@ use crate::step::{Stage, step};
 use std::alloc::Global;
 
 /// Why a text gives no report.
-#[derive(Clone, Copy, Debug, PartialEq, Eq)]
+#[derive(Clone, Copy, Debug, PartialEq, Eq, thiserror::Error)]
 pub enum ReportFault {
     /// The first line that continues no report, counted from 1. Where the text ends too early, the line that is missing or that has no LF.
+    #[error("line {number}")]
     Line { number: u64 },
+    #[error("out of memory")]
     Memory,
 }
 

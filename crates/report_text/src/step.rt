@@ -9,7 +9,7 @@ use crate::field::{find, image_parts, number_line, owned, pair_line};
 use crate::flow::{flow_line, may_follow};
 use crate::report::Report;
 use crate::word::same;
-use dk_base::{MAX_AGE, MAX_SIDE, Memory};
+use dk_base::{MAX_AGE, MAX_DEFINITIONS, MAX_KEPT_IMAGES, MAX_OUTPUTS, MAX_SIDE, Memory};
 use std::alloc::Global;
 
 /// The greatest width and the greatest height of a frame.
@@ -80,13 +80,17 @@ fn size(report: &mut Report, line: &[u8]) -> Option<Stage>
 fn most_images(version: u8) -> usize
     ensures { result ≡ images_for version }
 {
-    if version == 3 { 264 } else { 257 }
+    if version == 3 {
+        MAX_KEPT_IMAGES
+    } else {
+        MAX_DEFINITIONS + 1
+    }
 }
 
 fn most_latencies(version: u8) -> usize
     ensures { result ≡ latencies_for version }
 {
-    if version == 3 { 8 } else { 1 }
+    if version == 3 { MAX_OUTPUTS } else { 1 }
 }
 
 fn image(alloc: Global, report: &mut Report, line: &[u8]) -> Result<Option<Stage>, Memory>

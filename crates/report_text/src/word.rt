@@ -2,33 +2,10 @@
 
 ghost use Rattle.std.specs.Prelude.{◌≡◌, ◌≤◌, length};
 ghost use Rattle.std.specs.List.{prefix_len};
-ghost use Rattle.report_text.specs.Names.{is_letter as letter, is_digit as digit, is_word_byte as word_byte, is_word as word, same_codes, is_among, first_words, last_words, is_width as width, is_type_word as type_word, is_name as name};
+ghost use Rattle.dk_base.specs.Ascii.{is_letter as letter, is_digit as digit, is_word_byte as word_byte};
+ghost use Rattle.report_text.specs.Names.{is_word as word, same_codes, is_among, first_words, last_words, is_width as width, is_type_word as type_word, is_name as name};
 
-fn is_letter(byte: u8) -> bool
-    ensures { result ≡ letter byte }
-{
-    byte.is_ascii_alphabetic() || byte == b'_'
-}
-
-pub(crate) fn is_digit(byte: u8) -> bool
-    ensures { result ≡ digit byte }
-{
-    byte.is_ascii_digit()
-}
-
-fn is_word_byte(byte: u8) -> bool
-    ensures { result ≡ word_byte byte }
-{
-    is_letter(byte) || is_digit(byte)
-}
-
-/// How many letters, digits and `_` stand at the front.
-pub(crate) fn word_length(bytes: &[u8]) -> usize
-    ensures is { result ≡ prefix_len word_byte bytes.now }
-    ensures within { result ≤ length bytes.now }
-{
-    bytes.iter().take_while(|byte| is_word_byte(**byte)).count()
-}
+use dk_base::{is_letter, word_length};
 
 fn is_word(bytes: &[u8]) -> bool
     ensures { result ≡ word bytes.now }

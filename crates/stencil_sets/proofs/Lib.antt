@@ -1,4 +1,3 @@
-pub mod Chains
 pub mod Walked
 pub mod Ordered
 pub mod Rows

@@ -6,7 +6,7 @@ use Rattle.std.proofs.lemmas.List.{length-append}
 use Rattle.dk_base.specs.declared.stencils.LiveRead.{LiveRead}
 use Rattle.dk_base.specs.Stencils.{IsBefore, AreInOrder}
 use Rattle.stencil_sets.specs.Found.{IsThe, Has, AllBefore, the, IsRun, RunSoFar}
-use Rattle.stencil_sets.proofs.Chains.{either}
+use Rattle.frame_paths.proofs.Chains.{either}
 
 at_front : (xs : List LiveRead) (r d : LiveRead) (i : ℕ) → i < length xs → slice_index_or (xs ++ r ∷ []) i d ≡ slice_index_or xs i d
 at_front [] r d i h = absurd (omega (arith, h))

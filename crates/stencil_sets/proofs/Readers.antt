@@ -13,14 +13,15 @@ use Rattle.std.specs.Cmp.{int_cmp_is}
 use Rattle.dk_base.specs.Frames.{Size, in_frame}
 use Rattle.pointwise_ir.specs.Trees.{Tree}
 use Rattle.pointwise_ir.specs.Reads.{Reads}
-use Rattle.stencil_sets.specs.declared.path.Path.{Path}
+use Rattle.frame_paths.specs.declared.path.Path.{Path}
 use Rattle.stencil_sets.specs.declared.path.Rect.{Rect}
-use Rattle.stencil_sets.specs.declared.moves.Offsets.{Offsets}
-use Rattle.stencil_sets.specs.Moves.{IsOffset}
-use Rattle.stencil_sets.specs.Paths.{LeadsTo, IsIn, IsNearRect, Covered, ReadsFrom}
+use Rattle.frame_paths.specs.declared.moves.Offsets.{Offsets}
+use Rattle.frame_paths.specs.Moves.{IsOffset}
+use Rattle.frame_paths.specs.Paths.{LeadsTo}
+use Rattle.stencil_sets.specs.Paths.{IsIn, IsNearRect, Covered, ReadsFrom}
 use Rattle.stencil_sets.specs.Found.{InRow, InRows, AllFrom, AreSorted, IsOf}
 use Rattle.stencil_sets.specs.Live.{ReadsAt, IsByReader}
-use Rattle.stencil_sets.proofs.Chains.{either}
+use Rattle.frame_paths.proofs.Chains.{either}
 
 -- without a step, what is read is read in the frame
 pub none_reads : (size : Size) (e : Tree) (p : Path)

@@ -14,8 +14,8 @@ use Rattle.pointwise_ir.specs.Programs.{Program, IsProgram}
 use Rattle.pointwise_ir.specs.Reads.{EndsAt, Reads, reached, output}
 use Rattle.stencil_sets.specs.Found.{Has}
 use Rattle.stencil_sets.specs.Live.{IsKeptRead, AreReads, AreSome, AreImages, HasCount}
-use Rattle.stencil_sets.proofs.Chains.{IsInside, inside_is, clamped_is}
-use Rattle.stencil_sets.proofs.Walked.{both_true}
+use Rattle.frame_paths.proofs.Chains.{IsInside, inside_is, clamped_is}
+use Rattle.frame_paths.proofs.Walks.{both_true}
 use Rattle.stencil_sets.proofs.Marked.{read_below}
 
 record InFrame (size : Size) (x y : ℤ) : Type 0 where

@@ -1,5 +1,6 @@
 -- Why a program has no stencils.
 use Rattle.std.specs.Prelude.{◌<◌}
+use Rattle.dk_base.specs.declared.TheConstants.{MAX_LIVE_READS}
 use Rattle.pointwise_ir.specs.Programs.{Program}
 use Rattle.stencil_sets.specs.declared.live.StencilFault.{StencilFault}
 use Rattle.stencil_sets.specs.declared.live.StencilFault.TheVariants.{Reads, Memory}
@@ -7,5 +8,5 @@ use Rattle.stencil_sets.specs.Live.{HasCount}
 
 -- it has too many live reads, and so many, or there is no memory
 abbrev pub IsFault : Program → StencilFault → Type 0
-IsFault p (Reads count) = (4096 < count) × HasCount p count
+IsFault p (Reads count) = (MAX_LIVE_READS < count) × HasCount p count
 IsFault p Memory = Unit {0}

@@ -5,7 +5,7 @@ use Rattle.dk_base.specs.Stencils.{IsBefore, AreInOrder}
 use Rattle.stencil_sets.specs.declared.found.Halt.{Halt}
 use Rattle.stencil_sets.specs.declared.found.Halt.TheVariants.{Full, Memory}
 use Rattle.stencil_sets.specs.declared.path.Rect.{Rect}
-use Rattle.stencil_sets.specs.Moves.{IsOffset}
+use Rattle.frame_paths.specs.Moves.{IsOffset}
 
 -- the read is that of image g by image f at this offset
 pub record IsThe (r : LiveRead) (f g : ℕ) (dx dy : ℤ) : Type 0 where

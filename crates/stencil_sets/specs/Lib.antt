@@ -1,4 +1,3 @@
-pub mod Moves
 pub mod Paths
 pub mod Found
 pub mod Live

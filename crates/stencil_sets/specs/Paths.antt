@@ -1,39 +1,12 @@
--- What paths through an expression make of the pixels of a frame, and what is read at their ends.
-use Rattle.std.specs.Prelude.{◌≡◌, ℕ, ◌+◌, ◌*◌, ◌^◌, ◌≤◌, ℤ, ◌+ℤ◌, ◌⊎◌, List, [], ◌∷◌, Option, Some, None, unsigned_abs}
+-- What is read at the ends of paths through an expression.
+use Rattle.std.specs.Prelude.{◌≡◌, ℕ, ℤ, ◌+ℤ◌, ◌⊎◌, List, [], ◌∷◌}
 use Rattle.dk_base.specs.Frames.{Size}
-use Rattle.pointwise_ir.specs.declared.expr.Edge.{Edge}
 use Rattle.pointwise_ir.specs.Trees.{Tree}
-use Rattle.pointwise_ir.specs.Reads.{EndsAt, Reads}
-use Rattle.stencil_sets.specs.declared.path.Path.{Path}
+use Rattle.pointwise_ir.specs.Reads.{Reads}
+use Rattle.frame_paths.specs.declared.path.Path.{Path}
+use Rattle.frame_paths.specs.Moves.{IsOffset, AreNear}
+use Rattle.frame_paths.specs.Paths.{LeadsTo}
 use Rattle.stencil_sets.specs.declared.path.Rect.{Rect}
-use Rattle.stencil_sets.specs.Moves.{Leads, IsMoves, IsOffset, AreNear}
-
--- the path leads from the pixel (x, y) to (u, v)
-pub record LeadsTo (p : Path) (x y u v : ℤ) : Type 0 where
-  pub across : Leads p.across x u
-  pub down : Leads p.down y v
-
-abbrev pub LeadsToOn : Option Path → (x y u v : ℤ) → Type 0
-LeadsToOn None x y u v = ⊥
-LeadsToOn (Some p) x y u v = LeadsTo p x y u v
-
--- first the path, and then a step
-abbrev pub StepsTo : Size → Path → Edge → (dx dy : ℤ) → (x y u v : ℤ) → Type 0
-StepsTo size p edge dx dy x y u v = (w : ℤ) × (z : ℤ) × LeadsTo p x y w z × EndsAt size edge (w +ℤ dx) (z +ℤ dy) u v
-
-pub record IsPath (size : Size) (p : Path) : Type 0 where
-  pub across : IsMoves size.width p.across
-  pub down : IsMoves size.height p.down
-
--- the path's numbers stay small for so many further steps
-pub record HasRoom (steps : ℕ) (p : Path) : Type 0 where
-  pub across : unsigned_abs p.across.shift + 65536 * steps ≤ 2 ^ 39
-  pub down : unsigned_abs p.down.shift + 65536 * steps ≤ 2 ^ 39
-
--- after one step more
-pub record IsOneFarther (p q : Path) : Type 0 where
-  pub across : unsigned_abs q.across.shift ≤ unsigned_abs p.across.shift + 65536
-  pub down : unsigned_abs q.down.shift ≤ unsigned_abs p.down.shift + 65536
 
 -- the offset is one of the rectangle's
 pub record IsIn (r : Rect) (g : ℕ) (dx dy : ℤ) : Type 0 where

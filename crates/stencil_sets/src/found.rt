@@ -2,7 +2,7 @@
 
 ghost use Rattle.std.specs.Prelude.{◌≡◌, ◌≤◌, ◌<◌, ◌^◌, ◌++◌, ◌∷◌, [], ◌⊎◌, ℕ, ℤ, pos, neg_ℤ, ◌+ℤ◌, ◌≤ℤ◌, ◌<ℤ◌, OnOk, IfErr, IfOk, All, OnErr, unsigned_abs, length};
 ghost use Rattle.dk_base.specs.Stencils.{AreInOrder};
-ghost use Rattle.stencil_sets.specs.Moves.{AreNear};
+ghost use Rattle.frame_paths.specs.Moves.{AreNear};
 ghost use Rattle.stencil_sets.specs.Paths.{IsNearRect};
 ghost use Rattle.stencil_sets.specs.Found.{AllBefore, the, Stopped, Gains, Within, IsRun, IsLeft, IsBehind, IsAmong, IsOf, AreSorted};
 

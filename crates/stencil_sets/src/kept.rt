@@ -2,7 +2,7 @@
 
 ghost use Rattle.std.specs.Prelude.{◌≡◌, ◌+◌, ◌<◌, ◌≤◌, ◌⊎◌, ℕ, ℤ, IsTrue, OnOk, IfOk, All, Contains, length};
 ghost use Rattle.dk_base.specs.FrameSizes.{size_of};
-ghost use Rattle.pointwise_ir.specs.Trees.{tree_of, depth_of, AreNear};
+ghost use Rattle.pointwise_ir.specs.Trees.{tree_of};
 ghost use Rattle.pointwise_ir.specs.Programs.{Program, IsProgram, bodies_of};
 ghost use Rattle.pointwise_ir.specs.Reads.{Kept};
 ghost use Rattle.stencil_sets.specs.Paths.{IsIn, Covered};
@@ -52,8 +52,6 @@ fn mark_rects(kept: &mut [bool], rects: &[Rect])
 
 // Marks the images that the expression reads in some pixel.
 fn mark_reads(alloc: Global, size: FrameSize, body: &Expr, kept: &mut [bool]) -> Result<(), Memory>
-    requires depth { depth_of (tree_of body.now) ≤ 1024 }
-    requires near { AreNear (tree_of body.now) }
     ensures more { OnOk result (MarksMore kept.old kept.new (λ h. (dx : ℤ) × (dy : ℤ) × ReadsAt (size_of size) (tree_of body.now) h dx dy)) }
     ensures length { length kept.new ≡ length kept.old }
 {

@@ -6,12 +6,9 @@ mod images;
 mod kept;
 mod laws;
 mod live;
-mod moves;
 mod path;
 mod reader;
 mod reads;
-#[cfg(test)]
-mod tests;
 
 pub use laws::one_answer;
 pub use live::{StencilFault, live_reads};

@@ -15,10 +15,12 @@ use pointwise_ir::Ir;
 use std::alloc::Global;
 
 /// Why a program has no stencils.
-#[derive(Clone, Copy, Debug, PartialEq, Eq)]
+#[derive(Clone, Copy, Debug, PartialEq, Eq, thiserror::Error)]
 pub enum StencilFault {
     /// How many live reads there are, where they are more than 4,096; 65,537 where they are more than 65,536.
+    #[error("Reads {count}")]
     Reads { count: u32 },
+    #[error("out of memory")]
     Memory,
 }
 

@@ -3,15 +3,17 @@
 ghost use Rattle.std.specs.Prelude.{◌≡◌, ◌≢◌, ◌++◌, ◌∷◌, [], ◌≤◌, ◌<◌, ◌↔◌, ◌⊎◌, ℕ, ℤ, pos, neg_ℤ, OnOk, IfOk, IfErr, All, List, length};
 ghost use Rattle.dk_base.specs.FrameSizes.{size_of};
 ghost use Rattle.dk_base.specs.Stencils.{AreInOrder};
-ghost use Rattle.pointwise_ir.specs.Trees.{tree_of, depth_of, AreNear};
+ghost use Rattle.pointwise_ir.specs.Trees.{tree_of};
 ghost use Rattle.stencil_sets.specs.Paths.{IsNearRect, Covered};
 ghost use Rattle.stencil_sets.specs.Found.{AllBefore, the, Stopped, Gains, Within, InRows, AreSorted};
 ghost use Rattle.stencil_sets.specs.Live.{ReadsAt, IsByReader, IsOfReader};
 
 use crate::found::{Halt, push_image};
-use crate::path::{Path, Rect, add_reads};
+use crate::path::{Rect, add_reads};
 use dk_base::{FrameSize, LiveRead, Memory};
+use frame_paths::Path;
 use pointwise_ir::Expr;
+use smallvec::SmallVec;
 use std::alloc::Global;
 
 // Where the rectangle begins, from 8,192 columns to the left on.
@@ -23,8 +25,6 @@ fn first_column(rect: &Rect) -> i32
 
 /// What the expression reads in some pixel, as rectangles in the order of their first columns.
 pub fn rects_of(alloc: Global, size: FrameSize, body: &Expr) -> Result<Vec<Rect>, Memory>
-    requires depth { depth_of (tree_of body.now) ≤ 1024 }
-    requires near { AreNear (tree_of body.now) }
     ensures exact { IfOk result (λ v. (g : ℕ) (dx dy : ℤ) → Covered v.items g dx dy ↔ ReadsAt (size_of size) (tree_of body.now) g dx dy) }
     ensures near { IfOk result (λ v. All IsNearRect v.items) }
     ensures sorted { IfOk result (λ v. AreSorted v.items) }
@@ -36,7 +36,7 @@ pub fn rects_of(alloc: Global, size: FrameSize, body: &Expr) -> Result<Vec<Rect>
 }
 
 // Chooses the rectangle where it is of image g.
-fn choose(chosen: &mut Vec<Rect>, rect: Rect, g: u32) -> Result<(), Memory>
+fn choose(chosen: &mut SmallVec<Rect, 8>, rect: Rect, g: u32) -> Result<(), Memory>
     ensures { OnOk result (((rect.image ≡ g) × (chosen.new.items ≡ chosen.old.items ++ rect ∷ [])) ⊎ ((rect.image ≢ g) × (chosen.new.items ≡ chosen.old.items))) }
 {
     if rect.image == g {
@@ -46,14 +46,14 @@ fn choose(chosen: &mut Vec<Rect>, rect: Rect, g: u32) -> Result<(), Memory>
 }
 
 // The rectangles of image g, in their order.
-fn of_image(alloc: Global, rects: &[Rect], g: u32) -> Result<Vec<Rect>, Memory>
+fn of_image(alloc: Global, rects: &[Rect], g: u32) -> Result<SmallVec<Rect, 8>, Memory>
     requires near { All IsNearRect rects.now }
     requires sorted { AreSorted rects.now }
     ensures exact { IfOk result (λ v. (dy dx : ℤ) → InRows v.items dy dx ↔ Covered rects.now g dx dy) }
     ensures near { IfOk result (λ v. All IsNearRect v.items) }
     ensures sorted { IfOk result (λ v. AreSorted v.items) }
 {
-    let mut chosen = Vec::new(alloc);
+    let mut chosen = SmallVec::new(alloc);
     for rect in rects {
         choose(&mut chosen, *rect, g)?;
     }
@@ -79,7 +79,7 @@ fn push_source(
     ensures stopped { IfErr result (λ halt. Stopped halt all.new.items) }
 {
     match of_image(alloc, rects, g) {
-        Ok(chosen) => push_image(all, f, g, &chosen),
+        Ok(chosen) => push_image(all, f, g, chosen.as_slice()),
         Err(_) => Err(Halt::Memory),
     }
 }

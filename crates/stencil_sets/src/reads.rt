@@ -3,7 +3,7 @@
 ghost use Rattle.std.specs.Prelude.{◌≡◌, [], ◌<◌, ◌≤◌, ℕ, ℤ, pos, neg_ℤ, OnOk, IfErr};
 ghost use Rattle.dk_base.specs.FrameSizes.{size_of};
 ghost use Rattle.dk_base.specs.Stencils.{AreInOrder};
-ghost use Rattle.pointwise_ir.specs.Trees.{tree_of, depth_of, AreNear};
+ghost use Rattle.pointwise_ir.specs.Trees.{tree_of};
 ghost use Rattle.stencil_sets.specs.Found.{AllBefore, the, Stopped, Gains, Within};
 ghost use Rattle.stencil_sets.specs.Live.{ReadsAt, IsReadOf, AreReads, AreSome};
 ghost use Rattle.stencil_sets.specs.Marks.{AreMarks};
@@ -24,8 +24,6 @@ fn push_body(
 ) -> Result<(), Halt>
     requires order { AreInOrder all.old.items }
     requires before { AllBefore all.old.items (the f 0 (neg_ℤ (pos 8192)) (neg_ℤ (pos 8192))) }
-    requires depth { depth_of (tree_of body.now) ≤ 1024 }
-    requires near { AreNear (tree_of body.now) }
     requires earlier { (g : ℕ) (dx dy : ℤ) → ReadsAt (size_of size) (tree_of body.now) g dx dy → g < f }
     ensures order { AreInOrder all.new.items }
     ensures found { OnOk result (Gains all.old.items all.new.items (λ f' g dx dy. IsReadOf (size_of size) (tree_of body.now) f f' g dx dy)) }

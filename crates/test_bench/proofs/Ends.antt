@@ -26,7 +26,7 @@ use Rattle.test_bench.specs.Stops.{IsStop, IsBenchEnd}
 use Rattle.test_bench.specs.Clocking.{AreKept, DoutsFit, StopsIn, GoOn, Clocked}
 use Rattle.test_bench.specs.declared.clocking.Bench.{Bench}
 use Rattle.test_bench.specs.Given.{rounds_of}
-use Rattle.pointwise_eval.specs.declared.frame.Frame.{Frame}
+use Rattle.dk_frames.specs.declared.frame.Frame.{Frame}
 use Rattle.pgm_rounds.specs.declared.round.Round.{Round}
 use Rattle.pgm_rounds.specs.Files.{frames_of}
 use Rattle.test_bench.proofs.Runs.{runs_length}

@@ -9,10 +9,10 @@ use Rattle.pgm_codec.specs.Images.{Picture as Image, IsPicture, AreImages}
 use Rattle.pgm_codec.specs.Rounds.{FitsInputs}
 use Rattle.pgm_rounds.specs.declared.fault.ImageFault.{ImageFault}
 use Rattle.pgm_rounds.specs.declared.fault.ImageFault.TheVariants as fault
-use Rattle.pgm_rounds.specs.Ports.{Ports}
+use Rattle.pgm_rounds.specs.Ports.{Ports, ports_with}
 use Rattle.pgm_rounds.specs.Files.{FitsFile, IsFault}
 use Rattle.pgm_rounds.proofs.Readings.{OneHeader}
-use Rattle.test_bench.specs.Inputs.{ports_with, FitsBench, size_in, first_fault, IsBenchFault, heading, sizing, later}
+use Rattle.test_bench.specs.Inputs.{FitsBench, size_in, first_fault, IsBenchFault, heading, sizing, later}
 
 abbrev OneRounds : Type 0
 OneRounds = (ports : Ports) → 0 < length ports.inputs → (bytes : List ℕ) → (a b : List (List Image)) → FitsFile ports bytes a → FitsFile ports bytes b → a ≡ b

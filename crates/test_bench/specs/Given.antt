@@ -1,8 +1,9 @@
 -- The rounds of frames that a bench takes.
 use Rattle.std.specs.Prelude.{◌≡◌, ℕ, ◌^◌, ◌<◌, ◌≤◌, List, length, map}
 use Rattle.std.specs.List.{All, AllZip}
+use Rattle.dk_base.specs.declared.TheConstants.{MAX_FILE_IMAGES}
 use Rattle.dk_base.specs.Frames.{Size, area}
-use Rattle.pointwise_eval.specs.declared.frame.Frame.{Frame}
+use Rattle.dk_frames.specs.declared.frame.Frame.{Frame}
 use Rattle.pgm_rounds.specs.declared.round.Round.{Round}
 use Rattle.pgm_rounds.specs.Files.{frames_of}
 use Rattle.test_bench.specs.Stimulus.{Rounds}
@@ -23,5 +24,5 @@ IsBenchRound widths size round = AllZip (IsBenchFrame size) widths round.frames.
 -- 1 to 65,536 rounds of frames of this size
 pub record AreBenchFrames (widths : List ℕ) (size : Size) (rounds : List Round) : Type 0 where
   pub some : 0 < length rounds
-  pub most : length rounds ≤ 65536
+  pub most : length rounds ≤ MAX_FILE_IMAGES
   pub each : All (IsBenchRound widths size) rounds

@@ -10,13 +10,9 @@ use Rattle.pgm_rounds.specs.declared.fault.ImageFault.{ImageFault}
 use Rattle.pgm_rounds.specs.declared.fault.ImageFault.TheVariants as fault
 use Rattle.pgm_rounds.specs.declared.fault.FileError.{FileError}
 use Rattle.pgm_rounds.specs.declared.fault.FileError.TheVariants as error
-use Rattle.pgm_rounds.specs.Ports.{Ports}
+use Rattle.pgm_rounds.specs.Ports.{ports_with}
 use Rattle.pgm_rounds.specs.Files.{FitsFile, IsFault}
 use Rattle.test_bench.specs.Stimulus.{Rounds}
-
--- frames of this size for dins of these widths
-abbrev pub ports_with : Size → List ℕ → Ports
-ports_with size widths = record { size = size; inputs = widths }
 
 -- The file is one of these rounds: each image has this size, of 1 to 4,096 pixels each side, and a maxval that its din takes.
 pub record FitsBench (widths bytes : List ℕ) (size : Size) (rounds : List (List Image)) : Type 0 where

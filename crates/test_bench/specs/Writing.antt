@@ -1,4 +1,4 @@
--- The pictures that are kept and their images, for the private functions.
+-- The pictures that are kept, and their images.
 use Rattle.std.specs.Prelude.{◌≡◌, ℕ, ◌+◌, ◌*◌, ◌-◌, ◌^◌, ◌<◌, ◌≤◌, List, [], length, map, take, drop, slice_get, slice_index, slice_index_or, Some}
 use Rattle.std.specs.List.{All, range_with_len}
 use Rattle.dk_base.specs.Frames.{Size, area}

@@ -2,11 +2,12 @@
 
 ghost use Rattle.std.specs.Prelude.{◌≡◌, ℕ, ◌+◌, ◌*◌, ◌<◌, ◌≤◌, ◌++◌, [], List, length, Bool, IfOk, IfErr, OnOk, IfSome, All, Some, slice_get, vec_capacity};
 ghost use Rattle.std.specs.Option.{option_map};
-ghost use Rattle.dk_base.specs.Frames.{IsFrame, area as area_of};
+ghost use Rattle.dk_base.specs.Frames.{area as area_of};
 ghost use Rattle.dk_base.specs.FrameSizes.{size_of};
 ghost use Rattle.dk_desk.specs.Outside.{Outside};
 ghost use Rattle.dk_desk.specs.Calls.{IsIfTold};
 ghost use Rattle.std.specs.List.{flat_map, range_with_len};
+ghost use Rattle.dk_base.specs.declared.TheConstants.{MAX_FILE_IMAGES};
 ghost use Rattle.pgm_codec.specs.Images.{file_of};
 ghost use Rattle.wiring.specs.Netlist.{netlist_of};
 ghost use Rattle.wiring.specs.Rules.{KeepsRules, IsPortCount, IsPortWidth};
@@ -77,8 +78,8 @@ fn no_pictures(alloc: Global, count: usize, most: usize) -> Result<Vec<Shown>, M
     Ok(pictures)
 }
 
-/// A bench with this module, before the first clock.
-fn set_up(alloc: Global, module: &Module, fill: Fill, most: usize) -> Result<Bench, Memory>
+/// A bench with this module, before the first clock, which keeps the first `most` samples of each picture.
+pub fn set_up(alloc: Global, module: &Module, fill: Fill, most: usize) -> Result<Bench, Memory>
     ensures bench { IfOk result IsBench }
     ensures netlist { IfOk result (λ bench. bench.sim.netlist ≡ «module».now.netlist) }
     ensures contents { IfOk result (λ bench. bench.sim.contents ≡ filled_contents fill «module».now.netlist) }
@@ -109,8 +110,7 @@ fn finish(
     rounds: usize,
     pictures: &[Shown],
 ) -> Result<Vec<u8>, BenchFault>
-    requires frame { IsFrame size.width size.height }
-    requires rounds { rounds ≤ 65536 }
+    requires rounds { rounds ≤ MAX_FILE_IMAGES }
     requires filled { AreFilled (size_of size) ports.now rounds pictures.now }
     ensures file { IfOk result (λ file. ((k : ℕ) → HasEnough pictures.now (rounds * area_of (size_of size)) k) × (file.items ≡ file_of (flat_map (round_kept (size_of size) ports.now pictures.now) (range_with_len 0 rounds)))) }
     ensures short { IfErr result (IsShort pictures.now (rounds * area_of (size_of size))) }
@@ -135,7 +135,6 @@ pub fn run_bench<D: Desk>(
     rounds: &[Round],
 ) -> Result<Vec<u8>, BenchFault>
     requires hold { IfSome drive.hold (λ count. 0 < count) }
-    requires frame { IsFrame size.width size.height }
     requires frames { AreBenchFrames (din_widths «module».now.netlist) (size_of size) rounds.now }
     ensures only { D.outside desk.new ≡ record (D.outside desk.old) { notes = (D.outside desk.new).notes } }
     ensures file { IfOk result (λ file. IsShown «module».now.netlist drive (size_of size) (rounds_of rounds.now) file.items) }

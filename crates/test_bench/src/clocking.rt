@@ -21,22 +21,30 @@ use cycle_sim::{IndexRange, Out, Sim};
 use dk_desk::Desk;
 use pgm_rounds::Round;
 
-/// A module on a test bench: what each output showed in the latest clock, the first samples of each picture, and the number of clocks so far.
+/// A module on a test bench. `IsBench` says what its fields keep.
 #[derive(Drop)]
-pub(crate) struct Bench {
-    pub(crate) sim: Sim,
-    pub(crate) outs: Vec<Out>,
-    pub(crate) pictures: Vec<Shown>,
-    pub(crate) most: usize,
-    pub(crate) made: u64,
+pub struct Bench {
+    /// The module, behind the latest clock.
+    pub sim: Sim,
+    /// What each output showed in the latest clock.
+    pub outs: Vec<Out>,
+    /// The picture of each output so far.
+    pub pictures: Vec<Shown>,
+    /// How many samples of each picture are kept.
+    pub most: usize,
+    /// The number of clocks so far: the reset clock, and all others, held ones too.
+    pub made: u64,
 }
 
-/// What goes in: the pixels of a frame, after how many clocks one held clock follows, and what the dins have in it.
+/// How the rounds go in.
 #[derive(Drop)]
-pub(crate) struct Feed {
-    pub(crate) area: usize,
-    pub(crate) hold: Option<u32>,
-    pub(crate) held: Vec<u64>,
+pub struct Feed {
+    /// The number of pixels of a frame.
+    pub area: usize,
+    /// After how many clocks one held clock follows each time; None where there are no held clocks.
+    pub hold: Option<u32>,
+    /// What the dins have in a held clock.
+    pub held: Vec<u64>,
 }
 
 /// One clock of the simulator.
@@ -81,8 +89,8 @@ fn show(pictures: &mut Vec<Shown>, most: usize, outs: &[Out])
     }
 }
 
-/// One clock, which is told to the desk.
-fn clock<D: Desk>(
+/// One clock. Behind it each output has one sample more in its picture, if its valid is 1, and the pair of valid and dout of each output is noted on the desk, in their order. It stops where an index is past its array.
+pub fn clock<D: Desk>(
     desk: &mut D,
     bench: &mut Bench,
     reset: bool,
@@ -129,8 +137,8 @@ fn hold<D: Desk>(desk: &mut D, bench: &mut Bench, comes: bool, held: &[u64]) -> 
     }
 }
 
-/// The clock of this number, and the held one behind it.
-fn pixel_clocks<D: Desk>(
+/// The clock of this number, counted from 0, in which each din has its pixel of that number, and the held one behind it, if one follows.
+pub fn pixel_clocks<D: Desk>(
     desk: &mut D,
     bench: &mut Bench,
     feed: &Feed,
@@ -180,8 +188,8 @@ fn all_pixel_clocks<D: Desk>(
     Ok(())
 }
 
-/// The reset clock, in which each din is 0, and then so many clocks with the pixels.
-pub(crate) fn all_clocks<D: Desk>(
+/// All clocks of a drive: the reset clock, in which each din is 0, and then so many clocks with the pixels, with the held ones between them.
+pub fn all_clocks<D: Desk>(
     desk: &mut D,
     bench: &mut Bench,
     feed: &Feed,

@@ -14,7 +14,7 @@ pub struct Drive {
 }
 
 /// Whether a held clock follows the clock of this number.
-pub(crate) fn is_held_after(hold: Option<u32>, clock: u32) -> bool
+pub fn is_held_after(hold: Option<u32>, clock: u32) -> bool
     requires count { IfSome hold (λ count. 0 < count) }
     requires clock { clock + 1 < 2 ^ 32 }
     ensures { result ≡ held_after hold clock }

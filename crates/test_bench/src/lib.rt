@@ -9,12 +9,14 @@ mod laws;
 mod picture;
 mod pixels;
 mod stop;
-#[cfg(test)]
-mod tests;
 mod writing;
 
-pub use bench::{dins_of, run_bench};
-pub use drive::Drive;
+pub use bench::{dins_of, run_bench, set_up};
+pub use clocking::{Bench, Feed, all_clocks, clock, pixel_clocks};
+pub use drive::{Drive, is_held_after};
 pub use input::{BenchInput, read_input};
 pub use laws::{one_bench, one_input};
+pub use picture::Shown;
+pub use pixels::{fill_dins, greatest_of, zeros};
 pub use stop::{BenchFault, Stop};
+pub use writing::{first_short, write_rounds};

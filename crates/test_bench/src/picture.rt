@@ -7,16 +7,18 @@ use cycle_sim::Out;
 use dk_base::Memory;
 use std::alloc::Global;
 
-/// The first samples of a picture, in raster order, and how many it has.
+/// What an output has shown.
 #[derive(Drop)]
-pub(crate) struct Shown {
-    pub(crate) samples: Vec<u16>,
-    pub(crate) count: u64,
+pub struct Shown {
+    /// The first samples of its picture, in raster order.
+    pub samples: Vec<u16>,
+    /// How many samples the picture has.
+    pub count: u64,
 }
 
 impl Shown {
-    /// A picture without samples, with room for so many.
-    pub(crate) fn new(alloc: Global, most: usize) -> Result<Shown, Memory>
+    /// A picture without samples, with room for `most`.
+    pub fn new(alloc: Global, most: usize) -> Result<Shown, Memory>
         ensures kept { IfOk result (λ shown. IsKept most [] shown) }
         ensures room { IfOk result (λ shown. most ≤ vec_capacity shown.samples) }
     {
@@ -24,8 +26,8 @@ impl Shown {
         Ok(Shown { samples, count: 0 })
     }
 
-    /// Adds what the output shows in a clock, where its valid is 1.
-    pub(crate) fn add(&mut self, most: usize, out: Out)
+    /// Adds what the output shows in a clock, where its valid is 1. The first `most` samples are kept, and all are counted. It takes no memory.
+    pub fn add(&mut self, most: usize, out: Out)
         requires room { most ≤ vec_capacity self.old.samples }
         requires dout { out.dout < 2 ^ 16 }
         ensures room { most ≤ vec_capacity self.new.samples }

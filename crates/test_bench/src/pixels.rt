@@ -29,8 +29,8 @@ fn pixel(rounds: &[Round], area: usize, input: usize, number: u32) -> u64
     u64::from(frame.samples.as_slice()[place % area])
 }
 
-/// Gives each din its pixel.
-pub(crate) fn fill_dins(rounds: &[Round], area: usize, number: u32, dins: &mut Vec<u64>)
+/// Gives each din its pixel of this number, counted over all rounds; 0 behind the last one. A frame has `area` pixels.
+pub fn fill_dins(rounds: &[Round], area: usize, number: u32, dins: &mut Vec<u64>)
     requires area { 0 < area }
     requires frames { (widths : List ℕ) × (size : Size) × AreBenchFrames widths size rounds.now × (length dins.old.items ≡ length widths) × (area ≡ area_of size) }
     ensures is { dins.new.items ≡ dins_at (length dins.old.items) (rounds_of rounds.now) number }
@@ -50,7 +50,7 @@ fn greatest(width: Width) -> u64
 }
 
 /// The greatest number of each din.
-pub(crate) fn greatest_of(alloc: Global, widths: &[Width]) -> Result<Vec<u64>, Memory>
+pub fn greatest_of(alloc: Global, widths: &[Width]) -> Result<Vec<u64>, Memory>
     requires { All IsPortWidth widths.now }
     ensures { IfOk result (λ dins. dins.items ≡ greatest_dins widths.now) }
 {
@@ -62,7 +62,7 @@ pub(crate) fn greatest_of(alloc: Global, widths: &[Width]) -> Result<Vec<u64>, M
 }
 
 /// So many zeros.
-pub(crate) fn zeros(alloc: Global, count: usize) -> Result<Vec<u64>, Memory>
+pub fn zeros(alloc: Global, count: usize) -> Result<Vec<u64>, Memory>
     ensures { IfOk result (λ dins. dins.items ≡ replicate count 0) }
 {
     let dins = vec![in alloc; 0; count]?;

@@ -6,15 +6,17 @@ ghost use Rattle.test_bench.specs.declared.stop.BenchFault.TheVariants.{Memory a
 use std::alloc::{AllocError, AllocFailed};
 
 /// Why a run gives no pictures.
-#[derive(Clone, Copy, Debug, PartialEq, Eq)]
+#[derive(Clone, Copy, Debug, PartialEq, Eq, thiserror::Error)]
 pub enum Stop {
     /// At this clock an index is not below the depth of this array, the number of which is that among the arrays of the text. The reset clock is -1, and held clocks are counted.
+    #[error("clock {clock} array {array} index {index}")]
     Index {
         clock: i64,
         array: usize,
         index: u64,
     },
     /// The first output that has not shown what is asked has shown so many samples.
+    #[error("count {shown} of {wanted}")]
     Count {
         shown: u64,
         wanted: u64,
@@ -22,9 +24,11 @@ pub enum Stop {
 }
 
 /// Why there is no file of pictures.
-#[derive(Clone, Copy, Debug, PartialEq, Eq)]
+#[derive(Clone, Copy, Debug, PartialEq, Eq, thiserror::Error)]
 pub enum BenchFault {
+    #[error("{0}")]
     Stopped(Stop),
+    #[error("out of memory")]
     Memory,
 }
 

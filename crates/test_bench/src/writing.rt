@@ -2,7 +2,8 @@
 
 ghost use Rattle.std.specs.Prelude.{◌≡◌, ℕ, ◌+◌, ◌*◌, ◌-◌, ◌^◌, ◌<◌, ◌≤◌, ◌++◌, length, take, drop, IfOk, OnOk, MatchOption, MatchBool, slice_index};
 ghost use Rattle.std.specs.List.{flat_map, range_with_len};
-ghost use Rattle.dk_base.specs.Frames.{IsFrame, area as area_of};
+ghost use Rattle.dk_base.specs.declared.TheConstants.{MAX_FILE_IMAGES, MAX_SIDE};
+ghost use Rattle.dk_base.specs.Frames.{area as area_of};
 ghost use Rattle.dk_base.specs.FrameSizes.{size_of};
 ghost use Rattle.wiring.specs.Rules.{IsPortWidth};
 ghost use Rattle.pgm_codec.specs.Images.{header_of, raster_of, file_of};
@@ -16,11 +17,10 @@ use pgm_rounds::write_image;
 use std::alloc::Global;
 
 /// The number of pixels of a frame.
-pub(crate) fn area(size: FrameSize) -> usize
-    requires { IsFrame size.width size.height }
+pub fn area(size: FrameSize) -> usize
     ensures is { result ≡ area_of (size_of size) }
     ensures some { 0 < result }
-    ensures most { result ≤ 16777216 }
+    ensures most { result ≤ MAX_SIDE * MAX_SIDE }
 {
     size.width as usize * size.height as usize
 }
@@ -36,7 +36,7 @@ fn is_enough(outputs: usize, asked: u64, shown: u64) -> bool
 }
 
 /// What the first picture that has not shown enough has shown, if there is one.
-pub(crate) fn first_short(pictures: &[Shown], asked: u64) -> Option<u64>
+pub fn first_short(pictures: &[Shown], asked: u64) -> Option<u64>
     ensures { MatchOption result ((k : ℕ) → HasEnough pictures.now asked k) (IsFirstShort pictures.now asked) }
 {
     for k in 0..pictures.len() {
@@ -73,8 +73,7 @@ fn write_output(
     output: usize,
     file: &mut Vec<u8>,
 ) -> Result<(), Memory>
-    requires frame { IsFrame size.width size.height }
-    requires whole { (rounds : ℕ) × (round < rounds) × (rounds ≤ 65536) × AreWhole (size_of size) ports.now rounds pictures.now }
+    requires whole { (rounds : ℕ) × (round < rounds) × (rounds ≤ MAX_FILE_IMAGES) × AreWhole (size_of size) ports.now rounds pictures.now }
     requires output { output < length pictures.now }
     ensures { OnOk result (let image = image_kept (size_of size) ports.now pictures.now round output in file.new.items ≡ file.old.items ++ (header_of size.width size.height image.maxval ++ raster_of image.maxval image.samples)) }
 {
@@ -93,8 +92,7 @@ fn write_round(
     round: usize,
     file: &mut Vec<u8>,
 ) -> Result<(), Memory>
-    requires frame { IsFrame size.width size.height }
-    requires whole { (rounds : ℕ) × (round < rounds) × (rounds ≤ 65536) × AreWhole (size_of size) ports.now rounds pictures.now }
+    requires whole { (rounds : ℕ) × (round < rounds) × (rounds ≤ MAX_FILE_IMAGES) × AreWhole (size_of size) ports.now rounds pictures.now }
     ensures { OnOk result (file.new.items ≡ file.old.items ++ file_of (round_kept (size_of size) ports.now pictures.now round)) }
 {
     for output in 0..pictures.len() {
@@ -104,15 +102,14 @@ fn write_round(
 }
 
 /// The file of the images of so many rounds.
-pub(crate) fn write_rounds(
+pub fn write_rounds(
     alloc: Global,
     size: FrameSize,
     ports: &[Width],
     pictures: &[Shown],
     rounds: usize,
 ) -> Result<Vec<u8>, Memory>
-    requires frame { IsFrame size.width size.height }
-    requires rounds { rounds ≤ 65536 }
+    requires rounds { rounds ≤ MAX_FILE_IMAGES }
     requires whole { AreWhole (size_of size) ports.now rounds pictures.now }
     ensures { IfOk result (λ file. file.items ≡ file_of (flat_map (round_kept (size_of size) ports.now pictures.now) (range_with_len 0 rounds))) }
 {

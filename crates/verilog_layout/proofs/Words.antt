@@ -1,6 +1,7 @@
 -- Names, numbers, constants and symbols are read as their tokens.
-use Rattle.std.proofs.Common.{◌≡◌, ℕ, suc, ◌+◌, ◌^◌, ◌<◌, ◌≤◌, List, [], ◌∷◌, ◌++◌, map, length, take, drop, Ok, Some, Bool, true, false, ◌&&◌, ◌||◌, not, nat_eq, nat_lt, refl, sym, ap, ◌∙◌, subst, arith, codes}
+use Rattle.std.proofs.Common.{◌≡◌, ℕ, suc, ◌+◌, ◌^◌, ◌<◌, ◌≤◌, List, [], ◌∷◌, ◌++◌, map, length, take, drop, Ok, Some, Bool, true, false, ◌&&◌, ◌||◌, not, nat_eq, nat_lt, nat_le, refl, sym, ap, ◌∙◌, subst, arith, codes}
 use Rattle.std.specs.Prelude.{if◌then◌else◌}
+use Rattle.std.proofs.lemmas.Bool.{leb-true}
 use Rattle.std.specs.List.{prefix_len}
 use Rattle.std.specs.Fmt.{decimal}
 use Rattle.std.proofs.Math.Pow.{pow_mono}
@@ -90,9 +91,6 @@ and_right false b h = absurd (cc)
 equal_true : (a b : ℕ) → nat_eq a b ≡ true → a ≡ b
 equal_true a b h = grind arith
 
-below_true : (a b : ℕ) → nat_lt a b ≡ true → a < b
-below_true a b h = grind arith
-
 -- what a name is
 record IsWord (bytes : List ℕ) : Type 0 where
   first : ℕ
@@ -102,7 +100,7 @@ record IsWord (bytes : List ℕ) : Type 0 where
   all : AllOf is_word_byte others
   fits : length (first ∷ others) ≤ 64
 
-word_is : (bytes : List ℕ) → is_word bytes ≡ true → nat_lt (length bytes) 65 ≡ true → IsWord bytes
+word_is : (bytes : List ℕ) → is_word bytes ≡ true → nat_le (length bytes) 64 ≡ true → IsWord bytes
 word_is [] w l = absurd (cc)
 word_is (a ∷ bs) w l = record {
   first = a;
@@ -110,7 +108,7 @@ word_is (a ∷ bs) w l = record {
   whole = refl;
   letter = and_left (is_letter a) (nat_eq (prefix_len is_word_byte bs) (length bs)) w;
   all = all_word bs (equal_true (prefix_len is_word_byte bs) (length bs) (and_right (is_letter a) (nat_eq (prefix_len is_word_byte bs) (length bs)) w));
-  fits = let e = below_true (length (a ∷ bs)) 65 l in omega (arith, e);
+  fits = leb-true (length (a ∷ bs)) 64 l;
 }
 
 record NameFacts (bytes : List ℕ) : Type 0 where
@@ -127,7 +125,7 @@ facts_of false l s r h = absurd (cc)
 
 name_facts : (bytes : List ℕ) → is_name bytes ≡ true → NameFacts bytes
 name_facts bytes h =
-    let f = facts_of (is_word bytes) (nat_lt (length bytes) 65) (is_structure_word bytes) (is_refused_word bytes) h in
+    let f = facts_of (is_word bytes) (nat_le (length bytes) 64) (is_structure_word bytes) (is_refused_word bytes) h in
     record { word = word_is bytes f.0 f.1; free = f.2; allowed = f.3 }
 
 no_keyword : (bytes : List ℕ) (ws : List (List ℕ × Keyword)) (other : TokenKind) → is_among bytes (map (λ (w : List ℕ × Keyword). w.0) ws) ≡ false → keyword_or bytes ws other ≡ other
@@ -262,7 +260,7 @@ unfolding lexeme
 takes_read {rest} = record { first = 60; others = 61 ∷ []; whole = refl; solid = (refl, λ e f. absurd (omega (arith, e)), λ e f. absurd (omega (arith, e))); reads = refl }
 
 -- a word of the grammar
-pub keyword_read : (bytes : List ℕ) {rest : List ℕ} → is_word bytes ≡ true → nat_lt (length bytes) 65 ≡ true → StopsAt is_tail rest → IsRead bytes (word_kind bytes) rest
+pub keyword_read : (bytes : List ℕ) {rest : List ℕ} → is_word bytes ≡ true → nat_le (length bytes) 64 ≡ true → StopsAt is_tail rest → IsRead bytes (word_kind bytes) rest
 keyword_read bytes {rest} h l s =
     let w = word_is bytes h l in
     subst (λ x. IsRead x (word_kind x) rest) (sym w.whole) (word_read w.first w.others rest w.letter w.all w.fits s)

@@ -5,8 +5,6 @@ mod byte;
 mod lexeme;
 mod number;
 mod symbol;
-#[cfg(test)]
-mod tests;
 mod tokens;
 mod word;
 

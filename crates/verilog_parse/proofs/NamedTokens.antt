@@ -1,5 +1,5 @@
 -- A token that is a name stands at a name.
-use Rattle.std.proofs.Common.{◌≡◌, ◌≢◌, ◌++◌, ◌+◌, ◌-◌, ◌≤◌, ◌^◌, ℕ, suc, List, [], ◌∷◌, length, take, drop, Option, Some, None, Ok, Err, Bool, true, false, ◌&&◌, not, nat_lt, nat_eq, map, refl, sym, ap, ◌∙◌, subst, arith, inl, inr, append_assoc}
+use Rattle.std.proofs.Common.{◌≡◌, ◌≢◌, ◌++◌, ◌+◌, ◌-◌, ◌≤◌, ◌^◌, ℕ, suc, List, [], ◌∷◌, length, take, drop, Option, Some, None, Ok, Err, Bool, true, false, ◌&&◌, not, nat_lt, nat_le, nat_eq, map, refl, sym, ap, ◌∙◌, subst, arith, inl, inr, append_assoc}
 use Rattle.std.specs.List.{prefix_len}
 use Rattle.std.proofs.lemmas.Bool.{cases_Bool}
 use Rattle.std.proofs.lemmas.List.{length-append}
@@ -112,18 +112,18 @@ no_keyword k s m e w h = let f : named (kind.Keyword w) s ≡ Some m = subst (λ
 no_refused : (k : TokenKind) (s m : Span) → named k s ≡ Some m → k ≢ kind.Refused
 no_refused k s m e h = let f : named kind.Refused s ≡ Some m = subst (λ x. named x s ≡ Some m) h e in cc
 
-short : (n : ℕ) → nat_lt 64 n ≡ false → nat_lt n 65 ≡ true
+short : (n : ℕ) → nat_lt 64 n ≡ false → nat_le n 64 ≡ true
 short n h = grind arith
 
 is_all : (a b c d : Bool) → a ≡ true → b ≡ true → c ≡ false → d ≡ false → ((a && b) && not c && not d) ≡ true
 is_all a b c d p q r t = rw (p, q, r, t) refl
 
-name_here : (x : List ℕ) (s m : Span) → is_word x ≡ true → nat_lt (length x) 65 ≡ true → named (word_kind x) s ≡ Some m → is_name x ≡ true
+name_here : (x : List ℕ) (s m : Span) → is_word x ≡ true → nat_le (length x) 64 ≡ true → named (word_kind x) s ≡ Some m → is_name x ≡ true
 name_here x s m w l e =
     let a = keyword_no x keywords (refused_or_name x) (word_kind x) refl (no_keyword (word_kind x) s m e) in
     let structure : is_structure_word x ≡ false = a.0 in
     let refused : is_refused_word x ≡ false = refused_no x (word_kind x) a.1 (no_refused (word_kind x) s m e) in
-    is_all (is_word x) (nat_lt (length x) 65) (is_structure_word x) (is_refused_word x) w l structure refused
+    is_all (is_word x) (nat_le (length x) 64) (is_structure_word x) (is_refused_word x) w l structure refused
 
 -- what a lexeme that is a name is
 abbrev IsFine : List ℕ → Lexeme → Type 0
@@ -134,7 +134,7 @@ word_fine : (a : ℕ) (bs : List ℕ) → is_letter a ≡ true → IsFine (a ∷
 word_fine a bs h = elim (cases_Bool (nat_lt 64 (prefix_len is_word_byte (a ∷ bs)))) as (λ _. IsFine (a ∷ bs) (word_here (a ∷ bs))) [
   | inl t ↦ rw t tt
   | inr f ↦ rw f (λ s m e.
-      let long : nat_lt (length (take (prefix_len is_word_byte (a ∷ bs)) (a ∷ bs))) 65 ≡ true = ap (λ n. nat_lt n 65) (length-prefix_len is_word_byte (a ∷ bs)) ∙ short (prefix_len is_word_byte (a ∷ bs)) f in
+      let long : nat_le (length (take (prefix_len is_word_byte (a ∷ bs)) (a ∷ bs))) 64 ≡ true = ap (λ n. nat_le n 64) (length-prefix_len is_word_byte (a ∷ bs)) ∙ short (prefix_len is_word_byte (a ∷ bs)) f in
       (name_here (take (prefix_len is_word_byte (a ∷ bs)) (a ∷ bs)) s m (word_run a bs h) long e, prefix_len-le-length is_word_byte (a ∷ bs)))
 ]
 

@@ -9,8 +9,6 @@ mod module;
 mod port;
 mod right;
 mod table;
-#[cfg(test)]
-mod tests;
 mod text;
 mod update;
 

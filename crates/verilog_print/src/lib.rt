@@ -5,8 +5,6 @@ mod line;
 mod name;
 mod number;
 mod right;
-#[cfg(test)]
-mod tests;
 mod text;
 
 pub use text::print;

@@ -3,8 +3,6 @@
 
 mod limits;
 mod parts;
-#[cfg(test)]
-mod tests;
 mod text;
 
 pub use text::read;

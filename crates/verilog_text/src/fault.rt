@@ -18,25 +18,32 @@ pub enum LimitKind {
 }
 
 /// A limit that a text passes, and where: the number, or the array's name.
-#[derive(Clone, Copy, Debug, PartialEq, Eq)]
+#[derive(Clone, Copy, Debug, PartialEq, Eq, thiserror::Error)]
+#[error("{}-{}: {kind:?}", .span.start, .span.stop)]
 pub struct LimitFault {
     pub span: Span,
     pub kind: LimitKind,
 }
 
 /// Why a text stands for no module, in the order of the passes.
-#[derive(Clone, Copy, Debug, PartialEq, Eq)]
+#[derive(Clone, Copy, Debug, PartialEq, Eq, thiserror::Error)]
 pub enum TextFault {
     /// It has no tokens.
+    #[error("{0}")]
     Lex(LexFault),
     /// This token continues no module.
+    #[error("{}-{}: Syntax", .0.start, .0.stop)]
     Syntax(Span),
     /// This word continues no module, and the subset refuses it.
+    #[error("{}-{}: NotInSubset", .0.start, .0.stop)]
     NotInSubset(Span),
     /// It passes a limit.
+    #[error("{0}")]
     Limit(LimitFault),
     /// Its parts break a net rule; the span is the name of what is meant.
+    #[error("{}-{}: {fault}", .span.start, .span.stop)]
     Net { span: Span, fault: NetFault },
     /// There was not enough memory to tell.
+    #[error("out of memory")]
     Memory,
 }

@@ -110,7 +110,8 @@ pub enum LexKind {
 }
 
 /// Why a text has no tokens, and where.
-#[derive(Clone, Copy, Debug, PartialEq, Eq)]
+#[derive(Clone, Copy, Debug, PartialEq, Eq, thiserror::Error)]
+#[error("{}-{}: {kind:?}", .span.start, .span.stop)]
 pub struct LexFault {
     pub span: Span,
     pub kind: LexKind,

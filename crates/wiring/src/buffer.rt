@@ -1,6 +1,7 @@
 // The buffer bits of a netlist.
 
 ghost use Rattle.std.specs.Prelude.{◌≡◌, ◌≢◌, ℕ, ◌≤◌, ◌<◌, ◌+◌, ◌*◌, true, false, length, map, IfOk, IfNone, IfSome, OnOk, All, Some, slice_get, if◌then◌else◌};
+ghost use Rattle.wiring.specs.declared.TheConstants.{MOST_BITS};
 ghost use Rattle.wiring.specs.declared.netlist.Assign.{Assign};
 ghost use Rattle.wiring.specs.declared.netlist.Update.{Update};
 ghost use Rattle.wiring.specs.declared.netlist.Holder.{Holder};
@@ -344,7 +345,7 @@ fn array_bits(arrays: &[Shape]) -> u128
 
 fn chosen_width(width: Width, chosen: bool) -> u128
     ensures bits { result ≡ (if chosen then width else 0) }
-    ensures bound { result ≤ 64 }
+    ensures bound { result ≤ MOST_BITS }
 {
     if chosen { width.bits() as u128 } else { 0 }
 }
@@ -352,7 +353,7 @@ fn chosen_width(width: Width, chosen: bool) -> u128
 fn chosen_bits(widths: &[Width], chosen: &[bool]) -> u128
     requires { length chosen.now ≡ length widths.now }
     ensures bits { result ≡ chosen_bits_of widths.now chosen.now }
-    ensures bound { result ≤ length widths.now * 64 }
+    ensures bound { result ≤ length widths.now * MOST_BITS }
 {
     let mut sum = 0;
     for k in 0..widths.len() {

@@ -9,8 +9,6 @@ mod netlist;
 mod order;
 mod right;
 mod size;
-#[cfg(test)]
-mod tests;
 
 pub use buffer::buffer_bits;
 pub use drivers::{Drivers, TableFault, Updaters, drivers_of, updaters_of};
@@ -19,3 +17,9 @@ pub use netlist::{Assign, Holder, Net, Shape, Update, Wiring};
 pub use order::{OrderFault, evaluation_order};
 pub use right::{Atom, Operator, Right};
 pub use size::{Constant, Depth, Width};
+
+/// The greatest width, in bits.
+pub const MOST_BITS: u8 = 64;
+
+/// The greatest number of words of an array.
+pub const MOST_WORDS: u32 = 67_108_864;

@@ -1,9 +1,11 @@
 // Sizes of nets and arrays, and numbers with a size.
 ghost use Rattle.std.specs.Prelude.{◌≡◌, ◌≤◌, ◌^◌};
+ghost use Rattle.wiring.specs.declared.TheConstants.{MOST_BITS};
 
+use crate::{MOST_BITS, MOST_WORDS};
 use std::marker::Model;
 
-/// A width in bits, 1 to 64.
+/// A width in bits, 1 to `MOST_BITS`.
 #[derive(Clone, Copy, Debug, PartialEq, Eq, Hash)]
 pub struct Width {
     bits: u8,
@@ -22,7 +24,7 @@ impl Model for Width {
     ghost inverse = { λ n. record { bits = n } };
 }
 
-/// A number of words, 1 to 67,108,864.
+/// A number of words, 1 to `MOST_WORDS`.
 #[derive(Clone, Copy, Debug, PartialEq, Eq, Hash)]
 pub struct Depth {
     words: u32,
@@ -69,7 +71,7 @@ impl Width {
         ensures made { IsSome result ↔ IsWidth bits }
         ensures bits { IfSome result (λ w. w ≡ bits) }
     {
-        if 1 <= bits && bits <= 64 {
+        if 1 <= bits && bits <= MOST_BITS {
             Some(Width { bits })
         } else {
             None
@@ -102,7 +104,7 @@ impl Depth {
         ensures made { IsSome result ↔ IsDepth words }
         ensures words { IfSome result (λ d. d ≡ words) }
     {
-        if 1 <= words && words <= 67_108_864 {
+        if 1 <= words && words <= MOST_WORDS {
             Some(Depth { words })
         } else {
             None
@@ -127,7 +129,7 @@ impl Depth {
 }
 
 fn power(width: u8) -> u128
-    requires { width ≤ 64 }
+    requires { width ≤ MOST_BITS }
     ensures { result ≡ 2 ^ width }
 {
     1 << width

@@ -1,6 +1,6 @@
 use Rattle.std.proofs.Common.{◌<◌, slice_index, length, arith, ap}
 use Rattle.std.proofs.lemmas.List.{drop_more}
-use Rattle.buffer_plan.specs.Plans.{greatest_delay}
+use Rattle.buffer_plan.specs.Limits.{greatest_delay}
 use Rattle.buffer_plan.proofs.planning.greatest_delay.Goals as goal
 
 pub loop-number-preserved : goal.loop-number-preserved

@@ -1,5 +1,5 @@
 use Rattle.std.proofs.Common.{◌≡◌, max, drop}
-use Rattle.buffer_plan.specs.Plans.{greatest_delay}
+use Rattle.buffer_plan.specs.Limits.{greatest_delay}
 use Rattle.buffer_plan.proofs.planning.greatest_delay.Given as goal
 
 abbrev pub invariant-loop-number : goal.invariant-loop-number

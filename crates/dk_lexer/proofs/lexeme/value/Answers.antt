@@ -1,5 +1,5 @@
 use Rattle.std.proofs.Common.{◌≤◌, ◌^◌, arith}
-use Rattle.dk_lexer.specs.Bytes.{value_of}
+use Rattle.dk_base.specs.Ascii.{value_of}
 use Rattle.dk_lexer.proofs.Numbers.{value_at}
 use Rattle.dk_lexer.proofs.lexeme.value.Goals as goal
 

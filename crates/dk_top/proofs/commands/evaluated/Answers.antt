@@ -6,7 +6,7 @@ use Rattle.pointwise_ir.specs.Meaning.{pictures}
 use Rattle.pointwise_eval.specs.Rounds.{round_of}
 use Rattle.pgm_codec.specs.Images.{file_of}
 use Rattle.pgm_rounds.specs.declared.round.Round.{Round}
-use Rattle.pgm_rounds.specs.Outputs.{output_images}
+use Rattle.program_images.specs.Outputs.{output_images}
 use Rattle.dk_top.proofs.CommandLemmas.{evaluated_pair}
 use Rattle.dk_top.proofs.commands.evaluated.Goals as goal
 

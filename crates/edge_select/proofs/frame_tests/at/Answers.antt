@@ -2,7 +2,7 @@ use Rattle.std.proofs.Common.{◌≡◌, ℕ, ℤ, ◌<◌, subst, rules, to_z, 
 use Rattle.std.proofs.lemmas.Int.{to_z-of_z}
 use Rattle.dk_base.specs.FrameSizes.{size_of}
 use Rattle.edge_select.specs.Steps.{LeadBy}
-use Rattle.edge_select.specs.Moves.{Passes}
+use Rattle.edge_select.specs.Passes.{Passes}
 use Rattle.edge_select.proofs.Walks.{Same}
 use Rattle.edge_select.proofs.Combining.{in_rectangle, rectangle_bit, test_is, no_test_is}
 use Rattle.edge_select.proofs.frame_tests.at.Goals as goal

@@ -2,7 +2,7 @@ use Rattle.std.proofs.Common.{◌≡◌, ℕ, ℤ, ◌<◌, subst, rules, to_z, 
 use Rattle.std.proofs.lemmas.Int.{to_z-of_z}
 use Rattle.dk_base.specs.Frames.{Size}
 use Rattle.edge_select.specs.Steps.{LeadBy}
-use Rattle.edge_select.specs.Moves.{Passes}
+use Rattle.edge_select.specs.Passes.{Passes}
 use Rattle.edge_select.proofs.Walks.{Same, whole_passes, passes_whole}
 use Rattle.edge_select.proofs.frame_tests.is_always.Goals as goal
 

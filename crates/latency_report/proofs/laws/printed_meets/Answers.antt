@@ -14,9 +14,9 @@ returns c =
     (meets c.args.ir.now c.args.system.now c.args.solution.now.delays c.args.solution.now.ends c.args.solution.now.flow (record {
       plan = subst IsPlan c.requires.plan c.law.ensures;
       images = c.requires.images;
-      names = c.requires.names;
-      distinct = c.requires.distinct;
-      few = c.requires.definitions;
+      names = c.requires.names.each;
+      distinct = c.requires.names.distinct;
+      few = c.requires.names.few;
       ends_are = c.requires.solution.ends_are;
       ends_most = below _ _ c.as_slice.ensures c.fit.ensures;
       flow_most = below _ _ c.as_slice-2.ensures c.fit-2.ensures;

@@ -1,7 +1,7 @@
 use Rattle.std.proofs.Common.{arith, subst, get_or, ◌<◌}
 use Rattle.std.proofs.lemmas.Option.{slice_get_within}
 use Rattle.dk_base.specs.FrameSizes.{size_of}
-use Rattle.pointwise_eval.specs.declared.frame.Frame.{Frame}
+use Rattle.dk_frames.specs.declared.frame.Frame.{Frame}
 use Rattle.pointwise_eval.specs.Rounds.{IsInputFrame}
 use Rattle.pointwise_eval.proofs.Fits.{fits_more}
 use Rattle.pointwise_eval.proofs.fit.each_fits.Goals as goal

@@ -6,6 +6,7 @@ use Rattle.raster_delay.specs.Network.{Holds}
 use Rattle.raster_delay.specs.Delays.{begin_of}
 use Rattle.raster_delay.specs.Systems.{image_count, placed_reads, constraints_in}
 use Rattle.raster_delay.proofs.Bridge.{holds_causal, numbers_of, numbers_hold, begins_of}
+use Rattle.raster_delay.proofs.Early.{growing, growing_causal, growing_small}
 use Rattle.raster_delay.proofs.Places.{system_form}
 use Rattle.raster_delay.proofs.numbers.earliest.Goals as goal
 
@@ -41,6 +42,22 @@ returns-clause-least c = λ d causal k.
             (All-from_recursion (Holds (numbers_of row inputs images reads d)) (constraints_in s) (numbers_hold row s.age inputs images reads form.reads_are form.some_inputs form.inputs_kept d causal))
             (begin_of inputs k),
         begins_of row inputs images reads d form.some_inputs form.inputs_kept causal.inputs_at_once k h,
+      )
+      | inr h ↦ omega (arith, get_or_past delays k 0 (omega (arith, h, c.in_ok-delays.ensures.length)))
+    ]
+
+pub returns-clause-near : goal.returns-clause-near
+returns-clause-near c = λ k.
+    let s = c.args.system.now in
+    let form = system_form s c.law.ensures in
+    let inputs = s.stencils.inputs in
+    let images = image_count s in
+    let delays = c.in_ok-delays.delays.items in
+    elim (cases_lt k images) [
+      | inl h ↦ omega (
+        arith,
+        returns-clause-least c (growing inputs images) (growing_causal s.stencils.width s.age inputs images (placed_reads s) form.reads_are form.age_limit form.inputs_kept) k,
+        growing_small inputs images k h form.image_limit,
       )
       | inr h ↦ omega (arith, get_or_past delays k 0 (omega (arith, h, c.in_ok-delays.ensures.length)))
     ]

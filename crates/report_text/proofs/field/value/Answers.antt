@@ -1,5 +1,5 @@
 use Rattle.std.proofs.Common.{◌≤◌, ◌^◌, arith}
-use Rattle.report_text.specs.Reading.{value_of}
+use Rattle.dk_base.specs.Ascii.{value_of}
 use Rattle.report_text.proofs.Numbers.{value_at}
 use Rattle.report_text.proofs.field.value.Goals as goal
 

@@ -1,5 +1,5 @@
 use Rattle.std.proofs.Common.{◌≡◌, drop}
-use Rattle.report_text.specs.Reading.{value_after}
+use Rattle.dk_base.specs.Ascii.{value_after}
 use Rattle.report_text.proofs.field.value.Given as goal
 
 abbrev pub invariant-loop-digit : goal.invariant-loop-digit

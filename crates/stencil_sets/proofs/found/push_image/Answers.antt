@@ -1,6 +1,6 @@
 use Rattle.std.proofs.Common.{arith, ◌+ℤ◌, pos, to_z, of_z, w32}
 use Rattle.std.proofs.lemmas.Int.{ints}
-use Rattle.stencil_sets.proofs.Chains.{small32}
+use Rattle.frame_paths.proofs.Spreads.{small32}
 use Rattle.stencil_sets.proofs.Rows.{rows_start, rows_more, rows_done, rows_from, among_as}
 use Rattle.stencil_sets.proofs.found.push_image.Goals as goal
 

@@ -2,7 +2,7 @@ use Rattle.std.proofs.Common.{arith, rules, refl, sym, ◌≡◌, ◌≤ℤ◌, 
 use Rattle.std.proofs.lemmas.Int.{ints, clamps, to_z-of_z}
 use Rattle.std.specs.Int.{int_max}
 use Rattle.stencil_sets.specs.Found.{the, IsRun, IsLeft}
-use Rattle.stencil_sets.proofs.Chains.{small32}
+use Rattle.frame_paths.proofs.Spreads.{small32}
 use Rattle.stencil_sets.proofs.Ordered.{all_before_later}
 use Rattle.stencil_sets.proofs.Rows.{gains_as, within_as, run_is, behind_run, gains_run, within_run, before_at}
 use Rattle.stencil_sets.proofs.found.push_part.Goals as goal

@@ -2,7 +2,7 @@ use Rattle.std.proofs.Common.{arith, rules, ◌+ℤ◌, pos, slice_index_or, to_
 use Rattle.std.proofs.lemmas.Int.{ints, to_z-of_z}
 use Rattle.stencil_sets.specs.declared.path.Rect.{Rect}
 use Rattle.stencil_sets.specs.Paths.{IsNearRect}
-use Rattle.stencil_sets.proofs.Chains.{small32}
+use Rattle.frame_paths.proofs.Spreads.{small32}
 use Rattle.stencil_sets.proofs.Rows.{range_more}
 use Rattle.stencil_sets.proofs.found.rows_of.Goals as goal
 

@@ -2,28 +2,8 @@ use Rattle.std.proofs.Common.{arith, ap, sym, subst, ◌-◌, ◌+◌, ◌<◌, 
 use Rattle.dk_base.specs.FrameSizes.{size_of}
 use Rattle.pointwise_ir.specs.Trees.{tree_of}
 use Rattle.stencil_sets.specs.Marks.{IsMarked}
-use Rattle.stencil_sets.proofs.Marked.{marks_step, marks_left, marked_start, marked_at, body_defined, body_there, mark_there, mark_not, marks_moved}
+use Rattle.stencil_sets.proofs.Marked.{marks_step, marks_left, marked_start, marked_at, body_there, mark_there, mark_not, marks_moved}
 use Rattle.stencil_sets.proofs.kept.mark_needed.Goals as goal
-
-pub mark_reads-requires-clause-depth : goal.mark_reads-requires-clause-depth
-mark_reads-requires-clause-depth c =
-    let p = c.args.ir.now in
-    let k = c.loop-k.k - 1 in
-    let images = c.images-images.result.now in
-    let lt : k < length p.images = omega (arith, c.loop-k-test.true, c.loop-k.invariant.within) in
-    let next : c.loop-k.k ≡ k + 1 = omega (arith, c.loop-k-test.true) in
-    let inputs = ap length c.inputs-inputs.ensures in
-    (body_defined p c.law.ensures images c.images-images.ensures k c.index-images-k.result lt).depth
-
-pub mark_reads-requires-clause-near : goal.mark_reads-requires-clause-near
-mark_reads-requires-clause-near c =
-    let p = c.args.ir.now in
-    let k = c.loop-k.k - 1 in
-    let images = c.images-images.result.now in
-    let lt : k < length p.images = omega (arith, c.loop-k-test.true, c.loop-k.invariant.within) in
-    let next : c.loop-k.k ≡ k + 1 = omega (arith, c.loop-k-test.true) in
-    let inputs = ap length c.inputs-inputs.ensures in
-    (body_defined p c.law.ensures images c.images-images.ensures k c.index-images-k.result lt).offsets
 
 pub loop-k-preserved-in-Continue-1 : goal.loop-k-preserved-in-Continue-1
 loop-k-preserved-in-Continue-1 c =

@@ -1,19 +1,19 @@
-use Rattle.std.proofs.Common.{rules, ap, sym, subst, ◌∙◌, ◌≡◌, Some, None, to_z, of_z, w32, w64}
+use Rattle.std.proofs.Common.{rules, ap, sym, subst, ◌∙◌, ◌≡◌, Some, None, to_z, of_z, w32}
 use Rattle.std.proofs.lemmas.Int.{to_z-of_z}
 use Rattle.std.proofs.lemmas.Result.{on_ok_weaker}
 use Rattle.pointwise_ir.specs.Trees.{tree_of, read, shifted, unary, binary, select, convert, scale}
 use Rattle.dk_base.specs.FrameSizes.{size_of}
 use Rattle.stencil_sets.specs.Paths.{ReadsFrom}
-use Rattle.stencil_sets.proofs.Chains.{same64}
-use Rattle.stencil_sets.proofs.Walked.{Adds, adds_both, adds_three, adds_nothing, adds_same, no_shift, shift_end, steps_moved, two_split, two_join, three_split, three_join, as_tree}
+use Rattle.frame_paths.proofs.Walks.{steps_moved}
+use Rattle.stencil_sets.proofs.Walked.{Adds, adds_both, adds_three, adds_nothing, adds_same, no_shift, shift_end, two_split, two_join, three_split, three_join, as_tree}
 use Rattle.stencil_sets.proofs.path.+add_reads.Goals as goal
 
 pub returns-in-Read-clause-added : goal.returns-in-Read-clause-added
 returns-in-Read-clause-added t c =
-    let x : to_z w64 (of_z w64 c.from.result) ≡ c.in-Read.dx = same64 c.from.result (search rules) ∙ c.from.ensures ∙ to_z-of_z w32 c.in-Read.dx (search rules) in
-    let y : to_z w64 (of_z w64 c.from-in-Read.result) ≡ c.in-Read.dy = same64 c.from-in-Read.result (search rules) ∙ c.from-in-Read.ensures ∙ to_z-of_z w32 c.in-Read.dy (search rules) in
+    let x : to_z w32 (of_z w32 c.in-Read.dx) ≡ c.in-Read.dx = to_z-of_z w32 c.in-Read.dx (search rules) in
+    let y : to_z w32 (of_z w32 c.in-Read.dy) ≡ c.in-Read.dy = to_z-of_z w32 c.in-Read.dy (search rules) in
     as_tree (size_of c.args.size) c.args.path c.args.all.now.items c.add_read.new.all.items c.add_read.result (tree_of c.args.body.now) _
-    (ap tree_of c.in-Read.is ∙ ap (λ d. read c.in-Read.edge c.in-Read.image d c.in-Read.dy) (sym x) ∙ ap (λ d. read c.in-Read.edge c.in-Read.image (to_z w64 (of_z w64 c.from.result)) d) (sym y)) c.add_read.ensures.added
+    (ap tree_of c.in-Read.is ∙ ap (λ d. read c.in-Read.edge c.in-Read.image d c.in-Read.dy) (sym x) ∙ ap (λ d. read c.in-Read.edge c.in-Read.image (to_z w32 (of_z w32 c.in-Read.dx)) d) (sym y)) c.add_read.ensures.added
 
 pub returns-in-Unary-clause-added : goal.returns-in-Unary-clause-added
 returns-in-Unary-clause-added t c =
@@ -36,8 +36,8 @@ returns-in_ok-add_reads-in-Binary-clause-added t c =
 
 pub returns-in-Some-clause-added : goal.returns-in-Some-clause-added
 returns-in-Some-clause-added t c =
-    let x : to_z w64 (of_z w64 c.from-in-Shifted.result) ≡ c.in-Shifted.dx = same64 c.from-in-Shifted.result (search rules) ∙ c.from-in-Shifted.ensures ∙ to_z-of_z w32 c.in-Shifted.dx (search rules) in
-    let y : to_z w64 (of_z w64 c.from-in-Shifted-2.result) ≡ c.in-Shifted.dy = same64 c.from-in-Shifted-2.result (search rules) ∙ c.from-in-Shifted-2.ensures ∙ to_z-of_z w32 c.in-Shifted.dy (search rules) in
+    let x : to_z w32 (of_z w32 c.in-Shifted.dx) ≡ c.in-Shifted.dx = to_z-of_z w32 c.in-Shifted.dx (search rules) in
+    let y : to_z w32 (of_z w32 c.in-Shifted.dy) ≡ c.in-Shifted.dy = to_z-of_z w32 c.in-Shifted.dy (search rules) in
     let size = size_of c.args.size in
     let p = c.args.path in
     let edge = c.in-Shifted.edge in
@@ -53,8 +53,8 @@ returns-in-Some-clause-added t c =
 
 pub returns-in-None-clause-added : goal.returns-in-None-clause-added
 returns-in-None-clause-added t c =
-    let x : to_z w64 (of_z w64 c.from-in-Shifted.result) ≡ c.in-Shifted.dx = same64 c.from-in-Shifted.result (search rules) ∙ c.from-in-Shifted.ensures ∙ to_z-of_z w32 c.in-Shifted.dx (search rules) in
-    let y : to_z w64 (of_z w64 c.from-in-Shifted-2.result) ≡ c.in-Shifted.dy = same64 c.from-in-Shifted-2.result (search rules) ∙ c.from-in-Shifted-2.ensures ∙ to_z-of_z w32 c.in-Shifted.dy (search rules) in
+    let x : to_z w32 (of_z w32 c.in-Shifted.dx) ≡ c.in-Shifted.dx = to_z-of_z w32 c.in-Shifted.dx (search rules) in
+    let y : to_z w32 (of_z w32 c.in-Shifted.dy) ≡ c.in-Shifted.dy = to_z-of_z w32 c.in-Shifted.dy (search rules) in
     let size = size_of c.args.size in
     let p = c.args.path in
     let edge = c.in-Shifted.edge in

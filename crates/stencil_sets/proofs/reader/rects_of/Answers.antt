@@ -1,4 +1,4 @@
-use Rattle.std.proofs.Common.{arith, rules, ◌≡◌, sym, subst, All, []}
+use Rattle.std.proofs.Common.{rules, ◌≡◌, sym, subst, All, []}
 use Rattle.std.proofs.lemmas.List.Elements.{All-from_recursion}
 use Rattle.std.proofs.lemmas.List.Sorted.{All-permutation, answers_always}
 use Rattle.pointwise_ir.specs.Trees.{tree_of}
@@ -7,9 +7,6 @@ use Rattle.stencil_sets.specs.declared.path.Rect.{Rect}
 use Rattle.stencil_sets.specs.Paths.{IsNearRect}
 use Rattle.stencil_sets.proofs.Readers.{sorted_by, exact_after}
 use Rattle.stencil_sets.proofs.reader.rects_of.Goals as goal
-
-pub add_reads-requires-clause-room : goal.add_reads-requires-clause-room
-add_reads-requires-clause-room c = c.none.ensures.room _ (omega (arith, c.requires.depth))
 
 pub returns-clause-near : goal.returns-clause-near
 returns-clause-near c =

@@ -5,22 +5,10 @@ use Rattle.pointwise_ir.specs.Reads.{Kept}
 use Rattle.stencil_sets.specs.Found.{Gains, Within}
 use Rattle.stencil_sets.specs.Live.{IsReadOf}
 use Rattle.stencil_sets.specs.Marks.{IsMarked}
-use Rattle.stencil_sets.proofs.Marked.{body_defined, body_there, mark_there, mark_not}
+use Rattle.stencil_sets.proofs.Marked.{body_there, mark_there, mark_not}
 use Rattle.stencil_sets.proofs.Programs.{ReadersSoFar, readers_more, readers_left, readers_done, readers_within, body_below}
 use Rattle.stencil_sets.proofs.reads.push_marked.Goals.{then-kept-inputs+in_ok-push_body, else-kept-inputs}
 use Rattle.stencil_sets.proofs.reads.push_marked.Goals as goal
-
-pub push_body-requires-clause-depth : goal.push_body-requires-clause-depth
-push_body-requires-clause-depth c =
-    let images = c.images-images.result.now in
-    let lt : c.loop-k.k < length c.args.ir.now.images = let l = c.loop-k-test.true in let n = ap length c.images-images.ensures in omega (arith, l, n) in
-    (body_defined c.args.ir.now c.law.ensures images c.images-images.ensures c.loop-k.k c.index-images-k.result lt).depth
-
-pub push_body-requires-clause-near : goal.push_body-requires-clause-near
-push_body-requires-clause-near c =
-    let images = c.images-images.result.now in
-    let lt : c.loop-k.k < length c.args.ir.now.images = let l = c.loop-k-test.true in let n = ap length c.images-images.ensures in omega (arith, l, n) in
-    (body_defined c.args.ir.now c.law.ensures images c.images-images.ensures c.loop-k.k c.index-images-k.result lt).offsets
 
 pub push_body-requires-clause-earlier : goal.push_body-requires-clause-earlier
 push_body-requires-clause-earlier c =

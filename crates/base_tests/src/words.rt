@@ -1,0 +1,82 @@
+//! The words of commands, as they are read.
+
+use dk_words::{
+    Asked, CheckWords, FileNames, NoCommand, PlanWords, PowerUp, SimWords, read_command,
+};
+use std::alloc::Global;
+use std::test::Fail;
+
+/// The words of a line.
+fn words(alloc: Global, line: &str) -> Result<Vec<String>, Fail> {
+    let mut words = Vec::new(alloc);
+    for word in line.split(' ') {
+        words.push(word.to_string(alloc)?)?;
+    }
+    Ok(words)
+}
+
+#[test]
+fn reads_files(rt: HostRuntime) -> Result<(), Fail> {
+    let alloc = rt.alloc();
+    let run = words(alloc, "dk run  b -")?;
+    let files = FileNames {
+        program: "",
+        image: "b",
+        out: "-",
+    };
+    assert_eq!(rt; read_command(alloc, &run), Ok(Asked::Run(files)));
+    let eval = words(alloc, "dk eval a -- -b run")?;
+    let files = FileNames {
+        program: "a",
+        image: "-b",
+        out: "run",
+    };
+    assert_eq!(rt; read_command(alloc, &eval), Ok(Asked::Eval(files)));
+    let check = words(alloc, "dk check p.dk p.dk")?;
+    let files = CheckWords {
+        program: "p.dk",
+        report: "p.dk",
+    };
+    assert_eq!(rt; read_command(alloc, &check), Ok(Asked::Check(files)));
+    Ok(())
+}
+
+#[test]
+fn reads_options(rt: HostRuntime) -> Result<(), Fail> {
+    let alloc = rt.alloc();
+    let plan = words(alloc, "dk plan --age=64 -- --age")?;
+    let given = PlanWords {
+        program: "--age",
+        age: 64,
+    };
+    assert_eq!(rt; read_command(alloc, &plan), Ok(Asked::Plan(given)));
+    let sim = words(alloc, "dk sim v.v --fill ones 100000000 i --hold 1000000 o")?;
+    let given = SimWords {
+        verilog: "v.v",
+        clocks: 100_000_000,
+        image: "i",
+        out: "o",
+        fill: PowerUp::Ones,
+        hold: Some(1_000_000),
+    };
+    assert_eq!(rt; read_command(alloc, &sim), Ok(Asked::Sim(given)));
+    Ok(())
+}
+
+#[test]
+fn other_words_are_not_taken(rt: HostRuntime) -> Result<(), Fail> {
+    let alloc = rt.alloc();
+    for line in [
+        "dk eval -a b -- c",
+        "dk plan p.dk --age 65",
+        "dk plan p.dk --age=",
+        "dk sim v.v 007 i o",
+        "dk sim v.v 4 i o --hold -1",
+        "dk help",
+    ] {
+        let words = words(alloc, line)?;
+        let refused = read_command(alloc, &words) == Err(NoCommand::Usage);
+        assert!(rt; refused, "{line}");
+    }
+    Ok(())
+}

@@ -1,0 +1,110 @@
+-- The live reads of a program are those of any of its forms, and one list in order.
+use Rattle.std.proofs.Common.{◌≡◌, ℕ, zero, suc, ◌≤◌, ◌<◌, ℤ, inl, inr, List, [], ◌∷◌, length, refl, sym, ap, subst, ◌∙◌, arith}
+use Rattle.std.specs.Prelude.{Contains}
+use Rattle.dk_base.specs.declared.stencils.LiveRead.{LiveRead}
+use Rattle.dk_base.specs.Stencils.{Parts}
+use Rattle.dk_types.specs.Typed.{Typing}
+use Rattle.pointwise_ir.specs.Programs.{Program}
+use Rattle.stencil_sets.specs.Found.{IsThe, Has, the}
+use Rattle.stencil_sets.specs.Live.{AreReads, AreStencilsOf, HasCount}
+use Rattle.stencil_sets.specs.Live as S
+use Rattle.stencil_sets.specs.Faults as F
+use Rattle.stencil_sets.specs.declared.live.StencilFault.{StencilFault}
+use Rattle.stencil_sets.specs.declared.live.StencilFault.TheVariants as stencils
+use Rattle.stencil_sets.proofs.Unique.{no_longer, same_list}
+use Rattle.dk_inline.specs.Answers.{IsWithin}
+use Rattle.dk_compile.specs.Faults.{of_stencils}
+use Rattle.dk_compile.specs.Sources.{IsText, IsKeptRead, AreReadsOf, IsAccepted, HasReads, HasManyReads, HasTooMany, IsFault}
+use Rattle.dk_compile.specs.Fronts.{IsForm, IsFront}
+
+the_is : (a r : LiveRead) → IsThe a r.f r.g r.dx r.dy → a ≡ r
+the_is a r k =
+    subst (λ n. a ≡ the n r.g r.dx r.dy) k.reader (subst (λ n. a ≡ the a.f n r.dx r.dy) k.source (subst (λ n. a ≡ the a.f a.g n r.dy) k.across (subst (λ n. a ≡ the a.f a.g a.dx n) k.down refl)))
+
+-- the two ways to say that a read is one of some
+has_of : (xs : List LiveRead) (r : LiveRead) → Contains xs r → Has xs r.f r.g r.dx r.dy
+has_of [] r (k, lt, is) = absurd (omega (arith, lt))
+has_of (x ∷ xs) r (zero, lt, is) = inl (record { reader = ap (λ (a : LiveRead). a.f) is; source = ap (λ (a : LiveRead). a.g) is; across = ap (λ (a : LiveRead). a.dx) is; down = ap (λ (a : LiveRead). a.dy) is })
+has_of (x ∷ xs) r (suc k, lt, is) = inr (has_of xs r (k, (let less : k < length xs = omega (arith, lt) in less), is))
+
+of_has : (xs : List LiveRead) (r : LiveRead) → Has xs r.f r.g r.dx r.dy → Contains xs r
+of_has [] r h = absurd h
+of_has (x ∷ xs) r (inl k) = (zero, (let some : 0 < length (x ∷ xs) = omega arith in some), the_is x r k)
+of_has (x ∷ xs) r (inr h) = let (k, lt, is) = of_has xs r h in (suc k, (let more : suc k < length (x ∷ xs) = omega (arith, lt) in more), is)
+
+module _ (p : Typing) where
+  more_of : (a b : List LiveRead) → ((r : LiveRead) → Contains a r → IsKeptRead p r) → AreReadsOf p b → (f g : ℕ) (dx dy : ℤ) → Has a f g dx dy → Has b f g dx dy
+  more_of a b sound are f g dx dy h = has_of b (the f g dx dy) ((are.exact (the f g dx dy)).1 (sound (the f g dx dy) (of_has a (the f g dx dy) h)))
+
+  one_list : (a b : List LiveRead) → AreReadsOf p a → AreReadsOf p b → a ≡ b
+  one_list a b x y = same_list a b x.in_order y.in_order (more_of a b (λ r. (x.exact r).0) y) (more_of b a (λ r. (y.exact r).0) x)
+
+  few_many : (m n : ℕ) → HasReads p m → HasManyReads p n → ⊥
+  few_many m n a b =
+      let l = no_longer b.reads a.reads b.in_order a.are_reads.in_order (more_of b.reads a.reads b.sound a.are_reads) in
+      let c = a.count_is in
+      let f = a.few in
+      let g = b.many in
+      omega (arith, l, c, f, g)
+
+  -- so many reads at most
+  pub too_many_once : (m n : ℕ) → HasTooMany p m → HasTooMany p n → m ≡ n
+  too_many_once m n a b = elim a.counted [
+    | inl x ↦ elim b.counted [
+      | inl y ↦ x.count_is ∙ ap length (one_list x.reads y.reads x.are_reads y.are_reads) ∙ sym y.count_is
+      | inr y ↦ absurd (few_many m n x y)
+    ]
+    | inr x ↦ elim b.counted [ inl y ↦ absurd (few_many n m y x) | inr y ↦ x.count_is ∙ sym y.count_is ]
+  ]
+
+  -- few reads are not too many
+  pub few_not_many : (reads : List LiveRead) (n : ℕ) → AreReadsOf p reads → length reads ≤ 4096 → HasTooMany p n → ⊥
+  few_not_many reads n are few many = elim many.counted [
+    | inl x ↦
+        let e = ap length (one_list x.reads reads x.are_reads are) in
+        let c = x.count_is in
+        let more = many.more in
+        omega (arith, e, c, few, more)
+    | inr x ↦ few_many (length reads) n (record { reads = reads; are_reads = are; count_is = refl; few = (let least : length reads ≤ 65536 = omega (arith, few) in least) }) x
+  ]
+
+  module _ (ir : Program) (form : IsForm p ir) where
+    to_form : (r : LiveRead) → IsKeptRead p r → S.IsKeptRead ir r.f r.g r.dx r.dy
+    to_form r is = record { kept = (form.kept r.f).1 is.kept; live = (form.live r.f r.g r.dx r.dy is.kept).1 is.live }
+
+    of_form : (r : LiveRead) → S.IsKeptRead ir r.f r.g r.dx r.dy → IsKeptRead p r
+    of_form r is = let kept = (form.kept r.f).0 is.kept in record { kept = kept; live = (form.live r.f r.g r.dx r.dy kept).0 is.live }
+
+    -- the reads of a form are those of the program
+    pub reads_of : (reads : List LiveRead) → AreReads ir reads → AreReadsOf p reads
+    reads_of reads are = record {
+      in_order = are.in_order;
+      exact = λ r. (λ h. of_form r ((are.exact r.f r.g r.dx r.dy).0 (has_of reads r h)), λ h. of_has reads r ((are.exact r.f r.g r.dx r.dy).1 (to_form r h)));
+    }
+
+    pub same_reads : (s : Parts) (reads : List LiveRead) → AreStencilsOf ir s → AreReadsOf p reads → s.reads ≡ reads
+    same_reads s reads stencils are = one_list s.reads reads (reads_of s.reads stencils.reads) are
+
+    pub too_many_of : (count : ℕ) → 4096 < count → HasCount ir count → HasTooMany p count
+    too_many_of count more counted = record {
+      more = more;
+      counted = elim counted [
+        | inl few ↦ inl (record { reads = few.reads; are_reads = reads_of few.reads few.exact; count_is = few.count_is; few = few.few })
+        | inr many ↦ inr (record {
+          reads = many.reads;
+          in_order = many.some.in_order;
+          sound = λ r h. of_form r (many.some.sound r.f r.g r.dx r.dy (has_of many.reads r h));
+          many = many.many;
+          count_is = many.count_is;
+        })
+      ];
+    }
+
+-- the fault of too many reads
+pub stencil_fault : (text : List ℕ) (p : Typing) (ir : Program) → IsText text p → IsWithin p → IsForm p ir → (e : StencilFault) → F.IsFault ir e → IsFault text (of_stencils e)
+stencil_fault text p ir is within form (stencils.Reads count) (more, counted) = (p, is, within, too_many_of p ir form count more counted)
+stencil_fault text p ir is within form stencils.Memory told = tt
+
+-- what is given is of a text that is accepted
+pub accepted_of : (text : List ℕ) (p : Typing) (ir : Program) (s : Parts) → IsFront text p ir s → IsAccepted text p
+accepted_of text p ir s is = record { program = is.program; within = is.within; reads = s.reads; are_reads = reads_of p ir is.form s.reads is.stencils.reads; few = is.few }

@@ -1,0 +1,221 @@
+-- The numbers of a text's program are those of its tokens.
+use Rattle.std.proofs.Common.{◌≡◌, ℕ, ◌<◌, ◌^◌, List, [], ◌∷◌, ◌++◌, take, Option, Some, None, Ok, Err, Bool, true, false, nat_eq, nat_lt, if◌then◌else◌, refl, subst, arith}
+use Rattle.std.specs.List.{All, AllByRecursion, prefix_len}
+use Rattle.std.proofs.lemmas.List.Elements.{All-from_recursion}
+use Rattle.dk_base.specs.declared.ty.Ty.{Ty}
+use Rattle.dk_base.specs.declared.ty.Ty.TheVariants.{Unsigned, Signed}
+use Rattle.dk_base.specs.declared.span.Span.{Span}
+use Rattle.dk_lexer.specs.declared.token.Token.{Token}
+use Rattle.dk_lexer.specs.declared.token.TokenKind.{TokenKind}
+use Rattle.dk_lexer.specs.declared.token.TokenKind.TheVariants.{Word, Number, Symbol, End}
+use Rattle.dk_lexer.specs.Lexis.{Lexes, finish, next, lexeme, Lexeme, word_here, number_here, symbol_at, two_byte_lexeme, one_byte_lexeme}
+use Rattle.dk_lexer.specs.declared.token.Symbol.{Symbol as Sign}
+use Rattle.dk_lexer.specs.declared.token.Symbol.TheVariants.{Minus}
+use Rattle.dk_lexer.specs.declared.fault.LexKind.TheVariants.{NumberTooGreat}
+use Rattle.dk_base.specs.declared.TheConstants.{MAX_NAME_BYTES}
+use Rattle.dk_base.specs.Ascii.{is_letter, is_digit, is_word_byte, value_of}
+use Rattle.dk_lexer.specs.Bytes.{two_byte_symbol, one_byte_symbol}
+use Rattle.dk_grammar.specs.Reading.{Phrases, Clear, end, link}
+use Rattle.dk_parser.specs.declared.items.Lead.{Lead}
+use Rattle.dk_parser.specs.declared.items.Lead.TheVariants as lead
+use Rattle.dk_parser.specs.declared.terminal.Keyword.{Keyword}
+use Rattle.dk_parser.specs.declared.terminal.Keyword.TheVariants as word
+use Rattle.dk_parser.specs.declared.terminal.Mark.TheVariants as mark
+use Rattle.dk_parser.specs.declared.terminal.Terminal.{Terminal}
+use Rattle.dk_parser.specs.declared.terminal.Terminal.TheVariants.{Keyword as Keyword', Symbol as Symbol', Number as Number', TypeWord as Type'}
+use Rattle.dk_parser.specs.declared.tree.Start.{Start}
+use Rattle.dk_parser.specs.declared.tree.Start.TheVariants.{Constant}
+use Rattle.dk_parser.specs.declared.tree.Step.{Step}
+use Rattle.dk_parser.specs.Tree.{Tree, number, read, unary, binary, scale, cast, sat, select, span_of, at_span}
+use Rattle.dk_parser.specs.Terminals.{terminal, terminal_of, keyword_or, reserved, type_or_name, typed, width_of, same_codes}
+use Rattle.dk_parser.specs.Words.{over}
+use Rattle.dk_parser.specs.Reads.{plain as unclamped', clamped}
+use Rattle.dk_parser.specs.Grammar.{Tokens, Form, steps, Phrase, single, compared, prefixed, plain, chain, done, operand, suffixed, suffix, scaled, converted, closed, reading, constant, bracket, pair, absolute, saturate, choice, start}
+use Rattle.dk_parser.specs.Programs.{Source, Definition, Item, input, definition, output, ADefinition, AnItem, Items, definitions_of, is_end}
+use Rattle.dk_parser.specs.Judged.{Derives}
+use Rattle.dk_parser.proofs.Laws.{local}
+use Rattle.dk_parser.proofs.Tokens.{clear_mark, clear_name, clear_literal}
+use Rattle.dk_parser.proofs.Keeping.{clear_item, clear_declared, clear_header}
+use Rattle.dk_types.specs.Types.{HasNumbers}
+
+-- a number is below 2 ^ 64
+abbrev IsSmall : Terminal → Type 0
+IsSmall (Number' v) = v < 2 ^ 64
+IsSmall _ = Unit {0}
+
+abbrev pub AreSmall : Tokens → Type 0
+AreSmall [] = Unit {0}
+AreSmall (t ∷ ts) = IsSmall (terminal t) × AreSmall ts
+
+-- Words are no numbers.
+picked : (b : Bool) (k l : Terminal) → IsSmall k → IsSmall l → IsSmall (if b then k else l)
+picked true k l p q = p
+picked false k l p q = q
+
+typed_small : (f : ℕ → Ty) (o : Option ℕ) → IsSmall (typed f o)
+typed_small f None = tt
+typed_small f (Some n) = tt
+
+name_small : (bytes : List ℕ) → IsSmall (type_or_name bytes)
+name_small [] = tt
+name_small (c ∷ ds) = picked (nat_eq c 117) _ _ (typed_small Unsigned (width_of ds)) (picked (nat_eq c 115) _ _ (typed_small Signed (width_of ds)) tt)
+
+keyword_small : (bytes : List ℕ) (ws : List (List ℕ × Keyword)) (other : Terminal) → IsSmall other → IsSmall (keyword_or bytes ws other)
+keyword_small bytes [] other s = s
+keyword_small bytes (w ∷ ws) other s = picked (same_codes bytes w.0) _ _ tt (keyword_small bytes ws other s)
+
+-- The lexer's numbers.
+abbrev Fits : TokenKind → Type 0
+Fits (Number v) = v < 2 ^ 64
+Fits _ = Unit {0}
+
+kind_small : (k : TokenKind) → Fits k → IsSmall (terminal_of k)
+unfolding terminal_of
+kind_small (Word t) f = keyword_small t reserved (type_or_name t) (name_small t)
+kind_small (Number v) f = f
+kind_small (Symbol s) f = tt
+kind_small End f = tt
+
+abbrev AllFit : Lexeme → Type 0
+AllFit (Err e) = Unit {0}
+AllFit (Ok x) = Fits x.0
+
+chosen : (b : Bool) (k l : Lexeme) → AllFit k → AllFit l → AllFit (if b then k else l)
+chosen true k l p q = p
+chosen false k l p q = q
+
+number_fits : (v n : ℕ) (b : Bool) → nat_lt v (2 ^ 64) ≡ b → AllFit (if b then Ok (Number v, n) else Err (NumberTooGreat, n))
+number_fits v n true e = grind (arith, e)
+number_fits v n false e = tt
+
+one_fits : (o : Option Sign) → AllFit (one_byte_lexeme o)
+one_fits None = tt
+one_fits (Some s) = tt
+
+two_fits : (o : Option Sign) (a : ℕ) → AllFit (two_byte_lexeme o a)
+two_fits None a = one_fits (one_byte_symbol a)
+two_fits (Some s) a = tt
+
+symbol_fits : (a : ℕ) (bs : List ℕ) → AllFit (symbol_at a bs)
+symbol_fits a [] = one_fits (one_byte_symbol a)
+symbol_fits a (b ∷ bs) = two_fits (two_byte_symbol a b) a
+
+lexeme_fits : (a : ℕ) (bs : List ℕ) → AllFit (lexeme a bs)
+unfolding lexeme
+lexeme_fits a bs =
+    chosen (is_letter a) (word_here (a ∷ bs)) (if is_digit a then number_here (a ∷ bs) else symbol_at a bs) (chosen (nat_lt MAX_NAME_BYTES (prefix_len is_word_byte (a ∷ bs))) _ _ tt tt)
+    (chosen (is_digit a) (number_here (a ∷ bs)) (symbol_at a bs) (number_fits (value_of (take (prefix_len is_digit (a ∷ bs)) (a ∷ bs))) (prefix_len is_digit (a ∷ bs)) _ refl) (symbol_fits a bs))
+
+pub lexed_small : {total : ℕ} {text : List ℕ} {tokens : Tokens} → Lexes total text tokens → AreSmall tokens
+lexed_small (finish g) = (kind_small End tt, tt)
+lexed_small (next {bs = bs} {a = a} {n = n} {kind = kind} g s is more) = (kind_small kind (subst AllFit is (lexeme_fits a bs)), lexed_small more)
+
+-- What follows a phrase.
+behind : (own rest : Tokens) → AreSmall (own ++ rest) → AreSmall rest
+behind [] rest s = s
+behind (t ∷ own) rest s = behind own rest s.1
+
+rest_small : {V : Type 0} {P : Phrases Token V} {ts rest : Tokens} {v : V} → Clear P → P ts v rest → AreSmall ts → AreSmall rest
+rest_small {rest = rest} c p s = let o = c.own p in behind o.0 rest (subst AreSmall o.1 s)
+
+phrase_rest : {f : Form} {ts rest : Tokens} {e : Tree} → Phrase f ts e rest → AreSmall ts → AreSmall rest
+phrase_rest {rest = rest} p s = let i = local p in behind i.own rest (subst AreSmall i.whole s)
+
+-- Numbers of expressions.
+spanned : (s : Span) (e : Tree) → HasNumbers e → HasNumbers (at_span s e)
+spanned s (number _ v) h = h
+spanned s (read _ r) h = h
+spanned s (unary _ o a) h = h
+spanned s (binary _ o a b) h = h
+spanned s (scale _ o a k) h = h
+spanned s (cast _ a t) h = h
+spanned s (sat _ a t) h = h
+spanned s (select _ a b c) h = h
+
+abbrev BeginsSmall : Start → Type 0
+BeginsSmall (Constant v) = v < 2 ^ 64
+BeginsSmall _ = Unit {0}
+
+begins_small : (k : Terminal) → IsSmall k → BeginsSmall (start k)
+begins_small (Number' v) s = s
+begins_small (Keyword' word.Min) s = tt
+begins_small (Symbol' Minus) s = tt
+begins_small _ s = tt
+
+constant_small : (k : Terminal) (v : ℕ) → start k ≡ Constant v → IsSmall k → v < 2 ^ 64
+constant_small k v e s = subst BeginsSmall e (begins_small k s)
+
+suffix_numbers : (l m : Tree) (s : Step) (t : Token) → suffix l s t ≡ Some m → HasNumbers l → HasNumbers m
+suffix_numbers l m (Step.Operand o) t e h = absurd (let other : ⊥ = cc in other)
+suffix_numbers l m (Step.Number o) t e h = by (terminal t) e
+  where
+    by : (k : Terminal) → scaled l o t.span k ≡ Some m → HasNumbers m
+    by (Number' v) e = subst HasNumbers (let same : scale (over (span_of l) t.span) o l (record { span = t.span; value = v }) ≡ m = cc in same) h
+    by _ e = absurd (let other : ⊥ = cc in other)
+suffix_numbers l m Step.Type t e h = by (terminal t) e
+  where
+    by : (k : Terminal) → converted l t.span k ≡ Some m → HasNumbers m
+    by (Type' u) e = subst HasNumbers (let same : cast (over (span_of l) t.span) l (record { span = t.span; ty = u }) ≡ m = cc in same) h
+    by _ e = absurd (let other : ⊥ = cc in other)
+
+-- what an expression's first operand has
+abbrev FirstHas : Form → Type 0
+FirstHas (steps n l) = HasNumbers l
+FirstHas _ = Unit {0}
+
+numbers : {f : Form} {ts rest : Tokens} {e : Tree} → Phrase f ts e rest → AreSmall ts → FirstHas f → HasNumbers e
+numbers (single p) s h = numbers p s tt
+numbers (compared p b q) s h = (numbers p s tt, numbers q (phrase_rest p s).1 tt)
+numbers (prefixed b p) s h = numbers p s.1 tt
+numbers (plain p) s h = numbers p s tt
+numbers (chain p q) s h = numbers q (phrase_rest p s) (numbers p s tt)
+numbers done s h = h
+numbers (operand b p q) s h = numbers q (phrase_rest p s.1) (h, numbers p s.1 tt)
+numbers (suffixed {l = l} {m = m} {word = w} {s = x} b k q) s h = numbers q s.1.1 (suffix_numbers l m x w k h)
+numbers (closed p) s h = numbers p s tt
+numbers (reading (unclamped' p)) s h = tt
+numbers (reading (clamped p a b)) s h = tt
+numbers (constant {v = v} {tok = t} b) s h = constant_small (terminal t) v b s.0
+numbers (bracket {e = e} b p c) s h = spanned _ e (numbers p s.1 tt)
+numbers (pair a o p b q c) s h = (numbers p s.1.1 tt, numbers q (phrase_rest p s.1.1).1 tt)
+numbers (absolute a o p c) s h = numbers p s.1.1 tt
+numbers (saturate a o p b t c) s h = numbers p s.1.1 tt
+numbers (choice a o p b q c r d) s h = let second = (phrase_rest p s.1.1).1 in (numbers p s.1.1 tt, numbers q second tt, numbers r (phrase_rest q second).1 tt)
+
+-- Numbers of items.
+definition_numbers : (b : Bool) {ts rest : Tokens} {d : Definition} → ADefinition b ts d rest → AreSmall ts → HasNumbers d.body
+definition_numbers b (n, m, p, (t, m2, q, (z, m3, r, (e, m4, (tok, body, k, same), is)))) s =
+    let body_at = rest_small clear_header r (rest_small clear_declared q (rest_small clear_name p s)) in
+    let P : Definition → Type 0 = λ d. HasNumbers d.body in
+    subst P is.0 (numbers body body_at tt)
+
+abbrev ItemHas : Item → Type 0
+ItemHas (definition d) = HasNumbers d.body
+ItemHas _ = Unit {0}
+
+item_numbers : (l : Lead) (ts rest : Tokens) (v : Item) → is_end l ≡ false → AnItem l ts v rest → AreSmall ts → ItemHas v
+item_numbers lead.Input ts rest v g (i, m, p, is) s = subst ItemHas is.0 tt
+item_numbers lead.Let ts rest v g (d, m, p, is) s = subst ItemHas is.0 (definition_numbers false p s)
+item_numbers lead.Inline ts rest v g (z, m, p, (d, m2, q, is)) s = subst ItemHas is.0 (definition_numbers true q (rest_small (clear_mark (mark.Reserved word.Let)) p s))
+item_numbers lead.Output ts rest v g (n, m, p, is) s = subst ItemHas is.0 tt
+item_numbers lead.End ts rest v g p s = absurd p
+
+abbrev BodiesHave : List Definition → Type 0
+BodiesHave ds = AllByRecursion (λ (d : Definition). HasNumbers d.body) ds
+
+with_item : (v : Item) (vs : List Item) → ItemHas v → BodiesHave (definitions_of vs) → BodiesHave (definitions_of (v ∷ vs))
+with_item (input i) vs h k = k
+with_item (definition d) vs h k = (h, k)
+with_item (output n) vs h k = k
+
+items_numbers : (l : Lead) {ts rest : Tokens} {vs : List Item} → Items l ts vs rest → AreSmall ts → BodiesHave (definitions_of vs)
+items_numbers l (end g) s = tt
+items_numbers l (link {n = k} {v = v} {vs = vs} g p e m q) s =
+    let after = subst AreSmall e (rest_small (clear_item l g) p s) in
+    with_item v vs (item_numbers l _ _ v g p s) (items_numbers k q after.1)
+
+pub program_numbers : (ts : Tokens) (p : Source) → Derives ts p → AreSmall ts → All (λ (d : Definition). HasNumbers d.body) p.definitions
+program_numbers ts p (z, m, a, (w, m2, b, (h, m3, c, (y, m4, d, (vs, m5, q, is))))) s =
+    let at = rest_small (clear_mark (mark.Reserved word.Input)) d (rest_small clear_literal c (rest_small clear_literal b (rest_small (clear_mark (mark.Reserved word.Size)) a s))) in
+    let P : Source → Type 0 = λ p. All (λ (d : Definition). HasNumbers d.body) p.definitions in
+    subst P is.0 (All-from_recursion (λ (d : Definition). HasNumbers d.body) (definitions_of vs) (items_numbers lead.Input q at))

@@ -1,0 +1,6 @@
+//! Frames of samples: what an image file is read as, and what a program is evaluated on.
+#![tactic(auto)]
+
+mod frame;
+
+pub use frame::{Frame, Samples};

@@ -1,0 +1,25 @@
+use Rattle.dk_top.proofs.FrontOnce.{front_once}
+use Rattle.dk_top.proofs.PlanFaults.{planned_no_fault, one_fault_at, claim_once, wrong_apart, line_once}
+use Rattle.dk_top.proofs.laws.one_plan.Goals as goal
+
+pub returns-clause-stencils : goal.returns-clause-stencils
+returns-clause-stencils c = front_once c.one_source.ensures.program c.one_answer.ensures.images c.one_answer.ensures.reads
+
+pub returns-clause-apart : goal.returns-clause-apart
+returns-clause-apart c =
+    planned_no_fault (returns-clause-stencils c) c.one_limit.ensures.apart c.one_limit.ensures.fault
+    c.one_source.ensures.program c.one_source.ensures.apart c.one_source.ensures.fault c.one_file.ensures.apart c.one_file.ensures.fault
+
+pub returns-clause-fault : goal.returns-clause-fault
+returns-clause-fault c =
+    one_fault_at (returns-clause-stencils c) c.one_limit.ensures.apart c.one_limit.ensures.fault
+    c.one_source.ensures.program c.one_source.ensures.apart c.one_source.ensures.fault c.one_file.ensures.apart c.one_file.ensures.fault
+
+pub returns-clause-claim : goal.returns-clause-claim
+returns-clause-claim c = λ text bytes. claim_once (returns-clause-stencils c) text bytes c.one_plan.ensures.claim
+
+pub returns-clause-wrong : goal.returns-clause-wrong
+returns-clause-wrong c = λ text bytes. wrong_apart (returns-clause-stencils c) text bytes c.one_plan.ensures.wrong
+
+pub returns-clause-line : goal.returns-clause-line
+returns-clause-line c = λ text bytes. line_once (returns-clause-stencils c) text bytes c.one_plan.ensures.line

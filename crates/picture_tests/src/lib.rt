@@ -1,0 +1,16 @@
+//! Images, programs as images, their pictures and their reads: worked out by hand.
+#![tactic(auto)]
+
+#[cfg(test)]
+mod images;
+#[cfg(test)]
+mod pictures;
+#[cfg(test)]
+mod programs;
+#[cfg(test)]
+mod reads;
+#[cfg(test)]
+mod rounds;
+mod worked;
+
+pub use worked::worked_headers;

@@ -1,0 +1,182 @@
+// Files and images with bytes that were written by hand.
+
+use dk_base::{Binary, FrameSize, Text, Ty};
+use pgm_rounds::{FileError, ImageFault, Round, one_file};
+use pointwise_eval::frames_fit;
+use pointwise_ir::{Definition, Edge, Expr, Input, Ir, Parts};
+use program_images::{read_program_rounds, write_outputs};
+use std::alloc::{AllocError, Global};
+use std::test::Fail;
+
+fn no_name(alloc: Global) -> Text {
+    Text::new(Vec::new(alloc))
+}
+
+/// A program on frames of two pixels in a row, with inputs of so many bits, the first of 8. Its outputs are the first input and its double.
+fn program(alloc: Global, inputs: &[u8]) -> Result<Option<Ir>, AllocError> {
+    let mut ports = Vec::new(alloc);
+    for bits in inputs {
+        ports.push(Input {
+            name: no_name(alloc),
+            ty: Ty::Unsigned(*bits),
+        })?;
+    }
+    let left = Box::new(alloc, Expr::Read(Edge::Zero, 0, 0, 0))?;
+    let right = Box::new(alloc, Expr::Read(Edge::Zero, 0, 0, 0))?;
+    let double = Expr::Binary(Binary::Add, left, right);
+    let mut images = Vec::new(alloc);
+    images.push(Definition {
+        name: no_name(alloc),
+        ty: Ty::Unsigned(9),
+        body: double,
+    })?;
+    let Some(size) = FrameSize::checked(2, 1) else {
+        return Ok(None);
+    };
+    Ok(Ir::checked(Parts {
+        size,
+        outputs: Vec::from_slice(alloc, &[0, inputs.len().min(8) as u32])?,
+        inputs: ports,
+        images,
+    }))
+}
+
+/// The fault of a file; None where it has none, or there is no such program.
+fn fault_of(alloc: Global, inputs: &[u8], bytes: &[u8]) -> Result<Option<ImageFault>, AllocError> {
+    let Some(ir) = program(alloc, inputs)? else {
+        return Ok(None);
+    };
+    match read_program_rounds(alloc, &ir, bytes) {
+        Ok(_) => Ok(None),
+        Err(FileError::Fault(fault)) => Ok(Some(fault)),
+        Err(FileError::Memory) => Err(AllocError),
+    }
+}
+
+#[test]
+fn faults_are_told(rt: HostRuntime) -> Result<(), Fail> {
+    let alloc = rt.alloc();
+    for (bytes, fault) in [
+        (&b""[..], ImageFault::Magic { offset: 0 }),
+        (
+            &b"P5 2 1 9\n\x01\x02P6 2 1 9\n\x01\x02"[..],
+            ImageFault::Magic { offset: 11 },
+        ),
+        (
+            &b"P5 2 1 9\n\x01\x02P5 2 x"[..],
+            ImageFault::Number { offset: 16 },
+        ),
+        (
+            &b"P5 2 1 9\n\x01\x02P5 2 1 0\n"[..],
+            ImageFault::Range { offset: 18 },
+        ),
+        (
+            &b"P5 3 1 900\n"[..],
+            ImageFault::Size {
+                width: 3,
+                height: 1,
+            },
+        ),
+        (&b"P5 2 1 256\n"[..], ImageFault::Maxval { maxval: 256 }),
+        (
+            &b"P5 2 1 9\n\x01\x02P5 2 1 9\n\x03\x0a"[..],
+            ImageFault::SampleTooGreat { index: 3 },
+        ),
+        (
+            &b"P5 2 1 9\n\x01"[..],
+            ImageFault::Short { held: 1, need: 2 },
+        ),
+    ] {
+        assert_eq!(rt; fault_of(alloc, &[8], bytes)?, Some(fault));
+    }
+    Ok(())
+}
+
+#[test]
+fn faults_of_the_file_are_told(rt: HostRuntime) -> Result<(), Fail> {
+    let alloc = rt.alloc();
+    let mut long = [b' '; 65_536];
+    long[0] = b'P';
+    long[1] = b'5';
+    assert_eq!(rt; fault_of(alloc, &[8], &long)?, Some(ImageFault::LongHeader));
+    let open = ImageFault::Round { held: 1, need: 2 };
+    let bytes = b"P5 2 1 1\n\x00\x01";
+    assert_eq!(rt; fault_of(alloc, &[8, 12], bytes)?, Some(open));
+    one_file();
+    Ok(())
+}
+
+#[test]
+fn a_byte_behind_65536_images_is_told(rt: HostRuntime) -> Result<(), Fail> {
+    let alloc = rt.alloc();
+    let mut bytes = Vec::new(alloc);
+    for _ in 0..65_536 {
+        bytes.extend_from_slice(b"P5 2 1 1\n\x00\x01")?;
+    }
+    assert_eq!(rt; fault_of(alloc, &[8], &bytes)?, None);
+    bytes.push(b'P')?;
+    assert_eq!(rt; fault_of(alloc, &[8], &bytes)?, Some(ImageFault::Count));
+    Ok(())
+}
+
+/// The rounds of two inputs of 8 and 12 bits.
+fn rounds_of(alloc: Global, bytes: &[u8]) -> Result<Vec<Round>, AllocError> {
+    let Some(ir) = program(alloc, &[8, 12])? else {
+        return Ok(Vec::new(alloc));
+    };
+    match read_program_rounds(alloc, &ir, bytes) {
+        Ok(rounds) => Ok(rounds),
+        Err(FileError::Fault(_)) => Ok(Vec::new(alloc)),
+        Err(FileError::Memory) => Err(AllocError),
+    }
+}
+
+#[test]
+fn rounds_are_read(rt: HostRuntime) -> Result<(), Fail> {
+    let alloc = rt.alloc();
+    let rounds = rounds_of(
+        alloc,
+        b"P5 2 1 255\n\x01\xffP5\n2 1\n4095\n\x01\x02\x0f\xffP5 2 1 9\n\x09\x00P5 2 1 255\n\x07\xff",
+    )?;
+    let mut samples = Vec::new(alloc);
+    for round in rounds {
+        assert_eq!(rt; round.frames.len(), 2);
+        for frame in round.frames {
+            assert_eq!(rt; (frame.width, frame.height), (2, 1));
+            samples.extend_from_slice(frame.samples.as_slice())?;
+        }
+    }
+    let want = [1, 255, 258, 4095, 9, 0, 7, 255];
+    assert_eq!(rt; samples.as_slice(), want.as_slice());
+    Ok(())
+}
+
+/// The images of the outputs, for each round of a file of one input of 8 bits.
+fn written(alloc: Global, bytes: &[u8]) -> Result<Vec<u8>, AllocError> {
+    let mut file = Vec::new(alloc);
+    let Some(ir) = program(alloc, &[8])? else {
+        return Ok(file);
+    };
+    match read_program_rounds(alloc, &ir, bytes) {
+        Ok(rounds) => {
+            for round in &rounds {
+                if frames_fit(&ir, &round.frames) {
+                    write_outputs(alloc, &ir, round, &mut file)?;
+                }
+            }
+            Ok(file)
+        }
+        Err(FileError::Fault(_)) => Ok(file),
+        Err(FileError::Memory) => Err(AllocError),
+    }
+}
+
+#[test]
+fn outputs_are_written(rt: HostRuntime) -> Result<(), Fail> {
+    let alloc = rt.alloc();
+    let file = written(alloc, b"P5 2 1 255\n\xc8\x01P5 2 1 9\n\x02\x09")?;
+    let want =
+        b"P5\n2 1\n255\n\xc8\x01P5\n2 1\n511\n\x01\x90\x00\x02P5\n2 1\n255\n\x02\x09P5\n2 1\n511\n\x00\x04\x00\x12";
+    assert_eq!(rt; file.as_slice(), want.as_slice());
+    Ok(())
+}

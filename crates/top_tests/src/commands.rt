@@ -1,0 +1,110 @@
+//! Calls of `sim` and `plan` over a desk in memory: what is noted, and which status comes where a call of the desk fails.
+
+ghost use Rattle.std.specs.Prelude.{◌<◌, IfOk};
+ghost use Rattle.dk_top.specs.State.{IsFresh};
+
+use dk_base::Memory;
+use dk_desk::Desk;
+use dk_desk::mem_desk::MemDesk;
+use dk_top::dk_main;
+use std::alloc::Global;
+use std::collections::BTreeMap;
+use std::test::Fail;
+
+/// A number that no call reaches.
+const NONE: u64 = u64::MAX;
+
+const TOGGLE: &[u8] = b"module m(input clk, input rst, input din, output valid, output dout);
+  wire n0;
+  reg r0;
+  reg r1;
+  assign n0 = rst | r1;
+  assign valid = ~rst;
+  assign dout = r0;
+  always @(posedge clk) begin
+    r0 <= n0;
+    r1 <= r0;
+  end
+endmodule
+";
+
+const FOUR_ZEROS: &[u8] = b"P5 4 1 1\n\x00\x00\x00\x00";
+
+const MEAN: &[u8] =
+    b"size 4 1 input a : u8 let f = im(x,y) ((a(x-1,y)+a(x,y)+a(x+1,y))/3) as u8 end output f";
+
+fn words(alloc: Global, line: &str) -> Result<Vec<String>, Memory> {
+    let mut words = Vec::new(alloc);
+    for word in line.split(' ') {
+        words.push(word.to_string(alloc)?)?;
+    }
+    Ok(words)
+}
+
+/// A desk with the files `first` and `second`, on which the call of this number fails, and which takes and gives pieces of so many bytes.
+fn desk(
+    alloc: Global,
+    first: &[u8],
+    second: &[u8],
+    failing: u64,
+    piece: usize,
+) -> Result<MemDesk, Memory>
+    requires { 0 < piece }
+    ensures { IfOk result (λ desk. IsFresh (⟦<MemDesk as Desk>⟧.outside desk)) }
+{
+    let mut files = BTreeMap::new(alloc);
+    let first = Vec::from_slice(alloc, first)?;
+    files.insert(String::from_str(alloc, "first")?, first)?;
+    let second = Vec::from_slice(alloc, second)?;
+    files.insert(String::from_str(alloc, "second")?, second)?;
+    let failing = Vec::from_slice(alloc, [failing].as_slice())?;
+    MemDesk::new(alloc, files, failing, piece, 400)
+}
+
+#[test]
+fn clocks_are_noted(rt: HostRuntime) -> Result<(), Fail> {
+    let alloc = rt.alloc();
+    let words = words(alloc, "dk sim first 4 second out")?;
+    let mut desk = desk(alloc, TOGGLE, FOUR_ZEROS, NONE, 4096)?;
+    assert_eq!(rt; dk_main(alloc, &words, &mut desk).status(), 0);
+    let notes = [(false, 0), (true, 1), (true, 0), (true, 1), (true, 0)];
+    assert_eq!(rt; desk.notes(), Some(notes.as_slice()));
+    Ok(())
+}
+
+/// The status where the call of this number fails.
+fn status_at(
+    alloc: Global,
+    line: &str,
+    first: &[u8],
+    failing: u64,
+    piece: usize,
+) -> Result<u8, Memory>
+    requires { 0 < piece }
+{
+    let words = words(alloc, line)?;
+    let mut desk = desk(alloc, first, FOUR_ZEROS, failing, piece)?;
+    Ok(dk_main(alloc, &words, &mut desk).status())
+}
+
+/// Whatever call fails, the status says so. Each input is opened and read to its end, and then the output is written; the last call does not come.
+#[test]
+fn each_call_fails_in_turn(rt: HostRuntime) -> Result<(), Fail> {
+    let alloc = rt.alloc();
+    let cases: [(&str, &[u8], &[u8]); 2] = [
+        (
+            "dk sim first 4 second out",
+            TOGGLE,
+            [7, 7, 7, 7, 7, 7, 8, 8, 0].as_slice(),
+        ),
+        ("dk plan first", MEAN, [7, 7, 7, 8, 0].as_slice()),
+    ];
+    for (line, first, statuses) in cases {
+        for (call, status) in statuses.iter().enumerate() {
+            let got = status_at(alloc, line, first, call as u64, 4096)?;
+            assert_eq!(rt; got, *status, "at {line}, {call}");
+        }
+        assert_eq!(rt; status_at(alloc, line, first, NONE, 1)?, 0, "at {line}");
+    }
+    Ok(())
+}

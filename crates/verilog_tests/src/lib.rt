@@ -1,0 +1,11 @@
+//! Verilog texts, written and read: small ones, worked out by hand.
+#![tactic(auto)]
+
+#[cfg(test)]
+mod parsing;
+#[cfg(test)]
+mod printing;
+#[cfg(test)]
+mod reading;
+#[cfg(test)]
+mod tokens;
