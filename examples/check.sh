@@ -9,6 +9,8 @@ trap 'rm -rf "$work"' EXIT
 cd "$work" || exit 2
 cp "$examples"/*.dk "$examples"/*.pgm "$examples"/reports/*.dk "$examples"/reports/*.txt . || exit 2
 cp "$examples"/sim/*.v . || exit 2
+# Every call here has 4 MiB of stack: the deepest accepted programs need between 1 and 2.
+ulimit -S -s 4096 || exit 2
 failed=0
 usage='usage: run PROG IN OUT | compile PROG OUT | plan [--age K] PROG | sim VERILOG CLOCKS IN OUT [--fill FILL] [--hold K] | eval PROG IN OUT | make N | check PROG REPORT'
 
@@ -26,10 +28,10 @@ ends() {
     fi
 }
 
-# holds FILE: the output is this file, byte for byte
+# holds FILE [NAME]: the output is this file, byte for byte; NAME says what it shows
 holds() {
     cmp -s out.pgm "$1" || {
-        echo "examples: the output is not $1" >&2
+        echo "examples: the output is not $1 ${2-}" >&2
         failed=1
     }
 }
@@ -56,6 +58,27 @@ while read -r name input <&3; do
         holds "$name.pgm"
     done
 done 3<"$examples/pictures.txt"
+
+# Each line of calls/pictures.txt is what it shows, a program, its input and the picture that is wanted, with bytes as printf reads them.
+while IFS='|' read -r name text input wanted <&3; do
+    printf '%b' "$text" >text.dk
+    printf '%b' "$input" >input.pgm
+    printf '%b' "$wanted" >wanted.pgm
+    for command in eval run; do
+        ends 0 '' "$command" text.dk input.pgm out.pgm
+        holds wanted.pgm "$name"
+    done
+done 3<"$examples/calls/pictures.txt"
+
+# Each line of calls/faults.txt is a status, a line on standard error, and the program and the input that end so.
+while IFS='|' read -r status line text input <&3; do
+    printf '%b' "$text" >text.dk
+    printf '%b' "$input" >input.pgm
+    for command in eval run; do
+        ends "$status" "$line" "$command" text.dk input.pgm out.pgm
+        none
+    done
+done 3<"$examples/calls/faults.txt"
 
 ends 2 "$usage"
 ends 2 "$usage" run copy.dk
@@ -154,6 +177,45 @@ refused "program $start-$((start + 1)): InlineDepth"
 } >text.dk
 refused 'program: Reads 4225'
 
+# The deepest programs that the limits accept: 128 open brackets, those of the read among them, a tree of depth 512, and an inlined one of depth 1,024, in which a read of an inline image counts too.
+printf 'P5 1 1 255\n\002' >dot.pgm
+# deep VALUE: the program in text.dk is planned, and makes this sample of the sample 2
+deep() {
+    printf "P5\n1 1\n255\n$1" >wanted.pgm
+    for command in eval run; do
+        ends 0 '' "$command" text.dk dot.pgm out.pgm
+        holds wanted.pgm
+    done
+    "$program" plan text.dk >plan.txt 2>stderr && "$program" check text.dk plan.txt >stdout 2>stderr || {
+        echo "examples: the plan of a deep program does not hold: $(cat stderr)" >&2
+        failed=1
+    }
+}
+{
+    printf 'size 1 1 input a : u8 let f = im(x,y) '
+    repeat 127 '(%.0s'
+    printf 'a(x,y)'
+    repeat 127 ')%.0s'
+    printf ' end output f'
+} >text.dk
+deep '\002'
+{
+    printf 'size 1 1 input a : u8 let f = im(x,y) a(x,y)'
+    repeat 511 '|1%.0s'
+    printf ' end output f'
+} >text.dk
+deep '\003'
+{
+    printf 'size 1 1 input a : u8 inline let d1 = im(x,y) a(x,y)'
+    repeat 400 '|1%.0s'
+    printf ' end inline let d2 = im(x,y) d1(x,y)'
+    repeat 400 '|1%.0s'
+    printf ' end let f = im(x,y) d2(x,y)'
+    repeat 221 '|1%.0s'
+    printf ' end output f'
+} >text.dk
+deep '\003'
+
 # Faults of files of images.
 cp gradient.pgm longer.pgm
 printf x >>longer.pgm
@@ -206,6 +268,12 @@ holds wanted.pgm
 printf 'P5 4 1 3\n\0\0\001\002' >rising.pgm
 printf 'P5 4 1 3\n\0\0\001\003' >past.pgm
 printf 'P5 0 1 3\n' >empty.pgm
+printf 'P5\n4 1\n255\n\005\005\0\0' >wanted.pgm
+ends 0 '' sim words.v 4 rising.pgm out.pgm
+holds wanted.pgm
+printf 'P5\n4 1\n255\n\005\005\377\377' >wanted.pgm
+ends 0 '' sim words.v 4 rising.pgm out.pgm --fill ones
+holds wanted.pgm
 ends 6 'stopped: clock 3 array 0 index 3' sim words.v 4 past.pgm out.pgm
 ends 6 'stopped: count 3 of 4' sim words.v 3 rising.pgm out.pgm
 ends 6 'stopped: count 5 of 4' sim words.v 5 rising.pgm out.pgm
@@ -280,6 +348,11 @@ ends 10 'report: line 15' check square.dk wrong.txt
 sed 's/^image s /image p /' square.txt >wrong.txt
 ends 10 'report: line 4' check square.dk wrong.txt
 ends 10 'report: line 1' check mean.dk square.txt
+ends 10 'report: line 4' check square.dk mean_plan.txt
+echo 'plan 4' >wrong.txt
+ends 10 'report: line 1' check square.dk wrong.txt
+printf 'size 1 1' >text.dk
+ends 3 'program 8-8: Syntax' check text.dk mean_plan.txt
 grep -v '^end' mean_plan.txt >wrong.txt
 ends 10 'report: line 14' check mean.dk wrong.txt
 head -c 4194305 /dev/zero >long.txt
