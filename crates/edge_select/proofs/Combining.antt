@@ -22,11 +22,12 @@ use Rattle.frame_paths.specs.declared.moves.Interval.{Interval}
 use Rattle.frame_paths.specs.Moves.{IsIn}
 use Rattle.edge_select.specs.declared.paths.Passing.{Passing}
 use Rattle.edge_select.specs.declared.pixel.Pixel.{Pixel}
-use Rattle.edge_select.specs.Logic.{AreMadeOf, Computes, IsGate, Tests, IsBit, IsBoth, IsTestNet, is_up_to, is_within}
+use Rattle.net_build.specs.Logic.{AreMadeOf, Computes, IsGate}
+use Rattle.edge_select.specs.Logic.{Tests, IsBit, IsBoth, IsTestNet, is_up_to, is_within}
 use Rattle.edge_select.specs.Passes.{Passes}
 use Rattle.edge_select.specs.Pixels.{IsBitOf, IsTest}
-use Rattle.edge_select.proofs.Logic.{given_source, number_source, computes_more, computes_as, computes_from, computes_since, computes_through, binary_computes, AreIn, first_in, second_in, none_in}
-use Rattle.edge_select.proofs.Counting.{yes_lt, no_lt}
+use Rattle.net_build.proofs.Logic.{given_source, number_source, computes_more, computes_as, computes_from, computes_since, computes_through, binary_computes, AreIn, first_in, second_in, none_in}
+use Rattle.net_build.proofs.Counting.{yes_lt, no_lt}
 
 yes_le : (a b : ℕ) → a ≤ b → nat_le a b ≡ true
 yes_le a b h = grind arith
@@ -222,3 +223,15 @@ test_as new old p passes other n is f g = record {
     by : (x y v : ℕ) → IsBitOf (passes x y) v → IsBitOf (other x y) v
     by x y v (inl h) = inl (f x y h.0, h.1)
     by x y v (inr h) = inr ((λ q. h.0 (g x y q)), h.1)
+
+pub test_within : (new old : Netlist) (p : Pixel) (passes other : (x y : ℕ) → Type 0) (n : Net) → IsTest new old p passes n → ((x y : ℕ) → x < p.size.width → y < p.size.height → (passes x y → other x y) × (other x y → passes x y)) → IsTest new old p other n
+test_within new old p passes other n is same = record {
+  net = is.net;
+  width = is.width;
+  value = λ m s part settled frame. by (net_value s p.column) (net_value s p.row) (net_value s n) (same (net_value s p.column) (net_value s p.row) frame.column frame.row) (is.value m s part settled frame);
+  made_of = is.made_of;
+}
+  where
+    by : (x y v : ℕ) → (passes x y → other x y) × (other x y → passes x y) → IsBitOf (passes x y) v → IsBitOf (other x y) v
+    by x y v f (inl h) = inl (f.0 h.0, h.1)
+    by x y v f (inr h) = inr ((λ q. h.0 (f.1 q)), h.1)

@@ -1,8 +1,8 @@
 pub mod Lasting
-pub mod Logic
 pub mod Walks
 pub mod Counting
 pub mod Leading
 pub mod Following
 pub mod Registering
 pub mod Combining
+pub mod Stepping

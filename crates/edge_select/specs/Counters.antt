@@ -1,33 +1,22 @@
 -- What the counters of column and row take.
-use Rattle.std.specs.Prelude.{ℕ, ◌+◌, ◌-◌, ◌%◌, ◌==◌, nat_lt, Bool, if◌then◌else◌, List, [], ◌∷◌, ◌++◌}
+use Rattle.std.specs.Prelude.{ℕ, ◌-◌, ◌%◌, nat_lt, Bool, true, if◌then◌else◌, List, [], ◌∷◌, ◌++◌}
 use Rattle.dk_base.specs.Frames.{Size, column, row}
 use Rattle.dk_base.specs.FrameSizes.{size_of}
 use Rattle.dk_base.specs.Numbers.{bit_count}
 use Rattle.wiring.specs.declared.netlist.Net.{Net}
-use Rattle.wiring.specs.Netlist.{Netlist, reset_net, enable_net}
-use Rattle.wiring.specs.Snapshot.{Snapshot, net_value}
+use Rattle.wiring.specs.Netlist.{Netlist}
+use Rattle.wiring.specs.Snapshot.{net_value}
+use Rattle.net_build.specs.Logic.{Computes}
+use Rattle.net_build.specs.Counters.{after, control_nets, taken}
 use Rattle.edge_select.specs.declared.pixel.Pixel.{Pixel}
-use Rattle.edge_select.specs.Logic.{Computes}
-
--- what follows a column or a row; the last one is followed by 0
-abbrev pub after : (last : ℕ) → ℕ → ℕ
-after last x = if nat_lt x last then x + 1 else 0
 
 -- the row that follows, which is another one only at the last column
 abbrev pub row_after : Size → (x y : ℕ) → ℕ
-row_after size x y = if nat_lt x (size.width - 1) then y else after (size.height - 1) y
+row_after size x y = if nat_lt x (size.width - 1) then y else after true (size.height - 1) y
 
 -- the pixel at which a count begins that comes to the first pixel of a frame after the delay
 abbrev pub lead_in : (area delay : ℕ) → ℕ
 lead_in area delay = (area - delay % area) % area
-
--- the nets of rst and, where there is one, of en
-abbrev pub control_nets : Bool → List Net
-control_nets enable = reset_net ∷ (if enable then enable_net ∷ [] else [])
-
--- what a register takes: in a reset clock the first number, in a held clock what it holds, else the next number
-abbrev pub taken : (enable : Bool) (first now next : ℕ) → Snapshot → ℕ
-taken enable first now next s = if net_value s reset_net == 1 then first else if enable then (if net_value s enable_net == 1 then next else now) else next
 
 -- the nets on which a pixel's registers depend
 abbrev pub pixel_nets : Bool → Pixel → List Net
@@ -35,5 +24,5 @@ pixel_nets enable p = control_nets enable ++ p.column ∷ (p.row ∷ [])
 
 -- these nets are what the pixel's registers take: the place of a first pixel, or that of the pixel that follows
 pub record Advances (new old : Netlist) (p : Pixel) (first : ℕ) (column_net row_net : Net) : Type 0 where
-  pub across : Computes new old (pixel_nets old.enable p) (bit_count (p.size.width - 1)) (λ s. taken old.enable (column (size_of p.size) first) (net_value s p.column) (after (p.size.width - 1) (net_value s p.column)) s) column_net
+  pub across : Computes new old (pixel_nets old.enable p) (bit_count (p.size.width - 1)) (λ s. taken old.enable (column (size_of p.size) first) (net_value s p.column) (after true (p.size.width - 1) (net_value s p.column)) s) column_net
   pub down : Computes new old (pixel_nets old.enable p) (bit_count (p.size.height - 1)) (λ s. taken old.enable (row (size_of p.size) first) (net_value s p.row) (row_after (size_of p.size) (net_value s p.column) (net_value s p.row)) s) row_net

@@ -13,16 +13,16 @@ ghost use Rattle.net_build.specs.Draft.{IsNet};
 ghost use Rattle.edge_select.specs.Steps.{LeadBy};
 ghost use Rattle.frame_paths.specs.Moves.{IsInterval};
 ghost use Rattle.edge_select.specs.Passes.{IsPassing};
-ghost use Rattle.edge_select.specs.Logic.{AddsLogic, Computes, Tests, IsBit, IsBoth, IsTestNet, is_up_to, is_within};
+ghost use Rattle.net_build.specs.Logic.{AddsLogic, Computes};
+ghost use Rattle.edge_select.specs.Logic.{Tests, IsBit, IsBoth, IsTestNet, is_up_to, is_within};
 ghost use Rattle.edge_select.specs.Pixels.{HasPixel, IsTest, AllPass};
 
-use crate::gates::{gate, number};
 use crate::paths::{Passing, passing_pixels};
 use crate::pixel::{Pixel, width_for};
 use crate::step::Step;
 use dk_base::{FrameSize, Memory};
 use frame_paths::Interval;
-use net_build::Builder;
+use net_build::{Builder, gate, number};
 use pointwise_ir::Edge;
 use wiring::{Atom, Net, Operator, Right};
 

@@ -3,7 +3,6 @@
 
 mod counters;
 mod frame_tests;
-mod gates;
 mod laws;
 mod paths;
 mod pixel;
@@ -11,6 +10,6 @@ mod step;
 
 pub use counters::position;
 pub use frame_tests::{at, constant_test, inside, is_always};
-pub use laws::{one_step, pixels_last};
+pub use laws::{one_step, one_way, pixels_last, steps_end, steps_lead};
 pub use pixel::Pixel;
 pub use step::Step;

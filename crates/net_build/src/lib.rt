@@ -2,7 +2,9 @@
 #![tactic(auto)]
 
 mod builder;
+mod counters;
 mod finish;
+mod gates;
 mod grow;
 mod laws;
 mod naming;
@@ -10,4 +12,8 @@ mod ports;
 mod size;
 
 pub use builder::Builder;
-pub use laws::{outputs_shown, parts_grow, ports_shown, reads_grow, runs_last, runs_on};
+pub use counters::{Counted, count, counter, counter_up_to, register_value, started};
+pub use gates::{gate, number};
+pub use laws::{
+    outputs_shown, parts_grow, ports_shown, reads_grow, runs_last, runs_on, still_grows,
+};

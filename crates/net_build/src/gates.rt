@@ -5,10 +5,10 @@ ghost use Rattle.wiring.specs.declared.right.Atom.TheVariants as atom;
 ghost use Rattle.wiring.specs.Sizes.{IsWidth};
 ghost use Rattle.wiring.specs.Snapshot.{right_accesses};
 ghost use Rattle.net_build.specs.Draft.{IsOperation};
-ghost use Rattle.edge_select.specs.Logic.{AddsLogic, IsGate};
+ghost use Rattle.net_build.specs.Logic.{AddsLogic, IsGate};
 
+use crate::builder::Builder;
 use dk_base::Memory;
-use net_build::Builder;
 use wiring::{Atom, Constant, Net, Right, Width};
 
 /// A number of so many bits.

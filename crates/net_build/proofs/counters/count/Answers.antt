@@ -1,12 +1,12 @@
 use Rattle.std.proofs.Common.{◌∙◌}
-use Rattle.std.proofs.Math.Pow.{pow_pos}
 use Rattle.wiring.specs.declared.right.Atom.TheVariants as atom
 use Rattle.wiring.specs.declared.right.Operator.TheVariants.{Add}
 use Rattle.net_build.proofs.Grown.{width_more}
 use Rattle.net_build.proofs.Operands.{net_operand, binary_operation, choose_operation}
-use Rattle.edge_select.proofs.Logic.{logic_on}
-use Rattle.edge_select.proofs.Counting.{one_fits, number_operand, old_operand, going_computes, next_computes}
-use Rattle.edge_select.proofs.counters.count.Goals as goal
+use Rattle.net_build.proofs.Logic.{logic_on}
+use Rattle.net_build.proofs.Counting.{one_fits, number_operand, over_operand, old_operand, going_computes, next_computes}
+use Rattle.net_build.proofs.Parts.{includes_on}
+use Rattle.net_build.proofs.counters.count.Goals as goal
 
 pub number-requires-2-clause-fits : goal.number-requires-2-clause-fits
 number-requires-2-clause-fits c = one_fits c.args.bits c.requires.bits.0
@@ -20,9 +20,9 @@ pub gate-requires-3-clause-operation : goal.gate-requires-3-clause-operation
 gate-requires-3-clause-operation c =
     let first = c.in_ok-going.ensures.gate in
     let second = c.in_ok-more.ensures.gate in
-    choose_operation c.gate-2.new.b (atom.Net c.in_ok-going.going) (atom.Net c.in_ok-more.more) c.number-3.result c.args.bits c.requires.bits (old_operand c.gate-2.new.b c.gate.new.b c.in_ok-going.going 1 c.gate-2.ensures.logic.includes first.net first.width)
+    choose_operation c.gate-2.new.b (atom.Net c.in_ok-going.going) (atom.Net c.in_ok-more.more) c.over.result c.args.bits c.requires.bits (old_operand c.gate-2.new.b c.gate.new.b c.in_ok-going.going 1 c.gate-2.ensures.logic.includes first.net first.width)
     (net_operand c.gate-2.new.b c.in_ok-more.more c.args.bits second.net (second.width ∙ width_more c.gate.new.b c.args.b.now c.gate.ensures.logic.includes c.args.at c.requires.at.declared ∙ c.requires.width))
-    (number_operand c.gate-2.new.b c.number-3.result c.args.bits 0 c.number-3.ensures c.requires.bits (pow_pos c.args.bits))
+    (over_operand c.gate-2.new.b c.args.wraps c.args.bits c.args.at c.over.result c.over.ensures c.requires.bits (old_operand c.gate-2.new.b c.args.b.now c.args.at c.args.bits (includes_on _ _ _ c.gate.ensures.logic.includes c.gate-2.ensures.logic.includes) c.requires.at c.requires.width))
 
 pub returns-in_err-more-clause-logic : goal.returns-in_err-more-clause-logic
 returns-in_err-more-clause-logic c = logic_on _ _ _ c.gate.ensures.logic c.gate-2.ensures.logic
@@ -33,12 +33,12 @@ returns-in_err-next-clause-logic c = logic_on _ _ _ c.gate.ensures.logic (logic_
 pub returns-clause-logic : goal.returns-clause-logic
 returns-clause-logic c = logic_on _ _ _ c.gate.ensures.logic (logic_on _ _ _ c.gate-2.ensures.logic c.gate-3.ensures.logic)
 
-pub returns-clause-going : goal.returns-clause-going
-returns-clause-going c =
-    going_computes c.args.b.now c.gate.new.b c.gate-2.new.b c.gate-3.new.b c.args.at c.args.bits c.args.last c.number.result c.number-2.result c.number-3.result c.in_ok-going.going c.in_ok-more.more c.in_ok-next.next
-    c.gate.ensures.logic.includes c.gate-2.ensures.logic.includes c.gate-3.ensures.logic.includes c.requires.at c.requires.width c.requires.bits c.requires.last c.number.ensures c.number-2.ensures c.number-3.ensures c.in_ok-going.ensures.gate c.in_ok-more.ensures.gate
-
 pub returns-clause-next : goal.returns-clause-next
 returns-clause-next c =
-    next_computes c.args.b.now c.gate.new.b c.gate-2.new.b c.gate-3.new.b c.args.at c.args.bits c.args.last c.number.result c.number-2.result c.number-3.result c.in_ok-going.going c.in_ok-more.more c.in_ok-next.next
-    c.gate.ensures.logic.includes c.gate-2.ensures.logic.includes c.gate-3.ensures.logic.includes c.requires.at c.requires.width c.requires.bits c.requires.last c.number.ensures c.number-2.ensures c.number-3.ensures c.in_ok-going.ensures.gate c.in_ok-more.ensures.gate c.in_ok-next.ensures.gate
+    next_computes c.args.b.now c.gate.new.b c.gate-2.new.b c.gate-3.new.b c.args.at c.args.bits c.args.last c.args.wraps c.number.result c.number-2.result c.over.result c.in_ok-going.going c.in_ok-more.more c.in_ok-next.next
+    c.gate.ensures.logic.includes c.gate-2.ensures.logic.includes c.gate-3.ensures.logic.includes c.requires.at c.requires.width c.requires.bits c.requires.last c.number.ensures c.number-2.ensures c.over.ensures c.in_ok-going.ensures.gate c.in_ok-more.ensures.gate c.in_ok-next.ensures.gate
+
+pub returns-clause-going : goal.returns-clause-going
+returns-clause-going c =
+    going_computes c.args.b.now c.gate.new.b c.gate-2.new.b c.gate-3.new.b c.args.at c.args.bits c.args.last c.args.wraps c.number.result c.number-2.result c.over.result c.in_ok-going.going c.in_ok-more.more c.in_ok-next.next
+    c.gate.ensures.logic.includes c.gate-2.ensures.logic.includes c.gate-3.ensures.logic.includes c.requires.at c.requires.width c.requires.bits c.requires.last c.number.ensures c.number-2.ensures c.over.ensures c.in_ok-going.ensures.gate c.in_ok-more.ensures.gate

@@ -1,0 +1,204 @@
+// Counters of clocks.
+
+ghost use Rattle.std.specs.Prelude.{ℕ, suc, ◌≡◌, ◌%◌, min, ◌<◌, ◌==◌, ◌^◌, nat_lt, if◌then◌else◌, [], ◌∷◌, ◌++◌, length, IfOk, OnOk};
+ghost use Rattle.dk_base.specs.Numbers.{bit_count};
+ghost use Rattle.wiring.specs.declared.right.Atom.TheVariants as atom;
+ghost use Rattle.wiring.specs.Netlist.{net_width, reset_net, enable_net};
+ghost use Rattle.wiring.specs.Sizes.{IsWidth};
+ghost use Rattle.wiring.specs.Snapshot.{net_value};
+ghost use Rattle.wiring.specs.Clock.{bit};
+ghost use Rattle.net_build.specs.Draft.{IsNet};
+ghost use Rattle.net_build.specs.Runs.{StaysBelow};
+ghost use Rattle.net_build.specs.Logic.{AddsLogic, Computes};
+ghost use Rattle.net_build.specs.Counters.{after, reached, control_nets, taken, Counts, IsBehindReset, AddsRegister, AddsControl, Starts};
+
+use crate::builder::Builder;
+use crate::gates::{gate, number};
+use dk_base::{Memory, bits_for};
+use wiring::{Atom, Net, Operator, Right};
+
+// What follows the last number.
+fn over(at: Net, bits: u8, wraps: bool) -> Atom<Net>
+    requires { IsWidth bits }
+    ensures { result ≡ (if wraps then atom.Constant (record { width = bits; value = 0 }) else atom.Net at) }
+{
+    if wraps {
+        return number(bits, 0);
+    }
+    Atom::Net(at)
+}
+
+/// Whether a count is before its last number, and what follows.
+#[derive(Clone, Copy)]
+pub struct Counted {
+    pub going: Net,
+    pub next: Net,
+}
+
+/// A count up to `last`, which is followed by 0 or by itself.
+pub fn count(b: &mut Builder, at: Net, bits: u8, last: u64, wraps: bool) -> Result<Counted, Memory>
+    requires at { IsNet b.old at }
+    requires width { net_width b.old at ≡ bits }
+    requires bits { IsWidth bits }
+    requires last { last < 2 ^ bits }
+    ensures logic { AddsLogic b.new b.old }
+    ensures going { IfOk result (λ c. Computes b.new b.old (at ∷ []) 1 (λ s. bit (nat_lt (net_value s at) last)) c.going) }
+    ensures next { IfOk result (λ c. Computes b.new b.old (at ∷ []) bits (λ s. after wraps last (net_value s at)) c.next) }
+{
+    let going = gate(
+        b,
+        Right::Binary(Operator::Less, Atom::Net(at), number(bits, last)),
+    )?;
+    let more = gate(
+        b,
+        Right::Binary(Operator::Add, Atom::Net(at), number(bits, 1)),
+    )?;
+    let next = gate(
+        b,
+        Right::Choose(Atom::Net(going), Atom::Net(more), over(at, bits, wraps)),
+    )?;
+    Ok(Counted { going, next })
+}
+
+// What is next, or in a held clock what is now.
+fn unless_held(b: &mut Builder, now: Net, next: Net, bits: u8) -> Result<Net, Memory>
+    requires now { IsNet b.old now }
+    requires next { IsNet b.old next }
+    requires now_width { net_width b.old now ≡ bits }
+    requires next_width { net_width b.old next ≡ bits }
+    requires bits { IsWidth bits }
+    ensures logic { AddsLogic b.new b.old }
+    ensures net { IfOk result (Computes b.new b.old (control_nets b.old.enable ++ now ∷ (next ∷ [])) bits (λ s. if b.old.enable then (if net_value s enable_net == 1 then net_value s next else net_value s now) else net_value s next)) }
+{
+    if b.has_en() {
+        let en = b.en();
+        let net = gate(
+            b,
+            Right::Choose(Atom::Net(en), Atom::Net(next), Atom::Net(now)),
+        )?;
+        return Ok(net);
+    }
+    Ok(next)
+}
+
+/// What a register takes that begins at `first` after a reset and stands still in held clocks: in a reset clock `first`, in a held clock `now`, and else `next`.
+pub fn register_value(
+    b: &mut Builder,
+    now: Net,
+    next: Net,
+    bits: u8,
+    first: u64,
+) -> Result<Net, Memory>
+    requires now { IsNet b.old now }
+    requires next { IsNet b.old next }
+    requires now_width { net_width b.old now ≡ bits }
+    requires next_width { net_width b.old next ≡ bits }
+    requires bits { IsWidth bits }
+    requires first { first < 2 ^ bits }
+    ensures logic { AddsLogic b.new b.old }
+    ensures net { IfOk result (Computes b.new b.old (control_nets b.old.enable ++ now ∷ (next ∷ [])) bits (λ s. taken b.old.enable first (net_value s now) (net_value s next) s)) }
+{
+    let going = unless_held(b, now, next, bits)?;
+    let reset = b.rst();
+    let net = gate(
+        b,
+        Right::Choose(Atom::Net(reset), number(bits, first), Atom::Net(going)),
+    )?;
+    Ok(net)
+}
+
+// A count, and what its register takes.
+#[derive(Clone, Copy)]
+struct Numbered {
+    index: Net,
+    next: Net,
+}
+
+// A register's count, which is 0 in a reset clock, and what the register takes.
+fn registered(
+    b: &mut Builder,
+    register: Net,
+    bits: u8,
+    last: u64,
+    wraps: bool,
+) -> Result<Numbered, Memory>
+    requires register { IsNet b.old register }
+    requires width { net_width b.old register ≡ bits }
+    requires bits { IsWidth bits }
+    requires last { last < 2 ^ bits }
+    ensures logic { AddsLogic b.new b.old }
+    ensures index { IfOk result (λ c. Computes b.new b.old (control_nets b.old.enable ++ register ∷ []) bits (λ s. if net_value s reset_net == 1 then 0 else net_value s register) c.index) }
+    ensures next { IfOk result (λ c. Computes b.new b.old (control_nets b.old.enable ++ register ∷ []) bits (λ s. taken b.old.enable 0 (net_value s c.index) (after wraps last (net_value s c.index)) s) c.next) }
+{
+    let reset = b.rst();
+    let index = gate(
+        b,
+        Right::Choose(Atom::Net(reset), number(bits, 0), Atom::Net(register)),
+    )?;
+    let more = count(b, index, bits, last, wraps)?;
+    let next = register_value(b, index, more.next, bits, 0)?;
+    Ok(Numbered { index, next })
+}
+
+// A counter up to `last`, which then begins again or stays.
+fn counter_of(b: &mut Builder, last: u64, wraps: bool) -> Result<Net, Memory>
+    ensures adds { OnOk result (AddsRegister b.new b.old (bit_count last)) }
+    ensures net { IfOk result (IsBehindReset b.new (length b.old.regs)) }
+    ensures width { IfOk result (λ n. net_width b.new n ≡ bit_count last) }
+    ensures counts { IfOk result (Counts b.new (reached wraps last)) }
+    ensures below { IfOk result (StaysBelow b.new (suc last)) }
+{
+    let bits = bits_for(last);
+    let register = b.reg(bits)?;
+    let values = registered(b, register, bits, last, wraps)?;
+    b.set(register, values.next);
+    Ok(values.index)
+}
+
+/// A net that counts clocks from 0 to `last`, and then from 0 again: the number of the counted clocks since a reset, modulo `last` and one. It is 0 in a reset clock, and stands still in held clocks. It has a register behind it.
+pub fn counter(b: &mut Builder, last: u64) -> Result<Net, Memory>
+    ensures adds { OnOk result (AddsRegister b.new b.old (bit_count last)) }
+    ensures net { IfOk result (IsBehindReset b.new (length b.old.regs)) }
+    ensures width { IfOk result (λ n. net_width b.new n ≡ bit_count last) }
+    ensures counts { IfOk result (Counts b.new (λ t. t % suc last)) }
+    ensures below { IfOk result (StaysBelow b.new (suc last)) }
+{
+    let net = counter_of(b, last, true)?;
+    Ok(net)
+}
+
+/// The same, but that it stays at `last`.
+pub fn counter_up_to(b: &mut Builder, last: u64) -> Result<Net, Memory>
+    ensures adds { OnOk result (AddsRegister b.new b.old (bit_count last)) }
+    ensures net { IfOk result (IsBehindReset b.new (length b.old.regs)) }
+    ensures width { IfOk result (λ n. net_width b.new n ≡ bit_count last) }
+    ensures counts { IfOk result (Counts b.new (λ t. min t last)) }
+    ensures below { IfOk result (StaysBelow b.new (suc last)) }
+{
+    let net = counter_of(b, last, false)?;
+    Ok(net)
+}
+
+/// A net that says whether `last` clocks were counted since a reset. It is 0 in a reset clock. At 0 it takes no register.
+pub fn started(b: &mut Builder, last: u64) -> Result<Net, Memory>
+    ensures adds { OnOk result (AddsControl b.new b.old) }
+    ensures net { IfOk result (IsNet b.new) }
+    ensures width { IfOk result (λ n. net_width b.new n ≡ 1) }
+    ensures starts { IfOk result (Starts b.new last) }
+{
+    if last == 0 {
+        let reset = b.rst();
+        let net = gate(b, Right::Not(Atom::Net(reset)))?;
+        return Ok(net);
+    }
+    let count = counter_up_to(b, last)?;
+    let net = gate(
+        b,
+        Right::Binary(
+            Operator::Equal,
+            Atom::Net(count),
+            number(bits_for(last), last),
+        ),
+    )?;
+    Ok(net)
+}
