@@ -1,6 +1,6 @@
 // Tests of where a pixel's neighbours are.
 
-ghost use Rattle.std.specs.Prelude.{ℕ, ◌≡◌, ◌+◌, ◌-◌, ◌<◌, ◌≤◌, ◌^◌, ◌↔◌, ◌&&◌, nat_le, ℤ, pos, ◌+ℤ◌, IsTrue, true, [], ◌∷◌, Some, IfOk};
+ghost use Rattle.std.specs.Prelude.{ℕ, ◌≡◌, ◌+◌, ◌-◌, ◌<◌, ◌≤◌, ◌^◌, ◌↔◌, ◌&&◌, nat_le, ℤ, pos, ◌+ℤ◌, IsTrue, true, [], ◌∷◌, Some, IfOk, IfSome};
 ghost use Rattle.dk_base.specs.declared.TheConstants.{MAX_SIDE};
 ghost use Rattle.dk_base.specs.Frames.{IsFrame, in_frame};
 ghost use Rattle.dk_base.specs.FrameSizes.{size_of};
@@ -10,14 +10,14 @@ ghost use Rattle.wiring.specs.Sizes.{IsWidth};
 ghost use Rattle.wiring.specs.Snapshot.{net_value};
 ghost use Rattle.wiring.specs.Clock.{bit};
 ghost use Rattle.net_build.specs.Draft.{IsNet};
-ghost use Rattle.edge_select.specs.Steps.{LeadBy};
+ghost use Rattle.edge_select.specs.Steps.{LeadBy, LeadOn};
 ghost use Rattle.frame_paths.specs.Moves.{IsInterval};
-ghost use Rattle.edge_select.specs.Passes.{IsPassing};
+ghost use Rattle.edge_select.specs.Passes.{IsPassing, PassesOn};
 ghost use Rattle.net_build.specs.Logic.{AddsLogic, Computes};
 ghost use Rattle.edge_select.specs.Logic.{Tests, IsBit, IsBoth, IsTestNet, is_up_to, is_within};
 ghost use Rattle.edge_select.specs.Pixels.{HasPixel, IsTest, AllPass};
 
-use crate::paths::{Passing, passing_pixels};
+use crate::paths::{Passing, leading_pixels, passing_pixels};
 use crate::pixel::{Pixel, width_for};
 use crate::step::Step;
 use dk_base::{FrameSize, Memory};
@@ -140,6 +140,36 @@ fn rectangle_test(b: &mut Builder, pixel: &Pixel, passing: Passing) -> Result<Ne
     Ok(net)
 }
 
+// The test that a pixel is in one of these columns and rows, or the one that none passes.
+fn passing_test(b: &mut Builder, pixel: &Pixel, passing: Option<Passing>) -> Result<Net, Memory>
+    requires pixel { HasPixel b.old pixel.now }
+    requires passing { IfSome passing (λ p. IsPassing (size_of pixel.now.size) p) }
+    ensures logic { AddsLogic b.new b.old }
+    ensures test { IfOk result (IsTest b.new b.old pixel.now (PassesOn passing)) }
+{
+    match passing {
+        Some(passing) => {
+            let net = rectangle_test(b, pixel, passing)?;
+            Ok(net)
+        }
+        None => {
+            let net = constant_test(b, false)?;
+            Ok(net)
+        }
+    }
+}
+
+/// The test that a pixel passes exactly where the steps lead from it somewhere, each step that is not clamped to a point in the frame.
+pub fn leads(b: &mut Builder, pixel: &Pixel, steps: &[Step]) -> Result<Net, Memory>
+    requires { HasPixel b.old pixel.now }
+    ensures logic { AddsLogic b.new b.old }
+    ensures test { IfOk result (IsTest b.new b.old pixel.now (LeadOn (size_of pixel.now.size) steps.now)) }
+{
+    let passing = leading_pixels(steps, pixel.size);
+    let net = passing_test(b, pixel, passing)?;
+    Ok(net)
+}
+
 /// The test that a pixel passes exactly where the steps lead from it to the point that is `dx` columns to the right and `dy` rows down.
 pub fn at(b: &mut Builder, pixel: &Pixel, steps: &[Step], dx: i32, dy: i32) -> Result<Net, Memory>
     requires { HasPixel b.old pixel.now }
@@ -184,6 +214,17 @@ pub fn is_always(width: u32, height: u32, steps: &[Step], dx: i32, dy: i32) -> b
     ensures { IsTrue result ↔ AllPass width height (LeadBy (record { width = width; height = height }) steps.now dx dy) }
 {
     match passing_pixels(steps, FrameSize { width, height }, dx, dy) {
+        Some(passing) => is_whole(passing.across, width) && is_whole(passing.down, height),
+        None => false,
+    }
+}
+
+/// Whether each pixel of a frame of this size, in pixels, passes the test `leads` of these steps.
+pub fn leads_always(width: u32, height: u32, steps: &[Step]) -> bool
+    requires { IsFrame width height }
+    ensures { IsTrue result ↔ AllPass width height (LeadOn (record { width = width; height = height }) steps.now) }
+{
+    match leading_pixels(steps, FrameSize { width, height }) {
         Some(passing) => is_whole(passing.across, width) && is_whole(passing.down, height),
         None => false,
     }

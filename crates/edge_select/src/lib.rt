@@ -9,7 +9,7 @@ mod pixel;
 mod step;
 
 pub use counters::position;
-pub use frame_tests::{at, constant_test, inside, is_always};
+pub use frame_tests::{at, constant_test, inside, is_always, leads, leads_always};
 pub use laws::{one_step, one_way, pixels_last, steps_end, steps_lead};
 pub use pixel::Pixel;
 pub use step::Step;

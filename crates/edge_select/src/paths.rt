@@ -1,16 +1,17 @@
 // The pixels that steps lead by exactly some way.
 
-ghost use Rattle.std.specs.Prelude.{◌≡◌, ◌<◌, ◌↔◌, ℕ, ℤ, pos, ◌+ℤ◌, IsTrue, IfSome, Some};
+ghost use Rattle.std.specs.Prelude.{◌≡◌, ◌<◌, ◌≤◌, ◌↔◌, ℕ, ℤ, pos, ◌+ℤ◌, IsTrue, IfSome, Some};
+ghost use Rattle.dk_base.specs.declared.TheConstants.{MAX_SIDE};
 ghost use Rattle.dk_base.specs.Frames.{in_frame};
 ghost use Rattle.dk_base.specs.FrameSizes.{size_of};
-ghost use Rattle.frame_paths.specs.Moves.{IsInOn};
+ghost use Rattle.frame_paths.specs.Moves.{Leads, IsIn, IsInOn, IsMoves, IsInterval};
 ghost use Rattle.frame_paths.specs.Paths.{LeadsTo, LeadsToOn, IsPath};
-ghost use Rattle.edge_select.specs.Steps.{Lead, LeadBy};
-ghost use Rattle.edge_select.specs.Passes.{IsPassing, PassesOn};
+ghost use Rattle.edge_select.specs.Steps.{Lead, LeadBy, LeadOn};
+ghost use Rattle.edge_select.specs.Passes.{IsPassing, Passes, PassesOn};
 
 use crate::step::Step;
 use dk_base::FrameSize;
-use frame_paths::{Interval, Path};
+use frame_paths::{Interval, Moves, Path};
 
 /// The pixels that are in one of these columns and in one of these rows.
 #[derive(Clone, Copy)]
@@ -57,6 +58,41 @@ fn led_by(path: Path, size: FrameSize, dx: i32, dy: i32) -> Option<Passing>
     let across = path.across.led_by(size.width, dx);
     let down = path.down.led_by(size.height, dy);
     joined(across, down)
+}
+
+// The coordinates that go through the moves.
+fn led(moves: Moves, side: u32) -> Interval
+    requires moves { IsMoves side moves }
+    requires side { side ≤ MAX_SIDE }
+    ensures interval { IsInterval side result }
+    ensures led { (x : ℕ) → IsIn result x ↔ (u : ℤ) × Leads moves (pos x) u }
+{
+    Interval {
+        first: moves.first as u32,
+        last: moves.last as u32,
+    }
+}
+
+// The pixels that go through the path.
+fn led_on(path: Path, size: FrameSize) -> Passing
+    requires { IsPath (size_of size) path }
+    ensures within { IsPassing (size_of size) result }
+    ensures passes { (x y : ℕ) → Passes result x y ↔ (u : ℤ) × (v : ℤ) × LeadsTo path (pos x) (pos y) u v }
+{
+    let across = led(path.across, size.width);
+    let down = led(path.down, size.height);
+    Passing { across, down }
+}
+
+/// The pixels that the steps lead somewhere, or None where there is none.
+pub fn leading_pixels(steps: &[Step], size: FrameSize) -> Option<Passing>
+    ensures within { IfSome result (λ p. IsPassing (size_of size) p) }
+    ensures passes { (x y : ℕ) → x < size.width → y < size.height → PassesOn result x y ↔ LeadOn (size_of size) steps.now x y }
+{
+    match path_of(steps, size) {
+        Some(path) => Some(led_on(path, size)),
+        None => None,
+    }
 }
 
 /// The pixels that the steps lead by exactly `dx` columns to the right and `dy` rows down, or None where there is none.
