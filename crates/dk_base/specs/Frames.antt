@@ -1,5 +1,5 @@
 -- Frames: points by two whole coordinates, pictures, and pixels in raster order.
-use Rattle.std.specs.Prelude.{ℕ, ◌+◌, ◌-◌, ◌*◌, ◌/◌, ◌%◌, ◌≤◌, min, ℤ, pos, negsuc, ◌+ℤ◌, ◌*ℤ◌, Bool, false, ◌&&◌, nat_lt, List, map, slice_index, unsigned_abs, if◌then◌else◌}
+use Rattle.std.specs.Prelude.{ℕ, ◌+◌, ◌-◌, ◌*◌, ◌/◌, ◌%◌, ◌≤◌, min, ℤ, pos, negsuc, ◌+ℤ◌, ◌*ℤ◌, Bool, false, ◌&&◌, nat_lt, List, map, slice_index, slice_index_or, unsigned_abs, if◌then◌else◌}
 use Rattle.std.specs.List.{flat_map, range_with_len}
 use Rattle.dk_base.specs.declared.TheConstants.{MAX_SIDE}
 
@@ -52,6 +52,14 @@ frame_of size k = k / area size
 -- a picture, at column x and row y
 abbrev pub Picture : Type 0
 Picture = ℤ → ℤ → ℤ
+
+-- the picture in the frame, and 0 outside it
+abbrev pub framed : Size → Picture → Picture
+framed size picture x y = if in_frame size x y then picture x y else pos 0
+
+-- the picture of image g, of these
+abbrev pub picture_at : List Picture → ℕ → Picture
+picture_at known g = slice_index_or known g (λ _ _. pos 0)
 
 -- pixel k of pictures that follow one another
 abbrev pub pixel_of : Size → (ℕ → Picture) → ℕ → ℤ

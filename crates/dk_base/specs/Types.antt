@@ -1,6 +1,6 @@
 -- Types of whole numbers: their widths and ranges, and the types of what the operators give.
 use Rattle.std.specs.Prelude.{ℕ, ◌+◌, ◌-◌, ◌^◌, ◌≤◌, max, nat_eq, nat_le, nat_lt, Bool, true, false, ℤ, pos, ◌+ℤ◌, ◌-ℤ◌, ◌≤ℤ◌, ◌<ℤ◌, neg_ℤ}
-use Rattle.dk_base.specs.declared.TheConstants.{MAX_WIDTH}
+use Rattle.dk_base.specs.declared.TheConstants.{MAX_WIDTH, MAX_PORT_WIDTH}
 use Rattle.dk_base.specs.declared.ty.Ty.{Ty}
 use Rattle.dk_base.specs.declared.ty.Ty.TheVariants.{Unsigned, Signed}
 
@@ -21,6 +21,11 @@ is_bit (Signed n) = false
 pub record IsType (t : Ty) : Type 0 where
   pub some : 1 ≤ width_of t
   pub most : width_of t ≤ MAX_WIDTH
+
+-- the type of an input or an output: unsigned, of 1 to 16 bits
+abbrev pub IsPort : Ty → Type 0
+IsPort (Unsigned n) = (1 ≤ n) × (n ≤ MAX_PORT_WIDTH)
+IsPort (Signed n) = ⊥
 
 -- how many numbers below 0 a type has, and how many from 0 on
 abbrev pub below : Ty → ℕ

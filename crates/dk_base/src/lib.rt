@@ -55,6 +55,9 @@ pub const MAX_NODES: u64 = 65_536;
 /// The greatest number of live reads of the kept images.
 pub const MAX_LIVE_READS: usize = 4_096;
 
+/// The greatest number of live reads that is told as it is; more of them count as one more than this.
+pub const MAX_COUNTED_READS: usize = 65_536;
+
 /// The greatest number of buffer bits, of a plan and of the arrays of a Verilog text that is read.
 pub const MAX_BUFFER_BITS: u64 = 67_108_864;
 
@@ -78,6 +81,9 @@ pub const MAX_MADE: u32 = 4_194_303;
 
 /// The greatest width of a type of values, in bits. The least is 1.
 pub const MAX_WIDTH: u8 = 64;
+
+/// The greatest width of the type of an input or an output, in bits. The least is 1.
+pub const MAX_PORT_WIDTH: u8 = 16;
 
 /// The greatest number by which a value is shifted, in bits.
 pub const MAX_SHIFT: u64 = 63;

@@ -1,7 +1,7 @@
 // The numbers of the limits.
 
 ghost use Rattle.std.specs.Prelude.{◌≡◌};
-ghost use Rattle.dk_base.specs.declared.TheConstants.{MAX_SOURCE_BYTES, MAX_VERILOG_BYTES, MAX_SIDE, MAX_DEFINITIONS, MAX_OFFSET, MAX_OPEN_BRACKETS, MAX_SOURCE_DEPTH, MAX_INLINED_DEPTH, MAX_NODES, MAX_LIVE_READS, MAX_BUFFER_BITS, MAX_LATENCY, MAX_NAME_BYTES, MAX_HEADER_BYTES, MAX_MAXVAL, MAX_CLOCKS, MAX_MADE, MAX_WIDTH, MAX_SHIFT, MAX_INPUTS, MAX_OUTPUTS, MAX_KEPT_IMAGES, MAX_FILE_IMAGES, MAX_PGM_BYTES, MAX_AGE, MAX_HOLD, MAX_REPORT_BYTES};
+ghost use Rattle.dk_base.specs.declared.TheConstants.{MAX_SOURCE_BYTES, MAX_VERILOG_BYTES, MAX_SIDE, MAX_DEFINITIONS, MAX_OFFSET, MAX_OPEN_BRACKETS, MAX_SOURCE_DEPTH, MAX_INLINED_DEPTH, MAX_NODES, MAX_LIVE_READS, MAX_COUNTED_READS, MAX_BUFFER_BITS, MAX_LATENCY, MAX_NAME_BYTES, MAX_HEADER_BYTES, MAX_MAXVAL, MAX_CLOCKS, MAX_MADE, MAX_WIDTH, MAX_PORT_WIDTH, MAX_SHIFT, MAX_INPUTS, MAX_OUTPUTS, MAX_KEPT_IMAGES, MAX_FILE_IMAGES, MAX_PGM_BYTES, MAX_AGE, MAX_HOLD, MAX_REPORT_BYTES};
 
 /// A law: the number of each limit. No other crate states one again.
 pub fn limits()
@@ -15,6 +15,7 @@ pub fn limits()
     ensures inlined_depth { MAX_INLINED_DEPTH ≡ 1024 }
     ensures nodes { MAX_NODES ≡ 65536 }
     ensures live_reads { MAX_LIVE_READS ≡ 4096 }
+    ensures counted_reads { MAX_COUNTED_READS ≡ 65536 }
     ensures buffer_bits { MAX_BUFFER_BITS ≡ 67108864 }
     ensures latency { MAX_LATENCY ≡ 67108864 }
     ensures name_bytes { MAX_NAME_BYTES ≡ 64 }
@@ -23,6 +24,7 @@ pub fn limits()
     ensures clocks { MAX_CLOCKS ≡ 100000000 }
     ensures made { MAX_MADE ≡ 4194303 }
     ensures width { MAX_WIDTH ≡ 64 }
+    ensures port_width { MAX_PORT_WIDTH ≡ 16 }
     ensures shift { MAX_SHIFT ≡ 63 }
     ensures inputs { MAX_INPUTS ≡ 8 }
     ensures outputs { MAX_OUTPUTS ≡ 8 }

@@ -4,7 +4,8 @@ use Rattle.dk_base.specs.Frames.{Size, Picture}
 use Rattle.dk_types.specs.Typed.{Typing}
 use Rattle.pointwise_ir.specs.declared.ir.Input.{Input}
 use Rattle.pointwise_ir.specs.Programs.{Program}
-use Rattle.pointwise_ir.specs.Meaning.{picture_at, IsPicture, IsRound}
+use Rattle.dk_base.specs.Frames.{picture_at}
+use Rattle.pointwise_ir.specs.Meaning.{IsPicture, IsRound}
 use Rattle.pointwise_ir.specs.Passes.{KeepsMeaning}
 use Rattle.dk_inline.specs.Answers.{IsInlining, KeepsProgram}
 use Rattle.dk_compile.specs.Fronts.{IsForm}

@@ -8,7 +8,8 @@ use Rattle.dk_types.specs.Meaning.{meaning}
 use Rattle.dk_types.specs.Reads.{IsLive, IsKept}
 use Rattle.pointwise_ir.specs.Programs.{Program, names_of}
 use Rattle.pointwise_ir.specs.Programs as P
-use Rattle.pointwise_ir.specs.Meaning.{picture_at, pictures, IsRound}
+use Rattle.dk_base.specs.Frames.{picture_at}
+use Rattle.pointwise_ir.specs.Meaning.{pictures, IsRound}
 use Rattle.pointwise_ir.specs.Reads as R
 use Rattle.dk_inline.specs.Inlined.{Stays}
 use Rattle.dk_inline.specs.Answers.{IsWithin, image_names}

@@ -1,11 +1,9 @@
 -- Chains of elements.
 use Rattle.std.proofs.Common.{◌≡◌, List, [], ◌∷◌, ◌++◌, Option, Some, Bool, false, refl, ap, sym, ◌∙◌, subst, append_assoc}
+use Rattle.std.proofs.lemmas.Option.{same_Some}
 use Rattle.dk_grammar.specs.Reading.{Phrases, One, Clear, Stuck, Chain, end, link}
 use Rattle.dk_grammar.proofs.Clears.{extend, first_same, rest_same}
 use Rattle.dk_grammar.proofs.Stucks.{Reached, stuck_behind}
-
-some_same : {V : Type 0} (v w : V) → Some v ≡ Some w → v ≡ w
-some_same v w e = cc
 
 -- each element that is none of the last ones is clear
 abbrev pub AllClear : {T M V : Type 0} → (M → Phrases T V) → (M → Bool) → Type 0
@@ -34,7 +32,7 @@ chain_one c (link g p e k q) ws b (end g') = absurd (cc (g, g'))
 chain_one {P = P} {f = f} {l = l} {m = m} c (link {n = n} {t = t} {v = v} {vs = vs} g p e k q) ws b (link {n = n'} {after = y} {t = t'} {v = v'} {vs = vs'} g' p' e' k' q') =
     let s = (c m g).one p p' in
     let whole = sym e ∙ s.1 ∙ e' in
-    let same : n' ≡ n = some_same _ _ (sym k' ∙ ap (λ x. f m x) (sym (first_same _ _ _ _ whole)) ∙ k) in
+    let same : n' ≡ n = same_Some _ _ (sym k' ∙ ap (λ x. f m x) (sym (first_same _ _ _ _ whole)) ∙ k) in
     let again = subst (λ x. Chain P f l n x vs' b) (sym (rest_same _ _ _ _ whole)) (subst (λ x. Chain P f l x y vs' b) same q') in
     let r = chain_one c q vs' b again in
     let first = s.0 in
@@ -58,7 +56,7 @@ chain_out o w r v t c g h k (end g') = absurd (cc (g, g'))
 chain_out {P = P} {f = f} {l = l} {m = m} {n = n} o w r v t c g h k (link {n = n'} {after = y} {t = t'} {vs = vs'} g' p e k' q) =
     let s = c.one h p in
     let whole = s.1 ∙ e in
-    let same : n' ≡ n = some_same _ _ (sym k' ∙ ap (λ x. f m x) (sym (first_same _ _ _ _ whole)) ∙ k) in
+    let same : n' ≡ n = same_Some _ _ (sym k' ∙ ap (λ x. f m x) (sym (first_same _ _ _ _ whole)) ∙ k) in
     (vs', subst (λ x. Chain P f l n x vs' r) (sym (rest_same _ _ _ _ whole)) (subst (λ x. Chain P f l x y vs' r) same q), ap (λ x. x ∷ vs') (sym s.0))
 
 pub chain_next : {T M V : Type 0} {P : M → Phrases T V} {f : M → T → Option M} {l : M → Bool} (vs : List V) {m0 m n : M} {ts mid after behind : List T} {v : V} {t : T} → Clear (P m) → l m ≡ false

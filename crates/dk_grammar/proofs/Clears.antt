@@ -1,13 +1,11 @@
 -- Languages that are read with one token ahead are clear.
 use Rattle.std.proofs.Common.{◌≡◌, List, [], ◌∷◌, ◌++◌, Option, Some, refl, ap, sym, ◌∙◌, subst, append_assoc, Bool, true, false}
+use Rattle.std.proofs.lemmas.Option.{same_Some}
 use Rattle.dk_grammar.specs.Reading.{Phrases, One, IsClass, Then, Done, Clear, Listed, last, another}
 
 pub append_nil : {T : Type 0} (xs : List T) → xs ++ [] ≡ xs
 append_nil [] = refl
 append_nil (x ∷ xs) = ap (λ y. x ∷ y) (append_nil xs)
-
-some_same : {V : Type 0} (v w : V) → Some v ≡ Some w → v ≡ w
-some_same v w e = cc
 
 pub first_same : {T : Type 0} (a b : T) (x y : List T) → a ∷ x ≡ b ∷ y → a ≡ b
 first_same a b x y e = cc
@@ -57,7 +55,7 @@ clear_then {T = T} {U = U} {V = V} {P = P} {Q = Q} c d = record {
 
 -- what a token after an element says, one way only
 pub marks : {T : Type 0} (f : T → Option Bool) (a b : T) (x y : Bool) → f a ≡ Some x → f b ≡ Some y → a ≡ b → x ≡ y
-marks f a b x y p q e = some_same x y (sym p ∙ ap f e ∙ q)
+marks f a b x y p q e = same_Some x y (sym p ∙ ap f e ∙ q)
 
 listed_own : {T V : Type 0} {P : Phrases T V} {f : T → Option Bool} {ts rest : List T} {vs : List V} → Clear P → Listed P f ts vs rest
     → (o : List T) × (ts ≡ o ++ rest) × ((w : List T) → Listed P f (o ++ w) vs w)

@@ -3,7 +3,8 @@ use Rattle.std.proofs.Common.{◌≡◌, ℕ, ◌-◌, ◌<◌, ◌≤◌, min, 
 use Rattle.dk_base.specs.Frames.{Size, IsFrame, Picture, is_below, in_frame, clamped}
 use Rattle.pointwise_ir.specs.declared.expr.Edge.{Edge}
 use Rattle.pointwise_ir.specs.declared.expr.Edge.TheVariants.{Zero, Clamp}
-use Rattle.pointwise_ir.specs.Meaning.{framed, edged}
+use Rattle.dk_base.specs.Frames.{framed}
+use Rattle.pointwise_ir.specs.Meaning.{edged}
 use Rattle.pointwise_ir.proofs.Agreement.{Agree}
 
 clamped_below : (limit : ℕ) (x : ℤ) → 1 ≤ limit → is_below (clamped limit x) limit ≡ true

@@ -1,5 +1,5 @@
 -- The pictures of a typed program: each is its body's value over the pictures of all images.
-use Rattle.std.proofs.Common.{◌≡◌, ℕ, zero, suc, ◌+◌, ◌<◌, List, [], ◌∷◌, ◌++◌, length, ◌+ℤ◌, Some, slice_get, refl, ap, sym, ◌∙◌, arith, length-append, add-zero}
+use Rattle.std.proofs.Common.{pos, ◌≡◌, ℕ, zero, suc, ◌+◌, ◌<◌, List, [], ◌∷◌, ◌++◌, length, ◌+ℤ◌, Some, slice_get, refl, ap, sym, ◌∙◌, arith, length-append, add-zero}
 use Rattle.std.proofs.Math.ListN.{get_or-append}
 use Rattle.std.proofs.Math.Seq.{get_or-append_seam}
 use Rattle.std.proofs.lemmas.List.{length-map}
@@ -11,7 +11,8 @@ use Rattle.dk_base.specs.Operators.{unary_value, binary_value, scaling_value, co
 use Rattle.dk_types.specs.declared.typed.TypedRead.{TypedRead}
 use Rattle.dk_types.specs.Typed.{Typed, constant, fetch, single, double, scaled, converted, chosen, Definition, Typing, image_type, input_types}
 use Rattle.dk_types.specs.Kept.{IsWell, AreWell, IsTyped}
-use Rattle.dk_types.specs.Meaning.{nothing, picture_at, framed, read_value, value, pictures, meaning}
+use Rattle.dk_base.specs.Frames.{picture_at, framed}
+use Rattle.dk_types.specs.Meaning.{read_value, value, pictures, meaning}
 use Rattle.pointwise_ir.proofs.Agreement.{Agree, framed_agrees}
 
 read_agrees : (size : Size) (one other : List Picture) (r : TypedRead) → Agree (picture_at one r.image) (picture_at other r.image) → Agree (read_value size one r) (read_value size other r)
@@ -45,7 +46,7 @@ first_pictures size [] known g lt = refl
 first_pictures size (d ∷ ds) known g lt =
     let p = framed size (value size known d.body) in
     let longer : g < length (known ++ p ∷ []) = omega (arith, lt, length-append known (p ∷ [])) in
-    first_pictures size ds (known ++ p ∷ []) g longer ∙ get_or-append known (p ∷ []) nothing g lt
+    first_pictures size ds (known ++ p ∷ []) g longer ∙ get_or-append known (p ∷ []) (λ _ _. pos 0) g lt
 
 pub length-pictures : (size : Size) (ds : List Definition) (known : List Picture) → length (pictures size known ds) ≡ length known + length ds
 length-pictures size [] known = omega arith
@@ -64,7 +65,7 @@ picture_from size (c ∷ ds) ts known long well zero d is x y =
     let same : c ≡ d = cc in
     let longer : length (known ++ p ∷ []) ≡ length known + 1 = length-append known (p ∷ []) in
     let there : length known < length (known ++ p ∷ []) = omega (arith, longer) in
-    let here : picture_at all (length known) ≡ p = first_pictures size ds (known ++ p ∷ []) (length known) there ∙ get_or-append_seam known p [] nothing in
+    let here : picture_at all (length known) ≡ p = first_pictures size ds (known ++ p ∷ []) (length known) there ∙ get_or-append_seam known p [] (λ _ _. pos 0) in
     let agree : AgreeBelow (length ts) known all = λ g lt x y.
     sym (ap (λ (q : Picture). q x y) (first_pictures size (c ∷ ds) known g (let h : g < length known = omega (arith, lt, long) in h))) in
     ap (λ k. picture_at all k x y) (add-zero (length known)) ∙ ap (λ (q : Picture). q x y) here

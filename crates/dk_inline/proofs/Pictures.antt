@@ -21,7 +21,8 @@ use Rattle.dk_types.proofs.Values.{value_in, meaning_in}
 use Rattle.pointwise_ir.specs.declared.ir.Input.{Input}
 use Rattle.pointwise_ir.specs.Trees.{Tree}
 use Rattle.pointwise_ir.specs.Programs.{Program, bodies_of, IsProgram}
-use Rattle.pointwise_ir.specs.Meaning.{framed, edged, picture_at, value, pictures, IsRound}
+use Rattle.dk_base.specs.Frames.{framed, picture_at}
+use Rattle.pointwise_ir.specs.Meaning.{edged, value, pictures, IsRound}
 use Rattle.pointwise_ir.proofs.Agreement.{Agree, framed_agrees, edged_agrees}
 use Rattle.pointwise_ir.proofs.Defined.{types_are}
 use Rattle.pointwise_ir.proofs.Pictured.{first_pictures, length-pictures, mapped_entry, picture_of_body}

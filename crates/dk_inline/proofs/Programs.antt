@@ -18,7 +18,8 @@ use Rattle.pointwise_ir.specs.declared.ir.Input.{Input}
 use Rattle.pointwise_ir.specs.declared.ir.Definition as D
 use Rattle.pointwise_ir.specs.Trees.{Tree, constant, tree_of, depth_of, AreNear}
 use Rattle.pointwise_ir.specs.Typing.{HasType}
-use Rattle.pointwise_ir.specs.Programs.{Program, IsProgram, IsPort, IsOutput, IsDefined, all_types, bodies_of}
+use Rattle.dk_base.specs.Types.{IsPort}
+use Rattle.pointwise_ir.specs.Programs.{Program, IsProgram, IsOutput, IsDefined, all_types, bodies_of}
 use Rattle.pointwise_ir.specs.Programs as P
 use Rattle.dk_types.proofs.Values.{well_typed}
 use Rattle.pointwise_ir.proofs.Typed.{AreTypes, zero_in}

@@ -1,5 +1,6 @@
 -- Where a program ends, and the faulty token from where the parser stops.
 use Rattle.std.proofs.Common.{◌≡◌, ◌≢◌, ◌≤◌, inl, inr, ℕ, suc, List, [], ◌∷◌, ◌++◌, length, Option, Some, None, Bool, true, false, if◌then◌else◌, Bor, refl, sym, ap, ◌∙◌, subst, arith}
+use Rattle.std.proofs.lemmas.Option.{same_Some}
 use Rattle.dk_base.specs.declared.span.Span.{Span}
 use Rattle.dk_lexer.specs.declared.token.Token.{Token}
 use Rattle.dk_lexer.specs.declared.token.Symbol.TheVariants.{Open, Close, Comma, Colon, Equal}
@@ -64,11 +65,8 @@ closes_behind ts mid rest f c =
     let g : Front ts (c.tok ∷ rest) = both ts mid (c.tok ∷ rest) f (record { own = c.own; whole = c.whole; free = c.free }) in
     record { own = g.own; tok = c.tok; whole = g.whole; free = g.free; is_end' = c.is_end' }
 
-some_same : {V : Type 0} (v w : V) → Some v ≡ Some w → v ≡ w
-some_same v w e = cc
-
 picked : (b : Bool) (m n : Lead) → (if b then Some m else None) ≡ Some n → m ≡ n
-picked true m n e = some_same m n e
+picked true m n e = same_Some m n e
 picked false m n e = absurd (cc (e))
 
 pub allowed_some : (l : Lead) (o : Option Lead) (n : Lead) → allowed l o ≡ Some n → o ≡ Some n
@@ -81,7 +79,7 @@ ends_only (Keyword word.Input) e = absurd (cc (e))
 ends_only _ e = absurd (cc (e))
 
 not_ending : (k : Terminal) (n : Lead) → lead_of k ≡ Some n → n ≢ lead.End → k ≢ EndOfText
-not_ending k n e o h = o (some_same _ _ (sym e ∙ ap lead_of h))
+not_ending k n e o h = o (same_Some _ _ (sym e ∙ ap lead_of h))
 
 -- one item and the word behind it
 last_word : (l : Lead) {ts mid rest : Tokens} (v : Item) (t : Token) → is_end l ≡ false → AnItem l ts v mid → mid ≡ t ∷ rest → next l t ≡ Some lead.End → Closes ts rest

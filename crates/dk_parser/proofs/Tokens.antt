@@ -1,5 +1,6 @@
 -- Tokens of each kind, to go on with, and where a token is not the one that is wanted.
 use Rattle.std.proofs.Common.{◌≡◌, ◌≢◌, ℕ, List, [], ◌∷◌, Option, Some, None, refl, ap, sym, ◌∙◌, codes}
+use Rattle.std.proofs.lemmas.Option.{same_Some}
 use Rattle.dk_base.specs.declared.span.Span.{Span}
 use Rattle.dk_base.specs.declared.ty.Ty.TheVariants.{Unsigned}
 use Rattle.dk_lexer.specs.declared.token.Token.{Token}
@@ -64,11 +65,8 @@ name_token : (tok : Token) × (terminal tok ≡ Name')
 unfolding terminal_of
 name_token = (record { span = record { start = 0; stop = 0 }; kind = Word' (codes "a") }, refl)
 
-some_same : {V : Type 0} (v w : V) → Some v ≡ Some w → v ≡ w
-some_same v w e = cc
-
 pub gives_class : {V : Type 0} (f : Token → Option V) (t : Token) (v : V) → f t ≡ Some v → IsClass (Gives f)
-gives_class f t v e = record { one = λ u v w p q. some_same v w (sym p ∙ q); token = t; value = v; some = e }
+gives_class f t v e = record { one = λ u v w p q. same_Some v w (sym p ∙ q); token = t; value = v; some = e }
 
 pub name_class : IsClass (Gives name)
 name_class = let t = name_token in gives_class name t.0 (record { span = t.0.span; text = spelling t.0.kind }) (ap (λ k. name_at k t.0.span (spelling t.0.kind)) t.1)
@@ -86,7 +84,7 @@ turn_one : (m : Mark) (t : Token) (a b : Turn) → sign_of (mark_terminal m) ≡
 turn_one m t (turn.Mark s) (turn.Mark r) n p q = ap (λ x. turn.Mark x) (sym p.1 ∙ q.1)
 turn_one m t (turn.Mark s) (turn.Signed b) n p q = let e : sign_of (terminal t) ≡ None = ap sign_of p.0 ∙ n in absurd (cc (e, q))
 turn_one m t (turn.Signed b) (turn.Mark s) n p q = let e : sign_of (terminal t) ≡ None = ap sign_of q.0 ∙ n in absurd (cc (e, p))
-turn_one m t (turn.Signed a) (turn.Signed b) n p q = ap (λ x. turn.Signed x) (some_same _ _ (sym p ∙ q))
+turn_one m t (turn.Signed a) (turn.Signed b) n p q = ap (λ x. turn.Signed x) (same_Some _ _ (sym p ∙ q))
 
 pub turn_class : (m : Mark) → sign_of (mark_terminal m) ≡ None → IsClass (Turns m)
 turn_class m n = let t = mark_token m in record { one = λ u v w p q. turn_one m u v w n p q; token = t.0; value = turn.Mark t.0.span; some = (t.1, refl) }

@@ -9,7 +9,8 @@ use Rattle.dk_types.specs.Typed.{Typing, types_of}
 use Rattle.dk_types.specs.Meaning.{meaning}
 use Rattle.pointwise_ir.specs.Programs.{Program, IsProgram}
 use Rattle.pointwise_ir.specs.Programs as P
-use Rattle.pointwise_ir.specs.Meaning.{picture_at, pictures, IsRound}
+use Rattle.dk_base.specs.Frames.{picture_at}
+use Rattle.pointwise_ir.specs.Meaning.{pictures, IsRound}
 use Rattle.dk_frames.specs.declared.frame.Frame.{Frame}
 use Rattle.pointwise_eval.specs.Rounds.{AreFrames, round_of}
 use Rattle.pointwise_eval.proofs.Rendered.{round_is}

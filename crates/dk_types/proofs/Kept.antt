@@ -23,7 +23,8 @@ use Rattle.dk_types.specs.Typed.{Typed, type_of, Definition, Typing, image_type,
 use Rattle.dk_types.specs.Scopes.{Named, Scope, is_same, image_of, types_in, inputs_scope, scope_of, definition_named, name_among}
 use Rattle.dk_types.specs.Operations.{amount_of, offset_of, signed}
 use Rattle.dk_types.specs.Sequences.{Each, none, next}
-use Rattle.dk_types.specs.Types.{HasType, IsPort, Takes, IsInput, IsDefinition, IsOutput, IsTyping}
+use Rattle.dk_base.specs.Types.{IsPort}
+use Rattle.dk_types.specs.Types.{HasType, Takes, IsInput, IsDefinition, IsOutput, IsTyping}
 use Rattle.dk_types.specs.Types as H
 use Rattle.dk_types.specs.Kept.{IsNear, IsWell, AreWell, ArePorts, AreOutputsOf, IsTyped}
 

@@ -17,7 +17,8 @@ use Rattle.dk_types.specs.declared.typed.TypedInput.{TypedInput}
 use Rattle.dk_types.specs.declared.typed.TypedDefinition.{TypedDefinition}
 use Rattle.dk_types.specs.Typed.{Typed, type_of, Definition, definition_of, definitions_as}
 use Rattle.dk_types.specs.Scopes.{Scope, IsImage, IsUnknown, inputs_scope, scope_of, name_among}
-use Rattle.dk_types.specs.Types.{HasType, IsPort, Takes, declared_type}
+use Rattle.dk_base.specs.Types.{IsPort}
+use Rattle.dk_types.specs.Types.{HasType, Takes, declared_type}
 use Rattle.dk_types.specs.Faults.{Faulty, Stops, at, InputFault, DefinitionFault, OutputFault}
 use Rattle.dk_types.proofs.Rules.{told}
 

@@ -15,7 +15,8 @@ use Rattle.dk_types.specs.declared.typed.TypedInput.{TypedInput}
 use Rattle.dk_types.specs.Typed.{Typed, type_of, Definition, Typing}
 use Rattle.dk_types.specs.Scopes.{Scope, image_of, types_in, inputs_scope, scope_of, name_among}
 use Rattle.dk_types.specs.Sequences.{Each, First, none, next, here, later}
-use Rattle.dk_types.specs.Types.{IsSide, IsPort, Takes, declared_type, IsInput, IsDefinition, IsOutput, IsTyping}
+use Rattle.dk_base.specs.Types.{IsPort}
+use Rattle.dk_types.specs.Types.{IsSide, Takes, declared_type, IsInput, IsDefinition, IsOutput, IsTyping}
 use Rattle.dk_types.specs.Faults.{at, InputFault, DefinitionFault, OutputFault, IsFirstFault}
 use Rattle.dk_types.specs.Faults as F
 use Rattle.dk_types.proofs.Answers.{Answer, answer, is_type, type_is, is_a_type, typed_answer, faulty_answer, true_or_false}

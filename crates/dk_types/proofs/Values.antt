@@ -18,9 +18,11 @@ use Rattle.dk_base.proofs.Operations.{binary_typed, binary_in, unary_in, scaling
 use Rattle.dk_types.specs.declared.typed.TypedInput.{TypedInput}
 use Rattle.dk_types.specs.declared.typed.TypedRead.{TypedRead}
 use Rattle.dk_types.specs.Typed.{Typed, constant, fetch, single, double, scaled, converted, chosen, type_of, Definition, Typing, declared_or, image_type, input_types, types_of}
-use Rattle.dk_types.specs.Types.{IsPort, Takes}
+use Rattle.dk_base.specs.Types.{IsPort}
+use Rattle.dk_types.specs.Types.{Takes}
 use Rattle.dk_types.specs.Kept.{IsReadOf, IsWell, AreWell, ArePorts, IsTyped}
-use Rattle.dk_types.specs.Meaning.{picture_at, framed, read_value, value, pictures, meaning, AreIn, AreTypes}
+use Rattle.dk_base.specs.Frames.{picture_at, framed}
+use Rattle.dk_types.specs.Meaning.{read_value, value, pictures, meaning, AreIn, AreTypes}
 
 -- types of results
 limited_type : (s t : Ty) → 1 ≤ width_of s → limited s ≡ Some t → IsType t

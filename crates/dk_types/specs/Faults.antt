@@ -30,7 +30,8 @@ use Rattle.dk_types.specs.Typed.{Typed, type_of, Definition}
 use Rattle.dk_types.specs.Scopes.{Scope, IsImage, IsUnknown, image_of, inputs_scope, scope_of, name_among}
 use Rattle.dk_types.specs.Sequences.{First}
 use Rattle.dk_types.specs.Operations.{binary_of, amount_of}
-use Rattle.dk_types.specs.Types.{HasType, IsSide, IsPort, Takes, declared_type, IsInput, IsDefinition, IsOutput, AreInputs, AreDefinitions}
+use Rattle.dk_base.specs.Types.{IsPort}
+use Rattle.dk_types.specs.Types.{HasType, IsSide, Takes, declared_type, IsInput, IsDefinition, IsOutput, AreInputs, AreDefinitions}
 
 -- a fault of this kind here
 abbrev pub at : Span → TypeFaultKind → TypeFault

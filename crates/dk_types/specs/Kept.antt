@@ -9,7 +9,8 @@ use Rattle.dk_base.specs.Stencils.{IsDistinct}
 use Rattle.dk_types.specs.declared.typed.TypedRead.{TypedRead}
 use Rattle.dk_types.specs.declared.typed.TypedInput.{TypedInput}
 use Rattle.dk_types.specs.Typed.{Typed, constant, fetch, single, double, scaled, converted, chosen, type_of, Definition, Typing, image_type, input_types, types_of}
-use Rattle.dk_types.specs.Types.{IsPort, Takes}
+use Rattle.dk_base.specs.Types.{IsPort}
+use Rattle.dk_types.specs.Types.{Takes}
 
 -- -64 to 64
 pub record IsNear (v : ℤ) : Type 0 where

@@ -2,22 +2,10 @@
 use Rattle.std.specs.Prelude.{◌≡◌, ℕ, ℤ, pos, ◌+ℤ◌, List, [], ◌∷◌, ◌++◌, fold, map, slice_get, slice_index_or, Some, if◌then◌else◌}
 use Rattle.dk_base.specs.declared.ty.Ty.{Ty}
 use Rattle.dk_base.specs.Types.{IsType, IsIn}
-use Rattle.dk_base.specs.Frames.{Size, Picture, in_frame, clamped, picture_of}
+use Rattle.dk_base.specs.Frames.{Size, Picture, clamped, picture_of, framed, picture_at}
 use Rattle.dk_base.specs.Operators.{unary_value, binary_value, scaling_value, conversion_value, select_value}
 use Rattle.dk_types.specs.declared.typed.TypedRead.{TypedRead}
 use Rattle.dk_types.specs.Typed.{Typed, constant, fetch, single, double, scaled, converted, chosen, Definition, Typing}
-
--- 0 at every point
-abbrev pub nothing : Picture
-nothing x y = pos 0
-
--- the picture of image g among these
-abbrev pub picture_at : List Picture → ℕ → Picture
-picture_at known g = slice_index_or known g nothing
-
--- 0 outside the frame
-abbrev pub framed : Size → Picture → Picture
-framed size picture x y = if in_frame size x y then picture x y else pos 0
 
 -- what a read at (x, y) gives: the image at the moved point, or 0 where that is outside; a clamped read brings the point to the frame's edge
 abbrev pub read_value : Size → List Picture → TypedRead → Picture

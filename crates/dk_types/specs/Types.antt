@@ -5,7 +5,7 @@ use Rattle.dk_base.specs.declared.span.Span.{Span}
 use Rattle.dk_base.specs.declared.ty.Ty.{Ty}
 use Rattle.dk_base.specs.declared.ty.Ty.TheVariants.{Unsigned, Signed}
 use Rattle.dk_base.specs.declared.operator.Conversion.TheVariants.{Cast, Saturate}
-use Rattle.dk_base.specs.Types.{IsType, converts}
+use Rattle.dk_base.specs.Types.{IsType, IsPort, converts}
 use Rattle.dk_base.specs.Operators.{literal_type, unary_type, binary_type, scaling_type, select_type}
 use Rattle.dk_parser.specs.declared.tree.Literal.{Literal}
 use Rattle.dk_parser.specs.declared.tree.TypeWord.{TypeWord}
@@ -65,11 +65,6 @@ HasNumbers (T.select s c a b) = HasNumbers c × HasNumbers a × HasNumbers b
 pub record IsSide (n : ℕ) : Type 0 where
   pub some : 1 ≤ n
   pub most : n ≤ MAX_SIDE
-
--- an unsigned type of 1 to 16 bits
-abbrev pub IsPort : Ty → Type 0
-IsPort (Unsigned n) = (1 ≤ n) × (n ≤ 16)
-IsPort (Signed n) = ⊥
 
 -- an image that is declared so takes a body of the type
 pub record IsTaken (body declared : Ty) : Type 0 where

@@ -9,7 +9,8 @@ ghost use Rattle.dk_parser.specs.Programs as P;
 ghost use Rattle.dk_types.specs.declared.typed.TypedInput.{TypedInput};
 ghost use Rattle.dk_types.specs.Typed.{Definition, definition_of, definitions_as, declared_or};
 ghost use Rattle.dk_types.specs.Scopes.{inputs_scope, scope_of, name_among};
-ghost use Rattle.dk_types.specs.Types.{IsSide, IsPort, Takes, declared_type as declared_type_of, IsInput, IsDefinition, IsOutput, AreInputs, AreDefinitions, AreOutputs};
+ghost use Rattle.dk_base.specs.Types.{IsPort};
+ghost use Rattle.dk_types.specs.Types.{IsSide, Takes, declared_type as declared_type_of, IsInput, IsDefinition, IsOutput, AreInputs, AreDefinitions, AreOutputs};
 ghost use Rattle.dk_types.specs.Faults.{Stops, at, InputFault, DefinitionFault, OutputFault, FaultyInputs, FaultyDefinitions, FaultyOutputs};
 
 use crate::expression::expression;
@@ -17,12 +18,9 @@ use crate::fault::{TypeError, TypeFaultKind, fault};
 use crate::operators::is_type;
 use crate::scope::Scope;
 use crate::typed::{TypedDefinition, TypedInput};
-use dk_base::{MAX_DEFINITIONS, MAX_INPUTS, MAX_OUTPUTS, MAX_SIDE, Text, Ty};
+use dk_base::{MAX_DEFINITIONS, MAX_INPUTS, MAX_OUTPUTS, MAX_PORT_WIDTH, MAX_SIDE, Text, Ty};
 use dk_parser::{Def, Input, Literal, Name, TypeWord};
 use std::alloc::{AllocError, Global};
-
-/// The greatest width of the type of an input or an output.
-const MAX_PORT_WIDTH: u8 = 16;
 
 /// A side of the frame.
 pub(crate) fn side(number: Literal) -> Result<u32, TypeError>

@@ -16,17 +16,11 @@ use Rattle.wiring.specs.Sizes.{IsWidth}
 use Rattle.wiring.specs.Rules.{IsShape, AssignIsSound, UpdateIsSound}
 use Rattle.wiring.specs.Snapshot.{net_value, word_value, TakesPlace}
 use Rattle.wiring.proofs.Lists.{All-at, Contains-at}
+use Rattle.wiring.proofs.Search.{at_push}
 use Rattle.net_build.specs.Includes.{Includes, InEach, AtEachEdge}
 use Rattle.net_build.specs.Draft.{IsNet, IsReadable, IsDraft, IsOperation, IsFree, HasWire, width_of, with_wire, with_reg, with_array, with_update}
 use Rattle.net_build.proofs.Parts.{Begins-refl, Begins-push, at_Begins, Includes-refl}
 use Rattle.net_build.proofs.Grown.{assign_more, update_more, right_more, right_width_more}
-
--- what stands in a list with one more element
-pub at_push : {X : Type 0} (xs : List X) (y x : X) (k : ℕ) → slice_get (xs ++ y ∷ []) k ≡ Some x → (slice_get xs k ≡ Some x) ⊎ ((k ≡ length xs) × (y ≡ x))
-at_push [] y x zero e = inr (refl, same_Some y x e)
-at_push [] y x (suc k) e = cc
-at_push (z ∷ xs) y x zero e = inl e
-at_push (z ∷ xs) y x (suc k) e = elim (at_push xs y x k e) [ inl h ↦ inl h | inr h ↦ inr (ap suc h.0, h.1) ]
 
 pub last_push : {X : Type 0} (xs : List X) (y : X) → slice_get (xs ++ y ∷ []) (length xs) ≡ Some y
 last_push [] y = refl

@@ -16,7 +16,8 @@ use Rattle.netlist.specs.Names.{numbered, din_names, output_names, input_names, 
 use Rattle.net_build.specs.Naming.{made_name, made_names, names_for, AreCounts}
 use Rattle.net_build.specs.Draft.{with_outputs}
 use Rattle.wiring.specs.declared.netlist.Net.{Net}
-use Rattle.net_build.proofs.Drafts.{at_push, append_at}
+use Rattle.wiring.proofs.Search.{at_push}
+use Rattle.net_build.proofs.Drafts.{append_at}
 
 -- the letters of wires, registers and arrays
 pub data Letter : ℕ → Type 0 where

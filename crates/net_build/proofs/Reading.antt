@@ -18,7 +18,7 @@ use Rattle.net_build.specs.Includes.{Includes}
 use Rattle.net_build.specs.Draft.{with_wire}
 use Rattle.net_build.specs.Control.{AddsReads, AddsNoReads}
 use Rattle.net_build.proofs.Parts.{at_Begins}
-use Rattle.net_build.proofs.Drafts.{at_push}
+use Rattle.wiring.proofs.Search.{at_push}
 
 -- no assign more reads nothing
 pub reads_none : (new old : Netlist) (arrays : ℕ → Bool) → new.assigns ≡ old.assigns → AddsReads new old arrays

@@ -1,7 +1,7 @@
 // The image that comes next in a file.
 
 ghost use Rattle.std.specs.Prelude.{◌≡◌, ◌+◌, ◌-◌, ◌*◌, ◌<◌, ◌≤◌, ◌^◌, ℕ, List, length, IfOk, IfErr, MatchResult, false};
-ghost use Rattle.dk_base.specs.declared.TheConstants.{MAX_FILE_IMAGES, MAX_SIDE};
+ghost use Rattle.dk_base.specs.declared.TheConstants.{MAX_FILE_IMAGES, MAX_SIDE, MAX_PORT_WIDTH};
 ghost use Rattle.dk_base.specs.Frames.{Size as TheSize, IsFrame, area as area_of};
 ghost use Rattle.dk_base.specs.FrameSizes.{size_of};
 ghost use Rattle.pgm_codec.specs.Answers.{Reads};
@@ -42,7 +42,7 @@ fn next_header(offset: usize, rest: &[u8]) -> Result<Header, ImageFault>
 
 /// The greatest sample of so many bits.
 fn greatest_sample(width: u8) -> u32
-    requires { width ≤ 16 }
+    requires { width ≤ MAX_PORT_WIDTH }
     ensures { result ≡ 2 ^ width - 1 }
 {
     (1 << width) - 1
@@ -50,7 +50,7 @@ fn greatest_sample(width: u8) -> u32
 
 /// Whether the image has the frame's size, and a maxval that an input of so many bits takes.
 fn check_header(size: FrameSize, width: u8, header: &Header, rest: &[u8]) -> Result<(), ImageFault>
-    requires width { width ≤ 16 }
+    requires width { width ≤ MAX_PORT_WIDTH }
     requires reads { Reads rest.now header.now }
     ensures headed { IfOk result (λ _. IsHeaded (size_of size) width rest.now header.now) }
     ensures fault { IfErr result (λ f. (number offset : ℕ) → Refused (size_of size) width number offset rest.now f) }
@@ -101,7 +101,7 @@ fn check_samples(
 
 /// The header of the image with which the bytes at this place begin.
 fn judge(size: FrameSize, width: u8, place: Place, rest: &[u8]) -> Result<Header, ImageFault>
-    requires width { width ≤ 16 }
+    requires width { width ≤ MAX_PORT_WIDTH }
     requires few { place.images < MAX_FILE_IMAGES }
     requires within { place.offset + length rest.now < 2 ^ 63 }
     ensures accepted { IfOk result (IsAccepted (size_of size) width rest.now) }
@@ -184,7 +184,7 @@ pub(crate) fn read_image(
     place: Place,
     rest: &[u8],
 ) -> Result<ReadImage, FileError>
-    requires width { width ≤ 16 }
+    requires width { width ≤ MAX_PORT_WIDTH }
     requires few { place.images < MAX_FILE_IMAGES }
     requires within { place.offset + length rest.now < 2 ^ 63 }
     ensures next { IfOk result (λ image. IsNext (size_of size) width rest.now image.length image.frame) }

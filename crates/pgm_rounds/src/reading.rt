@@ -2,7 +2,7 @@
 
 ghost use Rattle.std.specs.Prelude.{◌≡◌, ◌+◌, ◌<◌, ◌≤◌, ◌++◌, ◌∷◌, [], length, OnOk, IfOk, IfErr};
 ghost use Rattle.std.specs.List.{All};
-ghost use Rattle.dk_base.specs.declared.TheConstants.{MAX_FILE_IMAGES};
+ghost use Rattle.dk_base.specs.declared.TheConstants.{MAX_FILE_IMAGES, MAX_PORT_WIDTH};
 ghost use Rattle.dk_base.specs.Frames.{IsFrame};
 ghost use Rattle.dk_base.specs.FrameSizes.{size_of};
 ghost use Rattle.pgm_rounds.specs.declared.fault.ImageFault.TheVariants.{Round as OpenRound};
@@ -67,7 +67,7 @@ impl Reading {
         widths: &[u8],
         bytes: &[u8],
     ) -> Result<(), FileError>
-        requires widths { All (λ width. width ≤ 16) widths.now }
+        requires widths { All (λ width. width ≤ MAX_PORT_WIDTH) widths.now }
         requires few { self.old.place.images < MAX_FILE_IMAGES }
         requires some { 0 < self.old.place.images → self.old.place.offset < length bytes.now }
         requires stands { Stands (ports_with (size_of size) widths.now) bytes.now (frames_of self.old.rounds.items) self.old.frames.items self.old.place.images self.old.place.offset }

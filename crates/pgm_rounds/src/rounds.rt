@@ -2,6 +2,7 @@
 
 ghost use Rattle.std.specs.Prelude.{◌≡◌, ◌<◌, ◌≤◌, List, length, map, IfOk, IfErr};
 ghost use Rattle.std.specs.List.{All};
+ghost use Rattle.dk_base.specs.declared.TheConstants.{MAX_PORT_WIDTH};
 ghost use Rattle.dk_base.specs.Frames.{IsFrame};
 ghost use Rattle.dk_base.specs.FrameSizes.{size_of};
 ghost use Rattle.pgm_codec.specs.Images.{Picture as Image};
@@ -22,7 +23,7 @@ pub fn read_rounds(
     bytes: &[u8],
 ) -> Result<Vec<Round>, FileError>
     requires some { 0 < length widths.now }
-    requires widths { All (λ width. width ≤ 16) widths.now }
+    requires widths { All (λ width. width ≤ MAX_PORT_WIDTH) widths.now }
     ensures fits { IfOk result (λ rounds. (images : List (List Image)) × FitsFile (ports_with (size_of size) widths.now) bytes.now images × (frames_of rounds.items ≡ map (map frame_of) images)) }
     ensures frames { IfOk result (λ rounds. All (IsPortRound (ports_with (size_of size) widths.now)) rounds.items) }
     ensures fault { IfErr result (IsError (ports_with (size_of size) widths.now) bytes.now) }

@@ -13,8 +13,9 @@ use Rattle.dk_base.specs.declared.ty.Ty.TheVariants.{Unsigned, Signed}
 use Rattle.dk_base.specs.Types.{IsIn}
 use Rattle.dk_base.specs.Frames.{Size, area, Picture, raster}
 use Rattle.dk_base.proofs.Rasters.{inside, raster_is}
-use Rattle.pointwise_ir.specs.Programs.{Program, IsProgram, IsPort, types_of}
-use Rattle.pointwise_ir.specs.Meaning.{picture_at}
+use Rattle.dk_base.specs.Types.{IsPort}
+use Rattle.pointwise_ir.specs.Programs.{Program, IsProgram, types_of}
+use Rattle.dk_base.specs.Frames.{picture_at}
 use Rattle.pointwise_eval.specs.declared.plane.Plane.{Plane}
 use Rattle.dk_frames.specs.declared.frame.Frame.{Frame}
 use Rattle.pointwise_eval.specs.Planes.{shown, all_shown, IsWhole, ShowsNeeded, IsOutputPlane}

@@ -17,8 +17,10 @@ use Rattle.dk_base.specs.Frames.{Size, area, in_frame, raster_number, Picture, p
 use Rattle.pointwise_ir.specs.declared.ir.Input.{Input}
 use Rattle.pointwise_ir.specs.declared.ir.Definition.{Definition}
 use Rattle.pointwise_ir.specs.Trees.{Tree, constant, read, shifted, unary, binary, select, convert, scale, tree_of, EachImage}
-use Rattle.pointwise_ir.specs.Programs.{Program, IsProgram, IsPort, all_types, bodies_of}
-use Rattle.pointwise_ir.specs.Meaning.{framed, picture_at, value, pictures, IsPicture, IsRound}
+use Rattle.dk_base.specs.Types.{IsPort}
+use Rattle.pointwise_ir.specs.Programs.{Program, IsProgram, all_types, bodies_of}
+use Rattle.dk_base.specs.Frames.{framed, picture_at}
+use Rattle.pointwise_ir.specs.Meaning.{value, pictures, IsPicture, IsRound}
 use Rattle.pointwise_ir.proofs.Agreement.{Agree, framed_agrees, value_agrees, each_weaker}
 use Rattle.pointwise_ir.proofs.Typed.{type_typed, zero_in, framed_in, value_in}
 use Rattle.pointwise_ir.proofs.Defined.{last_entry, taken_types}

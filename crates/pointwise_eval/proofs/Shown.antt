@@ -7,7 +7,7 @@ use Rattle.std.proofs.lemmas.Nat.{mul-add-lt, div-mul-add, mod-mul-add}
 use Rattle.std.proofs.lemmas.Bool.{cases_lt}
 use Rattle.dk_base.specs.Frames.{Size, area, in_frame, Picture}
 use Rattle.dk_base.proofs.Rasters.{below_is, inside_is}
-use Rattle.pointwise_ir.specs.Meaning.{framed}
+use Rattle.dk_base.specs.Frames.{framed}
 use Rattle.pointwise_eval.specs.Planes.{shown}
 
 -- values in raster order are those of a picture, as far as they go

@@ -6,8 +6,9 @@ use Rattle.dk_base.specs.Frames.{Size, area, Picture}
 use Rattle.pointwise_ir.specs.declared.expr.Edge.{Edge}
 use Rattle.pointwise_ir.specs.Trees.{Tree, EachImage}
 use Rattle.pointwise_ir.specs.Typing.{HasType}
-use Rattle.pointwise_ir.specs.Programs.{IsPort}
-use Rattle.pointwise_ir.specs.Meaning.{framed, edged, value, picture_at}
+use Rattle.dk_base.specs.Types.{IsPort}
+use Rattle.dk_base.specs.Frames.{framed, picture_at}
+use Rattle.pointwise_ir.specs.Meaning.{edged, value}
 use Rattle.pointwise_eval.specs.declared.plane.Plane.{Plane}
 
 -- the picture of values in raster order

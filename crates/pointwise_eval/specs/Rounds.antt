@@ -6,7 +6,7 @@ use Rattle.dk_base.specs.Types.{above}
 use Rattle.dk_base.specs.Frames.{Size, area, Picture, picture_of, raster}
 use Rattle.pointwise_ir.specs.declared.ir.Input.{Input}
 use Rattle.pointwise_ir.specs.Programs.{Program}
-use Rattle.pointwise_ir.specs.Meaning.{picture_at}
+use Rattle.dk_base.specs.Frames.{picture_at}
 use Rattle.dk_frames.specs.declared.frame.Frame.{Frame}
 
 -- a frame of this size whose samples are in the range of an input's type

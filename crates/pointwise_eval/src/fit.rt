@@ -4,7 +4,7 @@ ghost use Rattle.std.specs.Prelude.{◌≡◌, ◌<◌, IsTrue, length};
 ghost use Rattle.std.specs.List.{All};
 ghost use Rattle.dk_base.specs.FrameSizes.{size_of};
 ghost use Rattle.dk_base.specs.Types.{IsType, above};
-ghost use Rattle.pointwise_ir.specs.Programs.{IsPort};
+ghost use Rattle.dk_base.specs.Types.{IsPort};
 ghost use Rattle.pointwise_eval.specs.Rounds.{IsInputFrame, AreInputFrames, AreFrames};
 
 use dk_base::{FrameSize, Ty};

@@ -4,7 +4,8 @@ ghost use Rattle.std.specs.Prelude.{◌≡◌, ◌<◌, pos, IfOk, length};
 ghost use Rattle.dk_base.specs.Frames.{area};
 ghost use Rattle.dk_base.specs.FrameSizes.{size_of};
 ghost use Rattle.pointwise_ir.specs.Trees.{tree_of};
-ghost use Rattle.pointwise_ir.specs.Meaning.{framed, value, picture_at};
+ghost use Rattle.dk_base.specs.Frames.{framed, picture_at};
+ghost use Rattle.pointwise_ir.specs.Meaning.{value};
 ghost use Rattle.pointwise_eval.specs.Planes.{shown, all_shown, IsWhole, CanEvaluate};
 
 use crate::plane::Plane;

@@ -8,7 +8,8 @@ use Rattle.dk_base.specs.Operators.{unary_value, binary_value, scaling_value, co
 use Rattle.pointwise_ir.specs.declared.expr.Edge.{Edge}
 use Rattle.pointwise_ir.specs.declared.expr.Edge.TheVariants.{Zero, Clamp}
 use Rattle.pointwise_ir.specs.Trees.{Tree, constant, read, shifted, unary, binary, select, convert, scale, EachImage}
-use Rattle.pointwise_ir.specs.Meaning.{framed, edged, picture_at, value, pictures_from}
+use Rattle.dk_base.specs.Frames.{framed, picture_at}
+use Rattle.pointwise_ir.specs.Meaning.{edged, value, pictures_from}
 
 -- two pictures with the same pixels at all points
 abbrev pub Agree : (p q : Picture) → Type 0

@@ -3,7 +3,8 @@ use Rattle.std.proofs.Common.{◌≡◌, ℕ, ◌<◌, List, length, get_or, Som
 use Rattle.std.proofs.lemmas.Option.{slice_get_read}
 use Rattle.dk_base.specs.Frames.{Size, Picture}
 use Rattle.pointwise_ir.specs.Programs.{Program}
-use Rattle.pointwise_ir.specs.Meaning.{picture_at, IsPicture, IsRound}
+use Rattle.dk_base.specs.Frames.{picture_at}
+use Rattle.pointwise_ir.specs.Meaning.{IsPicture, IsRound}
 use Rattle.pointwise_ir.specs.Passes.{KeepsMeaning}
 
 pub keeps_all : (p : Program) → KeepsMeaning p p

@@ -9,7 +9,8 @@ use Rattle.dk_base.specs.Types.{IsType}
 use Rattle.pointwise_ir.specs.declared.ir.Input.{Input}
 use Rattle.pointwise_ir.specs.declared.ir.Definition.{Definition}
 use Rattle.pointwise_ir.specs.Trees.{Tree, constant, read, shifted, unary, binary, select, convert, scale, tree_of, depth_of}
-use Rattle.pointwise_ir.specs.Programs.{IsPort, IsDefined, all_types, AreDefined}
+use Rattle.dk_base.specs.Types.{IsPort}
+use Rattle.pointwise_ir.specs.Programs.{IsDefined, all_types, AreDefined}
 use Rattle.pointwise_ir.proofs.Typed.{AreTypes, type_typed}
 
 -- no expression has depth 0

@@ -12,7 +12,8 @@ use Rattle.pointwise_ir.specs.declared.ir.Input.{Input}
 use Rattle.pointwise_ir.specs.declared.ir.Definition.{Definition}
 use Rattle.pointwise_ir.specs.Trees.{Tree, tree_of, EachImage}
 use Rattle.pointwise_ir.specs.Programs.{Program, bodies_of, types_of, all_types, IsBody, IsProgram}
-use Rattle.pointwise_ir.specs.Meaning.{framed, picture_at, value, pictures_from, pictures, IsPicture, IsRound, AgreeInside}
+use Rattle.dk_base.specs.Frames.{framed, picture_at}
+use Rattle.pointwise_ir.specs.Meaning.{value, pictures_from, pictures, IsPicture, IsRound, AgreeInside}
 use Rattle.pointwise_ir.proofs.Agreement.{Agree, framed_agrees, value_agrees, each_weaker, pictures_agree}
 use Rattle.pointwise_ir.proofs.Typed.{reads_there, AreTypes, AreIn, type_typed, framed_in, value_in}
 use Rattle.pointwise_ir.proofs.Defined.{last_entry, types_more, DefinedFrom, first_defined, rest_defined, inputs_typed}

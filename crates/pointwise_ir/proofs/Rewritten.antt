@@ -11,9 +11,11 @@ use Rattle.dk_base.specs.Stencils.{IsDistinct}
 use Rattle.pointwise_ir.specs.declared.ir.Input.{Input}
 use Rattle.pointwise_ir.specs.declared.ir.Definition.{Definition}
 use Rattle.pointwise_ir.specs.Trees.{Tree, tree_of}
-use Rattle.pointwise_ir.specs.Programs.{Program, bodies_of, types_of, all_types, IsBody, IsPort, IsOutput, IsProgram}
+use Rattle.dk_base.specs.Types.{IsPort}
+use Rattle.pointwise_ir.specs.Programs.{Program, bodies_of, types_of, all_types, IsBody, IsOutput, IsProgram}
 use Rattle.pointwise_ir.specs.Typing.{HasType}
-use Rattle.pointwise_ir.specs.Meaning.{framed, picture_at, value, pictures_from, pictures, IsPicture, IsRound}
+use Rattle.dk_base.specs.Frames.{framed, picture_at}
+use Rattle.pointwise_ir.specs.Meaning.{value, pictures_from, pictures, IsPicture, IsRound}
 use Rattle.pointwise_ir.specs.Reads.{Reads, IsLive, Kept}
 use Rattle.pointwise_ir.specs.Passes.{KeepsMeaning}
 use Rattle.pointwise_ir.specs.Rewritings.{IsRewritten, AreRewritten, IsSameBut}

@@ -18,7 +18,8 @@ use Rattle.pointwise_ir.specs.declared.expr.Edge.{Edge}
 use Rattle.pointwise_ir.specs.declared.expr.Edge.TheVariants.{Zero, Clamp}
 use Rattle.pointwise_ir.specs.Trees.{Tree, constant, read, shifted, unary, binary, select, convert, scale, EachImage}
 use Rattle.pointwise_ir.specs.Typing.{HasType}
-use Rattle.pointwise_ir.specs.Meaning.{framed, edged, picture_at, value}
+use Rattle.dk_base.specs.Frames.{framed, picture_at}
+use Rattle.pointwise_ir.specs.Meaning.{edged, value}
 
 -- a typed expression reads images that are there
 pub reads_there : (types : List Ty) (e : Tree) (t : Ty) → HasType types e t → EachImage (λ g. g < length types) e

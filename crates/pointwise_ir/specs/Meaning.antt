@@ -3,25 +3,17 @@ use Rattle.std.specs.Prelude.{◌≡◌, ℕ, false, IsTrue, ℤ, pos, ◌+ℤ�
 use Rattle.dk_base.specs.declared.ty.Ty.{Ty}
 use Rattle.dk_base.specs.Types.{IsIn}
 use Rattle.dk_base.specs.Operators.{unary_value, binary_value, scaling_value, conversion_value, select_value}
-use Rattle.dk_base.specs.Frames.{Size, in_frame, clamped, Picture}
+use Rattle.dk_base.specs.Frames.{Size, in_frame, clamped, Picture, framed, picture_at}
 use Rattle.pointwise_ir.specs.declared.expr.Edge.{Edge}
 use Rattle.pointwise_ir.specs.declared.expr.Edge.TheVariants.{Zero, Clamp}
 use Rattle.pointwise_ir.specs.declared.ir.Input.{Input}
 use Rattle.pointwise_ir.specs.Trees.{Tree, constant, read, shifted, unary, binary, select, convert, scale}
 use Rattle.pointwise_ir.specs.Programs.{Program, bodies_of}
 
--- the picture in the frame, and 0 outside it
-abbrev pub framed : Size → Picture → Picture
-framed size picture x y = if in_frame size x y then picture x y else pos 0
-
 -- the picture in the frame, and outside it 0 or its pixel at the nearest point of the frame, each coordinate by itself
 abbrev pub edged : Size → Edge → Picture → Picture
 edged size Zero picture x y = framed size picture x y
 edged size Clamp picture x y = picture (clamped size.width x) (clamped size.height y)
-
--- the picture of image g
-abbrev pub picture_at : List Picture → ℕ → Picture
-picture_at known g = slice_index_or known g (λ _ _. pos 0)
 
 -- the value of an expression at a point, where the images have these pictures
 abbrev pub value : Size → List Picture → Tree → Picture

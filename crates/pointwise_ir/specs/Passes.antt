@@ -2,7 +2,8 @@
 use Rattle.std.specs.Prelude.{◌≡◌, ◌↔◌, ℕ, ℤ, List}
 use Rattle.dk_base.specs.Frames.{Picture}
 use Rattle.pointwise_ir.specs.Programs.{Program, names_of, types_of}
-use Rattle.pointwise_ir.specs.Meaning.{picture_at, pictures, IsRound}
+use Rattle.dk_base.specs.Frames.{picture_at}
+use Rattle.pointwise_ir.specs.Meaning.{pictures, IsRound}
 use Rattle.pointwise_ir.specs.Reads.{IsLive, Kept}
 
 pub record KeepsMeaning (old new : Program) : Type 0 where

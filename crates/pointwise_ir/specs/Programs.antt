@@ -4,6 +4,7 @@ use Rattle.std.specs.List.{All}
 use Rattle.dk_base.specs.declared.TheConstants.{MAX_INPUTS, MAX_OUTPUTS, MAX_KEPT_IMAGES, MAX_INLINED_DEPTH}
 use Rattle.dk_base.specs.declared.ty.Ty.{Ty}
 use Rattle.dk_base.specs.declared.ty.Ty.TheVariants.{Unsigned, Signed}
+use Rattle.dk_base.specs.Types.{IsPort}
 use Rattle.dk_base.specs.Frames.{Size, IsFrame}
 use Rattle.dk_base.specs.FrameSizes.{size_of}
 use Rattle.dk_base.specs.Stencils.{IsDistinct}
@@ -39,11 +40,6 @@ bodies_of p = map (λ d. tree_of d.body) p.images
 -- e gives the pixels of image f, which is no input
 abbrev pub IsBody : Program → ℕ → Tree → Type 0
 IsBody p f e = (k : ℕ) × (f ≡ length p.inputs + k) × (slice_get (bodies_of p) k ≡ Some e)
-
--- the type of an input or an output: unsigned, of 1 to 16 bits
-abbrev pub IsPort : Ty → Type 0
-IsPort (Unsigned n) = (1 ≤ n) × (n ≤ 16)
-IsPort (Signed n) = ⊥
 
 -- image g is there, and its type is that of an output
 pub record IsOutput (types : List Ty) (g : ℕ) : Type 0 where

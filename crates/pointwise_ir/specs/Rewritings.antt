@@ -7,7 +7,8 @@ use Rattle.pointwise_ir.specs.declared.ir.Definition.{Definition}
 use Rattle.pointwise_ir.specs.Trees.{Tree, tree_of, depth_of, AreNear}
 use Rattle.pointwise_ir.specs.Typing.{HasType}
 use Rattle.pointwise_ir.specs.Programs.{Program}
-use Rattle.pointwise_ir.specs.Meaning.{picture_at, value}
+use Rattle.dk_base.specs.Frames.{picture_at}
+use Rattle.pointwise_ir.specs.Meaning.{value}
 use Rattle.pointwise_ir.specs.Reads.{Reads}
 
 -- the values of each image are in its type

@@ -7,7 +7,8 @@ ghost use Rattle.pointwise_ir.specs.Trees.{Tree};
 ghost use Rattle.pointwise_ir.specs.Programs.{Program, IsProgram, IsBody, types_of};
 ghost use Rattle.pointwise_ir.specs.Rewritings.{IsSameBut};
 ghost use Rattle.pointwise_ir.specs.Passes.{KeepsMeaning};
-ghost use Rattle.pointwise_ir.specs.Meaning.{framed, value, picture_at, pictures, IsRound, IsPicture, AgreeInside};
+ghost use Rattle.dk_base.specs.Frames.{framed, picture_at};
+ghost use Rattle.pointwise_ir.specs.Meaning.{value, pictures, IsRound, IsPicture, AgreeInside};
 
 use crate::ir::Ir;
 

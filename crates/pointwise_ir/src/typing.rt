@@ -6,17 +6,16 @@ ghost use Rattle.dk_base.specs.Types.{IsType, IsIn};
 ghost use Rattle.dk_base.specs.Stencils.{IsDistinct, Repeats};
 ghost use Rattle.pointwise_ir.specs.Trees.{tree_of, depth_of, IsNear, AreNear};
 ghost use Rattle.pointwise_ir.specs.Typing.{HasType};
-ghost use Rattle.pointwise_ir.specs.Programs.{all_types, IsPort, IsOutput, IsDefined, AreDefined, IsProgram, program_of};
+ghost use Rattle.dk_base.specs.Types.{IsPort};
+ghost use Rattle.pointwise_ir.specs.Programs.{all_types, IsOutput, IsDefined, AreDefined, IsProgram, program_of};
 
 use crate::FARTHEST;
 use crate::expr::Expr;
 use crate::ir::{Definition, Input, Parts};
 use dk_base::{
-    MAX_INLINED_DEPTH, MAX_INPUTS, MAX_KEPT_IMAGES, MAX_OUTPUTS, MAX_WIDTH, Ty, select_type,
+    MAX_INLINED_DEPTH, MAX_INPUTS, MAX_KEPT_IMAGES, MAX_OUTPUTS, MAX_PORT_WIDTH, MAX_WIDTH, Ty,
+    select_type,
 };
-
-/// The greatest width of an input's and of an output's type, in bits.
-const MAX_PORT_WIDTH: u8 = 16;
 
 // Whether it is a type of values.
 fn is_type(ty: Ty) -> bool

@@ -9,7 +9,8 @@ use Rattle.dk_base.specs.Types.{width_of}
 use Rattle.dk_base.specs.Frames.{Size}
 use Rattle.dk_frames.specs.declared.frame.Frame.{Frame}
 use Rattle.pointwise_ir.specs.declared.ir.Input.{Input}
-use Rattle.pointwise_ir.specs.Programs.{Program, IsPort}
+use Rattle.dk_base.specs.Types.{IsPort}
+use Rattle.pointwise_ir.specs.Programs.{Program}
 use Rattle.pointwise_eval.specs.Rounds.{IsInputFrame, AreFrames}
 use Rattle.pgm_rounds.specs.declared.round.Round.{Round}
 use Rattle.pgm_rounds.specs.Ports.{ports_with}

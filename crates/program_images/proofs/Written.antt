@@ -12,8 +12,10 @@ use Rattle.dk_base.specs.declared.ty.Ty.TheVariants.{Unsigned, Signed}
 use Rattle.dk_base.specs.Types.{width_of, IsIn, greatest_of}
 use Rattle.dk_base.specs.Frames.{Size, Picture, raster}
 use Rattle.pgm_codec.specs.Images.{Picture as Image, header_of, raster_of, file_of}
-use Rattle.pointwise_ir.specs.Programs.{Program, IsProgram, IsPort, IsOutput, types_of}
-use Rattle.pointwise_ir.specs.Meaning.{IsPicture, picture_at}
+use Rattle.dk_base.specs.Types.{IsPort}
+use Rattle.pointwise_ir.specs.Programs.{Program, IsProgram, IsOutput, types_of}
+use Rattle.dk_base.specs.Frames.{picture_at}
+use Rattle.pointwise_ir.specs.Meaning.{IsPicture}
 use Rattle.dk_frames.specs.declared.frame.Frame.{Frame}
 use Rattle.pointwise_eval.specs.Rounds.{frame_of, output_frames}
 use Rattle.program_images.specs.Ports.{bits_of}

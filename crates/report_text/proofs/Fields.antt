@@ -6,11 +6,12 @@ use Rattle.std.proofs.lemmas.Bool.{eqb-true, eq-eqb, ne_eqb, ltb-true, lt-ltb, a
 use Rattle.std.proofs.lemmas.List.{take-append-drop, take_at, drop_at}
 use Rattle.std.proofs.lemmas.Str.Parse.{IsNumeralModel, numerals_by_fold}
 use Rattle.std.proofs.lemmas.Fmt.{digits_decimal, digits_value-decimal, decimal-digits_value, decimal_nonempty, first_decimal, decimal_digit}
+use Rattle.std.proofs.lemmas.Option.{same_Some}
 use Rattle.dk_base.specs.Ascii.{is_digit}
 use Rattle.report_text.specs.Layout.{number_line, pair_line}
 use Rattle.dk_base.specs.Ascii.{value_of, value_after}
 use Rattle.report_text.specs.Reading.{◌>>=◌, strip, is_end, is_canonical, numeral, number_at, number_line_at, pair_line_at}
-use Rattle.report_text.proofs.Options.{some_same, bind_some, if_some}
+use Rattle.report_text.proofs.Options.{bind_some, if_some}
 
 -- words
 pub strip_again : (word rest : List ℕ) → strip word (word ++ rest) ≡ Some rest
@@ -18,7 +19,7 @@ strip_again [] rest = refl
 strip_again (w ∷ word) rest = rw (eq-eqb w w refl) (strip_again word rest)
 
 pub strip_takes : (word bytes rest : List ℕ) → strip word bytes ≡ Some rest → bytes ≡ word ++ rest
-strip_takes [] bytes rest e = some_same bytes rest e
+strip_takes [] bytes rest e = same_Some bytes rest e
 strip_takes (w ∷ word) [] rest e = absurd (cc e)
 strip_takes (w ∷ word) (b ∷ bytes) rest e = by (nat_eq w b) refl (strip_takes word bytes rest)
   where
@@ -91,7 +92,7 @@ pub number_takes : (bytes rest : List ℕ) (n : ℕ) → number_at bytes ≡ Som
 unfolding number_at
 number_takes bytes rest n e =
     let b = bind_some (numeral (take (prefix_len is_digit bytes) bytes)) (λ v. Some (v, drop (prefix_len is_digit bytes) bytes)) (n, rest) e in
-    let s = some_same _ _ b.2 in
+    let s = same_Some _ _ b.2 in
     let d : drop (prefix_len is_digit bytes) bytes ≡ rest = ap (λ x. x.1) s in
     let v : b.0 ≡ n = ap (λ x. x.0) s in
     let m = numeral_takes _ b.0 (passes_front is_digit bytes) b.1 in
@@ -126,7 +127,7 @@ pair_takes word line m n e =
     let a = bind_some (strip word line) (λ rest. number_at rest >>= λ m. number_line_at (codes " ") m.1 >>= λ n. Some (m.0, n)) (m, n) e in
     let b = bind_some (number_at a.0) (λ m. number_line_at (codes " ") m.1 >>= λ n. Some (m.0, n)) (m, n) a.2 in
     let c = bind_some (number_line_at (codes " ") b.0.1) (λ n. Some (b.0.0, n)) (m, n) b.2 in
-    let s = some_same (b.0.0, c.0) (m, n) c.2 in
+    let s = same_Some (b.0.0, c.0) (m, n) c.2 in
     let t = number_takes a.0 b.0.1 b.0.0 b.1 in
     let u = line_takes (codes " ") b.0.1 c.0 c.1 in
     let first : b.0.0 ≡ m = ap (λ x. x.0) s in

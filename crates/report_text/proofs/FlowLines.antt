@@ -4,6 +4,7 @@ use Rattle.std.specs.Prelude.{Some, None, nat_lt, if◌then◌else◌}
 use Rattle.std.specs.List.{AllByRecursion}
 use Rattle.std.specs.Fmt.{signed_decimal}
 use Rattle.std.proofs.lemmas.Bool.{ltb-true, lt-ltb}
+use Rattle.std.proofs.lemmas.Option.{same_Some}
 use Rattle.report_text.specs.declared.report.ImageLine.{ImageLine}
 use Rattle.report_text.specs.declared.report.FlowLine.{FlowLine}
 use Rattle.report_text.specs.declared.report.FlowLine.TheVariants.{Hold, Start, Read, Keep}
@@ -11,7 +12,7 @@ use Rattle.dk_base.specs.Ascii.{is_word_byte}
 use Rattle.report_text.specs.Layout.{name_at, number_line, held, carried, flow_line}
 use Rattle.report_text.specs.Reports.{AreDistinct, names_of, IsImageLine, IsOffset, IsAmount, IsFlowLine}
 use Rattle.report_text.specs.Reading.{◌>>=◌, strip, number_line_at, word_at, find, offset_at, amount_at, held_at, carried_at, flow_at}
-use Rattle.report_text.proofs.Options.{some_same, bind_some, if_some, or_some}
+use Rattle.report_text.proofs.Options.{bind_some, if_some, or_some}
 use Rattle.report_text.proofs.Fields.{Passes, strip_takes, line_again, line_takes}
 use Rattle.report_text.proofs.Offsets.{offset_takes, offset_again}
 use Rattle.report_text.proofs.Words.{some_image, name_passes, word_first, word_second, word_takes, name_at_is, find_takes, find_again}
@@ -55,7 +56,7 @@ held_takes make images word bytes x e =
     record {
       image = a.0;
       flow = b.0;
-      is = some_same (make a.0 b.0) x b.2;
+      is = same_Some (make a.0 b.0) x b.2;
       inside = f.0;
       amount = n.1;
       written = ap (λ y. word ++ y) (word_takes bytes ∙ ap (λ y. y ++ (word_at bytes).1) f.1 ∙ ap (λ y. name_at images a.0 ++ y) n.0);
@@ -108,7 +109,7 @@ carried_takes make images word bytes x e =
       dx = p.0.0;
       dy = r.0.0;
       flow = s.0;
-      is = some_same (make a.0 c.0 p.0.0 r.0.0 s.0) x s.2;
+      is = same_Some (make a.0 c.0 p.0.0 r.0.0 s.0) x s.2;
       reads = f.0;
       gives = g.0;
       across = dx.1;

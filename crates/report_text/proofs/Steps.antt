@@ -4,6 +4,7 @@ use Rattle.std.specs.Prelude.{Some, None, nat_eq, nat_lt, ◌&&◌, ◌||◌, no
 use Rattle.std.specs.List.{AllByRecursion}
 use Rattle.std.proofs.lemmas.Bool.{eqb-true, ne_eqb, ltb-true, ltb-false, and_parts, or_cases, not-true}
 use Rattle.std.proofs.lemmas.List.{append-nil, map_push}
+use Rattle.std.proofs.lemmas.Option.{same_Some}
 use Rattle.report_text.specs.declared.report.ImageLine.{ImageLine}
 use Rattle.report_text.specs.declared.step.Stage.{Stage}
 use Rattle.report_text.specs.declared.step.Stage.TheVariants.{Start, Plan, Limits, Age, Size, Images, Latencies, Clocks, Bits, Reads, Flow, End}
@@ -11,7 +12,7 @@ use Rattle.report_text.specs.Names.{same_codes}
 use Rattle.report_text.specs.Reports.{Parts, Meets, IsImageLine, AreDistinct, names_of, most_images, most_latencies}
 use Rattle.report_text.specs.Layout.{plan_line, limits_line, age_line, size_line, image_line, latency_line, clocks_line, reads_line, flow_line, head_lines}
 use Rattle.report_text.specs.Reading.{◌>>=◌, number_line_at, pair_line_at, image_at, flow_at, place_of, within, follows, planned, sized, imaged, delayed, counted, flowing, ended, next}
-use Rattle.report_text.proofs.Options.{bind_some, if_some, unless_some, or_some, some_same}
+use Rattle.report_text.proofs.Options.{bind_some, if_some, unless_some, or_some}
 use Rattle.report_text.proofs.Fields.{line_takes, pair_takes}
 use Rattle.report_text.proofs.ImageLines.{within_is, image_takes}
 use Rattle.report_text.proofs.FlowLines.{flow_takes}
@@ -76,7 +77,7 @@ plan_step : (r : Parts) (taken : List (List ℕ)) (line : List ℕ) (s : Stage �
 plan_step r taken line s b e =
     let a = bind_some (pair_line_at (codes "limits ") line) (λ x. Some (Limits, record r { bits_limit = x.0; latency_limit = x.1 })) s e in
     let t = pair_takes (codes "limits ") line a.0.0 a.0.1 a.1 in
-    subst (With taken line) (some_same (Limits, record r { bits_limit = a.0.0; latency_limit = a.0.1 }) s a.2) (record {
+    subst (With taken line) (same_Some (Limits, record r { bits_limit = a.0.0; latency_limit = a.0.1 }) s a.2) (record {
       ready = b.ready;
       meets = limits_meets r a.0.0 a.0.1 b.meets b.ready.0 t.1 t.2;
       are = ap (λ x. x ++ line ∷ []) b.are ∙ ap (λ x. plan_line r.version ∷ x ∷ []) t.0;
@@ -142,7 +143,7 @@ timed_step : (r : Parts) (taken : List (List ℕ)) (line : List ℕ) (s : Stage 
 timed_step r taken line s b e =
     let a = bind_some (number_line_at (codes "clocks ") line) (λ n. Some (Clocks, record r { clocks = n })) s e in
     let t = line_takes (codes "clocks ") line a.0 a.1 in
-    subst (With taken line) (some_same (Clocks, record r { clocks = a.0 }) s a.2) (record {
+    subst (With taken line) (same_Some (Clocks, record r { clocks = a.0 }) s a.2) (record {
       ready = b.ready;
       meets = clocks_meets r a.0 b.meets t.1;
       are = ap (λ x. x ++ line ∷ []) b.are ∙ ap (λ x. upto_latencies r ++ x ∷ []) t.0;
@@ -158,7 +159,7 @@ clocks_step : (r : Parts) (taken : List (List ℕ)) (line : List ℕ) (s : Stage
 clocks_step r taken line s b e =
     let a = bind_some (number_line_at (codes "bits ") line) (λ n. Some (Bits, record r { bits = n })) s e in
     let t = line_takes (codes "bits ") line a.0 a.1 in
-    subst (With taken line) (some_same (Bits, record r { bits = a.0 }) s a.2) (record {
+    subst (With taken line) (same_Some (Bits, record r { bits = a.0 }) s a.2) (record {
       ready = b.ready;
       meets = bits_meets r a.0 b.meets t.1;
       are = ap (λ x. x ++ line ∷ []) b.are ∙ append_assoc (upto_latencies r) (clocks_line r.clocks ∷ []) (line ∷ []) ∙ ap (λ x. upto_latencies r ++ (clocks_line r.clocks ∷ x ∷ [])) t.0;
@@ -168,7 +169,7 @@ counted_step : (r : Parts) (taken : List (List ℕ)) (line : List ℕ) (s : Stag
 counted_step r taken line s b l e =
     let a = bind_some (number_line_at (codes "reads ") line) (λ n. Some (Reads, record r { reads = n })) s e in
     let t = line_takes (codes "reads ") line a.0 a.1 in
-    subst (With taken line) (some_same (Reads, record r { reads = a.0 }) s a.2) (record {
+    subst (With taken line) (same_Some (Reads, record r { reads = a.0 }) s a.2) (record {
       ready = b.ready;
       meets = reads_meets r a.0 b.meets l t.1;
       are = ap (λ x. x ++ line ∷ []) b.are ∙ ap (λ x. upto_bits r ++ x ∷ []) t.0 ∙ ap (λ x. upto_bits r ++ (if x then [] else reads_line a.0 ∷ [])) (sym l);

@@ -1,5 +1,6 @@
 -- What the grammar sees of one token, and where it sees nothing.
 use Rattle.std.proofs.Common.{◌≡◌, ◌≢◌, List, [], ◌∷◌, Option, Some, None, false, refl, sym, ap, ◌∙◌, subst}
+use Rattle.std.proofs.lemmas.Option.{same_Some}
 use Rattle.dk_base.specs.declared.span.Span.{Span}
 use Rattle.wiring.specs.declared.right.Atom.{Atom}
 use Rattle.verilog_text.specs.declared.token.Token.{Token}
@@ -15,7 +16,6 @@ use Rattle.dk_grammar.proofs.Stucks.{stuck_one}
 use Rattle.verilog_text.specs.Grammar.{named, atomic, counted, directed}
 use Rattle.verilog_parse.specs.Forms.{Is, Gives, starting, item, following, colon_or_close}
 use Rattle.verilog_parse.specs.Sections.{comma_or_close, heading, leading, tailing, arrowing, targeting, section_of, section_after, is_last}
-use Rattle.verilog_parse.proofs.Means.{some_same}
 
 abbrev pub here : Span
 here = record { start = 0; stop = 0 }
@@ -28,7 +28,7 @@ is_class k = record { one = λ t v w p q. refl; token = of_kind k; value = tt; s
 
 gives_class : {V : Type 0} (f : TokenKind → Span → Option V) (k : TokenKind) (v : V) → f k here ≡ Some v → IsClass (Gives f)
 gives_class f k v e = record {
-  one = λ t v w p q. some_same v w (sym p ∙ q);
+  one = λ t v w p q. same_Some v w (sym p ∙ q);
   token = of_kind k;
   value = v;
   some = e;

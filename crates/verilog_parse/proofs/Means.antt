@@ -1,5 +1,6 @@
 -- What a class of tokens says of a token's kind, and which kinds are in it.
 use Rattle.std.proofs.Common.{◌≡◌, Some, Bool, true, false, refl, sym, ap, subst}
+use Rattle.std.proofs.lemmas.Option.{same_Some}
 use Rattle.dk_base.specs.declared.span.Span.{Span}
 use Rattle.wiring.specs.declared.right.Atom.{Atom}
 use Rattle.wiring.specs.declared.right.Atom.TheVariants as atom
@@ -30,9 +31,6 @@ use Rattle.verilog_parse.specs.declared.kind.Section.TheVariants as sections
 use Rattle.verilog_text.specs.Grammar.{named, atomic, counted, binary}
 use Rattle.verilog_parse.specs.Forms.{starting, item, following, square, colon_or_close}
 use Rattle.verilog_parse.specs.Sections.{comma_or_close, heading, leading, tailing, arrowing, targeting, section_of, statement_of, last_of}
-
-pub some_same : {V : Type 0} (v w : V) → Some v ≡ Some w → v ≡ w
-some_same v w e = cc
 
 abbrev pub StartMeans : TokenKind → Span → Start → Type 0
 StartMeans k s start.Tilde = k ≡ kind.Symbol symbol.Tilde
@@ -85,11 +83,11 @@ SectionMeans k sections.Always = k ≡ kind.Keyword keyword.Always
 SectionMeans k sections.End = k ≡ kind.Keyword keyword.EndModule
 
 pub start_means : (k : TokenKind) (s : Span) (v : Start) → starting k s ≡ Some v → StartMeans k s v
-start_means kind.Name s v e = subst (λ x. StartMeans kind.Name s x) (some_same _ _ e) refl
-start_means kind.Clock s v e = subst (λ x. StartMeans kind.Clock s x) (some_same _ _ e) refl
+start_means kind.Name s v e = subst (λ x. StartMeans kind.Name s x) (same_Some _ _ e) refl
+start_means kind.Clock s v e = subst (λ x. StartMeans kind.Clock s x) (same_Some _ _ e) refl
 start_means kind.Refused s v e = absurd (cc)
 start_means (kind.Plain m) s v e = absurd (cc)
-start_means (kind.Sized c) s v e = subst (λ x. StartMeans (kind.Sized c) s x) (some_same _ _ e) refl
+start_means (kind.Sized c) s v e = subst (λ x. StartMeans (kind.Sized c) s x) (same_Some _ _ e) refl
 start_means kind.End s v e = absurd (cc)
 start_means (kind.Keyword w) s v e = absurd (cc)
 start_means (kind.Symbol symbol.LessEqual) s v e = absurd (cc)
@@ -98,7 +96,7 @@ start_means (kind.Symbol symbol.Open) s v e = absurd (cc)
 start_means (kind.Symbol symbol.Close) s v e = absurd (cc)
 start_means (kind.Symbol symbol.OpenSquare) s v e = absurd (cc)
 start_means (kind.Symbol symbol.CloseSquare) s v e = absurd (cc)
-start_means (kind.Symbol symbol.OpenBrace) s v e = subst (λ x. StartMeans (kind.Symbol symbol.OpenBrace) s x) (some_same _ _ e) refl
+start_means (kind.Symbol symbol.OpenBrace) s v e = subst (λ x. StartMeans (kind.Symbol symbol.OpenBrace) s x) (same_Some _ _ e) refl
 start_means (kind.Symbol symbol.CloseBrace) s v e = absurd (cc)
 start_means (kind.Symbol symbol.Comma) s v e = absurd (cc)
 start_means (kind.Symbol symbol.Semicolon) s v e = absurd (cc)
@@ -113,21 +111,21 @@ start_means (kind.Symbol symbol.Slash) s v e = absurd (cc)
 start_means (kind.Symbol symbol.Ampersand) s v e = absurd (cc)
 start_means (kind.Symbol symbol.Bar) s v e = absurd (cc)
 start_means (kind.Symbol symbol.Caret) s v e = absurd (cc)
-start_means (kind.Symbol symbol.Tilde) s v e = subst (λ x. StartMeans (kind.Symbol symbol.Tilde) s x) (some_same _ _ e) refl
+start_means (kind.Symbol symbol.Tilde) s v e = subst (λ x. StartMeans (kind.Symbol symbol.Tilde) s x) (same_Some _ _ e) refl
 start_means (kind.Symbol symbol.At) s v e = absurd (cc)
 
 pub item_means : (k : TokenKind) (s : Span) (v : Item) → item k s ≡ Some v → ItemMeans k s v
-item_means kind.Name s v e = subst (λ x. ItemMeans kind.Name s x) (some_same _ _ e) refl
-item_means kind.Clock s v e = subst (λ x. ItemMeans kind.Clock s x) (some_same _ _ e) refl
+item_means kind.Name s v e = subst (λ x. ItemMeans kind.Name s x) (same_Some _ _ e) refl
+item_means kind.Clock s v e = subst (λ x. ItemMeans kind.Clock s x) (same_Some _ _ e) refl
 item_means kind.Refused s v e = absurd (cc)
-item_means (kind.Plain m) s v e = subst (λ x. ItemMeans (kind.Plain m) s x) (some_same _ _ e) refl
-item_means (kind.Sized c) s v e = subst (λ x. ItemMeans (kind.Sized c) s x) (some_same _ _ e) refl
+item_means (kind.Plain m) s v e = subst (λ x. ItemMeans (kind.Plain m) s x) (same_Some _ _ e) refl
+item_means (kind.Sized c) s v e = subst (λ x. ItemMeans (kind.Sized c) s x) (same_Some _ _ e) refl
 item_means kind.End s v e = absurd (cc)
 item_means (kind.Keyword w) s v e = absurd (cc)
 item_means (kind.Symbol y) s v e = absurd (cc)
 
 square_means : (a : Atom Span) (v : Follow) → square a ≡ Some v → FollowMeans a (kind.Symbol symbol.OpenSquare) v
-square_means (atom.Net n) v e = subst (λ x. FollowMeans (atom.Net n) (kind.Symbol symbol.OpenSquare) x) (some_same _ _ e) (refl, refl)
+square_means (atom.Net n) v e = subst (λ x. FollowMeans (atom.Net n) (kind.Symbol symbol.OpenSquare) x) (same_Some _ _ e) (refl, refl)
 square_means (atom.Constant c) v e = absurd (cc)
 
 pub follow_means : (a : Atom Span) (k : TokenKind) (v : Follow) → following a k ≡ Some v → FollowMeans a k v
@@ -139,7 +137,7 @@ follow_means a (kind.Sized c) v e = absurd (cc)
 follow_means a kind.End v e = absurd (cc)
 follow_means a (kind.Keyword w) v e = absurd (cc)
 follow_means a (kind.Symbol symbol.LessEqual) v e = absurd (cc)
-follow_means a (kind.Symbol symbol.EqualEqual) v e = subst (λ x. FollowMeans a (kind.Symbol symbol.EqualEqual) x) (some_same _ _ e) refl
+follow_means a (kind.Symbol symbol.EqualEqual) v e = subst (λ x. FollowMeans a (kind.Symbol symbol.EqualEqual) x) (same_Some _ _ e) refl
 follow_means a (kind.Symbol symbol.Open) v e = absurd (cc)
 follow_means a (kind.Symbol symbol.Close) v e = absurd (cc)
 follow_means a (kind.Symbol symbol.OpenSquare) v e = square_means a v e
@@ -147,18 +145,18 @@ follow_means a (kind.Symbol symbol.CloseSquare) v e = absurd (cc)
 follow_means a (kind.Symbol symbol.OpenBrace) v e = absurd (cc)
 follow_means a (kind.Symbol symbol.CloseBrace) v e = absurd (cc)
 follow_means a (kind.Symbol symbol.Comma) v e = absurd (cc)
-follow_means a (kind.Symbol symbol.Semicolon) v e = subst (λ x. FollowMeans a (kind.Symbol symbol.Semicolon) x) (some_same _ _ e) refl
+follow_means a (kind.Symbol symbol.Semicolon) v e = subst (λ x. FollowMeans a (kind.Symbol symbol.Semicolon) x) (same_Some _ _ e) refl
 follow_means a (kind.Symbol symbol.Colon) v e = absurd (cc)
-follow_means a (kind.Symbol symbol.Question) v e = subst (λ x. FollowMeans a (kind.Symbol symbol.Question) x) (some_same _ _ e) refl
+follow_means a (kind.Symbol symbol.Question) v e = subst (λ x. FollowMeans a (kind.Symbol symbol.Question) x) (same_Some _ _ e) refl
 follow_means a (kind.Symbol symbol.Equal) v e = absurd (cc)
-follow_means a (kind.Symbol symbol.Less) v e = subst (λ x. FollowMeans a (kind.Symbol symbol.Less) x) (some_same _ _ e) refl
-follow_means a (kind.Symbol symbol.Plus) v e = subst (λ x. FollowMeans a (kind.Symbol symbol.Plus) x) (some_same _ _ e) refl
-follow_means a (kind.Symbol symbol.Minus) v e = subst (λ x. FollowMeans a (kind.Symbol symbol.Minus) x) (some_same _ _ e) refl
-follow_means a (kind.Symbol symbol.Star) v e = subst (λ x. FollowMeans a (kind.Symbol symbol.Star) x) (some_same _ _ e) refl
-follow_means a (kind.Symbol symbol.Slash) v e = subst (λ x. FollowMeans a (kind.Symbol symbol.Slash) x) (some_same _ _ e) refl
-follow_means a (kind.Symbol symbol.Ampersand) v e = subst (λ x. FollowMeans a (kind.Symbol symbol.Ampersand) x) (some_same _ _ e) refl
-follow_means a (kind.Symbol symbol.Bar) v e = subst (λ x. FollowMeans a (kind.Symbol symbol.Bar) x) (some_same _ _ e) refl
-follow_means a (kind.Symbol symbol.Caret) v e = subst (λ x. FollowMeans a (kind.Symbol symbol.Caret) x) (some_same _ _ e) refl
+follow_means a (kind.Symbol symbol.Less) v e = subst (λ x. FollowMeans a (kind.Symbol symbol.Less) x) (same_Some _ _ e) refl
+follow_means a (kind.Symbol symbol.Plus) v e = subst (λ x. FollowMeans a (kind.Symbol symbol.Plus) x) (same_Some _ _ e) refl
+follow_means a (kind.Symbol symbol.Minus) v e = subst (λ x. FollowMeans a (kind.Symbol symbol.Minus) x) (same_Some _ _ e) refl
+follow_means a (kind.Symbol symbol.Star) v e = subst (λ x. FollowMeans a (kind.Symbol symbol.Star) x) (same_Some _ _ e) refl
+follow_means a (kind.Symbol symbol.Slash) v e = subst (λ x. FollowMeans a (kind.Symbol symbol.Slash) x) (same_Some _ _ e) refl
+follow_means a (kind.Symbol symbol.Ampersand) v e = subst (λ x. FollowMeans a (kind.Symbol symbol.Ampersand) x) (same_Some _ _ e) refl
+follow_means a (kind.Symbol symbol.Bar) v e = subst (λ x. FollowMeans a (kind.Symbol symbol.Bar) x) (same_Some _ _ e) refl
+follow_means a (kind.Symbol symbol.Caret) v e = subst (λ x. FollowMeans a (kind.Symbol symbol.Caret) x) (same_Some _ _ e) refl
 follow_means a (kind.Symbol symbol.Tilde) v e = absurd (cc)
 follow_means a (kind.Symbol symbol.At) v e = absurd (cc)
 
@@ -175,12 +173,12 @@ more_means (kind.Symbol symbol.EqualEqual) v e = absurd (cc)
 more_means (kind.Symbol symbol.Open) v e = absurd (cc)
 more_means (kind.Symbol symbol.Close) v e = absurd (cc)
 more_means (kind.Symbol symbol.OpenSquare) v e = absurd (cc)
-more_means (kind.Symbol symbol.CloseSquare) v e = subst (λ x. MoreMeans (kind.Symbol symbol.CloseSquare) x) (some_same _ _ e) refl
+more_means (kind.Symbol symbol.CloseSquare) v e = subst (λ x. MoreMeans (kind.Symbol symbol.CloseSquare) x) (same_Some _ _ e) refl
 more_means (kind.Symbol symbol.OpenBrace) v e = absurd (cc)
 more_means (kind.Symbol symbol.CloseBrace) v e = absurd (cc)
 more_means (kind.Symbol symbol.Comma) v e = absurd (cc)
 more_means (kind.Symbol symbol.Semicolon) v e = absurd (cc)
-more_means (kind.Symbol symbol.Colon) v e = subst (λ x. MoreMeans (kind.Symbol symbol.Colon) x) (some_same _ _ e) refl
+more_means (kind.Symbol symbol.Colon) v e = subst (λ x. MoreMeans (kind.Symbol symbol.Colon) x) (same_Some _ _ e) refl
 more_means (kind.Symbol symbol.Question) v e = absurd (cc)
 more_means (kind.Symbol symbol.Equal) v e = absurd (cc)
 more_means (kind.Symbol symbol.Less) v e = absurd (cc)
@@ -205,12 +203,12 @@ comma_means (kind.Keyword w) v e = absurd (cc)
 comma_means (kind.Symbol symbol.LessEqual) v e = absurd (cc)
 comma_means (kind.Symbol symbol.EqualEqual) v e = absurd (cc)
 comma_means (kind.Symbol symbol.Open) v e = absurd (cc)
-comma_means (kind.Symbol symbol.Close) v e = subst (λ x. CommaMeans (kind.Symbol symbol.Close) x) (some_same _ _ e) refl
+comma_means (kind.Symbol symbol.Close) v e = subst (λ x. CommaMeans (kind.Symbol symbol.Close) x) (same_Some _ _ e) refl
 comma_means (kind.Symbol symbol.OpenSquare) v e = absurd (cc)
 comma_means (kind.Symbol symbol.CloseSquare) v e = absurd (cc)
 comma_means (kind.Symbol symbol.OpenBrace) v e = absurd (cc)
 comma_means (kind.Symbol symbol.CloseBrace) v e = absurd (cc)
-comma_means (kind.Symbol symbol.Comma) v e = subst (λ x. CommaMeans (kind.Symbol symbol.Comma) x) (some_same _ _ e) refl
+comma_means (kind.Symbol symbol.Comma) v e = subst (λ x. CommaMeans (kind.Symbol symbol.Comma) x) (same_Some _ _ e) refl
 comma_means (kind.Symbol symbol.Semicolon) v e = absurd (cc)
 comma_means (kind.Symbol symbol.Colon) v e = absurd (cc)
 comma_means (kind.Symbol symbol.Question) v e = absurd (cc)
@@ -227,8 +225,8 @@ comma_means (kind.Symbol symbol.Tilde) v e = absurd (cc)
 comma_means (kind.Symbol symbol.At) v e = absurd (cc)
 
 pub head_means : (k : TokenKind) (s : Span) (v : Head) → heading k s ≡ Some v → HeadMeans k s v
-head_means kind.Name s v e = subst (λ x. HeadMeans kind.Name s x) (some_same _ _ e) refl
-head_means kind.Clock s v e = subst (λ x. HeadMeans kind.Clock s x) (some_same _ _ e) refl
+head_means kind.Name s v e = subst (λ x. HeadMeans kind.Name s x) (same_Some _ _ e) refl
+head_means kind.Clock s v e = subst (λ x. HeadMeans kind.Clock s x) (same_Some _ _ e) refl
 head_means kind.Refused s v e = absurd (cc)
 head_means (kind.Plain m) s v e = absurd (cc)
 head_means (kind.Sized c) s v e = absurd (cc)
@@ -238,7 +236,7 @@ head_means (kind.Symbol symbol.LessEqual) s v e = absurd (cc)
 head_means (kind.Symbol symbol.EqualEqual) s v e = absurd (cc)
 head_means (kind.Symbol symbol.Open) s v e = absurd (cc)
 head_means (kind.Symbol symbol.Close) s v e = absurd (cc)
-head_means (kind.Symbol symbol.OpenSquare) s v e = subst (λ x. HeadMeans (kind.Symbol symbol.OpenSquare) s x) (some_same _ _ e) refl
+head_means (kind.Symbol symbol.OpenSquare) s v e = subst (λ x. HeadMeans (kind.Symbol symbol.OpenSquare) s x) (same_Some _ _ e) refl
 head_means (kind.Symbol symbol.CloseSquare) s v e = absurd (cc)
 head_means (kind.Symbol symbol.OpenBrace) s v e = absurd (cc)
 head_means (kind.Symbol symbol.CloseBrace) s v e = absurd (cc)
@@ -259,8 +257,8 @@ head_means (kind.Symbol symbol.Tilde) s v e = absurd (cc)
 head_means (kind.Symbol symbol.At) s v e = absurd (cc)
 
 pub lead_means : (k : TokenKind) (s : Span) (v : Lead) → leading k s ≡ Some v → LeadMeans k s v
-lead_means kind.Name s v e = subst (λ x. LeadMeans kind.Name s x) (some_same _ _ e) refl
-lead_means kind.Clock s v e = subst (λ x. LeadMeans kind.Clock s x) (some_same _ _ e) refl
+lead_means kind.Name s v e = subst (λ x. LeadMeans kind.Name s x) (same_Some _ _ e) refl
+lead_means kind.Clock s v e = subst (λ x. LeadMeans kind.Clock s x) (same_Some _ _ e) refl
 lead_means kind.Refused s v e = absurd (cc)
 lead_means (kind.Plain m) s v e = absurd (cc)
 lead_means (kind.Sized c) s v e = absurd (cc)
@@ -269,7 +267,7 @@ lead_means (kind.Keyword keyword.Module) s v e = absurd (cc)
 lead_means (kind.Keyword keyword.EndModule) s v e = absurd (cc)
 lead_means (kind.Keyword keyword.Input) s v e = absurd (cc)
 lead_means (kind.Keyword keyword.Output) s v e = absurd (cc)
-lead_means (kind.Keyword keyword.Wire) s v e = subst (λ x. LeadMeans (kind.Keyword keyword.Wire) s x) (some_same _ _ e) refl
+lead_means (kind.Keyword keyword.Wire) s v e = subst (λ x. LeadMeans (kind.Keyword keyword.Wire) s x) (same_Some _ _ e) refl
 lead_means (kind.Keyword keyword.Reg) s v e = absurd (cc)
 lead_means (kind.Keyword keyword.Assign) s v e = absurd (cc)
 lead_means (kind.Keyword keyword.Always) s v e = absurd (cc)
@@ -280,7 +278,7 @@ lead_means (kind.Symbol symbol.LessEqual) s v e = absurd (cc)
 lead_means (kind.Symbol symbol.EqualEqual) s v e = absurd (cc)
 lead_means (kind.Symbol symbol.Open) s v e = absurd (cc)
 lead_means (kind.Symbol symbol.Close) s v e = absurd (cc)
-lead_means (kind.Symbol symbol.OpenSquare) s v e = subst (λ x. LeadMeans (kind.Symbol symbol.OpenSquare) s x) (some_same _ _ e) refl
+lead_means (kind.Symbol symbol.OpenSquare) s v e = subst (λ x. LeadMeans (kind.Symbol symbol.OpenSquare) s x) (same_Some _ _ e) refl
 lead_means (kind.Symbol symbol.CloseSquare) s v e = absurd (cc)
 lead_means (kind.Symbol symbol.OpenBrace) s v e = absurd (cc)
 lead_means (kind.Symbol symbol.CloseBrace) s v e = absurd (cc)
@@ -312,12 +310,12 @@ tail_means (kind.Symbol symbol.LessEqual) v e = absurd (cc)
 tail_means (kind.Symbol symbol.EqualEqual) v e = absurd (cc)
 tail_means (kind.Symbol symbol.Open) v e = absurd (cc)
 tail_means (kind.Symbol symbol.Close) v e = absurd (cc)
-tail_means (kind.Symbol symbol.OpenSquare) v e = subst (λ x. TailMeans (kind.Symbol symbol.OpenSquare) x) (some_same _ _ e) refl
+tail_means (kind.Symbol symbol.OpenSquare) v e = subst (λ x. TailMeans (kind.Symbol symbol.OpenSquare) x) (same_Some _ _ e) refl
 tail_means (kind.Symbol symbol.CloseSquare) v e = absurd (cc)
 tail_means (kind.Symbol symbol.OpenBrace) v e = absurd (cc)
 tail_means (kind.Symbol symbol.CloseBrace) v e = absurd (cc)
 tail_means (kind.Symbol symbol.Comma) v e = absurd (cc)
-tail_means (kind.Symbol symbol.Semicolon) v e = subst (λ x. TailMeans (kind.Symbol symbol.Semicolon) x) (some_same _ _ e) refl
+tail_means (kind.Symbol symbol.Semicolon) v e = subst (λ x. TailMeans (kind.Symbol symbol.Semicolon) x) (same_Some _ _ e) refl
 tail_means (kind.Symbol symbol.Colon) v e = absurd (cc)
 tail_means (kind.Symbol symbol.Question) v e = absurd (cc)
 tail_means (kind.Symbol symbol.Equal) v e = absurd (cc)
@@ -340,11 +338,11 @@ arrow_means (kind.Plain m) v e = absurd (cc)
 arrow_means (kind.Sized c) v e = absurd (cc)
 arrow_means kind.End v e = absurd (cc)
 arrow_means (kind.Keyword w) v e = absurd (cc)
-arrow_means (kind.Symbol symbol.LessEqual) v e = subst (λ x. ArrowMeans (kind.Symbol symbol.LessEqual) x) (some_same _ _ e) refl
+arrow_means (kind.Symbol symbol.LessEqual) v e = subst (λ x. ArrowMeans (kind.Symbol symbol.LessEqual) x) (same_Some _ _ e) refl
 arrow_means (kind.Symbol symbol.EqualEqual) v e = absurd (cc)
 arrow_means (kind.Symbol symbol.Open) v e = absurd (cc)
 arrow_means (kind.Symbol symbol.Close) v e = absurd (cc)
-arrow_means (kind.Symbol symbol.OpenSquare) v e = subst (λ x. ArrowMeans (kind.Symbol symbol.OpenSquare) x) (some_same _ _ e) refl
+arrow_means (kind.Symbol symbol.OpenSquare) v e = subst (λ x. ArrowMeans (kind.Symbol symbol.OpenSquare) x) (same_Some _ _ e) refl
 arrow_means (kind.Symbol symbol.CloseSquare) v e = absurd (cc)
 arrow_means (kind.Symbol symbol.OpenBrace) v e = absurd (cc)
 arrow_means (kind.Symbol symbol.CloseBrace) v e = absurd (cc)
@@ -365,8 +363,8 @@ arrow_means (kind.Symbol symbol.Tilde) v e = absurd (cc)
 arrow_means (kind.Symbol symbol.At) v e = absurd (cc)
 
 pub target_means : (k : TokenKind) (s : Span) (v : Target) → targeting k s ≡ Some v → TargetMeans k s v
-target_means kind.Name s v e = subst (λ x. TargetMeans kind.Name s x) (some_same _ _ e) refl
-target_means kind.Clock s v e = subst (λ x. TargetMeans kind.Clock s x) (some_same _ _ e) refl
+target_means kind.Name s v e = subst (λ x. TargetMeans kind.Name s x) (same_Some _ _ e) refl
+target_means kind.Clock s v e = subst (λ x. TargetMeans kind.Clock s x) (same_Some _ _ e) refl
 target_means kind.Refused s v e = absurd (cc)
 target_means (kind.Plain m) s v e = absurd (cc)
 target_means (kind.Sized c) s v e = absurd (cc)
@@ -381,7 +379,7 @@ target_means (kind.Keyword keyword.Assign) s v e = absurd (cc)
 target_means (kind.Keyword keyword.Always) s v e = absurd (cc)
 target_means (kind.Keyword keyword.Posedge) s v e = absurd (cc)
 target_means (kind.Keyword keyword.Begin) s v e = absurd (cc)
-target_means (kind.Keyword keyword.End) s v e = subst (λ x. TargetMeans (kind.Keyword keyword.End) s x) (some_same _ _ e) refl
+target_means (kind.Keyword keyword.End) s v e = subst (λ x. TargetMeans (kind.Keyword keyword.End) s x) (same_Some _ _ e) refl
 target_means (kind.Symbol y) s v e = absurd (cc)
 
 pub section_means : (k : TokenKind) (v : Section) → section_of k ≡ Some v → SectionMeans k v
@@ -392,13 +390,13 @@ section_means (kind.Plain m) v e = absurd (cc)
 section_means (kind.Sized c) v e = absurd (cc)
 section_means kind.End v e = absurd (cc)
 section_means (kind.Keyword keyword.Module) v e = absurd (cc)
-section_means (kind.Keyword keyword.EndModule) v e = subst (λ x. SectionMeans (kind.Keyword keyword.EndModule) x) (some_same _ _ e) refl
+section_means (kind.Keyword keyword.EndModule) v e = subst (λ x. SectionMeans (kind.Keyword keyword.EndModule) x) (same_Some _ _ e) refl
 section_means (kind.Keyword keyword.Input) v e = absurd (cc)
 section_means (kind.Keyword keyword.Output) v e = absurd (cc)
-section_means (kind.Keyword keyword.Wire) v e = subst (λ x. SectionMeans (kind.Keyword keyword.Wire) x) (some_same _ _ e) refl
-section_means (kind.Keyword keyword.Reg) v e = subst (λ x. SectionMeans (kind.Keyword keyword.Reg) x) (some_same _ _ e) refl
-section_means (kind.Keyword keyword.Assign) v e = subst (λ x. SectionMeans (kind.Keyword keyword.Assign) x) (some_same _ _ e) refl
-section_means (kind.Keyword keyword.Always) v e = subst (λ x. SectionMeans (kind.Keyword keyword.Always) x) (some_same _ _ e) refl
+section_means (kind.Keyword keyword.Wire) v e = subst (λ x. SectionMeans (kind.Keyword keyword.Wire) x) (same_Some _ _ e) refl
+section_means (kind.Keyword keyword.Reg) v e = subst (λ x. SectionMeans (kind.Keyword keyword.Reg) x) (same_Some _ _ e) refl
+section_means (kind.Keyword keyword.Assign) v e = subst (λ x. SectionMeans (kind.Keyword keyword.Assign) x) (same_Some _ _ e) refl
+section_means (kind.Keyword keyword.Always) v e = subst (λ x. SectionMeans (kind.Keyword keyword.Always) x) (same_Some _ _ e) refl
 section_means (kind.Keyword keyword.Posedge) v e = absurd (cc)
 section_means (kind.Keyword keyword.Begin) v e = absurd (cc)
 section_means (kind.Keyword keyword.End) v e = absurd (cc)
@@ -434,13 +432,13 @@ statement_means (kind.Plain m) v e = absurd (cc)
 statement_means (kind.Sized c) v e = absurd (cc)
 statement_means kind.End v e = absurd (cc)
 statement_means (kind.Keyword keyword.Module) v e = absurd (cc)
-statement_means (kind.Keyword keyword.EndModule) v e = subst (λ x. SectionMeans (kind.Keyword keyword.EndModule) x × (is_statement x ≡ true)) (some_same _ _ e) (refl, refl)
+statement_means (kind.Keyword keyword.EndModule) v e = subst (λ x. SectionMeans (kind.Keyword keyword.EndModule) x × (is_statement x ≡ true)) (same_Some _ _ e) (refl, refl)
 statement_means (kind.Keyword keyword.Input) v e = absurd (cc)
 statement_means (kind.Keyword keyword.Output) v e = absurd (cc)
 statement_means (kind.Keyword keyword.Wire) v e = absurd (cc)
 statement_means (kind.Keyword keyword.Reg) v e = absurd (cc)
-statement_means (kind.Keyword keyword.Assign) v e = subst (λ x. SectionMeans (kind.Keyword keyword.Assign) x × (is_statement x ≡ true)) (some_same _ _ e) (refl, refl)
-statement_means (kind.Keyword keyword.Always) v e = subst (λ x. SectionMeans (kind.Keyword keyword.Always) x × (is_statement x ≡ true)) (some_same _ _ e) (refl, refl)
+statement_means (kind.Keyword keyword.Assign) v e = subst (λ x. SectionMeans (kind.Keyword keyword.Assign) x × (is_statement x ≡ true)) (same_Some _ _ e) (refl, refl)
+statement_means (kind.Keyword keyword.Always) v e = subst (λ x. SectionMeans (kind.Keyword keyword.Always) x × (is_statement x ≡ true)) (same_Some _ _ e) (refl, refl)
 statement_means (kind.Keyword keyword.Posedge) v e = absurd (cc)
 statement_means (kind.Keyword keyword.Begin) v e = absurd (cc)
 statement_means (kind.Keyword keyword.End) v e = absurd (cc)
@@ -454,7 +452,7 @@ last_means (kind.Plain m) v e = absurd (cc)
 last_means (kind.Sized c) v e = absurd (cc)
 last_means kind.End v e = absurd (cc)
 last_means (kind.Keyword keyword.Module) v e = absurd (cc)
-last_means (kind.Keyword keyword.EndModule) v e = (refl, sym (some_same _ _ e))
+last_means (kind.Keyword keyword.EndModule) v e = (refl, sym (same_Some _ _ e))
 last_means (kind.Keyword keyword.Input) v e = absurd (cc)
 last_means (kind.Keyword keyword.Output) v e = absurd (cc)
 last_means (kind.Keyword keyword.Wire) v e = absurd (cc)
@@ -468,21 +466,21 @@ last_means (kind.Symbol y) v e = absurd (cc)
 
 -- and the other way
 pub start_atom : (k : TokenKind) (s : Span) (x : Atom Span) → atomic k s ≡ Some x → starting k s ≡ Some (start.Atom x)
-start_atom kind.Name s x e = ap (λ a. Some (start.Atom a)) (some_same _ _ e)
-start_atom kind.Clock s x e = ap (λ a. Some (start.Atom a)) (some_same _ _ e)
+start_atom kind.Name s x e = ap (λ a. Some (start.Atom a)) (same_Some _ _ e)
+start_atom kind.Clock s x e = ap (λ a. Some (start.Atom a)) (same_Some _ _ e)
 start_atom kind.Refused s x e = absurd (cc)
 start_atom (kind.Plain m) s x e = absurd (cc)
-start_atom (kind.Sized c) s x e = ap (λ a. Some (start.Atom a)) (some_same _ _ e)
+start_atom (kind.Sized c) s x e = ap (λ a. Some (start.Atom a)) (same_Some _ _ e)
 start_atom kind.End s x e = absurd (cc)
 start_atom (kind.Keyword w) s x e = absurd (cc)
 start_atom (kind.Symbol y) s x e = absurd (cc)
 
 pub item_atom : (k : TokenKind) (s : Span) (x : Atom Span) → atomic k s ≡ Some x → item k s ≡ Some (items.Atom x)
-item_atom kind.Name s x e = ap (λ a. Some (items.Atom a)) (some_same _ _ e)
-item_atom kind.Clock s x e = ap (λ a. Some (items.Atom a)) (some_same _ _ e)
+item_atom kind.Name s x e = ap (λ a. Some (items.Atom a)) (same_Some _ _ e)
+item_atom kind.Clock s x e = ap (λ a. Some (items.Atom a)) (same_Some _ _ e)
 item_atom kind.Refused s x e = absurd (cc)
 item_atom (kind.Plain m) s x e = absurd (cc)
-item_atom (kind.Sized c) s x e = ap (λ a. Some (items.Atom a)) (some_same _ _ e)
+item_atom (kind.Sized c) s x e = ap (λ a. Some (items.Atom a)) (same_Some _ _ e)
 item_atom kind.End s x e = absurd (cc)
 item_atom (kind.Keyword w) s x e = absurd (cc)
 item_atom (kind.Symbol y) s x e = absurd (cc)
@@ -491,15 +489,15 @@ pub item_count : (k : TokenKind) (s : Span) (x : Count) → counted k s ≡ Some
 item_count kind.Name s x e = absurd (cc)
 item_count kind.Clock s x e = absurd (cc)
 item_count kind.Refused s x e = absurd (cc)
-item_count (kind.Plain m) s x e = ap (λ a. Some (items.Count a)) (some_same _ _ e)
+item_count (kind.Plain m) s x e = ap (λ a. Some (items.Count a)) (same_Some _ _ e)
 item_count (kind.Sized c) s x e = absurd (cc)
 item_count kind.End s x e = absurd (cc)
 item_count (kind.Keyword w) s x e = absurd (cc)
 item_count (kind.Symbol y) s x e = absurd (cc)
 
 pub name_atom : (k : TokenKind) (s n : Span) → named k s ≡ Some n → atomic k s ≡ Some (atom.Net n)
-name_atom kind.Name s n e = ap (λ a. Some (atom.Net a)) (some_same _ _ e)
-name_atom kind.Clock s n e = ap (λ a. Some (atom.Net a)) (some_same _ _ e)
+name_atom kind.Name s n e = ap (λ a. Some (atom.Net a)) (same_Some _ _ e)
+name_atom kind.Clock s n e = ap (λ a. Some (atom.Net a)) (same_Some _ _ e)
 name_atom kind.Refused s n e = absurd (cc)
 name_atom (kind.Plain m) s n e = absurd (cc)
 name_atom (kind.Sized c) s n e = absurd (cc)
@@ -526,7 +524,7 @@ follow_operator a (kind.Sized c) o e = absurd (cc)
 follow_operator a kind.End o e = absurd (cc)
 follow_operator a (kind.Keyword w) o e = absurd (cc)
 follow_operator a (kind.Symbol symbol.LessEqual) o e = absurd (cc)
-follow_operator a (kind.Symbol symbol.EqualEqual) o e = ap (λ x. Some (follow.Operator x)) (some_same _ _ e)
+follow_operator a (kind.Symbol symbol.EqualEqual) o e = ap (λ x. Some (follow.Operator x)) (same_Some _ _ e)
 follow_operator a (kind.Symbol symbol.Open) o e = absurd (cc)
 follow_operator a (kind.Symbol symbol.Close) o e = absurd (cc)
 follow_operator a (kind.Symbol symbol.OpenSquare) o e = absurd (cc)
@@ -538,20 +536,20 @@ follow_operator a (kind.Symbol symbol.Semicolon) o e = absurd (cc)
 follow_operator a (kind.Symbol symbol.Colon) o e = absurd (cc)
 follow_operator a (kind.Symbol symbol.Question) o e = absurd (cc)
 follow_operator a (kind.Symbol symbol.Equal) o e = absurd (cc)
-follow_operator a (kind.Symbol symbol.Less) o e = ap (λ x. Some (follow.Operator x)) (some_same _ _ e)
-follow_operator a (kind.Symbol symbol.Plus) o e = ap (λ x. Some (follow.Operator x)) (some_same _ _ e)
-follow_operator a (kind.Symbol symbol.Minus) o e = ap (λ x. Some (follow.Operator x)) (some_same _ _ e)
-follow_operator a (kind.Symbol symbol.Star) o e = ap (λ x. Some (follow.Operator x)) (some_same _ _ e)
-follow_operator a (kind.Symbol symbol.Slash) o e = ap (λ x. Some (follow.Operator x)) (some_same _ _ e)
-follow_operator a (kind.Symbol symbol.Ampersand) o e = ap (λ x. Some (follow.Operator x)) (some_same _ _ e)
-follow_operator a (kind.Symbol symbol.Bar) o e = ap (λ x. Some (follow.Operator x)) (some_same _ _ e)
-follow_operator a (kind.Symbol symbol.Caret) o e = ap (λ x. Some (follow.Operator x)) (some_same _ _ e)
+follow_operator a (kind.Symbol symbol.Less) o e = ap (λ x. Some (follow.Operator x)) (same_Some _ _ e)
+follow_operator a (kind.Symbol symbol.Plus) o e = ap (λ x. Some (follow.Operator x)) (same_Some _ _ e)
+follow_operator a (kind.Symbol symbol.Minus) o e = ap (λ x. Some (follow.Operator x)) (same_Some _ _ e)
+follow_operator a (kind.Symbol symbol.Star) o e = ap (λ x. Some (follow.Operator x)) (same_Some _ _ e)
+follow_operator a (kind.Symbol symbol.Slash) o e = ap (λ x. Some (follow.Operator x)) (same_Some _ _ e)
+follow_operator a (kind.Symbol symbol.Ampersand) o e = ap (λ x. Some (follow.Operator x)) (same_Some _ _ e)
+follow_operator a (kind.Symbol symbol.Bar) o e = ap (λ x. Some (follow.Operator x)) (same_Some _ _ e)
+follow_operator a (kind.Symbol symbol.Caret) o e = ap (λ x. Some (follow.Operator x)) (same_Some _ _ e)
 follow_operator a (kind.Symbol symbol.Tilde) o e = absurd (cc)
 follow_operator a (kind.Symbol symbol.At) o e = absurd (cc)
 
 pub head_name : (k : TokenKind) (s n : Span) → named k s ≡ Some n → heading k s ≡ Some (heads.Name n)
-head_name kind.Name s n e = ap (λ x. Some (heads.Name x)) (some_same _ _ e)
-head_name kind.Clock s n e = ap (λ x. Some (heads.Name x)) (some_same _ _ e)
+head_name kind.Name s n e = ap (λ x. Some (heads.Name x)) (same_Some _ _ e)
+head_name kind.Clock s n e = ap (λ x. Some (heads.Name x)) (same_Some _ _ e)
 head_name kind.Refused s n e = absurd (cc)
 head_name (kind.Plain m) s n e = absurd (cc)
 head_name (kind.Sized c) s n e = absurd (cc)
@@ -560,8 +558,8 @@ head_name (kind.Keyword w) s n e = absurd (cc)
 head_name (kind.Symbol y) s n e = absurd (cc)
 
 pub lead_name : (k : TokenKind) (s n : Span) → named k s ≡ Some n → leading k s ≡ Some (leads.Head (heads.Name n))
-lead_name kind.Name s n e = ap (λ x. Some (leads.Head (heads.Name x))) (some_same _ _ e)
-lead_name kind.Clock s n e = ap (λ x. Some (leads.Head (heads.Name x))) (some_same _ _ e)
+lead_name kind.Name s n e = ap (λ x. Some (leads.Head (heads.Name x))) (same_Some _ _ e)
+lead_name kind.Clock s n e = ap (λ x. Some (leads.Head (heads.Name x))) (same_Some _ _ e)
 lead_name kind.Refused s n e = absurd (cc)
 lead_name (kind.Plain m) s n e = absurd (cc)
 lead_name (kind.Sized c) s n e = absurd (cc)
@@ -570,8 +568,8 @@ lead_name (kind.Keyword w) s n e = absurd (cc)
 lead_name (kind.Symbol y) s n e = absurd (cc)
 
 pub target_name : (k : TokenKind) (s n : Span) → named k s ≡ Some n → targeting k s ≡ Some (targets.Name n)
-target_name kind.Name s n e = ap (λ x. Some (targets.Name x)) (some_same _ _ e)
-target_name kind.Clock s n e = ap (λ x. Some (targets.Name x)) (some_same _ _ e)
+target_name kind.Name s n e = ap (λ x. Some (targets.Name x)) (same_Some _ _ e)
+target_name kind.Clock s n e = ap (λ x. Some (targets.Name x)) (same_Some _ _ e)
 target_name kind.Refused s n e = absurd (cc)
 target_name (kind.Plain m) s n e = absurd (cc)
 target_name (kind.Sized c) s n e = absurd (cc)

@@ -1,6 +1,7 @@
 -- The names of the parts of a module are those of its tokens.
 use Rattle.std.proofs.Common.{◌≡◌, ℕ, List, [], Option, Some, All, refl, subst}
 use Rattle.std.proofs.lemmas.List.Elements.{All-cons, All-nil}
+use Rattle.std.proofs.lemmas.Option.{same_Some}
 use Rattle.dk_base.specs.declared.span.Span.{Span}
 use Rattle.wiring.specs.declared.right.Atom.{Atom}
 use Rattle.verilog_text.specs.declared.token.Token.{Token}
@@ -15,13 +16,12 @@ use Rattle.verilog_text.specs.declared.written.WrittenUpdate.{WrittenUpdate}
 use Rattle.verilog_text.specs.Grammar.{named, atomic, Bits, bits, Ranged, one_bit, wide, Port, plain, wire as wire_port, Ports, last, more, Right, copy, complement, two, choose, join, repeat, bit, slice, word, Assign, assign, Update, set, put, Declares, wire, reg, array, Each, none, more as further, Block, left_out, always, Source, Module, whole}
 use Rattle.verilog_text.specs.Stands.{IsWritten}
 use Rattle.verilog_parse.specs.Named.{IsNameSpan, IsNamedAtom, IsNamedRight, IsNamedAssign, IsNamedUpdate, IsNamedSource}
-use Rattle.verilog_parse.proofs.Means.{some_same}
 use Rattle.verilog_parse.proofs.NamedTokens.{IsNamedToken, AllNamed, tokens_named}
 
 atom_here : (text : List ℕ) (k : TokenKind) (s : Span) (x : Atom Span) → ((n : Span) → named k s ≡ Some n → IsNameSpan text n) → atomic k s ≡ Some x → IsNamedAtom text x
-atom_here text kind.Name s x h e = subst (λ a. IsNamedAtom text a) (some_same _ _ e) (h s refl)
-atom_here text kind.Clock s x h e = subst (λ a. IsNamedAtom text a) (some_same _ _ e) (h s refl)
-atom_here text (kind.Sized c) s x h e = subst (λ a. IsNamedAtom text a) (some_same _ _ e) tt
+atom_here text kind.Name s x h e = subst (λ a. IsNamedAtom text a) (same_Some _ _ e) (h s refl)
+atom_here text kind.Clock s x h e = subst (λ a. IsNamedAtom text a) (same_Some _ _ e) (h s refl)
+atom_here text (kind.Sized c) s x h e = subst (λ a. IsNamedAtom text a) (same_Some _ _ e) tt
 atom_here text (kind.Keyword w) s x h e = absurd (cc)
 atom_here text kind.Refused s x h e = absurd (cc)
 atom_here text (kind.Plain v) s x h e = absurd (cc)

@@ -1,5 +1,5 @@
 use Rattle.std.proofs.lemmas.Result.{err_from_is_err_and}
-use Rattle.dk_types.specs.Types.{IsPort}
+use Rattle.dk_base.specs.Types.{IsPort}
 use Rattle.dk_types.specs.Faults.{InputFault}
 use Rattle.dk_types.proofs.Places as I
 use Rattle.dk_types.proofs.items.input.Goals as goal

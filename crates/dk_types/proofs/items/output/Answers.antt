@@ -1,4 +1,4 @@
-use Rattle.dk_types.specs.Types.{IsPort}
+use Rattle.dk_base.specs.Types.{IsPort}
 use Rattle.dk_types.proofs.Places as I
 use Rattle.dk_types.proofs.items.output.Goals as goal
 

@@ -1,6 +1,6 @@
 use Rattle.std.proofs.Common.{get_or}
 use Rattle.dk_base.specs.FrameSizes.{size_of}
-use Rattle.pointwise_ir.specs.Meaning.{picture_at}
+use Rattle.dk_base.specs.Frames.{picture_at}
 use Rattle.pointwise_eval.specs.Planes.{all_shown}
 use Rattle.pointwise_eval.specs.Rounds.{frame_of}
 use Rattle.pointwise_eval.proofs.Outputs.{output_range, output_frame_is, frames_more}
