@@ -52,7 +52,7 @@ types_from (c ∷ ds) ts ok well zero d is =
 types_from (c ∷ ds) ts ok well (suc k) d is =
     types_from ds (ts ++ image_type c ∷ []) (types_more ts (image_type c) ok (takes_type c.declared (type_of c.body) well.1 (well_typed ts ok c.body well.0))) well.2 k d is
 
-port_type : (t : Ty) → T.IsPort t → IsType t
+port_type : (t : Ty) → IsPort t → IsType t
 port_type (Unsigned n) h = record { some = h.0; most = omega (arith, h.1) }
 port_type (Signed n) h = absurd h
 
