@@ -1,2 +1,4 @@
+pub mod Aged
+pub mod Distinct
 pub mod Finding
 pub mod Once

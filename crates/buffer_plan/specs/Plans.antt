@@ -1,10 +1,12 @@
 -- What a plan says of each kept image.
-use Rattle.std.specs.Prelude.{◌≡◌, ℕ, ◌+◌, ◌*◌, ◌<◌, ◌==◌, ◌↔◌, List, [], length, map, filter, Contains, unsigned_abs, slice_index, slice_index_or}
+use Rattle.std.specs.Prelude.{◌≡◌, ℕ, suc, ◌+◌, ◌*◌, ◌<◌, ◌==◌, ◌↔◌, ℤ, List, [], ◌∷◌, length, map, filter, Contains, unsigned_abs, slice_index, slice_index_or}
+use Rattle.std.specs.List.{list_any, range_with_len}
 use Rattle.std.specs.List.Sorted.{IsStrictlyIncreasing}
 use Rattle.dk_base.specs.declared.stencils.LiveRead.{LiveRead}
 use Rattle.dk_base.specs.Stencils.{place}
 use Rattle.raster_delay.specs.declared.placed.PlacedRead.{PlacedRead}
 use Rattle.raster_delay.specs.Delays.{age_of, AreNear}
+use Rattle.raster_delay.specs.Placing.{placed}
 use Rattle.raster_delay.specs.Systems.{Parts as System, IsSystem, IsCausal, image_count, placed_reads, widths, depth, bits}
 use Rattle.buffer_plan.specs.Limits.{latency_in, IsWithinLimits}
 
@@ -36,6 +38,20 @@ pub record AreDistinct (all distinct : List ℕ) : Type 0 where
 -- the distinct ages of the live reads that read image g, ascending
 abbrev pub AreAges : Parts → ℕ → List ℕ → Type 0
 AreAges p g ages = AreDistinct (ages_in p.system.stencils.width p.delays (place_in p g) (placed_reads p.system)) ages
+
+-- the last of a list that begins behind `before`
+abbrev pub last_of : (before : ℕ) → List ℕ → ℕ
+last_of before [] = before
+last_of before (x ∷ xs) = last_of x xs
+
+-- those of the ages up to the depth at which some live read reads image g
+abbrev pub ages_of : Parts → ℕ → List ℕ
+ages_of p g =
+    filter (λ age. list_any (λ a. a == age) (ages_in p.system.stencils.width p.delays (place_in p g) (placed_reads p.system))) (range_with_len 0 (suc (depth_of p g)))
+
+-- how old a live read is: how long before the reader's pixel the pixel that is read came
+abbrev pub read_age : Parts → LiveRead → ℤ
+read_age p r = age_of p.system.stencils.width p.delays (placed p.system.stencils.images r)
 
 -- the live reads that image f makes
 abbrev pub reads_by : ℕ → List LiveRead → List LiveRead

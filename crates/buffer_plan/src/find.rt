@@ -2,9 +2,11 @@
 
 ghost use Rattle.std.specs.Prelude.{◌≡◌, ◌<◌, IfSome, IfNone, length};
 ghost use Rattle.dk_base.specs.Stencils.{place, IsKept, Ascends, AreInOrder};
+ghost use Rattle.raster_delay.specs.Placing.{placed};
 ghost use Rattle.buffer_plan.specs.Plans.{reads_by};
 
 use dk_base::{Image, LiveRead};
+use raster_delay::PlacedRead;
 
 // The place of an image among the kept ones, if it is kept.
 pub fn find(images: &[Image], number: u32) -> Option<usize>
@@ -28,6 +30,21 @@ pub fn place_of(images: &[Image], number: u32) -> usize
     match find(images, number) {
         Some(place) => place,
         None => 0,
+    }
+}
+
+// A live read of kept images, by their places.
+pub fn placed(images: &[Image], r: LiveRead) -> PlacedRead
+    requires ascending { Ascends images.now }
+    requires reader { IsKept images.now r.f }
+    requires source { IsKept images.now r.g }
+    ensures { result ≡ placed images.now r }
+{
+    PlacedRead {
+        f: place_of(images, r.f),
+        g: place_of(images, r.g),
+        dx: r.dx,
+        dy: r.dy,
     }
 }
 

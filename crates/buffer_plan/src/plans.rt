@@ -4,10 +4,10 @@ ghost use Rattle.std.specs.Prelude.{◌≡◌, IfOk};
 ghost use Rattle.buffer_plan.specs.Plans.{IsPlan, latency, bits_of};
 
 use crate::ages::{all_ages, all_depths};
-use crate::find::{find, place_of, reads_by};
+use crate::find::{find, place_of, placed, reads_by};
 use dk_base::{Image, LiveRead, Memory};
 use flow_dual::Numbers;
-use raster_delay::System;
+use raster_delay::{System, age_held};
 use std::alloc::Global;
 use std::marker::Model;
 
@@ -74,15 +74,58 @@ pub(crate) fn made(
 }
 
 impl Plan {
-    ghost use Rattle.std.specs.Prelude.{◌≡◌, ◌<◌, ◌↔◌, IsTrue, length};
+    ghost use Rattle.std.specs.Prelude.{◌≡◌, ◌<◌, ◌≤◌, ◌↔◌, IsTrue, Contains, length, pos};
+    ghost use Rattle.dk_base.specs.declared.TheConstants.{MAX_BUFFER_BITS};
     ghost use Rattle.dk_base.specs.Stencils.{IsKept};
-    ghost use Rattle.buffer_plan.specs.Plans.{IsPlan, AreAges, delay_of, depth_of, width_of, reads_by, latency, latency_of, clocks, bits_of};
+    ghost use Rattle.buffer_plan.specs.Plans.{IsPlan, AreAges, ages_of, read_age, delay_of, depth_of, width_of, reads_by, latency, latency_of, clocks, bits_of};
 
     /// A law: what the type keeps.
     pub fn law(&self)
         ensures { IsPlan self.now }
     {
         let _images = &self.images;
+    }
+
+    /// The columns of a frame.
+    pub fn columns(&self) -> u32
+        ensures { result ≡ self.now.system.stencils.width }
+    {
+        self.width
+    }
+
+    /// The rows of a frame.
+    pub fn rows(&self) -> u32
+        ensures { result ≡ self.now.system.stencils.height }
+    {
+        self.height
+    }
+
+    /// How many inputs there are: the images 0, 1 and so on.
+    pub fn inputs(&self) -> u32
+        ensures { result ≡ self.now.system.stencils.inputs }
+    {
+        self.inputs
+    }
+
+    /// The numbers of the images that are outputs, in order.
+    pub fn outputs(&self) -> &[u32]
+        ensures { result.now ≡ self.now.system.stencils.outputs }
+    {
+        &self.outputs
+    }
+
+    /// The kept images, by their numbers, with the widths of their types.
+    pub fn images(&self) -> &[Image]
+        ensures { result.now ≡ self.now.system.stencils.images }
+    {
+        &self.images
+    }
+
+    /// The age that is asked of each live read, in clocks.
+    pub fn asked_age(&self) -> u8
+        ensures { result ≡ self.now.system.age }
+    {
+        self.age
     }
 
     /// Whether the image of this number is kept.
@@ -106,7 +149,8 @@ impl Plan {
     /// The greatest age among the live reads that read a kept image, 0 without any.
     pub fn depth(&self, g: u32) -> u64
         requires { IsKept self.now.system.stencils.images g }
-        ensures { result ≡ depth_of self.now g }
+        ensures depth { result ≡ depth_of self.now g }
+        ensures most { result ≤ MAX_BUFFER_BITS }
     {
         self.depths[place_of(&self.images, g)]
     }
@@ -114,9 +158,20 @@ impl Plan {
     /// The distinct ages of the live reads that read a kept image, ascending.
     pub fn ages(&self, g: u32) -> &[u64]
         requires { IsKept self.now.system.stencils.images g }
-        ensures { AreAges self.now g result.now }
+        ensures distinct { AreAges self.now g result.now }
+        ensures ages { result.now ≡ ages_of self.now g }
     {
         self.ages[place_of(&self.images, g)].as_slice()
+    }
+
+    /// How old a live read is, in clocks.
+    pub fn age(&self, r: LiveRead) -> u64
+        requires { Contains self.now.system.stencils.reads r }
+        ensures value { pos result ≡ read_age self.now r }
+        ensures among { Contains (ages_of self.now r.g) result }
+    {
+        let placed = placed(&self.images, r);
+        age_held(self.width, &self.delays, placed)
     }
 
     /// The live reads that a kept image makes, by the image that is read, then by row, then by column.

@@ -7,7 +7,7 @@ ghost use Rattle.verilog_text.specs.declared.written.WrittenSort.TheVariants as 
 ghost use Rattle.verilog_text.specs.Grammar.{source_of};
 ghost use Rattle.verilog_text.specs.Limits.{width_fault, words_fault, width_of as bits_in, depth_of as words_in, bits_of, sort_fault, ports_fault, declarations_fault, count_fault, right_fault, assigns_fault, limit_fault, or_else};
 
-use dk_base::MAX_BUFFER_BITS;
+use dk_base::{MAX_BUFFER_BITS, MAX_WIDTH};
 use verilog_text::{
     Count, LimitFault, LimitKind, Range, Written, WrittenAssign, WrittenDeclaration, WrittenPort,
     WrittenRight, WrittenSort,
@@ -17,7 +17,7 @@ use verilog_text::{
 fn check_range(range: &Range) -> Result<(), LimitFault>
     ensures { MatchResult result (λ u. width_fault (Some range.now) ≡ None) (λ f. width_fault (Some range.now) ≡ Some f) }
 {
-    if range.first.value >= 64 {
+    if range.first.value >= u64::from(MAX_WIDTH) {
         return Err(LimitFault {
             span: range.first.span,
             kind: LimitKind::Width,
@@ -51,7 +51,7 @@ fn check_words(words: &Range) -> Result<(), LimitFault>
             kind: LimitKind::Words,
         });
     }
-    if words.second.value < 67_108_864 {
+    if words.second.value < MAX_BUFFER_BITS {
         return Ok(());
     }
     Err(LimitFault {
@@ -154,7 +154,7 @@ fn check_declarations(declarations: &[WrittenDeclaration]) -> Result<(), LimitFa
 fn check_count(count: &Count) -> Result<(), LimitFault>
     ensures { MatchResult result (λ u. count_fault count.now ≡ None) (λ f. count_fault count.now ≡ Some f) }
 {
-    if count.value >= 1 && count.value <= 64 {
+    if count.value >= 1 && count.value <= u64::from(MAX_WIDTH) {
         return Ok(());
     }
     Err(LimitFault {

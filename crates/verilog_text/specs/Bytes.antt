@@ -1,6 +1,7 @@
 -- The bytes of the subset: words, numbers and symbols.
 use Rattle.std.specs.Prelude.{ℕ, ◌+◌, ◌-◌, ◌*◌, ◌^◌, List, [], ◌∷◌, take, drop, Option, Some, None, Bool, true, false, ◌&&◌, ◌||◌, not, nat_lt, nat_le, nat_eq, if◌then◌else◌, codes}
 use Rattle.std.specs.List.{prefix_len}
+use Rattle.dk_base.specs.declared.TheConstants.{MAX_WIDTH}
 use Rattle.net_names.specs.Words.{is_letter, is_digit, same_codes, is_refused_word}
 use Rattle.wiring.specs.Sizes.{SizedNumber}
 use Rattle.verilog_text.specs.declared.token.Symbol.{Symbol}
@@ -68,7 +69,7 @@ base_of b =
 -- a size of 1 to 64, and a value below 2 to the size
 abbrev pub fitting : ℕ → ℕ → Option SizedNumber
 fitting size value =
-    if nat_le 1 size && nat_le size 64 && nat_lt value (2 ^ size) then Some (record { width = size; value = value }) else None
+    if nat_le 1 size && nat_le size MAX_WIDTH && nat_lt value (2 ^ size) then Some (record { width = size; value = value }) else None
 
 abbrev pub in_base : ℕ → Option ℕ → List ℕ → Option SizedNumber
 in_base size None digits = None

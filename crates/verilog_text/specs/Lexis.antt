@@ -1,6 +1,7 @@
 -- Tokens, and where a text has none.
 use Rattle.std.specs.Prelude.{◌≡◌, ℕ, ◌+◌, ◌-◌, ◌^◌, List, [], ◌∷◌, length, take, drop, Option, Some, None, Result, Ok, Err, Bool, true, false, ◌&&◌, nat_lt, nat_eq, if◌then◌else◌}
 use Rattle.std.specs.List.{prefix_len}
+use Rattle.dk_base.specs.declared.TheConstants.{MAX_NAME_BYTES}
 use Rattle.dk_base.specs.declared.span.Span.{Span}
 use Rattle.net_names.specs.Words.{is_letter, is_digit, is_word_byte}
 use Rattle.wiring.specs.Sizes.{SizedNumber}
@@ -19,7 +20,7 @@ Lexeme = Result (TokenKind × ℕ) (LexKind × ℕ)
 
 -- the longest run of letters, digits, `_` and `$`
 abbrev pub word_at : List ℕ → ℕ → Lexeme
-word_at bytes n = if nat_lt 64 n then Err (NameTooLong, n) else Ok (word_kind (take n bytes), n)
+word_at bytes n = if nat_lt MAX_NAME_BYTES n then Err (NameTooLong, n) else Ok (word_kind (take n bytes), n)
 
 abbrev pub plain_of : ℕ → ℕ → Lexeme
 plain_of v n = if nat_lt v (2 ^ 64) then Ok (Plain v, n) else Err (NumberTooGreat, n)

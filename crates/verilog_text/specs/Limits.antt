@@ -1,6 +1,6 @@
 -- The limits, judged in text order.
 use Rattle.std.specs.Prelude.{ℕ, suc, ◌+◌, ◌*◌, List, [], ◌∷◌, Option, Some, None, ◌&&◌, nat_lt, nat_le, nat_eq, if◌then◌else◌}
-use Rattle.dk_base.specs.declared.TheConstants.{MAX_BUFFER_BITS}
+use Rattle.dk_base.specs.declared.TheConstants.{MAX_BUFFER_BITS, MAX_WIDTH}
 use Rattle.verilog_text.specs.declared.written.Count.{Count}
 use Rattle.verilog_text.specs.declared.written.Range.{Range}
 use Rattle.verilog_text.specs.declared.written.WrittenPort.{WrittenPort}
@@ -23,13 +23,13 @@ or_else (Some f) later = Some f
 abbrev pub width_fault : Option Range → Option LimitFault
 width_fault None = None
 width_fault (Some r) =
-    if nat_le 64 r.first.value then Some (record { span = r.first.span; kind = Width })
+    if nat_le MAX_WIDTH r.first.value then Some (record { span = r.first.span; kind = Width })
     else (if nat_eq r.second.value 0 then None else Some (record { span = r.second.span; kind = Width }))
 
 -- `[0:n-1]` with n from 1 to 67,108,864
 abbrev pub words_fault : Range → Option LimitFault
 words_fault r =
-    if nat_eq r.first.value 0 then (if nat_lt r.second.value 67108864 then None else Some (record { span = r.second.span; kind = Words }))
+    if nat_eq r.first.value 0 then (if nat_lt r.second.value MAX_BUFFER_BITS then None else Some (record { span = r.second.span; kind = Words }))
     else Some (record { span = r.first.span; kind = Words })
 
 -- the bits of a range, and the words of an array; one bit where no range is written
@@ -65,7 +65,7 @@ ports_fault (p ∷ ps) = or_else (width_fault p.bits) (ports_fault ps)
 
 -- `{n{a}}` with n from 1 to 64
 abbrev pub count_fault : Count → Option LimitFault
-count_fault c = if nat_le 1 c.value && nat_le c.value 64 then None else Some (record { span = c.span; kind = Repeat })
+count_fault c = if nat_le 1 c.value && nat_le c.value MAX_WIDTH then None else Some (record { span = c.span; kind = Repeat })
 
 abbrev pub right_fault : WrittenRight → Option LimitFault
 right_fault (right.Copy a) = None

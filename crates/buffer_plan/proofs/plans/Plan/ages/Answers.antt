@@ -4,10 +4,11 @@ use Rattle.dk_base.specs.Stencils.{place, IsKept}
 use Rattle.raster_delay.specs.Systems.{placed_reads}
 use Rattle.buffer_plan.specs.Plans.{Parts, AreAges, AreDistinct, ages_in}
 use Rattle.buffer_plan.specs.contracts.plans.Plan.{the_view}
+use Rattle.buffer_plan.proofs.Aged.{ages_once}
 use Rattle.buffer_plan.proofs.plans.Plan.ages.Goals as goal
 
-pub returns : goal.returns
-returns c =
+pub returns-clause-distinct : goal.returns-clause-distinct
+returns-clause-distinct c =
     let v = the_view c.self.inside in
     let g = c.args.g in
     let k = c.place_of.result in
@@ -19,3 +20,6 @@ returns c =
     let told : c.as_slice.result.now ≡ slice_index_or c.self.inside.ages.items k [] = c.as_slice.ensures ∙ get_or_read c.self.inside.ages.items k c.index.result.now within c.index.ensures [] in
     let here = subst (λ j. AreDistinct (ages_in v.system.stencils.width v.delays j (placed_reads v.system)) (slice_index_or c.self.inside.ages.items k [])) at (c.self.invariant.ages_are k below) in
     subst (λ p. AreAges p g c.as_slice.result.now) c.self.view_is (subst (AreAges v g) (sym told) here)
+
+pub returns-clause-ages : goal.returns-clause-ages
+returns-clause-ages c = ages_once c.args.self.now c.args.g c.as_slice.result.now (returns-clause-distinct c)

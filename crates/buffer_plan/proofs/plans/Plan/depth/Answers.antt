@@ -2,12 +2,13 @@ use Rattle.std.proofs.Common.{◌≡◌, ◌<◌, length, arith, ap, subst, sym,
 use Rattle.std.proofs.lemmas.List.{get_or_read}
 use Rattle.dk_base.specs.Stencils.{place, IsKept}
 use Rattle.raster_delay.specs.Systems.{depth}
-use Rattle.buffer_plan.specs.Plans.{Parts, depth_of}
+use Rattle.buffer_plan.specs.Plans.{Parts, IsPlan, depth_of}
 use Rattle.buffer_plan.specs.contracts.plans.Plan.{the_view}
+use Rattle.buffer_plan.proofs.Aged.{depth_most}
 use Rattle.buffer_plan.proofs.plans.Plan.depth.Goals as goal
 
-pub returns : goal.returns
-returns c =
+pub returns-clause-depth : goal.returns-clause-depth
+returns-clause-depth c =
     let v = the_view c.self.inside in
     let g = c.args.g in
     let k = c.place_of.result in
@@ -20,3 +21,6 @@ returns c =
     ∙ c.self.invariant.depths_are k below
     ∙ ap (depth v.system v.delays) at
     ∙ ap (λ p. depth_of p g) c.self.view_is
+
+pub returns-clause-most : goal.returns-clause-most
+returns-clause-most c = omega (arith, returns-clause-depth c, depth_most c.args.self.now (subst IsPlan c.self.view_is c.self.invariant.plan) c.args.g c.requires)
