@@ -7,7 +7,7 @@ ghost use Rattle.pointwise_ir.specs.Programs.{Program};
 ghost use Rattle.dk_compile.specs.declared.fault.SourceFault.{SourceFault};
 ghost use Rattle.dk_compile.specs.declared.fault.SourceFault.TheVariants.{Memory};
 ghost use Rattle.dk_inline.specs.Answers.{IsWithin};
-ghost use Rattle.stencil_sets.specs.Live.{AreStencilsOf};
+ghost use Rattle.pointwise_ir.specs.Stencils.{AreStencilsOf};
 ghost use Rattle.dk_compile.specs.Sources.{IsText, IsAccepted, IsFault};
 ghost use Rattle.dk_compile.specs.Fronts.{IsForm, IsFront};
 
