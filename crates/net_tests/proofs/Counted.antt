@@ -1,5 +1,5 @@
 -- What a counter up to 2 gives an output of two bits.
-use Rattle.std.proofs.Common.{◌≡◌, ℕ, [], ◌∷◌, true, refl, ap, ◌∙◌, sym}
+use Rattle.std.proofs.Common.{◌≡◌, [], ◌∷◌, true, refl, ap, ◌∙◌, sym}
 use lib.Count.{count_leading_zeros}
 use Rattle.std.specs.Prelude.{slice_index}
 use Rattle.dk_base.specs.Numbers.{bit_count}
