@@ -8,6 +8,10 @@ mod building;
 #[cfg(test)]
 mod clocked;
 #[cfg(test)]
+mod counters;
+#[cfg(test)]
+mod digits;
+#[cfg(test)]
 mod draft;
 #[cfg(test)]
 mod modules;
