@@ -1,5 +1,5 @@
 use Rattle.std.proofs.Common.{◌++◌, ◌≡◌, ℕ, [], ◌∷◌, Some, length, sym, ap, subst, refl, ◌∙◌, Bool, List, ◌==◌, arith}
-use Rattle.std.specs.Prelude.{slice_get, slice_set, slice_index_or, if◌then◌else◌, ◌+◌, IsTrue}
+use Rattle.std.specs.Prelude.{slice_get, slice_set, slice_index_or, if◌then◌else◌, ◌+◌, ◌%◌, IsTrue}
 use Rattle.std.proofs.lemmas.List.Elements.{All-cons, All-nil}
 use Rattle.wiring.specs.declared.right.Atom.TheVariants as atom
 use Rattle.wiring.specs.declared.netlist.Net.{Net}
@@ -67,6 +67,7 @@ returns-clause-stops c never =
     c.op.ensures.stops put (All-cons (StaysInside c.op.new.self) (x, atom.Net index) [] (stays_more c.op.new.self b (x, atom.Net index) c.op.ensures.includes inside) (All-nil (StaysInside c.op.new.self)))
 
 pub op-requires : goal.op-requires
+unfolding lib.Count.count_leading_zeros
 op-requires c =
     let b : Netlist = c.put.new.self in
     let shape : Shape = record { width = c.args.width; depth = 3 } in
