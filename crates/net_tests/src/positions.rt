@@ -130,10 +130,7 @@ fn tests_at_the_edges(rt: HostRuntime) -> Result<(), Fail> {
 
 #[test]
 fn how_many_pixels_steps_lead(rt: HostRuntime) {
-    assert_eq!(rt;
-        passing(1, 1, &[clamped(9, -9)], 0, 0),
-        Extent::Always
-    );
+    assert_eq!(rt; passing(1, 1, &[clamped(9, -9)], 0, 0), Extent::Always);
     assert_eq!(rt;
         passing(3, 1, &[clamped(1, 0), unclamped(-1, 0)], 0, 0),
         Extent::Sometimes
