@@ -4,6 +4,8 @@
 #[cfg(test)]
 mod benches;
 #[cfg(test)]
+mod buffers;
+#[cfg(test)]
 mod building;
 #[cfg(test)]
 mod clocked;
@@ -21,4 +23,4 @@ mod positions;
 mod rings;
 mod worked;
 
-pub use worked::{worked_names, worked_operators, worked_sizes};
+pub use worked::{worked_names, worked_operators, worked_places, worked_sizes};
