@@ -2,41 +2,100 @@
 use Rattle.std.proofs.Common.{◌≡◌, ◌≢◌, ◌⊎◌, ℕ, zero, suc, ◌+◌, ◌-◌, ◌*◌, ◌/◌, ◌<◌, ◌≤◌, ◌^◌, Bool, true, false, ◌&&◌, not, List, [], ◌∷◌, ◌++◌, length, get_or, Some, refl, sym, ap, ◌∙◌, inl, inr, arith, codes, decimal, nat_le}
 use Rattle.std.specs.Prelude.{slice_get, nat_eq, if◌then◌else◌}
 use Rattle.std.specs.List.{prefix_len}
+use Rattle.std.specs.Str.Parse.{IsNumeral}
 use Rattle.std.proofs.lemmas.Str.Parse.{digit_at}
 use Rattle.std.proofs.lemmas.Fmt.{decimal_is_IsNumeral, decimal_injective, length-decimal-le}
 use Rattle.std.proofs.lemmas.Bool.{le-leb}
 use Rattle.net_names.specs.declared.TheConstants.{MOST_NAME_BYTES}
 use Rattle.std.proofs.lemmas.Option.{same_Some, slice_get_within, get_or_from_slice_get}
-use Rattle.std.proofs.lemmas.List.{length_push}
+use Rattle.std.proofs.lemmas.List.FromFn.{length-map-range_with_len, get_or-map-range_with_len, map-range_with_len_more}
 use Rattle.std.proofs.lemmas.Bool.Decides.{nat_tests}
 use Rattle.wiring.proofs.Lists.{All-from_at}
-use Rattle.net_names.specs.Words.{is_letter, is_name, is_word, is_word_byte, is_structure_word, is_refused_word}
+use Rattle.net_names.specs.Words.{is_letter, is_digit, is_name, is_word, is_word_byte, same_codes, is_among, structure_words, is_structure_word, is_refused_word, refused_a_to_d, refused_e, refused_f, refused_g_to_n, refused_o_to_s, refused_t_to_x}
 use Rattle.wiring.specs.Netlist.{Netlist, first_din}
 use Rattle.netlist.specs.Names.{numbered, din_names, output_names, input_names, port_names, AreDistinct, HasNames}
 use Rattle.net_build.specs.Naming.{made_name, made_names, names_for, AreCounts}
 use Rattle.net_build.specs.Draft.{with_outputs}
 use Rattle.wiring.specs.declared.netlist.Net.{Net}
-use Rattle.wiring.proofs.Search.{at_push}
 use Rattle.net_build.proofs.Drafts.{append_at}
 
 -- the letters of wires, registers and arrays
 pub data Letter : ℕ → Type 0 where
-  of_wires : Letter 119
+  of_wires : Letter 110
   of_regs : Letter 114
   of_arrays : Letter 109
 
 all_of : (a b c d : Bool) → a ≡ true → b ≡ true → c ≡ false → d ≡ false → ((a && b) && not c && not d) ≡ true
 all_of a b c d e f g h = rw (e, f, g, h) refl
 
-no_structure_word : (l : ℕ) (rest : List ℕ) → Letter l → is_structure_word (l ∷ (95 ∷ rest)) ≡ false
-no_structure_word l rest of_wires = refl
-no_structure_word l rest of_regs = refl
-no_structure_word l rest of_arrays = refl
+-- the second byte of a word, if there is one
+abbrev second : List ℕ → ℕ
+second x = get_or x 1 0
 
-no_refused_word : (l : ℕ) (rest : List ℕ) → Letter l → is_refused_word (l ∷ (95 ∷ rest)) ≡ false
-no_refused_word l rest of_wires = refl
-no_refused_word l rest of_regs = refl
-no_refused_word l rest of_arrays = refl
+-- none of the words has a digit behind its first letter
+abbrev none_numbered : List (List ℕ) → Bool
+none_numbered [] = true
+none_numbered (w ∷ words) = not (is_digit (second w)) && none_numbered words
+
+no_digit : (d b : ℕ) → is_digit d ≡ true → not (is_digit b) ≡ true → nat_eq d b ≡ false
+no_digit d b digit none = by (nat_eq d b) (λ e. grind (arith, nat_tests))
+  where
+    by : (t : Bool) → (t ≡ true → ⊥) → t ≡ false
+    by true f = absurd (f refl)
+    by false f = refl
+
+both : (a b : Bool) → (a && b) ≡ true → (a ≡ true) × (b ≡ true)
+both true true e = (refl, refl)
+both true false e = cc
+both false b e = cc
+
+no_same : (l d : ℕ) (rest w : List ℕ) → is_digit d ≡ true → not (is_digit (second w)) ≡ true → same_codes (l ∷ (d ∷ rest)) w ≡ false
+no_same l d rest [] digit none = refl
+no_same l d rest (a ∷ []) digit none = by (nat_eq l a)
+  where
+    by : (t : Bool) → (t && false) ≡ false
+    by true = refl
+    by false = refl
+no_same l d rest (a ∷ (b ∷ w)) digit none = by (nat_eq l a) (nat_eq d b) (same_codes rest w) (no_digit d b digit none)
+  where
+    by : (t u v : Bool) → u ≡ false → (t && (u && v)) ≡ false
+    by true false v e = refl
+    by false u v e = refl
+    by true true v e = cc
+
+no_word : (l d : ℕ) (rest : List ℕ) (words : List (List ℕ)) → is_digit d ≡ true → none_numbered words ≡ true → is_among (l ∷ (d ∷ rest)) words ≡ false
+no_word l d rest [] digit none = refl
+no_word l d rest (w ∷ words) digit none = rw (no_same l d rest w digit (both (not (is_digit (second w))) (none_numbered words) none).0, no_word l d rest words digit (both (not (is_digit (second w))) (none_numbered words) none).1) refl
+
+no_structure_word : (l d : ℕ) (rest : List ℕ) → is_digit d ≡ true → is_structure_word (l ∷ (d ∷ rest)) ≡ false
+no_structure_word l d rest digit = no_word l d rest structure_words digit refl
+
+no_refused_word : (l d : ℕ) (rest : List ℕ) → is_digit d ≡ true → is_refused_word (l ∷ (d ∷ rest)) ≡ false
+no_refused_word l d rest digit =
+    rw (no_word l d rest refused_a_to_d digit refl, no_word l d rest refused_e digit refl, no_word l d rest refused_f digit refl, no_word l d rest refused_g_to_n digit refl, no_word l d rest refused_o_to_s digit refl, no_word l d rest refused_t_to_x digit refl) refl
+
+-- a number begins with a digit
+record Begun (k : ℕ) : Type 0 where
+  digit : ℕ
+  rest : List ℕ
+  is : decimal k ≡ digit ∷ rest
+  passes : is_digit digit ≡ true
+
+begun : (k : ℕ) → k < 2 ^ 64 → Begun k
+begun k small = by (decimal k) refl
+  where
+    numeral : IsNumeral 10 (decimal k)
+    numeral = (decimal_is_IsNumeral k small).0
+
+    digit_is : (b : ℕ) → 48 ≤ b → b ≤ 57 → is_digit b ≡ true
+    digit_is b low high = grind (arith, nat_tests)
+
+    by : (ds : List ℕ) → decimal k ≡ ds → Begun k
+    by [] e = absurd (omega (arith, numeral.0, ap length e))
+    by (d ∷ rest) e =
+        let range = digit_at (decimal k) 0 numeral.1 numeral.0 in
+        let same : get_or (decimal k) 0 0 ≡ d = ap (λ (ds : List ℕ). get_or ds 0 0) e in
+        record { digit = d; rest = rest; is = e; passes = digit_is d (omega (arith, range, same)) (omega (arith, range, same)) }
 
 letter_is : (l : ℕ) → Letter l → is_letter l ≡ true
 letter_is l of_wires = refl
@@ -63,51 +122,51 @@ digits_pass k small i b at =
 eqb_same : (n k : ℕ) → n ≡ k → nat_eq n k ≡ true
 eqb_same n k e = grind (arith, nat_tests)
 
-made_word : (l k : ℕ) → Letter l → k < 2 ^ 64 → is_word (made_name l k) ≡ true
+made_word : (l k : ℕ) → Letter l → k < 2 ^ 64 → is_word (l ∷ decimal k) ≡ true
 made_word l k letter small =
     let digits : prefix_len is_word_byte (decimal k) ≡ length (decimal k) = prefix_all is_word_byte (decimal k) (digits_pass k small) in
-    let front : prefix_len is_word_byte (95 ∷ decimal k) ≡ length (95 ∷ decimal k) = omega (arith, digits) in
-    rw (letter_is l letter) (eqb_same (prefix_len is_word_byte (95 ∷ decimal k)) (length (95 ∷ decimal k)) front)
+    rw (letter_is l letter) (eqb_same (prefix_len is_word_byte (decimal k)) (length (decimal k)) digits)
 
-pub made_is_name : (l k : ℕ) → Letter l → k < 2 ^ 64 → is_name (made_name l k) ≡ true
+pub made_is_name : (l k : ℕ) → Letter l → k < 2 ^ 64 → is_name (l ∷ decimal k) ≡ true
 made_is_name l k letter small =
-    all_of (is_word (made_name l k)) (nat_le (length (made_name l k)) MOST_NAME_BYTES) (is_structure_word (made_name l k)) (is_refused_word (made_name l k))
+    let b = begun k small in
+    all_of (is_word (l ∷ decimal k)) (nat_le (length (l ∷ decimal k)) MOST_NAME_BYTES) (is_structure_word (l ∷ decimal k)) (is_refused_word (l ∷ decimal k))
     (made_word l k letter small)
-    (le-leb (length (made_name l k)) MOST_NAME_BYTES (omega (arith, length-decimal-le 20 k (omega arith) (omega (arith, small)) small)))
-    (no_structure_word l (decimal k) letter)
-    (no_refused_word l (decimal k) letter)
+    (le-leb (length (l ∷ decimal k)) MOST_NAME_BYTES (omega (arith, length-decimal-le 20 k (omega arith) (omega (arith, small)) small)))
+    (ap (λ (ds : List ℕ). is_structure_word (l ∷ ds)) b.is ∙ no_structure_word l b.digit b.rest b.passes)
+    (ap (λ (ds : List ℕ). is_refused_word (l ∷ ds)) b.is ∙ no_refused_word l b.digit b.rest b.passes)
 
-pub length_made : (l n : ℕ) → length (made_names l n) ≡ n
-length_made l zero = refl
-length_made l (suc n) = length_push (made_names l n) (made_name l n) ∙ (let e : length (made_names l n) ≡ n = length_made l n in omega (arith, e))
+-- the names with a letter
+abbrev named : ℕ → ℕ → List (List ℕ)
+named l n = made_names (l ∷ []) n
 
-pub made_at : (l n k : ℕ) (x : List ℕ) → slice_get (made_names l n) k ≡ Some x → (k < n) × (x ≡ made_name l k)
-made_at l zero k x e = cc
-made_at l (suc n) k x e =
-    elim (at_push (made_names l n) (made_name l n) x k e) as (λ _. (k < suc n) × (x ≡ made_name l k)) [
-      | inl h ↦ (omega (arith, (made_at l n k x h).0), (made_at l n k x h).1)
-      | inr h ↦ (omega (arith, h.0, length_made l n), sym h.1 ∙ ap (made_name l) (sym (h.0 ∙ length_made l n)))
-    ]
+pub length_made : (l n : ℕ) → length (named l n) ≡ n
+length_made l n = length-map-range_with_len (made_name (l ∷ [])) 0 n
+
+-- one name more
+pub more_names : (letter : List ℕ) (k : ℕ) → made_names letter (k + 1) ≡ made_names letter k ++ made_name letter k ∷ []
+more_names letter k = map-range_with_len_more (made_name letter) 0 k k (omega arith)
+
+pub made_at : (l n k : ℕ) (x : List ℕ) → slice_get (named l n) k ≡ Some x → (k < n) × (x ≡ l ∷ decimal k)
+made_at l n k x e =
+    let within : k < n = omega (arith, slice_get_within (named l n) k x e, length_made l n) in
+    (within, sym (get_or_from_slice_get (named l n) k x [] e) ∙ get_or-map-range_with_len (made_name (l ∷ [])) 0 n k k [] within (omega arith))
 
 -- the number of a made name
-made_one : (l j k : ℕ) → j < 2 ^ 64 → k < 2 ^ 64 → made_name l j ≡ made_name l k → j ≡ k
+made_one : (l j k : ℕ) → j < 2 ^ 64 → k < 2 ^ 64 → l ∷ decimal j ≡ l ∷ decimal k → j ≡ k
 made_one l j k small little e = decimal_injective j k small little (ap (λ (x : List ℕ). rest x) e)
   where
     rest : List ℕ → List ℕ
     rest [] = []
-    rest (a ∷ []) = []
-    rest (a ∷ b ∷ x) = x
+    rest (a ∷ x) = x
 
-pub made_distinct : (l n : ℕ) → n ≤ 2 ^ 64 → AreDistinct (made_names l n)
+pub made_distinct : (l n : ℕ) → n ≤ 2 ^ 64 → AreDistinct (named l n)
 made_distinct l n small i j x at_i at_j =
     let a = made_at l n i x at_i in
     let b = made_at l n j x at_j in
     made_one l i j (omega (arith, a.0, small)) (omega (arith, b.0, small)) (sym a.1 ∙ b.1)
 
 -- ports
-
-abbrev second : List ℕ → ℕ
-second x = get_or x 1 0
 
 din_at : (k n i : ℕ) (x : List ℕ) → slice_get (din_names k n) i ≡ Some x → x ≡ numbered (codes "din") (k + i)
 din_at k zero i x e = cc
@@ -249,30 +308,38 @@ ports_distinct m =
     by x a (inl h) = omega (arith, a.0, h)
     by x a (inr h) = a.1 h
 
-ports_second : (m : Netlist) (i : ℕ) (x : List ℕ) → slice_get (port_names m) i ≡ Some x → 95 < second x
+ports_second : (m : Netlist) (i : ℕ) (x : List ℕ) → slice_get (port_names m) i ≡ Some x → 57 < second x
 ports_second m i x at =
-    elim (append_at (input_names m) (output_names 0 (length m.outputs / 2)) i x at) as (λ _. 95 < second x) [
+    elim (append_at (input_names m) (output_names 0 (length m.outputs / 2)) i x at) as (λ _. 57 < second x) [
       | inl h ↦ omega (arith, (inputs_second m.enable (length m.inputs - first_din m) i x h).0)
-      | inr h ↦ elim (out_second (length m.outputs / 2) h.0 x h.2) as (λ _. 95 < second x) [ inl e ↦ omega (arith, e) | inr e ↦ omega (arith, e) ]
+      | inr h ↦ elim (out_second (length m.outputs / 2) h.0 x h.2) as (λ _. 57 < second x) [ inl e ↦ omega (arith, e) | inr e ↦ omega (arith, e) ]
     ]
 
 abbrev first : List ℕ → ℕ
 first x = get_or x 0 0
 
-made_first : (l n k : ℕ) (x : List ℕ) → slice_get (made_names l n) k ≡ Some x → first x ≡ l
+made_first : (l n k : ℕ) (x : List ℕ) → slice_get (named l n) k ≡ Some x → first x ≡ l
 made_first l n k x at = ap first (made_at l n k x at).1
 
-made_second : (l n k : ℕ) (x : List ℕ) → slice_get (made_names l n) k ≡ Some x → second x ≡ 95
-made_second l n k x at = ap second (made_at l n k x at).1
+made_second : (l n k : ℕ) (x : List ℕ) → n ≤ 2 ^ 64 → slice_get (named l n) k ≡ Some x → second x ≤ 57
+made_second l n k x small at =
+    let h = made_at l n k x at in
+    let b = begun k (omega (arith, h.0, small)) in
+    let same : second x ≡ b.digit = ap second h.1 ∙ ap (λ (ds : List ℕ). second (l ∷ ds)) b.is in
+    low b.digit (second x) b.passes same
+  where
+    low : (d s : ℕ) → is_digit d ≡ true → s ≡ d → s ≤ 57
+    low d s passes same = grind (arith, nat_tests)
 
 -- a port's name is not made, and names made with two letters differ
-port_apart : (m : Netlist) (l n i j : ℕ) (x : List ℕ) → slice_get (port_names m) i ≡ Some x → slice_get (made_names l n) j ≡ Some x → ⊥
-port_apart m l n i j x at_i at_j = omega (arith, ports_second m i x at_i, made_second l n j x at_j)
+port_apart : (m : Netlist) (l n i j : ℕ) (x : List ℕ) → n ≤ 2 ^ 64 → slice_get (port_names m) i ≡ Some x → slice_get (named l n) j ≡ Some x → ⊥
+port_apart m l n i j x small at_i at_j = omega (arith, ports_second m i x at_i, made_second l n j x small at_j)
 
-letters_apart : (l n k o i j : ℕ) (x : List ℕ) → k < l → slice_get (made_names l n) i ≡ Some x → slice_get (made_names k o) j ≡ Some x → ⊥
-letters_apart l n k o i j x less at_i at_j = omega (arith, less, made_first l n i x at_i, made_first k o j x at_j)
+letters_apart : (l n k o i j : ℕ) (x : List ℕ) → (l < k) ⊎ (k < l) → slice_get (named l n) i ≡ Some x → slice_get (named k o) j ≡ Some x → ⊥
+letters_apart l n k o i j x (inl less) at_i at_j = omega (arith, less, made_first l n i x at_i, made_first k o j x at_j)
+letters_apart l n k o i j x (inr less) at_i at_j = omega (arith, less, made_first l n i x at_i, made_first k o j x at_j)
 
-made_are_names : (l n : ℕ) → Letter l → n ≤ 2 ^ 64 → (k : ℕ) (x : List ℕ) → slice_get (made_names l n) k ≡ Some x → is_name x ≡ true
+made_are_names : (l n : ℕ) → Letter l → n ≤ 2 ^ 64 → (k : ℕ) (x : List ℕ) → slice_get (named l n) k ≡ Some x → is_name x ≡ true
 made_are_names l n letter small k x at = let h = made_at l n k x at in ap is_name h.1 ∙ made_is_name l k letter (omega (arith, h.0, small))
 
 module _ (b : Netlist) (sources : List Net) (small : AreCounts b) where
@@ -280,16 +347,16 @@ module _ (b : Netlist) (sources : List Net) (small : AreCounts b) where
   m = with_outputs b sources
 
   abbrev wires : List (List ℕ)
-  wires = made_names 119 (length b.wires)
+  wires = named 110 (length b.wires)
 
   abbrev regs : List (List ℕ)
-  regs = made_names 114 (length b.regs)
+  regs = named 114 (length b.regs)
 
   abbrev arrays : List (List ℕ)
-  arrays = made_names 109 (length b.arrays)
+  arrays = named 109 (length b.arrays)
 
   with_wires : AreDistinct (port_names m ++ wires)
-  with_wires = distinct_append (port_names m) wires (ports_distinct m) (made_distinct 119 (length b.wires) small.wires) (port_apart m 119 (length b.wires))
+  with_wires = distinct_append (port_names m) wires (ports_distinct m) (made_distinct 110 (length b.wires) small.wires) (λ i j x. port_apart m 110 (length b.wires) i j x small.wires)
 
   with_regs : AreDistinct ((port_names m ++ wires) ++ regs)
   with_regs = distinct_append (port_names m ++ wires) regs with_wires (made_distinct 114 (length b.regs) small.regs) apart
@@ -297,8 +364,8 @@ module _ (b : Netlist) (sources : List Net) (small : AreCounts b) where
       apart : (i j : ℕ) (x : List ℕ) → slice_get (port_names m ++ wires) i ≡ Some x → slice_get regs j ≡ Some x → ⊥
       apart i j x at_i at_j =
           elim (append_at (port_names m) wires i x at_i) as (λ _. ⊥) [
-            | inl h ↦ port_apart m 114 (length b.regs) i j x h at_j
-            | inr h ↦ letters_apart 119 (length b.wires) 114 (length b.regs) h.0 j x (omega arith) h.2 at_j
+            | inl h ↦ port_apart m 114 (length b.regs) i j x small.regs h at_j
+            | inr h ↦ letters_apart 110 (length b.wires) 114 (length b.regs) h.0 j x (inl (omega arith)) h.2 at_j
           ]
 
   with_arrays : AreDistinct (((port_names m ++ wires) ++ regs) ++ arrays)
@@ -308,17 +375,17 @@ module _ (b : Netlist) (sources : List Net) (small : AreCounts b) where
       apart i j x at_i at_j =
           elim (append_at (port_names m ++ wires) regs i x at_i) as (λ _. ⊥) [
             | inl h ↦ elim (append_at (port_names m) wires i x h) as (λ _. ⊥) [
-              | inl g ↦ port_apart m 109 (length b.arrays) i j x g at_j
-              | inr g ↦ letters_apart 119 (length b.wires) 109 (length b.arrays) g.0 j x (omega arith) g.2 at_j
+              | inl g ↦ port_apart m 109 (length b.arrays) i j x small.arrays g at_j
+              | inr g ↦ letters_apart 110 (length b.wires) 109 (length b.arrays) g.0 j x (inr (omega arith)) g.2 at_j
             ]
-            | inr h ↦ letters_apart 114 (length b.regs) 109 (length b.arrays) h.0 j x (omega arith) h.2 at_j
+            | inr h ↦ letters_apart 114 (length b.regs) 109 (length b.arrays) h.0 j x (inr (omega arith)) h.2 at_j
           ]
 
-  named : (k : ℕ) (x : List ℕ) → slice_get ((wires ++ regs) ++ arrays) k ≡ Some x → is_name x ≡ true
-  named k x at =
+  all_names : (k : ℕ) (x : List ℕ) → slice_get ((wires ++ regs) ++ arrays) k ≡ Some x → is_name x ≡ true
+  all_names k x at =
       elim (append_at (wires ++ regs) arrays k x at) as (λ _. is_name x ≡ true) [
         | inl h ↦ elim (append_at wires regs k x h) as (λ _. is_name x ≡ true) [
-          | inl g ↦ made_are_names 119 (length b.wires) of_wires small.wires k x g
+          | inl g ↦ made_are_names 110 (length b.wires) of_wires small.wires k x g
           | inr g ↦ made_are_names 114 (length b.regs) of_regs small.regs g.0 x g.2
         ]
         | inr h ↦ made_are_names 109 (length b.arrays) of_arrays small.arrays h.0 x h.2
@@ -326,10 +393,10 @@ module _ (b : Netlist) (sources : List Net) (small : AreCounts b) where
 
   pub has_names : HasNames m (names_for b)
   has_names = record {
-    wires = length_made 119 (length b.wires);
+    wires = length_made 110 (length b.wires);
     regs = length_made 114 (length b.regs);
     arrays = length_made 109 (length b.arrays);
     distinct = with_arrays;
     module_name = refl;
-    are_names = All-from_at (λ x. is_name x ≡ true) ((wires ++ regs) ++ arrays) named;
+    are_names = All-from_at (λ x. is_name x ≡ true) ((wires ++ regs) ++ arrays) all_names;
   }

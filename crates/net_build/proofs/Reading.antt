@@ -1,5 +1,5 @@
 -- Which arrays the assigns of a growing netlist read.
-use Rattle.std.proofs.Common.{◌≡◌, ◌⊎◌, ℕ, zero, suc, ◌≤◌, Bool, [], ◌∷◌, ◌++◌, length, Some, sym, ap, subst, ◌∙◌, inl, inr, arith}
+use Rattle.std.proofs.Common.{◌≡◌, ◌⊎◌, ℕ, zero, suc, ◌≤◌, ◌==◌, Bool, List, [], ◌∷◌, ◌++◌, ◌||◌, length, Some, refl, sym, ap, subst, ◌∙◌, inl, inr, arith}
 use Rattle.std.specs.Prelude.{slice_get, Contains, IsTrue, false}
 use Rattle.std.proofs.lemmas.Option.{slice_get_within, slice_get_cases, same_Some}
 use Rattle.std.proofs.lemmas.List.Elements.{Contains-append_cases}
@@ -15,9 +15,10 @@ use Rattle.wiring.specs.Netlist.{Netlist}
 use Rattle.wiring.specs.BufferBits.{atom_reads, right_reads}
 use Rattle.wiring.specs.Snapshot.{right_accesses}
 use Rattle.net_build.specs.Includes.{Includes}
-use Rattle.net_build.specs.Draft.{with_wire}
-use Rattle.net_build.specs.Control.{AddsReads, AddsNoReads}
+use Rattle.net_build.specs.Draft.{with_wire, with_outputs, output_assign, output_assigns}
+use Rattle.net_build.specs.Control.{AddsReads, AddsNoReads, reads_array}
 use Rattle.net_build.proofs.Parts.{at_Begins}
+use Rattle.net_build.proofs.Drafts.{append_at}
 use Rattle.wiring.proofs.Search.{at_push}
 
 -- no assign more reads nothing
@@ -75,6 +76,44 @@ reads_word old new m i arrays ok is = reads_op old new (Word m i) arrays ok by
     by : (x : ℕ) → Contains (OfArray m ∷ atom_reads i) (OfArray x) → IsTrue (arrays x)
     by x (zero, l, e) = subst (λ (y : ℕ). IsTrue (arrays y)) (let f : OfArray m ≡ OfArray x = e in let g : m ≡ x = cc in g) is
     by x (suc k, l, e) = absurd (atom_nets_alone i x (k, omega (arith, l), e))
+
+-- a right side reads the arrays that it reads
+abbrev Own : Right Net ℕ → Type 0
+Own r = ReadsIn (reads_array r) r
+
+reads_own : (r : Right Net ℕ) → Own r
+reads_own (Copy a) x c = absurd (nets_alone (Copy a) refl x c)
+reads_own (Not a) x c = absurd (nets_alone (Not a) refl x c)
+reads_own (Binary o a b) x c = absurd (nets_alone (Binary o a b) refl x c)
+reads_own (Choose i a b) x c = absurd (nets_alone (Choose i a b) refl x c)
+reads_own (Join a b) x c = absurd (nets_alone (Join a b) refl x c)
+reads_own (Repeat n a) x c = absurd (nets_alone (Repeat n a) refl x c)
+reads_own (Bit v k) x c = absurd (nets_alone (Bit v k) refl x c)
+reads_own (Slice v h l) x c = absurd (nets_alone (Slice v h l) refl x c)
+reads_own (Word m i) x (zero, l, e) = itself m x (let f : OfArray m ≡ OfArray x = e in let g : m ≡ x = cc in g)
+  where
+    itself : (m x : ℕ) → m ≡ x → IsTrue ((m == x) || false)
+    itself m x e = grind arith
+reads_own (Word m i) x (suc k, l, e) = absurd (atom_nets_alone i x (k, omega (arith, l), e))
+
+pub op_reads : (old self new : Netlist) (r : Right Net ℕ) → old ≡ self → (new ≡ old) ⊎ (new ≡ with_wire old r) → AddsReads new self (reads_array r)
+op_reads old self new r same ok = subst (λ (n : Netlist). AddsReads new n (reads_array r)) same (reads_op old new r (reads_array r) ok (reads_own r))
+
+-- no output reads an array
+pub outputs_read : (b : Netlist) (sources : List Net) → AddsNoReads (with_outputs b sources) b
+outputs_read b sources = record { each = each }
+  where
+    copies : (k : ℕ) (ns : List Net) (i : ℕ) (a : Assign) → slice_get (output_assigns k ns) i ≡ Some a → right_accesses a.right ≡ []
+    copies k [] i a e = cc
+    copies k (n ∷ ns) zero a e = ap (λ (z : Assign). right_accesses z.right) (sym (same_Some (output_assign k n) a e))
+    copies k (n ∷ ns) (suc i) a e = copies (suc k) ns i a e
+
+    each : (k : ℕ) (a : Assign) → length b.assigns ≤ k → slice_get (with_outputs b sources).assigns k ≡ Some a → (x : ℕ) → Contains (right_reads a.right) (OfArray x) → IsTrue false
+    each k a low at x c =
+        elim (append_at b.assigns (output_assigns 0 sources) k a at) as (λ _. IsTrue false) [
+          | inl h ↦ absurd (omega (arith, low, slice_get_within b.assigns k a h))
+          | inr h ↦ absurd (nets_alone a.right (copies 0 sources h.0 a h.2) x c)
+        ]
 
 pub reads_weaker : (new old : Netlist) (arrays wider : ℕ → Bool) → ((x : ℕ) → IsTrue (arrays x) → IsTrue (wider x)) → AddsReads new old arrays → AddsReads new old wider
 reads_weaker new old arrays wider up is = record { each = λ k a low at x c. up x (is.each k a low at x c) }

@@ -1,6 +1,6 @@
 -- A register that counts, and the nets around it.
-use Rattle.std.proofs.Common.{◌≡◌, ℕ, zero, suc, ◌==◌, Bool, true, false, List, [], ◌∷◌, ◌++◌, length, Some, refl, sym, ap, subst, ◌∙◌, inl, inr, arith}
-use Rattle.std.specs.Prelude.{if◌then◌else◌, IsTrue, Contains, slice_get}
+use Rattle.std.proofs.Common.{◌≡◌, ℕ, zero, suc, ◌==◌, Bool, false, List, [], ◌∷◌, ◌++◌, length, Some, refl, sym, ap, subst, ◌∙◌, inl, inr, arith}
+use Rattle.std.specs.Prelude.{if◌then◌else◌, Contains, slice_get}
 use Rattle.std.proofs.Math.Pow.{pow_pos}
 use Rattle.std.proofs.lemmas.List.Elements.{Contains-append_right, Contains-append_left, Contains-append_cases}
 use Rattle.wiring.specs.declared.right.Atom.{Atom}
@@ -18,7 +18,7 @@ use Rattle.net_build.specs.Includes.{Includes, AtEachEdge}
 use Rattle.net_build.specs.Draft.{IsNet, UpdatedBut, number, with_reg, with_update}
 use Rattle.net_build.specs.Runs.{NeverStops, IsStill, StillBut, StaysBelow}
 use Rattle.net_build.specs.Control.{IsMadeOf, by_itself, is_control, IsControl, IsControlled, AddsNoReads}
-use Rattle.net_build.proofs.Control.{made_more}
+use Rattle.net_build.proofs.Control.{made_more, control_own}
 use Rattle.net_build.proofs.Parts.{Includes-refl, Includes-trans}
 use Rattle.net_build.specs.Logic.{AddsLogic, Computes, IsGate, AreMadeOf}
 use Rattle.net_build.specs.Counters.{after, reached, control_nets, taken, Counts, IsBehindReset, AddsRegister}
@@ -79,17 +79,6 @@ next_is b0 b1 b2 b3 register index more next bits last wraps f1 f2 f3 c1 c2 c3 =
     two_made b base y z p q x (zero, l, e) = subst (λ (w : Net). IsMadeOf b base (OfNet w)) e p
     two_made b base y z p q x (suc zero, l, e) = subst (λ (w : Net). IsMadeOf b base (OfNet w)) e q
     two_made b base y z p q x (suc (suc k), l, e) = absurd (omega (arith, l))
-
--- rst, en and registers are control
-control_own : (b : Netlist) (e : Bool) (x : Net) → Contains (control_nets e) x → IsMadeOf b (is_control e) (OfNet x)
-control_own b e x (zero, l, is) = subst (λ (n : Net). IsMadeOf b (is_control e) (OfNet n)) is (by_itself (first e))
-  where
-    first : (e : Bool) → IsTrue (is_control e (OfNet reset_net))
-    first true = refl
-    first false = refl
-control_own b true x (suc zero, l, is) = subst (λ (n : Net). IsMadeOf b (is_control true) (OfNet n)) is (by_itself refl)
-control_own b true x (suc (suc k), l, is) = absurd (omega (arith, l))
-control_own b false x (suc k, l, is) = absurd (omega (arith, l))
 
 pub own_made : (b : Netlist) (register : Net) (k : ℕ) → register ≡ Reg k → AreMadeOf b (is_control b.enable) (control_nets b.enable ++ register ∷ [])
 own_made b register k at x c =

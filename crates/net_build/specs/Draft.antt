@@ -86,6 +86,10 @@ RightsDiffer assigns = (j k : ℕ) (a b : Assign) → slice_get assigns j ≡ So
 abbrev pub IsFree : Netlist → Holder → Type 0
 IsFree b h = (k : ℕ) (u : Update) → slice_get b.updates k ≡ Some u → update_target u ≢ h
 
+-- no two updates are of the same register or array
+abbrev pub UpdatesDiffer : List Update → Type 0
+UpdatesDiffer updates = (j k : ℕ) (u v : Update) → slice_get updates j ≡ Some u → slice_get updates k ≡ Some v → update_target u ≡ update_target v → j ≡ k
+
 -- a register or an array has its update
 abbrev pub HasUpdate : Netlist → Holder → Type 0
 HasUpdate b h = (k : ℕ) × (u : Update) × (slice_get b.updates k ≡ Some u) × (update_target u ≡ h)
@@ -111,7 +115,7 @@ pub record IsDraft (b : Netlist) : Type 0 where
   pub earlier : (k : ℕ) (a : Assign) (j : ℕ) → slice_get b.assigns k ≡ Some a → Contains (nets_of a.right) (Wire j) → j < k
   pub differ : RightsDiffer b.assigns
   pub updates : All (UpdateIsSound b) b.updates
-  pub once : (j k : ℕ) (u v : Update) → slice_get b.updates j ≡ Some u → slice_get b.updates k ≡ Some v → update_target u ≡ update_target v → j ≡ k
+  pub once : UpdatesDiffer b.updates
 
 -- the number of a net among those of its sort
 abbrev pub number : Net → ℕ

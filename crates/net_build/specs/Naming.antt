@@ -1,26 +1,26 @@
 -- The names that a builder gives.
-use Rattle.std.specs.Prelude.{ℕ, zero, suc, ◌≤◌, ◌^◌, List, [], ◌∷◌, ◌++◌, length, codes, decimal}
+use Rattle.std.specs.Prelude.{ℕ, ◌≤◌, ◌^◌, List, ◌++◌, length, map, codes, decimal}
+use Rattle.std.specs.List.{range_with_len}
 use Rattle.wiring.specs.Netlist.{Netlist}
 use Rattle.netlist.specs.Names.{ModuleNames, NamedNetlist}
 use Rattle.net_build.specs.Draft.{with_outputs}
 use Rattle.wiring.specs.declared.netlist.Net.{Net}
 
--- a letter, a line below and a number, as w_12
-abbrev pub made_name : ℕ → ℕ → List ℕ
-made_name letter k = letter ∷ (95 ∷ decimal k)
+-- a letter and a number, as n12
+abbrev pub made_name : (letter : List ℕ) → ℕ → List ℕ
+made_name letter k = letter ++ decimal k
 
--- those of the numbers below n
-abbrev pub made_names : ℕ → ℕ → List (List ℕ)
-made_names letter zero = []
-made_names letter (suc n) = made_names letter n ++ made_name letter n ∷ []
+-- so many names with a letter, with the numbers from 0 on
+abbrev pub made_names : (letter : List ℕ) (count : ℕ) → List (List ℕ)
+made_names letter count = map (made_name letter) (range_with_len 0 count)
 
--- w_0 and so on for wires, r_0 for registers, m_0 for arrays
+-- n0 and so on for wires, r0 for registers, m0 for arrays
 abbrev pub names_for : Netlist → ModuleNames
 names_for b = record {
   «module» = codes "dk";
-  wires = made_names 119 (length b.wires);
-  regs = made_names 114 (length b.regs);
-  arrays = made_names 109 (length b.arrays);
+  wires = made_names (codes "n") (length b.wires);
+  regs = made_names (codes "r") (length b.regs);
+  arrays = made_names (codes "m") (length b.arrays);
 }
 
 -- the module of a draft whose outputs take these nets

@@ -15,5 +15,6 @@ pub use builder::Builder;
 pub use counters::{Counted, count, counter, counter_up_to, register_value, started};
 pub use gates::{gate, number};
 pub use laws::{
-    outputs_shown, parts_grow, ports_shown, reads_grow, runs_last, runs_on, still_grows,
+    held, indices_last, outputs_shown, parts_grow, ports_shown, reads_grow, runs_last, runs_on,
+    still_grows,
 };

@@ -12,25 +12,26 @@ use std::alloc::Global;
 use wiring::Wiring;
 
 fn wire_name(alloc: Global, k: usize) -> Result<Name, Memory>
-    ensures { IfOk result (λ name. name ≡ made_name 119 k) }
+    ensures { IfOk result (λ name. name ≡ made_name (codes "n") k) }
 {
-    Ok(Name::new(format!(in alloc; "w_{k}")?.into_bytes()))
+    Ok(Name::new(format!(in alloc; "n{k}")?.into_bytes()))
 }
 
 fn reg_name(alloc: Global, k: usize) -> Result<Name, Memory>
-    ensures { IfOk result (λ name. name ≡ made_name 114 k) }
+    ensures { IfOk result (λ name. name ≡ made_name (codes "r") k) }
 {
-    Ok(Name::new(format!(in alloc; "r_{k}")?.into_bytes()))
+    Ok(Name::new(format!(in alloc; "r{k}")?.into_bytes()))
 }
 
 fn array_name(alloc: Global, k: usize) -> Result<Name, Memory>
-    ensures { IfOk result (λ name. name ≡ made_name 109 k) }
+    ensures { IfOk result (λ name. name ≡ made_name (codes "m") k) }
 {
-    Ok(Name::new(format!(in alloc; "m_{k}")?.into_bytes()))
+    Ok(Name::new(format!(in alloc; "m{k}")?.into_bytes()))
 }
 
+#[tactic(auto, using(crate::proofs::MadeNames::more_names))]
 fn wire_names(alloc: Global, count: usize) -> Result<Vec<Name>, Memory>
-    ensures { IfOk result (λ names. names.items ≡ made_names 119 count) }
+    ensures { IfOk result (λ names. names.items ≡ made_names (codes "n") count) }
 {
     let mut names = Vec::new(alloc);
     for k in 0..count {
@@ -39,8 +40,9 @@ fn wire_names(alloc: Global, count: usize) -> Result<Vec<Name>, Memory>
     Ok(names)
 }
 
+#[tactic(auto, using(crate::proofs::MadeNames::more_names))]
 fn reg_names(alloc: Global, count: usize) -> Result<Vec<Name>, Memory>
-    ensures { IfOk result (λ names. names.items ≡ made_names 114 count) }
+    ensures { IfOk result (λ names. names.items ≡ made_names (codes "r") count) }
 {
     let mut names = Vec::new(alloc);
     for k in 0..count {
@@ -49,8 +51,9 @@ fn reg_names(alloc: Global, count: usize) -> Result<Vec<Name>, Memory>
     Ok(names)
 }
 
+#[tactic(auto, using(crate::proofs::MadeNames::more_names))]
 fn array_names(alloc: Global, count: usize) -> Result<Vec<Name>, Memory>
-    ensures { IfOk result (λ names. names.items ≡ made_names 109 count) }
+    ensures { IfOk result (λ names. names.items ≡ made_names (codes "m") count) }
 {
     let mut names = Vec::new(alloc);
     for k in 0..count {
@@ -65,7 +68,7 @@ fn title(alloc: Global) -> Result<Name, Memory>
     Ok(Name::new(format!(in alloc; "dk")?.into_bytes()))
 }
 
-/// The name `dk`, `w_0` and so on for wires, `r_0` for registers, `m_0` for arrays.
+/// The name `dk`, `n0` and so on for wires, `r0` for registers, `m0` for arrays.
 pub fn names_of_wiring(alloc: Global, wiring: &Wiring) -> Result<Names, Memory>
     ensures names { IfOk result (λ names. names_of names ≡ names_for (netlist_of wiring.now)) }
     ensures counts { OnOk result (AreCounts (netlist_of wiring.now)) }

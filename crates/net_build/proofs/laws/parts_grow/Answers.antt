@@ -1,6 +1,6 @@
 use Rattle.net_build.proofs.Parts.{Includes-refl, Includes-trans}
 use Rattle.net_build.proofs.Grown.{net_more, operation_more}
-use Rattle.net_build.proofs.Control.{made_more}
+use Rattle.net_build.proofs.Control.{made_more, made_wider}
 use Rattle.net_build.proofs.laws.parts_grow.Goals as goal
 
 pub returns-clause-same : goal.returns-clause-same
@@ -17,3 +17,6 @@ returns-clause-operation c b a f r is = operation_more b a f r is
 
 pub returns-clause-made_of : goal.returns-clause-made_of
 returns-clause-made_of c b a f base h is = made_more b a base f is
+
+pub returns-clause-wider : goal.returns-clause-wider
+returns-clause-wider c b base wide up h is = made_wider b base wide up is

@@ -1,7 +1,7 @@
 use Rattle.std.proofs.Common.{false, inr, refl}
 use Rattle.net_build.specs.Draft.{with_wire}
 use Rattle.wiring.specs.declared.right.Right.TheVariants.{Word}
-use Rattle.net_build.proofs.Reading.{reads_none, reads_nets, reads_word, reads_joined, reads_weaker}
+use Rattle.net_build.proofs.Reading.{reads_none, reads_nets, reads_word, reads_joined, reads_weaker, outputs_read}
 use Rattle.net_build.proofs.laws.reads_grow.Goals as goal
 
 pub returns-clause-none : goal.returns-clause-none
@@ -18,3 +18,6 @@ returns-clause-joined c z y x arrays f later earlier = reads_joined z y x arrays
 
 pub returns-clause-wider : goal.returns-clause-wider
 returns-clause-wider c new old arrays wider up is = reads_weaker new old arrays wider up is
+
+pub returns-clause-outputs : goal.returns-clause-outputs
+returns-clause-outputs c old sources = outputs_read old sources

@@ -1,6 +1,6 @@
-use Rattle.std.proofs.Common.{◌≡◌}
+use Rattle.std.proofs.Common.{◌≡◌, codes}
 use Rattle.net_build.specs.Naming.{made_names}
 use Rattle.net_build.proofs.naming.wire_names.Given as goal
 
 abbrev pub invariant-loop-k : goal.invariant-loop-k
-invariant-loop-k l = l.names.items ≡ made_names 119 l.k
+invariant-loop-k l = l.names.items ≡ made_names (codes "n") l.k

@@ -6,8 +6,9 @@ use Rattle.net_build.specs.Draft.{IsOperation, AddsWires, width_of}
 use Rattle.net_build.proofs.Drafts.{includes_op, wire_net, wire_width, wire_value, wire_made}
 use Rattle.net_build.specs.Runs.{NeverStops}
 use Rattle.net_build.proofs.Stops.{op_stops}
+use Rattle.net_build.proofs.Reading.{reads_none, op_reads}
 use Rattle.net_build.proofs.Updating.{wires_same, wires_op}
-use Rattle.net_build.specs.Control.{IsControlled}
+use Rattle.net_build.specs.Control.{IsControlled, AddsReads, reads_array}
 use Rattle.net_build.proofs.Control.{op_control, made_wire}
 use Rattle.net_build.proofs.builder.Builder.op.Goals as goal
 
@@ -55,3 +56,9 @@ pub returns-clause-made_of : goal.returns-clause-made_of
 returns-clause-made_of c base all =
     let b : Netlist = netlist_of c.wire_of.new.wiring in
     made_wire b (Wire c.in_ok-k.k) c.args.operation base (wire_made b c.in_ok-k.k c.args.operation c.in_ok-k.ensures.wire) all
+
+pub returns-in_err-k-clause-reads : goal.returns-in_err-k-clause-reads
+returns-in_err-k-clause-reads c = subst (λ (b : Netlist). AddsReads (netlist_of c.wire_of.new.wiring) b (reads_array c.args.operation)) c.self.view_is (reads_none (netlist_of c.wire_of.new.wiring) (netlist_of c.self.inside.wiring) (reads_array c.args.operation) (ap (λ (b : Netlist). b.assigns) c.in_err-k.ensures.err))
+
+pub returns-clause-reads : goal.returns-clause-reads
+returns-clause-reads c = op_reads (netlist_of c.self.inside.wiring) c.args.self.now (netlist_of c.wire_of.new.wiring) c.args.operation c.self.view_is c.in_ok-k.ensures.ok
