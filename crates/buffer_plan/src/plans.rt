@@ -77,7 +77,7 @@ impl Plan {
     ghost use Rattle.std.specs.Prelude.{◌≡◌, ◌<◌, ◌≤◌, ◌↔◌, IsTrue, Contains, length, pos};
     ghost use Rattle.dk_base.specs.declared.TheConstants.{MAX_BUFFER_BITS};
     ghost use Rattle.dk_base.specs.Stencils.{IsKept};
-    ghost use Rattle.buffer_plan.specs.Plans.{IsPlan, AreAges, ages_of, read_age, delay_of, depth_of, width_of, reads_by, latency, latency_of, clocks, bits_of};
+    ghost use Rattle.buffer_plan.specs.Plans.{IsPlan, AreAges, ages_of, read_age, place_in, delay_of, depth_of, width_of, reads_by, latency, latency_of, clocks, bits_of};
 
     /// A law: what the type keeps.
     pub fn law(&self)
@@ -136,6 +136,14 @@ impl Plan {
             Some(_) => true,
             None => false,
         }
+    }
+
+    /// Where a kept image stands among the kept ones.
+    pub fn place(&self, g: u32) -> usize
+        requires { IsKept self.now.system.stencils.images g }
+        ensures { result ≡ place_in self.now g }
+    {
+        place_of(&self.images, g)
     }
 
     /// The delay of a kept image.
