@@ -120,7 +120,7 @@ put_more b x i a =
     ∙ ap (λ (t : Bool). put_indices b x ++ (if t then i ∷ [] else [])) (yes_eq x x refl)
 
 -- further updates that do not put it
-puts_behind : (new old : Netlist) (x : ℕ) → Includes new old → ((k : ℕ) (u : Update) → length old.updates ≤ k → slice_get new.updates k ≡ Some u → update_target u ≢ OfArray x) → put_indices new x ≡ put_indices old x
+pub puts_behind : (new old : Netlist) (x : ℕ) → Includes new old → ((k : ℕ) (u : Update) → length old.updates ≤ k → slice_get new.updates k ≡ Some u → update_target u ≢ OfArray x) → put_indices new x ≡ put_indices old x
 puts_behind new old x f apart =
     let rest : List Update = f.updates.0 in
     let none : indices_of x (accesses_of update_accesses rest) ≡ [] =

@@ -3,14 +3,15 @@
 ghost use Rattle.std.specs.Prelude.{ℕ, suc, ◌≡◌, ◌%◌, min, ◌<◌, ◌==◌, ◌^◌, nat_lt, if◌then◌else◌, [], ◌∷◌, ◌++◌, length, IfOk, OnOk};
 ghost use Rattle.dk_base.specs.Numbers.{bit_count};
 ghost use Rattle.wiring.specs.declared.right.Atom.TheVariants as atom;
-ghost use Rattle.wiring.specs.Netlist.{net_width, reset_net, enable_net};
+ghost use Rattle.wiring.specs.Netlist.{net_width, reset_net};
 ghost use Rattle.wiring.specs.Sizes.{IsWidth};
 ghost use Rattle.wiring.specs.Snapshot.{net_value};
 ghost use Rattle.wiring.specs.Clock.{bit};
+ghost use Rattle.net_build.specs.Includes.{Includes};
 ghost use Rattle.net_build.specs.Draft.{IsNet};
 ghost use Rattle.net_build.specs.Runs.{StaysBelow};
 ghost use Rattle.net_build.specs.Logic.{AddsLogic, Computes};
-ghost use Rattle.net_build.specs.Counters.{after, reached, control_nets, taken, Counts, IsBehindReset, AddsRegister, AddsControl, Starts};
+ghost use Rattle.net_build.specs.Counters.{after, reached, control_nets, unless_held, taken, Counts, IsBehindReset, AddsRegister, AddsControl, Starts};
 
 use crate::builder::Builder;
 use crate::gates::{gate, number};
@@ -60,15 +61,15 @@ pub fn count(b: &mut Builder, at: Net, bits: u8, last: u64, wraps: bool) -> Resu
     Ok(Counted { going, next })
 }
 
-// What is next, or in a held clock what is now.
-fn unless_held(b: &mut Builder, now: Net, next: Net, bits: u8) -> Result<Net, Memory>
+/// What is next, or in a held clock what is now.
+pub fn unless_held(b: &mut Builder, now: Net, next: Net, bits: u8) -> Result<Net, Memory>
     requires now { IsNet b.old now }
     requires next { IsNet b.old next }
     requires now_width { net_width b.old now ≡ bits }
     requires next_width { net_width b.old next ≡ bits }
     requires bits { IsWidth bits }
     ensures logic { AddsLogic b.new b.old }
-    ensures net { IfOk result (Computes b.new b.old (control_nets b.old.enable ++ now ∷ (next ∷ [])) bits (λ s. if b.old.enable then (if net_value s enable_net == 1 then net_value s next else net_value s now) else net_value s next)) }
+    ensures net { IfOk result (Computes b.new b.old (control_nets b.old.enable ++ now ∷ (next ∷ [])) bits (λ s. unless_held b.old.enable (net_value s now) (net_value s next) s)) }
 {
     if b.has_en() {
         let en = b.en();
@@ -142,6 +143,7 @@ fn registered(
 
 // A counter up to `last`, which then begins again or stays.
 fn counter_of(b: &mut Builder, last: u64, wraps: bool) -> Result<Net, Memory>
+    ensures includes { Includes b.new b.old }
     ensures adds { OnOk result (AddsRegister b.new b.old (bit_count last)) }
     ensures net { IfOk result (IsBehindReset b.new (length b.old.regs)) }
     ensures width { IfOk result (λ n. net_width b.new n ≡ bit_count last) }
@@ -157,6 +159,7 @@ fn counter_of(b: &mut Builder, last: u64, wraps: bool) -> Result<Net, Memory>
 
 /// A net that counts clocks from 0 to `last`, and then from 0 again: the number of the counted clocks since a reset, modulo `last` and one. It is 0 in a reset clock, and stands still in held clocks. It has a register behind it.
 pub fn counter(b: &mut Builder, last: u64) -> Result<Net, Memory>
+    ensures includes { Includes b.new b.old }
     ensures adds { OnOk result (AddsRegister b.new b.old (bit_count last)) }
     ensures net { IfOk result (IsBehindReset b.new (length b.old.regs)) }
     ensures width { IfOk result (λ n. net_width b.new n ≡ bit_count last) }
@@ -169,6 +172,7 @@ pub fn counter(b: &mut Builder, last: u64) -> Result<Net, Memory>
 
 /// The same, but that it stays at `last`.
 pub fn counter_up_to(b: &mut Builder, last: u64) -> Result<Net, Memory>
+    ensures includes { Includes b.new b.old }
     ensures adds { OnOk result (AddsRegister b.new b.old (bit_count last)) }
     ensures net { IfOk result (IsBehindReset b.new (length b.old.regs)) }
     ensures width { IfOk result (λ n. net_width b.new n ≡ bit_count last) }

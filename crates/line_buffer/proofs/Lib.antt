@@ -1,0 +1,13 @@
+pub mod Turns
+pub mod Adding
+pub mod States
+pub mod Turning
+pub mod LineMade
+pub mod Ages
+pub mod Ringed
+pub mod Segments
+pub mod Chaining
+pub mod Delayed
+pub mod Indexed
+pub mod Tapping
+pub mod Building

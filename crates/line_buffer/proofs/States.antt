@@ -1,0 +1,89 @@
+-- One register or one array more, with its update.
+use Rattle.std.proofs.Common.{◌≡◌, ℕ, ◌≤◌, List, [], ◌∷◌, ◌++◌, length, Some, sym, ap, subst, ◌∙◌, inl, inr, arith, append-nil}
+use Rattle.std.specs.Prelude.{slice_get}
+use Rattle.std.proofs.lemmas.Option.{slice_get_within}
+use Rattle.wiring.specs.declared.right.Atom.TheVariants as atom
+use Rattle.wiring.specs.declared.netlist.Net.{Net}
+use Rattle.wiring.specs.declared.netlist.Holder.{Holder}
+use Rattle.wiring.specs.declared.netlist.Holder.TheVariants.{OfArray}
+use Rattle.wiring.specs.declared.netlist.Shape.{Shape}
+use Rattle.wiring.specs.declared.netlist.Update.{Update}
+use Rattle.wiring.specs.declared.netlist.Update.TheVariants.{Set, Put}
+use Rattle.wiring.specs.Netlist.{Netlist, IsState, update_target}
+use Rattle.net_build.specs.Includes.{Includes}
+use Rattle.net_build.specs.Draft.{AddsWires, UpdatedBut, with_array, with_update}
+use Rattle.net_build.specs.Runs.{NeverStops, IsStill, StillBut}
+use Rattle.net_build.specs.Control.{IsControlled, AddsReads}
+use Rattle.net_build.specs.Counters.{AddsRegister}
+use Rattle.net_build.proofs.Parts.{Includes-trans}
+use Rattle.wiring.proofs.Search.{at_push}
+use Rattle.net_build.proofs.Drafts.{includes_array, includes_update}
+use Rattle.net_build.proofs.Reading.{reads_none, reads_joined, none_reads}
+use Rattle.net_build.proofs.Standing.{still_wires, still_array, still_update, still_said}
+use Rattle.net_build.proofs.Updating.{but_array, but_wires, but_update}
+use Rattle.line_buffer.specs.Buffers.{AddsBuffer, is_new}
+
+-- the last update is of something new
+only_last : (updates : List Update) (u : Update) (P : Update → Type 0) → (P u → ⊥) → (k : ℕ) (v : Update) → length updates ≤ k → slice_get (updates ++ u ∷ []) k ≡ Some v → P v → ⊥
+only_last updates u P none k v low at p =
+    elim (at_push updates u v k at) as (λ _. ⊥) [
+      | inl earlier ↦ omega (arith, low, slice_get_within updates k v earlier)
+      | inr last ↦ none (subst P (sym last.1) p)
+    ]
+
+pub adds_register : (new old : Netlist) (width : ℕ) → AddsRegister new old width → AddsBuffer new old []
+adds_register new old width is = record {
+  includes = is.includes;
+  arrays = is.arrays ∙ sym (append-nil old.arrays);
+  updated = is.updated;
+  only = λ k v low at. only_last old.updates (Set (length old.regs) is.next) (λ w. IsState old (update_target w)) (λ state. omega (arith, state)) k v low (subst (λ (us : List Update). slice_get us k ≡ Some v) is.updates at);
+  still = is.still;
+  stops = is.stops;
+  control = is.control;
+  reads = none_reads new old (is_new old) is.reads;
+}
+
+module _ (old b1 b2 b3 : Netlist) (shape : Shape) (x : ℕ) (index value : Net) (made : b1 ≡ with_array old shape) (grows : Includes b2 b1) (wires : AddsWires b2 b1) (reads : AddsReads b2 b1 (is_new old)) (put : b3 ≡ with_update b2 (Put x (atom.Net index) (atom.Net value))) (numbered : x ≡ length old.arrays) where
+  abbrev w : Update
+  w = Put x (atom.Net index) (atom.Net value)
+
+  abbrev g : Holder
+  g = OfArray (length old.arrays)
+
+  f10 : Includes b1 old
+  f10 = subst (λ (b : Netlist). Includes b old) (sym made) (includes_array old shape)
+
+  f32 : Includes b3 b2
+  f32 = subst (λ (b : Netlist). Includes b b2) (sym put) (includes_update b2 w)
+
+  f30 : Includes b3 old
+  f30 = Includes-trans b3 b2 old f32 (Includes-trans b2 b1 old grows f10)
+
+  arrays_more : b3.arrays ≡ old.arrays ++ shape ∷ []
+  arrays_more = ap (λ (b : Netlist). b.arrays) put ∙ wires.arrays ∙ ap (λ (b : Netlist). b.arrays) made
+
+  updates_more : b3.updates ≡ old.updates ++ w ∷ []
+  updates_more = ap (λ (b : Netlist). b.updates) put ∙ ap (λ (us : List Update). us ++ w ∷ []) (wires.updates ∙ ap (λ (b : Netlist). b.updates) made)
+
+  updated_all : (free : List Holder) → UpdatedBut old free → UpdatedBut b3 free
+  updated_all free but =
+      let with : UpdatedBut b1 (OfArray (length old.arrays) ∷ free) = subst (λ (b : Netlist). UpdatedBut b (OfArray (length old.arrays) ∷ free)) (sym made) (but_array old shape free but) in
+      subst (λ (b : Netlist). UpdatedBut b free) (sym put) (but_update b2 w g free (ap (λ (j : ℕ). OfArray j) numbered) (but_wires b2 b1 (OfArray (length old.arrays) ∷ free) wires with))
+
+  still_all : IsStill b3 (OfArray x) → (free : List Holder) → StillBut old free → StillBut b3 free
+  still_all own free is =
+      let with : StillBut b1 (OfArray (length old.arrays) ∷ free) = subst (λ (b : Netlist). StillBut b (OfArray (length old.arrays) ∷ free)) (sym made) (still_array old shape free is) in
+      let grown : StillBut b3 (OfArray (length old.arrays) ∷ free) = subst (λ (b : Netlist). StillBut b (OfArray (length old.arrays) ∷ free)) (sym put) (still_update b2 w (OfArray (length old.arrays) ∷ free) (still_wires b2 b1 (OfArray (length old.arrays) ∷ free) grows wires with)) in
+      still_said b3 g free (subst (λ (j : ℕ). IsStill b3 (OfArray j)) numbered own) grown
+
+  pub adds_array : (NeverStops old → NeverStops b3) → (IsControlled old → IsControlled b3) → IsStill b3 (OfArray x) → AddsBuffer b3 old (shape ∷ [])
+  adds_array stops control own = record {
+    includes = f30;
+    arrays = arrays_more;
+    updated = updated_all;
+    only = λ k v low at. only_last old.updates w (λ y. IsState old (update_target y)) (λ state. omega (arith, state, numbered)) k v low (subst (λ (us : List Update). slice_get us k ≡ Some v) updates_more at);
+    still = still_all own;
+    stops = stops;
+    control = control;
+    reads = reads_joined b3 b2 old (is_new old) f32 (reads_none b3 b2 (is_new old) (ap (λ (b : Netlist). b.assigns) put)) (reads_joined b2 b1 old (is_new old) grows reads (reads_none b1 old (is_new old) (ap (λ (b : Netlist). b.assigns) made)));
+  }

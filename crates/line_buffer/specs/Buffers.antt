@@ -1,0 +1,68 @@
+-- What the buffer of one image owes, in whatever form.
+use Rattle.std.specs.Prelude.{◌≡◌, ℕ, suc, ◌+◌, ◌<◌, ◌≤◌, Bool, false, ◌&&◌, nat_le, nat_lt, IsTrue, List, [], ◌∷◌, ◌++◌, length, slice_get, Some}
+use Rattle.wiring.specs.declared.netlist.Net.{Net}
+use Rattle.wiring.specs.declared.netlist.Holder.{Holder}
+use Rattle.wiring.specs.declared.netlist.Holder.TheVariants.{OfNet, OfArray}
+use Rattle.wiring.specs.declared.netlist.Shape.{Shape}
+use Rattle.wiring.specs.declared.netlist.Update.{Update}
+use Rattle.wiring.specs.Netlist.{Netlist, net_width, IsState, update_target}
+use Rattle.wiring.specs.Snapshot.{Contents, Snapshot, IsNext, net_value}
+use Rattle.wiring.specs.Clock.{Clock}
+use Rattle.wiring.specs.History.{was_reset, is_held, counted}
+use Rattle.net_build.specs.Includes.{Includes}
+use Rattle.net_build.specs.Draft.{IsNet, UpdatedBut}
+use Rattle.net_build.specs.Runs.{IsClockOf, InEachRun, NeverStops, StillBut}
+use Rattle.net_build.specs.Control.{IsMadeOf, is_control, IsControlled, AddsReads}
+use Rattle.line_buffer.specs.Streams.{IsPixel, BufferIsRight}
+use Rattle.line_buffer.specs.Places.{Place, word_at, depth_of}
+
+-- an array that the old netlist has not
+abbrev pub is_new : Netlist → ℕ → Bool
+is_new old x = nat_le (length old.arrays) x
+
+-- The new netlist has the old one, and arrays of these shapes. What else it has more are wires, which read none but these arrays, and registers, which take in nothing of what came in. Each register and array that it has more is updated, and keeps what it contains in held clocks; no other has an update more.
+pub record AddsBuffer (new old : Netlist) (shapes : List Shape) : Type 0 where
+  pub includes : Includes new old
+  pub arrays : new.arrays ≡ old.arrays ++ shapes
+  pub updated : (free : List Holder) → UpdatedBut old free → UpdatedBut new free
+  pub only : (k : ℕ) (u : Update) → length old.updates ≤ k → slice_get new.updates k ≡ Some u → IsState old (update_target u) → ⊥
+  pub still : (free : List Holder) → StillBut old free → StillBut new free
+  pub stops : NeverStops old → NeverStops new
+  pub control : IsControlled old → IsControlled new
+  pub reads : AddsReads new old (is_new old)
+
+-- Of an image whose net is `value`, in each run of every module that includes the netlist: in each clock after a reset clock, t being its number, the tap of each age above 0 is the word at its place, once t is at least the age. In a counted clock the words go on being right, of whatever stream whose pixel the net is; in a held clock they stay.
+pub record IsBuffer (b : Netlist) (place : (age t : ℕ) → Place) (ages : List ℕ) (taps : List Net) (value : Net) : Type 0 where
+  pub one_each : length taps ≡ length ages
+  pub net : (k : ℕ) (tap : Net) → slice_get taps k ≡ Some tap → IsNet b tap
+  pub width : (k : ℕ) (tap : Net) → slice_get taps k ≡ Some tap → net_width b tap ≡ net_width b value
+  pub now : (k : ℕ) (tap : Net) → slice_get ages k ≡ Some 0 → slice_get taps k ≡ Some tap → tap ≡ value
+  pub word : (k age : ℕ) (tap : Net) → slice_get ages k ≡ Some age → 0 < age → slice_get taps k ≡ Some tap →
+      InEachRun b (λ m before c s. IsTrue (was_reset before) → c.reset ≡ false → age ≤ length (counted m before) → net_value s tap ≡ word_at s.contents (place age (length (counted m before))))
+  pub goes_on : (pixel : ℕ → ℕ) (count delay : ℕ) →
+      InEachRun b (λ m before c s. IsTrue (was_reset before) → c.reset ≡ false → is_held m c ≡ false → (next : Contents) → IsNext m s next →
+      BufferIsRight (λ age t. word_at s.contents (place age t)) pixel count delay (depth_of ages) (length (counted m before)) → IsPixel pixel count delay (length (counted m before)) (net_value s value) →
+      BufferIsRight (λ age t. word_at next (place age t)) pixel count delay (depth_of ages) (suc (length (counted m before))))
+  pub waits : InEachRun b (λ m before c s. IsTrue (is_held m c) → (next : Contents) → IsNext m s next → (age t : ℕ) → 0 < age → age ≤ depth_of ages → word_at next (place age t) ≡ word_at s.contents (place age t))
+
+-- rst, en, the registers, and the arrays from `first` to before `end`
+abbrev pub is_buffer : (enable : Bool) (first end : ℕ) → Holder → Bool
+is_buffer enable first end (OfNet n) = is_control enable (OfNet n)
+is_buffer enable first end (OfArray x) = nat_le first x && nat_lt x end
+
+-- the taps of ages above 0 are made of the buffer's own arrays, and of rst, en and registers, alone
+abbrev pub AreMadeOfBuffer : Netlist → (first end : ℕ) → (ages : List ℕ) → (taps : List Net) → Type 0
+AreMadeOfBuffer b first end ages taps = (k age : ℕ) (tap : Net) → slice_get ages k ≡ Some age → 0 < age → slice_get taps k ≡ Some tap → IsMadeOf b (is_buffer b.enable first end) (OfNet tap)
+
+-- In this run the net had these values in the counted clocks since the last reset: `v j` in that of number j.
+abbrev pub HadValues : (part m : Netlist) → Contents → Net → (v : ℕ → ℕ) → List Clock → Type 0
+HadValues part m from net v [] = Unit {0}
+HadValues part m from net v (d ∷ rest) =
+    d.reset ≡ false → HadValues part m from net v rest × ((s : Snapshot) → IsClockOf part m from rest d s → is_held m d ≡ false → net_value s net ≡ v (length (counted m rest)))
+
+-- What comes out of a buffer is what went in, from any contents at power-up: in each clock after a reset clock, t being its number, each word from which a pixel may still be read holds the net's value of so many counted clocks before, and each tap is that value.
+pub record IsDelay (b : Netlist) (place : (age t : ℕ) → Place) (ages : List ℕ) (taps : List Net) (value : Net) : Type 0 where
+  pub word : (v : ℕ → ℕ) (m : Netlist) (from : Contents) (before : List Clock) (c : Clock) (s : Snapshot) → IsClockOf b m from before c s → IsTrue (was_reset before) → HadValues b m from value v before →
+      (age q : ℕ) → 0 < age → age ≤ depth_of ages → q + age ≡ length (counted m before) → word_at s.contents (place age (length (counted m before))) ≡ v q
+  pub tap : (v : ℕ → ℕ) (m : Netlist) (from : Contents) (before : List Clock) (c : Clock) (s : Snapshot) → IsClockOf b m from before c s → IsTrue (was_reset before) → c.reset ≡ false → HadValues b m from value v before →
+      (k age q : ℕ) (tap : Net) → slice_get ages k ≡ Some age → 0 < age → slice_get taps k ≡ Some tap → q + age ≡ length (counted m before) → net_value s tap ≡ v q

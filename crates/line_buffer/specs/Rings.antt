@@ -1,0 +1,59 @@
+-- How a ring is read, an age after another.
+use Rattle.std.specs.Prelude.{◌≡◌, ◌==◌, ℕ, ◌+◌, ◌-◌, ◌%◌, ◌^◌, ◌<◌, nat_lt, nat_eq, IsTrue, if◌then◌else◌, List, ◌∷◌, slice_get, Some}
+use Rattle.wiring.specs.declared.netlist.Net.{Net}
+use Rattle.wiring.specs.declared.netlist.Holder.TheVariants.{OfNet}
+use Rattle.wiring.specs.declared.netlist.Shape.{Shape}
+use Rattle.wiring.specs.Netlist.{Netlist, net_width}
+use Rattle.wiring.specs.Sizes.{IsWidth}
+use Rattle.wiring.specs.Snapshot.{net_value, word_value}
+use Rattle.wiring.specs.History.{was_reset}
+use Rattle.net_build.specs.Includes.{Includes}
+use Rattle.net_build.specs.Draft.{IsNet, AddsWires}
+use Rattle.net_build.specs.Runs.{InEachRun, NeverStops}
+use Rattle.net_build.specs.Control.{IsMadeOf, IsControl, IsControlled, AddsReads}
+use Rattle.line_buffer.specs.declared.lines.DelayLine.{DelayLine}
+use Rattle.line_buffer.specs.Lines.{IsIndex}
+use Rattle.line_buffer.specs.Buffers.{is_buffer}
+
+-- the place of the word that was written `age` clocks before the one at the index, in a ring of n words
+abbrev pub behind : (n age index : ℕ) → ℕ
+behind n age index = if nat_eq age n then index else if nat_lt index age then index + (n - age) else index - age
+
+-- the same as the gates give it, in numbers of so many bits
+abbrev pub place_worth : (words age bits index : ℕ) → ℕ
+place_worth words age bits index = if nat_lt index age then (index + (words - age)) % 2 ^ bits else (index + 2 ^ bits - age) % 2 ^ bits
+
+-- The tap of an age in a ring of n words, in array `first`: the image's net itself at age 0, and else the word so many behind the index.
+pub record IsRingTap (b : Netlist) (first n : ℕ) (index value : Net) (age : ℕ) (tap : Net) : Type 0 where
+  pub net : IsNet b tap
+  pub width : net_width b tap ≡ net_width b value
+  pub now : age ≡ 0 → tap ≡ value
+  pub word : 0 < age → InEachRun b (λ m before c s. IsTrue (was_reset (c ∷ before)) → net_value s tap ≡ word_value s first (behind n age (net_value s index)))
+  pub made : 0 < age → IsMadeOf b (is_buffer b.enable first (first + 1)) (OfNet tap)
+
+abbrev pub AreRingTaps : Netlist → (first n : ℕ) → (index value : Net) → (ages : List ℕ) → List Net → Type 0
+AreRingTaps b first n index value ages taps = (k age : ℕ) (tap : Net) → slice_get ages k ≡ Some age → slice_get taps k ≡ Some tap → IsRingTap b first n index value age tap
+
+-- the new netlist has more wires, which read array x alone, and nothing else
+pub record AddsTaps (new old : Netlist) (x : ℕ) : Type 0 where
+  pub includes : Includes new old
+  pub wires : AddsWires new old
+  pub reads : AddsReads new old (λ y. y == x)
+  pub stops : NeverStops old → NeverStops new
+  pub control : IsControlled old → IsControlled new
+
+-- a delay line of so many words for an image's net, with an index of so many bits
+pub record IsRing (b : Netlist) (line : DelayLine) (value : Net) (bits words : ℕ) : Type 0 where
+  pub shape : Shape
+  pub there : slice_get b.arrays line.array ≡ Some shape
+  pub deep : shape.depth ≡ words
+  pub wide : IsWidth shape.width
+  pub value_net : IsNet b value
+  pub value_wide : net_width b value ≡ shape.width
+  pub index_net : IsNet b line.index
+  pub index_wide : net_width b line.index ≡ bits
+  pub bits_wide : IsWidth bits
+  pub fits : words - 1 < 2 ^ bits
+  pub counter : IsIndex b words line.index
+  pub control : IsControl b (OfNet line.index)
+  pub oldest : IsRingTap b line.array words line.index value words line.word
