@@ -1,25 +1,21 @@
 -- The live reads of a program are those of any of its forms, and one list in order.
-use Rattle.std.proofs.Common.{◌≡◌, ℕ, zero, suc, ◌≤◌, ◌<◌, ℤ, inl, inr, List, [], ◌∷◌, length, refl, sym, ap, subst, ◌∙◌, arith}
+use Rattle.std.proofs.Common.{◌≡◌, ℕ, zero, suc, ◌≤◌, ◌<◌, ℤ, inl, inr, List, [], ◌∷◌, length, refl, sym, ap, ◌∙◌, arith}
 use Rattle.std.specs.Prelude.{Contains}
 use Rattle.dk_base.specs.declared.stencils.LiveRead.{LiveRead}
 use Rattle.dk_base.specs.Stencils.{Parts}
 use Rattle.dk_types.specs.Typed.{Typing}
 use Rattle.pointwise_ir.specs.Programs.{Program}
-use Rattle.stencil_sets.specs.Found.{IsThe, Has, the}
-use Rattle.stencil_sets.specs.Live.{AreReads, AreStencilsOf, HasCount}
-use Rattle.stencil_sets.specs.Live as S
+use Rattle.pointwise_ir.specs.Stencils.{Has, the, AreReads, AreStencilsOf}
+use Rattle.stencil_sets.specs.Live.{HasCount}
+use Rattle.pointwise_ir.specs.Stencils as S
 use Rattle.stencil_sets.specs.Faults as F
 use Rattle.stencil_sets.specs.declared.live.StencilFault.{StencilFault}
 use Rattle.stencil_sets.specs.declared.live.StencilFault.TheVariants as stencils
-use Rattle.stencil_sets.proofs.Unique.{no_longer, same_list}
+use Rattle.pointwise_ir.proofs.ReadLists.{the_is, no_longer, same_list}
 use Rattle.dk_inline.specs.Answers.{IsWithin}
 use Rattle.dk_compile.specs.Faults.{of_stencils}
 use Rattle.dk_compile.specs.Sources.{IsText, IsKeptRead, AreReadsOf, IsAccepted, HasReads, HasManyReads, HasTooMany, IsFault}
 use Rattle.dk_compile.specs.Fronts.{IsForm, IsFront}
-
-the_is : (a r : LiveRead) → IsThe a r.f r.g r.dx r.dy → a ≡ r
-the_is a r k =
-    subst (λ n. a ≡ the n r.g r.dx r.dy) k.reader (subst (λ n. a ≡ the a.f n r.dx r.dy) k.source (subst (λ n. a ≡ the a.f a.g n r.dy) k.across (subst (λ n. a ≡ the a.f a.g a.dx n) k.down refl)))
 
 -- the two ways to say that a read is one of some
 has_of : (xs : List LiveRead) (r : LiveRead) → Contains xs r → Has xs r.f r.g r.dx r.dy
@@ -29,7 +25,7 @@ has_of (x ∷ xs) r (suc k, lt, is) = inr (has_of xs r (k, (let less : k < lengt
 
 of_has : (xs : List LiveRead) (r : LiveRead) → Has xs r.f r.g r.dx r.dy → Contains xs r
 of_has [] r h = absurd h
-of_has (x ∷ xs) r (inl k) = (zero, (let some : 0 < length (x ∷ xs) = omega arith in some), the_is x r k)
+of_has (x ∷ xs) r (inl k) = (zero, (let some : 0 < length (x ∷ xs) = omega arith in some), the_is x r.f r.g r.dx r.dy k)
 of_has (x ∷ xs) r (inr h) = let (k, lt, is) = of_has xs r h in (suc k, (let more : suc k < length (x ∷ xs) = omega (arith, lt) in more), is)
 
 module _ (p : Typing) where

@@ -26,6 +26,7 @@ form_of p old new is keeps after = record {
   types = after.types ∙ is.types;
   outputs = after.outputs ∙ is.outputs;
   meaning = λ round ok g stays x y. let before = round_before old new after round ok in after.meaning round before g x y ∙ keeps.meaning round before g stays x y;
+  stay = keeps.stay;
   kept = λ g. (λ k. (keeps.kept g).0 ((after.kept g).0 k), λ k. (after.kept g).1 ((keeps.kept g).1 k));
   live = λ f g dx dy kept.
       let old_kept = (keeps.kept f).1 kept in

@@ -6,3 +6,7 @@ pub mod Apart
 pub mod Agreed
 pub mod Numbers
 pub mod Total
+pub mod Searches
+pub mod Sweeps
+pub mod Decided
+pub mod Listed

@@ -1,8 +1,9 @@
--- Each text is that of a program within the limits on nodes and depth, or has a fault.
-use Rattle.std.proofs.Common.{◌≡◌, ◌≢◌, ◌⊎◌, inl, inr, ℕ, zero, suc, ◌<◌, min, List, length, slice_get, Option, Some, None, Bool, true, false, refl, subst, arith}
+-- Each text is accepted or has a fault.
+use Rattle.std.proofs.Common.{◌≡◌, ◌≢◌, ◌⊎◌, inl, inr, ℕ, zero, suc, ◌+◌, ◌<◌, min, List, length, slice_get, Option, Some, None, Bool, true, false, refl, subst, arith}
 use Rattle.std.specs.List.{All}
 use Rattle.std.proofs.lemmas.Bool.{cases_lt}
 use Rattle.std.proofs.lemmas.Option.{slice_get_within}
+use Rattle.dk_base.specs.declared.TheConstants.{MAX_LIVE_READS, MAX_COUNTED_READS}
 use Rattle.dk_base.specs.declared.span.Span.{Span}
 use Rattle.dk_lexer.specs.declared.token.Token.{Token}
 use Rattle.dk_lexer.specs.declared.fault.LexFault.{LexFault}
@@ -17,14 +18,16 @@ use Rattle.dk_types.specs.declared.fault.TypeFault.{TypeFault}
 use Rattle.dk_types.specs.Typed.{Definition, Typing}
 use Rattle.dk_types.specs.Types.{IsTyping, HasNumbers}
 use Rattle.dk_types.specs.Faults.{IsFirstFault}
+use Rattle.dk_types.proofs.Kept.{typed_is_kept}
 use Rattle.pointwise_ir.specs.Trees.{depth_of}
 use Rattle.dk_inline.specs.Inlined.{inlined_body, substitutes, stays}
 use Rattle.dk_inline.specs.Nodes.{node_count, IsDeep, IsFirstDeep}
 use Rattle.dk_inline.specs.Answers.{IsWithin}
 use Rattle.dk_compile.specs.declared.fault.SourceFault.{SourceFault}
-use Rattle.dk_compile.specs.declared.fault.SourceFault.TheVariants.{Lex, Nest, Syntax, Depth, Types, Nodes, InlineDepth, Memory}
-use Rattle.dk_compile.specs.Sources.{HasTree, IsText, IsFault}
+use Rattle.dk_compile.specs.declared.fault.SourceFault.TheVariants.{Lex, Nest, Syntax, Depth, Types, Nodes, InlineDepth, Reads, Memory}
+use Rattle.dk_compile.specs.Sources.{HasTree, IsText, IsAccepted, IsFault}
 use Rattle.dk_compile.proofs.Numbers.{lexed_small, program_numbers}
+use Rattle.dk_compile.proofs.Listed.{listed}
 
 -- The first definition that is too deep.
 module _ (p : Typing) where
@@ -62,13 +65,29 @@ module _ (p : Typing) where
   ]
 
 abbrev pub Judged : List ℕ → Type 0
-Judged text = ((p : Typing) × IsText text p × IsWithin p) ⊎ ((f : SourceFault) × IsFault text f × (f ≢ Memory))
+Judged text = ((p : Typing) × IsAccepted text p) ⊎ ((f : SourceFault) × IsFault text f × (f ≢ Memory))
+
+-- within the limits on nodes and depth
+counted : (text : List ℕ) (p : Typing) → IsText text p → IsWithin p → Judged text
+counted text p is within =
+    let (reads, are) = listed p (typed_is_kept is.tree p is.typed) in
+    elim (cases_lt MAX_LIVE_READS (length reads)) [
+      | inr few ↦ inl (p, record { program = is; within = within; reads = reads; are_reads = are; few = few })
+      | inl more ↦ elim (cases_lt MAX_COUNTED_READS (length reads)) [
+        | inr told ↦ inr (Reads (length reads), (p, is, within, record { more = more; counted = inl (record { reads = reads; are_reads = are; count_is = refl; few = told }) }), λ e. cc)
+        | inl many ↦ inr (
+          Reads (MAX_COUNTED_READS + 1),
+          (p, is, within, record { more = omega arith; counted = inr (record { reads = reads; in_order = are.in_order; sound = λ r. (are.exact r).0; many = many; count_is = refl }) }),
+          λ e. cc,
+        )
+      ]
+    ]
 
 sized : (text : List ℕ) (p : Typing) → IsText text p → Judged text
 sized text p is = elim (cases_lt 65536 (node_count p)) [
   | inl more ↦ inr (Nodes (min (node_count p) 18446744073709551615), (p, is, (more, refl)), λ e. cc)
   | inr few ↦ elim (deep_or_not p) [
-    | inl none ↦ inl (p, is, record { nodes = few; depth = none })
+    | inl none ↦ counted text p is (record { nodes = few; depth = none })
     | inr deep ↦ inr (InlineDepth deep.0, (p, is, (few, deep.1)), λ e. cc)
   ]
 ]

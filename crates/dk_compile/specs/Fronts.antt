@@ -14,10 +14,10 @@ use Rattle.pointwise_ir.specs.Reads as R
 use Rattle.dk_inline.specs.Inlined.{Stays}
 use Rattle.dk_inline.specs.Answers.{IsWithin, image_names}
 use Rattle.dk_inline.specs.Folded.{IsFolded}
-use Rattle.stencil_sets.specs.Live.{AreStencilsOf}
+use Rattle.pointwise_ir.specs.Stencils.{AreStencilsOf}
 use Rattle.dk_compile.specs.Sources.{IsText}
 
--- Images without inline ones that mean what the program means: the same sizes, names and types; of each image that stays the same picture on any round; the same kept images, and the same live reads of each.
+-- Images without inline ones that mean what the program means: the same sizes, names and types; of each image that stays, as each kept one does, the same picture on any round; the same kept images, and the same live reads of each.
 pub record IsForm (p : Typing) (ir : Program) : Type 0 where
   pub size : ir.size ≡ p.size
   pub inputs : map (λ i. i.ty) ir.inputs ≡ map (λ i. i.ty) p.inputs
@@ -25,6 +25,7 @@ pub record IsForm (p : Typing) (ir : Program) : Type 0 where
   pub types : P.types_of ir ≡ types_of p
   pub outputs : ir.outputs ≡ p.outputs
   pub meaning : (round : List Picture) → IsRound ir round → (g : ℕ) → Stays p g → (x y : ℤ) → picture_at (pictures ir round) g x y ≡ picture_at (meaning p round) g x y
+  pub stay : (g : ℕ) → IsKept p g → Stays p g
   pub kept : (g : ℕ) → R.Kept ir g ↔ IsKept p g
   pub live : (f g : ℕ) (dx dy : ℤ) → IsKept p f → R.IsLive ir f g dx dy ↔ IsLive p f g dx dy
 

@@ -1,6 +1,6 @@
 -- Texts as programs within the limits, and the first fault of those that are none.
-use Rattle.std.specs.Prelude.{◌≡◌, ◌⊎◌, ◌↔◌, ℕ, ◌<◌, ◌≤◌, List, length, Contains}
-use Rattle.dk_base.specs.declared.TheConstants.{MAX_LIVE_READS}
+use Rattle.std.specs.Prelude.{◌≡◌, ◌⊎◌, ◌↔◌, ℕ, ◌+◌, ◌<◌, ◌≤◌, List, length, Contains}
+use Rattle.dk_base.specs.declared.TheConstants.{MAX_LIVE_READS, MAX_COUNTED_READS}
 use Rattle.dk_base.specs.declared.stencils.LiveRead.{LiveRead}
 use Rattle.dk_base.specs.Stencils.{AreInOrder}
 use Rattle.dk_lexer.specs.declared.token.Token.{Token}
@@ -48,20 +48,20 @@ pub record IsAccepted (text : List ℕ) (p : Typing) : Type 0 where
   pub are_reads : AreReadsOf p reads
   pub few : length reads ≤ MAX_LIVE_READS
 
--- so many live reads of kept images
+-- so many live reads of kept images, where they are at most MAX_COUNTED_READS
 pub record HasReads (p : Typing) (count : ℕ) : Type 0 where
   pub reads : List LiveRead
   pub are_reads : AreReadsOf p reads
   pub count_is : count ≡ length reads
-  pub few : count ≤ 65536
+  pub few : count ≤ MAX_COUNTED_READS
 
--- more than 65,536 of them, which count as 65,537
+-- more of them, which count as one more than that
 pub record HasManyReads (p : Typing) (count : ℕ) : Type 0 where
   pub reads : List LiveRead
   pub in_order : AreInOrder reads
   pub sound : (r : LiveRead) → Contains reads r → IsKeptRead p r
-  pub many : 65536 < length reads
-  pub count_is : count ≡ 65537
+  pub many : MAX_COUNTED_READS < length reads
+  pub count_is : count ≡ MAX_COUNTED_READS + 1
 
 -- so many live reads of kept images, which are too many
 pub record HasTooMany (p : Typing) (count : ℕ) : Type 0 where

@@ -65,19 +65,15 @@ pub image_typed : (p : Typing) → IsTyped p → (k : ℕ) (d : Definition) → 
 image_typed p typed k d is = types_from p.definitions (input_types p.inputs) (input_types_are p.inputs typed.inputs) typed.bodies k d is
 
 -- ports
-same_port : (t : Ty) → T.IsPort t → IsPort t
-same_port (Unsigned n) h = h
-same_port (Signed n) h = h
-
 ports : (is : List Input) (js : List TypedInput) → map (λ i. i.ty) is ≡ map (λ j. j.ty) js → ArePorts js → (k : ℕ) (d : Input) → k < length is → IsPort (get_or is k d).ty
 ports [] js same are k d lt = absurd (omega (arith, lt))
 ports (i ∷ is) [] same are k d lt = absurd (let f : ⊥ = cc in f)
-ports (i ∷ is) (j ∷ js) same are zero d lt = let e : j.ty ≡ i.ty = cc in subst IsPort e (same_port j.ty are.0)
+ports (i ∷ is) (j ∷ js) same are zero d lt = let e : j.ty ≡ i.ty = cc in subst IsPort e are.0
 ports (i ∷ is) (j ∷ js) same are (suc k) d lt = let e : map (λ i. i.ty) is ≡ map (λ j. j.ty) js = cc in ports is js e are.1 k d (omega (arith, lt))
 
 outputs_are : (ts : List Ty) (gs : List ℕ) → AreOutputsOf ts gs → (k d : ℕ) → k < length gs → IsOutput ts (get_or gs k d)
 outputs_are ts [] are k d lt = absurd (omega (arith, lt))
-outputs_are ts (g ∷ gs) are zero d lt = record { ty = are.0.ty; there = are.0.image; port = same_port are.0.ty are.0.port }
+outputs_are ts (g ∷ gs) are zero d lt = record { ty = are.0.ty; there = are.0.image; port = are.0.port }
 outputs_are ts (g ∷ gs) are (suc k) d lt = outputs_are ts gs are.1 k d (omega (arith, lt))
 
 -- what a body of an image keeps: the inlined one of an image that stays, or 0

@@ -13,8 +13,8 @@ use Rattle.dk_base.specs.Operators.{binary_value, conversion_value}
 use Rattle.dk_base.proofs.Rasters.{raster_is, raster_number_below, picture_at, inside}
 use Rattle.dk_types.specs.Typed.{Typing, Definition, types_of, image_type, type_of}
 use Rattle.dk_base.specs.Frames.{framed}
+use Rattle.dk_base.specs.Frames as M
 use Rattle.dk_types.specs.Meaning.{value, pictures, meaning_on}
-use Rattle.dk_types.specs.Meaning as M
 use Rattle.pointwise_ir.specs.declared.ir.Input.{Input}
 use Rattle.pointwise_ir.specs.Programs.{Program}
 use Rattle.dk_frames.specs.declared.frame.Frame.{Frame}

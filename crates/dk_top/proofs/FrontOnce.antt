@@ -7,7 +7,7 @@ use Rattle.dk_base.specs.Frames.{Size}
 use Rattle.dk_base.specs.Stencils.{Parts as Stencils}
 use Rattle.dk_types.specs.Typed.{Typing}
 use Rattle.pointwise_ir.specs.Programs.{Program}
-use Rattle.stencil_sets.specs.Live.{IsKeptRead, AreReads, AreImages, AreStencilsOf}
+use Rattle.pointwise_ir.specs.Stencils.{IsKeptRead, AreReads, AreImages, AreStencilsOf}
 use Rattle.dk_inline.specs.Answers.{image_names}
 use Rattle.dk_compile.specs.Sources.{IsText}
 use Rattle.dk_compile.specs.Fronts.{IsForm}

@@ -20,7 +20,7 @@ use Rattle.net_build.proofs.Parts.{Includes-refl, Includes-trans, InEach-more}
 use Rattle.net_build.proofs.Grown.{net_more, width_more}
 use Rattle.frame_paths.specs.declared.moves.Interval.{Interval}
 use Rattle.frame_paths.specs.Moves.{IsIn}
-use Rattle.edge_select.specs.declared.paths.Passing.{Passing}
+use Rattle.edge_select.specs.declared.paths.Rectangle.{Rectangle}
 use Rattle.edge_select.specs.declared.pixel.Pixel.{Pixel}
 use Rattle.net_build.specs.Logic.{AreMadeOf, Computes, IsGate}
 use Rattle.edge_select.specs.Logic.{Tests, IsBit, IsBoth, IsTestNet, is_up_to, is_within}
@@ -181,10 +181,10 @@ in_within : (side : ℕ) (i : Interval) (x : ℕ) → IsIn i x → IsTrue (is_wi
 in_within side i x is = and_true (nat_le i.first x) (is_up_to side i.last x) (yes_le i.first x is.first) (in_up_to side i.last x is.last)
 
 -- a pixel is in the rectangle
-abbrev pub in_rectangle : (width height : ℕ) → Passing → (x y : ℕ) → Bool
+abbrev pub in_rectangle : (width height : ℕ) → Rectangle → (x y : ℕ) → Bool
 in_rectangle width height r x y = is_within width r.across.first r.across.last x && is_within height r.down.first r.down.last y
 
-pub rectangle_bit : (width height : ℕ) (r : Passing) (x y : ℕ) (P : Type 0) → x < width → y < height → (Passes r x y → P) → (P → Passes r x y) → IsBitOf P (bit (in_rectangle width height r x y))
+pub rectangle_bit : (width height : ℕ) (r : Rectangle) (x y : ℕ) (P : Type 0) → x < width → y < height → (Passes r x y → P) → (P → Passes r x y) → IsBitOf P (bit (in_rectangle width height r x y))
 rectangle_bit width height r x y P low high f g =
     let across : Bool = is_within width r.across.first r.across.last x in
     let down : Bool = is_within height r.down.first r.down.last y in

@@ -1,7 +1,7 @@
 pub mod Lasting
 pub mod Walks
 pub mod Counting
-pub mod Leading
+pub mod Raster
 pub mod Following
 pub mod Registering
 pub mod Combining

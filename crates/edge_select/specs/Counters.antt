@@ -5,7 +5,7 @@ use Rattle.dk_base.specs.FrameSizes.{size_of}
 use Rattle.dk_base.specs.Numbers.{bit_count}
 use Rattle.wiring.specs.declared.netlist.Net.{Net}
 use Rattle.wiring.specs.Netlist.{Netlist}
-use Rattle.wiring.specs.Snapshot.{net_value}
+use Rattle.wiring.specs.Snapshot.{Snapshot, net_value}
 use Rattle.net_build.specs.Logic.{Computes}
 use Rattle.net_build.specs.Counters.{after, control_nets, taken}
 use Rattle.edge_select.specs.declared.pixel.Pixel.{Pixel}
@@ -13,6 +13,13 @@ use Rattle.edge_select.specs.declared.pixel.Pixel.{Pixel}
 -- the row that follows, which is another one only at the last column
 abbrev pub row_after : Size → (x y : ℕ) → ℕ
 row_after size x y = if nat_lt x (size.width - 1) then y else after true (size.height - 1) y
+
+-- the column and the row of the pixel that follows the one of a snapshot
+abbrev pub next_column : Pixel → Snapshot → ℕ
+next_column p s = after true (p.size.width - 1) (net_value s p.column)
+
+abbrev pub next_row : Pixel → Snapshot → ℕ
+next_row p s = row_after (size_of p.size) (net_value s p.column) (net_value s p.row)
 
 -- the pixel at which a count begins that comes to the first pixel of a frame after the delay
 abbrev pub lead_in : (area delay : ℕ) → ℕ
@@ -24,5 +31,5 @@ pixel_nets enable p = control_nets enable ++ p.column ∷ (p.row ∷ [])
 
 -- these nets are what the pixel's registers take: the place of a first pixel, or that of the pixel that follows
 pub record Advances (new old : Netlist) (p : Pixel) (first : ℕ) (column_net row_net : Net) : Type 0 where
-  pub across : Computes new old (pixel_nets old.enable p) (bit_count (p.size.width - 1)) (λ s. taken old.enable (column (size_of p.size) first) (net_value s p.column) (after true (p.size.width - 1) (net_value s p.column)) s) column_net
-  pub down : Computes new old (pixel_nets old.enable p) (bit_count (p.size.height - 1)) (λ s. taken old.enable (row (size_of p.size) first) (net_value s p.row) (row_after (size_of p.size) (net_value s p.column) (net_value s p.row)) s) row_net
+  pub across : Computes new old (pixel_nets old.enable p) (bit_count (p.size.width - 1)) (λ s. taken old.enable (column (size_of p.size) first) (net_value s p.column) (next_column p s) s) column_net
+  pub down : Computes new old (pixel_nets old.enable p) (bit_count (p.size.height - 1)) (λ s. taken old.enable (row (size_of p.size) first) (net_value s p.row) (next_row p s) s) row_net

@@ -1,5 +1,5 @@
 pub mod Steps
-pub mod Passes
 pub mod Logic
+pub mod Passes
 pub mod Pixels
 pub mod Counters

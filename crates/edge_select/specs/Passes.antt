@@ -1,11 +1,14 @@
 -- The pixels that steps lead by exactly some way, as columns and rows.
-use Rattle.std.specs.Prelude.{ℕ, ℤ, Option, Some, None, List}
+use Rattle.std.specs.Prelude.{ℕ, ℤ, Bool, ◌&&◌, Option, Some, None, List}
 use Rattle.dk_base.specs.Frames.{Size}
 use Rattle.frame_paths.specs.declared.path.Path.{Path}
 use Rattle.frame_paths.specs.Moves.{IsIn, IsInterval}
 use Rattle.frame_paths.specs.Paths.{LeadsTo}
 use Rattle.edge_select.specs.declared.step.Step.{Step}
-use Rattle.edge_select.specs.declared.paths.Passing.{Passing}
+use Rattle.edge_select.specs.declared.paths.Rectangle.{Rectangle}
+use Rattle.wiring.specs.Snapshot.{Snapshot, net_value}
+use Rattle.edge_select.specs.declared.pixel.Pixel.{Pixel}
+use Rattle.edge_select.specs.Logic.{is_within}
 use Rattle.edge_select.specs.Steps.{Lead}
 
 -- first the path, and then the steps
@@ -13,15 +16,19 @@ abbrev pub LeadsThenOn : Size → Path → List Step → (x y u v : ℤ) → Typ
 LeadsThenOn size p steps x y u v = (w : ℤ) × (z : ℤ) × LeadsTo p x y w z × Lead size steps w z u v
 
 -- the pixel is in one of the columns and in one of the rows
-pub record Passes (p : Passing) (x y : ℕ) : Type 0 where
-  pub across : IsIn p.across x
-  pub down : IsIn p.down y
+pub record Passes (r : Rectangle) (x y : ℕ) : Type 0 where
+  pub across : IsIn r.across x
+  pub down : IsIn r.down y
 
-abbrev pub PassesOn : Option Passing → (x y : ℕ) → Type 0
+abbrev pub PassesOn : Option Rectangle → (x y : ℕ) → Type 0
 PassesOn None x y = ⊥
-PassesOn (Some p) x y = Passes p x y
+PassesOn (Some r) x y = Passes r x y
 
 -- columns and rows of a frame
-pub record IsPassing (size : Size) (p : Passing) : Type 0 where
-  pub across : IsInterval size.width p.across
-  pub down : IsInterval size.height p.down
+pub record IsRectangle (size : Size) (r : Rectangle) : Type 0 where
+  pub across : IsInterval size.width r.across
+  pub down : IsInterval size.height r.down
+
+-- in a snapshot the pixel's nets are in the rectangle
+abbrev pub is_in_rectangle : Pixel → Rectangle → Snapshot → Bool
+is_in_rectangle p r s = is_within p.size.width r.across.first r.across.last (net_value s p.column) && is_within p.size.height r.down.first r.down.last (net_value s p.row)

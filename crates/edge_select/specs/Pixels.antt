@@ -1,5 +1,5 @@
 -- The pixel at which an image is, by the nets of its column and row.
-use Rattle.std.specs.Prelude.{◌≡◌, ◌⊎◌, ℕ, suc, ◌+◌, ◌-◌, ◌<◌, IsTrue, Bool, [], ◌∷◌, ◌++◌, length}
+use Rattle.std.specs.Prelude.{◌≡◌, ◌⊎◌, ℕ, ℤ, suc, ◌+◌, ◌-◌, ◌<◌, IsTrue, Bool, List, [], ◌∷◌, ◌++◌, length}
 use Rattle.dk_base.specs.Frames.{column, row}
 use Rattle.dk_base.specs.FrameSizes.{size_of}
 use Rattle.dk_base.specs.Numbers.{bit_count}
@@ -16,6 +16,8 @@ use Rattle.net_build.specs.Draft.{IsNet}
 use Rattle.net_build.specs.Runs.{InEachRun, IsStill}
 use Rattle.net_build.specs.Control.{IsMadeOf, TakesControl, AddsNoReads}
 use Rattle.edge_select.specs.declared.pixel.Pixel.{Pixel}
+use Rattle.edge_select.specs.declared.step.Step.{Step}
+use Rattle.edge_select.specs.Steps.{LeadBy}
 
 -- the netlist has the nets, each with as many bits as the greatest column or row needs
 pub record HasPixel (b : Netlist) (p : Pixel) : Type 0 where
@@ -63,6 +65,18 @@ pub record IsTest (new old : Netlist) (p : Pixel) (passes : (x y : ℕ) → Type
   pub value : InEach new (λ m s. IsOnFrame p s → IsBitOf (passes (net_value s p.column) (net_value s p.row)) (net_value s n))
   pub made_of : (base : Holder → Bool) → IsMadeOf old base (OfNet p.column) → IsMadeOf old base (OfNet p.row) → IsMadeOf new base (OfNet n)
 
+-- the test of the pixels that the steps lead by (dx, dy)
+abbrev pub IsWay : (new old : Netlist) → Pixel → List Step → (dx dy : ℤ) → Net → Type 0
+IsWay new old p steps dx dy n = IsTest new old p (LeadBy (size_of p.size) steps dx dy) n
+
+-- at each pixel where both nets are 1
+abbrev pub WhereBoth : Netlist → Pixel → (n o : Net) → Type 0 → Type 0
+WhereBoth new p n o P = InEach new (λ m s. IsOnFrame p s → net_value s n ≡ 1 → net_value s o ≡ 1 → P)
+
 -- each pixel of a frame passes
 abbrev pub AllPass : (width height : ℕ) → (passes : (x y : ℕ) → Type 0) → Type 0
 AllPass width height passes = (x y : ℕ) → x < width → y < height → passes x y
+
+-- none of its pixels passes
+abbrev pub NonePass : (width height : ℕ) → (passes : (x y : ℕ) → Type 0) → Type 0
+NonePass width height passes = AllPass width height (λ x y. passes x y → ⊥)

@@ -12,15 +12,15 @@ ghost use Rattle.wiring.specs.Clock.{bit};
 ghost use Rattle.net_build.specs.Draft.{IsNet};
 ghost use Rattle.edge_select.specs.Steps.{LeadBy, LeadOn};
 ghost use Rattle.frame_paths.specs.Moves.{IsInterval};
-ghost use Rattle.edge_select.specs.Passes.{IsPassing, PassesOn};
+ghost use Rattle.edge_select.specs.Passes.{IsRectangle, PassesOn, is_in_rectangle};
 ghost use Rattle.net_build.specs.Logic.{AddsLogic, Computes};
 ghost use Rattle.edge_select.specs.Logic.{Tests, IsBit, IsBoth, IsTestNet, is_up_to, is_within};
-ghost use Rattle.edge_select.specs.Pixels.{HasPixel, IsTest, AllPass};
+ghost use Rattle.edge_select.specs.Pixels.{HasPixel, IsTest};
 
-use crate::paths::{Passing, leading_pixels, passing_pixels};
+use crate::paths::{Rectangle, leading_pixels, passing_pixels};
 use crate::pixel::{Pixel, width_for};
 use crate::step::Step;
-use dk_base::{FrameSize, Memory};
+use dk_base::Memory;
 use frame_paths::Interval;
 use net_build::{Builder, gate, number};
 use pointwise_ir::Edge;
@@ -127,29 +127,29 @@ fn test_net(b: &mut Builder, test: Option<Net>) -> Result<Net, Memory>
 }
 
 // The test that a pixel is in one of these columns and in one of these rows.
-fn rectangle_test(b: &mut Builder, pixel: &Pixel, passing: Passing) -> Result<Net, Memory>
+fn rectangle_test(b: &mut Builder, pixel: &Pixel, rectangle: Rectangle) -> Result<Net, Memory>
     requires pixel { HasPixel b.old pixel.now }
-    requires passing { IsPassing (size_of pixel.now.size) passing }
+    requires rectangle { IsRectangle (size_of pixel.now.size) rectangle }
     ensures logic { AddsLogic b.new b.old }
-    ensures test { IfOk result (Computes b.new b.old (pixel.now.column ∷ (pixel.now.row ∷ [])) 1 (λ s. bit (is_within pixel.now.size.width passing.across.first passing.across.last (net_value s pixel.now.column) && is_within pixel.now.size.height passing.down.first passing.down.last (net_value s pixel.now.row)))) }
+    ensures test { IfOk result (Computes b.new b.old (pixel.now.column ∷ (pixel.now.row ∷ [])) 1 (λ s. bit (is_in_rectangle pixel.now rectangle s))) }
 {
-    let across = within(b, pixel.column, pixel.size.width, passing.across)?;
-    let down = within(b, pixel.row, pixel.size.height, passing.down)?;
+    let across = within(b, pixel.column, pixel.size.width, rectangle.across)?;
+    let down = within(b, pixel.row, pixel.size.height, rectangle.down)?;
     let test = both(b, across, down)?;
     let net = test_net(b, test)?;
     Ok(net)
 }
 
 // The test that a pixel is in one of these columns and rows, or the one that none passes.
-fn passing_test(b: &mut Builder, pixel: &Pixel, passing: Option<Passing>) -> Result<Net, Memory>
+fn passing_test(b: &mut Builder, pixel: &Pixel, rectangle: Option<Rectangle>) -> Result<Net, Memory>
     requires pixel { HasPixel b.old pixel.now }
-    requires passing { IfSome passing (λ p. IsPassing (size_of pixel.now.size) p) }
+    requires rectangle { IfSome rectangle (λ r. IsRectangle (size_of pixel.now.size) r) }
     ensures logic { AddsLogic b.new b.old }
-    ensures test { IfOk result (IsTest b.new b.old pixel.now (PassesOn passing)) }
+    ensures test { IfOk result (IsTest b.new b.old pixel.now (PassesOn rectangle)) }
 {
-    match passing {
-        Some(passing) => {
-            let net = rectangle_test(b, pixel, passing)?;
+    match rectangle {
+        Some(rectangle) => {
+            let net = rectangle_test(b, pixel, rectangle)?;
             Ok(net)
         }
         None => {
@@ -165,8 +165,8 @@ pub fn leads(b: &mut Builder, pixel: &Pixel, steps: &[Step]) -> Result<Net, Memo
     ensures logic { AddsLogic b.new b.old }
     ensures test { IfOk result (IsTest b.new b.old pixel.now (LeadOn (size_of pixel.now.size) steps.now)) }
 {
-    let passing = leading_pixels(steps, pixel.size);
-    let net = passing_test(b, pixel, passing)?;
+    let rectangle = leading_pixels(steps, pixel.size);
+    let net = passing_test(b, pixel, rectangle)?;
     Ok(net)
 }
 
@@ -176,16 +176,9 @@ pub fn at(b: &mut Builder, pixel: &Pixel, steps: &[Step], dx: i32, dy: i32) -> R
     ensures logic { AddsLogic b.new b.old }
     ensures test { IfOk result (IsTest b.new b.old pixel.now (LeadBy (size_of pixel.now.size) steps.now dx dy)) }
 {
-    match passing_pixels(steps, pixel.size, dx, dy) {
-        Some(passing) => {
-            let net = rectangle_test(b, pixel, passing)?;
-            Ok(net)
-        }
-        None => {
-            let net = constant_test(b, false)?;
-            Ok(net)
-        }
-    }
+    let rectangle = passing_pixels(steps, pixel.size, dx, dy);
+    let net = passing_test(b, pixel, rectangle)?;
+    Ok(net)
 }
 
 /// The test that a pixel passes exactly where the point that is `dx` columns to the right and `dy` rows down is in the frame.
@@ -198,34 +191,4 @@ pub fn inside(b: &mut Builder, pixel: &Pixel, dx: i32, dy: i32) -> Result<Net, M
     let steps = [Step { edge, dx, dy }];
     let net = at(b, pixel, &steps, dx, dy)?;
     Ok(net)
-}
-
-// Whether the interval has all coordinates of a side.
-fn is_whole(interval: Interval, side: u32) -> bool
-    requires { IsInterval side interval }
-    ensures { IsTrue result ↔ (interval.first ≡ 0) × (side ≤ interval.last + 1) }
-{
-    interval.first == 0 && interval.last + 1 >= side
-}
-
-/// Whether each pixel of a frame of this size, in pixels, passes the test `at` of these steps.
-pub fn is_always(width: u32, height: u32, steps: &[Step], dx: i32, dy: i32) -> bool
-    requires { IsFrame width height }
-    ensures { IsTrue result ↔ AllPass width height (LeadBy (record { width = width; height = height }) steps.now dx dy) }
-{
-    match passing_pixels(steps, FrameSize { width, height }, dx, dy) {
-        Some(passing) => is_whole(passing.across, width) && is_whole(passing.down, height),
-        None => false,
-    }
-}
-
-/// Whether each pixel of a frame of this size, in pixels, passes the test `leads` of these steps.
-pub fn leads_always(width: u32, height: u32, steps: &[Step]) -> bool
-    requires { IsFrame width height }
-    ensures { IsTrue result ↔ AllPass width height (LeadOn (record { width = width; height = height }) steps.now) }
-{
-    match leading_pixels(steps, FrameSize { width, height }) {
-        Some(passing) => is_whole(passing.across, width) && is_whole(passing.down, height),
-        None => false,
-    }
 }

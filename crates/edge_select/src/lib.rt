@@ -2,6 +2,7 @@
 #![tactic(auto)]
 
 mod counters;
+mod extents;
 mod frame_tests;
 mod laws;
 mod paths;
@@ -9,7 +10,8 @@ mod pixel;
 mod step;
 
 pub use counters::position;
-pub use frame_tests::{at, constant_test, inside, is_always, leads, leads_always};
+pub use extents::{Extent, leading, passing};
+pub use frame_tests::{at, constant_test, inside, leads};
 pub use laws::{one_step, one_way, pixels_last, steps_end, steps_lead};
 pub use pixel::Pixel;
 pub use step::Step;

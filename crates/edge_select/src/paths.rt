@@ -7,7 +7,7 @@ ghost use Rattle.dk_base.specs.FrameSizes.{size_of};
 ghost use Rattle.frame_paths.specs.Moves.{Leads, IsIn, IsInOn, IsMoves, IsInterval};
 ghost use Rattle.frame_paths.specs.Paths.{LeadsTo, LeadsToOn, IsPath};
 ghost use Rattle.edge_select.specs.Steps.{Lead, LeadBy, LeadOn};
-ghost use Rattle.edge_select.specs.Passes.{IsPassing, Passes, PassesOn};
+ghost use Rattle.edge_select.specs.Passes.{IsRectangle, Passes, PassesOn};
 
 use crate::step::Step;
 use dk_base::FrameSize;
@@ -15,7 +15,7 @@ use frame_paths::{Interval, Moves, Path};
 
 /// The pixels that are in one of these columns and in one of these rows.
 #[derive(Clone, Copy)]
-pub struct Passing {
+pub struct Rectangle {
     pub across: Interval,
     pub down: Interval,
 }
@@ -36,7 +36,7 @@ fn path_of(steps: &[Step], size: FrameSize) -> Option<Path>
 }
 
 // Both, or None where either is None.
-fn joined(across: Option<Interval>, down: Option<Interval>) -> Option<Passing>
+fn joined(across: Option<Interval>, down: Option<Interval>) -> Option<Rectangle>
     ensures found { IfSome result (λ p. (across ≡ Some p.across) × (down ≡ Some p.down)) }
     ensures passes { (x y : ℕ) → PassesOn result x y ↔ IsInOn across x × IsInOn down y }
 {
@@ -44,15 +44,15 @@ fn joined(across: Option<Interval>, down: Option<Interval>) -> Option<Passing>
         None => None,
         Some(across) => match down {
             None => None,
-            Some(down) => Some(Passing { across, down }),
+            Some(down) => Some(Rectangle { across, down }),
         },
     }
 }
 
 // The pixels that the path leads by exactly `dx` columns to the right and `dy` rows down, or None where there is none.
-fn led_by(path: Path, size: FrameSize, dx: i32, dy: i32) -> Option<Passing>
+fn led_by(path: Path, size: FrameSize, dx: i32, dy: i32) -> Option<Rectangle>
     requires { IsPath (size_of size) path }
-    ensures within { IfSome result (λ p. IsPassing (size_of size) p) }
+    ensures within { IfSome result (λ p. IsRectangle (size_of size) p) }
     ensures passes { (x y : ℕ) → PassesOn result x y ↔ LeadsTo path (pos x) (pos y) (pos x +ℤ dx) (pos y +ℤ dy) }
 {
     let across = path.across.led_by(size.width, dx);
@@ -74,19 +74,19 @@ fn led(moves: Moves, side: u32) -> Interval
 }
 
 // The pixels that go through the path.
-fn led_on(path: Path, size: FrameSize) -> Passing
+fn led_on(path: Path, size: FrameSize) -> Rectangle
     requires { IsPath (size_of size) path }
-    ensures within { IsPassing (size_of size) result }
+    ensures within { IsRectangle (size_of size) result }
     ensures passes { (x y : ℕ) → Passes result x y ↔ (u : ℤ) × (v : ℤ) × LeadsTo path (pos x) (pos y) u v }
 {
     let across = led(path.across, size.width);
     let down = led(path.down, size.height);
-    Passing { across, down }
+    Rectangle { across, down }
 }
 
 /// The pixels that the steps lead somewhere, or None where there is none.
-pub fn leading_pixels(steps: &[Step], size: FrameSize) -> Option<Passing>
-    ensures within { IfSome result (λ p. IsPassing (size_of size) p) }
+pub fn leading_pixels(steps: &[Step], size: FrameSize) -> Option<Rectangle>
+    ensures within { IfSome result (λ p. IsRectangle (size_of size) p) }
     ensures passes { (x y : ℕ) → x < size.width → y < size.height → PassesOn result x y ↔ LeadOn (size_of size) steps.now x y }
 {
     match path_of(steps, size) {
@@ -96,8 +96,8 @@ pub fn leading_pixels(steps: &[Step], size: FrameSize) -> Option<Passing>
 }
 
 /// The pixels that the steps lead by exactly `dx` columns to the right and `dy` rows down, or None where there is none.
-pub fn passing_pixels(steps: &[Step], size: FrameSize, dx: i32, dy: i32) -> Option<Passing>
-    ensures within { IfSome result (λ p. IsPassing (size_of size) p) }
+pub fn passing_pixels(steps: &[Step], size: FrameSize, dx: i32, dy: i32) -> Option<Rectangle>
+    ensures within { IfSome result (λ p. IsRectangle (size_of size) p) }
     ensures passes { (x y : ℕ) → x < size.width → y < size.height → PassesOn result x y ↔ LeadBy (size_of size) steps.now dx dy x y }
 {
     match path_of(steps, size) {

@@ -9,9 +9,12 @@ use Rattle.wiring.specs.declared.netlist.Shape.{Shape}
 use Rattle.wiring.specs.declared.netlist.Update.{Update}
 use Rattle.wiring.specs.Netlist.{Netlist, IsState, update_target}
 use Rattle.net_build.specs.Includes.{Includes}
+use Rattle.net_build.specs.Logic.{AddsLogic}
 use Rattle.net_build.proofs.Parts.{Includes-refl, Includes-trans, at_Begins}
 use Rattle.net_build.proofs.Grown.{length_begins}
-use Rattle.net_build.proofs.Reading.{reads_none, reads_joined, reads_weaker}
+use Rattle.net_build.proofs.Reading.{reads_none, reads_joined, reads_weaker, none_reads}
+use Rattle.net_build.proofs.Standing.{still_wires}
+use Rattle.net_build.proofs.Updating.{but_wires}
 use Rattle.line_buffer.specs.Buffers.{AddsBuffer, is_new}
 
 pub le_is : (a b : ℕ) → a ≤ b → IsTrue (nat_le a b)
@@ -63,6 +66,18 @@ adds_none b = record {
   stops = λ h. h;
   control = λ h. h;
   reads = reads_none b b (is_new b) refl;
+}
+
+pub adds_logic : (new old : Netlist) → AddsLogic new old → AddsBuffer new old []
+adds_logic new old is = record {
+  includes = is.includes;
+  arrays = is.wires.arrays ∙ sym (append-nil old.arrays);
+  updated = λ free but. but_wires new old free is.wires but;
+  only = λ k u low at state. absurd (omega (arith, low, slice_get_within new.updates k u at, ap length is.wires.updates));
+  still = λ free but. still_wires new old free is.includes is.wires but;
+  stops = is.stops;
+  control = is.control;
+  reads = none_reads new old (is_new old) is.reads;
 }
 
 pub adds_as : (c a : Netlist) (shapes other : List Shape) → shapes ≡ other → AddsBuffer c a shapes → AddsBuffer c a other

@@ -11,3 +11,5 @@ pub mod Delayed
 pub mod Indexed
 pub mod Tapping
 pub mod Building
+pub mod Bits
+pub mod Lasting

@@ -2,8 +2,10 @@
 #![tactic(auto)]
 
 mod chains;
+mod laws;
 mod lines;
 mod rings;
 
 pub use chains::chain;
+pub use laws::{buffers_join, buffers_last, exact_bits};
 pub use rings::ring;

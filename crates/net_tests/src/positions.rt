@@ -4,7 +4,7 @@ ghost use Rattle.dk_base.specs.Frames.{IsFrame};
 
 use cycle_sim::{Fill, Sim};
 use dk_base::Memory;
-use edge_select::{Step, at, inside, is_always, position};
+use edge_select::{Extent, Step, at, inside, leading, passing, position};
 use net_build::Builder;
 use netlist::Module;
 use pointwise_ir::Edge;
@@ -156,10 +156,17 @@ fn tests_at_the_edges(rt: HostRuntime) -> Result<(), Fail> {
 }
 
 #[test]
-fn steps_that_lead_each_pixel(rt: HostRuntime) {
-    assert_eq!(rt; is_always(1, 1, &[clamped(9, -9)], 0, 0), true);
+fn how_many_pixels_steps_lead(rt: HostRuntime) {
     assert_eq!(rt;
-        is_always(3, 1, &[clamped(1, 0), unclamped(-1, 0)], 0, 0),
-        false
+        passing(1, 1, &[clamped(9, -9)], 0, 0),
+        Extent::Always
     );
+    assert_eq!(rt;
+        passing(3, 1, &[clamped(1, 0), unclamped(-1, 0)], 0, 0),
+        Extent::Sometimes
+    );
+    assert_eq!(rt; passing(3, 1, &[clamped(1, 0)], 2, 0), Extent::Never);
+    assert_eq!(rt; leading(3, 1, &[clamped(3, 0)]), Extent::Always);
+    assert_eq!(rt; leading(3, 1, &[unclamped(2, 0)]), Extent::Sometimes);
+    assert_eq!(rt; leading(3, 1, &[unclamped(3, 0)]), Extent::Never);
 }

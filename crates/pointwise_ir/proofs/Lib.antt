@@ -5,3 +5,4 @@ pub mod Pictured
 pub mod Chains
 pub mod Rewritten
 pub mod Operated
+pub mod ReadLists

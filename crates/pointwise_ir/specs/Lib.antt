@@ -6,3 +6,4 @@ pub mod Reads
 pub mod Passes
 pub mod Rewritings
 pub mod Operands
+pub mod Stencils

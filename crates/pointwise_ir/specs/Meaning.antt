@@ -1,5 +1,5 @@
 -- The pointwise meaning of programs: each image is a picture, a function of two whole coordinates that is 0 outside the frame.
-use Rattle.std.specs.Prelude.{◌≡◌, ℕ, false, IsTrue, ℤ, pos, ◌+ℤ◌, List, [], ◌∷◌, ◌++◌, length, fold, Some, slice_get, slice_index_or, if◌then◌else◌}
+use Rattle.std.specs.Prelude.{◌≡◌, ℕ, false, IsTrue, ℤ, pos, ◌+ℤ◌, List, [], ◌∷◌, ◌++◌, length, fold, Some, slice_get}
 use Rattle.dk_base.specs.declared.ty.Ty.{Ty}
 use Rattle.dk_base.specs.Types.{IsIn}
 use Rattle.dk_base.specs.Operators.{unary_value, binary_value, scaling_value, conversion_value, select_value}

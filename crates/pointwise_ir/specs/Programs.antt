@@ -3,7 +3,6 @@ use Rattle.std.specs.Prelude.{◌≡◌, ℕ, ◌+◌, ◌≤◌, List, ◌++◌
 use Rattle.std.specs.List.{All}
 use Rattle.dk_base.specs.declared.TheConstants.{MAX_INPUTS, MAX_OUTPUTS, MAX_KEPT_IMAGES, MAX_INLINED_DEPTH}
 use Rattle.dk_base.specs.declared.ty.Ty.{Ty}
-use Rattle.dk_base.specs.declared.ty.Ty.TheVariants.{Unsigned, Signed}
 use Rattle.dk_base.specs.Types.{IsPort}
 use Rattle.dk_base.specs.Frames.{Size, IsFrame}
 use Rattle.dk_base.specs.FrameSizes.{size_of}

@@ -11,7 +11,7 @@ use Rattle.dk_base.specs.Stencils.{numbers, place, IsKept, Ascends, HasWidth, Ar
 use Rattle.pointwise_ir.specs.Programs.{Program, IsProgram, types_of}
 use Rattle.pointwise_ir.specs.Reads.{input}
 use Rattle.pointwise_ir.proofs.Defined.{types_are}
-use Rattle.stencil_sets.specs.Live.{IsKeptImage, AreImages}
+use Rattle.pointwise_ir.specs.Stencils.{IsKeptImage, AreImages}
 use Rattle.stencil_sets.specs.Marks.{IsMarked, AreMarks}
 
 front : {A : Type 0} (xs : List A) (r d : A) (i : ℕ) → i < length xs → slice_index_or (xs ++ r ∷ []) i d ≡ slice_index_or xs i d

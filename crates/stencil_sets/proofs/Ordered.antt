@@ -5,7 +5,8 @@ use Rattle.std.proofs.lemmas.Bool.{cases_order}
 use Rattle.std.proofs.lemmas.List.{length-append}
 use Rattle.dk_base.specs.declared.stencils.LiveRead.{LiveRead}
 use Rattle.dk_base.specs.Stencils.{IsBefore, AreInOrder}
-use Rattle.stencil_sets.specs.Found.{IsThe, Has, AllBefore, the, IsRun, RunSoFar}
+use Rattle.pointwise_ir.specs.Stencils.{IsThe, Has, the}
+use Rattle.stencil_sets.specs.Found.{AllBefore, IsRun, RunSoFar}
 use Rattle.frame_paths.proofs.Chains.{either}
 
 at_front : (xs : List LiveRead) (r d : LiveRead) (i : ℕ) → i < length xs → slice_index_or (xs ++ r ∷ []) i d ≡ slice_index_or xs i d

@@ -9,8 +9,9 @@ use Rattle.pointwise_ir.specs.Programs.{Program, IsProgram, bodies_of}
 use Rattle.pointwise_ir.specs.Reads.{IsLive, Kept}
 use Rattle.stencil_sets.specs.declared.path.Rect.{Rect}
 use Rattle.stencil_sets.specs.Paths.{Covered}
-use Rattle.stencil_sets.specs.Found.{Has, AllBefore, the, Gains, Within}
-use Rattle.stencil_sets.specs.Live.{ReadsAt, IsOfReader, IsReadOf, IsKeptRead, AreReads, AreSome}
+use Rattle.pointwise_ir.specs.Stencils.{Has, the, IsKeptRead, AreReads}
+use Rattle.stencil_sets.specs.Found.{AllBefore, Gains, Within}
+use Rattle.stencil_sets.specs.Live.{ReadsAt, IsOfReader, IsReadOf, AreSome}
 use Rattle.stencil_sets.proofs.Ordered.{all_before_later}
 use Rattle.stencil_sets.proofs.Rows.{IsOnTheWay, way_start, way_end, way_within, way_more}
 use Rattle.stencil_sets.proofs.Marked.{live_of, same_body, mapped_short, read_below}

@@ -7,7 +7,8 @@ use Rattle.dk_base.specs.declared.stencils.LiveRead.{LiveRead}
 use Rattle.dk_base.specs.Stencils.{AreInOrder}
 use Rattle.stencil_sets.specs.declared.path.Rect.{Rect}
 use Rattle.stencil_sets.specs.Paths.{IsNearRect}
-use Rattle.stencil_sets.specs.Found.{Has, AllBefore, the, IsRun, InRows, AllFrom, AreSorted, IsLeft, IsBelow, IsOf, IsAmong, IsBehind, Gains, Within}
+use Rattle.pointwise_ir.specs.Stencils.{Has, the}
+use Rattle.stencil_sets.specs.Found.{AllBefore, IsRun, InRows, AllFrom, AreSorted, IsLeft, IsBelow, IsOf, IsAmong, IsBehind, Gains, Within}
 use Rattle.frame_paths.proofs.Chains.{either}
 use Rattle.stencil_sets.proofs.Ordered.{all_before_later}
 

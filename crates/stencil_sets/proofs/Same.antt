@@ -6,7 +6,7 @@ use Rattle.dk_base.specs.declared.stencils.Image.{Image}
 use Rattle.dk_base.specs.Types.{width_of}
 use Rattle.dk_base.specs.Stencils.{place, Ascends}
 use Rattle.pointwise_ir.specs.Programs.{Program, types_of}
-use Rattle.stencil_sets.specs.Live.{IsKeptImage, AreImages}
+use Rattle.pointwise_ir.specs.Stencils.{IsKeptImage, AreImages}
 use Rattle.stencil_sets.proofs.Marked.{same_body}
 use Rattle.stencil_sets.proofs.Numbered.{no_image, kept_number}
 

@@ -5,7 +5,8 @@ use Rattle.dk_base.specs.declared.stencils.LiveRead.{LiveRead}
 use Rattle.dk_base.specs.Stencils.{AreInOrder}
 use Rattle.stencil_sets.specs.declared.path.Rect.{Rect}
 use Rattle.stencil_sets.specs.Paths.{Covered}
-use Rattle.stencil_sets.specs.Found.{Has, AllBefore, the, Gains, Within}
+use Rattle.pointwise_ir.specs.Stencils.{Has, the}
+use Rattle.stencil_sets.specs.Found.{AllBefore, Gains, Within}
 use Rattle.stencil_sets.specs.Live.{IsByReader, IsOfReader}
 use Rattle.stencil_sets.proofs.Ordered.{all_before_later}
 use Rattle.stencil_sets.proofs.Rows.{IsOnTheWay, way_start, way_end, way_within, way_more}

@@ -12,17 +12,17 @@ use Rattle.pointwise_ir.specs.declared.expr.Edge.TheVariants.{Zero, Clamp}
 use Rattle.pointwise_ir.specs.Trees.{Tree, constant, read, shifted, unary, binary, select, convert, scale}
 use Rattle.pointwise_ir.specs.Programs.{Program, IsProgram}
 use Rattle.pointwise_ir.specs.Reads.{EndsAt, Reads, reached, output}
-use Rattle.stencil_sets.specs.Found.{Has}
-use Rattle.stencil_sets.specs.Live.{IsKeptRead, AreReads, AreSome, AreImages, HasCount}
+use Rattle.pointwise_ir.specs.Stencils.{Has, IsKeptRead, AreReads, AreImages}
+use Rattle.stencil_sets.specs.Live.{AreSome, HasCount}
 use Rattle.frame_paths.proofs.Chains.{IsInside, inside_is, clamped_is}
 use Rattle.frame_paths.proofs.Walks.{both_true}
 use Rattle.stencil_sets.proofs.Marked.{read_below}
 
-record InFrame (size : Size) (x y : ℤ) : Type 0 where
+pub record InFrame (size : Size) (x y : ℤ) : Type 0 where
   pub across : IsInside size.width x
   pub down : IsInside size.height y
 
-in_frame_is : (size : Size) (x y : ℤ) → IsTrue (in_frame size x y) → InFrame size x y
+pub in_frame_is : (size : Size) (x y : ℤ) → IsTrue (in_frame size x y) → InFrame size x y
 in_frame_is size x y t = let b = both_true (is_below x size.width) (is_below y size.height) t in record { across = inside_is size.width x b.0; down = inside_is size.height y b.1 }
 
 clamped_inside : (side : ℕ) (v : ℤ) → 1 ≤ side → IsInside side (clamped side v)
@@ -33,7 +33,7 @@ end_inside size Zero x y u v w h e = let i = in_frame_is size x y e.2 in record 
 end_inside size Clamp x y u v w h e = record { across = subst (IsInside size.width) (sym e.0) (clamped_inside size.width x w); down = subst (IsInside size.height) (sym e.1) (clamped_inside size.height y h) }
 
 -- what is read lies in the frame
-read_inside : (size : Size) → 1 ≤ size.width → 1 ≤ size.height → (e : Tree) (x y : ℤ) (g : ℕ) (u v : ℤ) → Reads size e x y g u v → InFrame size u v
+pub read_inside : (size : Size) → 1 ≤ size.width → 1 ≤ size.height → (e : Tree) (x y : ℤ) (g : ℕ) (u v : ℤ) → Reads size e x y g u v → InFrame size u v
 read_inside size w h (constant c t) x y g u v r = absurd r
 read_inside size w h (read edge i dx dy) x y g u v r = end_inside size edge (x +ℤ dx) (y +ℤ dy) u v w h r.1
 read_inside size w h (shifted edge dx dy b) x y g u v r = read_inside size w h b r.0 r.1 g u v r.3
@@ -46,7 +46,7 @@ read_inside size w h (select c b d) x y g u v (inr (inr r)) = read_inside size w
 read_inside size w h (convert k b t) x y g u v r = read_inside size w h b x y g u v r
 read_inside size w h (scale o b k) x y g u v r = read_inside size w h b x y g u v r
 
-offset_inside : (side : ℕ) (x d : ℤ) → IsInside side x → IsInside side (x +ℤ d) → IsOffset side d
+pub offset_inside : (side : ℕ) (x d : ℤ) → IsInside side x → IsInside side (x +ℤ d) → IsOffset side d
 offset_inside side x d a b =
     let al = a.low in let ah = a.high in let bl = b.low in let bh = b.high in
     record { low = omega (arith, ints, al, ah, bl, bh); high = omega (arith, ints, al, ah, bl, bh) }

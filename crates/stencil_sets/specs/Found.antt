@@ -1,31 +1,18 @@
 -- Live reads as they are found, one after another in order.
-use Rattle.std.specs.Prelude.{◌≡◌, ℕ, ℤ, ◌≤ℤ◌, ◌<ℤ◌, ◌⊎◌, ◌↔◌, List, [], ◌∷◌, length}
+use Rattle.std.specs.Prelude.{◌≡◌, ℕ, ◌+◌, ℤ, ◌≤ℤ◌, ◌<ℤ◌, ◌⊎◌, ◌↔◌, List, [], ◌∷◌, length}
+use Rattle.dk_base.specs.declared.TheConstants.{MAX_COUNTED_READS}
 use Rattle.dk_base.specs.declared.stencils.LiveRead.{LiveRead}
 use Rattle.dk_base.specs.Stencils.{IsBefore, AreInOrder}
+use Rattle.pointwise_ir.specs.Stencils.{Has, the}
 use Rattle.stencil_sets.specs.declared.found.Halt.{Halt}
 use Rattle.stencil_sets.specs.declared.found.Halt.TheVariants.{Full, Memory}
 use Rattle.stencil_sets.specs.declared.path.Rect.{Rect}
 use Rattle.frame_paths.specs.Moves.{IsOffset}
 
--- the read is that of image g by image f at this offset
-pub record IsThe (r : LiveRead) (f g : ℕ) (dx dy : ℤ) : Type 0 where
-  pub reader : r.f ≡ f
-  pub source : r.g ≡ g
-  pub across : r.dx ≡ dx
-  pub down : r.dy ≡ dy
-
--- it is one of these
-abbrev pub Has : List LiveRead → (f g : ℕ) → (dx dy : ℤ) → Type 0
-Has [] f g dx dy = ⊥
-Has (r ∷ rs) f g dx dy = IsThe r f g dx dy ⊎ Has rs f g dx dy
-
 -- all of these stand before it
 abbrev pub AllBefore : List LiveRead → LiveRead → Type 0
 AllBefore [] r = Unit {0}
 AllBefore (a ∷ rs) r = IsBefore a r × AllBefore rs r
-
-abbrev pub the : (f g : ℕ) → (dx dy : ℤ) → LiveRead
-the f g dx dy = record { f = f; g = g; dx = dx; dy = dy }
 
 -- a row of the rectangle has the column offset
 pub record InRow (rect : Rect) (dy dx : ℤ) : Type 0 where
@@ -80,7 +67,7 @@ pub record IsBehind (rect : Rect) (dy next end : ℤ) : Type 0 where
 
 -- more reads than are counted
 abbrev pub Stopped : Halt → List LiveRead → Type 0
-Stopped Full reads = length reads ≡ 65537
+Stopped Full reads = length reads ≡ MAX_COUNTED_READS + 1
 Stopped Memory reads = Unit {0}
 
 -- the new list has what the old one has, and these

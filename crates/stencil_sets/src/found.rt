@@ -1,21 +1,24 @@
 // The live reads of an image, found in order.
 
-ghost use Rattle.std.specs.Prelude.{◌≡◌, ◌≤◌, ◌<◌, ◌^◌, ◌++◌, ◌∷◌, [], ◌⊎◌, ℕ, ℤ, pos, neg_ℤ, ◌+ℤ◌, ◌≤ℤ◌, ◌<ℤ◌, OnOk, IfErr, IfOk, All, OnErr, unsigned_abs, length};
+ghost use Rattle.std.specs.Prelude.{◌≡◌, ◌≤◌, ◌<◌, ◌^◌, ◌++◌, ◌∷◌, [], ◌⊎◌, ℕ, ℤ, ◌+◌, ◌*◌, pos, ◌+ℤ◌, ◌≤ℤ◌, ◌<ℤ◌, OnOk, IfErr, IfOk, All, OnErr, unsigned_abs, length};
+ghost use Rattle.dk_base.specs.declared.TheConstants.{MAX_SIDE};
 ghost use Rattle.dk_base.specs.Stencils.{AreInOrder};
 ghost use Rattle.frame_paths.specs.Moves.{AreNear};
+ghost use Rattle.stencil_sets.specs.declared.found.TheConstants.{FIRST_OFFSET};
 ghost use Rattle.stencil_sets.specs.Paths.{IsNearRect};
-ghost use Rattle.stencil_sets.specs.Found.{AllBefore, the, Stopped, Gains, Within, IsRun, IsLeft, IsBehind, IsAmong, IsOf, AreSorted};
+ghost use Rattle.pointwise_ir.specs.Stencils.{the};
+ghost use Rattle.stencil_sets.specs.Found.{AllBefore, Stopped, Gains, Within, IsRun, IsLeft, IsBehind, IsAmong, IsOf, AreSorted};
 
 use crate::path::Rect;
-use dk_base::LiveRead;
+use dk_base::{LiveRead, MAX_COUNTED_READS};
 
-/// More live reads are counted up to this number.
-pub const MOST_COUNTED: usize = 65_537;
+/// No rectangle begins before this offset: two of the greatest frames to the left, or up.
+pub const FIRST_OFFSET: i32 = -8_192;
 
 /// Why the search for live reads ends early.
 #[derive(Drop)]
 pub enum Halt {
-    /// There are as many as are counted.
+    /// There are more than are counted.
     Full,
     Memory,
 }
@@ -29,7 +32,7 @@ fn push_read(all: &mut Vec<LiveRead>, read: LiveRead) -> Result<(), Halt>
     ensures stopped { IfErr result (λ halt. Stopped halt all.new.items) }
     ensures same { OnErr result (all.new.items ≡ all.old.items) }
 {
-    if all.len() == MOST_COUNTED {
+    if all.len() == MAX_COUNTED_READS + 1 {
         return Err(Halt::Full);
     }
     match all.push(read) {
@@ -94,16 +97,16 @@ fn push_part(
 // The reads of image g by image f in one row of offsets. The rectangles are in the order of their first columns.
 fn push_row(all: &mut Vec<LiveRead>, f: u32, g: u32, dy: i32, rects: &[Rect]) -> Result<(), Halt>
     requires order { AreInOrder all.old.items }
-    requires before { AllBefore all.old.items (the f g (neg_ℤ (pos 8192)) dy) }
+    requires before { AllBefore all.old.items (the f g FIRST_OFFSET dy) }
     requires near { All IsNearRect rects.now }
     requires sorted { AreSorted rects.now }
     ensures order { AreInOrder all.new.items }
-    ensures found { OnOk result (Gains all.old.items all.new.items (λ f' g' dx dy'. IsLeft rects.now f g dy (neg_ℤ (pos 8192)) f' g' dx dy')) }
-    ensures sound { Within all.old.items all.new.items (λ f' g' dx dy'. IsLeft rects.now f g dy (neg_ℤ (pos 8192)) f' g' dx dy') }
+    ensures found { OnOk result (Gains all.old.items all.new.items (λ f' g' dx dy'. IsLeft rects.now f g dy FIRST_OFFSET f' g' dx dy')) }
+    ensures sound { Within all.old.items all.new.items (λ f' g' dx dy'. IsLeft rects.now f g dy FIRST_OFFSET f' g' dx dy') }
     ensures before { OnOk result ((e : ℤ) × AllBefore all.new.items (the f g e dy)) }
     ensures stopped { IfErr result (λ halt. Stopped halt all.new.items) }
 {
-    let mut next = -8192;
+    let mut next = FIRST_OFFSET;
     for rect in rects {
         next = push_part(all, f, g, dy, next, *rect)?;
     }
@@ -115,8 +118,8 @@ fn rows_of(rects: &[Rect]) -> (i32, i32)
     requires near { All IsNearRect rects.now }
     ensures among { All (IsAmong result.0 result.1) rects.now }
     ensures order { result.0 ≤ℤ result.1 }
-    ensures first { unsigned_abs result.0 ≤ 8192 }
-    ensures end { unsigned_abs result.1 ≤ 8193 }
+    ensures first { unsigned_abs result.0 ≤ 2 * MAX_SIDE }
+    ensures end { unsigned_abs result.1 ≤ 2 * MAX_SIDE + 1 }
 {
     let mut first: i32 = 0;
     let mut end: i32 = 0;
@@ -135,7 +138,7 @@ pub(crate) fn push_image(
     rects: &[Rect],
 ) -> Result<(), Halt>
     requires order { AreInOrder all.old.items }
-    requires before { AllBefore all.old.items (the f g (neg_ℤ (pos 8192)) (neg_ℤ (pos 8192))) }
+    requires before { AllBefore all.old.items (the f g FIRST_OFFSET FIRST_OFFSET) }
     requires near { All IsNearRect rects.now }
     requires sorted { AreSorted rects.now }
     ensures order { AreInOrder all.new.items }

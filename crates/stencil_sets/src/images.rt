@@ -4,7 +4,7 @@ ghost use Rattle.std.specs.Prelude.{◌≡◌, ◌++◌, ◌∷◌, [], ◌+◌,
 ghost use Rattle.dk_base.specs.Types.{width_of};
 ghost use Rattle.dk_base.specs.Stencils.{AreKeptImages};
 ghost use Rattle.pointwise_ir.specs.Programs.{types_of};
-ghost use Rattle.stencil_sets.specs.Live.{AreImages};
+ghost use Rattle.pointwise_ir.specs.Stencils.{AreImages};
 ghost use Rattle.stencil_sets.specs.Marks.{AreMarks};
 
 use dk_base::{Image, Memory, Ty};

@@ -6,7 +6,8 @@ ghost use Rattle.dk_base.specs.declared.stencils.Image.{Image};
 ghost use Rattle.dk_base.specs.declared.stencils.LiveRead.{LiveRead};
 ghost use Rattle.dk_base.specs.Stencils.{Parts};
 ghost use Rattle.pointwise_ir.specs.Programs.{Program};
-ghost use Rattle.stencil_sets.specs.Live.{AreImages, AreReads, HasCount, AreStencilsOf};
+ghost use Rattle.pointwise_ir.specs.Stencils.{AreImages, AreReads, AreStencilsOf};
+ghost use Rattle.stencil_sets.specs.Live.{HasCount};
 
 /// A law: a program has one list of kept images and one of live reads in order, and one number of these; and where it has stencils, that number is at most `MAX_LIVE_READS`.
 pub fn one_answer()

@@ -1,8 +1,9 @@
 // The live reads of a program.
 
-ghost use Rattle.std.specs.Prelude.{◌≡◌, ◌≤◌, ◌<◌, IfOk, IfErr, length};
+ghost use Rattle.std.specs.Prelude.{◌≡◌, ◌+◌, ◌≤◌, ◌<◌, IfOk, IfErr, length};
+ghost use Rattle.dk_base.specs.declared.TheConstants.{MAX_COUNTED_READS};
 ghost use Rattle.dk_base.specs.Stencils.{AreKeptImages};
-ghost use Rattle.stencil_sets.specs.Live.{AreReads, AreImages, AreStencilsOf};
+ghost use Rattle.pointwise_ir.specs.Stencils.{AreReads, AreImages, AreStencilsOf};
 ghost use Rattle.stencil_sets.specs.Marks.{AreMarks};
 ghost use Rattle.stencil_sets.specs.Faults.{IsFault};
 
@@ -10,7 +11,7 @@ use crate::found::Halt;
 use crate::images::images_of;
 use crate::kept::kept_images;
 use crate::reads::push_marked;
-use dk_base::{Image, LiveRead, Memory, Stencils};
+use dk_base::{Image, LiveRead, MAX_COUNTED_READS, Memory, Stencils};
 use pointwise_ir::Ir;
 use std::alloc::Global;
 
@@ -24,15 +25,18 @@ pub enum StencilFault {
     Memory,
 }
 
-// How many reads there are, where more than 65,536 are 65,537.
+// How many more than are counted count as.
+const MOST_COUNTED: u32 = MAX_COUNTED_READS as u32 + 1;
+
+// How many reads there are, where more than are counted count as one more than that.
 fn count_of(reads: &[LiveRead]) -> u32
-    ensures few { length reads.now ≤ 65536 → result ≡ length reads.now }
-    ensures many { 65536 < length reads.now → result ≡ 65537 }
+    ensures few { length reads.now ≤ MAX_COUNTED_READS → result ≡ length reads.now }
+    ensures many { MAX_COUNTED_READS < length reads.now → result ≡ MAX_COUNTED_READS + 1 }
 {
-    if reads.len() <= 65_536 {
+    if reads.len() <= MAX_COUNTED_READS {
         reads.len() as u32
     } else {
-        65_537
+        MOST_COUNTED
     }
 }
 
@@ -45,7 +49,9 @@ fn reads_of(alloc: Global, ir: &Ir, kept: &[bool]) -> Result<Vec<LiveRead>, Sten
     let mut all = Vec::new(alloc);
     match push_marked(alloc, ir, kept, &mut all) {
         Ok(()) => Ok(all),
-        Err(Halt::Full) => Err(StencilFault::Reads { count: 65_537 }),
+        Err(Halt::Full) => Err(StencilFault::Reads {
+            count: MOST_COUNTED,
+        }),
         Err(Halt::Memory) => Err(StencilFault::Memory),
     }
 }

@@ -1,11 +1,13 @@
 // The live reads of one image.
 
-ghost use Rattle.std.specs.Prelude.{◌≡◌, ◌≢◌, ◌++◌, ◌∷◌, [], ◌≤◌, ◌<◌, ◌↔◌, ◌⊎◌, ℕ, ℤ, pos, neg_ℤ, OnOk, IfOk, IfErr, All, List, length};
+ghost use Rattle.std.specs.Prelude.{◌≡◌, ◌≢◌, ◌++◌, ◌∷◌, [], ◌≤◌, ◌<◌, ◌↔◌, ◌⊎◌, ℕ, ℤ, OnOk, IfOk, IfErr, All, List, length};
 ghost use Rattle.dk_base.specs.FrameSizes.{size_of};
 ghost use Rattle.dk_base.specs.Stencils.{AreInOrder};
 ghost use Rattle.pointwise_ir.specs.Trees.{tree_of};
+ghost use Rattle.stencil_sets.specs.declared.found.TheConstants.{FIRST_OFFSET};
 ghost use Rattle.stencil_sets.specs.Paths.{IsNearRect, Covered};
-ghost use Rattle.stencil_sets.specs.Found.{AllBefore, the, Stopped, Gains, Within, InRows, AreSorted};
+ghost use Rattle.pointwise_ir.specs.Stencils.{the};
+ghost use Rattle.stencil_sets.specs.Found.{AllBefore, Stopped, Gains, Within, InRows, AreSorted};
 ghost use Rattle.stencil_sets.specs.Live.{ReadsAt, IsByReader, IsOfReader};
 
 use crate::found::{Halt, push_image};
@@ -69,7 +71,7 @@ fn push_source(
     rects: &[Rect],
 ) -> Result<(), Halt>
     requires order { AreInOrder all.old.items }
-    requires before { AllBefore all.old.items (the f g (neg_ℤ (pos 8192)) (neg_ℤ (pos 8192))) }
+    requires before { AllBefore all.old.items (the f g FIRST_OFFSET FIRST_OFFSET) }
     requires near { All IsNearRect rects.now }
     requires sorted { AreSorted rects.now }
     ensures order { AreInOrder all.new.items }
@@ -92,7 +94,7 @@ pub(crate) fn push_reader(
     rects: &[Rect],
 ) -> Result<(), Halt>
     requires order { AreInOrder all.old.items }
-    requires before { AllBefore all.old.items (the f 0 (neg_ℤ (pos 8192)) (neg_ℤ (pos 8192))) }
+    requires before { AllBefore all.old.items (the f 0 FIRST_OFFSET FIRST_OFFSET) }
     requires near { All IsNearRect rects.now }
     requires sorted { AreSorted rects.now }
     ensures order { AreInOrder all.new.items }

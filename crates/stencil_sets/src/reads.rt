@@ -1,11 +1,13 @@
 // The live reads of all kept images.
 
-ghost use Rattle.std.specs.Prelude.{◌≡◌, [], ◌<◌, ◌≤◌, ℕ, ℤ, pos, neg_ℤ, OnOk, IfErr};
+ghost use Rattle.std.specs.Prelude.{◌≡◌, [], ◌<◌, ◌≤◌, ℕ, ℤ, OnOk, IfErr};
 ghost use Rattle.dk_base.specs.FrameSizes.{size_of};
 ghost use Rattle.dk_base.specs.Stencils.{AreInOrder};
 ghost use Rattle.pointwise_ir.specs.Trees.{tree_of};
-ghost use Rattle.stencil_sets.specs.Found.{AllBefore, the, Stopped, Gains, Within};
-ghost use Rattle.stencil_sets.specs.Live.{ReadsAt, IsReadOf, AreReads, AreSome};
+ghost use Rattle.pointwise_ir.specs.Stencils.{the, AreReads};
+ghost use Rattle.stencil_sets.specs.Found.{AllBefore, Stopped, Gains, Within};
+ghost use Rattle.stencil_sets.specs.declared.found.TheConstants.{FIRST_OFFSET};
+ghost use Rattle.stencil_sets.specs.Live.{ReadsAt, IsReadOf, AreSome};
 ghost use Rattle.stencil_sets.specs.Marks.{AreMarks};
 
 use crate::found::Halt;
@@ -23,7 +25,7 @@ fn push_body(
     body: &Expr,
 ) -> Result<(), Halt>
     requires order { AreInOrder all.old.items }
-    requires before { AllBefore all.old.items (the f 0 (neg_ℤ (pos 8192)) (neg_ℤ (pos 8192))) }
+    requires before { AllBefore all.old.items (the f 0 FIRST_OFFSET FIRST_OFFSET) }
     requires earlier { (g : ℕ) (dx dy : ℤ) → ReadsAt (size_of size) (tree_of body.now) g dx dy → g < f }
     ensures order { AreInOrder all.new.items }
     ensures found { OnOk result (Gains all.old.items all.new.items (λ f' g dx dy. IsReadOf (size_of size) (tree_of body.now) f f' g dx dy)) }

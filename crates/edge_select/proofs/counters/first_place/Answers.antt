@@ -1,4 +1,4 @@
-use Rattle.edge_select.proofs.Leading.{place_is}
+use Rattle.edge_select.proofs.Raster.{place_is}
 use Rattle.edge_select.proofs.counters.first_place.Goals as goal
 
 pub returns-clause-column : goal.returns-clause-column

@@ -1,7 +1,8 @@
 use Rattle.std.proofs.Common.{arith, rules, refl, sym, ◌≡◌, ◌≤ℤ◌, ◌+ℤ◌, pos, to_z, of_z, w32, inr, [], ◌∷◌}
 use Rattle.std.proofs.lemmas.Int.{ints, clamps, to_z-of_z}
 use Rattle.std.specs.Int.{int_max}
-use Rattle.stencil_sets.specs.Found.{the, IsRun, IsLeft}
+use Rattle.pointwise_ir.specs.Stencils.{the}
+use Rattle.stencil_sets.specs.Found.{IsRun, IsLeft}
 use Rattle.frame_paths.proofs.Spreads.{small32}
 use Rattle.stencil_sets.proofs.Ordered.{all_before_later}
 use Rattle.stencil_sets.proofs.Rows.{gains_as, within_as, run_is, behind_run, gains_run, within_run, before_at}

@@ -1,0 +1,8 @@
+use Rattle.line_buffer.proofs.Lasting.{buffer_more, buffer_made_more}
+use Rattle.line_buffer.proofs.laws.buffers_last.Goals as goal
+
+pub returns-clause-buffer : goal.returns-clause-buffer
+returns-clause-buffer c = buffer_more
+
+pub returns-clause-made : goal.returns-clause-made
+returns-clause-made c = buffer_made_more
