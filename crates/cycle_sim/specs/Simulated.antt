@@ -1,7 +1,8 @@
 -- A netlist in a simulator.
-use Rattle.std.specs.Prelude.{◌≡◌, ℕ, ◌+◌, List, length, take, drop, map}
+use Rattle.std.specs.Prelude.{◌≡◌, ℕ, ◌+◌, Bool, List, length, take, drop, map}
 use Rattle.wiring.specs.Netlist.{Netlist}
 use Rattle.wiring.specs.Snapshot.{Contents, Snapshot, accesses}
+use Rattle.wiring.specs.Clock.{Clock, given, Steps, Stops}
 use Rattle.wiring.specs.Order.{IsEvaluationOrder}
 use Rattle.wiring.specs.Rules.{KeepsRules}
 use Rattle.cycle_sim.specs.declared.machine.Program.{Program}
@@ -15,6 +16,17 @@ use Rattle.cycle_sim.specs.Ready.{IsReady, ArraysFit}
 pub record Machine : Type 0 where
   pub netlist : Netlist
   pub contents : Contents
+
+abbrev pub clock : (reset enable : Bool) (dins : List ℕ) → Clock
+clock reset enable dins = record { reset = reset; enable = enable; dins = dins }
+
+-- a clock takes a machine on, with this snapshot before its edge
+abbrev pub GoesOn : (old : Machine) → Clock → Snapshot → (new : Machine) → Type 0
+GoesOn old c s new = Steps old.netlist old.contents (given old.netlist c) s new.contents
+
+-- a clock stops it, with this index of this array as the first that is outside
+abbrev pub StopsIn : Machine → Clock → (array index : ℕ) → Type 0
+StopsIn old c array index = Stops old.netlist old.contents (given old.netlist c) array index
 
 abbrev pub contents_of : Netlist → List ℕ → List (List ℕ) → Contents
 contents_of m values words = record { regs = drop (length m.inputs + length m.outputs + length m.wires) values; arrays = words }

@@ -2,10 +2,10 @@
 
 ghost use Rattle.std.specs.Prelude.{◌≡◌, ℕ, Err, ◌<◌, ◌+◌, ◌*◌, [], ◌∷◌, true, length, IsTrue, OnOk, IfOk, IfErr, OnErr};
 ghost use Rattle.wiring.specs.Snapshot.{Snapshot, Fit, HasOneSnapshot, HasOneNext, HasPlaces, FitsContents};
-ghost use Rattle.wiring.specs.Clock.{given, Steps, Stops};
 ghost use Rattle.cycle_sim.specs.Slots.{all_values, all_widths};
 ghost use Rattle.cycle_sim.specs.Ports.{din_widths, IsShown, AreShown};
 ghost use Rattle.cycle_sim.specs.Filled.{filled_contents};
+ghost use Rattle.cycle_sim.specs.Simulated.{GoesOn, StopsIn, clock};
 
 use crate::circuit::Circuit;
 use crate::edge::IndexRange;
@@ -79,9 +79,9 @@ impl Sim {
         requires dins { Fit (din_widths self.old.netlist) dins.now }
         requires outs { length self.old.netlist.outputs ≡ 2 * length outs.old }
         ensures netlist { self.new.netlist ≡ self.old.netlist }
-        ensures ok { OnOk result ((s : Snapshot) × Steps self.old.netlist self.old.contents (given self.old.netlist (record { reset = reset; enable = enable; dins = dins.now })) s self.new.contents × AreShown s outs.new) }
-        ensures stops { IfErr result (λ r. Stops self.old.netlist self.old.contents (given self.old.netlist (record { reset = reset; enable = enable; dins = dins.now })) r.array r.index) }
-        ensures only { (x i : ℕ) → Stops self.old.netlist self.old.contents (given self.old.netlist (record { reset = reset; enable = enable; dins = dins.now })) x i → result ≡ Err (record { array = x; index = i }) }
+        ensures ok { OnOk result ((s : Snapshot) × GoesOn self.old (clock reset enable dins.now) s self.new × AreShown s outs.new) }
+        ensures stops { IfErr result (λ r. StopsIn self.old (clock reset enable dins.now) r.array r.index) }
+        ensures only { (x i : ℕ) → StopsIn self.old (clock reset enable dins.now) x i → result ≡ Err (record { array = x; index = i }) }
         ensures err { OnErr result (self.new ≡ self.old) }
         ensures outs { OnErr result (outs.new ≡ outs.old) }
     {
@@ -106,9 +106,9 @@ impl Sim {
         requires dins { Fit (din_widths self.old.netlist) dins.now }
         requires output { 2 * output + 1 < length self.old.netlist.outputs }
         ensures netlist { self.new.netlist ≡ self.old.netlist }
-        ensures ok { IfOk result (λ out. (s : Snapshot) × Steps self.old.netlist self.old.contents (given self.old.netlist (record { reset = reset; enable = enable; dins = dins.now })) s self.new.contents × IsShown s output out) }
-        ensures stops { IfErr result (λ r. Stops self.old.netlist self.old.contents (given self.old.netlist (record { reset = reset; enable = enable; dins = dins.now })) r.array r.index) }
-        ensures only { (x i : ℕ) → Stops self.old.netlist self.old.contents (given self.old.netlist (record { reset = reset; enable = enable; dins = dins.now })) x i → result ≡ Err (record { array = x; index = i }) }
+        ensures ok { IfOk result (λ out. (s : Snapshot) × GoesOn self.old (clock reset enable dins.now) s self.new × IsShown s output out) }
+        ensures stops { IfErr result (λ r. StopsIn self.old (clock reset enable dins.now) r.array r.index) }
+        ensures only { (x i : ℕ) → StopsIn self.old (clock reset enable dins.now) x i → result ≡ Err (record { array = x; index = i }) }
         ensures err { OnErr result (self.new ≡ self.old) }
     {
         match self.circuit.settle(reset, enable, dins) {
@@ -126,9 +126,9 @@ impl Sim {
         requires din { Fit (din_widths self.old.netlist) (din ∷ []) }
         requires one { length self.old.netlist.outputs ≡ 2 }
         ensures netlist { self.new.netlist ≡ self.old.netlist }
-        ensures ok { IfOk result (λ out. (s : Snapshot) × Steps self.old.netlist self.old.contents (given self.old.netlist (record { reset = reset; enable = enable; dins = din ∷ [] })) s self.new.contents × IsShown s 0 out) }
-        ensures stops { IfErr result (λ r. Stops self.old.netlist self.old.contents (given self.old.netlist (record { reset = reset; enable = enable; dins = din ∷ [] })) r.array r.index) }
-        ensures only { (x i : ℕ) → Stops self.old.netlist self.old.contents (given self.old.netlist (record { reset = reset; enable = enable; dins = din ∷ [] })) x i → result ≡ Err (record { array = x; index = i }) }
+        ensures ok { IfOk result (λ out. (s : Snapshot) × GoesOn self.old (clock reset enable (din ∷ [])) s self.new × IsShown s 0 out) }
+        ensures stops { IfErr result (λ r. StopsIn self.old (clock reset enable (din ∷ [])) r.array r.index) }
+        ensures only { (x i : ℕ) → StopsIn self.old (clock reset enable (din ∷ [])) x i → result ≡ Err (record { array = x; index = i }) }
         ensures err { OnErr result (self.new ≡ self.old) }
     {
         self.step_output(reset, enable, &[din], 0)
@@ -139,9 +139,9 @@ impl Sim {
         requires din { Fit (din_widths self.old.netlist) (din ∷ []) }
         requires one { length self.old.netlist.outputs ≡ 2 }
         ensures netlist { self.new.netlist ≡ self.old.netlist }
-        ensures ok { IfOk result (λ out. (s : Snapshot) × Steps self.old.netlist self.old.contents (given self.old.netlist (record { reset = reset; enable = true; dins = din ∷ [] })) s self.new.contents × IsShown s 0 out) }
-        ensures stops { IfErr result (λ r. Stops self.old.netlist self.old.contents (given self.old.netlist (record { reset = reset; enable = true; dins = din ∷ [] })) r.array r.index) }
-        ensures only { (x i : ℕ) → Stops self.old.netlist self.old.contents (given self.old.netlist (record { reset = reset; enable = true; dins = din ∷ [] })) x i → result ≡ Err (record { array = x; index = i }) }
+        ensures ok { IfOk result (λ out. (s : Snapshot) × GoesOn self.old (clock reset true (din ∷ [])) s self.new × IsShown s 0 out) }
+        ensures stops { IfErr result (λ r. StopsIn self.old (clock reset true (din ∷ [])) r.array r.index) }
+        ensures only { (x i : ℕ) → StopsIn self.old (clock reset true (din ∷ [])) x i → result ≡ Err (record { array = x; index = i }) }
         ensures err { OnErr result (self.new ≡ self.old) }
     {
         self.step_enabled(reset, true, din)
@@ -166,9 +166,9 @@ impl Sim {
         requires dins { Fit (din_widths self.old.netlist) dins.now }
         requires seen { length seen.old ≡ length (all_widths self.old.netlist) }
         ensures netlist { self.new.netlist ≡ self.old.netlist }
-        ensures ok { OnOk result ((s : Snapshot) × Steps self.old.netlist self.old.contents (given self.old.netlist (record { reset = reset; enable = enable; dins = dins.now })) s self.new.contents × (seen.new ≡ all_values s)) }
-        ensures stops { IfErr result (λ r. Stops self.old.netlist self.old.contents (given self.old.netlist (record { reset = reset; enable = enable; dins = dins.now })) r.array r.index) }
-        ensures only { (x i : ℕ) → Stops self.old.netlist self.old.contents (given self.old.netlist (record { reset = reset; enable = enable; dins = dins.now })) x i → result ≡ Err (record { array = x; index = i }) }
+        ensures ok { OnOk result ((s : Snapshot) × GoesOn self.old (clock reset enable dins.now) s self.new × (seen.new ≡ all_values s)) }
+        ensures stops { IfErr result (λ r. StopsIn self.old (clock reset enable dins.now) r.array r.index) }
+        ensures only { (x i : ℕ) → StopsIn self.old (clock reset enable dins.now) x i → result ≡ Err (record { array = x; index = i }) }
         ensures err { OnErr result (self.new ≡ self.old) }
         ensures seen { OnErr result (seen.new ≡ seen.old) }
     {

@@ -89,7 +89,7 @@ module _ (a b : Netlist) (n : Net) where
 
   pub choose_over : (c x y : Signal) (o p q : Atom Net) → o ≡ atom_of c → p ≡ atom_of x → q ≡ atom_of y → IsNetOf a b (Choose o p q) n → IsMadeOver b (signal.Net n) (c ∷ (x ∷ (y ∷ [])))
   choose_over c x y o p q d e f h = record {
-    made = λ m base more is. h.made_of m base more (All-append (IsMadeOf m base) (atom_reads o) (atom_reads p ++ atom_reads q) (reads_made m base c o d is.0) (both_made m base x y p q e f is.1.0 is.1.1.0));
+    made = λ m base more is. h.made_of m base more (All-append (IsMadeOf m base) (atom_reads o ++ atom_reads p) (atom_reads q) (both_made m base c x o p d e is.0 is.1.0) (reads_made m base y q f is.1.1.0));
   }
 
   pub repeat_over : (x : Signal) (p : Atom Net) (k : ℕ) → p ≡ atom_of x → IsNetOf a b (Repeat k p) n → IsMadeOver b (signal.Net n) (x ∷ [])

@@ -60,7 +60,7 @@ pub nets_alone : (r : Right Net ℕ) → right_accesses r ≡ [] → (x : ℕ) �
 nets_alone (Copy a) e x c = atom_nets_alone a x c
 nets_alone (Not a) e x c = atom_nets_alone a x c
 nets_alone (Binary o a b) e x c = two_alone a b x c
-nets_alone (Choose i a b) e x c = elim (Contains-append_cases (atom_reads i) (atom_reads a ++ atom_reads b) (OfArray x) c) as (λ _. ⊥) [ inl h ↦ atom_nets_alone i x h | inr h ↦ two_alone a b x h ]
+nets_alone (Choose i a b) e x c = elim (Contains-append_cases (atom_reads i ++ atom_reads a) (atom_reads b) (OfArray x) c) as (λ _. ⊥) [ inl h ↦ two_alone i a x h | inr h ↦ atom_nets_alone b x h ]
 nets_alone (Join a b) e x c = two_alone a b x c
 nets_alone (Repeat n a) e x c = atom_nets_alone a x c
 nets_alone (Bit v k) e x c = atom_nets_alone (atom.Net v) x c

@@ -1,7 +1,7 @@
 -- Of what nets are made through assigns, and registers that take in nothing of what came in.
 use Rattle.std.specs.Prelude.{◌≡◌, ◌==◌, ◌≤◌, ℕ, Some, slice_get, length, Bool, true, false, IsTrue, nat_lt, if◌then◌else◌, All, Contains}
 use Rattle.std.specs.List.{list_any}
-use Rattle.wiring.specs.declared.right.Atom.{Atom}
+use Rattle.std.specs.Option.{option_to_list}
 use Rattle.wiring.specs.declared.right.Right.{Right}
 use Rattle.wiring.specs.declared.netlist.Net.{Net}
 use Rattle.wiring.specs.declared.netlist.Net.TheVariants.{Input, Output, Wire, Reg}
@@ -12,7 +12,7 @@ use Rattle.wiring.specs.declared.netlist.Update.{Update}
 use Rattle.wiring.specs.declared.netlist.Update.TheVariants.{Set, Put}
 use Rattle.wiring.specs.Netlist.{Netlist}
 use Rattle.wiring.specs.BufferBits.{atom_reads, right_reads}
-use Rattle.wiring.specs.Snapshot.{right_accesses}
+use Rattle.wiring.specs.Rights.{array_of}
 
 -- made of these nets and arrays alone: one of them, or driven by what is made of them alone
 pub data IsMadeOf (m : Netlist) (base : Holder → Bool) : Holder → Type 0 where
@@ -42,7 +42,7 @@ pub record IsControlled (b : Netlist) : Type 0 where
 
 -- the right side reads this array
 abbrev pub reads_array : Right Net ℕ → ℕ → Bool
-reads_array r x = list_any (λ (a : ℕ × Atom Net). a.0 == x) (right_accesses r)
+reads_array r x = list_any (λ (a : ℕ). a == x) (option_to_list (array_of r))
 
 -- the assigns that the new netlist has more read no array but these
 pub record AddsReads (new old : Netlist) (arrays : ℕ → Bool) : Type 0 where

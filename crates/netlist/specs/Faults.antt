@@ -1,8 +1,8 @@
 -- The first net fault of the parts of a text, in the order of the passes.
 use Rattle.std.specs.Prelude.{◌≡◌, ℕ, zero, suc, ◌+◌, ◌<◌, Bool, true, false, if◌then◌else◌, List, [], ◌∷◌, ◌++◌, length, map, slice_get, Some, All, codes, IsSome}
 use Rattle.std.specs.List.{AllZip}
+use Rattle.std.specs.Option.{option_to_list}
 use Rattle.wiring.specs.declared.right.Right.{Right}
-use Rattle.wiring.specs.declared.right.Right.TheVariants.{Copy, Not, Binary, Choose, Join, Repeat, Bit, Slice, Word}
 use Rattle.wiring.specs.declared.netlist.Net.{Net}
 use Rattle.wiring.specs.declared.netlist.Net.TheVariants.{Input, Output, Wire, Reg}
 use Rattle.wiring.specs.declared.netlist.Assign.{Assign}
@@ -10,7 +10,7 @@ use Rattle.wiring.specs.declared.netlist.Update.{Update}
 use Rattle.wiring.specs.declared.netlist.Update.TheVariants.{Set, Put}
 use Rattle.wiring.specs.declared.netlist.Holder.{Holder}
 use Rattle.wiring.specs.declared.netlist.Holder.TheVariants.{OfNet, OfArray}
-use Rattle.wiring.specs.Rights.{nets_of, atom_nets, atom_width, right_width}
+use Rattle.wiring.specs.Rights.{array_of, nets_of, atom_nets, atom_width, right_width}
 use Rattle.wiring.specs.Netlist.{Netlist, net_width, word_width, IsDriven, update_target}
 use Rattle.wiring.specs.Tables.{IsSecond, assign_target}
 use Rattle.wiring.specs.Order.{DependsOn, IsAcyclic}
@@ -87,15 +87,7 @@ abbrev pub AllKnown : List Entry → List (List ℕ) → Type 0
 AllKnown scope names = All (λ n. IsSome (stands_for scope n)) names
 
 abbrev pub array_names : Right (List ℕ) (List ℕ) → List (List ℕ)
-array_names (Copy a) = []
-array_names (Not a) = []
-array_names (Binary o a b) = []
-array_names (Choose c a b) = []
-array_names (Join a b) = []
-array_names (Repeat n a) = []
-array_names (Bit v k) = []
-array_names (Slice v m l) = []
-array_names (Word m i) = m ∷ []
+array_names r = option_to_list (array_of r)
 
 abbrev pub assign_names : NamedAssign → List (List ℕ)
 assign_names a = a.target ∷ (array_names a.right ++ nets_of a.right)

@@ -1,6 +1,7 @@
 -- The end of a list of ports, from the outputs, the dins or the enable on.
 use Rattle.std.specs.Prelude.{◌≤◌, ℕ, ◌+◌, Bool, true, if◌then◌else◌, List, [], ◌∷◌, ◌++◌, codes}
 use Rattle.std.specs.List.{AllZip}
+use Rattle.wiring.specs.declared.TheConstants.{MOST_PORTS}
 use Rattle.wiring.specs.Rules.{IsPortCount}
 use Rattle.netlist.specs.declared.parts.Port.{Port}
 use Rattle.netlist.specs.declared.parts.Direction.TheVariants.{Input as Takes}
@@ -13,7 +14,7 @@ din_rule k = record { direction = Takes; name = numbered (codes "din") k; wide =
 -- from the output of this number on
 pub record AreOutputs (ports : List Port) (number : ℕ) : Type 0 where
   pub count : ℕ
-  pub few : number + count ≤ 8
+  pub few : number + count ≤ MOST_PORTS
   pub fit : AllZip FitsRule ports (output_rules number count)
 
 -- from the din of this number on

@@ -1,9 +1,9 @@
 // What the definitions say together.
 
 ghost use Rattle.std.specs.Prelude.{◌≡◌, ◌<◌, ◌^◌, ◌⊎◌, ℕ, List};
-ghost use Rattle.dk_base.specs.declared.TheConstants.{MAX_NAME_BYTES, MAX_WIDTH, MAX_BUFFER_BITS};
+ghost use Rattle.dk_base.specs.declared.TheConstants.{MAX_NAME_BYTES, MAX_WIDTH, MAX_PORT_WIDTH, MAX_INPUTS, MAX_OUTPUTS, MAX_BUFFER_BITS};
 ghost use Rattle.net_names.specs.declared.TheConstants.{MOST_NAME_BYTES};
-ghost use Rattle.wiring.specs.declared.TheConstants.{MOST_BITS, MOST_WORDS};
+ghost use Rattle.wiring.specs.declared.TheConstants.{MOST_BITS, MOST_WORDS, MOST_PORT_BITS, MOST_PORTS};
 ghost use Rattle.wiring.specs.Netlist.{Netlist, net_width, IsDeclared};
 ghost use Rattle.wiring.specs.declared.netlist.Net.{Net};
 ghost use Rattle.wiring.specs.Order.{IsEvaluationOrder};
@@ -44,9 +44,12 @@ pub fn rules_kept()
     ensures names { (p : Parts) (m : NamedNetlist) → NamesAre p → IsModuleOf p m → HasNames m.netlist m.names }
 {}
 
-/// A law: the greatest name, width and array are those of the limits.
+/// A law: the greatest name, width and array, and the most and widest ports, are those of the limits.
 pub fn bounds_are_limits()
     ensures name { MOST_NAME_BYTES ≡ MAX_NAME_BYTES }
     ensures width { MOST_BITS ≡ MAX_WIDTH }
     ensures words { MOST_WORDS ≡ MAX_BUFFER_BITS }
+    ensures port_width { MOST_PORT_BITS ≡ MAX_PORT_WIDTH }
+    ensures inputs { MOST_PORTS ≡ MAX_INPUTS }
+    ensures outputs { MOST_PORTS ≡ MAX_OUTPUTS }
 {}

@@ -2,13 +2,14 @@
 
 ghost use Rattle.std.specs.Prelude.{◌≡◌, ◌<◌, ◌≤◌, IsTrue, OnOk, IfErr};
 ghost use Rattle.net_names.specs.Words.{same_codes};
+ghost use Rattle.wiring.specs.declared.TheConstants.{MOST_PORTS};
 ghost use Rattle.netlist.specs.Names.{numbered};
 ghost use Rattle.netlist.specs.Faults.{FitsRule, HasRuleWidth, PortsFit, NamesDiffer, PassesPorts, IsFault};
 ghost use Rattle.netlist.specs.Profile.{din_rule, AreOutputs, AreFromDins, AreFromEnable};
 
 use crate::fault::NetFault;
 use crate::parts::{Direction, Parts, Port};
-use wiring::Width;
+use wiring::{MOST_PORT_BITS, MOST_PORTS, Width};
 
 /// Whether the bytes are the same.
 pub(crate) fn same(left: &[u8], right: &[u8]) -> bool
@@ -18,7 +19,7 @@ pub(crate) fn same(left: &[u8], right: &[u8]) -> bool
 }
 
 fn is_numbered(name: &[u8], word: &[u8], number: usize) -> bool
-    requires { number < 8 }
+    requires { number < MOST_PORTS }
     ensures yes { IsTrue result → name.now ≡ numbered word.now number }
     ensures no { name.now ≡ numbered word.now number → IsTrue result }
 {
@@ -41,12 +42,16 @@ fn has_rule_width(width: Width, wide: bool) -> bool
     ensures no { HasRuleWidth wide width → IsTrue result }
 {
     let bits = width.bits();
-    if wide { bits <= 16 } else { bits == 1 }
+    if wide {
+        bits <= MOST_PORT_BITS
+    } else {
+        bits == 1
+    }
 }
 
 // Whether this is the port of the number with this word, 1 bit wide where it may not be wide.
 fn fits(port: &Port, direction: Direction, word: &[u8], number: usize, wide: bool) -> bool
-    requires { number < 8 }
+    requires { number < MOST_PORTS }
     ensures yes { IsTrue result → FitsRule port.now (record { direction = direction; name = numbered word.now number; wide = wide }) }
     ensures no { FitsRule port.now (record { direction = direction; name = numbered word.now number; wide = wide }) → IsTrue result }
 {
@@ -61,7 +66,7 @@ fn fits(port: &Port, direction: Direction, word: &[u8], number: usize, wide: boo
 
 // Whether these are outputs, a valid and a dout each, from this number on.
 fn are_outputs(ports: &[Port], number: usize) -> bool
-    requires { number ≤ 8 }
+    requires { number ≤ MOST_PORTS }
     ensures yes { IsTrue result → AreOutputs ports.now number }
     ensures no { AreOutputs ports.now number → IsTrue result }
 {
@@ -71,7 +76,7 @@ fn are_outputs(ports: &[Port], number: usize) -> bool
     let Some((dout, more)) = rest.split_first() else {
         return false;
     };
-    if number >= 8 {
+    if number >= MOST_PORTS {
         return false;
     }
     if !fits(valid, Direction::Output, b"valid", number, false) {
@@ -84,10 +89,10 @@ fn are_outputs(ports: &[Port], number: usize) -> bool
 }
 
 fn is_din(port: &Port, number: usize) -> bool
-    ensures yes { IsTrue result → (number < 8) × FitsRule port.now (din_rule number) }
-    ensures no { number < 8 → FitsRule port.now (din_rule number) → IsTrue result }
+    ensures yes { IsTrue result → (number < MOST_PORTS) × FitsRule port.now (din_rule number) }
+    ensures no { number < MOST_PORTS → FitsRule port.now (din_rule number) → IsTrue result }
 {
-    if number >= 8 {
+    if number >= MOST_PORTS {
         return false;
     }
     fits(port, Direction::Input, b"din", number, true)
@@ -95,7 +100,7 @@ fn is_din(port: &Port, number: usize) -> bool
 
 // Whether these are dins from this number on, and outputs behind them.
 fn are_from_dins(ports: &[Port], number: usize) -> bool
-    requires { number ≤ 8 }
+    requires { number ≤ MOST_PORTS }
     ensures yes { IsTrue result → AreFromDins ports.now number }
     ensures no { AreFromDins ports.now number → IsTrue result }
 {

@@ -3,8 +3,7 @@ use Rattle.std.proofs.Common.{◌≡◌, ℕ, zero, suc, ◌+◌, ◌-◌, ◌<�
 use Rattle.std.specs.Prelude.{slice_get, Contains}
 use Rattle.std.specs.Option.{option_and_then}
 use Rattle.std.proofs.lemmas.List.Elements.{Contains-append_left, Contains-append_right, Contains-append_cases}
-use Rattle.std.proofs.lemmas.Option.{same_Some, slice_get_within, option_and_then_some, none-some}
-use Rattle.std.proofs.lemmas.Bool.Decides.{nat_tests}
+use Rattle.std.proofs.lemmas.Option.{same_Some, slice_get_within, slice_get_past, option_and_then_some, none-some}
 use Rattle.wiring.specs.declared.right.Atom.{Atom}
 use Rattle.wiring.specs.declared.right.Atom.TheVariants as atom
 use Rattle.wiring.specs.declared.right.Right.{Right}
@@ -15,8 +14,8 @@ use Rattle.wiring.specs.declared.order.Mark.{Mark}
 use Rattle.wiring.specs.declared.order.Mark.TheVariants.{New, Open, Done}
 use Rattle.wiring.specs.declared.order.Visit.{Visit}
 use Rattle.wiring.specs.declared.drivers.Drivers.{Drivers}
-use Rattle.wiring.specs.Rights.{nets_of, atom_nets}
-use Rattle.wiring.specs.Order.{Feeds, FeedsAt, net_in, first_net, second_net, third_net, reads_at, driver_at_of}
+use Rattle.wiring.specs.Rights.{operands, nets_of, atom_nets}
+use Rattle.wiring.specs.Order.{Feeds, FeedsAt, net_in, reads_at, driver_at_of}
 use Rattle.wiring.specs.Tables.{driver_of, IsTable}
 use Rattle.wiring.specs.Moves.{new_count, path_weight}
 use Rattle.wiring.proofs.Lists.{at_one}
@@ -36,7 +35,7 @@ atom_in (atom.Net m) n c = single m n c
     single m n (suc k, l, e) = absurd (omega (arith, l))
 atom_in (atom.Constant c) n (k, l, e) = absurd (omega (arith, l))
 
-first_in : (r : Right Net ℕ) (n : Net) → first_net r ≡ Some n → Contains (nets_of r) n
+first_in : (r : Right Net ℕ) (n : Net) → reads_at r 0 ≡ Some n → Contains (nets_of r) n
 first_in (Copy a) n e = in_atom a n e
 first_in (Not a) n e = in_atom a n e
 first_in (Binary o a b) n e = Contains-append_left (atom_nets a) (atom_nets b) n (in_atom a n e)
@@ -47,19 +46,30 @@ first_in (Bit v k) n e = subst (λ (x : Net). Contains (v ∷ []) x) (same_Some 
 first_in (Slice v m l) n e = subst (λ (x : Net). Contains (v ∷ []) x) (same_Some v n e) (one v)
 first_in (Word m i) n e = in_atom i n e
 
-second_in : (r : Right Net ℕ) (n : Net) → second_net r ≡ Some n → Contains (nets_of r) n
+second_in : (r : Right Net ℕ) (n : Net) → reads_at r 1 ≡ Some n → Contains (nets_of r) n
 second_in (Binary o a b) n e = Contains-append_right (atom_nets a) (atom_nets b) n (in_atom b n e)
 second_in (Choose c a b) n e = Contains-append_left (atom_nets c ++ atom_nets a) (atom_nets b) n (Contains-append_right (atom_nets c) (atom_nets a) n (in_atom a n e))
 second_in (Join a b) n e = Contains-append_right (atom_nets a) (atom_nets b) n (in_atom b n e)
 second_in r n e = cc
 
-third_in : (r : Right Net ℕ) (n : Net) → third_net r ≡ Some n → Contains (nets_of r) n
+third_in : (r : Right Net ℕ) (n : Net) → reads_at r 2 ≡ Some n → Contains (nets_of r) n
 third_in (Choose c a b) n e = Contains-append_right (atom_nets c ++ atom_nets a) (atom_nets b) n (in_atom b n e)
 third_in r n e = cc
 
 -- there are three places
-reads_past : (r : Right Net ℕ) (i : ℕ) → 3 ≤ i → reads_at r i ≡ None
-reads_past r i l = grind (arith, nat_tests)
+pub reads_past : (r : Right Net ℕ) (i : ℕ) → 3 ≤ i → reads_at r i ≡ None
+reads_past r i l = ap (option_and_then net_in) (slice_get_past (operands r) i (omega (arith, l, few r)))
+  where
+    few : (r : Right Net ℕ) → length (operands r) ≤ 3
+    few (Copy a) = omega arith
+    few (Not a) = omega arith
+    few (Binary o a b) = omega arith
+    few (Choose c a b) = omega arith
+    few (Join a b) = omega arith
+    few (Repeat n a) = omega arith
+    few (Bit v k) = omega arith
+    few (Slice v m l) = omega arith
+    few (Word m i) = omega arith
 
 -- what stands at a place is read
 reads_in : (r : Right Net ℕ) (place : ℕ) (n : Net) → reads_at r place ≡ Some n → Contains (nets_of r) n

@@ -1,16 +1,17 @@
 -- The buffer bits of a netlist: those of all arrays, and of each register that takes in what came in.
 use Rattle.std.specs.Prelude.{◌≡◌, ◌↔◌, ℕ, ◌+◌, ◌*◌, ◌<◌, ◌≤◌, Bool, false, IsTrue, if◌then◌else◌, List, [], ◌∷◌, ◌++◌, length, slice_index_or, Contains}
 use Rattle.std.specs.Prelude.{map}
+use Rattle.std.specs.Option.{option_to_list}
 use Rattle.wiring.specs.declared.right.Atom.{Atom}
 use Rattle.wiring.specs.declared.right.Atom.TheVariants as atom
 use Rattle.wiring.specs.declared.right.Right.{Right}
-use Rattle.wiring.specs.declared.right.Right.TheVariants.{Copy, Not, Binary, Choose, Join, Repeat, Bit, Slice, Word}
 use Rattle.wiring.specs.declared.netlist.Net.{Net}
 use Rattle.wiring.specs.declared.netlist.Net.TheVariants.{Input, Reg}
 use Rattle.wiring.specs.declared.netlist.Shape.{Shape}
 use Rattle.wiring.specs.declared.netlist.Assign.{Assign}
 use Rattle.wiring.specs.declared.netlist.Update.{Update}
 use Rattle.wiring.specs.declared.netlist.Update.TheVariants.{Set, Put}
+use Rattle.wiring.specs.Rights.{operands, array_of, gathered}
 use Rattle.wiring.specs.Netlist.{Netlist, first_din, update_target}
 use Rattle.wiring.specs.declared.netlist.Holder.{Holder}
 use Rattle.wiring.specs.declared.netlist.Holder.TheVariants.{OfNet, OfArray}
@@ -25,15 +26,7 @@ atom_reads (atom.Net n) = OfNet n ∷ []
 atom_reads (atom.Constant c) = []
 
 abbrev pub right_reads : Right Net ℕ → List Holder
-right_reads (Copy a) = atom_reads a
-right_reads (Not a) = atom_reads a
-right_reads (Binary o a b) = atom_reads a ++ atom_reads b
-right_reads (Choose c a b) = atom_reads c ++ (atom_reads a ++ atom_reads b)
-right_reads (Join a b) = atom_reads a ++ atom_reads b
-right_reads (Repeat n a) = atom_reads a
-right_reads (Bit v k) = OfNet v ∷ []
-right_reads (Slice v m l) = OfNet v ∷ []
-right_reads (Word m i) = OfArray m ∷ atom_reads i
+right_reads r = gathered atom_reads (map (λ m. OfArray m) (option_to_list (array_of r))) (operands r)
 
 abbrev pub update_reads : Update → List Holder
 update_reads (Set r a) = atom_reads a

@@ -1,10 +1,9 @@
 -- When assigns depend on themselves, and orders in which they do not.
-use Rattle.std.specs.Prelude.{◌≡◌, ℕ, suc, ◌<◌, List, length, slice_get, Option, Some, None, Contains, ◌==◌, if◌then◌else◌}
+use Rattle.std.specs.Prelude.{◌≡◌, ℕ, suc, ◌<◌, List, length, slice_get, Option, Some, None, Contains}
 use Rattle.std.specs.Option.{option_and_then}
 use Rattle.wiring.specs.declared.right.Atom.{Atom}
 use Rattle.wiring.specs.declared.right.Atom.TheVariants as atom
 use Rattle.wiring.specs.declared.right.Right.{Right}
-use Rattle.wiring.specs.declared.right.Right.TheVariants.{Copy, Not, Binary, Choose, Join, Repeat, Bit, Slice, Word}
 use Rattle.wiring.specs.declared.netlist.Net.{Net}
 use Rattle.wiring.specs.declared.netlist.Assign.{Assign}
 use Rattle.wiring.specs.declared.order.Mark.{Mark}
@@ -12,7 +11,7 @@ use Rattle.wiring.specs.declared.order.Mark.TheVariants.{Open, Done}
 use Rattle.wiring.specs.declared.order.Visit.{Visit}
 use Rattle.wiring.specs.declared.drivers.Drivers.{Drivers}
 use Rattle.wiring.specs.Tables.{driver_of}
-use Rattle.wiring.specs.Rights.{nets_of}
+use Rattle.wiring.specs.Rights.{operands, nets_of}
 
 -- the assign at j drives a net that the assign at k reads
 pub record Feeds (assigns : List Assign) (j k : ℕ) : Type 0 where
@@ -38,46 +37,13 @@ pub record IsEvaluationOrder (assigns : List Assign) (order : List ℕ) : Type 0
   pub all : (k : ℕ) → k < length assigns → (p : ℕ) × (slice_get order p ≡ Some k)
   pub behind : (p j k : ℕ) → slice_get order p ≡ Some k → Feeds assigns j k → (q : ℕ) × (q < p) × (slice_get order q ≡ Some j)
 
--- the net at each of the three places of a right side
+-- the net at a place of a right side
 abbrev pub net_in : Atom Net → Option Net
 net_in (atom.Net n) = Some n
 net_in (atom.Constant c) = None
 
-abbrev pub first_net : Right Net ℕ → Option Net
-first_net (Copy a) = net_in a
-first_net (Not a) = net_in a
-first_net (Binary o a b) = net_in a
-first_net (Choose c a b) = net_in c
-first_net (Join a b) = net_in a
-first_net (Repeat n a) = net_in a
-first_net (Bit v k) = Some v
-first_net (Slice v m l) = Some v
-first_net (Word m i) = net_in i
-
-abbrev pub second_net : Right Net ℕ → Option Net
-second_net (Copy a) = None
-second_net (Not a) = None
-second_net (Binary o a b) = net_in b
-second_net (Choose c a b) = net_in a
-second_net (Join a b) = net_in b
-second_net (Repeat n a) = None
-second_net (Bit v k) = None
-second_net (Slice v m l) = None
-second_net (Word m i) = None
-
-abbrev pub third_net : Right Net ℕ → Option Net
-third_net (Copy a) = None
-third_net (Not a) = None
-third_net (Binary o a b) = None
-third_net (Choose c a b) = net_in b
-third_net (Join a b) = None
-third_net (Repeat n a) = None
-third_net (Bit v k) = None
-third_net (Slice v m l) = None
-third_net (Word m i) = None
-
 abbrev pub reads_at : Right Net ℕ → ℕ → Option Net
-reads_at r i = if i == 0 then first_net r else (if i == 1 then second_net r else (if i == 2 then third_net r else None))
+reads_at r place = option_and_then net_in (slice_get (operands r) place)
 
 abbrev pub driver_at_of : Drivers → Right Net ℕ → ℕ → Option ℕ
 driver_at_of d r place = option_and_then (driver_of d) (reads_at r place)

@@ -1,5 +1,5 @@
 -- What a right side reads and what it is worth, over nets N and arrays A of any kind.
-use Rattle.std.specs.Prelude.{ℕ, zero, suc, ◌+◌, ◌-◌, ◌*◌, ◌/◌, ◌%◌, ◌^◌, nat_lt, ◌==◌, if◌then◌else◌, List, [], ◌∷◌, ◌++◌, bit_and, bit_or, bit_xor}
+use Rattle.std.specs.Prelude.{ℕ, zero, suc, ◌+◌, ◌-◌, ◌*◌, ◌/◌, ◌%◌, ◌^◌, nat_lt, ◌==◌, if◌then◌else◌, Option, Some, None, List, [], ◌∷◌, ◌++◌, bit_and, bit_or, bit_xor}
 use Rattle.wiring.specs.Sizes.{SizedNumber}
 use Rattle.wiring.specs.declared.right.Atom.{Atom}
 use Rattle.wiring.specs.declared.right.Atom.TheVariants as atom
@@ -8,21 +8,42 @@ use Rattle.wiring.specs.declared.right.Operator.TheVariants.{Add, Subtract, Mult
 use Rattle.wiring.specs.declared.right.Right.{Right}
 use Rattle.wiring.specs.declared.right.Right.TheVariants.{Copy, Not, Binary, Choose, Join, Repeat, Bit, Slice, Word}
 
--- the nets that an atom reads, and those that a right side reads, in order
+-- the nets and constants of a right side, in order
+abbrev pub operands : {N A : Type 0} → Right N A → List (Atom N)
+operands (Copy a) = a ∷ []
+operands (Not a) = a ∷ []
+operands (Binary o a b) = a ∷ (b ∷ [])
+operands (Choose c a b) = c ∷ (a ∷ (b ∷ []))
+operands (Join a b) = a ∷ (b ∷ [])
+operands (Repeat n a) = a ∷ []
+operands (Bit v k) = atom.Net v ∷ []
+operands (Slice v m l) = atom.Net v ∷ []
+operands (Word m i) = i ∷ []
+
+-- the array that it reads, at its one operand
+abbrev pub array_of : {N A : Type 0} → Right N A → Option A
+array_of (Copy a) = None
+array_of (Not a) = None
+array_of (Binary o a b) = None
+array_of (Choose c a b) = None
+array_of (Join a b) = None
+array_of (Repeat n a) = None
+array_of (Bit v k) = None
+array_of (Slice v m l) = None
+array_of (Word m i) = Some m
+
+-- a list, and behind it what each of these gives
+abbrev pub gathered : {X Y : Type 0} → (X → List Y) → List Y → List X → List Y
+gathered f ys [] = ys
+gathered f ys (x ∷ xs) = gathered f (ys ++ f x) xs
+
+-- the nets that an atom reads, and those that a right side reads
 abbrev pub atom_nets : {N : Type 0} → Atom N → List N
 atom_nets (atom.Net n) = n ∷ []
 atom_nets (atom.Constant c) = []
 
 abbrev pub nets_of : {N A : Type 0} → Right N A → List N
-nets_of (Copy a) = atom_nets a
-nets_of (Not a) = atom_nets a
-nets_of (Binary o a b) = atom_nets a ++ atom_nets b
-nets_of (Choose c a b) = atom_nets c ++ atom_nets a ++ atom_nets b
-nets_of (Join a b) = atom_nets a ++ atom_nets b
-nets_of (Repeat n a) = atom_nets a
-nets_of (Bit v k) = v ∷ []
-nets_of (Slice v m l) = v ∷ []
-nets_of (Word m i) = atom_nets i
+nets_of r = gathered atom_nets [] (operands r)
 
 -- and the constants in them
 abbrev pub atom_constants : {N : Type 0} → Atom N → List SizedNumber
@@ -30,15 +51,7 @@ atom_constants (atom.Net n) = []
 atom_constants (atom.Constant c) = c ∷ []
 
 abbrev pub constants_of : {N A : Type 0} → Right N A → List SizedNumber
-constants_of (Copy a) = atom_constants a
-constants_of (Not a) = atom_constants a
-constants_of (Binary o a b) = atom_constants a ++ atom_constants b
-constants_of (Choose c a b) = atom_constants c ++ atom_constants a ++ atom_constants b
-constants_of (Join a b) = atom_constants a ++ atom_constants b
-constants_of (Repeat n a) = atom_constants a
-constants_of (Bit v k) = []
-constants_of (Slice v m l) = []
-constants_of (Word m i) = atom_constants i
+constants_of r = gathered atom_constants [] (operands r)
 
 abbrev pub atom_width : {N : Type 0} → (N → ℕ) → Atom N → ℕ
 atom_width width (atom.Net n) = width n

@@ -1,5 +1,6 @@
 -- The rules that a netlist keeps.
-use Rattle.std.specs.Prelude.{◌≡◌, ℕ, ◌<◌, ◌≤◌, Bool, if◌then◌else◌, List, [], ◌∷◌, length, slice_get, Some, All}
+use Rattle.std.specs.Prelude.{◌≡◌, ℕ, ◌<◌, ◌≤◌, Bool, if◌then◌else◌, List, [], ◌∷◌, length, slice_get, Some, IfSome, All}
+use Rattle.wiring.specs.declared.TheConstants.{MOST_PORT_BITS, MOST_PORTS}
 use Rattle.wiring.specs.Sizes.{IsWidth, IsDepth, IsConstant}
 use Rattle.wiring.specs.declared.right.Atom.{Atom}
 use Rattle.wiring.specs.declared.right.Atom.TheVariants as atom
@@ -13,22 +14,24 @@ use Rattle.wiring.specs.declared.netlist.Shape.{Shape}
 use Rattle.wiring.specs.declared.netlist.Assign.{Assign}
 use Rattle.wiring.specs.declared.netlist.Update.{Update}
 use Rattle.wiring.specs.declared.netlist.Update.TheVariants.{Set, Put}
-use Rattle.wiring.specs.Rights.{nets_of, atom_nets, atom_constants, constants_of, atom_width, right_width}
+use Rattle.wiring.specs.Rights.{array_of, nets_of, atom_nets, atom_constants, constants_of, atom_width, right_width}
 use Rattle.wiring.specs.Netlist.{Netlist, net_width, word_width, IsDeclared, IsDriven, IsState, update_target}
 use Rattle.wiring.specs.declared.netlist.Holder.{Holder}
 use Rattle.wiring.specs.Order.{IsAcyclic}
 
--- the ports are those of the profile: rst, en where there is one, and one to eight din of 1 to 16 bits; one to eight pairs of a valid of one bit and a dout of 1 to 16
+-- so many dins there may be, and so many douts
 abbrev pub IsPortCount : ℕ → Type 0
-IsPortCount n = (1 ≤ n) × (n ≤ 8)
+IsPortCount n = (1 ≤ n) × (n ≤ MOST_PORTS)
 
+-- of so many bits each
 abbrev pub IsPortWidth : ℕ → Type 0
-IsPortWidth w = (1 ≤ w) × (w ≤ 16)
+IsPortWidth w = (1 ≤ w) × (w ≤ MOST_PORT_BITS)
 
 abbrev pub with_valids : List ℕ → List ℕ
 with_valids [] = []
 with_valids (w ∷ douts) = 1 ∷ (w ∷ with_valids douts)
 
+-- the ports are those of the profile: rst, en where there is one, and the dins; for each dout a valid of one bit before it
 pub record ArePorts (enable : Bool) (inputs outputs : List ℕ) : Type 0 where
   pub dins : List ℕ
   pub douts : List ℕ
@@ -83,15 +86,7 @@ DivisorIsConstant (Slice v m l) = Unit {0}
 DivisorIsConstant (Word m i) = Unit {0}
 
 abbrev pub ArrayIsDeclared : Netlist → Right Net ℕ → Type 0
-ArrayIsDeclared m (Copy a) = Unit {0}
-ArrayIsDeclared m (Not a) = Unit {0}
-ArrayIsDeclared m (Binary o a b) = Unit {0}
-ArrayIsDeclared m (Choose c a b) = Unit {0}
-ArrayIsDeclared m (Join a b) = Unit {0}
-ArrayIsDeclared m (Repeat n a) = Unit {0}
-ArrayIsDeclared m (Bit v k) = Unit {0}
-ArrayIsDeclared m (Slice v h l) = Unit {0}
-ArrayIsDeclared m (Word a i) = a < length m.arrays
+ArrayIsDeclared m r = IfSome (array_of r) (λ a. a < length m.arrays)
 
 pub record RightIsSound (m : Netlist) (r : Right Net ℕ) : Type 0 where
   pub nets : All (IsDeclared m) (nets_of r)

@@ -1,16 +1,15 @@
 -- What a netlist holds within one clock, and what the clock edge makes of it.
-use Rattle.std.specs.Prelude.{◌≡◌, ℕ, ◌<◌, ◌≤◌, ◌^◌, List, [], ◌∷◌, ◌++◌, length, slice_index, slice_index_or, slice_get, slice_set, Some, All, take}
+use Rattle.std.specs.Prelude.{◌≡◌, ℕ, ◌<◌, ◌≤◌, ◌^◌, List, [], ◌∷◌, ◌++◌, length, slice_index, slice_index_or, slice_get, slice_set, Option, Some, None, All, map, take}
 use Rattle.std.specs.List.{AllZip}
 use Rattle.wiring.specs.declared.right.Atom.{Atom}
 use Rattle.wiring.specs.declared.right.Right.{Right}
-use Rattle.wiring.specs.declared.right.Right.TheVariants.{Copy, Not, Binary, Choose, Join, Repeat, Bit, Slice, Word}
 use Rattle.wiring.specs.declared.netlist.Net.{Net}
 use Rattle.wiring.specs.declared.netlist.Net.TheVariants.{Input, Output, Wire, Reg}
 use Rattle.wiring.specs.declared.netlist.Shape.{Shape}
 use Rattle.wiring.specs.declared.netlist.Assign.{Assign}
 use Rattle.wiring.specs.declared.netlist.Update.{Update}
 use Rattle.wiring.specs.declared.netlist.Update.TheVariants.{Set, Put}
-use Rattle.wiring.specs.Rights.{atom_value, right_value}
+use Rattle.wiring.specs.Rights.{operands, array_of, atom_value, right_value}
 use Rattle.wiring.specs.Netlist.{Netlist, net_width, depth}
 
 -- what the registers and the arrays hold
@@ -56,16 +55,12 @@ pub record SnapshotOf (m : Netlist) (before : Contents) (given : List ℕ) (s : 
   pub settled : IsSettled m s
 
 -- an access to an array: the array, and its index
+abbrev pub accesses_at : Option ℕ → List (Atom Net) → List (ℕ × Atom Net)
+accesses_at None indices = []
+accesses_at (Some m) indices = map (λ i. (m, i)) indices
+
 abbrev pub right_accesses : Right Net ℕ → List (ℕ × Atom Net)
-right_accesses (Copy a) = []
-right_accesses (Not a) = []
-right_accesses (Binary o a b) = []
-right_accesses (Choose c a b) = []
-right_accesses (Join a b) = []
-right_accesses (Repeat n a) = []
-right_accesses (Bit v k) = []
-right_accesses (Slice v m l) = []
-right_accesses (Word m i) = (m, i) ∷ []
+right_accesses r = accesses_at (array_of r) (operands r)
 
 abbrev pub update_accesses : Update → List (ℕ × Atom Net)
 update_accesses (Set r a) = []

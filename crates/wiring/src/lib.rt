@@ -12,7 +12,10 @@ mod size;
 
 pub use buffer::buffer_bits;
 pub use drivers::{Drivers, TableFault, Updaters, drivers_of, updaters_of};
-pub use laws::{equal_rights, no_cycle, one_count, one_next, one_valuation, runs_are_histories};
+pub use laws::{
+    clocks_counted, counted_since, equal_rights, no_cycle, one_count, one_next, one_valuation,
+    runs_are_histories,
+};
 pub use netlist::{Assign, Holder, Net, Shape, Update, Wiring};
 pub use order::{OrderFault, evaluation_order};
 pub use right::{Atom, Operator, Right};
@@ -23,3 +26,9 @@ pub const MOST_BITS: u8 = 64;
 
 /// The greatest number of words of an array.
 pub const MOST_WORDS: u32 = 67_108_864;
+
+/// The greatest width of a port, in bits.
+pub const MOST_PORT_BITS: u8 = 16;
+
+/// The greatest number of dins, and of douts.
+pub const MOST_PORTS: usize = 8;

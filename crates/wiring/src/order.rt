@@ -1,7 +1,7 @@
 // An order in which assigns can be evaluated.
 
 ghost use Rattle.std.specs.Prelude.{◌≡◌, ◌≢◌, ℕ, ◌+◌, ◌<◌, ◌≤◌, ◌++◌, ◌∷◌, [], length, slice_get, slice_set, Some, None, All, OnOk, OnErr, IfOk, IfErr, vec_len};
-ghost use Rattle.wiring.specs.Order.{IsEvaluationOrder, IsSearch, reads_at, first_net, second_net, third_net, net_in, driver_at_of};
+ghost use Rattle.wiring.specs.Order.{IsEvaluationOrder, IsSearch, reads_at, net_in, driver_at_of};
 ghost use Rattle.wiring.specs.Tables.{IsTable};
 ghost use Rattle.wiring.specs.Moves.{Enters, Leaves, Looks, weight, KeepsMarks, IsCause, DriverIs};
 ghost use Rattle.wiring.specs.declared.order.Mark.TheVariants.{New, Open, Done};
@@ -44,7 +44,7 @@ fn net_of(a: &Atom<Net>) -> Option<Net>
 }
 
 fn first(right: &Right<Net, usize>) -> Option<Net>
-    ensures { result ≡ first_net right.now }
+    ensures { result ≡ reads_at right.now 0 }
 {
     match right {
         Right::Copy(a)
@@ -59,7 +59,7 @@ fn first(right: &Right<Net, usize>) -> Option<Net>
 }
 
 fn second(right: &Right<Net, usize>) -> Option<Net>
-    ensures { result ≡ second_net right.now }
+    ensures { result ≡ reads_at right.now 1 }
 {
     match right {
         Right::Binary(_, _, b) | Right::Choose(_, b, _) | Right::Join(_, b) => net_of(b),
@@ -68,7 +68,7 @@ fn second(right: &Right<Net, usize>) -> Option<Net>
 }
 
 fn third(right: &Right<Net, usize>) -> Option<Net>
-    ensures { result ≡ third_net right.now }
+    ensures { result ≡ reads_at right.now 2 }
 {
     match right {
         Right::Choose(_, _, b) => net_of(b),
@@ -76,6 +76,7 @@ fn third(right: &Right<Net, usize>) -> Option<Net>
     }
 }
 
+#[tactic(auto, using(crate::proofs::Places::reads_past))]
 pub(crate) fn read_at(right: &Right<Net, usize>, place: usize) -> Option<Net>
     ensures { result ≡ reads_at right.now place }
 {
