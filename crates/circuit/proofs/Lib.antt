@@ -1,0 +1,15 @@
+pub mod Streamed
+pub mod Horizons
+pub mod Feeding
+pub mod Paths
+pub mod Tapped
+pub mod Reading
+pub mod Bodies
+pub mod Bits
+pub mod Lasting
+pub mod Choosing
+pub mod Built
+pub mod Leafing
+pub mod Typing
+pub mod Placing
+pub mod Bodied
