@@ -9,9 +9,17 @@ use Rattle.wiring.specs.declared.netlist.Holder.TheVariants.{OfNet}
 use Rattle.wiring.specs.Netlist.{Netlist, net_width}
 use Rattle.wiring.specs.Snapshot.{Snapshot, net_value}
 use Rattle.net_build.specs.Includes.{Includes}
-use Rattle.net_build.specs.Draft.{IsNet}
+use Rattle.wiring.specs.declared.right.Atom.{Atom}
+use Rattle.wiring.specs.declared.right.Atom.TheVariants as atom
+use Rattle.wiring.specs.declared.right.Right.TheVariants.{Choose}
+use Rattle.wiring.specs.Sizes.{IsWidth, IsConstant}
+use Rattle.std.proofs.Math.Pow.{pow_pos}
+use Rattle.net_build.specs.Draft.{IsNet, IsOperand}
 use Rattle.net_build.specs.Control.{IsMadeOf}
-use Rattle.net_build.proofs.Parts.{Includes-trans}
+use Rattle.net_build.specs.Logic.{AreMadeOf, Computes, IsGate}
+use Rattle.net_build.proofs.Parts.{Includes-refl, Includes-trans}
+use Rattle.net_build.proofs.Logic.{Source, given_source, number_source, choose_computes, first_in, second_in}
+use Rattle.net_build.proofs.Operands.{net_operand, constant_operand}
 use Rattle.net_build.proofs.Control.{made_more}
 use Rattle.edge_select.specs.Steps.{LeadBy}
 use Rattle.edge_select.specs.Pixels.{IsBitOf, AllPass, NonePass}
@@ -19,7 +27,7 @@ use Rattle.buffer_plan.specs.Plans.{Parts, delay_of}
 use Rattle.circuit.specs.Runs.{AtEachPixel}
 use Rattle.circuit.specs.Leaves.{LeafRead}
 use Rattle.circuit.specs.Taps.{size_in, IsTapOf, HasControl}
-use Rattle.circuit.specs.Reads.{IsLedTo, IsLedNowhere, IsChosen, IsChoice, IsPixelTest, IsMadeOfTaps, IsOneOf, worth_of}
+use Rattle.circuit.specs.Reads.{IsLedTo, IsLedNowhere, IsChosen, IsChoice, IsPixelTest, IsMadeOfTaps, atom_of_choice, choice_nets, chosen_by, worth_of}
 use Rattle.circuit.proofs.Lasting.{each_pixel_more, choice_more}
 
 -- which of a longer list
@@ -86,6 +94,15 @@ module _ (b first : Netlist) (plan : Parts) (taps : List (List Net)) (f : ℕ) (
     made = fewer_made o is.made;
   }
 
+  -- a read of another image changes nothing
+  pub choice_other : (o : Option Net) → (r.g ≡ leaf.image → ⊥) → IsChoice b first plan taps f reads leaf bits o → IsChoice b first plan taps f (reads ++ r ∷ []) leaf bits o
+  choice_other o other is = record {
+    there = is.there;
+    width = is.width;
+    value = λ m from before c s run q e. kept (size_in plan) plan taps reads r leaf (column (size_in plan) q) (row (size_in plan) q) s (worth_of s o) (worth_of s o) (λ same on. other same) refl (is.value m from before c s run q e);
+    made = fewer_made o is.made;
+  }
+
   -- one to which every pixel is led is taken
   pub choice_taken : (o : Option Net) (tap : Net) → r.g ≡ leaf.image → AllPass plan.system.stencils.width plan.system.stencils.height (LeadBy (size_in plan) leaf.steps r.dx r.dy) → ((q : ℕ) → column (size_in plan) q < plan.system.stencils.width) → ((q : ℕ) → row (size_in plan) q < plan.system.stencils.height) →
       IsTapOf plan taps r tap → IsNet b tap → net_width b tap ≡ bits → Includes b first → IsChoice b first plan taps f (reads ++ r ∷ []) leaf bits (Some tap)
@@ -96,28 +113,52 @@ module _ (b first : Netlist) (plan : Parts) (taps : List (List Net)) (f : ℕ) (
     made = λ base has own. made_more b first base grows (own r tap (last_in reads r) is);
   }
 
+-- a test, a tap and a choice that are made of the base
+first_of : {X : Type 0} (y : X) (ys : List X) (x : X) → Contains (y ∷ ys) x → (y ≡ x) ⊎ Contains ys x
+first_of y ys x (zero, lt, e) = inl e
+first_of y ys x (suc k, lt, e) = inr (k, (let h : k < length ys = omega (arith, lt) in h), e)
+
+from_all : (b : Netlist) (base : Holder → Bool) (test tap : Net) (o : Option Net) → IsMadeOf b base (OfNet test) → IsMadeOf b base (OfNet tap) → IfSome o (λ n. IsMadeOf b base (OfNet n)) → AreMadeOf b base (test ∷ (tap ∷ choice_nets o))
+from_all b base test tap o t p rest n has = elim (first_of test (tap ∷ choice_nets o) n has) [
+  | inl e ↦ subst (λ (x : Net). IsMadeOf b base (OfNet x)) e t
+  | inr more ↦ elim (first_of tap (choice_nets o) n more) [
+    | inl e ↦ subst (λ (x : Net). IsMadeOf b base (OfNet x)) e p
+    | inr last ↦ of_choice o rest last
+  ]
+]
+  where
+    of_choice : (o : Option Net) → IfSome o (λ n. IsMadeOf b base (OfNet n)) → Contains (choice_nets o) n → IsMadeOf b base (OfNet n)
+    of_choice None h (k, lt, e) = absurd (let f : ⊥ = omega (arith, lt) in f)
+    of_choice (Some x) h (zero, lt, e) = subst (λ (y : Net). IsMadeOf b base (OfNet y)) e h
+    of_choice (Some x) h (suc k, lt, e) = absurd (let f : ⊥ = omega (arith, lt) in f)
+
 -- and else a test chooses between its tap and what was chosen before
 pub choice_tested : (new mid old first : Netlist) (plan : Parts) (taps : List (List Net)) (f : ℕ) (reads : List LiveRead) (r : LiveRead) (leaf : LeafRead) (bits : ℕ) (o : Option Net) (test tap net : Net) → r.g ≡ leaf.image → IsTapOf plan taps r tap → Includes new mid → Includes mid old → Includes old first →
-    IsPixelTest mid plan f (LeadBy (size_in plan) leaf.steps r.dx r.dy) test → IsOneOf new mid test tap o bits net → IsChoice old first plan taps f reads leaf bits o → IsChoice new first plan taps f (reads ++ r ∷ []) leaf bits (Some net)
+    IsPixelTest mid plan f (LeadBy (size_in plan) leaf.steps r.dx r.dy) test → Computes new mid (test ∷ (tap ∷ choice_nets o)) bits (chosen_by test tap o) net → IsChoice old first plan taps f reads leaf bits o → IsChoice new first plan taps f (reads ++ r ∷ []) leaf bits (Some net)
 choice_tested new mid old first plan taps f reads r leaf bits o test tap net same is_tap late early begun tests one before =
     let grows : Includes new old = Includes-trans new mid old late early in
-    let whole : Includes new first = Includes-trans new old first grows begun in
+    let whole : Includes mid first = Includes-trans mid old first early begun in
+    let held : IsChoice mid first plan taps f reads leaf bits o = choice_more mid old early first plan taps f reads leaf bits o before in
     let now : IsChoice new first plan taps f reads leaf bits o = choice_more new old grows first plan taps f reads leaf bits o before in
     let value = each_pixel_more new mid late (size_in plan) (delay_of plan f) (λ x y s. IsBitOf (LeadBy (size_in plan) leaf.steps r.dx r.dy x y) (net_value s test)) tests.value in
     record {
-      there = one.there;
+      there = one.net;
       width = one.width;
       value = λ m from before c s run q e.
           tested (size_in plan) plan taps reads r leaf (column (size_in plan) q) (row (size_in plan) q) s (net_value s test) (net_value s tap) (net_value s net) (worth_of s o) tap same is_tap refl (value m from before c s run q e)
           (one.value m s run.clock.whole.includes run.clock.at.snapshot.settled) (now.value m from before c s run q e);
       made = λ base has own.
           let control : HasControl mid.enable base = subst (λ (e : Bool). HasControl e base) (sym (early.enable ∙ begun.enable)) has in
-          one.made base (made_more new mid base late (tests.made base control)) (made_more new first base whole (own r tap (last_in reads r) is_tap)) (rest o now.made base has (λ q t among is. own q t (old_in reads r q among) is));
+          one.made_of base (from_all mid base test tap o (tests.made base control) (made_more mid first base whole (own r tap (last_in reads r) is_tap)) (rest o held.made base has (λ q t among is. own q t (old_in reads r q among) is)));
     }
   where
-    rest : (o : Option Net) → IfSome o (IsMadeOfTaps new first plan taps reads) → (base : Holder → Bool) → HasControl first.enable base → ((q : LiveRead) (t : Net) → Contains reads q → IsTapOf plan taps q t → IsMadeOf first base (OfNet t)) → IfSome o (λ n. IsMadeOf new base (OfNet n))
+    rest : (o : Option Net) → IfSome o (IsMadeOfTaps mid first plan taps reads) → (base : Holder → Bool) → HasControl first.enable base → ((q : LiveRead) (t : Net) → Contains reads q → IsTapOf plan taps q t → IsMadeOf first base (OfNet t)) → IfSome o (λ n. IsMadeOf mid base (OfNet n))
     rest None h base has own = h
     rest (Some n) h base has own = h base has own
+
+-- 0 fits each width
+zero_fits : (bits : ℕ) → IsWidth bits → IsConstant (record { width = bits; value = 0 })
+zero_fits bits fits = record { width = fits; fits = pow_pos bits }
 
 -- among no reads nothing is chosen
 pub choice_none : (b first : Netlist) (plan : Parts) (taps : List (List Net)) (f : ℕ) (leaf : LeafRead) (bits : ℕ) → IsChoice b first plan taps f [] leaf bits None
@@ -127,3 +168,21 @@ choice_none b first plan taps f leaf bits = record {
   value = λ m from before c s run q e. inr (record { none = λ r among same on. (let f : ⊥ = omega (arith, among.1) in f); value_is = refl });
   made = tt;
 }
+
+-- the gate of such a choice
+pub chosen_gate : (new b : Netlist) (test tap : Net) (o : Option Net) (bits : ℕ) (rest : Atom Net) (n : Net) → Includes new b → IsNet b test → net_width b test ≡ 1 → IsNet b tap → net_width b tap ≡ bits → IfSome o (IsNet b) → IfSome o (λ m. net_width b m ≡ bits) → IsWidth bits → rest ≡ atom_of_choice bits o → IsGate new b (Choose (atom.Net test) (atom.Net tap) rest) n →
+    Computes new b (test ∷ (tap ∷ choice_nets o)) bits (chosen_by test tap o) n
+chosen_gate new b test tap o bits rest n grows is_test one is_tap wide nets widths fits e g =
+    let from = test ∷ (tap ∷ choice_nets o) in
+    choose_computes new b b from grows bits (λ s. net_value s test) (λ s. net_value s tap) (λ s. worth_of s o) (atom.Net test) (atom.Net tap) rest n
+    (given_source b b from 1 test (Includes-refl b) is_test one (first_in test (tap ∷ choice_nets o))) (given_source b b from bits tap (Includes-refl b) is_tap wide (second_in test tap (choice_nets o)))
+    (of_rest o nets widths rest e) g
+  where
+    of_rest : (o : Option Net) → IfSome o (IsNet b) → IfSome o (λ m. net_width b m ≡ bits) → (rest : Atom Net) → rest ≡ atom_of_choice bits o → Source b b (test ∷ (tap ∷ choice_nets o)) bits (λ s. worth_of s o) rest
+    of_rest None nets widths rest e = number_source b b (test ∷ (tap ∷ [])) bits 0 rest e (zero_fits bits fits)
+    of_rest (Some m) nets widths rest e = subst (Source b b (test ∷ (tap ∷ (m ∷ []))) bits (λ s. net_value s m)) (sym e) (given_source b b (test ∷ (tap ∷ (m ∷ []))) bits m (Includes-refl b) nets widths (2, omega arith, refl))
+
+-- and its parts
+pub choice_operand : (b : Netlist) (o : Option Net) (bits : ℕ) (rest : Atom Net) → IfSome o (IsNet b) → IfSome o (λ m. net_width b m ≡ bits) → IsWidth bits → rest ≡ atom_of_choice bits o → IsOperand b rest bits
+choice_operand b None bits rest nets widths fits e = subst (λ (a : Atom Net). IsOperand b a bits) (sym e) (constant_operand b (record { width = bits; value = 0 }) bits (zero_fits bits fits) refl)
+choice_operand b (Some n) bits rest nets widths fits e = subst (λ (a : Atom Net). IsOperand b a bits) (sym e) (net_operand b n bits nets widths)

@@ -13,3 +13,5 @@ pub mod Leafing
 pub mod Typing
 pub mod Placing
 pub mod Bodied
+pub mod Searching
+pub mod Taking

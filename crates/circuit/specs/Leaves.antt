@@ -12,6 +12,9 @@ pub record LeafRead : Type 0 where
   pub image : ℕ
   pub steps : List Step
 
+abbrev pub leaf_at : (g : ℕ) → List Step → LeafRead
+leaf_at g steps = record { image = g; steps = steps }
+
 abbrev pub with_step : List Step → Edge → (dx dy : ℤ) → List Step
 with_step steps edge dx dy = steps ++ (record { edge = edge; dx = dx; dy = dy }) ∷ []
 

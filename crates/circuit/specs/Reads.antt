@@ -1,10 +1,12 @@
 -- The nets of an expression's leaves: of its reads, and of the tests of its shifted parts.
-use Rattle.std.specs.Prelude.{◌≡◌, ◌⊎◌, ℕ, ◌==◌, if◌then◌else◌, Bool, IsTrue, List, length, slice_get, Option, Some, None, IfSome, IfNone, [], ◌++◌, Contains}
+use Rattle.std.specs.Prelude.{◌≡◌, ◌⊎◌, ℕ, ◌==◌, if◌then◌else◌, Bool, IsTrue, List, ◌∷◌, length, slice_get, Option, Some, None, IfSome, IfNone, [], ◌++◌, Contains}
 use Rattle.dk_base.specs.declared.stencils.LiveRead.{LiveRead}
 use Rattle.dk_base.specs.declared.ty.Ty.{Ty}
 use Rattle.dk_base.specs.Types.{width_of as bits_of_type}
 use Rattle.dk_base.specs.Frames.{Size}
 use Rattle.dk_base.specs.FrameSizes.{size_of}
+use Rattle.wiring.specs.declared.right.Atom.{Atom}
+use Rattle.wiring.specs.declared.right.Atom.TheVariants as atom
 use Rattle.wiring.specs.declared.netlist.Net.{Net}
 use Rattle.wiring.specs.declared.netlist.Net.TheVariants.{Reg}
 use Rattle.wiring.specs.declared.netlist.Holder.{Holder}
@@ -96,12 +98,28 @@ pub record AreLeafNets (b first : Netlist) (p : Program) (plan : Parts) (taps : 
   pub read : (i : ℕ) (leaf : LeafRead) (n : Ty × Net) → slice_get leaves i ≡ Some leaf → slice_get reads i ≡ Some n → IsReadNet b first plan taps f leaf (bits_of_type n.0) n.1
   pub bit : (i : ℕ) (steps : List Step) (n : Net) → slice_get parts i ≡ Some steps → slice_get bits i ≡ Some n → IsPixelTest b plan f (LeadOn (size_in plan) steps) n
 
--- The net has the tap's number where the test passes, and else that of what was chosen before, or 0; and it is made of these nets.
-pub record IsOneOf (b old : Netlist) (test tap : Net) (before : Option Net) (bits : ℕ) (net : Net) : Type 0 where
-  pub there : IsNet b net
-  pub width : net_width b net ≡ bits
-  pub value : InEach b (λ m s. net_value s net ≡ (if net_value s test == 1 then net_value s tap else worth_of s before))
-  pub made : (base : Holder → Bool) → IsMadeOf b base (OfNet test) → IsMadeOf b base (OfNet tap) → IfSome before (λ n. IsMadeOf b base (OfNet n)) → IsMadeOf b base (OfNet net)
+-- whatever was chosen among some reads, `choice` is what is chosen among one more
+abbrev pub ChoosesAlso : (b old : Netlist) → Program → Parts → List (List Net) → (f : ℕ) → LeafRead → LiveRead → (before choice : Option Net) → Type 0
+ChoosesAlso b old p plan taps f leaf read before choice =
+    (first : Netlist) (reads : List LiveRead) → Includes old first → IsChoice old first plan taps f reads leaf (bits_of_type (type_at p leaf.image)) before → IsChoice b first plan taps f (reads ++ read ∷ []) leaf (bits_of_type (type_at p leaf.image)) choice
+
+-- `choice` is what is chosen among all live reads by image f
+abbrev pub Chooses : (b old : Netlist) → Program → Parts → List (List Net) → (f : ℕ) → LeafRead → (choice : Option Net) → Type 0
+Chooses b old p plan taps f leaf choice = (first : Netlist) → Includes old first → IsChoice b first plan taps f (reads_in plan f) leaf (bits_of_type (type_at p leaf.image)) choice
+
+-- the net that is meant, if there is one
+abbrev pub choice_nets : Option Net → List Net
+choice_nets None = []
+choice_nets (Some n) = n ∷ []
+
+-- the same in a right side of so many bits
+abbrev pub atom_of_choice : (bits : ℕ) → Option Net → Atom Net
+atom_of_choice bits None = atom.Constant (record { width = bits; value = 0 })
+atom_of_choice bits (Some n) = atom.Net n
+
+-- the tap's number where the test passes, and else that of the choice, or 0
+abbrev pub chosen_by : (test tap : Net) → Option Net → Snapshot → ℕ
+chosen_by test tap choice s = if net_value s test == 1 then net_value s tap else worth_of s choice
 
 -- the net of a choice, or one that is 0
 pub record IsNetOf (b old : Netlist) (bits : ℕ) (choice : Option Net) (net : Net) : Type 0 where
