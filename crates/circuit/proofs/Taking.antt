@@ -5,6 +5,7 @@ use Rattle.std.proofs.lemmas.List.{get_or-map}
 use Rattle.dk_base.specs.declared.stencils.Image.{Image}
 use Rattle.dk_base.specs.declared.stencils.LiveRead.{LiveRead}
 use Rattle.dk_base.specs.Types.{width_of as bits_of_type}
+use Rattle.dk_base.specs.Frames.{column, row}
 use Rattle.dk_base.specs.Stencils.{place}
 use Rattle.wiring.specs.declared.netlist.Net.{Net}
 use Rattle.wiring.specs.Netlist.{Netlist, net_width}
@@ -12,13 +13,15 @@ use Rattle.wiring.specs.Sizes.{IsWidth}
 use Rattle.net_build.specs.Includes.{Includes}
 use Rattle.net_build.specs.Draft.{IsNet}
 use Rattle.net_build.proofs.Grown.{net_more, width_more}
-use Rattle.pointwise_ir.specs.Programs.{Program}
+use Rattle.pointwise_ir.specs.Programs.{Program, IsProgram, types_of}
 use Rattle.buffer_plan.specs.Plans.{Parts, IsPlan, place_in, ages_of, width_of}
 use Rattle.circuit.specs.Rounds.{type_at}
-use Rattle.circuit.specs.Taps.{Keeps, taps_at, IsTapOf, IsReading}
-use Rattle.circuit.specs.Reads.{reads_in}
+use Rattle.circuit.specs.Leaves.{LeafRead}
+use Rattle.circuit.specs.Taps.{Keeps, size_in, taps_at, IsTapOf, IsReading}
+use Rattle.circuit.specs.Reads.{reads_in, IsChoice, IsChosen, IsNetOf, IsReadNet}
 use Rattle.circuit.proofs.Typing.{plan_width}
-use Rattle.circuit.proofs.Bodied.{read_of, read_is_between}
+use Rattle.circuit.proofs.Bodied.{read_of, read_is_between, type_typed}
+use Rattle.circuit.proofs.Lasting.{choice_more}
 
 -- what is known of a live read by image f
 pub record IsOwnRead (b : Netlist) (p : Program) (plan : Parts) (taps : List (List Net)) (r : LiveRead) : Type 0 where
@@ -61,3 +64,22 @@ chosen_net_more c b (Some n) f h = net_more c b f n h
 pub chosen_width_more : (c b : Netlist) (o : Option Net) (bits : ℕ) → Includes c b → IfSome o (IsNet b) → IfSome o (λ n. net_width b n ≡ bits) → IfSome o (λ n. net_width c n ≡ bits)
 chosen_width_more c b None bits f there h = h
 chosen_width_more c b (Some n) bits f there h = width_more c b f n there.declared ∙ h
+
+-- the net of a choice among all reads is the net of the read
+pub chosen_is_read : (new mid first : Netlist) (plan : Parts) (taps : List (List Net)) (f : ℕ) (leaf : LeafRead) (bits : ℕ) (o : Option Net) (n : Net) → Includes new mid → IsChoice mid first plan taps f (reads_in plan f) leaf bits o → IsNetOf new mid bits o n → IsReadNet new first plan taps f leaf bits n
+chosen_is_read new mid first plan taps f leaf bits (Some m) n grows is net =
+    let now : IsChoice new first plan taps f (reads_in plan f) leaf bits (Some m) = choice_more new mid grows first plan taps f (reads_in plan f) leaf bits (Some m) is in
+    subst (IsReadNet new first plan taps f leaf bits) net.there (record { there = now.there; width = now.width; value = now.value; made = now.made })
+chosen_is_read new mid first plan taps f leaf bits None n grows is net =
+    let now : IsChoice new first plan taps f (reads_in plan f) leaf bits None = choice_more new mid grows first plan taps f (reads_in plan f) leaf bits None is in
+    let zero = net.zero in
+    record {
+      there = zero.net;
+      width = zero.width;
+      value = λ m from before c s run q e. subst (λ (v : ℕ). IsChosen (size_in plan) plan taps (reads_in plan f) leaf (column (size_in plan) q) (row (size_in plan) q) s v) (sym (zero.value m s run.clock.whole.includes run.clock.at.snapshot.settled)) (now.value m from before c s run q e);
+      made = λ base has own. zero.made_of base (λ x (k, lt, e). absurd (let f : ⊥ = omega (arith, lt) in f));
+    }
+
+-- the type of an image is a width
+pub type_wide : (p : Program) → IsProgram p → (g : ℕ) → g < length (types_of p) → IsWidth (bits_of_type (type_at p g))
+type_wide p is g lt = (let t = type_typed p is g lt in (t.some, t.most))
