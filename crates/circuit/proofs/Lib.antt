@@ -15,3 +15,4 @@ pub mod Placing
 pub mod Bodied
 pub mod Searching
 pub mod Taking
+pub mod Imaging

@@ -66,7 +66,7 @@ module _ (size : Size) (known : List Picture) (px py : ℕ) (reads : ℕ → ℤ
   own_long Zero path = refl
   own_long Clamp path = refl
 
-  bits_long : (e : Tree) (path : List Step) → length (bits_of e path) ≡ bits_in e
+  pub bits_long : (e : Tree) (path : List Step) → length (bits_of e path) ≡ bits_in e
   bits_long (constant v t) path = refl
   bits_long (read edge g dx dy) path = refl
   bits_long (shifted edge dx dy a) path = omega (arith, length-append (own_bit edge (with_step path edge dx dy)) (bits_of a (with_step path edge dx dy)), own_long edge (with_step path edge dx dy), bits_long a (with_step path edge dx dy))
