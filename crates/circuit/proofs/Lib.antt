@@ -8,8 +8,10 @@ pub mod Bodies
 pub mod Bits
 pub mod Lasting
 pub mod Choosing
-pub mod Built
+pub mod Building
 pub mod Leafing
 pub mod Typing
 pub mod Placing
 pub mod Bodied
+pub mod Validity
+pub mod Forming

@@ -18,13 +18,13 @@ pub fn valid_from(b: &mut Builder, latency: u64) -> Result<Net, Memory>
     ensures valid { IfOk result (IsStarted b.new latency) }
 {
     let begun = started(b, latency)?;
-    if !b.has_en() {
-        return Ok(begun);
+    if b.has_en() {
+        let en = b.en();
+        let net = gate(
+            b,
+            Right::Binary(Operator::And, Atom::Net(en), Atom::Net(begun)),
+        )?;
+        return Ok(net);
     }
-    let en = b.en();
-    let net = gate(
-        b,
-        Right::Binary(Operator::And, Atom::Net(en), Atom::Net(begun)),
-    )?;
-    Ok(net)
+    Ok(begun)
 }
