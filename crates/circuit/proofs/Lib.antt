@@ -15,3 +15,5 @@ pub mod Placing
 pub mod Bodied
 pub mod Validity
 pub mod Forming
+pub mod Leaving
+pub mod Behaving
