@@ -14,7 +14,7 @@ use Rattle.net_build.proofs.Runs.{clock_more}
 use Rattle.net_build.proofs.Updating.{all_updated}
 use Rattle.buffer_plan.specs.Plans.{Parts, latency_of}
 use Rattle.circuit.specs.Behaviour.{net_of, IsStarted, AreOuts}
-use Rattle.circuit.specs.Ends.{output_in, IsValidOf, AreValids, IsOut, CanEnd}
+use Rattle.circuit.specs.Ends.{output_in, IsValidOf, AreValids, IsOut, IsSharedBy, AreShared, CanEnd}
 
 -- a valid lasts
 started_more : (new old : Netlist) (latency : ℕ) (n : Net) → Includes new old → IsStarted old latency n → IsStarted new latency n
@@ -64,6 +64,25 @@ outs_more new old plan nets outs more out grows e are is =
       | inl old_one ↦ out_more new old plan nets k o grows (out_of old plan nets (length outs) outs are k o old_one)
       | inr last ↦ subst (λ (j : ℕ). IsOut new plan nets j o) (sym last.0) (subst (IsOut new plan nets (length outs)) last.1 is)
     ]))
+
+-- outputs of one latency share their valid
+pub shared_none : (plan : Parts) (outs : List (Net × Net)) → outs ≡ [] → AreShared plan outs
+shared_none plan outs e k out at j o on same = absurd (none j o (subst (λ (os : List (Net × Net)). slice_get os j ≡ Some o) e on))
+  where
+    none : (j : ℕ) (o : Net × Net) → slice_get [] j ≡ Some o → ⊥
+    none j o on = cc
+
+pub shared_more : (plan : Parts) (outs more : List (Net × Net)) (out : Net × Net) → more ≡ outs ++ out ∷ [] → AreShared plan outs → IsSharedBy plan outs (length outs) out.0 → AreShared plan more
+shared_more plan outs more out e old is = subst (AreShared plan) (sym e) (λ k o at j q on same. elim (at_push outs out o k at) as (λ _. q.0 ≡ o.0) [
+  | inl first ↦ elim (at_push outs out q j on) as (λ _. q.0 ≡ o.0) [
+    | inl other ↦ old k o first j q other same
+    | inr last ↦ ap (λ (p : Net × Net). p.0) (sym last.1) ∙ sym (is k o first (sym same ∙ ap (latency_of plan) last.0))
+  ]
+  | inr last ↦ elim (at_push outs out q j on) as (λ _. q.0 ≡ o.0) [
+    | inl other ↦ is j q other (same ∙ ap (latency_of plan) last.0) ∙ ap (λ (p : Net × Net). p.0) last.1
+    | inr both ↦ ap (λ (p : Net × Net). p.0) (sym both.1 ∙ last.1)
+  ]
+])
 
 -- where the valids and douts stand among all nets
 pub flat_at : (outs : List (Net × Net)) (k : ℕ) (o : Net × Net) → slice_get outs k ≡ Some o → (slice_get (flat outs) (2 * k) ≡ Some o.0) × (slice_get (flat outs) (2 * k + 1) ≡ Some o.1)

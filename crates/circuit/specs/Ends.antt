@@ -30,6 +30,14 @@ pub record IsOut (b : Netlist) (plan : Parts) (nets : List Net) (k : ℕ) (out :
   pub valid : IsValidOf b plan k out.0
   pub dout : out.1 ≡ net_of plan nets (output_in plan k)
 
+-- the net is the valid of each of these outputs that has the latency of the k-th
+abbrev pub IsSharedBy : Parts → List (Net × Net) → (k : ℕ) → Net → Type 0
+IsSharedBy plan outs k net = (j : ℕ) (out : Net × Net) → slice_get outs j ≡ Some out → latency_of plan j ≡ latency_of plan k → out.0 ≡ net
+
+-- outputs of one latency have one valid
+abbrev pub AreShared : Parts → List (Net × Net) → Type 0
+AreShared plan outs = (k : ℕ) (out : Net × Net) → slice_get outs k ≡ Some out → IsSharedBy plan outs k out.0
+
 -- Each output can take the net of its image, which has its width, and all registers and arrays are updated.
 pub record CanEnd (b : Netlist) (plan : Parts) (nets : List Net) : Type 0 where
   pub count : length nets ≡ length plan.system.stencils.images
