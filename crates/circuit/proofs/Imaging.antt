@@ -1,6 +1,6 @@
 -- The net of an image's body, over the nets of its leaves.
-use Rattle.std.proofs.Common.{◌≡◌, ℕ, zero, suc, ◌+◌, ◌<◌, ◌≤◌, Bool, List, [], ◌∷◌, ◌++◌, length, map, take, drop, Option, Some, false, refl, sym, ap, subst, ◌∙◌, arith, append_assoc, length-append, length-take-le}
-use Rattle.std.specs.Prelude.{pos, option_map, slice_get, slice_index_or}
+use Rattle.std.proofs.Common.{◌≡◌, ℕ, zero, suc, ◌+◌, ◌<◌, ◌≤◌, Bool, List, [], ◌∷◌, ◌++◌, length, map, take, drop, Option, Some, true, false, refl, sym, ap, subst, ◌∙◌, arith, append_assoc, length-append, length-take-le}
+use Rattle.std.specs.Prelude.{pos, option_map, slice_get, slice_index, slice_index_or, if◌then◌else◌}
 use Rattle.std.specs.List.{All}
 use Rattle.std.proofs.lemmas.Option.{slice_get-map, slice_get_within, get_or_from_slice_get}
 use Rattle.std.proofs.lemmas.List.{length-map, map-append, take-append-drop}
@@ -12,18 +12,21 @@ use Rattle.dk_base.specs.Types.{IsType, width_of as bits_of_type}
 use Rattle.wiring.specs.declared.netlist.Net.{Net}
 use Rattle.wiring.specs.declared.netlist.Holder.{Holder}
 use Rattle.wiring.specs.declared.netlist.Holder.TheVariants.{OfNet}
-use Rattle.wiring.specs.Netlist.{Netlist, net_width, din_net}
+use Rattle.wiring.specs.Netlist.{Netlist, net_width, din_net, first_din}
 use Rattle.net_build.specs.Includes.{Includes}
 use Rattle.net_build.specs.Draft.{IsNet}
 use Rattle.net_build.specs.Control.{IsMadeOf}
 use Rattle.net_build.proofs.Parts.{Includes-refl, Includes-trans}
 use Rattle.net_build.proofs.Drafts.{append_behind}
+use Rattle.pointwise_ir.specs.declared.ir.Input.{Input}
+use Rattle.pointwise_ir.specs.declared.ir.Definition.{Definition}
 use Rattle.pointwise_ir.specs.Trees.{Tree, tree_of, constant, read, shifted, unary, binary, select, convert, scale}
 use Rattle.pointwise_ir.specs.Typing.{HasType}
 use Rattle.pointwise_ir.specs.Programs.{Program, IsProgram, IsBody, types_of, bodies_of, all_types}
 use Rattle.pointwise_ir.proofs.Defined.{types_are}
 use Rattle.pointwise_ir.proofs.Pictured.{mapped_entry, picture_of_body, values_in}
 use Rattle.edge_select.specs.declared.step.Step.{Step}
+use Rattle.datapath.specs.declared.lowering.Leaves.{Leaves}
 use Rattle.datapath.specs.Expressions.{AreLeaves, AreLeavesMade, HasLeaves, IsLowered, IsMadeOfLeaves, IsTyped, types_in, type_of}
 use Rattle.datapath.specs.declared.operand.Signal.TheVariants as signal
 use Rattle.datapath.proofs.Leaved.{typed_as}
@@ -31,8 +34,8 @@ use Rattle.buffer_plan.specs.Plans.{Parts, IsPlan, width_of}
 use Rattle.circuit.specs.Rounds.{type_at}
 use Rattle.circuit.specs.Leaves.{LeafRead, with_step, reads_of, bits_of, ReadsBefore}
 use Rattle.circuit.specs.Taps.{HasControl, IsReading, IsTapOf}
-use Rattle.circuit.specs.Reads.{reads_in, AreLeafNets}
-use Rattle.circuit.specs.Images.{IsImageNet}
+use Rattle.circuit.specs.Reads.{reads_in, AreLeafNets, AddsLeaves}
+use Rattle.circuit.specs.Images.{IsImageNet, ports_of}
 use Rattle.circuit.proofs.Typing.{entry_or, plan_width, reads_typed, reads_before}
 use Rattle.circuit.proofs.Paths.{reads_long, bits_long}
 use Rattle.circuit.proofs.Lasting.{leaf_nets_more}
@@ -146,3 +149,45 @@ module _ (mid old : Netlist) (p : Program) (plan : Parts) (taps : List (List Net
           bit = λ i n on. (let (steps, at) = of_bit i n on in (now.bit i steps n at on).made base (subst (λ (x : Bool). HasControl x base) (sym (late.enable ∙ early.enable)) has));
         });
       }
+
+-- the leaves that are added to none
+pub first_leaves : (new old : Netlist) (p : Program) (plan : Parts) (taps : List (List Net)) (f : ℕ) (ls : List LeafRead) (ps : List (List Step)) (now before : Leaves) → before.reads.items ≡ [] → before.bits.items ≡ [] → AddsLeaves new old p plan taps f ls ps now before → AreLeafNets new old p plan taps f ls ps now.reads.items now.bits.items
+first_leaves new old p plan taps f ls ps now before reads bits adds = adds.added old [] [] (Includes-refl old) (record {
+  reads_are = ap length reads;
+  bits_are = ap length bits;
+  ty = λ i leaf n at on. absurd (let e : ⊥ = cc in e);
+  read = λ i leaf n at on. absurd (let e : ⊥ = cc in e);
+  bit = λ i steps n at on. absurd (let e : ⊥ = cc in e);
+})
+
+-- the din of an input
+port_of : (enable : Bool) (dins : List ℕ) (k : ℕ) → k < length dins → ((if enable then 2 else 1) + k < length (1 ∷ (if enable then 1 ∷ dins else dins))) × (slice_index (1 ∷ (if enable then 1 ∷ dins else dins)) ((if enable then 2 else 1) + k) ≡ slice_index dins k)
+port_of true dins k lt = (omega (arith, lt), ap (slice_index (1 ∷ (1 ∷ dins))) (let e : 2 + k ≡ suc (suc k) = omega arith in e))
+port_of false dins k lt = (omega (arith, lt), ap (slice_index (1 ∷ dins)) (let e : 1 + k ≡ suc k = omega arith in e))
+
+input_type : (inputs : List Input) (images : List Definition) (k : ℕ) → k < length inputs → slice_index (map (λ i. bits_of_type i.ty) inputs) k ≡ bits_of_type (slice_index_or (all_types inputs images) k (Unsigned 1))
+input_type [] images k lt = absurd (let e : ⊥ = omega (arith, lt) in e)
+input_type (i ∷ inputs) images zero lt = refl
+input_type (i ∷ inputs) images (suc k) lt = input_type inputs images k (let h : k < length inputs = omega (arith, lt) in h)
+
+pub din_there : (b : Netlist) (p : Program) → Includes b (ports_of p b.enable) → (k : ℕ) → k < length p.inputs → first_din b + k < length b.inputs
+din_there b p ports k lt =
+    let dins = map (λ i. bits_of_type i.ty) p.inputs in
+    let long : length dins ≡ length p.inputs = length-map p.inputs _ in
+    subst (λ (xs : List ℕ). first_din b + k < length xs) (sym ports.inputs) (port_of b.enable dins k (omega (arith, lt, long))).0
+
+pub din_wide : (b : Netlist) (p : Program) → Includes b (ports_of p b.enable) → (k : ℕ) → k < length p.inputs → net_width b (din_net b k) ≡ bits_of_type (type_at p k)
+din_wide b p ports k lt =
+    let dins = map (λ i. bits_of_type i.ty) p.inputs in
+    let long : length dins ≡ length p.inputs = length-map p.inputs _ in
+    ap (λ (xs : List ℕ). slice_index xs (first_din b + k)) ports.inputs ∙ (port_of b.enable dins k (omega (arith, lt, long))).1 ∙ input_type p.inputs p.images k lt
+
+-- the net of an input
+pub input_net_is : (b : Netlist) (p : Program) (plan : Parts) (taps : List (List Net)) (f : ℕ) (net : Net) → IsReading b p plan taps f → Includes b (ports_of p b.enable) → f < length p.inputs → net ≡ din_net b f → IsNet b net → IsImageNet b b p plan taps f net
+input_net_is b p plan taps f net reading ports lt is there = record {
+  there = there;
+  width = ap (net_width b) is ∙ din_wide b p ports f lt ∙ sym (plan_width p plan f reading.stencils reading.kept);
+  input = λ low. is;
+  body = λ le. absurd (let e : ⊥ = omega (arith, lt, le) in e);
+  made = λ le. absurd (let e : ⊥ = omega (arith, lt, le) in e);
+}

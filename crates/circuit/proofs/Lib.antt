@@ -8,7 +8,7 @@ pub mod Bodies
 pub mod Bits
 pub mod Lasting
 pub mod Choosing
-pub mod Built
+pub mod Building
 pub mod Leafing
 pub mod Typing
 pub mod Placing
@@ -16,3 +16,7 @@ pub mod Bodied
 pub mod Searching
 pub mod Taking
 pub mod Imaging
+pub mod Validity
+pub mod Forming
+pub mod Leaving
+pub mod Behaving

@@ -6,3 +6,4 @@ pub mod Reads
 pub mod Forms
 pub mod Images
 pub mod Behaviour
+pub mod Ends

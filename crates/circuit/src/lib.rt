@@ -1,11 +1,20 @@
 //! The circuit of a program: a module whose nets are the images' pixels, with buffers of any form.
 #![tactic(auto)]
 
+mod build;
 mod choices;
+mod finishing;
+mod forms;
+mod images;
+mod leaves;
 mod options;
+mod outs;
 mod positions;
 mod reader;
 mod taps;
+mod valid;
 
+pub use finishing::{Built, finished};
+pub use forms::{BufferForm, Chain, Ring};
 pub use options::Options;
 pub use taps::Taps;
