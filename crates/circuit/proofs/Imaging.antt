@@ -1,8 +1,8 @@
 -- The net of an image's body, over the nets of its leaves.
-use Rattle.std.proofs.Common.{◌≡◌, ℕ, zero, suc, ◌+◌, ◌<◌, ◌≤◌, Bool, List, [], ◌∷◌, ◌++◌, length, map, take, drop, Option, Some, true, false, refl, sym, ap, subst, ◌∙◌, arith, append_assoc, length-append, length-take-le}
+use Rattle.std.proofs.Common.{◌≡◌, ℕ, zero, suc, ◌+◌, ◌-◌, ◌<◌, ◌≤◌, Bool, List, [], ◌∷◌, ◌++◌, length, map, take, drop, Option, Some, true, false, refl, sym, ap, subst, ◌∙◌, arith, append_assoc, length-append, length-take-le}
 use Rattle.std.specs.Prelude.{pos, option_map, slice_get, slice_index, slice_index_or, if◌then◌else◌}
 use Rattle.std.specs.List.{All}
-use Rattle.std.proofs.lemmas.Option.{slice_get-map, slice_get_within, get_or_from_slice_get}
+use Rattle.std.proofs.lemmas.Option.{slice_get-map, slice_get-get_or, slice_get_within, get_or_from_slice_get}
 use Rattle.std.proofs.lemmas.List.{length-map, map-append, take-append-drop}
 use Rattle.std.proofs.lemmas.List.Elements.{All-append}
 use Rattle.wiring.proofs.Lists.{slice_get-append}
@@ -150,15 +150,31 @@ module _ (mid old : Netlist) (p : Program) (plan : Parts) (taps : List (List Net
         });
       }
 
--- the leaves that are added to none
-pub first_leaves : (new old : Netlist) (p : Program) (plan : Parts) (taps : List (List Net)) (f : ℕ) (ls : List LeafRead) (ps : List (List Step)) (now before : Leaves) → before.reads.items ≡ [] → before.bits.items ≡ [] → AddsLeaves new old p plan taps f ls ps now before → AreLeafNets new old p plan taps f ls ps now.reads.items now.bits.items
-first_leaves new old p plan taps f ls ps now before reads bits adds = adds.added old [] [] (Includes-refl old) (record {
-  reads_are = ap length reads;
-  bits_are = ap length bits;
-  ty = λ i leaf n at on. absurd (let e : ⊥ = cc in e);
-  read = λ i leaf n at on. absurd (let e : ⊥ = cc in e);
-  bit = λ i steps n at on. absurd (let e : ⊥ = cc in e);
-})
+-- the leaves that are added to none, at the end of no steps
+pub first_leaves : (new old : Netlist) (p : Program) (plan : Parts) (taps : List (List Net)) (f : ℕ) (e : Tree) (steps : List Step) (now before : Leaves) → steps ≡ [] → before.reads.items ≡ [] → before.bits.items ≡ [] → AddsLeaves new old p plan taps f (reads_of e steps) (bits_of e steps) now before →
+    AreLeafNets new old p plan taps f (reads_of e []) (bits_of e []) now.reads.items now.bits.items
+first_leaves new old p plan taps f e steps now before none reads bits adds =
+    subst (λ (s : List Step). AreLeafNets new old p plan taps f (reads_of e s) (bits_of e s) now.reads.items now.bits.items) none
+    (adds.added old [] [] (Includes-refl old) (record {
+      reads_are = ap length reads;
+      bits_are = ap length bits;
+      ty = λ i leaf n at on. absurd (let e : ⊥ = cc in e);
+      read = λ i leaf n at on. absurd (let e : ⊥ = cc in e);
+      bit = λ i steps n at on. absurd (let e : ⊥ = cc in e);
+    }))
+
+-- the body of an image
+pub body_at : (p : Program) (inputs : List Input) (images : List Definition) → inputs ≡ p.inputs → images ≡ p.images → (f : ℕ) (d : Definition) → length inputs ≤ f → f < length (types_of p) → IsBody p f (tree_of (slice_index_or images (f - length inputs) d).body)
+body_at p inputs images same_inputs same_images f d high low =
+    let k = f - length inputs in
+    let long : length (types_of p) ≡ length inputs + length images =
+    let a = length-append (map (λ i. i.ty) p.inputs) (map (λ d. d.ty) p.images) in
+    let b : length (map (λ i. i.ty) p.inputs) ≡ length p.inputs = length-map p.inputs _ in
+    let c : length (map (λ d. d.ty) p.images) ≡ length p.images = length-map p.images _ in
+    omega (arith, a, b, c, ap length same_inputs, ap length same_images) in
+    let within : k < length images = omega (arith, high, low, long) in
+    let at : slice_get p.images k ≡ Some (slice_index_or images k d) = subst (λ (xs : List Definition). slice_get xs k ≡ Some (slice_index_or images k d)) same_images (slice_get-get_or images k d within) in
+    (k, (let e : f ≡ length p.inputs + k = omega (arith, high, ap length same_inputs) in e), slice_get-map (λ d. tree_of d.body) p.images k ∙ ap (λ o. option_map (λ d. tree_of d.body) o) at)
 
 -- the din of an input
 port_of : (enable : Bool) (dins : List ℕ) (k : ℕ) → k < length dins → ((if enable then 2 else 1) + k < length (1 ∷ (if enable then 1 ∷ dins else dins))) × (slice_index (1 ∷ (if enable then 1 ∷ dins else dins)) ((if enable then 2 else 1) + k) ≡ slice_index dins k)
