@@ -2,6 +2,7 @@
 #![tactic(auto)]
 
 mod choices;
+mod leaves;
 mod options;
 mod positions;
 mod reader;
