@@ -97,8 +97,7 @@ pub fn push_leaves(
                 dx: *dx,
                 dy: *dy,
             };
-            push_read(b, reader, made, steps, step, *g, leaves)?;
-            Ok(())
+            push_read(b, reader, made, steps, step, *g, leaves)
         }
         Expr::Shifted(edge, dx, dy, body) => {
             let step = Step {
@@ -113,10 +112,7 @@ pub fn push_leaves(
             steps.pop();
             Ok(())
         }
-        Expr::Unary(_, body) => {
-            push_leaves(body, b, reader, made, steps, leaves)?;
-            Ok(())
-        }
+        Expr::Unary(_, body) => push_leaves(body, b, reader, made, steps, leaves),
         Expr::Binary(_, left, right) => {
             push_leaves(left, b, reader, made, steps, leaves)?;
             still(b, reader);
@@ -131,13 +127,7 @@ pub fn push_leaves(
             push_leaves(second, b, reader, made, steps, leaves)?;
             Ok(())
         }
-        Expr::Convert(_, body, _) => {
-            push_leaves(body, b, reader, made, steps, leaves)?;
-            Ok(())
-        }
-        Expr::Scale(_, body, _) => {
-            push_leaves(body, b, reader, made, steps, leaves)?;
-            Ok(())
-        }
+        Expr::Convert(_, body, _) => push_leaves(body, b, reader, made, steps, leaves),
+        Expr::Scale(_, body, _) => push_leaves(body, b, reader, made, steps, leaves),
     }
 }
