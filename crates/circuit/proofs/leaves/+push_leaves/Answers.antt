@@ -1,7 +1,8 @@
-use Rattle.std.proofs.Common.{◌≡◌, [], List, ◌++◌, ap, sym, subst, ◌∙◌, rules, to_z, of_z, w32}
-use Rattle.std.specs.Prelude.{ℤ, OnOk}
+use Rattle.std.proofs.Common.{◌≡◌, [], List, ◌++◌, ap, sym, subst, ◌∙◌, rules, to_z, of_z, w32, FitsSigned}
+use Rattle.std.specs.Prelude.{ℤ}
 use Rattle.std.proofs.lemmas.Int.{to_z-of_z}
-use Rattle.pointwise_ir.specs.Trees.{Tree, tree_of, shifted, unary, binary, select, convert, scale}
+use Rattle.pointwise_ir.specs.declared.expr.Edge.{Edge}
+use Rattle.pointwise_ir.specs.Trees.{Tree, tree_of, shifted, binary, select}
 use Rattle.edge_select.specs.declared.step.Step.{Step}
 use Rattle.net_build.proofs.Parts.{Includes-trans}
 use Rattle.net_build.proofs.Starting.{control_on}
@@ -11,6 +12,10 @@ use Rattle.circuit.proofs.Lasting.{reading_more}
 use Rattle.circuit.proofs.Leafing.{leaves_on}
 use Rattle.circuit.proofs.Placing.{control_none}
 use Rattle.circuit.proofs.leaves.«+push_leaves».Goals as goal
+
+-- a step whose offsets are stored and read back
+stepped : (here items : List Step) (edge : Edge) (dx dy : ℤ) → FitsSigned w32 dx → FitsSigned w32 dy → items ≡ with_step here edge (to_z w32 (of_z w32 dx)) (to_z w32 (of_z w32 dy)) → items ≡ with_step here edge dx dy
+stepped here items edge dx dy fx fy h = subst (λ (y : ℤ). items ≡ with_step here edge dx y) (to_z-of_z w32 dy fy) (subst (λ (x : ℤ). items ≡ with_step here edge x (to_z w32 (of_z w32 dy))) (to_z-of_z w32 dx fx) h)
 
 pub still-requires : goal.still-requires
 still-requires t c =
@@ -60,9 +65,7 @@ returns-in_ok-push_leaves-in-Shifted-clause-leaves t c =
     let body = tree_of c.deref-in-Shifted.result.now in
     let here = c.args.steps.now.items in
     let steps : List Step = with_step here edge dx dy in
-    let x : to_z w32 (of_z w32 dx) ≡ dx = to_z-of_z w32 dx (search rules) in
-    let y : to_z w32 (of_z w32 dy) ≡ dy = to_z-of_z w32 dy (search rules) in
-    let pushed : c.push.new.self.items ≡ steps = c.in_ok-push-in-Shifted.ensures.items ∙ ap (λ (v : ℤ). with_step here edge v (to_z w32 (of_z w32 dy))) x ∙ ap (λ (v : ℤ). with_step here edge dx v) y in
+    let pushed = stepped here c.push.new.self.items edge dx dy (search rules) (search rules) c.in_ok-push-in-Shifted.ensures.items in
     let is : tree_of c.args.e.now ≡ shifted edge dx dy body = ap tree_of c.in-Shifted.is ∙ ap (λ a. shifted edge dx dy (tree_of a)) (sym c.deref-in-Shifted.ensures) in
     let one = subst (λ (s : List Step). AddsLeaves mid old p plan taps f [] (own_bit edge s) between before) (c.deref.ensures.value ∙ pushed) c.in_ok-push_test-in-Shifted.ensures.leaves in
     let other = subst (λ (s : List Step). AddsLeaves new mid p plan taps f (reads_of body s) (bits_of body s) now between) pushed c.in_ok-push_leaves-in-Shifted.ensures.leaves in
@@ -133,24 +136,3 @@ returns-in_ok-push_leaves-in-Select-3-clause-leaves t c =
     subst (λ (e : Tree). AddsLeaves new old p plan taps f (reads_of e here) (bits_of e here) now before) (sym is)
     (leaves_on p plan taps f new two old (reads_of condition here ++ reads_of first here) (reads_of second here) (bits_of condition here ++ bits_of first here) (bits_of second here) now between before
     (Includes-trans two one old c.in_ok-push_leaves-in-Select-2.ensures.adds.includes c.in_ok-push_leaves-in-Select.ensures.adds.includes) both right)
-
-pub returns-in-Unary-clause-leaves : goal.returns-in-Unary-clause-leaves
-returns-in-Unary-clause-leaves t c =
-    let r = c.args.reader.now in
-    let here = c.args.steps.now.items in
-    let is : tree_of c.args.e.now ≡ unary c.in-Unary.field-0 (tree_of c.deref-in-Unary.result.now) = ap tree_of c.in-Unary.is ∙ ap (λ a. unary c.in-Unary.field-0 (tree_of a)) (sym c.deref-in-Unary.ensures) in
-    subst (λ (e : Tree). OnOk c.push_leaves-in-Unary.result (AddsLeaves c.push_leaves-in-Unary.new.b c.args.b.now r.ir.now r.plan.now r.taps.now r.image (reads_of e here) (bits_of e here) c.push_leaves-in-Unary.new.leaves c.args.leaves.now)) (sym is) c.push_leaves-in-Unary.ensures.leaves
-
-pub returns-in-Convert-clause-leaves : goal.returns-in-Convert-clause-leaves
-returns-in-Convert-clause-leaves t c =
-    let r = c.args.reader.now in
-    let here = c.args.steps.now.items in
-    let is : tree_of c.args.e.now ≡ convert c.in-Convert.field-0 (tree_of c.deref-in-Convert.result.now) c.in-Convert.field-2 = ap tree_of c.in-Convert.is ∙ ap (λ a. convert c.in-Convert.field-0 (tree_of a) c.in-Convert.field-2) (sym c.deref-in-Convert.ensures) in
-    subst (λ (e : Tree). OnOk c.push_leaves-in-Convert.result (AddsLeaves c.push_leaves-in-Convert.new.b c.args.b.now r.ir.now r.plan.now r.taps.now r.image (reads_of e here) (bits_of e here) c.push_leaves-in-Convert.new.leaves c.args.leaves.now)) (sym is) c.push_leaves-in-Convert.ensures.leaves
-
-pub returns-in-Scale-clause-leaves : goal.returns-in-Scale-clause-leaves
-returns-in-Scale-clause-leaves t c =
-    let r = c.args.reader.now in
-    let here = c.args.steps.now.items in
-    let is : tree_of c.args.e.now ≡ scale c.in-Scale.field-0 (tree_of c.deref-in-Scale.result.now) c.in-Scale.field-2 = ap tree_of c.in-Scale.is ∙ ap (λ a. scale c.in-Scale.field-0 (tree_of a) c.in-Scale.field-2) (sym c.deref-in-Scale.ensures) in
-    subst (λ (e : Tree). OnOk c.push_leaves-in-Scale.result (AddsLeaves c.push_leaves-in-Scale.new.b c.args.b.now r.ir.now r.plan.now r.taps.now r.image (reads_of e here) (bits_of e here) c.push_leaves-in-Scale.new.leaves c.args.leaves.now)) (sym is) c.push_leaves-in-Scale.ensures.leaves
