@@ -72,7 +72,7 @@ place_of_entry images k i up at = from (entry_at images k i at)
     from (lt, e) = ap (λ (j : Image). place images j.number) (sym e) ∙ place_at images k i up lt
 
 -- and that it is kept
-entry_kept : (images : List Image) (k : ℕ) (i : Image) → slice_get images k ≡ Some i → IsKept images i.number
+pub entry_kept : (images : List Image) (k : ℕ) (i : Image) → slice_get images k ≡ Some i → IsKept images i.number
 entry_kept images k i at = from (entry_at images k i at)
   where
     from : (k < length images) × (slice_index_or images k i ≡ i) → IsKept images i.number

@@ -1,14 +1,11 @@
 // The leaves of an expression, in the order of its nodes.
 
-ghost use Rattle.std.specs.Prelude.{◌≡◌, ◌++◌, ◌∷◌, [], ℕ, ◌<◌, List, IfOk, IfSome, OnOk};
+ghost use Rattle.std.specs.Prelude.{◌≡◌, ◌++◌, ◌∷◌, [], ◌<◌, IfSome, OnOk};
 ghost use Rattle.pointwise_ir.specs.Trees.{tree_of};
-ghost use Rattle.wiring.specs.Netlist.{Netlist};
-ghost use Rattle.net_build.specs.Includes.{Includes};
 ghost use Rattle.net_build.specs.Counters.{AddsControl};
-ghost use Rattle.edge_select.specs.declared.step.Step.{Step};
-ghost use Rattle.circuit.specs.Leaves.{LeafRead, reads_of, bits_of, own_bit, with_step, ReadsBefore};
+ghost use Rattle.circuit.specs.Leaves.{reads_of, bits_of, own_bit, ReadsBefore};
 ghost use Rattle.circuit.specs.Taps.{IsReading};
-ghost use Rattle.circuit.specs.Reads.{HasPosition, AreLeafNets, AddsLeaves};
+ghost use Rattle.circuit.specs.Reads.{HasPosition, AddsLeaves};
 
 use crate::choices::read_net;
 use crate::positions::test_on;
@@ -59,13 +56,21 @@ fn push_test(
     ensures made { OnOk result (IfSome made.new (HasPosition b.new reader.now.plan.now reader.now.image)) }
     ensures leaves { OnOk result (AddsLeaves b.new b.old reader.now.ir.now reader.now.plan.now reader.now.taps.now reader.now.image [] (own_bit edge steps.now) leaves.new leaves.old) }
 {
-    if edge == Edge::Clamp {
-        return Ok(());
+    match edge {
+        Edge::Zero => {
+            let net = test_on(b, reader.plan, reader.image, made, steps)?;
+            leaves.bits.push(net)?;
+            Ok(())
+        }
+        Edge::Clamp => Ok(()),
     }
-    let net = test_on(b, reader.plan, reader.image, made, steps)?;
-    leaves.bits.push(net)?;
-    Ok(())
 }
+
+// A law, called where the leaves of a part come after others: what they need is known there.
+fn still(b: &Builder, reader: &Reader)
+    requires { IsReading b.now reader.now.ir.now reader.now.plan.now reader.now.taps.now reader.now.image }
+    ensures { IsReading b.now reader.now.ir.now reader.now.plan.now reader.now.taps.now reader.now.image }
+{}
 
 /// Adds the nets of the leaves of an expression that stands at the end of these steps. It calls itself as deep as the expression is.
 pub fn push_leaves(
@@ -92,8 +97,7 @@ pub fn push_leaves(
                 dx: *dx,
                 dy: *dy,
             };
-            push_read(b, reader, made, steps, step, *g, leaves)?;
-            Ok(())
+            push_read(b, reader, made, steps, step, *g, leaves)
         }
         Expr::Shifted(edge, dx, dy, body) => {
             let step = Step {
@@ -103,32 +107,27 @@ pub fn push_leaves(
             };
             steps.push(step)?;
             push_test(b, reader, made, steps, *edge, leaves)?;
+            still(b, reader);
             push_leaves(body, b, reader, made, steps, leaves)?;
             steps.pop();
             Ok(())
         }
-        Expr::Unary(_, body) => {
-            push_leaves(body, b, reader, made, steps, leaves)?;
-            Ok(())
-        }
+        Expr::Unary(_, body) => push_leaves(body, b, reader, made, steps, leaves),
         Expr::Binary(_, left, right) => {
             push_leaves(left, b, reader, made, steps, leaves)?;
+            still(b, reader);
             push_leaves(right, b, reader, made, steps, leaves)?;
             Ok(())
         }
         Expr::Select(condition, first, second) => {
             push_leaves(condition, b, reader, made, steps, leaves)?;
+            still(b, reader);
             push_leaves(first, b, reader, made, steps, leaves)?;
+            still(b, reader);
             push_leaves(second, b, reader, made, steps, leaves)?;
             Ok(())
         }
-        Expr::Convert(_, body, _) => {
-            push_leaves(body, b, reader, made, steps, leaves)?;
-            Ok(())
-        }
-        Expr::Scale(_, body, _) => {
-            push_leaves(body, b, reader, made, steps, leaves)?;
-            Ok(())
-        }
+        Expr::Convert(_, body, _) => push_leaves(body, b, reader, made, steps, leaves),
+        Expr::Scale(_, body, _) => push_leaves(body, b, reader, made, steps, leaves),
     }
 }
