@@ -20,3 +20,4 @@ pub mod Validity
 pub mod Forming
 pub mod Leaving
 pub mod Behaving
+pub mod Adding

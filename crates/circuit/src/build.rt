@@ -32,6 +32,7 @@ fn add_image<F: BufferForm>(
     ensures enable { OnOk result (b.new.enable ≡ b.old.enable) }
     ensures built { OnOk result (AreBuilt b.new ir.now plan.now (F.shapes form.now) (F.places form.now) (F.property form.now) (suc k) nets.new.items taps.new.items) }
 {
+    plan.law();
     let image = plan.images()[k].number;
     let reader = Reader {
         ir,
@@ -41,6 +42,7 @@ fn add_image<F: BufferForm>(
     };
     let net = image_net(alloc, b, &reader)?;
     let own = form.add(alloc, plan, image, net, b)?;
+    b.law();
     nets.push(net)?;
     taps.push(own)?;
     Ok(())

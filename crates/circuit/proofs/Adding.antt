@@ -1,0 +1,88 @@
+-- One image more.
+use Rattle.std.proofs.Common.{◌≡◌, ℕ, suc, ◌<◌, ◌≤◌, Bool, List, [], ◌∷◌, ◌++◌, length, take, Some, refl, sym, ap, subst, ◌∙◌, arith}
+use Rattle.std.specs.Prelude.{ℤ, pos, ◌≤ℤ◌, Contains, slice_get, slice_index_or}
+use Rattle.std.specs.List.{All}
+use Rattle.std.proofs.lemmas.Option.{slice_get_within, slice_get-get_or, get_or_from_slice_get}
+use Rattle.dk_base.specs.declared.stencils.Image.{Image}
+use Rattle.dk_base.specs.declared.stencils.LiveRead.{LiveRead}
+use Rattle.dk_base.proofs.Orders.{at_place}
+use Rattle.raster_delay.specs.declared.placed.PlacedRead.{PlacedRead}
+use Rattle.raster_delay.specs.Placing.{placed}
+use Rattle.raster_delay.specs.Delays.{age_of}
+use Rattle.raster_delay.specs.Systems.{placed_reads}
+use Rattle.raster_delay.proofs.Places.{place_less}
+use Rattle.wiring.specs.declared.netlist.Net.{Net}
+use Rattle.wiring.specs.declared.netlist.Net.TheVariants.{Input}
+use Rattle.wiring.specs.Netlist.{Netlist, net_width}
+use Rattle.net_build.specs.Draft.{IsNet, IsDraft}
+use Rattle.net_build.specs.Counters.{AddsControl}
+use Rattle.pointwise_ir.specs.Programs.{Program, types_of}
+use Rattle.pointwise_ir.specs.Stencils.{AreStencilsOf, IsKeptImage}
+use Rattle.buffer_plan.specs.Plans.{Parts, IsPlan, place_in, ages_of, read_age, width_of}
+use Rattle.buffer_plan.proofs.Aged.{placed_in}
+use Rattle.circuit.specs.Taps.{Keeps, taps_at, HasTaps, IsReading}
+use Rattle.circuit.specs.Reads.{reads_in}
+use Rattle.circuit.specs.Forms.{Shapes, Places, Property, IsBuffered, shapes_of, shapes_before}
+use Rattle.circuit.specs.Images.{IsImageNet, IsLine, AreBuilt}
+use Rattle.circuit.proofs.Bodied.{read_of, read_is_between}
+use Rattle.circuit.proofs.Building.{built_more, entry_kept, place_of_entry}
+
+-- The image i, at place k among the kept ones.
+module _ (b0 : Netlist) (p : Program) (plan : Parts) (shapes : Shapes) (places : Places) (property : Property) (k : ℕ) (nets : List Net) (taps : List (List Net)) (i : Image)
+    (is_plan : IsPlan plan) (stencils : AreStencilsOf p plan.system.stencils) (at : slice_get plan.system.stencils.images k ≡ Some i) (built : AreBuilt b0 p plan shapes places property k nets taps) where
+  abbrev images : List Image
+  images = plan.system.stencils.images
+
+  here : place_in plan i.number ≡ k
+  here = place_of_entry images k i is_plan.system.stencils.images.ascending at
+
+  kept : Keeps plan i.number
+  kept = entry_kept images k i at
+
+  low : (h : ℕ) → h < i.number → Keeps plan h → place_in plan h < k
+  low h less keeps = (let l = place_less images is_plan.system.stencils.images.ascending h i.number keeps kept less in omega (arith, l, here))
+
+  line_of : (h : ℕ) → h < i.number → Keeps plan h → IsLine b0 p plan shapes places property taps h (slice_index_or nets (place_in plan h) (Input 0))
+  line_of h less keeps =
+      let none : Image = record { number = 0; width = 0 } in
+      subst (λ (j : ℕ). IsLine b0 p plan shapes places property taps j (slice_index_or nets (place_in plan h) (Input 0))) (at_place images h none keeps)
+      (built.line (place_in plan h) (slice_index_or images (place_in plan h) none) (low h less keeps) (slice_get-get_or images (place_in plan h) none keeps))
+
+  reader : (r : LiveRead) → Contains (reads_in plan i.number) r → Keeps plan r.g × (r.g < i.number)
+  reader r has =
+      let (among, of_f) = read_of plan i.number r has in
+      let between = read_is_between plan is_plan r among in
+      (between.source_kept, (let lt = between.earlier in omega (arith, lt, of_f)))
+
+  aged : (r : LiveRead) → Contains (reads_in plan i.number) r → pos plan.system.age ≤ℤ read_age plan r
+  aged r has = at_read (placed_in plan is_plan r (read_of plan i.number r has).0)
+    where
+      at_read : Contains (placed_reads plan.system) (placed images r) → pos plan.system.age ≤ℤ read_age plan r
+      at_read (j, lt, e) = subst (λ (x : PlacedRead). pos plan.system.age ≤ℤ age_of plan.system.stencils.width plan.delays x) e (is_plan.causal.ages j (placed images r) lt)
+
+  pub next_reading : IsReading b0 p plan taps i.number
+  next_reading = record {
+    stencils = stencils;
+    kept = kept;
+    there = (let is = stencils.images.sound k i (slice_get_within images k i at) in let same = get_or_from_slice_get images k i i at in subst (λ (x : Image). x.number < length (types_of p)) same (slice_get_within (types_of p) _ is.ty is.typed));
+    taps_are = record {
+      there = λ g keeps less. (let l = low g less keeps in omega (arith, l, built.tap_count));
+      one_each = λ g keeps less. (line_of g less keeps).buffer.one_each;
+      net = λ g keeps less. (line_of g less keeps).buffer.net;
+      width = λ g keeps less j tap on. (line_of g less keeps).buffer.width j tap on ∙ (line_of g less keeps).width;
+    };
+  }
+
+  pub next_kept : Keeps plan i.number
+  next_kept = kept
+
+  -- the arrays before its own
+  pub next_arrays : (b1 : Netlist) → AddsControl b1 b0 → b1.arrays ≡ shapes_before shapes plan i.number
+  next_arrays b1 adds = adds.arrays ∙ built.arrays ∙ ap (λ (n : ℕ). shapes_of shapes plan (take n images)) (sym here)
+
+  pub next_built : (b2 b1 : Netlist) (net : Net) (own : List Net) → AddsControl b1 b0 → IsImageNet b1 b0 p plan taps i.number net → IsBuffered b2 b1 plan i.number shapes places property net own → IsDraft b2 → AreBuilt b2 p plan shapes places property (suc k) (nets ++ net ∷ []) (taps ++ own ∷ [])
+  next_built b2 b1 net own adds image buffered draft = built_more b2 b1 b0 p plan shapes places property k nets taps i net own is_plan at low reader aged built adds image buffered draft
+
+-- an image by its place
+pub image_at : (images xs : List Image) (k : ℕ) (d : Image) → xs ≡ images → k < length images → slice_get images k ≡ Some (slice_index_or xs k d)
+image_at images xs k d same lt = subst (λ (ys : List Image). slice_get images k ≡ Some (slice_index_or ys k d)) (sym same) (slice_get-get_or images k d lt)
