@@ -1,8 +1,12 @@
 -- One image more.
-use Rattle.std.proofs.Common.{◌≡◌, ℕ, suc, ◌<◌, ◌≤◌, Bool, List, [], ◌∷◌, ◌++◌, length, take, Some, refl, sym, ap, subst, ◌∙◌, arith}
+use Rattle.std.proofs.Common.{◌≡◌, ℕ, zero, suc, ◌<◌, ◌≤◌, Bool, List, [], ◌∷◌, ◌++◌, length, map, take, get_or, Some, refl, sym, ap, subst, ◌∙◌, inr, arith}
 use Rattle.std.specs.Prelude.{ℤ, pos, ◌≤ℤ◌, Contains, slice_get, slice_index_or}
 use Rattle.std.specs.List.{All}
+use Rattle.std.proofs.lemmas.List.{length-map}
 use Rattle.std.proofs.lemmas.Option.{slice_get_within, slice_get-get_or, get_or_from_slice_get}
+use Rattle.dk_base.specs.declared.ty.Ty.{Ty}
+use Rattle.dk_base.specs.declared.ty.Ty.TheVariants.{Unsigned, Signed}
+use Rattle.dk_base.specs.Types.{IsPort, width_of as bits_of_type}
 use Rattle.dk_base.specs.declared.stencils.Image.{Image}
 use Rattle.dk_base.specs.declared.stencils.LiveRead.{LiveRead}
 use Rattle.dk_base.proofs.Orders.{at_place}
@@ -14,16 +18,23 @@ use Rattle.raster_delay.proofs.Places.{place_less}
 use Rattle.wiring.specs.declared.netlist.Net.{Net}
 use Rattle.wiring.specs.declared.netlist.Net.TheVariants.{Input}
 use Rattle.wiring.specs.Netlist.{Netlist, net_width}
-use Rattle.net_build.specs.Draft.{IsNet, IsDraft}
+use Rattle.net_build.specs.Includes.{Includes}
+use Rattle.net_build.specs.Draft.{IsNet, IsDraft, AllUpdated}
+use Rattle.net_build.specs.Runs.{StillBut, NeverStops}
+use Rattle.net_build.specs.Control.{IsControlled}
+use Rattle.net_build.proofs.Parts.{Includes-refl}
 use Rattle.net_build.specs.Counters.{AddsControl}
-use Rattle.pointwise_ir.specs.Programs.{Program, types_of}
+use Rattle.wiring.specs.Rules.{IsPortWidth}
+use Rattle.pointwise_ir.specs.Programs.{Program, IsProgram, IsOutput, types_of}
 use Rattle.pointwise_ir.specs.Stencils.{AreStencilsOf, IsKeptImage}
 use Rattle.buffer_plan.specs.Plans.{Parts, IsPlan, place_in, ages_of, read_age, width_of}
 use Rattle.buffer_plan.proofs.Aged.{placed_in}
+use Rattle.circuit.specs.Rounds.{type_at}
 use Rattle.circuit.specs.Taps.{Keeps, taps_at, HasTaps, IsReading}
 use Rattle.circuit.specs.Reads.{reads_in}
 use Rattle.circuit.specs.Forms.{Shapes, Places, Property, IsBuffered, shapes_of, shapes_before}
-use Rattle.circuit.specs.Images.{IsImageNet, IsLine, AreBuilt}
+use Rattle.circuit.specs.Images.{IsImageNet, IsLine, AreBuilt, ports_of}
+use Rattle.circuit.proofs.Typing.{entry_or}
 use Rattle.circuit.proofs.Bodied.{read_of, read_is_between}
 use Rattle.circuit.proofs.Building.{built_more, entry_kept, place_of_entry}
 
@@ -86,3 +97,39 @@ module _ (b0 : Netlist) (p : Program) (plan : Parts) (shapes : Shapes) (places :
 -- an image by its place
 pub image_at : (images xs : List Image) (k : ℕ) (d : Image) → xs ≡ images → k < length images → slice_get images k ≡ Some (slice_index_or xs k d)
 image_at images xs k d same lt = subst (λ (ys : List Image). slice_get images k ≡ Some (slice_index_or ys k d)) (sym same) (slice_get-get_or images k d lt)
+
+-- with ports alone nothing is built
+pub built_none : (b : Netlist) (p : Program) (plan : Parts) (shapes : Shapes) (places : Places) (property : Property) (enable : Bool) → b ≡ ports_of p enable → AllUpdated b → StillBut b [] → NeverStops b → IsControlled b → AreBuilt b p plan shapes places property 0 [] []
+built_none b p plan shapes places property enable is updated still stops control = record {
+  ports = subst (λ (m : Netlist). Includes m (ports_of p m.enable)) (sym is) (Includes-refl (ports_of p enable));
+  net_count = refl;
+  tap_count = refl;
+  arrays = ap (λ (m : Netlist). m.arrays) is;
+  updated = λ h state. inr (updated h state);
+  still = still;
+  stops = stops;
+  control = control;
+  line = λ k i lt at. absurd (let e : ⊥ = omega (arith, lt) in e);
+}
+
+-- the widths of ports
+port_width : (t : Ty) → IsPort t → IsPortWidth (bits_of_type t)
+port_width (Unsigned n) is = is
+port_width (Signed n) is = absurd is
+
+widths_of : {X : Type 0} (f : X → ℕ) (xs : List X) (ys : List ℕ) → ys ≡ map f xs → All (λ x. IsPortWidth (f x)) xs → All IsPortWidth ys
+widths_of {X = X} f xs ys same each k d lt = subst (λ (zs : List ℕ). IsPortWidth (get_or zs k d)) (sym same) (here xs k d each (let l = length-map xs f in omega (arith, lt, ap length same, l)))
+  where
+    here : (xs : List X) (k : ℕ) (d : ℕ) → All (λ x. IsPortWidth (f x)) xs → k < length xs → IsPortWidth (get_or (map f xs) k d)
+    here [] k d each lt = absurd (let e : ⊥ = omega (arith, lt) in e)
+    here (x ∷ xs) zero d each lt = each 0 x (let h : 0 < length (x ∷ xs) = omega arith in h)
+    here (x ∷ xs) (suc k) d each lt = here xs k d (λ j e low. each (suc j) e (let h : suc j < length (x ∷ xs) = omega (arith, low) in h)) (let h : k < length xs = omega (arith, lt) in h)
+
+pub din_widths : (p : Program) → IsProgram p → (ys : List ℕ) → ys ≡ map (λ i. bits_of_type i.ty) p.inputs → All IsPortWidth ys
+din_widths p is ys same = widths_of (λ i. bits_of_type i.ty) p.inputs ys same (λ k i lt. port_width (get_or p.inputs k i).ty (is.inputs k i lt))
+
+pub dout_widths : (p : Program) → IsProgram p → (ys : List ℕ) → ys ≡ map (λ g. bits_of_type (type_at p g)) p.outputs → All IsPortWidth ys
+dout_widths p is ys same = widths_of (λ g. bits_of_type (type_at p g)) p.outputs ys same (λ k g lt. by (get_or p.outputs k g) (is.outputs k g lt))
+  where
+    by : (g : ℕ) → IsOutput (types_of p) g → IsPortWidth (bits_of_type (type_at p g))
+    by g out = subst (λ (t : Ty). IsPortWidth (bits_of_type t)) (sym (entry_or (types_of p) g out.ty (Unsigned 1) out.there)) (port_width out.ty out.port)

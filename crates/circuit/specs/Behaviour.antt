@@ -27,7 +27,6 @@ use Rattle.circuit.specs.Images.{source_of}
 
 -- the plan is one of the program, at the age that is asked
 pub record IsPlanOf (p : Program) (plan : Parts) (options : Options) : Type 0 where
-  pub limits : IsPlan plan
   pub stencils : AreStencilsOf p plan.system.stencils
   pub age : plan.system.age ≡ options.age
 

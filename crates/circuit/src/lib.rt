@@ -9,12 +9,14 @@ mod images;
 mod leaves;
 mod options;
 mod outs;
+mod ports;
 mod positions;
 mod reader;
 mod taps;
 mod valid;
 
-pub use finishing::{Built, finished};
+pub use build::build_with;
+pub use finishing::Built;
 pub use forms::{BufferForm, Chain, Ring};
 pub use options::Options;
 pub use taps::Taps;
