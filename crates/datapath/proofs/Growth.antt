@@ -1,6 +1,7 @@
 -- A netlist that grows keeps what it had.
-use Rattle.std.proofs.Common.{ℕ, ◌≡◌, ◌⊎◌, ◌<◌, ◌^◌, [], refl, subst, sym, ◌∙◌, inl, Result, Ok, Err, OnOk, OnErr}
+use Rattle.std.proofs.Common.{ℕ, ◌≡◌, ◌⊎◌, ◌<◌, ◌^◌, [], refl, subst, sym, ◌∙◌, inl, Result, Ok, Err, OnOk, OnErr, ◌+◌, ◌≤◌, length, ap, arith, inr}
 use Rattle.std.specs.Prelude.{All, Contains}
+use Rattle.std.proofs.lemmas.List.{length_push}
 use Rattle.std.proofs.lemmas.List.Elements.{All-nil, All-head, All-contains, Contains-append_left}
 use Rattle.wiring.specs.declared.right.Right.{Right}
 use Rattle.wiring.specs.Rights.{right_value}
@@ -8,6 +9,7 @@ use Rattle.wiring.specs.BufferBits.{right_reads}
 use Rattle.datapath.specs.declared.operand.Signal.{Signal}
 use Rattle.datapath.specs.declared.operand.Signal.TheVariants as signal
 use Rattle.wiring.specs.declared.netlist.Net.{Net}
+use Rattle.wiring.specs.declared.netlist.Net.TheVariants.{Wire}
 use Rattle.wiring.specs.Netlist.{Netlist, net_width}
 use Rattle.wiring.specs.Snapshot.{Snapshot, net_value, word_value, right_accesses}
 use Rattle.wiring.specs.Sizes.{IsWidth, IsConstant, SizedNumber}
@@ -101,6 +103,14 @@ grown old new r answer none includes ok err wires stops control = record {
     either : {A E : Type 0} (answer : Result A E) → OnOk answer ((new ≡ old) ⊎ (new ≡ with_wire old r)) → OnErr answer (new ≡ old) → (new ≡ old) ⊎ (new ≡ with_wire old r)
     either (Ok n) ok err = ok
     either (Err e) ok err = inl err
+
+no_wire : (old new : Netlist) → new ≡ old → length new.assigns ≤ length old.assigns + 1
+no_wire old new e = let l = ap (λ (b : Netlist). length b.assigns) e in omega (arith, l)
+
+-- it takes one assign at most
+pub at_most_one : {A E : Type 0} (old new : Netlist) (r : Right Net ℕ) (answer : Result A E) → OnOk answer ((new ≡ old) ⊎ (new ≡ with_wire old r)) → OnErr answer (new ≡ old) → length new.assigns ≤ length old.assigns + 1
+at_most_one old new r (Ok n) ok err = elim ok as (λ _. length new.assigns ≤ length old.assigns + 1) [ inl e ↦ no_wire old new e | inr e ↦ let l = ap (λ (b : Netlist). length b.assigns) e ∙ length_push old.assigns (record { target = Wire (length old.wires); right = r }) in omega (arith, l) ]
+at_most_one old new r (Err e) ok err = no_wire old new err
 
 -- the net of that call
 pub net_is : (old new : Netlist) (r : Right Net ℕ) (n : Net) → ValuesFit new → IsNet new n → net_width new n ≡ width_of old r → InEach new (λ m s. net_value s n ≡ right_value (net_width m) (word_value s) (net_value s) r) →

@@ -72,6 +72,10 @@ bits_in (select c a b) = bits_in c + bits_in a + bits_in b
 bits_in (convert how a t) = bits_in a
 bits_in (scale op a k) = bits_in a
 
+-- neither a read nor an unclamped step stands in it
+abbrev pub IsLeafless : Tree → Type 0
+IsLeafless e = (reads_in e ≡ 0) × (bits_in e ≡ 0)
+
 -- An expression's type over the types of its reads, which stand in order from the n-th on.
 abbrev pub type_of : Tree → (ℕ → Ty) → ℕ → Ty
 type_of (constant v t) types n = t

@@ -5,7 +5,7 @@ ghost use Rattle.wiring.specs.Snapshot.{net_value};
 ghost use Rattle.dk_base.specs.Types.{IsType, common_type};
 ghost use Rattle.dk_base.specs.Operators.{unary_value, are_operands, binary_result, binary_value, scaling_value, conversion_value};
 ghost use Rattle.datapath.specs.declared.operand.Signal.TheVariants as signal;
-ghost use Rattle.datapath.specs.Nets.{Grows, HasWidth, IsMadeOver};
+ghost use Rattle.datapath.specs.Nets.{Folds, Grows, HasWidth, IsMadeOver};
 ghost use Rattle.datapath.specs.Operands.{IsOperand, Carries, worth};
 ghost use Rattle.datapath.specs.Expressions.{unary_result, scaling_result, TakesOperand, TakesNumber};
 
@@ -14,11 +14,12 @@ use crate::bits::{conjunction, disjunction, negated, parity};
 use crate::comparison::{
     cast, is_at_least, is_at_most, is_equal, is_less, is_unequal, maximum, minimum,
 };
+use crate::constants::constant;
 use crate::division::{magnitude, quotient};
 use crate::operand::{Operand, Signal};
 use crate::saturation::saturated;
 use crate::shifts::{shift_left, shift_right};
-use crate::words::{choose, constant};
+use crate::words::choose;
 use dk_base::{Binary, Conversion, Memory, Scaling, Ty, Unary};
 use net_build::Builder;
 use wiring::Net;
@@ -33,6 +34,7 @@ pub fn binary(b: &mut Builder, operator: Binary, x: Operand, y: Operand) -> Resu
     ensures grows { Grows b.old b.new }
     ensures value { IfOk result (λ r. Carries b.new r (binary_result operator x.ty y.ty) (λ s. binary_value operator (worth s x) (worth s y))) }
     ensures made { IfOk result (λ r. IsMadeOver b.new r.bits (x.bits ∷ (y.bits ∷ []))) }
+    ensures folds { IfOk result (λ r. Folds b.old b.new r.bits (x.bits ∷ (y.bits ∷ []))) }
 {
     match operator {
         Binary::Add => sum(b, x, y),
@@ -60,6 +62,7 @@ pub fn unary(b: &mut Builder, operator: Unary, x: Operand) -> Result<Operand, Me
     ensures grows { Grows b.old b.new }
     ensures value { IfOk result (λ r. Carries b.new r (unary_result operator x.ty) (λ s. unary_value operator (worth s x))) }
     ensures made { IfOk result (λ r. IsMadeOver b.new r.bits (x.bits ∷ [])) }
+    ensures folds { IfOk result (λ r. Folds b.old b.new r.bits (x.bits ∷ [])) }
 {
     match operator {
         Unary::Negate => negation(b, x),
@@ -76,6 +79,7 @@ pub fn scaled(b: &mut Builder, operator: Scaling, x: Operand, by: u64) -> Result
     ensures grows { Grows b.old b.new }
     ensures value { IfOk result (λ r. Carries b.new r (scaling_result operator x.ty by) (λ s. scaling_value operator (worth s x) by)) }
     ensures made { IfOk result (λ r. IsMadeOver b.new r.bits (x.bits ∷ [])) }
+    ensures folds { IfOk result (λ r. Folds b.old b.new r.bits (x.bits ∷ [])) }
 {
     match operator {
         Scaling::Divide => quotient(b, x, by),
@@ -91,6 +95,7 @@ pub fn converted(b: &mut Builder, how: Conversion, x: Operand, ty: Ty) -> Result
     ensures grows { Grows b.old b.new }
     ensures value { IfOk result (λ r. Carries b.new r ty (λ s. conversion_value how ty (worth s x))) }
     ensures made { IfOk result (λ r. IsMadeOver b.new r.bits (x.bits ∷ [])) }
+    ensures folds { IfOk result (λ r. Folds b.old b.new r.bits (x.bits ∷ [])) }
 {
     match how {
         Conversion::Cast => cast(b, x, ty),

@@ -2,12 +2,13 @@
 
 ghost use Rattle.std.specs.Prelude.{◌≡◌, pos, ◌+ℤ◌, ◌-ℤ◌, ◌*ℤ◌, IfOk, ◌∷◌, []};
 ghost use Rattle.dk_base.specs.Types.{IsType, sum_type, difference_type, product_type, negation_type};
-ghost use Rattle.datapath.specs.Nets.{Grows, IsMadeOver};
+ghost use Rattle.datapath.specs.Nets.{Folds, Grows, IsMadeOver};
 ghost use Rattle.datapath.specs.Operands.{IsOperand, Carries, worth};
 
+use crate::constants::constant;
 use crate::operand::Operand;
 use crate::resize::resized;
-use crate::words::{add, constant, multiply, subtract};
+use crate::words::{add, multiply, subtract};
 use dk_base::{Memory, Ty};
 use net_build::Builder;
 
@@ -20,6 +21,7 @@ pub fn sum(b: &mut Builder, x: Operand, y: Operand) -> Result<Operand, Memory>
     ensures grows { Grows b.old b.new }
     ensures value { IfOk result (λ r. Carries b.new r (sum_type x.ty y.ty) (λ nets. worth nets x +ℤ worth nets y)) }
     ensures made { IfOk result (λ r. IsMadeOver b.new r.bits (x.bits ∷ (y.bits ∷ []))) }
+    ensures folds { IfOk result (λ r. Folds b.old b.new r.bits (x.bits ∷ (y.bits ∷ []))) }
 {
     let ty = x.ty.sum(y.ty);
     let wider = ty.width();
@@ -38,6 +40,7 @@ pub fn difference(b: &mut Builder, x: Operand, y: Operand) -> Result<Operand, Me
     ensures grows { Grows b.old b.new }
     ensures value { IfOk result (λ r. Carries b.new r (difference_type x.ty y.ty) (λ nets. worth nets x -ℤ worth nets y)) }
     ensures made { IfOk result (λ r. IsMadeOver b.new r.bits (x.bits ∷ (y.bits ∷ []))) }
+    ensures folds { IfOk result (λ r. Folds b.old b.new r.bits (x.bits ∷ (y.bits ∷ []))) }
 {
     let ty = x.ty.difference(y.ty);
     let width = ty.width();
@@ -56,6 +59,7 @@ pub fn product(b: &mut Builder, x: Operand, y: Operand) -> Result<Operand, Memor
     ensures grows { Grows b.old b.new }
     ensures value { IfOk result (λ r. Carries b.new r (product_type x.ty y.ty) (λ nets. worth nets x *ℤ worth nets y)) }
     ensures made { IfOk result (λ r. IsMadeOver b.new r.bits (x.bits ∷ (y.bits ∷ []))) }
+    ensures folds { IfOk result (λ r. Folds b.old b.new r.bits (x.bits ∷ (y.bits ∷ []))) }
 {
     let ty = x.ty.product(y.ty);
     let width = ty.width();
@@ -73,6 +77,7 @@ pub fn negation(b: &mut Builder, x: Operand) -> Result<Operand, Memory>
     ensures grows { Grows b.old b.new }
     ensures value { IfOk result (λ r. Carries b.new r (negation_type x.ty) (λ nets. pos 0 -ℤ worth nets x)) }
     ensures made { IfOk result (λ r. IsMadeOver b.new r.bits (x.bits ∷ [])) }
+    ensures folds { IfOk result (λ r. Folds b.old b.new r.bits (x.bits ∷ [])) }
 {
     let width = x.ty.width() + 1;
     let right = resized(b, x, width)?;

@@ -2,7 +2,7 @@
 
 ghost use Rattle.std.specs.Prelude.{◌≡◌, IsTrue, not, ◌||◌, pos, ◌-ℤ◌, bit_and, bit_or, bit_xor, unsigned_abs, IfOk, ◌∷◌, []};
 ghost use Rattle.dk_base.specs.Types.{is_signed, common_type};
-ghost use Rattle.datapath.specs.Nets.{Grows, IsMadeOver};
+ghost use Rattle.datapath.specs.Nets.{Folds, Grows, IsMadeOver};
 ghost use Rattle.datapath.specs.Operands.{IsOperand, Carries, worth};
 
 use crate::operand::Operand;
@@ -21,6 +21,7 @@ pub fn conjunction(b: &mut Builder, x: Operand, y: Operand) -> Result<Operand, M
     ensures grows { Grows b.old b.new }
     ensures value { IfOk result (λ r. Carries b.new r (common_type x.ty y.ty) (λ s. pos (bit_and (unsigned_abs (worth s x)) (unsigned_abs (worth s y))))) }
     ensures made { IfOk result (λ r. IsMadeOver b.new r.bits (x.bits ∷ (y.bits ∷ []))) }
+    ensures folds { IfOk result (λ r. Folds b.old b.new r.bits (x.bits ∷ (y.bits ∷ []))) }
 {
     let width = max(x.ty.width(), y.ty.width());
     let left = resized(b, x, width)?;
@@ -41,6 +42,7 @@ pub fn disjunction(b: &mut Builder, x: Operand, y: Operand) -> Result<Operand, M
     ensures grows { Grows b.old b.new }
     ensures value { IfOk result (λ r. Carries b.new r (common_type x.ty y.ty) (λ s. pos (bit_or (unsigned_abs (worth s x)) (unsigned_abs (worth s y))))) }
     ensures made { IfOk result (λ r. IsMadeOver b.new r.bits (x.bits ∷ (y.bits ∷ []))) }
+    ensures folds { IfOk result (λ r. Folds b.old b.new r.bits (x.bits ∷ (y.bits ∷ []))) }
 {
     let width = max(x.ty.width(), y.ty.width());
     let left = resized(b, x, width)?;
@@ -61,6 +63,7 @@ pub fn parity(b: &mut Builder, x: Operand, y: Operand) -> Result<Operand, Memory
     ensures grows { Grows b.old b.new }
     ensures value { IfOk result (λ r. Carries b.new r (common_type x.ty y.ty) (λ s. pos (bit_xor (unsigned_abs (worth s x)) (unsigned_abs (worth s y))))) }
     ensures made { IfOk result (λ r. IsMadeOver b.new r.bits (x.bits ∷ (y.bits ∷ []))) }
+    ensures folds { IfOk result (λ r. Folds b.old b.new r.bits (x.bits ∷ (y.bits ∷ []))) }
 {
     let width = max(x.ty.width(), y.ty.width());
     let left = resized(b, x, width)?;
@@ -80,6 +83,7 @@ pub fn negated(b: &mut Builder, x: Operand) -> Result<Operand, Memory>
     ensures grows { Grows b.old b.new }
     ensures value { IfOk result (λ r. Carries b.new r (Ty.Unsigned 1) (λ s. pos 1 -ℤ worth s x)) }
     ensures made { IfOk result (λ r. IsMadeOver b.new r.bits (x.bits ∷ [])) }
+    ensures folds { IfOk result (λ r. Folds b.old b.new r.bits (x.bits ∷ [])) }
 {
     let bits = complement(b, 1, x.bits)?;
     Ok(Operand {

@@ -3,16 +3,17 @@
 ghost use Rattle.std.specs.Prelude.{◌≡◌, not, pos, ◌+ℤ◌, ◌-ℤ◌, ◌*ℤ◌, int_lt, unsigned_abs, IfOk, ◌∷◌, []};
 ghost use Rattle.dk_base.specs.Types.{IsType, IsWithin, common_type, width_of, below};
 ghost use Rattle.dk_base.specs.Numbers.{wrap};
-ghost use Rattle.datapath.specs.Nets.{Grows, IsWord, IsMadeOver};
+ghost use Rattle.datapath.specs.Nets.{Folds, Grows, IsWord, IsMadeOver};
 ghost use Rattle.datapath.specs.Operands.{IsOperand, Carries, worth};
 ghost use Rattle.dk_base.specs.Operators.{truth, select_value as chosen};
 ghost use Rattle.std.specs.Int.{int_min, int_max};
 ghost use Rattle.std.specs.Ordering.{int_eq};
 
 use crate::bits::negated;
+use crate::constants::top_bit;
 use crate::operand::{Operand, Signal};
 use crate::resize::resized;
-use crate::words::{add, choose, equal, less, top_bit};
+use crate::words::{add, choose, equal, less};
 use dk_base::{Memory, Ty};
 use net_build::Builder;
 
@@ -25,6 +26,7 @@ pub fn offset(b: &mut Builder, x: Operand, ty: Ty) -> Result<Signal, Memory>
     ensures grows { Grows b.old b.new }
     ensures word { IfOk result (λ r. IsWord b.new r (width_of ty) (λ nets. unsigned_abs (worth nets x +ℤ pos (below ty)))) }
     ensures made { IfOk result (λ r. IsMadeOver b.new r (x.bits ∷ [])) }
+    ensures folds { IfOk result (λ r. Folds b.old b.new r (x.bits ∷ [])) }
 {
     match ty {
         Ty::Unsigned(width) => {
@@ -49,6 +51,7 @@ pub fn is_less(b: &mut Builder, x: Operand, y: Operand) -> Result<Operand, Memor
     ensures grows { Grows b.old b.new }
     ensures value { IfOk result (λ r. Carries b.new r (Ty.Unsigned 1) (λ nets. truth (int_lt (worth nets x) (worth nets y)))) }
     ensures made { IfOk result (λ r. IsMadeOver b.new r.bits (x.bits ∷ (y.bits ∷ []))) }
+    ensures folds { IfOk result (λ r. Folds b.old b.new r.bits (x.bits ∷ (y.bits ∷ []))) }
 {
     let ty = x.ty.common(y.ty);
     let left = offset(b, x, ty)?;
@@ -69,6 +72,7 @@ pub fn is_equal(b: &mut Builder, x: Operand, y: Operand) -> Result<Operand, Memo
     ensures grows { Grows b.old b.new }
     ensures value { IfOk result (λ r. Carries b.new r (Ty.Unsigned 1) (λ nets. truth (int_eq (worth nets x) (worth nets y)))) }
     ensures made { IfOk result (λ r. IsMadeOver b.new r.bits (x.bits ∷ (y.bits ∷ []))) }
+    ensures folds { IfOk result (λ r. Folds b.old b.new r.bits (x.bits ∷ (y.bits ∷ []))) }
 {
     let ty = x.ty.common(y.ty);
     let width = ty.width();
@@ -97,6 +101,7 @@ pub fn choice(
     ensures grows { Grows b.old b.new }
     ensures value { IfOk result (λ r. Carries b.new r (common_type x.ty y.ty) (λ nets. chosen (worth nets condition) (worth nets x) (worth nets y))) }
     ensures made { IfOk result (λ r. IsMadeOver b.new r.bits (condition.bits ∷ (x.bits ∷ (y.bits ∷ [])))) }
+    ensures folds { IfOk result (λ r. Folds b.old b.new r.bits (condition.bits ∷ (x.bits ∷ (y.bits ∷ [])))) }
 {
     let ty = x.ty.common(y.ty);
     let width = ty.width();
@@ -114,6 +119,7 @@ pub fn cast(b: &mut Builder, x: Operand, ty: Ty) -> Result<Operand, Memory>
     ensures grows { Grows b.old b.new }
     ensures value { IfOk result (λ r. Carries b.new r ty (λ nets. wrap ty (worth nets x))) }
     ensures made { IfOk result (λ r. IsMadeOver b.new r.bits (x.bits ∷ [])) }
+    ensures folds { IfOk result (λ r. Folds b.old b.new r.bits (x.bits ∷ [])) }
 {
     let width = ty.width();
     let atom = resized(b, x, width)?;
@@ -129,6 +135,7 @@ pub fn minimum(b: &mut Builder, x: Operand, y: Operand) -> Result<Operand, Memor
     ensures grows { Grows b.old b.new }
     ensures value { IfOk result (λ r. Carries b.new r (common_type x.ty y.ty) (λ nets. int_min (worth nets x) (worth nets y))) }
     ensures made { IfOk result (λ r. IsMadeOver b.new r.bits (x.bits ∷ (y.bits ∷ []))) }
+    ensures folds { IfOk result (λ r. Folds b.old b.new r.bits (x.bits ∷ (y.bits ∷ []))) }
 {
     let above = is_less(b, y, x)?;
     let lesser = choice(b, above, y, x)?;
@@ -144,6 +151,7 @@ pub fn maximum(b: &mut Builder, x: Operand, y: Operand) -> Result<Operand, Memor
     ensures grows { Grows b.old b.new }
     ensures value { IfOk result (λ r. Carries b.new r (common_type x.ty y.ty) (λ nets. int_max (worth nets x) (worth nets y))) }
     ensures made { IfOk result (λ r. IsMadeOver b.new r.bits (x.bits ∷ (y.bits ∷ []))) }
+    ensures folds { IfOk result (λ r. Folds b.old b.new r.bits (x.bits ∷ (y.bits ∷ []))) }
 {
     let below = is_less(b, y, x)?;
     let greater = choice(b, below, x, y)?;
@@ -159,6 +167,7 @@ pub fn is_at_most(b: &mut Builder, x: Operand, y: Operand) -> Result<Operand, Me
     ensures grows { Grows b.old b.new }
     ensures value { IfOk result (λ r. Carries b.new r (Ty.Unsigned 1) (λ s. truth (not (int_lt (worth s y) (worth s x))))) }
     ensures made { IfOk result (λ r. IsMadeOver b.new r.bits (x.bits ∷ (y.bits ∷ []))) }
+    ensures folds { IfOk result (λ r. Folds b.old b.new r.bits (x.bits ∷ (y.bits ∷ []))) }
 {
     let opposite = is_less(b, y, x)?;
     let negation = negated(b, opposite)?;
@@ -174,6 +183,7 @@ pub fn is_at_least(b: &mut Builder, x: Operand, y: Operand) -> Result<Operand, M
     ensures grows { Grows b.old b.new }
     ensures value { IfOk result (λ r. Carries b.new r (Ty.Unsigned 1) (λ s. truth (not (int_lt (worth s x) (worth s y))))) }
     ensures made { IfOk result (λ r. IsMadeOver b.new r.bits (x.bits ∷ (y.bits ∷ []))) }
+    ensures folds { IfOk result (λ r. Folds b.old b.new r.bits (x.bits ∷ (y.bits ∷ []))) }
 {
     let opposite = is_less(b, x, y)?;
     let negation = negated(b, opposite)?;
@@ -189,6 +199,7 @@ pub fn is_unequal(b: &mut Builder, x: Operand, y: Operand) -> Result<Operand, Me
     ensures grows { Grows b.old b.new }
     ensures value { IfOk result (λ r. Carries b.new r (Ty.Unsigned 1) (λ s. truth (not (int_eq (worth s x) (worth s y))))) }
     ensures made { IfOk result (λ r. IsMadeOver b.new r.bits (x.bits ∷ (y.bits ∷ []))) }
+    ensures folds { IfOk result (λ r. Folds b.old b.new r.bits (x.bits ∷ (y.bits ∷ []))) }
 {
     let opposite = is_equal(b, x, y)?;
     let negation = negated(b, opposite)?;

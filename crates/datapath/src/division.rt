@@ -4,13 +4,14 @@ ghost use Rattle.std.specs.Prelude.{◌≡◌, ◌+◌, ◌-◌, ◌/◌, ◌%�
 ghost use Rattle.dk_base.specs.Types.{IsType, width_of, magnitude_type};
 ghost use Rattle.dk_base.specs.Numbers.{number};
 ghost use Rattle.dk_base.specs.declared.ty.Ty.TheVariants.{Signed};
-ghost use Rattle.datapath.specs.Nets.{Grows, HasWidth, IsWord, bits_of, IsMadeOver};
+ghost use Rattle.datapath.specs.Nets.{Folds, Grows, HasWidth, IsWord, bits_of, IsMadeOver};
 ghost use Rattle.wiring.specs.Sizes.{IsWidth};
 ghost use Rattle.datapath.specs.Operands.{IsOperand, Carries, worth};
 
+use crate::constants::constant;
 use crate::ends::greatest;
 use crate::operand::{Operand, Signal};
-use crate::words::{choose, constant, divide, part, subtract};
+use crate::words::{choose, divide, part, subtract};
 use dk_base::{Memory, Ty};
 use net_build::Builder;
 
@@ -23,6 +24,7 @@ fn turned(b: &mut Builder, width: u8, sign: Signal, x: Signal) -> Result<Signal,
     ensures grows { Grows b.old b.new }
     ensures word { IfOk result (λ r. IsWord b.new r width (λ nets. if nat_eq (bits_of nets sign) 1 then (0 + 2 ^ width - bits_of nets x) % 2 ^ width else bits_of nets x)) }
     ensures made { IfOk result (λ r. IsMadeOver b.new r (sign ∷ (x ∷ []))) }
+    ensures folds { IfOk result (λ r. Folds b.old b.new r (sign ∷ (x ∷ []))) }
 {
     let negative = subtract(b, width, constant(width, 0), x)?;
     let atom = choose(b, width, sign, negative, x)?;
@@ -37,6 +39,7 @@ fn signed_magnitude(b: &mut Builder, width: u8, x: Operand) -> Result<Operand, M
     ensures grows { Grows b.old b.new }
     ensures value { IfOk result (λ r. Carries b.new r (Ty.Unsigned width) (λ nets. pos (unsigned_abs (worth nets x)))) }
     ensures made { IfOk result (λ r. IsMadeOver b.new r.bits (x.bits ∷ [])) }
+    ensures folds { IfOk result (λ r. Folds b.old b.new r.bits (x.bits ∷ [])) }
 {
     let sign = part(b, width, x.bits, width - 1, 1)?;
     let atom = turned(b, width, sign, x.bits)?;
@@ -55,6 +58,7 @@ fn unsigned_quotient(b: &mut Builder, width: u8, x: Operand, by: u64) -> Result<
     ensures grows { Grows b.old b.new }
     ensures value { IfOk result (λ r. Carries b.new r (Ty.Unsigned width) (λ nets. int_div (worth nets x) (pos by))) }
     ensures made { IfOk result (λ r. IsMadeOver b.new r.bits (x.bits ∷ [])) }
+    ensures folds { IfOk result (λ r. Folds b.old b.new r.bits (x.bits ∷ [])) }
 {
     let ty = Ty::Unsigned(width);
     if by > greatest(ty) {
@@ -75,6 +79,7 @@ pub fn quotient(b: &mut Builder, x: Operand, by: u64) -> Result<Operand, Memory>
     ensures grows { Grows b.old b.new }
     ensures value { IfOk result (λ r. Carries b.new r x.ty (λ nets. int_div (worth nets x) (pos by))) }
     ensures made { IfOk result (λ r. IsMadeOver b.new r.bits (x.bits ∷ [])) }
+    ensures folds { IfOk result (λ r. Folds b.old b.new r.bits (x.bits ∷ [])) }
 {
     match x.ty {
         Ty::Unsigned(width) => {
@@ -101,6 +106,7 @@ pub fn magnitude(b: &mut Builder, x: Operand) -> Result<Operand, Memory>
     ensures grows { Grows b.old b.new }
     ensures value { IfOk result (λ r. Carries b.new r (magnitude_type x.ty) (λ nets. pos (unsigned_abs (worth nets x)))) }
     ensures made { IfOk result (λ r. IsMadeOver b.new r.bits (x.bits ∷ [])) }
+    ensures folds { IfOk result (λ r. Folds b.old b.new r.bits (x.bits ∷ [])) }
 {
     match x.ty {
         Ty::Unsigned(_) => Ok(x),

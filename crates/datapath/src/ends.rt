@@ -30,9 +30,9 @@ pub(crate) fn greatest(ty: Ty) -> u64
     }
 }
 
-// The number of `width` bits that are 1.
+/// The number of `width` bits that are 1.
 #[tactic(auto, using(std::proofs::lemmas::Nat::one_shl, dk_base::proofs::Codes::half, std::proofs::lemmas::Nat::pow_pos))]
-fn all_ones(width: u8) -> u64
+pub(crate) fn all_ones(width: u8) -> u64
     requires { (1 ≤ width) × (width ≤ 64) }
     ensures { result + 1 ≡ 2 ^ width }
 {

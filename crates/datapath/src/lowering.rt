@@ -1,23 +1,24 @@
 // The net of an expression.
 
-ghost use Rattle.std.specs.Prelude.{◌≡◌, ℕ, ◌+◌, ◌<◌, ◌≤◌, ◌^◌, List, [], length, slice_get, Some, IfOk};
+ghost use Rattle.std.specs.Prelude.{◌≡◌, ℕ, ◌+◌, ◌<◌, ◌≤◌, ◌^◌, List, [], ◌∷◌, length, slice_get, Some, IfOk};
 ghost use Rattle.dk_base.specs.Types.{IsType, IsIn, width_of};
 ghost use Rattle.dk_base.specs.Numbers.{code};
 ghost use Rattle.wiring.specs.Netlist.{Netlist};
 ghost use Rattle.pointwise_ir.specs.Trees.{Tree, tree_of};
 ghost use Rattle.pointwise_ir.specs.Typing.{HasType};
 ghost use Rattle.datapath.specs.declared.operand.Signal.TheVariants as signal;
-ghost use Rattle.datapath.specs.Nets.{Grows, HasWidth, IsMadeOver};
+ghost use Rattle.datapath.specs.Nets.{Folds, Grows, HasWidth, IsKnown, IsMadeOver};
 ghost use Rattle.datapath.specs.Operands.{IsOperand, Carries, worth};
 ghost use Rattle.wiring.specs.declared.netlist.Net.{Net};
 ghost use Rattle.dk_base.specs.declared.ty.Ty.{Ty};
-ghost use Rattle.datapath.specs.Expressions.{AreLeaves, LeavesAreOperands, HasLeaves, IsLowered, IsMadeOfLeaves, AreReadsOf, IsTyped, type_of, types_in, edge_bits, edged, set_in};
+ghost use Rattle.datapath.specs.Expressions.{IsLeafless, AreLeaves, LeavesAreOperands, HasLeaves, IsLowered, IsMadeOfLeaves, AreReadsOf, IsTyped, type_of, types_in, edge_bits, edged, set_in};
 ghost use Rattle.datapath.specs.Walks.{IsPartAt, IsWalked};
 
 use crate::apply::{binary, converted, gated, scaled, unary};
 use crate::comparison::choice;
+use crate::constants::constant;
 use crate::operand::{Operand, Signal};
-use crate::words::{constant, net_of};
+use crate::words::net_of;
 use dk_base::{Memory, Ty, wrap};
 use net_build::Builder;
 use pointwise_ir::{Edge, Expr};
@@ -73,6 +74,7 @@ fn literal(value: i128, ty: Ty) -> Operand
     requires value { IsIn ty value }
     ensures value { (b : Netlist) → Carries b result ty (λ s. value) }
     ensures made { (b : Netlist) → IsMadeOver b result.bits [] }
+    ensures known { IsKnown result.bits }
 {
     let bits = constant(ty.width(), code_of(value, ty));
     Operand { bits, ty }
@@ -108,6 +110,7 @@ fn shifted(
     ensures grows { Grows b.old b.new }
     ensures value { IfOk result (λ r. Carries b.new r x.ty (λ s. edged edge (set_in s bits.now k) (worth s x))) }
     ensures made { IfOk result (λ r. (reads : List (Ty × Net)) → IsMadeOfLeaves b.old x.bits reads bits.now → IsMadeOfLeaves b.new r.bits reads bits.now) }
+    ensures folds { IfOk result (λ r. edge_bits edge ≡ 0 → Folds b.old b.new r.bits (x.bits ∷ [])) }
 {
     match edge {
         Edge::Zero => {
@@ -139,6 +142,7 @@ fn walk(
     requires part { IsPartAt (tree_of e.now) reads.now bits.now at.read at.bit }
     ensures grows { Grows b.old b.new }
     ensures walked { IfOk result (λ w. IsWalked b.new w (tree_of e.now) reads.now bits.now at.read at.bit) }
+    ensures folds { IfOk result (λ w. IsLeafless (tree_of e.now) → IsKnown w.operand.bits × (b.new ≡ b.old)) }
 {
     match e {
         Expr::Constant(value, ty) => Ok(Walked {
@@ -223,13 +227,14 @@ pub fn typed_over_leaves()
     ensures { (types : List Ty) (e : Tree) (t : Ty) (reads : List (Ty × Net)) → ((g : ℕ) (s : Ty) → slice_get types g ≡ Some s → IsType s) → HasType types e t → AreReadsOf types e (types_in reads) 0 → IsTyped e (types_in reads) 0 × (type_of e (types_in reads) 0 ≡ t) }
 {}
 
-/// The net of an expression over the nets of its leaves. Its bits, read in the expression's type, are the expression's value over what the leaves' nets say. It adds wires alone, no assign that reads an array, and is made of the leaves' nets alone. It calls itself as deep as the expression is.
+/// The net of an expression over the nets of its leaves. Its bits, read in the expression's type, are the expression's value over what the leaves' nets say. It adds wires alone, no assign that reads an array, and is made of the leaves' nets alone. Where there is no leaf, it is a constant, and takes one assign at most. It calls itself as deep as the expression is.
 pub fn lower(e: &Expr, b: &mut Builder, leaves: &Leaves) -> Result<Net, Memory>
     requires nets { AreLeaves b.old leaves.now.reads.items leaves.now.bits.items }
     requires leaves { HasLeaves (tree_of e.now) leaves.now.reads.items leaves.now.bits.items }
     ensures grows { Grows b.old b.new }
     ensures value { IfOk result (IsLowered b.new (tree_of e.now) leaves.now.reads.items leaves.now.bits.items) }
     ensures made { IfOk result (λ n. IsMadeOfLeaves b.new (signal.Net n) leaves.now.reads.items leaves.now.bits.items) }
+    ensures constant { IfOk result (λ n. IsLeafless (tree_of e.now) → length b.new.assigns ≤ length b.old.assigns + 1) }
 {
     b.law();
     let reads = leaves.reads.as_slice();

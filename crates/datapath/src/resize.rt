@@ -3,7 +3,7 @@
 ghost use Rattle.std.specs.Prelude.{◌≡◌, ◌+◌, ◌≤◌, ◌<◌, ◌-◌, ◌*◌, ◌/◌, ◌%◌, ◌^◌, IfOk, ◌∷◌, []};
 ghost use Rattle.dk_base.specs.Types.{IsType, width_of};
 ghost use Rattle.dk_base.specs.Numbers.{code};
-ghost use Rattle.datapath.specs.Nets.{Grows, HasWidth, IsWord, bits_of, IsMadeOver};
+ghost use Rattle.datapath.specs.Nets.{Folds, Grows, HasWidth, IsWord, bits_of, IsMadeOver};
 ghost use Rattle.wiring.specs.Rights.{repeated};
 ghost use Rattle.wiring.specs.Sizes.{IsWidth};
 ghost use Rattle.datapath.specs.Operands.{IsOperand, worth};
@@ -20,6 +20,7 @@ pub fn resized(b: &mut Builder, x: Operand, width: u8) -> Result<Signal, Memory>
     ensures grows { Grows b.old b.new }
     ensures word { IfOk result (λ r. IsWord b.new r width (λ nets. code width (worth nets x))) }
     ensures made { IfOk result (λ r. IsMadeOver b.new r (x.bits ∷ [])) }
+    ensures folds { IfOk result (λ r. Folds b.old b.new r (x.bits ∷ [])) }
 {
     match x.ty {
         Ty::Unsigned(low) => {

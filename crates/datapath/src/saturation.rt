@@ -3,14 +3,15 @@
 ghost use Rattle.std.specs.Prelude.{◌≡◌, ◌+◌, ◌-◌, ◌^◌, ◌<◌, ◌≤◌, int_lt, if◌then◌else◌, IfOk, ◌∷◌, []};
 ghost use Rattle.dk_base.specs.Types.{IsType, width_of, below, above, least_of, greatest_of};
 ghost use Rattle.dk_base.specs.Numbers.{code, saturate};
-ghost use Rattle.datapath.specs.Nets.{Grows, HasWidth, IsWord, bits_of, IsMadeOver};
+ghost use Rattle.datapath.specs.Nets.{Folds, Grows, HasWidth, IsWord, bits_of, IsMadeOver};
 ghost use Rattle.datapath.specs.Operands.{IsOperand, Carries, worth};
 
 use crate::comparison::offset;
+use crate::constants::constant;
 use crate::ends::{below, greatest};
 use crate::operand::{Operand, Signal};
 use crate::resize::resized;
-use crate::words::{choose, constant, less};
+use crate::words::{choose, less};
 use dk_base::{Memory, Ty};
 use net_build::Builder;
 
@@ -23,6 +24,7 @@ fn raised(b: &mut Builder, x: Operand, ty: Ty, bits: Signal) -> Result<Signal, M
     ensures grows { Grows b.old b.new }
     ensures word { IfOk result (λ r. IsWord b.new r (width_of ty) (λ nets. if int_lt (worth nets x) (least_of ty) then below ty else bits_of nets bits)) }
     ensures made { IfOk result (λ r. IsMadeOver b.new r (x.bits ∷ (bits ∷ []))) }
+    ensures folds { IfOk result (λ r. Folds b.old b.new r (x.bits ∷ (bits ∷ []))) }
 {
     let (deep, least) = (below(x.ty), below(ty));
     if deep <= least {
@@ -44,6 +46,7 @@ fn lowered(b: &mut Builder, x: Operand, ty: Ty, bits: Signal) -> Result<Signal, 
     ensures grows { Grows b.old b.new }
     ensures word { IfOk result (λ r. IsWord b.new r (width_of ty) (λ nets. if int_lt (greatest_of ty) (worth nets x) then above ty - 1 else bits_of nets bits)) }
     ensures made { IfOk result (λ r. IsMadeOver b.new r (x.bits ∷ (bits ∷ []))) }
+    ensures folds { IfOk result (λ r. Folds b.old b.new r (x.bits ∷ (bits ∷ []))) }
 {
     let (most, greatest) = (greatest(x.ty), greatest(ty));
     if most <= greatest {
@@ -64,6 +67,7 @@ pub fn saturated(b: &mut Builder, x: Operand, ty: Ty) -> Result<Operand, Memory>
     ensures grows { Grows b.old b.new }
     ensures value { IfOk result (λ r. Carries b.new r ty (λ nets. saturate ty (worth nets x))) }
     ensures made { IfOk result (λ r. IsMadeOver b.new r.bits (x.bits ∷ [])) }
+    ensures folds { IfOk result (λ r. Folds b.old b.new r.bits (x.bits ∷ [])) }
 {
     let width = ty.width();
     let bits = resized(b, x, width)?;

@@ -3,12 +3,13 @@
 ghost use Rattle.std.specs.Prelude.{◌≡◌, ◌+◌, ◌-◌, ◌^◌, ◌<◌, ◌≤◌, pos, ◌*ℤ◌, IfOk, ◌∷◌, []};
 ghost use Rattle.std.specs.Int.{int_div_euclid};
 ghost use Rattle.dk_base.specs.Types.{IsType, width_of, shifted_type, narrowed_type};
-ghost use Rattle.datapath.specs.Nets.{Grows, IsMadeOver};
+ghost use Rattle.datapath.specs.Nets.{Folds, Grows, IsMadeOver};
 ghost use Rattle.datapath.specs.Operands.{IsOperand, Carries, worth};
 
+use crate::constants::constant;
 use crate::operand::Operand;
 use crate::resize::resized;
-use crate::words::{constant, join, part};
+use crate::words::{join, part};
 use dk_base::{Memory, Ty};
 use net_build::Builder;
 use std::cmp::min;
@@ -21,6 +22,7 @@ pub fn shift_left(b: &mut Builder, x: Operand, by: u8) -> Result<Operand, Memory
     ensures grows { Grows b.old b.new }
     ensures value { IfOk result (λ r. Carries b.new r (shifted_type x.ty by) (λ nets. worth nets x *ℤ pos (2 ^ by))) }
     ensures made { IfOk result (λ r. IsMadeOver b.new r.bits (x.bits ∷ [])) }
+    ensures folds { IfOk result (λ r. Folds b.old b.new r.bits (x.bits ∷ [])) }
 {
     if by == 0 {
         return Ok(x);
@@ -39,6 +41,7 @@ fn high_bits(b: &mut Builder, x: Operand, by: u8) -> Result<Operand, Memory>
     ensures grows { Grows b.old b.new }
     ensures value { IfOk result (λ r. Carries b.new r (narrowed_type x.ty by) (λ nets. int_div_euclid (worth nets x) (pos (2 ^ by)))) }
     ensures made { IfOk result (λ r. IsMadeOver b.new r.bits (x.bits ∷ [])) }
+    ensures folds { IfOk result (λ r. Folds b.old b.new r.bits (x.bits ∷ [])) }
 {
     let ty = x.ty.narrowed(by);
     let width = x.ty.width();
@@ -54,6 +57,7 @@ fn shift_within(b: &mut Builder, x: Operand, by: u8) -> Result<Operand, Memory>
     ensures grows { Grows b.old b.new }
     ensures value { IfOk result (λ r. Carries b.new r x.ty (λ nets. int_div_euclid (worth nets x) (pos (2 ^ by)))) }
     ensures made { IfOk result (λ r. IsMadeOver b.new r.bits (x.bits ∷ [])) }
+    ensures folds { IfOk result (λ r. Folds b.old b.new r.bits (x.bits ∷ [])) }
 {
     let high = high_bits(b, x, by)?;
     let atom = resized(b, high, x.ty.width())?;
@@ -70,6 +74,7 @@ pub fn shift_right(b: &mut Builder, x: Operand, by: u8) -> Result<Operand, Memor
     ensures grows { Grows b.old b.new }
     ensures value { IfOk result (λ r. Carries b.new r x.ty (λ nets. int_div_euclid (worth nets x) (pos (2 ^ by)))) }
     ensures made { IfOk result (λ r. IsMadeOver b.new r.bits (x.bits ∷ [])) }
+    ensures folds { IfOk result (λ r. Folds b.old b.new r.bits (x.bits ∷ [])) }
 {
     match x.ty {
         Ty::Unsigned(width) => {

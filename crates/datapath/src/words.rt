@@ -1,6 +1,6 @@
 // Nets by one operator each, over nets and constants of known widths.
 
-ghost use Rattle.std.specs.Prelude.{◌≡◌, ◌+◌, ◌-◌, ◌*◌, ◌/◌, ◌%◌, ◌^◌, ◌<◌, ◌≤◌, [], IfOk, nat_lt, nat_eq, bit_and, bit_or, bit_xor, if◌then◌else◌, ◌∷◌};
+ghost use Rattle.std.specs.Prelude.{◌≡◌, ◌+◌, ◌-◌, ◌*◌, ◌/◌, ◌%◌, ◌^◌, ◌<◌, ◌≤◌, [], length, IfOk, nat_lt, nat_eq, bit_and, bit_or, bit_xor, if◌then◌else◌, ◌∷◌};
 ghost use Rattle.datapath.specs.declared.operand.Signal.TheVariants as signal;
 ghost use Rattle.wiring.specs.Netlist.{Netlist};
 ghost use Rattle.wiring.specs.Rights.{repeated, operator_width, operator_value};
@@ -8,8 +8,11 @@ ghost use Rattle.wiring.specs.Rules.{IsDivisor, DividesByDivisor};
 ghost use Rattle.wiring.specs.Sizes.{IsWidth};
 ghost use Rattle.wiring.specs.Snapshot.{right_accesses};
 ghost use Rattle.net_build.specs.Draft.{IsOperation};
-ghost use Rattle.datapath.specs.Nets.{Grows, HasWidth, IsWord, IsNetOf, IsSignal, atom_of, bits_of, bit, IsMadeOver};
+ghost use Rattle.datapath.specs.Nets.{Folds, Grows, HasWidth, IsWord, IsNetOf, IsSignal, atom_of, bits_of, bit, IsMadeOver};
 
+use crate::constants::{
+    constant, folded, folded_join, folded_not, folded_part, folded_repeat, known,
+};
 use crate::operand::Signal;
 use dk_base::Memory;
 use net_build::Builder;
@@ -28,43 +31,13 @@ fn atom(x: Signal) -> Atom<Net>
     }
 }
 
-/// The constant of `width` bits of this value.
-pub(crate) fn constant(width: u8, value: u64) -> Signal
-    requires width { IsWidth width }
-    requires fits { value < 2 ^ width }
-    ensures is { result ≡ signal.Constant width value }
-    ensures width { (b : Netlist) → HasWidth b result width }
-    ensures made { (b : Netlist) → IsMadeOver b result [] }
-{
-    Signal::Constant(width, value)
-}
-
-// The number of `width` bits whose highest bit alone is 1.
-#[tactic(auto, using(std::proofs::lemmas::Nat::one_shl, std::proofs::lemmas::Nat::pow_below))]
-fn half(width: u8) -> u64
-    requires { IsWidth width }
-    ensures value { result ≡ 2 ^ (width - 1) }
-    ensures fits { result < 2 ^ width }
-{
-    1 << (width - 1)
-}
-
-/// The constant of `width` bits whose highest bit alone is 1.
-pub(crate) fn top_bit(width: u8) -> Signal
-    requires { IsWidth width }
-    ensures is { result ≡ signal.Constant width (2 ^ (width - 1)) }
-    ensures width { (b : Netlist) → HasWidth b result width }
-    ensures made { (b : Netlist) → IsMadeOver b result [] }
-{
-    constant(width, half(width))
-}
-
 // The net of a right side that reads no array.
 fn net_for(b: &mut Builder, operation: Right<Net, usize>) -> Result<Net, Memory>
     requires operation { IsOperation b.old operation }
     requires no_array { right_accesses operation ≡ [] }
     ensures grows { Grows b.old b.new }
     ensures net { IfOk result (IsNetOf b.old b.new operation) }
+    ensures one { length b.new.assigns ≤ length b.old.assigns + 1 }
 {
     let net = b.op(operation)?;
     b.law();
@@ -86,7 +59,12 @@ fn operated(
     ensures grows { Grows b.old b.new }
     ensures word { IfOk result (λ r. IsWord b.new r (operator_width operator width) (λ s. operator_value operator width (bits_of s x) (bits_of s y))) }
     ensures made { IfOk result (λ r. IsMadeOver b.new r (x ∷ (y ∷ []))) }
+    ensures folds { IfOk result (λ r. Folds b.old b.new r (x ∷ (y ∷ []))) }
 {
+    match folded(b, operator, width, x, y) {
+        Some(known) => return Ok(known),
+        None => {}
+    }
     let (left, right) = (atom(x), atom(y));
     let net = net_for(b, Right::Binary(operator, left, right))?;
     Ok(Signal::Net(net))
@@ -100,6 +78,7 @@ pub(crate) fn add(b: &mut Builder, width: u8, x: Signal, y: Signal) -> Result<Si
     ensures grows { Grows b.old b.new }
     ensures word { IfOk result (λ r. IsWord b.new r width (λ s. (bits_of s x + bits_of s y) % 2 ^ width)) }
     ensures made { IfOk result (λ r. IsMadeOver b.new r (x ∷ (y ∷ []))) }
+    ensures folds { IfOk result (λ r. Folds b.old b.new r (x ∷ (y ∷ []))) }
 {
     let atom = operated(b, Operator::Add, width, x, y)?;
     Ok(atom)
@@ -113,6 +92,7 @@ pub(crate) fn subtract(b: &mut Builder, width: u8, x: Signal, y: Signal) -> Resu
     ensures grows { Grows b.old b.new }
     ensures word { IfOk result (λ r. IsWord b.new r width (λ s. (bits_of s x + 2 ^ width - bits_of s y) % 2 ^ width)) }
     ensures made { IfOk result (λ r. IsMadeOver b.new r (x ∷ (y ∷ []))) }
+    ensures folds { IfOk result (λ r. Folds b.old b.new r (x ∷ (y ∷ []))) }
 {
     let atom = operated(b, Operator::Subtract, width, x, y)?;
     Ok(atom)
@@ -126,6 +106,7 @@ pub(crate) fn multiply(b: &mut Builder, width: u8, x: Signal, y: Signal) -> Resu
     ensures grows { Grows b.old b.new }
     ensures word { IfOk result (λ r. IsWord b.new r width (λ s. bits_of s x * bits_of s y % 2 ^ width)) }
     ensures made { IfOk result (λ r. IsMadeOver b.new r (x ∷ (y ∷ []))) }
+    ensures folds { IfOk result (λ r. Folds b.old b.new r (x ∷ (y ∷ []))) }
 {
     let atom = operated(b, Operator::Multiply, width, x, y)?;
     Ok(atom)
@@ -140,6 +121,7 @@ pub(crate) fn divide(b: &mut Builder, width: u8, x: Signal, y: Signal) -> Result
     ensures grows { Grows b.old b.new }
     ensures word { IfOk result (λ r. IsWord b.new r width (λ s. bits_of s x / bits_of s y)) }
     ensures made { IfOk result (λ r. IsMadeOver b.new r (x ∷ (y ∷ []))) }
+    ensures folds { IfOk result (λ r. Folds b.old b.new r (x ∷ (y ∷ []))) }
 {
     let atom = operated(b, Operator::Divide, width, x, y)?;
     Ok(atom)
@@ -152,6 +134,7 @@ pub(crate) fn less(b: &mut Builder, width: u8, x: Signal, y: Signal) -> Result<S
     ensures grows { Grows b.old b.new }
     ensures word { IfOk result (λ r. IsWord b.new r 1 (λ s. bit (nat_lt (bits_of s x) (bits_of s y)))) }
     ensures made { IfOk result (λ r. IsMadeOver b.new r (x ∷ (y ∷ []))) }
+    ensures folds { IfOk result (λ r. Folds b.old b.new r (x ∷ (y ∷ []))) }
 {
     let atom = operated(b, Operator::Less, width, x, y)?;
     Ok(atom)
@@ -164,6 +147,7 @@ pub(crate) fn equal(b: &mut Builder, width: u8, x: Signal, y: Signal) -> Result<
     ensures grows { Grows b.old b.new }
     ensures word { IfOk result (λ r. IsWord b.new r 1 (λ s. bit (nat_eq (bits_of s x) (bits_of s y)))) }
     ensures made { IfOk result (λ r. IsMadeOver b.new r (x ∷ (y ∷ []))) }
+    ensures folds { IfOk result (λ r. Folds b.old b.new r (x ∷ (y ∷ []))) }
 {
     let atom = operated(b, Operator::Equal, width, x, y)?;
     Ok(atom)
@@ -177,6 +161,7 @@ pub(crate) fn and(b: &mut Builder, width: u8, x: Signal, y: Signal) -> Result<Si
     ensures grows { Grows b.old b.new }
     ensures word { IfOk result (λ r. IsWord b.new r width (λ s. bit_and (bits_of s x) (bits_of s y))) }
     ensures made { IfOk result (λ r. IsMadeOver b.new r (x ∷ (y ∷ []))) }
+    ensures folds { IfOk result (λ r. Folds b.old b.new r (x ∷ (y ∷ []))) }
 {
     let atom = operated(b, Operator::And, width, x, y)?;
     Ok(atom)
@@ -190,6 +175,7 @@ pub(crate) fn or(b: &mut Builder, width: u8, x: Signal, y: Signal) -> Result<Sig
     ensures grows { Grows b.old b.new }
     ensures word { IfOk result (λ r. IsWord b.new r width (λ s. bit_or (bits_of s x) (bits_of s y))) }
     ensures made { IfOk result (λ r. IsMadeOver b.new r (x ∷ (y ∷ []))) }
+    ensures folds { IfOk result (λ r. Folds b.old b.new r (x ∷ (y ∷ []))) }
 {
     let atom = operated(b, Operator::Or, width, x, y)?;
     Ok(atom)
@@ -203,6 +189,7 @@ pub(crate) fn xor(b: &mut Builder, width: u8, x: Signal, y: Signal) -> Result<Si
     ensures grows { Grows b.old b.new }
     ensures word { IfOk result (λ r. IsWord b.new r width (λ s. bit_xor (bits_of s x) (bits_of s y))) }
     ensures made { IfOk result (λ r. IsMadeOver b.new r (x ∷ (y ∷ []))) }
+    ensures folds { IfOk result (λ r. Folds b.old b.new r (x ∷ (y ∷ []))) }
 {
     let atom = operated(b, Operator::Xor, width, x, y)?;
     Ok(atom)
@@ -223,7 +210,17 @@ pub(crate) fn choose(
     ensures grows { Grows b.old b.new }
     ensures word { IfOk result (λ r. IsWord b.new r width (λ s. if nat_eq (bits_of s c) 1 then bits_of s x else bits_of s y)) }
     ensures made { IfOk result (λ r. IsMadeOver b.new r (c ∷ (x ∷ (y ∷ [])))) }
+    ensures folds { IfOk result (λ r. Folds b.old b.new r (c ∷ (x ∷ (y ∷ [])))) }
 {
+    match known(c) {
+        Some(bit) => {
+            if bit == 1 {
+                return Ok(x);
+            }
+            return Ok(y);
+        }
+        None => {}
+    }
     let condition = atom(c);
     let (left, right) = (atom(x), atom(y));
     let net = net_for(b, Right::Choose(condition, left, right))?;
@@ -245,7 +242,12 @@ pub(crate) fn join(
     ensures grows { Grows b.old b.new }
     ensures word { IfOk result (λ r. IsWord b.new r (high + low) (λ s. bits_of s x * 2 ^ low + bits_of s y)) }
     ensures made { IfOk result (λ r. IsMadeOver b.new r (x ∷ (y ∷ []))) }
+    ensures folds { IfOk result (λ r. Folds b.old b.new r (x ∷ (y ∷ []))) }
 {
+    match folded_join(b, high, x, low, y) {
+        Some(known) => return Ok(known),
+        None => {}
+    }
     let (left, right) = (atom(x), atom(y));
     let net = net_for(b, Right::Join(left, right))?;
     Ok(Signal::Net(net))
@@ -258,7 +260,12 @@ pub(crate) fn repeat(b: &mut Builder, count: u8, x: Signal) -> Result<Signal, Me
     ensures grows { Grows b.old b.new }
     ensures word { IfOk result (λ r. IsWord b.new r count (λ s. repeated count 1 (bits_of s x))) }
     ensures made { IfOk result (λ r. IsMadeOver b.new r (x ∷ [])) }
+    ensures folds { IfOk result (λ r. Folds b.old b.new r (x ∷ [])) }
 {
+    match folded_repeat(b, count, x) {
+        Some(known) => return Ok(known),
+        None => {}
+    }
     let operand = atom(x);
     let net = net_for(b, Right::Repeat(count, operand))?;
     Ok(Signal::Net(net))
@@ -271,7 +278,12 @@ pub(crate) fn complement(b: &mut Builder, width: u8, x: Signal) -> Result<Signal
     ensures grows { Grows b.old b.new }
     ensures word { IfOk result (λ r. IsWord b.new r width (λ s. 2 ^ width - 1 - bits_of s x)) }
     ensures made { IfOk result (λ r. IsMadeOver b.new r (x ∷ [])) }
+    ensures folds { IfOk result (λ r. Folds b.old b.new r (x ∷ [])) }
 {
+    match folded_not(b, width, x) {
+        Some(known) => return Ok(known),
+        None => {}
+    }
     let operand = atom(x);
     let net = net_for(b, Right::Not(operand))?;
     Ok(Signal::Net(net))
@@ -284,6 +296,7 @@ fn copied(b: &mut Builder, width: u8, x: Signal) -> Result<Net, Memory>
     ensures grows { Grows b.old b.new }
     ensures word { IfOk result (λ n. IsWord b.new (signal.Net n) width (λ s. bits_of s x)) }
     ensures made { IfOk result (λ r. IsMadeOver b.new (signal.Net r) (x ∷ [])) }
+    ensures one { length b.new.assigns ≤ length b.old.assigns + 1 }
 {
     let operand = atom(x);
     let net = net_for(b, Right::Copy(operand))?;
@@ -298,6 +311,7 @@ pub(crate) fn net_of(b: &mut Builder, width: u8, x: Signal) -> Result<Net, Memor
     ensures grows { Grows b.old b.new }
     ensures word { IfOk result (λ n. IsWord b.new (signal.Net n) width (λ s. bits_of s x)) }
     ensures made { IfOk result (λ r. IsMadeOver b.new (signal.Net r) (x ∷ [])) }
+    ensures one { length b.new.assigns ≤ length b.old.assigns + 1 }
 {
     match x {
         Signal::Net(net) => Ok(net),
@@ -341,9 +355,14 @@ pub(crate) fn part(
     ensures grows { Grows b.old b.new }
     ensures word { IfOk result (λ r. IsWord b.new r count (λ s. bits_of s x / 2 ^ low % 2 ^ count)) }
     ensures made { IfOk result (λ r. IsMadeOver b.new r (x ∷ [])) }
+    ensures folds { IfOk result (λ r. Folds b.old b.new r (x ∷ [])) }
 {
     if count == width {
         return Ok(x);
+    }
+    match folded_part(b, width, x, low, count) {
+        Some(known) => return Ok(known),
+        None => {}
     }
     let whole = net_of(b, width, x)?;
     let atom = slice(b, width, whole, low, count)?;
@@ -359,6 +378,7 @@ pub(crate) fn with_zeros(b: &mut Builder, high: u8, low: u8, x: Signal) -> Resul
     ensures grows { Grows b.old b.new }
     ensures word { IfOk result (λ r. IsWord b.new r (high + low) (λ s. bits_of s x)) }
     ensures made { IfOk result (λ r. IsMadeOver b.new r (x ∷ [])) }
+    ensures folds { IfOk result (λ r. Folds b.old b.new r (x ∷ [])) }
 {
     let zeros = constant(high, 0);
     let atom = join(b, high, zeros, low, x)?;
@@ -375,6 +395,7 @@ pub(crate) fn with_signs(b: &mut Builder, high: u8, low: u8, x: Signal) -> Resul
     ensures grows { Grows b.old b.new }
     ensures word { IfOk result (λ r. IsWord b.new r (high + low) (λ s. repeated high 1 (bits_of s x / 2 ^ (low - 1) % 2 ^ 1) * 2 ^ low + bits_of s x)) }
     ensures made { IfOk result (λ r. IsMadeOver b.new r (x ∷ [])) }
+    ensures folds { IfOk result (λ r. Folds b.old b.new r (x ∷ [])) }
 {
     let sign = part(b, low, x, low - 1, 1)?;
     let signs = repeat(b, high, sign)?;

@@ -1,1 +1,1 @@
-pub mod Constants
+pub mod Showing

@@ -1,8 +1,8 @@
-//! The module of an expression without leaves. It shows the expression's value.
+//! The module of an expression over one bit. It shows the expression's value.
 #![tactic(auto)]
 
-mod constant;
+mod built;
 #[cfg(test)]
 mod tests;
 
-pub use constant::constant_module;
+pub use built::bit_module;

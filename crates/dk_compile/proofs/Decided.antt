@@ -89,7 +89,7 @@ pub offsets_ascend : (side j k : ℕ) → j < k → offset_at side j <ℤ offset
 offsets_ascend side j k lt = omega (arith, ints, lt)
 
 module _ (p : Typing) (typed : IsTyped p) where
-  abbrev pub image_count : ℕ
+  abbrev image_count : ℕ
   image_count = length p.inputs + length p.definitions
 
   -- what a live read of a definition is
@@ -155,7 +155,7 @@ module _ (p : Typing) (typed : IsTyped p) where
       }
 
   -- from one image to another, at some offset
-  abbrev pub Reaches : (f g : ℕ) → Type 0
+  abbrev Reaches : (f g : ℕ) → Type 0
   Reaches f g = (j : ℕ) × (j < p.size.height + p.size.height) × ((i : ℕ) × (i < p.size.width + p.size.width) × IsLive p f g (offset_at p.size.width i) (offset_at p.size.height j))
 
   reaches_or_not : (f g : ℕ) → Settled (Reaches f g)

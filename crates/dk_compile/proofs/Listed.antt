@@ -12,19 +12,19 @@ use Rattle.dk_compile.proofs.Decided.{offset_at, offset_place, offsets_ascend, l
 use Rattle.dk_compile.proofs.Sweeps.{Each, In, Ascend, in_order, each_of, in_contains, sweep, each_sweep, in_sweep, ascend_sweep, picked, each_picked, ascend_picked, in_picked}
 
 -- what is known of all reads of one sweep: the reader, the source, the row and the column
-pub record InReader (f : ℕ) (r : LiveRead) : Type 0 where
+record InReader (f : ℕ) (r : LiveRead) : Type 0 where
   pub reader : r.f ≡ f
 
-pub record InSource (f g : ℕ) (r : LiveRead) : Type 0 where
+record InSource (f g : ℕ) (r : LiveRead) : Type 0 where
   pub reader : r.f ≡ f
   pub source : r.g ≡ g
 
-pub record InRow (f g : ℕ) (dy : ℤ) (r : LiveRead) : Type 0 where
+record InRow (f g : ℕ) (dy : ℤ) (r : LiveRead) : Type 0 where
   pub reader : r.f ≡ f
   pub source : r.g ≡ g
   pub down : r.dy ≡ dy
 
-pub record InCell (f g : ℕ) (dy dx : ℤ) (r : LiveRead) : Type 0 where
+record InCell (f g : ℕ) (dy dx : ℤ) (r : LiveRead) : Type 0 where
   pub reader : r.f ≡ f
   pub source : r.g ≡ g
   pub down : r.dy ≡ dy

@@ -39,7 +39,7 @@ fn turning_index(b: &mut Builder, words: u32) -> Result<Net, Memory>
     Ok(index)
 }
 
-/// An array of so many words, at whose index the value goes in, and comes out so many clocks later.
+/// An array of so many words, at least one: `value`, of `width` bits, goes in at its index, and comes out there so many counted clocks later. The index is 0 in a reset clock and stands in a held one. Fails only where memory is wanting.
 pub fn delay_line(b: &mut Builder, width: u8, words: u32, value: Net) -> Result<DelayLine, Memory>
     requires bits { IsWidth width }
     requires words { IsDepth words }

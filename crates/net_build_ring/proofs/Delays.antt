@@ -17,10 +17,12 @@ use Rattle.net_build.specs.Runs.{IsClockOf, StaysBelow, StaysInside}
 use Rattle.net_build.proofs.Parts.{at_Begins}
 use Rattle.net_build.proofs.Stops.{inside_below}
 use Rattle.net_build.proofs.Fitting.{array_long}
-use Rattle.net_build.proofs.Runs.{clock_more, clock_before, clock_contents, din_shown}
-use Rattle.net_build_ring.specs.Ring.{IsCounter, IsDelayed}
+use Rattle.net_build.proofs.Runs.{InEachRun-more, clock_more, clock_before, clock_contents, din_shown}
+use Rattle.net_build.specs.Counters.{Counts, clock_number}
+use Rattle.net_build.proofs.Clocks.{bool_cases, was_off, now_on, number_off}
+use Rattle.net_build_ring.specs.Ring.{IsDelayed}
 use Rattle.net_build_ring.proofs.Counts.{first_back, one_apart, two_apart, below_three}
-use Rattle.net_build_ring.proofs.Clocks.{bool_cases, counted_on, counted_off, was_off, counter_below}
+use Rattle.net_build_ring.proofs.Clocks.{counted_on, counted_off}
 
 -- what is read three clocks after it was written
 three_on : (w0 w1 w2 w3 : List ℕ) (k i j l n a b c : ℕ) → w1 ≡ slice_set w0 i a → w2 ≡ slice_set w1 j b → w3 ≡ slice_set w2 l c → i ≡ k % 3 → j ≡ (k + 1) % 3 → l ≡ (k + 2) % 3 → n ≡ (k + 3) % 3 → length w0 ≡ 3 → slice_index w3 n ≡ a
@@ -56,12 +58,11 @@ module _ (b m : Netlist) (none : m.enable ≡ false) (from : Contents) where
             record { clock = d; rest = rest; shot = last.0; off = off; counted_is = counted_off m d rest none off; is = last.1; since = was_off d rest off since; next = last.3 }
       ]
 
-  place : (index : Net) → IsCounter b index → (before : List Clock) (c : Clock) (s : Snapshot) → IsClockOf b m from before c s → IsTrue (was_reset before) → c.reset ≡ false → net_value s index ≡ length (counted m before) % 3
+  place : (index : Net) → Counts b (λ t. t % 3) index → (before : List Clock) (c : Clock) (s : Snapshot) → IsClockOf b m from before c s → IsTrue (was_reset before) → c.reset ≡ false → net_value s index ≡ length (counted m before) % 3
   place index counter before c s is since off =
-      counter.counts m from before c s is (subst (λ (r : Bool). IsTrue (if r then true else was_reset before)) (sym off) since)
-      ∙ ap (λ (r : Bool). (if r then 0 else length (counted m before)) % 3) off
+      counter.counts m from before c s is (now_on c before off since) ∙ ap (λ (n : ℕ). n % 3) (number_off m before c off)
 
-module _ (b : Netlist) (x : ℕ) (shape : Shape) (index word : Net) (none : b.enable ≡ false) (counter : IsCounter b index) (at : slice_get b.arrays x ≡ Some shape) (three : shape.depth ≡ 3) (word_is : InEach b (λ m s. net_value s word ≡ word_value s x (net_value s index)))
+module _ (b : Netlist) (x : ℕ) (shape : Shape) (index word : Net) (none : b.enable ≡ false) (counter : Counts b (λ t. t % 3) index) (at : slice_get b.arrays x ≡ Some shape) (three : shape.depth ≡ 3) (word_is : InEach b (λ m s. net_value s word ≡ word_value s x (net_value s index)))
     (edge : AtEachEdge b (λ s next. slice_get next.arrays x ≡ Some (slice_set (slice_index_or s.contents.arrays x []) (net_value s index) (net_value s (din_net b 0))))) where
   abbrev words : Snapshot → List ℕ
   words s = slice_index_or s.contents.arrays x []
@@ -115,13 +116,17 @@ module _ (b : Netlist) (x : ℕ) (shape : Shape) (index word : Net) (none : b.en
   delayed_is = record { delayed = λ m from before c s is since off enough. delayed m from before c s is since off enough }
 
 -- a count modulo three is inside an array of three words
-pub inside_three : (b : Netlist) (x : ℕ) (shape : Shape) (index : Net) → IsCounter b index → slice_get b.arrays x ≡ Some shape → shape.depth ≡ 3 → StaysInside b (x, atom.Net index)
-inside_three b x shape index counter at three =
+pub inside_three : (b : Netlist) (x : ℕ) (shape : Shape) (index : Net) → StaysBelow b 3 index → slice_get b.arrays x ≡ Some shape → shape.depth ≡ 3 → StaysInside b (x, atom.Net index)
+inside_three b x shape index below at three =
     let deep : depth b x ≡ 3 = ap (λ o. unwrap_or (option_map (λ (s : Shape). s.depth) o) 0) at ∙ three in
-    inside_below b x index (slice_get_within b.arrays x shape at) (subst (λ (n : ℕ). StaysBelow b n index) (sym deep) (counter_below b index counter))
+    inside_below b x index (slice_get_within b.arrays x shape at) (subst (λ (n : ℕ). StaysBelow b n index) (sym deep) below)
 
 -- the net of an output
 pub delayed_output : (b whole : Netlist) (word out : Net) → Includes whole b → IsDelayed b word → InEach whole (λ m s. net_value s out ≡ net_value s word) → IsDelayed whole out
 delayed_output b whole word out f is same = record {
   delayed = λ m from before c s clock since off enough. same m s clock.whole.includes clock.at.snapshot.settled ∙ is.delayed m from before c s (clock_more whole b m from before c s f clock) since off enough;
 }
+
+-- a counter of a later netlist
+pub counts_more : (b a : Netlist) (at : ℕ → ℕ) (index : Net) → Includes b a → Counts a at index → Counts b at index
+counts_more b a at index f counter = record { counts = InEachRun-more (λ m before c s. IsTrue (was_reset (c ∷ before)) → net_value s index ≡ at (clock_number m before c)) b a f counter.counts }

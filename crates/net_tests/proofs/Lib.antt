@@ -1,1 +1,3 @@
 pub mod Finished
+pub mod Counted
+pub mod Buffered

@@ -4,9 +4,15 @@
 #[cfg(test)]
 mod benches;
 #[cfg(test)]
+mod buffers;
+#[cfg(test)]
 mod building;
 #[cfg(test)]
 mod clocked;
+#[cfg(test)]
+mod counters;
+#[cfg(test)]
+mod digits;
 #[cfg(test)]
 mod draft;
 #[cfg(test)]
@@ -17,4 +23,4 @@ mod positions;
 mod rings;
 mod worked;
 
-pub use worked::{worked_names, worked_operators, worked_sizes};
+pub use worked::{worked_names, worked_operators, worked_places, worked_sizes};

@@ -2,7 +2,7 @@
 
 ghost use Rattle.dk_base.specs.Frames.{IsFrame};
 
-use cycle_sim::{Fill, Sim};
+use crate::digits::digits;
 use dk_base::Memory;
 use edge_select::{Extent, Step, at, inside, leading, passing, position};
 use net_build::Builder;
@@ -49,33 +49,6 @@ fn steps_at(alloc: Global, steps: &[Step], dx: i32, dy: i32) -> Result<Module, M
     let valid = b.rst();
     let module = b.finish(valid, test)?;
     Ok(module)
-}
-
-// What the output shows in a clock, or 9 where the module has other ports.
-fn shown(sim: &mut Sim, reset: bool, enable: bool) -> u64 {
-    let dins = [0];
-    if !sim.fits(&dins) {
-        return 9;
-    }
-    if sim.outputs() != 1 {
-        return 9;
-    }
-    match sim.step_output(reset, enable, &dins, 0) {
-        Ok(out) => out.dout,
-        Err(_) => 9,
-    }
-}
-
-// What the output shows after a reset clock, a digit for each clock behind a 1: in a clock `r` there is a reset, and a clock `h` is held.
-fn digits(alloc: Global, module: &Module, clocks: &[u8]) -> Result<u64, Memory> {
-    let mut sim = Sim::new(alloc, module, Fill::Ones)?;
-    let _ = shown(&mut sim, true, true);
-    let mut all: u64 = 1;
-    for clock in clocks {
-        let digit = shown(&mut sim, *clock == b'r', *clock != b'h');
-        all = all.wrapping_mul(10).wrapping_add(digit);
-    }
-    Ok(all)
 }
 
 fn column_digits(alloc: Global, delay: u64, clocks: &[u8]) -> Result<u64, Memory> {
@@ -157,10 +130,7 @@ fn tests_at_the_edges(rt: HostRuntime) -> Result<(), Fail> {
 
 #[test]
 fn how_many_pixels_steps_lead(rt: HostRuntime) {
-    assert_eq!(rt;
-        passing(1, 1, &[clamped(9, -9)], 0, 0),
-        Extent::Always
-    );
+    assert_eq!(rt; passing(1, 1, &[clamped(9, -9)], 0, 0), Extent::Always);
     assert_eq!(rt;
         passing(3, 1, &[clamped(1, 0), unclamped(-1, 0)], 0, 0),
         Extent::Sometimes

@@ -2,6 +2,7 @@
 
 ghost use Rattle.std.specs.Prelude.{◌≡◌, ℕ, ◌+◌, ◌*◌, ◌^◌, ◌<◌, ◌≤◌, [], ◌∷◌, length, IfErr, OnOk, OnErr, Some, slice_get, if◌then◌else◌, vec_capacity};
 ghost use Rattle.std.specs.List.{All, flat_map, range_with_len};
+ghost use Rattle.dk_base.specs.declared.TheConstants.{MAX_PORT_WIDTH};
 ghost use Rattle.dk_base.specs.Frames.{Size};
 ghost use Rattle.wiring.specs.Snapshot.{Snapshot, Fit};
 ghost use Rattle.wiring.specs.Clock.{given, Steps, Stops};
@@ -79,7 +80,7 @@ fn tell<D: Desk>(desk: &mut D, outs: &[Out])
 fn show(pictures: &mut Vec<Shown>, most: usize, outs: &[Out])
     requires count { length pictures.old.items ≡ length outs.now }
     requires room { All (λ shown. most ≤ vec_capacity shown.samples) pictures.old.items }
-    requires douts { All (λ out. out.dout < 2 ^ 16) outs.now }
+    requires douts { All (λ out. out.dout < 2 ^ MAX_PORT_WIDTH) outs.now }
     ensures count { length pictures.new.items ≡ length outs.now }
     ensures room { All (λ shown. most ≤ vec_capacity shown.samples) pictures.new.items }
     ensures kept { (k : ℕ) (old new : Picture) (out : Ports) → slice_get pictures.old.items k ≡ Some old → slice_get pictures.new.items k ≡ Some new → slice_get outs.now k ≡ Some out → Extends most old new (sample_of out) }

@@ -1,6 +1,7 @@
 // What the outputs show.
 
 ghost use Rattle.std.specs.Prelude.{◌≡◌, ℕ, ◌+◌, ◌^◌, ◌<◌, ◌≤◌, ◌++◌, [], ◌∷◌, List, length, min, take, IfOk, All, vec_capacity, if◌then◌else◌};
+ghost use Rattle.dk_base.specs.declared.TheConstants.{MAX_PORT_WIDTH};
 ghost use Rattle.test_bench.specs.Clocking.{IsKept};
 
 use cycle_sim::Out;
@@ -29,7 +30,7 @@ impl Shown {
     /// Adds what the output shows in a clock, where its valid is 1. The first `most` samples are kept, and all are counted. It takes no memory.
     pub fn add(&mut self, most: usize, out: Out)
         requires room { most ≤ vec_capacity self.old.samples }
-        requires dout { out.dout < 2 ^ 16 }
+        requires dout { out.dout < 2 ^ MAX_PORT_WIDTH }
         ensures room { most ≤ vec_capacity self.new.samples }
         ensures kept { (whole : List ℕ) → IsKept most whole self.old → IsKept most (whole ++ (if out.valid then out.dout ∷ [] else [])) self.new }
     {

@@ -2,6 +2,7 @@
 
 ghost use Rattle.std.specs.Prelude.{◌≡◌, ℕ, ◌-◌, ◌^◌, ◌<◌, ◌≤◌, List, length, replicate, slice_index, IfOk};
 ghost use Rattle.std.specs.List.{All};
+ghost use Rattle.dk_base.specs.declared.TheConstants.{MAX_PORT_WIDTH};
 ghost use Rattle.dk_base.specs.Frames.{Size, area as area_of};
 ghost use Rattle.wiring.specs.Sizes.{IsWidth};
 ghost use Rattle.wiring.specs.Rules.{IsPortWidth};
@@ -43,7 +44,7 @@ pub fn fill_dins(rounds: &[Round], area: usize, number: u32, dins: &mut Vec<u64>
 
 /// The greatest number of so many bits.
 fn greatest(width: Width) -> u64
-    requires { width ≤ 16 }
+    requires { width ≤ MAX_PORT_WIDTH }
     ensures { result ≡ 2 ^ width - 1 }
 {
     (1 << width.bits()) - 1

@@ -1,4 +1,4 @@
-use Rattle.std.proofs.Common.{ap, refl}
+use Rattle.std.proofs.Common.{ap, refl, ◌∙◌}
 use Rattle.datapath.specs.Nets.{bits_of}
 use Rattle.datapath.proofs.Carried.{negation_carries}
 use Rattle.datapath.proofs.Growth.{then_grows}
@@ -18,3 +18,9 @@ returns-clause-grows c = then_grows c.resized.ensures.grows c.subtract.ensures.g
 
 pub returns-clause-made : goal.returns-clause-made
 returns-clause-made c = then_two c.in_ok-atom.ensures.made (nothing_over (c.constant.ensures.made _)) (over_later c.subtract.ensures.grows.includes c.in_ok-right.ensures.made)
+
+pub returns-clause-folds : goal.returns-clause-folds
+returns-clause-folds c h =
+    let right = c.in_ok-right.ensures.folds (h.0, tt) in
+    let all = c.in_ok-atom.ensures.folds (c.constant.ensures.known, (right.0, tt)) in
+    (all.0, all.1 ∙ right.1)

@@ -1,4 +1,4 @@
-use Rattle.std.proofs.Common.{◌+◌, ◌%◌, ◌^◌, ◌+ℤ◌}
+use Rattle.std.proofs.Common.{◌+◌, ◌%◌, ◌^◌, ◌+ℤ◌, ◌∙◌}
 use Rattle.dk_base.proofs.Codes.{code_add}
 use Rattle.dk_base.proofs.Ranges.{sum_in}
 use Rattle.datapath.proofs.Carried.{binary_carries}
@@ -25,3 +25,10 @@ returns-clause-grows c = then_grows (then_grows c.resized.ensures.grows c.resize
 
 pub returns-clause-made : goal.returns-clause-made
 returns-clause-made c = two_over c.resized-2.ensures.grows.includes c.add.ensures.grows.includes c.in_ok-left.ensures.made c.in_ok-right.ensures.made c.in_ok-atom.ensures.made
+
+pub returns-clause-folds : goal.returns-clause-folds
+returns-clause-folds c h =
+    let left = c.in_ok-left.ensures.folds (h.0, tt) in
+    let right = c.in_ok-right.ensures.folds (h.1.0, tt) in
+    let all = c.in_ok-atom.ensures.folds (left.0, (right.0, tt)) in
+    (all.0, all.1 ∙ right.1 ∙ left.1)

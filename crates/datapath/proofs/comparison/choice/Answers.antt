@@ -1,4 +1,4 @@
-use Rattle.std.proofs.Common.{ap, sym}
+use Rattle.std.proofs.Common.{ap, sym, ◌∙◌}
 use Rattle.dk_base.specs.Types.{width_of}
 use Rattle.datapath.proofs.Compared.{choice_carries}
 use Rattle.datapath.proofs.Growth.{then_grows, width_later, has_width_of}
@@ -25,3 +25,10 @@ choose-requires-clause-c c = width_later _ _ _ _ (then_grows c.resized.ensures.g
 
 pub returns-clause-made : goal.returns-clause-made
 returns-clause-made c = three_over c.resized-2.ensures.grows.includes c.choose.ensures.grows.includes c.in_ok-left.ensures.made c.in_ok-right.ensures.made c.in_ok-atom.ensures.made
+
+pub returns-clause-folds : goal.returns-clause-folds
+returns-clause-folds c h =
+    let left = c.in_ok-left.ensures.folds (h.1.0, tt) in
+    let right = c.in_ok-right.ensures.folds (h.1.1.0, tt) in
+    let all = c.in_ok-atom.ensures.folds (h.0, (left.0, (right.0, tt))) in
+    (all.0, all.1 ∙ right.1 ∙ left.1)

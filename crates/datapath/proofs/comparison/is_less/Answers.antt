@@ -1,3 +1,4 @@
+use Rattle.std.proofs.Common.{◌∙◌}
 use Rattle.datapath.proofs.Compared.{within_left, within_right, less_carries}
 use Rattle.datapath.proofs.Growth.{then_grows, width_later, has_width_of}
 use Rattle.datapath.proofs.Over.{two_over}
@@ -26,3 +27,10 @@ less-requires-clause-x c = width_later _ _ _ _ c.offset-2.ensures.grows (has_wid
 
 pub returns-clause-made : goal.returns-clause-made
 returns-clause-made c = two_over c.offset-2.ensures.grows.includes c.less.ensures.grows.includes c.in_ok-left.ensures.made c.in_ok-right.ensures.made c.in_ok-atom.ensures.made
+
+pub returns-clause-folds : goal.returns-clause-folds
+returns-clause-folds c h =
+    let left = c.in_ok-left.ensures.folds (h.0, tt) in
+    let right = c.in_ok-right.ensures.folds (h.1.0, tt) in
+    let all = c.in_ok-atom.ensures.folds (left.0, (right.0, tt)) in
+    (all.0, all.1 ∙ right.1 ∙ left.1)

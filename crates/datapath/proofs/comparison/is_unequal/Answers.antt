@@ -1,3 +1,4 @@
+use Rattle.std.proofs.Common.{◌∙◌}
 use Rattle.datapath.proofs.Compared.{opposite_carries}
 use Rattle.datapath.proofs.Growth.{then_grows}
 use Rattle.datapath.proofs.Over.{then_one, over_later}
@@ -14,3 +15,9 @@ returns-clause-grows c = then_grows c.is_equal.ensures.grows c.negated.ensures.g
 
 pub returns-clause-made : goal.returns-clause-made
 returns-clause-made c = then_one c.in_ok-negation.ensures.made (over_later c.negated.ensures.grows.includes c.in_ok-opposite.ensures.made)
+
+pub returns-clause-folds : goal.returns-clause-folds
+returns-clause-folds c h =
+    let opposite = c.in_ok-opposite.ensures.folds h in
+    let all = c.in_ok-negation.ensures.folds (opposite.0, tt) in
+    (all.0, all.1 ∙ opposite.1)

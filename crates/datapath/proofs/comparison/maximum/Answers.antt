@@ -1,3 +1,4 @@
+use Rattle.std.proofs.Common.{◌∙◌}
 use Rattle.datapath.proofs.Compared.{greater_carries}
 use Rattle.datapath.proofs.Growth.{then_grows}
 use Rattle.datapath.proofs.Over.{then_two, then_three, over_later, first_over, second_over}
@@ -14,3 +15,9 @@ returns-clause-value c = greater_carries _ _ c.in_ok-below.below c.args.x c.args
 
 pub returns-clause-made : goal.returns-clause-made
 returns-clause-made c = then_three c.in_ok-greater.ensures.made (over_later c.choice.ensures.grows.includes (then_two c.in_ok-below.ensures.made second_over first_over)) first_over second_over
+
+pub returns-clause-folds : goal.returns-clause-folds
+returns-clause-folds c h =
+    let below = c.in_ok-below.ensures.folds (h.1.0, (h.0, tt)) in
+    let all = c.in_ok-greater.ensures.folds (below.0, (h.0, (h.1.0, tt))) in
+    (all.0, all.1 ∙ below.1)

@@ -1,3 +1,4 @@
+use Rattle.std.proofs.Common.{◌∙◌}
 use Rattle.datapath.proofs.Divided.{same_carries}
 use Rattle.dk_base.proofs.Ranges.{common_turned}
 use Rattle.datapath.proofs.Compared.{lesser_carries}
@@ -16,3 +17,9 @@ returns-clause-value c = same_carries _ _ _ _ _ (common_turned c.args.x.ty c.arg
 
 pub returns-clause-made : goal.returns-clause-made
 returns-clause-made c = then_three c.in_ok-lesser.ensures.made (over_later c.choice.ensures.grows.includes (then_two c.in_ok-above.ensures.made second_over first_over)) second_over first_over
+
+pub returns-clause-folds : goal.returns-clause-folds
+returns-clause-folds c h =
+    let above = c.in_ok-above.ensures.folds (h.1.0, (h.0, tt)) in
+    let all = c.in_ok-lesser.ensures.folds (above.0, (h.1.0, (h.0, tt))) in
+    (all.0, all.1 ∙ above.1)

@@ -1,5 +1,5 @@
 use Rattle.datapath.proofs.Growth.{then_grows}
-use Rattle.std.proofs.Common.{ap}
+use Rattle.std.proofs.Common.{ap, ◌∙◌}
 use Rattle.datapath.specs.Nets.{bits_of}
 use Rattle.datapath.proofs.Compared.{offset_unsigned_word, offset_signed_word}
 use Rattle.datapath.proofs.Over.{then_two, nothing_over, over_later}
@@ -23,3 +23,9 @@ returns-in_ok-atom-in-Signed-clause-grows c = then_grows c.resized-in-Signed.ens
 
 pub returns-in_ok-atom-in-Signed-clause-made : goal.returns-in_ok-atom-in-Signed-clause-made
 returns-in_ok-atom-in-Signed-clause-made c = then_two c.in_ok-atom-in-Signed.ensures.made (over_later c.add.ensures.grows.includes c.in_ok-bits-in-Signed.ensures.made) (nothing_over (c.top_bit-half.ensures.made _))
+
+pub returns-in_ok-atom-in-Signed-clause-folds : goal.returns-in_ok-atom-in-Signed-clause-folds
+returns-in_ok-atom-in-Signed-clause-folds c h =
+    let bits = c.in_ok-bits-in-Signed.ensures.folds h in
+    let all = c.in_ok-atom-in-Signed.ensures.folds (bits.0, (c.top_bit-half.ensures.known, tt)) in
+    (all.0, all.1 ∙ bits.1)

@@ -1,3 +1,4 @@
+use Rattle.std.proofs.Common.{◌∙◌}
 use Rattle.datapath.proofs.Growth.{then_grows}
 use Rattle.datapath.proofs.Divided.{signed_quotient_carries}
 use Rattle.datapath.proofs.Over.{then_one, then_two, over_later}
@@ -22,3 +23,11 @@ returns-in_ok-atom-in-Signed-clause-grows c = then_grows (then_grows (then_grows
 
 pub returns-in_ok-atom-in-Signed-clause-made : goal.returns-in_ok-atom-in-Signed-clause-made
 returns-in_ok-atom-in-Signed-clause-made c = then_two c.in_ok-atom-in-Signed.ensures.made (over_later c.turned.ensures.grows.includes c.in_ok-sign-in-Signed.ensures.made) (over_later c.turned.ensures.grows.includes (over_later c.part.ensures.grows.includes (then_one c.in_ok-q-in-Signed.ensures.made (over_later c.unsigned_quotient-in-Signed.ensures.grows.includes c.in_ok-size-in-Signed.ensures.made))))
+
+pub returns-in_ok-atom-in-Signed-clause-folds : goal.returns-in_ok-atom-in-Signed-clause-folds
+returns-in_ok-atom-in-Signed-clause-folds c h =
+    let size = c.in_ok-size-in-Signed.ensures.folds h in
+    let q = c.in_ok-q-in-Signed.ensures.folds (size.0, tt) in
+    let sign = c.in_ok-sign-in-Signed.ensures.folds h in
+    let all = c.in_ok-atom-in-Signed.ensures.folds (sign.0, (q.0, tt)) in
+    (all.0, all.1 ∙ sign.1 ∙ q.1 ∙ size.1)

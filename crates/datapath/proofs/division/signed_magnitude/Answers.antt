@@ -1,3 +1,4 @@
+use Rattle.std.proofs.Common.{◌∙◌}
 use Rattle.datapath.proofs.Divided.{magnitude_carries}
 use Rattle.datapath.proofs.Growth.{then_grows}
 use Rattle.datapath.proofs.Over.{then_two, itself_over, over_later}
@@ -14,3 +15,9 @@ returns-clause-grows c = then_grows c.part.ensures.grows c.turned.ensures.grows
 
 pub returns-clause-made : goal.returns-clause-made
 returns-clause-made c = then_two c.in_ok-atom.ensures.made (over_later c.turned.ensures.grows.includes c.in_ok-sign.ensures.made) itself_over
+
+pub returns-clause-folds : goal.returns-clause-folds
+returns-clause-folds c h =
+    let sign = c.in_ok-sign.ensures.folds h in
+    let all = c.in_ok-atom.ensures.folds (sign.0, (h.0, tt)) in
+    (all.0, all.1 ∙ sign.1)

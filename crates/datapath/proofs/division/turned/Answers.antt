@@ -1,4 +1,4 @@
-use Rattle.std.proofs.Common.{ap}
+use Rattle.std.proofs.Common.{ap, ◌∙◌}
 use Rattle.datapath.specs.Nets.{bits_of}
 use Rattle.datapath.proofs.Divided.{turned_word}
 use Rattle.datapath.proofs.Growth.{then_grows, width_later}
@@ -22,3 +22,9 @@ choose-requires-clause-y c = width_later _ _ _ _ c.subtract.ensures.grows c.requ
 
 pub returns-clause-made : goal.returns-clause-made
 returns-clause-made c = then_three c.in_ok-atom.ensures.made first_over (over_later c.choose.ensures.grows.includes (then_two c.in_ok-negative.ensures.made (nothing_over (c.constant.ensures.made _)) second_over)) second_over
+
+pub returns-clause-folds : goal.returns-clause-folds
+returns-clause-folds c h =
+    let negative = c.in_ok-negative.ensures.folds (c.constant.ensures.known, (h.1.0, tt)) in
+    let all = c.in_ok-atom.ensures.folds (h.0, (negative.0, (h.1.0, tt))) in
+    (all.0, all.1 ∙ negative.1)

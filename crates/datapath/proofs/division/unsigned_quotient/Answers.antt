@@ -1,4 +1,4 @@
-use Rattle.std.proofs.Common.{◌≤◌, ◌^◌, ap, arith, rules}
+use Rattle.std.proofs.Common.{◌≤◌, ◌^◌, ap, arith, rules, refl}
 use Rattle.datapath.specs.Nets.{bits_of, HasWidth}
 use Rattle.datapath.proofs.Divided.{zero_quotient_carries, unsigned_quotient_carries}
 use Rattle.datapath.proofs.Growth.{grows_itself}
@@ -22,3 +22,9 @@ returns-then-by-greatest-clause-made c = nothing_over (c.constant.ensures.made _
 
 pub returns-clause-made : goal.returns-clause-made
 returns-clause-made c = then_two c.in_ok-atom.ensures.made itself_over (nothing_over (c.constant-2.ensures.made _))
+
+pub returns-then-by-greatest-clause-folds : goal.returns-then-by-greatest-clause-folds
+returns-then-by-greatest-clause-folds c h = (c.constant.ensures.known, refl)
+
+pub returns-clause-folds : goal.returns-clause-folds
+returns-clause-folds c h = c.in_ok-atom.ensures.folds (h.0, (c.constant-2.ensures.known, tt))

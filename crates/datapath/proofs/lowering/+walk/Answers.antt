@@ -1,4 +1,4 @@
-use Rattle.std.proofs.Common.{ap, refl, rules, FitsSigned}
+use Rattle.std.proofs.Common.{ap, refl, rules, FitsSigned, ◌∙◌}
 use Rattle.std.proofs.lemmas.Int.{to_z-of_z}
 use mir.Syntax.{w128}
 use Rattle.pointwise_ir.specs.Trees.{tree_of}
@@ -7,6 +7,7 @@ use Rattle.datapath.proofs.Carried.{operand_later}
 use Rattle.datapath.proofs.Gates.{leaves_later}
 use Rattle.datapath.proofs.Parted.{constant_typed, read_place, shifted_place, unary_takes, convert_type, scale_takes, binary_takes, condition_type, select_type}
 use Rattle.datapath.proofs.Formed.{shifted_tree, unary_tree, convert_tree, scale_tree, binary_tree, select_tree}
+use Rattle.datapath.proofs.Leafless.{no_read, shifted_leafless, unary_leafless, convert_leafless, scale_leafless, binary_leafless, select_leafless}
 use Rattle.datapath.proofs.Walked.{literal_walked, read_walked, shifted_walked, unary_walked, convert_walked, scale_walked, binary_walked, select_walked}
 use Rattle.datapath.proofs.lowering.«+walk».Goals as goal
 
@@ -169,3 +170,51 @@ begins-requires-in-Select-clause-leaves t c = leaves_later _ _ _ _ c.walk-in-Sel
 
 pub begins-requires-in-Select-2-clause-leaves : goal.begins-requires-in-Select-2-clause-leaves
 begins-requires-in-Select-2-clause-leaves t c = leaves_later _ _ _ _ (then_grows c.walk-in-Select.ensures.grows c.walk-in-Select-2.ensures.grows) c.requires.leaves
+
+pub returns-in-Constant-clause-folds : goal.returns-in-Constant-clause-folds
+returns-in-Constant-clause-folds t c h = (c.literal.ensures.known, refl)
+
+pub returns-in-Read-clause-folds : goal.returns-in-Read-clause-folds
+returns-in-Read-clause-folds t c h = absurd (no_read _ _ _ _ _ (ap tree_of c.in-Read.is) h)
+
+pub returns-in_ok-operand-in-Unary-clause-folds : goal.returns-in_ok-operand-in-Unary-clause-folds
+returns-in_ok-operand-in-Unary-clause-folds t c h =
+    let x = c.in_ok-x-in-Unary.ensures.folds (unary_leafless _ _ _ (unary_tree _ _ _ _ _ c.in-Unary.is c.deref-in-Unary.ensures) h) in
+    let all = c.in_ok-operand-in-Unary.ensures.folds (x.0, tt) in
+    (all.0, all.1 ∙ x.1)
+
+pub returns-in_ok-operand-in-Convert-clause-folds : goal.returns-in_ok-operand-in-Convert-clause-folds
+returns-in_ok-operand-in-Convert-clause-folds t c h =
+    let x = c.in_ok-x-in-Convert.ensures.folds (convert_leafless _ _ _ _ (convert_tree _ _ _ _ _ _ c.in-Convert.is c.deref-in-Convert.ensures) h) in
+    let all = c.in_ok-operand-in-Convert.ensures.folds (x.0, tt) in
+    (all.0, all.1 ∙ x.1)
+
+pub returns-in_ok-operand-in-Scale-clause-folds : goal.returns-in_ok-operand-in-Scale-clause-folds
+returns-in_ok-operand-in-Scale-clause-folds t c h =
+    let x = c.in_ok-x-in-Scale.ensures.folds (scale_leafless _ _ _ _ (scale_tree _ _ _ _ _ _ c.in-Scale.is c.deref-in-Scale.ensures) h) in
+    let all = c.in_ok-operand-in-Scale.ensures.folds (x.0, tt) in
+    (all.0, all.1 ∙ x.1)
+
+pub returns-in_ok-operand-in-Shifted-clause-folds : goal.returns-in_ok-operand-in-Shifted-clause-folds
+returns-in_ok-operand-in-Shifted-clause-folds t c h =
+    let parts = shifted_leafless _ _ _ _ _ (shifted_tree _ _ _ _ _ _ _ c.in-Shifted.is c.deref.ensures) h in
+    let x = c.in_ok-x-in-Shifted.ensures.folds parts.1 in
+    let all = c.in_ok-operand-in-Shifted.ensures.folds parts.0 (x.0, tt) in
+    (all.0, all.1 ∙ x.1)
+
+pub returns-in_ok-operand-in-Binary-clause-folds : goal.returns-in_ok-operand-in-Binary-clause-folds
+returns-in_ok-operand-in-Binary-clause-folds t c h =
+    let parts = binary_leafless _ _ _ _ (binary_tree _ _ _ _ _ _ _ _ c.in-Binary.is c.deref-in-Binary.ensures c.deref-right.ensures) h in
+    let x = c.in_ok-x-in-Binary.ensures.folds parts.0 in
+    let y = c.in_ok-y-in-Binary.ensures.folds parts.1 in
+    let all = c.in_ok-operand-in-Binary.ensures.folds (x.0, (y.0, tt)) in
+    (all.0, all.1 ∙ y.1 ∙ x.1)
+
+pub returns-in_ok-operand-in-Select-clause-folds : goal.returns-in_ok-operand-in-Select-clause-folds
+returns-in_ok-operand-in-Select-clause-folds t c h =
+    let parts = select_leafless _ _ _ _ (select_tree _ _ _ _ _ _ _ _ _ _ c.in-Select.is c.deref-in-Select.ensures c.deref-first.ensures c.deref-second.ensures) h in
+    let bit = c.in_ok-c-in-Select.ensures.folds parts.0 in
+    let x = c.in_ok-x-in-Select.ensures.folds parts.1 in
+    let y = c.in_ok-y-in-Select.ensures.folds parts.2 in
+    let all = c.in_ok-operand-in-Select.ensures.folds (bit.0, (x.0, (y.0, tt))) in
+    (all.0, all.1 ∙ y.1 ∙ x.1 ∙ bit.1)

@@ -1,3 +1,5 @@
+use Rattle.std.proofs.Common.{◌+◌, ◌≤◌, length, subst}
+use Rattle.wiring.specs.Netlist.{Netlist}
 use Rattle.datapath.proofs.Named.{named_carries}
 use Rattle.datapath.proofs.Gates.{leaves_have}
 use Rattle.datapath.proofs.Growth.{then_grows}
@@ -26,3 +28,9 @@ pub returns-clause-made : goal.returns-clause-made
 returns-clause-made c =
     let walked = walked_over _ _ _ _ _ _ _ c.as_slice-reads.ensures.value c.as_slice-bits.ensures.value c.in_ok-x.ensures.walked in
     leaves_one c.net_of.ensures.grows.includes c.in_ok-net.ensures.made walked.made
+
+pub returns-clause-constant : goal.returns-clause-constant
+returns-clause-constant c h =
+    let walked = c.in_ok-x.ensures.folds h in
+    let more : length c.net_of.new.b.assigns ≤ length c.walk.new.b.assigns + 1 = c.net_of.ensures.one in
+    subst (λ (b : Netlist). length c.net_of.new.b.assigns ≤ length b.assigns + 1) walked.1 more

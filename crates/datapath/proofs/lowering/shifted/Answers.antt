@@ -1,3 +1,5 @@
+use Rattle.std.proofs.Common.{refl}
+use Rattle.datapath.proofs.Leafless.{unclamped}
 use Rattle.datapath.proofs.Growth.{grows_itself}
 use Rattle.datapath.proofs.Walked.{gate_carries, clamped_carries}
 use Rattle.datapath.proofs.Parted.{leaves_gate}
@@ -20,3 +22,9 @@ returns-in-Clamp-clause-made c reads h = h
 
 pub gated-requires-clause-bit : goal.gated-requires-clause-bit
 gated-requires-clause-bit c = c.requires.one_bit c.args.k _ c.bit_at.ensures
+
+pub returns-in_ok-gate-in-Zero-clause-folds : goal.returns-in_ok-gate-in-Zero-clause-folds
+returns-in_ok-gate-in-Zero-clause-folds c none = absurd (unclamped c.in-Zero.is none)
+
+pub returns-in-Clamp-clause-folds : goal.returns-in-Clamp-clause-folds
+returns-in-Clamp-clause-folds c none h = (h.0, refl)

@@ -1,6 +1,6 @@
 use Rattle.datapath.proofs.Growth.{then_grows, width_later, grows_itself, has_width_of}
 use Rattle.dk_base.proofs.Codes.{span}
-use Rattle.std.proofs.Common.{◌≡◌, ◌≤◌, ◌+◌, ap, ◌∙◌, arith, ◌^◌, ℕ, sym}
+use Rattle.std.proofs.Common.{◌≡◌, ◌≤◌, ◌+◌, ap, ◌∙◌, arith, ◌^◌, ℕ, sym, refl}
 use Rattle.datapath.specs.Nets.{bits_of}
 use Rattle.dk_base.specs.Types.{below, above}
 use Rattle.datapath.proofs.Limits.{not_lowered, is_lowered}
@@ -50,3 +50,13 @@ returns-then-most-greatest-clause-made c = second_over
 
 pub returns-clause-made : goal.returns-clause-made
 returns-clause-made c = then_three c.in_ok-atom.ensures.made (over_later c.choose.ensures.grows.includes (then_two c.in_ok-high.ensures.made (nothing_over (c.constant-limit.ensures.made _)) (over_later c.less.ensures.grows.includes (then_one c.in_ok-up.ensures.made first_over)))) (nothing_over (c.constant.ensures.made _)) second_over
+
+pub returns-then-most-greatest-clause-folds : goal.returns-then-most-greatest-clause-folds
+returns-then-most-greatest-clause-folds c h = (h.1.0, refl)
+
+pub returns-clause-folds : goal.returns-clause-folds
+returns-clause-folds c h =
+    let up = c.in_ok-up.ensures.folds (h.0, tt) in
+    let high = c.in_ok-high.ensures.folds (c.constant-limit.ensures.known, (up.0, tt)) in
+    let all = c.in_ok-atom.ensures.folds (high.0, (c.constant.ensures.known, (h.1.0, tt))) in
+    (all.0, all.1 ∙ high.1 ∙ up.1)

@@ -1,5 +1,5 @@
 use Rattle.datapath.proofs.Growth.{then_grows, width_later, grows_itself, has_width_of}
-use Rattle.std.proofs.Common.{◌≡◌, ◌<◌, ◌≤◌, ◌-◌, ap, ◌∙◌, arith}
+use Rattle.std.proofs.Common.{◌≡◌, ◌<◌, ◌≤◌, ◌-◌, ap, ◌∙◌, arith, refl}
 use Rattle.datapath.specs.Nets.{bits_of}
 use Rattle.dk_base.specs.Types.{below}
 use Rattle.datapath.proofs.Limits.{not_raised, is_raised}
@@ -38,3 +38,13 @@ returns-then-deep-least-clause-made c = second_over
 
 pub returns-clause-made : goal.returns-clause-made
 returns-clause-made c = then_three c.in_ok-atom.ensures.made (over_later c.choose.ensures.grows.includes (then_two c.in_ok-low.ensures.made (over_later c.less.ensures.grows.includes (then_one c.in_ok-up.ensures.made first_over)) (nothing_over (c.constant-limit.ensures.made _)))) (nothing_over (c.constant.ensures.made _)) second_over
+
+pub returns-then-deep-least-clause-folds : goal.returns-then-deep-least-clause-folds
+returns-then-deep-least-clause-folds c h = (h.1.0, refl)
+
+pub returns-clause-folds : goal.returns-clause-folds
+returns-clause-folds c h =
+    let up = c.in_ok-up.ensures.folds (h.0, tt) in
+    let low = c.in_ok-low.ensures.folds (up.0, (c.constant-limit.ensures.known, tt)) in
+    let all = c.in_ok-atom.ensures.folds (low.0, (c.constant.ensures.known, (h.1.0, tt))) in
+    (all.0, all.1 ∙ low.1 ∙ up.1)

@@ -1,3 +1,4 @@
+use Rattle.std.proofs.Common.{◌∙◌}
 use Rattle.datapath.proofs.Growth.{then_grows}
 use Rattle.datapath.proofs.Limits.{saturated_carries}
 use Rattle.datapath.proofs.Over.{then_two, itself_over, over_later}
@@ -17,3 +18,10 @@ returns-clause-grows c = then_grows (then_grows c.resized.ensures.grows c.raised
 
 pub returns-clause-made : goal.returns-clause-made
 returns-clause-made c = then_two c.in_ok-atom.ensures.made itself_over (over_later c.lowered.ensures.grows.includes (then_two c.in_ok-low.ensures.made itself_over (over_later c.raised.ensures.grows.includes c.in_ok-bits.ensures.made)))
+
+pub returns-clause-folds : goal.returns-clause-folds
+returns-clause-folds c h =
+    let bits = c.in_ok-bits.ensures.folds h in
+    let low = c.in_ok-low.ensures.folds (h.0, (bits.0, tt)) in
+    let all = c.in_ok-atom.ensures.folds (h.0, (low.0, tt)) in
+    (all.0, all.1 ∙ low.1 ∙ bits.1)

@@ -1,4 +1,4 @@
-use Rattle.std.proofs.Common.{ap}
+use Rattle.std.proofs.Common.{ap, refl}
 use Rattle.datapath.specs.Nets.{bits_of}
 use Rattle.datapath.proofs.Shifted.{shift_carries, unshifted_carries}
 use Rattle.datapath.proofs.Growth.{grows_itself}
@@ -19,3 +19,9 @@ returns-then-by-eq0-clause-made c = itself_over
 
 pub returns-clause-made : goal.returns-clause-made
 returns-clause-made c = then_two c.in_ok-atom.ensures.made itself_over (nothing_over (c.constant.ensures.made _))
+
+pub returns-then-by-eq0-clause-folds : goal.returns-then-by-eq0-clause-folds
+returns-then-by-eq0-clause-folds c h = (h.0, refl)
+
+pub returns-clause-folds : goal.returns-clause-folds
+returns-clause-folds c h = c.in_ok-atom.ensures.folds (h.0, (c.constant.ensures.known, tt))

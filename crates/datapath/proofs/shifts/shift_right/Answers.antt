@@ -1,4 +1,4 @@
-use Rattle.std.proofs.Common.{ap, rules, ◌≡◌, min, ◌-◌}
+use Rattle.std.proofs.Common.{ap, rules, ◌≡◌, min, ◌-◌, refl}
 use Rattle.datapath.specs.Nets.{bits_of}
 use Rattle.datapath.specs.Nets.{HasWidth}
 use Rattle.datapath.proofs.Shifted.{out_carries, sign_carries}
@@ -21,3 +21,6 @@ returns-then-by-width-clause-grows c = grows_itself _
 
 pub returns-then-by-width-clause-made : goal.returns-then-by-width-clause-made
 returns-then-by-width-clause-made c = nothing_over (c.constant.ensures.made _)
+
+pub returns-then-by-width-clause-folds : goal.returns-then-by-width-clause-folds
+returns-then-by-width-clause-folds c h = (c.constant.ensures.known, refl)

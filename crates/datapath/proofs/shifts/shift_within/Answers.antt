@@ -1,3 +1,4 @@
+use Rattle.std.proofs.Common.{◌∙◌}
 use Rattle.datapath.proofs.Shifted.{within_carries}
 use Rattle.datapath.proofs.Growth.{then_grows}
 use Rattle.datapath.proofs.Over.{then_one, over_later}
@@ -14,3 +15,9 @@ returns-clause-grows c = then_grows c.high_bits.ensures.grows c.resized.ensures.
 
 pub returns-clause-made : goal.returns-clause-made
 returns-clause-made c = then_one c.in_ok-atom.ensures.made (over_later c.resized.ensures.grows.includes c.in_ok-high.ensures.made)
+
+pub returns-clause-folds : goal.returns-clause-folds
+returns-clause-folds c h =
+    let high = c.in_ok-high.ensures.folds h in
+    let all = c.in_ok-atom.ensures.folds (high.0, tt) in
+    (all.0, all.1 ∙ high.1)

@@ -1,6 +1,8 @@
+use Rattle.std.proofs.Common.{refl}
 use Rattle.datapath.proofs.Parts.{whole_part, part_word}
 use Rattle.datapath.proofs.Growth.{then_grows, grows_itself}
-use Rattle.datapath.proofs.Over.{itself_over, then_one, over_later}
+use Rattle.datapath.proofs.Over.{itself_over, then_one, over_later, nothing_over}
+use Rattle.datapath.proofs.Known.{not_none}
 use Rattle.datapath.proofs.words.part.Goals as goal
 
 pub returns-then-count-width-clause-word : goal.returns-then-count-width-clause-word
@@ -23,3 +25,18 @@ returns-then-count-width-clause-made c = itself_over
 
 pub returns-clause-made : goal.returns-clause-made
 returns-clause-made c = then_one c.in_ok-atom.ensures.made (over_later c.slice.ensures.grows.includes c.in_ok-whole.ensures.made)
+
+pub returns-in-Some-clause-grows : goal.returns-in-Some-clause-grows
+returns-in-Some-clause-grows c = grows_itself _
+
+pub returns-in-Some-clause-made : goal.returns-in-Some-clause-made
+returns-in-Some-clause-made c = nothing_over c.in-Some.ensures.made
+
+pub returns-in-Some-clause-folds : goal.returns-in-Some-clause-folds
+returns-in-Some-clause-folds c h = (c.in-Some.ensures.known, refl)
+
+pub returns-clause-folds : goal.returns-clause-folds
+returns-clause-folds c h = absurd (not_none _ c.in-None.is (c.folded_part.ensures.complete h))
+
+pub returns-then-count-width-clause-folds : goal.returns-then-count-width-clause-folds
+returns-then-count-width-clause-folds c h = (h.0, refl)

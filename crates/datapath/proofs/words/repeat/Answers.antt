@@ -1,6 +1,8 @@
+use Rattle.std.proofs.Common.{refl}
 use Rattle.datapath.proofs.Made.{repeat_operation, repeat_made}
-use Rattle.datapath.proofs.Growth.{signal_of}
-use Rattle.datapath.proofs.Over.{repeat_over}
+use Rattle.datapath.proofs.Growth.{signal_of, grows_itself}
+use Rattle.datapath.proofs.Over.{repeat_over, nothing_over}
+use Rattle.datapath.proofs.Known.{not_none}
 use Rattle.datapath.proofs.words.repeat.Goals as goal
 
 pub atom-operand-requires : goal.atom-operand-requires
@@ -14,3 +16,15 @@ returns-clause-word c = repeat_made _ _ _ c.args.x _ _ c.atom-operand.ensures c.
 
 pub returns-clause-made : goal.returns-clause-made
 returns-clause-made c = repeat_over _ _ _ c.args.x _ _ c.atom-operand.ensures c.in_ok-net.ensures.net
+
+pub returns-in-Some-clause-grows : goal.returns-in-Some-clause-grows
+returns-in-Some-clause-grows c = grows_itself _
+
+pub returns-in-Some-clause-made : goal.returns-in-Some-clause-made
+returns-in-Some-clause-made c = nothing_over c.in-Some.ensures.made
+
+pub returns-in-Some-clause-folds : goal.returns-in-Some-clause-folds
+returns-in-Some-clause-folds c h = (c.in-Some.ensures.known, refl)
+
+pub returns-clause-folds : goal.returns-clause-folds
+returns-clause-folds c h = absurd (not_none _ c.in-None.is (c.folded_repeat.ensures.complete h))

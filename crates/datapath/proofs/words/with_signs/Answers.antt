@@ -1,3 +1,4 @@
+use Rattle.std.proofs.Common.{◌∙◌}
 use Rattle.datapath.proofs.Parts.{signs_of}
 use Rattle.datapath.proofs.Growth.{then_grows, width_later}
 use Rattle.datapath.proofs.Over.{itself_over, then_one, then_two, over_later}
@@ -20,3 +21,10 @@ returns-clause-grows c = then_grows (then_grows c.part.ensures.grows c.repeat.en
 
 pub returns-clause-made : goal.returns-clause-made
 returns-clause-made c = then_two c.in_ok-atom.ensures.made (over_later c.join.ensures.grows.includes (then_one c.in_ok-signs.ensures.made (over_later c.repeat.ensures.grows.includes c.in_ok-sign.ensures.made))) itself_over
+
+pub returns-clause-folds : goal.returns-clause-folds
+returns-clause-folds c h =
+    let sign = c.in_ok-sign.ensures.folds h in
+    let signs = c.in_ok-signs.ensures.folds (sign.0, tt) in
+    let all = c.in_ok-atom.ensures.folds (signs.0, (h.0, tt)) in
+    (all.0, all.1 ∙ signs.1 ∙ sign.1)
