@@ -1,6 +1,6 @@
 -- One image more.
-use Rattle.std.proofs.Common.{◌≡◌, ℕ, zero, suc, ◌<◌, ◌≤◌, Bool, List, [], ◌∷◌, ◌++◌, length, map, take, get_or, Some, refl, sym, ap, subst, ◌∙◌, inr, arith}
-use Rattle.std.specs.Prelude.{ℤ, pos, ◌≤ℤ◌, Contains, slice_get, slice_index_or}
+use Rattle.std.proofs.Common.{◌≡◌, ℕ, zero, suc, ◌<◌, Bool, List, [], ◌∷◌, ◌++◌, length, map, take, get_or, Some, refl, sym, ap, subst, ◌∙◌, inr, arith}
+use Rattle.std.specs.Prelude.{pos, ◌≤ℤ◌, Contains, slice_get, slice_index_or}
 use Rattle.std.specs.List.{All}
 use Rattle.std.proofs.lemmas.List.{length-map}
 use Rattle.std.proofs.lemmas.Option.{slice_get_within, slice_get-get_or, get_or_from_slice_get}
@@ -17,20 +17,20 @@ use Rattle.raster_delay.specs.Systems.{placed_reads}
 use Rattle.raster_delay.proofs.Places.{place_less}
 use Rattle.wiring.specs.declared.netlist.Net.{Net}
 use Rattle.wiring.specs.declared.netlist.Net.TheVariants.{Input}
-use Rattle.wiring.specs.Netlist.{Netlist, net_width}
+use Rattle.wiring.specs.Netlist.{Netlist}
 use Rattle.net_build.specs.Includes.{Includes}
-use Rattle.net_build.specs.Draft.{IsNet, IsDraft, AllUpdated}
+use Rattle.net_build.specs.Draft.{IsDraft, AllUpdated}
 use Rattle.net_build.specs.Runs.{StillBut, NeverStops}
 use Rattle.net_build.specs.Control.{IsControlled}
 use Rattle.net_build.proofs.Parts.{Includes-refl}
 use Rattle.net_build.specs.Counters.{AddsControl}
 use Rattle.wiring.specs.Rules.{IsPortWidth}
 use Rattle.pointwise_ir.specs.Programs.{Program, IsProgram, IsOutput, types_of}
-use Rattle.pointwise_ir.specs.Stencils.{AreStencilsOf, IsKeptImage}
-use Rattle.buffer_plan.specs.Plans.{Parts, IsPlan, place_in, ages_of, read_age, width_of}
+use Rattle.pointwise_ir.specs.Stencils.{AreStencilsOf}
+use Rattle.buffer_plan.specs.Plans.{Parts, IsPlan, place_in, read_age}
 use Rattle.buffer_plan.proofs.Aged.{placed_in}
 use Rattle.circuit.specs.Rounds.{type_at}
-use Rattle.circuit.specs.Taps.{Keeps, taps_at, HasTaps, IsReading}
+use Rattle.circuit.specs.Taps.{Keeps, IsReading}
 use Rattle.circuit.specs.Reads.{reads_in}
 use Rattle.circuit.specs.Forms.{Shapes, Places, Property, IsBuffered, shapes_of, shapes_before}
 use Rattle.circuit.specs.Images.{IsImageNet, IsLine, AreBuilt, ports_of}

@@ -1,11 +1,10 @@
 -- From the nets of a body's leaves to the net of the image.
-use Rattle.std.proofs.Common.{◌≡◌, ◌⊎◌, ℕ, zero, suc, ◌+◌, ◌-◌, ◌^◌, ◌<◌, ◌≤◌, ◌==◌, nat_lt, Bool, true, false, List, [], ◌∷◌, ◌++◌, length, map, take, Option, Some, None, refl, sym, ap, subst, ◌∙◌, inl, inr, arith, cond}
+use Rattle.std.proofs.Common.{◌≡◌, ℕ, zero, suc, ◌+◌, ◌-◌, ◌^◌, ◌<◌, ◌==◌, nat_lt, Bool, true, false, List, [], ◌∷◌, length, Some, refl, sym, ap, subst, ◌∙◌, inl, inr, arith, cond}
 use Rattle.std.specs.Prelude.{ℤ, pos, ◌-ℤ◌, IsTrue, Contains, filter, slice_get, slice_index_or, if◌then◌else◌}
-use Rattle.std.specs.List.{All}
 use Rattle.std.proofs.Math.Pow.{pow_pos}
 use Rattle.std.proofs.lemmas.Bool.Decides.{nat_tests}
 use Rattle.std.proofs.lemmas.Nat.{div_below}
-use Rattle.std.proofs.lemmas.Option.{same_Some, slice_get_within}
+use Rattle.std.proofs.lemmas.Option.{slice_get_within}
 use Rattle.dk_base.specs.declared.ty.Ty.{Ty}
 use Rattle.dk_base.specs.declared.ty.Ty.TheVariants.{Unsigned, Signed}
 use Rattle.dk_base.specs.declared.stencils.Image.{Image}
@@ -13,7 +12,7 @@ use Rattle.dk_base.specs.declared.stencils.LiveRead.{LiveRead}
 use Rattle.dk_base.specs.Types.{IsType, IsIn, above, width_of as bits_of_type}
 use Rattle.dk_base.specs.Numbers.{number}
 use Rattle.dk_base.specs.Frames.{Size, Picture, area, column, row, frame_of, in_frame, framed, picture_at}
-use Rattle.dk_base.specs.Stencils.{place, IsKept, IsRead}
+use Rattle.dk_base.specs.Stencils.{place, IsRead}
 use Rattle.dk_base.proofs.Orders.{at_place}
 use Rattle.wiring.specs.declared.netlist.Net.{Net}
 use Rattle.wiring.specs.Netlist.{Netlist}
@@ -32,7 +31,7 @@ use Rattle.edge_select.specs.Pixels.{IsBitOf}
 use Rattle.edge_select.proofs.Walks.{pixel_inside}
 use Rattle.edge_select.proofs.Raster.{some_area}
 use Rattle.datapath.specs.Expressions.{IsLowered, type_of, types_in, type_or, worth_in, worth_or, set_in}
-use Rattle.buffer_plan.specs.Plans.{Parts, IsPlan, delay_of, reads_by}
+use Rattle.buffer_plan.specs.Plans.{Parts, IsPlan, delay_of}
 use Rattle.circuit.specs.Runs.{IsRunning}
 use Rattle.circuit.specs.Rounds.{Rounds, AreRounds, type_at, pixel_count, pictures_in, pixel_bits}
 use Rattle.circuit.specs.Leaves.{LeafRead, reads_of, bits_of, ReadIsRight, BitIsRight}
@@ -40,9 +39,8 @@ use Rattle.circuit.specs.Taps.{Keeps, size_in, TapsAreRight}
 use Rattle.circuit.specs.Reads.{reads_in, IsChosen, AreLeafNets}
 use Rattle.circuit.specs.Images.{IsBodyNet}
 use Rattle.circuit.proofs.Placing.{columns_below, rows_below}
-use Rattle.circuit.proofs.Reading.{leaf_reads, read_right}
+use Rattle.circuit.proofs.Reading.{read_right}
 use Rattle.circuit.proofs.Bodies.{bit_right, pixel_right}
-use Rattle.circuit.proofs.Typing.{entry_or}
 
 -- 0 is 0 in each type
 pub zero_number : (t : Ty) → number t 0 ≡ pos 0
@@ -67,6 +65,7 @@ passed_in {X} test (y ∷ xs) x has = by (test y) refl has (λ h. passed_in test
   where
     later : Contains xs x × (test x ≡ true) → Contains (y ∷ xs) x × (test x ≡ true)
     later ((k, lt, e), t) = ((suc k, (let h : suc k < length (y ∷ xs) = omega (arith, lt) in h), e), t)
+
     by : (b : Bool) → test y ≡ b → Contains (cond b (y ∷ filter test xs) (filter test xs)) x → (Contains (filter test xs) x → Contains xs x × (test x ≡ true)) → Contains (y ∷ xs) x × (test x ≡ true)
     by true t (zero, lt, e) rest = ((0, omega arith, e), ap test (sym e) ∙ t)
     by true t (suc k, lt, e) rest = later (rest (k, (let h : k < length (filter test xs) = omega (arith, lt) in h), e))

@@ -1,31 +1,29 @@
 -- The net of a body is the image's pixel.
-use Rattle.std.proofs.Common.{◌≡◌, ℕ, zero, suc, ◌+◌, ◌<◌, ◌≤◌, Bool, true, List, [], ◌∷◌, length, Option, Some, None, refl, sym, ap, subst, ◌∙◌, inl, inr, arith}
-use Rattle.std.specs.Prelude.{ℤ, pos, ◌^◌, ◌==◌, nat_eq, IsTrue, slice_get, if◌then◌else◌}
+use Rattle.std.proofs.Common.{◌≡◌, ℕ, ◌+◌, ◌<◌, true, List, [], Option, Some, refl, sym, ap, subst, ◌∙◌, inl, inr, arith}
+use Rattle.std.specs.Prelude.{pos, ◌^◌, nat_eq, IsTrue, slice_get}
 use Rattle.dk_base.specs.declared.ty.Ty.{Ty}
 use Rattle.dk_base.specs.Types.{width_of}
 use Rattle.dk_base.specs.Numbers.{number, code}
-use Rattle.dk_base.specs.Frames.{Size, Picture, column, row, frame_of, in_frame, picture_at}
+use Rattle.dk_base.specs.Frames.{Size, Picture, column, row, frame_of, picture_at}
 use Rattle.dk_base.proofs.Codes.{code_number}
 use Rattle.wiring.specs.declared.netlist.Net.{Net}
 use Rattle.wiring.specs.Netlist.{Netlist}
 use Rattle.wiring.specs.Snapshot.{Contents, Snapshot, net_value}
 use Rattle.wiring.specs.Clock.{Clock}
-use Rattle.wiring.specs.History.{counted}
 use Rattle.net_build.proofs.Runs.{clock_contents, clock_inputs}
 use Rattle.pointwise_ir.specs.Programs.{Program}
 use Rattle.pointwise_ir.specs.Meaning.{value}
 use Rattle.pointwise_ir.specs.Trees.{Tree}
 use Rattle.datapath.specs.Nets.{IsValuation}
-use Rattle.datapath.specs.Expressions.{IsLowered, type_of, types_in, worth_in, worth_or, set_in, is_set}
+use Rattle.datapath.specs.Expressions.{IsLowered, type_of, types_in, worth_in, set_in, is_set}
 use Rattle.datapath.specs.Meant.{AreRight}
 use Rattle.datapath.proofs.Meant.{value_of_leaves}
 use Rattle.edge_select.specs.declared.step.Step.{Step}
 use Rattle.edge_select.specs.Steps.{LeadOn}
 use Rattle.edge_select.specs.Pixels.{IsBitOf}
-use Rattle.buffer_plan.specs.Plans.{Parts, delay_of}
-use Rattle.line_buffer.specs.Streams.{IsPixel}
+use Rattle.buffer_plan.specs.Plans.{Parts}
 use Rattle.circuit.specs.Runs.{IsRunning}
-use Rattle.circuit.specs.Rounds.{Rounds, type_at, pixel_count, pictures_in, pixel, pixel_bits}
+use Rattle.circuit.specs.Rounds.{Rounds, type_at, pictures_in, pixel, pixel_bits}
 use Rattle.circuit.specs.Leaves.{LeafRead, reads_of, bits_of, ReadIsRight, BitIsRight}
 use Rattle.circuit.proofs.Paths.{leaves_are}
 

@@ -1,6 +1,6 @@
 -- One image more is built.
-use Rattle.std.proofs.Common.{◌≡◌, ◌⊎◌, ℕ, zero, suc, ◌+◌, ◌-◌, ◌*◌, ◌<◌, ◌≤◌, ◌==◌, ◌&&◌, nat_le, nat_lt, Bool, true, false, List, [], ◌∷◌, ◌++◌, length, Option, Some, None, refl, sym, ap, subst, ◌∙◌, inl, inr, arith, take, append_assoc, append-nil}
-use Rattle.std.specs.Prelude.{ℤ, pos, ◌≤ℤ◌, IsTrue, IfSome, ◌||◌, Contains, slice_get, slice_index_or}
+use Rattle.std.proofs.Common.{◌≡◌, ℕ, zero, suc, ◌+◌, ◌-◌, ◌<◌, ◌≤◌, nat_le, Bool, true, false, List, [], ◌∷◌, ◌++◌, length, Some, refl, sym, ap, subst, ◌∙◌, inl, inr, arith, take, append_assoc, append-nil}
+use Rattle.std.specs.Prelude.{pos, ◌≤ℤ◌, IsTrue, ◌||◌, Contains, slice_get, slice_index_or}
 use Rattle.std.specs.List.{list_any}
 use Rattle.std.proofs.lemmas.Bool.{cases_lt}
 use Rattle.std.proofs.lemmas.Int.{ints}
@@ -16,13 +16,10 @@ use Rattle.wiring.specs.declared.netlist.Net.TheVariants.{Input}
 use Rattle.wiring.specs.declared.netlist.Shape.{Shape}
 use Rattle.wiring.specs.declared.netlist.Holder.{Holder}
 use Rattle.wiring.specs.declared.netlist.Holder.TheVariants.{OfNet, OfArray}
-use Rattle.wiring.specs.Netlist.{Netlist, net_width, din_net, IsState}
-use Rattle.wiring.specs.Snapshot.{Contents, Snapshot}
-use Rattle.wiring.specs.Clock.{Clock}
-use Rattle.wiring.specs.History.{counted}
+use Rattle.wiring.specs.Netlist.{Netlist, din_net}
 use Rattle.net_build.specs.Includes.{Includes}
-use Rattle.net_build.specs.Draft.{IsNet, IsDraft, UpdatesDiffer, HasUpdate, UpdatedBut}
-use Rattle.net_build.specs.Control.{IsMadeOf, AddsReads, is_control}
+use Rattle.net_build.specs.Draft.{IsDraft, UpdatesDiffer, UpdatedBut}
+use Rattle.net_build.specs.Control.{IsMadeOf, AddsReads}
 use Rattle.net_build.specs.Counters.{AddsControl}
 use Rattle.net_build.specs.Indices.{read_indices, put_indices}
 use Rattle.net_build.proofs.Parts.{Includes-trans}
@@ -32,15 +29,13 @@ use Rattle.net_build.proofs.Reading.{reads_joined, none_reads}
 use Rattle.net_build.proofs.Indexed.{reads_last, puts_last}
 use Rattle.net_build.proofs.Updating.{all_updated}
 use Rattle.pointwise_ir.specs.Programs.{Program}
-use Rattle.buffer_plan.specs.Plans.{Parts, IsPlan, place_in, ages_of, read_age, width_of, delay_of}
+use Rattle.buffer_plan.specs.Plans.{Parts, IsPlan, place_in, ages_of, read_age}
 use Rattle.line_buffer.specs.Buffers.{is_buffer, is_new, IsBuffer, AreMadeOfBuffer}
-use Rattle.line_buffer.proofs.Adding.{le_is, is_le}
+use Rattle.line_buffer.proofs.Adding.{is_le}
 use Rattle.line_buffer.proofs.Lasting.{buffer_more, buffer_made_more}
-use Rattle.circuit.specs.Runs.{IsRunning}
-use Rattle.circuit.specs.Rounds.{Rounds, AreRounds}
-use Rattle.circuit.specs.Taps.{Keeps, taps_at, TapsAreRight, IsTapOf, HasTaps, HasControl}
+use Rattle.circuit.specs.Taps.{Keeps, taps_at, IsTapOf, HasControl}
 use Rattle.circuit.specs.Reads.{reads_in}
-use Rattle.circuit.specs.Forms.{Shapes, Places, Property, IsBuffered, shapes_of, shapes_before, first_array, end_array}
+use Rattle.circuit.specs.Forms.{Shapes, Places, Property, IsBuffered, shapes_of, first_array, end_array}
 use Rattle.circuit.specs.Images.{IsBodyNet, IsImageNet, IsLine, AreBuilt, is_array_of, source_of, ports_of}
 use Rattle.circuit.proofs.Lasting.{running_more}
 
@@ -233,7 +228,7 @@ module _ (b2 b1 b0 : Netlist) (p : Program) (plan : Parts) (shapes : Shapes) (pl
     buffer = subst (λ (ts : List Net). IsBuffer b2 (places plan g) (ages_of plan g) ts net) (sym own_taps) buffered.buffer;
     bits = buffered.bits;
     made = subst (λ (ts : List Net). AreMadeOfBuffer b2 (first_array shapes plan g) (end_array shapes plan g) (ages_of plan g) ts) (sym own_taps)
-      (subst (λ (n : ℕ). AreMadeOfBuffer b2 n (n + length (shapes plan g)) (ages_of plan g) own) first_is buffered.made);
+        (subst (λ (n : ℕ). AreMadeOfBuffer b2 n (n + length (shapes plan g)) (ages_of plan g) own) first_is buffered.made);
     each = each_is;
   }
 

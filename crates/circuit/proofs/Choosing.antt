@@ -1,5 +1,5 @@
 -- One read more among which a net is chosen.
-use Rattle.std.proofs.Common.{◌≡◌, ◌⊎◌, ℕ, zero, suc, ◌<◌, ◌==◌, Bool, true, List, [], ◌∷◌, ◌++◌, length, Option, Some, None, refl, sym, ap, subst, ◌∙◌, inl, inr, arith}
+use Rattle.std.proofs.Common.{◌≡◌, ◌⊎◌, ℕ, zero, suc, ◌<◌, ◌==◌, Bool, List, [], ◌∷◌, ◌++◌, length, Option, Some, None, refl, sym, ap, subst, ◌∙◌, inl, inr, arith}
 use Rattle.std.specs.Prelude.{IfSome, Contains, if◌then◌else◌}
 use Rattle.dk_base.specs.declared.stencils.LiveRead.{LiveRead}
 use Rattle.dk_base.specs.Frames.{Size, column, row}
@@ -22,12 +22,11 @@ use Rattle.net_build.proofs.Logic.{Source, given_source, number_source, choose_c
 use Rattle.net_build.proofs.Operands.{net_operand, constant_operand}
 use Rattle.net_build.proofs.Control.{made_more}
 use Rattle.edge_select.specs.Steps.{LeadBy}
-use Rattle.edge_select.specs.Pixels.{IsBitOf, AllPass, NonePass}
+use Rattle.edge_select.specs.Pixels.{IsBitOf, AllPass}
 use Rattle.buffer_plan.specs.Plans.{Parts, delay_of}
-use Rattle.circuit.specs.Runs.{AtEachPixel}
 use Rattle.circuit.specs.Leaves.{LeafRead}
 use Rattle.circuit.specs.Taps.{size_in, IsTapOf, HasControl}
-use Rattle.circuit.specs.Reads.{IsLedTo, IsLedNowhere, IsChosen, IsChoice, IsPixelTest, IsMadeOfTaps, atom_of_choice, choice_nets, chosen_by, worth_of}
+use Rattle.circuit.specs.Reads.{IsChosen, IsChoice, IsPixelTest, IsMadeOfTaps, atom_of_choice, choice_nets, chosen_by, worth_of}
 use Rattle.circuit.proofs.Lasting.{each_pixel_more, choice_more}
 
 -- which of a longer list

@@ -1,7 +1,6 @@
 -- What came in, clock after clock.
-use Rattle.std.proofs.Common.{◌≡◌, ◌⊎◌, ℕ, zero, suc, ◌+◌, ◌<◌, Bool, true, false, List, [], ◌∷◌, length, refl, sym, ap, subst, ◌∙◌, inl, inr, arith}
-use Rattle.std.specs.Prelude.{slice_index, if◌then◌else◌, map, IsTrue}
-use Rattle.wiring.specs.declared.netlist.Net.{Net}
+use Rattle.std.proofs.Common.{◌≡◌, ◌⊎◌, ℕ, suc, ◌<◌, Bool, true, false, List, [], ◌∷◌, length, sym, ap, ◌∙◌, inl, inr, arith}
+use Rattle.std.specs.Prelude.{slice_index, if◌then◌else◌, map}
 use Rattle.wiring.specs.Netlist.{Netlist, din_net}
 use Rattle.wiring.specs.Snapshot.{Contents, Snapshot, net_value}
 use Rattle.wiring.specs.Clock.{Clock}
@@ -12,8 +11,8 @@ use Rattle.pointwise_ir.specs.Programs.{Program}
 use Rattle.net_build.proofs.Clocks.{bool_cases}
 use Rattle.circuit.specs.Rounds.{Rounds, Feeds, pixel_count, pixel_bits}
 use Rattle.circuit.specs.Runs.{IsRunning}
-use Rattle.circuit.proofs.Streamed.{Line, Streams, NetIsRight, HorizonOf, AreImages}
-use Rattle.circuit.proofs.Horizons.{horizon, nets}
+use Rattle.circuit.proofs.Streamed.{Line, Streams, NetIsRight, AreImages}
+use Rattle.circuit.proofs.Horizons.{nets}
 
 counted_going : (m : Netlist) (c : Clock) (before : List Clock) → c.reset ≡ false → is_held m c ≡ false → counted m (c ∷ before) ≡ c ∷ counted m before
 counted_going m c before off going =

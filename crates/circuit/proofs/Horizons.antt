@@ -1,15 +1,13 @@
 -- Every image's net and buffer is right at every clock.
-use Rattle.std.proofs.Common.{◌≡◌, ◌⊎◌, ℕ, zero, suc, ◌+◌, ◌<◌, ◌≤◌, Bool, true, false, List, [], ◌∷◌, length, Some, refl, sym, ap, subst, ◌∙◌, inl, inr, arith}
+use Rattle.std.proofs.Common.{◌≡◌, ◌⊎◌, ℕ, zero, suc, ◌<◌, Bool, true, List, [], ◌∷◌, length, Some, sym, ap, subst, ◌∙◌, inl, inr, arith}
 use Rattle.std.specs.Prelude.{IsTrue, if◌then◌else◌, slice_get}
-use Rattle.std.proofs.lemmas.Bool.{cases_eq, cases_lt}
-use Rattle.wiring.specs.declared.netlist.Net.{Net}
+use Rattle.std.proofs.lemmas.Bool.{cases_eq}
 use Rattle.wiring.specs.Netlist.{Netlist}
-use Rattle.wiring.specs.Snapshot.{Contents, Snapshot, IsNext, net_value}
+use Rattle.wiring.specs.Snapshot.{Contents, Snapshot, net_value}
 use Rattle.wiring.specs.Clock.{Clock}
 use Rattle.wiring.specs.History.{was_reset, is_held, counted}
 use Rattle.net_build.specs.Runs.{IsClockOf}
 use Rattle.net_build.proofs.Runs.{clock_before}
-use Rattle.line_buffer.specs.Places.{word_at, depth_of}
 use Rattle.net_build.proofs.Clocks.{bool_cases, never, was_off, count_of}
 use Rattle.circuit.specs.Runs.{IsRunning}
 use Rattle.circuit.proofs.Streamed.{Line, Streams, NetIsRight, HorizonOf, TapsAreRight, AreImages}

@@ -1,5 +1,5 @@
 -- The net of an image's body, over the nets of its leaves.
-use Rattle.std.proofs.Common.{◌≡◌, ℕ, zero, suc, ◌+◌, ◌-◌, ◌<◌, ◌≤◌, Bool, List, [], ◌∷◌, ◌++◌, length, map, take, drop, Option, Some, true, false, refl, sym, ap, subst, ◌∙◌, arith, append_assoc, length-append, length-take-le}
+use Rattle.std.proofs.Common.{◌≡◌, ℕ, zero, suc, ◌+◌, ◌-◌, ◌<◌, ◌≤◌, Bool, List, [], ◌∷◌, ◌++◌, length, map, take, drop, Some, true, false, refl, sym, ap, subst, ◌∙◌, arith, append_assoc, length-append, length-take-le}
 use Rattle.std.specs.Prelude.{pos, option_map, slice_get, slice_index, slice_index_or, if◌then◌else◌}
 use Rattle.std.specs.List.{All}
 use Rattle.std.proofs.lemmas.Option.{slice_get-map, slice_get-get_or, slice_get_within, get_or_from_slice_get}
@@ -10,31 +10,28 @@ use Rattle.dk_base.specs.declared.ty.Ty.{Ty}
 use Rattle.dk_base.specs.declared.ty.Ty.TheVariants.{Unsigned}
 use Rattle.dk_base.specs.Types.{IsType, width_of as bits_of_type}
 use Rattle.wiring.specs.declared.netlist.Net.{Net}
-use Rattle.wiring.specs.declared.netlist.Holder.{Holder}
-use Rattle.wiring.specs.declared.netlist.Holder.TheVariants.{OfNet}
 use Rattle.wiring.specs.Netlist.{Netlist, net_width, din_net, first_din}
 use Rattle.net_build.specs.Includes.{Includes}
 use Rattle.net_build.specs.Draft.{IsNet}
-use Rattle.net_build.specs.Control.{IsMadeOf}
-use Rattle.net_build.proofs.Parts.{Includes-refl, Includes-trans}
+use Rattle.net_build.proofs.Parts.{Includes-refl}
 use Rattle.net_build.proofs.Drafts.{append_behind}
 use Rattle.pointwise_ir.specs.declared.ir.Input.{Input}
 use Rattle.pointwise_ir.specs.declared.ir.Definition.{Definition}
 use Rattle.pointwise_ir.specs.Trees.{Tree, tree_of, constant, read, shifted, unary, binary, select, convert, scale}
 use Rattle.pointwise_ir.specs.Typing.{HasType}
-use Rattle.pointwise_ir.specs.Programs.{Program, IsProgram, IsBody, types_of, bodies_of, all_types}
+use Rattle.pointwise_ir.specs.Programs.{Program, IsProgram, IsBody, types_of, all_types}
 use Rattle.pointwise_ir.proofs.Defined.{types_are}
 use Rattle.pointwise_ir.proofs.Pictured.{mapped_entry, picture_of_body, values_in}
 use Rattle.edge_select.specs.declared.step.Step.{Step}
 use Rattle.datapath.specs.declared.lowering.Leaves.{Leaves}
-use Rattle.datapath.specs.Expressions.{AreLeaves, AreLeavesMade, HasLeaves, IsLowered, IsMadeOfLeaves, IsTyped, types_in, type_of}
+use Rattle.datapath.specs.Expressions.{AreLeaves, HasLeaves, IsLowered, IsMadeOfLeaves, IsTyped, types_in, type_of}
 use Rattle.datapath.specs.declared.operand.Signal.TheVariants as signal
 use Rattle.datapath.proofs.Leaved.{typed_as}
-use Rattle.buffer_plan.specs.Plans.{Parts, IsPlan, width_of}
+use Rattle.buffer_plan.specs.Plans.{Parts, IsPlan}
 use Rattle.circuit.specs.Rounds.{type_at}
 use Rattle.circuit.specs.Leaves.{LeafRead, with_step, reads_of, bits_of, ReadsBefore}
-use Rattle.circuit.specs.Taps.{HasControl, IsReading, IsTapOf}
-use Rattle.circuit.specs.Reads.{reads_in, AreLeafNets, AddsLeaves}
+use Rattle.circuit.specs.Taps.{HasControl, IsReading}
+use Rattle.circuit.specs.Reads.{AreLeafNets, AddsLeaves}
 use Rattle.circuit.specs.Images.{IsImageNet, ports_of}
 use Rattle.circuit.proofs.Typing.{entry_or, plan_width, reads_typed, reads_before}
 use Rattle.circuit.proofs.Paths.{reads_long, bits_long}
@@ -109,7 +106,7 @@ module _ (mid old : Netlist) (p : Program) (plan : Parts) (taps : List (List Net
   over : IsTyped e (types_in reads) 0 × (type_of e (types_in reads) 0 ≡ type_at p f)
   over =
       let w = typed_as typed.earlier (types_in reads) (λ g t h. types_are p.inputs p.images is_program.inputs is_program.images g t (typed.known g t h)) e (type_at p f) 0 typed.typed
-        (reads_typed (types_in reads) p typed.earlier (λ g t h. entry_or (types_of p) g t (Unsigned 1) (typed.known g t h)) (λ x path. reads_long p.size [] 0 0 (λ i. pos 0) (λ i. false) x path) e (type_at p f) [] 0 typed.typed leaf_types)
+      (reads_typed (types_in reads) p typed.earlier (λ g t h. entry_or (types_of p) g t (Unsigned 1) (typed.known g t h)) (λ x path. reads_long p.size [] 0 0 (λ i. pos 0) (λ i. false) x path) e (type_at p f) [] 0 typed.typed leaf_types)
       in (w.typed, w.is)
 
   pub has_leaves : HasLeaves e reads bits

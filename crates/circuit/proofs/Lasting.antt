@@ -1,31 +1,28 @@
 -- What lasts as the netlist grows.
-use Rattle.std.proofs.Common.{◌≡◌, ℕ, ◌+◌, ◌<◌, List, length, Option, Some, None, refl, sym, ap, subst, ◌∙◌}
-use Rattle.std.specs.Prelude.{Bool, IsTrue, IfSome, Contains, slice_get}
+use Rattle.std.proofs.Common.{◌≡◌, ℕ, List, Option, Some, None, subst, ◌∙◌}
+use Rattle.std.specs.Prelude.{Bool, IfSome}
 use Rattle.dk_base.specs.declared.stencils.LiveRead.{LiveRead}
 use Rattle.dk_base.specs.declared.ty.Ty.{Ty}
 use Rattle.dk_base.specs.Types.{width_of as bits_of_type}
 use Rattle.dk_base.specs.Frames.{Size}
 use Rattle.wiring.specs.declared.netlist.Net.{Net}
-use Rattle.wiring.specs.declared.netlist.Holder.{Holder}
-use Rattle.wiring.specs.declared.netlist.Holder.TheVariants.{OfNet}
 use Rattle.wiring.specs.Netlist.{Netlist, net_width}
 use Rattle.wiring.specs.Snapshot.{Contents, Snapshot, net_value}
 use Rattle.wiring.specs.Clock.{Clock}
 use Rattle.net_build.specs.Includes.{Includes}
 use Rattle.net_build.specs.Draft.{IsNet}
-use Rattle.net_build.specs.Control.{IsMadeOf, is_control}
 use Rattle.net_build.proofs.Grown.{net_more, width_more}
 use Rattle.net_build.proofs.Control.{made_more}
 use Rattle.net_build.proofs.Runs.{clock_more}
 use Rattle.pointwise_ir.specs.Programs.{Program}
 use Rattle.edge_select.specs.declared.pixel.Pixel.{Pixel}
 use Rattle.edge_select.specs.declared.step.Step.{Step}
-use Rattle.edge_select.specs.Pixels.{HasPixel, IsBitOf}
+use Rattle.edge_select.specs.Pixels.{IsBitOf}
 use Rattle.edge_select.proofs.Lasting.{follows_more}
-use Rattle.buffer_plan.specs.Plans.{Parts, delay_of, width_of}
+use Rattle.buffer_plan.specs.Plans.{Parts, delay_of}
 use Rattle.circuit.specs.Runs.{IsRunning, AtEachPixel}
 use Rattle.circuit.specs.Leaves.{LeafRead}
-use Rattle.circuit.specs.Taps.{size_in, HasTaps, HasControl, IsTapOf, IsReading}
+use Rattle.circuit.specs.Taps.{size_in, HasTaps, HasControl, IsReading}
 use Rattle.circuit.specs.Reads.{HasPosition, IsChosen, worth_of, IsChoice, IsReadNet, IsPixelTest, IsMadeOfTaps, AreLeafNets, reads_in}
 
 if_some : {X : Type 0} (P Q : X → Type 0) (o : Option X) → ((x : X) → P x → Q x) → IfSome o P → IfSome o Q

@@ -1,5 +1,5 @@
 -- Leaves one after another.
-use Rattle.std.proofs.Common.{◌≡◌, ◌⊎◌, ℕ, zero, suc, ◌+◌, ◌<◌, List, [], ◌∷◌, ◌++◌, length, Some, refl, sym, ap, subst, ◌∙◌, inl, inr, arith, append_assoc, append-nil, length-append}
+use Rattle.std.proofs.Common.{◌≡◌, ℕ, List, [], ◌∷◌, ◌++◌, length, Some, sym, subst, inl, inr, arith, append_assoc, append-nil, length-append}
 use Rattle.std.specs.Prelude.{slice_get}
 use Rattle.std.proofs.lemmas.Option.{slice_get_within}
 use Rattle.dk_base.specs.declared.ty.Ty.{Ty}
@@ -38,7 +38,7 @@ module _ (p : Program) (plan : Parts) (taps : List (List Net)) (f : ℕ) where
   -- no leaf more
   pub leaves_none : (b : Netlist) (leaves : Leaves) → AddsLeaves b b p plan taps f [] [] leaves leaves
   leaves_none b leaves = record {
-    added = λ first ls ps inc are. subst (λ (xs : List LeafRead). AreLeafNets b first p plan taps f xs (ps ++ []) leaves.reads.items leaves.bits.items) (sym (append-nil ls)) (subst (λ (ys : List (List Step)). AreLeafNets b first p plan taps f ls ys leaves.reads.items leaves.bits.items) (sym (append-nil ps)) are)
+    added = λ first ls ps inc are. subst (λ (xs : List LeafRead). AreLeafNets b first p plan taps f xs (ps ++ []) leaves.reads.items leaves.bits.items) (sym (append-nil ls)) (subst (λ (ys : List (List Step)). AreLeafNets b first p plan taps f ls ys leaves.reads.items leaves.bits.items) (sym (append-nil ps)) are);
   }
 
   -- one read more

@@ -1,5 +1,5 @@
 -- From the nets of an expression's leaves to its leaves, at each pixel.
-use Rattle.std.proofs.Common.{◌≡◌, ◌⊎◌, ℕ, zero, suc, ◌+◌, Bool, true, false, List, [], ◌∷◌, ◌++◌, length, Some, refl, sym, ap, subst, ◌∙◌, inl, inr, arith, length-append}
+use Rattle.std.proofs.Common.{◌≡◌, ℕ, ◌+◌, Bool, true, false, List, [], ◌∷◌, ◌++◌, length, Some, refl, sym, ap, subst, ◌∙◌, inl, inr, arith, length-append}
 use Rattle.std.specs.Prelude.{ℤ, pos, ◌+ℤ◌, IsTrue, slice_get, if◌then◌else◌}
 use Rattle.dk_base.specs.Frames.{Size, in_frame, clamped, Picture, picture_at}
 use Rattle.wiring.proofs.Lists.{slice_get-append}
@@ -124,7 +124,7 @@ module _ (size : Size) (known : List Picture) (px py : ℕ) (reads : ℕ → ℤ
   leaves_are (shifted edge dx dy a) path u v n k at rs bs = (
     own_bit_is edge dx dy path u v k at (left_bits (own_bit edge (with_step path edge dx dy)) (bits_of a (with_step path edge dx dy)) k bs),
     λ i j ends. leaves_are a (with_step path edge dx dy) i j n (k + edge_bits edge) (lead_push size path edge dx dy x y u v i j at ends) rs
-    (right_bits (own_bit edge (with_step path edge dx dy)) (bits_of a (with_step path edge dx dy)) k (edge_bits edge) (own_long edge (with_step path edge dx dy)) bs),
+        (right_bits (own_bit edge (with_step path edge dx dy)) (bits_of a (with_step path edge dx dy)) k (edge_bits edge) (own_long edge (with_step path edge dx dy)) bs),
   )
   leaves_are (unary op a) path u v n k at rs bs = leaves_are a path u v n k at rs bs
   leaves_are (binary op a b) path u v n k at rs bs = (
@@ -141,8 +141,8 @@ module _ (size : Size) (known : List Picture) (px py : ℕ) (reads : ℕ → ℤ
         leaves_are c path u v n k at (left_reads (reads_of c path) (reads_of a path) n first_reads) (left_bits (bits_of c path) (bits_of a path) k first_bits),
         leaves_are a path u v (n + reads_in c) (k + bits_in c) at (right_reads (reads_of c path) (reads_of a path) n (reads_in c) (reads_long c path) first_reads) (right_bits (bits_of c path) (bits_of a path) k (bits_in c) (bits_long c path) first_bits),
         subst (λ (j : ℕ). AreRight size known b u v reads bits j (k + bits_in c + bits_in a)) (let e : n + (reads_in c + reads_in a) ≡ n + reads_in c + reads_in a = omega arith in e)
-        (subst (λ (j : ℕ). AreRight size known b u v reads bits (n + (reads_in c + reads_in a)) j) (let e : k + (bits_in c + bits_in a) ≡ k + bits_in c + bits_in a = omega arith in e)
-        (leaves_are b path u v (n + (reads_in c + reads_in a)) (k + (bits_in c + bits_in a)) at (right_reads rca (reads_of b path) n (reads_in c + reads_in a) both_reads rs) (right_bits bca (bits_of b path) k (bits_in c + bits_in a) both_bits bs))),
+            (subst (λ (j : ℕ). AreRight size known b u v reads bits (n + (reads_in c + reads_in a)) j) (let e : k + (bits_in c + bits_in a) ≡ k + bits_in c + bits_in a = omega arith in e)
+            (leaves_are b path u v (n + (reads_in c + reads_in a)) (k + (bits_in c + bits_in a)) at (right_reads rca (reads_of b path) n (reads_in c + reads_in a) both_reads rs) (right_bits bca (bits_of b path) k (bits_in c + bits_in a) both_bits bs))),
       )
   leaves_are (convert how a t) path u v n k at rs bs = leaves_are a path u v n k at rs bs
   leaves_are (scale op a m) path u v n k at rs bs = leaves_are a path u v n k at rs bs

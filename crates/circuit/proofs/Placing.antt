@@ -1,7 +1,7 @@
 -- Tests of the pixels of an image, by its registers or by constants.
-use Rattle.std.proofs.Common.{◌≡◌, ◌⊎◌, ℕ, ◌+◌, ◌<◌, ◌≤◌, Bool, true, false, List, [], ◌∷◌, length, refl, sym, ap, subst, ◌∙◌, inl, inr, arith}
-use Rattle.std.specs.Prelude.{IsTrue, Contains}
-use Rattle.dk_base.specs.Frames.{Size, IsFrame, column, row}
+use Rattle.std.proofs.Common.{◌≡◌, ℕ, ◌<◌, Bool, true, false, List, [], refl, sym, ap, subst, ◌∙◌, inl, inr, arith}
+use Rattle.std.specs.Prelude.{Contains}
+use Rattle.dk_base.specs.Frames.{Size, column, row}
 use Rattle.dk_base.specs.FrameSizes.{size_of}
 use Rattle.wiring.specs.declared.netlist.Net.{Net}
 use Rattle.wiring.specs.declared.netlist.Net.TheVariants.{Reg}
@@ -13,17 +13,16 @@ use Rattle.wiring.specs.Clock.{bit}
 use Rattle.net_build.specs.Includes.{Includes}
 use Rattle.net_build.specs.Draft.{UpdatedBut}
 use Rattle.net_build.specs.Runs.{NeverStops, StillBut}
-use Rattle.net_build.specs.Control.{IsMadeOf, IsControlled, AddsNoReads, is_control}
+use Rattle.net_build.specs.Control.{IsMadeOf, IsControlled}
 use Rattle.net_build.specs.Logic.{AddsLogic, Computes}
 use Rattle.net_build.specs.Counters.{AddsControl}
 use Rattle.net_build.proofs.Logic.{logic_none}
 use Rattle.net_build.proofs.Runs.{clock_more}
 use Rattle.net_build.proofs.Starting.{logic_adds, control_on}
 use Rattle.edge_select.specs.declared.pixel.Pixel.{Pixel}
-use Rattle.edge_select.specs.Pixels.{HasPixel, Follows, IsTest, IsBitOf, IsPixel, IsOnFrame, AllPass, NonePass, AddsCounters}
+use Rattle.edge_select.specs.Pixels.{IsTest, IsBitOf, IsPixel, IsOnFrame, AllPass, NonePass, AddsCounters}
 use Rattle.edge_select.proofs.Raster.{place}
-use Rattle.buffer_plan.specs.Plans.{Parts, IsPlan, delay_of}
-use Rattle.circuit.specs.Runs.{IsRunning, AtEachPixel}
+use Rattle.buffer_plan.specs.Plans.{Parts, IsPlan}
 use Rattle.circuit.specs.Taps.{size_in, HasControl}
 use Rattle.circuit.specs.Reads.{HasPosition, IsPixelTest}
 

@@ -1,8 +1,7 @@
 -- Where the steps of a leaf lead the expression reads, so the leaf's net has the pixel that is read.
-use Rattle.std.proofs.Common.{◌≡◌, ◌⊎◌, ℕ, zero, suc, ◌+◌, ◌<◌, ◌≤◌, Bool, true, List, [], ◌∷◌, ◌++◌, length, Some, refl, sym, ap, subst, ◌∙◌, inl, inr, arith, cond}
-use Rattle.std.specs.Prelude.{ℤ, pos, ◌+ℤ◌, ◌-ℤ◌, ◌==◌, ◌↔◌, IsTrue, slice_get, Contains, filter}
+use Rattle.std.proofs.Common.{◌≡◌, ◌⊎◌, ℕ, zero, suc, ◌+◌, ◌<◌, ◌≤◌, List, [], ◌∷◌, ◌++◌, length, Some, sym, ap, subst, ◌∙◌, inl, inr}
+use Rattle.std.specs.Prelude.{ℤ, pos, ◌+ℤ◌, ◌-ℤ◌, IsTrue, slice_get, Contains}
 use Rattle.std.proofs.lemmas.Option.{same_Some}
-use Rattle.std.proofs.lemmas.Bool.Decides.{nat_tests}
 use Rattle.dk_base.specs.declared.ty.Ty.{Ty}
 use Rattle.dk_base.specs.declared.stencils.LiveRead.{LiveRead}
 use Rattle.dk_base.specs.Types.{IsType, IsIn}
@@ -10,18 +9,17 @@ use Rattle.dk_base.specs.Numbers.{number}
 use Rattle.dk_base.specs.Frames.{Size, Picture, area, column, row, frame_of, in_frame, raster_offset, picture_at}
 use Rattle.wiring.specs.declared.netlist.Net.{Net}
 use Rattle.wiring.specs.Snapshot.{Snapshot, net_value}
-use Rattle.pointwise_ir.specs.declared.expr.Edge.{Edge}
 use Rattle.pointwise_ir.specs.Programs.{Program, IsBody}
 use Rattle.pointwise_ir.specs.Reads.{Reads, IsLive}
 use Rattle.pointwise_ir.specs.Trees.{Tree, constant, read, shifted, unary, binary, select, convert, scale}
 use Rattle.edge_select.specs.declared.step.Step.{Step}
-use Rattle.edge_select.specs.Steps.{Lead, LeadBy, LeadOn}
+use Rattle.edge_select.specs.Steps.{Lead, LeadBy}
 use Rattle.edge_select.proofs.Stepping.{lead_one, lead_in_frame, way_of}
 use Rattle.buffer_plan.specs.Plans.{Parts, ages_of, read_age, delay_of}
 use Rattle.circuit.specs.Rounds.{Rounds, type_at, pixel_count, pictures_in}
 use Rattle.circuit.specs.Leaves.{LeafRead, with_step, reads_of, ReadIsRight}
 use Rattle.circuit.specs.Taps.{size_in, taps_at, TapsAreRight}
-use Rattle.circuit.specs.Reads.{reads_in, IsLedTo, IsLedNowhere, IsChosen}
+use Rattle.circuit.specs.Reads.{reads_in, IsLedTo, IsChosen}
 use Rattle.circuit.proofs.Paths.{lead_last}
 use Rattle.circuit.proofs.Tapped.{tap_is}
 
@@ -62,7 +60,6 @@ module _ (size : Size) (x y : ℤ) where
       ]
   leaf_reads (convert how a t) path i leaf at u v led = leaf_reads a path i leaf at u v led
   leaf_reads (scale op a m) path i leaf at u v led = leaf_reads a path i leaf at u v led
-
 
 -- a live read's age, by the delays of the images at its ends
 aged : (plan : Parts) (f g : ℕ) (size : Size) (r : LiveRead) → r.f ≡ f → r.g ≡ g → size_in plan ≡ size → (age : ℕ) → pos age ≡ read_age plan r → pos age ≡ pos (delay_of plan f) -ℤ pos (delay_of plan g) -ℤ raster_offset size r.dx r.dy

@@ -1,12 +1,11 @@
 -- The tap of a live read has the pixel that is read.
-use Rattle.std.proofs.Common.{◌≡◌, ℕ, zero, suc, ◌+◌, ◌*◌, ◌/◌, ◌%◌, ◌<◌, ◌≤◌, Bool, true, List, [], length, Some, refl, sym, ap, subst, ◌∙◌, arith, mul_comm}
-use Rattle.std.specs.Prelude.{ℤ, pos, negsuc, ◌+ℤ◌, ◌-ℤ◌, ◌*ℤ◌, IsTrue, slice_get, slice_index_or}
+use Rattle.std.proofs.Common.{◌≡◌, ℕ, suc, ◌+◌, ◌*◌, ◌/◌, ◌%◌, ◌<◌, List, length, Some, sym, ap, subst, ◌∙◌, arith, mul_comm}
+use Rattle.std.specs.Prelude.{ℤ, pos, negsuc, ◌+ℤ◌, ◌-ℤ◌, ◌*ℤ◌, IsTrue, slice_get}
 use Rattle.std.proofs.lemmas.Int.{ints}
 use Rattle.std.proofs.lemmas.Nat.{div-add-mod', mod_below, mul-add-lt, div_below}
-use Rattle.dk_base.specs.declared.ty.Ty.{Ty}
-use Rattle.dk_base.specs.Types.{IsType, IsIn, width_of}
-use Rattle.dk_base.specs.Numbers.{number, code}
-use Rattle.dk_base.specs.Frames.{Size, Picture, area, column, row, frame_of, in_frame, raster_offset, picture_at}
+use Rattle.dk_base.specs.Types.{IsType, IsIn}
+use Rattle.dk_base.specs.Numbers.{number}
+use Rattle.dk_base.specs.Frames.{Size, area, column, row, frame_of, in_frame, raster_offset, picture_at}
 use Rattle.dk_base.proofs.Codes.{number_code}
 use Rattle.dk_base.proofs.Rasters.{below_is, inside_is, at_frame}
 use Rattle.wiring.specs.declared.netlist.Net.{Net}

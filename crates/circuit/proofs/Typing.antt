@@ -1,14 +1,13 @@
 -- The types of an expression's leaves, and the widths of a plan's images.
-use Rattle.std.proofs.Common.{◌≡◌, ℕ, zero, suc, ◌+◌, ◌<◌, ◌≤◌, Bool, List, [], ◌∷◌, ◌++◌, length, map, Option, Some, None, refl, sym, ap, subst, ◌∙◌, arith, length-append, take}
+use Rattle.std.proofs.Common.{◌≡◌, ℕ, zero, suc, ◌+◌, ◌≤◌, List, [], ◌∷◌, ◌++◌, length, map, Some, refl, sym, ap, subst, ◌∙◌, arith, length-append}
 use Rattle.std.specs.Prelude.{slice_get, slice_index, slice_index_or}
-use Rattle.std.specs.List.{All}
 use Rattle.std.proofs.lemmas.Option.{same_Some, slice_get_within}
 use Rattle.std.proofs.lemmas.List.{get_or-map}
 use Rattle.dk_base.specs.declared.ty.Ty.{Ty}
 use Rattle.dk_base.specs.declared.ty.Ty.TheVariants.{Unsigned}
 use Rattle.dk_base.specs.declared.stencils.Image.{Image}
 use Rattle.dk_base.specs.Types.{width_of as bits_of_type}
-use Rattle.dk_base.specs.Stencils.{IsKept, place}
+use Rattle.dk_base.specs.Stencils.{place}
 use Rattle.dk_base.proofs.Orders.{at_place}
 use Rattle.pointwise_ir.specs.Trees.{Tree, constant, read, shifted, unary, binary, select, convert, scale}
 use Rattle.pointwise_ir.specs.Typing.{HasType}
@@ -70,7 +69,7 @@ module _ (types : ℕ → Ty) (p : Program) (T : List Ty) (known : (g : ℕ) (s 
         reads_typed long c q path n first (left (reads_of c path) (reads_of a path) n front),
         reads_typed long a s path (n + read_count c) one (right (reads_of c path) (reads_of a path) n (read_count c) (long c path) front),
         subst (λ (j : ℕ). AreReadsOf T b types j) (let z : n + (read_count c + read_count a) ≡ n + read_count c + read_count a = omega arith in z)
-        (reads_typed long b r path (n + (read_count c + read_count a)) other (right (reads_of c path ++ reads_of a path) (reads_of b path) n (read_count c + read_count a) both have)),
+            (reads_typed long b r path (n + (read_count c + read_count a)) other (right (reads_of c path ++ reads_of a path) (reads_of b path) n (read_count c + read_count a) both have)),
       )
   reads_typed long (convert how a s) t path n (is, e, r, typed) have = reads_typed long a r path n typed have
   reads_typed long (scale op a m) t path n (s, typed, e) have = reads_typed long a s path n typed have

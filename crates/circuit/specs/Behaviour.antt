@@ -1,5 +1,5 @@
 -- What the module of a program does, in each run, from any contents that fit, over any clocks.
-use Rattle.std.specs.Prelude.{◌≡◌, ℕ, ◌+◌, ◌<◌, ◌≤◌, nat_le, Bool, not, ◌&&◌, IsTrue, if◌then◌else◌, List, ◌∷◌, length, map, slice_index, slice_index_or, slice_get, Some}
+use Rattle.std.specs.Prelude.{◌≡◌, ℕ, ◌<◌, ◌≤◌, nat_le, Bool, not, ◌&&◌, IsTrue, if◌then◌else◌, List, ◌∷◌, length, map, slice_index, slice_index_or, slice_get, Some}
 use Rattle.dk_base.specs.Stencils.{place}
 use Rattle.dk_base.specs.Types.{width_of}
 use Rattle.wiring.specs.declared.netlist.Net.{Net}
@@ -15,7 +15,7 @@ use Rattle.net_build.specs.Runs.{IsClockOf, InEachRun}
 use Rattle.net_build.specs.Control.{IsMadeOf}
 use Rattle.pointwise_ir.specs.Programs.{Program}
 use Rattle.pointwise_ir.specs.Stencils.{AreStencilsOf}
-use Rattle.buffer_plan.specs.Plans.{Parts, IsPlan, delay_of, depth_of, latency_of}
+use Rattle.buffer_plan.specs.Plans.{Parts, delay_of, depth_of, latency_of}
 use Rattle.line_buffer.specs.Streams.{IsPixel, BufferIsRight}
 use Rattle.line_buffer.specs.Places.{word_at}
 use Rattle.circuit.specs.declared.options.Options.{Options}

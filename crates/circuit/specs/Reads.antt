@@ -1,5 +1,5 @@
 -- The nets of an expression's leaves: of its reads, and of the tests of its shifted parts.
-use Rattle.std.specs.Prelude.{◌≡◌, ◌⊎◌, ℕ, ◌==◌, if◌then◌else◌, Bool, IsTrue, List, ◌∷◌, length, slice_get, Option, Some, None, IfSome, IfNone, [], ◌++◌, Contains}
+use Rattle.std.specs.Prelude.{◌≡◌, ◌⊎◌, ℕ, ◌==◌, if◌then◌else◌, Bool, List, ◌∷◌, length, slice_get, Option, Some, None, IfSome, IfNone, [], ◌++◌, Contains}
 use Rattle.dk_base.specs.declared.stencils.LiveRead.{LiveRead}
 use Rattle.dk_base.specs.declared.ty.Ty.{Ty}
 use Rattle.dk_base.specs.Types.{width_of as bits_of_type}
@@ -13,7 +13,7 @@ use Rattle.wiring.specs.declared.netlist.Holder.{Holder}
 use Rattle.wiring.specs.declared.netlist.Holder.TheVariants.{OfNet}
 use Rattle.wiring.specs.Netlist.{Netlist, net_width}
 use Rattle.wiring.specs.Snapshot.{Snapshot, net_value}
-use Rattle.net_build.specs.Includes.{Includes, InEach}
+use Rattle.net_build.specs.Includes.{Includes}
 use Rattle.datapath.specs.declared.lowering.Leaves.{Leaves}
 use Rattle.net_build.specs.Draft.{IsNet}
 use Rattle.net_build.specs.Control.{IsMadeOf}

@@ -13,12 +13,7 @@ use net_build::Builder;
 use wiring::Net;
 
 // The registers of image f, which are made where they are first needed.
-fn pixel_of(
-    b: &mut Builder,
-    plan: &Plan,
-    f: u32,
-    made: &mut Option<Pixel>,
-) -> Result<Pixel, Memory>
+fn pixel_of(b: &mut Builder, plan: &Plan, f: u32, made: &mut Option<Pixel>) -> Result<Pixel, Memory>
     requires kept { Keeps plan.now f }
     requires made { IfSome made.old (HasPosition b.old plan.now f) }
     ensures adds { OnOk result (AddsControl b.new b.old) }

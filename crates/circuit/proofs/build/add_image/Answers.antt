@@ -1,5 +1,5 @@
-use Rattle.std.proofs.Common.{◌≡◌, [], ◌∷◌, ◌++◌, List, Some, suc, sym, subst, ap}
-use Rattle.std.specs.Prelude.{slice_get, slice_index_or}
+use Rattle.std.proofs.Common.{[], ◌∷◌, ◌++◌, List, suc, sym, subst}
+use Rattle.std.specs.Prelude.{slice_index_or}
 use Rattle.dk_base.specs.declared.stencils.Image.{Image}
 use Rattle.wiring.specs.declared.netlist.Net.{Net}
 use Rattle.circuit.specs.Taps.{IsReading}
@@ -39,9 +39,9 @@ returns-clause-built g c =
     let i = slice_index_or c.images.result.now c.args.k none in
     let form = c.args.form.now in
     let built = next_built c.args.b.now c.args.ir.now plan (g.F.BufferForm.shapes form) (g.F.BufferForm.places form) (g.F.BufferForm.property form) c.args.k c.args.nets.now.items c.args.taps.now.items i c.law.ensures c.requires.stencils (image_at plan.system.stencils.images c.images.result.now c.args.k none c.images.ensures c.requires.within) c.requires.built
-      c.add.new.b c.image_net.new.b c.in_ok-net.net c.in_ok-own.own c.in_ok-net.ensures.adds
-      (subst (λ (ts : List (List Net)). IsImageNet c.image_net.new.b c.args.b.now c.args.ir.now plan ts i.number c.in_ok-net.net) c.deref.ensures.value c.in_ok-net.ensures.net)
-      c.in_ok-own.ensures.buffered c.law-2.ensures.draft
+    c.add.new.b c.image_net.new.b c.in_ok-net.net c.in_ok-own.own c.in_ok-net.ensures.adds
+    (subst (λ (ts : List (List Net)). IsImageNet c.image_net.new.b c.args.b.now c.args.ir.now plan ts i.number c.in_ok-net.net) c.deref.ensures.value c.in_ok-net.ensures.net)
+    c.in_ok-own.ensures.buffered c.law-2.ensures.draft
     in
     subst (λ (ns : List Net). AreBuilt c.add.new.b c.args.ir.now plan (g.F.BufferForm.shapes form) (g.F.BufferForm.places form) (g.F.BufferForm.property form) (suc c.args.k) ns c.push-2.new.self.items) (sym c.in_ok-push.ensures.items)
     (subst (λ (ts : List (List Net)). AreBuilt c.add.new.b c.args.ir.now plan (g.F.BufferForm.shapes form) (g.F.BufferForm.places form) (g.F.BufferForm.property form) (suc c.args.k) (c.args.nets.now.items ++ c.in_ok-net.net ∷ []) ts) (sym c.in_ok-push-2.ensures.items) built)

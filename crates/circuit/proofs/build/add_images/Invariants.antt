@@ -1,4 +1,4 @@
-use Rattle.std.proofs.Common.{◌≡◌, Bool}
+use Rattle.std.proofs.Common.{◌≡◌}
 use Rattle.circuit.specs.Images.{AreBuilt}
 use Rattle.circuit.proofs.build.add_images.Given as goal
 

@@ -81,7 +81,7 @@ returns-in-Never-clause-choice c first reads inc before =
     let down : FitsSigned w32 c.args.read.dy = search rules in
     let none = c.passing.ensures.never.0 c.in-Never.is in
     let here = subst (λ (w : ℕ). NonePass w plan.system.stencils.height (LeadBy (record { width = w; height = plan.system.stencils.height }) c.args.steps.now c.args.read.dx c.args.read.dy)) c.columns.ensures
-      (subst (λ (h : ℕ). NonePass c.columns.result h (LeadBy (record { width = c.columns.result; height = h }) c.args.steps.now c.args.read.dx c.args.read.dy)) c.rows.ensures (told (λ (x y : ℤ). NonePass c.columns.result c.rows.result (LeadBy (record { width = c.columns.result; height = c.rows.result }) c.args.steps.now x y)) c.args.read.dx c.args.read.dy across down none))
+    (subst (λ (h : ℕ). NonePass c.columns.result h (LeadBy (record { width = c.columns.result; height = h }) c.args.steps.now c.args.read.dx c.args.read.dy)) c.rows.ensures (told (λ (x y : ℤ). NonePass c.columns.result c.rows.result (LeadBy (record { width = c.columns.result; height = c.rows.result }) c.args.steps.now x y)) c.args.read.dx c.args.read.dy across down none))
     in
     choice_kept c.args.b.now first plan r.taps.now r.image reads c.args.read (leaf_at c.args.read.g c.args.steps.now) _ c.args.before (λ x y wide high same. here x y wide high) (columns_below plan c.law.ensures) (rows_below plan c.law.ensures) before
 
@@ -97,7 +97,7 @@ returns-in-Always-clause-choice c first reads inc before =
     let down : FitsSigned w32 c.args.read.dy = search rules in
     let all = c.passing.ensures.always.0 c.in-Always.is in
     let here = subst (λ (w : ℕ). AllPass w plan.system.stencils.height (LeadBy (record { width = w; height = plan.system.stencils.height }) c.args.steps.now c.args.read.dx c.args.read.dy)) c.columns.ensures
-      (subst (λ (h : ℕ). AllPass c.columns.result h (LeadBy (record { width = c.columns.result; height = h }) c.args.steps.now c.args.read.dx c.args.read.dy)) c.rows.ensures (told (λ (x y : ℤ). AllPass c.columns.result c.rows.result (LeadBy (record { width = c.columns.result; height = c.rows.result }) c.args.steps.now x y)) c.args.read.dx c.args.read.dy across down all))
+    (subst (λ (h : ℕ). AllPass c.columns.result h (LeadBy (record { width = c.columns.result; height = h }) c.args.steps.now c.args.read.dx c.args.read.dy)) c.rows.ensures (told (λ (x y : ℤ). AllPass c.columns.result c.rows.result (LeadBy (record { width = c.columns.result; height = c.rows.result }) c.args.steps.now x y)) c.args.read.dx c.args.read.dy across down all))
     in
     choice_taken c.args.b.now first plan r.taps.now r.image reads c.args.read (leaf_at c.args.read.g c.args.steps.now) _ c.args.before c.tap_of-tap.result refl here (columns_below plan c.law.ensures) (rows_below plan c.law.ensures) c.tap_of-tap.ensures
     (own.net c.tap_of-tap.result c.tap_of-tap.ensures) (own.width c.tap_of-tap.result c.tap_of-tap.ensures) inc

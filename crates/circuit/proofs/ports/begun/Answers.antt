@@ -1,4 +1,4 @@
-use Rattle.std.proofs.Common.{◌≡◌, ◌∙◌}
+use Rattle.std.proofs.Common.{◌∙◌}
 use Rattle.circuit.proofs.Adding.{din_widths, dout_widths}
 use Rattle.circuit.proofs.ports.begun.Goals as goal
 

@@ -18,7 +18,7 @@ returns-in_ok-net-in-Always-clause-test c =
     let plan = c.args.plan.now in
     let all = c.leading.ensures.always.0 c.in-Always.is in
     let here = subst (λ (w : ℕ). AllPass w plan.system.stencils.height (LeadOn (record { width = w; height = plan.system.stencils.height }) c.args.steps.now)) c.columns.ensures
-      (subst (λ (h : ℕ). AllPass c.columns.result h (LeadOn (record { width = c.columns.result; height = h }) c.args.steps.now)) c.rows.ensures all)
+    (subst (λ (h : ℕ). AllPass c.columns.result h (LeadOn (record { width = c.columns.result; height = h }) c.args.steps.now)) c.rows.ensures all)
     in
     always_test c.constant_test.new.b c.args.b.now plan c.args.f _ c.in_ok-net-in-Always.net c.law.ensures c.in_ok-net-in-Always.ensures.test here
 
@@ -33,6 +33,6 @@ returns-in_ok-net-in-Never-clause-test c =
     let plan = c.args.plan.now in
     let all = c.leading.ensures.never.0 c.in-Never.is in
     let here = subst (λ (w : ℕ). NonePass w plan.system.stencils.height (LeadOn (record { width = w; height = plan.system.stencils.height }) c.args.steps.now)) c.columns.ensures
-      (subst (λ (h : ℕ). NonePass c.columns.result h (LeadOn (record { width = c.columns.result; height = h }) c.args.steps.now)) c.rows.ensures all)
+    (subst (λ (h : ℕ). NonePass c.columns.result h (LeadOn (record { width = c.columns.result; height = h }) c.args.steps.now)) c.rows.ensures all)
     in
     never_test c.constant_test-in-Never.new.b c.args.b.now plan c.args.f _ c.in_ok-net-in-Never.net c.law.ensures c.in_ok-net-in-Never.ensures.test here
