@@ -3,7 +3,6 @@ use Rattle.dk_base.specs.declared.ty.Ty.{Ty}
 use Rattle.dk_base.specs.Types.{width_of}
 use Rattle.pointwise_ir.specs.Programs.{types_of}
 use Rattle.wiring.specs.Sizes.{IsWidth}
-use Rattle.net_build.specs.Includes.{Includes}
 use Rattle.circuit.specs.Rounds.{type_at}
 use Rattle.circuit.specs.Leaves.{leaf_at}
 use Rattle.circuit.specs.Reads.{IsNetOf, IsReadNet}

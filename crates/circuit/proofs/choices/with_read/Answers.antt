@@ -1,4 +1,4 @@
-use Rattle.std.proofs.Common.{◌≡◌, ℕ, subst}
+use Rattle.std.proofs.Common.{ℕ, subst}
 use Rattle.circuit.specs.Leaves.{leaf_at}
 use Rattle.circuit.specs.Reads.{ChoosesAlso}
 use Rattle.circuit.proofs.Placing.{control_none}

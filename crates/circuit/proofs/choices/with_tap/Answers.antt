@@ -1,4 +1,4 @@
-use Rattle.std.proofs.Common.{rules, ◌≡◌, ℕ, ◌∙◌, refl, sym, subst, ap, w32, to_z, of_z, FitsSigned}
+use Rattle.std.proofs.Common.{rules, ◌≡◌, ℕ, ◌∙◌, refl, sym, subst, w32, to_z, of_z, FitsSigned}
 use Rattle.std.specs.Prelude.{ℤ, ◌∷◌, IfSome}
 use Rattle.wiring.specs.Netlist.{net_width}
 use Rattle.net_build.specs.Logic.{Computes}

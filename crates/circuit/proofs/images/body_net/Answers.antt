@@ -1,4 +1,3 @@
-use Rattle.std.proofs.Common.{◌≡◌, [], List, subst, sym}
 use Rattle.pointwise_ir.specs.Trees.{tree_of}
 use Rattle.circuit.proofs.Placing.{control_logic}
 use Rattle.circuit.proofs.Imaging.{body_before, are_leaves, has_leaves, image_net_is, first_leaves}

@@ -1,4 +1,4 @@
-use Rattle.std.proofs.Common.{◌≡◌, ◌<◌, length, subst, ap, sym, arith}
+use Rattle.std.proofs.Common.{◌<◌, length, ap, arith}
 use Rattle.circuit.proofs.Placing.{control_none}
 use Rattle.circuit.proofs.Imaging.{input_net_is, body_at}
 use Rattle.circuit.proofs.images.image_net.Goals as goal
