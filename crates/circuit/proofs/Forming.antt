@@ -1,0 +1,72 @@
+-- What a form of buffers has done for an image.
+use Rattle.std.proofs.Common.{◌≡◌, ℕ, ◌+◌, ◌*◌, ◌<◌, ◌≤◌, List, [], ◌∷◌, length, refl, sym, ap, subst, ◌∙◌, arith}
+use Rattle.std.specs.Prelude.{All, slice_index_or}
+use Rattle.std.specs.List.Sorted.{IsStrictlyIncreasing}
+use Rattle.std.proofs.lemmas.List.{get_or-map}
+use Rattle.dk_base.specs.declared.TheConstants.{MAX_BUFFER_BITS}
+use Rattle.dk_base.specs.declared.stencils.Image.{Image}
+use Rattle.dk_base.specs.Stencils.{place, HasWidth}
+use Rattle.wiring.specs.declared.netlist.Net.{Net}
+use Rattle.wiring.specs.declared.netlist.Shape.{Shape}
+use Rattle.wiring.specs.Netlist.{Netlist}
+use Rattle.wiring.specs.Sizes.{IsWidth}
+use Rattle.wiring.specs.BufferBits.{array_bits}
+use Rattle.net_build.specs.Indices.{read_indices, put_indices}
+use Rattle.buffer_plan.specs.Plans.{Parts, IsPlan, ages_of, width_of, depth_of, last_of}
+use Rattle.buffer_plan.proofs.Aged.{are_ages, last_age, depth_most}
+use Rattle.line_buffer.specs.Places as L
+use Rattle.line_buffer.specs.Places.{Place}
+use Rattle.line_buffer.specs.Buffers.{IsBuffer, AddsBuffer, AreMadeOfBuffer}
+use Rattle.line_buffer.proofs.Building.{ages_deep}
+use Rattle.circuit.specs.Taps.{Keeps}
+use Rattle.circuit.specs.Forms.{Shapes, Places, Property, IsBuffered, shapes_before, first_array}
+
+-- the greatest age of an image is its depth
+last_same : (low : ℕ) (xs : List ℕ) → L.last_of low xs ≡ last_of low xs
+last_same low [] = refl
+last_same low (x ∷ xs) = last_same x xs
+
+pub plan_depth : (plan : Parts) (g : ℕ) → L.depth_of (ages_of plan g) ≡ depth_of plan g
+plan_depth plan g = last_same 0 (ages_of plan g) ∙ last_age plan g
+
+pub ages_ascend : (plan : Parts) (g : ℕ) (ages : List ℕ) → ages ≡ ages_of plan g → IsStrictlyIncreasing ages
+ages_ascend plan g ages e = subst IsStrictlyIncreasing (sym e) (are_ages plan g).ascending
+
+pub ages_most : (plan : Parts) (g : ℕ) (ages : List ℕ) → IsPlan plan → Keeps plan g → ages ≡ ages_of plan g → All (λ age. age ≤ MAX_BUFFER_BITS) ages
+ages_most plan g ages is kept e k d l =
+    let deep = ages_deep ages (L.depth_of ages) (ages_ascend plan g ages e) refl k d l in
+    let most = depth_most plan is g kept in
+    let depth = ap L.depth_of e ∙ plan_depth plan g in
+    omega (arith, deep, most, depth)
+
+-- the width of an image is one of a word
+pub plan_wide : (plan : Parts) (g width : ℕ) → IsPlan plan → Keeps plan g → width ≡ width_of plan g → IsWidth width
+plan_wide plan g width is kept e =
+    let images = plan.system.stencils.images in
+    let none : Image = record { number = 0; width = 0 } in
+    let here : width_of plan g ≡ (slice_index_or images (place images g) none).width = get_or-map (λ (j : Image). j.width) images (place images g) none 0 kept in
+    let has : HasWidth (slice_index_or images (place images g) none) = is.system.stencils.images.widths (place images g) none kept in
+    subst IsWidth (sym (e ∙ here)) (has.some, has.most)
+
+-- a form that has its shapes and places by widths and ages
+module _ (shapes_by : (width : ℕ) → List ℕ → List Shape) (place_by : (first : ℕ) → List ℕ → (age t : ℕ) → Place) (property : Property) where
+  abbrev shapes : Shapes
+  shapes plan g = shapes_by (width_of plan g) (ages_of plan g)
+
+  abbrev places : Places
+  places plan g age t = place_by (first_array shapes plan g) (ages_of plan g) age t
+
+  module _ (b old : Netlist) (plan : Parts) (g width : ℕ) (ages : List ℕ) (value : Net) (nets taps : List Net) (aged : ages ≡ ages_of plan g) (wide : width ≡ width_of plan g) (same : taps ≡ nets) (arrays : old.arrays ≡ shapes_before shapes plan g) where
+    pub form_buffered : array_bits (shapes_by (width_of plan g) (ages_of plan g)) ≡ width_of plan g * L.depth_of (ages_of plan g) → AddsBuffer b old (shapes_by width ages) → IsBuffer b (place_by (length old.arrays) ages) ages nets value →
+        AreMadeOfBuffer b (length old.arrays) (length old.arrays + length (shapes_by width ages)) ages nets → ((x : ℕ) → length old.arrays ≤ x → x < length b.arrays → property (read_indices b x) (put_indices b x)) → IsBuffered b old plan g shapes places property value taps
+    form_buffered bits adds buffer made each = record {
+      buffer = subst (λ (n : ℕ). IsBuffer b (place_by n (ages_of plan g)) (ages_of plan g) taps value) (ap length arrays)
+          (subst (λ (ns : List Net). IsBuffer b (place_by (length old.arrays) (ages_of plan g)) (ages_of plan g) ns value) (sym same)
+          (subst (λ (list : List ℕ). IsBuffer b (place_by (length old.arrays) list) list nets value) aged buffer));
+      adds = subst (λ (w : ℕ). AddsBuffer b old (shapes_by w (ages_of plan g))) wide (subst (λ (list : List ℕ). AddsBuffer b old (shapes_by width list)) aged adds);
+      bits = bits ∙ ap (λ (d : ℕ). width_of plan g * d) (plan_depth plan g);
+      made = subst (λ (ns : List Net). AreMadeOfBuffer b (length old.arrays) (length old.arrays + length (shapes plan g)) (ages_of plan g) ns) (sym same)
+          (subst (λ (w : ℕ). AreMadeOfBuffer b (length old.arrays) (length old.arrays + length (shapes_by w (ages_of plan g))) (ages_of plan g) nets) wide
+          (subst (λ (list : List ℕ). AreMadeOfBuffer b (length old.arrays) (length old.arrays + length (shapes_by width list)) list nets) aged made));
+      each = each;
+    }

@@ -1,0 +1,9 @@
+use Rattle.std.proofs.Common.{◌≡◌}
+use Rattle.circuit.specs.Images.{AreBuilt}
+use Rattle.circuit.proofs.build.add_images.Given as goal
+
+abbrev pub invariant-loop-k : goal.invariant-loop-k
+invariant-loop-k g l = record {
+  enable : l.b.enable ≡ l.fn.b.enable;
+  built : AreBuilt l.b l.ir l.plan (g.F.BufferForm.shapes l.form) (g.F.BufferForm.places l.form) (g.F.BufferForm.property l.form) l.k l.nets.items l.taps.items;
+}

@@ -1,0 +1,19 @@
+use Rattle.std.proofs.Common.{ℕ, subst}
+use Rattle.circuit.specs.Leaves.{leaf_at}
+use Rattle.circuit.specs.Reads.{ChoosesAlso}
+use Rattle.circuit.proofs.Placing.{control_none}
+use Rattle.circuit.proofs.Choosing.{choice_other}
+use Rattle.circuit.proofs.choices.with_read.Goals as goal
+
+pub returns-then-read-g-clause-adds : goal.returns-then-read-g-clause-adds
+returns-then-read-g-clause-adds c = control_none c.args.b.now
+
+pub returns-then-read-g-clause-choice : goal.returns-then-read-g-clause-choice
+returns-then-read-g-clause-choice c first reads inc before =
+    let r = c.args.reader.now in
+    choice_other c.args.b.now first r.plan.now r.taps.now r.image reads c.args.read (leaf_at c.args.g c.args.steps.now) _ c.args.before c.if-read-g.true before
+
+pub returns-clause-choice : goal.returns-clause-choice
+returns-clause-choice c =
+    let r = c.args.reader.now in
+    subst (λ (g : ℕ). ChoosesAlso c.with_tap.new.b c.args.b.now r.ir.now r.plan.now r.taps.now r.image (leaf_at g c.args.steps.now) c.args.read c.args.before c.in_ok-choice.choice) c.if-read-g.false c.in_ok-choice.ensures.choice

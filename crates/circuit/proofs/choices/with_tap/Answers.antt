@@ -1,0 +1,122 @@
+use Rattle.std.proofs.Common.{rules, ◌≡◌, ℕ, ◌∙◌, refl, sym, subst, w32, to_z, of_z, FitsSigned}
+use Rattle.std.specs.Prelude.{ℤ, ◌∷◌, IfSome}
+use Rattle.wiring.specs.Netlist.{net_width}
+use Rattle.net_build.specs.Logic.{Computes}
+use Rattle.std.proofs.lemmas.Int.{to_z-of_z}
+use Rattle.wiring.specs.Sizes.{IsWidth}
+use Rattle.edge_select.specs.Steps.{LeadBy}
+use Rattle.edge_select.specs.Pixels.{AllPass, NonePass}
+use Rattle.net_build.proofs.Grown.{net_more, width_more}
+use Rattle.circuit.specs.Taps.{size_in}
+use Rattle.circuit.specs.Reads.{IsPixelTest, chosen_by, choice_nets}
+use Rattle.circuit.specs.Leaves.{leaf_at}
+use Rattle.circuit.proofs.Lasting.{positions_more}
+use Rattle.circuit.proofs.Placing.{control_none, control_logic, columns_below, rows_below}
+use Rattle.circuit.proofs.Choosing.{choice_kept, choice_taken, choice_tested}
+use Rattle.circuit.proofs.Taking.{own_read, chosen_net_more, chosen_width_more}
+use Rattle.circuit.proofs.choices.with_tap.Goals as goal
+
+-- a fact of offsets that are stored and read back
+told : (P : (x y : ℤ) → Type 0) (x y : ℤ) → FitsSigned w32 x → FitsSigned w32 y → P (to_z w32 (of_z w32 x)) (to_z w32 (of_z w32 y)) → P x y
+told P x y fx fy h = subst (λ (v : ℤ). P x v) (to_z-of_z w32 y fy) (subst (λ (u : ℤ). P u (to_z w32 (of_z w32 y))) (to_z-of_z w32 x fx) h)
+
+pub tap_of-tap-requires-clause-read : goal.tap_of-tap-requires-clause-read
+tap_of-tap-requires-clause-read c =
+    let r = c.args.reader.now in
+    (own_read c.args.b.now r.ir.now r.plan.now r.taps.now r.image c.args.read c.law.ensures c.requires.reading c.requires.read).among
+
+pub tap_of-tap-requires-clause-there : goal.tap_of-tap-requires-clause-there
+tap_of-tap-requires-clause-there c =
+    let r = c.args.reader.now in
+    (own_read c.args.b.now r.ir.now r.plan.now r.taps.now r.image c.args.read c.law.ensures c.requires.reading c.requires.read).there
+
+pub tap_of-tap-requires-clause-one_each : goal.tap_of-tap-requires-clause-one_each
+tap_of-tap-requires-clause-one_each c =
+    let r = c.args.reader.now in
+    (own_read c.args.b.now r.ir.now r.plan.now r.taps.now r.image c.args.read c.law.ensures c.requires.reading c.requires.read).one_each
+
+pub width-requires : goal.width-requires
+width-requires c =
+    let r = c.args.reader.now in
+    (own_read c.args.b.now r.ir.now r.plan.now r.taps.now r.image c.args.read c.law.ensures c.requires.reading c.requires.read).kept
+
+pub chosen_by-requires-clause-bits : goal.chosen_by-requires-clause-bits
+chosen_by-requires-clause-bits c =
+    let r = c.args.reader.now in
+    let own = own_read c.args.b.now r.ir.now r.plan.now r.taps.now r.image c.args.read c.law.ensures c.requires.reading c.requires.read in
+    subst IsWidth (sym c.width.ensures) own.wide
+
+pub chosen_by-requires-clause-tap : goal.chosen_by-requires-clause-tap
+chosen_by-requires-clause-tap c =
+    let r = c.args.reader.now in
+    let own = own_read c.args.b.now r.ir.now r.plan.now r.taps.now r.image c.args.read c.law.ensures c.requires.reading c.requires.read in
+    net_more c.test_at.new.b c.args.b.now c.in_ok-test-in-Sometimes.ensures.adds.includes c.tap_of-tap.result (own.net c.tap_of-tap.result c.tap_of-tap.ensures)
+
+pub chosen_by-requires-clause-tap_width : goal.chosen_by-requires-clause-tap_width
+chosen_by-requires-clause-tap_width c =
+    let r = c.args.reader.now in
+    let own = own_read c.args.b.now r.ir.now r.plan.now r.taps.now r.image c.args.read c.law.ensures c.requires.reading c.requires.read in
+    width_more c.test_at.new.b c.args.b.now c.in_ok-test-in-Sometimes.ensures.adds.includes c.tap_of-tap.result (own.net c.tap_of-tap.result c.tap_of-tap.ensures).declared
+    ∙ own.width c.tap_of-tap.result c.tap_of-tap.ensures
+    ∙ sym (c.width.ensures ∙ own.bits)
+
+pub chosen_by-requires-clause-before : goal.chosen_by-requires-clause-before
+chosen_by-requires-clause-before c = chosen_net_more c.test_at.new.b c.args.b.now c.args.before c.in_ok-test-in-Sometimes.ensures.adds.includes c.requires.before
+
+pub chosen_by-requires-clause-before_width : goal.chosen_by-requires-clause-before_width
+chosen_by-requires-clause-before_width c =
+    let r = c.args.reader.now in
+    let own = own_read c.args.b.now r.ir.now r.plan.now r.taps.now r.image c.args.read c.law.ensures c.requires.reading c.requires.read in
+    subst (λ (w : ℕ). IfSome c.args.before (λ n. net_width c.test_at.new.b n ≡ w)) (sym (c.width.ensures ∙ own.bits))
+    (chosen_width_more c.test_at.new.b c.args.b.now c.args.before _ c.in_ok-test-in-Sometimes.ensures.adds.includes c.requires.before c.requires.before_width)
+
+pub returns-in-Never-clause-adds : goal.returns-in-Never-clause-adds
+returns-in-Never-clause-adds c = control_none c.args.b.now
+
+pub returns-in-Never-clause-choice : goal.returns-in-Never-clause-choice
+returns-in-Never-clause-choice c first reads inc before =
+    let r = c.args.reader.now in
+    let plan = r.plan.now in
+    let across : FitsSigned w32 c.args.read.dx = search rules in
+    let down : FitsSigned w32 c.args.read.dy = search rules in
+    let none = c.passing.ensures.never.0 c.in-Never.is in
+    let here = subst (λ (w : ℕ). NonePass w plan.system.stencils.height (LeadBy (record { width = w; height = plan.system.stencils.height }) c.args.steps.now c.args.read.dx c.args.read.dy)) c.columns.ensures
+    (subst (λ (h : ℕ). NonePass c.columns.result h (LeadBy (record { width = c.columns.result; height = h }) c.args.steps.now c.args.read.dx c.args.read.dy)) c.rows.ensures (told (λ (x y : ℤ). NonePass c.columns.result c.rows.result (LeadBy (record { width = c.columns.result; height = c.rows.result }) c.args.steps.now x y)) c.args.read.dx c.args.read.dy across down none))
+    in
+    choice_kept c.args.b.now first plan r.taps.now r.image reads c.args.read (leaf_at c.args.read.g c.args.steps.now) _ c.args.before (λ x y wide high same. here x y wide high) (columns_below plan c.law.ensures) (rows_below plan c.law.ensures) before
+
+pub returns-in-Always-clause-adds : goal.returns-in-Always-clause-adds
+returns-in-Always-clause-adds c = control_none c.args.b.now
+
+pub returns-in-Always-clause-choice : goal.returns-in-Always-clause-choice
+returns-in-Always-clause-choice c first reads inc before =
+    let r = c.args.reader.now in
+    let plan = r.plan.now in
+    let own = own_read c.args.b.now r.ir.now r.plan.now r.taps.now r.image c.args.read c.law.ensures c.requires.reading c.requires.read in
+    let across : FitsSigned w32 c.args.read.dx = search rules in
+    let down : FitsSigned w32 c.args.read.dy = search rules in
+    let all = c.passing.ensures.always.0 c.in-Always.is in
+    let here = subst (λ (w : ℕ). AllPass w plan.system.stencils.height (LeadBy (record { width = w; height = plan.system.stencils.height }) c.args.steps.now c.args.read.dx c.args.read.dy)) c.columns.ensures
+    (subst (λ (h : ℕ). AllPass c.columns.result h (LeadBy (record { width = c.columns.result; height = h }) c.args.steps.now c.args.read.dx c.args.read.dy)) c.rows.ensures (told (λ (x y : ℤ). AllPass c.columns.result c.rows.result (LeadBy (record { width = c.columns.result; height = c.rows.result }) c.args.steps.now x y)) c.args.read.dx c.args.read.dy across down all))
+    in
+    choice_taken c.args.b.now first plan r.taps.now r.image reads c.args.read (leaf_at c.args.read.g c.args.steps.now) _ c.args.before c.tap_of-tap.result refl here (columns_below plan c.law.ensures) (rows_below plan c.law.ensures) c.tap_of-tap.ensures
+    (own.net c.tap_of-tap.result c.tap_of-tap.ensures) (own.width c.tap_of-tap.result c.tap_of-tap.ensures) inc
+
+pub returns-in_ok-net-in-Sometimes-clause-adds : goal.returns-in_ok-net-in-Sometimes-clause-adds
+returns-in_ok-net-in-Sometimes-clause-adds c = control_logic c.chosen_by.new.b c.test_at.new.b c.args.b.now c.in_ok-test-in-Sometimes.ensures.adds c.in_ok-net-in-Sometimes.ensures.logic
+
+pub returns-in_ok-net-in-Sometimes-clause-made : goal.returns-in_ok-net-in-Sometimes-clause-made
+returns-in_ok-net-in-Sometimes-clause-made c = positions_more c.chosen_by.new.b c.test_at.new.b c.in_ok-net-in-Sometimes.ensures.logic.includes c.args.reader.now.plan.now c.args.reader.now.image c.test_at.new.made c.in_ok-test-in-Sometimes.ensures.made
+
+pub returns-in_ok-net-in-Sometimes-clause-choice : goal.returns-in_ok-net-in-Sometimes-clause-choice
+returns-in_ok-net-in-Sometimes-clause-choice c first reads inc before =
+    let r = c.args.reader.now in
+    let own = own_read c.args.b.now r.ir.now r.plan.now r.taps.now r.image c.args.read c.law.ensures c.requires.reading c.requires.read in
+    let across : FitsSigned w32 c.args.read.dx = search rules in
+    let down : FitsSigned w32 c.args.read.dy = search rules in
+    let tap = c.tap_of-tap.result in
+    let test = c.in_ok-test-in-Sometimes.test in
+    let net = c.in_ok-net-in-Sometimes.net in
+    let one = subst (λ (w : ℕ). Computes c.chosen_by.new.b c.test_at.new.b (test ∷ (tap ∷ choice_nets c.args.before)) w (chosen_by test tap c.args.before) net) (c.width.ensures ∙ own.bits) c.in_ok-net-in-Sometimes.ensures.net in
+    choice_tested c.chosen_by.new.b c.test_at.new.b c.args.b.now first r.plan.now r.taps.now r.image reads c.args.read (leaf_at c.args.read.g c.args.steps.now) _ c.args.before test tap net refl c.tap_of-tap.ensures
+    c.in_ok-net-in-Sometimes.ensures.logic.includes c.in_ok-test-in-Sometimes.ensures.adds.includes inc (told (λ (x y : ℤ). IsPixelTest c.test_at.new.b r.plan.now r.image (LeadBy (size_in r.plan.now) c.args.steps.now x y) test) c.args.read.dx c.args.read.dy across down c.in_ok-test-in-Sometimes.ensures.test) one before

@@ -1,0 +1,30 @@
+use Rattle.pointwise_ir.specs.Trees.{tree_of}
+use Rattle.circuit.proofs.Placing.{control_logic}
+use Rattle.circuit.proofs.Imaging.{body_before, are_leaves, has_leaves, image_net_is, first_leaves}
+use Rattle.circuit.proofs.images.body_net.Goals as goal
+
+pub push_leaves-requires-clause-earlier : goal.push_leaves-requires-clause-earlier
+push_leaves-requires-clause-earlier c =
+    let r = c.args.reader.now in
+    body_before r.ir.now c.law.ensures r.image (tree_of c.args.body.now) c.requires.body
+
+pub lower-requires-clause-nets : goal.lower-requires-clause-nets
+lower-requires-clause-nets c =
+    let r = c.args.reader.now in
+    are_leaves c.push_leaves.new.b c.args.b.now r.ir.now r.plan.now r.taps.now r.image (tree_of c.args.body.now) c.push_leaves.new.leaves.reads.items c.push_leaves.new.leaves.bits.items c.law.ensures c.law-2.ensures c.requires.reading c.requires.body
+    (first_leaves c.push_leaves.new.b c.args.b.now r.ir.now r.plan.now r.taps.now r.image (tree_of c.args.body.now) c.new-steps.result.items c.push_leaves.new.leaves (record { reads = c.new.result; bits = c.new-2.result }) c.new-steps.ensures.items c.new.ensures.items c.new-2.ensures.items c.in_ok-push_leaves.ensures.leaves)
+
+pub lower-requires-clause-leaves : goal.lower-requires-clause-leaves
+lower-requires-clause-leaves c =
+    let r = c.args.reader.now in
+    has_leaves c.push_leaves.new.b c.args.b.now r.ir.now r.plan.now r.taps.now r.image (tree_of c.args.body.now) c.push_leaves.new.leaves.reads.items c.push_leaves.new.leaves.bits.items c.law.ensures c.law-2.ensures c.requires.reading c.requires.body
+    (first_leaves c.push_leaves.new.b c.args.b.now r.ir.now r.plan.now r.taps.now r.image (tree_of c.args.body.now) c.new-steps.result.items c.push_leaves.new.leaves (record { reads = c.new.result; bits = c.new-2.result }) c.new-steps.ensures.items c.new.ensures.items c.new-2.ensures.items c.in_ok-push_leaves.ensures.leaves)
+
+pub returns-clause-adds : goal.returns-clause-adds
+returns-clause-adds c = control_logic c.lower.new.b c.push_leaves.new.b c.args.b.now c.in_ok-push_leaves.ensures.adds c.lower.ensures.grows
+
+pub returns-clause-net : goal.returns-clause-net
+returns-clause-net c =
+    let r = c.args.reader.now in
+    image_net_is c.push_leaves.new.b c.args.b.now r.ir.now r.plan.now r.taps.now r.image (tree_of c.args.body.now) c.push_leaves.new.leaves.reads.items c.push_leaves.new.leaves.bits.items c.law.ensures c.law-2.ensures c.requires.reading c.requires.body
+    (first_leaves c.push_leaves.new.b c.args.b.now r.ir.now r.plan.now r.taps.now r.image (tree_of c.args.body.now) c.new-steps.result.items c.push_leaves.new.leaves (record { reads = c.new.result; bits = c.new-2.result }) c.new-steps.ensures.items c.new.ensures.items c.new-2.ensures.items c.in_ok-push_leaves.ensures.leaves) c.lower.new.b c.in_ok-net.net c.lower.ensures.grows.includes c.in_ok-push_leaves.ensures.adds.includes c.in_ok-net.ensures.value c.in_ok-net.ensures.made

@@ -1,0 +1,62 @@
+-- How a circuit ends: each output has its valid and the net of its image.
+use Rattle.std.specs.Prelude.{◌≡◌, ℕ, ◌<◌, List, [], length, slice_index, slice_get, Some}
+use Rattle.wiring.specs.declared.netlist.Net.{Net}
+use Rattle.wiring.specs.Netlist.{Netlist, net_width}
+use Rattle.wiring.specs.Rules.{with_valids}
+use Rattle.wiring.specs.BufferBits.{IsBufferBits, array_bits}
+use Rattle.net_build.specs.Draft.{IsNet, IsDraft, UpdatedBut, flat, with_outputs}
+use Rattle.net_build.specs.Runs.{IsWhole, NeverStops, StillBut, RunsOn}
+use Rattle.net_build.specs.Control.{IsControlled}
+use Rattle.net_build.specs.Counters.{AddsControl}
+use Rattle.buffer_plan.specs.Plans.{Parts, latency_of}
+use Rattle.circuit.specs.Behaviour.{net_of, IsStarted, AreOuts}
+
+-- the image of the k-th output
+abbrev pub output_in : Parts → (k : ℕ) → ℕ
+output_in plan k = slice_index plan.system.stencils.outputs k
+
+-- the valid of the k-th output
+pub record IsValidOf (b : Netlist) (plan : Parts) (k : ℕ) (net : Net) : Type 0 where
+  pub there : IsNet b net
+  pub width : net_width b net ≡ 1
+  pub started : IsStarted b (latency_of plan k) net
+
+-- for each of these outputs its valid
+abbrev pub AreValids : Netlist → Parts → List (Net × Net) → Type 0
+AreValids b plan outs = (k : ℕ) (out : Net × Net) → slice_get outs k ≡ Some out → IsValidOf b plan k out.0
+
+-- the valid and the dout of the k-th output
+pub record IsOut (b : Netlist) (plan : Parts) (nets : List Net) (k : ℕ) (out : Net × Net) : Type 0 where
+  pub valid : IsValidOf b plan k out.0
+  pub dout : out.1 ≡ net_of plan nets (output_in plan k)
+
+-- the net is the valid of each of these outputs that has the latency of the k-th
+abbrev pub IsSharedBy : Parts → List (Net × Net) → (k : ℕ) → Net → Type 0
+IsSharedBy plan outs k net = (j : ℕ) (out : Net × Net) → slice_get outs j ≡ Some out → latency_of plan j ≡ latency_of plan k → out.0 ≡ net
+
+-- outputs of one latency have one valid
+abbrev pub AreShared : Parts → List (Net × Net) → Type 0
+AreShared plan outs = (k : ℕ) (out : Net × Net) → slice_get outs k ≡ Some out → IsSharedBy plan outs k out.0
+
+-- Each output can take the net of its image, which has its width, and all registers and arrays are updated.
+pub record CanEnd (b : Netlist) (plan : Parts) (nets : List Net) : Type 0 where
+  pub count : length nets ≡ length plan.system.stencils.images
+  pub widths : List ℕ
+  pub outputs : b.outputs ≡ with_valids widths
+  pub one_each : length widths ≡ length plan.system.stencils.outputs
+  pub net : (k : ℕ) → k < length plan.system.stencils.outputs → IsNet b (net_of plan nets (output_in plan k))
+  pub width : (k : ℕ) → k < length plan.system.stencils.outputs → net_width b (net_of plan nets (output_in plan k)) ≡ slice_index widths k
+  pub updated : UpdatedBut b []
+
+-- The module of a netlist with control for its outputs, which take their valids and the nets of their images.
+pub record IsClosed (m b : Netlist) (plan : Parts) (nets : List Net) : Type 0 where
+  pub last : Netlist
+  pub adds : AddsControl last b
+  pub draft : IsDraft last
+  pub outs : List (Net × Net)
+  pub are_outs : AreOuts last plan nets (length plan.system.stencils.outputs) outs
+  pub driven : m ≡ with_outputs last (flat outs)
+  pub whole : IsWhole m last
+  pub runs : NeverStops last → RunsOn m
+  pub bits : IsControlled last → IsBufferBits m (array_bits last.arrays)
+  pub still : StillBut last [] → StillBut m []

@@ -1,0 +1,80 @@
+-- What is built for the images of a plan, one after another.
+use Rattle.std.specs.Prelude.{◌≡◌, ℕ, ◌*◌, ◌<◌, ◌≤◌, nat_le, nat_lt, ◌&&◌, Bool, List, [], length, map, take, slice_get, slice_index_or, Some}
+use Rattle.std.specs.List.{list_any}
+use Rattle.dk_base.specs.declared.stencils.Image.{Image}
+use Rattle.dk_base.specs.declared.stencils.LiveRead.{LiveRead}
+use Rattle.dk_base.specs.Types.{width_of as bits_of_type}
+use Rattle.wiring.specs.declared.netlist.Net.{Net}
+use Rattle.wiring.specs.declared.netlist.Net.TheVariants.{Input}
+use Rattle.wiring.specs.declared.netlist.Holder.{Holder}
+use Rattle.wiring.specs.declared.netlist.Holder.TheVariants.{OfNet, OfArray}
+use Rattle.wiring.specs.Netlist.{Netlist, net_width, din_net}
+use Rattle.wiring.specs.BufferBits.{array_bits}
+use Rattle.wiring.specs.Snapshot.{Contents, Snapshot, net_value}
+use Rattle.wiring.specs.Clock.{Clock}
+use Rattle.wiring.specs.History.{counted}
+use Rattle.net_build.specs.Includes.{Includes}
+use Rattle.net_build.specs.Draft.{IsNet, UpdatedBut, empty_draft}
+use Rattle.net_build.specs.Runs.{NeverStops, StillBut}
+use Rattle.net_build.specs.Control.{IsMadeOf, IsControlled, is_control}
+use Rattle.net_build.specs.Indices.{read_indices, put_indices}
+use Rattle.pointwise_ir.specs.Programs.{Program}
+use Rattle.buffer_plan.specs.Plans.{Parts, delay_of, ages_of, width_of, depth_of}
+use Rattle.line_buffer.specs.Streams.{IsPixel}
+use Rattle.line_buffer.specs.Buffers.{IsBuffer, AreMadeOfBuffer}
+use Rattle.circuit.specs.Runs.{IsRunning}
+use Rattle.circuit.specs.Rounds.{Rounds, AreRounds, type_at, pixel_count, pixel_bits}
+use Rattle.circuit.specs.Taps.{Keeps, taps_at, TapsAreRight}
+use Rattle.circuit.specs.Reads.{reads_in, IsMadeOfTaps}
+use Rattle.circuit.specs.Forms.{Shapes, Places, Property, shapes_of, first_array, end_array}
+
+-- In each counted clock the net of image f is the pixel that is due, for all rounds whose pixels the taps of the images before it have.
+abbrev pub IsBodyNet : Netlist → Program → Parts → List (List Net) → (f : ℕ) → Net → Type 0
+IsBodyNet b p plan taps f net =
+    (m : Netlist) (from : Contents) (before : List Clock) (c : Clock) (s : Snapshot) → IsRunning b m from before c s → (rounds : Rounds) → AreRounds p rounds → ((g : ℕ) → g < f → Keeps plan g → TapsAreRight p rounds plan taps (length (counted m before)) s g) →
+    IsPixel (pixel_bits p rounds f) (pixel_count p rounds) (delay_of plan f) (length (counted m before)) (net_value s net)
+
+-- the net of image f: the din of an input, or the net of a body, which is made of taps
+pub record IsImageNet (b old : Netlist) (p : Program) (plan : Parts) (taps : List (List Net)) (f : ℕ) (net : Net) : Type 0 where
+  pub there : IsNet b net
+  pub width : net_width b net ≡ width_of plan f
+  pub input : f < length p.inputs → net ≡ din_net b f
+  pub body : length p.inputs ≤ f → IsBodyNet b p plan taps f net
+  pub made : length p.inputs ≤ f → IsMadeOfTaps b old plan taps (reads_in plan f) net
+
+-- a number of an array of an image
+abbrev pub is_array_of : Shapes → Parts → (g x : ℕ) → Bool
+is_array_of shapes plan g x = nat_le (first_array shapes plan g) x && nat_lt x (end_array shapes plan g)
+
+-- rst, en, the registers, and the arrays of the images of which f has a live read
+abbrev pub source_of : Shapes → Parts → (f : ℕ) → (enable : Bool) → Holder → Bool
+source_of shapes plan f enable (OfNet n) = is_control enable (OfNet n)
+source_of shapes plan f enable (OfArray x) = list_any (λ (r : LiveRead). is_array_of shapes plan r.g x) (reads_in plan f)
+
+-- What has been built for image g, as the netlist b has it: its net, and its buffer by its taps.
+pub record IsLine (b : Netlist) (p : Program) (plan : Parts) (shapes : Shapes) (places : Places) (property : Property) (taps : List (List Net)) (g : ℕ) (net : Net) : Type 0 where
+  pub there : IsNet b net
+  pub width : net_width b net ≡ width_of plan g
+  pub input : g < length p.inputs → net ≡ din_net b g
+  pub body : length p.inputs ≤ g → IsBodyNet b p plan taps g net
+  pub apart : 1 ≤ plan.system.age → length p.inputs ≤ g → IsMadeOf b (source_of shapes plan g b.enable) (OfNet net)
+  pub buffer : IsBuffer b (places plan g) (ages_of plan g) (taps_at plan taps g) net
+  pub bits : array_bits (shapes plan g) ≡ width_of plan g * depth_of plan g
+  pub made : AreMadeOfBuffer b (first_array shapes plan g) (end_array shapes plan g) (ages_of plan g) (taps_at plan taps g)
+  pub each : (x : ℕ) → first_array shapes plan g ≤ x → x < end_array shapes plan g → property (read_indices b x) (put_indices b x)
+
+-- a netlist with the ports of a program and nothing else
+abbrev pub ports_of : Program → (enable : Bool) → Netlist
+ports_of p enable = empty_draft enable (map (λ i. bits_of_type i.ty) p.inputs) (map (λ g. bits_of_type (type_at p g)) p.outputs)
+
+-- The first n of the kept images have their nets and their buffers, and nothing else is there.
+pub record AreBuilt (b : Netlist) (p : Program) (plan : Parts) (shapes : Shapes) (places : Places) (property : Property) (n : ℕ) (nets : List Net) (taps : List (List Net)) : Type 0 where
+  pub ports : Includes b (ports_of p b.enable)
+  pub net_count : length nets ≡ n
+  pub tap_count : length taps ≡ n
+  pub arrays : b.arrays ≡ shapes_of shapes plan (take n plan.system.stencils.images)
+  pub updated : UpdatedBut b []
+  pub still : StillBut b []
+  pub stops : NeverStops b
+  pub control : IsControlled b
+  pub line : (k : ℕ) (i : Image) → k < n → slice_get plan.system.stencils.images k ≡ Some i → IsLine b p plan shapes places property taps i.number (slice_index_or nets k (Input 0))

@@ -1,0 +1,105 @@
+// The module of a program.
+
+ghost use Rattle.std.specs.Prelude.{◌≡◌, ℕ, ◌<◌, suc, IfOk, length, OnOk};
+ghost use Rattle.wiring.specs.BufferBits.{IsBufferBits};
+ghost use Rattle.net_build.specs.Indices.{read_indices, put_indices};
+ghost use Rattle.net_build.specs.Runs.{IsWhole, RunsOn};
+ghost use Rattle.pointwise_ir.specs.Stencils.{AreStencilsOf};
+ghost use Rattle.buffer_plan.specs.Plans.{bits_of};
+ghost use Rattle.circuit.specs.Forms.{shapes_of};
+ghost use Rattle.circuit.specs.Images.{AreBuilt};
+ghost use Rattle.circuit.specs.Behaviour.{IsPlanOf, HasPorts, Behaves, IsApart};
+
+use crate::finishing::{Built, finished};
+use crate::forms::BufferForm;
+use crate::images::image_net;
+use crate::options::Options;
+use crate::ports::begun;
+use crate::reader::Reader;
+use crate::taps::Taps;
+use buffer_plan::Plan;
+use dk_base::Memory;
+use net_build::Builder;
+use pointwise_ir::Ir;
+use std::alloc::Global;
+use wiring::Net;
+
+// One image more: its net, and then its buffer.
+fn add_image<F: BufferForm>(
+    alloc: Global,
+    b: &mut Builder,
+    ir: &Ir,
+    plan: &Plan,
+    form: &F,
+    k: usize,
+    nets: &mut Vec<Net>,
+    taps: &mut Vec<Taps>,
+) -> Result<(), Memory>
+    requires stencils { AreStencilsOf ir.now plan.now.system.stencils }
+    requires within { k < length plan.now.system.stencils.images }
+    requires built { AreBuilt b.old ir.now plan.now (F.shapes form.now) (F.places form.now) (F.property form.now) k nets.old.items taps.old.items }
+    ensures enable { OnOk result (b.new.enable ≡ b.old.enable) }
+    ensures built { OnOk result (AreBuilt b.new ir.now plan.now (F.shapes form.now) (F.places form.now) (F.property form.now) (suc k) nets.new.items taps.new.items) }
+{
+    plan.law();
+    let image = plan.images()[k].number;
+    let reader = Reader {
+        ir,
+        plan,
+        taps,
+        image,
+    };
+    let net = image_net(alloc, b, &reader)?;
+    let own = form.add(alloc, plan, image, net, b)?;
+    b.law();
+    nets.push(net)?;
+    taps.push(own)?;
+    Ok(())
+}
+
+// All images, one after another.
+fn add_images<F: BufferForm>(
+    alloc: Global,
+    b: &mut Builder,
+    ir: &Ir,
+    plan: &Plan,
+    form: &F,
+    nets: &mut Vec<Net>,
+    taps: &mut Vec<Taps>,
+) -> Result<(), Memory>
+    requires stencils { AreStencilsOf ir.now plan.now.system.stencils }
+    requires built { AreBuilt b.old ir.now plan.now (F.shapes form.now) (F.places form.now) (F.property form.now) 0 nets.old.items taps.old.items }
+    ensures enable { OnOk result (b.new.enable ≡ b.old.enable) }
+    ensures built { OnOk result (AreBuilt b.new ir.now plan.now (F.shapes form.now) (F.places form.now) (F.property form.now) (length plan.now.system.stencils.images) nets.new.items taps.new.items) }
+{
+    for k in 0..plan.images().len() {
+        add_image(alloc, b, ir, plan, form, k, nets, taps)?;
+    }
+    Ok(())
+}
+
+/// The module of a program: its ports, for each kept image its net and behind it its buffer, and its outputs. The plan is of the program's stencils, with the age that is asked.
+pub fn build_with<F: BufferForm>(
+    alloc: Global,
+    ir: &Ir,
+    plan: &Plan,
+    form: &F,
+    options: Options,
+) -> Result<Built, Memory>
+    requires plan { IsPlanOf ir.now plan.now options }
+    ensures ports { IfOk result (λ r. HasPorts r.module.netlist ir.now options.enable) }
+    ensures whole { IfOk result (λ r. IsWhole r.module.netlist r.module.netlist) }
+    ensures runs { IfOk result (λ r. RunsOn r.module.netlist) }
+    ensures behaves { IfOk result (λ r. Behaves r.module.netlist ir.now plan.now (F.places form.now) r.nets.items) }
+    ensures bits { IfOk result (λ r. IsBufferBits r.module.netlist (bits_of plan.now)) }
+    ensures arrays { IfOk result (λ r. r.module.netlist.arrays ≡ shapes_of (F.shapes form.now) plan.now plan.now.system.stencils.images) }
+    ensures property { IfOk result (λ r. (x : ℕ) → x < length r.module.netlist.arrays → F.property form.now (read_indices r.module.netlist x) (put_indices r.module.netlist x)) }
+    ensures apart { IfOk result (λ r. IsApart r.module.netlist ir.now plan.now (F.shapes form.now) r.nets.items) }
+{
+    let mut b = begun(alloc, ir, options.enable)?;
+    let mut nets = Vec::new(alloc);
+    let mut taps = Vec::new(alloc);
+    add_images(alloc, &mut b, ir, plan, form, &mut nets, &mut taps)?;
+    let built = finished(alloc, b, ir, plan, form, nets, &taps)?;
+    Ok(built)
+}

@@ -1,0 +1,174 @@
+// The net of a read: of the taps of the image that is read the one to which the steps lead.
+
+ghost use Rattle.std.specs.Prelude.{◌≡◌, ◌<◌, [], ◌∷◌, ◌++◌, ℕ, List, Contains, IfOk, IfSome, OnOk, length};
+ghost use Rattle.dk_base.specs.declared.stencils.LiveRead.{LiveRead};
+ghost use Rattle.dk_base.specs.Types.{width_of};
+ghost use Rattle.pointwise_ir.specs.Programs.{types_of};
+ghost use Rattle.wiring.specs.Netlist.{Netlist, net_width};
+ghost use Rattle.wiring.specs.Sizes.{IsWidth};
+ghost use Rattle.net_build.specs.Includes.{Includes};
+ghost use Rattle.net_build.specs.Draft.{IsNet};
+ghost use Rattle.net_build.specs.Logic.{AddsLogic, Computes};
+ghost use Rattle.net_build.specs.Counters.{AddsControl};
+ghost use Rattle.circuit.specs.Rounds.{type_at};
+ghost use Rattle.circuit.specs.Leaves.{leaf_at};
+ghost use Rattle.circuit.specs.Taps.{IsReading};
+ghost use Rattle.circuit.specs.Reads.{HasPosition, ChoosesAlso, Chooses, IsReadNet, IsNetOf, reads_in, atom_of_choice, choice_nets, chosen_by};
+
+use crate::positions::test_at;
+use crate::reader::{Reader, tap_of, type_of};
+use dk_base::{LiveRead, Memory, Ty};
+use edge_select::{Extent, Pixel, Step, passing};
+use net_build::{Builder, gate, number};
+use wiring::{Atom, Net, Right};
+
+// What a right side of so many bits has for a choice.
+fn atom_of(bits: u8, choice: Option<Net>) -> Atom<Net>
+    requires { IsWidth bits }
+    ensures { result ≡ atom_of_choice bits choice }
+{
+    match choice {
+        Some(net) => Atom::Net(net),
+        None => number(bits, 0),
+    }
+}
+
+// The tap where a test passes, and else what was chosen before, or 0.
+fn chosen_by(
+    b: &mut Builder,
+    test: Net,
+    tap: Net,
+    before: Option<Net>,
+    bits: u8,
+) -> Result<Net, Memory>
+    requires bits { IsWidth bits }
+    requires test { IsNet b.old test }
+    requires one_bit { net_width b.old test ≡ 1 }
+    requires tap { IsNet b.old tap }
+    requires tap_width { net_width b.old tap ≡ bits }
+    requires before { IfSome before (IsNet b.old) }
+    requires before_width { IfSome before (λ n. net_width b.old n ≡ bits) }
+    ensures logic { AddsLogic b.new b.old }
+    ensures net { IfOk result (Computes b.new b.old (test ∷ (tap ∷ choice_nets before)) bits (chosen_by test tap before)) }
+{
+    let rest = atom_of(bits, before);
+    let net = gate(b, Right::Choose(Atom::Net(test), Atom::Net(tap), rest))?;
+    Ok(net)
+}
+
+// The choice with the tap of one more read of the image.
+fn with_tap(
+    b: &mut Builder,
+    reader: &Reader,
+    made: &mut Option<Pixel>,
+    steps: &[Step],
+    read: LiveRead,
+    before: Option<Net>,
+) -> Result<Option<Net>, Memory>
+    requires reading { IsReading b.old reader.now.ir.now reader.now.plan.now reader.now.taps.now reader.now.image }
+    requires made { IfSome made.old (HasPosition b.old reader.now.plan.now reader.now.image) }
+    requires read { Contains (reads_in reader.now.plan.now reader.now.image) read }
+    requires before { IfSome before (IsNet b.old) }
+    requires before_width { IfSome before (λ n. net_width b.old n ≡ width_of (type_at reader.now.ir.now read.g)) }
+    ensures adds { OnOk result (AddsControl b.new b.old) }
+    ensures made { OnOk result (IfSome made.new (HasPosition b.new reader.now.plan.now reader.now.image)) }
+    ensures choice { IfOk result (ChoosesAlso b.new b.old reader.now.ir.now reader.now.plan.now reader.now.taps.now reader.now.image (leaf_at read.g steps.now) read before) }
+{
+    let plan = reader.plan;
+    plan.law();
+    let tap = tap_of(plan, reader.taps, read);
+    match passing(plan.columns(), plan.rows(), steps, read.dx, read.dy) {
+        Extent::Never => Ok(before),
+        Extent::Always => Ok(Some(tap)),
+        Extent::Sometimes => {
+            let test = test_at(b, plan, reader.image, made, steps, read.dx, read.dy)?;
+            let net = chosen_by(b, test, tap, before, plan.width(read.g))?;
+            Ok(Some(net))
+        }
+    }
+}
+
+// The choice with one more read, be it of the image or not.
+fn with_read(
+    b: &mut Builder,
+    reader: &Reader,
+    made: &mut Option<Pixel>,
+    steps: &[Step],
+    g: u32,
+    read: LiveRead,
+    before: Option<Net>,
+) -> Result<Option<Net>, Memory>
+    requires reading { IsReading b.old reader.now.ir.now reader.now.plan.now reader.now.taps.now reader.now.image }
+    requires made { IfSome made.old (HasPosition b.old reader.now.plan.now reader.now.image) }
+    requires read { Contains (reads_in reader.now.plan.now reader.now.image) read }
+    requires before { IfSome before (IsNet b.old) }
+    requires before_width { IfSome before (λ n. net_width b.old n ≡ width_of (type_at reader.now.ir.now g)) }
+    ensures adds { OnOk result (AddsControl b.new b.old) }
+    ensures made { OnOk result (IfSome made.new (HasPosition b.new reader.now.plan.now reader.now.image)) }
+    ensures choice { IfOk result (ChoosesAlso b.new b.old reader.now.ir.now reader.now.plan.now reader.now.taps.now reader.now.image (leaf_at g steps.now) read before) }
+{
+    if read.g != g {
+        return Ok(before);
+    }
+    let choice = with_tap(b, reader, made, steps, read, before)?;
+    Ok(choice)
+}
+
+// The choice among all live reads of image g.
+fn choice_of(
+    b: &mut Builder,
+    reader: &Reader,
+    made: &mut Option<Pixel>,
+    steps: &[Step],
+    g: u32,
+) -> Result<Option<Net>, Memory>
+    requires reading { IsReading b.old reader.now.ir.now reader.now.plan.now reader.now.taps.now reader.now.image }
+    requires made { IfSome made.old (HasPosition b.old reader.now.plan.now reader.now.image) }
+    ensures adds { OnOk result (AddsControl b.new b.old) }
+    ensures made { OnOk result (IfSome made.new (HasPosition b.new reader.now.plan.now reader.now.image)) }
+    ensures choice { IfOk result (Chooses b.new b.old reader.now.ir.now reader.now.plan.now reader.now.taps.now reader.now.image (leaf_at g steps.now)) }
+{
+    let mut choice = None;
+    for read in reader.plan.reads(reader.image) {
+        choice = with_read(b, reader, made, steps, g, *read, choice)?;
+    }
+    Ok(choice)
+}
+
+// The net of a choice, or one that is 0.
+fn net_of(b: &mut Builder, bits: u8, choice: Option<Net>) -> Result<Net, Memory>
+    requires bits { IsWidth bits }
+    ensures logic { AddsLogic b.new b.old }
+    ensures net { IfOk result (IsNetOf b.new b.old bits choice) }
+{
+    match choice {
+        Some(net) => Ok(net),
+        None => {
+            let net = gate(b, Right::Copy(number(bits, 0)))?;
+            Ok(net)
+        }
+    }
+}
+
+/// The net of a read of image g by the reader, at the end of these steps. It has the type of image g.
+pub fn read_net(
+    b: &mut Builder,
+    reader: &Reader,
+    made: &mut Option<Pixel>,
+    steps: &[Step],
+    g: u32,
+) -> Result<(Ty, Net), Memory>
+    requires reading { IsReading b.old reader.now.ir.now reader.now.plan.now reader.now.taps.now reader.now.image }
+    requires made { IfSome made.old (HasPosition b.old reader.now.plan.now reader.now.image) }
+    requires earlier { g < reader.now.image }
+    ensures adds { OnOk result (AddsControl b.new b.old) }
+    ensures made { OnOk result (IfSome made.new (HasPosition b.new reader.now.plan.now reader.now.image)) }
+    ensures ty { IfOk result (λ n. n.0 ≡ type_at reader.now.ir.now g) }
+    ensures net { IfOk result (λ n. (first : Netlist) → Includes b.old first → IsReadNet b.new first reader.now.plan.now reader.now.taps.now reader.now.image (leaf_at g steps.now) (width_of n.0) n.1) }
+{
+    reader.ir.law();
+    let ty = type_of(reader.ir, g);
+    let choice = choice_of(b, reader, made, steps, g)?;
+    let net = net_of(b, ty.width(), choice)?;
+    Ok((ty, net))
+}

@@ -1,0 +1,67 @@
+// The module of a circuit, once all its images are built.
+
+ghost use Rattle.std.specs.Prelude.{◌≡◌, ℕ, ◌<◌, IfOk, length};
+ghost use Rattle.wiring.specs.BufferBits.{IsBufferBits};
+ghost use Rattle.net_build.specs.Indices.{read_indices, put_indices};
+ghost use Rattle.net_build.specs.Runs.{IsWhole, RunsOn};
+ghost use Rattle.pointwise_ir.specs.Stencils.{AreStencilsOf};
+ghost use Rattle.buffer_plan.specs.Plans.{bits_of};
+ghost use Rattle.circuit.specs.Forms.{shapes_of};
+ghost use Rattle.circuit.specs.Images.{AreBuilt};
+ghost use Rattle.circuit.specs.Behaviour.{HasPorts, Behaves, IsApart};
+ghost use Rattle.circuit.specs.Ends.{CanEnd, IsClosed};
+
+use crate::forms::BufferForm;
+use crate::outs::all_outs;
+use crate::taps::Taps;
+use buffer_plan::Plan;
+use dk_base::Memory;
+use net_build::Builder;
+use netlist::Module;
+use pointwise_ir::Ir;
+use std::alloc::Global;
+use wiring::Net;
+
+/// A module, and the net of each kept image in order.
+#[derive(Drop)]
+pub struct Built {
+    pub module: Module,
+    pub nets: Vec<Net>,
+}
+
+// The module of a builder that can end.
+fn closed(alloc: Global, mut b: Builder, plan: &Plan, nets: &[Net]) -> Result<Module, Memory>
+    requires ends { CanEnd b plan.now nets.now }
+    ensures closed { IfOk result (λ m. IsClosed m.netlist b plan.now nets.now) }
+{
+    let outs = all_outs(alloc, &mut b, plan, nets)?;
+    b.law();
+    let module = b.finish_all(&outs)?;
+    Ok(module)
+}
+
+/// The module of a builder in which all kept images are built: its outputs are driven.
+pub fn finished<F: BufferForm>(
+    alloc: Global,
+    b: Builder,
+    ir: &Ir,
+    plan: &Plan,
+    form: &F,
+    nets: Vec<Net>,
+    taps: &[Taps],
+) -> Result<Built, Memory>
+    requires stencils { AreStencilsOf ir.now plan.now.system.stencils }
+    requires built { AreBuilt b ir.now plan.now (F.shapes form.now) (F.places form.now) (F.property form.now) (length plan.now.system.stencils.images) nets.items taps.now }
+    ensures ports { IfOk result (λ r. HasPorts r.module.netlist ir.now b.enable) }
+    ensures whole { IfOk result (λ r. IsWhole r.module.netlist r.module.netlist) }
+    ensures runs { IfOk result (λ r. RunsOn r.module.netlist) }
+    ensures behaves { IfOk result (λ r. Behaves r.module.netlist ir.now plan.now (F.places form.now) r.nets.items) }
+    ensures bits { IfOk result (λ r. IsBufferBits r.module.netlist (bits_of plan.now)) }
+    ensures arrays { IfOk result (λ r. r.module.netlist.arrays ≡ shapes_of (F.shapes form.now) plan.now plan.now.system.stencils.images) }
+    ensures property { IfOk result (λ r. (x : ℕ) → x < length r.module.netlist.arrays → F.property form.now (read_indices r.module.netlist x) (put_indices r.module.netlist x)) }
+    ensures apart { IfOk result (λ r. IsApart r.module.netlist ir.now plan.now (F.shapes form.now) r.nets.items) }
+{
+    plan.law();
+    let module = closed(alloc, b, plan, &nets)?;
+    Ok(Built { module, nets })
+}

@@ -1,0 +1,55 @@
+// The nets of images.
+
+ghost use Rattle.std.specs.Prelude.{IfOk, OnOk};
+ghost use Rattle.pointwise_ir.specs.Trees.{tree_of};
+ghost use Rattle.pointwise_ir.specs.Programs.{IsBody};
+ghost use Rattle.net_build.specs.Includes.{Includes};
+ghost use Rattle.net_build.specs.Counters.{AddsControl};
+ghost use Rattle.circuit.specs.Taps.{IsReading};
+ghost use Rattle.circuit.specs.Images.{IsImageNet, ports_of};
+
+use crate::leaves::push_leaves;
+use crate::reader::Reader;
+use datapath::{Leaves, lower};
+use dk_base::Memory;
+use net_build::Builder;
+use pointwise_ir::Expr;
+use std::alloc::Global;
+use wiring::Net;
+
+// The net of an image's body.
+fn body_net(alloc: Global, b: &mut Builder, reader: &Reader, body: &Expr) -> Result<Net, Memory>
+    requires reading { IsReading b.old reader.now.ir.now reader.now.plan.now reader.now.taps.now reader.now.image }
+    requires body { IsBody reader.now.ir.now reader.now.image (tree_of body.now) }
+    ensures adds { OnOk result (AddsControl b.new b.old) }
+    ensures net { IfOk result (IsImageNet b.new b.old reader.now.ir.now reader.now.plan.now reader.now.taps.now reader.now.image) }
+{
+    reader.ir.law();
+    reader.plan.law();
+    let mut made = None;
+    let mut steps = Vec::new(alloc);
+    let mut leaves = Leaves {
+        reads: Vec::new(alloc),
+        bits: Vec::new(alloc),
+    };
+    push_leaves(body, b, reader, &mut made, &mut steps, &mut leaves)?;
+    let net = lower(body, b, &leaves)?;
+    Ok(net)
+}
+
+/// The net of an image: the `din` of an input, and else the net of its body over the taps of the images before it.
+pub fn image_net(alloc: Global, b: &mut Builder, reader: &Reader) -> Result<Net, Memory>
+    requires reading { IsReading b.old reader.now.ir.now reader.now.plan.now reader.now.taps.now reader.now.image }
+    requires ports { Includes b.old (ports_of reader.now.ir.now b.old.enable) }
+    ensures adds { OnOk result (AddsControl b.new b.old) }
+    ensures net { IfOk result (IsImageNet b.new b.old reader.now.ir.now reader.now.plan.now reader.now.taps.now reader.now.image) }
+{
+    reader.ir.law();
+    let inputs = reader.ir.inputs().len();
+    let place = reader.image as usize;
+    if place < inputs {
+        return Ok(b.din_at(place));
+    }
+    let net = body_net(alloc, b, reader, &reader.ir.images()[place - inputs].body)?;
+    Ok(net)
+}

@@ -1,0 +1,133 @@
+// The leaves of an expression, in the order of its nodes.
+
+ghost use Rattle.std.specs.Prelude.{◌≡◌, ◌++◌, ◌∷◌, [], ◌<◌, IfSome, OnOk};
+ghost use Rattle.pointwise_ir.specs.Trees.{tree_of};
+ghost use Rattle.net_build.specs.Counters.{AddsControl};
+ghost use Rattle.circuit.specs.Leaves.{reads_of, bits_of, own_bit, ReadsBefore};
+ghost use Rattle.circuit.specs.Taps.{IsReading};
+ghost use Rattle.circuit.specs.Reads.{HasPosition, AddsLeaves};
+
+use crate::choices::read_net;
+use crate::positions::test_on;
+use crate::reader::Reader;
+use datapath::Leaves;
+use dk_base::Memory;
+use edge_select::{Pixel, Step};
+use net_build::Builder;
+use pointwise_ir::{Edge, Expr};
+
+// A read that stands at the end of these steps, with its own step.
+fn push_read(
+    b: &mut Builder,
+    reader: &Reader,
+    made: &mut Option<Pixel>,
+    steps: &mut Vec<Step>,
+    step: Step,
+    g: u32,
+    leaves: &mut Leaves,
+) -> Result<(), Memory>
+    requires reading { IsReading b.old reader.now.ir.now reader.now.plan.now reader.now.taps.now reader.now.image }
+    requires made { IfSome made.old (HasPosition b.old reader.now.plan.now reader.now.image) }
+    requires earlier { g < reader.now.image }
+    ensures adds { OnOk result (AddsControl b.new b.old) }
+    ensures made { OnOk result (IfSome made.new (HasPosition b.new reader.now.plan.now reader.now.image)) }
+    ensures steps { OnOk result (steps.new.items ≡ steps.old.items) }
+    ensures leaves { OnOk result (AddsLeaves b.new b.old reader.now.ir.now reader.now.plan.now reader.now.taps.now reader.now.image ((record { image = g; steps = steps.old.items ++ step ∷ [] }) ∷ []) [] leaves.new leaves.old) }
+{
+    steps.push(step)?;
+    let net = read_net(b, reader, made, steps, g)?;
+    leaves.reads.push(net)?;
+    steps.pop();
+    Ok(())
+}
+
+// The test of a shifted part that stands at the end of these steps; a clamped one has none.
+fn push_test(
+    b: &mut Builder,
+    reader: &Reader,
+    made: &mut Option<Pixel>,
+    steps: &[Step],
+    edge: Edge,
+    leaves: &mut Leaves,
+) -> Result<(), Memory>
+    requires reading { IsReading b.old reader.now.ir.now reader.now.plan.now reader.now.taps.now reader.now.image }
+    requires made { IfSome made.old (HasPosition b.old reader.now.plan.now reader.now.image) }
+    ensures adds { OnOk result (AddsControl b.new b.old) }
+    ensures made { OnOk result (IfSome made.new (HasPosition b.new reader.now.plan.now reader.now.image)) }
+    ensures leaves { OnOk result (AddsLeaves b.new b.old reader.now.ir.now reader.now.plan.now reader.now.taps.now reader.now.image [] (own_bit edge steps.now) leaves.new leaves.old) }
+{
+    match edge {
+        Edge::Zero => {
+            let net = test_on(b, reader.plan, reader.image, made, steps)?;
+            leaves.bits.push(net)?;
+            Ok(())
+        }
+        Edge::Clamp => Ok(()),
+    }
+}
+
+// A law, called where the leaves of a part come after others: what they need is known there.
+fn still(b: &Builder, reader: &Reader)
+    requires { IsReading b.now reader.now.ir.now reader.now.plan.now reader.now.taps.now reader.now.image }
+    ensures { IsReading b.now reader.now.ir.now reader.now.plan.now reader.now.taps.now reader.now.image }
+{}
+
+/// Adds the nets of the leaves of an expression that stands at the end of these steps. It calls itself as deep as the expression is.
+pub fn push_leaves(
+    e: &Expr,
+    b: &mut Builder,
+    reader: &Reader,
+    made: &mut Option<Pixel>,
+    steps: &mut Vec<Step>,
+    leaves: &mut Leaves,
+) -> Result<(), Memory>
+    requires reading { IsReading b.old reader.now.ir.now reader.now.plan.now reader.now.taps.now reader.now.image }
+    requires made { IfSome made.old (HasPosition b.old reader.now.plan.now reader.now.image) }
+    requires earlier { ReadsBefore reader.now.image (tree_of e.now) }
+    ensures adds { OnOk result (AddsControl b.new b.old) }
+    ensures made { OnOk result (IfSome made.new (HasPosition b.new reader.now.plan.now reader.now.image)) }
+    ensures steps { OnOk result (steps.new.items ≡ steps.old.items) }
+    ensures leaves { OnOk result (AddsLeaves b.new b.old reader.now.ir.now reader.now.plan.now reader.now.taps.now reader.now.image (reads_of (tree_of e.now) steps.old.items) (bits_of (tree_of e.now) steps.old.items) leaves.new leaves.old) }
+{
+    match e {
+        Expr::Constant(_, _) => Ok(()),
+        Expr::Read(edge, g, dx, dy) => {
+            let step = Step {
+                edge: *edge,
+                dx: *dx,
+                dy: *dy,
+            };
+            push_read(b, reader, made, steps, step, *g, leaves)
+        }
+        Expr::Shifted(edge, dx, dy, body) => {
+            let step = Step {
+                edge: *edge,
+                dx: *dx,
+                dy: *dy,
+            };
+            steps.push(step)?;
+            push_test(b, reader, made, steps, *edge, leaves)?;
+            still(b, reader);
+            push_leaves(body, b, reader, made, steps, leaves)?;
+            steps.pop();
+            Ok(())
+        }
+        Expr::Unary(_, body) => push_leaves(body, b, reader, made, steps, leaves),
+        Expr::Binary(_, left, right) => {
+            push_leaves(left, b, reader, made, steps, leaves)?;
+            still(b, reader);
+            push_leaves(right, b, reader, made, steps, leaves)?;
+            Ok(())
+        }
+        Expr::Select(condition, first, second) => {
+            push_leaves(condition, b, reader, made, steps, leaves)?;
+            still(b, reader);
+            push_leaves(first, b, reader, made, steps, leaves)?;
+            still(b, reader);
+            push_leaves(second, b, reader, made, steps, leaves)?;
+            Ok(())
+        }
+        Expr::Convert(_, body, _) => push_leaves(body, b, reader, made, steps, leaves),
+        Expr::Scale(_, body, _) => push_leaves(body, b, reader, made, steps, leaves),
+    }
+}

@@ -1,0 +1,99 @@
+// The outputs of a circuit: for each when it is valid, and what it shows.
+
+ghost use Rattle.std.specs.Prelude.{◌≡◌, ℕ, ◌<◌, IfOk, OnOk, IfSome, IfNone, length};
+ghost use Rattle.net_build.specs.Counters.{AddsControl};
+ghost use Rattle.buffer_plan.specs.Plans.{latency_of};
+ghost use Rattle.circuit.specs.Behaviour.{net_of, AreOuts};
+ghost use Rattle.circuit.specs.Ends.{output_in, AreValids, IsValidOf, IsOut, IsSharedBy, AreShared};
+
+use crate::valid::valid_from;
+use buffer_plan::Plan;
+use dk_base::Memory;
+use net_build::Builder;
+use std::alloc::Global;
+use wiring::Net;
+
+// An output before the one at k that has its latency.
+fn same_latency(plan: &Plan, k: usize) -> Option<usize>
+    requires within { k < length plan.now.system.stencils.outputs }
+    ensures earlier { IfSome result (λ j. j < k) }
+    ensures same { IfSome result (λ j. latency_of plan.now j ≡ latency_of plan.now k) }
+    ensures none { IfNone result ((j : ℕ) → j < k → latency_of plan.now j ≡ latency_of plan.now k → ⊥) }
+{
+    let latency = plan.latency_of(k);
+    for j in 0..k {
+        if plan.latency_of(j) == latency {
+            return Some(j);
+        }
+    }
+    None
+}
+
+// The valid of the output behind these: that of one of them, or a new one.
+fn valid_behind(b: &mut Builder, plan: &Plan, outs: &[(Net, Net)]) -> Result<Net, Memory>
+    requires within { length outs.now < length plan.now.system.stencils.outputs }
+    requires valids { AreValids b.old plan.now outs.now }
+    requires share { AreShared plan.now outs.now }
+    ensures adds { OnOk result (AddsControl b.new b.old) }
+    ensures valid { IfOk result (IsValidOf b.new plan.now (length outs.now)) }
+    ensures shared { IfOk result (IsSharedBy plan.now outs.now (length outs.now)) }
+{
+    match same_latency(plan, outs.len()) {
+        Some(j) => Ok(outs[j].0),
+        None => {
+            let net = valid_from(b, plan.latency_of(outs.len()))?;
+            Ok(net)
+        }
+    }
+}
+
+// The net of an output's image.
+fn dout_at(plan: &Plan, nets: &[Net], k: usize) -> Net
+    requires count { length nets.now ≡ length plan.now.system.stencils.images }
+    requires within { k < length plan.now.system.stencils.outputs }
+    ensures { result ≡ net_of plan.now nets.now (output_in plan.now k) }
+{
+    plan.law();
+    let g = plan.outputs()[k];
+    nets[plan.place(g)]
+}
+
+// The output behind these.
+fn out_behind(
+    b: &mut Builder,
+    plan: &Plan,
+    nets: &[Net],
+    outs: &[(Net, Net)],
+) -> Result<(Net, Net), Memory>
+    requires count { length nets.now ≡ length plan.now.system.stencils.images }
+    requires within { length outs.now < length plan.now.system.stencils.outputs }
+    requires outs { AreOuts b.old plan.now nets.now (length outs.now) outs.now }
+    requires share { AreShared plan.now outs.now }
+    ensures adds { OnOk result (AddsControl b.new b.old) }
+    ensures out { IfOk result (IsOut b.new plan.now nets.now (length outs.now)) }
+    ensures shared { IfOk result (λ out. IsSharedBy plan.now outs.now (length outs.now) out.0) }
+{
+    let valid = valid_behind(b, plan, outs)?;
+    let dout = dout_at(plan, nets, outs.len());
+    Ok((valid, dout))
+}
+
+/// For each output of a plan its valid and its dout, the net of its image. Outputs of one latency share their valid.
+pub fn all_outs(
+    alloc: Global,
+    b: &mut Builder,
+    plan: &Plan,
+    nets: &[Net],
+) -> Result<Vec<(Net, Net)>, Memory>
+    requires count { length nets.now ≡ length plan.now.system.stencils.images }
+    ensures adds { OnOk result (AddsControl b.new b.old) }
+    ensures outs { IfOk result (λ outs. AreOuts b.new plan.now nets.now (length plan.now.system.stencils.outputs) outs.items) }
+    ensures share { IfOk result (λ outs. AreShared plan.now outs.items) }
+{
+    let mut outs = Vec::new(alloc);
+    for _ in plan.outputs() {
+        let out = out_behind(b, plan, nets, &outs)?;
+        outs.push(out)?;
+    }
+    Ok(outs)
+}

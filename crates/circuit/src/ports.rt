@@ -1,0 +1,53 @@
+// The ports of a program's module.
+
+ghost use Rattle.std.specs.Prelude.{◌≡◌, [], IfOk, map};
+ghost use Rattle.dk_base.specs.Types.{width_of};
+ghost use Rattle.net_build.specs.Draft.{AllUpdated};
+ghost use Rattle.net_build.specs.Runs.{StillBut, NeverStops};
+ghost use Rattle.net_build.specs.Control.{IsControlled};
+ghost use Rattle.circuit.specs.Rounds.{type_at};
+ghost use Rattle.circuit.specs.Images.{ports_of};
+
+use crate::reader::type_of;
+use dk_base::Memory;
+use net_build::Builder;
+use pointwise_ir::Ir;
+use std::alloc::Global;
+
+// The width of each input.
+fn din_bits(alloc: Global, ir: &Ir) -> Result<Vec<u8>, Memory>
+    ensures { IfOk result (λ bits. bits.items ≡ map (λ i. width_of i.ty) ir.now.inputs) }
+{
+    let mut bits = Vec::new(alloc);
+    for input in ir.inputs() {
+        bits.push(input.ty.width())?;
+    }
+    Ok(bits)
+}
+
+// The width of each output.
+fn dout_bits(alloc: Global, ir: &Ir) -> Result<Vec<u8>, Memory>
+    ensures { IfOk result (λ bits. bits.items ≡ map (λ g. width_of (type_at ir.now g)) ir.now.outputs) }
+{
+    ir.law();
+    let mut bits = Vec::new(alloc);
+    for image in ir.outputs() {
+        bits.push(type_of(ir, *image).width())?;
+    }
+    Ok(bits)
+}
+
+/// A builder with the ports of a program, and nothing else.
+pub fn begun(alloc: Global, ir: &Ir, enable: bool) -> Result<Builder, Memory>
+    ensures ports { IfOk result (λ b. b ≡ ports_of ir.now enable) }
+    ensures updated { IfOk result AllUpdated }
+    ensures still { IfOk result (λ b. StillBut b []) }
+    ensures stops { IfOk result NeverStops }
+    ensures control { IfOk result IsControlled }
+{
+    ir.law();
+    let dins = din_bits(alloc, ir)?;
+    let douts = dout_bits(alloc, ir)?;
+    let b = Builder::with_ports(alloc, enable, &dins, &douts)?;
+    Ok(b)
+}

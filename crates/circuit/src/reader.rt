@@ -1,0 +1,61 @@
+// An image that reads others.
+
+ghost use Rattle.std.specs.Prelude.{◌≡◌, ◌<◌, Some, Contains, length, slice_get, slice_index, slice_index_or, []};
+ghost use Rattle.std.specs.List.Sorted.{IsStrictlyIncreasing};
+ghost use Rattle.pointwise_ir.specs.Programs.{types_of};
+ghost use Rattle.buffer_plan.specs.Plans.{place_in, ages_of};
+ghost use Rattle.circuit.specs.Rounds.{type_at};
+ghost use Rattle.circuit.specs.Taps.{taps_at, IsTapOf};
+
+use crate::taps::Taps;
+use buffer_plan::Plan;
+use dk_base::{LiveRead, Ty};
+use pointwise_ir::Ir;
+use wiring::Net;
+
+/// An image that reads others, by its number, and the taps of the kept images before it, in order.
+#[derive(Clone, Copy)]
+pub struct Reader<'a> {
+    pub ir: &'a Ir,
+    pub plan: &'a Plan,
+    pub taps: &'a [Taps],
+    pub image: u32,
+}
+
+/// The type of an image.
+pub fn type_of(ir: &Ir, g: u32) -> Ty
+    requires { g < length (types_of ir.now) }
+    ensures { result ≡ type_at ir.now g }
+{
+    let inputs = ir.inputs();
+    let place = g as usize;
+    if place < inputs.len() {
+        return inputs[place].ty;
+    }
+    ir.images()[place - inputs.len()].ty
+}
+
+// Where an age stands among the ages of an image.
+fn place_of_age(ages: &[u64], age: u64) -> usize
+    requires ascending { IsStrictlyIncreasing ages.now }
+    requires there { Contains ages.now age }
+    ensures { slice_get ages.now result ≡ Some age }
+{
+    match ages.binary_search(&age) {
+        Ok(place) => place,
+        Err(_) => 0,
+    }
+}
+
+/// The tap of a live read.
+pub fn tap_of(plan: &Plan, taps: &[Taps], read: LiveRead) -> Net
+    requires read { Contains plan.now.system.stencils.reads read }
+    requires there { place_in plan.now read.g < length taps.now }
+    requires one_each { length (taps_at plan.now taps.now read.g) ≡ length (ages_of plan.now read.g) }
+    ensures { IsTapOf plan.now taps.now read result }
+{
+    plan.law();
+    let age = plan.age(read);
+    let place = place_of_age(plan.ages(read.g), age);
+    taps[plan.place(read.g)].nets()[place]
+}

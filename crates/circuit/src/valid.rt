@@ -1,0 +1,30 @@
+// When pixels leave.
+
+ghost use Rattle.std.specs.Prelude.{◌≡◌, IfOk, OnOk};
+ghost use Rattle.wiring.specs.Netlist.{net_width};
+ghost use Rattle.net_build.specs.Draft.{IsNet};
+ghost use Rattle.net_build.specs.Counters.{AddsControl};
+ghost use Rattle.circuit.specs.Behaviour.{IsStarted};
+
+use dk_base::Memory;
+use net_build::{Builder, gate, started};
+use wiring::{Atom, Net, Operator, Right};
+
+/// A net that is 1 in each counted clock from a latency on, in clocks since the last reset, and 0 in each other.
+pub fn valid_from(b: &mut Builder, latency: u64) -> Result<Net, Memory>
+    ensures adds { OnOk result (AddsControl b.new b.old) }
+    ensures net { IfOk result (IsNet b.new) }
+    ensures width { IfOk result (λ n. net_width b.new n ≡ 1) }
+    ensures valid { IfOk result (IsStarted b.new latency) }
+{
+    let begun = started(b, latency)?;
+    if b.has_en() {
+        let en = b.en();
+        let net = gate(
+            b,
+            Right::Binary(Operator::And, Atom::Net(en), Atom::Net(begun)),
+        )?;
+        return Ok(net);
+    }
+    Ok(begun)
+}
