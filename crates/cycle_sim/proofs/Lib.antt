@@ -14,4 +14,3 @@ pub mod Given
 pub mod RunsJoin
 pub mod Fitted
 pub mod Exactly
-pub mod Masks

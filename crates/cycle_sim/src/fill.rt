@@ -5,9 +5,9 @@ ghost use Rattle.wiring.specs.declared.netlist.Shape.{Shape};
 ghost use Rattle.cycle_sim.specs.Slots.{words_of};
 ghost use Rattle.cycle_sim.specs.Filled.{fill_value, filled_words};
 
-use crate::evaluate::limit;
 use netlist::{Shape, Width};
 use std::alloc::{AllocError, Global};
+use wiring::limit;
 
 /// What registers and words hold at power-up: all bits 0, or all bits 1.
 #[derive(Clone, Copy, Debug, PartialEq, Eq)]

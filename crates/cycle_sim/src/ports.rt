@@ -6,8 +6,8 @@ ghost use Rattle.wiring.specs.Rules.{KeepsRules};
 ghost use Rattle.wiring.specs.Snapshot.{Fit};
 ghost use Rattle.cycle_sim.specs.Ports.{din_widths, out_of};
 
-use crate::evaluate::limit;
 use netlist::{Width, Wiring};
+use wiring::limit;
 
 /// What the two ports of an output show.
 #[derive(Clone, Copy, Debug, PartialEq, Eq)]

@@ -11,7 +11,7 @@ ghost use Rattle.datapath.specs.Nets.{HasWidth, IsWord, IsMadeOver, IsKnown, Are
 use crate::ends::all_ones;
 use crate::operand::Signal;
 use net_build::Builder;
-use wiring::Operator;
+use wiring::{Operator, join_value, low_bits, operator_value};
 
 /// The constant of `width` bits of this value.
 pub(crate) fn constant(width: u8, value: u64) -> Signal
@@ -57,41 +57,6 @@ pub(crate) fn known(x: Signal) -> Option<u64>
     }
 }
 
-// The first number that does not fit so many bits.
-fn limit(width: u8) -> u128
-    requires { width ≤ 64 }
-    ensures { result ≡ 2 ^ width }
-{
-    1 << width
-}
-
-// The low bits of a number.
-fn low_bits(x: u128, width: u8) -> u64
-    requires { width ≤ 64 }
-    ensures { result ≡ x % 2 ^ width }
-{
-    (x % limit(width)) as u64
-}
-
-// Two numbers of so many bits under an operator.
-fn evaluated(operator: Operator, width: u8, a: u64, b: u64) -> u64
-    requires narrow { width ≤ 64 }
-    requires divisor { operator ≡ Operator.Divide → 0 < b }
-    ensures { result ≡ operator_value operator width a b }
-{
-    match operator {
-        Operator::Add => low_bits(a as u128 + b as u128, width),
-        Operator::Subtract => low_bits((a as u128 + limit(width)).saturating_sub(b as u128), width),
-        Operator::Multiply => low_bits(a as u128 * b as u128, width),
-        Operator::Divide => a / b,
-        Operator::Less => u64::from(a < b),
-        Operator::Equal => u64::from(a == b),
-        Operator::And => a & b,
-        Operator::Or => a | b,
-        Operator::Xor => a ^ b,
-    }
-}
-
 // The width of what an operator gives.
 fn evaluated_width(operator: Operator, width: u8) -> u8
     ensures { result ≡ operator_width operator width }
@@ -100,15 +65,6 @@ fn evaluated_width(operator: Operator, width: u8) -> u8
         Operator::Less | Operator::Equal => 1,
         _ => width,
     }
-}
-
-// A number above another one of so many bits.
-fn above(high: u64, low: u8, rest: u64) -> u64
-    requires narrow { low ≤ 64 }
-    requires fits { high * 2 ^ low + rest < 2 ^ 64 }
-    ensures { result ≡ high * 2 ^ low + rest }
-{
-    (high as u128 * limit(low) + rest as u128) as u64
 }
 
 // So many copies of a bit.
@@ -142,7 +98,7 @@ pub(crate) fn folded(
 {
     let left = known(x)?;
     let right = known(y)?;
-    let value = evaluated(operator, width, left, right);
+    let value = operator_value(operator, width, left, right);
     Some(constant(evaluated_width(operator, width), value))
 }
 
@@ -159,7 +115,7 @@ pub(crate) fn folded_join(b: &Builder, high: u8, x: Signal, low: u8, y: Signal) 
 {
     let left = known(x)?;
     let right = known(y)?;
-    let value = above(left, low, right);
+    let value = join_value(left, low, right);
     Some(constant(high + low, value))
 }
 

@@ -9,6 +9,7 @@ mod netlist;
 mod order;
 mod right;
 mod size;
+mod values;
 
 pub use buffer::buffer_bits;
 pub use drivers::{Drivers, TableFault, Updaters, drivers_of, updaters_of};
@@ -20,6 +21,7 @@ pub use netlist::{Assign, Holder, Net, Shape, Update, Wiring};
 pub use order::{OrderFault, evaluation_order};
 pub use right::{Atom, Operator, Right};
 pub use size::{Constant, Depth, Width};
+pub use values::{join_value, limit, low_bits, operator_value};
 
 /// The greatest width, in bits.
 pub const MOST_BITS: u8 = 64;

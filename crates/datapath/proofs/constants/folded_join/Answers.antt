@@ -3,13 +3,13 @@ use Rattle.datapath.specs.Nets.{bits_of}
 use Rattle.datapath.proofs.Known.{narrow_fits, join_fits, constant_word, two_known}
 use Rattle.datapath.proofs.constants.folded_join.Goals as goal
 
-pub above-value-requires-clause-fits : goal.above-value-requires-clause-fits
-above-value-requires-clause-fits c = narrow_fits _ _ c.requires.most (join_fits _ c.args.x c.args.y c.args.high c.args.low _ _ c.requires.x c.requires.y (sym c.in_ok-left.ensures.value) (sym c.in_ok-right.ensures.value))
+pub join_value-value-requires-clause-fits : goal.join_value-value-requires-clause-fits
+join_value-value-requires-clause-fits c = narrow_fits _ _ c.requires.most (join_fits _ c.args.x c.args.y c.args.high c.args.low _ _ c.requires.x c.requires.y (sym c.in_ok-left.ensures.value) (sym c.in_ok-right.ensures.value))
 
 pub constant-requires-clause-fits : goal.constant-requires-clause-fits
-constant-requires-clause-fits c = subst (λ (n : ℕ). n < 2 ^ (c.args.high + c.args.low)) (sym c.above-value.ensures) (join_fits _ c.args.x c.args.y c.args.high c.args.low _ _ c.requires.x c.requires.y (sym c.in_ok-left.ensures.value) (sym c.in_ok-right.ensures.value))
+constant-requires-clause-fits c = subst (λ (n : ℕ). n < 2 ^ (c.args.high + c.args.low)) (sym c.join_value-value.ensures) (join_fits _ c.args.x c.args.y c.args.high c.args.low _ _ c.requires.x c.requires.y (sym c.in_ok-left.ensures.value) (sym c.in_ok-right.ensures.value))
 
 pub returns-clause-word : goal.returns-clause-word
 returns-clause-word c =
     constant_word _ _ _ _ _ (λ s. bits_of s c.args.x * 2 ^ c.args.low + bits_of s c.args.y) c.constant.ensures.is refl (c.constant.ensures.width _)
-    (λ s. c.above-value.ensures ∙ two_known (λ p q. p * 2 ^ c.args.low + q) c.args.x c.args.y _ _ s (sym c.in_ok-left.ensures.value) (sym c.in_ok-right.ensures.value))
+    (λ s. c.join_value-value.ensures ∙ two_known (λ p q. p * 2 ^ c.args.low + q) c.args.x c.args.y _ _ s (sym c.in_ok-left.ensures.value) (sym c.in_ok-right.ensures.value))
