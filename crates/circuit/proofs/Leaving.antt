@@ -13,8 +13,8 @@ use Rattle.net_build.proofs.Grown.{net_more, width_more}
 use Rattle.net_build.proofs.Runs.{clock_more}
 use Rattle.net_build.proofs.Updating.{all_updated}
 use Rattle.buffer_plan.specs.Plans.{Parts, latency_of}
-use Rattle.circuit.specs.Behaviour.{net_of, IsStarted, AreOuts}
-use Rattle.circuit.specs.Ends.{output_in, IsValidOf, AreValids, IsOut, IsSharedBy, AreShared, CanEnd}
+use Rattle.circuit.specs.Behaviour.{net_of}
+use Rattle.circuit.specs.Ends.{IsStarted, AreOuts, output_in, IsValidOf, AreValids, IsOut, IsSharedBy, AreShared, CanEnd}
 
 -- a valid lasts
 started_more : (new old : Netlist) (latency : ℕ) (n : Net) → Includes new old → IsStarted old latency n → IsStarted new latency n

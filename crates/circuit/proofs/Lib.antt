@@ -21,3 +21,4 @@ pub mod Forming
 pub mod Leaving
 pub mod Behaving
 pub mod Adding
+pub mod Driven

@@ -13,7 +13,7 @@ use Rattle.net_build.specs.Includes.{Includes}
 use Rattle.net_build.specs.Logic.{IsGate}
 use Rattle.net_build.specs.Counters.{Starts}
 use Rattle.net_build.proofs.Runs.{clock_more, enable_shown}
-use Rattle.circuit.specs.Behaviour.{IsStarted}
+use Rattle.circuit.specs.Ends.{IsStarted}
 
 -- without en
 pub started_free : (b : Netlist) (latency : ℕ) (n : Net) → b.enable ≡ false → Starts b latency n → IsStarted b latency n

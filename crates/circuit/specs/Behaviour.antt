@@ -68,15 +68,3 @@ pub record Behaves (m : Netlist) (p : Program) (plan : Parts) (places : Places) 
 -- Where each read is at least one clock old, the net of a kept image that is no input is made of rst, en, registers and the arrays of the images of which it has a live read, so no path of assigns passes through two images.
 abbrev pub IsApart : Netlist → Program → Parts → Shapes → List Net → Type 0
 IsApart m p plan shapes nets = 1 ≤ plan.system.age → (f : ℕ) → Keeps plan f → length p.inputs ≤ f → IsMadeOf m (source_of shapes plan f m.enable) (OfNet (net_of plan nets f))
-
--- since a reset the net is 0 in each reset clock, each held clock and each counted clock below the latency, and 1 in each later one
-pub record IsStarted (b : Netlist) (latency : ℕ) (net : Net) : Type 0 where
-  pub started : InEachRun b (λ m before c s. IsTrue (was_reset (c ∷ before)) → net_value s net ≡ bit (is_valid m latency before c))
-
--- For each of the first n outputs its valid and its dout.
-pub record AreOuts (b : Netlist) (plan : Parts) (nets : List Net) (n : ℕ) (outs : List (Net × Net)) : Type 0 where
-  pub count : length outs ≡ n
-  pub dout : (k : ℕ) (out : Net × Net) → slice_get outs k ≡ Some out → out.1 ≡ net_of plan nets (slice_index plan.system.stencils.outputs k)
-  pub there : (k : ℕ) (out : Net × Net) → slice_get outs k ≡ Some out → IsNet b out.0
-  pub width : (k : ℕ) (out : Net × Net) → slice_get outs k ≡ Some out → net_width b out.0 ≡ 1
-  pub valid : (k : ℕ) (out : Net × Net) → slice_get outs k ≡ Some out → IsStarted b (latency_of plan k) out.0

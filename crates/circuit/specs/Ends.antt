@@ -1,15 +1,30 @@
 -- How a circuit ends: each output has its valid and the net of its image.
-use Rattle.std.specs.Prelude.{◌≡◌, ℕ, ◌<◌, List, [], length, slice_index, slice_get, Some}
+use Rattle.std.specs.Prelude.{◌≡◌, ℕ, ◌<◌, IsTrue, List, [], ◌∷◌, length, slice_index, slice_get, Some}
 use Rattle.wiring.specs.declared.netlist.Net.{Net}
 use Rattle.wiring.specs.Netlist.{Netlist, net_width}
 use Rattle.wiring.specs.Rules.{with_valids}
 use Rattle.wiring.specs.BufferBits.{IsBufferBits, array_bits}
+use Rattle.wiring.specs.Snapshot.{net_value}
+use Rattle.wiring.specs.Clock.{bit}
+use Rattle.wiring.specs.History.{was_reset}
 use Rattle.net_build.specs.Draft.{IsNet, IsDraft, UpdatedBut, flat, with_outputs}
-use Rattle.net_build.specs.Runs.{IsWhole, NeverStops, StillBut, RunsOn}
+use Rattle.net_build.specs.Runs.{IsWhole, NeverStops, StillBut, RunsOn, InEachRun}
 use Rattle.net_build.specs.Control.{IsControlled}
 use Rattle.net_build.specs.Counters.{AddsControl}
 use Rattle.buffer_plan.specs.Plans.{Parts, latency_of}
-use Rattle.circuit.specs.Behaviour.{net_of, IsStarted, AreOuts}
+use Rattle.circuit.specs.Behaviour.{net_of, is_valid}
+
+-- since a reset the net is 0 in each reset clock, each held clock and each counted clock below the latency, and 1 in each later one
+pub record IsStarted (b : Netlist) (latency : ℕ) (net : Net) : Type 0 where
+  pub started : InEachRun b (λ m before c s. IsTrue (was_reset (c ∷ before)) → net_value s net ≡ bit (is_valid m latency before c))
+
+-- For each of the first n outputs its valid and its dout.
+pub record AreOuts (b : Netlist) (plan : Parts) (nets : List Net) (n : ℕ) (outs : List (Net × Net)) : Type 0 where
+  pub count : length outs ≡ n
+  pub dout : (k : ℕ) (out : Net × Net) → slice_get outs k ≡ Some out → out.1 ≡ net_of plan nets (slice_index plan.system.stencils.outputs k)
+  pub there : (k : ℕ) (out : Net × Net) → slice_get outs k ≡ Some out → IsNet b out.0
+  pub width : (k : ℕ) (out : Net × Net) → slice_get outs k ≡ Some out → net_width b out.0 ≡ 1
+  pub valid : (k : ℕ) (out : Net × Net) → slice_get outs k ≡ Some out → IsStarted b (latency_of plan k) out.0
 
 -- the image of the k-th output
 abbrev pub output_in : Parts → (k : ℕ) → ℕ

@@ -7,3 +7,4 @@ pub mod Forms
 pub mod Images
 pub mod Behaviour
 pub mod Ends
+pub mod Driven

@@ -3,8 +3,8 @@
 ghost use Rattle.std.specs.Prelude.{◌≡◌, ℕ, ◌<◌, IfOk, OnOk, IfSome, IfNone, length};
 ghost use Rattle.net_build.specs.Counters.{AddsControl};
 ghost use Rattle.buffer_plan.specs.Plans.{latency_of};
-ghost use Rattle.circuit.specs.Behaviour.{net_of, AreOuts};
-ghost use Rattle.circuit.specs.Ends.{output_in, AreValids, IsValidOf, IsOut, IsSharedBy, AreShared};
+ghost use Rattle.circuit.specs.Behaviour.{net_of};
+ghost use Rattle.circuit.specs.Ends.{AreOuts, output_in, AreValids, IsValidOf, IsOut, IsSharedBy, AreShared};
 
 use crate::valid::valid_from;
 use buffer_plan::Plan;

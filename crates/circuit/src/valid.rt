@@ -4,7 +4,7 @@ ghost use Rattle.std.specs.Prelude.{◌≡◌, IfOk, OnOk};
 ghost use Rattle.wiring.specs.Netlist.{net_width};
 ghost use Rattle.net_build.specs.Draft.{IsNet};
 ghost use Rattle.net_build.specs.Counters.{AddsControl};
-ghost use Rattle.circuit.specs.Behaviour.{IsStarted};
+ghost use Rattle.circuit.specs.Ends.{IsStarted};
 
 use dk_base::Memory;
 use net_build::{Builder, gate, started};

@@ -18,7 +18,7 @@ use Rattle.dk_inline.specs.Nodes.{IsFirstDeep}
 use Rattle.dk_inline.specs.Answers.{IsWithin}
 use Rattle.dk_inline.specs.Answers as I
 use Rattle.dk_compile.specs.declared.fault.SourceFault.{SourceFault}
-use Rattle.dk_compile.specs.declared.fault.SourceFault.TheVariants.{Lex, Nest, Syntax, Depth, Types, Nodes, InlineDepth, Reads, Memory}
+use Rattle.dk_compile.specs.declared.fault.SourceFault.TheVariants.{Lex, Nest, Syntax, Depth, Types, Nodes, InlineDepth, Reads, Bits, Latency, Memory}
 use Rattle.dk_compile.specs.Faults.{of_parser}
 use Rattle.dk_compile.specs.Sources.{HasTree, IsText, HasTooMany, IsFault}
 use Rattle.dk_compile.proofs.Once.{tree_one, text_one}
@@ -43,6 +43,8 @@ found text (Types e) (tree, has, is) = typed e tree refl has is
 found text (Nodes n) (p, is, told) = counted n p refl is told
 found text (InlineDepth s) (p, is, told) = measured s p refl is told
 found text (Reads n) (p, is, within, many) = read n p refl is within many
+found text (Bits n) is = absurd is
+found text (Latency n) is = absurd is
 found text Memory is = wanting refl
 
 -- the first definition that is too deep is one

@@ -13,7 +13,7 @@ use Rattle.dk_types.specs.Types.{IsTyping}
 use Rattle.dk_types.specs.Faults.{IsFirstFault}
 use Rattle.dk_inline.specs.Answers.{IsWithin}
 use Rattle.dk_compile.specs.declared.fault.SourceFault.{SourceFault}
-use Rattle.dk_compile.specs.declared.fault.SourceFault.TheVariants.{Lex, Nest, Syntax, Depth, Types, Nodes, InlineDepth, Reads, Memory}
+use Rattle.dk_compile.specs.declared.fault.SourceFault.TheVariants.{Lex, Nest, Syntax, Depth, Types, Nodes, InlineDepth, Reads, Bits, Latency, Memory}
 use Rattle.dk_compile.specs.Sources.{IsText, IsAccepted, HasTooMany, IsFault}
 use Rattle.dk_compile.proofs.Once.{tree_one, text_one}
 use Rattle.dk_compile.proofs.Counts.{few_not_many}
@@ -52,4 +52,6 @@ module _ (tokens_once : (text : List ℕ) (ts us : List Token) → HasTokens tex
   apart text p (Reads count) ok (q, is, within, many) =
       let P : Typing → Type 0 = λ r. HasTooMany r count in
       absurd (few_not_many p ok.reads count ok.are_reads ok.few (subst P (same_program text q p is ok.program) many))
+  apart text p (Bits n) ok is = absurd is
+  apart text p (Latency n) ok is = absurd is
   apart text p Memory ok is = refl

@@ -10,3 +10,8 @@ pub mod Searches
 pub mod Sweeps
 pub mod Decided
 pub mod Listed
+pub mod Stenciled
+pub mod AtAge
+pub mod Shown
+pub mod Shows
+pub mod Rounds

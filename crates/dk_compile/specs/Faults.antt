@@ -9,8 +9,10 @@ use Rattle.dk_inline.specs.declared.inlining.InlineFault.{InlineFault}
 use Rattle.dk_inline.specs.declared.inlining.InlineFault.TheVariants as inlining
 use Rattle.stencil_sets.specs.declared.live.StencilFault.{StencilFault}
 use Rattle.stencil_sets.specs.declared.live.StencilFault.TheVariants as stencils
+use Rattle.buffer_plan.specs.declared.fault.PlanFault.{PlanFault}
+use Rattle.buffer_plan.specs.declared.fault.PlanFault.TheVariants as plan
 use Rattle.dk_compile.specs.declared.fault.SourceFault.{SourceFault}
-use Rattle.dk_compile.specs.declared.fault.SourceFault.TheVariants.{Lex, Nest, Syntax, Depth, Types, Nodes, InlineDepth, Reads, Memory}
+use Rattle.dk_compile.specs.declared.fault.SourceFault.TheVariants.{Lex, Nest, Syntax, Depth, Types, Nodes, InlineDepth, Reads, Bits, Latency, Memory}
 
 abbrev pub of_lexer : LexError → SourceFault
 of_lexer (lexer.Fault fault) = Lex fault
@@ -34,3 +36,8 @@ of_inlining inlining.Memory = Memory
 abbrev pub of_stencils : StencilFault → SourceFault
 of_stencils (stencils.Reads count) = Reads count
 of_stencils stencils.Memory = Memory
+
+abbrev pub of_plan : PlanFault → SourceFault
+of_plan (plan.Bits least) = Bits least
+of_plan (plan.Latency clocks) = Latency clocks
+of_plan plan.Memory = Memory

@@ -1,3 +1,5 @@
 pub mod Faults
 pub mod Sources
 pub mod Fronts
+pub mod Limits
+pub mod Compiled

@@ -16,7 +16,7 @@ use Rattle.dk_inline.specs.declared.inlining.InlineFault.TheVariants as inlining
 use Rattle.dk_inline.specs.Answers.{IsWithin}
 use Rattle.dk_inline.specs.Answers as I
 use Rattle.dk_compile.specs.declared.fault.SourceFault.{SourceFault}
-use Rattle.dk_compile.specs.declared.fault.SourceFault.TheVariants.{Lex, Nest, Syntax, Depth, Types, Nodes, InlineDepth, Reads, Memory}
+use Rattle.dk_compile.specs.declared.fault.SourceFault.TheVariants.{Lex, Nest, Syntax, Depth, Types, Nodes, InlineDepth, Reads, Bits, Latency, Memory}
 
 -- the text has this tree
 pub record HasTree (text : List ℕ) (tree : Source) : Type 0 where
@@ -68,7 +68,7 @@ pub record HasTooMany (p : Typing) (count : ℕ) : Type 0 where
   pub more : MAX_LIVE_READS < count
   pub counted : HasReads p count ⊎ HasManyReads p count
 
--- The first fault of a text: tokens, tree, types, nodes, depth after inlining, live reads. Each is told where all before it is in order.
+-- The first fault of a text: tokens, tree, types, nodes, depth after inlining, live reads. Each is told where all before it is in order. Bits and latency are not judged.
 abbrev pub IsFault : List ℕ → SourceFault → Type 0
 IsFault text (Lex fault) = HasFault text fault
 IsFault text (Nest span) = (tokens : List Token) × HasTokens text tokens × Faults tokens (parser.Nest span)
@@ -78,4 +78,6 @@ IsFault text (Types fault) = (tree : Source) × HasTree text tree × IsFirstFaul
 IsFault text (Nodes count) = (p : Typing) × IsText text p × I.IsFault p (inlining.Nodes count)
 IsFault text (InlineDepth span) = (p : Typing) × IsText text p × I.IsFault p (inlining.InlineDepth span)
 IsFault text (Reads count) = (p : Typing) × IsText text p × IsWithin p × HasTooMany p count
+IsFault text (Bits least) = ⊥
+IsFault text (Latency clocks) = ⊥
 IsFault text Memory = Unit {0}

@@ -2,9 +2,10 @@
 
 ghost use Rattle.std.specs.Prelude.{◌≡◌};
 ghost use Rattle.dk_lexer.specs.declared.fault.LexError.{LexError as LexStop};
-ghost use Rattle.dk_compile.specs.Faults.{of_lexer, of_parser, of_types, of_inlining, of_stencils};
+ghost use Rattle.dk_compile.specs.Faults.{of_lexer, of_parser, of_types, of_inlining, of_stencils, of_plan};
 
-use dk_base::Span;
+use buffer_plan::PlanFault;
+use dk_base::{Memory, Span};
 use dk_inline::InlineFault;
 use dk_lexer::{LexError, LexFault};
 use dk_parser::ParseError;
@@ -38,6 +39,12 @@ pub enum SourceFault {
     /// More than 4,096 live reads. The count is 65,537 where there are more than 65,536.
     #[error("Reads {count}")]
     Reads { count: u32 },
+    /// The least buffer bits at the age that is asked, where they are above 67,108,864.
+    #[error("Bits {least}")]
+    Bits { least: u64 },
+    /// The greatest latency of an output in clocks at the age that is asked, where it is above 67,108,864.
+    #[error("Latency {clocks}")]
+    Latency { clocks: u64 },
     /// There was not enough memory to tell.
     #[error("out of memory")]
     Memory,
@@ -113,5 +120,31 @@ impl From<StencilFault> for SourceFault {
             StencilFault::Reads { count } => SourceFault::Reads { count },
             StencilFault::Memory => SourceFault::Memory,
         }
+    }
+}
+
+impl From<PlanFault> for SourceFault {
+    ghost use Rattle.std.specs.Prelude.{◌≡◌};
+    ghost use Rattle.dk_compile.specs.Faults.{of_plan};
+
+    ghost from_gives = { λ e f. f ≡ of_plan e };
+
+    fn from(fault: PlanFault) -> Self {
+        match fault {
+            PlanFault::Bits { least } => SourceFault::Bits { least },
+            PlanFault::Latency { clocks } => SourceFault::Latency { clocks },
+            PlanFault::Memory => SourceFault::Memory,
+        }
+    }
+}
+
+impl From<Memory> for SourceFault {
+    ghost use Rattle.std.specs.Prelude.{◌≡◌};
+    ghost use Rattle.dk_compile.specs.declared.fault.SourceFault.TheVariants as fault;
+
+    ghost from_gives = { λ e f. f ≡ fault.Memory };
+
+    fn from(_error: Memory) -> Self {
+        SourceFault::Memory
     }
 }

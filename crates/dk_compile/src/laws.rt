@@ -1,6 +1,8 @@
 // What the definitions say together.
 
-ghost use Rattle.std.specs.Prelude.{◌≡◌, ◌≢◌, ◌⊎◌, ℕ, List};
+ghost use Rattle.std.specs.Prelude.{◌≡◌, ◌≢◌, ◌⊎◌, ℕ, ◌+◌, ◌-◌, ◌*◌, ◌<◌, ◌≤◌, List, length, map, All, unsigned_abs};
+ghost use Rattle.std.specs.List.{flat_map, range_with_len};
+ghost use Rattle.dk_base.specs.Frames.{Size, Picture, area, pixel_of, raster};
 ghost use Rattle.dk_base.specs.Stencils.{Parts};
 ghost use Rattle.dk_types.specs.Typed.{Typing};
 ghost use Rattle.pointwise_ir.specs.Programs.{Program};
@@ -9,6 +11,16 @@ ghost use Rattle.dk_compile.specs.declared.fault.SourceFault.TheVariants.{Memory
 ghost use Rattle.pointwise_ir.specs.Stencils.{AreStencilsOf};
 ghost use Rattle.dk_compile.specs.Sources.{IsText, IsAccepted, IsFault};
 ghost use Rattle.dk_compile.specs.Fronts.{IsForm, IsFront};
+ghost use Rattle.dk_compile.specs.Limits.{HasSystem, IsAcceptedAt, IsFaultAt};
+ghost use Rattle.dk_compile.specs.Compiled.{IsPlanned};
+ghost use Rattle.wiring.specs.Netlist.{Netlist};
+ghost use Rattle.wiring.specs.Snapshot.{Contents, Snapshot, Fit, FitsContents};
+ghost use Rattle.wiring.specs.Runs.{Runs, picture};
+ghost use Rattle.raster_delay.specs.Systems.{Parts as System};
+ghost use Rattle.flow_dual.specs.declared.solution.Solution.{Solution};
+ghost use Rattle.buffer_plan.specs.Plans.{Parts as Plan, latency_of};
+ghost use Rattle.circuit.specs.Rounds.{Rounds, AreRounds, pixel, pixel_count};
+ghost use Rattle.circuit.specs.Driven.{Drives, Agree, driven, input_widths, output_at};
 
 /// A law: a text is that of one program at most; one that is accepted has no fault; and two faults of a text are one, but for want of memory. Each text is accepted or has a fault. What has a form and stencils within the limits is accepted, and the stencils of any form have the program's own live reads.
 pub fn one_source()
@@ -24,3 +36,23 @@ pub fn one_source()
     dk_parser::one_judgement();
     dk_types::one_typing();
 }
+
+/// A law, of texts at an age: a text has one system of live reads; one that is planned is accepted; one that is accepted has no fault; and two faults of a text are one, but for want of memory.
+pub fn one_at_age()
+    ensures system { (text : List ℕ) (age : ℕ) (p q : Typing) (a b : Program) (s t : System) → HasSystem text age p a s → HasSystem text age q b t → s ≡ t }
+    ensures accepted { (text : List ℕ) (age : ℕ) (p : Typing) (ir : Program) (s : System) (x : Solution) (plan : Plan) → IsPlanned text age p ir s x plan → IsAcceptedAt text age p }
+    ensures apart { (text : List ℕ) (age : ℕ) (p : Typing) (f : SourceFault) → IsAcceptedAt text age p → IsFaultAt text age f → f ≡ Memory }
+    ensures fault { (text : List ℕ) (age : ℕ) (f g : SourceFault) → IsFaultAt text age f → IsFaultAt text age g → (f ≡ Memory) ⊎ (g ≡ Memory) ⊎ (f ≡ g) }
+{
+    one_source();
+    stencil_sets::one_answer();
+    buffer_plan::one_limit();
+}
+
+/// A law: an output's picture of a drive is its pixels in raster order, counted on through the rounds, as many as there are clocks behind its latency; and pixels that are counted on through pictures are these pictures' rasters, one after another.
+pub fn drive_shows()
+    ensures picture { (m : Netlist) (p : Program) (plan : Plan) → Drives m p plan → (from to : Contents) (dins : List (List ℕ)) (shots : List Snapshot) → FitsContents m from → All (Fit (input_widths p)) dins
+        → Runs m from (driven (length p.inputs) dins) shots to → (rounds : Rounds) → AreRounds p rounds → Agree p rounds dins → (k : ℕ) → k < length p.outputs → length dins ≤ pixel_count p rounds + latency_of plan k
+        → picture k shots ≡ map (λ q. unsigned_abs (pixel p rounds (output_at p k) q)) (range_with_len 0 (length dins - latency_of plan k)) }
+    ensures rasters { (size : Size) (pictures : ℕ → Picture) (n : ℕ) → map (λ q. unsigned_abs (pixel_of size pictures q)) (range_with_len 0 (n * area size)) ≡ flat_map (λ k. raster size (pictures k)) (range_with_len 0 n) }
+{}

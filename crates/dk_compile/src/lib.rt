@@ -2,11 +2,14 @@
 #![tactic(auto)]
 
 mod accepted;
+mod compiling;
 mod fault;
 mod laws;
 mod reading;
 
 pub use accepted::Front;
+pub use circuit::Options;
+pub use compiling::{Compiled, Planned, compile, compile_with, planned};
 pub use fault::SourceFault;
-pub use laws::one_source;
+pub use laws::{drive_shows, one_at_age, one_source};
 pub use reading::{front, typed};

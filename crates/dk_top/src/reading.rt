@@ -63,6 +63,10 @@ pub fn ending_of(fault: dk_compile::SourceFault) -> Ending
             Ending::Source(SourceFault::InlineDepth { span })
         }
         dk_compile::SourceFault::Reads { count } => Ending::Source(SourceFault::Reads { count }),
+        dk_compile::SourceFault::Bits { least } => Ending::Source(SourceFault::Bits { least }),
+        dk_compile::SourceFault::Latency { clocks } => {
+            Ending::Source(SourceFault::Latency { clocks })
+        }
         dk_compile::SourceFault::Memory => Ending::Memory,
     }
 }

@@ -51,16 +51,8 @@ fn told(alloc: Global, fault: SourceFault) -> Result<String, Fail> {
             write!(text, "InlineDepth")?;
             span
         }
-        SourceFault::Nodes { count } => {
-            write!(text, "Nodes {count}")?;
-            return Ok(text);
-        }
-        SourceFault::Reads { count } => {
-            write!(text, "Reads {count}")?;
-            return Ok(text);
-        }
-        SourceFault::Memory => {
-            write!(text, "no memory")?;
+        counted => {
+            write!(text, "{counted}")?;
             return Ok(text);
         }
     };

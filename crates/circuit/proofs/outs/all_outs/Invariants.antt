@@ -1,7 +1,6 @@
 use Rattle.std.proofs.Common.{◌≡◌, length}
 use Rattle.net_build.specs.Counters.{AddsControl}
-use Rattle.circuit.specs.Behaviour.{AreOuts}
-use Rattle.circuit.specs.Ends.{AreShared}
+use Rattle.circuit.specs.Ends.{AreOuts, AreShared}
 use Rattle.circuit.proofs.outs.all_outs.Given as goal
 
 abbrev pub invariant-loop : goal.invariant-loop

@@ -1,0 +1,12 @@
+use Rattle.std.proofs.Common.{◌≡◌, ℕ, ◌*◌, ◌∙◌, ap, arith, map, unsigned_abs}
+use Rattle.std.specs.List.{range_with_len}
+use Rattle.dk_base.specs.Frames.{area, pixel_of}
+use Rattle.dk_compile.proofs.Shows.{shows}
+use Rattle.dk_compile.proofs.Rounds.{all_rasters}
+use Rattle.dk_compile.proofs.laws.drive_shows.Goals as goal
+
+pub returns-clause-picture : goal.returns-clause-picture
+returns-clause-picture c m p plan d from to dins shots fc fn runs rounds ok agree k l n = shows m p plan d from to dins shots fc fn runs rounds ok agree k l n
+
+pub returns-clause-rasters : goal.returns-clause-rasters
+returns-clause-rasters c size pictures n = ap (λ z. map (λ q. unsigned_abs (pixel_of size pictures q)) (range_with_len z (n * area size))) (let e : 0 ≡ 0 * area size = omega arith in e) ∙ all_rasters size pictures 0 n

@@ -1,0 +1,54 @@
+-- What a text is compiled to: the plan of least bits of its program, the module of this plan, and a Verilog text of the module.
+use Rattle.std.specs.Prelude.{◌≡◌, ℕ, ◌<◌, Bool, List, length}
+use Rattle.dk_types.specs.Typed.{Typing}
+use Rattle.wiring.specs.declared.netlist.Net.{Net}
+use Rattle.wiring.specs.Netlist.{Netlist}
+use Rattle.wiring.specs.BufferBits.{IsBufferBits}
+use Rattle.netlist.specs.Names.{NamedNetlist}
+use Rattle.net_build.specs.Runs.{IsWhole, RunsOn}
+use Rattle.net_build.specs.Indices.{read_indices, put_indices}
+use Rattle.pointwise_ir.specs.Programs.{Program}
+use Rattle.raster_delay.specs.Systems.{Parts as System}
+use Rattle.flow_dual.specs.declared.solution.Solution.{Solution}
+use Rattle.flow_dual.specs.Solutions.{IsSolution}
+use Rattle.buffer_plan.specs.Plans.{Parts, IsPlan, bits_of}
+use Rattle.line_buffer.specs.Indices.{IsReadOnce}
+use Rattle.circuit.specs.Forms.{chain_shapes_of, chain_places, shapes_of}
+use Rattle.circuit.specs.Behaviour.{HasPorts, Behaves, IsApart}
+use Rattle.circuit.specs.Driven.{Drives}
+use Rattle.verilog_text.specs.Stands.{StandsFor}
+use Rattle.dk_compile.specs.Limits.{HasSystem}
+
+-- The program of a text, the system of its live reads at an age, a solution of it, and the plan that has the solution's delays, which are the least vector. All are within the limits.
+pub record IsPlanned (text : List ℕ) (age : ℕ) (p : Typing) (ir : Program) (system : System) (solution : Solution) (plan : Parts) : Type 0 where
+  pub has : HasSystem text age p ir system
+  pub solved : IsSolution system solution
+  pub plan_is : plan ≡ record { system = system; delays = solution.delays }
+  pub within : IsPlan plan
+
+-- The module of a program under a plan, with a chain of segments for each buffered image.
+pub record IsCircuitOf (p : Program) (plan : Parts) (enable : Bool) (m : Netlist) (nets : List Net) : Type 0 where
+  pub ports : HasPorts m p enable
+  pub whole : IsWhole m m
+  -- no run that begins with a reset clock stops
+  pub runs : RunsOn m
+  -- over a reset clock and frames one after another it shows the program's pictures
+  pub drives : Drives m p plan
+  -- and what it does over any clocks, with resets and held clocks at any place
+  pub behaves : Behaves m p plan chain_places nets
+  pub bits : IsBufferBits m (bits_of plan)
+  pub arrays : m.arrays ≡ shapes_of chain_shapes_of plan plan.system.stencils.images
+  -- each array is read once and put once, at one index
+  pub once : (x : ℕ) → x < length m.arrays → IsReadOnce (read_indices m x) (put_indices m x)
+  pub apart : IsApart m p plan chain_shapes_of nets
+
+-- the text stands for the module and for no other
+pub record IsTextOf (m : NamedNetlist) (text : List ℕ) : Type 0 where
+  pub stands : StandsFor text m
+  pub only : (other : NamedNetlist) → StandsFor text other → other ≡ m
+
+-- The text is that of the program p, whose form, system, solution, plan, module and nets these are, and the Verilog text is one of the module.
+pub record IsCompiled (text : List ℕ) (age : ℕ) (enable : Bool) (p : Typing) (ir : Program) (system : System) (solution : Solution) (plan : Parts) (m : NamedNetlist) (nets : List Net) (verilog : List ℕ) : Type 0 where
+  pub planned : IsPlanned text age p ir system solution plan
+  pub circuit : IsCircuitOf ir plan enable m.netlist nets
+  pub printed : IsTextOf m verilog

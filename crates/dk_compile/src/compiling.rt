@@ -1,0 +1,160 @@
+// From a text to the Verilog text of its circuit.
+
+ghost use Rattle.std.specs.Prelude.{◌≡◌, ◌≤◌, false, IfOk, IfErr};
+ghost use Rattle.dk_base.specs.declared.TheConstants.{MAX_AGE};
+ghost use Rattle.dk_types.specs.Typed.{Typing};
+ghost use Rattle.flow_dual.specs.Solutions.{IsSolution};
+ghost use Rattle.buffer_plan.specs.Plans.{IsPlan};
+ghost use Rattle.buffer_plan.specs.Limits.{IsPlanFault};
+ghost use Rattle.circuit.specs.Behaviour.{IsPlanOf};
+ghost use Rattle.dk_compile.specs.Limits.{IsFaultAt};
+ghost use Rattle.dk_compile.specs.Compiled.{IsPlanned, IsCircuitOf, IsTextOf, IsCompiled};
+
+use crate::accepted::Front;
+use crate::fault::SourceFault;
+use crate::reading::front;
+use buffer_plan::{Plan, PlanFault, plan};
+use circuit::{Built, Chain, Options, build_with, frame_drive};
+use dk_base::{Memory, Stencils};
+use flow_dual::{Solution, solve};
+use netlist::Module;
+use pointwise_ir::Ir;
+use raster_delay::System;
+use std::alloc::Global;
+use verilog_print::print;
+use wiring::Net;
+
+/// A program with its plan: its images without inline ones, the system of its live reads, the solution that shows the bits least, and the plan of the least vector.
+#[derive(Drop)]
+pub struct Planned {
+    pub ir: Ir,
+    pub system: System,
+    pub solution: Solution,
+    pub plan: Plan,
+}
+
+/// A program that is compiled: its plan with what that rests on, its module with the net of each kept image in order, and the Verilog text of the module.
+#[derive(Drop)]
+pub struct Compiled {
+    pub ir: Ir,
+    pub system: System,
+    pub solution: Solution,
+    pub plan: Plan,
+    pub module: Module,
+    pub nets: Vec<Net>,
+    pub text: Vec<u8>,
+}
+
+// A plan with what it rests on.
+#[derive(Drop)]
+struct Solved {
+    system: System,
+    solution: Solution,
+    plan: Plan,
+}
+
+// A module with the nets of the kept images, and its text.
+#[derive(Drop)]
+struct Printed {
+    module: Module,
+    nets: Vec<Net>,
+    text: Vec<u8>,
+}
+
+// The plan of least bits of these live reads at an age.
+fn solved(alloc: Global, stencils: &Stencils, age: u8) -> Result<Solved, PlanFault>
+    requires age { age ≤ MAX_AGE }
+    ensures system { IfOk result (λ r. r.system ≡ record { stencils = stencils.now; age = age }) }
+    ensures solution { IfOk result (λ r. IsSolution r.system r.solution) }
+    ensures plan { IfOk result (λ r. r.plan ≡ record { system = r.system; delays = r.solution.delays }) }
+    ensures within { IfOk result (λ r. IsPlan r.plan) }
+    ensures fault { IfErr result (IsPlanFault (record { stencils = stencils.now; age = age })) }
+{
+    let system = System::aged(alloc, stencils, age)?;
+    let solution = solve(alloc, &system)?;
+    let plan = plan(alloc, &system, &solution)?;
+    plan.law();
+    Ok(Solved {
+        system,
+        solution,
+        plan,
+    })
+}
+
+/// The program of a text with the plan of its live reads at this age, at most 64 clocks, or the first fault of the text at it. Limits on bytes are the caller's.
+pub fn planned(alloc: Global, text: &[u8], age: u8) -> Result<Planned, SourceFault>
+    requires age { age ≤ MAX_AGE }
+    ensures planned { IfOk result (λ r. (p : Typing) × IsPlanned text.now age p r.ir r.system r.solution r.plan) }
+    ensures fault { IfErr result (IsFaultAt text.now age) }
+{
+    let Front { ir, stencils } = front(alloc, text)?;
+    let Solved {
+        system,
+        solution,
+        plan,
+    } = solved(alloc, &stencils, age)?;
+    Ok(Planned {
+        ir,
+        system,
+        solution,
+        plan,
+    })
+}
+
+// The module of a plan, and its text.
+fn printed(alloc: Global, ir: &Ir, plan: &Plan, options: Options) -> Result<Printed, Memory>
+    requires plan { IsPlanOf ir.now plan.now options }
+    ensures circuit { IfOk result (λ r. IsCircuitOf ir.now plan.now options.enable r.«module».netlist r.nets.items) }
+    ensures text { IfOk result (λ r. IsTextOf r.«module» r.text.items) }
+{
+    ir.law();
+    plan.law();
+    frame_drive();
+    let Built { module, nets } = build_with(alloc, ir, plan, &Chain, options)?;
+    let text = print(alloc, &module)?;
+    Ok(Printed { module, nets, text })
+}
+
+/// The Verilog text of the circuit of a program, with the port `en` where it is wanted, at an age of at most 64 clocks; or the first fault of the text at this age. Limits on bytes are the caller's. The Verilog text is in the language of IEEE Std 1364-2005.
+pub fn compile_with(
+    alloc: Global,
+    text: &[u8],
+    options: Options,
+) -> Result<Compiled, SourceFault>
+    requires age { options.age ≤ MAX_AGE }
+    ensures compiled { IfOk result (λ c. (p : Typing) × IsCompiled text.now options.age options.enable p c.ir c.system c.solution c.plan c.«module» c.nets.items c.text.items) }
+    ensures fault { IfErr result (IsFaultAt text.now options.age) }
+{
+    let Planned {
+        ir,
+        system,
+        solution,
+        plan,
+    } = planned(alloc, text, options.age)?;
+    let Printed {
+        module,
+        nets,
+        text: verilog,
+    } = printed(alloc, &ir, &plan, options)?;
+    Ok(Compiled {
+        ir,
+        system,
+        solution,
+        plan,
+        module,
+        nets,
+        text: verilog,
+    })
+}
+
+/// The Verilog text of the circuit of a program, without the port `en`, at age 0.
+pub fn compile(alloc: Global, text: &[u8]) -> Result<Compiled, SourceFault>
+    ensures compiled { IfOk result (λ c. (p : Typing) × IsCompiled text.now 0 false p c.ir c.system c.solution c.plan c.«module» c.nets.items c.text.items) }
+    ensures fault { IfErr result (IsFaultAt text.now 0) }
+{
+    let options = Options {
+        enable: false,
+        age: 0,
+    };
+    compile_with(alloc, text, options)
+}
