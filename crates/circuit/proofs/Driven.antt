@@ -1,7 +1,10 @@
 -- From the behaviour of a module to what it shows while it is driven with frames.
-use Rattle.std.proofs.Common.{◌≡◌, ℕ, zero, suc, ◌+◌, ◌*◌, ◌^◌, ◌<◌, ◌≤◌, ◌==◌, ℤ, pos, negsuc, Bool, true, false, List, [], ◌∷◌, ◌++◌, length, map, take, Some, refl, sym, ap, subst, ◌∙◌, arith, ints, append_assoc, append-nil}
+use Rattle.std.proofs.Common.{◌≡◌, ℕ, zero, suc, ◌+◌, ◌^◌, ◌<◌, ◌≤◌, ◌==◌, ℤ, pos, negsuc, Bool, true, false, List, [], ◌∷◌, ◌++◌, length, map, take, Some, refl, sym, ap, subst, ◌∙◌, inl, inr, arith, append_assoc}
 use Rattle.std.specs.Prelude.{IsTrue, nat_lt, nat_le, not, ◌&&◌, reverse, replicate, slice_get, slice_index, slice_index_or, All, if◌then◌else◌}
-use Rattle.std.proofs.lemmas.List.{length-map, reverse-append}
+use Rattle.std.proofs.Math.Pow.{pow_pos}
+use Rattle.std.proofs.lemmas.Bool.{cases_lt}
+use Rattle.std.proofs.lemmas.Int.{ints}
+use Rattle.std.proofs.lemmas.List.{reverse-append}
 use Rattle.std.proofs.lemmas.List.Elements.{All-nil, All-cons, All-head, All-tail}
 use Rattle.std.proofs.lemmas.Option.{slice_get_within, slice_get-get_or}
 use Rattle.std.proofs.lemmas.Nat.{div_below}
@@ -9,7 +12,7 @@ use Rattle.dk_base.specs.declared.ty.Ty.{Ty}
 use Rattle.dk_base.specs.declared.ty.Ty.TheVariants.{Unsigned, Signed}
 use Rattle.dk_base.specs.Types.{width_of, IsPort, IsIn}
 use Rattle.dk_base.specs.Numbers.{code}
-use Rattle.dk_base.specs.Frames.{area, frame_of, column, row, Picture, picture_at}
+use Rattle.dk_base.specs.Frames.{area, frame_of, column, row}
 use Rattle.dk_base.proofs.Codes.{code_pos}
 use Rattle.wiring.specs.declared.netlist.Net.{Net}
 use Rattle.wiring.specs.Netlist.{Netlist, valid_net, dout_net}
@@ -21,9 +24,11 @@ use Rattle.wiring.proofs.Lists.{All-at}
 use Rattle.net_build.specs.Runs.{IsWhole, FitsPorts, IsClockOf, RunsOn}
 use Rattle.net_build.proofs.Runs.{run_clock}
 use Rattle.pointwise_ir.specs.declared.ir.Input.{Input}
+use Rattle.pointwise_ir.specs.declared.ir.Definition.{Definition}
 use Rattle.pointwise_ir.specs.Programs.{Program, IsProgram, IsOutput, types_of}
 use Rattle.pointwise_ir.specs.Meaning.{IsRound}
 use Rattle.pointwise_ir.proofs.Pictured.{values_in, mapped_entry}
+use Rattle.edge_select.proofs.Raster.{some_area}
 use Rattle.buffer_plan.specs.Plans.{Parts, latency_of}
 use Rattle.circuit.specs.Runs.{IsRunning}
 use Rattle.circuit.specs.Rounds.{Rounds, AreRounds, Feeds, pixel, pixel_bits, pixel_count, type_at}
@@ -47,10 +52,7 @@ bit_fits false = omega arith
 
 zeros_fit : (inputs : List Input) → All (λ (i : Input). IsPort i.ty) inputs → Fit (map (λ (i : Input). width_of i.ty) inputs) (replicate (length inputs) 0)
 zeros_fit [] ok = tt
-zeros_fit (i ∷ inputs) ok = ((let h = pow_some (width_of i.ty) in h), zeros_fit inputs (All-tail (λ (j : Input). IsPort j.ty) i inputs ok))
-  where
-    pow_some : (w : ℕ) → 0 < 2 ^ w
-    pow_some w = search rules
+zeros_fit (i ∷ inputs) ok = (pow_pos (width_of i.ty), zeros_fit inputs (All-tail (λ (j : Input). IsPort j.ty) i inputs ok))
 
 given_fits : (m : Netlist) (p : Program) (enable : Bool) → HasPorts m p enable → (c : Clock) → Fit (input_widths p) c.dins → FitsPorts m c
 given_fits m p enable ports c fit =
@@ -66,7 +68,7 @@ fed_fit m p enable ports [] fit = All-nil (FitsPorts m)
 fed_fit m p enable ports (x ∷ dins) fit =
     All-cons (FitsPorts m) (fed_clock x) (map fed_clock dins) (given_fits m p enable ports (fed_clock x) (All-head (Fit (input_widths p)) x dins fit)) (fed_fit m p enable ports dins (All-tail (Fit (input_widths p)) x dins fit))
 
-reset_first : Program → Clock
+abbrev reset_first : Program → Clock
 reset_first p = record { reset = true; enable = true; dins = replicate (length p.inputs) 0 }
 
 -- the bits of a pixel of an unsigned type are the pixel
@@ -98,7 +100,7 @@ module _ (m : Netlist) (p : Program) (rounds : Rounds) where
 
   first : (c : Clock) → c.reset ≡ true → Knows m p rounds (c ∷ []) 0
   first c resets = record {
-    since = subst (λ (r : Bool). IsTrue (if r then true else false)) (sym resets) tt;
+    since = subst (λ (r : Bool). IsTrue (if r then true else false)) (sym resets) refl;
     count = ap length none;
     feeds = λ k q j input at low. absurd (let e = ap length none in let f : ⊥ = omega (arith, at, e) in f);
   }
@@ -140,18 +142,16 @@ module _ (m : Netlist) (p : Program) (rounds : Rounds) where
   before_clock : (c : Clock) → c.reset ≡ true → (dins : List (List ℕ)) → ((q : ℕ) → q < length dins → Come (slice_index_or dins q []) q) → (i : ℕ) → i ≤ length dins → Knows m p rounds (reverse (take (suc i) (c ∷ map fed_clock dins))) i
   before_clock c resets dins come i le =
       let e : reverse (take i (map fed_clock dins)) ++ (c ∷ []) ≡ reverse (c ∷ take i (map fed_clock dins)) = sym (reverse-append (c ∷ []) (take i (map fed_clock dins))) in
-      subst (λ (l : List Clock). Knows m p rounds l i) e (walk dins (c ∷ []) 0 (first c resets) come i le)
+      let all : (q : ℕ) → q < length dins → Come (slice_index_or dins q []) (0 + q) = λ q lt. subst (Come (slice_index_or dins q [])) (let f : q ≡ 0 + q = omega arith in f) (come q lt) in
+      subst (λ (l : List Clock). Knows m p rounds l i) e (subst (Knows m p rounds (reverse (take i (map fed_clock dins)) ++ (c ∷ []))) (let f : 0 + i ≡ i = omega arith in f) (walk dins (c ∷ []) 0 (first c resets) all i le))
 
 -- numbers that agree with the rounds are the pixels' bits
 module _ (p : Program) (is : IsProgram p) (rounds : Rounds) (are : AreRounds p rounds) where
   round_at : (q : ℕ) → q < pixel_count p rounds → IsRound p (slice_index_or rounds (frame_of p.size q) [])
   round_at q low =
-      let some : 0 < area p.size = area_some in
+      let some : 0 < area p.size = some_area p.size is.frame.some_columns is.frame.some_rows in
       let lt : frame_of p.size q < length rounds = div_below q (area p.size) (length rounds) some low in
       All-at (IsRound p) rounds (frame_of p.size q) (slice_index_or rounds (frame_of p.size q) []) are (slice_get-get_or rounds (frame_of p.size q) [] lt)
-    where
-      area_some : 0 < area p.size
-      area_some = search rules (is.frame.some_columns, is.frame.some_rows)
 
   pixel_in : (g q : ℕ) (t : Ty) → q < pixel_count p rounds → slice_get (types_of p) g ≡ Some t → IsIn t (pixel p rounds g q)
   pixel_in g q t low at = (values_in p is (slice_index_or rounds (frame_of p.size q) []) (round_at q low) g t at).values (pos (column p.size q)) (pos (row p.size q))
@@ -163,15 +163,12 @@ module _ (p : Program) (is : IsProgram p) (rounds : Rounds) (are : AreRounds p r
       ap (λ (u : Ty). pos (code (width_of u) (pixel p rounds g q))) typed ∙ unsigned_code t (pixel p rounds g q) port (pixel_in g q t low at)
 
   input_type : (k : ℕ) → k < length p.inputs → (t : Ty) × (slice_get (types_of p) k ≡ Some t) × IsPort t
-  input_type k lt = by p.inputs p.images k lt is.inputs
+  input_type k lt = by p.inputs k lt is.inputs (map (λ (d : Definition). d.ty) p.images)
     where
-      open_types : (inputs : List Input) → (k : ℕ) → k < length inputs → All (λ (i : Input). IsPort i.ty) inputs → (rest : List Ty) → (t : Ty) × (slice_get (map (λ (i : Input). i.ty) inputs ++ rest) k ≡ Some t) × IsPort t
-      open_types [] k lt ok rest = absurd (let f : ⊥ = omega (arith, lt) in f)
-      open_types (i ∷ inputs) zero lt ok rest = (i.ty, refl, All-head (λ (j : Input). IsPort j.ty) i inputs ok)
-      open_types (i ∷ inputs) (suc k) lt ok rest = open_types inputs k (omega (arith, lt)) (All-tail (λ (j : Input). IsPort j.ty) i inputs ok) rest
-
-      by : (inputs : List Input) → (images : List _) → (k : ℕ) → k < length inputs → All (λ (i : Input). IsPort i.ty) inputs → (t : Ty) × (slice_get (map (λ (i : Input). i.ty) inputs ++ map (λ d. d.ty) images) k ≡ Some t) × IsPort t
-      by inputs images k lt ok = open_types inputs k lt ok (map (λ d. d.ty) images)
+      by : (inputs : List Input) (k : ℕ) → k < length inputs → All (λ (i : Input). IsPort i.ty) inputs → (rest : List Ty) → (t : Ty) × (slice_get (map (λ (i : Input). i.ty) inputs ++ rest) k ≡ Some t) × IsPort t
+      by [] k lt ok rest = absurd (let f : ⊥ = omega (arith, lt) in f)
+      by (i ∷ inputs) zero lt ok rest = (i.ty, refl, All-head (λ (j : Input). IsPort j.ty) i inputs ok)
+      by (i ∷ inputs) (suc k) lt ok rest = by inputs k (omega (arith, lt)) (All-tail (λ (j : Input). IsPort j.ty) i inputs ok) rest
 
   output_type : (k : ℕ) → k < length p.outputs → IsOutput (types_of p) (output_at p k)
   output_type k lt = All-at (IsOutput (types_of p)) p.outputs k (output_at p k) is.outputs (slice_get-get_or p.outputs k 0 lt)
@@ -186,10 +183,13 @@ module _ (p : Program) (is : IsProgram p) (rounds : Rounds) (are : AreRounds p r
 
 -- latencies, and the clocks at which valid is 1
 later_valid : (late t : ℕ) → nat_le late t ≡ nat_lt late (suc t)
-later_valid late t = search rules
+later_valid late t = elim (cases_lt late (suc t)) as (λ _. nat_le late t ≡ nat_lt late (suc t)) [
+  | inl less ↦ (let h : nat_le late t ≡ true = grind (arith, less) in h) ∙ sym (let h : nat_lt late (suc t) ≡ true = grind (arith, less) in h)
+  | inr most ↦ (let h : nat_le late t ≡ false = grind (arith, most) in h) ∙ sym (let h : nat_lt late (suc t) ≡ false = grind (arith, most) in h)
+]
 
 not_at_once : (late : ℕ) → false ≡ nat_lt late 0
-not_at_once late = search rules
+not_at_once late = sym (let h : nat_lt late 0 ≡ false = grind arith in h)
 
 bit_is : (b : Bool) (v : ℕ) → v ≡ bit b → (v == 1) ≡ b
 bit_is true v e = ap (λ n. n == 1) e
@@ -219,7 +219,7 @@ module _ (m : Netlist) (p : Program) (plan : Parts) (places : Places) (nets : Li
     valid : (k c : ℕ) (s : Snapshot) → k < length p.outputs → slice_get shots c ≡ Some s → (net_value s (valid_net k) == 1) ≡ nat_lt (latency_of plan k) c
     valid k zero s lt at =
         let clock = clock_of 0 (reset_first p) s refl at in
-        bit_is false (net_value s (valid_net k)) (behaves.valid k lt m from [] (reset_first p) s clock tt) ∙ not_at_once (latency_of plan k)
+        bit_is false (net_value s (valid_net k)) (behaves.valid k lt m from [] (reset_first p) s clock refl) ∙ not_at_once (latency_of plan k)
     valid k (suc t) s lt at =
         let (x, here, there) = numbers_at t s at in
         let within : t ≤ length dins = (let l = slice_get_within dins t x here in omega (arith, l)) in

@@ -1,16 +1,15 @@
 -- What the module of a program does, in each run, from any contents that fit, over any clocks.
-use Rattle.std.specs.Prelude.{◌≡◌, ℕ, ◌<◌, ◌≤◌, nat_le, Bool, not, ◌&&◌, IsTrue, if◌then◌else◌, List, ◌∷◌, length, map, slice_index, slice_index_or, slice_get, Some}
+use Rattle.std.specs.Prelude.{◌≡◌, ℕ, ◌<◌, ◌≤◌, nat_le, Bool, not, ◌&&◌, IsTrue, if◌then◌else◌, List, ◌∷◌, length, map, slice_index_or, slice_get, Some}
 use Rattle.dk_base.specs.Stencils.{place}
 use Rattle.dk_base.specs.Types.{width_of}
 use Rattle.wiring.specs.declared.netlist.Net.{Net}
 use Rattle.wiring.specs.declared.netlist.Net.TheVariants.{Input}
 use Rattle.wiring.specs.declared.netlist.Holder.TheVariants.{OfNet}
-use Rattle.wiring.specs.Netlist.{Netlist, net_width, valid_net, dout_net}
+use Rattle.wiring.specs.Netlist.{Netlist, valid_net, dout_net}
 use Rattle.wiring.specs.Rules.{with_valids}
 use Rattle.wiring.specs.Snapshot.{Contents, Snapshot, IsNext, net_value}
 use Rattle.wiring.specs.Clock.{Clock, bit}
 use Rattle.wiring.specs.History.{was_reset, is_held, counted}
-use Rattle.net_build.specs.Draft.{IsNet}
 use Rattle.net_build.specs.Runs.{IsClockOf, InEachRun}
 use Rattle.net_build.specs.Control.{IsMadeOf}
 use Rattle.pointwise_ir.specs.Programs.{Program}

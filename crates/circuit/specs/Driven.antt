@@ -1,5 +1,5 @@
 -- What the module of a program shows while it is driven with rounds of frames, one after another, without a reset between them.
-use Rattle.std.specs.Prelude.{◌≡◌, ℕ, ◌+◌, ◌<◌, ◌==◌, nat_lt, true, false, ℤ, pos, List, [], ◌∷◌, length, map, replicate, slice_get, slice_index, slice_index_or, Some, All}
+use Rattle.std.specs.Prelude.{◌≡◌, ℕ, ◌+◌, ◌<◌, ◌==◌, nat_lt, true, false, pos, List, [], ◌∷◌, length, map, replicate, slice_get, slice_index, slice_index_or, Some, All}
 use Rattle.dk_base.specs.Types.{width_of}
 use Rattle.wiring.specs.Netlist.{Netlist, valid_net, dout_net}
 use Rattle.wiring.specs.Snapshot.{Contents, Snapshot, Fit, FitsContents, net_value}

@@ -74,12 +74,13 @@ fn shown(
     };
     let mut outs = vec![in alloc; out; sim.outputs()]?;
     let first = *given.first().ok_or("no clock")?;
+    quiet(&mut sim, true, true, first, &mut outs)?;
     if disturbed {
         clock(&mut sim, false, true, first, &mut outs)?;
-        quiet(&mut sim, true, false, first, &mut outs)?;
+        quiet(&mut sim, false, false, first, &mut outs)?;
         clock(&mut sim, false, true, first, &mut outs)?;
+        quiet(&mut sim, true, false, first, &mut outs)?;
     }
-    quiet(&mut sim, true, true, first, &mut outs)?;
     for dins in given {
         clock(&mut sim, false, true, dins, &mut outs)?;
         tell(&mut line, &outs)?;
@@ -92,7 +93,7 @@ fn shown(
 
 /// The module of a program.
 fn module(alloc: Global, text: &str, age: u8, enable: bool) -> Result<Module, Fail> {
-    if age > MAX_AGE {
+    if u64::from(age) > MAX_AGE {
         return Err(Fail::new("too old"));
     }
     match compile_with(alloc, text.as_bytes(), Options { enable, age }) {
@@ -121,6 +122,9 @@ fn told(alloc: Global, text: &str, age: u8, given: &[&[u64]]) -> Result<String, 
 /// The clocks of these numbers at one din, or at two.
 fn clocks<'a>(alloc: Global, numbers: &'a [u64], dins: usize) -> Result<Vec<&'a [u64]>, Fail> {
     let mut given = Vec::new(alloc);
+    if dins == 0 {
+        return Ok(given);
+    }
     for numbers in numbers.chunks(dins) {
         given.push(numbers)?;
     }
@@ -142,16 +146,13 @@ fn pictures_clock_by_clock(rt: HostRuntime) -> Result<(), Fail> {
             &[3, 6, 9, 12, 12, 9, 6, 3, 0],
             " . 3 6 9 7 7 9 6 3",
         ),
-        (
-            ROW_BELOW,
-            0,
-            &[1, 2, 3, 4, 5, 6, 0, 0],
-            " . . 3 4 5 6 0 0",
-        ),
+        (ROW_BELOW, 0, &[1, 2, 3, 4, 5, 6, 0, 0], " . . 3 4 5 6 0 0"),
         (
             SQUARE,
             0,
-            &[1, 2, 3, 4, 5, 6, 7, 8, 9, 10, 11, 12, 0, 0, 0, 0, 0, 0, 0, 0],
+            &[
+                1, 2, 3, 4, 5, 6, 7, 8, 9, 10, 11, 12, 0, 0, 0, 0, 0, 0, 0, 0,
+            ],
             " . . . . . . . . 10 14 20 28 25 36 49 64 81 100 121 144",
         ),
         (
@@ -164,12 +165,7 @@ fn pictures_clock_by_clock(rt: HostRuntime) -> Result<(), Fail> {
         ),
         (INLINE, 0, &[5, 6, 7, 0], " . 7 8 0"),
         (SIDE, 0, &[1, 2, 3], " 1 2 3"),
-        (
-            TWO_TESTS,
-            0,
-            &[1, 2, 3, 4, 5, 6, 0, 0],
-            " . . 3 4 5 6 0 0",
-        ),
+        (TWO_TESTS, 0, &[1, 2, 3, 4, 5, 6, 0, 0], " . . 3 4 5 6 0 0"),
         (SATURATED, 0, &[10, 3], " 10 0"),
         (WRAPPED, 0, &[10, 3], " 10 249"),
         (CONSTANT, 0, &[9, 9, 9, 9], " 7 7 7 7"),
@@ -185,12 +181,7 @@ fn pictures_clock_by_clock(rt: HostRuntime) -> Result<(), Fail> {
         ),
         (CLAMPED_LEFT, 0, &[10, 20, 30], " 20 30 50"),
         (CLAMPED_RIGHT, 0, &[10, 20, 30, 0], " . 20 30 30"),
-        (
-            CLAMPED_CORNER,
-            0,
-            &[1, 2, 3, 4, 0, 0, 0],
-            " . . . 4 4 4 4",
-        ),
+        (CLAMPED_CORNER, 0, &[1, 2, 3, 4, 0, 0, 0], " . . . 4 4 4 4"),
         (
             CLAMPED_CORNER,
             1,
@@ -210,7 +201,13 @@ fn pictures_clock_by_clock(rt: HostRuntime) -> Result<(), Fail> {
 fn each_output_has_its_own_latency(rt: HostRuntime) -> Result<(), Fail> {
     let alloc = rt.alloc();
     let given = clocks(alloc, &[1, 10, 2, 20, 3, 30, 4, 40], 2)?;
-    assert_eq!(rt; told(alloc, TWO_PORTS, 0, &given)?.as_str(), " . 1 21 2 2 3 43 4");
-    assert_eq!(rt; told(alloc, TWO_PORTS, 1, &given)?.as_str(), " . . . 1 21 2 2 3");
+    assert_eq!(rt;
+        told(alloc, TWO_PORTS, 0, &given)?.as_str(),
+        " . 1 21 2 2 3 43 4"
+    );
+    assert_eq!(rt;
+        told(alloc, TWO_PORTS, 1, &given)?.as_str(),
+        " . . . 1 21 2 2 3"
+    );
     Ok(())
 }

@@ -14,7 +14,7 @@ use wiring::buffer_bits;
 /// The delay of each kept image, the plan's bits and the module's, and the words and the width of each array.
 fn told(alloc: Global, text: &str, age: u8) -> Result<String, Fail> {
     let mut line = String::new(alloc);
-    if age > MAX_AGE {
+    if u64::from(age) > MAX_AGE {
         return Ok(line);
     }
     let options = Options { enable: false, age };
@@ -53,10 +53,18 @@ fn plans_of_worked_programs(rt: HostRuntime) -> Result<(), Fail> {
         (CONSTANT, "0 0 bits 0 0", "0 0 bits 0 0"),
         (POINT, "0 0 bits 0 0", "0 1 bits 8 8 1x8"),
         (UNREAD, "0 0 bits 0 0", "0 1 bits 8 8 1x8"),
-        (CONSTANT_TWICE, "0 0 0 bits 3 3 1x3", "0 0 1 bits 6 6 1x3 1x3"),
+        (
+            CONSTANT_TWICE,
+            "0 0 0 bits 3 3 1x3",
+            "0 0 1 bits 6 6 1x3 1x3",
+        ),
         (CONSTANT_ONCE, "0 1 0 bits 0 0", "0 0 0 bits 3 3 1x3"),
         (LEFT_FRAME, "0 0 bits 0 0", "0 0 bits 0 0"),
-        (FAR_AND_NEAR, "0 0 bits 40 40 2x8 3x8", "0 0 bits 40 40 2x8 3x8"),
+        (
+            FAR_AND_NEAR,
+            "0 0 bits 40 40 2x8 3x8",
+            "0 0 bits 40 40 2x8 3x8",
+        ),
         (CLAMPED_LEFT, "0 0 bits 8 8 1x8", "0 1 bits 16 16 1x8 1x8"),
         (CLAMPED_RIGHT, "0 1 bits 8 8 1x8", "0 2 bits 16 16 1x8 1x8"),
         (
@@ -65,7 +73,11 @@ fn plans_of_worked_programs(rt: HostRuntime) -> Result<(), Fail> {
             "0 4 bits 32 32 1x8 1x8 1x8 1x8",
         ),
         (STEPPED_BACK, "0 0 bits 8 8 1x8", "0 1 bits 16 16 1x8 1x8"),
-        (TWO_PORTS, "0 0 1 0 bits 8 8 1x8", "0 0 2 1 bits 24 24 1x8 1x8 1x8"),
+        (
+            TWO_PORTS,
+            "0 0 1 0 bits 8 8 1x8",
+            "0 0 2 1 bits 24 24 1x8 1x8 1x8",
+        ),
         (
             LATE,
             "0 1 2 3 bits 24 24 1x8 1x8 1x8",

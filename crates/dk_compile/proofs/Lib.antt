@@ -15,3 +15,4 @@ pub mod AtAge
 pub mod Shown
 pub mod Shows
 pub mod Rounds
+pub mod Printed

@@ -1,10 +1,9 @@
 -- The picture of a drive.
-use Rattle.std.proofs.Common.{◌≡◌, ℕ, zero, suc, ◌+◌, ◌-◌, ◌*◌, ◌<◌, ◌≤◌, ℤ, pos, unsigned_abs, List, [], ◌∷◌, length, map, Option, Some, refl, ap, sym, subst, ◌∙◌, arith, All}
+use Rattle.std.proofs.Common.{◌≡◌, ℕ, suc, ◌+◌, ◌-◌, ◌<◌, ◌≤◌, unsigned_abs, List, [], ◌∷◌, length, map, Some, refl, ap, sym, subst, ◌∙◌, arith, All}
 use Rattle.std.specs.Prelude.{slice_get, nat_lt, ◌==◌}
 use Rattle.std.specs.List.{range_with_len}
 use Rattle.std.proofs.lemmas.List.{length-map}
 use Rattle.std.proofs.lemmas.Option.{slice_get_within}
-use Rattle.dk_base.specs.Frames.{Picture, area}
 use Rattle.pointwise_ir.specs.Programs.{Program}
 use Rattle.buffer_plan.specs.Plans.{Parts, latency_of}
 use Rattle.wiring.specs.Netlist.{Netlist, valid_net, dout_net}
@@ -13,7 +12,7 @@ use Rattle.wiring.specs.Clock.{Clock}
 use Rattle.wiring.specs.Runs.{Runs, picture}
 use Rattle.circuit.specs.Rounds.{Rounds, AreRounds, pixel, pixel_count}
 use Rattle.circuit.specs.Driven.{Drives, Agree, driven, fed_clock, input_widths, output_at}
-use Rattle.dk_compile.proofs.Shown.{shown, Known}
+use Rattle.dk_compile.proofs.Shown.{shown}
 
 runs_length : (m : Netlist) (cs : List Clock) (from to : Contents) (shots : List Snapshot) → Runs m from cs shots to → length cs ≡ length shots
 runs_length m [] from to [] h = refl

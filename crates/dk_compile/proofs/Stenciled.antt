@@ -1,5 +1,5 @@
 -- A text has one list of live reads, whatever form its program has.
-use Rattle.std.proofs.Common.{◌≡◌, ◌∙◌, ℕ, ℤ, List, length, map, slice_get, slice_index_or, Some, sym, ap, subst}
+use Rattle.std.proofs.Common.{◌≡◌, ◌∙◌, ℕ, ℤ, List, length, slice_get, slice_index_or, Some, sym, ap, subst}
 use Rattle.std.proofs.lemmas.List.{length-map}
 use Rattle.dk_base.specs.declared.ty.Ty.{Ty}
 use Rattle.dk_base.specs.declared.stencils.Image.{Image}

@@ -26,7 +26,7 @@ use wiring::Net;
 
 /// A program with its plan: its images without inline ones, the system of its live reads, the solution that shows the bits least, and the plan of the least vector.
 #[derive(Drop)]
-pub struct Planned {
+pub struct PlannedProgram {
     pub ir: Ir,
     pub system: System,
     pub solution: Solution,
@@ -47,7 +47,7 @@ pub struct Compiled {
 
 // A plan with what it rests on.
 #[derive(Drop)]
-struct Solved {
+struct LeastPlan {
     system: System,
     solution: Solution,
     plan: Plan,
@@ -55,14 +55,14 @@ struct Solved {
 
 // A module with the nets of the kept images, and its text.
 #[derive(Drop)]
-struct Printed {
+struct PrintedModule {
     module: Module,
     nets: Vec<Net>,
     text: Vec<u8>,
 }
 
 // The plan of least bits of these live reads at an age.
-fn solved(alloc: Global, stencils: &Stencils, age: u8) -> Result<Solved, PlanFault>
+fn solved(alloc: Global, stencils: &Stencils, age: u8) -> Result<LeastPlan, PlanFault>
     requires age { age ≤ MAX_AGE }
     ensures system { IfOk result (λ r. r.system ≡ record { stencils = stencils.now; age = age }) }
     ensures solution { IfOk result (λ r. IsSolution r.system r.solution) }
@@ -74,7 +74,7 @@ fn solved(alloc: Global, stencils: &Stencils, age: u8) -> Result<Solved, PlanFau
     let solution = solve(alloc, &system)?;
     let plan = plan(alloc, &system, &solution)?;
     plan.law();
-    Ok(Solved {
+    Ok(LeastPlan {
         system,
         solution,
         plan,
@@ -82,18 +82,18 @@ fn solved(alloc: Global, stencils: &Stencils, age: u8) -> Result<Solved, PlanFau
 }
 
 /// The program of a text with the plan of its live reads at this age, at most 64 clocks, or the first fault of the text at it. Limits on bytes are the caller's.
-pub fn planned(alloc: Global, text: &[u8], age: u8) -> Result<Planned, SourceFault>
+pub fn planned(alloc: Global, text: &[u8], age: u8) -> Result<PlannedProgram, SourceFault>
     requires age { age ≤ MAX_AGE }
     ensures planned { IfOk result (λ r. (p : Typing) × IsPlanned text.now age p r.ir r.system r.solution r.plan) }
     ensures fault { IfErr result (IsFaultAt text.now age) }
 {
     let Front { ir, stencils } = front(alloc, text)?;
-    let Solved {
+    let LeastPlan {
         system,
         solution,
         plan,
     } = solved(alloc, &stencils, age)?;
-    Ok(Planned {
+    Ok(PlannedProgram {
         ir,
         system,
         solution,
@@ -102,7 +102,7 @@ pub fn planned(alloc: Global, text: &[u8], age: u8) -> Result<Planned, SourceFau
 }
 
 // The module of a plan, and its text.
-fn printed(alloc: Global, ir: &Ir, plan: &Plan, options: Options) -> Result<Printed, Memory>
+fn printed(alloc: Global, ir: &Ir, plan: &Plan, options: Options) -> Result<PrintedModule, Memory>
     requires plan { IsPlanOf ir.now plan.now options }
     ensures circuit { IfOk result (λ r. IsCircuitOf ir.now plan.now options.enable r.«module».netlist r.nets.items) }
     ensures text { IfOk result (λ r. IsTextOf r.«module» r.text.items) }
@@ -112,26 +112,22 @@ fn printed(alloc: Global, ir: &Ir, plan: &Plan, options: Options) -> Result<Prin
     frame_drive();
     let Built { module, nets } = build_with(alloc, ir, plan, &Chain, options)?;
     let text = print(alloc, &module)?;
-    Ok(Printed { module, nets, text })
+    Ok(PrintedModule { module, nets, text })
 }
 
 /// The Verilog text of the circuit of a program, with the port `en` where it is wanted, at an age of at most 64 clocks; or the first fault of the text at this age. Limits on bytes are the caller's. The Verilog text is in the language of IEEE Std 1364-2005.
-pub fn compile_with(
-    alloc: Global,
-    text: &[u8],
-    options: Options,
-) -> Result<Compiled, SourceFault>
+pub fn compile_with(alloc: Global, text: &[u8], options: Options) -> Result<Compiled, SourceFault>
     requires age { options.age ≤ MAX_AGE }
     ensures compiled { IfOk result (λ c. (p : Typing) × IsCompiled text.now options.age options.enable p c.ir c.system c.solution c.plan c.«module» c.nets.items c.text.items) }
     ensures fault { IfErr result (IsFaultAt text.now options.age) }
 {
-    let Planned {
+    let PlannedProgram {
         ir,
         system,
         solution,
         plan,
     } = planned(alloc, text, options.age)?;
-    let Printed {
+    let PrintedModule {
         module,
         nets,
         text: verilog,

@@ -9,7 +9,7 @@ mod reading;
 
 pub use accepted::Front;
 pub use circuit::Options;
-pub use compiling::{Compiled, Planned, compile, compile_with, planned};
+pub use compiling::{Compiled, PlannedProgram, compile, compile_with, planned};
 pub use fault::SourceFault;
 pub use laws::{drive_shows, one_at_age, one_source};
 pub use reading::{front, typed};

@@ -1,4 +1,4 @@
-use Rattle.std.proofs.Common.{◌≡◌, ℕ, ◌*◌, ◌∙◌, ap, arith, map, unsigned_abs}
+use Rattle.std.proofs.Common.{◌≡◌, ◌*◌, ◌∙◌, ap, arith, map, unsigned_abs}
 use Rattle.std.specs.List.{range_with_len}
 use Rattle.dk_base.specs.Frames.{area, pixel_of}
 use Rattle.dk_compile.proofs.Shows.{shows}
