@@ -1,0 +1,7 @@
+pub mod Definitions
+pub mod Digits
+pub mod Drawing
+pub mod Joins
+pub mod Lengths
+pub mod Reading
+pub mod Samples

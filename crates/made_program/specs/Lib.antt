@@ -1,0 +1,4 @@
+pub mod Draws
+pub mod Images
+pub mod Programs
+pub mod Summary

@@ -1,0 +1,16 @@
+//! The program and the image that are made from a number, and the line that is told of it.
+#![tactic(auto)]
+
+mod definition;
+mod draws;
+mod figures;
+mod laws;
+mod made;
+mod number;
+mod pieces;
+mod worked;
+
+pub use figures::{Figures, summary};
+pub use laws::{made_is_read, made_is_small};
+pub use made::{Made, make};
+pub use worked::{made_of_one, made_of_six_definitions, made_of_three, made_of_zero};
