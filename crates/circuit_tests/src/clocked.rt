@@ -13,7 +13,7 @@ use std::alloc::Global;
 use std::test::Fail;
 
 /// One clock, or a failure where the numbers are not those of the ports or the clock stops.
-fn clock(
+pub fn clock(
     sim: &mut Sim,
     reset: bool,
     enable: bool,
