@@ -1,6 +1,7 @@
 // The net of a read: of the taps of the image that is read the one to which the steps lead.
 
-ghost use Rattle.std.specs.Prelude.{◌≡◌, ◌<◌, [], ◌∷◌, ◌++◌, ℕ, List, Contains, IfOk, IfSome, OnOk, length};
+ghost use Rattle.std.specs.Prelude.{◌≡◌, ◌<◌, [], ◌∷◌, ◌++◌, ℕ, List, Contains, IfOk, IfSome, OnOk, IsTrue, length};
+ghost use Rattle.dk_base.specs.Frames.{Size};
 ghost use Rattle.dk_base.specs.declared.stencils.LiveRead.{LiveRead};
 ghost use Rattle.dk_base.specs.Types.{width_of};
 ghost use Rattle.pointwise_ir.specs.Programs.{types_of};
@@ -10,6 +11,7 @@ ghost use Rattle.net_build.specs.Includes.{Includes};
 ghost use Rattle.net_build.specs.Draft.{IsNet};
 ghost use Rattle.net_build.specs.Logic.{AddsLogic, Computes};
 ghost use Rattle.net_build.specs.Counters.{AddsControl};
+ghost use Rattle.edge_select.specs.Steps.{LeadBy};
 ghost use Rattle.circuit.specs.Rounds.{type_at};
 ghost use Rattle.circuit.specs.Leaves.{leaf_at};
 ghost use Rattle.circuit.specs.Taps.{IsReading};
@@ -20,6 +22,7 @@ use crate::reader::{Reader, tap_of, type_of};
 use dk_base::{LiveRead, Memory, Ty};
 use edge_select::{Extent, Pixel, Step, passing};
 use net_build::{Builder, gate, number};
+use pointwise_ir::Edge;
 use wiring::{Atom, Net, Right};
 
 // What a right side of so many bits has for a choice.
@@ -88,6 +91,29 @@ fn with_tap(
     }
 }
 
+// Whether a step is not clamped and leads by another offset than the read's.
+fn differs(step: Step, read: LiveRead) -> bool
+    ensures { IsTrue result → (size : Size) (x y : ℕ) → LeadBy size (step ∷ []) read.dx read.dy x y → ⊥ }
+{
+    match step.edge {
+        Edge::Clamp => false,
+        Edge::Zero => step.dx != read.dx || step.dy != read.dy,
+    }
+}
+
+// Whether there is one step alone, which is so. It is asked of every read of an image for every leaf, most of which stand at the end of one step.
+fn misses(steps: &[Step], read: LiveRead) -> bool
+    ensures { IsTrue result → (size : Size) (x y : ℕ) → LeadBy size steps.now read.dx read.dy x y → ⊥ }
+{
+    if steps.len() != 1 {
+        return false;
+    }
+    match steps.first() {
+        Some(step) => differs(*step, read),
+        None => false,
+    }
+}
+
 // The choice with one more read, be it of the image or not.
 fn with_read(
     b: &mut Builder,
@@ -108,6 +134,10 @@ fn with_read(
     ensures choice { IfOk result (ChoosesAlso b.new b.old reader.now.ir.now reader.now.plan.now reader.now.taps.now reader.now.image (leaf_at g steps.now) read before) }
 {
     if read.g != g {
+        return Ok(before);
+    }
+    reader.plan.law();
+    if misses(steps, read) {
         return Ok(before);
     }
     let choice = with_tap(b, reader, made, steps, read, before)?;

@@ -1,8 +1,9 @@
 use Rattle.std.proofs.Common.{ℕ, subst}
 use Rattle.circuit.specs.Leaves.{leaf_at}
 use Rattle.circuit.specs.Reads.{ChoosesAlso}
-use Rattle.circuit.proofs.Placing.{control_none}
-use Rattle.circuit.proofs.Choosing.{choice_other}
+use Rattle.circuit.specs.Taps.{size_in}
+use Rattle.circuit.proofs.Placing.{control_none, columns_below, rows_below}
+use Rattle.circuit.proofs.Choosing.{choice_kept, choice_other}
 use Rattle.circuit.proofs.choices.with_read.Goals as goal
 
 pub returns-then-read-g-clause-adds : goal.returns-then-read-g-clause-adds
@@ -12,6 +13,15 @@ pub returns-then-read-g-clause-choice : goal.returns-then-read-g-clause-choice
 returns-then-read-g-clause-choice c first reads inc before =
     let r = c.args.reader.now in
     choice_other c.args.b.now first r.plan.now r.taps.now r.image reads c.args.read (leaf_at c.args.g c.args.steps.now) _ c.args.before c.if-read-g.true before
+
+pub returns-then-misses-clause-adds : goal.returns-then-misses-clause-adds
+returns-then-misses-clause-adds c = control_none c.args.b.now
+
+pub returns-then-misses-clause-choice : goal.returns-then-misses-clause-choice
+returns-then-misses-clause-choice c first reads inc before =
+    let r = c.args.reader.now in
+    let plan = r.plan.now in
+    choice_kept c.args.b.now first plan r.taps.now r.image reads c.args.read (leaf_at c.args.g c.args.steps.now) _ c.args.before (λ x y wide high same. c.misses.ensures c.if-misses.true (size_in plan) x y) (columns_below plan c.law.ensures) (rows_below plan c.law.ensures) before
 
 pub returns-clause-choice : goal.returns-clause-choice
 returns-clause-choice c =
