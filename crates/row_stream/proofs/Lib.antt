@@ -1,0 +1,15 @@
+pub mod Ranges
+pub mod Writes
+pub mod Adding
+pub mod Clocks
+pub mod Pixels
+pub mod RowLemmas
+pub mod Rasters
+pub mod HeadLemmas
+pub mod HeadEnds
+pub mod Taken
+pub mod Adds
+pub mod FirstFault
+pub mod ImageEnds
+pub mod Leaving
+pub mod MostLines

@@ -1,0 +1,10 @@
+pub mod Lines
+pub mod Forms
+pub mod Moving
+pub mod Standing
+pub mod Rows
+pub mod Heads
+pub mod Images
+pub mod Ends
+pub mod Whole
+pub mod Most

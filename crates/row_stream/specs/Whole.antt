@@ -1,0 +1,217 @@
+-- What a whole stream leaves behind.
+use Rattle.std.specs.Prelude.{◌≡◌, ℕ, ◌+◌, ◌*◌, ◌<◌, ◌≤◌, false, List, [], ◌∷◌, ◌++◌, length, map, take, replicate, Option, Some}
+use Rattle.std.specs.List.{AllByRecursion}
+use Rattle.std.specs.Io.KnownBytes.{prepend_known, IsAtEnd}
+use Rattle.dk_base.specs.declared.TheConstants.{MAX_FILE_IMAGES}
+use Rattle.dk_desk.specs.declared.Stage.TheVariants.{Open, Refused}
+use Rattle.dk_desk.specs.declared.OutSlot.TheVariants.{File}
+use Rattle.dk_desk.specs.Outside.{Outside}
+use Rattle.dk_desk.specs.Calls.{IsIfTold, CreatesOnly, AddsToFile, WritesFront, with_created}
+use Rattle.wiring.specs.Netlist.{Netlist}
+use Rattle.wiring.specs.Snapshot.{Contents, Snapshot}
+use Rattle.wiring.specs.Clock.{Clock}
+use Rattle.wiring.specs.Runs.{Runs, picture}
+use Rattle.pgm_codec.specs.declared.header.Header.{Header}
+use Rattle.pgm_codec.specs.declared.raster.RasterFault.{RasterFault}
+use Rattle.pgm_codec.specs.Answers.{Reads}
+use Rattle.pgm_codec.specs.Images.{Picture as Image, AreImages, IsRaster}
+use Rattle.pgm_rounds.specs.declared.fault.ImageFault.{ImageFault}
+use Rattle.pgm_rounds.specs.Files.{FitsFile, IsFault}
+use Rattle.row_stream.specs.declared.line.Line.{Line}
+use Rattle.row_stream.specs.declared.streaming.Room.{Room}
+use Rattle.row_stream.specs.declared.rows.RowsFault.{RowsFault}
+use Rattle.row_stream.specs.declared.rows.RowsFault.TheVariants.{Raster, Read as RowsRead}
+use Rattle.row_stream.specs.declared.faults.StreamFault.{StreamFault}
+use Rattle.row_stream.specs.declared.faults.StreamFault.TheVariants.{Image as ImageFails, Read, Write}
+use Rattle.row_stream.specs.Lines.{Kind, head, line_at, lines}
+use Rattle.row_stream.specs.Moving.{Gains, GainsBut}
+use Rattle.row_stream.specs.Standing.{HasRoom, Goes, note_of, pixel_clock, reset_clock}
+use Rattle.row_stream.specs.Heads.{FitsHeader, RefusesHead, LosesHead, TakesHead}
+use Rattle.row_stream.specs.Rows.{IsRowFault}
+use Rattle.row_stream.specs.Images.{FitsImage, samples_of}
+use Rattle.row_stream.specs.Ends.{one_port, greatest, EndsNext}
+
+-- a line of which there is nothing yet
+pub record IsFresh (line : Line) : Type 0 where
+  pub bytes : line.bytes.items ≡ []
+  pub count : line.count ≡ 0
+  pub rows : line.rows ≡ 0
+
+-- room for a line that is read and one that is made, before the first one
+pub record IsRoom (width : ℕ) (room : Room) : Type 0 where
+  pub fresh : IsFresh room.line
+  pub line : HasRoom width room.line
+  pub row : length room.row.items ≡ 2 * width
+
+-- File was created under this name, empty. Of Image only what is left has changed, and nothing else.
+pub record Creates (name : List ℕ) (old created : Outside) : Type 0 where
+  pub only : created ≡ record old { image = record old.image { rest = created.image.rest }; file = created.file; files = created.files }
+  pub stage : created.file.stage ≡ Open
+  pub named : IsIfTold created.file.name (Some name)
+  pub empty : IsIfTold created.file.bytes (Some [])
+  pub files : IsIfTold created.files (with_created old.files created.file)
+
+-- a reset clock, and then a clock for each of these numbers at the din
+abbrev pub drive : List ℕ → List Clock
+drive samples = reset_clock ∷ map (λ s. pixel_clock s) samples
+
+-- The module went through these clocks. File has the header and all lines that are whole in the picture that it shows, and each clock is noted.
+pub record Shows (kind : Kind) (m : Netlist) (from : Contents) (clocks : List Clock) (created now : Outside) : Type 0 where
+  pub shots : List Snapshot
+  pub to : Contents
+  pub runs : Runs m from clocks shots to
+  pub rows : ℕ
+  pub whole : rows * kind.size.width ≤ length (picture 0 shots)
+  pub last : length (picture 0 shots) < (rows + 1) * kind.size.width
+  pub gained : Gains created (head kind ++ lines kind (picture 0 shots) rows) (map note_of shots) now
+
+-- The module went through the first of these clocks, and the write of the line failed that is whole with some of the later ones. File has all lines before it and a front of it.
+pub record FailsShowing (kind : Kind) (m : Netlist) (from : Contents) (clocks later : List Clock) (created now : Outside) : Type 0 where
+  pub made : ℕ
+  pub some : 0 < made
+  pub within : made ≤ length later
+  pub shots : List Snapshot
+  pub to : Contents
+  pub runs : Runs m from (clocks ++ take made later) shots to
+  pub row : ℕ
+  pub whole : length (picture 0 shots) ≡ (row + 1) * kind.size.width
+  pub count : ℕ
+  pub inside : count < length (line_at kind (picture 0 shots) row)
+  pub gained : GainsBut created (head kind ++ (lines kind (picture 0 shots) row ++ take count (line_at kind (picture 0 shots) row))) (map note_of shots) now
+
+-- So many images stand at the front of all that there was, and were clocked.
+pub record ShowsImages (kind : Kind) (m : Netlist) (bits count : ℕ) (all : Option (List ℕ)) (from : Contents) (created now : Outside) : Type 0 where
+  pub images : List Image
+  pub bytes : List ℕ
+  pub are : AreImages bytes images
+  pub fit : AllByRecursion (FitsImage kind.size (greatest bits)) images
+  pub count_is : length images ≡ count
+  pub given : all ≡ prepend_known bytes now.image.rest
+  pub shows : Shows kind m from (drive (samples_of images)) created now
+
+-- So many images, the header of one more and so many of its lines stand at the front of all that there was; the images and the lines were clocked.
+pub record ShowsLines (kind : Kind) (m : Netlist) (bits count : ℕ) (header : Header) (rows : ℕ) (all : Option (List ℕ)) (from : Contents) (created now : Outside) : Type 0 where
+  pub images : List Image
+  pub bytes : List ℕ
+  pub are : AreImages bytes images
+  pub fit : AllByRecursion (FitsImage kind.size (greatest bits)) images
+  pub count_is : length images ≡ count
+  pub head : List ℕ
+  pub reads : Reads head header
+  pub exact : length head ≡ header.length
+  pub raster : List ℕ
+  pub samples : List ℕ
+  pub is_raster : IsRaster raster header.width rows header.maxval samples
+  pub given : all ≡ prepend_known (bytes ++ (head ++ raster)) now.image.rest
+  pub shows : Shows kind m from (drive (samples_of images ++ samples)) created now
+
+-- A file of images, each of them a round, was streamed to its end, and so many clocks with 0 at the din came behind it.
+pub record LeavesAll (kind : Kind) (m : Netlist) (bits latency : ℕ) (name : List ℕ) (from : Contents) (old now : Outside) : Type 0 where
+  pub created : Outside
+  pub creates : Creates name old created
+  pub images : List Image
+  pub bytes : List ℕ
+  pub are : AreImages bytes images
+  pub fit : AllByRecursion (FitsImage kind.size (greatest bits)) images
+  pub some : 0 < length images
+  pub few : length images ≤ MAX_FILE_IMAGES
+  pub given : old.image.rest ≡ prepend_known bytes now.image.rest
+  pub end : IsAtEnd now.image.rest
+  pub whole : (file : List ℕ) → old.image.rest ≡ Some file → FitsFile (one_port kind.size bits) file (map (λ image. image ∷ []) images)
+  pub shows : Shows kind m from (drive (samples_of images ++ replicate latency 0)) created now
+
+-- The next image was not begun.
+pub record LeavesBehind (kind : Kind) (m : Netlist) (bits : ℕ) (fault : StreamFault) (all : Option (List ℕ)) (from : Contents) (created now : Outside) : Type 0 where
+  pub count : ℕ
+  pub some : 0 < count
+  pub half : Outside
+  pub taken : ShowsImages kind m bits count all from created half
+  pub why : EndsNext kind.size bits count (length taken.bytes) fault half.image now.image
+  pub only : now ≡ record half { image = record half.image { rest = now.image.rest }; input_failures = now.input_failures }
+
+-- The next line of an image was not read, or is not in order.
+pub record LeavesInside (kind : Kind) (m : Netlist) (bits : ℕ) (fault : RowsFault) (all : Option (List ℕ)) (from : Contents) (created now : Outside) : Type 0 where
+  pub count : ℕ
+  pub few : count < MAX_FILE_IMAGES
+  pub header : Header
+  pub fits : FitsHeader kind.size bits header
+  pub rows : ℕ
+  pub inside : rows < header.height
+  pub half : Outside
+  pub taken : ShowsLines kind m bits count header rows all from created half
+  pub why : IsRowFault header rows fault half.image now.image
+  pub only : now ≡ record half { image = record half.image { rest = now.image.rest }; input_failures = now.input_failures }
+
+-- The next line of an image was read and is in order, and in its clocks a line is whole that can't be written.
+pub record FailsInside (kind : Kind) (m : Netlist) (bits : ℕ) (all : Option (List ℕ)) (from : Contents) (created now : Outside) : Type 0 where
+  pub count : ℕ
+  pub few : count < MAX_FILE_IMAGES
+  pub header : Header
+  pub fits : FitsHeader kind.size bits header
+  pub rows : ℕ
+  pub inside : rows < header.height
+  pub half : Outside
+  pub taken : ShowsLines kind m bits count header rows all from created half
+  pub row : List ℕ
+  pub samples : List ℕ
+  pub is_row : IsRaster row header.width 1 header.maxval samples
+  pub given : half.image.rest ≡ prepend_known row now.image.rest
+  pub fails : FailsShowing kind m from (drive (samples_of taken.images ++ taken.samples)) (map (λ s. pixel_clock s) samples) created now
+
+-- All images were streamed, and in the clocks behind them a line is whole that can't be written.
+pub record FailsBehind (kind : Kind) (m : Netlist) (bits latency : ℕ) (all : Option (List ℕ)) (from : Contents) (created now : Outside) : Type 0 where
+  pub images : List Image
+  pub bytes : List ℕ
+  pub are : AreImages bytes images
+  pub fit : AllByRecursion (FitsImage kind.size (greatest bits)) images
+  pub some : 0 < length images
+  pub few : length images ≤ MAX_FILE_IMAGES
+  pub given : all ≡ prepend_known bytes now.image.rest
+  pub end : IsAtEnd now.image.rest
+  pub fails : FailsShowing kind m from (drive (samples_of images)) (map (λ s. pixel_clock s) (replicate latency 0)) created now
+
+-- how far a file was streamed before its first fault
+pub data LeavesAtFault (kind : Kind) (m : Netlist) (bits : ℕ) (fault : ImageFault) (name : List ℕ) (from : Contents) (old now : Outside) : Type 0 where
+  -- the first header is refused, and nothing was created
+  at_start : RefusesHead kind.size bits 0 false fault old.image now.image → now ≡ record old { image = record old.image { rest = now.image.rest } } → LeavesAtFault kind m bits fault name from old now
+  behind : (created : Outside) → Creates name old created → LeavesBehind kind m bits (ImageFails fault) old.image.rest from created now → LeavesAtFault kind m bits fault name from old now
+  inside : (created : Outside) → Creates name old created → (f : RasterFault) → LeavesInside kind m bits (Raster f) old.image.rest from created now → LeavesAtFault kind m bits fault name from old now
+
+-- how far a file was streamed when a read failed
+pub data LeavesAtRead (kind : Kind) (m : Netlist) (bits : ℕ) (name : List ℕ) (from : Contents) (old now : Outside) : Type 0 where
+  -- in the first header, and nothing was created
+  read_at_start : LosesHead old.image now.image → now ≡ record old { image = record old.image { rest = now.image.rest }; input_failures = now.input_failures } → LeavesAtRead kind m bits name from old now
+  read_behind : (created : Outside) → Creates name old created → LeavesBehind kind m bits Read old.image.rest from created now → LeavesAtRead kind m bits name from old now
+  read_inside : (created : Outside) → Creates name old created → LeavesInside kind m bits RowsRead old.image.rest from created now → LeavesAtRead kind m bits name from old now
+
+-- where File can't be begun, behind the first header of Image
+pub data FailsFirst (kind : Kind) (m : Netlist) (name : List ℕ) (from : Contents) (before now : Outside) : Type 0 where
+  at_create : now.file.stage ≡ Refused → CreatesOnly before now → FailsFirst kind m name from before now
+  at_head : (created : Outside) → Creates name before created → WritesFront File created (head kind) now → FailsFirst kind m name from before now
+  at_reset : (created : Outside) → Creates name before created → FailsShowing kind m from [] (reset_clock ∷ []) created now → FailsFirst kind m name from before now
+
+-- how far a file was streamed when a create or a write failed
+pub data LeavesAtWrite (kind : Kind) (m : Netlist) (bits latency : ℕ) (name : List ℕ) (from : Contents) (old now : Outside) : Type 0 where
+  write_first : (header : Header) (before : Outside) → TakesHead header old.image before.image → FitsHeader kind.size bits header → before ≡ record old { image = record old.image { rest = before.image.rest } } → now.image ≡ before.image
+      → FailsFirst kind m name from before now → LeavesAtWrite kind m bits latency name from old now
+  write_inside : (created : Outside) → Creates name old created → FailsInside kind m bits old.image.rest from created now → LeavesAtWrite kind m bits latency name from old now
+  write_behind : (created : Outside) → Creates name old created → FailsBehind kind m bits latency old.image.rest from created now → LeavesAtWrite kind m bits latency name from old now
+
+-- It is the first fault of the file, and all lines before it were streamed.
+pub record StopsAtFault (kind : Kind) (m : Netlist) (bits : ℕ) (fault : ImageFault) (name : List ℕ) (from : Contents) (old now : Outside) : Type 0 where
+  pub leaves : LeavesAtFault kind m bits fault name from old now
+  pub first : (file : List ℕ) → old.image.rest ≡ Some file → IsFault (one_port kind.size bits) file fault
+
+-- what a stream that ended early leaves behind
+abbrev pub Leaves : Kind → Netlist → (bits latency : ℕ) → StreamFault → (name : List ℕ) → Contents → (old now : Outside) → Type 0
+Leaves kind m bits latency (ImageFails fault) name from old now = StopsAtFault kind m bits fault name from old now
+Leaves kind m bits latency Read name from old now = LeavesAtRead kind m bits name from old now
+Leaves kind m bits latency Write name from old now = LeavesAtWrite kind m bits latency name from old now
+
+-- File was created, its header written, and the reset clock made.
+pub record Begins (kind : Kind) (m : Netlist) (name : List ℕ) (from to : Contents) (old new : Line) (before now : Outside) : Type 0 where
+  pub created : Outside
+  pub creates : Creates name before created
+  pub begun : Outside
+  pub header : AddsToFile created (head kind) begun
+  pub goes : Goes kind m (reset_clock ∷ []) from to old new begun now

@@ -1,0 +1,18 @@
+//! A module of one input and one output, driven with the lines of a file of images, whose pictures are written line by line.
+//!
+//! The form of an image is that of the Netpbm manual page "pgm", as pgm_codec narrows it.
+#![tactic(auto)]
+
+mod clocking;
+mod faults;
+mod heads;
+mod images;
+mod laws;
+mod line;
+mod rows;
+mod streaming;
+
+pub use faults::StreamFault;
+pub use laws::streams_most;
+pub use line::Form;
+pub use streaming::{Room, stream};
