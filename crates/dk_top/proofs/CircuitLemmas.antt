@@ -1,7 +1,7 @@
 -- The texts of circuits.
 use Rattle.std.proofs.Common.{◌≡◌, ◌≢◌, ℕ, List, ◌++◌, Option, None, Some, IfSome, IsSomeAnd, MatchOption, refl, sym, ap, ◌∙◌, append_assoc, rules, ◌+◌, ◌<◌, ◌≤◌, length, take, get_or, subst, append-nil, Bor, Bool, true, false, [], ◌∷◌, map, option_map}
 use Rattle.dk_desk.specs.Calls.{IsIfTold}
-use Rattle.dk_top.specs.declared.circuit.Circuit.{Circuit}
+use Rattle.dk_top.specs.declared.wired.Circuit.{Circuit}
 use Rattle.std.proofs.lemmas.List.{append_cancel_left, append_cancel_right, take_all, take_more}
 use Rattle.dk_top.specs.Circuit.{text_with, module_head, module_end, right_value, shown, run_of, pixel_clocks, picture_shown}
 

@@ -25,9 +25,9 @@ use Rattle.pgm_rounds.specs.declared.round.Round.{Round}
 use Rattle.program_images.specs.Ports.{bits_of}
 use Rattle.pgm_rounds.specs.Files.{joined, frame_of, frames_of}
 use Rattle.program_images.specs.Outputs.{image_of}
-use Rattle.dk_top.specs.declared.circuit.Right.{Right}
-use Rattle.dk_top.specs.declared.circuit.Right.TheVariants.{Din, DinPlusDin}
-use Rattle.dk_top.specs.declared.circuit.Circuit.{Circuit}
+use Rattle.dk_top.specs.declared.wired.Right.{Right}
+use Rattle.dk_top.specs.declared.wired.Right.TheVariants.{Din, DinPlusDin}
+use Rattle.dk_top.specs.declared.wired.Circuit.{Circuit}
 use Rattle.dk_top.specs.Circuit.{here, clocked_body, IsClocked, right_value, run_of, pixel_clocks, picture_shown}
 use Rattle.dk_top.specs.Clocking.{IsByteRound, samples_of, clocked_images}
 use Rattle.dk_top.specs.Output.{outputs_of, output_file, all_samples}

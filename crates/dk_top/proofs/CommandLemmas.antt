@@ -15,7 +15,7 @@ use Rattle.pgm_codec.specs.Images.{file_of}
 use Rattle.pgm_rounds.specs.declared.round.Round.{Round}
 use Rattle.pgm_rounds.specs.Files.{frames_of}
 use Rattle.program_images.specs.Outputs.{output_images}
-use Rattle.dk_top.specs.declared.circuit.Right.{Right}
+use Rattle.dk_top.specs.declared.wired.Right.{Right}
 use Rattle.dk_top.specs.Program.{HasForm, IsAccepted}
 use Rattle.dk_top.specs.Circuit.{IsClocked, run_of, frame_drive}
 use Rattle.dk_top.specs.Clocking.{IsByteRound, ClockedNotes, clocked_images, samples_of}

@@ -5,7 +5,7 @@ use Rattle.dk_parser.specs.declared.tree.Name.{Name}
 use Rattle.dk_types.specs.declared.typed.TypedDefinition.{TypedDefinition}
 use Rattle.dk_types.specs.declared.typed.TypedNode.{TypedNode, Number, Read, Unary', Binary', Scale', Convert', Select'}
 use Rattle.dk_types.specs.Typed.{Typed, Definition, definitions_as, typed_at, typed_of, type_of}
-use Rattle.dk_top.specs.declared.circuit.Right.{Right}
+use Rattle.dk_top.specs.declared.wired.Right.{Right}
 use Rattle.dk_top.specs.Circuit.{clocked_body}
 
 pub type_is : (t : Ty) (n : TypedNode) → type_of (typed_at t n) ≡ t

@@ -9,8 +9,8 @@ use Rattle.pgm_codec.specs.Images.{header_of}
 use Rattle.pgm_rounds.specs.declared.round.Round.{Round}
 use Rattle.pgm_rounds.specs.Files.{frames_of}
 use Rattle.dk_frames.specs.declared.frame.Frame.{Frame}
-use Rattle.dk_top.specs.declared.circuit.Right.{Right}
-use Rattle.dk_top.specs.declared.circuit.Circuit.{Circuit}
+use Rattle.dk_top.specs.declared.wired.Right.{Right}
+use Rattle.dk_top.specs.declared.wired.Circuit.{Circuit}
 use Rattle.dk_top.specs.Circuit.{shown, run_of, pixel_clocks, picture_shown}
 use Rattle.dk_top.specs.Clocking.{IsByteRound, samples_of, clocked_images}
 use Rattle.dk_top.proofs.CircuitLemmas.{run_append, noted_more}

@@ -7,9 +7,9 @@ use Rattle.dk_base.specs.declared.operator.Conversion.TheVariants.{Cast}
 use Rattle.dk_parser.specs.declared.tree.Name.{Name}
 use Rattle.dk_types.specs.Typed.{Typed, fetch, double, converted, Typing}
 use Rattle.pgm_codec.specs.Images.{Picture as Image}
-use Rattle.dk_top.specs.declared.circuit.Right.{Right}
-use Rattle.dk_top.specs.declared.circuit.Right.TheVariants.{Din, DinPlusDin}
-use Rattle.dk_top.specs.declared.circuit.Circuit.{Circuit}
+use Rattle.dk_top.specs.declared.wired.Right.{Right}
+use Rattle.dk_top.specs.declared.wired.Right.TheVariants.{Din, DinPlusDin}
+use Rattle.dk_top.specs.declared.wired.Circuit.{Circuit}
 use Rattle.dk_top.specs.Output.{all_samples, outputs_of}
 
 -- the first input of 8 bits, at the point itself

@@ -6,8 +6,8 @@ use Rattle.dk_base.specs.Frames.{Size}
 use Rattle.dk_desk.specs.Calls.{IsIfTold}
 use Rattle.pgm_codec.specs.Images.{header_of}
 use Rattle.dk_frames.specs.declared.frame.Frame.{Frame}
-use Rattle.dk_top.specs.declared.circuit.Right.{Right}
-use Rattle.dk_top.specs.declared.circuit.Circuit.{Circuit}
+use Rattle.dk_top.specs.declared.wired.Right.{Right}
+use Rattle.dk_top.specs.declared.wired.Circuit.{Circuit}
 use Rattle.dk_top.specs.Circuit.{verilog_text, run_of, frame_drive, pixel_clocks, picture_shown}
 
 -- a round of one frame, with samples of 8 bits

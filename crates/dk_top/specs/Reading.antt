@@ -9,7 +9,7 @@ use Rattle.dk_endings.specs.declared.ending.Ending.{Ending}
 use Rattle.dk_endings.specs.declared.ending.Ending.TheVariants as ending
 use Rattle.dk_endings.specs.declared.ending.ImageFault.TheVariants as image
 use Rattle.dk_base.specs.declared.TheConstants.{MAX_PGM_BYTES}
-use Rattle.dk_top.specs.declared.circuit.Right.{Right}
+use Rattle.dk_top.specs.declared.wired.Right.{Right}
 use Rattle.dk_top.specs.Circuit.{IsClocked, IsNotClocked}
 use Rattle.dk_top.specs.Program.{HasForm, IsAccepted, IsSourceFault}
 use Rattle.dk_top.specs.Output.{Fits, IsImageFault}

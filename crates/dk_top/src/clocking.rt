@@ -11,7 +11,7 @@ ghost use Rattle.pgm_rounds.specs.Files.{frames_of};
 ghost use Rattle.dk_top.specs.Circuit.{picture_shown, pixel_clocks, run_of, shown};
 ghost use Rattle.dk_top.specs.Clocking.{IsByteRound, ClockedNotes, clocked_images, samples_of};
 
-use crate::circuit::{Circuit, Right};
+use crate::wired::{Circuit, Right};
 use dk_base::{FrameSize, Memory};
 use dk_desk::Desk;
 use pgm_codec::write_header;

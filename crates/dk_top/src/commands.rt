@@ -14,11 +14,11 @@ ghost use Rattle.dk_top.specs.Verdict.{IsVerdict, OfPair};
 ghost use Rattle.dk_top.specs.State.{AsksOnly, AsksInOrder, CreatesNothing, CreatesOut, FilesStay, IsHeld, IsNoted, IsPrefix, OthersStay, RunNoted};
 ghost use Rattle.dk_top.specs.Reading.{IsRead, IsFormOf};
 
-use crate::circuit::Right;
 use crate::clocking::clocked_output;
 use crate::files::write_file;
 use crate::form::form_of;
 use crate::reading::{Given, read_given};
+use crate::wired::Right;
 use dk_base::Memory;
 use dk_compile::{one_source, typed};
 use dk_desk::{Desk, Stage};

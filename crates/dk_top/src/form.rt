@@ -4,10 +4,10 @@ ghost use Rattle.std.specs.Prelude.{◌≡◌, ◌∷◌, [], pos, false, IsTrue
 ghost use Rattle.dk_base.specs.declared.ty.Ty.{Ty as ValueType};
 ghost use Rattle.dk_parser.specs.declared.tree.Name.{Name};
 ghost use Rattle.dk_types.specs.Typed.{typed_of, typing_of, definitions_as};
-ghost use Rattle.dk_top.specs.declared.circuit.Right.{Right as Driver};
+ghost use Rattle.dk_top.specs.declared.wired.Right.{Right as Driver};
 ghost use Rattle.dk_top.specs.Circuit.{here, clocked_body, IsClocked};
 
-use crate::circuit::Right;
+use crate::wired::Right;
 use dk_base::{Binary, Conversion, Ty};
 use dk_types::{TypedDefinition, TypedExpr, TypedInput, TypedNode, TypedProgram, TypedRead};
 

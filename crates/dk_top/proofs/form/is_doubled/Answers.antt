@@ -1,6 +1,6 @@
 use Rattle.std.proofs.Common.{refl, rules}
 use Rattle.dk_base.specs.declared.ty.Ty.TheVariants.{Unsigned}
-use Rattle.dk_top.specs.declared.circuit.Right.TheVariants.{DinPlusDin}
+use Rattle.dk_top.specs.declared.wired.Right.TheVariants.{DinPlusDin}
 use Rattle.dk_top.specs.Circuit.{clocked_body}
 use Rattle.dk_top.proofs.FormLemmas.{not_typed}
 use Rattle.dk_top.proofs.form.is_doubled.Goals as goal

@@ -1,8 +1,8 @@
 //! The circuit of a program that is clocked: its Verilog text, and what it shows at each clock.
 
 ghost use Rattle.std.specs.Prelude.{◌≡◌, ℕ, List, IfOk, IfSome, IsSomeAnd, Some};
-ghost use Rattle.dk_top.specs.declared.circuit.Circuit.{Circuit};
-ghost use Rattle.dk_top.specs.declared.circuit.Right.{Right};
+ghost use Rattle.dk_top.specs.declared.wired.Circuit.{Circuit};
+ghost use Rattle.dk_top.specs.declared.wired.Right.{Right};
 ghost use Rattle.dk_top.specs.Circuit.{right_text, shown, text_with, verilog_text};
 
 use crate::bytes::{after, before};

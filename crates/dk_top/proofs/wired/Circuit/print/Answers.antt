@@ -1,6 +1,6 @@
 use Rattle.dk_top.specs.Circuit.{module_head, module_end}
 use Rattle.dk_top.proofs.CircuitLemmas.{appended}
-use Rattle.dk_top.proofs.circuit.Circuit.print.Goals as goal
+use Rattle.dk_top.proofs.wired.Circuit.print.Goals as goal
 
 pub returns : goal.returns
 unfolding module_head module_end

@@ -1,7 +1,7 @@
 use Rattle.dk_top.specs.Circuit.{module_head, module_end}
 use Rattle.dk_top.proofs.CircuitLemmas.{right_sound, right_complete}
 use Rattle.std.proofs.Common.{◌++◌}
-use Rattle.dk_top.proofs.circuit.right_of.Goals as goal
+use Rattle.dk_top.proofs.wired.right_of.Goals as goal
 
 pub returns-in_err-after-clause-complete : goal.returns-in_err-after-clause-complete
 unfolding module_head module_end
