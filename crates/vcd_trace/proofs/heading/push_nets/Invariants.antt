@@ -1,0 +1,6 @@
+use Rattle.std.proofs.Common.{◌≡◌, ◌++◌, drop}
+use Rattle.vcd_trace.specs.Header.{each_at, named_text}
+use Rattle.vcd_trace.proofs.heading.push_nets.Given as goal
+
+abbrev pub invariant-loop-k : goal.invariant-loop-k
+invariant-loop-k l = l.out.items ++ each_at (named_text l.kind l.names l.from) l.k (drop l.k l.widths) ≡ l.fn.out.items ++ each_at (named_text l.kind l.names l.from) 0 l.widths

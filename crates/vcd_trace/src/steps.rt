@@ -1,0 +1,170 @@
+// A clock of a trace that is read.
+
+ghost use Rattle.std.specs.Prelude.{◌≡◌, ◌≤◌, ◌<◌, ◌+◌, ◌^◌, ◌++◌, [], ◌∷◌, length, IfOk, IfSome, IsTrue, MatchResult, MatchOption};
+ghost use Rattle.vcd_trace.specs.Layout.{AreValues, time_line};
+ghost use Rattle.vcd_trace.specs.Steps.{stays as stays_at};
+ghost use Rattle.vcd_trace.specs.Answers.{ReadsValue, RefusesValue, ReadsClock, RefusesClock, EndsAt, RefusesTime, GoesOnAt, RefusesAt};
+
+use crate::fault::VcdError;
+use crate::reading::{after_time, told};
+use netlist::Width;
+use std::alloc::Global;
+
+/// Whether a clock tells nothing of a variable that has this value.
+fn stays(first: bool, before: u64, value: u64) -> bool
+    ensures { result ≡ stays_at first before value }
+{
+    if first { false } else { before == value }
+}
+
+/// A value, the bytes behind its line, and their line's number.
+#[derive(Clone, Copy, Drop)]
+pub(crate) struct ReadValue<'a> {
+    pub value: u64,
+    pub rest: &'a [u8],
+    pub number: u64,
+}
+
+/// The value of a variable that is told at the front, or else the one that it had.
+fn read_value<'a>(
+    line: &mut Vec<u8>,
+    first: bool,
+    width: Width,
+    place: usize,
+    before: u64,
+    bytes: &'a [u8],
+    number: u64,
+) -> Result<ReadValue<'a>, VcdError>
+    requires before { before < 2 ^ width }
+    requires count { number + length bytes.now < 2 ^ 64 }
+    ensures value { MatchResult result (λ r. ReadsValue first place width before bytes.now number r.value r.rest.now r.number) (λ e. RefusesValue first place width before bytes.now number e) }
+    ensures fits { IfOk result (λ r. r.value < 2 ^ width) }
+    ensures count { IfOk result (λ r. r.number + length r.rest.now ≤ number + length bytes.now) }
+    ensures shorter { IfOk result (λ r. length r.rest.now ≤ length bytes.now) }
+{
+    match told(line, width, place, bytes) {
+        Err(_) => Err(VcdError::Memory),
+        Ok(None) => {
+            if first {
+                return Err(VcdError::Fault { line: number });
+            }
+            Ok(ReadValue {
+                value: before,
+                rest: bytes,
+                number,
+            })
+        }
+        Ok(Some((value, rest))) => {
+            if stays(first, before, value) {
+                return Err(VcdError::Fault { line: number });
+            }
+            Ok(ReadValue {
+                value,
+                rest,
+                number: number + 1,
+            })
+        }
+    }
+}
+
+/// The values of a clock, the bytes behind its lines, and the number of the line there.
+#[derive(Drop)]
+pub(crate) struct ReadClock<'a> {
+    pub values: Vec<u64>,
+    pub rest: &'a [u8],
+    pub number: u64,
+}
+
+/// The values of a clock whose time was read.
+fn read_clock<'a>(
+    alloc: Global,
+    line: &mut Vec<u8>,
+    first: bool,
+    widths: &[Width],
+    before: &[u64],
+    bytes: &'a [u8],
+    number: u64,
+) -> Result<ReadClock<'a>, VcdError>
+    requires before { AreValues widths.now before.now }
+    requires count { number + length bytes.now < 2 ^ 64 }
+    ensures clock { MatchResult result (λ r. ReadsClock first widths.now before.now bytes.now number r.values.items r.rest.now r.number) (λ e. RefusesClock first widths.now before.now bytes.now number e) }
+    ensures fits { IfOk result (λ r. AreValues widths.now r.values.items) }
+    ensures count { IfOk result (λ r. r.number + length r.rest.now ≤ number + length bytes.now) }
+    ensures shorter { IfOk result (λ r. length r.rest.now ≤ length bytes.now) }
+{
+    let mut values = Vec::new(alloc);
+    let mut rest = bytes;
+    let mut line_number = number;
+    for (place, width) in widths.iter().enumerate() {
+        match read_value(line, first, *width, place, before[place], rest, line_number) {
+            Err(fault) => return Err(fault),
+            Ok(read) => {
+                if values.push(read.value).is_err() {
+                    return Err(VcdError::Memory);
+                }
+                rest = read.rest;
+                line_number = read.number;
+            }
+        }
+    }
+    Ok(ReadClock {
+        values,
+        rest,
+        number: line_number,
+    })
+}
+
+/// The bytes behind the line of a time.
+fn read_time<'a>(
+    line: &mut Vec<u8>,
+    time: u64,
+    bytes: &'a [u8],
+    number: u64,
+) -> Result<&'a [u8], VcdError>
+    ensures time { MatchResult result (λ rest. bytes.now ≡ (time_line time ++ 10 ∷ []) ++ rest.now) (λ e. RefusesTime time bytes.now number e) }
+    ensures shorter { IfOk result (λ rest. length rest.now < length bytes.now) }
+{
+    match after_time(line, time, bytes) {
+        Err(_) => Err(VcdError::Memory),
+        Ok(None) => Err(VcdError::Fault { line: number }),
+        Ok(Some(rest)) => Ok(rest),
+    }
+}
+
+fn is_done(bytes: &[u8]) -> bool
+    ensures yes { IsTrue result → bytes.now ≡ [] }
+    ensures no { bytes.now ≡ [] → IsTrue result }
+{
+    bytes.is_empty()
+}
+
+/// The clock at a time, from the line of that time on; None where the text ends behind that line.
+pub(crate) fn read_at<'a>(
+    alloc: Global,
+    line: &mut Vec<u8>,
+    first: bool,
+    time: u64,
+    widths: &[Width],
+    before: &[u64],
+    bytes: &'a [u8],
+    number: u64,
+) -> Result<Option<ReadClock<'a>>, VcdError>
+    requires before { AreValues widths.now before.now }
+    requires count { number + length bytes.now < 2 ^ 64 }
+    ensures clock { MatchResult result (λ o. MatchOption o (EndsAt first time widths.now before.now bytes.now number) (λ r. GoesOnAt first time widths.now before.now bytes.now number r.values.items r.rest.now r.number)) (λ e. RefusesAt first time widths.now before.now bytes.now number e) }
+    ensures fits { IfOk result (λ o. IfSome o (λ r. AreValues widths.now r.values.items)) }
+    ensures count { IfOk result (λ o. IfSome o (λ r. r.number + length r.rest.now ≤ number + length bytes.now)) }
+    ensures shorter { IfOk result (λ o. IfSome o (λ r. length r.rest.now < length bytes.now)) }
+{
+    let after = match read_time(line, time, bytes, number) {
+        Err(fault) => return Err(fault),
+        Ok(after) => after,
+    };
+    if is_done(after) {
+        return Ok(None);
+    }
+    match read_clock(alloc, line, first, widths, before, after, number + 1) {
+        Err(fault) => Err(fault),
+        Ok(clock) => Ok(Some(clock)),
+    }
+}
