@@ -1,23 +1,22 @@
 -- What an accepted text's form and live reads have.
-use Rattle.std.proofs.Common.{◌≡◌, ◌∙◌, ℕ, ◌<◌, List, length, map, slice_index_or, sym, ap, subst, arith}
+use Rattle.std.proofs.Common.{◌≡◌, ◌∙◌, ℕ, ◌<◌, List, length, map, slice_index_or, sym, subst, arith}
 use Rattle.std.specs.Prelude.{All}
 use Rattle.std.proofs.lemmas.List.{length-map, length-append}
 use Rattle.std.proofs.lemmas.Option.{slice_get_within}
-use Rattle.dk_base.specs.declared.ty.Ty.{Ty}
 use Rattle.dk_base.specs.declared.stencils.Image.{Image}
 use Rattle.dk_base.specs.Stencils.{Parts as Stencils}
 use Rattle.dk_lexer.specs.declared.token.Token.{Token}
 use Rattle.dk_lexer.specs.Lexis.{HasTokens}
 use Rattle.dk_parser.specs.Programs.{Source}
 use Rattle.dk_parser.specs.Judged.{Accepted}
-use Rattle.dk_types.specs.declared.typed.TypedInput.{TypedInput}
 use Rattle.dk_types.specs.Typed.{Typing}
 use Rattle.dk_types.specs.Types.{IsTyping}
 use Rattle.dk_inline.specs.Answers.{image_names}
 use Rattle.pointwise_ir.specs.declared.ir.Input.{Input}
 use Rattle.pointwise_ir.specs.declared.ir.Definition.{Definition}
 use Rattle.pointwise_ir.specs.Programs.{Program, names_of, types_of}
-use Rattle.dk_compile.specs.Fronts.{IsForm, IsFront}
+use Rattle.dk_compile.specs.Fronts.{IsFront}
+use Rattle.dk_compile.proofs.Stenciled.{inputs_count}
 use Rattle.report_text.specs.Reports.{AreNames}
 
 -- the law of the names
@@ -35,11 +34,6 @@ names_count ir = omega (
   length-map ir.images (λ (d : Definition). d.ty),
   length-map ir.images (λ (d : Definition). d.name),
 )
-
--- a form has as many inputs as its program
-pub inputs_count : (p : Typing) (ir : Program) → IsForm p ir → length ir.inputs ≡ length p.inputs
-inputs_count p ir form =
-    sym (length-map ir.inputs (λ (i : Input). i.ty)) ∙ (ap (λ (ts : List Ty). length ts) form.inputs ∙ length-map p.inputs (λ (i : TypedInput). i.ty))
 
 -- the kept images are images of the program
 pub front_images : (text : List ℕ) (p : Typing) (ir : Program) (s : Stencils) → IsFront text p ir s → All (λ (i : Image). i.number < length (names_of ir)) s.images
