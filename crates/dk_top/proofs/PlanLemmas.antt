@@ -1,11 +1,10 @@
 -- A program's text decides one ending of `plan`, and with a report one of `check`.
-use Rattle.std.proofs.Common.{◌≡◌, inl, inr, ℕ, ◌≤◌, List, refl, ap, arith}
+use Rattle.std.proofs.Common.{◌≡◌, inl, inr, ℕ, List, refl, ap, arith}
 use Rattle.dk_types.specs.Typed.{Typing}
 use Rattle.dk_plan.specs.declared.judging.Claim.{Claim}
 use Rattle.dk_endings.specs.declared.ending.Ending.{Ending}
 use Rattle.dk_endings.specs.declared.ending.Ending.TheVariants as ending
 use Rattle.dk_endings.specs.declared.ending.SourceFault.{SourceFault}
-use Rattle.dk_endings.specs.declared.ending.SourceFault.TheVariants as source
 use Rattle.dk_endings.specs.declared.ending.ReportFault.{ReportFault}
 use Rattle.dk_endings.specs.declared.ending.ReportFault.TheVariants as report
 use Rattle.dk_top.specs.Program.{IsAccepted, IsSourceFault}

@@ -1,7 +1,6 @@
 -- What is read of a command's files.
-use Rattle.std.proofs.Common.{◌≡◌, ℕ, ◌≤◌, ◌<◌, List, length, map, Option, None, Some, Result, Ok, Err, IfOk, IfErr, IfSome, sym, ap, ◌∙◌, subst, arith}
+use Rattle.std.proofs.Common.{◌≡◌, ℕ, ◌<◌, List, length, map, Option, None, Some, Result, Ok, Err, IfOk, IfErr, IfSome, sym, ap, ◌∙◌, subst, arith}
 use Rattle.std.proofs.lemmas.List.{length-map}
-use Rattle.dk_base.specs.declared.TheConstants.{MAX_SOURCE_BYTES}
 use Rattle.dk_base.specs.Types.{width_of}
 use Rattle.dk_types.specs.Typed.{Typing}
 use Rattle.pointwise_ir.specs.Programs.{Program, IsProgram}

@@ -1,8 +1,7 @@
 //! `plan` and `check`: reports of delays and buffer bits.
 
-ghost use Rattle.std.specs.Prelude.{◌≡◌, ◌≢◌, ◌≤◌, ◌<◌, ℕ, List, Some, None, Err, IfOk, IfErr, IfSome, OnOk, length, vec_len};
+ghost use Rattle.std.specs.Prelude.{◌≡◌, ◌≢◌, ◌≤◌, ◌<◌, ℕ, List, Some, Err, IfOk, IfErr, IfSome, OnOk, length, vec_len};
 ghost use Rattle.dk_base.specs.declared.TheConstants.{MAX_SOURCE_BYTES, MAX_AGE};
-ghost use Rattle.dk_desk.specs.Outside.{Outside};
 ghost use Rattle.dk_desk.specs.Calls.{HasCauseIn, IsIfTold, OpensOnly};
 ghost use Rattle.dk_types.specs.Typed.{Typing};
 ghost use Rattle.dk_compile.specs.Sources as of;
@@ -12,16 +11,16 @@ ghost use Rattle.dk_base.specs.Stencils.{Parts as Stencils};
 ghost use Rattle.buffer_plan.specs.Limits.{IsPlanFault};
 ghost use Rattle.dk_plan.specs.Planned.{aged};
 ghost use Rattle.dk_top.specs.Command.{plan as plan_command, check as check_command};
-ghost use Rattle.dk_top.specs.Program.{IsAccepted};
 ghost use Rattle.dk_top.specs.Plans.{IsPlanOf};
-ghost use Rattle.dk_top.specs.Reports.{CanBePlanned, IsFaultAt, IsChecked};
-ghost use Rattle.dk_top.specs.Verdict.{bytes_of, IsVerdict, IsPlanAnswer, IsCheckAnswer};
-ghost use Rattle.dk_top.specs.State.{AsksOnly, AsksInOrder, AsksWhereAccepted, CreatesNothing, CreatesOut, FilesStay, IsHeld, IsNoted, IsReported, WritesNothing};
+ghost use Rattle.dk_top.specs.Reports.{CanBePlanned, IsChecked};
+ghost use Rattle.dk_top.specs.Verdict.{bytes_of, IsCheckAnswer};
+ghost use Rattle.dk_top.specs.State.{AsksWhereAccepted};
 ghost use Rattle.dk_top.specs.Reading.{Stops, IsSourceEnding};
 ghost use Rattle.dk_top.specs.Reporting.{HasFront, IsPlanEnding, IsReportEnding};
 
 use crate::files::{read_input, write_report};
 use crate::reading::{ending_of, read_text};
+use crate::work::Work;
 use dk_base::{MAX_REPORT_BYTES, MAX_SOURCE_BYTES};
 use dk_compile::{Front, front};
 use dk_desk::transfer::ReadAll;
@@ -103,35 +102,18 @@ fn read_plan<D: Desk>(alloc: Global, desk: &mut D, name: &str, age: u8) -> Resul
 }
 
 /// Writes the report of the program to Report.
-pub fn plan<D: Desk>(alloc: Global, words: &PlanWords<'_>, desk: &mut D) -> Ending
-    requires age { words.now.age ≤ MAX_AGE }
-    requires program { (D.outside desk.old).program.stage ≡ Stage.Unasked }
-    requires image { (D.outside desk.old).image.stage ≡ Stage.Unasked }
-    requires file { (D.outside desk.old).file.stage ≡ Stage.Unasked }
-    ensures taken { result ≢ Ending.Usage }
-    ensures verdict { IfSome (D.outside desk.old).files (λ files. IsVerdict (plan_command words.now.program.now words.now.age) files result) }
-    ensures asked { AsksOnly (Some (plan_command words.now.program.now words.now.age)) (D.outside desk.new) }
-    ensures order { IfSome (D.outside desk.old).files (λ files. AsksInOrder (plan_command words.now.program.now words.now.age) files (D.outside desk.new)) }
-    ensures created { CreatesNothing result → (D.outside desk.new).file.stage ≡ Stage.Unasked }
-    ensures written { result ≡ Ending.Done → CreatesOut (Some (plan_command words.now.program.now words.now.age)) (D.outside desk.new) }
-    ensures output { (D.outside desk.new).file.stage ≡ Stage.Open → IfSome (D.outside desk.old).files (λ files. IfSome (D.outside desk.new).file.bytes (IsHeld result (plan_command words.now.program.now words.now.age) files)) }
-    ensures files { FilesStay (Some (plan_command words.now.program.now words.now.age)) (D.outside desk.old).files (D.outside desk.new).files }
-    ensures files_stay { (D.outside desk.new).file.stage ≢ Stage.Open → (D.outside desk.new).files ≡ (D.outside desk.old).files }
-    ensures report_stays { WritesNothing (Some (plan_command words.now.program.now words.now.age)) result → (D.outside desk.new).report ≡ (D.outside desk.old).report }
-    ensures report { IfSome (D.outside desk.old).files (λ files. IsReported result (plan_command words.now.program.now words.now.age) files (D.outside desk.old).report (D.outside desk.new).report) }
-    ensures notes { IfSome (D.outside desk.old).files (λ files. IsNoted (plan_command words.now.program.now words.now.age) result files (D.outside desk.old).notes (D.outside desk.new).notes) }
-    ensures fault { (D.outside desk.new).fault ≡ (D.outside desk.old).fault }
-    ensures fault_count { (D.outside desk.new).fault_failures ≡ (D.outside desk.old).fault_failures }
-    ensures read_fault { HasCauseIn (result ≡ Ending.ReadFault) (D.outside desk.old).input_failures (D.outside desk.new).input_failures }
-    ensures write_fault { HasCauseIn (result ≡ Ending.WriteFault) (D.outside desk.old).output_failures (D.outside desk.new).output_failures }
-{
-    let report = match read_plan(alloc, desk, words.program, words.age) {
-        Ok(report) => report,
-        Err(ending) => return ending,
-    };
-    match write_report(desk, &report) {
-        Ok(()) => Ending::Done,
-        Err(_) => Ending::WriteFault,
+impl Work for PlanWords<'_> {
+    ghost command = { λ words. plan_command words.program.now words.age };
+
+    fn perform<D: Desk>(&self, alloc: Global, desk: &mut D) -> Ending {
+        let report = match read_plan(alloc, desk, self.program, self.age) {
+            Ok(report) => report,
+            Err(ending) => return ending,
+        };
+        match write_report(desk, &report) {
+            Ok(()) => Ending::Done,
+            Err(_) => Ending::WriteFault,
+        }
     }
 }
 
@@ -258,33 +240,17 @@ fn read_claim<D: Desk>(
 }
 
 /// Judges a report, whoever made it, and writes to Report what it says where it holds.
-pub fn check<D: Desk>(alloc: Global, words: &CheckWords<'_>, desk: &mut D) -> Ending
-    requires program { (D.outside desk.old).program.stage ≡ Stage.Unasked }
-    requires image { (D.outside desk.old).image.stage ≡ Stage.Unasked }
-    requires file { (D.outside desk.old).file.stage ≡ Stage.Unasked }
-    ensures taken { result ≢ Ending.Usage }
-    ensures verdict { IfSome (D.outside desk.old).files (λ files. IsVerdict (check_command words.now.program.now words.now.report.now) files result) }
-    ensures asked { AsksOnly (Some (check_command words.now.program.now words.now.report.now)) (D.outside desk.new) }
-    ensures order { IfSome (D.outside desk.old).files (λ files. AsksInOrder (check_command words.now.program.now words.now.report.now) files (D.outside desk.new)) }
-    ensures created { CreatesNothing result → (D.outside desk.new).file.stage ≡ Stage.Unasked }
-    ensures written { result ≡ Ending.Done → CreatesOut (Some (check_command words.now.program.now words.now.report.now)) (D.outside desk.new) }
-    ensures output { (D.outside desk.new).file.stage ≡ Stage.Open → IfSome (D.outside desk.old).files (λ files. IfSome (D.outside desk.new).file.bytes (IsHeld result (check_command words.now.program.now words.now.report.now) files)) }
-    ensures files { FilesStay (Some (check_command words.now.program.now words.now.report.now)) (D.outside desk.old).files (D.outside desk.new).files }
-    ensures files_stay { (D.outside desk.new).file.stage ≢ Stage.Open → (D.outside desk.new).files ≡ (D.outside desk.old).files }
-    ensures report_stays { WritesNothing (Some (check_command words.now.program.now words.now.report.now)) result → (D.outside desk.new).report ≡ (D.outside desk.old).report }
-    ensures report { IfSome (D.outside desk.old).files (λ files. IsReported result (check_command words.now.program.now words.now.report.now) files (D.outside desk.old).report (D.outside desk.new).report) }
-    ensures notes { IfSome (D.outside desk.old).files (λ files. IsNoted (check_command words.now.program.now words.now.report.now) result files (D.outside desk.old).notes (D.outside desk.new).notes) }
-    ensures fault { (D.outside desk.new).fault ≡ (D.outside desk.old).fault }
-    ensures fault_count { (D.outside desk.new).fault_failures ≡ (D.outside desk.old).fault_failures }
-    ensures read_fault { HasCauseIn (result ≡ Ending.ReadFault) (D.outside desk.old).input_failures (D.outside desk.new).input_failures }
-    ensures write_fault { HasCauseIn (result ≡ Ending.WriteFault) (D.outside desk.old).output_failures (D.outside desk.new).output_failures }
-{
-    let claim = match read_claim(alloc, desk, words.program, words.report) {
-        Ok(claim) => claim,
-        Err(ending) => return ending,
-    };
-    match write_report(desk, holds_line(claim.bits, claim.latency).as_bytes()) {
-        Ok(()) => Ending::Done,
-        Err(_) => Ending::WriteFault,
+impl Work for CheckWords<'_> {
+    ghost command = { λ words. check_command words.program.now words.report.now };
+
+    fn perform<D: Desk>(&self, alloc: Global, desk: &mut D) -> Ending {
+        let claim = match read_claim(alloc, desk, self.program, self.report) {
+            Ok(claim) => claim,
+            Err(ending) => return ending,
+        };
+        match write_report(desk, holds_line(claim.bits, claim.latency).as_bytes()) {
+            Ok(()) => Ending::Done,
+            Err(_) => Ending::WriteFault,
+        }
     }
 }

@@ -1,25 +1,23 @@
 //! `sim`: any Verilog text of the subset is clocked on the images of a file.
 
-ghost use Rattle.std.specs.Prelude.{◌≡◌, ◌≢◌, ◌≤◌, ◌<◌, ◌++◌, ℕ, Bool, List, Option, Some, None, Err, true, IsSome, IfOk, IfErr, IfSome, IfNone, OnOk, length, vec_len};
-ghost use Rattle.std.specs.Option.{option_map};
+ghost use Rattle.std.specs.Prelude.{◌≡◌, ◌≢◌, ◌≤◌, ◌<◌, ℕ, List, Option, Some, None, Err, true, IsSome, IfOk, IfErr, IfSome, IfNone, OnOk, length, vec_len};
 ghost use Rattle.dk_base.specs.Frames.{IsFrame};
 ghost use Rattle.dk_base.specs.FrameSizes.{size_of};
-ghost use Rattle.dk_desk.specs.Outside.{Outside};
 ghost use Rattle.dk_desk.specs.Calls.{HasCauseIn, IsIfTold, OpensOnly};
 ghost use Rattle.verilog_text.specs.Stands.{StandsFor};
 ghost use Rattle.verilog_text.specs.Faults.{IsFault};
-ghost use Rattle.test_bench.specs.Showing.{IsNoted as AreNotes};
 ghost use Rattle.cycle_sim.specs.Ports.{din_widths};
-ghost use Rattle.test_bench.specs.Given.{AreBenchFrames, rounds_of};
+ghost use Rattle.test_bench.specs.Given.{AreBenchFrames};
 ghost use Rattle.dk_words.specs.declared.command.PowerUp.{PowerUp as OnePower};
 ghost use Rattle.dk_top.specs.Command.{sim as sim_command};
 ghost use Rattle.dk_top.specs.Simulation.{drive_of, fill_of as fill_named, IsModuleOf, LacksEnable, IsSimulated};
-ghost use Rattle.dk_top.specs.Verdict.{bytes_of, IsVerdict, IsSimAnswer};
-ghost use Rattle.dk_top.specs.State.{AsksOnly, AsksInOrder, AsksWhereModule, CreatesNothing, CreatesOut, FilesStay, IsHeld, IsNoted, NotesSim};
+ghost use Rattle.dk_top.specs.Verdict.{bytes_of, IsSimAnswer};
+ghost use Rattle.dk_top.specs.State.{AsksWhereModule, NotesSim};
 ghost use Rattle.dk_top.specs.Simulating.{IsModuleEnding, IsFileEnding, IsInput, IsSimInput};
 ghost use Rattle.dk_top.specs.Reading.{Stops};
 
 use crate::files::{read_file, read_input, write_file};
+use crate::work::Work;
 use cycle_sim::Fill;
 use dk_base::{MAX_PGM_BYTES, MAX_VERILOG_BYTES, Span};
 use dk_desk::transfer::ReadAll;
@@ -255,42 +253,26 @@ fn pictures<D: Desk>(
 }
 
 /// Clocks the module of a Verilog text on the images of a file, and writes the pictures that it shows.
-pub fn sim<D: Desk>(alloc: Global, words: &SimWords<'_>, desk: &mut D) -> Ending
-    requires hold { IfSome words.now.hold (λ count. 0 < count) }
-    requires program { (D.outside desk.old).program.stage ≡ Stage.Unasked }
-    requires image { (D.outside desk.old).image.stage ≡ Stage.Unasked }
-    requires file { (D.outside desk.old).file.stage ≡ Stage.Unasked }
-    ensures taken { result ≢ Ending.Usage }
-    ensures verdict { IfSome (D.outside desk.old).files (λ files. IsVerdict (sim_command words.now.verilog.now words.now.clocks words.now.image.now words.now.out.now words.now.fill words.now.hold) files result) }
-    ensures asked { AsksOnly (Some (sim_command words.now.verilog.now words.now.clocks words.now.image.now words.now.out.now words.now.fill words.now.hold)) (D.outside desk.new) }
-    ensures order { IfSome (D.outside desk.old).files (λ files. AsksInOrder (sim_command words.now.verilog.now words.now.clocks words.now.image.now words.now.out.now words.now.fill words.now.hold) files (D.outside desk.new)) }
-    ensures created { CreatesNothing result → (D.outside desk.new).file.stage ≡ Stage.Unasked }
-    ensures written { result ≡ Ending.Done → CreatesOut (Some (sim_command words.now.verilog.now words.now.clocks words.now.image.now words.now.out.now words.now.fill words.now.hold)) (D.outside desk.new) }
-    ensures output { (D.outside desk.new).file.stage ≡ Stage.Open → IfSome (D.outside desk.old).files (λ files. IfSome (D.outside desk.new).file.bytes (IsHeld result (sim_command words.now.verilog.now words.now.clocks words.now.image.now words.now.out.now words.now.fill words.now.hold) files)) }
-    ensures files { FilesStay (Some (sim_command words.now.verilog.now words.now.clocks words.now.image.now words.now.out.now words.now.fill words.now.hold)) (D.outside desk.old).files (D.outside desk.new).files }
-    ensures files_stay { (D.outside desk.new).file.stage ≢ Stage.Open → (D.outside desk.new).files ≡ (D.outside desk.old).files }
-    ensures report { (D.outside desk.new).report ≡ (D.outside desk.old).report }
-    ensures notes { IfSome (D.outside desk.old).files (λ files. IsNoted (sim_command words.now.verilog.now words.now.clocks words.now.image.now words.now.out.now words.now.fill words.now.hold) result files (D.outside desk.old).notes (D.outside desk.new).notes) }
-    ensures fault { (D.outside desk.new).fault ≡ (D.outside desk.old).fault }
-    ensures fault_count { (D.outside desk.new).fault_failures ≡ (D.outside desk.old).fault_failures }
-    ensures read_fault { HasCauseIn (result ≡ Ending.ReadFault) (D.outside desk.old).input_failures (D.outside desk.new).input_failures }
-    ensures write_fault { HasCauseIn (result ≡ Ending.WriteFault) (D.outside desk.old).output_failures (D.outside desk.new).output_failures }
-{
-    let given = match read_all(alloc, desk, words.verilog, words.image, words.hold) {
-        Ok(given) => given,
-        Err(ending) => return ending,
-    };
-    let drive = Drive {
-        clocks: words.clocks,
-        fill: fill_of(words.fill),
-        hold: words.hold,
-    };
-    let output = match pictures(alloc, desk, &given, drive) {
-        Ok(output) => output,
-        Err(ending) => return ending,
-    };
-    match write_file(desk, words.out, &output) {
-        Ok(()) => Ending::Done,
-        Err(_) => Ending::WriteFault,
+impl Work for SimWords<'_> {
+    ghost command = { λ words. sim_command words.verilog.now words.clocks words.image.now words.out.now words.fill words.hold };
+
+    fn perform<D: Desk>(&self, alloc: Global, desk: &mut D) -> Ending {
+        let given = match read_all(alloc, desk, self.verilog, self.image, self.hold) {
+            Ok(given) => given,
+            Err(ending) => return ending,
+        };
+        let drive = Drive {
+            clocks: self.clocks,
+            fill: fill_of(self.fill),
+            hold: self.hold,
+        };
+        let output = match pictures(alloc, desk, &given, drive) {
+            Ok(output) => output,
+            Err(ending) => return ending,
+        };
+        match write_file(desk, self.out, &output) {
+            Ok(()) => Ending::Done,
+            Err(_) => Ending::WriteFault,
+        }
     }
 }

@@ -8,14 +8,14 @@ use Rattle.dk_top.specs.Simulation.{drive_of}
 use Rattle.dk_top.specs.Verdict.{IsSimAnswer}
 use Rattle.dk_top.specs.State.{IsPrefix, NotesSim}
 use Rattle.dk_top.proofs.SimReads.{for_clocks, of_input, held_sim}
-use Rattle.dk_top.proofs.simulating.sim.Goals as goal
+use Rattle.dk_top.proofs.simulating.SimWordsWork.perform.Goals as goal
 
 pub returns-in-Err-clause-verdict : goal.returns-in-Err-clause-verdict
-returns-in-Err-clause-verdict g c = for_clocks _ c.args.words.now.verilog.now c.args.words.now.image.now c.args.words.now.clocks c.args.words.now.fill c.args.words.now.hold c.in-Err.ending c.in-Err.ensures.fault
+returns-in-Err-clause-verdict g c = for_clocks _ c.args.self.now.verilog.now c.args.self.now.image.now c.args.self.now.clocks c.args.self.now.fill c.args.self.now.hold c.in-Err.ending c.in-Err.ensures.fault
 
 pub returns-in-Err-pictures-clause-verdict : goal.returns-in-Err-pictures-clause-verdict
 returns-in-Err-pictures-clause-verdict g c =
-    let w = c.args.words.now in
+    let w = c.args.self.now in
     let given = c.in-Ok.given in
     let d : Drive = record { clocks = w.clocks; fill = c.fill_of.result; hold = w.hold } in
     let same : d ≡ drive_of w.clocks w.fill w.hold = ap (λ (f : Fill). record { clocks = w.clocks; fill = f; hold = w.hold }) c.fill_of.ensures in
@@ -23,7 +23,7 @@ returns-in-Err-pictures-clause-verdict g c =
 
 pub returns-in-Ok-write_file-clause-verdict : goal.returns-in-Ok-write_file-clause-verdict
 returns-in-Ok-write_file-clause-verdict g c =
-    let w = c.args.words.now in
+    let w = c.args.self.now in
     let given = c.in-Ok.given in
     let d : Drive = record { clocks = w.clocks; fill = c.fill_of.result; hold = w.hold } in
     let same : d ≡ drive_of w.clocks w.fill w.hold = ap (λ (f : Fill). record { clocks = w.clocks; fill = f; hold = w.hold }) c.fill_of.ensures in
@@ -32,7 +32,7 @@ returns-in-Ok-write_file-clause-verdict g c =
 
 pub returns-in-Ok-write_file-clause-output : goal.returns-in-Ok-write_file-clause-output
 returns-in-Ok-write_file-clause-output g c = λ opened.
-    let w = c.args.words.now in
+    let w = c.args.self.now in
     let given = c.in-Ok.given in
     let d : Drive = record { clocks = w.clocks; fill = c.fill_of.result; hold = w.hold } in
     let same : d ≡ drive_of w.clocks w.fill w.hold = ap (λ (f : Fill). record { clocks = w.clocks; fill = f; hold = w.hold }) c.fill_of.ensures in
@@ -42,7 +42,7 @@ returns-in-Ok-write_file-clause-output g c = λ opened.
 pub returns-in-Ok-write_file-clause-notes : goal.returns-in-Ok-write_file-clause-notes
 returns-in-Ok-write_file-clause-notes g c =
     let outside = g.D.Desk.outside in
-    let w = c.args.words.now in
+    let w = c.args.self.now in
     let given = c.in-Ok.given in
     let d : Drive = record { clocks = w.clocks; fill = c.fill_of.result; hold = w.hold } in
     let same : d ≡ drive_of w.clocks w.fill w.hold = ap (λ (f : Fill). record { clocks = w.clocks; fill = f; hold = w.hold }) c.fill_of.ensures in
@@ -53,7 +53,7 @@ returns-in-Ok-write_file-clause-notes g c =
 
 pub returns-clause-verdict : goal.returns-clause-verdict
 returns-clause-verdict g c =
-    let w = c.args.words.now in
+    let w = c.args.self.now in
     let given = c.in-Ok.given in
     let d : Drive = record { clocks = w.clocks; fill = c.fill_of.result; hold = w.hold } in
     let same : d ≡ drive_of w.clocks w.fill w.hold = ap (λ (f : Fill). record { clocks = w.clocks; fill = f; hold = w.hold }) c.fill_of.ensures in
@@ -62,7 +62,7 @@ returns-clause-verdict g c =
 
 pub returns-clause-output : goal.returns-clause-output
 returns-clause-output g c = λ opened.
-    let w = c.args.words.now in
+    let w = c.args.self.now in
     let given = c.in-Ok.given in
     let d : Drive = record { clocks = w.clocks; fill = c.fill_of.result; hold = w.hold } in
     let same : d ≡ drive_of w.clocks w.fill w.hold = ap (λ (f : Fill). record { clocks = w.clocks; fill = f; hold = w.hold }) c.fill_of.ensures in
