@@ -12,7 +12,7 @@ cp "$examples"/sim/*.v . || exit 2
 # Every call here has 4 MiB of stack: the deepest accepted programs need between 1 and 2.
 ulimit -S -s 4096 || exit 2
 failed=0
-usage='usage: run PROG IN OUT | compile PROG OUT | plan [--age K] PROG | sim VERILOG CLOCKS IN OUT [--fill FILL] [--hold K] | eval PROG IN OUT | make N | check PROG REPORT'
+usage='usage: run [--age K] PROG IN OUT | compile [--enable] [--age K] PROG OUT | plan [--age K] PROG | sim VERILOG CLOCKS IN OUT [--fill FILL] [--hold K] | eval PROG IN OUT | make N | check PROG REPORT | trace VERILOG CLOCKS IN VCD'
 
 # ends STATUS LINE WORD..: the program with these words ends with this status, prints nothing, and says this line on standard error
 ends() {
@@ -313,6 +313,57 @@ ends 2 "$usage" sim words.v 4 rising.pgm out.pgm --fill ones --fill ones
 none
 ends 8 'cannot write' sim words.v 4 rising.pgm /dev/full
 
+# Compiled texts, clocked: the mean of three at each age, with the port `en` and without it, from zeros and from ones, gives its picture.
+printf 'size 4 1\ninput a : u8\nlet f = im(x,y) ((a(x-1,y)+a(x,y)+a(x+1,y))/3) as u8 end\noutput f\n' >mean3.dk
+printf 'P5\n4 1\n255\n\003\006\011\014' >mean3.pgm
+printf 'P5\n4 1\n255\n\003\006\011\007' >wanted.pgm
+ends 0 '' compile mean3.dk text.v
+ends 0 '' sim text.v 5 mean3.pgm out.pgm
+holds wanted.pgm 'compile'
+ends 6 'stopped: count 3 of 4' sim text.v 4 mean3.pgm out.pgm
+ends 5 'verilog 7-9: Ports' sim text.v 5 mean3.pgm out.pgm --hold 1
+ends 0 '' compile --enable mean3.dk text.v
+for hold in 1 2 1000000; do
+    ends 0 '' sim text.v 5 mean3.pgm out.pgm --fill ones --hold $hold
+    holds wanted.pgm 'compile --enable'
+done
+ends 0 '' sim text.v 5 mean3.pgm out.pgm
+holds wanted.pgm 'compile --enable'
+for age in 1 2 64; do
+    ends 0 '' compile mean3.dk text.v --age $age
+    clocks=$("$program" plan --age $age mean3.dk | sed -n 's/^clocks //p')
+    ends 0 '' sim text.v "$clocks" mean3.pgm out.pgm --fill ones
+    holds wanted.pgm "compile --age $age"
+    ends 0 '' run --age $age mean3.dk mean3.pgm out.pgm
+    holds wanted.pgm "run --age $age"
+done
+# the same of each example, with the clocks that its plan asks for, and those of further rounds; its images have 64 by 48 pixels of one byte
+while read -r name input <&3; do
+    ends 0 '' compile "$name.dk" text.v
+    rounds=$(($(wc -c <"$input.pgm") / 3073 / $(grep -c '^input' "$name.dk")))
+    clocks=$(($("$program" plan "$name.dk" | sed -n 's/^clocks //p') + (rounds - 1) * 3072))
+    for fill in zeros ones; do
+        ends 0 '' sim text.v "$clocks" "$input.pgm" out.pgm --fill $fill
+        holds "$name.pgm" 'compile'
+    done
+done 3<"$examples/pictures.txt"
+cp mean3.dk text.dk
+ends 2 "$usage" compile mean3.dk
+ends 2 "$usage" compile mean3.dk mean3.dk
+ends 2 "$usage" compile mean3.dk text.v --age 65
+ends 2 "$usage" compile mean3.dk text.v --enable=true
+ends 2 "$usage" compile mean3.dk text.v --enable --enable
+ends 2 "$usage" compile --hold 1 mean3.dk text.v
+rm -f text.v
+ends 3 'program 0-1: BadByte' compile byte.dk text.v
+ends 7 'cannot read' compile missing.dk text.v
+[ ! -e text.v ] || {
+    echo "examples: compile created something" >&2
+    failed=1
+}
+ends 8 'cannot write' compile mean3.dk /dev/full
+ends 8 'cannot write' compile mean3.dk missing/text.v
+
 # Reports: each line of plans.txt is a program of reports/ with an age, and its image lines, latencies, bits and reads. The flow may be any, and the report holds.
 while IFS='|' read -r name age bits latency lines <&3; do
     "$program" plan "$name.dk" --age "$age" >plan.txt 2>stderr || {
@@ -381,8 +432,13 @@ chain() {
 }
 chain 17 '(x,y-64)' >bits.dk
 ends 3 'program: Bits 71303168' plan bits.dk
+ends 3 'program: Bits 71303168' compile bits.dk text.v
+ends 3 'program: Bits 71303168' eval bits.dk missing.pgm out.pgm
+ends 3 'program: Bits 71303168' run bits.dk missing.pgm out.pgm
 chain 256 '(x+64,y+64)' >late.dk
 ends 3 'program: Latency 67125248' plan late.dk
+ends 3 'program: Latency 67125248' compile late.dk text.v
+ends 3 'program: Latency 67125248' eval late.dk missing.pgm out.pgm
 "$program" plan mean.dk >/dev/full 2>stderr
 [ $? = 8 ] && [ "$(cat stderr)" = 'cannot write' ] || {
     echo "examples: a full standard output is not told" >&2

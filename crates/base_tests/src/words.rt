@@ -1,7 +1,8 @@
 //! The words of commands, as they are read.
 
 use dk_words::{
-    Asked, CheckWords, FileNames, NoCommand, PlanWords, PowerUp, SimWords, read_command,
+    Asked, CheckWords, CompileWords, FileNames, MakeWords, NoCommand, PlanWords, PowerUp, RunWords,
+    SimWords, TraceWords, read_command,
 };
 use std::alloc::Global;
 use std::test::Fail;
@@ -19,12 +20,13 @@ fn words(alloc: Global, line: &str) -> Result<Vec<String>, Fail> {
 fn reads_files(rt: HostRuntime) -> Result<(), Fail> {
     let alloc = rt.alloc();
     let run = words(alloc, "dk run  b -")?;
-    let files = FileNames {
+    let given = RunWords {
         program: "",
         image: "b",
         out: "-",
+        age: 0,
     };
-    assert_eq!(rt; read_command(alloc, &run), Ok(Asked::Run(files)));
+    assert_eq!(rt; read_command(alloc, &run), Ok(Asked::Run(given)));
     let eval = words(alloc, "dk eval a -- -b run")?;
     let files = FileNames {
         program: "a",
@@ -50,6 +52,25 @@ fn reads_options(rt: HostRuntime) -> Result<(), Fail> {
         age: 64,
     };
     assert_eq!(rt; read_command(alloc, &plan), Ok(Asked::Plan(given)));
+    let compile = words(alloc, "dk compile --age 3 p.dk --enable v.v")?;
+    let given = CompileWords {
+        program: "p.dk",
+        out: "v.v",
+        enable: true,
+        age: 3,
+    };
+    assert_eq!(rt; read_command(alloc, &compile), Ok(Asked::Compile(given)));
+    let trace = words(alloc, "dk trace v.v 4 i -- -o")?;
+    let given = TraceWords {
+        verilog: "v.v",
+        clocks: 4,
+        image: "i",
+        vcd: "-o",
+    };
+    assert_eq!(rt; read_command(alloc, &trace), Ok(Asked::Trace(given)));
+    let make = words(alloc, "dk make 4194303")?;
+    let given = MakeWords { number: 4_194_303 };
+    assert_eq!(rt; read_command(alloc, &make), Ok(Asked::Make(given)));
     let sim = words(alloc, "dk sim v.v --fill ones 100000000 i --hold 1000000 o")?;
     let given = SimWords {
         verilog: "v.v",
@@ -72,6 +93,10 @@ fn other_words_are_not_taken(rt: HostRuntime) -> Result<(), Fail> {
         "dk plan p.dk --age=",
         "dk sim v.v 007 i o",
         "dk sim v.v 4 i o --hold -1",
+        "dk compile --enable=true p.dk v.v",
+        "dk run p.dk i o --age 65",
+        "dk trace v.v 4 i o --hold 1",
+        "dk make 007",
         "dk help",
     ] {
         let words = words(alloc, line)?;

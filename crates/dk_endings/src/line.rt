@@ -18,14 +18,14 @@ use pgm_rounds::ImageFault as FileFault;
 use test_bench::Stop;
 
 /// The room for a line to Fault, in bytes.
-pub const LINE_BYTES: usize = 192;
+pub const LINE_BYTES: usize = 256;
 
 /// A line to Fault, in room of its own.
 pub type Line = ArrayString<LINE_BYTES>;
 
 /// A line of one text.
 fn plain(text: &str) -> Line
-    requires { length text.now ≤ 192 }
+    requires { length text.now ≤ 256 }
     ensures { result.bytes ≡ text.now }
 {
     let mut line = Line::new();
@@ -35,7 +35,7 @@ fn plain(text: &str) -> Line
 
 /// Adds a number, in decimal.
 fn push_number(line: &mut Line, number: u128)
-    requires { length line.old.bytes + 39 ≤ 192 }
+    requires { length line.old.bytes + 39 ≤ 256 }
     ensures number { line.new.bytes ≡ line.old.bytes ++ decimal number }
     ensures room { length line.new.bytes ≤ length line.old.bytes + 39 }
 {
@@ -193,7 +193,7 @@ fn verilog_line(fault: &VerilogFault) -> Line
 
 /// Adds a number with its sign, in decimal.
 fn push_signed(line: &mut Line, number: i64)
-    requires { length line.old.bytes + 20 ≤ 192 }
+    requires { length line.old.bytes + 20 ≤ 256 }
     ensures number { line.new.bytes ≡ line.old.bytes ++ signed_decimal number }
     ensures room { length line.new.bytes ≤ length line.old.bytes + 20 }
 {
@@ -269,7 +269,7 @@ impl Ending {
         match self {
             Ending::Done => plain(""),
             Ending::Usage => plain(
-                "usage: run PROG IN OUT | compile PROG OUT | plan [--age K] PROG | sim VERILOG CLOCKS IN OUT [--fill FILL] [--hold K] | eval PROG IN OUT | make N | check PROG REPORT\n",
+                "usage: run [--age K] PROG IN OUT | compile [--enable] [--age K] PROG OUT | plan [--age K] PROG | sim VERILOG CLOCKS IN OUT [--fill FILL] [--hold K] | eval PROG IN OUT | make N | check PROG REPORT | trace VERILOG CLOCKS IN VCD\n",
             ),
             Ending::Source(fault) => source_line(fault),
             Ending::Image(ImageFault::TooLong) => {

@@ -1,17 +1,18 @@
 -- The words and the files decide one ending.
-use Rattle.std.proofs.Common.{◌≡◌, Option, None, Some, IfSome}
+use Rattle.std.proofs.Common.{◌≡◌, Option, None, Some, IfSome, subst}
 use Rattle.dk_endings.specs.declared.ending.Ending.{Ending}
 use Rattle.dk_endings.specs.declared.ending.Ending.TheVariants as ending
-use Rattle.dk_top.specs.Command.{Command, run, eval, sim, plan, check}
+use Rattle.dk_top.specs.Command.{Command, run, eval, compile, sim, trace, plan, check, make}
 use Rattle.dk_top.specs.Simulation.{drive_of}
-use Rattle.dk_top.specs.Verdict.{Files, bytes_of, IsVerdict, HasOneVerdict, IsGood, IsOrMemory}
-use Rattle.dk_top.proofs.VerdictLemmas.{OneProgram, TextApart, OneTextFault, FileApart, OneFileFault, one_answer, good_answer}
+use Rattle.dk_top.specs.Verdict.{Files, bytes_of, eval_terms, run_terms, IsVerdict, HasOneVerdict, IsGood, IsOrMemory, IsJudged}
+use Rattle.dk_top.proofs.VerdictLemmas.{OneProgram, TextApart, OneTextFault, ApartAt, OneFaultAt, FileApart, OneFileFault, one_answer, good_answer}
 use Rattle.dk_top.proofs.SimLemmas.{OneModule, OneAgreed, ModuleApart, OneTokens, OneTree, OneRounds, RoundsApart, OneBenchFault, OneStop, ShownApart, alike_of, sim_answer, good_sim}
-use Rattle.dk_top.proofs.PlanLemmas.{PlanApart, OnePlanFault, WrongApart, OneLine, plan_answer, good_plan, check_answer, good_check}
+use Rattle.dk_top.proofs.PlanLemmas.{FrontAccepted, WrongApart, OneLine, program_answer, good_program, check_answer, good_check}
 
 -- the laws of the crates below
 pub record Laws : Type 0 where
   pub one_program : OneProgram
+  pub front_accepted : FrontAccepted
   pub text_apart : TextApart
   pub one_text : OneTextFault
   pub file_apart : FileApart
@@ -26,29 +27,39 @@ pub record Laws : Type 0 where
   pub bench_fault : OneBenchFault
   pub one_stop : OneStop
   pub shown_apart : ShownApart
-  pub plan_apart : PlanApart
-  pub plan_fault : OnePlanFault
+  pub apart_at : ApartAt
+  pub fault_at : OneFaultAt
   pub wrong_apart : WrongApart
   pub one_line : OneLine
 
+-- a command that is not there has no verdict
+not_there : (a : Ending) → IsJudged a → a ≡ ending.Memory → ⊥
+not_there a judged is = subst IsJudged is judged
+
 pub one_verdict : Laws → HasOneVerdict
-one_verdict l (run program image out) files a b j k x y = alike_of a b (one_answer l.one_program l.text_apart l.one_text l.file_apart l.one_file (bytes_of files program) (bytes_of files image) a b j k x y)
-one_verdict l (eval program image out) files a b j k x y = alike_of a b (one_answer l.one_program l.text_apart l.one_text l.file_apart l.one_file (bytes_of files program) (bytes_of files image) a b j k x y)
+one_verdict l (run program image out age) files a b j k x y = alike_of a b (one_answer l.one_program l.apart_at l.fault_at l.file_apart l.one_file (run_terms age) (bytes_of files program) (bytes_of files image) a b j k x y)
+one_verdict l (eval program image out) files a b j k x y = alike_of a b (one_answer l.one_program l.apart_at l.fault_at l.file_apart l.one_file eval_terms (bytes_of files program) (bytes_of files image) a b j k x y)
+one_verdict l (compile program out enable age) files a b j k x y = alike_of a b (program_answer l.apart_at l.fault_at age (bytes_of files program) a b j k x y)
 one_verdict l (sim verilog clocks image out fill hold) files a b j k x y =
     sim_answer l.one_module l.agree l.module_apart l.tokens l.tree l.rounds l.rounds_apart l.bench_fault l.one_stop l.shown_apart (drive_of clocks fill hold) (bytes_of files verilog) (bytes_of files image) a b j k x y
-one_verdict l (plan program age) files a b j k x y = alike_of a b (plan_answer l.plan_apart l.plan_fault age (bytes_of files program) a b j k x y)
+one_verdict l (trace verilog clocks image vcd) files a b j k x y = absurd (not_there a j x)
+one_verdict l (plan program age) files a b j k x y = alike_of a b (program_answer l.apart_at l.fault_at age (bytes_of files program) a b j k x y)
 one_verdict l (check program report) files a b j k x y =
-    alike_of a b (check_answer l.one_program l.text_apart l.one_text l.file_apart l.one_file l.wrong_apart l.one_line (bytes_of files program) (bytes_of files report) a b j k x y)
+    alike_of a b (check_answer l.front_accepted l.text_apart l.one_text l.wrong_apart l.one_line (bytes_of files program) (bytes_of files report) a b j k x y)
+one_verdict l (make number) files a b j k x y = absurd (not_there a j x)
 
 -- what is good is done where nothing outside fails and there is memory
 good_is_done : Laws → (command : Command) (files : Files) (result : Ending) → IsVerdict command files result → IsGood command files → (result ≡ ending.ReadFault → ⊥) → (result ≡ ending.WriteFault → ⊥) → IsOrMemory result ending.Done
-good_is_done l (run program image out) files result = good_answer l.one_program l.text_apart l.one_text l.file_apart l.one_file (bytes_of files program) (bytes_of files image) result
-good_is_done l (eval program image out) files result = good_answer l.one_program l.text_apart l.one_text l.file_apart l.one_file (bytes_of files program) (bytes_of files image) result
+good_is_done l (run program image out age) files result = good_answer l.one_program l.apart_at l.fault_at l.file_apart l.one_file (run_terms age) (bytes_of files program) (bytes_of files image) result
+good_is_done l (eval program image out) files result = good_answer l.one_program l.apart_at l.fault_at l.file_apart l.one_file eval_terms (bytes_of files program) (bytes_of files image) result
+good_is_done l (compile program out enable age) files result = good_program l.apart_at l.fault_at age (bytes_of files program) result
 good_is_done l (sim verilog clocks image out fill hold) files result =
     good_sim l.one_module l.agree l.module_apart l.tokens l.tree l.rounds l.rounds_apart l.bench_fault l.one_stop l.shown_apart (drive_of clocks fill hold) (bytes_of files verilog) (bytes_of files image) result
-good_is_done l (plan program age) files result = good_plan l.plan_apart l.plan_fault age (bytes_of files program) result
+good_is_done l (trace verilog clocks image vcd) files result = λ verdict good. absurd good
+good_is_done l (plan program age) files result = good_program l.apart_at l.fault_at age (bytes_of files program) result
 good_is_done l (check program report) files result =
-    good_check l.one_program l.text_apart l.one_text l.file_apart l.one_file l.wrong_apart l.one_line (bytes_of files program) (bytes_of files report) result
+    good_check l.front_accepted l.text_apart l.one_text l.wrong_apart l.one_line (bytes_of files program) (bytes_of files report) result
+good_is_done l (make number) files result = λ verdict good. absurd good
 
 -- the same of what is told
 pub complete_of : Laws → (command : Option Command) (files : Option Files) (result : Ending) (Read Write : Type 0) → IfSome command (λ c. IfSome files (λ f. IsVerdict c f result)) → (result ≡ ending.ReadFault → Read) → (result ≡ ending.WriteFault → Write)

@@ -68,7 +68,7 @@ each_images Q (r ∷ rs) (i ∷ is) same all =
     (subst Q first (all 0 r (omega arith)), each_images Q rs is rest (λ k d lt. all (suc k) d (omega (arith, lt))))
 
 -- pieces that agree on each
-pieces_same : {A B : Type 0} (F G : A → List B) (Q : A → Type 0) (xs : List A) → ((x : A) → Q x → F x ≡ G x) → AllByRecursion Q xs → flat_map F xs ≡ flat_map G xs
+pub pieces_same : {A B : Type 0} (F G : A → List B) (Q : A → Type 0) (xs : List A) → ((x : A) → Q x → F x ≡ G x) → AllByRecursion Q xs → flat_map F xs ≡ flat_map G xs
 pieces_same F G Q [] same all = refl
 pieces_same F G Q (x ∷ xs) same all = ap (λ ys. ys ++ flat_map F xs) (same x all.0) ∙ ap (λ ys. G x ++ ys) (pieces_same F G Q xs same all.1)
 

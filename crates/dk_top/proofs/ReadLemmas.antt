@@ -1,25 +1,31 @@
 -- What is read of a command's files.
-use Rattle.std.proofs.Common.{◌≡◌, ℕ, ◌<◌, List, length, map, Option, None, Some, Result, Ok, Err, IfOk, IfErr, IfSome, sym, ap, ◌∙◌, subst, arith}
+use Rattle.std.proofs.Common.{◌≡◌, ℕ, ◌<◌, ◌≤◌, List, length, map, Option, None, Some, Result, Ok, Err, IfOk, IfErr, IfSome, OnOk, sym, ap, ◌∙◌, subst, arith}
 use Rattle.std.proofs.lemmas.List.{length-map}
 use Rattle.dk_base.specs.Types.{width_of}
 use Rattle.dk_types.specs.Typed.{Typing}
 use Rattle.pointwise_ir.specs.Programs.{Program, IsProgram}
-use Rattle.dk_base.specs.Stencils.{Parts}
+use Rattle.raster_delay.specs.Systems.{Parts as System}
+use Rattle.flow_dual.specs.declared.solution.Solution.{Solution}
+use Rattle.buffer_plan.specs.Plans.{Parts as Plan}
 use Rattle.dk_compile.specs.Sources.{IsText}
-use Rattle.dk_compile.specs.Fronts.{IsForm, IsFront}
-use Rattle.dk_compile.specs.Sources as C
+use Rattle.dk_compile.specs.Fronts.{IsForm}
+use Rattle.dk_compile.specs.Limits as at
+use Rattle.dk_compile.specs.Sources as of
+use Rattle.dk_compile.specs.declared.fault.SourceFault.{SourceFault as TextFault}
+use Rattle.dk_compile.specs.Compiled.{IsPlanned}
 use Rattle.pgm_codec.specs.Images.{Picture as Image}
 use Rattle.pgm_rounds.specs.declared.round.Round.{Round}
+use Rattle.pgm_rounds.specs.declared.fault.ImageFault.{ImageFault}
 use Rattle.pgm_rounds.specs.Ports.{Ports}
 use Rattle.program_images.specs.Ports.{ports_from, ports_of}
-use Rattle.pgm_rounds.specs.Files.{FitsFile, frame_of, frames_of}
+use Rattle.pgm_rounds.specs.Files.{FitsFile, IsFault, frame_of, frames_of}
 use Rattle.dk_endings.specs.declared.ending.Ending.{Ending}
 use Rattle.dk_endings.specs.declared.ending.Ending.TheVariants as ending
 use Rattle.dk_endings.specs.declared.ending.ImageFault.TheVariants as image
-use Rattle.dk_top.specs.Program.{HasForm, IsAccepted, ports}
-use Rattle.dk_top.specs.Output.{Fits}
-use Rattle.dk_top.specs.Verdict.{Files, bytes_of, IsAnswer}
-use Rattle.dk_top.specs.Reading.{IsSourceEnding, IsImageEnding, IsUnread, IsRead, Stops}
+use Rattle.dk_endings.specs.declared.ending.SourceFault.TheVariants as source
+use Rattle.dk_top.specs.Program.{IsAcceptedAt, IsFaultBy, IsSourceFault, IsFaultAt, ports}
+use Rattle.dk_top.specs.Verdict.{Terms, Files, bytes_of, IsAnswer}
+use Rattle.dk_top.specs.Reading.{IsSourceEnding, IsUnreadText, IsImageEnding, IsUnread, IsInputOf, IsRead}
 
 -- a form asks of files what its program asks
 pub ports_same : (p : Typing) (ir : Program) → IsForm p ir → ports_of ir ≡ ports p
@@ -34,47 +40,48 @@ some_inputs ir is =
     omega (arith, a, b, c)
 
 -- whatever rounds a file is read as, these are their frames
-pub frames_read : ((ports : Ports) → 0 < length ports.inputs → (bytes : List ℕ) → (a b : List (List Image)) → FitsFile ports bytes a → FitsFile ports bytes b → a ≡ b) → (ir : Program) (file : List ℕ) (rounds : List Round) → IsProgram ir
-    → ((images : List (List Image)) × FitsFile (ports_of ir) file images × (frames_of rounds ≡ map (map frame_of) images))
-    → (source : List ℕ) (p : Typing) → HasForm source p ir → (images : List (List Image)) → Fits p file images → frames_of rounds ≡ map (map frame_of) images
-frames_read one ir file rounds is (found, fits, frames) source p has images other =
-    let P : Ports → Type 0 = λ q. FitsFile q file images in
-    let there : FitsFile (ports_of ir) file images = subst P (sym (ports_same p ir has.front.form)) other.holds in
-    frames ∙ ap (map (map frame_of)) (one (ports_of ir) (some_inputs ir is) file found images fits there)
+pub input_read : ((ports : Ports) → 0 < length ports.inputs → (bytes : List ℕ) → (a b : List (List Image)) → FitsFile ports bytes a → FitsFile ports bytes b → a ≡ b) → (ir : Program) (file : List ℕ) (rounds : List Round) → IsProgram ir
+    → ((images : List (List Image)) × FitsFile (ports_of ir) file images × (frames_of rounds ≡ map (map frame_of) images)) → (most : Option ℕ) → IfSome most (λ n. length file ≤ n) → IsInputOf most ir file rounds
+input_read one ir file rounds is (found, fits, frames) most within = record {
+  some = λ p form. (found, record { within = within; holds = subst (λ (q : Ports). FitsFile q file found) (ports_same p ir form) fits });
+  frames = λ p form images other.
+      let there : FitsFile (ports_of ir) file images = subst (λ (q : Ports). FitsFile q file images) (sym (ports_same p ir form)) other.holds in
+      frames ∙ ap (map (map frame_of)) (one (ports_of ir) (some_inputs ir is) file found images fits there);
+}
+
+-- the fault of a file that is within its limit
+pub file_ending : (ir : Program) (file : List ℕ) (f : ImageFault) → IsFault (ports_of ir) file f → (most : Option ℕ) → IfSome most (λ n. length file ≤ n) → (p : Typing) → IsForm p ir → IsImageEnding most p file (ending.Image (image.File f))
+file_ending ir file f is most within p form = (within, subst (λ (q : Ports). IsFault q file f) (ports_same p ir form) is)
 
 -- a text that is accepted and a file that does not fit
-pub misfit_answer : (source file : List ℕ) (p : Typing) → IsAccepted source p → (e : Ending) → Stops e → IsImageEnding p file e → IsAnswer source file e
-misfit_answer source file p accepted ending.Done stops is = absurd stops
-misfit_answer source file p accepted ending.Usage stops is = absurd stops
-misfit_answer source file p accepted ending.WriteFault stops is = absurd stops
-misfit_answer source file p accepted (ending.Source f) stops is = absurd is
-misfit_answer source file p accepted (ending.Image f) stops is = record { program = p; accepted = accepted; unfit = is }
-misfit_answer source file p accepted (ending.Verilog f) stops is = absurd is
-misfit_answer source file p accepted (ending.Stopped f) stops is = absurd is
-misfit_answer source file p accepted (ending.Rejected f) stops is = absurd is
-misfit_answer source file p accepted ending.ReadFault stops is = tt
-misfit_answer source file p accepted ending.Memory stops is = tt
+pub misfit_answer : (terms : Terms) (source file : List ℕ) (p : Typing) → IsAcceptedAt source terms.age p → (e : Ending) → IsImageEnding terms.most p file e → IsAnswer terms source file e
+misfit_answer terms source file p accepted ending.Done is = absurd is
+misfit_answer terms source file p accepted ending.Usage is = absurd is
+misfit_answer terms source file p accepted ending.WriteFault is = absurd is
+misfit_answer terms source file p accepted (ending.Source f) is = absurd is
+misfit_answer terms source file p accepted (ending.Image f) is = record { program = p; accepted = accepted; unfit = is }
+misfit_answer terms source file p accepted (ending.Verilog f) is = absurd is
+misfit_answer terms source file p accepted (ending.Stopped f) is = absurd is
+misfit_answer terms source file p accepted (ending.Rejected f) is = absurd is
+misfit_answer terms source file p accepted ending.ReadFault is = tt
+misfit_answer terms source file p accepted ending.Memory is = tt
 
 -- a text that is not accepted
-pub source_answer : (source file : List ℕ) (e : Ending) → Stops e → IsSourceEnding source e → IsAnswer source file e
-source_answer source file ending.Done stops is = absurd stops
-source_answer source file ending.Usage stops is = absurd stops
-source_answer source file ending.WriteFault stops is = absurd stops
-source_answer source file (ending.Source f) stops is = is
-source_answer source file (ending.Image f) stops is = absurd is
-source_answer source file (ending.Verilog f) stops is = absurd is
-source_answer source file (ending.Stopped f) stops is = absurd is
-source_answer source file (ending.Rejected f) stops is = absurd is
-source_answer source file ending.ReadFault stops is = tt
-source_answer source file ending.Memory stops is = tt
+pub source_answer : (terms : Terms) (source file : List ℕ) (e : Ending) → IsSourceEnding (IsFaultAt source terms.age) e → IsAnswer terms source file e
+source_answer terms source file ending.Done is = absurd is
+source_answer terms source file ending.Usage is = absurd is
+source_answer terms source file ending.WriteFault is = absurd is
+source_answer terms source file (ending.Source f) is = is
+source_answer terms source file (ending.Image f) is = absurd is
+source_answer terms source file (ending.Verilog f) is = absurd is
+source_answer terms source file (ending.Stopped f) is = absurd is
+source_answer terms source file (ending.Rejected f) is = absurd is
+source_answer terms source file ending.ReadFault is = tt
+source_answer terms source file ending.Memory is = tt
 
--- the form of an accepted text is that of whatever program the text is of
-pub every_form : ((text : List ℕ) (p q : Typing) → IsText text p → IsText text q → p ≡ q) → (text : List ℕ) (ir : Program) (s : Parts) → ((p : Typing) × C.IsAccepted text p × IsFront text p ir s) → (p : Typing) → IsAccepted text p → HasForm text p ir
-every_form one text ir s (found, accepted, front) p is = record {
-  accepted = is;
-  stencils = s;
-  front = let P : Typing → Type 0 = λ q. IsFront text q ir s in subst P (one text found p front.program is.accepted.program) front;
-}
+-- the form of a planned text is that of whatever program the text is of
+pub every_form : ((text : List ℕ) (p q : Typing) → IsText text p → IsText text q → p ≡ q) → (text : List ℕ) (age : ℕ) (found : Typing) (ir : Program) (s : System) (x : Solution) (plan : Plan) → IsPlanned text age found ir s x plan → (p : Typing) → IsAcceptedAt text age p → IsForm p ir
+every_form one text age found ir s x plan is p accepted = subst (λ (q : Typing). IsForm q ir) (one text found p is.has.front.program accepted.accepted.accepted.program) is.has.front.form
 
 -- what holds of the bytes that were read holds of those of the file, as far as it is told
 pub ok_told : {A E : Type 0} (r : Result A E) (told : Option Files) (file name : List ℕ) (Q : A → List ℕ → Type 0) → IfSome told (λ f. file ≡ bytes_of f name) → IfOk r (λ a. Q a file) → IfOk r (λ a. IfSome told (λ f. Q a (bytes_of f name)))
@@ -88,50 +95,99 @@ err_told (Err e) None file name Q is h = tt
 err_told (Err e) (Some f) file name Q is h = subst (Q e) is h
 
 -- a file that was not read has no other ending, whatever the program
-pub unread_ending : (file : List ℕ) (p : Typing) (e : Ending) → IsUnread file e → IsImageEnding p file e
-unread_ending file p (ending.Image image.TooLong) h = h
-unread_ending file p (ending.Image (image.File f)) h = absurd h
-unread_ending file p ending.ReadFault h = tt
-unread_ending file p ending.Memory h = tt
-unread_ending file p ending.Done h = absurd h
-unread_ending file p ending.Usage h = absurd h
-unread_ending file p ending.WriteFault h = absurd h
-unread_ending file p (ending.Source f) h = absurd h
-unread_ending file p (ending.Verilog f) h = absurd h
-unread_ending file p (ending.Stopped f) h = absurd h
-unread_ending file p (ending.Rejected f) h = absurd h
+pub unread_ending : (most : Option ℕ) (file : List ℕ) (p : Typing) (e : Ending) → IsUnread most file e → IsImageEnding most p file e
+unread_ending most file p (ending.Image image.TooLong) h = h
+unread_ending most file p (ending.Image (image.File f)) h = absurd h
+unread_ending most file p ending.ReadFault h = tt
+unread_ending most file p ending.Memory h = tt
+unread_ending most file p ending.Done h = absurd h
+unread_ending most file p ending.Usage h = absurd h
+unread_ending most file p ending.WriteFault h = absurd h
+unread_ending most file p (ending.Source f) h = absurd h
+unread_ending most file p (ending.Verilog f) h = absurd h
+unread_ending most file p (ending.Stopped f) h = absurd h
+unread_ending most file p (ending.Rejected f) h = absurd h
 
-pub unread_told : (told : Option Files) (image : List ℕ) (ir : Program) (e : Ending) → IfSome told (λ f. IsUnread (bytes_of f image) e) → IfSome told (λ f. (source : List ℕ) (p : Typing) → HasForm source p ir → IsImageEnding p (bytes_of f image) e)
-unread_told None image ir e h = tt
-unread_told (Some f) image ir e h = λ source p has. unread_ending (bytes_of f image) p e h
+pub unread_told : (told : Option Files) (most : Option ℕ) (image : List ℕ) (ir : Program) (e : Ending) → IfSome told (λ f. IsUnread most (bytes_of f image) e) → IfSome told (λ f. (p : Typing) → IsForm p ir → IsImageEnding most p (bytes_of f image) e)
+unread_told None most image ir e h = tt
+unread_told (Some f) most image ir e h = λ p form. unread_ending most (bytes_of f image) p e h
 
 -- both files are read
-pub read_told : (told between : Option Files) (program image text : List ℕ) (ir : Program) (rounds : List Round) → between ≡ told → IfSome told (λ f. text ≡ bytes_of f program) → ((p : Typing) × HasForm text p ir) → ((p : Typing) → IsAccepted text p → HasForm text p ir)
-    → IfSome between (λ f. (source : List ℕ) (p : Typing) → HasForm source p ir → (images : List (List Image)) × Fits p (bytes_of f image) images)
-    → IfSome between (λ f. (source : List ℕ) (p : Typing) → HasForm source p ir → (images : List (List Image)) → Fits p (bytes_of f image) images → frames_of rounds ≡ map (map frame_of) images)
-    → IfSome told (λ f. IsRead (bytes_of f program) (bytes_of f image) ir rounds)
-read_told None between program image text ir rounds same is accepted every fits read = tt
-read_told (Some f) between program image text ir rounds same is (p, has) every fits read =
-    let Fit : Option Files → Type 0 = λ o. IfSome o (λ f. (source : List ℕ) (p : Typing) → HasForm source p ir → (images : List (List Image)) × Fits p (bytes_of f image) images) in
-    let Shown : Option Files → Type 0 = λ o. IfSome o (λ f. (source : List ℕ) (p : Typing) → HasForm source p ir → (images : List (List Image)) → Fits p (bytes_of f image) images → frames_of rounds ≡ map (map frame_of) images) in
-    let fit = (subst Fit same fits) text p has in
-    let Whole : List ℕ → Type 0 = λ source. IsRead source (bytes_of f image) ir rounds in
+pub read_told : (told between : Option Files) (terms : Terms) (program image text : List ℕ) (ir : Program) (rounds : List Round) → between ≡ told → IfSome told (λ f. text ≡ bytes_of f program) → ((p : Typing) × IsAcceptedAt text terms.age p × IsForm p ir) → ((p : Typing) → IsAcceptedAt text terms.age p → IsForm p ir)
+    → IfSome between (λ f. IsInputOf terms.most ir (bytes_of f image) rounds) → IfSome told (λ f. IsRead terms (bytes_of f program) (bytes_of f image) ir rounds)
+read_told None between terms program image text ir rounds same is accepted every input = tt
+read_told (Some f) between terms program image text ir rounds same is (p, has, form) every input =
+    let Input : Option Files → Type 0 = λ o. IfSome o (λ f. IsInputOf terms.most ir (bytes_of f image) rounds) in
+    let given : IsInputOf terms.most ir (bytes_of f image) rounds = subst Input same input in
+    let fit = given.some p form in
+    let Whole : List ℕ → Type 0 = λ source. IsRead terms source (bytes_of f image) ir rounds in
     subst Whole is (record {
-      good = record { program = p; rounds = fit.0; accepted = has.accepted; fits = fit.1 };
+      good = record { program = p; rounds = fit.0; accepted = has; fits = fit.1 };
       formed = every;
-      frames = λ q images a other. (subst Shown same read) text q (every q a) images other;
+      input = given;
     })
 
 -- the program is read, and the file does not fit
-pub misfit_told : (told between : Option Files) (program image text : List ℕ) (ir : Program) (e : Ending) → between ≡ told → IfSome told (λ f. text ≡ bytes_of f program) → ((p : Typing) × HasForm text p ir) → Stops e
-    → IfSome between (λ f. (source : List ℕ) (p : Typing) → HasForm source p ir → IsImageEnding p (bytes_of f image) e) → IfSome told (λ f. IsAnswer (bytes_of f program) (bytes_of f image) e)
-misfit_told None between program image text ir e same is accepted stops fault = tt
-misfit_told (Some f) between program image text ir e same is (p, has) stops fault =
-    let Fault : Option Files → Type 0 = λ o. IfSome o (λ f. (source : List ℕ) (p : Typing) → HasForm source p ir → IsImageEnding p (bytes_of f image) e) in
-    let Whole : List ℕ → Type 0 = λ source. IsAnswer source (bytes_of f image) e in
-    subst Whole is (misfit_answer text (bytes_of f image) p has.accepted e stops ((subst Fault same fault) text p has))
+pub misfit_told : (told between : Option Files) (terms : Terms) (program image text : List ℕ) (ir : Program) (e : Ending) → between ≡ told → IfSome told (λ f. text ≡ bytes_of f program) → ((p : Typing) × IsAcceptedAt text terms.age p × IsForm p ir)
+    → IfSome between (λ f. (p : Typing) → IsForm p ir → IsImageEnding terms.most p (bytes_of f image) e) → IfSome told (λ f. IsAnswer terms (bytes_of f program) (bytes_of f image) e)
+misfit_told None between terms program image text ir e same is accepted fault = tt
+misfit_told (Some f) between terms program image text ir e same is (p, has, form) fault =
+    let Fault : Option Files → Type 0 = λ o. IfSome o (λ f. (p : Typing) → IsForm p ir → IsImageEnding terms.most p (bytes_of f image) e) in
+    let Whole : List ℕ → Type 0 = λ source. IsAnswer terms source (bytes_of f image) e in
+    subst Whole is (misfit_answer terms text (bytes_of f image) p has e ((subst Fault same fault) p form))
 
 -- the program is not accepted
-pub source_told : (told : Option Files) (program image : List ℕ) (e : Ending) → Stops e → IfSome told (λ f. IsSourceEnding (bytes_of f program) e) → IfSome told (λ f. IsAnswer (bytes_of f program) (bytes_of f image) e)
-source_told None program image e stops h = tt
-source_told (Some f) program image e stops h = source_answer (bytes_of f program) (bytes_of f image) e stops h
+pub source_told : (told : Option Files) (terms : Terms) (program image : List ℕ) (e : Ending) → IfSome told (λ f. IsSourceEnding (IsFaultAt (bytes_of f program) terms.age) e) → IfSome told (λ f. IsAnswer terms (bytes_of f program) (bytes_of f image) e)
+source_told None terms program image e h = tt
+source_told (Some f) terms program image e h = source_answer terms (bytes_of f program) (bytes_of f image) e h
+
+-- what holds at each limit that a file is within holds at this one
+pub ok_within : {A E : Type 0} (r : Result A E) (most : Option ℕ) (n : ℕ) (Q : Option ℕ → A → Type 0) → IfSome most (λ m. n ≤ m) → IfOk r (λ a. (m : Option ℕ) → IfSome m (λ k. n ≤ k) → Q m a) → IfOk r (Q most)
+ok_within (Ok a) most n Q within h = h most within
+ok_within (Err e) most n Q within h = tt
+
+pub err_within : {A E : Type 0} (r : Result A E) (most : Option ℕ) (n : ℕ) (Q : Option ℕ → E → Type 0) → IfSome most (λ m. n ≤ m) → IfErr r (λ e. (m : Option ℕ) → IfSome m (λ k. n ≤ k) → Q m e) → IfErr r (Q most)
+err_within (Ok a) most n Q within h = tt
+err_within (Err e) most n Q within h = h most within
+
+-- a text that was not read, as the ending of a text with any faults
+pub unread_text : (is : TextFault → Type 0) (text : List ℕ) (e : Ending) → IsUnreadText text e → IsSourceEnding (IsFaultBy is text) e
+unread_text is text (ending.Source source.TooLong) h = h
+unread_text is text ending.ReadFault h = tt
+unread_text is text ending.Memory h = tt
+unread_text is text ending.Done h = absurd h
+unread_text is text ending.Usage h = absurd h
+unread_text is text ending.WriteFault h = absurd h
+unread_text is text (ending.Image f) h = absurd h
+unread_text is text (ending.Verilog f) h = absurd h
+unread_text is text (ending.Stopped f) h = absurd h
+unread_text is text (ending.Rejected f) h = absurd h
+unread_text is text (ending.Source (source.Lex x)) h = absurd h
+unread_text is text (ending.Source (source.Nest x)) h = absurd h
+unread_text is text (ending.Source (source.Syntax x)) h = absurd h
+unread_text is text (ending.Source (source.Depth x)) h = absurd h
+unread_text is text (ending.Source (source.Types x)) h = absurd h
+unread_text is text (ending.Source (source.Nodes x)) h = absurd h
+unread_text is text (ending.Source (source.InlineDepth x)) h = absurd h
+unread_text is text (ending.Source (source.Reads x)) h = absurd h
+unread_text is text (ending.Source (source.Bits x)) h = absurd h
+unread_text is text (ending.Source (source.Latency x)) h = absurd h
+
+pub unread_source : (told : Option Files) (name : List ℕ) (e : Ending) → IfSome told (λ f. IsUnreadText (bytes_of f name) e) → IfSome told (λ f. IsSourceEnding (IsSourceFault (bytes_of f name)) e)
+unread_source None name e h = tt
+unread_source (Some f) name e h = unread_text (of.IsFault (bytes_of f name)) (bytes_of f name) e h
+
+pub unread_at : (told : Option Files) (name : List ℕ) (age : ℕ) (e : Ending) → IfSome told (λ f. IsUnreadText (bytes_of f name) e) → IfSome told (λ f. IsSourceEnding (IsFaultAt (bytes_of f name) age) e)
+unread_at None name age e h = tt
+unread_at (Some f) name age e h = unread_text (at.IsFaultAt (bytes_of f name) age) (bytes_of f name) e h
+
+-- the same bytes are those of the file
+pub told_same : (told : Option Files) (a b name : List ℕ) → a ≡ b → IfSome told (λ f. b ≡ bytes_of f name) → IfSome told (λ f. a ≡ bytes_of f name)
+told_same None a b name e is = tt
+told_same (Some f) a b name e is = e ∙ is
+
+-- the same of what stands without the value
+pub good_told : {A E : Type 0} (r : Result A E) (told : Option Files) (file name : List ℕ) (Q : List ℕ → Type 0) → IfSome told (λ f. file ≡ bytes_of f name) → OnOk r (Q file) → OnOk r (IfSome told (λ f. Q (bytes_of f name)))
+good_told (Ok a) None file name Q is h = tt
+good_told (Ok a) (Some f) file name Q is h = subst Q is h
+good_told (Err e) told file name Q is h = tt

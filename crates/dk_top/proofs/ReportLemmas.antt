@@ -10,45 +10,46 @@ use Rattle.dk_endings.specs.declared.ending.Ending.TheVariants as ending
 use Rattle.dk_endings.specs.Lines.{holds_line}
 use Rattle.dk_top.specs.Plans.{IsPlanOf}
 use Rattle.dk_top.specs.Reports.{IsChecked}
-use Rattle.dk_top.specs.Verdict.{Files, bytes_of, IsPlanAnswer, IsCheckAnswer, CanBeChecked}
+use Rattle.dk_top.specs.Program.{IsAccepted, IsSourceFault, IsFaultAt}
+use Rattle.dk_top.specs.Verdict.{Files, bytes_of, IsProgramAnswer, IsCheckAnswer, CanBeChecked}
 use Rattle.dk_desk.specs.Outside.{Outside}
-use Rattle.dk_top.specs.State.{AsksWhereAccepted, GainsText, IsClaimLine, ReportsFront}
+use Rattle.dk_top.specs.State.{AsksWhere, GainsText, IsClaimLine, ReportsFront}
 use Rattle.dk_top.specs.Reading.{IsSourceEnding, Stops}
-use Rattle.dk_top.specs.Reporting.{HasFront, IsPlanEnding, IsReportEnding}
+use Rattle.dk_top.specs.Reporting.{HasFront, IsReportEnding}
 
--- the text has no report
-plan_ended : (age : ℕ) (source : List ℕ) (e : Ending) → Stops e → IsPlanEnding age source e → IsPlanAnswer age source e
-plan_ended age source ending.Done stops h = absurd stops
-plan_ended age source ending.Usage stops h = absurd stops
-plan_ended age source ending.WriteFault stops h = absurd stops
-plan_ended age source (ending.Source f) stops h = h
-plan_ended age source (ending.Image f) stops h = absurd h
-plan_ended age source (ending.Verilog f) stops h = absurd h
-plan_ended age source (ending.Stopped f) stops h = absurd h
-plan_ended age source (ending.Rejected f) stops h = absurd h
-plan_ended age source ending.ReadFault stops h = tt
-plan_ended age source ending.Memory stops h = tt
+-- the text is not accepted at this age
+program_ended : (age : ℕ) (source : List ℕ) (e : Ending) → IsSourceEnding (IsFaultAt source age) e → IsProgramAnswer age source e
+program_ended age source ending.Done h = absurd h
+program_ended age source ending.Usage h = absurd h
+program_ended age source ending.WriteFault h = absurd h
+program_ended age source (ending.Source f) h = h
+program_ended age source (ending.Image f) h = absurd h
+program_ended age source (ending.Verilog f) h = absurd h
+program_ended age source (ending.Stopped f) h = absurd h
+program_ended age source (ending.Rejected f) h = absurd h
+program_ended age source ending.ReadFault h = tt
+program_ended age source ending.Memory h = tt
 
-pub plan_told : (told : Option Files) (name : List ℕ) (age : ℕ) (e : Ending) → Stops e → IfSome told (λ f. IsPlanEnding age (bytes_of f name) e) → IfSome told (λ f. IsPlanAnswer age (bytes_of f name) e)
-plan_told None name age e stops h = tt
-plan_told (Some f) name age e stops h = plan_ended age (bytes_of f name) e stops h
+pub program_told : (told : Option Files) (name : List ℕ) (age : ℕ) (e : Ending) → IfSome told (λ f. IsSourceEnding (IsFaultAt (bytes_of f name) age) e) → IfSome told (λ f. IsProgramAnswer age (bytes_of f name) e)
+program_told None name age e h = tt
+program_told (Some f) name age e h = program_ended age (bytes_of f name) e h
 
 -- the text is not accepted
-source_ended : (source report : List ℕ) (e : Ending) → Stops e → IsSourceEnding source e → IsCheckAnswer source report e
-source_ended source report ending.Done stops h = absurd stops
-source_ended source report ending.Usage stops h = absurd stops
-source_ended source report ending.WriteFault stops h = absurd stops
-source_ended source report (ending.Source f) stops h = h
-source_ended source report (ending.Image f) stops h = absurd h
-source_ended source report (ending.Verilog f) stops h = absurd h
-source_ended source report (ending.Stopped f) stops h = absurd h
-source_ended source report (ending.Rejected f) stops h = absurd h
-source_ended source report ending.ReadFault stops h = tt
-source_ended source report ending.Memory stops h = tt
+source_ended : (source report : List ℕ) (e : Ending) → IsSourceEnding (IsSourceFault source) e → IsCheckAnswer source report e
+source_ended source report ending.Done h = absurd h
+source_ended source report ending.Usage h = absurd h
+source_ended source report ending.WriteFault h = absurd h
+source_ended source report (ending.Source f) h = h
+source_ended source report (ending.Image f) h = absurd h
+source_ended source report (ending.Verilog f) h = absurd h
+source_ended source report (ending.Stopped f) h = absurd h
+source_ended source report (ending.Rejected f) h = absurd h
+source_ended source report ending.ReadFault h = tt
+source_ended source report ending.Memory h = tt
 
-pub unaccepted_told : (told : Option Files) (program report : List ℕ) (e : Ending) → Stops e → IfSome told (λ f. IsSourceEnding (bytes_of f program) e) → IfSome told (λ f. IsCheckAnswer (bytes_of f program) (bytes_of f report) e)
-unaccepted_told None program report e stops h = tt
-unaccepted_told (Some f) program report e stops h = source_ended (bytes_of f program) (bytes_of f report) e stops h
+pub unaccepted_told : (told : Option Files) (program report : List ℕ) (e : Ending) → IfSome told (λ f. IsSourceEnding (IsSourceFault (bytes_of f program)) e) → IfSome told (λ f. IsCheckAnswer (bytes_of f program) (bytes_of f report) e)
+unaccepted_told None program report e h = tt
+unaccepted_told (Some f) program report e h = source_ended (bytes_of f program) (bytes_of f report) e h
 
 -- the report does not hold
 report_ended : (source report : List ℕ) (ir : Program) (s : Parts) (e : Ending) → HasFront source ir s → Stops e → IsReportEnding source report e → IsCheckAnswer source report e
@@ -59,7 +60,7 @@ report_ended source report ir s (ending.Source f) has stops h = absurd h
 report_ended source report ir s (ending.Image f) has stops h = absurd h
 report_ended source report ir s (ending.Verilog f) has stops h = absurd h
 report_ended source report ir s (ending.Stopped f) has stops h = absurd h
-report_ended source report ir s (ending.Rejected f) has stops h = record { program = has.program; accepted = record { within = has.within; accepted = has.accepted }; fault_is = h }
+report_ended source report ir s (ending.Rejected f) has stops h = record { program = has.program; accepted = has.accepted; fault_is = h }
 report_ended source report ir s ending.ReadFault has stops h = tt
 report_ended source report ir s ending.Memory has stops h = tt
 
@@ -132,6 +133,6 @@ any_front None name ir s e h = tt
 any_front (Some f) name ir s e h = λ source has. h source
 
 -- the report is asked for where the program is accepted
-pub order_front : (told : Option Files) (program : List ℕ) (ir : Program) (s : Parts) (o : Outside) → IfSome told (λ f. HasFront (bytes_of f program) ir s) → IfSome told (λ f. AsksWhereAccepted (bytes_of f program) o)
+pub order_front : (told : Option Files) (program : List ℕ) (ir : Program) (s : Parts) (o : Outside) → IfSome told (λ f. HasFront (bytes_of f program) ir s) → IfSome told (λ f. AsksWhere (IsAccepted (bytes_of f program)) o)
 order_front None program ir s o h = tt
-order_front (Some f) program ir s o h = λ asked. (h.program, record { within = h.within; accepted = h.accepted })
+order_front (Some f) program ir s o h = λ asked. (h.program, h.accepted)

@@ -27,7 +27,7 @@ use Rattle.netlist.specs.declared.fault.NetFault.TheVariants as net
 use Rattle.verilog_text.specs.declared.fault.TextFault.TheVariants as text
 use Rattle.dk_endings.specs.declared.verilog.VerilogFault.{VerilogFault}
 use Rattle.dk_endings.specs.declared.verilog.VerilogFault.TheVariants.{TooLong, At}
-use Rattle.dk_base.specs.declared.TheConstants.{MAX_VERILOG_BYTES}
+use Rattle.dk_base.specs.declared.TheConstants.{MAX_PGM_BYTES, MAX_VERILOG_BYTES}
 use Rattle.dk_endings.specs.Verilog.{fault_told}
 use Rattle.dk_top.specs.Simulation.{of_text, drive_of, IsModuleOf, IsVerilogFault, FitsModule, IsSimulated, IsStopped}
 use Rattle.dk_top.specs.Verdict.{Files, bytes_of, IsSimAnswer}
@@ -65,7 +65,7 @@ for_hold None name hold e h = tt
 for_hold (Some f) name hold e h = h hold
 
 -- a file that was not read has no other ending, whatever the module
-unread_ending : (m : NamedNetlist) (file : List ℕ) (e : Ending) → IsUnread file e → IsFileEnding m file e
+unread_ending : (m : NamedNetlist) (file : List ℕ) (e : Ending) → IsUnread (Some MAX_PGM_BYTES) file e → IsFileEnding m file e
 unread_ending m file (ending.Image image.TooLong) h = h
 unread_ending m file (ending.Image (image.File f)) h = absurd h
 unread_ending m file ending.ReadFault h = tt
@@ -78,7 +78,7 @@ unread_ending m file (ending.Verilog f) h = absurd h
 unread_ending m file (ending.Stopped f) h = absurd h
 unread_ending m file (ending.Rejected f) h = absurd h
 
-pub unread_for : (told : Option Files) (name : List ℕ) (m : NamedNetlist) (e : Ending) → IfSome told (λ f. IsUnread (bytes_of f name) e) → IfSome told (λ f. IsFileEnding m (bytes_of f name) e)
+pub unread_for : (told : Option Files) (name : List ℕ) (m : NamedNetlist) (e : Ending) → IfSome told (λ f. IsUnread (Some MAX_PGM_BYTES) (bytes_of f name) e) → IfSome told (λ f. IsFileEnding m (bytes_of f name) e)
 unread_for None name m e h = tt
 unread_for (Some f) name m e h = unread_ending m (bytes_of f name) e h
 
@@ -196,17 +196,18 @@ for_clocks None verilog image clocks power hold e h = tt
 for_clocks (Some f) verilog image clocks power hold e h = h clocks power
 
 -- what is said of any input of the drive's holds is said of the files
-pub of_input : (told : Option Files) (verilog image : List ℕ) (d drive : Drive) (m : NamedNetlist) (size : Size) (rounds : List Round) (P : Drive → (t i : List ℕ) → Type 0) → d ≡ drive → IfSome told (λ f. IsSimInput d.hold (bytes_of f verilog) (bytes_of f image) m size rounds)
+pub of_input : (told : Option Files) (verilog image : List ℕ) (d drive : Drive) (m : NamedNetlist) (size : Size) (rounds : List Round) (P : Drive → (t i : List ℕ) → Type 0) → d ≡ drive → IfSome told (λ f. IsSimInput drive.hold (bytes_of f verilog) (bytes_of f image) m size rounds)
     → ((t i : List ℕ) → IsSimInput d.hold t i m size rounds → P d t i) → IfSome told (λ f. P drive (bytes_of f verilog) (bytes_of f image))
 of_input None verilog image d drive m size rounds P e given h = tt
-of_input (Some f) verilog image d drive m size rounds P e given h = subst (λ x. P x (bytes_of f verilog) (bytes_of f image)) e (h (bytes_of f verilog) (bytes_of f image) given)
+of_input (Some f) verilog image d drive m size rounds P e given h =
+    subst (λ x. P x (bytes_of f verilog) (bytes_of f image)) e (h (bytes_of f verilog) (bytes_of f image) (subst (λ (x : Drive). IsSimInput x.hold (bytes_of f verilog) (bytes_of f image) m size rounds) (sym e) given))
 
 -- what is written stands to the pictures as it stands to what was made
-pub held_sim : (told : Option Files) (verilog image : List ℕ) (d drive : Drive) (m : NamedNetlist) (size : Size) (rounds : List Round) (bytes : Option (List ℕ)) (file : List ℕ) (R : List ℕ → List ℕ → Type 0) → d ≡ drive → IfSome told (λ f. IsSimInput d.hold (bytes_of f verilog) (bytes_of f image) m size rounds)
+pub held_sim : (told : Option Files) (verilog image : List ℕ) (d drive : Drive) (m : NamedNetlist) (size : Size) (rounds : List Round) (bytes : Option (List ℕ)) (file : List ℕ) (R : List ℕ → List ℕ → Type 0) → d ≡ drive → IfSome told (λ f. IsSimInput drive.hold (bytes_of f verilog) (bytes_of f image) m size rounds)
     → ((t i : List ℕ) → IsSimInput d.hold t i m size rounds → (pictures : List ℕ) → IsSimulated d t i pictures → pictures ≡ file) → IfSome bytes (λ written. R written file)
     → IfSome told (λ f. IfSome bytes (λ written. (pictures : List ℕ) → IsSimulated drive (bytes_of f verilog) (bytes_of f image) pictures → R written pictures))
 held_sim None verilog image d drive m size rounds bytes file R e given only written = tt
 held_sim (Some f) verilog image d drive m size rounds None file R e given only written = tt
 held_sim (Some f) verilog image d drive m size rounds (Some b) file R e given only written = λ pictures is.
-    let same : pictures ≡ file = only (bytes_of f verilog) (bytes_of f image) given pictures (subst (λ x. IsSimulated x (bytes_of f verilog) (bytes_of f image) pictures) (sym e) is) in
+    let same : pictures ≡ file = only (bytes_of f verilog) (bytes_of f image) (subst (λ (x : Drive). IsSimInput x.hold (bytes_of f verilog) (bytes_of f image) m size rounds) (sym e) given) pictures (subst (λ x. IsSimulated x (bytes_of f verilog) (bytes_of f image) pictures) (sym e) is) in
     subst (R b) (sym same) written

@@ -1,5 +1,5 @@
 -- The files of images that fit a program, the first fault of those that do not, and the file that is written.
-use Rattle.std.specs.Prelude.{ℕ, ◌<◌, ◌≤◌, List, length, map}
+use Rattle.std.specs.Prelude.{ℕ, ◌<◌, ◌≤◌, List, length, map, Option, IfSome, IsSomeAnd}
 use Rattle.std.specs.List.{flat_map}
 use Rattle.dk_types.specs.Typed.{Typing, types_of}
 use Rattle.dk_types.specs.Meaning.{meaning_on}
@@ -8,18 +8,17 @@ use Rattle.pgm_rounds.specs.Files.{FitsFile, IsFault, joined}
 use Rattle.program_images.specs.Outputs.{output_images}
 use Rattle.dk_endings.specs.declared.ending.ImageFault.{ImageFault}
 use Rattle.dk_endings.specs.declared.ending.ImageFault.TheVariants.{TooLong, File}
-use Rattle.dk_base.specs.declared.TheConstants.{MAX_PGM_BYTES}
 use Rattle.dk_top.specs.Program.{ports}
 
--- the file is within its limit and one of these rounds, which fit the program
-pub record Fits (p : Typing) (file : List ℕ) (rounds : List (List Image)) : Type 0 where
-  pub within : length file ≤ MAX_PGM_BYTES
+-- the file is within its limit, if it has one, and one of these rounds, which fit the program
+pub record Fits (most : Option ℕ) (p : Typing) (file : List ℕ) (rounds : List (List Image)) : Type 0 where
+  pub within : IfSome most (λ n. length file ≤ n)
   pub holds : FitsFile (ports p) file rounds
 
 -- The first fault of a file: its length, and then its images one after another.
-abbrev pub IsImageFault : Typing → List ℕ → ImageFault → Type 0
-IsImageFault p file TooLong = MAX_PGM_BYTES < length file
-IsImageFault p file (File fault) = (length file ≤ MAX_PGM_BYTES) × IsFault (ports p) file fault
+abbrev pub IsImageFault : (most : Option ℕ) → Typing → (file : List ℕ) → ImageFault → Type 0
+IsImageFault most p file TooLong = IsSomeAnd most (λ n. n < length file)
+IsImageFault most p file (File fault) = IfSome most (λ n. length file ≤ n) × IsFault (ports p) file fault
 
 -- the images of a round's outputs, by the program's meaning
 abbrev pub outputs_of : Typing → List Image → List Image

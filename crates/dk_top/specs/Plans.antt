@@ -1,13 +1,10 @@
--- The plan of a program's text, the limit that it passes, and which reports hold of it.
+-- The report of a program's text, and which reports hold of it.
 use Rattle.std.specs.Prelude.{◌≡◌, ℕ, List}
 use Rattle.dk_base.specs.Stencils.{Parts as Stencils}
 use Rattle.dk_types.specs.Typed.{Typing}
 use Rattle.dk_inline.specs.Answers.{image_names}
 use Rattle.pointwise_ir.specs.Programs.{Program}
-use Rattle.dk_compile.specs.Sources.{IsAccepted}
 use Rattle.dk_compile.specs.Fronts.{IsFront}
-use Rattle.buffer_plan.specs.declared.fault.PlanFault.{PlanFault}
-use Rattle.buffer_plan.specs.Limits.{KeepsLimits, IsPassed}
 use Rattle.dk_plan.specs.declared.judging.Claim.{Claim}
 use Rattle.dk_plan.specs.Planned.{aged, IsReportText}
 use Rattle.dk_plan.specs.Judged as of_program
@@ -15,17 +12,9 @@ use Rattle.dk_plan.specs.Judged as of_program
 -- The text is accepted, and these are the names of its program's images and its live reads.
 pub record HasStencils (text : List ℕ) (names : List (List ℕ)) (s : Stencils) : Type 0 where
   pub program : Typing
-  pub accepted : IsAccepted text program
   pub form : Program
   pub front : IsFront text program form s
   pub names_are : names ≡ image_names program
-
--- The text is accepted, and at this age its least bits and the latency of the least vector are within their limits.
-pub record HasPlan (text : List ℕ) (age : ℕ) : Type 0 where
-  pub names : List (List ℕ)
-  pub stencils : Stencils
-  pub has : HasStencils text names stencils
-  pub keeps : KeepsLimits (aged stencils age)
 
 -- these bytes are a report of the text's program at this age
 pub record IsPlanOf (text : List ℕ) (age : ℕ) (bytes : List ℕ) : Type 0 where
@@ -33,13 +22,6 @@ pub record IsPlanOf (text : List ℕ) (age : ℕ) (bytes : List ℕ) : Type 0 wh
   pub stencils : Stencils
   pub has : HasStencils text names stencils
   pub is : IsReportText names (aged stencils age) bytes
-
--- The text is accepted, and this is the limit that its least vector at this age passes first.
-pub record PassesLimit (text : List ℕ) (age : ℕ) (fault : PlanFault) : Type 0 where
-  pub names : List (List ℕ)
-  pub stencils : Stencils
-  pub has : HasStencils text names stencils
-  pub passes : IsPassed (aged stencils age) fault
 
 -- The bytes are a report that holds of the text's program at the report's age, and says this.
 pub record IsConfirmed (text bytes : List ℕ) (claim : Claim) : Type 0 where

@@ -7,8 +7,7 @@ ghost use Rattle.dk_top.specs.Verdict.{bytes_of};
 ghost use Rattle.dk_top.specs.State.{IsPrefix, OthersStay, ReportsFront};
 ghost use Rattle.dk_top.specs.Reading.{IsUnread, Stops};
 
-use dk_base::MAX_PGM_BYTES;
-use dk_desk::transfer::{ReadAll, read_all, write_all};
+use dk_desk::transfer::{ReadAll, read_all, read_upto, write_all};
 use dk_desk::{Desk, Failed, InSlot, OutSlot, Stage};
 use dk_endings::{Ending, ImageFault};
 use std::alloc::Global;
@@ -32,6 +31,26 @@ pub fn read_input<D: Desk>(
 {
     desk.open_in(slot, name)?;
     read_all(alloc, desk, slot, limit)
+}
+
+/// Opens an input and reads it to its end.
+fn read_to_end<D: Desk>(
+    alloc: Global,
+    desk: &mut D,
+    slot: InSlot,
+    name: &str,
+) -> Result<Vec<u8>, ReadAll>
+    requires fresh { (input (D.outside desk.old) slot).stage ≡ Stage.Unasked }
+    requires before_create { (D.outside desk.old).file.stage ≡ Stage.Unasked }
+    ensures whole { IfOk result (λ bytes. IfSome (D.outside desk.old).files (λ files. bytes.items ≡ bytes_of files name.now)) }
+    ensures never { result ≢ Err ReadAll.TooLong }
+    ensures name { IsIfTold (input (D.outside desk.new) slot).name (Some name.now) }
+    ensures only { OpensOnly slot (D.outside desk.old) (D.outside desk.new) }
+    ensures cause { HasCauseIn (result ≡ Err ReadAll.Failed) (D.outside desk.old).input_failures (D.outside desk.new).input_failures }
+{
+    desk.open_in(slot, name)?;
+    // no list of bytes is so long
+    read_upto(alloc, desk, slot, usize::MAX)
 }
 
 /// Begins the output and writes it whole.
@@ -60,19 +79,28 @@ pub fn write_report<D: Desk>(desk: &mut D, text: &[u8]) -> Result<(), Failed>
     write_all(desk, OutSlot::Report, text)
 }
 
-/// The bytes of the file of images.
-pub fn read_file<D: Desk>(alloc: Global, desk: &mut D, name: &str) -> Result<Vec<u8>, Ending>
+/// The bytes of the file of images, which may have `most` bytes or any number.
+pub fn read_file<D: Desk>(
+    alloc: Global,
+    desk: &mut D,
+    name: &str,
+    most: Option<usize>,
+) -> Result<Vec<u8>, Ending>
     requires fresh { (D.outside desk.old).image.stage ≡ Stage.Unasked }
     requires before_create { (D.outside desk.old).file.stage ≡ Stage.Unasked }
     ensures whole { IfOk result (λ bytes. IfSome (D.outside desk.old).files (λ files. bytes.items ≡ bytes_of files name.now)) }
-    ensures within { IfOk result (λ bytes. vec_len bytes ≤ MAX_PGM_BYTES) }
-    ensures fault { IfErr result (λ e. IfSome (D.outside desk.old).files (λ files. IsUnread (bytes_of files name.now) e)) }
+    ensures within { IfOk result (λ bytes. IfSome most (λ n. length bytes.items ≤ n)) }
+    ensures fault { IfErr result (λ e. IfSome (D.outside desk.old).files (λ files. IsUnread most (bytes_of files name.now) e)) }
     ensures stops { IfErr result Stops }
     ensures name { IsIfTold (D.outside desk.new).image.name (Some name.now) }
     ensures only { OpensOnly InSlot.Image (D.outside desk.old) (D.outside desk.new) }
     ensures cause { HasCauseIn (result ≡ Err Ending.ReadFault) (D.outside desk.old).input_failures (D.outside desk.new).input_failures }
 {
-    match read_input(alloc, desk, InSlot::Image, name, MAX_PGM_BYTES as usize) {
+    let read = match most {
+        Some(limit) => read_input(alloc, desk, InSlot::Image, name, limit),
+        None => read_to_end(alloc, desk, InSlot::Image, name),
+    };
+    match read {
         Ok(file) => Ok(file),
         Err(ReadAll::Failed) => Err(Ending::ReadFault),
         Err(ReadAll::TooLong) => Err(Ending::Image(ImageFault::TooLong)),

@@ -1,23 +1,23 @@
 //! What a command reads: the program, and the file of images.
 
-ghost use Rattle.std.specs.Prelude.{◌≡◌, ◌≢◌, ℕ, ◌<◌, ◌≤◌, List, length, map, Some, Err, IfOk, IfErr, IfSome, vec_len};
+ghost use Rattle.std.specs.Prelude.{◌≡◌, ◌≢◌, ℕ, ◌≤◌, List, length, Option, Some, Err, IfOk, IfErr, IfSome, vec_len};
 ghost use Rattle.std.specs.List.{All};
+ghost use Rattle.dk_base.specs.declared.TheConstants.{MAX_AGE};
 ghost use Rattle.dk_desk.specs.Outside.{Outside, input};
 ghost use Rattle.dk_desk.specs.Calls.{HasCauseIn, IsIfTold, OpensOnly};
 ghost use Rattle.dk_types.specs.Typed.{Typing};
-ghost use Rattle.dk_compile.specs.Sources.{IsFault};
-ghost use Rattle.pgm_codec.specs.Images.{Picture as Image};
-ghost use Rattle.pgm_rounds.specs.Files.{frame_of, frames_of};
+ghost use Rattle.dk_compile.specs.Sources as of;
+ghost use Rattle.dk_compile.specs.Limits as at;
+ghost use Rattle.dk_compile.specs.Fronts.{IsForm};
 ghost use Rattle.pointwise_eval.specs.Rounds.{AreFrames};
-ghost use Rattle.dk_top.specs.Program.{HasForm, IsAccepted};
-ghost use Rattle.dk_top.specs.Output.{Fits};
-ghost use Rattle.dk_top.specs.Verdict.{bytes_of, IsAnswer};
-ghost use Rattle.dk_top.specs.State.{AsksWhereAccepted};
-ghost use Rattle.dk_top.specs.Reading.{IsSourceEnding, IsImageEnding, IsRead, Stops};
+ghost use Rattle.dk_top.specs.Program.{IsAcceptedAt, IsSourceFault, IsFaultAt};
+ghost use Rattle.dk_top.specs.Verdict.{bytes_of, eval_terms, IsAnswer};
+ghost use Rattle.dk_top.specs.State.{AsksWhere};
+ghost use Rattle.dk_top.specs.Reading.{IsSourceEnding, IsUnreadText, IsImageEnding, IsInputOf, AreRead, IsRead, Stops};
 
 use crate::files::{read_file, read_input};
 use dk_base::{MAX_PGM_BYTES, MAX_SOURCE_BYTES};
-use dk_compile::{front, one_source};
+use dk_compile::{one_at_age, one_source, planned};
 use dk_desk::transfer::ReadAll;
 use dk_desk::{Desk, InSlot, Stage};
 use dk_endings::{Ending, ImageFault, SourceFault};
@@ -32,7 +32,7 @@ pub fn read_text<D: Desk>(alloc: Global, desk: &mut D, name: &str) -> Result<Vec
     requires before_create { (D.outside desk.old).file.stage ≡ Stage.Unasked }
     ensures whole { IfOk result (λ bytes. IfSome (D.outside desk.old).files (λ files. bytes.items ≡ bytes_of files name.now)) }
     ensures within { IfOk result (λ bytes. vec_len bytes ≤ MAX_SOURCE_BYTES) }
-    ensures fault { IfErr result (λ e. IfSome (D.outside desk.old).files (λ files. IsSourceEnding (bytes_of files name.now) e)) }
+    ensures fault { IfErr result (λ e. IfSome (D.outside desk.old).files (λ files. IsUnreadText (bytes_of files name.now) e)) }
     ensures stops { IfErr result Stops }
     ensures name { IsIfTold (D.outside desk.new).program.name (Some name.now) }
     ensures only { OpensOnly InSlot.Program (D.outside desk.old) (D.outside desk.new) }
@@ -46,9 +46,10 @@ pub fn read_text<D: Desk>(alloc: Global, desk: &mut D, name: &str) -> Result<Vec
     }
 }
 
-/// How a call ends whose text is no program within the limits.
+/// How a call ends whose text, within its limit, has this fault.
 pub fn ending_of(fault: dk_compile::SourceFault) -> Ending
-    ensures fault { (source : List ℕ) → length source ≤ MAX_SOURCE_BYTES → IsFault source fault → IsSourceEnding source result }
+    ensures fault { (source : List ℕ) → length source ≤ MAX_SOURCE_BYTES → of.IsFault source fault → IsSourceEnding (IsSourceFault source) result }
+    ensures fault_at { (source : List ℕ) (age : ℕ) → length source ≤ MAX_SOURCE_BYTES → at.IsFaultAt source age fault → IsSourceEnding (IsFaultAt source age) result }
     ensures stops { Stops result }
     ensures judged { result ≢ Ending.ReadFault }
 {
@@ -71,29 +72,28 @@ pub fn ending_of(fault: dk_compile::SourceFault) -> Ending
     }
 }
 
-/// The form of the program that a text within its limit is accepted as.
+/// The form of the program that a text within its limit is accepted as at age 0.
 fn read_form(alloc: Global, text: &[u8]) -> Result<Ir, Ending>
-    requires { length text.now ≤ MAX_SOURCE_BYTES }
-    ensures accepted { IfOk result (λ ir. (p : Typing) × HasForm text.now p ir) }
-    ensures every { IfOk result (λ ir. (p : Typing) → IsAccepted text.now p → HasForm text.now p ir) }
-    ensures fault { IfErr result (IsSourceEnding text.now) }
+    requires within { length text.now ≤ MAX_SOURCE_BYTES }
+    ensures accepted { IfOk result (λ ir. (p : Typing) × IsAcceptedAt text.now 0 p × IsForm p ir) }
+    ensures every { IfOk result (λ ir. (p : Typing) → IsAcceptedAt text.now 0 p → IsForm p ir) }
+    ensures fault { IfErr result (IsSourceEnding (IsFaultAt text.now 0)) }
     ensures stops { IfErr result Stops }
     ensures judged { result ≢ Err Ending.ReadFault }
 {
     one_source();
-    match front(alloc, text) {
-        Ok(front) => Ok(front.ir),
+    one_at_age();
+    match planned(alloc, text, 0) {
+        Ok(program) => Ok(program.ir),
         Err(fault) => Err(ending_of(fault)),
     }
 }
 
-/// The rounds of a file that is within its limit, for the program of this form.
+/// The rounds of a file, for the programs of this form.
 fn read_frames(alloc: Global, ir: &Ir, file: &[u8]) -> Result<Vec<Round>, Ending>
-    requires { length file.now ≤ MAX_PGM_BYTES }
-    ensures fits { IfOk result (λ rounds. (source : List ℕ) (p : Typing) → HasForm source p ir.now → (images : List (List Image)) × Fits p file.now images) }
-    ensures read { IfOk result (λ rounds. (source : List ℕ) (p : Typing) → HasForm source p ir.now → (images : List (List Image)) → Fits p file.now images → frames_of rounds.items ≡ map (map frame_of) images) }
-    ensures frames { IfOk result (λ rounds. All (λ r. AreFrames ir.now r.frames.items) rounds.items) }
-    ensures fault { IfErr result (λ e. (source : List ℕ) (p : Typing) → HasForm source p ir.now → IsImageEnding p file.now e) }
+    ensures input { IfOk result (λ rounds. (most : Option ℕ) → IfSome most (λ n. length file.now ≤ n) → IsInputOf most ir.now file.now rounds.items) }
+    ensures read { IfOk result (λ rounds. AreRead ir.now rounds.items) }
+    ensures fault { IfErr result (λ e. (most : Option ℕ) → IfSome most (λ n. length file.now ≤ n) → (p : Typing) → IsForm p ir.now → IsImageEnding most p file.now e) }
     ensures stops { IfErr result Stops }
     ensures judged { result ≢ Err Ending.ReadFault }
 {
@@ -118,9 +118,9 @@ fn read_source<D: Desk>(alloc: Global, desk: &mut D, name: &str) -> Result<Sourc
     requires fresh { (D.outside desk.old).program.stage ≡ Stage.Unasked }
     requires before_create { (D.outside desk.old).file.stage ≡ Stage.Unasked }
     ensures text { IfOk result (λ source. IfSome (D.outside desk.old).files (λ files. source.text.items ≡ bytes_of files name.now)) }
-    ensures accepted { IfOk result (λ source. (p : Typing) × HasForm source.text.items p source.ir) }
-    ensures every { IfOk result (λ source. (p : Typing) → IsAccepted source.text.items p → HasForm source.text.items p source.ir) }
-    ensures fault { IfErr result (λ e. IfSome (D.outside desk.old).files (λ files. IsSourceEnding (bytes_of files name.now) e)) }
+    ensures accepted { IfOk result (λ source. (p : Typing) × IsAcceptedAt source.text.items 0 p × IsForm p source.ir) }
+    ensures every { IfOk result (λ source. (p : Typing) → IsAcceptedAt source.text.items 0 p → IsForm p source.ir) }
+    ensures fault { IfErr result (λ e. IfSome (D.outside desk.old).files (λ files. IsSourceEnding (IsFaultAt (bytes_of files name.now) 0) e)) }
     ensures stops { IfErr result Stops }
     ensures name { IsIfTold (D.outside desk.new).program.name (Some name.now) }
     ensures only { OpensOnly InSlot.Program (D.outside desk.old) (D.outside desk.new) }
@@ -136,25 +136,25 @@ fn read_source<D: Desk>(alloc: Global, desk: &mut D, name: &str) -> Result<Sourc
     }
 }
 
-/// Reads and judges the file of images, for the program of this form.
-fn read_images<D: Desk>(
+/// Reads and judges the file of images, for the programs of this form. It may have `most` bytes, or any number.
+pub fn read_images<D: Desk>(
     alloc: Global,
     desk: &mut D,
     ir: &Ir,
     name: &str,
+    most: Option<usize>,
 ) -> Result<Vec<Round>, Ending>
     requires fresh { (D.outside desk.old).image.stage ≡ Stage.Unasked }
     requires before_create { (D.outside desk.old).file.stage ≡ Stage.Unasked }
-    ensures fits { IfOk result (λ rounds. IfSome (D.outside desk.old).files (λ files. (source : List ℕ) (p : Typing) → HasForm source p ir.now → (images : List (List Image)) × Fits p (bytes_of files name.now) images)) }
-    ensures read { IfOk result (λ rounds. IfSome (D.outside desk.old).files (λ files. (source : List ℕ) (p : Typing) → HasForm source p ir.now → (images : List (List Image)) → Fits p (bytes_of files name.now) images → frames_of rounds.items ≡ map (map frame_of) images)) }
-    ensures frames { IfOk result (λ rounds. All (λ r. AreFrames ir.now r.frames.items) rounds.items) }
-    ensures fault { IfErr result (λ e. IfSome (D.outside desk.old).files (λ files. (source : List ℕ) (p : Typing) → HasForm source p ir.now → IsImageEnding p (bytes_of files name.now) e)) }
+    ensures input { IfOk result (λ rounds. IfSome (D.outside desk.old).files (λ files. IsInputOf most ir.now (bytes_of files name.now) rounds.items)) }
+    ensures read { IfOk result (λ rounds. AreRead ir.now rounds.items) }
+    ensures fault { IfErr result (λ e. IfSome (D.outside desk.old).files (λ files. (p : Typing) → IsForm p ir.now → IsImageEnding most p (bytes_of files name.now) e)) }
     ensures stops { IfErr result Stops }
     ensures name { IsIfTold (D.outside desk.new).image.name (Some name.now) }
     ensures only { OpensOnly InSlot.Image (D.outside desk.old) (D.outside desk.new) }
     ensures cause { HasCauseIn (result ≡ Err Ending.ReadFault) (D.outside desk.old).input_failures (D.outside desk.new).input_failures }
 {
-    let file = match read_file(alloc, desk, name) {
+    let file = match read_file(alloc, desk, name, most) {
         Ok(file) => file,
         Err(ending) => return Err(ending),
     };
@@ -179,12 +179,12 @@ pub fn read_given<D: Desk>(
     requires program { (D.outside desk.old).program.stage ≡ Stage.Unasked }
     requires image { (D.outside desk.old).image.stage ≡ Stage.Unasked }
     requires file { (D.outside desk.old).file.stage ≡ Stage.Unasked }
-    ensures accepted { IfOk result (λ given. (p : Typing) × HasForm given.text.items p given.ir) }
-    ensures order { IfSome (D.outside desk.old).files (λ files. AsksWhereAccepted (bytes_of files program.now) (D.outside desk.new)) }
+    ensures accepted { IfOk result (λ given. (p : Typing) × IsAcceptedAt given.text.items 0 p × IsForm p given.ir) }
+    ensures order { IfSome (D.outside desk.old).files (λ files. AsksWhere (IsAcceptedAt (bytes_of files program.now) 0) (D.outside desk.new)) }
     ensures text { IfOk result (λ given. IfSome (D.outside desk.old).files (λ files. given.text.items ≡ bytes_of files program.now)) }
-    ensures read { IfOk result (λ given. IfSome (D.outside desk.old).files (λ files. IsRead (bytes_of files program.now) (bytes_of files image.now) given.ir given.rounds.items)) }
-    ensures frames { IfOk result (λ given. All (λ r. AreFrames given.ir r.frames.items) given.rounds.items) }
-    ensures fault { IfErr result (λ e. IfSome (D.outside desk.old).files (λ files. IsAnswer (bytes_of files program.now) (bytes_of files image.now) e)) }
+    ensures read { IfOk result (λ given. IfSome (D.outside desk.old).files (λ files. IsRead eval_terms (bytes_of files program.now) (bytes_of files image.now) given.ir given.rounds.items)) }
+    ensures frames { IfOk result (λ given. AreRead given.ir given.rounds.items) }
+    ensures fault { IfErr result (λ e. IfSome (D.outside desk.old).files (λ files. IsAnswer eval_terms (bytes_of files program.now) (bytes_of files image.now) e)) }
     ensures stops { IfErr result Stops }
     ensures program_name { (D.outside desk.new).program.stage ≢ Stage.Unasked → IsIfTold (D.outside desk.new).program.name (Some program.now) }
     ensures image_name { (D.outside desk.new).image.stage ≢ Stage.Unasked → IsIfTold (D.outside desk.new).image.name (Some image.now) }
@@ -195,7 +195,7 @@ pub fn read_given<D: Desk>(
         Ok(source) => source,
         Err(ending) => return Err(ending),
     };
-    match read_images(alloc, desk, &ir, image) {
+    match read_images(alloc, desk, &ir, image, Some(MAX_PGM_BYTES as usize)) {
         Ok(rounds) => Ok(Given { text, ir, rounds }),
         Err(ending) => Err(ending),
     }

@@ -3,20 +3,18 @@
 ghost use Rattle.std.specs.Prelude.{◌≡◌, ◌≢◌, ◌≤◌, ◌<◌, ℕ, List, Some, Err, IfOk, IfErr, IfSome, OnOk, length, vec_len};
 ghost use Rattle.dk_base.specs.declared.TheConstants.{MAX_SOURCE_BYTES, MAX_AGE};
 ghost use Rattle.dk_desk.specs.Calls.{HasCauseIn, IsIfTold, OpensOnly};
-ghost use Rattle.dk_types.specs.Typed.{Typing};
-ghost use Rattle.dk_compile.specs.Sources as of;
-ghost use Rattle.dk_compile.specs.Fronts.{IsFront};
 ghost use Rattle.pointwise_ir.specs.Programs.{Program};
 ghost use Rattle.dk_base.specs.Stencils.{Parts as Stencils};
 ghost use Rattle.buffer_plan.specs.Limits.{IsPlanFault};
 ghost use Rattle.dk_plan.specs.Planned.{aged};
 ghost use Rattle.dk_top.specs.Command.{plan as plan_command, check as check_command};
 ghost use Rattle.dk_top.specs.Plans.{IsPlanOf};
-ghost use Rattle.dk_top.specs.Reports.{CanBePlanned, IsChecked};
+ghost use Rattle.dk_top.specs.Program.{IsAccepted, CanBeCompiled, IsSourceFault, IsFaultAt};
+ghost use Rattle.dk_top.specs.Reports.{IsChecked};
 ghost use Rattle.dk_top.specs.Verdict.{bytes_of, IsCheckAnswer};
-ghost use Rattle.dk_top.specs.State.{AsksWhereAccepted};
+ghost use Rattle.dk_top.specs.State.{AsksWhere};
 ghost use Rattle.dk_top.specs.Reading.{Stops, IsSourceEnding};
-ghost use Rattle.dk_top.specs.Reporting.{HasFront, IsPlanEnding, IsReportEnding};
+ghost use Rattle.dk_top.specs.Reporting.{HasFront, IsReportEnding};
 
 use crate::files::{read_input, write_report};
 use crate::reading::{ending_of, read_text};
@@ -33,7 +31,7 @@ use std::alloc::Global;
 
 /// How a call ends whose program has no report.
 fn plan_ending(fault: PlanFault) -> Ending
-    ensures fault { (source : List ℕ) (age : ℕ) (ir : Program) (s : Stencils) → HasFront source ir s → IsPlanFault (aged s age) fault → IsPlanEnding age source result }
+    ensures fault { (source : List ℕ) (age : ℕ) (ir : Program) (s : Stencils) → HasFront source ir s → IsPlanFault (aged s age) fault → IsSourceEnding (IsFaultAt source age) result }
     ensures stops { Stops result }
     ensures judged { result ≢ Ending.ReadFault }
 {
@@ -49,8 +47,8 @@ fn report_of(alloc: Global, front: &Front, age: u8) -> Result<Vec<u8>, Ending>
     requires age { age ≤ MAX_AGE }
     requires accepted { (source : List ℕ) × HasFront source front.now.ir front.now.stencils }
     ensures plan { IfOk result (λ report. (source : List ℕ) → HasFront source front.now.ir front.now.stencils → IsPlanOf source age report.items) }
-    ensures good { OnOk result ((source : List ℕ) → HasFront source front.now.ir front.now.stencils → CanBePlanned source age) }
-    ensures fault { IfErr result (λ e. (source : List ℕ) → HasFront source front.now.ir front.now.stencils → IsPlanEnding age source e) }
+    ensures good { OnOk result ((source : List ℕ) → HasFront source front.now.ir front.now.stencils → CanBeCompiled source age) }
+    ensures fault { IfErr result (λ e. (source : List ℕ) → HasFront source front.now.ir front.now.stencils → IsSourceEnding (IsFaultAt source age) e) }
     ensures stops { IfErr result Stops }
     ensures judged { result ≢ Err Ending.ReadFault }
 {
@@ -66,8 +64,8 @@ fn planned(alloc: Global, text: &[u8], age: u8) -> Result<Vec<u8>, Ending>
     requires within { length text.now ≤ MAX_SOURCE_BYTES }
     requires age { age ≤ MAX_AGE }
     ensures plan { IfOk result (λ report. IsPlanOf text.now age report.items) }
-    ensures good { OnOk result (CanBePlanned text.now age) }
-    ensures fault { IfErr result (IsPlanEnding age text.now) }
+    ensures good { OnOk result (CanBeCompiled text.now age) }
+    ensures fault { IfErr result (IsSourceEnding (IsFaultAt text.now age)) }
     ensures stops { IfErr result Stops }
     ensures judged { result ≢ Err Ending.ReadFault }
 {
@@ -87,8 +85,8 @@ fn read_plan<D: Desk>(alloc: Global, desk: &mut D, name: &str, age: u8) -> Resul
     requires before_create { (D.outside desk.old).file.stage ≡ Stage.Unasked }
     requires age { age ≤ MAX_AGE }
     ensures plan { IfOk result (λ report. IfSome (D.outside desk.old).files (λ files. IsPlanOf (bytes_of files name.now) age report.items)) }
-    ensures good { OnOk result (IfSome (D.outside desk.old).files (λ files. CanBePlanned (bytes_of files name.now) age)) }
-    ensures fault { IfErr result (λ e. IfSome (D.outside desk.old).files (λ files. IsPlanEnding age (bytes_of files name.now) e)) }
+    ensures good { OnOk result (IfSome (D.outside desk.old).files (λ files. CanBeCompiled (bytes_of files name.now) age)) }
+    ensures fault { IfErr result (λ e. IfSome (D.outside desk.old).files (λ files. IsSourceEnding (IsFaultAt (bytes_of files name.now) age) e)) }
     ensures stops { IfErr result Stops }
     ensures name { IsIfTold (D.outside desk.new).program.name (Some name.now) }
     ensures only { OpensOnly InSlot.Program (D.outside desk.old) (D.outside desk.new) }
@@ -120,8 +118,8 @@ impl Work for PlanWords<'_> {
 /// The program of a text within its limit, with its live reads.
 fn accepted(alloc: Global, text: &[u8]) -> Result<Front, Ending>
     requires { length text.now ≤ MAX_SOURCE_BYTES }
-    ensures accepted { IfOk result (λ front. (p : Typing) × of.IsAccepted text.now p × IsFront text.now p front.ir front.stencils) }
-    ensures fault { IfErr result (IsSourceEnding text.now) }
+    ensures accepted { IfOk result (λ front. HasFront text.now front.ir front.stencils) }
+    ensures fault { IfErr result (IsSourceEnding (IsSourceFault text.now)) }
     ensures stops { IfErr result Stops }
     ensures judged { result ≢ Err Ending.ReadFault }
 {
@@ -137,7 +135,7 @@ fn read_front<D: Desk>(alloc: Global, desk: &mut D, name: &str) -> Result<Front,
     requires before_create { (D.outside desk.old).file.stage ≡ Stage.Unasked }
     ensures accepted { IfOk result (λ front. IfSome (D.outside desk.old).files (λ files. HasFront (bytes_of files name.now) front.ir front.stencils)) }
     ensures some { IfOk result (λ front. (source : List ℕ) × HasFront source front.ir front.stencils) }
-    ensures fault { IfErr result (λ e. IfSome (D.outside desk.old).files (λ files. IsSourceEnding (bytes_of files name.now) e)) }
+    ensures fault { IfErr result (λ e. IfSome (D.outside desk.old).files (λ files. IsSourceEnding (IsSourceFault (bytes_of files name.now)) e)) }
     ensures stops { IfErr result Stops }
     ensures name { IsIfTold (D.outside desk.new).program.name (Some name.now) }
     ensures only { OpensOnly InSlot.Program (D.outside desk.old) (D.outside desk.new) }
@@ -220,7 +218,7 @@ fn read_claim<D: Desk>(
     requires program { (D.outside desk.old).program.stage ≡ Stage.Unasked }
     requires image { (D.outside desk.old).image.stage ≡ Stage.Unasked }
     requires file { (D.outside desk.old).file.stage ≡ Stage.Unasked }
-    ensures order { IfSome (D.outside desk.old).files (λ files. AsksWhereAccepted (bytes_of files program.now) (D.outside desk.new)) }
+    ensures order { IfSome (D.outside desk.old).files (λ files. AsksWhere (IsAccepted (bytes_of files program.now)) (D.outside desk.new)) }
     ensures holds { IfOk result (λ claim. IfSome (D.outside desk.old).files (λ files. IsChecked (bytes_of files program.now) (bytes_of files report.now) claim)) }
     ensures fault { IfErr result (λ e. IfSome (D.outside desk.old).files (λ files. IsCheckAnswer (bytes_of files program.now) (bytes_of files report.now) e)) }
     ensures stops { IfErr result Stops }

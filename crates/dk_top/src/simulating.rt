@@ -1,6 +1,6 @@
 //! `sim`: any Verilog text of the subset is clocked on the images of a file.
 
-ghost use Rattle.std.specs.Prelude.{◌≡◌, ◌≢◌, ◌≤◌, ◌<◌, ℕ, List, Option, Some, None, Err, true, IsSome, IfOk, IfErr, IfSome, IfNone, OnOk, length, vec_len};
+ghost use Rattle.std.specs.Prelude.{◌≡◌, ◌≢◌, ◌≤◌, ◌<◌, ◌^◌, ℕ, List, Option, Some, None, Err, true, IsSome, IfOk, IfErr, IfSome, IfNone, OnOk, length, vec_len};
 ghost use Rattle.dk_base.specs.Frames.{IsFrame};
 ghost use Rattle.dk_base.specs.FrameSizes.{size_of};
 ghost use Rattle.dk_desk.specs.Calls.{HasCauseIn, IsIfTold, OpensOnly};
@@ -160,7 +160,7 @@ fn read_images<D: Desk>(
     ensures only { OpensOnly InSlot.Image (D.outside desk.old) (D.outside desk.new) }
     ensures cause { HasCauseIn (result ≡ Err Ending.ReadFault) (D.outside desk.old).input_failures (D.outside desk.new).input_failures }
 {
-    let file = match read_file(alloc, desk, name) {
+    let file = match read_file(alloc, desk, name, Some(MAX_PGM_BYTES as usize)) {
         Ok(file) => file,
         Err(ending) => return Err(ending),
     };
@@ -216,6 +216,18 @@ fn fill_of(power: PowerUp) -> Fill
     }
 }
 
+/// How the words drive a module.
+fn drive_for(words: &SimWords) -> Drive
+    ensures is { result ≡ drive_of words.now.clocks words.now.fill words.now.hold }
+    ensures few { result.clocks < 2 ^ 60 }
+{
+    Drive {
+        clocks: u64::from(words.clocks),
+        fill: fill_of(words.fill),
+        hold: words.hold,
+    }
+}
+
 /// The file of the pictures that the module shows.
 fn pictures<D: Desk>(
     alloc: Global,
@@ -224,6 +236,7 @@ fn pictures<D: Desk>(
     drive: Drive,
 ) -> Result<Vec<u8>, Ending>
     requires hold { IfSome drive.hold (λ count. 0 < count) }
+    requires clocks { drive.clocks < 2 ^ 60 }
     requires frame { IsFrame given.now.input.size.width given.now.input.size.height }
     requires frames { AreBenchFrames (din_widths given.now.«module».netlist) (size_of given.now.input.size) given.now.input.rounds.items }
     ensures only { D.outside desk.new ≡ record (D.outside desk.old) { notes = (D.outside desk.new).notes } }
@@ -261,12 +274,7 @@ impl Work for SimWords<'_> {
             Ok(given) => given,
             Err(ending) => return ending,
         };
-        let drive = Drive {
-            clocks: self.clocks,
-            fill: fill_of(self.fill),
-            hold: self.hold,
-        };
-        let output = match pictures(alloc, desk, &given, drive) {
+        let output = match pictures(alloc, desk, &given, drive_for(self)) {
             Ok(output) => output,
             Err(ending) => return ending,
         };

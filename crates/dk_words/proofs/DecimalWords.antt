@@ -1,11 +1,11 @@
 -- What commands with numbers read, where the numbers are decimals in their ranges.
-use Rattle.std.proofs.Common.{◌≡◌, ℕ, ◌≤◌, false, [], ◌∷◌, Some, None, codes, arith, decimal}
-use Rattle.dk_base.specs.declared.TheConstants.{MAX_CLOCKS, MAX_HOLD, MAX_AGE}
+use Rattle.std.proofs.Common.{◌≡◌, ℕ, ◌≤◌, true, false, [], ◌∷◌, Some, None, codes, arith, decimal}
+use Rattle.dk_base.specs.declared.TheConstants.{MAX_CLOCKS, MAX_HOLD, MAX_AGE, MAX_MADE}
 use Rattle.clap.specs.Walk.{Text}
 use Rattle.dk_words.specs.Words.{is_like_option}
-use Rattle.dk_words.specs.Command.{age_number, clocks_of, command_of, hold_number, plan, sim}
+use Rattle.dk_words.specs.Command.{age_number, clocks_of, command_of, compile, hold_number, made_number, make, plan, run, sim, trace}
 use Rattle.dk_words.specs.declared.command.PowerUp.TheVariants.{Zeros, Ones}
-use Rattle.dk_words.proofs.FileWords.{age_first_reads, age_last_reads, both_reads, hold_reads, ones_reads, sim_reads, sim_reads_after}
+use Rattle.dk_words.proofs.FileWords.{age_first_reads, age_last_reads, both_first_reads, both_last_reads, both_reads, compile_age_first_reads, compile_age_last_reads, hold_reads, make_reads, make_reads_after, ones_reads, run_age_first_reads, run_age_last_reads, sim_reads, sim_reads_after, trace_reads, trace_reads_after}
 use Rattle.dk_words.proofs.NumberLemmas.{plain-decimal, within-decimal}
 
 -- ---- the ranges
@@ -18,6 +18,9 @@ hold_decimal n l h = within-decimal 1 MAX_HOLD n l h (omega arith)
 
 age_decimal : (n : ℕ) → n ≤ MAX_AGE → age_number (decimal n) ≡ Some n
 age_decimal n h = within-decimal 0 MAX_AGE n (omega arith) h (omega arith)
+
+made_decimal : (n : ℕ) → n ≤ MAX_MADE → made_number (decimal n) ≡ Some n
+made_decimal n h = within-decimal 0 MAX_MADE n (omega arith) h (omega arith)
 
 -- a decimal in a range is no option
 plain : (n : ℕ) → n ≤ MAX_CLOCKS → is_like_option (decimal n) ≡ false
@@ -49,3 +52,36 @@ module _ (name p : Text) (age : ℕ) (low : age ≤ MAX_AGE) (ep : is_like_optio
 
   pub plan_age_last : command_of (name ∷ codes "plan" ∷ p ∷ codes "--age" ∷ decimal age ∷ []) ≡ Some (plan p age)
   plan_age_last = age_last_reads p (decimal age) ep (plain age (omega arith)) name age (age_decimal age low)
+
+module _ (name p i o : Text) (age : ℕ) (low : age ≤ MAX_AGE) (ep : is_like_option p ≡ false) (ei : is_like_option i ≡ false) (eo : is_like_option o ≡ false) where
+  pub run_age_first : command_of (name ∷ codes "run" ∷ codes "--age" ∷ decimal age ∷ p ∷ i ∷ o ∷ []) ≡ Some (run p i o age)
+  run_age_first = run_age_first_reads p i o ep ei eo (decimal age) (plain age (omega arith)) name age (age_decimal age low)
+
+  pub run_age_last : command_of (name ∷ codes "run" ∷ p ∷ i ∷ o ∷ codes "--age" ∷ decimal age ∷ []) ≡ Some (run p i o age)
+  run_age_last = run_age_last_reads p i o ep ei eo (decimal age) (plain age (omega arith)) name age (age_decimal age low)
+
+module _ (name p o : Text) (age : ℕ) (low : age ≤ MAX_AGE) (ep : is_like_option p ≡ false) (eo : is_like_option o ≡ false) where
+  pub compile_age_first : command_of (name ∷ codes "compile" ∷ codes "--age" ∷ decimal age ∷ p ∷ o ∷ []) ≡ Some (compile p o false age)
+  compile_age_first = compile_age_first_reads p o ep eo (decimal age) (plain age (omega arith)) name age (age_decimal age low)
+
+  pub compile_age_last : command_of (name ∷ codes "compile" ∷ p ∷ o ∷ codes "--age" ∷ decimal age ∷ []) ≡ Some (compile p o false age)
+  compile_age_last = compile_age_last_reads p o ep eo (decimal age) (plain age (omega arith)) name age (age_decimal age low)
+
+  pub compile_both_first : command_of (name ∷ codes "compile" ∷ codes "--enable" ∷ codes "--age" ∷ decimal age ∷ p ∷ o ∷ []) ≡ Some (compile p o true age)
+  compile_both_first = both_first_reads p o ep eo (decimal age) (plain age (omega arith)) name age (age_decimal age low)
+
+  pub compile_both_last : command_of (name ∷ codes "compile" ∷ p ∷ o ∷ codes "--enable" ∷ codes "--age" ∷ decimal age ∷ []) ≡ Some (compile p o true age)
+  compile_both_last = both_last_reads p o ep eo (decimal age) (plain age (omega arith)) name age (age_decimal age low)
+
+pub make_alone : (name : Text) (n : ℕ) → n ≤ MAX_MADE → command_of (name ∷ codes "make" ∷ decimal n ∷ []) ≡ Some (make n)
+make_alone name n low = make_reads name (decimal n) n (made_decimal n low) (plain n (omega arith))
+
+pub make_after : (name : Text) (n : ℕ) → n ≤ MAX_MADE → command_of (name ∷ codes "make" ∷ codes "--" ∷ decimal n ∷ []) ≡ Some (make n)
+make_after name n low = make_reads_after name (decimal n) n (made_decimal n low)
+
+module _ (name v i o : Text) (n : ℕ) (few : n ≤ MAX_CLOCKS) where
+  pub trace_alone : is_like_option v ≡ false → is_like_option i ≡ false → is_like_option o ≡ false → command_of (name ∷ codes "trace" ∷ v ∷ decimal n ∷ i ∷ o ∷ []) ≡ Some (trace v n i o)
+  trace_alone ev ei eo = trace_reads name v (decimal n) i o n (clocks_decimal n few) ev (plain n few) ei eo
+
+  pub trace_after : command_of (name ∷ codes "trace" ∷ codes "--" ∷ v ∷ decimal n ∷ i ∷ o ∷ []) ≡ Some (trace v n i o)
+  trace_after = trace_reads_after name v (decimal n) i o n (clocks_decimal n few)

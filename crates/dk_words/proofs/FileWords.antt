@@ -5,18 +5,14 @@ use Rattle.std.specs.Str.{bytes_eq}
 use Rattle.clap.specs.Lexer.{long_of, long_of_rest, short_of, short_of_rest, strip_byte}
 use Rattle.clap.specs.Takes as pass
 use Rattle.clap.specs.Takes.{takes, walk_passes}
-use Rattle.clap.specs.Walk.{Held, Row, Rule, Text, Walk, after_step, arg_by_index, finished, idle, nothing_held, option, plain_word, rows_after, settled, to_positional, value, walk_from, walked, word_met}
+use Rattle.clap.specs.Walk.{Held, Row, Rule, Text, Walk, after_step, arg_by_index, finished, idle, nothing_held, option, plain_word, rows_after, settled, to_positional, value, walk_from, walked, walked_from, word_met}
 use Rattle.clap.specs.Simple.{Shape}
 use Rattle.dk_words.specs.Words.{is_like_option}
-use Rattle.dk_words.specs.Command.{Command, age_number, check, check_of_rows, clocks_of, command_of, command_of_rows, eval, hold_number, plan, plan_of_rows, plan_on, run, sim, sim_of_rows, sim_on}
+use Rattle.dk_words.specs.Command.{Command, age_number, check, check_of_rows, clocks_of, command_of, compile, compile_of_rows, compile_on, eval, eval_of_rows, hold_number, made_number, make, make_of_rows, make_on, plan, plan_of_rows, plan_on, run, run_of_rows, run_on, sim, sim_of_rows, sim_on, trace, trace_of_rows, trace_on}
 use Rattle.dk_words.specs.declared.command.PowerUp.TheVariants.{Zeros, Ones}
 use Rattle.dk_words.proofs.Joined.{both}
-use Rattle.dk_words.specs.Words.{file_command, sim_command, plan_command, check_command}
+use Rattle.dk_words.specs.Words.{run_command, eval_command, compile_command, sim_command, trace_command, plan_command, check_command, make_command}
 use Rattle.dk_words.proofs.TakenLemmas.{in_program}
-
--- a command of three files, as building leaves it
-abbrev file_shape : Text → Shape
-file_shape name = in_program (file_command name)
 
 -- ---- a word that is not like an option
 
@@ -138,7 +134,7 @@ named : (taken : Bool) (read is : Option Command) → taken ≡ true → read �
 named true read is e same = same
 named false read is e same = absurd (cc)
 
--- ---- three files
+-- ---- words for positionals, and options
 
 -- where the walk stands after words that go to positionals
 abbrev placed_from : Shape → Walk → List Text → Walk
@@ -147,34 +143,272 @@ placed_from s w words = fold (λ w word. to_positional s.rules (arg_by_index s.r
 abbrev placed : Shape → List Text → Walk
 placed s words = placed_from s (walk_from nothing_held) words
 
-three_go : (name p i o : Text) → is_like_option p ≡ false → is_like_option i ≡ false → is_like_option o ≡ false → Goes (file_shape name) (walk_from nothing_held) (p ∷ i ∷ o ∷ []) (placed (file_shape name) (p ∷ i ∷ o ∷ []))
-three_go name p i o ep ei eo =
-    let s = file_shape name in
-    goes_by_word s _ 1 _ p _ ep refl (goes_by_word s _ 2 _ i _ ei refl (goes_by_word s _ 3 _ o _ eo refl (goes_nowhere s _)))
+-- what is held where an option waits for its value
+abbrev asked_held : Shape → Text → Held → Held
+asked_held s id h = record (settled s.rules h) { pending = Some (id, []) }
 
--- the three words are those of the command
-three_taken : (name p i o : Text) → is_like_option p ≡ false → is_like_option i ≡ false → is_like_option o ≡ false → pass.level_passes (file_shape name) [] nothing_held (p ∷ i ∷ o ∷ []) false ≡ true
-three_taken name p i o ep ei eo = level (file_shape name) (p ∷ i ∷ o ∷ []) (placed (file_shape name) (p ∷ i ∷ o ∷ [])) (three_go name p i o ep ei eo) refl
+-- where the walk stands after the value of an option
+abbrev given_option : Shape → Text → Walk → Text → Walk
+given_option s id w k = after_step s.rules k (waiting_for id (asked_held s id w.held) w.position) (plain_word s.rules (option id) k (asked_held s id w.held)).0 (plain_word s.rules (option id) k (asked_held s id w.held)).1
 
-three_read : (name : Text) (command : Text → Text → Text → Command) (p i o : Text) → is_like_option p ≡ false → is_like_option i ≡ false → is_like_option o ≡ false → command_of_rows command (rows_after (file_shape name).rules [] (p ∷ i ∷ o ∷ [])) ≡ Some (command p i o)
-three_read name command p i o ep ei eo = reads (file_shape name) (p ∷ i ∷ o ∷ []) (placed (file_shape name) (p ∷ i ∷ o ∷ [])) (command_of_rows command) _ (three_go name p i o ep ei eo) refl
+-- an option and its value in front, where its word leads to where it waits
+goes_by_option : (s : Shape) (id dashed : Text) (w to : Walk) (k : Text) (rest : List Text) → walked s.rules [] w dashed ≡ waiting_for id (asked_held s id w.held) w.position → pass.turn_passes s [] w dashed ≡ true → is_like_option k ≡ false
+    → Goes s (given_option s id w k) rest to → Goes s w (dashed ∷ k ∷ rest) to
+goes_by_option s id dashed w to k rest moves passes e goes = goes_by s w (waiting_for id (asked_held s id w.held) w.position) to dashed (k ∷ rest) moves passes (goes_by_value s id (asked_held s id w.held) w.position to k rest e goes)
 
-pub run_reads : (name p i o : Text) → is_like_option p ≡ false → is_like_option i ≡ false → is_like_option o ≡ false → command_of (name ∷ codes "run" ∷ p ∷ i ∷ o ∷ []) ≡ Some (run p i o)
-unfolding walked walk_passes
-run_reads name p i o ep ei eo = named _ _ _ (both _ _ (three_taken (codes "run") p i o ep ei eo) refl) (three_read (codes "run") run p i o ep ei eo)
+-- what is held after a word for the positional of this number
+abbrev held_after : Shape → Held → ℕ → Text → Held
+held_after s h position word = (to_positional s.rules (arg_by_index s.rules position) word (standing h position) h).held
 
-pub eval_reads : (name p i o : Text) → is_like_option p ≡ false → is_like_option i ≡ false → is_like_option o ≡ false → command_of (name ∷ codes "eval" ∷ p ∷ i ∷ o ∷ []) ≡ Some (eval p i o)
-unfolding walked walk_passes
-eval_reads name p i o ep ei eo = named _ _ _ (both _ _ (three_taken (codes "eval") p i o ep ei eo) refl) (three_read (codes "eval") eval p i o ep ei eo)
+-- the options' words
+abbrev age_word : Text
+age_word = codes "--age"
+
+abbrev enable_word : Text
+enable_word = codes "--enable"
+
+-- where the walk stands after `--age` and its value
+abbrev aged : Shape → Walk → Text → Walk
+aged s w k = given_option s (codes "age") w k
+
+-- ---- `eval`
+
+abbrev eval_shape : Shape
+eval_shape = in_program eval_command
+
+module _ (p i o : Text) (ep : is_like_option p ≡ false) (ei : is_like_option i ≡ false) (eo : is_like_option o ≡ false) where
+  abbrev eval_three : Walk
+  eval_three = placed eval_shape (p ∷ i ∷ o ∷ [])
+
+  eval_go : Goes eval_shape (walk_from nothing_held) (p ∷ i ∷ o ∷ []) eval_three
+  eval_go = goes_by_word eval_shape _ 1 _ p _ ep refl (goes_by_word eval_shape _ 2 _ i _ ei refl (goes_by_word eval_shape _ 3 _ o _ eo refl (goes_nowhere eval_shape _)))
+
+  pub eval_reads : (name : Text) → command_of (name ∷ codes "eval" ∷ p ∷ i ∷ o ∷ []) ≡ Some (eval p i o)
+  unfolding walked walk_passes
+  eval_reads name = named _ _ _ (both _ _ (level eval_shape (p ∷ i ∷ o ∷ []) eval_three eval_go refl) refl) (reads eval_shape (p ∷ i ∷ o ∷ []) eval_three eval_of_rows _ eval_go refl)
 
 -- after `--` all words are file words
-pub run_reads_after : (name p i o : Text) → command_of (name ∷ codes "run" ∷ codes "--" ∷ p ∷ i ∷ o ∷ []) ≡ Some (run p i o)
-unfolding walked walk_passes
-run_reads_after name p i o = refl
-
 pub eval_reads_after : (name p i o : Text) → command_of (name ∷ codes "eval" ∷ codes "--" ∷ p ∷ i ∷ o ∷ []) ≡ Some (eval p i o)
 unfolding walked walk_passes
 eval_reads_after name p i o = refl
+
+-- ---- `run`
+
+abbrev run_shape : Shape
+run_shape = in_program run_command
+
+module _ (p i o : Text) (ep : is_like_option p ≡ false) (ei : is_like_option i ≡ false) (eo : is_like_option o ≡ false) where
+  -- the three words, from where the walk stands
+  three_from : (h : Held) (rest : List Text) (to : Walk) → pass.step_passes run_shape 1 h value ≡ true → pass.step_passes run_shape 2 (held_after run_shape h 1 p) value ≡ true → pass.step_passes run_shape 3 (held_after run_shape (held_after run_shape h 1 p) 2 i) value ≡ true
+      → Goes run_shape (placed_from run_shape (standing h 1) (p ∷ i ∷ o ∷ [])) rest to → Goes run_shape (standing h 1) (p ∷ i ∷ o ∷ rest) to
+  three_from h rest to one two three goes =
+      goes_by_word run_shape h 1 to p (i ∷ o ∷ rest) ep one
+      (goes_by_word run_shape (held_after run_shape h 1 p) 2 to i (o ∷ rest) ei two (goes_by_word run_shape (held_after run_shape (held_after run_shape h 1 p) 2 i) 3 to o rest eo three goes))
+
+  abbrev run_three : Walk
+  run_three = placed run_shape (p ∷ i ∷ o ∷ [])
+
+  run_go : (rest : List Text) (to : Walk) → Goes run_shape run_three rest to → Goes run_shape (walk_from nothing_held) (p ∷ i ∷ o ∷ rest) to
+  run_go rest to goes = three_from nothing_held rest to refl refl refl goes
+
+  pub run_reads : (name : Text) → command_of (name ∷ codes "run" ∷ p ∷ i ∷ o ∷ []) ≡ Some (run p i o 0)
+  unfolding walked walk_passes
+  run_reads name =
+      let goes = run_go [] run_three (goes_nowhere run_shape run_three) in
+      named _ _ _ (both _ _ (level run_shape (p ∷ i ∷ o ∷ []) run_three goes refl) refl) (reads run_shape (p ∷ i ∷ o ∷ []) run_three run_of_rows _ goes refl)
+
+  module _ (k : Text) (ek : is_like_option k ≡ false) where
+    -- the option in front
+    abbrev age_then_three : Walk
+    age_then_three = placed_from run_shape (aged run_shape (walk_from nothing_held) k) (p ∷ i ∷ o ∷ [])
+
+    run_age_first_go : Goes run_shape (walk_from nothing_held) (age_word ∷ k ∷ p ∷ i ∷ o ∷ []) age_then_three
+    unfolding walked
+    run_age_first_go =
+        goes_by_option run_shape (codes "age") age_word (walk_from nothing_held) _ k _ refl refl ek
+        (three_from (aged run_shape (walk_from nothing_held) k).held [] age_then_three refl refl refl (goes_nowhere run_shape age_then_three))
+
+    -- the option behind
+    run_age_last_go : Goes run_shape (walk_from nothing_held) (p ∷ i ∷ o ∷ age_word ∷ k ∷ []) (aged run_shape run_three k)
+    unfolding walked
+    run_age_last_go = run_go (age_word ∷ k ∷ []) _ (goes_by_option run_shape (codes "age") age_word run_three _ k [] refl refl ek (goes_nowhere run_shape _))
+
+    module _ (name : Text) (age : ℕ) (is : age_number k ≡ Some age) where
+      pub run_age_first_reads : command_of (name ∷ codes "run" ∷ age_word ∷ k ∷ p ∷ i ∷ o ∷ []) ≡ Some (run p i o age)
+      unfolding walked walk_passes
+      run_age_first_reads =
+          named _ _ _ (both _ _ (level run_shape (age_word ∷ k ∷ p ∷ i ∷ o ∷ []) age_then_three run_age_first_go refl) refl)
+          (reads run_shape (age_word ∷ k ∷ p ∷ i ∷ o ∷ []) age_then_three run_of_rows _ run_age_first_go (ap (run_on (Some p) (Some i) (Some o)) is))
+
+      pub run_age_last_reads : command_of (name ∷ codes "run" ∷ p ∷ i ∷ o ∷ age_word ∷ k ∷ []) ≡ Some (run p i o age)
+      unfolding walked walk_passes
+      run_age_last_reads =
+          named _ _ _ (both _ _ (level run_shape (p ∷ i ∷ o ∷ age_word ∷ k ∷ []) (aged run_shape run_three k) run_age_last_go refl) refl)
+          (reads run_shape (p ∷ i ∷ o ∷ age_word ∷ k ∷ []) (aged run_shape run_three k) run_of_rows _ run_age_last_go (ap (run_on (Some p) (Some i) (Some o)) is))
+
+pub run_reads_after : (name p i o : Text) → command_of (name ∷ codes "run" ∷ codes "--" ∷ p ∷ i ∷ o ∷ []) ≡ Some (run p i o 0)
+unfolding walked walk_passes
+run_reads_after name p i o = refl
+
+-- ---- `compile`
+
+abbrev compile_shape : Shape
+compile_shape = in_program compile_command
+
+-- where the walk stands after `--enable`
+abbrev enabled : Walk → Walk
+enabled w = walked_from compile_shape.rules [] w.stopped w enable_word
+
+module _ (p o : Text) (ep : is_like_option p ≡ false) (eo : is_like_option o ≡ false) where
+  -- the two words, from where the walk stands
+  two_from : (h : Held) (rest : List Text) (to : Walk) → pass.step_passes compile_shape 1 h value ≡ true → pass.step_passes compile_shape 2 (held_after compile_shape h 1 p) value ≡ true
+      → Goes compile_shape (placed_from compile_shape (standing h 1) (p ∷ o ∷ [])) rest to → Goes compile_shape (standing h 1) (p ∷ o ∷ rest) to
+  two_from h rest to one two goes = goes_by_word compile_shape h 1 to p (o ∷ rest) ep one (goes_by_word compile_shape (held_after compile_shape h 1 p) 2 to o rest eo two goes)
+
+  -- the two words alone, and from another start
+  abbrev two_after : Walk → Walk
+  two_after w = placed_from compile_shape w (p ∷ o ∷ [])
+
+  abbrev two : Walk
+  two = two_after (walk_from nothing_held)
+
+  two_go : (rest : List Text) (to : Walk) → Goes compile_shape two rest to → Goes compile_shape (walk_from nothing_held) (p ∷ o ∷ rest) to
+  two_go rest to goes = two_from nothing_held rest to refl refl goes
+
+  pub compile_reads : (name : Text) → command_of (name ∷ codes "compile" ∷ p ∷ o ∷ []) ≡ Some (compile p o false 0)
+  unfolding walked walk_passes
+  compile_reads name =
+      let goes = two_go [] two (goes_nowhere compile_shape two) in
+      named _ _ _ (both _ _ (level compile_shape (p ∷ o ∷ []) two goes refl) refl) (reads compile_shape (p ∷ o ∷ []) two compile_of_rows _ goes refl)
+
+  -- `--enable` in front
+  abbrev enable_then_two : Walk
+  enable_then_two = two_after (enabled (walk_from nothing_held))
+
+  enable_first_go : Goes compile_shape (walk_from nothing_held) (enable_word ∷ p ∷ o ∷ []) enable_then_two
+  unfolding walked
+  enable_first_go =
+      goes_by compile_shape (walk_from nothing_held) (enabled (walk_from nothing_held)) _ enable_word _ refl refl
+      (two_from (enabled (walk_from nothing_held)).held [] enable_then_two refl refl (goes_nowhere compile_shape enable_then_two))
+
+  pub enable_first_reads : (name : Text) → command_of (name ∷ codes "compile" ∷ enable_word ∷ p ∷ o ∷ []) ≡ Some (compile p o true 0)
+  unfolding walked walk_passes
+  enable_first_reads name =
+      named _ _ _ (both _ _ (level compile_shape (enable_word ∷ p ∷ o ∷ []) enable_then_two enable_first_go refl) refl)
+      (reads compile_shape (enable_word ∷ p ∷ o ∷ []) enable_then_two compile_of_rows _ enable_first_go refl)
+
+  -- and behind
+  two_enable_go : (rest : List Text) (to : Walk) → Goes compile_shape (enabled two) rest to → Goes compile_shape (walk_from nothing_held) (p ∷ o ∷ enable_word ∷ rest) to
+  unfolding walked
+  two_enable_go rest to goes = two_go (enable_word ∷ rest) to (goes_by compile_shape two (enabled two) to enable_word rest refl refl goes)
+
+  pub enable_last_reads : (name : Text) → command_of (name ∷ codes "compile" ∷ p ∷ o ∷ enable_word ∷ []) ≡ Some (compile p o true 0)
+  unfolding walked walk_passes
+  enable_last_reads name =
+      let goes = two_enable_go [] (enabled two) (goes_nowhere compile_shape (enabled two)) in
+      named _ _ _ (both _ _ (level compile_shape (p ∷ o ∷ enable_word ∷ []) (enabled two) goes refl) refl) (reads compile_shape (p ∷ o ∷ enable_word ∷ []) (enabled two) compile_of_rows _ goes refl)
+
+  module _ (k : Text) (ek : is_like_option k ≡ false) where
+    -- `--age` in front
+    abbrev age_then_two : Walk
+    age_then_two = two_after (aged compile_shape (walk_from nothing_held) k)
+
+    compile_age_first_go : Goes compile_shape (walk_from nothing_held) (age_word ∷ k ∷ p ∷ o ∷ []) age_then_two
+    unfolding walked
+    compile_age_first_go =
+        goes_by_option compile_shape (codes "age") age_word (walk_from nothing_held) _ k _ refl refl ek
+        (two_from (aged compile_shape (walk_from nothing_held) k).held [] age_then_two refl refl (goes_nowhere compile_shape age_then_two))
+
+    -- and behind
+    compile_age_last_go : Goes compile_shape (walk_from nothing_held) (p ∷ o ∷ age_word ∷ k ∷ []) (aged compile_shape two k)
+    unfolding walked
+    compile_age_last_go = two_go (age_word ∷ k ∷ []) _ (goes_by_option compile_shape (codes "age") age_word two _ k [] refl refl ek (goes_nowhere compile_shape _))
+
+    -- both in front
+    abbrev both_then_two : Walk
+    both_then_two = two_after (aged compile_shape (enabled (walk_from nothing_held)) k)
+
+    both_first_go : Goes compile_shape (walk_from nothing_held) (enable_word ∷ age_word ∷ k ∷ p ∷ o ∷ []) both_then_two
+    unfolding walked
+    both_first_go =
+        goes_by compile_shape (walk_from nothing_held) (enabled (walk_from nothing_held)) _ enable_word _ refl refl
+        (goes_by_option compile_shape (codes "age") age_word (enabled (walk_from nothing_held)) _ k _ refl refl ek
+        (two_from (aged compile_shape (enabled (walk_from nothing_held)) k).held [] both_then_two refl refl (goes_nowhere compile_shape both_then_two)))
+
+    -- and behind
+    both_last_go : Goes compile_shape (walk_from nothing_held) (p ∷ o ∷ enable_word ∷ age_word ∷ k ∷ []) (aged compile_shape (enabled two) k)
+    unfolding walked
+    both_last_go = two_enable_go (age_word ∷ k ∷ []) _ (goes_by_option compile_shape (codes "age") age_word (enabled two) _ k [] refl refl ek (goes_nowhere compile_shape _))
+
+    module _ (name : Text) (age : ℕ) (is : age_number k ≡ Some age) where
+      pub compile_age_first_reads : command_of (name ∷ codes "compile" ∷ age_word ∷ k ∷ p ∷ o ∷ []) ≡ Some (compile p o false age)
+      unfolding walked walk_passes
+      compile_age_first_reads =
+          named _ _ _ (both _ _ (level compile_shape (age_word ∷ k ∷ p ∷ o ∷ []) age_then_two compile_age_first_go refl) refl)
+          (reads compile_shape (age_word ∷ k ∷ p ∷ o ∷ []) age_then_two compile_of_rows _ compile_age_first_go (ap (compile_on (Some p) (Some o) false) is))
+
+      pub compile_age_last_reads : command_of (name ∷ codes "compile" ∷ p ∷ o ∷ age_word ∷ k ∷ []) ≡ Some (compile p o false age)
+      unfolding walked walk_passes
+      compile_age_last_reads =
+          named _ _ _ (both _ _ (level compile_shape (p ∷ o ∷ age_word ∷ k ∷ []) (aged compile_shape two k) compile_age_last_go refl) refl)
+          (reads compile_shape (p ∷ o ∷ age_word ∷ k ∷ []) (aged compile_shape two k) compile_of_rows _ compile_age_last_go (ap (compile_on (Some p) (Some o) false) is))
+
+      pub both_first_reads : command_of (name ∷ codes "compile" ∷ enable_word ∷ age_word ∷ k ∷ p ∷ o ∷ []) ≡ Some (compile p o true age)
+      unfolding walked walk_passes
+      both_first_reads =
+          named _ _ _ (both _ _ (level compile_shape (enable_word ∷ age_word ∷ k ∷ p ∷ o ∷ []) both_then_two both_first_go refl) refl)
+          (reads compile_shape (enable_word ∷ age_word ∷ k ∷ p ∷ o ∷ []) both_then_two compile_of_rows _ both_first_go (ap (compile_on (Some p) (Some o) true) is))
+
+      pub both_last_reads : command_of (name ∷ codes "compile" ∷ p ∷ o ∷ enable_word ∷ age_word ∷ k ∷ []) ≡ Some (compile p o true age)
+      unfolding walked walk_passes
+      both_last_reads =
+          named _ _ _ (both _ _ (level compile_shape (p ∷ o ∷ enable_word ∷ age_word ∷ k ∷ []) (aged compile_shape (enabled two) k) both_last_go refl) refl)
+          (reads compile_shape (p ∷ o ∷ enable_word ∷ age_word ∷ k ∷ []) (aged compile_shape (enabled two) k) compile_of_rows _ both_last_go (ap (compile_on (Some p) (Some o) true) is))
+
+pub compile_reads_after : (name p o : Text) → command_of (name ∷ codes "compile" ∷ codes "--" ∷ p ∷ o ∷ []) ≡ Some (compile p o false 0)
+unfolding walked walk_passes
+compile_reads_after name p o = refl
+
+-- ---- `make`
+
+abbrev make_shape : Shape
+make_shape = in_program make_command
+
+module _ (name n : Text) (number : ℕ) (is : made_number n ≡ Some number) where
+  pub make_reads : is_like_option n ≡ false → command_of (name ∷ codes "make" ∷ n ∷ []) ≡ Some (make number)
+  unfolding walked walk_passes
+  make_reads en =
+      let to = placed make_shape (n ∷ []) in
+      let goes = goes_by_word make_shape nothing_held 1 to n [] en refl (goes_nowhere make_shape to) in
+      named _ _ _ (both _ _ (level make_shape (n ∷ []) to goes refl) refl) (reads make_shape (n ∷ []) to make_of_rows _ goes (ap make_on is))
+
+  pub make_reads_after : command_of (name ∷ codes "make" ∷ codes "--" ∷ n ∷ []) ≡ Some (make number)
+  unfolding walked walk_passes
+  make_reads_after = ap make_on is
+
+-- ---- `trace`
+
+abbrev trace_shape : Shape
+trace_shape = in_program trace_command
+
+abbrev trace_four : (v n i o : Text) → Walk
+trace_four v n i o = placed trace_shape (v ∷ n ∷ i ∷ o ∷ [])
+
+trace_go : (v n i o : Text) → is_like_option v ≡ false → is_like_option n ≡ false → is_like_option i ≡ false → is_like_option o ≡ false → Goes trace_shape (walk_from nothing_held) (v ∷ n ∷ i ∷ o ∷ []) (trace_four v n i o)
+trace_go v n i o ev en ei eo =
+    goes_by_word trace_shape _ 1 _ v _ ev refl (goes_by_word trace_shape _ 2 _ n _ en refl (goes_by_word trace_shape _ 3 _ i _ ei refl (goes_by_word trace_shape _ 4 _ o _ eo refl (goes_nowhere trace_shape _))))
+
+module _ (name v n i o : Text) (clocks : ℕ) (is : clocks_of n ≡ Some clocks) where
+  pub trace_reads : is_like_option v ≡ false → is_like_option n ≡ false → is_like_option i ≡ false → is_like_option o ≡ false → command_of (name ∷ codes "trace" ∷ v ∷ n ∷ i ∷ o ∷ []) ≡ Some (trace v clocks i o)
+  unfolding walked walk_passes
+  trace_reads ev en ei eo =
+      let goes = trace_go v n i o ev en ei eo in
+      named _ _ _ (both _ _ (level trace_shape (v ∷ n ∷ i ∷ o ∷ []) (trace_four v n i o) goes refl) refl)
+      (reads trace_shape (v ∷ n ∷ i ∷ o ∷ []) (trace_four v n i o) trace_of_rows _ goes (ap (λ c. trace_on (Some v) c (Some i) (Some o)) is))
+
+  pub trace_reads_after : command_of (name ∷ codes "trace" ∷ codes "--" ∷ v ∷ n ∷ i ∷ o ∷ []) ≡ Some (trace v clocks i o)
+  unfolding walked walk_passes
+  trace_reads_after = ap (λ c. trace_on (Some v) c (Some i) (Some o)) is
 
 -- ---- `check`
 
@@ -199,10 +433,6 @@ check_reads_after name p r = refl
 abbrev plan_shape : Shape
 plan_shape = in_program plan_command
 
--- the option's word
-abbrev age_word : Text
-age_word = codes "--age"
-
 plan_go : (p : Text) → is_like_option p ≡ false → Goes plan_shape (walk_from nothing_held) (p ∷ []) (placed plan_shape (p ∷ []))
 plan_go p ep = goes_by_word plan_shape _ 1 _ p _ ep refl (goes_nowhere plan_shape _)
 
@@ -216,34 +446,24 @@ pub plan_reads_after : (name p : Text) → command_of (name ∷ codes "plan" ∷
 unfolding walked walk_passes
 plan_reads_after name p = refl
 
--- what is held where `--age` waits for its value
-abbrev asked_held : Held → Held
-asked_held h = record (settled plan_shape.rules h) { pending = Some (codes "age", []) }
-
--- where the walk stands after its value
-abbrev aged : Held → ℕ → Text → Walk
-aged h position k = after_step plan_shape.rules k (waiting_for (codes "age") (asked_held h) position) (plain_word plan_shape.rules (option (codes "age")) k (asked_held h)).0 (plain_word plan_shape.rules (option (codes "age")) k (asked_held h)).1
-
 module _ (p k : Text) (ep : is_like_option p ≡ false) (ek : is_like_option k ≡ false) where
   -- the option in front
   abbrev age_then_program : Walk
-  age_then_program = placed_from plan_shape (aged nothing_held 1 k) (p ∷ [])
+  age_then_program = placed_from plan_shape (aged plan_shape (walk_from nothing_held) k) (p ∷ [])
 
   age_first_go : Goes plan_shape (walk_from nothing_held) (age_word ∷ k ∷ p ∷ []) age_then_program
   unfolding walked
   age_first_go =
-      goes_by plan_shape _ (waiting_for (codes "age") (asked_held nothing_held) 1) _ age_word _ refl refl (goes_by_value plan_shape (codes "age") (asked_held nothing_held) 1 _ k _ ek
-      (goes_by_word plan_shape (aged nothing_held 1 k).held 1 _ p _ ep refl (goes_nowhere plan_shape _)))
+      goes_by_option plan_shape (codes "age") age_word (walk_from nothing_held) _ k _ refl refl ek
+      (goes_by_word plan_shape (aged plan_shape (walk_from nothing_held) k).held 1 _ p _ ep refl (goes_nowhere plan_shape _))
 
   -- the option behind
   abbrev program_then_age : Walk
-  program_then_age = aged (placed plan_shape (p ∷ [])).held 2 k
+  program_then_age = aged plan_shape (placed plan_shape (p ∷ [])) k
 
   age_last_go : Goes plan_shape (walk_from nothing_held) (p ∷ age_word ∷ k ∷ []) program_then_age
   unfolding walked
-  age_last_go =
-      goes_by_word plan_shape _ 1 _ p _ ep refl (goes_by plan_shape _ (waiting_for (codes "age") (asked_held (placed plan_shape (p ∷ [])).held) 2) _ age_word _ refl refl
-      (goes_by_value plan_shape (codes "age") (asked_held (placed plan_shape (p ∷ [])).held) 2 _ k _ ek (goes_nowhere plan_shape _)))
+  age_last_go = goes_by_word plan_shape _ 1 _ p _ ep refl (goes_by_option plan_shape (codes "age") age_word (placed plan_shape (p ∷ [])) _ k [] refl refl ek (goes_nowhere plan_shape _))
 
   module _ (name : Text) (age : ℕ) (is : age_number k ≡ Some age) where
     pub age_first_reads : command_of (name ∷ codes "plan" ∷ age_word ∷ k ∷ p ∷ []) ≡ Some (plan p age)
@@ -263,42 +483,28 @@ module _ (p k : Text) (ep : is_like_option p ≡ false) (ek : is_like_option k �
 abbrev sim_shape : Shape
 sim_shape = in_program sim_command
 
--- what is held where an option of `sim` waits for its value
-abbrev sim_asked : Text → Held → Held
-sim_asked id h = record (settled sim_shape.rules h) { pending = Some (id, []) }
-
--- where the walk stands after the value of an option
-abbrev given_option : Text → Walk → Text → Walk
-given_option id w k = after_step sim_shape.rules k (waiting_for id (sim_asked id w.held) w.position) (plain_word sim_shape.rules (option id) k (sim_asked id w.held)).0 (plain_word sim_shape.rules (option id) k (sim_asked id w.held)).1
-
 module _ (v n i o : Text) (ev : is_like_option v ≡ false) (en : is_like_option n ≡ false) (ei : is_like_option i ≡ false) (eo : is_like_option o ≡ false) where
   -- where the walk stands after the four words, and then after options
   abbrev four : Walk
   four = placed sim_shape (v ∷ n ∷ i ∷ o ∷ [])
 
   abbrev with_ones : Walk
-  with_ones = given_option (codes "fill") four (codes "ones")
+  with_ones = given_option sim_shape (codes "fill") four (codes "ones")
 
   four_go : (rest : List Text) (to : Walk) → Goes sim_shape four rest to → Goes sim_shape (walk_from nothing_held) (v ∷ n ∷ i ∷ o ∷ rest) to
   four_go rest to goes = goes_by_word sim_shape _ 1 _ v _ ev refl (goes_by_word sim_shape _ 2 _ n _ en refl (goes_by_word sim_shape _ 3 _ i _ ei refl (goes_by_word sim_shape _ 4 _ o _ eo refl goes)))
 
   ones_go : (rest : List Text) (to : Walk) → Goes sim_shape with_ones rest to → Goes sim_shape four (codes "--fill" ∷ codes "ones" ∷ rest) to
   unfolding walked
-  ones_go rest to goes =
-      goes_by sim_shape four (waiting_for (codes "fill") (sim_asked (codes "fill") four.held) 5) to (codes "--fill") (codes "ones" ∷ rest) refl refl
-      (goes_by_value sim_shape (codes "fill") (sim_asked (codes "fill") four.held) 5 to (codes "ones") rest refl goes)
+  ones_go rest to goes = goes_by_option sim_shape (codes "fill") (codes "--fill") four to (codes "ones") rest refl refl refl goes
 
-  hold_go : (k : Text) → is_like_option k ≡ false → Goes sim_shape four (codes "--hold" ∷ k ∷ []) (given_option (codes "hold") four k)
+  hold_go : (k : Text) → is_like_option k ≡ false → Goes sim_shape four (codes "--hold" ∷ k ∷ []) (given_option sim_shape (codes "hold") four k)
   unfolding walked
-  hold_go k ek =
-      goes_by sim_shape four (waiting_for (codes "hold") (sim_asked (codes "hold") four.held) 5) _ (codes "--hold") _ refl refl
-      (goes_by_value sim_shape (codes "hold") (sim_asked (codes "hold") four.held) 5 _ k _ ek (goes_nowhere sim_shape _))
+  hold_go k ek = goes_by_option sim_shape (codes "hold") (codes "--hold") four _ k [] refl refl ek (goes_nowhere sim_shape _)
 
-  both_go : (k : Text) → is_like_option k ≡ false → Goes sim_shape with_ones (codes "--hold" ∷ k ∷ []) (given_option (codes "hold") with_ones k)
+  both_go : (k : Text) → is_like_option k ≡ false → Goes sim_shape with_ones (codes "--hold" ∷ k ∷ []) (given_option sim_shape (codes "hold") with_ones k)
   unfolding walked
-  both_go k ek =
-      goes_by sim_shape with_ones (waiting_for (codes "hold") (sim_asked (codes "hold") with_ones.held) 5) _ (codes "--hold") _ refl refl
-      (goes_by_value sim_shape (codes "hold") (sim_asked (codes "hold") with_ones.held) 5 _ k _ ek (goes_nowhere sim_shape _))
+  both_go k ek = goes_by_option sim_shape (codes "hold") (codes "--hold") with_ones _ k [] refl refl ek (goes_nowhere sim_shape _)
 
   module _ (name : Text) (clocks : ℕ) (is : clocks_of n ≡ Some clocks) where
     pub sim_reads : command_of (name ∷ codes "sim" ∷ v ∷ n ∷ i ∷ o ∷ []) ≡ Some (sim v clocks i o Zeros None)
@@ -319,7 +525,7 @@ module _ (v n i o : Text) (ev : is_like_option v ≡ false) (en : is_like_option
       pub hold_reads : command_of (name ∷ codes "sim" ∷ v ∷ n ∷ i ∷ o ∷ codes "--hold" ∷ k ∷ []) ≡ Some (sim v clocks i o Zeros (Some hold))
       unfolding walked walk_passes
       hold_reads =
-          let to = given_option (codes "hold") four k in
+          let to = given_option sim_shape (codes "hold") four k in
           let goes = four_go (codes "--hold" ∷ k ∷ []) to (hold_go k ek) in
           named _ _ _ (both _ _ (level sim_shape (v ∷ n ∷ i ∷ o ∷ codes "--hold" ∷ k ∷ []) to goes refl) refl)
           (reads sim_shape (v ∷ n ∷ i ∷ o ∷ codes "--hold" ∷ k ∷ []) to sim_of_rows _ goes
@@ -328,7 +534,7 @@ module _ (v n i o : Text) (ev : is_like_option v ≡ false) (en : is_like_option
       pub both_reads : command_of (name ∷ codes "sim" ∷ v ∷ n ∷ i ∷ o ∷ codes "--fill" ∷ codes "ones" ∷ codes "--hold" ∷ k ∷ []) ≡ Some (sim v clocks i o Ones (Some hold))
       unfolding walked walk_passes
       both_reads =
-          let to = given_option (codes "hold") with_ones k in
+          let to = given_option sim_shape (codes "hold") with_ones k in
           let goes = four_go (codes "--fill" ∷ codes "ones" ∷ codes "--hold" ∷ k ∷ []) to (ones_go (codes "--hold" ∷ k ∷ []) to (both_go k ek)) in
           named _ _ _ (both _ _ (level sim_shape (v ∷ n ∷ i ∷ o ∷ codes "--fill" ∷ codes "ones" ∷ codes "--hold" ∷ k ∷ []) to goes refl) refl)
           (reads sim_shape (v ∷ n ∷ i ∷ o ∷ codes "--fill" ∷ codes "ones" ∷ codes "--hold" ∷ k ∷ []) to sim_of_rows _ goes

@@ -2,13 +2,13 @@
 use Rattle.std.proofs.Common.{◌≡◌, ℕ, ◌≤◌, ◌&&◌, refl, Bool, true, false, cond, List, Option, None, Some, IfSome, Result, Ok, Err, IfOk, option_and_then, option_map, subst, arith, nat_le, codes}
 use Rattle.std.proofs.lemmas.Bool.Decides.{nat_tests}
 use Rattle.std.specs.Str.{bytes_eq}
-use Rattle.dk_base.specs.declared.TheConstants.{MAX_CLOCKS, MAX_HOLD, MAX_AGE}
+use Rattle.dk_base.specs.declared.TheConstants.{MAX_CLOCKS, MAX_HOLD, MAX_AGE, MAX_MADE}
 use Rattle.clap.specs.Walk.{Row, Text, first_of}
 use Rattle.clap.specs.Simple.{subcommand_of}
 use Rattle.clap.specs.Takes.{takes}
 use Rattle.dk_words.specs.Words.{program}
 use Rattle.dk_words.specs.Numbers.{number_of, number_within, within}
-use Rattle.dk_words.specs.Command.{Command, IsInRange, age_number, age_of, check_of_rows, check_on, clocks_of, command_asked, command_from, command_of, command_of_rows, command_on, eval, fill_of, hold_number, hold_of, plan_of_rows, plan_on, run, sim_of_rows, sim_on}
+use Rattle.dk_words.specs.Command.{Command, IsInRange, age_number, age_of, check_of_rows, check_on, clocks_of, command_asked, command_from, command_of, compile_of_rows, compile_on, enable_of, eval_of_rows, eval_on, fill_of, hold_number, hold_of, made_number, make_of_rows, make_on, plan_of_rows, plan_on, run_of_rows, run_on, sim_of_rows, sim_on, trace_of_rows, trace_on}
 use Rattle.dk_words.specs.declared.NoCommand.{NoCommand}
 use Rattle.dk_words.specs.declared.command.Asked.{Asked}
 use Rattle.dk_words.specs.declared.command.PowerUp.{PowerUp}
@@ -54,14 +54,46 @@ age_in (Some word) = read (age_number word) (number_in 0 MAX_AGE word)
     read None e = tt
     read (Some n) e = e.1
 
+-- N
+number_made_in : (o : Option Text) → IfSome (option_and_then made_number o) (λ n. n ≤ MAX_MADE)
+number_made_in None = tt
+number_made_in (Some word) = read (made_number word) (number_in 0 MAX_MADE word)
+  where
+    read : (n : Option ℕ) → IfSome n (λ m. (0 ≤ m) × (m ≤ MAX_MADE)) → IfSome n (λ m. m ≤ MAX_MADE)
+    read None e = tt
+    read (Some n) e = e.1
+
 -- ---- commands
 
--- a command of three files, whose kind has no numbers
-files_in : (command : Text → Text → Text → Command) (p i o : Option Text) → ((a b c : Text) → IsInRange (command a b c)) → IfSome (command_on command p i o) IsInRange
-files_in command None i o all = tt
-files_in command (Some p) None o all = tt
-files_in command (Some p) (Some i) None all = tt
-files_in command (Some p) (Some i) (Some o) all = all p i o
+run_in : (p i o : Option Text) (a : Option ℕ) → IfSome a (λ m. m ≤ MAX_AGE) → IfSome (run_on p i o a) IsInRange
+run_in None i o a low = tt
+run_in (Some p) None o a low = tt
+run_in (Some p) (Some i) None a low = tt
+run_in (Some p) (Some i) (Some o) None low = tt
+run_in (Some p) (Some i) (Some o) (Some a) low = low
+
+eval_in : (p i o : Option Text) → IfSome (eval_on p i o) IsInRange
+eval_in None i o = tt
+eval_in (Some p) None o = tt
+eval_in (Some p) (Some i) None = tt
+eval_in (Some p) (Some i) (Some o) = tt
+
+compile_in : (p o : Option Text) (enable : Bool) (a : Option ℕ) → IfSome a (λ m. m ≤ MAX_AGE) → IfSome (compile_on p o enable a) IsInRange
+compile_in None o enable a low = tt
+compile_in (Some p) None enable a low = tt
+compile_in (Some p) (Some o) enable None low = tt
+compile_in (Some p) (Some o) enable (Some a) low = low
+
+trace_in : (v : Option Text) (n : Option ℕ) (i o : Option Text) → IfSome n (λ m. m ≤ MAX_CLOCKS) → IfSome (trace_on v n i o) IsInRange
+trace_in None n i o few = tt
+trace_in (Some v) None i o few = tt
+trace_in (Some v) (Some n) None o few = tt
+trace_in (Some v) (Some n) (Some i) None few = tt
+trace_in (Some v) (Some n) (Some i) (Some o) few = few
+
+make_in : (n : Option ℕ) → IfSome n (λ m. m ≤ MAX_MADE) → IfSome (make_on n) IsInRange
+make_in None low = tt
+make_in (Some n) low = low
 
 sim_in : (v : Option Text) (n : Option ℕ) (i o : Option Text) (f : Option PowerUp) (h : Option (Option ℕ)) → IfSome n (λ m. m ≤ MAX_CLOCKS) → IfSome h (λ x. IfSome x (λ k. (1 ≤ k) × (k ≤ MAX_HOLD))) → IfSome (sim_on v n i o f h) IsInRange
 sim_in None n i o f h few held = tt
@@ -91,13 +123,19 @@ one_in false x y first second = second
 from_in : (found : Option (Text × List Row)) → IfSome (command_from found) IsInRange
 from_in None = tt
 from_in (Some p) =
-    one_in (bytes_eq p.0 (codes "run")) (command_of_rows run p.1) _ (files_in run (first_of (codes "PROG") p.1) (first_of (codes "IN") p.1) (first_of (codes "OUT") p.1) (λ a b c. tt))
-    (one_in (bytes_eq p.0 (codes "eval")) (command_of_rows eval p.1) _ (files_in eval (first_of (codes "PROG") p.1) (first_of (codes "IN") p.1) (first_of (codes "OUT") p.1) (λ a b c. tt))
+    one_in (bytes_eq p.0 (codes "run")) (run_of_rows p.1) _
+    (run_in (first_of (codes "PROG") p.1) (first_of (codes "IN") p.1) (first_of (codes "OUT") p.1) (age_of (first_of (codes "age") p.1)) (age_in (first_of (codes "age") p.1)))
+    (one_in (bytes_eq p.0 (codes "eval")) (eval_of_rows p.1) _ (eval_in (first_of (codes "PROG") p.1) (first_of (codes "IN") p.1) (first_of (codes "OUT") p.1))
+    (one_in (bytes_eq p.0 (codes "compile")) (compile_of_rows p.1) _
+    (compile_in (first_of (codes "PROG") p.1) (first_of (codes "OUT") p.1) (enable_of (first_of (codes "enable") p.1)) (age_of (first_of (codes "age") p.1)) (age_in (first_of (codes "age") p.1)))
     (one_in (bytes_eq p.0 (codes "sim")) (sim_of_rows p.1) _
     (sim_in (first_of (codes "VERILOG") p.1) (option_and_then clocks_of (first_of (codes "CLOCKS") p.1)) (first_of (codes "IN") p.1) (first_of (codes "OUT") p.1) (fill_of (first_of (codes "fill") p.1)) (hold_of (first_of (codes "hold") p.1))
     (clocks_in (first_of (codes "CLOCKS") p.1)) (hold_in (first_of (codes "hold") p.1)))
+    (one_in (bytes_eq p.0 (codes "trace")) (trace_of_rows p.1) _
+    (trace_in (first_of (codes "VERILOG") p.1) (option_and_then clocks_of (first_of (codes "CLOCKS") p.1)) (first_of (codes "IN") p.1) (first_of (codes "VCD") p.1) (clocks_in (first_of (codes "CLOCKS") p.1)))
     (one_in (bytes_eq p.0 (codes "plan")) (plan_of_rows p.1) _ (plan_in (first_of (codes "PROG") p.1) (age_of (first_of (codes "age") p.1)) (age_in (first_of (codes "age") p.1)))
-    (one_in (bytes_eq p.0 (codes "check")) (check_of_rows p.1) None (check_in (first_of (codes "PROG") p.1) (first_of (codes "REPORT") p.1)) tt))))
+    (one_in (bytes_eq p.0 (codes "check")) (check_of_rows p.1) _ (check_in (first_of (codes "PROG") p.1) (first_of (codes "REPORT") p.1))
+    (one_in (bytes_eq p.0 (codes "make")) (make_of_rows p.1) None (make_in (option_and_then made_number (first_of (codes "N") p.1)) (number_made_in (first_of (codes "N") p.1))) tt)))))))
 
 -- the command that words name
 pub named_in : (ws : List Text) (command : Command) → command_of ws ≡ Some command → IsInRange command

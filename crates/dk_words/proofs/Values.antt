@@ -1,4 +1,4 @@
--- Where each use of an argument takes a value, each row that words leave, where they pass, has a value.
+-- Where each use of an argument has a value, or one that stands for it, each row that words leave, where they pass, has a value.
 use Rattle.std.proofs.Common.{◌≡◌, ℕ, zero, suc, ◌&&◌, not, Bool, true, false, cond, List, [], ◌∷◌, ◌++◌, length, drop, fold, Option, None, Some, is_some, refl, find, encode_utf8, slice_get, option_and_then, ◌||◌, ap, ◌∙◌, nat_le, arith}
 use Rattle.std.proofs.lemmas.Bool.Decides.{nat_tests}
 use Rattle.std.specs.List.{list_all}
@@ -80,9 +80,9 @@ used_with HelpShort id how v vs rows e = e
 used_with HelpLong id how v vs rows e = e
 used_with Version id how v vs rows e = e
 
--- each use of each argument has a value
+-- each use of each argument has a value, its own or one that stands for it
 abbrev pub has_least_one : Rule → Bool
-has_least_one a = nat_le 1 (unwrap_or_range a.range).start_inclusive
+has_least_one a = nat_le 1 (unwrap_or_range a.range).start_inclusive || has_first a.missing
 
 abbrev pub have_values : List Rule → Bool
 have_values c = list_all has_least_one c
@@ -96,16 +96,22 @@ found_has (a ∷ rest) test e =
       | false ↦ found_has rest test (right (has_least_one a) (have_values rest) e)
     ]
 
--- no use that passes is without a value
-none_short : (n : ℕ) → nat_le 1 n ≡ true → nat_le n 0 ≡ true → false ≡ true
-none_short n x y = grind (arith, nat_tests)
+-- where a use that passes has no value of its own, one stands for it
+must_stand : (n : ℕ) (stands : Bool) → (nat_le 1 n || stands) ≡ true → nat_le n 0 ≡ true → stands ≡ true
+must_stand n true x y = refl
+must_stand n false x y = grind (arith, nat_tests)
+
+-- a use with the values that stand for it
+used_standing : (act : ArgAction) (id : Text) (how : Reading) (vs : List Text) (rows : List Row) → has_first vs ≡ true → are_valued rows ≡ true → are_valued (used_as act id how vs rows) ≡ true
+used_standing act id how [] rows some all = absurd (cc)
+used_standing act id how (v ∷ vs) rows some all = used_with act id how v vs rows all
 
 -- a use that passes leaves rows with values
 valued_use : (again : Bool) (a : Rule) (vs : List Text) (rows : List Row) → has_least_one a ≡ true → use_passes again a vs rows ≡ true → are_valued rows ≡ true → are_valued (used a vs rows) ≡ true
-valued_use again a [] rows one e all = absurd (no (none_short (unwrap_or_range a.range).start_inclusive one (left (nat_le (unwrap_or_range a.range).start_inclusive 0) (nat_le 0 (most_values a) && action_passes (action_of a) again a a.missing rows) e)))
-  where
-    no : false ≡ true → ⊥
-    no x = absurd (cc)
+valued_use again a [] rows one e all =
+    let least = (unwrap_or_range a.range).start_inclusive in
+    let none = left (nat_le least 0) (nat_le 0 (most_values a) && action_passes (action_of a) again a a.missing rows) e in
+    used_standing (action_of a) a.id (reading_by a) a.missing rows (must_stand least (has_first a.missing) one none) all
 valued_use again a (v ∷ vs) rows one e all = used_with (action_of a) a.id (reading_by a) v vs rows all
 
 -- ---- what is held

@@ -6,14 +6,35 @@ ghost use Rattle.dk_words.specs.Command as command;
 
 use crate::numbers::number_within;
 use clap::ArgMatches;
-use dk_base::{MAX_AGE, MAX_CLOCKS, MAX_HOLD};
+use dk_base::{MAX_AGE, MAX_CLOCKS, MAX_HOLD, MAX_MADE};
 
-/// The names of a command's files.
+/// The words of `run`.
+#[derive(Clone, Copy, Debug, PartialEq, Eq)]
+pub struct RunWords<'a> {
+    pub program: &'a str,
+    pub image: &'a str,
+    pub out: &'a str,
+    /// The least age of each live read, 0 to `MAX_AGE`.
+    pub age: u8,
+}
+
+/// The names of the files of `eval`.
 #[derive(Clone, Copy, Debug, PartialEq, Eq)]
 pub struct FileNames<'a> {
     pub program: &'a str,
     pub image: &'a str,
     pub out: &'a str,
+}
+
+/// The words of `compile`.
+#[derive(Clone, Copy, Debug, PartialEq, Eq)]
+pub struct CompileWords<'a> {
+    pub program: &'a str,
+    pub out: &'a str,
+    /// Whether the module has a clock enable.
+    pub enable: bool,
+    /// The least age of each live read, 0 to `MAX_AGE`.
+    pub age: u8,
 }
 
 /// What registers and arrays hold at power-up.
@@ -36,6 +57,16 @@ pub struct SimWords<'a> {
     pub hold: Option<u32>,
 }
 
+/// The words of `trace`.
+#[derive(Clone, Copy, Debug, PartialEq, Eq)]
+pub struct TraceWords<'a> {
+    pub verilog: &'a str,
+    /// How many clocks there are after the reset clock, 0 to `MAX_CLOCKS`.
+    pub clocks: u32,
+    pub image: &'a str,
+    pub vcd: &'a str,
+}
+
 /// The words of `plan`.
 #[derive(Clone, Copy, Debug, PartialEq, Eq)]
 pub struct PlanWords<'a> {
@@ -51,14 +82,24 @@ pub struct CheckWords<'a> {
     pub report: &'a str,
 }
 
+/// The words of `make`.
+#[derive(Clone, Copy, Debug, PartialEq, Eq)]
+pub struct MakeWords {
+    /// Which program is made, 0 to `MAX_MADE`.
+    pub number: u32,
+}
+
 /// A command, with its words.
 #[derive(Clone, Copy, Debug, PartialEq, Eq)]
 pub enum Asked<'a> {
-    Run(FileNames<'a>),
+    Run(RunWords<'a>),
     Eval(FileNames<'a>),
+    Compile(CompileWords<'a>),
     Sim(SimWords<'a>),
+    Trace(TraceWords<'a>),
     Plan(PlanWords<'a>),
     Check(CheckWords<'a>),
+    Make(MakeWords),
 }
 
 /// The value of this word.
@@ -66,20 +107,6 @@ fn given<'a>(matches: &ArgMatches<'a>, name: &str) -> Option<&'a str>
     ensures { option_map (λ s. s.now) result ≡ first_of name.now (rows_of (found_of matches.now)) }
 {
     matches.get_str(name)
-}
-
-/// The names of the files, where each of the words has a value.
-fn read_files<'a>(matches: &ArgMatches<'a>) -> Option<FileNames<'a>>
-    ensures { (command : Text → Text → Text → Rattle.dk_words.specs.Command.Command) → option_map (λ f. command f.program.now f.image.now f.out.now) result ≡ Rattle.dk_words.specs.Command.command_of_rows command (rows_of (found_of matches.now)) }
-{
-    let program = given(matches, "PROG")?;
-    let image = given(matches, "IN")?;
-    let out = given(matches, "OUT")?;
-    Some(FileNames {
-        program,
-        image,
-        out,
-    })
 }
 
 /// The number of clocks.
@@ -121,6 +148,69 @@ fn read_age(matches: &ArgMatches) -> Option<u8>
     }
 }
 
+/// Whether the module has a clock enable.
+fn read_enable(matches: &ArgMatches) -> bool
+    ensures { result ≡ command.enable_of (first_of (codes "enable") (rows_of (found_of matches.now))) }
+{
+    match given(matches, "enable") {
+        Some("true") => true,
+        _ => false,
+    }
+}
+
+/// Which program is made.
+fn read_number(matches: &ArgMatches) -> Option<u32>
+    ensures { result ≡ option_and_then command.made_number (first_of (codes "N") (rows_of (found_of matches.now))) }
+{
+    number_within(given(matches, "N")?, 0, MAX_MADE)
+}
+
+/// The words of `run`, where each has a value.
+fn read_run<'a>(matches: &ArgMatches<'a>) -> Option<RunWords<'a>>
+    ensures { option_map (λ r. command.run r.program.now r.image.now r.out.now r.age) result ≡ command.run_of_rows (rows_of (found_of matches.now)) }
+{
+    let program = given(matches, "PROG")?;
+    let image = given(matches, "IN")?;
+    let out = given(matches, "OUT")?;
+    let age = read_age(matches)?;
+    Some(RunWords {
+        program,
+        image,
+        out,
+        age,
+    })
+}
+
+/// The words of `eval`, where each has a value.
+fn read_eval<'a>(matches: &ArgMatches<'a>) -> Option<FileNames<'a>>
+    ensures { option_map (λ f. command.eval f.program.now f.image.now f.out.now) result ≡ command.eval_of_rows (rows_of (found_of matches.now)) }
+{
+    let program = given(matches, "PROG")?;
+    let image = given(matches, "IN")?;
+    let out = given(matches, "OUT")?;
+    Some(FileNames {
+        program,
+        image,
+        out,
+    })
+}
+
+/// The words of `compile`, where each has a value.
+fn read_compile<'a>(matches: &ArgMatches<'a>) -> Option<CompileWords<'a>>
+    ensures { option_map (λ k. command.compile k.program.now k.out.now k.enable k.age) result ≡ command.compile_of_rows (rows_of (found_of matches.now)) }
+{
+    let program = given(matches, "PROG")?;
+    let out = given(matches, "OUT")?;
+    let enable = read_enable(matches);
+    let age = read_age(matches)?;
+    Some(CompileWords {
+        program,
+        out,
+        enable,
+        age,
+    })
+}
+
 /// The words of `sim`, where each has a value.
 fn read_sim<'a>(matches: &ArgMatches<'a>) -> Option<SimWords<'a>>
     ensures { option_map (λ s. command.sim s.verilog.now s.clocks s.image.now s.out.now s.fill s.hold) result ≡ command.sim_of_rows (rows_of (found_of matches.now)) }
@@ -132,6 +222,22 @@ fn read_sim<'a>(matches: &ArgMatches<'a>) -> Option<SimWords<'a>>
         out: given(matches, "OUT")?,
         fill: read_fill(matches)?,
         hold: read_hold(matches)?,
+    })
+}
+
+/// The words of `trace`, where each has a value.
+fn read_trace<'a>(matches: &ArgMatches<'a>) -> Option<TraceWords<'a>>
+    ensures { option_map (λ t. command.trace t.verilog.now t.clocks t.image.now t.vcd.now) result ≡ command.trace_of_rows (rows_of (found_of matches.now)) }
+{
+    let verilog = given(matches, "VERILOG")?;
+    let clocks = read_clocks(matches)?;
+    let image = given(matches, "IN")?;
+    let vcd = given(matches, "VCD")?;
+    Some(TraceWords {
+        verilog,
+        clocks,
+        image,
+        vcd,
     })
 }
 
@@ -153,17 +259,28 @@ fn read_check<'a>(matches: &ArgMatches<'a>) -> Option<CheckWords<'a>>
     Some(CheckWords { program, report })
 }
 
+/// The words of `make`, where each has a value.
+fn read_make(matches: &ArgMatches) -> Option<MakeWords>
+    ensures { option_map (λ m. command.make m.number) result ≡ command.make_of_rows (rows_of (found_of matches.now)) }
+{
+    let number = read_number(matches)?;
+    Some(MakeWords { number })
+}
+
 /// The command of the matches.
 pub fn read_matches<'a>(matches: &ArgMatches<'a>) -> Option<Asked<'a>>
     ensures { option_map command.command_asked result ≡ command.command_from (subcommand_rows_of matches.now) }
 {
     let (name, inner) = matches.subcommand()?;
     match name {
-        "run" => Some(Asked::Run(read_files(inner)?)),
-        "eval" => Some(Asked::Eval(read_files(inner)?)),
+        "run" => Some(Asked::Run(read_run(inner)?)),
+        "eval" => Some(Asked::Eval(read_eval(inner)?)),
+        "compile" => Some(Asked::Compile(read_compile(inner)?)),
         "sim" => Some(Asked::Sim(read_sim(inner)?)),
+        "trace" => Some(Asked::Trace(read_trace(inner)?)),
         "plan" => Some(Asked::Plan(read_plan(inner)?)),
         "check" => Some(Asked::Check(read_check(inner)?)),
+        "make" => Some(Asked::Make(read_make(inner)?)),
         _ => None,
     }
 }

@@ -1,13 +1,13 @@
 //! The words that the program takes, as one command of `clap`.
 
-ghost use Rattle.std.specs.Prelude.{◌≡◌, IfOk, IfErr, false, List, [], ◌∷◌, codes};
+ghost use Rattle.std.specs.Prelude.{◌≡◌, IfOk, IfErr, false, List, [], ◌∷◌, ◌++◌, codes};
 ghost use Rattle.clap.specs.Words.{app_of, shape_of, kind_of, rule_of, HasMatchesOf};
 ghost use Rattle.clap.specs.declared.builder.command.Command.TheViews.{out-Command as fields_of};
 ghost use Rattle.dk_words.specs.Words as words;
 ghost use Rattle.dk_words.specs.Words.{texts, IsTaken};
 
 use clap::error::ErrorKind;
-use clap::{Arg, ArgMatches, Command, Error};
+use clap::{Arg, ArgAction, ArgMatches, Command, Error};
 use std::alloc::{AllocError, Global};
 
 /// A word that must be given.
@@ -26,15 +26,46 @@ fn option<'a>(alloc: Global, name: &'a str) -> Arg<'a>
     Arg::new(alloc, name).long(name)
 }
 
+/// An option without a value.
+fn flag<'a>(alloc: Global, name: &'a str) -> Arg<'a>
+    ensures rule { rule_of result ≡ words.flag name.entry.now }
+    ensures local { result.global ≡ false }
+{
+    Arg::new(alloc, name).long(name).action(ArgAction::SetTrue)
+}
+
 /// A command of this name with the words PROG, IN and OUT.
 fn file_command<'a>(alloc: Global, name: &'a str) -> Result<Command<'a>, AllocError>
-    ensures shape { IfOk result (λ c. shape_of c ≡ words.file_command name.entry.now) }
+    ensures shape { IfOk result (λ c. shape_of c ≡ words.file_command name.entry.now []) }
     ensures local { IfOk result (λ c. (fields_of c).has_globals ≡ false) }
 {
     let command = Command::new(alloc, name);
     let command = command.arg(word(alloc, "PROG"))?;
     let command = command.arg(word(alloc, "IN"))?;
     let command = command.arg(word(alloc, "OUT"))?;
+    Ok(command)
+}
+
+/// `run [--age K] PROG IN OUT`.
+fn run_command<'a>(alloc: Global) -> Result<Command<'a>, AllocError>
+    ensures shape { IfOk result (λ c. shape_of c ≡ words.run_command) }
+    ensures local { IfOk result (λ c. (fields_of c).has_globals ≡ false) }
+{
+    let command = file_command(alloc, "run")?;
+    let command = command.arg(option(alloc, "age"))?;
+    Ok(command)
+}
+
+/// `compile [--enable] [--age K] PROG OUT`.
+fn compile_command<'a>(alloc: Global) -> Result<Command<'a>, AllocError>
+    ensures shape { IfOk result (λ c. shape_of c ≡ words.compile_command) }
+    ensures local { IfOk result (λ c. (fields_of c).has_globals ≡ false) }
+{
+    let command = Command::new(alloc, "compile");
+    let command = command.arg(word(alloc, "PROG"))?;
+    let command = command.arg(word(alloc, "OUT"))?;
+    let command = command.arg(option(alloc, "age"))?;
+    let command = command.arg(flag(alloc, "enable"))?;
     Ok(command)
 }
 
@@ -62,6 +93,19 @@ fn sim_command<'a>(alloc: Global) -> Result<Command<'a>, AllocError>
     Ok(command)
 }
 
+/// `trace VERILOG CLOCKS IN VCD`.
+fn trace_command<'a>(alloc: Global) -> Result<Command<'a>, AllocError>
+    ensures shape { IfOk result (λ c. shape_of c ≡ words.trace_command) }
+    ensures local { IfOk result (λ c. (fields_of c).has_globals ≡ false) }
+{
+    let command = Command::new(alloc, "trace");
+    let command = command.arg(word(alloc, "VERILOG"))?;
+    let command = command.arg(word(alloc, "CLOCKS"))?;
+    let command = command.arg(word(alloc, "IN"))?;
+    let command = command.arg(word(alloc, "VCD"))?;
+    Ok(command)
+}
+
 /// `plan [--age K] PROG`.
 fn plan_command<'a>(alloc: Global) -> Result<Command<'a>, AllocError>
     ensures shape { IfOk result (λ c. shape_of c ≡ words.plan_command) }
@@ -84,6 +128,16 @@ fn check_command<'a>(alloc: Global) -> Result<Command<'a>, AllocError>
     Ok(command)
 }
 
+/// `make N`.
+fn make_command<'a>(alloc: Global) -> Result<Command<'a>, AllocError>
+    ensures shape { IfOk result (λ c. shape_of c ≡ words.make_command) }
+    ensures local { IfOk result (λ c. (fields_of c).has_globals ≡ false) }
+{
+    let command = Command::new(alloc, "make");
+    let command = command.arg(word(alloc, "N"))?;
+    Ok(command)
+}
+
 /// The program, with the commands `run` and `eval`.
 fn picture_commands<'a>(alloc: Global) -> Result<Command<'a>, AllocError>
     ensures { IfOk result (λ c. app_of c ≡ words.program_with words.picture_commands) }
@@ -93,8 +147,19 @@ fn picture_commands<'a>(alloc: Global) -> Result<Command<'a>, AllocError>
         .disable_help_subcommand(true)
         .disable_version_flag(true)
         .subcommand_required(true);
-    let command = command.subcommand(file_command(alloc, "run")?)?;
+    let command = command.subcommand(run_command(alloc)?)?;
     let command = command.subcommand(file_command(alloc, "eval")?)?;
+    Ok(command)
+}
+
+/// The program, with `compile`, `sim` and `trace` too.
+fn verilog_commands<'a>(alloc: Global) -> Result<Command<'a>, AllocError>
+    ensures { IfOk result (λ c. app_of c ≡ words.program_with (words.picture_commands ++ words.verilog_commands)) }
+{
+    let command = picture_commands(alloc)?;
+    let command = command.subcommand(compile_command(alloc)?)?;
+    let command = command.subcommand(sim_command(alloc)?)?;
+    let command = command.subcommand(trace_command(alloc)?)?;
     Ok(command)
 }
 
@@ -102,10 +167,10 @@ fn picture_commands<'a>(alloc: Global) -> Result<Command<'a>, AllocError>
 fn program_command<'a>(alloc: Global) -> Result<Command<'a>, AllocError>
     ensures { IfOk result (λ c. app_of c ≡ words.program) }
 {
-    let command = picture_commands(alloc)?;
-    let command = command.subcommand(sim_command(alloc)?)?;
+    let command = verilog_commands(alloc)?;
     let command = command.subcommand(plan_command(alloc)?)?;
     let command = command.subcommand(check_command(alloc)?)?;
+    let command = command.subcommand(make_command(alloc)?)?;
     Ok(command)
 }
 

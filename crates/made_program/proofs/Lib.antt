@@ -4,4 +4,5 @@ pub mod Drawing
 pub mod Joins
 pub mod Lengths
 pub mod Reading
+pub mod Rounds
 pub mod Samples

@@ -1,4 +1,4 @@
-//! The program and the image that are made from a number, and the line that is told of it.
+//! The program and the image that are made from a number, the sum of an output's samples, and the line that is told of it.
 #![tactic(auto)]
 
 mod definition;
@@ -8,9 +8,11 @@ mod laws;
 mod made;
 mod number;
 mod pieces;
+mod sums;
 mod worked;
 
 pub use figures::{Figures, summary};
 pub use laws::{made_is_read, made_is_small};
 pub use made::{Made, make};
+pub use sums::sample_sum;
 pub use worked::{made_of_one, made_of_six_definitions, made_of_three, made_of_zero};

@@ -22,7 +22,7 @@ fn told(
     };
     let mut desk = NeverFails::new(alloc, BTreeMap::new(alloc), 64, 300)?;
     let drive = Drive {
-        clocks,
+        clocks: u64::from(clocks),
         fill,
         hold: None,
     };

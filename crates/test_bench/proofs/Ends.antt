@@ -66,7 +66,7 @@ found m k l (s ∷ shots) fit i v e =
 samples_fit : (m : Netlist) (k : ℕ) → k < output_count m → (shots : List Snapshot) → All (DoutsFit m) shots → All (λ v. v ≤ 2 ^ net_width m (dout_net k) - 1) (picture k shots)
 samples_fit m k l shots fit = All-from_at (λ v. v ≤ 2 ^ net_width m (dout_net k) - 1) (picture k shots) (found m k l shots fit)
 
-exact : (n c : ℕ) → n < 2 ^ 60 → c ≡ min n (2 ^ 64 - 1) → c ≡ n
+exact : (n c : ℕ) → n < 2 ^ 62 → c ≡ min n (2 ^ 64 - 1) → c ≡ n
 exact n c l e = omega (arith, l, e)
 
 taken : (n a : ℕ) → a ≤ n → min a n ≡ a
@@ -86,7 +86,7 @@ part_of round pixels most whole l =
     take_less (suc a) (suc b) [] l = refl
     take_less (suc a) (suc b) (x ∷ xs) l = ap (λ z. x ∷ z) (take_less a b xs (omega (arith, l)))
 
-module _ (m : Netlist) (size : Size) (rounds : Rounds) (shots : List Snapshot) (pictures : List Shown) (kept : AreKept (asked size rounds) shots pictures) (count : length m.outputs ≡ 2 * length pictures) (few : length shots < 2 ^ 60) where
+module _ (m : Netlist) (size : Size) (rounds : Rounds) (shots : List Snapshot) (pictures : List Shown) (kept : AreKept (asked size rounds) shots pictures) (count : length m.outputs ≡ 2 * length pictures) (few : length shots < 2 ^ 62) where
   outputs_are : output_count m ≡ length pictures
   outputs_are = counted (length m.outputs) (length pictures) count
 
@@ -180,16 +180,16 @@ pub record Ended (m : Netlist) (drive : Drive) (size : Size) (rounds : Rounds) (
   pub run : IsRun m drive rounds shots
   pub kept : AreKept (asked size rounds) shots pictures
   pub count : length m.outputs ≡ 2 * length pictures
-  pub few : length shots < 2 ^ 60
+  pub few : length shots < 2 ^ 62
   pub rules : KeepsRules m
   pub fit : All (DoutsFit m) shots
   pub told : GoOn before (notes_of m shots) now
 
-few_shots : (made old clocks shots : ℕ) → made ≡ old + clocks → clocks ≡ shots → made < 2 ^ 34 → shots < 2 ^ 60
+few_shots : (made old clocks shots : ℕ) → made ≡ old + clocks → clocks ≡ shots → made < 2 ^ 62 → shots < 2 ^ 62
 few_shots made old clocks shots e n l = omega (arith, e, n, l)
 
 pub ended : (m : Netlist) (drive : Drive) (size : Size) (rounds : Rounds) (old new : Bench) (before now : Option (List (Bool × ℕ))) → old.sim.netlist ≡ m → old.sim.contents ≡ filled_contents drive.fill m → old.most ≡ asked size rounds → AreKept old.most [] old.pictures.items →
-    Clocked old.sim.netlist (stimulus drive (din_widths old.sim.netlist) rounds) old new before now → new.made < 2 ^ 34 → Ended m drive size rounds new.pictures.items before now
+    Clocked old.sim.netlist (stimulus drive (din_widths old.sim.netlist) rounds) old new before now → new.made < 2 ^ 62 → Ended m drive size rounds new.pictures.items before now
 ended m drive size rounds old new before now netlist contents most none clocked made =
     let h : Clocked m (stimulus drive (din_widths m) rounds) old new before now = subst (λ z. Clocked z (stimulus drive (din_widths z) rounds) old new before now) netlist clocked in
     let clocks = stimulus drive (din_widths m) rounds in

@@ -1,6 +1,6 @@
 // The run of a module on a test bench.
 
-ghost use Rattle.std.specs.Prelude.{◌≡◌, ℕ, ◌+◌, ◌*◌, ◌<◌, ◌≤◌, ◌++◌, [], List, length, Bool, IfOk, IfErr, OnOk, IfSome, All, Some, slice_get, vec_capacity};
+ghost use Rattle.std.specs.Prelude.{◌≡◌, ℕ, ◌+◌, ◌*◌, ◌^◌, ◌<◌, ◌≤◌, ◌++◌, [], List, length, Bool, IfOk, IfErr, OnOk, IfSome, All, Some, slice_get, vec_capacity};
 ghost use Rattle.std.specs.Option.{option_map};
 ghost use Rattle.dk_base.specs.Frames.{area as area_of};
 ghost use Rattle.dk_base.specs.FrameSizes.{size_of};
@@ -135,6 +135,7 @@ pub fn run_bench<D: Desk>(
     rounds: &[Round],
 ) -> Result<Vec<u8>, BenchFault>
     requires hold { IfSome drive.hold (λ count. 0 < count) }
+    requires clocks { drive.clocks < 2 ^ 60 }
     requires frames { AreBenchFrames (din_widths «module».now.netlist) (size_of size) rounds.now }
     ensures only { D.outside desk.new ≡ record (D.outside desk.old) { notes = (D.outside desk.new).notes } }
     ensures file { IfOk result (λ file. IsShown «module».now.netlist drive (size_of size) (rounds_of rounds.now) file.items) }

@@ -144,14 +144,14 @@ pub fn pixel_clocks<D: Desk>(
     bench: &mut Bench,
     feed: &Feed,
     rounds: &[Round],
-    number: u32,
+    number: u64,
     dins: &mut Vec<u64>,
 ) -> Result<(), Stop>
     requires bench { IsBench bench.old }
     requires fed { (size : Size) × IsFed bench.old.sim.netlist size feed.now rounds.now }
     requires dins { length dins.old.items ≡ length (din_widths bench.old.sim.netlist) }
     requires few { bench.old.made < 2 ^ 61 }
-    requires number { number + 1 < 2 ^ 32 }
+    requires number { number + 1 < 2 ^ 60 }
     ensures dins { length dins.new.items ≡ length dins.old.items }
     ensures few { OnOk result (bench.new.made ≤ bench.old.made + 2) }
     ensures only { D.outside desk.new ≡ record (D.outside desk.old) { notes = (D.outside desk.new).notes } }
@@ -171,13 +171,14 @@ fn all_pixel_clocks<D: Desk>(
     bench: &mut Bench,
     feed: &Feed,
     rounds: &[Round],
-    clocks: u32,
+    clocks: u64,
     dins: &mut Vec<u64>,
 ) -> Result<(), Stop>
     requires bench { IsBench bench.old }
     requires fed { (size : Size) × IsFed bench.old.sim.netlist size feed.now rounds.now }
     requires dins { length dins.old.items ≡ length (din_widths bench.old.sim.netlist) }
     requires made { bench.old.made ≤ 1 }
+    requires clocks { clocks < 2 ^ 60 }
     ensures few { OnOk result (bench.new.made ≤ bench.old.made + 2 * clocks) }
     ensures only { D.outside desk.new ≡ record (D.outside desk.old) { notes = (D.outside desk.new).notes } }
     ensures ok { OnOk result (Clocked bench.old.sim.netlist (flat_map (clocks_at feed.now.hold (din_widths bench.old.sim.netlist) (rounds_of rounds.now)) (range_with_len 0 clocks)) bench.old bench.new (D.outside desk.old).notes (D.outside desk.new).notes) }
@@ -195,14 +196,15 @@ pub fn all_clocks<D: Desk>(
     bench: &mut Bench,
     feed: &Feed,
     rounds: &[Round],
-    clocks: u32,
+    clocks: u64,
     dins: &mut Vec<u64>,
 ) -> Result<(), Stop>
     requires bench { IsBench bench.old }
     requires fed { (size : Size) × IsFed bench.old.sim.netlist size feed.now rounds.now }
     requires dins { dins.old.items ≡ (reset_clock (length (din_widths bench.old.sim.netlist))).dins }
     requires made { bench.old.made ≡ 0 }
-    ensures few { OnOk result (bench.new.made < 2 ^ 34) }
+    requires clocks { clocks < 2 ^ 60 }
+    ensures few { OnOk result (bench.new.made < 2 ^ 62) }
     ensures only { D.outside desk.new ≡ record (D.outside desk.old) { notes = (D.outside desk.new).notes } }
     ensures ok { OnOk result (Clocked bench.old.sim.netlist (reset_clock (length (din_widths bench.old.sim.netlist)) ∷ flat_map (clocks_at feed.now.hold (din_widths bench.old.sim.netlist) (rounds_of rounds.now)) (range_with_len 0 clocks)) bench.old bench.new (D.outside desk.old).notes (D.outside desk.new).notes) }
     ensures stop { IfErr result (StopsIn bench.old.sim.netlist bench.old.sim.contents bench.old.made (reset_clock (length (din_widths bench.old.sim.netlist)) ∷ flat_map (clocks_at feed.now.hold (din_widths bench.old.sim.netlist) (rounds_of rounds.now)) (range_with_len 0 clocks))) }

@@ -15,8 +15,16 @@ use netlist::Width;
 use pgm_rounds::Round;
 use std::alloc::Global;
 
+/// The sample at a place of a frame.
+fn sample(samples: &[u16], place: usize) -> u64
+    requires { place < length samples.now }
+    ensures { result ≡ slice_index samples.now place }
+{
+    u64::from(samples[place])
+}
+
 /// A pixel of an input, counted over all rounds, or 0 after the last one.
-fn pixel(rounds: &[Round], area: usize, input: usize, number: u32) -> u64
+fn pixel(rounds: &[Round], area: usize, input: usize, number: u64) -> u64
     requires area { 0 < area }
     requires frames { (widths : List ℕ) × (size : Size) × AreBenchFrames widths size rounds.now × (input < length widths) × (area ≡ area_of size) }
     ensures { result ≡ slice_index (stream (rounds_of rounds.now) input) number }
@@ -27,11 +35,11 @@ fn pixel(rounds: &[Round], area: usize, input: usize, number: u32) -> u64
         return 0;
     }
     let frame = &rounds[round].frames[input];
-    u64::from(frame.samples.as_slice()[place % area])
+    sample(frame.samples.as_slice(), place % area)
 }
 
 /// Gives each din its pixel of this number, counted over all rounds; 0 behind the last one. A frame has `area` pixels.
-pub fn fill_dins(rounds: &[Round], area: usize, number: u32, dins: &mut Vec<u64>)
+pub fn fill_dins(rounds: &[Round], area: usize, number: u64, dins: &mut Vec<u64>)
     requires area { 0 < area }
     requires frames { (widths : List ℕ) × (size : Size) × AreBenchFrames widths size rounds.now × (length dins.old.items ≡ length widths) × (area ≡ area_of size) }
     ensures is { dins.new.items ≡ dins_at (length dins.old.items) (rounds_of rounds.now) number }

@@ -1,4 +1,4 @@
-//! Calls of `sim` and `plan` over a desk in memory: what is noted, and which status comes where a call of the desk fails.
+//! Calls of commands over a desk in memory: what is noted, which status comes where a call of the desk fails, and that `run` does what `compile` and then `sim` do.
 
 ghost use Rattle.std.specs.Prelude.{◌<◌, IfOk};
 ghost use Rattle.dk_top.specs.State.{IsFresh};
@@ -30,6 +30,8 @@ endmodule
 
 const FOUR_ZEROS: &[u8] = b"P5 4 1 1\n\x00\x00\x00\x00";
 
+const COPY: &[u8] = b"size 4 1 input a : u8 output a";
+
 const MEAN: &[u8] =
     b"size 4 1 input a : u8 let f = im(x,y) ((a(x-1,y)+a(x,y)+a(x+1,y))/3) as u8 end output f";
 
@@ -58,7 +60,7 @@ fn desk(
     let second = Vec::from_slice(alloc, second)?;
     files.insert(String::from_str(alloc, "second")?, second)?;
     let failing = Vec::from_slice(alloc, [failing].as_slice())?;
-    MemDesk::new(alloc, files, failing, piece, 400)
+    MemDesk::new(alloc, files, failing, piece, 4000)
 }
 
 #[test]
@@ -91,7 +93,13 @@ fn status_at(
 #[test]
 fn each_call_fails_in_turn(rt: HostRuntime) -> Result<(), Fail> {
     let alloc = rt.alloc();
-    let cases: [(&str, &[u8], &[u8]); 2] = [
+    let cases: [(&str, &[u8], &[u8]); 4] = [
+        ("dk compile first out", MEAN, [7, 7, 7, 8, 8, 0].as_slice()),
+        (
+            "dk run first second out",
+            COPY,
+            [7, 7, 7, 7, 7, 7, 8, 8, 0].as_slice(),
+        ),
         (
             "dk sim first 4 second out",
             TOGGLE,
@@ -105,6 +113,57 @@ fn each_call_fails_in_turn(rt: HostRuntime) -> Result<(), Fail> {
             assert_eq!(rt; got, *status, "at {line}, {call}");
         }
         assert_eq!(rt; status_at(alloc, line, first, NONE, 1)?, 0, "at {line}");
+    }
+    Ok(())
+}
+
+/// What a call leaves: its status, what File holds, and the notes.
+#[derive(Drop)]
+struct Left {
+    status: u8,
+    file: Vec<u8>,
+    notes: Vec<(bool, u64)>,
+}
+
+/// Makes a call where nothing fails.
+fn called(alloc: Global, line: &str, first: &[u8], second: &[u8]) -> Result<Left, Memory> {
+    let words = words(alloc, line)?;
+    let mut desk = desk(alloc, first, second, NONE, 4096)?;
+    let status = dk_main(alloc, &words, &mut desk).status();
+    let file = Vec::from_slice(alloc, desk.file().unwrap_or_default())?;
+    let notes = Vec::from_slice(alloc, desk.notes().unwrap_or_default())?;
+    Ok(Left {
+        status,
+        file,
+        notes,
+    })
+}
+
+/// The module that `run` clocks shows, clock by clock, what the text of `compile` shows in `sim` over as many clocks.
+#[test]
+fn runs_the_text_that_it_compiles(rt: HostRuntime) -> Result<(), Fail> {
+    let alloc = rt.alloc();
+    let two =
+        b"size 2 1 input a : u8 input b : u8 let s = im(x,y) (a(x,y)+b(x,y)) as u8 end output s output a".as_slice();
+    let row = b"P5 4 1 255\n\x03\x06\x09\x0c".as_slice();
+    let mean = b"P5\n4 1\n255\n\x03\x06\x09\x07".as_slice();
+    let pair = b"P5 2 1 255\n\x01\x02P5 2 1 255\n\x0a\x14".as_slice();
+    let sums = b"P5\n2 1\n255\n\x0b\x16P5\n2 1\n255\n\x01\x02".as_slice();
+    let cases: [(u32, u32, &[u8], &[u8], &[u8]); 3] = [
+        (0, 5, MEAN, row, mean),
+        (1, 6, MEAN, row, mean),
+        (0, 2, two, pair, sums),
+    ];
+    for (age, clocks, program, image, wanted) in cases {
+        let line = format!(in alloc; "dk run --age {age} first second out")?;
+        let run = called(alloc, &line, program, image)?;
+        assert_eq!(rt; (run.status, run.file.as_slice()), (0, wanted));
+        let line = format!(in alloc; "dk compile --age {age} first out")?;
+        let compiled = called(alloc, &line, program, image)?;
+        let line = format!(in alloc; "dk sim first {clocks} second out")?;
+        let sim = called(alloc, &line, &compiled.file, image)?;
+        assert_eq!(rt; (sim.status, sim.file.as_slice()), (0, wanted));
+        assert_eq!(rt; sim.notes.as_slice(), run.notes.as_slice());
     }
     Ok(())
 }

@@ -49,15 +49,24 @@ fn desk(alloc: Global, program: &[u8], image: &[u8], failing: u64) -> Result<Mem
 /// A number that no call reaches.
 const NONE: u64 = u64::MAX;
 
+/// `run` notes each clock of its module: the reset clock, a clock for each pixel of both images, and those of the latency. `eval` notes none.
 #[test]
-fn notes_each_clock_of_two_forms(rt: HostRuntime) -> Result<(), Fail> {
+fn notes_each_clock(rt: HostRuntime) -> Result<(), Fail> {
     let alloc = rt.alloc();
-    let clocks = [(false, 0), (true, 200), (true, 144), (true, 2), (true, 4)];
+    let doubled = [(false, 0), (true, 200), (true, 144), (true, 2), (true, 4)];
+    let zeros = [
+        (false, 0),
+        (false, 0),
+        (true, 0),
+        (true, 0),
+        (true, 0),
+        (true, 0),
+    ];
     let two = b"P5\n2 1\n255\n\x64\xc8P5 2 1 9\n\x01\x02".as_slice();
     let cases: [(&str, &[u8], &[u8], &[(bool, u64)]); 3] = [
-        ("run", DOUBLE, two, clocks.as_slice()),
+        ("run", DOUBLE, two, doubled.as_slice()),
         ("eval", DOUBLE, two, [].as_slice()),
-        ("run", MEAN, b"P5 4 1 9\n\x00\x00\x00\x00", [].as_slice()),
+        ("run", MEAN, b"P5 4 1 9\n\x00\x00\x00\x00", zeros.as_slice()),
     ];
     for (command, program, image, notes) in cases {
         let words = words(alloc, ["dk", command, "p.dk", "i.pgm", "o.pgm"].as_slice())?;
@@ -83,7 +92,7 @@ fn runs_where_nothing_fails(rt: HostRuntime) -> Result<(), Fail> {
 fn words_and_failures_are_told(rt: HostRuntime) -> Result<(), Fail> {
     let alloc = rt.alloc();
     let usage =
-        b"usage: run PROG IN OUT | compile PROG OUT | plan [--age K] PROG | sim VERILOG CLOCKS IN OUT [--fill FILL] [--hold K] | eval PROG IN OUT | make N | check PROG REPORT\n";
+        b"usage: run [--age K] PROG IN OUT | compile [--enable] [--age K] PROG OUT | plan [--age K] PROG | sim VERILOG CLOCKS IN OUT [--fill FILL] [--hold K] | eval PROG IN OUT | make N | check PROG REPORT | trace VERILOG CLOCKS IN VCD\n";
     // The program is opened and read twice, the last time at its end, and then the image; the call 6 creates the output.
     let cases: [(&[&str], u64, u8, &[u8], Option<&[u8]>); 5] = [
         (

@@ -1,19 +1,15 @@
 use Rattle.dk_top.proofs.FrontOnce.{front_once}
-use Rattle.dk_top.proofs.PlanFaults.{planned_no_fault, one_fault_at, claim_once, wrong_apart, line_once}
+use Rattle.dk_top.proofs.PlanFaults.{apart_at, one_fault_at, claim_once, wrong_apart, line_once}
 use Rattle.dk_top.proofs.laws.one_plan.Goals as goal
 
 pub returns-clause-stencils : goal.returns-clause-stencils
 returns-clause-stencils c = front_once c.one_source.ensures.program c.one_answer.ensures.images c.one_answer.ensures.reads
 
 pub returns-clause-apart : goal.returns-clause-apart
-returns-clause-apart c =
-    planned_no_fault (returns-clause-stencils c) c.one_limit.ensures.apart c.one_limit.ensures.fault
-    c.one_source.ensures.program c.one_source.ensures.apart c.one_source.ensures.fault c.one_file.ensures.apart c.one_file.ensures.fault
+returns-clause-apart c = apart_at c.one_at_age.ensures.apart
 
 pub returns-clause-fault : goal.returns-clause-fault
-returns-clause-fault c =
-    one_fault_at (returns-clause-stencils c) c.one_limit.ensures.apart c.one_limit.ensures.fault
-    c.one_source.ensures.program c.one_source.ensures.apart c.one_source.ensures.fault c.one_file.ensures.apart c.one_file.ensures.fault
+returns-clause-fault c = one_fault_at c.one_at_age.ensures.fault
 
 pub returns-clause-claim : goal.returns-clause-claim
 returns-clause-claim c = λ text bytes. claim_once (returns-clause-stencils c) text bytes c.one_plan.ensures.claim

@@ -1,25 +1,23 @@
-use Rattle.std.proofs.Common.{ℕ, List, map, ◌≡◌}
+use Rattle.std.proofs.Common.{ℕ, List, ◌≤◌, length, IfSome, subst, sym}
 use Rattle.dk_types.specs.Typed.{Typing}
-use Rattle.pgm_codec.specs.Images.{Picture as Image}
-use Rattle.pgm_rounds.specs.Files.{frame_of, frames_of}
-use Rattle.dk_top.specs.Program.{HasForm}
-use Rattle.dk_top.specs.Output.{Fits}
-use Rattle.dk_top.specs.Reading.{IsImageEnding}
-use Rattle.dk_top.proofs.ReadLemmas.{ok_told, err_told, unread_told}
+use Rattle.dk_compile.specs.Fronts.{IsForm}
+use Rattle.dk_top.specs.Reading.{IsImageEnding, IsInputOf}
+use Rattle.dk_top.proofs.ReadLemmas.{ok_told, err_told, unread_told, ok_within, err_within, told_same}
 use Rattle.dk_top.proofs.reading.read_images.Goals as goal
 
 pub returns-in-Err-clause-fault : goal.returns-in-Err-clause-fault
-returns-in-Err-clause-fault g c = unread_told _ c.args.name.now c.args.ir.now c.in-Err.ending c.in-Err.ensures.fault
+returns-in-Err-clause-fault g c = unread_told _ c.args.most c.args.name.now c.args.ir.now c.in-Err.ending c.in-Err.ensures.fault
 
-pub returns-clause-fits : goal.returns-clause-fits
-returns-clause-fits g c =
-    ok_told c.read_frames.result _ _ c.args.name.now (λ rounds file. (source : List ℕ) (p : Typing) → HasForm source p c.args.ir.now → (images : List (List Image)) × Fits p file images) c.in-Ok.ensures.whole (rw (← c.deref.ensures.value) c.read_frames.ensures.fits)
-
-pub returns-clause-read : goal.returns-clause-read
-returns-clause-read g c =
-    ok_told c.read_frames.result _ _ c.args.name.now (λ rounds file. (source : List ℕ) (p : Typing) → HasForm source p c.args.ir.now → (images : List (List Image)) → Fits p file images → frames_of rounds.items ≡ map (map frame_of) images) c.in-Ok.ensures.whole
-    (rw (← c.deref.ensures.value) c.read_frames.ensures.read)
+pub returns-clause-input : goal.returns-clause-input
+returns-clause-input g c =
+    let file = c.deref.result.now in
+    let within : IfSome c.args.most (λ n. length file ≤ n) = subst (λ (bytes : List ℕ). IfSome c.args.most (λ n. length bytes ≤ n)) (sym c.deref.ensures.value) c.in-Ok.ensures.within in
+    ok_told c.read_frames.result _ file c.args.name.now (λ rounds bytes. IsInputOf c.args.most c.args.ir.now bytes rounds.items) (told_same _ file _ c.args.name.now c.deref.ensures.value c.in-Ok.ensures.whole)
+    (ok_within c.read_frames.result c.args.most (length file) (λ most rounds. IsInputOf most c.args.ir.now file rounds.items) within c.read_frames.ensures.input)
 
 pub returns-clause-fault : goal.returns-clause-fault
 returns-clause-fault g c =
-    err_told c.read_frames.result _ _ c.args.name.now (λ e file. (source : List ℕ) (p : Typing) → HasForm source p c.args.ir.now → IsImageEnding p file e) c.in-Ok.ensures.whole (rw (← c.deref.ensures.value) c.read_frames.ensures.fault)
+    let file = c.deref.result.now in
+    let within : IfSome c.args.most (λ n. length file ≤ n) = subst (λ (bytes : List ℕ). IfSome c.args.most (λ n. length bytes ≤ n)) (sym c.deref.ensures.value) c.in-Ok.ensures.within in
+    err_told c.read_frames.result _ file c.args.name.now (λ e bytes. (p : Typing) → IsForm p c.args.ir.now → IsImageEnding c.args.most p bytes e) (told_same _ file _ c.args.name.now c.deref.ensures.value c.in-Ok.ensures.whole)
+    (err_within c.read_frames.result c.args.most (length file) (λ most e. (p : Typing) → IsForm p c.args.ir.now → IsImageEnding most p file e) within c.read_frames.ensures.fault)

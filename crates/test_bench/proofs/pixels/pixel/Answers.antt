@@ -1,6 +1,6 @@
 use Rattle.std.proofs.Common.{◌≡◌, ◌∙◌, ◌<◌, ap, sym, refl, subst, arith, length, get_or}
 use Rattle.std.specs.Prelude.{◌/◌, ◌%◌}
-use Rattle.std.proofs.Math.Nat.{mod-lt, mod-le}
+use Rattle.std.proofs.Math.Nat.{mod-lt}
 use Rattle.std.proofs.lemmas.Option.{slice_get_read, slice_get_past, slice_get-get_or}
 use Rattle.test_bench.proofs.Streams.{pixel_read, pixel_none, frame_within, frame_whole}
 use Rattle.test_bench.proofs.pixels.pixel.Goals as goal
@@ -19,11 +19,8 @@ index-frame-requires c =
     let there = slice_get-get_or rounds q c.index-rounds-round.result c.if-rounds-round.false in
     omega (arith, frame_within f.0 f.1 rounds f.2 c.args.input f.3 q r there, r.frames.ok.0)
 
-pub offset_bounds-as_slice-place : goal.offset_bounds-as_slice-place
-offset_bounds-as_slice-place c = record { fits = omega (arith, mod-le c.args.number c.args.area, c.ranges.number.fits) }
-
-pub bounds-as_slice-place : goal.bounds-as_slice-place
-bounds-as_slice-place c =
+pub sample-requires : goal.sample-requires
+sample-requires c =
     let f = c.requires.frames in
     let rounds = c.args.rounds.now in
     let q = c.args.number / c.args.area in
@@ -43,5 +40,5 @@ returns c =
     let there = slice_get-get_or rounds q c.index-rounds-round.result c.if-rounds-round.false in
     let frame = c.index-frame.result.now in
     let at = slice_get_read r.frames.items (length r.frames.items) c.args.input frame refl (frame_within f.0 f.1 rounds f.2 c.args.input f.3 q r there) c.index-frame.ensures in
-    c.from.ensures ∙ ap (λ z. get_or z (c.args.number % c.args.area) 0) c.as_slice.ensures
+    c.sample.ensures ∙ ap (λ z. get_or z (c.args.number % c.args.area) 0) c.as_slice.ensures
     ∙ pixel_read f.0 f.1 rounds f.2 c.args.input f.3 c.args.area c.args.number f.4 c.requires.area r frame there at

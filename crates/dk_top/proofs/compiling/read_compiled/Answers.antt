@@ -1,0 +1,10 @@
+use Rattle.dk_top.specs.Program.{CanBeCompiled}
+use Rattle.dk_top.proofs.ReadLemmas.{unread_at, good_told, told_same}
+use Rattle.dk_top.proofs.compiling.read_compiled.Goals as goal
+
+pub returns-in-Err-clause-fault : goal.returns-in-Err-clause-fault
+returns-in-Err-clause-fault g c = unread_at _ c.args.name.now c.args.options.age c.in-Err.ending c.in-Err.ensures.fault
+
+pub returns-clause-good : goal.returns-clause-good
+returns-clause-good g c =
+    good_told c.compiled.result _ c.deref.result.now c.args.name.now (λ source. CanBeCompiled source c.args.options.age) (told_same _ c.deref.result.now _ c.args.name.now c.deref.ensures.value c.in-Ok.ensures.whole) c.compiled.ensures.good

@@ -1,0 +1,39 @@
+-- What a program's text is compiled to, and how it is clocked.
+use Rattle.std.specs.Prelude.{◌≡◌, ℕ, ◌+◌, ◌*◌, ◌≤◌, Bool, false, List, ◌++◌, length, Option, None}
+use Rattle.std.specs.Option.{option_map}
+use Rattle.dk_base.specs.declared.TheConstants.{MAX_SOURCE_BYTES}
+use Rattle.dk_base.specs.Frames.{Size, area}
+use Rattle.dk_desk.specs.Calls.{IsIfTold}
+use Rattle.buffer_plan.specs.Plans.{latency}
+use Rattle.cycle_sim.specs.declared.fill.Fill.TheVariants.{Zeros}
+use Rattle.pgm_codec.specs.Images.{Picture as Image}
+use Rattle.test_bench.specs.declared.drive.Drive.{Drive}
+use Rattle.test_bench.specs.Inputs.{samples_of}
+use Rattle.test_bench.specs.Showing.{IsNoted as AreNotes}
+use Rattle.dk_types.specs.Typed.{Typing}
+use Rattle.dk_compile.specs.declared.compiling.Compiled.{Compiled}
+use Rattle.dk_compile.specs.Compiled.{IsCompiled}
+
+-- The text is within its limit, and this is what it is compiled to at an age, with the port `en` or without it.
+pub record IsCompiledFrom (source : List ℕ) (age : ℕ) (enable : Bool) (c : Compiled) : Type 0 where
+  pub within : length source ≤ MAX_SOURCE_BYTES
+  pub program : Typing
+  pub is : IsCompiled source age enable program c.ir c.system c.solution c.plan c.«module» c.nets.items c.text.items
+
+-- a Verilog text of the program's circuit
+pub record IsCompiledText (source : List ℕ) (age : ℕ) (enable : Bool) (text : List ℕ) : Type 0 where
+  pub compiled : Compiled
+  pub from : IsCompiledFrom source age enable compiled
+  pub is : text ≡ compiled.text.items
+
+-- how a module is driven with so many rounds of frames: from zeros, with a clock for each pixel, and then those of the latency
+abbrev pub frame_drive : Size → (latency rounds : ℕ) → Drive
+frame_drive size latency rounds = record { clocks = rounds * area size + latency; fill = Zeros; hold = None }
+
+-- The notes have gained those of the run of a module of the program's text, driven with these rounds.
+pub record NotesRun (source : List ℕ) (age : ℕ) (p : Typing) (rounds : List (List Image)) (old new : Option (List (Bool × ℕ))) : Type 0 where
+  pub compiled : Compiled
+  pub from : IsCompiledFrom source age false compiled
+  pub gained : List (Bool × ℕ)
+  pub run : AreNotes compiled.«module».netlist (frame_drive p.size (latency compiled.plan) (length rounds)) (samples_of rounds) gained
+  pub told : IsIfTold new (option_map (λ notes. notes ++ gained) old)

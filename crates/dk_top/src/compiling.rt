@@ -1,0 +1,107 @@
+//! `compile`: the Verilog text of a program.
+
+ghost use Rattle.std.specs.Prelude.{◌≡◌, ◌≢◌, ◌≤◌, ℕ, List, Some, Err, IfOk, IfErr, IfSome, OnOk, length};
+ghost use Rattle.dk_base.specs.declared.TheConstants.{MAX_SOURCE_BYTES, MAX_AGE};
+ghost use Rattle.dk_desk.specs.Calls.{HasCauseIn, IsIfTold};
+ghost use Rattle.dk_top.specs.Command.{compile as compile_command};
+ghost use Rattle.dk_top.specs.Program.{CanBeCompiled, IsFaultAt};
+ghost use Rattle.dk_top.specs.Compiling.{IsCompiledFrom, IsCompiledText};
+ghost use Rattle.dk_top.specs.Verdict.{bytes_of};
+ghost use Rattle.dk_top.specs.Reading.{Stops, IsSourceEnding};
+
+use crate::files::write_file;
+use crate::reading::{ending_of, read_text};
+use crate::work::Work;
+use dk_base::MAX_SOURCE_BYTES;
+use dk_compile::{Compiled, Options, compile_with, one_at_age};
+use dk_desk::{Desk, Stage};
+use dk_endings::Ending;
+use dk_words::CompileWords;
+use std::alloc::Global;
+
+/// What a text within its limit is compiled to.
+fn compiled(alloc: Global, text: &[u8], options: Options) -> Result<Compiled, Ending>
+    requires within { length text.now ≤ MAX_SOURCE_BYTES }
+    requires age { options.age ≤ MAX_AGE }
+    ensures compiled { IfOk result (IsCompiledFrom text.now options.age options.enable) }
+    ensures good { OnOk result (CanBeCompiled text.now options.age) }
+    ensures fault { IfErr result (IsSourceEnding (IsFaultAt text.now options.age)) }
+    ensures stops { IfErr result Stops }
+    ensures judged { result ≢ Err Ending.ReadFault }
+{
+    one_at_age();
+    match compile_with(alloc, text, options) {
+        Ok(compiled) => Ok(compiled),
+        Err(fault) => Err(ending_of(fault)),
+    }
+}
+
+/// Reads, judges and compiles the program.
+pub fn read_compiled<D: Desk>(
+    alloc: Global,
+    desk: &mut D,
+    name: &str,
+    options: Options,
+) -> Result<Compiled, Ending>
+    requires fresh { (D.outside desk.old).program.stage ≡ Stage.Unasked }
+    requires before_create { (D.outside desk.old).file.stage ≡ Stage.Unasked }
+    requires age { options.age ≤ MAX_AGE }
+    ensures compiled { IfOk result (λ c. IfSome (D.outside desk.old).files (λ files. IsCompiledFrom (bytes_of files name.now) options.age options.enable c)) }
+    ensures some { IfOk result (λ c. (source : List ℕ) × IsCompiledFrom source options.age options.enable c) }
+    ensures good { OnOk result (IfSome (D.outside desk.old).files (λ files. CanBeCompiled (bytes_of files name.now) options.age)) }
+    ensures fault { IfErr result (λ e. IfSome (D.outside desk.old).files (λ files. IsSourceEnding (IsFaultAt (bytes_of files name.now) options.age) e)) }
+    ensures stops { IfErr result Stops }
+    ensures name { IsIfTold (D.outside desk.new).program.name (Some name.now) }
+    ensures only { D.outside desk.new ≡ record (D.outside desk.old) { program = (D.outside desk.new).program; input_failures = (D.outside desk.new).input_failures } }
+    ensures cause { HasCauseIn (result ≡ Err Ending.ReadFault) (D.outside desk.old).input_failures (D.outside desk.new).input_failures }
+{
+    let text = match read_text(alloc, desk, name) {
+        Ok(text) => text,
+        Err(ending) => return Err(ending),
+    };
+    compiled(alloc, &text, options)
+}
+
+/// Reads, judges and compiles the program, and gives its Verilog text.
+fn verilog_of<D: Desk>(
+    alloc: Global,
+    desk: &mut D,
+    name: &str,
+    options: Options,
+) -> Result<Vec<u8>, Ending>
+    requires fresh { (D.outside desk.old).program.stage ≡ Stage.Unasked }
+    requires before_create { (D.outside desk.old).file.stage ≡ Stage.Unasked }
+    requires age { options.age ≤ MAX_AGE }
+    ensures text { IfOk result (λ text. IfSome (D.outside desk.old).files (λ files. IsCompiledText (bytes_of files name.now) options.age options.enable text.items)) }
+    ensures good { OnOk result (IfSome (D.outside desk.old).files (λ files. CanBeCompiled (bytes_of files name.now) options.age)) }
+    ensures fault { IfErr result (λ e. IfSome (D.outside desk.old).files (λ files. IsSourceEnding (IsFaultAt (bytes_of files name.now) options.age) e)) }
+    ensures stops { IfErr result Stops }
+    ensures name { IsIfTold (D.outside desk.new).program.name (Some name.now) }
+    ensures only { D.outside desk.new ≡ record (D.outside desk.old) { program = (D.outside desk.new).program; input_failures = (D.outside desk.new).input_failures } }
+    ensures cause { HasCauseIn (result ≡ Err Ending.ReadFault) (D.outside desk.old).input_failures (D.outside desk.new).input_failures }
+{
+    match read_compiled(alloc, desk, name, options) {
+        Ok(compiled) => Ok(compiled.text),
+        Err(ending) => Err(ending),
+    }
+}
+
+/// Compiles the program, and writes its Verilog text once the text is whole.
+impl Work for CompileWords<'_> {
+    ghost command = { λ words. compile_command words.program.now words.out.now words.enable words.age };
+
+    fn perform<D: Desk>(&self, alloc: Global, desk: &mut D) -> Ending {
+        let options = Options {
+            enable: self.enable,
+            age: self.age,
+        };
+        let text = match verilog_of(alloc, desk, self.program, options) {
+            Ok(text) => text,
+            Err(ending) => return ending,
+        };
+        match write_file(desk, self.out, &text) {
+            Ok(()) => Ending::Done,
+            Err(_) => Ending::WriteFault,
+        }
+    }
+}

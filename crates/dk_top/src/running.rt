@@ -1,0 +1,221 @@
+//! `run`: the circuit of a program is clocked on a file of images.
+
+ghost use Rattle.std.specs.Prelude.{◌≡◌, ◌≢◌, ◌≤◌, ◌<◌, ◌^◌, ℕ, List, false, None, Some, Err, IfOk, IfErr, IfSome, OnOk};
+ghost use Rattle.dk_base.specs.declared.TheConstants.{MAX_AGE, MAX_LATENCY, MAX_FILE_IMAGES};
+ghost use Rattle.dk_base.specs.Frames.{IsFrame};
+ghost use Rattle.dk_base.specs.FrameSizes.{size_of};
+ghost use Rattle.dk_desk.specs.Outside.{Outside};
+ghost use Rattle.dk_desk.specs.Calls.{HasCauseIn, IsIfTold};
+ghost use Rattle.dk_top.specs.Command.{run as run_command};
+ghost use Rattle.dk_top.specs.Program.{IsAcceptedAt, IsFaultAt};
+ghost use Rattle.dk_top.specs.Output.{output_file};
+ghost use Rattle.dk_top.specs.Compiling.{IsCompiledFrom, NotesRun, frame_drive};
+ghost use Rattle.dk_top.specs.Verdict.{bytes_of, run_terms, IsAnswer, IsGoodPair, OfPair};
+ghost use Rattle.dk_top.specs.State.{AsksWhere};
+ghost use Rattle.dk_top.specs.Reading.{AreRead, IsInputOf, IsSourceEnding, Stops};
+
+use crate::compiling::read_compiled;
+use crate::files::write_file;
+use crate::reading::read_images;
+use crate::work::Work;
+use cycle_sim::Fill;
+use dk_base::{FrameSize, Memory};
+use dk_compile::{Compiled, Options, drive_shows, one_at_age, one_source};
+use dk_desk::{Desk, Stage};
+use dk_endings::Ending;
+use dk_words::RunWords;
+use netlist::Module;
+use pgm_rounds::Round;
+use std::alloc::{AllocError, Global};
+use test_bench::{BenchFault, Drive, run_bench};
+
+/// The module that the Verilog text of a program stands for.
+fn read_again(alloc: Global, compiled: &Compiled) -> Result<Module, Memory>
+    requires { (source : List ℕ) × (age : ℕ) × IsCompiledFrom source age false compiled.now }
+    ensures { IfOk result (λ m. m ≡ compiled.now.«module») }
+{
+    match verilog_read::read(alloc, &compiled.text) {
+        Ok(module) => Ok(module),
+        // the text stands for a module, so what is left is want of memory
+        Err(_) => Err(AllocError),
+    }
+}
+
+/// How the module of a plan is driven with so many rounds of frames.
+fn drive_of(size: FrameSize, latency: u64, rounds: usize) -> Drive
+    requires latency { latency ≤ MAX_LATENCY }
+    requires rounds { rounds ≤ MAX_FILE_IMAGES }
+    requires frame { IsFrame size.width size.height }
+    ensures is { result ≡ frame_drive (size_of size) latency rounds }
+    ensures few { result.clocks < 2 ^ 60 }
+{
+    let area = u64::from(size.width) * u64::from(size.height);
+    Drive {
+        clocks: rounds as u64 * area + latency,
+        fill: Fill::Zeros,
+        hold: None,
+    }
+}
+
+/// The file of the pictures that the module of a program shows, clocked over all rounds.
+fn clocked<D: Desk>(
+    alloc: Global,
+    desk: &mut D,
+    compiled: &Compiled,
+    module: &Module,
+    rounds: &[Round],
+) -> Result<Vec<u8>, Memory>
+    requires compiled { (source : List ℕ) × (age : ℕ) × IsCompiledFrom source age false compiled.now }
+    requires again { «module».now ≡ compiled.now.«module» }
+    requires read { AreRead compiled.now.ir rounds.now }
+    ensures only { D.outside desk.new ≡ record (D.outside desk.old) { notes = (D.outside desk.new).notes } }
+    ensures output { IfOk result (λ output. (source file : List ℕ) (age : ℕ) → IsCompiledFrom source age false compiled.now → IsInputOf None compiled.now.ir file rounds.now → OfPair (run_terms age) source file (λ p rounds. output.items ≡ output_file p rounds)) }
+    ensures notes { OnOk result ((source file : List ℕ) (age : ℕ) → IsCompiledFrom source age false compiled.now → IsInputOf None compiled.now.ir file rounds.now → OfPair (run_terms age) source file (λ p rounds. NotesRun source age p rounds (D.outside desk.old).notes (D.outside desk.new).notes)) }
+{
+    one_source();
+    drive_shows();
+    compiled.ir.law();
+    compiled.plan.law();
+    let size = compiled.ir.size();
+    let drive = drive_of(size, compiled.plan.latency(), rounds.len());
+    match run_bench(alloc, desk, module, drive, size, rounds) {
+        Ok(file) => Ok(file),
+        Err(BenchFault::Stopped(_)) => unreachable!(),
+        Err(BenchFault::Memory) => Err(AllocError),
+    }
+}
+
+/// What `run` works on: what the program is compiled to, the module of its Verilog text, and the frames of the rounds.
+#[derive(Drop)]
+struct Ready {
+    compiled: Compiled,
+    module: Module,
+    rounds: Vec<Round>,
+}
+
+/// The program, compiled, and the module that its Verilog text stands for.
+#[derive(Drop)]
+struct Machine {
+    compiled: Compiled,
+    module: Module,
+}
+
+/// Reads, judges and compiles the program, and reads its Verilog text again.
+fn read_machine<D: Desk>(
+    alloc: Global,
+    desk: &mut D,
+    program: &str,
+    age: u8,
+) -> Result<Machine, Ending>
+    requires fresh { (D.outside desk.old).program.stage ≡ Stage.Unasked }
+    requires before_create { (D.outside desk.old).file.stage ≡ Stage.Unasked }
+    requires age { age ≤ MAX_AGE }
+    ensures compiled { IfOk result (λ m. IfSome (D.outside desk.old).files (λ files. IsCompiledFrom (bytes_of files program.now) age false m.compiled)) }
+    ensures some { IfOk result (λ m. (source : List ℕ) × IsCompiledFrom source age false m.compiled) }
+    ensures again { IfOk result (λ m. m.«module» ≡ m.compiled.«module») }
+    ensures fault { IfErr result (λ e. IfSome (D.outside desk.old).files (λ files. IsSourceEnding (IsFaultAt (bytes_of files program.now) age) e)) }
+    ensures stops { IfErr result Stops }
+    ensures name { IsIfTold (D.outside desk.new).program.name (Some program.now) }
+    ensures only { D.outside desk.new ≡ record (D.outside desk.old) { program = (D.outside desk.new).program; input_failures = (D.outside desk.new).input_failures } }
+    ensures cause { HasCauseIn (result ≡ Err Ending.ReadFault) (D.outside desk.old).input_failures (D.outside desk.new).input_failures }
+{
+    let options = Options { enable: false, age };
+    let compiled = match read_compiled(alloc, desk, program, options) {
+        Ok(compiled) => compiled,
+        Err(ending) => return Err(ending),
+    };
+    match read_again(alloc, &compiled) {
+        Ok(module) => Ok(Machine { compiled, module }),
+        Err(_) => Err(Ending::Memory),
+    }
+}
+
+/// Reads, judges and compiles the program, and then reads and judges the file of images.
+fn read_ready<D: Desk>(
+    alloc: Global,
+    desk: &mut D,
+    program: &str,
+    image: &str,
+    age: u8,
+) -> Result<Ready, Ending>
+    requires program { (D.outside desk.old).program.stage ≡ Stage.Unasked }
+    requires image { (D.outside desk.old).image.stage ≡ Stage.Unasked }
+    requires file { (D.outside desk.old).file.stage ≡ Stage.Unasked }
+    requires age { age ≤ MAX_AGE }
+    ensures order { IfSome (D.outside desk.old).files (λ files. AsksWhere (IsAcceptedAt (bytes_of files program.now) age) (D.outside desk.new)) }
+    ensures compiled { IfOk result (λ r. IfSome (D.outside desk.old).files (λ files. IsCompiledFrom (bytes_of files program.now) age false r.compiled)) }
+    ensures some { IfOk result (λ r. (source : List ℕ) × IsCompiledFrom source age false r.compiled) }
+    ensures again { IfOk result (λ r. r.«module» ≡ r.compiled.«module») }
+    ensures input { IfOk result (λ r. IfSome (D.outside desk.old).files (λ files. IsInputOf None r.compiled.ir (bytes_of files image.now) r.rounds.items)) }
+    ensures read { IfOk result (λ r. AreRead r.compiled.ir r.rounds.items) }
+    ensures fault { IfErr result (λ e. IfSome (D.outside desk.old).files (λ files. IsAnswer (run_terms age) (bytes_of files program.now) (bytes_of files image.now) e)) }
+    ensures good { OnOk result (IfSome (D.outside desk.old).files (λ files. IsGoodPair (run_terms age) (bytes_of files program.now) (bytes_of files image.now))) }
+    ensures stops { IfErr result Stops }
+    ensures program_name { (D.outside desk.new).program.stage ≢ Stage.Unasked → IsIfTold (D.outside desk.new).program.name (Some program.now) }
+    ensures image_name { (D.outside desk.new).image.stage ≢ Stage.Unasked → IsIfTold (D.outside desk.new).image.name (Some image.now) }
+    ensures only { D.outside desk.new ≡ record (D.outside desk.old) { program = (D.outside desk.new).program; image = (D.outside desk.new).image; input_failures = (D.outside desk.new).input_failures } }
+    ensures cause { HasCauseIn (result ≡ Err Ending.ReadFault) (D.outside desk.old).input_failures (D.outside desk.new).input_failures }
+{
+    one_at_age();
+    let Machine { compiled, module } = match read_machine(alloc, desk, program, age) {
+        Ok(machine) => machine,
+        Err(ending) => return Err(ending),
+    };
+    match read_images(alloc, desk, &compiled.ir, image, None) {
+        Ok(rounds) => Ok(Ready {
+            compiled,
+            module,
+            rounds,
+        }),
+        Err(ending) => Err(ending),
+    }
+}
+
+/// Reads, judges and compiles the program, reads the file of images, and gives the file of the pictures that the module shows.
+fn ran<D: Desk>(
+    alloc: Global,
+    desk: &mut D,
+    program: &str,
+    image: &str,
+    age: u8,
+) -> Result<Vec<u8>, Ending>
+    requires program { (D.outside desk.old).program.stage ≡ Stage.Unasked }
+    requires image { (D.outside desk.old).image.stage ≡ Stage.Unasked }
+    requires file { (D.outside desk.old).file.stage ≡ Stage.Unasked }
+    requires age { age ≤ MAX_AGE }
+    ensures order { IfSome (D.outside desk.old).files (λ files. AsksWhere (IsAcceptedAt (bytes_of files program.now) age) (D.outside desk.new)) }
+    ensures output { IfOk result (λ output. IfSome (D.outside desk.old).files (λ files. OfPair (run_terms age) (bytes_of files program.now) (bytes_of files image.now) (λ p rounds. output.items ≡ output_file p rounds))) }
+    ensures notes { OnOk result (IfSome (D.outside desk.old).files (λ files. OfPair (run_terms age) (bytes_of files program.now) (bytes_of files image.now) (λ p rounds. NotesRun (bytes_of files program.now) age p rounds (D.outside desk.old).notes (D.outside desk.new).notes))) }
+    ensures fault { IfErr result (λ e. IfSome (D.outside desk.old).files (λ files. IsAnswer (run_terms age) (bytes_of files program.now) (bytes_of files image.now) e)) }
+    ensures good { OnOk result (IfSome (D.outside desk.old).files (λ files. IsGoodPair (run_terms age) (bytes_of files program.now) (bytes_of files image.now))) }
+    ensures stops { IfErr result Stops }
+    ensures program_name { (D.outside desk.new).program.stage ≢ Stage.Unasked → IsIfTold (D.outside desk.new).program.name (Some program.now) }
+    ensures image_name { (D.outside desk.new).image.stage ≢ Stage.Unasked → IsIfTold (D.outside desk.new).image.name (Some image.now) }
+    ensures only { D.outside desk.new ≡ record (D.outside desk.old) { program = (D.outside desk.new).program; image = (D.outside desk.new).image; notes = (D.outside desk.new).notes; input_failures = (D.outside desk.new).input_failures } }
+    ensures cause { HasCauseIn (result ≡ Err Ending.ReadFault) (D.outside desk.old).input_failures (D.outside desk.new).input_failures }
+{
+    let ready = match read_ready(alloc, desk, program, image, age) {
+        Ok(ready) => ready,
+        Err(ending) => return Err(ending),
+    };
+    match clocked(alloc, desk, &ready.compiled, &ready.module, &ready.rounds) {
+        Ok(output) => Ok(output),
+        Err(_) => Err(Ending::Memory),
+    }
+}
+
+/// Clocks the program's circuit on the images, and writes the pictures that it shows.
+impl Work for RunWords<'_> {
+    ghost command = { λ words. run_command words.program.now words.image.now words.out.now words.age };
+
+    fn perform<D: Desk>(&self, alloc: Global, desk: &mut D) -> Ending {
+        let output = match ran(alloc, desk, self.program, self.image, self.age) {
+            Ok(output) => output,
+            Err(ending) => return ending,
+        };
+        match write_file(desk, self.out, &output) {
+            Ok(()) => Ending::Done,
+            Err(_) => Ending::WriteFault,
+        }
+    }
+}
