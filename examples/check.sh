@@ -313,6 +313,68 @@ ends 2 "$usage" sim words.v 4 rising.pgm out.pgm --fill ones --fill ones
 none
 ends 8 'cannot write' sim words.v 4 rising.pgm /dev/full
 
+# Traces. A small one stands whole; of the others the first and the last line, and each time once and in turn.
+cat >wanted.vcd <<'END'
+$timescale 1 ns $end
+$scope module m $end
+$var wire 1 ! rst $end
+$var wire 2 " din $end
+$var wire 1 # valid $end
+$var wire 8 $ dout $end
+$upscope $end
+$enddefinitions $end
+#0
+1!
+b0 "
+0#
+b0 $
+#1
+0!
+1#
+b101 $
+#2
+#3
+b1 "
+b0 $
+#4
+b10 "
+#5
+END
+ends 0 '' trace words.v 4 rising.pgm out.pgm
+holds wanted.vcd 'trace'
+sed '/^#4$/,$d' wanted.vcd >stopped.vcd
+ends 6 'stopped: clock 3 array 0 index 3' trace words.v 4 past.pgm out.pgm
+holds stopped.vcd 'trace, stopped'
+sed '/^#1$/,$d' wanted.vcd >first.vcd
+echo '#1' >>first.vcd
+ends 0 '' trace words.v 0 rising.pgm out.pgm
+holds first.vcd 'trace, no clock'
+for name in line_buffer median enabled toggle; do
+    input=scene
+    [ $name = toggle ] && input=bits
+    ends 0 '' trace $name.v 3072 $input.pgm out.pgm
+    seq 0 3073 | sed 's/^/#/' >wanted.txt
+    grep '^#' out.pgm >times.txt
+    cmp -s times.txt wanted.txt && [ "$(head -n 1 out.pgm)" = '$timescale 1 ns $end' ] && [ "$(tail -n 1 out.pgm)" = '#3073' ] || {
+        echo "examples: the trace of $name.v has other lines" >&2
+        failed=1
+    }
+done
+ends 4 'image: Maxval 255' trace words.v 4 gradient.pgm out.pgm
+ends 7 'cannot read' trace missing.v 4 rising.pgm out.pgm
+ends 7 'cannot read' trace words.v 4 missing.pgm out.pgm
+printf 'module m(input clk); initial' >text.v
+ends 5 'verilog 21-28: NotInSubset' trace text.v 4 missing.pgm out.pgm
+ends 2 "$usage" trace words.v 4 rising.pgm words.v
+ends 2 "$usage" trace words.v 4 rising.pgm rising.pgm
+ends 2 "$usage" trace words.v 007 rising.pgm out.pgm
+ends 2 "$usage" trace words.v 100000001 rising.pgm out.pgm
+ends 2 "$usage" trace words.v 4 rising.pgm
+ends 2 "$usage" trace enabled.v 4 rising.pgm out.pgm --hold 1
+ends 2 "$usage" trace words.v 4 rising.pgm out.pgm --fill ones
+none
+ends 8 'cannot write' trace words.v 4 rising.pgm /dev/full
+
 # Compiled texts, clocked: the mean of three at each age, with the port `en` and without it, from zeros and from ones, gives its picture.
 printf 'size 4 1\ninput a : u8\nlet f = im(x,y) ((a(x-1,y)+a(x,y)+a(x+1,y))/3) as u8 end\noutput f\n' >mean3.dk
 printf 'P5\n4 1\n255\n\003\006\011\014' >mean3.pgm
@@ -359,6 +421,19 @@ ends 3 'program 0-1: BadByte' compile byte.dk text.v
 ends 7 'cannot read' compile missing.dk text.v
 [ ! -e text.v ] || {
     echo "examples: compile created something" >&2
+    failed=1
+}
+# An input under another name is not written over: it keeps its bytes.
+cp mean3.pgm same.pgm
+ln -s same.pgm link.pgm
+ln same.pgm hard.pgm
+for name in ./same.pgm link.pgm hard.pgm; do
+    ends 8 'cannot write' run mean3.dk same.pgm "$name"
+    ends 8 'cannot write' eval mean3.dk same.pgm "$name"
+done
+ends 8 'cannot write' compile mean3.dk ./mean3.dk
+cmp -s same.pgm mean3.pgm && cmp -s mean3.dk text.dk || {
+    echo "examples: an input was changed under another name" >&2
     failed=1
 }
 ends 8 'cannot write' compile mean3.dk /dev/full
@@ -460,4 +535,31 @@ ends 8 'cannot write' run copy.dk gradient.pgm missing/out.pgm
     echo "examples: a closed standard error changes the status" >&2
     failed=1
 }
+
+# makes N LINE: `make N` ends with status 0 and prints this line alone
+makes() {
+    "$program" make "$1" >stdout 2>stderr
+    got=$?
+    if [ "$got" != 0 ] || [ -s stderr ] || [ "$(cat stdout)" != "$2" ]; then
+        echo "examples: dk make $1: status $got, '$(cat stdout)' where '$2' was wanted" >&2
+        failed=1
+    fi
+}
+makes 0 'make 0: size 1 1 images 1 reads 1 bits 0 latency 0 sum 35'
+makes 1 'make 1: size 2 1 images 1 reads 0 bits 0 latency 0 sum 0'
+makes 3 'make 3: size 4 1 images 1 reads 1 bits 8 latency 0 sum 0'
+# the greatest one, 256 by 256 with 64 definitions, gives the same line each time
+greatest=$("$program" make 4194303)
+makes 4194303 "$greatest"
+for number in 4194304 -1 +1 007 1x ''; do
+    ends 2 "$usage" make "$number"
+done
+ends 2 "$usage" make
+ends 2 "$usage" make 1 2
+"$program" make 0 >/dev/full 2>stderr
+[ "$?" = 8 ] && [ "$(cat stderr)" = 'cannot write' ] || {
+    echo "examples: dk make 0 to a full output: '$(cat stderr)'" >&2
+    failed=1
+}
+
 exit $failed

@@ -13,7 +13,7 @@ use Rattle.program_images.specs.Outputs.{output_images}
 use Rattle.dk_top.specs.Output.{output_file}
 use Rattle.dk_endings.specs.declared.ending.Ending.{Ending}
 use Rattle.dk_endings.specs.declared.ending.Ending.TheVariants as ending
-use Rattle.dk_top.specs.Verdict.{Terms, Files, bytes_of, eval_terms, OfPair, IsVerdict}
+use Rattle.dk_top.specs.Verdict.{Terms, Files, bytes_of, eval_terms, OfPair, OnFiles, IsVerdict}
 use Rattle.dk_top.specs.Command.{Command, run, eval, compile, sim, trace, plan, check, make}
 use Rattle.dk_top.specs.State.{AsksInOrder, IsNoted, IsReported}
 use Rattle.dk_top.specs.Reading.{AreRead, IsRead}
@@ -47,34 +47,69 @@ order_stays (Some c) None mid new same h = tt
 order_stays (Some (run p i o a)) (Some f) mid new same h = λ asked. h (subst (λ (s : Input). s.stage ≢ Unasked) same asked)
 order_stays (Some (eval p i o)) (Some f) mid new same h = λ asked. h (subst (λ (s : Input). s.stage ≢ Unasked) same asked)
 order_stays (Some (compile p o e a)) (Some f) mid new same h = tt
-order_stays (Some (trace v c i o)) (Some f) mid new same h = tt
+order_stays (Some (trace v c i o)) (Some f) mid new same h = λ asked. h (subst (λ (s : Input). s.stage ≢ Unasked) same asked)
 order_stays (Some (make n)) (Some f) mid new same h = tt
 order_stays (Some (sim v c i o p h)) (Some f) mid new same h' = λ asked. h' (subst (λ (s : Input). s.stage ≢ Unasked) same asked)
 order_stays (Some (plan p a)) (Some f) mid new same h = tt
 order_stays (Some (check p r)) (Some f) mid new same h = λ asked. h (subst (λ (s : Input). s.stage ≢ Unasked) same asked)
+
+-- what holds of all files holds on every desk
+pub on_all : (c : Command) (told : Option Files) (P : Files → Type 0) → ((f : Files) → P f) → OnFiles c told P
+on_all (make n) told P h = h
+on_all (run p i o a) None P h = tt
+on_all (run p i o a) (Some f) P h = h f
+on_all (eval p i o) None P h = tt
+on_all (eval p i o) (Some f) P h = h f
+on_all (compile p o e a) None P h = tt
+on_all (compile p o e a) (Some f) P h = h f
+on_all (sim v c i o p h') None P h = tt
+on_all (sim v c i o p h') (Some f) P h = h f
+on_all (trace v c i o) None P h = tt
+on_all (trace v c i o) (Some f) P h = h f
+on_all (plan p a) None P h = tt
+on_all (plan p a) (Some f) P h = h f
+on_all (check p r) None P h = tt
+on_all (check p r) (Some f) P h = h f
+
+-- what follows from it follows on every desk
+pub on_each : (c : Command) (told : Option Files) (P Q : Files → Type 0) → ((f : Files) → P f → Q f) → OnFiles c told P → OnFiles c told Q
+on_each (make n) told P Q g h = λ f. g f (h f)
+on_each (run p i o a) None P Q g h = tt
+on_each (run p i o a) (Some f) P Q g h = g f h
+on_each (eval p i o) None P Q g h = tt
+on_each (eval p i o) (Some f) P Q g h = g f h
+on_each (compile p o e a) None P Q g h = tt
+on_each (compile p o e a) (Some f) P Q g h = g f h
+on_each (sim v c i o p h') None P Q g h = tt
+on_each (sim v c i o p h') (Some f) P Q g h = g f h
+on_each (trace v c i o) None P Q g h = tt
+on_each (trace v c i o) (Some f) P Q g h = g f h
+on_each (plan p a) None P Q g h = tt
+on_each (plan p a) (Some f) P Q g h = g f h
+on_each (check p r) None P Q g h = tt
+on_each (check p r) (Some f) P Q g h = g f h
 
 -- what is left where the words are not taken, or for which there was no memory
 memory_verdict : (c : Command) (f : Files) → IsVerdict c f ending.Memory
 memory_verdict (run p i o a) f = tt
 memory_verdict (eval p i o) f = tt
 memory_verdict (compile p o e a) f = tt
-memory_verdict (trace v c i o) f = refl
-memory_verdict (make n) f = refl
+memory_verdict (trace v c i o) f = tt
+memory_verdict (make n) f = tt
 memory_verdict (sim v c i o p h) f = tt
 memory_verdict (plan p a) f = tt
 memory_verdict (check p r) f = tt
 
-pub words_verdict : (command : Option Command) (files : Option Files) (e : Ending) → (e ≡ ending.Usage → command ≡ None) → (e ≡ ending.Usage) ⊎ (e ≡ ending.Memory) → IfSome command (λ c. IfSome files (λ f. IsVerdict c f e))
+pub words_verdict : (command : Option Command) (files : Option Files) (e : Ending) → (e ≡ ending.Usage → command ≡ None) → (e ≡ ending.Usage) ⊎ (e ≡ ending.Memory) → IfSome command (λ c. OnFiles c files (λ f. IsVerdict c f e))
 words_verdict None files e usage either = tt
-words_verdict (Some c) None e usage either = tt
-words_verdict (Some c) (Some f) e usage (inl is) = absurd (let n : Some c ≡ None = usage is in let x : ⊥ = cc in x)
-words_verdict (Some c) (Some f) e usage (inr is) = subst (λ x. IsVerdict c f x) (sym is) (memory_verdict c f)
+words_verdict (Some c) files e usage (inl is) = absurd (let n : Some c ≡ None = usage is in let x : ⊥ = cc in x)
+words_verdict (Some c) files e usage (inr is) = on_all c files (λ f. IsVerdict c f e) (λ f. subst (λ x. IsVerdict c f x) (sym is) (memory_verdict c f))
 
 unasked_order : (c : Command) (f : Files) (o : Outside) → o.image.stage ≡ Unasked → AsksInOrder c f o
 unasked_order (run p i out a) f o fresh = λ asked. absurd (asked fresh)
 unasked_order (eval p i out) f o fresh = λ asked. absurd (asked fresh)
 unasked_order (compile p out e a) f o fresh = tt
-unasked_order (trace v c i out) f o fresh = tt
+unasked_order (trace v c i out) f o fresh = λ asked. absurd (asked fresh)
 unasked_order (make n) f o fresh = tt
 unasked_order (sim v c i out p h) f o fresh = λ asked. absurd (asked fresh)
 unasked_order (plan p a) f o fresh = tt
@@ -105,18 +140,17 @@ memory_report (sim v c i o p h) f r = refl
 memory_report (plan p a) f r = refl
 memory_report (check p t) f r = refl
 
-pub words_report : (command : Option Command) (files : Option Files) (e : Ending) (r : Option (List ℕ)) → (e ≡ ending.Usage) ⊎ (e ≡ ending.Memory) → IfSome command (λ c. IfSome files (λ f. IsReported e c f r r))
+pub words_report : (command : Option Command) (files : Option Files) (e : Ending) (r : Option (List ℕ)) → (e ≡ ending.Usage) ⊎ (e ≡ ending.Memory) → IfSome command (λ c. OnFiles c files (λ f. IsReported e c f r r))
 words_report None files e r either = tt
-words_report (Some c) None e r either = tt
-words_report (Some c) (Some f) e r (inl is) = subst (λ x. IsReported x c f r r) (sym is) (usage_report c f r)
-words_report (Some c) (Some f) e r (inr is) = subst (λ x. IsReported x c f r r) (sym is) (memory_report c f r)
+words_report (Some c) files e r (inl is) = on_all c files (λ f. IsReported e c f r r) (λ f. subst (λ x. IsReported x c f r r) (sym is) (usage_report c f r))
+words_report (Some c) files e r (inr is) = on_all c files (λ f. IsReported e c f r r) (λ f. subst (λ x. IsReported x c f r r) (sym is) (memory_report c f r))
 
 usage_notes : (c : Command) (f : Files) (n : Option (List (Bool × ℕ))) → IsNoted c ending.Usage f n n
 usage_notes (run p i o a) f n = tt
 usage_notes (eval p i o) f n = refl
 usage_notes (compile p o e a) f n = refl
 usage_notes (trace v c i o) f n = refl
-usage_notes (make k) f n = refl
+usage_notes (make k) f n = tt
 usage_notes (sim v c i o p h) f n = tt
 usage_notes (plan p a) f n = refl
 usage_notes (check p t) f n = refl
@@ -126,13 +160,17 @@ memory_notes (run p i o a) f n = tt
 memory_notes (eval p i o) f n = refl
 memory_notes (compile p o e a) f n = refl
 memory_notes (trace v c i o) f n = refl
-memory_notes (make k) f n = refl
+memory_notes (make k) f n = tt
 memory_notes (sim v c i o p h) f n = tt
 memory_notes (plan p a) f n = refl
 memory_notes (check p t) f n = refl
 
-pub words_notes : (command : Option Command) (files : Option Files) (e : Ending) (n : Option (List (Bool × ℕ))) → (e ≡ ending.Usage) ⊎ (e ≡ ending.Memory) → IfSome command (λ c. IfSome files (λ f. IsNoted c e f n n))
+pub words_notes : (command : Option Command) (files : Option Files) (e : Ending) (n : Option (List (Bool × ℕ))) → (e ≡ ending.Usage) ⊎ (e ≡ ending.Memory) → IfSome command (λ c. OnFiles c files (λ f. IsNoted c e f n n))
 words_notes None files e n either = tt
-words_notes (Some c) None e n either = tt
-words_notes (Some c) (Some f) e n (inl is) = subst (λ x. IsNoted c x f n n) (sym is) (usage_notes c f n)
-words_notes (Some c) (Some f) e n (inr is) = subst (λ x. IsNoted c x f n n) (sym is) (memory_notes c f n)
+words_notes (Some c) files e n (inl is) = on_all c files (λ f. IsNoted c e f n n) (λ f. subst (λ x. IsNoted c x f n n) (sym is) (usage_notes c f n))
+words_notes (Some c) files e n (inr is) = on_all c files (λ f. IsNoted c e f n n) (λ f. subst (λ x. IsNoted c x f n n) (sym is) (memory_notes c f n))
+
+-- what holds of the command that is named
+pub named_has : (o : Option Command) (c : Command) → o ≡ Some c → (P : Command → Type 0) → P c → IfSome o P
+named_has None c e P h = absurd (let f : ⊥ = cc in f)
+named_has (Some d) c e P h = let same : d ≡ c = cc in subst P (sym same) h

@@ -67,7 +67,7 @@ file_sampled ports file rounds fits =
     rounds_sampled ports.size ports.inputs rounds (all_groups IsGood rounds good) fits.fits.fit
 
 -- the number of rounds
-some_round : (rounds : List (List Image)) (images : List Image) → images ≡ flat_map (λ r. r) rounds → 0 < length images → 0 < length rounds
+pub some_round : (rounds : List (List Image)) (images : List Image) → images ≡ flat_map (λ r. r) rounds → 0 < length images → 0 < length rounds
 some_round [] images same some = let e = ap length same in absurd (let f : ⊥ = omega (arith, e, some) in f)
 some_round (r ∷ rs) images same some = omega arith
 
@@ -76,7 +76,7 @@ one_image w h [] round some fits = absurd (let f : ⊥ = omega (arith, some) in 
 one_image w h (b ∷ bs) [] some fits = absurd fits
 one_image w h (b ∷ bs) (i ∷ is) some fits = omega arith
 
-few_rounds : (w h : ℕ) (ws : List ℕ) (rounds : List (List Image)) → 0 < length ws → AllByRecursion (FitsInputs w h ws) rounds → length rounds ≤ length (flat_map (λ r. r) rounds)
+pub few_rounds : (w h : ℕ) (ws : List ℕ) (rounds : List (List Image)) → 0 < length ws → AllByRecursion (FitsInputs w h ws) rounds → length rounds ≤ length (flat_map (λ r. r) rounds)
 few_rounds w h ws [] some fits = omega arith
 few_rounds w h ws (r ∷ rs) some fits =
     let one = one_image w h ws r some fits.0 in

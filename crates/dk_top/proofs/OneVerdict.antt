@@ -1,12 +1,15 @@
 -- The words and the files decide one ending.
-use Rattle.std.proofs.Common.{◌≡◌, Option, None, Some, IfSome, subst}
+use Rattle.std.proofs.Common.{◌≡◌, Option, None, Some, IfSome}
 use Rattle.dk_endings.specs.declared.ending.Ending.{Ending}
 use Rattle.dk_endings.specs.declared.ending.Ending.TheVariants as ending
 use Rattle.dk_top.specs.Command.{Command, run, eval, compile, sim, trace, plan, check, make}
+use Rattle.made_program.specs.Programs.{program_of}
 use Rattle.dk_top.specs.Simulation.{drive_of}
-use Rattle.dk_top.specs.Verdict.{Files, bytes_of, eval_terms, run_terms, IsVerdict, HasOneVerdict, IsGood, IsOrMemory, IsJudged}
+use Rattle.dk_top.proofs.CommandLemmas.{on_each}
+use Rattle.dk_top.specs.Tracing.{trace_drive}
+use Rattle.dk_top.specs.Verdict.{Files, bytes_of, eval_terms, run_terms, OnFiles, IsVerdict, HasOneVerdict, IsGood, IsOrMemory}
 use Rattle.dk_top.proofs.VerdictLemmas.{OneProgram, TextApart, OneTextFault, ApartAt, OneFaultAt, FileApart, OneFileFault, one_answer, good_answer}
-use Rattle.dk_top.proofs.SimLemmas.{OneModule, OneAgreed, ModuleApart, OneTokens, OneTree, OneRounds, RoundsApart, OneBenchFault, OneStop, ShownApart, alike_of, sim_answer, good_sim}
+use Rattle.dk_top.proofs.SimLemmas.{OneModule, OneAgreed, ModuleApart, OneTokens, OneTree, OneRounds, RoundsApart, OneBenchFault, OneStop, ShownApart, RunApart, alike_of, sim_answer, good_sim, trace_answer, good_trace}
 use Rattle.dk_top.proofs.PlanLemmas.{FrontAccepted, WrongApart, OneLine, program_answer, good_program, check_answer, good_check}
 
 -- the laws of the crates below
@@ -27,14 +30,11 @@ pub record Laws : Type 0 where
   pub bench_fault : OneBenchFault
   pub one_stop : OneStop
   pub shown_apart : ShownApart
+  pub run_apart : RunApart
   pub apart_at : ApartAt
   pub fault_at : OneFaultAt
   pub wrong_apart : WrongApart
   pub one_line : OneLine
-
--- a command that is not there has no verdict
-not_there : (a : Ending) → IsJudged a → a ≡ ending.Memory → ⊥
-not_there a judged is = subst IsJudged is judged
 
 pub one_verdict : Laws → HasOneVerdict
 one_verdict l (run program image out age) files a b j k x y = alike_of a b (one_answer l.one_program l.apart_at l.fault_at l.file_apart l.one_file (run_terms age) (bytes_of files program) (bytes_of files image) a b j k x y)
@@ -42,11 +42,12 @@ one_verdict l (eval program image out) files a b j k x y = alike_of a b (one_ans
 one_verdict l (compile program out enable age) files a b j k x y = alike_of a b (program_answer l.apart_at l.fault_at age (bytes_of files program) a b j k x y)
 one_verdict l (sim verilog clocks image out fill hold) files a b j k x y =
     sim_answer l.one_module l.agree l.module_apart l.tokens l.tree l.rounds l.rounds_apart l.bench_fault l.one_stop l.shown_apart (drive_of clocks fill hold) (bytes_of files verilog) (bytes_of files image) a b j k x y
-one_verdict l (trace verilog clocks image vcd) files a b j k x y = absurd (not_there a j x)
+one_verdict l (trace verilog clocks image vcd) files a b j k x y =
+    trace_answer l.one_module l.agree l.module_apart l.tokens l.tree l.rounds l.rounds_apart l.bench_fault l.one_stop l.shown_apart (trace_drive clocks) (bytes_of files verilog) (bytes_of files image) l.run_apart a b j k x y
 one_verdict l (plan program age) files a b j k x y = alike_of a b (program_answer l.apart_at l.fault_at age (bytes_of files program) a b j k x y)
 one_verdict l (check program report) files a b j k x y =
     alike_of a b (check_answer l.front_accepted l.text_apart l.one_text l.wrong_apart l.one_line (bytes_of files program) (bytes_of files report) a b j k x y)
-one_verdict l (make number) files a b j k x y = absurd (not_there a j x)
+one_verdict l (make number) files a b j k x y = alike_of a b (program_answer l.apart_at l.fault_at 0 (program_of number) a b j k x y)
 
 -- what is good is done where nothing outside fails and there is memory
 good_is_done : Laws → (command : Command) (files : Files) (result : Ending) → IsVerdict command files result → IsGood command files → (result ≡ ending.ReadFault → ⊥) → (result ≡ ending.WriteFault → ⊥) → IsOrMemory result ending.Done
@@ -55,15 +56,17 @@ good_is_done l (eval program image out) files result = good_answer l.one_program
 good_is_done l (compile program out enable age) files result = good_program l.apart_at l.fault_at age (bytes_of files program) result
 good_is_done l (sim verilog clocks image out fill hold) files result =
     good_sim l.one_module l.agree l.module_apart l.tokens l.tree l.rounds l.rounds_apart l.bench_fault l.one_stop l.shown_apart (drive_of clocks fill hold) (bytes_of files verilog) (bytes_of files image) result
-good_is_done l (trace verilog clocks image vcd) files result = λ verdict good. absurd good
+good_is_done l (trace verilog clocks image vcd) files result =
+    good_trace l.one_module l.agree l.module_apart l.tokens l.tree l.rounds l.rounds_apart l.bench_fault l.one_stop l.shown_apart (trace_drive clocks) (bytes_of files verilog) (bytes_of files image) l.run_apart result
 good_is_done l (plan program age) files result = good_program l.apart_at l.fault_at age (bytes_of files program) result
 good_is_done l (check program report) files result =
     good_check l.front_accepted l.text_apart l.one_text l.wrong_apart l.one_line (bytes_of files program) (bytes_of files report) result
-good_is_done l (make number) files result = λ verdict good. absurd good
+good_is_done l (make number) files result = good_program l.apart_at l.fault_at 0 (program_of number) result
 
 -- the same of what is told
-pub complete_of : Laws → (command : Option Command) (files : Option Files) (result : Ending) (Read Write : Type 0) → IfSome command (λ c. IfSome files (λ f. IsVerdict c f result)) → (result ≡ ending.ReadFault → Read) → (result ≡ ending.WriteFault → Write)
-    → IfSome command (λ c. IfSome files (λ f. IsGood c f → ¬ Read → ¬ Write → IsOrMemory result ending.Done))
+pub complete_of : Laws → (command : Option Command) (files : Option Files) (result : Ending) (Read Write : Type 0) → IfSome command (λ c. OnFiles c files (λ f. IsVerdict c f result)) → (result ≡ ending.ReadFault → Read) → (result ≡ ending.WriteFault → Write)
+    → IfSome command (λ c. OnFiles c files (λ f. IsGood c f → ¬ Read → ¬ Write → IsOrMemory result ending.Done))
 complete_of l None files result Read Write verdict read write = tt
-complete_of l (Some c) None result Read Write verdict read write = tt
-complete_of l (Some c) (Some f) result Read Write verdict read write = λ good no_read no_write. good_is_done l c f result verdict good (λ e. no_read (read e)) (λ e. no_write (write e))
+complete_of l (Some c) files result Read Write verdict read write =
+    on_each c files (λ f. IsVerdict c f result) (λ f. IsGood c f → ¬ Read → ¬ Write → IsOrMemory result ending.Done)
+    (λ f is good no_read no_write. good_is_done l c f result is good (λ e. no_read (read e)) (λ e. no_write (write e))) verdict

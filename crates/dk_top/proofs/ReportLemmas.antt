@@ -85,7 +85,7 @@ front_told None name source ir s is has = tt
 front_told (Some f) name source ir s is has = subst (λ t. HasFront t ir s) is has
 
 -- all of a text is written, or a prefix of it
-whole : (is : List ℕ → Type 0) (text : List ℕ) (old new : Option (List ℕ)) → is text → IsIfTold new (grown old text) → GainsText is old new ending.Done
+pub whole : (is : List ℕ → Type 0) (text : List ℕ) (old new : Option (List ℕ)) → is text → IsIfTold new (grown old text) → GainsText is old new ending.Done
 whole is text old new of told = record {
   text = text;
   is_text = of;
@@ -95,7 +95,7 @@ whole is text old new of told = record {
   whole = λ e. refl;
 }
 
-front : (is : List ℕ → Type 0) (text : List ℕ) (old new : Option (List ℕ)) → is text → ReportsFront text old new → GainsText is old new ending.WriteFault
+pub front : (is : List ℕ → Type 0) (text : List ℕ) (old new : Option (List ℕ)) → is text → ReportsFront text old new → GainsText is old new ending.WriteFault
 front is text old new of r = record {
   text = text;
   is_text = of;

@@ -1,11 +1,11 @@
--- A Verilog text and a file decide one ending of `sim`.
-use Rattle.std.proofs.Common.{◌≡◌, inl, inr, ℕ, ◌<◌, List, [], ◌∷◌, Option, Some, unwrap_or, refl, ap, subst, sym, ◌∙◌, arith, length, true, false}
+-- A Verilog text and a file decide one ending of `sim`, and one of `trace`.
+use Rattle.std.proofs.Common.{◌≡◌, ◌⊎◌, inl, inr, ℕ, ℤ, ◌<◌, List, [], ◌∷◌, Option, Some, unwrap_or, refl, ap, subst, sym, ◌∙◌, arith, length, true, false}
 use Rattle.std.specs.List.{flat_map, AllByRecursion}
 use Rattle.pgm_codec.specs.Rounds.{FitsInputs}
 use Rattle.dk_base.specs.declared.span.Span.{Span}
 use Rattle.dk_base.specs.Frames.{Size}
 use Rattle.wiring.specs.Netlist.{Netlist}
-use Rattle.wiring.specs.Snapshot.{HasOneSnapshot, HasOneNext}
+use Rattle.wiring.specs.Snapshot.{Snapshot, HasOneSnapshot, HasOneNext}
 use Rattle.netlist.specs.Names.{NamedNetlist}
 use Rattle.netlist.specs.declared.fault.NetFault.TheVariants as net
 use Rattle.verilog_text.specs.declared.token.Token.{Token}
@@ -20,10 +20,11 @@ use Rattle.pgm_rounds.specs.declared.fault.ImageFault.{ImageFault as FileFault}
 use Rattle.cycle_sim.specs.Ports.{din_widths}
 use Rattle.test_bench.specs.declared.drive.Drive.{Drive}
 use Rattle.test_bench.specs.declared.stop.Stop.{Stop}
+use Rattle.test_bench.specs.declared.stop.Stop.TheVariants.{Index, Count}
 use Rattle.test_bench.specs.Stimulus.{Rounds}
 use Rattle.test_bench.specs.Inputs.{FitsBench, IsBenchFault, samples_of}
-use Rattle.test_bench.specs.Showing.{IsShown}
-use Rattle.test_bench.specs.Stops.{IsStop}
+use Rattle.test_bench.specs.Showing.{IsShown, IsRun}
+use Rattle.test_bench.specs.Stops.{IsStop, StopsAtClock}
 use Rattle.dk_endings.specs.declared.ending.Ending.{Ending}
 use Rattle.dk_endings.specs.declared.ending.Ending.TheVariants as ending
 use Rattle.dk_endings.specs.declared.ending.ImageFault.{ImageFault}
@@ -34,6 +35,7 @@ use Rattle.dk_endings.specs.declared.verilog.VerilogKind.{VerilogKind}
 use Rattle.dk_endings.specs.declared.verilog.VerilogKind.TheVariants as kind
 use Rattle.dk_endings.specs.Verilog.{fault_told}
 use Rattle.dk_top.specs.Simulation.{of_text, of_ports, IsModuleOf, LacksEnable, IsTextFault, IsVerilogFault, FitsModule, IsFileFault, IsSimulated, IsUnfit, IsStopped}
+use Rattle.dk_top.specs.Tracing.{CanBeTraced, IsTraceAnswer}
 use Rattle.dk_top.specs.Verdict.{AreAlike, CanBeSimulated, IsSimAnswer, IsJudged, IsOrMemory}
 
 -- the laws of Verilog texts, of files for a bench and of what a bench gives
@@ -66,6 +68,9 @@ OneStop = (m : Netlist) → HasOneSnapshot m → HasOneNext m → (drive : Drive
 
 abbrev pub ShownApart : Type 0
 ShownApart = (m : Netlist) → HasOneSnapshot m → HasOneNext m → (drive : Drive) (size : Size) (rounds : Rounds) (file : List ℕ) (s : Stop) → IsShown m drive size rounds file → IsStop m drive size rounds s → ⊥
+
+abbrev pub RunApart : Type 0
+RunApart = (m : Netlist) → HasOneSnapshot m → HasOneNext m → (drive : Drive) (rounds : Rounds) (shots : List Snapshot) (clock : ℤ) (array index : ℕ) → IsRun m drive rounds shots → StopsAtClock m drive rounds clock array index → ⊥
 
 -- a file that fits is one for some dins
 none_fit : (width height : ℕ) (rounds : List (List Image)) (images : List Image) → 0 < length images → images ≡ flat_map (λ r. r) rounds → AllByRecursion (FitsInputs width height []) rounds → ⊥
@@ -350,3 +355,78 @@ module _ (one : OneModule) (agree : OneAgreed) (text_apart : ModuleApart) (token
     good_sim (ending.Verilog f) answer good no_read no_write = absurd (module_no_fault drive.hold t good.1.m f good.1.made answer)
     good_sim (ending.Image f) answer good no_read no_write = absurd (unfit_apart good.1.m good.1.size good.1.images f good.1.made good.1.fits answer)
     good_sim (ending.Stopped s) answer good no_read no_write = absurd (simulated_apart good.0 s good.1 answer)
+
+    -- a run that goes to its end does not stop
+    traced_apart : RunApart → (clock : ℤ) (array index : ℕ) → CanBeTraced drive t file → IsStopped drive t file (Index clock array index) → ⊥
+    traced_apart run_apart clock array index (n, shots, x) y =
+        let m : n ≡ y.m = one t n y.m x.in_order.made.stands y.made.stands in
+        let fits : FitsModule y.m file x.in_order.size x.images = subst (λ k. FitsModule k file x.in_order.size x.images) m x.in_order.fits in
+        let both = rounds (din_widths y.m.netlist) (fits_some (din_widths y.m.netlist) file y.size y.images y.fits.fits) file x.in_order.size y.size x.images y.images fits.fits y.fits.fits in
+        let first : IsRun y.m.netlist drive (samples_of x.images) shots = subst (λ (k : NamedNetlist). IsRun k.netlist drive (samples_of x.images) shots) m x.run in
+        let second : IsRun y.m.netlist drive (samples_of y.images) shots = subst (λ z. IsRun y.m.netlist drive (samples_of z) shots) both.1 first in
+        run_apart y.m.netlist y.one_valuation y.one_next drive (samples_of y.images) shots clock array index second y.stops
+
+    traced_not_stopped : RunApart → (s : Stop) → CanBeTraced drive t file → IsTraceAnswer drive t file (ending.Stopped s) → ⊥
+    traced_not_stopped run_apart (Index clock array index) x y = traced_apart run_apart clock array index x y
+    traced_not_stopped run_apart (Count shown wanted) x y = absurd y
+
+    -- what stops `trace` before it is done stops `sim`
+    stops_both : (e : Ending) → IsJudged e → (e ≡ ending.Done → ⊥) → IsTraceAnswer drive t file e → IsSimAnswer drive t file e
+    stops_both ending.Done _ other x = absurd (other refl)
+    stops_both (ending.Verilog f) _ other x = x
+    stops_both (ending.Image f) _ other x = x
+    stops_both (ending.Stopped (Index clock array index)) _ other x = x
+    stops_both (ending.Stopped (Count shown wanted)) _ other x = absurd x
+    stops_both (ending.Source f) _ other x = absurd x
+    stops_both (ending.Rejected f) _ other x = absurd x
+    stops_both ending.Usage j other x = absurd j
+    stops_both ending.ReadFault j other x = absurd j
+    stops_both ending.WriteFault j other x = absurd j
+    stops_both ending.Memory j other x = absurd j
+
+    -- an ending other than Done does not come where there is a trace
+    not_traced : RunApart → (e : Ending) → IsJudged e → CanBeTraced drive t file → (e ≡ ending.Done → ⊥) → IsTraceAnswer drive t file e → ⊥
+    not_traced run_apart ending.Done _ good other x = other refl
+    not_traced run_apart (ending.Verilog f) _ (m, shots, good) other x = module_no_fault drive.hold t m f good.in_order.made x
+    not_traced run_apart (ending.Image f) _ (m, shots, good) other x = unfit_apart m good.in_order.size good.images f good.in_order.made good.in_order.fits x
+    not_traced run_apart (ending.Stopped s) _ good other x = traced_not_stopped run_apart s good x
+    not_traced run_apart (ending.Source f) _ good other x = x
+    not_traced run_apart (ending.Rejected f) _ good other x = x
+    not_traced run_apart ending.Usage j good other x = j
+    not_traced run_apart ending.ReadFault j good other x = j
+    not_traced run_apart ending.WriteFault j good other x = j
+    not_traced run_apart ending.Memory j good other x = j
+
+    done_or : (e : Ending) → (e ≡ ending.Done) ⊎ (e ≡ ending.Done → ⊥)
+    done_or ending.Done = inl refl
+    done_or (ending.Verilog f) = inr (λ e. let x : ⊥ = cc in x)
+    done_or (ending.Image f) = inr (λ e. let x : ⊥ = cc in x)
+    done_or (ending.Stopped s) = inr (λ e. let x : ⊥ = cc in x)
+    done_or (ending.Source f) = inr (λ e. let x : ⊥ = cc in x)
+    done_or (ending.Rejected f) = inr (λ e. let x : ⊥ = cc in x)
+    done_or ending.Usage = inr (λ e. let x : ⊥ = cc in x)
+    done_or ending.ReadFault = inr (λ e. let x : ⊥ = cc in x)
+    done_or ending.WriteFault = inr (λ e. let x : ⊥ = cc in x)
+    done_or ending.Memory = inr (λ e. let x : ⊥ = cc in x)
+
+    answer_by : RunApart → (a b : Ending) → IsJudged a → IsJudged b → (a ≡ ending.Done) ⊎ (a ≡ ending.Done → ⊥) → (b ≡ ending.Done) ⊎ (b ≡ ending.Done → ⊥) → IsTraceAnswer drive t file a → IsTraceAnswer drive t file b → AreAlike a b
+    answer_by run_apart a b j k (inl p) (inl q) x y = alike_of a b (p ∙ sym q)
+    answer_by run_apart a b j k (inl p) (inr q) x y = absurd (not_traced run_apart b k (subst (λ e. IsTraceAnswer drive t file e) p x) q y)
+    answer_by run_apart a b j k (inr p) (inl q) x y = absurd (not_traced run_apart a j (subst (λ e. IsTraceAnswer drive t file e) q y) p x)
+    answer_by run_apart a b j k (inr p) (inr q) x y = sim_answer a b j k (stops_both a j p x) (stops_both b k q y)
+
+    pub trace_answer : RunApart → (a b : Ending) → IsJudged a → IsJudged b → IsTraceAnswer drive t file a → IsTraceAnswer drive t file b → AreAlike a b
+    trace_answer run_apart a b j k x y = answer_by run_apart a b j k (done_or a) (done_or b) x y
+
+    -- where there is a trace the call is done, if nothing outside fails and there is memory
+    pub good_trace : RunApart → (result : Ending) → IsTraceAnswer drive t file result → CanBeTraced drive t file → (result ≡ ending.ReadFault → ⊥) → (result ≡ ending.WriteFault → ⊥) → IsOrMemory result ending.Done
+    good_trace run_apart ending.Done answer good no_read no_write = inl refl
+    good_trace run_apart ending.Memory answer good no_read no_write = inr refl
+    good_trace run_apart ending.ReadFault answer good no_read no_write = absurd (no_read refl)
+    good_trace run_apart ending.WriteFault answer good no_read no_write = absurd (no_write refl)
+    good_trace run_apart ending.Usage answer good no_read no_write = absurd answer
+    good_trace run_apart (ending.Source f) answer good no_read no_write = absurd answer
+    good_trace run_apart (ending.Rejected f) answer good no_read no_write = absurd answer
+    good_trace run_apart (ending.Verilog f) answer good no_read no_write = absurd (not_traced run_apart (ending.Verilog f) tt good (λ e. let x : ⊥ = cc in x) answer)
+    good_trace run_apart (ending.Image f) answer good no_read no_write = absurd (not_traced run_apart (ending.Image f) tt good (λ e. let x : ⊥ = cc in x) answer)
+    good_trace run_apart (ending.Stopped s) answer good no_read no_write = absurd (not_traced run_apart (ending.Stopped s) tt good (λ e. let x : ⊥ = cc in x) answer)

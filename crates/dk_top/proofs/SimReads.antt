@@ -20,6 +20,8 @@ use Rattle.test_bench.specs.Inputs.{samples_of}
 use Rattle.test_bench.specs.Showing.{IsShown, IsNoted as AreNotes}
 use Rattle.test_bench.specs.Stops.{IsStop}
 use Rattle.dk_words.specs.declared.command.PowerUp.{PowerUp}
+use Rattle.dk_words.specs.declared.command.PowerUp.TheVariants.{Zeros}
+use Rattle.test_bench.specs.declared.stop.Stop.TheVariants.{Index, Count}
 use Rattle.dk_endings.specs.declared.ending.Ending.{Ending}
 use Rattle.dk_endings.specs.declared.ending.Ending.TheVariants as ending
 use Rattle.dk_endings.specs.declared.ending.ImageFault.TheVariants as image
@@ -33,7 +35,8 @@ use Rattle.dk_top.specs.Simulation.{of_text, drive_of, IsModuleOf, IsVerilogFaul
 use Rattle.dk_top.specs.Verdict.{Files, bytes_of, IsSimAnswer}
 use Rattle.dk_top.specs.State.{NotesSim}
 use Rattle.dk_top.specs.Reading.{IsUnread, Stops}
-use Rattle.dk_top.specs.Simulating.{IsModuleEnding, IsFileEnding, IsInput, IsSimInput}
+use Rattle.dk_top.specs.Tracing.{trace_drive, IsTraceAnswer}
+use Rattle.dk_top.specs.Simulating.{IsModuleEnding, IsFileEnding, IsInput, IsInputEnding, IsSimInput}
 use Rattle.dk_top.proofs.SimLemmas.{OneModule, OneRounds, fits_some}
 
 -- no fault of a text is told as its length
@@ -83,7 +86,7 @@ unread_for None name m e h = tt
 unread_for (Some f) name m e h = unread_ending m (bytes_of f name) e h
 
 -- the text is not in order
-module_answer : (clocks : ℕ) (power : PowerUp) (hold : Option ℕ) (t file : List ℕ) (e : Ending) → Stops e → IsModuleEnding hold t e → IsSimAnswer (drive_of clocks power hold) t file e
+module_answer : (clocks : ℕ) (power : PowerUp) (hold : Option ℕ) (t file : List ℕ) (e : Ending) → Stops e → IsModuleEnding hold t e → IsInputEnding (drive_of clocks power hold) t file e
 module_answer clocks power hold t file (ending.Verilog f) stops h = h
 module_answer clocks power hold t file ending.ReadFault stops h = tt
 module_answer clocks power hold t file ending.Memory stops h = tt
@@ -96,12 +99,12 @@ module_answer clocks power hold t file (ending.Stopped f) stops h = absurd h
 module_answer clocks power hold t file (ending.Rejected f) stops h = absurd h
 
 pub module_told : (told : Option Files) (verilog image : List ℕ) (hold : Option ℕ) (e : Ending) → Stops e → IfSome told (λ f. IsModuleEnding hold (bytes_of f verilog) e)
-    → IfSome told (λ f. (clocks : ℕ) (power : PowerUp) → IsSimAnswer (drive_of clocks power hold) (bytes_of f verilog) (bytes_of f image) e)
+    → IfSome told (λ f. (clocks : ℕ) (power : PowerUp) → IsInputEnding (drive_of clocks power hold) (bytes_of f verilog) (bytes_of f image) e)
 module_told None verilog image hold e stops h = tt
 module_told (Some f) verilog image hold e stops h = λ clocks power. module_answer clocks power hold (bytes_of f verilog) (bytes_of f image) e stops h
 
 -- the file does not fit
-file_answer : (clocks : ℕ) (power : PowerUp) (hold : Option ℕ) (t file : List ℕ) (m : NamedNetlist) (e : Ending) → IsModuleOf hold t m → Stops e → IsFileEnding m file e → IsSimAnswer (drive_of clocks power hold) t file e
+file_answer : (clocks : ℕ) (power : PowerUp) (hold : Option ℕ) (t file : List ℕ) (m : NamedNetlist) (e : Ending) → IsModuleOf hold t m → Stops e → IsFileEnding m file e → IsInputEnding (drive_of clocks power hold) t file e
 file_answer clocks power hold t file m (ending.Image f) made stops h = record { m = m; made = made; unfit = h }
 file_answer clocks power hold t file m ending.ReadFault made stops h = tt
 file_answer clocks power hold t file m ending.Memory made stops h = tt
@@ -114,7 +117,7 @@ file_answer clocks power hold t file m (ending.Stopped f) made stops h = absurd 
 file_answer clocks power hold t file m (ending.Rejected f) made stops h = absurd h
 
 pub file_told : (told between : Option Files) (verilog image : List ℕ) (hold : Option ℕ) (m : NamedNetlist) (e : Ending) → between ≡ told → IfSome told (λ f. IsModuleOf hold (bytes_of f verilog) m) → Stops e → IfSome between (λ f. IsFileEnding m (bytes_of f image) e)
-    → IfSome told (λ f. (clocks : ℕ) (power : PowerUp) → IsSimAnswer (drive_of clocks power hold) (bytes_of f verilog) (bytes_of f image) e)
+    → IfSome told (λ f. (clocks : ℕ) (power : PowerUp) → IsInputEnding (drive_of clocks power hold) (bytes_of f verilog) (bytes_of f image) e)
 file_told None between verilog image hold m e same made stops h = tt
 file_told (Some f) between verilog image hold m e same made stops h = λ clocks power.
     let Fault : Option Files → Type 0 = λ o. IfSome o (λ g. IsFileEnding m (bytes_of g image) e) in
@@ -137,7 +140,7 @@ all_samples : (images : List (List Image)) → map (λ (fs : List Frame). map (�
 all_samples [] = refl
 all_samples (round ∷ images) = ap (λ x. x ∷ map (λ (fs : List Frame). map (λ (f : Frame). f.samples) fs) (map (map frame_of) images)) (frame_samples round) ∙ ap (λ rest. map (λ (i : Image). i.samples) round ∷ rest) (all_samples images)
 
-samples_same : (rounds : List Round) (images : List (List Image)) → frames_of rounds ≡ map (map frame_of) images → rounds_of rounds ≡ samples_of images
+pub samples_same : (rounds : List Round) (images : List (List Image)) → frames_of rounds ≡ map (map frame_of) images → rounds_of rounds ≡ samples_of images
 samples_same rounds images e = ap (λ fs. map (λ (x : List Frame). map (λ (f : Frame). f.samples) x) fs) e ∙ all_samples images
 
 module _ (drive : Drive) (m : NamedNetlist) (size : Size) (rounds : List Round) where
@@ -189,11 +192,42 @@ module _ (drive : Drive) (m : NamedNetlist) (size : Size) (rounds : List Round) 
       let fourth : IsShown m.netlist drive size (rounds_of rounds) pictures = subst (λ rs. IsShown m.netlist drive size rs pictures) (sym (samples_same rounds given.input.images given.input.frames)) third in
       shown_once m.netlist valuation next drive size (rounds_of rounds) pictures file fourth shown
 
+-- a text or a file that is not in order ends `sim`, and `trace`
+sim_ends : (drive : Drive) (t file : List ℕ) (e : Ending) → IsInputEnding drive t file e → IsSimAnswer drive t file e
+sim_ends drive t file (ending.Verilog f) h = h
+sim_ends drive t file (ending.Image f) h = h
+sim_ends drive t file ending.ReadFault h = tt
+sim_ends drive t file ending.Memory h = tt
+sim_ends drive t file ending.Done h = absurd h
+sim_ends drive t file ending.Usage h = absurd h
+sim_ends drive t file ending.WriteFault h = absurd h
+sim_ends drive t file (ending.Source f) h = absurd h
+sim_ends drive t file (ending.Stopped f) h = absurd h
+sim_ends drive t file (ending.Rejected f) h = absurd h
+
+pub trace_ends : (drive : Drive) (t file : List ℕ) (e : Ending) → IsInputEnding drive t file e → IsTraceAnswer drive t file e
+trace_ends drive t file (ending.Verilog f) h = h
+trace_ends drive t file (ending.Image f) h = h
+trace_ends drive t file ending.ReadFault h = tt
+trace_ends drive t file ending.Memory h = tt
+trace_ends drive t file ending.Done h = absurd h
+trace_ends drive t file ending.Usage h = absurd h
+trace_ends drive t file ending.WriteFault h = absurd h
+trace_ends drive t file (ending.Source f) h = absurd h
+trace_ends drive t file (ending.Stopped (Index clock array index)) h = absurd h
+trace_ends drive t file (ending.Stopped (Count shown wanted)) h = absurd h
+trace_ends drive t file (ending.Rejected f) h = absurd h
+
 -- an ending whatever clocks are asked for is that of these
-pub for_clocks : (told : Option Files) (verilog image : List ℕ) (clocks : ℕ) (power : PowerUp) (hold : Option ℕ) (e : Ending) → IfSome told (λ f. (n : ℕ) (p : PowerUp) → IsSimAnswer (drive_of n p hold) (bytes_of f verilog) (bytes_of f image) e)
+pub for_clocks : (told : Option Files) (verilog image : List ℕ) (clocks : ℕ) (power : PowerUp) (hold : Option ℕ) (e : Ending) → IfSome told (λ f. (n : ℕ) (p : PowerUp) → IsInputEnding (drive_of n p hold) (bytes_of f verilog) (bytes_of f image) e)
     → IfSome told (λ f. IsSimAnswer (drive_of clocks power hold) (bytes_of f verilog) (bytes_of f image) e)
 for_clocks None verilog image clocks power hold e h = tt
-for_clocks (Some f) verilog image clocks power hold e h = h clocks power
+for_clocks (Some f) verilog image clocks power hold e h = sim_ends (drive_of clocks power hold) (bytes_of f verilog) (bytes_of f image) e (h clocks power)
+
+pub for_trace : (told : Option Files) (verilog image : List ℕ) (clocks : ℕ) (e : Ending) → IfSome told (λ f. (n : ℕ) (p : PowerUp) → IsInputEnding (drive_of n p None) (bytes_of f verilog) (bytes_of f image) e)
+    → IfSome told (λ f. IsTraceAnswer (trace_drive clocks) (bytes_of f verilog) (bytes_of f image) e)
+for_trace None verilog image clocks e h = tt
+for_trace (Some f) verilog image clocks e h = trace_ends (trace_drive clocks) (bytes_of f verilog) (bytes_of f image) e (h clocks Zeros)
 
 -- what is said of any input of the drive's holds is said of the files
 pub of_input : (told : Option Files) (verilog image : List ℕ) (d drive : Drive) (m : NamedNetlist) (size : Size) (rounds : List Round) (P : Drive → (t i : List ℕ) → Type 0) → d ≡ drive → IfSome told (λ f. IsSimInput drive.hold (bytes_of f verilog) (bytes_of f image) m size rounds)

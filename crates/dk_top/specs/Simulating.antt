@@ -1,4 +1,4 @@
--- What `sim` reads, for the private functions.
+-- What `sim` and `trace` read, for the private functions.
 use Rattle.std.specs.Prelude.{◌≡◌, ℕ, List, map, Option, ⊤}
 use Rattle.dk_base.specs.Frames.{Size}
 use Rattle.netlist.specs.Names.{NamedNetlist}
@@ -7,7 +7,8 @@ use Rattle.pgm_rounds.specs.declared.round.Round.{Round}
 use Rattle.pgm_rounds.specs.Files.{frame_of, frames_of}
 use Rattle.dk_endings.specs.declared.ending.Ending.{Ending}
 use Rattle.dk_endings.specs.declared.ending.Ending.TheVariants as ending
-use Rattle.dk_top.specs.Simulation.{IsVerilogFault, IsFileFault, IsModuleOf, FitsModule}
+use Rattle.test_bench.specs.declared.drive.Drive.{Drive}
+use Rattle.dk_top.specs.Simulation.{IsVerilogFault, IsFileFault, IsUnfit, IsModuleOf, FitsModule}
 
 -- the ending of a Verilog text: its fault, or a failure
 abbrev pub IsModuleEnding : Option ℕ → List ℕ → Ending → Type 0
@@ -22,6 +23,14 @@ IsFileEnding m file (ending.Image fault) = IsFileFault m file fault
 IsFileEnding m file ending.ReadFault = ⊤
 IsFileEnding m file ending.Memory = ⊤
 IsFileEnding m file _ = ⊥
+
+-- the ending of a text and a file that are not in order
+abbrev pub IsInputEnding : Drive → (text file : List ℕ) → Ending → Type 0
+IsInputEnding drive text file (ending.Verilog fault) = IsVerilogFault drive.hold text fault
+IsInputEnding drive text file (ending.Image fault) = IsUnfit drive text file fault
+IsInputEnding drive text file ending.ReadFault = ⊤
+IsInputEnding drive text file ending.Memory = ⊤
+IsInputEnding drive text file _ = ⊥
 
 -- The file fits the module, with this size and with the frames of these rounds.
 pub record IsInput (m : NamedNetlist) (file : List ℕ) (size : Size) (rounds : List Round) : Type 0 where

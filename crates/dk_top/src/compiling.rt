@@ -20,7 +20,7 @@ use dk_words::CompileWords;
 use std::alloc::Global;
 
 /// What a text within its limit is compiled to.
-fn compiled(alloc: Global, text: &[u8], options: Options) -> Result<Compiled, Ending>
+pub fn compiled(alloc: Global, text: &[u8], options: Options) -> Result<Compiled, Ending>
     requires within { length text.now ≤ MAX_SOURCE_BYTES }
     requires age { options.age ≤ MAX_AGE }
     ensures compiled { IfOk result (IsCompiledFrom text.now options.age options.enable) }

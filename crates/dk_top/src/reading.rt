@@ -90,7 +90,7 @@ fn read_form(alloc: Global, text: &[u8]) -> Result<Ir, Ending>
 }
 
 /// The rounds of a file, for the programs of this form.
-fn read_frames(alloc: Global, ir: &Ir, file: &[u8]) -> Result<Vec<Round>, Ending>
+pub fn read_frames(alloc: Global, ir: &Ir, file: &[u8]) -> Result<Vec<Round>, Ending>
     ensures input { IfOk result (λ rounds. (most : Option ℕ) → IfSome most (λ n. length file.now ≤ n) → IsInputOf most ir.now file.now rounds.items) }
     ensures read { IfOk result (λ rounds. AreRead ir.now rounds.items) }
     ensures fault { IfErr result (λ e. (most : Option ℕ) → IfSome most (λ n. length file.now ≤ n) → (p : Typing) → IsForm p ir.now → IsImageEnding most p file.now e) }

@@ -30,7 +30,7 @@ use std::alloc::{AllocError, Global};
 use test_bench::{BenchFault, Drive, run_bench};
 
 /// The module that the Verilog text of a program stands for.
-fn read_again(alloc: Global, compiled: &Compiled) -> Result<Module, Memory>
+pub fn read_again(alloc: Global, compiled: &Compiled) -> Result<Module, Memory>
     requires { (source : List ℕ) × (age : ℕ) × IsCompiledFrom source age false compiled.now }
     ensures { IfOk result (λ m. m ≡ compiled.now.«module») }
 {
@@ -58,7 +58,7 @@ fn drive_of(size: FrameSize, latency: u64, rounds: usize) -> Drive
 }
 
 /// The file of the pictures that the module of a program shows, clocked over all rounds.
-fn clocked<D: Desk>(
+pub fn clocked<D: Desk>(
     alloc: Global,
     desk: &mut D,
     compiled: &Compiled,
@@ -87,10 +87,10 @@ fn clocked<D: Desk>(
 
 /// What `run` works on: what the program is compiled to, the module of its Verilog text, and the frames of the rounds.
 #[derive(Drop)]
-struct Ready {
-    compiled: Compiled,
-    module: Module,
-    rounds: Vec<Round>,
+pub struct Ready {
+    pub compiled: Compiled,
+    pub module: Module,
+    pub rounds: Vec<Round>,
 }
 
 /// The program, compiled, and the module that its Verilog text stands for.

@@ -1,4 +1,4 @@
-//! `sim`: any Verilog text of the subset is clocked on the images of a file.
+//! `sim`: any Verilog text of the subset is clocked on the images of a file. `trace` reads the same.
 
 ghost use Rattle.std.specs.Prelude.{◌≡◌, ◌≢◌, ◌≤◌, ◌<◌, ◌^◌, ℕ, List, Option, Some, None, Err, true, IsSome, IfOk, IfErr, IfSome, IfNone, OnOk, length, vec_len};
 ghost use Rattle.dk_base.specs.Frames.{IsFrame};
@@ -13,7 +13,7 @@ ghost use Rattle.dk_top.specs.Command.{sim as sim_command};
 ghost use Rattle.dk_top.specs.Simulation.{drive_of, fill_of as fill_named, IsModuleOf, LacksEnable, IsSimulated};
 ghost use Rattle.dk_top.specs.Verdict.{bytes_of, IsSimAnswer};
 ghost use Rattle.dk_top.specs.State.{AsksWhereModule, NotesSim};
-ghost use Rattle.dk_top.specs.Simulating.{IsModuleEnding, IsFileEnding, IsInput, IsSimInput};
+ghost use Rattle.dk_top.specs.Simulating.{IsModuleEnding, IsFileEnding, IsInput, IsInputEnding, IsSimInput};
 ghost use Rattle.dk_top.specs.Reading.{Stops};
 
 use crate::files::{read_file, read_input, write_file};
@@ -167,15 +167,15 @@ fn read_images<D: Desk>(
     rounds_for(alloc, module, &file)
 }
 
-/// What `sim` works on: a module, and the images that it is driven with.
+/// What `sim` and `trace` work on: a module, and the images that it is driven with.
 #[derive(Drop)]
-struct SimInput {
-    module: Module,
-    input: BenchInput,
+pub struct SimInput {
+    pub module: Module,
+    pub input: BenchInput,
 }
 
 /// Reads and judges the Verilog text, and then the file of images.
-fn read_all<D: Desk>(
+pub fn read_all<D: Desk>(
     alloc: Global,
     desk: &mut D,
     verilog: &str,
@@ -189,7 +189,7 @@ fn read_all<D: Desk>(
     ensures input { IfOk result (λ given. IfSome (D.outside desk.old).files (λ files. IsSimInput hold (bytes_of files verilog.now) (bytes_of files image.now) given.«module» (size_of given.input.size) given.input.rounds.items)) }
     ensures frame { IfOk result (λ given. IsFrame given.input.size.width given.input.size.height) }
     ensures frames { IfOk result (λ given. AreBenchFrames (din_widths given.«module».netlist) (size_of given.input.size) given.input.rounds.items) }
-    ensures fault { IfErr result (λ e. IfSome (D.outside desk.old).files (λ files. (clocks : ℕ) (power : OnePower) → IsSimAnswer (drive_of clocks power hold) (bytes_of files verilog.now) (bytes_of files image.now) e)) }
+    ensures fault { IfErr result (λ e. IfSome (D.outside desk.old).files (λ files. (clocks : ℕ) (power : OnePower) → IsInputEnding (drive_of clocks power hold) (bytes_of files verilog.now) (bytes_of files image.now) e)) }
     ensures stops { IfErr result Stops }
     ensures program_name { (D.outside desk.new).program.stage ≢ Stage.Unasked → IsIfTold (D.outside desk.new).program.name (Some verilog.now) }
     ensures image_name { (D.outside desk.new).image.stage ≢ Stage.Unasked → IsIfTold (D.outside desk.new).image.name (Some image.now) }
@@ -217,14 +217,14 @@ fn fill_of(power: PowerUp) -> Fill
 }
 
 /// How the words drive a module.
-fn drive_for(words: &SimWords) -> Drive
-    ensures is { result ≡ drive_of words.now.clocks words.now.fill words.now.hold }
+pub fn drive_for(clocks: u32, fill: PowerUp, hold: Option<u32>) -> Drive
+    ensures is { result ≡ drive_of clocks fill hold }
     ensures few { result.clocks < 2 ^ 60 }
 {
     Drive {
-        clocks: u64::from(words.clocks),
-        fill: fill_of(words.fill),
-        hold: words.hold,
+        clocks: u64::from(clocks),
+        fill: fill_of(fill),
+        hold,
     }
 }
 
@@ -274,7 +274,8 @@ impl Work for SimWords<'_> {
             Ok(given) => given,
             Err(ending) => return ending,
         };
-        let output = match pictures(alloc, desk, &given, drive_for(self)) {
+        let drive = drive_for(self.clocks, self.fill, self.hold);
+        let output = match pictures(alloc, desk, &given, drive) {
             Ok(output) => output,
             Err(ending) => return ending,
         };

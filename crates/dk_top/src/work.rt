@@ -4,7 +4,7 @@ ghost use Rattle.std.specs.Prelude.{◌≡◌, ◌≢◌, Some, IfSome};
 ghost use Rattle.dk_desk.specs.Outside.{Outside};
 ghost use Rattle.dk_desk.specs.Calls.{HasCauseIn};
 ghost use Rattle.dk_top.specs.Command.{Command, IsInRange};
-ghost use Rattle.dk_top.specs.Verdict.{IsVerdict};
+ghost use Rattle.dk_top.specs.Verdict.{OnFiles, IsVerdict};
 ghost use Rattle.dk_top.specs.State.{IsFresh, AsksOnly, AsksInOrder, CreatesNothing, CreatesOut, FilesStay, IsHeld, IsNoted, IsReported, WritesNothing};
 
 use dk_desk::{Desk, Stage};
@@ -21,17 +21,17 @@ pub trait Work {
         requires ranges { IsInRange (command self.now) }
         requires fresh { IsFresh (D.outside desk.old) }
         ensures taken { result ≢ Ending.Usage }
-        ensures verdict { IfSome (D.outside desk.old).files (λ files. IsVerdict (command self.now) files result) }
+        ensures verdict { OnFiles (command self.now) (D.outside desk.old).files (λ files. IsVerdict (command self.now) files result) }
         ensures asked { AsksOnly (Some (command self.now)) (D.outside desk.new) }
         ensures order { IfSome (D.outside desk.old).files (λ files. AsksInOrder (command self.now) files (D.outside desk.new)) }
-        ensures created { CreatesNothing result → (D.outside desk.new).file.stage ≡ Stage.Unasked }
+        ensures created { CreatesNothing (Some (command self.now)) result → (D.outside desk.new).file.stage ≡ Stage.Unasked }
         ensures written { result ≡ Ending.Done → CreatesOut (Some (command self.now)) (D.outside desk.new) }
         ensures output { (D.outside desk.new).file.stage ≡ Stage.Open → IfSome (D.outside desk.old).files (λ files. IfSome (D.outside desk.new).file.bytes (IsHeld result (command self.now) files)) }
         ensures files { FilesStay (Some (command self.now)) (D.outside desk.old).files (D.outside desk.new).files }
         ensures files_stay { (D.outside desk.new).file.stage ≢ Stage.Open → (D.outside desk.new).files ≡ (D.outside desk.old).files }
         ensures report_stays { WritesNothing (Some (command self.now)) result → (D.outside desk.new).report ≡ (D.outside desk.old).report }
-        ensures report { IfSome (D.outside desk.old).files (λ files. IsReported result (command self.now) files (D.outside desk.old).report (D.outside desk.new).report) }
-        ensures notes { IfSome (D.outside desk.old).files (λ files. IsNoted (command self.now) result files (D.outside desk.old).notes (D.outside desk.new).notes) }
+        ensures report { OnFiles (command self.now) (D.outside desk.old).files (λ files. IsReported result (command self.now) files (D.outside desk.old).report (D.outside desk.new).report) }
+        ensures notes { OnFiles (command self.now) (D.outside desk.old).files (λ files. IsNoted (command self.now) result files (D.outside desk.old).notes (D.outside desk.new).notes) }
         ensures fault { (D.outside desk.new).fault ≡ (D.outside desk.old).fault }
         ensures fault_count { (D.outside desk.new).fault_failures ≡ (D.outside desk.old).fault_failures }
         ensures read_fault { HasCauseIn (result ≡ Ending.ReadFault) (D.outside desk.old).input_failures (D.outside desk.new).input_failures }

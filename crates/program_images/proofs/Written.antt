@@ -23,7 +23,7 @@ use Rattle.program_images.specs.Outputs.{output_images}
 use Rattle.program_images.specs.Writing.{IsOutputFrame, AreOutputFrames, image_with, images_with}
 
 -- the greatest number of a port's type
-greatest_small : (n : ℕ) → n ≤ 16 → 2 ^ n - 1 < 65536
+pub greatest_small : (n : ℕ) → n ≤ 16 → 2 ^ n - 1 < 65536
 greatest_small n l = let top : 2 ^ n ≤ 2 ^ 16 = pow_mono l in let some : 0 < 2 ^ n = pow_pos n in omega (arith, top, some)
 
 small_fits : (m : ℕ) → m < 65536 → SFits w128 (pos m)
@@ -42,7 +42,7 @@ greatest_port (Signed n) z port e = absurd port
 same_type : (types : List Ty) (g : ℕ) (s t : Ty) → slice_get types g ≡ Some s → slice_get types g ≡ Some t → s ≡ t
 same_type types g s t a b = sym (get_or_from_slice_get types g s s a) ∙ get_or_from_slice_get types g t s b
 
-bits_are : (types : List Ty) (g : ℕ) (t : Ty) → slice_get types g ≡ Some t → width_of t ≡ bits_of types g
+pub bits_are : (types : List Ty) (g : ℕ) (t : Ty) → slice_get types g ≡ Some t → width_of t ≡ bits_of types g
 bits_are types g t e = ap (λ x. width_of x) (sym (get_or_from_slice_get types g t (Unsigned 0) e))
 
 pub greatest_output : (types : List Ty) (g : ℕ) (t : Ty) (z : ℤ) → IsOutput types g → slice_get types g ≡ Some t → z ≡ greatest_of t → unsigned_abs (to_z w128 (of_z w128 z)) ≡ 2 ^ bits_of types g - 1
@@ -50,7 +50,7 @@ greatest_output types g t z o there e =
     let port : IsPort t = subst (λ x. IsPort x) (same_type types g o.ty t o.there there) o.port in
     greatest_port t z port e ∙ ap (λ n. 2 ^ n - 1) (bits_are types g t there)
 
-port_some : (t : Ty) → IsPort t → 0 < 2 ^ width_of t - 1
+pub port_some : (t : Ty) → IsPort t → 0 < 2 ^ width_of t - 1
 port_some (Unsigned n) port = let one : 2 ^ 1 ≤ 2 ^ n = pow_mono port.0 in omega (arith, one)
 port_some (Signed n) port = absurd port
 
@@ -104,7 +104,7 @@ in_port (Unsigned n) (pos m) port i = let l = i.greatest in omega (arith, ints, 
 in_port (Unsigned n) (negsuc m) port i = let l = i.least in absurd (omega (arith, ints, l))
 in_port (Signed n) v port i = absurd port
 
-raster_bounded : (size : Size) (t : Ty) (picture : Picture) → IsPort t → ((x y : ℤ) → IsIn t (picture x y)) → AllByRecursion (λ s. s ≤ 2 ^ width_of t - 1) (raster size picture)
+pub raster_bounded : (size : Size) (t : Ty) (picture : Picture) → IsPort t → ((x y : ℤ) → IsIn t (picture x y)) → AllByRecursion (λ s. s ≤ 2 ^ width_of t - 1) (raster size picture)
 unfolding raster
 raster_bounded size t picture port values =
     flat_mapped (λ s. s ≤ 2 ^ width_of t - 1) (λ y. map (λ x. unsigned_abs (picture (pos x) (pos y))) (range_with_len 0 size.width)) (range_with_len 0 size.height)

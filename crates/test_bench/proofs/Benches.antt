@@ -18,23 +18,23 @@ use Rattle.test_bench.specs.Stimulus.{Rounds, stimulus}
 use Rattle.test_bench.specs.Showing.{IsRun, HasShown, IsShown, IsNoted, images_shown, notes_of}
 use Rattle.test_bench.specs.Stops.{StopsAtClock, ShowsOthers, IsStop}
 
-abbrev OneRun : Type 0
+abbrev pub OneRun : Type 0
 OneRun = (m : Netlist) → HasOneSnapshot m → HasOneNext m → (from : Contents) (clocks : List Clock) (shots other : List Snapshot) (to end : Contents) → HasPlaces m from → Runs m from clocks shots to → Runs m from clocks other end → (shots ≡ other) × (to ≡ end)
 
-abbrev OneStop : Type 0
+abbrev pub OneStop : Type 0
 OneStop = (m : Netlist) → HasOneSnapshot m → HasOneNext m → (from : Contents) (clocks : List Clock) (shots other : List Snapshot) (x i y j : ℕ) → HasPlaces m from → RunStops m from clocks shots x i → RunStops m from clocks other y j → (shots ≡ other) × (x ≡ y) × (i ≡ j)
 
-abbrev Apart : Type 0
+abbrev pub Apart : Type 0
 Apart = (m : Netlist) → HasOneSnapshot m → HasOneNext m → (from : Contents) (clocks : List Clock) (shots other : List Snapshot) (to : Contents) (x i : ℕ) → HasPlaces m from → Runs m from clocks shots to → RunStops m from clocks other x i → ⊥
 
-places : (fill : Fill) (m : Netlist) → HasPlaces m (filled_contents fill m)
+pub places : (fill : Fill) (m : Netlist) → HasPlaces m (filled_contents fill m)
 places fill m = record { regs = length-map m.regs (fill_value fill); arrays = length-map m.arrays (filled_words fill) }
 
 either : (k l : ℕ) → (k ≡ l) ⊎ ((k < l) ⊎ (l < k))
 either k l = grind arith
 
 module _ (m : Netlist) (one_shot : HasOneSnapshot m) (one_next : HasOneNext m) (drive : Drive) (rounds : Rounds) where
-  same_shots : OneRun → (shots other : List Snapshot) → IsRun m drive rounds shots → IsRun m drive rounds other → shots ≡ other
+  pub same_shots : OneRun → (shots other : List Snapshot) → IsRun m drive rounds shots → IsRun m drive rounds other → shots ≡ other
   same_shots one shots other a b = (one m one_shot one_next (filled_contents drive.fill m) (stimulus drive (din_widths m) rounds) shots other a.to b.to (places drive.fill m) a.runs b.runs).0
 
   pub one_file : OneRun → (size : Size) (a b : List ℕ) → IsShown m drive size rounds a → IsShown m drive size rounds b → a ≡ b
@@ -43,7 +43,7 @@ module _ (m : Netlist) (one_shot : HasOneSnapshot m) (one_next : HasOneNext m) (
   pub one_notes : OneRun → (a b : List (Bool × ℕ)) → IsNoted m drive rounds a → IsNoted m drive rounds b → a ≡ b
   one_notes one a b x y = x.notes_are ∙ ap (λ z. notes_of m z) (same_shots one x.shots y.shots x.run y.run) ∙ sym y.notes_are
 
-  not_both : Apart → (shots : List Snapshot) → IsRun m drive rounds shots → (clock : ℤ) (array index : ℕ) → StopsAtClock m drive rounds clock array index → ⊥
+  pub not_both : Apart → (shots : List Snapshot) → IsRun m drive rounds shots → (clock : ℤ) (array index : ℕ) → StopsAtClock m drive rounds clock array index → ⊥
   not_both apart shots x clock array index y = apart m one_shot one_next (filled_contents drive.fill m) (stimulus drive (din_widths m) rounds) shots y.shots x.to array index (places drive.fill m) x.runs y.stops
 
   same_index : OneStop → (c d : ℤ) (a i b j : ℕ) → StopsAtClock m drive rounds c a i → StopsAtClock m drive rounds d b j → Index c a i ≡ Index d b j

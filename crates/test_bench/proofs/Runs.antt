@@ -44,19 +44,19 @@ go_none None = tt
 go_none (Some l) = ap (λ z. Some z) (append-nil l)
 
 module _ (m : Netlist) where
-  runs_join : (cs ds : List Clock) (from mid to : Contents) (shots more : List Snapshot) → Runs m from cs shots mid → Runs m mid ds more to → Runs m from (cs ++ ds) (shots ++ more) to
+  pub runs_join : (cs ds : List Clock) (from mid to : Contents) (shots more : List Snapshot) → Runs m from cs shots mid → Runs m mid ds more to → Runs m from (cs ++ ds) (shots ++ more) to
   runs_join [] ds from mid to [] more h g = subst (λ (x : Contents). Runs m x ds more to) (sym h) g
   runs_join [] ds from mid to (t ∷ shots) more h g = absurd h
   runs_join (c ∷ cs) ds from mid to [] more h g = absurd h
   runs_join (c ∷ cs) ds from mid to (t ∷ shots) more h g = (h.0, h.1, runs_join cs ds h.0 mid to shots more h.2 g)
 
-  stop_join : (cs ds : List Clock) (from mid : Contents) (shots more : List Snapshot) (x i : ℕ) → Runs m from cs shots mid → RunStops m mid ds more x i → RunStops m from (cs ++ ds) (shots ++ more) x i
+  pub stop_join : (cs ds : List Clock) (from mid : Contents) (shots more : List Snapshot) (x i : ℕ) → Runs m from cs shots mid → RunStops m mid ds more x i → RunStops m from (cs ++ ds) (shots ++ more) x i
   stop_join [] ds from mid [] more x i h g = subst (λ (y : Contents). RunStops m y ds more x i) (sym h) g
   stop_join [] ds from mid (t ∷ shots) more x i h g = absurd h
   stop_join (d ∷ cs) ds from mid [] more x i h g = absurd h
   stop_join (d ∷ cs) ds from mid (t ∷ shots) more x i h g = (h.0, h.1, stop_join cs ds h.0 mid shots more x i h.2 g)
 
-  stop_more : (cs rest : List Clock) (from : Contents) (shots : List Snapshot) (x i : ℕ) → RunStops m from cs shots x i → RunStops m from (cs ++ rest) shots x i
+  pub stop_more : (cs rest : List Clock) (from : Contents) (shots : List Snapshot) (x i : ℕ) → RunStops m from cs shots x i → RunStops m from (cs ++ rest) shots x i
   stop_more [] rest from shots x i h = absurd h
   stop_more (c ∷ cs) rest from [] x i h = h
   stop_more (c ∷ cs) rest from (s ∷ shots) x i h = (h.0, h.1, stop_more cs rest h.0 shots x i h.2)

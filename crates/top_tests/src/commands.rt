@@ -12,7 +12,7 @@ use std::collections::BTreeMap;
 use std::test::Fail;
 
 /// A number that no call reaches.
-const NONE: u64 = u64::MAX;
+pub const NONE: u64 = u64::MAX;
 
 const TOGGLE: &[u8] = b"module m(input clk, input rst, input din, output valid, output dout);
   wire n0;
@@ -35,7 +35,7 @@ const COPY: &[u8] = b"size 4 1 input a : u8 output a";
 const MEAN: &[u8] =
     b"size 4 1 input a : u8 let f = im(x,y) ((a(x-1,y)+a(x,y)+a(x+1,y))/3) as u8 end output f";
 
-fn words(alloc: Global, line: &str) -> Result<Vec<String>, Memory> {
+pub fn words(alloc: Global, line: &str) -> Result<Vec<String>, Memory> {
     let mut words = Vec::new(alloc);
     for word in line.split(' ') {
         words.push(word.to_string(alloc)?)?;
@@ -44,7 +44,7 @@ fn words(alloc: Global, line: &str) -> Result<Vec<String>, Memory> {
 }
 
 /// A desk with the files `first` and `second`, on which the call of this number fails, and which takes and gives pieces of so many bytes.
-fn desk(
+pub fn desk(
     alloc: Global,
     first: &[u8],
     second: &[u8],
@@ -164,6 +164,51 @@ fn runs_the_text_that_it_compiles(rt: HostRuntime) -> Result<(), Fail> {
         let sim = called(alloc, &line, &compiled.file, image)?;
         assert_eq!(rt; (sim.status, sim.file.as_slice()), (0, wanted));
         assert_eq!(rt; sim.notes.as_slice(), run.notes.as_slice());
+    }
+    Ok(())
+}
+
+/// The line and the number of notes of made programs: one note for each pixel and each clock of the latency, and one for the reset clock.
+#[test]
+fn made_programs_are_summed(rt: HostRuntime) -> Result<(), Fail> {
+    let alloc = rt.alloc();
+    let cases: [(&str, &[u8], usize); 3] = [
+        (
+            "dk make 0",
+            b"make 0: size 1 1 images 1 reads 1 bits 0 latency 0 sum 35\n",
+            2,
+        ),
+        (
+            "dk make 1",
+            b"make 1: size 2 1 images 1 reads 0 bits 0 latency 0 sum 0\n",
+            3,
+        ),
+        (
+            "dk make 3",
+            b"make 3: size 4 1 images 1 reads 1 bits 8 latency 0 sum 0\n",
+            5,
+        ),
+    ];
+    for (line, wanted, notes) in cases {
+        let words = words(alloc, line)?;
+        let mut desk = desk(alloc, COPY, FOUR_ZEROS, NONE, 4096)?;
+        assert_eq!(rt; dk_main(alloc, &words, &mut desk).status(), 0);
+        assert_eq!(rt; desk.report(), wanted, "at {line}");
+        assert_eq!(rt; desk.notes().unwrap_or_default().len(), notes, "at {line}");
+    }
+    Ok(())
+}
+
+/// Where a write of the line fails, Report holds the pieces before it.
+#[test]
+fn a_line_may_break_off(rt: HostRuntime) -> Result<(), Fail> {
+    let alloc = rt.alloc();
+    let words = words(alloc, "dk make 0")?;
+    let cases: [(u64, &[u8]); 2] = [(0, b""), (2, b"make 0: size 1 1")];
+    for (failing, wanted) in cases {
+        let mut desk = desk(alloc, COPY, FOUR_ZEROS, failing, 8)?;
+        assert_eq!(rt; dk_main(alloc, &words, &mut desk).status(), 8);
+        assert_eq!(rt; desk.report(), wanted);
     }
     Ok(())
 }

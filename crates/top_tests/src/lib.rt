@@ -5,3 +5,5 @@
 mod commands;
 #[cfg(test)]
 mod pictures;
+#[cfg(test)]
+mod traces;

@@ -9,11 +9,12 @@ use Rattle.dk_desk.proofs.DeskLemmas.{Adds-nothing, Adds-more}
 use Rattle.wiring.specs.Netlist.{Netlist}
 use Rattle.wiring.specs.Snapshot.{Contents, Snapshot}
 use Rattle.wiring.specs.Clock.{Clock, given, Steps, Stops}
-use Rattle.wiring.specs.Runs.{Runs, RunStops}
+use Rattle.wiring.specs.Runs.{Runs}
 use Rattle.cycle_sim.specs.Slots.{all_values}
 use Rattle.vcd_trace.specs.Told.{Told, clock_text}
 use Rattle.test_bench.specs.declared.stop.Stop.TheVariants.{Index, Count}
 use Rattle.test_bench.proofs.Runs.{runs_length}
+use Rattle.test_bench.proofs.Runs.{runs_join, stop_join, stop_more}
 use Rattle.trace_bench.specs.declared.ending.TraceEnd.{TraceEnd}
 use Rattle.trace_bench.specs.declared.ending.TraceEnd.TheVariants.{Stopped, Write}
 use Rattle.trace_bench.specs.Traces.{values_of, FailsBehind}
@@ -74,23 +75,6 @@ fails_one m c from to told before now s values e step h = record {
 -- ---- clocks behind clocks
 
 module _ (m : Netlist) where
-  runs_join : (cs ds : List Clock) (from mid to : Contents) (shots more : List Snapshot) → Runs m from cs shots mid → Runs m mid ds more to → Runs m from (cs ++ ds) (shots ++ more) to
-  runs_join [] ds from mid to [] more h g = subst (λ (x : Contents). Runs m x ds more to) (sym h) g
-  runs_join [] ds from mid to (t ∷ shots) more h g = absurd h
-  runs_join (c ∷ cs) ds from mid to [] more h g = absurd h
-  runs_join (c ∷ cs) ds from mid to (t ∷ shots) more h g = (h.0, h.1, runs_join cs ds h.0 mid to shots more h.2 g)
-
-  stop_join : (cs ds : List Clock) (from mid : Contents) (shots more : List Snapshot) (x i : ℕ) → Runs m from cs shots mid → RunStops m mid ds more x i → RunStops m from (cs ++ ds) (shots ++ more) x i
-  stop_join [] ds from mid [] more x i h g = subst (λ (y : Contents). RunStops m y ds more x i) (sym h) g
-  stop_join [] ds from mid (t ∷ shots) more x i h g = absurd h
-  stop_join (d ∷ cs) ds from mid [] more x i h g = absurd h
-  stop_join (d ∷ cs) ds from mid (t ∷ shots) more x i h g = (h.0, h.1, stop_join cs ds h.0 mid shots more x i h.2 g)
-
-  stop_more : (cs rest : List Clock) (from : Contents) (shots : List Snapshot) (x i : ℕ) → RunStops m from cs shots x i → RunStops m from (cs ++ rest) shots x i
-  stop_more [] rest from shots x i h = absurd h
-  stop_more (c ∷ cs) rest from [] x i h = h
-  stop_more (c ∷ cs) rest from (s ∷ shots) x i h = (h.0, h.1, stop_more cs rest h.0 shots x i h.2)
-
   pub goes_none : (at : Contents) (told : Told) (o : Outside) → Goes m [] at at told told o o
   goes_none at told o = record { shots = []; runs = refl; told_is = refl; adds = Adds-nothing File o }
 
@@ -103,7 +87,7 @@ module _ (m : Netlist) where
     pub goes_join : (to : Contents) (next : Told) → Goes m cs from mid told between before half → Goes m ds mid to between next half now → Goes m (cs ++ ds) from to told next before now
     goes_join to next h g = record {
       shots = h.shots ++ g.shots;
-      runs = runs_join cs ds from mid to h.shots g.shots h.runs g.runs;
+      runs = runs_join m cs ds from mid to h.shots g.shots h.runs g.runs;
       told_is = g.told_is ∙ ap (λ t. told_after t (values_of g.shots)) h.told_is ∙ sym (after_append told (values_of h.shots) (values_of g.shots)) ∙ ap (λ z. told_after told z) (sym (values_append h.shots g.shots));
       adds = subst (λ z. AddsToFile before z now) (texts_join h g.shots) (Adds-more File before half now (clocks_text told (values_of h.shots)) (clocks_text between (values_of g.shots)) h.adds g.adds);
     }
@@ -111,7 +95,7 @@ module _ (m : Netlist) where
     stops_later : (clock : Rattle.std.specs.Prelude.ℤ) (array index : ℕ) → Goes m cs from mid told between before half → StopsIn m ds mid between clock array index half now → StopsIn m (cs ++ ds) from told clock array index before now
     stops_later clock array index h g = record {
       shots = h.shots ++ g.shots;
-      stops = stop_join cs ds from mid h.shots g.shots array index h.runs g.stops;
+      stops = stop_join m cs ds from mid h.shots g.shots array index h.runs g.stops;
       clock_is = g.clock_is ∙ ap (λ n. pos n -ℤ pos 1)
           (let e : between.time + length g.shots ≡ told.time + length (h.shots ++ g.shots) = omega (arith, ap (λ (t : Told). t.time) h.told_is, time_after told (values_of h.shots), values_count h.shots, length-append h.shots g.shots) in e);
       adds = subst (λ z. AddsToFile before z now) (texts_join h g.shots) (Adds-more File before half now (clocks_text told (values_of h.shots)) (clocks_text between (values_of g.shots)) h.adds g.adds);
@@ -128,7 +112,7 @@ module _ (m : Netlist) where
           runs = subst (λ n. Runs m from (take n (cs ++ ds)) ((h.shots ++ g.shots) ++ g.last ∷ []) g.to) (sym count)
               (subst (λ z. Runs m from z ((h.shots ++ g.shots) ++ g.last ∷ []) g.to) (sym (take-append-add cs ds (length g.shots + 1)))
               (subst (λ z. Runs m from (cs ++ take (length g.shots + 1) ds) z g.to) (sym (append_assoc h.shots g.shots (g.last ∷ [])))
-              (runs_join cs (take (length g.shots + 1) ds) from mid g.to h.shots (g.shots ++ g.last ∷ []) h.runs g.runs)));
+              (runs_join m cs (take (length g.shots + 1) ds) from mid g.to h.shots (g.shots ++ g.last ∷ []) h.runs g.runs)));
           fails = subst (λ z. FailsBehind (clocks_text told (values_of (h.shots ++ g.shots))) z before now) (texts_join h (g.shots ++ g.last ∷ []) ∙ ap (λ z. clocks_text told (values_of z)) (sym (append_assoc h.shots g.shots (g.last ∷ []))))
               (subst (λ z. FailsBehind z (clocks_text told (values_of h.shots) ++ clocks_text between (values_of (g.shots ++ g.last ∷ []))) before now) (texts_join h g.shots)
               (fails_later before half now (clocks_text told (values_of h.shots)) (clocks_text between (values_of g.shots)) (clocks_text between (values_of (g.shots ++ g.last ∷ []))) h.adds g.fails));
@@ -142,7 +126,7 @@ module _ (m : Netlist) where
 
   -- and more clocks behind
   pub ends_more : (cs rest : List Clock) (from : Contents) (told : Told) (end : TraceEnd) (before now : Outside) → EndsIn m cs from told end before now → EndsIn m (cs ++ rest) from told end before now
-  ends_more cs rest from told (Stopped (Index clock array index)) before now h = record { shots = h.shots; stops = stop_more cs rest from h.shots array index h.stops; clock_is = h.clock_is; adds = h.adds }
+  ends_more cs rest from told (Stopped (Index clock array index)) before now h = record { shots = h.shots; stops = stop_more m cs rest from h.shots array index h.stops; clock_is = h.clock_is; adds = h.adds }
   ends_more cs rest from told (Stopped (Count shown wanted)) before now h = absurd h
   ends_more cs rest from told Write before now h = record {
     shots = h.shots;

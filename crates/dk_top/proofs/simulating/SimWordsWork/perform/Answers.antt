@@ -16,16 +16,16 @@ pub returns-in-Err-pictures-clause-verdict : goal.returns-in-Err-pictures-clause
 returns-in-Err-pictures-clause-verdict g c =
     let w = c.args.self.now in
     let given = c.in-Ok.given in
-    let d : Drive = c.drive_for.result in
-    let same : d ≡ drive_of w.clocks w.fill w.hold = c.drive_for.ensures.is in
+    let d : Drive = c.drive_for-drive.result in
+    let same : d ≡ drive_of w.clocks w.fill w.hold = c.drive_for-drive.ensures.is in
     of_input _ w.verilog.now w.image.now d (drive_of w.clocks w.fill w.hold) given.module (size_of given.input.size) given.input.rounds.items (λ x t i. IsSimAnswer x t i c.in-Err-pictures.ending) same c.in-Ok.ensures.input c.in-Err-pictures.ensures.fault
 
 pub returns-in-Ok-write_file-clause-verdict : goal.returns-in-Ok-write_file-clause-verdict
 returns-in-Ok-write_file-clause-verdict g c =
     let w = c.args.self.now in
     let given = c.in-Ok.given in
-    let d : Drive = c.drive_for.result in
-    let same : d ≡ drive_of w.clocks w.fill w.hold = c.drive_for.ensures.is in
+    let d : Drive = c.drive_for-drive.result in
+    let same : d ≡ drive_of w.clocks w.fill w.hold = c.drive_for-drive.ensures.is in
     of_input _ w.verilog.now w.image.now d (drive_of w.clocks w.fill w.hold) given.module (size_of given.input.size) given.input.rounds.items (λ x t i. IsSimAnswer x t i ending.Done) same c.in-Ok.ensures.input
     (λ t i is. (c.in-Ok-pictures.output.items, c.in-Ok-pictures.ensures.file t i is))
 
@@ -33,8 +33,8 @@ pub returns-in-Ok-write_file-clause-output : goal.returns-in-Ok-write_file-claus
 returns-in-Ok-write_file-clause-output g c = λ opened.
     let w = c.args.self.now in
     let given = c.in-Ok.given in
-    let d : Drive = c.drive_for.result in
-    let same : d ≡ drive_of w.clocks w.fill w.hold = c.drive_for.ensures.is in
+    let d : Drive = c.drive_for-drive.result in
+    let same : d ≡ drive_of w.clocks w.fill w.hold = c.drive_for-drive.ensures.is in
     held_sim _ w.verilog.now w.image.now d (drive_of w.clocks w.fill w.hold) given.module (size_of given.input.size) given.input.rounds.items _ c.in-Ok-pictures.output.items (λ written whole. written ≡ whole) same c.in-Ok.ensures.input c.in-Ok-pictures.ensures.only_file
     (subst (λ bytes. IfSome (g.D.Desk.outside c.write_file.new.desk).file.bytes (λ written. written ≡ bytes)) c.deref.ensures.value c.in-Ok-write_file.ensures.whole)
 
@@ -43,8 +43,8 @@ returns-in-Ok-write_file-clause-notes g c =
     let outside = g.D.Desk.outside in
     let w = c.args.self.now in
     let given = c.in-Ok.given in
-    let d : Drive = c.drive_for.result in
-    let same : d ≡ drive_of w.clocks w.fill w.hold = c.drive_for.ensures.is in
+    let d : Drive = c.drive_for-drive.result in
+    let same : d ≡ drive_of w.clocks w.fill w.hold = c.drive_for-drive.ensures.is in
     let before : (outside c.read_all.new.desk).notes ≡ (outside c.args.desk.now).notes = ap (λ (o : Outside). o.notes) c.in-Ok.ensures.only in
     let after : (outside c.write_file.new.desk).notes ≡ (outside c.pictures.new.desk).notes = ap (λ (o : Outside). o.notes) c.in-Ok-write_file.ensures.only in
     of_input _ w.verilog.now w.image.now d (drive_of w.clocks w.fill w.hold) given.module (size_of given.input.size) given.input.rounds.items (λ x t i. NotesSim x t i (outside c.args.desk.now).notes (outside c.write_file.new.desk).notes) same c.in-Ok.ensures.input
@@ -54,8 +54,8 @@ pub returns-clause-verdict : goal.returns-clause-verdict
 returns-clause-verdict g c =
     let w = c.args.self.now in
     let given = c.in-Ok.given in
-    let d : Drive = c.drive_for.result in
-    let same : d ≡ drive_of w.clocks w.fill w.hold = c.drive_for.ensures.is in
+    let d : Drive = c.drive_for-drive.result in
+    let same : d ≡ drive_of w.clocks w.fill w.hold = c.drive_for-drive.ensures.is in
     of_input _ w.verilog.now w.image.now d (drive_of w.clocks w.fill w.hold) given.module (size_of given.input.size) given.input.rounds.items (λ x t i. IsSimAnswer x t i ending.WriteFault) same c.in-Ok.ensures.input
     (λ t i is. (c.in-Ok-pictures.output.items, c.in-Ok-pictures.ensures.file t i is))
 
@@ -63,7 +63,7 @@ pub returns-clause-output : goal.returns-clause-output
 returns-clause-output g c = λ opened.
     let w = c.args.self.now in
     let given = c.in-Ok.given in
-    let d : Drive = c.drive_for.result in
-    let same : d ≡ drive_of w.clocks w.fill w.hold = c.drive_for.ensures.is in
+    let d : Drive = c.drive_for-drive.result in
+    let same : d ≡ drive_of w.clocks w.fill w.hold = c.drive_for-drive.ensures.is in
     held_sim _ w.verilog.now w.image.now d (drive_of w.clocks w.fill w.hold) given.module (size_of given.input.size) given.input.rounds.items _ c.in-Ok-pictures.output.items IsPrefix same c.in-Ok.ensures.input c.in-Ok-pictures.ensures.only_file
     (subst (λ bytes. IfSome (g.D.Desk.outside c.write_file.new.desk).file.bytes (λ written. IsPrefix written bytes)) c.deref.ensures.value (c.in-Err-write_file.ensures.prefix opened))

@@ -1,0 +1,35 @@
+-- What is told of a made program: it is compiled, and clocked on its image.
+use Rattle.std.specs.Prelude.{◌≡◌, ℕ, ◌-◌, Bool, false, List, length, map, Option}
+use Rattle.std.specs.List.{sum}
+use Rattle.dk_types.specs.Typed.{Typing}
+use Rattle.buffer_plan.specs.Plans.{bits_of, latency}
+use Rattle.pgm_codec.specs.Images.{Picture as Image}
+use Rattle.pgm_rounds.specs.Files.{FitsFile}
+use Rattle.made_program.specs.Programs.{program_of}
+use Rattle.made_program.specs.Images.{image_of}
+use Rattle.made_program.specs.Summary.{summary}
+use Rattle.dk_compile.specs.declared.compiling.Compiled.{Compiled}
+use Rattle.dk_top.specs.Program.{ports}
+use Rattle.dk_top.specs.Output.{outputs_of, output_file, all_samples}
+use Rattle.dk_top.specs.Compiling.{IsCompiledFrom, NotesRun}
+
+-- The program of a number was compiled to this, its image is that of these rounds, and this is the file of the outputs.
+pub record IsMade (n : ℕ) (compiled : Compiled) (rounds : List (List Image)) (file : List ℕ) : Type 0 where
+  pub from : IsCompiledFrom (program_of n) 0 false compiled
+  pub fits : FitsFile (ports from.program) (image_of n) rounds
+  pub file_is : file ≡ output_file from.program rounds
+
+-- The line of a number: kept images without the inputs, live reads, bits and latency of its plan, and the sum of the samples of the outputs.
+pub record IsMadeLine (n : ℕ) (line : List ℕ) : Type 0 where
+  pub compiled : Compiled
+  pub from : IsCompiledFrom (program_of n) 0 false compiled
+  pub rounds : List (List Image)
+  pub fits : FitsFile (ports from.program) (image_of n) rounds
+  pub line_is : line ≡ summary n (length compiled.system.stencils.images - compiled.system.stencils.inputs) (length compiled.system.stencils.reads) (bits_of compiled.plan) (latency compiled.plan) (sum (all_samples (map (outputs_of from.program) rounds)))
+
+-- The notes have gained those of the run on the image of a number.
+pub record NotesMade (n : ℕ) (old new : Option (List (Bool × ℕ))) : Type 0 where
+  pub program : Typing
+  pub rounds : List (List Image)
+  pub fits : FitsFile (ports program) (image_of n) rounds
+  pub noted : NotesRun (program_of n) 0 program rounds old new

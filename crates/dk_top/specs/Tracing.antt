@@ -1,0 +1,116 @@
+-- What `trace` judges, and what it writes: the trace of the module's run over all clocks.
+use Rattle.std.specs.Prelude.{◌≡◌, ℕ, ◌+◌, ◌<◌, ◌≤◌, ℤ, List, [], ◌∷◌, ◌++◌, length, take, None, ⊤}
+use Rattle.dk_base.specs.Frames.{Size}
+use Rattle.wiring.specs.Snapshot.{Contents, Snapshot, HasOneSnapshot, HasOneNext}
+use Rattle.wiring.specs.Runs.{Runs}
+use Rattle.netlist.specs.Names.{NamedNetlist}
+use Rattle.cycle_sim.specs.Ports.{din_widths}
+use Rattle.cycle_sim.specs.Filled.{filled_contents}
+use Rattle.vcd_trace.specs.Header.{header_text, trace_text}
+use Rattle.pgm_codec.specs.Images.{Picture as Image}
+use Rattle.test_bench.specs.declared.drive.Drive.{Drive}
+use Rattle.test_bench.specs.declared.stop.Stop.TheVariants.{Index, Count}
+use Rattle.test_bench.specs.Inputs.{samples_of}
+use Rattle.test_bench.specs.Stimulus.{Rounds, stimulus}
+use Rattle.test_bench.specs.Showing.{IsRun}
+use Rattle.test_bench.specs.Stops.{StopsAtClock}
+use Rattle.trace_bench.specs.Traces.{values_of, trace_front}
+use Rattle.dk_words.specs.declared.command.PowerUp.TheVariants.{Zeros}
+use Rattle.dk_endings.specs.declared.ending.Ending.{Ending}
+use Rattle.dk_endings.specs.declared.ending.Ending.TheVariants as ending
+use Rattle.dk_top.specs.Simulation.{drive_of, IsModuleOf, FitsModule, IsVerilogFault, IsUnfit, IsStopped}
+
+-- how the command's words drive a module: from zeros, with no clock held
+abbrev pub trace_drive : (clocks : ℕ) → Drive
+trace_drive clocks = drive_of clocks Zeros None
+
+-- The text is that of this module, which has one run over each list of clocks, and these are the file's images, which fit it.
+pub record IsInOrder (drive : Drive) (text file : List ℕ) (m : NamedNetlist) (images : List (List Image)) : Type 0 where
+  pub made : IsModuleOf drive.hold text m
+  pub one_valuation : HasOneSnapshot m.netlist
+  pub one_next : HasOneNext m.netlist
+  pub size : Size
+  pub fits : FitsModule m file size images
+
+pub record AreInOrder (drive : Drive) (text file : List ℕ) : Type 0 where
+  pub m : NamedNetlist
+  pub images : List (List Image)
+  pub in_order : IsInOrder drive text file m images
+
+-- both are in order, and the run of the module goes to its end with these snapshots
+pub record IsTraced (drive : Drive) (text file : List ℕ) (m : NamedNetlist) (shots : List Snapshot) : Type 0 where
+  pub images : List (List Image)
+  pub in_order : IsInOrder drive text file m images
+  pub run : IsRun m.netlist drive (samples_of images) shots
+
+abbrev pub CanBeTraced : Drive → (text file : List ℕ) → Type 0
+CanBeTraced drive text file = (m : NamedNetlist) × (shots : List Snapshot) × IsTraced drive text file m shots
+
+-- When each ending comes. Of a failed read and of want of memory the files say nothing, and the counts of pictures are not judged.
+abbrev pub IsTraceAnswer : Drive → (text file : List ℕ) → Ending → Type 0
+IsTraceAnswer drive text file ending.Done = CanBeTraced drive text file
+IsTraceAnswer drive text file ending.WriteFault = AreInOrder drive text file
+IsTraceAnswer drive text file (ending.Verilog fault) = IsVerilogFault drive.hold text fault
+IsTraceAnswer drive text file (ending.Image fault) = IsUnfit drive text file fault
+IsTraceAnswer drive text file (ending.Stopped (Index clock array index)) = IsStopped drive text file (Index clock array index)
+IsTraceAnswer drive text file (ending.Stopped (Count shown wanted)) = ⊥
+IsTraceAnswer drive text file (ending.Source fault) = ⊥
+IsTraceAnswer drive text file (ending.Rejected fault) = ⊥
+IsTraceAnswer drive text file ending.Usage = ⊥
+IsTraceAnswer drive text file ending.ReadFault = ⊤
+IsTraceAnswer drive text file ending.Memory = ⊤
+
+-- the whole trace of the run
+pub record HoldsTrace (drive : Drive) (text file bytes : List ℕ) : Type 0 where
+  pub m : NamedNetlist
+  pub shots : List Snapshot
+  pub traced : IsTraced drive text file m shots
+  pub holds : bytes ≡ trace_text m (values_of shots)
+
+-- the header and the clocks before the one that stops
+pub record HoldsToStop (drive : Drive) (text file : List ℕ) (clock : ℤ) (array index : ℕ) (bytes : List ℕ) : Type 0 where
+  pub m : NamedNetlist
+  pub images : List (List Image)
+  pub in_order : IsInOrder drive text file m images
+  pub stop : StopsAtClock m.netlist drive (samples_of images) clock array index
+  pub holds : bytes ≡ trace_front m stop.shots
+
+-- these are the first bytes of a text, without its end, and not fewer than this front of it
+pub record IsCutBehind (front text bytes : List ℕ) : Type 0 where
+  pub count : ℕ
+  pub behind : length front ≤ count
+  pub within : count < length text
+  pub holds : bytes ≡ take count text
+
+-- The clocks of these snapshots were made, and the lines of the last one are cut.
+pub record IsCutInClock (m : NamedNetlist) (drive : Drive) (rounds : Rounds) (bytes : List ℕ) : Type 0 where
+  pub shots : List Snapshot
+  pub last : Snapshot
+  pub to : Contents
+  pub runs : Runs m.netlist (filled_contents drive.fill m.netlist) (take (length shots + 1) (stimulus drive (din_widths m.netlist) rounds)) (shots ++ last ∷ []) to
+  pub cut : IsCutBehind (trace_front m shots) (trace_front m (shots ++ last ∷ [])) bytes
+
+-- The run goes to its end, and the last line is cut.
+pub record IsCutAtEnd (m : NamedNetlist) (drive : Drive) (rounds : Rounds) (bytes : List ℕ) : Type 0 where
+  pub shots : List Snapshot
+  pub run : IsRun m.netlist drive rounds shots
+  pub cut : IsCutBehind (trace_front m shots) (trace_text m (values_of shots)) bytes
+
+-- where a trace is cut: in the header, before any clock; in the lines of a clock; or in the last line
+pub data IsCutTrace (m : NamedNetlist) (drive : Drive) (rounds : Rounds) (bytes : List ℕ) : Type 0 where
+  in_header : IsCutBehind [] (header_text m) bytes → IsCutTrace m drive rounds bytes
+  in_clock : IsCutInClock m drive rounds bytes → IsCutTrace m drive rounds bytes
+  at_end : IsCutAtEnd m drive rounds bytes → IsCutTrace m drive rounds bytes
+
+pub record HoldsCut (drive : Drive) (text file bytes : List ℕ) : Type 0 where
+  pub m : NamedNetlist
+  pub images : List (List Image)
+  pub in_order : IsInOrder drive text file m images
+  pub cut : IsCutTrace m drive (samples_of images) bytes
+
+-- what File holds, where it was created
+abbrev pub IsHeldTrace : Ending → Drive → (text file bytes : List ℕ) → Type 0
+IsHeldTrace ending.Done drive text file bytes = HoldsTrace drive text file bytes
+IsHeldTrace (ending.Stopped (Index clock array index)) drive text file bytes = HoldsToStop drive text file clock array index bytes
+IsHeldTrace ending.WriteFault drive text file bytes = HoldsCut drive text file bytes
+IsHeldTrace _ drive text file bytes = ⊤
