@@ -4,3 +4,4 @@ pub mod Marks
 pub mod Rendered
 pub mod Outputs
 pub mod Fits
+pub mod Narrows

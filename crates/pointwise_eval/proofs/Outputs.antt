@@ -18,13 +18,13 @@ use Rattle.pointwise_ir.specs.Programs.{Program, IsProgram, types_of}
 use Rattle.dk_base.specs.Frames.{picture_at}
 use Rattle.pointwise_eval.specs.declared.plane.Plane.{Plane}
 use Rattle.dk_frames.specs.declared.frame.Frame.{Frame}
-use Rattle.pointwise_eval.specs.Planes.{shown, all_shown, IsWhole, ShowsNeeded, IsOutputPlane}
+use Rattle.pointwise_eval.specs.Planes.{values_of, shown, all_shown, IsWhole, ShowsNeeded, IsOutputPlane}
 use Rattle.pointwise_eval.specs.Rounds.{frame_of}
 use Rattle.pointwise_eval.specs.Needs.{AreNeeds}
 
-shown_entry : (size : Size) (planes : List Plane) (g : ℕ) (q : Plane) → slice_get planes g ≡ Some q → picture_at (all_shown size planes) g ≡ shown size q.values.items
+shown_entry : (size : Size) (planes : List Plane) (g : ℕ) (q : Plane) → slice_get planes g ≡ Some q → picture_at (all_shown size planes) g ≡ shown size (values_of q)
 shown_entry size [] g q is = absurd (let e : ⊥ = cc in e)
-shown_entry size (p ∷ planes) zero q is = let e : p ≡ q = cc in ap (λ (r : Plane). shown size r.values.items) e
+shown_entry size (p ∷ planes) zero q is = let e : p ≡ q = cc in ap (λ (r : Plane). shown size (values_of r)) e
 shown_entry size (p ∷ planes) (suc g) q is = shown_entry size planes g q is
 
 -- the picture of values at a pixel
@@ -71,9 +71,9 @@ plane_is : (size : Size) (planes : List Plane) (g : ℕ) (q : Plane) → (w : Is
 plane_is size planes g q w is = sym (is ∙ get_or_from_slice_get planes g w.plane q w.there)
 
 -- the values of an output are samples
-pub output_range : (size : Size) (planes : List Plane) (g : ℕ) (q : Plane) → IsOutputPlane size planes g → q ≡ get_or planes g q → All (λ v. (pos 0 ≤ℤ v) × (v <ℤ pos 65536)) q.values.items
-output_range size planes g q out is = subst (λ (r : Plane). All (λ v. (pos 0 ≤ℤ v) × (v <ℤ pos 65536)) r.values.items) (plane_is size planes g q out.whole is) (λ k d lt.
-    let values = out.whole.plane.values.items in
+pub output_range : (size : Size) (planes : List Plane) (g : ℕ) (q : Plane) → IsOutputPlane size planes g → q ≡ get_or planes g q → All (λ v. (pos 0 ≤ℤ v) × (v <ℤ pos 65536)) (values_of q)
+output_range size planes g q out is = subst (λ (r : Plane). All (λ v. (pos 0 ≤ℤ v) × (v <ℤ pos 65536)) (values_of r)) (plane_is size planes g q out.whole is) (λ k d lt.
+    let values = values_of out.whole.plane in
     let at = place_is size k (let h : k < area size = (let e = out.whole.whole in omega (arith, lt, e)) in h) in
     let same : picture_at (all_shown size planes) g (pos (k % size.width)) (pos (k / size.width)) ≡ get_or values k d =
     ap (λ (r : Picture). r (pos (k % size.width)) (pos (k / size.width))) (shown_entry size planes g out.whole.plane out.whole.there)
@@ -81,17 +81,17 @@ output_range size planes g q out is = subst (λ (r : Plane). All (λ v. (pos 0 �
     subst (λ v. (pos 0 ≤ℤ v) × (v <ℤ pos 65536)) same (port_range out.ty _ out.port (out.values (pos (k % size.width)) (pos (k / size.width)))))
 
 -- they are the pixels of its picture in raster order
-pub output_is : (size : Size) (planes : List Plane) (g : ℕ) (q : Plane) → IsOutputPlane size planes g → q ≡ get_or planes g q → map unsigned_abs q.values.items ≡ raster size (picture_at (all_shown size planes) g)
+pub output_is : (size : Size) (planes : List Plane) (g : ℕ) (q : Plane) → IsOutputPlane size planes g → q ≡ get_or planes g q → map unsigned_abs (values_of q) ≡ raster size (picture_at (all_shown size planes) g)
 output_is size planes g q out is =
-    let values = out.whole.plane.values.items in
+    let values = values_of out.whole.plane in
     let whole = out.whole.whole in
     let pixels = raster_is size (picture_at (all_shown size planes) g) (map unsigned_abs values) (length-map values unsigned_abs ∙ whole) (λ x y p r.
     let within : y * size.width + x < length values = rw whole (mul-add-lt y size.width x size.height r p) in
     ap (λ (s : Picture). unsigned_abs (s (pos x) (pos y))) (shown_entry size planes g out.whole.plane out.whole.there)
     ∙ ap unsigned_abs (shown_pixel size values x y p r) ∙ sym (get_or-map unsigned_abs values (y * size.width + x) (pos 0) 0 within)) in
-    sym (ap (λ (r : Plane). map unsigned_abs r.values.items) (plane_is size planes g q out.whole is)) ∙ sym pixels
+    sym (ap (λ (r : Plane). map unsigned_abs (values_of r)) (plane_is size planes g q out.whole is)) ∙ sym pixels
 
-pub output_frame_is : (size : Size) (planes : List Plane) (g : ℕ) (q : Plane) (f : Frame) → IsOutputPlane size planes g → q ≡ get_or planes g q → f ≡ record { width = size.width; height = size.height; samples = map unsigned_abs q.values.items } →
+pub output_frame_is : (size : Size) (planes : List Plane) (g : ℕ) (q : Plane) (f : Frame) → IsOutputPlane size planes g → q ≡ get_or planes g q → f ≡ record { width = size.width; height = size.height; samples = map unsigned_abs (values_of q) } →
     f ≡ frame_of size (picture_at (all_shown size planes) g)
 output_frame_is size planes g q f out is made = made ∙ ap (λ s. record { width = size.width; height = size.height; samples = s }) (output_is size planes g q out is)
 

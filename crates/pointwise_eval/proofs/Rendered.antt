@@ -27,7 +27,7 @@ use Rattle.pointwise_ir.proofs.Defined.{last_entry, taken_types}
 use Rattle.pointwise_ir.proofs.Pictured.{first_pictures, reads_earlier, picture_of_body, mapped_entry}
 use Rattle.pointwise_eval.specs.declared.plane.Plane.{Plane}
 use Rattle.dk_frames.specs.declared.frame.Frame.{Frame}
-use Rattle.pointwise_eval.specs.Planes.{shown, all_shown, IsWhole, CanEvaluate, IsPlaneOf, ShowsNeeded}
+use Rattle.pointwise_eval.specs.Planes.{values_of, shown, all_shown, IsWhole, CanEvaluate, IsPlaneOf, ShowsNeeded}
 use Rattle.pointwise_eval.specs.Rounds.{IsInputFrame, AreFrames, round_of}
 use Rattle.pointwise_eval.specs.Needs.{IsNeeded, AreNeeds}
 
@@ -46,25 +46,25 @@ samples_shown size samples = same_picture (shown size (map pos samples)) (pictur
     ap (λ v. if in_frame size x y then v else pos 0) (mapped_or pos samples (unsigned_abs y * size.width + unsigned_abs x) 0))
 
 -- the planes of frames show their pictures
-pub frames_shown : (size : Size) (planes : List Plane) (frames : List Frame) → map (λ p. p.values.items) planes ≡ map (λ f. map pos f.samples) frames → all_shown size planes ≡ round_of size frames
+pub frames_shown : (size : Size) (planes : List Plane) (frames : List Frame) → map values_of planes ≡ map (λ f. map pos f.samples) frames → all_shown size planes ≡ round_of size frames
 frames_shown size [] [] same = refl
 frames_shown size [] (f ∷ frames) same = absurd (let e : ⊥ = cc in e)
 frames_shown size (p ∷ planes) [] same = absurd (let e : ⊥ = cc in e)
 frames_shown size (p ∷ planes) (f ∷ frames) same =
-    let head : p.values.items ≡ map pos f.samples = cc in
-    let tail : map (λ p. p.values.items) planes ≡ map (λ f. map pos f.samples) frames = cc in
+    let head : values_of p ≡ map pos f.samples = cc in
+    let tail : map values_of planes ≡ map (λ f. map pos f.samples) frames = cc in
     ap (λ q. q ∷ all_shown size planes) (ap (shown size) head ∙ samples_shown size f.samples) ∙ ap (λ qs. picture_of size f.samples ∷ qs) (frames_shown size planes frames tail)
 
 -- the plane of a frame is as long as the frame's samples
-plane_of_frame : (planes : List Plane) (frames : List Frame) → map (λ p. p.values.items) planes ≡ map (λ f. map pos f.samples) frames → (g : ℕ) → g < length planes →
-    (p : Plane) × (f : Frame) × (slice_get planes g ≡ Some p) × (slice_get frames g ≡ Some f) × (length p.values.items ≡ length f.samples)
+plane_of_frame : (planes : List Plane) (frames : List Frame) → map values_of planes ≡ map (λ f. map pos f.samples) frames → (g : ℕ) → g < length planes →
+    (p : Plane) × (f : Frame) × (slice_get planes g ≡ Some p) × (slice_get frames g ≡ Some f) × (length (values_of p) ≡ length f.samples)
 plane_of_frame [] frames same g lt = absurd (omega arith)
 plane_of_frame (p ∷ planes) [] same g lt = absurd (let e : ⊥ = cc in e)
 plane_of_frame (p ∷ planes) (f ∷ frames) same zero lt =
-    let head : p.values.items ≡ map pos f.samples = cc in
+    let head : values_of p ≡ map pos f.samples = cc in
     (p, f, refl, refl, ap length head ∙ length-map f.samples pos)
 plane_of_frame (p ∷ planes) (f ∷ frames) same (suc g) lt =
-    let tail : map (λ p. p.values.items) planes ≡ map (λ f. map pos f.samples) frames = cc in
+    let tail : map values_of planes ≡ map (λ f. map pos f.samples) frames = cc in
     plane_of_frame planes frames tail g (omega (arith, lt))
 
 -- a sample in the range of an input's type
@@ -121,7 +121,7 @@ round_is p frames is are = record {
 }
 
 -- the planes of the inputs
-pub shows_inputs : (p : Program) (frames : List Frame) (needed : List Bool) (planes : List Plane) → IsProgram p → AreFrames p frames → map (λ p. p.values.items) planes ≡ map (λ f. map pos f.samples) frames →
+pub shows_inputs : (p : Program) (frames : List Frame) (needed : List Bool) (planes : List Plane) → IsProgram p → AreFrames p frames → map values_of planes ≡ map (λ f. map pos f.samples) frames →
     ShowsNeeded p.size (all_types p.inputs []) (pictures p (round_of p.size frames)) needed planes
 shows_inputs p frames needed planes is are same =
     let size = p.size in
@@ -130,7 +130,7 @@ shows_inputs p frames needed planes is are same =
     let shows : all_shown size planes ≡ round = frames_shown size planes frames same in
     let ok = round_is p frames is are in
     let as_many : length planes ≡ length p.inputs =
-    sym (length-map planes (λ q. q.values.items)) ∙ ap length same ∙ length-map frames (λ f. map pos f.samples) ∙ are.one_each in
+    sym (length-map planes values_of) ∙ ap length same ∙ length-map frames (λ f. map pos f.samples) ∙ are.one_each in
     record {
       one_each = as_many ∙ sym (length-map p.inputs (λ i. i.ty)) ∙ sym (ap length (append-nil types));
       values = λ g t there x y.
@@ -205,23 +205,23 @@ can_be p known needed planes k d is needs there shows wanted =
       whole = each_weaker (λ g. IsNeeded needed g × (g < length p.inputs + k)) (IsWhole p.size planes) (λ g h. shows.whole g h.0 (let lt = h.1 in omega (arith, lt, long, as_many))) e both;
     }
 
-shown_more : (size : Size) (planes : List Plane) (q : Plane) → all_shown size (planes ++ q ∷ []) ≡ all_shown size planes ++ shown size q.values.items ∷ []
-shown_more size planes q = map-append (λ (p : Plane). shown size p.values.items) planes (q ∷ [])
+shown_more : (size : Size) (planes : List Plane) (q : Plane) → all_shown size (planes ++ q ∷ []) ≡ all_shown size planes ++ shown size (values_of q) ∷ []
+shown_more size planes q = map-append (λ (p : Plane). shown size (values_of p)) planes (q ∷ [])
 
 shown-length : (size : Size) (planes : List Plane) → length (all_shown size planes) ≡ length planes
-shown-length size planes = length-map planes (λ p. shown size p.values.items)
+shown-length size planes = length-map planes (λ p. shown size (values_of p))
 
 -- the pictures of the planes before the last one, and of the last one
 pub earlier_shown : (size : Size) (planes : List Plane) (q : Plane) (g : ℕ) → g < length planes → picture_at (all_shown size (planes ++ q ∷ [])) g ≡ picture_at (all_shown size planes) g
 earlier_shown size planes q g lt =
     ap (λ qs. picture_at qs g) (shown_more size planes q)
-    ∙ get_or-append (all_shown size planes) (shown size q.values.items ∷ []) (λ _ _. pos 0) g (let h : g < length (all_shown size planes) = (let l = shown-length size planes in omega (arith, lt, l)) in h)
+    ∙ get_or-append (all_shown size planes) (shown size (values_of q) ∷ []) (λ _ _. pos 0) g (let h : g < length (all_shown size planes) = (let l = shown-length size planes in omega (arith, lt, l)) in h)
 
-pub last_shown : (size : Size) (planes : List Plane) (q : Plane) (g : ℕ) → g ≡ length planes → picture_at (all_shown size (planes ++ q ∷ [])) g ≡ shown size q.values.items
+pub last_shown : (size : Size) (planes : List Plane) (q : Plane) (g : ℕ) → g ≡ length planes → picture_at (all_shown size (planes ++ q ∷ [])) g ≡ shown size (values_of q)
 last_shown size planes q g here =
     ap (picture_at (all_shown size (planes ++ q ∷ []))) (here ∙ sym (shown-length size planes))
     ∙ ap (λ qs. picture_at qs (length (all_shown size planes))) (shown_more size planes q)
-    ∙ get_or-append_seam (all_shown size planes) (shown size q.values.items) [] (λ _ _. pos 0)
+    ∙ get_or-append_seam (all_shown size planes) (shown size (values_of q)) [] (λ _ _. pos 0)
 
 earlier_entry : {A : Type 0} (xs : List A) (y x : A) (g : ℕ) → slice_get xs g ≡ Some x → slice_get (xs ++ y ∷ []) g ≡ Some x
 earlier_entry [] y x g is = absurd (let e : ⊥ = cc in e)
@@ -236,7 +236,7 @@ last_is (x ∷ xs) y (suc g) here = last_is xs y g (omega (arith, here))
 
 -- the values of a new plane are in its image's type
 plane_in : (size : Size) (planes : List Plane) (e : Tree) (t : Ty) (wanted : Bool) (q : Plane) → IsType t → IsPlaneOf size planes e wanted q → (IsTrue wanted → (x y : ℤ) → IsIn t (value size (all_shown size planes) e x y)) →
-    (x y : ℤ) → IsIn t (shown size q.values.items x y)
+    (x y : ℤ) → IsIn t (shown size (values_of q) x y)
 plane_in size planes e t true q ok is all x y =
     let P : Picture → Type 0 = λ r. IsIn t (r x y) in
     subst P (sym (is.shown refl)) (framed_in size t (value size (all_shown size planes) e) (all refl) x y)
@@ -275,7 +275,7 @@ shows_more p round needed planes k d wanted b q is needs one_each there test pla
     let can = can_next p known needed planes k d wanted b is needs there shows test in
     let listed = body_of p k d there in
     let typed = taken_types p.inputs p.images k is.inputs (λ j image lt h. is.images j image h) in
-    let inside : (x y : ℤ) → IsIn d.ty (shown size q.values.items x y) = plane_in size planes e d.ty wanted q (type_typed types typed e d.ty (is.images k d there).typed) plane (λ holds. value_in size types (all_shown size planes) typed shows.values e d.ty (is.images k d there).typed) in
+    let inside : (x y : ℤ) → IsIn d.ty (shown size (values_of q) x y) = plane_in size planes e d.ty wanted q (type_typed types typed e d.ty (is.images k d there).typed) plane (λ holds. value_in size types (all_shown size planes) typed shows.values e d.ty (is.images k d there).typed) in
     record {
       one_each =
           let l : length (types ++ d.ty ∷ []) ≡ length types + 1 = length-append types (d.ty ∷ []) in
@@ -290,7 +290,7 @@ shows_more p round needed planes k d wanted b q is needs one_each there test pla
                 subst R (sym (earlier_shown size planes q g (let h : g < length planes = omega (arith, lt, as_many, types_long) in h))) (shows.values g t before x y)
             | inr last ↦
                 let R : Picture → Type 0 = λ r. IsIn t (r x y) in
-                let Q : Ty → Type 0 = λ u. IsIn u (shown size q.values.items x y) in
+                let Q : Ty → Type 0 = λ u. IsIn u (shown size (values_of q) x y) in
                 subst R (sym (last_shown size planes q g (last.0 ∙ types_long ∙ sym as_many))) (subst Q last.1 (inside x y))
           ];
       whole = λ g wants lt. elim (cases_lt g (length planes)) [
@@ -314,7 +314,7 @@ shows_more p round needed planes k d wanted b q is needs one_each there test pla
     }
 
 -- what `render` gives
-pub is_rendered : {E : Type 0} (size : Size) (planes : List Plane) (e : Tree) (wanted : Bool) (r : Result Plane E) → wanted ≡ true → IfOk r (λ q. length q.values.items ≡ area size) →
-    IfOk r (λ q. shown size q.values.items ≡ framed size (value size (all_shown size planes) e)) → IfOk r (λ q. IsPlaneOf size planes e wanted q)
+pub is_rendered : {E : Type 0} (size : Size) (planes : List Plane) (e : Tree) (wanted : Bool) (r : Result Plane E) → wanted ≡ true → IfOk r (λ q. length (values_of q) ≡ area size) →
+    IfOk r (λ q. shown size (values_of q) ≡ framed size (value size (all_shown size planes) e)) → IfOk r (λ q. IsPlaneOf size planes e wanted q)
 is_rendered size planes e wanted (Ok q) holds whole is = record { whole = λ _. whole; shown = λ _. is; empty = λ no. absurd (let f : true ≡ false = sym holds ∙ no in let g : ⊥ = cc in g) }
 is_rendered size planes e wanted (Err f) holds whole is = tt

@@ -1,3 +1,5 @@
 pub mod Planes
 pub mod Rounds
 pub mod Needs
+pub mod Narrow
+pub mod Steps

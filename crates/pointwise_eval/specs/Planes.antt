@@ -10,19 +10,36 @@ use Rattle.dk_base.specs.Types.{IsPort}
 use Rattle.dk_base.specs.Frames.{framed, picture_at}
 use Rattle.pointwise_ir.specs.Meaning.{edged, value}
 use Rattle.pointwise_eval.specs.declared.plane.Plane.{Plane}
+use Rattle.pointwise_eval.specs.declared.plane.Plane.TheVariants.{Narrow, Wide}
+
+-- its values
+abbrev pub values_of : Plane → List ℤ
+values_of (Narrow values) = values.items
+values_of (Wide values) = values.items
+
+-- a plane of values of 64 bits
+abbrev pub IsByRows : Plane → Type 0
+IsByRows (Narrow values) = Unit {0}
+IsByRows (Wide values) = ⊥
 
 -- the picture of values in raster order
 abbrev pub shown : Size → List ℤ → Picture
 shown size values = framed size (λ x y. slice_index_or values (unsigned_abs y * size.width + unsigned_abs x) (pos 0))
 
 abbrev pub all_shown : Size → List Plane → List Picture
-all_shown size planes = map (λ p. shown size p.values.items) planes
+all_shown size planes = map (λ p. shown size (values_of p)) planes
 
 -- the plane of image g has a value for each pixel
 pub record IsWhole (size : Size) (planes : List Plane) (g : ℕ) : Type 0 where
   pub plane : Plane
   pub there : slice_get planes g ≡ Some plane
-  pub whole : length plane.values.items ≡ area size
+  pub whole : length (values_of plane) ≡ area size
+
+-- the plane of image g can be read by rows
+pub record HasRows (planes : List Plane) (g : ℕ) : Type 0 where
+  pub plane : Plane
+  pub there : slice_get planes g ≡ Some plane
+  pub rows : IsByRows plane
 
 -- the values of the images are in their types
 abbrev pub AreValues : Size → List Ty → List Plane → Type 0
@@ -49,9 +66,9 @@ pub record LeadsTo (size : Size) (edge : Edge) (x y : ℤ) (u v : ℕ) : Type 0 
 
 -- the plane of an image that is no input: where it is wanted, the expression's value at each pixel, and else empty
 pub record IsPlaneOf (size : Size) (planes : List Plane) (e : Tree) (wanted : Bool) (plane : Plane) : Type 0 where
-  pub whole : IsTrue wanted → length plane.values.items ≡ area size
-  pub shown : IsTrue wanted → shown size plane.values.items ≡ framed size (value size (all_shown size planes) e)
-  pub empty : IsFalse wanted → plane.values.items ≡ []
+  pub whole : IsTrue wanted → length (values_of plane) ≡ area size
+  pub shown : IsTrue wanted → shown size (values_of plane) ≡ framed size (value size (all_shown size planes) e)
+  pub empty : IsFalse wanted → values_of plane ≡ []
 
 -- the planes of images of which the needed ones have these pictures
 pub record ShowsNeeded (size : Size) (types : List Ty) (known : List Picture) (needed : List Bool) (planes : List Plane) : Type 0 where

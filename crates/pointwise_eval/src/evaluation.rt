@@ -1,38 +1,40 @@
 // The pictures of all images that the outputs need, one after another.
 
-ghost use Rattle.std.specs.Prelude.{◌≡◌, ℕ, ◌<◌, ◌≤ℤ◌, ◌<ℤ◌, pos, IfOk, IsTrue, length, map, unsigned_abs};
+ghost use Rattle.std.specs.Prelude.{◌≡◌, ℕ, ◌<◌, ◌≤◌, ◌≤ℤ◌, ◌<ℤ◌, pos, IfOk, IsTrue, length, map, take, unsigned_abs};
 ghost use Rattle.std.specs.List.{All};
+ghost use Rattle.dk_base.specs.declared.TheConstants.{MAX_INLINED_DEPTH};
+ghost use Rattle.dk_base.specs.Types.{IsType};
 ghost use Rattle.dk_base.specs.FrameSizes.{size_of};
-ghost use Rattle.pointwise_ir.specs.Trees.{tree_of};
-ghost use Rattle.pointwise_ir.specs.Programs.{types_of};
+ghost use Rattle.pointwise_ir.specs.Trees.{tree_of, depth_of};
+ghost use Rattle.pointwise_ir.specs.Programs.{all_types, types_of};
 ghost use Rattle.dk_base.specs.Frames.{picture_at};
 ghost use Rattle.pointwise_ir.specs.Meaning.{pictures};
 ghost use Rattle.pointwise_eval.specs.Needs.{AreNeeds};
-ghost use Rattle.pointwise_eval.specs.Planes.{all_shown, IsWhole, CanEvaluate, IsPlaneOf, ShowsNeeded, IsOutputPlane};
+ghost use Rattle.pointwise_eval.specs.Planes.{values_of, all_shown, AreValues, IsWhole, CanEvaluate, IsPlaneOf, ShowsNeeded, IsOutputPlane};
 ghost use Rattle.pointwise_eval.specs.Rounds.{AreFrames, round_of, frame_of, output_frames};
 
 use crate::need::needs;
 use crate::plane::Plane;
-use crate::value::render;
+use crate::rows::render;
 use dk_base::{FrameSize, Memory};
 use dk_frames::{Frame, Samples};
-use pointwise_ir::{Expr, Ir};
+use pointwise_ir::{Definition, Expr, Input, Ir};
 use std::alloc::Global;
 
 // The values of a frame's samples.
 fn input_plane(alloc: Global, frame: &Frame) -> Result<Plane, Memory>
-    ensures { IfOk result (λ p. p.values.items ≡ map pos frame.now.samples) }
+    ensures { IfOk result (λ p. values_of p ≡ map pos frame.now.samples) }
 {
     let mut values = Vec::new(alloc);
     for sample in frame.samples.as_slice() {
-        values.push(i128::from(*sample))?;
+        values.push(i64::from(*sample))?;
     }
-    Ok(Plane { values })
+    Ok(Plane::Narrow(values))
 }
 
 // The planes of the inputs.
 fn input_planes(alloc: Global, frames: &[Frame]) -> Result<Vec<Plane>, Memory>
-    ensures { IfOk result (λ planes. map (λ p. p.values.items) planes.items ≡ map (λ f. map pos f.samples) frames.now) }
+    ensures { IfOk result (λ planes. map values_of planes.items ≡ map (λ f. map pos f.samples) frames.now) }
 {
     let mut planes = Vec::new(alloc);
     for frame in frames {
@@ -46,19 +48,30 @@ fn next_plane(
     alloc: Global,
     size: FrameSize,
     planes: &[Plane],
+    inputs: &[Input],
+    images: &[Definition],
     body: &Expr,
     wanted: bool,
 ) -> Result<Plane, Memory>
-    requires { IsTrue wanted → CanEvaluate (size_of size) planes.now (tree_of body.now) }
+    requires can { IsTrue wanted → CanEvaluate (size_of size) planes.now (tree_of body.now) }
+    requires types { All IsType (all_types inputs.now images.now) }
+    requires values { AreValues (size_of size) (all_types inputs.now images.now) planes.now }
+    requires depth { depth_of (tree_of body.now) ≤ MAX_INLINED_DEPTH }
     ensures { IfOk result (λ p. IsPlaneOf (size_of size) planes.now (tree_of body.now) wanted p) }
 {
     if wanted {
-        render(alloc, size, planes, body)
+        render(alloc, size, planes, inputs, images, body)
     } else {
-        Ok(Plane {
-            values: Vec::new(alloc),
-        })
+        Ok(Plane::Narrow(Vec::new(alloc)))
     }
+}
+
+// The images before image `k`.
+fn earlier(images: &[Definition], k: usize) -> &[Definition]
+    requires { k < length images.now }
+    ensures { result.now ≡ take k images.now }
+{
+    images.split_at(k).0
 }
 
 // The planes of all images, of which the needed ones are there.
@@ -75,24 +88,66 @@ fn all_planes(
     ir.law();
     let size = ir.size();
     let images = ir.images();
-    let inputs = ir.inputs().len();
+    let inputs = ir.inputs();
     let mut planes = input_planes(alloc, frames)?;
     for k in 0..images.len() {
-        let plane = next_plane(alloc, size, &planes, &images[k].body, needed[inputs + k])?;
+        let before = earlier(images, k);
+        let wanted = needed[inputs.len() + k];
+        let plane = next_plane(
+            alloc,
+            size,
+            &planes,
+            inputs,
+            before,
+            &images[k].body,
+            wanted,
+        )?;
         planes.push(plane)?;
     }
     Ok(planes)
 }
 
-// The frame of values that are samples.
-fn output_frame(alloc: Global, size: FrameSize, plane: &Plane) -> Result<Frame, Memory>
-    requires { All (λ v. (pos 0 ≤ℤ v) × (v <ℤ pos 65536)) plane.now.values.items }
-    ensures { IfOk result (λ f. f ≡ record { width = size.width; height = size.height; samples = map unsigned_abs plane.now.values.items }) }
+// Values that are samples.
+fn narrow_samples(alloc: Global, values: &[i64]) -> Result<Vec<u16>, Memory>
+    requires { All (λ v. (pos 0 ≤ℤ v) × (v <ℤ pos 65536)) values.now }
+    ensures { IfOk result (λ s. s.items ≡ map unsigned_abs values.now) }
 {
     let mut samples = Vec::new(alloc);
-    for value in &plane.values {
+    for value in values {
         samples.push(*value as u16)?;
     }
+    Ok(samples)
+}
+
+// Values that are samples.
+fn wide_samples(alloc: Global, values: &[i128]) -> Result<Vec<u16>, Memory>
+    requires { All (λ v. (pos 0 ≤ℤ v) × (v <ℤ pos 65536)) values.now }
+    ensures { IfOk result (λ s. s.items ≡ map unsigned_abs values.now) }
+{
+    let mut samples = Vec::new(alloc);
+    for value in values {
+        samples.push(*value as u16)?;
+    }
+    Ok(samples)
+}
+
+// The samples of a plane.
+fn samples_of(alloc: Global, plane: &Plane) -> Result<Vec<u16>, Memory>
+    requires { All (λ v. (pos 0 ≤ℤ v) × (v <ℤ pos 65536)) (values_of plane.now) }
+    ensures { IfOk result (λ s. s.items ≡ map unsigned_abs (values_of plane.now)) }
+{
+    match plane {
+        Plane::Narrow(values) => narrow_samples(alloc, values),
+        Plane::Wide(values) => wide_samples(alloc, values),
+    }
+}
+
+// The frame of values that are samples.
+fn output_frame(alloc: Global, size: FrameSize, plane: &Plane) -> Result<Frame, Memory>
+    requires { All (λ v. (pos 0 ≤ℤ v) × (v <ℤ pos 65536)) (values_of plane.now) }
+    ensures { IfOk result (λ f. f ≡ record { width = size.width; height = size.height; samples = map unsigned_abs (values_of plane.now) }) }
+{
+    let samples = samples_of(alloc, plane)?;
     Ok(Frame {
         width: size.width,
         height: size.height,

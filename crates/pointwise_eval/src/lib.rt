@@ -3,10 +3,13 @@
 
 mod evaluation;
 mod fit;
+mod narrow;
 mod need;
 mod plane;
 mod point;
+mod rows;
 mod value;
+mod walk;
 
 pub use dk_frames::{Frame, Samples};
 pub use evaluation::evaluate;

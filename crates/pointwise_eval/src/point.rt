@@ -15,8 +15,8 @@ pub struct Point {
     pub y: u32,
 }
 
-// The coordinate that is `by` further, where it is below the limit.
-fn moved(at: u32, by: i32, limit: u32) -> Option<u32>
+/// The coordinate that is `by` further, where it is below the limit.
+pub fn moved(at: u32, by: i32, limit: u32) -> Option<u32>
     ensures { MatchOption result (IsFalse (is_below (pos at +ℤ by) limit)) (λ n. (pos n ≡ pos at +ℤ by) × (n < limit)) }
 {
     let there = i64::from(at) + i64::from(by);
@@ -27,8 +27,8 @@ fn moved(at: u32, by: i32, limit: u32) -> Option<u32>
     }
 }
 
-// The coordinate that is `by` further, brought below the limit.
-fn brought(at: u32, by: i32, limit: u32) -> u32
+/// The coordinate that is `by` further, brought below the limit.
+pub fn brought(at: u32, by: i32, limit: u32) -> u32
     requires { 0 < limit }
     ensures below { result < limit }
     ensures clamped { pos result ≡ clamped limit (pos at +ℤ by) }

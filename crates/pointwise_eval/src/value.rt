@@ -1,18 +1,29 @@
 // The value of an expression at a pixel.
 
-ghost use Rattle.std.specs.Prelude.{◌≡◌, ◌<◌, pos, IfOk, length};
+ghost use Rattle.std.specs.Prelude.{◌≡◌, ◌<◌, pos, IfOk, length, slice_index_or};
 ghost use Rattle.dk_base.specs.Frames.{area};
 ghost use Rattle.dk_base.specs.FrameSizes.{size_of};
 ghost use Rattle.pointwise_ir.specs.Trees.{tree_of};
 ghost use Rattle.dk_base.specs.Frames.{framed, picture_at};
 ghost use Rattle.pointwise_ir.specs.Meaning.{value};
-ghost use Rattle.pointwise_eval.specs.Planes.{shown, all_shown, IsWhole, CanEvaluate};
+ghost use Rattle.pointwise_eval.specs.Planes.{values_of, shown, all_shown, IsWhole, CanEvaluate};
 
 use crate::plane::Plane;
 use crate::point::{Point, step};
 use dk_base::{FrameSize, Memory};
 use pointwise_ir::{Expr, binary_value, conversion_value, scaling_value, unary_value};
 use std::alloc::Global;
+
+// A value of a plane.
+fn value_of(plane: &Plane, place: usize) -> i128
+    requires { place < length (values_of plane.now) }
+    ensures { result ≡ slice_index_or (values_of plane.now) place (pos 0) }
+{
+    match plane {
+        Plane::Narrow(values) => i128::from(values[place]),
+        Plane::Wide(values) => values[place],
+    }
+}
 
 // The value of an image at a pixel.
 fn sample(size: FrameSize, planes: &[Plane], image: u32, at: Point) -> i128
@@ -22,7 +33,7 @@ fn sample(size: FrameSize, planes: &[Plane], image: u32, at: Point) -> i128
     ensures { result ≡ picture_at (all_shown (size_of size) planes.now) image (pos at.x) (pos at.y) }
 {
     let place = at.y as usize * size.width as usize + at.x as usize;
-    planes[image as usize].values[place]
+    value_of(&planes[image as usize], place)
 }
 
 /// The value of an expression at a pixel.
@@ -62,11 +73,16 @@ pub fn value_at(size: FrameSize, planes: &[Plane], e: &Expr, at: Point) -> i128
     }
 }
 
-/// The values of an expression at all pixels.
-pub fn render(alloc: Global, size: FrameSize, planes: &[Plane], e: &Expr) -> Result<Plane, Memory>
+/// The values of an expression at all pixels, each by itself.
+pub fn render_points(
+    alloc: Global,
+    size: FrameSize,
+    planes: &[Plane],
+    e: &Expr,
+) -> Result<Plane, Memory>
     requires can { CanEvaluate (size_of size) planes.now (tree_of e.now) }
-    ensures whole { IfOk result (λ p. length p.values.items ≡ area (size_of size)) }
-    ensures value { IfOk result (λ p. shown (size_of size) p.values.items ≡ framed (size_of size) (value (size_of size) (all_shown (size_of size) planes.now) (tree_of e.now))) }
+    ensures whole { IfOk result (λ p. length (values_of p) ≡ area (size_of size)) }
+    ensures value { IfOk result (λ p. shown (size_of size) (values_of p) ≡ framed (size_of size) (value (size_of size) (all_shown (size_of size) planes.now) (tree_of e.now))) }
 {
     let mut values = Vec::new(alloc);
     for y in 0..size.height {
@@ -74,5 +90,5 @@ pub fn render(alloc: Global, size: FrameSize, planes: &[Plane], e: &Expr) -> Res
             values.push(value_at(size, planes, e, Point { x, y }))?;
         }
     }
-    Ok(Plane { values })
+    Ok(Plane::Wide(values))
 }

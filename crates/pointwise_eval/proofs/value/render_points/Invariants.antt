@@ -4,7 +4,7 @@ use Rattle.pointwise_ir.specs.Trees.{tree_of}
 use Rattle.pointwise_ir.specs.Meaning.{value}
 use Rattle.pointwise_eval.specs.Planes.{all_shown}
 use Rattle.pointwise_eval.proofs.Shown.{AreSamples}
-use Rattle.pointwise_eval.proofs.value.render.Given as goal
+use Rattle.pointwise_eval.proofs.value.render_points.Given as goal
 
 abbrev pub invariant-loop-x : goal.invariant-loop-x
 invariant-loop-x l = record {

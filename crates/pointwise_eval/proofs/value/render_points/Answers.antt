@@ -5,7 +5,7 @@ use Rattle.pointwise_ir.specs.Trees.{tree_of}
 use Rattle.pointwise_ir.specs.Meaning.{value}
 use Rattle.pointwise_eval.specs.Planes.{all_shown}
 use Rattle.pointwise_eval.proofs.Shown.{samples_more, shown_is}
-use Rattle.pointwise_eval.proofs.value.render.Goals as goal
+use Rattle.pointwise_eval.proofs.value.render_points.Goals as goal
 
 pub loop-x-preserved : goal.loop-x-preserved
 loop-x-preserved c =

@@ -1,0 +1,10 @@
+use Rattle.std.proofs.Common.{rules}
+use Rattle.dk_base.specs.FrameSizes.{size_of}
+use Rattle.pointwise_ir.specs.Trees.{tree_of}
+use Rattle.pointwise_ir.specs.Programs.{all_types}
+use Rattle.pointwise_eval.proofs.Narrows.{planes_narrow}
+use Rattle.pointwise_eval.proofs.rows.render.Goals as goal
+
+pub render_rows-requires-clause-narrow : goal.render_rows-requires-clause-narrow
+render_rows-requires-clause-narrow c =
+    planes_narrow (size_of c.args.size) (all_types c.args.inputs.now c.args.images.now) c.args.planes.now c.requires.types c.requires.values (tree_of c.args.e.now) (search rules)
