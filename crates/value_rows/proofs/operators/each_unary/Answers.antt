@@ -5,7 +5,7 @@ use mir.Syntax.{w64}
 use Rattle.dk_base.specs.Operators.{unary_value}
 use Rattle.value_rows.specs.Rows.{entry}
 use Rattle.value_rows.proofs.Steps.{done_more, rest_less}
-use Rattle.value_rows.proofs.operators.unary_row.Goals as goal
+use Rattle.value_rows.proofs.operators.each_unary.Goals as goal
 
 pub loop-k-preserved : goal.loop-k-preserved
 loop-k-preserved c =
