@@ -5,3 +5,4 @@ pub mod Rendered
 pub mod Outputs
 pub mod Fits
 pub mod Narrows
+pub mod Pixels

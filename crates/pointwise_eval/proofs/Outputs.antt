@@ -1,5 +1,5 @@
 -- The frames of the outputs.
-use Rattle.std.proofs.Common.{◌≡◌, ℕ, zero, suc, ◌+◌, ◌*◌, ◌/◌, ◌%◌, ◌^◌, ◌<◌, ◌≤◌, Bool, List, [], ◌∷◌, ◌++◌, length, map, take, get_or, ℤ, pos, unsigned_abs, ◌≤ℤ◌, ◌<ℤ◌, Some, slice_get, refl, ap, sym, ◌∙◌, subst, arith, inl, inr, mul_comm, if◌then◌else◌}
+use Rattle.std.proofs.Common.{◌≡◌, ◌≢◌, ℕ, zero, suc, ◌+◌, ◌*◌, ◌/◌, ◌%◌, ◌^◌, ◌<◌, ◌≤◌, Bool, List, [], ◌∷◌, ◌++◌, length, map, take, get_or, ℤ, pos, unsigned_abs, ◌≤ℤ◌, ◌<ℤ◌, Some, slice_get, refl, ap, sym, ◌∙◌, subst, arith, inl, inr, mul_comm, if◌then◌else◌}
 use Rattle.std.specs.List.{All}
 use Rattle.std.proofs.Math.Nat.{mod-lt, div-add-mod, mul-le-mul_right}
 use Rattle.std.proofs.lemmas.Bool.{cases_lt}
@@ -13,6 +13,7 @@ use Rattle.dk_base.specs.declared.ty.Ty.TheVariants.{Unsigned, Signed}
 use Rattle.dk_base.specs.Types.{IsIn}
 use Rattle.dk_base.specs.Frames.{Size, area, Picture, raster}
 use Rattle.dk_base.proofs.Rasters.{inside, raster_is}
+use Rattle.dk_base.specs.Stencils.{IsDistinct}
 use Rattle.dk_base.specs.Types.{IsPort}
 use Rattle.pointwise_ir.specs.Programs.{Program, IsProgram, types_of}
 use Rattle.dk_base.specs.Frames.{picture_at}
@@ -135,3 +136,20 @@ frames_are p known needed planes size outputs shows_of is needs shows same outs 
     ∙ ap (λ ps. map (λ g. frame_of p.size (picture_at (all_shown p.size ps) g)) outputs) there
     ∙ ap (map (λ g. frame_of p.size (picture_at (all_shown p.size planes) g))) outs
     ∙ outputs_are p known needed planes is needs shows
+
+-- the plane that is taken is the one that was there
+pub taken_is : (planes now : List Plane) (g : ℕ) (q : Plane) → slice_get now g ≡ Some q → slice_get now g ≡ slice_get planes g → q ≡ get_or planes g q
+taken_is planes now g q there same = sym (get_or_from_slice_get planes g q q (sym same ∙ there))
+
+pub taken_within : (size : Size) (planes now : List Plane) (g : ℕ) → IsOutputPlane size planes g → slice_get now g ≡ slice_get planes g → g < length now
+taken_within size planes now g out same = slice_get_within now g out.whole.plane (same ∙ out.whole.there)
+
+-- and the later ones are still there
+pub others_there : (planes now next : List Plane) (outputs : List ℕ) (i : ℕ) → IsDistinct outputs → ((g : ℕ) → g ≢ get_or outputs i 0 → slice_get next g ≡ slice_get now g) →
+    ((j : ℕ) → i ≤ j → j < length outputs → slice_get now (get_or outputs j 0) ≡ slice_get planes (get_or outputs j 0)) →
+    (j : ℕ) → i + 1 ≤ j → j < length outputs → slice_get next (get_or outputs j 0) ≡ slice_get planes (get_or outputs j 0)
+others_there planes now next outputs i distinct others there j more lt =
+    let before : i < j = omega (arith, more) in
+    let le : i ≤ j = omega (arith, more) in
+    let ne : get_or outputs j 0 ≢ get_or outputs i 0 = λ e. distinct i j before lt (sym e) in
+    others (get_or outputs j 0) ne ∙ there j le lt

@@ -1,8 +1,8 @@
 -- Expressions whose parts have values of 64 bits.
 use Rattle.std.specs.Prelude.{ℤ, List}
 use Rattle.dk_base.specs.declared.ty.Ty.{Ty}
-use Rattle.dk_base.specs.declared.ty.Ty.TheVariants.{Signed}
-use Rattle.dk_base.specs.Types.{IsWithin}
+use Rattle.dk_base.specs.declared.ty.Ty.TheVariants.{Unsigned, Signed}
+use Rattle.dk_base.specs.Types.{IsIn, IsWithin}
 use Rattle.dk_base.specs.Frames.{Size, Picture}
 use Rattle.pointwise_ir.specs.Trees.{Tree, constant, read, shifted, unary, binary, select, convert, scale}
 use Rattle.pointwise_ir.specs.Typing.{HasType}
@@ -38,3 +38,7 @@ AreOfNarrowTypes types (binary op a b) = HasNarrowType types (binary op a b) × 
 AreOfNarrowTypes types (select c a b) = HasNarrowType types (select c a b) × AreOfNarrowTypes types c × AreOfNarrowTypes types a × AreOfNarrowTypes types b
 AreOfNarrowTypes types (convert how a t) = HasNarrowType types (convert how a t) × AreOfNarrowTypes types a
 AreOfNarrowTypes types (scale op a k) = HasNarrowType types (scale op a k) × AreOfNarrowTypes types a
+
+-- each value is a sample
+abbrev pub AreFew : Size → List Picture → Tree → Type 0
+AreFew size known e = (x y : ℤ) → IsIn (Unsigned 16) (value size known e x y)

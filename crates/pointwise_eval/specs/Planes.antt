@@ -10,15 +10,25 @@ use Rattle.dk_base.specs.Types.{IsPort}
 use Rattle.dk_base.specs.Frames.{framed, picture_at}
 use Rattle.pointwise_ir.specs.Meaning.{edged, value}
 use Rattle.pointwise_eval.specs.declared.plane.Plane.{Plane}
-use Rattle.pointwise_eval.specs.declared.plane.Plane.TheVariants.{Narrow, Wide}
+use Rattle.pointwise_eval.specs.declared.plane.Plane.TheVariants.{Input, Samples, Narrow, Wide}
+use Rattle.pointwise_eval.specs.declared.plane.Row.{Row}
+use Rattle.pointwise_eval.specs.declared.plane.Row.TheVariants.{Pixels, Values}
 
 -- its values
 abbrev pub values_of : Plane → List ℤ
+values_of (Input samples) = map pos samples.now
+values_of (Samples samples) = map pos samples.items
 values_of (Narrow values) = values.items
 values_of (Wide values) = values.items
 
+abbrev pub entries_of : Row → List ℤ
+entries_of (Pixels samples) = map pos samples.now
+entries_of (Values values) = values.now
+
 -- a plane of values of 64 bits
 abbrev pub IsByRows : Plane → Type 0
+IsByRows (Input samples) = Unit {0}
+IsByRows (Samples samples) = Unit {0}
 IsByRows (Narrow values) = Unit {0}
 IsByRows (Wide values) = ⊥
 

@@ -1,10 +1,11 @@
 // The pictures of all images that the outputs need, one after another.
 
-ghost use Rattle.std.specs.Prelude.{◌≡◌, ℕ, ◌<◌, ◌≤◌, ◌≤ℤ◌, ◌<ℤ◌, pos, IfOk, IsTrue, length, map, take, unsigned_abs};
+ghost use Rattle.std.specs.Prelude.{◌≡◌, ◌≢◌, ℕ, Some, slice_get, ◌<◌, ◌≤◌, ◌≤ℤ◌, ◌<ℤ◌, pos, IfOk, IsTrue, length, map, take, unsigned_abs};
 ghost use Rattle.std.specs.List.{All};
 ghost use Rattle.dk_base.specs.declared.TheConstants.{MAX_INLINED_DEPTH};
 ghost use Rattle.dk_base.specs.Types.{IsType};
 ghost use Rattle.dk_base.specs.FrameSizes.{size_of};
+ghost use Rattle.dk_base.specs.Stencils.{IsDistinct};
 ghost use Rattle.pointwise_ir.specs.Trees.{tree_of, depth_of};
 ghost use Rattle.pointwise_ir.specs.Programs.{all_types, types_of};
 ghost use Rattle.dk_base.specs.Frames.{picture_at};
@@ -20,39 +21,29 @@ use dk_base::{FrameSize, Memory};
 use dk_frames::{Frame, Samples};
 use pointwise_ir::{Definition, Expr, Input, Ir};
 use std::alloc::Global;
-
-// The values of a frame's samples.
-fn input_plane(alloc: Global, frame: &Frame) -> Result<Plane, Memory>
-    ensures { IfOk result (λ p. values_of p ≡ map pos frame.now.samples) }
-{
-    let mut values = Vec::new(alloc);
-    for sample in frame.samples.as_slice() {
-        values.push(i64::from(*sample))?;
-    }
-    Ok(Plane::Narrow(values))
-}
+use std::mem;
 
 // The planes of the inputs.
-fn input_planes(alloc: Global, frames: &[Frame]) -> Result<Vec<Plane>, Memory>
+fn input_planes<'a>(alloc: Global, frames: &'a [Frame]) -> Result<Vec<Plane<'a>>, Memory>
     ensures { IfOk result (λ planes. map values_of planes.items ≡ map (λ f. map pos f.samples) frames.now) }
 {
     let mut planes = Vec::new(alloc);
     for frame in frames {
-        planes.push(input_plane(alloc, frame)?)?;
+        planes.push(Plane::Input(frame.samples.as_slice()))?;
     }
     Ok(planes)
 }
 
 // The plane of an image that is no input, which is empty where it is not wanted.
-fn next_plane(
+fn next_plane<'a>(
     alloc: Global,
     size: FrameSize,
-    planes: &[Plane],
+    planes: &[Plane<'_>],
     inputs: &[Input],
     images: &[Definition],
     body: &Expr,
     wanted: bool,
-) -> Result<Plane, Memory>
+) -> Result<Plane<'a>, Memory>
     requires can { IsTrue wanted → CanEvaluate (size_of size) planes.now (tree_of body.now) }
     requires types { All IsType (all_types inputs.now images.now) }
     requires values { AreValues (size_of size) (all_types inputs.now images.now) planes.now }
@@ -75,12 +66,12 @@ fn earlier(images: &[Definition], k: usize) -> &[Definition]
 }
 
 // The planes of all images, of which the needed ones are there.
-fn all_planes(
+fn all_planes<'a>(
     alloc: Global,
     ir: &Ir,
-    frames: &[Frame],
+    frames: &'a [Frame],
     needed: &[bool],
-) -> Result<Vec<Plane>, Memory>
+) -> Result<Vec<Plane<'a>>, Memory>
     requires frames { AreFrames ir.now frames.now }
     requires needs { AreNeeds ir.now needed.now }
     ensures { IfOk result (λ planes. ShowsNeeded ir.now.size (types_of ir.now) (pictures ir.now (round_of ir.now.size frames.now)) needed.now planes.items) }
@@ -132,20 +123,23 @@ fn wide_samples(alloc: Global, values: &[i128]) -> Result<Vec<u16>, Memory>
 }
 
 // The samples of a plane.
-fn samples_of(alloc: Global, plane: &Plane) -> Result<Vec<u16>, Memory>
-    requires { All (λ v. (pos 0 ≤ℤ v) × (v <ℤ pos 65536)) (values_of plane.now) }
-    ensures { IfOk result (λ s. s.items ≡ map unsigned_abs (values_of plane.now)) }
+#[tactic(auto, using(crate::proofs::Pixels::samples_back))]
+fn samples_of(alloc: Global, plane: Plane<'_>) -> Result<Vec<u16>, Memory>
+    requires { All (λ v. (pos 0 ≤ℤ v) × (v <ℤ pos 65536)) (values_of plane) }
+    ensures { IfOk result (λ s. s.items ≡ map unsigned_abs (values_of plane.entry)) }
 {
     match plane {
-        Plane::Narrow(values) => narrow_samples(alloc, values),
-        Plane::Wide(values) => wide_samples(alloc, values),
+        Plane::Input(samples) => Ok(Vec::from_slice(alloc, samples)?),
+        Plane::Samples(samples) => Ok(samples),
+        Plane::Narrow(values) => narrow_samples(alloc, &values),
+        Plane::Wide(values) => wide_samples(alloc, &values),
     }
 }
 
 // The frame of values that are samples.
-fn output_frame(alloc: Global, size: FrameSize, plane: &Plane) -> Result<Frame, Memory>
-    requires { All (λ v. (pos 0 ≤ℤ v) × (v <ℤ pos 65536)) (values_of plane.now) }
-    ensures { IfOk result (λ f. f ≡ record { width = size.width; height = size.height; samples = map unsigned_abs (values_of plane.now) }) }
+fn output_frame(alloc: Global, size: FrameSize, plane: Plane<'_>) -> Result<Frame, Memory>
+    requires { All (λ v. (pos 0 ≤ℤ v) × (v <ℤ pos 65536)) (values_of plane) }
+    ensures { IfOk result (λ f. f ≡ record { width = size.width; height = size.height; samples = map unsigned_abs (values_of plane.entry) }) }
 {
     let samples = samples_of(alloc, plane)?;
     Ok(Frame {
@@ -155,19 +149,30 @@ fn output_frame(alloc: Global, size: FrameSize, plane: &Plane) -> Result<Frame, 
     })
 }
 
-// The frames of the outputs.
+// Takes out the plane of an image, which is empty from then on.
+fn take_plane<'a>(alloc: Global, planes: &mut [Plane<'a>], image: u32) -> Plane<'a>
+    requires { image < length planes.old }
+    ensures taken { slice_get planes.old image ≡ Some result }
+    ensures others { (g : ℕ) → g ≢ image → slice_get planes.new g ≡ slice_get planes.old g }
+{
+    mem::replace(&mut planes[image as usize], Plane::Narrow(Vec::new(alloc)))
+}
+
+// The frames of the outputs, whose planes are taken.
 fn frames_of_outputs(
     alloc: Global,
     size: FrameSize,
     outputs: &[u32],
-    planes: &[Plane],
+    planes: &mut [Plane<'_>],
 ) -> Result<Vec<Frame>, Memory>
-    requires { All (IsOutputPlane (size_of size) planes.now) outputs.now }
-    ensures { IfOk result (λ frames. frames.items ≡ map (λ g. frame_of (size_of size) (picture_at (all_shown (size_of size) planes.now) g)) outputs.now) }
+    requires outputs { All (IsOutputPlane (size_of size) planes.old) outputs.now }
+    requires distinct { IsDistinct outputs.now }
+    ensures { IfOk result (λ frames. frames.items ≡ map (λ g. frame_of (size_of size) (picture_at (all_shown (size_of size) planes.old) g)) outputs.now) }
 {
     let mut frames = Vec::new(alloc);
     for output in outputs {
-        let frame = output_frame(alloc, size, &planes[*output as usize])?;
+        let plane = take_plane(alloc, planes, *output);
+        let frame = output_frame(alloc, size, plane)?;
         frames.push(frame)?;
     }
     Ok(frames)
@@ -180,7 +185,7 @@ pub fn evaluate(alloc: Global, ir: &Ir, frames: &[Frame]) -> Result<Vec<Frame>, 
 {
     ir.law();
     let needed = needs(alloc, ir)?;
-    let planes = all_planes(alloc, ir, frames, &needed)?;
-    let outs = frames_of_outputs(alloc, ir.size(), ir.outputs(), &planes)?;
+    let mut planes = all_planes(alloc, ir, frames, &needed)?;
+    let outs = frames_of_outputs(alloc, ir.size(), ir.outputs(), &mut planes)?;
     Ok(outs)
 }

@@ -112,7 +112,7 @@ pub fn narrow_type(e: &Expr, inputs: &[Input], images: &[Definition]) -> Option<
 }
 
 // Whether the image can be read by rows.
-fn has_rows(planes: &[Plane], image: u32) -> bool
+fn has_rows(planes: &[Plane<'_>], image: u32) -> bool
     ensures { IsTrue result → HasRows planes.now image }
 {
     let image = image as usize;
@@ -124,7 +124,7 @@ fn has_rows(planes: &[Plane], image: u32) -> bool
 }
 
 /// Whether each image that the expression reads can be read by rows.
-pub fn reads_rows(planes: &[Plane], e: &Expr) -> bool
+pub fn reads_rows(planes: &[Plane<'_>], e: &Expr) -> bool
     ensures { IsTrue result → EachImage (HasRows planes.now) (tree_of e.now) }
 {
     match e {

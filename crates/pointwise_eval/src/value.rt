@@ -1,6 +1,6 @@
 // The value of an expression at a pixel.
 
-ghost use Rattle.std.specs.Prelude.{◌≡◌, ◌<◌, pos, IfOk, length, slice_index_or};
+ghost use Rattle.std.specs.Prelude.{◌≡◌, ◌<◌, pos, IfOk, length, map, slice_index_or};
 ghost use Rattle.dk_base.specs.Frames.{area};
 ghost use Rattle.dk_base.specs.FrameSizes.{size_of};
 ghost use Rattle.pointwise_ir.specs.Trees.{tree_of};
@@ -14,19 +14,30 @@ use dk_base::{FrameSize, Memory};
 use pointwise_ir::{Expr, binary_value, conversion_value, scaling_value, unary_value};
 use std::alloc::Global;
 
+// A sample as a value.
+#[tactic(auto, using(crate::proofs::Pixels::sample_within, crate::proofs::Pixels::sample_value))]
+fn sample_at(samples: &[u16], place: usize) -> i128
+    requires { place < length (map pos samples.now) }
+    ensures { result ≡ slice_index_or (map pos samples.now) place (pos 0) }
+{
+    i128::from(samples[place])
+}
+
 // A value of a plane.
-fn value_of(plane: &Plane, place: usize) -> i128
+fn value_of(plane: &Plane<'_>, place: usize) -> i128
     requires { place < length (values_of plane.now) }
     ensures { result ≡ slice_index_or (values_of plane.now) place (pos 0) }
 {
     match plane {
+        Plane::Input(samples) => sample_at(*samples, place),
+        Plane::Samples(samples) => sample_at(samples, place),
         Plane::Narrow(values) => i128::from(values[place]),
         Plane::Wide(values) => values[place],
     }
 }
 
 // The value of an image at a pixel.
-fn sample(size: FrameSize, planes: &[Plane], image: u32, at: Point) -> i128
+fn sample(size: FrameSize, planes: &[Plane<'_>], image: u32, at: Point) -> i128
     requires whole { IsWhole (size_of size) planes.now image }
     requires across { at.x < size.width }
     requires down { at.y < size.height }
@@ -37,7 +48,7 @@ fn sample(size: FrameSize, planes: &[Plane], image: u32, at: Point) -> i128
 }
 
 /// The value of an expression at a pixel.
-pub fn value_at(size: FrameSize, planes: &[Plane], e: &Expr, at: Point) -> i128
+pub fn value_at(size: FrameSize, planes: &[Plane<'_>], e: &Expr, at: Point) -> i128
     requires can { CanEvaluate (size_of size) planes.now (tree_of e.now) }
     requires across { at.x < size.width }
     requires down { at.y < size.height }
@@ -74,12 +85,12 @@ pub fn value_at(size: FrameSize, planes: &[Plane], e: &Expr, at: Point) -> i128
 }
 
 /// The values of an expression at all pixels, each by itself.
-pub fn render_points(
+pub fn render_points<'a>(
     alloc: Global,
     size: FrameSize,
-    planes: &[Plane],
+    planes: &[Plane<'_>],
     e: &Expr,
-) -> Result<Plane, Memory>
+) -> Result<Plane<'a>, Memory>
     requires can { CanEvaluate (size_of size) planes.now (tree_of e.now) }
     ensures whole { IfOk result (λ p. length (values_of p) ≡ area (size_of size)) }
     ensures value { IfOk result (λ p. shown (size_of size) (values_of p) ≡ framed (size_of size) (value (size_of size) (all_shown (size_of size) planes.now) (tree_of e.now))) }

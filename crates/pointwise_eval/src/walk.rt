@@ -1,20 +1,22 @@
 // The values of an expression along a row of the frame.
 
-ghost use Rattle.std.specs.Prelude.{◌≡◌, ◌+◌, ◌*◌, ◌<◌, ◌≤◌, pos, ◌+ℤ◌, length, MatchOption};
+ghost use Rattle.std.specs.Prelude.{◌≡◌, ℕ, map, ◌+◌, ◌*◌, ◌<◌, ◌≤◌, pos, ◌+ℤ◌, length, MatchOption};
 ghost use Rattle.dk_base.specs.FrameSizes.{size_of};
 ghost use Rattle.pointwise_ir.specs.Trees.{tree_of, depth_of, EachImage};
 ghost use Rattle.dk_base.specs.Frames.{picture_at};
 ghost use Rattle.pointwise_ir.specs.Meaning.{value};
-ghost use Rattle.value_rows.specs.Rows.{IsRow, IsNarrow};
-ghost use Rattle.pointwise_eval.specs.Planes.{values_of, IsByRows, all_shown, IsWhole, HasRows, CanEvaluate};
+ghost use Rattle.value_rows.specs.Rows.{entry, beside, IsRow, IsNarrow};
+ghost use Rattle.pointwise_eval.specs.Planes.{values_of, entries_of, IsByRows, all_shown, IsWhole, HasRows, CanEvaluate};
 ghost use Rattle.pointwise_eval.specs.Steps.{LeadsNowhere, LeadsToRow};
 ghost use Rattle.pointwise_eval.specs.Narrow.{AreNarrow};
 
-use crate::plane::Plane;
+use crate::plane::{Plane, Row};
 use crate::point::{brought, moved};
 use dk_base::FrameSize;
 use pointwise_ir::{Edge, Expr};
-use value_rows::{binary_row, convert_row, fill_part, scale_row, select_row, shift_row, unary_row};
+use value_rows::{
+    binary_row, convert_row, fill_part, scale_row, select_row, shift_row, shift_samples, unary_row,
+};
 
 // The row to which a step leads, or None where it leads out of the frame.
 fn row_at(edge: Edge, y: u32, dy: i32, height: u32) -> Option<u32>
@@ -42,32 +44,90 @@ fn narrow(value: i128) -> i64
 }
 
 // The values of a plane that can be read by rows.
-fn narrow_values(plane: &Plane) -> &[i64]
+fn row_values<'a>(plane: &'a Plane<'_>) -> Row<'a>
     requires { IsByRows plane.now }
-    ensures { result.now ≡ values_of plane.now }
+    ensures { entries_of result ≡ values_of plane.now }
 {
     match plane {
-        Plane::Narrow(values) => values.as_slice(),
-        Plane::Wide(_) => &[],
+        Plane::Input(samples) => Row::Pixels(*samples),
+        Plane::Samples(samples) => Row::Pixels(samples.as_slice()),
+        Plane::Narrow(values) => Row::Values(values.as_slice()),
+        Plane::Wide(_) => Row::Values(&[]),
+    }
+}
+
+// So many samples from a place on.
+#[tactic(auto, using(crate::proofs::Pixels::part_length, crate::proofs::Pixels::part_entry, crate::proofs::Pixels::all_within))]
+fn samples_part(samples: &[u16], start: usize, count: usize) -> &[u16]
+    requires { start + count ≤ length (map pos samples.now) }
+    ensures whole { length (map pos result.now) ≡ count }
+    ensures values { (k : ℕ) → k < count → entry (map pos result.now) k ≡ entry (map pos samples.now) (start + k) }
+{
+    samples.split_at(start).1.split_at(count).0
+}
+
+// So many values from a place on.
+fn values_part(values: &[i64], start: usize, count: usize) -> &[i64]
+    requires { start + count ≤ length values.now }
+    ensures whole { length result.now ≡ count }
+    ensures values { (k : ℕ) → k < count → entry result.now k ≡ entry values.now (start + k) }
+{
+    values.split_at(start).1.split_at(count).0
+}
+
+// So many values of a row from a place on.
+fn part<'a>(row: Row<'a>, start: usize, count: usize) -> Row<'a>
+    requires { start + count ≤ length (entries_of row) }
+    ensures whole { length (entries_of result) ≡ count }
+    ensures values { (k : ℕ) → k < count → entry (entries_of result) k ≡ entry (entries_of row.entry) (start + k) }
+{
+    match row {
+        Row::Pixels(samples) => Row::Pixels(samples_part(samples, start, count)),
+        Row::Values(values) => Row::Values(values_part(values, start, count)),
+    }
+}
+
+// A row of samples, read `by` columns to the right.
+#[tactic(auto, using(crate::proofs::Pixels::same_length))]
+fn read_samples(edge: Edge, by: i32, samples: &[u16], to: &mut [i64])
+    requires same { length (map pos samples.now) ≡ length to.old }
+    requires some { 0 < length to.old }
+    ensures { (x : ℕ) → x < length to.old → entry to.new x ≡ beside edge (map pos samples.now) (pos x +ℤ by) }
+{
+    shift_samples(edge, by, samples, to)
+}
+
+// The row, read `by` columns to the right.
+fn read_row(edge: Edge, by: i32, row: Row<'_>, to: &mut [i64])
+    requires same { length (entries_of row) ≡ length to.old }
+    requires some { 0 < length to.old }
+    ensures { (x : ℕ) → x < length to.old → entry to.new x ≡ beside edge (entries_of row.entry) (pos x +ℤ by) }
+{
+    match row {
+        Row::Pixels(samples) => read_samples(edge, by, samples, to),
+        Row::Values(values) => shift_row(edge, by, values, to),
     }
 }
 
 // Row y of an image.
-fn row_of(size: FrameSize, planes: &[Plane], image: u32, y: u32) -> &[i64]
+fn row_of<'a>(size: FrameSize, planes: &'a [Plane<'_>], image: u32, y: u32) -> Row<'a>
     requires whole { IsWhole (size_of size) planes.now image }
     requires rows { HasRows planes.now image }
     requires down { y < size.height }
-    ensures { IsRow (size_of size) (picture_at (all_shown (size_of size) planes.now) image) (pos y) result.now }
+    ensures { IsRow (size_of size) (picture_at (all_shown (size_of size) planes.now) image) (pos y) (entries_of result) }
 {
     let width = size.width as usize;
-    let values = narrow_values(&planes[image as usize]);
-    values.split_at(y as usize * width).1.split_at(width).0
+    part(
+        row_values(&planes[image as usize]),
+        y as usize * width,
+        width,
+    )
 }
 
 /// Writes the values of an expression along row y. `scratch` has two rows for each level of the expression.
 pub fn value_row(
     size: FrameSize,
-    planes: &[Plane],
+    planes: &[Plane<'_>],
     e: &Expr,
     y: u32,
     to: &mut [i64],
@@ -85,7 +145,7 @@ pub fn value_row(
     match e {
         Expr::Constant(value, _) => fill_part(to, 0, width, narrow(*value)),
         Expr::Read(edge, image, dx, dy) => match row_at(*edge, y, *dy, size.height) {
-            Some(there) => shift_row(*edge, *dx, row_of(size, planes, *image, there), to),
+            Some(there) => read_row(*edge, *dx, row_of(size, planes, *image, there), to),
             None => fill_part(to, 0, width, 0),
         },
         Expr::Shifted(edge, dx, dy, body) => match row_at(*edge, y, *dy, size.height) {

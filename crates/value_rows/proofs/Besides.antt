@@ -1,7 +1,8 @@
 -- What stands beside a row.
-use Rattle.std.proofs.Common.{◌≡◌, ◌∙◌, sym, ℕ, suc, ◌+◌, ◌-◌, ◌<◌, ◌≤◌, List, length, ℤ, pos, negsuc, ◌+ℤ◌, ◌≤ℤ◌, ◌<ℤ◌, unsigned_abs, arith, refl, inl, inr, ap}
+use Rattle.std.proofs.Common.{map, slice_index, ◌≡◌, ◌∙◌, sym, ℕ, suc, ◌+◌, ◌-◌, ◌<◌, ◌≤◌, List, length, ℤ, pos, negsuc, ◌+ℤ◌, ◌≤ℤ◌, ◌<ℤ◌, unsigned_abs, arith, refl, inl, inr, ap}
 use Rattle.std.proofs.lemmas.Bool.{cases_lt}
 use Rattle.std.proofs.lemmas.Int.{ints}
+use Rattle.std.proofs.lemmas.List.{length-map, get_or-map}
 use Rattle.pointwise_ir.specs.declared.expr.Edge.{Edge}
 use Rattle.pointwise_ir.specs.declared.expr.Edge.TheVariants.{Zero, Clamp}
 use Rattle.value_rows.specs.Rows.{entry, end_of, beside}
@@ -62,3 +63,20 @@ left_row edge from new (negsuc n) columns lt near far inside outside x within = 
       let row : x - (n + 1) < length from = omega (arith, within) in
       ap (entry new) there ∙ inside (x - (n + 1)) inner ∙ sym (beside_in edge from (x - (n + 1)) row) ∙ ap (beside edge from) (sym e)
 ]
+
+-- the same of samples
+pub right_samples : (edge : Edge) (from : List ℕ) (new : List ℤ) (z : ℤ) (columns : ℕ) → pos 0 ≤ℤ z → (unsigned_abs z ≤ length from → columns ≡ unsigned_abs z) → (length from ≤ unsigned_abs z → columns ≡ length from) →
+    ((x : ℕ) → x + columns < length from → entry new x ≡ entry (map pos from) (x + columns)) →
+    ((x last : ℕ) → last + 1 ≡ length from → x < length from → length from ≤ x + columns → entry new x ≡ end_of edge (entry (map pos from) last)) →
+    (x : ℕ) → x < length from → entry new x ≡ beside edge (map pos from) (pos x +ℤ z)
+right_samples edge from new z columns = rw (length-map from pos) at (right_row edge (map pos from) new z columns)
+
+pub left_samples : (edge : Edge) (from : List ℕ) (new : List ℤ) (z : ℤ) (columns : ℕ) → z <ℤ pos 0 → (unsigned_abs z ≤ length from → columns ≡ unsigned_abs z) → (length from ≤ unsigned_abs z → columns ≡ length from) →
+    ((x : ℕ) → x + columns < length from → entry new (x + columns) ≡ entry (map pos from) x) →
+    ((x : ℕ) → x < columns → entry new x ≡ end_of edge (entry (map pos from) 0)) →
+    (x : ℕ) → x < length from → entry new x ≡ beside edge (map pos from) (pos x +ℤ z)
+left_samples edge from new z columns = rw (length-map from pos) at (left_row edge (map pos from) new z columns)
+
+-- a sample as a value
+pub sample_entry : (s : List ℕ) (i : ℕ) → i < length s → pos (slice_index s i) ≡ entry (map pos s) i
+sample_entry s i lt = sym (get_or-map pos s i 0 (pos 0) lt)
