@@ -328,3 +328,43 @@ fn several_inputs_and_outputs(rt: HostRuntime) -> Result<(), Fail> {
     assert!(rt; none.is_empty(), "a sample is too great");
     Ok(())
 }
+
+/// An image of numbers of many bits, whose top ones are the samples; the samples again from the column to the left, these from the column to the right, and the highest bit.
+fn top_bits(alloc: Global, ty: Ty, by: u64, half: u64) -> Result<Vec<Definition>, AllocError> {
+    let raised = scale(alloc, Scaling::ShiftLeft, read(0, 0), by)?;
+    let left = Expr::Read(Edge::Clamp, 1, -1, 0);
+    let lowered = scale(alloc, Scaling::ShiftRight, left, by)?;
+    let again = convert(alloc, Conversion::Cast, lowered, BYTE)?;
+    let part = scale(
+        alloc,
+        Scaling::Divide,
+        Expr::Read(Edge::Zero, 1, 0, 0),
+        half,
+    )?;
+    let bit = Ty::Unsigned(1);
+    let highest = convert(alloc, Conversion::Cast, part, bit)?;
+    let mut images = Vec::new(alloc);
+    images.push(image(alloc, ty, raised))?;
+    images.push(image(alloc, BYTE, again))?;
+    images.push(image(alloc, BYTE, Expr::Read(Edge::Zero, 2, 1, 0)))?;
+    images.push(image(alloc, bit, highest))?;
+    Ok(images)
+}
+
+// The same pictures by numbers of 64 bits and of 63: only the latter are evaluated by rows.
+#[test]
+fn numbers_of_many_bits(rt: HostRuntime) -> Result<(), Fail> {
+    let alloc = rt.alloc();
+    for (width, by, half) in [
+        (64, 56u64, 9_223_372_036_854_775_808u64),
+        (63, 55, 4_611_686_018_427_387_904),
+    ] {
+        let images = top_bits(alloc, Ty::Unsigned(width), by, half)?;
+        let mut frames = Vec::new(alloc);
+        frames.push(frame(alloc, 3, 1, &[200, 7, 255])?)?;
+        let got = samples(alloc, &frames, images, &[2, 3, 4])?;
+        let want = [200u16, 200, 7, 200, 7, 0, 1, 0, 1].as_slice();
+        assert_eq!(rt; got.as_slice(), want, "{width} bits");
+    }
+    Ok(())
+}
