@@ -1,0 +1,3 @@
+pub mod BlockRuns
+pub mod Clockwise
+pub mod StreamRuns

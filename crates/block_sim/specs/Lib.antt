@@ -1,0 +1,3 @@
+pub mod Block
+pub mod Called
+pub mod Streams

@@ -1,0 +1,128 @@
+// Blocks of clocks.
+
+ghost use Rattle.std.specs.Prelude.{◌≡◌, ℕ, Err, List, ◌*◌, length, All, IfOk, OnOk, IfErr, OnErr};
+ghost use Rattle.wiring.specs.Netlist.{netlist_of};
+ghost use Rattle.wiring.specs.Rules.{KeepsRules};
+ghost use Rattle.wiring.specs.Snapshot.{Snapshot, Fit, HasOneSnapshot, HasOneNext, HasPlaces, FitsContents};
+ghost use Rattle.wiring.specs.Clock.{Clock};
+ghost use Rattle.wiring.specs.Runs.{RunStops};
+ghost use Rattle.cycle_sim.specs.Ports.{din_widths, AreShown};
+ghost use Rattle.cycle_sim.specs.Filled.{filled_contents};
+ghost use Rattle.cycle_sim.specs.Simulated.{GoesOn, StopsIn, clock};
+ghost use Rattle.block_sim.specs.Called.{din_count, output_count, block_clocks, BlockRan, BlockStops};
+
+use crate::each::step_each;
+use cycle_sim::{Fill, IndexRange, Out, Sim};
+use dk_base::Memory;
+use netlist::{Module, Wiring, one_run};
+use std::alloc::Global;
+use std::marker::Model;
+
+/// A netlist with what its registers and arrays hold, clocked many clocks at a time.
+#[derive(Debug, Drop)]
+pub struct Blocks {
+    sim: Sim,
+    dins: usize,
+}
+
+impl Model for Blocks {
+    ghost use Rattle.std.specs.Prelude.{◌≡◌};
+    ghost use Rattle.cycle_sim.specs.Simulated.{Machine};
+    ghost use Rattle.block_sim.specs.Called.{din_count};
+
+    ghost Value = { Machine };
+
+    ghost view = { λ b. b.sim };
+
+    ghost invariant = { λ b. b.dins ≡ din_count b.sim.netlist };
+}
+
+/// Where a block stops: so many clocks took place, and in the next one this index is outside its array.
+#[derive(Clone, Copy, Debug, PartialEq, Eq)]
+pub struct Stop {
+    pub done: usize,
+    pub range: IndexRange,
+}
+
+/// The number of dins: the inputs behind `rst` and, where there is one, `en`.
+fn dins_in(wiring: &Wiring) -> usize
+    requires { KeepsRules (netlist_of wiring.now) }
+    ensures { result ≡ din_count (netlist_of wiring.now) }
+{
+    let first = if wiring.enable { 2 } else { 1 };
+    wiring.inputs.split_at(first).1.len()
+}
+
+/// The number of dins of a module.
+fn dins_of(module: &Module) -> usize
+    ensures { result ≡ din_count «module».now.netlist }
+{
+    let wiring = module.wiring();
+    dins_in(wiring)
+}
+
+impl Blocks {
+    /// A simulator of a module, with these contents at power-up. No later call takes memory.
+    pub fn new(alloc: Global, module: &Module, fill: Fill) -> Result<Blocks, Memory>
+        ensures netlist { IfOk result (λ b. b.netlist ≡ «module».now.netlist) }
+        ensures contents { IfOk result (λ b. b.contents ≡ filled_contents fill «module».now.netlist) }
+    {
+        let dins = dins_of(module);
+        let sim = Sim::new(alloc, module, fill)?;
+        let blocks = Blocks { sim, dins };
+        Ok(blocks)
+    }
+
+    /// A law: there is one valuation for each contents and inputs and one next contents, and what registers and arrays hold fits them.
+    pub fn law(&self)
+        ensures one_valuation { HasOneSnapshot self.now.netlist }
+        ensures one_next { HasOneNext self.now.netlist }
+        ensures places { HasPlaces self.now.netlist self.now.contents }
+        ensures fit { FitsContents self.now.netlist self.now.contents }
+    {
+        self.sim.law();
+    }
+
+    /// One clock, a reset among them, as `Sim::step_all` makes it.
+    pub fn step_all(
+        &mut self,
+        reset: bool,
+        enable: bool,
+        dins: &[u64],
+        outs: &mut [Out],
+    ) -> Result<(), IndexRange>
+        requires dins { Fit (din_widths self.old.netlist) dins.now }
+        requires outs { length self.old.netlist.outputs ≡ 2 * length outs.old }
+        ensures netlist { self.new.netlist ≡ self.old.netlist }
+        ensures ok { OnOk result ((s : Snapshot) × GoesOn self.old (clock reset enable dins.now) s self.new × AreShown s outs.new) }
+        ensures stops { IfErr result (λ r. StopsIn self.old (clock reset enable dins.now) r.array r.index) }
+        ensures only { (x i : ℕ) → StopsIn self.old (clock reset enable dins.now) x i → result ≡ Err (record { array = x; index = i }) }
+        ensures err { OnErr result (self.new ≡ self.old) }
+        ensures outs { OnErr result (outs.new ≡ outs.old) }
+    {
+        self.sim.step_all(reset, enable, dins, outs)
+    }
+
+    /// As many clocks as `enables` has, none of them a reset. The dins of each clock, in their order and each fitting its port,
+    /// stand behind those of the clock before, and so do its outputs, which are as they are before its edge. It answers Stop
+    /// exactly where one of the clocks stops: those before it took place, and the outputs from it on are as they were. It takes
+    /// no memory.
+    pub fn step_block(
+        &mut self,
+        enables: &[bool],
+        dins: &[u64],
+        outs: &mut [Out],
+    ) -> Result<(), Stop>
+        requires dins { All (λ (c : Clock). Fit (din_widths self.old.netlist) c.dins) (block_clocks self.old.netlist enables.now dins.now) }
+        requires all { length dins.now ≡ length enables.now * din_count self.old.netlist }
+        requires outs { length outs.old ≡ length enables.now * output_count self.old.netlist }
+        ensures netlist { self.new.netlist ≡ self.old.netlist }
+        ensures ok { OnOk result (BlockRan self.old.netlist (block_clocks self.old.netlist enables.now dins.now) self.old.contents self.new.contents outs.new) }
+        ensures stops { IfErr result (BlockStops self.old.netlist (block_clocks self.old.netlist enables.now dins.now) self.old.contents self.new.contents outs.old outs.new) }
+        ensures only { (shots : List Snapshot) (x i : ℕ) → RunStops self.old.netlist self.old.contents (block_clocks self.old.netlist enables.now dins.now) shots x i → result ≡ Err (record { done = length shots; range = record { array = x; index = i } }) }
+    {
+        self.sim.law();
+        one_run();
+        step_each(&mut self.sim, self.dins, enables, dins, outs)
+    }
+}

@@ -1,0 +1,9 @@
+//! A simulator of modules, a block of clocks at a time.
+#![tactic(auto)]
+
+mod blocks;
+mod each;
+mod laws;
+
+pub use blocks::{Blocks, Stop};
+pub use laws::{block_runs, streams_run};
