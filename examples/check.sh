@@ -360,6 +360,9 @@ for name in line_buffer median enabled toggle; do
         failed=1
     }
 done
+# the stored waves, which trace.py made
+ends 0 '' trace line_buffer.v 192 speckled.pgm out.pgm
+holds "$examples/waves/line_buffer.vcd"
 ends 4 'image: Maxval 255' trace words.v 4 gradient.pgm out.pgm
 ends 7 'cannot read' trace missing.v 4 rising.pgm out.pgm
 ends 7 'cannot read' trace words.v 4 missing.pgm out.pgm
@@ -382,6 +385,8 @@ printf 'P5\n4 1\n255\n\003\006\011\007' >wanted.pgm
 ends 0 '' compile mean3.dk text.v
 ends 0 '' sim text.v 5 mean3.pgm out.pgm
 holds wanted.pgm 'compile'
+ends 0 '' trace text.v 5 mean3.pgm out.pgm
+holds "$examples/waves/mean3.vcd"
 ends 6 'stopped: count 3 of 4' sim text.v 4 mean3.pgm out.pgm
 ends 5 'verilog 7-9: Ports' sim text.v 5 mean3.pgm out.pgm --hold 1
 ends 0 '' compile --enable mean3.dk text.v
