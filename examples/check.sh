@@ -70,14 +70,19 @@ while IFS='|' read -r name text input wanted <&3; do
     done
 done 3<"$examples/calls/pictures.txt"
 
-# Each line of calls/faults.txt is a status, a line on standard error, and the program and the input that end so.
-while IFS='|' read -r status line text input <&3; do
+# Each line of calls/faults.txt is a status, a line on standard error, the program and the input that end so, and what `run` has written before the fault, if anything.
+while IFS='|' read -r status line text input left <&3; do
     printf '%b' "$text" >text.dk
     printf '%b' "$input" >input.pgm
-    for command in eval run; do
-        ends "$status" "$line" "$command" text.dk input.pgm out.pgm
+    ends "$status" "$line" eval text.dk input.pgm out.pgm
+    none
+    ends "$status" "$line" run text.dk input.pgm out.pgm
+    if [ -n "$left" ]; then
+        printf '%b' "$left" >wanted.pgm
+        holds wanted.pgm "$line"
+    else
         none
-    done
+    fi
 done 3<"$examples/calls/faults.txt"
 
 ends 2 "$usage"
@@ -219,8 +224,10 @@ deep '\003'
 # Faults of files of images.
 cp gradient.pgm longer.pgm
 printf x >>longer.pgm
-ends 4 'image: Magic 140' run copy.dk longer.pgm out.pgm
+ends 4 'image: Magic 140' eval copy.dk longer.pgm out.pgm
 none
+ends 4 'image: Magic 140' run copy.dk longer.pgm out.pgm
+holds gradient.pgm
 {
     printf P5
     head -c 65534 /dev/zero | tr '\0' ' '
@@ -229,7 +236,7 @@ ends 4 'image: LongHeader 65536' eval copy.dk header.pgm out.pgm
 none
 cat gradient.pgm header.pgm >second.pgm
 ends 4 'image: LongHeader 65536' run copy.dk second.pgm out.pgm
-none
+holds gradient.pgm
 truncate -s 268435457 zeros.pgm
 ends 4 'image: TooLong 268435456' eval copy.dk zeros.pgm out.pgm
 none

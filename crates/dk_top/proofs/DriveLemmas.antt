@@ -61,11 +61,11 @@ abbrev pub drive_of : ℕ → Drive
 drive_of clocks = record { clocks = clocks; fill = Zeros; hold = None }
 
 -- the numbers at the dins in these clocks
-abbrev dins_of : (inputs : ℕ) → List (List (List ℕ)) → ℕ → List (List ℕ)
+abbrev pub dins_of : (inputs : ℕ) → List (List (List ℕ)) → ℕ → List (List ℕ)
 dins_of inputs samples clocks = map (dins_at inputs samples) (range_with_len 0 clocks)
 
 -- its clocks are a reset clock, and then a clock for each pixel
-stimulus_is : (widths : List ℕ) (samples : List (List (List ℕ))) (inputs clocks : ℕ) → length widths ≡ inputs → stimulus (drive_of clocks) widths samples ≡ driven inputs (dins_of inputs samples clocks)
+pub stimulus_is : (widths : List ℕ) (samples : List (List (List ℕ))) (inputs clocks : ℕ) → length widths ≡ inputs → stimulus (drive_of clocks) widths samples ≡ driven inputs (dins_of inputs samples clocks)
 stimulus_is widths samples inputs clocks long =
     ap (λ cs. reset_clock (length widths) ∷ cs) (each (range_with_len 0 clocks)) ∙ ap (λ n. driven n (dins_of n samples clocks)) long
   where
@@ -90,7 +90,7 @@ module _ (source : List ℕ) (age : ℕ) (enable : Bool) (p : Typing) (ir : Prog
   pub form : IsForm p ir
   form = (c.planned.has.front).form
 
-  is_typed : IsTyped p
+  pub is_typed : IsTyped p
   is_typed = typed_is_kept (c.planned.has.front).program.tree p (c.planned.has.front).program.typed
 
   pub types : HasPortTypes ir
@@ -116,7 +116,7 @@ module _ (source : List ℕ) (age : ℕ) (enable : Bool) (p : Typing) (ir : Prog
   pub in_form : (k : ℕ) → k < length p.outputs → k < length ir.outputs
   in_form k lt = subst (λ (gs : List ℕ). k < length gs) (sym form.outputs) lt
 
-  dins_long : length (din_widths m.netlist) ≡ length ir.inputs
+  pub dins_long : length (din_widths m.netlist) ≡ length ir.inputs
   dins_long = ap length din_widths_are ∙ length-map ir.inputs (λ (i : Input). width_of i.ty)
 
   some_inputs : 0 < length (ports p).inputs
@@ -210,7 +210,7 @@ module _ (source : List ℕ) (age : ℕ) (enable : Bool) (p : Typing) (ir : Prog
           picture_shown picture_law raster_law m.netlist ir plan c.circuit.drives from run.to dins shots (power_up_fits m.netlist) all_dins_fit runs padded (are_rounds ir types padded padded_sampled) agree k (in_form k lt) fill
           ∙ ap (λ n. take (n - latency_of plan k) (flat_map (rastered ir (output_at ir k)) padded)) dins_count
 
-      shown_count : (shots : List Snapshot) → IsRun m.netlist (drive_of clocks) samples shots → (k : ℕ) → k < length p.outputs → length (picture k shots) ≡ clocks - latency_of plan k
+      pub shown_count : (shots : List Snapshot) → IsRun m.netlist (drive_of clocks) samples shots → (k : ℕ) → k < length p.outputs → length (picture k shots) ≡ clocks - latency_of plan k
       shown_count shots run k lt =
           let g = output_at ir k in
           let long = pieces_length (rastered ir g) (area p.size) (as_long g) padded in
@@ -260,7 +260,7 @@ module _ (source : List ℕ) (age : ℕ) (enable : Bool) (p : Typing) (ir : Prog
           let whole : ℕ → List ℕ → Image = λ bits xs. record { width = p.size.width; height = p.size.height; maxval = 2 ^ bits - 1; samples = xs } in
           ap (λ bits. whole bits (take (area p.size) (drop (r * area p.size) (picture k shots)))) (dout_width_is k g at) ∙ ap (whole (bits_of (types_of p) g)) (samples_are shots run r k g round there at)
 
-      images_same : (shots : List Snapshot) → IsRun m.netlist (drive_of clocks) samples shots → images_shown m.netlist p.size (length samples) shots ≡ joined (map (outputs_of p) rounds)
+      pub images_same : (shots : List Snapshot) → IsRun m.netlist (drive_of clocks) samples shots → images_shown m.netlist p.size (length samples) shots ≡ joined (map (outputs_of p) rounds)
       images_same shots run =
           ap (λ n. images_shown m.netlist p.size n shots) as_many
           ∙ pieces_at (λ r. map (image_shown m.netlist p.size shots r) (range_with_len 0 (output_count m.netlist))) (outputs_of p) 0 rounds (λ r round there.

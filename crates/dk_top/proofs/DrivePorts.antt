@@ -41,7 +41,7 @@ widths_are m ir ports = ap (drop (first_din m)) ports.inputs ∙ by m.enable
     by false = refl
 
 -- each output has two ports
-two_each : (ws : List ℕ) → length (with_valids ws) ≡ length ws * 2
+pub two_each : (ws : List ℕ) → length (with_valids ws) ≡ length ws * 2
 two_each [] = refl
 two_each (w ∷ ws) = let e = two_each ws in omega (arith, e)
 
@@ -57,7 +57,7 @@ dout_at [] k = refl
 dout_at (w ∷ ws) zero = refl
 dout_at (w ∷ ws) (suc k) = ap (slice_index (1 ∷ w ∷ with_valids ws)) (let e : 2 * suc k + 1 ≡ suc (suc (2 * k + 1)) = omega arith in e) ∙ dout_at ws k
 
-output_typed : (types : List Ty) (gs : List ℕ) → AreOutputsOf types gs → (k g : ℕ) → slice_get gs k ≡ Some g → IsOutputOf types g
+pub output_typed : (types : List Ty) (gs : List ℕ) → AreOutputsOf types gs → (k g : ℕ) → slice_get gs k ≡ Some g → IsOutputOf types g
 output_typed types [] h k g at = absurd (let e : ⊥ = cc in e)
 output_typed types (x ∷ gs) h zero g at = let same : x ≡ g = cc in subst (IsOutputOf types) same h.0
 output_typed types (x ∷ gs) h (suc k) g at = output_typed types gs h.1 k g at

@@ -1,5 +1,5 @@
 -- The words and the files decide one ending.
-use Rattle.std.proofs.Common.{◌≡◌, Option, None, Some, IfSome}
+use Rattle.std.proofs.Common.{◌≡◌, ℕ, List, Option, None, Some, IfSome, refl, subst}
 use Rattle.dk_endings.specs.declared.ending.Ending.{Ending}
 use Rattle.dk_endings.specs.declared.ending.Ending.TheVariants as ending
 use Rattle.dk_top.specs.Command.{Command, run, eval, compile, sim, trace, plan, check, make}
@@ -7,7 +7,7 @@ use Rattle.made_program.specs.Programs.{program_of}
 use Rattle.dk_top.specs.Simulation.{drive_of}
 use Rattle.dk_top.proofs.CommandLemmas.{on_each}
 use Rattle.dk_top.specs.Tracing.{trace_drive}
-use Rattle.dk_top.specs.Verdict.{Files, bytes_of, eval_terms, run_terms, OnFiles, IsVerdict, HasOneVerdict, IsGood, IsOrMemory}
+use Rattle.dk_top.specs.Verdict.{Files, bytes_of, eval_terms, run_terms, OnFiles, IsAnswer, IsRunAnswer, IsJudged, IsVerdict, HasOneVerdict, IsGood, IsOrMemory}
 use Rattle.dk_top.proofs.VerdictLemmas.{OneProgram, TextApart, OneTextFault, ApartAt, OneFaultAt, FileApart, OneFileFault, one_answer, good_answer}
 use Rattle.dk_top.proofs.SimLemmas.{OneModule, OneAgreed, ModuleApart, OneTokens, OneTree, OneRounds, RoundsApart, OneBenchFault, OneStop, ShownApart, RunApart, alike_of, sim_answer, good_sim, trace_answer, good_trace}
 use Rattle.dk_top.proofs.PlanLemmas.{FrontAccepted, WrongApart, OneLine, program_answer, good_program, check_answer, good_check}
@@ -36,8 +36,24 @@ pub record Laws : Type 0 where
   pub wrong_apart : WrongApart
   pub one_line : OneLine
 
+-- but for a failed write, the answers of `run` are those of a program and a file
+written_answer : (age : ℕ) (source file : List ℕ) (e : Ending) → (e ≡ ending.WriteFault → ⊥) → IsRunAnswer age source file e → IsAnswer (run_terms age) source file e
+written_answer age source file ending.Done other h = h
+written_answer age source file ending.WriteFault other h = absurd (other refl)
+written_answer age source file (ending.Source x) other h = h
+written_answer age source file (ending.Image x) other h = h
+written_answer age source file (ending.Verilog x) other h = h
+written_answer age source file (ending.Stopped x) other h = h
+written_answer age source file (ending.Rejected x) other h = h
+written_answer age source file ending.Usage other h = h
+written_answer age source file ending.ReadFault other h = h
+written_answer age source file ending.Memory other h = h
+
+judged_answer : (age : ℕ) (source file : List ℕ) (e : Ending) → IsJudged e → IsRunAnswer age source file e → IsAnswer (run_terms age) source file e
+judged_answer age source file e judged h = written_answer age source file e (λ is. subst IsJudged is judged) h
+
 pub one_verdict : Laws → HasOneVerdict
-one_verdict l (run program image out age) files a b j k x y = alike_of a b (one_answer l.one_program l.apart_at l.fault_at l.file_apart l.one_file (run_terms age) (bytes_of files program) (bytes_of files image) a b j k x y)
+one_verdict l (run program image out age) files a b j k x y = alike_of a b (one_answer l.one_program l.apart_at l.fault_at l.file_apart l.one_file (run_terms age) (bytes_of files program) (bytes_of files image) a b j k (judged_answer age (bytes_of files program) (bytes_of files image) a j x) (judged_answer age (bytes_of files program) (bytes_of files image) b k y))
 one_verdict l (eval program image out) files a b j k x y = alike_of a b (one_answer l.one_program l.apart_at l.fault_at l.file_apart l.one_file eval_terms (bytes_of files program) (bytes_of files image) a b j k x y)
 one_verdict l (compile program out enable age) files a b j k x y = alike_of a b (program_answer l.apart_at l.fault_at age (bytes_of files program) a b j k x y)
 one_verdict l (sim verilog clocks image out fill hold) files a b j k x y =
@@ -51,7 +67,7 @@ one_verdict l (make number) files a b j k x y = alike_of a b (program_answer l.a
 
 -- what is good is done where nothing outside fails and there is memory
 good_is_done : Laws → (command : Command) (files : Files) (result : Ending) → IsVerdict command files result → IsGood command files → (result ≡ ending.ReadFault → ⊥) → (result ≡ ending.WriteFault → ⊥) → IsOrMemory result ending.Done
-good_is_done l (run program image out age) files result = good_answer l.one_program l.apart_at l.fault_at l.file_apart l.one_file (run_terms age) (bytes_of files program) (bytes_of files image) result
+good_is_done l (run program image out age) files result = λ is good no_read no_write. good_answer l.one_program l.apart_at l.fault_at l.file_apart l.one_file (run_terms age) (bytes_of files program) (bytes_of files image) result (written_answer age (bytes_of files program) (bytes_of files image) result no_write is) good no_read no_write
 good_is_done l (eval program image out) files result = good_answer l.one_program l.apart_at l.fault_at l.file_apart l.one_file eval_terms (bytes_of files program) (bytes_of files image) result
 good_is_done l (compile program out enable age) files result = good_program l.apart_at l.fault_at age (bytes_of files program) result
 good_is_done l (sim verilog clocks image out fill hold) files result =

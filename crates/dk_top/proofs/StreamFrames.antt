@@ -6,18 +6,9 @@ use Rattle.std.proofs.lemmas.Nat.{pow_pos, div-add-mod'}
 use Rattle.std.proofs.Math.Nat.{mod-lt, mul-le-mul_right}
 use Rattle.dk_base.specs.Frames.{Size, area}
 use Rattle.test_bench.specs.Stimulus.{stream}
+use Rattle.dk_top.specs.Streaming.{frame_count, padded, padded_frames}
 use Rattle.dk_top.proofs.RoundLemmas.{pieces_of_map}
 use Rattle.dk_top.proofs.DriveRounds.{IsSampled, AreSampled, AreZeros, all_append, zeros_behind}
-
--- the frames of so many samples
-abbrev pub frame_count : Size → ℕ → ℕ
-frame_count size count = (count + area size - 1) / area size
-
-abbrev pub padded : Size → List ℕ → List ℕ
-padded size samples = samples ++ replicate (frame_count size (length samples) * area size - length samples) 0
-
-abbrev pub padded_frames : Size → List ℕ → List (List ℕ)
-padded_frames size samples = map (λ r. take (area size) (drop (r * area size) (padded size samples))) (range_with_len 0 (frame_count size (length samples)))
 
 -- a round of one input for each frame
 abbrev pub rounds_of_one : List (List ℕ) → List (List (List ℕ))

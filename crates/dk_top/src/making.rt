@@ -14,7 +14,7 @@ ghost use Rattle.dk_top.specs.Reading.{AreRead, IsInputOf, IsSourceEnding, Stops
 use crate::compiling::compiled;
 use crate::files::write_report;
 use crate::reading::read_frames;
-use crate::running::{Ready, clocked, read_again};
+use crate::running::{clocked, read_again};
 use crate::work::Work;
 use dk_base::Memory;
 use dk_compile::{Compiled, Options, one_at_age};
@@ -22,9 +22,19 @@ use dk_desk::Desk;
 use dk_endings::Ending;
 use dk_words::MakeWords;
 use made_program::{Figures, made_is_read, made_is_small, make, sample_sum, summary};
+use netlist::Module;
 use pgm_codec::one_reading;
+use pgm_rounds::Round;
 use pointwise_ir::meaning_law;
 use std::alloc::Global;
+
+/// What `make` works on: what the program is compiled to, the module of its Verilog text, and the frames of the rounds.
+#[derive(Drop)]
+struct Ready {
+    compiled: Compiled,
+    module: Module,
+    rounds: Vec<Round>,
+}
 
 /// The program of a number, compiled, and the frames of its image.
 fn made_ready(alloc: Global, n: u32) -> Result<Ready, Ending>

@@ -11,12 +11,17 @@ ghost use Rattle.dk_top.specs.Program.{IsAcceptedAt, IsFaultAt};
 ghost use Rattle.dk_top.specs.Output.{output_file};
 ghost use Rattle.dk_top.specs.Compiling.{IsCompiledFrom, NotesRun, frame_drive};
 ghost use Rattle.dk_top.specs.Verdict.{bytes_of, run_terms, IsAnswer, IsGoodPair, OfPair};
-ghost use Rattle.dk_top.specs.State.{AsksWhere};
+ghost use Rattle.dk_top.specs.State.{IsFresh};
+ghost use Rattle.dk_top.specs.Streaming.{IsOnePort};
+ghost use Rattle.dk_top.specs.Streams.{RunsOn, PerformsRun};
+ghost use Rattle.dk_types.specs.Typed.{Typing};
+ghost use Rattle.dk_compile.specs.Fronts.{IsForm};
 ghost use Rattle.dk_top.specs.Reading.{AreRead, IsInputOf, IsSourceEnding, Stops};
 
 use crate::compiling::read_compiled;
 use crate::files::write_file;
 use crate::reading::read_images;
+use crate::streaming::{is_one_port, run_streamed};
 use crate::work::Work;
 use cycle_sim::Fill;
 use dk_base::{FrameSize, Memory};
@@ -85,14 +90,6 @@ pub fn clocked<D: Desk>(
     }
 }
 
-/// What `run` works on: what the program is compiled to, the module of its Verilog text, and the frames of the rounds.
-#[derive(Drop)]
-pub struct Ready {
-    pub compiled: Compiled,
-    pub module: Module,
-    pub rounds: Vec<Round>,
-}
-
 /// The program, compiled, and the module that its Verilog text stands for.
 #[derive(Drop)]
 struct Machine {
@@ -130,77 +127,89 @@ fn read_machine<D: Desk>(
     }
 }
 
-/// Reads, judges and compiles the program, and then reads and judges the file of images.
-fn read_ready<D: Desk>(
-    alloc: Global,
-    desk: &mut D,
-    program: &str,
-    image: &str,
-    age: u8,
-) -> Result<Ready, Ending>
-    requires program { (D.outside desk.old).program.stage ≡ Stage.Unasked }
-    requires image { (D.outside desk.old).image.stage ≡ Stage.Unasked }
-    requires file { (D.outside desk.old).file.stage ≡ Stage.Unasked }
-    requires age { age ≤ MAX_AGE }
-    ensures order { IfSome (D.outside desk.old).files (λ files. AsksWhere (IsAcceptedAt (bytes_of files program.now) age) (D.outside desk.new)) }
-    ensures compiled { IfOk result (λ r. IfSome (D.outside desk.old).files (λ files. IsCompiledFrom (bytes_of files program.now) age false r.compiled)) }
-    ensures some { IfOk result (λ r. (source : List ℕ) × IsCompiledFrom source age false r.compiled) }
-    ensures again { IfOk result (λ r. r.«module» ≡ r.compiled.«module») }
-    ensures input { IfOk result (λ r. IfSome (D.outside desk.old).files (λ files. IsInputOf None r.compiled.ir (bytes_of files image.now) r.rounds.items)) }
-    ensures read { IfOk result (λ r. AreRead r.compiled.ir r.rounds.items) }
-    ensures fault { IfErr result (λ e. IfSome (D.outside desk.old).files (λ files. IsAnswer (run_terms age) (bytes_of files program.now) (bytes_of files image.now) e)) }
-    ensures good { OnOk result (IfSome (D.outside desk.old).files (λ files. IsGoodPair (run_terms age) (bytes_of files program.now) (bytes_of files image.now))) }
-    ensures stops { IfErr result Stops }
-    ensures program_name { (D.outside desk.new).program.stage ≢ Stage.Unasked → IsIfTold (D.outside desk.new).program.name (Some program.now) }
-    ensures image_name { (D.outside desk.new).image.stage ≢ Stage.Unasked → IsIfTold (D.outside desk.new).image.name (Some image.now) }
-    ensures only { D.outside desk.new ≡ record (D.outside desk.old) { program = (D.outside desk.new).program; image = (D.outside desk.new).image; input_failures = (D.outside desk.new).input_failures } }
-    ensures cause { HasCauseIn (result ≡ Err Ending.ReadFault) (D.outside desk.old).input_failures (D.outside desk.new).input_failures }
-{
-    one_at_age();
-    let Machine { compiled, module } = match read_machine(alloc, desk, program, age) {
-        Ok(machine) => machine,
-        Err(ending) => return Err(ending),
-    };
-    match read_images(alloc, desk, &compiled.ir, image, None) {
-        Ok(rounds) => Ok(Ready {
-            compiled,
-            module,
-            rounds,
-        }),
-        Err(ending) => Err(ending),
-    }
-}
-
-/// Reads, judges and compiles the program, reads the file of images, and gives the file of the pictures that the module shows.
+/// Reads and judges the file of images, and gives the file of the pictures that the module shows.
 fn ran<D: Desk>(
     alloc: Global,
     desk: &mut D,
-    program: &str,
+    compiled: &Compiled,
+    module: &Module,
     image: &str,
-    age: u8,
 ) -> Result<Vec<u8>, Ending>
-    requires program { (D.outside desk.old).program.stage ≡ Stage.Unasked }
+    requires compiled { (source : List ℕ) × (age : ℕ) × IsCompiledFrom source age false compiled.now }
+    requires again { «module».now ≡ compiled.now.«module» }
     requires image { (D.outside desk.old).image.stage ≡ Stage.Unasked }
     requires file { (D.outside desk.old).file.stage ≡ Stage.Unasked }
-    requires age { age ≤ MAX_AGE }
-    ensures order { IfSome (D.outside desk.old).files (λ files. AsksWhere (IsAcceptedAt (bytes_of files program.now) age) (D.outside desk.new)) }
-    ensures output { IfOk result (λ output. IfSome (D.outside desk.old).files (λ files. OfPair (run_terms age) (bytes_of files program.now) (bytes_of files image.now) (λ p rounds. output.items ≡ output_file p rounds))) }
-    ensures notes { OnOk result (IfSome (D.outside desk.old).files (λ files. OfPair (run_terms age) (bytes_of files program.now) (bytes_of files image.now) (λ p rounds. NotesRun (bytes_of files program.now) age p rounds (D.outside desk.old).notes (D.outside desk.new).notes))) }
-    ensures fault { IfErr result (λ e. IfSome (D.outside desk.old).files (λ files. IsAnswer (run_terms age) (bytes_of files program.now) (bytes_of files image.now) e)) }
-    ensures good { OnOk result (IfSome (D.outside desk.old).files (λ files. IsGoodPair (run_terms age) (bytes_of files program.now) (bytes_of files image.now))) }
+    ensures output { IfOk result (λ output. (source : List ℕ) (age : ℕ) → IsCompiledFrom source age false compiled.now → IfSome (D.outside desk.old).files (λ files. OfPair (run_terms age) source (bytes_of files image.now) (λ p rounds. output.items ≡ output_file p rounds))) }
+    ensures notes { OnOk result ((source : List ℕ) (age : ℕ) → IsCompiledFrom source age false compiled.now → IfSome (D.outside desk.old).files (λ files. OfPair (run_terms age) source (bytes_of files image.now) (λ p rounds. NotesRun source age p rounds (D.outside desk.old).notes (D.outside desk.new).notes))) }
+    ensures fault { IfErr result (λ e. (source : List ℕ) (age : ℕ) → IsCompiledFrom source age false compiled.now → IfSome (D.outside desk.old).files (λ files. IsAnswer (run_terms age) source (bytes_of files image.now) e)) }
+    ensures good { OnOk result ((source : List ℕ) (age : ℕ) → IsCompiledFrom source age false compiled.now → IfSome (D.outside desk.old).files (λ files. IsGoodPair (run_terms age) source (bytes_of files image.now))) }
     ensures stops { IfErr result Stops }
-    ensures program_name { (D.outside desk.new).program.stage ≢ Stage.Unasked → IsIfTold (D.outside desk.new).program.name (Some program.now) }
-    ensures image_name { (D.outside desk.new).image.stage ≢ Stage.Unasked → IsIfTold (D.outside desk.new).image.name (Some image.now) }
-    ensures only { D.outside desk.new ≡ record (D.outside desk.old) { program = (D.outside desk.new).program; image = (D.outside desk.new).image; notes = (D.outside desk.new).notes; input_failures = (D.outside desk.new).input_failures } }
+    ensures name { IsIfTold (D.outside desk.new).image.name (Some image.now) }
+    ensures only { D.outside desk.new ≡ record (D.outside desk.old) { image = (D.outside desk.new).image; notes = (D.outside desk.new).notes; input_failures = (D.outside desk.new).input_failures } }
     ensures cause { HasCauseIn (result ≡ Err Ending.ReadFault) (D.outside desk.old).input_failures (D.outside desk.new).input_failures }
 {
-    let ready = match read_ready(alloc, desk, program, image, age) {
-        Ok(ready) => ready,
+    one_at_age();
+    let rounds = match read_images(alloc, desk, &compiled.ir, image, None) {
+        Ok(rounds) => rounds,
         Err(ending) => return Err(ending),
     };
-    match clocked(alloc, desk, &ready.compiled, &ready.module, &ready.rounds) {
+    match clocked(alloc, desk, compiled, module, &rounds) {
         Ok(output) => Ok(output),
         Err(_) => Err(Ending::Memory),
+    }
+}
+
+/// Clocks the module of a program with several inputs or outputs on the rounds of the images, and then writes the pictures.
+fn run_rounds<D: Desk>(
+    alloc: Global,
+    desk: &mut D,
+    compiled: &Compiled,
+    module: &Module,
+    image: &str,
+    out: &str,
+) -> Ending
+    requires compiled { (source : List ℕ) × (age : ℕ) × IsCompiledFrom source age false compiled.now }
+    requires again { «module».now ≡ compiled.now.«module» }
+    requires several { (p : Typing) → IsForm p compiled.now.ir → IsOnePort p → ⊥ }
+    requires image { (D.outside desk.old).image.stage ≡ Stage.Unasked }
+    requires file { (D.outside desk.old).file.stage ≡ Stage.Unasked }
+    ensures runs { (source : List ℕ) (age : ℕ) → IsCompiledFrom source age false compiled.now → RunsOn source age image.now out.now result (D.outside desk.old) (D.outside desk.new) }
+{
+    one_source();
+    one_at_age();
+    let output = match ran(alloc, desk, compiled, module, image) {
+        Ok(output) => output,
+        Err(ending) => return ending,
+    };
+    match write_file(desk, out, &output) {
+        Ok(()) => Ending::Done,
+        Err(_) => Ending::WriteFault,
+    }
+}
+
+/// Compiles the program, and clocks its module on the images.
+fn run_program<D: Desk>(
+    alloc: Global,
+    desk: &mut D,
+    program: &str,
+    image: &str,
+    out: &str,
+    age: u8,
+) -> Ending
+    requires fresh { IsFresh (D.outside desk.old) }
+    requires age { age ≤ MAX_AGE }
+    ensures performs { PerformsRun program.now image.now out.now age result (D.outside desk.old) (D.outside desk.new) }
+{
+    one_source();
+    one_at_age();
+    let Machine { compiled, module } = match read_machine(alloc, desk, program, age) {
+        Ok(machine) => machine,
+        Err(ending) => return ending,
+    };
+    if is_one_port(&compiled.ir) {
+        run_streamed(alloc, desk, &compiled, &module, image, out)
+    } else {
+        run_rounds(alloc, desk, &compiled, &module, image, out)
     }
 }
 
@@ -209,13 +218,6 @@ impl Work for RunWords<'_> {
     ghost command = { λ words. run_command words.program.now words.image.now words.out.now words.age };
 
     fn perform<D: Desk>(&self, alloc: Global, desk: &mut D) -> Ending {
-        let output = match ran(alloc, desk, self.program, self.image, self.age) {
-            Ok(output) => output,
-            Err(ending) => return ending,
-        };
-        match write_file(desk, self.out, &output) {
-            Ok(()) => Ending::Done,
-            Err(_) => Ending::WriteFault,
-        }
+        run_program(alloc, desk, self.program, self.image, self.out, self.age)
     }
 }

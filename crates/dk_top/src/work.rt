@@ -5,7 +5,7 @@ ghost use Rattle.dk_desk.specs.Outside.{Outside};
 ghost use Rattle.dk_desk.specs.Calls.{HasCauseIn};
 ghost use Rattle.dk_top.specs.Command.{Command, IsInRange};
 ghost use Rattle.dk_top.specs.Verdict.{OnFiles, IsVerdict};
-ghost use Rattle.dk_top.specs.State.{IsFresh, AsksOnly, AsksInOrder, CreatesNothing, CreatesOut, FilesStay, IsHeld, IsNoted, IsReported, WritesNothing};
+ghost use Rattle.dk_top.specs.State.{IsFresh, AsksOnly, AsksInOrder, CreatesNothing, CreatesBy, CreatesOut, FilesStay, IsHeld, IsNoted, IsReported, WritesNothing};
 
 use dk_desk::{Desk, Stage};
 use dk_endings::Ending;
@@ -25,8 +25,9 @@ pub trait Work {
         ensures asked { AsksOnly (Some (command self.now)) (D.outside desk.new) }
         ensures order { IfSome (D.outside desk.old).files (λ files. AsksInOrder (command self.now) files (D.outside desk.new)) }
         ensures created { CreatesNothing (Some (command self.now)) result → (D.outside desk.new).file.stage ≡ Stage.Unasked }
+        ensures begun { IfSome (D.outside desk.old).files (λ files. CreatesBy (command self.now) result files (D.outside desk.new).file.stage) }
         ensures written { result ≡ Ending.Done → CreatesOut (Some (command self.now)) (D.outside desk.new) }
-        ensures output { (D.outside desk.new).file.stage ≡ Stage.Open → IfSome (D.outside desk.old).files (λ files. IfSome (D.outside desk.new).file.bytes (IsHeld result (command self.now) files)) }
+        ensures output { (D.outside desk.new).file.stage ≡ Stage.Open → IfSome (D.outside desk.old).files (λ files. IfSome (D.outside desk.new).file.bytes (IsHeld result (command self.now) files (D.outside desk.new).image.rest)) }
         ensures files { FilesStay (Some (command self.now)) (D.outside desk.old).files (D.outside desk.new).files }
         ensures files_stay { (D.outside desk.new).file.stage ≢ Stage.Open → (D.outside desk.new).files ≡ (D.outside desk.old).files }
         ensures report_stays { WritesNothing (Some (command self.now)) result → (D.outside desk.new).report ≡ (D.outside desk.old).report }

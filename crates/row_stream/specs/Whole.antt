@@ -186,7 +186,7 @@ pub data LeavesAtRead (kind : Kind) (m : Netlist) (bits : ℕ) (name : List ℕ)
 
 -- where File can't be begun, behind the first header of Image
 pub data FailsFirst (kind : Kind) (m : Netlist) (name : List ℕ) (from : Contents) (before now : Outside) : Type 0 where
-  at_create : now.file.stage ≡ Refused → CreatesOnly before now → FailsFirst kind m name from before now
+  at_create : now.file.stage ≡ Refused → IsIfTold now.file.name (Some name) → now.files ≡ before.files → CreatesOnly before now → FailsFirst kind m name from before now
   at_head : (created : Outside) → Creates name before created → WritesFront File created (head kind) now → FailsFirst kind m name from before now
   at_reset : (created : Outside) → Creates name before created → FailsShowing kind m from [] (reset_clock ∷ []) created now → FailsFirst kind m name from before now
 

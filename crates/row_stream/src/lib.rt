@@ -15,4 +15,5 @@ mod streaming;
 pub use faults::StreamFault;
 pub use laws::streams_most;
 pub use line::Form;
+pub use rows::RowsFault;
 pub use streaming::{Room, stream};

@@ -21,9 +21,12 @@ use pgm_codec::{Header, RasterFault, check_row};
 
 /// Why the lines of an image were not all streamed.
 #[derive(Clone, Copy, Debug, PartialEq, Eq)]
-pub(crate) enum RowsFault {
+pub enum RowsFault {
+    /// A line is not whole, or has a sample above maxval.
     Raster(RasterFault),
+    /// A read failed.
     Read,
+    /// The write of a line failed.
     Write,
 }
 

@@ -89,7 +89,7 @@ fn status_at(
     Ok(dk_main(alloc, &words, &mut desk).status())
 }
 
-/// Whatever call fails, the status says so. Each input is opened and read to its end, and then the output is written; the last call does not come.
+/// Whatever call fails, the status says so. Each input is opened and read to its end, and then the output is written, but that `run` reads and writes by lines; the last call does not come.
 #[test]
 fn each_call_fails_in_turn(rt: HostRuntime) -> Result<(), Fail> {
     let alloc = rt.alloc();
@@ -98,7 +98,11 @@ fn each_call_fails_in_turn(rt: HostRuntime) -> Result<(), Fail> {
         (
             "dk run first second out",
             COPY,
-            [7, 7, 7, 7, 7, 7, 8, 8, 0].as_slice(),
+            // the header of nine bytes, then File, the line, and the end of the images
+            [
+                7, 7, 7, 7, 7, 7, 7, 7, 7, 7, 7, 7, 7, 8, 8, 7, 8, 7, 0,
+            ]
+            .as_slice(),
         ),
         (
             "dk sim first 4 second out",
@@ -113,6 +117,55 @@ fn each_call_fails_in_turn(rt: HostRuntime) -> Result<(), Fail> {
             assert_eq!(rt; got, *status, "at {line}, {call}");
         }
         assert_eq!(rt; status_at(alloc, line, first, NONE, 1)?, 0, "at {line}");
+    }
+    Ok(())
+}
+
+/// What File holds after `run` where the call of this number fails.
+fn file_at(
+    alloc: Global,
+    program: &[u8],
+    image: &[u8],
+    failing: u64,
+    piece: usize,
+) -> Result<(u8, Option<Vec<u8>>), Memory>
+    requires { 0 < piece }
+{
+    let words = words(alloc, "dk run first second out")?;
+    let mut desk = desk(alloc, program, image, failing, piece)?;
+    let status = dk_main(alloc, &words, &mut desk).status();
+    match desk.file() {
+        Some(bytes) => Ok((status, Some(Vec::from_slice(alloc, bytes)?))),
+        None => Ok((status, None)),
+    }
+}
+
+/// `run` writes a line as soon as it is whole: a copy of two lines, and a mean whose latency is one clock, so that its first line is whole with the second one of the input, and its last one behind all of them.
+#[test]
+fn lines_are_written_as_they_are_whole(rt: HostRuntime) -> Result<(), Fail> {
+    let alloc = rt.alloc();
+    let copy = b"size 2 2 input a : u8 output a".as_slice();
+    let copied = b"P5\n2 2\n255\n\x01\x02\x03\x04".as_slice();
+    let mean = b"size 3 2 input a : u8 let f = im(x,y) ((a(x-1,y)+a(x,y)+a(x+1,y))/3) as u8 end output f".as_slice();
+    let means = b"P5\n3 2\n255\n\x03\x06\x05\x03\x06\x05".as_slice();
+    // so many calls come before File is created: three for the program, one that opens the images, nine for the header
+    let cases: [(&[u8], &[u8], &[u8], &[usize]); 2] = [
+        (copy, b"P5 2 2 9\n\x01\x02\x03\x04", copied, [0, 11, 11, 13, 13, 15].as_slice()),
+        (mean, b"P5 3 2 9\n\x03\x06\x09\x03\x06\x09", means, [0, 11, 11, 11, 14, 14].as_slice()),
+    ];
+    for (program, image, whole, lengths) in cases {
+        for call in 0..14u64 {
+            let (_, file) = file_at(alloc, program, image, call, 4096)?;
+            assert!(rt; file.is_none());
+        }
+        for (place, length) in lengths.iter().enumerate() {
+            let (_, file) = file_at(alloc, program, image, 14 + place as u64, 4096)?;
+            assert_eq!(rt; file.as_deref(), whole.get(..*length));
+        }
+        for piece in [1, 4096usize] {
+            let (status, file) = file_at(alloc, program, image, NONE, piece)?;
+            assert_eq!(rt; (status, file.as_deref()), (0, Some(whole)));
+        }
     }
     Ok(())
 }

@@ -1,0 +1,140 @@
+-- What `run` leaves behind of a program with one input and one output: its images are read, clocked and written line by line.
+use Rattle.std.specs.Prelude.{◌≡◌, ℕ, ◌+◌, ◌-◌, ◌*◌, ◌/◌, ◌^◌, ◌<◌, ◌≤◌, List, [], ◌∷◌, ◌++◌, false, length, map, take, drop, replicate, slice_index_or, Option, Some}
+use Rattle.std.specs.List.{flat_map, range_with_len, AllByRecursion}
+use Rattle.dk_base.specs.declared.TheConstants.{MAX_FILE_IMAGES}
+use Rattle.dk_base.specs.Frames.{Size, area}
+use Rattle.dk_types.specs.Typed.{Typing, types_of}
+use Rattle.dk_types.specs.Meaning.{meaning_on}
+use Rattle.buffer_plan.specs.Plans.{latency}
+use Rattle.pgm_codec.specs.declared.header.Header.{Header}
+use Rattle.pgm_codec.specs.Answers.{Reads}
+use Rattle.pgm_codec.specs.Images.{Picture as Image, AreImages, IsRaster}
+use Rattle.pgm_rounds.specs.Files.{IsHeaded}
+use Rattle.program_images.specs.Ports.{bits_of}
+use Rattle.program_images.specs.Outputs.{output_images}
+use Rattle.row_stream.specs.Lines.{Kind, head, line_at, lines}
+use Rattle.row_stream.specs.Heads.{FitsHeader}
+use Rattle.row_stream.specs.Images.{FitsImage, samples_of}
+use Rattle.row_stream.specs.Ends.{greatest}
+use Rattle.dk_compile.specs.declared.compiling.Compiled.{Compiled}
+use Rattle.dk_top.specs.Program.{ports}
+use Rattle.dk_top.specs.Compiling.{IsCompiledFrom}
+
+-- the program takes one image and gives one
+pub record IsOnePort (p : Typing) : Type 0 where
+  pub input : length p.inputs ≡ 1
+  pub output : length p.outputs ≡ 1
+
+-- the bits of the first input
+abbrev pub first_bits : Typing → ℕ
+first_bits p = slice_index_or (ports p).inputs 0 0
+
+-- the bytes begin with a header of the frame's size and with a maxval that the first input takes
+abbrev pub IsBegun : Typing → List ℕ → Type 0
+IsBegun p bytes = (header : Header) × IsHeaded p.size (first_bits p) bytes header
+
+-- the images that are written: their size, and the greatest sample of the first output
+abbrev pub output_kind : Typing → Kind
+output_kind p = record { size = p.size; maxval = 2 ^ bits_of (types_of p) (slice_index_or p.outputs 0 0) - 1 }
+
+-- the frames of so many samples
+abbrev pub frame_count : Size → ℕ → ℕ
+frame_count size count = (count + area size - 1) / area size
+
+-- the samples, with zeros where the last frame has none
+abbrev pub padded : Size → List ℕ → List ℕ
+padded size samples = samples ++ replicate (frame_count size (length samples) * area size - length samples) 0
+
+abbrev pub padded_frames : Size → List ℕ → List (List ℕ)
+padded_frames size samples = map (λ r. take (area size) (drop (r * area size) (padded size samples))) (range_with_len 0 (frame_count size (length samples)))
+
+-- the samples of the outputs on frames of the input, by the program's meaning, one frame after another
+abbrev pub output_samples : Typing → List (List ℕ) → List ℕ
+output_samples p frames = flat_map (λ frame. flat_map (λ (image : Image). image.samples) (output_images p.size (types_of p) p.outputs (meaning_on p (frame ∷ [])))) frames
+
+-- what a program gives for samples of its input: its outputs on their frames
+abbrev pub shown_by : Typing → List ℕ → List ℕ
+shown_by p samples = output_samples p (padded_frames p.size samples)
+
+-- The header and some whole lines of a further image, or nothing of it.
+pub data OpenLines (size : Size) (bits images : ℕ) (rows : ℕ) (samples part : List ℕ) : Type 0 where
+  between : rows ≡ 0 → samples ≡ [] → part ≡ [] → OpenLines size bits images rows samples part
+  opened : (header : Header) (head raster : List ℕ) → images < MAX_FILE_IMAGES → FitsHeader size bits header → Reads head header → length head ≡ header.length → rows ≤ header.height
+      → IsRaster raster header.width rows header.maxval samples → part ≡ head ++ raster → OpenLines size bits images rows samples part
+
+-- The bytes begin with so many whole lines of images of this size and of so many bits, counted through all images, each behind its header, all in order. These are their samples, the part of the bytes that they take, and what follows it.
+pub record LinesTaken (size : Size) (bits : ℕ) (bytes : List ℕ) (rows : ℕ) (samples front rest : List ℕ) : Type 0 where
+  pub images : List Image
+  pub before : List ℕ
+  pub are : AreImages before images
+  pub fit : AllByRecursion (FitsImage size (greatest bits)) images
+  pub few : length images ≤ MAX_FILE_IMAGES
+  pub open_rows : ℕ
+  pub open_samples : List ℕ
+  pub part : List ℕ
+  pub open_lines : OpenLines size bits (length images) open_rows open_samples part
+  pub rows_are : rows ≡ length images * size.height + open_rows
+  pub samples_are : samples ≡ samples_of images ++ open_samples
+  pub front_is : front ≡ before ++ part
+  pub bytes_are : bytes ≡ front ++ rest
+
+-- no more lines than these are there
+abbrev pub AreMost : Size → (bits : ℕ) → (bytes : List ℕ) → (rows : ℕ) → Type 0
+AreMost size bits bytes rows = (more : ℕ) (samples front rest : List ℕ) → LinesTaken size bits bytes more samples front rest → more ≤ rows
+
+-- how many lines of the output are whole once so many pixels came in
+abbrev pub complete : Size → (latency pixels : ℕ) → ℕ
+complete size latency pixels = (pixels - latency) / size.width
+
+-- The first header, and all lines of the output that are whole once these samples came in.
+abbrev pub HoldsLines : Typing → (latency : ℕ) → (samples bytes : List ℕ) → Type 0
+HoldsLines p latency samples bytes = bytes ≡ head (output_kind p) ++ lines (output_kind p) (shown_by p samples) (complete p.size latency (length samples))
+
+-- The first header, all lines before this one, and a front of this one, short of its whole.
+pub record HoldsFront (p : Typing) (samples : List ℕ) (y : ℕ) (bytes : List ℕ) : Type 0 where
+  pub count : ℕ
+  pub inside : count < length (line_at (output_kind p) (shown_by p samples) y)
+  pub holds : bytes ≡ head (output_kind p) ++ (lines (output_kind p) (shown_by p samples) y ++ take count (line_at (output_kind p) (shown_by p samples) y))
+
+-- After a fault of the images: all lines of the file that are in order before it were clocked.
+pub record LeavesAtFault (p : Typing) (latency : ℕ) (file bytes : List ℕ) : Type 0 where
+  pub rows : ℕ
+  pub samples : List ℕ
+  pub front : List ℕ
+  pub rest : List ℕ
+  pub taken : LinesTaken p.size (first_bits p) file rows samples front rest
+  pub most : AreMost p.size (first_bits p) file rows
+  pub holds : HoldsLines p latency samples bytes
+
+-- After a failed read: of the bytes that were taken of the file, which begin with a header that fits, all whole lines were clocked. `left` is what is left of the file.
+pub record LeavesAtRead (p : Typing) (latency : ℕ) (file : List ℕ) (left : Option (List ℕ)) (bytes : List ℕ) : Type 0 where
+  pub read : List ℕ
+  pub rest : List ℕ
+  pub parts : file ≡ read ++ rest
+  pub is_left : left ≡ Some rest
+  pub begun : IsBegun p read
+  pub rows : ℕ
+  pub samples : List ℕ
+  pub front : List ℕ
+  pub behind : List ℕ
+  pub taken : LinesTaken p.size (first_bits p) read rows samples front behind
+  pub most : AreMost p.size (first_bits p) read rows
+  pub holds : HoldsLines p latency samples bytes
+
+-- After a failed write: a front of the first header, where that header of the file alone was taken; or all lines before line y and a front of it, where the fewest lines were taken that make line y whole, or all there are.
+pub data LeavesAtWrite (p : Typing) (latency : ℕ) (file : List ℕ) (left : Option (List ℕ)) (bytes : List ℕ) : Type 0 where
+  of_header : (header : Header) (front rest : List ℕ) (count : ℕ) → FitsHeader p.size (first_bits p) header → Reads front header → length front ≡ header.length → file ≡ front ++ rest → left ≡ Some rest
+      → count < length (head (output_kind p)) → bytes ≡ take count (head (output_kind p)) → LeavesAtWrite p latency file left bytes
+  of_line : (y rows : ℕ) (samples front rest : List ℕ) → LinesTaken p.size (first_bits p) file rows samples front rest → left ≡ Some rest
+      → (y + 1) * p.size.width + latency ≤ rows * p.size.width → rows * p.size.width < (y + 1) * p.size.width + latency + p.size.width
+      → HoldsFront p samples y bytes → LeavesAtWrite p latency file left bytes
+  of_rest : (y rows : ℕ) (samples : List ℕ) → LinesTaken p.size (first_bits p) file rows samples file [] → left ≡ Some []
+      → rows * p.size.width < (y + 1) * p.size.width + latency → (y + 1) * p.size.width ≤ rows * p.size.width
+      → HoldsFront p samples y bytes → LeavesAtWrite p latency file left bytes
+
+-- What is said of a program that is accepted at an age and takes one image and gives one, and of its latency there.
+pub record OfStream (source : List ℕ) (age : ℕ) (is : Typing → (latency : ℕ) → Type 0) : Type 0 where
+  pub compiled : Compiled
+  pub from : IsCompiledFrom source age false compiled
+  pub one : IsOnePort from.program
+  pub holds : is from.program (latency compiled.plan)

@@ -1,0 +1,76 @@
+-- How the images of a program with one input and one output are streamed, for the private functions.
+use Rattle.std.specs.Prelude.{◌≡◌, ◌≢◌, ℕ, List, Option, Some, IfSome}
+use Rattle.dk_desk.specs.declared.InSlot.TheVariants.{Image as ImageSlot}
+use Rattle.dk_desk.specs.declared.Stage.TheVariants.{Unasked, Open}
+use Rattle.dk_desk.specs.Outside.{Outside}
+use Rattle.dk_desk.specs.Calls.{IsIfTold, HasCauseIn, OpensOnly}
+use Rattle.wiring.specs.Netlist.{Netlist}
+use Rattle.wiring.specs.Snapshot.{Contents}
+use Rattle.row_stream.specs.declared.faults.StreamFault.TheVariants.{Image as ImageFails, Read, Write}
+use Rattle.row_stream.specs.Lines.{Kind}
+use Rattle.row_stream.specs.Whole.{LeavesAll, Leaves}
+use Rattle.dk_endings.specs.declared.ending.Ending.{Ending}
+use Rattle.dk_endings.specs.declared.ending.Ending.TheVariants as ending
+use Rattle.dk_endings.specs.declared.ending.ImageFault.TheVariants as image
+use Rattle.dk_compile.specs.declared.compiling.Compiled.{Compiled}
+use Rattle.dk_top.specs.Compiling.{IsCompiledFrom}
+use Rattle.dk_top.specs.Verdict.{bytes_of, IsRunAnswer}
+use Rattle.dk_top.specs.Command.{run}
+use Rattle.dk_top.specs.Program.{IsAcceptedAt}
+use Rattle.dk_top.specs.State.{AsksOnly, AsksWhere, CreatesNothing, CreatesOut, OthersStay, CreatesRun, IsHeldRun, NotedRun}
+
+-- what the stream leaves behind, by the ending
+abbrev pub StreamEnds : Kind → Netlist → (bits latency : ℕ) → (name : List ℕ) → Contents → (opened now : Outside) → Ending → Type 0
+StreamEnds kind m bits late name from opened now ending.Done = LeavesAll kind m bits late name from opened now
+StreamEnds kind m bits late name from opened now (ending.Image (image.File fault)) = Leaves kind m bits late (ImageFails fault) name from opened now
+StreamEnds kind m bits late name from opened now (ending.Image image.TooLong) = ⊥
+StreamEnds kind m bits late name from opened now ending.ReadFault = Leaves kind m bits late Read name from opened now
+StreamEnds kind m bits late name from opened now ending.WriteFault = Leaves kind m bits late Write name from opened now
+StreamEnds kind m bits late name from opened now _ = ⊥
+
+-- The file of images was opened, and not read yet.
+pub record OpensImages (image : List ℕ) (old opened : Outside) : Type 0 where
+  pub only : OpensOnly ImageSlot old opened
+  pub no_failure : opened.input_failures ≡ old.input_failures
+  pub stage : opened.image.stage ≡ Open
+  pub named : IsIfTold opened.image.name (Some image)
+  pub start : IfSome old.files (λ files. opened.image.rest ≡ Some (bytes_of files image))
+
+-- The images were opened and streamed, or could not be opened.
+pub data RunsStream (kind : Kind) (m : Netlist) (bits late : ℕ) (image out : List ℕ) (from : Contents) (old now : Outside) (result : Ending) : Type 0 where
+  refused : result ≡ ending.ReadFault → OpensOnly ImageSlot old now → IsIfTold now.image.name (Some image) → RunsStream kind m bits late image out from old now result
+  streamed : (opened : Outside) → OpensImages image old opened → StreamEnds kind m bits late out from opened now result → RunsStream kind m bits late image out from old now result
+
+-- What `run` does behind the compiling of its program.
+pub record RunsOn (source : List ℕ) (age : ℕ) (image out : List ℕ) (result : Ending) (old new : Outside) : Type 0 where
+  pub taken : result ≢ ending.Usage
+  pub verdict : IfSome old.files (λ files. IsRunAnswer age source (bytes_of files image) result)
+  pub image_name : new.image.stage ≢ Unasked → IsIfTold new.image.name (Some image)
+  pub file_name : new.file.stage ≢ Unasked → IsIfTold new.file.name (Some out)
+  pub created : (program : List ℕ) → CreatesNothing (Some (run program image out age)) result → new.file.stage ≡ Unasked
+  pub begun : IfSome old.files (λ files. CreatesRun age source (bytes_of files image) result new.file.stage)
+  pub written : result ≡ ending.Done → new.file.stage ≡ Open
+  pub output : new.file.stage ≡ Open → IfSome old.files (λ files. IfSome new.file.bytes (IsHeldRun result age source (bytes_of files image) new.image.rest))
+  pub notes : IfSome old.files (λ files. NotedRun result age source (bytes_of files image) old.notes new.notes)
+  pub files : OthersStay out old.files new.files
+  pub files_stay : new.file.stage ≢ Open → new.files ≡ old.files
+  pub only : new ≡ record old { image = new.image; file = new.file; files = new.files; notes = new.notes; input_failures = new.input_failures; output_failures = new.output_failures }
+  pub read_fault : HasCauseIn (result ≡ ending.ReadFault) old.input_failures new.input_failures
+  pub write_fault : HasCauseIn (result ≡ ending.WriteFault) old.output_failures new.output_failures
+
+-- What the whole of `run` does.
+pub record PerformsRun (program image out : List ℕ) (age : ℕ) (result : Ending) (old new : Outside) : Type 0 where
+  pub taken : result ≢ ending.Usage
+  pub verdict : IfSome old.files (λ files. IsRunAnswer age (bytes_of files program) (bytes_of files image) result)
+  pub asked : AsksOnly (Some (run program image out age)) new
+  pub order : IfSome old.files (λ files. AsksWhere (IsAcceptedAt (bytes_of files program) age) new)
+  pub created : CreatesNothing (Some (run program image out age)) result → new.file.stage ≡ Unasked
+  pub begun : IfSome old.files (λ files. CreatesRun age (bytes_of files program) (bytes_of files image) result new.file.stage)
+  pub written : result ≡ ending.Done → CreatesOut (Some (run program image out age)) new
+  pub output : new.file.stage ≡ Open → IfSome old.files (λ files. IfSome new.file.bytes (IsHeldRun result age (bytes_of files program) (bytes_of files image) new.image.rest))
+  pub notes : IfSome old.files (λ files. NotedRun result age (bytes_of files program) (bytes_of files image) old.notes new.notes)
+  pub files : OthersStay out old.files new.files
+  pub files_stay : new.file.stage ≢ Open → new.files ≡ old.files
+  pub only : new ≡ record old { program = new.program; image = new.image; file = new.file; files = new.files; notes = new.notes; input_failures = new.input_failures; output_failures = new.output_failures }
+  pub read_fault : HasCauseIn (result ≡ ending.ReadFault) old.input_failures new.input_failures
+  pub write_fault : HasCauseIn (result ≡ ending.WriteFault) old.output_failures new.output_failures
