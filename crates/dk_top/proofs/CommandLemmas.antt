@@ -15,7 +15,8 @@ use Rattle.dk_endings.specs.declared.ending.Ending.{Ending}
 use Rattle.dk_endings.specs.declared.ending.Ending.TheVariants as ending
 use Rattle.dk_top.specs.Verdict.{Terms, Files, bytes_of, eval_terms, OfPair, OnFiles, IsVerdict}
 use Rattle.dk_top.specs.Command.{Command, run, eval, compile, sim, trace, plan, check, make}
-use Rattle.dk_top.specs.State.{AsksInOrder, IsNoted, IsReported}
+use Rattle.dk_desk.specs.declared.Stage.{Stage}
+use Rattle.dk_top.specs.State.{AsksInOrder, CreatesBy, IsNoted, IsReported}
 use Rattle.dk_top.specs.Reading.{AreRead, IsRead}
 use Rattle.dk_top.proofs.OutputLemmas.{evaluated_is}
 
@@ -169,6 +170,32 @@ pub words_notes : (command : Option Command) (files : Option Files) (e : Ending)
 words_notes None files e n either = tt
 words_notes (Some c) files e n (inl is) = on_all c files (λ f. IsNoted c e f n n) (λ f. subst (λ x. IsNoted c x f n n) (sym is) (usage_notes c f n))
 words_notes (Some c) files e n (inr is) = on_all c files (λ f. IsNoted c e f n n) (λ f. subst (λ x. IsNoted c x f n n) (sym is) (memory_notes c f n))
+
+usage_begun : (c : Command) (f : Files) (s : Stage) → CreatesBy c ending.Usage f s
+usage_begun (run p i o a) f s = tt
+usage_begun (eval p i o) f s = tt
+usage_begun (compile p o e a) f s = tt
+usage_begun (trace v c i o) f s = tt
+usage_begun (make k) f s = tt
+usage_begun (sim v c i o p h) f s = tt
+usage_begun (plan p a) f s = tt
+usage_begun (check p t) f s = tt
+
+memory_begun : (c : Command) (f : Files) (s : Stage) → CreatesBy c ending.Memory f s
+memory_begun (run p i o a) f s = tt
+memory_begun (eval p i o) f s = tt
+memory_begun (compile p o e a) f s = tt
+memory_begun (trace v c i o) f s = tt
+memory_begun (make k) f s = tt
+memory_begun (sim v c i o p h) f s = tt
+memory_begun (plan p a) f s = tt
+memory_begun (check p t) f s = tt
+
+pub words_begun : (command : Option Command) (files : Option Files) (e : Ending) (s : Stage) → (e ≡ ending.Usage) ⊎ (e ≡ ending.Memory) → IfSome command (λ c. IfSome files (λ f. CreatesBy c e f s))
+words_begun None files e s either = tt
+words_begun (Some c) None e s either = tt
+words_begun (Some c) (Some f) e s (inl is) = subst (λ x. CreatesBy c x f s) (sym is) (usage_begun c f s)
+words_begun (Some c) (Some f) e s (inr is) = subst (λ x. CreatesBy c x f s) (sym is) (memory_begun c f s)
 
 -- what holds of the command that is named
 pub named_has : (o : Option Command) (c : Command) → o ≡ Some c → (P : Command → Type 0) → P c → IfSome o P

@@ -1,5 +1,5 @@
 use Rattle.std.proofs.Common.{◌≡◌}
-use Rattle.dk_top.proofs.RunLemmas.{same_count, performs_on}
+use Rattle.dk_top.proofs.RunLemmas.{ok_apart, same_count, performs_on}
 use Rattle.dk_top.proofs.running.run_program.Goals as goal
 
 pub returns-then-is_one_port : goal.returns-then-is_one_port
@@ -9,7 +9,7 @@ returns-then-is_one_port g c =
     let e = c.in-Ok.ensures in
     record {
       performs = performs_on c.one_at_age.ensures.accepted c.args.program.now c.args.image.now c.args.out.now c.args.age c.run_streamed.result old mid (g.D.Desk.outside c.run_streamed.new.desk) c.in-Ok.machine.compiled c.requires.fresh e.compiled e.some e.name e.only
-          (same_count _ old.input_failures mid.input_failures (λ is. absurd (let f : ⊥ = cc in f)) e.cause) c.run_streamed.ensures.runs;
+          (same_count _ old.input_failures mid.input_failures (λ is. ok_apart _ _ is) e.cause) c.run_streamed.ensures.runs;
     }
 
 pub returns : goal.returns
@@ -19,5 +19,5 @@ returns g c =
     let e = c.in-Ok.ensures in
     record {
       performs = performs_on c.one_at_age.ensures.accepted c.args.program.now c.args.image.now c.args.out.now c.args.age c.run_rounds.result old mid (g.D.Desk.outside c.run_rounds.new.desk) c.in-Ok.machine.compiled c.requires.fresh e.compiled e.some e.name e.only
-          (same_count _ old.input_failures mid.input_failures (λ is. absurd (let f : ⊥ = cc in f)) e.cause) c.run_rounds.ensures.runs;
+          (same_count _ old.input_failures mid.input_failures (λ is. ok_apart _ _ is) e.cause) c.run_rounds.ensures.runs;
     }

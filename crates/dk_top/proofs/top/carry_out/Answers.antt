@@ -3,7 +3,7 @@ use Rattle.dk_words.specs.declared.command.Asked.{Asked}
 use Rattle.dk_top.specs.Command.{Command, make, command_asked}
 use Rattle.dk_top.specs.Verdict.{OnFiles, IsVerdict}
 use Rattle.dk_top.specs.State.{IsReported}
-use Rattle.dk_top.proofs.CommandLemmas.{words_verdict, words_order, words_report, words_notes, named_has}
+use Rattle.dk_top.proofs.CommandLemmas.{words_verdict, words_order, words_report, words_notes, words_begun, named_has}
 use Rattle.dk_top.proofs.top.carry_out.Goals as goal
 
 pub returns-in-Err-clause-verdict : goal.returns-in-Err-clause-verdict
@@ -11,6 +11,9 @@ returns-in-Err-clause-verdict g c = words_verdict _ _ c.in-Err.ending (λ e. c.i
 
 pub returns-in-Err-clause-order : goal.returns-in-Err-clause-order
 returns-in-Err-clause-order g c = words_order _ _ _ c.requires.image
+
+pub returns-in-Err-clause-begun : goal.returns-in-Err-clause-begun
+returns-in-Err-clause-begun g c = words_begun _ _ c.in-Err.ending _ c.in-Err.ensures.other
 
 pub returns-in-Err-clause-report : goal.returns-in-Err-clause-report
 returns-in-Err-clause-report g c = words_report _ _ c.in-Err.ending _ c.in-Err.ensures.other
