@@ -44,6 +44,12 @@ none() {
     }
 }
 
+# The ladder is what its script makes of the sources.
+python3 "$examples/../docs/ladder.py" | cmp -s - "$examples/../docs/LADDER.md" || {
+    echo "examples: docs/LADDER.md is not that of the sources: python3 docs/ladder.py >docs/LADDER.md" >&2
+    failed=1
+}
+
 ends 0 '' run copy.dk gradient.pgm out.pgm
 holds gradient.pgm
 ends 0 '' run double.dk gradient.pgm out.pgm
