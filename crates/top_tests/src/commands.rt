@@ -99,10 +99,7 @@ fn each_call_fails_in_turn(rt: HostRuntime) -> Result<(), Fail> {
             "dk run first second out",
             COPY,
             // the header of nine bytes, then File, the line, and the end of the images
-            [
-                7, 7, 7, 7, 7, 7, 7, 7, 7, 7, 7, 7, 7, 8, 8, 7, 8, 7, 0,
-            ]
-            .as_slice(),
+            [7, 7, 7, 7, 7, 7, 7, 7, 7, 7, 7, 7, 7, 8, 8, 7, 8, 7, 0].as_slice(),
         ),
         (
             "dk sim first 4 second out",
@@ -146,12 +143,23 @@ fn lines_are_written_as_they_are_whole(rt: HostRuntime) -> Result<(), Fail> {
     let alloc = rt.alloc();
     let copy = b"size 2 2 input a : u8 output a".as_slice();
     let copied = b"P5\n2 2\n255\n\x01\x02\x03\x04".as_slice();
-    let mean = b"size 3 2 input a : u8 let f = im(x,y) ((a(x-1,y)+a(x,y)+a(x+1,y))/3) as u8 end output f".as_slice();
+    let mean =
+        b"size 3 2 input a : u8 let f = im(x,y) ((a(x-1,y)+a(x,y)+a(x+1,y))/3) as u8 end output f".as_slice();
     let means = b"P5\n3 2\n255\n\x03\x06\x05\x03\x06\x05".as_slice();
     // so many calls come before File is created: three for the program, one that opens the images, nine for the header
     let cases: [(&[u8], &[u8], &[u8], &[usize]); 2] = [
-        (copy, b"P5 2 2 9\n\x01\x02\x03\x04", copied, [0, 11, 11, 13, 13, 15].as_slice()),
-        (mean, b"P5 3 2 9\n\x03\x06\x09\x03\x06\x09", means, [0, 11, 11, 11, 14, 14].as_slice()),
+        (
+            copy,
+            b"P5 2 2 9\n\x01\x02\x03\x04",
+            copied,
+            [0, 11, 11, 13, 13, 15].as_slice(),
+        ),
+        (
+            mean,
+            b"P5 3 2 9\n\x03\x06\x09\x03\x06\x09",
+            means,
+            [0, 11, 11, 11, 14, 14].as_slice(),
+        ),
     ];
     for (program, image, whole, lengths) in cases {
         for call in 0..14u64 {
