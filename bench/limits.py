@@ -1,6 +1,6 @@
 """Makes one of the largest inputs and tells how long a command takes on it, and in how much memory.
 
-usage: python3 bench/limits.py.txt PROGRAM [WORD..]      all cases, or those whose name has one of the words, in a folder of its own
+usage: python3 bench/limits.py PROGRAM [WORD..]      all cases, or those whose name has one of the words, in a folder of its own
 
 Each call has 8 GB of memory (ulimit -v), 8 MiB of stack and 600 s of processor time; one that takes more ends with status -24.
 """

@@ -1,7 +1,7 @@
 #!/usr/bin/env python3
 """`run` beside Verilator and Icarus Verilog on the text that `compile` prints, with one picture and in one run of this script.
 
-usage: python3 bench/run.py.txt DK [WIDTH HEIGHT]
+usage: python3 bench/run.py DK [WIDTH HEIGHT]
 
 It takes the 3 by 3 Gaussian of the examples at 640 by 480 pixels, or at the size that is given, prints the processor
 time of each (Verilator's compiling aside), and stops where two pictures differ. A tool that
