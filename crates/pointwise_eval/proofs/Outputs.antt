@@ -1,5 +1,5 @@
 -- The frames of the outputs.
-use Rattle.std.proofs.Common.{◌≡◌, ◌≢◌, ℕ, zero, suc, ◌+◌, ◌*◌, ◌/◌, ◌%◌, ◌^◌, ◌<◌, ◌≤◌, Bool, List, [], ◌∷◌, ◌++◌, length, map, take, get_or, ℤ, pos, unsigned_abs, ◌≤ℤ◌, ◌<ℤ◌, Some, slice_get, refl, ap, sym, ◌∙◌, subst, arith, inl, inr, mul_comm, if◌then◌else◌}
+use Rattle.std.proofs.Common.{◌≡◌, ◌≢◌, ℕ, zero, suc, ◌+◌, ◌*◌, ◌/◌, ◌%◌, ◌^◌, ◌<◌, ◌≤◌, List, [], ◌∷◌, ◌++◌, length, map, take, get_or, ℤ, pos, unsigned_abs, ◌≤ℤ◌, ◌<ℤ◌, Some, slice_get, refl, ap, sym, ◌∙◌, subst, arith, inl, inr, mul_comm, if◌then◌else◌}
 use Rattle.std.specs.List.{All}
 use Rattle.std.proofs.Math.Nat.{mod-lt, div-add-mod, mul-le-mul_right}
 use Rattle.std.proofs.lemmas.Bool.{cases_lt}
@@ -21,7 +21,7 @@ use Rattle.pointwise_eval.specs.declared.plane.Plane.{Plane}
 use Rattle.dk_frames.specs.declared.frame.Frame.{Frame}
 use Rattle.pointwise_eval.specs.Planes.{values_of, shown, all_shown, IsWhole, ShowsNeeded, IsOutputPlane}
 use Rattle.pointwise_eval.specs.Rounds.{frame_of}
-use Rattle.pointwise_eval.specs.Needs.{AreNeeds}
+use Rattle.pointwise_eval.specs.Needs.{AreNeeds, image_count}
 
 shown_entry : (size : Size) (planes : List Plane) (g : ℕ) (q : Plane) → slice_get planes g ≡ Some q → picture_at (all_shown size planes) g ≡ shown size (values_of q)
 shown_entry size [] g q is = absurd (let e : ⊥ = cc in e)
@@ -102,17 +102,17 @@ frames_more F frames outputs i d f lt are is =
     ap (λ fs. fs ++ f ∷ []) are ∙ ap (λ x. map F (take i outputs) ++ x ∷ []) is
     ∙ sym (map-append F (take i outputs) (get_or outputs i d ∷ [])) ∙ ap (map F) (sym (take_more outputs i d lt))
 
-output_at : (p : Program) (known : List Picture) (needed : List Bool) (planes : List Plane) → IsProgram p → ShowsNeeded p.size (types_of p) known needed planes → (k d : ℕ) → k < length p.outputs → get_or p.outputs k d < length planes
-output_at p known needed planes is shows k d lt =
+output_at : (p : Program) (known : List Picture) (until : List ℕ) (planes : List Plane) → IsProgram p → ShowsNeeded p.size (types_of p) known until (image_count p) planes → (k d : ℕ) → k < length p.outputs → get_or p.outputs k d < length planes
+output_at p known until planes is shows k d lt =
     let within = slice_get_within (types_of p) (get_or p.outputs k d) (is.outputs k d lt).ty (is.outputs k d lt).there in
     let l = shows.one_each in omega (arith, within, l)
 
 -- the planes of the outputs
-pub outputs_there : (p : Program) (known : List Picture) (needed : List Bool) (planes : List Plane) → IsProgram p → AreNeeds p needed → ShowsNeeded p.size (types_of p) known needed planes → All (IsOutputPlane p.size planes) p.outputs
-outputs_there p known needed planes is needs shows k d lt =
+pub outputs_there : (p : Program) (known : List Picture) (until : List ℕ) (planes : List Plane) → IsProgram p → AreNeeds p until → ShowsNeeded p.size (types_of p) known until (image_count p) planes → All (IsOutputPlane p.size planes) p.outputs
+outputs_there p known until planes is needs shows k d lt =
     let out = is.outputs k d lt in
     record {
-      whole = shows.whole (get_or p.outputs k d) (needs.outputs k d lt) (output_at p known needed planes is shows k d lt);
+      whole = shows.whole (get_or p.outputs k d) (needs.outputs k d lt) (output_at p known until planes is shows k d lt);
       ty = out.ty;
       port = out.port;
       values = shows.values (get_or p.outputs k d) out.ty out.there;
@@ -123,19 +123,19 @@ map_same F G [] same = refl
 map_same F G (x ∷ xs) same = ap (λ y. y ∷ map F xs) (same 0 x (omega arith)) ∙ ap (λ ys. G x ∷ ys) (map_same F G xs (λ k d lt. same (suc k) d (omega (arith, lt))))
 
 -- their frames are those of the meaning
-pub outputs_are : (p : Program) (known : List Picture) (needed : List Bool) (planes : List Plane) → IsProgram p → AreNeeds p needed → ShowsNeeded p.size (types_of p) known needed planes →
+pub outputs_are : (p : Program) (known : List Picture) (until : List ℕ) (planes : List Plane) → IsProgram p → AreNeeds p until → ShowsNeeded p.size (types_of p) known until (image_count p) planes →
     map (λ g. frame_of p.size (picture_at (all_shown p.size planes) g)) p.outputs ≡ map (λ g. frame_of p.size (picture_at known g)) p.outputs
-outputs_are p known needed planes is needs shows = map_same _ _ p.outputs (λ k d lt.
-    ap (frame_of p.size) (shows.pictures (get_or p.outputs k d) (needs.outputs k d lt) (output_at p known needed planes is shows k d lt)))
+outputs_are p known until planes is needs shows = map_same _ _ p.outputs (λ k d lt.
+    ap (frame_of p.size) (shows.pictures (get_or p.outputs k d) (needs.outputs k d lt) (output_at p known until planes is shows k d lt)))
 
 -- the same, of what the code has in hand
-pub frames_are : (p : Program) (known : List Picture) (needed : List Bool) (planes : List Plane) (size : Size) (outputs : List ℕ) (shows_of : List Plane) → IsProgram p → AreNeeds p needed → ShowsNeeded p.size (types_of p) known needed planes →
+pub frames_are : (p : Program) (known : List Picture) (until : List ℕ) (planes : List Plane) (size : Size) (outputs : List ℕ) (shows_of : List Plane) → IsProgram p → AreNeeds p until → ShowsNeeded p.size (types_of p) known until (image_count p) planes →
     size ≡ p.size → outputs ≡ p.outputs → shows_of ≡ planes → map (λ g. frame_of size (picture_at (all_shown size shows_of) g)) outputs ≡ map (λ g. frame_of p.size (picture_at known g)) p.outputs
-frames_are p known needed planes size outputs shows_of is needs shows same outs there =
+frames_are p known until planes size outputs shows_of is needs shows same outs there =
     ap (λ s. map (λ g. frame_of s (picture_at (all_shown s shows_of) g)) outputs) same
     ∙ ap (λ ps. map (λ g. frame_of p.size (picture_at (all_shown p.size ps) g)) outputs) there
     ∙ ap (map (λ g. frame_of p.size (picture_at (all_shown p.size planes) g))) outs
-    ∙ outputs_are p known needed planes is needs shows
+    ∙ outputs_are p known until planes is needs shows
 
 -- the plane that is taken is the one that was there
 pub taken_is : (planes now : List Plane) (g : ℕ) (q : Plane) → slice_get now g ≡ Some q → slice_get now g ≡ slice_get planes g → q ≡ get_or planes g q

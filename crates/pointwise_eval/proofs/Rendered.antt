@@ -1,15 +1,15 @@
 -- The planes of all images, one after another.
-use Rattle.std.proofs.Common.{◌≡◌, ℕ, zero, suc, ◌+◌, ◌-◌, ◌*◌, ◌<◌, ◌≤◌, Bool, true, false, List, [], ◌∷◌, ◌++◌, length, map, take, get_or, ℤ, pos, unsigned_abs, Some, slice_get, refl, ap, sym, ◌∙◌, subst, arith, inl, inr, append-nil, append_assoc, length-append, if◌then◌else◌}
-use Rattle.std.specs.Prelude.{IsTrue, IfOk, Result, Ok, Err}
+use Rattle.std.proofs.Common.{◌≡◌, ◌≢◌, ℕ, zero, suc, ◌+◌, ◌-◌, ◌*◌, ◌<◌, ◌≤◌, Bool, true, false, List, [], ◌∷◌, ◌++◌, length, map, take, get_or, ℤ, pos, unsigned_abs, Some, slice_get, refl, ap, sym, ◌∙◌, subst, arith, inl, inr, append-nil, append_assoc, length-append, if◌then◌else◌}
+use Rattle.std.specs.Prelude.{IsTrue, IfOk, Result, Ok, Err, Option}
 use Rattle.std.specs.List.{All}
 use Rattle.std.specs.Option.{option_map}
 use Rattle.std.proofs.Math.ListN.{get_or-append}
 use Rattle.std.proofs.Math.Seq.{get_or-append_seam}
-use Rattle.std.proofs.lemmas.Bool.{cases_lt}
+use Rattle.std.proofs.lemmas.Bool.{cases_lt, cases_eq}
 use Rattle.std.proofs.lemmas.Int.{ints}
 use Rattle.std.proofs.lemmas.Nat.{pow_pos}
 use Rattle.std.proofs.lemmas.List.{length-map, take_more, map-append}
-use Rattle.std.proofs.lemmas.Option.{slice_get_within, slice_get-get_or, slice_get-map, get_or_from_slice_get}
+use Rattle.std.proofs.lemmas.Option.{slice_get_within, slice_get-map, get_or_from_slice_get}
 use Rattle.dk_base.specs.declared.ty.Ty.{Ty}
 use Rattle.dk_base.specs.declared.ty.Ty.TheVariants.{Unsigned, Signed}
 use Rattle.dk_base.specs.Types.{IsType, IsIn, above}
@@ -27,7 +27,8 @@ use Rattle.pointwise_ir.proofs.Defined.{last_entry, taken_types}
 use Rattle.pointwise_ir.proofs.Pictured.{first_pictures, reads_earlier, picture_of_body, mapped_entry}
 use Rattle.pointwise_eval.specs.declared.plane.Plane.{Plane}
 use Rattle.dk_frames.specs.declared.frame.Frame.{Frame}
-use Rattle.pointwise_eval.specs.Planes.{values_of, shown, all_shown, IsWhole, CanEvaluate, IsPlaneOf, ShowsNeeded}
+use Rattle.pointwise_eval.specs.declared.plane.Plane.TheVariants.{Gone}
+use Rattle.pointwise_eval.specs.Planes.{values_of, shown, all_shown, IsWhole, CanEvaluate, IsPlaneOf, AreSameOrGone, ShowsNeeded}
 use Rattle.pointwise_eval.specs.Rounds.{IsInputFrame, AreFrames, round_of}
 use Rattle.pointwise_eval.specs.Needs.{IsNeeded, AreNeeds}
 
@@ -121,9 +122,9 @@ round_is p frames is are = record {
 }
 
 -- the planes of the inputs
-pub shows_inputs : (p : Program) (frames : List Frame) (needed : List Bool) (planes : List Plane) → IsProgram p → AreFrames p frames → map values_of planes ≡ map (λ f. map pos f.samples) frames →
-    ShowsNeeded p.size (all_types p.inputs []) (pictures p (round_of p.size frames)) needed planes
-shows_inputs p frames needed planes is are same =
+pub shows_inputs : (p : Program) (frames : List Frame) (until : List ℕ) (n : ℕ) (planes : List Plane) → IsProgram p → AreFrames p frames → map values_of planes ≡ map (λ f. map pos f.samples) frames →
+    ShowsNeeded p.size (all_types p.inputs []) (pictures p (round_of p.size frames)) until n planes
+shows_inputs p frames until n planes is are same =
     let size = p.size in
     let round = round_of size frames in
     let types = map (λ (i : Input). i.ty) p.inputs in
@@ -185,24 +186,24 @@ types-length inputs images k le =
 pub body_of : (p : Program) (k : ℕ) (d : Definition) → slice_get p.images k ≡ Some d → slice_get (bodies_of p) k ≡ Some (tree_of d.body)
 body_of p k d is = slice_get-map (λ (d : Definition). tree_of d.body) p.images k ∙ ap (option_map (λ (d : Definition). tree_of d.body)) is
 
--- a needed image can be evaluated on the planes before it
-pub can_be : (p : Program) (known : List Picture) (needed : List Bool) (planes : List Plane) (k : ℕ) (d : Definition) → IsProgram p → AreNeeds p needed → slice_get p.images k ≡ Some d →
-    ShowsNeeded p.size (all_types p.inputs (take k p.images)) known needed planes → IsNeeded needed (length p.inputs + k) → CanEvaluate p.size planes (tree_of d.body)
-can_be p known needed planes k d is needs there shows wanted =
+-- an image that is needed behind itself can be evaluated on the planes before it
+pub can_be : (p : Program) (known : List Picture) (until : List ℕ) (planes : List Plane) (k : ℕ) (d : Definition) → IsProgram p → AreNeeds p until → slice_get p.images k ≡ Some d →
+    ShowsNeeded p.size (all_types p.inputs (take k p.images)) known until (length p.inputs + k) planes → IsNeeded until (length p.inputs + k + 1) (length p.inputs + k) → CanEvaluate p.size planes (tree_of d.body)
+can_be p known until planes k d is needs there shows wanted =
     let e = tree_of d.body in
     let types = all_types p.inputs (take k p.images) in
     let listed = body_of p k d there in
     let within = slice_get_within p.images k d there in
     let long = types-length p.inputs p.images k (let le : k ≤ length p.images = omega (arith, within) in le) in
     let as_many = shows.one_each in
-    let both = each_both (IsNeeded needed) (λ g. g < length p.inputs + k) e (needs.bodies (length p.inputs + k) e (k, refl, listed) wanted) (reads_earlier p is k e listed) in
+    let both = each_both (IsNeeded until (length p.inputs + k)) (λ g. g < length p.inputs + k) e (needs.bodies (length p.inputs + k) e (k, refl, listed) wanted) (reads_earlier p is k e listed) in
     record {
       types = types;
       ty = d.ty;
       typed = (is.images k d there).typed;
       types_are = taken_types p.inputs p.images k is.inputs (λ j image lt h. is.images j image h);
       values = shows.values;
-      whole = each_weaker (λ g. IsNeeded needed g × (g < length p.inputs + k)) (IsWhole p.size planes) (λ g h. shows.whole g h.0 (let lt = h.1 in omega (arith, lt, long, as_many))) e both;
+      whole = each_weaker (λ g. IsNeeded until (length p.inputs + k) g × (g < length p.inputs + k)) (IsWhole p.size planes) (λ g h. shows.whole g h.0 (let lt = h.1 in omega (arith, lt, long, as_many))) e both;
     }
 
 shown_more : (size : Size) (planes : List Plane) (q : Plane) → all_shown size (planes ++ q ∷ []) ≡ all_shown size planes ++ shown size (values_of q) ∷ []
@@ -244,25 +245,11 @@ plane_in size planes e t false q ok is all x y =
     let P : List ℤ → Type 0 = λ vs. IsIn t (shown size vs x y) in
     subst P (sym (is.empty refl)) (framed_in size t (λ _ _. pos 0) (λ _ _. zero_in t) x y)
 
-needed_is : (needed : List Bool) (g n : ℕ) (wanted d : Bool) → wanted ≡ get_or needed n d → g ≡ n → IsNeeded needed g → IsTrue wanted
-needed_is needed g n wanted d is here wants = is ∙ ap (λ k. get_or needed k d) (sym here) ∙ get_or_from_slice_get needed g true d wants
-
-is_needed : (needed : List Bool) (n : ℕ) (wanted d : Bool) → wanted ≡ get_or needed n d → n < length needed → IsTrue wanted → IsNeeded needed n
-is_needed needed n wanted d is lt holds = slice_get-get_or needed n d lt ∙ ap Some (sym is ∙ holds)
-
--- where the code's test holds, the next image can be evaluated
-pub can_next : (p : Program) (known : List Picture) (needed : List Bool) (planes : List Plane) (k : ℕ) (d : Definition) (wanted b : Bool) → IsProgram p → AreNeeds p needed → slice_get p.images k ≡ Some d →
-    ShowsNeeded p.size (all_types p.inputs (take k p.images)) known needed planes → wanted ≡ get_or needed (length p.inputs + k) b → IsTrue wanted → CanEvaluate p.size planes (tree_of d.body)
-can_next p known needed planes k d wanted b is needs there shows test holds =
-    let within = slice_get_within p.images k d there in
-    let lt : length p.inputs + k < length needed = (let l = needs.one_each in omega (arith, within, l)) in
-    can_be p known needed planes k d is needs there shows (is_needed needed (length p.inputs + k) wanted b test lt holds)
-
 -- the planes with the next one
-pub shows_more : (p : Program) (round : List Picture) (needed : List Bool) (planes : List Plane) (k : ℕ) (d : Definition) (wanted b : Bool) (q : Plane) → IsProgram p → AreNeeds p needed → length round ≡ length p.inputs →
-    slice_get p.images k ≡ Some d → wanted ≡ get_or needed (length p.inputs + k) b → IsPlaneOf p.size planes (tree_of d.body) wanted q →
-    ShowsNeeded p.size (all_types p.inputs (take k p.images)) (pictures p round) needed planes → ShowsNeeded p.size (all_types p.inputs (take (k + 1) p.images)) (pictures p round) needed (planes ++ q ∷ [])
-shows_more p round needed planes k d wanted b q is needs one_each there test plane shows =
+pub shows_more : (p : Program) (round : List Picture) (until : List ℕ) (planes : List Plane) (k : ℕ) (d : Definition) (wanted : Bool) (q : Plane) → IsProgram p → AreNeeds p until → length round ≡ length p.inputs →
+    slice_get p.images k ≡ Some d → (IsTrue wanted → IsNeeded until (length p.inputs + k + 1) (length p.inputs + k)) → (IsNeeded until (length p.inputs + k + 1) (length p.inputs + k) → IsTrue wanted) → IsPlaneOf p.size planes (tree_of d.body) wanted q →
+    ShowsNeeded p.size (all_types p.inputs (take k p.images)) (pictures p round) until (length p.inputs + k) planes → ShowsNeeded p.size (all_types p.inputs (take (k + 1) p.images)) (pictures p round) until (length p.inputs + k + 1) (planes ++ q ∷ [])
+shows_more p round until planes k d wanted q is needs one_each there does has plane shows =
     let size = p.size in
     let e = tree_of d.body in
     let types = all_types p.inputs (take k p.images) in
@@ -272,8 +259,9 @@ shows_more p round needed planes k d wanted b q is needs one_each there test pla
     let as_many : length planes ≡ length p.inputs + k = shows.one_each ∙ types_long in
     let longer = length-append planes (q ∷ []) in
     let next = types_next p.inputs p.images k d there in
-    let can = can_next p known needed planes k d wanted b is needs there shows test in
     let listed = body_of p k d there in
+    let sooner : (g : ℕ) → IsNeeded until (length p.inputs + k + 1) g → IsNeeded until (length p.inputs + k) g = λ g wants. omega (arith, wants) in
+    let own : (g : ℕ) → g ≡ length p.inputs + k → IsNeeded until (length p.inputs + k + 1) g → IsNeeded until (length p.inputs + k + 1) (length p.inputs + k) = λ g at wants. (let P : ℕ → Type 0 = λ n. IsNeeded until (length p.inputs + k + 1) n in subst P at wants) in
     let typed = taken_types p.inputs p.images k is.inputs (λ j image lt h. is.images j image h) in
     let inside : (x y : ℤ) → IsIn d.ty (shown size (values_of q) x y) = plane_in size planes e d.ty wanted q (type_typed types typed e d.ty (is.images k d there).typed) plane (λ holds. value_in size types (all_shown size planes) typed shows.values e d.ty (is.images k d there).typed) in
     record {
@@ -294,24 +282,88 @@ shows_more p round needed planes k d wanted b q is needs one_each there test pla
                 subst R (sym (last_shown size planes q g (last.0 ∙ types_long ∙ sym as_many))) (subst Q last.1 (inside x y))
           ];
       whole = λ g wants lt. elim (cases_lt g (length planes)) [
-        | inl low ↦ (let w = shows.whole g wants low in record { plane = w.plane; there = earlier_entry planes q w.plane g w.there; whole = w.whole })
+        | inl low ↦ (let w = shows.whole g (sooner g wants) low in record { plane = w.plane; there = earlier_entry planes q w.plane g w.there; whole = w.whole })
         | inr high ↦
             let here : g ≡ length planes = omega (arith, lt, longer, high) in
-            record { plane = q; there = last_is planes q g here; whole = plane.whole (needed_is needed g (length p.inputs + k) wanted b test (here ∙ as_many) wants) }
+            record { plane = q; there = last_is planes q g here; whole = plane.whole (has (own g (here ∙ as_many) wants)) }
       ];
       pictures = λ g wants lt. elim (cases_lt g (length planes)) [
-        | inl low ↦ earlier_shown size planes q g low ∙ shows.pictures g wants low
+        | inl low ↦ earlier_shown size planes q g low ∙ shows.pictures g (sooner g wants) low
         | inr high ↦
             let here : g ≡ length planes = omega (arith, lt, longer, high) in
-            let holds = needed_is needed g (length p.inputs + k) wanted b test (here ∙ as_many) wants in
-            let both = each_both (IsNeeded needed) (λ h. h < length p.inputs + k) e (needs.bodies g e (k, here ∙ as_many, listed) wants) (reads_earlier p is k e listed) in
+            let at : g ≡ length p.inputs + k = here ∙ as_many in
+            let holds = has (own g at wants) in
+            let both = each_both (IsNeeded until (length p.inputs + k)) (λ h. h < length p.inputs + k) e (needs.bodies (length p.inputs + k) e (k, refl, listed) (own g at wants)) (reads_earlier p is k e listed) in
             let same : Agree (value size (all_shown size planes) e) (value size known e) =
-            value_agrees size (λ h. IsNeeded needed h × (h < length p.inputs + k)) (all_shown size planes) known (λ h w x y. ap (λ (r : Picture). r x y) (shows.pictures h w.0 (let z = w.1 in omega (arith, z, as_many)))) e both in
+            value_agrees size (λ h. IsNeeded until (length p.inputs + k) h × (h < length p.inputs + k)) (all_shown size planes) known (λ h w x y. ap (λ (r : Picture). r x y) (shows.pictures h w.0 (let z = w.1 in omega (arith, z, as_many)))) e both in
             last_shown size planes q g here ∙ plane.shown holds
             ∙ same_picture (framed size (value size (all_shown size planes) e)) (framed size (value size known e)) (framed_agrees size (value size (all_shown size planes) e) (value size known e) same)
             ∙ sym (same_picture (picture_at known g) (framed size (value size known e)) (picture_of_body p is round one_each g e (k, here ∙ as_many, listed)))
       ];
     }
+
+-- a plane that is gone is 0 everywhere, which is in each type
+gone_in : (size : Size) (t : Ty) (x y : ℤ) → IsIn t (shown size [] x y)
+gone_in size t x y = framed_in size t (λ _ _. pos 0) (λ _ _. zero_in t) x y
+
+entry_shown : (size : Size) (planes : List Plane) (g : ℕ) (q : Plane) → slice_get planes g ≡ Some q → picture_at (all_shown size planes) g ≡ shown size (values_of q)
+entry_shown size [] g q is = absurd (let e : ⊥ = cc in e)
+entry_shown size (p ∷ planes) zero q is = let e : p ≡ q = cc in ap (λ (r : Plane). shown size (values_of r)) e
+entry_shown size (p ∷ planes) (suc g) q is = entry_shown size planes g q is
+
+same_shown : (size : Size) (old new : List Plane) (g : ℕ) → slice_get new g ≡ slice_get old g → picture_at (all_shown size new) g ≡ picture_at (all_shown size old) g
+same_shown size [] [] g same = refl
+same_shown size [] (q ∷ new) zero same = absurd (let e : ⊥ = cc in e)
+same_shown size [] (q ∷ new) (suc g) same = same_shown size [] new g same
+same_shown size (p ∷ old) [] zero same = absurd (let e : ⊥ = cc in e)
+same_shown size (p ∷ old) [] (suc g) same = same_shown size old [] g same
+same_shown size (p ∷ old) (q ∷ new) zero same = let e : q ≡ p = cc in ap (λ (r : Plane). shown size (values_of r)) e
+same_shown size (p ∷ old) (q ∷ new) (suc g) same = same_shown size old new g same
+
+-- one plane was let go of, or none
+pub dropped_kept : (start old new : List Plane) (until : List ℕ) (made i : ℕ) → ((h : ℕ) → h ≢ i → slice_get new h ≡ slice_get old h) → (IsNeeded until made i → slice_get new i ≡ slice_get old i) →
+    ((g : ℕ) → IsNeeded until made g → slice_get old g ≡ slice_get start g) → (g : ℕ) → IsNeeded until made g → slice_get new g ≡ slice_get start g
+dropped_kept start old new until made i others here before g wants =
+    elim (cases_eq g i) as (λ _. slice_get new g ≡ slice_get start g) [
+      | inl e ↦
+          let P : ℕ → Type 0 = λ h. IsNeeded until made h → slice_get new h ≡ slice_get old h in
+          subst P (sym e) here wants ∙ before g wants
+      | inr ne ↦ others g ne ∙ before g wants
+    ]
+
+pub dropped_each : (start old new : List Plane) (i : ℕ) → ((h : ℕ) → h ≢ i → slice_get new h ≡ slice_get old h) → AreSameOrGone (slice_get old i) (slice_get new i) →
+    ((g : ℕ) → AreSameOrGone (slice_get start g) (slice_get old g)) → (g : ℕ) → AreSameOrGone (slice_get start g) (slice_get new g)
+dropped_each start old new i others here before g =
+    elim (cases_eq g i) as (λ _. AreSameOrGone (slice_get start g) (slice_get new g)) [
+      | inl e ↦
+          let P : ℕ → Type 0 = λ h. AreSameOrGone (slice_get old h) (slice_get new h) in
+          same_or_gone (slice_get start g) (slice_get old g) (slice_get new g) (before g) (subst P (sym e) here)
+      | inr ne ↦
+          let P : Option Plane → Type 0 = λ o. AreSameOrGone (slice_get start g) o in
+          subst P (sym (others g ne)) (before g)
+    ]
+  where
+    same_or_gone : (a b c : Option Plane) → AreSameOrGone a b → AreSameOrGone b c → AreSameOrGone a c
+    same_or_gone a b c (inl ab) (inl bc) = inl (bc ∙ ab)
+    same_or_gone a b c (inr gone) (inl bc) = inr (bc ∙ gone)
+    same_or_gone a b c ab (inr gone) = inr gone
+
+-- the planes behind some that were let go of
+pub shows_after : (p : Program) (types : List Ty) (known : List Picture) (until : List ℕ) (n : ℕ) (old new : List Plane) → length new ≡ length old → ((g : ℕ) → IsNeeded until n g → slice_get new g ≡ slice_get old g) →
+    ((g : ℕ) → AreSameOrGone (slice_get old g) (slice_get new g)) → ShowsNeeded p.size types known until n old → ShowsNeeded p.size types known until n new
+shows_after p types known until n old new count kept each shows = record {
+  one_each = count ∙ shows.one_each;
+  values = λ g t found x y.
+      let P : Picture → Type 0 = λ r. IsIn t (r x y) in
+      elim (each g) [
+        | inl same ↦ subst P (sym (same_shown p.size old new g same)) (shows.values g t found x y)
+        | inr gone ↦ subst P (sym (entry_shown p.size new g Gone gone)) (gone_in p.size t x y)
+      ];
+  whole = λ g wants lt.
+      let w = shows.whole g wants (let l : g < length old = omega (arith, lt, count) in l) in
+      record { plane = w.plane; there = kept g wants ∙ w.there; whole = w.whole };
+  pictures = λ g wants lt. same_shown p.size old new g (kept g wants) ∙ shows.pictures g wants (let l : g < length old = omega (arith, lt, count) in l);
+}
 
 -- what `render` gives
 pub is_rendered : {E : Type 0} (size : Size) (planes : List Plane) (e : Tree) (wanted : Bool) (r : Result Plane E) → wanted ≡ true → IfOk r (λ q. length (values_of q) ≡ area size) →

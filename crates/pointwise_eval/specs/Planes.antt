@@ -1,5 +1,5 @@
 -- The values of an image in raster order, and the picture that they make.
-use Rattle.std.specs.Prelude.{◌≡◌, ℕ, ◌*◌, ◌+◌, ◌<◌, ℤ, pos, unsigned_abs, List, length, map, slice_get, slice_index_or, Some, Bool, true, IsTrue, IsFalse, []}
+use Rattle.std.specs.Prelude.{◌≡◌, ℕ, ◌*◌, ◌+◌, ◌<◌, ℤ, pos, unsigned_abs, List, length, map, slice_get, slice_index_or, Option, Some, ◌⊎◌, Bool, IsTrue, IsFalse, []}
 use Rattle.dk_base.specs.declared.ty.Ty.{Ty}
 use Rattle.dk_base.specs.Types.{IsType, IsIn}
 use Rattle.dk_base.specs.Frames.{Size, area, Picture}
@@ -10,7 +10,8 @@ use Rattle.dk_base.specs.Types.{IsPort}
 use Rattle.dk_base.specs.Frames.{framed, picture_at}
 use Rattle.pointwise_ir.specs.Meaning.{edged, value}
 use Rattle.pointwise_eval.specs.declared.plane.Plane.{Plane}
-use Rattle.pointwise_eval.specs.declared.plane.Plane.TheVariants.{Input, Samples, Narrow, Wide}
+use Rattle.pointwise_eval.specs.declared.plane.Plane.TheVariants.{Input, Samples, Narrow, Wide, Gone}
+use Rattle.pointwise_eval.specs.Needs.{IsNeeded}
 use Rattle.pointwise_eval.specs.declared.plane.Row.{Row}
 use Rattle.pointwise_eval.specs.declared.plane.Row.TheVariants.{Pixels, Values}
 
@@ -20,6 +21,7 @@ values_of (Input samples) = map pos samples.now
 values_of (Samples samples) = map pos samples.items
 values_of (Narrow values) = values.items
 values_of (Wide values) = values.items
+values_of Gone = []
 
 abbrev pub entries_of : Row → List ℤ
 entries_of (Pixels samples) = map pos samples.now
@@ -31,6 +33,7 @@ IsByRows (Input samples) = Unit {0}
 IsByRows (Samples samples) = Unit {0}
 IsByRows (Narrow values) = Unit {0}
 IsByRows (Wide values) = ⊥
+IsByRows Gone = ⊥
 
 -- the picture of values in raster order
 abbrev pub shown : Size → List ℤ → Picture
@@ -80,12 +83,16 @@ pub record IsPlaneOf (size : Size) (planes : List Plane) (e : Tree) (wanted : Bo
   pub shown : IsTrue wanted → shown size (values_of plane) ≡ framed size (value size (all_shown size planes) e)
   pub empty : IsFalse wanted → values_of plane ≡ []
 
--- the planes of images of which the needed ones have these pictures
-pub record ShowsNeeded (size : Size) (types : List Ty) (known : List Picture) (needed : List Bool) (planes : List Plane) : Type 0 where
+-- the planes of images, of which those that are needed behind the first n have these pictures
+pub record ShowsNeeded (size : Size) (types : List Ty) (known : List Picture) (until : List ℕ) (n : ℕ) (planes : List Plane) : Type 0 where
   pub one_each : length planes ≡ length types
   pub values : AreValues size types planes
-  pub whole : (g : ℕ) → slice_get needed g ≡ Some true → g < length planes → IsWhole size planes g
-  pub pictures : (g : ℕ) → slice_get needed g ≡ Some true → g < length planes → picture_at (all_shown size planes) g ≡ picture_at known g
+  pub whole : (g : ℕ) → IsNeeded until n g → g < length planes → IsWhole size planes g
+  pub pictures : (g : ℕ) → IsNeeded until n g → g < length planes → picture_at (all_shown size planes) g ≡ picture_at known g
+
+-- the plane at a place is the one that was there, or it is gone
+abbrev pub AreSameOrGone : Option Plane → Option Plane → Type 0
+AreSameOrGone old new = (new ≡ old) ⊎ (new ≡ Some Gone)
 
 -- a whole plane whose values are samples of an output
 pub record IsOutputPlane (size : Size) (planes : List Plane) (g : ℕ) : Type 0 where

@@ -10,11 +10,11 @@ ghost use Rattle.pointwise_ir.specs.Trees.{tree_of, depth_of};
 ghost use Rattle.pointwise_ir.specs.Programs.{all_types, types_of};
 ghost use Rattle.dk_base.specs.Frames.{picture_at};
 ghost use Rattle.pointwise_ir.specs.Meaning.{pictures};
-ghost use Rattle.pointwise_eval.specs.Needs.{AreNeeds};
-ghost use Rattle.pointwise_eval.specs.Planes.{values_of, all_shown, AreValues, IsWhole, CanEvaluate, IsPlaneOf, ShowsNeeded, IsOutputPlane};
+ghost use Rattle.pointwise_eval.specs.Needs.{IsNeeded, image_count, AreNeeds};
+ghost use Rattle.pointwise_eval.specs.Planes.{values_of, all_shown, AreValues, IsWhole, CanEvaluate, IsPlaneOf, AreSameOrGone, ShowsNeeded, IsOutputPlane};
 ghost use Rattle.pointwise_eval.specs.Rounds.{AreFrames, round_of, frame_of, output_frames};
 
-use crate::need::needs;
+use crate::need::{is_needed, needs};
 use crate::plane::Plane;
 use crate::rows::render;
 use dk_base::{FrameSize, Memory};
@@ -53,7 +53,7 @@ fn next_plane<'a>(
     if wanted {
         render(alloc, size, planes, inputs, images, body)
     } else {
-        Ok(Plane::Narrow(Vec::new(alloc)))
+        Ok(Plane::Gone)
     }
 }
 
@@ -65,16 +65,50 @@ fn earlier(images: &[Definition], k: usize) -> &[Definition]
     images.split_at(k).0
 }
 
-// The planes of all images, of which the needed ones are there.
+// Lets go of a plane that is needed behind `until` images at most, where so many are made.
+fn drop_plane(planes: &mut [Plane<'_>], image: usize, until: usize, made: usize)
+    requires { image < length planes.old }
+    ensures others { (g : ℕ) → g ≢ image → slice_get planes.new g ≡ slice_get planes.old g }
+    ensures kept { made < until → slice_get planes.new image ≡ slice_get planes.old image }
+    ensures here { AreSameOrGone (slice_get planes.old image) (slice_get planes.new image) }
+{
+    if until <= made {
+        planes[image] = Plane::Gone;
+    }
+}
+
+// Lets go of the planes that are not needed behind so many images.
+fn drop_planes(planes: &mut [Plane<'_>], until: &[usize], made: usize)
+    requires { length planes.old ≤ length until.now }
+    ensures count { length planes.new ≡ length planes.old }
+    ensures kept { (g : ℕ) → IsNeeded until.now made g → slice_get planes.new g ≡ slice_get planes.old g }
+    ensures each { (g : ℕ) → AreSameOrGone (slice_get planes.old g) (slice_get planes.new g) }
+{
+    for g in 0..planes.len() {
+        drop_plane(planes, g, until[g], made);
+    }
+}
+
+// The same over a vector.
+fn drop_unneeded(planes: &mut Vec<Plane<'_>>, until: &[usize], made: usize)
+    requires { length planes.old.items ≤ length until.now }
+    ensures count { length planes.new.items ≡ length planes.old.items }
+    ensures kept { (g : ℕ) → IsNeeded until.now made g → slice_get planes.new.items g ≡ slice_get planes.old.items g }
+    ensures each { (g : ℕ) → AreSameOrGone (slice_get planes.old.items g) (slice_get planes.new.items g) }
+{
+    drop_planes(planes, until, made);
+}
+
+// The planes of all images, of which those of the outputs are there.
 fn all_planes<'a>(
     alloc: Global,
     ir: &Ir,
     frames: &'a [Frame],
-    needed: &[bool],
+    until: &[usize],
 ) -> Result<Vec<Plane<'a>>, Memory>
     requires frames { AreFrames ir.now frames.now }
-    requires needs { AreNeeds ir.now needed.now }
-    ensures { IfOk result (λ planes. ShowsNeeded ir.now.size (types_of ir.now) (pictures ir.now (round_of ir.now.size frames.now)) needed.now planes.items) }
+    requires needs { AreNeeds ir.now until.now }
+    ensures { IfOk result (λ planes. ShowsNeeded ir.now.size (types_of ir.now) (pictures ir.now (round_of ir.now.size frames.now)) until.now (image_count ir.now) planes.items) }
 {
     ir.law();
     let size = ir.size();
@@ -83,7 +117,8 @@ fn all_planes<'a>(
     let mut planes = input_planes(alloc, frames)?;
     for k in 0..images.len() {
         let before = earlier(images, k);
-        let wanted = needed[inputs.len() + k];
+        let number = inputs.len() + k;
+        let wanted = is_needed(until, number);
         let plane = next_plane(
             alloc,
             size,
@@ -94,6 +129,7 @@ fn all_planes<'a>(
             wanted,
         )?;
         planes.push(plane)?;
+        drop_unneeded(&mut planes, until, number + 1);
     }
     Ok(planes)
 }
@@ -133,6 +169,7 @@ fn samples_of(alloc: Global, plane: Plane<'_>) -> Result<Vec<u16>, Memory>
         Plane::Samples(samples) => Ok(samples),
         Plane::Narrow(values) => narrow_samples(alloc, &values),
         Plane::Wide(values) => wide_samples(alloc, &values),
+        Plane::Gone => Ok(Vec::new(alloc)),
     }
 }
 
@@ -149,13 +186,13 @@ fn output_frame(alloc: Global, size: FrameSize, plane: Plane<'_>) -> Result<Fram
     })
 }
 
-// Takes out the plane of an image, which is empty from then on.
-fn take_plane<'a>(alloc: Global, planes: &mut [Plane<'a>], image: u32) -> Plane<'a>
+// Takes out the plane of an image, which is gone from then on.
+fn take_plane<'a>(planes: &mut [Plane<'a>], image: u32) -> Plane<'a>
     requires { image < length planes.old }
     ensures taken { slice_get planes.old image ≡ Some result }
     ensures others { (g : ℕ) → g ≢ image → slice_get planes.new g ≡ slice_get planes.old g }
 {
-    mem::replace(&mut planes[image as usize], Plane::Narrow(Vec::new(alloc)))
+    mem::replace(&mut planes[image as usize], Plane::Gone)
 }
 
 // The frames of the outputs, whose planes are taken.
@@ -171,21 +208,21 @@ fn frames_of_outputs(
 {
     let mut frames = Vec::new(alloc);
     for output in outputs {
-        let plane = take_plane(alloc, planes, *output);
+        let plane = take_plane(planes, *output);
         let frame = output_frame(alloc, size, plane)?;
         frames.push(frame)?;
     }
     Ok(frames)
 }
 
-/// The pictures of the outputs in order, on one frame for each input in order, which has the size of the frame and samples in the range of the input's type. Memory is taken for the values of each image that an output needs.
+/// The pictures of the outputs in order, on one frame for each input in order, which has the size of the frame and samples in the range of the input's type. Memory is taken for the values of each image that an output needs, and given back once no later image reads it.
 pub fn evaluate(alloc: Global, ir: &Ir, frames: &[Frame]) -> Result<Vec<Frame>, Memory>
     requires { AreFrames ir.now frames.now }
     ensures { IfOk result (λ outs. outs.items ≡ output_frames ir.now (pictures ir.now (round_of ir.now.size frames.now))) }
 {
     ir.law();
-    let needed = needs(alloc, ir)?;
-    let mut planes = all_planes(alloc, ir, frames, &needed)?;
+    let until = needs(alloc, ir)?;
+    let mut planes = all_planes(alloc, ir, frames, &until)?;
     let outs = frames_of_outputs(alloc, ir.size(), ir.outputs(), &mut planes)?;
     Ok(outs)
 }

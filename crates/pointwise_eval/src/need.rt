@@ -1,75 +1,111 @@
-// The images that the outputs need.
+// Until when the outputs need each image.
 
-ghost use Rattle.std.specs.Prelude.{◌≡◌, ℕ, ◌+◌, ◌<◌, ◌≤◌, IfOk, Some, length, map, slice_get};
+ghost use Rattle.std.specs.Prelude.{◌≡◌, ◌≢◌, ℕ, ◌+◌, ◌^◌, ◌<◌, ◌≤◌, IfOk, IsTrue, Some, length, map, slice_get};
 ghost use Rattle.std.specs.List.{All};
 ghost use Rattle.pointwise_ir.specs.Trees.{Tree, tree_of, EachImage};
-ghost use Rattle.pointwise_eval.specs.Needs.{IsNeeded, AreNeeds};
+ghost use Rattle.pointwise_eval.specs.Needs.{IsNeeded, image_count, AreNeeds};
 
 use dk_base::Memory;
 use pointwise_ir::{Definition, Expr, Ir};
 use std::alloc::Global;
 
-// Marks the images that an expression reads.
-fn mark(e: &Expr, needed: &mut [bool])
-    requires { EachImage (λ g. g < length needed.old) (tree_of e.now) }
-    ensures reads { EachImage (IsNeeded needed.new) (tree_of e.now) }
-    ensures kept { (g : ℕ) → IsNeeded needed.old g → IsNeeded needed.new g }
-    ensures others { (n : ℕ) → EachImage (λ g. g < n) (tree_of e.now) → (g : ℕ) → n ≤ g → slice_get needed.new g ≡ slice_get needed.old g }
+// Notes that an image is needed behind so many images.
+fn need(until: &mut [usize], image: usize, behind: usize)
+    requires there { image < length until.old }
+    requires few { behind < 2 ^ 62 }
+    ensures needed { IsNeeded until.new behind image }
+    ensures kept { (n g : ℕ) → IsNeeded until.old n g → IsNeeded until.new n g }
+    ensures others { (g : ℕ) → g ≢ image → slice_get until.new g ≡ slice_get until.old g }
+{
+    if until[image] <= behind {
+        until[image] = behind + 1;
+    }
+}
+
+// Notes that the images that an expression reads are needed behind so many images.
+fn mark(e: &Expr, until: &mut [usize], behind: usize)
+    requires there { EachImage (λ g. g < length until.old) (tree_of e.now) }
+    requires few { behind < 2 ^ 62 }
+    ensures reads { EachImage (IsNeeded until.new behind) (tree_of e.now) }
+    ensures kept { (n g : ℕ) → IsNeeded until.old n g → IsNeeded until.new n g }
+    ensures others { (n : ℕ) → EachImage (λ g. g < n) (tree_of e.now) → (g : ℕ) → n ≤ g → slice_get until.new g ≡ slice_get until.old g }
 {
     match e {
         Expr::Constant(..) => {}
-        Expr::Read(_, image, _, _) => needed[*image as usize] = true,
-        Expr::Shifted(_, _, _, body) => mark(body, needed),
-        Expr::Unary(_, body) => mark(body, needed),
+        Expr::Read(_, image, _, _) => need(until, *image as usize, behind),
+        Expr::Shifted(_, _, _, body) => mark(body, until, behind),
+        Expr::Unary(_, body) => mark(body, until, behind),
         Expr::Binary(_, left, right) => {
-            mark(left, needed);
-            mark(right, needed);
+            mark(left, until, behind);
+            mark(right, until, behind);
         }
         Expr::Select(condition, left, right) => {
-            mark(condition, needed);
-            mark(left, needed);
-            mark(right, needed);
+            mark(condition, until, behind);
+            mark(left, until, behind);
+            mark(right, until, behind);
         }
-        Expr::Convert(_, body, _) => mark(body, needed),
-        Expr::Scale(_, body, _) => mark(body, needed),
+        Expr::Convert(_, body, _) => mark(body, until, behind),
+        Expr::Scale(_, body, _) => mark(body, until, behind),
     }
 }
 
-// Marks the outputs.
-fn mark_outputs(outputs: &[u32], needed: &mut [bool])
-    requires { All (λ g. g < length needed.old) outputs.now }
-    ensures { All (IsNeeded needed.new) outputs.now }
+// Notes that the outputs are needed behind so many images.
+fn mark_outputs(outputs: &[u32], until: &mut [usize], behind: usize)
+    requires there { All (λ g. g < length until.old) outputs.now }
+    requires few { behind < 2 ^ 62 }
+    ensures { All (IsNeeded until.new behind) outputs.now }
 {
     for output in outputs {
-        needed[*output as usize] = true;
+        need(until, *output as usize, behind);
     }
 }
 
-// Marks the images that marked ones read, the last first.
-fn mark_reads(inputs: usize, images: &[Definition], needed: &mut [bool])
-    requires long { length needed.old ≡ inputs + length images.now }
+/// Whether the image of this number is needed behind itself.
+pub fn is_needed(until: &[usize], number: usize) -> bool
+    requires there { number < length until.now }
+    requires few { number < 2 ^ 62 }
+    ensures yes { IsTrue result → IsNeeded until.now (number + 1) number }
+    ensures no { IsNeeded until.now (number + 1) number → IsTrue result }
+{
+    until[number] > number + 1
+}
+
+// Notes what the images read that are needed behind themselves, the last first.
+fn mark_reads(inputs: usize, images: &[Definition], until: &mut [usize])
+    requires long { length until.old ≡ inputs + length images.now }
+    requires few { inputs + length images.now < 2 ^ 62 }
     requires earlier { (k : ℕ) (e : Tree) → slice_get (map (λ d. tree_of d.body) images.now) k ≡ Some e → EachImage (λ g. g < inputs + k) e }
-    ensures kept { (g : ℕ) → IsNeeded needed.old g → IsNeeded needed.new g }
-    ensures closed { (k : ℕ) (e : Tree) → slice_get (map (λ d. tree_of d.body) images.now) k ≡ Some e → IsNeeded needed.new (inputs + k) → EachImage (IsNeeded needed.new) e }
+    ensures kept { (n g : ℕ) → IsNeeded until.old n g → IsNeeded until.new n g }
+    ensures closed { (k : ℕ) (e : Tree) → slice_get (map (λ d. tree_of d.body) images.now) k ≡ Some e → IsNeeded until.new (inputs + k + 1) (inputs + k) → EachImage (IsNeeded until.new (inputs + k)) e }
 {
     let mut k = images.len();
     while k > 0 {
         k -= 1;
-        if needed[inputs + k] {
-            mark(&images[k].body, needed);
+        if is_needed(until, inputs + k) {
+            mark(&images[k].body, until, inputs + k);
         }
     }
 }
 
-/// For each image, whether the outputs need it.
-pub fn needs(alloc: Global, ir: &Ir) -> Result<Vec<bool>, Memory>
-    ensures { IfOk result (λ needed. AreNeeds ir.now needed.items) }
+// Notes until when the outputs need each image.
+fn mark_all(ir: &Ir, until: &mut [usize])
+    requires { length until.old ≡ image_count ir.now }
+    ensures { AreNeeds ir.now until.new }
 {
     ir.law();
     let inputs = ir.inputs().len();
     let images = ir.images();
-    let mut needed = vec![in alloc; false; inputs + images.len()]?;
-    mark_outputs(ir.outputs(), &mut needed);
-    mark_reads(inputs, images, &mut needed);
-    Ok(needed)
+    mark_outputs(ir.outputs(), until, inputs + images.len());
+    mark_reads(inputs, images, until);
+}
+
+/// For each image how many images there are before the outputs do not need it any more.
+pub fn needs(alloc: Global, ir: &Ir) -> Result<Vec<usize>, Memory>
+    ensures { IfOk result (λ until. AreNeeds ir.now until.items) }
+{
+    ir.law();
+    let count = ir.inputs().len() + ir.images().len();
+    let mut until = vec![in alloc; 0usize; count]?;
+    mark_all(ir, &mut until);
+    Ok(until)
 }

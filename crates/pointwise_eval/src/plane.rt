@@ -3,13 +3,14 @@
 ghost use Rattle.std.specs.Prelude.{IsTrue};
 ghost use Rattle.pointwise_eval.specs.Planes.{IsByRows};
 
-/// The values of an image in raster order: the samples of an input where they are, else samples where the image has a type of samples, else values of 64 bits, where all values are such that occur while it is computed, else of 128 bits. None, where the image is not wanted.
+/// The values of an image in raster order: the samples of an input where they are, else samples where the image has a type of samples, else values of 64 bits, where all values are such that occur while it is computed, else of 128 bits. Gone are those of an image that is not needed, or not any more.
 #[derive(Drop)]
 pub enum Plane<'a> {
     Input(&'a [u16]),
     Samples(Vec<u16>),
     Narrow(Vec<i64>),
     Wide(Vec<i128>),
+    Gone,
 }
 
 /// Values in raster order that can be read by rows.
@@ -29,6 +30,7 @@ impl Plane<'_> {
             Plane::Samples(_) => true,
             Plane::Narrow(_) => true,
             Plane::Wide(_) => false,
+            Plane::Gone => false,
         }
     }
 }

@@ -33,6 +33,7 @@ fn value_of(plane: &Plane<'_>, place: usize) -> i128
         Plane::Samples(samples) => sample_at(samples, place),
         Plane::Narrow(values) => i128::from(values[place]),
         Plane::Wide(values) => values[place],
+        Plane::Gone => 0,
     }
 }
 

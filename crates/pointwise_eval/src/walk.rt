@@ -53,6 +53,7 @@ fn row_values<'a>(plane: &'a Plane<'_>) -> Row<'a>
         Plane::Samples(samples) => Row::Pixels(samples.as_slice()),
         Plane::Narrow(values) => Row::Values(values.as_slice()),
         Plane::Wide(_) => Row::Values(&[]),
+        Plane::Gone => Row::Values(&[]),
     }
 }
 

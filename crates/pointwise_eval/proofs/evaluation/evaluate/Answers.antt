@@ -5,9 +5,9 @@ use Rattle.pointwise_eval.proofs.evaluation.evaluate.Goals as goal
 pub frames_of_outputs-requires-clause-outputs : goal.frames_of_outputs-requires-clause-outputs
 frames_of_outputs-requires-clause-outputs c =
     let needs = rw c.deref.ensures.value at c.in_ok-planes.ensures in
-    rw (c.size.ensures, c.outputs.ensures, c.deref_mut.ensures.value) (outputs_there c.args.ir.now _ c.in_ok-needed.needed.items c.in_ok-planes.planes.items c.law.ensures c.in_ok-needed.ensures needs)
+    rw (c.size.ensures, c.outputs.ensures, c.deref_mut.ensures.value) (outputs_there c.args.ir.now _ c.in_ok-until.until.items c.in_ok-planes.planes.items c.law.ensures c.in_ok-until.ensures needs)
 
 pub returns : goal.returns
 returns c =
     let shows = rw c.deref.ensures.value at c.in_ok-planes.ensures in
-    c.in_ok-outs.ensures ∙ frames_are c.args.ir.now _ c.in_ok-needed.needed.items c.in_ok-planes.planes.items _ _ _ c.law.ensures c.in_ok-needed.ensures shows c.size.ensures c.outputs.ensures c.deref_mut.ensures.value
+    c.in_ok-outs.ensures ∙ frames_are c.args.ir.now _ c.in_ok-until.until.items c.in_ok-planes.planes.items _ _ _ c.law.ensures c.in_ok-until.ensures shows c.size.ensures c.outputs.ensures c.deref_mut.ensures.value

@@ -20,7 +20,7 @@ pub returns-in-Binary-clause-reads : goal.returns-in-Binary-clause-reads
 returns-in-Binary-clause-reads t c =
     let left = rw c.deref-in-Binary.ensures at c.mark-in-Binary.ensures.reads in
     let right = rw c.deref-in-Binary-2.ensures at c.mark-in-Binary-2.ensures.reads in
-    rw c.in-Binary.is (each_weaker (IsNeeded c.mark-in-Binary.new.needed) (IsNeeded c.mark-in-Binary-2.new.needed) c.mark-in-Binary-2.ensures.kept (tree_of c.in-Binary.left.value) left, right)
+    rw c.in-Binary.is (each_weaker (IsNeeded c.mark-in-Binary.new.until c.args.behind) (IsNeeded c.mark-in-Binary-2.new.until c.args.behind) (c.mark-in-Binary-2.ensures.kept c.args.behind) (tree_of c.in-Binary.left.value) left, right)
 
 pub returns-in-Binary-clause-others : goal.returns-in-Binary-clause-others
 returns-in-Binary-clause-others t c = λ n each g past.
@@ -33,8 +33,8 @@ returns-in-Select-clause-reads t c =
     let left = rw c.deref-in-Select-2.ensures at c.mark-in-Select-2.ensures.reads in
     let right = rw c.deref-in-Select-3.ensures at c.mark-in-Select-3.ensures.reads in
     rw c.in-Select.is (
-      each_weaker (IsNeeded c.mark-in-Select.new.needed) (IsNeeded c.mark-in-Select-3.new.needed) (λ g h. c.mark-in-Select-3.ensures.kept g (c.mark-in-Select-2.ensures.kept g h)) (tree_of c.in-Select.condition.value) condition,
-      each_weaker (IsNeeded c.mark-in-Select-2.new.needed) (IsNeeded c.mark-in-Select-3.new.needed) c.mark-in-Select-3.ensures.kept (tree_of c.in-Select.left.value) left,
+      each_weaker (IsNeeded c.mark-in-Select.new.until c.args.behind) (IsNeeded c.mark-in-Select-3.new.until c.args.behind) (λ g h. c.mark-in-Select-3.ensures.kept c.args.behind g (c.mark-in-Select-2.ensures.kept c.args.behind g h)) (tree_of c.in-Select.condition.value) condition,
+      each_weaker (IsNeeded c.mark-in-Select-2.new.until c.args.behind) (IsNeeded c.mark-in-Select-3.new.until c.args.behind) (c.mark-in-Select-3.ensures.kept c.args.behind) (tree_of c.in-Select.left.value) left,
       right,
     )
 
@@ -44,3 +44,9 @@ returns-in-Select-clause-others t c = λ n each g past.
     c.mark-in-Select-3.ensures.others n (rw c.deref-in-Select-3.ensures parts.2) g past
     ∙ c.mark-in-Select-2.ensures.others n (rw c.deref-in-Select-2.ensures parts.1) g past
     ∙ c.mark-in-Select.ensures.others n (rw c.deref-in-Select.ensures parts.0) g past
+
+pub returns-in-Binary-clause-kept : goal.returns-in-Binary-clause-kept
+returns-in-Binary-clause-kept t c = λ n g is. c.mark-in-Binary-2.ensures.kept n g (c.mark-in-Binary.ensures.kept n g is)
+
+pub returns-in-Select-clause-kept : goal.returns-in-Select-clause-kept
+returns-in-Select-clause-kept t c = λ n g is. c.mark-in-Select-3.ensures.kept n g (c.mark-in-Select-2.ensures.kept n g (c.mark-in-Select.ensures.kept n g is))

@@ -4,6 +4,6 @@ use Rattle.pointwise_eval.proofs.need.mark_outputs.Given as goal
 
 abbrev pub invariant-loop-output : goal.invariant-loop-output
 invariant-loop-output l = record {
-  long : length l.needed ≡ length l.fn.needed;
-  marked : (k : ℕ) (d : ℕ) → k < l.output-index → IsNeeded l.needed (slice_index_or l.outputs k d);
+  long : length l.until ≡ length l.fn.until;
+  marked : (k : ℕ) (d : ℕ) → k < l.output-index → IsNeeded l.until l.behind (slice_index_or l.outputs k d);
 }

@@ -5,10 +5,10 @@ use Rattle.pointwise_eval.proofs.need.mark_reads.Given as goal
 
 abbrev pub invariant-loop-k : goal.invariant-loop-k
 invariant-loop-k l = record {
-  long : length l.needed ≡ l.inputs + length l.images;
+  long : length l.until ≡ l.inputs + length l.images;
   within : l.k ≤ length l.images;
-  kept : (g : ℕ) → IsNeeded l.fn.needed g → IsNeeded l.needed g;
-  closed : (j : ℕ) (e : Tree) → l.k ≤ j → slice_get (map (λ d. tree_of d.body) l.images) j ≡ Some e → IsNeeded l.needed (l.inputs + j) → EachImage (IsNeeded l.needed) e;
+  kept : (n g : ℕ) → IsNeeded l.fn.until n g → IsNeeded l.until n g;
+  closed : (j : ℕ) (e : Tree) → l.k ≤ j → slice_get (map (λ d. tree_of d.body) l.images) j ≡ Some e → IsNeeded l.until (l.inputs + j + 1) (l.inputs + j) → EachImage (IsNeeded l.until (l.inputs + j)) e;
 }
 
 abbrev pub decreases-loop-k : goal.decreases-loop-k
