@@ -1,0 +1,2 @@
+pub mod BlockRuns
+pub mod StreamRuns
