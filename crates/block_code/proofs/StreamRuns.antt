@@ -53,7 +53,7 @@ module _ (m : Netlist) (s : Streams) (t : ℕ) where
   atom_at a h = atom_local (net_value (shot_at m s t)) (s.value t) a (λ n c. net_at n (All-contains (IsDeclared m) (atom_nets a) n h c))
 
 -- the index of an access is of declared nets
-accesses_all : {X : Type 0} (P : ℕ × Atom Net → Type 0) (f : X → List (ℕ × Atom Net)) (xs : List X) → ((k : ℕ) (x : X) → slice_get xs k ≡ Some x → All P (f x)) → All P (accesses_of f xs)
+pub accesses_all : {X : Type 0} (P : ℕ × Atom Net → Type 0) (f : X → List (ℕ × Atom Net)) (xs : List X) → ((k : ℕ) (x : X) → slice_get xs k ≡ Some x → All P (f x)) → All P (accesses_of f xs)
 accesses_all P f [] h = All-nil P
 accesses_all P f (x ∷ xs) h = All-append P (f x) (accesses_of f xs) (h 0 x refl) (accesses_all P f xs (λ k y at. h (suc k) y at))
 

@@ -31,6 +31,7 @@ pub fn streams_run()
 {}
 
 /// A law: rows that keep the equations of a module's code over the clocks of a block are the module's run.
+#[tactic(auto, using(crate::proofs::RowsRun::rows_ran))]
 pub fn rows_run()
     ensures { (m : Netlist) (c : BlockCode) → KeepsRules m → IsBlockCode m c → (clocks : List Clock) (from to : Contents) (rows : List (List ℕ)) → All (λ (k : Clock). Fit (din_widths m) k.dins) clocks → FitsContents m from → KeepEquations m c clocks from rows → AreLeft m c rows (length clocks) from to → RowsRan m clocks from to rows }
 {}
@@ -41,6 +42,7 @@ pub fn contents_fit()
 {}
 
 /// A law: the words that a pass over the rows of a put's index and value leaves are those of the put.
+#[tactic(auto, using(crate::proofs::Arrays::words_same))]
 pub fn words_are_put()
     ensures { (rows : List (List ℕ)) (p : WordPut) (count : ℕ) (words index value : List ℕ) → IsAtomRow rows p.index count index → IsAtomRow rows p.value count value → (t : ℕ) → t ≤ count → words_after words index value t ≡ words_put rows p words t }
 {}
