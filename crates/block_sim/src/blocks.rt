@@ -83,6 +83,13 @@ impl Blocks {
         self.sim.law();
     }
 
+    /// The number of outputs, each of a valid and a dout.
+    pub fn outputs(&self) -> usize
+        ensures { length self.now.netlist.outputs ≡ 2 * result }
+    {
+        self.sim.outputs()
+    }
+
     /// One clock, a reset among them, as `Sim::step_all` makes it.
     pub fn step_all(
         &mut self,

@@ -14,3 +14,4 @@ pub mod Given
 pub mod RunsJoin
 pub mod Fitted
 pub mod Exactly
+pub mod Exchanged

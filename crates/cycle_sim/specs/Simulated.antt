@@ -71,3 +71,7 @@ pub record IsCircuit (m : Netlist) (order : List ℕ) (p : Program) (slots room 
   pub words : held ≡ shot.contents.arrays
   pub ready : IsReady m shot
   pub fit : ArraysFit m held
+
+-- contents with these registers and words
+abbrev pub held_contents : List ℕ → List (List ℕ) → Contents
+held_contents regs words = record { regs = regs; arrays = words }

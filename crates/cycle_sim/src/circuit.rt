@@ -9,7 +9,7 @@ ghost use Rattle.wiring.specs.Netlist.{netlist_of};
 use crate::build::program_of;
 use crate::edge::IndexRange;
 use crate::fill::{Fill, filled_arrays, filled_slots};
-use crate::machine::{Program, edge_vec, settle_vec};
+use crate::machine::{Program, edge_vec, exchange_arrays, exchange_vec, settle_vec};
 use crate::ports::{all_fit, dins_of, output_count};
 use netlist::{Module, Wiring};
 use std::alloc::{AllocError, Global};
@@ -65,7 +65,8 @@ fn part(numbers: &[u64], from: usize, count: usize) -> &[u64]
 
 impl Circuit {
     ghost use Rattle.wiring.specs.Snapshot.{HasOneSnapshot, HasOneNext, HasPlaces, FitsContents};
-    ghost use Rattle.cycle_sim.specs.Simulated.{Moment};
+    ghost use Rattle.cycle_sim.specs.Slots.{words_of};
+    ghost use Rattle.cycle_sim.specs.Simulated.{Moment, held_contents};
     ghost use Rattle.cycle_sim.specs.Filled.{filled_contents};
 
     /// The netlist of a module, with these contents at power-up.
@@ -164,5 +165,16 @@ impl Circuit {
             &mut self.staged,
             &mut self.arrays,
         );
+    }
+
+    /// Exchanges what registers and arrays hold for these. It takes no memory.
+    pub fn exchange(&mut self, regs: &mut Vec<u64>, arrays: &mut Vec<Vec<u64>>)
+        requires fit { FitsContents self.old.netlist (held_contents regs.old.items (words_of arrays.old.items)) }
+        ensures netlist { self.new.netlist ≡ self.old.netlist }
+        ensures contents { self.new.shot.contents ≡ held_contents regs.old.items (words_of arrays.old.items) }
+        ensures back { held_contents regs.new.items (words_of arrays.new.items) ≡ self.old.shot.contents }
+    {
+        exchange_vec(&mut self.values, self.program.first_reg, regs);
+        exchange_arrays(&mut self.arrays, arrays);
     }
 }

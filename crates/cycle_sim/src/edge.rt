@@ -60,6 +60,15 @@ pub fn put_from(values: &mut [u64], first: usize, numbers: &[u64])
     values[first..end].copy_from_slice(numbers);
 }
 
+/// Exchanges the numbers in the slots from this one on for others.
+pub fn exchange_from(values: &mut [u64], first: usize, numbers: &mut [u64])
+    requires { first + length numbers.old ≡ length values.old }
+    ensures values { values.new ≡ take first values.old ++ numbers.old }
+    ensures numbers { numbers.new ≡ drop first values.old }
+{
+    values.split_at_mut(first).1.swap_with_slice(numbers);
+}
+
 /// Puts what the ports are given into the first slots. Without the port `en` it is not looked at.
 pub fn put_ports(values: &mut [u64], has_enable: bool, reset: bool, enable: bool, dins: &[u64])
     requires { length (port_values has_enable reset enable dins.now) ≤ length values.old }

@@ -5,7 +5,9 @@ ghost use Rattle.cycle_sim.specs.Code.{CodeIsSafe};
 ghost use Rattle.cycle_sim.specs.Edge.{IsAccessInside, IsFirstOutside, EdgesAreSafe, run_sets, run_puts};
 ghost use Rattle.cycle_sim.specs.OneClock.{port_values, with_inputs, settled_values};
 
-use crate::edge::{Access, Edge, IndexRange, clock_edge, first_outside, put_from, put_ports};
+use crate::edge::{
+    Access, Edge, IndexRange, clock_edge, exchange_from, first_outside, put_from, put_ports,
+};
 use crate::settle::{Instruction, settle};
 use netlist::Width;
 
@@ -87,4 +89,21 @@ pub fn edge_vec(
     ensures arrays { words_of arrays.new.items ≡ run_puts values.old.items program.now.edges.items (words_of arrays.old.items) }
 {
     take_edge(program, values, staged, arrays);
+}
+
+/// Exchanges the numbers in the slots from this one on for others.
+pub fn exchange_vec(values: &mut Vec<u64>, first: usize, numbers: &mut Vec<u64>)
+    requires { first + length numbers.old.items ≡ length values.old.items }
+    ensures values { values.new.items ≡ take first values.old.items ++ numbers.old.items }
+    ensures numbers { numbers.new.items ≡ drop first values.old.items }
+{
+    exchange_from(values, first, numbers);
+}
+
+/// Exchanges arrays for others.
+pub fn exchange_arrays(arrays: &mut Vec<Vec<u64>>, others: &mut Vec<Vec<u64>>)
+    ensures arrays { words_of arrays.new.items ≡ words_of others.old.items }
+    ensures others { words_of others.new.items ≡ words_of arrays.old.items }
+{
+    std::mem::swap(arrays, others);
 }

@@ -2,10 +2,10 @@
 
 ghost use Rattle.std.specs.Prelude.{◌≡◌, ℕ, Err, ◌<◌, ◌+◌, ◌*◌, [], ◌∷◌, true, length, IsTrue, OnOk, IfOk, IfErr, OnErr};
 ghost use Rattle.wiring.specs.Snapshot.{Snapshot, Fit, HasOneSnapshot, HasOneNext, HasPlaces, FitsContents};
-ghost use Rattle.cycle_sim.specs.Slots.{all_values, all_widths};
+ghost use Rattle.cycle_sim.specs.Slots.{all_values, all_widths, words_of};
 ghost use Rattle.cycle_sim.specs.Ports.{din_widths, IsShown, AreShown};
 ghost use Rattle.cycle_sim.specs.Filled.{filled_contents};
-ghost use Rattle.cycle_sim.specs.Simulated.{GoesOn, StopsIn, clock};
+ghost use Rattle.cycle_sim.specs.Simulated.{GoesOn, StopsIn, clock, held_contents};
 
 use crate::circuit::Circuit;
 use crate::edge::IndexRange;
@@ -180,5 +180,15 @@ impl Sim {
                 Ok(())
             }
         }
+    }
+
+    /// Exchanges what registers and arrays hold for these, which have to fit. It takes no memory.
+    pub fn exchange(&mut self, regs: &mut Vec<u64>, arrays: &mut Vec<Vec<u64>>)
+        requires fit { FitsContents self.old.netlist (held_contents regs.old.items (words_of arrays.old.items)) }
+        ensures netlist { self.new.netlist ≡ self.old.netlist }
+        ensures contents { self.new.contents ≡ held_contents regs.old.items (words_of arrays.old.items) }
+        ensures back { held_contents regs.new.items (words_of arrays.new.items) ≡ self.old.contents }
+    {
+        self.circuit.exchange(regs, arrays);
     }
 }
