@@ -11,8 +11,8 @@ use Rattle.wiring.specs.Netlist.{Netlist}
 use Rattle.wiring.proofs.Lists.{at_one}
 use Rattle.cycle_sim.specs.Slots.{slot, rename}
 use Rattle.block_rows.specs.declared.code.Instruction.{Instruction}
-use Rattle.block_code.specs.Code.{instruction}
-use Rattle.block_code.specs.Parts.{IsInstructionOf, IsPlain, AreInstructions, HasInstructions}
+use Rattle.block_code.specs.Code.{IsPlain, instruction}
+use Rattle.block_code.specs.Parts.{IsInstructionOf, AreInstructions, HasInstructions, AreReadWhereMarked}
 
 pub instruction_is : (m : Netlist) (a : Assign) (target : ℕ) (right : Right ℕ ℕ) → target ≡ slot m a.target → right ≡ rename (slot m) a.right → (let i : Instruction = record { target = target; right = right } in i) ≡ instruction m a
 instruction_is m a target right e f = ap (λ n. let i : Instruction = record { target = n; right = right } in i) e ∙ ap (λ r. let i : Instruction = record { target = slot m a.target; right = r } in i) f
@@ -52,3 +52,6 @@ no_instructions m marks is = subst (λ (bs : List Bool). AreInstructions m [] bs
 
 pub all_there : (m : Netlist) (code : List Instruction) (marks : List Bool) → AreInstructions m code marks → ((k : ℕ) (a : Assign) → slice_get m.assigns k ≡ Some a → array_of a.right ≡ None → slice_index_or marks k false ≡ true) → HasInstructions m code
 all_there m code marks are covered = record { plain = are.plain; all = λ k a at plain. are.marked k a at (covered k a at plain) }
+
+pub none_read : (m : Netlist) (count : ℕ) (marks : List Bool) → marks ≡ replicate count false → AreReadWhereMarked m marks
+none_read m count marks is x marked = absurd (bare_at count x (sym (ap (λ (bs : List Bool). slice_index_or bs x false) is) ∙ marked))

@@ -25,8 +25,8 @@ use Rattle.cycle_sim.proofs.Renamed.{agree_renamed, constants_renamed}
 use Rattle.block_rows.specs.declared.code.Instruction.{Instruction}
 use Rattle.block_rows.specs.Code.{IsSound, IsOrdered}
 use Rattle.block_code.specs.declared.code.BlockCode.{BlockCode}
-use Rattle.block_code.specs.Code.{IsBlockCode, IsWithin, ReadIsWithin, PutIsWithin, instruction}
-use Rattle.block_code.specs.Parts.{IsPlain, HasInstructions, HasReads, AreNexts, ArePuts}
+use Rattle.block_code.specs.Code.{IsBlockCode, IsWithin, ReadIsWithin, PutIsWithin, IsPlain, instruction}
+use Rattle.block_code.specs.Parts.{HasInstructions, HasReads, AreNexts, ArePuts}
 use Rattle.block_code.proofs.Left.{declared_within}
 
 -- ---- right sides under other names
@@ -161,6 +161,8 @@ module _ (m : Netlist) (rules : KeepsRules m) where
         reads = reads.each;
         puts = λ k x i a at. puts.each k x i a (slice_get_within m.updates k (Put x i a) at) at;
         nexts = λ k r a at. nexts.each k r a (slice_get_within m.updates k (Set r a) at) at;
+        plain = instructions.plain;
+        some_read = reads.some;
       };
       runnable = record {
         sound = subst (λ (ws : List ℕ). All (IsSound ws) c.instructions.items) (sym widths) (All-from_at (IsSound (all_widths m)) c.instructions.items (λ k i at. plain_sound i (All-at (IsPlain m) c.instructions.items k i instructions.plain at)));

@@ -22,8 +22,8 @@ use Rattle.wiring.proofs.Nets.{driven_declared}
 use Rattle.cycle_sim.specs.Slots.{slot, rename_atom, all_widths}
 use Rattle.block_code.specs.declared.code.WordRead.{WordRead}
 use Rattle.block_code.specs.declared.code.WordPut.{WordPut}
-use Rattle.block_code.specs.Code.{IsWithin, ReadIsWithin, PutIsWithin, read_of, put_of}
-use Rattle.block_code.specs.Parts.{AreNexts, ArePuts, AreReads}
+use Rattle.block_code.specs.Code.{IsWithin, ReadIsWithin, PutIsWithin, IsRead, read_of, put_of}
+use Rattle.block_code.specs.Parts.{AreNexts, ArePuts, AreReads, AreReadWhereMarked, HasReads}
 use Rattle.block_code.proofs.Left.{declared_within}
 
 -- ---- places of a list that is written
@@ -178,6 +178,13 @@ module _ (m : Netlist) (rules : KeepsRules m) (k : ℕ) where
           subst (λ (z : ℕ). slice_index_or (slice_set marks x true) z false ≡ true) (array_same d y c (same j d y c there e)) (mark_here marks x (let array = sound.right.array in omega (arith, array, before.mark_count)))
       mark_by_place j d y c l there (inr apart) = let before_k = earlier j k l apart in get_or-set_other marks x y true false (apart_from j d y c before_k there) ∙ before.marked j d y c before_k there
 
+  pub marked_more : (n : Net) (x : ℕ) (i : Atom Net) → slice_get m.assigns k ≡ Some (word n x i) → (marks : List Bool) → AreReadWhereMarked m marks → AreReadWhereMarked m (slice_set marks x true)
+  marked_more n x i at marks before y marked = by_array (cases_eq y x)
+    where
+      by_array : (y ≡ x) ⊎ (y ≡ x → ⊥) → IsRead m y
+      by_array (inl e) = subst (λ (z : ℕ). IsRead m z) (sym e) (k, n, i, at)
+      by_array (inr other) = before y (sym (get_or-set_other marks x y true false other) ∙ marked)
+
   pub read_same : (a : Assign) → slice_get m.assigns k ≡ Some a → ((x : ℕ) (i : Atom Net) → a.right ≡ Word x i → ⊥) → (reads : List WordRead) (marks : List Bool) → AreReads m k reads marks → AreReads m (k + 1) reads marks
   read_same a at plain reads marks before = record {
     places = before.places;
@@ -189,3 +196,11 @@ module _ (m : Netlist) (rules : KeepsRules m) (k : ℕ) where
     where
       before_k : (j : ℕ) (d : Net) (y : ℕ) (c : Atom Net) → j < k + 1 → slice_get m.assigns j ≡ Some (word d y c) → j < k
       before_k j d y c l there = earlier j k l (λ e. plain y c (ap (λ (b : Assign). b.right) (at_one m.assigns k a (word d y c) at (subst (λ (q : ℕ). slice_get m.assigns q ≡ Some (word d y c)) e there))))
+
+pub all_read : (m : Netlist) (reads : List WordRead) (marks : List Bool) → AreReads m (length m.assigns) reads marks → AreReadWhereMarked m marks → ((x : ℕ) → x < length marks → slice_index_or marks x false ≡ true) → HasReads m reads
+all_read m reads marks are where_marked all = record {
+  places = are.places;
+  within = are.within;
+  each = λ k n x i at. are.each k n x i (slice_get_within m.assigns k (record { target = n; right = Word x i }) at) at;
+  some = λ x l. where_marked x (all x (let count = are.mark_count in omega (arith, l, count)));
+}

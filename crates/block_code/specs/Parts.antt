@@ -11,15 +11,11 @@ use Rattle.cycle_sim.specs.Slots.{slot, rename_atom, all_widths}
 use Rattle.block_rows.specs.declared.code.Instruction.{Instruction}
 use Rattle.block_code.specs.declared.code.WordRead.{WordRead}
 use Rattle.block_code.specs.declared.code.WordPut.{WordPut}
-use Rattle.block_code.specs.Code.{IsWithin, ReadIsWithin, PutIsWithin, instruction, read_of, put_of}
+use Rattle.block_code.specs.Code.{IsWithin, ReadIsWithin, PutIsWithin, IsPlain, IsRead, instruction, read_of, put_of}
 
 -- an instruction is that of the assign of this number
 abbrev pub IsInstructionOf : Netlist → ℕ → Instruction → Type 0
 IsInstructionOf m k i = (a : Assign) × (slice_get m.assigns k ≡ Some a) × (i ≡ instruction m a)
-
--- an instruction is that of an assign that reads no array
-abbrev pub IsPlain : Netlist → Instruction → Type 0
-IsPlain m i = (k : ℕ) × (a : Assign) × (slice_get m.assigns k ≡ Some a) × (array_of a.right ≡ None) × (i ≡ instruction m a)
 
 -- instructions of assigns that read no array, with a mark for each assign that has one
 pub record AreInstructions (m : Netlist) (code : List Instruction) (marks : List Bool) : Type 0 where
@@ -52,8 +48,13 @@ pub record AreReads (m : Netlist) (count : ℕ) (reads : List WordRead) (marks :
   pub each : (k : ℕ) (n : Net) (x : ℕ) (i : Atom Net) → k < count → slice_get m.assigns k ≡ Some (record { target = n; right = Word x i }) → slice_get reads x ≡ Some (read_of m n i)
   pub marked : (k : ℕ) (n : Net) (x : ℕ) (i : Atom Net) → k < count → slice_get m.assigns k ≡ Some (record { target = n; right = Word x i }) → slice_index_or marks x false ≡ true
 
+-- a marked array is read by an assign
+abbrev pub AreReadWhereMarked : Netlist → List Bool → Type 0
+AreReadWhereMarked m marks = (x : ℕ) → slice_index_or marks x false ≡ true → IsRead m x
+
 -- all of them, one of each array
 pub record HasReads (m : Netlist) (reads : List WordRead) : Type 0 where
   pub places : length reads ≡ length m.arrays
   pub within : All (ReadIsWithin (length (all_widths m))) reads
   pub each : (k : ℕ) (n : Net) (x : ℕ) (i : Atom Net) → slice_get m.assigns k ≡ Some (record { target = n; right = Word x i }) → slice_get reads x ≡ Some (read_of m n i)
+  pub some : (x : ℕ) → x < length m.arrays → IsRead m x

@@ -1,11 +1,11 @@
 // The reads of arrays, over slots.
 
-ghost use Rattle.std.specs.Prelude.{◌≡◌, ◌+◌, ◌<◌, length, replicate, IsTrue, IfOk, IfSome};
+ghost use Rattle.std.specs.Prelude.{◌≡◌, ◌+◌, ◌<◌, ℕ, false, true, length, replicate, slice_index_or, IsTrue, IfOk, IfSome};
 ghost use Rattle.wiring.specs.Netlist.{netlist_of};
 ghost use Rattle.wiring.specs.Rules.{KeepsRules};
 ghost use Rattle.wiring.specs.declared.right.Atom.TheVariants as atom;
 ghost use Rattle.cycle_sim.specs.Simulated.{IsLayout};
-ghost use Rattle.block_code.specs.Parts.{AreReads, HasReads};
+ghost use Rattle.block_code.specs.Parts.{AreReads, AreReadWhereMarked, HasReads};
 
 use crate::code::WordRead;
 use crate::instructions::bare_marks;
@@ -25,7 +25,9 @@ fn note_read(
     requires rules { KeepsRules (netlist_of wiring.now) }
     requires within { number < length wiring.now.assigns.items }
     requires before { AreReads (netlist_of wiring.now) number reads.old marks.old }
-    ensures { IsTrue result → AreReads (netlist_of wiring.now) (number + 1) reads.new marks.new }
+    requires marked { AreReadWhereMarked (netlist_of wiring.now) marks.old }
+    ensures reads { IsTrue result → AreReads (netlist_of wiring.now) (number + 1) reads.new marks.new }
+    ensures marked { IsTrue result → AreReadWhereMarked (netlist_of wiring.now) marks.new }
 {
     let assign = &wiring.assigns[number];
     match assign.right {
@@ -47,7 +49,9 @@ fn note_reads(reads: &mut [WordRead], marks: &mut [bool], layout: Layout, wiring
     requires layout { IsLayout (netlist_of wiring.now) layout }
     requires rules { KeepsRules (netlist_of wiring.now) }
     requires before { AreReads (netlist_of wiring.now) 0 reads.old marks.old }
-    ensures { IsTrue result → HasReads (netlist_of wiring.now) reads.new }
+    requires marked { AreReadWhereMarked (netlist_of wiring.now) marks.old }
+    ensures reads { IsTrue result → AreReads (netlist_of wiring.now) (length wiring.now.assigns.items) reads.new marks.new }
+    ensures marked { IsTrue result → AreReadWhereMarked (netlist_of wiring.now) marks.new }
 {
     for number in 0..wiring.assigns.len() {
         if !note_read(reads, marks, layout, wiring, number) {
@@ -55,6 +59,31 @@ fn note_reads(reads: &mut [WordRead], marks: &mut [bool], layout: Layout, wiring
         }
     }
     true
+}
+
+fn all_marked(marks: &[bool]) -> bool
+    ensures { IsTrue result → (x : ℕ) → x < length marks.now → slice_index_or marks.now x false ≡ true }
+{
+    for number in 0..marks.len() {
+        if !marks[number] {
+            return false;
+        }
+    }
+    true
+}
+
+// The same, and whether each array has its read.
+fn note_all(reads: &mut [WordRead], marks: &mut [bool], layout: Layout, wiring: &Wiring) -> bool
+    requires layout { IsLayout (netlist_of wiring.now) layout }
+    requires rules { KeepsRules (netlist_of wiring.now) }
+    requires before { AreReads (netlist_of wiring.now) 0 reads.old marks.old }
+    requires marked { AreReadWhereMarked (netlist_of wiring.now) marks.old }
+    ensures { IsTrue result → HasReads (netlist_of wiring.now) reads.new }
+{
+    if !note_reads(reads, marks, layout, wiring) {
+        return false;
+    }
+    all_marked(marks)
 }
 
 fn bare_reads(alloc: Global, wiring: &Wiring) -> Result<Vec<WordRead>, AllocError>
@@ -68,16 +97,8 @@ fn bare_reads(alloc: Global, wiring: &Wiring) -> Result<Vec<WordRead>, AllocErro
     Ok(reads)
 }
 
-fn all_marked(marks: &[bool]) -> bool {
-    for number in 0..marks.len() {
-        if !marks[number] {
-            return false;
-        }
-    }
-    true
-}
-
 /// The read of each array. None where some array is not read by one assign.
+#[tactic(auto, using(crate::proofs::Assigned::none_read))]
 pub fn reads_of(
     alloc: Global,
     layout: Layout,
@@ -89,10 +110,7 @@ pub fn reads_of(
 {
     let mut reads = bare_reads(alloc, wiring)?;
     let mut marks = bare_marks(alloc, wiring.arrays.len())?;
-    if !note_reads(&mut reads, &mut marks, layout, wiring) {
-        return Ok(None);
-    }
-    if !all_marked(&marks) {
+    if !note_all(&mut reads, &mut marks, layout, wiring) {
         return Ok(None);
     }
     Ok(Some(reads))
