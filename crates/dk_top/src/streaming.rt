@@ -17,7 +17,8 @@ ghost use Rattle.dk_top.specs.Compiling.{IsCompiledFrom};
 ghost use Rattle.dk_top.specs.Streaming.{IsOnePort, first_bits, output_kind};
 ghost use Rattle.dk_top.specs.Streams.{RunsStream, RunsOn};
 
-use cycle_sim::{Fill, Sim};
+use block_sim::Blocks;
+use cycle_sim::Fill;
 use dk_base::FrameSize;
 use dk_compile::{Compiled, drive_shows, one_at_age, one_source};
 use dk_desk::{Desk, InSlot, Stage};
@@ -67,7 +68,7 @@ fn form_of(size: FrameSize, bits: u8) -> Form
 /// Opens the images and streams them.
 fn stream_file<D: Desk>(
     desk: &mut D,
-    sim: &mut Sim,
+    sim: &mut Blocks,
     room: Room,
     form: Form,
     bits: u8,
@@ -122,7 +123,7 @@ fn run_lines<D: Desk>(
     compiled.ir.law();
     compiled.plan.law();
     let size = compiled.ir.size();
-    let mut sim = match Sim::new(alloc, module, Fill::Zeros) {
+    let mut sim = match Blocks::new(alloc, module, Fill::Zeros) {
         Ok(sim) => sim,
         Err(_) => return Ending::Memory,
     };

@@ -17,16 +17,15 @@ use Rattle.wiring.specs.Runs.{Runs, picture}
 use Rattle.cycle_sim.specs.declared.ports.Out.{Out}
 use Rattle.cycle_sim.specs.Ports.{din_widths, IsShown}
 use Rattle.cycle_sim.proofs.Given.{given_fit}
-use Rattle.cycle_sim.proofs.RunsJoin.{picture_one}
 use Rattle.row_stream.specs.declared.line.Line.{Line}
 use Rattle.row_stream.specs.Lines.{Kind}
 use Rattle.row_stream.specs.Moving.{Gains}
-use Rattle.row_stream.specs.Standing.{Writes, FailsInLine, sample_of, note_of, Goes, Fails, IsOneToOne}
+use Rattle.row_stream.specs.Standing.{Writes, FailsInLine, note_of, Goes, Fails, IsOneToOne}
 
 abbrev NetsFit : Type 0
 NetsFit = (m : Netlist) (order : List ℕ) → KeepsRules m → IsEvaluationOrder m.assigns order → (s : Snapshot) → IsSettled m s → FitsContents m s.contents → Fit m.inputs s.inputs → (n : Net) → IsDeclared m n → net_value s n < 2 ^ net_width m n
 
-below_top : (x w top : ℕ) → top ≡ 2 ^ w - 1 → x < 2 ^ w → x ≤ top
+pub below_top : (x w top : ℕ) → top ≡ 2 ^ w - 1 → x < 2 ^ w → x ≤ top
 below_top x w top e h = omega (arith, e, h)
 
 -- what is shown is a sample of the images
@@ -61,42 +60,13 @@ gains_note start now next w notes more h e told = record {
 }
 
 -- a clock was noted
-noted : (kind : Kind) (start before mid : Outside) (samples : List ℕ) (notes : List (Bool × ℕ)) (line : Line) (v : Bool) (d : ℕ) → Writes kind start samples notes line before → mid ≡ record before { notes = mid.notes } →
+pub noted : (kind : Kind) (start before mid : Outside) (samples : List ℕ) (notes : List (Bool × ℕ)) (line : Line) (v : Bool) (d : ℕ) → Writes kind start samples notes line before → mid ≡ record before { notes = mid.notes } →
     IsIfTold mid.notes (option_map (λ l. l ++ (v, d) ∷ []) before.notes) → Writes kind start samples (notes ++ (v, d) ∷ []) line mid
 noted kind start before mid samples notes line v d h e told = record { pending = h.pending; gained = gains_note start before mid (Rattle.row_stream.specs.Lines.lines kind samples line.rows) notes ((v, d) ∷ []) h.gained e told }
 
-note_is : (s : Snapshot) (out : Out) → IsShown s 0 out → ◌≡◌ {A = List (Bool × ℕ)} ((out.valid, out.dout) ∷ []) (map note_of (s ∷ []))
-note_is s out h = ap (λ v. (v, out.dout) ∷ []) h.valid ∙ ap (λ d. (net_value s (valid_net 0) == 1, d) ∷ []) h.dout
-
-module _ (kind : Kind) (m : Netlist) (c : Clock) (from to : Contents) (old : Line) (before mid now : Outside) (s : Snapshot) (out : Out) (step : Steps m from (given m c) s to) (shown : IsShown s 0 out)
-    (e : mid ≡ record before { notes = mid.notes }) (told : IsIfTold mid.notes (option_map (λ l. l ++ (out.valid, out.dout) ∷ []) before.notes)) where
-  pub goes_one : (new : Line) → ((start : Outside) (samples : List ℕ) (notes : List (Bool × ℕ)) → Writes kind start samples notes old mid → Writes kind start (samples ++ sample_of out) notes new now) → Goes kind m (c ∷ []) from to old new before now
-  goes_one new h = record {
-    shots = s ∷ [];
-    runs = (to, step, refl);
-    writes = λ start samples notes w.
-        subst (λ z. Writes kind start (samples ++ z) (notes ++ map note_of (s ∷ [])) new now) (picture_one s 0 out shown)
-        (subst (λ z. Writes kind start (samples ++ sample_of out) (notes ++ z) new now) (note_is s out shown)
-        (h start samples (notes ++ (out.valid, out.dout) ∷ []) (noted kind start before mid samples notes old out.valid out.dout w e told)));
-  }
-
-  pub fails_one : ((start : Outside) (samples : List ℕ) (notes : List (Bool × ℕ)) → Writes kind start samples notes old mid → FailsInLine kind start (samples ++ sample_of out) notes now) → Fails kind m (c ∷ []) from old before now
-  fails_one h = record {
-    made = 1;
-    within = omega arith;
-    some = omega arith;
-    shots = s ∷ [];
-    to = to;
-    runs = (to, step, refl);
-    fails = λ start samples notes w.
-        subst (λ z. FailsInLine kind start (samples ++ z) (notes ++ map note_of (s ∷ [])) now) (picture_one s 0 out shown)
-        (subst (λ z. FailsInLine kind start (samples ++ sample_of out) (notes ++ z) now) (note_is s out shown)
-        (h start samples (notes ++ (out.valid, out.dout) ∷ []) (noted kind start before mid samples notes old out.valid out.dout w e told)));
-  }
-
 -- ---- clocks that follow one another
 
-picture_join : (k : ℕ) (shots more : List Snapshot) → picture k (shots ++ more) ≡ picture k shots ++ picture k more
+pub picture_join : (k : ℕ) (shots more : List Snapshot) → picture k (shots ++ more) ≡ picture k shots ++ picture k more
 picture_join k shots more =
     ap (λ (l : List Snapshot). map (λ t. net_value t (dout_net k)) l) (Rattle.std.proofs.lemmas.List.Elements.filter-append (λ t. net_value t (valid_net k) == 1) shots more)
     ∙ map-append (λ t. net_value t (dout_net k)) (Rattle.std.specs.Prelude.filter (λ t. net_value t (valid_net k) == 1) shots) (Rattle.std.specs.Prelude.filter (λ t. net_value t (valid_net k) == 1) more)

@@ -2,7 +2,10 @@ pub mod Ranges
 pub mod Writes
 pub mod Adding
 pub mod Clocks
+pub mod Telling
+pub mod Blocks
 pub mod Pixels
+pub mod Flushed
 pub mod RowLemmas
 pub mod Rasters
 pub mod HeadLemmas

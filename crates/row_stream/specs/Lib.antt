@@ -2,6 +2,7 @@ pub mod Lines
 pub mod Forms
 pub mod Moving
 pub mod Standing
+pub mod Blocks
 pub mod Rows
 pub mod Heads
 pub mod Images

@@ -26,6 +26,7 @@ use Rattle.row_stream.specs.declared.faults.StreamFault.TheVariants.{Image as Im
 use Rattle.row_stream.specs.Lines.{Kind, head, line_at, lines}
 use Rattle.row_stream.specs.Moving.{Gains, GainsBut}
 use Rattle.row_stream.specs.Standing.{HasRoom, Goes, note_of, pixel_clock, reset_clock}
+use Rattle.row_stream.specs.Blocks.{HasBlock}
 use Rattle.row_stream.specs.Heads.{FitsHeader, RefusesHead, LosesHead, TakesHead}
 use Rattle.row_stream.specs.Rows.{IsRowFault}
 use Rattle.row_stream.specs.Images.{FitsImage, samples_of}
@@ -37,11 +38,12 @@ pub record IsFresh (line : Line) : Type 0 where
   pub count : line.count ≡ 0
   pub rows : line.rows ≡ 0
 
--- room for a line that is read and one that is made, before the first one
+-- room for a line that is read, its clocks and one that is made, before the first one
 pub record IsRoom (width : ℕ) (room : Room) : Type 0 where
   pub fresh : IsFresh room.line
   pub line : HasRoom width room.line
   pub row : length room.row.items ≡ 2 * width
+  pub block : HasBlock width room.block
 
 -- File was created under this name, empty. Of Image only what is left has changed, and nothing else.
 pub record Creates (name : List ℕ) (old created : Outside) : Type 0 where

@@ -10,21 +10,23 @@ ghost use Rattle.row_stream.specs.Forms.{kind_of};
 ghost use Rattle.row_stream.specs.Standing.{HasRoom, IsOneToOne, Lasts, Starts};
 ghost use Rattle.row_stream.specs.Whole.{IsFresh, IsRoom, FailsFirst, Begins, LeavesAll, Leaves};
 
+use crate::block::Block;
 use crate::clocking::{clock, flush};
 use crate::faults::StreamFault;
 use crate::heads::next_image;
 use crate::images::stream_images;
 use crate::line::{Form, Line, write_head};
-use cycle_sim::Sim;
+use block_sim::Blocks;
 use dk_base::{FrameSize, Memory};
 use dk_desk::{Desk, Failed, Stage};
 use std::alloc::Global;
 
-/// The room of a stream: a line that is read, and one that is made.
+/// The room of a stream: a line that is read, its clocks, and the line that is made.
 #[derive(Drop)]
 pub struct Room {
     pub(crate) line: Line,
     pub(crate) row: Vec<u8>,
+    pub(crate) block: Block,
 }
 
 impl Room {
@@ -35,19 +37,20 @@ impl Room {
         let count = 2 * size.width as usize;
         let bytes = Vec::with_capacity(alloc, count)?;
         let row = vec![in alloc; 0; count]?;
+        let block = Block::new(alloc, size.width as usize)?;
         let line = Line {
             bytes,
             count: 0,
             rows: 0,
         };
-        Ok(Room { line, row })
+        Ok(Room { line, row, block })
     }
 }
 
 /// Creates File, writes its first header, and makes the reset clock.
 fn begin<D: Desk>(
     desk: &mut D,
-    sim: &mut Sim,
+    sim: &mut Blocks,
     line: &mut Line,
     form: Form,
     name: &str,
@@ -88,7 +91,7 @@ fn begin<D: Desk>(
 /// `Image` is the first fault of the file, `Read` and `Write` a call of the desk that failed; all lines that came before are then written.
 pub fn stream<D: Desk>(
     desk: &mut D,
-    sim: &mut Sim,
+    sim: &mut Blocks,
     mut room: Room,
     form: Form,
     bits: u8,
@@ -118,11 +121,27 @@ pub fn stream<D: Desk>(
         Err(_) => return Err(StreamFault::Write),
         Ok(()) => {}
     }
-    match stream_images(desk, sim, &mut room.line, form, bits, first, &mut room.row) {
+    match stream_images(
+        desk,
+        sim,
+        &mut room.line,
+        form,
+        bits,
+        first,
+        &mut room.row,
+        &mut room.block,
+    ) {
         Err(fault) => return Err(fault),
         Ok(()) => {}
     }
-    match flush(desk, sim, &mut room.line, form, latency as usize) {
+    match flush(
+        desk,
+        sim,
+        &mut room.line,
+        form,
+        &mut room.block,
+        latency as usize,
+    ) {
         Err(_) => Err(StreamFault::Write),
         Ok(()) => Ok(()),
     }

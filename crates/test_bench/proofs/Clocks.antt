@@ -20,6 +20,7 @@ use Rattle.test_bench.specs.declared.picture.Shown.{Shown}
 use Rattle.test_bench.specs.declared.clocking.Bench.{Bench}
 use Rattle.test_bench.specs.Showing.{output_count, notes_at, notes_of}
 use Rattle.test_bench.specs.Clocking.{IsKept, AreKept, GoOn, DoutsFit, IsBench, Clocked, Extends, sample_of, pairs_of}
+use Rattle.test_bench.specs.Blocks.{HasBlock}
 use Rattle.test_bench.proofs.Runs.{picture_join, go_on}
 use Rattle.test_bench.proofs.Ranges.{map_more}
 
@@ -91,7 +92,7 @@ kept_one most s outs old new shown n l each all h k b at =
     subst (λ z. IsKept most z b) (ap (λ z. picture k all ++ z) (picture_one s k out.0 (shown.each k out.0 out.1)) ∙ sym (picture_join k all (s ∷ [])))
     (each k a.0 b out.0 a.1 at out.1 (picture k all) (h k a.0 a.1))
 
-one : {X : Type 0} (P : X → Type 0) (x : X) → P x → All P (x ∷ [])
+pub one : {X : Type 0} (P : X → Type 0) (x : X) → P x → All P (x ∷ [])
 one P x p = All-from_at P (x ∷ []) (placed P x p)
   where
     placed : {X : Type 0} (P : X → Type 0) (x : X) → P x → (k : ℕ) (y : X) → slice_get (x ∷ []) k ≡ Some y → P y
@@ -100,11 +101,11 @@ one P x p = All-from_at P (x ∷ []) (placed P x p)
 
 -- the bench after a clock
 pub clocked_one : (c : Clock) (old new : Bench) (before now : Option (List (Bool × ℕ))) (s : Snapshot) → IsBench old → new.sim.netlist ≡ old.sim.netlist → new.most ≡ old.most → new.made ≡ old.made + 1 →
-    length new.outs.items ≡ length old.outs.items → length new.pictures.items ≡ length new.outs.items → All (λ shown. old.most ≤ vec_capacity shown.samples) new.pictures.items →
+    length new.outs.items ≡ length old.outs.items → new.block ≡ old.block → length new.pictures.items ≡ length new.outs.items → All (λ shown. old.most ≤ vec_capacity shown.samples) new.pictures.items →
     Steps old.sim.netlist old.sim.contents (given old.sim.netlist c) s new.sim.contents → AreShown s new.outs.items → DoutsFit old.sim.netlist s → GoOn before (pairs_of new.outs.items) now →
     ((k : ℕ) (a b : Shown) (out : Out) → slice_get old.pictures.items k ≡ Some a → slice_get new.pictures.items k ≡ Some b → slice_get new.outs.items k ≡ Some out → Extends old.most a b (sample_of out)) →
     Clocked old.sim.netlist (c ∷ []) old new before now
-clocked_one c old new before now s bench netlist most made outs pictures room step shown fit told kept =
+clocked_one c old new before now s bench netlist most made outs block pictures room step shown fit told kept =
     let count : length old.sim.netlist.outputs ≡ 2 * length new.outs.items = bench.outs ∙ ap (λ n. 2 * n) (sym outs) in
     record {
       bench = record {
@@ -114,6 +115,7 @@ clocked_one c old new before now s bench netlist most made outs pictures room st
         outs = ap (λ z. length z.outputs) netlist ∙ count;
         pictures = pictures;
         room = subst (λ n. All (λ shown. n ≤ vec_capacity shown.samples) new.pictures.items) (sym most) room;
+        block = subst (λ (z : Netlist). HasBlock (length (din_widths z)) (length new.outs.items) new.block) (sym netlist) (subst (λ n. HasBlock (length (din_widths old.sim.netlist)) n new.block) (sym outs) (subst (λ z. HasBlock (length (din_widths old.sim.netlist)) (length old.outs.items) z) (sym block) bench.block));
       };
       netlist = netlist;
       most = most;
@@ -139,3 +141,11 @@ pub din_ports : (m : Netlist) → KeepsRules m → IsPortCount (length (din_widt
 din_ports m rules =
     let e = dins_are m.enable m.inputs m.outputs rules.ports in
     (subst (λ z. IsPortCount (length z)) (sym e) rules.ports.din_count, subst (λ z. All IsPortWidth z) (sym e) rules.ports.din_widths)
+
+-- there are few outputs
+pub few_outputs : (m now : Netlist) → KeepsRules m → now ≡ m → (count : ℕ) → length now.outputs ≡ 2 * count → count < 2 ^ 32
+few_outputs m now rules same count n =
+    let ports = rules.ports in
+    let all : length m.outputs ≡ 2 * length ports.douts = ap length ports.outputs_are ∙ valids_even ports.douts in
+    let here : length m.outputs ≡ 2 * count = ap (λ (z : Netlist). length z.outputs) (sym same) ∙ n in
+    omega (arith, all, here, ports.dout_count.1)

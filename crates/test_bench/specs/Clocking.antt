@@ -18,9 +18,11 @@ use Rattle.test_bench.specs.declared.clocking.Bench.{Bench}
 use Rattle.test_bench.specs.declared.clocking.Feed.{Feed}
 use Rattle.test_bench.specs.declared.stop.Stop.{Stop}
 use Rattle.test_bench.specs.declared.stop.Stop.TheVariants.{Index, Count}
+use Rattle.block_sim.specs.declared.blocks.Stop.{Stop as BlockStop}
 use Rattle.test_bench.specs.Stimulus.{greatest_dins}
 use Rattle.test_bench.specs.Given.{AreBenchFrames}
 use Rattle.test_bench.specs.Showing.{output_count, notes_of}
+use Rattle.test_bench.specs.Blocks.{HasBlock}
 
 -- of this picture the first so many samples are kept, and how many it has
 pub record IsKept (most : ℕ) (whole : List ℕ) (kept : Shown) : Type 0 where
@@ -51,7 +53,21 @@ GoOn before more now = IsIfTold now (option_map (λ notes. notes ++ more) before
 abbrev pub DoutsFit : Netlist → Snapshot → Type 0
 DoutsFit m s = (k : ℕ) → k < output_count m → net_value s (dout_net k) < 2 ^ net_width m (dout_net k)
 
--- a picture and a place for each output, and room for the samples
+-- The module goes through the clocks of a block, the pictures have what is shown in them, and the notes go on.
+pub record ShowsBlock (m : Netlist) (clocks : List Clock) (from to : Contents) (most : ℕ) (old new : List Shown) (before now : Option (List (Bool × ℕ))) : Type 0 where
+  pub shots : List Snapshot
+  pub runs : Runs m from clocks shots to
+  pub kept : (all : List Snapshot) → AreKept most all old → AreKept most (all ++ shots) new
+  pub fit : All (DoutsFit m) shots
+  pub told : GoOn before (notes_of m shots) now
+
+-- so many clocks of a block took place, and the next one stops
+pub record StopsBlock (m : Netlist) (clocks : List Clock) (from : Contents) (stop : BlockStop) : Type 0 where
+  pub shots : List Snapshot
+  pub done : length shots ≡ stop.done
+  pub stops : RunStops m from clocks shots stop.range.array stop.range.index
+
+-- a picture and a place for each output, and room for the samples and for a block of clocks
 pub record IsBench (b : Bench) : Type 0 where
   pub rules : KeepsRules b.sim.netlist
   pub order : List ℕ
@@ -59,6 +75,7 @@ pub record IsBench (b : Bench) : Type 0 where
   pub outs : length b.sim.netlist.outputs ≡ 2 * length b.outs.items
   pub pictures : length b.pictures.items ≡ length b.outs.items
   pub room : All (λ shown. b.most ≤ vec_capacity shown.samples) b.pictures.items
+  pub block : HasBlock (length (din_widths b.sim.netlist)) (length b.outs.items) b.block
 
 -- the bench goes through these clocks
 pub record Clocked (m : Netlist) (clocks : List Clock) (old new : Bench) (before now : Option (List (Bool × ℕ))) : Type 0 where

@@ -3,5 +3,6 @@ pub mod Given
 pub mod Showing
 pub mod Stops
 pub mod Inputs
+pub mod Blocks
 pub mod Clocking
 pub mod Writing

@@ -20,13 +20,15 @@ ghost use Rattle.test_bench.specs.Stops.{IsBenchEnd};
 ghost use Rattle.test_bench.specs.Clocking.{IsBench, AreKept};
 ghost use Rattle.test_bench.specs.Writing.{AreFilled, HasEnough, IsShort, round_kept};
 
+use crate::block::Block;
 use crate::clocking::{Bench, Feed, all_clocks};
 use crate::drive::Drive;
 use crate::picture::Shown;
 use crate::pixels::{greatest_of, zeros};
 use crate::stop::{BenchFault, Stop};
 use crate::writing::{area, first_short, write_rounds};
-use cycle_sim::{Fill, Out, Sim};
+use block_sim::Blocks;
+use cycle_sim::{Fill, Out};
 use dk_base::{FrameSize, Memory};
 use dk_desk::Desk;
 use netlist::{Module, Width, Wiring};
@@ -89,13 +91,15 @@ pub fn set_up(alloc: Global, module: &Module, fill: Fill, most: usize) -> Result
 {
     let _wiring = module.wiring();
     let _order = module.order();
-    let sim = Sim::new(alloc, module, fill)?;
+    let sim = Blocks::new(alloc, module, fill)?;
     let count = sim.outputs();
     let outs = no_outs(alloc, count)?;
+    let block = Block::new(alloc, dins_of(module).len(), count)?;
     let pictures = no_pictures(alloc, count, most)?;
     Ok(Bench {
         sim,
         outs,
+        block,
         pictures,
         most,
         made: 0,
@@ -146,14 +150,14 @@ pub fn run_bench<D: Desk>(
     let widths = dins_of(module);
     let pixels = area(size);
     let mut bench = set_up(alloc, module, drive.fill, rounds.len() * pixels)?;
-    let mut dins = zeros(alloc, widths.len())?;
+    let dins = zeros(alloc, widths.len())?;
     let held = greatest_of(alloc, widths)?;
     let feed = Feed {
         area: pixels,
         hold: drive.hold,
         held,
     };
-    match all_clocks(desk, &mut bench, &feed, rounds, drive.clocks, &mut dins) {
+    match all_clocks(desk, &mut bench, &feed, rounds, drive.clocks, &dins) {
         Err(stop) => return Err(BenchFault::Stopped(stop)),
         Ok(()) => {}
     }

@@ -1,24 +1,31 @@
 // The clocks of a test bench.
 
-ghost use Rattle.std.specs.Prelude.{◌≡◌, ℕ, ◌+◌, ◌*◌, ◌^◌, ◌<◌, ◌≤◌, [], ◌∷◌, length, IfErr, OnOk, OnErr, Some, slice_get, if◌then◌else◌, vec_capacity};
+ghost use Rattle.std.specs.Prelude.{◌≡◌, ℕ, ◌+◌, ◌*◌, ◌^◌, ◌<◌, ◌≤◌, ◌++◌, [], ◌∷◌, List, length, IfErr, OnOk, OnErr, Some, slice_get, if◌then◌else◌, vec_capacity, pos, ◌-ℤ◌};
 ghost use Rattle.std.specs.List.{All, flat_map, range_with_len};
 ghost use Rattle.dk_base.specs.declared.TheConstants.{MAX_PORT_WIDTH};
 ghost use Rattle.dk_base.specs.Frames.{Size};
 ghost use Rattle.wiring.specs.Snapshot.{Snapshot, Fit};
-ghost use Rattle.wiring.specs.Clock.{given, Steps, Stops};
+ghost use Rattle.wiring.specs.Clock.{Clock, given, Steps, Stops};
+ghost use Rattle.wiring.specs.Order.{IsEvaluationOrder};
+ghost use Rattle.wiring.specs.Rules.{KeepsRules};
+ghost use Rattle.block_sim.specs.Called.{block_clocks};
+ghost use Rattle.test_bench.specs.declared.block.TheConstants.{BLOCK_PIXELS};
+ghost use Rattle.test_bench.specs.Blocks.{AreShownIn};
 ghost use Rattle.cycle_sim.specs.declared.ports.Out.{Out as Ports};
 ghost use Rattle.cycle_sim.specs.Ports.{din_widths, AreShown};
 ghost use Rattle.pgm_rounds.specs.declared.round.Round.{Round as FrameRound};
 ghost use Rattle.test_bench.specs.declared.picture.Shown.{Shown as Picture};
 ghost use Rattle.test_bench.specs.Stimulus.{dins_at, greatest_dins, reset_clock, held_clock, clocks_at};
 ghost use Rattle.test_bench.specs.Given.{rounds_of};
-ghost use Rattle.test_bench.specs.Clocking.{Extends, sample_of, pairs_of, GoOn, IsBench, Clocked, StopsIn, IsFed};
+ghost use Rattle.test_bench.specs.Clocking.{Extends, AreKept, ShowsBlock, StopsBlock, sample_of, pairs_of, GoOn, IsBench, Clocked, StopsIn, IsFed};
 
+use crate::block::{BLOCK_PIXELS, Block, fill_block};
 use crate::drive::is_held_after;
 use crate::picture::Shown;
 use crate::pixels::fill_dins;
 use crate::stop::Stop;
-use cycle_sim::{IndexRange, Out, Sim};
+use block_sim::{Blocks, Stop as BlockStop};
+use cycle_sim::{IndexRange, Out};
 use dk_desk::Desk;
 use pgm_rounds::Round;
 
@@ -26,9 +33,11 @@ use pgm_rounds::Round;
 #[derive(Drop)]
 pub struct Bench {
     /// The module, behind the latest clock.
-    pub sim: Sim,
-    /// What each output showed in the latest clock.
+    pub sim: Blocks,
+    /// Room for what each output shows in a clock.
     pub outs: Vec<Out>,
+    /// Room for a block of clocks.
+    pub(crate) block: Block,
     /// The picture of each output so far.
     pub pictures: Vec<Shown>,
     /// How many samples of each picture are kept.
@@ -50,7 +59,7 @@ pub struct Feed {
 
 /// One clock of the simulator.
 fn step(
-    sim: &mut Sim,
+    sim: &mut Blocks,
     reset: bool,
     enable: bool,
     dins: &[u64],
@@ -66,7 +75,7 @@ fn step(
     sim.step_all(reset, enable, dins, outs)
 }
 
-/// Tells the pair of each output to the desk.
+/// Tells the pair of each output to the desk, clock for clock.
 fn tell<D: Desk>(desk: &mut D, outs: &[Out])
     ensures only { D.outside desk.new ≡ record (D.outside desk.old) { notes = (D.outside desk.new).notes } }
     ensures notes { GoOn (D.outside desk.old).notes (pairs_of outs.now) (D.outside desk.new).notes }
@@ -165,6 +174,239 @@ pub fn pixel_clocks<D: Desk>(
     Ok(())
 }
 
+/// Adds what each output shows in each of so many clocks to its picture, the outputs of a clock behind those of the clock before.
+fn show_all(pictures: &mut Vec<Shown>, most: usize, outs: &[Out], count: usize)
+    requires places { length outs.now ≡ count * length pictures.old.items }
+    requires room { All (λ shown. most ≤ vec_capacity shown.samples) pictures.old.items }
+    requires douts { All (λ out. out.dout < 2 ^ MAX_PORT_WIDTH) outs.now }
+    ensures count { length pictures.new.items ≡ length pictures.old.items }
+    ensures room { All (λ shown. most ≤ vec_capacity shown.samples) pictures.new.items }
+    ensures kept { (shots all : List Snapshot) → length shots ≡ count → AreShownIn (length pictures.old.items) shots outs.now → AreKept most all pictures.old.items → AreKept most (all ++ shots) pictures.new.items }
+{
+    let ports = pictures.len();
+    for number in 0..count {
+        let out = &outs[number * ports..(number + 1) * ports];
+        show(pictures, most, out);
+    }
+}
+
+/// The outputs of the first so many clocks.
+fn outs_before(outs: &[Out], count: usize, ports: usize) -> &[Out]
+    requires { count * ports ≤ length outs.now }
+{
+    outs.split_at(count * ports).0
+}
+
+/// The stop in the clock behind so many.
+fn stopped(made: u64, range: IndexRange) -> Stop
+    requires { made < 2 ^ 63 }
+    ensures { result ≡ Stop.Index (pos made -ℤ pos 1) range.array range.index }
+{
+    Stop::Index {
+        clock: made as i64 - 1,
+        array: range.array,
+        index: range.index,
+    }
+}
+
+/// The clocks of a block in one call, and then what is to be told of them: each is noted, and what each output shows in it is added to its picture. At a stop the clocks before it are noted.
+fn clock_all<D: Desk>(
+    desk: &mut D,
+    sim: &mut Blocks,
+    pictures: &mut Vec<Shown>,
+    most: usize,
+    enables: &[bool],
+    dins: &[u64],
+    outs: &mut [Out],
+) -> Result<(), BlockStop>
+    requires order { (order : List ℕ) × IsEvaluationOrder sim.old.netlist.assigns order }
+    requires rules { KeepsRules sim.old.netlist }
+    requires fit { All (λ (c : Clock). Fit (din_widths sim.old.netlist) c.dins) (block_clocks sim.old.netlist enables.now dins.now) }
+    requires all { length dins.now ≡ length enables.now * length (din_widths sim.old.netlist) }
+    requires outs { length outs.old ≡ length enables.now * length pictures.old.items }
+    requires pictures { length sim.old.netlist.outputs ≡ 2 * length pictures.old.items }
+    requires room { All (λ shown. most ≤ vec_capacity shown.samples) pictures.old.items }
+    ensures netlist { sim.new.netlist ≡ sim.old.netlist }
+    ensures outs { length outs.new ≡ length outs.old }
+    ensures count { OnOk result (length pictures.new.items ≡ length pictures.old.items) }
+    ensures room { OnOk result (All (λ shown. most ≤ vec_capacity shown.samples) pictures.new.items) }
+    ensures only { D.outside desk.new ≡ record (D.outside desk.old) { notes = (D.outside desk.new).notes } }
+    ensures ok { OnOk result (ShowsBlock sim.old.netlist (block_clocks sim.old.netlist enables.now dins.now) sim.old.contents sim.new.contents most pictures.old.items pictures.new.items (D.outside desk.old).notes (D.outside desk.new).notes) }
+    ensures stop { IfErr result (StopsBlock sim.old.netlist (block_clocks sim.old.netlist enables.now dins.now) sim.old.contents) }
+{
+    sim.law();
+    netlist::values_fit();
+    let ports = pictures.len();
+    match sim.step_block(enables, dins, outs) {
+        Err(stop) => {
+            tell(desk, outs_before(outs, stop.done, ports));
+            Err(stop)
+        }
+        Ok(()) => {
+            tell(desk, outs);
+            show_all(pictures, most, outs, enables.len());
+            Ok(())
+        }
+    }
+}
+
+/// The same, where there is room for more outputs than these places.
+fn clock_front<D: Desk>(
+    desk: &mut D,
+    sim: &mut Blocks,
+    pictures: &mut Vec<Shown>,
+    most: usize,
+    enables: &[bool],
+    dins: &[u64],
+    outs: &mut [Out],
+    places: usize,
+) -> Result<(), BlockStop>
+    requires order { (order : List ℕ) × IsEvaluationOrder sim.old.netlist.assigns order }
+    requires rules { KeepsRules sim.old.netlist }
+    requires fit { All (λ (c : Clock). Fit (din_widths sim.old.netlist) c.dins) (block_clocks sim.old.netlist enables.now dins.now) }
+    requires all { length dins.now ≡ length enables.now * length (din_widths sim.old.netlist) }
+    requires outs { places ≤ length outs.old }
+    requires places { places ≡ length enables.now * length pictures.old.items }
+    requires pictures { length sim.old.netlist.outputs ≡ 2 * length pictures.old.items }
+    requires room { All (λ shown. most ≤ vec_capacity shown.samples) pictures.old.items }
+    ensures netlist { sim.new.netlist ≡ sim.old.netlist }
+    ensures outs { length outs.new ≡ length outs.old }
+    ensures count { OnOk result (length pictures.new.items ≡ length pictures.old.items) }
+    ensures room { OnOk result (All (λ shown. most ≤ vec_capacity shown.samples) pictures.new.items) }
+    ensures only { D.outside desk.new ≡ record (D.outside desk.old) { notes = (D.outside desk.new).notes } }
+    ensures ok { OnOk result (ShowsBlock sim.old.netlist (block_clocks sim.old.netlist enables.now dins.now) sim.old.contents sim.new.contents most pictures.old.items pictures.new.items (D.outside desk.old).notes (D.outside desk.new).notes) }
+    ensures stop { IfErr result (StopsBlock sim.old.netlist (block_clocks sim.old.netlist enables.now dins.now) sim.old.contents) }
+{
+    clock_all(
+        desk,
+        sim,
+        pictures,
+        most,
+        enables,
+        dins,
+        &mut outs[..places],
+    )
+}
+
+/// The same, for the clocks that a block has.
+fn clock_filled<D: Desk>(
+    desk: &mut D,
+    sim: &mut Blocks,
+    pictures: &mut Vec<Shown>,
+    most: usize,
+    block: &mut Block,
+) -> Result<(), BlockStop>
+    requires order { (order : List ℕ) × IsEvaluationOrder sim.old.netlist.assigns order }
+    requires rules { KeepsRules sim.old.netlist }
+    requires fit { All (λ (c : Clock). Fit (din_widths sim.old.netlist) c.dins) (block_clocks sim.old.netlist block.old.enables.items block.old.dins.items) }
+    requires all { length block.old.dins.items ≡ length block.old.enables.items * length (din_widths sim.old.netlist) }
+    requires few { length block.old.enables.items ≤ 2 * BLOCK_PIXELS }
+    requires outs { length block.old.outs.items ≡ 2 * BLOCK_PIXELS * length pictures.old.items }
+    requires pictures { length sim.old.netlist.outputs ≡ 2 * length pictures.old.items }
+    requires room { All (λ shown. most ≤ vec_capacity shown.samples) pictures.old.items }
+    ensures netlist { sim.new.netlist ≡ sim.old.netlist }
+    ensures enables { vec_capacity block.new.enables ≡ vec_capacity block.old.enables }
+    ensures dins { vec_capacity block.new.dins ≡ vec_capacity block.old.dins }
+    ensures outs { length block.new.outs.items ≡ length block.old.outs.items }
+    ensures count { OnOk result (length pictures.new.items ≡ length pictures.old.items) }
+    ensures room { OnOk result (All (λ shown. most ≤ vec_capacity shown.samples) pictures.new.items) }
+    ensures only { D.outside desk.new ≡ record (D.outside desk.old) { notes = (D.outside desk.new).notes } }
+    ensures ok { OnOk result (ShowsBlock sim.old.netlist (block_clocks sim.old.netlist block.old.enables.items block.old.dins.items) sim.old.contents sim.new.contents most pictures.old.items pictures.new.items (D.outside desk.old).notes (D.outside desk.new).notes) }
+    ensures stop { IfErr result (StopsBlock sim.old.netlist (block_clocks sim.old.netlist block.old.enables.items block.old.dins.items) sim.old.contents) }
+{
+    let places = block.enables.len() * pictures.len();
+    clock_front(
+        desk,
+        sim,
+        pictures,
+        most,
+        &block.enables,
+        &block.dins,
+        &mut block.outs,
+        places,
+    )
+}
+
+/// The clocks of the bench's block. After a Stop the pictures are those before the block.
+fn clock_block<D: Desk>(desk: &mut D, bench: &mut Bench) -> Result<(), Stop>
+    requires bench { IsBench bench.old }
+    requires fit { All (λ (c : Clock). Fit (din_widths bench.old.sim.netlist) c.dins) (block_clocks bench.old.sim.netlist bench.old.block.enables.items bench.old.block.dins.items) }
+    requires dins { length bench.old.block.dins.items ≡ length bench.old.block.enables.items * length (din_widths bench.old.sim.netlist) }
+    requires outs { length bench.old.block.enables.items ≤ 2 * BLOCK_PIXELS }
+    requires few { bench.old.made < 2 ^ 62 }
+    ensures only { D.outside desk.new ≡ record (D.outside desk.old) { notes = (D.outside desk.new).notes } }
+    ensures ok { OnOk result (Clocked bench.old.sim.netlist (block_clocks bench.old.sim.netlist bench.old.block.enables.items bench.old.block.dins.items) bench.old bench.new (D.outside desk.old).notes (D.outside desk.new).notes) }
+    ensures stop { IfErr result (StopsIn bench.old.sim.netlist bench.old.sim.contents bench.old.made (block_clocks bench.old.sim.netlist bench.old.block.enables.items bench.old.block.dins.items)) }
+{
+    let count = bench.block.enables.len();
+    match clock_filled(
+        desk,
+        &mut bench.sim,
+        &mut bench.pictures,
+        bench.most,
+        &mut bench.block,
+    ) {
+        Err(stop) => Err(stopped(bench.made + stop.done as u64, stop.range)),
+        Ok(()) => {
+            bench.made += count as u64;
+            Ok(())
+        }
+    }
+}
+
+/// So many clocks, counted from this one, in one call, with the held ones between them.
+fn some_pixel_clocks<D: Desk>(
+    desk: &mut D,
+    bench: &mut Bench,
+    feed: &Feed,
+    rounds: &[Round],
+    start: u64,
+    count: u64,
+) -> Result<(), Stop>
+    requires bench { IsBench bench.old }
+    requires fed { (size : Size) × IsFed bench.old.sim.netlist size feed.now rounds.now }
+    requires few { bench.old.made < 2 ^ 62 }
+    requires start { start < 2 ^ 60 }
+    requires count { count ≤ BLOCK_PIXELS }
+    ensures few { OnOk result (bench.new.made ≤ bench.old.made + 2 * count) }
+    ensures only { D.outside desk.new ≡ record (D.outside desk.old) { notes = (D.outside desk.new).notes } }
+    ensures ok { OnOk result (Clocked bench.old.sim.netlist (flat_map (clocks_at feed.now.hold (din_widths bench.old.sim.netlist) (rounds_of rounds.now)) (range_with_len start count)) bench.old bench.new (D.outside desk.old).notes (D.outside desk.new).notes) }
+    ensures stop { IfErr result (StopsIn bench.old.sim.netlist bench.old.sim.contents bench.old.made (flat_map (clocks_at feed.now.hold (din_widths bench.old.sim.netlist) (rounds_of rounds.now)) (range_with_len start count))) }
+{
+    fill_block(&mut bench.block, feed, rounds, start, count);
+    clock_block(desk, bench)
+}
+
+/// So many blocks of pixels, with the held clocks between them.
+fn whole_blocks<D: Desk>(
+    desk: &mut D,
+    bench: &mut Bench,
+    feed: &Feed,
+    rounds: &[Round],
+    blocks: u64,
+) -> Result<(), Stop>
+    requires bench { IsBench bench.old }
+    requires fed { (size : Size) × IsFed bench.old.sim.netlist size feed.now rounds.now }
+    requires made { bench.old.made ≤ 1 }
+    requires blocks { blocks * BLOCK_PIXELS < 2 ^ 60 }
+    ensures few { OnOk result (bench.new.made ≤ bench.old.made + 2 * (blocks * BLOCK_PIXELS)) }
+    ensures only { D.outside desk.new ≡ record (D.outside desk.old) { notes = (D.outside desk.new).notes } }
+    ensures ok { OnOk result (Clocked bench.old.sim.netlist (flat_map (clocks_at feed.now.hold (din_widths bench.old.sim.netlist) (rounds_of rounds.now)) (range_with_len 0 (blocks * BLOCK_PIXELS))) bench.old bench.new (D.outside desk.old).notes (D.outside desk.new).notes) }
+    ensures stop { IfErr result (StopsIn bench.old.sim.netlist bench.old.sim.contents bench.old.made (flat_map (clocks_at feed.now.hold (din_widths bench.old.sim.netlist) (rounds_of rounds.now)) (range_with_len 0 (blocks * BLOCK_PIXELS)))) }
+{
+    for block in 0..blocks {
+        some_pixel_clocks(
+            desk,
+            bench,
+            feed,
+            rounds,
+            block * BLOCK_PIXELS,
+            BLOCK_PIXELS,
+        )?;
+    }
+    Ok(())
+}
+
 /// So many clocks, with the held ones between them.
 fn all_pixel_clocks<D: Desk>(
     desk: &mut D,
@@ -172,11 +414,9 @@ fn all_pixel_clocks<D: Desk>(
     feed: &Feed,
     rounds: &[Round],
     clocks: u64,
-    dins: &mut Vec<u64>,
 ) -> Result<(), Stop>
     requires bench { IsBench bench.old }
     requires fed { (size : Size) × IsFed bench.old.sim.netlist size feed.now rounds.now }
-    requires dins { length dins.old.items ≡ length (din_widths bench.old.sim.netlist) }
     requires made { bench.old.made ≤ 1 }
     requires clocks { clocks < 2 ^ 60 }
     ensures few { OnOk result (bench.new.made ≤ bench.old.made + 2 * clocks) }
@@ -184,9 +424,10 @@ fn all_pixel_clocks<D: Desk>(
     ensures ok { OnOk result (Clocked bench.old.sim.netlist (flat_map (clocks_at feed.now.hold (din_widths bench.old.sim.netlist) (rounds_of rounds.now)) (range_with_len 0 clocks)) bench.old bench.new (D.outside desk.old).notes (D.outside desk.new).notes) }
     ensures stop { IfErr result (StopsIn bench.old.sim.netlist bench.old.sim.contents bench.old.made (flat_map (clocks_at feed.now.hold (din_widths bench.old.sim.netlist) (rounds_of rounds.now)) (range_with_len 0 clocks))) }
 {
-    for number in 0..clocks {
-        pixel_clocks(desk, bench, feed, rounds, number, dins)?;
-    }
+    let blocks = clocks / BLOCK_PIXELS;
+    whole_blocks(desk, bench, feed, rounds, blocks)?;
+    let start = blocks * BLOCK_PIXELS;
+    some_pixel_clocks(desk, bench, feed, rounds, start, clocks % BLOCK_PIXELS)?;
     Ok(())
 }
 
@@ -197,11 +438,11 @@ pub fn all_clocks<D: Desk>(
     feed: &Feed,
     rounds: &[Round],
     clocks: u64,
-    dins: &mut Vec<u64>,
+    dins: &[u64],
 ) -> Result<(), Stop>
     requires bench { IsBench bench.old }
     requires fed { (size : Size) × IsFed bench.old.sim.netlist size feed.now rounds.now }
-    requires dins { dins.old.items ≡ (reset_clock (length (din_widths bench.old.sim.netlist))).dins }
+    requires dins { dins.now ≡ (reset_clock (length (din_widths bench.old.sim.netlist))).dins }
     requires made { bench.old.made ≡ 0 }
     requires clocks { clocks < 2 ^ 60 }
     ensures few { OnOk result (bench.new.made < 2 ^ 62) }
@@ -210,6 +451,6 @@ pub fn all_clocks<D: Desk>(
     ensures stop { IfErr result (StopsIn bench.old.sim.netlist bench.old.sim.contents bench.old.made (reset_clock (length (din_widths bench.old.sim.netlist)) ∷ flat_map (clocks_at feed.now.hold (din_widths bench.old.sim.netlist) (rounds_of rounds.now)) (range_with_len 0 clocks))) }
 {
     clock(desk, bench, true, true, dins)?;
-    all_pixel_clocks(desk, bench, feed, rounds, clocks, dins)?;
+    all_pixel_clocks(desk, bench, feed, rounds, clocks)?;
     Ok(())
 }

@@ -2,6 +2,7 @@
 #![tactic(auto)]
 
 mod bench;
+mod block;
 mod clocking;
 mod drive;
 mod input;
@@ -12,6 +13,7 @@ mod stop;
 mod writing;
 
 pub use bench::{dins_of, run_bench, set_up};
+pub use block::BLOCK_PIXELS;
 pub use clocking::{Bench, Feed, all_clocks, clock, pixel_clocks};
 pub use drive::{Drive, is_held_after};
 pub use input::{BenchInput, read_input};

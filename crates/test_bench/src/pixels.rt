@@ -24,7 +24,7 @@ fn sample(samples: &[u16], place: usize) -> u64
 }
 
 /// A pixel of an input, counted over all rounds, or 0 after the last one.
-fn pixel(rounds: &[Round], area: usize, input: usize, number: u64) -> u64
+pub(crate) fn pixel(rounds: &[Round], area: usize, input: usize, number: u64) -> u64
     requires area { 0 < area }
     requires frames { (widths : List ℕ) × (size : Size) × AreBenchFrames widths size rounds.now × (input < length widths) × (area ≡ area_of size) }
     ensures { result ≡ slice_index (stream (rounds_of rounds.now) input) number }

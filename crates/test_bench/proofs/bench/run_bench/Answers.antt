@@ -21,7 +21,7 @@ finish-requires-clause-filled g c =
     let most : old.most ≡ asked size (rounds_of rounds) = set.most ∙ ap (λ z. length rounds * z) c.area-pixels.ensures.is ∙ ap (λ n. n * area size) (sym (rounds_length rounds)) in
     let none = subst (λ n. AreKept n [] old.pictures.items) (sym set.most) set.kept in
     let end = ended m c.args.drive size (rounds_of rounds) old new before now set.netlist set.contents most none c.in-Ok.ensures.ok c.in-Ok.ensures.few in
-    filled_end m c.args.drive size rounds new.pictures.items c.deref-2.result.now c.deref.result.now before now end c.deref-2.ensures.value (c.deref.ensures.value ∙ ap (λ z. z.outputs) c.wiring-wiring.ensures.netlist)
+    filled_end m c.args.drive size rounds new.pictures.items c.deref-3.result.now c.deref-2.result.now before now end c.deref-3.ensures.value (c.deref-2.ensures.value ∙ ap (λ z. z.outputs) c.wiring-wiring.ensures.netlist)
 
 pub returns-in_err-file-clause-stop : goal.returns-in_err-file-clause-stop
 returns-in_err-file-clause-stop g c =
@@ -37,7 +37,7 @@ returns-in_err-file-clause-stop g c =
     let none = subst (λ n. AreKept n [] old.pictures.items) (sym set.most) set.kept in
     let end = ended m c.args.drive size (rounds_of rounds) old new before now set.netlist set.contents most none c.in-Ok.ensures.ok c.in-Ok.ensures.few in
     let p = err_from_is_err_and c.from_residual-in_err-file.result c.from_residual-in_err-file.ensures.1 in
-    rw (p.1, p.2) (short_end m c.args.drive size rounds new.pictures.items c.deref-2.result.now c.deref.result.now before now end c.deref-2.ensures.value (c.deref.ensures.value ∙ ap (λ z. z.outputs) c.wiring-wiring.ensures.netlist) c.in_err-file.field-0.0 c.in_err-file.ensures.short)
+    rw (p.1, p.2) (short_end m c.args.drive size rounds new.pictures.items c.deref-3.result.now c.deref-2.result.now before now end c.deref-3.ensures.value (c.deref-2.ensures.value ∙ ap (λ z. z.outputs) c.wiring-wiring.ensures.netlist) c.in_err-file.field-0.0 c.in_err-file.ensures.short)
 
 pub returns-clause-file : goal.returns-clause-file
 returns-clause-file g c =
@@ -52,7 +52,7 @@ returns-clause-file g c =
     let most : old.most ≡ asked size (rounds_of rounds) = set.most ∙ ap (λ z. length rounds * z) c.area-pixels.ensures.is ∙ ap (λ n. n * area size) (sym (rounds_length rounds)) in
     let none = subst (λ n. AreKept n [] old.pictures.items) (sym set.most) set.kept in
     let end = ended m c.args.drive size (rounds_of rounds) old new before now set.netlist set.contents most none c.in-Ok.ensures.ok c.in-Ok.ensures.few in
-    file_end m c.args.drive size rounds new.pictures.items c.deref-2.result.now c.deref.result.now before now end c.deref-2.ensures.value (c.deref.ensures.value ∙ ap (λ z. z.outputs) c.wiring-wiring.ensures.netlist) c.in_ok-file.file.items c.in_ok-file.ensures.file
+    file_end m c.args.drive size rounds new.pictures.items c.deref-3.result.now c.deref-2.result.now before now end c.deref-3.ensures.value (c.deref-2.ensures.value ∙ ap (λ z. z.outputs) c.wiring-wiring.ensures.netlist) c.in_ok-file.file.items c.in_ok-file.ensures.file
 
 pub returns-clause-notes : goal.returns-clause-notes
 returns-clause-notes g c =

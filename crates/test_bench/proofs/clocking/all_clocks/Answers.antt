@@ -1,4 +1,4 @@
-use Rattle.std.proofs.Common.{◌≡◌, ◌∙◌, [], ◌∷◌, sym, subst, length, replicate, true}
+use Rattle.std.proofs.Common.{◌≡◌, [], ◌∷◌, sym, subst, length, replicate, true}
 use Rattle.std.specs.List.{flat_map, range_with_len}
 use Rattle.std.proofs.lemmas.Result.{err_from_is_err_and}
 use Rattle.wiring.specs.Snapshot.{Fit}
@@ -13,7 +13,7 @@ use Rattle.test_bench.proofs.clocking.all_clocks.Goals as goal
 pub clock-requires-clause-dins : goal.clock-requires-clause-dins
 clock-requires-clause-dins g c =
     let widths = din_widths c.args.bench.now.sim.netlist in
-    let e : c.deref.result.now ≡ replicate (length widths) 0 = c.deref.ensures.value ∙ c.requires.dins in
+    let e : c.args.dins.now ≡ replicate (length widths) 0 = c.requires.dins in
     subst (λ z. Fit widths z) (sym e) (fit_zeros widths)
 
 pub returns-in_err-all_pixel_clocks-clause-stop : goal.returns-in_err-all_pixel_clocks-clause-stop
@@ -29,7 +29,7 @@ returns-in_err-all_pixel_clocks-clause-stop g c =
     let between = (outside c.clock.new.desk).notes in
     let stop = c.in_err-all_pixel_clocks.field-0.0 in
     let p = err_from_is_err_and c.from_residual-in_err-all_pixel_clocks.result c.from_residual-in_err-all_pixel_clocks.ensures.1 in
-    let e : c.deref.result.now ≡ replicate (length widths) 0 = c.deref.ensures.value ∙ c.requires.dins in
+    let e : c.args.dins.now ≡ replicate (length widths) 0 = c.requires.dins in
     let one : Clocked m (reset_clock (length widths) ∷ []) old mid before between = subst (λ z. Clocked m (record { reset = true; enable = true; dins = z } ∷ []) old mid before between) e c.in_ok-clock.ensures.ok in
     let here = subst (λ z. StopsIn z mid.sim.contents mid.made (flat_map (clocks_at hold (din_widths z) rounds) (range_with_len 0 c.args.clocks)) stop) one.netlist c.in_err-all_pixel_clocks.ensures.stop in
     rw (p.1, p.2) (stops_later m (reset_clock (length widths) ∷ []) (flat_map (clocks_at hold widths rounds) (range_with_len 0 c.args.clocks)) old mid before between stop one here)
@@ -47,7 +47,7 @@ returns-clause-ok g c =
     let before = (outside c.args.desk.now).notes in
     let between = (outside c.clock.new.desk).notes in
     let now = (outside c.all_pixel_clocks.new.desk).notes in
-    let e : c.deref.result.now ≡ replicate (length widths) 0 = c.deref.ensures.value ∙ c.requires.dins in
+    let e : c.args.dins.now ≡ replicate (length widths) 0 = c.requires.dins in
     let one : Clocked m (reset_clock (length widths) ∷ []) old mid before between = subst (λ z. Clocked m (record { reset = true; enable = true; dins = z } ∷ []) old mid before between) e c.in_ok-clock.ensures.ok in
     let two = subst (λ z. Clocked z (flat_map (clocks_at hold (din_widths z) rounds) (range_with_len 0 c.args.clocks)) mid new between now) one.netlist c.in_ok-all_pixel_clocks.ensures.ok in
     clocked_join m (reset_clock (length widths) ∷ []) (flat_map (clocks_at hold widths rounds) (range_with_len 0 c.args.clocks)) old mid new before between now one two

@@ -23,7 +23,7 @@ returns-in-Ok-clause-ok g c =
     let clock : Clock = record { reset = c.args.reset; enable = c.args.enable; dins = c.args.dins.now } in
     let ok = c.in-Ok.ensures.ok in
     let fit = douts_fit c.values_fit.ensures.nets old.sim.netlist bench.order bench.rules bench.ordered clock old.sim.contents c.step.new.sim.contents ok.0 c.law.ensures.fit c.requires.dins ok.1 in
-    clocked_one clock old _ (outside c.args.desk.now).notes (outside c.tell.new.desk).notes ok.0 bench c.in-Ok.ensures.netlist refl refl c.in-Ok.ensures.count
+    clocked_one clock old _ (outside c.args.desk.now).notes (outside c.tell.new.desk).notes ok.0 bench c.in-Ok.ensures.netlist refl refl c.in-Ok.ensures.count refl
     (c.show.ensures.count ∙ ap length c.deref-in-Ok.ensures.value) c.show.ensures.room ok.1 ok.2 fit
     (subst (λ z. GoOn (outside c.args.desk.now).notes (pairs_of z) (outside c.tell.new.desk).notes) c.deref.ensures.value c.tell.ensures.notes)
     (λ k a b out x y z. c.show.ensures.kept k a b out x y (ap (λ l. slice_get l k) c.deref-in-Ok.ensures.value ∙ z))

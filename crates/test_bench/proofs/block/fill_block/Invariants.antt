@@ -1,0 +1,21 @@
+use Rattle.std.proofs.Common.{◌≡◌, ◌*◌, ◌≤◌, length}
+use Rattle.std.specs.Prelude.{vec_capacity}
+use Rattle.std.specs.List.{flat_map, range_with_len}
+use Rattle.dk_base.specs.Frames.{Size}
+use Rattle.wiring.specs.Netlist.{Netlist}
+use Rattle.cycle_sim.specs.Ports.{din_widths}
+use Rattle.block_sim.specs.Called.{clocks_with}
+use Rattle.test_bench.specs.Stimulus.{clocks_at}
+use Rattle.test_bench.specs.Given.{rounds_of}
+use Rattle.test_bench.specs.Clocking.{IsFed}
+use Rattle.test_bench.proofs.block.fill_block.Given as goal
+
+abbrev pub invariant-loop-number : goal.invariant-loop-number
+invariant-loop-number l = record {
+  clocks : (m : Netlist) (size : Size) → IsFed m size l.feed l.rounds → clocks_with (length l.feed.held.items) l.block.enables.items l.block.dins.items ≡ flat_map (clocks_at l.feed.hold (din_widths m) (rounds_of l.rounds)) (range_with_len l.start l.number);
+  count : length l.block.enables.items ≤ 2 * l.number;
+  whole : length l.block.dins.items ≡ length l.block.enables.items * length l.feed.held.items;
+  enables : vec_capacity l.block.enables ≡ vec_capacity l.fn.block.enables;
+  dins : vec_capacity l.block.dins ≡ vec_capacity l.fn.block.dins;
+  outs : l.block.outs.items ≡ l.fn.block.outs.items;
+}

@@ -1,0 +1,18 @@
+use Rattle.std.proofs.Common.{◌≡◌, ◌+◌, ◌*◌, ◌≤◌}
+use Rattle.std.specs.List.{flat_map, range_with_len}
+use Rattle.cycle_sim.specs.Ports.{din_widths}
+use Rattle.test_bench.specs.declared.block.TheConstants.{BLOCK_PIXELS}
+use Rattle.test_bench.specs.Stimulus.{clocks_at}
+use Rattle.test_bench.specs.Given.{rounds_of}
+use Rattle.test_bench.specs.Clocking.{Clocked}
+use Rattle.test_bench.proofs.clocking.whole_blocks.Given as goal
+
+abbrev pub invariant-loop-block : goal.invariant-loop-block
+invariant-loop-block g l =
+    let outside = g.D.Desk.outside in
+    let m = l.fn.bench.sim.netlist in
+    record {
+      few : l.bench.made ≤ l.fn.bench.made + 2 * (l.block * BLOCK_PIXELS);
+      only : outside l.desk ≡ record (outside l.fn.desk) { notes = (outside l.desk).notes };
+      clocked : Clocked m (flat_map (clocks_at l.feed.hold (din_widths m) (rounds_of l.rounds)) (range_with_len 0 (l.block * BLOCK_PIXELS))) l.fn.bench l.bench (outside l.fn.desk).notes (outside l.desk).notes;
+    }

@@ -1,0 +1,165 @@
+// Blocks of clocks.
+
+ghost use Rattle.std.specs.Prelude.{◌≡◌, ℕ, ◌+◌, ◌*◌, ◌^◌, ◌<◌, ◌≤◌, ◌++◌, ◌∷◌, [], List, false, length, IfOk, vec_capacity, if◌then◌else◌};
+ghost use Rattle.std.specs.List.{flat_map, range_with_len};
+ghost use Rattle.dk_base.specs.Frames.{Size, area as area_of};
+ghost use Rattle.wiring.specs.Netlist.{Netlist};
+ghost use Rattle.cycle_sim.specs.Ports.{din_widths};
+ghost use Rattle.block_sim.specs.Called.{clocks_with};
+ghost use Rattle.test_bench.specs.declared.block.TheConstants.{BLOCK_PIXELS};
+ghost use Rattle.test_bench.specs.Stimulus.{dins_at, pixel_clock, clocks_at};
+ghost use Rattle.test_bench.specs.Given.{rounds_of, AreBenchFrames};
+ghost use Rattle.test_bench.specs.Clocking.{IsFed};
+ghost use Rattle.test_bench.specs.Blocks.{HasBlock};
+
+use crate::clocking::Feed;
+use crate::drive::is_held_after;
+use crate::pixels::pixel;
+use cycle_sim::Out;
+use dk_base::Memory;
+use pgm_rounds::Round;
+use std::alloc::Global;
+
+/// How many pixels of an input are clocked in one call at most.
+pub const BLOCK_PIXELS: u64 = 1024;
+
+/// The clocks of a block: the port `en` and the dins of each, and room for what the outputs show in them.
+#[derive(Drop)]
+pub(crate) struct Block {
+    pub(crate) enables: Vec<bool>,
+    pub(crate) dins: Vec<u64>,
+    pub(crate) outs: Vec<Out>,
+}
+
+impl Block {
+    /// Room for the clocks of a block, held ones too, each with so many dins and outputs.
+    pub(crate) fn new(alloc: Global, dins: usize, outputs: usize) -> Result<Block, Memory>
+        requires dins { dins < 2 ^ 32 }
+        requires outputs { outputs < 2 ^ 32 }
+        ensures { IfOk result (HasBlock dins outputs) }
+    {
+        let clocks = 2 * BLOCK_PIXELS as usize;
+        let out = Out {
+            valid: false,
+            dout: 0,
+        };
+        let enables = Vec::with_capacity(alloc, clocks)?;
+        let numbers = Vec::with_capacity(alloc, clocks * dins)?;
+        let outs = vec![in alloc; out; clocks * outputs]?;
+        Ok(Block {
+            enables,
+            dins: numbers,
+            outs,
+        })
+    }
+}
+
+/// Adds the pixel of this number of each input.
+fn push_pixels(rounds: &[Round], area: usize, number: u64, inputs: usize, dins: &mut Vec<u64>)
+    requires area { 0 < area }
+    requires frames { (widths : List ℕ) × (size : Size) × AreBenchFrames widths size rounds.now × (inputs ≡ length widths) × (area ≡ area_of size) }
+    requires room { length dins.old.items + inputs ≤ vec_capacity dins.old }
+    ensures is { dins.new.items ≡ dins.old.items ++ dins_at inputs (rounds_of rounds.now) number }
+    ensures room { vec_capacity dins.new ≡ vec_capacity dins.old }
+{
+    for input in 0..inputs {
+        dins.push_reserved(pixel(rounds, area, input, number));
+    }
+}
+
+/// Adds these numbers.
+fn push_all(numbers: &[u64], dins: &mut Vec<u64>)
+    requires room { length dins.old.items + length numbers.now ≤ vec_capacity dins.old }
+    ensures is { dins.new.items ≡ dins.old.items ++ numbers.now }
+    ensures room { vec_capacity dins.new ≡ vec_capacity dins.old }
+{
+    for number in numbers {
+        dins.push_reserved(*number);
+    }
+}
+
+/// Adds the clock of this number, in which each din has its pixel of that number.
+fn push_pixel_clock(block: &mut Block, feed: &Feed, rounds: &[Round], number: u64)
+    requires fed { (m : Netlist) × (size : Size) × IsFed m size feed.now rounds.now }
+    requires enables { length block.old.enables.items + 1 ≤ vec_capacity block.old.enables }
+    requires dins { length block.old.dins.items + length feed.now.held.items ≤ vec_capacity block.old.dins }
+    requires whole { length block.old.dins.items ≡ length block.old.enables.items * length feed.now.held.items }
+    ensures clocks { clocks_with (length feed.now.held.items) block.new.enables.items block.new.dins.items ≡ clocks_with (length feed.now.held.items) block.old.enables.items block.old.dins.items ++ pixel_clock (length feed.now.held.items) (rounds_of rounds.now) number ∷ [] }
+    ensures count { length block.new.enables.items ≡ length block.old.enables.items + 1 }
+    ensures whole { length block.new.dins.items ≡ length block.new.enables.items * length feed.now.held.items }
+    ensures enables { vec_capacity block.new.enables ≡ vec_capacity block.old.enables }
+    ensures dins { vec_capacity block.new.dins ≡ vec_capacity block.old.dins }
+    ensures outs { block.new.outs.items ≡ block.old.outs.items }
+{
+    block.enables.push_reserved(true);
+    push_pixels(rounds, feed.area, number, feed.held.len(), &mut block.dins);
+}
+
+/// Adds a held clock, where one comes now.
+fn push_held_clock(block: &mut Block, comes: bool, held: &[u64])
+    requires enables { length block.old.enables.items + 1 ≤ vec_capacity block.old.enables }
+    requires dins { length block.old.dins.items + length held.now ≤ vec_capacity block.old.dins }
+    requires whole { length block.old.dins.items ≡ length block.old.enables.items * length held.now }
+    ensures clocks { clocks_with (length held.now) block.new.enables.items block.new.dins.items ≡ clocks_with (length held.now) block.old.enables.items block.old.dins.items ++ (if comes then record { reset = false; enable = false; dins = held.now } ∷ [] else []) }
+    ensures count { length block.new.enables.items ≤ length block.old.enables.items + 1 }
+    ensures whole { length block.new.dins.items ≡ length block.new.enables.items * length held.now }
+    ensures enables { vec_capacity block.new.enables ≡ vec_capacity block.old.enables }
+    ensures dins { vec_capacity block.new.dins ≡ vec_capacity block.old.dins }
+    ensures outs { block.new.outs.items ≡ block.old.outs.items }
+{
+    if comes {
+        block.enables.push_reserved(false);
+        push_all(held, &mut block.dins);
+    }
+}
+
+/// Adds the clock of this number and the held one behind it, if one follows.
+fn push_clocks(block: &mut Block, feed: &Feed, rounds: &[Round], number: u64)
+    requires fed { (m : Netlist) × (size : Size) × IsFed m size feed.now rounds.now }
+    requires number { number + 1 < 2 ^ 64 }
+    requires enables { length block.old.enables.items + 2 ≤ vec_capacity block.old.enables }
+    requires dins { length block.old.dins.items + 2 * length feed.now.held.items ≤ vec_capacity block.old.dins }
+    requires whole { length block.old.dins.items ≡ length block.old.enables.items * length feed.now.held.items }
+    ensures clocks { (m : Netlist) (size : Size) → IsFed m size feed.now rounds.now → clocks_with (length feed.now.held.items) block.new.enables.items block.new.dins.items ≡ clocks_with (length feed.now.held.items) block.old.enables.items block.old.dins.items ++ clocks_at feed.now.hold (din_widths m) (rounds_of rounds.now) number }
+    ensures count { length block.new.enables.items ≤ length block.old.enables.items + 2 }
+    ensures whole { length block.new.dins.items ≡ length block.new.enables.items * length feed.now.held.items }
+    ensures enables { vec_capacity block.new.enables ≡ vec_capacity block.old.enables }
+    ensures dins { vec_capacity block.new.dins ≡ vec_capacity block.old.dins }
+    ensures outs { block.new.outs.items ≡ block.old.outs.items }
+{
+    push_pixel_clock(block, feed, rounds, number);
+    let comes = is_held_after(feed.hold, number);
+    push_held_clock(block, comes, &feed.held);
+}
+
+/// Leaves no clock.
+fn clear(block: &mut Block)
+    ensures enables { block.new.enables.items ≡ [] }
+    ensures dins { block.new.dins.items ≡ [] }
+    ensures enables_room { vec_capacity block.new.enables ≡ vec_capacity block.old.enables }
+    ensures dins_room { vec_capacity block.new.dins ≡ vec_capacity block.old.dins }
+    ensures outs { block.new.outs.items ≡ block.old.outs.items }
+{
+    block.enables.clear();
+    block.dins.clear();
+}
+
+/// Makes a block of so many clocks, counted from this one, with the held ones between them.
+pub(crate) fn fill_block(block: &mut Block, feed: &Feed, rounds: &[Round], start: u64, count: u64)
+    requires fed { (m : Netlist) × (size : Size) × IsFed m size feed.now rounds.now }
+    requires start { start < 2 ^ 60 }
+    requires count { count ≤ BLOCK_PIXELS }
+    requires enables { 2 * BLOCK_PIXELS ≤ vec_capacity block.old.enables }
+    requires dins { 2 * BLOCK_PIXELS * length feed.now.held.items ≤ vec_capacity block.old.dins }
+    ensures clocks { (m : Netlist) (size : Size) → IsFed m size feed.now rounds.now → clocks_with (length feed.now.held.items) block.new.enables.items block.new.dins.items ≡ flat_map (clocks_at feed.now.hold (din_widths m) (rounds_of rounds.now)) (range_with_len start count) }
+    ensures count { length block.new.enables.items ≤ 2 * count }
+    ensures whole { length block.new.dins.items ≡ length block.new.enables.items * length feed.now.held.items }
+    ensures enables { vec_capacity block.new.enables ≡ vec_capacity block.old.enables }
+    ensures dins { vec_capacity block.new.dins ≡ vec_capacity block.old.dins }
+    ensures outs { block.new.outs.items ≡ block.old.outs.items }
+{
+    clear(block);
+    for number in 0..count {
+        push_clocks(block, feed, rounds, start + number);
+    }
+}
