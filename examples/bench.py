@@ -2,12 +2,13 @@
 """A test bench in plain Verilog for a text that `compile` wrote, for the simulators of others.
 
 usage: bench.py write VERILOG IN CLOCKS SEED      writes bench.v and in.hex; CLOCKS is what `plan` says for one round
-       bench.py write .. --random                 the same, with random contents at power-up
+       bench.py write .. --random                 the same, with random contents at power-up, or --zeros or --ones
        bench.py picture VERILOG IN SEEN OUT       the pictures of what the bench saw, as `run` writes them
 
 The bench gives a reset clock and then the clocks that the rounds of IN take. It writes each clock's outputs before
 the edge into seen.txt. Where the module has the port `en`, about half of all clocks are held, with other pixels at
-the inputs, and the outputs of those stand on lines of their own.
+the inputs, and the outputs of those stand on lines of their own. With the word +early=K at the simulator, K clocks with
+random inputs come before all this, behind a reset clock of their own; nothing is written of them.
 """
 import random
 import re
@@ -52,7 +53,8 @@ def write(verilog, image, clocks, seed, contents):
     for high, name, last in re.findall(r"^  reg (?:\[(\d+):0\] )?(\w+)(?: \[0:(\d+)\])?;", text, re.M) if contents else []:
         wide = int(high or 0) + 1
         for place in [f"[{k}]" for k in range(int(last) + 1)] if last else [""]:
-            power_up.append(f"    dut.{name}{place} = {wide}'h{chosen.getrandbits(wide):x};")
+            value = {"zeros": 0, "ones": 2 ** wide - 1, "random": chosen.getrandbits(wide)}[contents]
+            power_up.append(f"    dut.{name}{place} = {wide}'h{value:x};")
     shape = "".join(f" {'%0d'}" for _ in outputs).strip()
     shown = ", ".join(name for name, _ in outputs)
     give = [f"      {name} = k < {pixels} ? pixels[k * {len(dins)} + {place}] : 0;" for place, (name, _) in enumerate(dins)]
@@ -64,7 +66,7 @@ def write(verilog, image, clocks, seed, contents):
         *(f"  reg [{wide - 1}:0] {name};" for name, wide in [("clk", 1), *inputs]),
         *(f"  wire [{wide - 1}:0] {name};" for name, wide in outputs),
         f"  reg [15:0] pixels [0:{pixels * len(dins) - 1}];",
-        "  integer k, seed, file;",
+        "  integer k, seed, file, early;",
         f"  dk dut({', '.join(f'.{name}({name})' for name, _ in [('clk', 1), *inputs, *outputs])});",
         "  initial begin",
         '    $readmemh("in.hex", pixels);',
@@ -75,6 +77,13 @@ def write(verilog, image, clocks, seed, contents):
         "    rst = 1;",
         *(["    en = 0;"] if enable else []),
         *(f"    {name} = 0;" for name, _ in dins),
+        '    if (!$value$plusargs("early=%d", early)) early = 0;',
+        "    for (k = early; k >= 0 && early > 0; k = k - 1) begin",
+        "      #1 clk = 1;",
+        "      #1 clk = 0;",
+        "      rst = k == 0;",
+        *(f"      {name} = $random(seed);" for name, _ in ([("en", 1)] if enable else []) + dins),
+        "    end",
         "    #1 clk = 1;",
         "    #1 clk = 0;",
         "    rst = 0;",
@@ -123,6 +132,6 @@ def picture(verilog, image, seen, out):
 
 
 if sys.argv[1] == "write":
-    write(*sys.argv[2:6], "--random" in sys.argv)
+    write(*sys.argv[2:6], "".join(sys.argv[6:]).lstrip("-"))
 else:
     picture(*sys.argv[2:])

@@ -278,6 +278,8 @@ holds wanted.pgm
 printf 'P5\n4 1\n1\n\001\001\001\001' >wanted.pgm
 ends 0 '' sim toggle.v 4 bits.pgm out.pgm --fill ones
 holds wanted.pgm
+ends 6 'stopped: count 3 of 4' sim toggle.v 3 bits.pgm out.pgm --fill ones
+none
 printf 'P5 4 1 3\n\0\0\001\002' >rising.pgm
 printf 'P5 4 1 3\n\0\0\001\003' >past.pgm
 printf 'P5 0 1 3\n' >empty.pgm
@@ -373,6 +375,35 @@ for name in line_buffer median enabled toggle; do
         failed=1
     }
 done
+# Each line of calls/traces.txt is what it shows, the status and the line of the call, a Verilog text, its clocks, the images and the trace, with bytes as printf reads them.
+while IFS='|' read -r name status line text clocks input wanted <&3; do
+    printf '%b' "$text" >text.v
+    printf '%b' "$input" >input.pgm
+    printf '%b' "$wanted" >wanted.vcd
+    ends "$status" "$line" trace text.v "$clocks" input.pgm out.pgm
+    holds wanted.vcd "$name"
+done 3<"$examples/calls/traces.txt"
+# 95 variables: the last identifier of one byte, and the first of two
+{
+    printf 'module m(input clk, input rst, input din, output valid, output dout);\n'
+    repeat 91 'wire n%d;\n'
+    repeat 91 'assign n%d = din;\n'
+    printf 'assign valid = ~rst;\nassign dout = din;\nendmodule\n'
+} >text.v
+awk 'function id(k) { return k < 94 ? sprintf("%c", 33 + k) : "!\"" }
+BEGIN {
+    printf "$timescale 1 ns $end\n$scope module m $end\n"
+    split("rst din valid dout", ports, " ")
+    for (k = 0; k < 95; k++) printf "$var wire 1 %s %s $end\n", id(k), (k < 4 ? ports[k + 1] : "n" (k - 3))
+    printf "$upscope $end\n$enddefinitions $end\n#0\n1!\n"
+    for (k = 1; k < 95; k++) printf "0%s\n", id(k)
+    printf "#1\n0!\n"
+    for (k = 1; k < 95; k++) printf "1%s\n", id(k)
+    printf "#2\n"
+}' >wanted.vcd
+printf 'P5 1 1 1\n\001' >one.pgm
+ends 0 '' trace text.v 1 one.pgm out.pgm
+holds wanted.vcd '95 variables'
 # the stored waves, which trace.py made
 ends 0 '' trace line_buffer.v 192 speckled.pgm out.pgm
 holds "$examples/waves/line_buffer.vcd"

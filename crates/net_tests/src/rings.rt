@@ -1,20 +1,64 @@
-//! The buffer bits of a ring.
+//! A ring of three words: its buffer bits, and a run of it.
 
+use cycle_sim::{Clock, Fill, RunFault, Sim, clocks_fit, run};
 use dk_base::Memory;
 use net_build_ring::delay_three;
 use netlist::buffer_bits;
-use std::alloc::Global;
+use std::alloc::{AllocError, Global};
 use std::test::Fail;
 
-// Those of three words of eight bits.
+// The buffer bits of words of eight bits.
 fn ring_bits(alloc: Global) -> Result<u128, Memory> {
     let module = delay_three(alloc, 8)?;
     let bits = buffer_bits(alloc, &module)?;
     Ok(bits)
 }
 
+// A clock with its din. Each fourth one has a reset, where the module shows its word.
+fn clock(alloc: Global, din: u64) -> Result<Clock, Memory> {
+    let mut dins = Vec::new(alloc);
+    dins.push(din)?;
+    Ok(Clock {
+        reset: din % 4 == 1,
+        enable: true,
+        dins,
+    })
+}
+
+// Clocks with the dins 1, 2 and so on.
+fn clocks(alloc: Global, count: u64) -> Result<Vec<Clock>, Memory> {
+    let mut clocks = Vec::new(alloc);
+    for din in 0..count {
+        clocks.push(clock(alloc, din.wrapping_add(1))?)?;
+    }
+    Ok(clocks)
+}
+
+// What a run from zeros shows.
+fn shown(alloc: Global) -> Result<Vec<u64>, Memory> {
+    let module = delay_three(alloc, 8)?;
+    let mut sim = Sim::new(alloc, &module, Fill::Zeros)?;
+    let clocks = clocks(alloc, 9)?;
+    let mut samples = Vec::new(alloc);
+    if sim.outputs() != 1 || !clocks_fit(&sim, &clocks) {
+        return Ok(samples);
+    }
+    match run(&mut sim, &clocks, 0, &mut samples) {
+        Ok(()) => Ok(samples),
+        Err(RunFault::Memory) => Err(AllocError),
+        Err(RunFault::Stopped(_)) => Ok(Vec::new(alloc)),
+    }
+}
+
 #[test]
 fn ring_has_the_bits_of_its_array(rt: HostRuntime) -> Result<(), Fail> {
     assert_eq!(rt; ring_bits(rt.alloc())?, 24);
+    Ok(())
+}
+
+#[test]
+fn ring_shows_the_din_of_three_clocks_before(rt: HostRuntime) -> Result<(), Fail> {
+    let samples = shown(rt.alloc())?;
+    assert_eq!(rt; samples.as_slice(), [0, 2, 6].as_slice());
     Ok(())
 }

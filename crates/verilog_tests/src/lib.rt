@@ -8,4 +8,6 @@ mod printing;
 #[cfg(test)]
 mod reading;
 #[cfg(test)]
+mod rules;
+#[cfg(test)]
 mod tokens;

@@ -1,0 +1,86 @@
+//! Where texts stop being traces of a copy, found by hand.
+
+use crate::modules::module;
+use netlist::Module;
+use std::alloc::Global;
+use std::test::Fail;
+use vcd_trace::{VcdError, replay};
+
+const COPY: &str =
+    "module m(input clk, input rst, input [7:0] din, output valid, output [7:0] dout);
+  assign valid = ~rst;
+  assign dout = din;
+endmodule
+";
+
+const HEAD: &str = "$timescale 1 ns $end
+$scope module m $end
+$var wire 1 ! rst $end
+$var wire 8 \" din $end
+$var wire 1 # valid $end
+$var wire 8 $ dout $end
+$upscope $end
+$enddefinitions $end
+";
+
+const RESET: &str = "#0\n1!\nb0 \"\n0#\nb0 $\n";
+
+/// The line of a text's fault, or 0 where it is a trace.
+fn line(alloc: Global, module: &Module, text: &str) -> Result<u64, Fail> {
+    match replay(alloc, module, text.as_bytes()) {
+        Ok(_) => Ok(0),
+        Err(VcdError::Fault { line }) => Ok(line),
+        Err(VcdError::Memory) => Err(Fail::new("no memory")),
+    }
+}
+
+/// The lines of the faults of texts that go on behind this one, each up to an `@`.
+fn lines(alloc: Global, module: &Module, front: &str, rests: &str) -> Result<String, Fail> {
+    let mut lines = String::new(alloc);
+    for rest in rests.split('@') {
+        let text = format!(in alloc; "{front}{rest}")?;
+        let line = line(alloc, module, &text)?;
+        write!(lines, " {line}")?;
+    }
+    Ok(lines)
+}
+
+/// No line, another time scale, another scope, another identifier, no time.
+#[test]
+fn faults_of_the_header(rt: HostRuntime) -> Result<(), Fail> {
+    let alloc = rt.alloc();
+    let module = module(alloc, COPY)?;
+    let texts =
+        "@$timescale 1 ps $end\n@$timescale 1 ns $end\n$scope module dk $end\n@$timescale 1 ns $end\n$scope module m $end\n$var wire 1 \" rst $end\n";
+    assert_eq!(rt; lines(alloc, &module, "", texts)?.as_str(), " 1 1 2 3");
+    assert_eq!(rt; lines(alloc, &module, HEAD, "")?.as_str(), " 9");
+    Ok(())
+}
+
+/// Another time, no LF, a variable left out, too great a value, a leading zero.
+#[test]
+fn faults_at_time_0(rt: HostRuntime) -> Result<(), Fail> {
+    let alloc = rt.alloc();
+    let module = module(alloc, COPY)?;
+    let texts = "#1\n@#0@#0\n1!\n0#\n@#0\n1!\nb100000000 \"\n@#0\n1!\nb00 \"\n";
+    assert_eq!(rt;
+        lines(alloc, &module, HEAD, texts)?.as_str(),
+        " 9 9 11 11 11"
+    );
+    Ok(())
+}
+
+/// Nothing changed, out of order, no bit, a time left out, no last time, a last time with no LF, an empty line; and a trace.
+#[test]
+fn faults_behind_time_0(rt: HostRuntime) -> Result<(), Fail> {
+    let alloc = rt.alloc();
+    let module = module(alloc, COPY)?;
+    let begun = format!(in alloc; "{HEAD}{RESET}")?;
+    let texts =
+        "#1\n0!\nb0 \"\n#2\n@#1\nb1 \"\n0!\n#2\n@#1\n2!\n#2\n@#1\n#3\n@#1\n0!\n@#1@#1\n#2\n\n@#1\n#2\n";
+    assert_eq!(rt;
+        lines(alloc, &module, &begun, texts)?.as_str(),
+        " 16 16 15 15 16 14 16 0"
+    );
+    Ok(())
+}
