@@ -1,6 +1,6 @@
 // The clocks of a test bench.
 
-ghost use Rattle.std.specs.Prelude.{◌≡◌, ℕ, ◌+◌, ◌*◌, ◌^◌, ◌<◌, ◌≤◌, ◌++◌, [], ◌∷◌, List, length, IfErr, OnOk, OnErr, Some, slice_get, if◌then◌else◌, vec_capacity, pos, ◌-ℤ◌};
+ghost use Rattle.std.specs.Prelude.{◌≡◌, ℕ, ◌+◌, ◌*◌, ◌^◌, ◌<◌, ◌≤◌, ◌++◌, [], ◌∷◌, List, take, length, IfErr, OnOk, OnErr, Some, slice_get, if◌then◌else◌, vec_capacity, pos, ◌-ℤ◌};
 ghost use Rattle.std.specs.List.{All, flat_map, range_with_len};
 ghost use Rattle.dk_base.specs.declared.TheConstants.{MAX_PORT_WIDTH};
 ghost use Rattle.dk_base.specs.Frames.{Size};
@@ -193,6 +193,7 @@ fn show_all(pictures: &mut Vec<Shown>, most: usize, outs: &[Out], count: usize)
 /// The outputs of the first so many clocks.
 fn outs_before(outs: &[Out], count: usize, ports: usize) -> &[Out]
     requires { count * ports ≤ length outs.now }
+    ensures { result.now ≡ take (count * ports) outs.now }
 {
     outs.split_at(count * ports).0
 }
