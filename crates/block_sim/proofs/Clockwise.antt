@@ -17,7 +17,7 @@ use Rattle.cycle_sim.specs.declared.ports.Out.{Out}
 use Rattle.cycle_sim.specs.declared.edge.IndexRange.{IndexRange}
 use Rattle.cycle_sim.specs.Ports.{din_widths, AreShown}
 use Rattle.block_sim.specs.declared.blocks.Stop.{Stop}
-use Rattle.block_sim.specs.Called.{din_count, output_count, of_clock, clocks_with, block_clocks, AllShown, BlockRan, BlockStops}
+use Rattle.block_sim.specs.Called.{din_count, output_count, of_clock, clocks_with, block_clocks, AllShown, Came, BlockRan, BlockStops}
 
 -- ---- places
 
@@ -126,14 +126,6 @@ module _ (m : Netlist) where
 
 -- ---- a block so far
 
--- so many of the clocks took place, and the later outputs are as they were
-pub record Came (m : Netlist) (clocks : List Clock) (from to : Contents) (old outs : List Out) (k : ℕ) : Type 0 where
-  pub shots : List Snapshot
-  pub count : length shots ≡ k
-  pub run : Runs m from (take k clocks) shots to
-  pub shown : AllShown m shots outs
-  pub later : drop (k * output_count m) outs ≡ drop (k * output_count m) old
-
 pub came_none : (m : Netlist) (clocks : List Clock) (from : Contents) (outs : List Out) → Came m clocks from from outs outs 0
 came_none m clocks from outs = record { shots = []; count = refl; run = refl; shown = λ k s at. absurd (omega (arith, slice_get_within [] k s at)); later = refl }
 
@@ -228,3 +220,13 @@ stop_only apart one m clocks from to old outs v n places (Err e) ok err shots x 
     ap (λ (k : ℕ). let r : Result (Unit {0}) Stop = Err (record { done = k; range = e.range }) in r) done
     ∙ ap (λ (k : ℕ). let r : Result (Unit {0}) Stop = Err (record { done = length shots; range = record { array = k; index = e.range.index } }) in r) same.1
     ∙ ap (λ (k : ℕ). let r : Result (Unit {0}) Stop = Err (record { done = length shots; range = record { array = x; index = k } }) in r) same.2
+
+-- the last clocks of a block, behind those that came before
+pub came_ok : (m n : Netlist) → n ≡ m → (enables : List Bool) (dins : List ℕ) (from mid to : Contents) (old outs new : List Out) (k : ℕ) → (r : Result (Unit {0}) Stop) →
+    OnOk r ((f : Contents) (o : List Out) → Came n (block_clocks n enables dins) f mid o outs k → Came n (block_clocks n enables dins) f to o new (length enables)) →
+    Came m (block_clocks m enables dins) from mid old outs k → OnOk r (BlockRan m (block_clocks m enables dins) from to new)
+came_ok m n same enables dins from mid to old outs new k (Ok u) on came =
+    subst (λ (x : Netlist). BlockRan x (block_clocks x enables dins) from to new) same
+    (came_all n (block_clocks n enables dins) from to old new (length enables) (omega (arith, clocks_count (din_count n) enables dins))
+    (on from old (subst (λ (x : Netlist). Came x (block_clocks x enables dins) from mid old outs k) (sym same) came)))
+came_ok m n same enables dins from mid to old outs new k (Err e) on came = tt

@@ -1,3 +1,4 @@
 pub mod BlockRuns
 pub mod Clockwise
+pub mod Fitting
 pub mod StreamRuns

@@ -1,3 +1,4 @@
 pub mod Block
 pub mod Called
+pub mod Held
 pub mod Streams

@@ -3,7 +3,9 @@
 
 mod blocks;
 mod each;
+mod held;
 mod laws;
+mod pieces;
 
 pub use blocks::{Blocks, Stop};
 pub use laws::{block_runs, streams_run};
