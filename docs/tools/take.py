@@ -13,7 +13,7 @@ import rtlib
 
 gate, log, clone = map(os.path.abspath, sys.argv[1:4])
 names = set(sys.argv[4:])
-proved = set(re.findall(r"^rt: (\w+) proved$", open(log, encoding="utf-8").read(), re.M))
+proved = set(re.findall(r"^rt: (\w+) (?:proved$|is kept:)", open(log, encoding="utf-8").read(), re.M))
 os.chdir(clone)
 here = {it.name: it for it in rtlib.crates_below(clone)}
 os.chdir(gate)

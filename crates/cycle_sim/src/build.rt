@@ -25,6 +25,7 @@ pub struct Layout {
     pub slots: usize,
 }
 
+/// The slot of a net: inputs before outputs before wires before registers, each in the module's order.
 pub fn slot_of(layout: Layout, net: Net) -> usize
     ensures { (m : Netlist) → IsLayout m layout → IsDeclared m net → result ≡ slot m net }
 {
@@ -36,6 +37,7 @@ pub fn slot_of(layout: Layout, net: Net) -> usize
     }
 }
 
+/// An atom over slots.
 pub fn atom_of(layout: Layout, a: Atom<Net>) -> Atom<usize>
     ensures { (m : Netlist) → IsLayout m layout → All (IsDeclared m) (atom_nets a) → result ≡ rename_atom (slot m) a }
 {
@@ -45,6 +47,7 @@ pub fn atom_of(layout: Layout, a: Atom<Net>) -> Atom<usize>
     }
 }
 
+/// A right side over slots.
 pub fn right_of(layout: Layout, r: Right<Net, usize>) -> Right<usize, usize>
     ensures { (m : Netlist) → IsLayout m layout → All (IsDeclared m) (nets_of r) → result ≡ rename (slot m) r }
 {

@@ -12,6 +12,7 @@ mod running;
 mod settle;
 mod sim;
 
+pub use build::{Layout, atom_of, layout_of, right_of, slot_of, widths_of_wiring};
 pub use edge::IndexRange;
 pub use fill::Fill;
 pub use ports::Out;

@@ -1,0 +1,5 @@
+pub mod Arrays
+pub mod BlockRuns
+pub mod Left
+pub mod RowsRun
+pub mod StreamRuns

@@ -1,0 +1,4 @@
+pub mod Block
+pub mod Code
+pub mod Rows
+pub mod Streams

@@ -1,0 +1,49 @@
+// A module as code over the slots of its nets.
+
+ghost use Rattle.std.specs.Prelude.{IfOk, IfSome};
+ghost use Rattle.block_code.specs.Code.{IsBlockCode};
+
+use block_rows::Instruction;
+use dk_base::Memory;
+use netlist::{Atom, Module, Width};
+use std::alloc::Global;
+
+/// The one assign that reads an array: the slot of its target, and the index.
+#[derive(Clone, Copy, Debug)]
+pub struct WordRead {
+    pub target: usize,
+    pub index: Atom<usize>,
+}
+
+/// What is put into an array at each clock edge.
+#[derive(Clone, Copy, Debug)]
+pub struct WordPut {
+    pub index: Atom<usize>,
+    pub value: Atom<usize>,
+}
+
+/// A module over slots: its inputs, its outputs, its wires and its registers, one after another.
+#[derive(Debug, Drop)]
+pub struct BlockCode {
+    pub widths: Vec<Width>,
+    pub first_output: usize,
+    pub first_reg: usize,
+    /// The assigns that read no array, in the order in which they are run.
+    pub instructions: Vec<Instruction>,
+    /// The read of each array.
+    pub reads: Vec<WordRead>,
+    /// The put of each array.
+    pub puts: Vec<WordPut>,
+    /// The next value of each register.
+    pub nexts: Vec<Atom<usize>>,
+}
+
+impl BlockCode {
+    /// The code of a module, with its instructions in this order of its assigns. None where the order does not name each assign that
+    /// reads no array, or does not put an instruction behind those that it reads, or where some array is not read by one assign.
+    pub fn of(alloc: Global, module: &Module, order: &[usize]) -> Result<Option<BlockCode>, Memory>
+        ensures { IfOk result (λ o. IfSome o (IsBlockCode «module».now.netlist)) }
+    {
+        Ok(None)
+    }
+}

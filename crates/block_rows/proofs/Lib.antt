@@ -1,0 +1,4 @@
+pub mod Masks
+pub mod Order
+pub mod Running
+pub mod TakenBack

@@ -1,0 +1,5 @@
+use Rattle.block_rows.specs.Rows.{AreInside}
+use Rattle.block_rows.proofs.words.all_inside.Given as goal
+
+abbrev pub invariant-loop-t : goal.invariant-loop-t
+invariant-loop-t l = AreInside l.t l.index l.depth

@@ -1,0 +1,13 @@
+use Rattle.std.proofs.Common.{◌-◌, length, ◌∙◌}
+use Rattle.std.specs.Prelude.{slice_index}
+use Rattle.std.proofs.lemmas.List.{length-set}
+use Rattle.block_rows.proofs.TakenBack.{one_back}
+use Rattle.block_rows.proofs.words.take_back.Goals as goal
+
+pub loop-done-preserved : goal.loop-done-preserved
+loop-done-preserved c =
+    let n = length c.args.index.now in
+    let t = n - 1 - c.loop-done.done in (
+      length-set c.loop-done.words (slice_index c.args.index.now t) (slice_index c.args.lost.now t) ∙ c.loop-done.invariant.0,
+      λ before value is inside kept. one_back before c.args.index.now value c.args.lost.now c.loop-done.words n c.loop-done.done c.loop-done-test.true (c.loop-done.invariant.1 before value is inside kept) kept,
+    )

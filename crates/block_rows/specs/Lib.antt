@@ -1,0 +1,4 @@
+pub mod Code
+pub mod Rights
+pub mod Rows
+pub mod Seen

@@ -1,0 +1,17 @@
+//! Rows of values over the clocks of a block.
+#![tactic(auto)]
+
+mod code;
+mod ordered;
+mod pairs;
+mod rights;
+mod rows;
+mod singles;
+mod words;
+
+pub use code::{Instruction, run_code};
+pub use ordered::is_ordered;
+pub use pairs::operator_row;
+pub use rights::{Spares, right_row};
+pub use rows::shift_row;
+pub use words::{all_inside, take_back, word_row};
