@@ -12,6 +12,6 @@ mod words;
 pub use code::{Instruction, run_code};
 pub use ordered::is_ordered;
 pub use pairs::operator_row;
-pub use rights::{Spares, right_row};
+pub use rights::{Spares, atom_row, note_constant, right_row};
 pub use rows::shift_row;
 pub use words::{all_inside, take_back, word_row};

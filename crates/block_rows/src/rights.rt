@@ -1,6 +1,6 @@
 // The rows of right sides over slots.
 
-ghost use Rattle.std.specs.Prelude.{◌≡◌, ℕ, ◌+◌, ◌-◌, ◌*◌, ◌/◌, ◌%◌, ◌^◌, ◌<◌, ◌≤◌, [], None, length, slice_index, slice_index_or, if◌then◌else◌, ◌==◌};
+ghost use Rattle.std.specs.Prelude.{◌≡◌, ℕ, ◌+◌, ◌-◌, ◌*◌, ◌/◌, ◌%◌, ◌^◌, ◌<◌, ◌≤◌, [], None, length, IfOk, slice_index, slice_index_or, if◌then◌else◌, ◌==◌};
 ghost use Rattle.wiring.specs.Rights.{array_of, atom_width, atom_value, operator_value, repeated, right_value};
 ghost use Rattle.wiring.specs.Rules.{WidthsAgree};
 ghost use Rattle.wiring.specs.declared.right.Atom.TheVariants as AtomVariants;
@@ -8,6 +8,7 @@ ghost use Rattle.block_rows.specs.Rights.{items_of, value_at, HasRow, HaveRows, 
 
 use crate::pairs::{join_row, operator_row};
 use crate::singles::{Part, Turned, Whole, choose_row, constant_row, repeat_row, single_row};
+use std::alloc::{AllocError, Global};
 use wiring::{Atom, Operator, Right, Width, limit};
 
 /// Room for the rows of the constants of a right side.
@@ -16,6 +17,22 @@ pub struct Spares {
     pub(crate) first: Vec<u64>,
     pub(crate) second: Vec<u64>,
     pub(crate) third: Vec<u64>,
+}
+
+impl Spares {
+    /// Room for rows of so many clocks.
+    pub fn new(alloc: Global, count: usize) -> Result<Spares, AllocError>
+        ensures { IfOk result (λ s. HaveRoom s count) }
+    {
+        let first = vec![in alloc; 0; count]?;
+        let second = vec![in alloc; 0; count]?;
+        let third = vec![in alloc; 0; count]?;
+        Ok(Spares {
+            first,
+            second,
+            third,
+        })
+    }
 }
 
 fn slot_width(widths: &[Width], slot: usize) -> u8
@@ -38,8 +55,8 @@ fn width_of(widths: &[Width], a: &Atom<usize>) -> u8
     }
 }
 
-// Room for the rows of constants.
-fn note_constant(spare: &mut [u64], a: &Atom<usize>)
+/// Fills a spare row for an atom, if it is a constant.
+pub fn note_constant(spare: &mut [u64], a: &Atom<usize>)
     ensures count { length spare.new ≡ length spare.old }
     ensures each { (t : ℕ) → t < length spare.new → StandsFor a.now (slice_index spare.new t) }
 {
@@ -64,8 +81,8 @@ fn row_at(rows: &[Vec<u64>], slot: usize) -> &[u64]
     &rows[slot]
 }
 
-// The row of an atom: that of its slot, or that of its constant.
-fn atom_row<'a>(rows: &'a [Vec<u64>], spare: &'a [u64], a: &Atom<usize>, count: usize) -> &'a [u64]
+/// The row of an atom: that of its slot, or that of its constant.
+pub fn atom_row<'a>(rows: &'a [Vec<u64>], spare: &'a [u64], a: &Atom<usize>, count: usize) -> &'a [u64]
     requires long { HasRow (items_of rows.now) count a.now }
     requires room { count ≤ length spare.now }
     requires spare { (t : ℕ) → t < length spare.now → StandsFor a.now (slice_index spare.now t) }

@@ -1,4 +1,7 @@
-pub mod BlockRuns
+pub mod AllPasses
+pub mod Checks
 pub mod Clockwise
 pub mod Fitting
-pub mod StreamRuns
+pub mod FirstUses
+pub mod Passes
+pub mod Tables

@@ -1,4 +1,6 @@
-pub mod Block
+pub mod Arrays
 pub mod Called
+pub mod Checked
+pub mod Engine
 pub mod Held
-pub mod Streams
+pub mod Table

@@ -1,11 +1,16 @@
 //! A simulator of modules, a block of clocks at a time.
 #![tactic(auto)]
 
+mod arrays;
 mod blocks;
 mod each;
+mod fill;
+mod given;
 mod held;
-mod laws;
+mod passes;
 mod pieces;
+mod registers;
+mod table;
+mod uses;
 
 pub use blocks::{Blocks, Stop};
-pub use laws::{block_runs, streams_run};
