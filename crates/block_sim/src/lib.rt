@@ -4,12 +4,14 @@
 mod arrays;
 mod blocks;
 mod each;
+mod engine;
 mod fill;
 mod given;
 mod held;
 mod passes;
 mod pieces;
 mod registers;
+mod steps;
 mod table;
 mod uses;
 

@@ -51,6 +51,7 @@ fn set_number(numbers: &mut [u64], place: usize, number: u64) {
     }
 }
 
+#[tactic(auto, using(crate::proofs::Tables::table_refilled))]
 fn shift(engine: &Engine, table: &mut Table, held: &Held, done: usize, update: usize) -> bool
     requires engine { IsEngine engine.now }
     requires table { IsTable engine.now.code.widths.items engine.now.code.instructions.items (length table.old.room.items) table.old done }
@@ -85,6 +86,7 @@ fn offer_row(engine: &Engine, table: &mut Table, done: usize, slot: usize) -> bo
     )
 }
 
+#[tactic(auto, using(crate::proofs::Tables::table_refilled))]
 fn read(engine: &Engine, table: &mut Table, held: &Held, done: usize, assign: usize) -> bool
     requires engine { IsEngine engine.now }
     requires table { IsTable engine.now.code.widths.items engine.now.code.instructions.items (length table.old.room.items) table.old done }
@@ -111,6 +113,7 @@ fn copy_words(to: &mut [u64], words: &[u64]) {
     }
 }
 
+#[tactic(auto, using(crate::proofs::Tables::table_refilled))]
 fn small(
     engine: &Engine,
     table: &mut Table,
@@ -145,6 +148,7 @@ fn small(
 }
 
 // A register's row as it is up to a place, and a straight line from there.
+#[tactic(auto, using(crate::proofs::Tables::table_refilled))]
 fn line(
     engine: &Engine,
     table: &mut Table,
@@ -325,6 +329,7 @@ fn run(engine: &Engine, table: &mut Table, done: usize, upto: usize) -> usize
 }
 
 // The registers of a cycle, guessed and mended until they are right over so many clocks. None where that does not come to an end.
+#[tactic(auto, using(crate::proofs::Tables::hold_fewer))]
 fn guess(
     engine: &Engine,
     table: &mut Table,

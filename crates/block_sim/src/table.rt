@@ -129,6 +129,7 @@ pub fn run_upto(
     requires table { IsTable widths.now code.now (length table.old.room.items) table.old done }
     ensures room { length table.new.room.items ≡ length table.old.room.items }
     ensures table { IsTable widths.now code.now (length table.old.room.items) table.new result }
+    ensures more { done ≤ result }
 {
     if done <= upto && upto <= code.len() {
         run_between(widths, code, table, done, upto);

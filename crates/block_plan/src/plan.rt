@@ -1,0 +1,209 @@
+// A plan for a block of clocks.
+//
+// It is for speed and claims nothing: who runs it checks all that it rests on.
+
+use crate::graph::{Needs, arrays_are_single, needs_of, reads_array};
+use crate::groups::{Groups, groups_of};
+use crate::search::components_of;
+use dk_base::Memory;
+use netlist::{Module, Wiring};
+use std::alloc::{AllocError, Global};
+use wiring::Update;
+
+/// What is done next to the rows of a block.
+#[derive(Clone, Copy, Debug, PartialEq, Eq)]
+pub enum Step {
+    /// The assigns of the order up to this place, exclusive, are evaluated over the whole block.
+    Run {
+        upto: usize,
+    },
+    /// The register of this update is on no cycle: its row is its next value's, one clock later.
+    Shift {
+        update: usize,
+    },
+    /// The reads of this assign are taken from the words of its array as they are before the block.
+    Read {
+        assign: usize,
+    },
+    /// An array with so few words that a block comes back to them: reads and puts, clock by clock, over a copy of its words. Its
+    /// indexes and the value put are known.
+    Small {
+        assign: usize,
+    },
+    /// The registers of the updates `looped[first..last]` are on a cycle: their rows are guessed, the assigns of the order up to
+    /// `upto` are evaluated, and what was guessed is compared and mended.
+    Guess {
+        first: usize,
+        last: usize,
+        upto: usize,
+    },
+}
+
+/// The assigns that read no array, each behind all that it reads but for cycles through registers, and the steps that evaluate
+/// them.
+#[derive(Debug, Drop)]
+pub struct Plan {
+    /// The numbers of these assigns.
+    pub order: Vec<usize>,
+    pub steps: Vec<Step>,
+    /// The updates of the registers on cycles.
+    pub looped: Vec<usize>,
+}
+
+// A plan that is made, and how many of its assigns its steps evaluate.
+#[derive(Drop)]
+struct Draft {
+    plan: Plan,
+    done: usize,
+}
+
+// Evaluates what was gathered.
+fn flush(draft: &mut Draft) -> Result<(), AllocError> {
+    let upto = draft.plan.order.len();
+    if upto > draft.done {
+        draft.plan.steps.push(Step::Run { upto })?;
+        draft.done = upto;
+    }
+    Ok(())
+}
+
+fn add_step(draft: &mut Draft, step: Step) -> Result<(), AllocError> {
+    flush(draft)?;
+    draft.plan.steps.push(step)?;
+    Ok(())
+}
+
+// An assign on no cycle.
+fn add_assign(
+    draft: &mut Draft,
+    wiring: &Wiring,
+    assign: usize,
+    size: usize,
+) -> Result<(), AllocError> {
+    match reads_array(wiring, assign) {
+        None => {
+            draft.plan.order.push(assign)?;
+            Ok(())
+        }
+        Some(depth) => {
+            if depth <= size {
+                add_step(draft, Step::Small { assign })
+            } else {
+                add_step(draft, Step::Read { assign })
+            }
+        }
+    }
+}
+
+fn sets_register(wiring: &Wiring, update: usize) -> bool {
+    match wiring.updates.get(update) {
+        Some(Update::Set(_, _)) => true,
+        _ => false,
+    }
+}
+
+// The one node of a group, on no cycle.
+fn add_single(
+    draft: &mut Draft,
+    wiring: &Wiring,
+    node: usize,
+    size: usize,
+) -> Result<(), AllocError> {
+    let assigns = wiring.assigns.len();
+    if node < assigns {
+        return add_assign(draft, wiring, node, size);
+    }
+    let update = node - assigns;
+    if sets_register(wiring, update) {
+        return add_step(draft, Step::Shift { update });
+    }
+    Ok(())
+}
+
+// The nodes of a group on a cycle; false where one of them reads an array.
+fn add_cycle(draft: &mut Draft, wiring: &Wiring, nodes: &[usize]) -> Result<bool, AllocError> {
+    flush(draft)?;
+    let first = draft.plan.looped.len();
+    let assigns = wiring.assigns.len();
+    for node in nodes {
+        if *node >= assigns {
+            draft.plan.looped.push(*node - assigns)?;
+        } else if reads_array(wiring, *node).is_none() {
+            draft.plan.order.push(*node)?;
+        } else {
+            return Ok(false);
+        }
+    }
+    let last = draft.plan.looped.len();
+    let upto = draft.plan.order.len();
+    draft.plan.steps.push(Step::Guess { first, last, upto })?;
+    draft.done = upto;
+    Ok(true)
+}
+
+fn add_group(
+    draft: &mut Draft,
+    wiring: &Wiring,
+    needs: &[Needs],
+    nodes: &[usize],
+    size: usize,
+) -> Result<bool, AllocError> {
+    match nodes.first() {
+        None => Ok(true),
+        Some(node) => {
+            if nodes.len() > 1 || needs_itself(needs, *node) {
+                return add_cycle(draft, wiring, nodes);
+            }
+            add_single(draft, wiring, *node, size)?;
+            Ok(true)
+        }
+    }
+}
+
+fn needs_itself(needs: &[Needs], node: usize) -> bool {
+    match needs.get(node) {
+        None => false,
+        Some(need) => {
+            need.first == Some(node) || need.second == Some(node) || need.third == Some(node)
+        }
+    }
+}
+
+// All groups; None where one of them has no step.
+fn add_groups(
+    alloc: Global,
+    wiring: &Wiring,
+    needs: &[Needs],
+    groups: &Groups,
+    size: usize,
+) -> Result<Option<Plan>, AllocError> {
+    let mut draft = Draft {
+        plan: Plan {
+            order: Vec::new(alloc),
+            steps: Vec::new(alloc),
+            looped: Vec::new(alloc),
+        },
+        done: 0,
+    };
+    for number in 0..groups.count() {
+        if !add_group(&mut draft, wiring, needs, groups.nodes(number), size)? {
+            return Ok(None);
+        }
+    }
+    flush(&mut draft)?;
+    Ok(Some(draft.plan))
+}
+
+/// The plan of a module for blocks of so many clocks; None where there is none: an array that is not read by one assign and put
+/// once, or one on a cycle. Time and memory are linear in the module.
+pub fn make_plan(alloc: Global, module: &Module, size: usize) -> Result<Option<Plan>, Memory> {
+    let wiring = module.wiring();
+    if !arrays_are_single(alloc, wiring)? {
+        return Ok(None);
+    }
+    let needs = needs_of(alloc, wiring, size)?;
+    let found = components_of(alloc, &needs)?;
+    let groups = groups_of(alloc, wiring.assigns.len(), module.order(), &found)?;
+    let plan = add_groups(alloc, wiring, &needs, &groups, size)?;
+    Ok(plan)
+}
