@@ -1,12 +1,12 @@
 -- Passes over all arrays.
-use Rattle.std.proofs.Common.{◌≡◌, ◌≢◌, ℕ, suc, ◌+◌, ◌-◌, ◌<◌, ◌≤◌, ◌⊎◌, inl, inr, List, [], length, refl, ap, sym, subst, ◌∙◌, arith, Some}
+use Rattle.std.proofs.Common.{◌≡◌, ◌≢◌, ℕ, zero, suc, ◌+◌, ◌-◌, ◌<◌, ◌≤◌, ◌⊎◌, inl, inr, List, [], length, refl, ap, sym, subst, ◌∙◌, arith, Some}
 use Rattle.std.specs.Prelude.{slice_get, slice_index_or}
 use Rattle.std.proofs.lemmas.Bool.{cases_lt, cases_order}
 use Rattle.std.proofs.lemmas.Option.{same_Some}
-use Rattle.std.proofs.lemmas.List.{ext_get_or}
+use Rattle.std.proofs.lemmas.List.{ext_get_or, length-set}
 use Rattle.block_code.specs.declared.code.WordRead.{WordRead}
 use Rattle.block_code.specs.declared.code.WordPut.{WordPut}
-use Rattle.block_code.specs.Rows.{words_put, KeepsArray}
+use Rattle.block_code.specs.Rows.{atom_at, words_put, KeepsArray}
 use Rattle.block_sim.specs.Arrays.{WasLost, PutsInside, ArePut, AreLost, AreKept, AreInsideAll}
 
 module _ (rows : List (List ℕ)) (reads : List WordRead) (puts : List WordPut) (count : ℕ) where
@@ -88,3 +88,23 @@ module _ (rows : List (List ℕ)) (reads : List WordRead) (puts : List WordPut) 
       left_at x l (inl e) = subst (λ (n : ℕ). slice_index_or new n [] ≡ slice_index_or before n []) (sym e) back
       left_at x l (inr (inl m)) = absurd (omega (arith, l, m))
       left_at x l (inr (inr m)) = others x (λ e. omega (arith, e, m)) ∙ h.left x (omega (arith, m))
+
+  pub same_put : (before now new : List (List ℕ)) (done : ℕ) → length new ≡ length now → ((x : ℕ) → slice_index_or new x [] ≡ slice_index_or now x []) → ArePut rows puts count before now done → ArePut rows puts count before new done
+  same_put before now new done size same h = record {
+    same = size ∙ h.same;
+    put = λ x p l at. same x ∙ h.put x p l at;
+    left = λ x l. same x ∙ h.left x l;
+  }
+
+  pub same_lost : (before lost other : List (List ℕ)) (done : ℕ) → ((x : ℕ) → x ≢ done → slice_index_or other x [] ≡ slice_index_or lost x []) → AreLost rows puts count before lost done → AreLost rows puts count before other done
+  same_lost before lost other done same h x p l at =
+      let f = h x p l at in
+      (f.0, subst (λ (ws : List ℕ). WasLost rows p (slice_index_or before x []) ws count) (sym (same x (λ e. omega (arith, e, l)))) f.1)
+
+  pub length-put : (p : WordPut) (words : List ℕ) (t : ℕ) → length (words_put rows p words t) ≡ length words
+  length-put p words zero = refl
+  length-put p words (suc t) = length-set (words_put rows p words t) (atom_at rows t p.index) (atom_at rows t p.value) ∙ length-put p words t
+
+  pub all_inside : (before lost now : List (List ℕ)) (done : ℕ) → ArePut rows puts count before now done → AreLost rows puts count before lost done → AreInsideAll rows puts count now done
+  all_inside before lost now done put lost' x p l at =
+      subst (λ (n : ℕ). PutsInside rows p count n) (sym (ap (λ (ws : List ℕ). length ws) (put.put x p l at) ∙ length-put p (slice_index_or before x []) count)) (lost' x p l at).0

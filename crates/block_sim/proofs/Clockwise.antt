@@ -44,7 +44,7 @@ place_size k size = let next : (k + 1) * size ≡ k * size + size = next_place k
 pub half_is : (n half : ℕ) → n ≡ 2 * half → half ≡ n / 2
 half_is n half e = omega (arith, e)
 
-drop_more : {X : Type 0} (j k : ℕ) (xs : List X) → drop (j + k) xs ≡ drop k (drop j xs)
+pub drop_more : {X : Type 0} (j k : ℕ) (xs : List X) → drop (j + k) xs ≡ drop k (drop j xs)
 drop_more zero k xs = let z : 0 + k ≡ k = omega arith in ap (λ n. drop n xs) z
 drop_more (suc j) k [] = drop-nil (suc j + k) ∙ sym (drop-nil k)
 drop_more (suc j) k (x ∷ xs) = let z : suc j + k ≡ suc (j + k) = omega arith in ap (λ n. drop n (x ∷ xs)) z ∙ drop_more j k xs
@@ -56,13 +56,13 @@ take_less (suc j) (suc k) [] l = refl
 take_less (suc j) (suc k) (x ∷ xs) l = ap (λ t. x ∷ t) (take_less j k xs (omega (arith, l)))
 
 -- lists that are the same at first have the same in the places there
-same_place : {X : Type 0} (size j k : ℕ) (xs ys : List X) → j < k → take (k * size) xs ≡ take (k * size) ys → of_clock size j xs ≡ of_clock size j ys
+pub same_place : {X : Type 0} (size j k : ℕ) (xs ys : List X) → j < k → take (k * size) xs ≡ take (k * size) ys → of_clock size j xs ≡ of_clock size j ys
 same_place size j k xs ys l e =
     let h : j * size + size ≤ k * size = place_within j k size l in
     sym (drop-take (j * size) size xs) ∙ ap (λ t. drop (j * size) t) (sym (take_less (j * size + size) (k * size) xs h) ∙ ap (λ t. take (j * size + size) t) e ∙ take_less (j * size + size) (k * size) ys h) ∙ drop-take (j * size) size ys
 
 -- what was put into a place is there
-put_here : {X : Type 0} (a size : ℕ) (xs ys : List X) → a + size ≤ length xs → length ys ≡ size → take size (drop a (put_mid a size xs ys)) ≡ ys
+pub put_here : {X : Type 0} (a size : ℕ) (xs ys : List X) → a + size ≤ length xs → length ys ≡ size → take size (drop a (put_mid a size xs ys)) ≡ ys
 put_here a size xs ys room is =
     let front : length (take a xs) ≡ a = length-take-le a xs (omega (arith, room)) in
     sym (drop-take a size (put_mid a size xs ys)) ∙ ap (λ l. drop a l) (take-put_mid a size xs ys (a + size) (omega (arith, is)) (omega (arith, room)))
@@ -168,7 +168,7 @@ module _ (m : Netlist) (clocks : List Clock) (from mid : Contents) (old outs : L
         later = came.later;
       })
 
-take_whole : {X : Type 0} (xs : List X) (n : ℕ) → length xs ≤ n → take n xs ≡ xs
+pub take_whole : {X : Type 0} (xs : List X) (n : ℕ) → length xs ≤ n → take n xs ≡ xs
 take_whole [] zero l = refl
 take_whole [] (suc n) l = refl
 take_whole (x ∷ xs) zero l = absurd (omega (arith, l))

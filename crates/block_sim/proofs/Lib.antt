@@ -3,5 +3,9 @@ pub mod Checks
 pub mod Clockwise
 pub mod Fitting
 pub mod FirstUses
-pub mod Passes
+pub mod Judged
+pub mod Made
+pub mod OnePass
+pub mod Rowwise
 pub mod Tables
+pub mod Vectors

@@ -82,3 +82,7 @@ table_refilled widths code long done old new same t = record {
   room = same.room ∙ t.room;
   spares = subst (λ (s : Spares). HaveRoom s long) (sym same.spares) t.spares;
 }
+
+-- a table whose spare row has another name of its length
+pub table_as : (widths : List ℕ) (code : List Instruction) (long other : ℕ) (t : Table) (done : ℕ) → other ≡ long → IsTable widths code long t done → IsTable widths code other t done
+table_as widths code long other t done e h = subst (λ (n : ℕ). IsTable widths code n t done) (sym e) h

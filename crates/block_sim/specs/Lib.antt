@@ -3,4 +3,5 @@ pub mod Called
 pub mod Checked
 pub mod Engine
 pub mod Held
+pub mod Shown
 pub mod Table

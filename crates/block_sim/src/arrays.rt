@@ -8,9 +8,8 @@ ghost use Rattle.block_code.specs.Rows.{words_put, KeepsArray};
 ghost use Rattle.block_sim.specs.Arrays.{IsPassed, IsArrayRoom, WasLost, PutsInside, HaveAccessRows, ArePut, AreLost, AreKept};
 
 use crate::given::row_at;
-use block_code::{WordPut, WordRead, array_kept, words_are_put};
+use block_code::{WordPut, WordRead};
 use block_rows::{all_inside, atom_row, note_constant, take_back, word_row};
-use std::alloc::{AllocError, Global};
 
 /// Spare rows for the constants among an array's indexes and values.
 #[derive(Drop)]
@@ -69,7 +68,7 @@ fn pass_words(
 }
 
 // One array over so many clocks: true if its equations are kept, and its words are then those behind them; else the words are as before.
-#[tactic(auto, using(crate::proofs::Passes::passed_kept, crate::proofs::Passes::passed_words, crate::proofs::Passes::passed_lost))]
+#[tactic(auto, using(crate::proofs::OnePass::passed_kept, crate::proofs::OnePass::passed_words, crate::proofs::OnePass::passed_lost))]
 fn pass_rows(
     rows: &[Vec<u64>],
     room: &mut ArrayRoom,
@@ -99,8 +98,8 @@ fn pass_rows(
     pass_words(words, to, lost, reads, indexes, values, target)
 }
 
-// The first so many places of two rows.
-fn pass_first(
+/// The same over the first so many places of two rows.
+pub fn pass_first(
     rows: &[Vec<u64>],
     room: &mut ArrayRoom,
     read: &WordRead,
@@ -125,9 +124,9 @@ fn pass_first(
     pass_rows(rows, room, read, put, words, to, lost)
 }
 
-// Takes back what an array was given in so many clocks.
-#[tactic(auto, using(crate::proofs::Passes::puts_inside))]
-fn undo_array(
+/// Takes back what an array was given in so many clocks.
+#[tactic(auto, using(crate::proofs::OnePass::puts_inside))]
+pub fn undo_array(
     rows: &[Vec<u64>],
     room: &mut ArrayRoom,
     put: &WordPut,

@@ -12,7 +12,9 @@ ghost use Rattle.cycle_sim.specs.Simulated.{GoesOn, StopsIn, clock};
 ghost use Rattle.block_sim.specs.Called.{din_count, output_count, block_clocks, BlockRan, BlockStops};
 
 use crate::held::{Held, step_held, zeros};
+use crate::make::rows_of;
 use crate::pieces::step_pieces;
+use crate::rows::Rows;
 use cycle_sim::{Fill, IndexRange, Out, Sim};
 use dk_base::Memory;
 use netlist::{Module, Wiring, one_run};
@@ -20,23 +22,25 @@ use std::alloc::Global;
 use std::marker::Model;
 
 /// A netlist with what its registers and arrays hold, clocked many clocks at a time.
-#[derive(Debug, Drop)]
+#[derive(Drop)]
 pub struct Blocks {
     // what it holds means nothing between the calls
     sim: Sim,
     held: Held,
     dins: usize,
+    rows: Option<Rows>,
 }
 
 impl Model for Blocks {
     ghost use Rattle.cycle_sim.specs.Simulated.{Machine};
-    ghost use Rattle.block_sim.specs.Held.{contents_in, AreBlocks};
+    ghost use Rattle.block_sim.specs.Held.{contents_in};
+    ghost use Rattle.block_sim.specs.Engine.{AreBlocks};
 
     ghost Value = { Machine };
 
     ghost view = { λ b. record { netlist = b.sim.netlist; contents = contents_in b.held } };
 
-    ghost invariant = { λ b. AreBlocks b.sim.netlist b.held b.dins };
+    ghost invariant = { λ b. AreBlocks b.sim.netlist b.held b.dins b.rows };
 }
 
 /// Where a block stops: so many clocks took place, and in the next one this index is outside its array.
@@ -70,11 +74,17 @@ impl Blocks {
         ensures contents { IfOk result (λ b. b.contents ≡ filled_contents fill «module».now.netlist) }
     {
         let dins = dins_of(module);
+        let rows = rows_of(alloc, module, dins)?;
         let mut held = zeros(alloc, module.wiring())?;
         let mut sim = Sim::new(alloc, module, fill)?;
         sim.law();
         sim.exchange(&mut held.regs, &mut held.arrays);
-        let blocks = Blocks { sim, held, dins };
+        let blocks = Blocks {
+            sim,
+            held,
+            dins,
+            rows,
+        };
         Ok(blocks)
     }
 
@@ -137,6 +147,7 @@ impl Blocks {
         one_run();
         step_pieces(
             &mut self.sim,
+            &mut self.rows,
             &mut self.held,
             self.dins,
             enables,

@@ -3,6 +3,7 @@
 ghost use Rattle.std.specs.Prelude.{◌≡◌, length};
 ghost use Rattle.block_sim.specs.Table.{IsRefilled};
 
+use crate::engine::Engine;
 use crate::table::Table;
 use wiring::Atom;
 
@@ -123,6 +124,56 @@ pub fn propose_small(
         value,
         words,
     );
+}
+
+// What an input is given in so many clocks from this one on, and then zeros.
+fn fill_input(
+    to: &mut [u64],
+    engine: &Engine,
+    enables: &[bool],
+    dins: &[u64],
+    input: usize,
+    first: usize,
+    count: usize,
+) {
+    for t in 0..to.len() {
+        to[t] = if t < count {
+            input_value(engine, enables, dins, first.saturating_add(t), input)
+        } else {
+            0
+        };
+    }
+}
+
+fn input_value(engine: &Engine, enables: &[bool], dins: &[u64], clock: usize, input: usize) -> u64 {
+    if input == 0 {
+        return 0;
+    }
+    if engine.has_enable && input == 1 {
+        return u64::from(clock < enables.len() && enables[clock]);
+    }
+    let head = if engine.has_enable { 2 } else { 1 };
+    place_in(
+        dins,
+        clock
+            .saturating_mul(engine.ports)
+            .saturating_add(input.saturating_sub(head)),
+    )
+}
+
+/// The spare row becomes what an input is given in so many clocks of a block from this one on.
+pub fn propose_input(
+    table: &mut Table,
+    engine: &Engine,
+    enables: &[bool],
+    dins: &[u64],
+    input: usize,
+    first: usize,
+    count: usize,
+)
+    ensures { IsRefilled table.old table.new }
+{
+    fill_input(&mut table.room, engine, enables, dins, input, first, count);
 }
 
 fn row_of(rows: &[Vec<u64>], slot: usize) -> &[u64] {

@@ -37,27 +37,6 @@ fn input_at(
     dins[clock * ports + (input - head)]
 }
 
-/// Fills a row with what an input is given in so many clocks of a block, from this one on.
-pub fn fill_input(
-    row: &mut [u64],
-    has_enable: bool,
-    ports: usize,
-    enables: &[bool],
-    dins: &[u64],
-    input: usize,
-    first: usize,
-    count: usize,
-)
-    requires all { length dins.now ≡ length enables.now * ports }
-    requires input { input < (if has_enable then 2 else 1) + ports }
-    requires within { first + count ≤ length enables.now }
-    requires room { count ≤ length row.old }
-{
-    for t in 0..count {
-        row[t] = input_at(has_enable, ports, enables, dins, first + t, input);
-    }
-}
-
 // Whether a row is what an input is given.
 fn is_given(
     row: &[u64],

@@ -73,8 +73,8 @@ pub fn are_kept(
     true
 }
 
-// The value in a row at a clock.
-fn place_of(row: &[u64], count: usize) -> u64
+/// The value in a row at a clock.
+pub fn place_of(row: &[u64], count: usize) -> u64
     requires { count < length row.now }
     ensures { result ≡ slice_index row.now count }
 {

@@ -69,8 +69,8 @@ fn shift(engine: &Engine, table: &mut Table, held: &Held, done: usize, update: u
     offer_row(engine, table, done, slot)
 }
 
-// Offers the spare row to a slot.
-fn offer_row(engine: &Engine, table: &mut Table, done: usize, slot: usize) -> bool
+/// Offers the spare row to a slot.
+pub fn offer_row(engine: &Engine, table: &mut Table, done: usize, slot: usize) -> bool
     requires engine { IsEngine engine.now }
     requires table { IsTable engine.now.code.widths.items engine.now.code.instructions.items (length table.old.room.items) table.old done }
     ensures room { length table.new.room.items ≡ length table.old.room.items }
@@ -345,6 +345,7 @@ fn guess(
     requires table { IsTable engine.now.code.widths.items engine.now.code.instructions.items (length table.old.room.items) table.old done }
     ensures room { length table.new.room.items ≡ length table.old.room.items }
     ensures table { IfSome result (λ n. IsTable engine.now.code.widths.items engine.now.code.instructions.items (length table.old.room.items) table.new n) }
+    ensures least { IsTable engine.now.code.widths.items engine.now.code.instructions.items (length table.old.room.items) table.new 0 }
 {
     if !guess_all(engine, table, held, hints, done, first, last) {
         return None;
@@ -370,6 +371,7 @@ fn when(offered: bool, done: usize) -> Option<usize>
 }
 
 /// One step of the plan, behind so many instructions that are run: how many are run then.
+#[tactic(auto, using(crate::proofs::Tables::hold_fewer))]
 pub fn take_step(
     engine: &Engine,
     table: &mut Table,
@@ -383,6 +385,7 @@ pub fn take_step(
     requires table { IsTable engine.now.code.widths.items engine.now.code.instructions.items (length table.old.room.items) table.old done }
     ensures room { length table.new.room.items ≡ length table.old.room.items }
     ensures table { IfSome result (λ n. IsTable engine.now.code.widths.items engine.now.code.instructions.items (length table.old.room.items) table.new n) }
+    ensures least { IsTable engine.now.code.widths.items engine.now.code.instructions.items (length table.old.room.items) table.new 0 }
 {
     match step {
         Step::Run { upto } => Some(run(engine, table, done, upto)),
@@ -396,6 +399,7 @@ pub fn take_step(
 }
 
 /// All steps of the plan: true if all instructions are run then.
+#[tactic(auto, using(crate::proofs::Tables::hold_fewer))]
 pub fn take_steps(
     engine: &Engine,
     table: &mut Table,
@@ -407,6 +411,7 @@ pub fn take_steps(
     requires table { IsTable engine.now.code.widths.items engine.now.code.instructions.items (length table.old.room.items) table.old 0 }
     ensures room { length table.new.room.items ≡ length table.old.room.items }
     ensures table { IsTrue result → IsTable engine.now.code.widths.items engine.now.code.instructions.items (length table.old.room.items) table.new (length engine.now.code.instructions.items) }
+    ensures least { IsTable engine.now.code.widths.items engine.now.code.instructions.items (length table.old.room.items) table.new 0 }
 {
     let mut done = 0;
     for k in 0..engine.plan.steps.len() {

@@ -1,6 +1,6 @@
 use Rattle.std.proofs.Common.{length}
 use Rattle.block_rows.specs.Rights.{items_of}
-use Rattle.block_sim.proofs.Passes.{passed_words, passed_lost}
+use Rattle.block_sim.proofs.OnePass.{passed_words, passed_lost}
 use Rattle.block_sim.proofs.arrays.pass_rows.Goals as goal
 
 pub returns-clause-words : goal.returns-clause-words

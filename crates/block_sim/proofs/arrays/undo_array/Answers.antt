@@ -1,5 +1,5 @@
 use Rattle.block_rows.specs.Rights.{items_of}
-use Rattle.block_sim.proofs.Passes.{undone}
+use Rattle.block_sim.proofs.OnePass.{undone}
 use Rattle.block_sim.proofs.arrays.undo_array.Goals as goal
 
 pub returns-clause-back : goal.returns-clause-back
