@@ -1,5 +1,5 @@
 -- A pass over the rows of an array's indexes and of the value put.
-use Rattle.std.proofs.Common.{◌≡◌, ℕ, zero, suc, ◌<◌, ◌≤◌, List, length, refl, ap, sym, subst, ◌∙◌, arith}
+use Rattle.std.proofs.Common.{◌≡◌, ℕ, zero, suc, ◌<◌, ◌≤◌, List, length, refl, ap, subst, ◌∙◌, arith}
 use Rattle.std.specs.Prelude.{slice_index, slice_set}
 use Rattle.block_rows.specs.Rights.{IsAtomRow, value_at}
 use Rattle.block_rows.specs.Rows.{words_after, IsReadUpTo, AreInside}

@@ -1,6 +1,6 @@
 -- What is left behind a block fits.
-use Rattle.std.proofs.Common.{◌≡◌, ℕ, zero, suc, ◌+◌, ◌^◌, ◌<◌, ◌≤◌, List, [], ◌∷◌, length, get_or, refl, ap, sym, subst, ◌∙◌, arith, Some, lit<, length-set}
-use Rattle.std.specs.Prelude.{All, slice_get, slice_index, slice_index_or, slice_set, unwrap_or}
+use Rattle.std.proofs.Common.{◌≡◌, ℕ, zero, suc, ◌^◌, ◌<◌, ◌≤◌, List, [], ◌∷◌, length, refl, ap, sym, subst, ◌∙◌, arith, Some, lit<, length-set}
+use Rattle.std.specs.Prelude.{All, slice_get, slice_index, slice_index_or, unwrap_or}
 use Rattle.std.specs.Option.{option_map}
 use Rattle.std.specs.List.{AllZip}
 use Rattle.std.proofs.lemmas.Option.{slice_get_within, same_Some}
@@ -14,11 +14,11 @@ use Rattle.wiring.specs.declared.netlist.Holder.TheVariants.{OfArray}
 use Rattle.wiring.specs.declared.netlist.Shape.{Shape}
 use Rattle.wiring.specs.declared.netlist.Update.{Update}
 use Rattle.wiring.specs.declared.netlist.Update.TheVariants.{Set, Put}
-use Rattle.wiring.specs.Rights.{atom_width, atom_nets}
-use Rattle.wiring.specs.Netlist.{Netlist, net_width, word_width, IsDeclared, update_target}
-use Rattle.wiring.specs.Snapshot.{Contents, Fit, FitsContents}
+use Rattle.wiring.specs.Rights.{atom_width}
+use Rattle.wiring.specs.Netlist.{Netlist, net_width, IsDeclared, update_target}
+use Rattle.wiring.specs.Snapshot.{Contents, FitsContents}
 use Rattle.wiring.specs.Rules.{KeepsRules, UpdateIsSound, AtomIsSound}
-use Rattle.wiring.proofs.Lists.{All-at, All-from_at}
+use Rattle.wiring.proofs.Lists.{All-at}
 use Rattle.cycle_sim.specs.Slots.{slot, rename_atom, all_widths}
 use Rattle.cycle_sim.proofs.Flat.{flat_width_at, length-all_widths}
 use Rattle.cycle_sim.proofs.Pieces.{fit_from}
@@ -75,9 +75,10 @@ module _ (m : Netlist) (c : BlockCode) (rules : KeepsRules m) (is : IsBlockCode 
   put_fits : (x : ℕ) (s : Shape) (p : WordPut) (words : List ℕ) (t : ℕ) → t ≤ count → ((j : ℕ) → j < count → atom_at rows j p.value < 2 ^ s.width) → AreWords s words → AreWords s (words_put rows p words t)
   put_fits x s p words zero l fit h = h
   put_fits x s p words (suc t) l fit h =
-      let before = put_fits x s p words t (omega (arith, l)) fit h in
-      (length-set (words_put rows p words t) (atom_at rows t p.index) (atom_at rows t p.value) ∙ before.0,
-        All-set (λ w. w < 2 ^ s.width) (words_put rows p words t) (atom_at rows t p.index) (atom_at rows t p.value) (fit t (omega (arith, l))) before.1)
+      let before = put_fits x s p words t (omega (arith, l)) fit h in (
+        length-set (words_put rows p words t) (atom_at rows t p.index) (atom_at rows t p.value) ∙ before.0,
+        All-set (λ w. w < 2 ^ s.width) (words_put rows p words t) (atom_at rows t p.index) (atom_at rows t p.value) (fit t (omega (arith, l))) before.1,
+      )
 
   array_fits : (x : ℕ) (s : Shape) → slice_get m.arrays x ≡ Some s → AreWords s (slice_index_or to.arrays x [])
   array_fits x s at =
@@ -88,8 +89,8 @@ module _ (m : Netlist) (c : BlockCode) (rules : KeepsRules m) (is : IsBlockCode 
       let p = put_of m put.0 put.1 in
       subst (λ (ws : List ℕ). AreWords s ws) (sym (left.arrays x p (is.code.puts update.0 x put.0 put.1 put.2)))
       (put_fits x s p (slice_index_or from.arrays x []) count (omega arith)
-        (λ j l. subst (λ (w : ℕ). atom_at rows j p.value < 2 ^ w) width (atom_fits j (omega (arith, l, room)) put.1 ok.2))
-        (words_at m.arrays from.arrays x s fitting.arrays at))
+      (λ j l. subst (λ (w : ℕ). atom_at rows j p.value < 2 ^ w) width (atom_fits j (omega (arith, l, room)) put.1 ok.2))
+      (words_at m.arrays from.arrays x s fitting.arrays at))
 
   pub left_fits : FitsContents m to
   left_fits = record {

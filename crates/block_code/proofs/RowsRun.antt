@@ -21,23 +21,21 @@ use Rattle.wiring.specs.Snapshot.{Contents, Snapshot, Fit, FitsContents, net_val
 use Rattle.wiring.specs.Clock.{Clock, given}
 use Rattle.wiring.specs.Runs.{Runs}
 use Rattle.wiring.specs.Rules.{KeepsRules, AssignIsSound, UpdateIsSound}
-use Rattle.wiring.proofs.Lists.{All-at, All-from_at}
+use Rattle.wiring.proofs.Lists.{All-at}
 use Rattle.cycle_sim.specs.Ports.{din_widths}
 use Rattle.cycle_sim.specs.Slots.{slot, rename, rename_atom, all_widths}
 use Rattle.cycle_sim.proofs.Flat.{flat_width_at}
 use Rattle.cycle_sim.proofs.Given.{given_fit}
 use Rattle.cycle_sim.proofs.Pieces.{length_fit}
 use Rattle.cycle_sim.proofs.Renamed.{right_renamed}
-use Rattle.block_rows.specs.declared.code.Instruction.{Instruction}
 use Rattle.block_rows.specs.Rights.{value_at}
-use Rattle.block_rows.specs.Code.{HoldsAt}
 use Rattle.block_code.specs.declared.code.WordRead.{WordRead}
 use Rattle.block_code.specs.declared.code.WordPut.{WordPut}
 use Rattle.block_code.specs.declared.code.BlockCode.{BlockCode}
 use Rattle.block_code.specs.Block.{firsts}
 use Rattle.block_code.specs.Streams.{Streams, AreStreams, AssignHolds, UpdateHolds, contents_at, shot_at}
 use Rattle.block_code.specs.Code.{IsBlockCode, instruction, read_of, put_of}
-use Rattle.block_code.specs.Rows.{atom_at, words_put, KeepsArray, KeepsRegister, KeepEquations, AreLeft, RowsRan}
+use Rattle.block_code.specs.Rows.{atom_at, words_put, KeepsArray, KeepEquations, AreLeft, RowsRan}
 use Rattle.block_code.proofs.StreamRuns.{length-firsts, firsts-get, net_at, accesses_all, run_is}
 
 -- ---- lists by place
@@ -230,7 +228,7 @@ module _ (m : Netlist) (c : BlockCode) (rules : KeepsRules m) (is : IsBlockCode 
   to_is =
       let regs = firsts_are (λ i. streams.value (length clocks) (Reg i)) to.regs (length m.regs) 0 left.reg_count (λ r l. sym (left.regs r l)) in
       let arrays = firsts_are (streams.words (length clocks)) to.arrays (length m.arrays) [] left.array_count
-          (λ x l. let p = put_at x l in words_are (length clocks) x p.0 p.1 ∙ sym (left.arrays x p.0 p.1)) in
+      (λ x l. let p = put_at x l in words_are (length clocks) x p.0 p.1 ∙ sym (left.arrays x p.0 p.1)) in
       ap (λ (rs : List ℕ). let held : Contents = record { regs = rs; arrays = firsts (streams.words (length clocks)) (length m.arrays) } in held) regs
       ∙ ap (λ (ws : List (List ℕ)). let held : Contents = record { regs = to.regs; arrays = ws } in held) arrays
 

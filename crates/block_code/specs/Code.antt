@@ -1,11 +1,10 @@
 -- A module as code over the slots of its nets.
-use Rattle.std.specs.Prelude.{◌≡◌, ℕ, ◌+◌, ◌<◌, ◌≤◌, List, length, slice_get, Some, None, All, Contains}
+use Rattle.std.specs.Prelude.{◌≡◌, ℕ, ◌+◌, ◌<◌, ◌≤◌, length, slice_get, Some, None, All, Contains}
 use Rattle.wiring.specs.declared.right.Atom.{Atom}
 use Rattle.wiring.specs.declared.right.Atom.TheVariants as atom
 use Rattle.wiring.specs.declared.right.Right.TheVariants.{Word}
 use Rattle.wiring.specs.declared.netlist.Net.{Net}
 use Rattle.wiring.specs.declared.netlist.Assign.{Assign}
-use Rattle.wiring.specs.declared.netlist.Update.{Update}
 use Rattle.wiring.specs.declared.netlist.Update.TheVariants.{Set, Put}
 use Rattle.wiring.specs.Rights.{array_of}
 use Rattle.wiring.specs.Netlist.{Netlist}
@@ -37,12 +36,22 @@ read_of m target i = record { target = slot m target; index = rename_atom (slot 
 abbrev pub put_of : Netlist → Atom Net → Atom Net → WordPut
 put_of m i a = record { index = rename_atom (slot m) i; value = rename_atom (slot m) a }
 
--- each assign and each update of a netlist has its place in the code
+-- an instruction is that of an assign that reads no array
+abbrev pub IsPlain : Netlist → Instruction → Type 0
+IsPlain m i = (k : ℕ) × (a : Assign) × (slice_get m.assigns k ≡ Some a) × (array_of a.right ≡ None) × (i ≡ instruction m a)
+
+-- an assign reads an array
+abbrev pub IsRead : Netlist → ℕ → Type 0
+IsRead m x = (k : ℕ) × (n : Net) × (i : Atom Net) × (slice_get m.assigns k ≡ Some (record { target = n; right = Word x i }))
+
+-- each assign and each update of a netlist has its place in the code, and nothing else has one
 pub record IsCodeOf (m : Netlist) (c : BlockCode) : Type 0 where
   pub assigns : (k : ℕ) (a : Assign) → slice_get m.assigns k ≡ Some a → array_of a.right ≡ None → Contains c.instructions.items (instruction m a)
   pub reads : (k : ℕ) (n : Net) (x : ℕ) (i : Atom Net) → slice_get m.assigns k ≡ Some (record { target = n; right = Word x i }) → slice_get c.reads.items x ≡ Some (read_of m n i)
   pub puts : (k x : ℕ) (i a : Atom Net) → slice_get m.updates k ≡ Some (Put x i a) → slice_get c.puts.items x ≡ Some (put_of m i a)
   pub nexts : (k r : ℕ) (a : Atom Net) → slice_get m.updates k ≡ Some (Set r a) → slice_get c.nexts.items r ≡ Some (rename_atom (slot m) a)
+  pub plain : All (IsPlain m) c.instructions.items
+  pub some_read : (x : ℕ) → x < length m.arrays → IsRead m x
 
 -- where the slots of each sort of net begin
 pub record HasSlots (m : Netlist) (c : BlockCode) : Type 0 where

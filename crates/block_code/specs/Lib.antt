@@ -1,4 +1,5 @@
 pub mod Block
 pub mod Code
+pub mod Parts
 pub mod Rows
 pub mod Streams

@@ -3,7 +3,11 @@
 ghost use Rattle.std.specs.Prelude.{IfOk, IfSome};
 ghost use Rattle.block_code.specs.Code.{IsBlockCode};
 
+use crate::instructions::instructions_of;
+use crate::reads::reads_of;
+use crate::updates::{nexts_of, puts_of};
 use block_rows::Instruction;
+use cycle_sim::{layout_of, widths_of_wiring};
 use dk_base::Memory;
 use netlist::{Atom, Module, Width};
 use std::alloc::Global;
@@ -44,6 +48,25 @@ impl BlockCode {
     pub fn of(alloc: Global, module: &Module, order: &[usize]) -> Result<Option<BlockCode>, Memory>
         ensures { IfOk result (λ o. IfSome o (IsBlockCode «module».now.netlist)) }
     {
-        Ok(None)
+        let wiring = module.wiring();
+        let widths = widths_of_wiring(alloc, wiring)?;
+        let layout = layout_of(wiring);
+        let Some(instructions) = instructions_of(alloc, layout, wiring, order)? else {
+            return Ok(None);
+        };
+        let Some(reads) = reads_of(alloc, layout, wiring)? else {
+            return Ok(None);
+        };
+        let puts = puts_of(alloc, layout, wiring)?;
+        let nexts = nexts_of(alloc, layout, wiring)?;
+        Ok(Some(BlockCode {
+            widths,
+            first_output: layout.first_output,
+            first_reg: layout.first_reg,
+            instructions,
+            reads,
+            puts,
+            nexts,
+        }))
     }
 }

@@ -1,4 +1,4 @@
-//! Rows of values over the clocks of a block.
+//! Assigns evaluated over whole rows of clocks.
 #![tactic(auto)]
 
 mod code;

@@ -12,7 +12,7 @@ use std::alloc::{AllocError, Global};
 use wiring::{Atom, Operator, Right, Width, limit};
 
 /// Room for the rows of the constants of a right side.
-#[derive(Drop)]
+#[derive(Debug, Drop)]
 pub struct Spares {
     pub(crate) first: Vec<u64>,
     pub(crate) second: Vec<u64>,
@@ -82,7 +82,12 @@ fn row_at(rows: &[Vec<u64>], slot: usize) -> &[u64]
 }
 
 /// The row of an atom: that of its slot, or that of its constant.
-pub fn atom_row<'a>(rows: &'a [Vec<u64>], spare: &'a [u64], a: &Atom<usize>, count: usize) -> &'a [u64]
+pub fn atom_row<'a>(
+    rows: &'a [Vec<u64>],
+    spare: &'a [u64],
+    a: &Atom<usize>,
+    count: usize,
+) -> &'a [u64]
     requires long { HasRow (items_of rows.now) count a.now }
     requires room { count ≤ length spare.now }
     requires spare { (t : ℕ) → t < length spare.now → StandsFor a.now (slice_index spare.now t) }

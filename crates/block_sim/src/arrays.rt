@@ -12,7 +12,7 @@ use block_code::{WordPut, WordRead};
 use block_rows::{all_inside, atom_row, note_constant, take_back, word_row};
 
 /// Spare rows for the constants among an array's indexes and values.
-#[derive(Drop)]
+#[derive(Debug, Drop)]
 pub struct ArrayRoom {
     pub read: Vec<u64>,
     pub index: Vec<u64>,

@@ -22,7 +22,7 @@ use std::alloc::Global;
 use std::marker::Model;
 
 /// A netlist with what its registers and arrays hold, clocked many clocks at a time.
-#[derive(Drop)]
+#[derive(Debug, Drop)]
 pub struct Blocks {
     // what it holds means nothing between the calls
     sim: Sim,

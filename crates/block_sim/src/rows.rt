@@ -30,7 +30,7 @@ use cycle_sim::{Out, Sim};
 const LEAST: usize = 24;
 
 /// The rows of a module, and room for what is made over them.
-#[derive(Drop)]
+#[derive(Debug, Drop)]
 pub struct Rows {
     pub engine: Engine,
     pub table: Table,

@@ -9,7 +9,7 @@ use block_rows::{Instruction, Spares, run_code};
 use wiring::{Width, limit};
 
 /// The rows of all slots, a spare row, and room for the rows of constants.
-#[derive(Drop)]
+#[derive(Debug, Drop)]
 pub struct Table {
     pub rows: Vec<Vec<u64>>,
     pub room: Vec<u64>,
