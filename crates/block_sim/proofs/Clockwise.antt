@@ -230,3 +230,11 @@ came_ok m n same enables dins from mid to old outs new k (Ok u) on came =
     (came_all n (block_clocks n enables dins) from to old new (length enables) (omega (arith, clocks_count (din_count n) enables dins))
     (on from old (subst (λ (x : Netlist). Came x (block_clocks x enables dins) from mid old outs k) (sym same) came)))
 came_ok m n same enables dins from mid to old outs new k (Err e) on came = tt
+
+pub came_rest : (m n : Netlist) → n ≡ m → (enables : List Bool) (dins : List ℕ) (from mid to : Contents) (old outs new : List Out) (k : ℕ) → k ≤ length enables → (r : Result (Unit {0}) Stop) →
+    OnOk r ((f : Contents) (o : List Out) → Came n (block_clocks n enables dins) f mid o outs k → Came n (block_clocks n enables dins) f to o new (k + (length enables - k))) →
+    Came m (block_clocks m enables dins) from mid old outs k → OnOk r (BlockRan m (block_clocks m enables dins) from to new)
+came_rest m n same enables dins from mid to old outs new k l (Ok u) on came =
+    let e : k + (length enables - k) ≡ length enables = omega (arith, l) in
+    came_ok m n same enables dins from mid to old outs new k (Ok u) (λ f o h. subst (λ (j : ℕ). Came n (block_clocks n enables dins) f to o new j) e (on f o h)) came
+came_rest m n same enables dins from mid to old outs new k l (Err e) on came = tt

@@ -130,7 +130,7 @@ counts_of m e is h fits =
     (omega (arith, is.code.runnable.read_count, arrays, length-items h.arrays.items), omega (arith, is.code.runnable.put_count, arrays, length-items h.arrays.items))
 
 pub fits_either : (m : Netlist) (b : Bool) (h : Contents) → (IsTrue b → FitsContents m h) → (IsFalse b → FitsContents m h) → FitsContents m h
-fits_either m true h then_fits else_fits = then_fits tt
+fits_either m true h then_fits else_fits = then_fits refl
 fits_either m false h then_fits else_fits = else_fits refl
 
 -- rows with other values

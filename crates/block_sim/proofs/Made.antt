@@ -1,8 +1,9 @@
 -- Tables of zeros.
-use Rattle.std.proofs.Common.{◌≡◌, ℕ, zero, suc, ◌<◌, ◌≤◌, ◌^◌, List, [], length, replicate, refl, ap, sym, subst, ◌∙◌, arith}
+use Rattle.std.proofs.Common.{◌≡◌, ℕ, zero, suc, ◌+◌, ◌<◌, ◌≤◌, ◌^◌, List, [], ◌∷◌, ◌++◌, Vec, add-one, length, replicate, refl, ap, sym, subst, ◌∙◌, arith}
 use Rattle.std.specs.Prelude.{slice_index, slice_index_or}
 use Rattle.std.proofs.Math.Pow.{pow_pos}
-use Rattle.std.proofs.lemmas.List.{length-replicate, get_or-replicate}
+use Rattle.std.proofs.lemmas.List.{length-replicate, get_or-replicate, map-append}
+use Rattle.std.specs.declared.alloc.Global.{Global}
 use Rattle.block_rows.specs.declared.code.Instruction.{Instruction}
 use Rattle.block_rows.specs.Rights.{items_of, HaveRoom}
 use Rattle.block_rows.specs.Code.{AreRows}
@@ -25,3 +26,14 @@ zero_table widths code t slots long e rows room spares = record {
   room = refl;
   spares = subst (λ (n : ℕ). HaveRoom t.spares n) (sym room) spares;
 }
+
+replicate_more : {X : Type 0} (k : ℕ) (x : X) → replicate (suc k) x ≡ replicate k x ++ x ∷ []
+replicate_more zero x = refl
+replicate_more (suc k) x = ap (λ l. x ∷ l) (replicate_more k x)
+
+pub rows_more : (rows : List (Vec ℕ Global)) (v : Vec ℕ Global) (k long : ℕ) → items_of rows ≡ replicate k (replicate long 0) → v.items ≡ replicate long 0 → items_of (rows ++ v ∷ []) ≡ replicate (k + 1) (replicate long 0)
+rows_more rows v k long e f =
+    map-append (λ (w : Vec ℕ Global). w.items) rows (v ∷ [])
+    ∙ ap (λ (l : List (List ℕ)). l ++ v.items ∷ []) e
+    ∙ ap (λ (r : List ℕ). replicate k (replicate long 0) ++ r ∷ []) f
+    ∙ sym (ap (λ n. replicate n (replicate long 0)) (add-one k) ∙ replicate_more k (replicate long 0))

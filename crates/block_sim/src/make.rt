@@ -29,6 +29,7 @@ const MOST_WORDS: usize = 8 * 1024 * 1024;
 const SMALL: usize = PIECE + 1;
 
 // So many rows of zeros.
+#[tactic(auto, using(crate::proofs::Made::rows_more))]
 fn zero_rows(alloc: Global, slots: usize, long: usize) -> Result<Vec<Vec<u64>>, AllocError>
     ensures { IfOk result (λ v. items_of v.items ≡ replicate slots (replicate long 0)) }
 {
