@@ -1,11 +1,10 @@
 -- Checks of rows.
-use Rattle.std.proofs.Common.{◌≡◌, ℕ, suc, ◌+◌, ◌-◌, ◌*◌, ◌<◌, ◌≤◌, Bool, true, false, List, [], ◌∷◌, length, take, drop, refl, ap, sym, subst, ◌∙◌, arith}
+use Rattle.std.proofs.Common.{◌≡◌, ℕ, suc, ◌+◌, ◌*◌, ◌<◌, Bool, true, false, List, [], length, drop, ap, sym, ◌∙◌, arith}
 use Rattle.std.specs.Prelude.{slice_index, slice_index_or, if◌then◌else◌}
 use Rattle.std.proofs.lemmas.List.{get_or-take, get_or-drop}
 use Rattle.wiring.specs.declared.right.Atom.{Atom}
-use Rattle.wiring.specs.Rights.{atom_value}
 use Rattle.wiring.specs.Clock.{bit}
-use Rattle.block_rows.specs.Rights.{value_at, IsAtomRow}
+use Rattle.block_rows.specs.Rights.{IsAtomRow}
 use Rattle.block_code.specs.Rows.{KeepsRegister}
 use Rattle.block_sim.specs.Called.{of_clock}
 use Rattle.block_sim.specs.Checked.{input_of}

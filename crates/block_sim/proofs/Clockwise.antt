@@ -17,7 +17,7 @@ use Rattle.cycle_sim.specs.declared.ports.Out.{Out}
 use Rattle.cycle_sim.specs.declared.edge.IndexRange.{IndexRange}
 use Rattle.cycle_sim.specs.Ports.{din_widths, AreShown}
 use Rattle.block_sim.specs.declared.blocks.Stop.{Stop}
-use Rattle.block_sim.specs.Called.{din_count, output_count, of_clock, clocks_with, block_clocks, AllShown, Came, BlockRan, BlockStops}
+use Rattle.block_sim.specs.Called.{din_count, output_count, of_clock, clocks_with, block_clocks, Came, BlockRan, BlockStops}
 
 -- ---- places
 

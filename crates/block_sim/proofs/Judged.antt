@@ -1,6 +1,6 @@
 -- From rows that are judged right to the run.
-use Rattle.std.proofs.Common.{◌≡◌, ℕ, suc, ◌+◌, ◌*◌, ◌<◌, ◌≤◌, Bool, true, false, List, [], ◌∷◌, length, drop, Vec, refl, ap, sym, subst, ◌∙◌, arith, Some}
-use Rattle.std.specs.Prelude.{All, IsTrue, IsFalse, slice_get, slice_index, slice_index_or, if◌then◌else◌}
+use Rattle.std.proofs.Common.{◌≡◌, ℕ, ◌+◌, ◌<◌, ◌≤◌, Bool, true, false, List, [], length, drop, Vec, refl, ap, sym, subst, ◌∙◌, arith}
+use Rattle.std.specs.Prelude.{All, IsTrue, IsFalse, slice_index, slice_index_or, if◌then◌else◌}
 use Rattle.std.proofs.lemmas.Option.{slice_get_within}
 use Rattle.std.proofs.lemmas.List.{with_items_is}
 use Rattle.std.specs.Vec.{with_items}
@@ -17,17 +17,15 @@ use Rattle.cycle_sim.specs.Ports.{din_widths}
 use Rattle.cycle_sim.specs.Slots.{slot, words_of}
 use Rattle.block_rows.specs.Rights.{value_at, HasRow}
 use Rattle.block_rows.specs.Code.{AreRows, AllHold}
-use Rattle.block_code.specs.declared.code.WordRead.{WordRead}
-use Rattle.block_code.specs.declared.code.WordPut.{WordPut}
 use Rattle.block_code.specs.Code.{IsWithin, ReadIsWithin, PutIsWithin}
 use Rattle.block_code.specs.Rows.{KeepsRegister, KeepsArray, KeepEquations, AreLeft, RowsRan, words_put}
 use Rattle.block_code.proofs.RowsRun.{rows_ran}
 use Rattle.block_code.proofs.Left.{left_fits}
 use Rattle.block_sim.specs.declared.engine.Engine.{Engine}
 use Rattle.block_sim.specs.declared.held.Held.{Held}
-use Rattle.block_sim.specs.Arrays.{HaveAccessRows, AreKept, ArePut}
+use Rattle.block_sim.specs.Arrays.{AreKept, ArePut}
 use Rattle.block_sim.specs.Checked.{AreInputRows, AreRegisterRows}
-use Rattle.block_sim.specs.Called.{din_count, block_clocks, piece_of}
+use Rattle.block_sim.specs.Called.{block_clocks, piece_of}
 use Rattle.block_sim.specs.declared.rows.Rows.{Rows}
 use Rattle.block_sim.specs.Table.{IsTable}
 use Rattle.block_sim.specs.Engine.{IsEngine, IsEngineOf, AreWide, AreRowsOf, IsJudged}
@@ -62,16 +60,16 @@ module _ (m : Netlist) (rules : KeepsRules m) (e : Engine) (is : IsEngineOf m e)
     regs = omega (arith, rows_are, is.code.runnable.next_count);
     nexts = λ k a at. has_row rows (length e.code.widths.items) count (sym are.slots) longer a (All-at (IsWithin (length e.code.widths.items)) e.code.nexts.items k a is.code.runnable.nexts at);
     arrays = λ x r p at there.
-    let read = All-at (ReadIsWithin (length e.code.widths.items)) e.code.reads.items x r is.code.runnable.reads at in
-    let put = All-at (PutIsWithin (length e.code.widths.items)) e.code.puts.items x p is.code.runnable.puts there in
-    let target : r.target < length rows = omega (arith, read.0, are.slots) in
-    record {
-      target = target;
-      long = (let h = longer r.target target in omega (arith, h));
-      read = has_row rows (length e.code.widths.items) count (sym are.slots) longer r.index read.1;
-      index = has_row rows (length e.code.widths.items) count (sym are.slots) longer p.index put.0;
-      value = has_row rows (length e.code.widths.items) count (sym are.slots) longer p.value put.1;
-    };
+        let read = All-at (ReadIsWithin (length e.code.widths.items)) e.code.reads.items x r is.code.runnable.reads at in
+        let put = All-at (PutIsWithin (length e.code.widths.items)) e.code.puts.items x p is.code.runnable.puts there in
+        let target : r.target < length rows = omega (arith, read.0, are.slots) in
+        record {
+          target = target;
+          long = (let h = longer r.target target in omega (arith, h));
+          read = has_row rows (length e.code.widths.items) count (sym are.slots) longer r.index read.1;
+          index = has_row rows (length e.code.widths.items) count (sym are.slots) longer p.index put.0;
+          value = has_row rows (length e.code.widths.items) count (sym are.slots) longer p.value put.1;
+        };
   }
 
   module _ (enables : List Bool) (dins : List ℕ) (first : ℕ) (within : first + count ≤ length enables) (old new : Held) (fits : FitsContents m (contents_in old)) (all : All (λ (c : Clock). Fit (din_widths m) c.dins) (block_clocks m enables dins))

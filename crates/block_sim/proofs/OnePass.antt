@@ -1,12 +1,12 @@
 -- Passes over the rows of an array.
-use Rattle.std.proofs.Common.{◌≡◌, ℕ, ◌<◌, ◌≤◌, List, [], length, take, refl, ap, sym, subst, ◌∙◌, arith}
+use Rattle.std.proofs.Common.{◌≡◌, ℕ, ◌<◌, List, [], length, take, ap, sym, subst, ◌∙◌, arith}
 use Rattle.std.specs.Prelude.{slice_index, slice_index_or}
 use Rattle.std.proofs.lemmas.List.{get_or-take}
-use Rattle.block_rows.specs.Rights.{IsAtomRow, value_at}
+use Rattle.block_rows.specs.Rights.{IsAtomRow}
 use Rattle.block_rows.specs.Rows.{words_after, IsReadUpTo, AreInside}
 use Rattle.block_code.specs.declared.code.WordRead.{WordRead}
 use Rattle.block_code.specs.declared.code.WordPut.{WordPut}
-use Rattle.block_code.specs.Rows.{atom_at, words_put, KeepsArray}
+use Rattle.block_code.specs.Rows.{words_put, KeepsArray}
 use Rattle.block_code.proofs.Arrays.{words_same, array_is_kept}
 use Rattle.block_sim.specs.Arrays.{IsPassed, WasLost, PutsInside}
 

@@ -1,5 +1,5 @@
 -- The clocks of a piece, as rows have them.
-use Rattle.std.proofs.Common.{◌≡◌, ℕ, zero, suc, ◌+◌, ◌-◌, ◌*◌, ◌<◌, ◌≤◌, ◌⊎◌, inl, inr, Bool, true, false, List, [], ◌∷◌, ◌++◌, length, take, drop, refl, sym, subst, ap, ◌∙◌, arith, Some, length-append}
+use Rattle.std.proofs.Common.{◌≡◌, ℕ, zero, suc, ◌+◌, ◌-◌, ◌*◌, ◌<◌, ◌≤◌, ◌⊎◌, inl, inr, Bool, false, List, [], ◌∷◌, ◌++◌, length, take, drop, refl, sym, subst, ap, ◌∙◌, arith, Some, length-append}
 use Rattle.std.specs.Prelude.{All, slice_get, slice_index, slice_index_or, ◌==◌}
 use Rattle.std.proofs.lemmas.Option.{slice_get_within, same_Some, slice_get-get_or}
 use Rattle.std.proofs.lemmas.Slice.{take-put_mid_below, drop-put_mid}
@@ -7,9 +7,9 @@ use Rattle.std.proofs.Math.Nat.{suc-mul}
 use Rattle.std.proofs.lemmas.List.{length-drop, length-take-le}
 use Rattle.std.proofs.lemmas.Bool.{cases_lt}
 use borrow.Rule.Slice.PartMut.{put_mid}
-use Rattle.wiring.specs.Netlist.{Netlist, valid_net, dout_net}
+use Rattle.wiring.specs.Netlist.{Netlist}
 use Rattle.wiring.specs.Snapshot.{Contents, Snapshot, Fit, net_value}
-use Rattle.wiring.specs.Clock.{Clock, given, Steps}
+use Rattle.wiring.specs.Clock.{Clock, given}
 use Rattle.wiring.specs.Runs.{Runs}
 use Rattle.wiring.proofs.Lists.{All-at, All-from_at}
 use Rattle.cycle_sim.specs.declared.ports.Out.{Out}
@@ -19,7 +19,7 @@ use Rattle.block_code.specs.Rows.{RowsRan}
 use Rattle.block_sim.specs.Called.{din_count, output_count, of_clock, block_clocks, Came}
 use Rattle.block_sim.specs.Checked.{input_of, AreInputRows}
 use Rattle.block_sim.specs.Shown.{row_out, AreRowOuts}
-use Rattle.block_sim.proofs.Clockwise.{place_within, drop_more, same_place, put_here, clock_at, clocks_count, take_whole, place_size, half_is}
+use Rattle.block_sim.proofs.Clockwise.{drop_more, same_place, put_here, clock_at, clocks_count, take_whole, place_size, half_is}
 
 -- ---- lists
 

@@ -1,16 +1,16 @@
 -- A table with another row in a slot that is free.
-use Rattle.std.proofs.Common.{◌≡◌, ◌≢◌, ℕ, ◌+◌, ◌^◌, ◌<◌, ◌≤◌, ◌⊎◌, inl, inr, List, [], length, Vec, Some, ap, sym, subst, ◌∙◌, arith}
-use Rattle.std.specs.Prelude.{Contains, slice_get, slice_index, slice_index_or}
+use Rattle.std.proofs.Common.{◌≡◌, ◌≢◌, ℕ, ◌^◌, ◌<◌, ◌≤◌, ◌⊎◌, inl, inr, List, [], length, Vec, ap, sym, subst, ◌∙◌, arith}
+use Rattle.std.specs.Prelude.{Contains, slice_index, slice_index_or}
 use Rattle.std.proofs.lemmas.Option.{slice_get_within}
 use Rattle.std.proofs.lemmas.List.{length-map}
 use Rattle.std.specs.declared.alloc.Global.{Global}
 use Rattle.block_rows.specs.declared.rights.Spares.{Spares}
 use Rattle.std.proofs.lemmas.Bool.{cases_order}
-use Rattle.wiring.specs.Rights.{nets_of, right_value}
+use Rattle.wiring.specs.Rights.{nets_of}
 use Rattle.wiring.proofs.Local.{right_local}
 use Rattle.block_rows.specs.declared.code.Instruction.{Instruction}
 use Rattle.block_rows.specs.Rights.{items_of, value_at, HaveRoom}
-use Rattle.block_rows.specs.Code.{AreRows, HoldsAt, AllHold}
+use Rattle.block_rows.specs.Code.{AreRows, AllHold}
 use Rattle.block_sim.specs.declared.table.Table.{Table}
 use Rattle.block_sim.specs.Table.{AreFirstUses, IsTable, IsRefilled}
 

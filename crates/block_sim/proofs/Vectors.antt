@@ -36,7 +36,7 @@ module _ (vs : List (Vec ℕ Global)) (k : ℕ) (new d : Vec ℕ Global) (l : k 
       at_x : (x ≡ k) ⊎ ((x < k) ⊎ (k < x)) → count ≤ length (slice_index_or (items_of (slice_set vs k new)) x [])
       at_x (inl e) =
           let long' : length (slice_index_or (items_of (slice_set vs k new)) x []) ≡ length (slice_index_or (items_of vs) k []) =
-              ap (λ n. length (slice_index_or (items_of (slice_set vs k new)) n [])) e ∙ ap (λ (ws : List ℕ). length ws) (row_here vs k new l) ∙ same ∙ ap (λ (ws : List ℕ). length ws) (vec_at vs k d l) in
+          ap (λ n. length (slice_index_or (items_of (slice_set vs k new)) n [])) e ∙ ap (λ (ws : List ℕ). length ws) (row_here vs k new l) ∙ same ∙ ap (λ (ws : List ℕ). length ws) (vec_at vs k d l) in
           omega (arith, long', long k (omega (arith, l, length-items vs)))
       at_x (inr h) =
           let long' : length (slice_index_or (items_of (slice_set vs k new)) x []) ≡ length (slice_index_or (items_of vs) x []) = ap (λ (ws : List ℕ). length ws) (row_other vs k x new (apart_of x h)) in

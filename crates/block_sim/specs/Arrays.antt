@@ -1,6 +1,6 @@
 -- The arrays over the clocks of a block.
 use Rattle.std.specs.Prelude.{◌≡◌, ℕ, ◌<◌, ◌≤◌, List, [], length, slice_index, slice_index_or, slice_get, Some}
-use Rattle.block_rows.specs.Rights.{value_at, HasRow}
+use Rattle.block_rows.specs.Rights.{HasRow}
 use Rattle.block_rows.specs.Rows.{words_after, IsReadUpTo, AreInside}
 use Rattle.block_code.specs.declared.code.WordRead.{WordRead}
 use Rattle.block_sim.specs.declared.arrays.ArrayRoom.{ArrayRoom}

@@ -1,8 +1,8 @@
 -- What rows have to show before they count as a run.
-use Rattle.std.specs.Prelude.{◌≡◌, ℕ, ◌+◌, ◌*◌, ◌<◌, Bool, false, List, [], length, take, drop, slice_index, slice_index_or, slice_get, Some}
+use Rattle.std.specs.Prelude.{◌≡◌, ℕ, ◌+◌, ◌<◌, Bool, false, List, [], slice_index, slice_index_or, slice_get, Some}
 use Rattle.wiring.specs.declared.right.Atom.{Atom}
 use Rattle.cycle_sim.specs.OneClock.{port_values}
-use Rattle.block_rows.specs.Rights.{value_at, HasRow}
+use Rattle.block_rows.specs.Rights.{HasRow}
 use Rattle.block_code.specs.Rows.{KeepsRegister}
 use Rattle.block_sim.specs.Called.{of_clock}
 

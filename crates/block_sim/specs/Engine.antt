@@ -9,7 +9,7 @@ use Rattle.block_code.specs.Code.{IsBlockCode}
 use Rattle.block_sim.specs.declared.engine.Engine.{Engine}
 use Rattle.block_sim.specs.Called.{din_count}
 use Rattle.cycle_sim.specs.Slots.{words_of}
-use Rattle.block_rows.specs.Rights.{items_of, value_at}
+use Rattle.block_rows.specs.Rights.{value_at}
 use Rattle.block_sim.specs.declared.held.Held.{Held}
 use Rattle.block_sim.specs.declared.rows.Rows.{Rows}
 use Rattle.block_sim.specs.Arrays.{AreAccessRows, ArePut, AreKept}

@@ -116,14 +116,7 @@ pub fn propose_small(
 )
     ensures { IsRefilled table.old table.new }
 {
-    fill_small(
-        &mut table.room,
-        &table.rows,
-        read,
-        index,
-        value,
-        words,
-    );
+    fill_small(&mut table.room, &table.rows, read, index, value, words);
 }
 
 // What an input is given in so many clocks from this one on, and then zeros.

@@ -91,9 +91,7 @@ pub fn judge(
     ensures regs_back { IsFalse result → regs.new ≡ regs.old }
     ensures arrays_back { IsFalse result → words_of arrays.new ≡ words_of arrays.old }
 {
-    if !are_right(
-        engine, rows, to, regs, enables, dins, first, count,
-    ) {
+    if !are_right(engine, rows, to, regs, enables, dins, first, count) {
         return false;
     }
     if !pass_arrays(

@@ -77,16 +77,7 @@ fn step_piece(
     if by_rows(sim, rows, held, enables, dins, outs, first, count) {
         return Ok(());
     }
-    each_held(
-        sim,
-        held,
-        ports,
-        enables,
-        dins,
-        outs,
-        first,
-        first + count,
-    )
+    each_held(sim, held, ports, enables, dins, outs, first, first + count)
 }
 
 // The most clocks of a piece.

@@ -206,14 +206,7 @@ fn guess_all(
     ensures table { IsTable engine.now.code.widths.items engine.now.code.instructions.items (length table.old.room.items) table.new done }
 {
     for place in first..last.min(engine.plan.looped.len()) {
-        if !guess_one(
-            engine,
-            table,
-            held,
-            hints,
-            done,
-            engine.plan.looped[place],
-        ) {
+        if !guess_one(engine, table, held, hints, done, engine.plan.looped[place]) {
             return false;
         }
     }
@@ -297,14 +290,7 @@ fn mend_all(
     ensures table { IsTable engine.now.code.widths.items engine.now.code.instructions.items (length table.old.room.items) table.new done }
 {
     for place in first..last.min(engine.plan.looped.len()) {
-        if !mend_one(
-            engine,
-            table,
-            hints,
-            done,
-            engine.plan.looped[place],
-            wrong,
-        ) {
+        if !mend_one(engine, table, hints, done, engine.plan.looped[place], wrong) {
             return false;
         }
     }
@@ -415,7 +401,15 @@ pub fn take_steps(
 {
     let mut done = 0;
     for k in 0..engine.plan.steps.len() {
-        match take_step(engine, table, held, hints, done, engine.plan.steps[k], count) {
+        match take_step(
+            engine,
+            table,
+            held,
+            hints,
+            done,
+            engine.plan.steps[k],
+            count,
+        ) {
             None => return false,
             Some(now) => done = now,
         }

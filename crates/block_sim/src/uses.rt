@@ -36,13 +36,7 @@ fn note_two(uses: &mut [usize], a: &Atom<usize>, b: &Atom<usize>, number: usize)
     note_atom(uses, b, number);
 }
 
-fn note_three(
-    uses: &mut [usize],
-    a: &Atom<usize>,
-    b: &Atom<usize>,
-    c: &Atom<usize>,
-    number: usize,
-)
+fn note_three(uses: &mut [usize], a: &Atom<usize>, b: &Atom<usize>, c: &Atom<usize>, number: usize)
     ensures last { LastNo uses.old uses.new }
     ensures first { AtomUsed uses.new number a.now }
     ensures second { AtomUsed uses.new number b.now }

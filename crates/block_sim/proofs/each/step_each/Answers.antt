@@ -5,8 +5,8 @@ use Rattle.wiring.specs.Clock.{given, Steps, Stops}
 use Rattle.cycle_sim.specs.Ports.{AreShown}
 use Rattle.cycle_sim.specs.Simulated.{Machine}
 use borrow.Rule.Slice.PartMut.{put_mid}
-use Rattle.block_sim.specs.Called.{din_count, block_clocks, BlockStops}
-use Rattle.block_sim.proofs.Clockwise.{code_ports, code_size, came_none, came_on, came_all, stops_here, code_clock, code_fits, code_outs, code_room, clocks_count, half_is}
+use Rattle.block_sim.specs.Called.{block_clocks, BlockStops}
+use Rattle.block_sim.proofs.Clockwise.{code_ports, code_size, came_on, stops_here, code_clock, code_fits, code_outs, code_room, half_is}
 use Rattle.block_sim.proofs.each.step_each.Goals as goal
 
 inside : {k last n : ℕ} → k < last → last ≤ n → k < n

@@ -1,4 +1,4 @@
-use Rattle.std.proofs.Common.{◌≡◌, ◌≤◌, List, length}
+use Rattle.std.proofs.Common.{◌≡◌, List}
 use Rattle.wiring.specs.Snapshot.{Contents}
 use Rattle.cycle_sim.specs.declared.ports.Out.{Out}
 use Rattle.block_sim.specs.Called.{block_clocks, Came}

@@ -1,4 +1,4 @@
-use Rattle.std.proofs.Common.{◌≡◌, ◌∙◌, ap, List, ℕ, map, length, replicate}
+use Rattle.std.proofs.Common.{◌∙◌, ap, List, ℕ, map, length, replicate}
 use Rattle.wiring.specs.declared.netlist.Shape.{Shape}
 use Rattle.wiring.specs.Netlist.{netlist_of}
 use Rattle.cycle_sim.specs.Slots.{words_of}

@@ -1,4 +1,3 @@
-use Rattle.std.proofs.Common.{◌≡◌, length}
 use Rattle.cycle_sim.specs.Slots.{words_of}
 use Rattle.block_rows.specs.Rights.{items_of}
 use Rattle.block_sim.specs.Arrays.{IsArrayRoom, HaveLong, ArePut, AreLost, AreKept}

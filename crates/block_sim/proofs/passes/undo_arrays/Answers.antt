@@ -3,7 +3,6 @@ use Rattle.std.specs.Prelude.{slice_get, slice_index_or}
 use Rattle.std.proofs.lemmas.Option.{slice_get_read}
 use Rattle.cycle_sim.specs.Slots.{words_of}
 use Rattle.block_rows.specs.Rights.{items_of}
-use Rattle.block_code.specs.declared.code.WordPut.{WordPut}
 use Rattle.block_sim.specs.Arrays.{PutsInside, ArePut, AreInsideAll}
 use Rattle.block_sim.proofs.Vectors.{vec_get, length-items}
 use Rattle.block_sim.proofs.AllPasses.{put_back, all_back, length-put}
@@ -41,14 +40,14 @@ loop-back-preserved c =
       room = c.undo_at.ensures.room;
       inside = λ x q l there. subst (λ (ws : List ℕ). PutsInside rows q count (length ws)) (sym (c.undo_at.ensures.others x (λ e. omega (arith, e, l, less)))) (c.loop-back.invariant.inside x q (omega (arith, l, less, more)) there);
       back = λ before put lost.
-      let h : ArePut rows puts count before now (k + 1) = subst (λ (n : ℕ). ArePut rows puts count before now n) more (c.loop-back.invariant.back before put lost) in
-      let is = h.put k p (omega arith) at in
-      let same : length (slice_index_or now k []) ≡ length (slice_index_or before k []) = ap (λ (ws : List ℕ). length ws) is ∙ length-put rows [] puts count p (slice_index_or before k []) count in
-      let there : k < length c.args.lost.now = omega (arith, c.loop-back-test.true, c.requires.lost) in
-      let at_lost = slice_get_read c.args.lost.now (length c.args.lost.now) k c.index-lost-array.result refl there c.index-lost-array.is in
-      let was = subst (λ (ws : List ℕ). Rattle.block_sim.specs.Arrays.WasLost rows p (slice_index_or before k []) ws count) (vec_get c.args.lost.now k c.index-lost-array.result at_lost ∙ sym c.deref.ensures.value) (lost k p (omega (arith, c.loop-back-test.true)) at).1 in
-      subst (λ (n : ℕ). ArePut rows puts count before new n) less
-      (put_back rows [] puts count before now new k h size (c.undo_at.ensures.back (slice_index_or before k []) is same was) c.undo_at.ensures.others);
+          let h : ArePut rows puts count before now (k + 1) = subst (λ (n : ℕ). ArePut rows puts count before now n) more (c.loop-back.invariant.back before put lost) in
+          let is = h.put k p (omega arith) at in
+          let same : length (slice_index_or now k []) ≡ length (slice_index_or before k []) = ap (λ (ws : List ℕ). length ws) is ∙ length-put rows [] puts count p (slice_index_or before k []) count in
+          let there : k < length c.args.lost.now = omega (arith, c.loop-back-test.true, c.requires.lost) in
+          let at_lost = slice_get_read c.args.lost.now (length c.args.lost.now) k c.index-lost-array.result refl there c.index-lost-array.is in
+          let was = subst (λ (ws : List ℕ). Rattle.block_sim.specs.Arrays.WasLost rows p (slice_index_or before k []) ws count) (vec_get c.args.lost.now k c.index-lost-array.result at_lost ∙ sym c.deref.ensures.value) (lost k p (omega (arith, c.loop-back-test.true)) at).1 in
+          subst (λ (n : ℕ). ArePut rows puts count before new n) less
+          (put_back rows [] puts count before now new k h size (c.undo_at.ensures.back (slice_index_or before k []) is same was) c.undo_at.ensures.others);
     }
 
 pub returns-clause-back : goal.returns-clause-back

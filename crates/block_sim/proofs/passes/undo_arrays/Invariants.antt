@@ -1,4 +1,4 @@
-use Rattle.std.proofs.Common.{◌≡◌, ℕ, ◌-◌, List, length}
+use Rattle.std.proofs.Common.{ℕ, ◌-◌, List}
 use Rattle.cycle_sim.specs.Slots.{words_of}
 use Rattle.block_rows.specs.Rights.{items_of}
 use Rattle.block_sim.specs.Arrays.{IsArrayRoom, ArePut, AreInsideAll, AreLost}

@@ -1,4 +1,4 @@
-use Rattle.std.proofs.Common.{◌≡◌, ◌∙◌, ℕ, List, length, ap}
+use Rattle.std.proofs.Common.{◌∙◌, ℕ, List, length, ap}
 use Rattle.block_rows.proofs.Running.{row_here, row_other}
 use Rattle.block_sim.proofs.Vectors.{vec_at}
 use Rattle.block_sim.proofs.passes.undo_at.Goals as goal

@@ -1,4 +1,4 @@
-use Rattle.std.proofs.Common.{◌≡◌, ◌≤◌, ℕ, ◌+◌, ◌<◌, length, Some}
+use Rattle.std.proofs.Common.{◌≡◌, ℕ, ◌+◌, ◌<◌, Some}
 use Rattle.std.specs.Prelude.{slice_get, slice_index}
 use Rattle.wiring.specs.declared.right.Atom.{Atom}
 use Rattle.block_rows.specs.Rights.{items_of}

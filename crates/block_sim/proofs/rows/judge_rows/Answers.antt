@@ -1,4 +1,4 @@
-use Rattle.std.proofs.Common.{◌<◌, length, arith, sym, subst}
+use Rattle.std.proofs.Common.{length, arith, sym, subst}
 use Rattle.wiring.specs.Snapshot.{Contents, FitsContents}
 use Rattle.block_rows.specs.Rights.{items_of}
 use Rattle.block_sim.specs.Held.{contents_in}

@@ -1,11 +1,8 @@
 use Rattle.std.proofs.Common.{◌≡◌, ◌∙◌, ℕ, ◌+◌, ◌-◌, ◌*◌, ◌<◌, ◌≤◌, List, length, ap, sym, subst, arith}
-use borrow.Rule.Slice.PartMut.{put_mid}
-use Rattle.cycle_sim.specs.declared.ports.Out.{Out}
 use Rattle.block_rows.specs.Rights.{items_of}
-use Rattle.block_sim.specs.Called.{block_clocks, of_clock, Came}
+use Rattle.block_sim.specs.Called.{block_clocks, of_clock}
 use Rattle.block_sim.specs.Held.{contents_in}
 use Rattle.block_sim.specs.Shown.{AreRowOuts}
-use Rattle.block_sim.proofs.Clockwise.{half_is}
 use Rattle.block_sim.proofs.Rowwise.{piece_long, piece_shown}
 use Rattle.block_sim.proofs.rows.rows_block.Goals as goal
 

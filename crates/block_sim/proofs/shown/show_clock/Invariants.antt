@@ -1,4 +1,4 @@
-use Rattle.std.proofs.Common.{◌≡◌, ℕ, ◌<◌, length, Some}
+use Rattle.std.proofs.Common.{◌≡◌, ℕ, ◌<◌, Some}
 use Rattle.std.specs.Prelude.{slice_get}
 use Rattle.block_rows.specs.Rights.{items_of}
 use Rattle.block_sim.specs.Shown.{row_out}

@@ -1,4 +1,4 @@
-use Rattle.std.proofs.Common.{◌≡◌, ◌∙◌, ◌+◌, ◌*◌, ◌<◌, ◌≤◌, ℕ, length, subst, arith}
+use Rattle.std.proofs.Common.{◌∙◌, ℕ, length, subst}
 use Rattle.block_rows.specs.Rights.{items_of}
 use Rattle.block_sim.specs.Shown.{AreRowOuts}
 use Rattle.block_sim.proofs.Clockwise.{place_inside, code_size}

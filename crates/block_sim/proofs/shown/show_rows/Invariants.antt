@@ -1,4 +1,4 @@
-use Rattle.std.proofs.Common.{◌≡◌, ℕ, ◌<◌, length}
+use Rattle.std.proofs.Common.{ℕ, ◌<◌}
 use Rattle.block_rows.specs.Rights.{items_of}
 use Rattle.block_sim.specs.Called.{of_clock}
 use Rattle.block_sim.specs.Shown.{AreRowOuts}

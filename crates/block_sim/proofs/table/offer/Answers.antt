@@ -1,4 +1,4 @@
-use Rattle.std.proofs.Common.{◌≡◌, ◌<◌, length, arith}
+use Rattle.std.proofs.Common.{◌<◌, length, arith}
 use Rattle.block_sim.proofs.Tables.{table_free}
 use Rattle.block_sim.proofs.table.offer.Goals as goal
 
