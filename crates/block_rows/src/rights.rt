@@ -12,7 +12,7 @@ use std::alloc::{AllocError, Global};
 use wiring::{Atom, Operator, Right, Width, limit};
 
 /// Room for the rows of the constants of a right side.
-#[derive(Drop)]
+#[derive(Debug, Drop)]
 pub struct Spares {
     pub(crate) first: Vec<u64>,
     pub(crate) second: Vec<u64>,

@@ -17,7 +17,7 @@ use Rattle.cycle_sim.specs.declared.ports.Out.{Out}
 use Rattle.cycle_sim.specs.declared.edge.IndexRange.{IndexRange}
 use Rattle.cycle_sim.specs.Ports.{din_widths, AreShown}
 use Rattle.block_sim.specs.declared.blocks.Stop.{Stop}
-use Rattle.block_sim.specs.Called.{din_count, output_count, of_clock, clocks_with, block_clocks, AllShown, BlockRan, BlockStops}
+use Rattle.block_sim.specs.Called.{din_count, output_count, of_clock, clocks_with, block_clocks, Came, BlockRan, BlockStops}
 
 -- ---- places
 
@@ -44,7 +44,7 @@ place_size k size = let next : (k + 1) * size ≡ k * size + size = next_place k
 pub half_is : (n half : ℕ) → n ≡ 2 * half → half ≡ n / 2
 half_is n half e = omega (arith, e)
 
-drop_more : {X : Type 0} (j k : ℕ) (xs : List X) → drop (j + k) xs ≡ drop k (drop j xs)
+pub drop_more : {X : Type 0} (j k : ℕ) (xs : List X) → drop (j + k) xs ≡ drop k (drop j xs)
 drop_more zero k xs = let z : 0 + k ≡ k = omega arith in ap (λ n. drop n xs) z
 drop_more (suc j) k [] = drop-nil (suc j + k) ∙ sym (drop-nil k)
 drop_more (suc j) k (x ∷ xs) = let z : suc j + k ≡ suc (j + k) = omega arith in ap (λ n. drop n (x ∷ xs)) z ∙ drop_more j k xs
@@ -56,13 +56,13 @@ take_less (suc j) (suc k) [] l = refl
 take_less (suc j) (suc k) (x ∷ xs) l = ap (λ t. x ∷ t) (take_less j k xs (omega (arith, l)))
 
 -- lists that are the same at first have the same in the places there
-same_place : {X : Type 0} (size j k : ℕ) (xs ys : List X) → j < k → take (k * size) xs ≡ take (k * size) ys → of_clock size j xs ≡ of_clock size j ys
+pub same_place : {X : Type 0} (size j k : ℕ) (xs ys : List X) → j < k → take (k * size) xs ≡ take (k * size) ys → of_clock size j xs ≡ of_clock size j ys
 same_place size j k xs ys l e =
     let h : j * size + size ≤ k * size = place_within j k size l in
     sym (drop-take (j * size) size xs) ∙ ap (λ t. drop (j * size) t) (sym (take_less (j * size + size) (k * size) xs h) ∙ ap (λ t. take (j * size + size) t) e ∙ take_less (j * size + size) (k * size) ys h) ∙ drop-take (j * size) size ys
 
 -- what was put into a place is there
-put_here : {X : Type 0} (a size : ℕ) (xs ys : List X) → a + size ≤ length xs → length ys ≡ size → take size (drop a (put_mid a size xs ys)) ≡ ys
+pub put_here : {X : Type 0} (a size : ℕ) (xs ys : List X) → a + size ≤ length xs → length ys ≡ size → take size (drop a (put_mid a size xs ys)) ≡ ys
 put_here a size xs ys room is =
     let front : length (take a xs) ≡ a = length-take-le a xs (omega (arith, room)) in
     sym (drop-take a size (put_mid a size xs ys)) ∙ ap (λ l. drop a l) (take-put_mid a size xs ys (a + size) (omega (arith, is)) (omega (arith, room)))
@@ -126,14 +126,6 @@ module _ (m : Netlist) where
 
 -- ---- a block so far
 
--- so many of the clocks took place, and the later outputs are as they were
-pub record Came (m : Netlist) (clocks : List Clock) (from to : Contents) (old outs : List Out) (k : ℕ) : Type 0 where
-  pub shots : List Snapshot
-  pub count : length shots ≡ k
-  pub run : Runs m from (take k clocks) shots to
-  pub shown : AllShown m shots outs
-  pub later : drop (k * output_count m) outs ≡ drop (k * output_count m) old
-
 pub came_none : (m : Netlist) (clocks : List Clock) (from : Contents) (outs : List Out) → Came m clocks from from outs outs 0
 came_none m clocks from outs = record { shots = []; count = refl; run = refl; shown = λ k s at. absurd (omega (arith, slice_get_within [] k s at)); later = refl }
 
@@ -176,7 +168,7 @@ module _ (m : Netlist) (clocks : List Clock) (from mid : Contents) (old outs : L
         later = came.later;
       })
 
-take_whole : {X : Type 0} (xs : List X) (n : ℕ) → length xs ≤ n → take n xs ≡ xs
+pub take_whole : {X : Type 0} (xs : List X) (n : ℕ) → length xs ≤ n → take n xs ≡ xs
 take_whole [] zero l = refl
 take_whole [] (suc n) l = refl
 take_whole (x ∷ xs) zero l = absurd (omega (arith, l))
@@ -228,3 +220,21 @@ stop_only apart one m clocks from to old outs v n places (Err e) ok err shots x 
     ap (λ (k : ℕ). let r : Result (Unit {0}) Stop = Err (record { done = k; range = e.range }) in r) done
     ∙ ap (λ (k : ℕ). let r : Result (Unit {0}) Stop = Err (record { done = length shots; range = record { array = k; index = e.range.index } }) in r) same.1
     ∙ ap (λ (k : ℕ). let r : Result (Unit {0}) Stop = Err (record { done = length shots; range = record { array = x; index = k } }) in r) same.2
+
+-- the last clocks of a block, behind those that came before
+pub came_ok : (m n : Netlist) → n ≡ m → (enables : List Bool) (dins : List ℕ) (from mid to : Contents) (old outs new : List Out) (k : ℕ) → (r : Result (Unit {0}) Stop) →
+    OnOk r ((f : Contents) (o : List Out) → Came n (block_clocks n enables dins) f mid o outs k → Came n (block_clocks n enables dins) f to o new (length enables)) →
+    Came m (block_clocks m enables dins) from mid old outs k → OnOk r (BlockRan m (block_clocks m enables dins) from to new)
+came_ok m n same enables dins from mid to old outs new k (Ok u) on came =
+    subst (λ (x : Netlist). BlockRan x (block_clocks x enables dins) from to new) same
+    (came_all n (block_clocks n enables dins) from to old new (length enables) (omega (arith, clocks_count (din_count n) enables dins))
+    (on from old (subst (λ (x : Netlist). Came x (block_clocks x enables dins) from mid old outs k) (sym same) came)))
+came_ok m n same enables dins from mid to old outs new k (Err e) on came = tt
+
+pub came_rest : (m n : Netlist) → n ≡ m → (enables : List Bool) (dins : List ℕ) (from mid to : Contents) (old outs new : List Out) (k : ℕ) → k ≤ length enables → (r : Result (Unit {0}) Stop) →
+    OnOk r ((f : Contents) (o : List Out) → Came n (block_clocks n enables dins) f mid o outs k → Came n (block_clocks n enables dins) f to o new (k + (length enables - k))) →
+    Came m (block_clocks m enables dins) from mid old outs k → OnOk r (BlockRan m (block_clocks m enables dins) from to new)
+came_rest m n same enables dins from mid to old outs new k l (Ok u) on came =
+    let e : k + (length enables - k) ≡ length enables = omega (arith, l) in
+    came_ok m n same enables dins from mid to old outs new k (Ok u) (λ f o h. subst (λ (j : ℕ). Came n (block_clocks n enables dins) f to o new j) e (on f o h)) came
+came_rest m n same enables dins from mid to old outs new k l (Err e) on came = tt

@@ -1,3 +1,11 @@
-pub mod BlockRuns
+pub mod AllPasses
+pub mod Checks
 pub mod Clockwise
-pub mod StreamRuns
+pub mod Fitting
+pub mod FirstUses
+pub mod Judged
+pub mod Made
+pub mod OnePass
+pub mod Rowwise
+pub mod Tables
+pub mod Vectors

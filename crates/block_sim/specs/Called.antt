@@ -27,9 +27,21 @@ clocks_with count (enable ∷ enables) dins = record { reset = false; enable = e
 abbrev pub block_clocks : Netlist → List Bool → List ℕ → List Clock
 block_clocks m enables dins = clocks_with (din_count m) enables dins
 
+-- so many clocks of a block, from one on
+abbrev pub piece_of : Netlist → List Bool → List ℕ → ℕ → ℕ → List Clock
+piece_of m enables dins first count = take count (drop first (block_clocks m enables dins))
+
 -- the outputs of each of these clocks are in its place
 abbrev pub AllShown : Netlist → List Snapshot → List Out → Type 0
 AllShown m shots outs = (k : ℕ) (s : Snapshot) → slice_get shots k ≡ Some s → AreShown s (of_clock (output_count m) k outs)
+
+-- so many of the clocks took place, and the later outputs are as they were
+pub record Came (m : Netlist) (clocks : List Clock) (from to : Contents) (old outs : List Out) (k : ℕ) : Type 0 where
+  pub shots : List Snapshot
+  pub count : length shots ≡ k
+  pub run : Runs m from (take k clocks) shots to
+  pub shown : AllShown m shots outs
+  pub later : drop (k * output_count m) outs ≡ drop (k * output_count m) old
 
 -- all clocks took place
 pub record BlockRan (m : Netlist) (clocks : List Clock) (from to : Contents) (outs : List Out) : Type 0 where

@@ -1,3 +1,7 @@
-pub mod Block
+pub mod Arrays
 pub mod Called
-pub mod Streams
+pub mod Checked
+pub mod Engine
+pub mod Held
+pub mod Shown
+pub mod Table

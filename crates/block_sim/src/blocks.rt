@@ -11,7 +11,10 @@ ghost use Rattle.cycle_sim.specs.Filled.{filled_contents};
 ghost use Rattle.cycle_sim.specs.Simulated.{GoesOn, StopsIn, clock};
 ghost use Rattle.block_sim.specs.Called.{din_count, output_count, block_clocks, BlockRan, BlockStops};
 
-use crate::each::step_each;
+use crate::held::{Held, step_held, zeros};
+use crate::make::rows_of;
+use crate::pieces::step_pieces;
+use crate::rows::Rows;
 use cycle_sim::{Fill, IndexRange, Out, Sim};
 use dk_base::Memory;
 use netlist::{Module, Wiring, one_run};
@@ -21,20 +24,23 @@ use std::marker::Model;
 /// A netlist with what its registers and arrays hold, clocked many clocks at a time.
 #[derive(Debug, Drop)]
 pub struct Blocks {
+    // what it holds means nothing between the calls
     sim: Sim,
+    held: Held,
     dins: usize,
+    rows: Option<Rows>,
 }
 
 impl Model for Blocks {
-    ghost use Rattle.std.specs.Prelude.{◌≡◌};
     ghost use Rattle.cycle_sim.specs.Simulated.{Machine};
-    ghost use Rattle.block_sim.specs.Called.{din_count};
+    ghost use Rattle.block_sim.specs.Held.{contents_in};
+    ghost use Rattle.block_sim.specs.Engine.{AreBlocks};
 
     ghost Value = { Machine };
 
-    ghost view = { λ b. b.sim };
+    ghost view = { λ b. record { netlist = b.sim.netlist; contents = contents_in b.held } };
 
-    ghost invariant = { λ b. b.dins ≡ din_count b.sim.netlist };
+    ghost invariant = { λ b. AreBlocks b.sim.netlist b.held b.dins b.rows };
 }
 
 /// Where a block stops: so many clocks took place, and in the next one this index is outside its array.
@@ -68,8 +74,17 @@ impl Blocks {
         ensures contents { IfOk result (λ b. b.contents ≡ filled_contents fill «module».now.netlist) }
     {
         let dins = dins_of(module);
-        let sim = Sim::new(alloc, module, fill)?;
-        let blocks = Blocks { sim, dins };
+        let rows = rows_of(alloc, module, dins)?;
+        let mut held = zeros(alloc, module.wiring())?;
+        let mut sim = Sim::new(alloc, module, fill)?;
+        sim.law();
+        sim.exchange(&mut held.regs, &mut held.arrays);
+        let blocks = Blocks {
+            sim,
+            held,
+            dins,
+            rows,
+        };
         Ok(blocks)
     }
 
@@ -107,7 +122,7 @@ impl Blocks {
         ensures err { OnErr result (self.new ≡ self.old) }
         ensures outs { OnErr result (outs.new ≡ outs.old) }
     {
-        self.sim.step_all(reset, enable, dins, outs)
+        step_held(&mut self.sim, &mut self.held, reset, enable, dins, outs)
     }
 
     /// As many clocks as `enables` has, none of them a reset. The dins of each clock, in their order and each fitting its port,
@@ -130,6 +145,14 @@ impl Blocks {
     {
         self.sim.law();
         one_run();
-        step_each(&mut self.sim, self.dins, enables, dins, outs)
+        step_pieces(
+            &mut self.sim,
+            &mut self.rows,
+            &mut self.held,
+            self.dins,
+            enables,
+            dins,
+            outs,
+        )
     }
 }

@@ -1,0 +1,66 @@
+-- The arrays over the clocks of a block.
+use Rattle.std.specs.Prelude.{◌≡◌, ℕ, ◌<◌, ◌≤◌, List, [], length, slice_index, slice_index_or, slice_get, Some}
+use Rattle.block_rows.specs.Rights.{HasRow}
+use Rattle.block_rows.specs.Rows.{words_after, IsReadUpTo, AreInside}
+use Rattle.block_code.specs.declared.code.WordRead.{WordRead}
+use Rattle.block_sim.specs.declared.arrays.ArrayRoom.{ArrayRoom}
+use Rattle.block_code.specs.declared.code.WordPut.{WordPut}
+use Rattle.block_code.specs.Rows.{atom_at, words_put, KeepsArray}
+
+-- an array was read and written over so many clocks, and what was read is the target's row
+pub record IsPassed (old new lost read index value target : List ℕ) (count : ℕ) : Type 0 where
+  pub reads : AreInside count read (length old)
+  pub writes : AreInside count index (length old)
+  pub to : List ℕ
+  pub row : IsReadUpTo count old to read index value
+  pub same : (t : ℕ) → t < count → slice_index target t ≡ slice_index to t
+  pub words : new ≡ words_after old index value count
+  pub lost_row : IsReadUpTo count old lost index index value
+
+-- each put of so many clocks is inside
+abbrev pub PutsInside : List (List ℕ) → WordPut → ℕ → ℕ → Type 0
+PutsInside rows p count depth = (t : ℕ) → t < count → atom_at rows t p.index < depth
+
+-- what each put took away
+abbrev pub WasLost : List (List ℕ) → WordPut → List ℕ → List ℕ → ℕ → Type 0
+WasLost rows p words lost count = (t : ℕ) → t < count → slice_index lost t ≡ slice_index (words_put rows p words t) (atom_at rows t p.index)
+
+-- the rows of an array's indexes, value and target have so many clocks
+pub record HaveAccessRows (rows : List (List ℕ)) (count : ℕ) (r : WordRead) (p : WordPut) : Type 0 where
+  pub target : r.target < length rows
+  pub long : count ≤ length (slice_index_or rows r.target [])
+  pub read : HasRow rows count r.index
+  pub index : HasRow rows count p.index
+  pub value : HasRow rows count p.value
+
+-- the first so many arrays hold their words behind the block, and the others those before it
+pub record ArePut (rows : List (List ℕ)) (puts : List WordPut) (count : ℕ) (before now : List (List ℕ)) (done : ℕ) : Type 0 where
+  pub same : length now ≡ length before
+  pub put : (x : ℕ) (p : WordPut) → x < done → slice_get puts x ≡ Some p → slice_index_or now x [] ≡ words_put rows p (slice_index_or before x []) count
+  pub left : (x : ℕ) → done ≤ x → slice_index_or now x [] ≡ slice_index_or before x []
+
+-- what each put of the first so many arrays took away is kept
+abbrev pub AreLost : List (List ℕ) → List WordPut → ℕ → List (List ℕ) → List (List ℕ) → ℕ → Type 0
+AreLost rows puts count before lost done = (x : ℕ) (p : WordPut) → x < done → slice_get puts x ≡ Some p → PutsInside rows p count (length (slice_index_or before x [])) × WasLost rows p (slice_index_or before x []) (slice_index_or lost x []) count
+
+-- the equations of the first so many arrays are kept
+abbrev pub AreKept : List (List ℕ) → List WordRead → List WordPut → ℕ → List (List ℕ) → ℕ → Type 0
+AreKept rows reads puts count before done = (x : ℕ) (r : WordRead) (p : WordPut) → x < done → slice_get reads x ≡ Some r → slice_get puts x ≡ Some p → KeepsArray rows count (slice_index_or before x []) r p
+
+-- room for so many clocks
+pub record IsArrayRoom (r : ArrayRoom) (count : ℕ) : Type 0 where
+  pub read : count ≤ length r.read.items
+  pub index : count ≤ length r.index.items
+  pub value : count ≤ length r.value.items
+
+-- the rows of all arrays' indexes, values and targets have so many clocks
+abbrev pub AreAccessRows : List (List ℕ) → ℕ → List WordRead → List WordPut → Type 0
+AreAccessRows rows count reads puts = (x : ℕ) (r : WordRead) (p : WordPut) → slice_get reads x ≡ Some r → slice_get puts x ≡ Some p → HaveAccessRows rows count r p
+
+-- each of so many lists has room for so many clocks
+abbrev pub HaveLong : List (List ℕ) → ℕ → Type 0
+HaveLong lists count = (x : ℕ) → x < length lists → count ≤ length (slice_index_or lists x [])
+
+-- the puts of the first so many arrays are inside
+abbrev pub AreInsideAll : List (List ℕ) → List WordPut → ℕ → List (List ℕ) → ℕ → Type 0
+AreInsideAll rows puts count arrays done = (x : ℕ) (p : WordPut) → x < done → slice_get puts x ≡ Some p → PutsInside rows p count (length (slice_index_or arrays x []))

@@ -1,0 +1,61 @@
+-- What is known of a module that is clocked over rows.
+use Rattle.std.specs.Prelude.{◌≡◌, ℕ, ◌+◌, ◌<◌, ◌≤◌, Bool, Option, IfSome, List, [], length, slice_index, slice_index_or, if◌then◌else◌}
+use Rattle.wiring.specs.Netlist.{Netlist}
+use Rattle.wiring.specs.Rules.{KeepsRules}
+use Rattle.wiring.specs.Snapshot.{FitsContents}
+use Rattle.block_sim.specs.Held.{contents_in}
+use Rattle.block_rows.specs.Code.{AreSound, IsOrdered}
+use Rattle.block_code.specs.Code.{IsBlockCode}
+use Rattle.block_sim.specs.declared.engine.Engine.{Engine}
+use Rattle.block_sim.specs.Called.{din_count}
+use Rattle.cycle_sim.specs.Slots.{words_of}
+use Rattle.block_rows.specs.Rights.{value_at}
+use Rattle.block_sim.specs.declared.held.Held.{Held}
+use Rattle.block_sim.specs.declared.rows.Rows.{Rows}
+use Rattle.block_sim.specs.Arrays.{AreAccessRows, ArePut, AreKept}
+use Rattle.block_sim.specs.Checked.{HaveAtomRows, AreInputRows, AreRegisterRows}
+use Rattle.block_sim.specs.Table.{AreFirstUses, IsTable}
+
+-- its instructions can be run, and the first uses of its slots are theirs
+pub record IsEngine (e : Engine) : Type 0 where
+  pub sound : AreSound e.code.widths.items e.code.instructions.items
+  pub ordered : IsOrdered e.code.instructions.items
+  pub uses : AreFirstUses e.code.instructions.items e.uses.items
+
+-- it is a netlist's
+pub record IsEngineOf (m : Netlist) (e : Engine) : Type 0 where
+  pub code : IsBlockCode m e.code
+  pub uses : AreFirstUses e.code.instructions.items e.uses.items
+  pub enable : e.has_enable ≡ m.enable
+  pub ports : e.ports ≡ din_count m
+
+-- the rows of a code's slots have so many clocks and one place more
+pub record AreWide (e : Engine) (rows : List (List ℕ)) (count : ℕ) : Type 0 where
+  pub inputs : e.code.first_output ≡ (if e.has_enable then 2 else 1) + e.ports
+  pub slots : e.code.first_output ≤ length rows
+  pub long : (n : ℕ) → n < length rows → count < length (slice_index_or rows n [])
+  pub regs : e.code.first_reg + length e.code.nexts.items ≤ length rows
+  pub nexts : HaveAtomRows rows count e.code.nexts.items
+  pub arrays : AreAccessRows rows count e.code.reads.items e.code.puts.items
+
+-- rows for a netlist
+pub record AreRowsOf (m : Netlist) (r : Rows) : Type 0 where
+  pub engine : IsEngineOf m r.engine
+  pub table : IsTable r.engine.code.widths.items r.engine.code.instructions.items (length r.table.room.items) r.table 0
+  pub wide : r.size < length r.table.room.items
+
+-- the rows keep the equations of the code over so many clocks from one on, and what is held is what it was and what they leave
+pub record IsJudged (e : Engine) (rows : List (List ℕ)) (enables : List Bool) (dins : List ℕ) (first count : ℕ) (old new : Held) : Type 0 where
+  pub given : AreInputRows e.has_enable e.ports enables dins first count e.code.first_output rows
+  pub registers : AreRegisterRows rows count e.code.first_reg old.regs.items e.code.nexts.items
+  pub kept : AreKept rows e.code.reads.items e.code.puts.items count (words_of old.arrays.items) (length old.arrays.items)
+  pub put : ArePut rows e.code.puts.items count (words_of old.arrays.items) (words_of new.arrays.items) (length old.arrays.items)
+  pub long : length new.regs.items ≡ length old.regs.items
+  pub taken : (r : ℕ) → r < length new.regs.items → slice_index new.regs.items r ≡ value_at rows count (e.code.first_reg + r)
+
+-- what a simulator of blocks is made of
+pub record AreBlocks (m : Netlist) (held : Held) (count : ℕ) (rows : Option Rows) : Type 0 where
+  pub rules : KeepsRules m
+  pub ports : count ≡ din_count m
+  pub fits : FitsContents m (contents_in held)
+  pub wide : IfSome rows (AreRowsOf m)

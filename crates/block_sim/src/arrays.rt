@@ -1,0 +1,150 @@
+// The arrays over the clocks of a block.
+
+ghost use Rattle.std.specs.Prelude.{◌≡◌, ℕ, ◌<◌, ◌≤◌, List, [], length, slice_index, slice_index_or, slice_get, Some, IsTrue, IsFalse};
+ghost use Rattle.cycle_sim.specs.Slots.{words_of};
+ghost use Rattle.block_rows.specs.Rights.{items_of, value_at, HasRow, HaveRoom, IsAtomRow};
+ghost use Rattle.block_rows.specs.Rows.{words_after, IsReadUpTo, AreInside};
+ghost use Rattle.block_code.specs.Rows.{words_put, KeepsArray};
+ghost use Rattle.block_sim.specs.Arrays.{IsPassed, IsArrayRoom, WasLost, PutsInside, HaveAccessRows, ArePut, AreLost, AreKept};
+
+use crate::given::row_at;
+use block_code::{WordPut, WordRead};
+use block_rows::{all_inside, atom_row, note_constant, take_back, word_row};
+
+/// Spare rows for the constants among an array's indexes and values.
+#[derive(Debug, Drop)]
+pub struct ArrayRoom {
+    pub read: Vec<u64>,
+    pub index: Vec<u64>,
+    pub value: Vec<u64>,
+}
+
+// Whether the first places of two rows are the same.
+fn are_same(a: &[u64], b: &[u64]) -> bool
+    requires { length a.now ≤ length b.now }
+    ensures { IsTrue result → (t : ℕ) → t < length a.now → slice_index b.now t ≡ slice_index a.now t }
+{
+    for t in 0..a.len() {
+        if b[t] != a[t] {
+            return false;
+        }
+    }
+    true
+}
+
+// Reads and writes an array over the clocks of a block if all indexes are inside and what is read is the target's row; else the
+// words are as before.
+fn pass_words(
+    words: &mut [u64],
+    to: &mut [u64],
+    lost: &mut [u64],
+    read: &[u64],
+    index: &[u64],
+    value: &[u64],
+    target: &[u64],
+) -> bool
+    requires lost { length lost.old ≡ length to.old }
+    requires read { length read.now ≡ length to.old }
+    requires index { length index.now ≡ length to.old }
+    requires value { length value.now ≡ length to.old }
+    requires target { length to.old ≤ length target.now }
+    ensures passed { IsTrue result → IsPassed words.old words.new lost.new read.now index.now value.now target.now (length to.old) }
+    ensures back { IsFalse result → words.new ≡ words.old }
+{
+    let depth = words.len() as u64;
+    if !all_inside(read, depth) {
+        return false;
+    }
+    if !all_inside(index, depth) {
+        return false;
+    }
+    word_row(words, to, lost, read, index, value);
+    if are_same(to, target) {
+        true
+    } else {
+        take_back(words, lost, index);
+        false
+    }
+}
+
+// One array over so many clocks: true if its equations are kept, and its words are then those behind them; else the words are as before.
+#[tactic(auto, using(crate::proofs::OnePass::passed_kept, crate::proofs::OnePass::passed_words, crate::proofs::OnePass::passed_lost))]
+fn pass_rows(
+    rows: &[Vec<u64>],
+    room: &mut ArrayRoom,
+    read: &WordRead,
+    put: &WordPut,
+    words: &mut [u64],
+    to: &mut [u64],
+    lost: &mut [u64],
+) -> bool
+    requires rows { HaveAccessRows (items_of rows.now) (length to.old) read.now put.now }
+    requires room { IsArrayRoom room.old (length to.old) }
+    requires lost { length lost.old ≡ length to.old }
+    ensures room { IsArrayRoom room.new (length to.old) }
+    ensures kept { IsTrue result → KeepsArray (items_of rows.now) (length to.old) words.old read.now put.now }
+    ensures words { IsTrue result → words.new ≡ words_put (items_of rows.now) put.now words.old (length to.old) }
+    ensures lost { IsTrue result → WasLost (items_of rows.now) put.now words.old lost.new (length to.old) }
+    ensures back { IsFalse result → words.new ≡ words.old }
+{
+    let count = to.len();
+    note_constant(&mut room.read, &read.index);
+    note_constant(&mut room.index, &put.index);
+    note_constant(&mut room.value, &put.value);
+    let reads = atom_row(rows, &room.read, &read.index, count);
+    let indexes = atom_row(rows, &room.index, &put.index, count);
+    let values = atom_row(rows, &room.value, &put.value, count);
+    let target = row_at(rows, read.target);
+    pass_words(words, to, lost, reads, indexes, values, target)
+}
+
+/// The same over the first so many places of two rows.
+pub fn pass_first(
+    rows: &[Vec<u64>],
+    room: &mut ArrayRoom,
+    read: &WordRead,
+    put: &WordPut,
+    words: &mut [u64],
+    to: &mut [u64],
+    lost: &mut [u64],
+    count: usize,
+) -> bool
+    requires rows { HaveAccessRows (items_of rows.now) count read.now put.now }
+    requires room { IsArrayRoom room.old count }
+    requires to { count ≤ length to.old }
+    requires lost { count ≤ length lost.old }
+    ensures room { IsArrayRoom room.new count }
+    ensures kept { IsTrue result → KeepsArray (items_of rows.now) count words.old read.now put.now }
+    ensures words { IsTrue result → words.new ≡ words_put (items_of rows.now) put.now words.old count }
+    ensures lost { IsTrue result → WasLost (items_of rows.now) put.now words.old lost.new count }
+    ensures back { IsFalse result → words.new ≡ words.old }
+{
+    let to = to.split_at_mut(count).0;
+    let lost = lost.split_at_mut(count).0;
+    pass_rows(rows, room, read, put, words, to, lost)
+}
+
+/// Takes back what an array was given in so many clocks.
+#[tactic(auto, using(crate::proofs::OnePass::puts_inside))]
+pub fn undo_array(
+    rows: &[Vec<u64>],
+    room: &mut ArrayRoom,
+    put: &WordPut,
+    words: &mut [u64],
+    lost: &[u64],
+    count: usize,
+)
+    requires index { HasRow (items_of rows.now) count put.now.index }
+    requires value { HasRow (items_of rows.now) count put.now.value }
+    requires room { IsArrayRoom room.old count }
+    requires lost { count ≤ length lost.now }
+    requires inside { PutsInside (items_of rows.now) put.now count (length words.old) }
+    ensures room { IsArrayRoom room.new count }
+    ensures back { (before : List ℕ) → words.old ≡ words_put (items_of rows.now) put.now before count → length words.old ≡ length before → WasLost (items_of rows.now) put.now before lost.now count → words.new ≡ before }
+{
+    note_constant(&mut room.index, &put.index);
+    note_constant(&mut room.value, &put.value);
+    let indexes = atom_row(rows, &room.index, &put.index, count);
+    let _values = atom_row(rows, &room.value, &put.value, count);
+    take_back(words, &lost[..count], indexes);
+}

@@ -1,0 +1,418 @@
+// The steps of a plan. What they fill in claims nothing but that it fits.
+
+ghost use Rattle.std.specs.Prelude.{◌≡◌, ◌≤◌, length, IfSome, IsTrue};
+ghost use Rattle.block_sim.specs.Table.{IsTable};
+ghost use Rattle.block_sim.specs.Engine.{IsEngine};
+
+use crate::engine::Engine;
+use crate::fill::{
+    atom_value, propose_line, propose_read, propose_shift, propose_small, slot_value,
+};
+use crate::held::Held;
+use crate::table::{Table, offer, run_upto};
+use block_plan::Step;
+
+/// The most rounds in which the rows of a cycle are guessed.
+const ROUNDS: usize = 6;
+
+/// What the steps work with: copies of the words of small arrays, and by which step each register goes on.
+#[derive(Debug, Drop)]
+pub struct Hints {
+    pub words: Vec<Vec<u64>>,
+    pub steps: Vec<u64>,
+}
+
+// The register of an update of the plan.
+fn register_at(engine: &Engine, update: usize) -> Option<usize> {
+    match engine.registers.get(update) {
+        Some(register) => *register,
+        None => None,
+    }
+}
+
+fn array_at(engine: &Engine, assign: usize) -> Option<usize> {
+    match engine.arrays.get(assign) {
+        Some(array) => *array,
+        None => None,
+    }
+}
+
+fn number_in(numbers: &[u64], place: usize) -> u64 {
+    if place < numbers.len() {
+        numbers[place]
+    } else {
+        0
+    }
+}
+
+fn set_number(numbers: &mut [u64], place: usize, number: u64) {
+    if place < numbers.len() {
+        numbers[place] = number;
+    }
+}
+
+#[tactic(auto, using(crate::proofs::Tables::table_refilled))]
+fn shift(engine: &Engine, table: &mut Table, held: &Held, done: usize, update: usize) -> bool
+    requires engine { IsEngine engine.now }
+    requires table { IsTable engine.now.code.widths.items engine.now.code.instructions.items (length table.old.room.items) table.old done }
+    ensures room { length table.new.room.items ≡ length table.old.room.items }
+    ensures table { IsTable engine.now.code.widths.items engine.now.code.instructions.items (length table.old.room.items) table.new done }
+{
+    let Some(register) = register_at(engine, update) else {
+        return false;
+    };
+    let Some(next) = engine.code.nexts.get(register) else {
+        return false;
+    };
+    propose_shift(table, next, number_in(&held.regs, register));
+    let slot = engine.code.first_reg.saturating_add(register);
+    offer_row(engine, table, done, slot)
+}
+
+/// Offers the spare row to a slot.
+pub fn offer_row(engine: &Engine, table: &mut Table, done: usize, slot: usize) -> bool
+    requires engine { IsEngine engine.now }
+    requires table { IsTable engine.now.code.widths.items engine.now.code.instructions.items (length table.old.room.items) table.old done }
+    ensures room { length table.new.room.items ≡ length table.old.room.items }
+    ensures table { IsTable engine.now.code.widths.items engine.now.code.instructions.items (length table.old.room.items) table.new done }
+{
+    offer(
+        &engine.code.widths,
+        &engine.code.instructions,
+        &engine.uses,
+        table,
+        done,
+        slot,
+    )
+}
+
+#[tactic(auto, using(crate::proofs::Tables::table_refilled))]
+fn read(engine: &Engine, table: &mut Table, held: &Held, done: usize, assign: usize) -> bool
+    requires engine { IsEngine engine.now }
+    requires table { IsTable engine.now.code.widths.items engine.now.code.instructions.items (length table.old.room.items) table.old done }
+    ensures room { length table.new.room.items ≡ length table.old.room.items }
+    ensures table { IsTable engine.now.code.widths.items engine.now.code.instructions.items (length table.old.room.items) table.new done }
+{
+    let Some(array) = array_at(engine, assign) else {
+        return false;
+    };
+    let Some(read) = engine.code.reads.get(array) else {
+        return false;
+    };
+    let Some(words) = held.arrays.get(array) else {
+        return false;
+    };
+    propose_read(table, &read.index, words);
+    offer_row(engine, table, done, read.target)
+}
+
+// A copy of words, as far as there is room.
+fn copy_words(to: &mut [u64], words: &[u64]) {
+    for i in 0..to.len() {
+        to[i] = number_in(words, i);
+    }
+}
+
+#[tactic(auto, using(crate::proofs::Tables::table_refilled))]
+fn small(
+    engine: &Engine,
+    table: &mut Table,
+    held: &Held,
+    hints: &mut Hints,
+    done: usize,
+    assign: usize,
+) -> bool
+    requires engine { IsEngine engine.now }
+    requires table { IsTable engine.now.code.widths.items engine.now.code.instructions.items (length table.old.room.items) table.old done }
+    ensures room { length table.new.room.items ≡ length table.old.room.items }
+    ensures table { IsTable engine.now.code.widths.items engine.now.code.instructions.items (length table.old.room.items) table.new done }
+{
+    let Some(array) = array_at(engine, assign) else {
+        return false;
+    };
+    let Some(read) = engine.code.reads.get(array) else {
+        return false;
+    };
+    let Some(put) = engine.code.puts.get(array) else {
+        return false;
+    };
+    let Some(words) = held.arrays.get(array) else {
+        return false;
+    };
+    let Some(copy) = hints.words.get_mut(array) else {
+        return false;
+    };
+    copy_words(copy, words);
+    propose_small(table, &read.index, &put.index, &put.value, copy);
+    offer_row(engine, table, done, read.target)
+}
+
+// A register's row as it is up to a place, and a straight line from there.
+#[tactic(auto, using(crate::proofs::Tables::table_refilled))]
+fn line(
+    engine: &Engine,
+    table: &mut Table,
+    done: usize,
+    register: usize,
+    first: usize,
+    value: u64,
+    step: u64,
+) -> bool
+    requires engine { IsEngine engine.now }
+    requires table { IsTable engine.now.code.widths.items engine.now.code.instructions.items (length table.old.room.items) table.old done }
+    ensures room { length table.new.room.items ≡ length table.old.room.items }
+    ensures table { IsTable engine.now.code.widths.items engine.now.code.instructions.items (length table.old.room.items) table.new done }
+{
+    let slot = engine.code.first_reg.saturating_add(register);
+    propose_line(table, slot, first, value, step);
+    offer_row(engine, table, done, slot)
+}
+
+// The first guess of a register: a straight line from what it holds.
+fn guess_one(
+    engine: &Engine,
+    table: &mut Table,
+    held: &Held,
+    hints: &Hints,
+    done: usize,
+    update: usize,
+) -> bool
+    requires engine { IsEngine engine.now }
+    requires table { IsTable engine.now.code.widths.items engine.now.code.instructions.items (length table.old.room.items) table.old done }
+    ensures room { length table.new.room.items ≡ length table.old.room.items }
+    ensures table { IsTable engine.now.code.widths.items engine.now.code.instructions.items (length table.old.room.items) table.new done }
+{
+    let Some(register) = register_at(engine, update) else {
+        return false;
+    };
+    let value = number_in(&held.regs, register);
+    let step = number_in(&hints.steps, register);
+    line(engine, table, done, register, 0, value, step)
+}
+
+// The registers of these updates, each by its first guess.
+fn guess_all(
+    engine: &Engine,
+    table: &mut Table,
+    held: &Held,
+    hints: &Hints,
+    done: usize,
+    first: usize,
+    last: usize,
+) -> bool
+    requires engine { IsEngine engine.now }
+    requires table { IsTable engine.now.code.widths.items engine.now.code.instructions.items (length table.old.room.items) table.old done }
+    ensures room { length table.new.room.items ≡ length table.old.room.items }
+    ensures table { IsTable engine.now.code.widths.items engine.now.code.instructions.items (length table.old.room.items) table.new done }
+{
+    for place in first..last.min(engine.plan.looped.len()) {
+        if !guess_one(engine, table, held, hints, done, engine.plan.looped[place]) {
+            return false;
+        }
+    }
+    true
+}
+
+// The first of so many clocks at which a register's row is not its next value's row, one clock later.
+fn wrong_one(engine: &Engine, table: &Table, update: usize, count: usize) -> usize {
+    let Some(register) = register_at(engine, update) else {
+        return 0;
+    };
+    let Some(next) = engine.code.nexts.get(register) else {
+        return 0;
+    };
+    let slot = engine.code.first_reg.saturating_add(register);
+    for t in 0..count {
+        if slot_value(&table.rows, slot, t.saturating_add(1)) != atom_value(&table.rows, next, t) {
+            return t;
+        }
+    }
+    count
+}
+
+fn wrong_first(engine: &Engine, table: &Table, first: usize, last: usize, count: usize) -> usize {
+    let mut wrong = count;
+    for place in first..last.min(engine.plan.looped.len()) {
+        wrong = wrong_one(engine, table, engine.plan.looped[place], wrong);
+    }
+    wrong
+}
+
+// A register from the first wrong place on: the right value, and the step 1 where it changes as it did before.
+fn mend_one(
+    engine: &Engine,
+    table: &mut Table,
+    hints: &mut Hints,
+    done: usize,
+    update: usize,
+    wrong: usize,
+) -> bool
+    requires engine { IsEngine engine.now }
+    requires table { IsTable engine.now.code.widths.items engine.now.code.instructions.items (length table.old.room.items) table.old done }
+    ensures room { length table.new.room.items ≡ length table.old.room.items }
+    ensures table { IsTable engine.now.code.widths.items engine.now.code.instructions.items (length table.old.room.items) table.new done }
+{
+    let Some(register) = register_at(engine, update) else {
+        return false;
+    };
+    let Some(next) = engine.code.nexts.get(register) else {
+        return false;
+    };
+    let slot = engine.code.first_reg.saturating_add(register);
+    let value = atom_value(&table.rows, next, wrong);
+    let is = slot_value(&table.rows, slot, wrong);
+    let was = slot_value(&table.rows, slot, wrong.saturating_sub(1));
+    let step = u64::from(value != is && (wrong == 0 || is != was));
+    set_number(&mut hints.steps, register, step);
+    line(
+        engine,
+        table,
+        done,
+        register,
+        wrong.saturating_add(1),
+        value,
+        step,
+    )
+}
+
+fn mend_all(
+    engine: &Engine,
+    table: &mut Table,
+    hints: &mut Hints,
+    done: usize,
+    first: usize,
+    last: usize,
+    wrong: usize,
+) -> bool
+    requires engine { IsEngine engine.now }
+    requires table { IsTable engine.now.code.widths.items engine.now.code.instructions.items (length table.old.room.items) table.old done }
+    ensures room { length table.new.room.items ≡ length table.old.room.items }
+    ensures table { IsTable engine.now.code.widths.items engine.now.code.instructions.items (length table.old.room.items) table.new done }
+{
+    for place in first..last.min(engine.plan.looped.len()) {
+        if !mend_one(engine, table, hints, done, engine.plan.looped[place], wrong) {
+            return false;
+        }
+    }
+    true
+}
+
+// Instructions from so many on up to a place.
+fn run(engine: &Engine, table: &mut Table, done: usize, upto: usize) -> usize
+    requires engine { IsEngine engine.now }
+    requires table { IsTable engine.now.code.widths.items engine.now.code.instructions.items (length table.old.room.items) table.old done }
+    ensures room { length table.new.room.items ≡ length table.old.room.items }
+    ensures table { IsTable engine.now.code.widths.items engine.now.code.instructions.items (length table.old.room.items) table.new result }
+    ensures more { done ≤ result }
+{
+    run_upto(
+        &engine.code.widths,
+        &engine.code.instructions,
+        table,
+        done,
+        upto,
+    )
+}
+
+// The registers of a cycle, guessed and mended until they are right over so many clocks. None where that does not come to an end.
+#[tactic(auto, using(crate::proofs::Tables::hold_fewer))]
+fn guess(
+    engine: &Engine,
+    table: &mut Table,
+    held: &Held,
+    hints: &mut Hints,
+    done: usize,
+    first: usize,
+    last: usize,
+    upto: usize,
+    count: usize,
+) -> Option<usize>
+    requires engine { IsEngine engine.now }
+    requires table { IsTable engine.now.code.widths.items engine.now.code.instructions.items (length table.old.room.items) table.old done }
+    ensures room { length table.new.room.items ≡ length table.old.room.items }
+    ensures table { IfSome result (λ n. IsTable engine.now.code.widths.items engine.now.code.instructions.items (length table.old.room.items) table.new n) }
+    ensures least { IsTable engine.now.code.widths.items engine.now.code.instructions.items (length table.old.room.items) table.new 0 }
+{
+    if !guess_all(engine, table, held, hints, done, first, last) {
+        return None;
+    }
+    for _round in 0..ROUNDS {
+        let now = run(engine, table, done, upto);
+        let wrong = wrong_first(engine, table, first, last, count);
+        if wrong >= count {
+            return Some(now);
+        }
+        if !mend_all(engine, table, hints, done, first, last, wrong) {
+            return None;
+        }
+    }
+    None
+}
+
+// Goes on where a row was offered.
+fn when(offered: bool, done: usize) -> Option<usize>
+    ensures { IfSome result (λ n. n ≡ done) }
+{
+    if offered { Some(done) } else { None }
+}
+
+/// One step of the plan, behind so many instructions that are run: how many are run then.
+#[tactic(auto, using(crate::proofs::Tables::hold_fewer))]
+pub fn take_step(
+    engine: &Engine,
+    table: &mut Table,
+    held: &Held,
+    hints: &mut Hints,
+    done: usize,
+    step: Step,
+    count: usize,
+) -> Option<usize>
+    requires engine { IsEngine engine.now }
+    requires table { IsTable engine.now.code.widths.items engine.now.code.instructions.items (length table.old.room.items) table.old done }
+    ensures room { length table.new.room.items ≡ length table.old.room.items }
+    ensures table { IfSome result (λ n. IsTable engine.now.code.widths.items engine.now.code.instructions.items (length table.old.room.items) table.new n) }
+    ensures least { IsTable engine.now.code.widths.items engine.now.code.instructions.items (length table.old.room.items) table.new 0 }
+{
+    match step {
+        Step::Run { upto } => Some(run(engine, table, done, upto)),
+        Step::Shift { update } => when(shift(engine, table, held, done, update), done),
+        Step::Read { assign } => when(read(engine, table, held, done, assign), done),
+        Step::Small { assign } => when(small(engine, table, held, hints, done, assign), done),
+        Step::Guess { first, last, upto } => guess(
+            engine, table, held, hints, done, first, last, upto, count,
+        ),
+    }
+}
+
+/// All steps of the plan: true if all instructions are run then.
+#[tactic(auto, using(crate::proofs::Tables::hold_fewer))]
+pub fn take_steps(
+    engine: &Engine,
+    table: &mut Table,
+    held: &Held,
+    hints: &mut Hints,
+    count: usize,
+) -> bool
+    requires engine { IsEngine engine.now }
+    requires table { IsTable engine.now.code.widths.items engine.now.code.instructions.items (length table.old.room.items) table.old 0 }
+    ensures room { length table.new.room.items ≡ length table.old.room.items }
+    ensures table { IsTrue result → IsTable engine.now.code.widths.items engine.now.code.instructions.items (length table.old.room.items) table.new (length engine.now.code.instructions.items) }
+    ensures least { IsTable engine.now.code.widths.items engine.now.code.instructions.items (length table.old.room.items) table.new 0 }
+{
+    let mut done = 0;
+    for k in 0..engine.plan.steps.len() {
+        match take_step(
+            engine,
+            table,
+            held,
+            hints,
+            done,
+            engine.plan.steps[k],
+            count,
+        ) {
+            None => return false,
+            Some(now) => done = now,
+        }
+    }
+    done == engine.code.instructions.len()
+}
