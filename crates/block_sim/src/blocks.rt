@@ -13,6 +13,7 @@ ghost use Rattle.block_sim.specs.Called.{din_count, output_count, block_clocks, 
 
 use crate::held::{Held, step_held, zeros};
 use crate::make::rows_of;
+use crate::pause::Pause;
 use crate::pieces::step_pieces;
 use crate::rows::Rows;
 use cycle_sim::{Fill, IndexRange, Out, Sim};
@@ -29,6 +30,7 @@ pub struct Blocks {
     held: Held,
     dins: usize,
     rows: Option<Rows>,
+    pause: Pause,
 }
 
 impl Model for Blocks {
@@ -84,6 +86,7 @@ impl Blocks {
             held,
             dins,
             rows,
+            pause: Pause::new(),
         };
         Ok(blocks)
     }
@@ -148,6 +151,7 @@ impl Blocks {
         step_pieces(
             &mut self.sim,
             &mut self.rows,
+            &mut self.pause,
             &mut self.held,
             self.dins,
             enables,

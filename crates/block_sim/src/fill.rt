@@ -20,6 +20,29 @@ pub fn slot_value(rows: &[Vec<u64>], slot: usize, t: usize) -> u64 {
     }
 }
 
+/// What an atom is worth: what a row has at each clock, or at all clocks the same.
+#[derive(Clone, Copy)]
+pub enum Worth<'a> {
+    Row(&'a [u64]),
+    Same(u64),
+}
+
+/// What an atom is worth over rows.
+pub fn worth_of<'a>(rows: &'a [Vec<u64>], a: &Atom<usize>) -> Worth<'a> {
+    match a {
+        Atom::Net(slot) => Worth::Row(row_of(rows, *slot)),
+        Atom::Constant(c) => Worth::Same(c.value()),
+    }
+}
+
+/// That at a clock.
+pub fn worth_at(worth: Worth<'_>, t: usize) -> u64 {
+    match worth {
+        Worth::Row(row) => place_in(row, t),
+        Worth::Same(value) => value,
+    }
+}
+
 /// What an atom is worth at a clock.
 pub fn atom_value(rows: &[Vec<u64>], a: &Atom<usize>, t: usize) -> u64 {
     match a {
@@ -30,17 +53,19 @@ pub fn atom_value(rows: &[Vec<u64>], a: &Atom<usize>, t: usize) -> u64 {
 
 // What is held, and then another row, one clock later.
 fn fill_shift(to: &mut [u64], rows: &[Vec<u64>], next: &Atom<usize>, held: u64) {
+    let worth = worth_of(rows, next);
     let mut holds = held;
     for t in 0..to.len() {
         to[t] = holds;
-        holds = atom_value(rows, next, t);
+        holds = worth_at(worth, t);
     }
 }
 
 // What is read of words that stay as they are.
 fn fill_read(to: &mut [u64], rows: &[Vec<u64>], index: &Atom<usize>, words: &[u64]) {
+    let index = worth_of(rows, index);
     for t in 0..to.len() {
-        let i = atom_value(rows, index, t);
+        let i = worth_at(index, t);
         to[t] = if i < words.len() as u64 {
             words[i as usize]
         } else {
@@ -64,18 +89,17 @@ fn fill_small(
     value: &Atom<usize>,
     words: &mut [u64],
 ) {
+    let read = worth_of(rows, read);
+    let index = worth_of(rows, index);
+    let value = worth_of(rows, value);
     for t in 0..to.len() {
-        let i = atom_value(rows, read, t);
+        let i = worth_at(read, t);
         to[t] = if i < words.len() as u64 {
             words[i as usize]
         } else {
             0
         };
-        put_word(
-            words,
-            atom_value(rows, index, t),
-            atom_value(rows, value, t),
-        );
+        put_word(words, worth_at(index, t), worth_at(value, t));
     }
 }
 
@@ -169,7 +193,8 @@ pub fn propose_input(
     fill_input(&mut table.room, engine, enables, dins, input, first, count);
 }
 
-fn row_of(rows: &[Vec<u64>], slot: usize) -> &[u64] {
+/// The row of a slot, if it is there.
+pub fn row_of(rows: &[Vec<u64>], slot: usize) -> &[u64] {
     match rows.get(slot) {
         Some(row) => row,
         None => &[],

@@ -11,6 +11,7 @@ mod held;
 mod judge;
 mod make;
 mod passes;
+mod pause;
 mod pieces;
 mod registers;
 mod rows;

@@ -156,6 +156,9 @@ pub fn rows_of(alloc: Global, module: &Module, ports: usize) -> Result<Option<Ro
     };
     let wiring = module.wiring();
     let size = size_of(code.widths.len().saturating_add(wiring.arrays.len()));
+    if size == 0 {
+        return Ok(None);
+    }
     let engine = engine_of(alloc, code, plan, wiring, ports)?;
     let rows = rows_of_engine(alloc, engine, wiring, size)?;
     Ok(Some(rows))

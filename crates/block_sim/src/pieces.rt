@@ -12,7 +12,8 @@ ghost use Rattle.block_sim.specs.Held.{contents_in};
 
 use crate::blocks::Stop;
 use crate::held::{Held, each_held};
-use crate::rows::{Rows, rows_block};
+use crate::pause::Pause;
+use crate::rows::{LEAST, Rows, rows_block};
 use cycle_sim::{Out, Sim};
 
 /// The greatest number of clocks that are made over whole rows.
@@ -22,6 +23,7 @@ pub const PIECE: usize = 128;
 fn by_rows(
     sim: &Sim,
     rows: &mut Option<Rows>,
+    pause: &mut Pause,
     held: &mut Held,
     enables: &[bool],
     dins: &[u64],
@@ -42,8 +44,18 @@ fn by_rows(
     ensures back { IsFalse result → contents_in held.new ≡ contents_in held.old }
     ensures outs { IsFalse result → outs.new ≡ outs.old }
 {
+    if count < LEAST {
+        return false;
+    }
+    if pause.is_on() {
+        return false;
+    }
     match rows {
-        Some(rows) => rows_block(sim, rows, held, enables, dins, outs, first, count),
+        Some(rows) => {
+            let ran = rows_block(sim, rows, held, enables, dins, outs, first, count);
+            pause.note(ran);
+            ran
+        }
         None => false,
     }
 }
@@ -52,6 +64,7 @@ fn by_rows(
 fn step_piece(
     sim: &mut Sim,
     rows: &mut Option<Rows>,
+    pause: &mut Pause,
     held: &mut Held,
     ports: usize,
     enables: &[bool],
@@ -74,7 +87,7 @@ fn step_piece(
     ensures ok { OnOk result ((from : Contents) (old : List Out) → Came sim.old.netlist (block_clocks sim.old.netlist enables.now dins.now) from (contents_in held.old) old outs.old first → Came sim.old.netlist (block_clocks sim.old.netlist enables.now dins.now) from (contents_in held.new) old outs.new (first + count)) }
     ensures stops { IfErr result (λ stop. (from : Contents) (old : List Out) → Came sim.old.netlist (block_clocks sim.old.netlist enables.now dins.now) from (contents_in held.old) old outs.old first → BlockStops sim.old.netlist (block_clocks sim.old.netlist enables.now dins.now) from (contents_in held.new) old outs.new stop) }
 {
-    if by_rows(sim, rows, held, enables, dins, outs, first, count) {
+    if by_rows(sim, rows, pause, held, enables, dins, outs, first, count) {
         return Ok(());
     }
     each_held(sim, held, ports, enables, dins, outs, first, first + count)
@@ -94,6 +107,7 @@ fn size_of(rows: &Option<Rows>) -> usize
 pub fn step_pieces(
     sim: &mut Sim,
     rows: &mut Option<Rows>,
+    pause: &mut Pause,
     held: &mut Held,
     ports: usize,
     enables: &[bool],
@@ -118,7 +132,9 @@ pub fn step_pieces(
     let mut first = 0;
     for _piece in 0..count / size {
         let most = (count - first).min(size);
-        match step_piece(sim, rows, held, ports, enables, dins, outs, first, most) {
+        match step_piece(
+            sim, rows, pause, held, ports, enables, dins, outs, first, most,
+        ) {
             Err(stop) => return Err(stop),
             Ok(()) => {}
         }
@@ -127,6 +143,7 @@ pub fn step_pieces(
     step_piece(
         sim,
         rows,
+        pause,
         held,
         ports,
         enables,

@@ -27,7 +27,7 @@ use crate::table::Table;
 use cycle_sim::{Out, Sim};
 
 /// Pieces of fewer clocks are made one by one.
-const LEAST: usize = 24;
+pub const LEAST: usize = 24;
 
 /// The rows of a module, and room for what is made over them.
 #[derive(Debug, Drop)]

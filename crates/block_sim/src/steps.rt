@@ -6,7 +6,8 @@ ghost use Rattle.block_sim.specs.Engine.{IsEngine};
 
 use crate::engine::Engine;
 use crate::fill::{
-    atom_value, propose_line, propose_read, propose_shift, propose_small, slot_value,
+    Worth, atom_value, propose_line, propose_read, propose_shift, propose_small, row_of,
+    slot_value, worth_at, worth_of,
 };
 use crate::held::Held;
 use crate::table::{Table, offer, run_upto};
@@ -213,6 +214,19 @@ fn guess_all(
     true
 }
 
+// The first of so many clocks at which a row is not this, one clock later.
+fn first_apart(row: &[u64], worth: Worth<'_>, count: usize) -> usize {
+    let Some((_, later)) = row.split_first() else {
+        return 0;
+    };
+    for t in 0..count.min(later.len()) {
+        if later[t] != worth_at(worth, t) {
+            return t;
+        }
+    }
+    count
+}
+
 // The first of so many clocks at which a register's row is not its next value's row, one clock later.
 fn wrong_one(engine: &Engine, table: &Table, update: usize, count: usize) -> usize {
     let Some(register) = register_at(engine, update) else {
@@ -222,12 +236,11 @@ fn wrong_one(engine: &Engine, table: &Table, update: usize, count: usize) -> usi
         return 0;
     };
     let slot = engine.code.first_reg.saturating_add(register);
-    for t in 0..count {
-        if slot_value(&table.rows, slot, t.saturating_add(1)) != atom_value(&table.rows, next, t) {
-            return t;
-        }
-    }
-    count
+    first_apart(
+        row_of(&table.rows, slot),
+        worth_of(&table.rows, next),
+        count,
+    )
 }
 
 fn wrong_first(engine: &Engine, table: &Table, first: usize, last: usize, count: usize) -> usize {
