@@ -1,14 +1,12 @@
 -- A stream that came to its end has written the program's output file.
-use Rattle.std.proofs.Common.{◌≡◌, ℕ, zero, suc, ◌+◌, ◌-◌, ◌*◌, ◌/◌, ◌^◌, ◌<◌, ◌≤◌, Bool, false, List, [], ◌∷◌, ◌++◌, length, map, take, drop, replicate, slice_index, slice_index_or, slice_get, ◌==◌, Option, Some, IfSome, option_map, refl, sym, ap, ◌∙◌, subst, arith, suc-mul, append-nil, mul_comm}
-use Rattle.std.specs.List.{flat_map, range_with_len, AllByRecursion}
+use Rattle.std.proofs.Common.{◌≡◌, ℕ, suc, ◌+◌, ◌-◌, ◌*◌, ◌/◌, ◌^◌, ◌<◌, ◌≤◌, Bool, false, List, [], ◌∷◌, ◌++◌, length, map, take, drop, replicate, slice_index, slice_index_or, slice_get, ◌==◌, Option, Some, IfSome, option_map, refl, sym, ap, ◌∙◌, subst, arith, suc-mul, mul_comm}
+use Rattle.std.specs.List.{flat_map, range_with_len}
 use Rattle.std.proofs.lemmas.List.{length-map, length-append, length-replicate}
-use Rattle.std.proofs.Math.Nat.{mul-pos}
-use Rattle.dk_base.specs.Frames.{Size, area}
+use Rattle.dk_base.specs.Frames.{area}
 use Rattle.dk_desk.specs.Outside.{Outside}
 use Rattle.dk_desk.specs.Calls.{IsIfTold}
 use Rattle.wiring.specs.Netlist.{Netlist, net_width, dout_net, valid_net}
 use Rattle.wiring.specs.Snapshot.{Snapshot, net_value}
-use Rattle.wiring.specs.Clock.{Clock}
 use Rattle.wiring.specs.Runs.{Runs, picture}
 use Rattle.buffer_plan.specs.Plans.{latency, latency_of}
 use Rattle.circuit.specs.Driven.{driven}
@@ -16,18 +14,18 @@ use Rattle.cycle_sim.specs.Ports.{din_widths}
 use Rattle.cycle_sim.specs.declared.fill.Fill.TheVariants.{Zeros}
 use Rattle.cycle_sim.specs.Filled.{filled_contents}
 use Rattle.dk_types.specs.Typed.{Typing, types_of}
-use Rattle.pgm_codec.specs.Images.{Picture as Image, AreImages, header_of, raster_of, sample_bytes, file_of}
+use Rattle.pgm_codec.specs.Images.{Picture as Image, header_of, raster_of, sample_bytes, file_of}
 use Rattle.pgm_rounds.specs.Files.{FitsFile, joined}
 use Rattle.program_images.specs.Ports.{bits_of}
 use Rattle.test_bench.specs.Stimulus.{stimulus, stream, dins_at}
 use Rattle.test_bench.specs.Inputs.{samples_of as bench_samples}
-use Rattle.test_bench.specs.Showing.{IsRun, IsNoted as AreNotes, output_count, image_shown, images_shown, notes_at, notes_of}
+use Rattle.test_bench.specs.Showing.{IsRun, output_count, image_shown, images_shown, notes_of}
 use Rattle.test_bench.proofs.Streams.{read_at}
-use Rattle.row_stream.specs.Lines.{Kind, head, line_at, lines}
+use Rattle.row_stream.specs.Lines.{head, lines}
 use Rattle.row_stream.specs.Standing.{note_of}
 use Rattle.row_stream.specs.Images.{samples_of}
 use Rattle.row_stream.specs.Ends.{one_port}
-use Rattle.row_stream.specs.Whole.{Creates, LeavesAll, drive}
+use Rattle.row_stream.specs.Whole.{LeavesAll, drive}
 use Rattle.dk_compile.specs.declared.compiling.Compiled.{Compiled}
 use Rattle.dk_top.specs.Program.{ports}
 use Rattle.dk_top.specs.Output.{outputs_of, output_file}

@@ -1,14 +1,13 @@
 -- What a stream leaves behind, in words of the program.
-use Rattle.std.proofs.Common.{◌≡◌, ℕ, zero, suc, ◌+◌, ◌-◌, ◌*◌, ◌^◌, ◌<◌, ◌≤◌, List, [], ◌∷◌, ◌++◌, length, map, take, drop, replicate, slice_index, get_or, Option, None, Some, IfSome, refl, sym, ap, ◌∙◌, subst, arith, suc-mul, append-nil, append_assoc, length-append}
+use Rattle.std.proofs.Common.{◌≡◌, ℕ, zero, suc, ◌+◌, ◌-◌, ◌*◌, ◌^◌, ◌<◌, ◌≤◌, List, [], ◌∷◌, ◌++◌, length, take, drop, replicate, slice_index, Option, None, Some, IfSome, refl, sym, ap, ◌∙◌, subst, arith, suc-mul, append-nil, append_assoc, length-append}
 use Rattle.std.specs.List.{flat_map, AllByRecursion}
 use Rattle.std.proofs.lemmas.List.{append_cancel_right, length-replicate, take-append-drop}
 use Rattle.std.proofs.lemmas.List.Concat.{flat_map-append}
 use Rattle.std.proofs.lemmas.Nat.{pow_pos}
 use Rattle.std.proofs.Math.Nat.{mul-pos, mul_comm, add-mul}
-use Rattle.std.specs.Io.KnownBytes.{prepend_known, IsAtEnd}
+use Rattle.std.specs.Io.KnownBytes.{prepend_known}
 use Rattle.dk_base.specs.declared.TheConstants.{MAX_FILE_IMAGES}
 use Rattle.dk_base.specs.Frames.{Size}
-use Rattle.dk_desk.specs.declared.Stage.{Stage}
 use Rattle.dk_desk.specs.declared.Stage.TheVariants.{Unasked, Refused, Open}
 use Rattle.dk_desk.specs.Outside.{Outside, Input, Created}
 use Rattle.dk_types.specs.Typed.{Typing}
@@ -18,22 +17,20 @@ use Rattle.pgm_codec.specs.declared.header.Header.{Header}
 use Rattle.pgm_codec.specs.declared.raster.RasterFault.{RasterFault}
 use Rattle.pgm_codec.specs.Images.{Picture as Image, AreImages, IsRaster, sample_bytes}
 use Rattle.pgm_rounds.specs.declared.fault.ImageFault.{ImageFault}
-use Rattle.pgm_rounds.specs.Files.{IsHeaded}
 use Rattle.row_stream.specs.declared.faults.StreamFault.TheVariants.{Image as ImageFails, Read}
 use Rattle.row_stream.specs.declared.rows.RowsFault.TheVariants.{Raster, Read as RowsRead}
 use Rattle.row_stream.specs.Lines.{Kind, head}
 use Rattle.row_stream.specs.Heads.{FitsHeader, TakesHead}
-use Rattle.row_stream.specs.Standing.{pixel_clock}
 use Rattle.row_stream.specs.Images.{FitsImage, samples_of}
 use Rattle.row_stream.specs.Ends.{greatest, RefusesNext, refused, too_many, LosesNext, in_header, at_byte}
-use Rattle.row_stream.specs.Whole.{Creates, Shows, ShowsImages, ShowsLines, drive, LeavesBehind, LeavesInside, FailsInside, FailsBehind, FailsFirst, at_create, at_head, at_reset, LeavesAtFault as StreamsToFault, at_start, behind, inside, LeavesAtRead as StreamsToRead, read_at_start, read_behind, read_inside, LeavesAtWrite as StreamsToWrite, write_first, write_inside, write_behind}
+use Rattle.row_stream.specs.Whole.{Creates, LeavesBehind, LeavesInside, FailsInside, FailsBehind, FailsFirst, at_create, at_head, at_reset, LeavesAtFault as StreamsToFault, at_start, behind, inside, LeavesAtRead as StreamsToRead, read_at_start, read_behind, read_inside, LeavesAtWrite as StreamsToWrite, write_first, write_inside, write_behind}
 use Rattle.row_stream.specs.Most.{EndsLines}
 use Rattle.row_stream.proofs.FirstFault.{told_parts}
 use Rattle.row_stream.proofs.HeadEnds.{at_end}
-use Rattle.dk_top.specs.Streaming.{first_bits, IsBegun, output_kind, shown_by, LinesTaken, AreMost, complete, HoldsLines, HoldsFront, LeavesAtFault, LeavesAtRead, LeavesAtWrite, of_header, of_line, of_rest}
+use Rattle.dk_top.specs.Streaming.{first_bits, output_kind, shown_by, LinesTaken, AreMost, HoldsLines, LeavesAtFault, LeavesAtRead, LeavesAtWrite, of_header, of_line, of_rest}
 use Rattle.dk_top.proofs.DriveRounds.{all_append, AreZeros, zeros_behind}
-use Rattle.dk_top.proofs.StreamFile.{ShowsLaw, Small, AreSame, IsFront, FailsLine, shows_lines, fails_line, not_at_reset, fails_head}
-use Rattle.dk_top.proofs.StreamTaken.{headed_images, headed_taken, headed_line, most_of, most_full, TakesImages, takes_images, all_images, TakesLines, takes_lines, all_lines}
+use Rattle.dk_top.proofs.StreamFile.{ShowsLaw, Small, AreSame, IsFront, shows_lines, fails_line, not_at_reset, fails_head}
+use Rattle.dk_top.proofs.StreamTaken.{headed_images, headed_taken, most_of, most_full, takes_images, all_images, takes_lines, all_lines}
 
 -- the laws of row_stream on the lines that were left
 pub record MostLaws : Type 0 where

@@ -34,7 +34,7 @@ use Rattle.dk_base.proofs.Rasters.{length-raster}
 use Rattle.dk_top.proofs.DriveShown.{PictureLaw, RasterLaw, rastered, picture_shown, pieces_length}
 use Rattle.dk_top.proofs.DrivePorts.{widths_same, latency_of_one}
 use Rattle.dk_top.proofs.DriveLemmas as D
-use Rattle.dk_top.specs.Streaming.{frame_count, padded_frames, output_samples, shown_by}
+use Rattle.dk_top.specs.Streaming.{frame_count, padded_frames, shown_by}
 use Rattle.dk_top.proofs.StreamFrames.{rounds_of_one, frames_enough, frames_sampled, ones_sampled, stream_sample}
 
 -- a reset clock, and then a clock for each sample

@@ -1,33 +1,26 @@
 -- What `run` does of a program with one input and one output.
-use Rattle.std.proofs.Common.{◌≡◌, ◌≢◌, ℕ, ◌+◌, ◌-◌, ◌*◌, ◌^◌, ◌<◌, ◌≤◌, Bool, true, false, List, [], ◌∷◌, ◌++◌, length, map, take, Option, None, Some, IfSome, refl, sym, ap, ◌∙◌, subst, arith, cond}
-use Rattle.std.specs.List.{AllByRecursion}
+use Rattle.std.proofs.Common.{◌≡◌, ◌≢◌, ℕ, ◌+◌, ◌-◌, ◌*◌, ◌^◌, ◌<◌, ◌≤◌, Bool, true, false, List, [], ◌∷◌, ◌++◌, length, take, Option, None, Some, IfSome, refl, sym, ap, ◌∙◌, subst, arith, cond}
 use Rattle.std.specs.Str.{bytes_eq}
 use Rattle.std.specs.Bool.{Decides}
 use Rattle.std.proofs.lemmas.Slice.Eq.{bytes_eq-Decides}
-use Rattle.std.specs.Io.KnownBytes.{prepend_known}
-use Rattle.dk_desk.specs.declared.InSlot.TheVariants.{Image as ImageSlot}
-use Rattle.dk_desk.specs.declared.Stage.{Stage}
-use Rattle.dk_desk.specs.declared.Stage.TheVariants.{Unasked, Refused, Open}
+use Rattle.dk_desk.specs.declared.Stage.TheVariants.{Unasked, Open}
 use Rattle.dk_desk.specs.Outside.{Outside, Input, Created}
-use Rattle.dk_desk.specs.Calls.{HasCauseIn, IsIfTold, OpensOnly, CreatesOnly, AddsToFile, WritesFront, grown, with_created, with_file, grow_created, grow_file}
+use Rattle.dk_desk.specs.Calls.{HasCauseIn, IsIfTold, AddsToFile, grown, with_created, with_file, grow_created, grow_file}
 use Rattle.dk_types.specs.Typed.{Typing}
 use Rattle.wiring.specs.Netlist.{Netlist}
 use Rattle.buffer_plan.specs.Plans.{latency}
 use Rattle.cycle_sim.specs.declared.fill.Fill.TheVariants.{Zeros}
 use Rattle.cycle_sim.specs.Filled.{filled_contents}
-use Rattle.pgm_codec.specs.declared.header.Header.{Header}
 use Rattle.pgm_codec.specs.Images.{Picture as Image}
 use Rattle.pgm_rounds.specs.declared.fault.ImageFault.{ImageFault as FileFault}
 use Rattle.pgm_rounds.specs.Ports.{Ports}
 use Rattle.pgm_rounds.specs.Files.{FitsFile, IsFault, IsHeaded}
 use Rattle.row_stream.specs.declared.faults.StreamFault.{StreamFault}
-use Rattle.row_stream.specs.declared.faults.StreamFault.TheVariants.{Image as ImageFails, Read, Write}
+use Rattle.row_stream.specs.declared.faults.StreamFault.TheVariants.{Image as ImageFails, Read}
 use Rattle.row_stream.specs.declared.rows.RowsFault.TheVariants.{Raster, Read as RowsRead}
 use Rattle.row_stream.specs.Lines.{Kind, head}
 use Rattle.row_stream.specs.Moving.{Gains, GainsBut}
-use Rattle.row_stream.specs.Heads.{RefusesHead, TakesHead}
-use Rattle.row_stream.specs.Ends.{one_port}
-use Rattle.row_stream.specs.Whole.{Creates, LeavesAll, Leaves, LeavesBehind, LeavesInside, FailsInside, FailsBehind, FailsFirst, at_create, at_head, at_reset, LeavesAtFault as StreamsToFault, at_start, behind, inside, LeavesAtRead as StreamsToRead, read_at_start, read_behind, read_inside, LeavesAtWrite as StreamsToWrite, write_first, write_inside, write_behind, StopsAtFault}
+use Rattle.row_stream.specs.Whole.{Creates, LeavesAll, LeavesBehind, LeavesInside, FailsFirst, at_create, at_head, at_reset, LeavesAtFault as StreamsToFault, at_start, behind, inside, LeavesAtRead as StreamsToRead, read_at_start, read_behind, read_inside, LeavesAtWrite as StreamsToWrite, write_first, write_inside, write_behind, StopsAtFault}
 use Rattle.row_stream.proofs.FirstFault.{told_parts}
 use Rattle.row_stream.proofs.Leaving.{creates_from}
 use Rattle.dk_compile.specs.declared.compiling.Compiled.{Compiled}
@@ -35,13 +28,13 @@ use Rattle.dk_endings.specs.declared.ending.Ending.{Ending}
 use Rattle.dk_endings.specs.declared.ending.Ending.TheVariants as ending
 use Rattle.dk_endings.specs.declared.ending.ImageFault.TheVariants.{File, TooLong}
 use Rattle.dk_top.specs.Program.{IsAcceptedAt, ports}
-use Rattle.dk_top.specs.Output.{Fits, output_file}
+use Rattle.dk_top.specs.Output.{output_file}
 use Rattle.dk_top.specs.Compiling.{IsCompiledFrom, NotesRun}
 use Rattle.dk_top.specs.Streaming.{IsOnePort, first_bits, IsBegun, output_kind, shown_by, OfStream, LeavesAtFault, LeavesAtRead, LeavesAtWrite}
-use Rattle.dk_top.specs.Verdict.{Files, bytes_of, run_terms, OfPair, IsRunAnswer, IsAnswer}
+use Rattle.dk_top.specs.Verdict.{Files, bytes_of, run_terms, OfPair, IsRunAnswer}
 use Rattle.dk_top.specs.Command.{run}
-use Rattle.dk_top.specs.State.{OthersStay, CreatesNothing, CreatesRun, IsStreamed, IsHeldRun, HoldsAtWrite, by_lines, NotedRun}
-use Rattle.dk_top.specs.Streams.{StreamEnds, OpensImages, RunsStream, refused, streamed, RunsOn}
+use Rattle.dk_top.specs.State.{OthersStay, CreatesNothing, CreatesRun, IsStreamed, IsHeldRun, by_lines, NotedRun}
+use Rattle.dk_top.specs.Streams.{StreamEnds, OpensImages, streamed, RunsOn}
 use Rattle.dk_top.proofs.VerdictLemmas.{OneProgram}
 use Rattle.dk_top.proofs.CompileLemmas.{PlannedAccepted, compiled_accepted}
 use Rattle.dk_top.proofs.DriveShown.{PictureLaw, RasterLaw}
@@ -49,7 +42,7 @@ use Rattle.dk_top.proofs.DrivePorts.{power_up_fits}
 use Rattle.dk_top.proofs.DriveLemmas as D
 use Rattle.dk_top.proofs.StreamLemmas as S
 use Rattle.dk_top.proofs.StreamFile.{ShowsLaw}
-use Rattle.dk_top.proofs.StreamTaken.{headed_images, headed_line, headed_taken, takes_images, takes_lines}
+use Rattle.dk_top.proofs.StreamTaken.{headed_images, headed_line, headed_taken}
 use Rattle.dk_top.proofs.StreamHeld.{MostLaws, held_fault, held_read, held_write}
 use Rattle.dk_top.proofs.StreamDone.{rounds_of_images, inputs, ports_one, whole_fits, file_done, notes_done}
 

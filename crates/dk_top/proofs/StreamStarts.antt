@@ -1,5 +1,5 @@
 -- What a stream asks of a module: a compiled one of one input and one output can be streamed.
-use Rattle.std.proofs.Common.{◌≡◌, ℕ, zero, suc, ◌+◌, ◌-◌, ◌*◌, ◌^◌, ◌<◌, ◌≤◌, true, false, List, [], ◌∷◌, ◌++◌, length, map, All, Some, slice_get, slice_index, slice_index_or, if◌then◌else◌, Bool, refl, sym, ap, ◌∙◌, subst, arith}
+use Rattle.std.proofs.Common.{◌≡◌, ℕ, ◌+◌, ◌-◌, ◌*◌, ◌^◌, ◌<◌, ◌≤◌, true, false, List, [], ◌∷◌, ◌++◌, length, map, All, Some, slice_get, slice_index, slice_index_or, if◌then◌else◌, Bool, refl, sym, ap, ◌∙◌, subst, arith}
 use Rattle.std.specs.List.{AllByRecursion}
 use Rattle.std.proofs.lemmas.List.{length-map}
 use Rattle.std.proofs.lemmas.List.Elements.{All-nil, All-cons}
@@ -15,17 +15,15 @@ use Rattle.dk_types.specs.Typed.{Typing, types_of}
 use Rattle.dk_types.specs.Kept.{ArePorts}
 use Rattle.wiring.specs.Netlist.{Netlist, net_width, dout_net}
 use Rattle.wiring.specs.Snapshot.{Contents, Snapshot, Fit}
-use Rattle.wiring.specs.Clock.{Clock, given, Steps, Stops}
+use Rattle.wiring.specs.Clock.{Clock, given, Stops}
 use Rattle.wiring.specs.Runs.{Runs, RunStops}
-use Rattle.pointwise_ir.specs.declared.ir.Input.{Input}
-use Rattle.circuit.specs.Driven.{driven}
 use Rattle.cycle_sim.specs.Ports.{din_widths}
 use Rattle.cycle_sim.specs.declared.fill.Fill.TheVariants.{Zeros}
 use Rattle.cycle_sim.specs.Filled.{filled_contents}
 use Rattle.program_images.specs.Ports.{bits_of}
 use Rattle.test_bench.proofs.Streams.{read_at}
 use Rattle.row_stream.specs.Lines.{Kind}
-use Rattle.row_stream.specs.Standing.{IsOneToOne, IsPixelClock, GoesOn, Lasts, Starts, reset_clock}
+use Rattle.row_stream.specs.Standing.{IsOneToOne, IsPixelClock, Starts, reset_clock}
 use Rattle.netlist.specs.Names.{NamedNetlist}
 use Rattle.buffer_plan.specs.Plans.{latency}
 use Rattle.dk_desk.specs.Outside.{Outside}

@@ -1,33 +1,25 @@
 -- The lines of a file that a stream has taken.
-use Rattle.std.proofs.Common.{◌≡◌, ℕ, zero, suc, ◌+◌, ◌-◌, ◌*◌, ◌^◌, ◌<◌, ◌≤◌, List, [], ◌∷◌, ◌++◌, length, Option, None, Some, refl, sym, ap, ◌∙◌, subst, arith, suc-mul, append-nil, append_assoc}
+use Rattle.std.proofs.Common.{◌≡◌, ℕ, suc, ◌+◌, ◌-◌, ◌*◌, ◌^◌, ◌<◌, ◌≤◌, List, [], ◌∷◌, ◌++◌, length, Some, refl, sym, ap, ◌∙◌, subst, arith, suc-mul, append-nil, append_assoc}
 use Rattle.std.specs.List.{AllByRecursion}
-use Rattle.std.proofs.lemmas.List.{append_cancel_right}
 use Rattle.std.proofs.Math.Nat.{mul-le-mul_right}
-use Rattle.std.specs.Io.KnownBytes.{prepend_known}
 use Rattle.dk_base.specs.declared.TheConstants.{MAX_FILE_IMAGES}
 use Rattle.dk_base.specs.Frames.{Size}
 use Rattle.dk_desk.specs.Outside.{Outside}
-use Rattle.dk_desk.specs.Calls.{LosesFewer}
 use Rattle.wiring.specs.Netlist.{Netlist}
 use Rattle.wiring.specs.Snapshot.{Contents}
 use Rattle.pgm_codec.specs.declared.header.Header.{Header}
 use Rattle.pgm_codec.specs.Answers.{Reads}
 use Rattle.pgm_codec.proofs.Stays.{reads_more}
-use Rattle.pgm_codec.specs.Images.{Picture as Image, IsPicture, AreImages, IsRaster}
-use Rattle.pgm_rounds.specs.declared.fault.ImageFault.{ImageFault}
+use Rattle.pgm_codec.specs.Images.{Picture as Image, AreImages, IsRaster}
 use Rattle.pgm_rounds.specs.Files.{IsHeaded}
-use Rattle.pgm_codec.specs.declared.raster.RasterFault.{RasterFault}
-use Rattle.row_stream.specs.declared.faults.StreamFault.TheVariants.{Image as ImageFails, Read}
-use Rattle.row_stream.specs.declared.rows.RowsFault.{RowsFault}
-use Rattle.row_stream.specs.declared.rows.RowsFault.TheVariants.{Raster, Read as RowsRead}
 use Rattle.row_stream.specs.Lines.{Kind}
 use Rattle.row_stream.specs.Heads.{FitsHeader}
 use Rattle.row_stream.specs.Images.{FitsImage, samples_of}
-use Rattle.row_stream.specs.Ends.{greatest, EndsNext, RefusesNext, refused, too_many, LosesNext, in_header, at_byte}
-use Rattle.row_stream.specs.Whole.{ShowsImages, ShowsLines, LeavesBehind, LeavesInside, FailsInside, FailsBehind}
+use Rattle.row_stream.specs.Ends.{greatest}
+use Rattle.row_stream.specs.Whole.{ShowsImages, ShowsLines}
 use Rattle.row_stream.specs.Most.{BeginsLines, EndsLines, nothing, lines, image}
 use Rattle.row_stream.proofs.FirstFault.{told_parts}
-use Rattle.dk_top.specs.Streaming.{OpenLines, between, opened, LinesTaken, AreMost, IsBegun}
+use Rattle.dk_top.specs.Streaming.{OpenLines, between, opened, LinesTaken, AreMost}
 
 -- bytes that begin with a header that fits
 pub headed_line : (size : Size) (bits : ℕ) (head rest : List ℕ) (header : Header) → Reads head header → FitsHeader size bits header → IsHeaded size bits (head ++ rest) header

@@ -1,7 +1,5 @@
 use Rattle.std.proofs.Common.{◌≡◌, ℕ, true, false, List, Err, IfSome, refl, sym, ap, ◌∙◌, subst}
 use Rattle.dk_desk.specs.Outside.{Outside}
-use Rattle.dk_desk.specs.Calls.{HasCauseIn}
-use Rattle.dk_endings.specs.declared.ending.Ending.{Ending}
 use Rattle.dk_endings.specs.declared.ending.Ending.TheVariants as ending
 use Rattle.dk_top.specs.State.{IsPrefix}
 use Rattle.dk_top.proofs.RunLemmas.{cause_as, ok_apart, rounds_stop, rounds_done, rounds_write}

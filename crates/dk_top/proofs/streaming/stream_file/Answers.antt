@@ -1,5 +1,4 @@
 use Rattle.std.proofs.Common.{◌≡◌, subst}
-use Rattle.dk_desk.specs.Outside.{Outside}
 use Rattle.row_stream.specs.Forms.{kind_of}
 use Rattle.row_stream.specs.Whole.{Leaves}
 use Rattle.dk_top.specs.Streams.{OpensImages, streamed}
