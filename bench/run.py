@@ -1,11 +1,11 @@
 #!/usr/bin/env python3
 """`run` beside Verilator and Icarus Verilog on the text that `compile` prints, with one picture and in one run of this script.
 
-usage: python3 bench/run.py DK [WIDTH HEIGHT]
+usage: python3 bench/run.py DK [WIDTH HEIGHT [NAME]]
 
-It takes the 3 by 3 Gaussian of the examples at 640 by 480 pixels, or at the size that is given, prints the processor
-time of each (Verilator's compiling aside), and stops where two pictures differ. A tool that
-is not there is passed over.
+It takes the 3 by 3 Gaussian of the examples at 640 by 480 pixels, or another example of one input of 8 bits at another size,
+prints the processor time of each (Verilator's compiling aside), and stops where two pictures differ. A tool that is not there
+is passed over.
 """
 import os
 import re
@@ -21,26 +21,44 @@ HARNESS = """
 #include <cstdio>
 #include <vector>
 int main() {
-    std::vector<unsigned char> in(%(pixels)d), out;
+    std::vector<unsigned char> in(%(pixels)d), out[%(outputs)d];
     FILE *f = fopen("raster", "rb");
     if (fread(in.data(), 1, in.size(), f) != in.size()) return 1;
     fclose(f);
-    out.reserve(in.size());
+    for (auto &bytes : out) bytes.reserve(2 * in.size());
     Vm m;
     for (long k = -1; k < %(clocks)dL; k++) {
         m.clk = 0;
         m.rst = k < 0;
         m.din = k >= 0 && k < (long)in.size() ? in[k] : 0;
         m.eval();
-        if (m.valid) out.push_back(m.dout);
-        m.clk = 1;
+%(shown)s        m.clk = 1;
         m.eval();
     }
     f = fopen("verilated", "wb");
-    fwrite(out.data(), 1, out.size(), f);
+    for (auto &bytes : out) fwrite(bytes.data(), 1, bytes.size(), f);
     fclose(f);
 }
 """
+
+
+def shown(number, bits, pixels):
+    """The lines of the harness that keep the samples of an output, as a raster has them."""
+    name = str(number) if number else ""
+    size = 1 if bits <= 8 else 2
+    high = f"out[{number}].push_back(m.dout{name} >> 8); " if size == 2 else ""
+    return f"        if (m.valid{name} && out[{number}].size() < {size * pixels}) {{ {high}out[{number}].push_back(m.dout{name} & 255); }}\n"
+
+
+def rasters(file):
+    """The rasters of a file of images, one behind the other."""
+    found = b""
+    while file:
+        magic, size, maxval, rest = file.split(b"\n", 3)
+        width, height = map(int, size.split())
+        length = width * height * (1 if int(maxval) < 256 else 2)
+        found, file = found + rest[:length], rest[length:]
+    return found
 
 
 def timed(*words, **how):
@@ -55,7 +73,8 @@ def timed(*words, **how):
 def main():
     dk = os.path.abspath(sys.argv[1])
     width, height = map(int, sys.argv[2:4]) if len(sys.argv) > 2 else (640, 480)
-    text = open(f"{HERE}/../examples/gaussian3.dk", encoding="utf-8").read()
+    example = sys.argv[4] if len(sys.argv) > 4 else "gaussian3"
+    text = open(f"{HERE}/../examples/{example}.dk", encoding="utf-8").read()
     pixels = width * height
     with tempfile.TemporaryDirectory() as room:
         os.chdir(room)
@@ -68,9 +87,10 @@ def main():
         clocks = int(re.search(r"^clocks (\d+)$", plan, re.M)[1])
         own = timed(dk, "run", "g.dk", "g.pgm", "own.pgm")
         print(f"dk run: {own:.2f} s, {1e9 * own / clocks:.0f} ns a clock")
-        wanted = open("own.pgm", "rb").read().split(b"\n", 3)[3]
+        wanted = rasters(open("own.pgm", "rb").read())
+        outputs = [int(bits or 0) + 1 for bits in re.findall(r"output (?:\[(\d+):0\] )?dout\d?", open("g.v", encoding="utf-8").read())]
         if shutil.which("verilator"):
-            open("m.cpp", "w", encoding="utf-8").write(HARNESS % {"pixels": pixels, "clocks": clocks})
+            open("m.cpp", "w", encoding="utf-8").write(HARNESS % {"pixels": pixels, "clocks": clocks, "outputs": len(outputs), "shown": "".join(shown(k, bits, pixels) for k, bits in enumerate(outputs))})
             name = re.search(r"module (\w+)", open("g.v", encoding="utf-8").read())[1]
             build = ["verilator", "-O3", "--x-assign", "0", "--x-initial", "0", "--noassert", "-Wno-fatal", "--cc", "--exe", "--build", "-CFLAGS", "-O3", "--prefix", "Vm", "--top-module", name, "g.v", "m.cpp"]
             subprocess.run(build, check=True, stdout=subprocess.DEVNULL, stderr=subprocess.DEVNULL)
