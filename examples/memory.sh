@@ -123,5 +123,5 @@ refuses 'compile of the Sobel filter' out.v compile sobel.dk out.v
 refuses 'plan of the Sobel filter' out.none plan sobel.dk
 refuses 'sim of a line buffer' out.pgm sim line_buffer.v 3072 scene.pgm out.pgm
 refuses 'trace of a line buffer' out.vcd trace line_buffer.v 200 scene.pgm out.vcd
-refuses 'make 4194303' out.none make 4194303
+refuses 'make 7' out.none make 7
 exit $failed
