@@ -7,7 +7,7 @@ use dk_words::{
 use std::alloc::Global;
 use std::test::Fail;
 
-/// The words of a line.
+// The words of a line.
 fn words(alloc: Global, line: &str) -> Result<Vec<String>, Fail> {
     let mut words = Vec::new(alloc);
     for word in line.split(' ') {

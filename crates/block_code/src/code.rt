@@ -8,7 +8,7 @@ use crate::reads::reads_of;
 use crate::updates::{nexts_of, puts_of};
 use block_rows::Instruction;
 use cycle_sim::{layout_of, widths_of_wiring};
-use dk_base::Memory;
+use dk_base::OutOfMemory;
 use netlist::{Atom, Module, Width};
 use std::alloc::Global;
 
@@ -45,7 +45,11 @@ pub struct BlockCode {
 impl BlockCode {
     /// The code of a module, with its instructions in this order of its assigns. None where the order does not name each assign that
     /// reads no array, or does not put an instruction behind those that it reads, or where some array is not read by one assign.
-    pub fn of(alloc: Global, module: &Module, order: &[usize]) -> Result<Option<BlockCode>, Memory>
+    pub fn of(
+        alloc: Global,
+        module: &Module,
+        order: &[usize],
+    ) -> Result<Option<BlockCode>, OutOfMemory>
         ensures { IfOk result (λ o. IfSome o (IsBlockCode «module».now.netlist)) }
     {
         let wiring = module.wiring();

@@ -171,8 +171,8 @@ pub fn bare_marks(alloc: Global, count: usize) -> Result<Vec<bool>, AllocError>
     Ok(marks)
 }
 
-/// The instructions of the assigns in this order. None where the order does not name each assign that reads no array, or does not
-/// put an instruction behind those that it reads.
+// The instructions of the assigns in this order. None where the order does not name each assign that reads no array, or does not
+// put an instruction behind those that it reads.
 pub fn instructions_of(
     alloc: Global,
     layout: Layout,

@@ -97,7 +97,7 @@ fn bare_reads(alloc: Global, wiring: &Wiring) -> Result<Vec<WordRead>, AllocErro
     Ok(reads)
 }
 
-/// The read of each array. None where some array is not read by one assign.
+// The read of each array. None where some array is not read by one assign.
 #[tactic(auto, using(crate::proofs::Assigned::none_read))]
 pub fn reads_of(
     alloc: Global,

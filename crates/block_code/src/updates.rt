@@ -33,7 +33,7 @@ fn bare_nexts(alloc: Global, wiring: &Wiring) -> Result<Vec<Atom<usize>>, AllocE
     Ok(nexts)
 }
 
-/// The next value of each register.
+// The next value of each register.
 pub fn nexts_of(
     alloc: Global,
     layout: Layout,
@@ -78,7 +78,7 @@ fn bare_puts(alloc: Global, wiring: &Wiring) -> Result<Vec<WordPut>, AllocError>
     Ok(puts)
 }
 
-/// The put of each array.
+// The put of each array.
 pub fn puts_of(alloc: Global, layout: Layout, wiring: &Wiring) -> Result<Vec<WordPut>, AllocError>
     requires layout { IsLayout (netlist_of wiring.now) layout }
     requires rules { KeepsRules (netlist_of wiring.now) }

@@ -4,7 +4,7 @@ use netlist::Wiring;
 use std::alloc::{AllocError, Global};
 use wiring::{Atom, Net, Right, Update};
 
-/// The nodes that a node reads.
+// The nodes that a node reads.
 #[derive(Clone, Copy)]
 pub(crate) struct Needs {
     pub(crate) first: Option<usize>,
@@ -104,7 +104,7 @@ fn depth_of(wiring: &Wiring, array: usize) -> usize {
     }
 }
 
-/// The number of words of the array that an assign reads, if it reads one.
+// The number of words of the array that an assign reads, if it reads one.
 pub(crate) fn reads_array(wiring: &Wiring, assign: usize) -> Option<usize> {
     match wiring.assigns.get(assign) {
         None => None,
@@ -145,7 +145,7 @@ fn are_one(counts: &[usize]) -> bool {
     true
 }
 
-/// Whether each array is read by one assign and put once.
+// Whether each array is read by one assign and put once.
 pub(crate) fn arrays_are_single(alloc: Global, wiring: &Wiring) -> Result<bool, AllocError> {
     let arrays = wiring.arrays.len();
     let mut reads = vec![in alloc; 0usize; arrays]?;
@@ -217,7 +217,7 @@ fn update_needs(wiring: &Wiring, drivers: &[Option<usize>], update: &Update) -> 
     needs
 }
 
-/// What each node needs, for blocks of so many clocks.
+// What each node needs, for blocks of so many clocks.
 pub(crate) fn needs_of(
     alloc: Global,
     wiring: &Wiring,

@@ -5,7 +5,7 @@
 use crate::graph::{Needs, arrays_are_single, needs_of, reads_array};
 use crate::groups::{Groups, groups_of};
 use crate::search::components_of;
-use dk_base::Memory;
+use dk_base::OutOfMemory;
 use netlist::{Module, Wiring};
 use std::alloc::{AllocError, Global};
 use wiring::Update;
@@ -196,7 +196,7 @@ fn add_groups(
 
 /// The plan of a module for blocks of so many clocks; None where there is none: an array that is not read by one assign and put
 /// once, or one on a cycle. Time and memory are linear in the module.
-pub fn make_plan(alloc: Global, module: &Module, size: usize) -> Result<Option<Plan>, Memory> {
+pub fn make_plan(alloc: Global, module: &Module, size: usize) -> Result<Option<Plan>, OutOfMemory> {
     let wiring = module.wiring();
     if !arrays_are_single(alloc, wiring)? {
         return Ok(None);

@@ -11,7 +11,7 @@ struct Visit {
     looked: usize,
 }
 
-/// The component of each node, counted from 1 in the order in which they were found, and how many there are.
+// The component of each node, counted from 1 in the order in which they were found, and how many there are.
 #[derive(Drop)]
 pub(crate) struct Found {
     pub(crate) component: Vec<usize>,
@@ -116,7 +116,7 @@ fn begin(search: &mut Search, node: usize) -> Result<(), AllocError> {
     Ok(())
 }
 
-/// The components of all nodes.
+// The components of all nodes.
 pub(crate) fn components_of(alloc: Global, needs: &[Needs]) -> Result<Found, AllocError> {
     let count = needs.len();
     let mut search = Search {

@@ -158,7 +158,7 @@ impl Pair for Second {
     }
 }
 
-/// A row above another one of some bits.
+// A row above another one of some bits.
 #[tactic(auto, using(crate::proofs::Masks::above_is, crate::proofs::Masks::alone_is))]
 pub fn join_row(width: u8, to: &mut [u64], a: &[u64], b: &[u64])
     requires narrow { width ≤ 64 }

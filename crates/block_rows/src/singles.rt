@@ -22,7 +22,7 @@ pub(crate) fn single_row<S: Single>(single: &S, to: &mut [u64], a: &[u64])
     }
 }
 
-/// The number itself.
+// The number itself.
 #[derive(Clone, Copy)]
 pub(crate) struct Whole;
 
@@ -34,7 +34,7 @@ impl Single for Whole {
     }
 }
 
-/// All bits of a mask turned.
+// All bits of a mask turned.
 #[derive(Clone, Copy)]
 pub(crate) struct Turned {
     pub(crate) mask: u64,
@@ -48,7 +48,7 @@ impl Single for Turned {
     }
 }
 
-/// The bits of a mask, from a place on.
+// The bits of a mask, from a place on.
 #[derive(Clone, Copy)]
 pub(crate) struct Part {
     pub(crate) from: u8,
@@ -63,7 +63,7 @@ impl Single for Part {
     }
 }
 
-/// So many times a number.
+// So many times a number.
 #[derive(Clone, Copy)]
 pub(crate) struct Times {
     pub(crate) factor: u64,
@@ -102,7 +102,7 @@ fn one_above(all: u64, width: u8) -> u64
     }
 }
 
-/// Copies of a row of some bits, one above the other.
+// Copies of a row of some bits, one above the other.
 #[tactic(auto, using(crate::proofs::Masks::copies_are))]
 pub(crate) fn repeat_row(copies: u8, width: u8, to: &mut [u64], a: &[u64])
     requires narrow { width ≤ 64 }
@@ -115,7 +115,7 @@ pub(crate) fn repeat_row(copies: u8, width: u8, to: &mut [u64], a: &[u64])
     single_row(&Times { factor }, to, a);
 }
 
-/// At each clock one of two rows, by a bit.
+// At each clock one of two rows, by a bit.
 pub(crate) fn choose_row(to: &mut [u64], bit: &[u64], a: &[u64], b: &[u64])
     requires bit { length bit.now ≡ length to.old }
     requires a { length a.now ≡ length to.old }
@@ -128,7 +128,7 @@ pub(crate) fn choose_row(to: &mut [u64], bit: &[u64], a: &[u64], b: &[u64])
     }
 }
 
-/// At each clock the same number.
+// At each clock the same number.
 pub(crate) fn constant_row(to: &mut [u64], number: u64)
     ensures count { length to.new ≡ length to.old }
     ensures each { (t : ℕ) → t < length to.new → slice_index to.new t ≡ number }

@@ -11,7 +11,7 @@ use crate::given::row_at;
 use block_code::{WordPut, WordRead};
 use block_rows::{all_inside, atom_row, note_constant, take_back, word_row};
 
-/// Spare rows for the constants among an array's indexes and values.
+// Spare rows for the constants among an array's indexes and values.
 #[derive(Debug, Drop)]
 pub struct ArrayRoom {
     pub read: Vec<u64>,
@@ -98,7 +98,7 @@ fn pass_rows(
     pass_words(words, to, lost, reads, indexes, values, target)
 }
 
-/// The same over the first so many places of two rows.
+// The same over the first so many places of two rows.
 pub fn pass_first(
     rows: &[Vec<u64>],
     room: &mut ArrayRoom,
@@ -124,7 +124,7 @@ pub fn pass_first(
     pass_rows(rows, room, read, put, words, to, lost)
 }
 
-/// Takes back what an array was given in so many clocks.
+// Takes back what an array was given in so many clocks.
 #[tactic(auto, using(crate::proofs::OnePass::puts_inside))]
 pub fn undo_array(
     rows: &[Vec<u64>],

@@ -17,7 +17,7 @@ use crate::pause::Pause;
 use crate::pieces::step_pieces;
 use crate::rows::Rows;
 use cycle_sim::{Fill, IndexRange, Out, Sim};
-use dk_base::Memory;
+use dk_base::OutOfMemory;
 use netlist::{Module, Wiring, one_run};
 use std::alloc::Global;
 use std::marker::Model;
@@ -52,7 +52,7 @@ pub struct Stop {
     pub range: IndexRange,
 }
 
-/// The number of dins: the inputs behind `rst` and, where there is one, `en`.
+// The number of dins: the inputs behind `rst` and, where there is one, `en`.
 fn dins_in(wiring: &Wiring) -> usize
     requires { KeepsRules (netlist_of wiring.now) }
     ensures { result ≡ din_count (netlist_of wiring.now) }
@@ -61,7 +61,7 @@ fn dins_in(wiring: &Wiring) -> usize
     wiring.inputs.split_at(first).1.len()
 }
 
-/// The number of dins of a module.
+// The number of dins of a module.
 fn dins_of(module: &Module) -> usize
     ensures { result ≡ din_count «module».now.netlist }
 {
@@ -71,7 +71,7 @@ fn dins_of(module: &Module) -> usize
 
 impl Blocks {
     /// A simulator of a module, with these contents at power-up. No later call takes memory.
-    pub fn new(alloc: Global, module: &Module, fill: Fill) -> Result<Blocks, Memory>
+    pub fn new(alloc: Global, module: &Module, fill: Fill) -> Result<Blocks, OutOfMemory>
         ensures netlist { IfOk result (λ b. b.netlist ≡ «module».now.netlist) }
         ensures contents { IfOk result (λ b. b.contents ≡ filled_contents fill «module».now.netlist) }
     {

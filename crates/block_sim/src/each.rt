@@ -10,8 +10,8 @@ ghost use Rattle.block_sim.specs.Called.{din_count, output_count, block_clocks, 
 use crate::blocks::Stop;
 use cycle_sim::{Out, Sim};
 
-/// The clocks of a block from one up to another, one after another, each with so many dins. What is said of them begins with
-/// what came before.
+// The clocks of a block from one up to another, one after another, each with so many dins. What is said of them begins with
+// what came before.
 pub fn step_each(
     sim: &mut Sim,
     ports: usize,

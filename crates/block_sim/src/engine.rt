@@ -7,17 +7,17 @@ use block_plan::Plan;
 use netlist::{Right, Update, Wiring};
 use std::alloc::{AllocError, Global};
 
-/// The code of a module, with the plan after which its rows are filled. The plan is a proposal: nothing rests on it.
+// The code of a module, with the plan after which its rows are filled. The plan is a proposal: nothing rests on it.
 #[derive(Debug, Drop)]
 pub struct Engine {
     pub code: BlockCode,
     pub plan: Plan,
-    /// For each slot the first instruction that uses it.
+    // For each slot the first instruction that uses it.
     pub uses: Vec<usize>,
-    /// The register of each update, and the array that each assign reads, if there is one.
+    // The register of each update, and the array that each assign reads, if there is one.
     pub registers: Vec<Option<usize>>,
     pub arrays: Vec<Option<usize>>,
-    /// Whether there is the port en, and how many dins there are.
+    // Whether there is the port en, and how many dins there are.
     pub has_enable: bool,
     pub ports: usize,
 }
@@ -29,7 +29,7 @@ fn register_of(update: &Update) -> Option<usize> {
     }
 }
 
-/// The register that each update sets.
+// The register that each update sets.
 pub fn registers_of(alloc: Global, wiring: &Wiring) -> Result<Vec<Option<usize>>, AllocError> {
     let mut registers = Vec::new(alloc);
     for update in &wiring.updates {
@@ -45,7 +45,7 @@ fn array_of<N>(right: &Right<N, usize>) -> Option<usize> {
     }
 }
 
-/// The array that each assign reads.
+// The array that each assign reads.
 pub fn arrays_of(alloc: Global, wiring: &Wiring) -> Result<Vec<Option<usize>>, AllocError> {
     let mut arrays = Vec::new(alloc);
     for assign in &wiring.assigns {

@@ -12,7 +12,7 @@ fn place_in(row: &[u64], t: usize) -> u64 {
     if t < row.len() { row[t] } else { 0 }
 }
 
-/// What a slot is worth at a clock.
+// What a slot is worth at a clock.
 pub fn slot_value(rows: &[Vec<u64>], slot: usize, t: usize) -> u64 {
     match rows.get(slot) {
         Some(row) => place_in(row, t),
@@ -20,14 +20,14 @@ pub fn slot_value(rows: &[Vec<u64>], slot: usize, t: usize) -> u64 {
     }
 }
 
-/// What an atom is worth: what a row has at each clock, or at all clocks the same.
+// What an atom is worth: what a row has at each clock, or at all clocks the same.
 #[derive(Clone, Copy)]
 pub enum Worth<'a> {
     Row(&'a [u64]),
     Same(u64),
 }
 
-/// What an atom is worth over rows.
+// What an atom is worth over rows.
 pub fn worth_of<'a>(rows: &'a [Vec<u64>], a: &Atom<usize>) -> Worth<'a> {
     match a {
         Atom::Net(slot) => Worth::Row(row_of(rows, *slot)),
@@ -35,7 +35,7 @@ pub fn worth_of<'a>(rows: &'a [Vec<u64>], a: &Atom<usize>) -> Worth<'a> {
     }
 }
 
-/// That at a clock.
+// That at a clock.
 pub fn worth_at(worth: Worth<'_>, t: usize) -> u64 {
     match worth {
         Worth::Row(row) => place_in(row, t),
@@ -43,7 +43,7 @@ pub fn worth_at(worth: Worth<'_>, t: usize) -> u64 {
     }
 }
 
-/// What an atom is worth at a clock.
+// What an atom is worth at a clock.
 pub fn atom_value(rows: &[Vec<u64>], a: &Atom<usize>, t: usize) -> u64 {
     match a {
         Atom::Net(slot) => slot_value(rows, *slot, t),
@@ -116,21 +116,21 @@ fn fill_line(to: &mut [u64], row: &[u64], first: usize, value: u64, step: u64) {
     }
 }
 
-/// The spare row becomes that of a register whose next value's row is there.
+// The spare row becomes that of a register whose next value's row is there.
 pub fn propose_shift(table: &mut Table, next: &Atom<usize>, held: u64)
     ensures { IsRefilled table.old table.new }
 {
     fill_shift(&mut table.room, &table.rows, next, held);
 }
 
-/// The spare row becomes what is read at the indexes of an atom, of words that stay as they are.
+// The spare row becomes what is read at the indexes of an atom, of words that stay as they are.
 pub fn propose_read(table: &mut Table, index: &Atom<usize>, words: &[u64])
     ensures { IsRefilled table.old table.new }
 {
     fill_read(&mut table.room, &table.rows, index, words);
 }
 
-/// The spare row becomes what is read of words that are written clock by clock.
+// The spare row becomes what is read of words that are written clock by clock.
 pub fn propose_small(
     table: &mut Table,
     read: &Atom<usize>,
@@ -178,7 +178,7 @@ fn input_value(engine: &Engine, enables: &[bool], dins: &[u64], clock: usize, in
     )
 }
 
-/// The spare row becomes what an input is given in so many clocks of a block from this one on.
+// The spare row becomes what an input is given in so many clocks of a block from this one on.
 pub fn propose_input(
     table: &mut Table,
     engine: &Engine,
@@ -193,7 +193,7 @@ pub fn propose_input(
     fill_input(&mut table.room, engine, enables, dins, input, first, count);
 }
 
-/// The row of a slot, if it is there.
+// The row of a slot, if it is there.
 pub fn row_of(rows: &[Vec<u64>], slot: usize) -> &[u64] {
     match rows.get(slot) {
         Some(row) => row,
@@ -201,7 +201,7 @@ pub fn row_of(rows: &[Vec<u64>], slot: usize) -> &[u64] {
     }
 }
 
-/// The spare row becomes the first so many places of a slot's row, and then a straight line.
+// The spare row becomes the first so many places of a slot's row, and then a straight line.
 pub fn propose_line(table: &mut Table, slot: usize, first: usize, value: u64, step: u64)
     ensures { IsRefilled table.old table.new }
 {

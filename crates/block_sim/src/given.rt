@@ -4,7 +4,7 @@ ghost use Rattle.std.specs.Prelude.{◌≡◌, ℕ, ◌+◌, ◌*◌, ◌<◌, �
 ghost use Rattle.block_rows.specs.Rights.{items_of, value_at};
 ghost use Rattle.block_sim.specs.Checked.{input_of, IsInputRow, AreInputRows};
 
-/// The row of a slot.
+// The row of a slot.
 pub fn row_at(rows: &[Vec<u64>], slot: usize) -> &[u64]
     requires { slot < length rows.now }
     ensures { result.now ≡ slice_index_or (items_of rows.now) slot [] }
@@ -62,7 +62,7 @@ fn is_given(
     true
 }
 
-/// Whether the rows of all inputs are what the ports are given in so many clocks of a block, from this one on.
+// Whether the rows of all inputs are what the ports are given in so many clocks of a block, from this one on.
 pub fn are_given(
     rows: &[Vec<u64>],
     inputs: usize,

@@ -18,7 +18,7 @@ use cycle_sim::{IndexRange, Out, Sim};
 use netlist::{Shape, Width, Wiring};
 use std::alloc::{AllocError, Global};
 
-/// What registers and arrays hold.
+// What registers and arrays hold.
 #[derive(Debug, Drop)]
 pub struct Held {
     pub regs: Vec<u64>,
@@ -43,7 +43,7 @@ fn zero_arrays(alloc: Global, shapes: &[Shape]) -> Result<Vec<Vec<u64>>, AllocEr
     Ok(arrays)
 }
 
-/// Zeros in all registers and arrays of a netlist.
+// Zeros in all registers and arrays of a netlist.
 #[tactic(auto, using(crate::proofs::Fitting::zeros_fit))]
 pub fn zeros(alloc: Global, wiring: &Wiring) -> Result<Held, AllocError>
     ensures { IfOk result (λ h. FitsContents (netlist_of wiring.now) (contents_in h)) }
@@ -53,7 +53,7 @@ pub fn zeros(alloc: Global, wiring: &Wiring) -> Result<Held, AllocError>
     Ok(Held { regs, arrays })
 }
 
-/// One clock of a simulator over what is held.
+// One clock of a simulator over what is held.
 pub fn step_held(
     sim: &mut Sim,
     held: &mut Held,
@@ -81,7 +81,7 @@ pub fn step_held(
     done
 }
 
-/// Clocks of a block, one by one, over what is held: `step_each`.
+// Clocks of a block, one by one, over what is held: `step_each`.
 pub fn each_held(
     sim: &mut Sim,
     held: &mut Held,

@@ -55,8 +55,8 @@ fn are_right(
     )
 }
 
-/// Whether rows keep the equations of their code over so many clocks from this one on. Registers and arrays then hold what they do
-/// behind these clocks, else what they did.
+// Whether rows keep the equations of their code over so many clocks from this one on. Registers and arrays then hold what they do
+// behind these clocks, else what they did.
 pub fn judge(
     engine: &Engine,
     rows: &[Vec<u64>],

@@ -18,14 +18,14 @@ use crate::uses::first_uses;
 use block_code::BlockCode;
 use block_plan::{Plan, make_plan};
 use block_rows::Spares;
-use dk_base::Memory;
+use dk_base::OutOfMemory;
 use netlist::{Module, Wiring};
 use std::alloc::{AllocError, Global};
 
-/// The most words that rows take.
+// The most words that rows take.
 const MOST_WORDS: usize = 8 * 1024 * 1024;
 
-/// Arrays of fewer words are copied for a piece.
+// Arrays of fewer words are copied for a piece.
 const SMALL: usize = PIECE + 1;
 
 // So many rows of zeros.
@@ -143,8 +143,8 @@ fn engine_of(
     })
 }
 
-/// Rows for a module, if there is a plan for it and not too much room is wanted.
-pub fn rows_of(alloc: Global, module: &Module, ports: usize) -> Result<Option<Rows>, Memory>
+// Rows for a module, if there is a plan for it and not too much room is wanted.
+pub fn rows_of(alloc: Global, module: &Module, ports: usize) -> Result<Option<Rows>, OutOfMemory>
     requires ports { ports ≡ din_count «module».now.netlist }
     ensures { IfOk result (λ o. IfSome o (AreRowsOf «module».now.netlist)) }
 {

@@ -145,8 +145,8 @@ fn undo_arrays(
     }
 }
 
-/// All arrays over so many clocks: true if the equations of each are kept, and their words are then those behind them; else all
-/// words are as before.
+// All arrays over so many clocks: true if the equations of each are kept, and their words are then those behind them; else all
+// words are as before.
 pub fn pass_arrays(
     rows: &[Vec<u64>],
     room: &mut ArrayRoom,

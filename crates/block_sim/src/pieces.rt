@@ -16,7 +16,7 @@ use crate::pause::Pause;
 use crate::rows::{LEAST, Rows, rows_block};
 use cycle_sim::{Out, Sim};
 
-/// The greatest number of clocks that are made over whole rows.
+// The greatest number of clocks that are made over whole rows.
 pub const PIECE: usize = 128;
 
 // So many clocks over rows, if there are rows and they do.
@@ -103,7 +103,7 @@ fn size_of(rows: &Option<Rows>) -> usize
     }
 }
 
-/// The clocks of a block, piece by piece.
+// The clocks of a block, piece by piece.
 pub fn step_pieces(
     sim: &mut Sim,
     rows: &mut Option<Rows>,

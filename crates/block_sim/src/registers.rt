@@ -49,7 +49,7 @@ fn is_kept(
     follows(row, later, held)
 }
 
-/// Whether this is so for all registers, whose slots begin with the first one.
+// Whether this is so for all registers, whose slots begin with the first one.
 pub fn are_kept(
     rows: &[Vec<u64>],
     spare: &mut [u64],
@@ -73,7 +73,7 @@ pub fn are_kept(
     true
 }
 
-/// The value in a row at a clock.
+// The value in a row at a clock.
 pub fn place_of(row: &[u64], count: usize) -> u64
     requires { count < length row.now }
     ensures { result ≡ slice_index row.now count }
@@ -81,7 +81,7 @@ pub fn place_of(row: &[u64], count: usize) -> u64
     row[count]
 }
 
-/// The registers take the values of this place of their rows.
+// The registers take the values of this place of their rows.
 pub fn take_registers(rows: &[Vec<u64>], first: usize, regs: &mut [u64], count: usize)
     requires slots { first + length regs.old ≤ length rows.now }
     requires long { (n : ℕ) → n < length rows.now → count < length (slice_index_or (items_of rows.now) n []) }

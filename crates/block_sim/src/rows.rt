@@ -26,10 +26,10 @@ use crate::steps::{Hints, offer_row, take_steps};
 use crate::table::Table;
 use cycle_sim::{Out, Sim};
 
-/// Pieces of fewer clocks are made one by one.
+// Pieces of fewer clocks are made one by one.
 pub const LEAST: usize = 24;
 
-/// The rows of a module, and room for what is made over them.
+// The rows of a module, and room for what is made over them.
 #[derive(Debug, Drop)]
 pub struct Rows {
     pub engine: Engine,
@@ -38,7 +38,7 @@ pub struct Rows {
     pub room: ArrayRoom,
     pub to: Vec<u64>,
     pub lost: Vec<Vec<u64>>,
-    /// The most clocks of a piece: a row has one place more.
+    // The most clocks of a piece: a row has one place more.
     pub size: usize,
 }
 
@@ -249,8 +249,8 @@ fn run_piece(
     judge_rows(sim, rows, held, enables, dins, first, count)
 }
 
-/// So many clocks of a block from this one on, over rows: true if they took place. What registers and arrays hold and the outputs
-/// are then those of these clocks, else as before.
+// So many clocks of a block from this one on, over rows: true if they took place. What registers and arrays hold and the outputs
+// are then those of these clocks, else as before.
 pub fn rows_block(
     sim: &Sim,
     rows: &mut Rows,

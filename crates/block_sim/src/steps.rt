@@ -13,10 +13,10 @@ use crate::held::Held;
 use crate::table::{Table, offer, run_upto};
 use block_plan::Step;
 
-/// The most rounds in which the rows of a cycle are guessed.
+// The most rounds in which the rows of a cycle are guessed.
 const ROUNDS: usize = 6;
 
-/// What the steps work with: copies of the words of small arrays, and by which step each register goes on.
+// What the steps work with: copies of the words of small arrays, and by which step each register goes on.
 #[derive(Debug, Drop)]
 pub struct Hints {
     pub words: Vec<Vec<u64>>,
@@ -70,7 +70,7 @@ fn shift(engine: &Engine, table: &mut Table, held: &Held, done: usize, update: u
     offer_row(engine, table, done, slot)
 }
 
-/// Offers the spare row to a slot.
+// Offers the spare row to a slot.
 pub fn offer_row(engine: &Engine, table: &mut Table, done: usize, slot: usize) -> bool
     requires engine { IsEngine engine.now }
     requires table { IsTable engine.now.code.widths.items engine.now.code.instructions.items (length table.old.room.items) table.old done }
@@ -369,7 +369,7 @@ fn when(offered: bool, done: usize) -> Option<usize>
     if offered { Some(done) } else { None }
 }
 
-/// One step of the plan, behind so many instructions that are run: how many are run then.
+// One step of the plan, behind so many instructions that are run: how many are run then.
 #[tactic(auto, using(crate::proofs::Tables::hold_fewer))]
 pub fn take_step(
     engine: &Engine,
@@ -397,7 +397,7 @@ pub fn take_step(
     }
 }
 
-/// All steps of the plan: true if all instructions are run then.
+// All steps of the plan: true if all instructions are run then.
 #[tactic(auto, using(crate::proofs::Tables::hold_fewer))]
 pub fn take_steps(
     engine: &Engine,

@@ -8,7 +8,7 @@ ghost use Rattle.block_sim.specs.Table.{AreFirstUses, IsTable};
 use block_rows::{Instruction, Spares, run_code};
 use wiring::{Width, limit};
 
-/// The rows of all slots, a spare row, and room for the rows of constants.
+// The rows of all slots, a spare row, and room for the rows of constants.
 #[derive(Debug, Drop)]
 pub struct Table {
     pub rows: Vec<Vec<u64>>,
@@ -71,7 +71,7 @@ fn is_free(uses: &[usize], done: usize, slot: usize) -> bool
     }
 }
 
-/// The spare row becomes that of a slot, cut to its width, if no one of the first so many instructions uses this slot.
+// The spare row becomes that of a slot, cut to its width, if no one of the first so many instructions uses this slot.
 pub fn offer(
     widths: &[Width],
     code: &[Instruction],
@@ -116,7 +116,7 @@ fn run_between(widths: &[Width], code: &[Instruction], table: &mut Table, done: 
     );
 }
 
-/// The instructions from so many on up to this place, if there are so many: how many are run then.
+// The instructions from so many on up to this place, if there are so many: how many are run then.
 pub fn run_upto(
     widths: &[Width],
     code: &[Instruction],

@@ -4,7 +4,7 @@ use Rattle.std.proofs.lemmas.List.{ext_get_or}
 use Rattle.raster_delay.specs.Systems.{Parts as System, image_count, bits}
 use Rattle.flow_dual.specs.Solutions.{IsLeastVector}
 use Rattle.buffer_plan.specs.declared.fault.PlanFault.{PlanFault}
-use Rattle.buffer_plan.specs.declared.fault.PlanFault.TheVariants.{Bits, Latency, Memory}
+use Rattle.buffer_plan.specs.declared.fault.PlanFault.TheVariants.{Bits, Latency, OutOfMemory}
 use Rattle.buffer_plan.specs.Limits.{latency_in, KeepsLimits, IsPlanFault}
 
 pub vector_once : (s : System) (d e : List ℕ) → IsLeastVector s d → IsLeastVector s e → d ≡ e
@@ -26,7 +26,7 @@ bits_once s d e h k = ap (bits s) (vector_once s d e h k)
 latency_once : (s : System) (d e : List ℕ) → IsLeastVector s d → IsLeastVector s e → latency_in s d ≡ latency_in s e
 latency_once s d e h k = ap (latency_in s) (vector_once s d e h k)
 
-pub limits_apart : (s : System) (f : PlanFault) → KeepsLimits s → IsPlanFault s f → f ≡ Memory
+pub limits_apart : (s : System) (f : PlanFault) → KeepsLimits s → IsPlanFault s f → f ≡ OutOfMemory
 limits_apart s (Bits n) h is =
     let few = h.within.few_bits in
     let told = is.passes.0 in
@@ -37,12 +37,12 @@ limits_apart s (Latency n) h is =
     let told = is.passes.1 in
     let passes = is.passes.2 in
     absurd (omega (arith, short, passes, told, latency_once s h.delays_are is.delays_are h.vector is.vector))
-limits_apart s Memory h is = refl
+limits_apart s OutOfMemory h is = refl
 
-pub fault_once : (s : System) (f g : PlanFault) → IsPlanFault s f → IsPlanFault s g → (f ≡ Memory) ⊎ (g ≡ Memory) ⊎ (f ≡ g)
-fault_once s Memory g h k = inl refl
-fault_once s (Bits m) Memory h k = inr (inl refl)
-fault_once s (Latency m) Memory h k = inr (inl refl)
+pub fault_once : (s : System) (f g : PlanFault) → IsPlanFault s f → IsPlanFault s g → (f ≡ OutOfMemory) ⊎ (g ≡ OutOfMemory) ⊎ (f ≡ g)
+fault_once s OutOfMemory g h k = inl refl
+fault_once s (Bits m) OutOfMemory h k = inr (inl refl)
+fault_once s (Latency m) OutOfMemory h k = inr (inl refl)
 fault_once s (Bits m) (Bits n) h k = inr (inr (ap Bits (h.passes.0 ∙ (bits_once s h.delays_are k.delays_are h.vector k.vector ∙ sym k.passes.0))))
 fault_once s (Bits m) (Latency n) h k =
     let told = h.passes.0 in

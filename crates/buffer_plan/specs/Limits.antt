@@ -6,7 +6,7 @@ use Rattle.dk_base.specs.Stencils.{place}
 use Rattle.raster_delay.specs.Systems.{Parts as System, bits}
 use Rattle.flow_dual.specs.Solutions.{IsLeastVector}
 use Rattle.buffer_plan.specs.declared.fault.PlanFault.{PlanFault}
-use Rattle.buffer_plan.specs.declared.fault.PlanFault.TheVariants.{Bits, Latency, Memory}
+use Rattle.buffer_plan.specs.declared.fault.PlanFault.TheVariants.{Bits, Latency, OutOfMemory}
 
 -- the greatest delay of these images, 0 of none
 abbrev pub greatest_delay : List Image → List ℕ → List ℕ → ℕ
@@ -26,7 +26,7 @@ pub record IsWithinLimits (s : System) (d : List ℕ) : Type 0 where
 abbrev pub Passes : System → List ℕ → PlanFault → Type 0
 Passes s d (Bits least) = (least ≡ bits s d) × (MAX_BUFFER_BITS < least)
 Passes s d (Latency clocks) = (bits s d ≤ MAX_BUFFER_BITS) × (clocks ≡ latency_in s d) × (MAX_LATENCY < clocks)
-Passes s d Memory = ⊤
+Passes s d OutOfMemory = ⊤
 
 -- the least vector of the system is within the limits
 pub record KeepsLimits (s : System) : Type 0 where
@@ -44,4 +44,4 @@ pub record IsPassed (s : System) (f : PlanFault) : Type 0 where
 abbrev pub IsPlanFault : System → PlanFault → Type 0
 IsPlanFault s (Bits least) = IsPassed s (Bits least)
 IsPlanFault s (Latency clocks) = IsPassed s (Latency clocks)
-IsPlanFault s Memory = ⊤
+IsPlanFault s OutOfMemory = ⊤

@@ -6,7 +6,7 @@ ghost use Rattle.raster_delay.specs.Delays.{AreReads, AreNear, age_of};
 ghost use Rattle.raster_delay.specs.Systems.{IsCausal, image_count, placed_reads, depth};
 ghost use Rattle.buffer_plan.specs.Plans.{ages_in, AreDistinct};
 
-use dk_base::Memory;
+use dk_base::OutOfMemory;
 use flow_dual::Numbers;
 use raster_delay::{PlacedRead, System, age_held, depth};
 use std::alloc::Global;
@@ -19,7 +19,7 @@ fn ages_read(
     delays: &[u64],
     reads: &[PlacedRead],
     k: usize,
-) -> Result<Vec<u64>, Memory>
+) -> Result<Vec<u64>, OutOfMemory>
     requires row { row ≤ MAX_SIDE }
     requires reads { AreReads row inputs (length delays.now) reads.now }
     requires small { AreNear delays.now }
@@ -45,7 +45,7 @@ fn distinct(mut numbers: Vec<u64>) -> Vec<u64>
 }
 
 // The distinct ages at which the image at place `k` is read, ascending.
-fn ages_at(alloc: Global, system: &System, delays: &[u64], k: usize) -> Result<Numbers, Memory>
+fn ages_at(alloc: Global, system: &System, delays: &[u64], k: usize) -> Result<Numbers, OutOfMemory>
     requires causal { IsCausal system.now delays.now }
     requires small { AreNear delays.now }
     ensures { IfOk result (λ ages. AreDistinct (ages_in system.now.stencils.width delays.now k (placed_reads system.now)) ages) }
@@ -63,7 +63,7 @@ fn ages_at(alloc: Global, system: &System, delays: &[u64], k: usize) -> Result<N
 }
 
 // The ages of each image.
-pub fn all_ages(alloc: Global, system: &System, delays: &[u64]) -> Result<Vec<Numbers>, Memory>
+pub fn all_ages(alloc: Global, system: &System, delays: &[u64]) -> Result<Vec<Numbers>, OutOfMemory>
     requires causal { IsCausal system.now delays.now }
     requires small { AreNear delays.now }
     ensures length { IfOk result (λ v. length v.items ≡ image_count system.now) }
@@ -77,7 +77,7 @@ pub fn all_ages(alloc: Global, system: &System, delays: &[u64]) -> Result<Vec<Nu
 }
 
 // The depth of each image.
-pub fn all_depths(alloc: Global, system: &System, delays: &[u64]) -> Result<Vec<u64>, Memory>
+pub fn all_depths(alloc: Global, system: &System, delays: &[u64]) -> Result<Vec<u64>, OutOfMemory>
     requires causal { IsCausal system.now delays.now }
     requires small { AreNear delays.now }
     ensures length { IfOk result (λ v. length v.items ≡ image_count system.now) }

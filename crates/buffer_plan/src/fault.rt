@@ -1,6 +1,6 @@
 // Why there is no plan.
 
-use dk_base::Memory;
+use dk_base::OutOfMemory;
 
 /// A plan passes a limit, or there is no memory for it.
 #[derive(Clone, Copy, Debug, PartialEq, Eq, thiserror::Error)]
@@ -12,16 +12,16 @@ pub enum PlanFault {
     #[error("Latency {clocks}")]
     Latency { clocks: u64 },
     #[error("out of memory")]
-    Memory,
+    OutOfMemory,
 }
 
-impl From<Memory> for PlanFault {
+impl From<OutOfMemory> for PlanFault {
     ghost use Rattle.std.specs.Prelude.{◌≡◌};
     ghost use Rattle.buffer_plan.specs.declared.fault.PlanFault.TheVariants as fault;
 
-    ghost from_gives = { λ e f. f ≡ fault.Memory };
+    ghost from_gives = { λ e f. f ≡ fault.OutOfMemory };
 
-    fn from(_error: Memory) -> Self {
-        PlanFault::Memory
+    fn from(_error: OutOfMemory) -> Self {
+        PlanFault::OutOfMemory
     }
 }

@@ -6,15 +6,15 @@ ghost use Rattle.dk_base.specs.Stencils.{IsKept};
 ghost use Rattle.raster_delay.specs.Systems.{Parts as System};
 ghost use Rattle.flow_dual.specs.Solutions.{IsLeastVector};
 ghost use Rattle.buffer_plan.specs.declared.fault.PlanFault.{PlanFault};
-ghost use Rattle.buffer_plan.specs.declared.fault.PlanFault.TheVariants.{Memory};
+ghost use Rattle.buffer_plan.specs.declared.fault.PlanFault.TheVariants.{OutOfMemory};
 ghost use Rattle.buffer_plan.specs.Limits.{KeepsLimits, IsPlanFault};
 ghost use Rattle.buffer_plan.specs.Plans.{Parts, IsPlan, AreAges, ages_of, depth_of, last_of};
 
 /// Laws: a system has one least vector. Where it is within the limits no limit is passed, and otherwise one is the first.
 pub fn one_limit()
     ensures vector { (s : System) (d e : List ℕ) → IsLeastVector s d → IsLeastVector s e → d ≡ e }
-    ensures apart { (s : System) (f : PlanFault) → KeepsLimits s → IsPlanFault s f → f ≡ Memory }
-    ensures fault { (s : System) (f g : PlanFault) → IsPlanFault s f → IsPlanFault s g → (f ≡ Memory) ⊎ (g ≡ Memory) ⊎ (f ≡ g) }
+    ensures apart { (s : System) (f : PlanFault) → KeepsLimits s → IsPlanFault s f → f ≡ OutOfMemory }
+    ensures fault { (s : System) (f g : PlanFault) → IsPlanFault s f → IsPlanFault s g → (f ≡ OutOfMemory) ⊎ (g ≡ OutOfMemory) ⊎ (f ≡ g) }
 {}
 
 /// A law: an image has one list of distinct ages, ascending, the last of which is its depth, and no depth is above the limit on bits.

@@ -33,7 +33,7 @@ pub fn plan(alloc: Global, system: &System, solution: &Solution) -> Result<Plan,
     ensures plan { IfOk result (λ p. p ≡ record { system = system.now; delays = solution.now.delays }) }
     ensures within { OnOk result (IsWithinLimits system.now solution.now.delays) }
     ensures fault { IfErr result (Passes system.now solution.now.delays) }
-    ensures memory { result ≡ Err PlanFault.Memory → IsWithinLimits system.now solution.now.delays }
+    ensures memory { result ≡ Err PlanFault.OutOfMemory → IsWithinLimits system.now solution.now.delays }
 {
     system.law();
     let delays = solution.delays.as_slice();
@@ -47,6 +47,6 @@ pub fn plan(alloc: Global, system: &System, solution: &Solution) -> Result<Plan,
     }
     match made(alloc, system, delays, clocks, least) {
         Ok(plan) => Ok(plan),
-        Err(_) => Err(PlanFault::Memory),
+        Err(_) => Err(PlanFault::OutOfMemory),
     }
 }

@@ -5,7 +5,7 @@ ghost use Rattle.buffer_plan.specs.Plans.{IsPlan, latency, bits_of};
 
 use crate::ages::{all_ages, all_depths};
 use crate::find::{find, place_of, placed, reads_by};
-use dk_base::{Image, LiveRead, Memory};
+use dk_base::{Image, LiveRead, OutOfMemory};
 use flow_dual::Numbers;
 use raster_delay::{System, age_held};
 use std::alloc::Global;
@@ -45,7 +45,7 @@ pub(crate) fn made(
     delays: &[u64],
     greatest: u64,
     total: u64,
-) -> Result<Plan, Memory>
+) -> Result<Plan, OutOfMemory>
     requires plan { IsPlan (record { system = system.now; delays = delays.now }) }
     requires latency { greatest ≡ latency (record { system = system.now; delays = delays.now }) }
     requires bits { total ≡ bits_of (record { system = system.now; delays = delays.now }) }

@@ -18,7 +18,7 @@ use crate::ports::begun;
 use crate::reader::Reader;
 use crate::taps::Taps;
 use buffer_plan::Plan;
-use dk_base::Memory;
+use dk_base::OutOfMemory;
 use net_build::Builder;
 use pointwise_ir::Ir;
 use std::alloc::Global;
@@ -34,7 +34,7 @@ fn add_image<F: BufferForm>(
     k: usize,
     nets: &mut Vec<Net>,
     taps: &mut Vec<Taps>,
-) -> Result<(), Memory>
+) -> Result<(), OutOfMemory>
     requires stencils { AreStencilsOf ir.now plan.now.system.stencils }
     requires within { k < length plan.now.system.stencils.images }
     requires built { AreBuilt b.old ir.now plan.now (F.shapes form.now) (F.places form.now) (F.property form.now) k nets.old.items taps.old.items }
@@ -66,7 +66,7 @@ fn add_images<F: BufferForm>(
     form: &F,
     nets: &mut Vec<Net>,
     taps: &mut Vec<Taps>,
-) -> Result<(), Memory>
+) -> Result<(), OutOfMemory>
     requires stencils { AreStencilsOf ir.now plan.now.system.stencils }
     requires built { AreBuilt b.old ir.now plan.now (F.shapes form.now) (F.places form.now) (F.property form.now) 0 nets.old.items taps.old.items }
     ensures enable { OnOk result (b.new.enable ≡ b.old.enable) }
@@ -85,7 +85,7 @@ pub fn build_with<F: BufferForm>(
     plan: &Plan,
     form: &F,
     options: Options,
-) -> Result<Built, Memory>
+) -> Result<Built, OutOfMemory>
     requires plan { IsPlanOf ir.now plan.now options }
     ensures ports { IfOk result (λ r. HasPorts r.module.netlist ir.now options.enable) }
     ensures whole { IfOk result (λ r. IsWhole r.module.netlist r.module.netlist) }

@@ -19,7 +19,7 @@ ghost use Rattle.circuit.specs.Reads.{HasPosition, ChoosesAlso, Chooses, IsReadN
 
 use crate::positions::test_at;
 use crate::reader::{Reader, tap_of, type_of};
-use dk_base::{LiveRead, Memory, Ty};
+use dk_base::{LiveRead, OutOfMemory, Ty};
 use edge_select::{Extent, Pixel, Step, passing};
 use net_build::{Builder, gate, number};
 use pointwise_ir::Edge;
@@ -43,7 +43,7 @@ fn chosen_by(
     tap: Net,
     before: Option<Net>,
     bits: u8,
-) -> Result<Net, Memory>
+) -> Result<Net, OutOfMemory>
     requires bits { IsWidth bits }
     requires test { IsNet b.old test }
     requires one_bit { net_width b.old test ≡ 1 }
@@ -67,7 +67,7 @@ fn with_tap(
     steps: &[Step],
     read: LiveRead,
     before: Option<Net>,
-) -> Result<Option<Net>, Memory>
+) -> Result<Option<Net>, OutOfMemory>
     requires reading { IsReading b.old reader.now.ir.now reader.now.plan.now reader.now.taps.now reader.now.image }
     requires made { IfSome made.old (HasPosition b.old reader.now.plan.now reader.now.image) }
     requires read { Contains (reads_in reader.now.plan.now reader.now.image) read }
@@ -123,7 +123,7 @@ fn with_read(
     g: u32,
     read: LiveRead,
     before: Option<Net>,
-) -> Result<Option<Net>, Memory>
+) -> Result<Option<Net>, OutOfMemory>
     requires reading { IsReading b.old reader.now.ir.now reader.now.plan.now reader.now.taps.now reader.now.image }
     requires made { IfSome made.old (HasPosition b.old reader.now.plan.now reader.now.image) }
     requires read { Contains (reads_in reader.now.plan.now reader.now.image) read }
@@ -151,7 +151,7 @@ fn choice_of(
     made: &mut Option<Pixel>,
     steps: &[Step],
     g: u32,
-) -> Result<Option<Net>, Memory>
+) -> Result<Option<Net>, OutOfMemory>
     requires reading { IsReading b.old reader.now.ir.now reader.now.plan.now reader.now.taps.now reader.now.image }
     requires made { IfSome made.old (HasPosition b.old reader.now.plan.now reader.now.image) }
     ensures adds { OnOk result (AddsControl b.new b.old) }
@@ -166,7 +166,7 @@ fn choice_of(
 }
 
 // The net of a choice, or one that is 0.
-fn net_of(b: &mut Builder, bits: u8, choice: Option<Net>) -> Result<Net, Memory>
+fn net_of(b: &mut Builder, bits: u8, choice: Option<Net>) -> Result<Net, OutOfMemory>
     requires bits { IsWidth bits }
     ensures logic { AddsLogic b.new b.old }
     ensures net { IfOk result (IsNetOf b.new b.old bits choice) }
@@ -180,14 +180,14 @@ fn net_of(b: &mut Builder, bits: u8, choice: Option<Net>) -> Result<Net, Memory>
     }
 }
 
-/// The net of a read of image g by the reader, at the end of these steps. It has the type of image g.
+// The net of a read of image g by the reader, at the end of these steps. It has the type of image g.
 pub fn read_net(
     b: &mut Builder,
     reader: &Reader,
     made: &mut Option<Pixel>,
     steps: &[Step],
     g: u32,
-) -> Result<(Ty, Net), Memory>
+) -> Result<(Ty, Net), OutOfMemory>
     requires reading { IsReading b.old reader.now.ir.now reader.now.plan.now reader.now.taps.now reader.now.image }
     requires made { IfSome made.old (HasPosition b.old reader.now.plan.now reader.now.image) }
     requires earlier { g < reader.now.image }

@@ -15,7 +15,7 @@ use crate::forms::BufferForm;
 use crate::outs::all_outs;
 use crate::taps::Taps;
 use buffer_plan::Plan;
-use dk_base::Memory;
+use dk_base::OutOfMemory;
 use net_build::Builder;
 use netlist::Module;
 use pointwise_ir::Ir;
@@ -30,7 +30,7 @@ pub struct Built {
 }
 
 // The module of a builder that can end.
-fn closed(alloc: Global, mut b: Builder, plan: &Plan, nets: &[Net]) -> Result<Module, Memory>
+fn closed(alloc: Global, mut b: Builder, plan: &Plan, nets: &[Net]) -> Result<Module, OutOfMemory>
     requires ends { CanEnd b plan.now nets.now }
     ensures closed { IfOk result (λ m. IsClosed m.netlist b plan.now nets.now) }
 {
@@ -40,7 +40,7 @@ fn closed(alloc: Global, mut b: Builder, plan: &Plan, nets: &[Net]) -> Result<Mo
     Ok(module)
 }
 
-/// The module of a builder in which all kept images are built: its outputs are driven.
+// The module of a builder in which all kept images are built: its outputs are driven.
 pub fn finished<F: BufferForm>(
     alloc: Global,
     b: Builder,
@@ -49,7 +49,7 @@ pub fn finished<F: BufferForm>(
     form: &F,
     nets: Vec<Net>,
     taps: &[Taps],
-) -> Result<Built, Memory>
+) -> Result<Built, OutOfMemory>
     requires stencils { AreStencilsOf ir.now plan.now.system.stencils }
     requires built { AreBuilt b ir.now plan.now (F.shapes form.now) (F.places form.now) (F.property form.now) (length plan.now.system.stencils.images) nets.items taps.now }
     ensures ports { IfOk result (λ r. HasPorts r.module.netlist ir.now b.enable) }

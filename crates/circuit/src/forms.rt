@@ -15,7 +15,7 @@ ghost use Rattle.circuit.specs.Forms.{IsBuffered, shapes_before, chain_shapes_of
 
 use crate::taps::Taps;
 use buffer_plan::Plan;
-use dk_base::Memory;
+use dk_base::OutOfMemory;
 use line_buffer::{chain, ring};
 use net_build::Builder;
 use std::alloc::Global;
@@ -40,7 +40,7 @@ pub trait BufferForm {
         image: u32,
         value: Net,
         b: &mut Builder,
-    ) -> Result<Taps, Memory>
+    ) -> Result<Taps, OutOfMemory>
         requires kept { Keeps plan.now image }
         requires net { IsNet b.old value }
         requires width { net_width b.old value ≡ width_of plan.now image }
@@ -71,7 +71,7 @@ impl BufferForm for Ring {
         image: u32,
         value: Net,
         b: &mut Builder,
-    ) -> Result<Taps, Memory> {
+    ) -> Result<Taps, OutOfMemory> {
         plan.law();
         let nets = ring(alloc, b, plan.width(image), plan.ages(image), value)?;
         Ok(Taps::new(nets))
@@ -92,7 +92,7 @@ impl BufferForm for Chain {
         image: u32,
         value: Net,
         b: &mut Builder,
-    ) -> Result<Taps, Memory> {
+    ) -> Result<Taps, OutOfMemory> {
         plan.law();
         let nets = chain(alloc, b, plan.width(image), plan.ages(image), value)?;
         Ok(Taps::new(nets))

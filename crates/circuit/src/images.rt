@@ -11,14 +11,19 @@ ghost use Rattle.circuit.specs.Images.{IsImageNet, ports_of};
 use crate::leaves::push_leaves;
 use crate::reader::Reader;
 use datapath::{Leaves, lower};
-use dk_base::Memory;
+use dk_base::OutOfMemory;
 use net_build::Builder;
 use pointwise_ir::Expr;
 use std::alloc::Global;
 use wiring::Net;
 
 // The net of an image's body.
-fn body_net(alloc: Global, b: &mut Builder, reader: &Reader, body: &Expr) -> Result<Net, Memory>
+fn body_net(
+    alloc: Global,
+    b: &mut Builder,
+    reader: &Reader,
+    body: &Expr,
+) -> Result<Net, OutOfMemory>
     requires reading { IsReading b.old reader.now.ir.now reader.now.plan.now reader.now.taps.now reader.now.image }
     requires body { IsBody reader.now.ir.now reader.now.image (tree_of body.now) }
     ensures adds { OnOk result (AddsControl b.new b.old) }
@@ -37,8 +42,8 @@ fn body_net(alloc: Global, b: &mut Builder, reader: &Reader, body: &Expr) -> Res
     Ok(net)
 }
 
-/// The net of an image: the `din` of an input, and else the net of its body over the taps of the images before it.
-pub fn image_net(alloc: Global, b: &mut Builder, reader: &Reader) -> Result<Net, Memory>
+// The net of an image: the `din` of an input, and else the net of its body over the taps of the images before it.
+pub fn image_net(alloc: Global, b: &mut Builder, reader: &Reader) -> Result<Net, OutOfMemory>
     requires reading { IsReading b.old reader.now.ir.now reader.now.plan.now reader.now.taps.now reader.now.image }
     requires ports { Includes b.old (ports_of reader.now.ir.now b.old.enable) }
     ensures adds { OnOk result (AddsControl b.new b.old) }

@@ -11,7 +11,7 @@ use crate::choices::read_net;
 use crate::positions::test_on;
 use crate::reader::Reader;
 use datapath::Leaves;
-use dk_base::Memory;
+use dk_base::OutOfMemory;
 use edge_select::{Pixel, Step};
 use net_build::Builder;
 use pointwise_ir::{Edge, Expr};
@@ -25,7 +25,7 @@ fn push_read(
     step: Step,
     g: u32,
     leaves: &mut Leaves,
-) -> Result<(), Memory>
+) -> Result<(), OutOfMemory>
     requires reading { IsReading b.old reader.now.ir.now reader.now.plan.now reader.now.taps.now reader.now.image }
     requires made { IfSome made.old (HasPosition b.old reader.now.plan.now reader.now.image) }
     requires earlier { g < reader.now.image }
@@ -49,7 +49,7 @@ fn push_test(
     steps: &[Step],
     edge: Edge,
     leaves: &mut Leaves,
-) -> Result<(), Memory>
+) -> Result<(), OutOfMemory>
     requires reading { IsReading b.old reader.now.ir.now reader.now.plan.now reader.now.taps.now reader.now.image }
     requires made { IfSome made.old (HasPosition b.old reader.now.plan.now reader.now.image) }
     ensures adds { OnOk result (AddsControl b.new b.old) }
@@ -72,7 +72,7 @@ fn still(b: &Builder, reader: &Reader)
     ensures { IsReading b.now reader.now.ir.now reader.now.plan.now reader.now.taps.now reader.now.image }
 {}
 
-/// Adds the nets of the leaves of an expression that stands at the end of these steps. It calls itself as deep as the expression is.
+// Adds the nets of the leaves of an expression that stands at the end of these steps. It calls itself as deep as the expression is.
 pub fn push_leaves(
     e: &Expr,
     b: &mut Builder,
@@ -80,7 +80,7 @@ pub fn push_leaves(
     made: &mut Option<Pixel>,
     steps: &mut Vec<Step>,
     leaves: &mut Leaves,
-) -> Result<(), Memory>
+) -> Result<(), OutOfMemory>
     requires reading { IsReading b.old reader.now.ir.now reader.now.plan.now reader.now.taps.now reader.now.image }
     requires made { IfSome made.old (HasPosition b.old reader.now.plan.now reader.now.image) }
     requires earlier { ReadsBefore reader.now.image (tree_of e.now) }

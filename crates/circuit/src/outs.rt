@@ -8,7 +8,7 @@ ghost use Rattle.circuit.specs.Ends.{AreOuts, output_in, AreValids, IsValidOf, I
 
 use crate::valid::valid_from;
 use buffer_plan::Plan;
-use dk_base::Memory;
+use dk_base::OutOfMemory;
 use net_build::Builder;
 use std::alloc::Global;
 use wiring::Net;
@@ -30,7 +30,7 @@ fn same_latency(plan: &Plan, k: usize) -> Option<usize>
 }
 
 // The valid of the output behind these: that of one of them, or a new one.
-fn valid_behind(b: &mut Builder, plan: &Plan, outs: &[(Net, Net)]) -> Result<Net, Memory>
+fn valid_behind(b: &mut Builder, plan: &Plan, outs: &[(Net, Net)]) -> Result<Net, OutOfMemory>
     requires within { length outs.now < length plan.now.system.stencils.outputs }
     requires valids { AreValids b.old plan.now outs.now }
     requires share { AreShared plan.now outs.now }
@@ -64,7 +64,7 @@ fn out_behind(
     plan: &Plan,
     nets: &[Net],
     outs: &[(Net, Net)],
-) -> Result<(Net, Net), Memory>
+) -> Result<(Net, Net), OutOfMemory>
     requires count { length nets.now ≡ length plan.now.system.stencils.images }
     requires within { length outs.now < length plan.now.system.stencils.outputs }
     requires outs { AreOuts b.old plan.now nets.now (length outs.now) outs.now }
@@ -78,13 +78,13 @@ fn out_behind(
     Ok((valid, dout))
 }
 
-/// For each output of a plan its valid and its dout, the net of its image. Outputs of one latency share their valid.
+// For each output of a plan its valid and its dout, the net of its image. Outputs of one latency share their valid.
 pub fn all_outs(
     alloc: Global,
     b: &mut Builder,
     plan: &Plan,
     nets: &[Net],
-) -> Result<Vec<(Net, Net)>, Memory>
+) -> Result<Vec<(Net, Net)>, OutOfMemory>
     requires count { length nets.now ≡ length plan.now.system.stencils.images }
     ensures adds { OnOk result (AddsControl b.new b.old) }
     ensures outs { IfOk result (λ outs. AreOuts b.new plan.now nets.now (length plan.now.system.stencils.outputs) outs.items) }

@@ -7,13 +7,18 @@ ghost use Rattle.circuit.specs.Taps.{Keeps, size_in};
 ghost use Rattle.circuit.specs.Reads.{HasPosition, IsPixelTest};
 
 use buffer_plan::Plan;
-use dk_base::Memory;
+use dk_base::OutOfMemory;
 use edge_select::{Extent, Pixel, Step, at, constant_test, leading, leads, position};
 use net_build::Builder;
 use wiring::Net;
 
 // The registers of image f, which are made where they are first needed.
-fn pixel_of(b: &mut Builder, plan: &Plan, f: u32, made: &mut Option<Pixel>) -> Result<Pixel, Memory>
+fn pixel_of(
+    b: &mut Builder,
+    plan: &Plan,
+    f: u32,
+    made: &mut Option<Pixel>,
+) -> Result<Pixel, OutOfMemory>
     requires kept { Keeps plan.now f }
     requires made { IfSome made.old (HasPosition b.old plan.now f) }
     ensures adds { OnOk result (AddsControl b.new b.old) }
@@ -29,7 +34,7 @@ fn pixel_of(b: &mut Builder, plan: &Plan, f: u32, made: &mut Option<Pixel>) -> R
     Ok(pixel)
 }
 
-/// The test that a pixel of image f passes where the steps lead from it to the point that is `dx` columns to the right and `dy` rows down.
+// The test that a pixel of image f passes where the steps lead from it to the point that is `dx` columns to the right and `dy` rows down.
 pub fn test_at(
     b: &mut Builder,
     plan: &Plan,
@@ -38,7 +43,7 @@ pub fn test_at(
     steps: &[Step],
     dx: i32,
     dy: i32,
-) -> Result<Net, Memory>
+) -> Result<Net, OutOfMemory>
     requires kept { Keeps plan.now f }
     requires made { IfSome made.old (HasPosition b.old plan.now f) }
     ensures adds { OnOk result (AddsControl b.new b.old) }
@@ -57,7 +62,7 @@ fn test_leads(
     f: u32,
     made: &mut Option<Pixel>,
     steps: &[Step],
-) -> Result<Net, Memory>
+) -> Result<Net, OutOfMemory>
     requires kept { Keeps plan.now f }
     requires made { IfSome made.old (HasPosition b.old plan.now f) }
     ensures adds { OnOk result (AddsControl b.new b.old) }
@@ -69,14 +74,14 @@ fn test_leads(
     Ok(net)
 }
 
-/// The test that a pixel of image f passes where the steps lead from it somewhere. It takes registers only where some pixels pass and some do not.
+// The test that a pixel of image f passes where the steps lead from it somewhere. It takes registers only where some pixels pass and some do not.
 pub fn test_on(
     b: &mut Builder,
     plan: &Plan,
     f: u32,
     made: &mut Option<Pixel>,
     steps: &[Step],
-) -> Result<Net, Memory>
+) -> Result<Net, OutOfMemory>
     requires kept { Keeps plan.now f }
     requires made { IfSome made.old (HasPosition b.old plan.now f) }
     ensures adds { OnOk result (AddsControl b.new b.old) }

@@ -13,7 +13,7 @@ use dk_base::{LiveRead, Ty};
 use pointwise_ir::Ir;
 use wiring::Net;
 
-/// An image that reads others, by its number, and the taps of the kept images before it, in order.
+// An image that reads others, by its number, and the taps of the kept images before it, in order.
 #[derive(Clone, Copy)]
 pub struct Reader<'a> {
     pub ir: &'a Ir,
@@ -22,7 +22,7 @@ pub struct Reader<'a> {
     pub image: u32,
 }
 
-/// The type of an image.
+// The type of an image.
 pub fn type_of(ir: &Ir, g: u32) -> Ty
     requires { g < length (types_of ir.now) }
     ensures { result ≡ type_at ir.now g }
@@ -47,7 +47,7 @@ fn place_of_age(ages: &[u64], age: u64) -> usize
     }
 }
 
-/// The tap of a live read.
+// The tap of a live read.
 pub fn tap_of(plan: &Plan, taps: &[Taps], read: LiveRead) -> Net
     requires read { Contains plan.now.system.stencils.reads read }
     requires there { place_in plan.now read.g < length taps.now }

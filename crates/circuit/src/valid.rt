@@ -6,12 +6,12 @@ ghost use Rattle.net_build.specs.Draft.{IsNet};
 ghost use Rattle.net_build.specs.Counters.{AddsControl};
 ghost use Rattle.circuit.specs.Ends.{IsStarted};
 
-use dk_base::Memory;
+use dk_base::OutOfMemory;
 use net_build::{Builder, gate, started};
 use wiring::{Atom, Net, Operator, Right};
 
-/// A net that is 1 in each counted clock from a latency on, in clocks since the last reset, and 0 in each other.
-pub fn valid_from(b: &mut Builder, latency: u64) -> Result<Net, Memory>
+// A net that is 1 in each counted clock from a latency on, in clocks since the last reset, and 0 in each other.
+pub fn valid_from(b: &mut Builder, latency: u64) -> Result<Net, OutOfMemory>
     ensures adds { OnOk result (AddsControl b.new b.old) }
     ensures net { IfOk result (IsNet b.new) }
     ensures width { IfOk result (λ n. net_width b.new n ≡ 1) }

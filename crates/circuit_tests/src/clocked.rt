@@ -12,7 +12,7 @@ use netlist::Module;
 use std::alloc::Global;
 use std::test::Fail;
 
-/// One clock, or a failure where the numbers are not those of the ports or the clock stops.
+// One clock, or a failure where the numbers are not those of the ports or the clock stops.
 pub fn clock(
     sim: &mut Sim,
     reset: bool,
@@ -29,7 +29,7 @@ pub fn clock(
     }
 }
 
-/// A clock in which each valid has to be 0.
+// A clock in which each valid has to be 0.
 fn quiet(
     sim: &mut Sim,
     reset: bool,
@@ -46,7 +46,7 @@ fn quiet(
     Ok(())
 }
 
-/// A number, or `.` where valid is 0, for each output.
+// A number, or `.` where valid is 0, for each output.
 fn tell(line: &mut String, outs: &[Out]) -> Result<(), Fail> {
     for out in outs {
         if out.valid {
@@ -58,7 +58,7 @@ fn tell(line: &mut String, outs: &[Out]) -> Result<(), Fail> {
     Ok(())
 }
 
-/// What the outputs show in each of these clocks after a reset clock. A disturbed run has some other clocks first and then a second reset, and a held clock after each clock.
+// What the outputs show in each of these clocks after a reset clock. A disturbed run has some other clocks first and then a second reset, and a held clock after each clock.
 fn shown(
     alloc: Global,
     module: &Module,
@@ -91,7 +91,7 @@ fn shown(
     Ok(line)
 }
 
-/// The module of a program.
+// The module of a program.
 fn module(alloc: Global, text: &str, age: u8, enable: bool) -> Result<Module, Fail> {
     if u64::from(age) > MAX_AGE {
         return Err(Fail::new("too old"));
@@ -102,7 +102,7 @@ fn module(alloc: Global, text: &str, age: u8, enable: bool) -> Result<Module, Fa
     }
 }
 
-/// What is shown by the module of a program, the same from zeros and from ones, and with `en` by a disturbed run.
+// What is shown by the module of a program, the same from zeros and from ones, and with `en` by a disturbed run.
 fn told(alloc: Global, text: &str, age: u8, given: &[&[u64]]) -> Result<String, Fail> {
     let plain = module(alloc, text, age, false)?;
     let held = module(alloc, text, age, true)?;
@@ -119,7 +119,7 @@ fn told(alloc: Global, text: &str, age: u8, given: &[&[u64]]) -> Result<String, 
     Ok(line)
 }
 
-/// The clocks of these numbers at one din, or at two.
+// The clocks of these numbers at one din, or at two.
 fn clocks<'a>(alloc: Global, numbers: &'a [u64], dins: usize) -> Result<Vec<&'a [u64]>, Fail> {
     let mut given = Vec::new(alloc);
     if dins == 0 {

@@ -4,13 +4,13 @@ use dk_compile::planned;
 use std::alloc::Global;
 use std::test::Fail;
 
-/// Four images of 64 bits, each read where it is and 64 rows above, in rows of 4,096: 4 * 64 * 64 * 4,096 bits.
+// Four images of 64 bits, each read where it is and 64 rows above, in rows of 4,096: 4 * 64 * 64 * 4,096 bits.
 const LARGE: &str =
     "size 4096 4096 input a:u8 let p=im(x,y) a(x,y) as u64 end let q=im(x,y) p(x,y)|p(x,y-64) end let r=im(x,y) q(x,y)|q(x,y-64) end let s=im(x,y) r(x,y)|r(x,y-64) end let t=im(x,y) (s(x,y)|s(x,y-64)) as u8 end";
-/// An image of one bit that is read where it is and one column to the left, which takes one bit more.
+// An image of one bit that is read where it is and one column to the left, which takes one bit more.
 const ONE_BIT: &str = "let b=im(x,y) a(x,y)==0 end let c=im(x,y) b(x,y)|b(x-1,y) end";
 
-/// 256 images of which each reads the one before it 64 rows below, in rows of 4,096: 256 * 64 * 4,096 clocks. The last one has this body.
+// 256 images of which each reads the one before it 64 rows below, in rows of 4,096: 256 * 64 * 4,096 clocks. The last one has this body.
 fn late(alloc: Global, last: &str) -> Result<String, Fail> {
     let mut text = format!(in alloc; "size 4096 4096 input i0:u8 ")?;
     for k in 0..255 {

@@ -8,7 +8,7 @@ use netlist::Module;
 use std::alloc::Global;
 use std::test::Fail;
 
-/// The sum of what the one output shows in so many clocks after a reset clock, with these samples and then 0 at the one input.
+// The sum of what the one output shows in so many clocks after a reset clock, with these samples and then 0 at the one input.
 fn sum(alloc: Global, module: &Module, clocks: u64, samples: &[u8]) -> Result<u64, Fail> {
     let mut sim = Sim::new(alloc, module, Fill::Ones)?;
     let mut outs = [Out {

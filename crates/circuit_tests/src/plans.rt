@@ -11,7 +11,7 @@ use std::alloc::Global;
 use std::test::Fail;
 use wiring::buffer_bits;
 
-/// The delay of each kept image, the plan's bits and the module's, and the words and the width of each array.
+// The delay of each kept image, the plan's bits and the module's, and the words and the width of each array.
 fn told(alloc: Global, text: &str, age: u8) -> Result<String, Fail> {
     let mut line = String::new(alloc);
     if u64::from(age) > MAX_AGE {

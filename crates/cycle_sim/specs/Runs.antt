@@ -6,7 +6,7 @@ use Rattle.wiring.specs.Clock.{Clock}
 use Rattle.wiring.specs.Runs.{Runs, RunStops, picture}
 use Rattle.cycle_sim.specs.declared.running.Clock.{Clock as GivenClock}
 use Rattle.cycle_sim.specs.declared.running.RunFault.{RunFault}
-use Rattle.cycle_sim.specs.declared.running.RunFault.TheVariants.{Stopped, Memory}
+use Rattle.cycle_sim.specs.declared.running.RunFault.TheVariants.{Stopped, OutOfMemory}
 
 abbrev pub clock_of : GivenClock → Clock
 clock_of c = record { reset = c.reset; enable = c.enable; dins = c.dins.items }
@@ -30,4 +30,4 @@ pub record RanToStop (m : Netlist) (output : ℕ) (clocks : List Clock) (from : 
 -- a run stops, or for want of memory no clock of it takes place
 abbrev pub EndsEarly : Netlist → ℕ → List Clock → Contents → List ℕ → Contents → List ℕ → RunFault → Type 0
 EndsEarly m output clocks from before to samples (Stopped range) = RanToStop m output clocks from before to samples range.array range.index
-EndsEarly m output clocks from before to samples Memory = (to ≡ from) × (samples ≡ before)
+EndsEarly m output clocks from before to samples OutOfMemory = (to ≡ from) × (samples ≡ before)

@@ -139,7 +139,7 @@ fn note_code(
     Ok(())
 }
 
-/// The code of the assigns in this order.
+// The code of the assigns in this order.
 pub fn code_of(
     alloc: Global,
     layout: Layout,
@@ -199,7 +199,7 @@ fn assign_accesses(
     Ok(accesses)
 }
 
-/// The accesses of assigns and updates, in their order.
+// The accesses of assigns and updates, in their order.
 pub fn accesses_of_wiring(
     alloc: Global,
     layout: Layout,
@@ -216,7 +216,7 @@ pub fn accesses_of_wiring(
     Ok(accesses)
 }
 
-/// The edges of the updates.
+// The edges of the updates.
 pub fn edges_of_wiring(
     alloc: Global,
     layout: Layout,
@@ -260,7 +260,7 @@ pub fn layout_of(wiring: &Wiring) -> Layout
     }
 }
 
-/// The program of a netlist.
+// The program of a netlist.
 pub fn program_of(alloc: Global, wiring: &Wiring, order: &[usize]) -> Result<Program, AllocError>
     requires rules { KeepsRules (netlist_of wiring.now) }
     requires within { All (λ k. k < length wiring.now.assigns.items) order.now }

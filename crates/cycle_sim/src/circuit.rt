@@ -15,7 +15,7 @@ use netlist::{Module, Wiring};
 use std::alloc::{AllocError, Global};
 use std::marker::Model;
 
-/// A netlist with the values of its nets, and what its registers and arrays hold.
+// A netlist with the values of its nets, and what its registers and arrays hold.
 #[derive(Debug, Drop)]
 pub struct Circuit {
     wiring: Wiring,
@@ -69,7 +69,7 @@ impl Circuit {
     ghost use Rattle.cycle_sim.specs.Simulated.{Moment, held_contents};
     ghost use Rattle.cycle_sim.specs.Filled.{filled_contents};
 
-    /// The netlist of a module, with these contents at power-up.
+    // The netlist of a module, with these contents at power-up.
     pub fn new(alloc: Global, module: &Module, fill: Fill) -> Result<Circuit, AllocError>
         ensures netlist { IfOk result (λ s. s.netlist ≡ «module».now.netlist) }
         ensures contents { IfOk result (λ s. s.shot.contents ≡ filled_contents fill «module».now.netlist) }
@@ -90,7 +90,7 @@ impl Circuit {
         })
     }
 
-    /// A law: one valuation for each contents and inputs, one next contents, and contents that fit.
+    // A law: one valuation for each contents and inputs, one next contents, and contents that fit.
     pub fn law(&self)
         ensures one_valuation { HasOneSnapshot self.now.netlist }
         ensures one_next { HasOneNext self.now.netlist }
@@ -102,7 +102,7 @@ impl Circuit {
         wiring::one_next();
     }
 
-    /// Whether these are a number for each din, each fitting its port.
+    // Whether these are a number for each din, each fitting its port.
     pub fn fits(&self, dins: &[u64]) -> bool
         ensures yes { IsTrue result → Fit (din_widths self.now.netlist) dins.now }
         ensures no { Fit (din_widths self.now.netlist) dins.now → IsTrue result }
@@ -110,14 +110,14 @@ impl Circuit {
         all_fit(dins_of(&self.wiring), dins)
     }
 
-    /// The number of outputs, of two ports each.
+    // The number of outputs, of two ports each.
     pub fn output_count(&self) -> usize
         ensures { length self.now.netlist.outputs ≡ 2 * result }
     {
         output_count(&self.wiring)
     }
 
-    /// The values of all nets: inputs before outputs before wires before registers.
+    // The values of all nets: inputs before outputs before wires before registers.
     pub fn values(&self) -> &[u64]
         ensures values { result.now ≡ all_values self.now.shot }
         ensures count { length result.now ≡ length (all_widths self.now.netlist) }
@@ -125,7 +125,7 @@ impl Circuit {
         &self.values
     }
 
-    /// The values of the outputs.
+    // The values of the outputs.
     pub fn outputs(&self) -> &[u64]
         ensures values { result.now ≡ self.now.shot.outputs }
         ensures count { length result.now ≡ length self.now.netlist.outputs }
@@ -134,7 +134,7 @@ impl Circuit {
         part(&self.values, first, self.wiring.outputs.len())
     }
 
-    /// The nets take the values of a clock that is given these. Told is the first access outside its array. It takes no memory.
+    // The nets take the values of a clock that is given these. Told is the first access outside its array. It takes no memory.
     pub fn settle(&mut self, reset: bool, enable: bool, dins: &[u64]) -> Result<(), IndexRange>
         requires { Fit (din_widths self.old.netlist) dins.now }
         ensures netlist { self.new.netlist ≡ self.old.netlist }
@@ -153,7 +153,7 @@ impl Circuit {
         )
     }
 
-    /// The clock edge. It takes no memory.
+    // The clock edge. It takes no memory.
     pub fn edge(&mut self)
         requires { IsInRange self.old.netlist self.old.shot }
         ensures netlist { self.new.netlist ≡ self.old.netlist }
@@ -167,7 +167,7 @@ impl Circuit {
         );
     }
 
-    /// Exchanges what registers and arrays hold for these. It takes no memory.
+    // Exchanges what registers and arrays hold for these. It takes no memory.
     pub fn exchange(&mut self, regs: &mut Vec<u64>, arrays: &mut Vec<Vec<u64>>)
         requires fit { FitsContents self.old.netlist (held_contents regs.old.items (words_of arrays.old.items)) }
         ensures netlist { self.new.netlist ≡ self.old.netlist }

@@ -7,14 +7,14 @@ ghost use Rattle.cycle_sim.specs.Edge.{IsAccessInside, IsFirstOutside, run_sets,
 use crate::evaluate::atom;
 use netlist::Atom;
 
-/// An array, and where it is read or written.
+// An array, and where it is read or written.
 #[derive(Clone, Copy, Debug)]
 pub struct Access {
     pub array: usize,
     pub index: Atom<usize>,
 }
 
-/// What a register or a word takes at the clock edge.
+// What a register or a word takes at the clock edge.
 #[derive(Clone, Copy, Debug)]
 pub enum Edge {
     Set(usize, Atom<usize>),
@@ -37,7 +37,7 @@ fn depth_of(arrays: &[Vec<u64>], array: usize) -> u64
     }
 }
 
-/// The first access outside its array.
+// The first access outside its array.
 pub fn first_outside(accesses: &[Access], arrays: &[Vec<u64>], values: &[u64]) -> Option<IndexRange>
     ensures { MatchOption result (All (IsAccessInside (words_of arrays.now) values.now) accesses.now) (IsFirstOutside (words_of arrays.now) values.now accesses.now) }
 {
@@ -51,7 +51,7 @@ pub fn first_outside(accesses: &[Access], arrays: &[Vec<u64>], values: &[u64]) -
     None
 }
 
-/// Puts numbers into the slots from this one on.
+// Puts numbers into the slots from this one on.
 pub fn put_from(values: &mut [u64], first: usize, numbers: &[u64])
     requires { first + length numbers.now ≤ length values.old }
     ensures { values.new ≡ take first values.old ++ numbers.now ++ drop (first + length numbers.now) values.old }
@@ -60,7 +60,7 @@ pub fn put_from(values: &mut [u64], first: usize, numbers: &[u64])
     values[first..end].copy_from_slice(numbers);
 }
 
-/// Exchanges the numbers in the slots from this one on for others.
+// Exchanges the numbers in the slots from this one on for others.
 pub fn exchange_from(values: &mut [u64], first: usize, numbers: &mut [u64])
     requires { first + length numbers.old ≡ length values.old }
     ensures values { values.new ≡ take first values.old ++ numbers.old }
@@ -69,7 +69,7 @@ pub fn exchange_from(values: &mut [u64], first: usize, numbers: &mut [u64])
     values.split_at_mut(first).1.swap_with_slice(numbers);
 }
 
-/// Puts what the ports are given into the first slots. Without the port `en` it is not looked at.
+// Puts what the ports are given into the first slots. Without the port `en` it is not looked at.
 pub fn put_ports(values: &mut [u64], has_enable: bool, reset: bool, enable: bool, dins: &[u64])
     requires { length (port_values has_enable reset enable dins.now) ≤ length values.old }
     ensures { values.new ≡ with_inputs (port_values has_enable reset enable dins.now) values.old }
@@ -91,7 +91,7 @@ fn put_word(arrays: &mut [Vec<u64>], array: usize, index: u64, value: u64)
     words[index as usize] = value;
 }
 
-/// Gives each register and each array what it takes, by the values before the edge.
+// Gives each register and each array what it takes, by the values before the edge.
 pub fn clock_edge(edges: &[Edge], values: &[u64], staged: &mut [u64], arrays: &mut [Vec<u64>])
     requires { EdgesAreSafe values.now edges.now (length staged.old) (words_of arrays.old) }
     ensures regs { staged.new ≡ run_sets values.now edges.now staged.old }

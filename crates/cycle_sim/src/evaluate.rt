@@ -7,7 +7,7 @@ ghost use Rattle.cycle_sim.specs.Slots.{word_at, words_of, IsNarrow};
 use netlist::{Atom, Right, Width};
 use wiring::{join_value, limit, low_bits, operator_value};
 
-/// The value of an atom over slots.
+// The value of an atom over slots.
 pub fn atom(values: &[u64], a: &Atom<usize>) -> u64
     ensures { result ≡ atom_value (λ n. slice_index values.now n) a.now }
 {
@@ -72,7 +72,7 @@ fn word(arrays: &[Vec<u64>], array: usize, index: u64) -> u64
     }
 }
 
-/// What a right side over slots is worth.
+// What a right side over slots is worth.
 pub fn evaluate(
     widths: &[Width],
     arrays: &[Vec<u64>],

@@ -11,7 +11,7 @@ use crate::edge::{
 use crate::settle::{Instruction, settle};
 use netlist::Width;
 
-/// What a machine does, in the order in which it does it.
+// What a machine does, in the order in which it does it.
 #[derive(Debug, Drop)]
 pub struct Program {
     pub code: Vec<Instruction>,
@@ -22,7 +22,7 @@ pub struct Program {
     pub first_reg: usize,
 }
 
-/// The values settle by what the ports are given. Told is the first access outside its array.
+// The values settle by what the ports are given. Told is the first access outside its array.
 pub fn settle_ports(
     program: &Program,
     values: &mut [u64],
@@ -45,7 +45,7 @@ pub fn settle_ports(
     }
 }
 
-/// The edge: each register and each word takes its value, by the values before.
+// The edge: each register and each word takes its value, by the values before.
 pub fn take_edge(program: &Program, values: &mut [u64], staged: &mut [u64], arrays: &mut [Vec<u64>])
     requires edges { EdgesAreSafe values.old program.now.edges.items (length staged.old) (words_of arrays.old) }
     requires regs { program.now.first_reg + length staged.old ≤ length values.old }
@@ -57,7 +57,7 @@ pub fn take_edge(program: &Program, values: &mut [u64], staged: &mut [u64], arra
     put_from(values, program.first_reg, staged);
 }
 
-/// The same over vectors.
+// The same over vectors.
 pub fn settle_vec(
     program: &Program,
     values: &mut Vec<u64>,
@@ -75,7 +75,7 @@ pub fn settle_vec(
     settle_ports(program, values, arrays, reset, enable, dins)
 }
 
-/// The same over vectors.
+// The same over vectors.
 pub fn edge_vec(
     program: &Program,
     values: &mut Vec<u64>,
@@ -91,7 +91,7 @@ pub fn edge_vec(
     take_edge(program, values, staged, arrays);
 }
 
-/// Exchanges the numbers in the slots from this one on for others.
+// Exchanges the numbers in the slots from this one on for others.
 pub fn exchange_vec(values: &mut Vec<u64>, first: usize, numbers: &mut Vec<u64>)
     requires { first + length numbers.old.items ≡ length values.old.items }
     ensures values { values.new.items ≡ take first values.old.items ++ numbers.old.items }
@@ -100,7 +100,7 @@ pub fn exchange_vec(values: &mut Vec<u64>, first: usize, numbers: &mut Vec<u64>)
     exchange_from(values, first, numbers);
 }
 
-/// Exchanges arrays for others.
+// Exchanges arrays for others.
 pub fn exchange_arrays(arrays: &mut Vec<Vec<u64>>, others: &mut Vec<Vec<u64>>)
     ensures arrays { words_of arrays.new.items ≡ words_of others.old.items }
     ensures others { words_of others.new.items ≡ words_of arrays.old.items }

@@ -16,7 +16,7 @@ pub struct Out {
     pub dout: u64,
 }
 
-/// The ports of the output of this number.
+// The ports of the output of this number.
 pub fn out_at(outputs: &[u64], output: usize) -> Out
     requires { 2 * output + 1 < length outputs.now }
     ensures { result ≡ out_of outputs.now output }
@@ -27,7 +27,7 @@ pub fn out_at(outputs: &[u64], output: usize) -> Out
     }
 }
 
-/// The ports of all outputs in their order.
+// The ports of all outputs in their order.
 pub fn show_outs(outputs: &[u64], outs: &mut [Out])
     requires { length outputs.now ≡ 2 * length outs.old }
     ensures length { length outs.new ≡ length outs.old }
@@ -38,7 +38,7 @@ pub fn show_outs(outputs: &[u64], outs: &mut [Out])
     }
 }
 
-/// Whether there is a number for each width, and each fits its own.
+// Whether there is a number for each width, and each fits its own.
 pub fn all_fit(widths: &[Width], numbers: &[u64]) -> bool
     ensures yes { IsTrue result → Fit widths.now numbers.now }
     ensures no { Fit widths.now numbers.now → IsTrue result }
@@ -61,7 +61,7 @@ fn first_din(has_enable: bool) -> usize
     if has_enable { 2 } else { 1 }
 }
 
-/// The widths of the din ports.
+// The widths of the din ports.
 pub fn dins_of(wiring: &Wiring) -> &[Width]
     requires { KeepsRules (netlist_of wiring.now) }
     ensures { result.now ≡ din_widths (netlist_of wiring.now) }
@@ -69,7 +69,7 @@ pub fn dins_of(wiring: &Wiring) -> &[Width]
     wiring.inputs.split_at(first_din(wiring.enable)).1
 }
 
-/// The number of outputs.
+// The number of outputs.
 pub fn output_count(wiring: &Wiring) -> usize
     requires { KeepsRules (netlist_of wiring.now) }
     ensures { length (netlist_of wiring.now).outputs ≡ 2 * result }

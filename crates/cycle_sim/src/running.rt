@@ -7,7 +7,7 @@ ghost use Rattle.cycle_sim.specs.declared.running.Clock.{Clock as GivenClock};
 ghost use Rattle.wiring.specs.Snapshot.{Fit};
 ghost use Rattle.cycle_sim.specs.Ports.{din_widths};
 ghost use Rattle.cycle_sim.specs.Runs.{clock_of, clocks_of, Ran, RanToStop, EndsEarly};
-ghost use Rattle.cycle_sim.specs.declared.running.RunFault.TheVariants.{Stopped, Memory};
+ghost use Rattle.cycle_sim.specs.declared.running.RunFault.TheVariants.{Stopped, OutOfMemory};
 
 use crate::edge::IndexRange;
 use crate::ports::Out;
@@ -28,7 +28,7 @@ pub enum RunFault {
     /// An index is not below the depth of its array.
     Stopped(IndexRange),
     /// There was not enough memory for the samples. No clock took place.
-    Memory,
+    OutOfMemory,
 }
 
 /// Whether a simulator can take what each of the clocks gives to its din ports: what `run` asks of them.
@@ -116,16 +116,16 @@ pub fn run(
     ensures netlist { sim.new.netlist ≡ sim.old.netlist }
     ensures ok { OnOk result (Ran sim.old.netlist output (clocks_of clocks.now) sim.old.contents samples.old.items sim.new.contents samples.new.items) }
     ensures err { IfErr result (EndsEarly sim.old.netlist output (clocks_of clocks.now) sim.old.contents samples.old.items sim.new.contents samples.new.items) }
-    ensures to_end { (to : Contents) (all : List ℕ) → Ran sim.old.netlist output (clocks_of clocks.now) sim.old.contents samples.old.items to all → (result ≡ Err Memory) ⊎ (IsOk result × (sim.new.contents ≡ to) × (samples.new.items ≡ all)) }
-    ensures to_stop { (to : Contents) (all : List ℕ) (x i : ℕ) → RanToStop sim.old.netlist output (clocks_of clocks.now) sim.old.contents samples.old.items to all x i → (result ≡ Err Memory) ⊎ ((result ≡ Err (Stopped (record { array = x; index = i }))) × (sim.new.contents ≡ to) × (samples.new.items ≡ all)) }
-    ensures room { vec_len samples.old + length clocks.now ≤ vec_capacity samples.old → result ≢ Err Memory }
+    ensures to_end { (to : Contents) (all : List ℕ) → Ran sim.old.netlist output (clocks_of clocks.now) sim.old.contents samples.old.items to all → (result ≡ Err OutOfMemory) ⊎ (IsOk result × (sim.new.contents ≡ to) × (samples.new.items ≡ all)) }
+    ensures to_stop { (to : Contents) (all : List ℕ) (x i : ℕ) → RanToStop sim.old.netlist output (clocks_of clocks.now) sim.old.contents samples.old.items to all x i → (result ≡ Err OutOfMemory) ⊎ ((result ≡ Err (Stopped (record { array = x; index = i }))) × (sim.new.contents ≡ to) × (samples.new.items ≡ all)) }
+    ensures room { vec_len samples.old + length clocks.now ≤ vec_capacity samples.old → result ≢ Err OutOfMemory }
     ensures count { vec_len samples.new ≤ vec_len samples.old + length clocks.now }
     ensures capacity { vec_capacity samples.old ≤ vec_capacity samples.new }
 {
     sim.law();
     one_run();
     if samples.try_reserve(clocks.len()).is_err() {
-        return Err(RunFault::Memory);
+        return Err(RunFault::OutOfMemory);
     }
     match run_clocks(sim, clocks, output, samples) {
         Err(range) => Err(RunFault::Stopped(range)),

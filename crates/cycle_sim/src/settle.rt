@@ -6,14 +6,14 @@ ghost use Rattle.cycle_sim.specs.Code.{CodeIsSafe, run_code};
 use crate::evaluate::evaluate;
 use netlist::{Right, Width};
 
-/// A slot, and the right side that it takes.
+// A slot, and the right side that it takes.
 #[derive(Clone, Copy, Debug)]
 pub struct Instruction {
     pub target: usize,
     pub right: Right<usize, usize>,
 }
 
-/// Gives each target its value, one after another.
+// Gives each target its value, one after another.
 pub fn settle(code: &[Instruction], widths: &[Width], arrays: &[Vec<u64>], values: &mut [u64])
     requires { CodeIsSafe widths.now (words_of arrays.now) code.now values.old }
     ensures { values.new ≡ run_code widths.now (words_of arrays.now) code.now values.old }

@@ -11,7 +11,7 @@ use crate::circuit::Circuit;
 use crate::edge::IndexRange;
 use crate::fill::Fill;
 use crate::ports::{Out, out_at, show_outs};
-use dk_base::Memory;
+use dk_base::OutOfMemory;
 use netlist::Module;
 use std::alloc::Global;
 use std::marker::Model;
@@ -32,7 +32,7 @@ impl Model for Sim {
 
 impl Sim {
     /// A simulator of a module, with these contents at power-up.
-    pub fn new(alloc: Global, module: &Module, fill: Fill) -> Result<Sim, Memory>
+    pub fn new(alloc: Global, module: &Module, fill: Fill) -> Result<Sim, OutOfMemory>
         ensures netlist { IfOk result (λ s. s.netlist ≡ «module».now.netlist) }
         ensures contents { IfOk result (λ s. s.contents ≡ filled_contents fill «module».now.netlist) }
     {

@@ -20,12 +20,17 @@ use crate::operand::{Operand, Signal};
 use crate::saturation::saturated;
 use crate::shifts::{shift_left, shift_right};
 use crate::words::choose;
-use dk_base::{Binary, Conversion, Memory, Scaling, Ty, Unary};
+use dk_base::{Binary, Conversion, OutOfMemory, Scaling, Ty, Unary};
 use net_build::Builder;
 use wiring::Net;
 
 /// An operator of two operands.
-pub fn binary(b: &mut Builder, operator: Binary, x: Operand, y: Operand) -> Result<Operand, Memory>
+pub fn binary(
+    b: &mut Builder,
+    operator: Binary,
+    x: Operand,
+    y: Operand,
+) -> Result<Operand, OutOfMemory>
     requires x { IsOperand b.old x }
     requires y { IsOperand b.old y }
     requires takes { IsTrue (are_operands operator x.ty y.ty) }
@@ -55,7 +60,7 @@ pub fn binary(b: &mut Builder, operator: Binary, x: Operand, y: Operand) -> Resu
 }
 
 /// An operator of one operand.
-pub fn unary(b: &mut Builder, operator: Unary, x: Operand) -> Result<Operand, Memory>
+pub fn unary(b: &mut Builder, operator: Unary, x: Operand) -> Result<Operand, OutOfMemory>
     requires x { IsOperand b.old x }
     requires takes { TakesOperand operator x.ty }
     requires ty { IsType (unary_result operator x.ty) }
@@ -72,7 +77,12 @@ pub fn unary(b: &mut Builder, operator: Unary, x: Operand) -> Result<Operand, Me
 }
 
 /// An operator with a number that the program writes.
-pub fn scaled(b: &mut Builder, operator: Scaling, x: Operand, by: u64) -> Result<Operand, Memory>
+pub fn scaled(
+    b: &mut Builder,
+    operator: Scaling,
+    x: Operand,
+    by: u64,
+) -> Result<Operand, OutOfMemory>
     requires x { IsOperand b.old x }
     requires by { TakesNumber operator by }
     requires ty { IsType (scaling_result operator x.ty by) }
@@ -89,7 +99,12 @@ pub fn scaled(b: &mut Builder, operator: Scaling, x: Operand, by: u64) -> Result
 }
 
 /// An operand brought into the range of a type.
-pub fn converted(b: &mut Builder, how: Conversion, x: Operand, ty: Ty) -> Result<Operand, Memory>
+pub fn converted(
+    b: &mut Builder,
+    how: Conversion,
+    x: Operand,
+    ty: Ty,
+) -> Result<Operand, OutOfMemory>
     requires x { IsOperand b.old x }
     requires ty { IsType ty }
     ensures grows { Grows b.old b.new }
@@ -105,7 +120,7 @@ pub fn converted(b: &mut Builder, how: Conversion, x: Operand, ty: Ty) -> Result
 
 /// The operand where the bit is 1, else 0.
 #[tactic(auto, using(crate::proofs::Carried::later))]
-pub fn gated(b: &mut Builder, bit: Net, x: Operand) -> Result<Operand, Memory>
+pub fn gated(b: &mut Builder, bit: Net, x: Operand) -> Result<Operand, OutOfMemory>
     requires bit { HasWidth b.old (signal.Net bit) 1 }
     requires x { IsOperand b.old x }
     ensures grows { Grows b.old b.new }

@@ -9,12 +9,12 @@ use crate::constants::constant;
 use crate::operand::Operand;
 use crate::resize::resized;
 use crate::words::{add, multiply, subtract};
-use dk_base::{Memory, Ty};
+use dk_base::{OutOfMemory, Ty};
 use net_build::Builder;
 
 /// The sum of two operands.
 #[tactic(auto, using(crate::proofs::Carried::later))]
-pub fn sum(b: &mut Builder, x: Operand, y: Operand) -> Result<Operand, Memory>
+pub fn sum(b: &mut Builder, x: Operand, y: Operand) -> Result<Operand, OutOfMemory>
     requires x { IsOperand b.old x }
     requires y { IsOperand b.old y }
     requires ty { IsType (sum_type x.ty y.ty) }
@@ -33,7 +33,7 @@ pub fn sum(b: &mut Builder, x: Operand, y: Operand) -> Result<Operand, Memory>
 
 /// The difference of two operands.
 #[tactic(auto, using(crate::proofs::Carried::later))]
-pub fn difference(b: &mut Builder, x: Operand, y: Operand) -> Result<Operand, Memory>
+pub fn difference(b: &mut Builder, x: Operand, y: Operand) -> Result<Operand, OutOfMemory>
     requires x { IsOperand b.old x }
     requires y { IsOperand b.old y }
     requires ty { IsType (difference_type x.ty y.ty) }
@@ -52,7 +52,7 @@ pub fn difference(b: &mut Builder, x: Operand, y: Operand) -> Result<Operand, Me
 
 /// The product of two operands.
 #[tactic(auto, using(crate::proofs::Carried::later))]
-pub fn product(b: &mut Builder, x: Operand, y: Operand) -> Result<Operand, Memory>
+pub fn product(b: &mut Builder, x: Operand, y: Operand) -> Result<Operand, OutOfMemory>
     requires x { IsOperand b.old x }
     requires y { IsOperand b.old y }
     requires ty { IsType (product_type x.ty y.ty) }
@@ -71,7 +71,7 @@ pub fn product(b: &mut Builder, x: Operand, y: Operand) -> Result<Operand, Memor
 
 /// An operand's number with the other sign.
 #[tactic(auto, using(crate::proofs::Carried::later))]
-pub fn negation(b: &mut Builder, x: Operand) -> Result<Operand, Memory>
+pub fn negation(b: &mut Builder, x: Operand) -> Result<Operand, OutOfMemory>
     requires x { IsOperand b.old x }
     requires ty { IsType (negation_type x.ty) }
     ensures grows { Grows b.old b.new }

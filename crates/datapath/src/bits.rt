@@ -8,13 +8,13 @@ ghost use Rattle.datapath.specs.Operands.{IsOperand, Carries, worth};
 use crate::operand::Operand;
 use crate::resize::resized;
 use crate::words::{and, complement, or, xor};
-use dk_base::{Memory, Ty};
+use dk_base::{OutOfMemory, Ty};
 use net_build::Builder;
 use std::cmp::max;
 
 /// The bits that both operands have.
 #[tactic(auto, using(crate::proofs::Carried::later))]
-pub fn conjunction(b: &mut Builder, x: Operand, y: Operand) -> Result<Operand, Memory>
+pub fn conjunction(b: &mut Builder, x: Operand, y: Operand) -> Result<Operand, OutOfMemory>
     requires x { IsOperand b.old x }
     requires y { IsOperand b.old y }
     requires unsigned { IsTrue (not (is_signed x.ty || is_signed y.ty)) }
@@ -35,7 +35,7 @@ pub fn conjunction(b: &mut Builder, x: Operand, y: Operand) -> Result<Operand, M
 
 /// The bits that one of the operands has.
 #[tactic(auto, using(crate::proofs::Carried::later))]
-pub fn disjunction(b: &mut Builder, x: Operand, y: Operand) -> Result<Operand, Memory>
+pub fn disjunction(b: &mut Builder, x: Operand, y: Operand) -> Result<Operand, OutOfMemory>
     requires x { IsOperand b.old x }
     requires y { IsOperand b.old y }
     requires unsigned { IsTrue (not (is_signed x.ty || is_signed y.ty)) }
@@ -56,7 +56,7 @@ pub fn disjunction(b: &mut Builder, x: Operand, y: Operand) -> Result<Operand, M
 
 /// The bits that one of the operands alone has.
 #[tactic(auto, using(crate::proofs::Carried::later))]
-pub fn parity(b: &mut Builder, x: Operand, y: Operand) -> Result<Operand, Memory>
+pub fn parity(b: &mut Builder, x: Operand, y: Operand) -> Result<Operand, OutOfMemory>
     requires x { IsOperand b.old x }
     requires y { IsOperand b.old y }
     requires unsigned { IsTrue (not (is_signed x.ty || is_signed y.ty)) }
@@ -77,7 +77,7 @@ pub fn parity(b: &mut Builder, x: Operand, y: Operand) -> Result<Operand, Memory
 
 /// The other bit.
 #[tactic(auto, using(crate::proofs::Carried::later))]
-pub fn negated(b: &mut Builder, x: Operand) -> Result<Operand, Memory>
+pub fn negated(b: &mut Builder, x: Operand) -> Result<Operand, OutOfMemory>
     requires x { IsOperand b.old x }
     requires bit { x.ty ≡ Ty.Unsigned 1 }
     ensures grows { Grows b.old b.new }

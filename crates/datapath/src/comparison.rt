@@ -14,12 +14,12 @@ use crate::constants::top_bit;
 use crate::operand::{Operand, Signal};
 use crate::resize::resized;
 use crate::words::{add, choose, equal, less};
-use dk_base::{Memory, Ty};
+use dk_base::{OutOfMemory, Ty};
 use net_build::Builder;
 
 // How far an operand's number is above the least number of a type that has all its numbers.
 #[tactic(auto, using(crate::proofs::Carried::later))]
-pub fn offset(b: &mut Builder, x: Operand, ty: Ty) -> Result<Signal, Memory>
+pub fn offset(b: &mut Builder, x: Operand, ty: Ty) -> Result<Signal, OutOfMemory>
     requires x { IsOperand b.old x }
     requires ty { IsType ty }
     requires within { IsWithin x.ty ty }
@@ -44,7 +44,7 @@ pub fn offset(b: &mut Builder, x: Operand, ty: Ty) -> Result<Signal, Memory>
 
 /// Whether the first operand is less than the second.
 #[tactic(auto, using(crate::proofs::Carried::later))]
-pub fn is_less(b: &mut Builder, x: Operand, y: Operand) -> Result<Operand, Memory>
+pub fn is_less(b: &mut Builder, x: Operand, y: Operand) -> Result<Operand, OutOfMemory>
     requires x { IsOperand b.old x }
     requires y { IsOperand b.old y }
     requires ty { IsType (common_type x.ty y.ty) }
@@ -65,7 +65,7 @@ pub fn is_less(b: &mut Builder, x: Operand, y: Operand) -> Result<Operand, Memor
 
 /// Whether two operands are equal.
 #[tactic(auto, using(crate::proofs::Carried::later))]
-pub fn is_equal(b: &mut Builder, x: Operand, y: Operand) -> Result<Operand, Memory>
+pub fn is_equal(b: &mut Builder, x: Operand, y: Operand) -> Result<Operand, OutOfMemory>
     requires x { IsOperand b.old x }
     requires y { IsOperand b.old y }
     requires ty { IsType (common_type x.ty y.ty) }
@@ -92,7 +92,7 @@ pub fn choice(
     condition: Operand,
     x: Operand,
     y: Operand,
-) -> Result<Operand, Memory>
+) -> Result<Operand, OutOfMemory>
     requires condition { IsOperand b.old condition }
     requires bit { condition.ty ≡ Ty.Unsigned 1 }
     requires x { IsOperand b.old x }
@@ -113,7 +113,7 @@ pub fn choice(
 
 /// The number of a type's range that is equal to the operand's modulo 2 to the type's width.
 #[tactic(auto, using(crate::proofs::Carried::later))]
-pub fn cast(b: &mut Builder, x: Operand, ty: Ty) -> Result<Operand, Memory>
+pub fn cast(b: &mut Builder, x: Operand, ty: Ty) -> Result<Operand, OutOfMemory>
     requires x { IsOperand b.old x }
     requires ty { IsType ty }
     ensures grows { Grows b.old b.new }
@@ -128,7 +128,7 @@ pub fn cast(b: &mut Builder, x: Operand, ty: Ty) -> Result<Operand, Memory>
 
 /// The lesser of two operands.
 #[tactic(auto, using(crate::proofs::Carried::later))]
-pub fn minimum(b: &mut Builder, x: Operand, y: Operand) -> Result<Operand, Memory>
+pub fn minimum(b: &mut Builder, x: Operand, y: Operand) -> Result<Operand, OutOfMemory>
     requires x { IsOperand b.old x }
     requires y { IsOperand b.old y }
     requires ty { IsType (common_type x.ty y.ty) }
@@ -144,7 +144,7 @@ pub fn minimum(b: &mut Builder, x: Operand, y: Operand) -> Result<Operand, Memor
 
 /// The greater of two operands.
 #[tactic(auto, using(crate::proofs::Carried::later))]
-pub fn maximum(b: &mut Builder, x: Operand, y: Operand) -> Result<Operand, Memory>
+pub fn maximum(b: &mut Builder, x: Operand, y: Operand) -> Result<Operand, OutOfMemory>
     requires x { IsOperand b.old x }
     requires y { IsOperand b.old y }
     requires ty { IsType (common_type x.ty y.ty) }
@@ -160,7 +160,7 @@ pub fn maximum(b: &mut Builder, x: Operand, y: Operand) -> Result<Operand, Memor
 
 /// Whether the first operand is at most the second.
 #[tactic(auto, using(crate::proofs::Carried::later))]
-pub fn is_at_most(b: &mut Builder, x: Operand, y: Operand) -> Result<Operand, Memory>
+pub fn is_at_most(b: &mut Builder, x: Operand, y: Operand) -> Result<Operand, OutOfMemory>
     requires x { IsOperand b.old x }
     requires y { IsOperand b.old y }
     requires ty { IsType (common_type x.ty y.ty) }
@@ -176,7 +176,7 @@ pub fn is_at_most(b: &mut Builder, x: Operand, y: Operand) -> Result<Operand, Me
 
 /// Whether the first operand is at least the second.
 #[tactic(auto, using(crate::proofs::Carried::later))]
-pub fn is_at_least(b: &mut Builder, x: Operand, y: Operand) -> Result<Operand, Memory>
+pub fn is_at_least(b: &mut Builder, x: Operand, y: Operand) -> Result<Operand, OutOfMemory>
     requires x { IsOperand b.old x }
     requires y { IsOperand b.old y }
     requires ty { IsType (common_type x.ty y.ty) }
@@ -192,7 +192,7 @@ pub fn is_at_least(b: &mut Builder, x: Operand, y: Operand) -> Result<Operand, M
 
 /// Whether two operands differ.
 #[tactic(auto, using(crate::proofs::Carried::later))]
-pub fn is_unequal(b: &mut Builder, x: Operand, y: Operand) -> Result<Operand, Memory>
+pub fn is_unequal(b: &mut Builder, x: Operand, y: Operand) -> Result<Operand, OutOfMemory>
     requires x { IsOperand b.old x }
     requires y { IsOperand b.old y }
     requires ty { IsType (common_type x.ty y.ty) }

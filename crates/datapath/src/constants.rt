@@ -13,7 +13,7 @@ use crate::operand::Signal;
 use net_build::Builder;
 use wiring::{Operator, join_value, low_bits, operator_value};
 
-/// The constant of `width` bits of this value.
+// The constant of `width` bits of this value.
 pub(crate) fn constant(width: u8, value: u64) -> Signal
     requires width { IsWidth width }
     requires fits { value < 2 ^ width }
@@ -35,7 +35,7 @@ fn half(width: u8) -> u64
     1 << (width - 1)
 }
 
-/// The constant of `width` bits whose highest bit alone is 1.
+// The constant of `width` bits whose highest bit alone is 1.
 pub(crate) fn top_bit(width: u8) -> Signal
     requires { IsWidth width }
     ensures is { result ≡ signal.Constant width (2 ^ (width - 1)) }
@@ -46,7 +46,7 @@ pub(crate) fn top_bit(width: u8) -> Signal
     constant(width, half(width))
 }
 
-/// The value of a constant, or None of a net.
+// The value of a constant, or None of a net.
 pub(crate) fn known(x: Signal) -> Option<u64>
     ensures value { result ≡ known_value x }
     ensures known { IsKnown x → IsSome result }
@@ -79,7 +79,7 @@ fn copies(count: u8, bit: u64) -> u64
     all_ones(count)
 }
 
-/// An operator of two constants, or None where one is a net.
+// An operator of two constants, or None where one is a net.
 pub(crate) fn folded(
     b: &Builder,
     operator: Operator,
@@ -102,7 +102,7 @@ pub(crate) fn folded(
     Some(constant(evaluated_width(operator, width), value))
 }
 
-/// A constant above another, or None where one is a net.
+// A constant above another, or None where one is a net.
 pub(crate) fn folded_join(b: &Builder, high: u8, x: Signal, low: u8, y: Signal) -> Option<Signal>
     requires some { 1 ≤ low }
     requires most { high + low ≤ 64 }
@@ -119,7 +119,7 @@ pub(crate) fn folded_join(b: &Builder, high: u8, x: Signal, low: u8, y: Signal) 
     Some(constant(high + low, value))
 }
 
-/// So many copies of a constant bit, or None of a net.
+// So many copies of a constant bit, or None of a net.
 pub(crate) fn folded_repeat(b: &Builder, count: u8, x: Signal) -> Option<Signal>
     requires width { IsWidth count }
     requires x { HasWidth b.now x 1 }
@@ -133,7 +133,7 @@ pub(crate) fn folded_repeat(b: &Builder, count: u8, x: Signal) -> Option<Signal>
     Some(constant(count, value))
 }
 
-/// The other bits of a constant, or None of a net.
+// The other bits of a constant, or None of a net.
 pub(crate) fn folded_not(b: &Builder, width: u8, x: Signal) -> Option<Signal>
     requires width { IsWidth width }
     requires x { HasWidth b.now x width }
@@ -147,7 +147,7 @@ pub(crate) fn folded_not(b: &Builder, width: u8, x: Signal) -> Option<Signal>
     Some(constant(width, value))
 }
 
-/// The `count` bits of a constant from bit `low` on, or None of a net.
+// The `count` bits of a constant from bit `low` on, or None of a net.
 pub(crate) fn folded_part(b: &Builder, width: u8, x: Signal, low: u8, count: u8) -> Option<Signal>
     requires width { IsWidth width }
     requires some { 1 ≤ count }

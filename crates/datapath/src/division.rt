@@ -12,12 +12,12 @@ use crate::constants::constant;
 use crate::ends::greatest;
 use crate::operand::{Operand, Signal};
 use crate::words::{choose, divide, part, subtract};
-use dk_base::{Memory, Ty};
+use dk_base::{OutOfMemory, Ty};
 use net_build::Builder;
 
 // An atom of `width` bits, or what is missing to 2 to the `width` where the sign is 1.
 #[tactic(auto, using(crate::proofs::Carried::later))]
-fn turned(b: &mut Builder, width: u8, sign: Signal, x: Signal) -> Result<Signal, Memory>
+fn turned(b: &mut Builder, width: u8, sign: Signal, x: Signal) -> Result<Signal, OutOfMemory>
     requires width { IsWidth width }
     requires sign { HasWidth b.old sign 1 }
     requires x { HasWidth b.old x width }
@@ -33,7 +33,7 @@ fn turned(b: &mut Builder, width: u8, sign: Signal, x: Signal) -> Result<Signal,
 
 // The absolute value of a signed operand.
 #[tactic(auto, using(crate::proofs::Carried::later))]
-fn signed_magnitude(b: &mut Builder, width: u8, x: Operand) -> Result<Operand, Memory>
+fn signed_magnitude(b: &mut Builder, width: u8, x: Operand) -> Result<Operand, OutOfMemory>
     requires x { IsOperand b.old x }
     requires ty { x.ty ≡ Signed width }
     ensures grows { Grows b.old b.new }
@@ -51,7 +51,12 @@ fn signed_magnitude(b: &mut Builder, width: u8, x: Operand) -> Result<Operand, M
 
 // The quotient of an operand that is not negative.
 #[tactic(auto, using(crate::proofs::Carried::later))]
-fn unsigned_quotient(b: &mut Builder, width: u8, x: Operand, by: u64) -> Result<Operand, Memory>
+fn unsigned_quotient(
+    b: &mut Builder,
+    width: u8,
+    x: Operand,
+    by: u64,
+) -> Result<Operand, OutOfMemory>
     requires x { IsOperand b.old x }
     requires ty { x.ty ≡ Ty.Unsigned width }
     requires by { 0 < by }
@@ -73,7 +78,7 @@ fn unsigned_quotient(b: &mut Builder, width: u8, x: Operand, by: u64) -> Result<
 
 /// An operand's number divided by a constant, rounded toward zero.
 #[tactic(auto, using(crate::proofs::Carried::later))]
-pub fn quotient(b: &mut Builder, x: Operand, by: u64) -> Result<Operand, Memory>
+pub fn quotient(b: &mut Builder, x: Operand, by: u64) -> Result<Operand, OutOfMemory>
     requires x { IsOperand b.old x }
     requires by { 0 < by }
     ensures grows { Grows b.old b.new }
@@ -101,7 +106,7 @@ pub fn quotient(b: &mut Builder, x: Operand, by: u64) -> Result<Operand, Memory>
 
 /// An operand's absolute value.
 #[tactic(auto, using(crate::proofs::Carried::later))]
-pub fn magnitude(b: &mut Builder, x: Operand) -> Result<Operand, Memory>
+pub fn magnitude(b: &mut Builder, x: Operand) -> Result<Operand, OutOfMemory>
     requires x { IsOperand b.old x }
     ensures grows { Grows b.old b.new }
     ensures value { IfOk result (λ r. Carries b.new r (magnitude_type x.ty) (λ nets. pos (unsigned_abs (worth nets x)))) }

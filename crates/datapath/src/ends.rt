@@ -5,7 +5,7 @@ ghost use Rattle.dk_base.specs.Types.{IsType, width_of, below as below_zero, abo
 
 use dk_base::Ty;
 
-/// How many numbers below 0 there are.
+// How many numbers below 0 there are.
 #[tactic(auto, using(std::proofs::lemmas::Nat::one_shl, std::proofs::lemmas::Nat::pow_below))]
 pub(crate) fn below(ty: Ty) -> u64
     requires { IsType ty }
@@ -18,7 +18,7 @@ pub(crate) fn below(ty: Ty) -> u64
     }
 }
 
-/// The greatest number.
+// The greatest number.
 #[tactic(auto, using(std::proofs::lemmas::Nat::one_shl, std::proofs::lemmas::Nat::pow_below, std::proofs::lemmas::Nat::pow_pos))]
 pub(crate) fn greatest(ty: Ty) -> u64
     requires { IsType ty }
@@ -30,7 +30,7 @@ pub(crate) fn greatest(ty: Ty) -> u64
     }
 }
 
-/// The number of `width` bits that are 1.
+// The number of `width` bits that are 1.
 #[tactic(auto, using(std::proofs::lemmas::Nat::one_shl, dk_base::proofs::Codes::half, std::proofs::lemmas::Nat::pow_pos))]
 pub(crate) fn all_ones(width: u8) -> u64
     requires { (1 ≤ width) × (width ≤ 64) }

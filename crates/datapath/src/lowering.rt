@@ -19,7 +19,7 @@ use crate::comparison::choice;
 use crate::constants::constant;
 use crate::operand::{Operand, Signal};
 use crate::words::net_of;
-use dk_base::{Memory, Ty, wrap};
+use dk_base::{OutOfMemory, Ty, wrap};
 use net_build::Builder;
 use pointwise_ir::{Edge, Expr};
 use wiring::Net;
@@ -103,7 +103,7 @@ fn shifted(
     bits: &[Net],
     k: usize,
     x: Operand,
-) -> Result<Operand, Memory>
+) -> Result<Operand, OutOfMemory>
     requires x { IsOperand b.old x }
     requires bit { k + edge_bits edge ≤ length bits.now }
     requires one_bit { (j : ℕ) (n : Net) → slice_get bits.now j ≡ Some n → HasWidth b.old (signal.Net n) 1 }
@@ -137,7 +137,7 @@ fn walk(
     reads: &[(Ty, Net)],
     bits: &[Net],
     at: Place,
-) -> Result<Walked, Memory>
+) -> Result<Walked, OutOfMemory>
     requires leaves { LeavesAreOperands b.old reads.now bits.now }
     requires part { IsPartAt (tree_of e.now) reads.now bits.now at.read at.bit }
     ensures grows { Grows b.old b.new }
@@ -228,7 +228,7 @@ pub fn typed_over_leaves()
 {}
 
 /// The net of an expression over the nets of its leaves. Its bits, read in the expression's type, are the expression's value over what the leaves' nets say. It adds wires alone, no assign that reads an array, and is made of the leaves' nets alone. Where there is no leaf, it is a constant, and takes one assign at most. It calls itself as deep as the expression is.
-pub fn lower(e: &Expr, b: &mut Builder, leaves: &Leaves) -> Result<Net, Memory>
+pub fn lower(e: &Expr, b: &mut Builder, leaves: &Leaves) -> Result<Net, OutOfMemory>
     requires nets { AreLeaves b.old leaves.now.reads.items leaves.now.bits.items }
     requires leaves { HasLeaves (tree_of e.now) leaves.now.reads.items leaves.now.bits.items }
     ensures grows { Grows b.old b.new }

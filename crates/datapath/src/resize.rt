@@ -10,11 +10,11 @@ ghost use Rattle.datapath.specs.Operands.{IsOperand, worth};
 
 use crate::operand::{Operand, Signal};
 use crate::words::{part, with_signs, with_zeros};
-use dk_base::{Memory, Ty};
+use dk_base::{OutOfMemory, Ty};
 use net_build::Builder;
 
-/// The bits of an operand's number in a width of any size.
-pub fn resized(b: &mut Builder, x: Operand, width: u8) -> Result<Signal, Memory>
+// The bits of an operand's number in a width of any size.
+pub fn resized(b: &mut Builder, x: Operand, width: u8) -> Result<Signal, OutOfMemory>
     requires operand { IsOperand b.old x }
     requires width { IsWidth width }
     ensures grows { Grows b.old b.new }

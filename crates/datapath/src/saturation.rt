@@ -12,12 +12,12 @@ use crate::ends::{below, greatest};
 use crate::operand::{Operand, Signal};
 use crate::resize::resized;
 use crate::words::{choose, less};
-use dk_base::{Memory, Ty};
+use dk_base::{OutOfMemory, Ty};
 use net_build::Builder;
 
 // The bits of the least number where the operand is below it.
 #[tactic(auto, using(crate::proofs::Carried::later))]
-fn raised(b: &mut Builder, x: Operand, ty: Ty, bits: Signal) -> Result<Signal, Memory>
+fn raised(b: &mut Builder, x: Operand, ty: Ty, bits: Signal) -> Result<Signal, OutOfMemory>
     requires x { IsOperand b.old x }
     requires ty { IsType ty }
     requires bits { HasWidth b.old bits (width_of ty) }
@@ -39,7 +39,7 @@ fn raised(b: &mut Builder, x: Operand, ty: Ty, bits: Signal) -> Result<Signal, M
 
 // The bits of the greatest number where the operand is above it.
 #[tactic(auto, using(crate::proofs::Carried::later))]
-fn lowered(b: &mut Builder, x: Operand, ty: Ty, bits: Signal) -> Result<Signal, Memory>
+fn lowered(b: &mut Builder, x: Operand, ty: Ty, bits: Signal) -> Result<Signal, OutOfMemory>
     requires x { IsOperand b.old x }
     requires ty { IsType ty }
     requires bits { HasWidth b.old bits (width_of ty) }
@@ -61,7 +61,7 @@ fn lowered(b: &mut Builder, x: Operand, ty: Ty, bits: Signal) -> Result<Signal, 
 
 /// The number of a type's range that is nearest to the operand's.
 #[tactic(auto, using(crate::proofs::Carried::later))]
-pub fn saturated(b: &mut Builder, x: Operand, ty: Ty) -> Result<Operand, Memory>
+pub fn saturated(b: &mut Builder, x: Operand, ty: Ty) -> Result<Operand, OutOfMemory>
     requires x { IsOperand b.old x }
     requires ty { IsType ty }
     ensures grows { Grows b.old b.new }

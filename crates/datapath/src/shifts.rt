@@ -10,13 +10,13 @@ use crate::constants::constant;
 use crate::operand::Operand;
 use crate::resize::resized;
 use crate::words::{join, part};
-use dk_base::{Memory, Ty};
+use dk_base::{OutOfMemory, Ty};
 use net_build::Builder;
 use std::cmp::min;
 
 /// An operand's number times 2 to the `by`.
 #[tactic(auto, using(crate::proofs::Carried::later))]
-pub fn shift_left(b: &mut Builder, x: Operand, by: u8) -> Result<Operand, Memory>
+pub fn shift_left(b: &mut Builder, x: Operand, by: u8) -> Result<Operand, OutOfMemory>
     requires x { IsOperand b.old x }
     requires ty { IsType (shifted_type x.ty by) }
     ensures grows { Grows b.old b.new }
@@ -35,7 +35,7 @@ pub fn shift_left(b: &mut Builder, x: Operand, by: u8) -> Result<Operand, Memory
 
 // The bits of an operand from bit `by` on.
 #[tactic(auto, using(crate::proofs::Carried::later))]
-fn high_bits(b: &mut Builder, x: Operand, by: u8) -> Result<Operand, Memory>
+fn high_bits(b: &mut Builder, x: Operand, by: u8) -> Result<Operand, OutOfMemory>
     requires x { IsOperand b.old x }
     requires by { by < width_of x.ty }
     ensures grows { Grows b.old b.new }
@@ -51,7 +51,7 @@ fn high_bits(b: &mut Builder, x: Operand, by: u8) -> Result<Operand, Memory>
 
 // The same for a shift that leaves a bit.
 #[tactic(auto, using(crate::proofs::Carried::later))]
-fn shift_within(b: &mut Builder, x: Operand, by: u8) -> Result<Operand, Memory>
+fn shift_within(b: &mut Builder, x: Operand, by: u8) -> Result<Operand, OutOfMemory>
     requires x { IsOperand b.old x }
     requires by { by < width_of x.ty }
     ensures grows { Grows b.old b.new }
@@ -69,7 +69,7 @@ fn shift_within(b: &mut Builder, x: Operand, by: u8) -> Result<Operand, Memory>
 
 /// An operand's number divided by 2 to the `by`, rounded down.
 #[tactic(auto, using(crate::proofs::Carried::later))]
-pub fn shift_right(b: &mut Builder, x: Operand, by: u8) -> Result<Operand, Memory>
+pub fn shift_right(b: &mut Builder, x: Operand, by: u8) -> Result<Operand, OutOfMemory>
     requires x { IsOperand b.old x }
     ensures grows { Grows b.old b.new }
     ensures value { IfOk result (λ r. Carries b.new r x.ty (λ nets. int_div_euclid (worth nets x) (pos (2 ^ by)))) }

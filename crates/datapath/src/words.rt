@@ -14,7 +14,7 @@ use crate::constants::{
     constant, folded, folded_join, folded_not, folded_part, folded_repeat, known,
 };
 use crate::operand::Signal;
-use dk_base::Memory;
+use dk_base::OutOfMemory;
 use net_build::Builder;
 use wiring::{Atom, Constant, Net, Operator, Right, Width};
 
@@ -32,7 +32,7 @@ fn atom(x: Signal) -> Atom<Net>
 }
 
 // The net of a right side that reads no array.
-fn net_for(b: &mut Builder, operation: Right<Net, usize>) -> Result<Net, Memory>
+fn net_for(b: &mut Builder, operation: Right<Net, usize>) -> Result<Net, OutOfMemory>
     requires operation { IsOperation b.old operation }
     requires no_array { right_accesses operation ≡ [] }
     ensures grows { Grows b.old b.new }
@@ -51,7 +51,7 @@ fn operated(
     width: u8,
     x: Signal,
     y: Signal,
-) -> Result<Signal, Memory>
+) -> Result<Signal, OutOfMemory>
     requires width { IsWidth (operator_width operator width) }
     requires x { HasWidth b.old x width }
     requires y { HasWidth b.old y width }
@@ -71,7 +71,7 @@ fn operated(
 }
 
 // The sum, modulo 2 to the width.
-pub(crate) fn add(b: &mut Builder, width: u8, x: Signal, y: Signal) -> Result<Signal, Memory>
+pub(crate) fn add(b: &mut Builder, width: u8, x: Signal, y: Signal) -> Result<Signal, OutOfMemory>
     requires width { IsWidth width }
     requires x { HasWidth b.old x width }
     requires y { HasWidth b.old y width }
@@ -85,7 +85,12 @@ pub(crate) fn add(b: &mut Builder, width: u8, x: Signal, y: Signal) -> Result<Si
 }
 
 // The difference, modulo 2 to the width.
-pub(crate) fn subtract(b: &mut Builder, width: u8, x: Signal, y: Signal) -> Result<Signal, Memory>
+pub(crate) fn subtract(
+    b: &mut Builder,
+    width: u8,
+    x: Signal,
+    y: Signal,
+) -> Result<Signal, OutOfMemory>
     requires width { IsWidth width }
     requires x { HasWidth b.old x width }
     requires y { HasWidth b.old y width }
@@ -99,7 +104,12 @@ pub(crate) fn subtract(b: &mut Builder, width: u8, x: Signal, y: Signal) -> Resu
 }
 
 // The product, modulo 2 to the width.
-pub(crate) fn multiply(b: &mut Builder, width: u8, x: Signal, y: Signal) -> Result<Signal, Memory>
+pub(crate) fn multiply(
+    b: &mut Builder,
+    width: u8,
+    x: Signal,
+    y: Signal,
+) -> Result<Signal, OutOfMemory>
     requires width { IsWidth width }
     requires x { HasWidth b.old x width }
     requires y { HasWidth b.old y width }
@@ -113,7 +123,12 @@ pub(crate) fn multiply(b: &mut Builder, width: u8, x: Signal, y: Signal) -> Resu
 }
 
 // The quotient by a constant.
-pub(crate) fn divide(b: &mut Builder, width: u8, x: Signal, y: Signal) -> Result<Signal, Memory>
+pub(crate) fn divide(
+    b: &mut Builder,
+    width: u8,
+    x: Signal,
+    y: Signal,
+) -> Result<Signal, OutOfMemory>
     requires width { IsWidth width }
     requires x { HasWidth b.old x width }
     requires y { HasWidth b.old y width }
@@ -128,7 +143,7 @@ pub(crate) fn divide(b: &mut Builder, width: u8, x: Signal, y: Signal) -> Result
 }
 
 // Whether the first is less.
-pub(crate) fn less(b: &mut Builder, width: u8, x: Signal, y: Signal) -> Result<Signal, Memory>
+pub(crate) fn less(b: &mut Builder, width: u8, x: Signal, y: Signal) -> Result<Signal, OutOfMemory>
     requires x { HasWidth b.old x width }
     requires y { HasWidth b.old y width }
     ensures grows { Grows b.old b.new }
@@ -141,7 +156,7 @@ pub(crate) fn less(b: &mut Builder, width: u8, x: Signal, y: Signal) -> Result<S
 }
 
 // Whether both are equal.
-pub(crate) fn equal(b: &mut Builder, width: u8, x: Signal, y: Signal) -> Result<Signal, Memory>
+pub(crate) fn equal(b: &mut Builder, width: u8, x: Signal, y: Signal) -> Result<Signal, OutOfMemory>
     requires x { HasWidth b.old x width }
     requires y { HasWidth b.old y width }
     ensures grows { Grows b.old b.new }
@@ -154,7 +169,7 @@ pub(crate) fn equal(b: &mut Builder, width: u8, x: Signal, y: Signal) -> Result<
 }
 
 // The bits that both have.
-pub(crate) fn and(b: &mut Builder, width: u8, x: Signal, y: Signal) -> Result<Signal, Memory>
+pub(crate) fn and(b: &mut Builder, width: u8, x: Signal, y: Signal) -> Result<Signal, OutOfMemory>
     requires width { IsWidth width }
     requires x { HasWidth b.old x width }
     requires y { HasWidth b.old y width }
@@ -168,7 +183,7 @@ pub(crate) fn and(b: &mut Builder, width: u8, x: Signal, y: Signal) -> Result<Si
 }
 
 // The bits that one of them has.
-pub(crate) fn or(b: &mut Builder, width: u8, x: Signal, y: Signal) -> Result<Signal, Memory>
+pub(crate) fn or(b: &mut Builder, width: u8, x: Signal, y: Signal) -> Result<Signal, OutOfMemory>
     requires width { IsWidth width }
     requires x { HasWidth b.old x width }
     requires y { HasWidth b.old y width }
@@ -182,7 +197,7 @@ pub(crate) fn or(b: &mut Builder, width: u8, x: Signal, y: Signal) -> Result<Sig
 }
 
 // The bits that one of them alone has.
-pub(crate) fn xor(b: &mut Builder, width: u8, x: Signal, y: Signal) -> Result<Signal, Memory>
+pub(crate) fn xor(b: &mut Builder, width: u8, x: Signal, y: Signal) -> Result<Signal, OutOfMemory>
     requires width { IsWidth width }
     requires x { HasWidth b.old x width }
     requires y { HasWidth b.old y width }
@@ -202,7 +217,7 @@ pub(crate) fn choose(
     c: Signal,
     x: Signal,
     y: Signal,
-) -> Result<Signal, Memory>
+) -> Result<Signal, OutOfMemory>
     requires width { IsWidth width }
     requires c { HasWidth b.old c 1 }
     requires x { HasWidth b.old x width }
@@ -234,7 +249,7 @@ pub(crate) fn join(
     x: Signal,
     low: u8,
     y: Signal,
-) -> Result<Signal, Memory>
+) -> Result<Signal, OutOfMemory>
     requires some { 1 ≤ low }
     requires most { high + low ≤ 64 }
     requires x { HasWidth b.old x high }
@@ -254,7 +269,7 @@ pub(crate) fn join(
 }
 
 // So many copies of a bit.
-pub(crate) fn repeat(b: &mut Builder, count: u8, x: Signal) -> Result<Signal, Memory>
+pub(crate) fn repeat(b: &mut Builder, count: u8, x: Signal) -> Result<Signal, OutOfMemory>
     requires width { IsWidth count }
     requires x { HasWidth b.old x 1 }
     ensures grows { Grows b.old b.new }
@@ -272,7 +287,7 @@ pub(crate) fn repeat(b: &mut Builder, count: u8, x: Signal) -> Result<Signal, Me
 }
 
 // The other bits.
-pub(crate) fn complement(b: &mut Builder, width: u8, x: Signal) -> Result<Signal, Memory>
+pub(crate) fn complement(b: &mut Builder, width: u8, x: Signal) -> Result<Signal, OutOfMemory>
     requires width { IsWidth width }
     requires x { HasWidth b.old x width }
     ensures grows { Grows b.old b.new }
@@ -290,7 +305,7 @@ pub(crate) fn complement(b: &mut Builder, width: u8, x: Signal) -> Result<Signal
 }
 
 // A constant as a net.
-fn copied(b: &mut Builder, width: u8, x: Signal) -> Result<Net, Memory>
+fn copied(b: &mut Builder, width: u8, x: Signal) -> Result<Net, OutOfMemory>
     requires width { IsWidth width }
     requires x { HasWidth b.old x width }
     ensures grows { Grows b.old b.new }
@@ -303,9 +318,9 @@ fn copied(b: &mut Builder, width: u8, x: Signal) -> Result<Net, Memory>
     Ok(net)
 }
 
-/// The net of an operand.
+// The net of an operand.
 #[tactic(auto, using(crate::proofs::Growth::later))]
-pub(crate) fn net_of(b: &mut Builder, width: u8, x: Signal) -> Result<Net, Memory>
+pub(crate) fn net_of(b: &mut Builder, width: u8, x: Signal) -> Result<Net, OutOfMemory>
     requires width { IsWidth width }
     requires x { HasWidth b.old x width }
     ensures grows { Grows b.old b.new }
@@ -323,7 +338,7 @@ pub(crate) fn net_of(b: &mut Builder, width: u8, x: Signal) -> Result<Net, Memor
 }
 
 // The `count` bits of a net from bit `low` on, which are not all.
-fn slice(b: &mut Builder, width: u8, x: Net, low: u8, count: u8) -> Result<Signal, Memory>
+fn slice(b: &mut Builder, width: u8, x: Net, low: u8, count: u8) -> Result<Signal, OutOfMemory>
     requires width { IsWidth width }
     requires some { 1 ≤ count }
     requires inside { low + count ≤ width }
@@ -339,7 +354,7 @@ fn slice(b: &mut Builder, width: u8, x: Net, low: u8, count: u8) -> Result<Signa
     Ok(Signal::Net(net))
 }
 
-/// The `count` bits from bit `low` on.
+// The `count` bits from bit `low` on.
 #[tactic(auto, using(crate::proofs::Growth::later))]
 pub(crate) fn part(
     b: &mut Builder,
@@ -347,7 +362,7 @@ pub(crate) fn part(
     x: Signal,
     low: u8,
     count: u8,
-) -> Result<Signal, Memory>
+) -> Result<Signal, OutOfMemory>
     requires width { IsWidth width }
     requires some { 1 ≤ count }
     requires inside { low + count ≤ width }
@@ -369,8 +384,13 @@ pub(crate) fn part(
     Ok(atom)
 }
 
-/// Zeros above `low` bits.
-pub(crate) fn with_zeros(b: &mut Builder, high: u8, low: u8, x: Signal) -> Result<Signal, Memory>
+// Zeros above `low` bits.
+pub(crate) fn with_zeros(
+    b: &mut Builder,
+    high: u8,
+    low: u8,
+    x: Signal,
+) -> Result<Signal, OutOfMemory>
     requires high { 1 ≤ high }
     requires low { 1 ≤ low }
     requires most { high + low ≤ 64 }
@@ -385,9 +405,14 @@ pub(crate) fn with_zeros(b: &mut Builder, high: u8, low: u8, x: Signal) -> Resul
     Ok(atom)
 }
 
-/// Copies of the highest bit above `low` bits.
+// Copies of the highest bit above `low` bits.
 #[tactic(auto, using(crate::proofs::Growth::later))]
-pub(crate) fn with_signs(b: &mut Builder, high: u8, low: u8, x: Signal) -> Result<Signal, Memory>
+pub(crate) fn with_signs(
+    b: &mut Builder,
+    high: u8,
+    low: u8,
+    x: Signal,
+) -> Result<Signal, OutOfMemory>
     requires high { 1 ≤ high }
     requires low { 1 ≤ low }
     requires most { high + low ≤ 64 }

@@ -11,7 +11,7 @@ ghost use Rattle.datapath.specs.Expressions.{type_of, types_in, leaf_value, wort
 ghost use Rattle.datapath_values.specs.Showing.{CanShow, bit_leaves};
 
 use datapath::{Leaves, lower};
-use dk_base::{Memory, Ty};
+use dk_base::{OutOfMemory, Ty};
 use net_build::Builder;
 use netlist::Module;
 use pointwise_ir::Expr;
@@ -19,7 +19,7 @@ use std::alloc::Global;
 use wiring::Net;
 
 // So many reads of the bit.
-fn bit_reads(alloc: Global, bit: Net, count: usize) -> Result<Vec<(Ty, Net)>, Memory>
+fn bit_reads(alloc: Global, bit: Net, count: usize) -> Result<Vec<(Ty, Net)>, OutOfMemory>
     requires { bit ≡ Input 1 }
     ensures { IfOk result (λ reads. reads.items ≡ bit_leaves count) }
 {
@@ -31,7 +31,7 @@ fn bit_reads(alloc: Global, bit: Net, count: usize) -> Result<Vec<(Ty, Net)>, Me
 }
 
 /// A module with a `din` of one bit, whose `dout` has so many bits: those of the value of an expression with so many reads, each of that bit, and no unclamped step. Its `valid` is `rst`.
-pub fn bit_module(alloc: Global, e: &Expr, count: usize, width: u8) -> Result<Module, Memory>
+pub fn bit_module(alloc: Global, e: &Expr, count: usize, width: u8) -> Result<Module, OutOfMemory>
     requires { CanShow (tree_of e.now) count width }
     ensures shown { IfOk result (λ m. (s : Snapshot) → IsValuation m.netlist s → number (type_of (tree_of e.now) (types_in (bit_leaves count)) 0) (net_value s (dout_net 0)) ≡ leaf_value (tree_of e.now) (worth_in s (bit_leaves count)) (set_in s []) 0 0) }
 {

@@ -7,7 +7,7 @@ mod limit;
 mod number;
 mod operator;
 mod span;
-mod stencil_tests;
+mod stencil_rules;
 mod stencils;
 mod text;
 mod ty;
@@ -23,7 +23,7 @@ pub use text::Text;
 pub use ty::Ty;
 
 /// Want of memory: the error of a call that can fail in no other way.
-pub type Memory = std::alloc::AllocError;
+pub type OutOfMemory = std::alloc::AllocError;
 
 /// The greatest length of a program's text, in bytes.
 pub const MAX_SOURCE_BYTES: usize = 1_048_576;

@@ -1,6 +1,6 @@
 // The kept images of a program, and which of them read which.
 
-use crate::stencil_tests::is_stencils;
+use crate::stencil_rules::is_stencils;
 use std::marker::Model;
 
 /// A kept image: its number in the program, and the width of its type in bits.

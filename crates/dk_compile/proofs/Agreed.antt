@@ -18,7 +18,7 @@ use Rattle.dk_inline.specs.Nodes.{IsFirstDeep}
 use Rattle.dk_inline.specs.Answers.{IsWithin}
 use Rattle.dk_inline.specs.Answers as I
 use Rattle.dk_compile.specs.declared.fault.SourceFault.{SourceFault}
-use Rattle.dk_compile.specs.declared.fault.SourceFault.TheVariants.{Lex, Nest, Syntax, Depth, Types, Nodes, InlineDepth, Reads, Bits, Latency, Memory}
+use Rattle.dk_compile.specs.declared.fault.SourceFault.TheVariants.{Lex, Nest, Syntax, Depth, Types, Nodes, InlineDepth, Reads, Bits, Latency, OutOfMemory}
 use Rattle.dk_compile.specs.Faults.{of_parser}
 use Rattle.dk_compile.specs.Sources.{HasTree, IsText, HasTooMany, IsFault}
 use Rattle.dk_compile.proofs.Once.{tree_one, text_one}
@@ -26,9 +26,9 @@ use Rattle.dk_compile.proofs.Counts.{too_many_once}
 
 -- a fault by the pass that finds it
 data Found (text : List ℕ) (f : SourceFault) : Type 0 where
-  wanting : f ≡ Memory → Found text f
+  wanting : f ≡ OutOfMemory → Found text f
   lexed : (e : LexFault) → f ≡ Lex e → HasFault text e → Found text f
-  parsed : (e : ParseError) (ts : List Token) → f ≡ of_parser e → e ≢ parser.Memory → HasTokens text ts → Faults ts e → Found text f
+  parsed : (e : ParseError) (ts : List Token) → f ≡ of_parser e → e ≢ parser.OutOfMemory → HasTokens text ts → Faults ts e → Found text f
   typed : (e : TypeFault) (tree : Source) → f ≡ Types e → HasTree text tree → IsFirstFault tree e → Found text f
   counted : (n : ℕ) (p : Typing) → f ≡ Nodes n → IsText text p → I.IsFault p (inlining.Nodes n) → Found text f
   measured : (s : Span) (p : Typing) → f ≡ InlineDepth s → IsText text p → I.IsFault p (inlining.InlineDepth s) → Found text f
@@ -45,7 +45,7 @@ found text (InlineDepth s) (p, is, told) = measured s p refl is told
 found text (Reads n) (p, is, within, many) = read n p refl is within many
 found text (Bits n) is = absurd is
 found text (Latency n) is = absurd is
-found text Memory is = wanting refl
+found text OutOfMemory is = wanting refl
 
 -- the first definition that is too deep is one
 first_once : (p : Typing) (s t : Span) → IsFirstDeep p s → IsFirstDeep p t → s ≡ t
@@ -62,21 +62,21 @@ first_once p s t a b =
     a.named ∙ ap (λ (d : Definition). d.name.span) one ∙ sym b.named
 
 abbrev pub Agrees : SourceFault → SourceFault → Type 0
-Agrees f g = (f ≡ Memory) ⊎ (g ≡ Memory) ⊎ (f ≡ g)
+Agrees f g = (f ≡ OutOfMemory) ⊎ (g ≡ OutOfMemory) ⊎ (f ≡ g)
 
 module _ (tokens_once : (text : List ℕ) (ts us : List Token) → HasTokens text ts → HasTokens text us → ts ≡ us)
     (lex_once : (text : List ℕ) (f g : LexFault) → HasFault text f → HasFault text g → f ≡ g)
     (no_lex : (text : List ℕ) (ts : List Token) (f : LexFault) → HasTokens text ts → HasFault text f → ⊥)
     (tree_once : (ts : List Token) (p q : Source) → Derives ts p → Derives ts q → p ≡ q)
-    (parse_once : (ts : List Token) (f g : ParseError) → Faults ts f → Faults ts g → f ≢ parser.Memory → g ≢ parser.Memory → f ≡ g)
-    (no_parse : (ts : List Token) (p : Source) (f : ParseError) → Accepted ts p → Faults ts f → f ≡ parser.Memory)
+    (parse_once : (ts : List Token) (f g : ParseError) → Faults ts f → Faults ts g → f ≢ parser.OutOfMemory → g ≢ parser.OutOfMemory → f ≡ g)
+    (no_parse : (ts : List Token) (p : Source) (f : ParseError) → Accepted ts p → Faults ts f → f ≡ parser.OutOfMemory)
     (typing_once : (a : Source) (p q : Typing) → IsTyping a p → IsTyping a q → p ≡ q)
     (type_once : (a : Source) (f g : TypeFault) → IsFirstFault a f → IsFirstFault a g → f ≡ g)
     (no_type : (a : Source) (p : Typing) (f : TypeFault) → IsTyping a p → IsFirstFault a f → ⊥) where
   same_program : (text : List ℕ) (p q : Typing) → IsText text p → IsText text q → p ≡ q
   same_program text p q = text_one tokens_once tree_once typing_once text p q
 
-  no_parsed : (text : List ℕ) (tree : Source) (ts : List Token) (e : ParseError) → HasTree text tree → HasTokens text ts → Faults ts e → e ≢ parser.Memory → ⊥
+  no_parsed : (text : List ℕ) (tree : Source) (ts : List Token) (e : ParseError) → HasTree text tree → HasTokens text ts → Faults ts e → e ≢ parser.OutOfMemory → ⊥
   no_parsed text tree ts e has cut is some =
       let P : List Token → Type 0 = λ us. Faults us e in
       some (no_parse has.tokens tree e has.parsed (subst P (tokens_once text ts has.tokens cut has.cut) is))

@@ -13,7 +13,7 @@ use Rattle.dk_types.specs.Types.{IsTyping}
 use Rattle.dk_types.specs.Faults.{IsFirstFault}
 use Rattle.dk_inline.specs.Answers.{IsWithin}
 use Rattle.dk_compile.specs.declared.fault.SourceFault.{SourceFault}
-use Rattle.dk_compile.specs.declared.fault.SourceFault.TheVariants.{Lex, Nest, Syntax, Depth, Types, Nodes, InlineDepth, Reads, Bits, Latency, Memory}
+use Rattle.dk_compile.specs.declared.fault.SourceFault.TheVariants.{Lex, Nest, Syntax, Depth, Types, Nodes, InlineDepth, Reads, Bits, Latency, OutOfMemory}
 use Rattle.dk_compile.specs.Sources.{IsText, IsAccepted, HasTooMany, IsFault}
 use Rattle.dk_compile.proofs.Once.{tree_one, text_one}
 use Rattle.dk_compile.proofs.Counts.{few_not_many}
@@ -21,10 +21,10 @@ use Rattle.dk_compile.proofs.Counts.{few_not_many}
 module _ (tokens_once : (text : List ℕ) (ts us : List Token) → HasTokens text ts → HasTokens text us → ts ≡ us)
     (no_lex : (text : List ℕ) (ts : List Token) (f : LexFault) → HasTokens text ts → HasFault text f → ⊥)
     (tree_once : (ts : List Token) (p q : Source) → Derives ts p → Derives ts q → p ≡ q)
-    (no_parse : (ts : List Token) (p : Source) (f : ParseError) → Accepted ts p → Faults ts f → f ≡ parser.Memory)
+    (no_parse : (ts : List Token) (p : Source) (f : ParseError) → Accepted ts p → Faults ts f → f ≡ parser.OutOfMemory)
     (typing_once : (a : Source) (p q : Typing) → IsTyping a p → IsTyping a q → p ≡ q)
     (no_type : (a : Source) (p : Typing) (f : TypeFault) → IsTyping a p → IsFirstFault a f → ⊥) where
-  parse_apart : (text : List ℕ) (p : Typing) → IsText text p → (ts : List Token) (f : ParseError) → HasTokens text ts → Faults ts f → f ≡ parser.Memory
+  parse_apart : (text : List ℕ) (p : Typing) → IsText text p → (ts : List Token) (f : ParseError) → HasTokens text ts → Faults ts f → f ≡ parser.OutOfMemory
   parse_apart text p is ts f cut fault =
       let P : List Token → Type 0 = λ us. Faults us f in
       no_parse is.parsed.tokens is.tree f is.parsed.parsed (subst P (tokens_once text ts is.parsed.tokens cut is.parsed.cut) fault)
@@ -32,7 +32,7 @@ module _ (tokens_once : (text : List ℕ) (ts us : List Token) → HasTokens tex
   same_program : (text : List ℕ) (p q : Typing) → IsText text p → IsText text q → p ≡ q
   same_program text p q = text_one tokens_once tree_once typing_once text p q
 
-  pub apart : (text : List ℕ) (p : Typing) (f : SourceFault) → IsAccepted text p → IsFault text f → f ≡ Memory
+  pub apart : (text : List ℕ) (p : Typing) (f : SourceFault) → IsAccepted text p → IsFault text f → f ≡ OutOfMemory
   apart text p (Lex fault) ok is = absurd (no_lex text ok.program.parsed.tokens fault ok.program.parsed.cut is)
   apart text p (Nest span) ok (ts, cut, fault) = absurd (let e = parse_apart text p ok.program ts (parser.Nest span) cut fault in let no : ⊥ = cc in no)
   apart text p (Syntax span) ok (ts, cut, fault) = absurd (let e = parse_apart text p ok.program ts (parser.Syntax span) cut fault in let no : ⊥ = cc in no)
@@ -54,4 +54,4 @@ module _ (tokens_once : (text : List ℕ) (ts us : List Token) → HasTokens tex
       absurd (few_not_many p ok.reads count ok.are_reads ok.few (subst P (same_program text q p is ok.program) many))
   apart text p (Bits n) ok is = absurd is
   apart text p (Latency n) ok is = absurd is
-  apart text p Memory ok is = refl
+  apart text p OutOfMemory ok is = refl

@@ -10,7 +10,7 @@ use Rattle.buffer_plan.specs.declared.fault.PlanFault.{PlanFault}
 use Rattle.buffer_plan.specs.declared.fault.PlanFault.TheVariants as plan
 use Rattle.buffer_plan.specs.Limits.{IsWithinLimits, KeepsLimits, IsPlanFault}
 use Rattle.dk_compile.specs.declared.fault.SourceFault.{SourceFault}
-use Rattle.dk_compile.specs.declared.fault.SourceFault.TheVariants.{Lex, Nest, Syntax, Depth, Types, Nodes, InlineDepth, Reads, Bits, Latency, Memory}
+use Rattle.dk_compile.specs.declared.fault.SourceFault.TheVariants.{Lex, Nest, Syntax, Depth, Types, Nodes, InlineDepth, Reads, Bits, Latency, OutOfMemory}
 use Rattle.dk_compile.specs.Sources.{IsAccepted, IsFault}
 use Rattle.dk_compile.specs.Fronts.{IsFront}
 use Rattle.dk_compile.specs.Faults.{of_plan}
@@ -34,13 +34,13 @@ own_fault text age (InlineDepth x) h = h
 own_fault text age (Reads x) h = h
 own_fault text age (Bits n) h = absurd h
 own_fault text age (Latency n) h = absurd h
-own_fault text age Memory h = h
+own_fault text age OutOfMemory h = h
 
 -- a limit that is passed is a fault
 pub limit_fault : (text : List ℕ) (age : ℕ) (p : Typing) (ir : Program) (s : System) (f : PlanFault) → HasSystem text age p ir s → IsPlanFault s f → IsFaultAt text age (of_plan f)
 limit_fault text age p ir s (plan.Bits n) has is = record { program = p; ir = ir; system = s; has = has; passes = is }
 limit_fault text age p ir s (plan.Latency n) has is = record { program = p; ir = ir; system = s; has = has; passes = is }
-limit_fault text age p ir s plan.Memory has is = tt
+limit_fault text age p ir s plan.OutOfMemory has is = tt
 
 -- a limit that is passed, and the fault that tells it
 record Told (text : List ℕ) (age : ℕ) (f : SourceFault) : Type 0 where
@@ -48,7 +48,7 @@ record Told (text : List ℕ) (age : ℕ) (f : SourceFault) : Type 0 where
   passes : PassesLimit text age fault
   is : IsPlanFault passes.system fault
   told : of_plan fault ≡ f
-  judged : fault ≢ plan.Memory
+  judged : fault ≢ plan.OutOfMemory
 
 -- a fault at an age is the text's own, or such a limit
 own_or_limit : (text : List ℕ) (age : ℕ) (f : SourceFault) → IsFaultAt text age f → IsFault text f ⊎ Told text age f
@@ -62,7 +62,7 @@ own_or_limit text age (Types x) h = inl h
 own_or_limit text age (Nodes x) h = inl h
 own_or_limit text age (InlineDepth x) h = inl h
 own_or_limit text age (Reads x) h = inl h
-own_or_limit text age Memory h = inl h
+own_or_limit text age OutOfMemory h = inl h
 
 module _ (accepted_of : (text : List ℕ) (p : Typing) (ir : Program) (s : Stencils) → IsFront text p ir s → IsAccepted text p) where
   -- what is planned is accepted
@@ -80,15 +80,15 @@ module _ (accepted_of : (text : List ℕ) (p : Typing) (ir : Program) (s : Stenc
   }
 
   module _ (stencils_once : (text : List ℕ) (p q : Typing) (a b : Program) (s t : Stencils) → IsFront text p a s → IsFront text q b t → s ≡ t)
-      (text_apart : (text : List ℕ) (p : Typing) (f : SourceFault) → IsAccepted text p → IsFault text f → f ≡ Memory)
+      (text_apart : (text : List ℕ) (p : Typing) (f : SourceFault) → IsAccepted text p → IsFault text f → f ≡ OutOfMemory)
       (one_fault : (text : List ℕ) (f g : SourceFault) → IsFault text f → IsFault text g → Agrees f g)
-      (limits_apart : (s : System) (f : PlanFault) → KeepsLimits s → IsPlanFault s f → f ≡ plan.Memory)
-      (one_limit : (s : System) (f g : PlanFault) → IsPlanFault s f → IsPlanFault s g → (f ≡ plan.Memory) ⊎ (g ≡ plan.Memory) ⊎ (f ≡ g)) where
+      (limits_apart : (s : System) (f : PlanFault) → KeepsLimits s → IsPlanFault s f → f ≡ plan.OutOfMemory)
+      (one_limit : (s : System) (f g : PlanFault) → IsPlanFault s f → IsPlanFault s g → (f ≡ plan.OutOfMemory) ⊎ (g ≡ plan.OutOfMemory) ⊎ (f ≡ g)) where
     pub system_once : (text : List ℕ) (age : ℕ) (p q : Typing) (a b : Program) (s t : System) → HasSystem text age p a s → HasSystem text age q b t → s ≡ t
     system_once text age p q a b s t one other = same_system s t (stencils_once text p q a b s.stencils t.stencils one.front other.front) (one.age_is ∙ sym other.age_is)
 
-    pub apart_at : (text : List ℕ) (age : ℕ) (p : Typing) (f : SourceFault) → IsAcceptedAt text age p → IsFaultAt text age f → f ≡ Memory
-    apart_at text age p f ok h = elim (own_or_limit text age f h) as (λ _. f ≡ Memory) [
+    pub apart_at : (text : List ℕ) (age : ℕ) (p : Typing) (f : SourceFault) → IsAcceptedAt text age p → IsFaultAt text age f → f ≡ OutOfMemory
+    apart_at text age p f ok h = elim (own_or_limit text age f h) as (λ _. f ≡ OutOfMemory) [
       | inl own ↦ text_apart text p f ok.accepted own
       | inr t ↦
           let same = system_once text age p t.passes.program ok.ir t.passes.ir ok.system t.passes.system ok.has t.passes.has in
@@ -96,7 +96,7 @@ module _ (accepted_of : (text : List ℕ) (p : Typing) (ir : Program) (s : Stenc
     ]
 
     -- a text whose program passes a limit has no fault of its own
-    no_own : (text : List ℕ) (age : ℕ) (f g : SourceFault) → Told text age f → IsFault text g → g ≡ Memory
+    no_own : (text : List ℕ) (age : ℕ) (f g : SourceFault) → Told text age f → IsFault text g → g ≡ OutOfMemory
     no_own text age f g t own =
         text_apart text t.passes.program g (accepted_of text t.passes.program t.passes.ir t.passes.system.stencils t.passes.has.front) own
 

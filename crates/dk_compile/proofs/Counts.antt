@@ -99,7 +99,7 @@ module _ (p : Typing) where
 -- the fault of too many reads
 pub stencil_fault : (text : List ℕ) (p : Typing) (ir : Program) → IsText text p → IsWithin p → IsForm p ir → (e : StencilFault) → F.IsFault ir e → IsFault text (of_stencils e)
 stencil_fault text p ir is within form (stencils.Reads count) (more, counted) = (p, is, within, too_many_of p ir form count more counted)
-stencil_fault text p ir is within form stencils.Memory told = tt
+stencil_fault text p ir is within form stencils.OutOfMemory told = tt
 
 -- what is given is of a text that is accepted
 pub accepted_of : (text : List ℕ) (p : Typing) (ir : Program) (s : Parts) → IsFront text p ir s → IsAccepted text p

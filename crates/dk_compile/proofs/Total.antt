@@ -24,7 +24,7 @@ use Rattle.dk_inline.specs.Inlined.{inlined_body, substitutes, stays}
 use Rattle.dk_inline.specs.Nodes.{node_count, IsDeep, IsFirstDeep}
 use Rattle.dk_inline.specs.Answers.{IsWithin}
 use Rattle.dk_compile.specs.declared.fault.SourceFault.{SourceFault}
-use Rattle.dk_compile.specs.declared.fault.SourceFault.TheVariants.{Lex, Nest, Syntax, Depth, Types, Nodes, InlineDepth, Reads, Memory}
+use Rattle.dk_compile.specs.declared.fault.SourceFault.TheVariants.{Lex, Nest, Syntax, Depth, Types, Nodes, InlineDepth, Reads, OutOfMemory}
 use Rattle.dk_compile.specs.Sources.{HasTree, IsText, IsAccepted, IsFault}
 use Rattle.dk_compile.proofs.Numbers.{lexed_small, program_numbers}
 use Rattle.dk_compile.proofs.Listed.{listed}
@@ -65,7 +65,7 @@ module _ (p : Typing) where
   ]
 
 abbrev pub Judged : List ℕ → Type 0
-Judged text = ((p : Typing) × IsAccepted text p) ⊎ ((f : SourceFault) × IsFault text f × (f ≢ Memory))
+Judged text = ((p : Typing) × IsAccepted text p) ⊎ ((f : SourceFault) × IsFault text f × (f ≢ OutOfMemory))
 
 -- within the limits on nodes and depth
 counted : (text : List ℕ) (p : Typing) → IsText text p → IsWithin p → Judged text
@@ -92,15 +92,15 @@ sized text p is = elim (cases_lt 65536 (node_count p)) [
   ]
 ]
 
-parse_fault : (text : List ℕ) (tokens : List Token) → HasTokens text tokens → (f : ParseError) → Faults tokens f → f ≢ parser.Memory → Judged text
+parse_fault : (text : List ℕ) (tokens : List Token) → HasTokens text tokens → (f : ParseError) → Faults tokens f → f ≢ parser.OutOfMemory → Judged text
 parse_fault text tokens cut (parser.Nest span) is some = inr (Nest span, (tokens, cut, is), λ e. cc)
 parse_fault text tokens cut (parser.Syntax span) is some = inr (Syntax span, (tokens, cut, is), λ e. cc)
 parse_fault text tokens cut (parser.Depth span) is some = inr (Depth span, (tokens, cut, is), λ e. cc)
-parse_fault text tokens cut parser.Memory is some = absurd (some refl)
+parse_fault text tokens cut parser.OutOfMemory is some = absurd (some refl)
 
 module _ (lex_some : (text : List ℕ) → ((tokens : List Token) × HasTokens text tokens) ⊎ ((fault : LexFault) × HasFault text fault))
     (faithful : (text : List ℕ) (tokens : List Token) → HasTokens text tokens → IsFaithful text tokens)
-    (parse_some : (ts : List Token) → IsEnded ts → ((p : Source) × Accepted ts p) ⊎ ((f : ParseError) × Faults ts f × (f ≢ parser.Memory)))
+    (parse_some : (ts : List Token) → IsEnded ts → ((p : Source) × Accepted ts p) ⊎ ((f : ParseError) × Faults ts f × (f ≢ parser.OutOfMemory)))
     (type_some : (p : Source) → All (λ (d : P.Definition). HasNumbers d.body) p.definitions → ((t : Typing) × IsTyping p t) ⊎ ((f : TypeFault) × IsFirstFault p f)) where
   pub judged : (text : List ℕ) → Judged text
   judged text = elim (lex_some text) [

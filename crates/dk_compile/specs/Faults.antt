@@ -12,32 +12,32 @@ use Rattle.stencil_sets.specs.declared.live.StencilFault.TheVariants as stencils
 use Rattle.buffer_plan.specs.declared.fault.PlanFault.{PlanFault}
 use Rattle.buffer_plan.specs.declared.fault.PlanFault.TheVariants as plan
 use Rattle.dk_compile.specs.declared.fault.SourceFault.{SourceFault}
-use Rattle.dk_compile.specs.declared.fault.SourceFault.TheVariants.{Lex, Nest, Syntax, Depth, Types, Nodes, InlineDepth, Reads, Bits, Latency, Memory}
+use Rattle.dk_compile.specs.declared.fault.SourceFault.TheVariants.{Lex, Nest, Syntax, Depth, Types, Nodes, InlineDepth, Reads, Bits, Latency, OutOfMemory}
 
 abbrev pub of_lexer : LexError → SourceFault
 of_lexer (lexer.Fault fault) = Lex fault
-of_lexer lexer.Memory = Memory
+of_lexer lexer.OutOfMemory = OutOfMemory
 
 abbrev pub of_parser : ParseError → SourceFault
 of_parser (parser.Nest span) = Nest span
 of_parser (parser.Syntax span) = Syntax span
 of_parser (parser.Depth span) = Depth span
-of_parser parser.Memory = Memory
+of_parser parser.OutOfMemory = OutOfMemory
 
 abbrev pub of_types : TypeError → SourceFault
 of_types (types.Fault fault) = Types fault
-of_types types.Memory = Memory
+of_types types.OutOfMemory = OutOfMemory
 
 abbrev pub of_inlining : InlineFault → SourceFault
 of_inlining (inlining.Nodes count) = Nodes count
 of_inlining (inlining.InlineDepth span) = InlineDepth span
-of_inlining inlining.Memory = Memory
+of_inlining inlining.OutOfMemory = OutOfMemory
 
 abbrev pub of_stencils : StencilFault → SourceFault
 of_stencils (stencils.Reads count) = Reads count
-of_stencils stencils.Memory = Memory
+of_stencils stencils.OutOfMemory = OutOfMemory
 
 abbrev pub of_plan : PlanFault → SourceFault
 of_plan (plan.Bits least) = Bits least
 of_plan (plan.Latency clocks) = Latency clocks
-of_plan plan.Memory = Memory
+of_plan plan.OutOfMemory = OutOfMemory

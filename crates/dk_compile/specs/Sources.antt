@@ -16,7 +16,7 @@ use Rattle.dk_inline.specs.declared.inlining.InlineFault.TheVariants as inlining
 use Rattle.dk_inline.specs.Answers.{IsWithin}
 use Rattle.dk_inline.specs.Answers as I
 use Rattle.dk_compile.specs.declared.fault.SourceFault.{SourceFault}
-use Rattle.dk_compile.specs.declared.fault.SourceFault.TheVariants.{Lex, Nest, Syntax, Depth, Types, Nodes, InlineDepth, Reads, Bits, Latency, Memory}
+use Rattle.dk_compile.specs.declared.fault.SourceFault.TheVariants.{Lex, Nest, Syntax, Depth, Types, Nodes, InlineDepth, Reads, Bits, Latency, OutOfMemory}
 
 -- the text has this tree
 pub record HasTree (text : List ℕ) (tree : Source) : Type 0 where
@@ -80,4 +80,4 @@ IsFault text (InlineDepth span) = (p : Typing) × IsText text p × I.IsFault p (
 IsFault text (Reads count) = (p : Typing) × IsText text p × IsWithin p × HasTooMany p count
 IsFault text (Bits least) = ⊥
 IsFault text (Latency clocks) = ⊥
-IsFault text Memory = Unit {0}
+IsFault text OutOfMemory = Unit {0}

@@ -15,7 +15,7 @@ use crate::fault::SourceFault;
 use crate::reading::front;
 use buffer_plan::{Plan, PlanFault, plan};
 use circuit::{Built, Chain, Options, build_with, frame_drive};
-use dk_base::{Memory, Stencils};
+use dk_base::{OutOfMemory, Stencils};
 use flow_dual::{Solution, solve};
 use netlist::Module;
 use pointwise_ir::Ir;
@@ -102,7 +102,12 @@ pub fn planned(alloc: Global, text: &[u8], age: u8) -> Result<PlannedProgram, So
 }
 
 // The module of a plan, and its text.
-fn printed(alloc: Global, ir: &Ir, plan: &Plan, options: Options) -> Result<PrintedModule, Memory>
+fn printed(
+    alloc: Global,
+    ir: &Ir,
+    plan: &Plan,
+    options: Options,
+) -> Result<PrintedModule, OutOfMemory>
     requires plan { IsPlanOf ir.now plan.now options }
     ensures circuit { IfOk result (λ r. IsCircuitOf ir.now plan.now options.enable r.«module».netlist r.nets.items) }
     ensures text { IfOk result (λ r. IsTextOf r.«module» r.text.items) }

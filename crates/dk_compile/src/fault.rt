@@ -5,7 +5,7 @@ ghost use Rattle.dk_lexer.specs.declared.fault.LexError.{LexError as LexStop};
 ghost use Rattle.dk_compile.specs.Faults.{of_lexer, of_parser, of_types, of_inlining, of_stencils, of_plan};
 
 use buffer_plan::PlanFault;
-use dk_base::{Memory, Span};
+use dk_base::{OutOfMemory, Span};
 use dk_inline::InlineFault;
 use dk_lexer::{LexError, LexFault};
 use dk_parser::ParseError;
@@ -47,7 +47,7 @@ pub enum SourceFault {
     Latency { clocks: u64 },
     /// There was not enough memory to tell.
     #[error("out of memory")]
-    Memory,
+    OutOfMemory,
 }
 
 impl From<LexError> for SourceFault {
@@ -59,7 +59,7 @@ impl From<LexError> for SourceFault {
     fn from(error: LexError) -> Self {
         match error {
             LexError::Fault(fault) => SourceFault::Lex(fault),
-            LexError::Memory => SourceFault::Memory,
+            LexError::OutOfMemory => SourceFault::OutOfMemory,
         }
     }
 }
@@ -75,7 +75,7 @@ impl From<ParseError> for SourceFault {
             ParseError::Nest { span } => SourceFault::Nest { span },
             ParseError::Syntax { span } => SourceFault::Syntax { span },
             ParseError::Depth { span } => SourceFault::Depth { span },
-            ParseError::Memory => SourceFault::Memory,
+            ParseError::OutOfMemory => SourceFault::OutOfMemory,
         }
     }
 }
@@ -89,7 +89,7 @@ impl From<TypeError> for SourceFault {
     fn from(error: TypeError) -> Self {
         match error {
             TypeError::Fault(fault) => SourceFault::Types(fault),
-            TypeError::Memory => SourceFault::Memory,
+            TypeError::OutOfMemory => SourceFault::OutOfMemory,
         }
     }
 }
@@ -104,7 +104,7 @@ impl From<InlineFault> for SourceFault {
         match fault {
             InlineFault::Nodes { count } => SourceFault::Nodes { count },
             InlineFault::InlineDepth { span } => SourceFault::InlineDepth { span },
-            InlineFault::Memory => SourceFault::Memory,
+            InlineFault::OutOfMemory => SourceFault::OutOfMemory,
         }
     }
 }
@@ -118,7 +118,7 @@ impl From<StencilFault> for SourceFault {
     fn from(fault: StencilFault) -> Self {
         match fault {
             StencilFault::Reads { count } => SourceFault::Reads { count },
-            StencilFault::Memory => SourceFault::Memory,
+            StencilFault::OutOfMemory => SourceFault::OutOfMemory,
         }
     }
 }
@@ -133,18 +133,18 @@ impl From<PlanFault> for SourceFault {
         match fault {
             PlanFault::Bits { least } => SourceFault::Bits { least },
             PlanFault::Latency { clocks } => SourceFault::Latency { clocks },
-            PlanFault::Memory => SourceFault::Memory,
+            PlanFault::OutOfMemory => SourceFault::OutOfMemory,
         }
     }
 }
 
-impl From<Memory> for SourceFault {
+impl From<OutOfMemory> for SourceFault {
     ghost use Rattle.std.specs.Prelude.{◌≡◌};
     ghost use Rattle.dk_compile.specs.declared.fault.SourceFault.TheVariants as fault;
 
-    ghost from_gives = { λ e f. f ≡ fault.Memory };
+    ghost from_gives = { λ e f. f ≡ fault.OutOfMemory };
 
-    fn from(_error: Memory) -> Self {
-        SourceFault::Memory
+    fn from(_error: OutOfMemory) -> Self {
+        SourceFault::OutOfMemory
     }
 }

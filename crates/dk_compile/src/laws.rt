@@ -7,7 +7,7 @@ ghost use Rattle.dk_base.specs.Stencils.{Parts};
 ghost use Rattle.dk_types.specs.Typed.{Typing};
 ghost use Rattle.pointwise_ir.specs.Programs.{Program};
 ghost use Rattle.dk_compile.specs.declared.fault.SourceFault.{SourceFault};
-ghost use Rattle.dk_compile.specs.declared.fault.SourceFault.TheVariants.{Memory};
+ghost use Rattle.dk_compile.specs.declared.fault.SourceFault.TheVariants.{OutOfMemory};
 ghost use Rattle.pointwise_ir.specs.Stencils.{AreStencilsOf};
 ghost use Rattle.dk_compile.specs.Sources.{IsText, IsAccepted, IsFault};
 ghost use Rattle.dk_compile.specs.Fronts.{IsForm, IsFront};
@@ -25,9 +25,9 @@ ghost use Rattle.circuit.specs.Driven.{Drives, Agree, driven, input_widths, outp
 /// A law: a text is that of one program at most; one that is accepted has no fault; and two faults of a text are one, but for want of memory. Each text is accepted or has a fault. What has a form and stencils within the limits is accepted, and the stencils of any form have the program's own live reads.
 pub fn one_source()
     ensures program { (text : List ℕ) (p q : Typing) → IsText text p → IsText text q → p ≡ q }
-    ensures apart { (text : List ℕ) (p : Typing) (f : SourceFault) → IsAccepted text p → IsFault text f → f ≡ Memory }
-    ensures fault { (text : List ℕ) (f g : SourceFault) → IsFault text f → IsFault text g → (f ≡ Memory) ⊎ (g ≡ Memory) ⊎ (f ≡ g) }
-    ensures some { (text : List ℕ) → ((p : Typing) × IsAccepted text p) ⊎ ((f : SourceFault) × IsFault text f × (f ≢ Memory)) }
+    ensures apart { (text : List ℕ) (p : Typing) (f : SourceFault) → IsAccepted text p → IsFault text f → f ≡ OutOfMemory }
+    ensures fault { (text : List ℕ) (f g : SourceFault) → IsFault text f → IsFault text g → (f ≡ OutOfMemory) ⊎ (g ≡ OutOfMemory) ⊎ (f ≡ g) }
+    ensures some { (text : List ℕ) → ((p : Typing) × IsAccepted text p) ⊎ ((f : SourceFault) × IsFault text f × (f ≢ OutOfMemory)) }
     ensures accepted { (text : List ℕ) (p : Typing) (ir : Program) (s : Parts) → IsFront text p ir s → IsAccepted text p }
     ensures reads { (text : List ℕ) (p : Typing) (ir : Program) (s : Parts) → (accepted : IsAccepted text p) → IsForm p ir → AreStencilsOf ir s → s.reads ≡ accepted.reads }
 {
@@ -41,8 +41,8 @@ pub fn one_source()
 pub fn one_at_age()
     ensures system { (text : List ℕ) (age : ℕ) (p q : Typing) (a b : Program) (s t : System) → HasSystem text age p a s → HasSystem text age q b t → s ≡ t }
     ensures accepted { (text : List ℕ) (age : ℕ) (p : Typing) (ir : Program) (s : System) (x : Solution) (plan : Plan) → IsPlanned text age p ir s x plan → IsAcceptedAt text age p }
-    ensures apart { (text : List ℕ) (age : ℕ) (p : Typing) (f : SourceFault) → IsAcceptedAt text age p → IsFaultAt text age f → f ≡ Memory }
-    ensures fault { (text : List ℕ) (age : ℕ) (f g : SourceFault) → IsFaultAt text age f → IsFaultAt text age g → (f ≡ Memory) ⊎ (g ≡ Memory) ⊎ (f ≡ g) }
+    ensures apart { (text : List ℕ) (age : ℕ) (p : Typing) (f : SourceFault) → IsAcceptedAt text age p → IsFaultAt text age f → f ≡ OutOfMemory }
+    ensures fault { (text : List ℕ) (age : ℕ) (f g : SourceFault) → IsFaultAt text age f → IsFaultAt text age g → (f ≡ OutOfMemory) ⊎ (g ≡ OutOfMemory) ⊎ (f ≡ g) }
 {
     one_source();
     stencil_sets::one_answer();

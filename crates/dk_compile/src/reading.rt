@@ -11,7 +11,7 @@ ghost use Rattle.dk_compile.specs.Fronts.{IsForm, IsFront};
 
 use crate::accepted::Front;
 use crate::fault::SourceFault;
-use dk_base::Memory;
+use dk_base::OutOfMemory;
 use dk_inline::{Fold, inline};
 use dk_lexer::lex;
 use dk_parser::{Program, parse};
@@ -43,7 +43,7 @@ pub fn typed(alloc: Global, text: &[u8]) -> Result<TypedProgram, SourceFault>
 }
 
 // The program with folded constants.
-fn folded(alloc: Global, ir: Ir) -> Result<Ir, Memory>
+fn folded(alloc: Global, ir: Ir) -> Result<Ir, OutOfMemory>
     ensures meaning { IfOk result (λ new. KeepsMeaning ir new) }
     ensures folded { IfOk result (λ new. IsFolded new) }
 {
@@ -62,7 +62,7 @@ fn form(alloc: Global, text: &[u8]) -> Result<Ir, SourceFault>
     let inlined = inline(alloc, program)?;
     match folded(alloc, inlined) {
         Ok(ir) => Ok(ir),
-        Err(_) => Err(SourceFault::Memory),
+        Err(_) => Err(SourceFault::OutOfMemory),
     }
 }
 

@@ -39,7 +39,7 @@ net_kind (net.Width _) = Some kind.Width
 net_kind (net.DrivenTwice _) = Some kind.DrivenTwice
 net_kind (net.Undriven _) = Some kind.Undriven
 net_kind (net.Cycle _) = Some kind.Cycle
-net_kind net.Memory = None
+net_kind net.OutOfMemory = None
 
 -- the kind and the place of a fault, and nothing of want of memory
 abbrev pub fault_told : TextFault → Option VerilogFault
@@ -48,4 +48,4 @@ fault_told (text.Syntax span) = Some (At span kind.Syntax)
 fault_told (text.NotInSubset span) = Some (At span kind.NotInSubset)
 fault_told (text.Limit fault) = Some (At fault.span (limit_kind fault.kind))
 fault_told (text.Net span fault) = option_map (At span) (net_kind fault)
-fault_told text.Memory = None
+fault_told text.OutOfMemory = None

@@ -23,7 +23,7 @@ pub const LINE_BYTES: usize = 256;
 /// A line to Fault, in room of its own.
 pub type Line = ArrayString<LINE_BYTES>;
 
-/// A line of one text.
+// A line of one text.
 fn plain(text: &str) -> Line
     requires { length text.now ≤ 256 }
     ensures { result.bytes ≡ text.now }
@@ -33,7 +33,7 @@ fn plain(text: &str) -> Line
     line
 }
 
-/// Adds a number, in decimal.
+// Adds a number, in decimal.
 fn push_number(line: &mut Line, number: u128)
     requires { length line.old.bytes + 39 ≤ 256 }
     ensures number { line.new.bytes ≡ line.old.bytes ++ decimal number }
@@ -43,7 +43,7 @@ fn push_number(line: &mut Line, number: u128)
     line.push_str(digits.format(number));
 }
 
-/// A line that ends in a number.
+// A line that ends in a number.
 fn numbered(before: &str, number: u128) -> Line
     requires { length before.now ≤ 40 }
     ensures { result.bytes ≡ numbered_text before.now number }
@@ -54,7 +54,7 @@ fn numbered(before: &str, number: u128) -> Line
     line
 }
 
-/// A line that ends in two numbers.
+// A line that ends in two numbers.
 fn twice_numbered(before: &str, first: u128, second: u128) -> Line
     requires { length before.now ≤ 40 }
     ensures { result.bytes ≡ twice_numbered_text before.now first second }
@@ -67,7 +67,7 @@ fn twice_numbered(before: &str, first: u128, second: u128) -> Line
     line
 }
 
-/// A line on some bytes of a text.
+// A line on some bytes of a text.
 fn spanned(before: &str, span: Span, kind: &str) -> Line
     requires front { length before.now ≤ 10 }
     requires kind { length kind.now ≤ 20 }
@@ -191,7 +191,7 @@ fn verilog_line(fault: &VerilogFault) -> Line
     }
 }
 
-/// Adds a number with its sign, in decimal.
+// Adds a number with its sign, in decimal.
 fn push_signed(line: &mut Line, number: i64)
     requires { length line.old.bytes + 20 ≤ 256 }
     ensures number { line.new.bytes ≡ line.old.bytes ++ signed_decimal number }
@@ -201,7 +201,7 @@ fn push_signed(line: &mut Line, number: i64)
     line.push_str(digits.format(number));
 }
 
-/// A line on an index past the end of its array.
+// A line on an index past the end of its array.
 fn index_line(clock: i64, array: usize, index: u64) -> Line
     ensures { result.bytes ≡ index_text clock array index }
 {
@@ -215,7 +215,7 @@ fn index_line(clock: i64, array: usize, index: u64) -> Line
     line
 }
 
-/// A line on a picture of too few or too many samples.
+// A line on a picture of too few or too many samples.
 fn count_line(shown: u64, wanted: u64) -> Line
     ensures { result.bytes ≡ count_text shown wanted }
 {

@@ -92,7 +92,7 @@ fn net_kind(fault: NetFault) -> Option<VerilogKind>
         NetFault::DrivenTwice(_) => Some(VerilogKind::DrivenTwice),
         NetFault::Undriven(_) => Some(VerilogKind::Undriven),
         NetFault::Cycle(_) => Some(VerilogKind::Cycle),
-        NetFault::Memory => None,
+        NetFault::OutOfMemory => None,
     }
 }
 
@@ -122,7 +122,7 @@ impl VerilogFault {
                 let kind = net_kind(fault)?;
                 Some(VerilogFault::At { span, kind })
             }
-            TextFault::Memory => None,
+            TextFault::OutOfMemory => None,
         }
     }
 }

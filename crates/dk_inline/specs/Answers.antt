@@ -11,7 +11,7 @@ use Rattle.dk_base.specs.Frames.{picture_at}
 use Rattle.pointwise_ir.specs.Meaning.{pictures, IsRound}
 use Rattle.pointwise_ir.specs.Reads as R
 use Rattle.dk_inline.specs.declared.inlining.InlineFault.{InlineFault}
-use Rattle.dk_inline.specs.declared.inlining.InlineFault.TheVariants.{Nodes, InlineDepth, Memory}
+use Rattle.dk_inline.specs.declared.inlining.InlineFault.TheVariants.{Nodes, InlineDepth, OutOfMemory}
 use Rattle.dk_inline.specs.Inlined.{bodies, Stays}
 use Rattle.dk_inline.specs.Nodes.{node_count, IsDeep, IsFirstDeep}
 
@@ -44,4 +44,4 @@ pub record KeepsProgram (p : Typing) (ir : Program) : Type 0 where
 abbrev pub IsFault : Typing → InlineFault → Type 0
 IsFault p (Nodes count) = (MAX_NODES < node_count p) × (count ≡ min (node_count p) 18446744073709551615)
 IsFault p (InlineDepth name) = (node_count p ≤ MAX_NODES) × IsFirstDeep p name
-IsFault p Memory = Unit {0}
+IsFault p OutOfMemory = Unit {0}

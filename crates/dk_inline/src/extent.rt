@@ -11,7 +11,7 @@ use dk_base::{MAX_INLINED_DEPTH, Span};
 use dk_types::{TypedDefinition, TypedExpr, TypedNode, TypedProgram};
 use std::alloc::{AllocError, Global};
 
-/// The nodes and the depth of an expression after inlining. Both saturate.
+// The nodes and the depth of an expression after inlining. Both saturate.
 #[derive(Clone, Copy)]
 pub struct Extent {
     pub nodes: u64,
@@ -111,7 +111,7 @@ fn unread(alloc: Global, inputs: usize) -> Result<Vec<Option<Extent>>, AllocErro
     Ok(vec![in alloc; None; inputs]?)
 }
 
-/// Of the bodies of all definitions, in order.
+// Of the bodies of all definitions, in order.
 pub(crate) fn extents(alloc: Global, program: &TypedProgram) -> Result<Vec<Extent>, AllocError>
     ensures { IfOk result (λ all. HaveExtents (typing_of program.now) all.items) }
 {
@@ -128,7 +128,7 @@ pub(crate) fn extents(alloc: Global, program: &TypedProgram) -> Result<Vec<Exten
     Ok(all)
 }
 
-/// Whether the definition of this number stays an image.
+// Whether the definition of this number stays an image.
 pub(crate) fn stays(program: &TypedProgram, number: usize) -> bool
     requires { number < length program.now.definitions }
     ensures { (d : Definition) → slice_get (typing_of program.now).definitions number ≡ Some d → result ≡ stays_at (typing_of program.now) number d }
@@ -154,7 +154,7 @@ fn counted(program: &TypedProgram, extents: &[Extent], number: usize) -> u64
     }
 }
 
-/// The nodes of the program after inlining. The count saturates.
+// The nodes of the program after inlining. The count saturates.
 pub(crate) fn node_count(program: &TypedProgram, extents: &[Extent]) -> u64
     requires { HaveExtents (typing_of program.now) extents.now }
     ensures { result ≡ saturated (node_count_of (typing_of program.now)) }
@@ -187,7 +187,7 @@ fn is_deep(program: &TypedProgram, extents: &[Extent], number: usize) -> bool
     passes(extent.depth)
 }
 
-/// The name of the first definition that is too deep.
+// The name of the first definition that is too deep.
 pub(crate) fn first_deep(program: &TypedProgram, extents: &[Extent]) -> Option<Span>
     requires { HaveExtents (typing_of program.now) extents.now }
     ensures { MatchOption result ((k : ℕ) (d : Definition) → IsDeep (typing_of program.now) k d → ⊥) (λ name. IsFirstDeep (typing_of program.now) name) }

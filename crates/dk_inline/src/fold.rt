@@ -9,7 +9,7 @@ ghost use Rattle.dk_inline.specs.Folded.{IsConstant, HasFoldedParts, IsFolded, I
 ghost use Rattle.dk_inline.specs.Standing.{IsTyped, StandsFor, HasFoldedOperands, AreOperandsFolded, IsFoldedImage};
 ghost use Rattle.pointwise_ir.specs.declared.ir.Definition.{Definition};
 
-use dk_base::{Binary, Conversion, Memory, Scaling, Ty, Unary, select_type};
+use dk_base::{Binary, Conversion, OutOfMemory, Scaling, Ty, Unary, select_type};
 use pointwise_ir::{
     Definition, Expr, Ir, Parts, Rewrite, binary_value, conversion_value, rewriting_law,
     scaling_value, select_value, unary_value,
@@ -23,7 +23,7 @@ pub struct Fold;
 impl Rewrite for Fold {
     ghost gives = { λ _ p. IsFolded p };
 
-    fn apply(&self, _alloc: Global, ir: Ir) -> Result<Ir, Memory>
+    fn apply(&self, _alloc: Global, ir: Ir) -> Result<Ir, OutOfMemory>
         ensures made { IsOk result }
         ensures meaning { IfOk result (λ new. KeepsMeaning ir new) }
         ensures gives { IfOk result (λ new. IsFolded new) }
@@ -37,7 +37,7 @@ impl Rewrite for Fold {
     }
 }
 
-/// A constant: its value, and its type.
+// A constant: its value, and its type.
 #[derive(Clone, Copy)]
 struct Constant {
     value: i128,

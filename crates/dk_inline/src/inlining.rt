@@ -7,7 +7,7 @@ ghost use Rattle.dk_inline.specs.Answers.{IsWithin, IsInlining, KeepsProgram, Is
 
 use crate::extent::{extents, first_deep, node_count};
 use crate::substitution::{images, inputs};
-use dk_base::{MAX_NODES, Memory, Span};
+use dk_base::{MAX_NODES, OutOfMemory, Span};
 use dk_types::TypedProgram;
 use pointwise_ir::{Ir, Parts};
 use std::alloc::{AllocError, AllocFailed, Global};
@@ -23,23 +23,23 @@ pub enum InlineFault {
     InlineDepth { span: Span },
     /// There was not enough memory to tell.
     #[error("out of memory")]
-    Memory,
+    OutOfMemory,
 }
 
 impl From<AllocError> for InlineFault {
     ghost use Rattle.std.specs.Prelude.{◌≡◌};
-    ghost use Rattle.dk_inline.specs.declared.inlining.InlineFault.TheVariants.{Memory as NoMemory};
+    ghost use Rattle.dk_inline.specs.declared.inlining.InlineFault.TheVariants.{OutOfMemory as NoMemory};
 
     ghost from_gives = { λ _ e. e ≡ NoMemory };
 
     fn from(_: AllocError) -> Self {
-        InlineFault::Memory
+        InlineFault::OutOfMemory
     }
 }
 
 // The parts of the program with its inline images substituted.
 #[tactic(auto, using(crate::proofs::Whole::inlining_of))]
-fn inlined_parts(alloc: Global, program: &TypedProgram) -> Result<Parts, Memory>
+fn inlined_parts(alloc: Global, program: &TypedProgram) -> Result<Parts, OutOfMemory>
     ensures { IfOk result (λ parts. IsInlining (typing_of program.now) (program_of parts)) }
 {
     let inputs = inputs(alloc, program.inputs())?;
@@ -54,7 +54,7 @@ fn inlined_parts(alloc: Global, program: &TypedProgram) -> Result<Parts, Memory>
 }
 
 // The program with its inline images substituted, which is within the limits.
-fn substituted(alloc: Global, program: &TypedProgram) -> Result<Ir, Memory>
+fn substituted(alloc: Global, program: &TypedProgram) -> Result<Ir, OutOfMemory>
     requires some_inputs { 1 ≤ length program.now.inputs }
     requires some_outputs { 1 ≤ length program.now.outputs }
     requires within { IsWithin (typing_of program.now) }
@@ -83,7 +83,7 @@ fn inlined(alloc: Global, program: &TypedProgram) -> Result<Ir, InlineFault>
     }
     match substituted(alloc, program) {
         Ok(ir) => Ok(ir),
-        Err(_) => Err(InlineFault::Memory),
+        Err(_) => Err(InlineFault::OutOfMemory),
     }
 }
 

@@ -8,7 +8,7 @@ ghost use Rattle.pointwise_ir.specs.Trees.{tree_of};
 ghost use Rattle.dk_inline.specs.Inlined.{itself, body, edge_of, inlined, inlined_body, declared_as, substitutes, body_of, bodies};
 
 use crate::extent::stays;
-use dk_base::{Conversion, Memory, Text, Ty};
+use dk_base::{Conversion, OutOfMemory, Text, Ty};
 use dk_parser::Name;
 use dk_types::{TypedDefinition, TypedExpr, TypedInput, TypedNode, TypedProgram};
 use pointwise_ir::{Definition, Edge, Expr, Input};
@@ -40,7 +40,7 @@ fn inline_definition(program: &TypedProgram, image: u32) -> Option<&TypedDefinit
 }
 
 // A body brought into its declared type.
-fn declared(alloc: Global, ty: Option<Ty>, e: Expr) -> Result<Expr, Memory>
+fn declared(alloc: Global, ty: Option<Ty>, e: Expr) -> Result<Expr, OutOfMemory>
     ensures { IfOk result (λ x. tree_of x ≡ declared_as ty (tree_of e)) }
 {
     match ty {
@@ -50,7 +50,7 @@ fn declared(alloc: Global, ty: Option<Ty>, e: Expr) -> Result<Expr, Memory>
 }
 
 // An expression whose reads of inline images are their bodies.
-fn expression(alloc: Global, program: &TypedProgram, e: &TypedExpr) -> Result<Expr, Memory>
+fn expression(alloc: Global, program: &TypedProgram, e: &TypedExpr) -> Result<Expr, OutOfMemory>
     requires { IsWell (types_of (typing_of program.now)) (typed_of e.now) }
     ensures { IfOk result (λ x. tree_of x ≡ inlined (substitutes (typing_of program.now)) (typed_of e.now)) }
 {
@@ -95,14 +95,14 @@ fn expression(alloc: Global, program: &TypedProgram, e: &TypedExpr) -> Result<Ex
     }
 }
 
-fn copied(alloc: Global, name: &Name) -> Result<Text, Memory>
+fn copied(alloc: Global, name: &Name) -> Result<Text, OutOfMemory>
     ensures { IfOk result (λ text. text ≡ name.now.text) }
 {
     Ok(Text::new(Vec::from_slice(alloc, name.text.as_bytes())?))
 }
 
-/// The inputs as those of an Ir.
-pub(crate) fn inputs(alloc: Global, items: &[TypedInput]) -> Result<Vec<Input>, Memory>
+// The inputs as those of an Ir.
+pub(crate) fn inputs(alloc: Global, items: &[TypedInput]) -> Result<Vec<Input>, OutOfMemory>
     ensures names { IfOk result (λ v. map (λ i. i.name) v.items ≡ map (λ i. i.name.text) items.now) }
     ensures types { IfOk result (λ v. map (λ i. i.ty) v.items ≡ map (λ i. i.ty) items.now) }
 {
@@ -130,7 +130,7 @@ fn whole_body(
     alloc: Global,
     program: &TypedProgram,
     definition: &TypedDefinition,
-) -> Result<Expr, Memory>
+) -> Result<Expr, OutOfMemory>
     requires { IsWell (types_of (typing_of program.now)) (typed_of definition.now.body) }
     ensures { IfOk result (λ e. tree_of e ≡ inlined_body (substitutes (typing_of program.now)) (definition_of definition.now)) }
 {
@@ -140,7 +140,7 @@ fn whole_body(
 }
 
 // The body of the image of the definition of this number.
-fn image_body(alloc: Global, program: &TypedProgram, number: usize) -> Result<Expr, Memory>
+fn image_body(alloc: Global, program: &TypedProgram, number: usize) -> Result<Expr, OutOfMemory>
     requires { number < length program.now.definitions }
     ensures { (d : T.Definition) → slice_get (typing_of program.now).definitions number ≡ Some d → IfOk result (λ e. tree_of e ≡ body_of (typing_of program.now) number d) }
 {
@@ -153,8 +153,8 @@ fn image_body(alloc: Global, program: &TypedProgram, number: usize) -> Result<Ex
     Ok(body)
 }
 
-/// The images of the definitions. An inline image that is no output, which nobody reads any more, has the body 0.
-pub(crate) fn images(alloc: Global, program: &TypedProgram) -> Result<Vec<Definition>, Memory>
+// The images of the definitions. An inline image that is no output, which nobody reads any more, has the body 0.
+pub(crate) fn images(alloc: Global, program: &TypedProgram) -> Result<Vec<Definition>, OutOfMemory>
     ensures names { IfOk result (λ v. map (λ d. d.name) v.items ≡ map (λ (d : T.Definition). d.name.text) (typing_of program.now).definitions) }
     ensures types { IfOk result (λ v. map (λ d. d.ty) v.items ≡ map image_type_of (typing_of program.now).definitions) }
     ensures bodies { IfOk result (λ v. map (λ d. tree_of d.body) v.items ≡ bodies (typing_of program.now)) }

@@ -4,7 +4,7 @@ use Rattle.std.specs.Result.{IsErrAnd}
 use Rattle.dk_lexer.specs.declared.token.Token.{Token}
 use Rattle.dk_lexer.specs.declared.fault.LexFault.{LexFault}
 use Rattle.dk_lexer.specs.declared.fault.LexError.{LexError}
-use Rattle.dk_lexer.specs.declared.fault.LexError.TheVariants.{Fault, Memory}
+use Rattle.dk_lexer.specs.declared.fault.LexError.TheVariants.{Fault, OutOfMemory}
 use Rattle.dk_lexer.specs.Lexis.{HasTokens, HasFault}
 use Rattle.dk_lexer.specs.Answer.{Stops}
 use Rattle.dk_lexer.specs.Faithful.{IsEnded}
@@ -13,17 +13,17 @@ use Rattle.dk_lexer.proofs.Unique.{one_lexing, one_fault, no_tokens}
 
 pub accepted : {V : Type 0} (items : V → List Token) (text : List ℕ) (r : Result V LexError) (tokens : List Token)
     → MatchResult r (λ found. HasTokens text (items found)) (λ error. Stops text error) → HasTokens text tokens
-    → MatchResult r (λ found. items found ≡ tokens) (λ error. error ≡ Memory)
+    → MatchResult r (λ found. items found ≡ tokens) (λ error. error ≡ OutOfMemory)
 accepted items text (Ok found) tokens h t = one_lexing h tokens t
 accepted items text (Err (Fault fault)) tokens h t = absurd (no_tokens h tokens t)
-accepted items text (Err Memory) tokens h t = refl
+accepted items text (Err OutOfMemory) tokens h t = refl
 
 pub refused : {V : Type 0} (items : V → List Token) (text : List ℕ) (r : Result V LexError) (fault : LexFault)
     → MatchResult r (λ found. HasTokens text (items found)) (λ error. Stops text error) → HasFault text fault
-    → IsErrAnd r (λ error. (error ≡ Fault fault) ⊎ (error ≡ Memory))
+    → IsErrAnd r (λ error. (error ≡ Fault fault) ⊎ (error ≡ OutOfMemory))
 refused items text (Ok found) fault h f = absurd (no_tokens f (items found) h)
 refused items text (Err (Fault other)) fault h f = inl (ap Fault (one_fault h fault f))
-refused items text (Err Memory) fault h f = inr refl
+refused items text (Err OutOfMemory) fault h f = inr refl
 
 pub closed : {V : Type 0} (items : V → List Token) (text : List ℕ) (r : Result V LexError)
     → MatchResult r (λ found. HasTokens text (items found)) (λ error. Stops text error) → IfOk r (λ found. IsEnded (items found))

@@ -4,15 +4,15 @@ use Rattle.dk_lexer.specs.declared.token.Token.{Token}
 use Rattle.dk_lexer.specs.declared.token.TokenKind.{TokenKind}
 use Rattle.dk_lexer.specs.declared.token.TokenKind.TheVariants.{End}
 use Rattle.dk_lexer.specs.declared.fault.LexError.{LexError}
-use Rattle.dk_lexer.specs.declared.fault.LexError.TheVariants.{Fault, Memory}
+use Rattle.dk_lexer.specs.declared.fault.LexError.TheVariants.{Fault, OutOfMemory}
 use Rattle.dk_lexer.specs.declared.fault.Refusal.{Refusal}
-use Rattle.dk_lexer.specs.declared.fault.Refusal.TheVariants.{Fault as Here, Memory as NoMemory}
+use Rattle.dk_lexer.specs.declared.fault.Refusal.TheVariants.{Fault as Here, OutOfMemory as NoMemory}
 use Rattle.dk_lexer.specs.Lexis.{Lexeme, HasFault}
 
 -- an error is the first fault of the text, or want of memory
 abbrev pub Stops : List ℕ → LexError → Type 0
 Stops text (Fault fault) = HasFault text fault
-Stops text Memory = ⊤
+Stops text OutOfMemory = ⊤
 
 -- an answer is the lexeme, or want of memory
 abbrev pub Answers : Lexeme → Result (TokenKind × ℕ) Refusal → Type 0
@@ -32,7 +32,7 @@ end_at length = record { span = record { start = length; stop = length }; kind =
 -- the fault of a token that would begin here
 abbrev pub located_at : ℕ → Refusal → LexError
 located_at start (Here kind n) = Fault (record { span = record { start = start; stop = start + n }; kind = kind })
-located_at start NoMemory = Memory
+located_at start NoMemory = OutOfMemory
 
 -- its end is a number of the machine
 abbrev pub Ends : ℕ → Refusal → Type 0

@@ -24,11 +24,11 @@ pub struct LexFault {
     pub kind: LexKind,
 }
 
-/// Why there is no token at the front of a text: a fault of so many bytes, or want of memory.
+// Why there is no token at the front of a text: a fault of so many bytes, or want of memory.
 #[derive(Debug, Drop)]
 pub(crate) enum Refusal {
     Fault(LexKind, usize),
-    Memory,
+    OutOfMemory,
 }
 
 /// Why a text has no tokens: its first fault, or want of memory.
@@ -37,27 +37,27 @@ pub enum LexError {
     #[error("{0}")]
     Fault(LexFault),
     #[error("out of memory")]
-    Memory,
+    OutOfMemory,
 }
 
 impl From<AllocError> for Refusal {
     ghost use Rattle.std.specs.Prelude.{◌≡◌};
-    ghost use Rattle.dk_lexer.specs.declared.fault.Refusal.TheVariants.{Memory};
+    ghost use Rattle.dk_lexer.specs.declared.fault.Refusal.TheVariants.{OutOfMemory};
 
-    ghost from_gives = { λ _ e. e ≡ Memory };
+    ghost from_gives = { λ _ e. e ≡ OutOfMemory };
 
     fn from(_e: AllocError) -> Refusal {
-        Refusal::Memory
+        Refusal::OutOfMemory
     }
 }
 
 impl<T: Drop> From<AllocFailed<T>> for LexError {
     ghost use Rattle.std.specs.Prelude.{◌≡◌};
-    ghost use Rattle.dk_lexer.specs.declared.fault.LexError.TheVariants.{Memory};
+    ghost use Rattle.dk_lexer.specs.declared.fault.LexError.TheVariants.{OutOfMemory};
 
-    ghost from_gives = { λ _ e. e ≡ Memory };
+    ghost from_gives = { λ _ e. e ≡ OutOfMemory };
 
     fn from(_e: AllocFailed<T>) -> LexError {
-        LexError::Memory
+        LexError::OutOfMemory
     }
 }

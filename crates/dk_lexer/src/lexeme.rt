@@ -56,7 +56,7 @@ fn one_byte_symbol(byte: u8) -> Option<Symbol>
     }
 }
 
-/// The first byte and the bytes after it.
+// The first byte and the bytes after it.
 pub(crate) fn front(bytes: &[u8]) -> Option<(u8, &[u8])>
     ensures { MatchOption result (bytes.now ≡ []) (λ x. bytes.now ≡ x.0 ∷ x.1.now) }
 {
@@ -64,7 +64,7 @@ pub(crate) fn front(bytes: &[u8]) -> Option<(u8, &[u8])>
     Some((*first, after))
 }
 
-/// A number with one digit more, unless it passes 64 bits.
+// A number with one digit more, unless it passes 64 bits.
 fn with_digit(value: u64, digit: u8) -> Option<u64>
     ensures { MatchOption result (2 ^ 64 ≤ 10 * value + (digit - 48)) (λ v. v ≡ 10 * value + (digit - 48)) }
 {
@@ -73,7 +73,7 @@ fn with_digit(value: u64, digit: u8) -> Option<u64>
         .checked_add(u64::from(digit.saturating_sub(b'0')))
 }
 
-/// The number of these digits, unless it passes 64 bits.
+// The number of these digits, unless it passes 64 bits.
 fn value(digits: &[u8]) -> Option<u64>
     ensures { MatchOption result (2 ^ 64 ≤ value_of digits.now) (λ v. v ≡ value_of digits.now) }
 {
@@ -124,7 +124,7 @@ fn symbol(first: u8, after: &[u8]) -> Result<(TokenKind, usize), Refusal>
     }
 }
 
-/// What stands at the front of the bytes, the first byte and those after it.
+// What stands at the front of the bytes, the first byte and those after it.
 #[tactic(auto, unfolding(crate::specs::Lexis::lexeme))]
 pub(crate) fn lexeme(
     alloc: Global,
@@ -145,7 +145,7 @@ pub(crate) fn lexeme(
     }
 }
 
-/// The bytes from the end of the line on.
+// The bytes from the end of the line on.
 fn behind_line(bytes: &[u8]) -> &[u8]
     ensures { result.now ≡ drop (prefix_len is_in_line bytes.now) bytes.now }
 {
@@ -153,7 +153,7 @@ fn behind_line(bytes: &[u8]) -> &[u8]
     behind
 }
 
-/// The bytes after the white space and comments at the front.
+// The bytes after the white space and comments at the front.
 pub(crate) fn skip(bytes: &[u8]) -> &[u8]
     ensures gap { Gap bytes.now result.now }
     ensures solid { Solid result.now }

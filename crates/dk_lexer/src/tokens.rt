@@ -22,8 +22,8 @@ pub fn lex(alloc: Global, source: &[u8]) -> Result<Vec<Token>, LexError>
     ensures ended { IfOk result (λ tokens. IsEnded tokens.items) }
 
     // What is so is answered, but for want of memory.
-    ensures accepts { (tokens : List Token) → HasTokens source.now tokens → MatchResult result (λ found. found.items ≡ tokens) (λ error. error ≡ LexError.Memory) }
-    ensures refuses { (fault : LexFault) → HasFault source.now fault → IsErrAnd result (λ error. (error ≡ LexError.Fault fault) ⊎ (error ≡ LexError.Memory)) }
+    ensures accepts { (tokens : List Token) → HasTokens source.now tokens → MatchResult result (λ found. found.items ≡ tokens) (λ error. error ≡ LexError.OutOfMemory) }
+    ensures refuses { (fault : LexFault) → HasFault source.now fault → IsErrAnd result (λ error. (error ≡ LexError.Fault fault) ⊎ (error ≡ LexError.OutOfMemory)) }
 {
     read(alloc, source)
 }
@@ -56,9 +56,9 @@ fn read(alloc: Global, source: &[u8]) -> Result<Vec<Token>, LexError>
     }
 }
 
-/// The tokens, and the end of the text.
+// The tokens, and the end of the text.
 fn ended(mut tokens: Vec<Token>, length: usize) -> Result<Vec<Token>, LexError>
-    ensures { MatchResult result (λ all. all.items ≡ tokens.items ++ (end_at length ∷ [])) (λ error. error ≡ LexError.Memory) }
+    ensures { MatchResult result (λ all. all.items ≡ tokens.items ++ (end_at length ∷ [])) (λ error. error ≡ LexError.OutOfMemory) }
 {
     tokens.push(Token {
         span: Span {
@@ -70,7 +70,7 @@ fn ended(mut tokens: Vec<Token>, length: usize) -> Result<Vec<Token>, LexError>
     Ok(tokens)
 }
 
-/// The fault of a token that would begin at `start`.
+// The fault of a token that would begin at `start`.
 fn located(start: usize, refusal: Refusal) -> LexError
     requires { Ends start refusal }
     ensures { result ≡ located_at start refusal }
@@ -83,7 +83,7 @@ fn located(start: usize, refusal: Refusal) -> LexError
             },
             kind,
         }),
-        Refusal::Memory => LexError::Memory,
+        Refusal::OutOfMemory => LexError::OutOfMemory,
     }
 }
 

@@ -17,7 +17,7 @@ use Rattle.dk_parser.specs.declared.terminal.Terminal.{Terminal}
 use Rattle.dk_parser.specs.declared.terminal.Terminal.TheVariants.{Keyword, EndOfText}
 use Rattle.dk_parser.specs.declared.terminal.Mark.TheVariants as mark
 use Rattle.dk_parser.specs.declared.whole.ParseError.{ParseError}
-use Rattle.dk_parser.specs.declared.whole.ParseError.TheVariants.{Nest, Syntax, Depth, Memory}
+use Rattle.dk_parser.specs.declared.whole.ParseError.TheVariants.{Nest, Syntax, Depth, OutOfMemory}
 use Rattle.dk_parser.specs.Terminals.{terminal}
 use Rattle.dk_parser.specs.Words.{Gives}
 use Rattle.dk_parser.specs.Ended.{Ended}
@@ -164,7 +164,7 @@ none_deep : (ds : List Definition) → AreShallow ds → first_deep ds ≡ None
 none_deep [] a = refl
 none_deep (d ∷ ds) a = rw (shallow d.body a.0) (none_deep ds a.1)
 
-pub no_fault : (ts : Tokens) (p : Source) (f : ParseError) → Accepted ts p → Faults ts f → f ≡ Memory
+pub no_fault : (ts : Tokens) (p : Source) (f : ParseError) → Accepted ts p → Faults ts f → f ≡ OutOfMemory
 no_fault ts p (Nest span) a q = absurd (not_both 0 ts span a.nests q)
 no_fault ts p (Syntax span) a q =
     absurd (none_faulty IsProgram ts q.1.index (p, a.derives) q.1.faulty)
@@ -173,4 +173,4 @@ no_fault ts p (Depth span) a q =
     let same : d.program ≡ p = one_program ts d.program p d.derives a.derives in
     let h : first_deep p.definitions ≡ Some span = subst (λ x. first_deep x.definitions ≡ Some span) same d.first in
     absurd (cc (h, none_deep p.definitions a.shallow))
-no_fault ts p Memory a q = refl
+no_fault ts p OutOfMemory a q = refl

@@ -6,7 +6,7 @@ use Rattle.dk_lexer.specs.declared.token.Symbol.TheVariants.{Open}
 use Rattle.dk_grammar.proofs.Faulty.{one_faulty, none_faulty}
 use Rattle.dk_parser.specs.declared.terminal.Terminal.TheVariants.{Symbol as Sym}
 use Rattle.dk_parser.specs.declared.whole.ParseError.{ParseError}
-use Rattle.dk_parser.specs.declared.whole.ParseError.TheVariants.{Nest, Syntax, Depth, Memory}
+use Rattle.dk_parser.specs.declared.whole.ParseError.TheVariants.{Nest, Syntax, Depth, OutOfMemory}
 use Rattle.dk_parser.specs.Terminals.{terminal}
 use Rattle.dk_parser.specs.Grammar.{Tokens}
 use Rattle.dk_parser.specs.Nest.{unclosed, PassesAt}
@@ -46,9 +46,9 @@ one_deep ts a b d e =
 not_faulty : (ts : Tokens) (a b : Span) → IsDeepAt ts a → IsFaultyAt ts b → ⊥
 not_faulty ts a b d f = none_faulty IsProgram ts f.index (d.program, d.derives) f.faulty
 
-pub one_fault : (ts : Tokens) (f g : ParseError) → Faults ts f → Faults ts g → f ≢ Memory → g ≢ Memory → f ≡ g
-one_fault ts Memory g p q m n = absurd (m refl)
-one_fault ts f Memory p q m n = absurd (n refl)
+pub one_fault : (ts : Tokens) (f g : ParseError) → Faults ts f → Faults ts g → f ≢ OutOfMemory → g ≢ OutOfMemory → f ≡ g
+one_fault ts OutOfMemory g p q m n = absurd (m refl)
+one_fault ts f OutOfMemory p q m n = absurd (n refl)
 one_fault ts (Nest a) (Nest b) p q m n = ap Nest (one_passes 0 ts a b p q)
 one_fault ts (Nest a) (Syntax b) p q m n = absurd (not_both 0 ts a q.0 p)
 one_fault ts (Nest a) (Depth b) p q m n = absurd (not_both 0 ts a q.0 p)

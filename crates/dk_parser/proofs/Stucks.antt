@@ -10,7 +10,7 @@ use Rattle.dk_grammar.proofs.Clears.{append_nil}
 use Rattle.dk_grammar.proofs.Stucks.{stuck_behind, stuck_within, stuck_here, front_alike}
 use Rattle.dk_parser.specs.declared.classes.Ahead.{Ahead}
 use Rattle.dk_parser.specs.declared.halt.Halt.{Halt}
-use Rattle.dk_parser.specs.declared.halt.Halt.TheVariants.{Faulty, Memory}
+use Rattle.dk_parser.specs.declared.halt.Halt.TheVariants.{Faulty, OutOfMemory}
 use Rattle.dk_parser.specs.declared.terminal.Mark.{Mark}
 use Rattle.dk_parser.specs.declared.terminal.Keyword.TheVariants.{As}
 use Rattle.dk_parser.specs.declared.terminal.Terminal.{Terminal}
@@ -37,7 +37,7 @@ use Rattle.dk_parser.proofs.Laws.{local, unique, moved, steps_first, not_prefixe
 
 pub halts : {U V : Type 0} {P : Phrases Token U} {Q : Phrases Token V} {mid ts : Tokens} → ((at : Tokens) → Stuck P mid at → Stuck Q ts at) → (e : Halt) → Halts P mid e → Halts Q ts e
 halts f (Faulty s) h = f s.now h
-halts f Memory h = tt
+halts f OutOfMemory h = tt
 
 -- what begins alike binds alike
 pub alike_rank : (at w : Tokens) → Alike at w → rank at ≡ rank w

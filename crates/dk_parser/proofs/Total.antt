@@ -23,7 +23,7 @@ use Rattle.dk_parser.specs.declared.tree.Start.TheVariants.{Prefix, Constant, Im
 use Rattle.dk_parser.specs.declared.tree.Step.{Step}
 use Rattle.dk_parser.specs.declared.tree.UnaryOperator.{UnaryOperator}
 use Rattle.dk_parser.specs.declared.whole.ParseError.{ParseError}
-use Rattle.dk_parser.specs.declared.whole.ParseError.TheVariants.{Nest, Syntax, Depth, Memory}
+use Rattle.dk_parser.specs.declared.whole.ParseError.TheVariants.{Nest, Syntax, Depth, OutOfMemory}
 use Rattle.dk_parser.specs.Tree.{Tree, number, read, unary, binary, scale, cast, sat, select, span_of}
 use Rattle.dk_parser.specs.Marks.{mark_terminal}
 use Rattle.dk_parser.specs.Terminals.{terminal}
@@ -411,17 +411,17 @@ shallow_or_deep (d ∷ ds) = elim (cases_lt 512 (depth d.body)) [
 ]
 
 -- Tokens that end as a text's have a program within its limits, or a fault.
-pub some : (ts : Tokens) → IsEnded ts → ((p : Source) × Accepted ts p) ⊎ ((f : ParseError) × Faults ts f × (f ≢ Memory))
+pub some : (ts : Tokens) → IsEnded ts → ((p : Source) × Accepted ts p) ⊎ ((f : ParseError) × Faults ts f × (f ≢ OutOfMemory))
 some ts ended = elim (nests 0 ts (omega arith)) [
   | inr past ↦ inr (Nest past.0, past.1, λ e. cc)
   | inl stays ↦ by stays ((a_program {n = suc (length ts)}).reads ts (omega arith))
 ]
   where
-    stops : StaysShallow 0 ts → (at : Tokens) → Stuck AProgram ts at → ((p : Source) × Accepted ts p) ⊎ ((f : ParseError) × Faults ts f × (f ≢ Memory))
+    stops : StaysShallow 0 ts → (at : Tokens) → Stuck AProgram ts at → ((p : Source) × Accepted ts p) ⊎ ((f : ParseError) × Faults ts f × (f ≢ OutOfMemory))
     stops stays [] s = absurd (not_behind ts (ended_as ts ended) s)
     stops stays (t ∷ after) s = inr (Syntax t.span, (stays, faulty_at ts after t s), λ e. cc)
 
-    by : StaysShallow 0 ts → Read AProgram ts → ((p : Source) × Accepted ts p) ⊎ ((f : ParseError) × Faults ts f × (f ≢ Memory))
+    by : StaysShallow 0 ts → Read AProgram ts → ((p : Source) × Accepted ts p) ⊎ ((f : ParseError) × Faults ts f × (f ≢ OutOfMemory))
     by stays (inr bad) = stops stays bad.0 bad.1
     by stays (inl (p, rest, q)) =
         let whole = derives ts rest p (ended_as ts ended) q in

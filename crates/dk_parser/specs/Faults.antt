@@ -5,7 +5,7 @@ use Rattle.dk_lexer.specs.declared.token.Token.{Token}
 use Rattle.dk_lexer.specs.declared.token.Symbol.TheVariants.{Open, Close, Comma}
 use Rattle.dk_grammar.specs.Reading.{Phrases, Then, Done, Stuck}
 use Rattle.dk_parser.specs.declared.halt.Halt.{Halt}
-use Rattle.dk_parser.specs.declared.halt.Halt.TheVariants.{Faulty, Memory}
+use Rattle.dk_parser.specs.declared.halt.Halt.TheVariants.{Faulty, OutOfMemory}
 use Rattle.dk_parser.specs.declared.terminal.Mark.{Mark}
 use Rattle.dk_parser.specs.declared.terminal.Mark.TheVariants as mark
 use Rattle.dk_parser.specs.declared.tree.Step.{Step}
@@ -21,7 +21,7 @@ use Rattle.dk_parser.specs.Front.{rank, bound}
 
 abbrev pub Halts : {V : Type 0} → Phrases Token V → Tokens → Halt → Type 0
 Halts P ts (Faulty at) = Stuck P ts at.now
-Halts P ts Memory = Unit {0}
+Halts P ts OutOfMemory = Unit {0}
 
 -- a phrase of the form that what follows does not continue
 abbrev pub Ends : Form → Phrases Token Tree

@@ -5,7 +5,7 @@ use Rattle.dk_base.specs.declared.span.Span.{Span}
 use Rattle.dk_lexer.specs.declared.token.Token.{Token}
 use Rattle.dk_grammar.specs.Reading.{IsFaulty}
 use Rattle.dk_parser.specs.declared.whole.ParseError.{ParseError}
-use Rattle.dk_parser.specs.declared.whole.ParseError.TheVariants.{Nest, Syntax, Depth, Memory}
+use Rattle.dk_parser.specs.declared.whole.ParseError.TheVariants.{Nest, Syntax, Depth, OutOfMemory}
 use Rattle.dk_parser.specs.Grammar.{Tokens}
 use Rattle.dk_parser.specs.Depth.{depth, too_deep, first}
 use Rattle.dk_parser.specs.Nest.{StaysShallow, PassesAt}
@@ -59,4 +59,4 @@ abbrev pub Faults : Tokens → ParseError → Type 0
 Faults ts (Nest span) = PassesAt 0 ts span
 Faults ts (Syntax span) = StaysShallow 0 ts × IsFaultyAt ts span
 Faults ts (Depth span) = StaysShallow 0 ts × IsDeepAt ts span
-Faults ts Memory = Unit {0}
+Faults ts OutOfMemory = Unit {0}

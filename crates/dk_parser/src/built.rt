@@ -20,7 +20,7 @@ pub enum Built {
     Deep(Span),
 }
 
-/// A tree that becomes an operand, or where it is too deep.
+// A tree that becomes an operand, or where it is too deep.
 fn operand(built: Built) -> Result<(Expr, usize), Span>
     ensures stands { (e : Tree) → Stands built e → MatchResult result (λ x. (tree_of x.0 ≡ e) × (depth e ≡ x.1)) (λ s. too_deep e ≡ Some s) }
     ensures shallow { IfOk result (λ x. x.1 ≤ MAX_SOURCE_DEPTH) }
@@ -61,7 +61,7 @@ pub(crate) fn binary(
     Ok(Built::Whole(Expr { span, node }, 1 + left_depth.max(right_depth)))
 }
 
-/// A function of two operands, with its own span.
+// A function of two operands, with its own span.
 pub(crate) fn pair(
     alloc: Global,
     operator: BinaryOperator,
@@ -190,7 +190,7 @@ pub(crate) fn saturated(
     ))
 }
 
-/// A choice between two operands, with its own span.
+// A choice between two operands, with its own span.
 pub(crate) fn selected(
     alloc: Global,
     span: Span,
@@ -220,7 +220,7 @@ pub(crate) fn selected(
     Ok(Built::Whole(Expr { span, node }, 1 + test_depth.max(most)))
 }
 
-/// A tree in brackets.
+// A tree in brackets.
 pub(crate) fn bracketed(span: Span, built: Built) -> Built
     ensures { (e : Tree) → Stands built e → Stands result (at_span span e) }
 {
@@ -236,7 +236,7 @@ pub(crate) fn bracketed(span: Span, built: Built) -> Built
     }
 }
 
-/// The tree of a program, or where it is too deep.
+// The tree of a program, or where it is too deep.
 pub(crate) fn finished(built: Built) -> Result<Expr, Span>
     ensures { (e : Tree) → Stands built e → MatchResult result (λ x. (tree_of x ≡ e) × (depth e ≤ MAX_SOURCE_DEPTH)) (λ s. too_deep e ≡ Some s) }
 {

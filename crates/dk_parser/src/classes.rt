@@ -11,7 +11,7 @@ use crate::tree::{BinaryOperator, Binding, ScaleOperator, Start, Step, UnaryOper
 use dk_base::Ty;
 use dk_lexer::{Symbol, Token, TokenKind};
 
-/// The first token, what the grammar sees of it, and the tokens after it.
+// The first token, what the grammar sees of it, and the tokens after it.
 pub(crate) fn front(tokens: &[Token]) -> Option<(&Token, Terminal, &[Token])>
     ensures { MatchOption result (tokens.now ≡ []) (λ x. IsFront tokens.now x.0.now x.1 x.2.now) }
 {
@@ -57,7 +57,7 @@ pub(crate) fn look_ahead<'a>(loose: u8, tokens: &'a [Token]) -> Ahead<'a>
     }
 }
 
-/// The tokens behind the word that makes a read a clamped one, where it stands first.
+// The tokens behind the word that makes a read a clamped one, where it stands first.
 #[tactic(auto, using(crate::proofs::Edges::not_edge))]
 pub(crate) fn edge(tokens: &[Token]) -> Option<&[Token]>
     ensures { MatchOption result (1 < rank tokens.now) (λ x. IsEdge tokens.now x.now) }
@@ -82,7 +82,7 @@ pub(crate) fn terminal(token: &Token) -> Terminal
     }
 }
 
-/// A reserved word, a type word or a name.
+// A reserved word, a type word or a name.
 fn word(bytes: &[u8]) -> Terminal
     ensures { result ≡ terminal_of_word bytes.now }
 {
@@ -147,7 +147,7 @@ fn type_or_name(bytes: &[u8]) -> Terminal
     }
 }
 
-/// 1 to 64 in decimal, without a leading zero.
+// 1 to 64 in decimal, without a leading zero.
 fn width(digits: &[u8]) -> Option<u8>
     ensures { result ≡ width_of digits.now }
 {

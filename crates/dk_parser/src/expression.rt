@@ -20,7 +20,7 @@ use dk_base::Span;
 use dk_lexer::{Symbol, Token};
 use std::alloc::Global;
 
-/// An expression.
+// An expression.
 #[cycle(expression)]
 pub(crate) fn comparison_of<'a>(
     alloc: Global,
@@ -43,7 +43,7 @@ pub(crate) fn comparison_of<'a>(
     }
 }
 
-/// An expression whose operators bind at most so loosely.
+// An expression whose operators bind at most so loosely.
 #[cycle(expression)]
 fn level_of<'a>(
     alloc: Global,
@@ -60,7 +60,7 @@ fn level_of<'a>(
     steps_of(alloc, loose - 1, left, rest)
 }
 
-/// What follows a first operand.
+// What follows a first operand.
 #[cycle(expression)]
 fn steps_of<'a>(
     alloc: Global,
@@ -91,7 +91,7 @@ fn steps_of<'a>(
     }
 }
 
-/// The number or the type that an operator wants after it.
+// The number or the type that an operator wants after it.
 fn suffix<'a>(
     alloc: Global,
     left: Built,
@@ -125,7 +125,7 @@ fn suffix<'a>(
     }
 }
 
-/// A primary expression, with an operator before it or with none.
+// A primary expression, with an operator before it or with none.
 #[cycle(expression)]
 fn unary_of<'a>(alloc: Global, tokens: &'a [Token]) -> Result<(Built, &'a [Token]), Halt<'a>>
     ensures parsed { MatchResult result (λ x. Grown (level 0) tokens.now x.0 x.1.now) (λ e. Halts (Ends (level 0)) tokens.now e) }
@@ -142,7 +142,7 @@ fn unary_of<'a>(alloc: Global, tokens: &'a [Token]) -> Result<(Built, &'a [Token
     }
 }
 
-/// A primary expression, which no `edge` follows.
+// A primary expression, which no `edge` follows.
 #[cycle(expression)]
 fn primary_of<'a>(alloc: Global, tokens: &'a [Token]) -> Result<(Built, &'a [Token]), Halt<'a>>
     ensures parsed { MatchResult result (λ x. Grown primary tokens.now x.0 x.1.now) (λ e. Halts (Ends primary) tokens.now e) }
@@ -164,7 +164,7 @@ fn primary_of<'a>(alloc: Global, tokens: &'a [Token]) -> Result<(Built, &'a [Tok
     }
 }
 
-/// What stands behind the first token of a primary expression that is no read.
+// What stands behind the first token of a primary expression that is no read.
 #[cycle(expression)]
 fn inside_of<'a>(
     alloc: Global,
@@ -202,7 +202,7 @@ fn bracket_of<'a>(
     Ok((built::bracketed(span, body), rest))
 }
 
-/// The two operands of a function.
+// The two operands of a function.
 #[cycle(expression)]
 fn pair_of<'a>(
     alloc: Global,
@@ -261,7 +261,7 @@ fn saturate_of<'a>(
     Ok((built, rest))
 }
 
-/// The test of a choice and its two operands.
+// The test of a choice and its two operands.
 #[cycle(expression)]
 fn choice_of<'a>(
     alloc: Global,
@@ -282,7 +282,7 @@ fn choice_of<'a>(
     Ok((built, rest))
 }
 
-/// An expression, the span of the mark after it, and the rest.
+// An expression, the span of the mark after it, and the rest.
 #[cycle(expression)]
 pub(crate) fn closed_by<'a>(
     alloc: Global,

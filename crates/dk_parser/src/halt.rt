@@ -1,7 +1,7 @@
 // Why a parser stops early.
 
 ghost use Rattle.std.specs.Prelude.{◌≡◌};
-ghost use Rattle.dk_parser.specs.declared.halt.Halt.TheVariants.{Memory};
+ghost use Rattle.dk_parser.specs.declared.halt.Halt.TheVariants.{OutOfMemory};
 
 use dk_lexer::Token;
 use std::alloc::{AllocError, AllocFailed};
@@ -11,21 +11,21 @@ use std::alloc::{AllocError, AllocFailed};
 pub enum Halt<'a> {
     /// The tokens from the faulty one on.
     Faulty(&'a [Token]),
-    Memory,
+    OutOfMemory,
 }
 
 impl<'a> From<AllocError> for Halt<'a> {
-    ghost from_gives = { λ _ e. e ≡ Memory };
+    ghost from_gives = { λ _ e. e ≡ OutOfMemory };
 
     fn from(_e: AllocError) -> Halt<'a> {
-        Halt::Memory
+        Halt::OutOfMemory
     }
 }
 
 impl<'a, T: Drop> From<AllocFailed<T>> for Halt<'a> {
-    ghost from_gives = { λ _ e. e ≡ Memory };
+    ghost from_gives = { λ _ e. e ≡ OutOfMemory };
 
     fn from(_e: AllocFailed<T>) -> Halt<'a> {
-        Halt::Memory
+        Halt::OutOfMemory
     }
 }

@@ -46,7 +46,7 @@ pub struct Parts {
     pub deep: Option<Span>,
 }
 
-/// A name and its type.
+// A name and its type.
 fn input<'a>(alloc: Global, tokens: &'a [Token]) -> Result<(Input, &'a [Token]), Halt<'a>>
     ensures parsed { MatchResult result (λ x. AnInput tokens.now x.0 x.1.now) (λ e. Halts AnInput tokens.now e) }
     ensures fewer { IfOk result (λ x. length x.1.now < length tokens.now) }
@@ -67,7 +67,7 @@ fn declares(kind: Terminal) -> Option<bool>
     }
 }
 
-/// Whether a type is declared.
+// Whether a type is declared.
 fn is_declared(tokens: &[Token]) -> Result<(bool, &[Token]), Halt>
     ensures parsed { MatchResult result (λ x. One (Gives (λ t. declares_of (terminal t))) tokens.now x.0 x.1.now) (λ e. Halts (One (Gives (λ t. declares_of (terminal t)))) tokens.now e) }
     ensures fewer { IfOk result (λ x. length x.1.now < length tokens.now) }
@@ -95,7 +95,7 @@ fn after_declares(is_there: bool, tokens: &[Token]) -> Result<(Option<TypeWord>,
     }
 }
 
-/// The declared type, where there is one, and the equals sign.
+// The declared type, where there is one, and the equals sign.
 fn declared(tokens: &[Token]) -> Result<(Option<TypeWord>, &[Token]), Halt>
     ensures parsed { MatchResult result (λ x. Declared tokens.now x.0 x.1.now) (λ e. Halts Declared tokens.now e) }
     ensures fewer { IfOk result (λ x. length x.1.now < length tokens.now) }
@@ -105,7 +105,7 @@ fn declared(tokens: &[Token]) -> Result<(Option<TypeWord>, &[Token]), Halt>
     Ok((ty, rest))
 }
 
-/// The word `im` and the two coordinates.
+// The word `im` and the two coordinates.
 fn header(tokens: &[Token]) -> Result<(Span, &[Token]), Halt>
     ensures parsed { MatchResult result (λ x. Header tokens.now x.0 x.1.now) (λ e. Halts Header tokens.now e) }
     ensures fewer { IfOk result (λ x. length x.1.now < length tokens.now) }
@@ -119,7 +119,7 @@ fn header(tokens: &[Token]) -> Result<(Span, &[Token]), Halt>
     Ok((last, rest))
 }
 
-/// A definition behind its `let`.
+// A definition behind its `let`.
 fn definition<'a>(
     alloc: Global,
     inline: bool,
@@ -140,7 +140,7 @@ fn definition<'a>(
     Ok((draft, rest))
 }
 
-/// The items with an input more.
+// The items with an input more.
 fn with_input(parts: Parts, input: Input) -> Result<Parts, AllocError>
     ensures { (vs : List Item) → Holds parts vs → IfOk result (λ p. Holds p (vs ++ (P.input input ∷ []))) }
 {
@@ -154,7 +154,7 @@ fn with_input(parts: Parts, input: Input) -> Result<Parts, AllocError>
     })
 }
 
-/// The items with an output more.
+// The items with an output more.
 fn with_output(parts: Parts, output: Name) -> Result<Parts, AllocError>
     ensures { (vs : List Item) → Holds parts vs → IfOk result (λ p. Holds p (vs ++ (P.output output ∷ []))) }
 {
@@ -168,7 +168,7 @@ fn with_output(parts: Parts, output: Name) -> Result<Parts, AllocError>
     })
 }
 
-/// The items with a definition more.
+// The items with a definition more.
 fn with_definition(parts: Parts, draft: Draft) -> Result<Parts, AllocError>
     ensures { (vs : List Item) (d : Definition) → Holds parts vs → IsDraft draft d → IfOk result (λ p. Holds p (vs ++ (P.definition d ∷ []))) }
 {
@@ -201,7 +201,7 @@ fn with_definition(parts: Parts, draft: Draft) -> Result<Parts, AllocError>
     }
 }
 
-/// The item that this word begins.
+// The item that this word begins.
 fn item<'a>(
     alloc: Global,
     lead: Lead,
@@ -278,7 +278,7 @@ fn allowed(before: Lead, found: Option<Lead>) -> Option<Lead>
     }
 }
 
-/// The word that the next item begins with.
+// The word that the next item begins with.
 fn lead_after(before: Lead, tokens: &[Token]) -> Result<(Lead, &[Token]), Halt>
     requires { before ≢ Lead.End }
     ensures parsed { MatchResult result (λ x. One (λ t n. next before t ≡ Some n) tokens.now x.0 x.1.now) (λ e. Halts (One (λ t n. next before t ≡ Some n)) tokens.now e) }
@@ -293,7 +293,7 @@ fn lead_after(before: Lead, tokens: &[Token]) -> Result<(Lead, &[Token]), Halt>
     }
 }
 
-/// All items, up to the end of the text.
+// All items, up to the end of the text.
 pub(crate) fn items<'a>(
     alloc: Global,
     tokens: &'a [Token],

@@ -19,7 +19,7 @@ fn unclosed(before: usize, terminal: Terminal) -> usize
     }
 }
 
-/// The first bracket that leaves too many unclosed.
+// The first bracket that leaves too many unclosed.
 pub(crate) fn overflow(tokens: &[Token]) -> Option<Span>
     ensures { MatchOption result (StaysShallow 0 tokens.now) (λ span. PassesAt 0 tokens.now span) }
 {

@@ -21,7 +21,7 @@ use dk_base::Span;
 use dk_lexer::{Symbol, Token};
 use std::alloc::Global;
 
-/// What follows a mark, or the sign of a number before it.
+// What follows a mark, or the sign of a number before it.
 fn after_turn<'a>(
     mark: Mark,
     turn: Turn,
@@ -40,7 +40,7 @@ fn after_turn<'a>(
     }
 }
 
-/// A mark, with a signed number before it or with none.
+// A mark, with a signed number before it or with none.
 fn moved<'a>(
     mark: Mark,
     tokens: &'a [Token],
@@ -54,7 +54,7 @@ fn moved<'a>(
     Ok((offset, span, after))
 }
 
-/// The point that an image is read at, in brackets.
+// The point that an image is read at, in brackets.
 fn point<'a>(name: Name, tokens: &'a [Token]) -> Result<(Span, ImageRead, &'a [Token]), Halt<'a>>
     ensures parsed { MatchResult result (λ x. Point name tokens.now (x.0, x.1) x.2.now) (λ e. Halts (Point name) tokens.now e) }
     ensures fewer { IfOk result (λ x. length x.2.now < length tokens.now) }
@@ -80,7 +80,7 @@ fn point<'a>(name: Name, tokens: &'a [Token]) -> Result<(Span, ImageRead, &'a [T
     ))
 }
 
-/// A name and a point.
+// A name and a point.
 fn unclamped<'a>(
     alloc: Global,
     tokens: &'a [Token],
@@ -93,7 +93,7 @@ fn unclamped<'a>(
     Ok((span, read, after))
 }
 
-/// A read, clamped or not.
+// A read, clamped or not.
 pub(crate) fn read_of<'a>(
     alloc: Global,
     tokens: &'a [Token],

@@ -23,7 +23,7 @@ pub enum Turn {
     Signed(bool),
 }
 
-/// The span of this mark.
+// The span of this mark.
 pub(crate) fn mark<'a>(mark: Mark, tokens: &'a [Token]) -> Result<(Span, &'a [Token]), Halt<'a>>
     ensures parsed { MatchResult result (λ x. Sign mark tokens.now x.0 x.1.now) (λ e. Halts (Sign mark) tokens.now e) }
     ensures fewer { IfOk result (λ x. length x.1.now < length tokens.now) }
@@ -47,7 +47,7 @@ fn literal_at(kind: Terminal, span: Span) -> Option<Literal>
     }
 }
 
-/// A number.
+// A number.
 pub(crate) fn literal(tokens: &[Token]) -> Result<(Literal, &[Token]), Halt>
     ensures parsed { MatchResult result (λ x. ALiteral tokens.now x.0 x.1.now) (λ e. Halts ALiteral tokens.now e) }
     ensures fewer { IfOk result (λ x. length x.1.now < length tokens.now) }
@@ -70,7 +70,7 @@ fn type_at(kind: Terminal, span: Span) -> Option<TypeWord>
     }
 }
 
-/// A type word.
+// A type word.
 pub(crate) fn type_word(tokens: &[Token]) -> Result<(TypeWord, &[Token]), Halt>
     ensures parsed { MatchResult result (λ x. AType tokens.now x.0 x.1.now) (λ e. Halts AType tokens.now e) }
     ensures fewer { IfOk result (λ x. length x.1.now < length tokens.now) }
@@ -84,7 +84,7 @@ pub(crate) fn type_word(tokens: &[Token]) -> Result<(TypeWord, &[Token]), Halt>
     }
 }
 
-/// A copy of the bytes of a word.
+// A copy of the bytes of a word.
 fn copied(alloc: Global, kind: &TokenKind) -> Result<Text, AllocError>
     ensures { IfOk result (λ t. t ≡ spelling kind.now) }
 {
@@ -94,7 +94,7 @@ fn copied(alloc: Global, kind: &TokenKind) -> Result<Text, AllocError>
     }
 }
 
-/// A name.
+// A name.
 pub(crate) fn name<'a>(alloc: Global, tokens: &'a [Token]) -> Result<(Name, &'a [Token]), Halt<'a>>
     ensures parsed { MatchResult result (λ x. AName tokens.now x.0 x.1.now) (λ e. Halts AName tokens.now e) }
     ensures fewer { IfOk result (λ x. length x.1.now < length tokens.now) }
@@ -125,7 +125,7 @@ fn sign(terminal: Terminal) -> Option<bool>
     }
 }
 
-/// A mark, or the sign of a number before it.
+// A mark, or the sign of a number before it.
 pub(crate) fn sign_or<'a>(mark: Mark, tokens: &'a [Token]) -> Result<(Turn, &'a [Token]), Halt<'a>>
     requires { sign_of (mark_terminal mark) ≡ None }
     ensures parsed { MatchResult result (λ x. One (Turns mark) tokens.now x.0 x.1.now) (λ e. Halts (One (Turns mark)) tokens.now e) }

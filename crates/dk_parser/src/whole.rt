@@ -35,10 +35,10 @@ pub enum ParseError {
     #[error("{}-{}: Depth", .span.start, .span.stop)]
     Depth { span: Span },
     #[error("out of memory")]
-    Memory,
+    OutOfMemory,
 }
 
-/// A program, of which a body may be too deep.
+// A program, of which a body may be too deep.
 fn program<'a>(
     alloc: Global,
     tokens: &'a [Token],
@@ -72,7 +72,7 @@ pub fn parse(alloc: Global, tokens: &[Token]) -> Result<Program, ParseError>
                 outputs: parts.outputs,
             }),
         },
-        Err(Halt::Memory) => Err(ParseError::Memory),
+        Err(Halt::OutOfMemory) => Err(ParseError::OutOfMemory),
         Err(Halt::Faulty(at)) => match classes::front(at) {
             Some((first, _, _)) => Err(ParseError::Syntax { span: first.span }),
             None => unreachable!(),
@@ -83,9 +83,9 @@ pub fn parse(alloc: Global, tokens: &[Token]) -> Result<Program, ParseError>
 /// Tokens that end as those of a text have one program, or one fault, but for want of memory; and a program is what the rules of the grammar say.
 pub fn one_judgement()
     ensures program { (ts : Tokens) (p q : Source) → Derives ts p → Derives ts q → p ≡ q }
-    ensures none_beside { (ts : Tokens) (p : Source) (f : ParseError) → Accepted ts p → Faults ts f → f ≡ ParseError.Memory }
-    ensures one_fault { (ts : Tokens) (f g : ParseError) → Faults ts f → Faults ts g → f ≢ ParseError.Memory → g ≢ ParseError.Memory → f ≡ g }
-    ensures some { (ts : Tokens) → IsEnded ts → ((p : Source) × Accepted ts p) ⊎ ((f : ParseError) × Faults ts f × (f ≢ ParseError.Memory)) }
+    ensures none_beside { (ts : Tokens) (p : Source) (f : ParseError) → Accepted ts p → Faults ts f → f ≡ ParseError.OutOfMemory }
+    ensures one_fault { (ts : Tokens) (f g : ParseError) → Faults ts f → Faults ts g → f ≢ ParseError.OutOfMemory → g ≢ ParseError.OutOfMemory → f ≡ g }
+    ensures some { (ts : Tokens) → IsEnded ts → ((p : Source) × Accepted ts p) ⊎ ((f : ParseError) × Faults ts f × (f ≢ ParseError.OutOfMemory)) }
     ensures rules { (ts : Tokens) (p : Source) (rest : Tokens) → AProgram ts p rest ↔ ProgramRule ts p rest }
     ensures type_words { (bytes : List ℕ) (t : Ty) → terminal_of_word bytes ≡ Terminal.TypeWord t ↔ IsTypeWord bytes t }
 {}

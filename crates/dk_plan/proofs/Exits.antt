@@ -5,7 +5,7 @@ use Rattle.dk_base.specs.Stencils.{Parts as Stencils}
 use Rattle.raster_delay.specs.Systems.{Parts as System}
 use Rattle.flow_dual.specs.Solutions.{IsLeastVector}
 use Rattle.buffer_plan.specs.declared.fault.PlanFault.{PlanFault}
-use Rattle.buffer_plan.specs.declared.fault.PlanFault.TheVariants.{Bits, Latency, Memory}
+use Rattle.buffer_plan.specs.declared.fault.PlanFault.TheVariants.{Bits, Latency, OutOfMemory}
 use Rattle.buffer_plan.specs.Limits.{Passes, IsPlanFault}
 use Rattle.report_text.specs.declared.reading.ReportFault.{ReportFault}
 use Rattle.report_text.specs.declared.reading.ReportFault.TheVariants as reader
@@ -26,12 +26,12 @@ if_err P (Err y) e is h = subst P (sym is) h
 pub plan_fault : (s : System) (d : List ℕ) (f : PlanFault) → IsLeastVector s d → Passes s d f → IsPlanFault s f
 plan_fault s d (Bits n) least passes = record { delays_are = d; vector = least; passes = passes }
 plan_fault s d (Latency n) least passes = record { delays_are = d; vector = least; passes = passes }
-plan_fault s d Memory least passes = tt
+plan_fault s d OutOfMemory least passes = tt
 
 -- the faults of the reader are faults of a report
 pub reader_fault : (names : List (List ℕ)) (stencils : Stencils) (bytes : List ℕ) (e : ReportFault) → Refuses bytes e → IsCheckFault names stencils bytes (of_reader e)
 reader_fault names stencils bytes (reader.Line n) h = faulty h
-reader_fault names stencils bytes reader.Memory h = tt
+reader_fault names stencils bytes reader.OutOfMemory h = tt
 
 module _ (names : List (List ℕ)) (stencils : Stencils) (bytes : List ℕ) (r : Report) (s : System) (is : s ≡ aged stencils r.age) (stands : StandsFor bytes r) where
   pub confirmed : (claim : Claim) → HoldsOf names s r → AreLeast s r → claim.bits ≡ r.bits → claim.latency ≡ slice_index r.latencies 0 → IsConfirmed names stencils bytes claim

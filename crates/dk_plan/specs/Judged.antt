@@ -9,7 +9,7 @@ use Rattle.plan_check.specs.Holding.{AreLeast}
 use Rattle.plan_check.specs.Program.{HoldsOf, IsFirstAmiss}
 use Rattle.dk_plan.specs.declared.judging.Claim.{Claim}
 use Rattle.dk_plan.specs.declared.judging.CheckFault.{CheckFault}
-use Rattle.dk_plan.specs.declared.judging.CheckFault.TheVariants.{Line, Memory}
+use Rattle.dk_plan.specs.declared.judging.CheckFault.TheVariants.{Line, OutOfMemory}
 use Rattle.dk_plan.specs.Planned.{aged}
 
 -- The bytes are a report that holds at its own age: all its lines are right, and no causal delays need fewer bits than it says. These are its bits and its first latency.
@@ -35,9 +35,9 @@ pub data IsWrongLine (names : List (List ℕ)) (stencils : Stencils) (bytes : Li
 -- the faults of the reader
 abbrev pub of_reader : ReportFault → CheckFault
 of_reader (reader.Line number) = Line number
-of_reader reader.Memory = Memory
+of_reader reader.OutOfMemory = OutOfMemory
 
 -- why a report does not hold; want of memory tells nothing
 abbrev pub IsCheckFault : (names : List (List ℕ)) → Stencils → (bytes : List ℕ) → CheckFault → Type 0
 IsCheckFault names stencils bytes (Line number) = IsWrongLine names stencils bytes number
-IsCheckFault names stencils bytes Memory = ⊤
+IsCheckFault names stencils bytes OutOfMemory = ⊤

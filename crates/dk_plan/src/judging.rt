@@ -5,7 +5,7 @@ ghost use Rattle.dk_base.specs.declared.stencils.Image.{Image};
 ghost use Rattle.pointwise_ir.specs.Programs.{names_of};
 ghost use Rattle.dk_plan.specs.Judged.{IsConfirmed, IsCheckFault};
 
-use dk_base::{Memory, Stencils};
+use dk_base::{OutOfMemory, Stencils};
 use plan_check::{Verdict, judge};
 use pointwise_ir::Ir;
 use raster_delay::System;
@@ -26,17 +26,17 @@ pub enum CheckFault {
     #[error("line {number}")]
     Line { number: u64 },
     #[error("out of memory")]
-    Memory,
+    OutOfMemory,
 }
 
-impl From<Memory> for CheckFault {
+impl From<OutOfMemory> for CheckFault {
     ghost use Rattle.std.specs.Prelude.{◌≡◌};
     ghost use Rattle.dk_plan.specs.declared.judging.CheckFault.TheVariants as fault;
 
-    ghost from_gives = { λ e f. f ≡ fault.Memory };
+    ghost from_gives = { λ e f. f ≡ fault.OutOfMemory };
 
-    fn from(_error: Memory) -> Self {
-        CheckFault::Memory
+    fn from(_error: OutOfMemory) -> Self {
+        CheckFault::OutOfMemory
     }
 }
 
@@ -49,7 +49,7 @@ impl From<ReportFault> for CheckFault {
     fn from(error: ReportFault) -> Self {
         match error {
             ReportFault::Line { number } => CheckFault::Line { number },
-            ReportFault::Memory => CheckFault::Memory,
+            ReportFault::OutOfMemory => CheckFault::OutOfMemory,
         }
     }
 }

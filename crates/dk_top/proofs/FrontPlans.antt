@@ -61,7 +61,7 @@ own_fault text age (of_text.InlineDepth x) h = h
 own_fault text age (of_text.Reads x) h = h
 own_fault text age (of_text.Bits n) h = absurd h
 own_fault text age (of_text.Latency n) h = absurd h
-own_fault text age of_text.Memory h = h
+own_fault text age of_text.OutOfMemory h = h
 
 pub source_at : (text : List ℕ) (age : ℕ) (f : SourceFault) → IsSourceFault text f → IsFaultAt text age f
 source_at text age source.TooLong h = h

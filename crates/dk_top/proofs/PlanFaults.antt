@@ -20,10 +20,10 @@ use Rattle.dk_top.proofs.VerdictLemmas.{none_by, one_by}
 pub accepted_of : ((text : List ℕ) (p : Typing) (ir : Program) (s : Stencils) → IsFront text p ir s → of.IsAccepted text p) → (text : List ℕ) (names : List (List ℕ)) (s : Stencils) → length text ≤ MAX_SOURCE_BYTES → HasStencils text names s → (p : Typing) × IsAccepted text p
 accepted_of law text names s within has = (has.program, record { within = within; accepted = law text has.program has.form s has.front })
 
-pub apart_at : ((text : List ℕ) (age : ℕ) (p : Typing) (f : TextFault) → at.IsAcceptedAt text age p → at.IsFaultAt text age f → f ≡ of_text.Memory) → (text : List ℕ) (age : ℕ) (f : SourceFault) → CanBeCompiled text age → IsFaultAt text age f → ⊥
+pub apart_at : ((text : List ℕ) (age : ℕ) (p : Typing) (f : TextFault) → at.IsAcceptedAt text age p → at.IsFaultAt text age f → f ≡ of_text.OutOfMemory) → (text : List ℕ) (age : ℕ) (f : SourceFault) → CanBeCompiled text age → IsFaultAt text age f → ⊥
 apart_at law text age f (p, has) h = none_by (at.IsFaultAt text age) text has.within (λ g is. law text age p g has.accepted is) f h
 
-pub one_fault_at : ((text : List ℕ) (age : ℕ) (f g : TextFault) → at.IsFaultAt text age f → at.IsFaultAt text age g → (f ≡ of_text.Memory) ⊎ (g ≡ of_text.Memory) ⊎ (f ≡ g)) → (text : List ℕ) (age : ℕ) (f g : SourceFault) → IsFaultAt text age f → IsFaultAt text age g → f ≡ g
+pub one_fault_at : ((text : List ℕ) (age : ℕ) (f g : TextFault) → at.IsFaultAt text age f → at.IsFaultAt text age g → (f ≡ of_text.OutOfMemory) ⊎ (g ≡ of_text.OutOfMemory) ⊎ (f ≡ g)) → (text : List ℕ) (age : ℕ) (f g : SourceFault) → IsFaultAt text age f → IsFaultAt text age g → f ≡ g
 one_fault_at law text age f g x y = one_by (at.IsFaultAt text age) text (law text age) f g x y
 
 -- what holds of the names and live reads of one is that of the other

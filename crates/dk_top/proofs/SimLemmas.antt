@@ -46,7 +46,7 @@ abbrev pub OneAgreed : Type 0
 OneAgreed = (t : List ℕ) (f g : TextFault) → IsFault t f → IsFault t g → Agrees f g
 
 abbrev pub ModuleApart : Type 0
-ModuleApart = (t : List ℕ) (m : NamedNetlist) (f : TextFault) → StandsFor t m → IsFault t f → f ≡ text.Memory
+ModuleApart = (t : List ℕ) (m : NamedNetlist) (f : TextFault) → StandsFor t m → IsFault t f → f ≡ text.OutOfMemory
 
 abbrev pub OneTokens : Type 0
 OneTokens = (t : List ℕ) (a b : List Token) → HasTokens t a → HasTokens t b → a ≡ b
@@ -134,7 +134,7 @@ both_cycles s t x y a b =
     let first : AreAlike (ending.Verilog x) (ending.Verilog (At t kind.Cycle)) = subst (λ z. AreAlike (ending.Verilog z) (ending.Verilog (At t kind.Cycle))) a tt in
     subst (λ z. AreAlike (ending.Verilog x) (ending.Verilog z)) b first
 
-nothing_told : {P : Type 0} (x : VerilogFault) → fault_told text.Memory ≡ Some x → P
+nothing_told : {P : Type 0} (x : VerilogFault) → fault_told text.OutOfMemory ≡ Some x → P
 nothing_told x e = absurd (let f : ⊥ = cc in f)
 
 -- faults that agree are told alike
@@ -144,79 +144,79 @@ told_alike (text.Lex p) (text.Syntax q) x y same a b = same_told (text.Lex p) (t
 told_alike (text.Lex p) (text.NotInSubset q) x y same a b = same_told (text.Lex p) (text.NotInSubset q) x y same a b
 told_alike (text.Lex p) (text.Limit q) x y same a b = same_told (text.Lex p) (text.Limit q) x y same a b
 told_alike (text.Lex p) (text.Net t n) x y same a b = same_told (text.Lex p) (text.Net t n) x y same a b
-told_alike (text.Lex p) text.Memory x y same a b = nothing_told y b
+told_alike (text.Lex p) text.OutOfMemory x y same a b = nothing_told y b
 told_alike (text.Syntax p) (text.Lex q) x y same a b = same_told (text.Syntax p) (text.Lex q) x y same a b
 told_alike (text.Syntax p) (text.Syntax q) x y same a b = same_told (text.Syntax p) (text.Syntax q) x y same a b
 told_alike (text.Syntax p) (text.NotInSubset q) x y same a b = same_told (text.Syntax p) (text.NotInSubset q) x y same a b
 told_alike (text.Syntax p) (text.Limit q) x y same a b = same_told (text.Syntax p) (text.Limit q) x y same a b
 told_alike (text.Syntax p) (text.Net t n) x y same a b = same_told (text.Syntax p) (text.Net t n) x y same a b
-told_alike (text.Syntax p) text.Memory x y same a b = nothing_told y b
+told_alike (text.Syntax p) text.OutOfMemory x y same a b = nothing_told y b
 told_alike (text.NotInSubset p) (text.Lex q) x y same a b = same_told (text.NotInSubset p) (text.Lex q) x y same a b
 told_alike (text.NotInSubset p) (text.Syntax q) x y same a b = same_told (text.NotInSubset p) (text.Syntax q) x y same a b
 told_alike (text.NotInSubset p) (text.NotInSubset q) x y same a b = same_told (text.NotInSubset p) (text.NotInSubset q) x y same a b
 told_alike (text.NotInSubset p) (text.Limit q) x y same a b = same_told (text.NotInSubset p) (text.Limit q) x y same a b
 told_alike (text.NotInSubset p) (text.Net t n) x y same a b = same_told (text.NotInSubset p) (text.Net t n) x y same a b
-told_alike (text.NotInSubset p) text.Memory x y same a b = nothing_told y b
+told_alike (text.NotInSubset p) text.OutOfMemory x y same a b = nothing_told y b
 told_alike (text.Limit p) (text.Lex q) x y same a b = same_told (text.Limit p) (text.Lex q) x y same a b
 told_alike (text.Limit p) (text.Syntax q) x y same a b = same_told (text.Limit p) (text.Syntax q) x y same a b
 told_alike (text.Limit p) (text.NotInSubset q) x y same a b = same_told (text.Limit p) (text.NotInSubset q) x y same a b
 told_alike (text.Limit p) (text.Limit q) x y same a b = same_told (text.Limit p) (text.Limit q) x y same a b
 told_alike (text.Limit p) (text.Net t n) x y same a b = same_told (text.Limit p) (text.Net t n) x y same a b
-told_alike (text.Limit p) text.Memory x y same a b = nothing_told y b
+told_alike (text.Limit p) text.OutOfMemory x y same a b = nothing_told y b
 told_alike (text.Net s (net.Duplicate j)) (text.Lex q) x y same a b = same_told (text.Net s (net.Duplicate j)) (text.Lex q) x y same a b
 told_alike (text.Net s (net.Duplicate j)) (text.Syntax q) x y same a b = same_told (text.Net s (net.Duplicate j)) (text.Syntax q) x y same a b
 told_alike (text.Net s (net.Duplicate j)) (text.NotInSubset q) x y same a b = same_told (text.Net s (net.Duplicate j)) (text.NotInSubset q) x y same a b
 told_alike (text.Net s (net.Duplicate j)) (text.Limit q) x y same a b = same_told (text.Net s (net.Duplicate j)) (text.Limit q) x y same a b
 told_alike (text.Net s (net.Duplicate j)) (text.Net t n) x y same a b = same_told (text.Net s (net.Duplicate j)) (text.Net t n) x y same a b
-told_alike (text.Net s (net.Duplicate j)) text.Memory x y same a b = nothing_told y b
+told_alike (text.Net s (net.Duplicate j)) text.OutOfMemory x y same a b = nothing_told y b
 told_alike (text.Net s net.Ports) (text.Lex q) x y same a b = same_told (text.Net s net.Ports) (text.Lex q) x y same a b
 told_alike (text.Net s net.Ports) (text.Syntax q) x y same a b = same_told (text.Net s net.Ports) (text.Syntax q) x y same a b
 told_alike (text.Net s net.Ports) (text.NotInSubset q) x y same a b = same_told (text.Net s net.Ports) (text.NotInSubset q) x y same a b
 told_alike (text.Net s net.Ports) (text.Limit q) x y same a b = same_told (text.Net s net.Ports) (text.Limit q) x y same a b
 told_alike (text.Net s net.Ports) (text.Net t n) x y same a b = same_told (text.Net s net.Ports) (text.Net t n) x y same a b
-told_alike (text.Net s net.Ports) text.Memory x y same a b = nothing_told y b
+told_alike (text.Net s net.Ports) text.OutOfMemory x y same a b = nothing_told y b
 told_alike (text.Net s (net.Unknown j)) (text.Lex q) x y same a b = same_told (text.Net s (net.Unknown j)) (text.Lex q) x y same a b
 told_alike (text.Net s (net.Unknown j)) (text.Syntax q) x y same a b = same_told (text.Net s (net.Unknown j)) (text.Syntax q) x y same a b
 told_alike (text.Net s (net.Unknown j)) (text.NotInSubset q) x y same a b = same_told (text.Net s (net.Unknown j)) (text.NotInSubset q) x y same a b
 told_alike (text.Net s (net.Unknown j)) (text.Limit q) x y same a b = same_told (text.Net s (net.Unknown j)) (text.Limit q) x y same a b
 told_alike (text.Net s (net.Unknown j)) (text.Net t n) x y same a b = same_told (text.Net s (net.Unknown j)) (text.Net t n) x y same a b
-told_alike (text.Net s (net.Unknown j)) text.Memory x y same a b = nothing_told y b
+told_alike (text.Net s (net.Unknown j)) text.OutOfMemory x y same a b = nothing_told y b
 told_alike (text.Net s (net.WrongSort j)) (text.Lex q) x y same a b = same_told (text.Net s (net.WrongSort j)) (text.Lex q) x y same a b
 told_alike (text.Net s (net.WrongSort j)) (text.Syntax q) x y same a b = same_told (text.Net s (net.WrongSort j)) (text.Syntax q) x y same a b
 told_alike (text.Net s (net.WrongSort j)) (text.NotInSubset q) x y same a b = same_told (text.Net s (net.WrongSort j)) (text.NotInSubset q) x y same a b
 told_alike (text.Net s (net.WrongSort j)) (text.Limit q) x y same a b = same_told (text.Net s (net.WrongSort j)) (text.Limit q) x y same a b
 told_alike (text.Net s (net.WrongSort j)) (text.Net t n) x y same a b = same_told (text.Net s (net.WrongSort j)) (text.Net t n) x y same a b
-told_alike (text.Net s (net.WrongSort j)) text.Memory x y same a b = nothing_told y b
+told_alike (text.Net s (net.WrongSort j)) text.OutOfMemory x y same a b = nothing_told y b
 told_alike (text.Net s (net.Divisor j)) (text.Lex q) x y same a b = same_told (text.Net s (net.Divisor j)) (text.Lex q) x y same a b
 told_alike (text.Net s (net.Divisor j)) (text.Syntax q) x y same a b = same_told (text.Net s (net.Divisor j)) (text.Syntax q) x y same a b
 told_alike (text.Net s (net.Divisor j)) (text.NotInSubset q) x y same a b = same_told (text.Net s (net.Divisor j)) (text.NotInSubset q) x y same a b
 told_alike (text.Net s (net.Divisor j)) (text.Limit q) x y same a b = same_told (text.Net s (net.Divisor j)) (text.Limit q) x y same a b
 told_alike (text.Net s (net.Divisor j)) (text.Net t n) x y same a b = same_told (text.Net s (net.Divisor j)) (text.Net t n) x y same a b
-told_alike (text.Net s (net.Divisor j)) text.Memory x y same a b = nothing_told y b
+told_alike (text.Net s (net.Divisor j)) text.OutOfMemory x y same a b = nothing_told y b
 told_alike (text.Net s (net.Width j)) (text.Lex q) x y same a b = same_told (text.Net s (net.Width j)) (text.Lex q) x y same a b
 told_alike (text.Net s (net.Width j)) (text.Syntax q) x y same a b = same_told (text.Net s (net.Width j)) (text.Syntax q) x y same a b
 told_alike (text.Net s (net.Width j)) (text.NotInSubset q) x y same a b = same_told (text.Net s (net.Width j)) (text.NotInSubset q) x y same a b
 told_alike (text.Net s (net.Width j)) (text.Limit q) x y same a b = same_told (text.Net s (net.Width j)) (text.Limit q) x y same a b
 told_alike (text.Net s (net.Width j)) (text.Net t n) x y same a b = same_told (text.Net s (net.Width j)) (text.Net t n) x y same a b
-told_alike (text.Net s (net.Width j)) text.Memory x y same a b = nothing_told y b
+told_alike (text.Net s (net.Width j)) text.OutOfMemory x y same a b = nothing_told y b
 told_alike (text.Net s (net.DrivenTwice j)) (text.Lex q) x y same a b = same_told (text.Net s (net.DrivenTwice j)) (text.Lex q) x y same a b
 told_alike (text.Net s (net.DrivenTwice j)) (text.Syntax q) x y same a b = same_told (text.Net s (net.DrivenTwice j)) (text.Syntax q) x y same a b
 told_alike (text.Net s (net.DrivenTwice j)) (text.NotInSubset q) x y same a b = same_told (text.Net s (net.DrivenTwice j)) (text.NotInSubset q) x y same a b
 told_alike (text.Net s (net.DrivenTwice j)) (text.Limit q) x y same a b = same_told (text.Net s (net.DrivenTwice j)) (text.Limit q) x y same a b
 told_alike (text.Net s (net.DrivenTwice j)) (text.Net t n) x y same a b = same_told (text.Net s (net.DrivenTwice j)) (text.Net t n) x y same a b
-told_alike (text.Net s (net.DrivenTwice j)) text.Memory x y same a b = nothing_told y b
+told_alike (text.Net s (net.DrivenTwice j)) text.OutOfMemory x y same a b = nothing_told y b
 told_alike (text.Net s (net.Undriven j)) (text.Lex q) x y same a b = same_told (text.Net s (net.Undriven j)) (text.Lex q) x y same a b
 told_alike (text.Net s (net.Undriven j)) (text.Syntax q) x y same a b = same_told (text.Net s (net.Undriven j)) (text.Syntax q) x y same a b
 told_alike (text.Net s (net.Undriven j)) (text.NotInSubset q) x y same a b = same_told (text.Net s (net.Undriven j)) (text.NotInSubset q) x y same a b
 told_alike (text.Net s (net.Undriven j)) (text.Limit q) x y same a b = same_told (text.Net s (net.Undriven j)) (text.Limit q) x y same a b
 told_alike (text.Net s (net.Undriven j)) (text.Net t n) x y same a b = same_told (text.Net s (net.Undriven j)) (text.Net t n) x y same a b
-told_alike (text.Net s (net.Undriven j)) text.Memory x y same a b = nothing_told y b
-told_alike (text.Net s net.Memory) (text.Lex q) x y same a b = same_told (text.Net s net.Memory) (text.Lex q) x y same a b
-told_alike (text.Net s net.Memory) (text.Syntax q) x y same a b = same_told (text.Net s net.Memory) (text.Syntax q) x y same a b
-told_alike (text.Net s net.Memory) (text.NotInSubset q) x y same a b = same_told (text.Net s net.Memory) (text.NotInSubset q) x y same a b
-told_alike (text.Net s net.Memory) (text.Limit q) x y same a b = same_told (text.Net s net.Memory) (text.Limit q) x y same a b
-told_alike (text.Net s net.Memory) (text.Net t n) x y same a b = same_told (text.Net s net.Memory) (text.Net t n) x y same a b
-told_alike (text.Net s net.Memory) text.Memory x y same a b = nothing_told y b
+told_alike (text.Net s (net.Undriven j)) text.OutOfMemory x y same a b = nothing_told y b
+told_alike (text.Net s net.OutOfMemory) (text.Lex q) x y same a b = same_told (text.Net s net.OutOfMemory) (text.Lex q) x y same a b
+told_alike (text.Net s net.OutOfMemory) (text.Syntax q) x y same a b = same_told (text.Net s net.OutOfMemory) (text.Syntax q) x y same a b
+told_alike (text.Net s net.OutOfMemory) (text.NotInSubset q) x y same a b = same_told (text.Net s net.OutOfMemory) (text.NotInSubset q) x y same a b
+told_alike (text.Net s net.OutOfMemory) (text.Limit q) x y same a b = same_told (text.Net s net.OutOfMemory) (text.Limit q) x y same a b
+told_alike (text.Net s net.OutOfMemory) (text.Net t n) x y same a b = same_told (text.Net s net.OutOfMemory) (text.Net t n) x y same a b
+told_alike (text.Net s net.OutOfMemory) text.OutOfMemory x y same a b = nothing_told y b
 told_alike (text.Net s (net.Cycle j)) (text.Lex q) x y same a b = same_told (text.Net s (net.Cycle j)) (text.Lex q) x y same a b
 told_alike (text.Net s (net.Cycle j)) (text.Syntax q) x y same a b = same_told (text.Net s (net.Cycle j)) (text.Syntax q) x y same a b
 told_alike (text.Net s (net.Cycle j)) (text.NotInSubset q) x y same a b = same_told (text.Net s (net.Cycle j)) (text.NotInSubset q) x y same a b
@@ -229,10 +229,10 @@ told_alike (text.Net s (net.Cycle j)) (text.Net t (net.Divisor k)) x y same a b 
 told_alike (text.Net s (net.Cycle j)) (text.Net t (net.Width k)) x y same a b = same_told (text.Net s (net.Cycle j)) (text.Net t (net.Width k)) x y same a b
 told_alike (text.Net s (net.Cycle j)) (text.Net t (net.DrivenTwice k)) x y same a b = same_told (text.Net s (net.Cycle j)) (text.Net t (net.DrivenTwice k)) x y same a b
 told_alike (text.Net s (net.Cycle j)) (text.Net t (net.Undriven k)) x y same a b = same_told (text.Net s (net.Cycle j)) (text.Net t (net.Undriven k)) x y same a b
-told_alike (text.Net s (net.Cycle j)) (text.Net t net.Memory) x y same a b = same_told (text.Net s (net.Cycle j)) (text.Net t net.Memory) x y same a b
+told_alike (text.Net s (net.Cycle j)) (text.Net t net.OutOfMemory) x y same a b = same_told (text.Net s (net.Cycle j)) (text.Net t net.OutOfMemory) x y same a b
 told_alike (text.Net s (net.Cycle j)) (text.Net t (net.Cycle k)) x y same a b = both_cycles s t x y (some_is _ _ a) (some_is _ _ b)
-told_alike (text.Net s (net.Cycle j)) text.Memory x y same a b = nothing_told y b
-told_alike text.Memory g x y same a b = nothing_told x a
+told_alike (text.Net s (net.Cycle j)) text.OutOfMemory x y same a b = nothing_told y b
+told_alike text.OutOfMemory g x y same a b = nothing_told x a
 
 -- what the laws say together
 module _ (one : OneModule) (agree : OneAgreed) (text_apart : ModuleApart) (tokens : OneTokens) (tree : OneTree) (rounds : OneRounds) (file_apart : RoundsApart) (one_file : OneBenchFault) (one_stop : OneStop) (shown_apart : ShownApart) where

@@ -54,8 +54,8 @@ never_long (text.Net s (net.Width k)) e = absurd (let f : ⊥ = cc in f)
 never_long (text.Net s (net.DrivenTwice k)) e = absurd (let f : ⊥ = cc in f)
 never_long (text.Net s (net.Undriven k)) e = absurd (let f : ⊥ = cc in f)
 never_long (text.Net s (net.Cycle k)) e = absurd (let f : ⊥ = cc in f)
-never_long (text.Net s net.Memory) e = absurd (let f : ⊥ = cc in f)
-never_long text.Memory e = absurd (let f : ⊥ = cc in f)
+never_long (text.Net s net.OutOfMemory) e = absurd (let f : ⊥ = cc in f)
+never_long text.OutOfMemory e = absurd (let f : ⊥ = cc in f)
 
 -- what is told of a text's fault is a fault of the text
 pub told_ending : (f : TextFault) (told : VerilogFault) → fault_told f ≡ Some told → (hold : Option ℕ) (t : List ℕ) → length t ≤ MAX_VERILOG_BYTES → IsFault t f → IsVerilogFault hold t told

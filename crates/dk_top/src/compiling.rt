@@ -19,7 +19,7 @@ use dk_endings::Ending;
 use dk_words::CompileWords;
 use std::alloc::Global;
 
-/// What a text within its limit is compiled to.
+// What a text within its limit is compiled to.
 pub fn compiled(alloc: Global, text: &[u8], options: Options) -> Result<Compiled, Ending>
     requires within { length text.now ≤ MAX_SOURCE_BYTES }
     requires age { options.age ≤ MAX_AGE }
@@ -36,7 +36,7 @@ pub fn compiled(alloc: Global, text: &[u8], options: Options) -> Result<Compiled
     }
 }
 
-/// Reads, judges and compiles the program.
+// Reads, judges and compiles the program.
 pub fn read_compiled<D: Desk>(
     alloc: Global,
     desk: &mut D,
@@ -62,7 +62,7 @@ pub fn read_compiled<D: Desk>(
     compiled(alloc, &text, options)
 }
 
-/// Reads, judges and compiles the program, and gives its Verilog text.
+// Reads, judges and compiles the program, and gives its Verilog text.
 fn verilog_of<D: Desk>(
     alloc: Global,
     desk: &mut D,

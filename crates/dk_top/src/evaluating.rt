@@ -9,15 +9,15 @@ ghost use Rattle.dk_top.specs.Reading.{AreRead, IsRead};
 use crate::files::write_file;
 use crate::reading::{Given, read_given};
 use crate::work::Work;
-use dk_base::Memory;
+use dk_base::OutOfMemory;
 use dk_desk::Desk;
 use dk_endings::Ending;
 use dk_words::FileNames;
 use program_images::write_outputs;
 use std::alloc::Global;
 
-/// The output file by the program's meaning.
-fn evaluated(alloc: Global, given: &Given) -> Result<Vec<u8>, Memory>
+// The output file by the program's meaning.
+fn evaluated(alloc: Global, given: &Given) -> Result<Vec<u8>, OutOfMemory>
     requires frames { AreRead given.now.ir given.now.rounds.items }
     ensures output { IfOk result (λ output. (source file : List ℕ) → IsRead eval_terms source file given.now.ir given.now.rounds.items → OfPair eval_terms source file (λ p rounds. output.items ≡ output_file p rounds)) }
 {

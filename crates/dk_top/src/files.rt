@@ -12,7 +12,7 @@ use dk_desk::{Desk, Failed, InSlot, OutSlot, Stage};
 use dk_endings::{Ending, ImageFault};
 use std::alloc::Global;
 
-/// Opens an input and reads it whole.
+// Opens an input and reads it whole.
 pub fn read_input<D: Desk>(
     alloc: Global,
     desk: &mut D,
@@ -33,7 +33,7 @@ pub fn read_input<D: Desk>(
     read_all(alloc, desk, slot, limit)
 }
 
-/// Opens an input and reads it to its end.
+// Opens an input and reads it to its end.
 fn read_to_end<D: Desk>(
     alloc: Global,
     desk: &mut D,
@@ -53,7 +53,7 @@ fn read_to_end<D: Desk>(
     read_upto(alloc, desk, slot, usize::MAX)
 }
 
-/// Begins the output and writes it whole.
+// Begins the output and writes it whole.
 pub fn write_file<D: Desk>(desk: &mut D, name: &str, bytes: &[u8]) -> Result<(), Failed>
     requires { (D.outside desk.old).file.stage ≡ Stage.Unasked }
     ensures whole { OnOk result (IfSome (D.outside desk.new).file.bytes (λ written. written ≡ bytes.now)) }
@@ -69,7 +69,7 @@ pub fn write_file<D: Desk>(desk: &mut D, name: &str, bytes: &[u8]) -> Result<(),
     write_all(desk, OutSlot::File, bytes)
 }
 
-/// Writes a text to Report.
+// Writes a text to Report.
 pub fn write_report<D: Desk>(desk: &mut D, text: &[u8]) -> Result<(), Failed>
     ensures whole { OnOk result (IsIfTold (D.outside desk.new).report (grown (D.outside desk.old).report text.now)) }
     ensures front { OnErr result (ReportsFront text.now (D.outside desk.old).report (D.outside desk.new).report) }
@@ -79,7 +79,7 @@ pub fn write_report<D: Desk>(desk: &mut D, text: &[u8]) -> Result<(), Failed>
     write_all(desk, OutSlot::Report, text)
 }
 
-/// The bytes of the file of images, which may have `most` bytes or any number.
+// The bytes of the file of images, which may have `most` bytes or any number.
 pub fn read_file<D: Desk>(
     alloc: Global,
     desk: &mut D,
@@ -104,6 +104,6 @@ pub fn read_file<D: Desk>(
         Ok(file) => Ok(file),
         Err(ReadAll::Failed) => Err(Ending::ReadFault),
         Err(ReadAll::TooLong) => Err(Ending::Image(ImageFault::TooLong)),
-        Err(ReadAll::Memory) => Err(Ending::Memory),
+        Err(ReadAll::OutOfMemory) => Err(Ending::Memory),
     }
 }

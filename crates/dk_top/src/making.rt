@@ -16,7 +16,7 @@ use crate::files::write_report;
 use crate::reading::read_frames;
 use crate::running::{clocked, read_again};
 use crate::work::Work;
-use dk_base::Memory;
+use dk_base::OutOfMemory;
 use dk_compile::{Compiled, Options, one_at_age};
 use dk_desk::Desk;
 use dk_endings::Ending;
@@ -28,7 +28,7 @@ use pgm_rounds::Round;
 use pointwise_ir::meaning_law;
 use std::alloc::Global;
 
-/// What `make` works on: what the program is compiled to, the module of its Verilog text, and the frames of the rounds.
+// What `make` works on: what the program is compiled to, the module of its Verilog text, and the frames of the rounds.
 #[derive(Drop)]
 struct Ready {
     compiled: Compiled,
@@ -36,7 +36,7 @@ struct Ready {
     rounds: Vec<Round>,
 }
 
-/// The program of a number, compiled, and the frames of its image.
+// The program of a number, compiled, and the frames of its image.
 fn made_ready(alloc: Global, n: u32) -> Result<Ready, Ending>
     ensures compiled { IfOk result (λ r. IsCompiledFrom (program_of n) 0 false r.compiled) }
     ensures again { IfOk result (λ r. r.«module» ≡ r.compiled.«module») }
@@ -73,8 +73,8 @@ fn made_ready(alloc: Global, n: u32) -> Result<Ready, Ending>
     }
 }
 
-/// The line of a number, whose outputs are in this file.
-fn line_of(alloc: Global, n: u32, compiled: &Compiled, file: &[u8]) -> Result<Vec<u8>, Memory>
+// The line of a number, whose outputs are in this file.
+fn line_of(alloc: Global, n: u32, compiled: &Compiled, file: &[u8]) -> Result<Vec<u8>, OutOfMemory>
     requires { (rounds : List (List OneImage)) × IsMade n compiled.now rounds file.now }
     ensures { IfOk result (λ line. IsMadeLine n line.items) }
 {
@@ -93,7 +93,7 @@ fn line_of(alloc: Global, n: u32, compiled: &Compiled, file: &[u8]) -> Result<Ve
     summary(alloc, n, figures)
 }
 
-/// The line of a number, whose program was clocked on its image.
+// The line of a number, whose program was clocked on its image.
 fn made_line<D: Desk>(alloc: Global, desk: &mut D, n: u32) -> Result<Vec<u8>, Ending>
     ensures only { D.outside desk.new ≡ record (D.outside desk.old) { notes = (D.outside desk.new).notes } }
     ensures line { IfOk result (λ line. IsMadeLine n line.items) }

@@ -26,7 +26,7 @@ use pointwise_ir::Ir;
 use program_images::read_program_rounds;
 use std::alloc::Global;
 
-/// The program's text.
+// The program's text.
 pub fn read_text<D: Desk>(alloc: Global, desk: &mut D, name: &str) -> Result<Vec<u8>, Ending>
     requires fresh { (D.outside desk.old).program.stage ≡ Stage.Unasked }
     requires before_create { (D.outside desk.old).file.stage ≡ Stage.Unasked }
@@ -42,11 +42,11 @@ pub fn read_text<D: Desk>(alloc: Global, desk: &mut D, name: &str) -> Result<Vec
         Ok(text) => Ok(text),
         Err(ReadAll::Failed) => Err(Ending::ReadFault),
         Err(ReadAll::TooLong) => Err(Ending::Source(SourceFault::TooLong)),
-        Err(ReadAll::Memory) => Err(Ending::Memory),
+        Err(ReadAll::OutOfMemory) => Err(Ending::Memory),
     }
 }
 
-/// How a call ends whose text, within its limit, has this fault.
+// How a call ends whose text, within its limit, has this fault.
 pub fn ending_of(fault: dk_compile::SourceFault) -> Ending
     ensures fault { (source : List ℕ) → length source ≤ MAX_SOURCE_BYTES → of.IsFault source fault → IsSourceEnding (IsSourceFault source) result }
     ensures fault_at { (source : List ℕ) (age : ℕ) → length source ≤ MAX_SOURCE_BYTES → at.IsFaultAt source age fault → IsSourceEnding (IsFaultAt source age) result }
@@ -68,11 +68,11 @@ pub fn ending_of(fault: dk_compile::SourceFault) -> Ending
         dk_compile::SourceFault::Latency { clocks } => {
             Ending::Source(SourceFault::Latency { clocks })
         }
-        dk_compile::SourceFault::Memory => Ending::Memory,
+        dk_compile::SourceFault::OutOfMemory => Ending::Memory,
     }
 }
 
-/// The form of the program that a text within its limit is accepted as at age 0.
+// The form of the program that a text within its limit is accepted as at age 0.
 fn read_form(alloc: Global, text: &[u8]) -> Result<Ir, Ending>
     requires within { length text.now ≤ MAX_SOURCE_BYTES }
     ensures accepted { IfOk result (λ ir. (p : Typing) × IsAcceptedAt text.now 0 p × IsForm p ir) }
@@ -89,7 +89,7 @@ fn read_form(alloc: Global, text: &[u8]) -> Result<Ir, Ending>
     }
 }
 
-/// The rounds of a file, for the programs of this form.
+// The rounds of a file, for the programs of this form.
 pub fn read_frames(alloc: Global, ir: &Ir, file: &[u8]) -> Result<Vec<Round>, Ending>
     ensures input { IfOk result (λ rounds. (most : Option ℕ) → IfSome most (λ n. length file.now ≤ n) → IsInputOf most ir.now file.now rounds.items) }
     ensures read { IfOk result (λ rounds. AreRead ir.now rounds.items) }
@@ -102,18 +102,18 @@ pub fn read_frames(alloc: Global, ir: &Ir, file: &[u8]) -> Result<Vec<Round>, En
     match read_program_rounds(alloc, ir, file) {
         Ok(rounds) => Ok(rounds),
         Err(FileError::Fault(fault)) => Err(Ending::Image(ImageFault::File(fault))),
-        Err(FileError::Memory) => Err(Ending::Memory),
+        Err(FileError::OutOfMemory) => Err(Ending::Memory),
     }
 }
 
-/// A program that is accepted: its text and its form.
+// A program that is accepted: its text and its form.
 #[derive(Drop)]
 struct Source {
     text: Vec<u8>,
     ir: Ir,
 }
 
-/// Reads and judges the program.
+// Reads and judges the program.
 fn read_source<D: Desk>(alloc: Global, desk: &mut D, name: &str) -> Result<Source, Ending>
     requires fresh { (D.outside desk.old).program.stage ≡ Stage.Unasked }
     requires before_create { (D.outside desk.old).file.stage ≡ Stage.Unasked }
@@ -136,7 +136,7 @@ fn read_source<D: Desk>(alloc: Global, desk: &mut D, name: &str) -> Result<Sourc
     }
 }
 
-/// Reads and judges the file of images, for the programs of this form. It may have `most` bytes, or any number.
+// Reads and judges the file of images, for the programs of this form. It may have `most` bytes, or any number.
 pub fn read_images<D: Desk>(
     alloc: Global,
     desk: &mut D,
@@ -161,7 +161,7 @@ pub fn read_images<D: Desk>(
     read_frames(alloc, ir, &file)
 }
 
-/// What a command works on: the program's text and form, and the frames of its rounds.
+// What a command works on: the program's text and form, and the frames of its rounds.
 #[derive(Drop)]
 pub struct Given {
     pub text: Vec<u8>,
@@ -169,7 +169,7 @@ pub struct Given {
     pub rounds: Vec<Round>,
 }
 
-/// Reads and judges the program, and then the file of images.
+// Reads and judges the program, and then the file of images.
 pub fn read_given<D: Desk>(
     alloc: Global,
     desk: &mut D,

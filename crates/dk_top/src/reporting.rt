@@ -29,7 +29,7 @@ use dk_words::{CheckWords, PlanWords};
 use source_names::source_names;
 use std::alloc::Global;
 
-/// How a call ends whose program has no report.
+// How a call ends whose program has no report.
 fn plan_ending(fault: PlanFault) -> Ending
     ensures fault { (source : List ℕ) (age : ℕ) (ir : Program) (s : Stencils) → HasFront source ir s → IsPlanFault (aged s age) fault → IsSourceEnding (IsFaultAt source age) result }
     ensures stops { Stops result }
@@ -38,11 +38,11 @@ fn plan_ending(fault: PlanFault) -> Ending
     match fault {
         PlanFault::Bits { least } => Ending::Source(SourceFault::Bits { least }),
         PlanFault::Latency { clocks } => Ending::Source(SourceFault::Latency { clocks }),
-        PlanFault::Memory => Ending::Memory,
+        PlanFault::OutOfMemory => Ending::Memory,
     }
 }
 
-/// The report of an accepted program.
+// The report of an accepted program.
 fn report_of(alloc: Global, front: &Front, age: u8) -> Result<Vec<u8>, Ending>
     requires age { age ≤ MAX_AGE }
     requires accepted { (source : List ℕ) × HasFront source front.now.ir front.now.stencils }
@@ -59,7 +59,7 @@ fn report_of(alloc: Global, front: &Front, age: u8) -> Result<Vec<u8>, Ending>
     }
 }
 
-/// The report of a text within its limit.
+// The report of a text within its limit.
 fn planned(alloc: Global, text: &[u8], age: u8) -> Result<Vec<u8>, Ending>
     requires within { length text.now ≤ MAX_SOURCE_BYTES }
     requires age { age ≤ MAX_AGE }
@@ -79,7 +79,7 @@ fn planned(alloc: Global, text: &[u8], age: u8) -> Result<Vec<u8>, Ending>
     }
 }
 
-/// Reads and judges the program at an age, and gives its report.
+// Reads and judges the program at an age, and gives its report.
 fn read_plan<D: Desk>(alloc: Global, desk: &mut D, name: &str, age: u8) -> Result<Vec<u8>, Ending>
     requires fresh { (D.outside desk.old).program.stage ≡ Stage.Unasked }
     requires before_create { (D.outside desk.old).file.stage ≡ Stage.Unasked }
@@ -115,7 +115,7 @@ impl Work for PlanWords<'_> {
     }
 }
 
-/// The program of a text within its limit, with its live reads.
+// The program of a text within its limit, with its live reads.
 fn accepted(alloc: Global, text: &[u8]) -> Result<Front, Ending>
     requires { length text.now ≤ MAX_SOURCE_BYTES }
     ensures accepted { IfOk result (λ front. HasFront text.now front.ir front.stencils) }
@@ -129,7 +129,7 @@ fn accepted(alloc: Global, text: &[u8]) -> Result<Front, Ending>
     }
 }
 
-/// Reads and judges the program.
+// Reads and judges the program.
 fn read_front<D: Desk>(alloc: Global, desk: &mut D, name: &str) -> Result<Front, Ending>
     requires fresh { (D.outside desk.old).program.stage ≡ Stage.Unasked }
     requires before_create { (D.outside desk.old).file.stage ≡ Stage.Unasked }
@@ -148,7 +148,7 @@ fn read_front<D: Desk>(alloc: Global, desk: &mut D, name: &str) -> Result<Front,
     accepted(alloc, &text)
 }
 
-/// What a report within its limit says, where it holds of an accepted program.
+// What a report within its limit says, where it holds of an accepted program.
 fn judged(alloc: Global, front: &Front, report: &[u8]) -> Result<Claim, Ending>
     requires within { length report.now ≤ MAX_REPORT_BYTES }
     requires accepted { (source : List ℕ) × HasFront source front.now.ir front.now.stencils }
@@ -160,11 +160,11 @@ fn judged(alloc: Global, front: &Front, report: &[u8]) -> Result<Claim, Ending>
     match judge_report(alloc, &front.ir, &front.stencils, report) {
         Ok(claim) => Ok(claim),
         Err(CheckFault::Line { number }) => Err(Ending::Rejected(ReportFault::Line { number })),
-        Err(CheckFault::Memory) => Err(Ending::Memory),
+        Err(CheckFault::OutOfMemory) => Err(Ending::Memory),
     }
 }
 
-/// The bytes of the report.
+// The bytes of the report.
 fn report_bytes<D: Desk>(alloc: Global, desk: &mut D, name: &str) -> Result<Vec<u8>, Ending>
     requires fresh { (D.outside desk.old).image.stage ≡ Stage.Unasked }
     requires before_create { (D.outside desk.old).file.stage ≡ Stage.Unasked }
@@ -180,11 +180,11 @@ fn report_bytes<D: Desk>(alloc: Global, desk: &mut D, name: &str) -> Result<Vec<
         Ok(report) => Ok(report),
         Err(ReadAll::Failed) => Err(Ending::ReadFault),
         Err(ReadAll::TooLong) => Err(Ending::Rejected(ReportFault::TooLong)),
-        Err(ReadAll::Memory) => Err(Ending::Memory),
+        Err(ReadAll::OutOfMemory) => Err(Ending::Memory),
     }
 }
 
-/// Reads and judges the report, for an accepted program.
+// Reads and judges the report, for an accepted program.
 fn read_report<D: Desk>(
     alloc: Global,
     desk: &mut D,
@@ -208,7 +208,7 @@ fn read_report<D: Desk>(
     judged(alloc, front, &report)
 }
 
-/// Reads and judges the program, and then the report.
+// Reads and judges the program, and then the report.
 fn read_claim<D: Desk>(
     alloc: Global,
     desk: &mut D,

@@ -24,7 +24,7 @@ use crate::reading::read_images;
 use crate::streaming::{is_one_port, run_streamed};
 use crate::work::Work;
 use cycle_sim::Fill;
-use dk_base::{FrameSize, Memory};
+use dk_base::{FrameSize, OutOfMemory};
 use dk_compile::{Compiled, Options, drive_shows, one_at_age, one_source};
 use dk_desk::{Desk, Stage};
 use dk_endings::Ending;
@@ -34,8 +34,8 @@ use pgm_rounds::Round;
 use std::alloc::{AllocError, Global};
 use test_bench::{BenchFault, Drive, run_bench};
 
-/// The module that the Verilog text of a program stands for.
-pub fn read_again(alloc: Global, compiled: &Compiled) -> Result<Module, Memory>
+// The module that the Verilog text of a program stands for.
+pub fn read_again(alloc: Global, compiled: &Compiled) -> Result<Module, OutOfMemory>
     requires { (source : List ℕ) × (age : ℕ) × IsCompiledFrom source age false compiled.now }
     ensures { IfOk result (λ m. m ≡ compiled.now.«module») }
 {
@@ -46,7 +46,7 @@ pub fn read_again(alloc: Global, compiled: &Compiled) -> Result<Module, Memory>
     }
 }
 
-/// How the module of a plan is driven with so many rounds of frames.
+// How the module of a plan is driven with so many rounds of frames.
 fn drive_of(size: FrameSize, latency: u64, rounds: usize) -> Drive
     requires latency { latency ≤ MAX_LATENCY }
     requires rounds { rounds ≤ MAX_FILE_IMAGES }
@@ -62,14 +62,14 @@ fn drive_of(size: FrameSize, latency: u64, rounds: usize) -> Drive
     }
 }
 
-/// The file of the pictures that the module of a program shows, clocked over all rounds.
+// The file of the pictures that the module of a program shows, clocked over all rounds.
 pub fn clocked<D: Desk>(
     alloc: Global,
     desk: &mut D,
     compiled: &Compiled,
     module: &Module,
     rounds: &[Round],
-) -> Result<Vec<u8>, Memory>
+) -> Result<Vec<u8>, OutOfMemory>
     requires compiled { (source : List ℕ) × (age : ℕ) × IsCompiledFrom source age false compiled.now }
     requires again { «module».now ≡ compiled.now.«module» }
     requires read { AreRead compiled.now.ir rounds.now }
@@ -86,18 +86,18 @@ pub fn clocked<D: Desk>(
     match run_bench(alloc, desk, module, drive, size, rounds) {
         Ok(file) => Ok(file),
         Err(BenchFault::Stopped(_)) => unreachable!(),
-        Err(BenchFault::Memory) => Err(AllocError),
+        Err(BenchFault::OutOfMemory) => Err(AllocError),
     }
 }
 
-/// The program, compiled, and the module that its Verilog text stands for.
+// The program, compiled, and the module that its Verilog text stands for.
 #[derive(Drop)]
 struct Machine {
     compiled: Compiled,
     module: Module,
 }
 
-/// Reads, judges and compiles the program, and reads its Verilog text again.
+// Reads, judges and compiles the program, and reads its Verilog text again.
 fn read_machine<D: Desk>(
     alloc: Global,
     desk: &mut D,
@@ -127,7 +127,7 @@ fn read_machine<D: Desk>(
     }
 }
 
-/// Reads and judges the file of images, and gives the file of the pictures that the module shows.
+// Reads and judges the file of images, and gives the file of the pictures that the module shows.
 fn ran<D: Desk>(
     alloc: Global,
     desk: &mut D,
@@ -159,7 +159,7 @@ fn ran<D: Desk>(
     }
 }
 
-/// Clocks the module of a program with several inputs or outputs on the rounds of the images, and then writes the pictures.
+// Clocks the module of a program with several inputs or outputs on the rounds of the images, and then writes the pictures.
 fn run_rounds<D: Desk>(
     alloc: Global,
     desk: &mut D,
@@ -187,7 +187,7 @@ fn run_rounds<D: Desk>(
     }
 }
 
-/// Compiles the program, and clocks its module on the images.
+// Compiles the program, and clocks its module on the images.
 fn run_program<D: Desk>(
     alloc: Global,
     desk: &mut D,

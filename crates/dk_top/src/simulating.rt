@@ -31,7 +31,7 @@ use test_bench::{BenchFault, BenchInput, Drive, dins_of, run_bench};
 use verilog_read::name_span;
 use verilog_text::TextFault;
 
-/// How a call ends whose text stands for no module.
+// How a call ends whose text stands for no module.
 fn ending_of(fault: TextFault) -> Ending
     ensures fault { (hold : Option ℕ) (text : List ℕ) → length text ≤ MAX_VERILOG_BYTES → IsFault text fault → IsModuleEnding hold text result }
     ensures stops { Stops result }
@@ -43,7 +43,7 @@ fn ending_of(fault: TextFault) -> Ending
     }
 }
 
-/// The name of a module that is to hold clocks and has no port `en`.
+// The name of a module that is to hold clocks and has no port `en`.
 fn lacking_enable(module: &Module, hold: Option<u32>, text: &[u8]) -> Option<Span>
     requires { StandsFor text.now «module».now }
     ensures lacks { IfSome result (LacksEnable hold text.now) }
@@ -61,7 +61,7 @@ fn lacking_enable(module: &Module, hold: Option<u32>, text: &[u8]) -> Option<Spa
     }
 }
 
-/// The module of a text within its limit, which has the port `en` where clocks are to be held.
+// The module of a text within its limit, which has the port `en` where clocks are to be held.
 fn module_of(alloc: Global, text: &[u8], hold: Option<u32>) -> Result<Module, Ending>
     requires { length text.now ≤ MAX_VERILOG_BYTES }
     ensures made { IfOk result (IsModuleOf hold text.now) }
@@ -82,7 +82,7 @@ fn module_of(alloc: Global, text: &[u8], hold: Option<u32>) -> Result<Module, En
     }
 }
 
-/// The bytes of the Verilog text.
+// The bytes of the Verilog text.
 fn read_text<D: Desk>(alloc: Global, desk: &mut D, name: &str) -> Result<Vec<u8>, Ending>
     requires fresh { (D.outside desk.old).program.stage ≡ Stage.Unasked }
     requires before_create { (D.outside desk.old).file.stage ≡ Stage.Unasked }
@@ -98,11 +98,11 @@ fn read_text<D: Desk>(alloc: Global, desk: &mut D, name: &str) -> Result<Vec<u8>
         Ok(text) => Ok(text),
         Err(ReadAll::Failed) => Err(Ending::ReadFault),
         Err(ReadAll::TooLong) => Err(Ending::Verilog(VerilogFault::TooLong)),
-        Err(ReadAll::Memory) => Err(Ending::Memory),
+        Err(ReadAll::OutOfMemory) => Err(Ending::Memory),
     }
 }
 
-/// Reads and judges the Verilog text.
+// Reads and judges the Verilog text.
 fn read_module<D: Desk>(
     alloc: Global,
     desk: &mut D,
@@ -125,7 +125,7 @@ fn read_module<D: Desk>(
     module_of(alloc, &text, hold)
 }
 
-/// The rounds of a file within its limit, for a module.
+// The rounds of a file within its limit, for a module.
 fn rounds_for(alloc: Global, module: &Module, file: &[u8]) -> Result<BenchInput, Ending>
     requires { length file.now ≤ MAX_PGM_BYTES }
     ensures input { IfOk result (λ input. IsInput «module».now file.now (size_of input.size) input.rounds.items) }
@@ -138,11 +138,11 @@ fn rounds_for(alloc: Global, module: &Module, file: &[u8]) -> Result<BenchInput,
     match test_bench::read_input(alloc, dins_of(module), file) {
         Ok(input) => Ok(input),
         Err(FileError::Fault(fault)) => Err(Ending::Image(ImageFault::File(fault))),
-        Err(FileError::Memory) => Err(Ending::Memory),
+        Err(FileError::OutOfMemory) => Err(Ending::Memory),
     }
 }
 
-/// Reads and judges the file of images, for a module.
+// Reads and judges the file of images, for a module.
 fn read_images<D: Desk>(
     alloc: Global,
     desk: &mut D,
@@ -167,14 +167,14 @@ fn read_images<D: Desk>(
     rounds_for(alloc, module, &file)
 }
 
-/// What `sim` and `trace` work on: a module, and the images that it is driven with.
+// What `sim` and `trace` work on: a module, and the images that it is driven with.
 #[derive(Drop)]
 pub struct SimInput {
     pub module: Module,
     pub input: BenchInput,
 }
 
-/// Reads and judges the Verilog text, and then the file of images.
+// Reads and judges the Verilog text, and then the file of images.
 pub fn read_all<D: Desk>(
     alloc: Global,
     desk: &mut D,
@@ -206,7 +206,7 @@ pub fn read_all<D: Desk>(
     }
 }
 
-/// What registers and arrays hold at power-up, by the command's word.
+// What registers and arrays hold at power-up, by the command's word.
 fn fill_of(power: PowerUp) -> Fill
     ensures { result ≡ fill_named power }
 {
@@ -216,7 +216,7 @@ fn fill_of(power: PowerUp) -> Fill
     }
 }
 
-/// How the words drive a module.
+// How the words drive a module.
 pub fn drive_for(clocks: u32, fill: PowerUp, hold: Option<u32>) -> Drive
     ensures is { result ≡ drive_of clocks fill hold }
     ensures few { result.clocks < 2 ^ 60 }
@@ -228,7 +228,7 @@ pub fn drive_for(clocks: u32, fill: PowerUp, hold: Option<u32>) -> Drive
     }
 }
 
-/// The file of the pictures that the module shows.
+// The file of the pictures that the module shows.
 fn pictures<D: Desk>(
     alloc: Global,
     desk: &mut D,
@@ -261,7 +261,7 @@ fn pictures<D: Desk>(
     ) {
         Ok(file) => Ok(file),
         Err(BenchFault::Stopped(stop)) => Err(Ending::Stopped(stop)),
-        Err(BenchFault::Memory) => Err(Ending::Memory),
+        Err(BenchFault::OutOfMemory) => Err(Ending::Memory),
     }
 }
 

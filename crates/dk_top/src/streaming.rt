@@ -29,7 +29,7 @@ use pointwise_ir::Ir;
 use row_stream::{Form, Room, StreamFault, stream, streams_most};
 use std::alloc::Global;
 
-/// Whether the program takes one image and gives one.
+// Whether the program takes one image and gives one.
 pub fn is_one_port(ir: &Ir) -> bool
     ensures yes { IsTrue result → (p : Typing) → IsForm p ir.now → IsOnePort p }
     ensures no { (p : Typing) → IsForm p ir.now → IsOnePort p → IsTrue result }
@@ -37,7 +37,7 @@ pub fn is_one_port(ir: &Ir) -> bool
     ir.inputs().len() == 1 && ir.outputs().len() == 1
 }
 
-/// The bits of the din of a module with no port `en` and one din.
+// The bits of the din of a module with no port `en` and one din.
 fn din_bits(module: &Module) -> u8
     requires { length «module».now.netlist.inputs ≡ 2 }
     ensures { result ≡ slice_index «module».now.netlist.inputs 1 }
@@ -45,7 +45,7 @@ fn din_bits(module: &Module) -> u8
     module.wiring().inputs[1].bits()
 }
 
-/// The bits of the dout of a module with one output.
+// The bits of the dout of a module with one output.
 fn dout_bits(module: &Module) -> u8
     requires { length «module».now.netlist.outputs ≡ 2 }
     ensures { result ≡ slice_index «module».now.netlist.outputs 1 }
@@ -53,7 +53,7 @@ fn dout_bits(module: &Module) -> u8
     module.wiring().outputs[1].bits()
 }
 
-/// The images that a module with a dout of so many bits writes.
+// The images that a module with a dout of so many bits writes.
 fn form_of(size: FrameSize, bits: u8) -> Form
     requires { bits ≤ MAX_PORT_WIDTH }
     ensures size { result.size ≡ size }
@@ -65,7 +65,7 @@ fn form_of(size: FrameSize, bits: u8) -> Form
     }
 }
 
-/// Opens the images and streams them.
+// Opens the images and streams them.
 fn stream_file<D: Desk>(
     desk: &mut D,
     sim: &mut Blocks,
@@ -100,7 +100,7 @@ fn stream_file<D: Desk>(
     }
 }
 
-/// Clocks the module of a program with one input and one output on the images, and writes each line as soon as it is whole. All its memory is taken before the images are opened.
+// Clocks the module of a program with one input and one output on the images, and writes each line as soon as it is whole. All its memory is taken before the images are opened.
 fn run_lines<D: Desk>(
     alloc: Global,
     desk: &mut D,
@@ -145,7 +145,7 @@ fn run_lines<D: Desk>(
     )
 }
 
-/// The same, in words of the program's text.
+// The same, in words of the program's text.
 pub fn run_streamed<D: Desk>(
     alloc: Global,
     desk: &mut D,

@@ -20,7 +20,7 @@ use std::alloc::Global;
 use test_bench::Drive;
 use trace_bench::{TraceEnd, Tracer, run_trace};
 
-/// Creates the file, and writes the trace of the run to it.
+// Creates the file, and writes the trace of the run to it.
 fn write_trace<D: Desk>(
     desk: &mut D,
     given: &SimInput,
@@ -65,7 +65,7 @@ fn write_trace<D: Desk>(
     }
 }
 
-/// The same, with the memory that it takes. All of it is taken before the file is created.
+// The same, with the memory that it takes. All of it is taken before the file is created.
 fn traced<D: Desk>(
     alloc: Global,
     desk: &mut D,

@@ -11,12 +11,12 @@ use dk_desk::{Desk, Stage};
 use dk_endings::Ending;
 use std::alloc::Global;
 
-/// A command with its words. What it does is said here once for all commands.
+// A command with its words. What it does is said here once for all commands.
 pub trait Work {
-    /// The command, with its words.
+    // The command, with its words.
     ghost command: { Self → Command };
 
-    /// Does what the words say, but for the line to Fault.
+    // Does what the words say, but for the line to Fault.
     fn perform<D: Desk>(&self, alloc: Global, desk: &mut D) -> Ending
         requires ranges { IsInRange (command self.now) }
         requires fresh { IsFresh (D.outside desk.old) }

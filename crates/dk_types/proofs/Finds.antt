@@ -8,7 +8,7 @@ use Rattle.dk_parser.specs.Programs.{Source, definitions_as as sources_as}
 use Rattle.dk_parser.specs.Programs as P
 use Rattle.dk_types.specs.declared.fault.TypeFault.{TypeFault}
 use Rattle.dk_types.specs.declared.fault.TypeError.{TypeError}
-use Rattle.dk_types.specs.declared.fault.TypeError.TheVariants.{Fault, Memory}
+use Rattle.dk_types.specs.declared.fault.TypeError.TheVariants.{Fault, OutOfMemory}
 use Rattle.dk_types.specs.declared.typed.TypedInput.{TypedInput}
 use Rattle.dk_types.specs.Typed.{Definition, Typing}
 use Rattle.dk_types.specs.Scopes.{Scope, inputs_scope, scope_of}
@@ -25,14 +25,14 @@ module _ (p : Source) (x : TypeError) (w : IsSide p.width.value) (h : IsSide p.h
     where
       by : (y : TypeError) → Stops (FaultyInputs p.inputs) y → Stops (IsFirstFault p) y
       by (Fault f) g = F.input w h g
-      by Memory g = tt
+      by OutOfMemory g = tt
 
   pub stops_definitions : (is : List TypedInput) (ds : List P.Definition) → AreInputs p.inputs is → ds ≡ p.definitions → Stops (FaultyDefinitions is ds) x → Stops (IsFirstFault p) x
   stops_definitions is ds i e s = let R : List P.Definition → Type 0 = λ l. Stops (FaultyDefinitions is l) x in by x (subst R e s)
     where
       by : (y : TypeError) → Stops (FaultyDefinitions is p.definitions) y → Stops (IsFirstFault p) y
       by (Fault f) g = F.definition w h i g
-      by Memory g = tt
+      by OutOfMemory g = tt
 
   pub stops_outputs : (is : List TypedInput) (ds : List Definition) (scope : Scope) (ns : List Name) → AreInputs p.inputs is → AreDefinitions is p.definitions ds
       → scope ≡ scope_of is ds → ns ≡ p.outputs → Stops (FaultyOutputs scope ns) x → Stops (IsFirstFault p) x
@@ -43,7 +43,7 @@ module _ (p : Source) (x : TypeError) (w : IsSide p.width.value) (h : IsSide p.h
     where
       by : (y : TypeError) → Stops (FaultyOutputs (scope_of is ds) p.outputs) y → Stops (IsFirstFault p) y
       by (Fault f) g = F.output w h i d g
-      by Memory g = tt
+      by OutOfMemory g = tt
 
 pub scope_few : (scope : Scope) (xs : List Input) (ts : List TypedInput) → AreInputs xs ts → scope ≡ inputs_scope ts → length scope ≤ 8
 scope_few scope xs ts h e =
@@ -56,16 +56,16 @@ same_size s a b w h e f g = e ∙ (ap (λ n. record { width = n; height = b }) f
 
 -- what is so is answered
 pub accepted : {T : Type 0} (view : T → Typing) (p : Source) (r : Result T TypeError) → MatchResult r (λ t. IsTyping p (view t)) (λ stop. Stops (IsFirstFault p) stop)
-    → (t : Typing) → IsTyping p t → MatchResult r (λ found. view found ≡ t) (λ stop. stop ≡ Memory)
+    → (t : Typing) → IsTyping p t → MatchResult r (λ found. view found ≡ t) (λ stop. stop ≡ OutOfMemory)
 accepted view p (Ok found) h t k = one_type p (view found) t h k
 accepted view p (Err (Fault f)) h t k = absurd (never_both p t f k h)
-accepted view p (Err Memory) h t k = refl
+accepted view p (Err OutOfMemory) h t k = refl
 
 pub refuses : {T : Type 0} (view : T → Typing) (p : Source) (r : Result T TypeError) → MatchResult r (λ t. IsTyping p (view t)) (λ stop. Stops (IsFirstFault p) stop)
-    → (f : TypeFault) → IsFirstFault p f → IsErrAnd r (λ stop. (stop ≡ Fault f) ⊎ (stop ≡ Memory))
+    → (f : TypeFault) → IsFirstFault p f → IsErrAnd r (λ stop. (stop ≡ Fault f) ⊎ (stop ≡ OutOfMemory))
 refuses view p (Ok found) h f k = absurd (never_both p (view found) f h k)
 refuses view p (Err (Fault g)) h f k = inl (ap Fault (one_fault p g f h k))
-refuses view p (Err Memory) h f k = inr refl
+refuses view p (Err OutOfMemory) h f k = inr refl
 
 pub typed_so : {T : Type 0} (view : T → Typing) (p : Source) (r : Result T TypeError) → MatchResult r (λ t. IsTyping p (view t)) (λ stop. Stops (IsFirstFault p) stop)
     → MatchResult r (λ t. IsTyping p (view t)) (λ _. Unit {0})

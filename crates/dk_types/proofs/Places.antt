@@ -11,7 +11,7 @@ use Rattle.dk_parser.specs.Programs.{definition_of as source_of, definitions_as 
 use Rattle.dk_parser.specs.Programs as P
 use Rattle.dk_types.specs.declared.fault.TypeFault.{TypeFault}
 use Rattle.dk_types.specs.declared.fault.TypeError.{TypeError}
-use Rattle.dk_types.specs.declared.fault.TypeError.TheVariants.{Fault, Memory}
+use Rattle.dk_types.specs.declared.fault.TypeError.TheVariants.{Fault, OutOfMemory}
 use Rattle.dk_types.specs.declared.fault.TypeFaultKind.TheVariants.{InputType, TooManyInputs, TooManyOutputs, TooManyImages, DuplicateName, UnknownImage, NotConvertible, OutputType}
 use Rattle.dk_types.specs.declared.typed.TypedInput.{TypedInput}
 use Rattle.dk_types.specs.declared.typed.TypedDefinition.{TypedDefinition}
@@ -26,7 +26,7 @@ pub refused : (b : Bool) (A : Type 0) → (IsTrue b ↔ A) → b ≡ false → A
 refused true A f e h = absurd (let g : ⊥ = cc in g)
 refused false A f e h = absurd (let q : false ≡ true = f.1 h in let g : ⊥ = cc in g)
 
-pub told_memory : (P : TypeFault → Type 0) (x : TypeError) → x ≡ Memory → Stops P x
+pub told_memory : (P : TypeFault → Type 0) (x : TypeError) → x ≡ OutOfMemory → Stops P x
 told_memory P x e = let R : TypeError → Type 0 = λ y. Stops P y in subst R (sym e) tt
 
 -- inputs
@@ -83,7 +83,7 @@ module _ (scope : Scope) (inputs : List TypedInput) (ds : List P.Definition) (do
     where
       by : (y : TypeError) → Stops (Faulty (scope_of inputs done) d.body) y → Stops (DefinitionFault inputs ds done d) y
       by (Fault f) g = DefinitionFault.in_body (omega arith) (is_new name ne u) g
-      by Memory g = tt
+      by OutOfMemory g = tt
 
   pub told_not_taken : (s : Span) → x ≡ Fault (at s NotConvertible) → s ≡ span_of d.body → n < 256 → (name : List ℕ) → name ≡ d.name.text → IsUnknown scope name
       → (b : Typed) (t : Ty) → HasType scope d.body b → type_of b ≡ t → (u : Option Ty) → u ≡ declared_type d.declared → ¬ Takes u t → Stops (DefinitionFault inputs ds done d) x

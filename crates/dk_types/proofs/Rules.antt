@@ -26,7 +26,7 @@ use Rattle.dk_parser.specs.Tree.{Tree, span_of, tree_of}
 use Rattle.dk_parser.specs.Tree as T
 use Rattle.dk_types.specs.declared.fault.TypeFault.{TypeFault}
 use Rattle.dk_types.specs.declared.fault.TypeError.{TypeError}
-use Rattle.dk_types.specs.declared.fault.TypeError.TheVariants.{Fault, Memory}
+use Rattle.dk_types.specs.declared.fault.TypeError.TheVariants.{Fault, OutOfMemory}
 use Rattle.dk_types.specs.declared.fault.TypeFaultKind.TheVariants.{UnknownImage, OffsetRange, WidthTooGreat, NotOneBit, SignedBits, ZeroDivisor, ShiftRange}
 use Rattle.dk_types.specs.declared.typed.TypedExpr.{TypedExpr}
 use Rattle.dk_types.specs.declared.typed.TypedNode.{TypedNode}
@@ -294,7 +294,7 @@ stored v x h = ap (λ z. to_z w32 (of_z w32 z)) h.0 ∙ to_z-of_z w32 (offset_of
 -- what stops an operand stops the whole
 lifted : (P Q : TypeFault → Type 0) → ((f : TypeFault) → P f → Q f) → (x : TypeError) → Stops P x → Stops Q x
 lifted P Q g (Fault f) h = g f h
-lifted P Q g Memory h = tt
+lifted P Q g OutOfMemory h = tt
 
 module _ (scope : Scope) (s : Span) (x : TypeError) where
   pub stops_unary : (o : UnaryOperator) (l : Expr) (a : Tree) → tree_of l ≡ a → Stops (Faulty scope (tree_of l)) x → Stops (Faulty scope (T.unary s o a)) x

@@ -63,4 +63,4 @@ module _ {I O : Type 0} (Rule : List I → List O → I → O → Type 0) where
   fails_at Fault before after whole x ys (Error.Fault f) w h r =
       let P : List I → Type 0 = λ l. First Rule Fault [] [] l f in
       subst P (sym w) (first_at Rule Fault h x after f r)
-  fails_at Fault before after whole x ys Error.Memory w h r = tt
+  fails_at Fault before after whole x ys Error.OutOfMemory w h r = tt

@@ -24,7 +24,7 @@ use Rattle.dk_types.specs.declared.fault.TypeFault.{TypeFault}
 use Rattle.dk_types.specs.declared.fault.TypeFaultKind.{TypeFaultKind}
 use Rattle.dk_types.specs.declared.fault.TypeFaultKind.TheVariants.{SizeRange, InputType, TooManyInputs, TooManyOutputs, TooManyImages, DuplicateName, UnknownImage, OffsetRange, WidthTooGreat, NotOneBit, SignedBits, ZeroDivisor, ShiftRange, NotConvertible, OutputType}
 use Rattle.dk_types.specs.declared.fault.TypeError.{TypeError}
-use Rattle.dk_types.specs.declared.fault.TypeError.TheVariants.{Fault, Memory}
+use Rattle.dk_types.specs.declared.fault.TypeError.TheVariants.{Fault, OutOfMemory}
 use Rattle.dk_types.specs.declared.typed.TypedInput.{TypedInput}
 use Rattle.dk_types.specs.Typed.{Typed, type_of, Definition}
 use Rattle.dk_types.specs.Scopes.{Scope, IsImage, IsUnknown, image_of, inputs_scope, scope_of, name_among}
@@ -143,4 +143,4 @@ pub data IsFirstFault (p : Source) : TypeFault → Type 0 where
 -- what is told is so, or memory is wanting
 abbrev pub Stops : (TypeFault → Type 0) → TypeError → Type 0
 Stops F (Fault f) = F f
-Stops F Memory = Unit {0}
+Stops F OutOfMemory = Unit {0}

@@ -19,7 +19,7 @@ use dk_parser::{
 };
 use std::alloc::Global;
 
-/// An offset as a number, or where it is too great.
+// An offset as a number, or where it is too great.
 fn offset(offset: Option<Offset>) -> Result<i32, Span>
     ensures near { IfOk result (λ v. (v ≡ offset_of offset) × (amount_of offset ≤ MAX_OFFSET)) }
     ensures far { IfErr result (λ s. IsFarAt offset s) }
@@ -172,7 +172,7 @@ fn select(
     Ok(TypedExpr { ty, node })
 }
 
-/// The typed form of an expression.
+// The typed form of an expression.
 pub(crate) fn expression(alloc: Global, scope: &Scope, e: &Expr) -> Result<TypedExpr, TypeError>
     ensures { Judged scope.now (tree_of e.now) result }
 {

@@ -1,7 +1,7 @@
 // Why a program has no types.
 
 ghost use Rattle.std.specs.Prelude.{◌≡◌};
-ghost use Rattle.dk_types.specs.declared.fault.TypeError.TheVariants.{Memory};
+ghost use Rattle.dk_types.specs.declared.fault.TypeError.TheVariants.{OutOfMemory};
 
 use dk_base::Span;
 use std::alloc::{AllocError, AllocFailed};
@@ -55,26 +55,26 @@ pub enum TypeError {
     #[error("{0}")]
     Fault(TypeFault),
     #[error("out of memory")]
-    Memory,
+    OutOfMemory,
 }
 
 impl From<AllocError> for TypeError {
-    ghost from_gives = { λ _ e. e ≡ Memory };
+    ghost from_gives = { λ _ e. e ≡ OutOfMemory };
 
     fn from(_e: AllocError) -> TypeError {
-        TypeError::Memory
+        TypeError::OutOfMemory
     }
 }
 
 impl<T: Drop> From<AllocFailed<T>> for TypeError {
-    ghost from_gives = { λ _ e. e ≡ Memory };
+    ghost from_gives = { λ _ e. e ≡ OutOfMemory };
 
     fn from(_e: AllocFailed<T>) -> TypeError {
-        TypeError::Memory
+        TypeError::OutOfMemory
     }
 }
 
-/// A fault of this kind.
+// A fault of this kind.
 pub(crate) fn fault(span: Span, kind: TypeFaultKind) -> TypeError
     ensures { result ≡ TypeError.Fault (record { span = span; kind = kind }) }
 {

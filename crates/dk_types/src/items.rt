@@ -22,7 +22,7 @@ use dk_base::{MAX_DEFINITIONS, MAX_INPUTS, MAX_OUTPUTS, MAX_PORT_WIDTH, MAX_SIDE
 use dk_parser::{Def, Input, Literal, Name, TypeWord};
 use std::alloc::{AllocError, Global};
 
-/// A side of the frame.
+// A side of the frame.
 pub(crate) fn side(number: Literal) -> Result<u32, TypeError>
     ensures { MatchResult result (λ n. IsSide number.value × (n ≡ number.value)) (λ stop. ¬ IsSide number.value × (stop ≡ TypeError.Fault (at number.span TypeFaultKind.SizeRange))) }
 {
@@ -33,7 +33,7 @@ pub(crate) fn side(number: Literal) -> Result<u32, TypeError>
     }
 }
 
-/// Whether an input or an output may have this type.
+// Whether an input or an output may have this type.
 fn is_port(ty: Ty) -> bool
     ensures { IsTrue result ↔ IsPort ty }
 {
@@ -43,7 +43,7 @@ fn is_port(ty: Ty) -> bool
     }
 }
 
-/// A name of one's own.
+// A name of one's own.
 fn owned(alloc: Global, name: &Name) -> Result<Name, AllocError>
     ensures { IfOk result (λ n. n ≡ name.now) }
 {
@@ -78,7 +78,7 @@ fn input<'a>(
     Ok(TypedInput { name, ty })
 }
 
-/// The inputs, whose names come into the scope.
+// The inputs, whose names come into the scope.
 pub(crate) fn inputs<'a>(
     alloc: Global,
     scope: &mut Scope<'a>,
@@ -104,7 +104,7 @@ fn declared_type(word: Option<TypeWord>) -> Option<Ty>
     }
 }
 
-/// The type of an image whose body has the type `body`. None where the declared type does not take it.
+// The type of an image whose body has the type `body`. None where the declared type does not take it.
 fn image_type(declared: Option<Ty>, body: Ty) -> Option<Ty>
     requires { IsType body }
     ensures taken { MatchOption result (¬ Takes declared body) (λ t. Takes declared body × (t ≡ declared_or declared body)) }
@@ -148,7 +148,7 @@ fn definition<'a>(
     })
 }
 
-/// The definitions, whose names come into the scope after those of the inputs.
+// The definitions, whose names come into the scope after those of the inputs.
 pub(crate) fn definitions<'a>(
     alloc: Global,
     scope: &mut Scope<'a>,
@@ -165,7 +165,7 @@ pub(crate) fn definitions<'a>(
     Ok(done)
 }
 
-/// The place of a name among these.
+// The place of a name among these.
 fn place(names: &[Name], name: &[u8]) -> Option<usize>
     ensures { result ≡ name_among names.now name.now }
 {
@@ -190,7 +190,7 @@ fn output(scope: &Scope, before: &[Name], item: &Name) -> Result<u32, TypeError>
     Ok(image)
 }
 
-/// The images that are outputs.
+// The images that are outputs.
 pub(crate) fn outputs(alloc: Global, scope: &Scope, items: &[Name]) -> Result<Vec<u32>, TypeError>
     ensures { MatchResult result (λ v. AreOutputs scope.now items.now v.items) (λ stop. Stops (FaultyOutputs scope.now items.now) stop) }
 {

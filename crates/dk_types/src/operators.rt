@@ -58,7 +58,7 @@ pub(crate) fn scaling(operator: ScaleOperator) -> Scaling
     }
 }
 
-/// The type of what an operator at `span` gives with an operand at `first`.
+// The type of what an operator at `span` gives with an operand at `first`.
 pub(crate) fn unary_type(
     span: Span,
     operator: UnaryOperator,
@@ -79,7 +79,7 @@ pub(crate) fn unary_type(
     }
 }
 
-/// Whether the operator works bit by bit, and so on unsigned operands only.
+// Whether the operator works bit by bit, and so on unsigned operands only.
 fn is_bitwise(operator: BinaryOperator) -> bool
     ensures { result ≡ works_bit_by_bit (binary_of operator) }
 {
@@ -89,7 +89,7 @@ fn is_bitwise(operator: BinaryOperator) -> bool
     }
 }
 
-/// The first operand that is signed where the operator works bit by bit.
+// The first operand that is signed where the operator works bit by bit.
 fn signed_operand(
     span: Span,
     operator: BinaryOperator,
@@ -112,7 +112,7 @@ fn signed_operand(
     None
 }
 
-/// The type of what an operator at `span` gives with operands at `first` and `second`.
+// The type of what an operator at `span` gives with operands at `first` and `second`.
 pub(crate) fn binary_type(
     span: Span,
     operator: BinaryOperator,
@@ -136,7 +136,7 @@ pub(crate) fn binary_type(
     }
 }
 
-/// The type of what a division or a shift at `span` gives.
+// The type of what a division or a shift at `span` gives.
 pub(crate) fn scale_type(
     span: Span,
     operator: ScaleOperator,
@@ -158,14 +158,14 @@ pub(crate) fn scale_type(
     }
 }
 
-/// Whether a type has 1 to 64 bits.
+// Whether a type has 1 to 64 bits.
 pub(crate) fn is_type(ty: Ty) -> bool
     ensures { IsTrue result ↔ IsType ty }
 {
     1 <= ty.width() && ty.width() <= MAX_WIDTH
 }
 
-/// The type that a conversion at `span` brings values into.
+// The type that a conversion at `span` brings values into.
 pub(crate) fn conversion_type(span: Span, to: TypeWord) -> Result<Ty, TypeError>
     ensures typed { IfOk result (λ t. t ≡ to.ty) }
     ensures is_type { IfOk result (λ t. IsType t) }
@@ -178,7 +178,7 @@ pub(crate) fn conversion_type(span: Span, to: TypeWord) -> Result<Ty, TypeError>
     }
 }
 
-/// The type of a choice at `span`, whose condition stands at `first`.
+// The type of a choice at `span`, whose condition stands at `first`.
 pub(crate) fn select_type(
     span: Span,
     first: Span,

@@ -6,7 +6,7 @@ use indexmap::IndexMap;
 use std::alloc::Global;
 use std::marker::Model;
 
-/// The images that may be read, by their names: inputs and earlier definitions, in the order of the text.
+// The images that may be read, by their names: inputs and earlier definitions, in the order of the text.
 #[derive(Drop)]
 pub(crate) struct Scope<'a> {
     images: IndexMap<&'a [u8], Ty>,
@@ -39,7 +39,7 @@ impl<'a> Scope<'a> {
         }
     }
 
-    /// The number and the type of the image with this name.
+    // The number and the type of the image with this name.
     pub(crate) fn find(&self, name: &[u8]) -> Option<(u32, Ty)>
         ensures { MatchOption result (IsUnknown self.now name.now) (λ x. IsFound self.now name.now x.0 x.1) }
     {
@@ -47,12 +47,12 @@ impl<'a> Scope<'a> {
         Some((index as u32, *ty))
     }
 
-    /// Adds the next image, which has a new name.
+    // Adds the next image, which has a new name.
     pub(crate) fn add(&mut self, name: &'a [u8], ty: Ty) -> Result<(), TypeError>
         requires new { IsUnknown self.old name.now }
         requires room { length self.old < MAX_KEPT_IMAGES }
         requires is_type { IsType ty }
-        ensures { MatchResult result (λ _. self.new ≡ self.old ++ (record { name = name.now; ty = ty }) ∷ []) (λ stop. stop ≡ TypeError.Memory) }
+        ensures { MatchResult result (λ _. self.new ≡ self.old ++ (record { name = name.now; ty = ty }) ∷ []) (λ stop. stop ≡ TypeError.OutOfMemory) }
     {
         self.images.insert(name, ty)?;
         Ok(())

@@ -28,8 +28,8 @@ pub fn check(alloc: Global, program: &Program) -> Result<TypedProgram, TypeError
     ensures fault { IfErr result (λ stop. Stops (IsFirstFault (source_of program.now)) stop) }
 
     // What is so is answered, but for want of memory.
-    ensures accepts { (t : Typing) → IsTyping (source_of program.now) t → MatchResult result (λ found. typing_of found ≡ t) (λ stop. stop ≡ TypeError.Memory) }
-    ensures refuses { (f : TypeFault) → IsFirstFault (source_of program.now) f → IsErrAnd result (λ stop. (stop ≡ TypeError.Fault f) ⊎ (stop ≡ TypeError.Memory)) }
+    ensures accepts { (t : Typing) → IsTyping (source_of program.now) t → MatchResult result (λ found. typing_of found ≡ t) (λ stop. stop ≡ TypeError.OutOfMemory) }
+    ensures refuses { (f : TypeFault) → IsFirstFault (source_of program.now) f → IsErrAnd result (λ stop. (stop ≡ TypeError.Fault f) ⊎ (stop ≡ TypeError.OutOfMemory)) }
 {
     judged(alloc, program)
 }

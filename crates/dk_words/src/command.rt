@@ -102,21 +102,21 @@ pub enum Asked<'a> {
     Make(MakeWords),
 }
 
-/// The value of this word.
+// The value of this word.
 fn given<'a>(matches: &ArgMatches<'a>, name: &str) -> Option<&'a str>
     ensures { option_map (λ s. s.now) result ≡ first_of name.now (rows_of (found_of matches.now)) }
 {
     matches.get_str(name)
 }
 
-/// The number of clocks.
+// The number of clocks.
 fn read_clocks(matches: &ArgMatches) -> Option<u32>
     ensures { result ≡ option_and_then command.clocks_of (first_of (codes "CLOCKS") (rows_of (found_of matches.now))) }
 {
     number_within(given(matches, "CLOCKS")?, 0, MAX_CLOCKS as u32)
 }
 
-/// What registers and arrays hold at power-up.
+// What registers and arrays hold at power-up.
 fn read_fill(matches: &ArgMatches) -> Option<PowerUp>
     ensures { result ≡ command.fill_of (first_of (codes "fill") (rows_of (found_of matches.now))) }
 {
@@ -128,7 +128,7 @@ fn read_fill(matches: &ArgMatches) -> Option<PowerUp>
     }
 }
 
-/// After how many clocks a held one is put in, if at all.
+// After how many clocks a held one is put in, if at all.
 fn read_hold(matches: &ArgMatches) -> Option<Option<u32>>
     ensures { result ≡ command.hold_of (first_of (codes "hold") (rows_of (found_of matches.now))) }
 {
@@ -138,7 +138,7 @@ fn read_hold(matches: &ArgMatches) -> Option<Option<u32>>
     }
 }
 
-/// The least age of each live read.
+// The least age of each live read.
 fn read_age(matches: &ArgMatches) -> Option<u8>
     ensures { result ≡ command.age_of (first_of (codes "age") (rows_of (found_of matches.now))) }
 {
@@ -148,7 +148,7 @@ fn read_age(matches: &ArgMatches) -> Option<u8>
     }
 }
 
-/// Whether the module has a clock enable.
+// Whether the module has a clock enable.
 fn read_enable(matches: &ArgMatches) -> bool
     ensures { result ≡ command.enable_of (first_of (codes "enable") (rows_of (found_of matches.now))) }
 {
@@ -158,14 +158,14 @@ fn read_enable(matches: &ArgMatches) -> bool
     }
 }
 
-/// Which program is made.
+// Which program is made.
 fn read_number(matches: &ArgMatches) -> Option<u32>
     ensures { result ≡ option_and_then command.made_number (first_of (codes "N") (rows_of (found_of matches.now))) }
 {
     number_within(given(matches, "N")?, 0, MAX_MADE)
 }
 
-/// The words of `run`, where each has a value.
+// The words of `run`, where each has a value.
 fn read_run<'a>(matches: &ArgMatches<'a>) -> Option<RunWords<'a>>
     ensures { option_map (λ r. command.run r.program.now r.image.now r.out.now r.age) result ≡ command.run_of_rows (rows_of (found_of matches.now)) }
 {
@@ -181,7 +181,7 @@ fn read_run<'a>(matches: &ArgMatches<'a>) -> Option<RunWords<'a>>
     })
 }
 
-/// The words of `eval`, where each has a value.
+// The words of `eval`, where each has a value.
 fn read_eval<'a>(matches: &ArgMatches<'a>) -> Option<FileNames<'a>>
     ensures { option_map (λ f. command.eval f.program.now f.image.now f.out.now) result ≡ command.eval_of_rows (rows_of (found_of matches.now)) }
 {
@@ -195,7 +195,7 @@ fn read_eval<'a>(matches: &ArgMatches<'a>) -> Option<FileNames<'a>>
     })
 }
 
-/// The words of `compile`, where each has a value.
+// The words of `compile`, where each has a value.
 fn read_compile<'a>(matches: &ArgMatches<'a>) -> Option<CompileWords<'a>>
     ensures { option_map (λ k. command.compile k.program.now k.out.now k.enable k.age) result ≡ command.compile_of_rows (rows_of (found_of matches.now)) }
 {
@@ -211,7 +211,7 @@ fn read_compile<'a>(matches: &ArgMatches<'a>) -> Option<CompileWords<'a>>
     })
 }
 
-/// The words of `sim`, where each has a value.
+// The words of `sim`, where each has a value.
 fn read_sim<'a>(matches: &ArgMatches<'a>) -> Option<SimWords<'a>>
     ensures { option_map (λ s. command.sim s.verilog.now s.clocks s.image.now s.out.now s.fill s.hold) result ≡ command.sim_of_rows (rows_of (found_of matches.now)) }
 {
@@ -225,7 +225,7 @@ fn read_sim<'a>(matches: &ArgMatches<'a>) -> Option<SimWords<'a>>
     })
 }
 
-/// The words of `trace`, where each has a value.
+// The words of `trace`, where each has a value.
 fn read_trace<'a>(matches: &ArgMatches<'a>) -> Option<TraceWords<'a>>
     ensures { option_map (λ t. command.trace t.verilog.now t.clocks t.image.now t.vcd.now) result ≡ command.trace_of_rows (rows_of (found_of matches.now)) }
 {
@@ -241,7 +241,7 @@ fn read_trace<'a>(matches: &ArgMatches<'a>) -> Option<TraceWords<'a>>
     })
 }
 
-/// The words of `plan`, where each has a value.
+// The words of `plan`, where each has a value.
 fn read_plan<'a>(matches: &ArgMatches<'a>) -> Option<PlanWords<'a>>
     ensures { option_map (λ p. command.plan p.program.now p.age) result ≡ command.plan_of_rows (rows_of (found_of matches.now)) }
 {
@@ -250,7 +250,7 @@ fn read_plan<'a>(matches: &ArgMatches<'a>) -> Option<PlanWords<'a>>
     Some(PlanWords { program, age })
 }
 
-/// The words of `check`, where each has a value.
+// The words of `check`, where each has a value.
 fn read_check<'a>(matches: &ArgMatches<'a>) -> Option<CheckWords<'a>>
     ensures { option_map (λ k. command.check k.program.now k.report.now) result ≡ command.check_of_rows (rows_of (found_of matches.now)) }
 {
@@ -259,7 +259,7 @@ fn read_check<'a>(matches: &ArgMatches<'a>) -> Option<CheckWords<'a>>
     Some(CheckWords { program, report })
 }
 
-/// The words of `make`, where each has a value.
+// The words of `make`, where each has a value.
 fn read_make(matches: &ArgMatches) -> Option<MakeWords>
     ensures { option_map (λ m. command.make m.number) result ≡ command.make_of_rows (rows_of (found_of matches.now)) }
 {
@@ -267,7 +267,7 @@ fn read_make(matches: &ArgMatches) -> Option<MakeWords>
     Some(MakeWords { number })
 }
 
-/// The command of the matches.
+// The command of the matches.
 pub fn read_matches<'a>(matches: &ArgMatches<'a>) -> Option<Asked<'a>>
     ensures { option_map command.command_asked result ≡ command.command_from (subcommand_rows_of matches.now) }
 {

@@ -10,7 +10,7 @@ use clap::error::ErrorKind;
 use clap::{Arg, ArgAction, ArgMatches, Command, Error};
 use std::alloc::{AllocError, Global};
 
-/// A word that must be given.
+// A word that must be given.
 fn word<'a>(alloc: Global, name: &'a str) -> Arg<'a>
     ensures rule { rule_of result ≡ words.positional name.entry.now }
     ensures local { result.global ≡ false }
@@ -18,7 +18,7 @@ fn word<'a>(alloc: Global, name: &'a str) -> Arg<'a>
     Arg::new(alloc, name).required(true)
 }
 
-/// An option, which takes a value.
+// An option, which takes a value.
 fn option<'a>(alloc: Global, name: &'a str) -> Arg<'a>
     ensures rule { rule_of result ≡ words.option name.entry.now }
     ensures local { result.global ≡ false }
@@ -26,7 +26,7 @@ fn option<'a>(alloc: Global, name: &'a str) -> Arg<'a>
     Arg::new(alloc, name).long(name)
 }
 
-/// An option without a value.
+// An option without a value.
 fn flag<'a>(alloc: Global, name: &'a str) -> Arg<'a>
     ensures rule { rule_of result ≡ words.flag name.entry.now }
     ensures local { result.global ≡ false }
@@ -34,7 +34,7 @@ fn flag<'a>(alloc: Global, name: &'a str) -> Arg<'a>
     Arg::new(alloc, name).long(name).action(ArgAction::SetTrue)
 }
 
-/// A command of this name with the words PROG, IN and OUT.
+// A command of this name with the words PROG, IN and OUT.
 fn file_command<'a>(alloc: Global, name: &'a str) -> Result<Command<'a>, AllocError>
     ensures shape { IfOk result (λ c. shape_of c ≡ words.file_command name.entry.now []) }
     ensures local { IfOk result (λ c. (fields_of c).has_globals ≡ false) }
@@ -46,7 +46,7 @@ fn file_command<'a>(alloc: Global, name: &'a str) -> Result<Command<'a>, AllocEr
     Ok(command)
 }
 
-/// `run [--age K] PROG IN OUT`.
+// `run [--age K] PROG IN OUT`.
 fn run_command<'a>(alloc: Global) -> Result<Command<'a>, AllocError>
     ensures shape { IfOk result (λ c. shape_of c ≡ words.run_command) }
     ensures local { IfOk result (λ c. (fields_of c).has_globals ≡ false) }
@@ -56,7 +56,7 @@ fn run_command<'a>(alloc: Global) -> Result<Command<'a>, AllocError>
     Ok(command)
 }
 
-/// `compile [--enable] [--age K] PROG OUT`.
+// `compile [--enable] [--age K] PROG OUT`.
 fn compile_command<'a>(alloc: Global) -> Result<Command<'a>, AllocError>
     ensures shape { IfOk result (λ c. shape_of c ≡ words.compile_command) }
     ensures local { IfOk result (λ c. (fields_of c).has_globals ≡ false) }
@@ -69,7 +69,7 @@ fn compile_command<'a>(alloc: Global) -> Result<Command<'a>, AllocError>
     Ok(command)
 }
 
-/// The words of `sim VERILOG CLOCKS IN OUT`.
+// The words of `sim VERILOG CLOCKS IN OUT`.
 fn sim_words<'a>(alloc: Global) -> Result<Command<'a>, AllocError>
     ensures shape { IfOk result (λ c. shape_of c ≡ words.sim_with []) }
     ensures local { IfOk result (λ c. (fields_of c).has_globals ≡ false) }
@@ -82,7 +82,7 @@ fn sim_words<'a>(alloc: Global) -> Result<Command<'a>, AllocError>
     Ok(command)
 }
 
-/// `sim VERILOG CLOCKS IN OUT [--fill FILL] [--hold K]`.
+// `sim VERILOG CLOCKS IN OUT [--fill FILL] [--hold K]`.
 fn sim_command<'a>(alloc: Global) -> Result<Command<'a>, AllocError>
     ensures shape { IfOk result (λ c. shape_of c ≡ words.sim_command) }
     ensures local { IfOk result (λ c. (fields_of c).has_globals ≡ false) }
@@ -93,7 +93,7 @@ fn sim_command<'a>(alloc: Global) -> Result<Command<'a>, AllocError>
     Ok(command)
 }
 
-/// `trace VERILOG CLOCKS IN VCD`.
+// `trace VERILOG CLOCKS IN VCD`.
 fn trace_command<'a>(alloc: Global) -> Result<Command<'a>, AllocError>
     ensures shape { IfOk result (λ c. shape_of c ≡ words.trace_command) }
     ensures local { IfOk result (λ c. (fields_of c).has_globals ≡ false) }
@@ -106,7 +106,7 @@ fn trace_command<'a>(alloc: Global) -> Result<Command<'a>, AllocError>
     Ok(command)
 }
 
-/// `plan [--age K] PROG`.
+// `plan [--age K] PROG`.
 fn plan_command<'a>(alloc: Global) -> Result<Command<'a>, AllocError>
     ensures shape { IfOk result (λ c. shape_of c ≡ words.plan_command) }
     ensures local { IfOk result (λ c. (fields_of c).has_globals ≡ false) }
@@ -117,7 +117,7 @@ fn plan_command<'a>(alloc: Global) -> Result<Command<'a>, AllocError>
     Ok(command)
 }
 
-/// `check PROG REPORT`.
+// `check PROG REPORT`.
 fn check_command<'a>(alloc: Global) -> Result<Command<'a>, AllocError>
     ensures shape { IfOk result (λ c. shape_of c ≡ words.check_command) }
     ensures local { IfOk result (λ c. (fields_of c).has_globals ≡ false) }
@@ -128,7 +128,7 @@ fn check_command<'a>(alloc: Global) -> Result<Command<'a>, AllocError>
     Ok(command)
 }
 
-/// `make N`.
+// `make N`.
 fn make_command<'a>(alloc: Global) -> Result<Command<'a>, AllocError>
     ensures shape { IfOk result (λ c. shape_of c ≡ words.make_command) }
     ensures local { IfOk result (λ c. (fields_of c).has_globals ≡ false) }
@@ -138,7 +138,7 @@ fn make_command<'a>(alloc: Global) -> Result<Command<'a>, AllocError>
     Ok(command)
 }
 
-/// The program, with the commands `run` and `eval`.
+// The program, with the commands `run` and `eval`.
 fn picture_commands<'a>(alloc: Global) -> Result<Command<'a>, AllocError>
     ensures { IfOk result (λ c. app_of c ≡ words.program_with words.picture_commands) }
 {
@@ -152,7 +152,7 @@ fn picture_commands<'a>(alloc: Global) -> Result<Command<'a>, AllocError>
     Ok(command)
 }
 
-/// The program, with `compile`, `sim` and `trace` too.
+// The program, with `compile`, `sim` and `trace` too.
 fn verilog_commands<'a>(alloc: Global) -> Result<Command<'a>, AllocError>
     ensures { IfOk result (λ c. app_of c ≡ words.program_with (words.picture_commands ++ words.verilog_commands)) }
 {
@@ -163,7 +163,7 @@ fn verilog_commands<'a>(alloc: Global) -> Result<Command<'a>, AllocError>
     Ok(command)
 }
 
-/// The program's commands.
+// The program's commands.
 fn program_command<'a>(alloc: Global) -> Result<Command<'a>, AllocError>
     ensures { IfOk result (λ c. app_of c ≡ words.program) }
 {

@@ -3,7 +3,7 @@
 
 mod counters;
 mod extents;
-mod frame_tests;
+mod frame_conditions;
 mod laws;
 mod paths;
 mod pixel;
@@ -11,7 +11,7 @@ mod step;
 
 pub use counters::position;
 pub use extents::{Extent, leading, passing};
-pub use frame_tests::{at, constant_test, inside, leads};
+pub use frame_conditions::{at, constant_test, inside, leads};
 pub use laws::{one_step, one_way, pixels_last, steps_end, steps_lead};
 pub use pixel::Pixel;
 pub use step::Step;

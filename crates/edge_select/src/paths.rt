@@ -13,7 +13,7 @@ use crate::step::Step;
 use dk_base::FrameSize;
 use frame_paths::{Interval, Moves, Path};
 
-/// The pixels that are in one of these columns and in one of these rows.
+// The pixels that are in one of these columns and in one of these rows.
 #[derive(Clone, Copy)]
 pub struct Rectangle {
     pub across: Interval,
@@ -84,7 +84,7 @@ fn led_on(path: Path, size: FrameSize) -> Rectangle
     Rectangle { across, down }
 }
 
-/// The pixels that the steps lead somewhere, or None where there is none.
+// The pixels that the steps lead somewhere, or None where there is none.
 pub fn leading_pixels(steps: &[Step], size: FrameSize) -> Option<Rectangle>
     ensures within { IfSome result (λ p. IsRectangle (size_of size) p) }
     ensures passes { (x y : ℕ) → x < size.width → y < size.height → PassesOn result x y ↔ LeadOn (size_of size) steps.now x y }
@@ -95,7 +95,7 @@ pub fn leading_pixels(steps: &[Step], size: FrameSize) -> Option<Rectangle>
     }
 }
 
-/// The pixels that the steps lead by exactly `dx` columns to the right and `dy` rows down, or None where there is none.
+// The pixels that the steps lead by exactly `dx` columns to the right and `dy` rows down, or None where there is none.
 pub fn passing_pixels(steps: &[Step], size: FrameSize, dx: i32, dy: i32) -> Option<Rectangle>
     ensures within { IfSome result (λ p. IsRectangle (size_of size) p) }
     ensures passes { (x y : ℕ) → x < size.width → y < size.height → PassesOn result x y ↔ LeadBy (size_of size) steps.now dx dy x y }

@@ -7,7 +7,7 @@ ghost use Rattle.raster_delay.specs.Delays.{IsSmall};
 ghost use Rattle.raster_delay.specs.Systems.{IsBalanced, constraints_in, coefficient_in, nodes};
 ghost use Rattle.flow_dual.specs.Tree.{AreSmall};
 
-use dk_base::Memory;
+use dk_base::OutOfMemory;
 use raster_delay::{Constraint, System};
 use std::alloc::Global;
 
@@ -92,7 +92,7 @@ fn inflows(
     constraints: &[Constraint],
     flow: &[u64],
     nodes: usize,
-) -> Result<Vec<u64>, Memory>
+) -> Result<Vec<u64>, OutOfMemory>
     requires flows { length flow.now ≡ length constraints.now }
     requires count { length constraints.now ≤ 2 ^ 14 }
     requires amounts { (i : ℕ) → slice_index flow.now i ≤ 2 ^ 32 }
@@ -112,7 +112,7 @@ fn outflows(
     constraints: &[Constraint],
     flow: &[u64],
     nodes: usize,
-) -> Result<Vec<u64>, Memory>
+) -> Result<Vec<u64>, OutOfMemory>
     requires flows { length flow.now ≡ length constraints.now }
     requires count { length constraints.now ≤ 2 ^ 14 }
     requires amounts { (i : ℕ) → slice_index flow.now i ≤ 2 ^ 32 }
@@ -144,7 +144,7 @@ fn are_balanced(system: &System, inflows: &[u64], outflows: &[u64]) -> bool
 }
 
 // Whether a flow is balanced.
-fn is_balanced(alloc: Global, system: &System, flow: &[u64]) -> Result<bool, Memory>
+fn is_balanced(alloc: Global, system: &System, flow: &[u64]) -> Result<bool, OutOfMemory>
     requires flows { length flow.now ≡ length (constraints_in system.now) }
     requires amounts { (i : ℕ) → slice_index flow.now i ≤ 2 ^ 32 }
     ensures { IfOk result (λ b. OnTrue b (IsBalanced system.now flow.now)) }
@@ -163,7 +163,7 @@ pub fn is_optimal(
     system: &System,
     numbers: &[u64],
     flow: &[u64],
-) -> Result<bool, Memory>
+) -> Result<bool, OutOfMemory>
     ensures numbers { IfOk result (λ b. OnTrue b (AreSmall numbers.now)) }
     ensures holds { IfOk result (λ b. OnTrue b (All (Holds numbers.now) (constraints_in system.now))) }
     ensures carries { IfOk result (λ b. OnTrue b (IsComplementary (constraints_in system.now) flow.now numbers.now)) }

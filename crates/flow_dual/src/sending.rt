@@ -10,7 +10,7 @@ ghost use Rattle.flow_dual.specs.Tree.{Moves, IsHold};
 use crate::pushing::push;
 use crate::shifting::{least_slack, raise};
 use crate::tree::reach;
-use dk_base::Memory;
+use dk_base::OutOfMemory;
 use raster_delay::{Constraint, System};
 use std::alloc::Global;
 
@@ -23,7 +23,7 @@ fn send(
     flow: &mut [u64],
     image: usize,
     width: u8,
-) -> Result<(), Memory>
+) -> Result<(), OutOfMemory>
     requires flows { length flow.old ≡ length constraints.now }
     requires sources { All (λ c. c.source < length numbers.old) constraints.now }
     requires targets { All (λ c. c.target < length numbers.old) constraints.now }
@@ -65,7 +65,7 @@ pub fn send_all(
     incident: &[Vec<usize>],
     numbers: &mut [u64],
     flow: &mut [u64],
-) -> Result<(), Memory>
+) -> Result<(), OutOfMemory>
     requires nodes { length numbers.old ≡ nodes system.now }
     requires flows { length flow.old ≡ length (constraints_in system.now) }
     requires empty { (i : ℕ) → slice_index flow.old i ≡ 0 }

@@ -7,7 +7,7 @@ ghost use Rattle.flow_dual.specs.Tree.{AreSmall, IsRooted};
 
 use crate::shifting::{least_slack, lower};
 use crate::tree::reach;
-use dk_base::Memory;
+use dk_base::OutOfMemory;
 use raster_delay::Constraint;
 use std::alloc::Global;
 
@@ -26,7 +26,7 @@ pub fn settle(
     incident: &[Vec<usize>],
     numbers: &mut [u64],
     flow: &[u64],
-) -> Result<(), Memory>
+) -> Result<(), OutOfMemory>
     requires flows { length flow.now ≡ length constraints.now }
     requires sources { All (λ c. c.source < length numbers.old) constraints.now }
     requires targets { All (λ c. c.target < length numbers.old) constraints.now }

@@ -3,7 +3,7 @@
 //
 // It is for speed and claims nothing: what it proposes is used only where `is_optimal` finds it so.
 
-use dk_base::{Image, Memory};
+use dk_base::{Image, OutOfMemory};
 use raster_delay::{Constraint, System};
 use std::alloc::Global;
 
@@ -274,7 +274,7 @@ fn tighten_below(
     branches: &Branches,
     waiting: &mut Vec<usize>,
     top: usize,
-) -> Result<(), Memory> {
+) -> Result<(), OutOfMemory> {
     waiting.clear();
     waiting.push(top)?;
     for _ in 0..links.len() {
@@ -340,7 +340,7 @@ fn improve(
     constraints: &[Constraint],
     basis: &mut Basis,
     branches: &mut Branches,
-) -> Result<(), Memory> {
+) -> Result<(), OutOfMemory> {
     let mut waiting = Vec::new(alloc);
     let mut from = 0;
     let mut low = 0;
@@ -362,7 +362,7 @@ fn first_links(
     alloc: Global,
     constraints: &[Constraint],
     nodes: usize,
-) -> Result<Vec<Link>, Memory> {
+) -> Result<Vec<Link>, OutOfMemory> {
     let root = Link {
         parent: 0,
         via: 0,
@@ -381,7 +381,7 @@ fn first_links(
 }
 
 // The first flow: each image's width from where its values begin to be held to where they end, on its constraint of kind hold.
-fn first_flow(alloc: Global, images: &[Image], count: usize) -> Result<Vec<u64>, Memory> {
+fn first_flow(alloc: Global, images: &[Image], count: usize) -> Result<Vec<u64>, OutOfMemory> {
     let mut flow = vec![in alloc; 0u64; count]?;
     for k in 0..images.len().min(count) {
         flow[k] = u64::from(images[k].width);
@@ -390,7 +390,7 @@ fn first_flow(alloc: Global, images: &[Image], count: usize) -> Result<Vec<u64>,
 }
 
 // The numbers, each at least 0.
-fn numbers_from(alloc: Global, numbers: &[i64]) -> Result<Vec<u64>, Memory> {
+fn numbers_from(alloc: Global, numbers: &[i64]) -> Result<Vec<u64>, OutOfMemory> {
     let mut all = Vec::new(alloc);
     for number in numbers {
         all.push(number.unsigned_abs())?;
@@ -399,7 +399,7 @@ fn numbers_from(alloc: Global, numbers: &[i64]) -> Result<Vec<u64>, Memory> {
 }
 
 /// Numbers of the nodes that keep the constraints, and a flow that shows them to be of least bits, as far as the simplex finds them. Nothing is promised: `is_optimal` says whether they are.
-pub fn propose(alloc: Global, system: &System) -> Result<Proposal, Memory> {
+pub fn propose(alloc: Global, system: &System) -> Result<Proposal, OutOfMemory> {
     let constraints = system.constraints();
     let nodes = system.nodes();
     let mut basis = Basis {

@@ -13,7 +13,7 @@ use crate::shifting::rebase;
 use crate::simplex::propose;
 use crate::solution::{Numbers, Solution};
 use crate::tree::incidence;
-use dk_base::Memory;
+use dk_base::OutOfMemory;
 use raster_delay::{System, begin_numbers, earliest_numbers, end_numbers};
 use std::alloc::Global;
 
@@ -25,7 +25,7 @@ fn find_flow(
     incident: &[Vec<usize>],
     numbers: &mut [u64],
     flow: &mut [u64],
-) -> Result<(), Memory>
+) -> Result<(), OutOfMemory>
     requires nodes { length numbers.old ≡ nodes system.now }
     requires flows { length flow.old ≡ length (constraints_in system.now) }
     requires empty { (i : ℕ) → slice_index flow.old i ≡ 0 }
@@ -53,7 +53,7 @@ fn balance(
     system: &System,
     numbers: &mut [u64],
     flow: &mut [u64],
-) -> Result<(), Memory>
+) -> Result<(), OutOfMemory>
     requires nodes { length numbers.old ≡ nodes system.now }
     requires flows { length flow.old ≡ length (constraints_in system.now) }
     requires empty { (i : ℕ) → slice_index flow.old i ≡ 0 }
@@ -70,7 +70,7 @@ fn balance(
 }
 
 // The delays among numbers of the nodes.
-fn delays_among(alloc: Global, system: &System, numbers: &[u64]) -> Result<Numbers, Memory>
+fn delays_among(alloc: Global, system: &System, numbers: &[u64]) -> Result<Numbers, OutOfMemory>
     requires { length numbers.now ≡ nodes system.now }
     ensures length { IfOk result (λ delays. length delays ≡ image_count system.now) }
     ensures numbers { IfOk result (λ delays. (k : ℕ) → k < image_count system.now → slice_index delays k ≡ slice_index numbers.now (begin_of system.now.stencils.inputs k)) }
@@ -80,7 +80,7 @@ fn delays_among(alloc: Global, system: &System, numbers: &[u64]) -> Result<Numbe
 }
 
 // The ends among numbers of the nodes.
-fn ends_among(alloc: Global, system: &System, numbers: &[u64]) -> Result<Numbers, Memory>
+fn ends_among(alloc: Global, system: &System, numbers: &[u64]) -> Result<Numbers, OutOfMemory>
     requires { length numbers.now ≡ nodes system.now }
     ensures length { IfOk result (λ ends. length ends ≡ image_count system.now) }
     ensures numbers { IfOk result (λ ends. (k : ℕ) → k < image_count system.now → slice_index ends k ≡ slice_index numbers.now (end_of system.now.stencils.inputs (image_count system.now) k)) }
@@ -95,7 +95,7 @@ fn answer(
     system: &System,
     numbers: &[u64],
     flow: Vec<u64>,
-) -> Result<Solution, Memory>
+) -> Result<Solution, OutOfMemory>
     requires { IsOptimum system.now numbers.now flow.items }
     ensures { IfOk result (λ x. IsSolution system.now x) }
 {
@@ -107,7 +107,7 @@ fn answer(
 }
 
 /// The least vector of least bits: of all causal delays that need the least bits, those that are least in every place. With them the ends, and a flow whose worth is these bits.
-pub fn solve(alloc: Global, system: &System) -> Result<Solution, Memory>
+pub fn solve(alloc: Global, system: &System) -> Result<Solution, OutOfMemory>
     ensures { IfOk result (λ x. IsSolution system.now x) }
 {
     let mut numbers = earliest_numbers(alloc, system)?;

@@ -4,7 +4,7 @@ ghost use Rattle.std.specs.Prelude.{◌≡◌, ◌<◌, ◌≤◌, ℕ, length, 
 ghost use Rattle.flow_dual.specs.Tree.{IsTree, HangsTight, IsClosed, IsClosedAt, IsState, IsSearch, CountsReached};
 
 use crate::shifting::slack;
-use dk_base::Memory;
+use dk_base::OutOfMemory;
 use raster_delay::Constraint;
 use std::alloc::Global;
 
@@ -152,7 +152,7 @@ pub fn incidence(
     alloc: Global,
     constraints: &[Constraint],
     nodes: usize,
-) -> Result<Vec<Vec<usize>>, Memory> {
+) -> Result<Vec<Vec<usize>>, OutOfMemory> {
     let mut incident = Vec::new(alloc);
     for _ in 0..nodes {
         incident.push(Vec::new(alloc))?;
@@ -183,7 +183,7 @@ pub fn reach(
     numbers: &[u64],
     flow: &[u64],
     root: usize,
-) -> Result<Tree, Memory>
+) -> Result<Tree, OutOfMemory>
     requires state { IsState constraints.now numbers.now flow.now }
     requires root { root < length numbers.now }
     ensures sizes { IfOk result (λ t. (length t.order.items ≡ length numbers.now) × (length t.parent.items ≡ length numbers.now)) }

@@ -4,7 +4,7 @@ use crate::table::first_row;
 use crate::verdict::{verdict, with_body};
 use std::test::Fail;
 
-/// Bodies of an image, from byte 34 on.
+// Bodies of an image, from byte 34 on.
 const BODIES: &str = "a(x,y)/3 as u8 => Syntax 43-45
 a(x,y)<1<2 => Syntax 42-43
 1<2|3<4 => Syntax 39-40
@@ -57,7 +57,7 @@ fn bodies(rt: HostRuntime) -> Result<(), Fail> {
     Ok(())
 }
 
-/// Whole texts. Some have two faults, of which the first in the order of the passes is told.
+// Whole texts. Some have two faults, of which the first in the order of the passes is told.
 const TEXTS: &str = " => Syntax 0-0
 @ => BadByte 0-1
 size 3 @ => BadByte 7-8

@@ -6,7 +6,7 @@ use pointwise_eval::{Frame, Samples, evaluate, frames_fit};
 use std::alloc::{AllocError, Global};
 use std::test::Fail;
 
-/// Programs over `size 3 1 input a:u8`, and their outputs' samples one after another where the input is 5 6 7.
+// Programs over `size 3 1 input a:u8`, and their outputs' samples one after another where the input is 5 6 7.
 const PICTURES: &str =
     "inline let g=im(x,y) a(x,y)+1 end let f=im(x,y) g(x+1,y) end output f => 7 8 0 
 inline let g=im(x,y) a(x+1,y) end let f=im(x,y) g(x+2,y) end output f => 0 0 0 
@@ -15,7 +15,7 @@ inline let g=im(x,y) a(x,y)+1 end let f=im(x,y) g(x+1,y) end output g output f =
 inline let g:s16=im(x,y) a(x,y) end let f=im(x,y) g(x-1,y) as u8 end output f output a => 0 5 6 5 6 7 
 ";
 
-/// The row of pixels 5 6 7 as a frame.
+// The row of pixels 5 6 7 as a frame.
 fn pixels(alloc: Global) -> Result<Frame, AllocError> {
     Ok(Frame {
         width: 3,
@@ -24,7 +24,7 @@ fn pixels(alloc: Global) -> Result<Frame, AllocError> {
     })
 }
 
-/// The outputs' samples of the text's program, where the one input is that row.
+// The outputs' samples of the text's program, where the one input is that row.
 fn picture(alloc: Global, source: &str) -> Result<String, Fail> {
     let mut text = String::new(alloc);
     let Ok(found) = front(alloc, source.as_bytes()) else {

@@ -7,7 +7,7 @@ use dk_inline::inline;
 use std::alloc::Global;
 use std::test::Fail;
 
-/// Bodies in three parts, of which the middle one stands so many times. A body that is too wide is not too deep. What stands in brackets has their span.
+// Bodies in three parts, of which the middle one stands so many times. A body that is too wide is not too deep. What stands in brackets has their span.
 const REPEATED: &str = "1|+1|511| => WidthTooGreat 34-163
 1|+1|512| => Depth 34-1059
 1|+1|200000| => Depth 34-1059
@@ -24,7 +24,7 @@ const REPEATED: &str = "1|+1|511| => WidthTooGreat 34-163
 |-(|129|1 => Nest 291-292
 ";
 
-/// The body of three parts and a count.
+// The body of three parts and a count.
 fn repeated(alloc: Global, tried: &str) -> Result<Option<String>, Fail> {
     let mut body = String::new(alloc);
     let Some((first, rest)) = tried.split_once('|') else {
@@ -83,7 +83,7 @@ fn many_definitions(rt: HostRuntime) -> Result<(), Fail> {
     Ok(())
 }
 
-/// What follows inline images of 9, 21, 45 and more nodes. At `$` stands a sum of 65,536 nodes: 49,150 of i14, and one more than a read of each further image.
+// What follows inline images of 9, 21, 45 and more nodes. At `$` stands a sum of 65,536 nodes: 49,150 of i14, and one more than a read of each further image.
 const NODES: &str = "let f=im(x,y) i15(x,y) as u8 end output f => Nodes 98303
 let f=im(x,y) $ end output a => 1 images, 0 reads
 let f=im(x,y) -($) end output a => Nodes 65537
@@ -95,7 +95,7 @@ inline let e=im(x,y) 1 end let f=im(x,y) $ end output e output a => Nodes 65537
 
 const SUM: &str = "i14(x,y)+i12(x,y)+i10(x,y)+i8(x,y)+i6(x,y)+i4(x,y)+i3(x,y)";
 
-/// A program with inline images i1 to i15, each twice the one before, and then this.
+// A program with inline images i1 to i15, each twice the one before, and then this.
 fn doubled(alloc: Global, rest: &str) -> Result<String, Fail> {
     let mut source = String::new(alloc);
     write!(

@@ -1,6 +1,6 @@
 // Tables in a text: a row a line, of what is tried and what it gives.
 
-/// The first row of a table, and the rows after it.
+// The first row of a table, and the rows after it.
 #[derive(Clone, Copy)]
 pub struct Row<'a> {
     pub tried: &'a str,
@@ -8,7 +8,7 @@ pub struct Row<'a> {
     pub rest: &'a str,
 }
 
-/// The first row. None where there is none.
+// The first row. None where there is none.
 pub fn first_row(table: &str) -> Option<Row<'_>> {
     let (line, rest) = table.split_once('\n')?;
     let (tried, gives) = line.split_once(" => ")?;

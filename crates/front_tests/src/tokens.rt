@@ -4,7 +4,7 @@ use dk_lexer::{TokenKind, lex};
 use std::alloc::Global;
 use std::test::Fail;
 
-/// One word a token: its span, and its sort or its number.
+// One word a token: its span, and its sort or its number.
 fn shown(alloc: Global, source: &[u8]) -> Result<String, Fail> {
     let mut text = String::new(alloc);
     let Ok(tokens) = lex(alloc, source) else {

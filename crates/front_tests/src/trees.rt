@@ -9,7 +9,7 @@ use dk_types::{TypedNode, TypedProgram, check};
 use std::alloc::Global;
 use std::test::Fail;
 
-/// Bodies and their forms. Each has the whole body as its span, of which the first byte is 34.
+// Bodies and their forms. Each has the whole body as its span, of which the first byte is 34.
 const FORMS: &str = "17 => number
 a(x,y) => read
 a(x-1,y+2) => read
@@ -35,7 +35,7 @@ select(1,2,3) => select
 1*(2+3) => binary
 ";
 
-/// The form of a tree.
+// The form of a tree.
 fn form(node: &Node) -> &'static str {
     match node {
         Node::Number(_) => "number",
@@ -49,7 +49,7 @@ fn form(node: &Node) -> &'static str {
     }
 }
 
-/// The form of a body and its span.
+// The form of a body and its span.
 fn shape(alloc: Global, body: &str) -> Result<Option<(&'static str, Span)>, Fail> {
     let source = with_body(alloc, body)?;
     let Ok(tokens) = lex(alloc, source.as_bytes()) else {
@@ -85,7 +85,7 @@ fn every_form(rt: HostRuntime) -> Result<(), Fail> {
     Ok(())
 }
 
-/// What the bodies of a program read.
+// What the bodies of a program read.
 fn reads(alloc: Global, program: &TypedProgram) -> Result<String, Fail> {
     let mut text = String::new(alloc);
     for definition in program.definitions() {

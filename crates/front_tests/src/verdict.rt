@@ -4,12 +4,12 @@ use dk_compile::{SourceFault, front};
 use std::alloc::Global;
 use std::test::Fail;
 
-/// What comes before a body in a text, 34 bytes, and what comes after it.
+// What comes before a body in a text, 34 bytes, and what comes after it.
 const BEFORE: &str = "size 1 1 input a:u8 let f=im(x,y) ";
 
 const AFTER: &str = " end output a";
 
-/// The first fault of a text, or how many kept images and live reads it has.
+// The first fault of a text, or how many kept images and live reads it has.
 pub fn verdict(alloc: Global, source: &str) -> Result<String, Fail> {
     match front(alloc, source.as_bytes()) {
         Ok(found) => {
@@ -23,7 +23,7 @@ pub fn verdict(alloc: Global, source: &str) -> Result<String, Fail> {
     }
 }
 
-/// A fault, with its span or its count.
+// A fault, with its span or its count.
 fn told(alloc: Global, fault: SourceFault) -> Result<String, Fail> {
     let mut text = String::new(alloc);
     let span = match fault {
@@ -60,7 +60,7 @@ fn told(alloc: Global, fault: SourceFault) -> Result<String, Fail> {
     Ok(text)
 }
 
-/// A text whose one definition has this body, which no output needs.
+// A text whose one definition has this body, which no output needs.
 pub fn with_body(alloc: Global, body: &str) -> Result<String, Fail> {
     let mut source = String::new(alloc);
     write!(source, "{BEFORE}{body}{AFTER}")?;

@@ -6,13 +6,13 @@ ghost use Rattle.std.specs.List.{range_with_len};
 ghost use Rattle.raster_delay.specs.Systems.{constraints_in};
 ghost use Rattle.latency_report.specs.Printed.{hold_maker, start_maker, read_maker, keep_maker, makers, carried};
 
-use dk_base::Memory;
+use dk_base::OutOfMemory;
 use raster_delay::{PlacedRead, System};
 use report_text::FlowLine;
 use std::alloc::Global;
 
 // The line, where it carries flow.
-fn push_line(lines: &mut Vec<FlowLine>, line: FlowLine, flow: u64) -> Result<(), Memory>
+fn push_line(lines: &mut Vec<FlowLine>, line: FlowLine, flow: u64) -> Result<(), OutOfMemory>
     ensures { OnOk result (lines.new.items ≡ lines.old.items ++ (if nat_eq flow 0 then [] else line ∷ [])) }
 {
     if flow == 0 {
@@ -23,7 +23,7 @@ fn push_line(lines: &mut Vec<FlowLine>, line: FlowLine, flow: u64) -> Result<(),
 }
 
 // The lines of kind hold.
-fn push_holds(lines: &mut Vec<FlowLine>, flow: &[u64]) -> Result<(), Memory>
+fn push_holds(lines: &mut Vec<FlowLine>, flow: &[u64]) -> Result<(), OutOfMemory>
     ensures { OnOk result (lines.new.items ≡ lines.old.items ++ carried (map hold_maker (range_with_len 0 (length flow.now))) flow.now) }
 {
     for image in 0..flow.len() {
@@ -38,7 +38,7 @@ fn push_holds(lines: &mut Vec<FlowLine>, flow: &[u64]) -> Result<(), Memory>
 }
 
 // The lines of kind start, of the images from this place on.
-fn push_starts(lines: &mut Vec<FlowLine>, first: usize, flow: &[u64]) -> Result<(), Memory>
+fn push_starts(lines: &mut Vec<FlowLine>, first: usize, flow: &[u64]) -> Result<(), OutOfMemory>
     requires { first + length flow.now ≤ MAX_KEPT_IMAGES }
     ensures { OnOk result (lines.new.items ≡ lines.old.items ++ carried (map start_maker (range_with_len first (length flow.now))) flow.now) }
 {
@@ -80,7 +80,11 @@ fn keep_line(read: PlacedRead, flow: u64) -> FlowLine
 }
 
 // The lines of kind read.
-fn push_reads(lines: &mut Vec<FlowLine>, reads: &[PlacedRead], flow: &[u64]) -> Result<(), Memory>
+fn push_reads(
+    lines: &mut Vec<FlowLine>,
+    reads: &[PlacedRead],
+    flow: &[u64],
+) -> Result<(), OutOfMemory>
     requires { length flow.now ≡ length reads.now }
     ensures { OnOk result (lines.new.items ≡ lines.old.items ++ carried (map read_maker reads.now) flow.now) }
 {
@@ -91,7 +95,11 @@ fn push_reads(lines: &mut Vec<FlowLine>, reads: &[PlacedRead], flow: &[u64]) -> 
 }
 
 // The lines of kind keep.
-fn push_keeps(lines: &mut Vec<FlowLine>, reads: &[PlacedRead], flow: &[u64]) -> Result<(), Memory>
+fn push_keeps(
+    lines: &mut Vec<FlowLine>,
+    reads: &[PlacedRead],
+    flow: &[u64],
+) -> Result<(), OutOfMemory>
     requires { length flow.now ≡ length reads.now }
     ensures { OnOk result (lines.new.items ≡ lines.old.items ++ carried (map keep_maker reads.now) flow.now) }
 {
@@ -101,8 +109,12 @@ fn push_keeps(lines: &mut Vec<FlowLine>, reads: &[PlacedRead], flow: &[u64]) -> 
     Ok(())
 }
 
-/// The lines of the flow.
-pub fn flow_lines(alloc: Global, system: &System, flow: &[u64]) -> Result<Vec<FlowLine>, Memory>
+// The lines of the flow.
+pub fn flow_lines(
+    alloc: Global,
+    system: &System,
+    flow: &[u64],
+) -> Result<Vec<FlowLine>, OutOfMemory>
     requires { length flow.now ≡ length (constraints_in system.now) }
     ensures { IfOk result (λ lines. lines.items ≡ carried (makers system.now) flow.now) }
 {

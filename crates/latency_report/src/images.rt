@@ -7,7 +7,7 @@ ghost use Rattle.pointwise_ir.specs.Programs.{names_of};
 ghost use Rattle.latency_report.specs.Printed.{name_of, image_lines, latencies};
 
 use buffer_plan::Plan;
-use dk_base::{Image, Memory, Text};
+use dk_base::{Image, OutOfMemory, Text};
 use flow_dual::Solution;
 use pointwise_ir::Ir;
 use raster_delay::System;
@@ -34,7 +34,7 @@ fn image_line(
     image: Image,
     delay: u64,
     depth: u64,
-) -> Result<ImageLine, Memory>
+) -> Result<ImageLine, OutOfMemory>
     requires { image.number < length (names_of ir.now) }
     ensures { IfOk result (λ line. line ≡ record { name = name_of ir.now image.number; width = image.width; delay = delay; depth = depth }) }
 {
@@ -48,13 +48,13 @@ fn image_line(
     })
 }
 
-/// The lines of the kept images in order.
+// The lines of the kept images in order.
 pub fn image_lines(
     alloc: Global,
     ir: &Ir,
     system: &System,
     solution: &Solution,
-) -> Result<Vec<ImageLine>, Memory>
+) -> Result<Vec<ImageLine>, OutOfMemory>
     requires solution { IsSolution system.now solution.now }
     requires images { All (λ (i : Kept). i.number < length (names_of ir.now)) system.now.stencils.images }
     ensures { IfOk result (λ lines. lines.items ≡ image_lines ir.now (record { system = system.now; delays = solution.now.delays })) }
@@ -70,8 +70,8 @@ pub fn image_lines(
     Ok(lines)
 }
 
-/// The delay of each output.
-pub fn latencies(alloc: Global, plan: &Plan, outputs: usize) -> Result<Vec<u64>, Memory>
+// The delay of each output.
+pub fn latencies(alloc: Global, plan: &Plan, outputs: usize) -> Result<Vec<u64>, OutOfMemory>
     requires { outputs ≡ length plan.now.system.stencils.outputs }
     ensures { IfOk result (λ delays. delays.items ≡ latencies plan.now) }
 {

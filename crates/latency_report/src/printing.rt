@@ -11,7 +11,7 @@ ghost use Rattle.latency_report.specs.Printed.{version_of, report_of};
 use crate::flow::flow_lines;
 use crate::images::{image_lines, latencies};
 use buffer_plan::Plan;
-use dk_base::{MAX_BUFFER_BITS, MAX_LATENCY, Memory};
+use dk_base::{MAX_BUFFER_BITS, MAX_LATENCY, OutOfMemory};
 use flow_dual::Solution;
 use pointwise_ir::Ir;
 use raster_delay::System;
@@ -36,7 +36,7 @@ fn report(
     plan: &Plan,
     system: &System,
     solution: &Solution,
-) -> Result<Report, Memory>
+) -> Result<Report, OutOfMemory>
     requires solution { IsSolution system.now solution.now }
     requires plan { plan.now ≡ record { system = system.now; delays = solution.now.delays } }
     requires images { All (λ (i : Image). i.number < length (names_of ir.now)) system.now.stencils.images }
@@ -70,7 +70,7 @@ pub fn print(
     plan: &Plan,
     system: &System,
     solution: &Solution,
-) -> Result<Vec<u8>, Memory>
+) -> Result<Vec<u8>, OutOfMemory>
     requires solution { IsSolution system.now solution.now }
     requires plan { plan.now ≡ record { system = system.now; delays = solution.now.delays } }
     requires images { All (λ (i : Image). i.number < length (names_of ir.now)) system.now.stencils.images }

@@ -13,12 +13,12 @@ ghost use Rattle.line_buffer.specs.Indices.{AreReadOnce};
 ghost use Rattle.line_buffer.specs.Chains.{IsSegment, IsStep};
 
 use crate::lines::delay_line;
-use dk_base::Memory;
+use dk_base::OutOfMemory;
 use net_build::Builder;
 use std::alloc::Global;
 use wiring::Net;
 
-/// A net, and how many clocks its pixel is behind the image's.
+// A net, and how many clocks its pixel is behind the image's.
 #[derive(Clone, Copy)]
 pub struct Tap {
     pub age: u64,
@@ -26,7 +26,7 @@ pub struct Tap {
 }
 
 // The net of a greater age, which comes out of a segment.
-fn segment(b: &mut Builder, width: u8, from: Tap, age: u64) -> Result<Net, Memory>
+fn segment(b: &mut Builder, width: u8, from: Tap, age: u64) -> Result<Net, OutOfMemory>
     requires bits { IsWidth width }
     requires beyond { from.age < age }
     requires most { age ≤ MAX_BUFFER_BITS }
@@ -43,7 +43,7 @@ fn segment(b: &mut Builder, width: u8, from: Tap, age: u64) -> Result<Net, Memor
 }
 
 // The net of an age that is no less.
-fn next_tap(b: &mut Builder, width: u8, from: Tap, age: u64) -> Result<Tap, Memory>
+fn next_tap(b: &mut Builder, width: u8, from: Tap, age: u64) -> Result<Tap, OutOfMemory>
     requires bits { IsWidth width }
     requires up { from.age ≤ age }
     requires most { age ≤ MAX_BUFFER_BITS }
@@ -68,7 +68,7 @@ pub fn chain(
     width: u8,
     ages: &[u64],
     value: Net,
-) -> Result<Vec<Net>, Memory>
+) -> Result<Vec<Net>, OutOfMemory>
     requires ascending { IsStrictlyIncreasing ages.now }
     requires most { All (λ age. age ≤ MAX_BUFFER_BITS) ages.now }
     requires bits { IsWidth width }

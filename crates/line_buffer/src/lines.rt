@@ -12,11 +12,11 @@ ghost use Rattle.line_buffer.specs.Buffers.{AddsBuffer, is_buffer};
 ghost use Rattle.line_buffer.specs.Indices.{AreReadOnce};
 ghost use Rattle.line_buffer.specs.Lines.{IsIndex, IsDelayLine};
 
-use dk_base::Memory;
+use dk_base::OutOfMemory;
 use net_build::{Builder, counter, unless_held};
 use wiring::{Atom, Net, Right};
 
-/// An array, its index, and the word that is read there before it is written.
+// An array, its index, and the word that is read there before it is written.
 #[derive(Clone, Copy)]
 pub struct DelayLine {
     pub array: usize,
@@ -25,7 +25,7 @@ pub struct DelayLine {
 }
 
 // An index that goes through so many words, a word in each counted clock, from the first on after a reset.
-fn turning_index(b: &mut Builder, words: u32) -> Result<Net, Memory>
+fn turning_index(b: &mut Builder, words: u32) -> Result<Net, OutOfMemory>
     requires { IsDepth words }
     ensures includes { Includes b.new b.old }
     ensures adds { OnOk result (AddsBuffer b.new b.old []) }
@@ -39,8 +39,13 @@ fn turning_index(b: &mut Builder, words: u32) -> Result<Net, Memory>
     Ok(index)
 }
 
-/// An array of so many words, at least one: `value`, of `width` bits, goes in at its index, and comes out there so many counted clocks later. The index is 0 in a reset clock and stands in a held one. Fails only where memory is wanting.
-pub fn delay_line(b: &mut Builder, width: u8, words: u32, value: Net) -> Result<DelayLine, Memory>
+// An array of so many words, at least one: `value`, of `width` bits, goes in at its index, and comes out there so many counted clocks later. The index is 0 in a reset clock and stands in a held one. Fails only where memory is wanting.
+pub fn delay_line(
+    b: &mut Builder,
+    width: u8,
+    words: u32,
+    value: Net,
+) -> Result<DelayLine, OutOfMemory>
     requires bits { IsWidth width }
     requires words { IsDepth words }
     requires value { IsNet b.old value }

@@ -17,13 +17,19 @@ ghost use Rattle.line_buffer.specs.Rings.{place_worth, IsRing, AddsTaps, IsRingT
 ghost use Rattle.line_buffer.specs.Buffers.{AddsBuffer, IsBuffer, IsDelay, AreMadeOfBuffer};
 
 use crate::lines::{DelayLine, delay_line};
-use dk_base::{Memory, bits_for};
+use dk_base::{OutOfMemory, bits_for};
 use net_build::{Builder, gate, number};
 use std::alloc::Global;
 use wiring::{Atom, Net, Operator, Right};
 
 // The index of the word that was written `age` clocks before the one at the index, in a ring of so many words.
-fn index_behind(b: &mut Builder, index: Net, bits: u8, words: u64, age: u64) -> Result<Net, Memory>
+fn index_behind(
+    b: &mut Builder,
+    index: Net,
+    bits: u8,
+    words: u64,
+    age: u64,
+) -> Result<Net, OutOfMemory>
     requires index { IsNet b.old index }
     requires width { net_width b.old index ≡ bits }
     requires bits { IsWidth bits }
@@ -60,7 +66,7 @@ fn word_behind(
     bits: u8,
     words: u64,
     age: u64,
-) -> Result<Net, Memory>
+) -> Result<Net, OutOfMemory>
     requires ring { IsRing b.old line value bits words }
     requires some { 0 < age }
     requires short { age < words }
@@ -80,7 +86,7 @@ fn ring_tap(
     bits: u8,
     words: u64,
     age: u64,
-) -> Result<Net, Memory>
+) -> Result<Net, OutOfMemory>
     requires ring { IsRing b.old line value bits words }
     requires deep { age ≤ words }
     ensures taps { AddsTaps b.new b.old line.array }
@@ -105,7 +111,7 @@ fn ring_taps(
     bits: u8,
     words: u64,
     ages: &[u64],
-) -> Result<Vec<Net>, Memory>
+) -> Result<Vec<Net>, OutOfMemory>
     requires ring { IsRing b.old line value bits words }
     requires deep { All (λ age. age ≤ words) ages.now }
     ensures taps { AddsTaps b.new b.old line.array }
@@ -134,7 +140,7 @@ fn greatest(ages: &[u64]) -> u64
 }
 
 // The image's own net for each age, where none is above 0.
-fn still_taps(alloc: Global, value: Net, ages: &[u64]) -> Result<Vec<Net>, Memory>
+fn still_taps(alloc: Global, value: Net, ages: &[u64]) -> Result<Vec<Net>, OutOfMemory>
     ensures one_each { IfOk result (λ taps. length taps.items ≡ length ages.now) }
     ensures same { IfOk result (λ taps. (k : ℕ) (tap : Net) → slice_get taps.items k ≡ Some tap → tap ≡ value) }
 {
@@ -153,7 +159,7 @@ fn ring_array(
     words: u32,
     ages: &[u64],
     value: Net,
-) -> Result<Vec<Net>, Memory>
+) -> Result<Vec<Net>, OutOfMemory>
     requires ascending { IsStrictlyIncreasing ages.now }
     requires words { IsDepth words }
     requires depth { words ≡ depth_of ages.now }
@@ -181,7 +187,7 @@ pub fn ring(
     width: u8,
     ages: &[u64],
     value: Net,
-) -> Result<Vec<Net>, Memory>
+) -> Result<Vec<Net>, OutOfMemory>
     requires ascending { IsStrictlyIncreasing ages.now }
     requires most { All (λ age. age ≤ MAX_BUFFER_BITS) ages.now }
     requires bits { IsWidth width }

@@ -6,18 +6,18 @@ ghost use Rattle.made_program.specs.Programs.{opening, is_inline, definition, de
 
 use crate::draws::{Draws, draw_image};
 use crate::pieces::{push_body, push_name, read};
-use dk_base::Memory;
+use dk_base::OutOfMemory;
 use std::alloc::Global;
 
-/// Image k, of `last` in all, is inline.
+// Image k, of `last` in all, is inline.
 fn tells_inline(k: u32, last: u32, draws: Draws) -> bool
     ensures { result ≡ is_inline k last draws }
 {
     draws.inlinable && k < last
 }
 
-/// Adds what a definition begins with.
-fn push_opening(to: &mut Vec<u8>, inline: bool) -> Result<(), Memory>
+// Adds what a definition begins with.
+fn push_opening(to: &mut Vec<u8>, inline: bool) -> Result<(), OutOfMemory>
     ensures { OnOk result (to.new.items ≡ to.old.items ++ opening inline) }
 {
     if inline {
@@ -27,14 +27,14 @@ fn push_opening(to: &mut Vec<u8>, inline: bool) -> Result<(), Memory>
     }
 }
 
-/// Adds the definition of image k, of `last` in all.
+// Adds the definition of image k, of `last` in all.
 fn push_definition(
     alloc: Global,
     to: &mut Vec<u8>,
     k: u32,
     last: u32,
     draws: Draws,
-) -> Result<(), Memory>
+) -> Result<(), OutOfMemory>
     requires { 0 < k }
     ensures { OnOk result (to.new.items ≡ to.old.items ++ definition k last draws) }
 {
@@ -48,13 +48,13 @@ fn push_definition(
     Ok(())
 }
 
-/// Adds the definitions of images 1 to `last`, and draws what belongs to them.
+// Adds the definitions of images 1 to `last`, and draws what belongs to them.
 pub(crate) fn push_definitions(
     alloc: Global,
     to: &mut Vec<u8>,
     last: u32,
     state: &mut u16,
-) -> Result<(), Memory>
+) -> Result<(), OutOfMemory>
     ensures items { OnOk result (to.new.items ≡ to.old.items ++ definitions last state.old) }
     ensures state { OnOk result (state.new ≡ after (7 * last) state.old) }
 {

@@ -3,46 +3,46 @@
 ghost use Rattle.std.specs.Prelude.{◌≡◌, ◌<◌};
 ghost use Rattle.made_program.specs.Draws.{next, drawn, after, made_even, form_of, offset_of, reads_of, is_inlinable, draws_of};
 
-/// What a definition makes of its two reads.
+// What a definition makes of its two reads.
 #[derive(Clone, Copy)]
 pub(crate) enum Form {
-    /// Half their sum.
+    // Half their sum.
     Mean,
-    /// The greater one.
+    // The greater one.
     Greater,
-    /// How far they lie apart.
+    // How far they lie apart.
     Difference,
-    /// The first one where it is less, else three parts of it and one of the second.
+    // The first one where it is less, else three parts of it and one of the second.
     Weighted,
 }
 
-/// An offset, each part drawn 2 above itself.
+// An offset, each part drawn 2 above itself.
 #[derive(Clone, Copy)]
 pub(crate) struct Offset {
     pub(crate) dx: u32,
     pub(crate) dy: u32,
 }
 
-/// The two reads of an image.
+// The two reads of an image.
 #[derive(Clone, Copy)]
 pub(crate) struct Reads {
-    /// The offset in the image before.
+    // The offset in the image before.
     pub(crate) first: Offset,
-    /// The image of the second read.
+    // The image of the second read.
     pub(crate) source: u32,
     pub(crate) second: Offset,
 }
 
-/// What is drawn for an image.
+// What is drawn for an image.
 #[derive(Clone, Copy)]
 pub(crate) struct Draws {
     pub(crate) form: Form,
     pub(crate) reads: Reads,
-    /// The image may be inline.
+    // The image may be inline.
     pub(crate) inlinable: bool,
 }
 
-/// Draws a number below `most`, by a linear congruential generator.
+// Draws a number below `most`, by a linear congruential generator.
 pub(crate) fn draw(state: &mut u16, most: u32) -> u32
     requires { 0 < most }
     ensures drawn { result ≡ drawn most state.old }
@@ -54,7 +54,7 @@ pub(crate) fn draw(state: &mut u16, most: u32) -> u32
     next / 8 % most
 }
 
-/// Draws a form.
+// Draws a form.
 fn draw_form(state: &mut u16) -> Form
     ensures form { result ≡ form_of (drawn 4 state.old) }
     ensures state { state.new ≡ next state.old }
@@ -67,7 +67,7 @@ fn draw_form(state: &mut u16) -> Form
     }
 }
 
-/// Draws an offset, along the row first.
+// Draws an offset, along the row first.
 fn draw_offset(state: &mut u16) -> Offset
     ensures offset { result ≡ offset_of state.old }
     ensures state { state.new ≡ after 2 state.old }
@@ -77,7 +77,7 @@ fn draw_offset(state: &mut u16) -> Offset
     Offset { dx, dy }
 }
 
-/// Draws an image before image k, of even number: no inline image has one.
+// Draws an image before image k, of even number: no inline image has one.
 fn draw_source(state: &mut u16, k: u32) -> u32
     requires { 0 < k }
     ensures source { result ≡ made_even (drawn k state.old) }
@@ -88,7 +88,7 @@ fn draw_source(state: &mut u16, k: u32) -> u32
     source - source % 2
 }
 
-/// Draws the two reads of image k.
+// Draws the two reads of image k.
 fn draw_reads(state: &mut u16, k: u32) -> Reads
     requires { 0 < k }
     ensures reads { result ≡ reads_of k state.old }
@@ -105,7 +105,7 @@ fn draw_reads(state: &mut u16, k: u32) -> Reads
     }
 }
 
-/// Draws the mark of image k, and tells whether the image may be inline.
+// Draws the mark of image k, and tells whether the image may be inline.
 fn draw_mark(state: &mut u16, k: u32) -> bool
     ensures mark { result ≡ is_inlinable k (drawn 4 state.old) }
     ensures state { state.new ≡ next state.old }
@@ -114,7 +114,7 @@ fn draw_mark(state: &mut u16, k: u32) -> bool
     k % 2 == 1 && mark == 0
 }
 
-/// Draws what belongs to image k, whether it is used or not.
+// Draws what belongs to image k, whether it is used or not.
 pub(crate) fn draw_image(state: &mut u16, k: u32) -> Draws
     requires { 0 < k }
     ensures draws { result ≡ draws_of k state.old }

@@ -6,7 +6,7 @@ ghost use Rattle.made_program.specs.Summary.{figure, summary};
 
 use crate::number::{frame_height, frame_width};
 use crate::pieces::push_number;
-use dk_base::Memory;
+use dk_base::OutOfMemory;
 use std::alloc::Global;
 
 /// What is told of a program that was compiled and clocked.
@@ -24,8 +24,8 @@ pub struct Figures {
     pub sample_sum: u64,
 }
 
-/// Adds a word with its blanks, and a number.
-fn push_figure(to: &mut Vec<u8>, word: &[u8], number: u64) -> Result<(), Memory>
+// Adds a word with its blanks, and a number.
+fn push_figure(to: &mut Vec<u8>, word: &[u8], number: u64) -> Result<(), OutOfMemory>
     ensures { OnOk result (to.new.items ≡ to.old.items ++ figure word.now number) }
 {
     to.extend_from_slice(word)?;
@@ -33,8 +33,8 @@ fn push_figure(to: &mut Vec<u8>, word: &[u8], number: u64) -> Result<(), Memory>
     Ok(())
 }
 
-/// Adds the number and the size of the frame.
-fn push_size(to: &mut Vec<u8>, n: u32) -> Result<(), Memory>
+// Adds the number and the size of the frame.
+fn push_size(to: &mut Vec<u8>, n: u32) -> Result<(), OutOfMemory>
     ensures { OnOk result (to.new.items ≡ to.old.items ++ (figure (codes "make ") n ++ (figure (codes ": size ") (width_of n) ++ figure (codes " ") (height_of n)))) }
 {
     push_figure(to, b"make ", u64::from(n))?;
@@ -43,8 +43,8 @@ fn push_size(to: &mut Vec<u8>, n: u32) -> Result<(), Memory>
     Ok(())
 }
 
-/// Adds the figures.
-fn push_figures(to: &mut Vec<u8>, figures: Figures) -> Result<(), Memory>
+// Adds the figures.
+fn push_figures(to: &mut Vec<u8>, figures: Figures) -> Result<(), OutOfMemory>
     ensures { OnOk result (to.new.items ≡ to.old.items ++ (figure (codes " images ") figures.images ++ (figure (codes " reads ") figures.reads
         ++ (figure (codes " bits ") figures.bits ++ (figure (codes " latency ") figures.latency ++ figure (codes " sum ") figures.sample_sum))))) }
 {
@@ -57,7 +57,7 @@ fn push_figures(to: &mut Vec<u8>, figures: Figures) -> Result<(), Memory>
 }
 
 /// The line that is told of number n with these figures, and its LF. The only error is want of memory.
-pub fn summary(alloc: Global, n: u32, figures: Figures) -> Result<Vec<u8>, Memory>
+pub fn summary(alloc: Global, n: u32, figures: Figures) -> Result<Vec<u8>, OutOfMemory>
     ensures { IfOk result (λ line. line.items ≡ summary n figures.images figures.reads figures.bits figures.latency figures.sample_sum) }
 {
     let mut line = Vec::new(alloc);

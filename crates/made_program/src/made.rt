@@ -10,7 +10,7 @@ use crate::definition::push_definitions;
 use crate::draws::draw;
 use crate::number::{definition_count, frame_height, frame_width, seed};
 use crate::pieces::{push_name, push_number};
-use dk_base::Memory;
+use dk_base::OutOfMemory;
 use pgm_codec::write_header;
 use std::alloc::Global;
 
@@ -23,7 +23,7 @@ pub struct Made {
     pub image: Vec<u8>,
 }
 
-fn push_head_lines(to: &mut Vec<u8>, width: u32, height: u32) -> Result<(), Memory>
+fn push_head_lines(to: &mut Vec<u8>, width: u32, height: u32) -> Result<(), OutOfMemory>
     ensures { OnOk result (to.new.items ≡ to.old.items ++ head_lines width height) }
 {
     to.extend_from_slice(b"size ")?;
@@ -34,7 +34,7 @@ fn push_head_lines(to: &mut Vec<u8>, width: u32, height: u32) -> Result<(), Memo
     Ok(())
 }
 
-fn push_output_line(to: &mut Vec<u8>, last: u32) -> Result<(), Memory>
+fn push_output_line(to: &mut Vec<u8>, last: u32) -> Result<(), OutOfMemory>
     ensures { OnOk result (to.new.items ≡ to.old.items ++ output_line last) }
 {
     to.extend_from_slice(b"output ")?;
@@ -43,8 +43,8 @@ fn push_output_line(to: &mut Vec<u8>, last: u32) -> Result<(), Memory>
     Ok(())
 }
 
-/// The program, and the state behind its draws.
-fn make_program(alloc: Global, n: u32, state: &mut u16) -> Result<Vec<u8>, Memory>
+// The program, and the state behind its draws.
+fn make_program(alloc: Global, n: u32, state: &mut u16) -> Result<Vec<u8>, OutOfMemory>
     requires { state.old ≡ seed_of n }
     ensures program { IfOk result (λ program. program.items ≡ program_of n) }
     ensures state { OnOk result (state.new ≡ after (7 * count_of n) (seed_of n)) }
@@ -57,8 +57,8 @@ fn make_program(alloc: Global, n: u32, state: &mut u16) -> Result<Vec<u8>, Memor
     Ok(program)
 }
 
-/// Adds so many samples.
-fn push_samples(to: &mut Vec<u8>, count: u32, state: &mut u16) -> Result<(), Memory>
+// Adds so many samples.
+fn push_samples(to: &mut Vec<u8>, count: u32, state: &mut u16) -> Result<(), OutOfMemory>
     ensures { OnOk result (to.new.items ≡ to.old.items ++ samples_from count state.old) }
 {
     for _ in 0..count {
@@ -68,8 +68,8 @@ fn push_samples(to: &mut Vec<u8>, count: u32, state: &mut u16) -> Result<(), Mem
     Ok(())
 }
 
-/// Adds the header of an image of one byte a sample.
-fn push_header(to: &mut Vec<u8>, n: u32) -> Result<(), Memory>
+// Adds the header of an image of one byte a sample.
+fn push_header(to: &mut Vec<u8>, n: u32) -> Result<(), OutOfMemory>
     ensures { OnOk result (to.new.items ≡ to.old.items ++ header_of (width_of n) (height_of n) 255) }
 {
     let mut header = [0; 19];
@@ -78,8 +78,8 @@ fn push_header(to: &mut Vec<u8>, n: u32) -> Result<(), Memory>
     Ok(())
 }
 
-/// The image file, drawn from this state on.
-fn make_image(alloc: Global, n: u32, state: &mut u16) -> Result<Vec<u8>, Memory>
+// The image file, drawn from this state on.
+fn make_image(alloc: Global, n: u32, state: &mut u16) -> Result<Vec<u8>, OutOfMemory>
     requires { state.old ≡ after (7 * count_of n) (seed_of n) }
     ensures { IfOk result (λ image. image.items ≡ image_of n) }
 {
@@ -90,7 +90,7 @@ fn make_image(alloc: Global, n: u32, state: &mut u16) -> Result<Vec<u8>, Memory>
 }
 
 /// Makes the program and the image file of number n. Every number has one program and one image; the only error is want of memory.
-pub fn make(alloc: Global, n: u32) -> Result<Made, Memory>
+pub fn make(alloc: Global, n: u32) -> Result<Made, OutOfMemory>
     ensures program { IfOk result (λ made. made.program.items ≡ program_of n) }
     ensures image { IfOk result (λ made. made.image.items ≡ image_of n) }
 {

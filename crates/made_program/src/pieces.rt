@@ -5,12 +5,12 @@ ghost use Rattle.made_program.specs.declared.draws.Form.TheVariants as form;
 ghost use Rattle.made_program.specs.Programs.{step, name, read, body};
 
 use crate::draws::{Form, Offset};
-use dk_base::Memory;
+use dk_base::OutOfMemory;
 use itoa::Buffer;
 use std::alloc::Global;
 
-/// Adds a number in decimal.
-pub(crate) fn push_number(to: &mut Vec<u8>, number: u64) -> Result<(), Memory>
+// Adds a number in decimal.
+pub(crate) fn push_number(to: &mut Vec<u8>, number: u64) -> Result<(), OutOfMemory>
     ensures { OnOk result (to.new.items ≡ to.old.items ++ decimal number) }
 {
     let mut digits = Buffer::new();
@@ -18,8 +18,8 @@ pub(crate) fn push_number(to: &mut Vec<u8>, number: u64) -> Result<(), Memory>
     Ok(())
 }
 
-/// Adds the step of a draw below 5.
-fn push_step(to: &mut Vec<u8>, number: u32) -> Result<(), Memory>
+// Adds the step of a draw below 5.
+fn push_step(to: &mut Vec<u8>, number: u32) -> Result<(), OutOfMemory>
     ensures { OnOk result (to.new.items ≡ to.old.items ++ step number) }
 {
     match number {
@@ -31,8 +31,8 @@ fn push_step(to: &mut Vec<u8>, number: u32) -> Result<(), Memory>
     }
 }
 
-/// Adds the name of an image.
-pub(crate) fn push_name(to: &mut Vec<u8>, image: u32) -> Result<(), Memory>
+// Adds the name of an image.
+pub(crate) fn push_name(to: &mut Vec<u8>, image: u32) -> Result<(), OutOfMemory>
     ensures { OnOk result (to.new.items ≡ to.old.items ++ name image) }
 {
     if image == 0 {
@@ -43,8 +43,8 @@ pub(crate) fn push_name(to: &mut Vec<u8>, image: u32) -> Result<(), Memory>
     Ok(())
 }
 
-/// The text of a read.
-pub(crate) fn read(alloc: Global, image: u32, offset: Offset) -> Result<Vec<u8>, Memory>
+// The text of a read.
+pub(crate) fn read(alloc: Global, image: u32, offset: Offset) -> Result<Vec<u8>, OutOfMemory>
     ensures { IfOk result (λ text. text.items ≡ read image offset) }
 {
     let mut text = Vec::new(alloc);
@@ -57,7 +57,7 @@ pub(crate) fn read(alloc: Global, image: u32, offset: Offset) -> Result<Vec<u8>,
     Ok(text)
 }
 
-fn push_mean(to: &mut Vec<u8>, first: &[u8], second: &[u8]) -> Result<(), Memory>
+fn push_mean(to: &mut Vec<u8>, first: &[u8], second: &[u8]) -> Result<(), OutOfMemory>
     ensures { OnOk result (to.new.items ≡ to.old.items ++ body form.Mean first.now second.now) }
 {
     to.extend_from_slice(b"((")?;
@@ -68,7 +68,7 @@ fn push_mean(to: &mut Vec<u8>, first: &[u8], second: &[u8]) -> Result<(), Memory
     Ok(())
 }
 
-fn push_greater(to: &mut Vec<u8>, first: &[u8], second: &[u8]) -> Result<(), Memory>
+fn push_greater(to: &mut Vec<u8>, first: &[u8], second: &[u8]) -> Result<(), OutOfMemory>
     ensures { OnOk result (to.new.items ≡ to.old.items ++ body form.Greater first.now second.now) }
 {
     to.extend_from_slice(b"max(")?;
@@ -79,7 +79,7 @@ fn push_greater(to: &mut Vec<u8>, first: &[u8], second: &[u8]) -> Result<(), Mem
     Ok(())
 }
 
-fn push_difference(to: &mut Vec<u8>, first: &[u8], second: &[u8]) -> Result<(), Memory>
+fn push_difference(to: &mut Vec<u8>, first: &[u8], second: &[u8]) -> Result<(), OutOfMemory>
     ensures { OnOk result (to.new.items ≡ to.old.items ++ body form.Difference first.now second.now) }
 {
     to.extend_from_slice(b"abs(")?;
@@ -90,8 +90,8 @@ fn push_difference(to: &mut Vec<u8>, first: &[u8], second: &[u8]) -> Result<(), 
     Ok(())
 }
 
-/// Adds the choice of the first one, and what stands before its other case.
-fn push_choice(to: &mut Vec<u8>, first: &[u8], second: &[u8]) -> Result<(), Memory>
+// Adds the choice of the first one, and what stands before its other case.
+fn push_choice(to: &mut Vec<u8>, first: &[u8], second: &[u8]) -> Result<(), OutOfMemory>
     ensures { OnOk result (to.new.items ≡ to.old.items ++ (codes "select(" ++ (first.now ++ (codes "<" ++ (second.now ++ (codes "," ++ first.now)))))) }
 {
     to.extend_from_slice(b"select(")?;
@@ -103,8 +103,8 @@ fn push_choice(to: &mut Vec<u8>, first: &[u8], second: &[u8]) -> Result<(), Memo
     Ok(())
 }
 
-/// Adds a quarter of three parts of the first one and one of the second.
-fn push_quarter(to: &mut Vec<u8>, first: &[u8], second: &[u8]) -> Result<(), Memory>
+// Adds a quarter of three parts of the first one and one of the second.
+fn push_quarter(to: &mut Vec<u8>, first: &[u8], second: &[u8]) -> Result<(), OutOfMemory>
     ensures { OnOk result (to.new.items ≡ to.old.items ++ (codes ",(" ++ (first.now ++ (codes "*3+" ++ (second.now ++ codes ")>>2) as u8"))))) }
 {
     to.extend_from_slice(b",(")?;
@@ -115,7 +115,7 @@ fn push_quarter(to: &mut Vec<u8>, first: &[u8], second: &[u8]) -> Result<(), Mem
     Ok(())
 }
 
-fn push_weighted(to: &mut Vec<u8>, first: &[u8], second: &[u8]) -> Result<(), Memory>
+fn push_weighted(to: &mut Vec<u8>, first: &[u8], second: &[u8]) -> Result<(), OutOfMemory>
     ensures { OnOk result (to.new.items ≡ to.old.items ++ body form.Weighted first.now second.now) }
 {
     push_choice(to, first, second)?;
@@ -123,13 +123,13 @@ fn push_weighted(to: &mut Vec<u8>, first: &[u8], second: &[u8]) -> Result<(), Me
     Ok(())
 }
 
-/// Adds the body of a form over two reads.
+// Adds the body of a form over two reads.
 pub(crate) fn push_body(
     to: &mut Vec<u8>,
     form: Form,
     first: &[u8],
     second: &[u8],
-) -> Result<(), Memory>
+) -> Result<(), OutOfMemory>
     ensures { OnOk result (to.new.items ≡ to.old.items ++ body form first.now second.now) }
 {
     match form {

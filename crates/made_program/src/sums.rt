@@ -7,12 +7,12 @@ ghost use Rattle.dk_base.specs.FrameSizes.{size_of};
 ghost use Rattle.pgm_codec.specs.Images.{Picture as Image, file_of};
 ghost use Rattle.made_program.specs.Sums.{AreSummed, IsOneFrame, samples_of_round};
 
-use dk_base::{FrameSize, MAX_PORT_WIDTH, Memory};
+use dk_base::{FrameSize, MAX_PORT_WIDTH, OutOfMemory};
 use pgm_codec::read_again;
 use pgm_rounds::{FileError, Round, one_file, read_rounds};
 use std::alloc::{AllocError, Global};
 
-/// The sum of the samples of one frame.
+// The sum of the samples of one frame.
 fn sum_of_samples(samples: &[u16]) -> u64
     requires { length samples.now ≤ MAX_SIDE * MAX_SIDE }
     ensures total { result ≡ sum samples.now }
@@ -25,7 +25,7 @@ fn sum_of_samples(samples: &[u16]) -> u64
     total
 }
 
-/// The sum of the samples of a round of one frame.
+// The sum of the samples of a round of one frame.
 fn sum_of_round(round: &Round) -> u64
     requires { IsOneFrame round.now }
     ensures total { result ≡ sum (samples_of_round round.now) }
@@ -34,7 +34,7 @@ fn sum_of_round(round: &Round) -> u64
     sum_of_samples(round.frames[0].samples.as_slice())
 }
 
-/// The sum of the samples of rounds of one frame each.
+// The sum of the samples of rounds of one frame each.
 fn sum_of_rounds(rounds: &[Round]) -> u64
     requires few { length rounds.now ≤ MAX_FILE_IMAGES }
     requires frames { All IsOneFrame rounds.now }
@@ -47,8 +47,8 @@ fn sum_of_rounds(rounds: &[Round]) -> u64
     total
 }
 
-/// A file of images of this size, as one round for each image.
-fn read_images(alloc: Global, size: FrameSize, file: &[u8]) -> Result<Vec<Round>, Memory>
+// A file of images of this size, as one round for each image.
+fn read_images(alloc: Global, size: FrameSize, file: &[u8]) -> Result<Vec<Round>, OutOfMemory>
     requires images { (images : List Image) × AreSummed (size_of size) images × (file.now ≡ file_of images) }
     ensures few { IfOk result (λ rounds. length rounds.items ≤ MAX_FILE_IMAGES) }
     ensures frames { IfOk result (λ rounds. All IsOneFrame rounds.items) }
@@ -58,13 +58,13 @@ fn read_images(alloc: Global, size: FrameSize, file: &[u8]) -> Result<Vec<Round>
     one_file();
     match read_rounds(alloc, size, &[MAX_PORT_WIDTH], file) {
         Ok(rounds) => Ok(rounds),
-        Err(FileError::Memory) => Err(AllocError),
+        Err(FileError::OutOfMemory) => Err(AllocError),
         Err(FileError::Fault(_)) => unreachable!(),
     }
 }
 
 /// The sum of the samples of a file of images of this size. The only error is want of memory.
-pub fn sample_sum(alloc: Global, size: FrameSize, file: &[u8]) -> Result<u64, Memory>
+pub fn sample_sum(alloc: Global, size: FrameSize, file: &[u8]) -> Result<u64, OutOfMemory>
     requires images { (images : List Image) × AreSummed (size_of size) images × (file.now ≡ file_of images) }
     ensures { IfOk result (λ total. (images : List Image) → AreSummed (size_of size) images → file.now ≡ file_of images → total ≡ sum (flat_map (λ image. image.samples) images)) }
 {

@@ -15,7 +15,7 @@ ghost use Rattle.net_build.specs.Counters.{after, reached, control_nets, unless_
 
 use crate::builder::Builder;
 use crate::gates::{gate, number};
-use dk_base::{Memory, bits_for};
+use dk_base::{OutOfMemory, bits_for};
 use wiring::{Atom, Net, Operator, Right};
 
 // What follows the last number.
@@ -37,7 +37,13 @@ pub struct Counted {
 }
 
 /// A count up to `last`, which is followed by 0 or by itself.
-pub fn count(b: &mut Builder, at: Net, bits: u8, last: u64, wraps: bool) -> Result<Counted, Memory>
+pub fn count(
+    b: &mut Builder,
+    at: Net,
+    bits: u8,
+    last: u64,
+    wraps: bool,
+) -> Result<Counted, OutOfMemory>
     requires at { IsNet b.old at }
     requires width { net_width b.old at ≡ bits }
     requires bits { IsWidth bits }
@@ -62,7 +68,7 @@ pub fn count(b: &mut Builder, at: Net, bits: u8, last: u64, wraps: bool) -> Resu
 }
 
 /// What is next, or in a held clock what is now.
-pub fn unless_held(b: &mut Builder, now: Net, next: Net, bits: u8) -> Result<Net, Memory>
+pub fn unless_held(b: &mut Builder, now: Net, next: Net, bits: u8) -> Result<Net, OutOfMemory>
     requires now { IsNet b.old now }
     requires next { IsNet b.old next }
     requires now_width { net_width b.old now ≡ bits }
@@ -89,7 +95,7 @@ pub fn register_value(
     next: Net,
     bits: u8,
     first: u64,
-) -> Result<Net, Memory>
+) -> Result<Net, OutOfMemory>
     requires now { IsNet b.old now }
     requires next { IsNet b.old next }
     requires now_width { net_width b.old now ≡ bits }
@@ -122,7 +128,7 @@ fn registered(
     bits: u8,
     last: u64,
     wraps: bool,
-) -> Result<Numbered, Memory>
+) -> Result<Numbered, OutOfMemory>
     requires register { IsNet b.old register }
     requires width { net_width b.old register ≡ bits }
     requires bits { IsWidth bits }
@@ -142,7 +148,7 @@ fn registered(
 }
 
 // A counter up to `last`, which then begins again or stays.
-fn counter_of(b: &mut Builder, last: u64, wraps: bool) -> Result<Net, Memory>
+fn counter_of(b: &mut Builder, last: u64, wraps: bool) -> Result<Net, OutOfMemory>
     ensures includes { Includes b.new b.old }
     ensures adds { OnOk result (AddsRegister b.new b.old (bit_count last)) }
     ensures net { IfOk result (IsBehindReset b.new (length b.old.regs)) }
@@ -158,7 +164,7 @@ fn counter_of(b: &mut Builder, last: u64, wraps: bool) -> Result<Net, Memory>
 }
 
 /// A net that counts clocks from 0 to `last`, and then from 0 again: the number of the counted clocks since a reset, modulo `last` and one. It is 0 in a reset clock, and stands still in held clocks. It has a register behind it.
-pub fn counter(b: &mut Builder, last: u64) -> Result<Net, Memory>
+pub fn counter(b: &mut Builder, last: u64) -> Result<Net, OutOfMemory>
     ensures includes { Includes b.new b.old }
     ensures adds { OnOk result (AddsRegister b.new b.old (bit_count last)) }
     ensures net { IfOk result (IsBehindReset b.new (length b.old.regs)) }
@@ -171,7 +177,7 @@ pub fn counter(b: &mut Builder, last: u64) -> Result<Net, Memory>
 }
 
 /// The same, but that it stays at `last`.
-pub fn counter_up_to(b: &mut Builder, last: u64) -> Result<Net, Memory>
+pub fn counter_up_to(b: &mut Builder, last: u64) -> Result<Net, OutOfMemory>
     ensures includes { Includes b.new b.old }
     ensures adds { OnOk result (AddsRegister b.new b.old (bit_count last)) }
     ensures net { IfOk result (IsBehindReset b.new (length b.old.regs)) }
@@ -184,7 +190,7 @@ pub fn counter_up_to(b: &mut Builder, last: u64) -> Result<Net, Memory>
 }
 
 /// A net that says whether `last` clocks were counted since a reset. It is 0 in a reset clock. At 0 it takes no register.
-pub fn started(b: &mut Builder, last: u64) -> Result<Net, Memory>
+pub fn started(b: &mut Builder, last: u64) -> Result<Net, OutOfMemory>
     ensures adds { OnOk result (AddsControl b.new b.old) }
     ensures net { IfOk result (IsNet b.new) }
     ensures width { IfOk result (λ n. net_width b.new n ≡ 1) }

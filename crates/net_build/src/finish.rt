@@ -4,12 +4,12 @@ ghost use Rattle.std.specs.Prelude.{◌≡◌, ◌++◌, IfOk, OnOk};
 ghost use Rattle.wiring.specs.Netlist.{netlist_of};
 ghost use Rattle.net_build.specs.Draft.{flat, output_assigns, with_outputs, IsCounted};
 
-use dk_base::Memory;
+use dk_base::OutOfMemory;
 use std::alloc::Global;
 use wiring::{Assign, Atom, Net, Right, Wiring};
 
-/// Each `valid` before its `dout`.
-pub fn sources(alloc: Global, outs: &[(Net, Net)]) -> Result<Vec<Net>, Memory>
+// Each `valid` before its `dout`.
+pub fn sources(alloc: Global, outs: &[(Net, Net)]) -> Result<Vec<Net>, OutOfMemory>
     ensures { IfOk result (λ nets. nets.items ≡ flat outs.now) }
 {
     let mut nets = Vec::new(alloc);
@@ -20,7 +20,7 @@ pub fn sources(alloc: Global, outs: &[(Net, Net)]) -> Result<Vec<Net>, Memory>
     Ok(nets)
 }
 
-fn push_outputs(assigns: &mut Vec<Assign>, nets: &[Net]) -> Result<(), Memory>
+fn push_outputs(assigns: &mut Vec<Assign>, nets: &[Net]) -> Result<(), OutOfMemory>
     ensures { OnOk result (assigns.new.items ≡ assigns.old.items ++ output_assigns 0 nets.now) }
 {
     for (k, net) in nets.iter().enumerate() {
@@ -31,16 +31,16 @@ fn push_outputs(assigns: &mut Vec<Assign>, nets: &[Net]) -> Result<(), Memory>
     Ok(())
 }
 
-/// Lets the outputs take these nets.
-pub fn drive_outputs(wiring: &mut Wiring, nets: &[Net]) -> Result<(), Memory>
+// Lets the outputs take these nets.
+pub fn drive_outputs(wiring: &mut Wiring, nets: &[Net]) -> Result<(), OutOfMemory>
     ensures { OnOk result (netlist_of wiring.new ≡ with_outputs (netlist_of wiring.old) nets.now) }
 {
     push_outputs(&mut wiring.assigns, nets)?;
     Ok(())
 }
 
-/// The numbers below a count.
-pub fn counted(alloc: Global, count: usize) -> Result<Vec<usize>, Memory>
+// The numbers below a count.
+pub fn counted(alloc: Global, count: usize) -> Result<Vec<usize>, OutOfMemory>
     ensures { IfOk result (λ order. IsCounted order.items count) }
 {
     let mut order = Vec::new(alloc);

@@ -8,7 +8,7 @@ ghost use Rattle.net_build.specs.Draft.{IsOperation};
 ghost use Rattle.net_build.specs.Logic.{AddsLogic, IsGate};
 
 use crate::builder::Builder;
-use dk_base::Memory;
+use dk_base::OutOfMemory;
 use wiring::{Atom, Constant, Net, Right, Width};
 
 /// A number of so many bits.
@@ -21,7 +21,7 @@ pub fn number(bits: u8, value: u64) -> Atom<Net>
 }
 
 /// The net of a right side that reads no array.
-pub fn gate(b: &mut Builder, right: Right<Net, usize>) -> Result<Net, Memory>
+pub fn gate(b: &mut Builder, right: Right<Net, usize>) -> Result<Net, OutOfMemory>
     requires operation { IsOperation b.old right }
     requires no_array { right_accesses right ≡ [] }
     ensures logic { AddsLogic b.new b.old }

@@ -10,14 +10,14 @@ ghost use Rattle.wiring.specs.Netlist.{netlist_of};
 ghost use Rattle.net_build.specs.Draft.{IsDraft, IsOperation, HasWire, with_wire, with_reg, with_array, number};
 
 use crate::size::right_size;
-use dk_base::Memory;
+use dk_base::OutOfMemory;
 use indexmap::IndexSet;
 use std::alloc::AllocError;
 use std::hash::Hash;
 use wiring::{Assign, Atom, Net, Right, Shape, Update, Width, Wiring};
 
 // Adds the wire of a right side that is not there yet.
-fn push_wire(wiring: &mut Wiring, right: &Right<Net, usize>) -> Result<(), Memory>
+fn push_wire(wiring: &mut Wiring, right: &Right<Net, usize>) -> Result<(), OutOfMemory>
     requires { IsOperation (netlist_of wiring.old) right.now }
     ensures ok { OnOk result (netlist_of wiring.new ≡ with_wire (netlist_of wiring.old) right.now) }
     ensures err { OnErr result (netlist_of wiring.new ≡ netlist_of wiring.old) }
@@ -43,7 +43,7 @@ fn place_of<T: Eq + Hash + Drop>(known: &IndexSet<T>, key: &T) -> Option<usize>
 }
 
 // Makes room for a key.
-fn reserve_key<T: Eq + Hash + Drop>(known: &mut IndexSet<T>) -> Result<(), Memory>
+fn reserve_key<T: Eq + Hash + Drop>(known: &mut IndexSet<T>) -> Result<(), OutOfMemory>
     ensures keys { known.new.keys ≡ known.old.keys }
     ensures room { OnOk result (0 < spare known.new) }
 {
@@ -59,12 +59,12 @@ fn add_key<T: Copy + Eq + Hash + Drop>(known: &mut IndexSet<T>, key: &T)
     let _ = known.insert(*key);
 }
 
-/// The wire with this right side, added where there is none.
+// The wire with this right side, added where there is none.
 pub fn wire_of(
     wiring: &mut Wiring,
     known: &mut IndexSet<Right<Net, usize>>,
     right: &Right<Net, usize>,
-) -> Result<usize, Memory>
+) -> Result<usize, OutOfMemory>
     requires draft { IsDraft (netlist_of wiring.old) }
     requires operation { IsOperation (netlist_of wiring.old) right.now }
     requires known { known.old.keys ≡ map (λ (a : Assign). a.right) wiring.old.assigns.items }
@@ -86,7 +86,7 @@ pub fn wire_of(
 }
 
 // Makes room for the updates of so many registers and arrays and of one more.
-fn make_room(updates: &mut Vec<Update>, states: usize) -> Result<(), Memory>
+fn make_room(updates: &mut Vec<Update>, states: usize) -> Result<(), OutOfMemory>
     ensures items { updates.new.items ≡ updates.old.items }
     ensures room { OnOk result (states < vec_capacity updates.new) }
     ensures kept { vec_capacity updates.old ≤ vec_capacity updates.new }
@@ -97,8 +97,8 @@ fn make_room(updates: &mut Vec<Update>, states: usize) -> Result<(), Memory>
     }
 }
 
-/// Adds a register, with room for its update.
-pub fn add_reg(wiring: &mut Wiring, width: Width) -> Result<usize, Memory>
+// Adds a register, with room for its update.
+pub fn add_reg(wiring: &mut Wiring, width: Width) -> Result<usize, OutOfMemory>
     requires { length wiring.old.regs.items + length wiring.old.arrays.items ≤ vec_capacity wiring.old.updates }
     ensures number { IfOk result (λ k. k ≡ length wiring.old.regs.items) }
     ensures ok { OnOk result (netlist_of wiring.new ≡ with_reg (netlist_of wiring.old) width) }
@@ -111,8 +111,8 @@ pub fn add_reg(wiring: &mut Wiring, width: Width) -> Result<usize, Memory>
     Ok(k)
 }
 
-/// Adds an array, with room for its update.
-pub fn add_array(wiring: &mut Wiring, shape: Shape) -> Result<usize, Memory>
+// Adds an array, with room for its update.
+pub fn add_array(wiring: &mut Wiring, shape: Shape) -> Result<usize, OutOfMemory>
     requires { length wiring.old.regs.items + length wiring.old.arrays.items ≤ vec_capacity wiring.old.updates }
     ensures number { IfOk result (λ x. x ≡ length wiring.old.arrays.items) }
     ensures ok { OnOk result (netlist_of wiring.new ≡ with_array (netlist_of wiring.old) shape) }
@@ -125,7 +125,7 @@ pub fn add_array(wiring: &mut Wiring, shape: Shape) -> Result<usize, Memory>
     Ok(x)
 }
 
-/// Adds the update of a register, for which there is room.
+// Adds the update of a register, for which there is room.
 pub fn add_set(updates: &mut Vec<Update>, reg: Net, value: Net)
     requires { vec_len updates.old < vec_capacity updates.old }
     ensures items { updates.new.items ≡ updates.old.items ++ Set (number reg) (atom.Net value) ∷ [] }
@@ -134,7 +134,7 @@ pub fn add_set(updates: &mut Vec<Update>, reg: Net, value: Net)
     let _ = updates.push(Update::Set(number_of(reg), Atom::Net(value)));
 }
 
-/// Adds the update of an array, for which there is room.
+// Adds the update of an array, for which there is room.
 pub fn add_put(updates: &mut Vec<Update>, array: usize, index: Net, value: Net)
     requires { vec_len updates.old < vec_capacity updates.old }
     ensures items { updates.new.items ≡ updates.old.items ++ Put array (atom.Net index) (atom.Net value) ∷ [] }

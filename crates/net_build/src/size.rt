@@ -54,7 +54,7 @@ fn operator_bits(operator: Operator, bits: u8) -> u8
     }
 }
 
-/// The width of a right side.
+// The width of a right side.
 pub fn right_size(wiring: &Wiring, right: &Right<Net, usize>) -> Width
     requires { IsWidth (right_width (net_width (netlist_of wiring.now)) (word_width (netlist_of wiring.now)) right.now) }
     ensures { result ≡ right_width (net_width (netlist_of wiring.now)) (word_width (netlist_of wiring.now)) right.now }

@@ -6,7 +6,7 @@ ghost use Rattle.dk_base.specs.declared.TheConstants.{MAX_BUFFER_BITS};
 ghost use Rattle.wiring.specs.Rules.{IsPortWidth};
 
 use cycle_sim::{Fill, Sim};
-use dk_base::Memory;
+use dk_base::OutOfMemory;
 use line_buffer::{chain, ring};
 use net_build::Builder;
 use netlist::{Module, buffer_bits};
@@ -15,7 +15,7 @@ use std::test::Fail;
 use wiring::{Atom, Right};
 
 // The tap of the k-th of these ages, of a chain.
-fn chain_tap(alloc: Global, width: u8, ages: &[u64], k: usize) -> Result<Module, Memory>
+fn chain_tap(alloc: Global, width: u8, ages: &[u64], k: usize) -> Result<Module, OutOfMemory>
     requires width { IsPortWidth width }
     requires ascending { IsStrictlyIncreasing ages.now }
     requires most { All (λ age. age ≤ MAX_BUFFER_BITS) ages.now }
@@ -30,7 +30,7 @@ fn chain_tap(alloc: Global, width: u8, ages: &[u64], k: usize) -> Result<Module,
 }
 
 // The same of a ring.
-fn ring_tap(alloc: Global, width: u8, ages: &[u64], k: usize) -> Result<Module, Memory>
+fn ring_tap(alloc: Global, width: u8, ages: &[u64], k: usize) -> Result<Module, OutOfMemory>
     requires width { IsPortWidth width }
     requires ascending { IsStrictlyIncreasing ages.now }
     requires most { All (λ age. age ≤ MAX_BUFFER_BITS) ages.now }
@@ -60,7 +60,7 @@ fn shown(sim: &mut Sim, clock: u8, din: u64) -> u64 {
 }
 
 // What the output shows, a hexadecimal digit for each clock behind a 1. In a clock `r` there is a reset, and a clock `h` is held. The first din is 0, and each later one is one more, up to `last` and from 0 on again.
-fn digits(alloc: Global, module: &Module, clocks: &[u8], last: u64) -> Result<u64, Memory> {
+fn digits(alloc: Global, module: &Module, clocks: &[u8], last: u64) -> Result<u64, OutOfMemory> {
     let mut sim = Sim::new(alloc, module, Fill::Ones)?;
     let mut all: u64 = 1;
     let mut din: u64 = 0;
@@ -73,7 +73,13 @@ fn digits(alloc: Global, module: &Module, clocks: &[u8], last: u64) -> Result<u6
 }
 
 // The tap of an age in a chain of these two ages, of four bits.
-fn chain_digits(alloc: Global, near: u64, far: u64, k: usize, clocks: &[u8]) -> Result<u64, Memory>
+fn chain_digits(
+    alloc: Global,
+    near: u64,
+    far: u64,
+    k: usize,
+    clocks: &[u8],
+) -> Result<u64, OutOfMemory>
     requires ascending { near < far }
     requires most { far ≤ MAX_BUFFER_BITS }
     requires within { k < 2 }
@@ -85,7 +91,13 @@ fn chain_digits(alloc: Global, near: u64, far: u64, k: usize, clocks: &[u8]) -> 
 }
 
 // The same in a ring.
-fn ring_digits(alloc: Global, near: u64, far: u64, k: usize, clocks: &[u8]) -> Result<u64, Memory>
+fn ring_digits(
+    alloc: Global,
+    near: u64,
+    far: u64,
+    k: usize,
+    clocks: &[u8],
+) -> Result<u64, OutOfMemory>
     requires ascending { near < far }
     requires most { far ≤ MAX_BUFFER_BITS }
     requires within { k < 2 }
@@ -97,7 +109,7 @@ fn ring_digits(alloc: Global, near: u64, far: u64, k: usize, clocks: &[u8]) -> R
 }
 
 // The tap of age 0 alone in both forms, and the bits of their buffers.
-fn age_zero(alloc: Global, clocks: &[u8]) -> Result<(u64, u64, u128, u128), Memory> {
+fn age_zero(alloc: Global, clocks: &[u8]) -> Result<(u64, u64, u128, u128), OutOfMemory> {
     let ages = [0];
     let chained = chain_tap(alloc, 4, &ages, 0)?;
     let ringed = ring_tap(alloc, 4, &ages, 0)?;
@@ -109,7 +121,7 @@ fn age_zero(alloc: Global, clocks: &[u8]) -> Result<(u64, u64, u128, u128), Memo
 }
 
 // The tap of age 3 behind one of age 1, in a chain of one bit.
-fn bit_digits(alloc: Global, clocks: &[u8]) -> Result<u64, Memory> {
+fn bit_digits(alloc: Global, clocks: &[u8]) -> Result<u64, OutOfMemory> {
     let ages = [1, 3];
     let module = chain_tap(alloc, 1, &ages, 1)?;
     let all = digits(alloc, &module, clocks, 1)?;
@@ -117,7 +129,7 @@ fn bit_digits(alloc: Global, clocks: &[u8]) -> Result<u64, Memory> {
 }
 
 // The top bit of the tap of age 3, in a ring of 64 bits that are all the din.
-fn wide_tap(alloc: Global) -> Result<Module, Memory> {
+fn wide_tap(alloc: Global) -> Result<Module, OutOfMemory> {
     let mut b = Builder::with_enable(alloc, 1, 1)?;
     let din = b.din();
     let wide = b.op(Right::Repeat(64, Atom::Net(din)))?;
@@ -129,14 +141,14 @@ fn wide_tap(alloc: Global) -> Result<Module, Memory> {
     Ok(module)
 }
 
-fn wide_digits(alloc: Global, clocks: &[u8]) -> Result<u64, Memory> {
+fn wide_digits(alloc: Global, clocks: &[u8]) -> Result<u64, OutOfMemory> {
     let module = wide_tap(alloc)?;
     let all = digits(alloc, &module, clocks, 1)?;
     Ok(all)
 }
 
 // The bits of both forms of these ages, of four bits a word.
-fn bits(alloc: Global, near: u64, far: u64) -> Result<(u128, u128), Memory>
+fn bits(alloc: Global, near: u64, far: u64) -> Result<(u128, u128), OutOfMemory>
     requires ascending { near < far }
     requires most { far ≤ MAX_BUFFER_BITS }
 {

@@ -1,20 +1,20 @@
 //! Small modules: what is shared, and their buffer bits.
 
-use dk_base::Memory;
+use dk_base::OutOfMemory;
 use net_build::Builder;
 use netlist::buffer_bits;
 use std::alloc::Global;
 use std::test::Fail;
 use wiring::{Atom, Constant, Net, Operator, Right, Width};
 
-fn complement(b: &mut Builder) -> Result<Net, Memory> {
+fn complement(b: &mut Builder) -> Result<Net, OutOfMemory> {
     let din = b.din();
     let net = b.op(Right::Not(Atom::Net(din)))?;
     Ok(net)
 }
 
 // Whether calls with the same right side give one net.
-fn is_shared(alloc: Global) -> Result<bool, Memory> {
+fn is_shared(alloc: Global) -> Result<bool, OutOfMemory> {
     let mut b = Builder::new(alloc, 8, 8)?;
     let one = complement(&mut b)?;
     let other = complement(&mut b)?;
@@ -22,7 +22,7 @@ fn is_shared(alloc: Global) -> Result<bool, Memory> {
 }
 
 // The buffer bits of a register behind another.
-fn shift_bits(alloc: Global) -> Result<u128, Memory> {
+fn shift_bits(alloc: Global) -> Result<u128, OutOfMemory> {
     let mut b = Builder::new(alloc, 8, 8)?;
     let din = b.din();
     let first = b.reg(8)?;
@@ -36,7 +36,7 @@ fn shift_bits(alloc: Global) -> Result<u128, Memory> {
 }
 
 // The buffer bits of a register that counts.
-fn counter_bits(alloc: Global) -> Result<u128, Memory> {
+fn counter_bits(alloc: Global) -> Result<u128, OutOfMemory> {
     let mut b = Builder::new(alloc, 8, 8)?;
     let count = b.reg(8)?;
     let one = Atom::Constant(Constant::new(Width::new(8), 1));

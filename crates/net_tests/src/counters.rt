@@ -1,14 +1,14 @@
 //! Counters of clocks, clocked from power-up ones. What they show was worked out by hand.
 
 use crate::digits::digits;
-use dk_base::Memory;
+use dk_base::OutOfMemory;
 use net_build::{Builder, counter, counter_up_to, started};
 use netlist::Module;
 use std::alloc::Global;
 use std::test::Fail;
 
 // A counter from 0 to 2, which then begins again.
-fn cyclic(alloc: Global) -> Result<Module, Memory> {
+fn cyclic(alloc: Global) -> Result<Module, OutOfMemory> {
     let mut b = Builder::with_enable(alloc, 1, 2)?;
     let count = counter(&mut b, 2)?;
     let valid = b.rst();
@@ -17,7 +17,7 @@ fn cyclic(alloc: Global) -> Result<Module, Memory> {
 }
 
 // A counter from 0 to 2, which stays there.
-fn saturating(alloc: Global) -> Result<Module, Memory> {
+fn saturating(alloc: Global) -> Result<Module, OutOfMemory> {
     let mut b = Builder::with_enable(alloc, 1, 2)?;
     let count = counter_up_to(&mut b, 2)?;
     let valid = b.rst();
@@ -26,7 +26,7 @@ fn saturating(alloc: Global) -> Result<Module, Memory> {
 }
 
 // Whether two clocks were counted.
-fn two_counted(alloc: Global) -> Result<Module, Memory> {
+fn two_counted(alloc: Global) -> Result<Module, OutOfMemory> {
     let mut b = Builder::with_enable(alloc, 1, 1)?;
     let net = started(&mut b, 2)?;
     let valid = b.rst();
@@ -35,7 +35,7 @@ fn two_counted(alloc: Global) -> Result<Module, Memory> {
 }
 
 // Whether none or more were.
-fn none_counted(alloc: Global) -> Result<Module, Memory> {
+fn none_counted(alloc: Global) -> Result<Module, OutOfMemory> {
     let mut b = Builder::with_enable(alloc, 1, 1)?;
     let net = started(&mut b, 0)?;
     let valid = b.rst();
@@ -43,25 +43,25 @@ fn none_counted(alloc: Global) -> Result<Module, Memory> {
     Ok(module)
 }
 
-fn cyclic_digits(alloc: Global, clocks: &[u8]) -> Result<u64, Memory> {
+fn cyclic_digits(alloc: Global, clocks: &[u8]) -> Result<u64, OutOfMemory> {
     let module = cyclic(alloc)?;
     let all = digits(alloc, &module, clocks)?;
     Ok(all)
 }
 
-fn saturating_digits(alloc: Global, clocks: &[u8]) -> Result<u64, Memory> {
+fn saturating_digits(alloc: Global, clocks: &[u8]) -> Result<u64, OutOfMemory> {
     let module = saturating(alloc)?;
     let all = digits(alloc, &module, clocks)?;
     Ok(all)
 }
 
-fn two_digits(alloc: Global, clocks: &[u8]) -> Result<u64, Memory> {
+fn two_digits(alloc: Global, clocks: &[u8]) -> Result<u64, OutOfMemory> {
     let module = two_counted(alloc)?;
     let all = digits(alloc, &module, clocks)?;
     Ok(all)
 }
 
-fn none_digits(alloc: Global, clocks: &[u8]) -> Result<u64, Memory> {
+fn none_digits(alloc: Global, clocks: &[u8]) -> Result<u64, OutOfMemory> {
     let module = none_counted(alloc)?;
     let all = digits(alloc, &module, clocks)?;
     Ok(all)

@@ -1,7 +1,7 @@
 //! What an output shows, clock by clock.
 
 use cycle_sim::{Fill, Sim};
-use dk_base::Memory;
+use dk_base::OutOfMemory;
 use netlist::Module;
 use std::alloc::Global;
 
@@ -20,8 +20,8 @@ fn shown(sim: &mut Sim, reset: bool, enable: bool) -> u64 {
     }
 }
 
-/// What the output shows, a digit for each clock behind a 1, from power-up ones and a reset clock on, which is left out. In a clock `r` there is a reset, in a clock `R` there is one with `en` at 0, and a clock `h` is held.
-pub fn digits(alloc: Global, module: &Module, clocks: &[u8]) -> Result<u64, Memory> {
+// What the output shows, a digit for each clock behind a 1, from power-up ones and a reset clock on, which is left out. In a clock `r` there is a reset, in a clock `R` there is one with `en` at 0, and a clock `h` is held.
+pub fn digits(alloc: Global, module: &Module, clocks: &[u8]) -> Result<u64, OutOfMemory> {
     let mut sim = Sim::new(alloc, module, Fill::Ones)?;
     let _ = shown(&mut sim, true, true);
     let mut all: u64 = 1;

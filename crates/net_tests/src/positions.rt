@@ -3,7 +3,7 @@
 ghost use Rattle.dk_base.specs.Frames.{IsFrame};
 
 use crate::digits::digits;
-use dk_base::Memory;
+use dk_base::OutOfMemory;
 use edge_select::{Extent, Step, at, inside, leading, passing, position};
 use net_build::Builder;
 use netlist::Module;
@@ -12,7 +12,7 @@ use std::alloc::Global;
 use std::test::Fail;
 
 // The column of the pixel of `delay` clocks before, in frames of 3 by 3.
-fn columns(alloc: Global, delay: u64) -> Result<Module, Memory> {
+fn columns(alloc: Global, delay: u64) -> Result<Module, OutOfMemory> {
     let mut b = Builder::with_enable(alloc, 1, 2)?;
     let pixel = position(&mut b, delay, 3, 3)?;
     let valid = b.rst();
@@ -21,7 +21,7 @@ fn columns(alloc: Global, delay: u64) -> Result<Module, Memory> {
 }
 
 // Its row.
-fn rows(alloc: Global, delay: u64) -> Result<Module, Memory> {
+fn rows(alloc: Global, delay: u64) -> Result<Module, OutOfMemory> {
     let mut b = Builder::with_enable(alloc, 1, 2)?;
     let pixel = position(&mut b, delay, 3, 3)?;
     let valid = b.rst();
@@ -30,7 +30,7 @@ fn rows(alloc: Global, delay: u64) -> Result<Module, Memory> {
 }
 
 // The test `inside` in frames of this size.
-fn insides(alloc: Global, width: u32, height: u32, dx: i32, dy: i32) -> Result<Module, Memory>
+fn insides(alloc: Global, width: u32, height: u32, dx: i32, dy: i32) -> Result<Module, OutOfMemory>
     requires { IsFrame width height }
 {
     let mut b = Builder::with_enable(alloc, 1, 1)?;
@@ -42,7 +42,7 @@ fn insides(alloc: Global, width: u32, height: u32, dx: i32, dy: i32) -> Result<M
 }
 
 // The test `at` of two steps in frames of 3 by 2.
-fn steps_at(alloc: Global, steps: &[Step], dx: i32, dy: i32) -> Result<Module, Memory> {
+fn steps_at(alloc: Global, steps: &[Step], dx: i32, dy: i32) -> Result<Module, OutOfMemory> {
     let mut b = Builder::with_enable(alloc, 1, 1)?;
     let pixel = position(&mut b, 0, 3, 2)?;
     let test = at(&mut b, &pixel, steps, dx, dy)?;
@@ -51,19 +51,25 @@ fn steps_at(alloc: Global, steps: &[Step], dx: i32, dy: i32) -> Result<Module, M
     Ok(module)
 }
 
-fn column_digits(alloc: Global, delay: u64, clocks: &[u8]) -> Result<u64, Memory> {
+fn column_digits(alloc: Global, delay: u64, clocks: &[u8]) -> Result<u64, OutOfMemory> {
     let module = columns(alloc, delay)?;
     let all = digits(alloc, &module, clocks)?;
     Ok(all)
 }
 
-fn row_digits(alloc: Global, delay: u64, clocks: &[u8]) -> Result<u64, Memory> {
+fn row_digits(alloc: Global, delay: u64, clocks: &[u8]) -> Result<u64, OutOfMemory> {
     let module = rows(alloc, delay)?;
     let all = digits(alloc, &module, clocks)?;
     Ok(all)
 }
 
-fn inside_digits(alloc: Global, width: u32, height: u32, dx: i32, dy: i32) -> Result<u64, Memory>
+fn inside_digits(
+    alloc: Global,
+    width: u32,
+    height: u32,
+    dx: i32,
+    dy: i32,
+) -> Result<u64, OutOfMemory>
     requires { IsFrame width height }
 {
     let module = insides(alloc, width, height, dx, dy)?;
@@ -71,7 +77,13 @@ fn inside_digits(alloc: Global, width: u32, height: u32, dx: i32, dy: i32) -> Re
     Ok(all)
 }
 
-fn at_digits(alloc: Global, first: Step, second: Step, dx: i32, dy: i32) -> Result<u64, Memory> {
+fn at_digits(
+    alloc: Global,
+    first: Step,
+    second: Step,
+    dx: i32,
+    dy: i32,
+) -> Result<u64, OutOfMemory> {
     let steps = [first, second];
     let module = steps_at(alloc, &steps, dx, dy)?;
     let all = digits(alloc, &module, b"......")?;

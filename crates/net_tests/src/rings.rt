@@ -1,21 +1,21 @@
 //! A ring of three words: its buffer bits, and a run of it.
 
 use cycle_sim::{Clock, Fill, RunFault, Sim, clocks_fit, run};
-use dk_base::Memory;
+use dk_base::OutOfMemory;
 use net_build_ring::delay_three;
 use netlist::{Module, buffer_bits};
 use std::alloc::Global;
 use std::test::Fail;
 
 // The buffer bits of words of eight bits.
-fn ring_bits(alloc: Global) -> Result<u128, Memory> {
+fn ring_bits(alloc: Global) -> Result<u128, OutOfMemory> {
     let module = delay_three(alloc, 8)?;
     let bits = buffer_bits(alloc, &module)?;
     Ok(bits)
 }
 
 // A clock with its din. Each fourth one has a reset, where the module shows its word.
-fn clock(alloc: Global, din: u64) -> Result<Clock, Memory> {
+fn clock(alloc: Global, din: u64) -> Result<Clock, OutOfMemory> {
     let mut dins = Vec::new(alloc);
     dins.push(din)?;
     Ok(Clock {
@@ -26,7 +26,7 @@ fn clock(alloc: Global, din: u64) -> Result<Clock, Memory> {
 }
 
 // Clocks with the dins 1, 2 and so on.
-fn clocks(alloc: Global, count: u64) -> Result<Vec<Clock>, Memory> {
+fn clocks(alloc: Global, count: u64) -> Result<Vec<Clock>, OutOfMemory> {
     let mut clocks = Vec::new(alloc);
     for din in 0..count {
         clocks.push(clock(alloc, din.wrapping_add(1))?)?;

@@ -20,7 +20,7 @@ use Rattle.netlist.specs.declared.parts.Parts.{Parts}
 use Rattle.netlist.specs.declared.parts.NamedUpdate.{NamedUpdate}
 use Rattle.netlist.specs.declared.parts.NamedUpdate.TheVariants.{Set as NamedSet, Put as NamedPut}
 use Rattle.netlist.specs.declared.fault.NetFault.{NetFault}
-use Rattle.netlist.specs.declared.fault.NetFault.TheVariants.{Memory}
+use Rattle.netlist.specs.declared.fault.NetFault.TheVariants.{OutOfMemory}
 use Rattle.netlist.specs.declared.drive.Tables.{Tables}
 use Rattle.netlist.specs.Scopes.{Meaning, clock, net, array, Entry, scope_of, net_named, array_named, atom_named, assign_named, update_named, reg_of_net, netlist_of_parts}
 use Rattle.netlist.specs.Faults.{FirstWrong, FineAssign, TargetsDiffer, HasAssign, HasUpdate, HasDriver, PassesStatements, PassesTargets, PassesDrivers, IsFault}
@@ -139,15 +139,15 @@ module _ (p : Parts) (w : Wiring) (is : netlist_of w ≡ netlist_of_parts p) whe
         updates = differ_by update_target m.updates (updater_of d.updaters) tables.updaters;
       }
 
-  pub twice_fault : PassesStatements p → (f : NetFault) → (f ≡ Memory) ⊎ IsDrivenTwice (netlist_of w) f → IsFault p f
-  twice_fault passes f h = by (subst (λ (x : Netlist). (f ≡ Memory) ⊎ IsDrivenTwice x f) is h)
+  pub twice_fault : PassesStatements p → (f : NetFault) → (f ≡ OutOfMemory) ⊎ IsDrivenTwice (netlist_of w) f → IsFault p f
+  twice_fault passes f h = by (subst (λ (x : Netlist). (f ≡ OutOfMemory) ⊎ IsDrivenTwice x f) is h)
     where
-      by : (f ≡ Memory) ⊎ IsDrivenTwice m f → IsFault p f
+      by : (f ≡ OutOfMemory) ⊎ IsDrivenTwice m f → IsFault p f
       by (inl e) = subst (IsFault p) (sym e) tt
       by (inr (inl s)) = subst (IsFault p) (sym s.1) (passes, s.2)
       by (inr (inr s)) = subst (IsFault p) (sym s.1.1) (passes, s.0, s.1.2)
 
-  pub cycle_fault : PassesDrivers p → (f : NetFault) → (f ≡ Memory) ⊎ IsCycle (netlist_of w) f → IsFault p f
+  pub cycle_fault : PassesDrivers p → (f : NetFault) → (f ≡ OutOfMemory) ⊎ IsCycle (netlist_of w) f → IsFault p f
   cycle_fault passes f (inl e) = subst (IsFault p) (sym e) tt
   cycle_fault passes f (inr s) = subst (IsFault p) (sym s.1) (passes, subst (λ (x : Netlist). DependsOn x.assigns s.0 s.0) is s.2)
 
@@ -171,11 +171,11 @@ module _ (p : Parts) (scope : List Entry) (same : scope ≡ scope_of p) (d : Tab
     driven = λ k e at. driver_there (netlist_of_parts p) d tables e.meaning (All-at (IsDrivenEntry d) (scope_of p) k e (subst (λ (s : List Entry). All (IsDrivenEntry d) s) same all) at);
   }
 
-pub second_assign : (m : Netlist) (f : NetFault) → (f ≡ Memory) ⊎ IsSecondAssign m f → (f ≡ Memory) ⊎ IsDrivenTwice m f
+pub second_assign : (m : Netlist) (f : NetFault) → (f ≡ OutOfMemory) ⊎ IsSecondAssign m f → (f ≡ OutOfMemory) ⊎ IsDrivenTwice m f
 second_assign m f (inl e) = inl e
 second_assign m f (inr s) = inr (inl s)
 
 -- a second update, where no assign is one
-pub second_update : (m : Netlist) (d : Drivers) → IsTable m.assigns d → (f : NetFault) → (f ≡ Memory) ⊎ IsSecondUpdate m f → (f ≡ Memory) ⊎ IsDrivenTwice m f
+pub second_update : (m : Netlist) (d : Drivers) → IsTable m.assigns d → (f : NetFault) → (f ≡ OutOfMemory) ⊎ IsSecondUpdate m f → (f ≡ OutOfMemory) ⊎ IsDrivenTwice m f
 second_update m d table f (inl e) = inl e
 second_update m d table f (inr s) = inr (inr (differ_by assign_target m.assigns (driver_of d) table, s))

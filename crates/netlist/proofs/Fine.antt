@@ -21,7 +21,7 @@ use Rattle.netlist.specs.declared.parts.NamedAssign.{NamedAssign}
 use Rattle.netlist.specs.declared.parts.NamedUpdate.{NamedUpdate}
 use Rattle.netlist.specs.declared.fault.Statement.TheVariants.{Assign as AssignAt, Update as UpdateAt}
 use Rattle.netlist.specs.declared.fault.NetFault.{NetFault}
-use Rattle.netlist.specs.declared.fault.NetFault.TheVariants.{Memory}
+use Rattle.netlist.specs.declared.fault.NetFault.TheVariants.{OutOfMemory}
 use Rattle.netlist.specs.declared.statement.Wrong.{Wrong}
 use Rattle.netlist.specs.declared.statement.Wrong.TheVariants.{Unknown, WrongSort, Divisor, Width}
 use Rattle.netlist.specs.Scopes.{Entry, scope_of, net_named, right_named, assign_named, update_named, netlist_of_parts, collected, update_constants}
@@ -138,7 +138,7 @@ module _ (p : Parts) (w : Wiring) (nets : HasNets p w) where
     first_assign Divisor k f = (passes, first_weaker (FineAssign p) (DivisorAssign p) (IsGoodAssign scope n) (IsWrongAssign scope n Divisor) fine_assign divisor_assign p.assigns.items k f)
     first_assign Width k f = (passes, first_weaker (FineAssign p) (WidthAssign p) (IsGoodAssign scope n) (IsWrongAssign scope n Width) fine_assign width_assign p.assigns.items k f)
 
-    pub assign_fault : (f : NetFault) → (f ≡ Memory) ⊎ IsFirstFault (IsGoodAssign scope n) (IsWrongAssign scope n) (λ k. AssignAt k) p.assigns.items f → IsFault p f
+    pub assign_fault : (f : NetFault) → (f ≡ OutOfMemory) ⊎ IsFirstFault (IsGoodAssign scope n) (IsWrongAssign scope n) (λ k. AssignAt k) p.assigns.items f → IsFault p f
     assign_fault f (inl e) = subst (IsFault p) (sym e) tt
     assign_fault f (inr h) = subst (IsFault p) (sym h.fault) (first_assign h.wrong h.place h.first)
 
@@ -149,18 +149,18 @@ module _ (p : Parts) (w : Wiring) (nets : HasNets p w) where
       first_update Divisor k f = absurd f.wrong
       first_update Width k f = (passes, (assigns, first_weaker (FineUpdate p) (WidthUpdate p) (IsGoodUpdate scope n) (IsWrongUpdate scope n Width) fine_update width_update p.updates.items k f))
 
-      pub update_fault : (f : NetFault) → (f ≡ Memory) ⊎ IsFirstFault (IsGoodUpdate scope n) (IsWrongUpdate scope n) (λ k. UpdateAt k) p.updates.items f → IsFault p f
+      pub update_fault : (f : NetFault) → (f ≡ OutOfMemory) ⊎ IsFirstFault (IsGoodUpdate scope n) (IsWrongUpdate scope n) (λ k. UpdateAt k) p.updates.items f → IsFault p f
       update_fault f (inl e) = subst (IsFault p) (sym e) tt
       update_fault f (inr h) = subst (IsFault p) (sym h.fault) (first_update h.wrong h.place h.first)
 
   -- the same of the slices and the scope that a call is given
   module _ (s : List Entry) (same_scope : s ≡ scope_of p) where
     module _ (xs : List NamedAssign) (same : xs ≡ p.assigns.items) where
-      pub assigns_fault : PassesPorts p → (f : NetFault) → (f ≡ Memory) ⊎ IsFirstFault (IsGoodAssign s n) (IsWrongAssign s n) (λ k. AssignAt k) xs f → IsFault p f
+      pub assigns_fault : PassesPorts p → (f : NetFault) → (f ≡ OutOfMemory) ⊎ IsFirstFault (IsGoodAssign s n) (IsWrongAssign s n) (λ k. AssignAt k) xs f → IsFault p f
       assigns_fault passes f h =
           assign_fault passes f
-          (subst (λ (l : List NamedAssign). (f ≡ Memory) ⊎ IsFirstFault (IsGoodAssign scope n) (IsWrongAssign scope n) (λ k. AssignAt k) l f) same
-          (subst (λ (x : List Entry). (f ≡ Memory) ⊎ IsFirstFault (IsGoodAssign x n) (IsWrongAssign x n) (λ k. AssignAt k) xs f) same_scope h))
+          (subst (λ (l : List NamedAssign). (f ≡ OutOfMemory) ⊎ IsFirstFault (IsGoodAssign scope n) (IsWrongAssign scope n) (λ k. AssignAt k) l f) same
+          (subst (λ (x : List Entry). (f ≡ OutOfMemory) ⊎ IsFirstFault (IsGoodAssign x n) (IsWrongAssign x n) (λ k. AssignAt k) xs f) same_scope h))
 
       good_here : All (IsGoodAssign s n) xs → All (IsGoodAssign scope n) p.assigns.items
       good_here good = subst (λ (l : List NamedAssign). All (IsGoodAssign scope n) l) same (subst (λ (x : List Entry). All (IsGoodAssign x n) xs) same_scope good)
@@ -175,11 +175,11 @@ module _ (p : Parts) (w : Wiring) (nets : HasNets p w) where
       assigns_made bs e = e ∙ ap (λ (x : List Entry). collected (assign_named x) xs) same_scope ∙ ap (λ (l : List NamedAssign). collected (assign_named scope) l) same
 
     module _ (us : List NamedUpdate) (same : us ≡ p.updates.items) where
-      pub updates_fault : PassesPorts p → All (FineAssign p) p.assigns.items → (f : NetFault) → (f ≡ Memory) ⊎ IsFirstFault (IsGoodUpdate s n) (IsWrongUpdate s n) (λ k. UpdateAt k) us f → IsFault p f
+      pub updates_fault : PassesPorts p → All (FineAssign p) p.assigns.items → (f : NetFault) → (f ≡ OutOfMemory) ⊎ IsFirstFault (IsGoodUpdate s n) (IsWrongUpdate s n) (λ k. UpdateAt k) us f → IsFault p f
       updates_fault passes assigns f h =
           update_fault passes assigns f
-          (subst (λ (l : List NamedUpdate). (f ≡ Memory) ⊎ IsFirstFault (IsGoodUpdate scope n) (IsWrongUpdate scope n) (λ k. UpdateAt k) l f) same
-          (subst (λ (x : List Entry). (f ≡ Memory) ⊎ IsFirstFault (IsGoodUpdate x n) (IsWrongUpdate x n) (λ k. UpdateAt k) us f) same_scope h))
+          (subst (λ (l : List NamedUpdate). (f ≡ OutOfMemory) ⊎ IsFirstFault (IsGoodUpdate scope n) (IsWrongUpdate scope n) (λ k. UpdateAt k) l f) same
+          (subst (λ (x : List Entry). (f ≡ OutOfMemory) ⊎ IsFirstFault (IsGoodUpdate x n) (IsWrongUpdate x n) (λ k. UpdateAt k) us f) same_scope h))
 
       good_there : All (IsGoodUpdate s n) us → All (IsGoodUpdate scope n) p.updates.items
       good_there good = subst (λ (l : List NamedUpdate). All (IsGoodUpdate scope n) l) same (subst (λ (x : List Entry). All (IsGoodUpdate x n) us) same_scope good)

@@ -27,7 +27,7 @@ use Rattle.netlist.specs.declared.fault.Declared.TheVariants.{Port as PortAt, De
 use Rattle.netlist.specs.declared.fault.Statement.{Statement}
 use Rattle.netlist.specs.declared.fault.Statement.TheVariants.{Assign as AssignAt, Update as UpdateAt}
 use Rattle.netlist.specs.declared.fault.NetFault.{NetFault}
-use Rattle.netlist.specs.declared.fault.NetFault.TheVariants.{Duplicate, Ports, Unknown, WrongSort, Divisor, Width, DrivenTwice, Undriven, Cycle, Memory}
+use Rattle.netlist.specs.declared.fault.NetFault.TheVariants.{Duplicate, Ports, Unknown, WrongSort, Divisor, Width, DrivenTwice, Undriven, Cycle, OutOfMemory}
 use Rattle.netlist.specs.Names.{AreDistinct, numbered, NamedNetlist}
 use Rattle.netlist.specs.Scopes.{Entry, Meaning, clock, net, array, scope_of, stands_for, assign_named, update_named, netlist_of_parts, module_of}
 
@@ -217,7 +217,7 @@ IsFault p (DrivenTwice (AssignAt k)) = PassesStatements p × IsSecond assign_tar
 IsFault p (DrivenTwice (UpdateAt k)) = PassesStatements p × TargetsDiffer assign_target (netlist_of_parts p).assigns × IsSecond update_target (netlist_of_parts p).updates k
 IsFault p (Undriven d) = PassesTargets p × (place : ℕ) × IsPlace p d place × FirstWrong (λ (e : Entry). HasDriver (netlist_of_parts p) e.meaning) (λ (e : Entry). HasDriver (netlist_of_parts p) e.meaning → ⊥) (scope_of p) place
 IsFault p (Cycle k) = PassesDrivers p × DependsOn (netlist_of_parts p).assigns k k
-IsFault p Memory = Unit {0}
+IsFault p OutOfMemory = Unit {0}
 
 -- the parts keep all net rules, and make this module
 pub record IsModuleOf (p : Parts) (m : NamedNetlist) : Type 0 where
@@ -228,6 +228,6 @@ pub record IsModuleOf (p : Parts) (m : NamedNetlist) : Type 0 where
 -- the same fault; of a cycle any target on it may be told, and want of memory tells nothing
 abbrev pub Agrees : NetFault → NetFault → Type 0
 Agrees (Cycle j) (Cycle k) = Unit {0}
-Agrees Memory g = Unit {0}
-Agrees f Memory = Unit {0}
+Agrees OutOfMemory g = Unit {0}
+Agrees f OutOfMemory = Unit {0}
 Agrees f g = f ≡ g

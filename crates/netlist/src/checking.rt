@@ -19,7 +19,7 @@ use net_names::Name;
 use std::alloc::{AllocError, Global};
 use wiring::Wiring;
 
-/// Parts with nets and arrays in place of names, and an order of their assigns.
+// Parts with nets and arrays in place of names, and an order of their assigns.
 #[derive(Debug, Drop)]
 pub(crate) struct Wired {
     pub wiring: Wiring,

@@ -3,7 +3,7 @@
 ghost use Rattle.std.specs.Prelude.{◌≡◌, ◌⊎◌, ◌+◌, ◌++◌, ◌<◌, ◌^◌, true, length, All, OnOk, IfOk, IfErr};
 ghost use Rattle.std.specs.Option.{option_to_list};
 ghost use Rattle.net_names.specs.Words.{is_name};
-ghost use Rattle.netlist.specs.declared.fault.NetFault.TheVariants.{Memory};
+ghost use Rattle.netlist.specs.declared.fault.NetFault.TheVariants.{OutOfMemory};
 ghost use Rattle.netlist.specs.declared.parts.Port.{Port as OnePort};
 ghost use Rattle.netlist.specs.declared.parts.Declaration.{Declaration as OneDeclaration};
 ghost use Rattle.netlist.specs.Scopes.{port_meaning, inputs_after, outputs_after, port_entries, all_ports, sort_meaning, wires_after, regs_after, arrays_after, declared_entries, scope_of as scope_of_parts, past_clock as ports_past_clock, has_enable as enable_among, collected, taken, given, wire_width, reg_width, array_shape, SortFits, NamesAre};
@@ -51,7 +51,7 @@ fn output_after(direction: Direction, outputs: usize) -> usize
 fn add_ports<'a>(scope: &mut Scope<'a>, ports: &'a [Port]) -> Result<(), NetFault>
     requires { length scope.old ≡ 1 }
     ensures ok { OnOk result (scope.new ≡ scope.old ++ port_entries 0 0 ports.now) }
-    ensures fault { IfErr result (λ f. (f ≡ Memory) ⊎ IsSecondPort (names_in (scope.old ++ port_entries 0 0 ports.now)) (1 + length ports.now) f) }
+    ensures fault { IfErr result (λ f. (f ≡ OutOfMemory) ⊎ IsSecondPort (names_in (scope.old ++ port_entries 0 0 ports.now)) (1 + length ports.now) f) }
 {
     let mut inputs = 0;
     let mut outputs = 0;
@@ -68,7 +68,7 @@ fn add_ports<'a>(scope: &mut Scope<'a>, ports: &'a [Port]) -> Result<(), NetFaul
 fn add_all_ports<'a>(scope: &mut Scope<'a>, ports: &'a [Port]) -> Result<(), NetFault>
     requires { length scope.old ≡ 0 }
     ensures ok { OnOk result (scope.new ≡ all_ports ports.now) }
-    ensures fault { IfErr result (λ f. (f ≡ Memory) ⊎ IsSecondPort (names_in (all_ports ports.now)) (length ports.now) f) }
+    ensures fault { IfErr result (λ f. (f ≡ OutOfMemory) ⊎ IsSecondPort (names_in (all_ports ports.now)) (length ports.now) f) }
 {
     match ports.split_first() {
         None => Ok(()),
@@ -80,7 +80,7 @@ fn add_all_ports<'a>(scope: &mut Scope<'a>, ports: &'a [Port]) -> Result<(), Net
     }
 }
 
-/// How many wires, registers and arrays there are so far.
+// How many wires, registers and arrays there are so far.
 #[derive(Clone, Copy, Debug)]
 pub(crate) struct Counts {
     pub wires: usize,
@@ -137,7 +137,7 @@ fn add_declarations<'a>(
 ) -> Result<(), NetFault>
     ensures ok { OnOk result (scope.new ≡ scope.old ++ declared_entries 0 0 0 declarations.now) }
     ensures names { OnOk result (All (λ (d : OneDeclaration). is_name d.name ≡ true) declarations.now) }
-    ensures fault { IfErr result (λ f. (f ≡ Memory) ⊎ IsSecondDeclaration (names_in (scope.old ++ declared_entries 0 0 0 declarations.now)) (length scope.old) f) }
+    ensures fault { IfErr result (λ f. (f ≡ OutOfMemory) ⊎ IsSecondDeclaration (names_in (scope.old ++ declared_entries 0 0 0 declarations.now)) (length scope.old) f) }
 {
     let mut counts = Counts {
         wires: 0,
@@ -156,7 +156,7 @@ fn add_declarations<'a>(
     Ok(())
 }
 
-/// What each name of the parts stands for, or the first name that is declared a second time.
+// What each name of the parts stands for, or the first name that is declared a second time.
 pub(crate) fn scope_of(alloc: Global, parts: &Parts) -> Result<Scope<'_>, NetFault>
     ensures scope { IfOk result (λ s. s ≡ scope_of_parts parts.now) }
     ensures differ { OnOk result (NamesDiffer parts.now) }
@@ -189,7 +189,7 @@ fn has_enable(ports: &[Port]) -> bool
     }
 }
 
-/// Widths of inputs and outputs.
+// Widths of inputs and outputs.
 #[derive(Debug, Drop)]
 pub(crate) struct PortWidths {
     pub inputs: Vec<Width>,
@@ -221,7 +221,7 @@ fn port_widths(alloc: Global, ports: &[Port]) -> Result<PortWidths, AllocError>
     Ok(widths)
 }
 
-/// Widths of wires and registers, and shapes of arrays.
+// Widths of wires and registers, and shapes of arrays.
 #[derive(Debug, Drop)]
 pub(crate) struct Sorts {
     pub wires: Vec<Width>,
@@ -277,7 +277,7 @@ fn sorts_of(alloc: Global, declarations: &[Declaration]) -> Result<Sorts, AllocE
     Ok(sorts)
 }
 
-/// The nets and arrays of parts, with nothing that drives them.
+// The nets and arrays of parts, with nothing that drives them.
 pub(crate) fn nets_of(alloc: Global, parts: &Parts) -> Result<Wiring, AllocError>
     ensures nets { IfOk result (HasNets parts.now) }
     ensures fit { OnOk result (All (λ (d : OneDeclaration). SortFits d.sort) parts.now.declarations.items) }

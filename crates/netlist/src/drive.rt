@@ -6,7 +6,7 @@ ghost use Rattle.wiring.specs.declared.netlist.Update.{Update};
 ghost use Rattle.wiring.specs.Netlist.{netlist_of, update_target};
 ghost use Rattle.wiring.specs.Tables.{IsTarget, IsStateTarget, IsTable, IsUpdateTable};
 ghost use Rattle.wiring.specs.Order.{IsEvaluationOrder};
-ghost use Rattle.netlist.specs.declared.fault.NetFault.TheVariants.{Memory};
+ghost use Rattle.netlist.specs.declared.fault.NetFault.TheVariants.{OutOfMemory};
 ghost use Rattle.netlist.specs.Scopes.{Entry};
 ghost use Rattle.netlist.specs.Entries.{meaning_of};
 ghost use Rattle.netlist.specs.Faults.{FirstWrong, IsPlace};
@@ -18,7 +18,7 @@ use crate::scope::{Scope, Stands};
 use std::alloc::Global;
 use wiring::{Drivers, Net, OrderFault, TableFault, Updaters, Wiring};
 
-/// What drives each net and array.
+// What drives each net and array.
 #[derive(Debug, Drop)]
 pub(crate) struct Tables {
     pub drivers: Drivers,
@@ -29,13 +29,13 @@ pub(crate) struct Tables {
 fn drivers_of(alloc: Global, wiring: &Wiring) -> Result<Drivers, NetFault>
     requires { All (λ (a : Assign). IsTarget (length wiring.now.outputs.items) (length wiring.now.wires.items) a.target) wiring.now.assigns.items }
     ensures ok { IfOk result (IsTable wiring.now.assigns.items) }
-    ensures fault { IfErr result (λ f. (f ≡ Memory) ⊎ IsSecondAssign (netlist_of wiring.now) f) }
+    ensures fault { IfErr result (λ f. (f ≡ OutOfMemory) ⊎ IsSecondAssign (netlist_of wiring.now) f) }
 {
     let outputs = wiring.outputs.len();
     match wiring::drivers_of(alloc, outputs, wiring.wires.len(), &wiring.assigns) {
         Ok(drivers) => Ok(drivers),
         Err(TableFault::Twice(k)) => Err(NetFault::DrivenTwice(Statement::Assign(k))),
-        Err(TableFault::Memory) => Err(NetFault::Memory),
+        Err(TableFault::OutOfMemory) => Err(NetFault::OutOfMemory),
     }
 }
 
@@ -43,22 +43,22 @@ fn drivers_of(alloc: Global, wiring: &Wiring) -> Result<Drivers, NetFault>
 fn updaters_of(alloc: Global, wiring: &Wiring) -> Result<Updaters, NetFault>
     requires { All (λ (u : Update). IsStateTarget (length wiring.now.regs.items) (length wiring.now.arrays.items) (update_target u)) wiring.now.updates.items }
     ensures ok { IfOk result (IsUpdateTable wiring.now.updates.items) }
-    ensures fault { IfErr result (λ f. (f ≡ Memory) ⊎ IsSecondUpdate (netlist_of wiring.now) f) }
+    ensures fault { IfErr result (λ f. (f ≡ OutOfMemory) ⊎ IsSecondUpdate (netlist_of wiring.now) f) }
 {
     let regs = wiring.regs.len();
     match wiring::updaters_of(alloc, regs, wiring.arrays.len(), &wiring.updates) {
         Ok(updaters) => Ok(updaters),
         Err(TableFault::Twice(k)) => Err(NetFault::DrivenTwice(Statement::Update(k))),
-        Err(TableFault::Memory) => Err(NetFault::Memory),
+        Err(TableFault::OutOfMemory) => Err(NetFault::OutOfMemory),
     }
 }
 
-/// What drives each net and array, or the second driver of one, assigns first.
+// What drives each net and array, or the second driver of one, assigns first.
 pub(crate) fn tables_of(alloc: Global, wiring: &Wiring) -> Result<Tables, NetFault>
     requires targets { All (λ (a : Assign). IsTarget (length wiring.now.outputs.items) (length wiring.now.wires.items) a.target) wiring.now.assigns.items }
     requires states { All (λ (u : Update). IsStateTarget (length wiring.now.regs.items) (length wiring.now.arrays.items) (update_target u)) wiring.now.updates.items }
     ensures tables { IfOk result (AreTables (netlist_of wiring.now)) }
-    ensures fault { IfErr result (λ f. (f ≡ Memory) ⊎ IsDrivenTwice (netlist_of wiring.now) f) }
+    ensures fault { IfErr result (λ f. (f ≡ OutOfMemory) ⊎ IsDrivenTwice (netlist_of wiring.now) f) }
 {
     let drivers = drivers_of(alloc, wiring)?;
     let updaters = updaters_of(alloc, wiring)?;
@@ -113,7 +113,7 @@ fn declared_at(parts: &Parts, place: usize) -> Declared
     }
 }
 
-/// Whether each wire, output, register and array is driven.
+// Whether each wire, output, register and array is driven.
 pub(crate) fn check_driven(parts: &Parts, scope: &Scope, tables: &Tables) -> Result<(), NetFault>
     ensures ok { OnOk result (All (IsDrivenEntry tables.now) scope.now) }
     ensures fault { IfErr result (IsFirstUndriven parts.now scope.now tables.now) }
@@ -124,7 +124,7 @@ pub(crate) fn check_driven(parts: &Parts, scope: &Scope, tables: &Tables) -> Res
     }
 }
 
-/// An order in which the assigns can be evaluated, or one that depends on itself.
+// An order in which the assigns can be evaluated, or one that depends on itself.
 pub(crate) fn order_of(
     alloc: Global,
     wiring: &Wiring,
@@ -132,11 +132,11 @@ pub(crate) fn order_of(
 ) -> Result<Vec<usize>, NetFault>
     requires { IsTable wiring.now.assigns.items drivers.now }
     ensures ok { IfOk result (λ order. IsEvaluationOrder wiring.now.assigns.items order.items) }
-    ensures fault { IfErr result (λ f. (f ≡ Memory) ⊎ IsCycle (netlist_of wiring.now) f) }
+    ensures fault { IfErr result (λ f. (f ≡ OutOfMemory) ⊎ IsCycle (netlist_of wiring.now) f) }
 {
     match wiring::evaluation_order(alloc, &wiring.assigns, drivers) {
         Ok(order) => Ok(order),
         Err(OrderFault::Cycle(k)) => Err(NetFault::Cycle(k)),
-        Err(OrderFault::Memory) => Err(NetFault::Memory),
+        Err(OrderFault::OutOfMemory) => Err(NetFault::OutOfMemory),
     }
 }

@@ -1,7 +1,7 @@
 // Net faults.
 
 ghost use Rattle.std.specs.Prelude.{◌≡◌};
-ghost use Rattle.netlist.specs.declared.fault.NetFault.TheVariants.{Memory};
+ghost use Rattle.netlist.specs.declared.fault.NetFault.TheVariants.{OutOfMemory};
 
 use std::alloc::{AllocError, AllocFailed};
 
@@ -51,21 +51,21 @@ pub enum NetFault {
     Cycle(usize),
     /// There was not enough memory to tell.
     #[error("out of memory")]
-    Memory,
+    OutOfMemory,
 }
 
 impl From<AllocError> for NetFault {
-    ghost from_gives = { λ _ e. e ≡ Memory };
+    ghost from_gives = { λ _ e. e ≡ OutOfMemory };
 
     fn from(_: AllocError) -> Self {
-        NetFault::Memory
+        NetFault::OutOfMemory
     }
 }
 
 impl<T: Drop> From<AllocFailed<T>> for NetFault {
-    ghost from_gives = { λ _ e. e ≡ Memory };
+    ghost from_gives = { λ _ e. e ≡ OutOfMemory };
 
     fn from(_: AllocFailed<T>) -> Self {
-        NetFault::Memory
+        NetFault::OutOfMemory
     }
 }

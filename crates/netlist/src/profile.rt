@@ -11,7 +11,7 @@ use crate::fault::NetFault;
 use crate::parts::{Direction, Parts, Port};
 use wiring::{MOST_PORT_BITS, MOST_PORTS, Width};
 
-/// Whether the bytes are the same.
+// Whether the bytes are the same.
 pub(crate) fn same(left: &[u8], right: &[u8]) -> bool
     ensures { result ≡ same_codes left.now right.now }
 {
@@ -148,7 +148,7 @@ fn ports_fit(ports: &[Port]) -> bool
     are_from_enable(rest)
 }
 
-/// Whether the ports are those of the profile.
+// Whether the ports are those of the profile.
 pub(crate) fn check_ports(parts: &Parts) -> Result<(), NetFault>
     requires { NamesDiffer parts.now }
     ensures ok { OnOk result (PassesPorts parts.now) }

@@ -5,7 +5,7 @@ use indexmap::IndexMap;
 use std::alloc::Global;
 use std::marker::Model;
 
-/// What a name stands for.
+// What a name stands for.
 #[derive(Clone, Copy, Debug)]
 pub(crate) enum Stands {
     Clock,
@@ -16,7 +16,7 @@ pub(crate) enum Stands {
     Array(usize),
 }
 
-/// Declared names, each once, with what they stand for, in the order of the text.
+// Declared names, each once, with what they stand for, in the order of the text.
 #[derive(Drop)]
 pub(crate) struct Scope<'a> {
     names: IndexMap<&'a [u8], Stands>,
@@ -50,14 +50,14 @@ impl<'a> Scope<'a> {
         }
     }
 
-    /// What the name stands for.
+    // What the name stands for.
     pub(crate) fn find(&self, name: &[u8]) -> Option<Stands>
         ensures { option_map meaning_of result ≡ stands_for self.now name.now }
     {
         self.names.get(name).copied()
     }
 
-    /// Adds the next name, or tells that it is there.
+    // Adds the next name, or tells that it is there.
     pub(crate) fn add(
         &mut self,
         name: &'a [u8],
@@ -73,14 +73,14 @@ impl<'a> Scope<'a> {
         Ok(())
     }
 
-    /// How many names there are.
+    // How many names there are.
     pub(crate) fn len(&self) -> usize
         ensures { result ≡ length self.now }
     {
         self.names.len()
     }
 
-    /// What the name at this place stands for.
+    // What the name at this place stands for.
     pub(crate) fn stands_at(&self, place: usize) -> Option<Stands>
         ensures { option_map meaning_of result ≡ option_map (λ (e : Entry). e.meaning) (slice_get self.now place) }
     {
@@ -88,7 +88,7 @@ impl<'a> Scope<'a> {
         Some(*stands)
     }
 
-    /// A law: no name is there twice.
+    // A law: no name is there twice.
     pub(crate) fn law(&self)
         ensures { AreDistinct (names_in self.now) }
     {

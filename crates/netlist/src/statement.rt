@@ -2,7 +2,7 @@
 
 ghost use Rattle.std.specs.Prelude.{◌≡◌, ◌⊎◌, ◌++◌, ◌∷◌, [], All, OnOk, IfOk, IfErr, IsTrue};
 ghost use Rattle.wiring.specs.Netlist.{netlist_of};
-ghost use Rattle.netlist.specs.declared.fault.NetFault.TheVariants.{Memory};
+ghost use Rattle.netlist.specs.declared.fault.NetFault.TheVariants.{OutOfMemory};
 ghost use Rattle.netlist.specs.declared.fault.Statement.TheVariants.{Assign as AssignAt, Update as UpdateAt};
 ghost use Rattle.netlist.specs.Scopes.{collected, assign_named, update_named};
 ghost use Rattle.netlist.specs.Statements.{IsOfDrivenSort, StandsForAssign, StandsForUpdate, IsGoodAssign, IsGoodUpdate, IsWrongAssign, IsWrongUpdate, IsFirstFault, fault_of};
@@ -14,7 +14,7 @@ use crate::{resolve, width};
 use std::alloc::{AllocError, Global};
 use wiring::{Assign, Net, Update, Wiring};
 
-/// What is wrong with a statement.
+// What is wrong with a statement.
 #[derive(Clone, Copy, Debug)]
 pub(crate) enum Wrong {
     Unknown,
@@ -102,7 +102,7 @@ fn keep_update(updates: &mut Vec<Update>, update: Update) -> Result<(), AllocErr
     Ok(())
 }
 
-/// The assigns that these stand for, or the first that is wrong.
+// The assigns that these stand for, or the first that is wrong.
 pub(crate) fn checked_assigns(
     alloc: Global,
     scope: &Scope,
@@ -111,7 +111,7 @@ pub(crate) fn checked_assigns(
 ) -> Result<Vec<Assign>, NetFault>
     ensures ok { IfOk result (λ bs. bs.items ≡ collected (assign_named scope.now) named.now) }
     ensures good { OnOk result (All (IsGoodAssign scope.now (netlist_of wiring.now)) named.now) }
-    ensures wrong { IfErr result (λ f. (f ≡ Memory) ⊎ IsFirstFault (IsGoodAssign scope.now (netlist_of wiring.now)) (IsWrongAssign scope.now (netlist_of wiring.now)) (λ k. AssignAt k) named.now f) }
+    ensures wrong { IfErr result (λ f. (f ≡ OutOfMemory) ⊎ IsFirstFault (IsGoodAssign scope.now (netlist_of wiring.now)) (IsWrongAssign scope.now (netlist_of wiring.now)) (λ k. AssignAt k) named.now f) }
 {
     let mut assigns = Vec::new(alloc);
     for (k, one) in named.iter().enumerate() {
@@ -123,7 +123,7 @@ pub(crate) fn checked_assigns(
     Ok(assigns)
 }
 
-/// The updates that these stand for, or the first that is wrong.
+// The updates that these stand for, or the first that is wrong.
 pub(crate) fn checked_updates(
     alloc: Global,
     scope: &Scope,
@@ -132,7 +132,7 @@ pub(crate) fn checked_updates(
 ) -> Result<Vec<Update>, NetFault>
     ensures ok { IfOk result (λ vs. vs.items ≡ collected (update_named scope.now) named.now) }
     ensures good { OnOk result (All (IsGoodUpdate scope.now (netlist_of wiring.now)) named.now) }
-    ensures wrong { IfErr result (λ f. (f ≡ Memory) ⊎ IsFirstFault (IsGoodUpdate scope.now (netlist_of wiring.now)) (IsWrongUpdate scope.now (netlist_of wiring.now)) (λ k. UpdateAt k) named.now f) }
+    ensures wrong { IfErr result (λ f. (f ≡ OutOfMemory) ⊎ IsFirstFault (IsGoodUpdate scope.now (netlist_of wiring.now)) (IsWrongUpdate scope.now (netlist_of wiring.now)) (λ k. UpdateAt k) named.now f) }
 {
     let mut updates = Vec::new(alloc);
     for (k, one) in named.iter().enumerate() {

@@ -152,7 +152,7 @@ fn right_fits(wiring: &Wiring, right: &Right<Net, usize>, target: u8) -> bool
     }
 }
 
-/// Whether the widths of an assign agree.
+// Whether the widths of an assign agree.
 pub(crate) fn assign_fits(wiring: &Wiring, assign: &Assign) -> bool
     ensures yes { IsTrue result → AssignFits (netlist_of wiring.now) assign.now }
     ensures no { AssignFits (netlist_of wiring.now) assign.now → IsTrue result }
@@ -160,7 +160,7 @@ pub(crate) fn assign_fits(wiring: &Wiring, assign: &Assign) -> bool
     right_fits(wiring, &assign.right, net_width(wiring, assign.target))
 }
 
-/// Whether the widths of an update agree.
+// Whether the widths of an update agree.
 pub(crate) fn update_fits(wiring: &Wiring, update: &Update) -> bool
     ensures yes { IsTrue result → UpdateFits (netlist_of wiring.now) update.now }
     ensures no { UpdateFits (netlist_of wiring.now) update.now → IsTrue result }
@@ -198,7 +198,7 @@ fn divides_by_divisor(operator: Operator, b: &Atom<Net>) -> bool
     }
 }
 
-/// Whether a division is by a constant above 0.
+// Whether a division is by a constant above 0.
 pub(crate) fn divisor_is_constant(right: &Right<Net, usize>) -> bool
     ensures yes { IsTrue result → DivisorIsConstant right.now }
     ensures no { DivisorIsConstant right.now → IsTrue result }

@@ -19,7 +19,7 @@ pub enum RasterFault {
     Short { held: u128, need: u128 },
 }
 
-/// The sample of this number where samples have two bytes.
+// The sample of this number where samples have two bytes.
 fn pair(raster: &[u8], index: usize) -> u16
     requires { 2 * index + 2 ≤ length raster.now }
     ensures { result ≡ sample_by false raster.now index }
@@ -29,7 +29,7 @@ fn pair(raster: &[u8], index: usize) -> u16
     256 * high + low
 }
 
-/// The first byte above `most`.
+// The first byte above `most`.
 fn great_byte(raster: &[u8], most: u8) -> Option<usize>
     ensures { MatchOption result ((k : ℕ) → k < length raster.now → slice_index raster.now k ≤ most)
         (λ i. (i < length raster.now) × (most < slice_index raster.now i) × ((k : ℕ) → k < i → slice_index raster.now k ≤ most)) }
@@ -45,7 +45,7 @@ fn great_byte(raster: &[u8], most: u8) -> Option<usize>
     None
 }
 
-/// The first whole sample of two bytes above `most`.
+// The first whole sample of two bytes above `most`.
 fn great_pair(raster: &[u8], most: u16) -> Option<usize>
     ensures { MatchOption result ((k : ℕ) → 2 * k + 2 ≤ length raster.now → sample_by false raster.now k ≤ most)
         (λ i. (2 * i + 2 ≤ length raster.now) × (most < sample_by false raster.now i) × ((k : ℕ) → k < i → sample_by false raster.now k ≤ most)) }
@@ -58,7 +58,7 @@ fn great_pair(raster: &[u8], most: u16) -> Option<usize>
     None
 }
 
-/// The first whole sample above maxval.
+// The first whole sample above maxval.
 fn first_great(raster: &[u8], maxval: u16) -> Option<usize>
     ensures { MatchOption result (AllFit maxval raster.now) (λ i. FirstGreat maxval raster.now i) }
 {
@@ -69,7 +69,7 @@ fn first_great(raster: &[u8], maxval: u16) -> Option<usize>
     }
 }
 
-/// The number of bytes of a sample.
+// The number of bytes of a sample.
 fn sample_size(maxval: u16) -> u8
     ensures is { result ≡ size maxval }
     ensures few { result ≤ 2 }
@@ -83,7 +83,7 @@ fn raster_length(header: &Header) -> u128
     u128::from(header.width) * u128::from(header.height) * u128::from(sample_size(header.maxval))
 }
 
-/// The first so many bytes, or all where there are fewer.
+// The first so many bytes, or all where there are fewer.
 fn first_bytes(bytes: &[u8], most: u128) -> &[u8]
     ensures { result.now ≡ take most bytes.now }
 {
@@ -94,7 +94,7 @@ fn first_bytes(bytes: &[u8], most: u128) -> &[u8]
     }
 }
 
-/// The bytes behind the header.
+// The bytes behind the header.
 fn behind<'a>(header: &Header, bytes: &'a [u8]) -> &'a [u8]
     requires { Reads bytes.now header.now }
     ensures { result.now ≡ bytes_behind header.now bytes.now }

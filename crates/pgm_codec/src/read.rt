@@ -13,7 +13,7 @@ use crate::reading::{Reading, Stage};
 use crate::scan::{HeaderScan, Scan};
 use dk_base::{MAX_HEADER_BYTES, MAX_MAXVAL};
 
-/// The fault of bytes that end here, or have a byte here that continues no header.
+// The fault of bytes that end here, or have a byte here that continues no header.
 fn fault_at(offset: usize) -> HeaderFault
     ensures { result ≡ fault_of offset }
 {
@@ -24,7 +24,7 @@ fn fault_at(offset: usize) -> HeaderFault
     }
 }
 
-/// The header that was read whole, if its maxval is in its range.
+// The header that was read whole, if its maxval is in its range.
 fn ranged(reading: Reading) -> Scan
     ensures { result ≡ ranged_of reading }
 {
@@ -42,7 +42,7 @@ fn ranged(reading: Reading) -> Scan
     }
 }
 
-/// What is known where this was read.
+// What is known where this was read.
 fn answer_of(reading: Reading) -> Scan
     ensures is { result ≡ verdict reading }
     ensures short { result ≡ Scan.More → reading.length < MAX_HEADER_BYTES }

@@ -8,28 +8,28 @@ ghost use Rattle.pgm_codec.specs.Machine.{start, lost as lost_of, moved as moved
 
 use dk_base::{is_digit, is_white};
 
-/// What was read last.
+// What was read last.
 #[derive(Clone, Copy, Debug, PartialEq, Eq)]
 pub(crate) enum Stage {
-    /// Nothing.
+    // Nothing.
     Start,
-    /// The `P`.
+    // The `P`.
     Letter,
-    /// The `5`, behind which a gap begins.
+    // The `5`, behind which a gap begins.
     Gap,
-    /// A byte of a gap, outside comments.
+    // A byte of a gap, outside comments.
     Filled,
-    /// A byte of a comment.
+    // A byte of a comment.
     Comment,
-    /// A digit.
+    // A digit.
     Digits,
-    /// The white space byte behind maxval.
+    // The white space byte behind maxval.
     Whole,
-    /// A byte that continues no header.
+    // A byte that continues no header.
     Lost,
 }
 
-/// The number that is read, or comes next.
+// The number that is read, or comes next.
 #[derive(Clone, Copy, Debug, PartialEq, Eq)]
 pub(crate) enum Number {
     Width,
@@ -37,28 +37,28 @@ pub(crate) enum Number {
     Maxval,
 }
 
-/// What was read of a header. `length` counts its bytes; a byte that continues no header is not counted.
+// What was read of a header. `length` counts its bytes; a byte that continues no header is not counted.
 #[derive(Clone, Copy, Debug, PartialEq, Eq)]
 pub(crate) struct Reading {
     pub(crate) stage: Stage,
     pub(crate) number: Number,
     pub(crate) width: u32,
     pub(crate) height: u32,
-    /// The number of the last digits, at most 4,294,967,295.
+    // The number of the last digits, at most 4,294,967,295.
     pub(crate) value: u32,
-    /// The offset of the first of these digits.
+    // The offset of the first of these digits.
     pub(crate) first: usize,
     pub(crate) length: usize,
 }
 
-/// CR or LF.
+// CR or LF.
 fn is_line_end(byte: u8) -> bool
     ensures { result ≡ line_end byte }
 {
     byte == b'\r' || byte == b'\n'
 }
 
-/// The number with one digit more, at most 4,294,967,295.
+// The number with one digit more, at most 4,294,967,295.
 #[tactic(auto, unfolding(crate::specs::Headers::capped))]
 fn digit_after(value: u32, byte: u8) -> u32
     requires { IsTrue (digit byte) }
@@ -84,7 +84,7 @@ impl Reading {
         }
     }
 
-    /// The last byte continues no header.
+    // The last byte continues no header.
     fn lost(self) -> Self
         ensures { result ≡ lost_of self }
     {
@@ -94,7 +94,7 @@ impl Reading {
         }
     }
 
-    /// One byte more was read.
+    // One byte more was read.
     fn moved(self, stage: Stage) -> Self
         requires { self.length < MAX_HEADER_BYTES }
         ensures { result ≡ moved_to stage self }
@@ -106,7 +106,7 @@ impl Reading {
         }
     }
 
-    /// The white space byte behind a number was read.
+    // The white space byte behind a number was read.
     fn finished(self) -> Self
         requires { self.length < MAX_HEADER_BYTES }
         ensures { result ≡ finished_at self.number self }
@@ -181,7 +181,7 @@ impl Reading {
         if is { self.moved(stage) } else { self.lost() }
     }
 
-    /// Reads one byte more.
+    // Reads one byte more.
     pub(crate) fn step(self, byte: u8) -> Self
         requires { self.length < MAX_HEADER_BYTES }
         ensures { result ≡ step_of self byte }

@@ -62,7 +62,7 @@ module _ (ports : Ports) (bytes : List ℕ) (read : List (List Frame)) (begun : 
   is_fault (OpenRound held need) bits i r = absurd r
 
   pub is_error : (bits : ℕ) (e : FileError) → number < 65536 → (0 < number → offset < length bytes) → slice_get ports.inputs (length begun) ≡ Some bits → IsRefusal ports.size bits number offset (drop offset bytes) e → IsError ports bytes e
-  is_error bits error.Memory few some input r = tt
+  is_error bits error.OutOfMemory few some input r = tt
   is_error bits (error.Fault f) few some input r = is_fault f bits (record {
     rounds = s.rounds;
     further = s.further;

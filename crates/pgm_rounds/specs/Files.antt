@@ -108,7 +108,7 @@ IsFault ports bytes (Short held need) = IsRefused ports bytes (Short held need)
 -- a file's fault, or want of memory
 abbrev pub IsError : Ports → List ℕ → FileError → Type 0
 IsError ports bytes (error.Fault fault) = IsFault ports bytes fault
-IsError ports bytes error.Memory = Unit {0}
+IsError ports bytes error.OutOfMemory = Unit {0}
 
 -- the frame of an image
 abbrev pub frame_of : Image → Frame

@@ -37,7 +37,7 @@ pub record IsNext (size : Size) (bits : ℕ) (bytes : List ℕ) (len : ℕ) (fra
 -- a refusal of the image that comes next, or want of memory
 abbrev pub IsRefusal : Size → (bits number offset : ℕ) → List ℕ → FileError → Type 0
 IsRefusal size bits number offset bytes (error.Fault fault) = Refused size bits number offset bytes fault
-IsRefusal size bits number offset bytes error.Memory = Unit {0}
+IsRefusal size bits number offset bytes error.OutOfMemory = Unit {0}
 
 -- The reading stands behind so many images and bytes: these are the frames of the whole rounds, and those of the round that is begun.
 pub record Stands (ports : Ports) (bytes : List ℕ) (read : List (List Frame)) (begun : List Frame) (number offset : ℕ) : Type 0 where

@@ -1,7 +1,7 @@
 // Why a file does not fit a program.
 
 ghost use Rattle.std.specs.Prelude.{◌≡◌};
-ghost use Rattle.pgm_rounds.specs.declared.fault.FileError.TheVariants.{Fault as AFault, Memory};
+ghost use Rattle.pgm_rounds.specs.declared.fault.FileError.TheVariants.{Fault as AFault, OutOfMemory};
 
 use std::alloc::{AllocError, AllocFailed};
 
@@ -46,7 +46,7 @@ pub enum FileError {
     #[error("{0}")]
     Fault(ImageFault),
     #[error("out of memory")]
-    Memory,
+    OutOfMemory,
 }
 
 impl From<ImageFault> for FileError {
@@ -58,17 +58,17 @@ impl From<ImageFault> for FileError {
 }
 
 impl From<AllocError> for FileError {
-    ghost from_gives = { λ _ e. e ≡ Memory };
+    ghost from_gives = { λ _ e. e ≡ OutOfMemory };
 
     fn from(_e: AllocError) -> FileError {
-        FileError::Memory
+        FileError::OutOfMemory
     }
 }
 
 impl<T: Drop> From<AllocFailed<T>> for FileError {
-    ghost from_gives = { λ _ e. e ≡ Memory };
+    ghost from_gives = { λ _ e. e ≡ OutOfMemory };
 
     fn from(_e: AllocFailed<T>) -> FileError {
-        FileError::Memory
+        FileError::OutOfMemory
     }
 }

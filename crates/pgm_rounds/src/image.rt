@@ -10,19 +10,19 @@ ghost use Rattle.pgm_rounds.specs.Files.{HasSize, IsHeaded, Refused};
 ghost use Rattle.pgm_rounds.specs.Standing.{IsAccepted, AreSamples, IsNext, IsRefusal};
 
 use crate::fault::{FileError, ImageFault};
-use dk_base::{FrameSize, Memory};
+use dk_base::{FrameSize, OutOfMemory};
 use dk_frames::{Frame, Samples};
 use pgm_codec::{Header, HeaderFault, RasterFault, check_raster, read_header};
 use std::alloc::Global;
 
-/// Where an image stands in a file: behind so many images and so many bytes.
+// Where an image stands in a file: behind so many images and so many bytes.
 #[derive(Clone, Copy)]
 pub(crate) struct Place {
     pub(crate) images: usize,
     pub(crate) offset: usize,
 }
 
-/// The header with which the bytes at this offset begin.
+// The header with which the bytes at this offset begin.
 fn next_header(offset: usize, rest: &[u8]) -> Result<Header, ImageFault>
     requires { offset + length rest.now < 2 ^ 63 }
     ensures { MatchResult result (λ h. Reads rest.now h) (λ f. (size : TheSize) (bits number : ℕ) → Refused size bits number offset rest.now f) }
@@ -40,7 +40,7 @@ fn next_header(offset: usize, rest: &[u8]) -> Result<Header, ImageFault>
     }
 }
 
-/// The greatest sample of so many bits.
+// The greatest sample of so many bits.
 fn greatest_sample(width: u8) -> u32
     requires { width ≤ MAX_PORT_WIDTH }
     ensures { result ≡ 2 ^ width - 1 }
@@ -48,7 +48,7 @@ fn greatest_sample(width: u8) -> u32
     (1 << width) - 1
 }
 
-/// Whether the image has the frame's size, and a maxval that an input of so many bits takes.
+// Whether the image has the frame's size, and a maxval that an input of so many bits takes.
 fn check_header(size: FrameSize, width: u8, header: &Header, rest: &[u8]) -> Result<(), ImageFault>
     requires width { width ≤ MAX_PORT_WIDTH }
     requires reads { Reads rest.now header.now }
@@ -69,7 +69,7 @@ fn check_header(size: FrameSize, width: u8, header: &Header, rest: &[u8]) -> Res
     Ok(())
 }
 
-/// The number of pixels.
+// The number of pixels.
 fn area(size: FrameSize) -> usize
     ensures is { result ≡ area_of (size_of size) }
     ensures most { result ≤ MAX_SIDE * MAX_SIDE }
@@ -77,7 +77,7 @@ fn area(size: FrameSize) -> usize
     size.width as usize * size.height as usize
 }
 
-/// Whether the raster is there, and each sample is at most maxval.
+// Whether the raster is there, and each sample is at most maxval.
 fn check_samples(
     size: FrameSize,
     images: usize,
@@ -99,7 +99,7 @@ fn check_samples(
     }
 }
 
-/// The header of the image with which the bytes at this place begin.
+// The header of the image with which the bytes at this place begin.
 fn judge(size: FrameSize, width: u8, place: Place, rest: &[u8]) -> Result<Header, ImageFault>
     requires width { width ≤ MAX_PORT_WIDTH }
     requires few { place.images < MAX_FILE_IMAGES }
@@ -113,8 +113,8 @@ fn judge(size: FrameSize, width: u8, place: Place, rest: &[u8]) -> Result<Header
     Ok(header)
 }
 
-/// The samples of one byte each.
-fn bytes_of(alloc: Global, raster: &[u8]) -> Result<Vec<u16>, Memory>
+// The samples of one byte each.
+fn bytes_of(alloc: Global, raster: &[u8]) -> Result<Vec<u16>, OutOfMemory>
     ensures { IfOk result (λ samples. samples.items ≡ raster.now) }
 {
     let mut samples = Vec::with_capacity(alloc, raster.len())?;
@@ -124,8 +124,8 @@ fn bytes_of(alloc: Global, raster: &[u8]) -> Result<Vec<u16>, Memory>
     Ok(samples)
 }
 
-/// So many samples of two bytes each.
-fn pairs_of(alloc: Global, raster: &[u8], count: usize) -> Result<Vec<u16>, Memory>
+// So many samples of two bytes each.
+fn pairs_of(alloc: Global, raster: &[u8], count: usize) -> Result<Vec<u16>, OutOfMemory>
     requires { 2 * count ≤ length raster.now }
     ensures { IfOk result (λ samples. AreSamples false raster.now count samples.items) }
 {
@@ -138,8 +138,8 @@ fn pairs_of(alloc: Global, raster: &[u8], count: usize) -> Result<Vec<u16>, Memo
     Ok(samples)
 }
 
-/// The samples of the image with which the bytes begin.
-fn read_samples(alloc: Global, header: &Header, rest: &[u8]) -> Result<Vec<u16>, Memory>
+// The samples of the image with which the bytes begin.
+fn read_samples(alloc: Global, header: &Header, rest: &[u8]) -> Result<Vec<u16>, OutOfMemory>
     requires reads { Reads rest.now header.now }
     requires image { (samples : List ℕ) × BeginsImage rest.now header.now samples }
     requires few { header.now.width * header.now.height ≤ MAX_SIDE * MAX_SIDE }
@@ -156,7 +156,7 @@ fn read_samples(alloc: Global, header: &Header, rest: &[u8]) -> Result<Vec<u16>,
     }
 }
 
-/// The number of bytes of the raster.
+// The number of bytes of the raster.
 fn raster_length(header: &Header) -> usize
     requires { header.now.width * header.now.height ≤ MAX_SIDE * MAX_SIDE }
     ensures { result ≡ length_of_raster header.now }
@@ -169,14 +169,14 @@ fn raster_length(header: &Header) -> usize
     }
 }
 
-/// An image that was read: its frame, and the number of its bytes.
+// An image that was read: its frame, and the number of its bytes.
 #[derive(Drop)]
 pub(crate) struct ReadImage {
     pub(crate) frame: Frame,
     pub(crate) length: usize,
 }
 
-/// The image with which the bytes at this place begin, for an input of so many bits.
+// The image with which the bytes at this place begin, for an input of so many bits.
 pub(crate) fn read_image(
     alloc: Global,
     size: FrameSize,

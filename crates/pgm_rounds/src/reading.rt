@@ -14,11 +14,11 @@ ghost use Rattle.pgm_rounds.specs.Standing.{Stands};
 use crate::fault::{FileError, ImageFault};
 use crate::image::{Place, read_image};
 use crate::round::Round;
-use dk_base::{FrameSize, Memory};
+use dk_base::{FrameSize, OutOfMemory};
 use dk_frames::Frame;
 use std::alloc::Global;
 
-/// The rounds that were read, the frames of the round that is begun, and the place behind them.
+// The rounds that were read, the frames of the round that is begun, and the place behind them.
 #[derive(Drop)]
 pub(crate) struct Reading {
     pub(crate) rounds: Vec<Round>,
@@ -43,8 +43,8 @@ impl Reading {
         }
     }
 
-    /// Adds a frame to the round that is begun, and closes the round with its last frame.
-    fn add(&mut self, alloc: Global, frame: Frame, inputs: usize) -> Result<(), Memory>
+    // Adds a frame to the round that is begun, and closes the round with its last frame.
+    fn add(&mut self, alloc: Global, frame: Frame, inputs: usize) -> Result<(), OutOfMemory>
         ensures place { self.new.place ≡ self.old.place }
         ensures begun { OnOk result (length self.old.frames.items + 1 < inputs → self.new.frames.items ≡ self.old.frames.items ++ frame ∷ []) }
         ensures kept { OnOk result (length self.old.frames.items + 1 < inputs → frames_of self.new.rounds.items ≡ frames_of self.old.rounds.items) }
@@ -59,7 +59,7 @@ impl Reading {
         Ok(())
     }
 
-    /// Reads the image that comes next.
+    // Reads the image that comes next.
     pub(crate) fn read_next(
         &mut self,
         alloc: Global,
@@ -84,7 +84,7 @@ impl Reading {
         Ok(())
     }
 
-    /// The rounds that were read, where none is begun.
+    // The rounds that were read, where none is begun.
     pub(crate) fn finish(self, inputs: usize) -> Result<Vec<Round>, FileError>
         ensures rounds { IfOk result (λ rounds. (rounds.items ≡ self.rounds.items) × (self.frames.items ≡ [])) }
         ensures begun { IfErr result (λ e. (e ≡ Fault (OpenRound (length self.frames.items) inputs)) × (0 < length self.frames.items)) }

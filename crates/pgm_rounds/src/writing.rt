@@ -6,11 +6,11 @@ ghost use Rattle.dk_base.specs.declared.TheConstants.{MAX_SIDE};
 ghost use Rattle.dk_base.specs.Frames.{IsFrame};
 ghost use Rattle.pgm_codec.specs.Images.{header_of, raster_of};
 
-use dk_base::{FrameSize, Memory};
+use dk_base::{FrameSize, OutOfMemory};
 use pgm_codec::{put_sample, write_header};
 
-/// Adds the header of an image.
-fn add_header(width: u32, height: u32, maxval: u16, file: &mut Vec<u8>) -> Result<(), Memory>
+// Adds the header of an image.
+fn add_header(width: u32, height: u32, maxval: u16, file: &mut Vec<u8>) -> Result<(), OutOfMemory>
     requires width { (0 < width) × (width ≤ MAX_SIDE) }
     requires height { (0 < height) × (height ≤ MAX_SIDE) }
     requires maxval { 0 < maxval }
@@ -21,8 +21,8 @@ fn add_header(width: u32, height: u32, maxval: u16, file: &mut Vec<u8>) -> Resul
     file.extend_from_slice(bytes.split_at(length).0)
 }
 
-/// Adds samples of an image with this maxval.
-fn add_samples(samples: &[u16], maxval: u16, file: &mut Vec<u8>) -> Result<(), Memory>
+// Adds samples of an image with this maxval.
+fn add_samples(samples: &[u16], maxval: u16, file: &mut Vec<u8>) -> Result<(), OutOfMemory>
     requires maxval { 0 < maxval }
     requires bounded { All (λ s. s ≤ maxval) samples.now }
     ensures { OnOk result (file.new.items ≡ file.old.items ++ raster_of maxval samples.now) }
@@ -35,7 +35,7 @@ fn add_samples(samples: &[u16], maxval: u16, file: &mut Vec<u8>) -> Result<(), M
     Ok(())
 }
 
-/// The number of bytes of an image, or more.
+// The number of bytes of an image, or more.
 fn room(samples: &[u16], maxval: u16) -> usize {
     let sample = if maxval < 256 { 1 } else { 2 };
     samples.len().saturating_mul(sample).saturating_add(19)
@@ -47,7 +47,7 @@ pub fn write_image(
     maxval: u16,
     samples: &[u16],
     file: &mut Vec<u8>,
-) -> Result<(), Memory>
+) -> Result<(), OutOfMemory>
     requires maxval { 0 < maxval }
     requires bounded { All (λ s. s ≤ maxval) samples.now }
     ensures { OnOk result (file.new.items ≡ file.old.items ++ (header_of size.width size.height maxval ++ raster_of maxval samples.now)) }

@@ -8,7 +8,7 @@ use std::test::Fail;
 
 const BYTE: Ty = Ty::Unsigned(8);
 
-/// A frame of this size.
+// A frame of this size.
 fn frame(alloc: Global, width: u32, height: u32, samples: &[u16]) -> Result<Frame, AllocError> {
     Ok(Frame {
         width,
@@ -17,7 +17,7 @@ fn frame(alloc: Global, width: u32, height: u32, samples: &[u16]) -> Result<Fram
     })
 }
 
-/// An image without a name.
+// An image without a name.
 fn image(alloc: Global, ty: Ty, body: Expr) -> Definition {
     Definition {
         name: Text::new(Vec::new(alloc)),
@@ -47,7 +47,7 @@ fn shifted(alloc: Global, edge: Edge, dx: i32, body: Expr) -> Result<Expr, Alloc
     Ok(Expr::Shifted(edge, dx, 0, Box::new(alloc, body)?))
 }
 
-/// A read of the first input.
+// A read of the first input.
 fn read(dx: i32, dy: i32) -> Expr {
     Expr::Read(Edge::Zero, 0, dx, dy)
 }
@@ -56,7 +56,7 @@ fn clamped(dx: i32, dy: i32) -> Expr {
     Expr::Read(Edge::Clamp, 0, dx, dy)
 }
 
-/// The program of byte inputs as many as the frames, with these images and outputs. None where there is none.
+// The program of byte inputs as many as the frames, with these images and outputs. None where there is none.
 fn program(
     alloc: Global,
     frames: &[Frame],
@@ -85,7 +85,7 @@ fn program(
     }))
 }
 
-/// The outputs' samples one after another; none where there is no such program, or the frames do not fit.
+// The outputs' samples one after another; none where there is no such program, or the frames do not fit.
 fn samples(
     alloc: Global,
     frames: &[Frame],
@@ -105,7 +105,7 @@ fn samples(
     Ok(all)
 }
 
-/// The body of a row of the table of values, which reads nothing.
+// The body of a row of the table of values, which reads nothing.
 fn value(alloc: Global, row: usize) -> Result<Expr, AllocError> {
     match row {
         0 => convert(
@@ -204,7 +204,7 @@ fn table_of_values(rt: HostRuntime) -> Result<(), Fail> {
     Ok(())
 }
 
-/// The mean of three neighbours in a row.
+// The mean of three neighbours in a row.
 fn mean(alloc: Global) -> Result<Expr, AllocError> {
     let two = binary(alloc, Binary::Add, read(-1, 0), read(0, 0))?;
     let three = binary(alloc, Binary::Add, two, read(1, 0))?;
@@ -212,20 +212,20 @@ fn mean(alloc: Global) -> Result<Expr, AllocError> {
     convert(alloc, Conversion::Cast, third, BYTE)
 }
 
-/// The square of a pixel and the pixel two rows down.
+// The square of a pixel and the pixel two rows down.
 fn square(alloc: Global) -> Result<Expr, AllocError> {
     let square = binary(alloc, Binary::Multiply, read(0, 0), read(0, 0))?;
     let sum = binary(alloc, Binary::Add, square, read(0, 2))?;
     convert(alloc, Conversion::Cast, sum, Ty::Unsigned(16))
 }
 
-/// Two reads at one distance in raster order, with frame tests of their own.
+// Two reads at one distance in raster order, with frame tests of their own.
 fn same_distance(alloc: Global) -> Result<Expr, AllocError> {
     let sum = binary(alloc, Binary::Add, read(2, 0), read(-1, 1))?;
     convert(alloc, Conversion::Cast, sum, BYTE)
 }
 
-/// A choice between a pixel and its right neighbour, where the pixel is below 3.
+// A choice between a pixel and its right neighbour, where the pixel is below 3.
 fn choice(alloc: Global) -> Result<Expr, AllocError> {
     let test = binary(
         alloc,
@@ -238,7 +238,7 @@ fn choice(alloc: Global) -> Result<Expr, AllocError> {
     Ok(Expr::Select(condition, left, Box::new(alloc, read(1, 0))?))
 }
 
-/// The body of a row of the table of pictures.
+// The body of a row of the table of pictures.
 fn body(alloc: Global, row: usize) -> Result<Expr, AllocError> {
     let more = Expr::Constant(1, Ty::Unsigned(1));
     match row {
@@ -329,7 +329,7 @@ fn several_inputs_and_outputs(rt: HostRuntime) -> Result<(), Fail> {
     Ok(())
 }
 
-/// An image of numbers of many bits, whose top ones are the samples; the samples again from the column to the left, these from the column to the right, and the highest bit.
+// An image of numbers of many bits, whose top ones are the samples; the samples again from the column to the left, these from the column to the right, and the highest bit.
 fn top_bits(alloc: Global, ty: Ty, by: u64, half: u64) -> Result<Vec<Definition>, AllocError> {
     let raised = scale(alloc, Scaling::ShiftLeft, read(0, 0), by)?;
     let left = Expr::Read(Edge::Clamp, 1, -1, 0);

@@ -1,11 +1,11 @@
 // What programs are made of, and lists of passes.
 
-use dk_base::{Binary, FrameSize, Memory, Text, Ty};
+use dk_base::{Binary, FrameSize, OutOfMemory, Text, Ty};
 use pointwise_ir::{Definition, Edge, Expr, Input, Ir, Parts, Rewrite, run_passes};
 use std::alloc::{AllocError, Global};
 use std::test::Fail;
 
-/// A pass that gives the program that it takes.
+// A pass that gives the program that it takes.
 #[derive(Drop)]
 struct Unchanged;
 
@@ -15,13 +15,13 @@ impl Rewrite for Unchanged {
     // a program
     ghost gives = { λ _ p. IsProgram p };
 
-    fn apply(&self, _alloc: Global, ir: Ir) -> Result<Ir, Memory> {
+    fn apply(&self, _alloc: Global, ir: Ir) -> Result<Ir, OutOfMemory> {
         ir.law();
         Ok(ir)
     }
 }
 
-/// As many sums, one in the other, as the number says.
+// As many sums, one in the other, as the number says.
 fn nest(alloc: Global, sums: usize) -> Result<Expr, AllocError> {
     let mut body = Expr::Read(Edge::Zero, 0, 0, 0);
     for _ in 0..sums {
@@ -32,7 +32,7 @@ fn nest(alloc: Global, sums: usize) -> Result<Expr, AllocError> {
     Ok(body)
 }
 
-/// The body of a row of the table of programs.
+// The body of a row of the table of programs.
 fn body(alloc: Global, row: usize) -> Result<Expr, AllocError> {
     match row {
         1 => Ok(Expr::Read(Edge::Clamp, 0, 65_536, -65_536)),
@@ -46,7 +46,7 @@ fn body(alloc: Global, row: usize) -> Result<Expr, AllocError> {
     }
 }
 
-/// The parts of a program with an input and an image with this body, both of one byte.
+// The parts of a program with an input and an image with this body, both of one byte.
 fn parts(alloc: Global, body: Expr, outputs: &[u32]) -> Result<Option<Parts>, AllocError> {
     let Some(size) = FrameSize::checked(2, 2) else {
         return Ok(None);
@@ -70,7 +70,7 @@ fn parts(alloc: Global, body: Expr, outputs: &[u32]) -> Result<Option<Parts>, Al
     }))
 }
 
-/// The program of these parts, where they are those of one.
+// The program of these parts, where they are those of one.
 fn program(alloc: Global, body: Expr, outputs: &[u32]) -> Result<Option<Ir>, AllocError> {
     let Some(parts) = parts(alloc, body, outputs)? else {
         return Ok(None);

@@ -10,7 +10,7 @@ const BYTE: Ty = Ty::Unsigned(8);
 
 const SUM: Ty = Ty::Unsigned(9);
 
-/// A program of byte inputs.
+// A program of byte inputs.
 fn program(
     alloc: Global,
     (width, height): (u32, u32),
@@ -46,7 +46,7 @@ fn program(
     }
 }
 
-/// The kept images with their widths, and the reads.
+// The kept images with their widths, and the reads.
 fn told(alloc: Global, stencils: &Stencils) -> Result<String, Fail> {
     let mut text = String::new(alloc);
     for image in stencils.images() {
@@ -58,7 +58,7 @@ fn told(alloc: Global, stencils: &Stencils) -> Result<String, Fail> {
     Ok(text)
 }
 
-/// What is live in a program.
+// What is live in a program.
 fn live(alloc: Global, ir: &Ir) -> Result<String, Fail> {
     match live_reads(alloc, ir) {
         Ok(stencils) => told(alloc, &stencils),
@@ -87,7 +87,7 @@ fn shifted(alloc: Global, edge: Edge, dx: i32, body: Expr) -> Result<Expr, Alloc
     Ok(Expr::Shifted(edge, dx, 0, Box::new(alloc, body)?))
 }
 
-/// The only body of a program of one input.
+// The only body of a program of one input.
 fn body(alloc: Global, row: usize) -> Result<(Ty, Expr), AllocError> {
     Ok(match row {
         0 => (BYTE, read(0, 1, 0)),
@@ -121,7 +121,7 @@ fn reads_of_one_body(rt: HostRuntime) -> Result<(), Fail> {
     Ok(())
 }
 
-/// Two images of a program with two inputs.
+// Two images of a program with two inputs.
 fn two_images(alloc: Global, row: usize) -> Result<Vec<(Ty, Expr)>, AllocError> {
     let mut images = Vec::new(alloc);
     match row {
@@ -159,7 +159,7 @@ fn kept_images_and_order(rt: HostRuntime) -> Result<(), Fail> {
     Ok(())
 }
 
-/// How many reads a clamped one and one more make.
+// How many reads a clamped one and one more make.
 fn count(alloc: Global, size: (u32, u32), clamp: Expr, more: Expr) -> Result<u32, Fail> {
     let mut images = Vec::new(alloc);
     images.push((SUM, sum(alloc, clamp, more)?))?;
@@ -167,7 +167,7 @@ fn count(alloc: Global, size: (u32, u32), clamp: Expr, more: Expr) -> Result<u32
     match live_reads(alloc, &ir) {
         Ok(stencils) => Ok(stencils.reads().len() as u32),
         Err(StencilFault::Reads { count }) => Ok(count),
-        Err(StencilFault::Memory) => Err(Fail::new("no memory")),
+        Err(StencilFault::OutOfMemory) => Err(Fail::new("no memory")),
     }
 }
 

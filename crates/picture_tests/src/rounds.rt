@@ -12,7 +12,7 @@ fn no_name(alloc: Global) -> Text {
     Text::new(Vec::new(alloc))
 }
 
-/// A program on frames of two pixels in a row, with inputs of so many bits, the first of 8. Its outputs are the first input and its double.
+// A program on frames of two pixels in a row, with inputs of so many bits, the first of 8. Its outputs are the first input and its double.
 fn program(alloc: Global, inputs: &[u8]) -> Result<Option<Ir>, AllocError> {
     let mut ports = Vec::new(alloc);
     for bits in inputs {
@@ -41,7 +41,7 @@ fn program(alloc: Global, inputs: &[u8]) -> Result<Option<Ir>, AllocError> {
     }))
 }
 
-/// The fault of a file; None where it has none, or there is no such program.
+// The fault of a file; None where it has none, or there is no such program.
 fn fault_of(alloc: Global, inputs: &[u8], bytes: &[u8]) -> Result<Option<ImageFault>, AllocError> {
     let Some(ir) = program(alloc, inputs)? else {
         return Ok(None);
@@ -49,7 +49,7 @@ fn fault_of(alloc: Global, inputs: &[u8], bytes: &[u8]) -> Result<Option<ImageFa
     match read_program_rounds(alloc, &ir, bytes) {
         Ok(_) => Ok(None),
         Err(FileError::Fault(fault)) => Ok(Some(fault)),
-        Err(FileError::Memory) => Err(AllocError),
+        Err(FileError::OutOfMemory) => Err(AllocError),
     }
 }
 
@@ -119,7 +119,7 @@ fn a_byte_behind_65536_images_is_told(rt: HostRuntime) -> Result<(), Fail> {
     Ok(())
 }
 
-/// The rounds of two inputs of 8 and 12 bits.
+// The rounds of two inputs of 8 and 12 bits.
 fn rounds_of(alloc: Global, bytes: &[u8]) -> Result<Vec<Round>, AllocError> {
     let Some(ir) = program(alloc, &[8, 12])? else {
         return Ok(Vec::new(alloc));
@@ -127,7 +127,7 @@ fn rounds_of(alloc: Global, bytes: &[u8]) -> Result<Vec<Round>, AllocError> {
     match read_program_rounds(alloc, &ir, bytes) {
         Ok(rounds) => Ok(rounds),
         Err(FileError::Fault(_)) => Ok(Vec::new(alloc)),
-        Err(FileError::Memory) => Err(AllocError),
+        Err(FileError::OutOfMemory) => Err(AllocError),
     }
 }
 
@@ -151,7 +151,7 @@ fn rounds_are_read(rt: HostRuntime) -> Result<(), Fail> {
     Ok(())
 }
 
-/// The images of the outputs, for each round of a file of one input of 8 bits.
+// The images of the outputs, for each round of a file of one input of 8 bits.
 fn written(alloc: Global, bytes: &[u8]) -> Result<Vec<u8>, AllocError> {
     let mut file = Vec::new(alloc);
     let Some(ir) = program(alloc, &[8])? else {
@@ -167,7 +167,7 @@ fn written(alloc: Global, bytes: &[u8]) -> Result<Vec<u8>, AllocError> {
             Ok(file)
         }
         Err(FileError::Fault(_)) => Ok(file),
-        Err(FileError::Memory) => Err(AllocError),
+        Err(FileError::OutOfMemory) => Err(AllocError),
     }
 }
 

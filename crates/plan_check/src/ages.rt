@@ -34,7 +34,7 @@ fn is_old(row: u32, least: u8, images: &[ImageLine], r: PlacedRead, g: usize) ->
     age(row, images, r) >= i128::from(least)
 }
 
-/// Whether each live read of the image at place `g` is at least so old.
+// Whether each live read of the image at place `g` is at least so old.
 pub(crate) fn are_old(
     row: u32,
     least: u8,
@@ -72,7 +72,7 @@ fn deeper(row: u32, images: &[ImageLine], r: PlacedRead, g: usize, greatest: u12
     }
 }
 
-/// The greatest age of a live read of the image at place `g`, 0 without any. An age below 0 counts as its size.
+// The greatest age of a live read of the image at place `g`, 0 without any. An age below 0 counts as its size.
 pub(crate) fn depth(
     row: u32,
     inputs: usize,

@@ -11,7 +11,7 @@ use crate::lines::named;
 use raster_delay::{Constraint, PlacedRead, System, begin_node, end_node, offset};
 use report_text::FlowLine;
 
-/// The most nodes of a system: those of 264 images and one input.
+// The most nodes of a system: those of 264 images and one input.
 const MOST_NODES: usize = 528;
 
 // What a system's limits say of a live read.
@@ -270,7 +270,7 @@ fn price_of(system: &System, line: FlowLine) -> i128
     price(constraint_of(system, line).cost, amount_of(line))
 }
 
-/// Whether the flow is balanced and worth these bits.
+// Whether the flow is balanced and worth these bits.
 pub(crate) fn flow_holds(system: &System, flow: &[FlowLine], bits: u64) -> bool
     requires constraints { All (HasConstraint system.now) flow.now }
     requires few { length flow.now ≤ 2 ^ 32 }

@@ -11,7 +11,7 @@ use crate::sums::place_of;
 use raster_delay::{PlacedRead, System};
 use report_text::{FlowLine, ImageLine};
 
-/// Whether the image line at a place is right.
+// Whether the image line at a place is right.
 pub(crate) fn image_holds(system: &System, images: &[ImageLine], k: usize) -> bool
     requires count { length images.now ≡ image_count system.now }
     requires place { k < length images.now }
@@ -45,7 +45,7 @@ fn output_place(system: &System, k: usize) -> usize
     place_of(system.images(), system.outputs()[k])
 }
 
-/// Whether the latency line of the output at a place is right.
+// Whether the latency line of the output at a place is right.
 pub(crate) fn latency_holds(
     system: &System,
     images: &[ImageLine],
@@ -127,7 +127,7 @@ pub(crate) fn named(reader: usize, source: usize, dx: i32, dy: i32) -> PlacedRea
     }
 }
 
-/// Whether there is the constraint of a flow line.
+// Whether there is the constraint of a flow line.
 pub(crate) fn has_constraint(system: &System, line: FlowLine) -> bool
     ensures yes { IsTrue result → HasConstraint system.now line }
     ensures no { HasConstraint system.now line → IsTrue result }

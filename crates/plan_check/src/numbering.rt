@@ -7,7 +7,7 @@ ghost use Rattle.plan_check.specs.Numbering.{size_number, clocks_number, bits_nu
 
 use report_text::Report;
 
-/// The number of the line of the frame's size.
+// The number of the line of the frame's size.
 pub(crate) fn size_line(report: &Report) -> u64
     ensures value { result ≡ size_number (parts_of report.now) }
     ensures most { result ≤ 4 }
@@ -15,7 +15,7 @@ pub(crate) fn size_line(report: &Report) -> u64
     if report.version == 1 { 1 } else { 4 }
 }
 
-/// The number of the line of the clocks.
+// The number of the line of the clocks.
 pub(crate) fn clocks_line(report: &Report) -> u64
     requires images { length report.now.images.items ≤ MAX_KEPT_IMAGES }
     requires latencies { length report.now.latencies.items ≤ MAX_OUTPUTS }
@@ -25,7 +25,7 @@ pub(crate) fn clocks_line(report: &Report) -> u64
     size_line(report) + report.images.len() as u64 + report.latencies.len() as u64 + 1
 }
 
-/// The number of the line of the bits.
+// The number of the line of the bits.
 pub(crate) fn bits_line(report: &Report) -> u64
     requires images { length report.now.images.items ≤ MAX_KEPT_IMAGES }
     requires latencies { length report.now.latencies.items ≤ MAX_OUTPUTS }

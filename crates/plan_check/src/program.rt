@@ -79,7 +79,7 @@ fn is_of_size(stencils: &Stencils, report: &Report) -> bool
     report.height == stencils.height()
 }
 
-/// Whether there are as many image lines and latency lines as kept images and outputs.
+// Whether there are as many image lines and latency lines as kept images and outputs.
 pub(crate) fn is_of_counts(system: &System, report: &Report) -> bool
     ensures yes { IsTrue result → IsOfCounts system.now.stencils (parts_of report.now) }
     ensures no { IsOfCounts system.now.stencils (parts_of report.now) → IsTrue result }
@@ -157,7 +157,7 @@ fn most_lines(report: &Report)
     ensures latencies { length report.now.latencies.items ≤ MAX_OUTPUTS }
 {}
 
-/// The first line that is wrong by the program.
+// The first line that is wrong by the program.
 pub(crate) fn foreign_line(ir: &Ir, stencils: &Stencils, report: &Report) -> Option<u64>
     requires meets { Meets (parts_of report.now) }
     requires images { All (λ (i : Image). i.number < length (names_of ir.now)) stencils.now.images }

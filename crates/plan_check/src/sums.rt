@@ -8,7 +8,7 @@ ghost use Rattle.plan_check.specs.Holding.{greatest, bits_of_lines};
 use dk_base::Image;
 use report_text::ImageLine;
 
-/// The greatest of these numbers, 0 of none.
+// The greatest of these numbers, 0 of none.
 pub(crate) fn greatest(numbers: &[u64]) -> u64
     ensures { result ≡ greatest numbers.now }
 {
@@ -27,7 +27,7 @@ fn bits_of(image: &ImageLine) -> u128
     u128::from(image.width) * u128::from(image.depth)
 }
 
-/// The sum of width times depth.
+// The sum of width times depth.
 pub(crate) fn bits(images: &[ImageLine]) -> u128
     requires { length images.now ≤ MAX_KEPT_IMAGES }
     ensures { result ≡ bits_of_lines images.now }
@@ -39,7 +39,7 @@ pub(crate) fn bits(images: &[ImageLine]) -> u128
     total
 }
 
-/// The place of an image among the kept ones, or their count where it is not kept.
+// The place of an image among the kept ones, or their count where it is not kept.
 pub(crate) fn place_of(images: &[Image], number: u32) -> usize
     ensures { result ≡ place images.now number }
 {

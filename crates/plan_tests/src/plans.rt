@@ -5,7 +5,7 @@ use crate::programs::{
     SQUARE, TWO_INPUTS, system,
 };
 use buffer_plan::{PlanFault, plan};
-use dk_base::Memory;
+use dk_base::OutOfMemory;
 use flow_dual::{is_optimal, propose, solve};
 use raster_delay::{Constraint, System};
 use std::alloc::Global;
@@ -21,7 +21,7 @@ fn worth(constraints: &[Constraint], flow: &[u64]) -> i128 {
 }
 
 // No clause says that the simplex proposes an optimum, and without it `solve` would be slow.
-fn is_proposed(alloc: Global, system: &System) -> Result<bool, Memory> {
+fn is_proposed(alloc: Global, system: &System) -> Result<bool, OutOfMemory> {
     let proposal = propose(alloc, system)?;
     is_optimal(alloc, system, &proposal.numbers, &proposal.flow)
 }
@@ -59,7 +59,7 @@ fn least_vectors_are_found(rt: HostRuntime) -> Result<(), Fail> {
 fn planned(
     alloc: Global,
     program: &Program<'_>,
-) -> Result<Option<Result<(u64, u64, u64), PlanFault>>, Memory> {
+) -> Result<Option<Result<(u64, u64, u64), PlanFault>>, OutOfMemory> {
     let Some(system) = system(alloc, program, 0)? else {
         return Ok(None);
     };

@@ -1,6 +1,6 @@
 //! Small programs by their live reads.
 
-use dk_base::{Image, LiveRead, Memory, Stencils};
+use dk_base::{Image, LiveRead, OutOfMemory, Stencils};
 use raster_delay::System;
 use std::alloc::Global;
 
@@ -14,7 +14,7 @@ pub struct Program<'a> {
     pub reads: &'a [(u32, u32, i32, i32)],
 }
 
-fn stencils(alloc: Global, program: &Program<'_>) -> Result<Option<Stencils>, Memory> {
+fn stencils(alloc: Global, program: &Program<'_>) -> Result<Option<Stencils>, OutOfMemory> {
     let outputs = Vec::from_slice(alloc, program.outputs)?;
     let mut images = Vec::new(alloc);
     let mut number: u32 = 0;
@@ -40,7 +40,11 @@ fn stencils(alloc: Global, program: &Program<'_>) -> Result<Option<Stencils>, Me
 }
 
 // The system of a program at an age. None where these are no stencils, or the age is above 64.
-pub fn system(alloc: Global, program: &Program<'_>, age: u8) -> Result<Option<System>, Memory> {
+pub fn system(
+    alloc: Global,
+    program: &Program<'_>,
+    age: u8,
+) -> Result<Option<System>, OutOfMemory> {
     if age > 64 {
         return Ok(None);
     }

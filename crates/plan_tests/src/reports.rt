@@ -1,11 +1,11 @@
 //! Texts of docs/REPORT.md.
 
-use dk_base::{Memory, Text};
+use dk_base::{OutOfMemory, Text};
 use report_text::{FlowLine, ImageLine, Limits, Report, ReportFault, read, write};
 use std::alloc::{AllocError, Global};
 use std::test::Fail;
 
-fn image(alloc: Global, name: &[u8], delay: u64, depth: u64) -> Result<ImageLine, Memory> {
+fn image(alloc: Global, name: &[u8], delay: u64, depth: u64) -> Result<ImageLine, OutOfMemory> {
     Ok(ImageLine {
         name: Text::new(Vec::from_slice(alloc, name)?),
         width: 8,
@@ -15,7 +15,7 @@ fn image(alloc: Global, name: &[u8], delay: u64, depth: u64) -> Result<ImageLine
 }
 
 // The mean of three neighbours.
-fn mean(alloc: Global, version: u8) -> Result<Report, Memory> {
+fn mean(alloc: Global, version: u8) -> Result<Report, OutOfMemory> {
     let mut images = Vec::new(alloc);
     images.push(image(alloc, b"a", 0, 2)?)?;
     images.push(image(alloc, b"f", 1, 0)?)?;
@@ -66,11 +66,11 @@ fn reports_are_written(rt: HostRuntime) -> Result<(), Fail> {
 }
 
 // The line told, or 0 where the text is a report's.
-fn line_told(alloc: Global, text: &[u8]) -> Result<u64, Memory> {
+fn line_told(alloc: Global, text: &[u8]) -> Result<u64, OutOfMemory> {
     match read(alloc, text) {
         Ok(_) => Ok(0),
         Err(ReportFault::Line { number }) => Ok(number),
-        Err(ReportFault::Memory) => Err(AllocError),
+        Err(ReportFault::OutOfMemory) => Err(AllocError),
     }
 }
 

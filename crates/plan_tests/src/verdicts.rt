@@ -3,7 +3,7 @@
 ghost use Rattle.std.specs.Prelude.{IfOk};
 ghost use Rattle.report_text.specs.Reports.{Ascend};
 
-use dk_base::{Image, LiveRead, Memory, Stencils, Text};
+use dk_base::{Image, LiveRead, OutOfMemory, Stencils, Text};
 use plan_check::{Verdict, check, least_agree};
 use raster_delay::System;
 use report_text::{FlowLine, ImageLine, Limits, Report};
@@ -38,7 +38,7 @@ const READS: [LiveRead; 4] = [
 ];
 
 // The square plus a later row, where the square has this width.
-fn system(alloc: Global, square: u8) -> Result<Option<System>, Memory> {
+fn system(alloc: Global, square: u8) -> Result<Option<System>, OutOfMemory> {
     let outputs = Vec::from_slice(alloc, &[3])?;
     let mut images = Vec::new(alloc);
     for (number, width) in [(0, 8), (1, square), (2, 8), (3, 16)] {
@@ -55,7 +55,11 @@ fn system(alloc: Global, square: u8) -> Result<Option<System>, Memory> {
 }
 
 // The image lines of these delays and depths.
-fn lines(alloc: Global, system: &System, numbers: &[(u64, u64)]) -> Result<Vec<ImageLine>, Memory> {
+fn lines(
+    alloc: Global,
+    system: &System,
+    numbers: &[(u64, u64)],
+) -> Result<Vec<ImageLine>, OutOfMemory> {
     let mut lines = Vec::new(alloc);
     for (image, (delay, depth)) in system.images().iter().zip(numbers) {
         lines.push(ImageLine {
@@ -69,7 +73,7 @@ fn lines(alloc: Global, system: &System, numbers: &[(u64, u64)]) -> Result<Vec<I
 }
 
 // The flow of docs/REPORT.md, in which the square is held with this amount.
-fn flow(alloc: Global, held: u64) -> Result<Vec<FlowLine>, Memory>
+fn flow(alloc: Global, held: u64) -> Result<Vec<FlowLine>, OutOfMemory>
     ensures { IfOk result (λ flow. Ascend flow.items) }
 {
     let lines = [
@@ -118,7 +122,7 @@ fn answer(
     numbers: &[(u64, u64)],
     bits: u64,
     held: u64,
-) -> Result<Option<Verdict>, Memory> {
+) -> Result<Option<Verdict>, OutOfMemory> {
     let report = Report {
         version: 1,
         limits: Limits {

@@ -17,14 +17,14 @@ ghost use Rattle.pointwise_eval.specs.Rounds.{AreFrames, round_of, frame_of, out
 use crate::need::{is_needed, needs};
 use crate::plane::Plane;
 use crate::rows::render;
-use dk_base::{FrameSize, Memory};
+use dk_base::{FrameSize, OutOfMemory};
 use dk_frames::{Frame, Samples};
 use pointwise_ir::{Definition, Expr, Input, Ir};
 use std::alloc::Global;
 use std::mem;
 
 // The planes of the inputs.
-fn input_planes<'a>(alloc: Global, frames: &'a [Frame]) -> Result<Vec<Plane<'a>>, Memory>
+fn input_planes<'a>(alloc: Global, frames: &'a [Frame]) -> Result<Vec<Plane<'a>>, OutOfMemory>
     ensures { IfOk result (λ planes. map values_of planes.items ≡ map (λ f. map pos f.samples) frames.now) }
 {
     let mut planes = Vec::new(alloc);
@@ -43,7 +43,7 @@ fn next_plane<'a>(
     images: &[Definition],
     body: &Expr,
     wanted: bool,
-) -> Result<Plane<'a>, Memory>
+) -> Result<Plane<'a>, OutOfMemory>
     requires can { IsTrue wanted → CanEvaluate (size_of size) planes.now (tree_of body.now) }
     requires types { All IsType (all_types inputs.now images.now) }
     requires values { AreValues (size_of size) (all_types inputs.now images.now) planes.now }
@@ -105,7 +105,7 @@ fn all_planes<'a>(
     ir: &Ir,
     frames: &'a [Frame],
     until: &[usize],
-) -> Result<Vec<Plane<'a>>, Memory>
+) -> Result<Vec<Plane<'a>>, OutOfMemory>
     requires frames { AreFrames ir.now frames.now }
     requires needs { AreNeeds ir.now until.now }
     ensures { IfOk result (λ planes. ShowsNeeded ir.now.size (types_of ir.now) (pictures ir.now (round_of ir.now.size frames.now)) until.now (image_count ir.now) planes.items) }
@@ -135,7 +135,7 @@ fn all_planes<'a>(
 }
 
 // Values that are samples.
-fn narrow_samples(alloc: Global, values: &[i64]) -> Result<Vec<u16>, Memory>
+fn narrow_samples(alloc: Global, values: &[i64]) -> Result<Vec<u16>, OutOfMemory>
     requires { All (λ v. (pos 0 ≤ℤ v) × (v <ℤ pos 65536)) values.now }
     ensures { IfOk result (λ s. s.items ≡ map unsigned_abs values.now) }
 {
@@ -147,7 +147,7 @@ fn narrow_samples(alloc: Global, values: &[i64]) -> Result<Vec<u16>, Memory>
 }
 
 // Values that are samples.
-fn wide_samples(alloc: Global, values: &[i128]) -> Result<Vec<u16>, Memory>
+fn wide_samples(alloc: Global, values: &[i128]) -> Result<Vec<u16>, OutOfMemory>
     requires { All (λ v. (pos 0 ≤ℤ v) × (v <ℤ pos 65536)) values.now }
     ensures { IfOk result (λ s. s.items ≡ map unsigned_abs values.now) }
 {
@@ -160,7 +160,7 @@ fn wide_samples(alloc: Global, values: &[i128]) -> Result<Vec<u16>, Memory>
 
 // The samples of a plane.
 #[tactic(auto, using(crate::proofs::Pixels::samples_back))]
-fn samples_of(alloc: Global, plane: Plane<'_>) -> Result<Vec<u16>, Memory>
+fn samples_of(alloc: Global, plane: Plane<'_>) -> Result<Vec<u16>, OutOfMemory>
     requires { All (λ v. (pos 0 ≤ℤ v) × (v <ℤ pos 65536)) (values_of plane) }
     ensures { IfOk result (λ s. s.items ≡ map unsigned_abs (values_of plane.entry)) }
 {
@@ -174,7 +174,7 @@ fn samples_of(alloc: Global, plane: Plane<'_>) -> Result<Vec<u16>, Memory>
 }
 
 // The frame of values that are samples.
-fn output_frame(alloc: Global, size: FrameSize, plane: Plane<'_>) -> Result<Frame, Memory>
+fn output_frame(alloc: Global, size: FrameSize, plane: Plane<'_>) -> Result<Frame, OutOfMemory>
     requires { All (λ v. (pos 0 ≤ℤ v) × (v <ℤ pos 65536)) (values_of plane) }
     ensures { IfOk result (λ f. f ≡ record { width = size.width; height = size.height; samples = map unsigned_abs (values_of plane.entry) }) }
 {
@@ -201,7 +201,7 @@ fn frames_of_outputs(
     size: FrameSize,
     outputs: &[u32],
     planes: &mut [Plane<'_>],
-) -> Result<Vec<Frame>, Memory>
+) -> Result<Vec<Frame>, OutOfMemory>
     requires outputs { All (IsOutputPlane (size_of size) planes.old) outputs.now }
     requires distinct { IsDistinct outputs.now }
     ensures { IfOk result (λ frames. frames.items ≡ map (λ g. frame_of (size_of size) (picture_at (all_shown (size_of size) planes.old) g)) outputs.now) }
@@ -216,7 +216,7 @@ fn frames_of_outputs(
 }
 
 /// The pictures of the outputs in order, on one frame for each input in order, which has the size of the frame and samples in the range of the input's type. Memory is taken for the values of each image that an output needs, and given back once no later image reads it.
-pub fn evaluate(alloc: Global, ir: &Ir, frames: &[Frame]) -> Result<Vec<Frame>, Memory>
+pub fn evaluate(alloc: Global, ir: &Ir, frames: &[Frame]) -> Result<Vec<Frame>, OutOfMemory>
     requires { AreFrames ir.now frames.now }
     ensures { IfOk result (λ outs. outs.items ≡ output_frames ir.now (pictures ir.now (round_of ir.now.size frames.now))) }
 {

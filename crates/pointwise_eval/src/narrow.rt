@@ -60,7 +60,7 @@ fn constant_type(value: i128, ty: Ty) -> Option<Ty>
     if ty.holds(value) { Some(ty) } else { None }
 }
 
-/// The type of an expression, where each part has a type of numbers of 64 bits.
+// The type of an expression, where each part has a type of numbers of 64 bits.
 pub fn narrow_type(e: &Expr, inputs: &[Input], images: &[Definition]) -> Option<Ty>
     requires { All IsType (all_types inputs.now images.now) }
     ensures typed { IfSome result (λ t. IsType t) }
@@ -123,7 +123,7 @@ fn has_rows(planes: &[Plane<'_>], image: u32) -> bool
     }
 }
 
-/// Whether each image that the expression reads can be read by rows.
+// Whether each image that the expression reads can be read by rows.
 pub fn reads_rows(planes: &[Plane<'_>], e: &Expr) -> bool
     ensures { IsTrue result → EachImage (HasRows planes.now) (tree_of e.now) }
 {

@@ -5,7 +5,7 @@ ghost use Rattle.std.specs.List.{All};
 ghost use Rattle.pointwise_ir.specs.Trees.{Tree, tree_of, EachImage};
 ghost use Rattle.pointwise_eval.specs.Needs.{IsNeeded, image_count, AreNeeds};
 
-use dk_base::Memory;
+use dk_base::OutOfMemory;
 use pointwise_ir::{Definition, Expr, Ir};
 use std::alloc::Global;
 
@@ -60,7 +60,7 @@ fn mark_outputs(outputs: &[u32], until: &mut [usize], behind: usize)
     }
 }
 
-/// Whether the image of this number is needed behind itself.
+// Whether the image of this number is needed behind itself.
 pub fn is_needed(until: &[usize], number: usize) -> bool
     requires there { number < length until.now }
     requires few { number < 2 ^ 62 }
@@ -99,8 +99,8 @@ fn mark_all(ir: &Ir, until: &mut [usize])
     mark_reads(inputs, images, until);
 }
 
-/// For each image how many images there are before the outputs do not need it any more.
-pub fn needs(alloc: Global, ir: &Ir) -> Result<Vec<usize>, Memory>
+// For each image how many images there are before the outputs do not need it any more.
+pub fn needs(alloc: Global, ir: &Ir) -> Result<Vec<usize>, OutOfMemory>
     ensures { IfOk result (λ until. AreNeeds ir.now until.items) }
 {
     ir.law();

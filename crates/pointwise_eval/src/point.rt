@@ -8,14 +8,14 @@ ghost use Rattle.pointwise_eval.specs.Planes.{IsNowhere, LeadsTo};
 use dk_base::FrameSize;
 use pointwise_ir::Edge;
 
-/// A pixel: its column and its row.
+// A pixel: its column and its row.
 #[derive(Clone, Copy, Debug)]
 pub struct Point {
     pub x: u32,
     pub y: u32,
 }
 
-/// The coordinate that is `by` further, where it is below the limit.
+// The coordinate that is `by` further, where it is below the limit.
 pub fn moved(at: u32, by: i32, limit: u32) -> Option<u32>
     ensures { MatchOption result (IsFalse (is_below (pos at +ℤ by) limit)) (λ n. (pos n ≡ pos at +ℤ by) × (n < limit)) }
 {
@@ -27,7 +27,7 @@ pub fn moved(at: u32, by: i32, limit: u32) -> Option<u32>
     }
 }
 
-/// The coordinate that is `by` further, brought below the limit.
+// The coordinate that is `by` further, brought below the limit.
 pub fn brought(at: u32, by: i32, limit: u32) -> u32
     requires { 0 < limit }
     ensures below { result < limit }
@@ -44,7 +44,7 @@ pub fn brought(at: u32, by: i32, limit: u32) -> u32
     }
 }
 
-/// The pixel to which a step leads, or None where it leads out of the frame.
+// The pixel to which a step leads, or None where it leads out of the frame.
 pub fn step(size: FrameSize, edge: Edge, from: Point, dx: i32, dy: i32) -> Option<Point>
     ensures { MatchOption result (IsNowhere (size_of size) edge (pos from.x +ℤ dx) (pos from.y +ℤ dy)) (λ p. LeadsTo (size_of size) edge (pos from.x +ℤ dx) (pos from.y +ℤ dy) p.x p.y) }
 {

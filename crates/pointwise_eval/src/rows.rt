@@ -18,7 +18,7 @@ use crate::narrow::{narrow_type, reads_rows};
 use crate::plane::Plane;
 use crate::value::render_points;
 use crate::walk::value_row;
-use dk_base::{FrameSize, Memory, Ty};
+use dk_base::{FrameSize, OutOfMemory, Ty};
 use pointwise_ir::{Definition, Expr, Input};
 use std::alloc::Global;
 use std::cmp::max;
@@ -50,7 +50,7 @@ fn rows_of(
     e: &Expr,
     row: &mut [i64],
     scratch: &mut [i64],
-) -> Result<Vec<i64>, Memory>
+) -> Result<Vec<i64>, OutOfMemory>
     requires can { CanEvaluate (size_of size) planes.now (tree_of e.now) }
     requires rows { EachImage (HasRows planes.now) (tree_of e.now) }
     requires narrow { AreNarrow (size_of size) (all_shown (size_of size) planes.now) (tree_of e.now) }
@@ -73,7 +73,7 @@ fn render_rows<'a>(
     size: FrameSize,
     planes: &[Plane<'_>],
     e: &Expr,
-) -> Result<Plane<'a>, Memory>
+) -> Result<Plane<'a>, OutOfMemory>
     requires can { CanEvaluate (size_of size) planes.now (tree_of e.now) }
     requires rows { EachImage (HasRows planes.now) (tree_of e.now) }
     requires narrow { AreNarrow (size_of size) (all_shown (size_of size) planes.now) (tree_of e.now) }
@@ -121,7 +121,7 @@ fn samples_of_rows(
     row: &mut [i64],
     scratch: &mut [i64],
     part: &mut [u16],
-) -> Result<Vec<u16>, Memory>
+) -> Result<Vec<u16>, OutOfMemory>
     requires can { CanEvaluate (size_of size) planes.now (tree_of e.now) }
     requires rows { EachImage (HasRows planes.now) (tree_of e.now) }
     requires narrow { AreNarrow (size_of size) (all_shown (size_of size) planes.now) (tree_of e.now) }
@@ -146,7 +146,7 @@ fn render_samples<'a>(
     size: FrameSize,
     planes: &[Plane<'_>],
     e: &Expr,
-) -> Result<Plane<'a>, Memory>
+) -> Result<Plane<'a>, OutOfMemory>
     requires can { CanEvaluate (size_of size) planes.now (tree_of e.now) }
     requires rows { EachImage (HasRows planes.now) (tree_of e.now) }
     requires narrow { AreNarrow (size_of size) (all_shown (size_of size) planes.now) (tree_of e.now) }
@@ -174,7 +174,7 @@ fn is_few(ty: Ty) -> bool
     }
 }
 
-/// The values of an expression over these images at all pixels: by rows where all its parts have values of 64 bits and it reads such planes, else each by itself.
+// The values of an expression over these images at all pixels: by rows where all its parts have values of 64 bits and it reads such planes, else each by itself.
 pub fn render<'a>(
     alloc: Global,
     size: FrameSize,
@@ -182,7 +182,7 @@ pub fn render<'a>(
     inputs: &[Input],
     images: &[Definition],
     e: &Expr,
-) -> Result<Plane<'a>, Memory>
+) -> Result<Plane<'a>, OutOfMemory>
     requires can { CanEvaluate (size_of size) planes.now (tree_of e.now) }
     requires types { All IsType (all_types inputs.now images.now) }
     requires values { AreValues (size_of size) (all_types inputs.now images.now) planes.now }

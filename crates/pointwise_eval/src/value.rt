@@ -10,7 +10,7 @@ ghost use Rattle.pointwise_eval.specs.Planes.{values_of, shown, all_shown, IsWho
 
 use crate::plane::Plane;
 use crate::point::{Point, step};
-use dk_base::{FrameSize, Memory};
+use dk_base::{FrameSize, OutOfMemory};
 use pointwise_ir::{Expr, binary_value, conversion_value, scaling_value, unary_value};
 use std::alloc::Global;
 
@@ -48,7 +48,7 @@ fn sample(size: FrameSize, planes: &[Plane<'_>], image: u32, at: Point) -> i128
     value_of(&planes[image as usize], place)
 }
 
-/// The value of an expression at a pixel.
+// The value of an expression at a pixel.
 pub fn value_at(size: FrameSize, planes: &[Plane<'_>], e: &Expr, at: Point) -> i128
     requires can { CanEvaluate (size_of size) planes.now (tree_of e.now) }
     requires across { at.x < size.width }
@@ -85,13 +85,13 @@ pub fn value_at(size: FrameSize, planes: &[Plane<'_>], e: &Expr, at: Point) -> i
     }
 }
 
-/// The values of an expression at all pixels, each by itself.
+// The values of an expression at all pixels, each by itself.
 pub fn render_points<'a>(
     alloc: Global,
     size: FrameSize,
     planes: &[Plane<'_>],
     e: &Expr,
-) -> Result<Plane<'a>, Memory>
+) -> Result<Plane<'a>, OutOfMemory>
     requires can { CanEvaluate (size_of size) planes.now (tree_of e.now) }
     ensures whole { IfOk result (λ p. length (values_of p) ≡ area (size_of size)) }
     ensures value { IfOk result (λ p. shown (size_of size) (values_of p) ≡ framed (size_of size) (value (size_of size) (all_shown (size_of size) planes.now) (tree_of e.now))) }

@@ -125,7 +125,7 @@ fn row_of<'a>(size: FrameSize, planes: &'a [Plane<'_>], image: u32, y: u32) -> R
     )
 }
 
-/// Writes the values of an expression along row y. `scratch` has two rows for each level of the expression.
+// Writes the values of an expression along row y. `scratch` has two rows for each level of the expression.
 pub fn value_row(
     size: FrameSize,
     planes: &[Plane<'_>],

@@ -3,7 +3,7 @@
 ghost use Rattle.std.specs.Prelude.{◌≡◌, IfOk};
 ghost use Rattle.pointwise_ir.specs.Trees.{tree_of};
 
-use dk_base::{Binary, Conversion, Memory, Scaling, Ty, Unary};
+use dk_base::{Binary, Conversion, OutOfMemory, Scaling, Ty, Unary};
 use std::alloc::Global;
 
 /// What stands for a picture outside the frame: 0, or the pixel at the nearest point of the frame, each coordinate by itself.
@@ -31,7 +31,7 @@ pub enum Expr {
 impl Expr {
     // An equal expression in a box.
     #[cycle(copy)]
-    fn boxed_copy(&self, alloc: Global) -> Result<Box<Expr>, Memory>
+    fn boxed_copy(&self, alloc: Global) -> Result<Box<Expr>, OutOfMemory>
         ensures { IfOk result (λ e. tree_of e.value ≡ tree_of self.now) }
     {
         let copied = self.copy(alloc)?;
@@ -40,7 +40,7 @@ impl Expr {
 
     /// An equal expression.
     #[cycle(copy)]
-    pub fn copy(&self, alloc: Global) -> Result<Expr, Memory>
+    pub fn copy(&self, alloc: Global) -> Result<Expr, OutOfMemory>
         ensures { IfOk result (λ e. tree_of e ≡ tree_of self.now) }
     {
         Ok(match self {

@@ -5,7 +5,7 @@ ghost use Rattle.pointwise_ir.specs.Programs.{Program};
 ghost use Rattle.pointwise_ir.specs.Passes.{KeepsMeaning};
 
 use crate::ir::Ir;
-use dk_base::Memory;
+use dk_base::OutOfMemory;
 use std::alloc::Global;
 
 /// A pass over a program.
@@ -13,22 +13,22 @@ pub trait Rewrite: Drop {
     /// The property that the pass names: what holds of each program that it gives.
     ghost gives: { Self → Program → Type 0 };
 
-    /// The program with other bodies. The frame's size, inputs, outputs, each image's name, type and meaning, the kept images and their live reads stay. On `Memory` the program is dropped.
-    fn apply(&self, alloc: Global, ir: Ir) -> Result<Ir, Memory>
+    /// The program with other bodies. The frame's size, inputs, outputs, each image's name, type and meaning, the kept images and their live reads stay. On `OutOfMemory` the program is dropped.
+    fn apply(&self, alloc: Global, ir: Ir) -> Result<Ir, OutOfMemory>
         ensures meaning { IfOk result (λ new. KeepsMeaning ir new) }
         ensures gives { IfOk result (λ new. gives self.now new) };
 }
 
 // The program after one pass.
-fn after(alloc: Global, ir: Ir, pass: &Box<dyn Rewrite>) -> Result<Ir, Memory>
+fn after(alloc: Global, ir: Ir, pass: &Box<dyn Rewrite>) -> Result<Ir, OutOfMemory>
     ensures meaning { IfOk result (λ new. KeepsMeaning ir new) }
     ensures gives { IfOk result (λ new. gives pass.now new) }
 {
     pass.apply(alloc, ir)
 }
 
-/// The program after each of the passes in order. On `Memory` the program is dropped.
-pub fn run_passes(alloc: Global, ir: Ir, passes: &[Box<dyn Rewrite>]) -> Result<Ir, Memory>
+/// The program after each of the passes in order. On `OutOfMemory` the program is dropped.
+pub fn run_passes(alloc: Global, ir: Ir, passes: &[Box<dyn Rewrite>]) -> Result<Ir, OutOfMemory>
     ensures meaning { IfOk result (λ new. KeepsMeaning ir new) }
     // the last pass's property
     ensures last { IfOk result (λ new. (k : ℕ) (pass : _) → k + 1 ≡ length passes.now → slice_get passes.now k ≡ Some pass → gives pass new) }

@@ -256,7 +256,7 @@ fn are_outputs(inputs: &[Input], images: &[Definition], outputs: &[u32]) -> bool
     true
 }
 
-/// Whether these are the parts of an Ir.
+// Whether these are the parts of an Ir.
 pub(crate) fn is_program(parts: &Parts) -> bool
     ensures yes { IsTrue result → IsProgram (program_of parts.now) }
     ensures no { IsProgram (program_of parts.now) → IsTrue result }

@@ -9,14 +9,14 @@ ghost use Rattle.program_images.specs.Ports.{bits_of};
 ghost use Rattle.program_images.specs.Outputs.{output_images};
 ghost use Rattle.program_images.specs.Writing.{AreOutputFrames, images_with};
 
-use dk_base::{FrameSize, Memory, Ty};
+use dk_base::{FrameSize, OutOfMemory, Ty};
 use dk_frames::Frame;
 use pgm_rounds::{Round, write_image};
 use pointwise_eval::evaluate;
 use pointwise_ir::{Ir, meaning_law};
 use std::alloc::Global;
 
-/// The type of an image.
+// The type of an image.
 fn type_of(ir: &Ir, image: u32) -> Ty
     requires { image < length (types_of ir.now) }
     ensures { slice_get (types_of ir.now) image ≡ Some result }
@@ -30,7 +30,7 @@ fn type_of(ir: &Ir, image: u32) -> Ty
     }
 }
 
-/// The greatest sample of an output.
+// The greatest sample of an output.
 fn greatest_sample(ir: &Ir, output: u32) -> u16
     requires { IsOutput (types_of ir.now) output }
     ensures is { result ≡ 2 ^ bits_of (types_of ir.now) output - 1 }
@@ -39,8 +39,8 @@ fn greatest_sample(ir: &Ir, output: u32) -> u16
     type_of(ir, output).greatest() as u16
 }
 
-/// Adds the images of the outputs' frames.
-fn add_images(ir: &Ir, frames: &[Frame], file: &mut Vec<u8>) -> Result<(), Memory>
+// Adds the images of the outputs' frames.
+fn add_images(ir: &Ir, frames: &[Frame], file: &mut Vec<u8>) -> Result<(), OutOfMemory>
     requires { AreOutputFrames ir.now frames.now }
     ensures { OnOk result (file.new.items ≡ file.old.items ++ file_of (images_with (types_of ir.now) ir.now.outputs frames.now)) }
 {
@@ -64,7 +64,7 @@ pub fn write_outputs(
     ir: &Ir,
     round: &Round,
     file: &mut Vec<u8>,
-) -> Result<(), Memory>
+) -> Result<(), OutOfMemory>
     requires { AreFrames ir.now round.now.frames.items }
     ensures { OnOk result (file.new.items ≡ file.old.items ++ file_of (output_images ir.now.size (types_of ir.now) ir.now.outputs (pictures ir.now (round_of ir.now.size round.now.frames.items)))) }
 {

@@ -9,13 +9,13 @@ ghost use Rattle.dk_base.specs.Types.{IsPort};
 ghost use Rattle.pointwise_eval.specs.Rounds.{AreFrames};
 ghost use Rattle.program_images.specs.Ports.{ports_of};
 
-use dk_base::Memory;
+use dk_base::OutOfMemory;
 use pgm_rounds::{FileError, Round, read_rounds};
 use pointwise_ir::{Input, Ir};
 use std::alloc::Global;
 
-/// The width of each input, in bits.
-fn widths_of(alloc: Global, inputs: &[Input]) -> Result<Vec<u8>, Memory>
+// The width of each input, in bits.
+fn widths_of(alloc: Global, inputs: &[Input]) -> Result<Vec<u8>, OutOfMemory>
     requires { All (λ i. IsPort i.ty) inputs.now }
     ensures { IfOk result (λ widths. widths.items ≡ map width_of (map (λ i. i.ty) inputs.now)) }
 {

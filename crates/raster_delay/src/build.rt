@@ -6,7 +6,7 @@ ghost use Rattle.raster_delay.specs.Delays.{AreReads, IsNear, offset, begin_of, 
 
 use crate::network::Constraint;
 use crate::placed::{PlacedRead, offset};
-use dk_base::Memory;
+use dk_base::OutOfMemory;
 use std::alloc::Global;
 
 /// The node at which the image at place `k` begins: 0 for an input.
@@ -75,7 +75,7 @@ fn keep_constraint(row: u32, inputs: usize, images: usize, r: PlacedRead) -> Con
     }
 }
 
-fn add_holds(all: &mut Vec<Constraint>, inputs: usize, images: usize) -> Result<(), Memory>
+fn add_holds(all: &mut Vec<Constraint>, inputs: usize, images: usize) -> Result<(), OutOfMemory>
     requires inputs { inputs ≤ images }
     requires images { images < 2 ^ 32 }
     ensures { OnOk result (all.new.items ≡ all.old.items ++ holds_of inputs images) }
@@ -86,7 +86,7 @@ fn add_holds(all: &mut Vec<Constraint>, inputs: usize, images: usize) -> Result<
     Ok(())
 }
 
-fn add_starts(all: &mut Vec<Constraint>, inputs: usize, images: usize) -> Result<(), Memory>
+fn add_starts(all: &mut Vec<Constraint>, inputs: usize, images: usize) -> Result<(), OutOfMemory>
     requires inputs { inputs ≤ images }
     requires images { images < 2 ^ 32 }
     ensures { OnOk result (all.new.items ≡ all.old.items ++ starts_of inputs images) }
@@ -108,7 +108,7 @@ fn add_reads(
     inputs: usize,
     images: usize,
     reads: &[PlacedRead],
-) -> Result<(), Memory>
+) -> Result<(), OutOfMemory>
     requires row { row ≤ MAX_SIDE }
     requires images { images < 2 ^ 32 }
     requires reads { AreReads row inputs images reads.now }
@@ -126,7 +126,7 @@ fn add_keeps(
     inputs: usize,
     images: usize,
     reads: &[PlacedRead],
-) -> Result<(), Memory>
+) -> Result<(), OutOfMemory>
     requires row { row ≤ MAX_SIDE }
     requires inputs { inputs ≤ images }
     requires images { images < 2 ^ 32 }
@@ -147,7 +147,7 @@ pub fn constraints(
     inputs: usize,
     images: usize,
     reads: &[PlacedRead],
-) -> Result<Vec<Constraint>, Memory>
+) -> Result<Vec<Constraint>, OutOfMemory>
     requires row { row ≤ MAX_SIDE }
     requires inputs { inputs ≤ images }
     requires images { images < 2 ^ 32 }

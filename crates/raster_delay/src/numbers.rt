@@ -8,7 +8,7 @@ ghost use Rattle.raster_delay.specs.Systems.{IsCausal, constraints_in, image_cou
 use crate::build::{begin_node, end_node};
 use crate::network::Constraint;
 use crate::system::System;
-use dk_base::Memory;
+use dk_base::OutOfMemory;
 use std::alloc::Global;
 
 // The least number that a constraint lets its target have.
@@ -59,7 +59,7 @@ fn raise_numbers(system: &System, numbers: &mut [u64])
 }
 
 /// The numbers of the nodes that are the least in every place of those that keep each constraint: the earliest delays, and these with their depths.
-pub fn earliest_numbers(alloc: Global, system: &System) -> Result<Vec<u64>, Memory>
+pub fn earliest_numbers(alloc: Global, system: &System) -> Result<Vec<u64>, OutOfMemory>
     ensures length { IfOk result (λ numbers. length numbers.items ≡ nodes system.now) }
     ensures holds { IfOk result (λ numbers. All (Holds numbers.items) (constraints_in system.now)) }
     ensures zero { IfOk result (λ numbers. slice_index numbers.items 0 ≡ 0) }
@@ -72,7 +72,11 @@ pub fn earliest_numbers(alloc: Global, system: &System) -> Result<Vec<u64>, Memo
 }
 
 /// The numbers of the nodes at which the kept images begin, one for each image in order.
-pub fn begin_numbers(alloc: Global, system: &System, numbers: &[u64]) -> Result<Vec<u64>, Memory>
+pub fn begin_numbers(
+    alloc: Global,
+    system: &System,
+    numbers: &[u64],
+) -> Result<Vec<u64>, OutOfMemory>
     requires { length numbers.now ≡ nodes system.now }
     ensures length { IfOk result (λ delays. length delays.items ≡ image_count system.now) }
     ensures numbers { IfOk result (λ delays. (k : ℕ) → k < image_count system.now → slice_index delays.items k ≡ slice_index numbers.now (begin_of system.now.stencils.inputs k)) }
@@ -87,7 +91,7 @@ pub fn begin_numbers(alloc: Global, system: &System, numbers: &[u64]) -> Result<
 }
 
 /// The numbers of the nodes at which the kept images end, one for each image in order.
-pub fn end_numbers(alloc: Global, system: &System, numbers: &[u64]) -> Result<Vec<u64>, Memory>
+pub fn end_numbers(alloc: Global, system: &System, numbers: &[u64]) -> Result<Vec<u64>, OutOfMemory>
     requires { length numbers.now ≡ nodes system.now }
     ensures length { IfOk result (λ ends. length ends.items ≡ image_count system.now) }
     ensures numbers { IfOk result (λ ends. (k : ℕ) → k < image_count system.now → slice_index ends.items k ≡ slice_index numbers.now (end_of system.now.stencils.inputs (image_count system.now) k)) }
@@ -103,7 +107,7 @@ pub fn end_numbers(alloc: Global, system: &System, numbers: &[u64]) -> Result<Ve
 }
 
 /// The causal delays that are least in every place among all causal delays, one for each kept image in order, in clocks.
-pub fn earliest(alloc: Global, system: &System) -> Result<Vec<u64>, Memory>
+pub fn earliest(alloc: Global, system: &System) -> Result<Vec<u64>, OutOfMemory>
     ensures causal { IfOk result (λ delays. IsCausal system.now delays.items) }
     ensures least { IfOk result (λ delays. (d : List ℕ) → IsCausal system.now d → (k : ℕ) → slice_index delays.items k ≤ slice_index d k) }
     ensures near { IfOk result (λ delays. AreNear delays.items) }

@@ -6,7 +6,7 @@ ghost use Rattle.dk_base.specs.Stencils.{IsKept, place};
 ghost use Rattle.raster_delay.specs.Delays.{offset};
 ghost use Rattle.raster_delay.specs.Placing.{reads_of};
 
-use dk_base::{Image, LiveRead, Memory};
+use dk_base::{Image, LiveRead, OutOfMemory};
 use std::alloc::Global;
 
 /// The image at place `f` reads the image at place `g`, at `dx` columns to the right and `dy` rows down.
@@ -35,7 +35,7 @@ pub fn placed_reads(
     alloc: Global,
     images: &[Image],
     reads: &[LiveRead],
-) -> Result<Vec<PlacedRead>, Memory>
+) -> Result<Vec<PlacedRead>, OutOfMemory>
     requires readers { All (λ r. IsKept images.now r.f) reads.now }
     requires sources { All (λ r. IsKept images.now r.g) reads.now }
     ensures { IfOk result (λ v. v.items ≡ reads_of images.now reads.now) }

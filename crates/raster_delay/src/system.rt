@@ -4,7 +4,7 @@ use crate::build::constraints;
 use crate::measure::coefficient;
 use crate::network::Constraint;
 use crate::placed::{PlacedRead, placed_reads};
-use dk_base::{Image, LiveRead, Memory, Stencils};
+use dk_base::{Image, LiveRead, OutOfMemory, Stencils};
 use std::alloc::Global;
 use std::marker::Model;
 
@@ -42,14 +42,14 @@ impl System {
     ghost use Rattle.raster_delay.specs.Systems.{IsSystem, image_count, placed_reads, constraints_in, nodes, coefficient_in};
 
     /// The system of these stencils, in which each age is at least 0.
-    pub fn of(alloc: Global, stencils: &Stencils) -> Result<System, Memory>
+    pub fn of(alloc: Global, stencils: &Stencils) -> Result<System, OutOfMemory>
         ensures { IfOk result (λ s. s ≡ record { stencils = stencils.now; age = 0 }) }
     {
         System::aged(alloc, stencils, 0)
     }
 
     /// The system of these stencils, in which each age is at least `age` clocks.
-    pub fn aged(alloc: Global, stencils: &Stencils, age: u8) -> Result<System, Memory>
+    pub fn aged(alloc: Global, stencils: &Stencils, age: u8) -> Result<System, OutOfMemory>
         requires { age ≤ MAX_AGE }
         ensures { IfOk result (λ s. s ≡ record { stencils = stencils.now; age = age }) }
     {

@@ -3,7 +3,7 @@ use Rattle.std.specs.Prelude.{◌≡◌, ℕ, ℤ, List, codes, Option, Some, No
 use Rattle.report_text.specs.declared.report.FlowLine.{FlowLine}
 use Rattle.report_text.specs.declared.report.Report.{Report}
 use Rattle.report_text.specs.declared.reading.ReportFault.{ReportFault}
-use Rattle.report_text.specs.declared.reading.ReportFault.TheVariants.{Line, Memory}
+use Rattle.report_text.specs.declared.reading.ReportFault.TheVariants.{Line, OutOfMemory}
 use Rattle.report_text.specs.declared.step.Stage.{Stage}
 use Rattle.report_text.specs.declared.step.Stage.TheVariants.{Clocks}
 use Rattle.report_text.specs.Reports.{Parts, parts_of}
@@ -36,4 +36,4 @@ is_inside b = not (nat_eq b 10)
 abbrev pub Finds : Result Parts ℕ → Result Report ReportFault → Type 0
 Finds read (Ok report) = read ≡ Ok (parts_of report)
 Finds read (Err (Line number)) = read ≡ Err number
-Finds read (Err Memory) = ⊤
+Finds read (Err OutOfMemory) = ⊤

@@ -9,20 +9,20 @@ ghost use Rattle.report_text.specs.Reading.{strip as strip_of, is_end as end, is
 
 use crate::report::ImageLine;
 use crate::word::{is_name, same};
-use dk_base::{MAX_SIDE, Memory, Text, digits_length, word_length};
+use dk_base::{MAX_SIDE, OutOfMemory, Text, digits_length, word_length};
 use std::alloc::Global;
 
-/// The greatest size of an offset, to either side.
+// The greatest size of an offset, to either side.
 const MAX_OFFSET: u64 = MAX_SIDE as u64 - 1;
 
-/// The bytes behind a word.
+// The bytes behind a word.
 pub(crate) fn strip<'a>(word: &[u8], bytes: &'a [u8]) -> Option<&'a [u8]>
     ensures { MatchOption result (strip_of word.now bytes.now ≡ None) (λ rest. strip_of word.now bytes.now ≡ Some rest.now) }
 {
     bytes.strip_prefix(word)
 }
 
-/// Whether the bytes are an LF and nothing else.
+// Whether the bytes are an LF and nothing else.
 fn is_end(bytes: &[u8]) -> bool
     ensures { result ≡ end bytes.now }
 {
@@ -32,7 +32,7 @@ fn is_end(bytes: &[u8]) -> bool
     }
 }
 
-/// A number with one digit more, unless it passes 64 bits.
+// A number with one digit more, unless it passes 64 bits.
 fn with_digit(value: u64, digit: u8) -> Option<u64>
     ensures { MatchOption result (2 ^ 64 ≤ 10 * value + (digit - 48)) (λ v. v ≡ 10 * value + (digit - 48)) }
 {
@@ -41,7 +41,7 @@ fn with_digit(value: u64, digit: u8) -> Option<u64>
         .checked_add(u64::from(digit.saturating_sub(b'0')))
 }
 
-/// The number of these digits, unless it passes 64 bits.
+// The number of these digits, unless it passes 64 bits.
 fn value(digits: &[u8]) -> Option<u64>
     ensures { MatchOption result (2 ^ 64 ≤ value_of digits.now) (λ v. v ≡ value_of digits.now) }
 {
@@ -71,7 +71,7 @@ fn numeral(digits: &[u8]) -> Option<u64>
     value(digits)
 }
 
-/// The number at the front, without leading zeros, and the bytes behind it.
+// The number at the front, without leading zeros, and the bytes behind it.
 #[tactic(auto, unfolding(crate::specs::Reading::number_at))]
 fn number_at(bytes: &[u8]) -> Option<(u64, &[u8])>
     ensures { MatchOption result (number_of bytes.now ≡ None) (λ x. number_of bytes.now ≡ Some (x.0, x.1.now)) }
@@ -103,7 +103,7 @@ fn negative(bytes: &[u8]) -> Option<(i32, &[u8])>
     Some((-(value as i32), rest))
 }
 
-/// The offset at the front, and the bytes behind it.
+// The offset at the front, and the bytes behind it.
 #[tactic(auto, unfolding(crate::specs::Reading::offset_at))]
 pub(crate) fn offset_at(bytes: &[u8]) -> Option<(i32, &[u8])>
     ensures { MatchOption result (offset_of bytes.now ≡ None) (λ x. offset_of bytes.now ≡ Some (x.0, x.1.now)) }
@@ -114,7 +114,7 @@ pub(crate) fn offset_at(bytes: &[u8]) -> Option<(i32, &[u8])>
     }
 }
 
-/// The letters, digits and `_` at the front, and the bytes behind them.
+// The letters, digits and `_` at the front, and the bytes behind them.
 pub(crate) fn word_at(bytes: &[u8]) -> (&[u8], &[u8])
     ensures word { result.0.now ≡ (word_of bytes.now).0 }
     ensures rest { result.1.now ≡ (word_of bytes.now).1 }
@@ -122,7 +122,7 @@ pub(crate) fn word_at(bytes: &[u8]) -> (&[u8], &[u8])
     bytes.split_at(word_length(bytes))
 }
 
-/// The number of a line that is a word and a number.
+// The number of a line that is a word and a number.
 #[tactic(auto, unfolding(crate::specs::Reading::number_line_at))]
 pub(crate) fn number_line(word: &[u8], line: &[u8]) -> Option<u64>
     ensures { MatchOption result (number_line_at word.now line.now ≡ None) (λ n. number_line_at word.now line.now ≡ Some n) }
@@ -132,7 +132,7 @@ pub(crate) fn number_line(word: &[u8], line: &[u8]) -> Option<u64>
     if is_end(after) { Some(number) } else { None }
 }
 
-/// The numbers of a line that is a word and two numbers.
+// The numbers of a line that is a word and two numbers.
 #[tactic(auto, unfolding(crate::specs::Reading::pair_line_at))]
 pub(crate) fn pair_line(word: &[u8], line: &[u8]) -> Option<(u64, u64)>
     ensures { MatchOption result (pair_line_at word.now line.now ≡ None) (λ x. pair_line_at word.now line.now ≡ Some x) }
@@ -143,7 +143,7 @@ pub(crate) fn pair_line(word: &[u8], line: &[u8]) -> Option<(u64, u64)>
     Some((first, second))
 }
 
-/// A flow of at least 1, behind a blank.
+// A flow of at least 1, behind a blank.
 pub(crate) fn amount(bytes: &[u8]) -> Option<u64>
     ensures { MatchOption result (amount_at bytes.now ≡ None) (λ n. amount_at bytes.now ≡ Some n) }
 {
@@ -151,7 +151,7 @@ pub(crate) fn amount(bytes: &[u8]) -> Option<u64>
     if flow > 0 { Some(flow) } else { None }
 }
 
-/// The parts of an image line.
+// The parts of an image line.
 #[derive(Clone, Copy, Drop)]
 pub(crate) struct ImageParts<'a> {
     pub name: &'a [u8],
@@ -160,7 +160,7 @@ pub(crate) struct ImageParts<'a> {
     pub depth: u64,
 }
 
-/// An image line, its name not owned yet.
+// An image line, its name not owned yet.
 #[tactic(auto, unfolding(crate::specs::Reading::image_at))]
 pub(crate) fn image_parts(line: &[u8]) -> Option<ImageParts<'_>>
     ensures { MatchOption result (image_at line.now ≡ None) (λ i. image_at line.now ≡ Some (record { name = i.name.now; width = i.width; delay = i.delay; depth = i.depth })) }
@@ -182,8 +182,8 @@ pub(crate) fn image_parts(line: &[u8]) -> Option<ImageParts<'_>>
     }
 }
 
-/// The image line of these parts.
-pub(crate) fn owned(alloc: Global, parts: &ImageParts<'_>) -> Result<ImageLine, Memory>
+// The image line of these parts.
+pub(crate) fn owned(alloc: Global, parts: &ImageParts<'_>) -> Result<ImageLine, OutOfMemory>
     ensures { IfOk result (λ i. i ≡ record { name = parts.now.name.now; width = parts.now.width; delay = parts.now.delay; depth = parts.now.depth }) }
 {
     Ok(ImageLine {
@@ -202,7 +202,7 @@ fn first_place(images: &[ImageLine], name: &[u8]) -> Option<usize>
         .position(|image| same(image.name.as_bytes(), name))
 }
 
-/// The place of the image line of this name.
+// The place of the image line of this name.
 pub(crate) fn find(images: &[ImageLine], name: &[u8]) -> Option<usize>
     ensures { MatchOption result (find_of images.now name.now ≡ None) (λ k. find_of images.now name.now ≡ Some k) }
 {

@@ -9,7 +9,7 @@ ghost use Rattle.report_text.specs.Steps.{behind_names};
 use crate::field::{amount, find, offset_at, strip, word_at};
 use crate::report::{FlowLine, ImageLine};
 
-/// An image and a flow.
+// An image and a flow.
 #[tactic(auto, unfolding(crate::specs::Reading::held_at))]
 fn held(images: &[ImageLine], bytes: &[u8]) -> Option<(usize, u64)>
     ensures { MatchOption result ((make : ℕ → ℕ → FlowLine) → held_at make images.now bytes.now ≡ None) (λ x. (make : ℕ → ℕ → FlowLine) → held_at make images.now bytes.now ≡ Some (make x.0 x.1)) }
@@ -20,7 +20,7 @@ fn held(images: &[ImageLine], bytes: &[u8]) -> Option<(usize, u64)>
     Some((place, flow))
 }
 
-/// The images of a read, and the bytes behind their names.
+// The images of a read, and the bytes behind their names.
 #[tactic(auto, unfolding(crate::specs::Reading::carried_at))]
 fn places<'a>(images: &[ImageLine], bytes: &'a [u8]) -> Option<(usize, usize, &'a [u8])>
     ensures { MatchOption result ((make : ℕ → ℕ → ℤ → ℤ → ℕ → FlowLine) → carried_at make images.now bytes.now ≡ None) (λ x. (make : ℕ → ℕ → ℤ → ℤ → ℕ → FlowLine) → carried_at make images.now bytes.now ≡ behind_names (make x.0 x.1) x.2.now) }
@@ -33,7 +33,7 @@ fn places<'a>(images: &[ImageLine], bytes: &'a [u8]) -> Option<(usize, usize, &'
     Some((reader, source, rest))
 }
 
-/// The offset of a read, and a flow.
+// The offset of a read, and a flow.
 fn offset(bytes: &[u8]) -> Option<(i32, i32, u64)>
     ensures { MatchOption result ((make : ℤ → ℤ → ℕ → FlowLine) → behind_names make bytes.now ≡ None) (λ x. (make : ℤ → ℤ → ℕ → FlowLine) → behind_names make bytes.now ≡ Some (make x.0 x.1 x.2)) }
 {
@@ -45,7 +45,7 @@ fn offset(bytes: &[u8]) -> Option<(i32, i32, u64)>
     Some((dx, dy, flow))
 }
 
-/// The images of a read, its offset and a flow.
+// The images of a read, its offset and a flow.
 fn carried(images: &[ImageLine], bytes: &[u8]) -> Option<(usize, usize, i32, i32, u64)>
     ensures { MatchOption result ((make : ℕ → ℕ → ℤ → ℤ → ℕ → FlowLine) → carried_at make images.now bytes.now ≡ None) (λ x. (make : ℕ → ℕ → ℤ → ℤ → ℕ → FlowLine) → carried_at make images.now bytes.now ≡ Some (make x.0 x.1 x.2 x.3 x.4)) }
 {
@@ -54,7 +54,7 @@ fn carried(images: &[ImageLine], bytes: &[u8]) -> Option<(usize, usize, i32, i32
     Some((reader, source, dx, dy, flow))
 }
 
-/// The flow line that a line is.
+// The flow line that a line is.
 #[tactic(auto, unfolding(crate::specs::Reading::flow_at))]
 pub(crate) fn flow_line(images: &[ImageLine], line: &[u8]) -> Option<FlowLine>
     ensures { MatchOption result (flow_at images.now line.now ≡ None) (λ x. flow_at images.now line.now ≡ Some x) }
@@ -88,7 +88,7 @@ pub(crate) fn flow_line(images: &[ImageLine], line: &[u8]) -> Option<FlowLine>
     })
 }
 
-/// Whether a read stands before another one: by the image that reads, then by the one that is read, then by row, then by column.
+// Whether a read stands before another one: by the image that reads, then by the one that is read, then by row, then by column.
 fn is_read_before(
     f: usize,
     g: usize,
@@ -104,7 +104,7 @@ fn is_read_before(
     f < f2 || (f == f2 && (g < g2 || (g == g2 && (dy < dy2 || (dy == dy2 && dx < dx2)))))
 }
 
-/// Whether a flow line stands before another one.
+// Whether a flow line stands before another one.
 fn is_before(left: FlowLine, right: FlowLine) -> bool
     ensures { result ≡ before left right }
 {
@@ -154,7 +154,7 @@ fn is_before(left: FlowLine, right: FlowLine) -> bool
     }
 }
 
-/// Whether a flow line may follow these.
+// Whether a flow line may follow these.
 pub(crate) fn may_follow(flow: &[FlowLine], line: FlowLine) -> bool
     ensures { result ≡ follows flow.now line }
 {

@@ -19,10 +19,10 @@ pub enum ReportFault {
     #[error("line {number}")]
     Line { number: u64 },
     #[error("out of memory")]
-    Memory,
+    OutOfMemory,
 }
 
-/// How many bytes stand before the first LF.
+// How many bytes stand before the first LF.
 fn inside_length(text: &[u8]) -> usize
     ensures is { result ≡ prefix_len is_inside text.now }
     ensures within { result ≤ length text.now }
@@ -30,7 +30,7 @@ fn inside_length(text: &[u8]) -> usize
     text.iter().take_while(|byte| **byte != b'\n').count()
 }
 
-/// How many bytes the first line has, with its LF. None where there is no LF.
+// How many bytes the first line has, with its LF. None where there is no LF.
 fn line_length(text: &[u8]) -> Option<usize>
     ensures cut { MatchOption result (cut text.now ≡ text.now ∷ []) (λ n. cut text.now ≡ take n text.now ∷ cut (drop n text.now)) }
     ensures some { MatchOption result ⊤ (λ n. (0 < n) × (n ≤ length text.now)) }
@@ -54,14 +54,14 @@ fn is_final(stage: Stage, version: u8) -> bool
     }
 }
 
-/// Whether a report ends behind a line of this kind, with these bytes left.
+// Whether a report ends behind a line of this kind, with these bytes left.
 fn is_whole(stage: Stage, version: u8, rest: &[u8]) -> bool
     ensures { result ≡ (is_empty rest.now && final stage version) }
 {
     rest.is_empty() && is_final(stage, version)
 }
 
-/// The report before the first line.
+// The report before the first line.
 fn nothing(alloc: Global) -> Report
     ensures { parts_of result ≡ no_parts }
 {
@@ -83,7 +83,7 @@ fn nothing(alloc: Global) -> Report
     }
 }
 
-/// What is read, line by line.
+// What is read, line by line.
 fn all(alloc: Global, text: &[u8]) -> Result<Report, ReportFault>
     ensures { Finds (reading 1 Stage.Start no_parts (cut text.now)) result }
 {
@@ -94,7 +94,7 @@ fn all(alloc: Global, text: &[u8]) -> Result<Report, ReportFault>
     'lines: while let Some(length) = line_length(rest) {
         let (line, after) = rest.split_at(length);
         match step(alloc, &mut report, stage, line) {
-            Err(_) => return Err(ReportFault::Memory),
+            Err(_) => return Err(ReportFault::OutOfMemory),
             Ok(None) => return Err(ReportFault::Line { number }),
             Ok(Some(next)) => stage = next,
         }

@@ -9,13 +9,13 @@ use crate::field::{find, image_parts, number_line, owned, pair_line};
 use crate::flow::{flow_line, may_follow};
 use crate::report::Report;
 use crate::word::same;
-use dk_base::{MAX_AGE, MAX_DEFINITIONS, MAX_KEPT_IMAGES, MAX_OUTPUTS, MAX_SIDE, Memory};
+use dk_base::{MAX_AGE, MAX_DEFINITIONS, MAX_KEPT_IMAGES, MAX_OUTPUTS, MAX_SIDE, OutOfMemory};
 use std::alloc::Global;
 
-/// The greatest width and the greatest height of a frame.
+// The greatest width and the greatest height of a frame.
 const SIDE: u64 = MAX_SIDE as u64;
 
-/// Which kind of line was read last.
+// Which kind of line was read last.
 #[derive(Clone, Copy)]
 pub(crate) enum Stage {
     Start,
@@ -93,7 +93,7 @@ fn most_latencies(version: u8) -> usize
     if version == 3 { MAX_OUTPUTS } else { 1 }
 }
 
-fn image(alloc: Global, report: &mut Report, line: &[u8]) -> Result<Option<Stage>, Memory>
+fn image(alloc: Global, report: &mut Report, line: &[u8]) -> Result<Option<Stage>, OutOfMemory>
     ensures { IfOk result (λ stage. Does (imaged (parts_of report.old) line.now) (parts_of report.old) stage (parts_of report.new)) }
 {
     let Some(parts) = image_parts(line) else {
@@ -111,7 +111,7 @@ fn image(alloc: Global, report: &mut Report, line: &[u8]) -> Result<Option<Stage
     }
 }
 
-fn latency(report: &mut Report, line: &[u8]) -> Result<Option<Stage>, Memory>
+fn latency(report: &mut Report, line: &[u8]) -> Result<Option<Stage>, OutOfMemory>
     ensures { IfOk result (λ stage. Does (delayed (parts_of report.old) line.now) (parts_of report.old) stage (parts_of report.new)) }
 {
     let Some(clocks) = number_line(b"latency ", line) else {
@@ -145,7 +145,7 @@ fn reads(report: &mut Report, line: &[u8]) -> Option<Stage>
     Some(Stage::Reads)
 }
 
-fn flow(report: &mut Report, line: &[u8]) -> Result<Option<Stage>, Memory>
+fn flow(report: &mut Report, line: &[u8]) -> Result<Option<Stage>, OutOfMemory>
     ensures { IfOk result (λ stage. Does (flowing (parts_of report.old) line.now) (parts_of report.old) stage (parts_of report.new)) }
 {
     let Some(found) = flow_line(&report.images, line) else {
@@ -181,7 +181,7 @@ fn image_or_latency(
     alloc: Global,
     report: &mut Report,
     line: &[u8],
-) -> Result<Option<Stage>, Memory>
+) -> Result<Option<Stage>, OutOfMemory>
     ensures { IfOk result (λ stage. Does (next Stage.Images (parts_of report.old) line.now) (parts_of report.old) stage (parts_of report.new)) }
 {
     match image(alloc, report, line)? {
@@ -190,7 +190,7 @@ fn image_or_latency(
     }
 }
 
-fn latency_or_clocks(report: &mut Report, line: &[u8]) -> Result<Option<Stage>, Memory>
+fn latency_or_clocks(report: &mut Report, line: &[u8]) -> Result<Option<Stage>, OutOfMemory>
     ensures { IfOk result (λ stage. Does (next Stage.Latencies (parts_of report.old) line.now) (parts_of report.old) stage (parts_of report.new)) }
 {
     match latency(report, line)? {
@@ -199,7 +199,7 @@ fn latency_or_clocks(report: &mut Report, line: &[u8]) -> Result<Option<Stage>, 
     }
 }
 
-fn flow_or_reads(report: &mut Report, line: &[u8]) -> Result<Option<Stage>, Memory>
+fn flow_or_reads(report: &mut Report, line: &[u8]) -> Result<Option<Stage>, OutOfMemory>
     ensures { IfOk result (λ stage. Does (next Stage.Bits (parts_of report.old) line.now) (parts_of report.old) stage (parts_of report.new)) }
 {
     if report.version == 1 {
@@ -209,7 +209,7 @@ fn flow_or_reads(report: &mut Report, line: &[u8]) -> Result<Option<Stage>, Memo
     }
 }
 
-fn flow_or_end(report: &mut Report, line: &[u8]) -> Result<Option<Stage>, Memory>
+fn flow_or_end(report: &mut Report, line: &[u8]) -> Result<Option<Stage>, OutOfMemory>
     ensures { IfOk result (λ stage. Does (or_else (flowing (parts_of report.old) line.now) (ended (parts_of report.old) line.now)) (parts_of report.old) stage (parts_of report.new)) }
 {
     match flow(report, line)? {
@@ -218,13 +218,13 @@ fn flow_or_end(report: &mut Report, line: &[u8]) -> Result<Option<Stage>, Memory
     }
 }
 
-/// The kind of a line behind one of this kind, with its values put into the report; None where the line continues no report.
+// The kind of a line behind one of this kind, with its values put into the report; None where the line continues no report.
 pub(crate) fn step(
     alloc: Global,
     report: &mut Report,
     stage: Stage,
     line: &[u8],
-) -> Result<Option<Stage>, Memory>
+) -> Result<Option<Stage>, OutOfMemory>
     ensures { IfOk result (λ new. Does (next stage (parts_of report.old) line.now) (parts_of report.old) new (parts_of report.new)) }
 {
     match stage {

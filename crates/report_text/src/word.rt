@@ -16,7 +16,7 @@ fn is_word(bytes: &[u8]) -> bool
     }
 }
 
-/// Whether these are the same bytes.
+// Whether these are the same bytes.
 pub(crate) fn same(left: &[u8], right: &[u8]) -> bool
     ensures { result ≡ same_codes left.now right.now }
 {
@@ -70,7 +70,7 @@ fn is_type_word(bytes: &[u8]) -> bool
     }
 }
 
-/// Whether the bytes are a name of the source language: a word of at most 64 bytes that is no reserved word and no type word.
+// Whether the bytes are a name of the source language: a word of at most 64 bytes that is no reserved word and no type word.
 pub(crate) fn is_name(bytes: &[u8]) -> bool
     ensures { result ≡ name bytes.now }
 {

@@ -6,14 +6,14 @@ ghost use Rattle.report_text.specs.Reports.{parts_of};
 ghost use Rattle.report_text.specs.Layout.{name_at, number_line, pair_line, held, carried, image_line, latency_line, flow_line, size_line, clocks_line, bits_line, reads_line, end_line, head_lines, unless_first, joined, layout};
 
 use crate::report::{FlowLine, ImageLine, Report};
-use dk_base::Memory;
+use dk_base::OutOfMemory;
 use itoa::Buffer;
 use std::alloc::Global;
 
-/// The bytes that are kept ready for a line.
+// The bytes that are kept ready for a line.
 const LINE_BYTES: usize = 40;
 
-fn push_number(out: &mut Vec<u8>, number: u64) -> Result<(), Memory>
+fn push_number(out: &mut Vec<u8>, number: u64) -> Result<(), OutOfMemory>
     ensures { OnOk result (out.new.items ≡ out.old.items ++ decimal number) }
 {
     let mut digits = Buffer::new();
@@ -21,7 +21,7 @@ fn push_number(out: &mut Vec<u8>, number: u64) -> Result<(), Memory>
     Ok(())
 }
 
-fn push_signed(out: &mut Vec<u8>, number: i32) -> Result<(), Memory>
+fn push_signed(out: &mut Vec<u8>, number: i32) -> Result<(), OutOfMemory>
     ensures { OnOk result (out.new.items ≡ out.old.items ++ signed_decimal number) }
 {
     let mut digits = Buffer::new();
@@ -29,8 +29,8 @@ fn push_signed(out: &mut Vec<u8>, number: i32) -> Result<(), Memory>
     Ok(())
 }
 
-/// A word with a blank behind it, and a number.
-fn push_number_line(out: &mut Vec<u8>, word: &[u8], number: u64) -> Result<(), Memory>
+// A word with a blank behind it, and a number.
+fn push_number_line(out: &mut Vec<u8>, word: &[u8], number: u64) -> Result<(), OutOfMemory>
     ensures { OnOk result (out.new.items ≡ out.old.items ++ number_line word.now number) }
 {
     out.extend_from_slice(word)?;
@@ -39,8 +39,13 @@ fn push_number_line(out: &mut Vec<u8>, word: &[u8], number: u64) -> Result<(), M
     Ok(())
 }
 
-/// A word with a blank behind it, and two numbers.
-fn push_pair_line(out: &mut Vec<u8>, word: &[u8], first: u64, second: u64) -> Result<(), Memory>
+// A word with a blank behind it, and two numbers.
+fn push_pair_line(
+    out: &mut Vec<u8>,
+    word: &[u8],
+    first: u64,
+    second: u64,
+) -> Result<(), OutOfMemory>
     ensures { OnOk result (out.new.items ≡ out.old.items ++ pair_line word.now first second) }
 {
     out.extend_from_slice(word)?;
@@ -51,7 +56,7 @@ fn push_pair_line(out: &mut Vec<u8>, word: &[u8], first: u64, second: u64) -> Re
     Ok(())
 }
 
-fn push_image(out: &mut Vec<u8>, image: &ImageLine) -> Result<(), Memory>
+fn push_image(out: &mut Vec<u8>, image: &ImageLine) -> Result<(), OutOfMemory>
     ensures { OnOk result (out.new.items ≡ out.old.items ++ image_line image.now) }
 {
     out.extend_from_slice(b"image ")?;
@@ -62,7 +67,7 @@ fn push_image(out: &mut Vec<u8>, image: &ImageLine) -> Result<(), Memory>
     Ok(())
 }
 
-fn push_images(out: &mut Vec<u8>, images: &[ImageLine]) -> Result<(), Memory>
+fn push_images(out: &mut Vec<u8>, images: &[ImageLine]) -> Result<(), OutOfMemory>
     ensures { OnOk result (out.new.items ≡ out.old.items ++ joined (map image_line images.now)) }
 {
     for image in images {
@@ -71,7 +76,7 @@ fn push_images(out: &mut Vec<u8>, images: &[ImageLine]) -> Result<(), Memory>
     Ok(())
 }
 
-fn push_latencies(out: &mut Vec<u8>, latencies: &[u64]) -> Result<(), Memory>
+fn push_latencies(out: &mut Vec<u8>, latencies: &[u64]) -> Result<(), OutOfMemory>
     ensures { OnOk result (out.new.items ≡ out.old.items ++ joined (map latency_line latencies.now)) }
 {
     for latency in latencies {
@@ -80,8 +85,8 @@ fn push_latencies(out: &mut Vec<u8>, latencies: &[u64]) -> Result<(), Memory>
     Ok(())
 }
 
-/// The name of the image at a place, where there is one.
-fn push_name(out: &mut Vec<u8>, images: &[ImageLine], place: usize) -> Result<(), Memory>
+// The name of the image at a place, where there is one.
+fn push_name(out: &mut Vec<u8>, images: &[ImageLine], place: usize) -> Result<(), OutOfMemory>
     ensures { OnOk result (out.new.items ≡ out.old.items ++ name_at images.now place) }
 {
     match images.get(place) {
@@ -99,7 +104,7 @@ fn push_held(
     images: &[ImageLine],
     image: usize,
     flow: u64,
-) -> Result<(), Memory>
+) -> Result<(), OutOfMemory>
     ensures { OnOk result (out.new.items ≡ out.old.items ++ held word.now images.now image flow) }
 {
     out.extend_from_slice(word)?;
@@ -108,8 +113,8 @@ fn push_held(
     Ok(())
 }
 
-/// The offset of a read with a blank before each number, and a flow.
-fn push_offset(out: &mut Vec<u8>, dx: i32, dy: i32, flow: u64) -> Result<(), Memory>
+// The offset of a read with a blank before each number, and a flow.
+fn push_offset(out: &mut Vec<u8>, dx: i32, dy: i32, flow: u64) -> Result<(), OutOfMemory>
     ensures { OnOk result (out.new.items ≡ out.old.items ++ (codes " " ++ (signed_decimal dx ++ (codes " " ++ (signed_decimal dy ++ number_line (codes " ") flow))))) }
 {
     out.extend_from_slice(b" ")?;
@@ -120,14 +125,14 @@ fn push_offset(out: &mut Vec<u8>, dx: i32, dy: i32, flow: u64) -> Result<(), Mem
     Ok(())
 }
 
-/// The names of the images of a read.
+// The names of the images of a read.
 fn push_names(
     out: &mut Vec<u8>,
     word: &[u8],
     images: &[ImageLine],
     reader: usize,
     source: usize,
-) -> Result<(), Memory>
+) -> Result<(), OutOfMemory>
     ensures { OnOk result (out.new.items ≡ out.old.items ++ (word.now ++ (name_at images.now reader ++ (codes " " ++ name_at images.now source)))) }
 {
     out.extend_from_slice(word)?;
@@ -146,7 +151,7 @@ fn push_carried(
     dx: i32,
     dy: i32,
     flow: u64,
-) -> Result<(), Memory>
+) -> Result<(), OutOfMemory>
     ensures { OnOk result (out.new.items ≡ out.old.items ++ carried word.now images.now reader source dx dy flow) }
 {
     push_names(out, word, images, reader, source)?;
@@ -154,7 +159,7 @@ fn push_carried(
     Ok(())
 }
 
-fn push_flow(out: &mut Vec<u8>, images: &[ImageLine], line: FlowLine) -> Result<(), Memory>
+fn push_flow(out: &mut Vec<u8>, images: &[ImageLine], line: FlowLine) -> Result<(), OutOfMemory>
     ensures { OnOk result (out.new.items ≡ out.old.items ++ flow_line images.now line) }
 {
     match line {
@@ -177,7 +182,7 @@ fn push_flow(out: &mut Vec<u8>, images: &[ImageLine], line: FlowLine) -> Result<
     }
 }
 
-fn push_flows(out: &mut Vec<u8>, images: &[ImageLine], flow: &[FlowLine]) -> Result<(), Memory>
+fn push_flows(out: &mut Vec<u8>, images: &[ImageLine], flow: &[FlowLine]) -> Result<(), OutOfMemory>
     ensures { OnOk result (out.new.items ≡ out.old.items ++ joined (map (flow_line images.now) flow.now)) }
 {
     for line in flow {
@@ -186,8 +191,8 @@ fn push_flows(out: &mut Vec<u8>, images: &[ImageLine], flow: &[FlowLine]) -> Res
     Ok(())
 }
 
-/// The lines before the size, which version 1 lacks.
-fn push_head(out: &mut Vec<u8>, report: &Report) -> Result<(), Memory>
+// The lines before the size, which version 1 lacks.
+fn push_head(out: &mut Vec<u8>, report: &Report) -> Result<(), OutOfMemory>
     ensures { OnOk result (out.new.items ≡ out.old.items ++ joined (head_lines (parts_of report.now))) }
 {
     if report.version == 1 {
@@ -199,8 +204,8 @@ fn push_head(out: &mut Vec<u8>, report: &Report) -> Result<(), Memory>
     Ok(())
 }
 
-/// The line that gives the number of reads, which version 1 lacks.
-fn push_reads(out: &mut Vec<u8>, version: u8, reads: u64) -> Result<(), Memory>
+// The line that gives the number of reads, which version 1 lacks.
+fn push_reads(out: &mut Vec<u8>, version: u8, reads: u64) -> Result<(), OutOfMemory>
     ensures { OnOk result (out.new.items ≡ out.old.items ++ joined (unless_first version (reads_line reads ∷ []))) }
 {
     if version == 1 {
@@ -210,8 +215,8 @@ fn push_reads(out: &mut Vec<u8>, version: u8, reads: u64) -> Result<(), Memory>
     Ok(())
 }
 
-/// The last line, which version 1 lacks.
-fn push_end(out: &mut Vec<u8>, version: u8) -> Result<(), Memory>
+// The last line, which version 1 lacks.
+fn push_end(out: &mut Vec<u8>, version: u8) -> Result<(), OutOfMemory>
     ensures { OnOk result (out.new.items ≡ out.old.items ++ joined (unless_first version (end_line ∷ []))) }
 {
     if version == 1 {
@@ -221,8 +226,8 @@ fn push_end(out: &mut Vec<u8>, version: u8) -> Result<(), Memory>
     Ok(())
 }
 
-/// The lines of the frame and the images.
-fn push_first(out: &mut Vec<u8>, report: &Report) -> Result<(), Memory>
+// The lines of the frame and the images.
+fn push_first(out: &mut Vec<u8>, report: &Report) -> Result<(), OutOfMemory>
     ensures { OnOk result (out.new.items ≡ out.old.items ++ (joined (head_lines (parts_of report.now)) ++ (size_line report.now.width report.now.height ++ (joined (map image_line report.now.images.items) ++ joined (map latency_line report.now.latencies.items))))) }
 {
     push_head(out, report)?;
@@ -237,8 +242,8 @@ fn push_first(out: &mut Vec<u8>, report: &Report) -> Result<(), Memory>
     Ok(())
 }
 
-/// The lines of the sums and the flow.
-fn push_last(out: &mut Vec<u8>, report: &Report) -> Result<(), Memory>
+// The lines of the sums and the flow.
+fn push_last(out: &mut Vec<u8>, report: &Report) -> Result<(), OutOfMemory>
     ensures { OnOk result (out.new.items ≡ out.old.items ++ (clocks_line report.now.clocks ++ (bits_line report.now.bits ++ (joined (unless_first report.now.version (reads_line report.now.reads ∷ [])) ++ (joined (map (flow_line report.now.images.items) report.now.flow.items) ++ joined (unless_first report.now.version (end_line ∷ []))))))) }
 {
     push_number_line(out, b"clocks ", report.clocks)?;
@@ -250,7 +255,7 @@ fn push_last(out: &mut Vec<u8>, report: &Report) -> Result<(), Memory>
 }
 
 /// The text of a report, by the layout of its version. Where the report's values are those of its version, the text stands for it and for no other.
-pub fn write(alloc: Global, report: &Report) -> Result<Vec<u8>, Memory>
+pub fn write(alloc: Global, report: &Report) -> Result<Vec<u8>, OutOfMemory>
     ensures { IfOk result (λ text. text.items ≡ layout (parts_of report.now)) }
 {
     let lines = report

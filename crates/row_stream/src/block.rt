@@ -11,10 +11,10 @@ ghost use Rattle.row_stream.specs.Blocks.{HasBlock};
 
 use block_sim::Blocks;
 use cycle_sim::{IndexRange, Out};
-use dk_base::Memory;
+use dk_base::OutOfMemory;
 use std::alloc::Global;
 
-/// The clocks of a line: the port `en` and the din of each, and what the output shows in it.
+// The clocks of a line: the port `en` and the din of each, and what the output shows in it.
 #[derive(Drop)]
 pub(crate) struct Block {
     pub(crate) enables: Vec<bool>,
@@ -23,8 +23,8 @@ pub(crate) struct Block {
 }
 
 impl Block {
-    /// Room for so many clocks.
-    pub(crate) fn new(alloc: Global, count: usize) -> Result<Block, Memory>
+    // Room for so many clocks.
+    pub(crate) fn new(alloc: Global, count: usize) -> Result<Block, OutOfMemory>
         ensures { IfOk result (HasBlock count) }
     {
         let out = Out {
@@ -42,7 +42,7 @@ impl Block {
     }
 }
 
-/// One clock, and what the output shows in it.
+// One clock, and what the output shows in it.
 pub(crate) fn step(sim: &mut Blocks, reset: bool, din: u64) -> Result<Out, IndexRange>
     requires din { Fit (din_widths sim.old.netlist) (din ∷ []) }
     requires one { length sim.old.netlist.outputs ≡ 2 }
@@ -60,7 +60,7 @@ pub(crate) fn step(sim: &mut Blocks, reset: bool, din: u64) -> Result<Out, Index
     }
 }
 
-/// The sample of this number in the bytes of a line.
+// The sample of this number in the bytes of a line.
 fn sample(row: &[u8], maxval: u16, column: usize) -> u64
     requires { (column + 1) * sample_size maxval ≤ length row.now }
     ensures { result ≡ sample_at maxval row.now column }
@@ -72,7 +72,7 @@ fn sample(row: &[u8], maxval: u16, column: usize) -> u64
     }
 }
 
-/// Gives each clock the sample of its number in a line.
+// Gives each clock the sample of its number in a line.
 pub(crate) fn fill_samples(row: &[u8], maxval: u16, dins: &mut Vec<u64>)
     requires { length row.now ≡ length dins.old.items * sample_size maxval }
     ensures is { dins.new.items ≡ map (λ k. sample_at maxval row.now k) (range_with_len 0 (length dins.old.items)) }
@@ -83,7 +83,7 @@ pub(crate) fn fill_samples(row: &[u8], maxval: u16, dins: &mut Vec<u64>)
     }
 }
 
-/// Gives each clock 0.
+// Gives each clock 0.
 pub(crate) fn fill_zeros(dins: &mut Vec<u64>)
     ensures is { dins.new.items ≡ map (λ k. 0) (range_with_len 0 (length dins.old.items)) }
     ensures count { length dins.new.items ≡ length dins.old.items }

@@ -13,14 +13,14 @@ use dk_base::{FrameSize, MAX_HEADER_BYTES};
 use dk_desk::{Desk, Failed, InSlot, Stage};
 use pgm_codec::{Header, HeaderFault, HeaderScan, Scan};
 
-/// Why there is no header.
+// Why there is no header.
 #[derive(Clone, Copy, Debug, PartialEq, Eq)]
 pub(crate) enum HeadFault {
     Head(HeaderFault),
     Read,
 }
 
-/// The next byte, or None at the end.
+// The next byte, or None at the end.
 pub(crate) fn next_byte<D: Desk>(desk: &mut D) -> Result<Option<u8>, Failed>
     requires { (D.outside desk.old).image.stage ≡ Stage.Open }
     ensures given { IfOk result (λ next. (D.outside desk.old).image.rest ≡ prepend_known (Rattle.std.specs.Prelude.option_to_list next) (D.outside desk.new).image.rest) }
@@ -37,7 +37,7 @@ pub(crate) fn next_byte<D: Desk>(desk: &mut D) -> Result<Option<u8>, Failed>
     }
 }
 
-/// Takes the header that comes next; None where the input may end here, and does.
+// Takes the header that comes next; None where the input may end here, and does.
 pub(crate) fn next_head<D: Desk>(desk: &mut D, may_end: bool) -> Result<Option<Header>, HeadFault>
     requires { (D.outside desk.old).image.stage ≡ Stage.Open }
     ensures ok { IfOk result (λ next. IfSome next (λ header. TakesHead header (D.outside desk.old).image (D.outside desk.new).image)) }
@@ -70,7 +70,7 @@ pub(crate) fn next_head<D: Desk>(desk: &mut D, may_end: bool) -> Result<Option<H
     unreachable!()
 }
 
-/// Takes the header that comes next, of an image that fits, behind so many bytes of the file; None where the input may end here, and does.
+// Takes the header that comes next, of an image that fits, behind so many bytes of the file; None where the input may end here, and does.
 pub(crate) fn next_image<D: Desk>(
     desk: &mut D,
     size: FrameSize,

@@ -27,7 +27,7 @@ use dk_desk::{Desk, InSlot, Stage};
 use pgm_codec::Header;
 use pgm_rounds::ImageFault;
 
-/// The number of bytes of a row.
+// The number of bytes of a row.
 fn row_bytes(header: &Header) -> usize
     requires { header.now.width ≤ MAX_SIDE }
     ensures is { result ≡ row_length header.now }
@@ -40,7 +40,7 @@ fn row_bytes(header: &Header) -> usize
     }
 }
 
-/// The number of bytes of an image.
+// The number of bytes of an image.
 fn image_bytes(header: &Header) -> usize
     requires width { header.now.width ≤ MAX_SIDE }
     requires height { header.now.height ≤ MAX_SIDE }
@@ -51,7 +51,7 @@ fn image_bytes(header: &Header) -> usize
     header.length + header.height as usize * row_bytes(header)
 }
 
-/// Streams the lines of an image behind so many others.
+// Streams the lines of an image behind so many others.
 fn stream_image<D: Desk>(
     desk: &mut D,
     sim: &mut Blocks,
@@ -98,7 +98,7 @@ fn stream_image<D: Desk>(
     }
 }
 
-/// Takes the header of the image that comes next behind so many images and bytes; None at the end of the input.
+// Takes the header of the image that comes next behind so many images and bytes; None at the end of the input.
 fn further_image<D: Desk>(
     desk: &mut D,
     size: FrameSize,
@@ -129,7 +129,7 @@ fn further_image<D: Desk>(
     }
 }
 
-/// Streams the images of a file whose first header was taken, to the end of the input.
+// Streams the images of a file whose first header was taken, to the end of the input.
 pub(crate) fn stream_images<D: Desk>(
     desk: &mut D,
     sim: &mut Blocks,

@@ -23,13 +23,13 @@ ghost use Rattle.row_stream.specs.Images.{Images, AtHead};
 use crate::faults::StreamFault;
 use crate::rows::RowsFault;
 
-/// A header that was taken and all its lines are an image, whose samples are the numbers that were clocked.
+// A header that was taken and all its lines are an image, whose samples are the numbers that were clocked.
 pub(crate) fn lines_are_images()
     ensures { (header : TheHeader) (head raster : List ℕ) → Reads head header → length head ≡ header.length → AreRows header header.height raster
         → (samples : List ℕ) × IsImage (head ++ raster) header.width header.height header.maxval samples × ((k : ℕ) → k < header.width * header.height → slice_index samples k ≡ sample_at header.maxval raster k) }
 {}
 
-/// The lines of an image whose header was taken are one image more.
+// The lines of an image whose header was taken are one image more.
 pub(crate) fn one_image_more()
     ensures { (kind : Kind) (m : Netlist) (most count : ℕ) (header : TheHeader) (all : Option (List ℕ)) (from mid to : Contents) (old between new : Line) (before half now : Outside)
         → header.width ≡ kind.size.width → header.height ≡ kind.size.height → header.maxval ≤ most

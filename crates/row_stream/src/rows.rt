@@ -32,7 +32,7 @@ pub enum RowsFault {
     Write,
 }
 
-/// Reads and judges a line.
+// Reads and judges a line.
 fn read_row<D: Desk>(
     desk: &mut D,
     header: &Header,
@@ -59,7 +59,7 @@ fn read_row<D: Desk>(
     }
 }
 
-/// Reads, judges and clocks a line.
+// Reads, judges and clocks a line.
 fn stream_row<D: Desk>(
     desk: &mut D,
     sim: &mut Blocks,
@@ -104,7 +104,7 @@ fn stream_row<D: Desk>(
     }
 }
 
-/// Reads, judges and clocks the lines of an image whose header was read.
+// Reads, judges and clocks the lines of an image whose header was read.
 pub(crate) fn stream_rows<D: Desk>(
     desk: &mut D,
     sim: &mut Blocks,

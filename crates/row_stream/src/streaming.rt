@@ -17,7 +17,7 @@ use crate::heads::next_image;
 use crate::images::stream_images;
 use crate::line::{Form, Line, write_head};
 use block_sim::Blocks;
-use dk_base::{FrameSize, Memory};
+use dk_base::{FrameSize, OutOfMemory};
 use dk_desk::{Desk, Failed, Stage};
 use std::alloc::Global;
 
@@ -31,7 +31,7 @@ pub struct Room {
 
 impl Room {
     /// Room for lines of frames of this size. It is all the memory of a stream.
-    pub fn new(alloc: Global, size: FrameSize) -> Result<Room, Memory>
+    pub fn new(alloc: Global, size: FrameSize) -> Result<Room, OutOfMemory>
         ensures { IfOk result (IsRoom size.width) }
     {
         let count = 2 * size.width as usize;
@@ -47,7 +47,7 @@ impl Room {
     }
 }
 
-/// Creates File, writes its first header, and makes the reset clock.
+// Creates File, writes its first header, and makes the reset clock.
 fn begin<D: Desk>(
     desk: &mut D,
     sim: &mut Blocks,

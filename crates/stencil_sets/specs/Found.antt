@@ -5,7 +5,7 @@ use Rattle.dk_base.specs.declared.stencils.LiveRead.{LiveRead}
 use Rattle.dk_base.specs.Stencils.{IsBefore, AreInOrder}
 use Rattle.pointwise_ir.specs.Stencils.{Has, the}
 use Rattle.stencil_sets.specs.declared.found.Halt.{Halt}
-use Rattle.stencil_sets.specs.declared.found.Halt.TheVariants.{Full, Memory}
+use Rattle.stencil_sets.specs.declared.found.Halt.TheVariants.{Full, OutOfMemory}
 use Rattle.stencil_sets.specs.declared.path.Rect.{Rect}
 use Rattle.frame_paths.specs.Moves.{IsOffset}
 
@@ -68,7 +68,7 @@ pub record IsBehind (rect : Rect) (dy next end : ℤ) : Type 0 where
 -- more reads than are counted
 abbrev pub Stopped : Halt → List LiveRead → Type 0
 Stopped Full reads = length reads ≡ MAX_COUNTED_READS + 1
-Stopped Memory reads = Unit {0}
+Stopped OutOfMemory reads = Unit {0}
 
 -- the new list has what the old one has, and these
 abbrev pub Gains : (old new : List LiveRead) → ((f g : ℕ) → (dx dy : ℤ) → Type 0) → Type 0

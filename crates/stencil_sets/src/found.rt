@@ -12,15 +12,15 @@ ghost use Rattle.stencil_sets.specs.Found.{AllBefore, Stopped, Gains, Within, Is
 use crate::path::Rect;
 use dk_base::{LiveRead, MAX_COUNTED_READS};
 
-/// No rectangle begins before this offset: two of the greatest frames to the left, or up.
+// No rectangle begins before this offset: two of the greatest frames to the left, or up.
 pub const FIRST_OFFSET: i32 = -8_192;
 
-/// Why the search for live reads ends early.
+// Why the search for live reads ends early.
 #[derive(Drop)]
 pub enum Halt {
-    /// There are more than are counted.
+    // There are more than are counted.
     Full,
-    Memory,
+    OutOfMemory,
 }
 
 // One read more.
@@ -37,7 +37,7 @@ fn push_read(all: &mut Vec<LiveRead>, read: LiveRead) -> Result<(), Halt>
     }
     match all.push(read) {
         Ok(()) => Ok(()),
-        Err(_) => Err(Halt::Memory),
+        Err(_) => Err(Halt::OutOfMemory),
     }
 }
 

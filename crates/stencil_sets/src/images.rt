@@ -7,7 +7,7 @@ ghost use Rattle.pointwise_ir.specs.Programs.{types_of};
 ghost use Rattle.pointwise_ir.specs.Stencils.{AreImages};
 ghost use Rattle.stencil_sets.specs.Marks.{AreMarks};
 
-use dk_base::{Image, Memory, Ty};
+use dk_base::{Image, OutOfMemory, Ty};
 use pointwise_ir::Ir;
 use std::alloc::Global;
 
@@ -26,7 +26,7 @@ fn type_of(ir: &Ir, g: usize) -> Ty
 }
 
 // One image more.
-fn push_kept(images: &mut Vec<Image>, number: u32, ty: Ty) -> Result<(), Memory>
+fn push_kept(images: &mut Vec<Image>, number: u32, ty: Ty) -> Result<(), OutOfMemory>
     ensures { OnOk result (images.new.items ≡ images.old.items ++ (record { number = number; width = width_of ty }) ∷ []) }
 {
     let width = ty.width();
@@ -34,8 +34,8 @@ fn push_kept(images: &mut Vec<Image>, number: u32, ty: Ty) -> Result<(), Memory>
     Ok(())
 }
 
-/// The images that are marked, in order.
-pub(crate) fn images_of(alloc: Global, ir: &Ir, kept: &[bool]) -> Result<Vec<Image>, Memory>
+// The images that are marked, in order.
+pub(crate) fn images_of(alloc: Global, ir: &Ir, kept: &[bool]) -> Result<Vec<Image>, OutOfMemory>
     requires { AreMarks ir.now kept.now }
     ensures images { IfOk result (λ v. AreImages ir.now v.items) }
     ensures form { IfOk result (λ v. AreKeptImages (length ir.now.inputs) v.items) }

@@ -11,7 +11,7 @@ ghost use Rattle.stencil_sets.specs.Marks.{IsMarked, AreMarks, MarksMore, Marked
 
 use crate::path::Rect;
 use crate::reader::rects_of;
-use dk_base::{FrameSize, Memory};
+use dk_base::{FrameSize, OutOfMemory};
 use pointwise_ir::{Expr, Ir};
 use std::alloc::Global;
 
@@ -51,7 +51,12 @@ fn mark_rects(kept: &mut [bool], rects: &[Rect])
 }
 
 // Marks the images that the expression reads in some pixel.
-fn mark_reads(alloc: Global, size: FrameSize, body: &Expr, kept: &mut [bool]) -> Result<(), Memory>
+fn mark_reads(
+    alloc: Global,
+    size: FrameSize,
+    body: &Expr,
+    kept: &mut [bool],
+) -> Result<(), OutOfMemory>
     ensures more { OnOk result (MarksMore kept.old kept.new (λ h. (dx : ℤ) × (dy : ℤ) × ReadsAt (size_of size) (tree_of body.now) h dx dy)) }
     ensures length { length kept.new ≡ length kept.old }
 {
@@ -80,7 +85,7 @@ fn mark_outputs(kept: &mut [bool], outputs: &[u32])
 }
 
 // Marks what marked images read, the last image first.
-fn mark_needed(alloc: Global, ir: &Ir, kept: &mut [bool]) -> Result<(), Memory>
+fn mark_needed(alloc: Global, ir: &Ir, kept: &mut [bool]) -> Result<(), OutOfMemory>
     requires one_each { length kept.old ≡ length ir.now.inputs + length ir.now.images }
     requires sound { (g : ℕ) → IsMarked kept.old g → Kept ir.now g }
     ensures done { OnOk result (MarkedSoFar ir.now kept.old kept.new 0) }
@@ -100,7 +105,7 @@ fn mark_needed(alloc: Global, ir: &Ir, kept: &mut [bool]) -> Result<(), Memory>
 }
 
 // Marks all that is kept.
-fn mark_all(alloc: Global, ir: &Ir, kept: &mut [bool]) -> Result<(), Memory>
+fn mark_all(alloc: Global, ir: &Ir, kept: &mut [bool]) -> Result<(), OutOfMemory>
     requires one_each { length kept.old ≡ length ir.now.inputs + length ir.now.images }
     requires none { (g : ℕ) → IsMarked kept.old g → ⊥ }
     ensures marks { OnOk result (AreMarks ir.now kept.new) }
@@ -112,8 +117,8 @@ fn mark_all(alloc: Global, ir: &Ir, kept: &mut [bool]) -> Result<(), Memory>
     mark_needed(alloc, ir, kept)
 }
 
-/// For each image, whether it is kept.
-pub fn kept_images(alloc: Global, ir: &Ir) -> Result<Vec<bool>, Memory>
+// For each image, whether it is kept.
+pub fn kept_images(alloc: Global, ir: &Ir) -> Result<Vec<bool>, OutOfMemory>
     ensures { IfOk result (λ kept. AreMarks ir.now kept.items) }
 {
     let count = ir.inputs().len() + ir.images().len();

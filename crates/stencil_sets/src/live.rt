@@ -11,7 +11,7 @@ use crate::found::Halt;
 use crate::images::images_of;
 use crate::kept::kept_images;
 use crate::reads::push_marked;
-use dk_base::{Image, LiveRead, MAX_COUNTED_READS, Memory, Stencils};
+use dk_base::{Image, LiveRead, MAX_COUNTED_READS, OutOfMemory, Stencils};
 use pointwise_ir::Ir;
 use std::alloc::Global;
 
@@ -22,7 +22,7 @@ pub enum StencilFault {
     #[error("Reads {count}")]
     Reads { count: u32 },
     #[error("out of memory")]
-    Memory,
+    OutOfMemory,
 }
 
 // How many more than are counted count as.
@@ -52,7 +52,7 @@ fn reads_of(alloc: Global, ir: &Ir, kept: &[bool]) -> Result<Vec<LiveRead>, Sten
         Err(Halt::Full) => Err(StencilFault::Reads {
             count: MOST_COUNTED,
         }),
-        Err(Halt::Memory) => Err(StencilFault::Memory),
+        Err(Halt::OutOfMemory) => Err(StencilFault::OutOfMemory),
     }
 }
 
@@ -81,7 +81,7 @@ fn stencils_of(
 }
 
 // The kept images with their widths, and the outputs.
-fn kept_of(alloc: Global, ir: &Ir, kept: &[bool]) -> Result<(Vec<u32>, Vec<Image>), Memory>
+fn kept_of(alloc: Global, ir: &Ir, kept: &[bool]) -> Result<(Vec<u32>, Vec<Image>), OutOfMemory>
     requires { AreMarks ir.now kept.now }
     ensures outputs { IfOk result (λ r. r.0.items ≡ ir.now.outputs) }
     ensures images { IfOk result (λ r. AreImages ir.now r.1.items) }
@@ -98,10 +98,10 @@ pub fn live_reads(alloc: Global, ir: &Ir) -> Result<Stencils, StencilFault>
     ensures fault { IfErr result (λ fault. IsFault ir.now fault) }
 {
     let Ok(kept) = kept_images(alloc, ir) else {
-        return Err(StencilFault::Memory);
+        return Err(StencilFault::OutOfMemory);
     };
     let Ok((outputs, images)) = kept_of(alloc, ir, &kept) else {
-        return Err(StencilFault::Memory);
+        return Err(StencilFault::OutOfMemory);
     };
     let reads = reads_of(alloc, ir, &kept)?;
     stencils_of(ir, outputs, images, reads)

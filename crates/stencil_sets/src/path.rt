@@ -6,11 +6,11 @@ ghost use Rattle.pointwise_ir.specs.Trees.{read, tree_of};
 ghost use Rattle.frame_paths.specs.Paths.{LeadsTo, IsPath};
 ghost use Rattle.stencil_sets.specs.Paths.{IsIn, IsNearRect, Covered, ReadsFrom};
 
-use dk_base::{FrameSize, Memory};
+use dk_base::{FrameSize, OutOfMemory};
 use frame_paths::{Offsets, Path};
 use pointwise_ir::{Edge, Expr};
 
-/// The offsets at which some pixels read an image: all columns with all rows.
+// The offsets at which some pixels read an image: all columns with all rows.
 #[derive(Clone, Copy, Default)]
 pub struct Rect {
     pub image: u32,
@@ -42,7 +42,7 @@ fn add_read(
     image: u32,
     dx: i32,
     dy: i32,
-) -> Result<(), Memory>
+) -> Result<(), OutOfMemory>
     requires { IsPath (size_of size) path }
     ensures added { OnOk result ((g : ℕ) (x y : ℤ) → Covered all.new.items g x y ↔ (Covered all.old.items g x y ⊎ ReadsFrom (size_of size) (read edge image dx dy) path g x y)) }
     ensures near { All IsNearRect all.old.items → All IsNearRect all.new.items }
@@ -57,13 +57,13 @@ fn add_read(
     }
 }
 
-/// Adds what the expression reads where the path ends, by how far it lies from where the path begins.
+// Adds what the expression reads where the path ends, by how far it lies from where the path begins.
 pub fn add_reads(
     all: &mut Vec<Rect>,
     size: FrameSize,
     body: &Expr,
     path: Path,
-) -> Result<(), Memory>
+) -> Result<(), OutOfMemory>
     requires { IsPath (size_of size) path }
     ensures added { OnOk result ((g : ℕ) (x y : ℤ) → Covered all.new.items g x y ↔ (Covered all.old.items g x y ⊎ ReadsFrom (size_of size) (tree_of body.now) path g x y)) }
     ensures near { All IsNearRect all.old.items → All IsNearRect all.new.items }

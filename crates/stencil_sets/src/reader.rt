@@ -12,7 +12,7 @@ ghost use Rattle.stencil_sets.specs.Live.{ReadsAt, IsByReader, IsOfReader};
 
 use crate::found::{Halt, push_image};
 use crate::path::{Rect, add_reads};
-use dk_base::{FrameSize, LiveRead, Memory};
+use dk_base::{FrameSize, LiveRead, OutOfMemory};
 use frame_paths::Path;
 use pointwise_ir::Expr;
 use smallvec::SmallVec;
@@ -25,8 +25,8 @@ fn first_column(rect: &Rect) -> i32
     rect.across.least
 }
 
-/// What the expression reads in some pixel, as rectangles in the order of their first columns.
-pub fn rects_of(alloc: Global, size: FrameSize, body: &Expr) -> Result<Vec<Rect>, Memory>
+// What the expression reads in some pixel, as rectangles in the order of their first columns.
+pub fn rects_of(alloc: Global, size: FrameSize, body: &Expr) -> Result<Vec<Rect>, OutOfMemory>
     ensures exact { IfOk result (λ v. (g : ℕ) (dx dy : ℤ) → Covered v.items g dx dy ↔ ReadsAt (size_of size) (tree_of body.now) g dx dy) }
     ensures near { IfOk result (λ v. All IsNearRect v.items) }
     ensures sorted { IfOk result (λ v. AreSorted v.items) }
@@ -38,7 +38,7 @@ pub fn rects_of(alloc: Global, size: FrameSize, body: &Expr) -> Result<Vec<Rect>
 }
 
 // Chooses the rectangle where it is of image g.
-fn choose(chosen: &mut SmallVec<Rect, 8>, rect: Rect, g: u32) -> Result<(), Memory>
+fn choose(chosen: &mut SmallVec<Rect, 8>, rect: Rect, g: u32) -> Result<(), OutOfMemory>
     ensures { OnOk result (((rect.image ≡ g) × (chosen.new.items ≡ chosen.old.items ++ rect ∷ [])) ⊎ ((rect.image ≢ g) × (chosen.new.items ≡ chosen.old.items))) }
 {
     if rect.image == g {
@@ -48,7 +48,7 @@ fn choose(chosen: &mut SmallVec<Rect, 8>, rect: Rect, g: u32) -> Result<(), Memo
 }
 
 // The rectangles of image g, in their order.
-fn of_image(alloc: Global, rects: &[Rect], g: u32) -> Result<SmallVec<Rect, 8>, Memory>
+fn of_image(alloc: Global, rects: &[Rect], g: u32) -> Result<SmallVec<Rect, 8>, OutOfMemory>
     requires near { All IsNearRect rects.now }
     requires sorted { AreSorted rects.now }
     ensures exact { IfOk result (λ v. (dy dx : ℤ) → InRows v.items dy dx ↔ Covered rects.now g dx dy) }
@@ -82,11 +82,11 @@ fn push_source(
 {
     match of_image(alloc, rects, g) {
         Ok(chosen) => push_image(all, f, g, chosen.as_slice()),
-        Err(_) => Err(Halt::Memory),
+        Err(_) => Err(Halt::OutOfMemory),
     }
 }
 
-/// The reads of image f, which is above all that it reads.
+// The reads of image f, which is above all that it reads.
 pub(crate) fn push_reader(
     alloc: Global,
     all: &mut Vec<LiveRead>,

@@ -35,7 +35,7 @@ fn push_body(
 {
     match rects_of(alloc, size, body) {
         Ok(rects) => push_reader(alloc, all, f, &rects),
-        Err(_) => Err(Halt::Memory),
+        Err(_) => Err(Halt::OutOfMemory),
     }
 }
 

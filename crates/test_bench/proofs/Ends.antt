@@ -19,7 +19,7 @@ use Rattle.test_bench.specs.declared.picture.Shown.{Shown}
 use Rattle.test_bench.specs.declared.stop.Stop.{Stop}
 use Rattle.test_bench.specs.declared.stop.Stop.TheVariants.{Index, Count}
 use Rattle.test_bench.specs.declared.stop.BenchFault.{BenchFault}
-use Rattle.test_bench.specs.declared.stop.BenchFault.TheVariants.{Stopped, Memory}
+use Rattle.test_bench.specs.declared.stop.BenchFault.TheVariants.{Stopped, OutOfMemory}
 use Rattle.test_bench.specs.Stimulus.{Rounds, stimulus}
 use Rattle.test_bench.specs.Showing.{output_count, IsRun, IsEnough, asked, HasShown, image_shown, images_shown, IsShown, notes_of}
 use Rattle.test_bench.specs.Stops.{IsStop, IsBenchEnd}
@@ -163,7 +163,7 @@ module _ (m : Netlist) (size : Size) (rounds : Rounds) (shots : List Snapshot) (
         shown_is = first.shown_is ∙ count_is first.output first.kept first.at;
         wanted_is = h.1;
       }
-  is_short drive run Memory h = tt
+  is_short drive run OutOfMemory h = tt
 
 -- a stop of the whole stimulus
 pub is_stop : (m : Netlist) (drive : Drive) (size : Size) (rounds : Rounds) (first : ℕ) (stop : Stop) → first ≡ 0 → StopsIn m (filled_contents drive.fill m) first (stimulus drive (din_widths m) rounds) stop → IsStop m drive size rounds stop

@@ -18,7 +18,7 @@ use Rattle.test_bench.specs.Given.{IsBenchFrame, IsBenchRound, AreBenchFrames}
 pub error_later : (widths bytes : List ℕ) (h : Header) → Reads bytes h → (size : Size) → size ≡ size_in h → IsFrame size.width size.height → (bits : List ℕ) → bits ≡ widths → (e : FileError) → IsError (ports_with size bits) bytes e → IsBenchError widths bytes e
 error_later widths bytes h reads size same frame bits is (error.Fault f) x =
     later h reads (subst (λ (s : Size). IsFrame s.width s.height) same frame) (subst (λ s. IsFault (ports_with s widths) bytes f) same (subst (λ z. IsFault (ports_with size z) bytes f) is x))
-error_later widths bytes h reads size same frame bits is error.Memory x = tt
+error_later widths bytes h reads size same frame bits is error.OutOfMemory x = tt
 
 zip_of : {A B : Type 0} (P Q : A → B → Type 0) (xs : List A) (ys : List B) → ((x : A) (y : B) → P x y → Q x y) → AllZip P xs ys → AllZip Q xs ys
 zip_of P Q [] [] h z = tt

@@ -42,4 +42,4 @@ samples_of rounds = map (λ round. map (λ (image : Image). image.samples) round
 -- a file's fault, or want of memory
 abbrev pub IsBenchError : (widths bytes : List ℕ) → FileError → Type 0
 IsBenchError widths bytes (error.Fault f) = IsBenchFault widths bytes f
-IsBenchError widths bytes error.Memory = Unit {0}
+IsBenchError widths bytes error.OutOfMemory = Unit {0}

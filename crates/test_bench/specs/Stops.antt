@@ -10,7 +10,7 @@ use Rattle.test_bench.specs.declared.drive.Drive.{Drive}
 use Rattle.test_bench.specs.declared.stop.Stop.{Stop}
 use Rattle.test_bench.specs.declared.stop.Stop.TheVariants.{Index, Count}
 use Rattle.test_bench.specs.declared.stop.BenchFault.{BenchFault}
-use Rattle.test_bench.specs.declared.stop.BenchFault.TheVariants.{Stopped, Memory}
+use Rattle.test_bench.specs.declared.stop.BenchFault.TheVariants.{Stopped, OutOfMemory}
 use Rattle.test_bench.specs.Stimulus.{Rounds, stimulus}
 use Rattle.test_bench.specs.Showing.{output_count, IsRun, HasShown, asked}
 
@@ -38,4 +38,4 @@ IsStop m drive size rounds (Count shown wanted) = ShowsOthers m drive size round
 -- a stop, or want of memory
 abbrev pub IsBenchEnd : Netlist → Drive → Size → Rounds → BenchFault → Type 0
 IsBenchEnd m drive size rounds (Stopped stop) = IsStop m drive size rounds stop
-IsBenchEnd m drive size rounds Memory = Unit {0}
+IsBenchEnd m drive size rounds OutOfMemory = Unit {0}

@@ -7,7 +7,7 @@ use Rattle.pgm_codec.specs.Images.{Picture as Image}
 use Rattle.test_bench.specs.declared.picture.Shown.{Shown}
 use Rattle.test_bench.specs.declared.stop.Stop.TheVariants.{Index, Count}
 use Rattle.test_bench.specs.declared.stop.BenchFault.{BenchFault}
-use Rattle.test_bench.specs.declared.stop.BenchFault.TheVariants.{Stopped, Memory}
+use Rattle.test_bench.specs.declared.stop.BenchFault.TheVariants.{Stopped, OutOfMemory}
 use Rattle.test_bench.specs.Showing.{IsEnough}
 
 -- the picture of this number has shown enough
@@ -54,4 +54,4 @@ pub record AreFilled (size : Size) (ports : List ℕ) (rounds : ℕ) (pictures :
 abbrev pub IsShort : List Shown → (asked : ℕ) → BenchFault → Type 0
 IsShort pictures asked (Stopped (Count shown wanted)) = IsFirstShort pictures asked shown × (wanted ≡ asked)
 IsShort pictures asked (Stopped (Index clock array index)) = ⊥
-IsShort pictures asked Memory = Unit {0}
+IsShort pictures asked OutOfMemory = Unit {0}

@@ -29,13 +29,13 @@ use crate::stop::{BenchFault, Stop};
 use crate::writing::{area, first_short, write_rounds};
 use block_sim::Blocks;
 use cycle_sim::{Fill, Out};
-use dk_base::{FrameSize, Memory};
+use dk_base::{FrameSize, OutOfMemory};
 use dk_desk::Desk;
 use netlist::{Module, Width, Wiring};
 use pgm_rounds::Round;
 use std::alloc::Global;
 
-/// The widths behind those of the other inputs.
+// The widths behind those of the other inputs.
 fn dins_in(wiring: &Wiring) -> &[Width]
     requires { KeepsRules (netlist_of wiring.now) }
     ensures { result.now ≡ din_widths (netlist_of wiring.now) }
@@ -54,8 +54,8 @@ pub fn dins_of(module: &Module) -> &[Width]
     dins_in(wiring)
 }
 
-/// So many outputs that show nothing.
-fn no_outs(alloc: Global, count: usize) -> Result<Vec<Out>, Memory>
+// So many outputs that show nothing.
+fn no_outs(alloc: Global, count: usize) -> Result<Vec<Out>, OutOfMemory>
     ensures { IfOk result (λ outs. length outs.items ≡ count) }
 {
     let out = Out {
@@ -66,8 +66,8 @@ fn no_outs(alloc: Global, count: usize) -> Result<Vec<Out>, Memory>
     Ok(outs)
 }
 
-/// So many pictures without samples, with room for `most` samples each.
-fn no_pictures(alloc: Global, count: usize, most: usize) -> Result<Vec<Shown>, Memory>
+// So many pictures without samples, with room for `most` samples each.
+fn no_pictures(alloc: Global, count: usize, most: usize) -> Result<Vec<Shown>, OutOfMemory>
     ensures count { IfOk result (λ pictures. length pictures.items ≡ count) }
     ensures kept { IfOk result (λ pictures. AreKept most [] pictures.items) }
     ensures room { IfOk result (λ pictures. All (λ shown. most ≤ vec_capacity shown.samples) pictures.items) }
@@ -81,7 +81,7 @@ fn no_pictures(alloc: Global, count: usize, most: usize) -> Result<Vec<Shown>, M
 }
 
 /// A bench with this module, before the first clock, which keeps the first `most` samples of each picture.
-pub fn set_up(alloc: Global, module: &Module, fill: Fill, most: usize) -> Result<Bench, Memory>
+pub fn set_up(alloc: Global, module: &Module, fill: Fill, most: usize) -> Result<Bench, OutOfMemory>
     ensures bench { IfOk result IsBench }
     ensures netlist { IfOk result (λ bench. bench.sim.netlist ≡ «module».now.netlist) }
     ensures contents { IfOk result (λ bench. bench.sim.contents ≡ filled_contents fill «module».now.netlist) }
@@ -106,7 +106,7 @@ pub fn set_up(alloc: Global, module: &Module, fill: Fill, most: usize) -> Result
     })
 }
 
-/// The file of the pictures, or the first output that has not shown what is asked.
+// The file of the pictures, or the first output that has not shown what is asked.
 fn finish(
     alloc: Global,
     ports: &[Width],

@@ -16,14 +16,14 @@ use crate::clocking::Feed;
 use crate::drive::is_held_after;
 use crate::pixels::pixel;
 use cycle_sim::Out;
-use dk_base::Memory;
+use dk_base::OutOfMemory;
 use pgm_rounds::Round;
 use std::alloc::Global;
 
 /// How many pixels of an input are clocked in one call at most.
 pub const BLOCK_PIXELS: u64 = 1024;
 
-/// The clocks of a block: the port `en` and the dins of each, and room for what the outputs show in them.
+// The clocks of a block: the port `en` and the dins of each, and room for what the outputs show in them.
 #[derive(Drop)]
 pub(crate) struct Block {
     pub(crate) enables: Vec<bool>,
@@ -32,8 +32,8 @@ pub(crate) struct Block {
 }
 
 impl Block {
-    /// Room for the clocks of a block, held ones too, each with so many dins and outputs.
-    pub(crate) fn new(alloc: Global, dins: usize, outputs: usize) -> Result<Block, Memory>
+    // Room for the clocks of a block, held ones too, each with so many dins and outputs.
+    pub(crate) fn new(alloc: Global, dins: usize, outputs: usize) -> Result<Block, OutOfMemory>
         requires dins { dins < 2 ^ 32 }
         requires outputs { outputs < 2 ^ 32 }
         ensures { IfOk result (HasBlock dins outputs) }
@@ -54,7 +54,7 @@ impl Block {
     }
 }
 
-/// Adds the pixel of this number of each input.
+// Adds the pixel of this number of each input.
 fn push_pixels(rounds: &[Round], area: usize, number: u64, inputs: usize, dins: &mut Vec<u64>)
     requires area { 0 < area }
     requires frames { (widths : List ℕ) × (size : Size) × AreBenchFrames widths size rounds.now × (inputs ≡ length widths) × (area ≡ area_of size) }
@@ -67,7 +67,7 @@ fn push_pixels(rounds: &[Round], area: usize, number: u64, inputs: usize, dins: 
     }
 }
 
-/// Adds these numbers.
+// Adds these numbers.
 fn push_all(numbers: &[u64], dins: &mut Vec<u64>)
     requires room { length dins.old.items + length numbers.now ≤ vec_capacity dins.old }
     ensures is { dins.new.items ≡ dins.old.items ++ numbers.now }
@@ -78,7 +78,7 @@ fn push_all(numbers: &[u64], dins: &mut Vec<u64>)
     }
 }
 
-/// Adds the clock of this number, in which each din has its pixel of that number.
+// Adds the clock of this number, in which each din has its pixel of that number.
 fn push_pixel_clock(block: &mut Block, feed: &Feed, rounds: &[Round], number: u64)
     requires fed { (m : Netlist) × (size : Size) × IsFed m size feed.now rounds.now }
     requires enables { length block.old.enables.items + 1 ≤ vec_capacity block.old.enables }
@@ -95,7 +95,7 @@ fn push_pixel_clock(block: &mut Block, feed: &Feed, rounds: &[Round], number: u6
     push_pixels(rounds, feed.area, number, feed.held.len(), &mut block.dins);
 }
 
-/// Adds a held clock, where one comes now.
+// Adds a held clock, where one comes now.
 fn push_held_clock(block: &mut Block, comes: bool, held: &[u64])
     requires enables { length block.old.enables.items + 1 ≤ vec_capacity block.old.enables }
     requires dins { length block.old.dins.items + length held.now ≤ vec_capacity block.old.dins }
@@ -113,7 +113,7 @@ fn push_held_clock(block: &mut Block, comes: bool, held: &[u64])
     }
 }
 
-/// Adds the clock of this number and the held one behind it, if one follows.
+// Adds the clock of this number and the held one behind it, if one follows.
 fn push_clocks(block: &mut Block, feed: &Feed, rounds: &[Round], number: u64)
     requires fed { (m : Netlist) × (size : Size) × IsFed m size feed.now rounds.now }
     requires number { number + 1 < 2 ^ 64 }
@@ -132,7 +132,7 @@ fn push_clocks(block: &mut Block, feed: &Feed, rounds: &[Round], number: u64)
     push_held_clock(block, comes, &feed.held);
 }
 
-/// Leaves no clock.
+// Leaves no clock.
 fn clear(block: &mut Block)
     ensures enables { block.new.enables.items ≡ [] }
     ensures dins { block.new.dins.items ≡ [] }
@@ -144,7 +144,7 @@ fn clear(block: &mut Block)
     block.dins.clear();
 }
 
-/// Makes a block of so many clocks, counted from this one, with the held ones between them.
+// Makes a block of so many clocks, counted from this one, with the held ones between them.
 pub(crate) fn fill_block(block: &mut Block, feed: &Feed, rounds: &[Round], start: u64, count: u64)
     requires fed { (m : Netlist) × (size : Size) × IsFed m size feed.now rounds.now }
     requires start { start < 2 ^ 60 }

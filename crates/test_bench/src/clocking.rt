@@ -36,7 +36,7 @@ pub struct Bench {
     pub sim: Blocks,
     /// Room for what each output shows in a clock.
     pub outs: Vec<Out>,
-    /// Room for a block of clocks.
+    // Room for a block of clocks.
     pub(crate) block: Block,
     /// The picture of each output so far.
     pub pictures: Vec<Shown>,
@@ -57,7 +57,7 @@ pub struct Feed {
     pub held: Vec<u64>,
 }
 
-/// One clock of the simulator.
+// One clock of the simulator.
 fn step(
     sim: &mut Blocks,
     reset: bool,
@@ -75,7 +75,7 @@ fn step(
     sim.step_all(reset, enable, dins, outs)
 }
 
-/// Tells the pair of each output to the desk, clock for clock.
+// Tells the pair of each output to the desk, clock for clock.
 fn tell<D: Desk>(desk: &mut D, outs: &[Out])
     ensures only { D.outside desk.new ≡ record (D.outside desk.old) { notes = (D.outside desk.new).notes } }
     ensures notes { GoOn (D.outside desk.old).notes (pairs_of outs.now) (D.outside desk.new).notes }
@@ -85,7 +85,7 @@ fn tell<D: Desk>(desk: &mut D, outs: &[Out])
     }
 }
 
-/// Adds what each output shows to its picture.
+// Adds what each output shows to its picture.
 fn show(pictures: &mut Vec<Shown>, most: usize, outs: &[Out])
     requires count { length pictures.old.items ≡ length outs.now }
     requires room { All (λ shown. most ≤ vec_capacity shown.samples) pictures.old.items }
@@ -131,7 +131,7 @@ pub fn clock<D: Desk>(
     }
 }
 
-/// A held clock, where one comes now.
+// A held clock, where one comes now.
 fn hold<D: Desk>(desk: &mut D, bench: &mut Bench, comes: bool, held: &[u64]) -> Result<(), Stop>
     requires bench { IsBench bench.old }
     requires held { held.now ≡ greatest_dins (din_widths bench.old.sim.netlist) }
@@ -174,7 +174,7 @@ pub fn pixel_clocks<D: Desk>(
     Ok(())
 }
 
-/// Adds what each output shows in each of so many clocks to its picture, the outputs of a clock behind those of the clock before.
+// Adds what each output shows in each of so many clocks to its picture, the outputs of a clock behind those of the clock before.
 fn show_all(pictures: &mut Vec<Shown>, most: usize, outs: &[Out], count: usize)
     requires places { length outs.now ≡ count * length pictures.old.items }
     requires room { All (λ shown. most ≤ vec_capacity shown.samples) pictures.old.items }
@@ -190,7 +190,7 @@ fn show_all(pictures: &mut Vec<Shown>, most: usize, outs: &[Out], count: usize)
     }
 }
 
-/// The outputs of the first so many clocks.
+// The outputs of the first so many clocks.
 fn outs_before(outs: &[Out], count: usize, ports: usize) -> &[Out]
     requires { count * ports ≤ length outs.now }
     ensures { result.now ≡ take (count * ports) outs.now }
@@ -198,7 +198,7 @@ fn outs_before(outs: &[Out], count: usize, ports: usize) -> &[Out]
     outs.split_at(count * ports).0
 }
 
-/// The stop in the clock behind so many.
+// The stop in the clock behind so many.
 fn stopped(made: u64, range: IndexRange) -> Stop
     requires { made < 2 ^ 63 }
     ensures { result ≡ Stop.Index (pos made -ℤ pos 1) range.array range.index }
@@ -210,7 +210,7 @@ fn stopped(made: u64, range: IndexRange) -> Stop
     }
 }
 
-/// The clocks of a block in one call, and then what is to be told of them: each is noted, and what each output shows in it is added to its picture. At a stop the clocks before it are noted.
+// The clocks of a block in one call, and then what is to be told of them: each is noted, and what each output shows in it is added to its picture. At a stop the clocks before it are noted.
 fn clock_all<D: Desk>(
     desk: &mut D,
     sim: &mut Blocks,
@@ -251,7 +251,7 @@ fn clock_all<D: Desk>(
     }
 }
 
-/// The same, where there is room for more outputs than these places.
+// The same, where there is room for more outputs than these places.
 fn clock_front<D: Desk>(
     desk: &mut D,
     sim: &mut Blocks,
@@ -289,7 +289,7 @@ fn clock_front<D: Desk>(
     )
 }
 
-/// The same, for the clocks that a block has.
+// The same, for the clocks that a block has.
 fn clock_filled<D: Desk>(
     desk: &mut D,
     sim: &mut Blocks,
@@ -328,7 +328,7 @@ fn clock_filled<D: Desk>(
     )
 }
 
-/// The clocks of the bench's block. After a Stop the pictures are those before the block.
+// The clocks of the bench's block. After a Stop the pictures are those before the block.
 fn clock_block<D: Desk>(desk: &mut D, bench: &mut Bench) -> Result<(), Stop>
     requires bench { IsBench bench.old }
     requires fit { All (λ (c : Clock). Fit (din_widths bench.old.sim.netlist) c.dins) (block_clocks bench.old.sim.netlist bench.old.block.enables.items bench.old.block.dins.items) }
@@ -355,7 +355,7 @@ fn clock_block<D: Desk>(desk: &mut D, bench: &mut Bench) -> Result<(), Stop>
     }
 }
 
-/// So many clocks, counted from this one, in one call, with the held ones between them.
+// So many clocks, counted from this one, in one call, with the held ones between them.
 fn some_pixel_clocks<D: Desk>(
     desk: &mut D,
     bench: &mut Bench,
@@ -378,7 +378,7 @@ fn some_pixel_clocks<D: Desk>(
     clock_block(desk, bench)
 }
 
-/// So many blocks of pixels, with the held clocks between them.
+// So many blocks of pixels, with the held clocks between them.
 fn whole_blocks<D: Desk>(
     desk: &mut D,
     bench: &mut Bench,
@@ -408,7 +408,7 @@ fn whole_blocks<D: Desk>(
     Ok(())
 }
 
-/// So many clocks, with the held ones between them.
+// So many clocks, with the held ones between them.
 fn all_pixel_clocks<D: Desk>(
     desk: &mut D,
     bench: &mut Bench,

@@ -8,7 +8,7 @@ ghost use Rattle.pgm_rounds.specs.Files.{frame_of, frames_of};
 ghost use Rattle.test_bench.specs.Given.{AreBenchFrames};
 ghost use Rattle.test_bench.specs.Inputs.{FitsBench, IsBenchFault, IsBenchError, first_fault as fault_of_header};
 
-use dk_base::{FrameSize, Memory};
+use dk_base::{FrameSize, OutOfMemory};
 use netlist::Width;
 use pgm_codec::{HeaderFault, read_header};
 use pgm_rounds::{FileError, ImageFault, Round, read_rounds};
@@ -21,7 +21,7 @@ pub struct BenchInput {
     pub rounds: Vec<Round>,
 }
 
-/// The fault of a file whose first header is refused.
+// The fault of a file whose first header is refused.
 fn first_fault(fault: HeaderFault) -> ImageFault
     ensures { result ≡ fault_of_header fault }
 {
@@ -33,8 +33,8 @@ fn first_fault(fault: HeaderFault) -> ImageFault
     }
 }
 
-/// The bits of each width.
-fn bits_of(alloc: Global, widths: &[Width]) -> Result<Vec<u8>, Memory>
+// The bits of each width.
+fn bits_of(alloc: Global, widths: &[Width]) -> Result<Vec<u8>, OutOfMemory>
     ensures { IfOk result (λ bits. bits.items ≡ widths.now) }
 {
     let mut bits = Vec::with_capacity(alloc, widths.len())?;

@@ -5,7 +5,7 @@ ghost use Rattle.dk_base.specs.declared.TheConstants.{MAX_PORT_WIDTH};
 ghost use Rattle.test_bench.specs.Clocking.{IsKept};
 
 use cycle_sim::Out;
-use dk_base::Memory;
+use dk_base::OutOfMemory;
 use std::alloc::Global;
 
 /// What an output has shown.
@@ -19,7 +19,7 @@ pub struct Shown {
 
 impl Shown {
     /// A picture without samples, with room for `most`.
-    pub fn new(alloc: Global, most: usize) -> Result<Shown, Memory>
+    pub fn new(alloc: Global, most: usize) -> Result<Shown, OutOfMemory>
         ensures kept { IfOk result (λ shown. IsKept most [] shown) }
         ensures room { IfOk result (λ shown. most ≤ vec_capacity shown.samples) }
     {

@@ -10,12 +10,12 @@ ghost use Rattle.wiring.specs.Snapshot.{Fit};
 ghost use Rattle.test_bench.specs.Stimulus.{stream, dins_at, greatest_dins};
 ghost use Rattle.test_bench.specs.Given.{rounds_of, AreBenchFrames};
 
-use dk_base::Memory;
+use dk_base::OutOfMemory;
 use netlist::Width;
 use pgm_rounds::Round;
 use std::alloc::Global;
 
-/// The sample at a place of a frame.
+// The sample at a place of a frame.
 fn sample(samples: &[u16], place: usize) -> u64
     requires { place < length samples.now }
     ensures { result ≡ slice_index samples.now place }
@@ -23,7 +23,7 @@ fn sample(samples: &[u16], place: usize) -> u64
     u64::from(samples[place])
 }
 
-/// A pixel of an input, counted over all rounds, or 0 after the last one.
+// A pixel of an input, counted over all rounds, or 0 after the last one.
 pub(crate) fn pixel(rounds: &[Round], area: usize, input: usize, number: u64) -> u64
     requires area { 0 < area }
     requires frames { (widths : List ℕ) × (size : Size) × AreBenchFrames widths size rounds.now × (input < length widths) × (area ≡ area_of size) }
@@ -50,7 +50,7 @@ pub fn fill_dins(rounds: &[Round], area: usize, number: u64, dins: &mut Vec<u64>
     }
 }
 
-/// The greatest number of so many bits.
+// The greatest number of so many bits.
 fn greatest(width: Width) -> u64
     requires { width ≤ MAX_PORT_WIDTH }
     ensures { result ≡ 2 ^ width - 1 }
@@ -59,7 +59,7 @@ fn greatest(width: Width) -> u64
 }
 
 /// The greatest number of each din.
-pub fn greatest_of(alloc: Global, widths: &[Width]) -> Result<Vec<u64>, Memory>
+pub fn greatest_of(alloc: Global, widths: &[Width]) -> Result<Vec<u64>, OutOfMemory>
     requires { All IsPortWidth widths.now }
     ensures { IfOk result (λ dins. dins.items ≡ greatest_dins widths.now) }
 {
@@ -71,7 +71,7 @@ pub fn greatest_of(alloc: Global, widths: &[Width]) -> Result<Vec<u64>, Memory>
 }
 
 /// So many zeros.
-pub fn zeros(alloc: Global, count: usize) -> Result<Vec<u64>, Memory>
+pub fn zeros(alloc: Global, count: usize) -> Result<Vec<u64>, OutOfMemory>
     ensures { IfOk result (λ dins. dins.items ≡ replicate count 0) }
 {
     let dins = vec![in alloc; 0; count]?;

@@ -1,7 +1,7 @@
 // Why a module's pictures are not written.
 
 ghost use Rattle.std.specs.Prelude.{◌≡◌};
-ghost use Rattle.test_bench.specs.declared.stop.BenchFault.TheVariants.{Memory as NoMemory};
+ghost use Rattle.test_bench.specs.declared.stop.BenchFault.TheVariants.{OutOfMemory as NoMemory};
 
 use std::alloc::{AllocError, AllocFailed};
 
@@ -29,14 +29,14 @@ pub enum BenchFault {
     #[error("{0}")]
     Stopped(Stop),
     #[error("out of memory")]
-    Memory,
+    OutOfMemory,
 }
 
 impl From<AllocError> for BenchFault {
     ghost from_gives = { λ _ e. e ≡ NoMemory };
 
     fn from(_e: AllocError) -> BenchFault {
-        BenchFault::Memory
+        BenchFault::OutOfMemory
     }
 }
 
@@ -44,6 +44,6 @@ impl<T: Drop> From<AllocFailed<T>> for BenchFault {
     ghost from_gives = { λ _ e. e ≡ NoMemory };
 
     fn from(_e: AllocFailed<T>) -> BenchFault {
-        BenchFault::Memory
+        BenchFault::OutOfMemory
     }
 }

@@ -11,12 +11,12 @@ ghost use Rattle.test_bench.specs.Showing.{IsEnough};
 ghost use Rattle.test_bench.specs.Writing.{HasEnough, IsFirstShort, AreWhole, image_kept, round_kept};
 
 use crate::picture::Shown;
-use dk_base::{FrameSize, Memory};
+use dk_base::{FrameSize, OutOfMemory};
 use netlist::Width;
 use pgm_rounds::write_image;
 use std::alloc::Global;
 
-/// The number of pixels of a frame.
+// The number of pixels of a frame.
 pub fn area(size: FrameSize) -> usize
     ensures is { result ≡ area_of (size_of size) }
     ensures some { 0 < result }
@@ -25,7 +25,7 @@ pub fn area(size: FrameSize) -> usize
     size.width as usize * size.height as usize
 }
 
-/// Whether an output has shown enough: exactly so many samples where it is the only one, and else at least that.
+// Whether an output has shown enough: exactly so many samples where it is the only one, and else at least that.
 fn is_enough(outputs: usize, asked: u64, shown: u64) -> bool
     ensures { MatchBool result (IsEnough outputs asked shown) (¬ IsEnough outputs asked shown) }
 {
@@ -48,7 +48,7 @@ pub fn first_short(pictures: &[Shown], asked: u64) -> Option<u64>
     None
 }
 
-/// The greatest number of so many bits.
+// The greatest number of so many bits.
 fn greatest(width: Width) -> u16
     requires { IsPortWidth width }
     ensures { result ≡ 2 ^ width - 1 }
@@ -56,7 +56,7 @@ fn greatest(width: Width) -> u16
     ((1u32 << width.bits()) - 1) as u16
 }
 
-/// So many samples from this place on.
+// So many samples from this place on.
 fn part(samples: &[u16], from: usize, count: usize) -> &[u16]
     requires { from + count ≤ length samples.now }
     ensures { result.now ≡ take count (drop from samples.now) }
@@ -64,7 +64,7 @@ fn part(samples: &[u16], from: usize, count: usize) -> &[u16]
     samples.split_at(from).1.split_at(count).0
 }
 
-/// Adds the image of an output in a round.
+// Adds the image of an output in a round.
 fn write_output(
     size: FrameSize,
     ports: &[Width],
@@ -72,7 +72,7 @@ fn write_output(
     round: usize,
     output: usize,
     file: &mut Vec<u8>,
-) -> Result<(), Memory>
+) -> Result<(), OutOfMemory>
     requires whole { (rounds : ℕ) × (round < rounds) × (rounds ≤ MAX_FILE_IMAGES) × AreWhole (size_of size) ports.now rounds pictures.now }
     requires output { output < length pictures.now }
     ensures { OnOk result (let image = image_kept (size_of size) ports.now pictures.now round output in file.new.items ≡ file.old.items ++ (header_of size.width size.height image.maxval ++ raster_of image.maxval image.samples)) }
@@ -84,14 +84,14 @@ fn write_output(
     Ok(())
 }
 
-/// Adds the images of all outputs in a round.
+// Adds the images of all outputs in a round.
 fn write_round(
     size: FrameSize,
     ports: &[Width],
     pictures: &[Shown],
     round: usize,
     file: &mut Vec<u8>,
-) -> Result<(), Memory>
+) -> Result<(), OutOfMemory>
     requires whole { (rounds : ℕ) × (round < rounds) × (rounds ≤ MAX_FILE_IMAGES) × AreWhole (size_of size) ports.now rounds pictures.now }
     ensures { OnOk result (file.new.items ≡ file.old.items ++ file_of (round_kept (size_of size) ports.now pictures.now round)) }
 {
@@ -108,7 +108,7 @@ pub fn write_rounds(
     ports: &[Width],
     pictures: &[Shown],
     rounds: usize,
-) -> Result<Vec<u8>, Memory>
+) -> Result<Vec<u8>, OutOfMemory>
     requires rounds { rounds ≤ MAX_FILE_IMAGES }
     requires whole { AreWhole (size_of size) ports.now rounds pictures.now }
     ensures { IfOk result (λ file. file.items ≡ file_of (flat_map (round_kept (size_of size) ports.now pictures.now) (range_with_len 0 rounds))) }

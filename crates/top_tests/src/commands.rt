@@ -3,7 +3,7 @@
 ghost use Rattle.std.specs.Prelude.{◌<◌, IfOk};
 ghost use Rattle.dk_top.specs.State.{IsFresh};
 
-use dk_base::Memory;
+use dk_base::OutOfMemory;
 use dk_desk::Desk;
 use dk_desk::mem_desk::MemDesk;
 use dk_top::dk_main;
@@ -11,7 +11,7 @@ use std::alloc::Global;
 use std::collections::BTreeMap;
 use std::test::Fail;
 
-/// A number that no call reaches.
+// A number that no call reaches.
 pub const NONE: u64 = u64::MAX;
 
 const TOGGLE: &[u8] = b"module m(input clk, input rst, input din, output valid, output dout);
@@ -35,7 +35,7 @@ const COPY: &[u8] = b"size 4 1 input a : u8 output a";
 const MEAN: &[u8] =
     b"size 4 1 input a : u8 let f = im(x,y) ((a(x-1,y)+a(x,y)+a(x+1,y))/3) as u8 end output f";
 
-pub fn words(alloc: Global, line: &str) -> Result<Vec<String>, Memory> {
+pub fn words(alloc: Global, line: &str) -> Result<Vec<String>, OutOfMemory> {
     let mut words = Vec::new(alloc);
     for word in line.split(' ') {
         words.push(word.to_string(alloc)?)?;
@@ -43,14 +43,14 @@ pub fn words(alloc: Global, line: &str) -> Result<Vec<String>, Memory> {
     Ok(words)
 }
 
-/// A desk with the files `first` and `second`, on which the call of this number fails, and which takes and gives pieces of so many bytes.
+// A desk with the files `first` and `second`, on which the call of this number fails, and which takes and gives pieces of so many bytes.
 pub fn desk(
     alloc: Global,
     first: &[u8],
     second: &[u8],
     failing: u64,
     piece: usize,
-) -> Result<MemDesk, Memory>
+) -> Result<MemDesk, OutOfMemory>
     requires { 0 < piece }
     ensures { IfOk result (λ desk. IsFresh (⟦<MemDesk as Desk>⟧.outside desk)) }
 {
@@ -74,14 +74,14 @@ fn clocks_are_noted(rt: HostRuntime) -> Result<(), Fail> {
     Ok(())
 }
 
-/// The status where the call of this number fails.
+// The status where the call of this number fails.
 fn status_at(
     alloc: Global,
     line: &str,
     first: &[u8],
     failing: u64,
     piece: usize,
-) -> Result<u8, Memory>
+) -> Result<u8, OutOfMemory>
     requires { 0 < piece }
 {
     let words = words(alloc, line)?;
@@ -89,7 +89,7 @@ fn status_at(
     Ok(dk_main(alloc, &words, &mut desk).status())
 }
 
-/// Whatever call fails, the status says so. Each input is opened and read to its end, and then the output is written, but that `run` reads and writes by lines; the last call does not come.
+// Whatever call fails, the status says so. Each input is opened and read to its end, and then the output is written, but that `run` reads and writes by lines; the last call does not come.
 #[test]
 fn each_call_fails_in_turn(rt: HostRuntime) -> Result<(), Fail> {
     let alloc = rt.alloc();
@@ -118,14 +118,14 @@ fn each_call_fails_in_turn(rt: HostRuntime) -> Result<(), Fail> {
     Ok(())
 }
 
-/// What File holds after `run` where the call of this number fails.
+// What File holds after `run` where the call of this number fails.
 fn file_at(
     alloc: Global,
     program: &[u8],
     image: &[u8],
     failing: u64,
     piece: usize,
-) -> Result<(u8, Option<Vec<u8>>), Memory>
+) -> Result<(u8, Option<Vec<u8>>), OutOfMemory>
     requires { 0 < piece }
 {
     let words = words(alloc, "dk run first second out")?;
@@ -137,7 +137,7 @@ fn file_at(
     }
 }
 
-/// `run` writes a line as soon as it is whole: a copy of two lines, and a mean whose latency is one clock, so that its first line is whole with the second one of the input, and its last one behind all of them.
+// `run` writes a line as soon as it is whole: a copy of two lines, and a mean whose latency is one clock, so that its first line is whole with the second one of the input, and its last one behind all of them.
 #[test]
 fn lines_are_written_as_they_are_whole(rt: HostRuntime) -> Result<(), Fail> {
     let alloc = rt.alloc();
@@ -178,7 +178,7 @@ fn lines_are_written_as_they_are_whole(rt: HostRuntime) -> Result<(), Fail> {
     Ok(())
 }
 
-/// What a call leaves: its status, what File holds, and the notes.
+// What a call leaves: its status, what File holds, and the notes.
 #[derive(Drop)]
 struct Left {
     status: u8,
@@ -186,8 +186,8 @@ struct Left {
     notes: Vec<(bool, u64)>,
 }
 
-/// Makes a call where nothing fails.
-fn called(alloc: Global, line: &str, first: &[u8], second: &[u8]) -> Result<Left, Memory> {
+// Makes a call where nothing fails.
+fn called(alloc: Global, line: &str, first: &[u8], second: &[u8]) -> Result<Left, OutOfMemory> {
     let words = words(alloc, line)?;
     let mut desk = desk(alloc, first, second, NONE, 4096)?;
     let status = dk_main(alloc, &words, &mut desk).status();
@@ -200,7 +200,7 @@ fn called(alloc: Global, line: &str, first: &[u8], second: &[u8]) -> Result<Left
     })
 }
 
-/// The module that `run` clocks shows, clock by clock, what the text of `compile` shows in `sim` over as many clocks.
+// The module that `run` clocks shows, clock by clock, what the text of `compile` shows in `sim` over as many clocks.
 #[test]
 fn runs_the_text_that_it_compiles(rt: HostRuntime) -> Result<(), Fail> {
     let alloc = rt.alloc();
@@ -229,7 +229,7 @@ fn runs_the_text_that_it_compiles(rt: HostRuntime) -> Result<(), Fail> {
     Ok(())
 }
 
-/// The line and the number of notes of made programs: one note for each pixel and each clock of the latency, and one for the reset clock.
+// The line and the number of notes of made programs: one note for each pixel and each clock of the latency, and one for the reset clock.
 #[test]
 fn made_programs_are_summed(rt: HostRuntime) -> Result<(), Fail> {
     let alloc = rt.alloc();
@@ -260,7 +260,7 @@ fn made_programs_are_summed(rt: HostRuntime) -> Result<(), Fail> {
     Ok(())
 }
 
-/// Where a write of the line fails, Report holds the pieces before it.
+// Where a write of the line fails, Report holds the pieces before it.
 #[test]
 fn a_line_may_break_off(rt: HostRuntime) -> Result<(), Fail> {
     let alloc = rt.alloc();

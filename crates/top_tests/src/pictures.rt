@@ -3,7 +3,7 @@
 ghost use Rattle.std.specs.Prelude.{IfOk};
 ghost use Rattle.dk_top.specs.State.{IsFresh};
 
-use dk_base::Memory;
+use dk_base::OutOfMemory;
 use dk_desk::Desk;
 use dk_desk::mem_desk::MemDesk;
 use dk_desk::never_fails::NeverFails;
@@ -21,7 +21,7 @@ const MEAN: &[u8] =
 
 const GRADIENT: &[u8] = b"P5\n3 1\n255\n\x0a\x14\x1e";
 
-fn words(alloc: Global, texts: &[&str]) -> Result<Vec<String>, Memory> {
+fn words(alloc: Global, texts: &[&str]) -> Result<Vec<String>, OutOfMemory> {
     let mut words = Vec::new(alloc);
     for text in texts {
         words.push(String::from_str(alloc, text)?)?;
@@ -29,7 +29,11 @@ fn words(alloc: Global, texts: &[&str]) -> Result<Vec<String>, Memory> {
     Ok(words)
 }
 
-fn files(alloc: Global, program: &[u8], image: &[u8]) -> Result<BTreeMap<String, Vec<u8>>, Memory> {
+fn files(
+    alloc: Global,
+    program: &[u8],
+    image: &[u8],
+) -> Result<BTreeMap<String, Vec<u8>>, OutOfMemory> {
     let mut files = BTreeMap::new(alloc);
     let program = Vec::from_slice(alloc, program)?;
     files.insert(String::from_str(alloc, "p.dk")?, program)?;
@@ -38,18 +42,18 @@ fn files(alloc: Global, program: &[u8], image: &[u8]) -> Result<BTreeMap<String,
     Ok(files)
 }
 
-/// A desk with a program and an image, on which the call of this number fails.
-fn desk(alloc: Global, program: &[u8], image: &[u8], failing: u64) -> Result<MemDesk, Memory>
+// A desk with a program and an image, on which the call of this number fails.
+fn desk(alloc: Global, program: &[u8], image: &[u8], failing: u64) -> Result<MemDesk, OutOfMemory>
     ensures { IfOk result (λ desk. IsFresh (⟦<MemDesk as Desk>⟧.outside desk)) }
 {
     let failing = Vec::from_slice(alloc, [failing].as_slice())?;
     MemDesk::new(alloc, files(alloc, program, image)?, failing, 64, 300)
 }
 
-/// A number that no call reaches.
+// A number that no call reaches.
 const NONE: u64 = u64::MAX;
 
-/// `run` notes each clock of its module: the reset clock, a clock for each pixel of both images, and those of the latency. `eval` notes none.
+// `run` notes each clock of its module: the reset clock, a clock for each pixel of both images, and those of the latency. `eval` notes none.
 #[test]
 fn notes_each_clock(rt: HostRuntime) -> Result<(), Fail> {
     let alloc = rt.alloc();

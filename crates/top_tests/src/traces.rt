@@ -1,7 +1,7 @@
 //! `trace` over a desk in memory: the worked traces, runs that stop, and what File holds where a call of the desk fails.
 
 use crate::commands::{NONE, desk, words};
-use dk_base::Memory;
+use dk_base::OutOfMemory;
 use dk_top::dk_main;
 use std::alloc::Global;
 use std::test::Fail;
@@ -15,7 +15,7 @@ endmodule
 
 const THREE: &[u8] = b"P5 3 1 255\n\x0a\x14\x1e";
 
-/// A memory of three words that the input reads.
+// A memory of three words that the input reads.
 const MEMORY: &[u8] =
     b"module m(input clk, input rst, input [1:0] din, output valid, output [7:0] dout);
   reg [7:0] m0 [0:2];
@@ -27,7 +27,7 @@ const MEMORY: &[u8] =
 endmodule
 ";
 
-/// The same, read past its end where the input is 0, as in the reset clock.
+// The same, read past its end where the input is 0, as in the reset clock.
 const PAST: &[u8] =
     b"module m(input clk, input rst, input [1:0] din, output valid, output [7:0] dout);
   wire [1:0] n0;
@@ -87,14 +87,14 @@ $upscope $end
 $enddefinitions $end
 ";
 
-/// The status, what File holds, and the line to Fault, where the call of this number fails.
+// The status, what File holds, and the line to Fault, where the call of this number fails.
 fn left(
     alloc: Global,
     line: &str,
     first: &[u8],
     second: &[u8],
     failing: u64,
-) -> Result<(u8, Vec<u8>, Vec<u8>), Memory> {
+) -> Result<(u8, Vec<u8>, Vec<u8>), OutOfMemory> {
     let words = words(alloc, line)?;
     let mut desk = desk(alloc, first, second, failing, 4096)?;
     let status = dk_main(alloc, &words, &mut desk).status();
@@ -132,7 +132,7 @@ fn runs_that_stop_leave_the_clocks_before(rt: HostRuntime) -> Result<(), Fail> {
     Ok(())
 }
 
-/// The header is written, then each clock, and then the last line: where a write fails File has what was written before. Before them each input is opened and read to its end, and the file created.
+// The header is written, then each clock, and then the last line: where a write fails File has what was written before. Before them each input is opened and read to its end, and the file created.
 #[test]
 fn each_call_fails_in_turn(rt: HostRuntime) -> Result<(), Fail> {
     let alloc = rt.alloc();

@@ -24,7 +24,7 @@ use pgm_rounds::Round;
 use test_bench::{Stop, fill_dins};
 use vcd_trace::Trace;
 
-/// One clock of the simulator, and the values before its edge.
+// One clock of the simulator, and the values before its edge.
 fn step(sim: &mut Sim, reset: bool, dins: &[u64], values: &mut Vec<u64>) -> Result<(), IndexRange>
     requires dins { Fit (din_widths sim.old.netlist) dins.now }
     requires values { length values.old.items ≡ length (all_widths sim.old.netlist) }
@@ -36,7 +36,7 @@ fn step(sim: &mut Sim, reset: bool, dins: &[u64], values: &mut Vec<u64>) -> Resu
     sim.step_seen(reset, true, dins, values)
 }
 
-/// Makes the text of a clock with these values, for which there is room.
+// Makes the text of a clock with these values, for which there is room.
 fn tell(trace: &mut Trace, values: &[u64], text: &mut Vec<u8>)
     requires values { AreValues trace.old.widths values.now }
     requires time { trace.old.time + 1 < 2 ^ 64 }
@@ -52,7 +52,7 @@ fn tell(trace: &mut Trace, values: &[u64], text: &mut Vec<u8>)
     }
 }
 
-/// Adds bytes to File.
+// Adds bytes to File.
 pub(crate) fn write<D: Desk>(desk: &mut D, bytes: &[u8]) -> Result<(), Failed>
     requires open { (D.outside desk.old).file.stage ≡ Stage.Open }
     ensures ok { OnOk result (Adds OutSlot.File (D.outside desk.old) bytes.now (D.outside desk.new)) }
@@ -62,7 +62,7 @@ pub(crate) fn write<D: Desk>(desk: &mut D, bytes: &[u8]) -> Result<(), Failed>
     write_all(desk, OutSlot::File, bytes)
 }
 
-/// The number of the clock that comes behind so many, the reset clock being -1.
+// The number of the clock that comes behind so many, the reset clock being -1.
 fn clock_number(made: u64) -> i64
     requires { made < 2 ^ 62 }
     ensures { result ≡ pos made -ℤ pos 1 }
@@ -70,7 +70,7 @@ fn clock_number(made: u64) -> i64
     made as i64 - 1
 }
 
-/// One clock, whose text is written.
+// One clock, whose text is written.
 pub(crate) fn clock<D: Desk>(desk: &mut D, tracer: &mut Tracer, reset: bool) -> Result<(), TraceEnd>
     requires open { (D.outside desk.old).file.stage ≡ Stage.Open }
     requires tracing { IsTracing tracer.old }
@@ -102,7 +102,7 @@ pub(crate) fn clock<D: Desk>(desk: &mut D, tracer: &mut Tracer, reset: bool) -> 
     }
 }
 
-/// The clock of this number, counted from 0, in which each din has its pixel of that number. A frame has `area` pixels.
+// The clock of this number, counted from 0, in which each din has its pixel of that number. A frame has `area` pixels.
 fn pixel_clock<D: Desk>(
     desk: &mut D,
     tracer: &mut Tracer,
@@ -126,7 +126,7 @@ fn pixel_clock<D: Desk>(
     clock(desk, tracer, false)
 }
 
-/// So many clocks with the pixels.
+// So many clocks with the pixels.
 pub(crate) fn pixel_clocks<D: Desk>(
     desk: &mut D,
     tracer: &mut Tracer,

@@ -19,7 +19,7 @@ use pgm_rounds::Round;
 use test_bench::Drive;
 use vcd_trace::Trace;
 
-/// Writes the time behind the last clock.
+// Writes the time behind the last clock.
 fn write_end<D: Desk>(desk: &mut D, trace: &Trace, text: &mut Vec<u8>) -> Result<(), Failed>
     requires open { (D.outside desk.old).file.stage ≡ Stage.Open }
     requires room { room_of trace.now.widths ≤ vec_capacity text.old }

@@ -25,16 +25,16 @@ $enddefinitions $end
 
 const RESET: &str = "#0\n1!\nb0 \"\n0#\nb0 $\n";
 
-/// The line of a text's fault, or 0 where it is a trace.
+// The line of a text's fault, or 0 where it is a trace.
 fn line(alloc: Global, module: &Module, text: &str) -> Result<u64, Fail> {
     match replay(alloc, module, text.as_bytes()) {
         Ok(_) => Ok(0),
         Err(VcdError::Fault { line }) => Ok(line),
-        Err(VcdError::Memory) => Err(Fail::new("no memory")),
+        Err(VcdError::OutOfMemory) => Err(Fail::new("no memory")),
     }
 }
 
-/// The lines of the faults of texts that go on behind this one, each up to an `@`.
+// The lines of the faults of texts that go on behind this one, each up to an `@`.
 fn lines(alloc: Global, module: &Module, front: &str, rests: &str) -> Result<String, Fail> {
     let mut lines = String::new(alloc);
     for rest in rests.split('@') {
@@ -45,7 +45,7 @@ fn lines(alloc: Global, module: &Module, front: &str, rests: &str) -> Result<Str
     Ok(lines)
 }
 
-/// No line, another time scale, another scope, another identifier, no time.
+// No line, another time scale, another scope, another identifier, no time.
 #[test]
 fn faults_of_the_header(rt: HostRuntime) -> Result<(), Fail> {
     let alloc = rt.alloc();
@@ -57,7 +57,7 @@ fn faults_of_the_header(rt: HostRuntime) -> Result<(), Fail> {
     Ok(())
 }
 
-/// Another time, no LF, a variable left out, too great a value, a leading zero.
+// Another time, no LF, a variable left out, too great a value, a leading zero.
 #[test]
 fn faults_at_time_0(rt: HostRuntime) -> Result<(), Fail> {
     let alloc = rt.alloc();
@@ -70,7 +70,7 @@ fn faults_at_time_0(rt: HostRuntime) -> Result<(), Fail> {
     Ok(())
 }
 
-/// Nothing changed, out of order, no bit, a time left out, no last time, a last time with no LF, an empty line; and a trace.
+// Nothing changed, out of order, no bit, a time left out, no last time, a last time with no LF, an empty line; and a trace.
 #[test]
 fn faults_behind_time_0(rt: HostRuntime) -> Result<(), Fail> {
     let alloc = rt.alloc();

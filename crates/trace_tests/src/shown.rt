@@ -5,7 +5,7 @@ use std::alloc::Global;
 use std::test::Fail;
 use vcd_trace::{header, replay};
 
-/// A register that takes `din` where `en` is 1, with `valid` there.
+// A register that takes `din` where `en` is 1, with `valid` there.
 const GATED: &str =
     "module m(input clk, input rst, input en, input [7:0] din, output valid, output [7:0] dout);
   wire [7:0] n0;
@@ -66,7 +66,7 @@ fn push_row(text: &mut String, row: &[u64]) -> Result<(), Fail> {
     Ok(())
 }
 
-/// The values at each clock, with a `/` behind those of one clock.
+// The values at each clock, with a `/` behind those of one clock.
 fn told(alloc: Global, rows: &[Vec<u64>]) -> Result<String, Fail> {
     let mut text = String::new(alloc);
     for row in rows {
@@ -89,7 +89,7 @@ fn enable_and_register(rt: HostRuntime) -> Result<(), Fail> {
     Ok(())
 }
 
-/// A copy with so many wires that nothing reads.
+// A copy with so many wires that nothing reads.
 fn wide(alloc: Global, wires: u32) -> Result<String, Fail> {
     let mut text = String::from_str(
         alloc,
@@ -107,7 +107,7 @@ fn wide(alloc: Global, wires: u32) -> Result<String, Fail> {
     Ok(text)
 }
 
-/// The text of a clock in which these variables of one bit are 0.
+// The text of a clock in which these variables of one bit are 0.
 fn zeros(alloc: Global, identifiers: &str) -> Result<String, Fail> {
     let mut text = String::from_str(alloc, "#0\n1!\n")?;
     for identifier in identifiers.split(' ') {
@@ -116,7 +116,7 @@ fn zeros(alloc: Global, identifiers: &str) -> Result<String, Fail> {
     Ok(text)
 }
 
-/// Variables 93 and 94 are the last with one byte and the first with two.
+// Variables 93 and 94 are the last with one byte and the first with two.
 #[test]
 fn identifiers_of_two_bytes(rt: HostRuntime) -> Result<(), Fail> {
     let alloc = rt.alloc();

@@ -11,7 +11,7 @@ ghost use Rattle.value_rows.specs.Rows.{IsNarrow};
 
 use dk_base::{Ty, wrap};
 
-/// The value in 64 bits.
+// The value in 64 bits.
 pub fn narrow(value: i128) -> i64
     requires { IsNarrow value }
     ensures { result ≡ value }
@@ -89,7 +89,7 @@ fn wrapped_signed(value: i64, width: u8) -> i64
     signed_number(number_of(low_bits(value, width)), width)
 }
 
-/// The number of the range of `ty` that is equal to `value` modulo 2 to the power of its width.
+// The number of the range of `ty` that is equal to `value` modulo 2 to the power of its width.
 pub fn wrapped(value: i64, ty: Ty) -> i64
     requires typed { IsType ty }
     requires narrow { IsNarrow (wrapped_worth ty value) }
@@ -118,7 +118,7 @@ fn greatest(ty: Ty) -> i64
     narrow(ty.greatest().min(i128::from(i64::MAX)))
 }
 
-/// The number of the range of `ty` that is nearest to `value`.
+// The number of the range of `ty` that is nearest to `value`.
 pub fn saturated(value: i64, ty: Ty) -> i64
     requires { IsType ty }
     ensures { result ≡ saturated_worth ty value }
@@ -134,7 +134,7 @@ pub fn saturated(value: i64, ty: Ty) -> i64
     }
 }
 
-/// The exponent of a power of two below 2 ^ 63, where the number is one.
+// The exponent of a power of two below 2 ^ 63, where the number is one.
 pub fn exponent_of(number: u64) -> Option<u8>
     ensures { IfSome result (λ k. (k ≤ 62) × (number ≡ 2 ^ k)) }
 {
@@ -146,7 +146,7 @@ pub fn exponent_of(number: u64) -> Option<u8>
     None
 }
 
-/// The quotient by 2 to the power `by`, rounded down.
+// The quotient by 2 to the power `by`, rounded down.
 pub fn shifted(value: i64, by: u64) -> i64
     requires { by ≤ 63 }
     ensures { result ≡ scaling_worth ShiftRight value by }
@@ -167,7 +167,7 @@ fn raised(value: i64, exponent: u8) -> i64
     }
 }
 
-/// The quotient by 2 to the power `exponent`, rounded toward 0.
+// The quotient by 2 to the power `exponent`, rounded toward 0.
 pub fn halved(value: i64, exponent: u8) -> i64
     requires { exponent ≤ 62 }
     ensures { result ≡ scaling_worth Divide value (2 ^ exponent) }

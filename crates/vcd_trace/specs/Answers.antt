@@ -4,7 +4,7 @@ use Rattle.std.specs.declared.alloc.Global.{Global}
 use Rattle.netlist.specs.Names.{NamedNetlist}
 use Rattle.cycle_sim.specs.Slots.{all_widths, words_of}
 use Rattle.vcd_trace.specs.declared.fault.VcdError.{VcdError}
-use Rattle.vcd_trace.specs.declared.fault.VcdError.TheVariants.{Fault, Memory}
+use Rattle.vcd_trace.specs.declared.fault.VcdError.TheVariants.{Fault, OutOfMemory}
 use Rattle.vcd_trace.specs.Header.{header_text}
 use Rattle.vcd_trace.specs.Replayed.{IsAtLine, IsReplay, Refuses}
 use Rattle.vcd_trace.specs.Steps.{AtTime, InClock}
@@ -66,4 +66,4 @@ RefusesText head widths text e = (m : NamedNetlist) → all_widths m.netlist ≡
 abbrev pub Gives : (clocks : List (List ℕ)) → Result (Vec (Vec ℕ Global) Global) VcdError → Type 0
 Gives clocks (Ok rows) = words_of rows.items ≡ clocks
 Gives clocks (Err (Fault line)) = ⊥
-Gives clocks (Err Memory) = ⊤
+Gives clocks (Err OutOfMemory) = ⊤

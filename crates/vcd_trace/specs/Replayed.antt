@@ -4,7 +4,7 @@ use Rattle.std.specs.List.{AllByRecursion}
 use Rattle.netlist.specs.Names.{NamedNetlist}
 use Rattle.cycle_sim.specs.Slots.{all_widths}
 use Rattle.vcd_trace.specs.declared.fault.VcdError.{VcdError}
-use Rattle.vcd_trace.specs.declared.fault.VcdError.TheVariants.{Fault, Memory}
+use Rattle.vcd_trace.specs.declared.fault.VcdError.TheVariants.{Fault, OutOfMemory}
 use Rattle.vcd_trace.specs.Layout.{AreValues}
 use Rattle.vcd_trace.specs.Header.{trace_text}
 
@@ -54,7 +54,7 @@ pub record IsFaultyLine (m : NamedNetlist) (text : List ℕ) (number : ℕ) : Ty
 -- why a text is refused; want of memory is free
 abbrev pub Refuses : NamedNetlist → List ℕ → VcdError → Type 0
 Refuses m text (Fault line) = IsFaultyLine m text line
-Refuses m text Memory = ⊤
+Refuses m text OutOfMemory = ⊤
 
 -- the trace of these clocks, and of no others
 pub record IsReplay (m : NamedNetlist) (text : List ℕ) (clocks : List (List ℕ)) : Type 0 where

@@ -11,22 +11,22 @@ use crate::heading::header;
 use crate::reading::strip;
 use crate::steps::read_at;
 use crate::trace::widths_of;
-use dk_base::Memory;
+use dk_base::OutOfMemory;
 use netlist::{Module, Width};
 use std::alloc::Global;
 
-/// A value of 0 for each variable.
+// A value of 0 for each variable.
 fn zeros(alloc: Global, widths: &[Width]) -> Result<Vec<u64>, VcdError>
     ensures { IfOk result (λ values. AreValues widths.now values.items) }
 {
     let mut values = Vec::new(alloc);
     match values.resize(widths.len(), 0u64) {
-        Err(_) => Err(VcdError::Memory),
+        Err(_) => Err(VcdError::OutOfMemory),
         Ok(()) => Ok(values),
     }
 }
 
-fn add_row(alloc: Global, rows: &mut Vec<Vec<u64>>, row: &[u64]) -> Result<(), Memory>
+fn add_row(alloc: Global, rows: &mut Vec<Vec<u64>>, row: &[u64]) -> Result<(), OutOfMemory>
     ensures { OnOk result (words_of rows.new.items ≡ words_of rows.old.items ++ row.now ∷ []) }
 {
     let copy = Vec::from_slice(alloc, row)?;
@@ -34,7 +34,7 @@ fn add_row(alloc: Global, rows: &mut Vec<Vec<u64>>, row: &[u64]) -> Result<(), M
     Ok(())
 }
 
-/// The clocks of a trace, behind its header.
+// The clocks of a trace, behind its header.
 fn read_clocks(
     alloc: Global,
     widths: &[Width],
@@ -47,7 +47,7 @@ fn read_clocks(
     let mut line = Vec::new(alloc);
     let mut rows = Vec::new(alloc);
     let mut before = match zeros(alloc, widths) {
-        Err(_) => return Err(VcdError::Memory),
+        Err(_) => return Err(VcdError::OutOfMemory),
         Ok(before) => before,
     };
     let mut rest = bytes;
@@ -69,7 +69,7 @@ fn read_clocks(
             Ok(None) => return Ok(rows),
             Ok(Some(clock)) => {
                 match add_row(alloc, &mut rows, &clock.values) {
-                    Err(_) => return Err(VcdError::Memory),
+                    Err(_) => return Err(VcdError::OutOfMemory),
                     Ok(()) => {}
                 }
                 before = clock.values;
@@ -82,7 +82,7 @@ fn read_clocks(
     }
 }
 
-/// A line number, behind a byte.
+// A line number, behind a byte.
 fn next_number(number: u64, byte: u8) -> u64
     requires { number + 1 < 2 ^ 64 }
     ensures number { result ≡ (if nat_eq byte 10 then number + 1 else number) }
@@ -91,7 +91,7 @@ fn next_number(number: u64, byte: u8) -> u64
     if byte == b'\n' { number + 1 } else { number }
 }
 
-/// The number of the line at which a text differs from a header.
+// The number of the line at which a text differs from a header.
 #[tactic(auto, using(crate::proofs::Headings::common_stop))]
 fn common_lines(head: &[u8], text: &[u8]) -> u64
     ensures number { result ≡ common_of 1 head.now text.now }
@@ -110,7 +110,7 @@ fn common_lines(head: &[u8], text: &[u8]) -> u64
     number
 }
 
-/// The clocks of a trace with this header.
+// The clocks of a trace with this header.
 fn read_text(
     alloc: Global,
     head: &[u8],
@@ -137,11 +137,11 @@ pub fn replay(alloc: Global, module: &Module, text: &[u8]) -> Result<Vec<Vec<u64
     ensures accepts { (clocks : List (List ℕ)) → IsTraceOf «module».now clocks text.now → Gives clocks result }
 {
     let head = match header(alloc, module) {
-        Err(_) => return Err(VcdError::Memory),
+        Err(_) => return Err(VcdError::OutOfMemory),
         Ok(head) => head,
     };
     let widths = match widths_of(alloc, module) {
-        Err(_) => return Err(VcdError::Memory),
+        Err(_) => return Err(VcdError::OutOfMemory),
         Ok(widths) => widths,
     };
     read_text(alloc, &head, &widths, text)

@@ -12,7 +12,7 @@ use netlist::Width;
 /// The bytes of the longest time line: `#`, the digits of the greatest time, and an LF.
 pub const TIME_LINE_BYTES: usize = 22;
 
-/// The greatest length of a variable's line with its LF.
+// The greatest length of a variable's line with its LF.
 pub(crate) fn room_for_line(width: Width, place: usize) -> usize
     ensures { result ≡ line_room width place }
 {
@@ -24,7 +24,7 @@ pub(crate) fn room_for_line(width: Width, place: usize) -> usize
     }
 }
 
-/// The greatest length of the lines of all variables, where that is a length.
+// The greatest length of the lines of all variables, where that is a length.
 pub(crate) fn room_for_lines(widths: &[Width]) -> Option<usize>
     ensures { IfSome result (λ n. n ≡ lines_room 0 widths.now) }
 {
@@ -35,7 +35,7 @@ pub(crate) fn room_for_lines(widths: &[Width]) -> Option<usize>
     Some(room)
 }
 
-/// Adds the line of a time and its LF, for which there is room.
+// Adds the line of a time and its LF, for which there is room.
 #[tactic(auto, using(crate::proofs::Rooms::time_fits))]
 pub(crate) fn push_time(to: &mut Vec<u8>, time: u64)
     requires { vec_len to.old + TIME_LINE_BYTES ≤ vec_capacity to.old }
@@ -49,7 +49,7 @@ pub(crate) fn push_time(to: &mut Vec<u8>, time: u64)
     to.push_reserved(b'\n');
 }
 
-/// Adds bytes, for which there is room.
+// Adds bytes, for which there is room.
 fn push_bytes(to: &mut Vec<u8>, bytes: &[u8])
     requires { vec_len to.old + length bytes.now ≤ vec_capacity to.old }
     ensures items { to.new.items ≡ to.old.items ++ bytes.now }
@@ -61,7 +61,7 @@ fn push_bytes(to: &mut Vec<u8>, bytes: &[u8])
     }
 }
 
-/// Adds the lines of all variables, for which there is room.
+// Adds the lines of all variables, for which there is room.
 pub(crate) fn push_all(to: &mut Vec<u8>, widths: &[Width], values: &[u64])
     requires values { AreValues widths.now values.now }
     requires room { vec_len to.old + length (text_of (all_lines 0 widths.now values.now)) ≤ vec_capacity to.old }
@@ -73,7 +73,7 @@ pub(crate) fn push_all(to: &mut Vec<u8>, widths: &[Width], values: &[u64])
     }
 }
 
-/// Adds the line of a variable where its value changed, for which there is room.
+// Adds the line of a variable where its value changed, for which there is room.
 fn push_change(to: &mut Vec<u8>, width: Width, place: usize, before: u64, value: u64)
     requires fits { value < 2 ^ width }
     requires room { vec_len to.old + length (text_of (change_lines width place before value)) ≤ vec_capacity to.old }
@@ -86,7 +86,7 @@ fn push_change(to: &mut Vec<u8>, width: Width, place: usize, before: u64, value:
     }
 }
 
-/// Adds the lines of the variables whose value changed, for which there is room.
+// Adds the lines of the variables whose value changed, for which there is room.
 pub(crate) fn push_changes(to: &mut Vec<u8>, widths: &[Width], before: &[u64], values: &[u64])
     requires before { length before.now ≡ length widths.now }
     requires values { AreValues widths.now values.now }
@@ -99,7 +99,7 @@ pub(crate) fn push_changes(to: &mut Vec<u8>, widths: &[Width], before: &[u64], v
     }
 }
 
-/// Adds the text of a clock, for which there is room.
+// Adds the text of a clock, for which there is room.
 pub(crate) fn push_clock(
     to: &mut Vec<u8>,
     time: u64,

@@ -7,5 +7,5 @@ pub enum VcdError {
     #[error("line {line}")]
     Fault { line: u64 },
     #[error("out of memory")]
-    Memory,
+    OutOfMemory,
 }

@@ -8,7 +8,7 @@ ghost use Rattle.vcd_trace.specs.Layout.{id_of};
 ghost use Rattle.vcd_trace.specs.Header.{name_at, all_inputs, all_outputs, each_at, kind_text, variable_text, input_text, output_text, named_text, ports_text, variables_text, scope_head, scope_text, timescale_text, end_text, header_text};
 
 use crate::number::{id_length, push_id};
-use dk_base::Memory;
+use dk_base::OutOfMemory;
 use itoa::Buffer;
 use netlist::{Module, Name, Width, Wiring};
 use std::alloc::{AllocError, Global};
@@ -29,7 +29,7 @@ fn din_name(place: usize) -> &'static [u8]
     }
 }
 
-/// The name of the input of this number, `rst` being input 0.
+// The name of the input of this number, `rst` being input 0.
 fn input_name(enable: bool, place: usize) -> &'static [u8]
     ensures { result.now ≡ name_at (all_inputs enable) place }
 {
@@ -41,7 +41,7 @@ fn input_name(enable: bool, place: usize) -> &'static [u8]
     }
 }
 
-/// The name of the output of this number, `valid` being output 0.
+// The name of the output of this number, `valid` being output 0.
 fn output_name(place: usize) -> &'static [u8]
     ensures { result.now ≡ name_at all_outputs place }
 {
@@ -66,7 +66,7 @@ fn output_name(place: usize) -> &'static [u8]
     }
 }
 
-fn push_number(out: &mut Vec<u8>, number: u8) -> Result<(), Memory>
+fn push_number(out: &mut Vec<u8>, number: u8) -> Result<(), OutOfMemory>
     ensures { OnOk result (out.new.items ≡ out.old.items ++ decimal number) }
 {
     let mut digits = Buffer::new();
@@ -74,8 +74,8 @@ fn push_number(out: &mut Vec<u8>, number: u8) -> Result<(), Memory>
     Ok(())
 }
 
-/// Makes room for a variable's identifier and adds it.
-fn add_id(out: &mut Vec<u8>, place: usize) -> Result<(), Memory>
+// Makes room for a variable's identifier and adds it.
+fn add_id(out: &mut Vec<u8>, place: usize) -> Result<(), OutOfMemory>
     ensures { OnOk result (out.new.items ≡ out.old.items ++ id_of place) }
 {
     out.try_reserve(id_length(place))?;
@@ -83,8 +83,8 @@ fn add_id(out: &mut Vec<u8>, place: usize) -> Result<(), Memory>
     Ok(())
 }
 
-/// The kind, the width and the identifier of a variable.
-fn push_kind(out: &mut Vec<u8>, kind: &[u8], width: Width, place: usize) -> Result<(), Memory>
+// The kind, the width and the identifier of a variable.
+fn push_kind(out: &mut Vec<u8>, kind: &[u8], width: Width, place: usize) -> Result<(), OutOfMemory>
     ensures { OnOk result (out.new.items ≡ out.old.items ++ kind_text kind.now width place) }
 {
     out.extend_from_slice(b"$var ")?;
@@ -101,7 +101,7 @@ fn push_variable(
     width: Width,
     place: usize,
     name: &[u8],
-) -> Result<(), Memory>
+) -> Result<(), OutOfMemory>
     ensures { OnOk result (out.new.items ≡ out.old.items ++ variable_text kind.now width place name.now) }
 {
     push_kind(out, kind, width, place)?;
@@ -111,7 +111,7 @@ fn push_variable(
     Ok(())
 }
 
-/// The variable of a name at a place of a list of names.
+// The variable of a name at a place of a list of names.
 fn push_named(
     out: &mut Vec<u8>,
     kind: &[u8],
@@ -119,7 +119,7 @@ fn push_named(
     from: usize,
     place: usize,
     width: Width,
-) -> Result<(), Memory>
+) -> Result<(), OutOfMemory>
     ensures { OnOk result (out.new.items ≡ out.old.items ++ named_text kind.now names.now from place width) }
 {
     let name = match names.get(place) {
@@ -130,8 +130,8 @@ fn push_named(
     push_variable(out, kind, width, id, name)
 }
 
-/// The number of a variable behind others. More than there are numbers find no memory.
-fn place_behind(from: usize, place: usize) -> Result<usize, Memory>
+// The number of a variable behind others. More than there are numbers find no memory.
+fn place_behind(from: usize, place: usize) -> Result<usize, OutOfMemory>
     ensures { IfOk result (λ n. n ≡ from + place) }
 {
     match from.checked_add(place) {
@@ -140,13 +140,18 @@ fn place_behind(from: usize, place: usize) -> Result<usize, Memory>
     }
 }
 
-fn push_input(out: &mut Vec<u8>, enable: bool, place: usize, width: Width) -> Result<(), Memory>
+fn push_input(
+    out: &mut Vec<u8>,
+    enable: bool,
+    place: usize,
+    width: Width,
+) -> Result<(), OutOfMemory>
     ensures { OnOk result (out.new.items ≡ out.old.items ++ input_text enable place width) }
 {
     push_variable(out, b"wire", width, place, input_name(enable, place))
 }
 
-fn push_inputs(out: &mut Vec<u8>, enable: bool, widths: &[Width]) -> Result<(), Memory>
+fn push_inputs(out: &mut Vec<u8>, enable: bool, widths: &[Width]) -> Result<(), OutOfMemory>
     ensures { OnOk result (out.new.items ≡ out.old.items ++ each_at (input_text enable) 0 widths.now) }
 {
     for (k, width) in widths.iter().enumerate() {
@@ -155,14 +160,19 @@ fn push_inputs(out: &mut Vec<u8>, enable: bool, widths: &[Width]) -> Result<(), 
     Ok(())
 }
 
-fn push_output(out: &mut Vec<u8>, from: usize, place: usize, width: Width) -> Result<(), Memory>
+fn push_output(
+    out: &mut Vec<u8>,
+    from: usize,
+    place: usize,
+    width: Width,
+) -> Result<(), OutOfMemory>
     ensures { OnOk result (out.new.items ≡ out.old.items ++ output_text from place width) }
 {
     let id = place_behind(from, place)?;
     push_variable(out, b"wire", width, id, output_name(place))
 }
 
-fn push_outputs(out: &mut Vec<u8>, from: usize, widths: &[Width]) -> Result<(), Memory>
+fn push_outputs(out: &mut Vec<u8>, from: usize, widths: &[Width]) -> Result<(), OutOfMemory>
     ensures { OnOk result (out.new.items ≡ out.old.items ++ each_at (output_text from) 0 widths.now) }
 {
     for (k, width) in widths.iter().enumerate() {
@@ -177,7 +187,7 @@ fn push_nets(
     names: &[Name],
     from: usize,
     widths: &[Width],
-) -> Result<(), Memory>
+) -> Result<(), OutOfMemory>
     ensures { OnOk result (out.new.items ≡ out.old.items ++ each_at (named_text kind.now names.now from) 0 widths.now) }
 {
     for (k, width) in widths.iter().enumerate() {
@@ -186,7 +196,7 @@ fn push_nets(
     Ok(())
 }
 
-fn push_ports(out: &mut Vec<u8>, wiring: &Wiring) -> Result<(), Memory>
+fn push_ports(out: &mut Vec<u8>, wiring: &Wiring) -> Result<(), OutOfMemory>
     ensures { OnOk result (out.new.items ≡ out.old.items ++ ports_text (netlist_of wiring.now)) }
 {
     push_inputs(out, wiring.enable, &wiring.inputs)?;
@@ -194,7 +204,7 @@ fn push_ports(out: &mut Vec<u8>, wiring: &Wiring) -> Result<(), Memory>
     Ok(())
 }
 
-fn push_all(out: &mut Vec<u8>, module: &Module) -> Result<(), Memory>
+fn push_all(out: &mut Vec<u8>, module: &Module) -> Result<(), OutOfMemory>
     ensures { OnOk result (out.new.items ≡ out.old.items ++ variables_text «module».now) }
 {
     let names = module.names();
@@ -208,14 +218,14 @@ fn push_all(out: &mut Vec<u8>, module: &Module) -> Result<(), Memory>
 }
 
 #[tactic(auto, unfolding(crate::specs::Header::scope_head))]
-fn push_scope_head(out: &mut Vec<u8>) -> Result<(), Memory>
+fn push_scope_head(out: &mut Vec<u8>) -> Result<(), OutOfMemory>
     ensures { OnOk result (out.new.items ≡ out.old.items ++ scope_head) }
 {
     out.extend_from_slice(b"$scope module ")?;
     Ok(())
 }
 
-fn push_scope(out: &mut Vec<u8>, name: &[u8]) -> Result<(), Memory>
+fn push_scope(out: &mut Vec<u8>, name: &[u8]) -> Result<(), OutOfMemory>
     ensures { OnOk result (out.new.items ≡ out.old.items ++ scope_text name.now) }
 {
     push_scope_head(out)?;
@@ -225,7 +235,7 @@ fn push_scope(out: &mut Vec<u8>, name: &[u8]) -> Result<(), Memory>
 }
 
 #[tactic(auto, unfolding(crate::specs::Header::timescale_text))]
-fn push_timescale(out: &mut Vec<u8>) -> Result<(), Memory>
+fn push_timescale(out: &mut Vec<u8>) -> Result<(), OutOfMemory>
     ensures { OnOk result (out.new.items ≡ out.old.items ++ timescale_text) }
 {
     out.extend_from_slice(b"$timescale 1 ns $end\n")?;
@@ -233,7 +243,7 @@ fn push_timescale(out: &mut Vec<u8>) -> Result<(), Memory>
 }
 
 #[tactic(auto, unfolding(crate::specs::Header::end_text))]
-fn push_end(out: &mut Vec<u8>) -> Result<(), Memory>
+fn push_end(out: &mut Vec<u8>) -> Result<(), OutOfMemory>
     ensures { OnOk result (out.new.items ≡ out.old.items ++ end_text) }
 {
     out.extend_from_slice(b"$upscope $end\n$enddefinitions $end\n")?;
@@ -241,7 +251,7 @@ fn push_end(out: &mut Vec<u8>) -> Result<(), Memory>
 }
 
 /// The lines of a module's trace before its first time: the time scale, the scope and the variables, which are the ports but the clock, the wires and the registers in the module's order (IEEE Std 1364-2005, 18.2.3). The only error is want of memory.
-pub fn header(alloc: Global, module: &Module) -> Result<Vec<u8>, Memory>
+pub fn header(alloc: Global, module: &Module) -> Result<Vec<u8>, OutOfMemory>
     ensures { IfOk result (λ text. text.items ≡ header_text «module».now) }
 {
     let mut out = Vec::new(alloc);

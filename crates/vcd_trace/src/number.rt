@@ -6,10 +6,10 @@ ghost use Rattle.vcd_trace.specs.Layout.{binary, id_of, value_line};
 
 use netlist::Width;
 
-/// The number of bytes that can stand in an identifier: the printable ones, from `!` on.
+// The number of bytes that can stand in an identifier: the printable ones, from `!` on.
 const ID_BASE: usize = 94;
 
-/// The number of bytes of a variable's identifier.
+// The number of bytes of a variable's identifier.
 #[tactic(auto, using(crate::proofs::Numbers::id_one, crate::proofs::Numbers::id_one_more, crate::proofs::Numbers::id_short))]
 pub(crate) fn id_length(place: usize) -> usize
     ensures length { result ≡ length (id_of place) }
@@ -21,7 +21,7 @@ pub(crate) fn id_length(place: usize) -> usize
     1 + id_length(place / ID_BASE)
 }
 
-/// Adds a variable's identifier, for which there is room.
+// Adds a variable's identifier, for which there is room.
 pub(crate) fn push_id(to: &mut Vec<u8>, place: usize)
     requires { vec_len to.old + length (id_of place) ≤ vec_capacity to.old }
     ensures items { to.new.items ≡ to.old.items ++ id_of place }
@@ -36,7 +36,7 @@ pub(crate) fn push_id(to: &mut Vec<u8>, place: usize)
     }
 }
 
-/// Adds a value in binary, for which there is room.
+// Adds a value in binary, for which there is room.
 fn push_binary(to: &mut Vec<u8>, value: u64)
     requires { vec_len to.old + length (binary value) ≤ vec_capacity to.old }
     ensures items { to.new.items ≡ to.old.items ++ binary value }
@@ -51,7 +51,7 @@ fn push_binary(to: &mut Vec<u8>, value: u64)
     }
 }
 
-/// Adds the line of a variable of one bit and its LF, for which there is room.
+// Adds the line of a variable of one bit and its LF, for which there is room.
 fn push_bit_line(to: &mut Vec<u8>, place: usize, value: u64)
     requires fits { value < 2 }
     requires room { vec_len to.old + length (id_of place) + 2 ≤ vec_capacity to.old }
@@ -64,7 +64,7 @@ fn push_bit_line(to: &mut Vec<u8>, place: usize, value: u64)
     to.push_reserved(b'\n');
 }
 
-/// Adds the line of a variable of several bits and its LF, for which there is room.
+// Adds the line of a variable of several bits and its LF, for which there is room.
 fn push_wide_line(to: &mut Vec<u8>, place: usize, value: u64)
     requires { vec_len to.old + length (binary value) + length (id_of place) + 3 ≤ vec_capacity to.old }
     ensures items { to.new.items ≡ to.old.items ++ 98 ∷ (binary value ++ 32 ∷ (id_of place ++ 10 ∷ [])) }
@@ -78,7 +78,7 @@ fn push_wide_line(to: &mut Vec<u8>, place: usize, value: u64)
     to.push_reserved(b'\n');
 }
 
-/// Adds the line of a variable and its LF, for which there is room.
+// Adds the line of a variable and its LF, for which there is room.
 pub(crate) fn push_value(to: &mut Vec<u8>, width: Width, place: usize, value: u64)
     requires fits { value < 2 ^ width }
     requires room { vec_len to.old + length (value_line width place value) + 1 ≤ vec_capacity to.old }

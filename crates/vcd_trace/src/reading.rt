@@ -7,17 +7,17 @@ ghost use Rattle.vcd_trace.specs.Replayed.{bits_after};
 
 use crate::clock::{TIME_LINE_BYTES, push_time, room_for_line};
 use crate::number::push_value;
-use dk_base::{Memory, bits_for};
+use dk_base::{OutOfMemory, bits_for};
 use netlist::Width;
 
-/// The bytes behind a front.
+// The bytes behind a front.
 pub(crate) fn strip<'a>(front: &[u8], bytes: &'a [u8]) -> Option<&'a [u8]>
     ensures { MatchOption result ((more : List ℕ) → bytes.now ≡ front.now ++ more → ⊥) (λ rest. bytes.now ≡ front.now ++ rest.now) }
 {
     bytes.strip_prefix(front)
 }
 
-/// A number with one binary digit more behind it, or None where the byte is none. One of more than 64 bits is any number.
+// A number with one binary digit more behind it, or None where the byte is none. One of more than 64 bits is any number.
 fn with_bit(value: u64, byte: u8) -> Option<u64>
     ensures { MatchOption result ((bytes : List ℕ) → bits_after value (byte ∷ bytes) ≡ value) (λ next. (bytes : List ℕ) → bits_after value (byte ∷ bytes) < 2 ^ 64 → bits_after next bytes ≡ bits_after value (byte ∷ bytes)) }
 {
@@ -28,7 +28,7 @@ fn with_bit(value: u64, byte: u8) -> Option<u64>
     }
 }
 
-/// The number of the binary digits at the front, where it has at most 64 bits.
+// The number of the binary digits at the front, where it has at most 64 bits.
 fn bits_value(bytes: &[u8]) -> u64
     ensures { bits_after 0 bytes.now < 2 ^ 64 → result ≡ bits_after 0 bytes.now }
 {
@@ -42,7 +42,7 @@ fn bits_value(bytes: &[u8]) -> u64
     value
 }
 
-/// The only value of a variable of one bit whose line may stand at the front.
+// The only value of a variable of one bit whose line may stand at the front.
 fn bit_value(bytes: &[u8]) -> u64
     ensures { (v : ℕ) (rest : List ℕ) → v < 2 → bytes.now ≡ (48 + v) ∷ rest → result ≡ v }
 {
@@ -52,7 +52,7 @@ fn bit_value(bytes: &[u8]) -> u64
     }
 }
 
-/// The only value of a variable of several bits whose line may stand at the front.
+// The only value of a variable of several bits whose line may stand at the front.
 fn wide_value(bytes: &[u8]) -> u64
     ensures { (v : ℕ) (rest : List ℕ) → v < 2 ^ 64 → bytes.now ≡ 98 ∷ (binary v ++ 32 ∷ rest) → result ≡ v }
 {
@@ -62,7 +62,7 @@ fn wide_value(bytes: &[u8]) -> u64
     }
 }
 
-/// The only value of a variable of this width whose line may stand at the front.
+// The only value of a variable of this width whose line may stand at the front.
 fn value_at(width: Width, bytes: &[u8]) -> u64
     ensures { (i v : ℕ) (rest : List ℕ) → v < 2 ^ width → bytes.now ≡ (value_line width i v ++ 10 ∷ []) ++ rest → result ≡ v }
 {
@@ -73,7 +73,7 @@ fn value_at(width: Width, bytes: &[u8]) -> u64
     }
 }
 
-/// Whether a number has at most so many bits.
+// Whether a number has at most so many bits.
 fn fits(width: Width, value: u64) -> bool
     ensures yes { IsTrue result → value < 2 ^ width }
     ensures no { value < 2 ^ width → IsTrue result }
@@ -81,9 +81,14 @@ fn fits(width: Width, value: u64) -> bool
     bits_for(value) <= width.bits()
 }
 
-/// Writes the line of a variable.
+// Writes the line of a variable.
 #[tactic(auto, using(crate::proofs::Rooms::line_fits))]
-fn write_value(line: &mut Vec<u8>, width: Width, place: usize, value: u64) -> Result<(), Memory>
+fn write_value(
+    line: &mut Vec<u8>,
+    width: Width,
+    place: usize,
+    value: u64,
+) -> Result<(), OutOfMemory>
     requires { value < 2 ^ width }
     ensures { OnOk result (line.new.items ≡ value_line width place value ++ 10 ∷ []) }
 {
@@ -93,13 +98,13 @@ fn write_value(line: &mut Vec<u8>, width: Width, place: usize, value: u64) -> Re
     Ok(())
 }
 
-/// The value that the line at the front tells of a variable, and the bytes behind that line. None where it tells none of it.
+// The value that the line at the front tells of a variable, and the bytes behind that line. None where it tells none of it.
 pub(crate) fn told<'a>(
     line: &mut Vec<u8>,
     width: Width,
     place: usize,
     bytes: &'a [u8],
-) -> Result<Option<(u64, &'a [u8])>, Memory>
+) -> Result<Option<(u64, &'a [u8])>, OutOfMemory>
     ensures { IfOk result (λ r. MatchOption r ((v : ℕ) (more : List ℕ) → v < 2 ^ width → bytes.now ≡ (value_line width place v ++ 10 ∷ []) ++ more → ⊥) (λ x. (x.0 < 2 ^ width) × (bytes.now ≡ (value_line width place x.0 ++ 10 ∷ []) ++ x.1.now))) }
 {
     let value = value_at(width, bytes);
@@ -113,8 +118,8 @@ pub(crate) fn told<'a>(
     }
 }
 
-/// Writes the line of a time.
-fn write_time(line: &mut Vec<u8>, time: u64) -> Result<(), Memory>
+// Writes the line of a time.
+fn write_time(line: &mut Vec<u8>, time: u64) -> Result<(), OutOfMemory>
     ensures { OnOk result (line.new.items ≡ time_line time ++ 10 ∷ []) }
 {
     line.clear();
@@ -123,12 +128,12 @@ fn write_time(line: &mut Vec<u8>, time: u64) -> Result<(), Memory>
     Ok(())
 }
 
-/// The bytes behind the line of a time, where that stands at the front.
+// The bytes behind the line of a time, where that stands at the front.
 pub(crate) fn after_time<'a>(
     line: &mut Vec<u8>,
     time: u64,
     bytes: &'a [u8],
-) -> Result<Option<&'a [u8]>, Memory>
+) -> Result<Option<&'a [u8]>, OutOfMemory>
     ensures { IfOk result (λ r. MatchOption r ((more : List ℕ) → bytes.now ≡ (time_line time ++ 10 ∷ []) ++ more → ⊥) (λ rest. bytes.now ≡ (time_line time ++ 10 ∷ []) ++ rest.now)) }
 {
     write_time(line, time)?;

@@ -10,14 +10,14 @@ use crate::reading::{after_time, told};
 use netlist::Width;
 use std::alloc::Global;
 
-/// Whether a clock tells nothing of a variable that has this value.
+// Whether a clock tells nothing of a variable that has this value.
 fn stays(first: bool, before: u64, value: u64) -> bool
     ensures { result ≡ stays_at first before value }
 {
     if first { false } else { before == value }
 }
 
-/// A value, the bytes behind its line, and their line's number.
+// A value, the bytes behind its line, and their line's number.
 #[derive(Clone, Copy, Drop)]
 pub(crate) struct ReadValue<'a> {
     pub value: u64,
@@ -25,7 +25,7 @@ pub(crate) struct ReadValue<'a> {
     pub number: u64,
 }
 
-/// The value of a variable that is told at the front, or else the one that it had.
+// The value of a variable that is told at the front, or else the one that it had.
 fn read_value<'a>(
     line: &mut Vec<u8>,
     first: bool,
@@ -43,7 +43,7 @@ fn read_value<'a>(
     ensures shorter { IfOk result (λ r. length r.rest.now ≤ length bytes.now) }
 {
     match told(line, width, place, bytes) {
-        Err(_) => Err(VcdError::Memory),
+        Err(_) => Err(VcdError::OutOfMemory),
         Ok(None) => {
             if first {
                 return Err(VcdError::Fault { line: number });
@@ -67,7 +67,7 @@ fn read_value<'a>(
     }
 }
 
-/// The values of a clock, the bytes behind its lines, and the number of the line there.
+// The values of a clock, the bytes behind its lines, and the number of the line there.
 #[derive(Drop)]
 pub(crate) struct ReadClock<'a> {
     pub values: Vec<u64>,
@@ -75,7 +75,7 @@ pub(crate) struct ReadClock<'a> {
     pub number: u64,
 }
 
-/// The values of a clock whose time was read.
+// The values of a clock whose time was read.
 fn read_clock<'a>(
     alloc: Global,
     line: &mut Vec<u8>,
@@ -100,7 +100,7 @@ fn read_clock<'a>(
             Err(fault) => return Err(fault),
             Ok(read) => {
                 if values.push(read.value).is_err() {
-                    return Err(VcdError::Memory);
+                    return Err(VcdError::OutOfMemory);
                 }
                 rest = read.rest;
                 line_number = read.number;
@@ -114,7 +114,7 @@ fn read_clock<'a>(
     })
 }
 
-/// The bytes behind the line of a time.
+// The bytes behind the line of a time.
 fn read_time<'a>(
     line: &mut Vec<u8>,
     time: u64,
@@ -125,7 +125,7 @@ fn read_time<'a>(
     ensures shorter { IfOk result (λ rest. length rest.now < length bytes.now) }
 {
     match after_time(line, time, bytes) {
-        Err(_) => Err(VcdError::Memory),
+        Err(_) => Err(VcdError::OutOfMemory),
         Ok(None) => Err(VcdError::Fault { line: number }),
         Ok(Some(rest)) => Ok(rest),
     }
@@ -138,7 +138,7 @@ fn is_done(bytes: &[u8]) -> bool
     bytes.is_empty()
 }
 
-/// The clock at a time, from the line of that time on; None where the text ends behind that line.
+// The clock at a time, from the line of that time on; None where the text ends behind that line.
 pub(crate) fn read_at<'a>(
     alloc: Global,
     line: &mut Vec<u8>,

@@ -5,7 +5,7 @@ ghost use Rattle.cycle_sim.specs.Slots.{all_widths};
 ghost use Rattle.vcd_trace.specs.Told.{room_of};
 
 use crate::clock::{TIME_LINE_BYTES, push_clock, push_time, room_for_lines};
-use dk_base::Memory;
+use dk_base::OutOfMemory;
 use netlist::{Module, Width};
 use std::alloc::{AllocError, Global};
 use std::marker::Model;
@@ -31,7 +31,7 @@ impl Model for Trace {
 }
 
 // The widths of all variables.
-pub(crate) fn widths_of(alloc: Global, module: &Module) -> Result<Vec<Width>, Memory>
+pub(crate) fn widths_of(alloc: Global, module: &Module) -> Result<Vec<Width>, OutOfMemory>
     ensures { IfOk result (λ ws. ws.items ≡ all_widths «module».now.netlist) }
 {
     let wiring = module.wiring();
@@ -43,7 +43,7 @@ pub(crate) fn widths_of(alloc: Global, module: &Module) -> Result<Vec<Width>, Me
 }
 
 // The greatest length of one clock's text. One that is no length finds no memory.
-fn room_for(widths: &[Width]) -> Result<usize, Memory>
+fn room_for(widths: &[Width]) -> Result<usize, OutOfMemory>
     ensures { IfOk result (λ n. n ≡ room_of widths.now) }
 {
     match room_for_lines(widths) {
@@ -63,7 +63,7 @@ impl Trace {
     ghost use Rattle.vcd_trace.specs.Told.{clock_text, end_text, room_of};
 
     /// A trace of a module's run that has told nothing yet. The only error is want of memory.
-    pub fn new(alloc: Global, module: &Module) -> Result<Trace, Memory>
+    pub fn new(alloc: Global, module: &Module) -> Result<Trace, OutOfMemory>
         ensures widths { IfOk result (λ t. t.widths ≡ all_widths «module».now.netlist) }
         ensures time { IfOk result (λ t. t.time ≡ 0) }
     {
@@ -87,7 +87,7 @@ impl Trace {
     }
 
     /// Adds the text of one clock, with the values of the variables before its edge: the time, and the variables whose value changed, at time 0 all of them (IEEE Std 1364-2005, 18.2.1). It takes no memory where the vector has as many free bytes as `room` tells. Without memory the trace is as before.
-    pub fn change(&mut self, values: &[u64], to: &mut Vec<u8>) -> Result<(), Memory>
+    pub fn change(&mut self, values: &[u64], to: &mut Vec<u8>) -> Result<(), OutOfMemory>
         requires values { AreValues self.old.widths values.now }
         requires time { self.old.time + 1 < 2 ^ 64 }
         ensures text { OnOk result (to.new.items ≡ to.old.items ++ clock_text self.old values.now) }
@@ -104,7 +104,7 @@ impl Trace {
         Ok(())
     }
     /// Adds the last line, the time of the clock that is not told. It takes no memory where the vector has as many free bytes as `room` tells.
-    pub fn end(&self, to: &mut Vec<u8>) -> Result<(), Memory>
+    pub fn end(&self, to: &mut Vec<u8>) -> Result<(), OutOfMemory>
         ensures text { OnOk result (to.new.items ≡ to.old.items ++ end_text self.now) }
         ensures room { vec_len to.old + room_of self.now.widths ≤ vec_capacity to.old → IsOk result }
         ensures same { OnErr result (to.new.items ≡ to.old.items) }

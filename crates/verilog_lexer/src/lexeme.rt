@@ -38,7 +38,7 @@ fn line_length(bytes: &[u8]) -> usize
     bytes.iter().take_while(|byte| **byte != b'\n').count()
 }
 
-/// The first byte and the bytes after it.
+// The first byte and the bytes after it.
 pub(crate) fn front(bytes: &[u8]) -> Option<(u8, &[u8])>
     ensures { MatchOption result (bytes.now ≡ []) (λ x. bytes.now ≡ x.0 ∷ x.1.now) }
 {
@@ -106,7 +106,7 @@ fn symbol(first: u8, after: &[u8]) -> Result<(TokenKind, usize), (LexKind, usize
     }
 }
 
-/// What stands at the front of the bytes, the first byte and those after it.
+// What stands at the front of the bytes, the first byte and those after it.
 #[tactic(auto, using(crate::proofs::Runs::word_run, crate::proofs::Runs::number_run, crate::proofs::Runs::constant_run), unfolding(verilog_text::specs::Lexis::lexeme))]
 pub(crate) fn lexeme(
     bytes: &[u8],
@@ -149,7 +149,7 @@ fn behind_block(text: &[u8]) -> Option<&[u8]>
     }
 }
 
-/// The bytes after the white space and comments at the front.
+// The bytes after the white space and comments at the front.
 pub(crate) fn skip(bytes: &[u8]) -> &[u8]
     ensures gap { Gap bytes.now result.now }
     ensures solid { Solid result.now }

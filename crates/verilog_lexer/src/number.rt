@@ -36,7 +36,7 @@ fn with_digit(base: u8, value: u64, digit: u8) -> Option<u64>
     higher.checked_add(u64::from(digit_value(digit)))
 }
 
-/// The number of these digits, unless it passes 64 bits.
+// The number of these digits, unless it passes 64 bits.
 pub(crate) fn value(base: u8, digits: &[u8]) -> Option<u64>
     requires base { 1 ≤ base }
     ensures { MatchOption result (2 ^ 64 ≤ value_of base digits.now) (λ v. v ≡ value_of base digits.now) }
@@ -109,7 +109,7 @@ fn of_size(size: u64, rest: &[u8]) -> Option<Constant>
     in_base(size, base, digits)
 }
 
-/// The sized constant that a run is as a whole.
+// The sized constant that a run is as a whole.
 pub(crate) fn constant(run: &[u8]) -> Option<Constant>
     ensures { result ≡ constant_of run.now }
 {
@@ -124,7 +124,7 @@ fn number_length(bytes: &[u8]) -> usize
     bytes.iter().take_while(|byte| is_in_number(**byte)).count()
 }
 
-/// The longest run of digits and underscores, and what follows it.
+// The longest run of digits and underscores, and what follows it.
 pub(crate) fn digits_first(bytes: &[u8]) -> (&[u8], &[u8])
     ensures front { result.0.now ≡ take (prefix_len in_number bytes.now) bytes.now }
     ensures back { result.1.now ≡ drop (prefix_len in_number bytes.now) bytes.now }

@@ -24,7 +24,7 @@ fn refused_or_name(bytes: &[u8]) -> TokenKind
     }
 }
 
-/// What a word is.
+// What a word is.
 pub(crate) fn word_kind(bytes: &[u8]) -> TokenKind
     ensures { result ≡ word_kind_of bytes.now }
 {

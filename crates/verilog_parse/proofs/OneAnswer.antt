@@ -11,7 +11,7 @@ use Rattle.verilog_text.specs.declared.token.Keyword.TheVariants as keyword
 use Rattle.verilog_text.specs.declared.token.TokenKind.{TokenKind}
 use Rattle.verilog_text.specs.declared.token.TokenKind.TheVariants as kind
 use Rattle.verilog_text.specs.declared.fault.TextFault.{TextFault}
-use Rattle.verilog_text.specs.declared.fault.TextFault.TheVariants.{Lex, Syntax, NotInSubset, Limit, Net, Memory}
+use Rattle.verilog_text.specs.declared.fault.TextFault.TheVariants.{Lex, Syntax, NotInSubset, Limit, Net, OutOfMemory}
 use Rattle.verilog_text.specs.declared.written.Written.{Written}
 use Rattle.verilog_text.specs.Lexis.{HasTokens, HasLexFault}
 use Rattle.verilog_text.specs.Grammar.{named as named_as, Source, source_of, Module, whole}
@@ -75,13 +75,13 @@ not_faulty l text s t w f =
     let e = l.tokens text w.tokens f.tokens w.has_tokens f.has_tokens in
     none_faulty IsModule f.tokens f.index (s, subst (λ x. Module x s) e w.is_module) f.faulty
 
-pub no_fault : OneReading → (text : List ℕ) (s : Source) (f : TextFault) → IsWritten text s → IsParseFault text f → f ≡ Memory
+pub no_fault : OneReading → (text : List ℕ) (s : Source) (f : TextFault) → IsWritten text s → IsParseFault text f → f ≡ OutOfMemory
 no_fault l text s (Lex f) w h = absurd (l.apart text w.tokens f w.has_tokens h)
 no_fault l text s (Syntax x) w h = absurd (not_faulty l text s h.token w h.faulty)
 no_fault l text s (NotInSubset x) w h = absurd (not_faulty l text s h.token w h.faulty)
 no_fault l text s (Limit f) w h = absurd h
 no_fault l text s (Net x f) w h = absurd h
-no_fault l text s Memory w h = refl
+no_fault l text s OutOfMemory w h = refl
 
 same_span : (t u : Token) (a b : Span) → t ≡ u → t.span ≡ a → u.span ≡ b → a ≡ b
 same_span t u a b e p q = sym p ∙ ap (λ x. x.span) e ∙ q
@@ -100,22 +100,22 @@ one_fault l text (Limit f) g a b = absurd a
 one_fault l text (Net x f) g a b = absurd a
 one_fault l text f (Limit g) a b = absurd b
 one_fault l text f (Net x g) a b = absurd b
-one_fault l text Memory g a b = tt
-one_fault l text (Lex f) Memory a b = tt
-one_fault l text (Syntax f) Memory a b = tt
-one_fault l text (NotInSubset f) Memory a b = tt
+one_fault l text OutOfMemory g a b = tt
+one_fault l text (Lex f) OutOfMemory a b = tt
+one_fault l text (Syntax f) OutOfMemory a b = tt
+one_fault l text (NotInSubset f) OutOfMemory a b = tt
 
 -- the answers of a call
 abbrev Answers : List ℕ → Result Written TextFault → Type 0
 Answers text r = MatchResult r (λ w. IsWritten text (source_of w)) (λ f. IsParseFault text f)
 
-pub accepts : OneReading → (text : List ℕ) (r : Result Written TextFault) → Answers text r → (s : Source) → IsWritten text s → MatchResult r (λ w. source_of w ≡ s) (λ f. f ≡ Memory)
+pub accepts : OneReading → (text : List ℕ) (r : Result Written TextFault) → Answers text r → (s : Source) → IsWritten text s → MatchResult r (λ w. source_of w ≡ s) (λ f. f ≡ OutOfMemory)
 accepts l text (Ok w) a s h =
     let e = l.tokens text a.tokens h.tokens a.has_tokens h.has_tokens in
     l.source h.tokens (source_of w) s (subst (λ x. Module x (source_of w)) e a.is_module) h.is_module
 accepts l text (Err f) a s h = no_fault l text s f h a
 
-pub refuses : OneReading → (text : List ℕ) (r : Result Written TextFault) → Answers text r → (f : TextFault) → IsParseFault text f → MatchResult r (λ w. f ≡ Memory) (λ g. Agrees g f)
+pub refuses : OneReading → (text : List ℕ) (r : Result Written TextFault) → Answers text r → (f : TextFault) → IsParseFault text f → MatchResult r (λ w. f ≡ OutOfMemory) (λ g. Agrees g f)
 refuses l text (Ok w) a f h = no_fault l text (source_of w) f a h
 refuses l text (Err g) a f h = one_fault l text g f a h
 

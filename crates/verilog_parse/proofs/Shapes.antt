@@ -32,14 +32,14 @@ use Rattle.dk_grammar.specs.Reading.{Phrases, One, Clear, Stuck, end, link}
 use Rattle.dk_grammar.proofs.Clears.{clear_one, clear_then, clear_done, clear_listed, extend}
 use Rattle.dk_grammar.proofs.Chains.{AllClear, AllLive, clear_chain}
 use Rattle.verilog_parse.specs.declared.halt.Halt.{Halt}
-use Rattle.verilog_parse.specs.declared.halt.Halt.TheVariants.{Faulty, Memory}
+use Rattle.verilog_parse.specs.declared.halt.Halt.TheVariants.{Faulty, OutOfMemory}
 use Rattle.verilog_parse.specs.Forms.{Halts, Is, Sign, Word, AName, ACount, AnAtom, Closed, Ended, AfterFirst, AfterItem, AfterAtom, AfterBrace, AfterStart, ARight, AnAssign}
 use Rattle.verilog_parse.specs.Sections.{comma_or_close, ABits, AfterHead, ARanged, AfterLead, APort, Ports, AWire, AfterReg, AReg, AfterArrow, AnUpdate, AfterTarget, is_end, next_target, UpdatesFrom, Updates, ATrigger, ABlock, AfterSection, is_last, next_section, SectionsFrom, Sections, AHeadline, AHead}
 use Rattle.verilog_parse.proofs.Fronts as F
 
 pub halts : {U V : Type 0} {P : Phrases Token U} {Q : Phrases Token V} {mid ts : List Token} → ((at : List Token) → Stuck P mid at → Stuck Q ts at) → (at : List Token) (e : Halt) → Halts P mid at e → Halts Q ts at e
 halts f at Faulty h = f at h
-halts f at Memory h = tt
+halts f at OutOfMemory h = tt
 
 pub sign : (s : Symbol) → Clear (Sign s)
 sign s = clear_one (F.is_class (kind.Symbol s))

@@ -23,12 +23,12 @@ use Rattle.verilog_parse.specs.declared.kind.Item.TheVariants as items
 use Rattle.verilog_parse.specs.declared.kind.Follow.{Follow}
 use Rattle.verilog_parse.specs.declared.kind.Follow.TheVariants as follow
 use Rattle.verilog_parse.specs.declared.halt.Halt.{Halt}
-use Rattle.verilog_parse.specs.declared.halt.Halt.TheVariants.{Faulty, Memory}
+use Rattle.verilog_parse.specs.declared.halt.Halt.TheVariants.{Faulty, OutOfMemory}
 
 -- where the cursor stands at a fault
 abbrev pub Halts : {V : Type 0} → Phrases Token V → List Token → List Token → Halt → Type 0
 Halts P ts at Faulty = Stuck P ts at
-Halts P ts at Memory = Unit {0}
+Halts P ts at OutOfMemory = Unit {0}
 
 -- a token of this kind
 abbrev pub Is : TokenKind → Token → Unit {0} → Type 0

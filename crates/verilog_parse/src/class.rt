@@ -16,7 +16,7 @@ use verilog_lexer::Tokens;
 use verilog_text::{Count, Keyword, Symbol, TokenKind};
 use wiring::Atom;
 
-/// A name.
+// A name.
 pub(crate) fn name(tokens: &mut Tokens<'_>) -> Result<Span, Halt>
     ensures parsed { MatchResult result (λ v. One (Gives named_of) tokens.old v tokens.new) (λ e. Halts (One (Gives named_of)) tokens.old tokens.new e) }
 {
@@ -30,7 +30,7 @@ pub(crate) fn name(tokens: &mut Tokens<'_>) -> Result<Span, Halt>
     }
 }
 
-/// A name or a sized constant.
+// A name or a sized constant.
 pub(crate) fn atom(tokens: &mut Tokens<'_>) -> Result<Atom<Span>, Halt>
     ensures parsed { MatchResult result (λ v. One (Gives atomic_of) tokens.old v tokens.new) (λ e. Halts (One (Gives atomic_of)) tokens.old tokens.new e) }
 {
@@ -44,7 +44,7 @@ pub(crate) fn atom(tokens: &mut Tokens<'_>) -> Result<Atom<Span>, Halt>
     }
 }
 
-/// A plain number.
+// A plain number.
 pub(crate) fn count(tokens: &mut Tokens<'_>) -> Result<Count, Halt>
     ensures parsed { MatchResult result (λ v. One (Gives counted_of) tokens.old v tokens.new) (λ e. Halts (One (Gives counted_of)) tokens.old tokens.new e) }
 {
@@ -58,7 +58,7 @@ pub(crate) fn count(tokens: &mut Tokens<'_>) -> Result<Count, Halt>
     }
 }
 
-/// What a right side begins with.
+// What a right side begins with.
 pub(crate) fn start(tokens: &mut Tokens<'_>) -> Result<Start, Halt>
     ensures parsed { MatchResult result (λ v. One (Gives starting_of) tokens.old v tokens.new) (λ e. Halts (One (Gives starting_of)) tokens.old tokens.new e) }
 {
@@ -72,7 +72,7 @@ pub(crate) fn start(tokens: &mut Tokens<'_>) -> Result<Start, Halt>
     }
 }
 
-/// What stands first in brackets.
+// What stands first in brackets.
 pub(crate) fn item(tokens: &mut Tokens<'_>) -> Result<Item, Halt>
     ensures parsed { MatchResult result (λ v. One (Gives item_of) tokens.old v tokens.new) (λ e. Halts (One (Gives item_of)) tokens.old tokens.new e) }
 {
@@ -86,7 +86,7 @@ pub(crate) fn item(tokens: &mut Tokens<'_>) -> Result<Item, Halt>
     }
 }
 
-/// What follows this atom at the start of a right side.
+// What follows this atom at the start of a right side.
 pub(crate) fn follow(before: &Atom<Span>, tokens: &mut Tokens<'_>) -> Result<Follow, Halt>
     ensures parsed { MatchResult result (λ v. One (Gives (λ k s. following_of before.now k)) tokens.old v tokens.new) (λ e. Halts (One (Gives (λ k s. following_of before.now k))) tokens.old tokens.new e) }
 {
@@ -100,7 +100,7 @@ pub(crate) fn follow(before: &Atom<Span>, tokens: &mut Tokens<'_>) -> Result<Fol
     }
 }
 
-/// `:`, behind which a number follows, or `]`.
+// `:`, behind which a number follows, or `]`.
 pub(crate) fn colon_or_close(tokens: &mut Tokens<'_>) -> Result<bool, Halt>
     ensures parsed { MatchResult result (λ v. One (Gives (λ k s. colon_or_close_of k)) tokens.old v tokens.new) (λ e. Halts (One (Gives (λ k s. colon_or_close_of k))) tokens.old tokens.new e) }
 {
@@ -114,7 +114,7 @@ pub(crate) fn colon_or_close(tokens: &mut Tokens<'_>) -> Result<bool, Halt>
     }
 }
 
-/// `,`, behind which a port follows, or `)`.
+// `,`, behind which a port follows, or `)`.
 pub(crate) fn comma_or_close(tokens: &mut Tokens<'_>) -> Result<bool, Halt>
     ensures parsed { MatchResult result (λ v. One (Gives (λ k s. comma_or_close_of k)) tokens.old v tokens.new) (λ e. Halts (One (Gives (λ k s. comma_or_close_of k))) tokens.old tokens.new e) }
 {
@@ -128,7 +128,7 @@ pub(crate) fn comma_or_close(tokens: &mut Tokens<'_>) -> Result<bool, Halt>
     }
 }
 
-/// The direction of a port.
+// The direction of a port.
 pub(crate) fn direction(tokens: &mut Tokens<'_>) -> Result<Direction, Halt>
     ensures parsed { MatchResult result (λ v. One (Gives (λ k s. directed_of k)) tokens.old v tokens.new) (λ e. Halts (One (Gives (λ k s. directed_of k))) tokens.old tokens.new e) }
 {
@@ -142,7 +142,7 @@ pub(crate) fn direction(tokens: &mut Tokens<'_>) -> Result<Direction, Halt>
     }
 }
 
-/// What a name with its range begins with.
+// What a name with its range begins with.
 pub(crate) fn head(tokens: &mut Tokens<'_>) -> Result<Head, Halt>
     ensures parsed { MatchResult result (λ v. One (Gives heading_of) tokens.old v tokens.new) (λ e. Halts (One (Gives heading_of)) tokens.old tokens.new e) }
 {
@@ -156,7 +156,7 @@ pub(crate) fn head(tokens: &mut Tokens<'_>) -> Result<Head, Halt>
     }
 }
 
-/// What follows the direction of a port.
+// What follows the direction of a port.
 pub(crate) fn lead(tokens: &mut Tokens<'_>) -> Result<Lead, Halt>
     ensures parsed { MatchResult result (λ v. One (Gives leading_of) tokens.old v tokens.new) (λ e. Halts (One (Gives leading_of)) tokens.old tokens.new e) }
 {
@@ -170,7 +170,7 @@ pub(crate) fn lead(tokens: &mut Tokens<'_>) -> Result<Lead, Halt>
     }
 }
 
-/// What follows the name of a register or an array.
+// What follows the name of a register or an array.
 pub(crate) fn tail(tokens: &mut Tokens<'_>) -> Result<Tail, Halt>
     ensures parsed { MatchResult result (λ v. One (Gives (λ k s. tailing_of k)) tokens.old v tokens.new) (λ e. Halts (One (Gives (λ k s. tailing_of k))) tokens.old tokens.new e) }
 {
@@ -184,7 +184,7 @@ pub(crate) fn tail(tokens: &mut Tokens<'_>) -> Result<Tail, Halt>
     }
 }
 
-/// What follows the name of what is updated.
+// What follows the name of what is updated.
 pub(crate) fn arrow(tokens: &mut Tokens<'_>) -> Result<Arrow, Halt>
     ensures parsed { MatchResult result (λ v. One (Gives (λ k s. arrowing_of k)) tokens.old v tokens.new) (λ e. Halts (One (Gives (λ k s. arrowing_of k))) tokens.old tokens.new e) }
 {
@@ -198,7 +198,7 @@ pub(crate) fn arrow(tokens: &mut Tokens<'_>) -> Result<Arrow, Halt>
     }
 }
 
-/// What an update begins with, or the end of the block.
+// What an update begins with, or the end of the block.
 pub(crate) fn target(tokens: &mut Tokens<'_>) -> Result<Target, Halt>
     ensures parsed { MatchResult result (λ v. One (Gives targeting_of) tokens.old v tokens.new) (λ e. Halts (One (Gives targeting_of)) tokens.old tokens.new e) }
 {
@@ -212,7 +212,7 @@ pub(crate) fn target(tokens: &mut Tokens<'_>) -> Result<Target, Halt>
     }
 }
 
-/// The first word of a section.
+// The first word of a section.
 pub(crate) fn section(tokens: &mut Tokens<'_>) -> Result<Section, Halt>
     ensures parsed { MatchResult result (λ v. One (Gives (λ k s. section_of k)) tokens.old v tokens.new) (λ e. Halts (One (Gives (λ k s. section_of k))) tokens.old tokens.new e) }
 {
@@ -226,7 +226,7 @@ pub(crate) fn section(tokens: &mut Tokens<'_>) -> Result<Section, Halt>
     }
 }
 
-/// The first word of the section behind this one.
+// The first word of the section behind this one.
 pub(crate) fn section_after(before: Section, tokens: &mut Tokens<'_>) -> Result<Section, Halt>
     requires { is_last before ≡ false }
     ensures parsed { MatchResult result (λ v. One (Gives (λ k s. section_after_of before k)) tokens.old v tokens.new) (λ e. Halts (One (Gives (λ k s. section_after_of before k))) tokens.old tokens.new e) }
@@ -241,7 +241,7 @@ pub(crate) fn section_after(before: Section, tokens: &mut Tokens<'_>) -> Result<
     }
 }
 
-/// This symbol.
+// This symbol.
 pub(crate) fn sign(symbol: Symbol, tokens: &mut Tokens<'_>) -> Result<(), Halt>
     ensures parsed { MatchResult result (λ v. One (Is (Sym symbol)) tokens.old v tokens.new) (λ e. Halts (One (Is (Sym symbol))) tokens.old tokens.new e) }
 {
@@ -254,7 +254,7 @@ pub(crate) fn sign(symbol: Symbol, tokens: &mut Tokens<'_>) -> Result<(), Halt>
     }
 }
 
-/// This word.
+// This word.
 pub(crate) fn word(word: Keyword, tokens: &mut Tokens<'_>) -> Result<(), Halt>
     ensures parsed { MatchResult result (λ v. One (Is (Key word)) tokens.old v tokens.new) (λ e. Halts (One (Is (Key word))) tokens.old tokens.new e) }
 {
@@ -267,7 +267,7 @@ pub(crate) fn word(word: Keyword, tokens: &mut Tokens<'_>) -> Result<(), Halt>
     }
 }
 
-/// The name `clk`.
+// The name `clk`.
 pub(crate) fn clock(tokens: &mut Tokens<'_>) -> Result<(), Halt>
     ensures parsed { MatchResult result (λ v. One (Is Clock) tokens.old v tokens.new) (λ e. Halts (One (Is Clock)) tokens.old tokens.new e) }
 {
@@ -280,7 +280,7 @@ pub(crate) fn clock(tokens: &mut Tokens<'_>) -> Result<(), Halt>
     }
 }
 
-/// The end of the text, which stays the next token.
+// The end of the text, which stays the next token.
 pub(crate) fn end(tokens: &Tokens<'_>) -> Result<(), Halt>
     ensures parsed { MatchResult result (λ v. One (Is End) tokens.now v []) (λ e. Halts (One (Is End)) tokens.now tokens.now e) }
 {

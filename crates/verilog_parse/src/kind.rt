@@ -4,7 +4,7 @@ use dk_base::Span;
 use verilog_text::{Count, Range};
 use wiring::{Atom, Operator};
 
-/// What a right side begins with.
+// What a right side begins with.
 #[derive(Clone, Copy, Drop)]
 pub(crate) enum Start {
     Tilde,
@@ -12,14 +12,14 @@ pub(crate) enum Start {
     Atom(Atom<Span>),
 }
 
-/// What stands first in brackets.
+// What stands first in brackets.
 #[derive(Clone, Copy, Drop)]
 pub(crate) enum Item {
     Count(Count),
     Atom(Atom<Span>),
 }
 
-/// What follows an atom at the start of a right side. Square brackets follow a name only.
+// What follows an atom at the start of a right side. Square brackets follow a name only.
 #[derive(Clone, Copy, Drop)]
 pub(crate) enum Follow {
     End,
@@ -28,49 +28,49 @@ pub(crate) enum Follow {
     Square(Span),
 }
 
-/// What a name with its range begins with.
+// What a name with its range begins with.
 #[derive(Clone, Copy, Drop)]
 pub(crate) enum Head {
     Square,
     Name(Span),
 }
 
-/// What follows the direction of a port.
+// What follows the direction of a port.
 #[derive(Clone, Copy, Drop)]
 pub(crate) enum Lead {
     Wire,
     Head(Head),
 }
 
-/// A name with its range, where one is written.
+// A name with its range, where one is written.
 #[derive(Clone, Copy, Drop)]
 pub(crate) struct RangedName {
     pub bits: Option<Range>,
     pub name: Span,
 }
 
-/// What follows the name of a register or an array.
+// What follows the name of a register or an array.
 #[derive(Clone, Copy, Drop)]
 pub(crate) enum Tail {
     End,
     Words,
 }
 
-/// What follows the name of what is updated.
+// What follows the name of what is updated.
 #[derive(Clone, Copy, Drop)]
 pub(crate) enum Arrow {
     Takes,
     Index,
 }
 
-/// What an update begins with, or the end of the block.
+// What an update begins with, or the end of the block.
 #[derive(Clone, Copy, Drop)]
 pub(crate) enum Target {
     Name(Span),
     End,
 }
 
-/// A section of a module behind its ports, by its first word.
+// A section of a module behind its ports, by its first word.
 #[derive(Clone, Copy, Drop)]
 pub(crate) enum Section {
     Wire,

@@ -119,7 +119,7 @@ fn sections(written: &mut Written, tokens: &mut Tokens<'_>) -> Result<(), Halt>
     Ok(())
 }
 
-/// A module and the end of the text.
+// A module and the end of the text.
 pub(crate) fn module(alloc: Global, tokens: &mut Tokens<'_>) -> Result<Written, Halt>
     ensures parsed { MatchResult result (λ v. AModule tokens.old (source_of v) []) (λ e. Halts AModule tokens.old tokens.new e) }
 {

@@ -11,7 +11,7 @@ use std::alloc::Global;
 use verilog_lexer::Tokens;
 use verilog_text::{Range, Symbol, WrittenPort};
 
-/// A range behind its `[`.
+// A range behind its `[`.
 pub(crate) fn bits(tokens: &mut Tokens<'_>) -> Result<Range, Halt>
     ensures parsed { MatchResult result (λ v. ABits tokens.old v tokens.new) (λ e. Halts ABits tokens.old tokens.new e) }
 {
@@ -38,7 +38,7 @@ fn after_head(head: Head, tokens: &mut Tokens<'_>) -> Result<RangedName, Halt>
     }
 }
 
-/// A name with its range, where one is written.
+// A name with its range, where one is written.
 pub(crate) fn ranged(tokens: &mut Tokens<'_>) -> Result<RangedName, Halt>
     ensures parsed { MatchResult result (λ v. ARanged tokens.old v tokens.new) (λ e. Halts ARanged tokens.old tokens.new e) }
 {
@@ -75,7 +75,7 @@ fn port(tokens: &mut Tokens<'_>) -> Result<WrittenPort, Halt>
     })
 }
 
-/// The ports and their `)`.
+// The ports and their `)`.
 pub(crate) fn ports(alloc: Global, tokens: &mut Tokens<'_>) -> Result<Vec<WrittenPort>, Halt>
     ensures parsed { MatchResult result (λ v. Ports tokens.old v.items tokens.new) (λ e. Halts Ports tokens.old tokens.new e) }
 {

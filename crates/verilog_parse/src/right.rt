@@ -11,7 +11,7 @@ use verilog_lexer::Tokens;
 use verilog_text::{Count, Symbol, WrittenAssign, WrittenRight};
 use wiring::Atom;
 
-/// An atom and the symbol after it.
+// An atom and the symbol after it.
 pub(crate) fn closed(symbol: Symbol, tokens: &mut Tokens<'_>) -> Result<Atom<Span>, Halt>
     ensures parsed { MatchResult result (λ v. Closed symbol tokens.old v tokens.new) (λ e. Halts (Closed symbol) tokens.old tokens.new e) }
 {
@@ -142,7 +142,7 @@ fn right(tokens: &mut Tokens<'_>) -> Result<WrittenRight, Halt>
     Ok(right)
 }
 
-/// What stands behind `assign`.
+// What stands behind `assign`.
 pub(crate) fn assign(tokens: &mut Tokens<'_>) -> Result<WrittenAssign, Halt>
     ensures parsed { MatchResult result (λ v. AnAssign tokens.old v tokens.new) (λ e. Halts AnAssign tokens.old tokens.new e) }
 {

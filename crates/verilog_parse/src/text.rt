@@ -2,7 +2,7 @@
 
 ghost use Rattle.std.specs.Prelude.{◌≡◌, ℕ, List, IfOk, IfErr, MatchResult};
 ghost use Rattle.verilog_text.specs.declared.fault.TextFault.{TextFault as OneFault};
-ghost use Rattle.verilog_text.specs.declared.fault.TextFault.TheVariants.{Memory};
+ghost use Rattle.verilog_text.specs.declared.fault.TextFault.TheVariants.{OutOfMemory};
 ghost use Rattle.verilog_text.specs.Grammar.{Source, source_of};
 ghost use Rattle.verilog_text.specs.Stands.{IsWritten};
 ghost use Rattle.verilog_text.specs.Faults.{Agrees};
@@ -24,8 +24,8 @@ pub fn parse(alloc: Global, text: &[u8]) -> Result<Written, TextFault>
     ensures named { IfOk result (λ w. IsNamedSource text.now (source_of w)) }
 
     // What is so is answered, but for want of memory.
-    ensures accepts { (s : Source) → IsWritten text.now s → MatchResult result (λ w. source_of w ≡ s) (λ f. f ≡ Memory) }
-    ensures refuses { (f : OneFault) → IsParseFault text.now f → MatchResult result (λ w. f ≡ Memory) (λ g. Agrees g f) }
+    ensures accepts { (s : Source) → IsWritten text.now s → MatchResult result (λ w. source_of w ≡ s) (λ f. f ≡ OutOfMemory) }
+    ensures refuses { (f : OneFault) → IsParseFault text.now f → MatchResult result (λ w. f ≡ OutOfMemory) (λ g. Agrees g f) }
 {
     verilog_text::one_reading();
     read(alloc, text)
@@ -51,7 +51,7 @@ fn read(alloc: Global, text: &[u8]) -> Result<Written, TextFault>
     match module(alloc, &mut tokens) {
         Ok(written) => Ok(written),
         Err(Halt::Faulty) => Err(fault_at(tokens.peek())),
-        Err(Halt::Memory) => Err(TextFault::Memory),
+        Err(Halt::OutOfMemory) => Err(TextFault::OutOfMemory),
     }
 }
 

@@ -96,7 +96,7 @@ fn trigger(tokens: &mut Tokens<'_>) -> Result<(), Halt>
     Ok(())
 }
 
-/// What stands behind `always`. The updates are added to those that are there.
+// What stands behind `always`. The updates are added to those that are there.
 pub(crate) fn block(list: &mut Vec<WrittenUpdate>, tokens: &mut Tokens<'_>) -> Result<(), Halt>
     ensures parsed { MatchResult result (λ v. (us : List OneUpdate) × ABlock tokens.old us tokens.new × (list.new.items ≡ list.old.items ++ us)) (λ e. Halts ABlock tokens.old tokens.new e) }
 {

@@ -10,7 +10,7 @@ use crate::right::push_right;
 use netlist::{Assign, Atom, Module, Name, Net, Shape, Update, Width};
 use std::alloc::AllocError;
 
-/// A word, the bits and a name.
+// A word, the bits and a name.
 pub(crate) fn push_named(
     out: &mut Vec<u8>,
     word: &[u8],
@@ -113,7 +113,7 @@ fn push_update(out: &mut Vec<u8>, module: &Module, update: &Update) -> Result<()
     }
 }
 
-/// A line for each net of one sort.
+// A line for each net of one sort.
 pub(crate) fn push_nets(
     out: &mut Vec<u8>,
     word: &[u8],

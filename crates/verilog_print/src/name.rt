@@ -24,7 +24,7 @@ fn din_name(place: usize) -> &'static [u8]
     }
 }
 
-/// The name of the input of this number, `rst` being input 0.
+// The name of the input of this number, `rst` being input 0.
 pub(crate) fn input_name(enable: bool, place: usize) -> &'static [u8]
     ensures { result.now ≡ name_at (all_inputs enable) place }
 {
@@ -36,7 +36,7 @@ pub(crate) fn input_name(enable: bool, place: usize) -> &'static [u8]
     }
 }
 
-/// The name of the output of this number, `valid` being output 0.
+// The name of the output of this number, `valid` being output 0.
 pub(crate) fn output_name(place: usize) -> &'static [u8]
     ensures { result.now ≡ name_at all_outputs place }
 {
@@ -61,7 +61,7 @@ pub(crate) fn output_name(place: usize) -> &'static [u8]
     }
 }
 
-/// Adds the name at this place, where there is one.
+// Adds the name at this place, where there is one.
 pub(crate) fn push_name(out: &mut Vec<u8>, names: &[Name], place: usize) -> Result<(), AllocError>
     ensures { OnOk result (out.new.items ≡ out.old.items ++ name_at names.now place) }
 {

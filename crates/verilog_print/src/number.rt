@@ -24,7 +24,7 @@ pub(crate) fn push_constant(out: &mut Vec<u8>, constant: Constant) -> Result<(),
     Ok(())
 }
 
-/// The range of this many bits, and a blank; nothing for one bit.
+// The range of this many bits, and a blank; nothing for one bit.
 pub(crate) fn push_range(out: &mut Vec<u8>, width: Width) -> Result<(), AllocError>
     ensures { OnOk result (out.new.items ≡ out.old.items ++ range_layout width) }
 {

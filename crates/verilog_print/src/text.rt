@@ -12,7 +12,7 @@ use crate::name::{input_name, output_name};
 use netlist::{Module, Update, Width};
 use std::alloc::{AllocError, Global};
 
-/// The bytes that are kept ready for a declaration and for a statement.
+// The bytes that are kept ready for a declaration and for a statement.
 const DECLARATION_BYTES: usize = 24;
 
 const STATEMENT_BYTES: usize = 48;

@@ -16,7 +16,7 @@ use Rattle.netlist.specs.declared.fault.Statement.TheVariants.{Assign as AssignA
 use Rattle.netlist.specs.declared.parts.NamedAssign.{NamedAssign}
 use Rattle.netlist.specs.declared.parts.NamedUpdate.{NamedUpdate}
 use Rattle.netlist.specs.declared.fault.NetFault.{NetFault}
-use Rattle.netlist.specs.declared.fault.NetFault.TheVariants.{Duplicate, Ports, Unknown, WrongSort, Divisor, Width, DrivenTwice, Undriven, Cycle, Memory}
+use Rattle.netlist.specs.declared.fault.NetFault.TheVariants.{Duplicate, Ports, Unknown, WrongSort, Divisor, Width, DrivenTwice, Undriven, Cycle, OutOfMemory}
 use Rattle.netlist.specs.Scopes.{Entry, port_entries, all_ports, inputs_after, outputs_after, declared_entries, wires_after, regs_after, arrays_after, scope_of, assign_named, update_named, collected}
 use Rattle.netlist.specs.Faults.{IsPlace, FirstStatement, IsFault, entry_names}
 use Rattle.verilog_text.specs.Grammar.{Source}
@@ -123,4 +123,4 @@ module _ (text : List ℕ) (s : Source) (p : Parts) (are : ArePartsOf text s p) 
       let l = depends_at (collected (assign_named (scope_of p)) p.assigns.items) h.1 in
       let n = collected_few (assign_named (scope_of p)) p.assigns.items in
       assign_written k (omega (arith, l, n))
-  fault_written Memory h = tt
+  fault_written OutOfMemory h = tt

@@ -1,7 +1,7 @@
 -- Net faults that have a span.
 use Rattle.std.specs.Prelude.{IsSome}
 use Rattle.netlist.specs.declared.fault.NetFault.{NetFault}
-use Rattle.netlist.specs.declared.fault.NetFault.TheVariants.{Duplicate, Ports, Unknown, WrongSort, Divisor, Width, DrivenTwice, Undriven, Cycle, Memory}
+use Rattle.netlist.specs.declared.fault.NetFault.TheVariants.{Duplicate, Ports, Unknown, WrongSort, Divisor, Width, DrivenTwice, Undriven, Cycle, OutOfMemory}
 use Rattle.verilog_text.specs.Grammar.{Source}
 use Rattle.verilog_text.specs.Faults.{fault_span}
 
@@ -16,4 +16,4 @@ IsOf s (Width t) = IsSome (fault_span s (Width t))
 IsOf s (DrivenTwice t) = IsSome (fault_span s (DrivenTwice t))
 IsOf s (Undriven d) = IsSome (fault_span s (Undriven d))
 IsOf s (Cycle k) = IsSome (fault_span s (Cycle k))
-IsOf s Memory = Unit {0}
+IsOf s OutOfMemory = Unit {0}

@@ -60,7 +60,7 @@ fn check_words(words: &Range) -> Result<(), LimitFault>
     })
 }
 
-/// The width of a range of bits, which is 1 where there is none.
+// The width of a range of bits, which is 1 where there is none.
 pub fn width_of(bits: &Option<Range>) -> u8
     requires { width_fault bits.now ≡ None }
     ensures value { result ≡ bits_in bits.now }
@@ -72,7 +72,7 @@ pub fn width_of(bits: &Option<Range>) -> u8
     }
 }
 
-/// The words of an array.
+// The words of an array.
 pub fn depth_of(words: &Range) -> u32
     requires { words_fault words.now ≡ None }
     ensures value { result ≡ words_in words.now }
@@ -188,7 +188,7 @@ fn check_assigns(assigns: &[WrittenAssign]) -> Result<(), LimitFault>
     Ok(())
 }
 
-/// Nothing where what is written is within the limits, else the first limit that is passed.
+// Nothing where what is written is within the limits, else the first limit that is passed.
 pub fn check_limits(written: &Written) -> Result<(), LimitFault>
     ensures { MatchResult result (λ u. limit_fault (source_of written.now) ≡ None) (λ f. limit_fault (source_of written.now) ≡ Some f) }
 {

@@ -8,7 +8,7 @@ ghost use Rattle.verilog_read.specs.Within.{WordsFit, PortFits, DeclarationFits,
 ghost use Rattle.verilog_parse.specs.Named.{IsNameSpan, IsNamedAtom, IsNamedRight, IsNamedAssign, IsNamedUpdate, IsNamedSource};
 
 use crate::limits::{depth_of, width_of};
-use dk_base::{Memory, Span};
+use dk_base::{OutOfMemory, Span};
 use net_names::Name;
 use netlist::{Declaration, NamedAssign, NamedUpdate, Parts, Port, Sort};
 use std::alloc::Global;
@@ -19,7 +19,7 @@ use verilog_text::{
 use wiring::{Atom, Depth, Right, Shape, Width};
 
 // The name that stands at a span.
-fn name_at(alloc: Global, text: &[u8], span: Span) -> Result<Name, Memory>
+fn name_at(alloc: Global, text: &[u8], span: Span) -> Result<Name, OutOfMemory>
     requires { IsNameSpan text.now span }
     ensures { IfOk result (λ n. n ≡ bytes_at text.now span) }
 {
@@ -29,7 +29,7 @@ fn name_at(alloc: Global, text: &[u8], span: Span) -> Result<Name, Memory>
     Ok(Name::new(bytes))
 }
 
-fn atom_of(alloc: Global, text: &[u8], atom: &Atom<Span>) -> Result<Atom<Name>, Memory>
+fn atom_of(alloc: Global, text: &[u8], atom: &Atom<Span>) -> Result<Atom<Name>, OutOfMemory>
     requires { IsNamedAtom text.now atom.now }
     ensures { IfOk result (λ a. a ≡ named_atom text.now atom.now) }
 {
@@ -42,7 +42,7 @@ fn atom_of(alloc: Global, text: &[u8], atom: &Atom<Span>) -> Result<Atom<Name>, 
     }
 }
 
-fn port_of(alloc: Global, text: &[u8], port: &WrittenPort) -> Result<Port, Memory>
+fn port_of(alloc: Global, text: &[u8], port: &WrittenPort) -> Result<Port, OutOfMemory>
     requires name { IsNameSpan text.now port.now.name }
     requires width { width_fault port.now.bits ≡ None }
     ensures { IfOk result (λ p. p ≡ named_port text.now port.now) }
@@ -76,7 +76,7 @@ fn declaration_of(
     alloc: Global,
     text: &[u8],
     declaration: &WrittenDeclaration,
-) -> Result<Declaration, Memory>
+) -> Result<Declaration, OutOfMemory>
     requires name { IsNameSpan text.now declaration.now.name }
     requires width { width_fault declaration.now.bits ≡ None }
     requires words { WordsFit declaration.now.sort }
@@ -87,7 +87,11 @@ fn declaration_of(
     Ok(Declaration { name, sort })
 }
 
-fn right_of(alloc: Global, text: &[u8], right: &WrittenRight) -> Result<Right<Name, Name>, Memory>
+fn right_of(
+    alloc: Global,
+    text: &[u8],
+    right: &WrittenRight,
+) -> Result<Right<Name, Name>, OutOfMemory>
     requires names { IsNamedRight text.now right.now }
     requires count { right_fault right.now ≡ None }
     ensures { IfOk result (λ r. r ≡ named_right text.now right.now) }
@@ -137,7 +141,7 @@ fn right_of(alloc: Global, text: &[u8], right: &WrittenRight) -> Result<Right<Na
     }
 }
 
-fn assign_of(alloc: Global, text: &[u8], assign: &WrittenAssign) -> Result<NamedAssign, Memory>
+fn assign_of(alloc: Global, text: &[u8], assign: &WrittenAssign) -> Result<NamedAssign, OutOfMemory>
     requires names { IsNamedAssign text.now assign.now }
     requires count { right_fault assign.now.right ≡ None }
     ensures { IfOk result (λ a. a ≡ named_assign text.now assign.now) }
@@ -147,7 +151,7 @@ fn assign_of(alloc: Global, text: &[u8], assign: &WrittenAssign) -> Result<Named
     Ok(NamedAssign { target, right })
 }
 
-fn update_of(alloc: Global, text: &[u8], update: &WrittenUpdate) -> Result<NamedUpdate, Memory>
+fn update_of(alloc: Global, text: &[u8], update: &WrittenUpdate) -> Result<NamedUpdate, OutOfMemory>
     requires { IsNamedUpdate text.now update.now }
     ensures { IfOk result (λ u. u ≡ named_update text.now update.now) }
 {
@@ -166,7 +170,7 @@ fn update_of(alloc: Global, text: &[u8], update: &WrittenUpdate) -> Result<Named
     }
 }
 
-fn ports_of(alloc: Global, text: &[u8], ports: &[WrittenPort]) -> Result<Vec<Port>, Memory>
+fn ports_of(alloc: Global, text: &[u8], ports: &[WrittenPort]) -> Result<Vec<Port>, OutOfMemory>
     requires names { All (λ p. IsNameSpan text.now p.name) ports.now }
     requires fit { All PortFits ports.now }
     ensures { IfOk result (λ v. v.items ≡ map (named_port text.now) ports.now) }
@@ -182,7 +186,7 @@ fn declarations_of(
     alloc: Global,
     text: &[u8],
     declarations: &[WrittenDeclaration],
-) -> Result<Vec<Declaration>, Memory>
+) -> Result<Vec<Declaration>, OutOfMemory>
     requires names { All (λ d. IsNameSpan text.now d.name) declarations.now }
     requires fit { All DeclarationFits declarations.now }
     ensures { IfOk result (λ v. v.items ≡ map (named_declaration text.now) declarations.now) }
@@ -198,7 +202,7 @@ fn assigns_of(
     alloc: Global,
     text: &[u8],
     assigns: &[WrittenAssign],
-) -> Result<Vec<NamedAssign>, Memory>
+) -> Result<Vec<NamedAssign>, OutOfMemory>
     requires names { All (IsNamedAssign text.now) assigns.now }
     requires fit { All AssignFits assigns.now }
     ensures { IfOk result (λ v. v.items ≡ map (named_assign text.now) assigns.now) }
@@ -214,7 +218,7 @@ fn updates_of(
     alloc: Global,
     text: &[u8],
     updates: &[WrittenUpdate],
-) -> Result<Vec<NamedUpdate>, Memory>
+) -> Result<Vec<NamedUpdate>, OutOfMemory>
     requires { All (IsNamedUpdate text.now) updates.now }
     ensures { IfOk result (λ v. v.items ≡ map (named_update text.now) updates.now) }
 {
@@ -225,8 +229,8 @@ fn updates_of(
     Ok(items)
 }
 
-/// The parts that are written in a text.
-pub fn parts_of(alloc: Global, text: &[u8], written: &Written) -> Result<Parts, Memory>
+// The parts that are written in a text.
+pub fn parts_of(alloc: Global, text: &[u8], written: &Written) -> Result<Parts, OutOfMemory>
     requires names { IsNamedSource text.now (source_of written.now) }
     requires limits { limit_fault (source_of written.now) ≡ None }
     ensures { IfOk result (ArePartsOf text.now (source_of written.now)) }

@@ -2,11 +2,11 @@
 
 ghost use Rattle.std.specs.Prelude.{◌≡◌, ◌↔◌, IsTrue, ℕ, List, Some, None, IfOk, IfErr, IfSome, IfNone, MatchResult};
 ghost use Rattle.dk_base.specs.declared.span.Span.{Span as OneSpan};
-ghost use Rattle.netlist.specs.declared.fault.NetFault.TheVariants.{Memory as NoMemory};
+ghost use Rattle.netlist.specs.declared.fault.NetFault.TheVariants.{OutOfMemory as NoMemory};
 ghost use Rattle.netlist.specs.Names.{NamedNetlist};
 ghost use Rattle.verilog_read.specs.Spanned.{IsOf};
 ghost use Rattle.verilog_text.specs.declared.fault.TextFault.{TextFault as OneFault};
-ghost use Rattle.verilog_text.specs.declared.fault.TextFault.TheVariants.{Net, Memory};
+ghost use Rattle.verilog_text.specs.declared.fault.TextFault.TheVariants.{Net, OutOfMemory};
 ghost use Rattle.verilog_text.specs.Grammar.{source_of};
 ghost use Rattle.verilog_text.specs.Limits.{limit_fault};
 ghost use Rattle.verilog_text.specs.Stands.{IsWritten, ArePartsOf, StandsFor};
@@ -67,7 +67,7 @@ fn fault_span(written: &Written, fault: NetFault) -> Option<Span>
         NetFault::Width(statement) => driven_span(written, statement),
         NetFault::DrivenTwice(statement) => driven_span(written, statement),
         NetFault::Cycle(k) => driven_span(written, Statement::Assign(k)),
-        NetFault::Memory => None,
+        NetFault::OutOfMemory => None,
     }
 }
 
@@ -75,7 +75,7 @@ fn is_memory(fault: NetFault) -> bool
     ensures { IsTrue result ↔ (fault ≡ NoMemory) }
 {
     match fault {
-        NetFault::Memory => true,
+        NetFault::OutOfMemory => true,
         _ => false,
     }
 }
@@ -84,10 +84,10 @@ fn is_memory(fault: NetFault) -> bool
 fn net_fault(written: &Written, fault: NetFault) -> TextFault
     requires { IsOf (source_of written.now) fault }
     ensures spanned { (span : OneSpan) → span_of_fault (source_of written.now) fault ≡ Some span → result ≡ Net span fault }
-    ensures none { span_of_fault (source_of written.now) fault ≡ None → result ≡ Memory }
+    ensures none { span_of_fault (source_of written.now) fault ≡ None → result ≡ OutOfMemory }
 {
     if is_memory(fault) {
-        return TextFault::Memory;
+        return TextFault::OutOfMemory;
     }
     match fault_span(written, fault) {
         Some(span) => TextFault::Net { span, fault },
@@ -104,7 +104,7 @@ fn module_of(alloc: Global, text: &[u8], written: &Written) -> Result<Module, Te
 {
     let parts = match parts_of(alloc, text, written) {
         Ok(parts) => parts,
-        Err(_) => return Err(TextFault::Memory),
+        Err(_) => return Err(TextFault::OutOfMemory),
     };
     match Module::checked(alloc, parts) {
         Ok(module) => Ok(module),
@@ -140,8 +140,8 @@ pub fn read(alloc: Global, text: &[u8]) -> Result<Module, TextFault>
     ensures fault { IfErr result (IsFault text.now) }
 
     // What is so is answered, but for want of memory.
-    ensures accepts { (m : NamedNetlist) → StandsFor text.now m → MatchResult result (λ n. n ≡ m) (λ f. f ≡ Memory) }
-    ensures refuses { (f : OneFault) → IsFault text.now f → MatchResult result (λ m. f ≡ Memory) (λ g. Agrees g f) }
+    ensures accepts { (m : NamedNetlist) → StandsFor text.now m → MatchResult result (λ n. n ≡ m) (λ f. f ≡ OutOfMemory) }
+    ensures refuses { (f : OneFault) → IsFault text.now f → MatchResult result (λ m. f ≡ OutOfMemory) (λ g. Agrees g f) }
 {
     verilog_text::one_module();
     judged(alloc, text)

@@ -44,7 +44,7 @@ fn ports(alloc: Global) -> Result<Vec<Port>, Fail> {
     Ok(ports)
 }
 
-/// A register between din and dout.
+// A register between din and dout.
 fn delayed(alloc: Global) -> Result<Parts, Fail> {
     let mut parts = Parts {
         name: named(alloc, b"dk")?,

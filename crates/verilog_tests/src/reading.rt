@@ -11,7 +11,7 @@ const HEAD: &[u8] = b"module m(input clk, input rst, input din, output valid, ou
 
 const REST: &[u8] = b"  assign valid = ~rst;\n  assign dout = din;\nendmodule\n";
 
-/// The fault of a sound text with these lines behind its head.
+// The fault of a sound text with these lines behind its head.
 fn fault_with(alloc: Global, lines: &[u8]) -> Result<Option<TextFault>, Fail> {
     let mut text = Vec::from_slice(alloc, HEAD)?;
     text.extend_from_slice(lines)?;

@@ -11,7 +11,7 @@ const BYTES: &str =
 
 const SOUND: &str = " assign valid = ~rst; assign dout = din; endmodule";
 
-/// The net fault of a text, or the buffer bits of its module.
+// The net fault of a text, or the buffer bits of its module.
 fn told(alloc: Global, text: &str) -> Result<String, Fail> {
     let mut told = String::new(alloc);
     match read(alloc, text.as_bytes()) {
@@ -25,7 +25,7 @@ fn told(alloc: Global, text: &str) -> Result<String, Fail> {
     Ok(told)
 }
 
-/// What is told of each of these parts of a text, parted by `|`.
+// What is told of each of these parts of a text, parted by `|`.
 fn all_told(alloc: Global, head: &str, parts: &str, tail: &str) -> Result<String, Fail> {
     let mut all = String::new(alloc);
     for part in parts.split('|') {
@@ -36,7 +36,7 @@ fn all_told(alloc: Global, head: &str, parts: &str, tail: &str) -> Result<String
     Ok(all)
 }
 
-/// In order; clock and reset exchanged; outputs exchanged; no dout; no din; with `en`; two inputs; a second input misnamed; two outputs; two of one name.
+// In order; clock and reset exchanged; outputs exchanged; no dout; no din; with `en`; two inputs; a second input misnamed; two outputs; two of one name.
 #[test]
 fn ports_are_judged(rt: HostRuntime) -> Result<(), Fail> {
     let alloc = rt.alloc();
@@ -57,7 +57,7 @@ fn ports_are_judged(rt: HostRuntime) -> Result<(), Fail> {
     Ok(())
 }
 
-/// Sums: sound, in too narrow a wire, of two widths, of single bits, of the clock, of an unknown net. Quotients: by 1, by 0, by a net, by a constant of another width.
+// Sums: sound, in too narrow a wire, of two widths, of single bits, of the clock, of an unknown net. Quotients: by 1, by 0, by a net, by a constant of another width.
 #[test]
 fn operands_are_judged(rt: HostRuntime) -> Result<(), Fail> {
     let alloc = rt.alloc();
@@ -78,7 +78,7 @@ fn operands_are_judged(rt: HostRuntime) -> Result<(), Fail> {
     Ok(())
 }
 
-/// A second `din`; a wire, a register and an array that nothing drives; an input that is driven, an output that is driven twice; two assigns that feed each other, either of which may be told.
+// A second `din`; a wire, a register and an array that nothing drives; an input that is driven, an output that is driven twice; two assigns that feed each other, either of which may be told.
 #[test]
 fn drivers_are_judged(rt: HostRuntime) -> Result<(), Fail> {
     let alloc = rt.alloc();
@@ -95,7 +95,7 @@ fn drivers_are_judged(rt: HostRuntime) -> Result<(), Fail> {
     Ok(())
 }
 
-/// A register that takes an unknown net, one of another width, two nets; an input that is driven before it takes an unknown net; bits of a register that takes in pixels, and of one that does not; bits of an array; a wire that is read as an array.
+// A register that takes an unknown net, one of another width, two nets; an input that is driven before it takes an unknown net; bits of a register that takes in pixels, and of one that does not; bits of an array; a wire that is read as an array.
 #[test]
 fn updates_are_judged(rt: HostRuntime) -> Result<(), Fail> {
     let alloc = rt.alloc();

@@ -5,7 +5,7 @@ use Rattle.dk_grammar.specs.Reading.{IsFaulty}
 use Rattle.dk_grammar.proofs.Faulty.{one_faulty, none_faulty}
 use Rattle.netlist.specs.declared.parts.Parts.{Parts}
 use Rattle.netlist.specs.declared.fault.NetFault.{NetFault}
-use Rattle.netlist.specs.declared.fault.NetFault.TheVariants.{Duplicate, Ports, Unknown, WrongSort, Divisor, Width, DrivenTwice, Undriven, Cycle, Memory as NoMemory}
+use Rattle.netlist.specs.declared.fault.NetFault.TheVariants.{Duplicate, Ports, Unknown, WrongSort, Divisor, Width, DrivenTwice, Undriven, Cycle, OutOfMemory as NoMemory}
 use Rattle.netlist.specs.Names.{NamedNetlist}
 use Rattle.netlist.specs.Faults.{IsModuleOf, IsFault as IsNetFault, Agrees as NetAgrees}
 use Rattle.verilog_text.specs.declared.token.Token.{Token}
@@ -13,7 +13,7 @@ use Rattle.verilog_text.specs.declared.token.LexFault.{LexFault}
 use Rattle.verilog_text.specs.declared.token.TokenKind.TheVariants.{Refused}
 use Rattle.verilog_text.specs.declared.fault.LimitFault.{LimitFault}
 use Rattle.verilog_text.specs.declared.fault.TextFault.{TextFault}
-use Rattle.verilog_text.specs.declared.fault.TextFault.TheVariants.{Lex, Syntax, NotInSubset, Limit, Net, Memory}
+use Rattle.verilog_text.specs.declared.fault.TextFault.TheVariants.{Lex, Syntax, NotInSubset, Limit, Net, OutOfMemory}
 use Rattle.verilog_text.specs.Lexis.{HasTokens, HasLexFault}
 use Rattle.verilog_text.specs.Grammar.{Source, Module}
 use Rattle.verilog_text.specs.Limits.{limit_fault}
@@ -103,13 +103,13 @@ module _ (agree : (p : Parts) (f g : NetFault) → IsNetFault p f → IsNetFault
   refused_or_not a b h k = h.allowed (subst (λ t. t.kind ≡ Refused) (one_faulty_token text k.token h.token k.faulty h.faulty) k.refused)
 
   pub one_fault : (f g : TextFault) → IsFault text f → IsFault text g → Agrees f g
-  one_fault Memory g h k = tt
-  one_fault (Lex f) Memory h k = tt
-  one_fault (Syntax a) Memory h k = tt
-  one_fault (NotInSubset a) Memory h k = tt
-  one_fault (Limit f) Memory h k = tt
-  one_fault (Net a (Cycle j)) Memory h k = tt
-  one_fault (Net a f) Memory h k = tt
+  one_fault OutOfMemory g h k = tt
+  one_fault (Lex f) OutOfMemory h k = tt
+  one_fault (Syntax a) OutOfMemory h k = tt
+  one_fault (NotInSubset a) OutOfMemory h k = tt
+  one_fault (Limit f) OutOfMemory h k = tt
+  one_fault (Net a (Cycle j)) OutOfMemory h k = tt
+  one_fault (Net a f) OutOfMemory h k = tt
   one_fault (Lex f) (Lex g) h k = ap Lex (one_refused h g k)
   one_fault (Lex f) (Syntax b) h k = absurd (no_tokens h k.faulty.tokens k.faulty.has_tokens)
   one_fault (Lex f) (NotInSubset b) h k = absurd (no_tokens h k.faulty.tokens k.faulty.has_tokens)
@@ -144,8 +144,8 @@ module _ (apart : (p : Parts) (m : NamedNetlist) (f : NetFault) → IsModuleOf p
       let e = same_parts text k.source h.source k.parts s.parts k.written h.written k.are_parts h.parts in
       no_memory k.source f a k.spanned (apart s.parts m f s.is_module (same_fault k.parts s.parts e f k.fault))
 
-  pub no_fault : (f : TextFault) → StandsFor text m → IsFault text f → f ≡ Memory
-  no_fault Memory s k = refl
+  pub no_fault : (f : TextFault) → StandsFor text m → IsFault text f → f ≡ OutOfMemory
+  no_fault OutOfMemory s k = refl
   no_fault (Lex f) s k = absurd (no_tokens k s.has_parts.written.tokens s.has_parts.written.has_tokens)
   no_fault (Syntax a) s k = absurd (not_written text k.token s.has_parts.source k.faulty s.has_parts.written)
   no_fault (NotInSubset a) s k = absurd (not_written text k.token s.has_parts.source k.faulty s.has_parts.written)

@@ -9,7 +9,7 @@ use Rattle.netlist.specs.declared.fault.Declared.TheVariants.{Port, Declaration}
 use Rattle.netlist.specs.declared.fault.Statement.{Statement}
 use Rattle.netlist.specs.declared.fault.Statement.TheVariants.{Assign, Update}
 use Rattle.netlist.specs.declared.fault.NetFault.{NetFault}
-use Rattle.netlist.specs.declared.fault.NetFault.TheVariants.{Duplicate, Ports, Unknown, WrongSort, Divisor, Width, DrivenTwice, Undriven, Cycle, Memory as NoMemory}
+use Rattle.netlist.specs.declared.fault.NetFault.TheVariants.{Duplicate, Ports, Unknown, WrongSort, Divisor, Width, DrivenTwice, Undriven, Cycle, OutOfMemory as NoMemory}
 use Rattle.netlist.specs.Faults.{IsFault as IsNetFault}
 use Rattle.verilog_text.specs.declared.token.Token.{Token}
 use Rattle.verilog_text.specs.declared.token.TokenKind.TheVariants.{Refused}
@@ -19,7 +19,7 @@ use Rattle.verilog_text.specs.declared.written.WrittenAssign.{WrittenAssign}
 use Rattle.verilog_text.specs.declared.written.WrittenUpdate.{WrittenUpdate}
 use Rattle.verilog_text.specs.declared.written.WrittenUpdate.TheVariants.{Set, Put}
 use Rattle.verilog_text.specs.declared.fault.TextFault.{TextFault}
-use Rattle.verilog_text.specs.declared.fault.TextFault.TheVariants.{Lex, Syntax, NotInSubset, Limit, Net, Memory}
+use Rattle.verilog_text.specs.declared.fault.TextFault.TheVariants.{Lex, Syntax, NotInSubset, Limit, Net, OutOfMemory}
 use Rattle.verilog_text.specs.Lexis.{HasTokens, HasLexFault}
 use Rattle.verilog_text.specs.Grammar.{Source, Module}
 use Rattle.verilog_text.specs.Limits.{limit_fault}
@@ -92,11 +92,11 @@ IsFault text (Syntax span) = IsSyntaxAt text span
 IsFault text (NotInSubset span) = IsRefusedAt text span
 IsFault text (Limit f) = (s : Source) × IsWritten text s × (limit_fault s ≡ Some f)
 IsFault text (Net span f) = HasNetFault text span f
-IsFault text Memory = Unit {0}
+IsFault text OutOfMemory = Unit {0}
 
 -- the same fault; of a cycle any target on it may be told, and want of memory tells nothing
 abbrev pub Agrees : TextFault → TextFault → Type 0
 Agrees (Net a (Cycle j)) (Net b (Cycle k)) = Unit {0}
-Agrees Memory g = Unit {0}
-Agrees f Memory = Unit {0}
+Agrees OutOfMemory g = Unit {0}
+Agrees f OutOfMemory = Unit {0}
 Agrees f g = f ≡ g

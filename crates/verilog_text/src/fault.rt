@@ -45,5 +45,5 @@ pub enum TextFault {
     Net { span: Span, fault: NetFault },
     /// There was not enough memory to tell.
     #[error("out of memory")]
-    Memory,
+    OutOfMemory,
 }

@@ -5,7 +5,7 @@ ghost use Rattle.netlist.specs.Names.{NamedNetlist};
 ghost use Rattle.verilog_text.specs.declared.token.Token.{Token as OneToken};
 ghost use Rattle.verilog_text.specs.declared.token.LexFault.{LexFault as OneLexFault};
 ghost use Rattle.verilog_text.specs.declared.fault.TextFault.{TextFault as OneFault};
-ghost use Rattle.verilog_text.specs.declared.fault.TextFault.TheVariants.{Memory};
+ghost use Rattle.verilog_text.specs.declared.fault.TextFault.TheVariants.{OutOfMemory};
 ghost use Rattle.verilog_text.specs.Lexis.{HasTokens, HasLexFault};
 ghost use Rattle.verilog_text.specs.Grammar.{Source, Module};
 ghost use Rattle.verilog_text.specs.Stands.{StandsFor};
@@ -23,7 +23,7 @@ pub fn one_reading()
 pub fn one_module()
     ensures one { (text : List ℕ) (m n : NamedNetlist) → StandsFor text m → StandsFor text n → m ≡ n }
     ensures agree { (text : List ℕ) (f g : OneFault) → IsFault text f → IsFault text g → Agrees f g }
-    ensures apart { (text : List ℕ) (m : NamedNetlist) (f : OneFault) → StandsFor text m → IsFault text f → f ≡ Memory }
+    ensures apart { (text : List ℕ) (m : NamedNetlist) (f : OneFault) → StandsFor text m → IsFault text f → f ≡ OutOfMemory }
 {
     netlist::one_fault();
 }

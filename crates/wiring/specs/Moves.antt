@@ -6,7 +6,7 @@ use Rattle.wiring.specs.declared.order.Visit.{Visit}
 use Rattle.wiring.specs.declared.order.Search.{Search}
 use Rattle.wiring.specs.declared.netlist.Assign.{Assign}
 use Rattle.wiring.specs.declared.order.OrderFault.{OrderFault}
-use Rattle.wiring.specs.declared.order.OrderFault.TheVariants.{Cycle, Memory}
+use Rattle.wiring.specs.declared.order.OrderFault.TheVariants.{Cycle, OutOfMemory}
 use Rattle.wiring.specs.declared.drivers.Drivers.{Drivers}
 use Rattle.wiring.specs.Order.{DependsOn, driver_at_of}
 
@@ -46,7 +46,7 @@ KeepsMarks old new = (k : ℕ) → slice_get old k ≢ Some New → slice_get ne
 -- the fault's cause
 abbrev pub IsCause : List Assign → OrderFault → Type 0
 IsCause assigns (Cycle k) = DependsOn assigns k k
-IsCause assigns Memory = Unit {0}
+IsCause assigns OutOfMemory = Unit {0}
 
 -- what drives a place of the assign at k
 abbrev pub DriverIs : List Assign → Drivers → ℕ → ℕ → Option ℕ → Type 0

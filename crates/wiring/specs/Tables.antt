@@ -7,7 +7,7 @@ use Rattle.wiring.specs.declared.netlist.Update.{Update}
 use Rattle.wiring.specs.declared.drivers.Drivers.{Drivers}
 use Rattle.wiring.specs.declared.drivers.Updaters.{Updaters}
 use Rattle.wiring.specs.declared.drivers.TableFault.{TableFault}
-use Rattle.wiring.specs.declared.drivers.TableFault.TheVariants.{Twice, Memory}
+use Rattle.wiring.specs.declared.drivers.TableFault.TheVariants.{Twice, OutOfMemory}
 use Rattle.wiring.specs.Netlist.{update_target}
 use Rattle.wiring.specs.declared.netlist.Holder.{Holder}
 use Rattle.wiring.specs.declared.netlist.Holder.TheVariants.{OfNet, OfArray}
@@ -30,7 +30,7 @@ pub record IsSecond {X T : Type 0} (target : X → T) (items : List X) (k : ℕ)
 
 abbrev pub IsTwice : {X T : Type 0} → (X → T) → List X → TableFault → Type 0
 IsTwice target items (Twice k) = IsSecond target items k
-IsTwice target items Memory = Unit {0}
+IsTwice target items OutOfMemory = Unit {0}
 
 -- the table has one entry more
 pub record Notes {T : Type 0} (old new : T → Option ℕ) (t : T) (k : ℕ) : Type 0 where

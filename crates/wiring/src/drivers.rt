@@ -31,17 +31,17 @@ pub struct Updaters {
 pub enum TableFault {
     /// The item of this number is the second one of its target.
     Twice(usize),
-    Memory,
+    OutOfMemory,
 }
 
 impl From<AllocError> for TableFault {
-    ghost use Rattle.wiring.specs.declared.drivers.TableFault.TheVariants.{Memory};
+    ghost use Rattle.wiring.specs.declared.drivers.TableFault.TheVariants.{OutOfMemory};
     ghost use Rattle.std.specs.Prelude.{◌≡◌};
 
-    ghost from_gives = { λ _ e. e ≡ Memory };
+    ghost from_gives = { λ _ e. e ≡ OutOfMemory };
 
     fn from(_: AllocError) -> Self {
-        TableFault::Memory
+        TableFault::OutOfMemory
     }
 }
 

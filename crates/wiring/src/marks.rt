@@ -11,7 +11,7 @@ use crate::netlist::{Assign, Holder, Net, Update, Wiring};
 use crate::right::{Atom, Right};
 use std::alloc::{AllocError, Global};
 
-/// Which nets and arrays have a mark.
+// Which nets and arrays have a mark.
 #[derive(Debug, Drop)]
 pub struct Marks {
     pub inputs: Vec<bool>,
@@ -28,7 +28,7 @@ fn bare(alloc: Global, length: usize) -> Result<Vec<bool>, AllocError>
     Ok(marks)
 }
 
-/// No marks, with a place for each.
+// No marks, with a place for each.
 pub fn no_marks(alloc: Global, wiring: &Wiring) -> Result<Marks, AllocError>
     ensures size { IfOk result (HasMarks (netlist_of wiring.now)) }
     ensures none { IfOk result (λ d. (h : Holder) → is_marked d h ≡ false) }
@@ -43,7 +43,7 @@ pub fn no_marks(alloc: Global, wiring: &Wiring) -> Result<Marks, AllocError>
 }
 
 impl Marks {
-    /// Whether it has a mark.
+    // Whether it has a mark.
     pub fn has(&self, holder: Holder) -> bool
         ensures { result ≡ is_marked self.now holder }
     {
@@ -78,7 +78,7 @@ fn add_array_mark(marks: &mut Marks, array: usize)
     marks.arrays[array] = true;
 }
 
-/// Gives it a mark.
+// Gives it a mark.
 pub fn add_mark(marks: &mut Marks, holder: Holder)
     requires place { HasMark marks.old holder }
     requires free { is_marked marks.old holder ≡ false }
@@ -99,7 +99,7 @@ fn reads_atom(marks: &Marks, atom: &Atom<Net>) -> bool
     }
 }
 
-/// Whether a right side reads what has a mark.
+// Whether a right side reads what has a mark.
 #[tactic(auto, using(crate::proofs::Marking::any_append))]
 pub fn reads_right(marks: &Marks, right: &Right<Net, usize>) -> bool
     ensures { result ≡ any_marked marks.now (right_reads right.now) }
@@ -115,7 +115,7 @@ pub fn reads_right(marks: &Marks, right: &Right<Net, usize>) -> bool
     }
 }
 
-/// Whether an update reads what has a mark.
+// Whether an update reads what has a mark.
 #[tactic(auto, using(crate::proofs::Marking::any_append))]
 pub fn reads_update(marks: &Marks, update: &Update) -> bool
     ensures { result ≡ any_marked marks.now (update_reads update.now) }
@@ -126,7 +126,7 @@ pub fn reads_update(marks: &Marks, update: &Update) -> bool
     }
 }
 
-/// What an update changes.
+// What an update changes.
 pub fn target_of(update: &Update) -> Holder
     ensures { result ≡ update_target update.now }
 {
@@ -136,7 +136,7 @@ pub fn target_of(update: &Update) -> Holder
     }
 }
 
-/// Whether an assign reads what has a mark, and its target has none.
+// Whether an assign reads what has a mark, and its target has none.
 pub fn is_open_assign(marks: &Marks, assign: &Assign) -> bool
     ensures { MatchBool result (IsOpen marks.now (assign_drive assign.now) (assign_drive assign.now).target) (IsClosed marks.now (assign_drive assign.now)) }
 {
@@ -146,7 +146,7 @@ pub fn is_open_assign(marks: &Marks, assign: &Assign) -> bool
     reads_right(marks, &assign.right)
 }
 
-/// Whether an update reads what has a mark, and its target has none.
+// Whether an update reads what has a mark, and its target has none.
 pub fn is_open_update(marks: &Marks, update: &Update) -> bool
     ensures { MatchBool result (IsOpen marks.now (update_drive update.now) (update_drive update.now).target) (IsClosed marks.now (update_drive update.now)) }
 {

@@ -11,7 +11,7 @@ use crate::netlist::{Assign, Net};
 use crate::right::{Atom, Right};
 use std::alloc::{AllocError, AllocFailed, Global};
 
-/// How far the search has come with an assign.
+// How far the search has come with an assign.
 #[derive(Clone, Copy, Debug, PartialEq, Eq)]
 pub enum Mark {
     New,
@@ -19,14 +19,14 @@ pub enum Mark {
     Done,
 }
 
-/// An assign on the way, and at how many of its places it was looked.
+// An assign on the way, and at how many of its places it was looked.
 #[derive(Clone, Copy, Debug)]
 pub struct Visit {
     pub assign: usize,
     pub looked: usize,
 }
 
-/// A search in depth.
+// A search in depth.
 #[derive(Debug, Drop)]
 pub struct Search {
     pub marks: Vec<Mark>,
@@ -93,17 +93,17 @@ pub(crate) fn read_at(right: &Right<Net, usize>, place: usize) -> Option<Net>
 pub enum OrderFault {
     /// The assign of this number depends on itself.
     Cycle(usize),
-    Memory,
+    OutOfMemory,
 }
 
 impl From<AllocError> for OrderFault {
-    ghost use Rattle.wiring.specs.declared.order.OrderFault.TheVariants.{Memory};
+    ghost use Rattle.wiring.specs.declared.order.OrderFault.TheVariants.{OutOfMemory};
     ghost use Rattle.std.specs.Prelude.{◌≡◌};
 
-    ghost from_gives = { λ _ e. e ≡ Memory };
+    ghost from_gives = { λ _ e. e ≡ OutOfMemory };
 
     fn from(_: AllocError) -> Self {
-        OrderFault::Memory
+        OrderFault::OutOfMemory
     }
 }
 
