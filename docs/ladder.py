@@ -18,19 +18,21 @@ MARKS = r"(?:(?:pub|abbrev|unfoldable)\s+)*"
 
 # The chapters, each with the definitions that it begins with, under which no earlier chapter goes. What stands in none comes last.
 CHAPTERS = [
-    ("The headline: what `run` does", ["IsRunAnswer", "CreatesRun", "IsHeldRun", "NotedRun"]),
-    ("Which texts are programs, and what they mean", ["IsAcceptedAt", "IsFaultAt", "meaning_on", "output_images"]),
-    ("Files of images", ["FitsFile", "pgm_rounds.Files.IsFault", "IsHeaded", "AreImages", "IsRaster"]),
-    ("What `compile` makes: circuits and their clocks", ["IsCompiledFrom", "AreNotes", "wiring.Runs.Runs"]),
-    ("Delays, depths and bits", ["HasSystem", "latency", "IsSolution", "IsPlan"]),
-    ("Tokens, grammar and types of a program", ["dk_compile.Sources.IsText", "dk_compile.Sources.IsFault", "dk_compile.Fronts.IsForm"]),
+    ("What `run` and `compile` promise", ["IsGoodPair", "IsHeldRun", "NotedRun", "IsCompiledText"]),
+    ("When `run` ends otherwise, and what it leaves", ["IsRunAnswer", "CreatesRun", "HoldsAtWrite", "LeavesAtFault", "LeavesAtRead", "IsFaultAt", "IsImageFault"]),
+    ("What makes a module well formed, and its inside", ["IsWhole", "IsApart", "IsReadOnce", "shapes_of", "KeepsRules"]),
+    ("The form of a program, its live reads and its limits", ["AreStencilsOf", "IsForm", "IsFront"]),
+    ("Tokens, grammar and types of a program", ["dk_compile.Sources.IsText", "dk_compile.Sources.IsFault"]),
     ("Verilog texts", ["StandsFor", "verilog_text.Faults.IsFault"]),
     ("The frame of the outside", ["OnFiles", "HasCauseIn", "Rose", "IsFresh", "AsksOnly", "AsksWhere", "CreatesNothing", "CreatesOut", "FilesStay", "GainsLine", "WritesNothing", "IsOrMemory"]),
-    ("`eval`, `compile` and `make`", ["IsAnswer", "IsHeldOf", "IsProgramAnswer", "HoldsText", "IsCompiledText", "IsMadeLine", "NotesMade"]),
+    ("`eval`, `compile` and `make`", ["IsAnswer", "IsHeldOf", "IsProgramAnswer", "HoldsText", "IsMadeLine", "NotesMade"]),
     ("`plan` and `check`", ["IsCheckAnswer", "IsPlanOf", "IsClaimLine"]),
     ("`sim` and `trace`", ["IsSimAnswer", "IsHeldSim", "NotesSim", "IsTraceAnswer", "IsHeldTrace"]),
     ("Words, endings, and the table of all commands", ["command_of", "fault_line", "IsVerdict", "IsHeld", "IsNoted", "IsReported", "IsGood", "HasOneVerdict"]),
 ]
+
+# The first chapter is to be read in an hour.
+MOST_LINES = 1500
 
 
 class Definition:
@@ -221,7 +223,10 @@ def counts(chapters):
 
 def page():
     main, chapters = ladder()
-    out = ["# The ladder", "", "What one has to believe: the clauses of the call that the program makes, and below them each definition that they name, from the top down, each once. This page is made from the sources by `python3 docs/ladder.py`, and is wrong where it is not theirs. Words of the toolchain's library (lists, options, numbers) are left as they stand; structs and enums are those of the code.", "", *counts(chapters), "", "## The clauses", "", f"`dk_main`, {main.module.path}:", "", "```", main.text, "```"]
+    first = sum(map(lines, chapters[0][1]))
+    if first > MOST_LINES:
+        sys.exit(f"ladder: the first chapter has {first} lines, and may have {MOST_LINES}")
+    out = ["# The ladder", "", "What one has to believe: the clauses of the call that the program makes, and below them each definition that they name, from the top down, each once. This page is made from the sources by `python3 docs/ladder.py`, and is wrong where it is not theirs. Words of the toolchain's library (lists, options, numbers) are left as they stand; structs and enums are those of the code.", "", "The first chapter is to be read first, in about an hour: which pair of a program and a file of images is good, which pictures the program means, which module it is compiled to, what a run of a module is, which pixels it shows at which clock, what is held in its buffers, and why its bits are least. What it names of texts and tokens, of the rules of a well formed module and of a program's form stands in the chapters behind it.", "", *counts(chapters), "", "## The clauses", "", f"`dk_main`, {main.module.path}:", "", "```", main.text, "```"]
     for number, (title, items) in enumerate(chapters, 1):
         out += ["", f"## {number}. {title}"]
         at = None
