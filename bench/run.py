@@ -74,7 +74,7 @@ def main():
     dk = os.path.abspath(sys.argv[1])
     width, height = map(int, sys.argv[2:4]) if len(sys.argv) > 2 else (640, 480)
     example = sys.argv[4] if len(sys.argv) > 4 else "gaussian3"
-    text = open(f"{HERE}/../examples/{example}.dk", encoding="utf-8").read()
+    text = open(f"{HERE}/../examples/programs/{example}.dk", encoding="utf-8").read()
     pixels = width * height
     with tempfile.TemporaryDirectory() as room:
         os.chdir(room)
@@ -99,10 +99,10 @@ def main():
                 sys.exit("Verilator's picture is another one")
             print(f"Verilator -O3: {other:.2f} s; dk run takes {own / other:.1f} times as long")
         if shutil.which("iverilog") and pixels <= 640 * 480:
-            subprocess.run([sys.executable, f"{HERE}/../examples/bench.py", "write", "g.v", "g.pgm", str(clocks), "1"], check=True)
+            subprocess.run([sys.executable, f"{HERE}/../examples/tools/bench.py", "write", "g.v", "g.pgm", str(clocks), "1"], check=True)
             subprocess.run(["iverilog", "-g2005", "-o", "bench.vvp", "bench.v", "g.v"], check=True)
             other = timed("vvp", "-n", "bench.vvp", stdout=subprocess.DEVNULL)
-            subprocess.run([sys.executable, f"{HERE}/../examples/bench.py", "picture", "g.v", "g.pgm", "seen.txt", "seen.pgm"], check=True)
+            subprocess.run([sys.executable, f"{HERE}/../examples/tools/bench.py", "picture", "g.v", "g.pgm", "seen.txt", "seen.pgm"], check=True)
             if open("seen.pgm", "rb").read() != open("own.pgm", "rb").read():
                 sys.exit("the picture of Icarus is another one")
             print(f"Icarus Verilog: {other:.2f} s; dk run takes {other / own:.0f} times less")

@@ -7,7 +7,7 @@ examples=$(cd "$(dirname "$0")" && pwd)
 work=$(mktemp -d) || exit 2
 trap 'rm -rf "$work"' EXIT
 cd "$work" || exit 2
-cp "$examples"/*.dk "$examples"/*.pgm "$examples"/reports/*.dk "$examples"/reports/*.txt . || exit 2
+cp "$examples"/programs/*.dk "$examples"/programs/*.pgm "$examples"/reports/*.dk "$examples"/reports/*.txt . || exit 2
 cp "$examples"/sim/*.v . || exit 2
 # Every call here has 4 MiB of stack: the deepest accepted programs need between 1 and 2.
 ulimit -S -s 4096 || exit 2
@@ -63,7 +63,7 @@ while read -r name input <&3; do
         ends 0 '' "$command" "$name.dk" "$input.pgm" out.pgm
         holds "$name.pgm"
     done
-done 3<"$examples/pictures.txt"
+done 3<"$examples/programs/pictures.txt"
 
 # Each line of calls/pictures.txt is what it shows, a program, its input and the picture that is wanted, with bytes as printf reads them.
 while IFS='|' read -r name text input wanted <&3; do
@@ -95,7 +95,7 @@ ends 2 "$usage"
 ends 2 "$usage" run copy.dk
 ends 2 "$usage" help
 ends 2 "$usage" run copy.dk gradient.pgm gradient.pgm
-holds_input=$(cmp gradient.pgm "$examples/gradient.pgm" 2>&1)
+holds_input=$(cmp gradient.pgm "$examples/programs/gradient.pgm" 2>&1)
 [ -z "$holds_input" ] || {
     echo "examples: the input was changed: $holds_input" >&2
     failed=1
@@ -457,7 +457,7 @@ while read -r name input <&3; do
         ends 0 '' sim text.v "$clocks" "$input.pgm" out.pgm --fill $fill
         holds "$name.pgm" 'compile'
     done
-done 3<"$examples/pictures.txt"
+done 3<"$examples/programs/pictures.txt"
 cp mean3.dk text.dk
 ends 2 "$usage" compile mean3.dk
 ends 2 "$usage" compile mean3.dk mean3.dk
@@ -501,7 +501,7 @@ while IFS='|' read -r name age bits latency lines <&3; do
     prints "report holds: bits $bits latency $latency" check "$name.dk" plan.txt
 done 3<"$examples/reports/plans.txt"
 prints "$(cat "$examples/reports/mean_plan.txt")" plan mean.dk
-for example in "$examples"/*.dk; do
+for example in "$examples"/programs/*.dk; do
     "$program" plan "$example" >plan.txt 2>stderr && "$program" check "$example" plan.txt >stdout 2>stderr || {
         echo "examples: the plan of $example does not hold: $(cat stderr)" >&2
         failed=1

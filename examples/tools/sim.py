@@ -1,21 +1,21 @@
 #!/usr/bin/env python3
 """Makes the pictures that must come out of the Verilog texts of sim/, by plain formulas: it reads no Verilog.
-usage: examples/sim.py"""
+usage: examples/tools/sim.py"""
 import os
 
-here = os.path.dirname(os.path.abspath(__file__))
+examples = os.path.dirname(os.path.dirname(os.path.abspath(__file__)))
 
 
 def read(name):
     """The width, height and samples of a picture with samples of one byte, as pictures.py writes them."""
-    with open(f"{here}/{name}.pgm", "rb") as file:
+    with open(f"{examples}/programs/{name}.pgm", "rb") as file:
         _, size, _, samples = file.read().split(b"\n", 3)
     width, height = map(int, size.split())
     return width, height, list(samples)
 
 
 def write(name, width, height, samples):
-    with open(f"{here}/sim/{name}.pgm", "wb") as file:
+    with open(f"{examples}/sim/{name}.pgm", "wb") as file:
         file.write(b"P5\n%d %d\n255\n" % (width, height) + bytes(samples))
 
 

@@ -1,7 +1,7 @@
 #!/usr/bin/env python3
 """Synthesizes the Verilog texts of the examples by Yosys and prints the table of docs/GALLERY.md.
 
-usage: examples/cells.py PROGRAM
+usage: examples/tools/cells.py PROGRAM
 """
 import glob
 import json
@@ -10,7 +10,7 @@ import subprocess
 import sys
 import tempfile
 
-EXAMPLES = os.path.dirname(os.path.abspath(__file__))
+EXAMPLES = os.path.dirname(os.path.dirname(os.path.abspath(__file__)))
 
 # Gates of one and two inputs, choices and flip-flops; memories are left whole.
 GATES = ("read_verilog dk.v; hierarchy -check -top dk; proc; opt_clean; tee -q -o memories.json stat -json; "
@@ -28,7 +28,7 @@ def main(program):
     os.chdir(tempfile.mkdtemp())
     print("| Program | Buffer bits by the plan | Memories | Memory bits | Gates | Flip-flops | ECP5: LUT4 | CCU2C | TRELLIS_FF | TRELLIS_DPR16X4 | DP16KD |")
     print("|---|---|---|---|---|---|---|---|---|---|---|")
-    for path in sorted(glob.glob(os.path.join(EXAMPLES, "*.dk"))):
+    for path in sorted(glob.glob(os.path.join(EXAMPLES, "programs", "*.dk"))):
         subprocess.run([program, "compile", path, "dk.v"], check=True)
         plan = subprocess.run([program, "plan", path], check=True, capture_output=True, text=True).stdout
         bits = next(line.split()[1] for line in plan.splitlines() if line.startswith("bits "))

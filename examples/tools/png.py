@@ -4,14 +4,14 @@
 The images of a file are set side by side, one line of them for each round. Samples are stretched so
 that the greatest that the header allows is white.
 
-usage: examples/png.py FOLDER      writes NAME-in.png and NAME-out.png for each example of pictures.txt
+usage: examples/tools/png.py FOLDER      writes NAME-in.png and NAME-out.png for each example of pictures.txt
 """
 import os
 import struct
 import sys
 import zlib
 
-EXAMPLES = os.path.dirname(os.path.abspath(__file__))
+EXAMPLES = os.path.dirname(os.path.dirname(os.path.abspath(__file__)))
 SCALE = 4
 GAP = 2
 BETWEEN = 255
@@ -65,12 +65,12 @@ def png(lines):
 
 def ports(program, word):
     """How many inputs or outputs a program has: those of the examples stand one on a line."""
-    with open(os.path.join(EXAMPLES, program + ".dk")) as lines:
+    with open(os.path.join(EXAMPLES, "programs", program + ".dk")) as lines:
         return sum(line.startswith(word + " ") for line in lines)
 
 
 def show(source, columns, target):
-    with open(os.path.join(EXAMPLES, source + ".pgm"), "rb") as file:
+    with open(os.path.join(EXAMPLES, "programs", source + ".pgm"), "rb") as file:
         pictures = list(images(file.read()))
     with open(target, "wb") as file:
         file.write(png(sheet(pictures, columns)))
@@ -78,7 +78,7 @@ def show(source, columns, target):
 
 def main():
     folder = sys.argv[1]
-    with open(os.path.join(EXAMPLES, "pictures.txt")) as table:
+    with open(os.path.join(EXAMPLES, "programs", "pictures.txt")) as table:
         for name, source in map(str.split, table):
             show(source, ports(name, "input"), os.path.join(folder, name + "-in.png"))
             show(name, ports(name, "output"), os.path.join(folder, name + "-out.png"))

@@ -1,8 +1,8 @@
 #!/bin/sh
 # Shows the Verilog texts of this folder to Icarus Verilog and to Verilator, as far as they are installed, and says which it passed over.
 # The texts are those of the law worked_layouts of crates/verilog_layout, which is checked here by their bytes.
-# usage: examples/lint.sh
-examples=$(cd "$(dirname "$0")" && pwd)
+# usage: examples/tools/lint.sh
+examples=$(cd "$(dirname "$0")/.." && pwd)
 worked=$examples/../crates/verilog_layout/src/worked.rt
 failed=0
 

@@ -12,7 +12,7 @@ import subprocess
 import sys
 import time
 
-EXAMPLES = os.path.dirname(os.path.abspath(__file__))
+EXAMPLES = os.path.dirname(os.path.dirname(os.path.abspath(__file__)))
 SECONDS_EACH = 20
 
 # The lines of docs/COMMANDS.md, by status.
@@ -203,7 +203,7 @@ def main(program, seconds, seed):
             calls.ends([command, "p.dk", "i.pgm", "out"], {"p.dk": COPY, "i.pgm": image}, 4, line + "\n")
         calls.ends(["trace", "v.v", "4", "i.pgm", "out"], {"v.v": read("verilog/copy.v"), "i.pgm": image}, 4, line + "\n")
 
-    programs = [small(read(name)) for name in sorted(glob.glob("*.dk", root_dir=EXAMPLES))]
+    programs = [small(read(name)) for name in sorted(glob.glob("programs/*.dk", root_dir=EXAMPLES))]
     programs.append((COPY, ROW))
     texts = [read(name) for name in sorted(glob.glob("sim/*.v", root_dir=EXAMPLES) + glob.glob("verilog/*.v", root_dir=EXAMPLES))]
     reports = [(read(f"reports/{name}.dk"), read(f"reports/{report}.txt")) for name, report in (("square", "square"), ("skip", "skip"), ("mean", "mean_plan"))]

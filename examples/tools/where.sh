@@ -1,10 +1,10 @@
 #!/bin/sh
 # Says at which line and column the bytes of a fault stand, both counted from 1, and shows the line with the bytes marked.
-# usage: examples/where.sh FILE 'program 38-39: UnknownImage'      or the span alone: examples/where.sh FILE 38-39
+# usage: examples/tools/where.sh FILE 'program 38-39: UnknownImage'      or the span alone: examples/tools/where.sh FILE 38-39
 file=$1
 span=$(printf '%s\n' "$2" | sed -n 's/^[^0-9]*\([0-9][0-9]*-[0-9][0-9]*\).*$/\1/p')
 [ -f "$file" ] && [ -n "$span" ] || {
-    echo 'usage: examples/where.sh FILE SPAN' >&2
+    echo 'usage: examples/tools/where.sh FILE SPAN' >&2
     exit 2
 }
 start=${span%-*}

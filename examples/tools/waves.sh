@@ -2,8 +2,8 @@
 # Shows value change dumps (those of waves/, or those named) to readers of others, as far as they are installed, and says which it passed over:
 # GTKWave (under xvfb-run, without a screen) and its converters vcd2fst and fst2vcd. The value of each variable at each time must be the one that waves.py reads.
 # It says nothing else where they agree.
-# usage: examples/waves.sh [VCD..]
-examples=$(cd "$(dirname "$0")" && pwd)
+# usage: examples/tools/waves.sh [VCD..]
+examples=$(cd "$(dirname "$0")/.." && pwd)
 work=$(mktemp -d) || exit 2
 trap 'rm -rf "$work"' EXIT
 failed=0
@@ -34,7 +34,7 @@ END
 
 # agrees READER VCD: the values that the reader gave are those that waves.py reads
 agrees() {
-    python3 "$examples/waves.py" values "$2" | cmp -s "$work/seen" - || {
+    python3 "$examples/tools/waves.py" values "$2" | cmp -s "$work/seen" - || {
         echo "examples: $1 reads $2 otherwise" >&2
         failed=1
     }
@@ -43,7 +43,7 @@ agrees() {
 for dump; do
     if command -v vcd2fst >/dev/null; then
         vcd2fst "$dump" "$work/dump.fst" && fst2vcd "$work/dump.fst" >"$work/back.vcd"
-        python3 "$examples/waves.py" values "$work/back.vcd" >"$work/seen"
+        python3 "$examples/tools/waves.py" values "$work/back.vcd" >"$work/seen"
         agrees vcd2fst "$dump"
     fi
     if command -v gtkwave >/dev/null && command -v xvfb-run >/dev/null; then

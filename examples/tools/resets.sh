@@ -2,9 +2,9 @@
 # Clocks the text of reports/square.dk, a sum of squares and of the picture two rows below, under Icarus Verilog: from zeros, from ones and from random contents,
 # with a second reset clock after each of the clocks 0 to 19 and with none, as it is, with `--age 1`, and with `--enable` and clocks that are held at random.
 # The next 12 valid pixels must be the picture's, which was worked out by hand. It says nothing where they are.
-# usage: examples/resets.sh PROGRAM
+# usage: examples/tools/resets.sh PROGRAM
 program=$(cd "$(dirname "$1")" && pwd)/$(basename "$1")
-examples=$(cd "$(dirname "$0")" && pwd)
+examples=$(cd "$(dirname "$0")/.." && pwd)
 command -v iverilog >/dev/null || {
     echo "resets: iverilog is not installed"
     exit 0
@@ -21,11 +21,11 @@ for option in '' '--age 1' --enable '--enable --age 1'; do
     # shellcheck disable=SC2086
     clocks=$("$program" plan "$examples/reports/square.dk" ${option#--enable} | sed -n 's/^clocks //p')
     for contents in zeros ones random; do
-        python3 "$examples/bench.py" write dk.v in.pgm "$clocks" 7 --$contents && iverilog -g2005 -o bench.vvp dk.v bench.v || exit 2
+        python3 "$examples/tools/bench.py" write dk.v in.pgm "$clocks" 7 --$contents && iverilog -g2005 -o bench.vvp dk.v bench.v || exit 2
         early=0
         while [ $early -le 20 ]; do
             rm -f seen.txt seen.pgm
-            said=$(vvp -n bench.vvp +early=$early 2>&1 && python3 "$examples/bench.py" picture dk.v in.pgm seen.txt seen.pgm 2>&1)
+            said=$(vvp -n bench.vvp +early=$early 2>&1 && python3 "$examples/tools/bench.py" picture dk.v in.pgm seen.txt seen.pgm 2>&1)
             cmp -s seen.pgm wanted.pgm || {
                 echo "resets: $option from $contents, $early clocks before the second reset: another picture $said" >&2
                 failed=1
