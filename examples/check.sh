@@ -243,6 +243,14 @@ none
 cat gradient.pgm header.pgm >second.pgm
 ends 4 'image: LongHeader 65536' run copy.dk second.pgm out.pgm
 holds gradient.pgm
+# a byte behind 65,536 images
+echo 'size 1 1 input a : u8 output a' >pixel.dk
+python3 -c 'import sys; sys.stdout.buffer.write(b"P5 1 1 255\nx" * 65536)' >pixels.pgm
+ends 0 '' eval pixel.dk pixels.pgm out.pgm
+printf P >>pixels.pgm
+ends 4 'image: Count 65536' eval pixel.dk pixels.pgm out.pgm
+none
+ends 4 'image: Count 65536' run pixel.dk pixels.pgm out.pgm
 truncate -s 268435457 zeros.pgm
 ends 4 'image: TooLong 268435456' eval copy.dk zeros.pgm out.pgm
 none

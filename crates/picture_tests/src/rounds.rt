@@ -1,7 +1,7 @@
 // Files and images with bytes that were written by hand.
 
 use dk_base::{Binary, FrameSize, Text, Ty};
-use pgm_rounds::{FileError, ImageFault, Round, one_file};
+use pgm_rounds::{FileError, Round};
 use pointwise_eval::frames_fit;
 use pointwise_ir::{Definition, Edge, Expr, Input, Ir, Parts};
 use program_images::{read_program_rounds, write_outputs};
@@ -39,84 +39,6 @@ fn program(alloc: Global, inputs: &[u8]) -> Result<Option<Ir>, AllocError> {
         inputs: ports,
         images,
     }))
-}
-
-// The fault of a file; None where it has none, or there is no such program.
-fn fault_of(alloc: Global, inputs: &[u8], bytes: &[u8]) -> Result<Option<ImageFault>, AllocError> {
-    let Some(ir) = program(alloc, inputs)? else {
-        return Ok(None);
-    };
-    match read_program_rounds(alloc, &ir, bytes) {
-        Ok(_) => Ok(None),
-        Err(FileError::Fault(fault)) => Ok(Some(fault)),
-        Err(FileError::OutOfMemory) => Err(AllocError),
-    }
-}
-
-#[test]
-fn faults_are_told(rt: HostRuntime) -> Result<(), Fail> {
-    let alloc = rt.alloc();
-    for (bytes, fault) in [
-        (&b""[..], ImageFault::Magic { offset: 0 }),
-        (
-            &b"P5 2 1 9\n\x01\x02P6 2 1 9\n\x01\x02"[..],
-            ImageFault::Magic { offset: 11 },
-        ),
-        (
-            &b"P5 2 1 9\n\x01\x02P5 2 x"[..],
-            ImageFault::Number { offset: 16 },
-        ),
-        (
-            &b"P5 2 1 9\n\x01\x02P5 2 1 0\n"[..],
-            ImageFault::Range { offset: 18 },
-        ),
-        (
-            &b"P5 3 1 900\n"[..],
-            ImageFault::Size {
-                width: 3,
-                height: 1,
-            },
-        ),
-        (&b"P5 2 1 256\n"[..], ImageFault::Maxval { maxval: 256 }),
-        (
-            &b"P5 2 1 9\n\x01\x02P5 2 1 9\n\x03\x0a"[..],
-            ImageFault::SampleTooGreat { index: 3 },
-        ),
-        (
-            &b"P5 2 1 9\n\x01"[..],
-            ImageFault::Short { held: 1, need: 2 },
-        ),
-    ] {
-        assert_eq!(rt; fault_of(alloc, &[8], bytes)?, Some(fault));
-    }
-    Ok(())
-}
-
-#[test]
-fn faults_of_the_file_are_told(rt: HostRuntime) -> Result<(), Fail> {
-    let alloc = rt.alloc();
-    let mut long = [b' '; 65_536];
-    long[0] = b'P';
-    long[1] = b'5';
-    assert_eq!(rt; fault_of(alloc, &[8], &long)?, Some(ImageFault::LongHeader));
-    let open = ImageFault::Round { held: 1, need: 2 };
-    let bytes = b"P5 2 1 1\n\x00\x01";
-    assert_eq!(rt; fault_of(alloc, &[8, 12], bytes)?, Some(open));
-    one_file();
-    Ok(())
-}
-
-#[test]
-fn a_byte_behind_65536_images_is_told(rt: HostRuntime) -> Result<(), Fail> {
-    let alloc = rt.alloc();
-    let mut bytes = Vec::new(alloc);
-    for _ in 0..65_536 {
-        bytes.extend_from_slice(b"P5 2 1 1\n\x00\x01")?;
-    }
-    assert_eq!(rt; fault_of(alloc, &[8], &bytes)?, None);
-    bytes.push(b'P')?;
-    assert_eq!(rt; fault_of(alloc, &[8], &bytes)?, Some(ImageFault::Count));
-    Ok(())
 }
 
 // The rounds of two inputs of 8 and 12 bits.
