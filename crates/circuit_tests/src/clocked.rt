@@ -13,7 +13,7 @@ use std::alloc::Global;
 use std::test::Fail;
 
 // One clock, or a failure where the numbers are not those of the ports or the clock stops.
-pub fn clock(
+fn clock(
     sim: &mut Sim,
     reset: bool,
     enable: bool,
@@ -58,12 +58,22 @@ fn tell(line: &mut String, outs: &[Out]) -> Result<(), Fail> {
     Ok(())
 }
 
-// What the outputs show in each of these clocks after a reset clock. A disturbed run has some other clocks first and then a second reset, and a held clock after each clock.
+// Clocks between a first reset and a second one, each third of them held, with these numbers at the dins in turn.
+fn disturb(sim: &mut Sim, clocks: u64, given: &[&[u64]], outs: &mut [Out]) -> Result<(), Fail> {
+    for k in 0..clocks {
+        let dins = *given.get((k % 5) as usize).ok_or("too few clocks")?;
+        clock(sim, false, k % 3 != 1, dins, outs)?;
+    }
+    let first = *given.first().ok_or("no clock")?;
+    quiet(sim, true, false, first, outs)
+}
+
+// What the outputs show in each of these clocks after a reset clock. A disturbed run has so many other clocks first and then a second reset, and a held clock after each clock.
 fn shown(
     alloc: Global,
     module: &Module,
     fill: Fill,
-    disturbed: bool,
+    disturbed: Option<u64>,
     given: &[&[u64]],
 ) -> Result<String, Fail> {
     let mut line = String::new(alloc);
@@ -75,16 +85,13 @@ fn shown(
     let mut outs = vec![in alloc; out; sim.outputs()]?;
     let first = *given.first().ok_or("no clock")?;
     quiet(&mut sim, true, true, first, &mut outs)?;
-    if disturbed {
-        clock(&mut sim, false, true, first, &mut outs)?;
-        quiet(&mut sim, false, false, first, &mut outs)?;
-        clock(&mut sim, false, true, first, &mut outs)?;
-        quiet(&mut sim, true, false, first, &mut outs)?;
+    if let Some(clocks) = disturbed {
+        disturb(&mut sim, clocks, given, &mut outs)?;
     }
     for dins in given {
         clock(&mut sim, false, true, dins, &mut outs)?;
         tell(&mut line, &outs)?;
-        if disturbed {
+        if disturbed.is_some() {
             quiet(&mut sim, false, false, first, &mut outs)?;
         }
     }
@@ -106,11 +113,11 @@ fn module(alloc: Global, text: &str, age: u8, enable: bool) -> Result<Module, Fa
 fn told(alloc: Global, text: &str, age: u8, given: &[&[u64]]) -> Result<String, Fail> {
     let plain = module(alloc, text, age, false)?;
     let held = module(alloc, text, age, true)?;
-    let line = shown(alloc, &plain, Fill::Zeros, false, given)?;
+    let line = shown(alloc, &plain, Fill::Zeros, None, given)?;
     for other in [
-        shown(alloc, &plain, Fill::Ones, false, given)?,
-        shown(alloc, &held, Fill::Zeros, true, given)?,
-        shown(alloc, &held, Fill::Ones, true, given)?,
+        shown(alloc, &plain, Fill::Ones, None, given)?,
+        shown(alloc, &held, Fill::Zeros, Some(2), given)?,
+        shown(alloc, &held, Fill::Ones, Some(2), given)?,
     ] {
         if other != line {
             return Err(Fail::new("the runs differ"));
@@ -209,5 +216,25 @@ fn each_output_has_its_own_latency(rt: HostRuntime) -> Result<(), Fail> {
         told(alloc, TWO_PORTS, 1, &given)?.as_str(),
         " . . . 1 21 2 2 3"
     );
+    Ok(())
+}
+
+// The picture comes after a second reset in whatever clock, whatever registers and arrays hold then.
+#[test]
+fn resets_at_any_clock(rt: HostRuntime) -> Result<(), Fail> {
+    let alloc = rt.alloc();
+    let numbers = [
+        1, 2, 3, 4, 5, 6, 7, 8, 9, 10, 11, 12, 0, 0, 0, 0, 0, 0, 0, 0,
+    ];
+    let given = clocks(alloc, &numbers, 1)?;
+    let held = module(alloc, SQUARE, 0, true)?;
+    for early in 0..20u64 {
+        for fill in [Fill::Zeros, Fill::Ones] {
+            assert_eq!(rt;
+                shown(alloc, &held, fill, Some(early), &given)?.as_str(),
+                " . . . . . . . . 10 14 20 28 25 36 49 64 81 100 121 144"
+            );
+        }
+    }
     Ok(())
 }

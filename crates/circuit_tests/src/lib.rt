@@ -6,8 +6,6 @@ mod clocked;
 #[cfg(test)]
 mod limits;
 #[cfg(test)]
-mod made;
-#[cfg(test)]
 mod plans;
 #[cfg(test)]
 mod programs;
