@@ -1,5 +1,6 @@
 pub mod Readings
 pub mod Fronts
+pub mod Pairs
 pub mod Places
 pub mod Refusals
 pub mod Takings

@@ -117,11 +117,7 @@ fn judge(size: FrameSize, width: u8, place: Place, rest: &[u8]) -> Result<Header
 fn bytes_of(alloc: Global, raster: &[u8]) -> Result<Vec<u16>, OutOfMemory>
     ensures { IfOk result (λ samples. samples.items ≡ raster.now) }
 {
-    let mut samples = Vec::with_capacity(alloc, raster.len())?;
-    for byte in raster {
-        samples.push(u16::from(*byte))?;
-    }
-    Ok(samples)
+    raster.iter().map(|byte| u16::from(*byte)).collect(alloc)
 }
 
 // So many samples of two bytes each.
@@ -129,13 +125,11 @@ fn pairs_of(alloc: Global, raster: &[u8], count: usize) -> Result<Vec<u16>, OutO
     requires { 2 * count ≤ length raster.now }
     ensures { IfOk result (λ samples. AreSamples false raster.now count samples.items) }
 {
-    let mut samples = Vec::with_capacity(alloc, count)?;
-    for k in 0..count {
-        let high = u16::from(raster[2 * k]);
-        let low = u16::from(raster[2 * k + 1]);
-        samples.push(256 * high + low)?;
-    }
-    Ok(samples)
+    let pairs = raster.split_at(2 * count).0.as_chunks::<2>().0;
+    pairs
+        .iter()
+        .map(|pair| u16::from_be_bytes(*pair))
+        .collect(alloc)
 }
 
 // The samples of the image with which the bytes begin.

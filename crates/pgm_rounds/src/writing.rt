@@ -1,13 +1,14 @@
 // The bytes of an image.
 
-ghost use Rattle.std.specs.Prelude.{◌≡◌, ◌<◌, ◌≤◌, ◌++◌, OnOk};
-ghost use Rattle.std.specs.List.{All};
+ghost use Rattle.std.specs.Prelude.{◌≡◌, ◌*◌, ◌%◌, ◌<◌, ◌≤◌, ◌++◌, length, map, OnOk, false};
+ghost use Rattle.std.specs.List.{All, flat_map};
 ghost use Rattle.dk_base.specs.declared.TheConstants.{MAX_SIDE};
 ghost use Rattle.dk_base.specs.Frames.{IsFrame};
-ghost use Rattle.pgm_codec.specs.Images.{header_of, raster_of};
+ghost use Rattle.pgm_codec.specs.Images.{header_of, raster_of, spelled};
 
 use dk_base::{FrameSize, OutOfMemory};
-use pgm_codec::{put_sample, write_header};
+use pgm_codec::write_header;
+use std::alloc::AllocError;
 
 // Adds the header of an image.
 fn add_header(width: u32, height: u32, maxval: u16, file: &mut Vec<u8>) -> Result<(), OutOfMemory>
@@ -21,18 +22,48 @@ fn add_header(width: u32, height: u32, maxval: u16, file: &mut Vec<u8>) -> Resul
     file.extend_from_slice(bytes.split_at(length).0)
 }
 
+// Adds the low byte of each sample, which is the sample itself where none is above 255.
+fn add_bytes(samples: &[u16], file: &mut Vec<u8>) -> Result<(), OutOfMemory>
+    ensures { OnOk result (file.new.items ≡ file.old.items ++ map (λ s. s % 256) samples.now) }
+{
+    file.extend(samples.iter().map(|sample| (*sample % 256) as u8))
+}
+
+// Puts samples of two bytes each, the most significant first.
+fn put_pairs(samples: &[u16], bytes: &mut [u8])
+    requires { length bytes.old ≡ 2 * length samples.now }
+    ensures { bytes.new ≡ flat_map (spelled false) samples.now }
+{
+    for k in 0..samples.len() {
+        bytes[2 * k] = (samples[k] / 256) as u8;
+        bytes[2 * k + 1] = (samples[k] % 256) as u8;
+    }
+}
+
+// Adds samples of two bytes each.
+fn add_pairs(samples: &[u16], file: &mut Vec<u8>) -> Result<(), OutOfMemory>
+    ensures { OnOk result (file.new.items ≡ file.old.items ++ flat_map (spelled false) samples.now) }
+{
+    let start = file.len();
+    let Some(end) = start.checked_add(2 * samples.len()) else {
+        return Err(AllocError);
+    };
+    file.resize(end, 0)?;
+    put_pairs(samples, &mut file[start..]);
+    Ok(())
+}
+
 // Adds samples of an image with this maxval.
 fn add_samples(samples: &[u16], maxval: u16, file: &mut Vec<u8>) -> Result<(), OutOfMemory>
     requires maxval { 0 < maxval }
     requires bounded { All (λ s. s ≤ maxval) samples.now }
     ensures { OnOk result (file.new.items ≡ file.old.items ++ raster_of maxval samples.now) }
 {
-    let mut bytes = [0; 2];
-    for sample in samples {
-        let length = put_sample(*sample, maxval, &mut bytes);
-        file.extend_from_slice(bytes.split_at(length).0)?;
+    if maxval < 256 {
+        add_bytes(samples, file)
+    } else {
+        add_pairs(samples, file)
     }
-    Ok(())
 }
 
 // The number of bytes of an image, or more.
