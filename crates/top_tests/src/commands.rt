@@ -74,50 +74,6 @@ fn clocks_are_noted(rt: HostRuntime) -> Result<(), Fail> {
     Ok(())
 }
 
-// The status where the call of this number fails.
-fn status_at(
-    alloc: Global,
-    line: &str,
-    first: &[u8],
-    failing: u64,
-    piece: usize,
-) -> Result<u8, OutOfMemory>
-    requires { 0 < piece }
-{
-    let words = words(alloc, line)?;
-    let mut desk = desk(alloc, first, FOUR_ZEROS, failing, piece)?;
-    Ok(dk_main(alloc, &words, &mut desk).status())
-}
-
-// Whatever call fails, the status says so. Each input is opened and read to its end, and then the output is written, but that `run` reads and writes by lines; the last call does not come.
-#[test]
-fn each_call_fails_in_turn(rt: HostRuntime) -> Result<(), Fail> {
-    let alloc = rt.alloc();
-    let cases: [(&str, &[u8], &[u8]); 4] = [
-        ("dk compile first out", MEAN, [7, 7, 7, 8, 8, 0].as_slice()),
-        (
-            "dk run first second out",
-            COPY,
-            // the header of nine bytes, then File, the line, and the end of the images
-            [7, 7, 7, 7, 7, 7, 7, 7, 7, 7, 7, 7, 7, 8, 8, 7, 8, 7, 0].as_slice(),
-        ),
-        (
-            "dk sim first 4 second out",
-            TOGGLE,
-            [7, 7, 7, 7, 7, 7, 8, 8, 0].as_slice(),
-        ),
-        ("dk plan first", MEAN, [7, 7, 7, 8, 0].as_slice()),
-    ];
-    for (line, first, statuses) in cases {
-        for (call, status) in statuses.iter().enumerate() {
-            let got = status_at(alloc, line, first, call as u64, 4096)?;
-            assert_eq!(rt; got, *status, "at {line}, {call}");
-        }
-        assert_eq!(rt; status_at(alloc, line, first, NONE, 1)?, 0, "at {line}");
-    }
-    Ok(())
-}
-
 // What File holds after `run` where the call of this number fails.
 fn file_at(
     alloc: Global,
