@@ -593,6 +593,16 @@ ends 8 'cannot write' run copy.dk gradient.pgm missing/out.pgm
     failed=1
 }
 
+# With all standard descriptors closed no file gets their numbers, and the line of a fault stands in none.
+printf 'P5\n16 8\n255\n' >ends_early.pgm
+rm -f out.pgm
+"$program" run copy.dk ends_early.pgm out.pgm <&- >&- 2>&-
+[ $? = 4 ] || {
+    echo "examples: closed standard descriptors change the status" >&2
+    failed=1
+}
+holds ends_early.pgm 'where the standard descriptors are closed'
+
 # makes N LINE: `make N` ends with status 0 and prints this line alone
 makes() {
     "$program" make "$1" >stdout 2>stderr
