@@ -1,9 +1,10 @@
 -- Masks after operations that wrap.
 use Rattle.std.proofs.Common.{◌≡◌, ℕ, zero, suc, ◌/◌, ◌+◌, ◌-◌, ◌*◌, ◌%◌, ◌^◌, ◌<◌, ◌≤◌, Bool, true, false, List, slice_index, ap, sym, subst, refl, ◌∙◌, arith, nat_lt, ◌⊎◌, inl, inr}
-use Rattle.std.specs.Prelude.{bit_and, if◌then◌else◌}
+use Rattle.std.specs.Prelude.{bit_and, bit_or, if◌then◌else◌}
+use Rattle.std.specs.Int.Bits.{and_zero_r, or_zero_l, or_zero_r}
 use Rattle.std.proofs.lemmas.Nat.{and_mask, pow-add, mul-mod_first, mul-mod_second}
 use Rattle.std.proofs.lemmas.Bool.{ltb-true, cases_lt, lt-ltb}
-use Rattle.std.proofs.Math.Nat.{add-mul-mod_self_right, suc-mul, zero-mod, mul-add, mul-one, mul_assoc, mod-add-mod}
+use Rattle.std.proofs.Math.Nat.{add-mul-mod_self_right, suc-mul, zero-mod, mul-add, mul-one, mul_assoc, mod-add-mod, mod-eq_of_lt}
 use Rattle.std.proofs.Math.Pow.{mod-mod-pow, pow_pos}
 use Rattle.wiring.specs.declared.right.Operator.{Operator}
 use Rattle.wiring.specs.declared.right.Operator.TheVariants.{Add, Subtract, Multiply}
@@ -112,3 +113,20 @@ pub copies_are : (n w a f : ℕ) → f ≡ repeated n w 1 % 2 ^ 64 → repeated 
 copies_are n w a f e l =
     let small : repeated n w a % 2 ^ 64 ≡ repeated n w a = omega (arith, l) in
     ap (λ k. a * k % 2 ^ 64) e ∙ mul-mod_second a (repeated n w 1) (2 ^ 64) ∙ ap (λ k. k % 2 ^ 64) (sym (copies_times n w a)) ∙ small
+
+-- all bits of a word
+all_of : (n : ℕ) → n < 2 ^ 64 → bit_and n (2 ^ 64 - 1) ≡ n
+all_of n l = and_mask n 64 ∙ mod-eq_of_lt l
+
+-- one of two numbers by a mask of all bits or none
+pub chosen_is : (t : Bool) (mask on off : ℕ) → on < 2 ^ 64 → off < 2 ^ 64 → mask ≡ (if t then 2 ^ 64 - 1 else 0) → bit_or (bit_and on mask) (bit_and off (2 ^ 64 - 1 - mask)) ≡ (if t then on else off)
+chosen_is true mask on off l m is =
+    ap (λ k. bit_or (bit_and on k) (bit_and off (2 ^ 64 - 1 - k))) is
+    ∙ ap (λ k. bit_or k (bit_and off 0)) (all_of on l)
+    ∙ ap (λ k. bit_or on k) (and_zero_r off)
+    ∙ or_zero_r on
+chosen_is false mask on off l m is =
+    ap (λ k. bit_or (bit_and on k) (bit_and off (2 ^ 64 - 1 - k))) is
+    ∙ ap (λ k. bit_or k (bit_and off (2 ^ 64 - 1))) (and_zero_r on)
+    ∙ ap (λ k. bit_or 0 k) (all_of off m)
+    ∙ or_zero_l off

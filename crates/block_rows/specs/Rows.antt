@@ -5,11 +5,6 @@ use Rattle.std.specs.Prelude.{◌≡◌, ℕ, zero, suc, ◌<◌, List, slice_in
 abbrev pub IsPairRow : (ℕ → ℕ → ℕ) → List ℕ → List ℕ → List ℕ → Type 0
 IsPairRow f to a b = (t : ℕ) → t < length to → slice_index to t ≡ f (slice_index a t) (slice_index b t)
 
--- what a register holds before a clock: at first this, then its next value of one clock before
-abbrev pub held_at : ℕ → List ℕ → ℕ → ℕ
-held_at held next zero = held
-held_at held next (suc t) = slice_index next t
-
 -- what an array holds before a clock, written once a clock
 abbrev pub words_after : List ℕ → List ℕ → List ℕ → ℕ → List ℕ
 words_after words index value zero = words

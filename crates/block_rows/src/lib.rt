@@ -5,7 +5,6 @@ mod code;
 mod ordered;
 mod pairs;
 mod rights;
-mod rows;
 mod singles;
 mod words;
 
@@ -13,5 +12,4 @@ pub use code::{Instruction, run_code};
 pub use ordered::is_ordered;
 pub use pairs::operator_row;
 pub use rights::{Spares, atom_row, note_constant, right_row};
-pub use rows::shift_row;
 pub use words::{all_inside, take_back, word_row};

@@ -115,6 +115,22 @@ pub(crate) fn repeat_row(copies: u8, width: u8, to: &mut [u64], a: &[u64])
     single_row(&Times { factor }, to, a);
 }
 
+// All bits, or none.
+fn mask_of(bit: u64) -> u64
+    ensures { result ≡ (if bit == 1 then 2 ^ 64 - 1 else 0) }
+{
+    if bit == 1 { u64::MAX } else { 0 }
+}
+
+// One of two numbers, by a bit. By a mask, of which LLVM makes vector code, as it does not of two branches.
+#[tactic(auto, using(crate::proofs::Masks::chosen_is))]
+fn chosen(bit: u64, on: u64, off: u64) -> u64
+    ensures { result ≡ (if bit == 1 then on else off) }
+{
+    let mask = mask_of(bit);
+    (on & mask) | (off & !mask)
+}
+
 // At each clock one of two rows, by a bit.
 pub(crate) fn choose_row(to: &mut [u64], bit: &[u64], a: &[u64], b: &[u64])
     requires bit { length bit.now ≡ length to.old }
@@ -124,7 +140,7 @@ pub(crate) fn choose_row(to: &mut [u64], bit: &[u64], a: &[u64], b: &[u64])
     ensures each { IsChosenRow to.new bit.now a.now b.now }
 {
     for t in 0..to.len() {
-        to[t] = if bit[t] == 1 { a[t] } else { b[t] };
+        to[t] = chosen(bit[t], a[t], b[t]);
     }
 }
 

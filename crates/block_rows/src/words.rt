@@ -7,12 +7,13 @@ ghost use Rattle.block_rows.specs.Rows.{words_after, IsReadUpTo, AreInside};
 pub fn all_inside(index: &[u64], depth: u64) -> bool
     ensures { IsTrue result → AreInside (length index.now) index.now depth }
 {
+    let mut inside = true;
     for t in 0..index.len() {
         if index[t] >= depth {
-            return false;
+            inside = false;
         }
     }
-    true
+    inside
 }
 
 /// An array over a block: each clock reads, and then writes. What each write takes away is kept.
