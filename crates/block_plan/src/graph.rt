@@ -2,7 +2,7 @@
 
 use netlist::Wiring;
 use std::alloc::{AllocError, Global};
-use wiring::{Atom, Net, Right, Update};
+use wiring::{Assign, Atom, Net, Right, Update};
 
 // The nodes that a node reads.
 #[derive(Clone, Copy)]
@@ -104,15 +104,15 @@ fn depth_of(wiring: &Wiring, array: usize) -> usize {
     }
 }
 
-// The number of words of the array that an assign reads, if it reads one.
-pub(crate) fn reads_array(wiring: &Wiring, assign: usize) -> Option<usize> {
-    match wiring.assigns.get(assign) {
-        None => None,
-        Some(found) => match found.right {
-            Right::Word(array, _) => Some(depth_of(wiring, array)),
-            _ => None,
-        },
-    }
+// How the words of an array that an assign reads come about over a block of clocks.
+#[derive(Clone, Copy)]
+pub(crate) enum Access {
+    // There are more words than clocks: they are those before the block.
+    Long,
+    // A block comes back to its words.
+    Small,
+    // The same, and what is put is what is read, or else a value chosen by a bit, at the index of the read.
+    Held,
 }
 
 // How many assigns read each array.
@@ -156,38 +156,100 @@ pub(crate) fn arrays_are_single(alloc: Global, wiring: &Wiring) -> Result<bool, 
     Ok(are_one(&reads) && are_one(&counts))
 }
 
+// The right side of the assign that drives an atom.
+fn right_of<'a>(
+    wiring: &'a Wiring,
+    drivers: &[Option<usize>],
+    a: &Atom<Net>,
+) -> Option<&'a Right<Net, usize>> {
+    match driver_of(wiring, drivers, a) {
+        Some(node) => match wiring.assigns.get(node) {
+            Some(assign) => Some(&assign.right),
+            None => None,
+        },
+        None => None,
+    }
+}
+
+fn is_net(a: &Atom<Net>, net: Net) -> bool {
+    match a {
+        Atom::Net(other) => *other == net,
+        Atom::Constant(_) => false,
+    }
+}
+
+// Whether two atoms are the same net.
+fn are_one_net(a: &Atom<Net>, b: &Atom<Net>) -> bool {
+    match a {
+        Atom::Net(net) => is_net(b, *net),
+        Atom::Constant(_) => false,
+    }
+}
+
+// What is put by a choice at an index, or else this net there.
+fn held_needs(
+    wiring: &Wiring,
+    drivers: &[Option<usize>],
+    value: &Atom<Net>,
+    target: Net,
+) -> Option<Needs> {
+    match right_of(wiring, drivers, value) {
+        Some(Right::Choose(bit, put, kept)) if is_net(kept, target) => {
+            let mut needs = NONE;
+            needs.second = driver_of(wiring, drivers, bit);
+            needs.third = driver_of(wiring, drivers, put);
+            Some(needs)
+        }
+        _ => None,
+    }
+}
+
+// What the read of an array with few words needs beside its index: what is put, or what it is chosen from.
+fn small_needs(
+    wiring: &Wiring,
+    drivers: &[Option<usize>],
+    update: &Update,
+    target: Net,
+    index: &Atom<Net>,
+) -> (Needs, Access) {
+    let mut needs = NONE;
+    if let Update::Put(_, place, value) = update {
+        if are_one_net(place, index) {
+            if let Some(held) = held_needs(wiring, drivers, value, target) {
+                return (held, Access::Held);
+            }
+        }
+        needs.second = driver_of(wiring, drivers, place);
+        needs.third = driver_of(wiring, drivers, value);
+    }
+    (needs, Access::Small)
+}
+
 // What the read of an array needs: where a block comes back to its words also what is put.
 fn word_needs(
     wiring: &Wiring,
     drivers: &[Option<usize>],
     puts: &[usize],
     size: usize,
+    target: Net,
     array: usize,
     index: &Atom<Net>,
-) -> Needs {
-    let first = driver_of(wiring, drivers, index);
-    let mut needs = NONE;
-    needs.first = first;
-    if depth_of(wiring, array) > size {
-        return needs;
+) -> (Needs, Access) {
+    let mut found = (NONE, Access::Long);
+    if depth_of(wiring, array) <= size {
+        if let Some(update) = wiring.updates.get(number_at(puts, array)) {
+            found = small_needs(wiring, drivers, update, target, index);
+        }
     }
-    if let Some(Update::Put(_, place, value)) = wiring.updates.get(number_at(puts, array)) {
-        needs.second = driver_of(wiring, drivers, place);
-        needs.third = driver_of(wiring, drivers, value);
-    }
-    needs
+    found.0.first = driver_of(wiring, drivers, index);
+    found
 }
 
-fn right_needs(
-    wiring: &Wiring,
-    drivers: &[Option<usize>],
-    puts: &[usize],
-    size: usize,
-    right: &Right<Net, usize>,
-) -> Needs {
+// What an assign that reads no array needs.
+fn right_needs(wiring: &Wiring, drivers: &[Option<usize>], right: &Right<Net, usize>) -> Needs {
     let mut needs = NONE;
     match right {
-        Right::Copy(a) | Right::Not(a) | Right::Repeat(_, a) => {
+        Right::Copy(a) | Right::Not(a) | Right::Repeat(_, a) | Right::Word(_, a) => {
             needs.first = driver_of(wiring, drivers, a);
         }
         Right::Binary(_, a, b) | Right::Join(a, b) => {
@@ -202,9 +264,6 @@ fn right_needs(
         Right::Bit(net, _) | Right::Slice(net, _, _) => {
             needs.first = driver_of_net(wiring, drivers, *net);
         }
-        Right::Word(array, index) => {
-            return word_needs(wiring, drivers, puts, size, *array, index);
-        }
     }
     needs
 }
@@ -217,22 +276,48 @@ fn update_needs(wiring: &Wiring, drivers: &[Option<usize>], update: &Update) -> 
     needs
 }
 
-// What each node needs, for blocks of so many clocks.
-pub(crate) fn needs_of(
-    alloc: Global,
+// What each node needs, and how each assign that reads an array does so.
+#[derive(Drop)]
+pub(crate) struct Graph {
+    pub(crate) needs: Vec<Needs>,
+    pub(crate) accesses: Vec<Option<Access>>,
+}
+
+fn add_assign(
+    graph: &mut Graph,
     wiring: &Wiring,
+    drivers: &[Option<usize>],
+    puts: &[usize],
     size: usize,
-) -> Result<Vec<Needs>, AllocError> {
+    assign: &Assign,
+) -> Result<(), AllocError> {
+    if let Right::Word(array, index) = &assign.right {
+        let (needs, access) = word_needs(wiring, drivers, puts, size, assign.target, *array, index);
+        graph.needs.push(needs)?;
+        graph.accesses.push(Some(access))?;
+    } else {
+        let needs = right_needs(wiring, drivers, &assign.right);
+        graph.needs.push(needs)?;
+        graph.accesses.push(None)?;
+    }
+    Ok(())
+}
+
+// The graph of a module, for blocks of so many clocks.
+pub(crate) fn graph_of(alloc: Global, wiring: &Wiring, size: usize) -> Result<Graph, AllocError> {
     let drivers = drivers_of(alloc, wiring)?;
     let mut counts = vec![in alloc; 0usize; wiring.arrays.len()]?;
     let mut puts = vec![in alloc; 0usize; wiring.arrays.len()]?;
     note_puts(wiring, &mut puts, &mut counts);
-    let mut needs = Vec::new(alloc);
+    let mut graph = Graph {
+        needs: Vec::new(alloc),
+        accesses: Vec::new(alloc),
+    };
     for assign in &wiring.assigns {
-        needs.push(right_needs(wiring, &drivers, &puts, size, &assign.right))?;
+        add_assign(&mut graph, wiring, &drivers, &puts, size, assign)?;
     }
     for update in &wiring.updates {
-        needs.push(update_needs(wiring, &drivers, update))?;
+        graph.needs.push(update_needs(wiring, &drivers, update))?;
     }
-    Ok(needs)
+    Ok(graph)
 }

@@ -2,7 +2,7 @@
 //
 // It is for speed and claims nothing: who runs it checks all that it rests on.
 
-use crate::graph::{Needs, arrays_are_single, needs_of, reads_array};
+use crate::graph::{Access, Graph, Needs, arrays_are_single, graph_of};
 use crate::groups::{Groups, groups_of};
 use crate::search::components_of;
 use dk_base::OutOfMemory;
@@ -28,6 +28,11 @@ pub enum Step {
     /// An array with so few words that a block comes back to them: reads and puts, clock by clock, over a copy of its words. Its
     /// indexes and the value put are known.
     Small {
+        assign: usize,
+    },
+    /// The same where what is put is chosen: by a bit a value, or else what this assign reads, which stands there already. The
+    /// indexes, the bit and the value are known, and the choice is evaluated behind this step.
+    Held {
         assign: usize,
     },
     /// The registers of the updates `looped[first..last]` are on a cycle: their rows are guessed, the assigns of the order up to
@@ -73,25 +78,24 @@ fn add_step(draft: &mut Draft, step: Step) -> Result<(), AllocError> {
     Ok(())
 }
 
+// How an assign reads an array, if it does.
+fn access_at(graph: &Graph, assign: usize) -> Option<Access> {
+    match graph.accesses.get(assign) {
+        Some(access) => *access,
+        None => None,
+    }
+}
+
 // An assign on no cycle.
-fn add_assign(
-    draft: &mut Draft,
-    wiring: &Wiring,
-    assign: usize,
-    size: usize,
-) -> Result<(), AllocError> {
-    match reads_array(wiring, assign) {
+fn add_assign(draft: &mut Draft, graph: &Graph, assign: usize) -> Result<(), AllocError> {
+    match access_at(graph, assign) {
         None => {
             draft.plan.order.push(assign)?;
             Ok(())
         }
-        Some(depth) => {
-            if depth <= size {
-                add_step(draft, Step::Small { assign })
-            } else {
-                add_step(draft, Step::Read { assign })
-            }
-        }
+        Some(Access::Long) => add_step(draft, Step::Read { assign }),
+        Some(Access::Small) => add_step(draft, Step::Small { assign }),
+        Some(Access::Held) => add_step(draft, Step::Held { assign }),
     }
 }
 
@@ -106,12 +110,12 @@ fn sets_register(wiring: &Wiring, update: usize) -> bool {
 fn add_single(
     draft: &mut Draft,
     wiring: &Wiring,
+    graph: &Graph,
     node: usize,
-    size: usize,
 ) -> Result<(), AllocError> {
     let assigns = wiring.assigns.len();
     if node < assigns {
-        return add_assign(draft, wiring, node, size);
+        return add_assign(draft, graph, node);
     }
     let update = node - assigns;
     if sets_register(wiring, update) {
@@ -121,14 +125,19 @@ fn add_single(
 }
 
 // The nodes of a group on a cycle; false where one of them reads an array.
-fn add_cycle(draft: &mut Draft, wiring: &Wiring, nodes: &[usize]) -> Result<bool, AllocError> {
+fn add_cycle(
+    draft: &mut Draft,
+    wiring: &Wiring,
+    graph: &Graph,
+    nodes: &[usize],
+) -> Result<bool, AllocError> {
     flush(draft)?;
     let first = draft.plan.looped.len();
     let assigns = wiring.assigns.len();
     for node in nodes {
         if *node >= assigns {
             draft.plan.looped.push(*node - assigns)?;
-        } else if reads_array(wiring, *node).is_none() {
+        } else if access_at(graph, *node).is_none() {
             draft.plan.order.push(*node)?;
         } else {
             return Ok(false);
@@ -144,17 +153,16 @@ fn add_cycle(draft: &mut Draft, wiring: &Wiring, nodes: &[usize]) -> Result<bool
 fn add_group(
     draft: &mut Draft,
     wiring: &Wiring,
-    needs: &[Needs],
+    graph: &Graph,
     nodes: &[usize],
-    size: usize,
 ) -> Result<bool, AllocError> {
     match nodes.first() {
         None => Ok(true),
         Some(node) => {
-            if nodes.len() > 1 || needs_itself(needs, *node) {
-                return add_cycle(draft, wiring, nodes);
+            if nodes.len() > 1 || needs_itself(&graph.needs, *node) {
+                return add_cycle(draft, wiring, graph, nodes);
             }
-            add_single(draft, wiring, *node, size)?;
+            add_single(draft, wiring, graph, *node)?;
             Ok(true)
         }
     }
@@ -173,9 +181,8 @@ fn needs_itself(needs: &[Needs], node: usize) -> bool {
 fn add_groups(
     alloc: Global,
     wiring: &Wiring,
-    needs: &[Needs],
+    graph: &Graph,
     groups: &Groups,
-    size: usize,
 ) -> Result<Option<Plan>, AllocError> {
     let mut draft = Draft {
         plan: Plan {
@@ -186,7 +193,7 @@ fn add_groups(
         done: 0,
     };
     for number in 0..groups.count() {
-        if !add_group(&mut draft, wiring, needs, groups.nodes(number), size)? {
+        if !add_group(&mut draft, wiring, graph, groups.nodes(number))? {
             return Ok(None);
         }
     }
@@ -201,9 +208,9 @@ pub fn make_plan(alloc: Global, module: &Module, size: usize) -> Result<Option<P
     if !arrays_are_single(alloc, wiring)? {
         return Ok(None);
     }
-    let needs = needs_of(alloc, wiring, size)?;
-    let found = components_of(alloc, &needs)?;
+    let graph = graph_of(alloc, wiring, size)?;
+    let found = components_of(alloc, &graph.needs)?;
     let groups = groups_of(alloc, wiring.assigns.len(), module.order(), &found)?;
-    let plan = add_groups(alloc, wiring, &needs, &groups, size)?;
+    let plan = add_groups(alloc, wiring, &graph, &groups)?;
     Ok(plan)
 }

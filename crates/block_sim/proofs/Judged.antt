@@ -1,6 +1,6 @@
 -- From rows that are judged right to the run.
 use Rattle.std.proofs.Common.{◌≡◌, ℕ, ◌+◌, ◌<◌, ◌≤◌, Bool, true, false, List, [], length, drop, Vec, refl, ap, sym, subst, ◌∙◌, arith}
-use Rattle.std.specs.Prelude.{All, IsTrue, IsFalse, slice_index, slice_index_or, if◌then◌else◌}
+use Rattle.std.specs.Prelude.{Option, Some, None, IfSome, All, IsTrue, IsFalse, slice_index, slice_index_or, if◌then◌else◌}
 use Rattle.std.proofs.lemmas.Option.{slice_get_within}
 use Rattle.std.proofs.lemmas.List.{with_items_is}
 use Rattle.std.specs.Vec.{with_items}
@@ -136,8 +136,14 @@ pub rows_as : (m : Netlist) (r s : Rows) (long : ℕ) → AreRowsOf m r → s.en
 rows_as m r s long are engine size before after t = record {
   engine = subst (λ (e : Engine). IsEngineOf m e) (sym engine) are.engine;
   table = subst (λ (e : Engine). IsTable e.code.widths.items e.code.instructions.items (length s.table.room.items) s.table 0) (sym engine) (subst (λ (n : ℕ). IsTable r.engine.code.widths.items r.engine.code.instructions.items n s.table 0) (sym after) t);
+  some = omega (arith, are.some, size);
   wide = omega (arith, are.wide, size, before, after);
 }
+
+-- rows have a clock at least
+pub some_clocks : (m : Netlist) (rows : Option Rows) → IfSome rows (AreRowsOf m) → IfSome rows (λ (r : Rows). 1 ≤ r.size)
+some_clocks m None are = tt
+some_clocks m (Some r) are = are.some
 
 pub engine_of : (m : Netlist) (e : Engine) → IsEngineOf m e → IsEngine e
 engine_of m e is = record { sound = is.code.runnable.sound; ordered = is.code.runnable.ordered; uses = is.uses }

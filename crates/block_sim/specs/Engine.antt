@@ -42,6 +42,7 @@ pub record AreWide (e : Engine) (rows : List (List ℕ)) (count : ℕ) : Type 0 
 pub record AreRowsOf (m : Netlist) (r : Rows) : Type 0 where
   pub engine : IsEngineOf m r.engine
   pub table : IsTable r.engine.code.widths.items r.engine.code.instructions.items (length r.table.room.items) r.table 0
+  pub some : 1 ≤ r.size
   pub wide : r.size < length r.table.room.items
 
 -- the rows keep the equations of the code over so many clocks from one on, and what is held is what it was and what they leave

@@ -20,16 +20,17 @@ pub struct ArrayRoom {
 }
 
 // Whether the first places of two rows are the same.
-fn are_same(a: &[u64], b: &[u64]) -> bool
+pub fn are_same(a: &[u64], b: &[u64]) -> bool
     requires { length a.now ≤ length b.now }
     ensures { IsTrue result → (t : ℕ) → t < length a.now → slice_index b.now t ≡ slice_index a.now t }
 {
+    let mut same = true;
     for t in 0..a.len() {
         if b[t] != a[t] {
-            return false;
+            same = false;
         }
     }
-    true
+    same
 }
 
 // Reads and writes an array over the clocks of a block if all indexes are inside and what is read is the target's row; else the

@@ -6,6 +6,7 @@ use block_code::BlockCode;
 use block_plan::Plan;
 use netlist::{Right, Update, Wiring};
 use std::alloc::{AllocError, Global};
+use wiring::Atom;
 
 // The code of a module, with the plan after which its rows are filled. The plan is a proposal: nothing rests on it.
 #[derive(Debug, Drop)]
@@ -17,6 +18,8 @@ pub struct Engine {
     // The register of each update, and the array that each assign reads, if there is one.
     pub registers: Vec<Option<usize>>,
     pub arrays: Vec<Option<usize>>,
+    // The instruction that makes what each array is given, if there is one.
+    pub makers: Vec<Option<usize>>,
     // Whether there is the port en, and how many dins there are.
     pub has_enable: bool,
     pub ports: usize,
@@ -52,4 +55,39 @@ pub fn arrays_of(alloc: Global, wiring: &Wiring) -> Result<Vec<Option<usize>>, A
         arrays.push(array_of(&assign.right))?;
     }
     Ok(arrays)
+}
+
+fn note_maker(makers: &mut [Option<usize>], slot: usize, number: usize) {
+    if slot < makers.len() {
+        makers[slot] = Some(number);
+    }
+}
+
+fn maker_of(makers: &[Option<usize>], value: &Atom<usize>) -> Option<usize> {
+    match value {
+        Atom::Net(slot) => match makers.get(*slot) {
+            Some(maker) => *maker,
+            None => None,
+        },
+        Atom::Constant(_) => None,
+    }
+}
+
+// The instruction that makes each slot.
+fn makers_of_slots(alloc: Global, code: &BlockCode) -> Result<Vec<Option<usize>>, AllocError> {
+    let mut makers = vec![in alloc; None; code.widths.len()]?;
+    for number in 0..code.instructions.len() {
+        note_maker(&mut makers, code.instructions[number].target, number);
+    }
+    Ok(makers)
+}
+
+// The instruction that makes what each array is given.
+pub fn makers_of(alloc: Global, code: &BlockCode) -> Result<Vec<Option<usize>>, AllocError> {
+    let slots = makers_of_slots(alloc, code)?;
+    let mut makers = Vec::new(alloc);
+    for put in &code.puts {
+        makers.push(maker_of(&slots, &put.value))?;
+    }
+    Ok(makers)
 }

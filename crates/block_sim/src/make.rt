@@ -9,7 +9,7 @@ ghost use Rattle.block_sim.specs.Engine.{IsEngineOf, AreRowsOf};
 ghost use Rattle.block_sim.specs.Table.{IsTable};
 
 use crate::arrays::ArrayRoom;
-use crate::engine::{Engine, arrays_of, registers_of};
+use crate::engine::{Engine, arrays_of, makers_of, registers_of};
 use crate::pieces::PIECE;
 use crate::rows::Rows;
 use crate::steps::Hints;
@@ -73,7 +73,12 @@ fn copies_of(alloc: Global, wiring: &Wiring) -> Result<Vec<Vec<u64>>, AllocError
 fn hints_of(alloc: Global, wiring: &Wiring) -> Result<Hints, AllocError> {
     let words = copies_of(alloc, wiring)?;
     let steps = vec![in alloc; 1; wiring.regs.len()]?;
-    Ok(Hints { words, steps })
+    let stands = vec![in alloc; true; wiring.regs.len()]?;
+    Ok(Hints {
+        words,
+        steps,
+        stands,
+    })
 }
 
 // The most clocks of a piece for which rows of so many slots and arrays have room: 0 where there is none.
@@ -97,6 +102,7 @@ fn rows_of_engine(
     wiring: &Wiring,
     size: usize,
 ) -> Result<Rows, AllocError>
+    requires some { 1 ≤ size }
     requires size { size ≤ 1024 }
     requires engine { IsEngineOf (netlist_of wiring.now) engine }
     ensures { IfOk result (AreRowsOf (netlist_of wiring.now)) }
@@ -132,12 +138,14 @@ fn engine_of(
     let uses = first_uses(alloc, code.widths.len(), &code.instructions)?;
     let registers = registers_of(alloc, wiring)?;
     let arrays = arrays_of(alloc, wiring)?;
+    let makers = makers_of(alloc, &code)?;
     Ok(Engine {
         code,
         plan,
         uses,
         registers,
         arrays,
+        makers,
         has_enable: wiring.enable,
         ports,
     })

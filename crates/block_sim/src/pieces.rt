@@ -13,11 +13,14 @@ ghost use Rattle.block_sim.specs.Held.{contents_in};
 use crate::blocks::Stop;
 use crate::held::{Held, each_held};
 use crate::pause::Pause;
-use crate::rows::{LEAST, Rows, rows_block};
+use crate::rows::{Rows, rows_block};
 use cycle_sim::{Out, Sim};
 
 // The greatest number of clocks that are made over whole rows.
 pub const PIECE: usize = 128;
+
+// Pieces of fewer clocks are made one by one.
+const LEAST: usize = 24;
 
 // So many clocks over rows, if there are rows and they do.
 fn by_rows(
@@ -95,15 +98,17 @@ fn step_piece(
 
 // The most clocks of a piece.
 fn size_of(rows: &Option<Rows>) -> usize
+    requires { IfSome rows.now (λ r. 1 ≤ r.size) }
     ensures { 1 ≤ result }
 {
     match rows {
-        Some(rows) => rows.size.max(1),
+        Some(rows) => rows.size,
         None => PIECE,
     }
 }
 
 // The clocks of a block, piece by piece.
+#[tactic(auto, using(crate::proofs::Judged::some_clocks))]
 pub fn step_pieces(
     sim: &mut Sim,
     rows: &mut Option<Rows>,

@@ -16,15 +16,13 @@ fn follows(row: &[u64], next: &[u64], held: u64) -> bool
     ensures first { IsTrue result → slice_index row.now 0 ≡ held }
     ensures later { IsTrue result → (t : ℕ) → t < length next.now → slice_index row.now (suc t) ≡ slice_index next.now t }
 {
-    if row[0] != held {
-        return false;
-    }
+    let mut same = row[0] == held;
     for t in 0..next.len() {
         if row[t + 1] != next[t] {
-            return false;
+            same = false;
         }
     }
-    true
+    same
 }
 
 // Whether a register's row begins with what it holds, and is that of its next value, a clock later, over so many clocks.

@@ -26,9 +26,6 @@ use crate::steps::{Hints, offer_row, take_steps};
 use crate::table::Table;
 use cycle_sim::{Out, Sim};
 
-// Pieces of fewer clocks are made one by one.
-pub const LEAST: usize = 24;
-
 // The rows of a module, and room for what is made over them.
 #[derive(Debug, Drop)]
 pub struct Rows {
@@ -58,7 +55,7 @@ fn propose_inputs(
     ensures table { IsTable engine.now.code.widths.items engine.now.code.instructions.items (length table.old.room.items) table.new 0 }
 {
     for input in 0..engine.code.first_output {
-        propose_input(table, engine, enables, dins, input, first, count);
+        propose_input(table, engine, enables, dins, input, first);
         let _offered = offer_row(engine, table, 0, input);
     }
 }
@@ -274,9 +271,6 @@ pub fn rows_block(
     ensures back { IsFalse result → contents_in held.new ≡ contents_in held.old }
     ensures outs { IsFalse result → outs.new ≡ outs.old }
 {
-    if count < LEAST {
-        return false;
-    }
     if !run_piece(sim, rows, held, enables, dins, first, count) {
         return false;
     }

@@ -4,23 +4,28 @@ ghost use Rattle.std.specs.Prelude.{◌≡◌, ◌≤◌, length, IfSome, IsTrue
 ghost use Rattle.block_sim.specs.Table.{IsTable};
 ghost use Rattle.block_sim.specs.Engine.{IsEngine};
 
+use crate::arrays::are_same;
 use crate::engine::Engine;
 use crate::fill::{
-    Worth, atom_value, propose_line, propose_read, propose_shift, propose_small, row_of,
-    slot_value, worth_at, worth_of,
+    ENABLE, Line, Worth, atom_value, propose_choice, propose_line, propose_read, propose_shift,
+    propose_small, row_of, slot_value, worth_at, worth_of,
 };
 use crate::held::Held;
 use crate::table::{Table, offer, run_upto};
 use block_plan::Step;
+use block_rows::Instruction;
+use wiring::Atom;
 
 // The most rounds in which the rows of a cycle are guessed.
 const ROUNDS: usize = 6;
 
-// What the steps work with: copies of the words of small arrays, and by which step each register goes on.
+// What the steps work with: copies of the words of small arrays, and of each register by which step it goes on and whether it
+// stands in held clocks.
 #[derive(Debug, Drop)]
 pub struct Hints {
     pub words: Vec<Vec<u64>>,
     pub steps: Vec<u64>,
+    pub stands: Vec<bool>,
 }
 
 // The register of an update of the plan.
@@ -43,6 +48,20 @@ fn number_in(numbers: &[u64], place: usize) -> u64 {
         numbers[place]
     } else {
         0
+    }
+}
+
+fn flag_in(flags: &[bool], place: usize) -> bool {
+    if place < flags.len() {
+        flags[place]
+    } else {
+        false
+    }
+}
+
+fn lower_flag(flags: &mut [bool], place: usize) {
+    if place < flags.len() {
+        flags[place] = false;
     }
 }
 
@@ -148,16 +167,58 @@ fn small(
     offer_row(engine, table, done, read.target)
 }
 
-// A register's row as it is up to a place, and a straight line from there.
+// The instruction that makes what an array is given.
+fn maker_at(engine: &Engine, array: usize) -> Option<&Instruction> {
+    match engine.makers.get(array) {
+        Some(Some(maker)) => engine.code.instructions.get(*maker),
+        _ => None,
+    }
+}
+
+// An array that is given what is read, or else a value chosen by a bit.
 #[tactic(auto, using(crate::proofs::Tables::table_refilled))]
-fn line(
+fn hold(
+    engine: &Engine,
+    table: &mut Table,
+    held: &Held,
+    hints: &mut Hints,
+    done: usize,
+    assign: usize,
+) -> bool
+    requires engine { IsEngine engine.now }
+    requires table { IsTable engine.now.code.widths.items engine.now.code.instructions.items (length table.old.room.items) table.old done }
+    ensures room { length table.new.room.items ≡ length table.old.room.items }
+    ensures table { IsTable engine.now.code.widths.items engine.now.code.instructions.items (length table.old.room.items) table.new done }
+{
+    let Some(array) = array_at(engine, assign) else {
+        return false;
+    };
+    let Some(read) = engine.code.reads.get(array) else {
+        return false;
+    };
+    let Some(maker) = maker_at(engine, array) else {
+        return false;
+    };
+    let Some(words) = held.arrays.get(array) else {
+        return false;
+    };
+    let Some(copy) = hints.words.get_mut(array) else {
+        return false;
+    };
+    copy_words(copy, words);
+    propose_choice(table, &read.index, &maker.right, copy);
+    offer_row(engine, table, done, read.target)
+}
+
+// A register's row as it is up to a place, and a line from there.
+#[tactic(auto, using(crate::proofs::Tables::table_refilled))]
+fn go_on(
     engine: &Engine,
     table: &mut Table,
     done: usize,
     register: usize,
     first: usize,
-    value: u64,
-    step: u64,
+    line: Line,
 ) -> bool
     requires engine { IsEngine engine.now }
     requires table { IsTable engine.now.code.widths.items engine.now.code.instructions.items (length table.old.room.items) table.old done }
@@ -165,11 +226,11 @@ fn line(
     ensures table { IsTable engine.now.code.widths.items engine.now.code.instructions.items (length table.old.room.items) table.new done }
 {
     let slot = engine.code.first_reg.saturating_add(register);
-    propose_line(table, slot, first, value, step);
+    propose_line(table, engine.has_enable, slot, first, line);
     offer_row(engine, table, done, slot)
 }
 
-// The first guess of a register: a straight line from what it holds.
+// The first guess of a register: a line from what it holds.
 fn guess_one(
     engine: &Engine,
     table: &mut Table,
@@ -186,9 +247,12 @@ fn guess_one(
     let Some(register) = register_at(engine, update) else {
         return false;
     };
-    let value = number_in(&held.regs, register);
-    let step = number_in(&hints.steps, register);
-    line(engine, table, done, register, 0, value, step)
+    let line = Line {
+        value: number_in(&held.regs, register),
+        step: number_in(&hints.steps, register),
+        stands: flag_in(&hints.stands, register),
+    };
+    go_on(engine, table, done, register, 0, line)
 }
 
 // The registers of these updates, each by its first guess.
@@ -214,11 +278,25 @@ fn guess_all(
     true
 }
 
+// Whether the first so many places of a row are another row's: in one pass that does not end early, which is faster where they
+// are.
+fn agrees(row: &[u64], worth: Worth<'_>, count: usize) -> bool {
+    match worth {
+        Worth::Row(next) if count <= row.len() && count <= next.len() => {
+            are_same(&row[..count], next)
+        }
+        _ => false,
+    }
+}
+
 // The first of so many clocks at which a row is not this, one clock later.
 fn first_apart(row: &[u64], worth: Worth<'_>, count: usize) -> usize {
     let Some((_, later)) = row.split_first() else {
         return 0;
     };
+    if agrees(later, worth, count) {
+        return count;
+    }
     for t in 0..count.min(later.len()) {
         if later[t] != worth_at(worth, t) {
             return t;
@@ -251,7 +329,40 @@ fn wrong_first(engine: &Engine, table: &Table, first: usize, last: usize, count:
     wrong
 }
 
-// A register from the first wrong place on: the right value, and the step 1 where it changes as it did before.
+// Whether a clock is held.
+fn is_held(engine: &Engine, table: &Table, clock: usize) -> bool {
+    engine.has_enable && slot_value(&table.rows, ENABLE, clock) == 0
+}
+
+// How a register goes on behind the first wrong place: from the right value, by the step 1 where it changes as it did before, or
+// may have done before a held clock. One that changes in a held clock does not stand in such clocks.
+fn mended(
+    engine: &Engine,
+    table: &Table,
+    hints: &mut Hints,
+    register: usize,
+    next: &Atom<usize>,
+    wrong: usize,
+) -> Line {
+    let slot = engine.code.first_reg.saturating_add(register);
+    let value = atom_value(&table.rows, next, wrong);
+    let is = slot_value(&table.rows, slot, wrong);
+    let before = wrong.saturating_sub(1);
+    let was = slot_value(&table.rows, slot, before);
+    let moved = wrong == 0 || is != was || is_held(engine, table, before);
+    let step = u64::from(value != is && moved);
+    set_number(&mut hints.steps, register, step);
+    if value != is && is_held(engine, table, wrong) {
+        lower_flag(&mut hints.stands, register);
+    }
+    let stands = flag_in(&hints.stands, register);
+    Line {
+        value,
+        step,
+        stands,
+    }
+}
+
 fn mend_one(
     engine: &Engine,
     table: &mut Table,
@@ -271,21 +382,8 @@ fn mend_one(
     let Some(next) = engine.code.nexts.get(register) else {
         return false;
     };
-    let slot = engine.code.first_reg.saturating_add(register);
-    let value = atom_value(&table.rows, next, wrong);
-    let is = slot_value(&table.rows, slot, wrong);
-    let was = slot_value(&table.rows, slot, wrong.saturating_sub(1));
-    let step = u64::from(value != is && (wrong == 0 || is != was));
-    set_number(&mut hints.steps, register, step);
-    line(
-        engine,
-        table,
-        done,
-        register,
-        wrong.saturating_add(1),
-        value,
-        step,
-    )
+    let line = mended(engine, table, hints, register, next, wrong);
+    go_on(engine, table, done, register, wrong.saturating_add(1), line)
 }
 
 fn mend_all(
@@ -391,6 +489,7 @@ pub fn take_step(
         Step::Shift { update } => when(shift(engine, table, held, done, update), done),
         Step::Read { assign } => when(read(engine, table, held, done, assign), done),
         Step::Small { assign } => when(small(engine, table, held, hints, done, assign), done),
+        Step::Held { assign } => when(hold(engine, table, held, hints, done, assign), done),
         Step::Guess { first, last, upto } => guess(
             engine, table, held, hints, done, first, last, upto, count,
         ),
