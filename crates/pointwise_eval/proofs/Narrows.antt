@@ -3,8 +3,8 @@ use Rattle.std.proofs.Common.{List, subst}
 use Rattle.std.specs.List.{All}
 use Rattle.std.proofs.lemmas.Option.{slice_get_within, get_or_from_slice_get}
 use Rattle.dk_base.specs.declared.ty.Ty.{Ty}
-use Rattle.dk_base.specs.declared.ty.Ty.TheVariants.{Unsigned, Signed}
-use Rattle.dk_base.specs.Types.{IsType, IsWithin}
+use Rattle.dk_base.specs.declared.ty.Ty.TheVariants.{Signed}
+use Rattle.dk_base.specs.Types.{IsType}
 use Rattle.dk_base.specs.Frames.{Size, Picture}
 use Rattle.dk_base.proofs.Ranges.{in_wider}
 use Rattle.pointwise_ir.specs.Trees.{Tree, constant, read, shifted, unary, binary, select, convert, scale}
@@ -12,7 +12,7 @@ use Rattle.pointwise_ir.specs.Typing.{HasType}
 use Rattle.pointwise_ir.proofs.Typed.{AreTypes, AreIn, value_in}
 use Rattle.pointwise_eval.specs.declared.plane.Plane.{Plane}
 use Rattle.pointwise_eval.specs.Planes.{all_shown, AreValues}
-use Rattle.pointwise_eval.specs.Narrow.{HasNarrow, AreNarrow, AreFew, HasNarrowType, AreOfNarrowTypes}
+use Rattle.pointwise_eval.specs.Narrow.{HasNarrow, AreNarrow, AreAllIn, HasNarrowType, AreOfNarrowTypes}
 
 has_narrow : (size : Size) (types : List Ty) (known : List Picture) → AreTypes types → AreIn types known → (e : Tree) → HasNarrowType types e → HasNarrow size known e
 has_narrow size types known ok are e (t, has, within) x y = in_wider t (Signed 64) _ within (value_in size types known ok are e t has x y)
@@ -36,6 +36,6 @@ types_all types all g t is =
 pub planes_narrow : (size : Size) (types : List Ty) (planes : List Plane) → All IsType types → AreValues size types planes → (e : Tree) → AreOfNarrowTypes types e → AreNarrow size (all_shown size planes) e
 planes_narrow size types planes all values e h = are_narrow size types (all_shown size planes) (types_all types all) values e h
 
--- and one of a type of samples has values that are some
-pub planes_few : (size : Size) (types : List Ty) (planes : List Plane) → All IsType types → AreValues size types planes → (e : Tree) (t : Ty) → HasType types e t → IsWithin t (Unsigned 16) → AreFew size (all_shown size planes) e
-planes_few size types planes all values e t has within x y = in_wider t (Unsigned 16) _ within (value_in size types (all_shown size planes) (types_all types all) values e t has x y)
+-- and one of a type has values of it
+pub planes_in : (size : Size) (types : List Ty) (planes : List Plane) → All IsType types → AreValues size types planes → (e : Tree) (t : Ty) → HasType types e t → AreAllIn size (all_shown size planes) e t
+planes_in size types planes all values e t has x y = value_in size types (all_shown size planes) (types_all types all) values e t has x y

@@ -1,59 +1,60 @@
--- Samples as values.
-use Rattle.std.proofs.Common.{◌≡◌, ◌∙◌, sym, ℕ, ◌+◌, ◌<◌, ◌≤◌, List, [], ◌∷◌, length, map, take, drop, ℤ, pos, ◌≤ℤ◌, ◌<ℤ◌, unsigned_abs, slice_index, refl, ap, arith}
+-- Elements as values.
+use Rattle.std.proofs.Common.{get_or, Some, slice_get, subst, ◌≡◌, ◌∙◌, sym, ℕ, ◌+◌, ◌-◌, ◌<◌, ◌≤◌, List, [], ◌∷◌, length, map, take, drop, ℤ, pos, unsigned_abs, refl, ap, arith}
 use Rattle.std.specs.Prelude.{slice_index_or}
 use Rattle.std.proofs.Math.Pow.{pow_mono}
 use Rattle.std.proofs.lemmas.Grind.{common_steps}
-use Rattle.std.proofs.lemmas.Int.{ints}
-use Rattle.std.proofs.lemmas.List.{length-map, get_or-map, get_or-take, get_or-drop}
-use Rattle.dk_base.specs.declared.ty.Ty.TheVariants.{Unsigned}
-use Rattle.dk_base.specs.Types.{IsIn, IsWithin}
+use Rattle.std.proofs.lemmas.List.{length-map, get_or-map, get_or-take, get_or-drop, take-map, drop-map}
+use Rattle.std.specs.List.{All}
+use Rattle.std.proofs.lemmas.Option.{slice_get_within, get_or_from_slice_get}
+use Rattle.dk_base.specs.declared.ty.Ty.TheVariants.{Unsigned, Signed}
+use Rattle.dk_base.specs.Types.{IsWithin}
 use Rattle.dk_base.specs.Frames.{Size, Picture}
 use Rattle.value_rows.specs.Rows.{entry, IsRow}
 
-pub all_within : (s : List ℕ) (start count : ℕ) → start + count ≤ length (map pos s) → start + count ≤ length s
-all_within s start count h = rw (length-map s pos) at h
+pub all_within : {A : Type 0} (worth : A → ℤ) (s : List A) (start count : ℕ) → start + count ≤ length (map worth s) → start + count ≤ length s
+all_within worth s start count h = rw (length-map s worth) at h
 
-pub same_length : (s : List ℕ) (n : ℕ) → length (map pos s) ≡ n → length s ≡ n
-same_length s n h = sym (length-map s pos) ∙ h
+pub same_length : {A : Type 0} (worth : A → ℤ) (s : List A) (n : ℕ) → length (map worth s) ≡ n → length s ≡ n
+same_length worth s n h = sym (length-map s worth) ∙ h
 
-pub sample_within : (s : List ℕ) (k : ℕ) → k < length (map pos s) → k < length s
-sample_within s k h = rw (length-map s pos) at h
+pub element_within : {A : Type 0} (worth : A → ℤ) (s : List A) (k : ℕ) → k < length (map worth s) → k < length s
+element_within worth s k h = rw (length-map s worth) at h
 
-pub sample_value : (s : List ℕ) (k : ℕ) → k < length (map pos s) → pos (slice_index s k) ≡ slice_index_or (map pos s) k (pos 0)
-sample_value s k h = sym (get_or-map pos s k 0 (pos 0) (sample_within s k h))
+pub element_value : {A : Type 0} (worth : A → ℤ) (s : List A) (k : ℕ) (d : A) → k < length (map worth s) → worth (get_or s k d) ≡ slice_index_or (map worth s) k (pos 0)
+element_value worth s k d h = sym (get_or-map worth s k d (pos 0) (element_within worth s k h))
 
-part_samples : (s : List ℕ) (start count : ℕ) → start + count ≤ length s → length (take count (drop start s)) ≡ count
-part_samples s start count h = grind (arith, common_steps)
+part_elements : {A : Type 0} (s : List A) (start count : ℕ) → start + count ≤ length s → length (take count (drop start s)) ≡ count
+part_elements s start count h = grind (arith, common_steps)
 
-pub part_length : (s : List ℕ) (start count : ℕ) → start + count ≤ length (map pos s) → length (map pos (take count (drop start s))) ≡ count
-part_length s start count h = length-map (take count (drop start s)) pos ∙ part_samples s start count (all_within s start count h)
+pub part_length : {A : Type 0} (worth : A → ℤ) (s : List A) (start count : ℕ) → start + count ≤ length (map worth s) → length (map worth (take count (drop start s))) ≡ count
+part_length worth s start count h = length-map (take count (drop start s)) worth ∙ part_elements s start count (all_within worth s start count h)
 
-pub part_entry : (s : List ℕ) (start count k : ℕ) → start + count ≤ length (map pos s) → k < count → entry (map pos (take count (drop start s))) k ≡ entry (map pos s) (start + k)
-part_entry s start count k h lt =
-    let all = all_within s start count h in
-    let some = part_samples s start count all in
-    get_or-map pos (take count (drop start s)) k 0 (pos 0) (let w : k < length (take count (drop start s)) = omega (arith, some, lt) in w)
-    ∙ ap pos (get_or-take count (drop start s) k 0 lt ∙ get_or-drop start s k 0)
-    ∙ sym (get_or-map pos s (start + k) 0 (pos 0) (let w : start + k < length s = omega (arith, all, lt) in w))
+pub part_entry : {A : Type 0} (worth : A → ℤ) (s : List A) (start count k : ℕ) → start + count ≤ length (map worth s) → k < count → entry (map worth (take count (drop start s))) k ≡ entry (map worth s) (start + k)
+part_entry worth s start count k h lt =
+    ap (λ l. entry l k) (sym (take-map worth count (drop start s)) ∙ ap (take count) (sym (drop-map worth start s)))
+    ∙ get_or-take count (drop start (map worth s)) k (pos 0) lt ∙ get_or-drop start (map worth s) k (pos 0)
 
--- a row of samples
-pub samples_row : (size : Size) (picture : Picture) (y : ℤ) (row : List ℤ) (s : List ℕ) → IsRow size picture y row → length s ≡ size.width → ((k : ℕ) → k < length s → pos (slice_index s k) ≡ entry row k) → IsRow size picture y (map pos s)
-samples_row size picture y row s is whole same = record {
-  whole = length-map s pos ∙ whole;
+-- a row of elements
+pub elements_row : {A : Type 0} (worth : A → ℤ) (size : Size) (picture : Picture) (y : ℤ) (row : List ℤ) (s : List A) → IsRow size picture y row → length s ≡ size.width → ((k : ℕ) → k < length s → entry (map worth s) k ≡ entry row k) → IsRow size picture y (map worth s)
+elements_row worth size picture y row s is whole same = record {
+  whole = length-map s worth ∙ whole;
   values = λ x lt.
       let within : x < length s = rw whole lt in
-      get_or-map pos s x 0 (pos 0) within ∙ same x within ∙ is.values x lt;
+      same x within ∙ is.values x lt;
 }
 
--- the range of samples
-pub sample_least : (v : ℤ) → IsIn (Unsigned 16) v → pos 0 ≤ℤ v
-sample_least v is = let h = is.least in omega (arith, ints, h)
+-- what each element's value has
+pub element_all : {A : Type 0} (worth : A → ℤ) (P : ℤ → Type 0) (s : List A) (k : ℕ) (x : A) → All P (map worth s) → slice_get s k ≡ Some x → P (worth x)
+element_all worth P s k x all there =
+    let lt = slice_get_within s k x there in
+    subst P (get_or-map worth s k x (pos 0) lt ∙ ap worth (get_or_from_slice_get s k x x there)) (all k (pos 0) (rw (length-map s worth) lt))
 
-pub sample_greatest : (v : ℤ) → IsIn (Unsigned 16) v → v <ℤ pos 65536
-sample_greatest v is = let h = is.greatest in omega (arith, ints, h)
+-- narrower types
+pub unsigned_within : (n m : ℕ) → n ≤ m → IsWithin (Unsigned n) (Unsigned m)
+unsigned_within n m h = record { low = omega arith; high = pow_mono h }
 
-pub few_within : (n : ℕ) → n ≤ 16 → IsWithin (Unsigned n) (Unsigned 16)
-few_within n h = record { low = omega arith; high = pow_mono h }
+pub signed_within : (n m : ℕ) → n ≤ m → IsWithin (Signed n) (Signed m)
+signed_within n m h = let g : n - 1 ≤ m - 1 = omega (arith, h) in record { low = pow_mono g; high = pow_mono g }
 
 -- values that were samples
 pub samples_back : (s : List ℕ) → s ≡ map unsigned_abs (map pos s)

@@ -3,3 +3,4 @@ pub mod Rounds
 pub mod Needs
 pub mod Narrow
 pub mod Steps
+pub mod Held

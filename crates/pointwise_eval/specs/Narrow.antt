@@ -1,7 +1,7 @@
 -- Expressions whose parts have values of 64 bits.
 use Rattle.std.specs.Prelude.{ℤ, List}
 use Rattle.dk_base.specs.declared.ty.Ty.{Ty}
-use Rattle.dk_base.specs.declared.ty.Ty.TheVariants.{Unsigned, Signed}
+use Rattle.dk_base.specs.declared.ty.Ty.TheVariants.{Signed}
 use Rattle.dk_base.specs.Types.{IsIn, IsWithin}
 use Rattle.dk_base.specs.Frames.{Size, Picture}
 use Rattle.pointwise_ir.specs.Trees.{Tree, constant, read, shifted, unary, binary, select, convert, scale}
@@ -39,6 +39,6 @@ AreOfNarrowTypes types (select c a b) = HasNarrowType types (select c a b) × Ar
 AreOfNarrowTypes types (convert how a t) = HasNarrowType types (convert how a t) × AreOfNarrowTypes types a
 AreOfNarrowTypes types (scale op a k) = HasNarrowType types (scale op a k) × AreOfNarrowTypes types a
 
--- each value is a sample
-abbrev pub AreFew : Size → List Picture → Tree → Type 0
-AreFew size known e = (x y : ℤ) → IsIn (Unsigned 16) (value size known e x y)
+-- each value is a number of the type
+abbrev pub AreAllIn : Size → List Picture → Tree → Ty → Type 0
+AreAllIn size known e t = (x y : ℤ) → IsIn t (value size known e x y)

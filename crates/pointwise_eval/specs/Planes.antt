@@ -10,28 +10,43 @@ use Rattle.dk_base.specs.Types.{IsPort}
 use Rattle.dk_base.specs.Frames.{framed, picture_at}
 use Rattle.pointwise_ir.specs.Meaning.{edged, value}
 use Rattle.pointwise_eval.specs.declared.plane.Plane.{Plane}
-use Rattle.pointwise_eval.specs.declared.plane.Plane.TheVariants.{Input, Samples, Narrow, Wide, Gone}
+use Rattle.pointwise_eval.specs.declared.plane.Plane.TheVariants.{Input, Unsigned8, Unsigned16, Unsigned32, Signed8, Signed16, Signed32, Signed64, Wide, Gone}
 use Rattle.pointwise_eval.specs.Needs.{IsNeeded}
 use Rattle.pointwise_eval.specs.declared.plane.Row.{Row}
-use Rattle.pointwise_eval.specs.declared.plane.Row.TheVariants.{Pixels, Values}
+use Rattle.pointwise_eval.specs.declared.plane.Row.TheVariants.{U8, U16, U32, I8, I16, I32, I64}
 
 -- its values
 abbrev pub values_of : Plane → List ℤ
 values_of (Input samples) = map pos samples.now
-values_of (Samples samples) = map pos samples.items
-values_of (Narrow values) = values.items
+values_of (Unsigned8 elements) = map pos elements.items
+values_of (Unsigned16 elements) = map pos elements.items
+values_of (Unsigned32 elements) = map pos elements.items
+values_of (Signed8 elements) = map (λ v. v) elements.items
+values_of (Signed16 elements) = map (λ v. v) elements.items
+values_of (Signed32 elements) = map (λ v. v) elements.items
+values_of (Signed64 values) = values.items
 values_of (Wide values) = values.items
 values_of Gone = []
 
 abbrev pub entries_of : Row → List ℤ
-entries_of (Pixels samples) = map pos samples.now
-entries_of (Values values) = values.now
+entries_of (U8 elements) = map pos elements.now
+entries_of (U16 elements) = map pos elements.now
+entries_of (U32 elements) = map pos elements.now
+entries_of (I8 elements) = map (λ v. v) elements.now
+entries_of (I16 elements) = map (λ v. v) elements.now
+entries_of (I32 elements) = map (λ v. v) elements.now
+entries_of (I64 values) = values.now
 
 -- a plane of values of 64 bits
 abbrev pub IsByRows : Plane → Type 0
 IsByRows (Input samples) = Unit {0}
-IsByRows (Samples samples) = Unit {0}
-IsByRows (Narrow values) = Unit {0}
+IsByRows (Unsigned8 elements) = Unit {0}
+IsByRows (Unsigned16 elements) = Unit {0}
+IsByRows (Unsigned32 elements) = Unit {0}
+IsByRows (Signed8 elements) = Unit {0}
+IsByRows (Signed16 elements) = Unit {0}
+IsByRows (Signed32 elements) = Unit {0}
+IsByRows (Signed64 elements) = Unit {0}
 IsByRows (Wide values) = ⊥
 IsByRows Gone = ⊥
 

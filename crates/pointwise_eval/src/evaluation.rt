@@ -14,7 +14,7 @@ ghost use Rattle.pointwise_eval.specs.Needs.{IsNeeded, image_count, AreNeeds};
 ghost use Rattle.pointwise_eval.specs.Planes.{values_of, all_shown, AreValues, IsWhole, CanEvaluate, IsPlaneOf, AreSameOrGone, ShowsNeeded, IsOutputPlane};
 ghost use Rattle.pointwise_eval.specs.Rounds.{AreFrames, round_of, frame_of, output_frames};
 
-use crate::need::{is_needed, needs};
+use crate::need::{is_needed, lasts, needs};
 use crate::plane::Plane;
 use crate::rows::render;
 use dk_base::{FrameSize, OutOfMemory};
@@ -22,6 +22,7 @@ use dk_frames::{Frame, Samples};
 use pointwise_ir::{Definition, Expr, Input, Ir};
 use std::alloc::Global;
 use std::mem;
+use value_rows::Element;
 
 // The planes of the inputs.
 fn input_planes<'a>(alloc: Global, frames: &'a [Frame]) -> Result<Vec<Plane<'a>>, OutOfMemory>
@@ -43,6 +44,7 @@ fn next_plane<'a>(
     images: &[Definition],
     body: &Expr,
     wanted: bool,
+    is_output: bool,
 ) -> Result<Plane<'a>, OutOfMemory>
     requires can { IsTrue wanted → CanEvaluate (size_of size) planes.now (tree_of body.now) }
     requires types { All IsType (all_types inputs.now images.now) }
@@ -51,7 +53,7 @@ fn next_plane<'a>(
     ensures { IfOk result (λ p. IsPlaneOf (size_of size) planes.now (tree_of body.now) wanted p) }
 {
     if wanted {
-        render(alloc, size, planes, inputs, images, body)
+        render(alloc, size, planes, inputs, images, body, is_output)
     } else {
         Ok(Plane::Gone)
     }
@@ -127,11 +129,21 @@ fn all_planes<'a>(
             before,
             &images[k].body,
             wanted,
+            lasts(until, number),
         )?;
         planes.push(plane)?;
         drop_unneeded(&mut planes, until, number + 1);
     }
     Ok(planes)
+}
+
+// An element that is a sample.
+fn sample_of<T: Element>(element: T) -> u16
+    requires least { pos 0 ≤ℤ T.worth element }
+    requires greatest { T.worth element <ℤ pos 65536 }
+    ensures { result ≡ unsigned_abs (T.worth element) }
+{
+    element.widen() as u16
 }
 
 // Values that are samples.
@@ -142,6 +154,18 @@ fn narrow_samples(alloc: Global, values: &[i64]) -> Result<Vec<u16>, OutOfMemory
     let mut samples = Vec::new(alloc);
     for value in values {
         samples.push(*value as u16)?;
+    }
+    Ok(samples)
+}
+
+// Elements that are samples.
+fn element_samples<T: Element>(alloc: Global, elements: &[T]) -> Result<Vec<u16>, OutOfMemory>
+    requires { All (λ v. (pos 0 ≤ℤ v) × (v <ℤ pos 65536)) (map T.worth elements.now) }
+    ensures { IfOk result (λ s. s.items ≡ map unsigned_abs (map T.worth elements.now)) }
+{
+    let mut samples = Vec::with_capacity(alloc, elements.len())?;
+    for element in elements {
+        samples.push(sample_of(*element))?;
     }
     Ok(samples)
 }
@@ -166,8 +190,13 @@ fn samples_of(alloc: Global, plane: Plane<'_>) -> Result<Vec<u16>, OutOfMemory>
 {
     match plane {
         Plane::Input(samples) => Ok(Vec::from_slice(alloc, samples)?),
-        Plane::Samples(samples) => Ok(samples),
-        Plane::Narrow(values) => narrow_samples(alloc, &values),
+        Plane::Unsigned16(samples) => Ok(samples),
+        Plane::Unsigned8(elements) => element_samples(alloc, &elements),
+        Plane::Unsigned32(elements) => element_samples(alloc, &elements),
+        Plane::Signed8(elements) => element_samples(alloc, &elements),
+        Plane::Signed16(elements) => element_samples(alloc, &elements),
+        Plane::Signed32(elements) => element_samples(alloc, &elements),
+        Plane::Signed64(values) => narrow_samples(alloc, &values),
         Plane::Wide(values) => wide_samples(alloc, &values),
         Plane::Gone => Ok(Vec::new(alloc)),
     }

@@ -3,12 +3,17 @@
 ghost use Rattle.std.specs.Prelude.{IsTrue};
 ghost use Rattle.pointwise_eval.specs.Planes.{IsByRows};
 
-// The values of an image in raster order: the samples of an input where they are, else samples where the image has a type of samples, else values of 64 bits, where all values are such that occur while it is computed, else of 128 bits. Gone are those of an image that is not needed, or not any more.
+// The values of an image in raster order: the samples of an input where they are; else, where all values that occur while it is computed are of 64 bits, elements of as few bytes as the image's type needs; else values of 128 bits. Gone are those of an image that is not needed, or not any more.
 #[derive(Drop)]
 pub enum Plane<'a> {
     Input(&'a [u16]),
-    Samples(Vec<u16>),
-    Narrow(Vec<i64>),
+    Unsigned8(Vec<u8>),
+    Unsigned16(Vec<u16>),
+    Unsigned32(Vec<u32>),
+    Signed8(Vec<i8>),
+    Signed16(Vec<i16>),
+    Signed32(Vec<i32>),
+    Signed64(Vec<i64>),
     Wide(Vec<i128>),
     Gone,
 }
@@ -16,8 +21,13 @@ pub enum Plane<'a> {
 // Values in raster order that can be read by rows.
 #[derive(Clone, Copy)]
 pub enum Row<'a> {
-    Pixels(&'a [u16]),
-    Values(&'a [i64]),
+    U8(&'a [u8]),
+    U16(&'a [u16]),
+    U32(&'a [u32]),
+    I8(&'a [i8]),
+    I16(&'a [i16]),
+    I32(&'a [i32]),
+    I64(&'a [i64]),
 }
 
 impl Plane<'_> {
@@ -27,8 +37,13 @@ impl Plane<'_> {
     {
         match self {
             Plane::Input(_) => true,
-            Plane::Samples(_) => true,
-            Plane::Narrow(_) => true,
+            Plane::Unsigned8(_) => true,
+            Plane::Unsigned16(_) => true,
+            Plane::Unsigned32(_) => true,
+            Plane::Signed8(_) => true,
+            Plane::Signed16(_) => true,
+            Plane::Signed32(_) => true,
+            Plane::Signed64(_) => true,
             Plane::Wide(_) => false,
             Plane::Gone => false,
         }

@@ -3,16 +3,16 @@
 ghost use Rattle.std.specs.Prelude.{◌≡◌, ◌+◌, ◌*◌, ◌<◌, ◌≤◌, IfOk, IsTrue, length, map, pos};
 ghost use Rattle.std.specs.List.{All};
 ghost use Rattle.dk_base.specs.declared.TheConstants.{MAX_INLINED_DEPTH};
-ghost use Rattle.dk_base.specs.declared.ty.Ty.TheVariants.{Unsigned};
-ghost use Rattle.dk_base.specs.Types.{IsType, IsWithin};
+ghost use Rattle.dk_base.specs.Types.{IsType};
 ghost use Rattle.value_rows.specs.Rows.{IsRow};
 ghost use Rattle.dk_base.specs.Frames.{area, framed};
 ghost use Rattle.dk_base.specs.FrameSizes.{size_of};
 ghost use Rattle.pointwise_ir.specs.Trees.{tree_of, depth_of, EachImage};
 ghost use Rattle.pointwise_ir.specs.Programs.{all_types};
 ghost use Rattle.pointwise_ir.specs.Meaning.{value};
-ghost use Rattle.pointwise_eval.specs.Narrow.{AreNarrow, AreFew};
+ghost use Rattle.pointwise_eval.specs.Narrow.{AreNarrow, AreAllIn};
 ghost use Rattle.pointwise_eval.specs.Planes.{values_of, shown, all_shown, HasRows, AreValues, CanEvaluate};
+ghost use Rattle.pointwise_eval.specs.Held.{HoldsAll};
 
 use crate::narrow::{narrow_type, reads_rows};
 use crate::plane::Plane;
@@ -22,7 +22,7 @@ use dk_base::{FrameSize, OutOfMemory, Ty};
 use pointwise_ir::{Definition, Expr, Input};
 use std::alloc::Global;
 use std::cmp::max;
-use value_rows::narrow_row;
+use value_rows::{Element, narrow_row};
 
 // The depth of an expression.
 fn depth(e: &Expr) -> usize
@@ -59,7 +59,7 @@ fn rows_of(
     ensures whole { IfOk result (λ v. length v.items ≡ area (size_of size)) }
     ensures value { IfOk result (λ v. shown (size_of size) v.items ≡ framed (size_of size) (value (size_of size) (all_shown (size_of size) planes.now) (tree_of e.now))) }
 {
-    let mut values = Vec::new(alloc);
+    let mut values = Vec::with_capacity(alloc, size.width as usize * size.height as usize)?;
     for y in 0..size.height {
         value_row(size, planes, e, y, row, scratch);
         values.extend_from_slice(row)?;
@@ -67,110 +67,160 @@ fn rows_of(
     Ok(values)
 }
 
-// The plane, by rows.
-fn render_rows<'a>(
-    alloc: Global,
-    size: FrameSize,
-    planes: &[Plane<'_>],
-    e: &Expr,
-) -> Result<Plane<'a>, OutOfMemory>
-    requires can { CanEvaluate (size_of size) planes.now (tree_of e.now) }
-    requires rows { EachImage (HasRows planes.now) (tree_of e.now) }
-    requires narrow { AreNarrow (size_of size) (all_shown (size_of size) planes.now) (tree_of e.now) }
-    requires depth { depth_of (tree_of e.now) ≤ MAX_INLINED_DEPTH }
-    ensures whole { IfOk result (λ p. length (values_of p) ≡ area (size_of size)) }
-    ensures value { IfOk result (λ p. shown (size_of size) (values_of p) ≡ framed (size_of size) (value (size_of size) (all_shown (size_of size) planes.now) (tree_of e.now))) }
-{
-    let width = size.width as usize;
-    let mut row = vec![in alloc; 0i64; width]?;
-    let mut scratch = vec![in alloc; 0i64; depth(e) * (width + width)]?;
-    let values = rows_of(alloc, size, planes, e, &mut row, &mut scratch)?;
-    Ok(Plane::Narrow(values))
-}
-
-// Row y as samples.
-fn sample_row(
+// Row y as elements.
+fn element_row<T: Element>(
     size: FrameSize,
     planes: &[Plane<'_>],
     e: &Expr,
     y: u32,
     row: &mut [i64],
     scratch: &mut [i64],
-    to: &mut [u16],
+    to: &mut [T],
 )
     requires can { CanEvaluate (size_of size) planes.now (tree_of e.now) }
     requires rows { EachImage (HasRows planes.now) (tree_of e.now) }
     requires narrow { AreNarrow (size_of size) (all_shown (size_of size) planes.now) (tree_of e.now) }
-    requires few { AreFew (size_of size) (all_shown (size_of size) planes.now) (tree_of e.now) }
+    requires typed { AreAllIn (size_of size) (all_shown (size_of size) planes.now) (tree_of e.now) T.ty }
     requires down { y < size.height }
     requires row { length row.old ≡ size.width }
     requires room { depth_of (tree_of e.now) * (size.width + size.width) ≤ length scratch.old }
-    requires samples { length to.old ≡ size.width }
-    ensures { IsRow (size_of size) (value (size_of size) (all_shown (size_of size) planes.now) (tree_of e.now)) (pos y) (map pos to.new) }
+    requires elements { length to.old ≡ size.width }
+    ensures { IsRow (size_of size) (value (size_of size) (all_shown (size_of size) planes.now) (tree_of e.now)) (pos y) (map T.worth to.new) }
 {
     value_row(size, planes, e, y, row, scratch);
     narrow_row(row, to);
 }
 
-// The samples, by a row and the rows that a row needs.
-fn samples_of_rows(
+// The elements, by a row and the rows that a row needs.
+fn elements_of_rows<T: Element>(
     alloc: Global,
     size: FrameSize,
     planes: &[Plane<'_>],
     e: &Expr,
     row: &mut [i64],
     scratch: &mut [i64],
-    part: &mut [u16],
-) -> Result<Vec<u16>, OutOfMemory>
+    part: &mut [T],
+) -> Result<Vec<T>, OutOfMemory>
     requires can { CanEvaluate (size_of size) planes.now (tree_of e.now) }
     requires rows { EachImage (HasRows planes.now) (tree_of e.now) }
     requires narrow { AreNarrow (size_of size) (all_shown (size_of size) planes.now) (tree_of e.now) }
-    requires few { AreFew (size_of size) (all_shown (size_of size) planes.now) (tree_of e.now) }
+    requires typed { AreAllIn (size_of size) (all_shown (size_of size) planes.now) (tree_of e.now) T.ty }
     requires row { length row.old ≡ size.width }
     requires room { depth_of (tree_of e.now) * (size.width + size.width) ≤ length scratch.old }
     requires part { length part.old ≡ size.width }
-    ensures whole { IfOk result (λ v. length (map pos v.items) ≡ area (size_of size)) }
-    ensures value { IfOk result (λ v. shown (size_of size) (map pos v.items) ≡ framed (size_of size) (value (size_of size) (all_shown (size_of size) planes.now) (tree_of e.now))) }
+    ensures whole { IfOk result (λ v. length (map T.worth v.items) ≡ area (size_of size)) }
+    ensures value { IfOk result (λ v. shown (size_of size) (map T.worth v.items) ≡ framed (size_of size) (value (size_of size) (all_shown (size_of size) planes.now) (tree_of e.now))) }
 {
-    let mut samples = Vec::with_capacity(alloc, size.width as usize * size.height as usize)?;
+    let mut elements = Vec::with_capacity(alloc, size.width as usize * size.height as usize)?;
     for y in 0..size.height {
-        sample_row(size, planes, e, y, row, scratch, part);
-        samples.extend_from_slice(part)?;
+        element_row(size, planes, e, y, row, scratch, part);
+        elements.extend_from_slice(part)?;
     }
-    Ok(samples)
+    Ok(elements)
 }
 
-// The plane of an image of samples, by rows.
-fn render_samples<'a>(
+// The values as elements, by rows.
+fn render_elements<T: Element>(
     alloc: Global,
     size: FrameSize,
     planes: &[Plane<'_>],
     e: &Expr,
+) -> Result<Vec<T>, OutOfMemory>
+    requires can { CanEvaluate (size_of size) planes.now (tree_of e.now) }
+    requires rows { EachImage (HasRows planes.now) (tree_of e.now) }
+    requires narrow { AreNarrow (size_of size) (all_shown (size_of size) planes.now) (tree_of e.now) }
+    requires typed { AreAllIn (size_of size) (all_shown (size_of size) planes.now) (tree_of e.now) T.ty }
+    requires depth { depth_of (tree_of e.now) ≤ MAX_INLINED_DEPTH }
+    ensures whole { IfOk result (λ v. length (map T.worth v.items) ≡ area (size_of size)) }
+    ensures value { IfOk result (λ v. shown (size_of size) (map T.worth v.items) ≡ framed (size_of size) (value (size_of size) (all_shown (size_of size) planes.now) (tree_of e.now))) }
+{
+    let width = size.width as usize;
+    let mut row = vec![in alloc; 0i64; width]?;
+    let mut part = vec![in alloc; T::default(); width]?;
+    let mut scratch = vec![in alloc; 0i64; depth(e) * (width + width)]?;
+    let elements = elements_of_rows(alloc, size, planes, e, &mut row, &mut scratch, &mut part)?;
+    Ok(elements)
+}
+
+// The values in 64 bits, by rows.
+fn render_values(
+    alloc: Global,
+    size: FrameSize,
+    planes: &[Plane<'_>],
+    e: &Expr,
+) -> Result<Vec<i64>, OutOfMemory>
+    requires can { CanEvaluate (size_of size) planes.now (tree_of e.now) }
+    requires rows { EachImage (HasRows planes.now) (tree_of e.now) }
+    requires narrow { AreNarrow (size_of size) (all_shown (size_of size) planes.now) (tree_of e.now) }
+    requires depth { depth_of (tree_of e.now) ≤ MAX_INLINED_DEPTH }
+    ensures whole { IfOk result (λ v. length v.items ≡ area (size_of size)) }
+    ensures value { IfOk result (λ v. shown (size_of size) v.items ≡ framed (size_of size) (value (size_of size) (all_shown (size_of size) planes.now) (tree_of e.now))) }
+{
+    let width = size.width as usize;
+    let mut row = vec![in alloc; 0i64; width]?;
+    let mut scratch = vec![in alloc; 0i64; depth(e) * (width + width)]?;
+    let values = rows_of(alloc, size, planes, e, &mut row, &mut scratch)?;
+    Ok(values)
+}
+
+// The elements that an image is held as.
+#[derive(Clone, Copy)]
+enum Held {
+    Unsigned8,
+    Unsigned16,
+    Unsigned32,
+    Signed8,
+    Signed16,
+    Signed32,
+    Signed64,
+}
+
+// The elements of fewest bytes that hold the type's numbers. An output's have 16 bits at least, since it is handed out as samples.
+#[tactic(auto, using(crate::proofs::Pixels::unsigned_within, crate::proofs::Pixels::signed_within))]
+fn held_as(ty: Ty, is_output: bool) -> Held
+    ensures { HoldsAll result ty }
+{
+    match ty {
+        Ty::Unsigned(width) => match width {
+            0..=8 if !is_output => Held::Unsigned8,
+            0..=16 => Held::Unsigned16,
+            17..=32 => Held::Unsigned32,
+            _ => Held::Signed64,
+        },
+        Ty::Signed(width) => match width {
+            0..=8 => Held::Signed8,
+            9..=16 => Held::Signed16,
+            17..=32 => Held::Signed32,
+            _ => Held::Signed64,
+        },
+    }
+}
+
+// The plane of an image of this type, by rows.
+fn render_rows<'a>(
+    alloc: Global,
+    size: FrameSize,
+    planes: &[Plane<'_>],
+    e: &Expr,
+    ty: Ty,
+    is_output: bool,
 ) -> Result<Plane<'a>, OutOfMemory>
     requires can { CanEvaluate (size_of size) planes.now (tree_of e.now) }
     requires rows { EachImage (HasRows planes.now) (tree_of e.now) }
     requires narrow { AreNarrow (size_of size) (all_shown (size_of size) planes.now) (tree_of e.now) }
-    requires few { AreFew (size_of size) (all_shown (size_of size) planes.now) (tree_of e.now) }
+    requires typed { AreAllIn (size_of size) (all_shown (size_of size) planes.now) (tree_of e.now) ty }
     requires depth { depth_of (tree_of e.now) ≤ MAX_INLINED_DEPTH }
     ensures whole { IfOk result (λ p. length (values_of p) ≡ area (size_of size)) }
     ensures value { IfOk result (λ p. shown (size_of size) (values_of p) ≡ framed (size_of size) (value (size_of size) (all_shown (size_of size) planes.now) (tree_of e.now))) }
 {
-    let width = size.width as usize;
-    let mut row = vec![in alloc; 0i64; width]?;
-    let mut part = vec![in alloc; 0u16; width]?;
-    let mut scratch = vec![in alloc; 0i64; depth(e) * (width + width)]?;
-    let samples = samples_of_rows(alloc, size, planes, e, &mut row, &mut scratch, &mut part)?;
-    Ok(Plane::Samples(samples))
-}
-
-// Whether the type's numbers are samples.
-#[tactic(auto, using(crate::proofs::Pixels::few_within))]
-fn is_few(ty: Ty) -> bool
-    ensures { IsTrue result → IsWithin ty (Unsigned 16) }
-{
-    match ty {
-        Ty::Unsigned(width) => width <= 16,
-        Ty::Signed(_) => false,
+    match held_as(ty, is_output) {
+        Held::Unsigned8 => Ok(Plane::Unsigned8(render_elements(alloc, size, planes, e)?)),
+        Held::Unsigned16 => Ok(Plane::Unsigned16(render_elements(alloc, size, planes, e)?)),
+        Held::Unsigned32 => Ok(Plane::Unsigned32(render_elements(alloc, size, planes, e)?)),
+        Held::Signed8 => Ok(Plane::Signed8(render_elements(alloc, size, planes, e)?)),
+        Held::Signed16 => Ok(Plane::Signed16(render_elements(alloc, size, planes, e)?)),
+        Held::Signed32 => Ok(Plane::Signed32(render_elements(alloc, size, planes, e)?)),
+        Held::Signed64 => Ok(Plane::Signed64(render_values(alloc, size, planes, e)?)),
     }
 }
 
@@ -182,6 +232,7 @@ pub fn render<'a>(
     inputs: &[Input],
     images: &[Definition],
     e: &Expr,
+    is_output: bool,
 ) -> Result<Plane<'a>, OutOfMemory>
     requires can { CanEvaluate (size_of size) planes.now (tree_of e.now) }
     requires types { All IsType (all_types inputs.now images.now) }
@@ -196,9 +247,5 @@ pub fn render<'a>(
     let Some(ty) = narrow_type(e, inputs, images) else {
         return render_points(alloc, size, planes, e);
     };
-    if is_few(ty) {
-        render_samples(alloc, size, planes, e)
-    } else {
-        render_rows(alloc, size, planes, e)
-    }
+    render_rows(alloc, size, planes, e, ty, is_output)
 }

@@ -13,14 +13,15 @@ use crate::point::{Point, step};
 use dk_base::{FrameSize, OutOfMemory};
 use pointwise_ir::{Expr, binary_value, conversion_value, scaling_value, unary_value};
 use std::alloc::Global;
+use value_rows::Element;
 
-// A sample as a value.
-#[tactic(auto, using(crate::proofs::Pixels::sample_within, crate::proofs::Pixels::sample_value))]
-fn sample_at(samples: &[u16], place: usize) -> i128
-    requires { place < length (map pos samples.now) }
-    ensures { result ≡ slice_index_or (map pos samples.now) place (pos 0) }
+// An element as a value.
+#[tactic(auto, using(crate::proofs::Pixels::element_within, crate::proofs::Pixels::element_value))]
+fn element_at<T: Element>(elements: &[T], place: usize) -> i128
+    requires { place < length (map T.worth elements.now) }
+    ensures { result ≡ slice_index_or (map T.worth elements.now) place (pos 0) }
 {
-    i128::from(samples[place])
+    i128::from(elements[place].widen())
 }
 
 // A value of a plane.
@@ -29,9 +30,14 @@ fn value_of(plane: &Plane<'_>, place: usize) -> i128
     ensures { result ≡ slice_index_or (values_of plane.now) place (pos 0) }
 {
     match plane {
-        Plane::Input(samples) => sample_at(*samples, place),
-        Plane::Samples(samples) => sample_at(samples, place),
-        Plane::Narrow(values) => i128::from(values[place]),
+        Plane::Input(samples) => element_at(*samples, place),
+        Plane::Unsigned8(elements) => element_at(elements, place),
+        Plane::Unsigned16(elements) => element_at(elements, place),
+        Plane::Unsigned32(elements) => element_at(elements, place),
+        Plane::Signed8(elements) => element_at(elements, place),
+        Plane::Signed16(elements) => element_at(elements, place),
+        Plane::Signed32(elements) => element_at(elements, place),
+        Plane::Signed64(values) => i128::from(values[place]),
         Plane::Wide(values) => values[place],
         Plane::Gone => 0,
     }

@@ -15,7 +15,8 @@ use crate::point::{brought, moved};
 use dk_base::FrameSize;
 use pointwise_ir::{Edge, Expr};
 use value_rows::{
-    binary_row, convert_row, fill_part, scale_row, select_row, shift_row, shift_samples, unary_row,
+    Element, binary_row, convert_row, fill_part, scale_row, select_row, shift_elements, shift_row,
+    unary_row,
 };
 
 // The row to which a step leads, or None where it leads out of the frame.
@@ -49,22 +50,27 @@ fn row_values<'a>(plane: &'a Plane<'_>) -> Row<'a>
     ensures { entries_of result ≡ values_of plane.now }
 {
     match plane {
-        Plane::Input(samples) => Row::Pixels(*samples),
-        Plane::Samples(samples) => Row::Pixels(samples.as_slice()),
-        Plane::Narrow(values) => Row::Values(values.as_slice()),
-        Plane::Wide(_) => Row::Values(&[]),
-        Plane::Gone => Row::Values(&[]),
+        Plane::Input(samples) => Row::U16(*samples),
+        Plane::Unsigned8(elements) => Row::U8(elements.as_slice()),
+        Plane::Unsigned16(elements) => Row::U16(elements.as_slice()),
+        Plane::Unsigned32(elements) => Row::U32(elements.as_slice()),
+        Plane::Signed8(elements) => Row::I8(elements.as_slice()),
+        Plane::Signed16(elements) => Row::I16(elements.as_slice()),
+        Plane::Signed32(elements) => Row::I32(elements.as_slice()),
+        Plane::Signed64(elements) => Row::I64(elements.as_slice()),
+        Plane::Wide(_) => Row::I64(&[]),
+        Plane::Gone => Row::I64(&[]),
     }
 }
 
-// So many samples from a place on.
+// So many elements from a place on.
 #[tactic(auto, using(crate::proofs::Pixels::part_length, crate::proofs::Pixels::part_entry, crate::proofs::Pixels::all_within))]
-fn samples_part(samples: &[u16], start: usize, count: usize) -> &[u16]
-    requires { start + count ≤ length (map pos samples.now) }
-    ensures whole { length (map pos result.now) ≡ count }
-    ensures values { (k : ℕ) → k < count → entry (map pos result.now) k ≡ entry (map pos samples.now) (start + k) }
+fn elements_part<T: Element>(elements: &[T], start: usize, count: usize) -> &[T]
+    requires { start + count ≤ length (map T.worth elements.now) }
+    ensures whole { length (map T.worth result.now) ≡ count }
+    ensures values { (k : ℕ) → k < count → entry (map T.worth result.now) k ≡ entry (map T.worth elements.now) (start + k) }
 {
-    samples.split_at(start).1.split_at(count).0
+    elements.split_at(start).1.split_at(count).0
 }
 
 // So many values from a place on.
@@ -83,19 +89,24 @@ fn part<'a>(row: Row<'a>, start: usize, count: usize) -> Row<'a>
     ensures values { (k : ℕ) → k < count → entry (entries_of result) k ≡ entry (entries_of row.entry) (start + k) }
 {
     match row {
-        Row::Pixels(samples) => Row::Pixels(samples_part(samples, start, count)),
-        Row::Values(values) => Row::Values(values_part(values, start, count)),
+        Row::U8(elements) => Row::U8(elements_part(elements, start, count)),
+        Row::U16(elements) => Row::U16(elements_part(elements, start, count)),
+        Row::U32(elements) => Row::U32(elements_part(elements, start, count)),
+        Row::I8(elements) => Row::I8(elements_part(elements, start, count)),
+        Row::I16(elements) => Row::I16(elements_part(elements, start, count)),
+        Row::I32(elements) => Row::I32(elements_part(elements, start, count)),
+        Row::I64(values) => Row::I64(values_part(values, start, count)),
     }
 }
 
-// A row of samples, read `by` columns to the right.
+// A row of elements, read `by` columns to the right.
 #[tactic(auto, using(crate::proofs::Pixels::same_length))]
-fn read_samples(edge: Edge, by: i32, samples: &[u16], to: &mut [i64])
-    requires same { length (map pos samples.now) ≡ length to.old }
+fn read_elements<T: Element>(edge: Edge, by: i32, elements: &[T], to: &mut [i64])
+    requires same { length (map T.worth elements.now) ≡ length to.old }
     requires some { 0 < length to.old }
-    ensures { (x : ℕ) → x < length to.old → entry to.new x ≡ beside edge (map pos samples.now) (pos x +ℤ by) }
+    ensures { (x : ℕ) → x < length to.old → entry to.new x ≡ beside edge (map T.worth elements.now) (pos x +ℤ by) }
 {
-    shift_samples(edge, by, samples, to)
+    shift_elements(edge, by, elements, to)
 }
 
 // The row, read `by` columns to the right.
@@ -105,8 +116,13 @@ fn read_row(edge: Edge, by: i32, row: Row<'_>, to: &mut [i64])
     ensures { (x : ℕ) → x < length to.old → entry to.new x ≡ beside edge (entries_of row.entry) (pos x +ℤ by) }
 {
     match row {
-        Row::Pixels(samples) => read_samples(edge, by, samples, to),
-        Row::Values(values) => shift_row(edge, by, values, to),
+        Row::U8(elements) => read_elements(edge, by, elements, to),
+        Row::U16(elements) => read_elements(edge, by, elements, to),
+        Row::U32(elements) => read_elements(edge, by, elements, to),
+        Row::I8(elements) => read_elements(edge, by, elements, to),
+        Row::I16(elements) => read_elements(edge, by, elements, to),
+        Row::I32(elements) => read_elements(edge, by, elements, to),
+        Row::I64(values) => shift_row(edge, by, values, to),
     }
 }
 

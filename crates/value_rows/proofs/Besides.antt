@@ -1,8 +1,9 @@
 -- What stands beside a row.
-use Rattle.std.proofs.Common.{map, slice_index, ◌≡◌, ◌∙◌, sym, ℕ, suc, ◌+◌, ◌-◌, ◌<◌, ◌≤◌, List, length, ℤ, pos, negsuc, ◌+ℤ◌, ◌≤ℤ◌, ◌<ℤ◌, unsigned_abs, arith, refl, inl, inr, ap}
+use Rattle.std.proofs.Common.{map, slice_set, ◌≡◌, ◌∙◌, sym, ℕ, suc, ◌+◌, ◌-◌, ◌<◌, ◌≤◌, List, length, get_or, ℤ, pos, negsuc, ◌+ℤ◌, ◌≤ℤ◌, ◌<ℤ◌, unsigned_abs, arith, refl, inl, inr, ap}
 use Rattle.std.proofs.lemmas.Bool.{cases_lt}
 use Rattle.std.proofs.lemmas.Int.{ints}
-use Rattle.std.proofs.lemmas.List.{length-map, get_or-map}
+use Rattle.std.proofs.lemmas.List.{length-map, get_or-map, map-set, get_or-set_other}
+use Rattle.std.proofs.lemmas.Grind.{get_or-set_at}
 use Rattle.pointwise_ir.specs.declared.expr.Edge.{Edge}
 use Rattle.pointwise_ir.specs.declared.expr.Edge.TheVariants.{Zero, Clamp}
 use Rattle.value_rows.specs.Rows.{entry, end_of, beside}
@@ -64,19 +65,39 @@ left_row edge from new (negsuc n) columns lt near far inside outside x within = 
       ap (entry new) there ∙ inside (x - (n + 1)) inner ∙ sym (beside_in edge from (x - (n + 1)) row) ∙ ap (beside edge from) (sym e)
 ]
 
--- the same of samples
-pub right_samples : (edge : Edge) (from : List ℕ) (new : List ℤ) (z : ℤ) (columns : ℕ) → pos 0 ≤ℤ z → (unsigned_abs z ≤ length from → columns ≡ unsigned_abs z) → (length from ≤ unsigned_abs z → columns ≡ length from) →
-    ((x : ℕ) → x + columns < length from → entry new x ≡ entry (map pos from) (x + columns)) →
-    ((x last : ℕ) → last + 1 ≡ length from → x < length from → length from ≤ x + columns → entry new x ≡ end_of edge (entry (map pos from) last)) →
-    (x : ℕ) → x < length from → entry new x ≡ beside edge (map pos from) (pos x +ℤ z)
-right_samples edge from new z columns = rw (length-map from pos) at (right_row edge (map pos from) new z columns)
+-- the same of elements
+pub right_elements : {A : Type 0} (worth : A → ℤ) (edge : Edge) (from : List A) (new : List ℤ) (z : ℤ) (columns : ℕ) → pos 0 ≤ℤ z → (unsigned_abs z ≤ length from → columns ≡ unsigned_abs z) → (length from ≤ unsigned_abs z → columns ≡ length from) →
+    ((x : ℕ) → x + columns < length from → entry new x ≡ entry (map worth from) (x + columns)) →
+    ((x last : ℕ) → last + 1 ≡ length from → x < length from → length from ≤ x + columns → entry new x ≡ end_of edge (entry (map worth from) last)) →
+    (x : ℕ) → x < length from → entry new x ≡ beside edge (map worth from) (pos x +ℤ z)
+right_elements worth edge from new z columns = rw (length-map from worth) at (right_row edge (map worth from) new z columns)
 
-pub left_samples : (edge : Edge) (from : List ℕ) (new : List ℤ) (z : ℤ) (columns : ℕ) → z <ℤ pos 0 → (unsigned_abs z ≤ length from → columns ≡ unsigned_abs z) → (length from ≤ unsigned_abs z → columns ≡ length from) →
-    ((x : ℕ) → x + columns < length from → entry new (x + columns) ≡ entry (map pos from) x) →
-    ((x : ℕ) → x < columns → entry new x ≡ end_of edge (entry (map pos from) 0)) →
-    (x : ℕ) → x < length from → entry new x ≡ beside edge (map pos from) (pos x +ℤ z)
-left_samples edge from new z columns = rw (length-map from pos) at (left_row edge (map pos from) new z columns)
+pub left_elements : {A : Type 0} (worth : A → ℤ) (edge : Edge) (from : List A) (new : List ℤ) (z : ℤ) (columns : ℕ) → z <ℤ pos 0 → (unsigned_abs z ≤ length from → columns ≡ unsigned_abs z) → (length from ≤ unsigned_abs z → columns ≡ length from) →
+    ((x : ℕ) → x + columns < length from → entry new (x + columns) ≡ entry (map worth from) x) →
+    ((x : ℕ) → x < columns → entry new x ≡ end_of edge (entry (map worth from) 0)) →
+    (x : ℕ) → x < length from → entry new x ≡ beside edge (map worth from) (pos x +ℤ z)
+left_elements worth edge from new z columns = rw (length-map from worth) at (left_row edge (map worth from) new z columns)
 
--- a sample as a value
-pub sample_entry : (s : List ℕ) (i : ℕ) → i < length s → pos (slice_index s i) ≡ entry (map pos s) i
-sample_entry s i lt = sym (get_or-map pos s i 0 (pos 0) lt)
+-- an element as a value
+pub element_entry : {A : Type 0} (worth : A → ℤ) (s : List A) (i : ℕ) (d : A) → i < length s → worth (get_or s i d) ≡ entry (map worth s) i
+element_entry worth s i d lt = sym (get_or-map worth s i d (pos 0) lt)
+
+-- an element more is narrowed
+pub narrowed_more : {A : Type 0} (worth : A → ℤ) (to : List A) (values : List ℤ) (k : ℕ) (r : A) → k < length to → worth r ≡ entry values k → ((j : ℕ) → j < k → entry (map worth to) j ≡ entry values j) →
+    (j : ℕ) → j < k + 1 → entry (map worth (slice_set to k r)) j ≡ entry values j
+narrowed_more worth to values k r lt is before j below = ap (λ l. entry l j) (map-set worth to k r) ∙ elim (cases_lt j k) [
+  | inl low ↦ get_or-set_other (map worth to) k j (worth r) (pos 0) (λ e. omega (arith, low, e)) ∙ before j low
+  | inr high ↦
+      let here : j ≡ k = omega (arith, high, below) in
+      get_or-set_at (map worth to) k j (worth r) (pos 0) here (rw (length-map to worth) lt) ∙ is ∙ ap (entry values) (sym here)
+]
+
+-- an element more is widened
+pub widened_more : {A : Type 0} (worth : A → ℤ) (to : List ℤ) (elements : List A) (start from k : ℕ) (w : ℤ) → start + k < length to → w ≡ entry (map worth elements) (from + k) → ((j : ℕ) → j < k → entry to (start + j) ≡ entry (map worth elements) (from + j)) →
+    (j : ℕ) → j < k + 1 → entry (slice_set to (start + k) w) (start + j) ≡ entry (map worth elements) (from + j)
+widened_more worth to elements start from k w lt is before j below = elim (cases_lt j k) [
+  | inl low ↦ get_or-set_other to (start + k) (start + j) w (pos 0) (λ e. omega (arith, low, e)) ∙ before j low
+  | inr high ↦
+      let here : j ≡ k = omega (arith, high, below) in
+      get_or-set_at to (start + k) (start + j) w (pos 0) (ap (λ n. start + n) here) lt ∙ is ∙ ap (λ n. entry (map worth elements) (from + n)) (sym here)
+]

@@ -1,0 +1,10 @@
+use Rattle.std.proofs.Common.{map, ◌≡◌, ◌∙◌, ◌+◌, ◌-◌, ◌<◌, length, ap, arith}
+use Rattle.value_rows.specs.Rows.{entry}
+use Rattle.value_rows.proofs.shift.elements_left.Goals as goal
+
+pub returns-clause-inside : goal.returns-clause-inside
+returns-clause-inside g c x lt =
+    let e : x + c.args.by ≡ c.args.by + x = omega arith in
+    let z : 0 + x ≡ x = omega arith in
+    let within : x < length c.args.from.now - c.args.by = omega (arith, lt) in
+    ap (entry c.widen_part.new.to) e ∙ c.widen_part.ensures.copied x within ∙ ap (entry (map g.T.Element.worth c.args.from.now)) z
