@@ -10,13 +10,14 @@ use Rattle.buffer_plan.specs.Limits.{Passes, IsPlanFault}
 use Rattle.report_text.specs.declared.reading.ReportFault.{ReportFault}
 use Rattle.report_text.specs.declared.reading.ReportFault.TheVariants as reader
 use Rattle.report_text.specs.Answers.{Refuses}
-use Rattle.report_text.specs.Reports.{Parts as Report}
+use Rattle.report_text.specs.Reports.{Report}
 use Rattle.report_text.specs.Texts.{StandsFor}
 use Rattle.plan_check.specs.Holding.{AreLeast}
-use Rattle.plan_check.specs.Program.{HoldsOf, IsFirstAmiss}
+use Rattle.plan_check.specs.Program.{HoldsOf, IsAmiss}
 use Rattle.dk_plan.specs.declared.judging.Claim.{Claim}
 use Rattle.dk_plan.specs.Planned.{aged}
-use Rattle.dk_plan.specs.Judged.{IsConfirmed, IsWrongLine, IsCheckFault, of_reader, faulty, rejected}
+use Rattle.dk_plan.specs.Judged.{Confirms, IsConfirmed, IsWrongLine, IsCheckFault, of_reader, faulty, rejected}
+use Rattle.plan_check.specs.First.{IsFirst}
 
 -- the error that a `?` hands on
 pub if_err : {T E : Type 0} (P : E → Type 0) (r : Result T E) (e : E) → IsErrAnd r (λ y. y ≡ e) → P e → IfErr r P
@@ -38,11 +39,8 @@ module _ (names : List (List ℕ)) (stencils : Stencils) (bytes : List ℕ) (r :
   confirmed claim holds least bits latency = record {
     report = r;
     stands = stands;
-    holds = subst (λ x. HoldsOf names x r) is holds;
-    least = subst (λ x. AreLeast x r) is least;
-    bits = bits;
-    latency = latency;
+    is = subst (λ x. Confirms names x claim r) is (record { holds = holds; least = least; bits = bits; latency = latency });
   }
 
-  pub wrong_line : (line : ℕ) → IsFirstAmiss names s r line → IsWrongLine names stencils bytes line
-  wrong_line line wrong = rejected (record { report = r; stands = stands; wrong = subst (λ x. IsFirstAmiss names x r line) is wrong })
+  pub wrong_line : (line : ℕ) → IsFirst (IsAmiss names s r) line → IsWrongLine names stencils bytes line
+  wrong_line line wrong = rejected (record { report = r; stands = stands; is = subst (λ x. IsFirst (IsAmiss names x r) line) is wrong })

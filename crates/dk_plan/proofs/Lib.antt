@@ -1,4 +1,3 @@
-pub mod Carried
 pub mod Printing
 pub mod Reporting
 pub mod Exits

@@ -12,12 +12,16 @@ use Rattle.raster_delay.specs.Systems.{Parts as System, IsSystem, IsCausal, IsBa
 use Rattle.buffer_plan.specs.Plans.{Parts as Plan}
 use Rattle.buffer_plan.specs.Limits.{greatest_delay}
 use Rattle.report_text.specs.declared.report.ImageLine.{ImageLine}
-use Rattle.report_text.specs.Reports.{Parts as Report}
-use Rattle.latency_report.specs.Printed.{line_of, image_lines, latencies, makers, carried, report_of, name_of}
-use Rattle.plan_check.specs.Holding.{ImageHolds, Holds, FlowHolds, delays_of, depths_of, widths_of, greatest, bits_of_lines}
+use Rattle.report_text.specs.declared.report.FlowLine.TheVariants.{Hold}
+use Rattle.report_text.specs.Reports.{Report}
+use Rattle.latency_report.specs.Printed.{line_of, image_lines, latencies, report_of, name_of}
+use Rattle.plan_check.specs.Flows.{makers, carried}
+use Rattle.plan_check.specs.Holding.{ImageHolds, FlowHolds, delays_of, depths_of, widths_of, greatest, bits_of_lines}
 use Rattle.plan_check.specs.Program.{HoldsOf}
 use Rattle.plan_check.proofs.Least.{bits_same, same_list}
-use Rattle.dk_plan.proofs.Carried.{all_made, in_same, out_same, worth_same, carried_has}
+use Rattle.plan_check.proofs.Carried.{carried_has, carrying_carried}
+use Rattle.plan_check.proofs.Firsts.{NumbersHold, to_rules}
+use Rattle.plan_check.proofs.Foreigns.{names_keep, outputs_keep, none_foreign}
 
 length_enumerate : (j : ℕ) (xs : List Image) → length (enumerate_from j xs) ≡ length xs
 length_enumerate j [] = refl
@@ -74,7 +78,7 @@ module _ (p : Program) (s : System) (d flow : List ℕ) where
       ∙ ap (name_of p) (sym (get_or-map (λ (i : Image). i.number) s.stencils.images k none 0 lt))
 
   module _ (is : IsSystem s) (causal : IsCausal s d) (balanced : IsBalanced s flow) (worth_is : worth_of s flow ≡ pos (bits s d)) where
-    report : Report
+    abbrev report : Report
     report = report_of p plan flow
 
     image_holds : (k : ℕ) → k < length lines → ImageHolds s lines k
@@ -89,10 +93,7 @@ module _ (p : Program) (s : System) (d flow : List ℕ) where
         }
 
     flow_holds : FlowHolds s (carried (makers s) flow) (bits s d)
-    flow_holds = record {
-      balanced = λ v below. omega (arith, ints, in_same s (makers s) (constraints_in s) flow v (all_made s), out_same s (makers s) (constraints_in s) flow v (all_made s), balanced.balanced v);
-      worth_is = worth_same s (makers s) (constraints_in s) flow (all_made s) ∙ worth_is;
-    }
+    flow_holds = record { flow = flow; lines_are = carrying_carried s flow; balanced = balanced; worth_is = worth_is }
 
     bits_right : bits s d ≡ bits_of_lines lines
     bits_right =
@@ -109,23 +110,23 @@ module _ (p : Program) (s : System) (d flow : List ℕ) where
         get_or-map (λ g. slice_index d (place s.stencils.images g)) s.stencils.outputs k 0 0 (omega (arith, lt, length-map s.stencils.outputs (λ g. slice_index d (place s.stencils.images g))))
         ∙ ap (λ xs. slice_index xs (place s.stencils.images (slice_index s.stencils.outputs k))) (sym (delays_same causal.one_each))
 
-    numbers_hold : Holds s (report_of p plan flow)
-    numbers_hold = record {
+    printed_numbers : NumbersHold s (report_of p plan flow)
+    printed_numbers = record {
       images = image_holds;
       latencies = latency_right;
       clocks = ap (λ m. s.stencils.width * s.stencils.height + m) (sym (greatest_same s.stencils.images d s.stencils.outputs));
       bits = bits_right;
-      constraints = carried_has s flow;
+      constraints = λ k lt. carried_has s flow k (Hold 0 0) lt;
       flow = flow_holds;
     }
 
     pub report_holds : HoldsOf (names_of p) s (report_of p plan flow)
-    report_holds = record {
-      program = record {
-        size = record { width = refl; height = refl };
-        counts = record { images = count; latencies = length-map s.stencils.outputs (λ g. slice_index d (place s.stencils.images g)) };
-        images = λ k lt. let below : k < image_count s = omega (arith, lt, count) in record { kept = below; name_is = line_name k below; width_is = line_width k below };
-        reads = λ _. refl;
-      };
-      numbers = numbers_hold;
-    }
+    report_holds =
+        let names = names_of p in
+        let t = s.stencils in
+        let outputs : length (latencies plan) ≡ length t.outputs = length-map t.outputs (λ g. slice_index d (place t.images g)) in
+        let named = names_keep names t report (record { width = refl; height = refl }) (λ k lt. let below : k < image_count s = omega (arith, lt, count) in record { kept = below; name_is = line_name k below; width_is = line_width k below }) in
+        record {
+          program = none_foreign names t report named (outputs_keep names t report named (omega (arith, count)) (omega (arith, outputs))) (omega (arith, outputs)) (λ _. refl);
+          numbers = to_rules s report printed_numbers;
+        }

@@ -1,36 +1,34 @@
 -- Which reports hold of a program's live reads, and the first wrong line of the others. `names` are those of all images of the program.
 use Rattle.std.specs.Prelude.{◌≡◌, ℕ, List, slice_index, ⊤}
 use Rattle.dk_base.specs.Stencils.{Parts as Stencils}
-use Rattle.report_text.specs.Reports.{Parts as Report}
-use Rattle.report_text.specs.Texts.{StandsFor, IsFaultyLine}
+use Rattle.raster_delay.specs.Systems.{Parts as System}
+use Rattle.report_text.specs.Reports.{Report}
+use Rattle.report_text.specs.Texts.{IsFaultyLine}
 use Rattle.report_text.specs.declared.reading.ReportFault.{ReportFault}
 use Rattle.report_text.specs.declared.reading.ReportFault.TheVariants as reader
 use Rattle.plan_check.specs.Holding.{AreLeast}
-use Rattle.plan_check.specs.Program.{HoldsOf, IsFirstAmiss}
+use Rattle.plan_check.specs.Program.{HoldsOf, IsAmiss}
 use Rattle.dk_plan.specs.declared.judging.Claim.{Claim}
 use Rattle.dk_plan.specs.declared.judging.CheckFault.{CheckFault}
 use Rattle.dk_plan.specs.declared.judging.CheckFault.TheVariants.{Line, OutOfMemory}
-use Rattle.dk_plan.specs.Planned.{aged}
+use Rattle.dk_plan.specs.Planned.{aged, IsTextOf}
+use Rattle.plan_check.specs.First.{IsFirst}
 
--- The bytes are a report that holds at its own age: all its lines are right, and no causal delays need fewer bits than it says. These are its bits and its first latency.
-pub record IsConfirmed (names : List (List ℕ)) (stencils : Stencils) (bytes : List ℕ) (claim : Claim) : Type 0 where
-  pub report : Report
-  pub stands : StandsFor bytes report
-  pub holds : HoldsOf names (aged stencils report.age) report
-  pub least : AreLeast (aged stencils report.age) report
-  pub bits : claim.bits ≡ report.bits
-  pub latency : claim.latency ≡ slice_index report.latencies 0
+-- The report holds: all its lines are right, and no causal delays need fewer bits than it says. These are its bits and its first latency.
+pub record Confirms (names : List (List ℕ)) (s : System) (claim : Claim) (r : Report) : Type 0 where
+  pub holds : HoldsOf names s r
+  pub least : AreLeast s r
+  pub bits : claim.bits ≡ r.bits
+  pub latency : claim.latency ≡ slice_index r.latencies 0
 
--- The bytes are a report, and this line is the first that is wrong, by the program or by the printed numbers.
-pub record IsRejected (names : List (List ℕ)) (stencils : Stencils) (bytes : List ℕ) (line : ℕ) : Type 0 where
-  pub report : Report
-  pub stands : StandsFor bytes report
-  pub wrong : IsFirstAmiss names (aged stencils report.age) report line
+-- the bytes are a report that holds at its own age
+abbrev pub IsConfirmed : (names : List (List ℕ)) → Stencils → (bytes : List ℕ) → Claim → Type 0
+IsConfirmed names stencils bytes claim = IsTextOf (λ r. Confirms names (aged stencils r.age) claim r) bytes
 
--- the first line that continues no report, or else the first wrong one
+-- the first line that continues no report, or else, at the report's own age, the first that is wrong by the program or by the printed numbers
 pub data IsWrongLine (names : List (List ℕ)) (stencils : Stencils) (bytes : List ℕ) (line : ℕ) : Type 0 where
   faulty : IsFaultyLine bytes line → IsWrongLine names stencils bytes line
-  rejected : IsRejected names stencils bytes line → IsWrongLine names stencils bytes line
+  rejected : IsTextOf (λ r. IsFirst (IsAmiss names (aged stencils r.age) r) line) bytes → IsWrongLine names stencils bytes line
 
 -- the faults of the reader
 abbrev pub of_reader : ReportFault → CheckFault

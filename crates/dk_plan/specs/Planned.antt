@@ -5,7 +5,7 @@ use Rattle.dk_base.specs.Stencils.{Parts as Stencils}
 use Rattle.raster_delay.specs.Systems.{Parts as System}
 use Rattle.flow_dual.specs.Solutions.{IsLeastVector}
 use Rattle.buffer_plan.specs.Limits.{latency_in}
-use Rattle.report_text.specs.Reports.{Parts as Report}
+use Rattle.report_text.specs.Reports.{Report}
 use Rattle.report_text.specs.Texts.{StandsFor}
 use Rattle.latency_report.specs.Printed.{version_of}
 use Rattle.plan_check.specs.Holding.{delays}
@@ -26,8 +26,12 @@ pub record IsReportOf (names : List (List ℕ)) (s : System) (r : Report) : Type
   pub few_bits : r.bits ≤ MAX_BUFFER_BITS
   pub short : latency_in s (delays r) ≤ MAX_LATENCY
 
--- the bytes are the text of a report of the system
-pub record IsReportText (names : List (List ℕ)) (s : System) (bytes : List ℕ) : Type 0 where
+-- the bytes are the text of a report of which this holds
+pub record IsTextOf (P : Report → Type 0) (bytes : List ℕ) : Type 0 where
   pub report : Report
   pub stands : StandsFor bytes report
-  pub is : IsReportOf names s report
+  pub is : P report
+
+-- the bytes are the text of a report of the system
+abbrev pub IsReportText : (names : List (List ℕ)) → System → (bytes : List ℕ) → Type 0
+IsReportText names s bytes = IsTextOf (IsReportOf names s) bytes

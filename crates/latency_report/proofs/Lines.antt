@@ -2,7 +2,7 @@
 use Rattle.std.proofs.Common.{◌≡◌, ◌∙◌, ℕ, zero, suc, ◌+◌, ◌<◌, List, [], ◌∷◌, ◌++◌, length, drop, get_or, nat_eq, if◌then◌else◌, refl, sym, ap, append_assoc, add-one, drop-cons}
 use Rattle.std.proofs.Math.Dec.{eqb-suc-zero}
 use Rattle.report_text.specs.declared.report.FlowLine.{FlowLine}
-use Rattle.latency_report.specs.Printed.{carried}
+use Rattle.plan_check.specs.Flows.{carried}
 
 abbrev pub Maker : Type 0
 Maker = ℕ → FlowLine

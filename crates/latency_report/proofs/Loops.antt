@@ -6,7 +6,7 @@ use Rattle.std.proofs.lemmas.List.FromFn.{get_or-map-range_with_len, length-rang
 use Rattle.std.proofs.Math.ListN.{drop_of_length-le}
 use Rattle.raster_delay.specs.declared.placed.PlacedRead.{PlacedRead}
 use Rattle.report_text.specs.declared.report.FlowLine.{FlowLine}
-use Rattle.latency_report.specs.Printed.{carried}
+use Rattle.plan_check.specs.Flows.{carried}
 use Rattle.latency_report.proofs.Lines.{Maker, one, step, carried_next}
 
 -- constraints of the images from a place on

@@ -21,7 +21,9 @@ use Rattle.report_text.specs.declared.report.ImageLine.{ImageLine}
 use Rattle.report_text.specs.Names.{is_name}
 use Rattle.report_text.specs.Reports.{IsImageLine, IsAmount, IsFlowLine, AreDistinct, Ascend, most_images, most_latencies, Meets}
 use Rattle.report_text.specs.Reports as R
-use Rattle.latency_report.specs.Printed.{name_of, line_of, image_lines, latencies, hold_maker, start_maker, read_maker, keep_maker, makers, carried, version_of, report_of}
+use Rattle.latency_report.specs.Printed.{name_of, line_of, image_lines, latencies, version_of, report_of}
+use Rattle.plan_check.specs.Flows.{makers, carried}
+use Rattle.plan_check.specs.Sums.{hold_maker, start_maker, read_maker, keep_maker}
 use Rattle.latency_report.proofs.Lines.{Maker}
 use Rattle.latency_report.proofs.Rising.{Precedes, Rises, carried_rise, carried_in, rises_append, kinds, holds_rise, starts_rise, AreKept, reads_rise}
 

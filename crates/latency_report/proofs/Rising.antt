@@ -17,8 +17,9 @@ use Rattle.raster_delay.specs.Placing.{placed}
 use Rattle.raster_delay.proofs.Places.{place_le}
 use Rattle.raster_delay.proofs.Bridge.{rec_append, rec_map_in, rec_range_in}
 use Rattle.report_text.specs.declared.report.FlowLine.{FlowLine}
-use Rattle.report_text.specs.Reports.{IsAmount, IsFlowLine, is_read_before, is_before, Ascend}
-use Rattle.latency_report.specs.Printed.{hold_maker, start_maker, carried}
+use Rattle.report_text.specs.Reports.{IsAmount, IsFlowLine, is_less, is_before, Ascend}
+use Rattle.plan_check.specs.Flows.{carried}
+use Rattle.plan_check.specs.Sums.{hold_maker, start_maker}
 use Rattle.latency_report.proofs.Lines.{Maker}
 
 -- whatever flow they carry, the line of the first stands before that of the second
@@ -82,15 +83,15 @@ module _ (f : ℕ → Maker) (up : (j k m n : ℕ) → j < k → is_before (f j 
     range_rises (a + 1) n,
   )
 
-pub holds_rise : (a n : ℕ) → Rises (map hold_maker (range_with_len a n))
-holds_rise a n = range_rises hold_maker (λ j k x y lt. lt_true j k lt) a n
-
-pub starts_rise : (a n : ℕ) → Rises (map start_maker (range_with_len a n))
-starts_rise a n = range_rises start_maker (λ j k x y lt. lt_true j k lt) a n
-
 or_left : (a b : Bool) → a ≡ true → (a || b) ≡ true
 or_left true b e = refl
 or_left false b e = absurd (let x : ⊥ = cc in x)
+
+pub holds_rise : (a n : ℕ) → Rises (map hold_maker (range_with_len a n))
+holds_rise a n = range_rises hold_maker (λ j k x y lt. or_left (ltb j k) _ (lt_true j k lt)) a n
+
+pub starts_rise : (a n : ℕ) → Rises (map start_maker (range_with_len a n))
+starts_rise a n = range_rises start_maker (λ j k x y lt. or_left (ltb j k) _ (lt_true j k lt)) a n
 
 or_right : (a b : Bool) → b ≡ true → (a || b) ≡ true
 or_right true b e = refl
@@ -122,7 +123,7 @@ module _ (f g : ℕ) (dx dy : ℤ) (f' g' : ℕ) (dx' dy' : ℤ) where
         or_right (ltb g g') _ (and_both (eqb g g') _ (eq_true g g' e) (by_column (columns e) (rows e)))
   ]
 
-  pub read_test : f ≤ f' → (f ≡ f' → g ≤ g') → (f ≡ f' → g ≡ g' → dy ≤ℤ dy') → (f ≡ f' → g ≡ g' → dy ≡ dy' → dx <ℤ dx') → is_read_before f g dx dy f' g' dx' dy' ≡ true
+  pub read_test : f ≤ f' → (f ≡ f' → g ≤ g') → (f ≡ f' → g ≡ g' → dy ≤ℤ dy') → (f ≡ f' → g ≡ g' → dy ≡ dy' → dx <ℤ dx') → is_less (0, f, g, dy, dx) (0, f', g', dy', dx') ≡ true
   read_test reader source rows columns = elim (cases_lt f f') [
     | inl lt ↦ or_left (ltb f f') _ (lt_true f f' lt)
     | inr le ↦
@@ -131,7 +132,7 @@ module _ (f g : ℕ) (dx dy : ℤ) (f' g' : ℕ) (dx' dy' : ℤ) where
   ]
 
 abbrev pub StandsBefore : PlacedRead → PlacedRead → Type 0
-StandsBefore a b = is_read_before a.f a.g a.dx a.dy b.f b.g b.dx b.dy ≡ true
+StandsBefore a b = is_less (0, a.f, a.g, a.dy, a.dx) (0, b.f, b.g, b.dy, b.dx) ≡ true
 
 -- both images of a read are kept
 abbrev pub AreKept : List Image → LiveRead → Type 0

@@ -10,7 +10,9 @@ use Rattle.raster_delay.specs.Delays.{hold, start, read, keep, holds_of, starts_
 use Rattle.raster_delay.specs.Systems.{Parts as System, image_count, placed_reads, constraints_in, depth}
 use Rattle.report_text.specs.declared.report.ImageLine.{ImageLine}
 use Rattle.report_text.specs.declared.report.FlowLine.{FlowLine}
-use Rattle.latency_report.specs.Printed.{name_of, line_of, hold_maker, start_maker, read_maker, keep_maker, makers, carried}
+use Rattle.latency_report.specs.Printed.{name_of, line_of}
+use Rattle.plan_check.specs.Flows.{makers, carried}
+use Rattle.plan_check.specs.Sums.{hold_maker, start_maker, read_maker, keep_maker}
 use Rattle.latency_report.proofs.Lines.{Maker}
 use Rattle.latency_report.proofs.Loops.{carried_append, more, all}
 

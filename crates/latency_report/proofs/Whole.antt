@@ -6,8 +6,9 @@ use Rattle.raster_delay.specs.Systems.{Parts as System}
 use Rattle.buffer_plan.specs.Plans.{Parts as Plan, clocks, bits_of}
 use Rattle.report_text.specs.declared.report.ImageLine.{ImageLine}
 use Rattle.report_text.specs.declared.report.FlowLine.{FlowLine}
-use Rattle.report_text.specs.Reports.{Parts as Report}
-use Rattle.latency_report.specs.Printed.{image_lines, latencies, makers, carried, version_of, report_of}
+use Rattle.report_text.specs.Reports.{Report}
+use Rattle.latency_report.specs.Printed.{image_lines, latencies, version_of, report_of}
+use Rattle.plan_check.specs.Flows.{makers, carried}
 
 module _ (p : Program) (s : System) (d flow : List ℕ) where
   pub whole : (plan : Plan) (version age width height : ℕ) (images : List ImageLine) (delays : List ℕ) (all bits : ℕ) (reads : List LiveRead) (shown : List ℕ) (lines : List FlowLine)

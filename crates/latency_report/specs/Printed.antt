@@ -1,17 +1,15 @@
 -- The report of a plan.
-use Rattle.std.specs.Prelude.{ℕ, zero, suc, ◌-◌, ◌&&◌, List, [], ◌∷◌, ◌++◌, length, map, nat_eq, if◌then◌else◌, slice_index, slice_index_or}
-use Rattle.std.specs.List.{enumerate_from, range_with_len}
+use Rattle.std.specs.Prelude.{ℕ, ◌&&◌, List, [], length, map, nat_eq, if◌then◌else◌, slice_index, slice_index_or}
+use Rattle.std.specs.List.{enumerate_from}
 use Rattle.dk_base.specs.Stencils.{place}
 use Rattle.dk_base.specs.declared.stencils.Image.{Image}
 use Rattle.dk_base.specs.declared.TheConstants.{MAX_BUFFER_BITS, MAX_LATENCY}
 use Rattle.pointwise_ir.specs.Programs.{Program, names_of}
-use Rattle.raster_delay.specs.declared.placed.PlacedRead.{PlacedRead}
-use Rattle.raster_delay.specs.Systems.{Parts as System, image_count, placed_reads, depth, bits}
+use Rattle.raster_delay.specs.Systems.{Parts as System, depth, bits}
 use Rattle.buffer_plan.specs.Plans.{Parts as Plan, clocks}
 use Rattle.report_text.specs.declared.report.ImageLine.{ImageLine}
-use Rattle.report_text.specs.declared.report.FlowLine.{FlowLine}
-use Rattle.report_text.specs.declared.report.FlowLine.TheVariants.{Hold, Start, Read, Keep}
-use Rattle.report_text.specs.Reports.{Parts as Report}
+use Rattle.report_text.specs.Reports.{Report}
+use Rattle.plan_check.specs.Flows.{makers, carried}
 
 abbrev pub name_of : Program → ℕ → List ℕ
 name_of p g = slice_index_or (names_of p) g []
@@ -26,32 +24,6 @@ image_lines p plan = map (line_of p plan) (enumerate_from 0 plan.system.stencils
 -- the delay of each output
 abbrev pub latencies : Plan → List ℕ
 latencies plan = map (λ g. slice_index plan.delays (place plan.system.stencils.images g)) plan.system.stencils.outputs
-
--- the flow line of a constraint, with a flow; the images go by their places
-abbrev pub hold_maker : ℕ → ℕ → FlowLine
-hold_maker k n = Hold k n
-
-abbrev pub start_maker : ℕ → ℕ → FlowLine
-start_maker k n = Start k n
-
-abbrev pub read_maker : PlacedRead → ℕ → FlowLine
-read_maker r n = Read r.f r.g r.dx r.dy n
-
-abbrev pub keep_maker : PlacedRead → ℕ → FlowLine
-keep_maker r n = Keep r.f r.g r.dx r.dy n
-
--- that of each constraint, in their order
-abbrev pub makers : System → List (ℕ → FlowLine)
-makers s =
-    ((map hold_maker (range_with_len 0 (image_count s)) ++ map start_maker (range_with_len s.stencils.inputs (image_count s - s.stencils.inputs)))
-    ++ map read_maker (placed_reads s)) ++ map keep_maker (placed_reads s)
-
--- those that are not 0
-abbrev pub carried : List (ℕ → FlowLine) → List ℕ → List FlowLine
-carried [] flow = []
-carried (line ∷ lines) [] = []
-carried (line ∷ lines) (zero ∷ flow) = carried lines flow
-carried (line ∷ lines) (suc n ∷ flow) = line (suc n) ∷ carried lines flow
 
 -- version 2 for one input and one output, and version 3 for any other
 abbrev pub version_of : System → ℕ

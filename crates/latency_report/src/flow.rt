@@ -4,7 +4,8 @@ ghost use Rattle.std.specs.Prelude.{◌≡◌, ◌+◌, ◌++◌, ◌≤◌, [],
 ghost use Rattle.dk_base.specs.declared.TheConstants.{MAX_KEPT_IMAGES};
 ghost use Rattle.std.specs.List.{range_with_len};
 ghost use Rattle.raster_delay.specs.Systems.{constraints_in};
-ghost use Rattle.latency_report.specs.Printed.{hold_maker, start_maker, read_maker, keep_maker, makers, carried};
+ghost use Rattle.plan_check.specs.Flows.{makers, carried};
+ghost use Rattle.plan_check.specs.Sums.{hold_maker, start_maker, read_maker, keep_maker};
 
 use dk_base::OutOfMemory;
 use raster_delay::{PlacedRead, System};

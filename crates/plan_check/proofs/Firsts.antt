@@ -1,12 +1,31 @@
--- Which line is the first wrong one, part after part.
-use Rattle.std.proofs.Common.{◌≡◌, ◌<◌, ◌+◌, ◌-◌, ℕ, [], ◌∷◌, ◌++◌, map, length, refl, arith}
+-- Which line is the first that is wrong by the printed numbers, part after part.
+use Rattle.std.proofs.Common.{◌≡◌, ◌<◌, ◌≤◌, ◌+◌, ◌-◌, ℕ, List, [], ◌∷◌, ◌++◌, map, length, arith}
 use Rattle.std.proofs.lemmas.List.{length-map, length-append}
 use Rattle.raster_delay.specs.Systems.{Parts as System}
-use Rattle.report_text.specs.Reports.{Parts as Report}
+use Rattle.report_text.specs.Reports.{Report}
 use Rattle.report_text.specs.Layout.{head_lines, unless_first, size_line, image_line, latency_line, clocks_line, bits_line, reads_line, flow_line, end_line}
+use Rattle.plan_check.specs.First.{IsFirst, Misses}
+use Rattle.plan_check.specs.Rules.{each, Keeps, Breaks}
 use Rattle.plan_check.specs.Numbering.{image_number, latency_number, clocks_number, bits_number, flow_number, last_number}
 use Rattle.plan_check.specs.Holding.{ImageHolds, LatencyHolds, clocks_of, bits_of, HasConstraint, FlowHolds}
-use Rattle.plan_check.specs.Judging.{image, latency, clocks, bits, constraint, flow, IsFirstWrong, IsFirstNot, IsClear, line_at}
+use Rattle.plan_check.specs.Judging.{line_at, number_rules}
+use Rattle.plan_check.proofs.Broken.{From, keeps_both, keeps_left, keeps_right, keeps_each, each_keeps, first_each, first_one, from_both, from_each, skip, stop}
+
+-- the rules by the printed numbers, part by part
+abbrev image_rules : System → Report → List (ℕ × Type 0)
+image_rules s r = each (image_number r) (length r.images) (ImageHolds s r.images)
+
+abbrev latency_rules : System → Report → List (ℕ × Type 0)
+latency_rules s r = each (latency_number r) (length r.latencies) (LatencyHolds s r.images r.latencies)
+
+abbrev sum_rules : Report → List (ℕ × Type 0)
+sum_rules r = (clocks_number r, r.clocks ≡ clocks_of r) ∷ (bits_number r, r.bits ≡ bits_of r) ∷ []
+
+abbrev constraint_rules : System → Report → List (ℕ × Type 0)
+constraint_rules s r = each (flow_number r) (length r.flow) (λ k. HasConstraint s (line_at r.flow k))
+
+abbrev flow_rules : System → Report → List (ℕ × Type 0)
+flow_rules s r = (last_number r, FlowHolds s r.flow r.bits) ∷ []
 
 module _ (s : System) (r : Report) where
   -- the last line stands behind those of the flow, and is no earlier than that of the bits
@@ -31,77 +50,102 @@ module _ (s : System) (r : Report) where
         length-map r.flow (flow_line r.images),
       )
 
-  pub clear_images : ((k : ℕ) → k < length r.images → ImageHolds s r.images k) → IsClear s r (latency_number r 0)
-  clear_images h m lt (image k below e fails) = fails (h k below)
-  clear_images h m lt (latency k below e fails) = absurd (omega (arith, lt, e))
-  clear_images h m lt (clocks e fails) = absurd (omega (arith, lt, e))
-  clear_images h m lt (bits e fails) = absurd (omega (arith, lt, e))
-  clear_images h m lt (constraint k below e fails) = absurd (omega (arith, lt, e))
-  clear_images h m lt (flow e fails) = absurd (omega (arith, lt, e, last_is))
+  abbrev behind_images : List (ℕ × Type 0)
+  behind_images = latency_rules s r ++ (sum_rules r ++ (constraint_rules s r ++ flow_rules s r))
 
-  pub first_image : (w : ℕ) → IsFirstNot (λ k. ImageHolds s r.images k) (length r.images) w → IsFirstWrong s r (image_number r w)
-  first_image w f = record { wrong = image w f.within refl f.not; first = before } where
-    before : IsClear s r (image_number r w)
-    before m lt (image k below e fails) = fails (f.before k (omega (arith, lt, e)))
-    before m lt (latency k below e fails) = absurd (omega (arith, lt, e, f.within))
-    before m lt (clocks e fails) = absurd (omega (arith, lt, e, f.within))
-    before m lt (bits e fails) = absurd (omega (arith, lt, e, f.within))
-    before m lt (constraint k below e fails) = absurd (omega (arith, lt, e, f.within))
-    before m lt (flow e fails) = absurd (omega (arith, lt, e, last_is, f.within))
+  abbrev behind_latencies : List (ℕ × Type 0)
+  behind_latencies = sum_rules r ++ (constraint_rules s r ++ flow_rules s r)
 
-  module _ (past : IsClear s r (latency_number r 0)) where
-    pub clear_latencies : ((k : ℕ) → k < length r.latencies → LatencyHolds s r.images r.latencies k) → IsClear s r (clocks_number r)
-    clear_latencies h m lt (image k below e fails) = past m (omega (arith, e, below)) (image k below e fails)
-    clear_latencies h m lt (latency k below e fails) = fails (h k below)
-    clear_latencies h m lt (clocks e fails) = absurd (omega (arith, lt, e))
-    clear_latencies h m lt (bits e fails) = absurd (omega (arith, lt, e))
-    clear_latencies h m lt (constraint k below e fails) = absurd (omega (arith, lt, e))
-    clear_latencies h m lt (flow e fails) = absurd (omega (arith, lt, e, last_is))
+  abbrev behind_sums : List (ℕ × Type 0)
+  behind_sums = constraint_rules s r ++ flow_rules s r
 
-    pub first_latency : (w : ℕ) → IsFirstNot (λ k. LatencyHolds s r.images r.latencies k) (length r.latencies) w → IsFirstWrong s r (latency_number r w)
-    first_latency w f = record { wrong = latency w f.within refl f.not; first = before } where
-      before : IsClear s r (latency_number r w)
-      before m lt (image k below e fails) = past m (omega (arith, e, below)) (image k below e fails)
-      before m lt (latency k below e fails) = fails (f.before k (omega (arith, lt, e)))
-      before m lt (clocks e fails) = absurd (omega (arith, lt, e, f.within))
-      before m lt (bits e fails) = absurd (omega (arith, lt, e, f.within))
-      before m lt (constraint k below e fails) = absurd (omega (arith, lt, e, f.within))
-      before m lt (flow e fails) = absurd (omega (arith, lt, e, last_is, f.within))
+  from_flow : (n : ℕ) → n ≤ last_number r → From n (flow_rules s r)
+  from_flow n le = (le, tt)
 
-  module _ (past : IsClear s r (clocks_number r)) where
-    pub clear_clocks : r.clocks ≡ clocks_of r → IsClear s r (bits_number r)
-    clear_clocks h m lt (image k below e fails) = past m (omega (arith, e, below)) (image k below e fails)
-    clear_clocks h m lt (latency k below e fails) = past m (omega (arith, e, below)) (latency k below e fails)
-    clear_clocks h m lt (clocks e fails) = fails h
-    clear_clocks h m lt (bits e fails) = absurd (omega (arith, lt, e))
-    clear_clocks h m lt (constraint k below e fails) = absurd (omega (arith, lt, e))
-    clear_clocks h m lt (flow e fails) = absurd (omega (arith, lt, e, last_is))
+  from_constraints : (n : ℕ) → n ≤ bits_number r → From n behind_sums
+  from_constraints n le = from_both n (constraint_rules s r) (flow_rules s r)
+      (from_each (flow_number r) (λ k. HasConstraint s (line_at r.flow k)) n (length r.flow) (λ k lt. omega (arith, le)))
+      (from_flow n (omega (arith, le, last_is)))
 
-    pub first_clocks : (r.clocks ≡ clocks_of r → ⊥) → IsFirstWrong s r (clocks_number r)
-    first_clocks h = record { wrong = clocks refl h; first = past }
+  from_sums : (n : ℕ) → n ≤ clocks_number r → From n behind_latencies
+  from_sums n le = (le, (omega (arith, le), from_constraints n (omega (arith, le))))
 
-  module _ (past : IsClear s r (bits_number r)) where
-    pub first_bits : (r.bits ≡ bits_of r → ⊥) → IsFirstWrong s r (bits_number r)
-    first_bits h = record { wrong = bits refl h; first = past }
+  from_latencies : (n : ℕ) → n ≤ latency_number r 0 → From n behind_images
+  from_latencies n le = from_both n (latency_rules s r) behind_latencies
+      (from_each (latency_number r) (LatencyHolds s r.images r.latencies) n (length r.latencies) (λ k lt. omega (arith, le)))
+      (from_sums n (omega (arith, le)))
 
-    module _ (right : r.bits ≡ bits_of r) where
-      pub clear_constraints : ((k : ℕ) → k < length r.flow → HasConstraint s (line_at r.flow k)) → IsClear s r (last_number r)
-      clear_constraints h m lt (image k below e fails) = past m (omega (arith, e, below)) (image k below e fails)
-      clear_constraints h m lt (latency k below e fails) = past m (omega (arith, e, below)) (latency k below e fails)
-      clear_constraints h m lt (clocks e fails) = past m (omega (arith, e)) (clocks e fails)
-      clear_constraints h m lt (bits e fails) = fails right
-      clear_constraints h m lt (constraint k below e fails) = fails (h k below)
-      clear_constraints h m lt (flow e fails) = absurd (omega (arith, lt, e))
+  -- the first image line that is wrong
+  pub wrong_image : (w : ℕ) → IsFirst (Misses (ImageHolds s r.images) (length r.images)) w → IsFirst (Breaks (number_rules s r)) (image_number r w)
+  wrong_image w f = stop (image_rules s r) behind_images (image_number r w)
+      (first_each (image_number r) (ImageHolds s r.images) (λ j k le. omega (arith, le)) (length r.images) w f)
+      (let below = f.is.0 in from_latencies (image_number r w) (omega (arith, below)))
 
-      pub first_constraint : (w : ℕ) → IsFirstNot (λ k. HasConstraint s (line_at r.flow k)) (length r.flow) w → IsFirstWrong s r (flow_number r w)
-      first_constraint w f = record { wrong = constraint w f.within refl f.not; first = before } where
-        before : IsClear s r (flow_number r w)
-        before m lt (image k below e fails) = past m (omega (arith, e, below)) (image k below e fails)
-        before m lt (latency k below e fails) = past m (omega (arith, e, below)) (latency k below e fails)
-        before m lt (clocks e fails) = past m (omega (arith, e)) (clocks e fails)
-        before m lt (bits e fails) = fails right
-        before m lt (constraint k below e fails) = fails (f.before k (omega (arith, lt, e)))
-        before m lt (flow e fails) = absurd (omega (arith, lt, e, last_is, f.within))
+  pub images_keep : ((k : ℕ) → k < length r.images → ImageHolds s r.images k) → Keeps (image_rules s r)
+  images_keep h = keeps_each (image_number r) (ImageHolds s r.images) (length r.images) h
 
-      pub first_flow : ((k : ℕ) → k < length r.flow → HasConstraint s (line_at r.flow k)) → (FlowHolds s r.flow r.bits → ⊥) → IsFirstWrong s r (last_number r)
-      first_flow h fails = record { wrong = flow refl fails; first = clear_constraints h }
+  module _ (images : Keeps (image_rules s r)) where
+    pub wrong_latency : (w : ℕ) → IsFirst (Misses (LatencyHolds s r.images r.latencies) (length r.latencies)) w → IsFirst (Breaks (number_rules s r)) (latency_number r w)
+    wrong_latency w f = skip (image_rules s r) behind_images (latency_number r w) images (stop (latency_rules s r) behind_latencies (latency_number r w)
+        (first_each (latency_number r) (LatencyHolds s r.images r.latencies) (λ j k le. omega (arith, le)) (length r.latencies) w f)
+        (let below = f.is.0 in from_sums (latency_number r w) (omega (arith, below))))
+
+    pub latencies_keep : ((k : ℕ) → k < length r.latencies → LatencyHolds s r.images r.latencies k) → Keeps (latency_rules s r)
+    latencies_keep h = keeps_each (latency_number r) (LatencyHolds s r.images r.latencies) (length r.latencies) h
+
+    module _ (latencies : Keeps (latency_rules s r)) where
+      past : (n : ℕ) → IsFirst (Breaks behind_latencies) n → IsFirst (Breaks (number_rules s r)) n
+      past n f = skip (image_rules s r) behind_images n images (skip (latency_rules s r) behind_latencies n latencies f)
+
+      pub wrong_clocks : (r.clocks ≡ clocks_of r → ⊥) → IsFirst (Breaks (number_rules s r)) (clocks_number r)
+      wrong_clocks not = past (clocks_number r) (first_one (clocks_number r) (r.clocks ≡ clocks_of r) ((bits_number r, r.bits ≡ bits_of r) ∷ behind_sums) not
+          (omega arith, from_constraints (clocks_number r) (omega arith)))
+
+      pub wrong_bits : r.clocks ≡ clocks_of r → (r.bits ≡ bits_of r → ⊥) → IsFirst (Breaks (number_rules s r)) (bits_number r)
+      wrong_bits right not = past (bits_number r) (skip ((clocks_number r, r.clocks ≡ clocks_of r) ∷ []) ((bits_number r, r.bits ≡ bits_of r) ∷ behind_sums) (bits_number r) (right, tt)
+          (first_one (bits_number r) (r.bits ≡ bits_of r) behind_sums not (from_constraints (bits_number r) (omega arith))))
+
+      module _ (sums : Keeps (sum_rules r)) where
+        pub wrong_constraint : (w : ℕ) → IsFirst (Misses (λ k. HasConstraint s (line_at r.flow k)) (length r.flow)) w → IsFirst (Breaks (number_rules s r)) (flow_number r w)
+        wrong_constraint w f = past (flow_number r w) (skip (sum_rules r) behind_sums (flow_number r w) sums (stop (constraint_rules s r) (flow_rules s r) (flow_number r w)
+            (first_each (flow_number r) (λ k. HasConstraint s (line_at r.flow k)) (λ j k le. omega (arith, le)) (length r.flow) w f)
+            (let below = f.is.0 in from_flow (flow_number r w) (omega (arith, below, last_is)))))
+
+        pub constraints_keep : ((k : ℕ) → k < length r.flow → HasConstraint s (line_at r.flow k)) → Keeps (constraint_rules s r)
+        constraints_keep h = keeps_each (flow_number r) (λ k. HasConstraint s (line_at r.flow k)) (length r.flow) h
+
+        module _ (constraints : (k : ℕ) → k < length r.flow → HasConstraint s (line_at r.flow k)) where
+          pub wrong_flow : (FlowHolds s r.flow r.bits → ⊥) → IsFirst (Breaks (number_rules s r)) (last_number r)
+          wrong_flow not = past (last_number r) (skip (sum_rules r) behind_sums (last_number r) sums (skip (constraint_rules s r) (flow_rules s r) (last_number r)
+              (constraints_keep constraints) (first_one (last_number r) (FlowHolds s r.flow r.bits) [] not tt)))
+
+          pub none_wrong : FlowHolds s r.flow r.bits → Keeps (number_rules s r)
+          none_wrong flow = keeps_both (image_rules s r) behind_images images (keeps_both (latency_rules s r) behind_latencies latencies (keeps_both (sum_rules r) behind_sums sums
+              (keeps_both (constraint_rules s r) (flow_rules s r) (constraints_keep constraints) (flow, tt))))
+
+-- what the printed numbers of a report that holds say
+pub record NumbersHold (s : System) (r : Report) : Type 0 where
+  pub images : (k : ℕ) → k < length r.images → ImageHolds s r.images k
+  pub latencies : (k : ℕ) → k < length r.latencies → LatencyHolds s r.images r.latencies k
+  pub clocks : r.clocks ≡ clocks_of r
+  pub bits : r.bits ≡ bits_of r
+  pub constraints : (k : ℕ) → k < length r.flow → HasConstraint s (line_at r.flow k)
+  pub flow : FlowHolds s r.flow r.bits
+
+pub of_rules : (s : System) (r : Report) → Keeps (number_rules s r) → NumbersHold s r
+of_rules s r h =
+    let last = keeps_right (image_rules s r) (behind_images s r) h in
+    let sums = keeps_right (latency_rules s r) (behind_latencies s r) last in
+    let flows = sums.1.1 in
+    record {
+      images = each_keeps (image_number r) (ImageHolds s r.images) (length r.images) (keeps_left (image_rules s r) (behind_images s r) h);
+      latencies = each_keeps (latency_number r) (LatencyHolds s r.images r.latencies) (length r.latencies) (keeps_left (latency_rules s r) (behind_latencies s r) last);
+      clocks = sums.0;
+      bits = sums.1.0;
+      constraints = each_keeps (flow_number r) (λ k. HasConstraint s (line_at r.flow k)) (length r.flow) (keeps_left (constraint_rules s r) (flow_rules s r) flows);
+      flow = (keeps_right (constraint_rules s r) (flow_rules s r) flows).0;
+    }
+
+pub to_rules : (s : System) (r : Report) → NumbersHold s r → Keeps (number_rules s r)
+to_rules s r h =
+    none_wrong s r (images_keep s r h.images) (latencies_keep s r (images_keep s r h.images) h.latencies) (h.clocks, (h.bits, tt)) h.constraints h.flow

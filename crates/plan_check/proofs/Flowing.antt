@@ -12,7 +12,8 @@ use Rattle.raster_delay.specs.Systems.{Parts, IsSystem, image_count, placed_read
 use Rattle.raster_delay.specs.declared.placed.PlacedRead.{PlacedRead}
 use Rattle.raster_delay.proofs.Places.{system_form}
 use Rattle.report_text.specs.declared.report.FlowLine.{FlowLine}
-use Rattle.plan_check.specs.Holding.{constraint_of, amount_of, carriers, amounts}
+use Rattle.plan_check.specs.Flows.{amount_of}
+use Rattle.plan_check.specs.Sums.{constraint_of, carriers, amounts}
 
 module _ (s : Parts) (v : ℕ) (x : FlowLine) (xs : List FlowLine) where
   pub inflow_cons : inflow (carriers s (x ∷ xs)) (amounts (x ∷ xs)) v ≡ cond (eqb (constraint_of s x).target v) (amount_of x) 0 + inflow (carriers s xs) (amounts xs) v

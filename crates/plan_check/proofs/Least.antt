@@ -1,26 +1,28 @@
--- A balanced flow on constraints of the system shows that no causal delays need fewer bits than it is worth.
-use Rattle.std.proofs.Common.{◌≡◌, ◌≢◌, ◌<◌, ◌≤◌, ◌+◌, ◌-◌, ◌*◌, ◌∙◌, ℕ, suc, List, [], ◌∷◌, ◌++◌, map, length, refl, ap, sym, arith, cond, eqb, inl, inr, slice_index, slice_index_or, sum_by}
-use Rattle.std.specs.Prelude.{All}
+-- What holds of each constraint holds of those that flow lines name; and a report that holds shows that no causal delays need fewer bits.
+use Rattle.std.proofs.Common.{◌≡◌, ◌≢◌, ◌<◌, ◌≤◌, ◌+◌, ◌-◌, ◌*◌, ◌∙◌, ℕ, pos, suc, List, [], ◌∷◌, ◌++◌, map, length, refl, ap, sym, arith, cond, eqb, inl, inr, slice_index, slice_index_or, sum_by}
+use Rattle.std.specs.Prelude.{All, ◌-ℤ◌}
 use Rattle.std.specs.List.{AllByRecursion, range_with_len, enumerate_from}
 use Rattle.std.proofs.lemmas.Int.{ints}
 use Rattle.std.proofs.lemmas.Bool.{cases_lt, ne_eqb}
 use Rattle.std.proofs.lemmas.List.{length-map}
 use Rattle.std.proofs.lemmas.List.Sums.{sum_by-cons}
 use Rattle.std.proofs.lemmas.List.Elements.{All-contains, All-map, All-from_recursion, recursion_from_All}
-use Rattle.raster_delay.specs.Network.{Holds as HoldsAt, IsFlow, IsWithin, Keeps, Buffer, inflow, outflow, amount_at, ends, begins}
+use Rattle.raster_delay.specs.Network.{IsWithin, Buffer, inflow, outflow, amount_at, ends, begins}
 use Rattle.raster_delay.specs.Delays.{hold, start, read, keep, holds_of, starts_of, depth_of, IsForm, IsSmall}
-use Rattle.raster_delay.specs.Systems.{Parts, IsSystem, IsCausal, image_count, widths, placed_reads, constraints_in, buffers, nodes, bits}
+use Rattle.raster_delay.specs.Systems.{Parts, IsSystem, IsCausal, image_count, widths, placed_reads, constraints_in, buffers, nodes, bits, coefficient_in}
 use Rattle.raster_delay.specs.declared.network.Constraint.{Constraint}
 use Rattle.raster_delay.specs.declared.placed.PlacedRead.{PlacedRead}
-use Rattle.raster_delay.proofs.Bridge.{rec_left, rec_right, rec_map_out, rec_range_out, numbers_of}
-use Rattle.raster_delay.proofs.Duality.{bits_are}
+use Rattle.raster_delay.proofs.Bridge.{rec_left, rec_right, rec_map_out, rec_range_out}
 use Rattle.raster_delay.proofs.Places.{system_form}
-use Rattle.raster_delay.proofs.Within.{within_all, small_all, keeps_all, numbers_keep, numbers_objective}
+use Rattle.raster_delay.proofs.Within.{within_all, small_all, worth_at_most}
 use Rattle.report_text.specs.declared.report.ImageLine.{ImageLine}
 use Rattle.report_text.specs.declared.report.FlowLine.{FlowLine}
 use Rattle.report_text.specs.declared.report.FlowLine.TheVariants.{Hold, Start, Read, Keep}
-use Rattle.report_text.specs.Reports.{Parts as Report}
-use Rattle.plan_check.specs.Holding.{Holds, HasConstraint, FlowHolds, AreLeast, constraint_of, amount_of, carriers, amounts, delays, depths_of, widths_of, bits_of_lines}
+use Rattle.report_text.specs.Reports.{Report}
+use Rattle.plan_check.specs.Holding.{HasConstraint, AreLeast, delays, depths_of, widths_of, bits_of_lines}
+use Rattle.plan_check.specs.Flows.{amount_of}
+use Rattle.plan_check.specs.Sums.{SumsHold, constraint_of, carriers, amounts}
+use Rattle.plan_check.proofs.Firsts.{NumbersHold}
 use Rattle.plan_check.proofs.Flowing.{inflow_cons, outflow_cons}
 
 elsewhere : (k a v : ℕ) → k ≢ v → cond (eqb k v) a 0 ≡ 0
@@ -97,36 +99,19 @@ module _ (s : Parts) (is : IsSystem s) (flow : List FlowLine) (has : All (HasCon
   targets : All (λ c. c.target < nodes s) (carriers s flow)
   targets = of_carriers s is (λ c. c.target < nodes s) (recursion_from_All (λ c. c.target < nodes s) (constraints_in s) inside.targets) flow has
 
-  carriers_within : IsWithin (nodes s) (carriers s flow) (buffers s)
-  carriers_within = record { sources = sources; targets = targets; begins = inside.begins; ends = inside.ends }
-
-  carriers_flow : (b : ℕ) → FlowHolds s flow b → IsFlow (carriers s flow) (buffers s) (amounts flow)
-  carriers_flow b h = record {
-    one_each = length-map flow amount_of ∙ sym (length-map flow (constraint_of s));
-    balanced = λ v. elim (cases_lt v (nodes s)) [
-      | inl lt ↦ h.balanced v lt
-      | inr le ↦ omega (
-        arith,
-        ints,
-        no_inflow s (nodes s) v flow (omega arith) (recursion_from_All (λ c. c.target < nodes s) (carriers s flow) targets),
-        no_outflow s (nodes s) v flow (omega arith) (recursion_from_All (λ c. c.source < nodes s) (carriers s flow) sources),
-        no_ends (nodes s) v (buffers s) (omega arith) (recursion_from_All (λ b. b.end < nodes s) (buffers s) inside.ends),
-        no_begins (nodes s) v (buffers s) (omega arith) (recursion_from_All (λ b. b.begin < nodes s) (buffers s) inside.begins),
-      )
-    ];
-  }
-
-  -- no causal delays need fewer bits than the flow is worth
-  pub worth_at_most : (b : ℕ) → FlowHolds s flow b → (d : List ℕ) → IsCausal s d → b ≤ bits s d
-  worth_at_most b h d causal =
-      let row = s.stencils.width in
-      let inputs = s.stencils.inputs in
-      let images = image_count s in
-      let p = numbers_of row inputs images (placed_reads s) d in
-      let kept : Keeps (constraints_in s) (buffers s) p = keeps_all row s.age inputs images (widths s) (placed_reads s) form p (numbers_keep row s.age inputs images (widths s) (placed_reads s) form d causal) in
-      let at : All (HoldsAt p) (carriers s flow) = of_carriers s is (HoldsAt p) (recursion_from_All (HoldsAt p) (constraints_in s) kept.holds) flow has in
-      let sum = bits_are (nodes s) (carriers s flow) (buffers s) (amounts flow) p carriers_within (carriers_flow b h) (record { holds = at; ordered = kept.ordered }) in
-      omega (arith, ints, sum, numbers_objective row s.age inputs images (widths s) (placed_reads s) form d causal, h.worth_is)
+  -- at any node, also one that is none of the system's
+  pub balanced_at : (b : ℕ) → SumsHold s flow b → (v : ℕ) → pos (inflow (carriers s flow) (amounts flow) v) -ℤ pos (outflow (carriers s flow) (amounts flow) v) ≡ coefficient_in s v
+  balanced_at b h v = elim (cases_lt v (nodes s)) [
+    | inl lt ↦ h.balanced v lt
+    | inr le ↦ omega (
+      arith,
+      ints,
+      no_inflow s (nodes s) v flow (omega arith) (recursion_from_All (λ c. c.target < nodes s) (carriers s flow) targets),
+      no_outflow s (nodes s) v flow (omega arith) (recursion_from_All (λ c. c.source < nodes s) (carriers s flow) sources),
+      no_ends (nodes s) v (buffers s) (omega arith) (recursion_from_All (λ b. b.end < nodes s) (buffers s) inside.ends),
+      no_begins (nodes s) v (buffers s) (omega arith) (recursion_from_All (λ b. b.begin < nodes s) (buffers s) inside.begins),
+    )
+  ]
 
 pub small_cost : (s : Parts) → IsSystem s → (x : FlowLine) → HasConstraint s x → IsSmall (constraint_of s x)
 small_cost s is x h = of_carrier s is IsSmall (recursion_from_All IsSmall (constraints_in s) (small_all s.stencils.width s.age s.stencils.inputs (image_count s) (widths s) (placed_reads s) (system_form s is))) x h
@@ -148,7 +133,7 @@ same_list [] (y ∷ ys) l f = absurd (omega arith)
 same_list (x ∷ xs) [] l f = absurd (omega arith)
 same_list (x ∷ xs) (y ∷ ys) l f = ap (λ a. a ∷ xs) (f 0 (omega arith)) ∙ ap (λ s. y ∷ s) (same_list xs ys (omega arith) (λ k b. f (suc k) (omega arith)))
 
-module _ (s : Parts) (is : IsSystem s) (r : Report) (count : length r.images ≡ image_count s) (h : Holds s r) where
+module _ (s : Parts) (is : IsSystem s) (r : Report) (count : length r.images ≡ image_count s) (h : NumbersHold s r) where
   printed_causal : IsCausal s (delays r)
   printed_causal = record {
     one_each = length-map r.images (λ (i : ImageLine). i.delay) ∙ count;
@@ -174,5 +159,7 @@ module _ (s : Parts) (is : IsSystem s) (r : Report) (count : length r.images ≡
   are_least = record {
     causal = printed_causal;
     bits_are = printed_bits;
-    least = λ d causal. worth_at_most s is r.flow h.constraints r.bits h.flow d causal;
+    least = λ d causal.
+        let most = worth_at_most s.stencils.width s.age s.stencils.inputs (image_count s) (widths s) (placed_reads s) (system_form s is) d causal h.flow.flow h.flow.balanced in
+        omega (arith, ints, most, h.flow.worth_is);
   }

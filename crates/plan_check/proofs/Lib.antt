@@ -1,7 +1,11 @@
 pub mod Flowing
 pub mod Least
+pub mod Broken
 pub mod Firsts
 pub mod Order
 pub mod Ranks
 pub mod Tallies
 pub mod Foreigns
+pub mod Carried
+pub mod Filling
+pub mod Totals

@@ -15,7 +15,7 @@ use Rattle.raster_delay.specs.declared.placed.PlacedRead.{PlacedRead}
 use Rattle.raster_delay.specs.Placing.{placed}
 use Rattle.raster_delay.specs.Systems.{Parts, IsSystem, placed_reads}
 use Rattle.raster_delay.proofs.Places.{place_le}
-use Rattle.report_text.specs.Reports.{is_read_before}
+use Rattle.report_text.specs.Reports.{is_less}
 use Rattle.plan_check.specs.Orders.{IsEarlier, AreSorted}
 
 -- not one before the other and the other before the one
@@ -80,7 +80,7 @@ int_less : (a b : ℤ) → int_lt a b ≡ true → a <ℤ b
 int_less a b t = elim (int_lt_cases a b) [ inl h ↦ h.0 | inr h ↦ absurd (let e : ⊥ = cc (h.1, t) in e) ]
 
 -- what the test on flow lines says
-module _ (f g : ℕ) (dx dy : ℤ) (f' g' : ℕ) (dx' dy' : ℤ) (h : is_read_before f g dx dy f' g' dx' dy' ≡ true) where
+module _ (f g : ℕ) (dx dy : ℤ) (f' g' : ℕ) (dx' dy' : ℤ) (h : is_less (0, f, g, dy, dx) (0, f', g', dy', dx') ≡ true) where
   last_parts : f ≡ f' → g ≡ g' → (int_lt dy dy' ≡ true) ⊎ ((int_eq dy dy' ≡ true) × (int_lt dx dx' ≡ true))
   last_parts e k = third (ltb f f') (eqb f f') (ltb g g') (eqb g g') (int_lt dy dy') (int_eq dy dy') (int_lt dx dx') h (ltb_same f f' e) (ltb_same g g' k)
 

@@ -1,6 +1,6 @@
 -- Flow lines that ascend and name constraints are at most as many as these.
-use Rattle.std.proofs.Common.{◌≡◌, ◌<◌, ◌≤◌, ◌+◌, ◌*◌, ◌^◌, ℕ, zero, suc, true, List, [], ◌∷◌, length, slice_index_or, sym, ap, subst, arith, inl, inr, ◌∙◌}
-use Rattle.std.specs.Prelude.{Contains, nat_lt}
+use Rattle.std.proofs.Common.{◌≡◌, ◌<◌, ◌≤◌, ◌+◌, ◌-◌, ◌*◌, ◌^◌, ℕ, zero, suc, true, false, List, [], ◌∷◌, length, slice_index_or, sym, ap, subst, arith, inl, inr, ◌∙◌}
+use Rattle.std.specs.Prelude.{Contains, nat_lt, nat_eq, ◌&&◌, ◌||◌}
 use Rattle.std.proofs.lemmas.Bool.{cases_lt, cases_eq}
 use Rattle.std.proofs.lemmas.Bool.Decides.{nat_tests}
 use Rattle.std.proofs.lemmas.List.{get_or_default}
@@ -15,7 +15,7 @@ use Rattle.plan_check.specs.Judging.{line_at}
 use Rattle.plan_check.specs.Orders.{IsEarlier}
 use Rattle.plan_check.proofs.Order.{in_order, not_both, earlier_from_test}
 
-less : (a b : ℕ) → nat_lt a b ≡ true → a < b
+less : (a b : ℕ) → (nat_lt a b || (nat_eq a b && false)) ≡ true → a < b
 less a b h = grind (arith, nat_tests)
 
 ascend_at : (flow : List FlowLine) (k : ℕ) (d : FlowLine) → Ascend flow → suc k < length flow → is_before (slice_index_or flow k d) (slice_index_or flow (suc k) d) ≡ true
@@ -29,15 +29,15 @@ module _ (s : Parts) (is : IsSystem s) where
   reads = placed_reads s
 
   -- the place among all constraints of the one that a flow line names
-  abbrev rank : (x : FlowLine) → HasConstraint s x → ℕ
+  abbrev pub rank : (x : FlowLine) → HasConstraint s x → ℕ
   rank (Hold g n) h = g
-  rank (Start f n) h = image_count s + f
-  rank (Read f g dx dy n) h = 2 * image_count s + h.0
-  rank (Keep f g dx dy n) h = 2 * image_count s + length (placed_reads s) + h.0
+  rank (Start f n) h = image_count s + (f - s.stencils.inputs)
+  rank (Read f g dx dy n) h = image_count s + (image_count s - s.stencils.inputs) + h.0
+  rank (Keep f g dx dy n) h = image_count s + (image_count s - s.stencils.inputs) + length (placed_reads s) + h.0
 
   rank_below : (x : FlowLine) (h : HasConstraint s x) → rank x h < 2 * image_count s + 2 * length (placed_reads s)
   rank_below (Hold g n) h = omega (arith, h)
-  rank_below (Start f n) h = omega (arith, h.1)
+  rank_below (Start f n) h = omega (arith, h.0, h.1)
   rank_below (Read f g dx dy n) h = omega (arith, h.1)
   rank_below (Keep f g dx dy n) h = omega (arith, h.1)
 
@@ -57,15 +57,15 @@ module _ (s : Parts) (is : IsSystem s) where
         ]
       ]
 
-  rank_rises : (x y : FlowLine) (h : HasConstraint s x) (j : HasConstraint s y) → is_before x y ≡ true → rank x h < rank y j
+  pub rank_rises : (x y : FlowLine) (h : HasConstraint s x) (j : HasConstraint s y) → is_before x y ≡ true → rank x h < rank y j
   rank_rises (Hold g n) (Hold g' n') h j b = less g g' b
-  rank_rises (Hold g n) (Start f' n') h j b = omega (arith, h)
+  rank_rises (Hold g n) (Start f' n') h j b = omega (arith, h, j.0)
   rank_rises (Hold g n) (Read f' g' dx' dy' n') h j b = omega (arith, h)
   rank_rises (Hold g n) (Keep f' g' dx' dy' n') h j b = omega (arith, h)
   rank_rises (Start f n) (Hold g' n') h j b = let e : ⊥ = cc in absurd e
-  rank_rises (Start f n) (Start f' n') h j b = omega (arith, less f f' b)
-  rank_rises (Start f n) (Read f' g' dx' dy' n') h j b = omega (arith, h.1)
-  rank_rises (Start f n) (Keep f' g' dx' dy' n') h j b = omega (arith, h.1)
+  rank_rises (Start f n) (Start f' n') h j b = omega (arith, h.0, j.0, less f f' b)
+  rank_rises (Start f n) (Read f' g' dx' dy' n') h j b = omega (arith, h.0, h.1)
+  rank_rises (Start f n) (Keep f' g' dx' dy' n') h j b = omega (arith, h.0, h.1)
   rank_rises (Read f g dx dy n) (Hold g' n') h j b = let e : ⊥ = cc in absurd e
   rank_rises (Read f g dx dy n) (Start f' n') h j b = let e : ⊥ = cc in absurd e
   rank_rises (Read f g dx dy n) (Read f' g' dx' dy' n') h j b = omega (arith, place_rises (read_at f g dx dy) (read_at f' g' dx' dy') h j (earlier_from_test f g dx dy f' g' dx' dy' b))

@@ -5,7 +5,8 @@ use Rattle.raster_delay.specs.Network.{inflow, outflow}
 use Rattle.raster_delay.specs.Systems.{Parts}
 use Rattle.report_text.specs.declared.report.FlowLine.{FlowLine}
 use Rattle.report_text.specs.declared.report.FlowLine.TheVariants.{Hold}
-use Rattle.plan_check.specs.Holding.{constraint_of, amount_of, carriers, amounts}
+use Rattle.plan_check.specs.Flows.{amount_of}
+use Rattle.plan_check.specs.Sums.{constraint_of, carriers, amounts}
 use Rattle.plan_check.proofs.Flowing.{inflow_cons, outflow_cons}
 
 module _ (s : Parts) (flow : List FlowLine) (i : ℕ) (below : i < length flow) (v : ℕ) where

@@ -1,15 +1,14 @@
 -- What the lines of a report have to be, by its printed numbers.
-use Rattle.std.specs.Prelude.{◌≡◌, ℕ, ℤ, pos, ◌+◌, ◌*◌, ◌<◌, ◌≤◌, ◌-ℤ◌, ◌≤ℤ◌, max, List, [], ◌∷◌, length, map, slice_index, sum_by, Contains, All}
+use Rattle.std.specs.Prelude.{◌≡◌, ℕ, ℤ, pos, ◌+◌, ◌*◌, ◌<◌, ◌≤◌, ◌≤ℤ◌, max, List, [], ◌∷◌, map, slice_index, sum_by, Contains, All}
 use Rattle.dk_base.specs.Stencils.{place}
-use Rattle.raster_delay.specs.declared.network.Constraint.{Constraint}
 use Rattle.raster_delay.specs.declared.placed.PlacedRead.{PlacedRead}
-use Rattle.raster_delay.specs.Network.{inflow, outflow, worth}
-use Rattle.raster_delay.specs.Delays.{age_of, hold, start, read, keep}
-use Rattle.raster_delay.specs.Systems.{Parts as System, IsCausal, image_count, widths, placed_reads, depth, bits, nodes, coefficient_in}
+use Rattle.raster_delay.specs.Delays.{age_of}
+use Rattle.raster_delay.specs.Systems.{Parts as System, IsCausal, IsBalanced, image_count, widths, placed_reads, depth, bits, worth_of}
 use Rattle.report_text.specs.declared.report.ImageLine.{ImageLine}
 use Rattle.report_text.specs.declared.report.FlowLine.{FlowLine}
 use Rattle.report_text.specs.declared.report.FlowLine.TheVariants.{Hold, Start, Read, Keep}
-use Rattle.report_text.specs.Reports.{Parts as Report}
+use Rattle.report_text.specs.Reports.{Report}
+use Rattle.plan_check.specs.Flows.{carrying, carried, makers}
 
 -- what the image lines print, in their order
 abbrev pub delays_of : List ImageLine → List ℕ
@@ -58,19 +57,6 @@ bits_of r = bits_of_lines r.images
 abbrev pub read_at : (f g : ℕ) → (dx dy : ℤ) → PlacedRead
 read_at f g dx dy = record { f = f; g = g; dx = dx; dy = dy }
 
--- the constraint that a flow line names
-abbrev pub constraint_of : System → FlowLine → Constraint
-constraint_of s (Hold g n) = hold s.stencils.inputs (image_count s) g
-constraint_of s (Start f n) = start s.stencils.inputs f
-constraint_of s (Read f g dx dy n) = read s.stencils.width s.age s.stencils.inputs (read_at f g dx dy)
-constraint_of s (Keep f g dx dy n) = keep s.stencils.width s.stencils.inputs (image_count s) (read_at f g dx dy)
-
-abbrev pub amount_of : FlowLine → ℕ
-amount_of (Hold g n) = n
-amount_of (Start f n) = n
-amount_of (Read f g dx dy n) = n
-amount_of (Keep f g dx dy n) = n
-
 -- there is such a constraint: of a kept image, of one that is no input, or of a live read
 abbrev pub HasConstraint : System → FlowLine → Type 0
 HasConstraint s (Hold g n) = g < image_count s
@@ -78,26 +64,12 @@ HasConstraint s (Start f n) = (s.stencils.inputs ≤ f) × (f < image_count s)
 HasConstraint s (Read f g dx dy n) = Contains (placed_reads s) (read_at f g dx dy)
 HasConstraint s (Keep f g dx dy n) = Contains (placed_reads s) (read_at f g dx dy)
 
--- the constraints that carry flow, and how much
-abbrev pub carriers : System → List FlowLine → List Constraint
-carriers s flow = map (constraint_of s) flow
-
-abbrev pub amounts : List FlowLine → List ℕ
-amounts flow = map amount_of flow
-
--- At each node what flows in less what flows out is the coefficient, all other constraints carrying nothing; and the sum of cost times flow is the bits.
-pub record FlowHolds (s : System) (flow : List FlowLine) (bits : ℕ) : Type 0 where
-  pub balanced : (v : ℕ) → v < nodes s → pos (inflow (carriers s flow) (amounts flow) v) -ℤ pos (outflow (carriers s flow) (amounts flow) v) ≡ coefficient_in s v
-  pub worth_is : worth (carriers s flow) (amounts flow) ≡ pos bits
-
--- all lines are right
-pub record Holds (s : System) (r : Report) : Type 0 where
-  pub images : (k : ℕ) → k < length r.images → ImageHolds s r.images k
-  pub latencies : (k : ℕ) → k < length r.latencies → LatencyHolds s r.images r.latencies k
-  pub clocks : r.clocks ≡ clocks_of r
-  pub bits : r.bits ≡ bits_of r
-  pub constraints : All (HasConstraint s) r.flow
-  pub flow : FlowHolds s r.flow r.bits
+-- The flow lines are those of a balanced flow on all constraints that is worth the bits: one for each constraint that carries some, in the order of the constraints. Lines of 0 say nothing.
+pub record FlowHolds (s : System) (lines : List FlowLine) (bits : ℕ) : Type 0 where
+  pub flow : List ℕ
+  pub lines_are : carrying lines ≡ carried (makers s) flow
+  pub balanced : IsBalanced s flow
+  pub worth_is : worth_of s flow ≡ pos bits
 
 -- the printed delays are causal, and no causal delays need fewer bits than the printed ones
 pub record AreLeast (s : System) (r : Report) : Type 0 where

@@ -1,5 +1,9 @@
+pub mod First
+pub mod Rules
 pub mod Orders
 pub mod Numbering
+pub mod Flows
 pub mod Holding
+pub mod Sums
 pub mod Judging
 pub mod Program

@@ -1,6 +1,6 @@
 -- At which line of a report's text each of its parts stands. Lines are counted from 1.
 use Rattle.std.specs.Prelude.{ℕ, ◌+◌, [], ◌∷◌, length}
-use Rattle.report_text.specs.Reports.{Parts as Report}
+use Rattle.report_text.specs.Reports.{Report}
 use Rattle.report_text.specs.Layout.{head_lines, unless_first, reads_line, lines}
 
 abbrev pub size_number : Report → ℕ

@@ -1,3 +1,4 @@
+-- Used by private functions alone.
 -- The order of live reads by place.
 use Rattle.std.specs.Prelude.{◌≡◌, ℕ, ◌<◌, ◌≤◌, ◌<ℤ◌, ◌≤ℤ◌, List, length, slice_index_or}
 use Rattle.raster_delay.specs.declared.placed.PlacedRead.{PlacedRead}

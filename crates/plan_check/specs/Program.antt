@@ -1,15 +1,17 @@
 -- Which lines of a report are wrong by the program, and what is answered on both kinds of rules.
-use Rattle.std.specs.Prelude.{◌≡◌, ℕ, ◌+◌, ◌<◌, ◌≤◌, List, [], length, slice_index, slice_index_or}
+use Rattle.std.specs.Prelude.{◌≡◌, ℕ, ◌+◌, ◌<◌, ◌≤◌, List, [], ◌∷◌, ◌++◌, length, slice_index, slice_index_or}
 use Rattle.dk_base.specs.Stencils.{Parts as Stencils, numbers}
 use Rattle.raster_delay.specs.Placing.{widths_of as image_widths}
 use Rattle.raster_delay.specs.Systems.{Parts as System}
 use Rattle.report_text.specs.declared.report.ImageLine.{ImageLine}
-use Rattle.report_text.specs.Reports.{Parts as Report, names_of}
+use Rattle.report_text.specs.Reports.{Report, names_of}
 use Rattle.plan_check.specs.declared.verdict.Verdict.{Verdict}
 use Rattle.plan_check.specs.declared.verdict.Verdict.TheVariants.{Yes, No}
+use Rattle.plan_check.specs.First.{IsFirst}
+use Rattle.plan_check.specs.Rules.{each, Keeps, Breaks}
 use Rattle.plan_check.specs.Numbering.{size_number, image_number, latency_number, clocks_number, bits_number}
-use Rattle.plan_check.specs.Holding.{Holds, widths_of}
-use Rattle.plan_check.specs.Judging.{IsWrong}
+use Rattle.plan_check.specs.Holding.{widths_of}
+use Rattle.plan_check.specs.Judging.{number_rules}
 
 -- the name of the kept image at place k; `names` are those of all images of the program
 abbrev pub kept_name : (names : List (List ℕ)) → Stencils → ℕ → List ℕ
@@ -25,51 +27,33 @@ pub record IsOfSize (s : Stencils) (r : Report) : Type 0 where
   pub width : r.width ≡ s.width
   pub height : r.height ≡ s.height
 
--- the line of this number is wrong by the program
-pub data IsForeign (names : List (List ℕ)) (s : Stencils) (r : Report) (line : ℕ) : Type 0 where
-  size : line ≡ size_number r → (IsOfSize s r → ⊥) → IsForeign names s r line
-  image : (k : ℕ) → k < length r.images → line ≡ image_number r k → (IsNamed names s r.images k → ⊥) → IsForeign names s r line
-  few_images : line ≡ latency_number r 0 → length r.images < length s.images → IsForeign names s r line
-  output : (k : ℕ) → k < length r.latencies → line ≡ latency_number r k → length s.outputs ≤ k → IsForeign names s r line
-  few_latencies : line ≡ clocks_number r → length r.latencies < length s.outputs → IsForeign names s r line
-  reads : line ≡ bits_number r + 1 → (r.version ≡ 1 → ⊥) → (r.reads ≡ length s.reads → ⊥) → IsForeign names s r line
-
--- no line before this one is wrong by the program
-abbrev pub IsNative : List (List ℕ) → Stencils → Report → ℕ → Type 0
-IsNative names s r line = (m : ℕ) → m < line → IsForeign names s r m → ⊥
-
--- the first line that is wrong by the program
-pub record IsFirstForeign (names : List (List ℕ)) (s : Stencils) (r : Report) (line : ℕ) : Type 0 where
-  pub foreign : IsForeign names s r line
-  pub first : IsNative names s r line
+-- The rules by the program, in the order of the lines. What is missing is told at the line that stands in its place.
+abbrev pub program_rules : (names : List (List ℕ)) → Stencils → Report → List (ℕ × Type 0)
+program_rules names s r =
+    (size_number r, IsOfSize s r)
+    ∷ (each (image_number r) (length r.images) (IsNamed names s r.images)
+    ++ ((latency_number r 0, length s.images ≤ length r.images)
+    ∷ (each (latency_number r) (length r.latencies) (λ k. k < length s.outputs)
+    ++ ((clocks_number r, length s.outputs ≤ length r.latencies)
+    ∷ (bits_number r + 1, (r.version ≡ 1 → ⊥) → r.reads ≡ length s.reads)
+    ∷ []))))
 
 -- the report has as many images and outputs as the program has
 pub record IsOfCounts (s : Stencils) (r : Report) : Type 0 where
   pub images : length r.images ≡ length s.images
   pub latencies : length r.latencies ≡ length s.outputs
 
--- no line is wrong by the program
-pub record IsOf (names : List (List ℕ)) (s : Stencils) (r : Report) : Type 0 where
-  pub size : IsOfSize s r
-  pub counts : IsOfCounts s r
-  pub images : (k : ℕ) → k < length r.images → IsNamed names s r.images k
-  pub reads : (r.version ≡ 1 → ⊥) → r.reads ≡ length s.reads
-
 -- all lines are those of the program with the printed delays
 pub record HoldsOf (names : List (List ℕ)) (s : System) (r : Report) : Type 0 where
-  pub program : IsOf names s.stencils r
-  pub numbers : Holds s r
+  pub program : Keeps (program_rules names s.stencils r)
+  pub numbers : Keeps (number_rules s r)
 
--- the line of this number is wrong by either kind of rule; those on the printed numbers count only where there are as many images and outputs as the program has
+-- the line of this number breaks a rule of either kind; those by the printed numbers count only where there are as many images and outputs as the program has
 pub data IsAmiss (names : List (List ℕ)) (s : System) (r : Report) (line : ℕ) : Type 0 where
-  foreign : IsForeign names s.stencils r line → IsAmiss names s r line
-  wrong : IsOfCounts s.stencils r → IsWrong s r line → IsAmiss names s r line
-
-pub record IsFirstAmiss (names : List (List ℕ)) (s : System) (r : Report) (line : ℕ) : Type 0 where
-  pub amiss : IsAmiss names s r line
-  pub first : (m : ℕ) → m < line → IsAmiss names s r m → ⊥
+  foreign : Breaks (program_rules names s.stencils r) line → IsAmiss names s r line
+  wrong : IsOfCounts s.stencils r → Breaks (number_rules s r) line → IsAmiss names s r line
 
 -- what is answered
 abbrev pub JudgesOf : List (List ℕ) → System → Report → Verdict → Type 0
 JudgesOf names s r Yes = HoldsOf names s r
-JudgesOf names s r (No line) = IsFirstAmiss names s r line
+JudgesOf names s r (No line) = IsFirst (IsAmiss names s r) line

@@ -7,8 +7,10 @@ ghost use Rattle.report_text.specs.Reports.{parts_of, Ascend};
 ghost use Rattle.plan_check.specs.declared.verdict.Verdict.TheVariants as verdict;
 ghost use Rattle.plan_check.specs.Numbering.{size_number, latency_number, clocks_number, bits_number, last_number};
 ghost use Rattle.plan_check.specs.Holding.{ImageHolds, LatencyHolds, HasConstraint, AreLeast, clocks_of, bits_of};
-ghost use Rattle.plan_check.specs.Judging.{IsFirstNot, IsFirstWrong, IsClear, Judges, Suits, line_at};
+ghost use Rattle.plan_check.specs.Judging.{Judges, Suits, line_at, number_rules};
 ghost use Rattle.report_text.specs.Layout.{unless_first, reads_line, end_line};
+ghost use Rattle.plan_check.specs.First.{IsFirst, Misses};
+ghost use Rattle.plan_check.specs.Rules.{Breaks};
 
 use crate::flow::flow_holds;
 use crate::lines::{has_constraint, image_holds, latency_holds};
@@ -21,7 +23,7 @@ use report_text::{FlowLine, ImageLine, Report};
 // The place of the first image line that is wrong.
 fn wrong_image(system: &System, images: &[ImageLine]) -> Option<usize>
     requires count { length images.now ≡ image_count system.now }
-    ensures { MatchOption result ((k : ℕ) → k < length images.now → ImageHolds system.now images.now k) (λ w. IsFirstNot (λ k. ImageHolds system.now images.now k) (length images.now) w) }
+    ensures { MatchOption result ((k : ℕ) → k < length images.now → ImageHolds system.now images.now k) (λ w. IsFirst (Misses (λ k. ImageHolds system.now images.now k) (length images.now)) w) }
 {
     for k in 0..images.len() {
         if !image_holds(system, images, k) {
@@ -35,7 +37,7 @@ fn wrong_image(system: &System, images: &[ImageLine]) -> Option<usize>
 fn wrong_latency(system: &System, images: &[ImageLine], latencies: &[u64]) -> Option<usize>
     requires count { length images.now ≡ image_count system.now }
     requires outputs { length latencies.now ≡ length system.now.stencils.outputs }
-    ensures { MatchOption result ((k : ℕ) → k < length latencies.now → LatencyHolds system.now images.now latencies.now k) (λ w. IsFirstNot (λ k. LatencyHolds system.now images.now latencies.now k) (length latencies.now) w) }
+    ensures { MatchOption result ((k : ℕ) → k < length latencies.now → LatencyHolds system.now images.now latencies.now k) (λ w. IsFirst (Misses (λ k. LatencyHolds system.now images.now latencies.now k) (length latencies.now)) w) }
 {
     for k in 0..latencies.len() {
         if !latency_holds(system, images, latencies, k) {
@@ -47,7 +49,7 @@ fn wrong_latency(system: &System, images: &[ImageLine], latencies: &[u64]) -> Op
 
 // The place of the first flow line of no constraint.
 fn wrong_constraint(system: &System, flow: &[FlowLine]) -> Option<usize>
-    ensures { MatchOption result ((k : ℕ) → k < length flow.now → HasConstraint system.now (line_at flow.now k)) (λ w. IsFirstNot (λ k. HasConstraint system.now (line_at flow.now k)) (length flow.now) w) }
+    ensures { MatchOption result ((k : ℕ) → k < length flow.now → HasConstraint system.now (line_at flow.now k)) (λ w. IsFirst (Misses (λ k. HasConstraint system.now (line_at flow.now k)) (length flow.now)) w) }
 {
     for k in 0..flow.len() {
         if !has_constraint(system, flow[k]) {
@@ -98,7 +100,7 @@ fn counts(system: &System, report: &Report)
 // The first wrong line of an image.
 fn faulty_image(system: &System, report: &Report) -> Option<u64>
     requires { Suits system.now (parts_of report.now) }
-    ensures { MatchOption result (((k : ℕ) → k < length report.now.images.items → ImageHolds system.now report.now.images.items k) × IsClear system.now (parts_of report.now) (latency_number (parts_of report.now) 0)) (λ line. IsFirstWrong system.now (parts_of report.now) line) }
+    ensures { MatchOption result ((k : ℕ) → k < length report.now.images.items → ImageHolds system.now report.now.images.items k) (λ line. IsFirst (Breaks (number_rules system.now (parts_of report.now))) line) }
 {
     counts(system, report);
     match wrong_image(system, &report.images) {
@@ -110,8 +112,8 @@ fn faulty_image(system: &System, report: &Report) -> Option<u64>
 // The first wrong line of a latency, where none before them is wrong.
 fn faulty_latency(system: &System, report: &Report) -> Option<u64>
     requires suits { Suits system.now (parts_of report.now) }
-    requires clear { IsClear system.now (parts_of report.now) (latency_number (parts_of report.now) 0) }
-    ensures { MatchOption result (((k : ℕ) → k < length report.now.latencies.items → LatencyHolds system.now report.now.images.items report.now.latencies.items k) × IsClear system.now (parts_of report.now) (clocks_number (parts_of report.now))) (λ line. IsFirstWrong system.now (parts_of report.now) line) }
+    requires images { (k : ℕ) → k < length report.now.images.items → ImageHolds system.now report.now.images.items k }
+    ensures { MatchOption result ((k : ℕ) → k < length report.now.latencies.items → LatencyHolds system.now report.now.images.items report.now.latencies.items k) (λ line. IsFirst (Breaks (number_rules system.now (parts_of report.now))) line) }
 {
     counts(system, report);
     match wrong_latency(system, &report.images, &report.latencies) {
@@ -133,8 +135,9 @@ fn clocks(report: &Report) -> u128
 // The line of the clocks or of the bits, where it is wrong and none before it is.
 fn faulty_sum(system: &System, report: &Report) -> Option<u64>
     requires suits { Suits system.now (parts_of report.now) }
-    requires clear { IsClear system.now (parts_of report.now) (clocks_number (parts_of report.now)) }
-    ensures { MatchOption result ((report.now.clocks ≡ clocks_of (parts_of report.now)) × (report.now.bits ≡ bits_of (parts_of report.now)) × IsClear system.now (parts_of report.now) (bits_number (parts_of report.now))) (λ line. IsFirstWrong system.now (parts_of report.now) line) }
+    requires images { (k : ℕ) → k < length report.now.images.items → ImageHolds system.now report.now.images.items k }
+    requires latencies { (k : ℕ) → k < length report.now.latencies.items → LatencyHolds system.now report.now.images.items report.now.latencies.items k }
+    ensures { MatchOption result ((report.now.clocks ≡ clocks_of (parts_of report.now)) × (report.now.bits ≡ bits_of (parts_of report.now))) (λ line. IsFirst (Breaks (number_rules system.now (parts_of report.now))) line) }
 {
     counts(system, report);
     if u128::from(report.clocks) != clocks(report) {
@@ -149,17 +152,16 @@ fn faulty_sum(system: &System, report: &Report) -> Option<u64>
 // The first flow line of no constraint, where none before the flow lines is wrong.
 fn faulty_constraint(system: &System, report: &Report) -> Option<u64>
     requires suits { Suits system.now (parts_of report.now) }
-    requires clear { IsClear system.now (parts_of report.now) (bits_number (parts_of report.now)) }
+    requires images { (k : ℕ) → k < length report.now.images.items → ImageHolds system.now report.now.images.items k }
+    requires latencies { (k : ℕ) → k < length report.now.latencies.items → LatencyHolds system.now report.now.images.items report.now.latencies.items k }
+    requires clocks { report.now.clocks ≡ clocks_of (parts_of report.now) }
     requires bits { report.now.bits ≡ bits_of (parts_of report.now) }
-    ensures { MatchOption result ((k : ℕ) → k < length report.now.flow.items → HasConstraint system.now (line_at report.now.flow.items k)) (λ line. IsFirstWrong system.now (parts_of report.now) line) }
+    ensures { MatchOption result ((k : ℕ) → k < length report.now.flow.items → HasConstraint system.now (line_at report.now.flow.items k)) (λ line. IsFirst (Breaks (number_rules system.now (parts_of report.now))) line) }
 {
     counts(system, report);
     match wrong_constraint(system, &report.flow) {
         None => None,
-        Some(k) => {
-            few_lines(system, &report.flow, k);
-            Some(bits_line(report) + between(report) + 1 + k as u64)
-        }
+        Some(k) => Some(bits_line(report) + between(report) + 1 + k as u64),
     }
 }
 

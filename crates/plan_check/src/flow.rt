@@ -5,7 +5,10 @@ ghost use Rattle.dk_base.specs.declared.TheConstants.{MAX_SIDE, MAX_AGE, MAX_KEP
 ghost use Rattle.raster_delay.specs.Network.{inflow, outflow, worth};
 ghost use Rattle.raster_delay.specs.Delays.{IsNear, IsSmall, offset, hold, start, read, keep};
 ghost use Rattle.raster_delay.specs.Systems.{image_count, placed_reads, nodes, coefficient_in};
-ghost use Rattle.plan_check.specs.Holding.{HasConstraint, constraint_of, amount_of, carriers, amounts, FlowHolds};
+ghost use Rattle.report_text.specs.Reports.{Ascend};
+ghost use Rattle.plan_check.specs.Flows.{amount_of};
+ghost use Rattle.plan_check.specs.Holding.{HasConstraint, FlowHolds};
+ghost use Rattle.plan_check.specs.Sums.{SumsHold, constraint_of, carriers, amounts};
 
 use crate::lines::named;
 use raster_delay::{Constraint, PlacedRead, System, begin_node, end_node, offset};
@@ -270,15 +273,37 @@ fn price_of(system: &System, line: FlowLine) -> i128
     price(constraint_of(system, line).cost, amount_of(line))
 }
 
-// Whether the flow is balanced and worth these bits.
-pub(crate) fn flow_holds(system: &System, flow: &[FlowLine], bits: u64) -> bool
+// Whether the flow lines are balanced and worth these bits, each on the constraint that it names.
+fn sums_hold(system: &System, flow: &[FlowLine], bits: u64) -> bool
     requires constraints { All (HasConstraint system.now) flow.now }
     requires few { length flow.now ≤ 2 ^ 32 }
-    ensures yes { IsTrue result → FlowHolds system.now flow.now bits }
-    ensures no { FlowHolds system.now flow.now bits → IsTrue result }
+    ensures yes { IsTrue result → SumsHold system.now flow.now bits }
+    ensures no { SumsHold system.now flow.now bits → IsTrue result }
 {
     if !is_balanced(system, flow) {
         return false;
     }
     worth(system, flow) == i128::from(bits)
+}
+
+// A law: lines in order that name constraints sum to what the flow does whose lines they are.
+fn sums_law(system: &System, flow: &[FlowLine], bits: u64)
+    requires constraints { All (HasConstraint system.now) flow.now }
+    requires ascending { Ascend flow.now }
+    ensures yes { SumsHold system.now flow.now bits → FlowHolds system.now flow.now bits }
+    ensures no { FlowHolds system.now flow.now bits → SumsHold system.now flow.now bits }
+{
+    system.law();
+}
+
+/// Whether the flow lines are those of a balanced flow that is worth these bits.
+pub(crate) fn flow_holds(system: &System, flow: &[FlowLine], bits: u64) -> bool
+    requires constraints { All (HasConstraint system.now) flow.now }
+    requires ascending { Ascend flow.now }
+    requires few { length flow.now ≤ 2 ^ 32 }
+    ensures yes { IsTrue result → FlowHolds system.now flow.now bits }
+    ensures no { FlowHolds system.now flow.now bits → IsTrue result }
+{
+    sums_law(system, flow, bits);
+    sums_hold(system, flow, bits)
 }

@@ -6,7 +6,9 @@ ghost use Rattle.pointwise_ir.specs.Programs.{names_of};
 ghost use Rattle.report_text.specs.Reports.{Meets, parts_of};
 ghost use Rattle.plan_check.specs.declared.verdict.Verdict.TheVariants as verdict;
 ghost use Rattle.plan_check.specs.Holding.{AreLeast};
-ghost use Rattle.plan_check.specs.Program.{JudgesOf, IsFirstForeign, IsFirstAmiss};
+ghost use Rattle.plan_check.specs.Program.{JudgesOf, IsAmiss, program_rules};
+ghost use Rattle.plan_check.specs.First.{IsFirst};
+ghost use Rattle.plan_check.specs.Rules.{Breaks};
 
 use crate::checking::check;
 use crate::program::{foreign_line, is_of_counts};
@@ -20,8 +22,8 @@ use report_text::Report;
 fn first_amiss(ir: &Ir, system: &System, report: &Report, line: u64) -> u64
     requires meets { Meets (parts_of report.now) }
     requires age { report.now.age ≡ system.now.age }
-    requires foreign { IsFirstForeign (names_of ir.now) system.now.stencils (parts_of report.now) line }
-    ensures { IsFirstAmiss (names_of ir.now) system.now (parts_of report.now) result }
+    requires foreign { IsFirst (Breaks (program_rules (names_of ir.now) system.now.stencils (parts_of report.now))) line }
+    ensures { IsFirst (IsAmiss (names_of ir.now) system.now (parts_of report.now)) result }
 {
     if !is_of_counts(system, report) {
         return line;

@@ -2,7 +2,7 @@
 
 ghost use Rattle.std.specs.Prelude.{◌≡◌, ◌≤◌, ℕ, List};
 ghost use Rattle.raster_delay.specs.Systems.{Parts as System, IsCausal, bits};
-ghost use Rattle.report_text.specs.Reports.{Parts as Report};
+ghost use Rattle.report_text.specs.Reports.{Report};
 ghost use Rattle.plan_check.specs.Holding.{AreLeast};
 
 /// A law: the bits of a report that holds are those of any causal delays that need the fewest.

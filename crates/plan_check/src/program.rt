@@ -6,8 +6,9 @@ ghost use Rattle.dk_base.specs.declared.stencils.Image.{Image};
 ghost use Rattle.pointwise_ir.specs.Programs.{names_of};
 ghost use Rattle.report_text.specs.Reports.{Meets, parts_of};
 ghost use Rattle.plan_check.specs.Numbering.{size_number, latency_number, clocks_number, bits_number};
-ghost use Rattle.plan_check.specs.Judging.{IsFirstNot};
-ghost use Rattle.plan_check.specs.Program.{IsNamed, IsOfSize, IsOfCounts, IsOf, IsNative, IsFirstForeign};
+ghost use Rattle.plan_check.specs.Program.{IsNamed, IsOfSize, IsOfCounts, program_rules};
+ghost use Rattle.plan_check.specs.First.{IsFirst, Misses};
+ghost use Rattle.plan_check.specs.Rules.{Keeps, Breaks};
 
 use crate::numbering::{bits_line, clocks_line, size_line};
 use dk_base::Stencils;
@@ -58,7 +59,7 @@ fn is_named(ir: &Ir, stencils: &Stencils, images: &[ImageLine], k: usize) -> boo
 // The place of the first image line that is not.
 fn unnamed(ir: &Ir, stencils: &Stencils, images: &[ImageLine]) -> Option<usize>
     requires { All (λ (i : Image). i.number < length (names_of ir.now)) stencils.now.images }
-    ensures { MatchOption result ((k : ℕ) → k < length images.now → IsNamed (names_of ir.now) stencils.now images.now k) (λ w. IsFirstNot (λ k. IsNamed (names_of ir.now) stencils.now images.now k) (length images.now) w) }
+    ensures { MatchOption result ((k : ℕ) → k < length images.now → IsNamed (names_of ir.now) stencils.now images.now k) (λ w. IsFirst (Misses (λ k. IsNamed (names_of ir.now) stencils.now images.now k) (length images.now)) w) }
 {
     for k in 0..images.len() {
         if !is_named(ir, stencils, images, k) {
@@ -94,7 +95,7 @@ pub(crate) fn is_of_counts(system: &System, report: &Report) -> bool
 fn foreign_image(ir: &Ir, stencils: &Stencils, report: &Report) -> Option<u64>
     requires images { All (λ (i : Image). i.number < length (names_of ir.now)) stencils.now.images }
     requires limit { length report.now.images.items ≤ MAX_KEPT_IMAGES }
-    ensures { MatchOption result (IsOfSize stencils.now (parts_of report.now) × ((k : ℕ) → k < length report.now.images.items → IsNamed (names_of ir.now) stencils.now report.now.images.items k) × IsNative (names_of ir.now) stencils.now (parts_of report.now) (latency_number (parts_of report.now) 0)) (λ line. IsFirstForeign (names_of ir.now) stencils.now (parts_of report.now) line) }
+    ensures { MatchOption result (IsOfSize stencils.now (parts_of report.now) × ((k : ℕ) → k < length report.now.images.items → IsNamed (names_of ir.now) stencils.now report.now.images.items k)) (λ line. IsFirst (Breaks (program_rules (names_of ir.now) stencils.now (parts_of report.now))) line) }
 {
     if !is_of_size(stencils, report) {
         return Some(size_line(report));
@@ -109,8 +110,9 @@ fn foreign_image(ir: &Ir, stencils: &Stencils, report: &Report) -> Option<u64>
 fn foreign_latency(ir: &Ir, stencils: &Stencils, report: &Report) -> Option<u64>
     requires images { length report.now.images.items ≤ MAX_KEPT_IMAGES }
     requires latencies { length report.now.latencies.items ≤ MAX_OUTPUTS }
-    requires native { IsNative (names_of ir.now) stencils.now (parts_of report.now) (latency_number (parts_of report.now) 0) }
-    ensures { MatchOption result ((length stencils.now.images ≤ length report.now.images.items) × (length report.now.latencies.items ≤ length stencils.now.outputs) × IsNative (names_of ir.now) stencils.now (parts_of report.now) (clocks_number (parts_of report.now))) (λ line. IsFirstForeign (names_of ir.now) stencils.now (parts_of report.now) line) }
+    requires size { IsOfSize stencils.now (parts_of report.now) }
+    requires named { (k : ℕ) → k < length report.now.images.items → IsNamed (names_of ir.now) stencils.now report.now.images.items k }
+    ensures { MatchOption result ((length stencils.now.images ≤ length report.now.images.items) × (length report.now.latencies.items ≤ length stencils.now.outputs)) (λ line. IsFirst (Breaks (program_rules (names_of ir.now) stencils.now (parts_of report.now))) line) }
 {
     let first = size_line(report) + report.images.len() as u64 + 1;
     if report.images.len() < stencils.images().len() {
@@ -137,9 +139,11 @@ fn has_reads(stencils: &Stencils, report: &Report) -> bool
 fn foreign_sum(ir: &Ir, stencils: &Stencils, report: &Report) -> Option<u64>
     requires images { length report.now.images.items ≤ MAX_KEPT_IMAGES }
     requires latencies { length report.now.latencies.items ≤ MAX_OUTPUTS }
+    requires size { IsOfSize stencils.now (parts_of report.now) }
+    requires named { (k : ℕ) → k < length report.now.images.items → IsNamed (names_of ir.now) stencils.now report.now.images.items k }
     requires enough { length stencils.now.images ≤ length report.now.images.items }
-    requires native { IsNative (names_of ir.now) stencils.now (parts_of report.now) (clocks_number (parts_of report.now)) }
-    ensures { MatchOption result ((length stencils.now.outputs ≤ length report.now.latencies.items) × ((report.now.version ≡ 1 → ⊥) → report.now.reads ≡ length stencils.now.reads) × ((m : ℕ) → IsNative (names_of ir.now) stencils.now (parts_of report.now) m)) (λ line. IsFirstForeign (names_of ir.now) stencils.now (parts_of report.now) line) }
+    requires outputs { length report.now.latencies.items ≤ length stencils.now.outputs }
+    ensures { MatchOption result (Keeps (program_rules (names_of ir.now) stencils.now (parts_of report.now))) (λ line. IsFirst (Breaks (program_rules (names_of ir.now) stencils.now (parts_of report.now))) line) }
 {
     if report.latencies.len() < stencils.outputs().len() {
         return Some(clocks_line(report));
@@ -161,7 +165,7 @@ fn most_lines(report: &Report)
 pub(crate) fn foreign_line(ir: &Ir, stencils: &Stencils, report: &Report) -> Option<u64>
     requires meets { Meets (parts_of report.now) }
     requires images { All (λ (i : Image). i.number < length (names_of ir.now)) stencils.now.images }
-    ensures { MatchOption result (IsOf (names_of ir.now) stencils.now (parts_of report.now) × ((m : ℕ) → IsNative (names_of ir.now) stencils.now (parts_of report.now) m)) (λ line. IsFirstForeign (names_of ir.now) stencils.now (parts_of report.now) line) }
+    ensures { MatchOption result (Keeps (program_rules (names_of ir.now) stencils.now (parts_of report.now))) (λ line. IsFirst (Breaks (program_rules (names_of ir.now) stencils.now (parts_of report.now))) line) }
 {
     most_lines(report);
     match foreign_image(ir, stencils, report) {

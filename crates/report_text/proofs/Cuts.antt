@@ -8,7 +8,7 @@ use Rattle.report_text.specs.declared.report.ImageLine.{ImageLine}
 use Rattle.report_text.specs.declared.report.FlowLine.{FlowLine}
 use Rattle.report_text.specs.declared.report.FlowLine.TheVariants.{Hold, Start, Read, Keep}
 use Rattle.dk_base.specs.Ascii.{is_digit, is_word_byte}
-use Rattle.report_text.specs.Reports.{Parts, Meets, IsImageLine, IsOffset, IsAmount, IsFlowLine}
+use Rattle.report_text.specs.Reports.{Report, Meets, IsImageLine, IsOffset, IsAmount, IsFlowLine}
 use Rattle.report_text.specs.Layout.{number_line, pair_line, plan_line, limits_line, age_line, image_line, latency_line, reads_line, name_at, held, carried, flow_line, end_line, head_lines, unless_first, lines, joined}
 use Rattle.report_text.specs.Texts.{onto_first, cut}
 use Rattle.report_text.specs.Reading.{is_empty}
@@ -126,12 +126,12 @@ end_is_line = behind (codes "end") (codes "\n") (all_pass is_plain (codes "end")
 number_of : (word : List ℕ) → IsPlain word → (n : ℕ) → n < 2 ^ 64 → IsLine (number_line word n)
 number_of word p n h = number_is word n p h
 
-flow_all : (r : Parts) → Meets r → AllByRecursion IsLine (from_flow r)
+flow_all : (r : Report) → Meets r → AllByRecursion IsLine (from_flow r)
 flow_all r m = all_both IsLine (map (flow_line r.images) r.flow) (unless_first r.version (end_line ∷ []))
     (all_map (IsFlowLine (length r.images)) IsLine (flow_line r.images) (λ x h. flow_is r.images x m.images h) r.flow m.flow)
     (all_unless r.version (end_line ∷ []) (end_is_line, tt))
 
-clocks_all : (r : Parts) → Meets r → AllByRecursion IsLine (from_clocks r)
+clocks_all : (r : Report) → Meets r → AllByRecursion IsLine (from_clocks r)
 clocks_all r m = (
   number_is (codes "clocks ") r.clocks (all_pass is_plain (codes "clocks ") refl) m.clocks,
   (
@@ -140,11 +140,11 @@ clocks_all r m = (
   ),
 )
 
-images_all : (r : Parts) → Meets r → AllByRecursion IsLine (from_images r)
+images_all : (r : Report) → Meets r → AllByRecursion IsLine (from_images r)
 images_all r m = all_both IsLine (map image_line r.images) (from_latencies r) (all_map IsImageLine IsLine image_line image_is r.images m.images)
     (all_both IsLine (map latency_line r.latencies) (from_clocks r) (all_map (λ n. n < 2 ^ 64) IsLine latency_line (number_of (codes "latency ") (all_pass is_plain (codes "latency ") refl)) r.latencies m.latencies) (clocks_all r m))
 
-pub lines_are : (r : Parts) → Meets r → AllByRecursion IsLine (lines r)
+pub lines_are : (r : Report) → Meets r → AllByRecursion IsLine (lines r)
 lines_are r m =
     let columns : r.width < 2 ^ 64 = let h = m.most_columns in omega arith in
     let rows : r.height < 2 ^ 64 = let h = m.most_rows in omega arith in

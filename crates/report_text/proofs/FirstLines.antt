@@ -4,7 +4,7 @@ use Rattle.std.specs.Prelude.{Option, Some, None, Result, Ok, Err, nat_eq, ◌&&
 use Rattle.std.specs.List.{prefix_len}
 use Rattle.std.proofs.lemmas.Bool.{eqb-true}
 use Rattle.report_text.specs.declared.step.Stage.{Stage}
-use Rattle.report_text.specs.Reports.{Parts}
+use Rattle.report_text.specs.Reports.{Report}
 use Rattle.report_text.specs.Texts.{cut}
 use Rattle.report_text.specs.Reading.{reading, reading_on, next, is_empty, is_final}
 use Rattle.report_text.specs.Steps.{is_inside, Does}
@@ -45,33 +45,33 @@ some_line (b ∷ bytes) = by (nat_eq b 10) refl (some_line bytes)
     by true f s = (10 ∷ [], cut bytes, rw f refl)
     by false f s = (b ∷ s.0, s.1, rw (f, s.2) refl)
 
-goes_on : (number : ℕ) (stage : Stage) (r : Parts) (line : List ℕ) (all : List (List ℕ)) → ((l : List ℕ) × (more : List (List ℕ)) × (all ≡ l ∷ more)) → reading number stage r (line ∷ all) ≡ reading_on number (next stage r line) (λ x. reading (suc number) x.0 x.1 all)
+goes_on : (number : ℕ) (stage : Stage) (r : Report) (line : List ℕ) (all : List (List ℕ)) → ((l : List ℕ) × (more : List (List ℕ)) × (all ≡ l ∷ more)) → reading number stage r (line ∷ all) ≡ reading_on number (next stage r line) (λ x. reading (suc number) x.0 x.1 all)
 unfolding reading
 goes_on number stage r line all s = subst (λ (x : List (List ℕ)). reading number stage r (line ∷ x) ≡ reading_on number (next stage r line) (λ x'. reading (suc number) x'.0 x'.1 x)) (sym s.2) refl
 
-pub one_line_more : (number : ℕ) (stage stage' : Stage) (r r' : Parts) (line rest : List ℕ) → next stage r line ≡ Some (stage', r') → reading number stage r (line ∷ cut rest) ≡ reading (number + 1) stage' r' (cut rest)
+pub one_line_more : (number : ℕ) (stage stage' : Stage) (r r' : Report) (line rest : List ℕ) → next stage r line ≡ Some (stage', r') → reading number stage r (line ∷ cut rest) ≡ reading (number + 1) stage' r' (cut rest)
 one_line_more number stage stage' r r' line rest e = goes_on number stage r line (cut rest) (some_line rest) ∙ rw (e, add-one) refl
 
-pub faulty_line : (number : ℕ) (stage : Stage) (r : Parts) (line rest : List ℕ) → next stage r line ≡ None → reading number stage r (line ∷ cut rest) ≡ Err number
+pub faulty_line : (number : ℕ) (stage : Stage) (r : Report) (line rest : List ℕ) → next stage r line ≡ None → reading number stage r (line ∷ cut rest) ≡ Err number
 faulty_line number stage r line rest e = goes_on number stage r line (cut rest) (some_line rest) ∙ rw e refl
 
 -- what a step says of the whole
-pub whole_faulty : (whole : Result Parts ℕ) (number n : ℕ) (stage : Stage) (s : Option Stage) (r r' : Parts) (rest line : List ℕ) → reading number stage r (cut rest) ≡ whole → cut rest ≡ take n rest ∷ cut (drop n rest) → line ≡ take n rest → s ≡ None → Does (next stage r line) r s r' → whole ≡ Err number
+pub whole_faulty : (whole : Result Report ℕ) (number n : ℕ) (stage : Stage) (s : Option Stage) (r r' : Report) (rest line : List ℕ) → reading number stage r (cut rest) ≡ whole → cut rest ≡ take n rest ∷ cut (drop n rest) → line ≡ take n rest → s ≡ None → Does (next stage r line) r s r' → whole ≡ Err number
 whole_faulty whole number n stage s r r' rest line is first e none does =
     let d : Does (next stage r line) r None r' = subst (λ (x : Option Stage). Does (next stage r line) r x r') none does in
     let f : next stage r (take n rest) ≡ None = subst (λ (x : List ℕ). next stage r x ≡ None) e d.0 in
     sym is ∙ (ap (λ x. reading number stage r x) first ∙ faulty_line number stage r (take n rest) (drop n rest) f)
 
-pub whole_on : (whole : Result Parts ℕ) (number n : ℕ) (stage stage' : Stage) (s : Option Stage) (r r' : Parts) (rest line after : List ℕ) → reading number stage r (cut rest) ≡ whole → cut rest ≡ take n rest ∷ cut (drop n rest) → line ≡ take n rest → after ≡ drop n rest → s ≡ Some stage' → Does (next stage r line) r s r' → reading (number + 1) stage' r' (cut after) ≡ whole
+pub whole_on : (whole : Result Report ℕ) (number n : ℕ) (stage stage' : Stage) (s : Option Stage) (r r' : Report) (rest line after : List ℕ) → reading number stage r (cut rest) ≡ whole → cut rest ≡ take n rest ∷ cut (drop n rest) → line ≡ take n rest → after ≡ drop n rest → s ≡ Some stage' → Does (next stage r line) r s r' → reading (number + 1) stage' r' (cut after) ≡ whole
 whole_on whole number n stage stage' s r r' rest line after is first e f some does =
     let d : next stage r line ≡ Some (stage', r') = subst (λ (x : Option Stage). Does (next stage r line) r x r') some does in
     let g : next stage r (take n rest) ≡ Some (stage', r') = subst (λ (x : List ℕ). next stage r x ≡ Some (stage', r')) e d in
     ap (λ x. reading (number + 1) stage' r' (cut x)) f ∙ (sym (one_line_more number stage stage' r r' (take n rest) (drop n rest) g) ∙ (sym (ap (λ x. reading number stage r x) first) ∙ is))
 
-pub whole_end : (whole : Result Parts ℕ) (number : ℕ) (stage : Stage) (r : Parts) (rest : List ℕ) → reading number stage r (cut rest) ≡ whole → cut rest ≡ rest ∷ [] → (is_empty rest && is_final stage r.version) ≡ true → whole ≡ Ok r
+pub whole_end : (whole : Result Report ℕ) (number : ℕ) (stage : Stage) (r : Report) (rest : List ℕ) → reading number stage r (cut rest) ≡ whole → cut rest ≡ rest ∷ [] → (is_empty rest && is_final stage r.version) ≡ true → whole ≡ Ok r
 unfolding reading
 whole_end whole number stage r rest is last e = sym is ∙ (ap (λ x. reading number stage r x) last ∙ rw e refl)
 
-pub whole_cut : (whole : Result Parts ℕ) (number : ℕ) (stage : Stage) (r : Parts) (rest : List ℕ) → reading number stage r (cut rest) ≡ whole → cut rest ≡ rest ∷ [] → (is_empty rest && is_final stage r.version) ≡ false → whole ≡ Err number
+pub whole_cut : (whole : Result Report ℕ) (number : ℕ) (stage : Stage) (r : Report) (rest : List ℕ) → reading number stage r (cut rest) ≡ whole → cut rest ≡ rest ∷ [] → (is_empty rest && is_final stage r.version) ≡ false → whole ≡ Err number
 unfolding reading
 whole_cut whole number stage r rest is last e = sym is ∙ (ap (λ x. reading number stage r x) last ∙ rw e refl)

@@ -9,7 +9,7 @@ use Rattle.std.proofs.lemmas.List.Sums.{fails_before_first}
 use Rattle.report_text.specs.declared.report.ImageLine.{ImageLine}
 use Rattle.report_text.specs.declared.report.FlowLine.{FlowLine}
 use Rattle.report_text.specs.Names.{same_codes}
-use Rattle.report_text.specs.Reports.{Parts, Meets, IsBare, IsImageLine, IsFlowLine, AreDistinct, names_of, Ascend, most_images, most_latencies}
+use Rattle.report_text.specs.Reports.{Report, Meets, IsBare, IsImageLine, IsFlowLine, AreDistinct, names_of, Ascend, most_images, most_latencies}
 use Rattle.report_text.specs.Reading.{follows, place_of}
 use Rattle.report_text.proofs.Words.{some_image, same_self}
 use Rattle.report_text.proofs.Machine.{with_latency, with_image, with_size, IsLater}
@@ -51,13 +51,13 @@ pub distinct_more : (images : List ImageLine) (i : ImageLine) → AreDistinct (n
 distinct_more images i d p = subst AreDistinct (sym (map_push (λ i. i.name) images i)) (distinct_push (names_of images) i.name d (λ k h e. new_name images i.name k p (subst (λ n. k < n) (length-map images (λ i. i.name)) h) e))
 
 -- what version 1 lacks is kept by a report with the same version and the same of these values, and is nothing to a later version
-abbrev Bare : Parts → Type 0
+abbrev Bare : Report → Type 0
 Bare r = r.version ≡ 1 → IsBare r
 
-bare : (s r : Parts) → Meets s → s.version ≡ r.version → s.bits_limit ≡ r.bits_limit → s.latency_limit ≡ r.latency_limit → s.age ≡ r.age → s.reads ≡ r.reads → Bare r
+bare : (s r : Report) → Meets s → s.version ≡ r.version → s.bits_limit ≡ r.bits_limit → s.latency_limit ≡ r.latency_limit → s.age ≡ r.age → s.reads ≡ r.reads → Bare r
 bare s r m v b l a n e = let c = m.bare (v ∙ e) in record { bits_limit = sym b ∙ c.bits_limit; latency_limit = sym l ∙ c.latency_limit; age = sym a ∙ c.age; reads = sym n ∙ c.reads }
 
-never : (r : Parts) → IsLater r → Bare r
+never : (r : Report) → IsLater r → Bare r
 never r l e = absurd (eqb-false r.version 1 l e)
 
 -- one line more
@@ -67,29 +67,29 @@ some_fit v = grind (arith, nat_tests)
 one_fits : (v : ℕ) → 1 ≤ most_latencies v
 one_fits v = grind (arith, nat_tests)
 
-pub plan_meets : (r : Parts) (v : ℕ) → Meets (with_size r) → nat_eq v 1 ≡ false → 1 ≤ v → v ≤ 3 → Meets (with_size (record r { version = v }))
+pub plan_meets : (r : Report) (v : ℕ) → Meets (with_size r) → nat_eq v 1 ≡ false → 1 ≤ v → v ≤ 3 → Meets (with_size (record r { version = v }))
 plan_meets r v m l a b =
     let i : length (some_image ∷ []) ≤ most_images v = some_fit v in
     let n : length {A = ℕ} (0 ∷ []) ≤ most_latencies v = one_fits v in
     let lacks : Bare (with_size (record r { version = v })) = never (with_size (record r { version = v })) l in
     assumption (m, lacks, i, n, a, b)
 
-pub limits_meets : (r : Parts) (b n : ℕ) → Meets (with_size r) → IsLater r → b < 2 ^ 64 → n < 2 ^ 64 → Meets (with_size (record r { bits_limit = b; latency_limit = n }))
+pub limits_meets : (r : Report) (b n : ℕ) → Meets (with_size r) → IsLater r → b < 2 ^ 64 → n < 2 ^ 64 → Meets (with_size (record r { bits_limit = b; latency_limit = n }))
 limits_meets r b n m l c d =
     let lacks : Bare (with_size (record r { bits_limit = b; latency_limit = n })) = never (with_size (record r { bits_limit = b; latency_limit = n })) l in
     assumption (m, lacks, c, d)
 
-pub age_meets : (r : Parts) (n : ℕ) → Meets (with_size r) → IsLater r → n ≤ 64 → Meets (with_size (record r { age = n }))
+pub age_meets : (r : Report) (n : ℕ) → Meets (with_size r) → IsLater r → n ≤ 64 → Meets (with_size (record r { age = n }))
 age_meets r n m l h =
     let lacks : Bare (with_size (record r { age = n })) = never (with_size (record r { age = n })) l in
     assumption (m, lacks, h)
 
-pub sized_meets : (r : Parts) (w h : ℕ) → Meets (with_size r) → 1 ≤ w → w ≤ 4096 → 1 ≤ h → h ≤ 4096 → Meets (with_image (record r { width = w; height = h }))
+pub sized_meets : (r : Report) (w h : ℕ) → Meets (with_size r) → 1 ≤ w → w ≤ 4096 → 1 ≤ h → h ≤ 4096 → Meets (with_image (record r { width = w; height = h }))
 sized_meets r w h m a b c d =
     let lacks : Bare (with_image (record r { width = w; height = h })) = bare (with_size r) (with_image (record r { width = w; height = h })) m refl refl refl refl refl in
     assumption (m, lacks, a, b, c, d)
 
-pub imaged_meets : (r : Parts) (images : List ImageLine) (i : ImageLine) → Meets (with_latency (record r { images = images })) → AllByRecursion IsImageLine r.images → AreDistinct (names_of r.images) → r.flow ≡ []
+pub imaged_meets : (r : Report) (images : List ImageLine) (i : ImageLine) → Meets (with_latency (record r { images = images })) → AllByRecursion IsImageLine r.images → AreDistinct (names_of r.images) → r.flow ≡ []
     → IsImageLine i → length r.images < most_images r.version → place_of r.images i.name ≡ length r.images → Meets (with_latency (record r { images = r.images ++ i ∷ [] }))
 imaged_meets r images i m a d none h room new =
     let many = length_push r.images i in
@@ -101,7 +101,7 @@ imaged_meets r images i m a d none h room new =
     let lacks : Bare (with_latency (record r { images = r.images ++ i ∷ [] })) = bare (with_latency (record r { images = images })) (with_latency (record r { images = r.images ++ i ∷ [] })) m refl refl refl refl refl in
     assumption (m, lacks, some, most, all, distinct, flow)
 
-pub delayed_meets : (r : Parts) (latencies : List ℕ) (n : ℕ) → Meets (record r { latencies = latencies }) → AllByRecursion (λ n. n < 2 ^ 64) r.latencies
+pub delayed_meets : (r : Report) (latencies : List ℕ) (n : ℕ) → Meets (record r { latencies = latencies }) → AllByRecursion (λ n. n < 2 ^ 64) r.latencies
     → n < 2 ^ 64 → length r.latencies < most_latencies r.version → Meets (record r { latencies = r.latencies ++ n ∷ [] })
 delayed_meets r latencies n m a h room =
     let many = length_push r.latencies n in
@@ -111,22 +111,22 @@ delayed_meets r latencies n m a h room =
     let lacks : Bare (record r { latencies = r.latencies ++ n ∷ [] }) = bare (record r { latencies = latencies }) (record r { latencies = r.latencies ++ n ∷ [] }) m refl refl refl refl refl in
     assumption (m, lacks, some, most, all)
 
-pub clocks_meets : (r : Parts) (n : ℕ) → Meets r → n < 2 ^ 64 → Meets (record r { clocks = n })
+pub clocks_meets : (r : Report) (n : ℕ) → Meets r → n < 2 ^ 64 → Meets (record r { clocks = n })
 clocks_meets r n m h =
     let lacks : Bare (record r { clocks = n }) = bare r (record r { clocks = n }) m refl refl refl refl refl in
     assumption (m, lacks, h)
 
-pub bits_meets : (r : Parts) (n : ℕ) → Meets r → n < 2 ^ 64 → Meets (record r { bits = n })
+pub bits_meets : (r : Report) (n : ℕ) → Meets r → n < 2 ^ 64 → Meets (record r { bits = n })
 bits_meets r n m h =
     let lacks : Bare (record r { bits = n }) = bare r (record r { bits = n }) m refl refl refl refl refl in
     assumption (m, lacks, h)
 
-pub reads_meets : (r : Parts) (n : ℕ) → Meets r → IsLater r → n < 2 ^ 64 → Meets (record r { reads = n })
+pub reads_meets : (r : Report) (n : ℕ) → Meets r → IsLater r → n < 2 ^ 64 → Meets (record r { reads = n })
 reads_meets r n m l h =
     let lacks : Bare (record r { reads = n }) = never (record r { reads = n }) l in
     assumption (m, lacks, h)
 
-pub flow_meets : (r : Parts) (x : FlowLine) → Meets r → IsFlowLine (length r.images) x → follows r.flow x ≡ true → Meets (record r { flow = r.flow ++ x ∷ [] })
+pub flow_meets : (r : Report) (x : FlowLine) → Meets r → IsFlowLine (length r.images) x → follows r.flow x ≡ true → Meets (record r { flow = r.flow ++ x ∷ [] })
 flow_meets r x m h f =
     let all = all_push (IsFlowLine (length r.images)) r.flow x m.flow h in
     let ascending = ascend_push r.flow x m.ascending f in

@@ -4,7 +4,7 @@ use Rattle.std.specs.Fmt.{decimal, signed_decimal}
 use Rattle.report_text.specs.declared.report.ImageLine.{ImageLine}
 use Rattle.report_text.specs.declared.report.FlowLine.{FlowLine}
 use Rattle.report_text.specs.declared.report.FlowLine.TheVariants.{Hold, Start, Read, Keep}
-use Rattle.report_text.specs.Reports.{Parts, names_of}
+use Rattle.report_text.specs.Reports.{Report, names_of}
 
 -- a word with a blank behind it, and a number or two
 abbrev pub number_line : List ℕ → ℕ → List ℕ
@@ -65,11 +65,11 @@ unless_first version lines = if nat_eq version 1 then [] else lines
 abbrev pub end_line : List ℕ
 end_line = codes "end\n"
 
-abbrev pub head_lines : Parts → List (List ℕ)
+abbrev pub head_lines : Report → List (List ℕ)
 head_lines r = unless_first r.version (plan_line r.version ∷ limits_line r.bits_limit r.latency_limit ∷ age_line r.age ∷ [])
 
 -- all lines, each with the LF at its end
-abbrev pub lines : Parts → List (List ℕ)
+abbrev pub lines : Report → List (List ℕ)
 lines r =
     head_lines r
     ++ (size_line r.width r.height ∷ (map image_line r.images
@@ -83,5 +83,5 @@ abbrev pub joined : List (List ℕ) → List ℕ
 joined [] = []
 joined (line ∷ lines) = line ++ joined lines
 
-abbrev pub layout : Parts → List ℕ
+abbrev pub layout : Report → List ℕ
 layout r = joined (lines r)

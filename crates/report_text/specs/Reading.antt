@@ -1,3 +1,4 @@
+-- Used by private functions alone.
 -- How a report's text is read, as functions on bytes.
 use Rattle.std.specs.Prelude.{ℕ, ℤ, pos, neg_ℤ, suc, ◌-◌, ◌^◌, List, [], ◌∷◌, ◌++◌, length, take, drop, codes, Option, Some, None, Result, Ok, Err, Bool, true, false, ◌&&◌, ◌||◌, not, nat_lt, nat_eq, if◌then◌else◌}
 use Rattle.std.specs.List.{prefix_len, position_or_len}
@@ -10,7 +11,7 @@ use Rattle.report_text.specs.declared.step.Stage.TheVariants.{Start, Plan, Limit
 use Rattle.dk_base.specs.Ascii.{is_digit, is_word_byte}
 use Rattle.report_text.specs.Names.{is_name, same_codes}
 use Rattle.dk_base.specs.Ascii.{value_of}
-use Rattle.report_text.specs.Reports.{Parts, is_before, most_images, most_latencies}
+use Rattle.report_text.specs.Reports.{Report, is_before, most_images, most_latencies}
 
 infixl 10 ◌>>=◌
 abbrev pub ◌>>=◌ : {A B : Type 0} → Option A → (A → Option B) → Option B
@@ -144,46 +145,46 @@ follows (a ∷ []) x = is_before a x
 follows (a ∷ b ∷ more) x = follows (b ∷ more) x
 
 -- one line more of a kind
-abbrev pub sized : Parts → List ℕ → Option (Stage × Parts)
+abbrev pub sized : Report → List ℕ → Option (Stage × Report)
 sized r line = do
   x ← pair_line_at (codes "size ") line
   if within MAX_SIDE x.0 && within MAX_SIDE x.1 then Some (Size, record r { width = x.0; height = x.1 }) else None
 
-abbrev pub imaged : Parts → List ℕ → Option (Stage × Parts)
+abbrev pub imaged : Report → List ℕ → Option (Stage × Report)
 imaged r line = do
   i ← image_at line
   if nat_lt (length r.images) (most_images r.version) && nat_eq (place_of r.images i.name) (length r.images) then Some (Images, record r { images = r.images ++ i ∷ [] }) else None
 
-abbrev pub delayed : Parts → List ℕ → Option (Stage × Parts)
+abbrev pub delayed : Report → List ℕ → Option (Stage × Report)
 delayed r line = do
   n ← number_line_at (codes "latency ") line
   if nat_lt (length r.latencies) (most_latencies r.version) then Some (Latencies, record r { latencies = r.latencies ++ n ∷ [] }) else None
 
-abbrev pub flowing : Parts → List ℕ → Option (Stage × Parts)
+abbrev pub flowing : Report → List ℕ → Option (Stage × Report)
 flowing r line = do
   x ← flow_at r.images line
   if follows r.flow x then Some (Flow, record r { flow = r.flow ++ x ∷ [] }) else None
 
-abbrev pub ended : Parts → List ℕ → Option (Stage × Parts)
+abbrev pub ended : Report → List ℕ → Option (Stage × Report)
 ended r line = if same_codes line (codes "end\n") && not (nat_eq r.version 1) then Some (End, r) else None
 
-abbrev pub planned : Parts → List ℕ → Option (Stage × Parts)
+abbrev pub planned : Report → List ℕ → Option (Stage × Report)
 planned r line = do
   v ← number_line_at (codes "plan ") line
   if nat_eq v 2 || nat_eq v 3 then Some (Plan, record r { version = v }) else None
 
-abbrev pub aged : Parts → List ℕ → Option (Stage × Parts)
+abbrev pub aged : Report → List ℕ → Option (Stage × Report)
 aged r line = do
   n ← number_line_at (codes "age ") line
   if nat_lt MAX_AGE n then None else Some (Age, record r { age = n })
 
-abbrev pub counted : Parts → List ℕ → Option (Stage × Parts)
+abbrev pub counted : Report → List ℕ → Option (Stage × Report)
 counted r line = do
   n ← number_line_at (codes "reads ") line
   Some (Reads, record r { reads = n })
 
 -- What a line makes of the report so far, the last line before it being of this kind. None where it continues no report.
-abbrev pub next : Stage → Parts → List ℕ → Option (Stage × Parts)
+abbrev pub next : Stage → Report → List ℕ → Option (Stage × Report)
 next Start r line = or_else (planned r line) (sized r line)
 next Plan r line = pair_line_at (codes "limits ") line >>= λ x. Some (Limits, record r { bits_limit = x.0; latency_limit = x.1 })
 next Limits r line = aged r line
@@ -205,19 +206,19 @@ is_final Flow version = nat_eq version 1
 is_final _ version = false
 
 -- before the first line; the version is 1 until a line says otherwise
-abbrev pub nothing : Parts
+abbrev pub nothing : Report
 nothing = record { version = 1; bits_limit = 0; latency_limit = 0; age = 0; width = 0; height = 0; images = []; latencies = []; clocks = 0; bits = 0; reads = 0; flow = [] }
 
 abbrev pub is_empty : List ℕ → Bool
 is_empty [] = true
 is_empty (b ∷ bytes) = false
 
-abbrev pub reading_on : ℕ → Option (Stage × Parts) → (Stage × Parts → Result Parts ℕ) → Result Parts ℕ
+abbrev pub reading_on : ℕ → Option (Stage × Report) → (Stage × Report → Result Report ℕ) → Result Report ℕ
 reading_on number None go = Err number
 reading_on number (Some x) go = go x
 
 -- the report of these lines, the first of which has this number, or the number of the faulty one
-unfoldable pub reading : ℕ → Stage → Parts → List (List ℕ) → Result Parts ℕ
+unfoldable pub reading : ℕ → Stage → Report → List (List ℕ) → Result Report ℕ
 reading number stage r [] = Err number
 reading number stage r (line ∷ []) = if is_empty line && is_final stage r.version then Ok r else Err number
 reading number stage r (line ∷ l ∷ more) = reading_on number (next stage r line) (λ x. reading (suc number) x.0 x.1 (l ∷ more))

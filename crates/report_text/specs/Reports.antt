@@ -6,11 +6,11 @@ use Rattle.dk_base.specs.declared.TheConstants.{MAX_SIDE, MAX_AGE, MAX_WIDTH, MA
 use Rattle.report_text.specs.declared.report.ImageLine.{ImageLine}
 use Rattle.report_text.specs.declared.report.FlowLine.{FlowLine}
 use Rattle.report_text.specs.declared.report.FlowLine.TheVariants.{Hold, Start, Read, Keep}
-use Rattle.report_text.specs.declared.report.Report.{Report}
+use Rattle.report_text.specs.declared.report.Report.{Report as TheReport}
 use Rattle.report_text.specs.Names.{is_name}
 
 -- the values of a report, with its lists as lists
-pub record Parts : Type 0 where
+pub record Report : Type 0 where
   pub version : ℕ
   pub bits_limit : ℕ
   pub latency_limit : ℕ
@@ -24,7 +24,7 @@ pub record Parts : Type 0 where
   pub reads : ℕ
   pub flow : List FlowLine
 
-abbrev pub parts_of : Report → Parts
+abbrev pub parts_of : TheReport → Report
 parts_of r = record { version = r.version; bits_limit = r.limits.bits; latency_limit = r.limits.latency; age = r.age; width = r.width; height = r.height; images = r.images.items; latencies = r.latencies.items; clocks = r.clocks; bits = r.bits; reads = r.reads; flow = r.flow.items }
 
 abbrev pub names_of : List ImageLine → List (List ℕ)
@@ -65,29 +65,21 @@ IsFlowLine count (Start f n) = (f < count) × IsAmount n
 IsFlowLine count (Read f g dx dy n) = (f < count) × (g < count) × IsOffset dx × IsOffset dy × IsAmount n
 IsFlowLine count (Keep f g dx dy n) = (f < count) × (g < count) × IsOffset dx × IsOffset dy × IsAmount n
 
--- one read stands before another: by the image that reads, then by the one that is read, then by row, then by column
-abbrev pub is_read_before : (f g : ℕ) (dx dy : ℤ) (f' g' : ℕ) (dx' dy' : ℤ) → Bool
-is_read_before f g dx dy f' g' dx' dy' =
-    nat_lt f f' || (nat_eq f f' && (nat_lt g g' || (nat_eq g g' && (int_lt dy dy' || (int_eq dy dy' && int_lt dx dx')))))
+-- What a flow line is ordered by: its kind, the images that it names, then row and column; 0 where it has none.
+abbrev pub key : FlowLine → ℕ × ℕ × ℕ × ℤ × ℤ
+key (Hold g n) = (0, g, 0, pos 0, pos 0)
+key (Start f n) = (1, f, 0, pos 0, pos 0)
+key (Read f g dx dy n) = (2, f, g, dy, dx)
+key (Keep f g dx dy n) = (3, f, g, dy, dx)
 
--- one flow line stands before another: by kind, and then by the images
+-- lexicographic order: less where they first differ
+abbrev pub is_less : (a b : ℕ × ℕ × ℕ × ℤ × ℤ) → Bool
+is_less a b =
+    nat_lt a.0 b.0 || (nat_eq a.0 b.0 && (nat_lt a.1 b.1 || (nat_eq a.1 b.1 && (nat_lt a.2 b.2 || (nat_eq a.2 b.2 && (int_lt a.3 b.3 || (int_eq a.3 b.3 && int_lt a.4 b.4)))))))
+
+-- one flow line stands before another
 abbrev pub is_before : FlowLine → FlowLine → Bool
-is_before (Hold g n) (Hold g' n') = nat_lt g g'
-is_before (Hold g n) (Start f' n') = true
-is_before (Hold g n) (Read f' g' dx' dy' n') = true
-is_before (Hold g n) (Keep f' g' dx' dy' n') = true
-is_before (Start f n) (Hold g' n') = false
-is_before (Start f n) (Start f' n') = nat_lt f f'
-is_before (Start f n) (Read f' g' dx' dy' n') = true
-is_before (Start f n) (Keep f' g' dx' dy' n') = true
-is_before (Read f g dx dy n) (Hold g' n') = false
-is_before (Read f g dx dy n) (Start f' n') = false
-is_before (Read f g dx dy n) (Read f' g' dx' dy' n') = is_read_before f g dx dy f' g' dx' dy'
-is_before (Read f g dx dy n) (Keep f' g' dx' dy' n') = true
-is_before (Keep f g dx dy n) (Hold g' n') = false
-is_before (Keep f g dx dy n) (Start f' n') = false
-is_before (Keep f g dx dy n) (Read f' g' dx' dy' n') = false
-is_before (Keep f g dx dy n) (Keep f' g' dx' dy' n') = is_read_before f g dx dy f' g' dx' dy'
+is_before a b = is_less (key a) (key b)
 
 -- each stands before the next one
 abbrev pub Ascend : List FlowLine → Type 0
@@ -103,14 +95,14 @@ abbrev pub most_latencies : (version : ℕ) → ℕ
 most_latencies version = if nat_eq version 3 then MAX_OUTPUTS else 1
 
 -- what version 1 lacks
-pub record IsBare (r : Parts) : Type 0 where
+pub record IsBare (r : Report) : Type 0 where
   pub bits_limit : r.bits_limit ≡ 0
   pub latency_limit : r.latency_limit ≡ 0
   pub age : r.age ≡ 0
   pub reads : r.reads ≡ 0
 
 -- the values of a report of its version
-pub record Meets (r : Parts) : Type 0 where
+pub record Meets (r : Report) : Type 0 where
   pub first_version : 1 ≤ r.version
   pub last_version : r.version ≤ 3
   pub bare : r.version ≡ 1 → IsBare r

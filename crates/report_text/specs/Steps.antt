@@ -1,21 +1,22 @@
+-- Used by private functions alone.
 -- What the functions of the reader answer.
 use Rattle.std.specs.Prelude.{◌≡◌, ℕ, ℤ, List, codes, Option, Some, None, Result, Ok, Err, ⊤, Bool, not, nat_eq}
 use Rattle.report_text.specs.declared.report.FlowLine.{FlowLine}
-use Rattle.report_text.specs.declared.report.Report.{Report}
+use Rattle.report_text.specs.declared.report.Report.{Report as TheReport}
 use Rattle.report_text.specs.declared.reading.ReportFault.{ReportFault}
 use Rattle.report_text.specs.declared.reading.ReportFault.TheVariants.{Line, OutOfMemory}
 use Rattle.report_text.specs.declared.step.Stage.{Stage}
 use Rattle.report_text.specs.declared.step.Stage.TheVariants.{Clocks}
-use Rattle.report_text.specs.Reports.{Parts, parts_of}
+use Rattle.report_text.specs.Reports.{Report, parts_of}
 use Rattle.report_text.specs.Reading.{◌>>=◌, strip, offset_at, amount_at, number_line_at}
 
 -- the kind of the line and the report that a step gives; where it gives none the report stays as it was
-abbrev pub Does : Option (Stage × Parts) → (old : Parts) → Option Stage → (new : Parts) → Type 0
+abbrev pub Does : Option (Stage × Report) → (old : Report) → Option Stage → (new : Report) → Type 0
 Does read old None new = (read ≡ None) × (new ≡ old)
 Does read old (Some stage) new = read ≡ Some (stage, new)
 
 -- behind the latencies: the clocks
-abbrev pub clocked : Parts → List ℕ → Option (Stage × Parts)
+abbrev pub clocked : Report → List ℕ → Option (Stage × Report)
 clocked r line = number_line_at (codes "clocks ") line >>= λ n. Some (Clocks, record r { clocks = n })
 
 -- behind the names of a read: its offset and a flow
@@ -33,7 +34,7 @@ abbrev pub is_inside : ℕ → Bool
 is_inside b = not (nat_eq b 10)
 
 -- the report or the number of the faulty line, as it is read, or want of memory
-abbrev pub Finds : Result Parts ℕ → Result Report ReportFault → Type 0
+abbrev pub Finds : Result Report ℕ → Result TheReport ReportFault → Type 0
 Finds read (Ok report) = read ≡ Ok (parts_of report)
 Finds read (Err (Line number)) = read ≡ Err number
 Finds read (Err OutOfMemory) = ⊤

@@ -2,7 +2,7 @@
 
 ghost use Rattle.std.specs.Prelude.{◌≡◌, ℕ, ℤ, Some, None, MatchOption};
 ghost use Rattle.report_text.specs.declared.report.FlowLine.{FlowLine};
-ghost use Rattle.report_text.specs.Reports.{is_before as before, is_read_before as read_before};
+ghost use Rattle.report_text.specs.Reports.{key, is_less as less, is_before as before};
 ghost use Rattle.report_text.specs.Reading.{held_at, carried_at, flow_at, follows};
 ghost use Rattle.report_text.specs.Steps.{behind_names};
 
@@ -88,70 +88,47 @@ pub(crate) fn flow_line(images: &[ImageLine], line: &[u8]) -> Option<FlowLine>
     })
 }
 
-// Whether a read stands before another one: by the image that reads, then by the one that is read, then by row, then by column.
-fn is_read_before(
-    f: usize,
-    g: usize,
-    dx: i32,
-    dy: i32,
-    f2: usize,
-    g2: usize,
-    dx2: i32,
-    dy2: i32,
-) -> bool
-    ensures { result ≡ read_before f g dx dy f2 g2 dx2 dy2 }
+// What a flow line is ordered by: its kind, the images that it names, then row and column.
+fn key(line: FlowLine) -> (u8, usize, usize, i32, i32)
+    ensures { (result.0, result.1, result.2, result.3, result.4) ≡ key line }
 {
-    f < f2 || (f == f2 && (g < g2 || (g == g2 && (dy < dy2 || (dy == dy2 && dx < dx2)))))
-}
-
-// Whether a flow line stands before another one.
-fn is_before(left: FlowLine, right: FlowLine) -> bool
-    ensures { result ≡ before left right }
-{
-    match left {
-        FlowLine::Hold { image: g, .. } => match right {
-            FlowLine::Hold { image: g2, .. } => g < g2,
-            _ => true,
-        },
-        FlowLine::Start { image: f, .. } => match right {
-            FlowLine::Hold { .. } => false,
-            FlowLine::Start { image: f2, .. } => f < f2,
-            _ => true,
-        },
+    match line {
+        FlowLine::Hold { image, .. } => (0, image, 0, 0, 0),
+        FlowLine::Start { image, .. } => (1, image, 0, 0, 0),
         FlowLine::Read {
             reader,
             source,
             dx,
             dy,
             ..
-        } => match right {
-            FlowLine::Read {
-                reader: f2,
-                source: g2,
-                dx: dx2,
-                dy: dy2,
-                ..
-            } => is_read_before(reader, source, dx, dy, f2, g2, dx2, dy2),
-            FlowLine::Keep { .. } => true,
-            _ => false,
-        },
+        } => (2, reader, source, dy, dx),
         FlowLine::Keep {
             reader,
             source,
             dx,
             dy,
             ..
-        } => match right {
-            FlowLine::Keep {
-                reader: f2,
-                source: g2,
-                dx: dx2,
-                dy: dy2,
-                ..
-            } => is_read_before(reader, source, dx, dy, f2, g2, dx2, dy2),
-            _ => false,
-        },
+        } => (3, reader, source, dy, dx),
     }
+}
+
+// Whether one is less where they first differ.
+fn is_less(a: (u8, usize, usize, i32, i32), b: (u8, usize, usize, i32, i32)) -> bool
+    ensures { result ≡ less (a.0, a.1, a.2, a.3, a.4) (b.0, b.1, b.2, b.3, b.4) }
+{
+    a.0 < b.0
+        || (a.0 == b.0
+            && (a.1 < b.1
+                || (a.1 == b.1
+                    && (a.2 < b.2
+                        || (a.2 == b.2 && (a.3 < b.3 || (a.3 == b.3 && a.4 < b.4)))))))
+}
+
+// Whether a flow line stands before another one.
+fn is_before(left: FlowLine, right: FlowLine) -> bool
+    ensures { result ≡ before left right }
+{
+    is_less(key(left), key(right))
 }
 
 // Whether a flow line may follow these.

@@ -2,7 +2,7 @@
 
 ghost use Rattle.std.specs.Prelude.{◌≡◌, ◌&&◌, ◌≤◌, ◌<◌, [], ◌∷◌, length, take, drop, MatchOption, MatchResult, ⊤, ℕ};
 ghost use Rattle.std.specs.List.{prefix_len};
-ghost use Rattle.report_text.specs.Reports.{Parts, parts_of};
+ghost use Rattle.report_text.specs.Reports.{Report as TheReport, parts_of};
 ghost use Rattle.report_text.specs.Texts.{cut, StandsFor, IsFaultyLine};
 ghost use Rattle.report_text.specs.Reading.{reading, nothing as no_parts, is_final as final, is_empty};
 ghost use Rattle.report_text.specs.Answers.{Refuses, Gives, Tells};
@@ -111,7 +111,7 @@ fn all(alloc: Global, text: &[u8]) -> Result<Report, ReportFault>
 /// The report that a text stands for, or the first line that continues no report.
 pub fn read(alloc: Global, text: &[u8]) -> Result<Report, ReportFault>
     ensures judged { MatchResult result (λ report. StandsFor text.now (parts_of report)) (λ fault. Refuses text.now fault) }
-    ensures accepts { (r : Parts) → StandsFor text.now r → Gives r result }
+    ensures accepts { (r : TheReport) → StandsFor text.now r → Gives r result }
     ensures tells { (n : ℕ) → IsFaultyLine text.now n → Tells n result }
 {
     all(alloc, text)

@@ -1,5 +1,5 @@
 use Rattle.std.proofs.Common.{refl, arith}
-use Rattle.latency_report.specs.Printed.{hold_maker}
+use Rattle.plan_check.specs.Sums.{hold_maker}
 use Rattle.latency_report.proofs.Loops.{ranged, ranged_done}
 use Rattle.latency_report.proofs.flow.push_holds.Goals as goal
 

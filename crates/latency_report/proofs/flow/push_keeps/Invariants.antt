@@ -1,5 +1,6 @@
 use Rattle.std.proofs.Common.{◌≡◌, map, drop, ◌++◌}
-use Rattle.latency_report.specs.Printed.{keep_maker, carried}
+use Rattle.plan_check.specs.Flows.{carried}
+use Rattle.plan_check.specs.Sums.{keep_maker}
 use Rattle.latency_report.proofs.flow.push_keeps.Given as goal
 
 abbrev pub invariant-loop-k : goal.invariant-loop-k

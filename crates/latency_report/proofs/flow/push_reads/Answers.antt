@@ -1,5 +1,5 @@
 use Rattle.std.proofs.Common.{get_or, pos, refl}
-use Rattle.latency_report.specs.Printed.{read_maker}
+use Rattle.plan_check.specs.Sums.{read_maker}
 use Rattle.latency_report.proofs.Loops.{listed}
 use Rattle.latency_report.proofs.flow.push_reads.Goals as goal
 

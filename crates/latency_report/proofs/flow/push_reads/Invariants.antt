@@ -1,5 +1,6 @@
 use Rattle.std.proofs.Common.{◌≡◌, map, drop, ◌++◌}
-use Rattle.latency_report.specs.Printed.{read_maker, carried}
+use Rattle.plan_check.specs.Flows.{carried}
+use Rattle.plan_check.specs.Sums.{read_maker}
 use Rattle.latency_report.proofs.flow.push_reads.Given as goal
 
 abbrev pub invariant-loop-k : goal.invariant-loop-k

@@ -1,5 +1,5 @@
 use Rattle.std.proofs.Common.{refl}
-use Rattle.latency_report.specs.Printed.{start_maker}
+use Rattle.plan_check.specs.Sums.{start_maker}
 use Rattle.latency_report.proofs.Loops.{ranged, ranged_done}
 use Rattle.latency_report.proofs.flow.push_starts.Goals as goal
 

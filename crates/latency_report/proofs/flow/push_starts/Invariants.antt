@@ -1,6 +1,7 @@
 use Rattle.std.proofs.Common.{◌≡◌, length, map, drop, ◌++◌}
 use Rattle.std.specs.List.{range_with_len}
-use Rattle.latency_report.specs.Printed.{start_maker, carried}
+use Rattle.plan_check.specs.Flows.{carried}
+use Rattle.plan_check.specs.Sums.{start_maker}
 use Rattle.latency_report.proofs.flow.push_starts.Given as goal
 
 abbrev pub invariant-loop-k : goal.invariant-loop-k

@@ -1,21 +1,35 @@
-use Rattle.std.proofs.Common.{refl, subst}
-use Rattle.std.proofs.lemmas.List.{get_or_default}
+use Rattle.std.proofs.Common.{refl, subst, sym}
 use Rattle.report_text.specs.Reports.{parts_of}
-use Rattle.report_text.specs.declared.report.FlowLine.TheVariants.{Hold}
-use Rattle.plan_check.specs.Holding.{Holds, HasConstraint, FlowHolds}
+use Rattle.plan_check.specs.First.{IsFirst}
+use Rattle.plan_check.specs.Rules.{Breaks}
+use Rattle.plan_check.specs.Holding.{FlowHolds}
+use Rattle.plan_check.specs.Judging.{number_rules}
+use Rattle.plan_check.proofs.Firsts.{images_keep, latencies_keep, none_wrong, wrong_flow, of_rules}
 use Rattle.plan_check.proofs.Least.{are_least}
 use Rattle.plan_check.proofs.checking.check.Goals as goal
+
+pub returns-then-flow_holds-clause-judged : goal.returns-then-flow_holds-clause-judged
+returns-then-flow_holds-clause-judged c =
+    let s = c.args.system.now in
+    let r = parts_of c.args.report.now in
+    none_wrong s r (images_keep s r c.in-None.ensures) (latencies_keep s r (images_keep s r c.in-None.ensures) c.in-None-faulty_latency.ensures)
+    (c.in-None-faulty_sum.ensures.0, (c.in-None-faulty_sum.ensures.1, tt)) c.in-None-faulty_constraint.ensures
+    (subst (λ xs. FlowHolds s xs r.bits) c.deref-2.ensures.value (c.if-flow_holds.ensures.yes refl))
 
 pub returns-then-flow_holds-clause-least : goal.returns-then-flow_holds-clause-least
 returns-then-flow_holds-clause-least c = λ _.
     let s = c.args.system.now in
     let r = parts_of c.args.report.now in
-    let held : Holds s r = record {
-      images = c.in-None.ensures.0;
-      latencies = c.in-None-faulty_latency.ensures.0;
-      clocks = c.in-None-faulty_sum.ensures.0;
-      bits = c.in-None-faulty_sum.ensures.1;
-      constraints = λ k d lt. subst (HasConstraint s) (get_or_default r.flow k (Hold 0 0) d lt) (c.in-None-faulty_constraint.ensures k lt);
-      flow = subst (λ xs. FlowHolds s xs r.bits) c.deref-2.ensures.value (c.if-flow_holds.ensures.yes refl);
-    } in
-    are_least s c.law.ensures r c.requires.images held
+    are_least s c.law.ensures r c.requires.images (of_rules s r
+    (none_wrong s r (images_keep s r c.in-None.ensures) (latencies_keep s r (images_keep s r c.in-None.ensures) c.in-None-faulty_latency.ensures)
+    (c.in-None-faulty_sum.ensures.0, (c.in-None-faulty_sum.ensures.1, tt)) c.in-None-faulty_constraint.ensures
+    (subst (λ xs. FlowHolds s xs r.bits) c.deref-2.ensures.value (c.if-flow_holds.ensures.yes refl))))
+
+pub returns-else-flow_holds-clause-judged : goal.returns-else-flow_holds-clause-judged
+returns-else-flow_holds-clause-judged c =
+    let s = c.args.system.now in
+    let r = parts_of c.args.report.now in
+    subst (IsFirst (Breaks (number_rules s r))) (sym c.last_line.ensures)
+    (wrong_flow s r (images_keep s r c.in-None.ensures) (latencies_keep s r (images_keep s r c.in-None.ensures) c.in-None-faulty_latency.ensures)
+    (c.in-None-faulty_sum.ensures.0, (c.in-None-faulty_sum.ensures.1, tt)) c.in-None-faulty_constraint.ensures
+    (λ h. let e : ⊥ = cc (c.if-flow_holds.ensures.no (subst (λ xs. FlowHolds s xs r.bits) (sym c.deref-2.ensures.value) h)) in e))

@@ -1,6 +1,6 @@
 use Rattle.std.proofs.Common.{◌≡◌, ◌+◌, ◌*◌, ◌^◌, ◌≤◌, ℕ, drop, slice_index}
 use Rattle.raster_delay.specs.Network.{inflow, outflow}
-use Rattle.plan_check.specs.Holding.{carriers, amounts}
+use Rattle.plan_check.specs.Sums.{carriers, amounts}
 use Rattle.plan_check.proofs.flow.tally.Given as goal
 
 abbrev pub invariant-loop-line : goal.invariant-loop-line

@@ -3,7 +3,7 @@ use Rattle.std.proofs.lemmas.Int.{ints}
 use Rattle.std.proofs.lemmas.List.{drop_more}
 use Rattle.raster_delay.specs.Network.{worth}
 use Rattle.report_text.specs.declared.report.FlowLine.TheVariants.{Hold}
-use Rattle.plan_check.specs.Holding.{carriers, amounts}
+use Rattle.plan_check.specs.Sums.{carriers, amounts}
 use Rattle.plan_check.proofs.flow.worth.Goals as goal
 
 pub loop-line-preserved : goal.loop-line-preserved

@@ -1,7 +1,7 @@
 use Rattle.std.proofs.Common.{◌≡◌, ◌*◌, ◌^◌, pos, drop}
 use Rattle.std.specs.Prelude.{◌+ℤ◌, ◌≤ℤ◌, neg_ℤ}
 use Rattle.raster_delay.specs.Network.{worth}
-use Rattle.plan_check.specs.Holding.{carriers, amounts}
+use Rattle.plan_check.specs.Sums.{carriers, amounts}
 use Rattle.plan_check.proofs.flow.worth.Given as goal
 
 abbrev pub invariant-loop-line : goal.invariant-loop-line

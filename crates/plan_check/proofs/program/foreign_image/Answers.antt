@@ -1,10 +1,11 @@
 use Rattle.std.proofs.Common.{◌≡◌, ◌<◌, ◌+◌, ℕ, length, arith, refl, sym, subst}
 use Rattle.pointwise_ir.specs.Programs.{names_of}
 use Rattle.report_text.specs.Reports.{parts_of}
+use Rattle.plan_check.specs.First.{IsFirst, Misses}
+use Rattle.plan_check.specs.Rules.{Breaks}
 use Rattle.plan_check.specs.Numbering.{image_number}
-use Rattle.plan_check.specs.Judging.{IsFirstNot}
-use Rattle.plan_check.specs.Program.{IsOfSize, IsNamed, IsFirstForeign}
-use Rattle.plan_check.proofs.Foreigns.{first_size, first_image, native_images}
+use Rattle.plan_check.specs.Program.{IsOfSize, IsNamed, program_rules}
+use Rattle.plan_check.proofs.Foreigns.{wrong_size, wrong_name}
 use Rattle.plan_check.proofs.program.foreign_image.Goals as goal
 
 pub returns-then-not-is_of_size : goal.returns-then-not-is_of_size
@@ -12,16 +13,13 @@ returns-then-not-is_of_size c =
     let names = names_of c.args.ir.now in
     let s = c.args.stencils.now in
     let r = parts_of c.args.report.now in
-    subst (IsFirstForeign names s r) (sym c.size_line.ensures.value) (first_size names s r (λ h. let e : ⊥ = cc (c.if-not-is_of_size.ensures.no h) in e))
+    subst (IsFirst (Breaks (program_rules names s r))) (sym c.size_line.ensures.value) (wrong_size names s r (λ h. let e : ⊥ = cc (c.if-not-is_of_size.ensures.no h) in e))
 
 pub returns-in-None : goal.returns-in-None
 returns-in-None c =
     let names = names_of c.args.ir.now in
     let s = c.args.stencils.now in
-    let r = parts_of c.args.report.now in
-    let right : IsOfSize s r = c.if-not-is_of_size.ensures.yes refl in
-    let all : (k : ℕ) → k < length r.images → IsNamed names s r.images k = subst (λ xs. (k : ℕ) → k < length xs → IsNamed names s xs k) c.deref.ensures.value c.in-None.ensures in
-    (right, all, native_images names s r right all)
+    (c.if-not-is_of_size.ensures.yes refl, subst (λ xs. (k : ℕ) → k < length xs → IsNamed names s xs k) c.deref.ensures.value c.in-None.ensures)
 
 pub returns-in-Some : goal.returns-in-Some
 returns-in-Some c =
@@ -31,4 +29,4 @@ returns-in-Some c =
     let w = c.in-Some.k in
     let right : IsOfSize s r = c.if-not-is_of_size.ensures.yes refl in
     let e : image_number r w ≡ c.size_line-in-Some.result + 1 + w = omega (arith, c.size_line-in-Some.ensures.value) in
-    subst (IsFirstForeign names s r) e (first_image names s r right w (subst (λ xs. IsFirstNot (λ k. IsNamed names s xs k) (length xs) w) c.deref.ensures.value c.in-Some.ensures))
+    subst (IsFirst (Breaks (program_rules names s r))) e (wrong_name names s r right w (subst (λ xs. IsFirst (Misses (λ k. IsNamed names s xs k) (length xs)) w) c.deref.ensures.value c.in-Some.ensures))

@@ -1,9 +1,11 @@
 use Rattle.std.proofs.Common.{◌≡◌, ◌<◌, ◌≤◌, ◌+◌, length, arith, ap, subst}
 use Rattle.pointwise_ir.specs.Programs.{names_of}
 use Rattle.report_text.specs.Reports.{parts_of}
+use Rattle.plan_check.specs.First.{IsFirst}
+use Rattle.plan_check.specs.Rules.{Breaks}
 use Rattle.plan_check.specs.Numbering.{latency_number}
-use Rattle.plan_check.specs.Program.{IsFirstForeign}
-use Rattle.plan_check.proofs.Foreigns.{first_few, first_output, native_latencies}
+use Rattle.plan_check.specs.Program.{program_rules}
+use Rattle.plan_check.proofs.Foreigns.{names_keep, few_images, no_output}
 use Rattle.plan_check.proofs.program.foreign_latency.Goals as goal
 
 pub returns-then-len-images : goal.returns-then-len-images
@@ -13,7 +15,7 @@ returns-then-len-images c =
     let r = parts_of c.args.report.now in
     let few : length r.images < length s.images = omega (arith, c.len-2.ensures, ap length c.images.ensures, c.if-len-images.true) in
     let e : latency_number r 0 ≡ c.size_line.result + c.len.result + 1 = omega (arith, c.size_line.ensures.value, c.len.ensures) in
-    subst (IsFirstForeign names s r) e (first_few names s r c.requires.native few)
+    subst (IsFirst (Breaks (program_rules names s r))) e (few_images names s r (names_keep names s r c.requires.size c.requires.named) (λ enough. absurd (omega (arith, few, enough))))
 
 pub returns-then-len-outputs : goal.returns-then-len-outputs
 returns-then-len-outputs c =
@@ -24,13 +26,12 @@ returns-then-len-outputs c =
     let more : length s.outputs < length r.latencies = omega (arith, c.len-3.ensures, ap length c.outputs.ensures, c.if-len-outputs.true) in
     let e : latency_number r (length s.outputs) ≡ c.size_line.result + c.len.result + 1 + length c.outputs-then-len-outputs.result.now =
     omega (arith, c.size_line.ensures.value, c.len.ensures, ap length c.outputs-then-len-outputs.ensures) in
-    subst (IsFirstForeign names s r) e (first_output names s r c.requires.native enough more)
+    subst (IsFirst (Breaks (program_rules names s r))) e (no_output names s r (names_keep names s r c.requires.size c.requires.named) enough more)
 
 pub returns : goal.returns
 returns c =
-    let names = names_of c.args.ir.now in
     let s = c.args.stencils.now in
     let r = parts_of c.args.report.now in
     let enough : length s.images ≤ length r.images = omega (arith, c.len-2.ensures, ap length c.images.ensures, c.if-len-images.false) in
     let most : length r.latencies ≤ length s.outputs = omega (arith, c.len-3.ensures, ap length c.outputs.ensures, c.if-len-outputs.false) in
-    (enough, most, native_latencies names s r c.requires.native enough most)
+    (enough, most)

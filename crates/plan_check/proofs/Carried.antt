@@ -1,5 +1,5 @@
 -- The flow lines of a flow carry what it carries: lines of flow 0 add nothing.
-use Rattle.std.proofs.Common.{◌≡◌, ◌+◌, ◌-◌, ◌*◌, ◌∙◌, ℕ, ℤ, pos, negsuc, zero, suc, List, [], ◌∷◌, ◌++◌, map, cond, eqb, refl, ap, arith}
+use Rattle.std.proofs.Common.{◌≡◌, ◌+◌, ◌-◌, ◌*◌, ◌∙◌, ℕ, ℤ, pos, negsuc, zero, suc, true, List, [], ◌∷◌, ◌++◌, map, cond, eqb, ltb, refl, ap, arith}
 use Rattle.std.specs.Prelude.{All, Contains, ◌+ℤ◌, ◌*ℤ◌, neg_ℤ}
 use Rattle.std.specs.List.{AllByRecursion, range_with_len}
 use Rattle.std.proofs.lemmas.Int.{ints}
@@ -14,9 +14,18 @@ use Rattle.raster_delay.specs.declared.network.Constraint.{Constraint}
 use Rattle.raster_delay.specs.declared.placed.PlacedRead.{PlacedRead}
 use Rattle.raster_delay.proofs.Bridge.{rec_range_in}
 use Rattle.report_text.specs.declared.report.FlowLine.{FlowLine}
-use Rattle.latency_report.specs.Printed.{hold_maker, start_maker, read_maker, keep_maker, makers, carried}
-use Rattle.plan_check.specs.Holding.{HasConstraint, constraint_of, amount_of, carriers, amounts}
+use Rattle.plan_check.specs.Flows.{makers, carried, carrying, amount_of}
+use Rattle.plan_check.specs.Holding.{HasConstraint}
+use Rattle.plan_check.specs.Sums.{hold_maker, start_maker, read_maker, keep_maker, constraint_of, carriers, amounts}
 use Rattle.plan_check.proofs.Flowing.{inflow_cons, outflow_cons}
+
+-- a number above 0
+pub above : (a n : ℕ) → a ≡ suc n → ltb 0 a ≡ true
+above a n e = grind (arith, nat_tests, e)
+
+-- the line of a constraint, with a flow
+abbrev pub Maker : Type 0
+Maker = ℕ → FlowLine
 
 module _ (s : Parts) where
   -- the line names this constraint, with this flow
@@ -26,13 +35,13 @@ module _ (s : Parts) where
     pub has : HasConstraint s x
 
   -- each of these makes lines of the constraint at its place
-  abbrev pub Make : List (ℕ → FlowLine) → List Constraint → Type 0
+  abbrev pub Make : List Maker → List Constraint → Type 0
   Make [] [] = Unit {0}
   Make [] (c ∷ cs) = ⊥
   Make (m ∷ ms) [] = ⊥
   Make (m ∷ ms) (c ∷ cs) = ((n : ℕ) → IsMade c n (m n)) × Make ms cs
 
-  make_append : (ms ns : List (ℕ → FlowLine)) (cs ds : List Constraint) → Make ms cs → Make ns ds → Make (ms ++ ns) (cs ++ ds)
+  make_append : (ms ns : List Maker) (cs ds : List Constraint) → Make ms cs → Make ns ds → Make (ms ++ ns) (cs ++ ds)
   make_append [] ns [] ds h j = j
   make_append [] ns (c ∷ cs) ds h j = absurd h
   make_append (m ∷ ms) ns [] ds h j = absurd h
@@ -93,7 +102,7 @@ module _ (s : Parts) where
   out_cons : (c : Constraint) (n : ℕ) (cs : List Constraint) (flow : List ℕ) (v : ℕ) → outflow (c ∷ cs) (n ∷ flow) v ≡ cond (eqb c.source v) n 0 + outflow cs flow v
   out_cons c n cs flow v = sum_by-cons (λ (a : ℕ × ℕ). cond (eqb a.0 v) a.1 0) (c.source, n) (taken cs flow)
 
-  pub in_same : (ms : List (ℕ → FlowLine)) (cs : List Constraint) (flow : List ℕ) (v : ℕ) → Make ms cs → inflow (carriers s (carried ms flow)) (amounts (carried ms flow)) v ≡ inflow cs flow v
+  pub in_same : (ms : List Maker) (cs : List Constraint) (flow : List ℕ) (v : ℕ) → Make ms cs → inflow (carriers s (carried ms flow)) (amounts (carried ms flow)) v ≡ inflow cs flow v
   in_same [] [] flow v h = refl
   in_same [] (c ∷ cs) flow v h = absurd h
   in_same (m ∷ ms) [] flow v h = absurd h
@@ -105,7 +114,7 @@ module _ (s : Parts) where
       ap (λ (k : Constraint). cond (eqb k.target v) (amount_of (m (suc n))) 0) made.constraint_is ∙ ap (λ a. cond (eqb c.target v) a 0) made.amount_is in
       omega (arith, in_same ms cs flow v h.1, in_cons c (suc n) cs flow v, inflow_cons s v (m (suc n)) (carried ms flow), same)
 
-  pub out_same : (ms : List (ℕ → FlowLine)) (cs : List Constraint) (flow : List ℕ) (v : ℕ) → Make ms cs → outflow (carriers s (carried ms flow)) (amounts (carried ms flow)) v ≡ outflow cs flow v
+  pub out_same : (ms : List Maker) (cs : List Constraint) (flow : List ℕ) (v : ℕ) → Make ms cs → outflow (carriers s (carried ms flow)) (amounts (carried ms flow)) v ≡ outflow cs flow v
   out_same [] [] flow v h = refl
   out_same [] (c ∷ cs) flow v h = absurd h
   out_same (m ∷ ms) [] flow v h = absurd h
@@ -117,11 +126,11 @@ module _ (s : Parts) where
       ap (λ (k : Constraint). cond (eqb k.source v) (amount_of (m (suc n))) 0) made.constraint_is ∙ ap (λ a. cond (eqb c.source v) a 0) made.amount_is in
       omega (arith, out_same ms cs flow v h.1, out_cons c (suc n) cs flow v, outflow_cons s v (m (suc n)) (carried ms flow), same)
 
-  times_none : (z : ℤ) → z *ℤ pos 0 ≡ pos 0
+  pub times_none : (z : ℤ) → z *ℤ pos 0 ≡ pos 0
   times_none (pos a) = pos-*ℤ-pos a 0 ∙ ap pos (let e : a * 0 ≡ 0 = omega arith in e)
   times_none (negsuc a) = negsuc-*ℤ-pos a 0 ∙ ap (λ n. neg_ℤ (pos n)) (let e : suc a * 0 ≡ 0 = omega arith in e)
 
-  pub worth_same : (ms : List (ℕ → FlowLine)) (cs : List Constraint) (flow : List ℕ) → Make ms cs → worth (carriers s (carried ms flow)) (amounts (carried ms flow)) ≡ worth cs flow
+  pub worth_same : (ms : List Maker) (cs : List Constraint) (flow : List ℕ) → Make ms cs → worth (carriers s (carried ms flow)) (amounts (carried ms flow)) ≡ worth cs flow
   worth_same [] [] flow h = refl
   worth_same [] (c ∷ cs) flow h = absurd h
   worth_same (m ∷ ms) [] flow h = absurd h
@@ -133,7 +142,7 @@ module _ (s : Parts) where
       ∙ ap (λ (k : Constraint). k.cost *ℤ pos (amount_of (m (suc n))) +ℤ worth cs flow) made.constraint_is
       ∙ ap (λ a. c.cost *ℤ pos a +ℤ worth cs flow) made.amount_is
 
-  has_all : (ms : List (ℕ → FlowLine)) (cs : List Constraint) (flow : List ℕ) → Make ms cs → AllByRecursion (HasConstraint s) (carried ms flow)
+  has_all : (ms : List Maker) (cs : List Constraint) (flow : List ℕ) → Make ms cs → AllByRecursion (HasConstraint s) (carried ms flow)
   has_all [] [] flow h = tt
   has_all [] (c ∷ cs) flow h = absurd h
   has_all (m ∷ ms) [] flow h = absurd h
@@ -143,3 +152,17 @@ module _ (s : Parts) where
 
   pub carried_has : (flow : List ℕ) → All (HasConstraint s) (carried (makers s) flow)
   carried_has flow = All-from_recursion (HasConstraint s) (carried (makers s) flow) (has_all (makers s) (constraints_in s) flow all_made)
+
+  -- each of these lines carries some
+  pub carrying_all : (ms : List Maker) (cs : List Constraint) (flow : List ℕ) → Make ms cs → carrying (carried ms flow) ≡ carried ms flow
+  carrying_all [] [] flow h = refl
+  carrying_all [] (c ∷ cs) flow h = absurd h
+  carrying_all (m ∷ ms) [] flow h = absurd h
+  carrying_all (m ∷ ms) (c ∷ cs) [] h = refl
+  carrying_all (m ∷ ms) (c ∷ cs) (zero ∷ flow) h = carrying_all ms cs flow h.1
+  carrying_all (m ∷ ms) (c ∷ cs) (suc n ∷ flow) h =
+      let rest = carrying (carried ms flow) in
+      ap (λ b. cond b (m (suc n) ∷ rest) rest) (above (amount_of (m (suc n))) n (h.0 (suc n)).amount_is) ∙ ap (λ xs. m (suc n) ∷ xs) (carrying_all ms cs flow h.1)
+
+  pub carrying_carried : (flow : List ℕ) → carrying (carried (makers s) flow) ≡ carried (makers s) flow
+  carrying_carried flow = carrying_all (makers s) (constraints_in s) flow all_made

@@ -1,0 +1,10 @@
+-- The first number of a kind.
+use Rattle.std.specs.Prelude.{ℕ, ◌<◌}
+
+pub record IsFirst (P : ℕ → Type 0) (n : ℕ) : Type 0 where
+  pub is : P n
+  pub before : (m : ℕ) → m < n → P m → ⊥
+
+-- a place below a count at which something does not hold
+abbrev pub Misses : (ℕ → Type 0) → (count : ℕ) → ℕ → Type 0
+Misses P count k = (k < count) × (P k → ⊥)

@@ -1,0 +1,17 @@
+-- Rules on the lines of a text: a rule is the number of a line, and what has to hold there.
+use Rattle.std.specs.Prelude.{◌≡◌, ℕ, ◌⊎◌, List, [], ◌∷◌, map}
+use Rattle.std.specs.List.{range_with_len}
+
+-- a rule for each place below a count
+abbrev pub each : (line_of : ℕ → ℕ) → (count : ℕ) → (ℕ → Type 0) → List (ℕ × Type 0)
+each line_of count P = map (λ k. (line_of k, P k)) (range_with_len 0 count)
+
+-- all of them hold
+abbrev pub Keeps : List (ℕ × Type 0) → Type 0
+Keeps [] = Unit {0}
+Keeps (rule ∷ rules) = rule.1 × Keeps rules
+
+-- one at this line does not hold
+abbrev pub Breaks : List (ℕ × Type 0) → (line : ℕ) → Type 0
+Breaks [] line = ⊥
+Breaks (rule ∷ rules) line = ((line ≡ rule.0) × (rule.1 → ⊥)) ⊎ Breaks rules line
