@@ -1,3 +1,4 @@
+-- Used by private functions alone.
 -- A tree of the nodes that are reached from a root, and flow pushed along it.
 use Rattle.std.specs.Prelude.{◌≡◌, ◌≢◌, ℕ, pos, ◌≤ℤ◌, ◌+ℤ◌, ◌+◌, ◌^◌, ◌<◌, ◌≤◌, ◌==◌, nat_lt, if◌then◌else◌, List, length, slice_index, All, count_by, ◌⊎◌}
 use Rattle.raster_delay.specs.Network.{constraint_at, inflow, outflow, Holds, IsTight, IsComplementary}

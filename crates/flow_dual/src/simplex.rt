@@ -1,5 +1,5 @@
-// A network simplex: a tree of constraints that has all flow on it is changed, one constraint at a time, until the numbers by
-// which it is tight keep each constraint.
+// A network simplex: a spanning tree of constraints that has all flow on it is changed, one constraint at a time, until the
+// potentials of the nodes by which it is tight keep each constraint.
 //
 // It is for speed and claims nothing: what it proposes is used only where `is_optimal` finds it so.
 
@@ -7,17 +7,17 @@ use dk_base::{Image, OutOfMemory};
 use raster_delay::{Constraint, System};
 use std::alloc::Global;
 
-// How many constraints are looked at before the one of them that is broken most enters the tree.
+// How many constraints are looked at before the one of them that is violated most enters the tree.
 const BLOCK: usize = 64;
 
 // How many exchanges are made at most: some twenty times as many as were ever seen. Without a bound it ends too, since no tree
 // comes twice, but nothing proved says so.
 const MOST_EXCHANGES: usize = 65_536;
 
-/// Numbers of the nodes, and a flow.
+/// Potentials of the nodes, and a flow.
 #[derive(Drop)]
 pub struct Proposal {
-    pub numbers: Vec<u64>,
+    pub potentials: Vec<u64>,
     pub flow: Vec<u64>,
 }
 
@@ -29,11 +29,11 @@ struct Link {
     depth: usize,
 }
 
-// The tree, the numbers by which it is tight, and the flow on all constraints.
+// The spanning tree, the potentials by which it is tight, and the flow on all constraints.
 #[derive(Drop)]
 struct Basis {
     links: Vec<Link>,
-    numbers: Vec<i64>,
+    potentials: Vec<i64>,
     flow: Vec<u64>,
 }
 
@@ -81,8 +81,8 @@ fn constraint_of(constraints: &[Constraint], i: usize) -> Constraint {
     }
 }
 
-fn number_of(numbers: &[i64], node: usize) -> i64 {
-    match numbers.get(node) {
+fn potential_of(potentials: &[i64], node: usize) -> i64 {
+    match potentials.get(node) {
         Some(n) => *n,
         None => 0,
     }
@@ -95,23 +95,23 @@ fn node_in(nodes: &[Option<usize>], node: usize) -> Option<usize> {
     }
 }
 
-// By how much a constraint is broken.
-fn excess(c: Constraint, numbers: &[i64]) -> i64 {
-    let least = number_of(numbers, c.source).wrapping_add(c.cost);
-    least.wrapping_sub(number_of(numbers, c.target))
+// By how much a constraint is violated, below 0 where it has that to spare.
+fn violation(c: Constraint, potentials: &[i64]) -> i64 {
+    let least = potential_of(potentials, c.source).wrapping_add(c.cost);
+    least.wrapping_sub(potential_of(potentials, c.target))
 }
 
-// The constraint that is broken most among those from one number to another.
-fn most_broken(
+// The constraint that is violated most among those from one number to another.
+fn most_violated(
     constraints: &[Constraint],
-    numbers: &[i64],
+    potentials: &[i64],
     from: usize,
     to: usize,
 ) -> Option<usize> {
     let mut found = None;
     let mut most = 0;
     for i in from..to {
-        let by = excess(constraint_of(constraints, i), numbers);
+        let by = violation(constraint_of(constraints, i), potentials);
         if by > most {
             most = by;
             found = Some(i);
@@ -120,11 +120,11 @@ fn most_broken(
     found
 }
 
-// The constraint to enter the tree, of the first block with a broken one from a number on. The number is moved on.
-fn entering(constraints: &[Constraint], numbers: &[i64], from: &mut usize) -> Option<usize> {
+// The constraint to enter the tree, of the first block with a violated one from a number on. The number is moved on.
+fn entering(constraints: &[Constraint], potentials: &[i64], from: &mut usize) -> Option<usize> {
     for _ in 0..constraints.len() / BLOCK + 2 {
         let to = from.saturating_add(BLOCK).min(constraints.len());
-        let found = most_broken(constraints, numbers, *from, to);
+        let found = most_violated(constraints, potentials, *from, to);
         *from = if to < constraints.len() { to } else { 0 };
         if found.is_some() {
             return found;
@@ -133,8 +133,8 @@ fn entering(constraints: &[Constraint], numbers: &[i64], from: &mut usize) -> Op
     None
 }
 
-// The lowest node that is above two nodes.
-fn join(links: &[Link], a: usize, b: usize) -> usize {
+// The lowest common ancestor of two nodes.
+fn common_ancestor(links: &[Link], a: usize, b: usize) -> usize {
     let mut a = a;
     let mut b = b;
     for _ in 0..links.len() {
@@ -162,7 +162,7 @@ fn loses(c: Constraint, node: usize, side: Side) -> bool {
 }
 
 // The constraint with the least flow among those that lose flow on one side. Of those with as little the one nearest to the
-// join leaves on the source's side, and else the one nearest to the target: so no tree comes twice.
+// common ancestor leaves on the source's side, and else the one nearest to the target: so no tree comes twice.
 fn leaving(
     constraints: &[Constraint],
     basis: &Basis,
@@ -250,15 +250,15 @@ fn list_branches(links: &[Link], first: &mut [Option<usize>], next: &mut [Option
     }
 }
 
-// Makes the constraint on which a node hangs tight by the node's number.
-fn tighten(constraints: &[Constraint], links: &mut [Link], numbers: &mut [i64], node: usize) {
+// Makes the constraint on which a node hangs tight by the node's potential.
+fn tighten(constraints: &[Constraint], links: &mut [Link], potentials: &mut [i64], node: usize) {
     let link = link_of(links, node);
     let c = constraint_of(constraints, link.via);
-    let above = number_of(numbers, link.parent);
+    let above = potential_of(potentials, link.parent);
     let depth = link_of(links, link.parent).depth.saturating_add(1);
-    if node < links.len() && node < numbers.len() {
+    if node < links.len() && node < potentials.len() {
         links[node].depth = depth;
-        numbers[node] = if c.target == node {
+        potentials[node] = if c.target == node {
             above.wrapping_add(c.cost)
         } else {
             above.wrapping_sub(c.cost)
@@ -270,7 +270,7 @@ fn tighten(constraints: &[Constraint], links: &mut [Link], numbers: &mut [i64], 
 fn tighten_below(
     constraints: &[Constraint],
     links: &mut [Link],
-    numbers: &mut [i64],
+    potentials: &mut [i64],
     branches: &Branches,
     waiting: &mut Vec<usize>,
     top: usize,
@@ -282,7 +282,7 @@ fn tighten_below(
             return Ok(());
         };
         if node != 0 {
-            tighten(constraints, links, numbers, node);
+            tighten(constraints, links, potentials, node);
         }
         if node != top
             && let Some(next) = node_in(&branches.next, node)
@@ -299,7 +299,7 @@ fn tighten_below(
 // Lets a constraint enter the tree and another leave it. Answers the node from which the tree was changed.
 fn exchange(constraints: &[Constraint], basis: &mut Basis, enters: usize) -> usize {
     let c = constraint_of(constraints, enters);
-    let top = join(&basis.links, c.source, c.target);
+    let top = common_ancestor(&basis.links, c.source, c.target);
     let none = Exit {
         amount: u64::MAX,
         node: top,
@@ -334,7 +334,7 @@ fn exchange(constraints: &[Constraint], basis: &mut Basis, enters: usize) -> usi
     low
 }
 
-// Exchanges constraints until none is broken.
+// Exchanges constraints until none is violated.
 fn improve(
     alloc: Global,
     constraints: &[Constraint],
@@ -347,9 +347,9 @@ fn improve(
     for _ in 0..MOST_EXCHANGES {
         list_branches(&basis.links, &mut branches.first, &mut branches.next);
         let links = &mut basis.links;
-        let numbers = &mut basis.numbers;
-        tighten_below(constraints, links, numbers, branches, &mut waiting, low)?;
-        match entering(constraints, &basis.numbers, &mut from) {
+        let potentials = &mut basis.potentials;
+        tighten_below(constraints, links, potentials, branches, &mut waiting, low)?;
+        match entering(constraints, &basis.potentials, &mut from) {
             None => return Ok(()),
             Some(enters) => low = exchange(constraints, basis, enters),
         }
@@ -389,11 +389,11 @@ fn first_flow(alloc: Global, images: &[Image], count: usize) -> Result<Vec<u64>,
     Ok(flow)
 }
 
-// The numbers, each at least 0.
-fn numbers_from(alloc: Global, numbers: &[i64]) -> Result<Vec<u64>, OutOfMemory> {
+// The potentials, each at least 0.
+fn unsigned(alloc: Global, potentials: &[i64]) -> Result<Vec<u64>, OutOfMemory> {
     let mut all = Vec::new(alloc);
-    for number in numbers {
-        all.push(number.unsigned_abs())?;
+    for potential in potentials {
+        all.push(potential.unsigned_abs())?;
     }
     Ok(all)
 }
@@ -404,7 +404,7 @@ pub fn propose(alloc: Global, system: &System) -> Result<Proposal, OutOfMemory> 
     let nodes = system.nodes();
     let mut basis = Basis {
         links: first_links(alloc, constraints, nodes)?,
-        numbers: vec![in alloc; 0i64; nodes]?,
+        potentials: vec![in alloc; 0i64; nodes]?,
         flow: first_flow(alloc, system.images(), constraints.len())?,
     };
     let mut branches = Branches {
@@ -412,9 +412,9 @@ pub fn propose(alloc: Global, system: &System) -> Result<Proposal, OutOfMemory> 
         next: vec![in alloc; None; nodes]?,
     };
     improve(alloc, constraints, &mut basis, &mut branches)?;
-    let numbers = numbers_from(alloc, &basis.numbers)?;
+    let potentials = unsigned(alloc, &basis.potentials)?;
     Ok(Proposal {
-        numbers,
+        potentials,
         flow: basis.flow,
     })
 }

@@ -37,9 +37,9 @@ fn find_flow(
     ensures balanced { OnOk result (IsBalanced system.now flow.new) }
 {
     let proposal = propose(alloc, system)?;
-    let optimal = is_optimal(alloc, system, &proposal.numbers, &proposal.flow)?;
-    if optimal && proposal.numbers.len() == numbers.len() && proposal.flow.len() == flow.len() {
-        numbers.copy_from_slice(&proposal.numbers);
+    let optimal = is_optimal(alloc, system, &proposal.potentials, &proposal.flow)?;
+    if optimal && proposal.potentials.len() == numbers.len() && proposal.flow.len() == flow.len() {
+        numbers.copy_from_slice(&proposal.potentials);
         flow.copy_from_slice(&proposal.flow);
         return Ok(());
     }

@@ -1,7 +1,6 @@
 -- The flow lines of a flow: one for each constraint that carries some.
 use Rattle.std.specs.Prelude.{ℕ, zero, suc, ◌-◌, List, [], ◌∷◌, ◌++◌, map, filter, nat_lt}
 use Rattle.std.specs.List.{range_with_len}
-use Rattle.raster_delay.specs.declared.placed.PlacedRead.{PlacedRead}
 use Rattle.raster_delay.specs.Systems.{Parts as System, image_count, placed_reads}
 use Rattle.report_text.specs.declared.report.FlowLine.{FlowLine}
 use Rattle.report_text.specs.declared.report.FlowLine.TheVariants.{Hold, Start, Read, Keep}
@@ -14,7 +13,7 @@ makers s =
     ++ map (λ r n. Read r.f r.g r.dx r.dy n) (placed_reads s))
     ++ map (λ r n. Keep r.f r.g r.dx r.dy n) (placed_reads s)
 
--- those that are not 0
+-- the flow lines of a flow: one for each constraint whose flow is not 0
 abbrev pub carried : List (ℕ → FlowLine) → List ℕ → List FlowLine
 carried [] flow = []
 carried (line ∷ lines) [] = []

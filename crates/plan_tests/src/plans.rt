@@ -23,7 +23,7 @@ fn worth(constraints: &[Constraint], flow: &[u64]) -> i128 {
 // No clause says that the simplex proposes an optimum, and without it `solve` would be slow.
 fn is_proposed(alloc: Global, system: &System) -> Result<bool, OutOfMemory> {
     let proposal = propose(alloc, system)?;
-    is_optimal(alloc, system, &proposal.numbers, &proposal.flow)
+    is_optimal(alloc, system, &proposal.potentials, &proposal.flow)
 }
 
 #[test]

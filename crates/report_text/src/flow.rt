@@ -120,8 +120,7 @@ fn is_less(a: (u8, usize, usize, i32, i32), b: (u8, usize, usize, i32, i32)) -> 
         || (a.0 == b.0
             && (a.1 < b.1
                 || (a.1 == b.1
-                    && (a.2 < b.2
-                        || (a.2 == b.2 && (a.3 < b.3 || (a.3 == b.3 && a.4 < b.4)))))))
+                    && (a.2 < b.2 || (a.2 == b.2 && (a.3 < b.3 || (a.3 == b.3 && a.4 < b.4)))))))
 }
 
 // Whether a flow line stands before another one.
