@@ -21,7 +21,7 @@ CHAPTERS = [
     ("What `run` and `compile` promise", ["IsGoodPair", "IsHeldRun", "NotedRun", "IsCompiledText"]),
     ("When `run` ends otherwise, and what it leaves", ["IsRunAnswer", "CreatesRun", "HoldsAtWrite", "LeavesAtFault", "LeavesAtRead", "IsFaultAt", "IsImageFault"]),
     ("What makes a module well formed, and its inside", ["IsWhole", "IsApart", "IsReadOnce", "shapes_of", "KeepsRules"]),
-    ("The form of a program, its live reads and its limits", ["AreStencilsOf", "IsForm", "IsFront"]),
+    ("The form of a program, its live reads and its limits", ["dk_compile.Sources.IsAccepted", "AreStencilsOf", "IsForm", "IsFront"]),
     ("Tokens, grammar and types of a program", ["dk_compile.Sources.IsText", "dk_compile.Sources.IsFault"]),
     ("Verilog texts", ["StandsFor", "verilog_text.Faults.IsFault"]),
     ("The frame of the outside", ["OnFiles", "HasCauseIn", "Rose", "IsFresh", "AsksOnly", "AsksWhere", "CreatesNothing", "CreatesOut", "FilesStay", "GainsLine", "WritesNothing", "IsOrMemory"]),
@@ -101,8 +101,8 @@ def read_types(crate, folder):
     found = {}
     for path in sorted(glob.glob(f"{folder}/src/*.rt")):
         text = open(path, encoding="utf-8").read()
-        for match in re.finditer(r"((?:^[ \t]*///[^\n]*\n|^#\[[^\n]*\]\n)*)^(pub(?:\(crate\))? )?(struct|enum) (\w+)[^{;]*(\{\n.*?^\}|;)", text, re.M | re.S):
-            doc = " ".join(line.strip()[3:].strip() for line in match[1].split("\n") if line.strip().startswith("///"))
+        for match in re.finditer(r"((?:^[ \t]*///?(?!!)[^\n]*\n|^#\[[^\n]*\]\n)*)^(pub(?:\(crate\))? )?(struct|enum) (\w+)[^{;]*(\{\n.*?^\}|;)", text, re.M | re.S):
+            doc = " ".join(line.strip().lstrip("/").strip() for line in match[1].split("\n") if line.strip().startswith("//"))
             module = Module(f"Rattle.{crate}.specs.declared", os.path.relpath(path, TOP))
             body = match[0][len(match[1]):]
             found[match[4]] = Definition(module, match[4], body, doc)
@@ -155,7 +155,12 @@ def named(modules, types, item):
     found, done = [], set()
     for match in WORD.finditer(text):
         word = match[0]
-        other = find(modules, types, item.module, word)
+        behind = re.search(r"([^\s(){}\[\],;.]+)\.$", text[: match.start()])
+        if behind and item.module.uses.get(behind[1], ("", ""))[1] is None and modules.get(item.module.uses[behind[1]][0]):
+            # of a module that stands under a name of its own
+            other = find(modules, types, modules[item.module.uses[behind[1]][0]], word)
+        else:
+            other = find(modules, types, item.module, word)
         if other is None and "." in text[match.start() - 1 : match.end() + 1]:
             continue
         if other is not None and other is not item and id(other) not in done:
