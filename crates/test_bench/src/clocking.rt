@@ -20,9 +20,7 @@ ghost use Rattle.test_bench.specs.Given.{rounds_of};
 ghost use Rattle.test_bench.specs.Clocking.{Extends, AreKept, ShowsBlock, StopsBlock, sample_of, pairs_of, GoOn, IsBench, Clocked, StopsIn, IsFed};
 
 use crate::block::{BLOCK_PIXELS, Block, fill_block};
-use crate::drive::is_held_after;
 use crate::picture::Shown;
-use crate::pixels::fill_dins;
 use crate::stop::Stop;
 use block_sim::{Blocks, Stop as BlockStop};
 use cycle_sim::{IndexRange, Out};
@@ -129,49 +127,6 @@ pub fn clock<D: Desk>(
             Ok(())
         }
     }
-}
-
-// A held clock, where one comes now.
-fn hold<D: Desk>(desk: &mut D, bench: &mut Bench, comes: bool, held: &[u64]) -> Result<(), Stop>
-    requires bench { IsBench bench.old }
-    requires held { held.now ≡ greatest_dins (din_widths bench.old.sim.netlist) }
-    requires few { bench.old.made < 2 ^ 62 }
-    ensures only { D.outside desk.new ≡ record (D.outside desk.old) { notes = (D.outside desk.new).notes } }
-    ensures ok { OnOk result (Clocked bench.old.sim.netlist (if comes then held_clock (din_widths bench.old.sim.netlist) ∷ [] else []) bench.old bench.new (D.outside desk.old).notes (D.outside desk.new).notes) }
-    ensures stop { IfErr result (StopsIn bench.old.sim.netlist bench.old.sim.contents bench.old.made (if comes then held_clock (din_widths bench.old.sim.netlist) ∷ [] else [])) }
-{
-    if comes {
-        clock(desk, bench, false, false, held)
-    } else {
-        Ok(())
-    }
-}
-
-/// The clock of this number, counted from 0, in which each din has its pixel of that number, and the held one behind it, if one follows.
-pub fn pixel_clocks<D: Desk>(
-    desk: &mut D,
-    bench: &mut Bench,
-    feed: &Feed,
-    rounds: &[Round],
-    number: u64,
-    dins: &mut Vec<u64>,
-) -> Result<(), Stop>
-    requires bench { IsBench bench.old }
-    requires fed { (size : Size) × IsFed bench.old.sim.netlist size feed.now rounds.now }
-    requires dins { length dins.old.items ≡ length (din_widths bench.old.sim.netlist) }
-    requires few { bench.old.made < 2 ^ 61 }
-    requires number { number + 1 < 2 ^ 60 }
-    ensures dins { length dins.new.items ≡ length dins.old.items }
-    ensures few { OnOk result (bench.new.made ≤ bench.old.made + 2) }
-    ensures only { D.outside desk.new ≡ record (D.outside desk.old) { notes = (D.outside desk.new).notes } }
-    ensures ok { OnOk result (Clocked bench.old.sim.netlist (clocks_at feed.now.hold (din_widths bench.old.sim.netlist) (rounds_of rounds.now) number) bench.old bench.new (D.outside desk.old).notes (D.outside desk.new).notes) }
-    ensures stop { IfErr result (StopsIn bench.old.sim.netlist bench.old.sim.contents bench.old.made (clocks_at feed.now.hold (din_widths bench.old.sim.netlist) (rounds_of rounds.now) number)) }
-{
-    fill_dins(rounds, feed.area, number, dins);
-    clock(desk, bench, false, true, dins)?;
-    let comes = is_held_after(feed.hold, number);
-    hold(desk, bench, comes, &feed.held)?;
-    Ok(())
 }
 
 // Adds what each output shows in each of so many clocks to its picture, the outputs of a clock behind those of the clock before.

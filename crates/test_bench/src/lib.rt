@@ -14,7 +14,7 @@ mod writing;
 
 pub use bench::{dins_of, run_bench, set_up};
 pub use block::BLOCK_PIXELS;
-pub use clocking::{Bench, Feed, all_clocks, clock, pixel_clocks};
+pub use clocking::{Bench, Feed, all_clocks, clock};
 pub use drive::{Drive, is_held_after};
 pub use input::{BenchInput, read_input};
 pub use laws::{one_bench, one_input};
