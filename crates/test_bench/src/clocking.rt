@@ -1,6 +1,6 @@
 // The clocks of a test bench.
 
-ghost use Rattle.std.specs.Prelude.{◌≡◌, ℕ, ◌+◌, ◌*◌, ◌^◌, ◌<◌, ◌≤◌, ◌++◌, [], ◌∷◌, List, take, length, IfErr, OnOk, OnErr, Some, slice_get, if◌then◌else◌, vec_capacity, pos, ◌-ℤ◌};
+ghost use Rattle.std.specs.Prelude.{◌≡◌, ℕ, ◌+◌, ◌*◌, ◌^◌, ◌<◌, ◌≤◌, ◌++◌, [], ◌∷◌, List, take, length, IfErr, OnOk, Some, slice_get, vec_capacity, pos, ◌-ℤ◌};
 ghost use Rattle.std.specs.List.{All, flat_map, range_with_len};
 ghost use Rattle.dk_base.specs.declared.TheConstants.{MAX_PORT_WIDTH};
 ghost use Rattle.dk_base.specs.Frames.{Size};
@@ -13,9 +13,8 @@ ghost use Rattle.test_bench.specs.declared.block.TheConstants.{BLOCK_PIXELS};
 ghost use Rattle.test_bench.specs.Blocks.{AreShownIn};
 ghost use Rattle.cycle_sim.specs.declared.ports.Out.{Out as Ports};
 ghost use Rattle.cycle_sim.specs.Ports.{din_widths, AreShown};
-ghost use Rattle.pgm_rounds.specs.declared.round.Round.{Round as FrameRound};
 ghost use Rattle.test_bench.specs.declared.picture.Shown.{Shown as Picture};
-ghost use Rattle.test_bench.specs.Stimulus.{dins_at, greatest_dins, reset_clock, held_clock, clocks_at};
+ghost use Rattle.test_bench.specs.Stimulus.{reset_clock, clocks_at};
 ghost use Rattle.test_bench.specs.Given.{rounds_of};
 ghost use Rattle.test_bench.specs.Clocking.{Extends, AreKept, ShowsBlock, StopsBlock, sample_of, pairs_of, GoOn, IsBench, Clocked, StopsIn, IsFed};
 
