@@ -1,5 +1,7 @@
 //! Each call of the desk fails in turn, in pieces of one byte and of 4,096: what is left is what docs/PROMISES.md says.
 
+ghost use Rattle.std.specs.Prelude.{◌<◌};
+
 use crate::commands::{NONE, desk, words};
 use dk_base::OutOfMemory;
 use dk_desk::Desk;
