@@ -105,13 +105,13 @@ tried() {
 
 # built PROGRAM INPUT SEED OPTION..: under Verilator
 built() {
-    input=$2 name=$1 seed=$3
+    built=$1 input=$2 seed=$3
     shift 3
     has verilator || return
-    "$program" compile "$name" dk.v "$@"
-    clocks=$("$program" plan "$name" | sed -n 's/^clocks //p')
-    "$program" run "$name" "$input" wanted.pgm
-    verilated "$seed" "$name $*"
+    "$program" compile "$built" dk.v "$@"
+    clocks=$("$program" plan "$built" | sed -n 's/^clocks //p')
+    "$program" run "$built" "$input" wanted.pgm
+    verilated "$seed" "$built $*"
 }
 
 # synthesized PROGRAM: the text is taken through all of Yosys's steps
