@@ -16,7 +16,7 @@ use Rattle.raster_delay.specs.Delays.{IsNear, offset, age_of, depth_of}
 use Rattle.raster_delay.specs.Placing.{placed}
 use Rattle.raster_delay.specs.Systems.{placed_reads, widths}
 use Rattle.raster_delay.proofs.Places.{system_form}
-use Rattle.buffer_plan.specs.Plans.{Parts, ages_in, ages_of, AreAges, place_in, read_age, IsPlan, last_of}
+use Rattle.buffer_plan.specs.Plans.{Plan, ages_in, ages_of, AreAges, place_in, read_age, IsPlan, last_of}
 use Rattle.buffer_plan.specs.Plans as P
 use Rattle.buffer_plan.proofs.Distinct.{head_in, tail_in, one_of, none_in, same_tests, picked, distinct_once, last_is}
 
@@ -76,7 +76,7 @@ module _ (row : ℕ) (d : List ℕ) (k : ℕ) where
         | inr h ↦ rest h
       ]
 
-module _ (p : Parts) (g : ℕ) where
+module _ (p : Plan) (g : ℕ) where
   abbrev all : List ℕ
   all = ages_in p.system.stencils.width p.delays (place_in p g) (placed_reads p.system)
 
@@ -115,7 +115,7 @@ All-at P xs x (k, lt, e) each = subst P e (each k x lt)
 Contains-map : {X Y : Type 0} (f : X → Y) (xs : List X) (x : X) → Contains xs x → Contains (map f xs) (f x)
 Contains-map f xs x (k, lt, e) = (k, (let h : k < length (map f xs) = omega (arith, lt, length-map xs f) in h), get_or-map f xs k x (f x) lt ∙ ap f e)
 
-pub depth_most : (p : Parts) → IsPlan p → (g : ℕ) → IsKept p.system.stencils.images g → P.depth_of p g ≤ MAX_BUFFER_BITS
+pub depth_most : (p : Plan) → IsPlan p → (g : ℕ) → IsKept p.system.stencils.images g → P.depth_of p g ≤ MAX_BUFFER_BITS
 depth_most p is g kept =
     let images = p.system.stencils.images in
     let none : Image = record { number = 0; width = 0 } in
@@ -130,7 +130,7 @@ depth_most p is g kept =
     omega (arith, bound, most, moved)
 
 -- a live read of a plan
-module _ (p : Parts) (is : IsPlan p) (r : LiveRead) (has : Contains p.system.stencils.reads r) where
+module _ (p : Plan) (is : IsPlan p) (r : LiveRead) (has : Contains p.system.stencils.reads r) where
   abbrev images : List Image
   images = p.system.stencils.images
 

@@ -1,7 +1,7 @@
 -- A system has one least vector, and one limit that it passes first.
 use Rattle.std.proofs.Common.{◌≡◌, ◌⊎◌, ◌∙◌, ℕ, ◌<◌, List, length, inl, inr, refl, sym, ap, arith}
 use Rattle.std.proofs.lemmas.List.{ext_get_or}
-use Rattle.raster_delay.specs.Systems.{Parts as System, image_count, bits}
+use Rattle.raster_delay.specs.Systems.{System, image_count, bits}
 use Rattle.flow_dual.specs.Solutions.{IsLeastVector}
 use Rattle.buffer_plan.specs.declared.fault.PlanFault.{PlanFault}
 use Rattle.buffer_plan.specs.declared.fault.PlanFault.TheVariants.{Bits, Latency, OutOfMemory}

@@ -3,7 +3,7 @@ use Rattle.std.specs.Prelude.{◌≡◌, ℕ, ◌<◌, ◌≤◌, max, List, [],
 use Rattle.dk_base.specs.declared.stencils.Image.{Image}
 use Rattle.dk_base.specs.declared.TheConstants.{MAX_BUFFER_BITS, MAX_LATENCY}
 use Rattle.dk_base.specs.Stencils.{place}
-use Rattle.raster_delay.specs.Systems.{Parts as System, bits}
+use Rattle.raster_delay.specs.Systems.{System, bits}
 use Rattle.flow_dual.specs.Solutions.{IsLeastVector}
 use Rattle.buffer_plan.specs.declared.fault.PlanFault.{PlanFault}
 use Rattle.buffer_plan.specs.declared.fault.PlanFault.TheVariants.{Bits, Latency, OutOfMemory}

@@ -29,9 +29,9 @@ pub struct Plan {
 }
 
 impl Model for Plan {
-    ghost use Rattle.buffer_plan.specs.Plans.{Parts, IsHeld};
+    ghost use Rattle.buffer_plan.specs.Plans.{Plan as ThePlan, IsHeld};
 
-    ghost Value = { Parts };
+    ghost Value = { ThePlan };
 
     ghost view = { λ p. record { system = record { stencils = record { width = p.width; height = p.height; inputs = p.inputs; outputs = p.outputs.items; images = p.images.items; reads = p.reads.items }; age = p.age }; delays = p.delays.items } };
 

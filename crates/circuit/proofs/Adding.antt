@@ -27,7 +27,7 @@ use Rattle.net_build.specs.Counters.{AddsControl}
 use Rattle.wiring.specs.Rules.{IsPortWidth}
 use Rattle.pointwise_ir.specs.Programs.{Program, IsProgram, IsOutput, types_of}
 use Rattle.pointwise_ir.specs.Stencils.{AreStencilsOf}
-use Rattle.buffer_plan.specs.Plans.{Parts, IsPlan, place_in, read_age}
+use Rattle.buffer_plan.specs.Plans.{Plan, IsPlan, place_in, read_age}
 use Rattle.buffer_plan.proofs.Aged.{placed_in}
 use Rattle.circuit.specs.Rounds.{type_at}
 use Rattle.circuit.specs.Taps.{Keeps, IsReading}
@@ -39,7 +39,7 @@ use Rattle.circuit.proofs.Bodied.{read_of, read_is_between}
 use Rattle.circuit.proofs.Building.{built_more, entry_kept, place_of_entry}
 
 -- The image i, at place k among the kept ones.
-module _ (b0 : Netlist) (p : Program) (plan : Parts) (shapes : Shapes) (places : Places) (property : Property) (k : ℕ) (nets : List Net) (taps : List (List Net)) (i : Image)
+module _ (b0 : Netlist) (p : Program) (plan : Plan) (shapes : Shapes) (places : Places) (property : Property) (k : ℕ) (nets : List Net) (taps : List (List Net)) (i : Image)
     (is_plan : IsPlan plan) (stencils : AreStencilsOf p plan.system.stencils) (at : slice_get plan.system.stencils.images k ≡ Some i) (built : AreBuilt b0 p plan shapes places property k nets taps) where
   abbrev images : List Image
   images = plan.system.stencils.images
@@ -99,7 +99,7 @@ pub image_at : (images xs : List Image) (k : ℕ) (d : Image) → xs ≡ images 
 image_at images xs k d same lt = subst (λ (ys : List Image). slice_get images k ≡ Some (slice_index_or ys k d)) (sym same) (slice_get-get_or images k d lt)
 
 -- with ports alone nothing is built
-pub built_none : (b : Netlist) (p : Program) (plan : Parts) (shapes : Shapes) (places : Places) (property : Property) (enable : Bool) → b ≡ ports_of p enable → AllUpdated b → StillBut b [] → NeverStops b → IsControlled b → AreBuilt b p plan shapes places property 0 [] []
+pub built_none : (b : Netlist) (p : Program) (plan : Plan) (shapes : Shapes) (places : Places) (property : Property) (enable : Bool) → b ≡ ports_of p enable → AllUpdated b → StillBut b [] → NeverStops b → IsControlled b → AreBuilt b p plan shapes places property 0 [] []
 built_none b p plan shapes places property enable is updated still stops control = record {
   ports = subst (λ (m : Netlist). Includes m (ports_of p m.enable)) (sym is) (Includes-refl (ports_of p enable));
   net_count = refl;

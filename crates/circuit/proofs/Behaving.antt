@@ -32,7 +32,7 @@ use Rattle.net_build.proofs.Finished.{output_shown}
 use Rattle.net_build.proofs.Standing.{held_same}
 use Rattle.pointwise_ir.specs.Programs.{Program}
 use Rattle.pointwise_ir.specs.Stencils.{AreStencilsOf}
-use Rattle.buffer_plan.specs.Plans.{Parts, IsPlan, place_in, ages_of, delay_of, width_of, depth_of, latency_of, bits_of}
+use Rattle.buffer_plan.specs.Plans.{Plan, IsPlan, place_in, ages_of, delay_of, width_of, depth_of, latency_of, bits_of}
 use Rattle.buffer_plan.proofs.Aged.{are_ages}
 use Rattle.line_buffer.specs.Streams.{BufferIsRight}
 use Rattle.line_buffer.specs.Places.{word_at}
@@ -53,14 +53,14 @@ use Rattle.circuit.proofs.Forming.{plan_depth}
 use Rattle.circuit.proofs.Leaving.{flat_at}
 
 -- the arrays of an image that has this one among them
-record Owns (shapes : Shapes) (plan : Parts) (images : List Image) (x : ℕ) : Type 0 where
+record Owns (shapes : Shapes) (plan : Plan) (images : List Image) (x : ℕ) : Type 0 where
   pub number : ℕ
   pub image : Image
   pub at : slice_get images number ≡ Some image
   pub low : length (shapes_of shapes plan (take number images)) ≤ x
   pub high : x < length (shapes_of shapes plan (take number images)) + length (shapes plan image.number)
 
-owner : (shapes : Shapes) (plan : Parts) (images : List Image) (x : ℕ) → x < length (shapes_of shapes plan images) → Owns shapes plan images x
+owner : (shapes : Shapes) (plan : Plan) (images : List Image) (x : ℕ) → x < length (shapes_of shapes plan images) → Owns shapes plan images x
 owner shapes plan [] x lt = absurd (let f : ⊥ = omega (arith, lt) in f)
 owner shapes plan (i ∷ images) x lt =
     elim (cases_lt x (length (shapes plan i.number))) as (λ _. Owns shapes plan (i ∷ images) x) [
@@ -81,7 +81,7 @@ owner shapes plan (i ∷ images) x lt =
     ]
 
 -- what was built for a kept image
-line_at : (b : Netlist) (p : Program) (plan : Parts) (shapes : Shapes) (places : Places) (property : Property) (nets : List Net) (taps : List (List Net)) → AreBuilt b p plan shapes places property (length plan.system.stencils.images) nets taps →
+line_at : (b : Netlist) (p : Program) (plan : Plan) (shapes : Shapes) (places : Places) (property : Property) (nets : List Net) (taps : List (List Net)) → AreBuilt b p plan shapes places property (length plan.system.stencils.images) nets taps →
     (g : ℕ) → Keeps plan g → IsLine b p plan shapes places property taps g (net_of plan nets g)
 line_at b p plan shapes places property nets taps built g kept =
     let images = plan.system.stencils.images in
@@ -90,11 +90,11 @@ line_at b p plan shapes places property nets taps built g kept =
     subst (λ (j : ℕ). IsLine b p plan shapes places property taps j (net_of plan nets g)) number (built.line (place_in plan g) (slice_index_or images (place_in plan g) none) kept (slice_get-get_or images (place_in plan g) none kept))
 
 -- the images of outputs are kept
-output_kept : (plan : Parts) (k : ℕ) → IsPlan plan → k < length plan.system.stencils.outputs → Keeps plan (output_in plan k)
+output_kept : (plan : Plan) (k : ℕ) → IsPlan plan → k < length plan.system.stencils.outputs → Keeps plan (output_in plan k)
 output_kept plan k is lt = is.system.stencils.outputs.outputs_kept k 0 lt
 
 -- the outputs of what is built can be driven
-pub can_end : (b : Netlist) (p : Program) (plan : Parts) (shapes : Shapes) (places : Places) (property : Property) (nets : List Net) (taps : List (List Net)) → IsPlan plan → AreStencilsOf p plan.system.stencils →
+pub can_end : (b : Netlist) (p : Program) (plan : Plan) (shapes : Shapes) (places : Places) (property : Property) (nets : List Net) (taps : List (List Net)) → IsPlan plan → AreStencilsOf p plan.system.stencils →
     AreBuilt b p plan shapes places property (length plan.system.stencils.images) nets taps → CanEnd b plan nets
 can_end b p plan shapes places property nets taps is stencils built = record {
   count = built.net_count;
@@ -114,7 +114,7 @@ can_end b p plan shapes places property nets taps is stencils built = record {
         let within : k < length p.outputs = omega (arith, lt, ap length stencils.outputs) in
         ap (λ (os : List ℕ). bits_of_type (type_at p (slice_index os k))) stencils.outputs ∙ sym (get_or-map (λ (g : ℕ). bits_of_type (type_at p g)) p.outputs k 0 0 within)
 
-module _ (m b : Netlist) (p : Program) (plan : Parts) (shapes : Shapes) (places : Places) (property : Property) (nets : List Net) (taps : List (List Net))
+module _ (m b : Netlist) (p : Program) (plan : Plan) (shapes : Shapes) (places : Places) (property : Property) (nets : List Net) (taps : List (List Net))
     (is : IsPlan plan) (stencils : AreStencilsOf p plan.system.stencils) (built : AreBuilt b p plan shapes places property (length plan.system.stencils.images) nets taps) (closed : IsClosed m b plan nets) where
   abbrev images : List Image
   images = plan.system.stencils.images

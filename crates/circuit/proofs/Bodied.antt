@@ -31,7 +31,7 @@ use Rattle.edge_select.specs.Pixels.{IsBitOf}
 use Rattle.edge_select.proofs.Walks.{pixel_inside}
 use Rattle.edge_select.proofs.Raster.{some_area}
 use Rattle.datapath.specs.Expressions.{IsLowered, type_of, types_in, type_or, worth_in, worth_or, set_in}
-use Rattle.buffer_plan.specs.Plans.{Parts, IsPlan, delay_of}
+use Rattle.buffer_plan.specs.Plans.{Plan, IsPlan, delay_of}
 use Rattle.circuit.specs.Runs.{IsRunning}
 use Rattle.circuit.specs.Rounds.{Rounds, AreRounds, type_at, pixel_count, pictures_in, pixel_bits}
 use Rattle.circuit.specs.Leaves.{LeafRead, reads_of, bits_of, ReadIsRight, BitIsRight}
@@ -82,7 +82,7 @@ passing_in test (y ∷ xs) x has t = by (test y) refl has (λ h. passing_in test
     by false u (suc k, lt, e) rest = rest (k, (let h : k < length xs = omega (arith, lt) in h), e)
 
 -- the reads of image f are reads of the plan
-pub read_of : (plan : Parts) (f : ℕ) (r : LiveRead) → Contains (reads_in plan f) r → Contains plan.system.stencils.reads r × (r.f ≡ f)
+pub read_of : (plan : Plan) (f : ℕ) (r : LiveRead) → Contains (reads_in plan f) r → Contains plan.system.stencils.reads r × (r.f ≡ f)
 read_of plan f r has =
     let both = passed_in (λ (q : LiveRead). q.f == f) plan.system.stencils.reads r has in
     (both.0, equal r.f f both.1)
@@ -90,7 +90,7 @@ read_of plan f r has =
     equal : (a b : ℕ) → (a == b) ≡ true → a ≡ b
     equal a b h = grind (arith, nat_tests, h)
 
-pub read_is_between : (plan : Parts) → IsPlan plan → (r : LiveRead) → Contains plan.system.stencils.reads r → IsRead plan.system.stencils.width plan.system.stencils.height plan.system.stencils.inputs plan.system.stencils.images r
+pub read_is_between : (plan : Plan) → IsPlan plan → (r : LiveRead) → Contains plan.system.stencils.reads r → IsRead plan.system.stencils.width plan.system.stencils.height plan.system.stencils.inputs plan.system.stencils.images r
 read_is_between plan is r (k, lt, e) = subst (IsRead plan.system.stencils.width plan.system.stencils.height plan.system.stencils.inputs plan.system.stencils.images) e (is.system.stencils.reads.between k r lt)
 
 has_entry : (reads : List LiveRead) (f g : ℕ) (dx dy : ℤ) → Has reads f g dx dy → (r : LiveRead) × Contains reads r × IsThe r f g dx dy
@@ -100,18 +100,18 @@ has_entry (r ∷ rs) f g dx dy (inr rest) =
     let (q, (k, lt, e), is) = has_entry rs f g dx dy rest in
     (q, (suc k, (let h : suc k < length (r ∷ rs) = omega (arith, lt) in h), e), is)
 
-pub size_is : (p : Program) (plan : Parts) → AreStencilsOf p plan.system.stencils → size_in plan ≡ p.size
+pub size_is : (p : Program) (plan : Plan) → AreStencilsOf p plan.system.stencils → size_in plan ≡ p.size
 size_is p plan are = ap (λ (w : ℕ). record { width = w; height = plan.system.stencils.height }) are.width ∙ ap (λ (h : ℕ). record { width = p.size.width; height = h }) are.height
 
 -- an image that the plan keeps is kept in the program
-pub kept_is : (p : Program) (plan : Parts) (g : ℕ) → AreStencilsOf p plan.system.stencils → Keeps plan g → Kept p g
+pub kept_is : (p : Program) (plan : Plan) (g : ℕ) → AreStencilsOf p plan.system.stencils → Keeps plan g → Kept p g
 kept_is p plan g are kept =
     let images = plan.system.stencils.images in
     let none : Image = record { number = 0; width = 0 } in
     subst (Kept p) (at_place images g none kept) (are.images.sound (place images g) none kept).kept
 
 -- where a leaf's steps lead the read is live, so the plan has it
-live_read : (p : Program) (plan : Parts) (f g : ℕ) (dx dy : ℤ) → AreStencilsOf p plan.system.stencils → Keeps plan f → IsLive p f g dx dy → (r : LiveRead) × Contains (reads_in plan f) r × (r.g ≡ g) × (r.dx ≡ dx) × (r.dy ≡ dy)
+live_read : (p : Program) (plan : Plan) (f g : ℕ) (dx dy : ℤ) → AreStencilsOf p plan.system.stencils → Keeps plan f → IsLive p f g dx dy → (r : LiveRead) × Contains (reads_in plan f) r × (r.g ≡ g) × (r.dx ≡ dx) × (r.dy ≡ dy)
 live_read p plan f g dx dy are kept live =
     let (r, has, is) = has_entry plan.system.stencils.reads f g dx dy ((are.reads.exact f g dx dy).1 (record { kept = kept_is p plan f are kept; live = live })) in
     (r, passing_in (λ (q : LiveRead). q.f == f) plan.system.stencils.reads r has (same r.f f is.reader), is.source, is.across, is.down)
@@ -135,7 +135,7 @@ pub types_of_reads : (reads : List (Ty × Net)) (i : ℕ) (n : Ty × Net) (t : T
 types_of_reads reads i n t at e = ap type_or at ∙ e
 
 -- The body e of image f, over the nets of its leaves.
-module _ (b first : Netlist) (p : Program) (plan : Parts) (taps : List (List Net)) (f : ℕ) (e : Tree) (reads : List (Ty × Net)) (bits : List Net) (net : Net)
+module _ (b first : Netlist) (p : Program) (plan : Plan) (taps : List (List Net)) (f : ℕ) (e : Tree) (reads : List (Ty × Net)) (bits : List Net) (net : Net)
     (is_program : IsProgram p) (is_plan : IsPlan plan) (stencils : AreStencilsOf p plan.system.stencils) (kept : Keeps plan f) (body : IsBody p f e)
     (meant : (round : List Picture) → length round ≡ length p.inputs → (x y : ℤ) → picture_at (pictures p round) f x y ≡ framed p.size (value p.size (pictures p round) e) x y)
     (values : (round : List Picture) → IsRound p round → (g : ℕ) (t : Ty) → slice_get (types_of p) g ≡ Some t → IsPicture p.size t (picture_at (pictures p round) g))

@@ -21,7 +21,7 @@ use Rattle.datapath.proofs.Meant.{value_of_leaves}
 use Rattle.edge_select.specs.declared.step.Step.{Step}
 use Rattle.edge_select.specs.Steps.{LeadOn}
 use Rattle.edge_select.specs.Pixels.{IsBitOf}
-use Rattle.buffer_plan.specs.Plans.{Parts}
+use Rattle.buffer_plan.specs.Plans.{Plan}
 use Rattle.circuit.specs.Runs.{IsRunning}
 use Rattle.circuit.specs.Rounds.{Rounds, type_at, pictures_in, pixel, pixel_bits}
 use Rattle.circuit.specs.Leaves.{LeafRead, reads_of, bits_of, ReadIsRight, BitIsRight}
@@ -39,7 +39,7 @@ bit_right size x y steps s o n e (inr off) =
     never : IsTrue (nat_eq 0 1) → ⊥
     never h = cc
 
-module _ (b m : Netlist) (from : Contents) (before : List Clock) (c : Clock) (s : Snapshot) (is : IsRunning b m from before c s) (p : Program) (rounds : Rounds) (plan : Parts) (f q : ℕ) (e : Tree) (reads : List (Ty × Net)) (bits : List Net) (net : Net)
+module _ (b m : Netlist) (from : Contents) (before : List Clock) (c : Clock) (s : Snapshot) (is : IsRunning b m from before c s) (p : Program) (rounds : Rounds) (plan : Plan) (f q : ℕ) (e : Tree) (reads : List (Ty × Net)) (bits : List Net) (net : Net)
     (lowered : IsLowered b e reads bits net) (typed : type_of e (types_in reads) 0 ≡ type_at p f)
     (read : (i : ℕ) (leaf : LeafRead) → slice_get (reads_of e []) i ≡ Some leaf → ReadIsRight p.size (pictures_in p rounds (frame_of p.size q)) (column p.size q) (row p.size q) leaf (worth_in s reads i))
     (bit : (i : ℕ) (steps : List Step) → slice_get (bits_of e []) i ≡ Some steps → BitIsRight p.size (column p.size q) (row p.size q) steps (set_in s bits i))

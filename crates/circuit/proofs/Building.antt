@@ -29,7 +29,7 @@ use Rattle.net_build.proofs.Reading.{reads_joined, none_reads}
 use Rattle.net_build.proofs.Indexed.{reads_last, puts_last}
 use Rattle.net_build.proofs.Updating.{all_updated}
 use Rattle.pointwise_ir.specs.Programs.{Program}
-use Rattle.buffer_plan.specs.Plans.{Parts, IsPlan, place_in, ages_of, read_age}
+use Rattle.buffer_plan.specs.Plans.{Plan, IsPlan, place_in, ages_of, read_age}
 use Rattle.line_buffer.specs.Buffers.{is_buffer, is_new, IsBuffer, AreMadeOfBuffer}
 use Rattle.line_buffer.proofs.Adding.{is_le}
 use Rattle.line_buffer.proofs.Lasting.{buffer_more, buffer_made_more}
@@ -82,7 +82,7 @@ old_array old x lt = by (is_new old x) refl
     by true e = absurd (let h : length old.arrays ≤ x = is_le (length old.arrays) x e in let f : ⊥ = omega (arith, h, lt) in f)
 
 -- What has been built lasts, as more is built behind it, and the taps of these images stay.
-module _ (new old : Netlist) (p : Program) (plan : Parts) (shapes : Shapes) (places : Places) (property : Property) (taps more : List (List Net)) (same_taps : (g : ℕ) → place_in plan g < length taps → taps_at plan more g ≡ taps_at plan taps g)
+module _ (new old : Netlist) (p : Program) (plan : Plan) (shapes : Shapes) (places : Places) (property : Property) (taps more : List (List Net)) (same_taps : (g : ℕ) → place_in plan g < length taps → taps_at plan more g ≡ taps_at plan taps g)
     (grows : Includes new old) (reads : AddsReads new old (is_new old)) (differ : UpdatesDiffer new.updates) (updated : UpdatedBut old []) where
   module _ (g : ℕ) (net : Net) (there : place_in plan g < length taps) (end : end_array shapes plan g ≤ length old.arrays)
       (earlier : (h : ℕ) → h < g → Keeps plan h → place_in plan h < length taps) (is : IsLine old p plan shapes places property taps g net) where
@@ -112,14 +112,14 @@ module _ (new old : Netlist) (p : Program) (plan : Parts) (shapes : Shapes) (pla
     }
 
 -- arrays of images one after another
-shapes_push : (shapes : Shapes) (plan : Parts) (images : List Image) (k : ℕ) (i : Image) → slice_get images k ≡ Some i → shapes_of shapes plan (take (suc k) images) ≡ shapes_of shapes plan (take k images) ++ shapes plan i.number
+shapes_push : (shapes : Shapes) (plan : Plan) (images : List Image) (k : ℕ) (i : Image) → slice_get images k ≡ Some i → shapes_of shapes plan (take (suc k) images) ≡ shapes_of shapes plan (take k images) ++ shapes plan i.number
 shapes_push shapes plan [] k i at = absurd (let f : ⊥ = cc in f)
 shapes_push shapes plan (j ∷ images) zero i at =
     let same : j ≡ i = cc in
     append-nil (shapes plan j.number) ∙ ap (λ (x : Image). shapes plan x.number) same
 shapes_push shapes plan (j ∷ images) (suc k) i at = ap (λ ss. shapes plan j.number ++ ss) (shapes_push shapes plan images k i at) ∙ sym (append_assoc (shapes plan j.number) (shapes_of shapes plan (take k images)) (shapes plan i.number))
 
-ends_within : (shapes : Shapes) (plan : Parts) (images : List Image) (j k : ℕ) (i : Image) → slice_get images j ≡ Some i → j < k → length (shapes_of shapes plan (take j images)) + length (shapes plan i.number) ≤ length (shapes_of shapes plan (take k images))
+ends_within : (shapes : Shapes) (plan : Plan) (images : List Image) (j k : ℕ) (i : Image) → slice_get images j ≡ Some i → j < k → length (shapes_of shapes plan (take j images)) + length (shapes plan i.number) ≤ length (shapes_of shapes plan (take k images))
 ends_within shapes plan [] j k i at lt = absurd (let f : ⊥ = cc in f)
 ends_within shapes plan (x ∷ images) j zero i at lt = absurd (let f : ⊥ = omega (arith, lt) in f)
 ends_within shapes plan (x ∷ images) zero (suc k) i at lt =
@@ -147,16 +147,16 @@ any_of test (y ∷ xs) x (suc k, lt, e) h = rest (test y) (any_of test xs x (k, 
     rest false h = h
 
 -- the base of an image has rst, en and the registers, and what the taps of its reads are made of
-control_source : (shapes : Shapes) (plan : Parts) (f : ℕ) (e : Bool) → HasControl e (source_of shapes plan f e)
+control_source : (shapes : Shapes) (plan : Plan) (f : ℕ) (e : Bool) → HasControl e (source_of shapes plan f e)
 control_source shapes plan f e (OfNet n) h = h
 control_source shapes plan f e (OfArray x) h = absurd (let f : ⊥ = cc in f)
 
-buffer_source : (shapes : Shapes) (plan : Parts) (f : ℕ) (e : Bool) (r : LiveRead) → Contains (reads_in plan f) r → (h : Holder) → IsTrue (is_buffer e (first_array shapes plan r.g) (end_array shapes plan r.g) h) → IsTrue (source_of shapes plan f e h)
+buffer_source : (shapes : Shapes) (plan : Plan) (f : ℕ) (e : Bool) (r : LiveRead) → Contains (reads_in plan f) r → (h : Holder) → IsTrue (is_buffer e (first_array shapes plan r.g) (end_array shapes plan r.g) h) → IsTrue (source_of shapes plan f e h)
 buffer_source shapes plan f e r has (OfNet n) h = h
 buffer_source shapes plan f e r has (OfArray x) h = any_of (λ (q : LiveRead). is_array_of shapes plan q.g x) (reads_in plan f) r has h
 
 -- The next image, whose net and then buffer are added.
-module _ (b2 b1 b0 : Netlist) (p : Program) (plan : Parts) (shapes : Shapes) (places : Places) (property : Property) (k : ℕ) (nets : List Net) (taps : List (List Net)) (i : Image) (net : Net) (own : List Net)
+module _ (b2 b1 b0 : Netlist) (p : Program) (plan : Plan) (shapes : Shapes) (places : Places) (property : Property) (k : ℕ) (nets : List Net) (taps : List (List Net)) (i : Image) (net : Net) (own : List Net)
     (is_plan : IsPlan plan) (at : slice_get plan.system.stencils.images k ≡ Some i) (low : (h : ℕ) → h < i.number → Keeps plan h → place_in plan h < k) (reader : (r : LiveRead) → Contains (reads_in plan i.number) r → Keeps plan r.g × (r.g < i.number))
     (aged : (r : LiveRead) → Contains (reads_in plan i.number) r → pos plan.system.age ≤ℤ read_age plan r)
     (built : AreBuilt b0 p plan shapes places property k nets taps) (adds : AddsControl b1 b0) (image : IsImageNet b1 b0 p plan taps i.number net) (buffered : IsBuffered b2 b1 plan i.number shapes places property net own) (draft : IsDraft b2) where
@@ -270,7 +270,7 @@ module _ (b2 b1 b0 : Netlist) (p : Program) (plan : Parts) (shapes : Shapes) (pl
           (subst (IsLine b2 p plan shapes places property taps' g) (sym (at_last nets net (Input 0) j (built.net_count ∙ sym e))) line_new)
 
 -- all that is built lasts where what controls it is added
-pub built_lasts : (new old : Netlist) (p : Program) (plan : Parts) (shapes : Shapes) (places : Places) (property : Property) (k : ℕ) (nets : List Net) (taps : List (List Net)) → IsPlan plan → k ≤ length plan.system.stencils.images → AddsControl new old → IsDraft new →
+pub built_lasts : (new old : Netlist) (p : Program) (plan : Plan) (shapes : Shapes) (places : Places) (property : Property) (k : ℕ) (nets : List Net) (taps : List (List Net)) → IsPlan plan → k ≤ length plan.system.stencils.images → AddsControl new old → IsDraft new →
     AreBuilt old p plan shapes places property k nets taps → AreBuilt new p plan shapes places property k nets taps
 built_lasts new old p plan shapes places property k nets taps is_plan few adds draft built = record {
   ports = subst (λ (e : Bool). Includes new (ports_of p e)) (sym adds.includes.enable) (Includes-trans new old (ports_of p old.enable) adds.includes built.ports);

@@ -23,7 +23,7 @@ use Rattle.net_build.proofs.Operands.{net_operand, constant_operand}
 use Rattle.net_build.proofs.Control.{made_more}
 use Rattle.edge_select.specs.Steps.{LeadBy}
 use Rattle.edge_select.specs.Pixels.{IsBitOf, AllPass}
-use Rattle.buffer_plan.specs.Plans.{Parts, delay_of}
+use Rattle.buffer_plan.specs.Plans.{Plan, delay_of}
 use Rattle.circuit.specs.Leaves.{LeafRead}
 use Rattle.circuit.specs.Taps.{size_in, IsTapOf, HasControl}
 use Rattle.circuit.specs.Reads.{IsChosen, IsChoice, IsPixelTest, IsMadeOfTaps, atom_of_choice, choice_nets, chosen_by, worth_of}
@@ -54,7 +54,7 @@ last_in (z ∷ xs) y = from (last_in xs y)
     from : Contains (xs ++ y ∷ []) y → Contains ((z ∷ xs) ++ y ∷ []) y
     from (j, low, f) = (suc j, (let h : suc j < length ((z ∷ xs) ++ y ∷ []) = omega (arith, low) in h), f)
 
-module _ (size : Size) (plan : Parts) (taps : List (List Net)) (reads : List LiveRead) (r : LiveRead) (leaf : LeafRead) (x y : ℕ) (s : Snapshot) where
+module _ (size : Size) (plan : Plan) (taps : List (List Net)) (reads : List LiveRead) (r : LiveRead) (leaf : LeafRead) (x y : ℕ) (s : Snapshot) where
   -- it leads, and is taken
   taken : (tap : Net) (v : ℕ) → r.g ≡ leaf.image → LeadBy size leaf.steps r.dx r.dy x y → IsTapOf plan taps r tap → v ≡ net_value s tap → IsChosen size plan taps (reads ++ r ∷ []) leaf x y s v
   taken tap v same on is e = inl (record { read = r; among = last_in reads r; of_image = same; leads = on; tap = tap; is_tap = is; value_is = e })
@@ -75,7 +75,7 @@ module _ (size : Size) (plan : Parts) (taps : List (List Net)) (reads : List Liv
   tested test tap v w net same is tap_is (inl on) e before = taken net v same on.0 is (e ∙ ap (λ (b : ℕ). if b == 1 then tap else w) on.1 ∙ tap_is)
   tested test tap v w net same is tap_is (inr off) e before = kept v w (λ _ led. off.0 led) (e ∙ ap (λ (b : ℕ). if b == 1 then tap else w) off.1) before
 
-module _ (b first : Netlist) (plan : Parts) (taps : List (List Net)) (f : ℕ) (reads : List LiveRead) (r : LiveRead) (leaf : LeafRead) (bits : ℕ) where
+module _ (b first : Netlist) (plan : Plan) (taps : List (List Net)) (f : ℕ) (reads : List LiveRead) (r : LiveRead) (leaf : LeafRead) (bits : ℕ) where
   fewer : (n : Net) → IsMadeOfTaps b first plan taps reads n → IsMadeOfTaps b first plan taps (reads ++ r ∷ []) n
   fewer n is base has own = is base has (λ q tap among is_tap. own q tap (old_in reads r q among) is_tap)
 
@@ -132,7 +132,7 @@ from_all b base test tap o t p rest n has = elim (first_of test (tap ∷ choice_
     of_choice (Some x) h (suc k, lt, e) = absurd (let f : ⊥ = omega (arith, lt) in f)
 
 -- and else a test chooses between its tap and what was chosen before
-pub choice_tested : (new mid old first : Netlist) (plan : Parts) (taps : List (List Net)) (f : ℕ) (reads : List LiveRead) (r : LiveRead) (leaf : LeafRead) (bits : ℕ) (o : Option Net) (test tap net : Net) → r.g ≡ leaf.image → IsTapOf plan taps r tap → Includes new mid → Includes mid old → Includes old first →
+pub choice_tested : (new mid old first : Netlist) (plan : Plan) (taps : List (List Net)) (f : ℕ) (reads : List LiveRead) (r : LiveRead) (leaf : LeafRead) (bits : ℕ) (o : Option Net) (test tap net : Net) → r.g ≡ leaf.image → IsTapOf plan taps r tap → Includes new mid → Includes mid old → Includes old first →
     IsPixelTest mid plan f (LeadBy (size_in plan) leaf.steps r.dx r.dy) test → Computes new mid (test ∷ (tap ∷ choice_nets o)) bits (chosen_by test tap o) net → IsChoice old first plan taps f reads leaf bits o → IsChoice new first plan taps f (reads ++ r ∷ []) leaf bits (Some net)
 choice_tested new mid old first plan taps f reads r leaf bits o test tap net same is_tap late early begun tests one before =
     let grows : Includes new old = Includes-trans new mid old late early in
@@ -160,7 +160,7 @@ zero_fits : (bits : ℕ) → IsWidth bits → IsConstant (record { width = bits;
 zero_fits bits fits = record { width = fits; fits = pow_pos bits }
 
 -- among no reads nothing is chosen
-pub choice_none : (b first : Netlist) (plan : Parts) (taps : List (List Net)) (f : ℕ) (leaf : LeafRead) (bits : ℕ) → IsChoice b first plan taps f [] leaf bits None
+pub choice_none : (b first : Netlist) (plan : Plan) (taps : List (List Net)) (f : ℕ) (leaf : LeafRead) (bits : ℕ) → IsChoice b first plan taps f [] leaf bits None
 choice_none b first plan taps f leaf bits = record {
   there = tt;
   width = tt;

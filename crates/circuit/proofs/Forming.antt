@@ -12,7 +12,7 @@ use Rattle.wiring.specs.Netlist.{Netlist}
 use Rattle.wiring.specs.Sizes.{IsWidth}
 use Rattle.wiring.specs.BufferBits.{array_bits}
 use Rattle.net_build.specs.Indices.{read_indices, put_indices}
-use Rattle.buffer_plan.specs.Plans.{Parts, IsPlan, ages_of, width_of, depth_of, last_of}
+use Rattle.buffer_plan.specs.Plans.{Plan, IsPlan, ages_of, width_of, depth_of, last_of}
 use Rattle.buffer_plan.proofs.Aged.{are_ages, last_age, depth_most}
 use Rattle.line_buffer.specs.Places as L
 use Rattle.line_buffer.specs.Places.{Place}
@@ -26,13 +26,13 @@ last_same : (low : ℕ) (xs : List ℕ) → L.last_of low xs ≡ last_of low xs
 last_same low [] = refl
 last_same low (x ∷ xs) = last_same x xs
 
-pub plan_depth : (plan : Parts) (g : ℕ) → L.depth_of (ages_of plan g) ≡ depth_of plan g
+pub plan_depth : (plan : Plan) (g : ℕ) → L.depth_of (ages_of plan g) ≡ depth_of plan g
 plan_depth plan g = last_same 0 (ages_of plan g) ∙ last_age plan g
 
-pub ages_ascend : (plan : Parts) (g : ℕ) (ages : List ℕ) → ages ≡ ages_of plan g → IsStrictlyIncreasing ages
+pub ages_ascend : (plan : Plan) (g : ℕ) (ages : List ℕ) → ages ≡ ages_of plan g → IsStrictlyIncreasing ages
 ages_ascend plan g ages e = subst IsStrictlyIncreasing (sym e) (are_ages plan g).ascending
 
-pub ages_most : (plan : Parts) (g : ℕ) (ages : List ℕ) → IsPlan plan → Keeps plan g → ages ≡ ages_of plan g → All (λ age. age ≤ MAX_BUFFER_BITS) ages
+pub ages_most : (plan : Plan) (g : ℕ) (ages : List ℕ) → IsPlan plan → Keeps plan g → ages ≡ ages_of plan g → All (λ age. age ≤ MAX_BUFFER_BITS) ages
 ages_most plan g ages is kept e k d l =
     let deep = ages_deep ages (L.depth_of ages) (ages_ascend plan g ages e) refl k d l in
     let most = depth_most plan is g kept in
@@ -40,7 +40,7 @@ ages_most plan g ages is kept e k d l =
     omega (arith, deep, most, depth)
 
 -- the width of an image is one of a word
-pub plan_wide : (plan : Parts) (g width : ℕ) → IsPlan plan → Keeps plan g → width ≡ width_of plan g → IsWidth width
+pub plan_wide : (plan : Plan) (g width : ℕ) → IsPlan plan → Keeps plan g → width ≡ width_of plan g → IsWidth width
 plan_wide plan g width is kept e =
     let images = plan.system.stencils.images in
     let none : Image = record { number = 0; width = 0 } in
@@ -56,7 +56,7 @@ module _ (shapes_by : (width : ℕ) → List ℕ → List Shape) (place_by : (fi
   abbrev places : Places
   places plan g age t = place_by (first_array shapes plan g) (ages_of plan g) age t
 
-  module _ (b old : Netlist) (plan : Parts) (g width : ℕ) (ages : List ℕ) (value : Net) (nets taps : List Net) (aged : ages ≡ ages_of plan g) (wide : width ≡ width_of plan g) (same : taps ≡ nets) (arrays : old.arrays ≡ shapes_before shapes plan g) where
+  module _ (b old : Netlist) (plan : Plan) (g width : ℕ) (ages : List ℕ) (value : Net) (nets taps : List Net) (aged : ages ≡ ages_of plan g) (wide : width ≡ width_of plan g) (same : taps ≡ nets) (arrays : old.arrays ≡ shapes_before shapes plan g) where
     pub form_buffered : array_bits (shapes_by (width_of plan g) (ages_of plan g)) ≡ width_of plan g * L.depth_of (ages_of plan g) → AddsBuffer b old (shapes_by width ages) → IsBuffer b (place_by (length old.arrays) ages) ages nets value →
         AreMadeOfBuffer b (length old.arrays) (length old.arrays + length (shapes_by width ages)) ages nets → ((x : ℕ) → length old.arrays ≤ x → x < length b.arrays → property (read_indices b x) (put_indices b x)) → IsBuffered b old plan g shapes places property value taps
     form_buffered bits adds buffer made each = record {

@@ -27,7 +27,7 @@ use Rattle.datapath.specs.declared.lowering.Leaves.{Leaves}
 use Rattle.datapath.specs.Expressions.{AreLeaves, HasLeaves, IsLowered, IsMadeOfLeaves, IsTyped, types_in, type_of}
 use Rattle.datapath.specs.declared.operand.Signal.TheVariants as signal
 use Rattle.datapath.proofs.Leaved.{typed_as}
-use Rattle.buffer_plan.specs.Plans.{Parts, IsPlan}
+use Rattle.buffer_plan.specs.Plans.{Plan, IsPlan}
 use Rattle.circuit.specs.Rounds.{type_at}
 use Rattle.circuit.specs.Leaves.{LeafRead, with_step, reads_of, bits_of, ReadsBefore}
 use Rattle.circuit.specs.Taps.{HasControl, IsReading}
@@ -83,7 +83,7 @@ reads_are_before f (convert how a t) path before k d lt = reads_are_before f a p
 reads_are_before f (scale op a m) path before k d lt = reads_are_before f a path before k d lt
 
 -- The body e of image f over the nets of its leaves in the netlist `mid`, of which the taps are in `old`.
-module _ (mid old : Netlist) (p : Program) (plan : Parts) (taps : List (List Net)) (f : ℕ) (e : Tree) (reads : List (Ty × Net)) (bits : List Net)
+module _ (mid old : Netlist) (p : Program) (plan : Plan) (taps : List (List Net)) (f : ℕ) (e : Tree) (reads : List (Ty × Net)) (bits : List Net)
     (is_program : IsProgram p) (is_plan : IsPlan plan) (reading : IsReading old p plan taps f) (body : IsBody p f e) (leaves : AreLeafNets mid old p plan taps f (reads_of e []) (bits_of e []) reads bits) where
   typed : IsTypedBody p f e
   typed = typed_body p is_program f e body
@@ -148,7 +148,7 @@ module _ (mid old : Netlist) (p : Program) (plan : Parts) (taps : List (List Net
       }
 
 -- the leaves that are added to none, at the end of no steps
-pub first_leaves : (new old : Netlist) (p : Program) (plan : Parts) (taps : List (List Net)) (f : ℕ) (e : Tree) (steps : List Step) (now before : Leaves) → steps ≡ [] → before.reads.items ≡ [] → before.bits.items ≡ [] → AddsLeaves new old p plan taps f (reads_of e steps) (bits_of e steps) now before →
+pub first_leaves : (new old : Netlist) (p : Program) (plan : Plan) (taps : List (List Net)) (f : ℕ) (e : Tree) (steps : List Step) (now before : Leaves) → steps ≡ [] → before.reads.items ≡ [] → before.bits.items ≡ [] → AddsLeaves new old p plan taps f (reads_of e steps) (bits_of e steps) now before →
     AreLeafNets new old p plan taps f (reads_of e []) (bits_of e []) now.reads.items now.bits.items
 first_leaves new old p plan taps f e steps now before none reads bits adds =
     subst (λ (s : List Step). AreLeafNets new old p plan taps f (reads_of e s) (bits_of e s) now.reads.items now.bits.items) none
@@ -196,7 +196,7 @@ din_wide b p ports k lt =
     ap (λ (xs : List ℕ). slice_index xs (first_din b + k)) ports.inputs ∙ (port_of b.enable dins k (omega (arith, lt, long))).1 ∙ input_type p.inputs p.images k lt
 
 -- the net of an input
-pub input_net_is : (b : Netlist) (p : Program) (plan : Parts) (taps : List (List Net)) (f : ℕ) (net : Net) → IsReading b p plan taps f → Includes b (ports_of p b.enable) → f < length p.inputs → net ≡ din_net b f → IsNet b net → IsImageNet b b p plan taps f net
+pub input_net_is : (b : Netlist) (p : Program) (plan : Plan) (taps : List (List Net)) (f : ℕ) (net : Net) → IsReading b p plan taps f → Includes b (ports_of p b.enable) → f < length p.inputs → net ≡ din_net b f → IsNet b net → IsImageNet b b p plan taps f net
 input_net_is b p plan taps f net reading ports lt is there = record {
   there = there;
   width = ap (net_width b) is ∙ din_wide b p ports f lt ∙ sym (plan_width p plan f reading.stencils reading.kept);

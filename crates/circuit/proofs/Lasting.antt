@@ -19,7 +19,7 @@ use Rattle.edge_select.specs.declared.pixel.Pixel.{Pixel}
 use Rattle.edge_select.specs.declared.step.Step.{Step}
 use Rattle.edge_select.specs.Pixels.{IsBitOf}
 use Rattle.edge_select.proofs.Lasting.{follows_more}
-use Rattle.buffer_plan.specs.Plans.{Parts, delay_of}
+use Rattle.buffer_plan.specs.Plans.{Plan, delay_of}
 use Rattle.circuit.specs.Runs.{IsRunning, AtEachPixel}
 use Rattle.circuit.specs.Leaves.{LeafRead}
 use Rattle.circuit.specs.Taps.{size_in, HasTaps, HasControl, IsReading}
@@ -39,7 +39,7 @@ module _ (c b : Netlist) (f : Includes c b) where
   pub width_is : (n : Net) (w : ℕ) → IsNet b n → net_width b n ≡ w → net_width c n ≡ w
   width_is n w is e = width_more c b f n is.declared ∙ e
 
-  pub position_more : (plan : Parts) (g : ℕ) (pixel : Pixel) → HasPosition b plan g pixel → HasPosition c plan g pixel
+  pub position_more : (plan : Plan) (g : ℕ) (pixel : Pixel) → HasPosition b plan g pixel → HasPosition c plan g pixel
   position_more plan g pixel is = record {
     size = is.size;
     nets = record {
@@ -53,10 +53,10 @@ module _ (c b : Netlist) (f : Includes c b) where
     row = is.row;
   }
 
-  pub positions_more : (plan : Parts) (g : ℕ) (o : Option Pixel) → IfSome o (HasPosition b plan g) → IfSome o (HasPosition c plan g)
+  pub positions_more : (plan : Plan) (g : ℕ) (o : Option Pixel) → IfSome o (HasPosition b plan g) → IfSome o (HasPosition c plan g)
   positions_more plan g o h = if_some (HasPosition b plan g) (HasPosition c plan g) o (position_more plan g) h
 
-  pub test_more : (plan : Parts) (g : ℕ) (passes : (x y : ℕ) → Type 0) (n : Net) → IsPixelTest b plan g passes n → IsPixelTest c plan g passes n
+  pub test_more : (plan : Plan) (g : ℕ) (passes : (x y : ℕ) → Type 0) (n : Net) → IsPixelTest b plan g passes n → IsPixelTest c plan g passes n
   test_more plan g passes n is = record {
     there = net_more c b f n is.there;
     width = width_is n 1 is.there is.width;
@@ -64,7 +64,7 @@ module _ (c b : Netlist) (f : Includes c b) where
     made = λ base has. made_more c b base f (is.made base (subst (λ (e : Bool). HasControl e base) f.enable has));
   }
 
-  pub taps_more : (plan : Parts) (taps : List (List Net)) (g : ℕ) → HasTaps b plan taps g → HasTaps c plan taps g
+  pub taps_more : (plan : Plan) (taps : List (List Net)) (g : ℕ) → HasTaps b plan taps g → HasTaps c plan taps g
   taps_more plan taps g is = record {
     there = is.there;
     one_each = is.one_each;
@@ -72,13 +72,13 @@ module _ (c b : Netlist) (f : Includes c b) where
     width = λ h kept less k tap at. width_is tap _ (is.net h kept less k tap at) (is.width h kept less k tap at);
   }
 
-  pub reading_more : (p : Program) (plan : Parts) (taps : List (List Net)) (g : ℕ) → IsReading b p plan taps g → IsReading c p plan taps g
+  pub reading_more : (p : Program) (plan : Plan) (taps : List (List Net)) (g : ℕ) → IsReading b p plan taps g → IsReading c p plan taps g
   reading_more p plan taps g is = record { stencils = is.stencils; kept = is.kept; there = is.there; taps_are = taps_more plan taps g is.taps_are }
 
-  made_of_taps_more : (first : Netlist) (plan : Parts) (taps : List (List Net)) (reads : List LiveRead) (n : Net) → IsMadeOfTaps b first plan taps reads n → IsMadeOfTaps c first plan taps reads n
+  made_of_taps_more : (first : Netlist) (plan : Plan) (taps : List (List Net)) (reads : List LiveRead) (n : Net) → IsMadeOfTaps b first plan taps reads n → IsMadeOfTaps c first plan taps reads n
   made_of_taps_more first plan taps reads n is base has own = made_more c b base f (is base has own)
 
-  pub choice_more : (first : Netlist) (plan : Parts) (taps : List (List Net)) (g : ℕ) (reads : List LiveRead) (leaf : LeafRead) (bits : ℕ) (o : Option Net) → IsChoice b first plan taps g reads leaf bits o → IsChoice c first plan taps g reads leaf bits o
+  pub choice_more : (first : Netlist) (plan : Plan) (taps : List (List Net)) (g : ℕ) (reads : List LiveRead) (leaf : LeafRead) (bits : ℕ) (o : Option Net) → IsChoice b first plan taps g reads leaf bits o → IsChoice c first plan taps g reads leaf bits o
   choice_more first plan taps g reads leaf bits o is = record {
     there = if_some (IsNet b) (IsNet c) o (λ n h. net_more c b f n h) is.there;
     width = widths o is.there is.width;
@@ -90,7 +90,7 @@ module _ (c b : Netlist) (f : Includes c b) where
       widths None there h = h
       widths (Some n) there h = width_is n bits there h
 
-  read_net_more : (first : Netlist) (plan : Parts) (taps : List (List Net)) (g : ℕ) (leaf : LeafRead) (bits : ℕ) (n : Net) → IsReadNet b first plan taps g leaf bits n → IsReadNet c first plan taps g leaf bits n
+  read_net_more : (first : Netlist) (plan : Plan) (taps : List (List Net)) (g : ℕ) (leaf : LeafRead) (bits : ℕ) (n : Net) → IsReadNet b first plan taps g leaf bits n → IsReadNet c first plan taps g leaf bits n
   read_net_more first plan taps g leaf bits n is = record {
     there = net_more c b f n is.there;
     width = width_is n bits is.there is.width;
@@ -98,7 +98,7 @@ module _ (c b : Netlist) (f : Includes c b) where
     made = made_of_taps_more first plan taps (reads_in plan g) n is.made;
   }
 
-  pub leaf_nets_more : (first : Netlist) (p : Program) (plan : Parts) (taps : List (List Net)) (g : ℕ) (ls : List LeafRead) (ps : List (List Step)) (reads : List (Ty × Net)) (bits : List Net) → AreLeafNets b first p plan taps g ls ps reads bits → AreLeafNets c first p plan taps g ls ps reads bits
+  pub leaf_nets_more : (first : Netlist) (p : Program) (plan : Plan) (taps : List (List Net)) (g : ℕ) (ls : List LeafRead) (ps : List (List Step)) (reads : List (Ty × Net)) (bits : List Net) → AreLeafNets b first p plan taps g ls ps reads bits → AreLeafNets c first p plan taps g ls ps reads bits
   leaf_nets_more first p plan taps g ls ps reads bits is = record {
     reads_are = is.reads_are;
     bits_are = is.bits_are;

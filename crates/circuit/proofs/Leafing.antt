@@ -13,7 +13,7 @@ use Rattle.pointwise_ir.specs.Programs.{Program}
 use Rattle.edge_select.specs.declared.step.Step.{Step}
 use Rattle.edge_select.specs.Steps.{LeadOn}
 use Rattle.datapath.specs.declared.lowering.Leaves.{Leaves}
-use Rattle.buffer_plan.specs.Plans.{Parts}
+use Rattle.buffer_plan.specs.Plans.{Plan}
 use Rattle.circuit.specs.Rounds.{type_at}
 use Rattle.circuit.specs.Leaves.{LeafRead}
 use Rattle.circuit.specs.Taps.{size_in}
@@ -34,7 +34,7 @@ zip_push P xs ys x y long each last i a b at on = elim (at_push xs x a i at) [
   ]
 ]
 
-module _ (p : Program) (plan : Parts) (taps : List (List Net)) (f : ℕ) where
+module _ (p : Program) (plan : Plan) (taps : List (List Net)) (f : ℕ) where
   -- no leaf more
   pub leaves_none : (b : Netlist) (leaves : Leaves) → AddsLeaves b b p plan taps f [] [] leaves leaves
   leaves_none b leaves = record {

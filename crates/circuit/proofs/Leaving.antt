@@ -12,7 +12,7 @@ use Rattle.net_build.specs.Counters.{AddsControl}
 use Rattle.net_build.proofs.Grown.{net_more, width_more}
 use Rattle.net_build.proofs.Runs.{clock_more}
 use Rattle.net_build.proofs.Updating.{all_updated}
-use Rattle.buffer_plan.specs.Plans.{Parts, latency_of}
+use Rattle.buffer_plan.specs.Plans.{Plan, latency_of}
 use Rattle.circuit.specs.Behaviour.{net_of}
 use Rattle.circuit.specs.Ends.{IsStarted, AreOuts, output_in, IsValidOf, AreValids, IsOut, IsSharedBy, AreShared, CanEnd}
 
@@ -20,7 +20,7 @@ use Rattle.circuit.specs.Ends.{IsStarted, AreOuts, output_in, IsValidOf, AreVali
 started_more : (new old : Netlist) (latency : ℕ) (n : Net) → Includes new old → IsStarted old latency n → IsStarted new latency n
 started_more new old latency n grows is = record { started = λ m from before c s clock since. is.started m from before c s (clock_more new old m from before c s grows clock) since }
 
-out_more : (new old : Netlist) (plan : Parts) (nets : List Net) (k : ℕ) (out : Net × Net) → Includes new old → IsOut old plan nets k out → IsOut new plan nets k out
+out_more : (new old : Netlist) (plan : Plan) (nets : List Net) (k : ℕ) (out : Net × Net) → Includes new old → IsOut old plan nets k out → IsOut new plan nets k out
 out_more new old plan nets k out grows is = record {
   valid = record {
     there = net_more new old grows out.0 is.valid.there;
@@ -31,13 +31,13 @@ out_more new old plan nets k out grows is = record {
 }
 
 -- each by its place
-pub valids_of : (b : Netlist) (plan : Parts) (nets : List Net) (n : ℕ) (outs : List (Net × Net)) → AreOuts b plan nets n outs → AreValids b plan outs
+pub valids_of : (b : Netlist) (plan : Plan) (nets : List Net) (n : ℕ) (outs : List (Net × Net)) → AreOuts b plan nets n outs → AreValids b plan outs
 valids_of b plan nets n outs are k out at = record { there = are.there k out at; width = are.width k out at; started = are.valid k out at }
 
-out_of : (b : Netlist) (plan : Parts) (nets : List Net) (n : ℕ) (outs : List (Net × Net)) → AreOuts b plan nets n outs → (k : ℕ) (out : Net × Net) → slice_get outs k ≡ Some out → IsOut b plan nets k out
+out_of : (b : Netlist) (plan : Plan) (nets : List Net) (n : ℕ) (outs : List (Net × Net)) → AreOuts b plan nets n outs → (k : ℕ) (out : Net × Net) → slice_get outs k ≡ Some out → IsOut b plan nets k out
 out_of b plan nets n outs are k out at = record { valid = valids_of b plan nets n outs are k out at; dout = are.dout k out at }
 
-outs_by : (b : Netlist) (plan : Parts) (nets : List Net) (n : ℕ) (outs : List (Net × Net)) → length outs ≡ n → ((k : ℕ) (out : Net × Net) → slice_get outs k ≡ Some out → IsOut b plan nets k out) → AreOuts b plan nets n outs
+outs_by : (b : Netlist) (plan : Plan) (nets : List Net) (n : ℕ) (outs : List (Net × Net)) → length outs ≡ n → ((k : ℕ) (out : Net × Net) → slice_get outs k ≡ Some out → IsOut b plan nets k out) → AreOuts b plan nets n outs
 outs_by b plan nets n outs long each = record {
   count = long;
   dout = λ k out at. (each k out at).dout;
@@ -47,17 +47,17 @@ outs_by b plan nets n outs long each = record {
 }
 
 -- outputs of one latency have one valid
-pub valid_shared : (b : Netlist) (plan : Parts) (j k : ℕ) (n : Net) → latency_of plan j ≡ latency_of plan k → IsValidOf b plan j n → IsValidOf b plan k n
+pub valid_shared : (b : Netlist) (plan : Plan) (j k : ℕ) (n : Net) → latency_of plan j ≡ latency_of plan k → IsValidOf b plan j n → IsValidOf b plan k n
 valid_shared b plan j k n same is = record { there = is.there; width = is.width; started = subst (λ (l : ℕ). IsStarted b l n) same is.started }
 
 -- none, and one more
-pub outs_none : (b : Netlist) (plan : Parts) (nets : List Net) (outs : List (Net × Net)) → outs ≡ [] → AreOuts b plan nets (length outs) outs
+pub outs_none : (b : Netlist) (plan : Plan) (nets : List Net) (outs : List (Net × Net)) → outs ≡ [] → AreOuts b plan nets (length outs) outs
 outs_none b plan nets outs e = outs_by b plan nets (length outs) outs refl (λ k out at. absurd (none k out (subst (λ (os : List (Net × Net)). slice_get os k ≡ Some out) e at)))
   where
     none : (k : ℕ) (out : Net × Net) → slice_get [] k ≡ Some out → ⊥
     none k out at = cc
 
-pub outs_more : (new old : Netlist) (plan : Parts) (nets : List Net) (outs more : List (Net × Net)) (out : Net × Net) → Includes new old → more ≡ outs ++ out ∷ [] → AreOuts old plan nets (length outs) outs → IsOut new plan nets (length outs) out → AreOuts new plan nets (length more) more
+pub outs_more : (new old : Netlist) (plan : Plan) (nets : List Net) (outs more : List (Net × Net)) (out : Net × Net) → Includes new old → more ≡ outs ++ out ∷ [] → AreOuts old plan nets (length outs) outs → IsOut new plan nets (length outs) out → AreOuts new plan nets (length more) more
 outs_more new old plan nets outs more out grows e are is =
     subst (λ (os : List (Net × Net)). AreOuts new plan nets (length os) os) (sym e)
     (outs_by new plan nets (length (outs ++ out ∷ [])) (outs ++ out ∷ []) refl (λ k o at. elim (at_push outs out o k at) [
@@ -66,13 +66,13 @@ outs_more new old plan nets outs more out grows e are is =
     ]))
 
 -- outputs of one latency share their valid
-pub shared_none : (plan : Parts) (outs : List (Net × Net)) → outs ≡ [] → AreShared plan outs
+pub shared_none : (plan : Plan) (outs : List (Net × Net)) → outs ≡ [] → AreShared plan outs
 shared_none plan outs e k out at j o on same = absurd (none j o (subst (λ (os : List (Net × Net)). slice_get os j ≡ Some o) e on))
   where
     none : (j : ℕ) (o : Net × Net) → slice_get [] j ≡ Some o → ⊥
     none j o on = cc
 
-pub shared_more : (plan : Parts) (outs more : List (Net × Net)) (out : Net × Net) → more ≡ outs ++ out ∷ [] → AreShared plan outs → IsSharedBy plan outs (length outs) out.0 → AreShared plan more
+pub shared_more : (plan : Plan) (outs more : List (Net × Net)) (out : Net × Net) → more ≡ outs ++ out ∷ [] → AreShared plan outs → IsSharedBy plan outs (length outs) out.0 → AreShared plan more
 shared_more plan outs more out e old is = subst (AreShared plan) (sym e) (λ k o at j q on same. elim (at_push outs out o k at) as (λ _. q.0 ≡ o.0) [
   | inl first ↦ elim (at_push outs out q j on) as (λ _. q.0 ≡ o.0) [
     | inl other ↦ old k o first j q other same
@@ -126,7 +126,7 @@ flat_each b (o ∷ outs) (w ∷ ws) long each (suc zero) n at =
 flat_each b (o ∷ outs) (w ∷ ws) long each (suc (suc k)) n at = flat_each b outs ws (omega (arith, long)) (λ j p on. each (suc j) p on) k n at
 
 -- the outputs can take them
-pub can_take : (last b : Netlist) (plan : Parts) (nets : List Net) (outs : List (Net × Net)) → CanEnd b plan nets → AddsControl last b → AreOuts last plan nets (length plan.system.stencils.outputs) outs → AreSources last (flat outs)
+pub can_take : (last b : Netlist) (plan : Plan) (nets : List Net) (outs : List (Net × Net)) → CanEnd b plan nets → AddsControl last b → AreOuts last plan nets (length plan.system.stencils.outputs) outs → AreSources last (flat outs)
 can_take last b plan nets outs can adds are = record {
   one_each = flat_long outs ∙ ap (λ (n : ℕ). 2 * n) long ∙ sym (valids_long can.widths) ∙ sym (ap length outputs);
   each = λ k n at. (let is = flat_each last outs can.widths long pair k n at in record { net = is.0; width_is = is.1 ∙ sym (ap (λ (ws : List ℕ). slice_index ws k) outputs) });
@@ -150,5 +150,5 @@ can_take last b plan nets outs can adds are = record {
           wide = ap (net_width last) (sym same) ∙ width_more last b adds.includes (net_of plan nets (output_in plan j)) net.declared ∙ can.width j within;
         }
 
-pub can_update : (last b : Netlist) (plan : Parts) (nets : List Net) → CanEnd b plan nets → AddsControl last b → AllUpdated last
+pub can_update : (last b : Netlist) (plan : Plan) (nets : List Net) → CanEnd b plan nets → AddsControl last b → AllUpdated last
 can_update last b plan nets can adds = all_updated last (adds.updated [] can.updated)

@@ -22,7 +22,7 @@ use Rattle.net_build.proofs.Starting.{logic_adds, control_on}
 use Rattle.edge_select.specs.declared.pixel.Pixel.{Pixel}
 use Rattle.edge_select.specs.Pixels.{IsTest, IsBitOf, IsPixel, IsOnFrame, AllPass, NonePass, AddsCounters}
 use Rattle.edge_select.proofs.Raster.{place}
-use Rattle.buffer_plan.specs.Plans.{Parts, IsPlan}
+use Rattle.buffer_plan.specs.Plans.{Plan, IsPlan}
 use Rattle.circuit.specs.Taps.{size_in, HasControl}
 use Rattle.circuit.specs.Reads.{HasPosition, IsPixelTest}
 
@@ -39,17 +39,17 @@ pub counters_control : (new old : Netlist) (first second : ℕ) → Includes new
 counters_control new old first second grows is updated still stops control = record { includes = grows; arrays = is.arrays; reads = is.reads; updated = updated; still = still; stops = stops; control = control }
 
 -- columns and rows of pixels are in the frame
-pub columns_below : (plan : Parts) → IsPlan plan → (q : ℕ) → column (size_in plan) q < plan.system.stencils.width
+pub columns_below : (plan : Plan) → IsPlan plan → (q : ℕ) → column (size_in plan) q < plan.system.stencils.width
 columns_below plan is q = (place (size_in plan) q is.system.stencils.frame.some_columns is.system.stencils.frame.some_rows).column_below
 
-pub rows_below : (plan : Parts) → IsPlan plan → (q : ℕ) → row (size_in plan) q < plan.system.stencils.height
+pub rows_below : (plan : Plan) → IsPlan plan → (q : ℕ) → row (size_in plan) q < plan.system.stencils.height
 rows_below plan is q = (place (size_in plan) q is.system.stencils.frame.some_columns is.system.stencils.frame.some_rows).row_below
 
 control_reg : (b : Netlist) (base : Holder → Bool) (n : Net) (k : ℕ) → HasControl b.enable base → n ≡ Reg k → IsMadeOf b base (OfNet n)
 control_reg b base n k has e = subst (λ (x : Net). IsMadeOf b base (OfNet x)) (sym e) (IsMadeOf.by_itself (has (OfNet (Reg k)) refl))
 
 -- a test by the registers
-pub pixel_test : (new mid : Netlist) (plan : Parts) (f : ℕ) (pixel : Pixel) (P : Size → (x y : ℕ) → Type 0) (n : Net) → Includes new mid → HasPosition mid plan f pixel → IsTest new mid pixel (P (size_of pixel.size)) n → IsPixelTest new plan f (P (size_in plan)) n
+pub pixel_test : (new mid : Netlist) (plan : Plan) (f : ℕ) (pixel : Pixel) (P : Size → (x y : ℕ) → Type 0) (n : Net) → Includes new mid → HasPosition mid plan f pixel → IsTest new mid pixel (P (size_of pixel.size)) n → IsPixelTest new plan f (P (size_in plan)) n
 pixel_test new mid plan f pixel P n grows is test = record {
   there = test.net;
   width = test.width;
@@ -72,7 +72,7 @@ pixel_test new mid plan f pixel P n grows is test = record {
 none_made : (b : Netlist) (base : Holder → Bool) (n : Net) → Contains [] n → IsMadeOf b base (OfNet n)
 none_made b base n has = absurd (let lt = has.1 in let f : ⊥ = omega (arith, lt) in f)
 
-pub always_test : (new old : Netlist) (plan : Parts) (f : ℕ) (passes : (x y : ℕ) → Type 0) (n : Net) → IsPlan plan → Computes new old [] 1 (λ s. bit true) n → AllPass plan.system.stencils.width plan.system.stencils.height passes → IsPixelTest new plan f passes n
+pub always_test : (new old : Netlist) (plan : Plan) (f : ℕ) (passes : (x y : ℕ) → Type 0) (n : Net) → IsPlan plan → Computes new old [] 1 (λ s. bit true) n → AllPass plan.system.stencils.width plan.system.stencils.height passes → IsPixelTest new plan f passes n
 always_test new old plan f passes n is computes all = record {
   there = computes.net;
   width = computes.width;
@@ -80,7 +80,7 @@ always_test new old plan f passes n is computes all = record {
   made = λ base has. computes.made_of base (none_made old base);
 }
 
-pub never_test : (new old : Netlist) (plan : Parts) (f : ℕ) (passes : (x y : ℕ) → Type 0) (n : Net) → IsPlan plan → Computes new old [] 1 (λ s. bit false) n → NonePass plan.system.stencils.width plan.system.stencils.height passes → IsPixelTest new plan f passes n
+pub never_test : (new old : Netlist) (plan : Plan) (f : ℕ) (passes : (x y : ℕ) → Type 0) (n : Net) → IsPlan plan → Computes new old [] 1 (λ s. bit false) n → NonePass plan.system.stencils.width plan.system.stencils.height passes → IsPixelTest new plan f passes n
 never_test new old plan f passes n is computes none = record {
   there = computes.net;
   width = computes.width;

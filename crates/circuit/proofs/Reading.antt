@@ -15,7 +15,7 @@ use Rattle.pointwise_ir.specs.Trees.{Tree, constant, read, shifted, unary, binar
 use Rattle.edge_select.specs.declared.step.Step.{Step}
 use Rattle.edge_select.specs.Steps.{Lead, LeadBy}
 use Rattle.edge_select.proofs.Stepping.{lead_one, lead_in_frame, way_of}
-use Rattle.buffer_plan.specs.Plans.{Parts, ages_of, read_age, delay_of}
+use Rattle.buffer_plan.specs.Plans.{Plan, ages_of, read_age, delay_of}
 use Rattle.circuit.specs.Rounds.{Rounds, type_at, pixel_count, pictures_in}
 use Rattle.circuit.specs.Leaves.{LeafRead, with_step, reads_of, ReadIsRight}
 use Rattle.circuit.specs.Taps.{size_in, taps_at, TapsAreRight}
@@ -62,7 +62,7 @@ module _ (size : Size) (x y : ℤ) where
   leaf_reads (scale op a m) path i leaf at u v led = leaf_reads a path i leaf at u v led
 
 -- a live read's age, by the delays of the images at its ends
-aged : (plan : Parts) (f g : ℕ) (size : Size) (r : LiveRead) → r.f ≡ f → r.g ≡ g → size_in plan ≡ size → (age : ℕ) → pos age ≡ read_age plan r → pos age ≡ pos (delay_of plan f) -ℤ pos (delay_of plan g) -ℤ raster_offset size r.dx r.dy
+aged : (plan : Plan) (f g : ℕ) (size : Size) (r : LiveRead) → r.f ≡ f → r.g ≡ g → size_in plan ≡ size → (age : ℕ) → pos age ≡ read_age plan r → pos age ≡ pos (delay_of plan f) -ℤ pos (delay_of plan g) -ℤ raster_offset size r.dx r.dy
 aged plan f g size r ef eg es age e =
     e
     ∙ ap (λ (a : ℕ). pos (delay_of plan a) -ℤ pos (delay_of plan r.g) -ℤ raster_offset (size_in plan) r.dx r.dy) ef
@@ -70,7 +70,7 @@ aged plan f g size r ef eg es age e =
     ∙ ap (λ (z : Size). pos (delay_of plan f) -ℤ pos (delay_of plan g) -ℤ raster_offset z r.dx r.dy) es
 
 -- A leaf of image f's body e, at pixel q of f.
-module _ (p : Program) (rounds : Rounds) (plan : Parts) (taps : List (List Net)) (s : Snapshot) (t f q : ℕ) (e : Tree) (i : ℕ) (leaf : LeafRead) (value : ℕ)
+module _ (p : Program) (rounds : Rounds) (plan : Plan) (taps : List (List Net)) (s : Snapshot) (t f q : ℕ) (e : Tree) (i : ℕ) (leaf : LeafRead) (value : ℕ)
     (body : IsBody p f e) (at : slice_get (reads_of e []) i ≡ Some leaf) (size_is : size_in plan ≡ p.size) (wide : 1 ≤ p.size.width) (high : 1 ≤ p.size.height) (some : 0 < area p.size) (inside : IsTrue (in_frame p.size (pos (column p.size q)) (pos (row p.size q))))
     (live : (dx dy : ℤ) → IsLive p f leaf.image dx dy → (r : LiveRead) × Contains (reads_in plan f) r × (r.g ≡ leaf.image) × (r.dx ≡ dx) × (r.dy ≡ dy))
     (right : (r : LiveRead) → Contains (reads_in plan f) r → TapsAreRight p rounds plan taps t s r.g) (typed : IsType (type_at p leaf.image)) (values : (k : ℕ) (x y : ℤ) → k < length rounds → IsIn (type_at p leaf.image) (picture_at (pictures_in p rounds k) leaf.image x y))

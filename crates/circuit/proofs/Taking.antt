@@ -14,7 +14,7 @@ use Rattle.net_build.specs.Includes.{Includes}
 use Rattle.net_build.specs.Draft.{IsNet}
 use Rattle.net_build.proofs.Grown.{net_more, width_more}
 use Rattle.pointwise_ir.specs.Programs.{Program, IsProgram, types_of}
-use Rattle.buffer_plan.specs.Plans.{Parts, IsPlan, place_in, ages_of, width_of}
+use Rattle.buffer_plan.specs.Plans.{Plan, IsPlan, place_in, ages_of, width_of}
 use Rattle.circuit.specs.Rounds.{type_at}
 use Rattle.circuit.specs.Leaves.{LeafRead}
 use Rattle.circuit.specs.Taps.{Keeps, size_in, taps_at, IsTapOf, IsReading}
@@ -24,7 +24,7 @@ use Rattle.circuit.proofs.Bodied.{read_of, read_is_between, type_typed}
 use Rattle.circuit.proofs.Lasting.{choice_more}
 
 -- what is known of a live read by image f
-pub record IsOwnRead (b : Netlist) (p : Program) (plan : Parts) (taps : List (List Net)) (r : LiveRead) : Type 0 where
+pub record IsOwnRead (b : Netlist) (p : Program) (plan : Plan) (taps : List (List Net)) (r : LiveRead) : Type 0 where
   pub among : Contains plan.system.stencils.reads r
   pub kept : Keeps plan r.g
   pub there : place_in plan r.g < length taps
@@ -34,7 +34,7 @@ pub record IsOwnRead (b : Netlist) (p : Program) (plan : Parts) (taps : List (Li
   pub bits : width_of plan r.g ≡ bits_of_type (type_at p r.g)
   pub wide : IsWidth (width_of plan r.g)
 
-pub own_read : (b : Netlist) (p : Program) (plan : Parts) (taps : List (List Net)) (f : ℕ) (r : LiveRead) → IsPlan plan → IsReading b p plan taps f → Contains (reads_in plan f) r → IsOwnRead b p plan taps r
+pub own_read : (b : Netlist) (p : Program) (plan : Plan) (taps : List (List Net)) (f : ℕ) (r : LiveRead) → IsPlan plan → IsReading b p plan taps f → Contains (reads_in plan f) r → IsOwnRead b p plan taps r
 own_read b p plan taps f r is_plan reading has =
     let (among, of_f) = read_of plan f r has in
     let between = read_is_between plan is_plan r among in
@@ -66,7 +66,7 @@ chosen_width_more c b None bits f there h = h
 chosen_width_more c b (Some n) bits f there h = width_more c b f n there.declared ∙ h
 
 -- the net of a choice among all reads is the net of the read
-pub chosen_is_read : (new mid first : Netlist) (plan : Parts) (taps : List (List Net)) (f : ℕ) (leaf : LeafRead) (bits : ℕ) (o : Option Net) (n : Net) → Includes new mid → IsChoice mid first plan taps f (reads_in plan f) leaf bits o → IsNetOf new mid bits o n → IsReadNet new first plan taps f leaf bits n
+pub chosen_is_read : (new mid first : Netlist) (plan : Plan) (taps : List (List Net)) (f : ℕ) (leaf : LeafRead) (bits : ℕ) (o : Option Net) (n : Net) → Includes new mid → IsChoice mid first plan taps f (reads_in plan f) leaf bits o → IsNetOf new mid bits o n → IsReadNet new first plan taps f leaf bits n
 chosen_is_read new mid first plan taps f leaf bits (Some m) n grows is net =
     let now : IsChoice new first plan taps f (reads_in plan f) leaf bits (Some m) = choice_more new mid grows first plan taps f (reads_in plan f) leaf bits (Some m) is in
     subst (IsReadNet new first plan taps f leaf bits) net.there (record { there = now.there; width = now.width; value = now.value; made = now.made })

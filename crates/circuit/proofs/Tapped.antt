@@ -11,7 +11,7 @@ use Rattle.dk_base.proofs.Rasters.{below_is, inside_is, at_frame}
 use Rattle.wiring.specs.declared.netlist.Net.{Net}
 use Rattle.wiring.specs.Snapshot.{Snapshot, net_value}
 use Rattle.pointwise_ir.specs.Programs.{Program}
-use Rattle.buffer_plan.specs.Plans.{Parts, ages_of, delay_of}
+use Rattle.buffer_plan.specs.Plans.{Plan, ages_of, delay_of}
 use Rattle.circuit.specs.Rounds.{Rounds, type_at, pixel_count, pictures_in, pixel, pixel_bits}
 use Rattle.circuit.specs.Taps.{taps_at, TapsAreRight}
 
@@ -65,7 +65,7 @@ within_rounds size n k q some low same =
     let inner : q / a * a + q % a < n * a = subst (λ (z : ℕ). q / a * a + q % a < z) (mul_comm a n) (mul-add-lt (q / a) a (q % a) n (subst (λ (i : ℕ). i < n) (sym same) frame) rest) in
     subst (λ (i : ℕ). i < n * a) (sym whole) inner
 
-module _ (p : Program) (rounds : Rounds) (plan : Parts) (taps : List (List Net)) (s : Snapshot) (t f g : ℕ) (some : 0 < area p.size) (right : TapsAreRight p rounds plan taps t s g)
+module _ (p : Program) (rounds : Rounds) (plan : Plan) (taps : List (List Net)) (s : Snapshot) (t f g : ℕ) (some : 0 < area p.size) (right : TapsAreRight p rounds plan taps t s g)
     (typed : IsType (type_at p g)) (values : (k : ℕ) (x y : ℤ) → k < length rounds → IsIn (type_at p g) (picture_at (pictures_in p rounds k) g x y)) where
   -- at pixel q of image f, the tap of the read's age
   pub tap_is : (q : ℕ) (dx dy : ℤ) (k age : ℕ) (tap : Net) → q + delay_of plan f ≡ t → q < pixel_count p rounds → IsTrue (in_frame p.size (pos (column p.size q) +ℤ dx) (pos (row p.size q) +ℤ dy)) →

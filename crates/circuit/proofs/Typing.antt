@@ -15,7 +15,7 @@ use Rattle.pointwise_ir.specs.Programs.{Program, types_of}
 use Rattle.pointwise_ir.specs.Stencils.{AreStencilsOf}
 use Rattle.edge_select.specs.declared.step.Step.{Step}
 use Rattle.datapath.specs.Expressions.{reads_in as read_count, AreReadsOf}
-use Rattle.buffer_plan.specs.Plans.{Parts, width_of}
+use Rattle.buffer_plan.specs.Plans.{Plan, width_of}
 use Rattle.circuit.specs.Rounds.{type_at}
 use Rattle.circuit.specs.Leaves.{LeafRead, with_step, reads_of, ReadsBefore}
 use Rattle.circuit.specs.Taps.{Keeps}
@@ -29,7 +29,7 @@ entry_or (y ∷ xs) zero x d at = same_Some y x at
 entry_or (y ∷ xs) (suc k) x d at = entry_or xs k x d at
 
 -- the width of a kept image is its type's
-pub plan_width : (p : Program) (plan : Parts) (g : ℕ) → AreStencilsOf p plan.system.stencils → Keeps plan g → width_of plan g ≡ bits_of_type (type_at p g)
+pub plan_width : (p : Program) (plan : Plan) (g : ℕ) → AreStencilsOf p plan.system.stencils → Keeps plan g → width_of plan g ≡ bits_of_type (type_at p g)
 plan_width p plan g are kept =
     let images = plan.system.stencils.images in
     let none : Image = record { number = 0; width = 0 } in

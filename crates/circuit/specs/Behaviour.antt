@@ -14,7 +14,7 @@ use Rattle.net_build.specs.Runs.{IsClockOf, InEachRun}
 use Rattle.net_build.specs.Control.{IsMadeOf}
 use Rattle.pointwise_ir.specs.Programs.{Program}
 use Rattle.pointwise_ir.specs.Stencils.{AreStencilsOf}
-use Rattle.buffer_plan.specs.Plans.{Parts, delay_of, depth_of, latency_of}
+use Rattle.buffer_plan.specs.Plans.{Plan, delay_of, depth_of, latency_of}
 use Rattle.line_buffer.specs.Streams.{IsPixel, BufferIsRight}
 use Rattle.line_buffer.specs.Places.{word_at}
 use Rattle.circuit.specs.declared.options.Options.{Options}
@@ -25,7 +25,7 @@ use Rattle.circuit.specs.Forms.{Shapes, Places}
 use Rattle.circuit.specs.Images.{source_of}
 
 -- the plan is one of the program, at the age that is asked
-pub record IsPlanOf (p : Program) (plan : Parts) (options : Options) : Type 0 where
+pub record IsPlanOf (p : Program) (plan : Plan) (options : Options) : Type 0 where
   pub stencils : AreStencilsOf p plan.system.stencils
   pub age : plan.system.age ≡ options.age
 
@@ -40,7 +40,7 @@ abbrev pub is_valid : Netlist → (latency : ℕ) → List Clock → Clock → B
 is_valid m latency before c = (not c.reset && not (is_held m c)) && nat_le latency (length (counted m before))
 
 -- the net of a kept image
-abbrev pub net_of : Parts → List Net → ℕ → Net
+abbrev pub net_of : Plan → List Net → ℕ → Net
 net_of plan nets g = slice_index_or nets (place plan.system.stencils.images g) (Input 0)
 
 -- at counted clock t an image's net is its pixel t - delay, for all rounds that agree with what came in
@@ -50,7 +50,7 @@ ShowsPixels m p delay g net =
     IsPixel (pixel_bits p rounds g) (pixel_count p rounds) delay (length (counted n before)) (net_value s net)
 
 -- The behaviour of the module of a program under a plan, where `places` says which word holds which pixel, and the kept images have these nets.
-pub record Behaves (m : Netlist) (p : Program) (plan : Parts) (places : Places) (nets : List Net) : Type 0 where
+pub record Behaves (m : Netlist) (p : Program) (plan : Plan) (places : Places) (nets : List Net) : Type 0 where
   pub one_each : length nets ≡ length plan.system.stencils.images
   -- each kept image's net is its pixel that is due
   pub net : (g : ℕ) → Keeps plan g → ShowsPixels m p (delay_of plan g) g (net_of plan nets g)
@@ -65,5 +65,5 @@ pub record Behaves (m : Netlist) (p : Program) (plan : Parts) (places : Places) 
   pub held : InEachRun m (λ n before c s. n ≡ m → IsTrue (is_held n c) → (next : Contents) → IsNext n s next → next ≡ s.contents)
 
 -- Where each read is at least one clock old, the net of a kept image that is no input is made of rst, en, registers and the arrays of the images of which it has a live read, so no path of assigns passes through two images.
-abbrev pub IsApart : Netlist → Program → Parts → Shapes → List Net → Type 0
+abbrev pub IsApart : Netlist → Program → Plan → Shapes → List Net → Type 0
 IsApart m p plan shapes nets = 1 ≤ plan.system.age → (f : ℕ) → Keeps plan f → length p.inputs ≤ f → IsMadeOf m (source_of shapes plan f m.enable) (OfNet (net_of plan nets f))

@@ -6,7 +6,7 @@ use Rattle.wiring.specs.Snapshot.{Contents, Snapshot, Fit, FitsContents, net_val
 use Rattle.wiring.specs.Clock.{Clock}
 use Rattle.wiring.specs.Runs.{Runs, RunStops}
 use Rattle.pointwise_ir.specs.Programs.{Program}
-use Rattle.buffer_plan.specs.Plans.{Parts, latency_of}
+use Rattle.buffer_plan.specs.Plans.{Plan, latency_of}
 use Rattle.circuit.specs.Rounds.{Rounds, AreRounds, pixel, pixel_count}
 use Rattle.circuit.specs.Behaviour.{HasPorts}
 
@@ -31,7 +31,7 @@ abbrev pub Agree : Program → Rounds → (dins : List (List ℕ)) → Type 0
 Agree p rounds dins = (k q : ℕ) → k < length p.inputs → q < length dins → q < pixel_count p rounds → pos (slice_index (slice_index_or dins q []) k) ≡ pixel p rounds k q
 
 -- Over a reset clock and then clocks with any numbers that fit, from any contents that fit: no clock stops; each valid is 0 in the reset clock and in as many clocks as the output's latency, and 1 from then on; and each dout is then its output's pixels in raster order, for all rounds that agree with what came in.
-pub record Drives (m : Netlist) (p : Program) (plan : Parts) : Type 0 where
+pub record Drives (m : Netlist) (p : Program) (plan : Plan) : Type 0 where
   pub ports : HasPorts m p m.enable
   pub never : (from : Contents) (dins : List (List ℕ)) (shots : List Snapshot) (array index : ℕ) → FitsContents m from → All (Fit (input_widths p)) dins → RunStops m from (driven (length p.inputs) dins) shots array index → ⊥
   pub valid : (from to : Contents) (dins : List (List ℕ)) (shots : List Snapshot) → FitsContents m from → All (Fit (input_widths p)) dins → Runs m from (driven (length p.inputs) dins) shots to →

@@ -11,7 +11,7 @@ use Rattle.net_build.specs.Draft.{IsNet, IsDraft, UpdatedBut, flat, with_outputs
 use Rattle.net_build.specs.Runs.{IsWhole, NeverStops, StillBut, RunsOn, InEachRun}
 use Rattle.net_build.specs.Control.{IsControlled}
 use Rattle.net_build.specs.Counters.{AddsControl}
-use Rattle.buffer_plan.specs.Plans.{Parts, latency_of}
+use Rattle.buffer_plan.specs.Plans.{Plan, latency_of}
 use Rattle.circuit.specs.Behaviour.{net_of, is_valid}
 
 -- since a reset the net is 0 in each reset clock, each held clock and each counted clock below the latency, and 1 in each later one
@@ -19,7 +19,7 @@ pub record IsStarted (b : Netlist) (latency : ℕ) (net : Net) : Type 0 where
   pub started : InEachRun b (λ m before c s. IsTrue (was_reset (c ∷ before)) → net_value s net ≡ bit (is_valid m latency before c))
 
 -- For each of the first n outputs its valid and its dout.
-pub record AreOuts (b : Netlist) (plan : Parts) (nets : List Net) (n : ℕ) (outs : List (Net × Net)) : Type 0 where
+pub record AreOuts (b : Netlist) (plan : Plan) (nets : List Net) (n : ℕ) (outs : List (Net × Net)) : Type 0 where
   pub count : length outs ≡ n
   pub dout : (k : ℕ) (out : Net × Net) → slice_get outs k ≡ Some out → out.1 ≡ net_of plan nets (slice_index plan.system.stencils.outputs k)
   pub there : (k : ℕ) (out : Net × Net) → slice_get outs k ≡ Some out → IsNet b out.0
@@ -27,34 +27,34 @@ pub record AreOuts (b : Netlist) (plan : Parts) (nets : List Net) (n : ℕ) (out
   pub valid : (k : ℕ) (out : Net × Net) → slice_get outs k ≡ Some out → IsStarted b (latency_of plan k) out.0
 
 -- the image of the k-th output
-abbrev pub output_in : Parts → (k : ℕ) → ℕ
+abbrev pub output_in : Plan → (k : ℕ) → ℕ
 output_in plan k = slice_index plan.system.stencils.outputs k
 
 -- the valid of the k-th output
-pub record IsValidOf (b : Netlist) (plan : Parts) (k : ℕ) (net : Net) : Type 0 where
+pub record IsValidOf (b : Netlist) (plan : Plan) (k : ℕ) (net : Net) : Type 0 where
   pub there : IsNet b net
   pub width : net_width b net ≡ 1
   pub started : IsStarted b (latency_of plan k) net
 
 -- for each of these outputs its valid
-abbrev pub AreValids : Netlist → Parts → List (Net × Net) → Type 0
+abbrev pub AreValids : Netlist → Plan → List (Net × Net) → Type 0
 AreValids b plan outs = (k : ℕ) (out : Net × Net) → slice_get outs k ≡ Some out → IsValidOf b plan k out.0
 
 -- the valid and the dout of the k-th output
-pub record IsOut (b : Netlist) (plan : Parts) (nets : List Net) (k : ℕ) (out : Net × Net) : Type 0 where
+pub record IsOut (b : Netlist) (plan : Plan) (nets : List Net) (k : ℕ) (out : Net × Net) : Type 0 where
   pub valid : IsValidOf b plan k out.0
   pub dout : out.1 ≡ net_of plan nets (output_in plan k)
 
 -- the net is the valid of each of these outputs that has the latency of the k-th
-abbrev pub IsSharedBy : Parts → List (Net × Net) → (k : ℕ) → Net → Type 0
+abbrev pub IsSharedBy : Plan → List (Net × Net) → (k : ℕ) → Net → Type 0
 IsSharedBy plan outs k net = (j : ℕ) (out : Net × Net) → slice_get outs j ≡ Some out → latency_of plan j ≡ latency_of plan k → out.0 ≡ net
 
 -- outputs of one latency have one valid
-abbrev pub AreShared : Parts → List (Net × Net) → Type 0
+abbrev pub AreShared : Plan → List (Net × Net) → Type 0
 AreShared plan outs = (k : ℕ) (out : Net × Net) → slice_get outs k ≡ Some out → IsSharedBy plan outs k out.0
 
 -- Each output can take the net of its image, which has its width, and all registers and arrays are updated.
-pub record CanEnd (b : Netlist) (plan : Parts) (nets : List Net) : Type 0 where
+pub record CanEnd (b : Netlist) (plan : Plan) (nets : List Net) : Type 0 where
   pub count : length nets ≡ length plan.system.stencils.images
   pub widths : List ℕ
   pub outputs : b.outputs ≡ with_valids widths
@@ -64,7 +64,7 @@ pub record CanEnd (b : Netlist) (plan : Parts) (nets : List Net) : Type 0 where
   pub updated : UpdatedBut b []
 
 -- The module of a netlist with control for its outputs, which take their valids and the nets of their images.
-pub record IsClosed (m b : Netlist) (plan : Parts) (nets : List Net) : Type 0 where
+pub record IsClosed (m b : Netlist) (plan : Plan) (nets : List Net) : Type 0 where
   pub last : Netlist
   pub adds : AddsControl last b
   pub draft : IsDraft last

@@ -8,39 +8,39 @@ use Rattle.wiring.specs.declared.netlist.Shape.{Shape}
 use Rattle.wiring.specs.Netlist.{Netlist}
 use Rattle.wiring.specs.BufferBits.{array_bits}
 use Rattle.net_build.specs.Indices.{read_indices, put_indices}
-use Rattle.buffer_plan.specs.Plans.{Parts, ages_of, width_of, depth_of}
+use Rattle.buffer_plan.specs.Plans.{Plan, ages_of, width_of, depth_of}
 use Rattle.line_buffer.specs.Places.{Place, chain_shapes, chain_place, ring_shapes, ring_place}
 use Rattle.line_buffer.specs.Buffers.{IsBuffer, AddsBuffer, AreMadeOfBuffer}
 
 -- the arrays of a form, by a plan and an image; and where it holds an age of an image at a clock
 abbrev pub Shapes : Type 0
-Shapes = Parts → (g : ℕ) → List Shape
+Shapes = Plan → (g : ℕ) → List Shape
 
 abbrev pub Places : Type 0
-Places = Parts → (g age t : ℕ) → Place
+Places = Plan → (g age t : ℕ) → Place
 
 -- what each array of a form keeps, by the indices at which it is read and those at which it is put
 abbrev pub Property : Type 1
 Property = (reads puts : List (Atom Net)) → Type 0
 
 -- the arrays of these images, one after another
-abbrev pub shapes_of : Shapes → Parts → List Image → List Shape
+abbrev pub shapes_of : Shapes → Plan → List Image → List Shape
 shapes_of shapes plan [] = []
 shapes_of shapes plan (i ∷ images) = shapes plan i.number ++ shapes_of shapes plan images
 
 -- those of all kept images before this one
-abbrev pub shapes_before : Shapes → Parts → (g : ℕ) → List Shape
+abbrev pub shapes_before : Shapes → Plan → (g : ℕ) → List Shape
 shapes_before shapes plan g = shapes_of shapes plan (take (place plan.system.stencils.images g) plan.system.stencils.images)
 
 -- the numbers of an image's arrays: from the first to before the end
-abbrev pub first_array : Shapes → Parts → (g : ℕ) → ℕ
+abbrev pub first_array : Shapes → Plan → (g : ℕ) → ℕ
 first_array shapes plan g = length (shapes_before shapes plan g)
 
-abbrev pub end_array : Shapes → Parts → (g : ℕ) → ℕ
+abbrev pub end_array : Shapes → Plan → (g : ℕ) → ℕ
 end_array shapes plan g = first_array shapes plan g + length (shapes plan g)
 
 -- What a form has done for image g: its taps, each for an age; arrays of width times depth bits, and nothing else that takes in what came in; and each array has the form's property.
-pub record IsBuffered (b old : Netlist) (plan : Parts) (g : ℕ) (shapes : Shapes) (places : Places) (property : Property) (value : Net) (taps : List Net) : Type 0 where
+pub record IsBuffered (b old : Netlist) (plan : Plan) (g : ℕ) (shapes : Shapes) (places : Places) (property : Property) (value : Net) (taps : List Net) : Type 0 where
   pub buffer : IsBuffer b (places plan g) (ages_of plan g) taps value
   pub adds : AddsBuffer b old (shapes plan g)
   pub bits : array_bits (shapes plan g) ≡ width_of plan g * depth_of plan g

@@ -19,7 +19,7 @@ use Rattle.net_build.specs.Runs.{NeverStops, StillBut}
 use Rattle.net_build.specs.Control.{IsMadeOf, IsControlled, is_control}
 use Rattle.net_build.specs.Indices.{read_indices, put_indices}
 use Rattle.pointwise_ir.specs.Programs.{Program}
-use Rattle.buffer_plan.specs.Plans.{Parts, delay_of, ages_of, width_of, depth_of}
+use Rattle.buffer_plan.specs.Plans.{Plan, delay_of, ages_of, width_of, depth_of}
 use Rattle.line_buffer.specs.Streams.{IsPixel}
 use Rattle.line_buffer.specs.Buffers.{IsBuffer, AreMadeOfBuffer}
 use Rattle.circuit.specs.Runs.{IsRunning}
@@ -29,13 +29,13 @@ use Rattle.circuit.specs.Reads.{reads_in, IsMadeOfTaps}
 use Rattle.circuit.specs.Forms.{Shapes, Places, Property, shapes_of, first_array, end_array}
 
 -- In each counted clock the net of image f is the pixel that is due, for all rounds whose pixels the taps of the images before it have.
-abbrev pub IsBodyNet : Netlist → Program → Parts → List (List Net) → (f : ℕ) → Net → Type 0
+abbrev pub IsBodyNet : Netlist → Program → Plan → List (List Net) → (f : ℕ) → Net → Type 0
 IsBodyNet b p plan taps f net =
     (m : Netlist) (from : Contents) (before : List Clock) (c : Clock) (s : Snapshot) → IsRunning b m from before c s → (rounds : Rounds) → AreRounds p rounds → ((g : ℕ) → g < f → Keeps plan g → TapsAreRight p rounds plan taps (length (counted m before)) s g) →
     IsPixel (pixel_bits p rounds f) (pixel_count p rounds) (delay_of plan f) (length (counted m before)) (net_value s net)
 
 -- the net of image f: the din of an input, or the net of a body, which is made of taps
-pub record IsImageNet (b old : Netlist) (p : Program) (plan : Parts) (taps : List (List Net)) (f : ℕ) (net : Net) : Type 0 where
+pub record IsImageNet (b old : Netlist) (p : Program) (plan : Plan) (taps : List (List Net)) (f : ℕ) (net : Net) : Type 0 where
   pub there : IsNet b net
   pub width : net_width b net ≡ width_of plan f
   pub input : f < length p.inputs → net ≡ din_net b f
@@ -43,16 +43,16 @@ pub record IsImageNet (b old : Netlist) (p : Program) (plan : Parts) (taps : Lis
   pub made : length p.inputs ≤ f → IsMadeOfTaps b old plan taps (reads_in plan f) net
 
 -- a number of an array of an image
-abbrev pub is_array_of : Shapes → Parts → (g x : ℕ) → Bool
+abbrev pub is_array_of : Shapes → Plan → (g x : ℕ) → Bool
 is_array_of shapes plan g x = nat_le (first_array shapes plan g) x && nat_lt x (end_array shapes plan g)
 
 -- rst, en, the registers, and the arrays of the images of which f has a live read
-abbrev pub source_of : Shapes → Parts → (f : ℕ) → (enable : Bool) → Holder → Bool
+abbrev pub source_of : Shapes → Plan → (f : ℕ) → (enable : Bool) → Holder → Bool
 source_of shapes plan f enable (OfNet n) = is_control enable (OfNet n)
 source_of shapes plan f enable (OfArray x) = list_any (λ (r : LiveRead). is_array_of shapes plan r.g x) (reads_in plan f)
 
 -- What has been built for image g, as the netlist b has it: its net, and its buffer by its taps.
-pub record IsLine (b : Netlist) (p : Program) (plan : Parts) (shapes : Shapes) (places : Places) (property : Property) (taps : List (List Net)) (g : ℕ) (net : Net) : Type 0 where
+pub record IsLine (b : Netlist) (p : Program) (plan : Plan) (shapes : Shapes) (places : Places) (property : Property) (taps : List (List Net)) (g : ℕ) (net : Net) : Type 0 where
   pub there : IsNet b net
   pub width : net_width b net ≡ width_of plan g
   pub input : g < length p.inputs → net ≡ din_net b g
@@ -68,7 +68,7 @@ abbrev pub ports_of : Program → (enable : Bool) → Netlist
 ports_of p enable = empty_draft enable (map (λ i. bits_of_type i.ty) p.inputs) (map (λ g. bits_of_type (type_at p g)) p.outputs)
 
 -- The first n of the kept images have their nets and their buffers, and nothing else is there.
-pub record AreBuilt (b : Netlist) (p : Program) (plan : Parts) (shapes : Shapes) (places : Places) (property : Property) (n : ℕ) (nets : List Net) (taps : List (List Net)) : Type 0 where
+pub record AreBuilt (b : Netlist) (p : Program) (plan : Plan) (shapes : Shapes) (places : Places) (property : Property) (n : ℕ) (nets : List Net) (taps : List (List Net)) : Type 0 where
   pub ports : Includes b (ports_of p b.enable)
   pub net_count : length nets ≡ n
   pub tap_count : length taps ≡ n

@@ -23,18 +23,18 @@ use Rattle.edge_select.specs.declared.step.Step.{Step}
 use Rattle.edge_select.specs.declared.pixel.Pixel.{Pixel}
 use Rattle.edge_select.specs.Steps.{LeadBy, LeadOn}
 use Rattle.edge_select.specs.Pixels.{HasPixel, Follows, IsBitOf}
-use Rattle.buffer_plan.specs.Plans.{Parts, delay_of, reads_by}
+use Rattle.buffer_plan.specs.Plans.{Plan, delay_of, reads_by}
 use Rattle.circuit.specs.Runs.{AtEachPixel}
 use Rattle.circuit.specs.Rounds.{type_at}
 use Rattle.circuit.specs.Leaves.{LeafRead}
 use Rattle.circuit.specs.Taps.{size_in, IsTapOf, HasControl}
 
 -- the live reads by image f
-abbrev pub reads_in : Parts → (f : ℕ) → List LiveRead
+abbrev pub reads_in : Plan → (f : ℕ) → List LiveRead
 reads_in plan f = reads_by f plan.system.stencils.reads
 
 -- registers that follow the pixels of image f
-pub record HasPosition (b : Netlist) (plan : Parts) (f : ℕ) (pixel : Pixel) : Type 0 where
+pub record HasPosition (b : Netlist) (plan : Plan) (f : ℕ) (pixel : Pixel) : Type 0 where
   pub size : size_of pixel.size ≡ size_in plan
   pub nets : HasPixel b pixel
   pub follows : Follows b (delay_of plan f) pixel
@@ -42,7 +42,7 @@ pub record HasPosition (b : Netlist) (plan : Parts) (f : ℕ) (pixel : Pixel) : 
   pub row : (k : ℕ) × (pixel.row ≡ Reg k)
 
 -- one of these reads of the leaf's image leads from the pixel by its offset, and the number is its tap's
-pub record IsLedTo (size : Size) (plan : Parts) (taps : List (List Net)) (reads : List LiveRead) (leaf : LeafRead) (x y : ℕ) (s : Snapshot) (value : ℕ) : Type 0 where
+pub record IsLedTo (size : Size) (plan : Plan) (taps : List (List Net)) (reads : List LiveRead) (leaf : LeafRead) (x y : ℕ) (s : Snapshot) (value : ℕ) : Type 0 where
   pub read : LiveRead
   pub among : Contains reads read
   pub of_image : read.g ≡ leaf.image
@@ -56,11 +56,11 @@ pub record IsLedNowhere (size : Size) (reads : List LiveRead) (leaf : LeafRead) 
   pub none : (r : LiveRead) → Contains reads r → r.g ≡ leaf.image → LeadBy size leaf.steps r.dx r.dy x y → ⊥
   pub value_is : value ≡ 0
 
-abbrev pub IsChosen : Size → Parts → List (List Net) → List LiveRead → LeafRead → (x y : ℕ) → Snapshot → (value : ℕ) → Type 0
+abbrev pub IsChosen : Size → Plan → List (List Net) → List LiveRead → LeafRead → (x y : ℕ) → Snapshot → (value : ℕ) → Type 0
 IsChosen size plan taps reads leaf x y s value = IsLedTo size plan taps reads leaf x y s value ⊎ IsLedNowhere size reads leaf x y value
 
 -- where the taps of these reads are made of the base in the first netlist, and the base has rst, en and registers, the net is made of the base
-abbrev pub IsMadeOfTaps : (b first : Netlist) → Parts → List (List Net) → List LiveRead → Net → Type 0
+abbrev pub IsMadeOfTaps : (b first : Netlist) → Plan → List (List Net) → List LiveRead → Net → Type 0
 IsMadeOfTaps b first plan taps reads net =
     (base : Holder → Bool) → HasControl first.enable base → ((r : LiveRead) (tap : Net) → Contains reads r → IsTapOf plan taps r tap → IsMadeOf first base (OfNet tap)) → IsMadeOf b base (OfNet net)
 
@@ -70,28 +70,28 @@ worth_of s None = 0
 worth_of s (Some n) = net_value s n
 
 -- of these reads by image f, the net of the one that is meant
-pub record IsChoice (b first : Netlist) (plan : Parts) (taps : List (List Net)) (f : ℕ) (reads : List LiveRead) (leaf : LeafRead) (bits : ℕ) (choice : Option Net) : Type 0 where
+pub record IsChoice (b first : Netlist) (plan : Plan) (taps : List (List Net)) (f : ℕ) (reads : List LiveRead) (leaf : LeafRead) (bits : ℕ) (choice : Option Net) : Type 0 where
   pub there : IfSome choice (IsNet b)
   pub width : IfSome choice (λ n. net_width b n ≡ bits)
   pub value : AtEachPixel b (size_in plan) (delay_of plan f) (λ x y s. IsChosen (size_in plan) plan taps reads leaf x y s (worth_of s choice))
   pub made : IfSome choice (IsMadeOfTaps b first plan taps reads)
 
 -- The net of a read by image f: of all live reads by f of the image that is read, it is the tap of one by whose offset the steps lead, and 0 where they lead by none.
-pub record IsReadNet (b first : Netlist) (plan : Parts) (taps : List (List Net)) (f : ℕ) (leaf : LeafRead) (bits : ℕ) (net : Net) : Type 0 where
+pub record IsReadNet (b first : Netlist) (plan : Plan) (taps : List (List Net)) (f : ℕ) (leaf : LeafRead) (bits : ℕ) (net : Net) : Type 0 where
   pub there : IsNet b net
   pub width : net_width b net ≡ bits
   pub value : AtEachPixel b (size_in plan) (delay_of plan f) (λ x y s. IsChosen (size_in plan) plan taps (reads_in plan f) leaf x y s (net_value s net))
   pub made : IsMadeOfTaps b first plan taps (reads_in plan f) net
 
 -- A bit of image f that is 1 in the pixels that pass, and made of rst, en and registers alone.
-pub record IsPixelTest (b : Netlist) (plan : Parts) (f : ℕ) (passes : (x y : ℕ) → Type 0) (net : Net) : Type 0 where
+pub record IsPixelTest (b : Netlist) (plan : Plan) (f : ℕ) (passes : (x y : ℕ) → Type 0) (net : Net) : Type 0 where
   pub there : IsNet b net
   pub width : net_width b net ≡ 1
   pub value : AtEachPixel b (size_in plan) (delay_of plan f) (λ x y s. IsBitOf (passes x y) (net_value s net))
   pub made : (base : Holder → Bool) → HasControl b.enable base → IsMadeOf b base (OfNet net)
 
 -- Nets for these leaves of image f: each read has its image's type, and each bit says whether the steps lead somewhere.
-pub record AreLeafNets (b first : Netlist) (p : Program) (plan : Parts) (taps : List (List Net)) (f : ℕ) (leaves : List LeafRead) (parts : List (List Step)) (reads : List (Ty × Net)) (bits : List Net) : Type 0 where
+pub record AreLeafNets (b first : Netlist) (p : Program) (plan : Plan) (taps : List (List Net)) (f : ℕ) (leaves : List LeafRead) (parts : List (List Step)) (reads : List (Ty × Net)) (bits : List Net) : Type 0 where
   pub reads_are : length reads ≡ length leaves
   pub bits_are : length bits ≡ length parts
   pub ty : (i : ℕ) (leaf : LeafRead) (n : Ty × Net) → slice_get leaves i ≡ Some leaf → slice_get reads i ≡ Some n → n.0 ≡ type_at p leaf.image
@@ -99,12 +99,12 @@ pub record AreLeafNets (b first : Netlist) (p : Program) (plan : Parts) (taps : 
   pub bit : (i : ℕ) (steps : List Step) (n : Net) → slice_get parts i ≡ Some steps → slice_get bits i ≡ Some n → IsPixelTest b plan f (LeadOn (size_in plan) steps) n
 
 -- whatever was chosen among some reads, `choice` is what is chosen among one more
-abbrev pub ChoosesAlso : (b old : Netlist) → Program → Parts → List (List Net) → (f : ℕ) → LeafRead → LiveRead → (before choice : Option Net) → Type 0
+abbrev pub ChoosesAlso : (b old : Netlist) → Program → Plan → List (List Net) → (f : ℕ) → LeafRead → LiveRead → (before choice : Option Net) → Type 0
 ChoosesAlso b old p plan taps f leaf read before choice =
     (first : Netlist) (reads : List LiveRead) → Includes old first → IsChoice old first plan taps f reads leaf (bits_of_type (type_at p leaf.image)) before → IsChoice b first plan taps f (reads ++ read ∷ []) leaf (bits_of_type (type_at p leaf.image)) choice
 
 -- `choice` is what is chosen among all live reads by image f
-abbrev pub Chooses : (b old : Netlist) → Program → Parts → List (List Net) → (f : ℕ) → LeafRead → (choice : Option Net) → Type 0
+abbrev pub Chooses : (b old : Netlist) → Program → Plan → List (List Net) → (f : ℕ) → LeafRead → (choice : Option Net) → Type 0
 Chooses b old p plan taps f leaf choice = (first : Netlist) → Includes old first → IsChoice b first plan taps f (reads_in plan f) leaf (bits_of_type (type_at p leaf.image)) choice
 
 -- the net that is meant, if there is one
@@ -127,5 +127,5 @@ pub record IsNetOf (b old : Netlist) (bits : ℕ) (choice : Option Net) (net : N
   pub zero : IfNone choice (Computes b old [] bits (λ s. 0) net)
 
 -- behind the leaves that are there these are added, with their nets
-pub record AddsLeaves (b old : Netlist) (p : Program) (plan : Parts) (taps : List (List Net)) (f : ℕ) (leaves : List LeafRead) (parts : List (List Step)) (now before : Leaves) : Type 0 where
+pub record AddsLeaves (b old : Netlist) (p : Program) (plan : Plan) (taps : List (List Net)) (f : ℕ) (leaves : List LeafRead) (parts : List (List Step)) (now before : Leaves) : Type 0 where
   pub added : (first : Netlist) (ls : List LeafRead) (ps : List (List Step)) → Includes old first → AreLeafNets old first p plan taps f ls ps before.reads.items before.bits.items → AreLeafNets b first p plan taps f (ls ++ leaves) (ps ++ parts) now.reads.items now.bits.items

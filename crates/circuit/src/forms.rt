@@ -7,7 +7,7 @@ ghost use Rattle.wiring.specs.declared.netlist.Shape.{Shape};
 ghost use Rattle.wiring.specs.Netlist.{net_width};
 ghost use Rattle.net_build.specs.Includes.{Includes};
 ghost use Rattle.net_build.specs.Draft.{IsNet};
-ghost use Rattle.buffer_plan.specs.Plans.{Parts, width_of};
+ghost use Rattle.buffer_plan.specs.Plans.{Plan as ThePlan, width_of};
 ghost use Rattle.line_buffer.specs.Places.{Place};
 ghost use Rattle.line_buffer.specs.Indices.{IsReadOnce};
 ghost use Rattle.circuit.specs.Taps.{Keeps};
@@ -24,10 +24,10 @@ use wiring::Net;
 /// A way to keep the last pixels of the images of a plan.
 pub trait BufferForm {
     /// The arrays that are added for an image.
-    ghost shapes: { Self → Parts → ℕ → List Shape };
+    ghost shapes: { Self → ThePlan → ℕ → List Shape };
 
     /// Which word holds the pixel of an age of an image at a clock.
-    ghost places: { Self → Parts → ℕ → ℕ → ℕ → Place };
+    ghost places: { Self → ThePlan → ℕ → ℕ → ℕ → Place };
 
     /// What each array keeps, by the indices at which it is read and those at which it is put.
     ghost property: { Self → List (Atom Net) → List (Atom Net) → Type 0 };

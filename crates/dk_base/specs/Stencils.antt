@@ -7,7 +7,7 @@ use Rattle.dk_base.specs.declared.TheConstants.{MAX_INPUTS, MAX_OUTPUTS, MAX_KEP
 use Rattle.dk_base.specs.Frames.{IsFrame}
 
 -- The frame's sides in pixels, how many inputs there are, the images that are outputs, the kept images in order, and their live reads. The inputs are the images 0, 1 and so on.
-pub record Parts : Type 0 where
+pub record Stencils : Type 0 where
   pub width : ℕ
   pub height : ℕ
   pub inputs : ℕ
@@ -91,7 +91,7 @@ pub record AreLiveReads (width height inputs : ℕ) (images : List Image) (reads
   pub in_order : AreInOrder reads
   pub between : All (IsRead width height inputs images) reads
 
-pub record IsStencils (s : Parts) : Type 0 where
+pub record IsStencils (s : Stencils) : Type 0 where
   pub frame : IsFrame s.width s.height
   pub images : AreKeptImages s.inputs s.images
   pub outputs : AreOutputs s.images s.outputs

@@ -31,9 +31,9 @@ pub struct Stencils {
 }
 
 impl Model for Stencils {
-    ghost use Rattle.dk_base.specs.Stencils.{Parts, IsStencils};
+    ghost use Rattle.dk_base.specs.Stencils.{Stencils as TheStencils, IsStencils};
 
-    ghost Value = { Parts };
+    ghost Value = { TheStencils };
 
     ghost view = { λ s. record { width = s.width; height = s.height; inputs = s.inputs; outputs = s.outputs.items; images = s.images.items; reads = s.reads.items } };
 

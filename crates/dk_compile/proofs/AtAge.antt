@@ -1,11 +1,11 @@
 -- What the definitions say of a text at an age.
 use Rattle.std.proofs.Common.{◌≡◌, ◌≢◌, ◌⊎◌, inl, inr, ℕ, List, refl, ap, sym, subst, ◌∙◌}
-use Rattle.dk_base.specs.Stencils.{Parts as Stencils}
+use Rattle.dk_base.specs.Stencils.{Stencils}
 use Rattle.dk_types.specs.Typed.{Typing}
 use Rattle.pointwise_ir.specs.Programs.{Program}
-use Rattle.raster_delay.specs.Systems.{Parts as System}
+use Rattle.raster_delay.specs.Systems.{System}
 use Rattle.flow_dual.specs.declared.solution.Solution.{Solution}
-use Rattle.buffer_plan.specs.Plans.{Parts}
+use Rattle.buffer_plan.specs.Plans.{Plan}
 use Rattle.buffer_plan.specs.declared.fault.PlanFault.{PlanFault}
 use Rattle.buffer_plan.specs.declared.fault.PlanFault.TheVariants as plan
 use Rattle.buffer_plan.specs.Limits.{IsWithinLimits, KeepsLimits, IsPlanFault}
@@ -66,7 +66,7 @@ own_or_limit text age OutOfMemory h = inl h
 
 module _ (accepted_of : (text : List ℕ) (p : Typing) (ir : Program) (s : Stencils) → IsFront text p ir s → IsAccepted text p) where
   -- what is planned is accepted
-  pub planned_accepted : (text : List ℕ) (age : ℕ) (p : Typing) (ir : Program) (s : System) (x : Solution) (r : Parts) → IsPlanned text age p ir s x r → IsAcceptedAt text age p
+  pub planned_accepted : (text : List ℕ) (age : ℕ) (p : Typing) (ir : Program) (s : System) (x : Solution) (r : Plan) → IsPlanned text age p ir s x r → IsAcceptedAt text age p
   planned_accepted text age p ir s x r is = record {
     accepted = accepted_of text p ir s.stencils is.has.front;
     ir = ir;
@@ -75,7 +75,7 @@ module _ (accepted_of : (text : List ℕ) (p : Typing) (ir : Program) (s : Stenc
     keeps = record {
       delays_are = x.delays;
       vector = is.solved.vector;
-      within = subst (λ (y : Parts). IsWithinLimits y.system y.delays) is.plan_is is.within.within;
+      within = subst (λ (y : Plan). IsWithinLimits y.system y.delays) is.plan_is is.within.within;
     };
   }
 

@@ -2,7 +2,7 @@
 use Rattle.std.proofs.Common.{◌≡◌, ℕ, zero, suc, ◌≤◌, ◌<◌, ℤ, inl, inr, List, [], ◌∷◌, length, refl, sym, ap, ◌∙◌, arith}
 use Rattle.std.specs.Prelude.{Contains}
 use Rattle.dk_base.specs.declared.stencils.LiveRead.{LiveRead}
-use Rattle.dk_base.specs.Stencils.{Parts}
+use Rattle.dk_base.specs.Stencils.{Stencils}
 use Rattle.dk_types.specs.Typed.{Typing}
 use Rattle.pointwise_ir.specs.Programs.{Program}
 use Rattle.pointwise_ir.specs.Stencils.{Has, the, AreReads, AreStencilsOf}
@@ -78,7 +78,7 @@ module _ (p : Typing) where
       exact = λ r. (λ h. of_form r ((are.exact r.f r.g r.dx r.dy).0 (has_of reads r h)), λ h. of_has reads r ((are.exact r.f r.g r.dx r.dy).1 (to_form r h)));
     }
 
-    pub same_reads : (s : Parts) (reads : List LiveRead) → AreStencilsOf ir s → AreReadsOf p reads → s.reads ≡ reads
+    pub same_reads : (s : Stencils) (reads : List LiveRead) → AreStencilsOf ir s → AreReadsOf p reads → s.reads ≡ reads
     same_reads s reads stencils are = one_list s.reads reads (reads_of s.reads stencils.reads) are
 
     pub too_many_of : (count : ℕ) → 4096 < count → HasCount ir count → HasTooMany p count
@@ -102,5 +102,5 @@ stencil_fault text p ir is within form (stencils.Reads count) (more, counted) = 
 stencil_fault text p ir is within form stencils.OutOfMemory told = tt
 
 -- what is given is of a text that is accepted
-pub accepted_of : (text : List ℕ) (p : Typing) (ir : Program) (s : Parts) → IsFront text p ir s → IsAccepted text p
+pub accepted_of : (text : List ℕ) (p : Typing) (ir : Program) (s : Stencils) → IsFront text p ir s → IsAccepted text p
 accepted_of text p ir s is = record { program = is.program; within = is.within; reads = s.reads; are_reads = reads_of p ir is.form s.reads is.stencils.reads; few = is.few }

@@ -5,7 +5,7 @@ use Rattle.std.specs.List.{range_with_len}
 use Rattle.std.proofs.lemmas.List.{length-map}
 use Rattle.std.proofs.lemmas.Option.{slice_get_within}
 use Rattle.pointwise_ir.specs.Programs.{Program}
-use Rattle.buffer_plan.specs.Plans.{Parts, latency_of}
+use Rattle.buffer_plan.specs.Plans.{Plan, latency_of}
 use Rattle.wiring.specs.Netlist.{Netlist, valid_net, dout_net}
 use Rattle.wiring.specs.Snapshot.{Contents, Snapshot, FitsContents, Fit, net_value}
 use Rattle.wiring.specs.Clock.{Clock}
@@ -20,7 +20,7 @@ runs_length m [] from to (t ∷ shots) h = absurd h
 runs_length m (c ∷ cs) from to [] h = absurd h
 runs_length m (c ∷ cs) from to (t ∷ shots) h = ap suc (runs_length m cs h.0 to shots h.2)
 
-pub shows : (m : Netlist) (p : Program) (plan : Parts) → Drives m p plan → (from to : Contents) (dins : List (List ℕ)) (shots : List Snapshot) → FitsContents m from → All (Fit (input_widths p)) dins
+pub shows : (m : Netlist) (p : Program) (plan : Plan) → Drives m p plan → (from to : Contents) (dins : List (List ℕ)) (shots : List Snapshot) → FitsContents m from → All (Fit (input_widths p)) dins
     → Runs m from (driven (length p.inputs) dins) shots to → (rounds : Rounds) → AreRounds p rounds → Agree p rounds dins → (k : ℕ) → k < length p.outputs → length dins ≤ pixel_count p rounds + latency_of plan k
     → picture k shots ≡ map (λ q. unsigned_abs (pixel p rounds (output_at p k) q)) (range_with_len 0 (length dins - latency_of plan k))
 shows m p plan d from to dins shots fc fn runs rounds ok agree k l n =

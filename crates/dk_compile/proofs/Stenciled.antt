@@ -5,7 +5,7 @@ use Rattle.dk_base.specs.declared.ty.Ty.{Ty}
 use Rattle.dk_base.specs.declared.stencils.Image.{Image}
 use Rattle.dk_base.specs.declared.stencils.LiveRead.{LiveRead}
 use Rattle.dk_base.specs.Frames.{Size}
-use Rattle.dk_base.specs.Stencils.{Parts as Stencils}
+use Rattle.dk_base.specs.Stencils.{Stencils}
 use Rattle.dk_types.specs.declared.typed.TypedInput.{TypedInput}
 use Rattle.dk_types.specs.Typed.{Typing}
 use Rattle.pointwise_ir.specs.declared.ir.Input.{Input}

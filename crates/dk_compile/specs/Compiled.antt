@@ -8,10 +8,10 @@ use Rattle.netlist.specs.Names.{NamedNetlist}
 use Rattle.net_build.specs.Runs.{IsWhole, RunsOn}
 use Rattle.net_build.specs.Indices.{read_indices, put_indices}
 use Rattle.pointwise_ir.specs.Programs.{Program}
-use Rattle.raster_delay.specs.Systems.{Parts as System}
+use Rattle.raster_delay.specs.Systems.{System}
 use Rattle.flow_dual.specs.declared.solution.Solution.{Solution}
 use Rattle.flow_dual.specs.Solutions.{IsSolution}
-use Rattle.buffer_plan.specs.Plans.{Parts, IsPlan, bits_of}
+use Rattle.buffer_plan.specs.Plans.{Plan, IsPlan, bits_of}
 use Rattle.line_buffer.specs.Indices.{IsReadOnce}
 use Rattle.circuit.specs.Forms.{chain_shapes_of, chain_places, shapes_of}
 use Rattle.circuit.specs.Behaviour.{HasPorts, Behaves, IsApart}
@@ -20,14 +20,14 @@ use Rattle.verilog_text.specs.Stands.{StandsFor}
 use Rattle.dk_compile.specs.Limits.{HasSystem}
 
 -- The program of a text, the system of its live reads at an age, a solution of it, and the plan that has the solution's delays, which are the least vector. All are within the limits.
-pub record IsPlanned (text : List ℕ) (age : ℕ) (p : Typing) (ir : Program) (system : System) (solution : Solution) (plan : Parts) : Type 0 where
+pub record IsPlanned (text : List ℕ) (age : ℕ) (p : Typing) (ir : Program) (system : System) (solution : Solution) (plan : Plan) : Type 0 where
   pub has : HasSystem text age p ir system
   pub solved : IsSolution system solution
   pub plan_is : plan ≡ record { system = system; delays = solution.delays }
   pub within : IsPlan plan
 
 -- The module of a program under a plan, with a chain of segments for each buffered image.
-pub record IsCircuitOf (p : Program) (plan : Parts) (enable : Bool) (m : Netlist) (nets : List Net) : Type 0 where
+pub record IsCircuitOf (p : Program) (plan : Plan) (enable : Bool) (m : Netlist) (nets : List Net) : Type 0 where
   pub ports : HasPorts m p enable
   pub whole : IsWhole m m
   -- no run that begins with a reset clock stops
@@ -48,7 +48,7 @@ pub record IsTextOf (m : NamedNetlist) (text : List ℕ) : Type 0 where
   pub only : (other : NamedNetlist) → StandsFor text other → other ≡ m
 
 -- The text is that of the program p, whose form, system, solution, plan, module and nets these are, and the Verilog text is one of the module.
-pub record IsCompiled (text : List ℕ) (age : ℕ) (enable : Bool) (p : Typing) (ir : Program) (system : System) (solution : Solution) (plan : Parts) (m : NamedNetlist) (nets : List Net) (verilog : List ℕ) : Type 0 where
+pub record IsCompiled (text : List ℕ) (age : ℕ) (enable : Bool) (p : Typing) (ir : Program) (system : System) (solution : Solution) (plan : Plan) (m : NamedNetlist) (nets : List Net) (verilog : List ℕ) : Type 0 where
   pub planned : IsPlanned text age p ir system solution plan
   pub circuit : IsCircuitOf ir plan enable m.netlist nets
   pub printed : IsTextOf m verilog

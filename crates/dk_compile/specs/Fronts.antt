@@ -2,7 +2,7 @@
 use Rattle.std.specs.Prelude.{◌≡◌, ◌↔◌, ℕ, ◌≤◌, ℤ, List, length, map}
 use Rattle.dk_base.specs.declared.TheConstants.{MAX_LIVE_READS}
 use Rattle.dk_base.specs.Frames.{Picture}
-use Rattle.dk_base.specs.Stencils.{Parts}
+use Rattle.dk_base.specs.Stencils.{Stencils}
 use Rattle.dk_types.specs.Typed.{Typing, types_of}
 use Rattle.dk_types.specs.Meaning.{meaning}
 use Rattle.dk_types.specs.Reads.{IsLive, IsKept}
@@ -30,7 +30,7 @@ pub record IsForm (p : Typing) (ir : Program) : Type 0 where
   pub live : (f g : ℕ) (dx dy : ℤ) → IsKept p f → R.IsLive ir f g dx dy ↔ IsLive p f g dx dy
 
 -- the text is that of a program within all limits, with this form and these stencils
-pub record IsFront (text : List ℕ) (p : Typing) (ir : Program) (s : Parts) : Type 0 where
+pub record IsFront (text : List ℕ) (p : Typing) (ir : Program) (s : Stencils) : Type 0 where
   pub program : IsText text p
   pub within : IsWithin p
   pub form : IsForm p ir

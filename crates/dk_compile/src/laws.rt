@@ -3,7 +3,7 @@
 ghost use Rattle.std.specs.Prelude.{◌≡◌, ◌≢◌, ◌⊎◌, ℕ, ◌+◌, ◌-◌, ◌*◌, ◌<◌, ◌≤◌, List, length, map, All, unsigned_abs};
 ghost use Rattle.std.specs.List.{flat_map, range_with_len};
 ghost use Rattle.dk_base.specs.Frames.{Size, Picture, area, pixel_of, raster};
-ghost use Rattle.dk_base.specs.Stencils.{Parts};
+ghost use Rattle.dk_base.specs.Stencils.{Stencils};
 ghost use Rattle.dk_types.specs.Typed.{Typing};
 ghost use Rattle.pointwise_ir.specs.Programs.{Program};
 ghost use Rattle.dk_compile.specs.declared.fault.SourceFault.{SourceFault};
@@ -16,9 +16,9 @@ ghost use Rattle.dk_compile.specs.Compiled.{IsPlanned};
 ghost use Rattle.wiring.specs.Netlist.{Netlist};
 ghost use Rattle.wiring.specs.Snapshot.{Contents, Snapshot, Fit, FitsContents};
 ghost use Rattle.wiring.specs.Runs.{Runs, picture};
-ghost use Rattle.raster_delay.specs.Systems.{Parts as System};
+ghost use Rattle.raster_delay.specs.Systems.{System};
 ghost use Rattle.flow_dual.specs.declared.solution.Solution.{Solution};
-ghost use Rattle.buffer_plan.specs.Plans.{Parts as Plan, latency_of};
+ghost use Rattle.buffer_plan.specs.Plans.{Plan, latency_of};
 ghost use Rattle.circuit.specs.Rounds.{Rounds, AreRounds, pixel, pixel_count};
 ghost use Rattle.circuit.specs.Driven.{Drives, Agree, driven, input_widths, output_at};
 
@@ -28,8 +28,8 @@ pub fn one_source()
     ensures apart { (text : List ℕ) (p : Typing) (f : SourceFault) → IsAccepted text p → IsFault text f → f ≡ OutOfMemory }
     ensures fault { (text : List ℕ) (f g : SourceFault) → IsFault text f → IsFault text g → (f ≡ OutOfMemory) ⊎ (g ≡ OutOfMemory) ⊎ (f ≡ g) }
     ensures some { (text : List ℕ) → ((p : Typing) × IsAccepted text p) ⊎ ((f : SourceFault) × IsFault text f × (f ≢ OutOfMemory)) }
-    ensures accepted { (text : List ℕ) (p : Typing) (ir : Program) (s : Parts) → IsFront text p ir s → IsAccepted text p }
-    ensures reads { (text : List ℕ) (p : Typing) (ir : Program) (s : Parts) → (accepted : IsAccepted text p) → IsForm p ir → AreStencilsOf ir s → s.reads ≡ accepted.reads }
+    ensures accepted { (text : List ℕ) (p : Typing) (ir : Program) (s : Stencils) → IsFront text p ir s → IsAccepted text p }
+    ensures reads { (text : List ℕ) (p : Typing) (ir : Program) (s : Stencils) → (accepted : IsAccepted text p) → IsForm p ir → AreStencilsOf ir s → s.reads ≡ accepted.reads }
 {
     dk_lexer::one_reading();
     dk_lexer::faithful();

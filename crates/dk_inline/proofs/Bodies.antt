@@ -7,7 +7,7 @@ use Rattle.dk_base.specs.declared.ty.Ty.{Ty}
 use Rattle.dk_types.specs.declared.typed.TypedInput.{TypedInput}
 use Rattle.dk_types.specs.declared.typed.TypedDefinition.{TypedDefinition}
 use Rattle.dk_types.specs.declared.typed.TypedNode.{TypedNode, Number, Read, Unary', Binary', Scale', Convert', Select'}
-use Rattle.dk_types.specs.Typed.{Typed, fetch, single, double, scaled, converted, chosen, type_of, typed_at, typed_of, Definition, definition_of, definitions_as, Typing, Parts, typing_of, image_type, input_types, types_of}
+use Rattle.dk_types.specs.Typed.{Typed, fetch, single, double, scaled, converted, chosen, type_of, typed_at, typed_of, Definition, definition_of, definitions_as, Typing, TypedProgram, typing_of, image_type, input_types, types_of}
 use Rattle.dk_types.specs.Typed as T
 use Rattle.dk_types.specs.Kept.{IsWell, IsTyped}
 use Rattle.pointwise_ir.specs.Trees.{Tree, constant}
@@ -50,25 +50,25 @@ well_all p typed k d is =
 pub entry_as : (ds : List TypedDefinition) (k : ℕ) (d : TypedDefinition) → slice_get ds k ≡ Some d → slice_get (definitions_as ds) k ≡ Some (definition_of d)
 entry_as ds k d is = slice_get-map definition_of ds k ∙ ap (option_map definition_of) is
 
-stands : (p : Parts) → IsTyped (typing_of p) → (image k : ℕ) (d : TypedDefinition) → image ≡ length p.inputs + k → slice_get p.definitions k ≡ Some d →
+stands : (p : TypedProgram) → IsTyped (typing_of p) → (image k : ℕ) (d : TypedDefinition) → image ≡ length p.inputs + k → slice_get p.definitions k ≡ Some d →
     slice_index_or (substitutes (typing_of p)) image itself ≡ substitute_of (substitutes (typing_of p)) (definition_of d)
 stands p typed image k d place is = ap (λ n. slice_index_or (substitutes (typing_of p)) n itself) place ∙ definition (typing_of p) typed k (definition_of d) (entry_as p.definitions k d is)
 
 -- in place of an inline image stands its body
-pub inline_stands : (p : Parts) → IsTyped (typing_of p) → (image k : ℕ) (d : TypedDefinition) → image ≡ length p.inputs + k → slice_get p.definitions k ≡ Some d → d.inline ≡ true →
+pub inline_stands : (p : TypedProgram) → IsTyped (typing_of p) → (image k : ℕ) (d : TypedDefinition) → image ≡ length p.inputs + k → slice_get p.definitions k ≡ Some d → d.inline ≡ true →
     (slice_index_or (substitutes (typing_of p)) image itself ≡ body (inlined_body (substitutes (typing_of p)) (definition_of d))) × IsWell (types_of (typing_of p)) (typed_of d.body)
 inline_stands p typed image k d place is inline = (
   stands p typed image k d place is ∙ ap (λ b. if b then body (inlined_body (substitutes (typing_of p)) (definition_of d)) else itself) inline,
   well_all (typing_of p) typed k (definition_of d) (entry_as p.definitions k d is),
 )
 
-pub other_stands : (p : Parts) → IsTyped (typing_of p) → (image k : ℕ) (d : TypedDefinition) → image ≡ length p.inputs + k → slice_get p.definitions k ≡ Some d → d.inline ≡ false →
+pub other_stands : (p : TypedProgram) → IsTyped (typing_of p) → (image k : ℕ) (d : TypedDefinition) → image ≡ length p.inputs + k → slice_get p.definitions k ≡ Some d → d.inline ≡ false →
     slice_index_or (substitutes (typing_of p)) image itself ≡ itself
 other_stands p typed image k d place is inline =
     stands p typed image k d place is ∙ ap (λ b. if b then body (inlined_body (substitutes (typing_of p)) (definition_of d)) else itself) inline
 
 -- how many images there are
-pub image_count : (p : Parts) → length (types_of (typing_of p)) ≡ length p.inputs + length p.definitions
+pub image_count : (p : TypedProgram) → length (types_of (typing_of p)) ≡ length p.inputs + length p.definitions
 image_count p =
     let a = length-append (input_types p.inputs) (map image_type (definitions_as p.definitions)) in
     let b : length (input_types p.inputs) ≡ length p.inputs = length-map p.inputs _ in
@@ -77,7 +77,7 @@ image_count p =
     omega (arith, a, b, c, d)
 
 -- the definition that is found at an image's place
-at_place : (p : Parts) (is : List TypedInput) (ds : List TypedDefinition) (image : ℕ) (d : TypedDefinition) → is ≡ p.inputs → ds ≡ p.definitions → image < length (types_of (typing_of p)) → length is ≤ image → d ≡ slice_index_or ds (image - length is) d →
+at_place : (p : TypedProgram) (is : List TypedInput) (ds : List TypedDefinition) (image : ℕ) (d : TypedDefinition) → is ≡ p.inputs → ds ≡ p.definitions → image < length (types_of (typing_of p)) → length is ≤ image → d ≡ slice_index_or ds (image - length is) d →
     (image ≡ length p.inputs + (image - length is)) × (slice_get p.definitions (image - length is) ≡ Some d)
 at_place p is ds image d inputs definitions within past found =
     let n = image_count p in
@@ -86,28 +86,28 @@ at_place p is ds image d inputs definitions within past found =
     let lt : image - length is < length ds = omega (arith, within, n, a, b, past) in
     (omega (arith, past, a), ap (λ xs. slice_get xs (image - length is)) (sym definitions) ∙ slice_get_read ds (length ds) (image - length is) d refl lt found)
 
-pub inline_found : (p : Parts) → IsTyped (typing_of p) → (is : List TypedInput) (ds : List TypedDefinition) (image : ℕ) (d : TypedDefinition) → is ≡ p.inputs → ds ≡ p.definitions → image < length (types_of (typing_of p)) → length is ≤ image → d ≡ slice_index_or ds (image - length is) d → d.inline ≡ true →
+pub inline_found : (p : TypedProgram) → IsTyped (typing_of p) → (is : List TypedInput) (ds : List TypedDefinition) (image : ℕ) (d : TypedDefinition) → is ≡ p.inputs → ds ≡ p.definitions → image < length (types_of (typing_of p)) → length is ≤ image → d ≡ slice_index_or ds (image - length is) d → d.inline ≡ true →
     (slice_index_or (substitutes (typing_of p)) image itself ≡ body (inlined_body (substitutes (typing_of p)) (definition_of d))) × IsWell (types_of (typing_of p)) (typed_of d.body)
 inline_found p typed is ds image d inputs definitions within past found inline =
     let h = at_place p is ds image d inputs definitions within past found in
     inline_stands p typed image (image - length is) d h.0 h.1 inline
 
-pub other_found : (p : Parts) → IsTyped (typing_of p) → (is : List TypedInput) (ds : List TypedDefinition) (image : ℕ) (d : TypedDefinition) → is ≡ p.inputs → ds ≡ p.definitions → image < length (types_of (typing_of p)) → length is ≤ image → d ≡ slice_index_or ds (image - length is) d → d.inline ≡ false →
+pub other_found : (p : TypedProgram) → IsTyped (typing_of p) → (is : List TypedInput) (ds : List TypedDefinition) (image : ℕ) (d : TypedDefinition) → is ≡ p.inputs → ds ≡ p.definitions → image < length (types_of (typing_of p)) → length is ≤ image → d ≡ slice_index_or ds (image - length is) d → d.inline ≡ false →
     slice_index_or (substitutes (typing_of p)) image itself ≡ itself
 other_found p typed is ds image d inputs definitions within past found inline =
     let h = at_place p is ds image d inputs definitions within past found in
     other_stands p typed image (image - length is) d h.0 h.1 inline
 
 -- the definition at a place, in memory and without
-pub at_number : (p : Parts) (ds : List TypedDefinition) (k : ℕ) (t : TypedDefinition) → ds ≡ p.definitions → k < length p.definitions → t ≡ slice_index_or ds k t → slice_get (typing_of p).definitions k ≡ Some (definition_of t)
+pub at_number : (p : TypedProgram) (ds : List TypedDefinition) (k : ℕ) (t : TypedDefinition) → ds ≡ p.definitions → k < length p.definitions → t ≡ slice_index_or ds k t → slice_get (typing_of p).definitions k ≡ Some (definition_of t)
 at_number p ds k t same lt found =
     let n : length ds ≡ length p.definitions = ap length same in
     entry_as p.definitions k t (ap (λ zs. slice_get zs k) (sym same) ∙ slice_get_read ds (length ds) k t refl (omega (arith, lt, n)) found)
 
-pub well_number : (p : Parts) → IsTyped (typing_of p) → (ds : List TypedDefinition) (k : ℕ) (t : TypedDefinition) → ds ≡ p.definitions → k < length p.definitions → t ≡ slice_index_or ds k t → IsWell (types_of (typing_of p)) (typed_of t.body)
+pub well_number : (p : TypedProgram) → IsTyped (typing_of p) → (ds : List TypedDefinition) (k : ℕ) (t : TypedDefinition) → ds ≡ p.definitions → k < length p.definitions → t ≡ slice_index_or ds k t → IsWell (types_of (typing_of p)) (typed_of t.body)
 well_number p typed ds k t same lt found = well_all (typing_of p) typed k (definition_of t) (at_number p ds k t same lt found)
 
-pub only_number : (p : Parts) (ds : List TypedDefinition) (k : ℕ) (t : TypedDefinition) → ds ≡ p.definitions → k < length p.definitions → t ≡ slice_index_or ds k t → (d : Definition) → slice_get (typing_of p).definitions k ≡ Some d → definition_of t ≡ d
+pub only_number : (p : TypedProgram) (ds : List TypedDefinition) (k : ℕ) (t : TypedDefinition) → ds ≡ p.definitions → k < length p.definitions → t ≡ slice_index_or ds k t → (d : Definition) → slice_get (typing_of p).definitions k ≡ Some d → definition_of t ≡ d
 only_number p ds k t same lt found d is = let some : Some (definition_of t) ≡ Some d = sym (at_number p ds k t same lt found) ∙ is in cc
 
 -- the body of an image that stays, and of one that does not

@@ -6,7 +6,7 @@ use Rattle.std.proofs.lemmas.Bool.{cases_lt}
 use Rattle.std.proofs.lemmas.List.{get_or-take, length-map}
 use Rattle.std.proofs.lemmas.Option.{slice_get-get_or, slice_get_within}
 use Rattle.dk_types.specs.declared.typed.TypedDefinition.{TypedDefinition}
-use Rattle.dk_types.specs.Typed.{Definition, definition_of, Typing, Parts, typing_of}
+use Rattle.dk_types.specs.Typed.{Definition, definition_of, Typing, TypedProgram, typing_of}
 use Rattle.dk_types.specs.Kept.{IsTyped}
 use Rattle.pointwise_ir.specs.Trees.{Tree, depth_of}
 use Rattle.pointwise_ir.proofs.Defined.{last_entry}
@@ -77,7 +77,7 @@ count_whole p k count past few is =
     let none : nodes_from p k (drop k p.definitions) ≡ 0 = ap (nodes_from p k) (none_left p.definitions k past) in
     omega (arith, none, few, is)
 
-pub definition_count : (p : Parts) → length (typing_of p).definitions ≡ length p.definitions
+pub definition_count : (p : TypedProgram) → length (typing_of p).definitions ≡ length p.definitions
 definition_count p = length-map p.definitions definition_of
 
 -- the loop's step, with the entry that it is at
@@ -90,7 +90,7 @@ counted_more p xs k count own have lt owned before =
     count_more p k count own d is (owned d is) before
 
 -- the first that is too deep
-pub first_is : (p : Parts) (ds : List TypedDefinition) (k : ℕ) (t : TypedDefinition) (xs : List Extent) → HaveExtents (typing_of p) xs → ds ≡ p.definitions → k < length xs → ((j : ℕ) (d : Definition) → j < k → IsDeep (typing_of p) j d → ⊥) → ((d : Definition) → slice_get (typing_of p).definitions k ≡ Some d → IsDeep (typing_of p) k d) →
+pub first_is : (p : TypedProgram) (ds : List TypedDefinition) (k : ℕ) (t : TypedDefinition) (xs : List Extent) → HaveExtents (typing_of p) xs → ds ≡ p.definitions → k < length xs → ((j : ℕ) (d : Definition) → j < k → IsDeep (typing_of p) j d → ⊥) → ((d : Definition) → slice_get (typing_of p).definitions k ≡ Some d → IsDeep (typing_of p) k d) →
     IsFirstDeep (typing_of p) (slice_index_or ds k t).name.span
 first_is p ds k t xs have same lt before deep =
     let n = have.long in

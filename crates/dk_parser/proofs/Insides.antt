@@ -20,7 +20,7 @@ use Rattle.dk_parser.specs.Terminals.{terminal}
 use Rattle.dk_parser.specs.Words.{Sign, over}
 use Rattle.dk_parser.specs.Reads.{Unclamped, Reads, clamped_of, plain as unclamped', clamped}
 use Rattle.dk_parser.specs.Grammar.{Tokens, comparison, primary, enclosed, Phrase, closed, reading, constant, bracket, pair, absolute, saturate, choice, binding, start}
-use Rattle.dk_parser.specs.Front.{rank, loose, IsEdge, IsFront}
+use Rattle.dk_parser.specs.Front.{rank, precedence, IsEdge, IsFront}
 use Rattle.dk_parser.specs.Faults.{Ends, Inside, Opens}
 use Rattle.dk_parser.proofs.Tokens.{number_token}
 use Rattle.dk_parser.proofs.ReadLaws.{clear_unclamped, reads_first}
@@ -104,14 +104,14 @@ stuck_inside ts after at tok k e s o h =
     (λ w r v a m. let d = primary_out m.0 (λ i. not_image k o (sym s ∙ i)) in (v, r, subst (λ x. Inside x tok.span w v r) s (enclosed_out d)))
     h)
 
-loose_positive : (b : Binding) → 0 < loose b
-loose_positive Clamps = omega arith
-loose_positive (Operator n s) = omega arith
-loose_positive Stops = omega arith
+precedence_positive : (b : Binding) → 0 < precedence b
+precedence_positive Clamps = omega arith
+precedence_positive (Operator n s) = omega arith
+precedence_positive Stops = omega arith
 
 pub rank_positive : (ts : Tokens) → 0 < rank ts
 rank_positive [] = omega arith
-rank_positive (t ∷ ts) = loose_positive (binding (terminal t))
+rank_positive (t ∷ ts) = precedence_positive (binding (terminal t))
 
 -- What begins no primary expression.
 primary_first : {ts r : Tokens} {e : Tree} → Phrase primary ts e r → (tok : Token) × (s : Tokens) × (k : Start) × (ts ≡ tok ∷ s) × (start (terminal tok) ≡ k) × (Opens k ⊎ (k ≡ Image))

@@ -380,7 +380,7 @@ not_end n ts (Ahead.Suffix s after) h e = let w = h.operates.whole in omega (ari
 not_end n ts Ahead.Tighter h e = omega (arith, h)
 not_end n ts Ahead.End h e = absurd (e refl)
 
--- An operator at the loosest level wants an operand.
+-- An operator of the last level wants an operand.
 pub eight_operand : (t : Terminal) (s : Step) → binding t ≡ Operator 8 s → ((o : BinaryOperator) → s ≢ Step.Operand o) → ⊥
 eight_operand (Keyword As) s e h = cc
 eight_operand (Sym Less) s e h = h _ (sym (same_step _ _ _ _ _ refl e))

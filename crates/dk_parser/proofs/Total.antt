@@ -229,7 +229,7 @@ module _ (n m : ℕ) (small : m < 7) (p : Parses (level m) n) where
   steps_of (suc fuel) l [] lt less = ends_here l [] (omega (arith, small))
   steps_of (suc fuel) l (tok ∷ after) lt less = token_of fuel (λ x us a b. steps_of fuel x us a b) l tok after (omega (arith, lt)) (omega (arith, less)) (binding (terminal tok)) refl
 
--- An expression whose operators bind at most so loosely.
+-- An expression whose operators are of this level of precedence at most.
 level_next : (n m : ℕ) → m < 7 → Parses (level m) n → Parses (level (suc m)) n
 level_next n m most p ts lt = by (p ts lt)
   where

@@ -15,17 +15,17 @@ pub record IsFront (ts : Tokens) (tok : Token) (kind : Terminal) (after : Tokens
   pub kind_is : terminal tok ≡ kind
   pub fewer : length after < length ts
 
--- how loosely the next token binds what stands before it: `edge` 1, an operator 1 more than its strength, what is none 10
-abbrev pub loose : Binding → ℕ
-loose Clamps = 1
-loose (Operator n s) = suc n
-loose Stops = 10
+-- the level of precedence of the next token, of which 1 binds most tightly: `edge` 1, an operator 1 more than its strength, what is none 10
+abbrev pub precedence : Binding → ℕ
+precedence Clamps = 1
+precedence (Operator n s) = suc n
+precedence Stops = 10
 
 abbrev pub rank : Tokens → ℕ
 rank [] = 10
-rank (t ∷ ts) = loose (binding (terminal t))
+rank (t ∷ ts) = precedence (binding (terminal t))
 
--- the tokens that continue a phrase of a form bind at most so loosely
+-- the tokens that continue a phrase of a form are of this level at most
 abbrev pub bound : Form → ℕ
 bound comparison = 9
 bound (level n) = suc n

@@ -26,7 +26,7 @@ use Rattle.dk_parser.specs.Reads.{Reads}
 abbrev pub Tokens : Type 0
 Tokens = List Token
 
--- How a token goes on with an expression before it: how loosely an operator binds, from 1, and what follows it.
+-- How a token goes on with an expression before it: the level of precedence of an operator, of which 1 binds most tightly, and what follows it.
 abbrev pub binding : Terminal → Binding
 binding (Keyword As) = Operator 1 Step.Type
 binding (Keyword Edge) = Clamps
@@ -82,7 +82,7 @@ pub data Form : Type 0 where
   enclosed : Form
 
 -- Phrase f ts e rest: the tokens ts begin with a phrase of the form f, its tree is e, and rest comes after it.
--- At level 0 stand the unary operators, at level n the operators that bind n loosely; steps are what follows a first operand.
+-- At level 0 stand the unary operators, at level n the operators of precedence n; steps are what follows a first operand.
 -- Enclosed is a primary expression that is no read.
 pub data Phrase : Form → Tokens → Tree → Tokens → Type 0 where
   single : {ts rest : Tokens} {e : Tree} → Phrase (level 7) ts e rest → Phrase comparison ts e rest

@@ -32,10 +32,10 @@ pub enum Ahead<'a> {
     End,
 }
 
-pub(crate) fn look_ahead<'a>(loose: u8, tokens: &'a [Token]) -> Ahead<'a>
-    requires some { 0 < loose }
-    requires few { loose < 9 }
-    ensures { IsAhead loose tokens.now result }
+pub(crate) fn look_ahead<'a>(precedence: u8, tokens: &'a [Token]) -> Ahead<'a>
+    requires some { 0 < precedence }
+    requires few { precedence < 9 }
+    ensures { IsAhead precedence tokens.now result }
 {
     let Some((_, kind, after)) = front(tokens) else {
         return Ahead::End;
@@ -45,10 +45,10 @@ pub(crate) fn look_ahead<'a>(loose: u8, tokens: &'a [Token]) -> Ahead<'a>
         Binding::Clamps => return Ahead::Tighter,
         Binding::Stops => return Ahead::End,
     };
-    if at < loose {
+    if at < precedence {
         return Ahead::Tighter;
     }
-    if loose < at {
+    if precedence < at {
         return Ahead::End;
     }
     match step {

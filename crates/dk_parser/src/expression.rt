@@ -43,40 +43,40 @@ pub(crate) fn comparison_of<'a>(
     }
 }
 
-// An expression whose operators bind at most so loosely.
+// An expression whose operators are of this level of precedence at most; level 1 binds most tightly.
 #[cycle(expression)]
 fn level_of<'a>(
     alloc: Global,
-    loose: u8,
+    precedence: u8,
     tokens: &'a [Token],
 ) -> Result<(Built, &'a [Token]), Halt<'a>>
-    requires { loose ≤ 7 }
-    ensures parsed { MatchResult result (λ x. Grown (level loose) tokens.now x.0 x.1.now) (λ e. Halts (Ends (level loose)) tokens.now e) }
+    requires { precedence ≤ 7 }
+    ensures parsed { MatchResult result (λ x. Grown (level precedence) tokens.now x.0 x.1.now) (λ e. Halts (Ends (level precedence)) tokens.now e) }
 {
-    if loose == 0 {
+    if precedence == 0 {
         return unary_of(alloc, tokens);
     }
-    let (left, rest) = level_of(alloc, loose - 1, tokens)?;
-    steps_of(alloc, loose - 1, left, rest)
+    let (left, rest) = level_of(alloc, precedence - 1, tokens)?;
+    steps_of(alloc, precedence - 1, left, rest)
 }
 
 // What follows a first operand.
 #[cycle(expression)]
 fn steps_of<'a>(
     alloc: Global,
-    loose: u8,
+    precedence: u8,
     first: Built,
     tokens: &'a [Token],
 ) -> Result<(Built, &'a [Token]), Halt<'a>>
-    requires { loose < 7 }
-    ensures parsed { (l : Tree) → Stands first l → MatchResult result (λ x. Grown (steps loose l) tokens.now x.0 x.1.now) (λ e. Halts (Ends (steps loose l)) tokens.now e) }
+    requires { precedence < 7 }
+    ensures parsed { (l : Tree) → Stands first l → MatchResult result (λ x. Grown (steps precedence l) tokens.now x.0 x.1.now) (λ e. Halts (Ends (steps precedence l)) tokens.now e) }
 {
     let mut left = first;
     let mut rest = tokens;
     'steps: loop {
-        match classes::look_ahead(loose + 1, rest) {
+        match classes::look_ahead(precedence + 1, rest) {
             Ahead::Operand(operator, after) => {
-                let (right, behind) = level_of(alloc, loose, after)?;
+                let (right, behind) = level_of(alloc, precedence, after)?;
                 left = built::binary(alloc, operator, left, right)?;
                 rest = behind;
             }

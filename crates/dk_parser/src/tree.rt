@@ -101,7 +101,7 @@ pub enum Step {
 /// How a token goes on with an expression before it.
 #[derive(Clone, Copy)]
 pub enum Binding {
-    /// By an operator that binds so loosely, from 1 to 8.
+    /// By an operator of this level of precedence, from 1, which binds most tightly, to 8.
     Operator(u8, Step),
     /// By the word after a read that brings points to the frame's edge.
     Clamps,

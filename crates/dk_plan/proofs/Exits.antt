@@ -1,8 +1,8 @@
 -- What is told where a plan or a report is refused.
 use Rattle.std.proofs.Common.{◌≡◌, ℕ, List, slice_index, Result, Ok, Err, sym, subst}
 use Rattle.std.specs.Result.{IfErr, IsErrAnd}
-use Rattle.dk_base.specs.Stencils.{Parts as Stencils}
-use Rattle.raster_delay.specs.Systems.{Parts as System}
+use Rattle.dk_base.specs.Stencils.{Stencils}
+use Rattle.raster_delay.specs.Systems.{System}
 use Rattle.flow_dual.specs.Solutions.{IsLeastVector}
 use Rattle.buffer_plan.specs.declared.fault.PlanFault.{PlanFault}
 use Rattle.buffer_plan.specs.declared.fault.PlanFault.TheVariants.{Bits, Latency, OutOfMemory}

@@ -1,8 +1,8 @@
 -- A system has one limit that its least vector passes, and a report one answer.
 use Rattle.std.proofs.Common.{◌≡◌, ◌∙◌, ℕ, List, slice_index, inl, inr, sym, ap, subst, arith}
 use Rattle.std.proofs.lemmas.Bool.{cases_lt, cases_eq}
-use Rattle.dk_base.specs.Stencils.{Parts as Stencils}
-use Rattle.raster_delay.specs.Systems.{Parts as System}
+use Rattle.dk_base.specs.Stencils.{Stencils}
+use Rattle.raster_delay.specs.Systems.{System}
 use Rattle.report_text.specs.Reports.{Report}
 use Rattle.report_text.specs.Texts.{StandsFor, IsFaultyLine}
 use Rattle.plan_check.specs.declared.verdict.Verdict.TheVariants.{Yes, No}

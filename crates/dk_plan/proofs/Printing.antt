@@ -8,8 +8,8 @@ use Rattle.dk_base.specs.Stencils.{place}
 use Rattle.dk_base.specs.declared.stencils.Image.{Image}
 use Rattle.pointwise_ir.specs.Programs.{Program, names_of}
 use Rattle.raster_delay.specs.Delays.{age_of, depth_of}
-use Rattle.raster_delay.specs.Systems.{Parts as System, IsSystem, IsCausal, IsBalanced, image_count, widths, placed_reads, depth, bits, worth_of, constraints_in}
-use Rattle.buffer_plan.specs.Plans.{Parts as Plan}
+use Rattle.raster_delay.specs.Systems.{System, IsSystem, IsCausal, IsBalanced, image_count, widths, placed_reads, depth, bits, worth_of, constraints_in}
+use Rattle.buffer_plan.specs.Plans.{Plan}
 use Rattle.buffer_plan.specs.Limits.{greatest_delay}
 use Rattle.report_text.specs.declared.report.ImageLine.{ImageLine}
 use Rattle.report_text.specs.declared.report.FlowLine.TheVariants.{Hold}

@@ -6,10 +6,10 @@ use Rattle.std.proofs.lemmas.List.FromFn.{length-enumerate_from, get_or-enumerat
 use Rattle.dk_base.specs.declared.stencils.Image.{Image}
 use Rattle.dk_base.specs.declared.TheConstants.{MAX_LATENCY}
 use Rattle.pointwise_ir.specs.Programs.{Program, names_of}
-use Rattle.raster_delay.specs.Systems.{Parts as System, image_count}
+use Rattle.raster_delay.specs.Systems.{System, image_count}
 use Rattle.flow_dual.specs.declared.solution.Solution.{Solution}
 use Rattle.flow_dual.specs.Solutions.{IsLeastVector, IsSolution}
-use Rattle.buffer_plan.specs.Plans.{Parts as Plan}
+use Rattle.buffer_plan.specs.Plans.{Plan}
 use Rattle.report_text.specs.declared.report.ImageLine.{ImageLine}
 use Rattle.report_text.specs.Reports.{Meets}
 use Rattle.report_text.specs.Layout.{layout}

@@ -1,7 +1,7 @@
 -- Which reports hold of a program's live reads, and the first wrong line of the others. `names` are those of all images of the program.
 use Rattle.std.specs.Prelude.{◌≡◌, ℕ, List, slice_index, ⊤}
-use Rattle.dk_base.specs.Stencils.{Parts as Stencils}
-use Rattle.raster_delay.specs.Systems.{Parts as System}
+use Rattle.dk_base.specs.Stencils.{Stencils}
+use Rattle.raster_delay.specs.Systems.{System}
 use Rattle.report_text.specs.Reports.{Report}
 use Rattle.report_text.specs.Texts.{IsFaultyLine}
 use Rattle.report_text.specs.declared.reading.ReportFault.{ReportFault}

@@ -1,8 +1,8 @@
 -- The report of a system.
 use Rattle.std.specs.Prelude.{◌≡◌, ℕ, ◌≤◌, List}
 use Rattle.dk_base.specs.declared.TheConstants.{MAX_BUFFER_BITS, MAX_LATENCY}
-use Rattle.dk_base.specs.Stencils.{Parts as Stencils}
-use Rattle.raster_delay.specs.Systems.{Parts as System}
+use Rattle.dk_base.specs.Stencils.{Stencils}
+use Rattle.raster_delay.specs.Systems.{System}
 use Rattle.flow_dual.specs.Solutions.{IsLeastVector}
 use Rattle.buffer_plan.specs.Limits.{latency_in}
 use Rattle.report_text.specs.Reports.{Report}

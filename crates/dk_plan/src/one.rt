@@ -1,7 +1,7 @@
 // What the definitions say together.
 
 ghost use Rattle.std.specs.Prelude.{◌≡◌, ℕ, List};
-ghost use Rattle.dk_base.specs.Stencils.{Parts as Stencils};
+ghost use Rattle.dk_base.specs.Stencils.{Stencils};
 ghost use Rattle.dk_plan.specs.declared.judging.Claim.{Claim};
 ghost use Rattle.dk_plan.specs.Judged.{IsConfirmed, IsWrongLine};
 

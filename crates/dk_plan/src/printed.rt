@@ -2,7 +2,7 @@
 
 ghost use Rattle.std.specs.Prelude.{◌≡◌, ℕ, List, pos};
 ghost use Rattle.pointwise_ir.specs.Programs.{Program, names_of};
-ghost use Rattle.raster_delay.specs.Systems.{Parts as System, IsSystem, IsCausal, IsBalanced, bits, worth_of};
+ghost use Rattle.raster_delay.specs.Systems.{System, IsSystem, IsCausal, IsBalanced, bits, worth_of};
 ghost use Rattle.flow_dual.specs.declared.solution.Solution.{Solution as TheSolution};
 ghost use Rattle.flow_dual.specs.Solutions.{IsSolution};
 ghost use Rattle.latency_report.specs.Printed.{report_of};

@@ -2,9 +2,9 @@
 use Rattle.std.proofs.Common.{ℕ, Bool, List, Option, None, Some, IfSome, refl}
 use Rattle.dk_types.specs.Typed.{Typing}
 use Rattle.pointwise_ir.specs.Programs.{Program}
-use Rattle.raster_delay.specs.Systems.{Parts as System}
+use Rattle.raster_delay.specs.Systems.{System}
 use Rattle.flow_dual.specs.declared.solution.Solution.{Solution}
-use Rattle.buffer_plan.specs.Plans.{Parts as Plan}
+use Rattle.buffer_plan.specs.Plans.{Plan}
 use Rattle.dk_compile.specs.declared.compiling.Compiled.{Compiled}
 use Rattle.dk_compile.specs.Limits as at
 use Rattle.dk_compile.specs.Compiled.{IsPlanned}

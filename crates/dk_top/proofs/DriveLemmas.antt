@@ -22,9 +22,9 @@ use Rattle.netlist.specs.Names.{NamedNetlist}
 use Rattle.pointwise_ir.specs.declared.ir.Input.{Input}
 use Rattle.pointwise_ir.specs.Programs.{Program}
 use Rattle.pointwise_ir.specs.Meaning.{IsRound}
-use Rattle.raster_delay.specs.Systems.{Parts as System}
+use Rattle.raster_delay.specs.Systems.{System}
 use Rattle.flow_dual.specs.declared.solution.Solution.{Solution}
-use Rattle.buffer_plan.specs.Plans.{Parts, latency, latency_of}
+use Rattle.buffer_plan.specs.Plans.{Plan, latency, latency_of}
 use Rattle.circuit.specs.Driven.{Agree, driven, fed_clock, input_widths, output_at}
 use Rattle.cycle_sim.specs.declared.fill.Fill.TheVariants.{Zeros}
 use Rattle.cycle_sim.specs.Filled.{filled_contents}
@@ -83,7 +83,7 @@ whole_within r n a lt =
     let more = suc-mul r a in
     omega (arith, fits, more)
 
-module _ (source : List ℕ) (age : ℕ) (enable : Bool) (p : Typing) (ir : Program) (system : System) (solution : Solution) (plan : Parts) (m : NamedNetlist) (nets : List Net) (verilog : List ℕ) (c : IsCompiled source age enable p ir system solution plan m nets verilog) where
+module _ (source : List ℕ) (age : ℕ) (enable : Bool) (p : Typing) (ir : Program) (system : System) (solution : Solution) (plan : Plan) (m : NamedNetlist) (nets : List Net) (verilog : List ℕ) (c : IsCompiled source age enable p ir system solution plan m nets verilog) where
   front : IsFront source p ir system.stencils
   front = c.planned.has.front
 
@@ -108,7 +108,7 @@ module _ (source : List ℕ) (age : ℕ) (enable : Bool) (p : Typing) (ir : Prog
 
   -- the outputs of the plan are the program's
   pub planned_outputs : plan.system.stencils.outputs ≡ p.outputs
-  planned_outputs = ap (λ (q : Parts). q.system.stencils.outputs) c.planned.plan_is ∙ front.stencils.outputs ∙ form.outputs
+  planned_outputs = ap (λ (q : Plan). q.system.stencils.outputs) c.planned.plan_is ∙ front.stencils.outputs ∙ form.outputs
 
   in_plan : (k : ℕ) → k < length p.outputs → k < length plan.system.stencils.outputs
   in_plan k lt = subst (λ (gs : List ℕ). k < length gs) (sym planned_outputs) lt

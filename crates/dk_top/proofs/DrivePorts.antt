@@ -19,7 +19,7 @@ use Rattle.wiring.specs.Snapshot.{Fit, FitsContents}
 use Rattle.pointwise_ir.specs.declared.ir.Input.{Input}
 use Rattle.pointwise_ir.specs.Programs.{Program}
 use Rattle.buffer_plan.specs.Limits.{greatest_delay}
-use Rattle.buffer_plan.specs.Plans.{Parts, latency, latency_of}
+use Rattle.buffer_plan.specs.Plans.{Plan, latency, latency_of}
 use Rattle.circuit.specs.Rounds.{type_at}
 use Rattle.circuit.specs.Behaviour.{HasPorts}
 use Rattle.circuit.specs.Driven.{input_widths}
@@ -112,8 +112,8 @@ only_one images d [] one = absurd (let e : ⊥ = omega (arith, one) in e)
 only_one images d (g ∷ []) one = omega arith
 only_one images d (g ∷ h ∷ gs) one = absurd (let e : ⊥ = omega (arith, one) in e)
 
-pub latency_bounds : (plan : Parts) (k : ℕ) → k < length plan.system.stencils.outputs → latency_of plan k ≤ latency plan
+pub latency_bounds : (plan : Plan) (k : ℕ) → k < length plan.system.stencils.outputs → latency_of plan k ≤ latency plan
 latency_bounds plan k lt = greatest_is plan.system.stencils.images plan.delays plan.system.stencils.outputs k lt
 
-pub latency_of_one : (plan : Parts) → length plan.system.stencils.outputs ≡ 1 → latency_of plan 0 ≡ latency plan
+pub latency_of_one : (plan : Plan) → length plan.system.stencils.outputs ≡ 1 → latency_of plan 0 ≡ latency plan
 latency_of_one plan one = only_one plan.system.stencils.images plan.delays plan.system.stencils.outputs one

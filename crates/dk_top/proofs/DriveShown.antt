@@ -9,7 +9,7 @@ use Rattle.wiring.specs.Snapshot.{Contents, Snapshot, Fit, FitsContents}
 use Rattle.wiring.specs.Runs.{Runs, picture}
 use Rattle.pointwise_ir.specs.Programs.{Program}
 use Rattle.pointwise_ir.specs.Meaning.{pictures}
-use Rattle.buffer_plan.specs.Plans.{Parts, latency_of}
+use Rattle.buffer_plan.specs.Plans.{Plan, latency_of}
 use Rattle.circuit.specs.Rounds.{Rounds, AreRounds, pixel, pixel_count, pictures_in}
 use Rattle.circuit.specs.Driven.{Drives, Agree, driven, input_widths, output_at}
 use Rattle.test_bench.proofs.Streams.{map_at, read_at}
@@ -18,7 +18,7 @@ use Rattle.dk_top.proofs.DriveRounds.{pictured}
 -- the laws of what a drive shows
 abbrev pub PictureLaw : Type 0
 PictureLaw =
-    (m : Netlist) (p : Program) (plan : Parts) → Drives m p plan → (from to : Contents) (dins : List (List ℕ)) (shots : List Snapshot) → FitsContents m from → All (Fit (input_widths p)) dins
+    (m : Netlist) (p : Program) (plan : Plan) → Drives m p plan → (from to : Contents) (dins : List (List ℕ)) (shots : List Snapshot) → FitsContents m from → All (Fit (input_widths p)) dins
     → Runs m from (driven (length p.inputs) dins) shots to → (rounds : Rounds) → AreRounds p rounds → Agree p rounds dins → (k : ℕ) → k < length p.outputs → length dins ≤ pixel_count p rounds + latency_of plan k
     → picture k shots ≡ map (λ q. unsigned_abs (pixel p rounds (output_at p k) q)) (range_with_len 0 (length dins - latency_of plan k))
 
@@ -37,7 +37,7 @@ pieces_at G F a (x ∷ xs) same =
     ∙ ap (λ ys. F x ++ ys) (pieces_at G F (a + 1) xs (λ k y at. ap G (let e : a + 1 + k ≡ a + suc k = omega arith in e) ∙ same (suc k) y at))
 
 -- the first samples of an output are those of its pictures, one round after another
-pub picture_shown : PictureLaw → RasterLaw → (m : Netlist) (ir : Program) (plan : Parts) → Drives m ir plan → (from to : Contents) (dins : List (List ℕ)) (shots : List Snapshot) → FitsContents m from → All (Fit (input_widths ir)) dins
+pub picture_shown : PictureLaw → RasterLaw → (m : Netlist) (ir : Program) (plan : Plan) → Drives m ir plan → (from to : Contents) (dins : List (List ℕ)) (shots : List Snapshot) → FitsContents m from → All (Fit (input_widths ir)) dins
     → Runs m from (driven (length ir.inputs) dins) shots to → (rounds : List (List (List ℕ))) → AreRounds ir (pictured ir.size rounds) → Agree ir (pictured ir.size rounds) dins → (k : ℕ) → k < length ir.outputs
     → length dins ≤ length rounds * area ir.size + latency_of plan k → picture k shots ≡ take (length dins - latency_of plan k) (flat_map (rastered ir (output_at ir k)) rounds)
 picture_shown law rasters m ir plan drives from to dins shots fits fit runs rounds are agree k there room =

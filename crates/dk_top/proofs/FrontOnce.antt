@@ -2,7 +2,7 @@
 use Rattle.std.proofs.Common.{◌≡◌, ◌∙◌, ℕ, List, sym, ap}
 use Rattle.dk_base.specs.declared.stencils.Image.{Image}
 use Rattle.dk_base.specs.declared.stencils.LiveRead.{LiveRead}
-use Rattle.dk_base.specs.Stencils.{Parts as Stencils}
+use Rattle.dk_base.specs.Stencils.{Stencils}
 use Rattle.dk_types.specs.Typed.{Typing}
 use Rattle.pointwise_ir.specs.Programs.{Program}
 use Rattle.pointwise_ir.specs.Stencils.{AreReads, AreImages}

@@ -1,6 +1,6 @@
 -- What is told of an accepted text's plan and reports, from what is told of its live reads.
 use Rattle.std.proofs.Common.{ℕ, List, refl}
-use Rattle.dk_base.specs.Stencils.{Parts as Stencils}
+use Rattle.dk_base.specs.Stencils.{Stencils}
 use Rattle.pointwise_ir.specs.Programs.{Program, names_of}
 use Rattle.buffer_plan.specs.declared.fault.PlanFault.TheVariants as limit
 use Rattle.buffer_plan.specs.Limits.{KeepsLimits, IsPassed}

@@ -1,7 +1,7 @@
 -- A text has one fault at an age, and one answer on a report.
 use Rattle.std.proofs.Common.{◌≡◌, ◌⊎◌, ℕ, ◌≤◌, List, subst, length}
 use Rattle.dk_base.specs.declared.TheConstants.{MAX_SOURCE_BYTES}
-use Rattle.dk_base.specs.Stencils.{Parts as Stencils}
+use Rattle.dk_base.specs.Stencils.{Stencils}
 use Rattle.dk_types.specs.Typed.{Typing}
 use Rattle.pointwise_ir.specs.Programs.{Program}
 use Rattle.dk_compile.specs.declared.fault.SourceFault.{SourceFault as TextFault}

@@ -4,9 +4,9 @@ use Rattle.std.proofs.lemmas.List.{length-map}
 use Rattle.dk_base.specs.Types.{width_of}
 use Rattle.dk_types.specs.Typed.{Typing}
 use Rattle.pointwise_ir.specs.Programs.{Program, IsProgram}
-use Rattle.raster_delay.specs.Systems.{Parts as System}
+use Rattle.raster_delay.specs.Systems.{System}
 use Rattle.flow_dual.specs.declared.solution.Solution.{Solution}
-use Rattle.buffer_plan.specs.Plans.{Parts as Plan}
+use Rattle.buffer_plan.specs.Plans.{Plan}
 use Rattle.dk_compile.specs.Sources.{IsText}
 use Rattle.dk_compile.specs.Fronts.{IsForm}
 use Rattle.dk_compile.specs.Limits as at

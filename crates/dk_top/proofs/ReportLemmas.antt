@@ -1,7 +1,7 @@
 -- What `plan` and `check` read, and what they write to Report.
 use Rattle.std.proofs.Common.{◌≡◌, ℕ, List, length, Option, None, Some, IfSome, refl, sym, subst, arith}
 use Rattle.std.proofs.Math.Seq.{take-length}
-use Rattle.dk_base.specs.Stencils.{Parts}
+use Rattle.dk_base.specs.Stencils.{Stencils}
 use Rattle.dk_desk.specs.Calls.{IsIfTold, grown}
 use Rattle.pointwise_ir.specs.Programs.{Program}
 use Rattle.dk_plan.specs.declared.judging.Claim.{Claim}
@@ -52,7 +52,7 @@ unaccepted_told None program report e h = tt
 unaccepted_told (Some f) program report e h = source_ended (bytes_of f program) (bytes_of f report) e h
 
 -- the report does not hold
-report_ended : (source report : List ℕ) (ir : Program) (s : Parts) (e : Ending) → HasFront source ir s → Stops e → IsReportEnding source report e → IsCheckAnswer source report e
+report_ended : (source report : List ℕ) (ir : Program) (s : Stencils) (e : Ending) → HasFront source ir s → Stops e → IsReportEnding source report e → IsCheckAnswer source report e
 report_ended source report ir s ending.Done has stops h = absurd stops
 report_ended source report ir s ending.Usage has stops h = absurd stops
 report_ended source report ir s ending.WriteFault has stops h = absurd stops
@@ -64,7 +64,7 @@ report_ended source report ir s (ending.Rejected f) has stops h = record { progr
 report_ended source report ir s ending.ReadFault has stops h = tt
 report_ended source report ir s ending.Memory has stops h = tt
 
-pub rejected_told : (told between : Option Files) (program report : List ℕ) (ir : Program) (s : Parts) (e : Ending) → between ≡ told → IfSome told (λ f. HasFront (bytes_of f program) ir s) → Stops e
+pub rejected_told : (told between : Option Files) (program report : List ℕ) (ir : Program) (s : Stencils) (e : Ending) → between ≡ told → IfSome told (λ f. HasFront (bytes_of f program) ir s) → Stops e
     → IfSome between (λ f. (source : List ℕ) → HasFront source ir s → IsReportEnding source (bytes_of f report) e) → IfSome told (λ f. IsCheckAnswer (bytes_of f program) (bytes_of f report) e)
 rejected_told None between program report ir s e same has stops h = tt
 rejected_told (Some f) between program report ir s e same has stops h =
@@ -72,7 +72,7 @@ rejected_told (Some f) between program report ir s e same has stops h =
     report_ended (bytes_of f program) (bytes_of f report) ir s e has stops ((subst Fault same h) (bytes_of f program) has)
 
 -- the report holds
-pub claim_told : (told between : Option Files) (program report : List ℕ) (ir : Program) (s : Parts) (claim : Claim) → between ≡ told → IfSome told (λ f. HasFront (bytes_of f program) ir s)
+pub claim_told : (told between : Option Files) (program report : List ℕ) (ir : Program) (s : Stencils) (claim : Claim) → between ≡ told → IfSome told (λ f. HasFront (bytes_of f program) ir s)
     → IfSome between (λ f. (source : List ℕ) → HasFront source ir s → IsChecked source (bytes_of f report) claim) → IfSome told (λ f. IsChecked (bytes_of f program) (bytes_of f report) claim)
 claim_told None between program report ir s claim same has h = tt
 claim_told (Some f) between program report ir s claim same has h =
@@ -80,7 +80,7 @@ claim_told (Some f) between program report ir s claim same has h =
     (subst Holds same h) (bytes_of f program) has
 
 -- the text's front, as far as the file is told
-pub front_told : (told : Option Files) (name source : List ℕ) (ir : Program) (s : Parts) → IfSome told (λ f. source ≡ bytes_of f name) → HasFront source ir s → IfSome told (λ f. HasFront (bytes_of f name) ir s)
+pub front_told : (told : Option Files) (name source : List ℕ) (ir : Program) (s : Stencils) → IfSome told (λ f. source ≡ bytes_of f name) → HasFront source ir s → IfSome told (λ f. HasFront (bytes_of f name) ir s)
 front_told None name source ir s is has = tt
 front_told (Some f) name source ir s is has = subst (λ t. HasFront t ir s) is has
 
@@ -128,11 +128,11 @@ checked_told None program report claim h = tt
 checked_told (Some f) program report claim h = (claim, h)
 
 -- an ending of a report, whatever the program
-pub any_front : (told : Option Files) (name : List ℕ) (ir : Program) (s : Parts) (e : Ending) → IfSome told (λ f. (source : List ℕ) → IsReportEnding source (bytes_of f name) e) → IfSome told (λ f. (source : List ℕ) → HasFront source ir s → IsReportEnding source (bytes_of f name) e)
+pub any_front : (told : Option Files) (name : List ℕ) (ir : Program) (s : Stencils) (e : Ending) → IfSome told (λ f. (source : List ℕ) → IsReportEnding source (bytes_of f name) e) → IfSome told (λ f. (source : List ℕ) → HasFront source ir s → IsReportEnding source (bytes_of f name) e)
 any_front None name ir s e h = tt
 any_front (Some f) name ir s e h = λ source has. h source
 
 -- the report is asked for where the program is accepted
-pub order_front : (told : Option Files) (program : List ℕ) (ir : Program) (s : Parts) (o : Outside) → IfSome told (λ f. HasFront (bytes_of f program) ir s) → IfSome told (λ f. AsksWhere (IsAccepted (bytes_of f program)) o)
+pub order_front : (told : Option Files) (program : List ℕ) (ir : Program) (s : Stencils) (o : Outside) → IfSome told (λ f. HasFront (bytes_of f program) ir s) → IfSome told (λ f. AsksWhere (IsAccepted (bytes_of f program)) o)
 order_front None program ir s o h = tt
 order_front (Some f) program ir s o h = λ asked. (h.program, h.accepted)

@@ -16,9 +16,9 @@ use Rattle.wiring.specs.Runs.{Runs, picture}
 use Rattle.netlist.specs.Names.{NamedNetlist}
 use Rattle.pointwise_ir.specs.declared.ir.Input.{Input}
 use Rattle.pointwise_ir.specs.Programs.{Program}
-use Rattle.raster_delay.specs.Systems.{Parts as System}
+use Rattle.raster_delay.specs.Systems.{System}
 use Rattle.flow_dual.specs.declared.solution.Solution.{Solution}
-use Rattle.buffer_plan.specs.Plans.{Parts, latency, latency_of}
+use Rattle.buffer_plan.specs.Plans.{Plan, latency, latency_of}
 use Rattle.circuit.specs.Driven.{Agree, driven, fed_clock, input_widths, output_at}
 use Rattle.pgm_codec.specs.Images.{Picture as Image}
 use Rattle.program_images.specs.Outputs.{output_images}
@@ -65,7 +65,7 @@ only_item [] one = absurd (let e : ⊥ = omega (arith, one) in e)
 only_item (x ∷ []) one = (x, refl)
 only_item (x ∷ y ∷ xs) one = absurd (let e : ⊥ = omega (arith, one) in e)
 
-module _ (source : List ℕ) (age : ℕ) (enable : Bool) (p : Typing) (ir : Program) (system : System) (solution : Solution) (plan : Parts) (m : NamedNetlist) (nets : List Net) (verilog : List ℕ) (c : IsCompiled source age enable p ir system solution plan m nets verilog) (bits : ℕ) (inputs : (ports p).inputs ≡ bits ∷ []) (outputs : length p.outputs ≡ 1) where
+module _ (source : List ℕ) (age : ℕ) (enable : Bool) (p : Typing) (ir : Program) (system : System) (solution : Solution) (plan : Plan) (m : NamedNetlist) (nets : List Net) (verilog : List ℕ) (c : IsCompiled source age enable p ir system solution plan m nets verilog) (bits : ℕ) (inputs : (ports p).inputs ≡ bits ∷ []) (outputs : length p.outputs ≡ 1) where
   -- the module has one din of this width
   pub one_width : input_widths ir ≡ bits ∷ []
   one_width = sym (widths_same p ir (D.form source age enable p ir system solution plan m nets verilog c)) ∙ inputs

@@ -1,6 +1,6 @@
 -- The report of a program's text, and which reports hold of it.
 use Rattle.std.specs.Prelude.{◌≡◌, ℕ, List}
-use Rattle.dk_base.specs.Stencils.{Parts as Stencils}
+use Rattle.dk_base.specs.Stencils.{Stencils}
 use Rattle.dk_types.specs.Typed.{Typing}
 use Rattle.dk_inline.specs.Answers.{image_names}
 use Rattle.pointwise_ir.specs.Programs.{Program}

@@ -1,6 +1,6 @@
 -- What `plan` and `check` read, for the private functions.
 use Rattle.std.specs.Prelude.{ℕ, List, ⊤}
-use Rattle.dk_base.specs.Stencils.{Parts}
+use Rattle.dk_base.specs.Stencils.{Stencils}
 use Rattle.dk_types.specs.Typed.{Typing}
 use Rattle.pointwise_ir.specs.Programs.{Program}
 use Rattle.dk_compile.specs.Fronts.{IsFront}
@@ -10,7 +10,7 @@ use Rattle.dk_top.specs.Program.{IsAccepted}
 use Rattle.dk_top.specs.Reports.{IsReportFault}
 
 -- The text is accepted, with this form and these live reads.
-pub record HasFront (source : List ℕ) (ir : Program) (s : Parts) : Type 0 where
+pub record HasFront (source : List ℕ) (ir : Program) (s : Stencils) : Type 0 where
   pub program : Typing
   pub accepted : IsAccepted source program
   pub front : IsFront source program ir s

@@ -1,7 +1,7 @@
 //! What the definitions on plans and reports say together.
 
 ghost use Rattle.std.specs.Prelude.{◌≡◌, ℕ, List};
-ghost use Rattle.dk_base.specs.Stencils.{Parts as Stencils};
+ghost use Rattle.dk_base.specs.Stencils.{Stencils};
 ghost use Rattle.dk_endings.specs.declared.ending.SourceFault.{SourceFault as TheFault};
 ghost use Rattle.dk_plan.specs.declared.judging.Claim.{Claim as TheClaim};
 ghost use Rattle.dk_top.specs.Program.{CanBeCompiled, IsFaultAt};

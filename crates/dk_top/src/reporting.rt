@@ -4,7 +4,7 @@ ghost use Rattle.std.specs.Prelude.{◌≡◌, ◌≢◌, ◌≤◌, ◌<◌, �
 ghost use Rattle.dk_base.specs.declared.TheConstants.{MAX_SOURCE_BYTES, MAX_AGE};
 ghost use Rattle.dk_desk.specs.Calls.{HasCauseIn, IsIfTold, OpensOnly};
 ghost use Rattle.pointwise_ir.specs.Programs.{Program};
-ghost use Rattle.dk_base.specs.Stencils.{Parts as Stencils};
+ghost use Rattle.dk_base.specs.Stencils.{Stencils};
 ghost use Rattle.buffer_plan.specs.Limits.{IsPlanFault};
 ghost use Rattle.dk_plan.specs.Planned.{aged};
 ghost use Rattle.dk_top.specs.Command.{plan as plan_command, check as check_command};

@@ -68,17 +68,17 @@ abbrev pub definitions_as : List TypedDefinition → List Definition
 definitions_as ds = map definition_of ds
 
 -- the parts of a typed program, with their trees in memory
-pub record Parts : Type 0 where
+pub record TypedProgram : Type 0 where
   pub size : Size
   pub inputs : List TypedInput
   pub definitions : List TypedDefinition
   pub outputs : List ℕ
 
-abbrev pub parts_of : FrameSize → List TypedInput → List TypedDefinition → List ℕ → Parts
+abbrev pub parts_of : FrameSize → List TypedInput → List TypedDefinition → List ℕ → TypedProgram
 parts_of size is ds os = record { size = size_of size; inputs = is; definitions = ds; outputs = os }
 
 -- what they are as a program
-abbrev pub typing_of : Parts → Typing
+abbrev pub typing_of : TypedProgram → Typing
 typing_of p = record { size = p.size; inputs = p.inputs; definitions = definitions_as p.definitions; outputs = p.outputs }
 
 -- the type of an image: the declared one, or else that of its body

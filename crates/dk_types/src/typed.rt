@@ -67,10 +67,10 @@ impl Model for TypedProgram {
     ghost use Rattle.std.specs.Coded.{codes};
     ghost use Rattle.dk_types.specs.contracts.typed.TypedInput as input;
     ghost use Rattle.dk_types.specs.contracts.typed.TypedDefinition as definition;
-    ghost use Rattle.dk_types.specs.Typed.{Parts, parts_of, typing_of};
+    ghost use Rattle.dk_types.specs.Typed.{TypedProgram as TheTypedProgram, parts_of, typing_of};
     ghost use Rattle.dk_types.specs.Kept.{IsTyped};
 
-    ghost Value = { Parts };
+    ghost Value = { TheTypedProgram };
 
     ghost coded = { Prim.hlevel (codes, input.the_row.coded, definition.the_row.coded) };
 

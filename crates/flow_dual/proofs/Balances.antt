@@ -10,7 +10,7 @@ use Rattle.std.proofs.Math.ListN.{get_or-eq_default}
 use Rattle.std.proofs.lemmas.List.Elements.{recursion_from_All}
 use Rattle.std.proofs.lemmas.Int.{ints}
 use Rattle.raster_delay.specs.Network.{Buffer, amount_at, brought, taken, inflow, outflow, begins, ends, constraint_at}
-use Rattle.raster_delay.specs.Systems.{Parts, IsSystem, IsBalanced, image_count, nodes, widths, placed_reads, buffers, constraints_in, coefficient_in}
+use Rattle.raster_delay.specs.Systems.{System, IsSystem, IsBalanced, image_count, nodes, widths, placed_reads, buffers, constraints_in, coefficient_in}
 use Rattle.raster_delay.proofs.Within.{within_all}
 use Rattle.raster_delay.proofs.Places.{system_form}
 use Rattle.raster_delay.specs.declared.network.Constraint.{Constraint}
@@ -77,7 +77,7 @@ no_begins n v [] le all = refl
 no_begins n v (b ∷ bs) le all = omega (arith, amount_at-cons b.begin b.width (begins bs) v, spot_elsewhere b.begin b.width v (omega (arith, all.0)), no_begins n v bs le all.1)
 
 -- inflow less outflow need be looked at only at the nodes that there are
-pub balanced_from : (s : Parts) (flow brought_in taken_out : List ℕ) → IsSystem s → length flow ≡ length (constraints_in s)
+pub balanced_from : (s : System) (flow brought_in taken_out : List ℕ) → IsSystem s → length flow ≡ length (constraints_in s)
     → length brought_in ≡ nodes s → length taken_out ≡ nodes s
     → ((v : ℕ) → slice_index brought_in v ≡ inflow (constraints_in s) flow v)
     → ((v : ℕ) → slice_index taken_out v ≡ outflow (constraints_in s) flow v)

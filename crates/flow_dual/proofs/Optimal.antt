@@ -8,7 +8,7 @@ use Rattle.std.proofs.lemmas.List.{get_or_past}
 use Rattle.std.proofs.lemmas.List.Elements.{All-from_recursion, recursion_from_All}
 use Rattle.raster_delay.specs.Network.{Holds, objective}
 use Rattle.raster_delay.specs.Delays.{begin_of, end_of, IsForm}
-use Rattle.raster_delay.specs.Systems.{Parts, IsSystem, IsCausal, image_count, widths, placed_reads, nodes, constraints_in, buffers, bits, depth, worth_of}
+use Rattle.raster_delay.specs.Systems.{System, IsSystem, IsCausal, image_count, widths, placed_reads, nodes, constraints_in, buffers, bits, depth, worth_of}
 use Rattle.raster_delay.proofs.Duality.{bits_are, spare, spare-complementary, complementary-spare}
 use Rattle.raster_delay.proofs.Within.{within_all, keeps_all, numbers_keep, numbers_objective}
 use Rattle.raster_delay.proofs.Places.{system_form}
@@ -17,7 +17,7 @@ use Rattle.raster_delay.specs.declared.placed.PlacedRead.{PlacedRead}
 use Rattle.flow_dual.specs.declared.solution.Solution.{Solution}
 use Rattle.flow_dual.specs.Solutions.{IsOptimum, IsSolution}
 
-module _ (s : Parts) (is : IsSystem s) (p flow : List ℕ) (best : IsOptimum s p flow) (x : Solution) (same_flow : x.flow ≡ flow)
+module _ (s : System) (is : IsSystem s) (p flow : List ℕ) (best : IsOptimum s p flow) (x : Solution) (same_flow : x.flow ≡ flow)
     (size : length x.delays ≡ image_count s) (begins : (k : ℕ) → k < image_count s → slice_index x.delays k ≡ slice_index p (begin_of s.stencils.inputs k))
     (end_size : length x.ends ≡ image_count s) (ends : (k : ℕ) → k < image_count s → slice_index x.ends k ≡ slice_index p (end_of s.stencils.inputs (image_count s) k)) where
   abbrev row : ℕ

@@ -2,17 +2,17 @@
 use Rattle.std.specs.Prelude.{◌≡◌, ℕ, pos, ◌+◌, ◌<◌, ◌≤◌, List, length, slice_index, All}
 use Rattle.raster_delay.specs.Network.{Holds, IsComplementary}
 use Rattle.raster_delay.specs.Delays.{AreNear}
-use Rattle.raster_delay.specs.Systems.{Parts, IsCausal, IsBalanced, image_count, nodes, constraints_in, bits, depth, worth_of}
+use Rattle.raster_delay.specs.Systems.{System, IsCausal, IsBalanced, image_count, nodes, constraints_in, bits, depth, worth_of}
 use Rattle.flow_dual.specs.declared.solution.Solution.{Solution}
 
 -- Causal delays of least bits, of which each is as small as in any other of least bits.
-pub record IsLeastVector (s : Parts) (d : List ℕ) : Type 0 where
+pub record IsLeastVector (s : System) (d : List ℕ) : Type 0 where
   pub causal : IsCausal s d
   pub least_bits : (e : List ℕ) → IsCausal s e → bits s d ≤ bits s e
   pub least : (e : List ℕ) → IsCausal s e → bits s e ≡ bits s d → (k : ℕ) → k < image_count s → slice_index d k ≤ slice_index e k
 
 -- the least vector, each delay with its depth as an end, and a flow whose worth is the bits
-pub record IsSolution (s : Parts) (x : Solution) : Type 0 where
+pub record IsSolution (s : System) (x : Solution) : Type 0 where
   pub vector : IsLeastVector s x.delays
   pub ends_are : (k : ℕ) → k < image_count s → slice_index x.ends k ≡ slice_index x.delays k + depth s x.delays k
   pub one_end_each : length x.ends ≡ image_count s
@@ -21,7 +21,7 @@ pub record IsSolution (s : Parts) (x : Solution) : Type 0 where
   pub near : AreNear x.delays
 
 -- numbers of the nodes and a flow: the numbers keep the constraints, the flow is balanced and on tight constraints alone, and the numbers are the least that suit it
-pub record IsOptimum (s : Parts) (p flow : List ℕ) : Type 0 where
+pub record IsOptimum (s : System) (p flow : List ℕ) : Type 0 where
   pub one_each : length p ≡ nodes s
   pub inputs_at_once : slice_index p 0 ≡ 0
   pub holds : All (Holds p) (constraints_in s)

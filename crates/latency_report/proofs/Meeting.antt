@@ -14,9 +14,9 @@ use Rattle.dk_base.specs.Stencils.{Ascends, IsRead, place}
 use Rattle.pointwise_ir.specs.Programs.{Program, names_of}
 use Rattle.raster_delay.specs.declared.placed.PlacedRead.{PlacedRead}
 use Rattle.raster_delay.specs.Placing.{placed}
-use Rattle.raster_delay.specs.Systems.{Parts as System, image_count, placed_reads, depth}
+use Rattle.raster_delay.specs.Systems.{System, image_count, placed_reads, depth}
 use Rattle.raster_delay.proofs.Bridge.{rec_append, rec_map_in, rec_range_in}
-use Rattle.buffer_plan.specs.Plans.{Parts as Plan, IsPlan}
+use Rattle.buffer_plan.specs.Plans.{Plan, IsPlan}
 use Rattle.report_text.specs.declared.report.ImageLine.{ImageLine}
 use Rattle.report_text.specs.Names.{is_name}
 use Rattle.report_text.specs.Reports.{IsImageLine, IsAmount, IsFlowLine, AreDistinct, Ascend, most_images, most_latencies, Meets}

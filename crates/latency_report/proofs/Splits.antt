@@ -7,7 +7,7 @@ use Rattle.dk_base.specs.declared.stencils.Image.{Image}
 use Rattle.pointwise_ir.specs.Programs.{Program}
 use Rattle.raster_delay.specs.declared.placed.PlacedRead.{PlacedRead}
 use Rattle.raster_delay.specs.Delays.{hold, start, read, keep, holds_of, starts_of}
-use Rattle.raster_delay.specs.Systems.{Parts as System, image_count, placed_reads, constraints_in, depth}
+use Rattle.raster_delay.specs.Systems.{System, image_count, placed_reads, constraints_in, depth}
 use Rattle.report_text.specs.declared.report.ImageLine.{ImageLine}
 use Rattle.report_text.specs.declared.report.FlowLine.{FlowLine}
 use Rattle.latency_report.specs.Printed.{name_of, line_of}

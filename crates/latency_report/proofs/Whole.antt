@@ -2,8 +2,8 @@
 use Rattle.std.proofs.Common.{◌≡◌, ◌∙◌, ℕ, List, length, refl, sym, ap, subst}
 use Rattle.dk_base.specs.declared.stencils.LiveRead.{LiveRead}
 use Rattle.pointwise_ir.specs.Programs.{Program}
-use Rattle.raster_delay.specs.Systems.{Parts as System}
-use Rattle.buffer_plan.specs.Plans.{Parts as Plan, clocks, bits_of}
+use Rattle.raster_delay.specs.Systems.{System}
+use Rattle.buffer_plan.specs.Plans.{Plan, clocks, bits_of}
 use Rattle.report_text.specs.declared.report.ImageLine.{ImageLine}
 use Rattle.report_text.specs.declared.report.FlowLine.{FlowLine}
 use Rattle.report_text.specs.Reports.{Report}

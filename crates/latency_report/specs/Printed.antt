@@ -5,8 +5,8 @@ use Rattle.dk_base.specs.Stencils.{place}
 use Rattle.dk_base.specs.declared.stencils.Image.{Image}
 use Rattle.dk_base.specs.declared.TheConstants.{MAX_BUFFER_BITS, MAX_LATENCY}
 use Rattle.pointwise_ir.specs.Programs.{Program, names_of}
-use Rattle.raster_delay.specs.Systems.{Parts as System, depth, bits}
-use Rattle.buffer_plan.specs.Plans.{Parts as Plan, clocks}
+use Rattle.raster_delay.specs.Systems.{System, depth, bits}
+use Rattle.buffer_plan.specs.Plans.{Plan, clocks}
 use Rattle.report_text.specs.declared.report.ImageLine.{ImageLine}
 use Rattle.report_text.specs.Reports.{Report}
 use Rattle.plan_check.specs.Flows.{makers, carried}

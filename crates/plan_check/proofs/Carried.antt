@@ -9,7 +9,7 @@ use Rattle.std.proofs.lemmas.List.Sums.{sum_by-cons}
 use Rattle.std.proofs.lemmas.List.Elements.{All-contains_itself, recursion_from_All, All-from_recursion}
 use Rattle.raster_delay.specs.Network.{inflow, outflow, worth, brought, taken}
 use Rattle.raster_delay.specs.Delays.{hold, start, read, keep, holds_of, starts_of}
-use Rattle.raster_delay.specs.Systems.{Parts, image_count, placed_reads, constraints_in}
+use Rattle.raster_delay.specs.Systems.{System, image_count, placed_reads, constraints_in}
 use Rattle.raster_delay.specs.declared.network.Constraint.{Constraint}
 use Rattle.raster_delay.specs.declared.placed.PlacedRead.{PlacedRead}
 use Rattle.raster_delay.proofs.Bridge.{rec_range_in}
@@ -27,7 +27,7 @@ above a n e = grind (arith, nat_tests, e)
 abbrev pub Maker : Type 0
 Maker = ℕ → FlowLine
 
-module _ (s : Parts) where
+module _ (s : System) where
   -- the line names this constraint, with this flow
   pub record IsMade (c : Constraint) (n : ℕ) (x : FlowLine) : Type 0 where
     pub constraint_is : constraint_of s x ≡ c

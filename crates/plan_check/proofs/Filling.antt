@@ -3,7 +3,7 @@ use Rattle.std.proofs.Common.{◌≡◌, ◌∙◌, ◌+◌, ◌-◌, ◌<◌, �
 use Rattle.std.specs.List.{AllByRecursion, range_with_len}
 use Rattle.std.proofs.lemmas.List.{length-map, length-drop, get_or-map, get_or_append_left, get_or-append-add, get_or-drop}
 use Rattle.std.proofs.lemmas.List.FromFn.{get_or-map-range_with_len, length-map-range_with_len}
-use Rattle.raster_delay.specs.Systems.{Parts, IsSystem, image_count, placed_reads}
+use Rattle.raster_delay.specs.Systems.{System, IsSystem, image_count, placed_reads}
 use Rattle.report_text.specs.declared.report.FlowLine.{FlowLine}
 use Rattle.report_text.specs.declared.report.FlowLine.TheVariants.{Hold, Start, Read, Keep}
 use Rattle.report_text.specs.Reports.{Ascend}
@@ -77,7 +77,7 @@ module _ {X : Type 0} (a b c e : List X) (d : X) where
   at_fourth : (k : ℕ) → get_or (((a ++ b) ++ c) ++ e) (length ((a ++ b) ++ c) + k) d ≡ get_or e k d
   at_fourth k = get_or-append-add ((a ++ b) ++ c) e k d
 
-module _ (s : Parts) (is : IsSystem s) where
+module _ (s : System) (is : IsSystem s) where
   abbrev holds : List Maker
   holds = map hold_maker (range_with_len 0 (image_count s))
 

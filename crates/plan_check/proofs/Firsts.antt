@@ -1,7 +1,7 @@
 -- Which line is the first that is wrong by the printed numbers, part after part.
 use Rattle.std.proofs.Common.{◌≡◌, ◌<◌, ◌≤◌, ◌+◌, ◌-◌, ℕ, List, [], ◌∷◌, ◌++◌, map, length, arith}
 use Rattle.std.proofs.lemmas.List.{length-map, length-append}
-use Rattle.raster_delay.specs.Systems.{Parts as System}
+use Rattle.raster_delay.specs.Systems.{System}
 use Rattle.report_text.specs.Reports.{Report}
 use Rattle.report_text.specs.Layout.{head_lines, unless_first, size_line, image_line, latency_line, clocks_line, bits_line, reads_line, flow_line, end_line}
 use Rattle.plan_check.specs.First.{IsFirst, Misses}

@@ -8,14 +8,14 @@ use Rattle.std.proofs.lemmas.List.Sums.{sum_by-cons}
 use Rattle.std.proofs.lemmas.List.Elements.{All-contains}
 use Rattle.raster_delay.specs.Network.{inflow, outflow}
 use Rattle.raster_delay.specs.Delays.{IsNear, offset}
-use Rattle.raster_delay.specs.Systems.{Parts, IsSystem, image_count, placed_reads}
+use Rattle.raster_delay.specs.Systems.{System, IsSystem, image_count, placed_reads}
 use Rattle.raster_delay.specs.declared.placed.PlacedRead.{PlacedRead}
 use Rattle.raster_delay.proofs.Places.{system_form}
 use Rattle.report_text.specs.declared.report.FlowLine.{FlowLine}
 use Rattle.plan_check.specs.Flows.{amount_of}
 use Rattle.plan_check.specs.Sums.{constraint_of, carriers, amounts}
 
-module _ (s : Parts) (v : ℕ) (x : FlowLine) (xs : List FlowLine) where
+module _ (s : System) (v : ℕ) (x : FlowLine) (xs : List FlowLine) where
   pub inflow_cons : inflow (carriers s (x ∷ xs)) (amounts (x ∷ xs)) v ≡ cond (eqb (constraint_of s x).target v) (amount_of x) 0 + inflow (carriers s xs) (amounts xs) v
   inflow_cons = sum_by-cons (λ (a : ℕ × ℕ). cond (eqb a.0 v) a.1 0) ((constraint_of s x).target, amount_of x) (zip (map (λ c. c.target) (carriers s xs)) (amounts xs))
 
@@ -23,7 +23,7 @@ module _ (s : Parts) (v : ℕ) (x : FlowLine) (xs : List FlowLine) where
   outflow_cons = sum_by-cons (λ (a : ℕ × ℕ). cond (eqb a.0 v) a.1 0) ((constraint_of s x).source, amount_of x) (zip (map (λ c. c.source) (carriers s xs)) (amounts xs))
 
 -- what the limits say of a live read
-module _ (s : Parts) (is : IsSystem s) (r : PlacedRead) (in_it : Contains (placed_reads s) r) where
+module _ (s : System) (is : IsSystem s) (r : PlacedRead) (in_it : Contains (placed_reads s) r) where
   pub is_near : IsNear (offset s.stencils.width r)
   is_near = All-contains (λ r. IsNear (offset s.stencils.width r)) (placed_reads s) r (system_form s is).reads_are.near in_it
 

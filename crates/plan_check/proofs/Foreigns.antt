@@ -1,8 +1,8 @@
 -- Which line is the first that is wrong by the program, and by either kind of rule.
 use Rattle.std.proofs.Common.{◌≡◌, ◌<◌, ◌≤◌, ◌+◌, ℕ, List, [], ◌∷◌, ◌++◌, length, min, refl, subst, arith, inl, inr}
 use Rattle.std.proofs.lemmas.Bool.{cases_lt}
-use Rattle.dk_base.specs.Stencils.{Parts as Stencils}
-use Rattle.raster_delay.specs.Systems.{Parts as System}
+use Rattle.dk_base.specs.Stencils.{Stencils}
+use Rattle.raster_delay.specs.Systems.{System}
 use Rattle.report_text.specs.Reports.{Report}
 use Rattle.plan_check.specs.declared.verdict.Verdict.{Verdict}
 use Rattle.plan_check.specs.declared.verdict.Verdict.TheVariants.{Yes, No}

@@ -9,7 +9,7 @@ use Rattle.std.proofs.lemmas.List.Sums.{sum_by-cons}
 use Rattle.std.proofs.lemmas.List.Elements.{All-contains, All-map, All-from_recursion, recursion_from_All}
 use Rattle.raster_delay.specs.Network.{IsWithin, Buffer, inflow, outflow, amount_at, ends, begins}
 use Rattle.raster_delay.specs.Delays.{hold, start, read, keep, holds_of, starts_of, depth_of, IsForm, IsSmall}
-use Rattle.raster_delay.specs.Systems.{Parts, IsSystem, IsCausal, image_count, widths, placed_reads, constraints_in, buffers, nodes, bits, coefficient_in}
+use Rattle.raster_delay.specs.Systems.{System, IsSystem, IsCausal, image_count, widths, placed_reads, constraints_in, buffers, nodes, bits, coefficient_in}
 use Rattle.raster_delay.specs.declared.network.Constraint.{Constraint}
 use Rattle.raster_delay.specs.declared.placed.PlacedRead.{PlacedRead}
 use Rattle.raster_delay.proofs.Bridge.{rec_left, rec_right, rec_map_out, rec_range_out}
@@ -39,7 +39,7 @@ no_begins : (n v : ℕ) (bs : List Buffer) → n ≤ v → AllByRecursion (λ b.
 no_begins n v [] le all = refl
 no_begins n v (b ∷ bs) le all = omega (arith, at_cons b.begin b.width (begins bs) v, elsewhere b.begin b.width v (omega (arith, all.0)), no_begins n v bs le all.1)
 
-module _ (s : Parts) where
+module _ (s : System) where
   no_inflow : (n v : ℕ) (xs : List FlowLine) → n ≤ v → AllByRecursion (λ c. c.target < n) (carriers s xs) → inflow (carriers s xs) (amounts xs) v ≡ 0
   no_inflow n v [] le all = refl
   no_inflow n v (x ∷ xs) le all = omega (arith, inflow_cons s v x xs, elsewhere (constraint_of s x).target (amount_of x) v (omega (arith, all.0)), no_inflow n v xs le all.1)
@@ -48,7 +48,7 @@ module _ (s : Parts) where
   no_outflow n v [] le all = refl
   no_outflow n v (x ∷ xs) le all = omega (arith, outflow_cons s v x xs, elsewhere (constraint_of s x).source (amount_of x) v (omega (arith, all.0)), no_outflow n v xs le all.1)
 
-module _ (s : Parts) (is : IsSystem s) (P : Constraint → Type 0) (all : AllByRecursion P (constraints_in s)) where
+module _ (s : System) (is : IsSystem s) (P : Constraint → Type 0) (all : AllByRecursion P (constraints_in s)) where
   abbrev inputs : ℕ
   inputs = s.stencils.inputs
 
@@ -79,14 +79,14 @@ module _ (s : Parts) (is : IsSystem s) (P : Constraint → Type 0) (all : AllByR
   pub of_carriers : (flow : List FlowLine) → All (HasConstraint s) flow → All P (carriers s flow)
   of_carriers flow h = All-map P (constraint_of s) flow (λ k d lt. of_carrier (slice_index_or flow k d) (h k d lt))
 
-module _ (s : Parts) (is : IsSystem s) (x : FlowLine) (has : HasConstraint s x) where
+module _ (s : System) (is : IsSystem s) (x : FlowLine) (has : HasConstraint s x) where
   pub source_within : (constraint_of s x).source < nodes s
   source_within = of_carrier s is (λ c. c.source < nodes s) (recursion_from_All (λ c. c.source < nodes s) (constraints_in s) (within_all s.stencils.width s.age s.stencils.inputs (image_count s) (widths s) (placed_reads s) (system_form s is)).sources) x has
 
   pub target_within : (constraint_of s x).target < nodes s
   target_within = of_carrier s is (λ c. c.target < nodes s) (recursion_from_All (λ c. c.target < nodes s) (constraints_in s) (within_all s.stencils.width s.age s.stencils.inputs (image_count s) (widths s) (placed_reads s) (system_form s is)).targets) x has
 
-module _ (s : Parts) (is : IsSystem s) (flow : List FlowLine) (has : All (HasConstraint s) flow) where
+module _ (s : System) (is : IsSystem s) (flow : List FlowLine) (has : All (HasConstraint s) flow) where
   form : IsForm s.stencils.width s.age s.stencils.inputs (image_count s) (widths s) (placed_reads s)
   form = system_form s is
 
@@ -113,7 +113,7 @@ module _ (s : Parts) (is : IsSystem s) (flow : List FlowLine) (has : All (HasCon
     )
   ]
 
-pub small_cost : (s : Parts) → IsSystem s → (x : FlowLine) → HasConstraint s x → IsSmall (constraint_of s x)
+pub small_cost : (s : System) → IsSystem s → (x : FlowLine) → HasConstraint s x → IsSmall (constraint_of s x)
 small_cost s is x h = of_carrier s is IsSmall (recursion_from_All IsSmall (constraints_in s) (small_all s.stencils.width s.age s.stencils.inputs (image_count s) (widths s) (placed_reads s) (system_form s is))) x h
 
 -- the printed bits are those of the printed delays
@@ -133,7 +133,7 @@ same_list [] (y ∷ ys) l f = absurd (omega arith)
 same_list (x ∷ xs) [] l f = absurd (omega arith)
 same_list (x ∷ xs) (y ∷ ys) l f = ap (λ a. a ∷ xs) (f 0 (omega arith)) ∙ ap (λ s. y ∷ s) (same_list xs ys (omega arith) (λ k b. f (suc k) (omega arith)))
 
-module _ (s : Parts) (is : IsSystem s) (r : Report) (count : length r.images ≡ image_count s) (h : NumbersHold s r) where
+module _ (s : System) (is : IsSystem s) (r : Report) (count : length r.images ≡ image_count s) (h : NumbersHold s r) where
   printed_causal : IsCausal s (delays r)
   printed_causal = record {
     one_each = length-map r.images (λ (i : ImageLine). i.delay) ∙ count;

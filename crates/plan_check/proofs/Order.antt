@@ -13,7 +13,7 @@ use Rattle.dk_base.proofs.Orders.{at_place}
 use Rattle.dk_base.proofs.Compare.{int_lt_cases}
 use Rattle.raster_delay.specs.declared.placed.PlacedRead.{PlacedRead}
 use Rattle.raster_delay.specs.Placing.{placed}
-use Rattle.raster_delay.specs.Systems.{Parts, IsSystem, placed_reads}
+use Rattle.raster_delay.specs.Systems.{System, IsSystem, placed_reads}
 use Rattle.raster_delay.proofs.Places.{place_le}
 use Rattle.report_text.specs.Reports.{is_less}
 use Rattle.plan_check.specs.Orders.{IsEarlier, AreSorted}
@@ -48,7 +48,7 @@ module _ (images : List Image) (up : Ascends images) where
     columns = λ e g y. h.columns (place_same a.f b.f af bf e) (place_same a.g b.g ag bg g) y;
   }
 
-pub in_order : (s : Parts) → IsSystem s → (i j : ℕ) (d : PlacedRead) → i < j → j < length (placed_reads s) → IsEarlier (slice_index_or (placed_reads s) i d) (slice_index_or (placed_reads s) j d)
+pub in_order : (s : System) → IsSystem s → (i j : ℕ) (d : PlacedRead) → i < j → j < length (placed_reads s) → IsEarlier (slice_index_or (placed_reads s) i d) (slice_index_or (placed_reads s) j d)
 in_order s is i j d lt below =
     let none : LiveRead = record { f = 0; g = 0; dx = pos 0; dy = pos 0 } in
     let images = s.stencils.images in
@@ -99,7 +99,7 @@ module _ (f g : ℕ) (dx dy : ℤ) (f' g' : ℕ) (dx' dy' : ℤ) (h : is_less (0
   }
 
 -- no two reads at places of a list in order are the same, and none is the same as one that stands before or behind its place
-pub AreSorted-placed : (s : Parts) → IsSystem s → AreSorted (placed_reads s)
+pub AreSorted-placed : (s : System) → IsSystem s → AreSorted (placed_reads s)
 AreSorted-placed s is i j d lt below = in_order s is i j d lt below
 
 module _ (reads : List PlacedRead) (sorted : AreSorted reads) (r : PlacedRead) (m : ℕ) (d : PlacedRead) (within : m < length reads) where

@@ -5,7 +5,7 @@ use Rattle.std.proofs.lemmas.Bool.{cases_lt, cases_eq}
 use Rattle.std.proofs.lemmas.Bool.Decides.{nat_tests}
 use Rattle.std.proofs.lemmas.List.{get_or_default}
 use Rattle.raster_delay.specs.declared.placed.PlacedRead.{PlacedRead}
-use Rattle.raster_delay.specs.Systems.{Parts, IsSystem, image_count, placed_reads}
+use Rattle.raster_delay.specs.Systems.{System, IsSystem, image_count, placed_reads}
 use Rattle.raster_delay.proofs.Places.{system_form}
 use Rattle.report_text.specs.declared.report.FlowLine.{FlowLine}
 use Rattle.report_text.specs.declared.report.FlowLine.TheVariants.{Hold, Start, Read, Keep}
@@ -24,7 +24,7 @@ ascend_at (a ∷ []) k d up lt = absurd (omega (arith, lt))
 ascend_at (a ∷ b ∷ more) zero d up lt = up.0
 ascend_at (a ∷ b ∷ more) (suc k) d up lt = ascend_at (b ∷ more) k d up.1 (omega (arith, lt))
 
-module _ (s : Parts) (is : IsSystem s) where
+module _ (s : System) (is : IsSystem s) where
   abbrev reads : List PlacedRead
   reads = placed_reads s
 

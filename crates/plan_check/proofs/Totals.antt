@@ -5,7 +5,7 @@ use Rattle.std.proofs.lemmas.Int.{ints}
 use Rattle.std.proofs.lemmas.Bool.Decides.{nat_tests}
 use Rattle.std.proofs.lemmas.List.Elements.{recursion_from_All}
 use Rattle.raster_delay.specs.Network.{inflow, outflow, worth}
-use Rattle.raster_delay.specs.Systems.{Parts, IsSystem, constraints_in}
+use Rattle.raster_delay.specs.Systems.{System, IsSystem, constraints_in}
 use Rattle.raster_delay.specs.declared.network.Constraint.{Constraint}
 use Rattle.report_text.specs.declared.report.FlowLine.{FlowLine}
 use Rattle.report_text.specs.Reports.{Ascend}
@@ -17,7 +17,7 @@ use Rattle.plan_check.proofs.Carried.{Maker, Make, all_made, in_same, out_same, 
 use Rattle.plan_check.proofs.Filling.{fill, fill_length, fill_lines, placed_all}
 use Rattle.plan_check.proofs.Least.{balanced_at}
 
-module _ (s : Parts) where
+module _ (s : System) where
   -- lines of 0 add nothing
   in_one : (v : ℕ) (x : FlowLine) (xs : List FlowLine) (n : ℕ) → amount_of x ≡ n → inflow (carriers s (carrying xs)) (amounts (carrying xs)) v ≡ inflow (carriers s xs) (amounts xs) v
       → inflow (carriers s (carrying (x ∷ xs))) (amounts (carrying (x ∷ xs))) v ≡ inflow (carriers s (x ∷ xs)) (amounts (x ∷ xs)) v

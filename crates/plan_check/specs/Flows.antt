@@ -1,7 +1,7 @@
 -- The flow lines of a flow: one for each constraint that carries some.
 use Rattle.std.specs.Prelude.{ℕ, zero, suc, ◌-◌, List, [], ◌∷◌, ◌++◌, map, filter, nat_lt}
 use Rattle.std.specs.List.{range_with_len}
-use Rattle.raster_delay.specs.Systems.{Parts as System, image_count, placed_reads}
+use Rattle.raster_delay.specs.Systems.{System, image_count, placed_reads}
 use Rattle.report_text.specs.declared.report.FlowLine.{FlowLine}
 use Rattle.report_text.specs.declared.report.FlowLine.TheVariants.{Hold, Start, Read, Keep}
 

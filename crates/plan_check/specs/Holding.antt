@@ -3,7 +3,7 @@ use Rattle.std.specs.Prelude.{◌≡◌, ℕ, ℤ, pos, ◌+◌, ◌*◌, ◌<�
 use Rattle.dk_base.specs.Stencils.{place}
 use Rattle.raster_delay.specs.declared.placed.PlacedRead.{PlacedRead}
 use Rattle.raster_delay.specs.Delays.{age_of}
-use Rattle.raster_delay.specs.Systems.{Parts as System, IsCausal, IsBalanced, image_count, widths, placed_reads, depth, bits, worth_of}
+use Rattle.raster_delay.specs.Systems.{System, IsCausal, IsBalanced, image_count, widths, placed_reads, depth, bits, worth_of}
 use Rattle.report_text.specs.declared.report.ImageLine.{ImageLine}
 use Rattle.report_text.specs.declared.report.FlowLine.{FlowLine}
 use Rattle.report_text.specs.declared.report.FlowLine.TheVariants.{Hold, Start, Read, Keep}

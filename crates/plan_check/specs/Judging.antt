@@ -1,7 +1,7 @@
 -- Which lines of a report are wrong, and what is answered.
 use Rattle.std.specs.Prelude.{◌≡◌, ℕ, ◌≤◌, List, [], ◌∷◌, ◌++◌, length, slice_index_or}
 use Rattle.dk_base.specs.declared.TheConstants.{MAX_SIDE}
-use Rattle.raster_delay.specs.Systems.{Parts as System, image_count}
+use Rattle.raster_delay.specs.Systems.{System, image_count}
 use Rattle.report_text.specs.declared.report.FlowLine.{FlowLine}
 use Rattle.report_text.specs.declared.report.FlowLine.TheVariants.{Hold}
 use Rattle.report_text.specs.Reports.{Report, Ascend}

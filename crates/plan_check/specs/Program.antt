@@ -1,8 +1,8 @@
 -- Which lines of a report are wrong by the program, and what is answered on both kinds of rules.
 use Rattle.std.specs.Prelude.{◌≡◌, ℕ, ◌+◌, ◌<◌, ◌≤◌, List, [], ◌∷◌, ◌++◌, length, slice_index, slice_index_or}
-use Rattle.dk_base.specs.Stencils.{Parts as Stencils, numbers}
+use Rattle.dk_base.specs.Stencils.{Stencils, numbers}
 use Rattle.raster_delay.specs.Placing.{widths_of as image_widths}
-use Rattle.raster_delay.specs.Systems.{Parts as System}
+use Rattle.raster_delay.specs.Systems.{System}
 use Rattle.report_text.specs.declared.report.ImageLine.{ImageLine}
 use Rattle.report_text.specs.Reports.{Report, names_of}
 use Rattle.plan_check.specs.declared.verdict.Verdict.{Verdict}

@@ -5,7 +5,7 @@ use Rattle.raster_delay.specs.declared.network.Constraint.{Constraint}
 use Rattle.raster_delay.specs.declared.placed.PlacedRead.{PlacedRead}
 use Rattle.raster_delay.specs.Network.{inflow, outflow, worth}
 use Rattle.raster_delay.specs.Delays.{hold, start, read, keep}
-use Rattle.raster_delay.specs.Systems.{Parts as System, image_count, nodes, coefficient_in}
+use Rattle.raster_delay.specs.Systems.{System, image_count, nodes, coefficient_in}
 use Rattle.report_text.specs.declared.report.FlowLine.{FlowLine}
 use Rattle.report_text.specs.declared.report.FlowLine.TheVariants.{Hold, Start, Read, Keep}
 use Rattle.plan_check.specs.Flows.{amount_of}

@@ -1,7 +1,7 @@
 // What the bits of a report that holds are.
 
 ghost use Rattle.std.specs.Prelude.{◌≡◌, ◌≤◌, ℕ, List};
-ghost use Rattle.raster_delay.specs.Systems.{Parts as System, IsCausal, bits};
+ghost use Rattle.raster_delay.specs.Systems.{System, IsCausal, bits};
 ghost use Rattle.report_text.specs.Reports.{Report};
 ghost use Rattle.plan_check.specs.Holding.{AreLeast};
 

@@ -3,7 +3,7 @@ use Rattle.std.specs.Prelude.{ℕ, ℤ, pos, [], ◌∷◌}
 use Rattle.dk_base.specs.declared.stencils.Image.{Image}
 use Rattle.dk_base.specs.declared.stencils.LiveRead.{LiveRead}
 use Rattle.raster_delay.specs.declared.network.Constraint.{Constraint}
-use Rattle.raster_delay.specs.Systems.{Parts as System}
+use Rattle.raster_delay.specs.Systems.{System}
 
 abbrev byte : ℕ → Image
 byte n = record { number = n; width = 8 }

@@ -5,7 +5,7 @@ use Rattle.dk_base.specs.declared.stencils.Image.{Image}
 use Rattle.dk_base.specs.declared.stencils.LiveRead.{LiveRead}
 use Rattle.dk_base.specs.declared.ty.Ty.{Ty}
 use Rattle.dk_base.specs.Types.{width_of}
-use Rattle.dk_base.specs.Stencils.{AreInOrder, Ascends, IsKept, Parts}
+use Rattle.dk_base.specs.Stencils.{AreInOrder, Ascends, IsKept, Stencils}
 use Rattle.pointwise_ir.specs.Programs.{Program, types_of}
 use Rattle.pointwise_ir.specs.Reads.{IsLive, Kept}
 
@@ -49,7 +49,7 @@ pub record AreImages (p : Program) (images : List Image) : Type 0 where
   pub complete : (g : ℕ) → Kept p g → IsKept images g
 
 -- the stencils of a program
-pub record AreStencilsOf (p : Program) (s : Parts) : Type 0 where
+pub record AreStencilsOf (p : Program) (s : Stencils) : Type 0 where
   pub width : s.width ≡ p.size.width
   pub height : s.height ≡ p.size.height
   pub inputs : s.inputs ≡ length p.inputs

@@ -9,12 +9,12 @@ use Rattle.std.proofs.lemmas.List.{get_or-map, length-map}
 use Rattle.std.proofs.lemmas.List.Elements.{All-map}
 use Rattle.dk_base.specs.declared.stencils.Image.{Image}
 use Rattle.dk_base.specs.declared.stencils.LiveRead.{LiveRead}
-use Rattle.dk_base.specs.Stencils.{Parts as Stencils, place, IsKept, Ascends, IsStencils}
+use Rattle.dk_base.specs.Stencils.{Stencils, place, IsKept, Ascends, IsStencils}
 use Rattle.dk_base.proofs.Orders.{at_place, number_at}
 use Rattle.raster_delay.specs.declared.placed.PlacedRead.{PlacedRead}
 use Rattle.raster_delay.specs.Delays.{offset, AreReads, IsNear, IsForm}
 use Rattle.raster_delay.specs.Placing.{placed, reads_of}
-use Rattle.raster_delay.specs.Systems.{Parts, IsSystem, image_count, widths, placed_reads}
+use Rattle.raster_delay.specs.Systems.{System, IsSystem, image_count, widths, placed_reads}
 
 abbrev none : Image
 none = record { number = 0; width = 0 }
@@ -89,7 +89,7 @@ module _ (s : Stencils) (is : IsStencils s) where
   }
 
 -- a system is within the limits that its constraints need
-pub system_form : (s : Parts) → IsSystem s → IsForm s.stencils.width s.age s.stencils.inputs (image_count s) (widths s) (placed_reads s)
+pub system_form : (s : System) → IsSystem s → IsForm s.stencils.width s.age s.stencils.inputs (image_count s) (widths s) (placed_reads s)
 system_form s is = record {
   row_limit = is.stencils.frame.most_columns;
   age_limit = is.age_limit;

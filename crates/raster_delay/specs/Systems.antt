@@ -1,69 +1,69 @@
 -- What the definitions on delays say of a system, which is some stencils with the age that is asked of each read.
 use Rattle.std.specs.Prelude.{◌≡◌, ℕ, ℤ, ◌≤◌, List, length}
 use Rattle.dk_base.specs.declared.TheConstants.{MAX_AGE}
-use Rattle.dk_base.specs.Stencils.{Parts as Stencils, IsStencils}
+use Rattle.dk_base.specs.Stencils.{Stencils, IsStencils}
 use Rattle.raster_delay.specs.Placing.{widths_of, reads_of}
 use Rattle.raster_delay.specs.Network.{IsFlow, Buffer, worth, coefficient}
 use Rattle.raster_delay.specs.Delays.{AreCausal, depth_of, bits_of, constraints_of, buffers_of, node_count}
 use Rattle.raster_delay.specs.declared.network.Constraint.{Constraint}
 use Rattle.raster_delay.specs.declared.placed.PlacedRead.{PlacedRead}
 
-pub record Parts : Type 0 where
+pub record System : Type 0 where
   pub stencils : Stencils
   pub age : ℕ
 
-pub record IsSystem (s : Parts) : Type 0 where
+pub record IsSystem (s : System) : Type 0 where
   pub stencils : IsStencils s.stencils
   pub age_limit : s.age ≤ MAX_AGE
 
 -- how many images are kept
-abbrev pub image_count : Parts → ℕ
+abbrev pub image_count : System → ℕ
 image_count s = length s.stencils.images
 
-abbrev pub widths : Parts → List ℕ
+abbrev pub widths : System → List ℕ
 widths s = widths_of s.stencils.images
 
 -- the live reads, with the places of their images
-abbrev pub placed_reads : Parts → List PlacedRead
+abbrev pub placed_reads : System → List PlacedRead
 placed_reads s = reads_of s.stencils.images s.stencils.reads
 
 -- one delay for each kept image, 0 for each input, and the age of each live read at least the one that is asked
-abbrev pub IsCausal : Parts → List ℕ → Type 0
+abbrev pub IsCausal : System → List ℕ → Type 0
 IsCausal s d = AreCausal s.stencils.width s.age s.stencils.inputs (image_count s) (placed_reads s) d
 
 -- the greatest age among the live reads that read image g, 0 without any
-abbrev pub depth : Parts → List ℕ → ℕ → ℕ
+abbrev pub depth : System → List ℕ → ℕ → ℕ
 depth s d g = depth_of s.stencils.width d (placed_reads s) g
 
 -- the sum of width times depth over the kept images
-abbrev pub bits : Parts → List ℕ → ℕ
+abbrev pub bits : System → List ℕ → ℕ
 bits s d = bits_of s.stencils.width d (placed_reads s) (widths s)
 
 -- one begin node for all inputs, then one for each other kept image, then one end node for each kept image
-abbrev pub nodes : Parts → ℕ
+abbrev pub nodes : System → ℕ
 nodes s = node_count s.stencils.inputs (image_count s)
 
 -- hold, start, read and keep, each kind in the order of the stencils
-abbrev pub constraints_in : Parts → List Constraint
+abbrev pub constraints_in : System → List Constraint
 constraints_in s = constraints_of s.stencils.width s.age s.stencils.inputs (image_count s) (placed_reads s)
 
-abbrev pub buffers : Parts → List Buffer
+abbrev pub buffers : System → List Buffer
 buffers s = buffers_of s.stencils.inputs (image_count s) (widths s)
 
 -- minus the widths of the images that begin at a node, and plus those of the images that end there
-abbrev pub coefficient_in : Parts → ℕ → ℤ
+abbrev pub coefficient_in : System → ℕ → ℤ
 coefficient_in s v = coefficient (buffers s) v
 
 -- a number of at least 0 on each constraint, with inflow less outflow equal to the coefficient at every node
-abbrev pub IsBalanced : Parts → List ℕ → Type 0
+abbrev pub IsBalanced : System → List ℕ → Type 0
 IsBalanced s flow = IsFlow (constraints_in s) (buffers s) flow
 
 -- the sum of cost times flow
-abbrev pub worth_of : Parts → List ℕ → ℤ
+abbrev pub worth_of : System → List ℕ → ℤ
 worth_of s flow = worth (constraints_in s) flow
 
 -- what a system keeps beside its value: the reads by place, and the constraints
-pub record IsHeld (s : Parts) (placed : List PlacedRead) (constraints : List Constraint) : Type 0 where
+pub record IsHeld (s : System) (placed : List PlacedRead) (constraints : List Constraint) : Type 0 where
   pub system : IsSystem s
   pub placed_are : placed ≡ placed_reads s
   pub constraints_are : constraints ≡ constraints_in s

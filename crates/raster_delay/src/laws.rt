@@ -2,7 +2,7 @@
 
 ghost use Rattle.std.specs.Prelude.{ℕ, List, ◌≤◌, ◌≤ℤ◌, pos, All, slice_index};
 ghost use Rattle.raster_delay.specs.Network.{Holds, IsFlow, IsWithin, Buffer, worth, objective};
-ghost use Rattle.raster_delay.specs.Systems.{Parts, IsSystem, IsCausal, IsBalanced, bits, worth_of};
+ghost use Rattle.raster_delay.specs.Systems.{System, IsSystem, IsCausal, IsBalanced, bits, worth_of};
 ghost use Rattle.raster_delay.specs.declared.network.Constraint.{Constraint as TheConstraint};
 
 /// A law of systems of differences: no flow is worth more than the objective of any numbers that keep the constraints.
@@ -14,5 +14,5 @@ pub fn weak_duality()
 
 /// A law: no balanced flow is worth more than the bits of any causal delays, so one that is worth the bits of some shows them least.
 pub fn flow_shows_least()
-    ensures { (s : Parts) (flow d : List ℕ) → IsSystem s → IsBalanced s flow → IsCausal s d → worth_of s flow ≤ℤ pos (bits s d) }
+    ensures { (s : System) (flow d : List ℕ) → IsSystem s → IsBalanced s flow → IsCausal s d → worth_of s flow ≤ℤ pos (bits s d) }
 {}

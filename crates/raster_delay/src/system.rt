@@ -26,9 +26,9 @@ pub struct System {
 }
 
 impl Model for System {
-    ghost use Rattle.raster_delay.specs.Systems.{Parts, IsHeld};
+    ghost use Rattle.raster_delay.specs.Systems.{System as TheSystem, IsHeld};
 
-    ghost Value = { Parts };
+    ghost Value = { TheSystem };
 
     ghost view = { λ s. record { stencils = record { width = s.width; height = s.height; inputs = s.inputs; outputs = s.outputs.items; images = s.images.items; reads = s.reads.items }; age = s.age } };
 

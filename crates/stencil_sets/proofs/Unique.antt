@@ -1,7 +1,7 @@
 -- A program has one list of live reads in order.
 use Rattle.std.proofs.Common.{◌≡◌, ℕ, ◌≤◌, inl, inr, List, length, sym, ap, ◌∙◌, arith}
 use Rattle.dk_base.specs.declared.stencils.LiveRead.{LiveRead}
-use Rattle.dk_base.specs.Stencils.{Parts}
+use Rattle.dk_base.specs.Stencils.{Stencils}
 use Rattle.pointwise_ir.specs.Programs.{Program}
 use Rattle.pointwise_ir.specs.Stencils.{AreReads, AreStencilsOf}
 use Rattle.pointwise_ir.proofs.ReadLists.{no_longer, same_list}
@@ -22,6 +22,6 @@ one_count p m n (inl a) (inr b) = absurd (few_many p m n a b)
 one_count p m n (inr a) (inl b) = absurd (few_many p n m b a)
 one_count p m n (inr a) (inr b) = a.count_is ∙ sym b.count_is
 
-pub not_too_many : (p : Program) (s : Parts) (n : ℕ) → AreStencilsOf p s → length s.reads ≤ 4096 → HasCount p n → n ≤ 4096
+pub not_too_many : (p : Program) (s : Stencils) (n : ℕ) → AreStencilsOf p s → length s.reads ≤ 4096 → HasCount p n → n ≤ 4096
 not_too_many p s n are few (inl a) = let e = ap length (one_list p a.reads s.reads a.exact are.reads) in let c = a.count_is in omega (arith, e, c, few)
 not_too_many p s n are few (inr b) = let l = some_fewer p b.reads s.reads b.some are.reads in let g = b.many in absurd (omega (arith, l, g, few))

@@ -4,7 +4,7 @@ ghost use Rattle.std.specs.Prelude.{◌≡◌, ℕ, ◌≤◌, List, length};
 ghost use Rattle.dk_base.specs.declared.TheConstants.{MAX_LIVE_READS};
 ghost use Rattle.dk_base.specs.declared.stencils.Image.{Image};
 ghost use Rattle.dk_base.specs.declared.stencils.LiveRead.{LiveRead};
-ghost use Rattle.dk_base.specs.Stencils.{Parts};
+ghost use Rattle.dk_base.specs.Stencils.{Stencils};
 ghost use Rattle.pointwise_ir.specs.Programs.{Program};
 ghost use Rattle.pointwise_ir.specs.Stencils.{AreImages, AreReads, AreStencilsOf};
 ghost use Rattle.stencil_sets.specs.Live.{HasCount};
@@ -14,5 +14,5 @@ pub fn one_answer()
     ensures images { (p : Program) (a b : List Image) → AreImages p a → AreImages p b → a ≡ b }
     ensures reads { (p : Program) (a b : List LiveRead) → AreReads p a → AreReads p b → a ≡ b }
     ensures count { (p : Program) (m n : ℕ) → HasCount p m → HasCount p n → m ≡ n }
-    ensures apart { (p : Program) (s : Parts) (n : ℕ) → AreStencilsOf p s → length s.reads ≤ MAX_LIVE_READS → HasCount p n → n ≤ MAX_LIVE_READS }
+    ensures apart { (p : Program) (s : Stencils) (n : ℕ) → AreStencilsOf p s → length s.reads ≤ MAX_LIVE_READS → HasCount p n → n ≤ MAX_LIVE_READS }
 {}

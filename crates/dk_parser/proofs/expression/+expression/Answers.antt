@@ -49,11 +49,11 @@ comparison_of-returns-in_default t c =
 
 pub level_of-returns-in_err-left : goal.level_of-returns-in_err-left
 level_of-returns-in_err-left t c =
-    let p = err_from_is_err_and c.from_residual.result c.from_residual.ensures.1 in rw (p.1, p.2) (record { parsed = S.level_first_at _ (c.args.loose - 1) _ _ (omega arith) (omega arith) c.in_err-left.ensures.parsed })
+    let p = err_from_is_err_and c.from_residual.result c.from_residual.ensures.1 in rw (p.1, p.2) (record { parsed = S.level_first_at _ (c.args.precedence - 1) _ _ (omega arith) (omega arith) c.in_err-left.ensures.parsed })
 
 pub level_of-returns : goal.level_of-returns
 level_of-returns t c =
-    let l = c.in_ok-left.ensures.parsed in record { parsed = MatchResult-weaker c.steps_of.result (c.steps_of.ensures.parsed l.tree l.stands) (λ x p. record { tree = p.tree; parsed = S.level_whole_at _ (c.args.loose - 1) _ _ _ _ _ (omega arith) l.parsed p.parsed; stands = p.stands }) (λ x h. S.level_second_at _ (c.args.loose - 1) _ _ _ x (omega arith) l.parsed h) }
+    let l = c.in_ok-left.ensures.parsed in record { parsed = MatchResult-weaker c.steps_of.result (c.steps_of.ensures.parsed l.tree l.stands) (λ x p. record { tree = p.tree; parsed = S.level_whole_at _ (c.args.precedence - 1) _ _ _ _ _ (omega arith) l.parsed p.parsed; stands = p.stands }) (λ x h. S.level_second_at _ (c.args.precedence - 1) _ _ _ x (omega arith) l.parsed h) }
 
 pub steps_of-steps-preserved-in-Operand : goal.steps_of-steps-preserved-in-Operand
 steps_of-steps-preserved-in-Operand t c =

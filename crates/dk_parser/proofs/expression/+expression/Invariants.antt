@@ -27,7 +27,7 @@ abbrev pub decreases-comparison_of : goal.decreases-comparison_of
 decreases-comparison_of l = 16 * length l.tokens.now + 12
 
 abbrev pub decreases-level_of : goal.decreases-level_of
-decreases-level_of l = 16 * length l.tokens.now + l.loose + 2
+decreases-level_of l = 16 * length l.tokens.now + l.precedence + 2
 
 abbrev pub decreases-primary_of : goal.decreases-primary_of
 decreases-primary_of l = 16 * length l.tokens.now
@@ -39,7 +39,7 @@ abbrev pub decreases-unary_of : goal.decreases-unary_of
 decreases-unary_of l = 16 * length l.tokens.now + 1
 
 abbrev pub invariant-steps_of-steps : goal.invariant-steps_of-steps
-invariant-steps_of-steps l = Going l.loose l.fn.first l.fn.tokens l.left l.rest
+invariant-steps_of-steps l = Going l.precedence l.fn.first l.fn.tokens l.left l.rest
 
 abbrev pub decreases-steps_of-steps : goal.decreases-steps_of-steps
 decreases-steps_of-steps l = length l.rest

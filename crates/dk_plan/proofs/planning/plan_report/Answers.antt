@@ -2,7 +2,7 @@ use Rattle.std.proofs.Common.{◌<◌, length, sym, subst}
 use Rattle.std.specs.Prelude.{All}
 use Rattle.dk_base.specs.declared.stencils.Image.{Image}
 use Rattle.pointwise_ir.specs.Programs.{names_of}
-use Rattle.raster_delay.specs.Systems.{Parts as System}
+use Rattle.raster_delay.specs.Systems.{System}
 use Rattle.report_text.specs.Reports.{AreNames}
 use Rattle.buffer_plan.specs.Limits.{IsPlanFault, KeepsLimits}
 use Rattle.dk_plan.specs.Planned.{aged, IsReportText}

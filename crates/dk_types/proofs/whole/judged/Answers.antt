@@ -4,7 +4,7 @@ use Rattle.dk_parser.specs.declared.tree.Input.{Input}
 use Rattle.dk_parser.specs.declared.tree.Name.{Name}
 use Rattle.dk_parser.specs.declared.tree.Def.{Def}
 use Rattle.dk_parser.specs.Programs.{source_of, definitions_as as sources_as}
-use Rattle.dk_types.specs.Typed.{Parts, typing_of, parts_of, definitions_as}
+use Rattle.dk_types.specs.Typed.{TypedProgram, typing_of, parts_of, definitions_as}
 use Rattle.dk_types.specs.Scopes.{Scope}
 use Rattle.dk_types.specs.Types.{IsTyping, AreInputs, AreDefinitions, AreOutputs}
 use Rattle.dk_types.specs.Faults.{IsFirstFault}
@@ -72,5 +72,5 @@ returns c =
       definitions = ds;
       outputs = os;
     } in
-    let V : Parts → Type 0 = λ v. IsTyping (source_of c.args.program.now) (typing_of v) in
+    let V : TypedProgram → Type 0 = λ v. IsTyping (source_of c.args.program.now) (typing_of v) in
     subst V (sym c.new.ensures) whole

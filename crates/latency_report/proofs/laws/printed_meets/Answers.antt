@@ -1,5 +1,5 @@
 use Rattle.std.proofs.Common.{◌≡◌, ℕ, ◌<◌, ◌^◌, List, slice_index, sym, subst}
-use Rattle.buffer_plan.specs.Plans.{Parts as Plan, IsPlan}
+use Rattle.buffer_plan.specs.Plans.{Plan, IsPlan}
 use Rattle.report_text.specs.Reports.{Meets}
 use Rattle.latency_report.specs.Printed.{report_of}
 use Rattle.latency_report.proofs.Meeting.{meets}

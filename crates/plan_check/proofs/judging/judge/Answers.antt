@@ -1,7 +1,7 @@
 use Rattle.std.proofs.Common.{◌<◌, length, sym, subst}
 use Rattle.std.specs.Prelude.{All}
 use Rattle.dk_base.specs.declared.stencils.Image.{Image}
-use Rattle.dk_base.specs.Stencils.{Parts as Stencils}
+use Rattle.dk_base.specs.Stencils.{Stencils}
 use Rattle.pointwise_ir.specs.Programs.{names_of}
 use Rattle.report_text.specs.Reports.{parts_of}
 use Rattle.plan_check.specs.First.{IsFirst}

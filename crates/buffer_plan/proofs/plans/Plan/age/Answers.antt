@@ -2,7 +2,7 @@ use Rattle.std.proofs.Common.{◌≡◌, Contains, sym, subst, ap, ◌∙◌}
 use Rattle.std.specs.Prelude.{pos, ◌≤ℤ◌, unsigned_abs}
 use Rattle.raster_delay.specs.Delays.{IsNear, offset, age_of}
 use Rattle.raster_delay.specs.Placing.{placed}
-use Rattle.buffer_plan.specs.Plans.{Parts, read_age, ages_of}
+use Rattle.buffer_plan.specs.Plans.{Plan, read_age, ages_of}
 use Rattle.buffer_plan.specs.contracts.plans.Plan.{the_view}
 use Rattle.buffer_plan.proofs.Aged.{near, due, age_is, age_among}
 use Rattle.buffer_plan.proofs.plans.Plan.age.Goals as goal
@@ -12,7 +12,7 @@ age_held-requires-clause-near c =
     let r = c.args.r in
     let v = the_view c.self.inside in
     let reader = c.placed-placed.ensures ∙ ap (λ xs. placed xs r) c.deref.ensures.value in
-    let has : Contains v.system.stencils.reads r = subst (λ (p : Parts). Contains p.system.stencils.reads r) (sym c.self.view_is) c.requires in
+    let has : Contains v.system.stencils.reads r = subst (λ (p : Plan). Contains p.system.stencils.reads r) (sym c.self.view_is) c.requires in
     subst (λ x. IsNear (offset c.self.inside.width x)) (sym reader) (near v c.self.invariant.plan r has)
 
 pub age_held-requires-clause-due : goal.age_held-requires-clause-due
@@ -23,7 +23,7 @@ age_held-requires-clause-due c =
     let same : age_of c.self.inside.width c.deref-2.result.now c.placed-placed.result ≡ read_age v r =
     ap (λ ds. age_of c.self.inside.width ds c.placed-placed.result) c.deref-2.ensures.value ∙ ap (age_of c.self.inside.width c.self.inside.delays.items) reader
     in
-    let has : Contains v.system.stencils.reads r = subst (λ (p : Parts). Contains p.system.stencils.reads r) (sym c.self.view_is) c.requires in
+    let has : Contains v.system.stencils.reads r = subst (λ (p : Plan). Contains p.system.stencils.reads r) (sym c.self.view_is) c.requires in
     subst (λ z. pos 0 ≤ℤ z) (sym same) (due v c.self.invariant.plan r has)
 
 pub returns-clause-value : goal.returns-clause-value
@@ -34,7 +34,7 @@ returns-clause-value c =
     let same : age_of c.self.inside.width c.deref-2.result.now c.placed-placed.result ≡ read_age v r =
     ap (λ ds. age_of c.self.inside.width ds c.placed-placed.result) c.deref-2.ensures.value ∙ ap (age_of c.self.inside.width c.self.inside.delays.items) reader
     in
-    let has : Contains v.system.stencils.reads r = subst (λ (p : Parts). Contains p.system.stencils.reads r) (sym c.self.view_is) c.requires in
+    let has : Contains v.system.stencils.reads r = subst (λ (p : Plan). Contains p.system.stencils.reads r) (sym c.self.view_is) c.requires in
     age_is v c.self.invariant.plan r has c.age_held.result (c.age_held.ensures.value ∙ ap unsigned_abs same) ∙ ap (λ p. read_age p r) c.self.view_is
 
 pub returns-clause-among : goal.returns-clause-among
@@ -45,5 +45,5 @@ returns-clause-among c =
     let same : age_of c.self.inside.width c.deref-2.result.now c.placed-placed.result ≡ read_age v r =
     ap (λ ds. age_of c.self.inside.width ds c.placed-placed.result) c.deref-2.ensures.value ∙ ap (age_of c.self.inside.width c.self.inside.delays.items) reader
     in
-    let has : Contains v.system.stencils.reads r = subst (λ (p : Parts). Contains p.system.stencils.reads r) (sym c.self.view_is) c.requires in
+    let has : Contains v.system.stencils.reads r = subst (λ (p : Plan). Contains p.system.stencils.reads r) (sym c.self.view_is) c.requires in
     subst (λ p. Contains (ages_of p r.g) c.age_held.result) c.self.view_is (age_among v c.self.invariant.plan r has c.age_held.result (c.age_held.ensures.value ∙ ap unsigned_abs same))

@@ -2,7 +2,7 @@ use Rattle.std.proofs.Common.{◌≡◌, ◌<◌, [], length, slice_index_or, ar
 use Rattle.std.proofs.lemmas.List.{get_or_read}
 use Rattle.dk_base.specs.Stencils.{place, IsKept}
 use Rattle.raster_delay.specs.Systems.{placed_reads}
-use Rattle.buffer_plan.specs.Plans.{Parts, AreAges, AreDistinct, ages_in}
+use Rattle.buffer_plan.specs.Plans.{Plan, AreAges, AreDistinct, ages_in}
 use Rattle.buffer_plan.specs.contracts.plans.Plan.{the_view}
 use Rattle.buffer_plan.proofs.Aged.{ages_once}
 use Rattle.buffer_plan.proofs.plans.Plan.ages.Goals as goal
@@ -14,7 +14,7 @@ returns-clause-distinct c =
     let k = c.place_of.result in
     let images = c.self.inside.images.items in
     let at : k ≡ place images g = c.place_of.ensures ∙ ap (λ xs. place xs g) c.deref.ensures.value in
-    let kept : IsKept images g = subst (λ xs. IsKept xs g) (sym (ap (λ (p : Parts). p.system.stencils.images) c.self.view_is)) c.requires in
+    let kept : IsKept images g = subst (λ xs. IsKept xs g) (sym (ap (λ (p : Plan). p.system.stencils.images) c.self.view_is)) c.requires in
     let below : k < length images = omega (arith, at, kept) in
     let within : k < length c.self.inside.ages.items = omega (arith, below, c.self.invariant.one_list_each) in
     let told : c.as_slice.result.now ≡ slice_index_or c.self.inside.ages.items k [] = c.as_slice.ensures ∙ get_or_read c.self.inside.ages.items k c.index.result.now within c.index.ensures [] in

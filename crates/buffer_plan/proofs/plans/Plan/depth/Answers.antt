@@ -2,7 +2,7 @@ use Rattle.std.proofs.Common.{◌≡◌, ◌<◌, length, arith, ap, subst, sym,
 use Rattle.std.proofs.lemmas.List.{get_or_read}
 use Rattle.dk_base.specs.Stencils.{place, IsKept}
 use Rattle.raster_delay.specs.Systems.{depth}
-use Rattle.buffer_plan.specs.Plans.{Parts, IsPlan, depth_of}
+use Rattle.buffer_plan.specs.Plans.{Plan, IsPlan, depth_of}
 use Rattle.buffer_plan.specs.contracts.plans.Plan.{the_view}
 use Rattle.buffer_plan.proofs.Aged.{depth_most}
 use Rattle.buffer_plan.proofs.plans.Plan.depth.Goals as goal
@@ -14,7 +14,7 @@ returns-clause-depth c =
     let k = c.place_of.result in
     let images = c.self.inside.images.items in
     let at : k ≡ place images g = c.place_of.ensures ∙ ap (λ xs. place xs g) c.deref.ensures.value in
-    let kept : IsKept images g = subst (λ xs. IsKept xs g) (sym (ap (λ (p : Parts). p.system.stencils.images) c.self.view_is)) c.requires in
+    let kept : IsKept images g = subst (λ xs. IsKept xs g) (sym (ap (λ (p : Plan). p.system.stencils.images) c.self.view_is)) c.requires in
     let below : k < length images = omega (arith, at, kept) in
     let within : k < length c.self.inside.depths.items = omega (arith, below, c.self.invariant.one_depth_each) in
     get_or_read c.self.inside.depths.items k c.index.result.now within c.index.ensures 0
