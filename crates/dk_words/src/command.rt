@@ -1,7 +1,7 @@
 //! Commands, as they are read from the words that `clap` found.
 
 ghost use Rattle.std.specs.Prelude.{◌≡◌, Option, None, Some, option_map, option_and_then, codes};
-ghost use Rattle.clap.specs.Words.{first_of, rows_of, found_of, subcommand_rows_of, Text};
+ghost use Rattle.clap.specs.Words.{first_of, rows_of, found_of, subcommand_rows_of};
 ghost use Rattle.dk_words.specs.Command as command;
 
 use crate::numbers::number_within;
