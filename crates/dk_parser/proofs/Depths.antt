@@ -1,14 +1,13 @@
 -- A tree that is not too deep has no subtree that is.
 use Rattle.std.proofs.Common.{◌≡◌, ◌≤◌, Some, None, arith, refl, ap, sym, ◌∙◌}
 use Rattle.dk_base.specs.declared.span.Span.{Span}
+use Rattle.dk_base.specs.declared.operator.Binary.{Binary}
+use Rattle.dk_base.specs.declared.operator.Unary.{Unary}
+use Rattle.dk_base.specs.declared.operator.Scaling.{Scaling}
 use Rattle.dk_parser.specs.declared.tree.Node.{Node}
-use Rattle.dk_parser.specs.declared.tree.BinaryOperator.{BinaryOperator}
 use Rattle.dk_parser.specs.Tree.{Tree, number, read, unary, binary, scale, cast, sat, select, span_of, tree_at, tree_of}
 use Rattle.dk_parser.specs.Words.{over}
 use Rattle.dk_parser.specs.declared.tree.Expr.{Expr}
-use Rattle.dk_parser.specs.declared.tree.UnaryOperator.{UnaryOperator}
-use Rattle.dk_parser.specs.declared.tree.UnaryOperator.TheVariants.{Absolute}
-use Rattle.dk_parser.specs.declared.tree.ScaleOperator.{ScaleOperator}
 use Rattle.dk_parser.specs.declared.tree.Literal.{Literal}
 use Rattle.dk_parser.specs.declared.tree.TypeWord.{TypeWord}
 use Rattle.dk_parser.specs.Depth.{depth, below, here, too_deep}
@@ -42,27 +41,27 @@ span_at s (Node.Select' p u a q v b r w c) = refl
 pub deepest : (s : Span) (n : Node) (e : Tree) → tree_at s n ≡ e → depth e ≡ 513 → too_deep e ≡ Some s
 deepest s n e t d = rw (none_below e (omega arith), d) (ap Some (ap span_of (sym t) ∙ span_at s n))
 
-pub right_deep : (l r : Tree) (s : Span) → depth l ≤ 512 → too_deep r ≡ Some s → (o : BinaryOperator) (at : Span) → below (binary at o l r) ≡ Some s
+pub right_deep : (l r : Tree) (s : Span) → depth l ≤ 512 → too_deep r ≡ Some s → (o : Binary) (at : Span) → below (binary at o l r) ≡ Some s
 right_deep l r s h k o at = rw (none_below l (omega arith), not_here l h) k
 
-pub binary_is : (x y x' y' : Expr) (l r : Tree) (o : BinaryOperator) → tree_of x ≡ l → tree_of y ≡ r → x' ≡ x → y' ≡ y
+pub binary_is : (x y x' y' : Expr) (l r : Tree) (o : Binary) → tree_of x ≡ l → tree_of y ≡ r → x' ≡ x → y' ≡ y
     → binary (record { start = x.span.start; stop = y.span.stop }) o (tree_of x') (tree_of y') ≡ binary (over (span_of l) (span_of r)) o l r
 binary_is x y x' y' l r o a b c d =
     let sa : span_of l ≡ x.span = ap span_of (sym a) ∙ span_at x.span x.node in
     let sb : span_of r ≡ y.span = ap span_of (sym b) ∙ span_at y.span y.node in
     rw (sa, sb, ap tree_of c, ap tree_of d, a, b) refl
 
-pub pair_is : (x y x' y' : Expr) (l r : Tree) (o : BinaryOperator) (at : Span) → tree_of x ≡ l → tree_of y ≡ r → x' ≡ x → y' ≡ y
+pub pair_is : (x y x' y' : Expr) (l r : Tree) (o : Binary) (at : Span) → tree_of x ≡ l → tree_of y ≡ r → x' ≡ x → y' ≡ y
     → binary at o (tree_of x') (tree_of y') ≡ binary at o l r
 pair_is x y x' y' l r o at a b c d = rw (ap tree_of c, ap tree_of d, a, b) refl
 
-pub unary_is : (x x' : Expr) (e : Tree) (o : UnaryOperator) (at : Span) → tree_of x ≡ e → x' ≡ x
+pub unary_is : (x x' : Expr) (e : Tree) (o : Unary) (at : Span) → tree_of x ≡ e → x' ≡ x
     → unary (record { start = at.start; stop = x.span.stop }) o (tree_of x') ≡ unary (over at (span_of e)) o e
 unary_is x x' e o at a c =
     let s : span_of e ≡ x.span = ap span_of (sym a) ∙ span_at x.span x.node in
     rw (s, ap tree_of c, a) refl
 
-pub scale_is : (x x' : Expr) (e : Tree) (o : ScaleOperator) (k : Literal) → tree_of x ≡ e → x' ≡ x
+pub scale_is : (x x' : Expr) (e : Tree) (o : Scaling) (k : Literal) → tree_of x ≡ e → x' ≡ x
     → scale (record { start = x.span.start; stop = k.span.stop }) o (tree_of x') k ≡ scale (over (span_of e) k.span) o e k
 scale_is x x' e o k a c =
     let s : span_of e ≡ x.span = ap span_of (sym a) ∙ span_at x.span x.node in
@@ -74,7 +73,7 @@ cast_is x x' e t a c =
     let s : span_of e ≡ x.span = ap span_of (sym a) ∙ span_at x.span x.node in
     rw (s, ap tree_of c, a) refl
 
-pub absolute_is : (x x' : Expr) (e : Tree) (at : Span) → tree_of x ≡ e → x' ≡ x → unary at Absolute (tree_of x') ≡ unary at Absolute e
+pub absolute_is : (x x' : Expr) (e : Tree) (at : Span) → tree_of x ≡ e → x' ≡ x → unary at Unary.Abs (tree_of x') ≡ unary at Unary.Abs e
 absolute_is x x' e at a c = rw (ap tree_of c, a) refl
 
 pub sat_is : (x x' : Expr) (e : Tree) (at : Span) (t : TypeWord) → tree_of x ≡ e → x' ≡ x → sat at (tree_of x') t ≡ sat at e t

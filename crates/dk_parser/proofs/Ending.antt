@@ -24,11 +24,14 @@ use Rattle.dk_parser.specs.Ended.{Ended}
 use Rattle.dk_parser.specs.Faults.{Halts}
 use Rattle.dk_parser.specs.Grammar.{Tokens}
 use Rattle.dk_parser.specs.Nest.{unclosed, StaysShallow, PassesAt}
-use Rattle.dk_parser.specs.Programs.{Source, Definition, Item, declares, AfterDeclares, ADefinition, AnItem, lead_of, allowed, may_follow, next, is_end, Items, AProgram}
+use Rattle.dk_parser.specs.Programs.{Source, Definition, declares, AfterDeclares, ADefinition}
+use Rattle.dk_parser.specs.Items.{Item, AnItem, lead_of, next, is_end, Items, AProgram}
+use Rattle.dk_parser.specs.Rules.{ProgramRule}
 use Rattle.dk_parser.specs.Judged.{Derives, IsProgram, IsFaultyAt, Accepted, AreShallow, first_deep, Faults}
 use Rattle.dk_parser.proofs.Depths.{shallow}
 use Rattle.dk_parser.proofs.Free.{Free, Front, IsFree, both, one, free_then, free_one, free_done, free_mark, free_name, free_literal, free_type, free_closed, no_more, ended_rest}
 use Rattle.dk_parser.proofs.Keeping.{clear_program}
+use Rattle.dk_parser.proofs.Ruled.{allowed_some, ends_only, to_rules, from_rules}
 
 no_declares : (k : Terminal) (b : Bool) → declares k ≡ Some b → k ≢ EndOfText
 no_declares EndOfText b e h = cc (e)
@@ -64,19 +67,6 @@ closes_behind : (ts mid rest : Tokens) → Front ts mid → Closes mid rest → 
 closes_behind ts mid rest f c =
     let g : Front ts (c.tok ∷ rest) = both ts mid (c.tok ∷ rest) f (record { own = c.own; whole = c.whole; free = c.free }) in
     record { own = g.own; tok = c.tok; whole = g.whole; free = g.free; is_end' = c.is_end' }
-
-picked : (b : Bool) (m n : Lead) → (if b then Some m else None) ≡ Some n → m ≡ n
-picked true m n e = same_Some m n e
-picked false m n e = absurd (cc (e))
-
-pub allowed_some : (l : Lead) (o : Option Lead) (n : Lead) → allowed l o ≡ Some n → o ≡ Some n
-allowed_some l None n e = absurd (cc (e))
-allowed_some l (Some m) n e = ap Some (picked (may_follow l m) m n e)
-
-pub ends_only : (k : Terminal) → lead_of k ≡ Some lead.End → k ≡ EndOfText
-ends_only EndOfText e = refl
-ends_only (Keyword word.Input) e = absurd (cc (e))
-ends_only _ e = absurd (cc (e))
 
 not_ending : (k : Terminal) (n : Lead) → lead_of k ≡ Some n → n ≢ lead.End → k ≢ EndOfText
 not_ending k n e o h = o (same_Some _ _ (sym e ∙ ap lead_of h))
@@ -126,7 +116,7 @@ pub derives : (ts rest : Tokens) (p : Source) → Ended ts → AProgram ts p res
 derives ts rest p h q =
     let f = program_closes q in
     let nothing : rest ≡ [] = ended_rest f.own f.tok rest (subst Ended f.whole h) f.is_end' in
-    subst (λ x. AProgram ts p x) nothing q
+    to_rules ts [] p (subst (λ x. AProgram ts p x) nothing q)
 
 stuck_there : (ts : Tokens) (s : Bor Tokens) (x : Halt) → x ≡ Faulty s → Halts AProgram ts x → Stuck AProgram ts s.now
 stuck_there ts s x e h = subst (λ y. Halts AProgram ts y) e h
@@ -134,19 +124,33 @@ stuck_there ts s x e h = subst (λ y. Halts AProgram ts y) e h
 pub not_behind_at : (ts : Tokens) (s : Bor Tokens) (x : Halt) → x ≡ Faulty s → Ended ts → s.now ≡ [] → Halts AProgram ts x → ⊥
 not_behind_at ts s x e h n k = not_behind ts h (subst (λ y. Stuck AProgram ts y) n (stuck_there ts s x e k))
 
-pub faulty_at : (ts after : Tokens) (t : Token) → Stuck AProgram ts (t ∷ after) → IsFaultyAt ts t.span
-faulty_at ts after t s = record {
+-- where the chain of items is stuck, the rules are
+stuck_rules : (ts at : Tokens) → Stuck AProgram ts at → Stuck ProgramRule ts at
+stuck_rules ts at s = record {
+  taken = s.taken;
+  whole = s.whole;
+  more = s.more;
+  value = s.value;
+  begins = to_rules (s.taken ++ s.more) [] s.value s.begins;
+  none = λ w r v alike p. s.none w r v alike (from_rules (s.taken ++ w) r v p);
+}
+
+rules_faulty : (ts after : Tokens) (t : Token) → Stuck ProgramRule ts (t ∷ after) → IsFaultyAt ts t.span
+rules_faulty ts after t s = record {
   index = length s.taken;
-  faulty = faulty AProgram ts after t s;
+  faulty = faulty ProgramRule ts after t s;
   stands = record { before = s.taken; tok = t; after = after; whole = s.whole; index = refl; is_there = refl };
 }
+
+pub faulty_at : (ts after : Tokens) (t : Token) → Stuck AProgram ts (t ∷ after) → IsFaultyAt ts t.span
+faulty_at ts after t s = rules_faulty ts after t (stuck_rules ts (t ∷ after) s)
 
 pub faulty_there : (ts : Tokens) (s : Bor Tokens) (x : Halt) (after : Tokens) (t : Token) → x ≡ Faulty s → s.now ≡ t ∷ after → Halts AProgram ts x → IsFaultyAt ts t.span
 faulty_there ts s x after t e w k = faulty_at ts after t (subst (λ y. Stuck AProgram ts y) w (stuck_there ts s x e k))
 
 -- Tokens have one program, or one fault.
 pub one_program : (ts : Tokens) (p q : Source) → Derives ts p → Derives ts q → p ≡ q
-one_program ts p q a b = (clear_program.one a b).0
+one_program ts p q a b = (clear_program.one (from_rules ts [] p a) (from_rules ts [] q b)).0
 
 few : (n : ℕ) (ts : Tokens) → StaysShallow n ts → n ≤ 128
 few n [] s = s

@@ -9,7 +9,7 @@ use Rattle.dk_parser.specs.declared.tree.Start.TheVariants.{Nothing}
 use Rattle.dk_parser.specs.declared.tree.Binding.TheVariants.{Operator, Stops}
 use Rattle.dk_parser.specs.Tree.{Tree}
 use Rattle.dk_parser.specs.Terminals.{terminal}
-use Rattle.dk_parser.specs.Grammar.{Tokens, Form, Phrase, single, compared, prefixed, plain, chain, done, operand, suffixed, suffix, closed, reading, constant, bracket, pair, absolute, saturate, choice, binding, start}
+use Rattle.dk_parser.specs.Grammar.{Tokens, Closed, Form, Phrase, single, compared, prefixed, plain, chain, done, operand, suffixed, suffix, closed, reading, constant, bracket, pair, absolute, saturate, choice, binding, start}
 use Rattle.dk_parser.proofs.Laws.{joined, tail_is}
 use Rattle.dk_base.specs.declared.span.Span.{Span}
 use Rattle.dk_lexer.specs.declared.token.Symbol.TheVariants.{Open, Close, Comma}
@@ -27,7 +27,6 @@ use Rattle.dk_parser.specs.Marks.{mark_terminal}
 use Rattle.dk_parser.specs.Words.{Gives, IsMark, AName, ALiteral, AType, name, name_at, literal, literal_at, type_word, type_at, sign_of, spelling}
 use Rattle.dk_parser.specs.Words as words
 use Rattle.dk_parser.specs.Reads.{Turns, AfterTurn, Moved, Unclamped, Reads, plain as plain', clamped}
-use Rattle.dk_parser.specs.Faults.{Closed}
 use Rattle.dk_parser.specs.Ended.{Ended}
 
 -- no token of these is the end of the text

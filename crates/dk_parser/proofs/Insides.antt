@@ -1,6 +1,7 @@
 -- Enclosed expressions and reads, behind their first token.
 use Rattle.std.proofs.Common.{◌≡◌, ◌≢◌, ◌⊎◌, inl, inr, ◌<◌, ◌≤◌, [], ◌∷◌, ◌++◌, refl, ap, sym, ◌∙◌, subst, arith, append_assoc}
 use Rattle.dk_base.specs.declared.span.Span.{Span}
+use Rattle.dk_base.specs.declared.operator.Unary.{Unary}
 use Rattle.dk_lexer.specs.declared.token.Token.{Token}
 use Rattle.dk_grammar.specs.Reading.{Alike, Stuck}
 use Rattle.dk_grammar.proofs.Stucks.{stuck_within, stuck_here, front_alike}
@@ -9,8 +10,6 @@ use Rattle.dk_parser.specs.declared.terminal.Keyword.TheVariants.{Edge, Clamp}
 use Rattle.dk_parser.specs.declared.terminal.Terminal.{Terminal}
 use Rattle.dk_parser.specs.declared.terminal.Terminal.TheVariants.{Keyword}
 use Rattle.dk_parser.specs.declared.tree.ImageRead.{ImageRead}
-use Rattle.dk_parser.specs.declared.tree.UnaryOperator.TheVariants as unary'
-use Rattle.dk_parser.specs.declared.tree.UnaryOperator.{UnaryOperator}
 use Rattle.dk_parser.specs.declared.tree.Start.{Start}
 use Rattle.dk_parser.specs.declared.tree.Binding.{Binding}
 use Rattle.dk_parser.specs.declared.tree.Binding.TheVariants.{Operator, Clamps, Stops}
@@ -57,7 +56,7 @@ enclosed_in Absolute tok w r e s q =
     let o = q.2 in
     let i = q.3 in
     let a = i.2 in
-    rw o.1 (ended (absolute s o.2.0 a.1 a.2) (ap (λ x. unary (over tok.span x) unary'.Absolute i.0.0) a.3 ∙ i.3.0) i.3.1)
+    rw o.1 (ended (absolute s o.2.0 a.1 a.2) (ap (λ x. unary (over tok.span x) Unary.Abs i.0.0) a.3 ∙ i.3.0) i.3.1)
 enclosed_in Saturate tok w r e s q =
     let o = q.2 in
     let i = q.3 in
@@ -222,7 +221,7 @@ clamped_whole ts rest mid behind x edge clamp p e f c g = clamped (subst (λ y. 
 pub edge_rank : (ts after : Tokens) → IsEdge ts after → rank ts ≤ 1
 edge_rank ts after e = let f = e.is_edge in let h : rank ts ≡ 1 = ap rank e.whole ∙ rw f refl in omega (arith, h)
 
-pub opens_all : (x : Start) → x ≢ Image → ((o : UnaryOperator) → x ≢ Prefix o) → x ≢ Nothing → Opens x
+pub opens_all : (x : Start) → x ≢ Image → ((o : Unary) → x ≢ Prefix o) → x ≢ Nothing → Opens x
 opens_all (Constant v) a b c = tt
 opens_all Bracket a b c = tt
 opens_all (Pair o) a b c = tt
@@ -233,7 +232,7 @@ opens_all Image a b c = absurd (a refl)
 opens_all (Prefix o) a b c = absurd (b o refl)
 opens_all Nothing a b c = absurd (c refl)
 
-pub prefix_not : (x : Start) (o : UnaryOperator) → x ≡ Prefix o → Opens x ⊎ (x ≡ Image) → ⊥
+pub prefix_not : (x : Start) (o : Unary) → x ≡ Prefix o → Opens x ⊎ (x ≡ Image) → ⊥
 prefix_not x o e (inl p) = subst Opens e p
 prefix_not x o e (inr p) = cc (e, p)
 

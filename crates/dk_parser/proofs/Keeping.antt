@@ -24,7 +24,8 @@ use Rattle.dk_parser.specs.Words.{Gives}
 use Rattle.dk_parser.specs.Grammar.{Tokens}
 use Rattle.dk_parser.specs.Depth.{depth, too_deep, first}
 use Rattle.dk_parser.specs.Front.{IsFront}
-use Rattle.dk_parser.specs.Programs.{Definition, definition_of, definitions_as, Item, input, definition, output, AnInput, declares, AfterDeclares, Declared, Header, ADefinition, AnItem, lead_of, may_follow, allowed, next, is_end, Items, inputs_of, definitions_of, outputs_of, source, AProgram}
+use Rattle.dk_parser.specs.Programs.{Definition, definition_of, definitions_as, AnInput, declares, AfterDeclares, Declared, Header, ADefinition}
+use Rattle.dk_parser.specs.Items.{Item, input, definition, output, AnItem, lead_of, may_follow, allowed, next, is_end, Items, inputs_of, definitions_of, outputs_of, source, AProgram}
 use Rattle.dk_parser.specs.declared.tree.Literal.{Literal}
 use Rattle.dk_parser.specs.Nest.{StaysShallow}
 use Rattle.dk_parser.specs.Judged.{Accepted, Derives, AreShallow, first_deep}

@@ -1,10 +1,10 @@
 -- Laws of the grammar: a phrase does not depend on what follows it, and what follows it tells where it ends.
 use Rattle.std.proofs.Common.{◌≡◌, ℕ, suc, ◌<◌, [], ◌∷◌, ◌++◌, Some, refl, ap, sym, ◌∙◌, subst, arith, append_assoc}
+use Rattle.dk_base.specs.declared.operator.Unary.{Unary}
+use Rattle.dk_base.specs.declared.operator.Binary.{Binary}
 use Rattle.dk_lexer.specs.declared.token.Token.{Token}
 use Rattle.dk_parser.specs.declared.tree.Step.{Step}
 use Rattle.dk_parser.specs.declared.tree.Start.{Start}
-use Rattle.dk_parser.specs.declared.tree.UnaryOperator.{UnaryOperator}
-use Rattle.dk_parser.specs.declared.tree.BinaryOperator.{BinaryOperator}
 use Rattle.dk_parser.specs.declared.tree.Start.TheVariants.{Prefix, Image}
 use Rattle.dk_parser.specs.declared.tree.Binding.{Binding}
 use Rattle.dk_parser.specs.declared.tree.Binding.TheVariants.{Operator}
@@ -125,7 +125,7 @@ rank_is t m n x s = rw s refl
 pub clash : (a : Tokens) (t : Token) (m : Tokens) (n : ℕ) (x : Step) → a ≡ t ∷ m → binding (terminal t) ≡ Operator n x → suc n < rank a → ⊥
 clash a t m n x e s h = omega (arith, ap rank e, rank_is t m n x s)
 
-pub no_suffix : (l m : Tree) (s : Step) (word : Token) (o : BinaryOperator) → s ≡ Step.Operand o → suffix l s word ≡ Some m → ⊥
+pub no_suffix : (l m : Tree) (s : Step) (word : Token) (o : Binary) → s ≡ Step.Operand o → suffix l s word ≡ Some m → ⊥
 no_suffix l m s w o e h = let k = rw e at h in cc
 
 pub same_step : (x : Binding) (n m : ℕ) (s t : Step) → x ≡ Operator n s → x ≡ Operator m t → s ≡ t
@@ -146,7 +146,7 @@ opens_here tok s ts k t m e o g h =
     subst Opens same o
 
 -- No primary expression begins as a unary operator does, and no enclosed one as a read does.
-pub not_prefixed : {ts r : Tokens} {tok : Token} {e : Tree} {o : UnaryOperator} → start (terminal tok) ≡ Prefix o → Phrase primary (tok ∷ ts) e r → ⊥
+pub not_prefixed : {ts r : Tokens} {tok : Token} {e : Tree} {o : Unary} → start (terminal tok) ≡ Prefix o → Phrase primary (tok ∷ ts) e r → ⊥
 not_prefixed {ts = ts} {tok = t} {o = o} u (closed p) = let f = enclosed_first p in opens_here f.0 f.1 _ (Prefix o) t ts f.2 f.3 refl u
 not_prefixed {ts = ts} {tok = t} {o = o} u (reading p) = let f = reads_first p in let same : start (terminal t) ≡ Image = ap (λ x. start (terminal x)) (head_is _ _ _ _ f.2) ∙ f.3 in cc (same, u)
 

@@ -3,7 +3,7 @@ use Rattle.std.proofs.Common.{◌≡◌, ℕ, suc, ◌<◌, ◌≤◌, ◌++◌,
 use Rattle.dk_parser.specs.Tree.{Tree}
 use Rattle.dk_parser.specs.Grammar.{Tokens, steps, Phrase}
 use Rattle.dk_parser.specs.Front.{rank}
-use Rattle.dk_parser.specs.Depth.{Stands}
+use Rattle.dk_parser.specs.Grown.{Stands}
 use Rattle.dk_parser.specs.declared.built.Built.{Built}
 
 -- The steps after l0 in ts are those after l in rest, whatever stands in place of rest.

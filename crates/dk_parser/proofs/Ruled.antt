@@ -1,5 +1,6 @@
 -- The chain of items of a program is the grammar's rules.
 use Rattle.std.proofs.Common.{◌≡◌, List, [], ◌∷◌, ◌++◌, map, Option, Some, None, Bool, true, false, if◌then◌else◌, refl, ap, sym, subst, ◌∙◌}
+use Rattle.std.proofs.lemmas.Option.{same_Some}
 use Rattle.dk_lexer.specs.declared.token.Token.{Token}
 use Rattle.dk_grammar.specs.Reading.{Phrases, Many, none, more, Several, end, link}
 use Rattle.dk_parser.specs.declared.items.Lead.{Lead}
@@ -12,9 +13,22 @@ use Rattle.dk_parser.specs.declared.tree.Literal.{Literal}
 use Rattle.dk_parser.specs.declared.tree.Input.{Input}
 use Rattle.dk_parser.specs.Terminals.{terminal}
 use Rattle.dk_parser.specs.Grammar.{Tokens}
-use Rattle.dk_parser.specs.Programs.{Source, Definition, Item, input, definition, output, AnItem, lead_of, may_follow, allowed, next, is_end, Items, inputs_of, definitions_of, outputs_of, source, AProgram}
+use Rattle.dk_parser.specs.Programs.{Source, Definition}
+use Rattle.dk_parser.specs.Items.{Item, input, definition, output, AnItem, lead_of, may_follow, allowed, next, is_end, Items, inputs_of, definitions_of, outputs_of, source, AProgram}
 use Rattle.dk_parser.specs.Rules.{InputRule, DefinitionRule, plain, inlined, OutputRule, ProgramRule}
-use Rattle.dk_parser.proofs.Ending.{allowed_some, ends_only}
+
+picked : (b : Bool) (m n : Lead) → (if b then Some m else None) ≡ Some n → m ≡ n
+picked true m n e = same_Some m n e
+picked false m n e = absurd (cc (e))
+
+pub allowed_some : (l : Lead) (o : Option Lead) (n : Lead) → allowed l o ≡ Some n → o ≡ Some n
+allowed_some l None n e = absurd (cc (e))
+allowed_some l (Some m) n e = ap Some (picked (may_follow l m) m n e)
+
+pub ends_only : (k : Terminal) → lead_of k ≡ Some lead.End → k ≡ EndOfText
+ends_only EndOfText e = refl
+ends_only (Keyword word.Input) e = absurd (cc (e))
+ends_only _ e = absurd (cc (e))
 
 abbrev Some' : {A : Type 0} → List A → Type 0
 Some' {A = A} xs = (x : A) × (others : List A) × (xs ≡ x ∷ others)

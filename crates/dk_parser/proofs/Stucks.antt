@@ -3,6 +3,9 @@ use Rattle.std.proofs.Common.{◌≡◌, ◌≢◌, ℕ, zero, suc, ◌+◌, ◌
 use Rattle.dk_base.specs.declared.span.Span.{Span}
 use Rattle.dk_base.specs.declared.ty.Ty.{Ty}
 use Rattle.dk_base.specs.declared.ty.Ty.TheVariants.{Unsigned}
+use Rattle.dk_base.specs.declared.operator.Unary.{Unary}
+use Rattle.dk_base.specs.declared.operator.Binary.{Binary}
+use Rattle.dk_base.specs.declared.operator.Scaling.{Scaling}
 use Rattle.dk_lexer.specs.declared.token.Token.{Token}
 use Rattle.dk_lexer.specs.declared.token.Symbol.TheVariants.{Less, LessEqual, Greater, GreaterEqual, EqualEqual, NotEqual}
 use Rattle.dk_grammar.specs.Reading.{Phrases, Alike, Stuck, Clear}
@@ -16,9 +19,6 @@ use Rattle.dk_parser.specs.declared.terminal.Keyword.TheVariants.{As}
 use Rattle.dk_parser.specs.declared.terminal.Terminal.{Terminal}
 use Rattle.dk_parser.specs.declared.terminal.Terminal.TheVariants.{Keyword, TypeWord as Type', Number as Number', Symbol as Sym}
 use Rattle.dk_parser.specs.declared.tree.Step.{Step}
-use Rattle.dk_parser.specs.declared.tree.UnaryOperator.{UnaryOperator}
-use Rattle.dk_parser.specs.declared.tree.BinaryOperator.{BinaryOperator}
-use Rattle.dk_parser.specs.declared.tree.ScaleOperator.{ScaleOperator}
 use Rattle.dk_parser.specs.declared.tree.Binding.{Binding}
 use Rattle.dk_parser.specs.declared.tree.Binding.TheVariants.{Operator, Stops}
 use Rattle.dk_parser.specs.declared.tree.Start.TheVariants.{Prefix}
@@ -27,10 +27,10 @@ use Rattle.dk_parser.specs.Tree.{Tree, number, unary, binary, scale, cast, span_
 use Rattle.dk_parser.specs.Marks.{mark_terminal}
 use Rattle.dk_parser.specs.Terminals.{terminal}
 use Rattle.dk_parser.specs.Words.{over}
-use Rattle.dk_parser.specs.Grammar.{Tokens, Form, comparison, level, steps, primary, enclosed, Phrase, single, compared, prefixed, plain, chain, done, operand, suffixed, suffix, closed, constant, binding, start, scaled, converted}
+use Rattle.dk_parser.specs.Grammar.{Tokens, Closed, Form, comparison, level, steps, primary, enclosed, Phrase, single, compared, prefixed, plain, chain, done, operand, suffixed, suffix, closed, constant, binding, start, scaled, converted}
 use Rattle.dk_parser.specs.Front.{rank, bound}
 use Rattle.dk_parser.specs.Ahead.{IsAhead}
-use Rattle.dk_parser.specs.Faults.{Halts, Ends, Parsed, Suffix, Closed}
+use Rattle.dk_parser.specs.Faults.{Halts, Ends, Parsed, Suffix}
 use Rattle.dk_parser.proofs.Tokens.{mark_token, number_token, type_token}
 use Rattle.dk_parser.proofs.Resumes.{Resumes}
 use Rattle.dk_parser.proofs.Laws.{local, unique, moved, steps_first, not_prefixed, tail_is, clash, no_suffix, same_step, rank_is}
@@ -138,7 +138,7 @@ comparison_out (compared {mid = m} {r = x} {tok = t} p s' q') h l tok w s q b =
     (x, moved refl (tail_is _ _ _ _ (sym i)) q')
 
 -- Behind a comparison's operator, in a language whose ends are ends of a comparison.
-pub comparison_second : (ts rest after at : Tokens) (l : Tree) (tok : Token) (o : BinaryOperator) → Parsed (level 7) ts l rest → rest ≡ tok ∷ after
+pub comparison_second : (ts rest after at : Tokens) (l : Tree) (tok : Token) (o : Binary) → Parsed (level 7) ts l rest → rest ≡ tok ∷ after
     → binding (terminal tok) ≡ Operator 8 (Step.Operand o) → Stuck (Ends (level 7)) after at → Stuck (Ends comparison) ts at
 comparison_second ts rest after at l tok o p e b k =
     let i = local p.phrase in
@@ -152,7 +152,7 @@ comparison_second ts rest after at l tok o p e b k =
     k)
 
 -- A second comparison.
-pub comparison_twice : (ts rest after behind : Tokens) (l r : Tree) (tok : Token) (o : BinaryOperator) → Parsed (level 7) ts l rest → rest ≡ tok ∷ after
+pub comparison_twice : (ts rest after behind : Tokens) (l r : Tree) (tok : Token) (o : Binary) → Parsed (level 7) ts l rest → rest ≡ tok ∷ after
     → binding (terminal tok) ≡ Operator 8 (Step.Operand o) → Parsed (level 7) after r behind → rank behind ≤ 9 → Stuck (Ends comparison) ts behind
 comparison_twice ts rest after behind l r tok o p e b q h =
     let i = local p.phrase in
@@ -175,7 +175,7 @@ comparison_twice ts rest after behind l r tok o p e b q h =
 pub comparison_single : (ts rest : Tokens) (l : Tree) → Parsed (level 7) ts l rest → 9 < rank rest → Parsed comparison ts l rest
 comparison_single ts rest l p h = record { phrase = single p.phrase; ends = h; fewer = p.fewer }
 
-pub comparison_whole : (ts rest after behind : Tokens) (l r : Tree) (tok : Token) (o : BinaryOperator) → Parsed (level 7) ts l rest → rest ≡ tok ∷ after
+pub comparison_whole : (ts rest after behind : Tokens) (l r : Tree) (tok : Token) (o : Binary) → Parsed (level 7) ts l rest → rest ≡ tok ∷ after
     → binding (terminal tok) ≡ Operator 8 (Step.Operand o) → Parsed (level 7) after r behind → 9 < rank behind
     → Parsed comparison ts (binary (over (span_of l) (span_of r)) o l r) behind
 comparison_whole ts rest after behind l r tok o p e b q h = record {
@@ -220,7 +220,7 @@ pub level_whole_at : (m n : ℕ) (ts mid rest : Tokens) (l x : Tree) → m ≡ s
 level_whole_at m n ts mid rest l x e p q = rw e (level_whole n ts mid rest l x p q)
 
 -- After an operator that wants an operand.
-operand_out : {n : ℕ} {w r : Tokens} {l e : Tree} {tok : Token} {o : BinaryOperator} → Phrase (steps n l) (tok ∷ w) e r → suc (suc n) < rank r
+operand_out : {n : ℕ} {w r : Tokens} {l e : Tree} {tok : Token} {o : Binary} → Phrase (steps n l) (tok ∷ w) e r → suc (suc n) < rank r
     → binding (terminal tok) ≡ Operator (suc n) (Step.Operand o)
     → (x : Tree) × (m : Tokens) × Phrase (level n) w x m × (suc n < rank m) × Phrase (steps n (binary (over (span_of l) (span_of x)) o l x)) m e r
 operand_out {w = w} {tok = t} done h b = absurd (omega (arith, rank_is t w _ _ b))
@@ -230,7 +230,7 @@ operand_out {l = l} (suffixed {word = x} s k q) h b = absurd (no_suffix l _ _ x 
 
 -- After an operator that wants a number or a type.
 suffix_out : {n : ℕ} {w r : Tokens} {l e : Tree} {tok : Token} {s : Step} → Phrase (steps n l) (tok ∷ w) e r → suc (suc n) < rank r
-    → binding (terminal tok) ≡ Operator (suc n) s → ((o : BinaryOperator) → s ≢ Step.Operand o)
+    → binding (terminal tok) ≡ Operator (suc n) s → ((o : Binary) → s ≢ Step.Operand o)
     → (x : Token) × (t : Tree) × (m : Tokens) × (w ≡ x ∷ m) × (suffix l s x ≡ Some t) × Phrase (steps n t) m e r
 suffix_out {w = w} {tok = t} done h b other = absurd (omega (arith, rank_is t w _ _ b))
 suffix_out (operand {o = o} s p q) h b other = absurd (other o (same_step _ _ _ _ _ b s))
@@ -240,7 +240,7 @@ suffix_out {l = l} (suffixed {mid = m} {m = t} {word = x} s k q) h b other =
 pub resumes_start : (n : ℕ) (l : Tree) (ts : Tokens) → Resumes n l ts l ts
 resumes_start n l ts = record { own = []; whole = refl; into = λ w r e p. p; out = λ w r e k p h. p; fewer = omega arith }
 
-pub resumes_operand : (n : ℕ) (l0 l x : Tree) (ts rest after mid : Tokens) (tok : Token) (o : BinaryOperator) → Resumes n l0 ts l rest → rest ≡ tok ∷ after
+pub resumes_operand : (n : ℕ) (l0 l x : Tree) (ts rest after mid : Tokens) (tok : Token) (o : Binary) → Resumes n l0 ts l rest → rest ≡ tok ∷ after
     → binding (terminal tok) ≡ Operator (suc n) (Step.Operand o) → Parsed (level n) after x mid
     → Resumes n l0 ts (binary (over (span_of l) (span_of x)) o l x) mid
 resumes_operand n l0 l x ts rest after mid tok o f e b p =
@@ -259,7 +259,7 @@ resumes_operand n l0 l x ts rest after mid tok o f e b p =
     }
 
 pub resumes_suffix : (n : ℕ) (l0 l m : Tree) (ts rest after mid : Tokens) (tok word : Token) (s : Step) → Resumes n l0 ts l rest → rest ≡ tok ∷ after
-    → binding (terminal tok) ≡ Operator (suc n) s → ((o : BinaryOperator) → s ≢ Step.Operand o)
+    → binding (terminal tok) ≡ Operator (suc n) s → ((o : Binary) → s ≢ Step.Operand o)
     → after ≡ word ∷ mid → suffix l s word ≡ Some m
     → Resumes n l0 ts m mid
 resumes_suffix n l0 l m ts rest after mid tok word s f e b other g k =
@@ -285,7 +285,7 @@ resumes_stuck n l0 l ts rest at f k =
 pub resumes_done : (n : ℕ) (l0 l : Tree) (ts rest : Tokens) → Resumes n l0 ts l rest → suc (suc n) < rank rest → Parsed (steps n l0) ts l rest
 resumes_done n l0 l ts rest f h = record { phrase = rw f.whole (f.into rest rest l done); ends = h; fewer = f.fewer }
 
-pub stuck_operand : (n : ℕ) (l : Tree) (rest after at : Tokens) (tok : Token) (o : BinaryOperator) → n < 8 → rest ≡ tok ∷ after
+pub stuck_operand : (n : ℕ) (l : Tree) (rest after at : Tokens) (tok : Token) (o : Binary) → n < 8 → rest ≡ tok ∷ after
     → binding (terminal tok) ≡ Operator (suc n) (Step.Operand o) → Stuck (Ends (level n)) after at → Stuck (Ends (steps n l)) rest at
 stuck_operand n l rest after at tok o g e b k =
     rw e (stuck_within {P = Ends (level n)} {Q = Ends (steps n l)} (tok ∷ [])
@@ -294,7 +294,7 @@ stuck_operand n l rest after at tok o g e b k =
     k)
 
 pub stuck_suffix : (n : ℕ) (l : Tree) (rest after at : Tokens) (tok : Token) (s : Step) → n < 8 → rest ≡ tok ∷ after
-    → binding (terminal tok) ≡ Operator (suc n) s → ((o : BinaryOperator) → s ≢ Step.Operand o)
+    → binding (terminal tok) ≡ Operator (suc n) s → ((o : Binary) → s ≢ Step.Operand o)
     → Stuck (Suffix l s) after at → Stuck (Ends (steps n l)) rest at
 stuck_suffix n l rest after at tok s g e b other k =
     rw e (stuck_within {P = Suffix l s} {Q = Ends (steps n l)} (tok ∷ [])
@@ -313,19 +313,19 @@ stuck_tight n l rest g k =
     stuck_here {P = Ends (steps n l)} rest [] l (done, omega (arith, g)) (λ w r v a m. tight m.0 (rw (sym (alike_rank rest w a)) k) m.1)
 
 -- One token after an operator that wants a number or a type.
-suffix_token : (l : Tree) (s : Step) → ((o : BinaryOperator) → s ≢ Step.Operand o) → (tok : Token) × (m : Tree) × (suffix l s tok ≡ Some m)
+suffix_token : (l : Tree) (s : Step) → ((o : Binary) → s ≢ Step.Operand o) → (tok : Token) × (m : Tree) × (suffix l s tok ≡ Some m)
 suffix_token l (Step.Operand o) other = absurd (other o refl)
 suffix_token l (Step.Number o) other = let t = number_token 0 in (t.0, scale (over (span_of l) t.0.span) o l (record { span = t.0.span; value = 0 }), rw t.1 refl)
 suffix_token l Step.Type other = let t = type_token in (t.0, cast (over (span_of l) t.0.span) l (record { span = t.0.span; ty = Unsigned 8 }), rw t.1 refl)
 
-pub stuck_word : (l : Tree) (s : Step) (ts : Tokens) → ((o : BinaryOperator) → s ≢ Step.Operand o)
+pub stuck_word : (l : Tree) (s : Step) (ts : Tokens) → ((o : Binary) → s ≢ Step.Operand o)
     → ((tok : Token) (r : Tokens) → ts ≡ tok ∷ r → suffix l s tok ≡ None) → Stuck (Suffix l s) ts ts
 stuck_word l s ts other none =
     let t = suffix_token l s other in
     stuck_here {P = Suffix l s} ts (t.0 ∷ []) t.1 (t.0, refl, t.2)
     (λ w r v a m. let f = front_alike ts w r m.0 a m.1 in let e = none m.0 f.0 f.1 in cc (e, m.2))
 
-pub no_number : (l : Tree) (o : ScaleOperator) (at : Span) (t : Terminal) → ((v : ℕ) → t ≢ Number' v) → scaled l o at t ≡ None
+pub no_number : (l : Tree) (o : Scaling) (at : Span) (t : Terminal) → ((v : ℕ) → t ≢ Number' v) → scaled l o at t ≡ None
 no_number l o at (Number' v) h = absurd (h v refl)
 no_number l o at _ h = refl
 
@@ -334,20 +334,20 @@ no_type l at (Type' v) h = absurd (h v refl)
 no_type l at _ h = refl
 
 -- A primary expression with no operator before it.
-plain_out : {ts r : Tokens} {e : Tree} → Phrase (level 0) ts e r → ((tok : Token) (s : Tokens) (o : UnaryOperator) → ts ≡ tok ∷ s → start (terminal tok) ≢ Prefix o) → Phrase primary ts e r
+plain_out : {ts r : Tokens} {e : Tree} → Phrase (level 0) ts e r → ((tok : Token) (s : Tokens) (o : Unary) → ts ≡ tok ∷ s → start (terminal tok) ≢ Prefix o) → Phrase primary ts e r
 plain_out (plain p) other = p
 plain_out (prefixed {ts = m} {tok = t} {o = o} u p) other = absurd (other t m o refl u)
 
-pub stuck_plain : (ts at : Tokens) → ((tok : Token) (s : Tokens) (o : UnaryOperator) → ts ≡ tok ∷ s → start (terminal tok) ≢ Prefix o) → Stuck (Ends primary) ts at → Stuck (Ends (level 0)) ts at
+pub stuck_plain : (ts at : Tokens) → ((tok : Token) (s : Tokens) (o : Unary) → ts ≡ tok ∷ s → start (terminal tok) ≢ Prefix o) → Stuck (Ends primary) ts at → Stuck (Ends (level 0)) ts at
 stuck_plain ts at other k =
     stuck_within {P = Ends primary} {Q = Ends (level 0)} [] (λ w u p. (u, (plain p.0, p.1)))
     (λ w r v a m. (v, r, (plain_out m.0 (λ tok s o e. let f = front_alike ts w s tok a e in other tok f.0 o f.1), m.1))) k
 
-prefixed_out : {w r : Tokens} {e : Tree} {tok : Token} {o : UnaryOperator} → Phrase (level 0) (tok ∷ w) e r → start (terminal tok) ≡ Prefix o → (u : Tree) × Phrase primary w u r
+prefixed_out : {w r : Tokens} {e : Tree} {tok : Token} {o : Unary} → Phrase (level 0) (tok ∷ w) e r → start (terminal tok) ≡ Prefix o → (u : Tree) × Phrase primary w u r
 prefixed_out (prefixed {e = x} u p) s = (x, p)
 prefixed_out (plain p) s = absurd (not_prefixed s p)
 
-pub stuck_prefixed : (ts after at : Tokens) (tok : Token) (o : UnaryOperator) → ts ≡ tok ∷ after → start (terminal tok) ≡ Prefix o
+pub stuck_prefixed : (ts after at : Tokens) (tok : Token) (o : Unary) → ts ≡ tok ∷ after → start (terminal tok) ≡ Prefix o
     → Stuck (Ends primary) after at → Stuck (Ends (level 0)) ts at
 stuck_prefixed ts after at tok o e s k =
     rw e (stuck_within {P = Ends primary} {Q = Ends (level 0)} (tok ∷ [])
@@ -356,7 +356,7 @@ stuck_prefixed ts after at tok o e s k =
 pub plain_whole : (ts rest : Tokens) (e : Tree) → Parsed primary ts e rest → Parsed (level 0) ts e rest
 plain_whole ts rest e p = record { phrase = plain p.phrase; ends = p.ends; fewer = p.fewer }
 
-pub prefixed_whole : (ts after rest : Tokens) (e : Tree) (tok : Token) (o : UnaryOperator) → ts ≡ tok ∷ after → start (terminal tok) ≡ Prefix o → Parsed primary after e rest
+pub prefixed_whole : (ts after rest : Tokens) (e : Tree) (tok : Token) (o : Unary) → ts ≡ tok ∷ after → start (terminal tok) ≡ Prefix o → Parsed primary after e rest
     → Parsed (level 0) ts (unary (over tok.span (span_of e)) o e) rest
 prefixed_whole ts after rest e tok o w s p = record { phrase = rw w (prefixed s p.phrase); ends = p.ends; fewer = omega (arith, p.fewer, ap (λ x. length x) w) }
 
@@ -381,7 +381,7 @@ not_end n ts Ahead.Tighter h e = omega (arith, h)
 not_end n ts Ahead.End h e = absurd (e refl)
 
 -- An operator of the last level wants an operand.
-pub eight_operand : (t : Terminal) (s : Step) → binding t ≡ Operator 8 s → ((o : BinaryOperator) → s ≢ Step.Operand o) → ⊥
+pub eight_operand : (t : Terminal) (s : Step) → binding t ≡ Operator 8 s → ((o : Binary) → s ≢ Step.Operand o) → ⊥
 eight_operand (Keyword As) s e h = cc
 eight_operand (Sym Less) s e h = h _ (sym (same_step _ _ _ _ _ refl e))
 eight_operand (Sym LessEqual) s e h = h _ (sym (same_step _ _ _ _ _ refl e))

@@ -2,6 +2,8 @@
 use Rattle.std.proofs.Common.{◌≡◌, ◌≢◌, ◌⊎◌, inl, inr, ℕ, zero, suc, ◌+◌, ◌-◌, ◌<◌, ◌≤◌, [], ◌∷◌, ◌++◌, List, length, length-append, Option, Some, None, Bool, true, false, nat_eq, refl, ap, sym, ◌∙◌, subst, arith}
 use Rattle.std.proofs.lemmas.Bool.{cases_lt, cases_order}
 use Rattle.dk_base.specs.declared.span.Span.{Span}
+use Rattle.dk_base.specs.declared.operator.Binary.{Binary}
+use Rattle.dk_base.specs.declared.operator.Unary.{Unary}
 use Rattle.dk_lexer.specs.declared.token.Token.{Token}
 use Rattle.dk_lexer.specs.declared.token.Symbol.TheVariants.{Open, Close, Comma}
 use Rattle.dk_lexer.specs.Faithful.{IsEnded}
@@ -15,13 +17,11 @@ use Rattle.dk_parser.specs.declared.terminal.Terminal.{Terminal}
 use Rattle.dk_parser.specs.declared.terminal.Terminal.TheVariants.{Symbol as Sym}
 use Rattle.dk_parser.specs.declared.terminal.Mark.{Mark}
 use Rattle.dk_parser.specs.declared.terminal.Mark.TheVariants as mark
-use Rattle.dk_parser.specs.declared.tree.BinaryOperator.{BinaryOperator}
 use Rattle.dk_parser.specs.declared.tree.Binding.{Binding}
 use Rattle.dk_parser.specs.declared.tree.Binding.TheVariants.{Operator, Clamps, Stops}
 use Rattle.dk_parser.specs.declared.tree.Start.{Start}
 use Rattle.dk_parser.specs.declared.tree.Start.TheVariants.{Prefix, Constant, Image, Bracket, Pair, Absolute, Saturate, Choice, Nothing}
 use Rattle.dk_parser.specs.declared.tree.Step.{Step}
-use Rattle.dk_parser.specs.declared.tree.UnaryOperator.{UnaryOperator}
 use Rattle.dk_parser.specs.declared.whole.ParseError.{ParseError}
 use Rattle.dk_parser.specs.declared.whole.ParseError.TheVariants.{Nest, Syntax, Depth, OutOfMemory}
 use Rattle.dk_parser.specs.Tree.{Tree, number, read, unary, binary, scale, cast, sat, select, span_of}
@@ -29,12 +29,13 @@ use Rattle.dk_parser.specs.Marks.{mark_terminal}
 use Rattle.dk_parser.specs.Terminals.{terminal}
 use Rattle.dk_parser.specs.Words.{over, Sign}
 use Rattle.dk_parser.specs.Reads.{Unclamped, plain as unclamped'}
-use Rattle.dk_parser.specs.Grammar.{Tokens, Form, comparison, level, steps, primary, Phrase, done, operand, suffixed, suffix, closed, reading, binding, start}
+use Rattle.dk_parser.specs.Grammar.{Tokens, Closed, Form, comparison, level, steps, primary, Phrase, done, operand, suffixed, suffix, closed, reading, binding, start}
 use Rattle.dk_parser.specs.Front.{rank}
-use Rattle.dk_parser.specs.Faults.{Ends, Parsed, Closed, Inside, Opens}
+use Rattle.dk_parser.specs.Faults.{Ends, Parsed, Inside, Opens}
 use Rattle.dk_parser.specs.Depth.{depth, too_deep, below, here, first}
 use Rattle.dk_parser.specs.Nest.{unclosed, StaysShallow, PassesAt}
-use Rattle.dk_parser.specs.Programs.{Source, Definition, Item, ADefinition, AnItem, Items, next, is_end, AProgram}
+use Rattle.dk_parser.specs.Programs.{Source, Definition, ADefinition}
+use Rattle.dk_parser.specs.Items.{Item, AnItem, Items, next, is_end, AProgram}
 use Rattle.dk_parser.specs.Judged.{Accepted, AreShallow, first_deep, Faults}
 use Rattle.dk_parser.proofs.Laws.{local, rank_is}
 use Rattle.dk_parser.proofs.Stucks as S
@@ -151,15 +152,15 @@ primary_of n p (t ∷ after) lt = by (start (terminal t)) refl
     by Choice s = opened p t after Choice s tt less
 
 -- A primary expression, with an operator before it or with none.
-plain_of : (ts : Tokens) → ((tok : Token) (s : Tokens) (o : UnaryOperator) → ts ≡ tok ∷ s → start (terminal tok) ≢ Prefix o) → Parse primary ts → Parse (level 0) ts
+plain_of : (ts : Tokens) → ((tok : Token) (s : Tokens) (o : Unary) → ts ≡ tok ∷ s → start (terminal tok) ≢ Prefix o) → Parse primary ts → Parse (level 0) ts
 plain_of ts other (inr bad) = inr (bad.0, S.stuck_plain ts bad.0 other bad.1)
 plain_of ts other (inl (e, rest, p)) = inl (e, rest, S.plain_whole ts rest e p)
 
-prefix_of : (t : Token) (after : Tokens) (o : UnaryOperator) → start (terminal t) ≡ Prefix o → Parse primary after → Parse (level 0) (t ∷ after)
+prefix_of : (t : Token) (after : Tokens) (o : Unary) → start (terminal t) ≡ Prefix o → Parse primary after → Parse (level 0) (t ∷ after)
 prefix_of t after o s (inr bad) = inr (bad.0, S.stuck_prefixed (t ∷ after) after bad.0 t o refl s bad.1)
 prefix_of t after o s (inl (e, rest, p)) = inl (_, rest, S.prefixed_whole (t ∷ after) after rest e t o refl s p)
 
-is_prefix : (k : Start) → ((o : UnaryOperator) × (k ≡ Prefix o)) ⊎ ((o : UnaryOperator) → k ≢ Prefix o)
+is_prefix : (k : Start) → ((o : Unary) × (k ≡ Prefix o)) ⊎ ((o : Unary) → k ≢ Prefix o)
 is_prefix (Prefix o) = inl (o, refl)
 is_prefix _ = inr (λ o e. cc)
 
@@ -178,24 +179,24 @@ module _ (n m : ℕ) (small : m < 7) (p : Parses (level m) n) where
   tight_here : (l : Tree) (ts : Tokens) → rank ts ≤ suc m → Parse (steps m l) ts
   tight_here l ts h = inr (ts, S.stuck_tight m l ts (omega (arith, small)) h)
 
-  after_operand : (l r : Tree) (tok : Token) (after behind : Tokens) (o : BinaryOperator) → binding (terminal tok) ≡ Operator (suc m) (Step.Operand o) → Parsed (level m) after r behind
+  after_operand : (l r : Tree) (tok : Token) (after behind : Tokens) (o : Binary) → binding (terminal tok) ≡ Operator (suc m) (Step.Operand o) → Parsed (level m) after r behind
       → Parse (steps m (binary (over (span_of l) (span_of r)) o l r)) behind → Parse (steps m l) (tok ∷ after)
   after_operand l r tok after behind o b q (inr bad) =
       inr (bad.0, S.resumes_stuck m l _ (tok ∷ after) behind bad.0 (S.resumes_operand m l l r (tok ∷ after) (tok ∷ after) after behind tok o (S.resumes_start m l (tok ∷ after)) refl b q) bad.1)
   after_operand l r tok after behind o b q (inl (e, rest, k)) = inl (e, rest, record { phrase = operand b q.phrase k.phrase; ends = k.ends; fewer = omega (arith, q.fewer, k.fewer) })
 
-  after_word : (l x : Tree) (tok word : Token) (mid : Tokens) (s : Step) → binding (terminal tok) ≡ Operator (suc m) s → ((o : BinaryOperator) → s ≢ Step.Operand o) → suffix l s word ≡ Some x
+  after_word : (l x : Tree) (tok word : Token) (mid : Tokens) (s : Step) → binding (terminal tok) ≡ Operator (suc m) s → ((o : Binary) → s ≢ Step.Operand o) → suffix l s word ≡ Some x
       → Parse (steps m x) mid → Parse (steps m l) (tok ∷ word ∷ mid)
   after_word l x tok word mid s b other k (inr bad) =
       inr (bad.0, S.resumes_stuck m l x (tok ∷ word ∷ mid) mid bad.0 (S.resumes_suffix m l l x (tok ∷ word ∷ mid) (tok ∷ word ∷ mid) (word ∷ mid) mid tok word s (S.resumes_start m l (tok ∷ word ∷ mid)) refl b other refl k) bad.1)
   after_word l x tok word mid s b other k (inl (e, rest, q)) = inl (e, rest, record { phrase = suffixed b k q.phrase; ends = q.ends; fewer = omega (arith, q.fewer) })
 
-  no_word : (l : Tree) (tok : Token) (after : Tokens) (s : Step) → binding (terminal tok) ≡ Operator (suc m) s → ((o : BinaryOperator) → s ≢ Step.Operand o)
+  no_word : (l : Tree) (tok : Token) (after : Tokens) (s : Step) → binding (terminal tok) ≡ Operator (suc m) s → ((o : Binary) → s ≢ Step.Operand o)
       → ((word : Token) (r : Tokens) → after ≡ word ∷ r → suffix l s word ≡ None) → Parse (steps m l) (tok ∷ after)
   no_word l tok after s b other none = inr (after, S.stuck_suffix m l (tok ∷ after) after after tok s (omega (arith, small)) refl b other (S.stuck_word l s after other none))
 
   module _ (fuel : ℕ) (again : (l : Tree) (ts : Tokens) → length ts < fuel → length ts < n → Parse (steps m l) ts) where
-    word_of : (l : Tree) (tok : Token) (s : Step) → binding (terminal tok) ≡ Operator (suc m) s → ((o : BinaryOperator) → s ≢ Step.Operand o) → (after : Tokens) → length after < fuel → length after < n → Parse (steps m l) (tok ∷ after)
+    word_of : (l : Tree) (tok : Token) (s : Step) → binding (terminal tok) ≡ Operator (suc m) s → ((o : Binary) → s ≢ Step.Operand o) → (after : Tokens) → length after < fuel → length after < n → Parse (steps m l) (tok ∷ after)
     word_of l tok s b other [] lt less = no_word l tok [] s b other (λ word r w. absurd (let no : ⊥ = cc in no))
     word_of l tok s b other (word ∷ mid) lt less = taken (suffix l s word) refl
       where
@@ -203,7 +204,7 @@ module _ (n m : ℕ) (small : m < 7) (p : Parses (level m) n) where
         taken (Some x) k = after_word l x tok word mid s b other k (again x mid (omega (arith, lt)) (omega (arith, less)))
         taken None k = no_word l tok (word ∷ mid) s b other (λ w r e. let same : word ≡ w = cc in subst (λ x. suffix l s x ≡ None) same k)
 
-    operand_of : (l : Tree) (tok : Token) (after : Tokens) (o : BinaryOperator) → length after < fuel → length after < n → binding (terminal tok) ≡ Operator (suc m) (Step.Operand o) → Parse (level m) after → Parse (steps m l) (tok ∷ after)
+    operand_of : (l : Tree) (tok : Token) (after : Tokens) (o : Binary) → length after < fuel → length after < n → binding (terminal tok) ≡ Operator (suc m) (Step.Operand o) → Parse (level m) after → Parse (steps m l) (tok ∷ after)
     operand_of l tok after o lt less b (inr bad) = inr (bad.0, S.stuck_operand m l (tok ∷ after) after bad.0 tok o (omega (arith, small)) refl b bad.1)
     operand_of l tok after o lt less b (inl (r, behind, q)) =
         let fewer = q.fewer in
@@ -251,14 +252,14 @@ comparison_of n p ts lt = by (p ts lt)
     single_of : (l : Tree) (rest : Tokens) → Parsed (level 7) ts l rest → 9 < rank rest → Parse comparison ts
     single_of l rest q h = inl (l, rest, S.comparison_single ts rest l q h)
 
-    second : (l : Tree) (tok : Token) (after : Tokens) (o : BinaryOperator) → Parsed (level 7) ts l (tok ∷ after) → binding (terminal tok) ≡ Operator 8 (Step.Operand o) → Parse (level 7) after → Parse comparison ts
+    second : (l : Tree) (tok : Token) (after : Tokens) (o : Binary) → Parsed (level 7) ts l (tok ∷ after) → binding (terminal tok) ≡ Operator 8 (Step.Operand o) → Parse (level 7) after → Parse comparison ts
     second l tok after o q b (inr bad) = inr (bad.0, S.comparison_second ts (tok ∷ after) after bad.0 l tok o q refl b bad.1)
     second l tok after o q b (inl (r, behind, k)) = elim (cases_lt 9 (rank behind)) [
       | inl more ↦ inl (_, behind, S.comparison_whole ts (tok ∷ after) after behind l r tok o q refl b k more)
       | inr most ↦ inr (behind, S.comparison_twice ts (tok ∷ after) after behind l r tok o q refl b k most)
     ]
 
-    is_operand : (s : Step) → ((o : BinaryOperator) × (s ≡ Step.Operand o)) ⊎ ((o : BinaryOperator) → s ≢ Step.Operand o)
+    is_operand : (s : Step) → ((o : Binary) × (s ≡ Step.Operand o)) ⊎ ((o : Binary) → s ≢ Step.Operand o)
     is_operand (Step.Operand o) = inl (o, refl)
     is_operand (Step.Number o) = inr (λ q e. cc)
     is_operand Step.Type = inr (λ q e. cc)

@@ -1,9 +1,10 @@
+-- Used by private functions alone.
 -- What goes on with an expression.
 use Rattle.std.specs.Prelude.{◌≡◌, ◌≢◌, ℕ, suc, ◌<◌, ◌∷◌, length}
+use Rattle.dk_base.specs.declared.operator.Binary.{Binary}
 use Rattle.dk_lexer.specs.declared.token.Token.{Token}
 use Rattle.dk_parser.specs.declared.classes.Ahead.{Ahead}
 use Rattle.dk_parser.specs.declared.classes.Ahead.TheVariants.{Operand, Suffix, Tighter, End}
-use Rattle.dk_parser.specs.declared.tree.BinaryOperator.{BinaryOperator}
 use Rattle.dk_parser.specs.declared.tree.Step.{Step}
 use Rattle.dk_parser.specs.declared.tree.Binding.TheVariants.{Operator}
 use Rattle.dk_parser.specs.Terminals.{terminal}
@@ -19,7 +20,7 @@ pub record Operates (n : ℕ) (ts : Tokens) (s : Step) (after : Tokens) : Type 0
 
 pub record Suffixes (n : ℕ) (ts : Tokens) (s : Step) (after : Tokens) : Type 0 where
   pub operates : Operates n ts s after
-  pub other : (o : BinaryOperator) → s ≢ Step.Operand o
+  pub other : (o : Binary) → s ≢ Step.Operand o
 
 abbrev pub IsAhead : ℕ → Tokens → Ahead → Type 0
 IsAhead n ts (Operand o after) = Operates n ts (Step.Operand o) after.now

@@ -1,10 +1,8 @@
 -- How deep a tree is, and where it first gets too deep.
-use Rattle.std.specs.Prelude.{◌≡◌, ℕ, suc, ◌+◌, ◌≤◌, max, Option, Some, None, nat_eq, if◌then◌else◌}
+use Rattle.std.specs.Prelude.{ℕ, suc, ◌+◌, max, Option, Some, None, nat_eq, if◌then◌else◌}
 use Rattle.dk_base.specs.declared.TheConstants.{MAX_SOURCE_DEPTH}
 use Rattle.dk_base.specs.declared.span.Span.{Span}
-use Rattle.dk_parser.specs.declared.built.Built.{Built}
-use Rattle.dk_parser.specs.declared.built.Built.TheVariants.{Whole, Deep}
-use Rattle.dk_parser.specs.Tree.{Tree, number, read, unary, binary, scale, cast, sat, select, span_of, tree_of}
+use Rattle.dk_parser.specs.Tree.{Tree, number, read, unary, binary, scale, cast, sat, select, span_of}
 
 -- 1 for a number or a read, and 1 more than its deepest operand for any other form
 abbrev pub depth : Tree → ℕ
@@ -38,8 +36,3 @@ below (select s a b c) = first (first (below a) (here a)) (first (first (below b
 
 abbrev pub too_deep : Tree → Option Span
 too_deep e = first (below e) (here e)
-
--- What is kept of a tree: all of it while it is deeper than the limit by one at most, or else only where it first got too deep.
-abbrev pub Stands : Built → Tree → Type 0
-Stands (Whole x d) e = (tree_of x ≡ e) × (depth e ≡ d) × (d ≤ suc MAX_SOURCE_DEPTH)
-Stands (Deep s) e = below e ≡ Some s

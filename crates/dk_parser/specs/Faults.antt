@@ -1,22 +1,20 @@
+-- Used by private functions alone.
 -- What is read, and where it is stuck.
 use Rattle.std.specs.Prelude.{◌≡◌, ◌<◌, ◌≤◌, ◌∷◌, length, Some}
 use Rattle.dk_base.specs.declared.span.Span.{Span}
+use Rattle.dk_base.specs.declared.operator.Unary.{Unary}
 use Rattle.dk_lexer.specs.declared.token.Token.{Token}
 use Rattle.dk_lexer.specs.declared.token.Symbol.TheVariants.{Open, Close, Comma}
 use Rattle.dk_grammar.specs.Reading.{Phrases, Then, Done, Stuck}
 use Rattle.dk_parser.specs.declared.halt.Halt.{Halt}
 use Rattle.dk_parser.specs.declared.halt.Halt.TheVariants.{Faulty, OutOfMemory}
-use Rattle.dk_parser.specs.declared.terminal.Mark.{Mark}
 use Rattle.dk_parser.specs.declared.terminal.Mark.TheVariants as mark
 use Rattle.dk_parser.specs.declared.tree.Step.{Step}
 use Rattle.dk_parser.specs.declared.tree.Start.{Start}
 use Rattle.dk_parser.specs.declared.tree.Start.TheVariants.{Constant, Bracket, Pair, Absolute, Saturate, Choice}
-use Rattle.dk_parser.specs.declared.tree.UnaryOperator.TheVariants as unary'
-use Rattle.dk_parser.specs.Marks.{mark_terminal}
 use Rattle.dk_parser.specs.Tree.{Tree, number, unary, binary, sat, select, at_span}
-use Rattle.dk_parser.specs.Terminals.{terminal}
 use Rattle.dk_parser.specs.Words.{over, Sign, AType}
-use Rattle.dk_parser.specs.Grammar.{Tokens, Form, comparison, Phrase, suffix}
+use Rattle.dk_parser.specs.Grammar.{Tokens, Form, Phrase, Closed, suffix}
 use Rattle.dk_parser.specs.Front.{rank, bound}
 
 abbrev pub Halts : {V : Type 0} → Phrases Token V → Tokens → Halt → Type 0
@@ -36,16 +34,12 @@ pub record Parsed (f : Form) (ts : Tokens) (e : Tree) (rest : Tokens) : Type 0 w
 abbrev pub Suffix : Tree → Step → Phrases Token Tree
 Suffix l s ts m rest = (tok : Token) × (ts ≡ tok ∷ rest) × (suffix l s tok ≡ Some m)
 
--- an expression and the mark after it, with the mark's span
-abbrev pub Closed : Mark → Phrases Token (Tree × Span)
-Closed m ts x rest = (tok : Token) × Phrase comparison ts x.0 (tok ∷ rest) × (terminal tok ≡ mark_terminal m) × (tok.span ≡ x.1)
-
 -- what stands behind the first token of an enclosed expression
 abbrev pub Inside : Start → Span → Phrases Token Tree
 Inside (Constant v) s = Done (number s v)
 Inside Bracket s = Then (Closed (mark.Sign Close)) (λ a. Done (at_span (over s a.1) a.0))
 Inside (Pair o) s = Then (Sign (mark.Sign Open)) (λ _. Then (Closed (mark.Sign Comma)) (λ a. Then (Closed (mark.Sign Close)) (λ b. Done (binary (over s b.1) o a.0 b.0))))
-Inside Absolute s = Then (Sign (mark.Sign Open)) (λ _. Then (Closed (mark.Sign Close)) (λ a. Done (unary (over s a.1) unary'.Absolute a.0)))
+Inside Absolute s = Then (Sign (mark.Sign Open)) (λ _. Then (Closed (mark.Sign Close)) (λ a. Done (unary (over s a.1) Unary.Abs a.0)))
 Inside Saturate s = Then (Sign (mark.Sign Open)) (λ _. Then (Closed (mark.Sign Comma)) (λ a. Then AType (λ t. Then (Sign (mark.Sign Close)) (λ z. Done (sat (over s z) a.0 t)))))
 Inside Choice s =
     Then (Sign (mark.Sign Open)) (λ _. Then (Closed (mark.Sign Comma)) (λ c. Then (Closed (mark.Sign Comma)) (λ a. Then (Closed (mark.Sign Close)) (λ b.

@@ -1,3 +1,4 @@
+-- Used by private functions alone.
 -- The first token, and how it goes on with what stands before it.
 use Rattle.std.specs.Prelude.{◌≡◌, ℕ, suc, ◌<◌, [], ◌∷◌, length}
 use Rattle.dk_lexer.specs.declared.token.Token.{Token}

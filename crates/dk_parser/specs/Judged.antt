@@ -9,11 +9,12 @@ use Rattle.dk_parser.specs.declared.whole.ParseError.TheVariants.{Nest, Syntax, 
 use Rattle.dk_parser.specs.Grammar.{Tokens}
 use Rattle.dk_parser.specs.Depth.{depth, too_deep, first}
 use Rattle.dk_parser.specs.Nest.{StaysShallow, PassesAt}
-use Rattle.dk_parser.specs.Programs.{Source, Definition, AProgram}
+use Rattle.dk_parser.specs.Programs.{Source, Definition}
+use Rattle.dk_parser.specs.Rules.{ProgramRule}
 
 -- all tokens are those of this program
 abbrev pub Derives : Tokens → Source → Type 0
-Derives ts p = AProgram ts p []
+Derives ts p = ProgramRule ts p []
 
 abbrev pub IsProgram : Tokens → Type 0
 IsProgram ts = (p : Source) × Derives ts p

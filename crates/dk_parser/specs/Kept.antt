@@ -1,3 +1,4 @@
+-- Used by private functions alone.
 -- What is kept of the items of a program.
 use Rattle.std.specs.Prelude.{◌≡◌, ◌<◌, length, List, [], ◌∷◌, ◌++◌, Option, Some, None, Bool}
 use Rattle.dk_base.specs.declared.span.Span.{Span}
@@ -6,8 +7,9 @@ use Rattle.dk_parser.specs.declared.items.Parts.{Parts}
 use Rattle.dk_parser.specs.declared.items.Lead.{Lead}
 use Rattle.dk_parser.specs.declared.tree.Literal.{Literal}
 use Rattle.dk_parser.specs.Grammar.{Tokens}
-use Rattle.dk_parser.specs.Depth.{Stands}
-use Rattle.dk_parser.specs.Programs.{Definition, Item, definitions_as, inputs_of, definitions_of, outputs_of, ADefinition, AnItem, Items, AProgram, source}
+use Rattle.dk_parser.specs.Grown.{Stands}
+use Rattle.dk_parser.specs.Programs.{Definition, definitions_as, ADefinition}
+use Rattle.dk_parser.specs.Items.{Item, inputs_of, definitions_of, outputs_of, AnItem, Items, AProgram, source}
 use Rattle.dk_parser.specs.Judged.{AreShallow, first_deep}
 
 pub record IsDraft (d : Draft) (e : Definition) : Type 0 where

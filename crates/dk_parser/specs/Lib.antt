@@ -12,6 +12,7 @@ pub mod Grown
 pub mod Nest
 pub mod Ended
 pub mod Programs
+pub mod Items
 pub mod Rules
 pub mod Judged
 pub mod Kept

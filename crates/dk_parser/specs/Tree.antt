@@ -1,21 +1,21 @@
 -- Syntax trees, without where they lie in memory.
 use Rattle.std.specs.Prelude.{ℕ}
 use Rattle.dk_base.specs.declared.span.Span.{Span}
+use Rattle.dk_base.specs.declared.operator.Unary.{Unary}
+use Rattle.dk_base.specs.declared.operator.Binary.{Binary}
+use Rattle.dk_base.specs.declared.operator.Scaling.{Scaling}
 use Rattle.dk_parser.specs.declared.tree.Literal.{Literal}
 use Rattle.dk_parser.specs.declared.tree.TypeWord.{TypeWord}
 use Rattle.dk_parser.specs.declared.tree.ImageRead.{ImageRead}
-use Rattle.dk_parser.specs.declared.tree.UnaryOperator.{UnaryOperator}
-use Rattle.dk_parser.specs.declared.tree.BinaryOperator.{BinaryOperator}
-use Rattle.dk_parser.specs.declared.tree.ScaleOperator.{ScaleOperator}
 use Rattle.dk_parser.specs.declared.tree.Expr.{Expr}
 use Rattle.dk_parser.specs.declared.tree.Node.{Node, Number, Read, Unary', Binary', Scale', Cast', Sat', Select'}
 
 pub data Tree : Type 0 where
   number : Span → ℕ → Tree
   read : Span → ImageRead → Tree
-  unary : Span → UnaryOperator → Tree → Tree
-  binary : Span → BinaryOperator → Tree → Tree → Tree
-  scale : Span → ScaleOperator → Tree → Literal → Tree
+  unary : Span → Unary → Tree → Tree
+  binary : Span → Binary → Tree → Tree → Tree
+  scale : Span → Scaling → Tree → Literal → Tree
   cast : Span → Tree → TypeWord → Tree
   sat : Span → Tree → TypeWord → Tree
   select : Span → Tree → Tree → Tree → Tree

@@ -4,18 +4,17 @@ ghost use Rattle.std.specs.Prelude.{◌≡◌, ◌≤◌, IfOk, MatchResult, Som
 ghost use Rattle.dk_parser.specs.Tree as T;
 ghost use Rattle.dk_parser.specs.Tree.{Tree, tree_of, span_of, at_span};
 ghost use Rattle.dk_parser.specs.Words.{over};
-ghost use Rattle.dk_parser.specs.Depth.{depth, too_deep, Stands};
+ghost use Rattle.dk_parser.specs.Depth.{depth, too_deep};
+ghost use Rattle.dk_parser.specs.Grown.{Stands};
 
-use crate::tree::{
-    BinaryOperator, Expr, ImageRead, Literal, Node, ScaleOperator, TypeWord, UnaryOperator,
-};
-use dk_base::{MAX_SOURCE_DEPTH, Span};
+use crate::tree::{Expr, ImageRead, Literal, Node, TypeWord};
+use dk_base::{Binary, MAX_SOURCE_DEPTH, Scaling, Span, Unary};
 use std::alloc::{AllocError, Global};
 
-/// A tree and its depth, or where it first got too deep.
+// A tree and its depth, or where it first got too deep.
 #[derive(Drop)]
-pub enum Built {
-    /// A tree that is too deep itself is kept, since brackets may yet widen its span.
+pub(crate) enum Built {
+    // A tree that is too deep itself is kept, since brackets may yet widen its span.
     Whole(Expr, usize),
     Deep(Span),
 }
@@ -39,7 +38,7 @@ fn operand(built: Built) -> Result<(Expr, usize), Span>
 
 pub(crate) fn binary(
     alloc: Global,
-    operator: BinaryOperator,
+    operator: Binary,
     left: Built,
     right: Built,
 ) -> Result<Built, AllocError>
@@ -64,7 +63,7 @@ pub(crate) fn binary(
 // A function of two operands, with its own span.
 pub(crate) fn pair(
     alloc: Global,
-    operator: BinaryOperator,
+    operator: Binary,
     span: Span,
     left: Built,
     right: Built,
@@ -85,7 +84,7 @@ pub(crate) fn pair(
 
 pub(crate) fn unary(
     alloc: Global,
-    operator: UnaryOperator,
+    operator: Unary,
     at: Span,
     body: Built,
 ) -> Result<Built, AllocError>
@@ -109,7 +108,7 @@ pub(crate) fn unary(
 }
 
 pub(crate) fn absolute(alloc: Global, span: Span, body: Built) -> Result<Built, AllocError>
-    ensures { (e : Tree) → Stands body e → IfOk result (λ b. Stands b (T.unary span UnaryOperator.Absolute e)) }
+    ensures { (e : Tree) → Stands body e → IfOk result (λ b. Stands b (T.unary span Unary.Abs e)) }
 {
     let (body, depth) = match operand(body) {
         Ok(found) => found,
@@ -118,7 +117,7 @@ pub(crate) fn absolute(alloc: Global, span: Span, body: Built) -> Result<Built, 
     Ok(Built::Whole(
         Expr {
             span,
-            node: Node::Unary(UnaryOperator::Absolute, Box::new(alloc, body)?),
+            node: Node::Unary(Unary::Abs, Box::new(alloc, body)?),
         },
         1 + depth,
     ))
@@ -126,7 +125,7 @@ pub(crate) fn absolute(alloc: Global, span: Span, body: Built) -> Result<Built, 
 
 pub(crate) fn scaled(
     alloc: Global,
-    operator: ScaleOperator,
+    operator: Scaling,
     left: Built,
     amount: Literal,
 ) -> Result<Built, AllocError>

@@ -7,8 +7,8 @@ ghost use Rattle.dk_parser.specs.Terminals.{terminal_of, terminal_of_word, same_
 ghost use Rattle.dk_parser.specs.Grammar.{binding as binding_of, start as start_of};
 
 use crate::terminal::{Keyword, Terminal};
-use crate::tree::{BinaryOperator, Binding, ScaleOperator, Start, Step, UnaryOperator};
-use dk_base::Ty;
+use crate::tree::{Binding, Start, Step};
+use dk_base::{Binary, Scaling, Ty, Unary};
 use dk_lexer::{Symbol, Token, TokenKind};
 
 // The first token, what the grammar sees of it, and the tokens after it.
@@ -19,16 +19,16 @@ pub(crate) fn front(tokens: &[Token]) -> Option<(&Token, Terminal, &[Token])>
     Some((first, terminal(first), after))
 }
 
-/// How the tokens go on with an expression before them, at a level of operators.
+// How the tokens go on with an expression before them, at a level of operators.
 #[derive(Drop)]
-pub enum Ahead<'a> {
-    /// An operator of the level that wants an operand, and the tokens after it.
-    Operand(BinaryOperator, &'a [Token]),
-    /// An operator of the level that wants a number or a type, and the tokens after it.
+pub(crate) enum Ahead<'a> {
+    // An operator of the level that wants an operand, and the tokens after it.
+    Operand(Binary, &'a [Token]),
+    // An operator of the level that wants a number or a type, and the tokens after it.
     Suffix(Step, &'a [Token]),
-    /// An operator that binds tighter than the level.
+    // An operator that binds tighter than the level.
     Tighter,
-    /// Nothing that the level takes.
+    // Nothing that the level takes.
     End,
 }
 
@@ -176,21 +176,21 @@ fn symbol_binding(symbol: Symbol) -> Binding
     ensures { result ≡ binding_of (Terminal.Symbol symbol) }
 {
     match symbol {
-        Symbol::Star => Binding::Operator(2, Step::Operand(BinaryOperator::Multiply)),
-        Symbol::Slash => Binding::Operator(2, Step::Number(ScaleOperator::Divide)),
-        Symbol::Plus => Binding::Operator(3, Step::Operand(BinaryOperator::Add)),
-        Symbol::Minus => Binding::Operator(3, Step::Operand(BinaryOperator::Subtract)),
-        Symbol::ShiftLeft => Binding::Operator(4, Step::Number(ScaleOperator::ShiftLeft)),
-        Symbol::ShiftRight => Binding::Operator(4, Step::Number(ScaleOperator::ShiftRight)),
-        Symbol::Ampersand => Binding::Operator(5, Step::Operand(BinaryOperator::And)),
-        Symbol::Caret => Binding::Operator(6, Step::Operand(BinaryOperator::Xor)),
-        Symbol::Bar => Binding::Operator(7, Step::Operand(BinaryOperator::Or)),
-        Symbol::Less => Binding::Operator(8, Step::Operand(BinaryOperator::Less)),
-        Symbol::LessEqual => Binding::Operator(8, Step::Operand(BinaryOperator::LessEqual)),
-        Symbol::Greater => Binding::Operator(8, Step::Operand(BinaryOperator::Greater)),
-        Symbol::GreaterEqual => Binding::Operator(8, Step::Operand(BinaryOperator::GreaterEqual)),
-        Symbol::EqualEqual => Binding::Operator(8, Step::Operand(BinaryOperator::Equal)),
-        Symbol::NotEqual => Binding::Operator(8, Step::Operand(BinaryOperator::NotEqual)),
+        Symbol::Star => Binding::Operator(2, Step::Operand(Binary::Multiply)),
+        Symbol::Slash => Binding::Operator(2, Step::Number(Scaling::Divide)),
+        Symbol::Plus => Binding::Operator(3, Step::Operand(Binary::Add)),
+        Symbol::Minus => Binding::Operator(3, Step::Operand(Binary::Subtract)),
+        Symbol::ShiftLeft => Binding::Operator(4, Step::Number(Scaling::ShiftLeft)),
+        Symbol::ShiftRight => Binding::Operator(4, Step::Number(Scaling::ShiftRight)),
+        Symbol::Ampersand => Binding::Operator(5, Step::Operand(Binary::And)),
+        Symbol::Caret => Binding::Operator(6, Step::Operand(Binary::Xor)),
+        Symbol::Bar => Binding::Operator(7, Step::Operand(Binary::Or)),
+        Symbol::Less => Binding::Operator(8, Step::Operand(Binary::Less)),
+        Symbol::LessEqual => Binding::Operator(8, Step::Operand(Binary::LessOrEqual)),
+        Symbol::Greater => Binding::Operator(8, Step::Operand(Binary::Greater)),
+        Symbol::GreaterEqual => Binding::Operator(8, Step::Operand(Binary::GreaterOrEqual)),
+        Symbol::EqualEqual => Binding::Operator(8, Step::Operand(Binary::Equal)),
+        Symbol::NotEqual => Binding::Operator(8, Step::Operand(Binary::NotEqual)),
         _ => Binding::Stops,
     }
 }
@@ -199,13 +199,13 @@ pub(crate) fn start(terminal: Terminal) -> Start
     ensures { result ≡ start_of terminal }
 {
     match terminal {
-        Terminal::Symbol(Symbol::Minus) => Start::Prefix(UnaryOperator::Negate),
-        Terminal::Symbol(Symbol::Bang) => Start::Prefix(UnaryOperator::Not),
+        Terminal::Symbol(Symbol::Minus) => Start::Prefix(Unary::Negate),
+        Terminal::Symbol(Symbol::Bang) => Start::Prefix(Unary::Not),
         Terminal::Symbol(Symbol::Open) => Start::Bracket,
         Terminal::Number(value) => Start::Constant(value),
         Terminal::Name => Start::Image,
-        Terminal::Keyword(Keyword::Min) => Start::Pair(BinaryOperator::Min),
-        Terminal::Keyword(Keyword::Max) => Start::Pair(BinaryOperator::Max),
+        Terminal::Keyword(Keyword::Min) => Start::Pair(Binary::Min),
+        Terminal::Keyword(Keyword::Max) => Start::Pair(Binary::Max),
         Terminal::Keyword(Keyword::Abs) => Start::Absolute,
         Terminal::Keyword(Keyword::Sat) => Start::Saturate,
         Terminal::Keyword(Keyword::Select) => Start::Choice,

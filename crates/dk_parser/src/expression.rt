@@ -1,22 +1,21 @@
 // Expressions.
 
 ghost use Rattle.std.specs.Prelude.{◌≡◌, ◌≢◌, ◌<◌, ◌≤◌, ◌+◌, suc, length, MatchResult, IfOk, None};
-ghost use Rattle.dk_parser.specs.declared.tree.BinaryOperator.{BinaryOperator};
+ghost use Rattle.dk_base.specs.declared.operator.Binary.{Binary};
 ghost use Rattle.dk_parser.specs.declared.tree.Binding.TheVariants.{Stops};
 ghost use Rattle.dk_parser.specs.Marks.{mark_terminal};
 ghost use Rattle.dk_parser.specs.Tree.{Tree};
-ghost use Rattle.dk_parser.specs.Depth.{Stands};
-ghost use Rattle.dk_parser.specs.Grown.{Grown, GrownOf, GrownClosed};
-ghost use Rattle.dk_parser.specs.Grammar.{comparison, level, steps, primary, binding};
-ghost use Rattle.dk_parser.specs.Faults.{Halts, Ends, Suffix, Closed, Inside, Opens};
+ghost use Rattle.dk_parser.specs.Grown.{Stands, Grown, GrownOf, GrownClosed};
+ghost use Rattle.dk_parser.specs.Grammar.{Closed, comparison, level, steps, primary, binding};
+ghost use Rattle.dk_parser.specs.Faults.{Halts, Ends, Suffix, Inside, Opens};
 
 use crate::built::{self, Built};
 use crate::classes::{self, Ahead};
 use crate::halt::Halt;
 use crate::terminal::{Mark, Terminal};
-use crate::tree::{BinaryOperator, Literal, Start, Step, TypeWord};
+use crate::tree::{Literal, Start, Step, TypeWord};
 use crate::{read, single};
-use dk_base::Span;
+use dk_base::{Binary, Span};
 use dk_lexer::{Symbol, Token};
 use std::alloc::Global;
 
@@ -98,7 +97,7 @@ fn suffix<'a>(
     step: Step,
     tokens: &'a [Token],
 ) -> Result<(Built, &'a [Token]), Halt<'a>>
-    requires { (o : BinaryOperator) → step ≢ Step.Operand o }
+    requires { (o : Binary) → step ≢ Step.Operand o }
     ensures parsed { (l : Tree) → Stands left l → MatchResult result (λ x. GrownOf (Suffix l step) tokens.now x.0 x.1.now) (λ e. Halts (Suffix l step) tokens.now e) }
     ensures fewer { IfOk result (λ x. length x.1.now < length tokens.now) }
 {
@@ -206,7 +205,7 @@ fn bracket_of<'a>(
 #[cycle(expression)]
 fn pair_of<'a>(
     alloc: Global,
-    operator: BinaryOperator,
+    operator: Binary,
     first: Span,
     tokens: &'a [Token],
 ) -> Result<(Built, &'a [Token]), Halt<'a>>

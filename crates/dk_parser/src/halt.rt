@@ -6,10 +6,10 @@ ghost use Rattle.dk_parser.specs.declared.halt.Halt.TheVariants.{OutOfMemory};
 use dk_lexer::Token;
 use std::alloc::{AllocError, AllocFailed};
 
-/// Why no tree was made.
+// Why no tree was made.
 #[derive(Drop)]
-pub enum Halt<'a> {
-    /// The tokens from the faulty one on.
+pub(crate) enum Halt<'a> {
+    // The tokens from the faulty one on.
     Faulty(&'a [Token]),
     OutOfMemory,
 }

@@ -5,8 +5,9 @@ ghost use Rattle.dk_grammar.specs.Reading.{One};
 ghost use Rattle.dk_parser.specs.Faults.{Halts};
 ghost use Rattle.dk_parser.specs.Words.{Gives};
 ghost use Rattle.dk_parser.specs.Terminals.{terminal};
-ghost use Rattle.dk_parser.specs.Programs.{Definition, Item, AnInput, AnItem, AfterDeclares, Declared, Header, ADefinition, Items, declares as declares_of, lead_of, may_follow as may_follow_of, next, allowed as allowed_of};
-ghost use Rattle.dk_parser.specs.Programs as P;
+ghost use Rattle.dk_parser.specs.Programs.{Definition, AnInput, AfterDeclares, Declared, Header, ADefinition, declares as declares_of};
+ghost use Rattle.dk_parser.specs.Items.{Item, AnItem, Items, lead_of, may_follow as may_follow_of, next, allowed as allowed_of};
+ghost use Rattle.dk_parser.specs.Items as I;
 ghost use Rattle.dk_parser.specs.Kept.{IsDraft, GrownDraft, GrownItem, GrownItems, Holds};
 
 use crate::built::{self, Built};
@@ -18,9 +19,9 @@ use dk_base::Span;
 use dk_lexer::{Symbol, Token};
 use std::alloc::{AllocError, Global};
 
-/// The word that an input, a definition or an output begins with, or the end of the text.
+// The word that an input, a definition or an output begins with, or the end of the text.
 #[derive(Clone, Copy, PartialEq, Eq)]
-pub enum Lead {
+pub(crate) enum Lead {
     Input,
     Let,
     Inline,
@@ -28,18 +29,18 @@ pub enum Lead {
     End,
 }
 
-/// A definition whose body may be too deep.
+// A definition whose body may be too deep.
 #[derive(Drop)]
-pub struct Draft {
+pub(crate) struct Draft {
     pub inline: bool,
     pub name: Name,
     pub declared: Option<TypeWord>,
     pub body: Built,
 }
 
-/// The items so far. Once a body is too deep, only the place is kept of the definitions.
+// The items so far. Once a body is too deep, only the place is kept of the definitions.
 #[derive(Drop)]
-pub struct Parts {
+pub(crate) struct Parts {
     pub inputs: Vec<Input>,
     pub definitions: Vec<Def>,
     pub outputs: Vec<Name>,
@@ -142,7 +143,7 @@ fn definition<'a>(
 
 // The items with an input more.
 fn with_input(parts: Parts, input: Input) -> Result<Parts, AllocError>
-    ensures { (vs : List Item) → Holds parts vs → IfOk result (λ p. Holds p (vs ++ (P.input input ∷ []))) }
+    ensures { (vs : List Item) → Holds parts vs → IfOk result (λ p. Holds p (vs ++ (I.input input ∷ []))) }
 {
     let mut inputs = parts.inputs;
     inputs.push(input)?;
@@ -156,7 +157,7 @@ fn with_input(parts: Parts, input: Input) -> Result<Parts, AllocError>
 
 // The items with an output more.
 fn with_output(parts: Parts, output: Name) -> Result<Parts, AllocError>
-    ensures { (vs : List Item) → Holds parts vs → IfOk result (λ p. Holds p (vs ++ (P.output output ∷ []))) }
+    ensures { (vs : List Item) → Holds parts vs → IfOk result (λ p. Holds p (vs ++ (I.output output ∷ []))) }
 {
     let mut outputs = parts.outputs;
     outputs.push(output)?;
@@ -170,7 +171,7 @@ fn with_output(parts: Parts, output: Name) -> Result<Parts, AllocError>
 
 // The items with a definition more.
 fn with_definition(parts: Parts, draft: Draft) -> Result<Parts, AllocError>
-    ensures { (vs : List Item) (d : Definition) → Holds parts vs → IsDraft draft d → IfOk result (λ p. Holds p (vs ++ (P.definition d ∷ []))) }
+    ensures { (vs : List Item) (d : Definition) → Holds parts vs → IsDraft draft d → IfOk result (λ p. Holds p (vs ++ (I.definition d ∷ []))) }
 {
     match parts.deep {
         Some(_) => Ok(parts),

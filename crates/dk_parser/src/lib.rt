@@ -13,14 +13,8 @@ mod terminal;
 mod tree;
 mod whole;
 
-pub use built::Built;
-pub use classes::Ahead;
-pub use halt::Halt;
-pub use items::{Draft, Lead, Parts};
-pub use single::Turn;
 pub use terminal::{Keyword, Mark, Terminal};
 pub use tree::{
-    BinaryOperator, Binding, Def, Expr, ImageRead, Input, Literal, Name, Node, Offset, Program,
-    ScaleOperator, Start, Step, TypeWord, UnaryOperator,
+    Def, Expr, ImageRead, Input, Literal, Name, Node, Offset, Program, Start, Step, TypeWord,
 };
 pub use whole::{ParseError, one_judgement, parse};

@@ -15,11 +15,11 @@ use dk_base::{Span, Text};
 use dk_lexer::{Symbol, Token, TokenKind};
 use std::alloc::{AllocError, Global};
 
-/// A mark where a signed number may stand before it, or the sign of that number.
+// A mark where a signed number may stand before it, or the sign of that number.
 #[derive(Clone, Copy, Drop)]
-pub enum Turn {
+pub(crate) enum Turn {
     Mark(Span),
-    /// Whether the sign is a minus.
+    // Whether the sign is a minus.
     Signed(bool),
 }
 

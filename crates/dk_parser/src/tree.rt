@@ -1,6 +1,6 @@
 // Syntax trees.
 
-use dk_base::{Span, Text, Ty};
+use dk_base::{Binary, Scaling, Span, Text, Ty, Unary};
 
 #[derive(Clone, Copy, Debug)]
 pub struct Literal {
@@ -37,39 +37,6 @@ pub struct ImageRead {
     pub clamped: bool,
 }
 
-#[derive(Clone, Copy, Debug, PartialEq, Eq)]
-pub enum UnaryOperator {
-    Negate,
-    Not,
-    Absolute,
-}
-
-#[derive(Clone, Copy, Debug, PartialEq, Eq)]
-pub enum BinaryOperator {
-    Less,
-    LessEqual,
-    Greater,
-    GreaterEqual,
-    Equal,
-    NotEqual,
-    Or,
-    Xor,
-    And,
-    Add,
-    Subtract,
-    Multiply,
-    Min,
-    Max,
-}
-
-/// An operator whose second operand is a literal.
-#[derive(Clone, Copy, Debug, PartialEq, Eq)]
-pub enum ScaleOperator {
-    ShiftLeft,
-    ShiftRight,
-    Divide,
-}
-
 #[derive(Debug, Drop)]
 #[cycle(tree)]
 pub struct Expr {
@@ -82,9 +49,9 @@ pub struct Expr {
 pub enum Node {
     Number(u64),
     Read(ImageRead),
-    Unary(UnaryOperator, Box<Expr>),
-    Binary(BinaryOperator, Box<Expr>, Box<Expr>),
-    Scale(ScaleOperator, Box<Expr>, Literal),
+    Unary(Unary, Box<Expr>),
+    Binary(Binary, Box<Expr>, Box<Expr>),
+    Scale(Scaling, Box<Expr>, Literal),
     Cast(Box<Expr>, TypeWord),
     Sat(Box<Expr>, TypeWord),
     Select(Box<Expr>, Box<Expr>, Box<Expr>),
@@ -93,17 +60,17 @@ pub enum Node {
 /// What follows an operator: another operand, a number or a type.
 #[derive(Clone, Copy)]
 pub enum Step {
-    Operand(BinaryOperator),
-    Number(ScaleOperator),
+    Operand(Binary),
+    Number(Scaling),
     Type,
 }
 
-/// How a token goes on with an expression before it.
+// How a token goes on with an expression before it.
 #[derive(Clone, Copy)]
-pub enum Binding {
-    /// By an operator of this level of precedence, from 1, which binds most tightly, to 8.
+pub(crate) enum Binding {
+    // By an operator of this level of precedence, from 1, which binds most tightly, to 8.
     Operator(u8, Step),
-    /// By the word after a read that brings points to the frame's edge.
+    // By the word after a read that brings points to the frame's edge.
     Clamps,
     Stops,
 }
@@ -111,12 +78,12 @@ pub enum Binding {
 /// What an expression that begins with a token is.
 #[derive(Clone, Copy)]
 pub enum Start {
-    Prefix(UnaryOperator),
+    Prefix(Unary),
     Constant(u64),
     Image,
     Bracket,
     /// A function of two operands.
-    Pair(BinaryOperator),
+    Pair(Binary),
     Absolute,
     Saturate,
     Choice,

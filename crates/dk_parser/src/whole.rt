@@ -8,8 +8,9 @@ ghost use Rattle.dk_parser.specs.declared.terminal.Terminal.{Terminal};
 ghost use Rattle.dk_parser.specs.Terminals.{terminal_of_word};
 ghost use Rattle.dk_parser.specs.Grammar.{Tokens};
 ghost use Rattle.dk_lexer.specs.Faithful.{IsEnded};
-ghost use Rattle.dk_parser.specs.Programs.{Source, AProgram, source_of};
-ghost use Rattle.dk_parser.specs.Rules.{ProgramRule, IsTypeWord};
+ghost use Rattle.dk_parser.specs.Programs.{Source, source_of};
+ghost use Rattle.dk_parser.specs.Items.{AProgram};
+ghost use Rattle.dk_parser.specs.Rules.{IsTypeWord};
 ghost use Rattle.dk_parser.specs.Judged.{Derives, Accepted, Faults};
 ghost use Rattle.dk_parser.specs.Kept.{GrownProgram};
 
@@ -80,12 +81,11 @@ pub fn parse(alloc: Global, tokens: &[Token]) -> Result<Program, ParseError>
     }
 }
 
-/// Tokens that end as those of a text have one program, or one fault, but for want of memory; and a program is what the rules of the grammar say.
+/// Tokens that end as those of a text have one program, or one fault, but for want of memory; and a type word is what the rules of the language say.
 pub fn one_judgement()
     ensures program { (ts : Tokens) (p q : Source) → Derives ts p → Derives ts q → p ≡ q }
     ensures none_beside { (ts : Tokens) (p : Source) (f : ParseError) → Accepted ts p → Faults ts f → f ≡ ParseError.OutOfMemory }
     ensures one_fault { (ts : Tokens) (f g : ParseError) → Faults ts f → Faults ts g → f ≢ ParseError.OutOfMemory → g ≢ ParseError.OutOfMemory → f ≡ g }
     ensures some { (ts : Tokens) → IsEnded ts → ((p : Source) × Accepted ts p) ⊎ ((f : ParseError) × Faults ts f × (f ≢ ParseError.OutOfMemory)) }
-    ensures rules { (ts : Tokens) (p : Source) (rest : Tokens) → AProgram ts p rest ↔ ProgramRule ts p rest }
     ensures type_words { (bytes : List ℕ) (t : Ty) → terminal_of_word bytes ≡ Terminal.TypeWord t ↔ IsTypeWord bytes t }
 {}

@@ -4,23 +4,21 @@ use Rattle.dk_base.specs.declared.span.Span.{Span}
 use Rattle.dk_base.specs.declared.ty.Ty.{Ty}
 use Rattle.dk_base.specs.declared.operator.Conversion.{Conversion}
 use Rattle.dk_base.specs.declared.operator.Conversion.TheVariants.{Cast, Saturate}
+use Rattle.dk_base.specs.declared.operator.Unary.{Unary}
+use Rattle.dk_base.specs.declared.operator.Binary.{Binary}
+use Rattle.dk_base.specs.declared.operator.Scaling.{Scaling}
 use Rattle.dk_base.specs.Types.{IsType, width_of, is_signed, is_bit, common_type, negation_type, shifted_type}
 use Rattle.dk_base.specs.Operators.{limited, literal_type, unary_type, is_bitwise, are_operands, binary_result, binary_type, scaling_type, select_type}
 use Rattle.dk_parser.specs.declared.tree.Literal.{Literal}
 use Rattle.dk_parser.specs.declared.tree.Offset.{Offset}
 use Rattle.dk_parser.specs.declared.tree.ImageRead.{ImageRead}
-use Rattle.dk_parser.specs.declared.tree.UnaryOperator.{UnaryOperator}
-use Rattle.dk_parser.specs.declared.tree.UnaryOperator.TheVariants as unary
-use Rattle.dk_parser.specs.declared.tree.BinaryOperator.{BinaryOperator}
-use Rattle.dk_parser.specs.declared.tree.ScaleOperator.{ScaleOperator}
-use Rattle.dk_parser.specs.declared.tree.ScaleOperator.TheVariants as scale
 use Rattle.dk_parser.specs.Tree.{Tree, span_of}
 use Rattle.dk_parser.specs.Tree as T
 use Rattle.dk_types.specs.declared.fault.TypeFault.{TypeFault}
 use Rattle.dk_types.specs.declared.fault.TypeFaultKind.TheVariants.{UnknownImage, OffsetRange, WidthTooGreat, NotOneBit, SignedBits, ZeroDivisor, ShiftRange}
 use Rattle.dk_types.specs.Typed.{Typed, constant, fetch, single, double, scaled, converted, chosen, type_of}
 use Rattle.dk_types.specs.Scopes.{Scope, image_of, types_in}
-use Rattle.dk_types.specs.Operations.{unary_of, binary_of, scaling_of, amount_of, offset_of}
+use Rattle.dk_types.specs.Offsets.{amount_of, offset_of}
 use Rattle.dk_types.specs.Types.{HasType}
 use Rattle.dk_types.specs.Types as H
 use Rattle.dk_types.specs.Faults.{Faulty, at}
@@ -55,29 +53,29 @@ image_answer scope r None = Err (at r.name.span UnknownImage)
 image_answer scope r (Some g) = type_answer r g (slice_get (types_in scope) g)
 
 -- operators
-abbrev unary_own : Span → UnaryOperator → Span → Typed → Option Ty → Answer Typed
-unary_own s o p e (Some t) = Ok (single t (unary_of o) e)
-unary_own s unary.Negate p e None = Err (at s WidthTooGreat)
-unary_own s unary.Not p e None = Err (at p NotOneBit)
-unary_own s unary.Absolute p e None = Err (at s WidthTooGreat)
+abbrev unary_own : Span → Unary → Span → Typed → Option Ty → Answer Typed
+unary_own s o p e (Some t) = Ok (single t o e)
+unary_own s Unary.Negate p e None = Err (at s WidthTooGreat)
+unary_own s Unary.Not p e None = Err (at p NotOneBit)
+unary_own s Unary.Abs p e None = Err (at s WidthTooGreat)
 
-abbrev unary_answer : Span → UnaryOperator → Span → Answer Typed → Answer Typed
+abbrev unary_answer : Span → Unary → Span → Answer Typed → Answer Typed
 unary_answer s o p (Err f) = Err f
-unary_answer s o p (Ok e) = unary_own s o p e (unary_type (unary_of o) (type_of e))
+unary_answer s o p (Ok e) = unary_own s o p e (unary_type o (type_of e))
 
-abbrev binary_result_of : Span → BinaryOperator → Typed → Typed → Option Ty → Answer Typed
-binary_result_of s o e f (Some t) = Ok (double t (binary_of o) e f)
+abbrev binary_result_of : Span → Binary → Typed → Typed → Option Ty → Answer Typed
+binary_result_of s o e f (Some t) = Ok (double t o e f)
 binary_result_of s o e f None = Err (at s WidthTooGreat)
 
-abbrev binary_own : Span → BinaryOperator → Span → Span → Typed → Typed → (left right : Bool) → Answer Typed
+abbrev binary_own : Span → Binary → Span → Span → Typed → Typed → (left right : Bool) → Answer Typed
 binary_own s o p q e f true right = Err (at p SignedBits)
 binary_own s o p q e f false true = Err (at q SignedBits)
-binary_own s o p q e f false false = binary_result_of s o e f (binary_type (binary_of o) (type_of e) (type_of f))
+binary_own s o p q e f false false = binary_result_of s o e f (binary_type o (type_of e) (type_of f))
 
-abbrev is_barred : BinaryOperator → Ty → Bool
-is_barred o t = is_bitwise (binary_of o) && is_signed t
+abbrev is_barred : Binary → Ty → Bool
+is_barred o t = is_bitwise o && is_signed t
 
-abbrev binary_answer : Span → BinaryOperator → Span → Span → Answer Typed → Answer Typed → Answer Typed
+abbrev binary_answer : Span → Binary → Span → Span → Answer Typed → Answer Typed → Answer Typed
 binary_answer s o p q (Err f) b = Err f
 binary_answer s o p q (Ok e) (Err f) = Err f
 binary_answer s o p q (Ok e) (Ok f) = binary_own s o p q e f (is_barred o (type_of e)) (is_barred o (type_of f))
@@ -86,15 +84,15 @@ abbrev shift_own : Span → Literal → Bool → Answer Typed
 shift_own s k true = Err (at k.span ShiftRange)
 shift_own s k false = Err (at s WidthTooGreat)
 
-abbrev scale_own : Span → ScaleOperator → Literal → Typed → Option Ty → Answer Typed
-scale_own s o k e (Some t) = Ok (scaled t (scaling_of o) e k.value)
-scale_own s scale.Divide k e None = Err (at k.span ZeroDivisor)
-scale_own s scale.ShiftLeft k e None = shift_own s k (nat_lt 63 k.value)
-scale_own s scale.ShiftRight k e None = shift_own s k (nat_lt 63 k.value)
+abbrev scale_own : Span → Scaling → Literal → Typed → Option Ty → Answer Typed
+scale_own s o k e (Some t) = Ok (scaled t o e k.value)
+scale_own s Scaling.Divide k e None = Err (at k.span ZeroDivisor)
+scale_own s Scaling.ShiftLeft k e None = shift_own s k (nat_lt 63 k.value)
+scale_own s Scaling.ShiftRight k e None = shift_own s k (nat_lt 63 k.value)
 
-abbrev scale_answer : Span → ScaleOperator → Literal → Answer Typed → Answer Typed
+abbrev scale_answer : Span → Scaling → Literal → Answer Typed → Answer Typed
 scale_answer s o k (Err f) = Err f
-scale_answer s o k (Ok e) = scale_own s o k e (scaling_type (scaling_of o) (type_of e) k.value)
+scale_answer s o k (Ok e) = scale_own s o k e (scaling_type o (type_of e) k.value)
 
 abbrev pub is_type : Ty → Bool
 is_type t = nat_le 1 (width_of t) && nat_le (width_of t) 64
@@ -162,8 +160,8 @@ if_some : {A : Type 0} (b : Bool) (o : Option A) (t : A) → (if b then o else N
 if_some true o t h = (refl, h)
 if_some false o t h = absurd (let e : ⊥ = cc in e)
 
-none_barred : (o : BinaryOperator) (a b : Ty) → are_operands (binary_of o) a b ≡ true → (is_barred o a ≡ false) × (is_barred o b ≡ false)
-none_barred o a b h = by (is_bitwise (binary_of o)) (is_signed a) (is_signed b) h
+none_barred : (o : Binary) (a b : Ty) → are_operands o a b ≡ true → (is_barred o a ≡ false) × (is_barred o b ≡ false)
+none_barred o a b h = by (is_bitwise o) (is_signed a) (is_signed b) h
   where
     by : (p x y : Bool) → not (p && (x || y)) ≡ true → ((p && x) ≡ false) × ((p && y) ≡ false)
     by true true y h = true_or_false (sym h)
@@ -171,25 +169,25 @@ none_barred o a b h = by (is_bitwise (binary_of o)) (is_signed a) (is_signed b) 
     by true false false h = (refl, refl)
     by false x y h = (refl, refl)
 
-takes_operands : (o : BinaryOperator) (a b t : Ty) → binary_type (binary_of o) a b ≡ Some t → are_operands (binary_of o) a b ≡ true
+takes_operands : (o : Binary) (a b t : Ty) → binary_type o a b ≡ Some t → are_operands o a b ≡ true
 takes_operands o a b t h =
-    let p = if_some (are_operands (binary_of o) a b && nat_le (width_of (common_type a b)) 64) (limited (binary_result (binary_of o) a b)) t h in
-    (both (are_operands (binary_of o) a b) (nat_le (width_of (common_type a b)) 64) p.0).0
+    let p = if_some (are_operands o a b && nat_le (width_of (common_type a b)) 64) (limited (binary_result o a b)) t h in
+    (both (are_operands o a b) (nat_le (width_of (common_type a b)) 64) p.0).0
 
 bit_and_wide : (c a b t : Ty) → select_type c a b ≡ Some t → (is_bit c ≡ true) × (limited (common_type a b) ≡ Some t)
 bit_and_wide c a b t h = if_some (is_bit c) (limited (common_type a b)) t h
 
-shift_refused : (o : ScaleOperator) (a : Ty) (k : ℕ) → (o ≡ scale.Divide → ⊥) → 63 < k → scaling_type (scaling_of o) a k ≡ None
-shift_refused scale.ShiftLeft a k n h = let e : nat_le k 63 ≡ false = grind arith in rw e refl
-shift_refused scale.ShiftRight a k n h = let e : nat_le k 63 ≡ false = grind arith in rw e refl
-shift_refused scale.Divide a k n h = absurd (n refl)
+shift_refused : (o : Scaling) (a : Ty) (k : ℕ) → (o ≡ Scaling.Divide → ⊥) → 63 < k → scaling_type o a k ≡ None
+shift_refused Scaling.ShiftLeft a k n h = let e : nat_le k 63 ≡ false = grind arith in rw e refl
+shift_refused Scaling.ShiftRight a k n h = let e : nat_le k 63 ≡ false = grind arith in rw e refl
+shift_refused Scaling.Divide a k n h = absurd (n refl)
 
-shift_far : (s : Span) (o : ScaleOperator) (k : Literal) (e : Typed) → (o ≡ scale.Divide → ⊥) → 63 < k.value → scale_own s o k e None ≡ Err (at k.span ShiftRange)
-shift_far s scale.ShiftLeft k e n h = let q : nat_lt 63 k.value ≡ true = grind arith in rw q refl
-shift_far s scale.ShiftRight k e n h = let q : nat_lt 63 k.value ≡ true = grind arith in rw q refl
-shift_far s scale.Divide k e n h = absurd (n refl)
+shift_far : (s : Span) (o : Scaling) (k : Literal) (e : Typed) → (o ≡ Scaling.Divide → ⊥) → 63 < k.value → scale_own s o k e None ≡ Err (at k.span ShiftRange)
+shift_far s Scaling.ShiftLeft k e n h = let q : nat_lt 63 k.value ≡ true = grind arith in rw q refl
+shift_far s Scaling.ShiftRight k e n h = let q : nat_lt 63 k.value ≡ true = grind arith in rw q refl
+shift_far s Scaling.Divide k e n h = absurd (n refl)
 
-shift_wide : (a : Ty) (k : ℕ) → k ≤ 63 → 64 < width_of (shifted_type a k) → scaling_type (scaling_of scale.ShiftLeft) a k ≡ None
+shift_wide : (a : Ty) (k : ℕ) → k ≤ 63 → 64 < width_of (shifted_type a k) → scaling_type Scaling.ShiftLeft a k ≡ None
 shift_wide a k h w = let e : nat_le k 63 ≡ true = grind arith in rw e (too_wide (shifted_type a k) w)
 
 -- the type that an expression has is the answer

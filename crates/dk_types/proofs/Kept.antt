@@ -21,7 +21,7 @@ use Rattle.dk_parser.specs.Programs as P
 use Rattle.dk_types.specs.declared.typed.TypedInput.{TypedInput}
 use Rattle.dk_types.specs.Typed.{Typed, type_of, Definition, Typing, image_type, input_types}
 use Rattle.dk_types.specs.Scopes.{Named, Scope, is_same, image_of, types_in, inputs_scope, scope_of, definition_named, name_among}
-use Rattle.dk_types.specs.Operations.{amount_of, offset_of, signed}
+use Rattle.dk_types.specs.Offsets.{amount_of, offset_of, signed}
 use Rattle.dk_types.specs.Sequences.{Each, none, next}
 use Rattle.dk_base.specs.Types.{IsPort}
 use Rattle.dk_types.specs.Types.{HasType, Takes, IsInput, IsDefinition, IsOutput, IsTyping}

@@ -5,10 +5,10 @@ use Rattle.std.proofs.lemmas.Int.{to_z-of_z}
 use Rattle.dk_base.specs.declared.span.Span.{Span}
 use Rattle.dk_base.specs.declared.ty.Ty.{Ty}
 use Rattle.dk_base.specs.declared.ty.Ty.TheVariants.{Unsigned}
+use Rattle.dk_base.specs.declared.operator.Conversion.TheVariants.{Cast, Saturate}
 use Rattle.dk_base.specs.declared.operator.Unary.{Unary}
 use Rattle.dk_base.specs.declared.operator.Binary.{Binary}
 use Rattle.dk_base.specs.declared.operator.Scaling.{Scaling}
-use Rattle.dk_base.specs.declared.operator.Conversion.TheVariants.{Cast, Saturate}
 use Rattle.dk_base.specs.Types.{IsType, width_of, is_signed, is_bit, common_type, negation_type, shifted_type}
 use Rattle.dk_base.specs.Numbers.{bit_count, IsBitCount}
 use Rattle.dk_base.specs.Operators.{limited, unary_type, is_bitwise, are_operands, binary_type, scaling_type, select_type}
@@ -16,11 +16,6 @@ use Rattle.dk_parser.specs.declared.tree.Literal.{Literal}
 use Rattle.dk_parser.specs.declared.tree.TypeWord.{TypeWord}
 use Rattle.dk_parser.specs.declared.tree.Offset.{Offset}
 use Rattle.dk_parser.specs.declared.tree.ImageRead.{ImageRead}
-use Rattle.dk_parser.specs.declared.tree.UnaryOperator.{UnaryOperator}
-use Rattle.dk_parser.specs.declared.tree.UnaryOperator.TheVariants as unary
-use Rattle.dk_parser.specs.declared.tree.BinaryOperator.{BinaryOperator}
-use Rattle.dk_parser.specs.declared.tree.ScaleOperator.{ScaleOperator}
-use Rattle.dk_parser.specs.declared.tree.ScaleOperator.TheVariants as scale
 use Rattle.dk_parser.specs.declared.tree.Expr.{Expr}
 use Rattle.dk_parser.specs.Tree.{Tree, span_of, tree_of}
 use Rattle.dk_parser.specs.Tree as T
@@ -33,7 +28,7 @@ use Rattle.dk_types.specs.declared.typed.TypedNode.{TypedNode}
 use Rattle.dk_types.specs.declared.typed.TypedNode as N
 use Rattle.dk_types.specs.Typed.{Typed, constant, fetch, single, double, scaled, converted, chosen, type_of, typed_at, typed_of}
 use Rattle.dk_types.specs.Scopes.{Scope, IsImage, IsUnknown}
-use Rattle.dk_types.specs.Operations.{unary_of, binary_of, scaling_of, amount_of, offset_of, signed}
+use Rattle.dk_types.specs.Offsets.{amount_of, offset_of, signed}
 use Rattle.dk_types.specs.Types.{HasType}
 use Rattle.dk_types.specs.Types as H
 use Rattle.dk_types.specs.Faults.{Faulty, Stops, at}
@@ -66,52 +61,52 @@ type_at t (N.Convert' o p u a) = refl
 type_at t (N.Select' p u c q w a r z b) = refl
 
 -- one operand
-abbrev pub unary_fault : UnaryOperator → Span → Span → TypeFault
-unary_fault unary.Negate s p = at s WidthTooGreat
-unary_fault unary.Not s p = at p NotOneBit
-unary_fault unary.Absolute s p = at s WidthTooGreat
+abbrev pub unary_fault : Unary → Span → Span → TypeFault
+unary_fault Unary.Negate s p = at s WidthTooGreat
+unary_fault Unary.Not s p = at p NotOneBit
+unary_fault Unary.Abs s p = at s WidthTooGreat
 
-unary_refused : (scope : Scope) (s : Span) (o : UnaryOperator) (a : Tree) (e : Typed) → HasType scope a e
-    → unary_type (unary_of o) (type_of e) ≡ None → Faulty scope (T.unary s o a) (unary_fault o s (span_of a))
-unary_refused scope s unary.Negate a e h n = F.wide_negation h (none_wide (negation_type (type_of e)) n)
-unary_refused scope s unary.Not a e h n = F.not_a_bit h (none_false (is_bit (type_of e)) (type_of e) n)
-unary_refused scope s unary.Absolute a e h n = absurd (let e : ⊥ = cc in e)
+unary_refused : (scope : Scope) (s : Span) (o : Unary) (a : Tree) (e : Typed) → HasType scope a e
+    → unary_type o (type_of e) ≡ None → Faulty scope (T.unary s o a) (unary_fault o s (span_of a))
+unary_refused scope s Unary.Negate a e h n = F.wide_negation h (none_wide (negation_type (type_of e)) n)
+unary_refused scope s Unary.Not a e h n = F.not_a_bit h (none_false (is_bit (type_of e)) (type_of e) n)
+unary_refused scope s Unary.Abs a e h n = absurd (let e : ⊥ = cc in e)
 
-pub not_bit : (o : UnaryOperator) (s p : Span) → o ≡ unary.Not → unary_fault o s p ≡ at p NotOneBit
+pub not_bit : (o : Unary) (s p : Span) → o ≡ Unary.Not → unary_fault o s p ≡ at p NotOneBit
 not_bit o s p e = ap (λ x. unary_fault x s p) e
 
-pub not_not : (o : UnaryOperator) (s p : Span) → (o ≡ unary.Not → ⊥) → unary_fault o s p ≡ at s WidthTooGreat
-not_not unary.Negate s p n = refl
-not_not unary.Not s p n = absurd (n refl)
-not_not unary.Absolute s p n = refl
+pub not_not : (o : Unary) (s p : Span) → (o ≡ Unary.Not → ⊥) → unary_fault o s p ≡ at s WidthTooGreat
+not_not Unary.Negate s p n = refl
+not_not Unary.Not s p n = absurd (n refl)
+not_not Unary.Abs s p n = refl
 
-pub told_unary : (scope : Scope) (s p : Span) (o : UnaryOperator) (a : Tree) (e : Typed) (t : Ty) (u : Unary) (r : Option Ty) (x : TypeError) (f : TypeFault)
-    → x ≡ Fault f → unary_fault o s p ≡ f → u ≡ unary_of o → r ≡ unary_type u t → r ≡ None
+pub told_unary : (scope : Scope) (s p : Span) (o : Unary) (a : Tree) (e : Typed) (t : Ty) (r : Option Ty) (x : TypeError) (f : TypeFault)
+    → x ≡ Fault f → unary_fault o s p ≡ f → r ≡ unary_type o t → r ≡ None
     → HasType scope a e → type_of e ≡ t → span_of a ≡ p → Stops (Faulty scope (T.unary s o a)) x
-told_unary scope s p o a e t u r x f xe fe ue re n h te pe =
-    let none : unary_type (unary_of o) (type_of e) ≡ None = cc in
+told_unary scope s p o a e t r x f xe fe re n h te pe =
+    let none : unary_type o (type_of e) ≡ None = cc in
     told (Faulty scope (T.unary s o a)) x f (unary_fault o s (span_of a)) xe (ap (unary_fault o s) pe ∙ fe) (unary_refused scope s o a e h none)
 
 -- two operands
-pub told_left : (scope : Scope) (s p : Span) (o : BinaryOperator) (a b : Tree) (e f : Typed) (l : Ty) (x : TypeError)
-    → x ≡ Fault (at p SignedBits) → is_bitwise (binary_of o) ≡ true → is_signed l ≡ true
+pub told_left : (scope : Scope) (s p : Span) (o : Binary) (a b : Tree) (e f : Typed) (l : Ty) (x : TypeError)
+    → x ≡ Fault (at p SignedBits) → is_bitwise o ≡ true → is_signed l ≡ true
     → HasType scope a e → HasType scope b f → type_of e ≡ l → span_of a ≡ p → Stops (Faulty scope (T.binary s o a b)) x
 told_left scope s p o a b e f l x xe bits sign h g te pe =
     told (Faulty scope (T.binary s o a b)) x (at p SignedBits) (at (span_of a) SignedBits) xe (ap (λ q. at q SignedBits) pe) (F.signed_left h g bits (ap is_signed te ∙ sign))
 
-pub told_right : (scope : Scope) (s q : Span) (o : BinaryOperator) (a b : Tree) (e f : Typed) (l r : Ty) (x : TypeError)
-    → x ≡ Fault (at q SignedBits) → is_bitwise (binary_of o) ≡ true → is_signed l ≡ false → is_signed r ≡ true
+pub told_right : (scope : Scope) (s q : Span) (o : Binary) (a b : Tree) (e f : Typed) (l r : Ty) (x : TypeError)
+    → x ≡ Fault (at q SignedBits) → is_bitwise o ≡ true → is_signed l ≡ false → is_signed r ≡ true
     → HasType scope a e → HasType scope b f → type_of e ≡ l → type_of f ≡ r → span_of b ≡ q → Stops (Faulty scope (T.binary s o a b)) x
 told_right scope s q o a b e f l r x xe bits plain sign h g te tf qe =
     told (Faulty scope (T.binary s o a b)) x (at q SignedBits) (at (span_of b) SignedBits) xe (ap (λ z. at z SignedBits) qe) (F.signed_right h g bits (ap is_signed te ∙ plain) (ap is_signed tf ∙ sign))
 
-pub told_binary : (scope : Scope) (s : Span) (o : BinaryOperator) (a b : Tree) (e f : Typed) (l r : Ty) (u : Binary) (found : Option Ty) (x : TypeError)
-    → x ≡ Fault (at s WidthTooGreat) → are_operands (binary_of o) l r ≡ true → u ≡ binary_of o → found ≡ binary_type u l r → found ≡ None
+pub told_binary : (scope : Scope) (s : Span) (o : Binary) (a b : Tree) (e f : Typed) (l r : Ty) (found : Option Ty) (x : TypeError)
+    → x ≡ Fault (at s WidthTooGreat) → are_operands o l r ≡ true → found ≡ binary_type o l r → found ≡ None
     → HasType scope a e → HasType scope b f → type_of e ≡ l → type_of f ≡ r → Stops (Faulty scope (T.binary s o a b)) x
-told_binary scope s o a b e f l r u found x xe fits ue re n h g te tf =
-    let operands : are_operands (binary_of o) (type_of e) (type_of f) ≡ true = ap (λ z. are_operands (binary_of o) z (type_of f)) te ∙ (ap (are_operands (binary_of o) l) tf ∙ fits) in
-    let none : binary_type (binary_of o) (type_of e) (type_of f) ≡ None =
-    ap (λ z. binary_type (binary_of o) z (type_of f)) te ∙ (ap (binary_type (binary_of o) l) tf ∙ (ap (λ v. binary_type v l r) (sym ue) ∙ (sym re ∙ n))) in
+told_binary scope s o a b e f l r found x xe fits re n h g te tf =
+    let operands : are_operands o (type_of e) (type_of f) ≡ true = ap (λ z. are_operands o z (type_of f)) te ∙ (ap (are_operands o l) tf ∙ fits) in
+    let none : binary_type o (type_of e) (type_of f) ≡ None =
+    ap (λ z. binary_type o z (type_of f)) te ∙ (ap (binary_type o l) tf ∙ (sym re ∙ n)) in
     told (Faulty scope (T.binary s o a b)) x (at s WidthTooGreat) (at s WidthTooGreat) xe refl (F.wide_result h g operands none)
 
 -- a division or a shift
@@ -119,30 +114,30 @@ abbrev shift_fault : Span → Literal → Bool → TypeFault
 shift_fault s k true = at k.span ShiftRange
 shift_fault s k false = at s WidthTooGreat
 
-abbrev pub scale_fault : ScaleOperator → Span → Literal → TypeFault
-scale_fault scale.ShiftLeft s k = shift_fault s k (nat_lt 63 k.value)
-scale_fault scale.ShiftRight s k = shift_fault s k (nat_lt 63 k.value)
-scale_fault scale.Divide s k = at k.span ZeroDivisor
+abbrev pub scale_fault : Scaling → Span → Literal → TypeFault
+scale_fault Scaling.ShiftLeft s k = shift_fault s k (nat_lt 63 k.value)
+scale_fault Scaling.ShiftRight s k = shift_fault s k (nat_lt 63 k.value)
+scale_fault Scaling.Divide s k = at k.span ZeroDivisor
 
 zero_is : (n : ℕ) → nat_eq n 0 ≡ true → n ≡ 0
 zero_is n h = grind (arith, h)
 
-left_is_none : scale.ShiftLeft ≡ scale.Divide → ⊥
+left_is_none : Scaling.ShiftLeft ≡ Scaling.Divide → ⊥
 left_is_none e = cc
 
-right_is_none : scale.ShiftRight ≡ scale.Divide → ⊥
+right_is_none : Scaling.ShiftRight ≡ Scaling.Divide → ⊥
 right_is_none e = cc
 
-scale_refused : (scope : Scope) (s : Span) (o : ScaleOperator) (a : Tree) (k : Literal) (e : Typed) → HasType scope a e
-    → scaling_type (scaling_of o) (type_of e) k.value ≡ None → Faulty scope (T.scale s o a k) (scale_fault o s k)
-scale_refused scope s scale.Divide a k e h n = F.zero_divisor h (zero_is k.value (none_true (nat_eq k.value 0) (type_of e) n))
-scale_refused scope s scale.ShiftRight a k e h n =
+scale_refused : (scope : Scope) (s : Span) (o : Scaling) (a : Tree) (k : Literal) (e : Typed) → HasType scope a e
+    → scaling_type o (type_of e) k.value ≡ None → Faulty scope (T.scale s o a k) (scale_fault o s k)
+scale_refused scope s Scaling.Divide a k e h n = F.zero_divisor h (zero_is k.value (none_true (nat_eq k.value 0) (type_of e) n))
+scale_refused scope s Scaling.ShiftRight a k e h n =
     let far : nat_le k.value 63 ≡ false = none_false (nat_le k.value 63) (type_of e) n in
     let q : nat_lt 63 k.value ≡ true = grind (arith, far) in
     rw q (F.far_shift {k = k} h right_is_none (grind (arith, far)))
-scale_refused scope s scale.ShiftLeft a k e h n = by (nat_le k.value 63) refl
+scale_refused scope s Scaling.ShiftLeft a k e h n = by (nat_le k.value 63) refl
   where
-    by : (b : Bool) → nat_le k.value 63 ≡ b → Faulty scope (T.scale s scale.ShiftLeft a k) (scale_fault scale.ShiftLeft s k)
+    by : (b : Bool) → nat_le k.value 63 ≡ b → Faulty scope (T.scale s Scaling.ShiftLeft a k) (scale_fault Scaling.ShiftLeft s k)
     by true near =
         let q : nat_lt 63 k.value ≡ false = grind (arith, near) in
         let n' : limited (shifted_type (type_of e) k.value) ≡ None = rw near at n in
@@ -151,25 +146,25 @@ scale_refused scope s scale.ShiftLeft a k e h n = by (nat_le k.value 63) refl
         let q : nat_lt 63 k.value ≡ true = grind (arith, far) in
         rw q (F.far_shift {k = k} h left_is_none (grind (arith, far)))
 
-pub divided : (o : ScaleOperator) (s : Span) (k : Literal) → o ≡ scale.Divide → scale_fault o s k ≡ at k.span ZeroDivisor
+pub divided : (o : Scaling) (s : Span) (k : Literal) → o ≡ Scaling.Divide → scale_fault o s k ≡ at k.span ZeroDivisor
 divided o s k e = ap (λ x. scale_fault x s k) e
 
-pub shifted_far : (o : ScaleOperator) (s : Span) (k : Literal) → (o ≡ scale.Divide → ⊥) → 63 < k.value → scale_fault o s k ≡ at k.span ShiftRange
-shifted_far scale.ShiftLeft s k n h = let q : nat_lt 63 k.value ≡ true = grind arith in rw q refl
-shifted_far scale.ShiftRight s k n h = let q : nat_lt 63 k.value ≡ true = grind arith in rw q refl
-shifted_far scale.Divide s k n h = absurd (n refl)
+pub shifted_far : (o : Scaling) (s : Span) (k : Literal) → (o ≡ Scaling.Divide → ⊥) → 63 < k.value → scale_fault o s k ≡ at k.span ShiftRange
+shifted_far Scaling.ShiftLeft s k n h = let q : nat_lt 63 k.value ≡ true = grind arith in rw q refl
+shifted_far Scaling.ShiftRight s k n h = let q : nat_lt 63 k.value ≡ true = grind arith in rw q refl
+shifted_far Scaling.Divide s k n h = absurd (n refl)
 
-pub shifted_near : (o : ScaleOperator) (s : Span) (k : Literal) → (o ≡ scale.Divide → ⊥) → k.value ≤ 63 → scale_fault o s k ≡ at s WidthTooGreat
-shifted_near scale.ShiftLeft s k n h = let q : nat_lt 63 k.value ≡ false = grind arith in rw q refl
-shifted_near scale.ShiftRight s k n h = let q : nat_lt 63 k.value ≡ false = grind arith in rw q refl
-shifted_near scale.Divide s k n h = absurd (n refl)
+pub shifted_near : (o : Scaling) (s : Span) (k : Literal) → (o ≡ Scaling.Divide → ⊥) → k.value ≤ 63 → scale_fault o s k ≡ at s WidthTooGreat
+shifted_near Scaling.ShiftLeft s k n h = let q : nat_lt 63 k.value ≡ false = grind arith in rw q refl
+shifted_near Scaling.ShiftRight s k n h = let q : nat_lt 63 k.value ≡ false = grind arith in rw q refl
+shifted_near Scaling.Divide s k n h = absurd (n refl)
 
-pub told_scale : (scope : Scope) (s : Span) (o : ScaleOperator) (a : Tree) (k : Literal) (e : Typed) (t : Ty) (u : Scaling) (r : Option Ty) (x : TypeError) (f : TypeFault)
-    → x ≡ Fault f → scale_fault o s k ≡ f → u ≡ scaling_of o → r ≡ scaling_type u t k.value → r ≡ None
+pub told_scale : (scope : Scope) (s : Span) (o : Scaling) (a : Tree) (k : Literal) (e : Typed) (t : Ty) (r : Option Ty) (x : TypeError) (f : TypeFault)
+    → x ≡ Fault f → scale_fault o s k ≡ f → r ≡ scaling_type o t k.value → r ≡ None
     → HasType scope a e → type_of e ≡ t → Stops (Faulty scope (T.scale s o a k)) x
-told_scale scope s o a k e t u r x f xe fe ue re n h te =
-    let none : scaling_type (scaling_of o) (type_of e) k.value ≡ None =
-    ap (λ z. scaling_type (scaling_of o) z k.value) te ∙ (ap (λ v. scaling_type v t k.value) (sym ue) ∙ (sym re ∙ n)) in
+told_scale scope s o a k e t r x f xe fe re n h te =
+    let none : scaling_type o (type_of e) k.value ≡ None =
+    ap (λ z. scaling_type o z k.value) te ∙ (sym re ∙ n) in
     told (Faulty scope (T.scale s o a k)) x f (scale_fault o s k) xe fe (scale_refused scope s o a k e h none)
 
 -- a choice
@@ -197,32 +192,29 @@ number_is scope s v b h e =
 pub bits_are : (v b : ℕ) → Fits w64 v → IsBitCount v b → IsType (Unsigned b)
 bits_are v b h c = record { some = c.some; most = c.least 64 (omega arith) (omega (arith, h.fits)) }
 
-pub unary_is : (scope : Scope) (s : Span) (o : UnaryOperator) (a : Tree) (x y : TypedExpr) (u : Unary) (t : Ty)
-    → y ≡ x → u ≡ unary_of o → unary_type (unary_of o) x.ty ≡ Some t → HasType scope a (typed_of x)
-    → HasType scope (T.unary s o a) (single t u (typed_of y))
-unary_is scope s o a x y u t ye ue k h =
-    let R : TypedExpr → Type 0 = λ z. HasType scope (T.unary s o a) (single t u (typed_of z)) in
-    let Q : Unary → Type 0 = λ v. HasType scope (T.unary s o a) (single t v (typed_of x)) in
-    subst R (sym ye) (subst Q (sym ue) (H.unary h (ap (unary_type (unary_of o)) (type_at x.ty x.node) ∙ k)))
+pub unary_is : (scope : Scope) (s : Span) (o : Unary) (a : Tree) (x y : TypedExpr) (t : Ty)
+    → y ≡ x → unary_type o x.ty ≡ Some t → HasType scope a (typed_of x)
+    → HasType scope (T.unary s o a) (single t o (typed_of y))
+unary_is scope s o a x y t ye k h =
+    let R : TypedExpr → Type 0 = λ z. HasType scope (T.unary s o a) (single t o (typed_of z)) in
+    subst R (sym ye) (H.unary h (ap (unary_type o) (type_at x.ty x.node) ∙ k))
 
-pub binary_is : (scope : Scope) (s : Span) (o : BinaryOperator) (a b : Tree) (x y x' y' : TypedExpr) (u : Binary) (t : Ty)
-    → x' ≡ x → y' ≡ y → u ≡ binary_of o → binary_type (binary_of o) x.ty y.ty ≡ Some t → HasType scope a (typed_of x) → HasType scope b (typed_of y)
-    → HasType scope (T.binary s o a b) (double t u (typed_of x') (typed_of y'))
-binary_is scope s o a b x y x' y' u t xe ye ue k h g =
-    let R : TypedExpr → Type 0 = λ z. HasType scope (T.binary s o a b) (double t u (typed_of z) (typed_of y')) in
-    let S : TypedExpr → Type 0 = λ z. HasType scope (T.binary s o a b) (double t u (typed_of x) (typed_of z)) in
-    let Q : Binary → Type 0 = λ v. HasType scope (T.binary s o a b) (double t v (typed_of x) (typed_of y)) in
-    let typed : binary_type (binary_of o) (type_of (typed_of x)) (type_of (typed_of y)) ≡ Some t =
-    ap (λ z. binary_type (binary_of o) z (type_of (typed_of y))) (type_at x.ty x.node) ∙ (ap (binary_type (binary_of o) x.ty) (type_at y.ty y.node) ∙ k) in
-    subst R (sym xe) (subst S (sym ye) (subst Q (sym ue) (H.binary h g typed)))
+pub binary_is : (scope : Scope) (s : Span) (o : Binary) (a b : Tree) (x y x' y' : TypedExpr) (t : Ty)
+    → x' ≡ x → y' ≡ y → binary_type o x.ty y.ty ≡ Some t → HasType scope a (typed_of x) → HasType scope b (typed_of y)
+    → HasType scope (T.binary s o a b) (double t o (typed_of x') (typed_of y'))
+binary_is scope s o a b x y x' y' t xe ye k h g =
+    let R : TypedExpr → Type 0 = λ z. HasType scope (T.binary s o a b) (double t o (typed_of z) (typed_of y')) in
+    let S : TypedExpr → Type 0 = λ z. HasType scope (T.binary s o a b) (double t o (typed_of x) (typed_of z)) in
+    let typed : binary_type o (type_of (typed_of x)) (type_of (typed_of y)) ≡ Some t =
+    ap (λ z. binary_type o z (type_of (typed_of y))) (type_at x.ty x.node) ∙ (ap (binary_type o x.ty) (type_at y.ty y.node) ∙ k) in
+    subst R (sym xe) (subst S (sym ye) (H.binary h g typed))
 
-pub scale_is : (scope : Scope) (s : Span) (o : ScaleOperator) (a : Tree) (k : Literal) (x y : TypedExpr) (u : Scaling) (t : Ty)
-    → y ≡ x → u ≡ scaling_of o → scaling_type (scaling_of o) x.ty k.value ≡ Some t → HasType scope a (typed_of x)
-    → HasType scope (T.scale s o a k) (scaled t u (typed_of y) k.value)
-scale_is scope s o a k x y u t ye ue w h =
-    let R : TypedExpr → Type 0 = λ z. HasType scope (T.scale s o a k) (scaled t u (typed_of z) k.value) in
-    let Q : Scaling → Type 0 = λ v. HasType scope (T.scale s o a k) (scaled t v (typed_of x) k.value) in
-    subst R (sym ye) (subst Q (sym ue) (H.scale h (ap (λ z. scaling_type (scaling_of o) z k.value) (type_at x.ty x.node) ∙ w)))
+pub scale_is : (scope : Scope) (s : Span) (o : Scaling) (a : Tree) (k : Literal) (x y : TypedExpr) (t : Ty)
+    → y ≡ x → scaling_type o x.ty k.value ≡ Some t → HasType scope a (typed_of x)
+    → HasType scope (T.scale s o a k) (scaled t o (typed_of y) k.value)
+scale_is scope s o a k x y t ye w h =
+    let R : TypedExpr → Type 0 = λ z. HasType scope (T.scale s o a k) (scaled t o (typed_of z) k.value) in
+    subst R (sym ye) (H.scale h (ap (λ z. scaling_type o z k.value) (type_at x.ty x.node) ∙ w))
 
 pub cast_is : (scope : Scope) (s : Span) (a : Tree) (w : TypeWord) (x y : TypedExpr) (t : Ty)
     → y ≡ x → t ≡ w.ty → IsType t → HasType scope a (typed_of x) → HasType scope (T.cast s a w) (converted t Cast (typed_of y))
@@ -297,22 +289,22 @@ lifted P Q g (Fault f) h = g f h
 lifted P Q g OutOfMemory h = tt
 
 module _ (scope : Scope) (s : Span) (x : TypeError) where
-  pub stops_unary : (o : UnaryOperator) (l : Expr) (a : Tree) → tree_of l ≡ a → Stops (Faulty scope (tree_of l)) x → Stops (Faulty scope (T.unary s o a)) x
+  pub stops_unary : (o : Unary) (l : Expr) (a : Tree) → tree_of l ≡ a → Stops (Faulty scope (tree_of l)) x → Stops (Faulty scope (T.unary s o a)) x
   stops_unary o l a e h = let P : Tree → Type 0 = λ t. Stops (Faulty scope (T.unary s o t)) x in
       subst P e (lifted (Faulty scope (tree_of l)) (Faulty scope (T.unary s o (tree_of l))) (λ f g. F.in_unary g) x h)
 
-  pub stops_left : (o : BinaryOperator) (l : Expr) (a b : Tree) → tree_of l ≡ a → Stops (Faulty scope (tree_of l)) x → Stops (Faulty scope (T.binary s o a b)) x
+  pub stops_left : (o : Binary) (l : Expr) (a b : Tree) → tree_of l ≡ a → Stops (Faulty scope (tree_of l)) x → Stops (Faulty scope (T.binary s o a b)) x
   stops_left o l a b e h = let P : Tree → Type 0 = λ t. Stops (Faulty scope (T.binary s o t b)) x in
       subst P e (lifted (Faulty scope (tree_of l)) (Faulty scope (T.binary s o (tree_of l) b)) (λ f g. F.in_left g) x h)
 
-  pub stops_right : (o : BinaryOperator) (l r : Expr) (a b : Tree) (t : Typed) → tree_of l ≡ a → tree_of r ≡ b → HasType scope (tree_of l) t
+  pub stops_right : (o : Binary) (l r : Expr) (a b : Tree) (t : Typed) → tree_of l ≡ a → tree_of r ≡ b → HasType scope (tree_of l) t
       → Stops (Faulty scope (tree_of r)) x → Stops (Faulty scope (T.binary s o a b)) x
   stops_right o l r a b t d e i h =
       let P : Tree → Type 0 = λ u. Stops (Faulty scope (T.binary s o u b)) x in
       let Q : Tree → Type 0 = λ u. Stops (Faulty scope (T.binary s o (tree_of l) u)) x in
       subst P d (subst Q e (lifted (Faulty scope (tree_of r)) (Faulty scope (T.binary s o (tree_of l) (tree_of r))) (λ f g. F.in_right i g) x h))
 
-  pub stops_scale : (o : ScaleOperator) (k : Literal) (l : Expr) (a : Tree) → tree_of l ≡ a → Stops (Faulty scope (tree_of l)) x → Stops (Faulty scope (T.scale s o a k)) x
+  pub stops_scale : (o : Scaling) (k : Literal) (l : Expr) (a : Tree) → tree_of l ≡ a → Stops (Faulty scope (tree_of l)) x → Stops (Faulty scope (T.scale s o a k)) x
   stops_scale o k l a e h = let P : Tree → Type 0 = λ t. Stops (Faulty scope (T.scale s o t k)) x in
       subst P e (lifted (Faulty scope (tree_of l)) (Faulty scope (T.scale s o (tree_of l) k)) (λ f g. F.in_scale g) x h)
 

@@ -9,6 +9,11 @@ use Rattle.std.proofs.lemmas.Option.{slice_get-get_or}
 use Rattle.dk_base.specs.declared.span.Span.{Span}
 use Rattle.dk_base.specs.declared.ty.Ty.{Ty}
 use Rattle.dk_base.specs.declared.ty.Ty.TheVariants.{Unsigned}
+use Rattle.dk_base.specs.declared.operator.Unary.{Unary}
+use Rattle.dk_base.specs.declared.operator.Unary.TheVariants.{Negate, Not, Abs}
+use Rattle.dk_base.specs.declared.operator.Binary.{Binary}
+use Rattle.dk_base.specs.declared.operator.Scaling.{Scaling}
+use Rattle.dk_base.specs.declared.operator.Scaling.TheVariants.{ShiftLeft, ShiftRight, Divide}
 use Rattle.dk_base.specs.Types.{width_of, is_signed, is_bit, common_type, negation_type, shifted_type}
 use Rattle.dk_base.specs.Operators.{limited, unary_type, is_bitwise, are_operands, binary_type, scaling_type}
 use Rattle.dk_parser.specs.declared.tree.Literal.{Literal}
@@ -16,11 +21,6 @@ use Rattle.dk_parser.specs.declared.tree.Name.{Name}
 use Rattle.dk_parser.specs.declared.tree.Input.{Input}
 use Rattle.dk_parser.specs.declared.tree.Offset.{Offset}
 use Rattle.dk_parser.specs.declared.tree.ImageRead.{ImageRead}
-use Rattle.dk_parser.specs.declared.tree.UnaryOperator.{UnaryOperator}
-use Rattle.dk_parser.specs.declared.tree.UnaryOperator.TheVariants.{Negate, Not, Absolute}
-use Rattle.dk_parser.specs.declared.tree.BinaryOperator.{BinaryOperator}
-use Rattle.dk_parser.specs.declared.tree.ScaleOperator.{ScaleOperator}
-use Rattle.dk_parser.specs.declared.tree.ScaleOperator.TheVariants.{ShiftLeft, ShiftRight, Divide}
 use Rattle.dk_parser.specs.Tree.{Tree}
 use Rattle.dk_parser.specs.Tree as T
 use Rattle.dk_parser.specs.Programs.{Source}
@@ -30,7 +30,7 @@ use Rattle.dk_types.specs.declared.typed.TypedInput.{TypedInput}
 use Rattle.dk_types.specs.Typed.{Typed, type_of, Definition, Typing}
 use Rattle.dk_types.specs.Scopes.{Named, Scope, IsImage, image_of, types_in, is_same, inputs_scope, scope_of, name_among}
 use Rattle.dk_types.specs.Sequences.{Each, First, none, next, here, later}
-use Rattle.dk_types.specs.Operations.{unary_of, binary_of, scaling_of, amount_of}
+use Rattle.dk_types.specs.Offsets.{amount_of}
 use Rattle.dk_types.specs.Types.{HasType, declared_type, IsInput, IsDefinition, IsOutput, IsTyping, HasNumbers}
 use Rattle.dk_types.specs.Types as H
 use Rattle.dk_types.specs.Faults.{Faulty, InputFault, DefinitionFault, OutputFault, IsFirstFault}
@@ -96,25 +96,25 @@ read_judged scope s r = elim (some_or_none (image_of scope r.name.text)) [
 ]
 
 -- operators
-unary_refused : (scope : Scope) (s : Span) (o : UnaryOperator) (a : Tree) (e : Typed) → HasType scope a e → unary_type (unary_of o) (type_of e) ≡ None → (f : TypeFault) × Faulty scope (T.unary s o a) f
+unary_refused : (scope : Scope) (s : Span) (o : Unary) (a : Tree) (e : Typed) → HasType scope a e → unary_type o (type_of e) ≡ None → (f : TypeFault) × Faulty scope (T.unary s o a) f
 unary_refused scope s Negate a e h nothing = (_, F.wide_negation h (wide (negation_type (type_of e)) nothing))
 unary_refused scope s Not a e h nothing = elim (none_by_test (is_bit (type_of e)) (Some (type_of e)) nothing) [ inl fails ↦ (_, F.not_a_bit h fails) | inr holds ↦ no_some (type_of e) holds.1 ]
-unary_refused scope s Absolute a e h nothing = no_some _ nothing
+unary_refused scope s Abs a e h nothing = no_some _ nothing
 
-binary_refused : (scope : Scope) (s : Span) (o : BinaryOperator) (a b : Tree) (e f : Typed) → HasType scope a e → HasType scope b f → binary_type (binary_of o) (type_of e) (type_of f) ≡ None →
+binary_refused : (scope : Scope) (s : Span) (o : Binary) (a b : Tree) (e f : Typed) → HasType scope a e → HasType scope b f → binary_type o (type_of e) (type_of f) ≡ None →
     (g : TypeFault) × Faulty scope (T.binary s o a b) g
-binary_refused scope s o a b e f h k nothing = by (is_bitwise (binary_of o)) (is_signed (type_of e)) (is_signed (type_of f)) refl refl refl
+binary_refused scope s o a b e f h k nothing = by (is_bitwise o) (is_signed (type_of e)) (is_signed (type_of f)) refl refl refl
   where
-    taken : (p x y : Bool) → is_bitwise (binary_of o) ≡ p → is_signed (type_of e) ≡ x → is_signed (type_of f) ≡ y → not (p && (x || y)) ≡ true → are_operands (binary_of o) (type_of e) (type_of f) ≡ true
+    taken : (p x y : Bool) → is_bitwise o ≡ p → is_signed (type_of e) ≡ x → is_signed (type_of f) ≡ y → not (p && (x || y)) ≡ true → are_operands o (type_of e) (type_of f) ≡ true
     taken p x y is left right holds = ap (λ q. not (q && (is_signed (type_of e) || is_signed (type_of f)))) is ∙ ap (λ q. not (p && (q || is_signed (type_of f)))) left ∙ ap (λ q. not (p && (x || q))) right ∙ holds
 
-    by : (p x y : Bool) → is_bitwise (binary_of o) ≡ p → is_signed (type_of e) ≡ x → is_signed (type_of f) ≡ y → (g : TypeFault) × Faulty scope (T.binary s o a b) g
+    by : (p x y : Bool) → is_bitwise o ≡ p → is_signed (type_of e) ≡ x → is_signed (type_of f) ≡ y → (g : TypeFault) × Faulty scope (T.binary s o a b) g
     by true true y is left right = (_, F.signed_left h k is left)
     by true false true is left right = (_, F.signed_right h k is left right)
     by true false false is left right = (_, F.wide_result h k (taken true false false is left right refl) nothing)
     by false x y is left right = (_, F.wide_result h k (taken false x y is left right refl) nothing)
 
-scale_refused : (scope : Scope) (s : Span) (o : ScaleOperator) (a : Tree) (k : Literal) (e : Typed) → HasType scope a e → scaling_type (scaling_of o) (type_of e) k.value ≡ None → (f : TypeFault) × Faulty scope (T.scale s o a k) f
+scale_refused : (scope : Scope) (s : Span) (o : Scaling) (a : Tree) (k : Literal) (e : Typed) → HasType scope a e → scaling_type o (type_of e) k.value ≡ None → (f : TypeFault) × Faulty scope (T.scale s o a k) f
 scale_refused scope s ShiftLeft a k e h nothing = elim (none_by_test (nat_le k.value 63) (limited (shifted_type (type_of e) k.value)) nothing) [
   | inl fails ↦ (_, F.far_shift h (λ (d : ShiftLeft ≡ Divide). let other : ⊥ = cc in other) (let far : 63 < k.value = grind (arith, fails) in far))
   | inr holds ↦ let test = holds.0 in (_, F.wide_shift h (let near : k.value ≤ 63 = grind (arith, test) in near) (wide (shifted_type (type_of e) k.value) holds.1))
@@ -144,13 +144,13 @@ expression scope (T.number s v) h = inl (_, H.literal h)
 expression scope (T.read s r) h = read_judged scope s r
 expression scope (T.unary s o a) h = elim (expression scope a h) [
   | inr bad ↦ inr (bad.0, F.in_unary bad.1)
-  | inl good ↦ elim (some_or_none (unary_type (unary_of o) (type_of good.0))) [ inl some ↦ inl (_, H.unary good.1 some.1) | inr nothing ↦ inr (unary_refused scope s o a good.0 good.1 nothing) ]
+  | inl good ↦ elim (some_or_none (unary_type o (type_of good.0))) [ inl some ↦ inl (_, H.unary good.1 some.1) | inr nothing ↦ inr (unary_refused scope s o a good.0 good.1 nothing) ]
 ]
 expression scope (T.binary s o a b) h = elim (expression scope a h.0) [
   | inr bad ↦ inr (bad.0, F.in_left bad.1)
   | inl left ↦ elim (expression scope b h.1) [
     | inr bad ↦ inr (bad.0, F.in_right left.1 bad.1)
-    | inl right ↦ elim (some_or_none (binary_type (binary_of o) (type_of left.0) (type_of right.0))) [
+    | inl right ↦ elim (some_or_none (binary_type o (type_of left.0) (type_of right.0))) [
       | inl some ↦ inl (_, H.binary left.1 right.1 some.1)
       | inr nothing ↦ inr (binary_refused scope s o a b left.0 right.0 left.1 right.1 nothing)
     ]
@@ -158,7 +158,7 @@ expression scope (T.binary s o a b) h = elim (expression scope a h.0) [
 ]
 expression scope (T.scale s o a k) h = elim (expression scope a h) [
   | inr bad ↦ inr (bad.0, F.in_scale bad.1)
-  | inl good ↦ elim (some_or_none (scaling_type (scaling_of o) (type_of good.0) k.value)) [ inl some ↦ inl (_, H.scale good.1 some.1) | inr nothing ↦ inr (scale_refused scope s o a k good.0 good.1 nothing) ]
+  | inl good ↦ elim (some_or_none (scaling_type o (type_of good.0) k.value)) [ inl some ↦ inl (_, H.scale good.1 some.1) | inr nothing ↦ inr (scale_refused scope s o a k good.0 good.1 nothing) ]
 ]
 expression scope (T.cast s a w) h = elim (expression scope a h) [
   | inr bad ↦ inr (bad.0, F.in_cast bad.1)

@@ -3,6 +3,11 @@ use Rattle.std.specs.Prelude.{◌≡◌, ◌≢◌, ℕ, ◌≤◌, ◌<◌, Lis
 use Rattle.dk_base.specs.declared.TheConstants.{MAX_INPUTS, MAX_DEFINITIONS, MAX_OUTPUTS, MAX_OFFSET, MAX_WIDTH, MAX_SHIFT}
 use Rattle.dk_base.specs.declared.span.Span.{Span}
 use Rattle.dk_base.specs.declared.ty.Ty.{Ty}
+use Rattle.dk_base.specs.declared.operator.Unary.{Unary}
+use Rattle.dk_base.specs.declared.operator.Unary.TheVariants.{Negate, Not}
+use Rattle.dk_base.specs.declared.operator.Binary.{Binary}
+use Rattle.dk_base.specs.declared.operator.Scaling.{Scaling}
+use Rattle.dk_base.specs.declared.operator.Scaling.TheVariants.{ShiftLeft, Divide}
 use Rattle.dk_base.specs.Types.{IsType, width_of, is_signed, is_bit, common_type, negation_type, shifted_type}
 use Rattle.dk_base.specs.Operators.{is_bitwise, are_operands, binary_type}
 use Rattle.dk_parser.specs.declared.tree.Literal.{Literal}
@@ -11,11 +16,6 @@ use Rattle.dk_parser.specs.declared.tree.Name.{Name}
 use Rattle.dk_parser.specs.declared.tree.Input.{Input}
 use Rattle.dk_parser.specs.declared.tree.Offset.{Offset}
 use Rattle.dk_parser.specs.declared.tree.ImageRead.{ImageRead}
-use Rattle.dk_parser.specs.declared.tree.UnaryOperator.{UnaryOperator}
-use Rattle.dk_parser.specs.declared.tree.UnaryOperator.TheVariants.{Negate, Not}
-use Rattle.dk_parser.specs.declared.tree.BinaryOperator.{BinaryOperator}
-use Rattle.dk_parser.specs.declared.tree.ScaleOperator.{ScaleOperator}
-use Rattle.dk_parser.specs.declared.tree.ScaleOperator.TheVariants.{ShiftLeft, Divide}
 use Rattle.dk_parser.specs.Tree.{Tree, span_of}
 use Rattle.dk_parser.specs.Tree as T
 use Rattle.dk_parser.specs.Programs.{Source}
@@ -29,7 +29,7 @@ use Rattle.dk_types.specs.declared.typed.TypedInput.{TypedInput}
 use Rattle.dk_types.specs.Typed.{Typed, type_of, Definition}
 use Rattle.dk_types.specs.Scopes.{Scope, IsImage, IsUnknown, image_of, inputs_scope, scope_of, name_among}
 use Rattle.dk_types.specs.Sequences.{First}
-use Rattle.dk_types.specs.Operations.{binary_of, amount_of}
+use Rattle.dk_types.specs.Offsets.{amount_of}
 use Rattle.dk_base.specs.Types.{IsPort}
 use Rattle.dk_types.specs.Types.{HasType, IsSide, Takes, declared_type, IsInput, IsDefinition, IsOutput, AreInputs, AreDefinitions}
 
@@ -49,29 +49,29 @@ pub data Faulty (scope : Scope) : Tree → TypeFault → Type 0 where
       → IsImage scope r.name.text g t → amount_of r.x ≤ MAX_OFFSET → r.y ≡ Some o → MAX_OFFSET < o.amount.value
       → Faulty scope (T.read s r) (at o.amount.span OffsetRange)
   -- an operator of one operand
-  in_unary : {s : Span} {o : UnaryOperator} {a : Tree} {f : TypeFault} → Faulty scope a f → Faulty scope (T.unary s o a) f
+  in_unary : {s : Span} {o : Unary} {a : Tree} {f : TypeFault} → Faulty scope a f → Faulty scope (T.unary s o a) f
   not_a_bit : {s : Span} {a : Tree} {e : Typed} → HasType scope a e → is_bit (type_of e) ≡ false → Faulty scope (T.unary s Not a) (at (span_of a) NotOneBit)
   wide_negation : {s : Span} {a : Tree} {e : Typed}
       → HasType scope a e → MAX_WIDTH < width_of (negation_type (type_of e)) → Faulty scope (T.unary s Negate a) (at s WidthTooGreat)
   -- an operator of two operands
-  in_left : {s : Span} {o : BinaryOperator} {a b : Tree} {f : TypeFault} → Faulty scope a f → Faulty scope (T.binary s o a b) f
-  in_right : {s : Span} {o : BinaryOperator} {a b : Tree} {e : Typed} {f : TypeFault}
+  in_left : {s : Span} {o : Binary} {a b : Tree} {f : TypeFault} → Faulty scope a f → Faulty scope (T.binary s o a b) f
+  in_right : {s : Span} {o : Binary} {a b : Tree} {e : Typed} {f : TypeFault}
       → HasType scope a e → Faulty scope b f → Faulty scope (T.binary s o a b) f
-  signed_left : {s : Span} {o : BinaryOperator} {a b : Tree} {e f : Typed}
-      → HasType scope a e → HasType scope b f → is_bitwise (binary_of o) ≡ true → is_signed (type_of e) ≡ true
+  signed_left : {s : Span} {o : Binary} {a b : Tree} {e f : Typed}
+      → HasType scope a e → HasType scope b f → is_bitwise o ≡ true → is_signed (type_of e) ≡ true
       → Faulty scope (T.binary s o a b) (at (span_of a) SignedBits)
-  signed_right : {s : Span} {o : BinaryOperator} {a b : Tree} {e f : Typed}
-      → HasType scope a e → HasType scope b f → is_bitwise (binary_of o) ≡ true → is_signed (type_of e) ≡ false → is_signed (type_of f) ≡ true
+  signed_right : {s : Span} {o : Binary} {a b : Tree} {e f : Typed}
+      → HasType scope a e → HasType scope b f → is_bitwise o ≡ true → is_signed (type_of e) ≡ false → is_signed (type_of f) ≡ true
       → Faulty scope (T.binary s o a b) (at (span_of b) SignedBits)
-  wide_result : {s : Span} {o : BinaryOperator} {a b : Tree} {e f : Typed}
-      → HasType scope a e → HasType scope b f → are_operands (binary_of o) (type_of e) (type_of f) ≡ true
-      → binary_type (binary_of o) (type_of e) (type_of f) ≡ None
+  wide_result : {s : Span} {o : Binary} {a b : Tree} {e f : Typed}
+      → HasType scope a e → HasType scope b f → are_operands o (type_of e) (type_of f) ≡ true
+      → binary_type o (type_of e) (type_of f) ≡ None
       → Faulty scope (T.binary s o a b) (at s WidthTooGreat)
   -- a division or a shift by a number
-  in_scale : {s : Span} {o : ScaleOperator} {a : Tree} {k : Literal} {f : TypeFault} → Faulty scope a f → Faulty scope (T.scale s o a k) f
+  in_scale : {s : Span} {o : Scaling} {a : Tree} {k : Literal} {f : TypeFault} → Faulty scope a f → Faulty scope (T.scale s o a k) f
   zero_divisor : {s : Span} {a : Tree} {k : Literal} {e : Typed}
       → HasType scope a e → k.value ≡ 0 → Faulty scope (T.scale s Divide a k) (at k.span ZeroDivisor)
-  far_shift : {s : Span} {o : ScaleOperator} {a : Tree} {k : Literal} {e : Typed}
+  far_shift : {s : Span} {o : Scaling} {a : Tree} {k : Literal} {e : Typed}
       → HasType scope a e → o ≢ Divide → MAX_SHIFT < k.value → Faulty scope (T.scale s o a k) (at k.span ShiftRange)
   wide_shift : {s : Span} {a : Tree} {k : Literal} {e : Typed}
       → HasType scope a e → k.value ≤ MAX_SHIFT → MAX_WIDTH < width_of (shifted_type (type_of e) k.value)

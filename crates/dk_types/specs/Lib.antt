@@ -2,7 +2,7 @@ pub mod Typed
 pub mod Scopes
 pub mod Entries
 pub mod Sequences
-pub mod Operations
+pub mod Offsets
 pub mod Types
 pub mod Faults
 pub mod Found

@@ -5,6 +5,9 @@ use Rattle.dk_base.specs.declared.span.Span.{Span}
 use Rattle.dk_base.specs.declared.ty.Ty.{Ty}
 use Rattle.dk_base.specs.declared.ty.Ty.TheVariants.{Unsigned, Signed}
 use Rattle.dk_base.specs.declared.operator.Conversion.TheVariants.{Cast, Saturate}
+use Rattle.dk_base.specs.declared.operator.Unary.{Unary}
+use Rattle.dk_base.specs.declared.operator.Binary.{Binary}
+use Rattle.dk_base.specs.declared.operator.Scaling.{Scaling}
 use Rattle.dk_base.specs.Types.{IsType, IsPort, converts}
 use Rattle.dk_base.specs.Operators.{literal_type, unary_type, binary_type, scaling_type, select_type}
 use Rattle.dk_parser.specs.declared.tree.Literal.{Literal}
@@ -12,9 +15,6 @@ use Rattle.dk_parser.specs.declared.tree.TypeWord.{TypeWord}
 use Rattle.dk_parser.specs.declared.tree.Name.{Name}
 use Rattle.dk_parser.specs.declared.tree.Input.{Input}
 use Rattle.dk_parser.specs.declared.tree.ImageRead.{ImageRead}
-use Rattle.dk_parser.specs.declared.tree.UnaryOperator.{UnaryOperator}
-use Rattle.dk_parser.specs.declared.tree.BinaryOperator.{BinaryOperator}
-use Rattle.dk_parser.specs.declared.tree.ScaleOperator.{ScaleOperator}
 use Rattle.dk_parser.specs.Tree.{Tree}
 use Rattle.dk_parser.specs.Tree as T
 use Rattle.dk_parser.specs.Programs.{Source}
@@ -23,7 +23,7 @@ use Rattle.dk_types.specs.declared.typed.TypedInput.{TypedInput}
 use Rattle.dk_types.specs.Typed.{Typed, constant, fetch, single, double, scaled, converted, chosen, type_of, Definition, Typing}
 use Rattle.dk_types.specs.Scopes.{Scope, IsImage, IsUnknown, inputs_scope, scope_of, name_among}
 use Rattle.dk_types.specs.Sequences.{Each}
-use Rattle.dk_types.specs.Operations.{unary_of, binary_of, scaling_of, amount_of, offset_of}
+use Rattle.dk_types.specs.Offsets.{amount_of, offset_of}
 
 -- HasType scope e t: where the images of the scope may be read, the expression e is t, each part of it with its type.
 pub data HasType (scope : Scope) : Tree → Typed → Type 0 where
@@ -33,15 +33,15 @@ pub data HasType (scope : Scope) : Tree → Typed → Type 0 where
   read : {s : Span} {r : ImageRead} {g : ℕ} {t : Ty}
       → IsImage scope r.name.text g t → amount_of r.x ≤ MAX_OFFSET → amount_of r.y ≤ MAX_OFFSET
       → HasType scope (T.read s r) (fetch t (record { image = g; dx = offset_of r.x; dy = offset_of r.y; clamped = r.clamped }))
-  unary : {s : Span} {o : UnaryOperator} {a : Tree} {e : Typed} {t : Ty}
-      → HasType scope a e → unary_type (unary_of o) (type_of e) ≡ Some t
-      → HasType scope (T.unary s o a) (single t (unary_of o) e)
-  binary : {s : Span} {o : BinaryOperator} {a b : Tree} {e f : Typed} {t : Ty}
-      → HasType scope a e → HasType scope b f → binary_type (binary_of o) (type_of e) (type_of f) ≡ Some t
-      → HasType scope (T.binary s o a b) (double t (binary_of o) e f)
-  scale : {s : Span} {o : ScaleOperator} {a : Tree} {k : Literal} {e : Typed} {t : Ty}
-      → HasType scope a e → scaling_type (scaling_of o) (type_of e) k.value ≡ Some t
-      → HasType scope (T.scale s o a k) (scaled t (scaling_of o) e k.value)
+  unary : {s : Span} {o : Unary} {a : Tree} {e : Typed} {t : Ty}
+      → HasType scope a e → unary_type o (type_of e) ≡ Some t
+      → HasType scope (T.unary s o a) (single t o e)
+  binary : {s : Span} {o : Binary} {a b : Tree} {e f : Typed} {t : Ty}
+      → HasType scope a e → HasType scope b f → binary_type o (type_of e) (type_of f) ≡ Some t
+      → HasType scope (T.binary s o a b) (double t o e f)
+  scale : {s : Span} {o : Scaling} {a : Tree} {k : Literal} {e : Typed} {t : Ty}
+      → HasType scope a e → scaling_type o (type_of e) k.value ≡ Some t
+      → HasType scope (T.scale s o a k) (scaled t o e k.value)
   cast : {s : Span} {a : Tree} {w : TypeWord} {e : Typed}
       → HasType scope a e → IsType w.ty → HasType scope (T.cast s a w) (converted w.ty Cast e)
   saturate : {s : Span} {a : Tree} {w : TypeWord} {e : Typed}

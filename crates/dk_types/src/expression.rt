@@ -6,17 +6,15 @@ ghost use Rattle.dk_base.specs.Types.{IsType};
 ghost use Rattle.dk_parser.specs.Tree.{tree_of};
 ghost use Rattle.dk_parser.specs.Tree as T;
 ghost use Rattle.dk_types.specs.Scopes.{Scope as Names};
-ghost use Rattle.dk_types.specs.Operations.{offset_of, amount_of};
+ghost use Rattle.dk_types.specs.Offsets.{offset_of, amount_of};
 ghost use Rattle.dk_types.specs.Found.{Judged, IsTypedAs, IsFarAt};
 
 use crate::fault::{TypeError, TypeFaultKind, fault};
 use crate::operators;
 use crate::scope::Scope;
 use crate::typed::{TypedExpr, TypedNode, TypedRead};
-use dk_base::{Conversion, MAX_OFFSET, Span, Ty, bits_for};
-use dk_parser::{
-    BinaryOperator, Expr, ImageRead, Literal, Node, Offset, ScaleOperator, TypeWord, UnaryOperator,
-};
+use dk_base::{Binary, Conversion, MAX_OFFSET, Scaling, Span, Ty, Unary, bits_for};
+use dk_parser::{Expr, ImageRead, Literal, Node, Offset, TypeWord};
 use std::alloc::Global;
 
 // An offset as a number, or where it is too great.
@@ -73,7 +71,7 @@ fn number(span: Span, value: u64) -> TypedExpr
 fn unary(
     alloc: Global,
     span: Span,
-    operator: UnaryOperator,
+    operator: Unary,
     a: &Expr,
     operand: TypedExpr,
 ) -> Result<TypedExpr, TypeError>
@@ -81,14 +79,14 @@ fn unary(
     ensures { (scope : Names) → IsTypedAs scope (tree_of a.now) operand → Judged scope (T.unary span operator (tree_of a.now)) result }
 {
     let ty = operators::unary_type(span, operator, a.span, operand.ty)?;
-    let node = TypedNode::Unary(operators::unary(operator), Box::new(alloc, operand)?);
+    let node = TypedNode::Unary(operator, Box::new(alloc, operand)?);
     Ok(TypedExpr { ty, node })
 }
 
 fn binary(
     alloc: Global,
     span: Span,
-    operator: BinaryOperator,
+    operator: Binary,
     a: &Expr,
     left: TypedExpr,
     b: &Expr,
@@ -101,14 +99,14 @@ fn binary(
     let ty = operators::binary_type(span, operator, a.span, left.ty, b.span, right.ty)?;
     let left = Box::new(alloc, left)?;
     let right = Box::new(alloc, right)?;
-    let node = TypedNode::Binary(operators::binary(operator), left, right);
+    let node = TypedNode::Binary(operator, left, right);
     Ok(TypedExpr { ty, node })
 }
 
 fn scale(
     alloc: Global,
     span: Span,
-    operator: ScaleOperator,
+    operator: Scaling,
     a: &Expr,
     operand: TypedExpr,
     by: Literal,
@@ -118,7 +116,7 @@ fn scale(
 {
     let ty = operators::scale_type(span, operator, operand.ty, by)?;
     let operand = Box::new(alloc, operand)?;
-    let node = TypedNode::Scale(operators::scaling(operator), operand, by.value);
+    let node = TypedNode::Scale(operator, operand, by.value);
     Ok(TypedExpr { ty, node })
 }
 

@@ -3,7 +3,7 @@
 ghost use Rattle.std.specs.Prelude.{◌≡◌, Some, true, IsTrue, ◌↔◌, IfOk, IfErr, MatchOption};
 ghost use Rattle.dk_base.specs.declared.ty.Ty.{Ty};
 ghost use Rattle.dk_base.specs.Types.{IsType};
-ghost use Rattle.dk_base.specs.Operators.{unary_type as type_of_unary, binary_type as type_of_binary, is_bitwise as works_bit_by_bit, are_operands, scaling_type as type_of_scaling, select_type as type_of_select};
+ghost use Rattle.dk_base.specs.Operators.{unary_type as type_of_unary, binary_type as type_of_binary, are_operands, scaling_type as type_of_scaling, select_type as type_of_select};
 ghost use Rattle.dk_parser.specs.Tree as T;
 ghost use Rattle.dk_parser.specs.Tree.{Tree, span_of};
 ghost use Rattle.dk_types.specs.Scopes.{Scope};
@@ -11,96 +11,44 @@ ghost use Rattle.dk_types.specs.Typed.{Typed, type_of};
 ghost use Rattle.dk_types.specs.Types.{HasType};
 ghost use Rattle.dk_types.specs.Faults.{Faulty, Stops, at};
 ghost use Rattle.dk_types.specs.declared.fault.TypeFaultKind.TheVariants.{SignedBits};
-ghost use Rattle.dk_types.specs.Operations.{unary_of, binary_of, scaling_of};
 
 use crate::fault::{TypeError, TypeFaultKind, fault};
 use dk_base::{Binary, MAX_SHIFT, MAX_WIDTH, Scaling, Span, Ty, Unary};
-use dk_parser::{BinaryOperator, Literal, ScaleOperator, TypeWord, UnaryOperator};
-
-pub(crate) fn unary(operator: UnaryOperator) -> Unary
-    ensures { result ≡ unary_of operator }
-{
-    match operator {
-        UnaryOperator::Negate => Unary::Negate,
-        UnaryOperator::Not => Unary::Not,
-        UnaryOperator::Absolute => Unary::Abs,
-    }
-}
-
-pub(crate) fn binary(operator: BinaryOperator) -> Binary
-    ensures { result ≡ binary_of operator }
-{
-    match operator {
-        BinaryOperator::Less => Binary::Less,
-        BinaryOperator::LessEqual => Binary::LessOrEqual,
-        BinaryOperator::Greater => Binary::Greater,
-        BinaryOperator::GreaterEqual => Binary::GreaterOrEqual,
-        BinaryOperator::Equal => Binary::Equal,
-        BinaryOperator::NotEqual => Binary::NotEqual,
-        BinaryOperator::Or => Binary::Or,
-        BinaryOperator::Xor => Binary::Xor,
-        BinaryOperator::And => Binary::And,
-        BinaryOperator::Add => Binary::Add,
-        BinaryOperator::Subtract => Binary::Subtract,
-        BinaryOperator::Multiply => Binary::Multiply,
-        BinaryOperator::Min => Binary::Min,
-        BinaryOperator::Max => Binary::Max,
-    }
-}
-
-pub(crate) fn scaling(operator: ScaleOperator) -> Scaling
-    ensures { result ≡ scaling_of operator }
-{
-    match operator {
-        ScaleOperator::ShiftLeft => Scaling::ShiftLeft,
-        ScaleOperator::ShiftRight => Scaling::ShiftRight,
-        ScaleOperator::Divide => Scaling::Divide,
-    }
-}
+use dk_parser::{Literal, TypeWord};
 
 // The type of what an operator at `span` gives with an operand at `first`.
 pub(crate) fn unary_type(
     span: Span,
-    operator: UnaryOperator,
+    operator: Unary,
     first: Span,
     operand: Ty,
 ) -> Result<Ty, TypeError>
     requires { IsType operand }
-    ensures typed { IfOk result (λ t. type_of_unary (unary_of operator) operand ≡ Some t) }
+    ensures typed { IfOk result (λ t. type_of_unary operator operand ≡ Some t) }
     ensures is_type { IfOk result (λ t. IsType t) }
     ensures faulty { IfErr result (λ stop. (scope : Scope) (a : Tree) (e : Typed) → HasType scope a e → type_of e ≡ operand → span_of a ≡ first → Stops (Faulty scope (T.unary span operator a)) stop) }
 {
-    match unary(operator).result_type(operand) {
+    match operator.result_type(operand) {
         Some(ty) => Ok(ty),
         None => match operator {
-            UnaryOperator::Not => Err(fault(first, TypeFaultKind::NotOneBit)),
+            Unary::Not => Err(fault(first, TypeFaultKind::NotOneBit)),
             _ => Err(fault(span, TypeFaultKind::WidthTooGreat)),
         },
-    }
-}
-
-// Whether the operator works bit by bit, and so on unsigned operands only.
-fn is_bitwise(operator: BinaryOperator) -> bool
-    ensures { result ≡ works_bit_by_bit (binary_of operator) }
-{
-    match operator {
-        BinaryOperator::And | BinaryOperator::Or | BinaryOperator::Xor => true,
-        _ => false,
     }
 }
 
 // The first operand that is signed where the operator works bit by bit.
 fn signed_operand(
     span: Span,
-    operator: BinaryOperator,
+    operator: Binary,
     first: Span,
     left: Ty,
     second: Span,
     right: Ty,
 ) -> Option<TypeError>
-    ensures { MatchOption result (are_operands (binary_of operator) left right ≡ true) (λ stop. (scope : Scope) (a b : Tree) (e f : Typed) → HasType scope a e → HasType scope b f → type_of e ≡ left → type_of f ≡ right → span_of a ≡ first → span_of b ≡ second → Stops (Faulty scope (T.binary span operator a b)) stop) }
+    ensures { MatchOption result (are_operands operator left right ≡ true) (λ stop. (scope : Scope) (a b : Tree) (e f : Typed) → HasType scope a e → HasType scope b f → type_of e ≡ left → type_of f ≡ right → span_of a ≡ first → span_of b ≡ second → Stops (Faulty scope (T.binary span operator a b)) stop) }
 {
-    if !is_bitwise(operator) {
+    if !operator.is_bitwise() {
         return None;
     }
     if left.is_signed() {
@@ -115,7 +63,7 @@ fn signed_operand(
 // The type of what an operator at `span` gives with operands at `first` and `second`.
 pub(crate) fn binary_type(
     span: Span,
-    operator: BinaryOperator,
+    operator: Binary,
     first: Span,
     left: Ty,
     second: Span,
@@ -123,14 +71,14 @@ pub(crate) fn binary_type(
 ) -> Result<Ty, TypeError>
     requires left { IsType left }
     requires right { IsType right }
-    ensures typed { IfOk result (λ t. type_of_binary (binary_of operator) left right ≡ Some t) }
+    ensures typed { IfOk result (λ t. type_of_binary operator left right ≡ Some t) }
     ensures is_type { IfOk result (λ t. IsType t) }
     ensures faulty { IfErr result (λ stop. (scope : Scope) (a b : Tree) (e f : Typed) → HasType scope a e → HasType scope b f → type_of e ≡ left → type_of f ≡ right → span_of a ≡ first → span_of b ≡ second → Stops (Faulty scope (T.binary span operator a b)) stop) }
 {
     if let Some(stop) = signed_operand(span, operator, first, left, second, right) {
         return Err(stop);
     }
-    match binary(operator).result_type(left, right) {
+    match operator.result_type(left, right) {
         Some(result_ty) => Ok(result_ty),
         None => Err(fault(span, TypeFaultKind::WidthTooGreat)),
     }
@@ -139,19 +87,19 @@ pub(crate) fn binary_type(
 // The type of what a division or a shift at `span` gives.
 pub(crate) fn scale_type(
     span: Span,
-    operator: ScaleOperator,
+    operator: Scaling,
     operand: Ty,
     by: Literal,
 ) -> Result<Ty, TypeError>
     requires { IsType operand }
-    ensures typed { IfOk result (λ t. type_of_scaling (scaling_of operator) operand by.value ≡ Some t) }
+    ensures typed { IfOk result (λ t. type_of_scaling operator operand by.value ≡ Some t) }
     ensures is_type { IfOk result (λ t. IsType t) }
     ensures faulty { IfErr result (λ stop. (scope : Scope) (a : Tree) (e : Typed) → HasType scope a e → type_of e ≡ operand → Stops (Faulty scope (T.scale span operator a by)) stop) }
 {
-    match scaling(operator).result_type(operand, by.value) {
+    match operator.result_type(operand, by.value) {
         Some(ty) => Ok(ty),
         None => match operator {
-            ScaleOperator::Divide => Err(fault(by.span, TypeFaultKind::ZeroDivisor)),
+            Scaling::Divide => Err(fault(by.span, TypeFaultKind::ZeroDivisor)),
             _ if MAX_SHIFT < by.value => Err(fault(by.span, TypeFaultKind::ShiftRange)),
             _ => Err(fault(span, TypeFaultKind::WidthTooGreat)),
         },

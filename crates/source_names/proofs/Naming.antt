@@ -1,5 +1,5 @@
 -- The names of a text's images.
-use Rattle.std.proofs.Common.{◌≡◌, ℕ, true, List, [], length, arith}
+use Rattle.std.proofs.Common.{◌≡◌, ℕ, true, List, length, arith}
 use Rattle.std.proofs.lemmas.List.{length-map, length-append}
 use Rattle.std.proofs.lemmas.List.Elements.{All-from_recursion}
 use Rattle.dk_lexer.specs.declared.token.Token.{Token}
@@ -19,7 +19,7 @@ use Rattle.source_names.proofs.Scoped.{input_names, definition_names, names_dist
 
 pub text_names : (text : List ℕ) (tokens : List Token) (tree : Source) (p : Typing) → HasTokens text tokens → Accepted tokens tree → IsTyping tree p → AreNames (length p.inputs) (image_names p)
 text_names text tokens tree p cut parsed is =
-    let named = tree_named tokens [] tree (spelled cut) parsed.derives in
+    let named = tree_named tokens tree (spelled cut) parsed.derives in
     let typed = typed_is_kept tree p is in
     let few = typed.few_definitions in
     record {

@@ -1,26 +1,21 @@
 -- The names of the items of a program's tree are names of the source language.
-use Rattle.std.proofs.Common.{◌≡◌, true, Bool, List, [], ◌∷◌, ◌++◌, subst}
+use Rattle.std.proofs.Common.{◌≡◌, Bool, true, false, List, [], ◌∷◌, ◌++◌, subst}
 use Rattle.std.specs.List.{AllByRecursion}
 use Rattle.dk_lexer.specs.declared.token.Token.{Token}
-use Rattle.dk_grammar.specs.Reading.{Phrases, Clear, end, link}
-use Rattle.dk_parser.specs.declared.items.Lead.{Lead}
-use Rattle.dk_parser.specs.declared.items.Lead.TheVariants as lead
+use Rattle.dk_grammar.specs.Reading.{Phrases, Clear, Many, none, more}
 use Rattle.dk_parser.specs.declared.tree.Name.{Name}
 use Rattle.dk_parser.specs.declared.tree.Input.{Input}
 use Rattle.dk_parser.specs.Words.{AName}
-use Rattle.dk_parser.specs.Programs.{Source, Definition, Item, input, definition, output, AnInput, ADefinition, AnItem, Items, AProgram, inputs_of, definitions_of}
-use Rattle.dk_parser.proofs.Keeping.{clear_item}
+use Rattle.dk_parser.specs.Programs.{Source, Definition, AnInput, ADefinition}
+use Rattle.dk_parser.specs.Rules.{InputRule, DefinitionRule, plain, inlined}
+use Rattle.dk_parser.specs.Judged.{Derives}
+use Rattle.dk_parser.proofs.Keeping.{clear_input, clear_definition}
 use Rattle.report_text.specs.Names.{is_name}
 use Rattle.source_names.proofs.Spelled.{AllSpelled}
 use Rattle.source_names.proofs.Worded.{token_named}
 
 abbrev pub IsNamed : Name → Type 0
 IsNamed n = is_name n.text ≡ true
-
-abbrev pub IsNamedItem : Item → Type 0
-IsNamedItem (input i) = IsNamed i.name
-IsNamedItem (definition d) = IsNamed d.name
-IsNamedItem (output n) = Unit {0}
 
 later : (o rest : List Token) → AllSpelled (o ++ rest) → AllSpelled rest
 later [] rest all = all
@@ -38,41 +33,41 @@ input_named all (n, a, named, (colon, b, sign, (t, c, typed, (same, done)))) = s
 definition_named : {b : Bool} {ts mid : List Token} {d : Definition} → AllSpelled ts → ADefinition b ts d mid → IsNamed d.name
 definition_named all (n, a, named, (declared, b, is_declared, (header, c, is_header, (e, f, closed, (same, done))))) = subst (λ (d : Definition). IsNamed d.name) same (name_named all named)
 
-item_named : (m : Lead) (ts mid : List Token) (v : Item) → AllSpelled ts → AnItem m ts v mid → IsNamedItem v
-item_named lead.Input ts mid v all (i, a, read, (same, done)) = subst IsNamedItem same (input_named all read)
-item_named lead.Let ts mid v all (d, a, read, (same, done)) = subst IsNamedItem same (definition_named all read)
-item_named lead.Inline ts mid v all (s, a, (tok, at, mark), (d, b, read, (same, done))) = subst IsNamedItem same (definition_named (subst AllSpelled at all).1 read)
-item_named lead.Output ts mid v all (n, a, read, (same, done)) = subst IsNamedItem same tt
-item_named lead.End ts mid v all h = absurd h
+input_left : {ts mid : List Token} {i : Input} → AllSpelled ts → InputRule ts i mid → AllSpelled mid
+input_left all (s, a, (tok, at, is), read) = behind AnInput clear_input read (subst AllSpelled at all).1
 
-items_named : {m : Lead} {ts rest : List Token} {vs : List Item} → AllSpelled ts → Items m ts vs rest → AllByRecursion IsNamedItem vs
-items_named all (end e) = tt
-items_named all (link {m = m} live item at then' more) =
-    let left = behind (AnItem m) (clear_item m live) item all in
-    (item_named m _ _ _ all item, items_named (subst AllSpelled at left).1 more)
+inputs_named : {ts rest : List Token} {is : List Input} → AllSpelled ts → Many InputRule ts is rest → AllByRecursion (λ (i : Input). IsNamed i.name) is
+inputs_named all none = tt
+inputs_named all (more rule rules) = (input_named (subst AllSpelled rule.2.1 all).1 rule.3, inputs_named (input_left all rule) rules)
+
+inputs_left : {ts rest : List Token} {is : List Input} → AllSpelled ts → Many InputRule ts is rest → AllSpelled rest
+inputs_left all none = all
+inputs_left all (more rule rules) = inputs_left (input_left all rule) rules
+
+rule_named : {ts mid : List Token} {d : Definition} → AllSpelled ts → DefinitionRule ts d mid → IsNamed d.name
+rule_named all (plain (s, a, (tok, at, is), read)) = definition_named (subst AllSpelled at all).1 read
+rule_named all (inlined (s, a, (tok, at, is), (z, b, (next, there, word), read))) = definition_named (subst AllSpelled there (subst AllSpelled at all).1).1 read
+
+rule_left : {ts mid : List Token} {d : Definition} → AllSpelled ts → DefinitionRule ts d mid → AllSpelled mid
+rule_left all (plain (s, a, (tok, at, is), read)) = behind (ADefinition false) (clear_definition false) read (subst AllSpelled at all).1
+rule_left all (inlined (s, a, (tok, at, is), (z, b, (next, there, word), read))) =
+    behind (ADefinition true) (clear_definition true) read (subst AllSpelled there (subst AllSpelled at all).1).1
+
+definitions_named : {ts rest : List Token} {ds : List Definition} → AllSpelled ts → Many DefinitionRule ts ds rest → AllByRecursion (λ (d : Definition). IsNamed d.name) ds
+definitions_named all none = tt
+definitions_named all (more rule rules) = (rule_named all rule, definitions_named (rule_left all rule) rules)
 
 -- all inputs and definitions of a tree have names
 pub record AreNamed (tree : Source) : Type 0 where
   pub inputs : AllByRecursion (λ (i : Input). IsNamed i.name) tree.inputs
   pub definitions : AllByRecursion (λ (d : Definition). IsNamed d.name) tree.definitions
 
-inputs_named : (vs : List Item) → AllByRecursion IsNamedItem vs → AllByRecursion (λ (i : Input). IsNamed i.name) (inputs_of vs)
-inputs_named [] all = tt
-inputs_named (input i ∷ vs) all = (all.0, inputs_named vs all.1)
-inputs_named (definition d ∷ vs) all = inputs_named vs all.1
-inputs_named (output n ∷ vs) all = inputs_named vs all.1
-
-definitions_named : (vs : List Item) → AllByRecursion IsNamedItem vs → AllByRecursion (λ (d : Definition). IsNamed d.name) (definitions_of vs)
-definitions_named [] all = tt
-definitions_named (input i ∷ vs) all = definitions_named vs all.1
-definitions_named (definition d ∷ vs) all = (all.0, definitions_named vs all.1)
-definitions_named (output n ∷ vs) all = definitions_named vs all.1
-
-pub tree_named : (ts rest : List Token) (p : Source) → AllSpelled ts → AProgram ts p rest → AreNamed p
-tree_named ts rest p all (s, a, (st, sat, sm), (w, b, (wt, wat, wm), (h, c, (ht, hat, hm), (i, d, (it, iat, im), (vs, e, items, (same, done)))))) =
+pub tree_named : (ts : List Token) (p : Source) → AllSpelled ts → Derives ts p → AreNamed p
+tree_named ts p all (s, a, (st, sat, sm), (w, b, (wt, wat, wm), (h, c, (ht, hat, hm), (is, d, (i, e, first, (js, f, others, (whole, left))), (ds, g, definitions, (os, k, outputs, (z, l, ends, (same, done)))))))) =
     let all_a = (subst AllSpelled sat all).1 in
     let all_b = (subst AllSpelled wat all_a).1 in
     let all_c = (subst AllSpelled hat all_b).1 in
-    let all_d = (subst AllSpelled iat all_c).1 in
-    let named = items_named all_d items in
-    subst AreNamed same (record { inputs = inputs_named vs named; definitions = definitions_named vs named })
+    let named = inputs_named all_c (more first others) in
+    let all_d = subst AllSpelled left (inputs_left all_c (more first others)) in
+    let inputs = subst (λ (xs : List Input). AllByRecursion (λ (i : Input). IsNamed i.name) xs) whole named in
+    subst AreNamed same (record { inputs = inputs; definitions = definitions_named all_d definitions })

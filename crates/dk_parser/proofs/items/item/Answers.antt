@@ -4,7 +4,7 @@ use Rattle.dk_grammar.proofs.Clears.{clear_then, clear_done}
 use Rattle.dk_grammar.proofs.Stucks as T
 use Rattle.dk_parser.specs.declared.terminal.Keyword.TheVariants as word
 use Rattle.dk_parser.specs.declared.terminal.Mark.TheVariants as mark
-use Rattle.dk_parser.specs.Programs as P
+use Rattle.dk_parser.specs.Items as P
 use Rattle.dk_parser.proofs.Tokens as K
 use Rattle.dk_parser.proofs.Stucks as S
 use Rattle.dk_parser.proofs.Keeping as Q

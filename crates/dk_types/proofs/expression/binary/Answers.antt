@@ -11,6 +11,6 @@ returns-in_err-ty c = λ scope h g.
 
 pub returns : goal.returns
 returns c = λ scope h g. record {
-  has = R.binary_is scope c.args.span c.args.operator (tree_of c.args.a.now) (tree_of c.args.b.now) c.args.left c.args.right c.in_ok-left.left.value c.in_ok-right.right.value c.binary.result c.in_ok-ty.ty c.in_ok-left.ensures.ok c.in_ok-right.ensures.ok c.binary.ensures c.in_ok-ty.ensures.typed h.has g.has;
+  has = R.binary_is scope c.args.span c.args.operator (tree_of c.args.a.now) (tree_of c.args.b.now) c.args.left c.args.right c.in_ok-left.left.value c.in_ok-right.right.value c.in_ok-ty.ty c.in_ok-left.ensures.ok c.in_ok-right.ensures.ok c.in_ok-ty.ensures.typed h.has g.has;
   is_type = c.in_ok-ty.ensures.is_type;
 }

@@ -4,6 +4,6 @@ use Rattle.dk_types.proofs.expression.scale.Goals as goal
 
 pub returns : goal.returns
 returns c = λ scope h. record {
-  has = R.scale_is scope c.args.span c.args.operator (tree_of c.args.a.now) c.args.by c.args.operand c.in_ok-operand.operand.value c.scaling.result c.in_ok-ty.ty c.in_ok-operand.ensures.ok c.scaling.ensures c.in_ok-ty.ensures.typed h.has;
+  has = R.scale_is scope c.args.span c.args.operator (tree_of c.args.a.now) c.args.by c.args.operand c.in_ok-operand.operand.value c.in_ok-ty.ty c.in_ok-operand.ensures.ok c.in_ok-ty.ensures.typed h.has;
   is_type = c.in_ok-ty.ensures.is_type;
 }

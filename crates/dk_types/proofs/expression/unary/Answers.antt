@@ -11,6 +11,6 @@ returns-in_err-ty c = λ scope h.
 
 pub returns : goal.returns
 returns c = λ scope h. record {
-  has = R.unary_is scope c.args.span c.args.operator (tree_of c.args.a.now) c.args.operand c.in_ok-new.field-0.value c.unary.result c.in_ok-ty.ty c.in_ok-new.ensures.ok c.unary.ensures c.in_ok-ty.ensures.typed h.has;
+  has = R.unary_is scope c.args.span c.args.operator (tree_of c.args.a.now) c.args.operand c.in_ok-new.field-0.value c.in_ok-ty.ty c.in_ok-new.ensures.ok c.in_ok-ty.ensures.typed h.has;
   is_type = c.in_ok-ty.ensures.is_type;
 }
