@@ -5,40 +5,46 @@ ghost use Rattle.flow_dual.specs.Tree.{IsTree, Moves, ChangesOnlyOn};
 
 use raster_delay::Constraint;
 
+// The ways from the root to the nodes that are reached: when each was reached (0: not), and the constraint on which it hangs.
+#[derive(Clone, Copy)]
+pub struct Paths<'a> {
+    pub root: usize,
+    pub order: &'a [usize],
+    pub parent: &'a [usize],
+}
+
 // Pushes at most so much flow from the root of a tree to a node, and answers how much.
 pub fn push(
     constraints: &[Constraint],
-    order: &[usize],
-    parent: &[usize],
+    paths: &Paths,
     flow: &mut [u64],
-    root: usize,
     node: usize,
     most: u64,
 ) -> u64
     requires sizes { length flow.old ≡ length constraints.now }
-    requires parents { length parent.now ≡ length order.now }
-    requires tree { IsTree constraints.now flow.old order.now parent.now root }
-    requires reached { 0 < slice_index order.now node }
+    requires parents { length paths.now.parent.now ≡ length paths.now.order.now }
+    requires tree { IsTree constraints.now flow.old paths.now.order.now paths.now.parent.now paths.now.root }
+    requires reached { 0 < slice_index paths.now.order.now node }
     requires some { 0 < most }
     requires room { (i : ℕ) → slice_index flow.old i + most < 2 ^ 64 }
     ensures some { 0 < result }
     ensures most { result ≤ most }
-    ensures moves { Moves constraints.now flow.old flow.new root node result }
-    ensures changes { ChangesOnlyOn order.now parent.now root node flow.old flow.new }
+    ensures moves { Moves constraints.now flow.old flow.new paths.now.root node result }
+    ensures changes { ChangesOnlyOn paths.now.order.now paths.now.parent.now paths.now.root node flow.old flow.new }
     ensures grows { (i : ℕ) → slice_index flow.new i ≤ slice_index flow.old i + result }
 {
-    if node == root {
+    if node == paths.root {
         return most;
     }
-    let i = parent[node];
+    let i = paths.parent[node];
     let c = constraints[i];
     if c.target == node {
-        let amount = push(constraints, order, parent, flow, root, c.source, most);
+        let amount = push(constraints, paths, flow, c.source, most);
         flow[i] += amount;
         amount
     } else {
         let room = most.min(flow[i]);
-        let amount = push(constraints, order, parent, flow, root, c.target, room);
+        let amount = push(constraints, paths, flow, c.target, room);
         flow[i] -= amount;
         amount
     }

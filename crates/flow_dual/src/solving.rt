@@ -12,7 +12,7 @@ use crate::settling::settle;
 use crate::shifting::rebase;
 use crate::simplex::propose;
 use crate::solution::{Numbers, Solution};
-use crate::tree::incidence;
+use crate::tree::{Network, incidence};
 use dk_base::OutOfMemory;
 use raster_delay::{System, begin_numbers, earliest_numbers, end_numbers};
 use std::alloc::Global;
@@ -62,10 +62,15 @@ fn balance(
     ensures { OnOk result (IsOptimum system.now numbers.new flow.new) }
 {
     system.law();
-    let incident = incidence(alloc, system.constraints(), numbers.len())?;
+    let constraints = system.constraints();
+    let incident = incidence(alloc, constraints, numbers.len())?;
+    let network = Network {
+        constraints,
+        incident: &incident,
+    };
     find_flow(alloc, system, &incident, numbers, flow)?;
     rebase(numbers);
-    settle(alloc, system.constraints(), &incident, numbers, flow)?;
+    settle(alloc, &network, numbers, flow)?;
     Ok(())
 }
 

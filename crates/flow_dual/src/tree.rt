@@ -1,4 +1,4 @@
-// The nodes that are reached from a root by tight constraints, and by taking flow back.
+// The nodes that are reached from a root in the residual network: by tight constraints, and by taking flow back.
 
 ghost use Rattle.std.specs.Prelude.{◌≡◌, ◌<◌, ◌≤◌, ℕ, length, slice_index, IfOk};
 ghost use Rattle.flow_dual.specs.Tree.{IsTree, HangsTight, IsClosed, IsClosedAt, IsState, IsSearch, CountsReached};
@@ -8,143 +8,120 @@ use dk_base::OutOfMemory;
 use raster_delay::Constraint;
 use std::alloc::Global;
 
-// Hangs the node that a constraint reaches on it, if there is one. Answers how many nodes are reached then.
-fn cross(
-    constraints: &[Constraint],
-    numbers: &[u64],
-    flow: &[u64],
-    root: usize,
-    order: &mut [usize],
-    parent: &mut [usize],
-    reached: usize,
-    i: usize,
-) -> usize
-    requires state { IsState constraints.now numbers.now flow.now }
-    requires search { IsSearch constraints.now numbers.now flow.now order.old parent.old root reached }
-    requires index { i < length constraints.now }
-    ensures tree { IsTree constraints.now flow.now order.new parent.new root }
-    ensures tight { HangsTight constraints.now numbers.now order.new parent.new root }
-    ensures count { CountsReached order.new result }
-    ensures more { reached ≤ result }
-    ensures same { result ≡ reached → order.new ≡ order.old }
-    ensures closed { result ≡ reached → IsClosedAt constraints.now numbers.now flow.now order.new i }
-{
-    let c = constraints[i];
-    if order[c.source] != 0 && order[c.target] == 0 {
-        if slack(c, numbers) == 0 {
-            order[c.target] = reached + 1;
-            parent[c.target] = i;
-            return reached + 1;
-        }
-        return reached;
-    }
-    if order[c.source] == 0 && order[c.target] != 0 && flow[i] > 0 {
-        order[c.source] = reached + 1;
-        parent[c.source] = i;
-        return reached + 1;
-    }
-    reached
+// The constraints, and for each node the numbers of those at it.
+#[derive(Clone, Copy)]
+pub struct Network<'a> {
+    pub constraints: &'a [Constraint],
+    pub incident: &'a [Vec<usize>],
 }
 
-// Goes once over the constraints, and hangs each node that one of them reaches on it. Answers how many nodes are reached then.
-fn widen(
-    constraints: &[Constraint],
-    numbers: &[u64],
-    flow: &[u64],
-    root: usize,
-    order: &mut [usize],
-    parent: &mut [usize],
-    reached: usize,
-) -> usize
-    requires state { IsState constraints.now numbers.now flow.now }
-    requires search { IsSearch constraints.now numbers.now flow.now order.old parent.old root reached }
-    ensures search { IsSearch constraints.now numbers.now flow.now order.new parent.new root result }
-    ensures more { reached ≤ result }
-    ensures closed { result ≡ reached → IsClosed constraints.now numbers.now flow.now order.new }
+// The residual network: the constraints, the potentials of the nodes, by which some are tight, and the flow, which may be taken back.
+#[derive(Clone, Copy)]
+struct Residual<'a> {
+    constraints: &'a [Constraint],
+    potentials: &'a [u64],
+    flow: &'a [u64],
+}
+
+// A search from a root: how many nodes are reached, and for each node when it was (0: not yet) and the constraint on which it hangs.
+#[derive(Drop)]
+pub struct Tree {
+    pub root: usize,
+    pub reached: usize,
+    pub order: Vec<usize>,
+    pub parent: Vec<usize>,
+}
+
+// Hangs the node that a constraint reaches on it, if there is one.
+fn cross(residual: &Residual, tree: &mut Tree, i: usize)
+    requires state { IsState residual.now.constraints.now residual.now.potentials.now residual.now.flow.now }
+    requires search { IsSearch residual.now.constraints.now residual.now.potentials.now residual.now.flow.now tree.old.order.items tree.old.parent.items tree.old.root tree.old.reached }
+    requires index { i < length residual.now.constraints.now }
+    ensures root { tree.new.root ≡ tree.old.root }
+    ensures orders { length tree.new.order.items ≡ length tree.old.order.items }
+    ensures parents { length tree.new.parent.items ≡ length tree.old.parent.items }
+    ensures tree { IsTree residual.now.constraints.now residual.now.flow.now tree.new.order.items tree.new.parent.items tree.new.root }
+    ensures tight { HangsTight residual.now.constraints.now residual.now.potentials.now tree.new.order.items tree.new.parent.items tree.new.root }
+    ensures count { CountsReached tree.new.order.items tree.new.reached }
+    ensures more { tree.old.reached ≤ tree.new.reached }
+    ensures same { tree.new.reached ≡ tree.old.reached → tree.new.order.items ≡ tree.old.order.items }
+    ensures closed { tree.new.reached ≡ tree.old.reached → IsClosedAt residual.now.constraints.now residual.now.potentials.now residual.now.flow.now tree.new.order.items i }
 {
-    let mut count = reached;
-    for i in 0..constraints.len() {
-        count = cross(constraints, numbers, flow, root, order, parent, count, i);
+    let c = residual.constraints[i];
+    if tree.order[c.source] != 0 && tree.order[c.target] == 0 {
+        if slack(c, residual.potentials) == 0 {
+            tree.reached += 1;
+            tree.order[c.target] = tree.reached;
+            tree.parent[c.target] = i;
+        }
+        return;
     }
-    count
+    if tree.order[c.source] == 0 && tree.order[c.target] != 0 && residual.flow[i] > 0 {
+        tree.reached += 1;
+        tree.order[c.source] = tree.reached;
+        tree.parent[c.source] = i;
+    }
+}
+
+// Goes once over the constraints, and hangs each node that one of them reaches on it.
+fn widen(residual: &Residual, tree: &mut Tree)
+    requires state { IsState residual.now.constraints.now residual.now.potentials.now residual.now.flow.now }
+    requires search { IsSearch residual.now.constraints.now residual.now.potentials.now residual.now.flow.now tree.old.order.items tree.old.parent.items tree.old.root tree.old.reached }
+    ensures root { tree.new.root ≡ tree.old.root }
+    ensures search { IsSearch residual.now.constraints.now residual.now.potentials.now residual.now.flow.now tree.new.order.items tree.new.parent.items tree.new.root tree.new.reached }
+    ensures more { tree.old.reached ≤ tree.new.reached }
+    ensures closed { tree.new.reached ≡ tree.old.reached → IsClosed residual.now.constraints.now residual.now.potentials.now residual.now.flow.now tree.new.order.items }
+{
+    for i in 0..residual.constraints.len() {
+        cross(residual, tree, i);
+    }
 }
 
 // Hangs what these constraints reach, and notes which node was reached at each order.
-fn explore_from(
-    constraints: &[Constraint],
-    numbers: &[u64],
-    flow: &[u64],
-    root: usize,
-    order: &mut [usize],
-    parent: &mut [usize],
-    found: &mut [usize],
-    incident: &[usize],
-    reached: usize,
-) -> usize
-    requires state { IsState constraints.now numbers.now flow.now }
-    requires search { IsSearch constraints.now numbers.now flow.now order.old parent.old root reached }
-    ensures search { IsSearch constraints.now numbers.now flow.now order.new parent.new root result }
-    ensures more { reached ≤ result }
+fn explore_from(residual: &Residual, tree: &mut Tree, found: &mut [usize], incident: &[usize])
+    requires state { IsState residual.now.constraints.now residual.now.potentials.now residual.now.flow.now }
+    requires search { IsSearch residual.now.constraints.now residual.now.potentials.now residual.now.flow.now tree.old.order.items tree.old.parent.items tree.old.root tree.old.reached }
+    ensures root { tree.new.root ≡ tree.old.root }
+    ensures search { IsSearch residual.now.constraints.now residual.now.potentials.now residual.now.flow.now tree.new.order.items tree.new.parent.items tree.new.root tree.new.reached }
+    ensures more { tree.old.reached ≤ tree.new.reached }
 {
-    let mut count = reached;
     for k in 0..incident.len() {
         let i = incident[k];
-        if i < constraints.len() {
-            let more = cross(constraints, numbers, flow, root, order, parent, count, i);
-            if more != count && more < found.len() {
-                let c = constraints[i];
-                found[more] = if order[c.target] == more {
+        if i < residual.constraints.len() {
+            let before = tree.reached;
+            cross(residual, tree, i);
+            let last = tree.reached;
+            if last != before && last < found.len() {
+                let c = residual.constraints[i];
+                found[last] = if tree.order[c.target] == last {
                     c.target
                 } else {
                     c.source
                 };
             }
-            count = more;
         }
     }
-    count
 }
 
 // Goes on from each node that is reached, in their order, by the lists of constraints at the nodes. This is for speed:
 // that nothing is left out rests on `widen`, and not on the lists.
-fn explore(
-    constraints: &[Constraint],
-    numbers: &[u64],
-    flow: &[u64],
-    root: usize,
-    order: &mut [usize],
-    parent: &mut [usize],
-    found: &mut [usize],
-    incident: &[Vec<usize>],
-    reached: usize,
-) -> usize
-    requires state { IsState constraints.now numbers.now flow.now }
-    requires search { IsSearch constraints.now numbers.now flow.now order.old parent.old root reached }
-    ensures search { IsSearch constraints.now numbers.now flow.now order.new parent.new root result }
-    ensures more { reached ≤ result }
+fn explore(residual: &Residual, tree: &mut Tree, found: &mut [usize], incident: &[Vec<usize>])
+    requires state { IsState residual.now.constraints.now residual.now.potentials.now residual.now.flow.now }
+    requires search { IsSearch residual.now.constraints.now residual.now.potentials.now residual.now.flow.now tree.old.order.items tree.old.parent.items tree.old.root tree.old.reached }
+    ensures root { tree.new.root ≡ tree.old.root }
+    ensures search { IsSearch residual.now.constraints.now residual.now.potentials.now residual.now.flow.now tree.new.order.items tree.new.parent.items tree.new.root tree.new.reached }
+    ensures more { tree.old.reached ≤ tree.new.reached }
 {
-    let mut count = reached;
     for next in 1..found.len() {
-        if next > count {
-            return count;
+        if next > tree.reached {
+            return;
         }
         let node = found[next];
         if node < incident.len() {
             let here = incident[node].as_slice();
-            count = explore_from(
-                constraints,
-                numbers,
-                flow,
-                root,
-                order,
-                parent,
-                found,
-                here,
-                count,
-            );
+            explore_from(residual, tree, found, here);
         }
     }
-    count
 }
 
 // The numbers of the constraints at each node.
@@ -169,68 +146,45 @@ pub fn incidence(
     Ok(incident)
 }
 
-// The nodes that are reached from a root by tight constraints, and by taking flow back.
-#[derive(Drop)]
-pub struct Tree {
-    pub order: Vec<usize>,
-    pub parent: Vec<usize>,
-}
-
+// The nodes that are reached from a root.
 pub fn reach(
     alloc: Global,
-    constraints: &[Constraint],
-    incident: &[Vec<usize>],
-    numbers: &[u64],
+    network: &Network,
+    potentials: &[u64],
     flow: &[u64],
     root: usize,
 ) -> Result<Tree, OutOfMemory>
-    requires state { IsState constraints.now numbers.now flow.now }
-    requires root { root < length numbers.now }
-    ensures sizes { IfOk result (λ t. (length t.order.items ≡ length numbers.now) × (length t.parent.items ≡ length numbers.now)) }
-    ensures tree { IfOk result (λ t. IsTree constraints.now flow.now t.order.items t.parent.items root) }
-    ensures tight { IfOk result (λ t. HangsTight constraints.now numbers.now t.order.items t.parent.items root) }
-    ensures closed { IfOk result (λ t. IsClosed constraints.now numbers.now flow.now t.order.items) }
-    ensures bound { IfOk result (λ t. (v : ℕ) → slice_index t.order.items v ≤ length numbers.now) }
+    requires state { IsState network.now.constraints.now potentials.now flow.now }
+    requires root { root < length potentials.now }
+    ensures root { IfOk result (λ t. t.root ≡ root) }
+    ensures sizes { IfOk result (λ t. (length t.order.items ≡ length potentials.now) × (length t.parent.items ≡ length potentials.now)) }
+    ensures tree { IfOk result (λ t. IsTree network.now.constraints.now flow.now t.order.items t.parent.items root) }
+    ensures tight { IfOk result (λ t. HangsTight network.now.constraints.now potentials.now t.order.items t.parent.items root) }
+    ensures closed { IfOk result (λ t. IsClosed network.now.constraints.now potentials.now flow.now t.order.items) }
+    ensures bound { IfOk result (λ t. (v : ℕ) → slice_index t.order.items v ≤ length potentials.now) }
 {
-    let mut order = vec![in alloc; 0usize; numbers.len()]?;
-    let mut parent = vec![in alloc; 0usize; numbers.len()]?;
-    let mut found = vec![in alloc; root; numbers.len()]?;
-    order[root] = 1;
-    let mut reached = explore(
+    let constraints = network.constraints;
+    let residual = Residual {
         constraints,
-        numbers,
+        potentials,
         flow,
+    };
+    let mut found = vec![in alloc; root; potentials.len()]?;
+    let mut order = vec![in alloc; 0usize; potentials.len()]?;
+    let parent = vec![in alloc; 0usize; potentials.len()]?;
+    order[root] = 1;
+    let mut tree = Tree {
         root,
-        &mut order,
-        &mut parent,
-        &mut found,
-        incident,
-        1,
-    );
+        reached: 1,
+        order,
+        parent,
+    };
     loop {
-        let more = widen(
-            constraints,
-            numbers,
-            flow,
-            root,
-            &mut order,
-            &mut parent,
-            reached,
-        );
-        if more == reached {
-            break;
+        explore(&residual, &mut tree, &mut found, network.incident);
+        let before = tree.reached;
+        widen(&residual, &mut tree);
+        if tree.reached == before {
+            return Ok(tree);
         }
-        reached = explore(
-            constraints,
-            numbers,
-            flow,
-            root,
-            &mut order,
-            &mut parent,
-            &mut found,
-            incident,
-            more,
-        );
     }
-    Ok(Tree { order, parent })
 }

@@ -9,12 +9,12 @@ use Rattle.flow_dual.proofs.sending.send.Goals.{then-order-end-ne0, else-order-e
 
 pub least_slack-by-requires-clause-closed : goal.least_slack-by-requires-clause-closed
 least_slack-by-requires-clause-closed c =
-    let closed = subst (IsClosed c.args.constraints.now c.loop-rest.numbers c.loop-rest.flow) (sym c.as_slice-order.ensures.value) c.in_ok-tree.ensures.closed in
+    let closed = subst (IsClosed c.args.network.now.constraints.now c.loop-rest.numbers c.loop-rest.flow) (sym c.as_slice-order.ensures.value) c.in_ok-tree.ensures.closed in
     λ i h. (closed i h).forward
 
 pub loop-rest-preserved : goal.loop-rest-preserved
 loop-rest-preserved c =
-    let cs = c.args.constraints.now in
+    let cs = c.args.network.now.constraints.now in
     let p = c.loop-rest.numbers in
     let flow = c.loop-rest.flow in
     let begin = (constraint_at cs c.args.image).source in

@@ -10,9 +10,9 @@ invariant-loop-rest l = record {
   numbers : (v : ℕ) → slice_index l.numbers v ≤ 2 ^ 41 + l.image * 2 ^ 36 + 2 ^ 35;
   end : slice_index l.numbers l.end ≤ 2 ^ 41 + l.image * 2 ^ 36;
   amounts : (i : ℕ) → slice_index l.flow i + l.rest ≤ l.image * 2 ^ 8 + l.width;
-  holds : All (Holds l.numbers) l.constraints;
-  carries : IsComplementary l.constraints l.flow l.numbers;
-  moves : Moves l.constraints l.initial.flow l.flow l.begin l.end (l.width - l.rest);
+  holds : All (Holds l.numbers) l.network.constraints.now;
+  carries : IsComplementary l.network.constraints.now l.flow l.numbers;
+  moves : Moves l.network.constraints.now l.initial.flow l.flow l.begin l.end (l.width - l.rest);
 }
 
 abbrev pub decreases-loop-rest : goal.decreases-loop-rest

@@ -15,7 +15,7 @@ returns-in-None-clause-near c = λ v.
     elim (cases_lt v (length c.loop-tree.numbers)) [
       | inl h ↦ omega (
         arith,
-        near_root c.args.constraints.now c.loop-tree.numbers c.args.flow.now order c.in_ok-tree.tree.parent.items 0 told.tree told.tight c.requires.costs v
+        near_root c.args.network.now.constraints.now c.loop-tree.numbers c.args.flow.now order c.in_ok-tree.tree.parent.items 0 told.tree told.tight c.requires.costs v
             (all v (omega (arith, told.sizes.0))),
         told.bound v,
         c.requires.nodes,
@@ -30,18 +30,18 @@ returns-in-None-clause-least c = λ d holds carries v h.
     let told = c.in_ok-tree.ensures in
     let order = c.in_ok-tree.tree.order.items in
     let all : (v : ℕ) → v < length order → 0 < slice_index order v = rw (← c.as_slice-order.ensures.value) c.in-None.ensures.none in
-    least_of_reached c.args.constraints.now c.loop-tree.numbers c.args.flow.now order c.in_ok-tree.tree.parent.items told.tree told.tight c.loop-tree.invariant.zero d holds carries v
+    least_of_reached c.args.network.now.constraints.now c.loop-tree.numbers c.args.flow.now order c.in_ok-tree.tree.parent.items told.tree told.tight c.loop-tree.invariant.zero d holds carries v
     (all v (omega (arith, told.sizes.0)))
 
 pub least_slack-by-requires-clause-closed : goal.least_slack-by-requires-clause-closed
 least_slack-by-requires-clause-closed c =
-    let closed = subst (IsClosed c.args.constraints.now c.loop-tree.numbers c.args.flow.now) (sym c.as_slice-order.ensures.value) c.in_ok-tree.ensures.closed in
+    let closed = subst (IsClosed c.args.network.now.constraints.now c.loop-tree.numbers c.args.flow.now) (sym c.as_slice-order.ensures.value) c.in_ok-tree.ensures.closed in
     λ i h. (closed i h).forward
 
 pub lower-requires-clause-room : goal.lower-requires-clause-room
 lower-requires-clause-room c = λ v h out.
     let root : 0 < slice_index c.as_slice-order.result.now 0 = rw c.as_slice-order.ensures.value c.in_ok-tree.ensures.tree.root_reached in
-    sink_room c.args.constraints.now (length c.args.numbers.now) c.as_slice-order.result.now c.loop-tree.numbers c.least_slack-by.result c.requires.rooted root c.loop-tree.invariant.holds c.least_slack-by.ensures.least
+    sink_room c.args.network.now.constraints.now (length c.args.numbers.now) c.as_slice-order.result.now c.loop-tree.numbers c.least_slack-by.result c.requires.rooted root c.loop-tree.invariant.holds c.least_slack-by.ensures.least
     v v (omega arith) (omega (arith, c.loop-tree.auto.numbers)) out
 
 pub loop-tree-smaller : goal.loop-tree-smaller
@@ -53,7 +53,7 @@ loop-tree-smaller c =
     let root : 0 < slice_index order 0 = rw c.as_slice-order.ensures.value c.in_ok-tree.ensures.tree.root_reached in
     let sizes : length order ≡ length p = rw c.as_slice-order.ensures.value c.in_ok-tree.ensures.sizes.0 in
     let within : node < length p = omega (arith, c.in-Some.ensures.some.0, sizes) in
-    let can : by ≤ slice_index p node = sink_room c.args.constraints.now (length c.args.numbers.now) order p by c.requires.rooted root c.loop-tree.invariant.holds c.least_slack-by.ensures.least
+    let can : by ≤ slice_index p node = sink_room c.args.network.now.constraints.now (length c.args.numbers.now) order p by c.requires.rooted root c.loop-tree.invariant.holds c.least_slack-by.ensures.least
     node node (omega arith) (omega (arith, within, c.loop-tree.auto.numbers)) c.in-Some.ensures.some.1 in
     sum-less p c.lower.new.numbers node c.lower.auto.numbers (λ k. elim (cases_zero (slice_index order k)) [
       | inl out ↦ omega (arith, c.lower.ensures.others k out)
@@ -63,7 +63,7 @@ loop-tree-smaller c =
 
 pub loop-tree-preserved : goal.loop-tree-preserved
 loop-tree-preserved c =
-    let cs = c.args.constraints.now in
+    let cs = c.args.network.now.constraints.now in
     let flow = c.args.flow.now in
     let order = c.as_slice-order.result.now in
     let by = c.least_slack-by.result in

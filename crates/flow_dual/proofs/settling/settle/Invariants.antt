@@ -8,8 +8,8 @@ abbrev pub invariant-loop-tree : goal.invariant-loop-tree
 invariant-loop-tree l = record {
   numbers : AreSmall l.numbers;
   zero : slice_index l.numbers 0 ≡ 0;
-  holds : All (Holds l.numbers) l.constraints;
-  carries : IsComplementary l.constraints l.flow l.numbers;
+  holds : All (Holds l.numbers) l.network.constraints.now;
+  carries : IsComplementary l.network.constraints.now l.flow l.numbers;
 }
 
 abbrev pub decreases-loop-tree : goal.decreases-loop-tree

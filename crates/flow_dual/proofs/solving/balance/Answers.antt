@@ -19,26 +19,26 @@ pub settle-requires-clause-sources : goal.settle-requires-clause-sources
 settle-requires-clause-sources c =
     let s = c.args.system.now in
     let size : length c.rebase.new.numbers ≡ nodes s = c.rebase.auto.numbers ∙ c.find_flow.auto.numbers ∙ c.requires.nodes in
-    rw (c.constraints-2.ensures.form, size) (within_all s.stencils.width s.age s.stencils.inputs (image_count s) (widths s) (placed_reads s) (system_form s c.law.ensures)).sources
+    rw (c.constraints-constraints.ensures.form, size) (within_all s.stencils.width s.age s.stencils.inputs (image_count s) (widths s) (placed_reads s) (system_form s c.law.ensures)).sources
 
 pub settle-requires-clause-targets : goal.settle-requires-clause-targets
 settle-requires-clause-targets c =
     let s = c.args.system.now in
     let size : length c.rebase.new.numbers ≡ nodes s = c.rebase.auto.numbers ∙ c.find_flow.auto.numbers ∙ c.requires.nodes in
-    rw (c.constraints-2.ensures.form, size) (within_all s.stencils.width s.age s.stencils.inputs (image_count s) (widths s) (placed_reads s) (system_form s c.law.ensures)).targets
+    rw (c.constraints-constraints.ensures.form, size) (within_all s.stencils.width s.age s.stencils.inputs (image_count s) (widths s) (placed_reads s) (system_form s c.law.ensures)).targets
 
 pub settle-requires-clause-costs : goal.settle-requires-clause-costs
 settle-requires-clause-costs c =
     let s = c.args.system.now in
-    rw c.constraints-2.ensures.form (small_all s.stencils.width s.age s.stencils.inputs (image_count s) (widths s) (placed_reads s) (system_form s c.law.ensures))
+    rw c.constraints-constraints.ensures.form (small_all s.stencils.width s.age s.stencils.inputs (image_count s) (widths s) (placed_reads s) (system_form s c.law.ensures))
 
 pub settle-requires-clause-rooted : goal.settle-requires-clause-rooted
 settle-requires-clause-rooted c =
     let s = c.args.system.now in
     let form = system_form s c.law.ensures in
     let size : length c.rebase.new.numbers ≡ nodes s = c.rebase.auto.numbers ∙ c.find_flow.auto.numbers ∙ c.requires.nodes in
-    let at : IsRooted c.constraints-2.result.now (nodes s) =
-    rw c.constraints-2.ensures.form (rooted s.stencils.width s.age s.stencils.inputs (image_count s) (placed_reads s) form.some_inputs form.inputs_kept) in
+    let at : IsRooted c.constraints-constraints.result.now (nodes s) =
+    rw c.constraints-constraints.ensures.form (rooted s.stencils.width s.age s.stencils.inputs (image_count s) (placed_reads s) form.some_inputs form.inputs_kept) in
     λ v low high. at v low (omega (arith, high, size))
 
 pub settle-requires-clause-holds : goal.settle-requires-clause-holds
@@ -50,7 +50,7 @@ settle-requires-clause-holds c =
     let within = within_all s.stencils.width s.age s.stencils.inputs (image_count s) (widths s) (placed_reads s) form in
     let above = λ (v : ℕ) (h : v < nodes s). above_root cs (nodes s) c.find_flow.new.numbers
     (rooted s.stencils.width s.age s.stencils.inputs (image_count s) (placed_reads s) form.some_inputs form.inputs_kept) holds v v (omega arith) h in
-    rw c.constraints-2.ensures.form (rebased_holds cs (nodes s) c.find_flow.new.numbers c.rebase.new.numbers within.sources within.targets above c.rebase.ensures holds)
+    rw c.constraints-constraints.ensures.form (rebased_holds cs (nodes s) c.find_flow.new.numbers c.rebase.new.numbers within.sources within.targets above c.rebase.ensures holds)
 
 pub settle-requires-clause-carries : goal.settle-requires-clause-carries
 settle-requires-clause-carries c =
@@ -63,7 +63,7 @@ settle-requires-clause-carries c =
     (rooted s.stencils.width s.age s.stencils.inputs (image_count s) (placed_reads s) form.some_inputs form.inputs_kept) told.holds v v (omega arith) h in
     let moved : IsComplementary cs c.find_flow.new.flow c.rebase.new.numbers =
     rebased_complementary cs (nodes s) c.find_flow.new.numbers c.rebase.new.numbers within.sources within.targets above c.rebase.ensures c.find_flow.new.flow told.carries in
-    subst (λ xs. IsComplementary xs c.find_flow.new.flow c.rebase.new.numbers) (sym c.constraints-2.ensures.form) moved
+    subst (λ xs. IsComplementary xs c.find_flow.new.flow c.rebase.new.numbers) (sym c.constraints-constraints.ensures.form) moved
 
 pub returns : goal.returns
 returns c =
@@ -72,7 +72,7 @@ returns c =
     let p = c.settle.new.numbers in
     let flow = c.find_flow.new.flow in
     let told = c.in_ok-settle.ensures in
-    let value : c.constraints-2.result.now ≡ cs = c.constraints-2.ensures.form in
+    let value : c.constraints-constraints.result.now ≡ cs = c.constraints-constraints.ensures.form in
     let size : length p ≡ nodes s = c.settle.auto.numbers ∙ c.rebase.auto.numbers ∙ c.find_flow.auto.numbers ∙ c.requires.nodes in
     let least : (d : List ℕ) → All (Holds d) cs → IsComplementary cs flow d → (v : ℕ) → v < nodes s → slice_index p v ≤ slice_index d v = λ d holds carries v h.
     told.least d (subst (All (Holds d)) (sym value) holds) (subst (λ xs. IsComplementary xs flow d) (sym value) carries) v (omega (arith, h, size)) in

@@ -1,34 +1,36 @@
 use Rattle.std.proofs.Common.{arith, ◌∙◌}
 use Rattle.flow_dual.proofs.tree.explore_from.Goals as goal
-use Rattle.flow_dual.proofs.tree.explore_from.Goals.{then-i-constraints+then-more-count+then-more-found, then-i-constraints+else-more-count, else-i-constraints}
+use Rattle.flow_dual.proofs.tree.explore_from.Goals.{then-i-residual+then-last-before+then-last-found, then-i-residual+else-last-before, else-i-residual}
 
 pub loop-k-preserved : goal.loop-k-preserved
 loop-k-preserved c =
     let was = c.loop-k.invariant in
-    elim c.if-i-constraints.branch [
-      | then-i-constraints+then-more-count+then-more-found w ↦
-          let told = w.cross-more.ensures in
-          rw (w.order-is, w.parent-is, w.count-is) (record {
+    elim c.if-i-residual.branch [
+      | then-i-residual+then-last-before+then-last-found w ↦
+          let told = w.cross.ensures in
+          rw w.tree-is (record {
+            root = told.root ∙ was.root;
             search = record {
-              orders = w.cross-more.auto.order ∙ was.search.orders;
-              parents = w.cross-more.auto.parent ∙ was.search.parents;
+              orders = told.orders ∙ was.search.orders;
+              parents = told.parents ∙ was.search.parents;
               tree = told.tree;
               tight = told.tight;
               counted = told.count;
             };
             more = omega (arith, told.more, was.more);
           })
-      | then-i-constraints+else-more-count w ↦
-          let told = w.cross-more.ensures in
-          rw (w.order-is, w.parent-is, w.count-is) (record {
+      | then-i-residual+else-last-before w ↦
+          let told = w.cross.ensures in
+          rw w.tree-is (record {
+            root = told.root ∙ was.root;
             search = record {
-              orders = w.cross-more.auto.order ∙ was.search.orders;
-              parents = w.cross-more.auto.parent ∙ was.search.parents;
+              orders = told.orders ∙ was.search.orders;
+              parents = told.parents ∙ was.search.parents;
               tree = told.tree;
               tight = told.tight;
               counted = told.count;
             };
             more = omega (arith, told.more, was.more);
           })
-      | else-i-constraints w ↦ rw (w.order-is, w.parent-is, w.count-is) was
+      | else-i-residual w ↦ rw w.tree-is was
     ]
