@@ -1,14 +1,13 @@
 -- The report of causal delays with a balanced flow that is worth their bits holds.
 use Rattle.std.proofs.Common.{◌≡◌, ◌<◌, ◌+◌, ◌*◌, ◌∙◌, ℕ, pos, zero, suc, List, [], ◌∷◌, map, length, slice_index, slice_index_or, max, refl, ap, sym, subst, arith}
-use Rattle.std.specs.Prelude.{◌≤ℤ◌, sum_by}
+use Rattle.std.specs.Prelude.{◌≤ℤ◌}
 use Rattle.std.specs.List.{enumerate_from}
-use Rattle.std.proofs.lemmas.Int.{ints}
 use Rattle.std.proofs.lemmas.List.{get_or-map, length-map}
 use Rattle.dk_base.specs.Stencils.{place}
 use Rattle.dk_base.specs.declared.stencils.Image.{Image}
 use Rattle.pointwise_ir.specs.Programs.{Program, names_of}
-use Rattle.raster_delay.specs.Delays.{age_of, depth_of}
-use Rattle.raster_delay.specs.Systems.{System, IsSystem, IsCausal, IsBalanced, image_count, widths, placed_reads, depth, bits, worth_of, constraints_in}
+use Rattle.raster_delay.specs.Delays.{age_of}
+use Rattle.raster_delay.specs.Systems.{System, IsSystem, IsCausal, IsBalanced, image_count, widths, placed_reads, depth, bits, worth_of}
 use Rattle.buffer_plan.specs.Plans.{Plan}
 use Rattle.buffer_plan.specs.Limits.{greatest_delay}
 use Rattle.report_text.specs.declared.report.ImageLine.{ImageLine}
@@ -16,9 +15,9 @@ use Rattle.report_text.specs.declared.report.FlowLine.TheVariants.{Hold}
 use Rattle.report_text.specs.Reports.{Report}
 use Rattle.latency_report.specs.Printed.{line_of, image_lines, latencies, report_of, name_of}
 use Rattle.plan_check.specs.Flows.{makers, carried}
-use Rattle.plan_check.specs.Holding.{ImageHolds, FlowHolds, delays_of, depths_of, widths_of, greatest, bits_of_lines}
+use Rattle.plan_check.specs.Holding.{ImageHolds, FlowHolds, delays_of, depths_of, widths_of, greatest}
 use Rattle.plan_check.specs.Program.{HoldsOf}
-use Rattle.plan_check.proofs.Least.{bits_same, same_list}
+use Rattle.plan_check.proofs.Least.{same_list}
 use Rattle.plan_check.proofs.Carried.{carried_has, carrying_carried}
 use Rattle.plan_check.proofs.Firsts.{NumbersHold, to_rules}
 use Rattle.plan_check.proofs.Foreigns.{names_keep, outputs_keep, none_foreign}
@@ -95,15 +94,8 @@ module _ (p : Program) (s : System) (d flow : List ℕ) where
     flow_holds : FlowHolds s (carried (makers s) flow) (bits s d)
     flow_holds = record { flow = flow; lines_are = carrying_carried s flow; balanced = balanced; worth_is = worth_is }
 
-    bits_right : bits s d ≡ bits_of_lines lines
-    bits_right =
-        let shown : (k : ℕ) → k < length lines → slice_index (depths_of lines) k ≡ depth_of s.stencils.width d (placed_reads s) (0 + k) =
-        λ k lt. let e : k ≡ 0 + k = omega arith in line_depth k (omega (arith, lt, count)) ∙ ap (depth_of s.stencils.width d (placed_reads s)) e in
-        let widths_same : widths_of lines ≡ widths s =
-        same_list (widths_of lines) (widths s) (length-map lines (λ (i : ImageLine). i.width) ∙ count ∙ sym (length-map s.stencils.images (λ (i : Image). i.width)))
-        (λ k lt. line_width k (omega (arith, lt, count, length-map lines (λ (i : ImageLine). i.width)))) in
-        sym (bits_same s.stencils.width d (placed_reads s) 0 lines shown
-        ∙ ap (λ ws. sum_by (λ (x : ℕ × ℕ). x.1 * depth_of s.stencils.width d (placed_reads s) x.0) (enumerate_from 0 ws)) widths_same)
+    bits_right : bits s d ≡ bits s (delays_of lines)
+    bits_right = ap (bits s) (sym (delays_same causal.one_each))
 
     latency_right : (k : ℕ) → k < length (latencies plan) → slice_index (latencies plan) k ≡ slice_index (delays_of lines) (place s.stencils.images (slice_index s.stencils.outputs k))
     latency_right k lt =

@@ -1,13 +1,13 @@
 -- Which line is the first that is wrong by the printed numbers, part after part.
 use Rattle.std.proofs.Common.{◌≡◌, ◌<◌, ◌≤◌, ◌+◌, ◌-◌, ℕ, List, [], ◌∷◌, ◌++◌, map, length, arith}
 use Rattle.std.proofs.lemmas.List.{length-map, length-append}
-use Rattle.raster_delay.specs.Systems.{System}
+use Rattle.raster_delay.specs.Systems.{System, bits}
 use Rattle.report_text.specs.Reports.{Report}
 use Rattle.report_text.specs.Layout.{head_lines, unless_first, size_line, image_line, latency_line, clocks_line, bits_line, reads_line, flow_line, end_line}
 use Rattle.plan_check.specs.First.{IsFirst, Misses}
 use Rattle.plan_check.specs.Rules.{each, Keeps, Breaks}
 use Rattle.plan_check.specs.Numbering.{image_number, latency_number, clocks_number, bits_number, flow_number, last_number}
-use Rattle.plan_check.specs.Holding.{ImageHolds, LatencyHolds, clocks_of, bits_of, HasConstraint, FlowHolds}
+use Rattle.plan_check.specs.Holding.{ImageHolds, LatencyHolds, delays, clocks_of, HasConstraint, FlowHolds}
 use Rattle.plan_check.specs.Judging.{line_at, number_rules}
 use Rattle.plan_check.proofs.Broken.{From, keeps_both, keeps_left, keeps_right, keeps_each, each_keeps, first_each, first_one, from_both, from_each, skip, stop}
 
@@ -18,8 +18,8 @@ image_rules s r = each (image_number r) (length r.images) (ImageHolds s r.images
 abbrev latency_rules : System → Report → List (ℕ × Type 0)
 latency_rules s r = each (latency_number r) (length r.latencies) (LatencyHolds s r.images r.latencies)
 
-abbrev sum_rules : Report → List (ℕ × Type 0)
-sum_rules r = (clocks_number r, r.clocks ≡ clocks_of r) ∷ (bits_number r, r.bits ≡ bits_of r) ∷ []
+abbrev sum_rules : System → Report → List (ℕ × Type 0)
+sum_rules s r = (clocks_number r, r.clocks ≡ clocks_of r) ∷ (bits_number r, r.bits ≡ bits s (delays r)) ∷ []
 
 abbrev constraint_rules : System → Report → List (ℕ × Type 0)
 constraint_rules s r = each (flow_number r) (length r.flow) (λ k. HasConstraint s (line_at r.flow k))
@@ -51,10 +51,10 @@ module _ (s : System) (r : Report) where
       )
 
   abbrev behind_images : List (ℕ × Type 0)
-  behind_images = latency_rules s r ++ (sum_rules r ++ (constraint_rules s r ++ flow_rules s r))
+  behind_images = latency_rules s r ++ (sum_rules s r ++ (constraint_rules s r ++ flow_rules s r))
 
   abbrev behind_latencies : List (ℕ × Type 0)
-  behind_latencies = sum_rules r ++ (constraint_rules s r ++ flow_rules s r)
+  behind_latencies = sum_rules s r ++ (constraint_rules s r ++ flow_rules s r)
 
   abbrev behind_sums : List (ℕ × Type 0)
   behind_sums = constraint_rules s r ++ flow_rules s r
@@ -98,16 +98,16 @@ module _ (s : System) (r : Report) where
       past n f = skip (image_rules s r) behind_images n images (skip (latency_rules s r) behind_latencies n latencies f)
 
       pub wrong_clocks : (r.clocks ≡ clocks_of r → ⊥) → IsFirst (Breaks (number_rules s r)) (clocks_number r)
-      wrong_clocks not = past (clocks_number r) (first_one (clocks_number r) (r.clocks ≡ clocks_of r) ((bits_number r, r.bits ≡ bits_of r) ∷ behind_sums) not
+      wrong_clocks not = past (clocks_number r) (first_one (clocks_number r) (r.clocks ≡ clocks_of r) ((bits_number r, r.bits ≡ bits s (delays r)) ∷ behind_sums) not
           (omega arith, from_constraints (clocks_number r) (omega arith)))
 
-      pub wrong_bits : r.clocks ≡ clocks_of r → (r.bits ≡ bits_of r → ⊥) → IsFirst (Breaks (number_rules s r)) (bits_number r)
-      wrong_bits right not = past (bits_number r) (skip ((clocks_number r, r.clocks ≡ clocks_of r) ∷ []) ((bits_number r, r.bits ≡ bits_of r) ∷ behind_sums) (bits_number r) (right, tt)
-          (first_one (bits_number r) (r.bits ≡ bits_of r) behind_sums not (from_constraints (bits_number r) (omega arith))))
+      pub wrong_bits : r.clocks ≡ clocks_of r → (r.bits ≡ bits s (delays r) → ⊥) → IsFirst (Breaks (number_rules s r)) (bits_number r)
+      wrong_bits right not = past (bits_number r) (skip ((clocks_number r, r.clocks ≡ clocks_of r) ∷ []) ((bits_number r, r.bits ≡ bits s (delays r)) ∷ behind_sums) (bits_number r) (right, tt)
+          (first_one (bits_number r) (r.bits ≡ bits s (delays r)) behind_sums not (from_constraints (bits_number r) (omega arith))))
 
-      module _ (sums : Keeps (sum_rules r)) where
+      module _ (sums : Keeps (sum_rules s r)) where
         pub wrong_constraint : (w : ℕ) → IsFirst (Misses (λ k. HasConstraint s (line_at r.flow k)) (length r.flow)) w → IsFirst (Breaks (number_rules s r)) (flow_number r w)
-        wrong_constraint w f = past (flow_number r w) (skip (sum_rules r) behind_sums (flow_number r w) sums (stop (constraint_rules s r) (flow_rules s r) (flow_number r w)
+        wrong_constraint w f = past (flow_number r w) (skip (sum_rules s r) behind_sums (flow_number r w) sums (stop (constraint_rules s r) (flow_rules s r) (flow_number r w)
             (first_each (flow_number r) (λ k. HasConstraint s (line_at r.flow k)) (λ j k le. omega (arith, le)) (length r.flow) w f)
             (let below = f.is.0 in from_flow (flow_number r w) (omega (arith, below, last_is)))))
 
@@ -116,11 +116,11 @@ module _ (s : System) (r : Report) where
 
         module _ (constraints : (k : ℕ) → k < length r.flow → HasConstraint s (line_at r.flow k)) where
           pub wrong_flow : (FlowHolds s r.flow r.bits → ⊥) → IsFirst (Breaks (number_rules s r)) (last_number r)
-          wrong_flow not = past (last_number r) (skip (sum_rules r) behind_sums (last_number r) sums (skip (constraint_rules s r) (flow_rules s r) (last_number r)
+          wrong_flow not = past (last_number r) (skip (sum_rules s r) behind_sums (last_number r) sums (skip (constraint_rules s r) (flow_rules s r) (last_number r)
               (constraints_keep constraints) (first_one (last_number r) (FlowHolds s r.flow r.bits) [] not tt)))
 
           pub none_wrong : FlowHolds s r.flow r.bits → Keeps (number_rules s r)
-          none_wrong flow = keeps_both (image_rules s r) behind_images images (keeps_both (latency_rules s r) behind_latencies latencies (keeps_both (sum_rules r) behind_sums sums
+          none_wrong flow = keeps_both (image_rules s r) behind_images images (keeps_both (latency_rules s r) behind_latencies latencies (keeps_both (sum_rules s r) behind_sums sums
               (keeps_both (constraint_rules s r) (flow_rules s r) (constraints_keep constraints) (flow, tt))))
 
 -- what the printed numbers of a report that holds say
@@ -128,7 +128,7 @@ pub record NumbersHold (s : System) (r : Report) : Type 0 where
   pub images : (k : ℕ) → k < length r.images → ImageHolds s r.images k
   pub latencies : (k : ℕ) → k < length r.latencies → LatencyHolds s r.images r.latencies k
   pub clocks : r.clocks ≡ clocks_of r
-  pub bits : r.bits ≡ bits_of r
+  pub bits : r.bits ≡ bits s (delays r)
   pub constraints : (k : ℕ) → k < length r.flow → HasConstraint s (line_at r.flow k)
   pub flow : FlowHolds s r.flow r.bits
 

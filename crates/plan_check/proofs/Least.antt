@@ -19,9 +19,9 @@ use Rattle.report_text.specs.declared.report.ImageLine.{ImageLine}
 use Rattle.report_text.specs.declared.report.FlowLine.{FlowLine}
 use Rattle.report_text.specs.declared.report.FlowLine.TheVariants.{Hold, Start, Read, Keep}
 use Rattle.report_text.specs.Reports.{Report}
-use Rattle.plan_check.specs.Holding.{HasConstraint, AreLeast, delays, depths_of, widths_of, bits_of_lines}
+use Rattle.plan_check.specs.Holding.{HasConstraint, ImageHolds, AreLeast, delays, delays_of, depths_of, widths_of}
 use Rattle.plan_check.specs.Flows.{amount_of}
-use Rattle.plan_check.specs.Sums.{SumsHold, constraint_of, carriers, amounts}
+use Rattle.plan_check.specs.Sums.{SumsHold, bits_of_lines, constraint_of, carriers, amounts}
 use Rattle.plan_check.proofs.Firsts.{NumbersHold}
 use Rattle.plan_check.proofs.Flowing.{inflow_cons, outflow_cons}
 
@@ -116,8 +116,8 @@ module _ (s : System) (is : IsSystem s) (flow : List FlowLine) (has : All (HasCo
 pub small_cost : (s : System) → IsSystem s → (x : FlowLine) → HasConstraint s x → IsSmall (constraint_of s x)
 small_cost s is x h = of_carrier s is IsSmall (recursion_from_All IsSmall (constraints_in s) (small_all s.stencils.width s.age s.stencils.inputs (image_count s) (widths s) (placed_reads s) (system_form s is))) x h
 
--- the printed bits are those of the printed delays
-pub bits_same : (row : ℕ) (d : List ℕ) (reads : List PlacedRead) (j : ℕ) (images : List ImageLine) → ((k : ℕ) → k < length images → slice_index (depths_of images) k ≡ depth_of row d reads (j + k))
+-- the sum over image lines, where each depth is that of the delays
+bits_same : (row : ℕ) (d : List ℕ) (reads : List PlacedRead) (j : ℕ) (images : List ImageLine) → ((k : ℕ) → k < length images → slice_index (depths_of images) k ≡ depth_of row d reads (j + k))
     → bits_of_lines images ≡ sum_by (λ (x : ℕ × ℕ). x.1 * depth_of row d reads x.0) (enumerate_from j (widths_of images))
 bits_same row d reads j [] h = refl
 bits_same row d reads j (i ∷ images) h =
@@ -133,6 +133,19 @@ same_list [] (y ∷ ys) l f = absurd (omega arith)
 same_list (x ∷ xs) [] l f = absurd (omega arith)
 same_list (x ∷ xs) (y ∷ ys) l f = ap (λ a. a ∷ xs) (f 0 (omega arith)) ∙ ap (λ s. y ∷ s) (same_list xs ys (omega arith) (λ k b. f (suc k) (omega arith)))
 
+module _ (s : System) (is : IsSystem s) (images : List ImageLine) (count : length images ≡ image_count s) (holds : (k : ℕ) → k < length images → ImageHolds s images k) where
+  same_widths : widths_of images ≡ widths s
+  same_widths = same_list (widths_of images) (widths s)
+      (length-map images (λ (i : ImageLine). i.width) ∙ count ∙ sym (system_form s is).one_width_each)
+      (λ k lt. (holds k (omega (arith, lt, length-map images (λ (i : ImageLine). i.width)))).width_is)
+
+  -- image lines that hold sum to the bits of their delays
+  pub bits_of_delays : bits_of_lines images ≡ bits s (delays_of images)
+  bits_of_delays =
+      let d = delays_of images in
+      bits_same s.stencils.width d (placed_reads s) 0 images (λ k lt. let e : k ≡ 0 + k = omega arith in (holds k lt).depth_is ∙ ap (depth_of s.stencils.width d (placed_reads s)) e)
+      ∙ ap (λ ws. sum_by (λ (x : ℕ × ℕ). x.1 * depth_of s.stencils.width d (placed_reads s) x.0) (enumerate_from 0 ws)) same_widths
+
 module _ (s : System) (is : IsSystem s) (r : Report) (count : length r.images ≡ image_count s) (h : NumbersHold s r) where
   printed_causal : IsCausal s (delays r)
   printed_causal = record {
@@ -145,20 +158,10 @@ module _ (s : System) (is : IsSystem s) (r : Report) (count : length r.images �
         (h.images q.g kept).ages i d lt refl;
   }
 
-  same_widths : widths_of r.images ≡ widths s
-  same_widths = same_list (widths_of r.images) (widths s)
-      (length-map r.images (λ (i : ImageLine). i.width) ∙ count ∙ sym (system_form s is).one_width_each)
-      (λ k lt. (h.images k (omega (arith, lt, length-map r.images (λ (i : ImageLine). i.width)))).width_is)
-
-  printed_bits : bits s (delays r) ≡ r.bits
-  printed_bits = sym (
-      h.bits ∙ bits_same s.stencils.width (delays r) (placed_reads s) 0 r.images (λ k lt. let e : k ≡ 0 + k = omega arith in (h.images k lt).depth_is ∙ ap (depth_of s.stencils.width (delays r) (placed_reads s)) e)
-      ∙ ap (λ ws. sum_by (λ (x : ℕ × ℕ). x.1 * depth_of s.stencils.width (delays r) (placed_reads s) x.0) (enumerate_from 0 ws)) same_widths)
-
   pub are_least : AreLeast s r
   are_least = record {
     causal = printed_causal;
-    bits_are = printed_bits;
+    bits_are = sym h.bits;
     least = λ d causal.
         let most = worth_at_most s.stencils.width s.age s.stencils.inputs (image_count s) (widths s) (placed_reads s) (system_form s is) d causal h.flow.flow h.flow.balanced in
         omega (arith, ints, most, h.flow.worth_is);

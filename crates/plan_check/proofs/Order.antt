@@ -1,5 +1,5 @@
 -- Live reads by place stand in order, so that none stands twice.
-use Rattle.std.proofs.Common.{◌≡◌, ◌<◌, ◌≤◌, ℕ, ℤ, pos, true, false, Bool, eqb, ltb, List, length, slice_index_or, ◌⊎◌, ◌+◌, ◌∙◌, refl, sym, ap, subst, arith, inl, inr}
+use Rattle.std.proofs.Common.{◌≡◌, ◌<◌, ◌≤◌, ℕ, ℤ, pos, true, false, Bool, eqb, ltb, List, map, length, slice_index_or, ◌⊎◌, ◌+◌, ◌∙◌, refl, sym, ap, subst, arith, inl, inr}
 use Rattle.std.specs.Prelude.{◌<ℤ◌, ◌&&◌, ◌||◌, int_lt}
 use Rattle.std.specs.Ordering.{int_eq}
 use Rattle.std.proofs.lemmas.Int.{ints}
@@ -16,7 +16,7 @@ use Rattle.raster_delay.specs.Placing.{placed}
 use Rattle.raster_delay.specs.Systems.{System, IsSystem, placed_reads}
 use Rattle.raster_delay.proofs.Places.{place_le}
 use Rattle.report_text.specs.Reports.{is_less}
-use Rattle.plan_check.specs.Orders.{IsEarlier, AreSorted}
+use Rattle.plan_check.specs.Orders.{by_place, IsEarlier, AreSorted}
 
 -- not one before the other and the other before the one
 pub not_both : (a b : PlacedRead) → IsEarlier a b → IsEarlier b a → ⊥
@@ -48,19 +48,23 @@ module _ (images : List Image) (up : Ascends images) where
     columns = λ e g y. h.columns (place_same a.f b.f af bf e) (place_same a.g b.g ag bg g) y;
   }
 
-pub in_order : (s : System) → IsSystem s → (i j : ℕ) (d : PlacedRead) → i < j → j < length (placed_reads s) → IsEarlier (slice_index_or (placed_reads s) i d) (slice_index_or (placed_reads s) j d)
-in_order s is i j d lt below =
+pub AreSorted-placed : (s : System) → IsSystem s → AreSorted (placed_reads s)
+AreSorted-placed s is i j d lt below =
     let none : LiveRead = record { f = 0; g = 0; dx = pos 0; dy = pos 0 } in
     let images = s.stencils.images in
     let reads = s.stencils.reads in
-    let short : j < length reads = omega (arith, length-map reads (placed images)) in
+    let no_place : PlacedRead = record { f = 0; g = 0; dx = pos 0; dy = pos 0 } in
+    let size : length (map by_place (placed_reads s)) ≡ length reads = length-map (placed_reads s) by_place ∙ length-map reads (placed images) in
+    let short : j < length reads = omega (arith, size, below) in
+    let at : (k : ℕ) → k < length reads → slice_index_or (map by_place (placed_reads s)) k d ≡ by_place (placed images (slice_index_or reads k none)) =
+    λ k h. get_or-map by_place (placed_reads s) k no_place d (omega (arith, h, length-map reads (placed images))) ∙ ap by_place (get_or-map (placed images) reads k none no_place h) in
     let a = slice_index_or reads i none in
     let b = slice_index_or reads j none in
     let ra = is.stencils.reads.between i none (omega arith) in
     let rb = is.stencils.reads.between j none short in
     let here = earlier_placed images is.stencils.images.ascending a b ra.reader_kept ra.source_kept rb.reader_kept rb.source_kept (is.stencils.reads.in_order i j none lt short) in
-    subst (λ x. IsEarlier x (slice_index_or (placed_reads s) j d)) (sym (get_or-map (placed images) reads i none d (omega arith)))
-    (subst (λ y. IsEarlier (placed images a) y) (sym (get_or-map (placed images) reads j none d short)) here)
+    subst (λ x. IsBefore x (slice_index_or (map by_place (placed_reads s)) j d)) (sym (at i (omega (arith, lt, short))))
+    (subst (λ y. IsBefore (by_place (placed images a)) y) (sym (at j short)) here)
 
 -- the last part of a test by four parts
 third : (a b c d e k l : Bool) → (a || (b && (c || (d && (e || (k && l)))))) ≡ true → a ≡ false → c ≡ false → (e ≡ true) ⊎ ((k ≡ true) × (l ≡ true))
@@ -98,17 +102,24 @@ module _ (f g : ℕ) (dx dy : ℤ) (f' g' : ℕ) (dx' dy' : ℤ) (h : is_less (0
     ];
   }
 
--- no two reads at places of a list in order are the same, and none is the same as one that stands before or behind its place
-pub AreSorted-placed : (s : System) → IsSystem s → AreSorted (placed_reads s)
-AreSorted-placed s is i j d lt below = in_order s is i j d lt below
+-- of two reads in order the one stands before the other
+sorted_at : (reads : List PlacedRead) → AreSorted reads → (i j : ℕ) (d : PlacedRead) → i < j → j < length reads → IsEarlier (slice_index_or reads i d) (slice_index_or reads j d)
+sorted_at reads sorted i j d lt below =
+    let before = sorted i j (by_place d) lt (omega (arith, below, length-map reads by_place)) in
+    subst (λ x. IsBefore x (by_place (slice_index_or reads j d))) (get_or-map by_place reads i d (by_place d) (omega (arith, lt, below)))
+    (subst (λ y. IsBefore (slice_index_or (map by_place reads) i (by_place d)) y) (get_or-map by_place reads j d (by_place d) below) before)
 
+pub in_order : (s : System) → IsSystem s → (i j : ℕ) (d : PlacedRead) → i < j → j < length (placed_reads s) → IsEarlier (slice_index_or (placed_reads s) i d) (slice_index_or (placed_reads s) j d)
+in_order s is = sorted_at (placed_reads s) (AreSorted-placed s is)
+
+-- no two reads at places of a list in order are the same, and none is the same as one that stands before or behind its place
 module _ (reads : List PlacedRead) (sorted : AreSorted reads) (r : PlacedRead) (m : ℕ) (d : PlacedRead) (within : m < length reads) where
   pub not_before : IsEarlier (slice_index_or reads m d) r → (k : ℕ) (e : PlacedRead) → k < m + 1 → slice_index_or reads k e ≡ r → ⊥
   not_before h k e lt same =
       let at : slice_index_or reads k d ≡ r = get_or_default reads k d e (omega (arith, lt, within)) ∙ same in
       elim (cases_eq k m) [
         | inl is ↦ not_both r r (itself (ap (λ j. slice_index_or reads j d) (sym is) ∙ at)) (itself (ap (λ j. slice_index_or reads j d) (sym is) ∙ at))
-        | inr ne ↦ not_both (slice_index_or reads m d) r h (subst (λ x. IsEarlier x (slice_index_or reads m d)) at (sorted k m d (omega (arith, lt)) within))
+        | inr ne ↦ not_both (slice_index_or reads m d) r h (subst (λ x. IsEarlier x (slice_index_or reads m d)) at (sorted_at reads sorted k m d (omega (arith, lt)) within))
       ]
     where
       itself : slice_index_or reads m d ≡ r → IsEarlier r r
@@ -119,5 +130,5 @@ module _ (reads : List PlacedRead) (sorted : AreSorted reads) (r : PlacedRead) (
       let at : slice_index_or reads k d ≡ r = get_or_default reads k d e below ∙ same in
       elim (cases_eq k m) [
         | inl is ↦ not_same (ap (λ j. slice_index_or reads j d) (sym is) ∙ at)
-        | inr ne ↦ not_early (subst (λ x. IsEarlier (slice_index_or reads m d) x) at (sorted m k d (omega (arith, le)) below))
+        | inr ne ↦ not_early (subst (λ x. IsEarlier (slice_index_or reads m d) x) at (sorted_at reads sorted m k d (omega (arith, le)) below))
       ]

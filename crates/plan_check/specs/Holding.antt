@@ -1,5 +1,5 @@
 -- What the lines of a report have to be, by its printed numbers.
-use Rattle.std.specs.Prelude.{◌≡◌, ℕ, ℤ, pos, ◌+◌, ◌*◌, ◌<◌, ◌≤◌, ◌≤ℤ◌, max, List, [], ◌∷◌, map, slice_index, sum_by, Contains, All}
+use Rattle.std.specs.Prelude.{◌≡◌, ℕ, ℤ, pos, ◌+◌, ◌*◌, ◌<◌, ◌≤◌, ◌≤ℤ◌, max, List, [], ◌∷◌, map, slice_index, Contains, All}
 use Rattle.dk_base.specs.Stencils.{place}
 use Rattle.raster_delay.specs.declared.placed.PlacedRead.{PlacedRead}
 use Rattle.raster_delay.specs.Delays.{age_of}
@@ -45,13 +45,6 @@ greatest (n ∷ ns) = max n (greatest ns)
 -- the pixels of a frame of the printed size, and the greatest of the printed latencies
 abbrev pub clocks_of : Report → ℕ
 clocks_of r = r.width * r.height + greatest r.latencies
-
--- the sum of width times depth over the image lines
-abbrev pub bits_of_lines : List ImageLine → ℕ
-bits_of_lines images = sum_by (λ i. i.width * i.depth) images
-
-abbrev pub bits_of : Report → ℕ
-bits_of r = bits_of_lines r.images
 
 -- the read that a flow line names
 abbrev pub read_at : (f g : ℕ) → (dx dy : ℤ) → PlacedRead

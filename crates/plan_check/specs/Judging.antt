@@ -1,7 +1,7 @@
 -- Which lines of a report are wrong, and what is answered.
 use Rattle.std.specs.Prelude.{◌≡◌, ℕ, ◌≤◌, List, [], ◌∷◌, ◌++◌, length, slice_index_or}
 use Rattle.dk_base.specs.declared.TheConstants.{MAX_SIDE}
-use Rattle.raster_delay.specs.Systems.{System, image_count}
+use Rattle.raster_delay.specs.Systems.{System, image_count, bits}
 use Rattle.report_text.specs.declared.report.FlowLine.{FlowLine}
 use Rattle.report_text.specs.declared.report.FlowLine.TheVariants.{Hold}
 use Rattle.report_text.specs.Reports.{Report, Ascend}
@@ -10,7 +10,7 @@ use Rattle.plan_check.specs.declared.verdict.Verdict.TheVariants.{Yes, No}
 use Rattle.plan_check.specs.First.{IsFirst}
 use Rattle.plan_check.specs.Rules.{each, Keeps, Breaks}
 use Rattle.plan_check.specs.Numbering.{image_number, latency_number, clocks_number, bits_number, flow_number, last_number}
-use Rattle.plan_check.specs.Holding.{ImageHolds, LatencyHolds, clocks_of, bits_of, HasConstraint, FlowHolds}
+use Rattle.plan_check.specs.Holding.{ImageHolds, LatencyHolds, delays, clocks_of, HasConstraint, FlowHolds}
 
 -- the flow line at place k
 abbrev pub line_at : List FlowLine → ℕ → FlowLine
@@ -22,7 +22,7 @@ number_rules s r =
     each (image_number r) (length r.images) (ImageHolds s r.images)
     ++ (each (latency_number r) (length r.latencies) (LatencyHolds s r.images r.latencies)
     ++ ((clocks_number r, r.clocks ≡ clocks_of r)
-    ∷ (bits_number r, r.bits ≡ bits_of r)
+    ∷ (bits_number r, r.bits ≡ bits s (delays r))
     ∷ (each (flow_number r) (length r.flow) (λ k. HasConstraint s (line_at r.flow k))
     ++ ((last_number r, FlowHolds s r.flow r.bits) ∷ []))))
 

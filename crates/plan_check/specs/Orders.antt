@@ -1,15 +1,15 @@
 -- Used by private functions alone.
--- The order of live reads by place.
-use Rattle.std.specs.Prelude.{◌≡◌, ℕ, ◌<◌, ◌≤◌, ◌<ℤ◌, ◌≤ℤ◌, List, length, slice_index_or}
+-- The order of live reads by place: that of live reads, with places for the numbers of the images.
+use Rattle.std.specs.Prelude.{List, map}
+use Rattle.dk_base.specs.declared.stencils.LiveRead.{LiveRead}
+use Rattle.dk_base.specs.Stencils.{IsBefore, AreInOrder}
 use Rattle.raster_delay.specs.declared.placed.PlacedRead.{PlacedRead}
 
--- one read by place stands before another: by the image that reads, then by the one that is read, then by row, then by column
-pub record IsEarlier (a b : PlacedRead) : Type 0 where
-  pub reader : a.f ≤ b.f
-  pub source : a.f ≡ b.f → a.g ≤ b.g
-  pub rows : a.f ≡ b.f → a.g ≡ b.g → a.dy ≤ℤ b.dy
-  pub columns : a.f ≡ b.f → a.g ≡ b.g → a.dy ≡ b.dy → a.dx <ℤ b.dx
+abbrev pub by_place : PlacedRead → LiveRead
+by_place r = record { f = r.f; g = r.g; dx = r.dx; dy = r.dy }
 
--- each read stands before all later ones, so none stands twice
+abbrev pub IsEarlier : PlacedRead → PlacedRead → Type 0
+IsEarlier a b = IsBefore (by_place a) (by_place b)
+
 abbrev pub AreSorted : List PlacedRead → Type 0
-AreSorted reads = (i j : ℕ) (d : PlacedRead) → i < j → j < length reads → IsEarlier (slice_index_or reads i d) (slice_index_or reads j d)
+AreSorted reads = AreInOrder (map by_place reads)

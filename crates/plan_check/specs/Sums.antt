@@ -1,15 +1,20 @@
 -- Used by private functions alone.
--- What flow lines sum to, each on the constraint that it names. A law leads from there to a flow on all constraints.
-use Rattle.std.specs.Prelude.{◌≡◌, ℕ, pos, ◌<◌, ◌-ℤ◌, List, map}
+-- What the lines of a report sum to: image lines to bits, and flow lines, each on the constraint that it names. Laws lead from there to the bits of the delays, and to a flow on all constraints.
+use Rattle.std.specs.Prelude.{◌≡◌, ℕ, pos, ◌<◌, ◌-ℤ◌, ◌*◌, List, map, sum_by}
 use Rattle.raster_delay.specs.declared.network.Constraint.{Constraint}
 use Rattle.raster_delay.specs.declared.placed.PlacedRead.{PlacedRead}
 use Rattle.raster_delay.specs.Network.{inflow, outflow, worth}
 use Rattle.raster_delay.specs.Delays.{hold, start, read, keep}
 use Rattle.raster_delay.specs.Systems.{System, image_count, nodes, coefficient_in}
+use Rattle.report_text.specs.declared.report.ImageLine.{ImageLine}
 use Rattle.report_text.specs.declared.report.FlowLine.{FlowLine}
 use Rattle.report_text.specs.declared.report.FlowLine.TheVariants.{Hold, Start, Read, Keep}
 use Rattle.plan_check.specs.Flows.{amount_of}
 use Rattle.plan_check.specs.Holding.{read_at}
+
+-- the sum of width times printed depth
+abbrev pub bits_of_lines : List ImageLine → ℕ
+bits_of_lines images = sum_by (λ i. i.width * i.depth) images
 
 -- what makes the flow line of a constraint, kind by kind
 abbrev pub hold_maker : ℕ → ℕ → FlowLine

@@ -2,11 +2,11 @@
 
 ghost use Rattle.std.specs.Prelude.{◌≡◌, ◌≤◌, ◌<◌, ◌^◌, ◌+◌, ℕ, [], ◌∷◌, length, All, IsTrue, MatchOption};
 ghost use Rattle.dk_base.specs.declared.TheConstants.{MAX_SIDE, MAX_KEPT_IMAGES, MAX_OUTPUTS};
-ghost use Rattle.raster_delay.specs.Systems.{image_count};
+ghost use Rattle.raster_delay.specs.Systems.{image_count, bits};
 ghost use Rattle.report_text.specs.Reports.{parts_of, Ascend};
 ghost use Rattle.plan_check.specs.declared.verdict.Verdict.TheVariants as verdict;
 ghost use Rattle.plan_check.specs.Numbering.{size_number, latency_number, clocks_number, bits_number, last_number};
-ghost use Rattle.plan_check.specs.Holding.{ImageHolds, LatencyHolds, HasConstraint, AreLeast, clocks_of, bits_of};
+ghost use Rattle.plan_check.specs.Holding.{ImageHolds, LatencyHolds, HasConstraint, AreLeast, delays, clocks_of};
 ghost use Rattle.plan_check.specs.Judging.{Judges, Suits, line_at, number_rules};
 ghost use Rattle.report_text.specs.Layout.{unless_first, reads_line, end_line};
 ghost use Rattle.plan_check.specs.First.{IsFirst, Misses};
@@ -137,8 +137,9 @@ fn faulty_sum(system: &System, report: &Report) -> Option<u64>
     requires suits { Suits system.now (parts_of report.now) }
     requires images { (k : ℕ) → k < length report.now.images.items → ImageHolds system.now report.now.images.items k }
     requires latencies { (k : ℕ) → k < length report.now.latencies.items → LatencyHolds system.now report.now.images.items report.now.latencies.items k }
-    ensures { MatchOption result ((report.now.clocks ≡ clocks_of (parts_of report.now)) × (report.now.bits ≡ bits_of (parts_of report.now))) (λ line. IsFirst (Breaks (number_rules system.now (parts_of report.now))) line) }
+    ensures { MatchOption result ((report.now.clocks ≡ clocks_of (parts_of report.now)) × (report.now.bits ≡ bits system.now (delays (parts_of report.now)))) (λ line. IsFirst (Breaks (number_rules system.now (parts_of report.now))) line) }
 {
+    system.law();
     counts(system, report);
     if u128::from(report.clocks) != clocks(report) {
         return Some(clocks_line(report));
@@ -155,7 +156,7 @@ fn faulty_constraint(system: &System, report: &Report) -> Option<u64>
     requires images { (k : ℕ) → k < length report.now.images.items → ImageHolds system.now report.now.images.items k }
     requires latencies { (k : ℕ) → k < length report.now.latencies.items → LatencyHolds system.now report.now.images.items report.now.latencies.items k }
     requires clocks { report.now.clocks ≡ clocks_of (parts_of report.now) }
-    requires bits { report.now.bits ≡ bits_of (parts_of report.now) }
+    requires bits { report.now.bits ≡ bits system.now (delays (parts_of report.now)) }
     ensures { MatchOption result ((k : ℕ) → k < length report.now.flow.items → HasConstraint system.now (line_at report.now.flow.items k)) (λ line. IsFirst (Breaks (number_rules system.now (parts_of report.now))) line) }
 {
     counts(system, report);

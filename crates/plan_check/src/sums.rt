@@ -3,7 +3,8 @@
 ghost use Rattle.std.specs.Prelude.{◌≡◌, ◌≤◌, ◌<◌, ◌^◌, ◌*◌, length, max, sum_by};
 ghost use Rattle.dk_base.specs.declared.TheConstants.{MAX_KEPT_IMAGES};
 ghost use Rattle.dk_base.specs.Stencils.{place};
-ghost use Rattle.plan_check.specs.Holding.{greatest, bits_of_lines};
+ghost use Rattle.plan_check.specs.Holding.{greatest};
+ghost use Rattle.plan_check.specs.Sums.{bits_of_lines};
 
 use dk_base::Image;
 use report_text::ImageLine;
@@ -27,7 +28,7 @@ fn bits_of(image: &ImageLine) -> u128
     u128::from(image.width) * u128::from(image.depth)
 }
 
-// The sum of width times depth.
+// The sum of width times printed depth.
 pub(crate) fn bits(images: &[ImageLine]) -> u128
     requires { length images.now ≤ MAX_KEPT_IMAGES }
     ensures { result ≡ bits_of_lines images.now }

@@ -1,5 +1,5 @@
 use Rattle.std.proofs.Common.{◌≡◌, ◌+◌, ◌*◌, ◌≤◌, ◌^◌, drop}
-use Rattle.plan_check.specs.Holding.{bits_of_lines}
+use Rattle.plan_check.specs.Sums.{bits_of_lines}
 use Rattle.plan_check.proofs.sums.bits.Given as goal
 
 abbrev pub invariant-loop-image : goal.invariant-loop-image
