@@ -2,5 +2,7 @@
 #![tactic(auto)]
 
 mod frame;
+mod samples;
 
-pub use frame::{Frame, Samples};
+pub use frame::Frame;
+pub use samples::{SampleSlice, Samples};

@@ -5,7 +5,7 @@ use Rattle.std.proofs.lemmas.List.Folds.{flat_map-map}
 use Rattle.std.proofs.lemmas.List.{length-map}
 use Rattle.dk_base.specs.Frames.{Size}
 use Rattle.dk_frames.specs.declared.frame.Frame.{Frame}
-use Rattle.pgm_codec.specs.Images.{Picture as Image, CanBeWritten, IsFile, file_of}
+use Rattle.pgm_codec.specs.Images.{Image, CanBeWritten, IsFile, file_of}
 use Rattle.pgm_codec.specs.Rounds.{FitsInputs}
 use Rattle.pgm_rounds.specs.declared.round.Round.{Round}
 use Rattle.pgm_rounds.specs.Ports.{Ports, ports_with}

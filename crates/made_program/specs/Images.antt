@@ -1,7 +1,7 @@
 -- The image of a number.
 use Rattle.std.specs.Prelude.{ℕ, ◌*◌, List, ◌++◌, map}
 use Rattle.std.specs.List.{range_with_len}
-use Rattle.pgm_codec.specs.Images.{Picture, header_of}
+use Rattle.pgm_codec.specs.Images.{Image, header_of}
 use Rattle.made_program.specs.Draws.{drawn, after}
 use Rattle.made_program.specs.Programs.{width_of, height_of, count_of, seed_of}
 
@@ -14,7 +14,7 @@ abbrev pub samples_of : ℕ → List ℕ
 samples_of n = samples_from (width_of n * height_of n) (after (7 * count_of n) (seed_of n))
 
 -- the image of number n, of one byte a sample
-abbrev pub picture_of : ℕ → Picture
+abbrev pub picture_of : ℕ → Image
 picture_of n = record { width = width_of n; height = height_of n; maxval = 255; samples = samples_of n }
 
 -- the image file of number n

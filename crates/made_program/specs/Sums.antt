@@ -4,7 +4,7 @@ use Rattle.std.specs.List.{flat_map, AllByRecursion}
 use Rattle.dk_base.specs.declared.TheConstants.{MAX_FILE_IMAGES, MAX_SIDE}
 use Rattle.dk_base.specs.Frames.{Size}
 use Rattle.dk_frames.specs.declared.frame.Frame.{Frame}
-use Rattle.pgm_codec.specs.Images.{Picture as Image, CanBeWritten}
+use Rattle.pgm_codec.specs.Images.{Image, CanBeWritten}
 use Rattle.pgm_rounds.specs.declared.round.Round.{Round}
 
 -- an image of this size that can be written

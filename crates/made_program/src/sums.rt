@@ -4,23 +4,24 @@ ghost use Rattle.std.specs.Prelude.{◌≡◌, ◌≤◌, ◌*◌, List, length,
 ghost use Rattle.std.specs.List.{All, flat_map};
 ghost use Rattle.dk_base.specs.declared.TheConstants.{MAX_FILE_IMAGES, MAX_MAXVAL, MAX_SIDE};
 ghost use Rattle.dk_base.specs.FrameSizes.{size_of};
-ghost use Rattle.pgm_codec.specs.Images.{Picture as Image, file_of};
+ghost use Rattle.pgm_codec.specs.Images.{Image, file_of};
 ghost use Rattle.made_program.specs.Sums.{AreSummed, IsOneFrame, samples_of_round};
 
 use dk_base::{FrameSize, MAX_PORT_WIDTH, OutOfMemory};
+use dk_frames::Samples;
 use pgm_codec::read_again;
 use pgm_rounds::{FileError, Round, one_file, read_rounds};
 use std::alloc::{AllocError, Global};
 
 // The sum of the samples of one frame.
-fn sum_of_samples(samples: &[u16]) -> u64
+fn sum_of_samples(samples: &Samples) -> u64
     requires { length samples.now ≤ MAX_SIDE * MAX_SIDE }
     ensures total { result ≡ sum samples.now }
     ensures most { result ≤ MAX_SIDE * MAX_SIDE * MAX_MAXVAL }
 {
     let mut total = 0u64;
-    for sample in samples {
-        total += u64::from(*sample);
+    for place in 0..samples.as_slice().len() {
+        total += u64::from(samples.sample(place));
     }
     total
 }
@@ -31,7 +32,7 @@ fn sum_of_round(round: &Round) -> u64
     ensures total { result ≡ sum (samples_of_round round.now) }
     ensures most { result ≤ MAX_SIDE * MAX_SIDE * MAX_MAXVAL }
 {
-    sum_of_samples(round.frames[0].samples.as_slice())
+    sum_of_samples(&round.frames[0].samples)
 }
 
 // The sum of the samples of rounds of one frame each.

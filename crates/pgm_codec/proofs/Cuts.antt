@@ -2,11 +2,11 @@
 use Rattle.std.proofs.Common.{◌≡◌, ◌∙◌, sym, ap, refl, [], ◌∷◌, ◌++◌, List, ℕ, ◌<◌, arith, length}
 use Rattle.std.specs.List.{flat_map, AllByRecursion}
 use Rattle.std.proofs.lemmas.List.{append_cancel_left}
-use Rattle.pgm_codec.specs.Images.{Picture}
+use Rattle.pgm_codec.specs.Images.{Image}
 use Rattle.pgm_codec.specs.Rounds.{FitsInputs, Fits}
 
 abbrev Round : Type 0
-Round = List Picture
+Round = List Image
 
 abbrev joined : List Round → Round
 joined rs = flat_map (λ r. r) rs
@@ -22,7 +22,7 @@ same_front w h (n ∷ ns) (p ∷ ps) (q ∷ qs) x y f g e =
     let t : ps ≡ qs = same_front w h ns ps qs x y f.3 g.3 (ap (tail []) e) in
     ap (λ v. v ∷ ps) (ap (head p) e) ∙ ap (λ s. q ∷ s) t
   where
-    head : Picture → Round → Picture
+    head : Image → Round → Image
     head d [] = d
     head d (v ∷ vs) = v
 

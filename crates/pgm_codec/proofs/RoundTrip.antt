@@ -7,13 +7,13 @@ use Rattle.std.proofs.lemmas.Str.Parse.{IsNumeralModel, numerals_by_fold}
 use Rattle.std.proofs.Common.{rules}
 use Rattle.dk_base.specs.Ascii.{value_after}
 use Rattle.pgm_codec.specs.Headers.{Field, Fields, last, field, HeaderText, IsHeader, AreDigits, IsNumeral, IsGap, none, capped}
-use Rattle.pgm_codec.specs.Images.{is_narrow, spelled, raster_of, Picture, IsPicture, AreImages, IsFile, CanBeWritten, header_of, file_of}
+use Rattle.pgm_codec.specs.Images.{is_narrow, spelled, raster_of, Image, IsImageOf, AreImages, IsFile, CanBeWritten, header_of, file_of}
 use Rattle.pgm_codec.specs.Rasters.{sample_by}
 use Rattle.pgm_codec.specs.Answers.{Whole}
 use Rattle.pgm_codec.proofs.Decoding.{sample_again}
 use Rattle.pgm_codec.proofs.Unique.{one_front, one_header, is_whole, same_small}
 
-abbrev made : ℕ → ℕ → ℕ → List ℕ → Picture
+abbrev made : ℕ → ℕ → ℕ → List ℕ → Image
 made w h m s = record { width = w; height = h; maxval = m; samples = s }
 
 same_picture : (w w' h h' m m' : ℕ) (s s' : List ℕ) → w ≡ w' → h ≡ h' → m ≡ m' → s ≡ s' → made w h m s ≡ made w' h' m' s'
@@ -31,13 +31,13 @@ same_samples : (b : Bool) (xs ys rest more : List ℕ) → length xs ≡ length 
 same_samples b xs ys rest more l e =
     same_list xs ys l (λ k below. sym (sample_again b xs rest k below) ∙ ap (λ s. sample_by b s k) e ∙ sample_again b ys more k (omega arith))
 
-image_whole : (bytes : List ℕ) (p : Picture) → (i : IsPicture bytes p) → Whole i.header
+image_whole : (bytes : List ℕ) (p : Image) → (i : IsImageOf bytes p) → Whole i.header
 image_whole bytes p i = is_whole i.header p.width p.height p.maxval i.place i.heads
 
-image_parts : (bytes rest : List ℕ) (p : Picture) → (i : IsPicture bytes p) → bytes ++ rest ≡ i.header ++ (i.raster ++ rest)
+image_parts : (bytes rest : List ℕ) (p : Image) → (i : IsImageOf bytes p) → bytes ++ rest ≡ i.header ++ (i.raster ++ rest)
 image_parts bytes rest p i = ap (λ x. x ++ rest) i.parts ∙ append_assoc i.header i.raster rest
 
-pub one_image : (first second rest more : List ℕ) (p q : Picture) → IsPicture first p → IsPicture second q → first ++ rest ≡ second ++ more → (first ≡ second) × (p ≡ q)
+pub one_image : (first second rest more : List ℕ) (p q : Image) → IsImageOf first p → IsImageOf second q → first ++ rest ≡ second ++ more → (first ≡ second) × (p ≡ q)
 one_image first second rest more p q i j e =
     let parts : i.header ++ (i.raster ++ rest) ≡ j.header ++ (j.raster ++ more) = sym (image_parts first rest p i) ∙ e ∙ image_parts second more q j in
     let f : i.header ≡ j.header = one_front i.header j.header (i.raster ++ rest) (j.raster ++ more) (image_whole first p i) (image_whole second q j) parts in
@@ -53,13 +53,13 @@ one_image first second rest more p q i j e =
     )
 
 -- an image has bytes
-image_bytes : (bytes : List ℕ) (p : Picture) → IsPicture bytes p → 0 < length bytes
+image_bytes : (bytes : List ℕ) (p : Image) → IsImageOf bytes p → 0 < length bytes
 image_bytes bytes p i = omega (arith, ap length i.parts, ap length i.heads.text.magic, length-append i.header i.raster)
 
-no_image : (first rest : List ℕ) (p : Picture) → IsPicture first p → [] ≡ first ++ rest → ⊥
+no_image : (first rest : List ℕ) (p : Image) → IsImageOf first p → [] ≡ first ++ rest → ⊥
 no_image first rest p i e = omega (arith, image_bytes first p i, ap length e, length-append first rest)
 
-pub one_list : (ps qs : List Picture) (bytes other : List ℕ) → bytes ≡ other → AreImages bytes ps → AreImages other qs → ps ≡ qs
+pub one_list : (ps qs : List Image) (bytes other : List ℕ) → bytes ≡ other → AreImages bytes ps → AreImages other qs → ps ≡ qs
 one_list [] [] bytes other e a b = refl
 one_list [] (q ∷ qs) bytes other e a b = absurd (no_image b.0 b.1 q b.3 (sym a ∙ e ∙ b.2))
 one_list (p ∷ ps) [] bytes other e a b = absurd (no_image a.0 a.1 p a.3 (sym (sym a.2 ∙ e ∙ b)))
@@ -68,7 +68,7 @@ one_list (p ∷ ps) (q ∷ qs) bytes other e a b =
     let rest : a.1 ≡ b.1 = append_cancel_left a.0 a.1 b.1 (sym a.2 ∙ e ∙ b.2 ∙ ap (λ x. x ++ b.1) (sym i.0)) in
     ap (λ x. x ∷ ps) i.1 ∙ ap (λ xs. q ∷ xs) (one_list ps qs a.1 b.1 rest a.4 b.4)
 
-pub one_file : (bytes : List ℕ) (ps qs : List Picture) → IsFile bytes ps → IsFile bytes qs → ps ≡ qs
+pub one_file : (bytes : List ℕ) (ps qs : List Image) → IsFile bytes ps → IsFile bytes qs → ps ≡ qs
 one_file bytes ps qs a b = one_list ps qs bytes bytes refl a.2 b.2
 
 -- decimal numbers are digits
@@ -123,7 +123,7 @@ is_header w h m a b c = record {
       length-decimal-le 5 m (omega arith) (omega arith) (omega arith),
     )
 
-written : (p : Picture) → CanBeWritten p → IsPicture (header_of p.width p.height p.maxval ++ raster_of p.maxval p.samples) p
+written : (p : Image) → CanBeWritten p → IsImageOf (header_of p.width p.height p.maxval ++ raster_of p.maxval p.samples) p
 written p c = record {
   header = header_of p.width p.height p.maxval;
   raster = raster_of p.maxval p.samples;
@@ -135,6 +135,6 @@ written p c = record {
   holds = record { count = c.count; bounded = c.bounded; bytes_are = refl };
 }
 
-pub all_written : (ps : List Picture) → AllByRecursion CanBeWritten ps → AreImages (file_of ps) ps
+pub all_written : (ps : List Image) → AllByRecursion CanBeWritten ps → AreImages (file_of ps) ps
 all_written [] a = refl
 all_written (p ∷ ps) a = (header_of p.width p.height p.maxval ++ raster_of p.maxval p.samples, file_of ps, refl, written p a.0, all_written ps a.1)

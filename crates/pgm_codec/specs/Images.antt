@@ -47,23 +47,23 @@ pub record IsImage (bytes : List ℕ) (width height maxval : ℕ) (samples : Lis
   pub holds : IsRaster raster width height maxval samples
 
 -- an image with its header's numbers
-pub record Picture : Type 0 where
+pub record Image : Type 0 where
   pub width : ℕ
   pub height : ℕ
   pub maxval : ℕ
   pub samples : List ℕ
 
 -- The bytes are this picture's image.
-abbrev pub IsPicture : List ℕ → Picture → Type 0
-IsPicture bytes p = IsImage bytes p.width p.height p.maxval p.samples
+abbrev pub IsImageOf : List ℕ → Image → Type 0
+IsImageOf bytes p = IsImage bytes p.width p.height p.maxval p.samples
 
 -- The bytes are these images, one after another.
-abbrev pub AreImages : List ℕ → List Picture → Type 0
+abbrev pub AreImages : List ℕ → List Image → Type 0
 AreImages bytes [] = bytes ≡ []
-AreImages bytes (p ∷ ps) = (first : List ℕ) × (rest : List ℕ) × (bytes ≡ first ++ rest) × IsPicture first p × AreImages rest ps
+AreImages bytes (p ∷ ps) = (first : List ℕ) × (rest : List ℕ) × (bytes ≡ first ++ rest) × IsImageOf first p × AreImages rest ps
 
 -- The bytes are a file of these 1 to 65,536 images.
-abbrev pub IsFile : List ℕ → List Picture → Type 0
+abbrev pub IsFile : List ℕ → List Image → Type 0
 IsFile bytes pictures = (0 < length pictures) × (length pictures ≤ MAX_FILE_IMAGES) × AreImages bytes pictures
 
 -- the header that is written
@@ -71,7 +71,7 @@ abbrev pub header_of : ℕ → ℕ → ℕ → List ℕ
 header_of width height maxval = codes "P5\n" ++ (decimal width ++ (codes " " ++ (decimal height ++ (codes "\n" ++ (decimal maxval ++ codes "\n")))))
 
 -- what a picture has to be to be written
-pub record CanBeWritten (p : Picture) : Type 0 where
+pub record CanBeWritten (p : Image) : Type 0 where
   pub width : p.width < 2 ^ 32
   pub height : p.height < 2 ^ 32
   pub positive : 0 < p.maxval
@@ -80,5 +80,5 @@ pub record CanBeWritten (p : Picture) : Type 0 where
   pub bounded : AllByRecursion (λ sample. sample ≤ p.maxval) p.samples
 
 -- the file that is written
-abbrev pub file_of : List Picture → List ℕ
+abbrev pub file_of : List Image → List ℕ
 file_of pictures = flat_map (λ p. header_of p.width p.height p.maxval ++ raster_of p.maxval p.samples) pictures

@@ -8,14 +8,14 @@ ghost use Rattle.pgm_codec.specs.declared.header.HeaderFault.{HeaderFault as The
 ghost use Rattle.pgm_codec.specs.declared.raster.RasterFault.{RasterFault as TheRasterFault};
 ghost use Rattle.pgm_codec.specs.Answers.{Whole, Judges, Reads};
 ghost use Rattle.pgm_codec.specs.Rasters.{JudgesRaster, JudgesRow, sample_at};
-ghost use Rattle.pgm_codec.specs.Images.{IsRaster, Picture, IsPicture, IsFile, CanBeWritten, file_of};
+ghost use Rattle.pgm_codec.specs.Images.{IsRaster, Image, IsImageOf, IsFile, CanBeWritten, file_of};
 ghost use Rattle.pgm_codec.specs.Rounds.{Fits};
 
 /// No header begins another; the numbers, the samples and the end of an image are fixed by the bytes, and so are the images of a file.
 pub fn one_reading()
     ensures headers { (first second rest more : List ℕ) → Whole first → Whole second → first ++ rest ≡ second ++ more → first ≡ second }
-    ensures images { (first second rest more : List ℕ) (p q : Picture) → IsPicture first p → IsPicture second q → first ++ rest ≡ second ++ more → (first ≡ second) × (p ≡ q) }
-    ensures files { (bytes : List ℕ) (ps qs : List Picture) → IsFile bytes ps → IsFile bytes qs → ps ≡ qs }
+    ensures images { (first second rest more : List ℕ) (p q : Image) → IsImageOf first p → IsImageOf second q → first ++ rest ≡ second ++ more → (first ≡ second) × (p ≡ q) }
+    ensures files { (bytes : List ℕ) (ps qs : List Image) → IsFile bytes ps → IsFile bytes qs → ps ≡ qs }
 {}
 
 /// A row that is judged Ok is the raster of an image of that row alone. Rasters of one width, one after another, are one raster. The samples of a raster stand at their places in its bytes.
@@ -30,12 +30,12 @@ pub fn rows_are_rasters()
 
 /// What is written is read again.
 pub fn read_again()
-    ensures { (pictures : List Picture) → 0 < length pictures → length pictures ≤ MAX_FILE_IMAGES → AllByRecursion CanBeWritten pictures → IsFile (file_of pictures) pictures }
+    ensures { (pictures : List Image) → 0 < length pictures → length pictures ≤ MAX_FILE_IMAGES → AllByRecursion CanBeWritten pictures → IsFile (file_of pictures) pictures }
 {}
 
 /// The images of a file are cut into rounds in one way.
 pub fn one_cut()
-    ensures { (width height : ℕ) (inputs : List ℕ) (pictures : List Picture) (rounds others : List (List Picture)) → 0 < length inputs
+    ensures { (width height : ℕ) (inputs : List ℕ) (pictures : List Image) (rounds others : List (List Image)) → 0 < length inputs
         → Fits width height inputs pictures rounds → Fits width height inputs pictures others → rounds ≡ others }
 {}
 

@@ -5,7 +5,7 @@ use Rattle.std.proofs.lemmas.List.{length-map}
 use Rattle.std.proofs.Math.Pow.{pow_pos}
 use Rattle.dk_base.specs.Frames.{Size}
 use Rattle.dk_frames.specs.declared.frame.Frame.{Frame}
-use Rattle.pgm_codec.specs.Images.{Picture as Image, AreImages}
+use Rattle.pgm_codec.specs.Images.{Image, AreImages}
 use Rattle.pgm_codec.specs.Rounds.{FitsInputs}
 use Rattle.pgm_rounds.specs.declared.round.Round.{Round}
 use Rattle.pgm_rounds.specs.Ports.{Ports}

@@ -1,7 +1,7 @@
 -- Images of two fronts of the same bytes.
 use Rattle.std.proofs.Common.{◌≡◌, ◌∙◌, sym, ap, refl, [], ◌∷◌, ◌++◌, List, ℕ, append_assoc}
 use Rattle.std.proofs.lemmas.List.{append_cancel_left}
-use Rattle.pgm_codec.specs.Images.{Picture as Image, AreImages}
+use Rattle.pgm_codec.specs.Images.{Image, AreImages}
 use Rattle.pgm_rounds.proofs.Readings.{OneImage}
 
 -- The images of one front are the first of the other's, or the other way round: the bytes between hold the images that are more.

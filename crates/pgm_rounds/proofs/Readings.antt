@@ -4,13 +4,13 @@ use Rattle.pgm_codec.specs.declared.header.Header.{Header}
 use Rattle.pgm_codec.specs.declared.header.HeaderFault.{HeaderFault}
 use Rattle.pgm_codec.specs.declared.raster.RasterFault.{RasterFault}
 use Rattle.pgm_codec.specs.Answers.{Reads, Judges}
-use Rattle.pgm_codec.specs.Images.{Picture as Image, IsPicture, IsRaster, IsFile}
+use Rattle.pgm_codec.specs.Images.{Image, IsImageOf, IsRaster, IsFile}
 use Rattle.pgm_codec.specs.Rasters.{sample_at, JudgesRaster}
 use Rattle.pgm_codec.specs.Rounds.{Fits}
 
 -- the bytes fix an image and its end
 abbrev pub OneImage : Type 0
-OneImage = (first second rest more : List ℕ) (p q : Image) → IsPicture first p → IsPicture second q → first ++ rest ≡ second ++ more → (first ≡ second) × (p ≡ q)
+OneImage = (first second rest more : List ℕ) (p q : Image) → IsImageOf first p → IsImageOf second q → first ++ rest ≡ second ++ more → (first ≡ second) × (p ≡ q)
 
 -- and the images of a file
 abbrev pub OneFile : Type 0

@@ -7,34 +7,34 @@ use Rattle.pgm_codec.specs.declared.header.HeaderFault.TheVariants as header
 use Rattle.pgm_codec.specs.declared.raster.RasterFault.{RasterFault}
 use Rattle.pgm_codec.specs.declared.raster.RasterFault.TheVariants as raster
 use Rattle.pgm_codec.specs.Answers.{Reads, Refuses}
-use Rattle.pgm_codec.specs.Images.{Picture as Image, IsPicture}
+use Rattle.pgm_codec.specs.Images.{Image, IsImageOf}
 use Rattle.pgm_codec.specs.Rasters.{JudgesRaster}
-use Rattle.pgm_rounds.specs.declared.fault.ImageFault.{ImageFault}
-use Rattle.pgm_rounds.specs.declared.fault.ImageFault.TheVariants.{Magic, LongHeader, Number, Range, Size as WrongSize, Maxval, SampleTooGreat, Short, Count, Round as OpenRound}
+use Rattle.pgm_rounds.specs.declared.fault.FileFault.{FileFault}
+use Rattle.pgm_rounds.specs.declared.fault.FileFault.TheVariants.{Magic, LongHeader, Number, Range, Size as WrongSize, Maxval, SampleTooGreat, Short, Count, Round as OpenRound}
 use Rattle.pgm_rounds.specs.Files.{HasSize, IsHeaded, Refused}
 use Rattle.pgm_rounds.proofs.Readings.{OneHeader, OneRaster}
 use Rattle.pgm_rounds.proofs.Places.{FitsOne}
 
 -- a header's fault, counted from the start of the file
-abbrev pub told : ℕ → HeaderFault → ImageFault
+abbrev pub told : ℕ → HeaderFault → FileFault
 told offset header.Magic = Magic offset
 told offset header.LongHeader = LongHeader
 told offset (header.Number inside) = Number (offset + inside)
 told offset (header.Range inside) = Range (offset + inside)
 
 -- a raster's fault, with its sample counted over all images
-abbrev pub told_raster : ℕ → Size → RasterFault → ImageFault
+abbrev pub told_raster : ℕ → Size → RasterFault → FileFault
 told_raster number size (raster.SampleTooGreat k) = SampleTooGreat (number * area size + k)
 told_raster number size (raster.Short held need) = Short held need
 
 -- the step at which an image is refused, and the answer there
-pub data Cause (size : Size) (bits number offset : ℕ) (bytes : List ℕ) (f : ImageFault) : Type 0 where
+pub data Cause (size : Size) (bits number offset : ℕ) (bytes : List ℕ) (f : FileFault) : Type 0 where
   in_header : (h : HeaderFault) → Refuses bytes h → f ≡ told offset h → Cause size bits number offset bytes f
   sized : (h : Header) → Reads bytes h → ¬ HasSize size h → f ≡ WrongSize h.width h.height → Cause size bits number offset bytes f
   great : (h : Header) → Reads bytes h → HasSize size h → 2 ^ bits - 1 < h.maxval → f ≡ Maxval h.maxval → Cause size bits number offset bytes f
   in_raster : (h : Header) → IsHeaded size bits bytes h → (r : RasterFault) → JudgesRaster bytes h (Err r) → f ≡ told_raster number size r → Cause size bits number offset bytes f
 
-pub cause : (size : Size) (bits number offset : ℕ) (bytes : List ℕ) (f : ImageFault) → Refused size bits number offset bytes f → Cause size bits number offset bytes f
+pub cause : (size : Size) (bits number offset : ℕ) (bytes : List ℕ) (f : FileFault) → Refused size bits number offset bytes f → Cause size bits number offset bytes f
 cause size bits number offset bytes (Magic at) r = in_header header.Magic r.0 (ap (λ x. Magic x) r.1)
 cause size bits number offset bytes LongHeader r = in_header header.LongHeader r refl
 cause size bits number offset bytes (Number at) r = in_header (header.Number r.0) r.1 (ap (λ x. Number x) r.2)
@@ -75,7 +75,7 @@ module _ (one_header : OneHeader) (one_raster : OneRaster) (size : Size) (bits n
   not_above : (m n : ℕ) → m ≤ n → n < m → ⊥
   not_above m n a b = omega arith
 
-  pub one_cause : (f g : ImageFault) → Cause size bits number offset bytes f → Cause size bits number offset bytes g → f ≡ g
+  pub one_cause : (f g : FileFault) → Cause size bits number offset bytes f → Cause size bits number offset bytes g → f ≡ g
   one_cause f g (in_header h r e) (in_header i s d) = e ∙ ap (λ x. told offset x) (same_fault h i r s) ∙ sym d
   one_cause f g (in_header h r e) (sized i s n d) = absurd (read_not_refused i h s r)
   one_cause f g (in_header h r e) (great i s n m d) = absurd (read_not_refused i h s r)
@@ -95,10 +95,10 @@ module _ (one_header : OneHeader) (one_raster : OneRaster) (size : Size) (bits n
       e ∙ ap (λ x. told_raster number size x) (same_raster h k l r.reads n (subst (λ x. JudgesRaster bytes x (Err l)) (same_header i h s.reads r.reads) m)) ∙ sym d
 
   -- the header of an image with which the bytes begin
-  abbrev header_of : (first : List ℕ) (q : Image) → IsPicture first q → Header
+  abbrev header_of : (first : List ℕ) (q : Image) → IsImageOf first q → Header
   header_of first q i = record { width = q.width; height = q.height; maxval = q.maxval; length = length i.header }
 
-  reads_image : (first rest : List ℕ) (q : Image) → (i : IsPicture first q) → bytes ≡ first ++ rest → Reads bytes (header_of first q i)
+  reads_image : (first rest : List ℕ) (q : Image) → (i : IsImageOf first q) → bytes ≡ first ++ rest → Reads bytes (header_of first q i)
   reads_image first rest q i e = record {
     front = i.header;
     rest = i.raster ++ rest;
@@ -110,7 +110,7 @@ module _ (one_header : OneHeader) (one_raster : OneRaster) (size : Size) (bits n
     length_is = refl;
   }
 
-  judges_image : (first rest : List ℕ) (q : Image) → (i : IsPicture first q) → bytes ≡ first ++ rest → JudgesRaster bytes (header_of first q i) (Ok tt)
+  judges_image : (first rest : List ℕ) (q : Image) → (i : IsImageOf first q) → bytes ≡ first ++ rest → JudgesRaster bytes (header_of first q i) (Ok tt)
   judges_image first rest q i e = (q.samples, record { image = first; rest = rest; parts = e; is_image = i })
 
   raster_apart : (h : Header) (f : RasterFault) → Reads bytes h → JudgesRaster bytes h (Err f) → JudgesRaster bytes h (Ok tt) → ⊥
@@ -119,7 +119,7 @@ module _ (one_header : OneHeader) (one_raster : OneRaster) (size : Size) (bits n
       apart : (f : RasterFault) → ◌≡◌ {A = Result Unit RasterFault} (Err f) (Ok tt) → ⊥
       apart f e = cc
 
-  pub no_cause : (f : ImageFault) (first rest : List ℕ) (q : Image) → Cause size bits number offset bytes f → bytes ≡ first ++ rest → IsPicture first q → FitsOne size.width size.height bits q → ⊥
+  pub no_cause : (f : FileFault) (first rest : List ℕ) (q : Image) → Cause size bits number offset bytes f → bytes ≡ first ++ rest → IsImageOf first q → FitsOne size.width size.height bits q → ⊥
   no_cause f first rest q (in_header h r d) e i fits = read_not_refused (header_of first q i) h (reads_image first rest q i e) r
   no_cause f first rest q (sized h r n d) e i fits =
       n (subst (λ x. HasSize size x) (same_header (header_of first q i) h (reads_image first rest q i e) r) (record { width = fits.width; height = fits.height }))

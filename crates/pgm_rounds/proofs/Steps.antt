@@ -5,11 +5,11 @@ use Rattle.std.proofs.Math.Seq.{drop-append_seam}
 use Rattle.std.proofs.lemmas.List.{length-map, map-append, take_all}
 use Rattle.std.proofs.lemmas.Grind.{flat_map-append}
 use Rattle.std.proofs.lemmas.Bool.{cases_lt}
-use Rattle.pgm_codec.specs.Images.{Picture as Image, IsPicture, AreImages}
+use Rattle.pgm_codec.specs.Images.{Image, IsImageOf, AreImages}
 use Rattle.pgm_codec.specs.Rounds.{FitsInputs}
 use Rattle.dk_frames.specs.declared.frame.Frame.{Frame}
-use Rattle.pgm_rounds.specs.declared.fault.ImageFault.{ImageFault}
-use Rattle.pgm_rounds.specs.declared.fault.ImageFault.TheVariants.{Magic, LongHeader, Number, Range, Size as WrongSize, Maxval, SampleTooGreat, Short, Count, Round as OpenRound}
+use Rattle.pgm_rounds.specs.declared.fault.FileFault.{FileFault}
+use Rattle.pgm_rounds.specs.declared.fault.FileFault.TheVariants.{Magic, LongHeader, Number, Range, Size as WrongSize, Maxval, SampleTooGreat, Short, Count, Round as OpenRound}
 use Rattle.pgm_rounds.specs.declared.fault.FileError.{FileError}
 use Rattle.pgm_rounds.specs.declared.fault.FileError.TheVariants as error
 use Rattle.pgm_rounds.specs.declared.round.Round.{Round}
@@ -49,7 +49,7 @@ module _ (ports : Ports) (bytes : List ℕ) (read : List (List Frame)) (begun : 
   begun_room = omega (arith, begun_length, s.taken.room)
 
   -- a refusal of the next image is the file's fault
-  is_fault : (f : ImageFault) (bits : ℕ) → IsRefused ports bytes f → Refused ports.size bits number offset (drop offset bytes) f → IsFault ports bytes f
+  is_fault : (f : FileFault) (bits : ℕ) → IsRefused ports bytes f → Refused ports.size bits number offset (drop offset bytes) f → IsFault ports bytes f
   is_fault (Magic at) bits i r = i
   is_fault LongHeader bits i r = i
   is_fault (Number at) bits i r = i
@@ -76,7 +76,7 @@ module _ (ports : Ports) (bytes : List ℕ) (read : List (List Frame)) (begun : 
     refused = subst (λ n. Refused ports.size bits n (length s.front) s.rest f) s.number_is (subst (λ n. Refused ports.size bits number n s.rest f) s.offset_is (subst (λ x. Refused ports.size bits number offset x f) behind_is r));
   }) r
 
-images_more : (front first : List ℕ) (ps : List Image) (q : Image) → AreImages front ps → IsPicture first q → AreImages (front ++ first) (ps ++ q ∷ [])
+images_more : (front first : List ℕ) (ps : List Image) (q : Image) → AreImages front ps → IsImageOf first q → AreImages (front ++ first) (ps ++ q ∷ [])
 images_more front first [] q a i = (first, [], ap (λ x. x ++ first) a ∙ sym (append-nil first), i, refl)
 images_more front first (p ∷ ps) q a i = (a.0, a.1 ++ first, ap (λ x. x ++ first) a.2 ∙ append_assoc a.0 a.1 first, a.3, images_more a.1 first ps q a.4 i)
 

@@ -1,10 +1,10 @@
 -- Two takings of the same bytes: one reading, and one first fault.
 use Rattle.std.proofs.Common.{◌≡◌, ◌∙◌, sym, ap, refl, subst, [], ◌∷◌, ◌++◌, List, ℕ, ◌<◌, ◌≤◌, arith, length, take, append_assoc, append-nil, length-append, Some, Option, slice_get}
 use Rattle.dk_base.specs.Frames.{Size}
-use Rattle.pgm_codec.specs.Images.{Picture as Image, AreImages}
+use Rattle.pgm_codec.specs.Images.{Image, AreImages}
 use Rattle.pgm_codec.specs.Rounds.{FitsInputs}
-use Rattle.pgm_rounds.specs.declared.fault.ImageFault.{ImageFault}
-use Rattle.pgm_rounds.specs.declared.fault.ImageFault.TheVariants.{Magic, LongHeader, Number, Range, Size as WrongSize, Maxval, SampleTooGreat, Short, Count, Round as OpenRound}
+use Rattle.pgm_rounds.specs.declared.fault.FileFault.{FileFault}
+use Rattle.pgm_rounds.specs.declared.fault.FileFault.TheVariants.{Magic, LongHeader, Number, Range, Size as WrongSize, Maxval, SampleTooGreat, Short, Count, Round as OpenRound}
 use Rattle.pgm_rounds.specs.Ports.{Ports}
 use Rattle.pgm_rounds.specs.Files.{joined, FitsFile, Taken, IsRefused, IsTooMany, EndsInRound, IsFault}
 use Rattle.pgm_rounds.proofs.Readings.{OneImage, OneFile, OneCut, OneHeader, OneRaster}
@@ -31,12 +31,12 @@ taken_whole ports some bytes rounds f = record {
 }
 
 -- which kind of fault
-data Kind (ports : Ports) (bytes : List ℕ) (f : ImageFault) : Type 0 where
+data Kind (ports : Ports) (bytes : List ℕ) (f : FileFault) : Type 0 where
   refused : IsRefused ports bytes f → Kind ports bytes f
   many : f ≡ Count → IsTooMany ports bytes → Kind ports bytes f
   ended : (held : ℕ) → f ≡ OpenRound held (length ports.inputs) → EndsInRound ports bytes held → Kind ports bytes f
 
-kind : (ports : Ports) (bytes : List ℕ) (f : ImageFault) → IsFault ports bytes f → Kind ports bytes f
+kind : (ports : Ports) (bytes : List ℕ) (f : FileFault) → IsFault ports bytes f → Kind ports bytes f
 kind ports bytes (Magic at) i = refused i
 kind ports bytes LongHeader i = refused i
 kind ports bytes (Number at) i = refused i
@@ -48,7 +48,7 @@ kind ports bytes (Short held need) i = refused i
 kind ports bytes Count i = many refl i
 kind ports bytes (OpenRound held need) i = ended held (ap (λ x. OpenRound held x) i.1) i.0
 
-moved : (size : Size) (b c n m o p : ℕ) (r s : List ℕ) (f : ImageFault) → b ≡ c → n ≡ m → o ≡ p → r ≡ s → Cause size b n o r f → Cause size c m p s f
+moved : (size : Size) (b c n m o p : ℕ) (r s : List ℕ) (f : FileFault) → b ≡ c → n ≡ m → o ≡ p → r ≡ s → Cause size b n o r f → Cause size c m p s f
 moved size b c n m o p r s f d e g h x =
     subst (λ t. Cause size c m p t f) h (subst (λ t. Cause size c m t r f) g (subst (λ t. Cause size c t o r f) e (subst (λ t. Cause size t n o r f) d x)))
 
@@ -63,7 +63,7 @@ no_bytes between rest e l = omega (arith, ap length e, length-append between res
 
 module _ (one_image : OneImage) (one_file : OneFile) (one_header : OneHeader) (one_raster : OneRaster) (ports : Ports) (bytes : List ℕ) where
   -- no image that is in order stands where one is refused
-  goes_on : (f : ImageFault) (x : IsRefused ports bytes f) (rounds : List (List Image)) (further : List Image) (front rest between : List ℕ) (q : Image) (more : List Image) → Taken ports bytes rounds further front rest
+  goes_on : (f : FileFault) (x : IsRefused ports bytes f) (rounds : List (List Image)) (further : List Image) (front rest between : List ℕ) (q : Image) (more : List Image) → Taken ports bytes rounds further front rest
       → joined rounds ++ further ≡ (joined x.rounds ++ x.further) ++ q ∷ more → AreImages between (q ∷ more) → x.rest ≡ between ++ rest → ⊥
   goes_on f x rounds further front rest between q more t e a r =
       no_cause one_header one_raster ports.size x.bits (length (joined x.rounds ++ x.further)) (length x.front) x.rest f a.0 (a.1 ++ rest) q
@@ -75,7 +75,7 @@ module _ (one_image : OneImage) (one_file : OneFile) (one_header : OneHeader) (o
   both rs f a b ss g c d t u = compared one_image (joined rs ++ f) (joined ss ++ g) a c b d t.images u.images (sym t.parts ∙ u.parts)
 
   -- all bytes are images that are in order: none is refused, and a byte behind them is none
-  whole_not_refused : (rounds : List (List Image)) (further : List Image) (f : ImageFault) → Taken ports bytes rounds further bytes [] → 0 < length (joined rounds ++ further) → IsRefused ports bytes f → ⊥
+  whole_not_refused : (rounds : List (List Image)) (further : List Image) (f : FileFault) → Taken ports bytes rounds further bytes [] → 0 < length (joined rounds ++ further) → IsRefused ports bytes f → ⊥
   whole_not_refused rounds further f t l x = decided (both x.rounds x.further x.front x.rest rounds further bytes [] x.taken t)
     where
       decided : Compared (joined x.rounds ++ x.further) (joined rounds ++ further) x.rest [] → ⊥
@@ -95,7 +95,7 @@ module _ (one_image : OneImage) (one_file : OneFile) (one_header : OneHeader) (o
       decided (onward (q ∷ more) between a b c) = omega (arith, l, x.full, ap length a, length-append (joined x.rounds ++ x.further) (q ∷ more))
       decided (back more between a b c) = no_bytes between x.rest c x.more
 
-  refused_not_many : (f : ImageFault) → IsRefused ports bytes f → IsTooMany ports bytes → ⊥
+  refused_not_many : (f : FileFault) → IsRefused ports bytes f → IsTooMany ports bytes → ⊥
   refused_not_many f x y = decided (both x.rounds x.further x.front x.rest y.rounds y.further y.front y.rest x.taken y.taken)
     where
       decided : Compared (joined x.rounds ++ x.further) (joined y.rounds ++ y.further) x.rest y.rest → ⊥
@@ -103,7 +103,7 @@ module _ (one_image : OneImage) (one_file : OneFile) (one_header : OneHeader) (o
       decided (onward (q ∷ more) between a b c) = goes_on f x y.rounds y.further y.front y.rest between q more y.taken a b c
       decided (back more between a b c) = omega (arith, x.few, y.full, ap length a, length-append (joined y.rounds ++ y.further) more)
 
-  same_place : (f g : ImageFault) (x : IsRefused ports bytes f) (y : IsRefused ports bytes g) → joined x.rounds ++ x.further ≡ joined y.rounds ++ y.further → x.rest ≡ y.rest → f ≡ g
+  same_place : (f g : FileFault) (x : IsRefused ports bytes f) (y : IsRefused ports bytes g) → joined x.rounds ++ x.further ≡ joined y.rounds ++ y.further → x.rest ≡ y.rest → f ≡ g
   same_place f g x y e r =
       let m = length (joined y.rounds ++ y.further) in
       let o = length y.front in
@@ -116,7 +116,7 @@ module _ (one_image : OneImage) (one_file : OneFile) (one_header : OneHeader) (o
       (moved ports.size x.bits y.bits (length (joined x.rounds ++ x.further)) m (length x.front) o x.rest y.rest f bits number offset r
       (cause ports.size x.bits (length (joined x.rounds ++ x.further)) (length x.front) x.rest f x.refused)) (cause ports.size y.bits m o y.rest g y.refused)
 
-  one_refused : (f g : ImageFault) → IsRefused ports bytes f → IsRefused ports bytes g → f ≡ g
+  one_refused : (f g : FileFault) → IsRefused ports bytes f → IsRefused ports bytes g → f ≡ g
   one_refused f g x y = decided (both x.rounds x.further x.front x.rest y.rounds y.further y.front y.rest x.taken y.taken)
     where
       decided : Compared (joined x.rounds ++ x.further) (joined y.rounds ++ y.further) x.rest y.rest → f ≡ g
@@ -135,13 +135,13 @@ module _ (one_image : OneImage) (one_file : OneFile) (one_header : OneHeader) (o
       same_further ports.size.width ports.size.height ports.inputs rs ss f g (in_order ports bytes rs f bytes [] t) (in_order ports bytes ss g bytes [] u)
       (one_file bytes (joined rs ++ f) (joined ss ++ g) (a, c, t.images) (b, d, u.images))
 
-  ended_not_refused : (held : ℕ) (f : ImageFault) → EndsInRound ports bytes held → IsRefused ports bytes f → ⊥
+  ended_not_refused : (held : ℕ) (f : FileFault) → EndsInRound ports bytes held → IsRefused ports bytes f → ⊥
   ended_not_refused held f e x = whole_not_refused e.rounds e.further f e.taken (ended_some e.rounds e.further e.some) x
 
   ended_not_many : (held : ℕ) → EndsInRound ports bytes held → IsTooMany ports bytes → ⊥
   ended_not_many held e x = whole_not_many e.rounds e.further e.taken e.few x
 
-  one_kind : (f g : ImageFault) → Kind ports bytes f → Kind ports bytes g → f ≡ g
+  one_kind : (f g : FileFault) → Kind ports bytes f → Kind ports bytes g → f ≡ g
   one_kind f g (refused x) (refused y) = one_refused f g x y
   one_kind f g (refused x) (many e y) = absurd (refused_not_many f x y)
   one_kind f g (refused x) (ended held e y) = absurd (ended_not_refused held f y x)
@@ -154,13 +154,13 @@ module _ (one_image : OneImage) (one_file : OneFile) (one_header : OneHeader) (o
       let further = whole_same x.rounds y.rounds x.further y.further x.taken y.taken (ended_some x.rounds x.further x.some) (ended_some y.rounds y.further y.some) x.few y.few in
       d ∙ ap (λ n. OpenRound n (length ports.inputs)) (x.held_is ∙ further ∙ sym y.held_is) ∙ sym e
 
-  pub one_fault : (f g : ImageFault) → IsFault ports bytes f → IsFault ports bytes g → f ≡ g
+  pub one_fault : (f g : FileFault) → IsFault ports bytes f → IsFault ports bytes g → f ≡ g
   one_fault f g x y = one_kind f g (kind ports bytes f x) (kind ports bytes g y)
 
   joined_file : (rounds : List (List Image)) → (f : FitsFile ports bytes rounds) → f.images ≡ joined rounds ++ []
   joined_file rounds f = f.fits.joined ∙ sym (append-nil (joined rounds))
 
-  no_kind : 0 < length ports.inputs → (rounds : List (List Image)) (f : ImageFault) → FitsFile ports bytes rounds → Kind ports bytes f → ⊥
+  no_kind : 0 < length ports.inputs → (rounds : List (List Image)) (f : FileFault) → FitsFile ports bytes rounds → Kind ports bytes f → ⊥
   no_kind some rounds f file (refused x) = whole_not_refused rounds [] f (taken_whole ports some bytes rounds file) (subst (λ s. 0 < length s) (joined_file rounds file) file.file.0) x
   no_kind some rounds f file (many e x) = whole_not_many rounds [] (taken_whole ports some bytes rounds file) (subst (λ s. length s ≤ 65536) (joined_file rounds file) file.file.1) x
   no_kind some rounds f file (ended held e x) =
@@ -169,7 +169,7 @@ module _ (one_image : OneImage) (one_file : OneFile) (one_header : OneHeader) (o
       (subst (λ s. length s ≤ 65536) (joined_file rounds file) file.file.1) x.few in
       omega (arith, further, x.some)
 
-  pub no_fault : 0 < length ports.inputs → (rounds : List (List Image)) (f : ImageFault) → FitsFile ports bytes rounds → IsFault ports bytes f → ⊥
+  pub no_fault : 0 < length ports.inputs → (rounds : List (List Image)) (f : FileFault) → FitsFile ports bytes rounds → IsFault ports bytes f → ⊥
   no_fault some rounds f file x = no_kind some rounds f file (kind ports bytes f x)
 
   pub one_rounds : OneCut → 0 < length ports.inputs → (rounds others : List (List Image)) → FitsFile ports bytes rounds → FitsFile ports bytes others → rounds ≡ others

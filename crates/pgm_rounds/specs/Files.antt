@@ -7,12 +7,12 @@ use Rattle.pgm_codec.specs.declared.header.Header.{Header}
 use Rattle.pgm_codec.specs.declared.header.HeaderFault.TheVariants as header
 use Rattle.pgm_codec.specs.declared.raster.RasterFault.TheVariants as raster
 use Rattle.pgm_codec.specs.Answers.{Reads, Refuses}
-use Rattle.pgm_codec.specs.Images.{Picture as Image, AreImages, IsFile}
+use Rattle.pgm_codec.specs.Images.{Image, AreImages, IsFile}
 use Rattle.pgm_codec.specs.Rasters.{JudgesRaster}
 use Rattle.pgm_codec.specs.Rounds.{FitsInputs, Fits}
 use Rattle.dk_frames.specs.declared.frame.Frame.{Frame}
-use Rattle.pgm_rounds.specs.declared.fault.ImageFault.{ImageFault}
-use Rattle.pgm_rounds.specs.declared.fault.ImageFault.TheVariants.{Magic, LongHeader, Number, Range, Size as WrongSize, Maxval, SampleTooGreat, Short, Count, Round as OpenRound}
+use Rattle.pgm_rounds.specs.declared.fault.FileFault.{FileFault}
+use Rattle.pgm_rounds.specs.declared.fault.FileFault.TheVariants.{Magic, LongHeader, Number, Range, Size as WrongSize, Maxval, SampleTooGreat, Short, Count, Round as OpenRound}
 use Rattle.pgm_rounds.specs.declared.fault.FileError.{FileError}
 use Rattle.pgm_rounds.specs.declared.fault.FileError.TheVariants as error
 use Rattle.pgm_rounds.specs.declared.round.Round.{Round}
@@ -48,7 +48,7 @@ pub record IsHeaded (size : Size) (bits : ℕ) (bytes : List ℕ) (header : Head
   pub maxval : header.maxval ≤ 2 ^ bits - 1
 
 -- Why bytes, which stand at this offset of a file behind so many images, do not begin with an image for an input of so many bits.
-abbrev pub Refused : Size → (bits number offset : ℕ) → List ℕ → ImageFault → Type 0
+abbrev pub Refused : Size → (bits number offset : ℕ) → List ℕ → FileFault → Type 0
 Refused size bits number offset bytes (Magic at) = Refuses bytes header.Magic × (at ≡ offset)
 Refused size bits number offset bytes LongHeader = Refuses bytes header.LongHeader
 Refused size bits number offset bytes (Number at) = (inside : ℕ) × Refuses bytes (header.Number inside) × (at ≡ offset + inside)
@@ -61,7 +61,7 @@ Refused size bits number offset bytes Count = ⊥
 Refused size bits number offset bytes (OpenRound held need) = ⊥
 
 -- The images before are in order, and the next one, of which there is a byte if it is not the first, is refused.
-pub record IsRefused (ports : Ports) (bytes : List ℕ) (fault : ImageFault) : Type 0 where
+pub record IsRefused (ports : Ports) (bytes : List ℕ) (fault : FileFault) : Type 0 where
   pub rounds : List (List Image)
   pub further : List Image
   pub front : List ℕ
@@ -93,7 +93,7 @@ pub record EndsInRound (ports : Ports) (bytes : List ℕ) (held : ℕ) : Type 0 
   pub held_is : held ≡ length further
 
 -- The first fault of a file. Images are judged one after another, each in the order header, size, maxval, raster.
-abbrev pub IsFault : Ports → List ℕ → ImageFault → Type 0
+abbrev pub IsFault : Ports → List ℕ → FileFault → Type 0
 IsFault ports bytes Count = IsTooMany ports bytes
 IsFault ports bytes (OpenRound held need) = EndsInRound ports bytes held × (need ≡ length ports.inputs)
 IsFault ports bytes (Magic at) = IsRefused ports bytes (Magic at)

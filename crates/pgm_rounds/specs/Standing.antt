@@ -2,7 +2,7 @@
 use Rattle.std.specs.Prelude.{◌≡◌, ℕ, ◌-◌, ◌^◌, ◌<◌, ◌≤◌, Bool, List, ◌++◌, length, map, slice_index}
 use Rattle.dk_base.specs.Frames.{Size}
 use Rattle.pgm_codec.specs.declared.header.Header.{Header}
-use Rattle.pgm_codec.specs.Images.{Picture as Image, IsPicture}
+use Rattle.pgm_codec.specs.Images.{Image, IsImageOf}
 use Rattle.pgm_codec.specs.Rasters.{sample_by, BeginsImage}
 use Rattle.dk_frames.specs.declared.frame.Frame.{Frame}
 use Rattle.pgm_rounds.specs.declared.fault.FileError.{FileError}
@@ -28,7 +28,7 @@ pub record IsNext (size : Size) (bits : ℕ) (bytes : List ℕ) (len : ℕ) (fra
   pub rest : List ℕ
   pub parts : bytes ≡ first ++ rest
   pub length_is : len ≡ length first
-  pub is : IsPicture first image
+  pub is : IsImageOf first image
   pub width : image.width ≡ size.width
   pub height : image.height ≡ size.height
   pub maxval : image.maxval ≤ 2 ^ bits - 1

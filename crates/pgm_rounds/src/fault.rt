@@ -7,7 +7,7 @@ use std::alloc::{AllocError, AllocFailed};
 
 /// What is wrong with a file of images. Images and bytes are counted from the start of the file.
 #[derive(Clone, Copy, Debug, PartialEq, Eq, thiserror::Error)]
-pub enum ImageFault {
+pub enum FileFault {
     /// An image that does not begin with `P5`.
     #[error("Magic {offset}")]
     Magic { offset: usize },
@@ -44,15 +44,15 @@ pub enum ImageFault {
 #[derive(Clone, Copy, Debug, PartialEq, Eq, thiserror::Error)]
 pub enum FileError {
     #[error("{0}")]
-    Fault(ImageFault),
+    Fault(FileFault),
     #[error("out of memory")]
     OutOfMemory,
 }
 
-impl From<ImageFault> for FileError {
+impl From<FileFault> for FileError {
     ghost from_gives = { λ f e. e ≡ AFault f };
 
-    fn from(fault: ImageFault) -> FileError {
+    fn from(fault: FileFault) -> FileError {
         FileError::Fault(fault)
     }
 }

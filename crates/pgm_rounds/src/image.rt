@@ -9,7 +9,7 @@ ghost use Rattle.pgm_codec.specs.Rasters.{BeginsImage, raster_length as length_o
 ghost use Rattle.pgm_rounds.specs.Files.{HasSize, IsHeaded, Refused};
 ghost use Rattle.pgm_rounds.specs.Standing.{IsAccepted, AreSamples, IsNext, IsRefusal};
 
-use crate::fault::{FileError, ImageFault};
+use crate::fault::{FileError, FileFault};
 use dk_base::{FrameSize, OutOfMemory};
 use dk_frames::{Frame, Samples};
 use pgm_codec::{Header, HeaderFault, RasterFault, check_raster, read_header};
@@ -23,18 +23,18 @@ pub(crate) struct Place {
 }
 
 // The header with which the bytes at this offset begin.
-fn next_header(offset: usize, rest: &[u8]) -> Result<Header, ImageFault>
+fn next_header(offset: usize, rest: &[u8]) -> Result<Header, FileFault>
     requires { offset + length rest.now < 2 ^ 63 }
     ensures { MatchResult result (λ h. Reads rest.now h) (λ f. (size : TheSize) (bits number : ℕ) → Refused size bits number offset rest.now f) }
 {
     match read_header(rest) {
         Ok(header) => Ok(header),
-        Err(HeaderFault::Magic) => Err(ImageFault::Magic { offset }),
-        Err(HeaderFault::LongHeader) => Err(ImageFault::LongHeader),
-        Err(HeaderFault::Number { offset: inside }) => Err(ImageFault::Number {
+        Err(HeaderFault::Magic) => Err(FileFault::Magic { offset }),
+        Err(HeaderFault::LongHeader) => Err(FileFault::LongHeader),
+        Err(HeaderFault::Number { offset: inside }) => Err(FileFault::Number {
             offset: offset + inside,
         }),
-        Err(HeaderFault::Range { offset: inside }) => Err(ImageFault::Range {
+        Err(HeaderFault::Range { offset: inside }) => Err(FileFault::Range {
             offset: offset + inside,
         }),
     }
@@ -49,20 +49,20 @@ fn greatest_sample(width: u8) -> u32
 }
 
 // Whether the image has the frame's size, and a maxval that an input of so many bits takes.
-fn check_header(size: FrameSize, width: u8, header: &Header, rest: &[u8]) -> Result<(), ImageFault>
+fn check_header(size: FrameSize, width: u8, header: &Header, rest: &[u8]) -> Result<(), FileFault>
     requires width { width ≤ MAX_PORT_WIDTH }
     requires reads { Reads rest.now header.now }
     ensures headed { IfOk result (λ _. IsHeaded (size_of size) width rest.now header.now) }
     ensures fault { IfErr result (λ f. (number offset : ℕ) → Refused (size_of size) width number offset rest.now f) }
 {
     if header.width != size.width || header.height != size.height {
-        return Err(ImageFault::Size {
+        return Err(FileFault::Size {
             width: header.width,
             height: header.height,
         });
     }
     if greatest_sample(width) < u32::from(header.maxval) {
-        return Err(ImageFault::Maxval {
+        return Err(FileFault::Maxval {
             maxval: header.maxval,
         });
     }
@@ -83,7 +83,7 @@ fn check_samples(
     images: usize,
     header: &Header,
     rest: &[u8],
-) -> Result<(), ImageFault>
+) -> Result<(), FileFault>
     requires few { images < MAX_FILE_IMAGES }
     requires reads { Reads rest.now header.now }
     requires sized { HasSize (size_of size) header.now }
@@ -92,15 +92,15 @@ fn check_samples(
 {
     match check_raster(header, rest) {
         Ok(()) => Ok(()),
-        Err(RasterFault::SampleTooGreat { index }) => Err(ImageFault::SampleTooGreat {
+        Err(RasterFault::SampleTooGreat { index }) => Err(FileFault::SampleTooGreat {
             index: images * area(size) + index,
         }),
-        Err(RasterFault::Short { held, need }) => Err(ImageFault::Short { held, need }),
+        Err(RasterFault::Short { held, need }) => Err(FileFault::Short { held, need }),
     }
 }
 
 // The header of the image with which the bytes at this place begin.
-fn judge(size: FrameSize, width: u8, place: Place, rest: &[u8]) -> Result<Header, ImageFault>
+fn judge(size: FrameSize, width: u8, place: Place, rest: &[u8]) -> Result<Header, FileFault>
     requires width { width ≤ MAX_PORT_WIDTH }
     requires few { place.images < MAX_FILE_IMAGES }
     requires within { place.offset + length rest.now < 2 ^ 63 }
@@ -114,10 +114,11 @@ fn judge(size: FrameSize, width: u8, place: Place, rest: &[u8]) -> Result<Header
 }
 
 // The samples of one byte each.
-fn bytes_of(alloc: Global, raster: &[u8]) -> Result<Vec<u16>, OutOfMemory>
-    ensures { IfOk result (λ samples. samples.items ≡ raster.now) }
+fn bytes_of(alloc: Global, raster: &[u8]) -> Result<Samples, OutOfMemory>
+    ensures { IfOk result (λ samples. samples ≡ raster.now) }
 {
-    raster.iter().map(|byte| u16::from(*byte)).collect(alloc)
+    let samples = Vec::from_slice(alloc, raster)?;
+    Ok(Samples::from_bytes(samples))
 }
 
 // So many samples of two bytes each.
@@ -132,12 +133,21 @@ fn pairs_of(alloc: Global, raster: &[u8], count: usize) -> Result<Vec<u16>, OutO
         .collect(alloc)
 }
 
+// So many samples of two bytes each.
+fn words_of(alloc: Global, raster: &[u8], count: usize) -> Result<Samples, OutOfMemory>
+    requires { 2 * count ≤ length raster.now }
+    ensures { IfOk result (AreSamples false raster.now count) }
+{
+    let samples = pairs_of(alloc, raster, count)?;
+    Ok(Samples::new(samples))
+}
+
 // The samples of the image with which the bytes begin.
-fn read_samples(alloc: Global, header: &Header, rest: &[u8]) -> Result<Vec<u16>, OutOfMemory>
+fn read_samples(alloc: Global, header: &Header, rest: &[u8]) -> Result<Samples, OutOfMemory>
     requires reads { Reads rest.now header.now }
     requires image { (samples : List ℕ) × BeginsImage rest.now header.now samples }
     requires few { header.now.width * header.now.height ≤ MAX_SIDE * MAX_SIDE }
-    ensures { IfOk result (λ read. (samples : List ℕ) → BeginsImage rest.now header.now samples → read.items ≡ samples) }
+    ensures { IfOk result (λ read. (samples : List ℕ) → BeginsImage rest.now header.now samples → read ≡ samples) }
 {
     pgm_codec::one_answer();
     pgm_codec::rows_are_rasters();
@@ -146,7 +156,7 @@ fn read_samples(alloc: Global, header: &Header, rest: &[u8]) -> Result<Vec<u16>,
     if header.maxval < 256 {
         bytes_of(alloc, raster.split_at(count).0)
     } else {
-        pairs_of(alloc, raster, count)
+        words_of(alloc, raster, count)
     }
 }
 
@@ -191,7 +201,7 @@ pub(crate) fn read_image(
     let frame = Frame {
         width: header.width,
         height: header.height,
-        samples: Samples::new(samples),
+        samples,
     };
     Ok(ReadImage { frame, length })
 }

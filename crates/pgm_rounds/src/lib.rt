@@ -9,7 +9,7 @@ mod round;
 mod rounds;
 mod writing;
 
-pub use fault::{FileError, ImageFault};
+pub use fault::{FileError, FileFault};
 pub use laws::one_file;
 pub use round::Round;
 pub use rounds::read_rounds;

@@ -5,13 +5,13 @@ ghost use Rattle.std.specs.List.{All};
 ghost use Rattle.dk_base.specs.declared.TheConstants.{MAX_FILE_IMAGES, MAX_PORT_WIDTH};
 ghost use Rattle.dk_base.specs.Frames.{IsFrame};
 ghost use Rattle.dk_base.specs.FrameSizes.{size_of};
-ghost use Rattle.pgm_rounds.specs.declared.fault.ImageFault.TheVariants.{Round as OpenRound};
+ghost use Rattle.pgm_rounds.specs.declared.fault.FileFault.TheVariants.{Round as OpenRound};
 ghost use Rattle.pgm_rounds.specs.declared.fault.FileError.TheVariants.{Fault};
 ghost use Rattle.pgm_rounds.specs.Ports.{ports_with};
 ghost use Rattle.pgm_rounds.specs.Files.{IsError, frames_of};
 ghost use Rattle.pgm_rounds.specs.Standing.{Stands};
 
-use crate::fault::{FileError, ImageFault};
+use crate::fault::{FileError, FileFault};
 use crate::image::{Place, read_image};
 use crate::round::Round;
 use dk_base::{FrameSize, OutOfMemory};
@@ -92,7 +92,7 @@ impl Reading {
         if self.frames.is_empty() {
             Ok(self.rounds)
         } else {
-            Err(FileError::Fault(ImageFault::Round {
+            Err(FileError::Fault(FileFault::Round {
                 held: self.frames.len(),
                 need: inputs,
             }))

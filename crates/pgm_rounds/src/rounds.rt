@@ -5,11 +5,11 @@ ghost use Rattle.std.specs.List.{All};
 ghost use Rattle.dk_base.specs.declared.TheConstants.{MAX_PORT_WIDTH};
 ghost use Rattle.dk_base.specs.Frames.{IsFrame};
 ghost use Rattle.dk_base.specs.FrameSizes.{size_of};
-ghost use Rattle.pgm_codec.specs.Images.{Picture as Image};
+ghost use Rattle.pgm_codec.specs.Images.{Image};
 ghost use Rattle.pgm_rounds.specs.Ports.{ports_with};
 ghost use Rattle.pgm_rounds.specs.Files.{FitsFile, IsError, IsPortRound, frame_of, frames_of};
 
-use crate::fault::{FileError, ImageFault};
+use crate::fault::{FileError, FileFault};
 use crate::reading::Reading;
 use crate::round::Round;
 use dk_base::{FrameSize, MAX_FILE_IMAGES};
@@ -35,5 +35,5 @@ pub fn read_rounds(
             return reading.finish(widths.len());
         }
     }
-    Err(FileError::Fault(ImageFault::Count))
+    Err(FileError::Fault(FileFault::Count))
 }

@@ -85,6 +85,14 @@ fn program(
     }))
 }
 
+// Adds the samples of a frame.
+pub(crate) fn add_samples(samples: &Samples, all: &mut Vec<u16>) -> Result<(), AllocError> {
+    for place in 0..samples.as_slice().len() {
+        all.push(samples.sample(place))?;
+    }
+    Ok(())
+}
+
 // The outputs' samples one after another; none where there is no such program, or the frames do not fit.
 fn samples(
     alloc: Global,
@@ -100,7 +108,7 @@ fn samples(
         return Ok(all);
     }
     for out in evaluate(alloc, &ir, frames)? {
-        all.extend_from_slice(out.samples.as_slice())?;
+        add_samples(&out.samples, &mut all)?;
     }
     Ok(all)
 }

@@ -1,5 +1,6 @@
 // Files and images with bytes that were written by hand.
 
+use crate::pictures::add_samples;
 use dk_base::{Binary, FrameSize, Text, Ty};
 use pgm_rounds::{FileError, Round};
 use pointwise_eval::frames_fit;
@@ -12,7 +13,7 @@ fn no_name(alloc: Global) -> Text {
     Text::new(Vec::new(alloc))
 }
 
-// A program on frames of two pixels in a row, with inputs of so many bits, the first of 8. Its outputs are the first input and its double.
+// A program on frames of two pixels in a row, with inputs of so many bits. Its outputs are the first input and its double.
 fn program(alloc: Global, inputs: &[u8]) -> Result<Option<Ir>, AllocError> {
     let mut ports = Vec::new(alloc);
     for bits in inputs {
@@ -27,7 +28,7 @@ fn program(alloc: Global, inputs: &[u8]) -> Result<Option<Ir>, AllocError> {
     let mut images = Vec::new(alloc);
     images.push(Definition {
         name: no_name(alloc),
-        ty: Ty::Unsigned(9),
+        ty: Ty::Unsigned(inputs.first().map_or(1, |bits| bits.saturating_add(1))),
         body: double,
     })?;
     let Some(size) = FrameSize::checked(2, 1) else {
@@ -65,7 +66,7 @@ fn rounds_are_read(rt: HostRuntime) -> Result<(), Fail> {
         assert_eq!(rt; round.frames.len(), 2);
         for frame in round.frames {
             assert_eq!(rt; (frame.width, frame.height), (2, 1));
-            samples.extend_from_slice(frame.samples.as_slice())?;
+            add_samples(&frame.samples, &mut samples)?;
         }
     }
     let want = [1, 255, 258, 4095, 9, 0, 7, 255];
@@ -73,10 +74,10 @@ fn rounds_are_read(rt: HostRuntime) -> Result<(), Fail> {
     Ok(())
 }
 
-// The images of the outputs, for each round of a file of one input of 8 bits.
-fn written(alloc: Global, bytes: &[u8]) -> Result<Vec<u8>, AllocError> {
+// The images of the outputs, for each round of a file of one input of so many bits.
+fn written(alloc: Global, bits: u8, bytes: &[u8]) -> Result<Vec<u8>, AllocError> {
     let mut file = Vec::new(alloc);
-    let Some(ir) = program(alloc, &[8])? else {
+    let Some(ir) = program(alloc, &[bits])? else {
         return Ok(file);
     };
     match read_program_rounds(alloc, &ir, bytes) {
@@ -96,9 +97,12 @@ fn written(alloc: Global, bytes: &[u8]) -> Result<Vec<u8>, AllocError> {
 #[test]
 fn outputs_are_written(rt: HostRuntime) -> Result<(), Fail> {
     let alloc = rt.alloc();
-    let file = written(alloc, b"P5 2 1 255\n\xc8\x01P5 2 1 9\n\x02\x09")?;
+    let file = written(alloc, 8, b"P5 2 1 255\n\xc8\x01P5 2 1 9\n\x02\x09")?;
     let want =
         b"P5\n2 1\n255\n\xc8\x01P5\n2 1\n511\n\x01\x90\x00\x02P5\n2 1\n255\n\x02\x09P5\n2 1\n511\n\x00\x04\x00\x12";
     assert_eq!(rt; file.as_slice(), want.as_slice());
+    let wider = written(alloc, 12, b"P5 2 1 255\n\xc8\x01")?;
+    let want = b"P5\n2 1\n4095\n\x00\xc8\x00\x01P5\n2 1\n8191\n\x01\x90\x00\x02";
+    assert_eq!(rt; wider.as_slice(), want.as_slice());
     Ok(())
 }

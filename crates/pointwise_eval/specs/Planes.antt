@@ -10,14 +10,15 @@ use Rattle.dk_base.specs.Types.{IsPort}
 use Rattle.dk_base.specs.Frames.{framed, picture_at}
 use Rattle.pointwise_ir.specs.Meaning.{edged, value}
 use Rattle.pointwise_eval.specs.declared.plane.Plane.{Plane}
-use Rattle.pointwise_eval.specs.declared.plane.Plane.TheVariants.{Input, Unsigned8, Unsigned16, Unsigned32, Signed8, Signed16, Signed32, Signed64, Wide, Gone}
+use Rattle.pointwise_eval.specs.declared.plane.Plane.TheVariants.{Input8, Input16, Unsigned8, Unsigned16, Unsigned32, Signed8, Signed16, Signed32, Signed64, Wide, Gone}
 use Rattle.pointwise_eval.specs.Needs.{IsNeeded}
 use Rattle.pointwise_eval.specs.declared.plane.Row.{Row}
 use Rattle.pointwise_eval.specs.declared.plane.Row.TheVariants.{U8, U16, U32, I8, I16, I32, I64}
 
 -- its values
 abbrev pub values_of : Plane → List ℤ
-values_of (Input samples) = map pos samples.now
+values_of (Input8 samples) = map pos samples.now
+values_of (Input16 samples) = map pos samples.now
 values_of (Unsigned8 elements) = map pos elements.items
 values_of (Unsigned16 elements) = map pos elements.items
 values_of (Unsigned32 elements) = map pos elements.items
@@ -39,7 +40,8 @@ entries_of (I64 values) = values.now
 
 -- a plane of values of 64 bits
 abbrev pub IsByRows : Plane → Type 0
-IsByRows (Input samples) = Unit {0}
+IsByRows (Input8 samples) = Unit {0}
+IsByRows (Input16 samples) = Unit {0}
 IsByRows (Unsigned8 elements) = Unit {0}
 IsByRows (Unsigned16 elements) = Unit {0}
 IsByRows (Unsigned32 elements) = Unit {0}

@@ -14,15 +14,25 @@ ghost use Rattle.pointwise_eval.specs.Needs.{IsNeeded, image_count, AreNeeds};
 ghost use Rattle.pointwise_eval.specs.Planes.{values_of, all_shown, AreValues, IsWhole, CanEvaluate, IsPlaneOf, AreSameOrGone, ShowsNeeded, IsOutputPlane};
 ghost use Rattle.pointwise_eval.specs.Rounds.{AreFrames, round_of, frame_of, output_frames};
 
-use crate::need::{is_needed, lasts, needs};
+use crate::need::{is_needed, needs};
 use crate::plane::Plane;
 use crate::rows::render;
 use dk_base::{FrameSize, OutOfMemory};
-use dk_frames::{Frame, Samples};
+use dk_frames::{Frame, SampleSlice, Samples};
 use pointwise_ir::{Definition, Expr, Input, Ir};
 use std::alloc::Global;
 use std::mem;
 use value_rows::Element;
+
+// The plane of an input.
+fn input_plane(samples: &Samples) -> Plane<'_>
+    ensures { values_of result ≡ map pos samples.now }
+{
+    match samples.as_slice() {
+        SampleSlice::U8(samples) => Plane::Input8(samples),
+        SampleSlice::U16(samples) => Plane::Input16(samples),
+    }
+}
 
 // The planes of the inputs.
 fn input_planes<'a>(alloc: Global, frames: &'a [Frame]) -> Result<Vec<Plane<'a>>, OutOfMemory>
@@ -30,7 +40,7 @@ fn input_planes<'a>(alloc: Global, frames: &'a [Frame]) -> Result<Vec<Plane<'a>>
 {
     let mut planes = Vec::new(alloc);
     for frame in frames {
-        planes.push(Plane::Input(frame.samples.as_slice()))?;
+        planes.push(input_plane(&frame.samples))?;
     }
     Ok(planes)
 }
@@ -44,7 +54,6 @@ fn next_plane<'a>(
     images: &[Definition],
     body: &Expr,
     wanted: bool,
-    is_output: bool,
 ) -> Result<Plane<'a>, OutOfMemory>
     requires can { IsTrue wanted → CanEvaluate (size_of size) planes.now (tree_of body.now) }
     requires types { All IsType (all_types inputs.now images.now) }
@@ -53,7 +62,7 @@ fn next_plane<'a>(
     ensures { IfOk result (λ p. IsPlaneOf (size_of size) planes.now (tree_of body.now) wanted p) }
 {
     if wanted {
-        render(alloc, size, planes, inputs, images, body, is_output)
+        render(alloc, size, planes, inputs, images, body)
     } else {
         Ok(Plane::Gone)
     }
@@ -129,7 +138,6 @@ fn all_planes<'a>(
             before,
             &images[k].body,
             wanted,
-            lasts(until, number),
         )?;
         planes.push(plane)?;
         drop_unneeded(&mut planes, until, number + 1);
@@ -147,58 +155,75 @@ fn sample_of<T: Element>(element: T) -> u16
 }
 
 // Values that are samples.
-fn narrow_samples(alloc: Global, values: &[i64]) -> Result<Vec<u16>, OutOfMemory>
+fn narrow_samples(alloc: Global, values: &[i64]) -> Result<Samples, OutOfMemory>
     requires { All (λ v. (pos 0 ≤ℤ v) × (v <ℤ pos 65536)) values.now }
-    ensures { IfOk result (λ s. s.items ≡ map unsigned_abs values.now) }
+    ensures { IfOk result (λ s. s ≡ map unsigned_abs values.now) }
 {
     let mut samples = Vec::new(alloc);
     for value in values {
         samples.push(*value as u16)?;
     }
-    Ok(samples)
+    Ok(Samples::new(samples))
 }
 
 // Elements that are samples.
-fn element_samples<T: Element>(alloc: Global, elements: &[T]) -> Result<Vec<u16>, OutOfMemory>
+fn element_samples<T: Element>(alloc: Global, elements: &[T]) -> Result<Samples, OutOfMemory>
     requires { All (λ v. (pos 0 ≤ℤ v) × (v <ℤ pos 65536)) (map T.worth elements.now) }
-    ensures { IfOk result (λ s. s.items ≡ map unsigned_abs (map T.worth elements.now)) }
+    ensures { IfOk result (λ s. s ≡ map unsigned_abs (map T.worth elements.now)) }
 {
     let mut samples = Vec::with_capacity(alloc, elements.len())?;
     for element in elements {
         samples.push(sample_of(*element))?;
     }
-    Ok(samples)
+    Ok(Samples::new(samples))
 }
 
 // Values that are samples.
-fn wide_samples(alloc: Global, values: &[i128]) -> Result<Vec<u16>, OutOfMemory>
+fn wide_samples(alloc: Global, values: &[i128]) -> Result<Samples, OutOfMemory>
     requires { All (λ v. (pos 0 ≤ℤ v) × (v <ℤ pos 65536)) values.now }
-    ensures { IfOk result (λ s. s.items ≡ map unsigned_abs values.now) }
+    ensures { IfOk result (λ s. s ≡ map unsigned_abs values.now) }
 {
     let mut samples = Vec::new(alloc);
     for value in values {
         samples.push(*value as u16)?;
     }
-    Ok(samples)
+    Ok(Samples::new(samples))
+}
+
+// A copy of 8-bit samples.
+fn copied_bytes(alloc: Global, samples: &[u8]) -> Result<Samples, OutOfMemory>
+    ensures { IfOk result (λ s. s ≡ samples.now) }
+{
+    let copy = Vec::from_slice(alloc, samples)?;
+    Ok(Samples::from_bytes(copy))
+}
+
+// A copy of 16-bit samples.
+fn copied_words(alloc: Global, samples: &[u16]) -> Result<Samples, OutOfMemory>
+    ensures { IfOk result (λ s. s ≡ samples.now) }
+{
+    let copy = Vec::from_slice(alloc, samples)?;
+    Ok(Samples::new(copy))
 }
 
 // The samples of a plane.
 #[tactic(auto, using(crate::proofs::Pixels::samples_back))]
-fn samples_of(alloc: Global, plane: Plane<'_>) -> Result<Vec<u16>, OutOfMemory>
+fn samples_of(alloc: Global, plane: Plane<'_>) -> Result<Samples, OutOfMemory>
     requires { All (λ v. (pos 0 ≤ℤ v) × (v <ℤ pos 65536)) (values_of plane) }
-    ensures { IfOk result (λ s. s.items ≡ map unsigned_abs (values_of plane.entry)) }
+    ensures { IfOk result (λ s. s ≡ map unsigned_abs (values_of plane.entry)) }
 {
     match plane {
-        Plane::Input(samples) => Ok(Vec::from_slice(alloc, samples)?),
-        Plane::Unsigned16(samples) => Ok(samples),
-        Plane::Unsigned8(elements) => element_samples(alloc, &elements),
+        Plane::Input8(samples) => copied_bytes(alloc, samples),
+        Plane::Input16(samples) => copied_words(alloc, samples),
+        Plane::Unsigned8(samples) => Ok(Samples::from_bytes(samples)),
+        Plane::Unsigned16(samples) => Ok(Samples::new(samples)),
         Plane::Unsigned32(elements) => element_samples(alloc, &elements),
         Plane::Signed8(elements) => element_samples(alloc, &elements),
         Plane::Signed16(elements) => element_samples(alloc, &elements),
         Plane::Signed32(elements) => element_samples(alloc, &elements),
         Plane::Signed64(values) => narrow_samples(alloc, &values),
         Plane::Wide(values) => wide_samples(alloc, &values),
-        Plane::Gone => Ok(Vec::new(alloc)),
+        Plane::Gone => Ok(Samples::new(Vec::new(alloc))),
     }
 }
 
@@ -211,7 +236,7 @@ fn output_frame(alloc: Global, size: FrameSize, plane: Plane<'_>) -> Result<Fram
     Ok(Frame {
         width: size.width,
         height: size.height,
-        samples: Samples::new(samples),
+        samples,
     })
 }
 

@@ -5,14 +5,15 @@ ghost use Rattle.std.specs.List.{All};
 ghost use Rattle.dk_base.specs.FrameSizes.{size_of};
 ghost use Rattle.dk_base.specs.Types.{IsType, above};
 ghost use Rattle.dk_base.specs.Types.{IsPort};
+ghost use Rattle.dk_frames.specs.Slices.{samples_of};
 ghost use Rattle.pointwise_eval.specs.Rounds.{IsInputFrame, AreInputFrames, AreFrames};
 
 use dk_base::{FrameSize, Ty};
-use dk_frames::Frame;
+use dk_frames::{Frame, SampleSlice};
 use pointwise_ir::{Input, Ir};
 
-// Whether the samples are in the range of the type.
-fn samples_fit(samples: &[u16], ty: Ty) -> bool
+// Whether 8-bit samples are in the range of the type.
+fn bytes_fit(samples: &[u8], ty: Ty) -> bool
     requires { IsType ty }
     ensures yes { IsTrue result → All (λ s. s < above ty) samples.now }
     ensures no { All (λ s. s < above ty) samples.now → IsTrue result }
@@ -24,6 +25,33 @@ fn samples_fit(samples: &[u16], ty: Ty) -> bool
         }
     }
     true
+}
+
+// Whether 16-bit samples are in the range of the type.
+fn words_fit(samples: &[u16], ty: Ty) -> bool
+    requires { IsType ty }
+    ensures yes { IsTrue result → All (λ s. s < above ty) samples.now }
+    ensures no { All (λ s. s < above ty) samples.now → IsTrue result }
+{
+    let greatest = ty.greatest();
+    for sample in samples {
+        if greatest < i128::from(*sample) {
+            return false;
+        }
+    }
+    true
+}
+
+// Whether the samples are in the range of the type.
+fn samples_fit(samples: SampleSlice<'_>, ty: Ty) -> bool
+    requires { IsType ty }
+    ensures yes { IsTrue result → All (λ s. s < above ty) (samples_of samples.entry) }
+    ensures no { All (λ s. s < above ty) (samples_of samples.entry) → IsTrue result }
+{
+    match samples {
+        SampleSlice::U8(samples) => bytes_fit(samples, ty),
+        SampleSlice::U16(samples) => words_fit(samples, ty),
+    }
 }
 
 // Whether the frame has the size, and samples in the range of the type.

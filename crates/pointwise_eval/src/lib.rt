@@ -11,6 +11,6 @@ mod rows;
 mod value;
 mod walk;
 
-pub use dk_frames::{Frame, Samples};
+pub use dk_frames::{Frame, SampleSlice, Samples};
 pub use evaluation::evaluate;
 pub use fit::frames_fit;

@@ -70,15 +70,6 @@ pub fn is_needed(until: &[usize], number: usize) -> bool
     until[number] > number + 1
 }
 
-// Whether the image of this number is needed behind all images, as an output is.
-pub fn lasts(until: &[usize], number: usize) -> bool
-    requires { number < length until.now }
-    ensures yes { IsTrue result → IsNeeded until.now (length until.now) number }
-    ensures no { IsNeeded until.now (length until.now) number → IsTrue result }
-{
-    until[number] > until.len()
-}
-
 // Notes what the images read that are needed behind themselves, the last first.
 fn mark_reads(inputs: usize, images: &[Definition], until: &mut [usize])
     requires long { length until.old ≡ inputs + length images.now }

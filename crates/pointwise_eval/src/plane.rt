@@ -6,7 +6,8 @@ ghost use Rattle.pointwise_eval.specs.Planes.{IsByRows};
 // The values of an image in raster order: the samples of an input where they are; else, where all values that occur while it is computed are of 64 bits, elements of as few bytes as the image's type needs; else values of 128 bits. Gone are those of an image that is not needed, or not any more.
 #[derive(Drop)]
 pub enum Plane<'a> {
-    Input(&'a [u16]),
+    Input8(&'a [u8]),
+    Input16(&'a [u16]),
     Unsigned8(Vec<u8>),
     Unsigned16(Vec<u16>),
     Unsigned32(Vec<u32>),
@@ -36,7 +37,8 @@ impl Plane<'_> {
         ensures { IsTrue result → IsByRows self.now }
     {
         match self {
-            Plane::Input(_) => true,
+            Plane::Input8(_) => true,
+            Plane::Input16(_) => true,
             Plane::Unsigned8(_) => true,
             Plane::Unsigned16(_) => true,
             Plane::Unsigned32(_) => true,

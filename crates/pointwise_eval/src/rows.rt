@@ -175,15 +175,15 @@ enum Held {
     Signed64,
 }
 
-// The elements of fewest bytes that hold the type's numbers. An output's have 16 bits at least, since it is handed out as samples.
+// The elements of fewest bytes that hold the type's numbers.
 #[tactic(auto, using(crate::proofs::Pixels::unsigned_within, crate::proofs::Pixels::signed_within))]
-fn held_as(ty: Ty, is_output: bool) -> Held
+fn held_as(ty: Ty) -> Held
     ensures { HoldsAll result ty }
 {
     match ty {
         Ty::Unsigned(width) => match width {
-            0..=8 if !is_output => Held::Unsigned8,
-            0..=16 => Held::Unsigned16,
+            0..=8 => Held::Unsigned8,
+            9..=16 => Held::Unsigned16,
             17..=32 => Held::Unsigned32,
             _ => Held::Signed64,
         },
@@ -203,7 +203,6 @@ fn render_rows<'a>(
     planes: &[Plane<'_>],
     e: &Expr,
     ty: Ty,
-    is_output: bool,
 ) -> Result<Plane<'a>, OutOfMemory>
     requires can { CanEvaluate (size_of size) planes.now (tree_of e.now) }
     requires rows { EachImage (HasRows planes.now) (tree_of e.now) }
@@ -213,7 +212,7 @@ fn render_rows<'a>(
     ensures whole { IfOk result (λ p. length (values_of p) ≡ area (size_of size)) }
     ensures value { IfOk result (λ p. shown (size_of size) (values_of p) ≡ framed (size_of size) (value (size_of size) (all_shown (size_of size) planes.now) (tree_of e.now))) }
 {
-    match held_as(ty, is_output) {
+    match held_as(ty) {
         Held::Unsigned8 => Ok(Plane::Unsigned8(render_elements(alloc, size, planes, e)?)),
         Held::Unsigned16 => Ok(Plane::Unsigned16(render_elements(alloc, size, planes, e)?)),
         Held::Unsigned32 => Ok(Plane::Unsigned32(render_elements(alloc, size, planes, e)?)),
@@ -232,7 +231,6 @@ pub fn render<'a>(
     inputs: &[Input],
     images: &[Definition],
     e: &Expr,
-    is_output: bool,
 ) -> Result<Plane<'a>, OutOfMemory>
     requires can { CanEvaluate (size_of size) planes.now (tree_of e.now) }
     requires types { All IsType (all_types inputs.now images.now) }
@@ -247,5 +245,5 @@ pub fn render<'a>(
     let Some(ty) = narrow_type(e, inputs, images) else {
         return render_points(alloc, size, planes, e);
     };
-    render_rows(alloc, size, planes, e, ty, is_output)
+    render_rows(alloc, size, planes, e, ty)
 }

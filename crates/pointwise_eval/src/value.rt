@@ -30,7 +30,8 @@ fn value_of(plane: &Plane<'_>, place: usize) -> i128
     ensures { result ≡ slice_index_or (values_of plane.now) place (pos 0) }
 {
     match plane {
-        Plane::Input(samples) => element_at(*samples, place),
+        Plane::Input8(samples) => element_at(*samples, place),
+        Plane::Input16(samples) => element_at(*samples, place),
         Plane::Unsigned8(elements) => element_at(elements, place),
         Plane::Unsigned16(elements) => element_at(elements, place),
         Plane::Unsigned32(elements) => element_at(elements, place),

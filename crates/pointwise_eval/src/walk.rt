@@ -50,7 +50,8 @@ fn row_values<'a>(plane: &'a Plane<'_>) -> Row<'a>
     ensures { entries_of result ≡ values_of plane.now }
 {
     match plane {
-        Plane::Input(samples) => Row::U16(*samples),
+        Plane::Input8(samples) => Row::U8(*samples),
+        Plane::Input16(samples) => Row::U16(*samples),
         Plane::Unsigned8(elements) => Row::U8(elements.as_slice()),
         Plane::Unsigned16(elements) => Row::U16(elements.as_slice()),
         Plane::Unsigned32(elements) => Row::U32(elements.as_slice()),

@@ -11,7 +11,7 @@ use Rattle.dk_base.specs.declared.ty.Ty.{Ty}
 use Rattle.dk_base.specs.declared.ty.Ty.TheVariants.{Unsigned, Signed}
 use Rattle.dk_base.specs.Types.{width_of, IsIn, greatest_of}
 use Rattle.dk_base.specs.Frames.{Size, Picture, raster}
-use Rattle.pgm_codec.specs.Images.{Picture as Image, header_of, raster_of, file_of}
+use Rattle.pgm_codec.specs.Images.{Image, header_of, raster_of, file_of}
 use Rattle.dk_base.specs.Types.{IsPort}
 use Rattle.pointwise_ir.specs.Programs.{Program, IsProgram, IsOutput, types_of}
 use Rattle.dk_base.specs.Frames.{picture_at}

@@ -3,7 +3,7 @@
 ghost use Rattle.std.specs.Prelude.{◌≡◌, List, map, IfOk, IfErr};
 ghost use Rattle.std.specs.List.{All};
 ghost use Rattle.dk_base.specs.Types.{width_of};
-ghost use Rattle.pgm_codec.specs.Images.{Picture as Image};
+ghost use Rattle.pgm_codec.specs.Images.{Image};
 ghost use Rattle.pgm_rounds.specs.Files.{FitsFile, IsError, frame_of, frames_of};
 ghost use Rattle.dk_base.specs.Types.{IsPort};
 ghost use Rattle.pointwise_eval.specs.Rounds.{AreFrames};

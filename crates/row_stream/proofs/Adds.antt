@@ -10,7 +10,7 @@ use Rattle.dk_desk.proofs.DeskLemmas.{prepend_known-more}
 use Rattle.wiring.specs.Netlist.{Netlist}
 use Rattle.wiring.specs.Snapshot.{Contents}
 use Rattle.pgm_codec.specs.declared.header.Header.{Header}
-use Rattle.pgm_codec.specs.Images.{Picture as Image, AreImages}
+use Rattle.pgm_codec.specs.Images.{Image, AreImages}
 use Rattle.pgm_codec.specs.Rasters.{row_length}
 use Rattle.row_stream.specs.declared.line.Line.{Line}
 use Rattle.row_stream.specs.Lines.{Kind}

@@ -9,11 +9,11 @@ use Rattle.pgm_codec.specs.declared.header.Header.{Header}
 use Rattle.pgm_codec.specs.declared.raster.RasterFault.{RasterFault}
 use Rattle.pgm_codec.specs.declared.raster.RasterFault.TheVariants.{SampleTooGreat, Short}
 use Rattle.std.specs.Prelude.{Bool, true, false}
-use Rattle.pgm_codec.specs.Images.{Picture as Image, AreImages, sample_size, size_of, is_narrow}
+use Rattle.pgm_codec.specs.Images.{Image, AreImages, sample_size, size_of, is_narrow}
 use Rattle.pgm_codec.specs.Rasters.{JudgesRaster, JudgesRow, AllFit, FirstGreat, sample_at, row_length, behind}
 use Rattle.pgm_codec.specs.Rounds.{FitsInputs}
-use Rattle.pgm_rounds.specs.declared.fault.ImageFault.{ImageFault}
-use Rattle.pgm_rounds.specs.declared.fault.ImageFault.TheVariants as image
+use Rattle.pgm_rounds.specs.declared.fault.FileFault.{FileFault}
+use Rattle.pgm_rounds.specs.declared.fault.FileFault.TheVariants as image
 use Rattle.pgm_rounds.specs.Files.{joined, Taken, Refused, IsRefused, IsFault, FitsFile}
 use Rattle.row_stream.specs.Rows.{AreRows}
 use Rattle.row_stream.specs.Images.{FitsImage}
@@ -54,7 +54,7 @@ fits_file size bits images bytes file is are fit some few = record {
   fits = record { joined = sym (sym (append-nil (joined (rounds_of images))) ∙ joined_is images); fit = whole_is size bits images fit };
 }
 
-as_fault : (size : Size) (bits number offset : ℕ) (bytes rest : List ℕ) (f : ImageFault) → IsRefused (one_port size bits) bytes f → Refused size bits number offset rest f → IsFault (one_port size bits) bytes f
+as_fault : (size : Size) (bits number offset : ℕ) (bytes rest : List ℕ) (f : FileFault) → IsRefused (one_port size bits) bytes f → Refused size bits number offset rest f → IsFault (one_port size bits) bytes f
 as_fault size bits number offset bytes rest (image.Magic at) i r = i
 as_fault size bits number offset bytes rest image.LongHeader i r = i
 as_fault size bits number offset bytes rest (image.Number at) i r = i
@@ -67,7 +67,7 @@ as_fault size bits number offset bytes rest image.Count i r = absurd r
 as_fault size bits number offset bytes rest (image.Round held need) i r = absurd r
 
 -- an image behind these is refused
-pub first_refused : (size : Size) (bits count : ℕ) (images : List Image) (bytes rest file : List ℕ) (f : ImageFault) → file ≡ bytes ++ rest → AreImages bytes images → AllByRecursion (FitsImage size (greatest bits)) images → length images ≡ count
+pub first_refused : (size : Size) (bits count : ℕ) (images : List Image) (bytes rest file : List ℕ) (f : FileFault) → file ≡ bytes ++ rest → AreImages bytes images → AllByRecursion (FitsImage size (greatest bits)) images → length images ≡ count
     → count < MAX_FILE_IMAGES → (0 < count → 0 < length rest) → Refused size bits count (length bytes) rest f → IsFault (one_port size bits) file f
 first_refused size bits count images bytes rest file f parts are fit number few some r =
     let is : length (joined (rounds_of images) ++ []) ≡ count = count_is images ∙ number in

@@ -12,7 +12,7 @@ use Rattle.pgm_codec.specs.Answers.{Refuses, Reads, OutOfRange}
 use Rattle.std.specs.Prelude.{Result, Ok, Err}
 use Rattle.pgm_codec.proofs.Unique.{one_answer}
 use Rattle.pgm_codec.proofs.Stays.{stays, reads_more}
-use Rattle.pgm_rounds.specs.declared.fault.ImageFault.{ImageFault}
+use Rattle.pgm_rounds.specs.declared.fault.FileFault.{FileFault}
 use Rattle.pgm_rounds.specs.Files.{HasSize, Refused}
 use Rattle.pgm_rounds.proofs.Digits.{range_within}
 use Rattle.row_stream.specs.Heads.{IsNoHead, decided, ended, MissesHead, TakesHead, RefusesHead}
@@ -64,7 +64,7 @@ one_header bytes g h r s = taken_out g h (one_answer bytes (Ok g) (Ok h) r s)
     taken_out : (g h : Header) → ◌≡◌ {A = Result Header HeaderFault} (Ok g) (Ok h) → g ≡ h
     taken_out g h e = cc
 
-pub refuses_head : (size : Size) (bits offset : ℕ) (f : HeaderFault) (g : ImageFault) (old new : Input) (may_end : Rattle.std.specs.Prelude.Bool) → ((size : Size) (bits number : ℕ) (bytes : List ℕ) → Refuses bytes f → Refused size bits number offset bytes g)
+pub refuses_head : (size : Size) (bits offset : ℕ) (f : HeaderFault) (g : FileFault) (old new : Input) (may_end : Rattle.std.specs.Prelude.Bool) → ((size : Size) (bits number : ℕ) (bytes : List ℕ) → Refuses bytes f → Refused size bits number offset bytes g)
     → MissesHead may_end f old new → RefusesHead size bits offset may_end g old new
 refuses_head size bits offset f g old new may_end told h = record {
   read = h.read;
@@ -79,7 +79,7 @@ pub reads_some : (bytes : List ℕ) (h : Header) → Reads bytes h → 0 < lengt
 reads_some bytes h r = omega (arith, ap length r.heads.text.magic, ap length r.parts, Rattle.std.proofs.Common.length-append r.front r.rest)
 
 -- a header that was taken, and is of no image that fits
-pub refuses_taken : (size : Size) (bits offset : ℕ) (header : Header) (g : ImageFault) (old new : Input) (may_end : Rattle.std.specs.Prelude.Bool) → ((number offset : ℕ) (bytes : List ℕ) → Reads bytes header → Refused size bits number offset bytes g)
+pub refuses_taken : (size : Size) (bits offset : ℕ) (header : Header) (g : FileFault) (old new : Input) (may_end : Rattle.std.specs.Prelude.Bool) → ((number offset : ℕ) (bytes : List ℕ) → Reads bytes header → Refused size bits number offset bytes g)
     → (HasSize size header → header.maxval ≤ 2 ^ bits - 1 → ⊥) → TakesHead header old new → RefusesHead size bits offset may_end g old new
 refuses_taken size bits offset header g old new may_end told unfit h = record {
   read = h.read;

@@ -12,7 +12,7 @@ use Rattle.pgm_codec.specs.declared.raster.RasterFault.{RasterFault}
 use Rattle.pgm_codec.specs.declared.raster.RasterFault.TheVariants.{SampleTooGreat}
 use Rattle.pgm_codec.specs.Rasters.{JudgesRow, JudgesRaster, row_length}
 use Rattle.pgm_codec.proofs.Stays.{reads_more}
-use Rattle.pgm_rounds.specs.declared.fault.ImageFault.{ImageFault}
+use Rattle.pgm_rounds.specs.declared.fault.FileFault.{FileFault}
 use Rattle.pgm_rounds.specs.Files.{IsFault, IsHeaded, Refused}
 use Rattle.row_stream.specs.declared.line.Line.{Line}
 use Rattle.row_stream.specs.declared.rows.RowsFault.TheVariants.{Raster}
@@ -101,7 +101,7 @@ module _ (kind : Kind) (m : Netlist) (bits count offset : ℕ) (header : Header)
     })
 
 -- what was refused behind images is the file's first fault
-module _ (kind : Kind) (m : Netlist) (bits : ℕ) (f : ImageFault) (all : Option (List ℕ)) (from : Contents) (old : Line) (before now : Outside) where
+module _ (kind : Kind) (m : Netlist) (bits : ℕ) (f : FileFault) (all : Option (List ℕ)) (from : Contents) (old : Line) (before now : Outside) where
   first_behind : (e : EndsBehind kind m bits (Image f) all from old before now) → RefusesNext kind.size bits e.count (length e.images.bytes) f e.half.image now.image → (file : List ℕ) → all ≡ Some file → IsFault (one_port kind.size bits) file f
   first_behind e (refused few r) file told =
       let p = told_parts e.images.bytes e.half.image.rest file (sym e.images.given ∙ told) in

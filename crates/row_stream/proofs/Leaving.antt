@@ -17,7 +17,7 @@ use Rattle.wiring.specs.Clock.{Clock}
 use Rattle.wiring.specs.Runs.{Runs, picture}
 use Rattle.pgm_codec.specs.declared.header.Header.{Header}
 use Rattle.pgm_codec.specs.Images.{IsRaster, raster_of}
-use Rattle.pgm_rounds.specs.declared.fault.ImageFault.{ImageFault}
+use Rattle.pgm_rounds.specs.declared.fault.FileFault.{FileFault}
 use Rattle.row_stream.specs.declared.line.Line.{Line}
 use Rattle.row_stream.specs.declared.rows.RowsFault.{RowsFault}
 use Rattle.row_stream.specs.declared.rows.RowsFault.TheVariants.{Raster, Read as RowsRead, Write as RowsWrite}
@@ -291,7 +291,7 @@ module _ (kind : Kind) (m : Netlist) (bits latency : ℕ) (name : List ℕ) (fro
             (subst (λ n. Fails kind m (pixel_clocks (samples_in e.header.maxval w.row) n) w.mid w.between w.read now) (let d : e.header.width ≡ 1 * e.header.width = omega arith in d) w.fails)));
       }
 
-  found : (f : ImageFault) (now : Outside) → FindsFault kind m bits f all first next start now → LeavesAtFault kind m bits f name from old now
+  found : (f : FileFault) (now : Outside) → FindsFault kind m bits f all first next start now → LeavesAtFault kind m bits f name from old now
   found f now (found_behind e) = behind created made (leaves_behind (Image f) now e)
   found f now (found_inside g e) = inside created made g (leaves_inside (Raster g) now e.count e.header e.to e.new e.half e.few e.fits e.at e.why)
 
@@ -340,7 +340,7 @@ module _ (kind : Kind) (m : Netlist) (bits latency : ℕ) (name : List ℕ) (fro
 
 -- ---- the first header
 
-apart : (f : ImageFault) → ◌≡◌ {A = StreamFault} (Image f) Read → ⊥
+apart : (f : FileFault) → ◌≡◌ {A = StreamFault} (Image f) Read → ⊥
 apart f e = cc
 
 pub leaves_first : (kind : Kind) (m : Netlist) (bits latency : ℕ) (name : List ℕ) (from : Contents) (old now : Outside) (f : StreamFault) → EndsHeading kind.size bits 0 false f old.image now.image → ReadsOnly ImageSlot old now

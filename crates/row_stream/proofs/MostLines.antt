@@ -14,7 +14,7 @@ use Rattle.pgm_codec.specs.declared.header.Header.{Header}
 use Rattle.pgm_codec.specs.declared.raster.RasterFault.{RasterFault}
 use Rattle.pgm_codec.specs.declared.raster.RasterFault.TheVariants.{SampleTooGreat, Short}
 use Rattle.pgm_codec.specs.Answers.{Reads, Undecided}
-use Rattle.pgm_codec.specs.Images.{Picture as Image, IsPicture, IsRaster, AreImages, sample_size, is_narrow}
+use Rattle.pgm_codec.specs.Images.{Image, IsImageOf, IsRaster, AreImages, sample_size, is_narrow}
 use Rattle.pgm_codec.specs.Rasters.{JudgesRow, sample_at, row_length}
 use Rattle.pgm_codec.proofs.Stays.{reads_more}
 use Rattle.pgm_codec.proofs.Judged.{raster_holds}
@@ -33,7 +33,7 @@ use Rattle.row_stream.proofs.HeadLemmas.{nothing as none_behind, first_nothing}
 use Rattle.pgm_codec.proofs.Decoding.{length_spelled}
 use Rattle.pgm_codec.proofs.Unique.{one_front, reads_whole}
 use Rattle.pgm_codec.specs.Answers.{Whole}
-use Rattle.pgm_rounds.specs.declared.fault.ImageFault.{ImageFault}
+use Rattle.pgm_rounds.specs.declared.fault.FileFault.{FileFault}
 use Rattle.row_stream.proofs.Adds.{times_turned}
 use Rattle.row_stream.proofs.HeadEnds.{one_header, at_end}
 use Rattle.row_stream.proofs.FirstFault.{behind_is, columns, some_size, told_parts}
@@ -75,7 +75,7 @@ no_more header rows more bytes o h = by (cases_lt rows more) o
     by (inl l) (short s) = absurd (let e : (rows + 1) * row_length header ≤ more * row_length header = times rows more (row_length header) l in omega (arith, s, e, row_bytes more header, h.enough))
     by (inl l) (great k b g) = absurd (let e : (rows + 1) * header.width ≤ more * header.width = times rows more header.width l in above (sample_at header.maxval bytes k) header.maxval (h.fit k (omega (arith, b, e))) g)
 
-picture_reads : (first rest : List ℕ) (p : Image) → (i : IsPicture first p) → Reads (first ++ rest) (record { width = p.width; height = p.height; maxval = p.maxval; length = length i.header })
+picture_reads : (first rest : List ℕ) (p : Image) → (i : IsImageOf first p) → Reads (first ++ rest) (record { width = p.width; height = p.height; maxval = p.maxval; length = length i.header })
 picture_reads first rest p i = record {
   front = i.header;
   rest = i.raster ++ rest;
@@ -185,7 +185,7 @@ regrouped : (a b c d : List ℕ) → (a ++ (b ++ c)) ++ d ≡ a ++ (b ++ (c ++ d
 regrouped a b c d = append_assoc a (b ++ c) d ∙ ap (λ z. a ++ z) (append_assoc b c d)
 
 module _ (one : OneImage) (kind : Kind) (m : Netlist) (bits : ℕ) (from : Contents) (created now : Outside) where
-  pub fault_behind : (f : ImageFault) (file : List ℕ) → (e : LeavesBehind kind m bits (ImageFails f) (Some file) from created now) → e.count < MAX_FILE_IMAGES → EndsLines kind.size bits file (e.count * kind.size.height)
+  pub fault_behind : (f : FileFault) (file : List ℕ) → (e : LeavesBehind kind m bits (ImageFails f) (Some file) from created now) → e.count < MAX_FILE_IMAGES → EndsLines kind.size bits file (e.count * kind.size.height)
   fault_behind f file e few = by e.why
     where
       by : RefusesNext kind.size bits e.count (length e.taken.bytes) f e.half.image now.image → EndsLines kind.size bits file (e.count * kind.size.height)

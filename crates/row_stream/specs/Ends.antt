@@ -9,8 +9,8 @@ use Rattle.wiring.specs.Snapshot.{Contents}
 use Rattle.pgm_codec.specs.declared.header.Header.{Header}
 use Rattle.pgm_codec.specs.declared.raster.RasterFault.{RasterFault}
 use Rattle.pgm_codec.specs.Rasters.{JudgesRaster}
-use Rattle.pgm_rounds.specs.declared.fault.ImageFault.{ImageFault}
-use Rattle.pgm_rounds.specs.declared.fault.ImageFault.TheVariants.{Count}
+use Rattle.pgm_rounds.specs.declared.fault.FileFault.{FileFault}
+use Rattle.pgm_rounds.specs.declared.fault.FileFault.TheVariants.{Count}
 use Rattle.pgm_rounds.specs.Ports.{Ports, ports_with}
 use Rattle.pgm_rounds.specs.Files.{IsFault, IsHeaded, Refused}
 use Rattle.row_stream.specs.declared.line.Line.{Line}
@@ -32,7 +32,7 @@ abbrev pub greatest : ℕ → ℕ
 greatest bits = 2 ^ bits - 1
 
 -- What stands behind so many images, and is no image that fits: a header that is refused, or a byte behind as many images as a file may have.
-pub data RefusesNext (size : Size) (bits images offset : ℕ) (fault : ImageFault) (old new : Input) : Type 0 where
+pub data RefusesNext (size : Size) (bits images offset : ℕ) (fault : FileFault) (old new : Input) : Type 0 where
   refused : images < MAX_FILE_IMAGES → RefusesHead size bits offset true fault old new → RefusesNext size bits images offset fault old new
   too_many : images ≡ MAX_FILE_IMAGES → fault ≡ Count → (byte : ℕ) → old.rest ≡ prepend_known (byte ∷ []) new.rest → RefusesNext size bits images offset fault old new
 
@@ -92,12 +92,12 @@ pub record EndsInside (kind : Kind) (m : Netlist) (bits : ℕ) (fault : RowsFaul
   pub why : EndsRows kind m header fault to new half now
 
 -- where the first fault of a file was found
-pub data FindsFault (kind : Kind) (m : Netlist) (bits : ℕ) (fault : ImageFault) (all : Option (List ℕ)) (from : Contents) (old : Line) (before now : Outside) : Type 0 where
+pub data FindsFault (kind : Kind) (m : Netlist) (bits : ℕ) (fault : FileFault) (all : Option (List ℕ)) (from : Contents) (old : Line) (before now : Outside) : Type 0 where
   found_behind : EndsBehind kind m bits (Image fault) all from old before now → FindsFault kind m bits fault all from old before now
   found_inside : (f : RasterFault) → EndsInside kind m bits (Raster f) all from old before now → FindsFault kind m bits fault all from old before now
 
 -- It is the first fault of the file, and all lines before it were streamed.
-pub record EndsAtFault (kind : Kind) (m : Netlist) (bits : ℕ) (fault : ImageFault) (all : Option (List ℕ)) (from : Contents) (old : Line) (before now : Outside) : Type 0 where
+pub record EndsAtFault (kind : Kind) (m : Netlist) (bits : ℕ) (fault : FileFault) (all : Option (List ℕ)) (from : Contents) (old : Line) (before now : Outside) : Type 0 where
   pub found : FindsFault kind m bits fault all from old before now
   pub first : (file : List ℕ) → all ≡ Some file → IsFault (one_port kind.size bits) file fault
 

@@ -14,7 +14,7 @@ use Rattle.row_stream.specs.declared.faults.StreamFault.{StreamFault}
 use Rattle.row_stream.specs.declared.faults.StreamFault.TheVariants.{Image, Read as ReadFails, Write}
 use Rattle.dk_base.specs.Frames.{Size}
 use Rattle.dk_base.specs.declared.TheConstants.{MAX_HEADER_BYTES}
-use Rattle.pgm_rounds.specs.declared.fault.ImageFault.{ImageFault}
+use Rattle.pgm_rounds.specs.declared.fault.FileFault.{FileFault}
 use Rattle.pgm_rounds.specs.Files.{IsHeaded, HasSize, Refused}
 
 -- a header was read, and no byte behind it
@@ -64,7 +64,7 @@ pub record FitsHeader (size : Size) (bits : ℕ) (header : Header) : Type 0 wher
   pub length : header.length ≤ MAX_HEADER_BYTES
 
 -- Bytes were read that with all that is left do not begin with a header of an image that fits, at this offset of the file.
-pub record RefusesHead (size : Size) (bits offset : ℕ) (may_end : Bool) (fault : ImageFault) (old new : Input) : Type 0 where
+pub record RefusesHead (size : Size) (bits offset : ℕ) (may_end : Bool) (fault : FileFault) (old new : Input) : Type 0 where
   pub read : List ℕ
   pub some : may_end ≡ true → 0 < length read
   pub given : old.rest ≡ prepend_known read new.rest

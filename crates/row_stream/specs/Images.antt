@@ -8,7 +8,7 @@ use Rattle.wiring.specs.Netlist.{Netlist}
 use Rattle.wiring.specs.Snapshot.{Contents}
 use Rattle.pgm_codec.specs.declared.header.Header.{Header}
 use Rattle.pgm_codec.specs.Answers.{Reads}
-use Rattle.pgm_codec.specs.Images.{Picture as Image, AreImages}
+use Rattle.pgm_codec.specs.Images.{Image, AreImages}
 use Rattle.row_stream.specs.declared.line.Line.{Line}
 use Rattle.row_stream.specs.Lines.{Kind}
 use Rattle.row_stream.specs.Standing.{Goes, pixel_clock}

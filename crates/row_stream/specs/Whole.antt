@@ -14,8 +14,8 @@ use Rattle.wiring.specs.Runs.{Runs, picture}
 use Rattle.pgm_codec.specs.declared.header.Header.{Header}
 use Rattle.pgm_codec.specs.declared.raster.RasterFault.{RasterFault}
 use Rattle.pgm_codec.specs.Answers.{Reads}
-use Rattle.pgm_codec.specs.Images.{Picture as Image, AreImages, IsRaster}
-use Rattle.pgm_rounds.specs.declared.fault.ImageFault.{ImageFault}
+use Rattle.pgm_codec.specs.Images.{Image, AreImages, IsRaster}
+use Rattle.pgm_rounds.specs.declared.fault.FileFault.{FileFault}
 use Rattle.pgm_rounds.specs.Files.{FitsFile, IsFault}
 use Rattle.row_stream.specs.declared.line.Line.{Line}
 use Rattle.row_stream.specs.declared.streaming.Room.{Room}
@@ -173,7 +173,7 @@ pub record FailsBehind (kind : Kind) (m : Netlist) (bits latency : ℕ) (all : O
   pub fails : FailsShowing kind m from (drive (samples_of images)) (map (λ s. pixel_clock s) (replicate latency 0)) created now
 
 -- how far a file was streamed before its first fault
-pub data LeavesAtFault (kind : Kind) (m : Netlist) (bits : ℕ) (fault : ImageFault) (name : List ℕ) (from : Contents) (old now : Outside) : Type 0 where
+pub data LeavesAtFault (kind : Kind) (m : Netlist) (bits : ℕ) (fault : FileFault) (name : List ℕ) (from : Contents) (old now : Outside) : Type 0 where
   -- the first header is refused, and nothing was created
   at_start : RefusesHead kind.size bits 0 false fault old.image now.image → now ≡ record old { image = record old.image { rest = now.image.rest } } → LeavesAtFault kind m bits fault name from old now
   behind : (created : Outside) → Creates name old created → LeavesBehind kind m bits (ImageFails fault) old.image.rest from created now → LeavesAtFault kind m bits fault name from old now
@@ -200,7 +200,7 @@ pub data LeavesAtWrite (kind : Kind) (m : Netlist) (bits latency : ℕ) (name : 
   write_behind : (created : Outside) → Creates name old created → FailsBehind kind m bits latency old.image.rest from created now → LeavesAtWrite kind m bits latency name from old now
 
 -- It is the first fault of the file, and all lines before it were streamed.
-pub record StopsAtFault (kind : Kind) (m : Netlist) (bits : ℕ) (fault : ImageFault) (name : List ℕ) (from : Contents) (old now : Outside) : Type 0 where
+pub record StopsAtFault (kind : Kind) (m : Netlist) (bits : ℕ) (fault : FileFault) (name : List ℕ) (from : Contents) (old now : Outside) : Type 0 where
   pub leaves : LeavesAtFault kind m bits fault name from old now
   pub first : (file : List ℕ) → old.image.rest ≡ Some file → IsFault (one_port kind.size bits) file fault
 

@@ -12,14 +12,14 @@ ghost use Rattle.row_stream.specs.Heads.{IsRefusal};
 
 use dk_base::FrameSize;
 use pgm_codec::{Header, HeaderFault, RasterFault};
-use pgm_rounds::ImageFault;
+use pgm_rounds::FileFault;
 
 /// Why a file was not streamed to its end.
 #[derive(Clone, Copy, Debug, PartialEq, Eq, thiserror::Error)]
 pub enum StreamFault {
     /// The first fault of the file of images.
     #[error("{0}")]
-    Image(ImageFault),
+    Image(FileFault),
     #[error("cannot read")]
     Read,
     #[error("cannot write")]
@@ -27,18 +27,18 @@ pub enum StreamFault {
 }
 
 // A header's fault, behind so many bytes of the file.
-pub(crate) fn header_fault(fault: HeaderFault, offset: usize) -> ImageFault
+pub(crate) fn header_fault(fault: HeaderFault, offset: usize) -> FileFault
     requires refusal { IsRefusal fault }
     requires offset { offset < 2 ^ 62 }
     ensures { (size : TheSize) (bits number : ℕ) (bytes : List ℕ) → Refuses bytes fault → Refused size bits number offset bytes result }
 {
     match fault {
-        HeaderFault::Magic => ImageFault::Magic { offset },
-        HeaderFault::LongHeader => ImageFault::LongHeader,
-        HeaderFault::Number { offset: inside } => ImageFault::Number {
+        HeaderFault::Magic => FileFault::Magic { offset },
+        HeaderFault::LongHeader => FileFault::LongHeader,
+        HeaderFault::Number { offset: inside } => FileFault::Number {
             offset: offset + inside,
         },
-        HeaderFault::Range { offset: inside } => ImageFault::Range {
+        HeaderFault::Range { offset: inside } => FileFault::Range {
             offset: offset + inside,
         },
     }
@@ -53,7 +53,7 @@ fn greatest_sample(bits: u8) -> u32
 }
 
 // Whether a header has the size of the frames, and a maxval of so many bits.
-pub(crate) fn check_header(size: FrameSize, bits: u8, header: &Header) -> Result<(), ImageFault>
+pub(crate) fn check_header(size: FrameSize, bits: u8, header: &Header) -> Result<(), FileFault>
     requires bits { bits ≤ MAX_PORT_WIDTH }
     ensures sized { IfOk result (λ _. HasSize (size_of size) header.now) }
     ensures maxval { IfOk result (λ _. header.now.maxval ≤ 2 ^ bits - 1) }
@@ -61,13 +61,13 @@ pub(crate) fn check_header(size: FrameSize, bits: u8, header: &Header) -> Result
     ensures fault { IfErr result (λ f. (number offset : ℕ) (bytes : List ℕ) → Reads bytes header.now → Refused (size_of size) bits number offset bytes f) }
 {
     if header.width != size.width || header.height != size.height {
-        return Err(ImageFault::Size {
+        return Err(FileFault::Size {
             width: header.width,
             height: header.height,
         });
     }
     if greatest_sample(bits) < u32::from(header.maxval) {
-        return Err(ImageFault::Maxval {
+        return Err(FileFault::Maxval {
             maxval: header.maxval,
         });
     }
@@ -84,15 +84,15 @@ fn pixels(size: FrameSize, images: u64) -> usize
 }
 
 // A raster's fault, behind so many images of the file.
-pub(crate) fn raster_fault(fault: RasterFault, size: FrameSize, images: u64) -> ImageFault
+pub(crate) fn raster_fault(fault: RasterFault, size: FrameSize, images: u64) -> FileFault
     requires images { images < MAX_FILE_IMAGES }
     requires index { (index : ℕ) → fault ≡ RasterFault.SampleTooGreat index → index < 2 ^ 40 }
     ensures { (bits offset : ℕ) (bytes : List ℕ) (header : TheHeader) → IsHeaded (size_of size) bits bytes header → JudgesRaster bytes header (Err fault) → Refused (size_of size) bits images offset bytes result }
 {
     match fault {
-        RasterFault::SampleTooGreat { index } => ImageFault::SampleTooGreat {
+        RasterFault::SampleTooGreat { index } => FileFault::SampleTooGreat {
             index: pixels(size, images) + index,
         },
-        RasterFault::Short { held, need } => ImageFault::Short { held, need },
+        RasterFault::Short { held, need } => FileFault::Short { held, need },
     }
 }

@@ -25,7 +25,7 @@ use block_sim::Blocks;
 use dk_base::{FrameSize, MAX_FILE_IMAGES};
 use dk_desk::{Desk, InSlot, Stage};
 use pgm_codec::Header;
-use pgm_rounds::ImageFault;
+use pgm_rounds::FileFault;
 
 // The number of bytes of a row.
 fn row_bytes(header: &Header) -> usize
@@ -125,7 +125,7 @@ fn further_image<D: Desk>(
     match next_byte(desk) {
         Err(_) => Err(StreamFault::Read),
         Ok(None) => Ok(None),
-        Ok(Some(_)) => Err(StreamFault::Image(ImageFault::Count)),
+        Ok(Some(_)) => Err(StreamFault::Image(FileFault::Count)),
     }
 }
 

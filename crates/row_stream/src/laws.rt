@@ -9,7 +9,7 @@ ghost use Rattle.std.specs.Prelude.{Option, Some};
 ghost use Rattle.std.specs.Io.KnownBytes.{prepend_known};
 ghost use Rattle.dk_base.specs.declared.TheConstants.{MAX_FILE_IMAGES};
 ghost use Rattle.pgm_codec.specs.declared.raster.RasterFault.{RasterFault as TheRasterFault};
-ghost use Rattle.pgm_rounds.specs.declared.fault.ImageFault.{ImageFault as TheImageFault};
+ghost use Rattle.pgm_rounds.specs.declared.fault.FileFault.{FileFault};
 ghost use Rattle.row_stream.specs.Whole.{LeavesBehind, LeavesInside};
 ghost use Rattle.row_stream.specs.Most.{EndsLines};
 ghost use Rattle.dk_desk.specs.Outside.{Outside};
@@ -38,7 +38,7 @@ pub(crate) fn one_image_more()
 
 /// Where a stream ends at an Image fault, the lines that were streamed are all that the file begins with; where it ends at a failed read, they are all that the bytes begin with that were taken.
 pub fn streams_most()
-    ensures fault_behind { (kind : Kind) (m : Netlist) (bits : ℕ) (from : Contents) (created now : Outside) (fault : TheImageFault) (file : List ℕ) → (e : LeavesBehind kind m bits (StreamFault.Image fault) (Some file) from created now)
+    ensures fault_behind { (kind : Kind) (m : Netlist) (bits : ℕ) (from : Contents) (created now : Outside) (fault : FileFault) (file : List ℕ) → (e : LeavesBehind kind m bits (StreamFault.Image fault) (Some file) from created now)
         → e.count < MAX_FILE_IMAGES → EndsLines kind.size bits file (e.count * kind.size.height) }
     ensures fault_inside { (kind : Kind) (m : Netlist) (bits : ℕ) (from : Contents) (created now : Outside) (fault : TheRasterFault) (file : List ℕ) → (e : LeavesInside kind m bits (RowsFault.Raster fault) (Some file) from created now)
         → EndsLines kind.size bits file (e.count * kind.size.height + e.rows) }

@@ -5,10 +5,10 @@ use Rattle.dk_base.specs.Frames.{Size, IsFrame}
 use Rattle.pgm_codec.specs.declared.header.Header.{Header}
 use Rattle.pgm_codec.specs.declared.header.HeaderFault.{HeaderFault}
 use Rattle.pgm_codec.specs.Answers.{Reads, Refuses}
-use Rattle.pgm_codec.specs.Images.{Picture as Image, IsPicture, AreImages}
+use Rattle.pgm_codec.specs.Images.{Image, IsImageOf, AreImages}
 use Rattle.pgm_codec.specs.Rounds.{FitsInputs}
-use Rattle.pgm_rounds.specs.declared.fault.ImageFault.{ImageFault}
-use Rattle.pgm_rounds.specs.declared.fault.ImageFault.TheVariants as fault
+use Rattle.pgm_rounds.specs.declared.fault.FileFault.{FileFault}
+use Rattle.pgm_rounds.specs.declared.fault.FileFault.TheVariants as fault
 use Rattle.pgm_rounds.specs.Ports.{Ports, ports_with}
 use Rattle.pgm_rounds.specs.Files.{FitsFile, IsFault}
 use Rattle.pgm_rounds.proofs.Readings.{OneHeader}
@@ -18,10 +18,10 @@ abbrev OneRounds : Type 0
 OneRounds = (ports : Ports) → 0 < length ports.inputs → (bytes : List ℕ) → (a b : List (List Image)) → FitsFile ports bytes a → FitsFile ports bytes b → a ≡ b
 
 abbrev NoFault : Type 0
-NoFault = (ports : Ports) → 0 < length ports.inputs → (bytes : List ℕ) → (rounds : List (List Image)) (f : ImageFault) → FitsFile ports bytes rounds → IsFault ports bytes f → ⊥
+NoFault = (ports : Ports) → 0 < length ports.inputs → (bytes : List ℕ) → (rounds : List (List Image)) (f : FileFault) → FitsFile ports bytes rounds → IsFault ports bytes f → ⊥
 
 abbrev OneFault : Type 0
-OneFault = (ports : Ports) → 0 < length ports.inputs → (bytes : List ℕ) → (f g : ImageFault) → IsFault ports bytes f → IsFault ports bytes g → f ≡ g
+OneFault = (ports : Ports) → 0 < length ports.inputs → (bytes : List ℕ) → (f g : FileFault) → IsFault ports bytes f → IsFault ports bytes g → f ≡ g
 
 -- the first header of a file has the size of the frames
 record Heads (size : Size) (bytes : List ℕ) : Type 0 where
@@ -29,7 +29,7 @@ record Heads (size : Size) (bytes : List ℕ) : Type 0 where
   reads : Reads bytes header
   size_is : size_in header ≡ size
 
-header_of : (size : Size) (bytes first rest : List ℕ) (q : Image) → bytes ≡ first ++ rest → IsPicture first q → q.width ≡ size.width → q.height ≡ size.height → Heads size bytes
+header_of : (size : Size) (bytes first rest : List ℕ) (q : Image) → bytes ≡ first ++ rest → IsImageOf first q → q.width ≡ size.width → q.height ≡ size.height → Heads size bytes
 header_of size bytes first rest q e i w h = record {
   header = record { width = q.width; height = q.height; maxval = q.maxval; length = length i.header };
   reads = record {
@@ -90,7 +90,7 @@ module _ (one_header : OneHeader) (widths : List ℕ) (some : 0 < length widths)
       let e = one_size s t a b f g in
       (e, one (ports_with t widths) some bytes a b (subst (λ z. FitsFile (ports_with z widths) bytes a) e f.fits) g.fits)
 
-  pub fits_apart : NoFault → (s : Size) (a : List (List Image)) (f : ImageFault) → FitsBench widths bytes s a → IsBenchFault widths bytes f → ⊥
+  pub fits_apart : NoFault → (s : Size) (a : List (List Image)) (f : FileFault) → FitsBench widths bytes s a → IsBenchFault widths bytes f → ⊥
   fits_apart none s a f x (heading h r e) = let y = headed s a x in apart y.header h y.reads r
   fits_apart none s a f x (sizing h r n e) =
       let y = headed s a x in
@@ -101,7 +101,7 @@ module _ (one_header : OneHeader) (widths : List ℕ) (some : 0 < length widths)
       let same = ap (λ g. size_in g) (same_header h y.header r y.reads) ∙ y.size_is in
       none (ports_with s widths) some bytes a f x.fits (subst (λ z. IsFault (ports_with z widths) bytes f) same d)
 
-  pub one_fault : OneFault → (f g : ImageFault) → IsBenchFault widths bytes f → IsBenchFault widths bytes g → f ≡ g
+  pub one_fault : OneFault → (f g : FileFault) → IsBenchFault widths bytes f → IsBenchFault widths bytes g → f ≡ g
   one_fault one f g (heading h r e) (heading i s d) = e ∙ ap (λ x. first_fault x) (same_fault h i r s) ∙ sym d
   one_fault one f g (heading h r e) (sizing i s n d) = absurd (apart i h s r)
   one_fault one f g (heading h r e) (later i s n d) = absurd (apart i h s r)

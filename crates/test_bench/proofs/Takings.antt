@@ -3,7 +3,7 @@ use Rattle.std.proofs.Common.{◌≡◌, ◌∙◌, sym, ap, refl, subst, [], �
 use Rattle.std.specs.List.{All, AllZip, AllByRecursion, flat_map}
 use Rattle.std.proofs.lemmas.List.{length-map}
 use Rattle.dk_base.specs.Frames.{Size, IsFrame}
-use Rattle.pgm_codec.specs.Images.{Picture as Image}
+use Rattle.pgm_codec.specs.Images.{Image}
 use Rattle.pgm_codec.specs.Rounds.{FitsInputs}
 use Rattle.pgm_codec.specs.declared.header.Header.{Header}
 use Rattle.pgm_codec.specs.Answers.{Reads}

@@ -12,7 +12,7 @@ use Rattle.std.proofs.lemmas.Grind.{flat_map-append}
 use Rattle.std.proofs.Math.Nat.{mul-le-mul_right, suc-mul}
 use Rattle.std.proofs.lemmas.List.FromFn.{map-range_with_len_more}
 use Rattle.dk_base.specs.Frames.{Size, area}
-use Rattle.pgm_codec.specs.Images.{Picture as Image, header_of, raster_of, file_of}
+use Rattle.pgm_codec.specs.Images.{Image, header_of, raster_of, file_of}
 use Rattle.test_bench.specs.declared.picture.Shown.{Shown}
 use Rattle.test_bench.specs.Writing.{HasEnough, IsWhole, AreWhole, samples_at}
 use Rattle.test_bench.proofs.Ranges.{flat_more}

@@ -5,9 +5,9 @@ use Rattle.pgm_codec.specs.declared.header.Header.{Header}
 use Rattle.pgm_codec.specs.declared.header.HeaderFault.{HeaderFault}
 use Rattle.pgm_codec.specs.declared.header.HeaderFault.TheVariants as header
 use Rattle.pgm_codec.specs.Answers.{Reads, Refuses}
-use Rattle.pgm_codec.specs.Images.{Picture as Image}
-use Rattle.pgm_rounds.specs.declared.fault.ImageFault.{ImageFault}
-use Rattle.pgm_rounds.specs.declared.fault.ImageFault.TheVariants as fault
+use Rattle.pgm_codec.specs.Images.{Image}
+use Rattle.pgm_rounds.specs.declared.fault.FileFault.{FileFault}
+use Rattle.pgm_rounds.specs.declared.fault.FileFault.TheVariants as fault
 use Rattle.pgm_rounds.specs.declared.fault.FileError.{FileError}
 use Rattle.pgm_rounds.specs.declared.fault.FileError.TheVariants as error
 use Rattle.pgm_rounds.specs.Ports.{ports_with}
@@ -23,14 +23,14 @@ abbrev pub size_in : Header → Size
 size_in h = record { width = h.width; height = h.height }
 
 -- the fault of a file whose first header is refused
-abbrev pub first_fault : HeaderFault → ImageFault
+abbrev pub first_fault : HeaderFault → FileFault
 first_fault header.Magic = fault.Magic 0
 first_fault header.LongHeader = fault.LongHeader
 first_fault (header.Number offset) = fault.Number offset
 first_fault (header.Range offset) = fault.Range offset
 
 -- The first fault of a file. All images are asked for the size of the first one, and that one for 1 to 4,096 pixels each side.
-pub data IsBenchFault (widths bytes : List ℕ) (f : ImageFault) : Type 0 where
+pub data IsBenchFault (widths bytes : List ℕ) (f : FileFault) : Type 0 where
   heading : (h : HeaderFault) → Refuses bytes h → f ≡ first_fault h → IsBenchFault widths bytes f
   sizing : (h : Header) → Reads bytes h → ¬ IsFrame h.width h.height → f ≡ fault.Size h.width h.height → IsBenchFault widths bytes f
   later : (h : Header) → Reads bytes h → IsFrame h.width h.height → IsFault (ports_with (size_in h) widths) bytes f → IsBenchFault widths bytes f

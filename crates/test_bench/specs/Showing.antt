@@ -7,7 +7,7 @@ use Rattle.wiring.specs.Snapshot.{Contents, Snapshot, net_value}
 use Rattle.wiring.specs.Runs.{Runs, picture}
 use Rattle.cycle_sim.specs.Ports.{din_widths}
 use Rattle.cycle_sim.specs.Filled.{filled_contents}
-use Rattle.pgm_codec.specs.Images.{Picture as Image, file_of}
+use Rattle.pgm_codec.specs.Images.{Image, file_of}
 use Rattle.test_bench.specs.declared.drive.Drive.{Drive}
 use Rattle.test_bench.specs.Stimulus.{Rounds, stimulus}
 

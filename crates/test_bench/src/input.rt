@@ -3,7 +3,7 @@
 ghost use Rattle.std.specs.Prelude.{◌≡◌, ◌<◌, ◌≤◌, ℕ, List, length, map, IfOk, IfErr, MatchResult, IsTrue, All};
 ghost use Rattle.dk_base.specs.FrameSizes.{size_of};
 ghost use Rattle.wiring.specs.Rules.{IsPortWidth, IsPortCount};
-ghost use Rattle.pgm_codec.specs.Images.{Picture as Image};
+ghost use Rattle.pgm_codec.specs.Images.{Image};
 ghost use Rattle.pgm_rounds.specs.Files.{frame_of, frames_of};
 ghost use Rattle.test_bench.specs.Given.{AreBenchFrames};
 ghost use Rattle.test_bench.specs.Inputs.{FitsBench, IsBenchFault, IsBenchError, first_fault as fault_of_header};
@@ -11,7 +11,7 @@ ghost use Rattle.test_bench.specs.Inputs.{FitsBench, IsBenchFault, IsBenchError,
 use dk_base::{FrameSize, OutOfMemory};
 use netlist::Width;
 use pgm_codec::{HeaderFault, read_header};
-use pgm_rounds::{FileError, ImageFault, Round, read_rounds};
+use pgm_rounds::{FileError, FileFault, Round, read_rounds};
 use std::alloc::Global;
 
 /// The images of a file: their size, and the rounds, of one image for each din.
@@ -22,14 +22,14 @@ pub struct BenchInput {
 }
 
 // The fault of a file whose first header is refused.
-fn first_fault(fault: HeaderFault) -> ImageFault
+fn first_fault(fault: HeaderFault) -> FileFault
     ensures { result ≡ fault_of_header fault }
 {
     match fault {
-        HeaderFault::Magic => ImageFault::Magic { offset: 0 },
-        HeaderFault::LongHeader => ImageFault::LongHeader,
-        HeaderFault::Number { offset } => ImageFault::Number { offset },
-        HeaderFault::Range { offset } => ImageFault::Range { offset },
+        HeaderFault::Magic => FileFault::Magic { offset: 0 },
+        HeaderFault::LongHeader => FileFault::LongHeader,
+        HeaderFault::Number { offset } => FileFault::Number { offset },
+        HeaderFault::Range { offset } => FileFault::Range { offset },
     }
 }
 
@@ -57,7 +57,7 @@ pub fn read_input(alloc: Global, widths: &[Width], file: &[u8]) -> Result<BenchI
         Err(fault) => return Err(FileError::Fault(first_fault(fault))),
     };
     let Some(size) = FrameSize::checked(header.width, header.height) else {
-        return Err(FileError::Fault(ImageFault::Size {
+        return Err(FileError::Fault(FileFault::Size {
             width: header.width,
             height: header.height,
         }));

@@ -4,8 +4,8 @@ ghost use Rattle.std.specs.Prelude.{◌≡◌, ◌<◌, ℕ, Bool, List, length}
 ghost use Rattle.dk_base.specs.Frames.{Size};
 ghost use Rattle.wiring.specs.Netlist.{Netlist};
 ghost use Rattle.wiring.specs.Snapshot.{HasOneSnapshot, HasOneNext};
-ghost use Rattle.pgm_codec.specs.Images.{Picture as Image};
-ghost use Rattle.pgm_rounds.specs.declared.fault.ImageFault.{ImageFault};
+ghost use Rattle.pgm_codec.specs.Images.{Image};
+ghost use Rattle.pgm_rounds.specs.declared.fault.FileFault.{FileFault};
 ghost use Rattle.test_bench.specs.declared.drive.Drive.{Drive};
 ghost use Rattle.test_bench.specs.declared.stop.Stop.{Stop};
 ghost use Rattle.test_bench.specs.Stimulus.{Rounds};
@@ -26,8 +26,8 @@ pub fn one_bench()
 /// Laws: a file is read as the images for dins of these widths in one way, one that fits has no fault, and it has one first fault at most.
 pub fn one_input()
     ensures rounds { (widths : List ℕ) → 0 < length widths → (bytes : List ℕ) (s t : Size) (a b : List (List Image)) → FitsBench widths bytes s a → FitsBench widths bytes t b → (s ≡ t) × (a ≡ b) }
-    ensures apart { (widths : List ℕ) → 0 < length widths → (bytes : List ℕ) (s : Size) (a : List (List Image)) (f : ImageFault) → FitsBench widths bytes s a → IsBenchFault widths bytes f → ⊥ }
-    ensures fault { (widths : List ℕ) → 0 < length widths → (bytes : List ℕ) (f g : ImageFault) → IsBenchFault widths bytes f → IsBenchFault widths bytes g → f ≡ g }
+    ensures apart { (widths : List ℕ) → 0 < length widths → (bytes : List ℕ) (s : Size) (a : List (List Image)) (f : FileFault) → FitsBench widths bytes s a → IsBenchFault widths bytes f → ⊥ }
+    ensures fault { (widths : List ℕ) → 0 < length widths → (bytes : List ℕ) (f g : FileFault) → IsBenchFault widths bytes f → IsBenchFault widths bytes g → f ≡ g }
 {
     pgm_rounds::one_file();
     pgm_codec::one_answer();

@@ -11,16 +11,17 @@ ghost use Rattle.test_bench.specs.Stimulus.{stream, dins_at, greatest_dins};
 ghost use Rattle.test_bench.specs.Given.{rounds_of, AreBenchFrames};
 
 use dk_base::OutOfMemory;
+use dk_frames::Samples;
 use netlist::Width;
 use pgm_rounds::Round;
 use std::alloc::Global;
 
 // The sample at a place of a frame.
-fn sample(samples: &[u16], place: usize) -> u64
+fn sample(samples: &Samples, place: usize) -> u64
     requires { place < length samples.now }
     ensures { result ≡ slice_index samples.now place }
 {
-    u64::from(samples[place])
+    u64::from(samples.sample(place))
 }
 
 // A pixel of an input, counted over all rounds, or 0 after the last one.
@@ -35,7 +36,7 @@ pub(crate) fn pixel(rounds: &[Round], area: usize, input: usize, number: u64) ->
         return 0;
     }
     let frame = &rounds[round].frames[input];
-    sample(frame.samples.as_slice(), place % area)
+    sample(&frame.samples, place % area)
 }
 
 /// Gives each din its pixel of this number, counted over all rounds; 0 behind the last one. A frame has `area` pixels.

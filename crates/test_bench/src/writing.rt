@@ -12,6 +12,7 @@ ghost use Rattle.test_bench.specs.Writing.{HasEnough, IsFirstShort, AreWhole, im
 
 use crate::picture::Shown;
 use dk_base::{FrameSize, OutOfMemory};
+use dk_frames::SampleSlice;
 use netlist::Width;
 use pgm_rounds::write_image;
 use std::alloc::Global;
@@ -80,7 +81,7 @@ fn write_output(
     let pixels = area(size);
     let maxval = greatest(ports[2 * output + 1]);
     let samples = part(&pictures[output].samples, round * pixels, pixels);
-    write_image(size, maxval, samples, file)?;
+    write_image(size, maxval, SampleSlice::U16(samples), file)?;
     Ok(())
 }
 

@@ -28,7 +28,7 @@ sample-requires c =
     let there = slice_get-get_or rounds q c.index-rounds-round.result c.if-rounds-round.false in
     let frame = c.index-frame.result.now in
     let at = slice_get_read r.frames.items (length r.frames.items) c.args.input frame refl (frame_within f.0 f.1 rounds f.2 c.args.input f.3 q r there) c.index-frame.ensures in
-    let e : c.args.area ≡ length c.as_slice.result.now = f.4 ∙ sym (frame_whole f.0 f.1 rounds f.2 c.args.input f.3 q r frame there at) ∙ sym (ap length c.as_slice.ensures) in
+    let e : c.args.area ≡ length frame.samples = f.4 ∙ sym (frame_whole f.0 f.1 rounds f.2 c.args.input f.3 q r frame there at) in
     subst (λ z. c.args.number % c.args.area < z) e (mod-lt c.args.number c.requires.area)
 
 pub returns : goal.returns
@@ -40,5 +40,4 @@ returns c =
     let there = slice_get-get_or rounds q c.index-rounds-round.result c.if-rounds-round.false in
     let frame = c.index-frame.result.now in
     let at = slice_get_read r.frames.items (length r.frames.items) c.args.input frame refl (frame_within f.0 f.1 rounds f.2 c.args.input f.3 q r there) c.index-frame.ensures in
-    c.sample.ensures ∙ ap (λ z. get_or z (c.args.number % c.args.area) 0) c.as_slice.ensures
-    ∙ pixel_read f.0 f.1 rounds f.2 c.args.input f.3 c.args.area c.args.number f.4 c.requires.area r frame there at
+    c.sample.ensures ∙ pixel_read f.0 f.1 rounds f.2 c.args.input f.3 c.args.area c.args.number f.4 c.requires.area r frame there at

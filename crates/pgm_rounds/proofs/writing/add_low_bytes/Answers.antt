@@ -3,7 +3,7 @@ use Rattle.std.specs.Slice.Iter.{iter_rest}
 use Rattle.std.proofs.lemmas.Iterator.{YieldsList-from_map, YieldsList-from_slice}
 use Rattle.std.proofs.lemmas.Iterator.Adapters.{items_from_extend}
 use Rattle.std.proofs.lemmas.Result.{IfOk-weaker}
-use Rattle.pgm_rounds.proofs.writing.add_bytes.Goals as goal
+use Rattle.pgm_rounds.proofs.writing.add_low_bytes.Goals as goal
 
 pub returns : goal.returns
 returns c =
