@@ -5,11 +5,11 @@ use Rattle.std.specs.Int.Bits.{and_zero_r, or_zero_l, or_zero_r}
 use Rattle.std.proofs.lemmas.Nat.{and_mask, pow-add, mul-mod_first, mul-mod_second}
 use Rattle.std.proofs.lemmas.Bool.{ltb-true, cases_lt, lt-ltb}
 use Rattle.std.proofs.Math.Nat.{add-mul-mod_self_right, suc-mul, zero-mod, mul-add, mul-one, mul_assoc, mod-add-mod, mod-eq_of_lt}
-use Rattle.std.proofs.Math.Pow.{mod-mod-pow, pow_pos}
+use Rattle.std.proofs.Math.Pow.{mod-mod-pow, pow_pos, pow-lt}
 use Rattle.wiring.specs.declared.right.Operator.{Operator}
 use Rattle.wiring.specs.declared.right.Operator.TheVariants.{Add, Subtract, Multiply}
 use Rattle.wiring.specs.Rights.{operator_value, repeated}
-use Rattle.block_rows.specs.Rows.{IsPairRow}
+use Rattle.block_rows.specs.Rows.{IsPairRow, IsSingleRow}
 
 -- a shorter mask after the 64 bits of a word
 pub wrapped_mask : (n mask w : ℕ) → w ≤ 64 → mask ≡ 2 ^ w - 1 → bit_and (n % 18446744073709551616) mask ≡ n % 2 ^ w
@@ -60,6 +60,30 @@ module _ (mask w : ℕ) (narrow : w ≤ 64) (is : mask ≡ 2 ^ w - 1) (o : Opera
 
   pub product_row : o ≡ Multiply → IsPairRow (masked_product mask) to a b → IsPairRow (operator_value o w) to a b
   product_row e row = subst (λ (p : Operator). IsPairRow (operator_value p w) to a b) (sym e) (row_as (masked_product mask) (operator_value Multiply w) to a b (λ x y. wrapped_mask (x * y) mask w narrow is) row)
+
+-- the same with one number in all clocks
+module _ (mask w : ℕ) (narrow : w ≤ 64) (is : mask ≡ 2 ^ w - 1) (o : Operator) (to a : List ℕ) (b : ℕ) where
+  pub sum_number : o ≡ Add → IsSingleRow (λ x. masked_sum mask x b) to a → IsSingleRow (λ x. operator_value o w x b) to a
+  sum_number e row = subst (λ (p : Operator). IsSingleRow (λ x. operator_value p w x b) to a) (sym e) (λ t l. row t l ∙ wrapped_mask (slice_index a t + b) mask w narrow is)
+
+  pub difference_number : o ≡ Subtract → IsSingleRow (λ x. masked_difference mask x b) to a → IsSingleRow (λ x. operator_value o w x b) to a
+  difference_number e row = subst (λ (p : Operator). IsSingleRow (λ x. operator_value p w x b) to a) (sym e) (λ t l. row t l ∙ difference_is mask w (slice_index a t) b narrow is)
+
+  pub product_number : o ≡ Multiply → IsSingleRow (λ x. masked_product mask x b) to a → IsSingleRow (λ x. operator_value o w x b) to a
+  product_number e row = subst (λ (p : Operator). IsSingleRow (λ x. operator_value p w x b) to a) (sym e) (λ t l. row t l ∙ wrapped_mask (slice_index a t * b) mask w narrow is)
+
+-- a one, moved up
+pub one_shifted : (k n : ℕ) → k < 64 → 1 * 2 ^ k % 2 ^ 64 ≡ n → n ≡ 2 ^ k
+one_shifted k n l e =
+    let below : 2 ^ k < 2 ^ 64 = pow-lt l in
+    let whole : 1 * 2 ^ k % 2 ^ 64 ≡ 2 ^ k = omega (arith, below) in
+    sym e ∙ whole
+
+-- a shift down is a quotient
+pub shifted_quotient : (x d k : ℕ) → k < 64 → d ≡ 2 ^ k → x / 2 ^ (k % 64) ≡ x / d
+shifted_quotient x d k l e =
+    let same : k % 64 ≡ k = omega (arith, l) in
+    ap (λ n. x / 2 ^ n) same ∙ ap (λ n. x / n) (sym e)
 
 -- so many bits, from a place on
 pub part_is : (x from mask w : ℕ) → from < 64 → w ≤ 64 → mask ≡ 2 ^ w - 1 → bit_and (x / 2 ^ (from % 64)) mask ≡ x / 2 ^ from % 2 ^ w

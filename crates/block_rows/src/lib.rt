@@ -12,4 +12,4 @@ pub use code::{Instruction, run_code};
 pub use ordered::is_ordered;
 pub use pairs::operator_row;
 pub use rights::{Spares, atom_row, note_constant, right_row};
-pub use words::{all_inside, take_back, word_row};
+pub use words::{all_inside, change_row, take_back, word_row};

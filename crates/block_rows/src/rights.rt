@@ -6,7 +6,10 @@ ghost use Rattle.wiring.specs.Rules.{WidthsAgree};
 ghost use Rattle.wiring.specs.declared.right.Atom.TheVariants as AtomVariants;
 ghost use Rattle.block_rows.specs.Rights.{items_of, value_at, HasRow, HaveRows, StandsFor, IsAtomRow, IsRightRow, HaveRoom};
 
-use crate::pairs::{join_row, operator_row};
+use crate::pairs::{
+    choose_number_row, choose_or_number_row, join_number_row, join_row, operator_number_row,
+    operator_row,
+};
 use crate::singles::{Part, Turned, Whole, choose_row, constant_row, repeat_row, single_row};
 use std::alloc::{AllocError, Global};
 use wiring::{Atom, Operator, Right, Width, limit};
@@ -127,7 +130,30 @@ fn not_row(widths: &[Width], rows: &[Vec<u64>], spare: &mut [u64], a: &Atom<usiz
     single_row(&Turned { mask }, to, a);
 }
 
-// The row of two atoms under an operator.
+// The row of an atom under an operator with a number.
+fn binary_number_row(
+    widths: &[Width],
+    rows: &[Vec<u64>],
+    spare: &mut [u64],
+    op: Operator,
+    a: &Atom<usize>,
+    number: u64,
+    to: &mut [u64],
+)
+    requires long { HasRow (items_of rows.now) (length to.old) a.now }
+    requires room { length to.old ≤ length spare.old }
+    ensures spare { length spare.new ≡ length spare.old }
+    ensures count { length to.new ≡ length to.old }
+    ensures row { (t : ℕ) → t < length to.new → slice_index to.new t ≡ operator_value op (atom_width (λ n. slice_index widths.now n) a.now) (atom_value (value_at (items_of rows.now) t) a.now) number }
+{
+    let count = to.len();
+    let width = width_of(widths, a);
+    note_constant(spare, a);
+    let a = atom_row(rows, spare, a, count);
+    operator_number_row(op, width, to, a, number);
+}
+
+// The row of two atoms under an operator. A constant that stands second needs no row.
 fn binary_row(
     widths: &[Width],
     rows: &[Vec<u64>],
@@ -144,6 +170,9 @@ fn binary_row(
     ensures count { length to.new ≡ length to.old }
     ensures row { (t : ℕ) → t < length to.new → slice_index to.new t ≡ operator_value op (atom_width (λ n. slice_index widths.now n) a.now) (atom_value (value_at (items_of rows.now) t) a.now) (atom_value (value_at (items_of rows.now) t) b.now) }
 {
+    if let Atom::Constant(c) = b {
+        return binary_number_row(widths, rows, &mut spares.first, op, a, c.value(), to);
+    }
     let count = to.len();
     let width = width_of(widths, a);
     note_constant(&mut spares.first, a);
@@ -153,7 +182,55 @@ fn binary_row(
     operator_row(op, width, to, left, right);
 }
 
-// At each clock one of two atoms, by a third.
+// At each clock a number, or else an atom, by another one.
+fn number_or_row(
+    rows: &[Vec<u64>],
+    spares: &mut Spares,
+    c: &Atom<usize>,
+    number: u64,
+    b: &Atom<usize>,
+    to: &mut [u64],
+)
+    requires c { HasRow (items_of rows.now) (length to.old) c.now }
+    requires b { HasRow (items_of rows.now) (length to.old) b.now }
+    requires room { HaveRoom spares.old (length to.old) }
+    ensures spares { HaveRoom spares.new (length to.old) }
+    ensures count { length to.new ≡ length to.old }
+    ensures row { (t : ℕ) → t < length to.new → slice_index to.new t ≡ (if atom_value (value_at (items_of rows.now) t) c.now == 1 then number else atom_value (value_at (items_of rows.now) t) b.now) }
+{
+    let count = to.len();
+    note_constant(&mut spares.second, b);
+    note_constant(&mut spares.third, c);
+    let off = atom_row(rows, &spares.second, b, count);
+    let bit = atom_row(rows, &spares.third, c, count);
+    choose_number_row(to, bit, number, off);
+}
+
+// At each clock an atom, or else a number, by another one.
+fn row_or_number(
+    rows: &[Vec<u64>],
+    spares: &mut Spares,
+    c: &Atom<usize>,
+    a: &Atom<usize>,
+    number: u64,
+    to: &mut [u64],
+)
+    requires c { HasRow (items_of rows.now) (length to.old) c.now }
+    requires a { HasRow (items_of rows.now) (length to.old) a.now }
+    requires room { HaveRoom spares.old (length to.old) }
+    ensures spares { HaveRoom spares.new (length to.old) }
+    ensures count { length to.new ≡ length to.old }
+    ensures row { (t : ℕ) → t < length to.new → slice_index to.new t ≡ (if atom_value (value_at (items_of rows.now) t) c.now == 1 then atom_value (value_at (items_of rows.now) t) a.now else number) }
+{
+    let count = to.len();
+    note_constant(&mut spares.first, a);
+    note_constant(&mut spares.third, c);
+    let on = atom_row(rows, &spares.first, a, count);
+    let bit = atom_row(rows, &spares.third, c, count);
+    choose_or_number_row(to, bit, on, number);
+}
+
+// At each clock one of two atoms, by a third. A constant among the two needs no row.
 fn chosen_row(
     rows: &[Vec<u64>],
     spares: &mut Spares,
@@ -170,6 +247,12 @@ fn chosen_row(
     ensures count { length to.new ≡ length to.old }
     ensures row { (t : ℕ) → t < length to.new → slice_index to.new t ≡ (if atom_value (value_at (items_of rows.now) t) c.now == 1 then atom_value (value_at (items_of rows.now) t) a.now else atom_value (value_at (items_of rows.now) t) b.now) }
 {
+    if let Atom::Constant(number) = a {
+        return number_or_row(rows, spares, c, number.value(), b, to);
+    }
+    if let Atom::Constant(number) = b {
+        return row_or_number(rows, spares, c, a, number.value(), to);
+    }
     let count = to.len();
     note_constant(&mut spares.first, a);
     note_constant(&mut spares.second, b);
@@ -195,7 +278,30 @@ fn part_row(rows: &[Vec<u64>], slot: usize, from: u8, width: u8, to: &mut [u64])
     single_row(&Part { from, mask }, to, row);
 }
 
-// An atom above another one.
+// A number above an atom.
+fn number_above_row(
+    widths: &[Width],
+    rows: &[Vec<u64>],
+    spare: &mut [u64],
+    number: u64,
+    b: &Atom<usize>,
+    to: &mut [u64],
+)
+    requires b { HasRow (items_of rows.now) (length to.old) b.now }
+    requires room { length to.old ≤ length spare.old }
+    requires fits { (t : ℕ) → t < length to.old → number * 2 ^ atom_width (λ n. slice_index widths.now n) b.now + atom_value (value_at (items_of rows.now) t) b.now < 2 ^ 64 }
+    ensures spare { length spare.new ≡ length spare.old }
+    ensures count { length to.new ≡ length to.old }
+    ensures row { (t : ℕ) → t < length to.new → slice_index to.new t ≡ number * 2 ^ atom_width (λ n. slice_index widths.now n) b.now + atom_value (value_at (items_of rows.now) t) b.now }
+{
+    let count = to.len();
+    let width = width_of(widths, b);
+    note_constant(spare, b);
+    let below = atom_row(rows, spare, b, count);
+    join_number_row(width, to, number, below);
+}
+
+// An atom above another one. A constant that stands above needs no row.
 fn joined_row(
     widths: &[Width],
     rows: &[Vec<u64>],
@@ -212,6 +318,9 @@ fn joined_row(
     ensures count { length to.new ≡ length to.old }
     ensures row { (t : ℕ) → t < length to.new → slice_index to.new t ≡ atom_value (value_at (items_of rows.now) t) a.now * 2 ^ atom_width (λ n. slice_index widths.now n) b.now + atom_value (value_at (items_of rows.now) t) b.now }
 {
+    if let Atom::Constant(number) = a {
+        return number_above_row(widths, rows, &mut spares.second, number.value(), b, to);
+    }
     let count = to.len();
     let width = width_of(widths, b);
     note_constant(&mut spares.first, a);

@@ -124,7 +124,7 @@ fn mask_of(bit: u64) -> u64
 
 // One of two numbers, by a bit. By a mask, of which LLVM makes vector code, as it does not of two branches.
 #[tactic(auto, using(crate::proofs::Masks::chosen_is))]
-fn chosen(bit: u64, on: u64, off: u64) -> u64
+pub(crate) fn chosen(bit: u64, on: u64, off: u64) -> u64
     ensures { result ≡ (if bit == 1 then on else off) }
 {
     let mask = mask_of(bit);

@@ -45,6 +45,23 @@ pub fn word_row(
     }
 }
 
+/// The same of an array that is read where it is written: what each write takes away is what is read.
+pub fn change_row(words: &mut [u64], lost: &mut [u64], index: &[u64], value: &[u64])
+    requires index { length index.now ≡ length lost.old }
+    requires value { length value.now ≡ length lost.old }
+    requires writes { AreInside (length lost.old) index.now (length words.old) }
+    ensures count { length lost.new ≡ length lost.old }
+    ensures depth { length words.new ≡ length words.old }
+    ensures lost { IsReadUpTo (length lost.old) words.old lost.new index.now index.now value.now }
+    ensures words { words.new ≡ words_after words.old index.now value.now (length lost.old) }
+{
+    for t in 0..lost.len() {
+        let i = index[t] as usize;
+        lost[t] = words[i];
+        words[i] = value[t];
+    }
+}
+
 /// The writes of a block taken back, the last one first.
 pub fn take_back(words: &mut [u64], lost: &[u64], index: &[u64])
     requires lost { length lost.now ≡ length index.now }

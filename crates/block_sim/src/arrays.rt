@@ -9,7 +9,8 @@ ghost use Rattle.block_sim.specs.Arrays.{IsPassed, IsArrayRoom, WasLost, PutsIns
 
 use crate::given::row_at;
 use block_code::{WordPut, WordRead};
-use block_rows::{all_inside, atom_row, note_constant, take_back, word_row};
+use block_rows::{all_inside, atom_row, change_row, note_constant, take_back, word_row};
+use wiring::Atom;
 
 // Spare rows for the constants among an array's indexes and values.
 #[derive(Debug, Drop)]
@@ -68,6 +69,69 @@ fn pass_words(
     }
 }
 
+// The same where the array is read where it is written.
+fn pass_changes(
+    words: &mut [u64],
+    lost: &mut [u64],
+    index: &[u64],
+    value: &[u64],
+    target: &[u64],
+) -> bool
+    requires index { length index.now ≡ length lost.old }
+    requires value { length value.now ≡ length lost.old }
+    requires target { length lost.old ≤ length target.now }
+    ensures passed { IsTrue result → IsPassed words.old words.new lost.new index.now index.now value.now target.now (length lost.old) }
+    ensures back { IsFalse result → words.new ≡ words.old }
+{
+    if !all_inside(index, words.len() as u64) {
+        return false;
+    }
+    change_row(words, lost, index, value);
+    if are_same(lost, target) {
+        true
+    } else {
+        take_back(words, lost, index);
+        false
+    }
+}
+
+// Whether two atoms are one slot.
+fn is_one_slot(a: &Atom<usize>, b: &Atom<usize>) -> bool
+    ensures { IsTrue result → a.now ≡ b.now }
+{
+    match (a, b) {
+        (Atom::Net(n), Atom::Net(m)) => n == m,
+        _ => false,
+    }
+}
+
+// One array that is read where it is written, as `pass_rows`.
+fn pass_changed_rows(
+    rows: &[Vec<u64>],
+    room: &mut ArrayRoom,
+    read: &WordRead,
+    put: &WordPut,
+    words: &mut [u64],
+    lost: &mut [u64],
+) -> bool
+    requires one { read.now.index ≡ put.now.index }
+    requires rows { HaveAccessRows (items_of rows.now) (length lost.old) read.now put.now }
+    requires room { IsArrayRoom room.old (length lost.old) }
+    ensures room { IsArrayRoom room.new (length lost.old) }
+    ensures kept { IsTrue result → KeepsArray (items_of rows.now) (length lost.old) words.old read.now put.now }
+    ensures words { IsTrue result → words.new ≡ words_put (items_of rows.now) put.now words.old (length lost.old) }
+    ensures lost { IsTrue result → WasLost (items_of rows.now) put.now words.old lost.new (length lost.old) }
+    ensures back { IsFalse result → words.new ≡ words.old }
+{
+    let count = lost.len();
+    note_constant(&mut room.index, &put.index);
+    note_constant(&mut room.value, &put.value);
+    let indexes = atom_row(rows, &room.index, &put.index, count);
+    let values = atom_row(rows, &room.value, &put.value, count);
+    let target = row_at(rows, read.target);
+    pass_changes(words, lost, indexes, values, target)
+}
+
 // One array over so many clocks: true if its equations are kept, and its words are then those behind them; else the words are as before.
 #[tactic(auto, using(crate::proofs::OnePass::passed_kept, crate::proofs::OnePass::passed_words, crate::proofs::OnePass::passed_lost))]
 fn pass_rows(
@@ -88,6 +152,9 @@ fn pass_rows(
     ensures lost { IsTrue result → WasLost (items_of rows.now) put.now words.old lost.new (length to.old) }
     ensures back { IsFalse result → words.new ≡ words.old }
 {
+    if is_one_slot(&read.index, &put.index) {
+        return pass_changed_rows(rows, room, read, put, words, lost);
+    }
     let count = to.len();
     note_constant(&mut room.read, &read.index);
     note_constant(&mut room.index, &put.index);

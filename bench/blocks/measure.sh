@@ -1,0 +1,1 @@
+exec python3 "$(dirname "$0")/measure.py" "$1" "$(dirname "$0")"/*.v
