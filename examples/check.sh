@@ -91,6 +91,18 @@ while IFS='|' read -r status line text input left <&3; do
     fi
 done 3<"$examples/calls/faults.txt"
 
+# Each line of calls/programs.txt is what `compile` says of a program, a tab, and the program.
+tab=$(printf '\t')
+while IFS=$tab read -r line text <&3; do
+    printf '%s' "$text" >text.dk
+    if [ "$line" = accepted ]; then
+        ends 0 '' compile text.dk out.pgm
+    else
+        ends 3 "$line" compile text.dk out.pgm
+        none
+    fi
+done 3<"$examples/calls/programs.txt"
+
 ends 2 "$usage"
 ends 2 "$usage" run copy.dk
 ends 2 "$usage" help
@@ -320,8 +332,17 @@ refuses 'verilog 0-0: Syntax' ''
 refuses 'verilog 21-28: NotInSubset' 'module m(input clk); initial'
 refuses 'verilog 0-1: BadByte' '/* open'
 refuses 'verilog 0-6: BadConstant' "8'd256"
-refuses 'verilog 114-118: Width' "module m(input clk, input rst, input [3:0] din, output valid, output [7:0] dout);\n  assign valid = ~rst;\n  assign dout = din + 8'd1;\nendmodule\n"
 refuses 'verilog 7-8: Ports' 'module m(input clk, input rst, input din, output valid, output dout);\n  assign valid = ~rst;\n  assign dout = din;\nendmodule\n' --hold 1
+# Each line of calls/modules.txt is what `sim` says of a Verilog text, a tab, and the text, with bytes as printf reads them.
+while IFS=$tab read -r line text <&3; do
+    if [ "$line" = accepted ]; then
+        printf '%b' "$text" >text.v
+        ends 7 'cannot read' sim text.v 4 missing.pgm out.pgm
+        none
+    else
+        refuses "$line" "$text"
+    fi
+done 3<"$examples/calls/modules.txt"
 truncate -s 268435457 zeros.v
 ends 5 'verilog: TooLong 268435456' sim zeros.v 4 missing.pgm out.pgm
 rm zeros.v

@@ -1,6 +1,7 @@
 -- Two faults of a text are one.
-use Rattle.std.proofs.Common.{◌≡◌, ◌≢◌, ◌⊎◌, inl, inr, ℕ, List, slice_get, Some, subst, ap, sym, ◌∙◌, refl, arith}
+use Rattle.std.proofs.Common.{◌≡◌, ◌≢◌, inl, inr, ℕ, ◌<◌, ◌≤◌, List, length, slice_get, Some, subst, ap, sym, ◌∙◌, refl, arith}
 use Rattle.std.proofs.lemmas.Bool.{cases_lt}
+use Rattle.dk_base.specs.declared.TheConstants.{MAX_SOURCE_BYTES}
 use Rattle.dk_base.specs.declared.span.Span.{Span}
 use Rattle.dk_lexer.specs.declared.token.Token.{Token}
 use Rattle.dk_lexer.specs.declared.fault.LexFault.{LexFault}
@@ -18,24 +19,31 @@ use Rattle.dk_inline.specs.Nodes.{IsFirstDeep}
 use Rattle.dk_inline.specs.Answers.{IsWithin}
 use Rattle.dk_inline.specs.Answers as I
 use Rattle.dk_compile.specs.declared.fault.SourceFault.{SourceFault}
-use Rattle.dk_compile.specs.declared.fault.SourceFault.TheVariants.{Lex, Nest, Syntax, Depth, Types, Nodes, InlineDepth, Reads, Bits, Latency, OutOfMemory}
-use Rattle.dk_compile.specs.Faults.{of_parser}
-use Rattle.dk_compile.specs.Sources.{HasTree, IsText, HasTooMany, IsFault}
+use Rattle.dk_compile.specs.declared.fault.SourceFault.TheVariants.{TooLong, Lex, Nest, Syntax, Depth, Types, Nodes, InlineDepth, Reads, Bits, Latency}
+use Rattle.dk_compile.specs.Sources.{IsCut, HasTree, IsText, HasTooMany, IsSourceFault}
 use Rattle.dk_compile.proofs.Once.{tree_one, text_one}
 use Rattle.dk_compile.proofs.Counts.{too_many_once}
 
+-- a fault of the grammar as that of a text; want of memory is none
+abbrev parsed_as : ParseError → SourceFault
+parsed_as (parser.Nest span) = Nest span
+parsed_as (parser.Syntax span) = Syntax span
+parsed_as (parser.Depth span) = Depth span
+parsed_as parser.OutOfMemory = TooLong
+
 -- a fault by the pass that finds it
 data Found (text : List ℕ) (f : SourceFault) : Type 0 where
-  wanting : f ≡ OutOfMemory → Found text f
-  lexed : (e : LexFault) → f ≡ Lex e → HasFault text e → Found text f
-  parsed : (e : ParseError) (ts : List Token) → f ≡ of_parser e → e ≢ parser.OutOfMemory → HasTokens text ts → Faults ts e → Found text f
+  long : f ≡ TooLong → MAX_SOURCE_BYTES < length text → Found text f
+  lexed : (e : LexFault) → f ≡ Lex e → length text ≤ MAX_SOURCE_BYTES → HasFault text e → Found text f
+  parsed : (e : ParseError) (ts : List Token) → f ≡ parsed_as e → e ≢ parser.OutOfMemory → IsCut text ts → Faults ts e → Found text f
   typed : (e : TypeFault) (tree : Source) → f ≡ Types e → HasTree text tree → IsFirstFault tree e → Found text f
   counted : (n : ℕ) (p : Typing) → f ≡ Nodes n → IsText text p → I.IsFault p (inlining.Nodes n) → Found text f
   measured : (s : Span) (p : Typing) → f ≡ InlineDepth s → IsText text p → I.IsFault p (inlining.InlineDepth s) → Found text f
   read : (n : ℕ) (p : Typing) → f ≡ Reads n → IsText text p → IsWithin p → HasTooMany p n → Found text f
 
-found : (text : List ℕ) (f : SourceFault) → IsFault text f → Found text f
-found text (Lex e) is = lexed e refl is
+found : (text : List ℕ) (f : SourceFault) → IsSourceFault text f → Found text f
+found text TooLong is = long refl is
+found text (Lex e) (within, is) = lexed e refl within is
 found text (Nest s) (ts, cut, is) = parsed (parser.Nest s) ts refl (λ e. let no : ⊥ = cc in no) cut is
 found text (Syntax s) (ts, cut, is) = parsed (parser.Syntax s) ts refl (λ e. let no : ⊥ = cc in no) cut is
 found text (Depth s) (ts, cut, is) = parsed (parser.Depth s) ts refl (λ e. let no : ⊥ = cc in no) cut is
@@ -45,7 +53,6 @@ found text (InlineDepth s) (p, is, told) = measured s p refl is told
 found text (Reads n) (p, is, within, many) = read n p refl is within many
 found text (Bits n) is = absurd is
 found text (Latency n) is = absurd is
-found text OutOfMemory is = wanting refl
 
 -- the first definition that is too deep is one
 first_once : (p : Typing) (s t : Span) → IsFirstDeep p s → IsFirstDeep p t → s ≡ t
@@ -61,9 +68,6 @@ first_once p s t a b =
     let one : a.definition ≡ b.definition = cc in
     a.named ∙ ap (λ (d : Definition). d.name.span) one ∙ sym b.named
 
-abbrev pub Agrees : SourceFault → SourceFault → Type 0
-Agrees f g = (f ≡ OutOfMemory) ⊎ (g ≡ OutOfMemory) ⊎ (f ≡ g)
-
 module _ (tokens_once : (text : List ℕ) (ts us : List Token) → HasTokens text ts → HasTokens text us → ts ≡ us)
     (lex_once : (text : List ℕ) (f g : LexFault) → HasFault text f → HasFault text g → f ≡ g)
     (no_lex : (text : List ℕ) (ts : List Token) (f : LexFault) → HasTokens text ts → HasFault text f → ⊥)
@@ -76,10 +80,10 @@ module _ (tokens_once : (text : List ℕ) (ts us : List Token) → HasTokens tex
   same_program : (text : List ℕ) (p q : Typing) → IsText text p → IsText text q → p ≡ q
   same_program text p q = text_one tokens_once tree_once typing_once text p q
 
-  no_parsed : (text : List ℕ) (tree : Source) (ts : List Token) (e : ParseError) → HasTree text tree → HasTokens text ts → Faults ts e → e ≢ parser.OutOfMemory → ⊥
+  no_parsed : (text : List ℕ) (tree : Source) (ts : List Token) (e : ParseError) → HasTree text tree → IsCut text ts → Faults ts e → e ≢ parser.OutOfMemory → ⊥
   no_parsed text tree ts e has cut is some =
       let P : List Token → Type 0 = λ us. Faults us e in
-      some (no_parse has.tokens tree e has.parsed (subst P (tokens_once text ts has.tokens cut has.cut) is))
+      some (no_parse has.tokens tree e has.parsed (subst P (tokens_once text ts has.tokens cut.are has.cut.are) is))
 
   no_typed : (text : List ℕ) (tree : Source) (e : TypeFault) (p : Typing) → HasTree text tree → IsFirstFault tree e → IsText text p → ⊥
   no_typed text tree e p has is of =
@@ -90,37 +94,48 @@ module _ (tokens_once : (text : List ℕ) (ts us : List Token) → HasTokens tex
   late : (text : List ℕ) (p q : Typing) → IsText text p → IsText text q → (P : Typing → Type 0) → P p → P q
   late text p q is of P h = subst P (same_program text p q is of) h
 
-  meet : (text : List ℕ) (f g : SourceFault) → Found text f → Found text g → Agrees f g
-  meet text f g (wanting e) b = inl e
-  meet text f g a (wanting e) = inr (inl e)
-  meet text f g (lexed c e is) (lexed d h of) = inr (inr (e ∙ ap Lex (lex_once text c d is of) ∙ sym h))
-  meet text f g (lexed c e is) (parsed d ts h some cut of) = absurd (no_lex text ts c cut is)
-  meet text f g (lexed c e is) (typed d tree h has of) = absurd (no_lex text has.tokens c has.cut is)
-  meet text f g (lexed c e is) (counted n p h of told) = absurd (no_lex text of.parsed.tokens c of.parsed.cut is)
-  meet text f g (lexed c e is) (measured s p h of told) = absurd (no_lex text of.parsed.tokens c of.parsed.cut is)
-  meet text f g (lexed c e is) (read n p h of within many) = absurd (no_lex text of.parsed.tokens c of.parsed.cut is)
-  meet text f g (parsed d ts h some cut of) (lexed c e is) = absurd (no_lex text ts c cut is)
+  meet : (text : List ℕ) (f g : SourceFault) → Found text f → Found text g → f ≡ g
+  meet text f g (long e much) (long h more) = e ∙ sym h
+  meet text f g (long e much) (lexed c k short is) = let most = short in absurd (omega (arith, much, most))
+  meet text f g (lexed c k short is) (long e much) = let most = short in absurd (omega (arith, much, most))
+  meet text f g (long e much) (parsed d ts h some cut of) = let most = cut.within in absurd (omega (arith, much, most))
+  meet text f g (parsed d ts h some cut of) (long e much) = let most = cut.within in absurd (omega (arith, much, most))
+  meet text f g (long e much) (typed d tree h has of) = let most = has.cut.within in absurd (omega (arith, much, most))
+  meet text f g (typed d tree h has of) (long e much) = let most = has.cut.within in absurd (omega (arith, much, most))
+  meet text f g (long e much) (counted n p h of told) = let most = of.parsed.cut.within in absurd (omega (arith, much, most))
+  meet text f g (counted n p h of told) (long e much) = let most = of.parsed.cut.within in absurd (omega (arith, much, most))
+  meet text f g (long e much) (measured s p h of told) = let most = of.parsed.cut.within in absurd (omega (arith, much, most))
+  meet text f g (measured s p h of told) (long e much) = let most = of.parsed.cut.within in absurd (omega (arith, much, most))
+  meet text f g (long e much) (read n p h of within many) = let most = of.parsed.cut.within in absurd (omega (arith, much, most))
+  meet text f g (read n p h of within many) (long e much) = let most = of.parsed.cut.within in absurd (omega (arith, much, most))
+  meet text f g (lexed c e short is) (lexed d h also of) = e ∙ ap Lex (lex_once text c d is of) ∙ sym h
+  meet text f g (lexed c e short is) (parsed d ts h some cut of) = absurd (no_lex text ts c cut.are is)
+  meet text f g (lexed c e short is) (typed d tree h has of) = absurd (no_lex text has.tokens c has.cut.are is)
+  meet text f g (lexed c e short is) (counted n p h of told) = absurd (no_lex text of.parsed.tokens c of.parsed.cut.are is)
+  meet text f g (lexed c e short is) (measured s p h of told) = absurd (no_lex text of.parsed.tokens c of.parsed.cut.are is)
+  meet text f g (lexed c e short is) (read n p h of within many) = absurd (no_lex text of.parsed.tokens c of.parsed.cut.are is)
+  meet text f g (parsed d ts h some cut of) (lexed c e short is) = absurd (no_lex text ts c cut.are is)
   meet text f g (parsed c ts e some cut is) (parsed d us h also too of) =
       let P : List Token → Type 0 = λ xs. Faults xs c in
-      inr (inr (e ∙ ap of_parser (parse_once us c d (subst P (tokens_once text ts us cut too) is) of some also) ∙ sym h))
+      e ∙ ap parsed_as (parse_once us c d (subst P (tokens_once text ts us cut.are too.are) is) of some also) ∙ sym h
   meet text f g (parsed c ts e some cut is) (typed d tree h has of) = absurd (no_parsed text tree ts c has cut is some)
   meet text f g (parsed c ts e some cut is) (counted n p h of told) = absurd (no_parsed text of.tree ts c of.parsed cut is some)
   meet text f g (parsed c ts e some cut is) (measured s p h of told) = absurd (no_parsed text of.tree ts c of.parsed cut is some)
   meet text f g (parsed c ts e some cut is) (read n p h of within many) = absurd (no_parsed text of.tree ts c of.parsed cut is some)
-  meet text f g (typed d tree h has of) (lexed c e is) = absurd (no_lex text has.tokens c has.cut is)
+  meet text f g (typed d tree h has of) (lexed c e short is) = absurd (no_lex text has.tokens c has.cut.are is)
   meet text f g (typed d tree h has of) (parsed c ts e some cut is) = absurd (no_parsed text tree ts c has cut is some)
   meet text f g (typed c tree e has is) (typed d other h also of) =
       let P : Source → Type 0 = λ a. IsFirstFault a c in
-      inr (inr (e ∙ ap Types (type_once other c d (subst P (tree_one tokens_once tree_once text tree other has also) is) of) ∙ sym h))
+      e ∙ ap Types (type_once other c d (subst P (tree_one tokens_once tree_once text tree other has also) is) of) ∙ sym h
   meet text f g (typed c tree e has is) (counted n p h of told) = absurd (no_typed text tree c p has is of)
   meet text f g (typed c tree e has is) (measured s p h of told) = absurd (no_typed text tree c p has is of)
   meet text f g (typed c tree e has is) (read n p h of within many) = absurd (no_typed text tree c p has is of)
-  meet text f g (counted n p h of told) (lexed c e is) = absurd (no_lex text of.parsed.tokens c of.parsed.cut is)
+  meet text f g (counted n p h of told) (lexed c e short is) = absurd (no_lex text of.parsed.tokens c of.parsed.cut.are is)
   meet text f g (counted n p h of told) (parsed c ts e some cut is) = absurd (no_parsed text of.tree ts c of.parsed cut is some)
   meet text f g (counted n p h of told) (typed c tree e has is) = absurd (no_typed text tree c p has is of)
   meet text f g (counted m p e is told) (counted n q h of too) =
       let count = late text p q is of (λ r. I.IsFault r (inlining.Nodes m)) told in
-      inr (inr (e ∙ ap Nodes (count.1 ∙ sym too.1) ∙ sym h))
+      e ∙ ap Nodes (count.1 ∙ sym too.1) ∙ sym h
   meet text f g (counted m p e is told) (measured s q h of too) =
       let count = late text p q is of (λ r. I.IsFault r (inlining.Nodes m)) told in
       let more = count.0 in
@@ -131,7 +146,7 @@ module _ (tokens_once : (text : List ℕ) (ts us : List Token) → HasTokens tex
       let more = count.0 in
       let few = within.nodes in
       absurd (omega (arith, more, few))
-  meet text f g (measured s p h of told) (lexed c e is) = absurd (no_lex text of.parsed.tokens c of.parsed.cut is)
+  meet text f g (measured s p h of told) (lexed c e short is) = absurd (no_lex text of.parsed.tokens c of.parsed.cut.are is)
   meet text f g (measured s p h of told) (parsed c ts e some cut is) = absurd (no_parsed text of.tree ts c of.parsed cut is some)
   meet text f g (measured s p h of told) (typed c tree e has is) = absurd (no_typed text tree c p has is of)
   meet text f g (measured s p e is told) (counted n q h of too) =
@@ -141,11 +156,11 @@ module _ (tokens_once : (text : List ℕ) (ts us : List Token) → HasTokens tex
       absurd (omega (arith, more, few))
   meet text f g (measured s p e is told) (measured t q h of too) =
       let deep = late text p q is of (λ r. I.IsFault r (inlining.InlineDepth s)) told in
-      inr (inr (e ∙ ap InlineDepth (first_once q s t deep.1 too.1) ∙ sym h))
+      e ∙ ap InlineDepth (first_once q s t deep.1 too.1) ∙ sym h
   meet text f g (measured s p e is told) (read n q h of within many) =
       let deep = (late text p q is of (λ r. I.IsFault r (inlining.InlineDepth s)) told).1 in
       absurd (within.depth deep.place deep.definition deep.is)
-  meet text f g (read n p h of within many) (lexed c e is) = absurd (no_lex text of.parsed.tokens c of.parsed.cut is)
+  meet text f g (read n p h of within many) (lexed c e short is) = absurd (no_lex text of.parsed.tokens c of.parsed.cut.are is)
   meet text f g (read n p h of within many) (parsed c ts e some cut is) = absurd (no_parsed text of.tree ts c of.parsed cut is some)
   meet text f g (read n p h of within many) (typed c tree e has is) = absurd (no_typed text tree c p has is of)
   meet text f g (read n p h of within many) (counted m q e is told) =
@@ -157,7 +172,7 @@ module _ (tokens_once : (text : List ℕ) (ts us : List Token) → HasTokens tex
       let deep = (late text q p is of (λ r. I.IsFault r (inlining.InlineDepth s)) told).1 in
       absurd (within.depth deep.place deep.definition deep.is)
   meet text f g (read m p e is within many) (read n q h of also more) =
-      inr (inr (e ∙ ap Reads (too_many_once q m n (late text p q is of (λ r. HasTooMany r m) many) more) ∙ sym h))
+      e ∙ ap Reads (too_many_once q m n (late text p q is of (λ r. HasTooMany r m) many) more) ∙ sym h
 
-  pub agree : (text : List ℕ) (f g : SourceFault) → IsFault text f → IsFault text g → Agrees f g
+  pub agree : (text : List ℕ) (f g : SourceFault) → IsSourceFault text f → IsSourceFault text g → f ≡ g
   agree text f g is of = meet text f g (found text f is) (found text g of)

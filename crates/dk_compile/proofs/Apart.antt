@@ -13,8 +13,8 @@ use Rattle.dk_types.specs.Types.{IsTyping}
 use Rattle.dk_types.specs.Faults.{IsFirstFault}
 use Rattle.dk_inline.specs.Answers.{IsWithin}
 use Rattle.dk_compile.specs.declared.fault.SourceFault.{SourceFault}
-use Rattle.dk_compile.specs.declared.fault.SourceFault.TheVariants.{Lex, Nest, Syntax, Depth, Types, Nodes, InlineDepth, Reads, Bits, Latency, OutOfMemory}
-use Rattle.dk_compile.specs.Sources.{IsText, IsAccepted, HasTooMany, IsFault}
+use Rattle.dk_compile.specs.declared.fault.SourceFault.TheVariants.{TooLong, Lex, Nest, Syntax, Depth, Types, Nodes, InlineDepth, Reads, Bits, Latency}
+use Rattle.dk_compile.specs.Sources.{IsCut, IsText, IsAccepted, HasTooMany, IsSourceFault}
 use Rattle.dk_compile.proofs.Once.{tree_one, text_one}
 use Rattle.dk_compile.proofs.Counts.{few_not_many}
 
@@ -24,34 +24,34 @@ module _ (tokens_once : (text : List ℕ) (ts us : List Token) → HasTokens tex
     (no_parse : (ts : List Token) (p : Source) (f : ParseError) → Accepted ts p → Faults ts f → f ≡ parser.OutOfMemory)
     (typing_once : (a : Source) (p q : Typing) → IsTyping a p → IsTyping a q → p ≡ q)
     (no_type : (a : Source) (p : Typing) (f : TypeFault) → IsTyping a p → IsFirstFault a f → ⊥) where
-  parse_apart : (text : List ℕ) (p : Typing) → IsText text p → (ts : List Token) (f : ParseError) → HasTokens text ts → Faults ts f → f ≡ parser.OutOfMemory
+  parse_apart : (text : List ℕ) (p : Typing) → IsText text p → (ts : List Token) (f : ParseError) → IsCut text ts → Faults ts f → f ≡ parser.OutOfMemory
   parse_apart text p is ts f cut fault =
       let P : List Token → Type 0 = λ us. Faults us f in
-      no_parse is.parsed.tokens is.tree f is.parsed.parsed (subst P (tokens_once text ts is.parsed.tokens cut is.parsed.cut) fault)
+      no_parse is.parsed.tokens is.tree f is.parsed.parsed (subst P (tokens_once text ts is.parsed.tokens cut.are is.parsed.cut.are) fault)
 
   same_program : (text : List ℕ) (p q : Typing) → IsText text p → IsText text q → p ≡ q
   same_program text p q = text_one tokens_once tree_once typing_once text p q
 
-  pub apart : (text : List ℕ) (p : Typing) (f : SourceFault) → IsAccepted text p → IsFault text f → f ≡ OutOfMemory
-  apart text p (Lex fault) ok is = absurd (no_lex text ok.program.parsed.tokens fault ok.program.parsed.cut is)
-  apart text p (Nest span) ok (ts, cut, fault) = absurd (let e = parse_apart text p ok.program ts (parser.Nest span) cut fault in let no : ⊥ = cc in no)
-  apart text p (Syntax span) ok (ts, cut, fault) = absurd (let e = parse_apart text p ok.program ts (parser.Syntax span) cut fault in let no : ⊥ = cc in no)
-  apart text p (Depth span) ok (ts, cut, fault) = absurd (let e = parse_apart text p ok.program ts (parser.Depth span) cut fault in let no : ⊥ = cc in no)
+  pub apart : (text : List ℕ) (p : Typing) (f : SourceFault) → IsAccepted text p → IsSourceFault text f → ⊥
+  apart text p TooLong ok is = let most = ok.program.parsed.cut.within in omega (arith, most, is)
+  apart text p (Lex fault) ok (within, is) = no_lex text ok.program.parsed.tokens fault ok.program.parsed.cut.are is
+  apart text p (Nest span) ok (ts, cut, fault) = let e = parse_apart text p ok.program ts (parser.Nest span) cut fault in let no : ⊥ = cc in no
+  apart text p (Syntax span) ok (ts, cut, fault) = let e = parse_apart text p ok.program ts (parser.Syntax span) cut fault in let no : ⊥ = cc in no
+  apart text p (Depth span) ok (ts, cut, fault) = let e = parse_apart text p ok.program ts (parser.Depth span) cut fault in let no : ⊥ = cc in no
   apart text p (Types fault) ok (tree, has, is) =
       let P : Source → Type 0 = λ a. IsFirstFault a fault in
-      absurd (no_type ok.program.tree p fault ok.program.typed (subst P (tree_one tokens_once tree_once text tree ok.program.tree has ok.program.parsed) is))
+      no_type ok.program.tree p fault ok.program.typed (subst P (tree_one tokens_once tree_once text tree ok.program.tree has ok.program.parsed) is)
   apart text p (Nodes count) ok (q, is, (more, told)) =
       let P : Typing → Type 0 = λ r. IsWithin r in
       let within = subst P (same_program text p q ok.program is) ok.within in
       let n = within.nodes in
-      absurd (omega (arith, more, n))
+      omega (arith, more, n)
   apart text p (InlineDepth span) ok (q, is, (few, deep)) =
       let P : Typing → Type 0 = λ r. IsWithin r in
       let within = subst P (same_program text p q ok.program is) ok.within in
-      absurd (within.depth deep.place deep.definition deep.is)
+      within.depth deep.place deep.definition deep.is
   apart text p (Reads count) ok (q, is, within, many) =
       let P : Typing → Type 0 = λ r. HasTooMany r count in
-      absurd (few_not_many p ok.reads count ok.are_reads ok.few (subst P (same_program text q p is ok.program) many))
-  apart text p (Bits n) ok is = absurd is
-  apart text p (Latency n) ok is = absurd is
-  apart text p OutOfMemory ok is = refl
+      few_not_many p ok.reads count ok.are_reads ok.few (subst P (same_program text q p is ok.program) many)
+  apart text p (Bits least) ok is = is
+  apart text p (Latency clocks) ok is = is

@@ -14,7 +14,7 @@ use Rattle.stencil_sets.specs.declared.live.StencilFault.TheVariants as stencils
 use Rattle.pointwise_ir.proofs.ReadLists.{the_is, no_longer, same_list}
 use Rattle.dk_inline.specs.Answers.{IsWithin}
 use Rattle.dk_compile.specs.Faults.{of_stencils}
-use Rattle.dk_compile.specs.Sources.{IsText, IsKeptRead, AreReadsOf, IsAccepted, HasReads, HasManyReads, HasTooMany, IsFault}
+use Rattle.dk_compile.specs.Sources.{IsText, IsKeptRead, AreReadsOf, IsAccepted, HasReads, HasManyReads, HasTooMany, IsSourceFault, IsErrorBy}
 use Rattle.dk_compile.specs.Fronts.{IsForm, IsFront}
 
 -- the two ways to say that a read is one of some
@@ -97,7 +97,7 @@ module _ (p : Typing) where
     }
 
 -- the fault of too many reads
-pub stencil_fault : (text : List ℕ) (p : Typing) (ir : Program) → IsText text p → IsWithin p → IsForm p ir → (e : StencilFault) → F.IsFault ir e → IsFault text (of_stencils e)
+pub stencil_fault : (text : List ℕ) (p : Typing) (ir : Program) → IsText text p → IsWithin p → IsForm p ir → (e : StencilFault) → F.IsFault ir e → IsErrorBy (IsSourceFault text) (of_stencils e)
 stencil_fault text p ir is within form (stencils.Reads count) (more, counted) = (p, is, within, too_many_of p ir form count more counted)
 stencil_fault text p ir is within form stencils.OutOfMemory told = tt
 

@@ -12,6 +12,7 @@ pub mod Decided
 pub mod Listed
 pub mod Stenciled
 pub mod AtAge
+pub mod Errors
 pub mod Shown
 pub mod Shows
 pub mod Rounds

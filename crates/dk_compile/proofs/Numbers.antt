@@ -15,9 +15,7 @@ use Rattle.dk_lexer.specs.declared.fault.LexKind.TheVariants.{NumberTooGreat}
 use Rattle.dk_base.specs.declared.TheConstants.{MAX_NAME_BYTES}
 use Rattle.dk_base.specs.Ascii.{is_letter, is_digit, is_word_byte, value_of}
 use Rattle.dk_lexer.specs.Bytes.{two_byte_symbol, one_byte_symbol}
-use Rattle.dk_grammar.specs.Reading.{Phrases, Clear, end, link}
-use Rattle.dk_parser.specs.declared.items.Lead.{Lead}
-use Rattle.dk_parser.specs.declared.items.Lead.TheVariants as lead
+use Rattle.dk_grammar.specs.Reading.{Phrases, Clear, Many, none as nothing, more as another}
 use Rattle.dk_parser.specs.declared.terminal.Keyword.{Keyword}
 use Rattle.dk_parser.specs.declared.terminal.Keyword.TheVariants as word
 use Rattle.dk_parser.specs.declared.terminal.Mark.TheVariants as mark
@@ -26,16 +24,18 @@ use Rattle.dk_parser.specs.declared.terminal.Terminal.TheVariants.{Keyword as Ke
 use Rattle.dk_parser.specs.declared.tree.Start.{Start}
 use Rattle.dk_parser.specs.declared.tree.Start.TheVariants.{Constant}
 use Rattle.dk_parser.specs.declared.tree.Step.{Step}
+use Rattle.dk_parser.specs.declared.tree.Input.{Input}
 use Rattle.dk_parser.specs.Tree.{Tree, number, read, unary, binary, scale, cast, sat, select, span_of, at_span}
 use Rattle.dk_parser.specs.Terminals.{terminal, terminal_of, keyword_or, reserved, type_or_name, typed, width_of, same_codes}
 use Rattle.dk_parser.specs.Words.{over}
 use Rattle.dk_parser.specs.Reads.{plain as unclamped', clamped}
 use Rattle.dk_parser.specs.Grammar.{Tokens, Form, steps, Phrase, single, compared, prefixed, plain, chain, done, operand, suffixed, suffix, scaled, converted, closed, reading, constant, bracket, pair, absolute, saturate, choice, start}
-use Rattle.dk_parser.specs.Programs.{Source, Definition, Item, input, definition, output, ADefinition, AnItem, Items, definitions_of, is_end}
+use Rattle.dk_parser.specs.Programs.{Source, Definition, ADefinition}
+use Rattle.dk_parser.specs.Rules.{InputRule, DefinitionRule, plain as plain', inlined}
 use Rattle.dk_parser.specs.Judged.{Derives}
 use Rattle.dk_parser.proofs.Laws.{local}
 use Rattle.dk_parser.proofs.Tokens.{clear_mark, clear_name, clear_literal}
-use Rattle.dk_parser.proofs.Keeping.{clear_item, clear_declared, clear_header}
+use Rattle.dk_parser.proofs.Keeping.{clear_input, clear_definition, clear_declared, clear_header}
 use Rattle.dk_types.specs.Types.{HasNumbers}
 
 -- a number is below 2 ^ 64
@@ -189,33 +189,33 @@ definition_numbers b (n, m, p, (t, m2, q, (z, m3, r, (e, m4, (tok, body, k, same
     let P : Definition → Type 0 = λ d. HasNumbers d.body in
     subst P is.0 (numbers body body_at tt)
 
-abbrev ItemHas : Item → Type 0
-ItemHas (definition d) = HasNumbers d.body
-ItemHas _ = Unit {0}
-
-item_numbers : (l : Lead) (ts rest : Tokens) (v : Item) → is_end l ≡ false → AnItem l ts v rest → AreSmall ts → ItemHas v
-item_numbers lead.Input ts rest v g (i, m, p, is) s = subst ItemHas is.0 tt
-item_numbers lead.Let ts rest v g (d, m, p, is) s = subst ItemHas is.0 (definition_numbers false p s)
-item_numbers lead.Inline ts rest v g (z, m, p, (d, m2, q, is)) s = subst ItemHas is.0 (definition_numbers true q (rest_small (clear_mark (mark.Reserved word.Let)) p s))
-item_numbers lead.Output ts rest v g (n, m, p, is) s = subst ItemHas is.0 tt
-item_numbers lead.End ts rest v g p s = absurd p
-
 abbrev BodiesHave : List Definition → Type 0
 BodiesHave ds = AllByRecursion (λ (d : Definition). HasNumbers d.body) ds
 
-with_item : (v : Item) (vs : List Item) → ItemHas v → BodiesHave (definitions_of vs) → BodiesHave (definitions_of (v ∷ vs))
-with_item (input i) vs h k = k
-with_item (definition d) vs h k = (h, k)
-with_item (output n) vs h k = k
+rule_numbers : {ts rest : Tokens} {d : Definition} → DefinitionRule ts d rest → AreSmall ts → HasNumbers d.body
+rule_numbers (plain' (z, m, p, q)) s = definition_numbers false q (rest_small (clear_mark (mark.Reserved word.Let)) p s)
+rule_numbers (inlined (z, m, p, (y, n, q, r))) s =
+    definition_numbers true r (rest_small (clear_mark (mark.Reserved word.Let)) q (rest_small (clear_mark (mark.Reserved word.Inline)) p s))
 
-items_numbers : (l : Lead) {ts rest : Tokens} {vs : List Item} → Items l ts vs rest → AreSmall ts → BodiesHave (definitions_of vs)
-items_numbers l (end g) s = tt
-items_numbers l (link {n = k} {v = v} {vs = vs} g p e m q) s =
-    let after = subst AreSmall e (rest_small (clear_item l g) p s) in
-    with_item v vs (item_numbers l _ _ v g p s) (items_numbers k q after.1)
+rule_rest : {ts rest : Tokens} {d : Definition} → DefinitionRule ts d rest → AreSmall ts → AreSmall rest
+rule_rest (plain' (z, m, p, q)) s = rest_small (clear_definition false) q (rest_small (clear_mark (mark.Reserved word.Let)) p s)
+rule_rest (inlined (z, m, p, (y, n, q, r))) s =
+    rest_small (clear_definition true) r (rest_small (clear_mark (mark.Reserved word.Let)) q (rest_small (clear_mark (mark.Reserved word.Inline)) p s))
+
+definitions_numbers : {ts rest : Tokens} {ds : List Definition} → Many DefinitionRule ts ds rest → AreSmall ts → BodiesHave ds
+definitions_numbers nothing s = tt
+definitions_numbers (another p q) s = (rule_numbers p s, definitions_numbers q (rule_rest p s))
+
+input_rest : {ts rest : Tokens} {i : Input} → InputRule ts i rest → AreSmall ts → AreSmall rest
+input_rest (z, m, p, q) s = rest_small clear_input q (rest_small (clear_mark (mark.Reserved word.Input)) p s)
+
+inputs_rest : {ts rest : Tokens} {is : List Input} → Many InputRule ts is rest → AreSmall ts → AreSmall rest
+inputs_rest nothing s = s
+inputs_rest (another p q) s = inputs_rest q (input_rest p s)
 
 pub program_numbers : (ts : Tokens) (p : Source) → Derives ts p → AreSmall ts → All (λ (d : Definition). HasNumbers d.body) p.definitions
-program_numbers ts p (z, m, a, (w, m2, b, (h, m3, c, (y, m4, d, (vs, m5, q, is))))) s =
-    let at = rest_small (clear_mark (mark.Reserved word.Input)) d (rest_small clear_literal c (rest_small clear_literal b (rest_small (clear_mark (mark.Reserved word.Size)) a s))) in
+program_numbers ts p (z, m, a, (w, m2, b, (h, m3, c, (is, m4, (i, m5, d, (js, m6, e, (whole, left))), (ds, m7, f, (os, m8, g, (y, m9, k, (same, ended)))))))) s =
+    let inputs_at = rest_small clear_literal c (rest_small clear_literal b (rest_small (clear_mark (mark.Reserved word.Size)) a s)) in
+    let definitions_at = subst AreSmall left (inputs_rest e (input_rest d inputs_at)) in
     let P : Source → Type 0 = λ p. All (λ (d : Definition). HasNumbers d.body) p.definitions in
-    subst P is.0 (All-from_recursion (λ (d : Definition). HasNumbers d.body) (definitions_of vs) (items_numbers lead.Input q at))
+    subst P same (All-from_recursion (λ (d : Definition). HasNumbers d.body) ds (definitions_numbers f definitions_at))

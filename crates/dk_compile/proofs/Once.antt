@@ -11,7 +11,7 @@ use Rattle.dk_compile.specs.Sources.{HasTree, IsText}
 module _ (tokens_once : (text : List ℕ) (ts us : List Token) → HasTokens text ts → HasTokens text us → ts ≡ us) (tree_once : (ts : List Token) (p q : Source) → Derives ts p → Derives ts q → p ≡ q) where
   pub tree_one : (text : List ℕ) (a b : Source) → HasTree text a → HasTree text b → a ≡ b
   tree_one text a b h k =
-      let same = tokens_once text h.tokens k.tokens h.cut k.cut in
+      let same = tokens_once text h.tokens k.tokens h.cut.are k.cut.are in
       let P : List Token → Type 0 = λ ts. Derives ts a in
       tree_once k.tokens a b (subst P same h.parsed.derives) k.parsed.derives
 

@@ -8,7 +8,7 @@ use Rattle.buffer_plan.specs.declared.fault.PlanFault.TheVariants as plan
 use Rattle.buffer_plan.specs.Limits.{KeepsLimits, IsPassed}
 use Rattle.dk_compile.specs.declared.fault.SourceFault.{SourceFault}
 use Rattle.dk_compile.specs.declared.fault.SourceFault.TheVariants.{Bits, Latency}
-use Rattle.dk_compile.specs.Sources.{IsAccepted, IsFault}
+use Rattle.dk_compile.specs.Sources.{IsAccepted, IsSourceFault}
 use Rattle.dk_compile.specs.Fronts.{IsFront}
 
 -- The text is that of a program within its limits, which has this form and, at this age, this system of its live reads.
@@ -36,4 +36,4 @@ pub record PassesLimit (text : List ℕ) (age : ℕ) (fault : PlanFault) : Type 
 abbrev pub IsFaultAt : List ℕ → (age : ℕ) → SourceFault → Type 0
 IsFaultAt text age (Bits least) = PassesLimit text age (plan.Bits least)
 IsFaultAt text age (Latency clocks) = PassesLimit text age (plan.Latency clocks)
-IsFaultAt text age fault = IsFault text fault
+IsFaultAt text age fault = IsSourceFault text fault

@@ -1,6 +1,6 @@
 -- Texts as programs within the limits, and the first fault of those that are none.
-use Rattle.std.specs.Prelude.{◌≡◌, ◌⊎◌, ◌↔◌, ℕ, ◌+◌, ◌<◌, ◌≤◌, List, length, Contains}
-use Rattle.dk_base.specs.declared.TheConstants.{MAX_LIVE_READS, MAX_COUNTED_READS}
+use Rattle.std.specs.Prelude.{◌≡◌, ◌⊎◌, ◌↔◌, ⊤, ℕ, ◌+◌, ◌<◌, ◌≤◌, List, length, Contains}
+use Rattle.dk_base.specs.declared.TheConstants.{MAX_SOURCE_BYTES, MAX_LIVE_READS, MAX_COUNTED_READS}
 use Rattle.dk_base.specs.declared.stencils.LiveRead.{LiveRead}
 use Rattle.dk_base.specs.Stencils.{AreInOrder}
 use Rattle.dk_lexer.specs.declared.token.Token.{Token}
@@ -16,12 +16,19 @@ use Rattle.dk_inline.specs.declared.inlining.InlineFault.TheVariants as inlining
 use Rattle.dk_inline.specs.Answers.{IsWithin}
 use Rattle.dk_inline.specs.Answers as I
 use Rattle.dk_compile.specs.declared.fault.SourceFault.{SourceFault}
-use Rattle.dk_compile.specs.declared.fault.SourceFault.TheVariants.{Lex, Nest, Syntax, Depth, Types, Nodes, InlineDepth, Reads, Bits, Latency, OutOfMemory}
+use Rattle.dk_compile.specs.declared.fault.SourceFault.TheVariants.{TooLong, Lex, Nest, Syntax, Depth, Types, Nodes, InlineDepth, Reads, Bits, Latency}
+use Rattle.dk_compile.specs.declared.fault.SourceError.{SourceError}
+use Rattle.dk_compile.specs.declared.fault.SourceError.TheVariants.{Fault, OutOfMemory}
+
+-- the text is not too long, and has these tokens
+pub record IsCut (text : List ℕ) (tokens : List Token) : Type 0 where
+  pub within : length text ≤ MAX_SOURCE_BYTES
+  pub are : HasTokens text tokens
 
 -- the text has this tree
 pub record HasTree (text : List ℕ) (tree : Source) : Type 0 where
   pub tokens : List Token
-  pub cut : HasTokens text tokens
+  pub cut : IsCut text tokens
   pub parsed : Accepted tokens tree
 
 -- the text is that of this program
@@ -68,16 +75,21 @@ pub record HasTooMany (p : Typing) (count : ℕ) : Type 0 where
   pub more : MAX_LIVE_READS < count
   pub counted : HasReads p count ⊎ HasManyReads p count
 
--- The first fault of a text: tokens, tree, types, nodes, depth after inlining, live reads. Each is told where all before it is in order. Bits and latency are not judged.
-abbrev pub IsFault : List ℕ → SourceFault → Type 0
-IsFault text (Lex fault) = HasFault text fault
-IsFault text (Nest span) = (tokens : List Token) × HasTokens text tokens × Faults tokens (parser.Nest span)
-IsFault text (Syntax span) = (tokens : List Token) × HasTokens text tokens × Faults tokens (parser.Syntax span)
-IsFault text (Depth span) = (tokens : List Token) × HasTokens text tokens × Faults tokens (parser.Depth span)
-IsFault text (Types fault) = (tree : Source) × HasTree text tree × IsFirstFault tree fault
-IsFault text (Nodes count) = (p : Typing) × IsText text p × I.IsFault p (inlining.Nodes count)
-IsFault text (InlineDepth span) = (p : Typing) × IsText text p × I.IsFault p (inlining.InlineDepth span)
-IsFault text (Reads count) = (p : Typing) × IsText text p × IsWithin p × HasTooMany p count
-IsFault text (Bits least) = ⊥
-IsFault text (Latency clocks) = ⊥
-IsFault text OutOfMemory = Unit {0}
+-- The first fault of a text: its length, tokens, brackets, grammar, depth, types, nodes, depth after inlining, live reads. Each is told where all before it is in order. Bits and latency are not judged.
+abbrev pub IsSourceFault : List ℕ → SourceFault → Type 0
+IsSourceFault text TooLong = MAX_SOURCE_BYTES < length text
+IsSourceFault text (Lex fault) = (length text ≤ MAX_SOURCE_BYTES) × HasFault text fault
+IsSourceFault text (Nest span) = (tokens : List Token) × IsCut text tokens × Faults tokens (parser.Nest span)
+IsSourceFault text (Syntax span) = (tokens : List Token) × IsCut text tokens × Faults tokens (parser.Syntax span)
+IsSourceFault text (Depth span) = (tokens : List Token) × IsCut text tokens × Faults tokens (parser.Depth span)
+IsSourceFault text (Types fault) = (tree : Source) × HasTree text tree × IsFirstFault tree fault
+IsSourceFault text (Nodes count) = (p : Typing) × IsText text p × I.IsFault p (inlining.Nodes count)
+IsSourceFault text (InlineDepth span) = (p : Typing) × IsText text p × I.IsFault p (inlining.InlineDepth span)
+IsSourceFault text (Reads count) = (p : Typing) × IsText text p × IsWithin p × HasTooMany p count
+IsSourceFault text (Bits least) = ⊥
+IsSourceFault text (Latency clocks) = ⊥
+
+-- an error is such a fault, or want of memory, of which the text says nothing
+abbrev pub IsErrorBy : (SourceFault → Type 0) → SourceError → Type 0
+IsErrorBy is (Fault fault) = is fault
+IsErrorBy is OutOfMemory = ⊤

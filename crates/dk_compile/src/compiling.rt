@@ -7,11 +7,12 @@ ghost use Rattle.flow_dual.specs.Solutions.{IsSolution};
 ghost use Rattle.buffer_plan.specs.Plans.{IsPlan};
 ghost use Rattle.buffer_plan.specs.Limits.{IsPlanFault};
 ghost use Rattle.circuit.specs.Behaviour.{IsPlanOf};
+ghost use Rattle.dk_compile.specs.Sources.{IsErrorBy};
 ghost use Rattle.dk_compile.specs.Limits.{IsFaultAt};
 ghost use Rattle.dk_compile.specs.Compiled.{IsPlanned, IsCircuitOf, IsTextOf, IsCompiled};
 
 use crate::accepted::Front;
-use crate::fault::SourceFault;
+use crate::fault::SourceError;
 use crate::reading::front;
 use buffer_plan::{Plan, PlanFault, plan};
 use circuit::{Built, Chain, Options, build_with, frame_drive};
@@ -81,11 +82,11 @@ fn solved(alloc: Global, stencils: &Stencils, age: u8) -> Result<LeastPlan, Plan
     })
 }
 
-/// The program of a text with the plan of its live reads at this age, at most 64 clocks, or the first fault of the text at it. Limits on bytes are the caller's.
-pub fn planned(alloc: Global, text: &[u8], age: u8) -> Result<PlannedProgram, SourceFault>
+/// The program of a text with the plan of its live reads at this age, at most 64 clocks, or the first fault of the text at it.
+pub fn planned(alloc: Global, text: &[u8], age: u8) -> Result<PlannedProgram, SourceError>
     requires age { age ≤ MAX_AGE }
     ensures planned { IfOk result (λ r. (p : Typing) × IsPlanned text.now age p r.ir r.system r.solution r.plan) }
-    ensures fault { IfErr result (IsFaultAt text.now age) }
+    ensures fault { IfErr result (IsErrorBy (IsFaultAt text.now age)) }
 {
     let Front { ir, stencils } = front(alloc, text)?;
     let LeastPlan {
@@ -120,11 +121,11 @@ fn printed(
     Ok(PrintedModule { module, nets, text })
 }
 
-/// The Verilog text of the circuit of a program, with the port `en` where it is wanted, at an age of at most 64 clocks; or the first fault of the text at this age. Limits on bytes are the caller's. The Verilog text is in the language of IEEE Std 1364-2005.
-pub fn compile_with(alloc: Global, text: &[u8], options: Options) -> Result<Compiled, SourceFault>
+/// The Verilog text of the circuit of a program, with the port `en` where it is wanted, at an age of at most 64 clocks; or the first fault of the text at this age. The Verilog text is in the language of IEEE Std 1364-2005.
+pub fn compile_with(alloc: Global, text: &[u8], options: Options) -> Result<Compiled, SourceError>
     requires age { options.age ≤ MAX_AGE }
     ensures compiled { IfOk result (λ c. (p : Typing) × IsCompiled text.now options.age options.enable p c.ir c.system c.solution c.plan c.«module» c.nets.items c.text.items) }
-    ensures fault { IfErr result (IsFaultAt text.now options.age) }
+    ensures fault { IfErr result (IsErrorBy (IsFaultAt text.now options.age)) }
 {
     let PlannedProgram {
         ir,
@@ -149,9 +150,9 @@ pub fn compile_with(alloc: Global, text: &[u8], options: Options) -> Result<Comp
 }
 
 /// The Verilog text of the circuit of a program, without the port `en`, at age 0.
-pub fn compile(alloc: Global, text: &[u8]) -> Result<Compiled, SourceFault>
+pub fn compile(alloc: Global, text: &[u8]) -> Result<Compiled, SourceError>
     ensures compiled { IfOk result (λ c. (p : Typing) × IsCompiled text.now 0 false p c.ir c.system c.solution c.plan c.«module» c.nets.items c.text.items) }
-    ensures fault { IfErr result (IsFaultAt text.now 0) }
+    ensures fault { IfErr result (IsErrorBy (IsFaultAt text.now 0)) }
 {
     let options = Options {
         enable: false,

@@ -15,6 +15,9 @@ use stencil_sets::StencilFault;
 /// Why a text is no program within the limits, in the order in which it is judged. Spans are in bytes of the text.
 #[derive(Clone, Copy, Debug, PartialEq, Eq, thiserror::Error)]
 pub enum SourceFault {
+    /// The text has more than 1,048,576 bytes.
+    #[error("TooLong")]
+    TooLong,
     /// The text has no tokens.
     #[error("{0}")]
     Lex(LexFault),
@@ -45,12 +48,18 @@ pub enum SourceFault {
     /// The greatest latency of an output in clocks at the age that is asked, where it is above 67,108,864.
     #[error("Latency {clocks}")]
     Latency { clocks: u64 },
-    /// There was not enough memory to tell.
+}
+
+/// Why a text was not read as a program: its first fault, or want of memory.
+#[derive(Clone, Copy, Debug, PartialEq, Eq, thiserror::Error)]
+pub enum SourceError {
+    #[error("{0}")]
+    Fault(SourceFault),
     #[error("out of memory")]
     OutOfMemory,
 }
 
-impl From<LexError> for SourceFault {
+impl From<LexError> for SourceError {
     ghost use Rattle.std.specs.Prelude.{◌≡◌};
     ghost use Rattle.dk_compile.specs.Faults.{of_lexer};
 
@@ -58,13 +67,13 @@ impl From<LexError> for SourceFault {
 
     fn from(error: LexError) -> Self {
         match error {
-            LexError::Fault(fault) => SourceFault::Lex(fault),
-            LexError::OutOfMemory => SourceFault::OutOfMemory,
+            LexError::Fault(fault) => SourceError::Fault(SourceFault::Lex(fault)),
+            LexError::OutOfMemory => SourceError::OutOfMemory,
         }
     }
 }
 
-impl From<ParseError> for SourceFault {
+impl From<ParseError> for SourceError {
     ghost use Rattle.std.specs.Prelude.{◌≡◌};
     ghost use Rattle.dk_compile.specs.Faults.{of_parser};
 
@@ -72,15 +81,15 @@ impl From<ParseError> for SourceFault {
 
     fn from(error: ParseError) -> Self {
         match error {
-            ParseError::Nest { span } => SourceFault::Nest { span },
-            ParseError::Syntax { span } => SourceFault::Syntax { span },
-            ParseError::Depth { span } => SourceFault::Depth { span },
-            ParseError::OutOfMemory => SourceFault::OutOfMemory,
+            ParseError::Nest { span } => SourceError::Fault(SourceFault::Nest { span }),
+            ParseError::Syntax { span } => SourceError::Fault(SourceFault::Syntax { span }),
+            ParseError::Depth { span } => SourceError::Fault(SourceFault::Depth { span }),
+            ParseError::OutOfMemory => SourceError::OutOfMemory,
         }
     }
 }
 
-impl From<TypeError> for SourceFault {
+impl From<TypeError> for SourceError {
     ghost use Rattle.std.specs.Prelude.{◌≡◌};
     ghost use Rattle.dk_compile.specs.Faults.{of_types};
 
@@ -88,13 +97,13 @@ impl From<TypeError> for SourceFault {
 
     fn from(error: TypeError) -> Self {
         match error {
-            TypeError::Fault(fault) => SourceFault::Types(fault),
-            TypeError::OutOfMemory => SourceFault::OutOfMemory,
+            TypeError::Fault(fault) => SourceError::Fault(SourceFault::Types(fault)),
+            TypeError::OutOfMemory => SourceError::OutOfMemory,
         }
     }
 }
 
-impl From<InlineFault> for SourceFault {
+impl From<InlineFault> for SourceError {
     ghost use Rattle.std.specs.Prelude.{◌≡◌};
     ghost use Rattle.dk_compile.specs.Faults.{of_inlining};
 
@@ -102,14 +111,16 @@ impl From<InlineFault> for SourceFault {
 
     fn from(fault: InlineFault) -> Self {
         match fault {
-            InlineFault::Nodes { count } => SourceFault::Nodes { count },
-            InlineFault::InlineDepth { span } => SourceFault::InlineDepth { span },
-            InlineFault::OutOfMemory => SourceFault::OutOfMemory,
+            InlineFault::Nodes { count } => SourceError::Fault(SourceFault::Nodes { count }),
+            InlineFault::InlineDepth { span } => SourceError::Fault(SourceFault::InlineDepth {
+                span,
+            }),
+            InlineFault::OutOfMemory => SourceError::OutOfMemory,
         }
     }
 }
 
-impl From<StencilFault> for SourceFault {
+impl From<StencilFault> for SourceError {
     ghost use Rattle.std.specs.Prelude.{◌≡◌};
     ghost use Rattle.dk_compile.specs.Faults.{of_stencils};
 
@@ -117,13 +128,13 @@ impl From<StencilFault> for SourceFault {
 
     fn from(fault: StencilFault) -> Self {
         match fault {
-            StencilFault::Reads { count } => SourceFault::Reads { count },
-            StencilFault::OutOfMemory => SourceFault::OutOfMemory,
+            StencilFault::Reads { count } => SourceError::Fault(SourceFault::Reads { count }),
+            StencilFault::OutOfMemory => SourceError::OutOfMemory,
         }
     }
 }
 
-impl From<PlanFault> for SourceFault {
+impl From<PlanFault> for SourceError {
     ghost use Rattle.std.specs.Prelude.{◌≡◌};
     ghost use Rattle.dk_compile.specs.Faults.{of_plan};
 
@@ -131,20 +142,20 @@ impl From<PlanFault> for SourceFault {
 
     fn from(fault: PlanFault) -> Self {
         match fault {
-            PlanFault::Bits { least } => SourceFault::Bits { least },
-            PlanFault::Latency { clocks } => SourceFault::Latency { clocks },
-            PlanFault::OutOfMemory => SourceFault::OutOfMemory,
+            PlanFault::Bits { least } => SourceError::Fault(SourceFault::Bits { least }),
+            PlanFault::Latency { clocks } => SourceError::Fault(SourceFault::Latency { clocks }),
+            PlanFault::OutOfMemory => SourceError::OutOfMemory,
         }
     }
 }
 
-impl From<OutOfMemory> for SourceFault {
+impl From<OutOfMemory> for SourceError {
     ghost use Rattle.std.specs.Prelude.{◌≡◌};
-    ghost use Rattle.dk_compile.specs.declared.fault.SourceFault.TheVariants as fault;
+    ghost use Rattle.dk_compile.specs.declared.fault.SourceError.TheVariants as error;
 
-    ghost from_gives = { λ e f. f ≡ fault.OutOfMemory };
+    ghost from_gives = { λ e f. f ≡ error.OutOfMemory };
 
     fn from(_error: OutOfMemory) -> Self {
-        SourceFault::OutOfMemory
+        SourceError::OutOfMemory
     }
 }

@@ -1,15 +1,14 @@
 // What the definitions say together.
 
-ghost use Rattle.std.specs.Prelude.{◌≡◌, ◌≢◌, ◌⊎◌, ℕ, ◌+◌, ◌-◌, ◌*◌, ◌<◌, ◌≤◌, List, length, map, All, unsigned_abs};
+ghost use Rattle.std.specs.Prelude.{◌≡◌, ◌⊎◌, ℕ, ◌+◌, ◌-◌, ◌*◌, ◌<◌, ◌≤◌, List, length, map, All, unsigned_abs};
 ghost use Rattle.std.specs.List.{flat_map, range_with_len};
 ghost use Rattle.dk_base.specs.Frames.{Size, Picture, area, pixel_of, raster};
 ghost use Rattle.dk_base.specs.Stencils.{Stencils};
 ghost use Rattle.dk_types.specs.Typed.{Typing};
 ghost use Rattle.pointwise_ir.specs.Programs.{Program};
 ghost use Rattle.dk_compile.specs.declared.fault.SourceFault.{SourceFault};
-ghost use Rattle.dk_compile.specs.declared.fault.SourceFault.TheVariants.{OutOfMemory};
 ghost use Rattle.pointwise_ir.specs.Stencils.{AreStencilsOf};
-ghost use Rattle.dk_compile.specs.Sources.{IsText, IsAccepted, IsFault};
+ghost use Rattle.dk_compile.specs.Sources.{IsText, IsAccepted, IsSourceFault};
 ghost use Rattle.dk_compile.specs.Fronts.{IsForm, IsFront};
 ghost use Rattle.dk_compile.specs.Limits.{HasSystem, IsAcceptedAt, IsFaultAt};
 ghost use Rattle.dk_compile.specs.Compiled.{IsPlanned};
@@ -22,12 +21,12 @@ ghost use Rattle.buffer_plan.specs.Plans.{Plan, latency_of};
 ghost use Rattle.circuit.specs.Rounds.{Rounds, AreRounds, pixel, pixel_count};
 ghost use Rattle.circuit.specs.Driven.{Drives, Agree, driven, input_widths, output_at};
 
-/// A law: a text is that of one program at most; one that is accepted has no fault; and two faults of a text are one, but for want of memory. Each text is accepted or has a fault. What has a form and stencils within the limits is accepted, and the stencils of any form have the program's own live reads.
+/// A law: a text is that of one program at most; one that is accepted has no fault; and two faults of a text are one. Each text is accepted or has a fault. What has a form and stencils within the limits is accepted, and the stencils of any form have the program's own live reads.
 pub fn one_source()
     ensures program { (text : List ℕ) (p q : Typing) → IsText text p → IsText text q → p ≡ q }
-    ensures apart { (text : List ℕ) (p : Typing) (f : SourceFault) → IsAccepted text p → IsFault text f → f ≡ OutOfMemory }
-    ensures fault { (text : List ℕ) (f g : SourceFault) → IsFault text f → IsFault text g → (f ≡ OutOfMemory) ⊎ (g ≡ OutOfMemory) ⊎ (f ≡ g) }
-    ensures some { (text : List ℕ) → ((p : Typing) × IsAccepted text p) ⊎ ((f : SourceFault) × IsFault text f × (f ≢ OutOfMemory)) }
+    ensures apart { (text : List ℕ) (p : Typing) (f : SourceFault) → IsAccepted text p → IsSourceFault text f → ⊥ }
+    ensures fault { (text : List ℕ) (f g : SourceFault) → IsSourceFault text f → IsSourceFault text g → f ≡ g }
+    ensures some { (text : List ℕ) → ((p : Typing) × IsAccepted text p) ⊎ ((f : SourceFault) × IsSourceFault text f) }
     ensures accepted { (text : List ℕ) (p : Typing) (ir : Program) (s : Stencils) → IsFront text p ir s → IsAccepted text p }
     ensures reads { (text : List ℕ) (p : Typing) (ir : Program) (s : Stencils) → (accepted : IsAccepted text p) → IsForm p ir → AreStencilsOf ir s → s.reads ≡ accepted.reads }
 {
@@ -37,12 +36,12 @@ pub fn one_source()
     dk_types::one_typing();
 }
 
-/// A law, of texts at an age: a text has one system of live reads; one that is planned is accepted; one that is accepted has no fault; and two faults of a text are one, but for want of memory.
+/// A law, of texts at an age: a text has one system of live reads; one that is planned is accepted; one that is accepted has no fault; and two faults of a text are one.
 pub fn one_at_age()
     ensures system { (text : List ℕ) (age : ℕ) (p q : Typing) (a b : Program) (s t : System) → HasSystem text age p a s → HasSystem text age q b t → s ≡ t }
     ensures accepted { (text : List ℕ) (age : ℕ) (p : Typing) (ir : Program) (s : System) (x : Solution) (plan : Plan) → IsPlanned text age p ir s x plan → IsAcceptedAt text age p }
-    ensures apart { (text : List ℕ) (age : ℕ) (p : Typing) (f : SourceFault) → IsAcceptedAt text age p → IsFaultAt text age f → f ≡ OutOfMemory }
-    ensures fault { (text : List ℕ) (age : ℕ) (f g : SourceFault) → IsFaultAt text age f → IsFaultAt text age g → (f ≡ OutOfMemory) ⊎ (g ≡ OutOfMemory) ⊎ (f ≡ g) }
+    ensures apart { (text : List ℕ) (age : ℕ) (p : Typing) (f : SourceFault) → IsAcceptedAt text age p → IsFaultAt text age f → ⊥ }
+    ensures fault { (text : List ℕ) (age : ℕ) (f g : SourceFault) → IsFaultAt text age f → IsFaultAt text age g → f ≡ g }
 {
     one_source();
     stencil_sets::one_answer();

@@ -10,6 +10,6 @@ mod reading;
 pub use accepted::Front;
 pub use circuit::Options;
 pub use compiling::{Compiled, PlannedProgram, compile, compile_with, planned};
-pub use fault::SourceFault;
+pub use fault::{SourceError, SourceFault};
 pub use laws::{drive_shows, one_at_age, one_source};
 pub use reading::{front, typed};

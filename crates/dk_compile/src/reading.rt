@@ -6,12 +6,12 @@ ghost use Rattle.dk_types.specs.Typed.{Typing, typing_of};
 ghost use Rattle.pointwise_ir.specs.Passes.{KeepsMeaning};
 ghost use Rattle.dk_inline.specs.Folded.{IsFolded};
 ghost use Rattle.dk_inline.specs.Answers.{IsWithin};
-ghost use Rattle.dk_compile.specs.Sources.{HasTree, IsText, IsAccepted, IsFault};
+ghost use Rattle.dk_compile.specs.Sources.{HasTree, IsText, IsAccepted, IsSourceFault, IsErrorBy};
 ghost use Rattle.dk_compile.specs.Fronts.{IsForm, IsFront};
 
 use crate::accepted::Front;
-use crate::fault::SourceFault;
-use dk_base::OutOfMemory;
+use crate::fault::{SourceError, SourceFault};
+use dk_base::{MAX_SOURCE_BYTES, OutOfMemory};
 use dk_inline::{Fold, inline};
 use dk_lexer::lex;
 use dk_parser::{Program, parse};
@@ -21,21 +21,24 @@ use std::alloc::Global;
 use stencil_sets::live_reads;
 
 // The tree of a text.
-fn tree(alloc: Global, text: &[u8]) -> Result<Program, SourceFault>
+fn tree(alloc: Global, text: &[u8]) -> Result<Program, SourceError>
     ensures tree { IfOk result (λ program. HasTree text.now (source_of program)) }
-    ensures fault { IfErr result (IsFault text.now) }
+    ensures fault { IfErr result (IsErrorBy (IsSourceFault text.now)) }
 {
+    if MAX_SOURCE_BYTES < text.len() {
+        return Err(SourceError::Fault(SourceFault::TooLong));
+    }
     let tokens = lex(alloc, text)?;
     let program = parse(alloc, &tokens)?;
     Ok(program)
 }
 
-/// The typed program of a text, or the first fault of the text among those of its tokens, its tree and its types. Limits on bytes are the caller's.
-pub fn typed(alloc: Global, text: &[u8]) -> Result<TypedProgram, SourceFault>
+/// The typed program of a text, or the first fault of the text among those of its length, its tokens, its tree and its types.
+pub fn typed(alloc: Global, text: &[u8]) -> Result<TypedProgram, SourceError>
     ensures text { IfOk result (λ p. IsText text.now (typing_of p)) }
     ensures some_inputs { IfOk result (λ p. 1 ≤ length p.inputs) }
     ensures some_outputs { IfOk result (λ p. 1 ≤ length p.outputs) }
-    ensures fault { IfErr result (IsFault text.now) }
+    ensures fault { IfErr result (IsErrorBy (IsSourceFault text.now)) }
 {
     let program = tree(alloc, text)?;
     let typed = check(alloc, &program)?;
@@ -54,22 +57,22 @@ fn folded(alloc: Global, ir: Ir) -> Result<Ir, OutOfMemory>
 }
 
 // The form of a text's program, which is within the limits on nodes and depth.
-fn form(alloc: Global, text: &[u8]) -> Result<Ir, SourceFault>
+fn form(alloc: Global, text: &[u8]) -> Result<Ir, SourceError>
     ensures form { IfOk result (λ ir. (p : Typing) × IsText text.now p × IsWithin p × IsForm p ir × IsFolded ir) }
-    ensures fault { IfErr result (IsFault text.now) }
+    ensures fault { IfErr result (IsErrorBy (IsSourceFault text.now)) }
 {
     let program = typed(alloc, text)?;
     let inlined = inline(alloc, program)?;
     match folded(alloc, inlined) {
         Ok(ir) => Ok(ir),
-        Err(_) => Err(SourceFault::OutOfMemory),
+        Err(_) => Err(SourceError::OutOfMemory),
     }
 }
 
-/// The program of a text, or the first fault of the text. Limits on bytes are the caller's.
-pub fn front(alloc: Global, text: &[u8]) -> Result<Front, SourceFault>
+/// The program of a text, or the first fault of the text.
+pub fn front(alloc: Global, text: &[u8]) -> Result<Front, SourceError>
     ensures accepted { IfOk result (λ front. (p : Typing) × IsAccepted text.now p × IsFront text.now p front.ir front.stencils) }
-    ensures fault { IfErr result (IsFault text.now) }
+    ensures fault { IfErr result (IsErrorBy (IsSourceFault text.now)) }
 {
     let ir = form(alloc, text)?;
     let stencils = live_reads(alloc, &ir)?;

@@ -7,14 +7,18 @@ use Rattle.dk_lexer.specs.declared.fault.LexKind.{LexKind}
 use Rattle.dk_lexer.specs.declared.fault.LexKind.TheVariants as lexer
 use Rattle.dk_types.specs.declared.fault.TypeFaultKind.{TypeFaultKind}
 use Rattle.dk_types.specs.declared.fault.TypeFaultKind.TheVariants as types
-use Rattle.pgm_rounds.specs.declared.fault.ImageFault.{ImageFault as FileFault}
-use Rattle.pgm_rounds.specs.declared.fault.ImageFault.TheVariants as file
+use Rattle.pgm_rounds.specs.declared.fault.FileFault.{FileFault}
+use Rattle.pgm_rounds.specs.declared.fault.FileFault.TheVariants as file
+use Rattle.verilog_text.specs.declared.token.LexKind.{LexKind as TokenKind}
+use Rattle.verilog_text.specs.declared.token.LexKind.TheVariants as token
+use Rattle.verilog_text.specs.declared.fault.LimitKind.{LimitKind}
+use Rattle.verilog_text.specs.declared.fault.LimitKind.TheVariants as limit
 use Rattle.test_bench.specs.declared.stop.Stop.{Stop}
 use Rattle.test_bench.specs.declared.stop.Stop.TheVariants as stop
 use Rattle.dk_endings.specs.declared.ending.Ending.{Ending}
 use Rattle.dk_endings.specs.declared.ending.Ending.TheVariants as ending
-use Rattle.dk_endings.specs.declared.ending.SourceFault.{SourceFault}
-use Rattle.dk_endings.specs.declared.ending.SourceFault.TheVariants as source
+use Rattle.dk_compile.specs.declared.fault.SourceFault.{SourceFault}
+use Rattle.dk_compile.specs.declared.fault.SourceFault.TheVariants as source
 use Rattle.dk_endings.specs.declared.ending.ImageFault.{ImageFault}
 use Rattle.dk_endings.specs.declared.ending.ImageFault.TheVariants as image
 use Rattle.dk_endings.specs.declared.ending.ReportFault.{ReportFault}
@@ -88,23 +92,32 @@ abbrev pub image_line : ImageFault → List ℕ
 image_line image.TooLong = numbered (codes "image: TooLong ") MAX_PGM_BYTES
 image_line (image.File fault) = file_line fault
 
+-- what is wrong with a token of a Verilog text
+abbrev pub token_kind : TokenKind → List ℕ
+token_kind token.BadByte = codes "BadByte"
+token_kind token.BadConstant = codes "BadConstant"
+token_kind token.NumberTooGreat = codes "NumberTooGreat"
+token_kind token.NameTooLong = codes "NameTooLong"
+
+-- the limit that a Verilog text passes
+abbrev pub limit_kind : LimitKind → List ℕ
+limit_kind limit.Width = codes "Width"
+limit_kind limit.Words = codes "Words"
+limit_kind limit.ArrayBits = codes "ArrayBits"
+limit_kind limit.Repeat = codes "Repeat"
+
 -- what is wrong with a Verilog text
 abbrev pub verilog_kind : VerilogKind → List ℕ
-verilog_kind kind.BadByte = codes "BadByte"
-verilog_kind kind.BadConstant = codes "BadConstant"
-verilog_kind kind.NumberTooGreat = codes "NumberTooGreat"
-verilog_kind kind.NameTooLong = codes "NameTooLong"
+verilog_kind (kind.Token fault) = token_kind fault
 verilog_kind kind.Syntax = codes "Syntax"
 verilog_kind kind.NotInSubset = codes "NotInSubset"
-verilog_kind kind.Width = codes "Width"
-verilog_kind kind.Words = codes "Words"
-verilog_kind kind.ArrayBits = codes "ArrayBits"
-verilog_kind kind.Repeat = codes "Repeat"
+verilog_kind (kind.Limit passed) = limit_kind passed
 verilog_kind kind.Duplicate = codes "Duplicate"
 verilog_kind kind.Ports = codes "Ports"
 verilog_kind kind.Unknown = codes "Unknown"
 verilog_kind kind.WrongSort = codes "WrongSort"
 verilog_kind kind.Divisor = codes "Divisor"
+verilog_kind kind.Width = codes "Width"
 verilog_kind kind.DrivenTwice = codes "DrivenTwice"
 verilog_kind kind.Undriven = codes "Undriven"
 verilog_kind kind.Cycle = codes "Cycle"

@@ -3,10 +3,6 @@ use Rattle.std.specs.Prelude.{Option, Some, None, option_map}
 use Rattle.dk_base.specs.declared.span.Span.{Span}
 use Rattle.netlist.specs.declared.fault.NetFault.{NetFault}
 use Rattle.netlist.specs.declared.fault.NetFault.TheVariants as net
-use Rattle.verilog_text.specs.declared.token.LexKind.{LexKind}
-use Rattle.verilog_text.specs.declared.token.LexKind.TheVariants as lexer
-use Rattle.verilog_text.specs.declared.fault.LimitKind.{LimitKind}
-use Rattle.verilog_text.specs.declared.fault.LimitKind.TheVariants as limit
 use Rattle.verilog_text.specs.declared.fault.TextFault.{TextFault}
 use Rattle.verilog_text.specs.declared.fault.TextFault.TheVariants as text
 use Rattle.dk_endings.specs.declared.verilog.VerilogKind.{VerilogKind}
@@ -14,21 +10,7 @@ use Rattle.dk_endings.specs.declared.verilog.VerilogKind.TheVariants as kind
 use Rattle.dk_endings.specs.declared.verilog.VerilogFault.{VerilogFault}
 use Rattle.dk_endings.specs.declared.verilog.VerilogFault.TheVariants.{At}
 
--- of a token
-abbrev pub lex_kind : LexKind → VerilogKind
-lex_kind lexer.BadByte = kind.BadByte
-lex_kind lexer.BadConstant = kind.BadConstant
-lex_kind lexer.NumberTooGreat = kind.NumberTooGreat
-lex_kind lexer.NameTooLong = kind.NameTooLong
-
--- of a limit
-abbrev pub limit_kind : LimitKind → VerilogKind
-limit_kind limit.Width = kind.Width
-limit_kind limit.Words = kind.Words
-limit_kind limit.ArrayBits = kind.ArrayBits
-limit_kind limit.Repeat = kind.Repeat
-
--- of the net rules
+-- of the net rules, and nothing of want of memory
 abbrev pub net_kind : NetFault → Option VerilogKind
 net_kind (net.Duplicate _) = Some kind.Duplicate
 net_kind net.Ports = Some kind.Ports
@@ -43,9 +25,9 @@ net_kind net.OutOfMemory = None
 
 -- the kind and the place of a fault, and nothing of want of memory
 abbrev pub fault_told : TextFault → Option VerilogFault
-fault_told (text.Lex fault) = Some (At fault.span (lex_kind fault.kind))
+fault_told (text.Lex fault) = Some (At fault.span (kind.Token fault.kind))
 fault_told (text.Syntax span) = Some (At span kind.Syntax)
 fault_told (text.NotInSubset span) = Some (At span kind.NotInSubset)
-fault_told (text.Limit fault) = Some (At fault.span (limit_kind fault.kind))
+fault_told (text.Limit fault) = Some (At fault.span (kind.Limit fault.kind))
 fault_told (text.Net span fault) = option_map (At span) (net_kind fault)
 fault_told text.OutOfMemory = None

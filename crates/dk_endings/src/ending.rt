@@ -4,37 +4,9 @@ ghost use Rattle.std.specs.Prelude.{◌≡◌};
 ghost use Rattle.dk_endings.specs.Lines.{status_of};
 
 use crate::verilog::VerilogFault;
-use dk_base::Span;
-use dk_lexer::LexFault;
-use dk_types::TypeFault;
+use dk_compile::SourceFault;
+use pgm_rounds::FileFault;
 use test_bench::Stop;
-
-/// Why a program's text is refused, in the order in which it is judged. Spans are in bytes of the text.
-#[derive(Clone, Copy, Debug, PartialEq, Eq)]
-pub enum SourceFault {
-    /// The text is longer than `MAX_SOURCE_BYTES`.
-    TooLong,
-    /// The text has no tokens.
-    Lex(LexFault),
-    /// The first bracket that leaves too many unclosed.
-    Nest { span: Span },
-    /// The faulty token.
-    Syntax { span: Span },
-    /// The first subtree that is too deep.
-    Depth { span: Span },
-    /// The program has no types.
-    Types(TypeFault),
-    /// More than 65,536 nodes after inlining. The count saturates.
-    Nodes { count: u64 },
-    /// The name of the first definition that is deeper than 1,024 after inlining.
-    InlineDepth { span: Span },
-    /// More than 4,096 live reads. The count is 65,537 where there are more than 65,536.
-    Reads { count: u32 },
-    /// The least bits at the age that is asked, which are more than 67,108,864.
-    Bits { least: u64 },
-    /// The greatest delay of an output at that age, in clocks, which is more than 67,108,864.
-    Latency { clocks: u64 },
-}
 
 /// Why a file of images is refused.
 #[derive(Clone, Copy, Debug, PartialEq, Eq)]
@@ -42,7 +14,7 @@ pub enum ImageFault {
     /// The file is longer than `MAX_PGM_BYTES`.
     TooLong,
     /// The first fault of its images.
-    File(pgm_rounds::ImageFault),
+    File(FileFault),
 }
 
 /// Why a report is refused.
@@ -61,7 +33,9 @@ pub enum Ending {
     Done,
     /// The words are not taken, a value is not in its range, or the output has the name of an input.
     Usage,
+    /// A program's text is refused.
     Source(SourceFault),
+    /// A file of images is refused.
     Image(ImageFault),
     /// A Verilog text is too long, stands for no module, or is to hold clocks without the port `en`.
     Verilog(VerilogFault),

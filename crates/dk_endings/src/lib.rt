@@ -5,6 +5,6 @@ mod ending;
 mod line;
 mod verilog;
 
-pub use ending::{Ending, ImageFault, ReportFault, SourceFault};
+pub use ending::{Ending, ImageFault, ReportFault};
 pub use line::{LINE_BYTES, Line, holds_line};
 pub use verilog::{VerilogFault, VerilogKind};

@@ -2,20 +2,22 @@
 
 ghost use Rattle.std.specs.Prelude.{◌≡◌, ◌≤◌, ◌+◌, ◌<◌, ◌++◌, length, decimal};
 ghost use Rattle.std.specs.Fmt.{signed_decimal};
-ghost use Rattle.dk_endings.specs.Lines.{lexer_kind as lexer_word, types_kind as types_word, spanned as spanned_text, numbered as numbered_text, twice_numbered as twice_numbered_text, fault_line, source_line as line_of_source, file_line as line_of_file, verilog_kind as verilog_word, verilog_line as line_of_verilog, index_line as index_text, count_line as count_text, stop_line as line_of_stop, report_line as line_of_report, holds_line as holds_text};
+ghost use Rattle.dk_endings.specs.Lines.{lexer_kind as lexer_word, types_kind as types_word, spanned as spanned_text, numbered as numbered_text, twice_numbered as twice_numbered_text, fault_line, source_line as line_of_source, file_line as line_of_file, token_kind as token_word, limit_kind as limit_word, verilog_kind as verilog_word, verilog_line as line_of_verilog, index_line as index_text, count_line as count_text, stop_line as line_of_stop, report_line as line_of_report, holds_line as holds_text};
 
-use crate::ending::{Ending, ImageFault, ReportFault, SourceFault};
+use crate::ending::{Ending, ImageFault, ReportFault};
 use crate::verilog::{VerilogFault, VerilogKind};
 use arrayvec::ArrayString;
 use dk_base::{
     MAX_FILE_IMAGES, MAX_HEADER_BYTES, MAX_PGM_BYTES, MAX_REPORT_BYTES, MAX_SOURCE_BYTES,
     MAX_VERILOG_BYTES, Span,
 };
+use dk_compile::SourceFault;
 use dk_lexer::LexKind;
 use dk_types::TypeFaultKind;
 use itoa::Buffer;
-use pgm_rounds::ImageFault as FileFault;
+use pgm_rounds::FileFault;
 use test_bench::Stop;
+use verilog_text::{LexKind as TokenKind, LimitKind};
 
 /// The room for a line to Fault, in bytes.
 pub const LINE_BYTES: usize = 256;
@@ -156,26 +158,45 @@ fn file_line(fault: &FileFault) -> Line
     }
 }
 
+fn token_kind(kind: TokenKind) -> &'static str
+    ensures is { result.now ≡ token_word kind }
+    ensures short { length result.now ≤ 20 }
+{
+    match kind {
+        TokenKind::BadByte => "BadByte",
+        TokenKind::BadConstant => "BadConstant",
+        TokenKind::NumberTooGreat => "NumberTooGreat",
+        TokenKind::NameTooLong => "NameTooLong",
+    }
+}
+
+fn limit_kind(kind: LimitKind) -> &'static str
+    ensures is { result.now ≡ limit_word kind }
+    ensures short { length result.now ≤ 20 }
+{
+    match kind {
+        LimitKind::Width => "Width",
+        LimitKind::Words => "Words",
+        LimitKind::ArrayBits => "ArrayBits",
+        LimitKind::Repeat => "Repeat",
+    }
+}
+
 fn verilog_kind(kind: VerilogKind) -> &'static str
     ensures is { result.now ≡ verilog_word kind }
     ensures short { length result.now ≤ 20 }
 {
     match kind {
-        VerilogKind::BadByte => "BadByte",
-        VerilogKind::BadConstant => "BadConstant",
-        VerilogKind::NumberTooGreat => "NumberTooGreat",
-        VerilogKind::NameTooLong => "NameTooLong",
+        VerilogKind::Token(kind) => token_kind(kind),
         VerilogKind::Syntax => "Syntax",
         VerilogKind::NotInSubset => "NotInSubset",
-        VerilogKind::Width => "Width",
-        VerilogKind::Words => "Words",
-        VerilogKind::ArrayBits => "ArrayBits",
-        VerilogKind::Repeat => "Repeat",
+        VerilogKind::Limit(kind) => limit_kind(kind),
         VerilogKind::Duplicate => "Duplicate",
         VerilogKind::Ports => "Ports",
         VerilogKind::Unknown => "Unknown",
         VerilogKind::WrongSort => "WrongSort",
         VerilogKind::Divisor => "Divisor",
+        VerilogKind::Width => "Width",
         VerilogKind::DrivenTwice => "DrivenTwice",
         VerilogKind::Undriven => "Undriven",
         VerilogKind::Cycle => "Cycle",

@@ -1,35 +1,23 @@
 //! What is wrong with a Verilog text.
 
 ghost use Rattle.std.specs.Prelude.{◌≡◌, option_map};
-ghost use Rattle.dk_endings.specs.Verilog.{fault_told, lex_kind as kind_of_lexer, limit_kind as kind_of_limit, net_kind as kind_of_net};
+ghost use Rattle.dk_endings.specs.Verilog.{fault_told, net_kind as kind_of_net};
 
 use dk_base::Span;
 use netlist::NetFault;
 use verilog_text::{LexKind, LimitKind, TextFault};
 
-/// What is wrong with a Verilog text, by the word of its line.
+/// What is wrong with a Verilog text.
 #[derive(Clone, Copy, Debug, PartialEq, Eq)]
 pub enum VerilogKind {
-    /// A byte that begins no token.
-    BadByte,
-    /// A constant whose number does not fit its size.
-    BadConstant,
-    /// A number above 2^64 - 1.
-    NumberTooGreat,
-    /// A name of more than 64 bytes.
-    NameTooLong,
+    /// It has no tokens.
+    Token(LexKind),
     /// A token that continues no module.
     Syntax,
     /// A word that continues no module, and the subset refuses it.
     NotInSubset,
-    /// A width out of its range, or widths that do not agree.
-    Width,
-    /// An array's words out of their range.
-    Words,
-    /// Arrays of too many bits.
-    ArrayBits,
-    /// A count of a repetition out of its range.
-    Repeat,
+    /// It passes a limit.
+    Limit(LimitKind),
     /// A name is declared a second time.
     Duplicate,
     /// The ports are not the profile's, or there is no port `en` for clocks that are to be held.
@@ -40,6 +28,8 @@ pub enum VerilogKind {
     WrongSort,
     /// The divisor is no constant, or 0.
     Divisor,
+    /// Widths that do not agree.
+    Width,
     /// A second driver.
     DrivenTwice,
     /// Nothing drives it.
@@ -55,28 +45,6 @@ pub enum VerilogFault {
     TooLong,
     /// The first fault of the text, and the bytes that it is of.
     At { span: Span, kind: VerilogKind },
-}
-
-fn lex_kind(kind: LexKind) -> VerilogKind
-    ensures { result ≡ kind_of_lexer kind }
-{
-    match kind {
-        LexKind::BadByte => VerilogKind::BadByte,
-        LexKind::BadConstant => VerilogKind::BadConstant,
-        LexKind::NumberTooGreat => VerilogKind::NumberTooGreat,
-        LexKind::NameTooLong => VerilogKind::NameTooLong,
-    }
-}
-
-fn limit_kind(kind: LimitKind) -> VerilogKind
-    ensures { result ≡ kind_of_limit kind }
-{
-    match kind {
-        LimitKind::Width => VerilogKind::Width,
-        LimitKind::Words => VerilogKind::Words,
-        LimitKind::ArrayBits => VerilogKind::ArrayBits,
-        LimitKind::Repeat => VerilogKind::Repeat,
-    }
 }
 
 fn net_kind(fault: NetFault) -> Option<VerilogKind>
@@ -104,7 +72,7 @@ impl VerilogFault {
         match fault {
             TextFault::Lex(fault) => Some(VerilogFault::At {
                 span: fault.span,
-                kind: lex_kind(fault.kind),
+                kind: VerilogKind::Token(fault.kind),
             }),
             TextFault::Syntax(span) => Some(VerilogFault::At {
                 span,
@@ -116,7 +84,7 @@ impl VerilogFault {
             }),
             TextFault::Limit(fault) => Some(VerilogFault::At {
                 span: fault.span,
-                kind: limit_kind(fault.kind),
+                kind: VerilogKind::Limit(fault.kind),
             }),
             TextFault::Net { span, fault } => {
                 let kind = net_kind(fault)?;

@@ -7,7 +7,7 @@ use Rattle.dk_types.specs.Typed.{Typing}
 use Rattle.netlist.specs.Names.{NamedNetlist}
 use Rattle.buffer_plan.specs.Plans.{latency}
 use Rattle.cycle_sim.specs.Ports.{din_widths}
-use Rattle.pgm_codec.specs.Images.{Picture as Image}
+use Rattle.pgm_codec.specs.Images.{Image}
 use Rattle.pgm_rounds.specs.declared.round.Round.{Round}
 use Rattle.pgm_rounds.specs.Ports.{Ports}
 use Rattle.pgm_rounds.specs.Files.{FitsFile, frame_of, frames_of}
@@ -92,7 +92,7 @@ module _ (one : OneProgram) (picture_law : PictureLaw) (raster_law : RasterLaw) 
     (d : Drive) (is : d ≡ frame_drive size (latency c.plan) (length rounds)) (from : IsCompiledFrom source age false c) (input : IsInputOf None c.ir file rounds) where
   of_pair : (P : Typing → List (List Image) → Type 0) → ((images : List (List Image)) → FitsFile (ports from.program) file images → frames_of rounds ≡ map (map frame_of) images → P from.program images) → OfPair (run_terms age) source file P
   of_pair P made = λ p images accepted fits.
-      let same : from.program ≡ p = one source from.program p from.is.planned.has.front.program accepted.accepted.accepted.program in
+      let same : from.program ≡ p = one source from.program p from.is.planned.has.front.program accepted.accepted.program in
       subst (λ (x : Typing). P x images) same
       (let fit : Fits None from.program file images = subst (λ (x : Typing). Fits None x file images) (sym same) fits in
       made images fit.holds (input.frames from.program (from.is.planned.has.front).form images fit))

@@ -26,7 +26,7 @@ pub evaluated_pair : (ir : Program) (rounds : List Round) (output : List ℕ) �
     → (source file : List ℕ) → IsRead eval_terms source file ir rounds → OfPair eval_terms source file (λ p images. output ≡ output_file p images)
 evaluated_pair ir rounds output program all is source file read = λ p images accepted fits.
     let form = read.formed p accepted in
-    is ∙ evaluated_is source p ir accepted.accepted.accepted.program form program rounds images (read.input.frames p form images fits) all.each
+    is ∙ evaluated_is source p ir accepted.accepted.program form program rounds images (read.input.frames p form images fits) all.each
 
 -- what is written is the output file, or stands to it as it stands to what was made
 pub held_told : (told : Option Files) (terms : Terms) (program image : List ℕ) (bytes : Option (List ℕ)) (output : List ℕ) (R : List ℕ → List ℕ → Type 0) → IfSome told (λ f. OfPair terms (bytes_of f program) (bytes_of f image) (λ p images. output ≡ output_file p images))

@@ -6,21 +6,20 @@ use Rattle.raster_delay.specs.Systems.{System}
 use Rattle.flow_dual.specs.declared.solution.Solution.{Solution}
 use Rattle.buffer_plan.specs.Plans.{Plan}
 use Rattle.dk_compile.specs.declared.compiling.Compiled.{Compiled}
-use Rattle.dk_compile.specs.Limits as at
 use Rattle.dk_compile.specs.Compiled.{IsPlanned}
 use Rattle.dk_endings.specs.declared.ending.Ending.{Ending}
-use Rattle.dk_top.specs.Program.{IsAcceptedAt}
+use Rattle.dk_compile.specs.Limits.{IsAcceptedAt}
 use Rattle.dk_top.specs.Compiling.{IsCompiledFrom, IsCompiledText}
 use Rattle.dk_top.specs.Verdict.{Files, bytes_of}
 use Rattle.dk_top.specs.State.{HoldsOutput, HoldsText}
 
 -- the law of planned texts
 abbrev pub PlannedAccepted : Type 0
-PlannedAccepted = (text : List ℕ) (age : ℕ) (p : Typing) (ir : Program) (s : System) (x : Solution) (plan : Plan) → IsPlanned text age p ir s x plan → at.IsAcceptedAt text age p
+PlannedAccepted = (text : List ℕ) (age : ℕ) (p : Typing) (ir : Program) (s : System) (x : Solution) (plan : Plan) → IsPlanned text age p ir s x plan → IsAcceptedAt text age p
 
 -- a text that is compiled is accepted
 pub compiled_accepted : PlannedAccepted → (source : List ℕ) (age : ℕ) (enable : Bool) (c : Compiled) → (from : IsCompiledFrom source age enable c) → IsAcceptedAt source age from.program
-compiled_accepted law source age enable c from = record { within = from.within; accepted = law source age from.program c.ir c.system c.solution c.plan from.is.planned }
+compiled_accepted law source age enable c from = law source age from.program c.ir c.system c.solution c.plan from.is.planned
 
 pub text_told : (told : Option Files) (program : List ℕ) (age : ℕ) (enable : Bool) (c : Compiled) → IfSome told (λ f. IsCompiledFrom (bytes_of f program) age enable c) → IfSome told (λ f. IsCompiledText (bytes_of f program) age enable c.text.items)
 text_told None program age enable c from = tt

@@ -13,7 +13,7 @@ use Rattle.pointwise_ir.specs.declared.ir.Input.{Input}
 use Rattle.pointwise_ir.specs.Programs.{Program}
 use Rattle.dk_frames.specs.declared.frame.Frame.{Frame}
 use Rattle.pointwise_eval.specs.Rounds.{AreFrames, AreInputFrames, IsInputFrame}
-use Rattle.pgm_codec.specs.Images.{Picture as Image, AreImages}
+use Rattle.pgm_codec.specs.Images.{Image, AreImages}
 use Rattle.pgm_codec.specs.Rounds.{FitsInputs}
 use Rattle.pgm_rounds.specs.declared.round.Round.{Round}
 use Rattle.pgm_rounds.specs.Ports.{Ports}

@@ -29,7 +29,7 @@ use Rattle.circuit.specs.Driven.{Agree, driven, fed_clock, input_widths, output_
 use Rattle.cycle_sim.specs.declared.fill.Fill.TheVariants.{Zeros}
 use Rattle.cycle_sim.specs.Filled.{filled_contents}
 use Rattle.cycle_sim.specs.Ports.{din_widths}
-use Rattle.pgm_codec.specs.Images.{Picture as Image, file_of}
+use Rattle.pgm_codec.specs.Images.{Image, file_of}
 use Rattle.pgm_rounds.specs.declared.round.Round.{Round}
 use Rattle.pgm_rounds.specs.Files.{FitsFile, frame_of, frames_of, joined}
 use Rattle.pointwise_eval.specs.Rounds.{AreFrames}

@@ -45,4 +45,4 @@ pub front_names : Names → (text : List ℕ) (p : Typing) (ir : Program) (s : S
 front_names law text p ir s is =
     let parsed = is.program.parsed in
     subst (λ n. AreNames n (names_of ir)) (sym (is.stencils.inputs ∙ inputs_count p ir is.form))
-    (subst (AreNames (length p.inputs)) (sym is.form.names) (law text parsed.tokens is.program.tree p parsed.cut parsed.parsed is.program.typed))
+    (subst (AreNames (length p.inputs)) (sym is.form.names) (law text parsed.tokens is.program.tree p parsed.cut.are parsed.parsed is.program.typed))

@@ -5,18 +5,16 @@ use Rattle.pointwise_ir.specs.Programs.{Program, names_of}
 use Rattle.buffer_plan.specs.declared.fault.PlanFault.TheVariants as limit
 use Rattle.buffer_plan.specs.Limits.{KeepsLimits, IsPassed}
 use Rattle.dk_compile.specs.Limits.{HasSystem}
-use Rattle.dk_compile.specs.Limits as at
-use Rattle.dk_compile.specs.Sources as of
-use Rattle.dk_compile.specs.declared.fault.SourceFault.{SourceFault as TextFault}
-use Rattle.dk_compile.specs.declared.fault.SourceFault.TheVariants as of_text
 use Rattle.dk_plan.specs.declared.judging.Claim.{Claim}
 use Rattle.dk_plan.specs.Planned.{aged, IsReportText}
 use Rattle.dk_plan.specs.Judged as of_program
 use Rattle.dk_endings.specs.declared.ending.Ending.{Ending}
 use Rattle.dk_endings.specs.declared.ending.Ending.TheVariants as ending
-use Rattle.dk_endings.specs.declared.ending.SourceFault.{SourceFault}
-use Rattle.dk_endings.specs.declared.ending.SourceFault.TheVariants as source
-use Rattle.dk_top.specs.Program.{CanBeCompiled, IsSourceFault, IsFaultAt}
+use Rattle.dk_compile.specs.declared.fault.SourceFault.{SourceFault}
+use Rattle.dk_compile.specs.declared.fault.SourceFault.TheVariants as source
+use Rattle.dk_compile.specs.Sources.{IsSourceFault}
+use Rattle.dk_compile.specs.Limits.{IsFaultAt}
+use Rattle.dk_top.specs.Program.{CanBeCompiled}
 use Rattle.dk_top.specs.Reading.{IsSourceEnding}
 use Rattle.dk_top.specs.Plans.{HasStencils, IsPlanOf, IsConfirmed, IsWrongLine}
 use Rattle.dk_top.specs.Reporting.{HasFront}
@@ -34,14 +32,14 @@ module _ (text : List ℕ) (ir : Program) (s : Stencils) (front : HasFront text 
   pub can_be_compiled : (age : ℕ) → KeepsLimits (aged s age) → CanBeCompiled text age
   can_be_compiled age keeps = (
     front.program,
-    record { within = front.accepted.within; accepted = record { accepted = front.accepted.accepted; ir = ir; system = aged s age; has = has_system age; keeps = keeps } },
+    record { accepted = front.accepted; ir = ir; system = aged s age; has = has_system age; keeps = keeps },
   )
 
   pub bits_passed : (age least : ℕ) → IsPassed (aged s age) (limit.Bits least) → IsFaultAt text age (source.Bits least)
-  bits_passed age least h = (front.accepted.within, record { program = front.program; ir = ir; system = aged s age; has = has_system age; passes = h })
+  bits_passed age least h = record { program = front.program; ir = ir; system = aged s age; has = has_system age; passes = h }
 
   pub latency_passed : (age clocks : ℕ) → IsPassed (aged s age) (limit.Latency clocks) → IsFaultAt text age (source.Latency clocks)
-  latency_passed age clocks h = (front.accepted.within, record { program = front.program; ir = ir; system = aged s age; has = has_system age; passes = h })
+  latency_passed age clocks h = record { program = front.program; ir = ir; system = aged s age; has = has_system age; passes = h }
 
   pub confirmed_of : (bytes : List ℕ) (claim : Claim) → of_program.IsConfirmed (names_of ir) s bytes claim → IsConfirmed text bytes claim
   confirmed_of bytes claim h = record { names = names_of ir; stencils = s; has = has; confirmed = h }
@@ -50,31 +48,18 @@ module _ (text : List ℕ) (ir : Program) (s : Stencils) (front : HasFront text 
   wrong_of bytes line h = record { names = names_of ir; stencils = s; has = has; wrong = h }
 
 -- a text's own fault is its fault at any age
-own_fault : (text : List ℕ) (age : ℕ) (f : TextFault) → of.IsFault text f → at.IsFaultAt text age f
-own_fault text age (of_text.Lex x) h = h
-own_fault text age (of_text.Nest x) h = h
-own_fault text age (of_text.Syntax x) h = h
-own_fault text age (of_text.Depth x) h = h
-own_fault text age (of_text.Types x) h = h
-own_fault text age (of_text.Nodes x) h = h
-own_fault text age (of_text.InlineDepth x) h = h
-own_fault text age (of_text.Reads x) h = h
-own_fault text age (of_text.Bits n) h = absurd h
-own_fault text age (of_text.Latency n) h = absurd h
-own_fault text age of_text.OutOfMemory h = h
-
-pub source_at : (text : List ℕ) (age : ℕ) (f : SourceFault) → IsSourceFault text f → IsFaultAt text age f
+source_at : (text : List ℕ) (age : ℕ) (f : SourceFault) → IsSourceFault text f → IsFaultAt text age f
 source_at text age source.TooLong h = h
-source_at text age (source.Lex x) h = (h.0, own_fault text age (of_text.Lex x) h.1)
-source_at text age (source.Nest x) h = (h.0, own_fault text age (of_text.Nest x) h.1)
-source_at text age (source.Syntax x) h = (h.0, own_fault text age (of_text.Syntax x) h.1)
-source_at text age (source.Depth x) h = (h.0, own_fault text age (of_text.Depth x) h.1)
-source_at text age (source.Types x) h = (h.0, own_fault text age (of_text.Types x) h.1)
-source_at text age (source.Nodes x) h = (h.0, own_fault text age (of_text.Nodes x) h.1)
-source_at text age (source.InlineDepth x) h = (h.0, own_fault text age (of_text.InlineDepth x) h.1)
-source_at text age (source.Reads x) h = (h.0, own_fault text age (of_text.Reads x) h.1)
-source_at text age (source.Bits x) h = (h.0, own_fault text age (of_text.Bits x) h.1)
-source_at text age (source.Latency x) h = (h.0, own_fault text age (of_text.Latency x) h.1)
+source_at text age (source.Lex x) h = h
+source_at text age (source.Nest x) h = h
+source_at text age (source.Syntax x) h = h
+source_at text age (source.Depth x) h = h
+source_at text age (source.Types x) h = h
+source_at text age (source.Nodes x) h = h
+source_at text age (source.InlineDepth x) h = h
+source_at text age (source.Reads x) h = h
+source_at text age (source.Bits x) h = absurd h
+source_at text age (source.Latency x) h = absurd h
 
 pub ending_at : (text : List ℕ) (age : ℕ) (e : Ending) → IsSourceEnding (IsSourceFault text) e → IsSourceEnding (IsFaultAt text age) e
 ending_at text age (ending.Source f) h = source_at text age f h

@@ -14,7 +14,7 @@ use Rattle.dk_types.proofs.Kept.{typed_is_kept}
 use Rattle.pointwise_ir.specs.Programs as P
 use Rattle.pointwise_ir.specs.Meaning.{pictures, IsRound, IsPicture}
 use Rattle.circuit.specs.Driven.{input_widths}
-use Rattle.pgm_codec.specs.Images.{Picture as Image, IsFile}
+use Rattle.pgm_codec.specs.Images.{Image, IsFile}
 use Rattle.pgm_rounds.specs.Files.{FitsFile, joined}
 use Rattle.program_images.specs.Ports.{bits_of}
 use Rattle.program_images.specs.Outputs.{image_of as output_of}

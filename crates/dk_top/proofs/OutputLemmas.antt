@@ -16,7 +16,7 @@ use Rattle.pointwise_eval.specs.Rounds.{AreFrames, round_of}
 use Rattle.pointwise_eval.proofs.Rendered.{round_is}
 use Rattle.dk_compile.specs.Sources.{IsText}
 use Rattle.dk_compile.specs.Fronts.{IsForm}
-use Rattle.pgm_codec.specs.Images.{Picture as Image, file_of, header_of, raster_of}
+use Rattle.pgm_codec.specs.Images.{Image, file_of, header_of, raster_of}
 use Rattle.pgm_rounds.specs.declared.round.Round.{Round}
 use Rattle.program_images.specs.Ports.{bits_of}
 use Rattle.pgm_rounds.specs.Files.{joined, frame_of, frames_of}

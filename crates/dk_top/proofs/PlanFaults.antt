@@ -1,30 +1,17 @@
--- A text has one fault at an age, and one answer on a report.
-use Rattle.std.proofs.Common.{◌≡◌, ◌⊎◌, ℕ, ◌≤◌, List, subst, length}
-use Rattle.dk_base.specs.declared.TheConstants.{MAX_SOURCE_BYTES}
+-- A text has one answer on a report.
+use Rattle.std.proofs.Common.{◌≡◌, ℕ, List, subst}
 use Rattle.dk_base.specs.Stencils.{Stencils}
 use Rattle.dk_types.specs.Typed.{Typing}
 use Rattle.pointwise_ir.specs.Programs.{Program}
-use Rattle.dk_compile.specs.declared.fault.SourceFault.{SourceFault as TextFault}
-use Rattle.dk_compile.specs.declared.fault.SourceFault.TheVariants as of_text
-use Rattle.dk_compile.specs.Sources as of
 use Rattle.dk_compile.specs.Fronts.{IsFront}
-use Rattle.dk_compile.specs.Limits as at
 use Rattle.dk_plan.specs.declared.judging.Claim.{Claim}
 use Rattle.dk_plan.specs.Judged as of_program
-use Rattle.dk_endings.specs.declared.ending.SourceFault.{SourceFault}
-use Rattle.dk_top.specs.Program.{IsAccepted, CanBeCompiled, IsFaultAt}
+use Rattle.dk_compile.specs.Sources.{IsAccepted}
 use Rattle.dk_top.specs.Plans.{HasStencils, IsConfirmed, IsWrongLine}
-use Rattle.dk_top.proofs.VerdictLemmas.{none_by, one_by}
 
 -- a text with names and live reads is accepted
-pub accepted_of : ((text : List ℕ) (p : Typing) (ir : Program) (s : Stencils) → IsFront text p ir s → of.IsAccepted text p) → (text : List ℕ) (names : List (List ℕ)) (s : Stencils) → length text ≤ MAX_SOURCE_BYTES → HasStencils text names s → (p : Typing) × IsAccepted text p
-accepted_of law text names s within has = (has.program, record { within = within; accepted = law text has.program has.form s has.front })
-
-pub apart_at : ((text : List ℕ) (age : ℕ) (p : Typing) (f : TextFault) → at.IsAcceptedAt text age p → at.IsFaultAt text age f → f ≡ of_text.OutOfMemory) → (text : List ℕ) (age : ℕ) (f : SourceFault) → CanBeCompiled text age → IsFaultAt text age f → ⊥
-apart_at law text age f (p, has) h = none_by (at.IsFaultAt text age) text has.within (λ g is. law text age p g has.accepted is) f h
-
-pub one_fault_at : ((text : List ℕ) (age : ℕ) (f g : TextFault) → at.IsFaultAt text age f → at.IsFaultAt text age g → (f ≡ of_text.OutOfMemory) ⊎ (g ≡ of_text.OutOfMemory) ⊎ (f ≡ g)) → (text : List ℕ) (age : ℕ) (f g : SourceFault) → IsFaultAt text age f → IsFaultAt text age g → f ≡ g
-one_fault_at law text age f g x y = one_by (at.IsFaultAt text age) text (law text age) f g x y
+pub accepted_of : ((text : List ℕ) (p : Typing) (ir : Program) (s : Stencils) → IsFront text p ir s → IsAccepted text p) → (text : List ℕ) (names : List (List ℕ)) (s : Stencils) → HasStencils text names s → (p : Typing) × IsAccepted text p
+accepted_of law text names s has = (has.program, law text has.program has.form s has.front)
 
 -- what holds of the names and live reads of one is that of the other
 module _ (front_once : (text : List ℕ) (a b : List (List ℕ)) (s t : Stencils) → HasStencils text a s → HasStencils text b t → (a ≡ b) × (s ≡ t)) (text bytes : List ℕ) where

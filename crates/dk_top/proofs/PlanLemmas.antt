@@ -4,18 +4,18 @@ use Rattle.dk_types.specs.Typed.{Typing}
 use Rattle.dk_plan.specs.declared.judging.Claim.{Claim}
 use Rattle.dk_endings.specs.declared.ending.Ending.{Ending}
 use Rattle.dk_endings.specs.declared.ending.Ending.TheVariants as ending
-use Rattle.dk_endings.specs.declared.ending.SourceFault.{SourceFault}
+use Rattle.dk_compile.specs.declared.fault.SourceFault.{SourceFault}
 use Rattle.dk_endings.specs.declared.ending.ReportFault.{ReportFault}
 use Rattle.dk_endings.specs.declared.ending.ReportFault.TheVariants as report
 use Rattle.dk_base.specs.Stencils.{Stencils}
 use Rattle.pointwise_ir.specs.Programs.{Program}
-use Rattle.dk_compile.specs.Sources as of
 use Rattle.dk_compile.specs.Fronts.{IsFront}
-use Rattle.dk_top.specs.Program.{IsAccepted, CanBeCompiled, IsSourceFault}
+use Rattle.dk_compile.specs.Sources.{IsAccepted, IsSourceFault}
+use Rattle.dk_top.specs.Program.{CanBeCompiled}
 use Rattle.dk_top.specs.Plans.{IsConfirmed, IsWrongLine}
 use Rattle.dk_top.specs.Reports.{IsChecked, IsReportFault}
 use Rattle.dk_top.specs.Verdict.{IsJudged, IsOrMemory, IsProgramAnswer, CanBeChecked, IsCheckAnswer}
-use Rattle.dk_top.proofs.VerdictLemmas.{TextApart, OneTextFault, ApartAt, OneFaultAt, accepted_no_fault, one_fault}
+use Rattle.dk_top.proofs.VerdictLemmas.{TextApart, OneTextFault, ApartAt, OneFaultAt}
 use Rattle.dk_top.proofs.PlanFaults.{accepted_of}
 
 -- the laws of reports
@@ -62,15 +62,15 @@ module _ (apart_at : ApartAt) (one_fault_at : OneFaultAt) where
 
 -- a text with a form and live reads is accepted
 abbrev pub FrontAccepted : Type 0
-FrontAccepted = (text : List ℕ) (p : Typing) (ir : Program) (s : Stencils) → IsFront text p ir s → of.IsAccepted text p
+FrontAccepted = (text : List ℕ) (p : Typing) (ir : Program) (s : Stencils) → IsFront text p ir s → IsAccepted text p
 
 module _ (front_accepted : FrontAccepted) (text_apart : TextApart) (one_text : OneTextFault) (wrong_apart : WrongApart) (one_line : OneLine) where
   -- a report that holds is one of an accepted text
   checked_accepted : (text bytes : List ℕ) (c : Claim) → IsChecked text bytes c → (p : Typing) × IsAccepted text p
-  checked_accepted text bytes c is = accepted_of front_accepted text is.confirmed.names is.confirmed.stencils is.within is.confirmed.has
+  checked_accepted text bytes c is = accepted_of front_accepted text is.confirmed.names is.confirmed.stencils is.confirmed.has
 
   no_source : (text : List ℕ) (f : SourceFault) → ((p : Typing) × IsAccepted text p) → IsSourceFault text f → ⊥
-  no_source text f accepted h = accepted_no_fault text_apart text accepted.0 f accepted.1 h
+  no_source text f accepted h = text_apart text accepted.0 f accepted.1 h
 
   checked_no_fault : (text bytes : List ℕ) (c : Claim) (f : ReportFault) → IsChecked text bytes c → IsReportFault text bytes f → ⊥
   checked_no_fault text bytes c report.TooLong is h = let a = is.short in absurd (omega (arith, a, h))
@@ -87,7 +87,7 @@ module _ (front_accepted : FrontAccepted) (text_apart : TextApart) (one_text : O
   check_answer text bytes ending.Done (ending.Source f) _ _ x y = absurd (no_source text f (checked_accepted text bytes x.0 x.1) y)
   check_answer text bytes ending.Done (ending.Rejected f) _ _ x y = absurd (checked_no_fault text bytes x.0 f x.1 y.fault_is)
   check_answer text bytes (ending.Source f) ending.Done _ _ x y = absurd (no_source text f (checked_accepted text bytes y.0 y.1) x)
-  check_answer text bytes (ending.Source f) (ending.Source g) _ _ x y = ap ending.Source (one_fault one_text text f g x y)
+  check_answer text bytes (ending.Source f) (ending.Source g) _ _ x y = ap ending.Source (one_text text f g x y)
   check_answer text bytes (ending.Source f) (ending.Rejected g) _ _ x y = absurd (no_source text f (y.program, y.accepted) x)
   check_answer text bytes (ending.Rejected f) ending.Done _ _ x y = absurd (checked_no_fault text bytes y.0 f y.1 x.fault_is)
   check_answer text bytes (ending.Rejected f) (ending.Source g) _ _ x y = absurd (no_source text g (x.program, x.accepted) y)

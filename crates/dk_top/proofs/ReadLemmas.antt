@@ -1,6 +1,7 @@
 -- What is read of a command's files.
 use Rattle.std.proofs.Common.{◌≡◌, ℕ, ◌<◌, ◌≤◌, List, length, map, Option, None, Some, Result, Ok, Err, IfOk, IfErr, IfSome, OnOk, sym, ap, ◌∙◌, subst, arith}
 use Rattle.std.proofs.lemmas.List.{length-map}
+use Rattle.dk_base.specs.declared.TheConstants.{MAX_SOURCE_BYTES}
 use Rattle.dk_base.specs.Types.{width_of}
 use Rattle.dk_types.specs.Typed.{Typing}
 use Rattle.pointwise_ir.specs.Programs.{Program, IsProgram}
@@ -9,22 +10,22 @@ use Rattle.flow_dual.specs.declared.solution.Solution.{Solution}
 use Rattle.buffer_plan.specs.Plans.{Plan}
 use Rattle.dk_compile.specs.Sources.{IsText}
 use Rattle.dk_compile.specs.Fronts.{IsForm}
-use Rattle.dk_compile.specs.Limits as at
-use Rattle.dk_compile.specs.Sources as of
-use Rattle.dk_compile.specs.declared.fault.SourceFault.{SourceFault as TextFault}
+use Rattle.dk_compile.specs.declared.fault.SourceFault.{SourceFault}
 use Rattle.dk_compile.specs.Compiled.{IsPlanned}
-use Rattle.pgm_codec.specs.Images.{Picture as Image}
+use Rattle.pgm_codec.specs.Images.{Image}
 use Rattle.pgm_rounds.specs.declared.round.Round.{Round}
-use Rattle.pgm_rounds.specs.declared.fault.ImageFault.{ImageFault}
+use Rattle.pgm_rounds.specs.declared.fault.FileFault.{FileFault}
 use Rattle.pgm_rounds.specs.Ports.{Ports}
 use Rattle.program_images.specs.Ports.{ports_from, ports_of}
 use Rattle.pgm_rounds.specs.Files.{FitsFile, IsFault, frame_of, frames_of}
 use Rattle.dk_endings.specs.declared.ending.Ending.{Ending}
 use Rattle.dk_endings.specs.declared.ending.Ending.TheVariants as ending
 use Rattle.dk_endings.specs.declared.ending.ImageFault.TheVariants as image
-use Rattle.dk_endings.specs.declared.ending.SourceFault.TheVariants as source
-use Rattle.dk_top.specs.Program.{IsAcceptedAt, IsFaultBy, IsSourceFault, IsFaultAt, ports}
-use Rattle.dk_top.specs.Verdict.{Terms, Files, bytes_of, IsAnswer}
+use Rattle.dk_compile.specs.declared.fault.SourceFault.TheVariants as source
+use Rattle.dk_compile.specs.Sources.{IsSourceFault}
+use Rattle.dk_compile.specs.Limits.{IsAcceptedAt, IsFaultAt}
+use Rattle.dk_top.specs.Program.{ports}
+use Rattle.dk_top.specs.Verdict.{Terms, Files, bytes_of, IsGoodPair, IsAnswer}
 use Rattle.dk_top.specs.Reading.{IsSourceEnding, IsUnreadText, IsImageEnding, IsUnread, IsInputOf, IsRead}
 
 -- a form asks of files what its program asks
@@ -50,7 +51,7 @@ input_read one ir file rounds is (found, fits, frames) most within = record {
 }
 
 -- the fault of a file that is within its limit
-pub file_ending : (ir : Program) (file : List ℕ) (f : ImageFault) → IsFault (ports_of ir) file f → (most : Option ℕ) → IfSome most (λ n. length file ≤ n) → (p : Typing) → IsForm p ir → IsImageEnding most p file (ending.Image (image.File f))
+pub file_ending : (ir : Program) (file : List ℕ) (f : FileFault) → IsFault (ports_of ir) file f → (most : Option ℕ) → IfSome most (λ n. length file ≤ n) → (p : Typing) → IsForm p ir → IsImageEnding most p file (ending.Image (image.File f))
 file_ending ir file f is most within p form = (within, subst (λ (q : Ports). IsFault q file f) (ports_same p ir form) is)
 
 -- a text that is accepted and a file that does not fit
@@ -81,7 +82,7 @@ source_answer terms source file ending.Memory is = tt
 
 -- the form of a planned text is that of whatever program the text is of
 pub every_form : ((text : List ℕ) (p q : Typing) → IsText text p → IsText text q → p ≡ q) → (text : List ℕ) (age : ℕ) (found : Typing) (ir : Program) (s : System) (x : Solution) (plan : Plan) → IsPlanned text age found ir s x plan → (p : Typing) → IsAcceptedAt text age p → IsForm p ir
-every_form one text age found ir s x plan is p accepted = subst (λ (q : Typing). IsForm q ir) (one text found p is.has.front.program accepted.accepted.accepted.program) is.has.front.form
+every_form one text age found ir s x plan is p accepted = subst (λ (q : Typing). IsForm q ir) (one text found p is.has.front.program accepted.accepted.program) is.has.front.form
 
 -- what holds of the bytes that were read holds of those of the file, as far as it is told
 pub ok_told : {A E : Type 0} (r : Result A E) (told : Option Files) (file name : List ℕ) (Q : A → List ℕ → Type 0) → IfSome told (λ f. file ≡ bytes_of f name) → IfOk r (λ a. Q a file) → IfOk r (λ a. IfSome told (λ f. Q a (bytes_of f name)))
@@ -150,36 +151,36 @@ pub err_within : {A E : Type 0} (r : Result A E) (most : Option ℕ) (n : ℕ) (
 err_within (Ok a) most n Q within h = tt
 err_within (Err e) most n Q within h = h most within
 
--- a text that was not read, as the ending of a text with any faults
-pub unread_text : (is : TextFault → Type 0) (text : List ℕ) (e : Ending) → IsUnreadText text e → IsSourceEnding (IsFaultBy is text) e
-unread_text is text (ending.Source source.TooLong) h = h
-unread_text is text ending.ReadFault h = tt
-unread_text is text ending.Memory h = tt
-unread_text is text ending.Done h = absurd h
-unread_text is text ending.Usage h = absurd h
-unread_text is text ending.WriteFault h = absurd h
-unread_text is text (ending.Image f) h = absurd h
-unread_text is text (ending.Verilog f) h = absurd h
-unread_text is text (ending.Stopped f) h = absurd h
-unread_text is text (ending.Rejected f) h = absurd h
-unread_text is text (ending.Source (source.Lex x)) h = absurd h
-unread_text is text (ending.Source (source.Nest x)) h = absurd h
-unread_text is text (ending.Source (source.Syntax x)) h = absurd h
-unread_text is text (ending.Source (source.Depth x)) h = absurd h
-unread_text is text (ending.Source (source.Types x)) h = absurd h
-unread_text is text (ending.Source (source.Nodes x)) h = absurd h
-unread_text is text (ending.Source (source.InlineDepth x)) h = absurd h
-unread_text is text (ending.Source (source.Reads x)) h = absurd h
-unread_text is text (ending.Source (source.Bits x)) h = absurd h
-unread_text is text (ending.Source (source.Latency x)) h = absurd h
+-- a text that was not read, as the ending of a text with faults, of which one is its length
+pub unread_text : (is : SourceFault → Type 0) (text : List ℕ) (e : Ending) → (MAX_SOURCE_BYTES < length text → is source.TooLong) → IsUnreadText text e → IsSourceEnding is e
+unread_text is text (ending.Source source.TooLong) long h = long h
+unread_text is text ending.ReadFault long h = tt
+unread_text is text ending.Memory long h = tt
+unread_text is text ending.Done long h = absurd h
+unread_text is text ending.Usage long h = absurd h
+unread_text is text ending.WriteFault long h = absurd h
+unread_text is text (ending.Image f) long h = absurd h
+unread_text is text (ending.Verilog f) long h = absurd h
+unread_text is text (ending.Stopped f) long h = absurd h
+unread_text is text (ending.Rejected f) long h = absurd h
+unread_text is text (ending.Source (source.Lex x)) long h = absurd h
+unread_text is text (ending.Source (source.Nest x)) long h = absurd h
+unread_text is text (ending.Source (source.Syntax x)) long h = absurd h
+unread_text is text (ending.Source (source.Depth x)) long h = absurd h
+unread_text is text (ending.Source (source.Types x)) long h = absurd h
+unread_text is text (ending.Source (source.Nodes x)) long h = absurd h
+unread_text is text (ending.Source (source.InlineDepth x)) long h = absurd h
+unread_text is text (ending.Source (source.Reads x)) long h = absurd h
+unread_text is text (ending.Source (source.Bits x)) long h = absurd h
+unread_text is text (ending.Source (source.Latency x)) long h = absurd h
 
 pub unread_source : (told : Option Files) (name : List ℕ) (e : Ending) → IfSome told (λ f. IsUnreadText (bytes_of f name) e) → IfSome told (λ f. IsSourceEnding (IsSourceFault (bytes_of f name)) e)
 unread_source None name e h = tt
-unread_source (Some f) name e h = unread_text (of.IsFault (bytes_of f name)) (bytes_of f name) e h
+unread_source (Some f) name e h = unread_text (IsSourceFault (bytes_of f name)) (bytes_of f name) e (λ long. long) h
 
 pub unread_at : (told : Option Files) (name : List ℕ) (age : ℕ) (e : Ending) → IfSome told (λ f. IsUnreadText (bytes_of f name) e) → IfSome told (λ f. IsSourceEnding (IsFaultAt (bytes_of f name) age) e)
 unread_at None name age e h = tt
-unread_at (Some f) name age e h = unread_text (at.IsFaultAt (bytes_of f name) age) (bytes_of f name) e h
+unread_at (Some f) name age e h = unread_text (IsFaultAt (bytes_of f name) age) (bytes_of f name) e (λ long. long) h
 
 -- the same bytes are those of the file
 pub told_same : (told : Option Files) (a b name : List ℕ) → a ≡ b → IfSome told (λ f. b ≡ bytes_of f name) → IfSome told (λ f. a ≡ bytes_of f name)
@@ -191,3 +192,8 @@ pub good_told : {A E : Type 0} (r : Result A E) (told : Option Files) (file name
 good_told (Ok a) None file name Q is h = tt
 good_told (Ok a) (Some f) file name Q is h = subst Q is h
 good_told (Err e) told file name Q is h = tt
+
+-- what is read is good
+pub read_good : (told : Option Files) (terms : Terms) (program image : List ℕ) (ir : Program) (rounds : List Round) → IfSome told (λ f. IsRead terms (bytes_of f program) (bytes_of f image) ir rounds) → IfSome told (λ f. IsGoodPair terms (bytes_of f program) (bytes_of f image))
+read_good None terms program image ir rounds is = tt
+read_good (Some f) terms program image ir rounds is = is.good

@@ -10,7 +10,8 @@ use Rattle.dk_endings.specs.declared.ending.Ending.TheVariants as ending
 use Rattle.dk_endings.specs.Lines.{holds_line}
 use Rattle.dk_top.specs.Plans.{IsPlanOf}
 use Rattle.dk_top.specs.Reports.{IsChecked}
-use Rattle.dk_top.specs.Program.{IsAccepted, IsSourceFault, IsFaultAt}
+use Rattle.dk_compile.specs.Sources.{IsAccepted, IsSourceFault}
+use Rattle.dk_compile.specs.Limits.{IsFaultAt}
 use Rattle.dk_top.specs.Verdict.{Files, bytes_of, IsProgramAnswer, IsCheckAnswer, CanBeChecked}
 use Rattle.dk_desk.specs.Outside.{Outside}
 use Rattle.dk_top.specs.State.{AsksWhere, GainsText, IsClaimLine, ReportsFront}

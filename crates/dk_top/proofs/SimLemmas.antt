@@ -15,8 +15,8 @@ use Rattle.verilog_text.specs.Lexis.{HasTokens}
 use Rattle.verilog_text.specs.Grammar.{Source, Module}
 use Rattle.verilog_text.specs.Stands.{IsWritten, StandsFor}
 use Rattle.verilog_text.specs.Faults.{IsFault, Agrees}
-use Rattle.pgm_codec.specs.Images.{Picture as Image}
-use Rattle.pgm_rounds.specs.declared.fault.ImageFault.{ImageFault as FileFault}
+use Rattle.pgm_codec.specs.Images.{Image}
+use Rattle.pgm_rounds.specs.declared.fault.FileFault.{FileFault}
 use Rattle.cycle_sim.specs.Ports.{din_widths}
 use Rattle.test_bench.specs.declared.drive.Drive.{Drive}
 use Rattle.test_bench.specs.declared.stop.Stop.{Stop}
@@ -86,21 +86,16 @@ fits_some [] bytes s a f = absurd (none_fit s.width s.height a f.fits.images f.f
 -- an ending is like itself
 alike_kind : (s : Span) (k : VerilogKind) → AreAlike (ending.Verilog (At s k)) (ending.Verilog (At s k))
 alike_kind s kind.Cycle = tt
-alike_kind s kind.BadByte = refl
-alike_kind s kind.BadConstant = refl
-alike_kind s kind.NumberTooGreat = refl
-alike_kind s kind.NameTooLong = refl
+alike_kind s (kind.Token fault) = refl
 alike_kind s kind.Syntax = refl
 alike_kind s kind.NotInSubset = refl
-alike_kind s kind.Width = refl
-alike_kind s kind.Words = refl
-alike_kind s kind.ArrayBits = refl
-alike_kind s kind.Repeat = refl
+alike_kind s (kind.Limit passed) = refl
 alike_kind s kind.Duplicate = refl
 alike_kind s kind.Ports = refl
 alike_kind s kind.Unknown = refl
 alike_kind s kind.WrongSort = refl
 alike_kind s kind.Divisor = refl
+alike_kind s kind.Width = refl
 alike_kind s kind.DrivenTwice = refl
 alike_kind s kind.Undriven = refl
 

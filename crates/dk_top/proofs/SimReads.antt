@@ -8,7 +8,7 @@ use Rattle.netlist.specs.Names.{NamedNetlist}
 use Rattle.verilog_text.specs.declared.fault.TextFault.{TextFault}
 use Rattle.verilog_text.specs.Faults.{IsFault}
 use Rattle.cycle_sim.specs.Ports.{din_widths}
-use Rattle.pgm_codec.specs.Images.{Picture as Image}
+use Rattle.pgm_codec.specs.Images.{Image}
 use Rattle.dk_frames.specs.declared.frame.Frame.{Frame}
 use Rattle.pgm_rounds.specs.declared.round.Round.{Round}
 use Rattle.pgm_rounds.specs.Files.{frame_of, frames_of}

@@ -14,7 +14,7 @@ use Rattle.cycle_sim.specs.Ports.{din_widths}
 use Rattle.cycle_sim.specs.declared.fill.Fill.TheVariants.{Zeros}
 use Rattle.cycle_sim.specs.Filled.{filled_contents}
 use Rattle.dk_types.specs.Typed.{Typing, types_of}
-use Rattle.pgm_codec.specs.Images.{Picture as Image, header_of, raster_of, sample_bytes, file_of}
+use Rattle.pgm_codec.specs.Images.{Image, header_of, raster_of, sample_bytes, file_of}
 use Rattle.pgm_rounds.specs.Files.{FitsFile, joined}
 use Rattle.program_images.specs.Ports.{bits_of}
 use Rattle.test_bench.specs.Stimulus.{stimulus, stream, dins_at}

@@ -15,8 +15,8 @@ use Rattle.wiring.specs.Netlist.{Netlist}
 use Rattle.wiring.specs.Snapshot.{Contents}
 use Rattle.pgm_codec.specs.declared.header.Header.{Header}
 use Rattle.pgm_codec.specs.declared.raster.RasterFault.{RasterFault}
-use Rattle.pgm_codec.specs.Images.{Picture as Image, AreImages, IsRaster, sample_bytes}
-use Rattle.pgm_rounds.specs.declared.fault.ImageFault.{ImageFault}
+use Rattle.pgm_codec.specs.Images.{Image, AreImages, IsRaster, sample_bytes}
+use Rattle.pgm_rounds.specs.declared.fault.FileFault.{FileFault}
 use Rattle.row_stream.specs.declared.faults.StreamFault.TheVariants.{Image as ImageFails, Read}
 use Rattle.row_stream.specs.declared.rows.RowsFault.TheVariants.{Raster, Read as RowsRead}
 use Rattle.row_stream.specs.Lines.{Kind, head}
@@ -34,7 +34,7 @@ use Rattle.dk_top.proofs.StreamTaken.{headed_images, headed_taken, most_of, most
 
 -- the laws of row_stream on the lines that were left
 pub record MostLaws : Type 0 where
-  pub fault_behind : (kind : Kind) (m : Netlist) (bits : ℕ) (from : Contents) (created now : Outside) (fault : ImageFault) (file : List ℕ) → (e : LeavesBehind kind m bits (ImageFails fault) (Some file) from created now) → e.count < MAX_FILE_IMAGES → EndsLines kind.size bits file (e.count * kind.size.height)
+  pub fault_behind : (kind : Kind) (m : Netlist) (bits : ℕ) (from : Contents) (created now : Outside) (fault : FileFault) (file : List ℕ) → (e : LeavesBehind kind m bits (ImageFails fault) (Some file) from created now) → e.count < MAX_FILE_IMAGES → EndsLines kind.size bits file (e.count * kind.size.height)
   pub fault_inside : (kind : Kind) (m : Netlist) (bits : ℕ) (from : Contents) (created now : Outside) (fault : RasterFault) (file : List ℕ) → (e : LeavesInside kind m bits (Raster fault) (Some file) from created now) → EndsLines kind.size bits file (e.count * kind.size.height + e.rows)
   pub read_behind : (kind : Kind) (m : Netlist) (bits : ℕ) (from : Contents) (created now : Outside) (all : Option (List ℕ)) → (e : LeavesBehind kind m bits Read all from created now) → e.count < MAX_FILE_IMAGES → (read : List ℕ) × (all ≡ prepend_known read now.image.rest) × EndsLines kind.size bits read (e.count * kind.size.height)
   pub read_inside : (kind : Kind) (m : Netlist) (bits : ℕ) (from : Contents) (created now : Outside) (all : Option (List ℕ)) → (e : LeavesInside kind m bits RowsRead all from created now) → (read : List ℕ) × (all ≡ prepend_known read now.image.rest) × EndsLines kind.size bits read (e.count * kind.size.height + e.rows)
@@ -149,7 +149,7 @@ module _ (p : Typing) (m : Netlist) (from : Contents) (late : ℕ) (law : ShowsL
 
   module _ (file name : List ℕ) (old now : Outside) (told : old.image.rest ≡ Some file) (unasked : old.file.stage ≡ Unasked) (there : now.file.stage ≡ Open) where
     -- a fault behind whole images
-    fault_behind_held : (f : ImageFault) (created : Outside) → Creates name old created → (e : LeavesBehind kind m bits (ImageFails f) (Some file) from created now) → IfSome now.file.bytes (LeavesAtFault p late file)
+    fault_behind_held : (f : FileFault) (created : Outside) → Creates name old created → (e : LeavesBehind kind m bits (ImageFails f) (Some file) from created now) → IfSome now.file.bytes (LeavesAtFault p late file)
     fault_behind_held f created creates e =
         let same : now.file ≡ e.half.file = ap (λ (o : Outside). o.file) e.only in
         subst (λ (c : Created). IfSome c.bytes (LeavesAtFault p late file)) (sym same)
@@ -178,7 +178,7 @@ module _ (p : Typing) (m : Netlist) (from : Contents) (late : ℕ) (law : ShowsL
         record { rows = e.count * p.size.height + e.rows; samples = samples; front = s.bytes ++ (s.head ++ s.raster); rest = t.rest; taken = t.taken; most = most_of p.size bits file (e.count * p.size.height + e.rows) (laws.fault_inside kind m bits from created now f file e); holds = holds })
         (shows_lines kind m from bits late (shown_by p) law long samples name old created e.half small creates s.shows))
 
-    pub held_fault : (f : ImageFault) → StreamsToFault kind m bits f name from old now → IfSome now.file.bytes (LeavesAtFault p late file)
+    pub held_fault : (f : FileFault) → StreamsToFault kind m bits f name from old now → IfSome now.file.bytes (LeavesAtFault p late file)
     held_fault f (at_start h only) = absurd (closed (sym unasked ∙ (sym (ap (λ (o : Outside). o.file.stage) only) ∙ there)))
     held_fault f (behind created creates e) = fault_behind_held f created creates (subst (λ all. LeavesBehind kind m bits (ImageFails f) all from created now) told e)
     held_fault f (inside created creates g e) = fault_inside_held g created creates (subst (λ all. LeavesInside kind m bits (Raster g) all from created now) told e)

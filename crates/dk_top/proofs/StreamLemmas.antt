@@ -20,7 +20,7 @@ use Rattle.raster_delay.specs.Systems.{System}
 use Rattle.flow_dual.specs.declared.solution.Solution.{Solution}
 use Rattle.buffer_plan.specs.Plans.{Plan, latency, latency_of}
 use Rattle.circuit.specs.Driven.{Agree, driven, fed_clock, input_widths, output_at}
-use Rattle.pgm_codec.specs.Images.{Picture as Image}
+use Rattle.pgm_codec.specs.Images.{Image}
 use Rattle.program_images.specs.Outputs.{output_images}
 use Rattle.test_bench.specs.Stimulus.{stream}
 use Rattle.test_bench.proofs.Streams.{read_at}

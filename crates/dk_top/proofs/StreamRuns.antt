@@ -11,8 +11,8 @@ use Rattle.wiring.specs.Netlist.{Netlist}
 use Rattle.buffer_plan.specs.Plans.{latency}
 use Rattle.cycle_sim.specs.declared.fill.Fill.TheVariants.{Zeros}
 use Rattle.cycle_sim.specs.Filled.{filled_contents}
-use Rattle.pgm_codec.specs.Images.{Picture as Image}
-use Rattle.pgm_rounds.specs.declared.fault.ImageFault.{ImageFault as FileFault}
+use Rattle.pgm_codec.specs.Images.{Image}
+use Rattle.pgm_rounds.specs.declared.fault.FileFault.{FileFault}
 use Rattle.pgm_rounds.specs.Ports.{Ports}
 use Rattle.pgm_rounds.specs.Files.{FitsFile, IsFault, IsHeaded}
 use Rattle.row_stream.specs.declared.faults.StreamFault.{StreamFault}
@@ -27,7 +27,8 @@ use Rattle.dk_compile.specs.declared.compiling.Compiled.{Compiled}
 use Rattle.dk_endings.specs.declared.ending.Ending.{Ending}
 use Rattle.dk_endings.specs.declared.ending.Ending.TheVariants as ending
 use Rattle.dk_endings.specs.declared.ending.ImageFault.TheVariants.{File, TooLong}
-use Rattle.dk_top.specs.Program.{IsAcceptedAt, ports}
+use Rattle.dk_compile.specs.Limits.{IsAcceptedAt}
+use Rattle.dk_top.specs.Program.{ports}
 use Rattle.dk_top.specs.Output.{output_file}
 use Rattle.dk_top.specs.Compiling.{IsCompiledFrom, NotesRun}
 use Rattle.dk_top.specs.Streaming.{IsOnePort, first_bits, IsBegun, output_kind, shown_by, OfStream, LeavesAtFault, LeavesAtRead, LeavesAtWrite}
@@ -242,7 +243,7 @@ module _ (name : List ℕ) (opened : Outside) (unasked : opened.file.stage ≡ U
 module _ (one_program : OneProgram) (one_rounds : (ports : Ports) → 0 < length ports.inputs → (bytes : List ℕ) → (a b : List (List Image)) → FitsFile ports bytes a → FitsFile ports bytes b → a ≡ b)
     (source : List ℕ) (age : ℕ) (c : Compiled) (from : IsCompiledFrom source age false c) where
   same_program : (p : Typing) → IsAcceptedAt source age p → from.program ≡ p
-  same_program p accepted = one_program source from.program p from.is.planned.has.front.program accepted.accepted.accepted.program
+  same_program p accepted = one_program source from.program p from.is.planned.has.front.program accepted.accepted.program
 
   of_pair : (file : List ℕ) (rounds : List (List Image)) → FitsFile (ports from.program) file rounds → 0 < length (ports from.program).inputs → (P : Typing → List (List Image) → Type 0) → P from.program rounds → OfPair (run_terms age) source file P
   of_pair file rounds fits some P h = λ p images accepted other.

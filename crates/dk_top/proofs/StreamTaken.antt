@@ -10,7 +10,7 @@ use Rattle.wiring.specs.Snapshot.{Contents}
 use Rattle.pgm_codec.specs.declared.header.Header.{Header}
 use Rattle.pgm_codec.specs.Answers.{Reads}
 use Rattle.pgm_codec.proofs.Stays.{reads_more}
-use Rattle.pgm_codec.specs.Images.{Picture as Image, AreImages, IsRaster}
+use Rattle.pgm_codec.specs.Images.{Image, AreImages, IsRaster}
 use Rattle.pgm_rounds.specs.Files.{IsHeaded}
 use Rattle.row_stream.specs.Lines.{Kind}
 use Rattle.row_stream.specs.Heads.{FitsHeader}

@@ -9,7 +9,7 @@ use Rattle.cycle_sim.specs.Filled.{filled_contents}
 use Rattle.wiring.specs.Snapshot.{HasOneSnapshot, HasOneNext}
 use Rattle.netlist.specs.Names.{NamedNetlist}
 use Rattle.vcd_trace.specs.Header.{header_text, trace_text}
-use Rattle.pgm_codec.specs.Images.{Picture as Image}
+use Rattle.pgm_codec.specs.Images.{Image}
 use Rattle.pgm_rounds.specs.declared.round.Round.{Round}
 use Rattle.test_bench.specs.declared.drive.Drive.{Drive}
 use Rattle.test_bench.specs.declared.stop.Stop.{Stop}

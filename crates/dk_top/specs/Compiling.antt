@@ -1,12 +1,11 @@
 -- What a program's text is compiled to, and how it is clocked.
-use Rattle.std.specs.Prelude.{◌≡◌, ℕ, ◌+◌, ◌*◌, ◌≤◌, Bool, false, List, ◌++◌, length, Option, None}
+use Rattle.std.specs.Prelude.{◌≡◌, ℕ, ◌+◌, ◌*◌, Bool, false, List, ◌++◌, length, Option, None}
 use Rattle.std.specs.Option.{option_map}
-use Rattle.dk_base.specs.declared.TheConstants.{MAX_SOURCE_BYTES}
 use Rattle.dk_base.specs.Frames.{Size, area}
 use Rattle.dk_desk.specs.Calls.{IsIfTold}
 use Rattle.buffer_plan.specs.Plans.{latency}
 use Rattle.cycle_sim.specs.declared.fill.Fill.TheVariants.{Zeros}
-use Rattle.pgm_codec.specs.Images.{Picture as Image}
+use Rattle.pgm_codec.specs.Images.{Image}
 use Rattle.test_bench.specs.declared.drive.Drive.{Drive}
 use Rattle.test_bench.specs.Inputs.{samples_of}
 use Rattle.test_bench.specs.Showing.{IsNoted as AreNotes}
@@ -14,9 +13,8 @@ use Rattle.dk_types.specs.Typed.{Typing}
 use Rattle.dk_compile.specs.declared.compiling.Compiled.{Compiled}
 use Rattle.dk_compile.specs.Compiled.{IsCompiled}
 
--- The text is within its limit, and this is what it is compiled to at an age, with the port `en` or without it.
+-- This is what the text is compiled to at an age, with the port `en` or without it.
 pub record IsCompiledFrom (source : List ℕ) (age : ℕ) (enable : Bool) (c : Compiled) : Type 0 where
-  pub within : length source ≤ MAX_SOURCE_BYTES
   pub program : Typing
   pub is : IsCompiled source age enable program c.ir c.system c.solution c.plan c.«module» c.nets.items c.text.items
 

@@ -3,7 +3,7 @@ use Rattle.std.specs.Prelude.{◌≡◌, ℕ, ◌-◌, Bool, false, List, length
 use Rattle.std.specs.List.{sum}
 use Rattle.dk_types.specs.Typed.{Typing}
 use Rattle.buffer_plan.specs.Plans.{bits_of, latency}
-use Rattle.pgm_codec.specs.Images.{Picture as Image}
+use Rattle.pgm_codec.specs.Images.{Image}
 use Rattle.pgm_rounds.specs.Files.{FitsFile}
 use Rattle.made_program.specs.Programs.{program_of}
 use Rattle.made_program.specs.Images.{image_of}

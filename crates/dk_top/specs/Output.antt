@@ -3,7 +3,7 @@ use Rattle.std.specs.Prelude.{ℕ, ◌<◌, ◌≤◌, List, length, map, Option
 use Rattle.std.specs.List.{flat_map}
 use Rattle.dk_types.specs.Typed.{Typing, types_of}
 use Rattle.dk_types.specs.Meaning.{meaning_on}
-use Rattle.pgm_codec.specs.Images.{Picture as Image, file_of}
+use Rattle.pgm_codec.specs.Images.{Image, file_of}
 use Rattle.pgm_rounds.specs.Files.{FitsFile, IsFault, joined}
 use Rattle.program_images.specs.Outputs.{output_images}
 use Rattle.dk_endings.specs.declared.ending.ImageFault.{ImageFault}

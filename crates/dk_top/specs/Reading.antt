@@ -1,7 +1,7 @@
 -- What is read of a command's files, for the private functions.
 use Rattle.std.specs.Prelude.{◌≡◌, ℕ, ◌<◌, List, Option, ⊤, length, map, IsSomeAnd}
 use Rattle.dk_types.specs.Typed.{Typing}
-use Rattle.pgm_codec.specs.Images.{Picture as Image}
+use Rattle.pgm_codec.specs.Images.{Image}
 use Rattle.pgm_rounds.specs.declared.round.Round.{Round}
 use Rattle.pgm_rounds.specs.Files.{FitsFile, frame_of, frames_of}
 use Rattle.std.specs.List.{All}
@@ -12,10 +12,10 @@ use Rattle.dk_endings.specs.declared.ending.Ending.{Ending}
 use Rattle.dk_endings.specs.declared.ending.Ending.TheVariants as ending
 use Rattle.dk_endings.specs.declared.ending.ImageFault.TheVariants as image
 use Rattle.dk_compile.specs.Fronts.{IsForm}
-use Rattle.dk_endings.specs.declared.ending.SourceFault.{SourceFault}
-use Rattle.dk_endings.specs.declared.ending.SourceFault.TheVariants as source
+use Rattle.dk_compile.specs.declared.fault.SourceFault.{SourceFault}
+use Rattle.dk_compile.specs.declared.fault.SourceFault.TheVariants as source
 use Rattle.dk_base.specs.declared.TheConstants.{MAX_SOURCE_BYTES}
-use Rattle.dk_top.specs.Program.{IsAcceptedAt}
+use Rattle.dk_compile.specs.Limits.{IsAcceptedAt}
 use Rattle.dk_top.specs.Output.{Fits, IsImageFault}
 use Rattle.dk_top.specs.Verdict.{Terms, IsGoodPair}
 

@@ -6,7 +6,7 @@ use Rattle.pointwise_ir.specs.Programs.{Program}
 use Rattle.dk_compile.specs.Fronts.{IsFront}
 use Rattle.dk_endings.specs.declared.ending.Ending.{Ending}
 use Rattle.dk_endings.specs.declared.ending.Ending.TheVariants as ending
-use Rattle.dk_top.specs.Program.{IsAccepted}
+use Rattle.dk_compile.specs.Sources.{IsAccepted}
 use Rattle.dk_top.specs.Reports.{IsReportFault}
 
 -- The text is accepted, with this form and these live reads.

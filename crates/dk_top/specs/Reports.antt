@@ -1,16 +1,15 @@
 -- What `check` judges.
 use Rattle.std.specs.Prelude.{ℕ, ◌<◌, ◌≤◌, List, length}
-use Rattle.dk_base.specs.declared.TheConstants.{MAX_SOURCE_BYTES, MAX_REPORT_BYTES}
+use Rattle.dk_base.specs.declared.TheConstants.{MAX_REPORT_BYTES}
 use Rattle.dk_types.specs.Typed.{Typing}
 use Rattle.dk_plan.specs.declared.judging.Claim.{Claim}
 use Rattle.dk_endings.specs.declared.ending.ReportFault.{ReportFault}
 use Rattle.dk_endings.specs.declared.ending.ReportFault.TheVariants.{TooLong, Line}
-use Rattle.dk_top.specs.Program.{IsAccepted}
+use Rattle.dk_compile.specs.Sources.{IsAccepted}
 use Rattle.dk_top.specs.Plans.{IsConfirmed, IsWrongLine}
 
 -- the text is accepted, and this report of at most its limit holds of it
 pub record IsChecked (source report : List ℕ) (claim : Claim) : Type 0 where
-  pub within : length source ≤ MAX_SOURCE_BYTES
   pub short : length report ≤ MAX_REPORT_BYTES
   pub confirmed : IsConfirmed source report claim
 

@@ -2,7 +2,7 @@
 use Rattle.std.specs.Prelude.{◌≡◌, ℕ, List, map, Option, ⊤}
 use Rattle.dk_base.specs.Frames.{Size}
 use Rattle.netlist.specs.Names.{NamedNetlist}
-use Rattle.pgm_codec.specs.Images.{Picture as Image}
+use Rattle.pgm_codec.specs.Images.{Image}
 use Rattle.pgm_rounds.specs.declared.round.Round.{Round}
 use Rattle.pgm_rounds.specs.Files.{frame_of, frames_of}
 use Rattle.dk_endings.specs.declared.ending.Ending.{Ending}

@@ -11,8 +11,8 @@ use Rattle.verilog_text.specs.declared.fault.TextFault.{TextFault}
 use Rattle.verilog_text.specs.Grammar.{Source}
 use Rattle.verilog_text.specs.Stands.{IsWritten, StandsFor}
 use Rattle.verilog_text.specs.Faults.{IsFault}
-use Rattle.pgm_codec.specs.Images.{Picture as Image}
-use Rattle.pgm_rounds.specs.declared.fault.ImageFault.{ImageFault as FileFault}
+use Rattle.pgm_codec.specs.Images.{Image}
+use Rattle.pgm_rounds.specs.declared.fault.FileFault.{FileFault}
 use Rattle.test_bench.specs.declared.drive.Drive.{Drive}
 use Rattle.test_bench.specs.declared.stop.Stop.{Stop}
 use Rattle.test_bench.specs.Inputs.{FitsBench, IsBenchFault, samples_of}

@@ -8,7 +8,7 @@ use Rattle.dk_types.specs.Meaning.{meaning_on}
 use Rattle.buffer_plan.specs.Plans.{latency}
 use Rattle.pgm_codec.specs.declared.header.Header.{Header}
 use Rattle.pgm_codec.specs.Answers.{Reads}
-use Rattle.pgm_codec.specs.Images.{Picture as Image, AreImages, IsRaster}
+use Rattle.pgm_codec.specs.Images.{Image, AreImages, IsRaster}
 use Rattle.pgm_rounds.specs.Files.{IsHeaded}
 use Rattle.program_images.specs.Ports.{bits_of}
 use Rattle.program_images.specs.Outputs.{output_images}

@@ -16,7 +16,7 @@ use Rattle.dk_compile.specs.declared.compiling.Compiled.{Compiled}
 use Rattle.dk_top.specs.Compiling.{IsCompiledFrom}
 use Rattle.dk_top.specs.Verdict.{bytes_of, IsRunAnswer}
 use Rattle.dk_top.specs.Command.{run}
-use Rattle.dk_top.specs.Program.{IsAcceptedAt}
+use Rattle.dk_compile.specs.Limits.{IsAcceptedAt}
 use Rattle.dk_top.specs.State.{AsksOnly, AsksWhere, CreatesNothing, CreatesOut, OthersStay, CreatesRun, IsHeldRun, NotedRun}
 
 -- what the stream leaves behind, by the ending

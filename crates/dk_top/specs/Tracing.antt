@@ -7,7 +7,7 @@ use Rattle.netlist.specs.Names.{NamedNetlist}
 use Rattle.cycle_sim.specs.Ports.{din_widths}
 use Rattle.cycle_sim.specs.Filled.{filled_contents}
 use Rattle.vcd_trace.specs.Header.{header_text, trace_text}
-use Rattle.pgm_codec.specs.Images.{Picture as Image}
+use Rattle.pgm_codec.specs.Images.{Image}
 use Rattle.test_bench.specs.declared.drive.Drive.{Drive}
 use Rattle.test_bench.specs.declared.stop.Stop.TheVariants.{Index, Count}
 use Rattle.test_bench.specs.Inputs.{samples_of}

@@ -1,10 +1,11 @@
 //! `compile`: the Verilog text of a program.
 
 ghost use Rattle.std.specs.Prelude.{◌≡◌, ◌≢◌, ◌≤◌, ℕ, List, Some, Err, IfOk, IfErr, IfSome, OnOk, length};
-ghost use Rattle.dk_base.specs.declared.TheConstants.{MAX_SOURCE_BYTES, MAX_AGE};
+ghost use Rattle.dk_base.specs.declared.TheConstants.{MAX_AGE};
 ghost use Rattle.dk_desk.specs.Calls.{HasCauseIn, IsIfTold};
 ghost use Rattle.dk_top.specs.Command.{compile as compile_command};
-ghost use Rattle.dk_top.specs.Program.{CanBeCompiled, IsFaultAt};
+ghost use Rattle.dk_compile.specs.Limits.{IsFaultAt};
+ghost use Rattle.dk_top.specs.Program.{CanBeCompiled};
 ghost use Rattle.dk_top.specs.Compiling.{IsCompiledFrom, IsCompiledText};
 ghost use Rattle.dk_top.specs.Verdict.{bytes_of};
 ghost use Rattle.dk_top.specs.Reading.{Stops, IsSourceEnding};
@@ -12,16 +13,14 @@ ghost use Rattle.dk_top.specs.Reading.{Stops, IsSourceEnding};
 use crate::files::write_file;
 use crate::reading::{ending_of, read_text};
 use crate::work::Work;
-use dk_base::MAX_SOURCE_BYTES;
 use dk_compile::{Compiled, Options, compile_with, one_at_age};
 use dk_desk::{Desk, Stage};
 use dk_endings::Ending;
 use dk_words::CompileWords;
 use std::alloc::Global;
 
-// What a text within its limit is compiled to.
+// What a text is compiled to.
 pub fn compiled(alloc: Global, text: &[u8], options: Options) -> Result<Compiled, Ending>
-    requires within { length text.now ≤ MAX_SOURCE_BYTES }
     requires age { options.age ≤ MAX_AGE }
     ensures compiled { IfOk result (IsCompiledFrom text.now options.age options.enable) }
     ensures good { OnOk result (CanBeCompiled text.now options.age) }
@@ -32,7 +31,7 @@ pub fn compiled(alloc: Global, text: &[u8], options: Options) -> Result<Compiled
     one_at_age();
     match compile_with(alloc, text, options) {
         Ok(compiled) => Ok(compiled),
-        Err(fault) => Err(ending_of(fault)),
+        Err(error) => Err(ending_of(error)),
     }
 }
 

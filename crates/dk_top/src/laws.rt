@@ -2,16 +2,17 @@
 
 ghost use Rattle.std.specs.Prelude.{◌≡◌, ℕ, List};
 ghost use Rattle.dk_base.specs.Stencils.{Stencils};
-ghost use Rattle.dk_endings.specs.declared.ending.SourceFault.{SourceFault as TheFault};
+ghost use Rattle.dk_compile.specs.declared.fault.SourceFault.{SourceFault};
 ghost use Rattle.dk_plan.specs.declared.judging.Claim.{Claim as TheClaim};
-ghost use Rattle.dk_top.specs.Program.{CanBeCompiled, IsFaultAt};
+ghost use Rattle.dk_compile.specs.Limits.{IsFaultAt};
+ghost use Rattle.dk_top.specs.Program.{CanBeCompiled};
 ghost use Rattle.dk_top.specs.Plans.{HasStencils, IsConfirmed, IsWrongLine};
 
 /// Laws: an accepted text has one list of names and one of live reads. One that is accepted at an age has no fault at it, and one that is not has one fault. A report that holds has no wrong line and says one thing, and another has one first wrong line.
 pub fn one_plan()
     ensures stencils { (text : List ℕ) (a b : List (List ℕ)) (s t : Stencils) → HasStencils text a s → HasStencils text b t → (a ≡ b) × (s ≡ t) }
-    ensures apart { (text : List ℕ) (age : ℕ) (f : TheFault) → CanBeCompiled text age → IsFaultAt text age f → ⊥ }
-    ensures fault { (text : List ℕ) (age : ℕ) (f g : TheFault) → IsFaultAt text age f → IsFaultAt text age g → f ≡ g }
+    ensures apart { (text : List ℕ) (age : ℕ) (f : SourceFault) → CanBeCompiled text age → IsFaultAt text age f → ⊥ }
+    ensures fault { (text : List ℕ) (age : ℕ) (f g : SourceFault) → IsFaultAt text age f → IsFaultAt text age g → f ≡ g }
     ensures claim { (text bytes : List ℕ) (c d : TheClaim) → IsConfirmed text bytes c → IsConfirmed text bytes d → c ≡ d }
     ensures wrong { (text bytes : List ℕ) (c : TheClaim) (line : ℕ) → IsConfirmed text bytes c → IsWrongLine text bytes line → ⊥ }
     ensures line { (text bytes : List ℕ) (m n : ℕ) → IsWrongLine text bytes m → IsWrongLine text bytes n → m ≡ n }

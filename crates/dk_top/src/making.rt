@@ -2,11 +2,12 @@
 
 ghost use Rattle.std.specs.Prelude.{◌≡◌, ◌≢◌, ◌≤◌, ℕ, List, false, None, Err, IfOk, IfErr, OnOk};
 ghost use Rattle.dk_desk.specs.Outside.{Outside};
-ghost use Rattle.pgm_codec.specs.Images.{Picture as OneImage};
+ghost use Rattle.pgm_codec.specs.Images.{Image as OneImage};
 ghost use Rattle.made_program.specs.Programs.{program_of};
 ghost use Rattle.made_program.specs.Images.{image_of};
 ghost use Rattle.dk_top.specs.Command.{make as make_command};
-ghost use Rattle.dk_top.specs.Program.{CanBeCompiled, IsFaultAt};
+ghost use Rattle.dk_compile.specs.Limits.{IsFaultAt};
+ghost use Rattle.dk_top.specs.Program.{CanBeCompiled};
 ghost use Rattle.dk_top.specs.Compiling.{IsCompiledFrom};
 ghost use Rattle.dk_top.specs.Making.{IsMade, IsMadeLine, NotesMade};
 ghost use Rattle.dk_top.specs.Reading.{AreRead, IsInputOf, IsSourceEnding, Stops};
@@ -21,7 +22,7 @@ use dk_compile::{Compiled, Options, one_at_age};
 use dk_desk::Desk;
 use dk_endings::Ending;
 use dk_words::MakeWords;
-use made_program::{Figures, made_is_read, made_is_small, make, sample_sum, summary};
+use made_program::{Figures, made_is_read, make, sample_sum, summary};
 use netlist::Module;
 use pgm_codec::one_reading;
 use pgm_rounds::Round;
@@ -47,7 +48,6 @@ fn made_ready(alloc: Global, n: u32) -> Result<Ready, Ending>
     ensures stops { IfErr result Stops }
     ensures judged { result ≢ Err Ending.ReadFault }
 {
-    made_is_small();
     let Ok(made) = make(alloc, n) else {
         return Err(Ending::Memory);
     };

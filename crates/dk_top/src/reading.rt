@@ -6,21 +6,20 @@ ghost use Rattle.dk_base.specs.declared.TheConstants.{MAX_AGE};
 ghost use Rattle.dk_desk.specs.Outside.{Outside, input};
 ghost use Rattle.dk_desk.specs.Calls.{HasCauseIn, IsIfTold, OpensOnly};
 ghost use Rattle.dk_types.specs.Typed.{Typing};
-ghost use Rattle.dk_compile.specs.Sources as of;
-ghost use Rattle.dk_compile.specs.Limits as at;
 ghost use Rattle.dk_compile.specs.Fronts.{IsForm};
 ghost use Rattle.pointwise_eval.specs.Rounds.{AreFrames};
-ghost use Rattle.dk_top.specs.Program.{IsAcceptedAt, IsSourceFault, IsFaultAt};
+ghost use Rattle.dk_compile.specs.Sources.{IsSourceFault, IsErrorBy};
+ghost use Rattle.dk_compile.specs.Limits.{IsAcceptedAt, IsFaultAt};
 ghost use Rattle.dk_top.specs.Verdict.{bytes_of, eval_terms, IsAnswer};
 ghost use Rattle.dk_top.specs.State.{AsksWhere};
 ghost use Rattle.dk_top.specs.Reading.{IsSourceEnding, IsUnreadText, IsImageEnding, IsInputOf, AreRead, IsRead, Stops};
 
 use crate::files::{read_file, read_input};
 use dk_base::{MAX_PGM_BYTES, MAX_SOURCE_BYTES};
-use dk_compile::{one_at_age, one_source, planned};
+use dk_compile::{SourceError, SourceFault, one_at_age, one_source, planned};
 use dk_desk::transfer::ReadAll;
 use dk_desk::{Desk, InSlot, Stage};
-use dk_endings::{Ending, ImageFault, SourceFault};
+use dk_endings::{Ending, ImageFault};
 use pgm_rounds::{FileError, Round, one_file};
 use pointwise_ir::Ir;
 use program_images::read_program_rounds;
@@ -46,35 +45,21 @@ pub fn read_text<D: Desk>(alloc: Global, desk: &mut D, name: &str) -> Result<Vec
     }
 }
 
-// How a call ends whose text, within its limit, has this fault.
-pub fn ending_of(fault: dk_compile::SourceFault) -> Ending
-    ensures fault { (source : List ℕ) → length source ≤ MAX_SOURCE_BYTES → of.IsFault source fault → IsSourceEnding (IsSourceFault source) result }
-    ensures fault_at { (source : List ℕ) (age : ℕ) → length source ≤ MAX_SOURCE_BYTES → at.IsFaultAt source age fault → IsSourceEnding (IsFaultAt source age) result }
+// How a call ends whose text was not read as a program.
+pub fn ending_of(error: SourceError) -> Ending
+    ensures fault { (source : List ℕ) → IsErrorBy (IsSourceFault source) error → IsSourceEnding (IsSourceFault source) result }
+    ensures fault_at { (source : List ℕ) (age : ℕ) → IsErrorBy (IsFaultAt source age) error → IsSourceEnding (IsFaultAt source age) result }
     ensures stops { Stops result }
     ensures judged { result ≢ Ending.ReadFault }
 {
-    match fault {
-        dk_compile::SourceFault::Lex(fault) => Ending::Source(SourceFault::Lex(fault)),
-        dk_compile::SourceFault::Nest { span } => Ending::Source(SourceFault::Nest { span }),
-        dk_compile::SourceFault::Syntax { span } => Ending::Source(SourceFault::Syntax { span }),
-        dk_compile::SourceFault::Depth { span } => Ending::Source(SourceFault::Depth { span }),
-        dk_compile::SourceFault::Types(fault) => Ending::Source(SourceFault::Types(fault)),
-        dk_compile::SourceFault::Nodes { count } => Ending::Source(SourceFault::Nodes { count }),
-        dk_compile::SourceFault::InlineDepth { span } => {
-            Ending::Source(SourceFault::InlineDepth { span })
-        }
-        dk_compile::SourceFault::Reads { count } => Ending::Source(SourceFault::Reads { count }),
-        dk_compile::SourceFault::Bits { least } => Ending::Source(SourceFault::Bits { least }),
-        dk_compile::SourceFault::Latency { clocks } => {
-            Ending::Source(SourceFault::Latency { clocks })
-        }
-        dk_compile::SourceFault::OutOfMemory => Ending::Memory,
+    match error {
+        SourceError::Fault(fault) => Ending::Source(fault),
+        SourceError::OutOfMemory => Ending::Memory,
     }
 }
 
-// The form of the program that a text within its limit is accepted as at age 0.
+// The form of the program that a text is accepted as at age 0.
 fn read_form(alloc: Global, text: &[u8]) -> Result<Ir, Ending>
-    requires within { length text.now ≤ MAX_SOURCE_BYTES }
     ensures accepted { IfOk result (λ ir. (p : Typing) × IsAcceptedAt text.now 0 p × IsForm p ir) }
     ensures every { IfOk result (λ ir. (p : Typing) → IsAcceptedAt text.now 0 p → IsForm p ir) }
     ensures fault { IfErr result (IsSourceEnding (IsFaultAt text.now 0)) }
@@ -85,7 +70,7 @@ fn read_form(alloc: Global, text: &[u8]) -> Result<Ir, Ending>
     one_at_age();
     match planned(alloc, text, 0) {
         Ok(program) => Ok(program.ir),
-        Err(fault) => Err(ending_of(fault)),
+        Err(error) => Err(ending_of(error)),
     }
 }
 

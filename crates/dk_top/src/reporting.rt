@@ -1,7 +1,7 @@
 //! `plan` and `check`: reports of delays and buffer bits.
 
 ghost use Rattle.std.specs.Prelude.{◌≡◌, ◌≢◌, ◌≤◌, ◌<◌, ℕ, List, Some, Err, IfOk, IfErr, IfSome, OnOk, length, vec_len};
-ghost use Rattle.dk_base.specs.declared.TheConstants.{MAX_SOURCE_BYTES, MAX_AGE};
+ghost use Rattle.dk_base.specs.declared.TheConstants.{MAX_AGE};
 ghost use Rattle.dk_desk.specs.Calls.{HasCauseIn, IsIfTold, OpensOnly};
 ghost use Rattle.pointwise_ir.specs.Programs.{Program};
 ghost use Rattle.dk_base.specs.Stencils.{Stencils};
@@ -9,7 +9,9 @@ ghost use Rattle.buffer_plan.specs.Limits.{IsPlanFault};
 ghost use Rattle.dk_plan.specs.Planned.{aged};
 ghost use Rattle.dk_top.specs.Command.{plan as plan_command, check as check_command};
 ghost use Rattle.dk_top.specs.Plans.{IsPlanOf};
-ghost use Rattle.dk_top.specs.Program.{IsAccepted, CanBeCompiled, IsSourceFault, IsFaultAt};
+ghost use Rattle.dk_compile.specs.Sources.{IsAccepted, IsSourceFault};
+ghost use Rattle.dk_compile.specs.Limits.{IsFaultAt};
+ghost use Rattle.dk_top.specs.Program.{CanBeCompiled};
 ghost use Rattle.dk_top.specs.Reports.{IsChecked};
 ghost use Rattle.dk_top.specs.Verdict.{bytes_of, IsCheckAnswer};
 ghost use Rattle.dk_top.specs.State.{AsksWhere};
@@ -19,11 +21,11 @@ ghost use Rattle.dk_top.specs.Reporting.{HasFront, IsReportEnding};
 use crate::files::{read_input, write_report};
 use crate::reading::{ending_of, read_text};
 use crate::work::Work;
-use dk_base::{MAX_REPORT_BYTES, MAX_SOURCE_BYTES};
-use dk_compile::{Front, front};
+use dk_base::MAX_REPORT_BYTES;
+use dk_compile::{Front, SourceFault, front};
 use dk_desk::transfer::ReadAll;
 use dk_desk::{Desk, InSlot, Stage};
-use dk_endings::{Ending, ReportFault, SourceFault, holds_line};
+use dk_endings::{Ending, ReportFault, holds_line};
 use dk_plan::{CheckFault, Claim, PlanFault, judge_report, plan_report};
 use dk_words::{CheckWords, PlanWords};
 use source_names::source_names;
@@ -59,9 +61,8 @@ fn report_of(alloc: Global, front: &Front, age: u8) -> Result<Vec<u8>, Ending>
     }
 }
 
-// The report of a text within its limit.
+// The report of a text.
 fn planned(alloc: Global, text: &[u8], age: u8) -> Result<Vec<u8>, Ending>
-    requires within { length text.now ≤ MAX_SOURCE_BYTES }
     requires age { age ≤ MAX_AGE }
     ensures plan { IfOk result (λ report. IsPlanOf text.now age report.items) }
     ensures good { OnOk result (CanBeCompiled text.now age) }
@@ -115,9 +116,8 @@ impl Work for PlanWords<'_> {
     }
 }
 
-// The program of a text within its limit, with its live reads.
+// The program of a text, with its live reads.
 fn accepted(alloc: Global, text: &[u8]) -> Result<Front, Ending>
-    requires { length text.now ≤ MAX_SOURCE_BYTES }
     ensures accepted { IfOk result (λ front. HasFront text.now front.ir front.stencils) }
     ensures fault { IfErr result (IsSourceEnding (IsSourceFault text.now)) }
     ensures stops { IfErr result Stops }
@@ -125,7 +125,7 @@ fn accepted(alloc: Global, text: &[u8]) -> Result<Front, Ending>
 {
     match front(alloc, text) {
         Ok(front) => Ok(front),
-        Err(fault) => Err(ending_of(fault)),
+        Err(error) => Err(ending_of(error)),
     }
 }
 

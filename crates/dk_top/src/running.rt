@@ -7,7 +7,7 @@ ghost use Rattle.dk_base.specs.FrameSizes.{size_of};
 ghost use Rattle.dk_desk.specs.Outside.{Outside};
 ghost use Rattle.dk_desk.specs.Calls.{HasCauseIn, IsIfTold};
 ghost use Rattle.dk_top.specs.Command.{run as run_command};
-ghost use Rattle.dk_top.specs.Program.{IsAcceptedAt, IsFaultAt};
+ghost use Rattle.dk_compile.specs.Limits.{IsAcceptedAt, IsFaultAt};
 ghost use Rattle.dk_top.specs.Output.{output_file};
 ghost use Rattle.dk_top.specs.Compiling.{IsCompiledFrom, NotesRun, frame_drive};
 ghost use Rattle.dk_top.specs.Verdict.{bytes_of, run_terms, IsAnswer, IsGoodPair, OfPair};

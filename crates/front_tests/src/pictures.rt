@@ -20,7 +20,7 @@ fn pixels(alloc: Global) -> Result<Frame, AllocError> {
     Ok(Frame {
         width: 3,
         height: 1,
-        samples: Samples::new(Vec::from_slice(alloc, &[5, 6, 7])?),
+        samples: Samples::from_bytes(Vec::from_slice(alloc, &[5, 6, 7])?),
     })
 }
 
@@ -36,8 +36,8 @@ fn picture(alloc: Global, source: &str) -> Result<String, Fail> {
         return Ok(text);
     }
     for out in evaluate(alloc, &found.ir, &frames)? {
-        for sample in out.samples.as_slice() {
-            write!(text, "{sample} ")?;
+        for place in 0..out.samples.as_slice().len() {
+            write!(text, "{} ", out.samples.sample(place))?;
         }
     }
     Ok(text)

@@ -1,6 +1,6 @@
 // What the front end says of a text.
 
-use dk_compile::{SourceFault, front};
+use dk_compile::{SourceError, SourceFault, front};
 use std::alloc::Global;
 use std::test::Fail;
 
@@ -19,13 +19,17 @@ pub fn verdict(alloc: Global, source: &str) -> Result<String, Fail> {
             write!(text, "{images} images, {reads} reads")?;
             Ok(text)
         }
-        Err(fault) => told(alloc, fault),
+        Err(error) => told(alloc, error),
     }
 }
 
 // A fault, with its span or its count.
-fn told(alloc: Global, fault: SourceFault) -> Result<String, Fail> {
+fn told(alloc: Global, error: SourceError) -> Result<String, Fail> {
     let mut text = String::new(alloc);
+    let SourceError::Fault(fault) = error else {
+        write!(text, "{error}")?;
+        return Ok(text);
+    };
     let span = match fault {
         SourceFault::Lex(fault) => {
             write!(text, "{:?}", fault.kind)?;

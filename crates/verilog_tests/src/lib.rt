@@ -6,8 +6,6 @@ mod parsing;
 #[cfg(test)]
 mod printing;
 #[cfg(test)]
-mod reading;
-#[cfg(test)]
 mod rules;
 #[cfg(test)]
 mod tokens;

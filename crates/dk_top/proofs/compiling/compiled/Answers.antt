@@ -5,13 +5,13 @@ use Rattle.dk_top.proofs.compiling.compiled.Goals as goal
 pub returns-in-Ok-clause-compiled : goal.returns-in-Ok-clause-compiled
 returns-in-Ok-clause-compiled c =
     let found = c.in-Ok.ensures.compiled in
-    record { within = c.requires.within; program = found.0; is = found.1 }
+    record { program = found.0; is = found.1 }
 
 pub returns-in-Err-clause-fault : goal.returns-in-Err-clause-fault
-returns-in-Err-clause-fault c = c.ending_of.ensures.fault_at c.args.text.now c.args.options.age c.requires.within c.in-Err.ensures.fault
+returns-in-Err-clause-fault c = c.ending_of.ensures.fault_at c.args.text.now c.args.options.age c.in-Err.ensures.fault
 
 pub returns-in-Ok-clause-good : goal.returns-in-Ok-clause-good
 returns-in-Ok-clause-good c =
     let found = c.in-Ok.ensures.compiled in
-    let from : IsCompiledFrom c.args.text.now c.args.options.age c.args.options.enable c.in-Ok.compiled = record { within = c.requires.within; program = found.0; is = found.1 } in
+    let from : IsCompiledFrom c.args.text.now c.args.options.age c.args.options.enable c.in-Ok.compiled = record { program = found.0; is = found.1 } in
     (found.0, compiled_accepted c.one_at_age.ensures.accepted c.args.text.now c.args.options.age c.args.options.enable c.in-Ok.compiled from)

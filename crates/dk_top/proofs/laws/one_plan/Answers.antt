@@ -1,15 +1,15 @@
 use Rattle.dk_top.proofs.FrontOnce.{front_once}
-use Rattle.dk_top.proofs.PlanFaults.{apart_at, one_fault_at, claim_once, wrong_apart, line_once}
+use Rattle.dk_top.proofs.PlanFaults.{claim_once, wrong_apart, line_once}
 use Rattle.dk_top.proofs.laws.one_plan.Goals as goal
 
 pub returns-clause-stencils : goal.returns-clause-stencils
 returns-clause-stencils c = front_once c.one_source.ensures.program c.one_answer.ensures.images c.one_answer.ensures.reads
 
 pub returns-clause-apart : goal.returns-clause-apart
-returns-clause-apart c = apart_at c.one_at_age.ensures.apart
+returns-clause-apart c = λ text age f has is. c.one_at_age.ensures.apart text age has.0 f has.1 is
 
 pub returns-clause-fault : goal.returns-clause-fault
-returns-clause-fault c = one_fault_at c.one_at_age.ensures.fault
+returns-clause-fault c = c.one_at_age.ensures.fault
 
 pub returns-clause-claim : goal.returns-clause-claim
 returns-clause-claim c = λ text bytes. claim_once (returns-clause-stencils c) text bytes c.one_plan.ensures.claim

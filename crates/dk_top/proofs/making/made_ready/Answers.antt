@@ -1,10 +1,16 @@
-use Rattle.std.proofs.Common.{ℕ, List, length, ◌≤◌, None, sym, ◌∙◌, subst}
-use Rattle.dk_base.specs.declared.TheConstants.{MAX_SOURCE_BYTES}
+use Rattle.std.proofs.Common.{ℕ, List, None, false, ◌∙◌, subst}
+use Rattle.dk_top.specs.Program.{CanBeCompiled}
+use Rattle.dk_top.specs.Compiling.{IsCompiledFrom}
 use Rattle.dk_top.specs.Reading.{IsInputOf}
 use Rattle.dk_top.proofs.making.made_ready.Goals as goal
 
-pub compiled-requires-clause-within : goal.compiled-requires-clause-within
-compiled-requires-clause-within c = subst (λ (t : List ℕ). length t ≤ MAX_SOURCE_BYTES) (sym (c.deref.ensures.value ∙ c.in-Ok.ensures.program)) (c.made_is_small.ensures.program c.args.n)
+pub returns-in-Ok-read_frames-clause-compiled : goal.returns-in-Ok-read_frames-clause-compiled
+returns-in-Ok-read_frames-clause-compiled c =
+    subst (λ (t : List ℕ). IsCompiledFrom t 0 false c.in-Ok-compiled.compiled) (c.deref.ensures.value ∙ c.in-Ok.ensures.program) c.in-Ok-compiled.ensures.compiled
+
+pub returns-in-Ok-read_frames-clause-good : goal.returns-in-Ok-read_frames-clause-good
+returns-in-Ok-read_frames-clause-good c =
+    subst (λ (t : List ℕ). CanBeCompiled t 0) (c.deref.ensures.value ∙ c.in-Ok.ensures.program) c.in-Ok-compiled.ensures.good
 
 pub returns-in-Ok-read_frames-clause-input : goal.returns-in-Ok-read_frames-clause-input
 returns-in-Ok-read_frames-clause-input c =

@@ -1,7 +1,7 @@
 use Rattle.std.proofs.Common.{ℕ, List, subst}
 use Rattle.dk_types.specs.Typed.{Typing}
 use Rattle.dk_compile.specs.Fronts.{IsForm}
-use Rattle.dk_top.specs.Program.{IsAcceptedAt}
+use Rattle.dk_compile.specs.Limits.{IsAcceptedAt}
 use Rattle.dk_top.proofs.ReadLemmas.{unread_at}
 use Rattle.dk_top.proofs.reading.read_source.Goals as goal
 

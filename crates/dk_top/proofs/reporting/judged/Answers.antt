@@ -12,7 +12,6 @@ judge_report-requires c =
 
 pub returns-in-Ok-clause-holds : goal.returns-in-Ok-clause-holds
 returns-in-Ok-clause-holds c = λ text front. record {
-  within = front.accepted.within;
   short = c.requires.within;
   confirmed = confirmed_of text c.args.front.now.ir c.args.front.now.stencils front c.args.report.now c.in-Ok.claim c.in-Ok.ensures.holds;
 }
