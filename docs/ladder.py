@@ -22,7 +22,7 @@ CHAPTERS = [
     ("When `run` ends otherwise, and what it leaves", ["IsRunAnswer", "CreatesRun", "HoldsAtWrite", "LeavesAtFault", "LeavesAtRead", "IsFaultAt", "IsImageFault"]),
     ("What makes a module well formed, and its inside", ["IsWhole", "IsApart", "IsReadOnce", "shapes_of", "KeepsRules"]),
     ("The form of a program, its live reads and its limits", ["dk_compile.Sources.IsAccepted", "AreStencilsOf", "IsForm", "IsFront"]),
-    ("Tokens, grammar and types of a program", ["dk_compile.Sources.IsText", "dk_compile.Sources.IsFault"]),
+    ("Tokens, grammar and types of a program", ["dk_compile.Sources.IsText", "dk_compile.Sources.IsSourceFault"]),
     ("Verilog texts", ["StandsFor", "verilog_text.Faults.IsFault"]),
     ("The frame of the outside", ["OnFiles", "HasCauseIn", "Rose", "IsFresh", "AsksOnly", "AsksWhere", "CreatesNothing", "CreatesOut", "FilesStay", "GainsLine", "WritesNothing", "IsOrMemory"]),
     ("`eval`, `compile` and `make`", ["IsAnswer", "IsHeldOf", "IsProgramAnswer", "HoldsText", "IsMadeLine", "NotesMade"]),
@@ -169,6 +169,20 @@ def named(modules, types, item):
     return found
 
 
+def renamed(modules, types, item):
+    """What stands in this definition under another name than its own, as sentences."""
+    text = re.sub(r"--[^\n]*|//[^\n]*", "", item.text)
+    found = []
+    for match in WORD.finditer(text):
+        source, old = item.module.uses.get(match[0], ("", None))
+        other = find(modules, types, item.module, match[0])
+        if old and old != match[0] and other is not None and match[0] not in other.module.defined:
+            line = f"`{match[0]}` is `{old}` of {other.module.name.split('.')[1]}."
+            if line not in found:
+                found.append(line)
+    return found
+
+
 def chapter(modules, types, roots, shown):
     """From these definitions down: each one, then what it names, breadth first."""
     found, queue = [], [it for it in roots if id(it) not in shown]
@@ -197,8 +211,7 @@ def root(modules, types, top, name):
     return sys.exit(f"ladder: there is no definition {name}")
 
 
-def ladder():
-    modules, types = load()
+def ladder(modules, types):
     top, main = clauses(f"{TOP}/crates/dk_top/src/top.rt")
     shown, chapters = set(), []
     all_roots = [[root(modules, types, top, name) for name in names] for _, names in CHAPTERS]
@@ -227,7 +240,8 @@ def counts(chapters):
 
 
 def page():
-    main, chapters = ladder()
+    modules, types = load()
+    main, chapters = ladder(modules, types)
     first = sum(map(lines, chapters[0][1]))
     if first > MOST_LINES:
         sys.exit(f"ladder: the first chapter has {first} lines, and may have {MOST_LINES}")
@@ -239,13 +253,14 @@ def page():
             if item.module.path != at:
                 at = item.module.path
                 out += ["", f"### {at}"]
-            out += ["", *([item.sentence, ""] if item.sentence else []), "```", item.text, "```"]
+            names = " ".join(renamed(modules, types, item))
+            out += ["", *([item.sentence, ""] if item.sentence else []), "```", item.text, "```", *(["", names] if names else [])]
     return "\n".join(out) + "\n"
 
 
 if __name__ == "__main__":
     if sys.argv[1:] == ["--counts"]:
-        print("\n".join(counts(ladder()[1])))
+        print("\n".join(counts(ladder(*load())[1])))
     elif sys.argv[1:]:
         sys.exit(__doc__)
     else:
