@@ -18,6 +18,7 @@ pub use limit::limits;
 pub use number::{bits_for, saturate, saturate_law, wrap, wrap_law};
 pub use operator::{Binary, Conversion, Scaling, Unary, select_type};
 pub use span::Span;
+pub use stencil_rules::is_before;
 pub use stencils::{Image, LiveRead, Stencils};
 pub use text::Text;
 pub use ty::Ty;

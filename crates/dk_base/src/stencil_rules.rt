@@ -105,8 +105,8 @@ fn are_distinct(outputs: &[u32]) -> bool
     true
 }
 
-// Whether a read stands before another.
-fn is_before(a: LiveRead, b: LiveRead) -> bool
+/// Whether a live read stands before another: by the image that reads, then by the one that is read, then by row, then by column.
+pub fn is_before(a: LiveRead, b: LiveRead) -> bool
     ensures yes { IsTrue result → IsBefore a b }
     ensures no { IsBefore a b → IsTrue result }
 {
