@@ -105,21 +105,36 @@ fn are_distinct(outputs: &[u32]) -> bool
     true
 }
 
-/// Whether a live read stands before another: by the image that reads, then by the one that is read, then by row, then by column.
-pub fn is_before(a: LiveRead, b: LiveRead) -> bool
+/// Whether a read stands before another: by the image that reads, then by the one that is read, then by row, then by column. A read is given as these four, and its images go by their numbers or by their places.
+pub fn is_before(a: (usize, usize, i32, i32), b: (usize, usize, i32, i32)) -> bool
+    ensures yes { IsTrue result → IsBefore (record { f = a.0; g = a.1; dy = a.2; dx = a.3 }) (record { f = b.0; g = b.1; dy = b.2; dx = b.3 }) }
+    ensures no { IsBefore (record { f = a.0; g = a.1; dy = a.2; dx = a.3 }) (record { f = b.0; g = b.1; dy = b.2; dx = b.3 }) → IsTrue result }
+{
+    if a.0 != b.0 {
+        return a.0 < b.0;
+    }
+    if a.1 != b.1 {
+        return a.1 < b.1;
+    }
+    if a.2 != b.2 {
+        return a.2 < b.2;
+    }
+    a.3 < b.3
+}
+
+// What a live read is ordered by.
+fn order_of(read: LiveRead) -> (usize, usize, i32, i32)
+    ensures { record { f = result.0; g = result.1; dy = result.2; dx = result.3 } ≡ read }
+{
+    (read.f as usize, read.g as usize, read.dy, read.dx)
+}
+
+// Whether a live read stands before another.
+fn is_read_before(a: LiveRead, b: LiveRead) -> bool
     ensures yes { IsTrue result → IsBefore a b }
     ensures no { IsBefore a b → IsTrue result }
 {
-    if a.f != b.f {
-        return a.f < b.f;
-    }
-    if a.g != b.g {
-        return a.g < b.g;
-    }
-    if a.dy != b.dy {
-        return a.dy < b.dy;
-    }
-    a.dx < b.dx
+    is_before(order_of(a), order_of(b))
 }
 
 // Whether the reads are in order.
@@ -128,7 +143,7 @@ fn are_in_order(reads: &[LiveRead]) -> bool
     ensures no { AreInOrder reads.now → IsTrue result }
 {
     for k in 1..reads.len() {
-        if !is_before(reads[k - 1], reads[k]) {
+        if !is_read_before(reads[k - 1], reads[k]) {
             return false;
         }
     }
