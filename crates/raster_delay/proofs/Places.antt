@@ -1,16 +1,18 @@
 -- Reads by place are in the form that a system's constraints need.
-use Rattle.std.proofs.Common.{◌≡◌, ◌<◌, ◌≤◌, ℕ, ℤ, suc, pos, negsuc, List, length, slice_index_or, ◌*◌, ap, arith, inl, inr}
+use Rattle.std.proofs.Common.{◌≡◌, ◌<◌, ◌≤◌, ◌∙◌, ℕ, ℤ, suc, pos, negsuc, true, false, Equal, List, length, slice_index_or, ◌*◌, ap, sym, arith, inl, inr}
 use Rattle.std.specs.Prelude.{◌+ℤ◌, ◌*ℤ◌, ◌<ℤ◌, neg_ℤ}
+use Rattle.std.specs.Ordering.{nat_cmp}
 use Rattle.std.proofs.Math.IntN.{pos-*ℤ-pos, negsuc-*ℤ-pos}
 use Rattle.std.proofs.Math.Nat.{mul-le-mul_right}
 use Rattle.std.proofs.lemmas.Int.{ints}
 use Rattle.std.proofs.lemmas.Bool.{cases_lt, cases_eq}
+use Rattle.std.proofs.lemmas.Bool.Decides.{nat_tests}
 use Rattle.std.proofs.lemmas.List.{get_or-map, length-map}
 use Rattle.std.proofs.lemmas.List.Elements.{All-map}
 use Rattle.dk_base.specs.declared.stencils.Image.{Image}
 use Rattle.dk_base.specs.declared.stencils.LiveRead.{LiveRead}
 use Rattle.dk_base.specs.Stencils.{Stencils, place, IsKept, Ascends, IsStencils}
-use Rattle.dk_base.proofs.Orders.{at_place, number_at}
+use Rattle.dk_base.proofs.Orders.{at_place, kept_at, number_at, place_at}
 use Rattle.raster_delay.specs.declared.placed.PlacedRead.{PlacedRead}
 use Rattle.raster_delay.specs.Delays.{offset, AreReads, IsNear, IsForm}
 use Rattle.raster_delay.specs.Placing.{placed, reads_of}
@@ -37,6 +39,19 @@ module _ (images : List Image) (up : Ascends images) where
     | inl e ↦ omega (arith, ap (place images) e)
     | inr ne ↦ omega (arith, place_less a b ka kb (omega arith))
   ]
+
+cmp_equal : (a n : ℕ) → nat_cmp a n ≡ Equal → a ≡ n
+cmp_equal a n h = grind (arith, nat_tests, h)
+
+-- what a search finds is the place
+pub found_place : (images : List Image) (n i : ℕ) (d : Image) → Ascends images → i < length images → nat_cmp (slice_index_or images i d).number n ≡ Equal
+    → IsKept images n × (i ≡ place images n)
+found_place images n i d up within found =
+    let at = cmp_equal _ n found in
+    (kept_at images i n d within at, sym (place_at images i d up within) ∙ ap (place images) at)
+
+pub no_is_no : false ≡ true → ⊥
+no_is_no h = let e : ⊥ = cc in e
 
 near_offset : (w h : ℕ) (dy dx : ℤ) → w ≤ 4096 → h ≤ 4096 → neg_ℤ (pos h) <ℤ dy → dy <ℤ pos h → neg_ℤ (pos w) <ℤ dx → dx <ℤ pos w → IsNear (dy *ℤ pos w +ℤ dx)
 near_offset w h (pos a) dx columns rows l1 u1 l2 u2 =

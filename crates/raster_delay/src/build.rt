@@ -27,8 +27,8 @@ pub fn end_node(inputs: usize, images: usize, k: usize) -> usize
     images + 1 - inputs + k
 }
 
-// An image ends no earlier than it begins.
-fn hold_constraint(inputs: usize, images: usize, k: usize) -> Constraint
+/// The constraint of kind hold of the image at place `k`: it ends no earlier than it begins.
+pub fn hold_constraint(inputs: usize, images: usize, k: usize) -> Constraint
     requires inputs { inputs ≤ images }
     requires images { images < 2 ^ 32 }
     requires place { k < images }
@@ -41,8 +41,20 @@ fn hold_constraint(inputs: usize, images: usize, k: usize) -> Constraint
     }
 }
 
-// A read's age is at least so much.
-fn read_constraint(row: u32, age: u8, inputs: usize, r: PlacedRead) -> Constraint
+/// The constraint of kind start of the image at place `k`: it begins no earlier than the inputs.
+pub fn start_constraint(inputs: usize, k: usize) -> Constraint
+    requires { k < 2 ^ 32 }
+    ensures { result ≡ start inputs k }
+{
+    Constraint {
+        source: 0,
+        target: begin_node(inputs, k),
+        cost: 0,
+    }
+}
+
+/// The constraint of kind read of a live read: its age is at least `age` clocks. A frame has `row` columns.
+pub fn read_constraint(row: u32, age: u8, inputs: usize, r: PlacedRead) -> Constraint
     requires row { row ≤ MAX_SIDE }
     requires near { IsNear (offset row r) }
     requires reader { r.f < 2 ^ 32 }
@@ -57,8 +69,8 @@ fn read_constraint(row: u32, age: u8, inputs: usize, r: PlacedRead) -> Constrain
     }
 }
 
-// A read's age is at most the depth of what is read.
-fn keep_constraint(row: u32, inputs: usize, images: usize, r: PlacedRead) -> Constraint
+/// The constraint of kind keep of a live read: its age is at most the depth of what is read. A frame has `row` columns.
+pub fn keep_constraint(row: u32, inputs: usize, images: usize, r: PlacedRead) -> Constraint
     requires row { row ≤ MAX_SIDE }
     requires near { IsNear (offset row r) }
     requires inputs { inputs ≤ images }
@@ -92,11 +104,7 @@ fn add_starts(all: &mut Vec<Constraint>, inputs: usize, images: usize) -> Result
     ensures { OnOk result (all.new.items ≡ all.old.items ++ starts_of inputs images) }
 {
     for k in inputs..images {
-        all.push(Constraint {
-            source: 0,
-            target: begin_node(inputs, k),
-            cost: 0,
-        })?;
+        all.push(start_constraint(inputs, k))?;
     }
     Ok(())
 }

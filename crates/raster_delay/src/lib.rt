@@ -9,10 +9,12 @@ mod numbers;
 mod placed;
 mod system;
 
-pub use build::{begin_node, end_node};
+pub use build::{
+    begin_node, end_node, hold_constraint, keep_constraint, read_constraint, start_constraint,
+};
 pub use laws::{flow_shows_least, weak_duality};
-pub use measure::{age_held, bits, causal, depth};
+pub use measure::{age, age_held, bits, causal, depth};
 pub use network::Constraint;
 pub use numbers::{begin_numbers, earliest, earliest_numbers, end_numbers};
-pub use placed::{PlacedRead, offset};
+pub use placed::{PlacedRead, find, offset, place_of, placed_read};
 pub use system::System;

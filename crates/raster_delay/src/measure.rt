@@ -1,6 +1,6 @@
 // Whether delays are causal, and the bits that they need.
 
-ghost use Rattle.std.specs.Prelude.{◌≡◌, ◌≢◌, max, ◌≤◌, ◌<◌, ◌^◌, ◌↔◌, ◌==◌, if◌then◌else◌, ℕ, pos, ◌≤ℤ◌, IsTrue, unsigned_abs, length, slice_index, All};
+ghost use Rattle.std.specs.Prelude.{◌≡◌, ◌≢◌, max, ◌≤◌, ◌<◌, ◌^◌, ◌↔◌, ◌==◌, if◌then◌else◌, ℕ, pos, ◌-ℤ◌, ◌≤ℤ◌, IsTrue, unsigned_abs, length, slice_index, All};
 ghost use Rattle.dk_base.specs.declared.TheConstants.{MAX_SIDE, MAX_KEPT_IMAGES};
 ghost use Rattle.raster_delay.specs.Network.{coefficient};
 ghost use Rattle.raster_delay.specs.Delays.{IsNear, AreReads, AreNear, offset, age_of, depth_of, bits_of, buffers_of};
@@ -12,15 +12,24 @@ use crate::placed::{PlacedRead, offset};
 use crate::system::System;
 use dk_base::Image;
 
-// How old a read is: negative where the pixel that is read comes later.
-fn age(row: u32, delays: &[u64], r: PlacedRead) -> i128
+/// How old a read is by the delays of the image that reads and of the one that is read, in clocks: negative where the pixel that is read comes later. A frame has `row` columns.
+pub fn age(row: u32, reader: u64, source: u64, r: PlacedRead) -> i128
+    requires row { row ≤ MAX_SIDE }
+    requires near { IsNear (offset row r) }
+    ensures { result ≡ pos reader -ℤ pos source -ℤ offset row r }
+{
+    i128::from(reader) - i128::from(source) - i128::from(offset(row, r))
+}
+
+// How old a read is by the delays of all kept images.
+fn age_among(row: u32, delays: &[u64], r: PlacedRead) -> i128
     requires row { row ≤ MAX_SIDE }
     requires near { IsNear (offset row r) }
     requires reader { r.f < length delays.now }
     requires earlier { r.g < length delays.now }
     ensures { result ≡ age_of row delays.now r }
 {
-    i128::from(delays[r.f]) - i128::from(delays[r.g]) - i128::from(offset(row, r))
+    age(row, delays[r.f], delays[r.g], r)
 }
 
 // Whether a read is at least so old.
@@ -31,7 +40,7 @@ fn is_due(row: u32, least: u8, delays: &[u64], r: PlacedRead) -> bool
     requires earlier { r.g < length delays.now }
     ensures { IsTrue result ↔ (pos least ≤ℤ age_of row delays.now r) }
 {
-    age(row, delays, r) >= i128::from(least)
+    age_among(row, delays, r) >= i128::from(least)
 }
 
 /// How old a read is, in clocks, where it is of no pixel that comes later. A frame has `row` columns.
@@ -45,7 +54,7 @@ pub fn age_held(row: u32, delays: &[u64], r: PlacedRead) -> u64
     ensures value { result ≡ unsigned_abs (age_of row delays.now r) }
     ensures near { result ≤ 2 ^ 35 }
 {
-    age(row, delays, r) as u64
+    age_among(row, delays, r) as u64
 }
 
 // Whether the first delays, which are the inputs', are all 0.

@@ -1,4 +1,4 @@
-use Rattle.std.proofs.Common.{◌∷◌, [], ◌++◌, ◌-◌, map, pos, arith, sym, ◌∙◌, ap}
+use Rattle.std.proofs.Common.{◌∷◌, [], ◌++◌, ◌-◌, map, arith, sym, ◌∙◌, ap}
 use Rattle.std.specs.List.{range_with_len}
 use Rattle.std.proofs.lemmas.List.{append_assoc}
 use Rattle.std.proofs.lemmas.List.FromFn.{map-range_with_len_more}
@@ -11,7 +11,7 @@ loop-k-preserved c =
     let i = c.args.inputs in
     let one = start i in
     let old = c.args.all.now.items in
-    c.in_ok-push.ensures.items ∙ ap (λ xs. xs ++ record { source = 0; target = c.begin_node.result; cost = pos 0 } ∷ []) c.loop-k.invariant
-    ∙ ap (λ x. (old ++ map one (range_with_len i (k - i))) ++ record { source = 0; target = x; cost = pos 0 } ∷ []) c.begin_node.ensures
+    c.in_ok-push.ensures.items ∙ ap (λ xs. xs ++ c.start_constraint.result ∷ []) c.loop-k.invariant
+    ∙ ap (λ x. (old ++ map one (range_with_len i (k - i))) ++ x ∷ []) c.start_constraint.ensures
     ∙ append_assoc old (map one (range_with_len i (k - i))) (one k ∷ [])
     ∙ ap (λ xs. old ++ xs) (sym (map-range_with_len_more one i (k - i) k (omega arith)) ∙ ap (λ n. map one (range_with_len i n)) (omega arith))

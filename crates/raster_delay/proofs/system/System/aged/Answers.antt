@@ -5,6 +5,11 @@ use Rattle.raster_delay.specs.Placing.{reads_of}
 use Rattle.raster_delay.proofs.Places.{placed_are}
 use Rattle.raster_delay.proofs.system.System.aged.Goals as goal
 
+pub placed_reads-requires-clause-ascending : goal.placed_reads-requires-clause-ascending
+placed_reads-requires-clause-ascending c =
+    let images : c.deref.result.now ≡ c.args.stencils.now.images = c.deref.ensures.value ∙ c.in_ok-images.ensures.items ∙ c.images.ensures in
+    rw images c.law.ensures.images.ascending
+
 pub placed_reads-requires-clause-readers : goal.placed_reads-requires-clause-readers
 placed_reads-requires-clause-readers c =
     let s = c.args.stencils.now in
