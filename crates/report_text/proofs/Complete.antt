@@ -15,6 +15,7 @@ use Rattle.report_text.specs.Layout.{plan_line, limits_line, age_line, size_line
 use Rattle.report_text.specs.Reading.{◌>>=◌, or_else, number_line_at, image_at, flow_at, place_of, within, follows, sized, imaged, delayed, counted, flowing, ended, next, is_final, nothing, reading_on, reading}
 use Rattle.report_text.proofs.Fields.{line_again, pair_again}
 use Rattle.report_text.proofs.ImageLines.{is_within, image_again}
+use Rattle.report_text.proofs.Orders.{Decides-line}
 use Rattle.report_text.proofs.FlowLines.{flow_again}
 use Rattle.report_text.proofs.Words.{some_image, same_not}
 use Rattle.report_text.proofs.Machine.{ending, from_flow, from_reads, from_clocks, from_latencies, from_images, from_size, IsLater}
@@ -64,7 +65,7 @@ all_mid P (y ∷ done) x rest a = all_mid P done x rest a.1
 
 follows_in : (done : List FlowLine) (x : FlowLine) (rest : List FlowLine) → Ascend (done ++ x ∷ rest) → follows done x ≡ true
 follows_in [] x rest a = refl
-follows_in (y ∷ []) x rest a = a.0
+follows_in (y ∷ []) x rest a = (Decides-line y x).1 a.0
 follows_in (y ∷ z ∷ done) x rest a = follows_in (z ∷ done) x rest a.1
 
 push_rest : {A : Type 0} (all done : List A) (x : A) (rest : List A) → all ≡ done ++ x ∷ rest → all ≡ (done ++ x ∷ []) ++ rest

@@ -1,5 +1,6 @@
 pub mod Chains
 pub mod Options
+pub mod Orders
 pub mod Fields
 pub mod Offsets
 pub mod Words

@@ -9,8 +9,8 @@ use Rattle.report_text.specs.declared.report.FlowLine.{FlowLine}
 use Rattle.report_text.specs.declared.report.FlowLine.TheVariants.{Read}
 use Rattle.report_text.specs.declared.step.Stage.TheVariants.{Images}
 use Rattle.report_text.specs.Names.{same_codes}
-use Rattle.report_text.specs.Reports.{Report, most_images, is_before}
-use Rattle.report_text.specs.Reading.{strip, word_at, find, place_of, carried_at, flow_at, image_at, imaged, follows}
+use Rattle.report_text.specs.Reports.{Report, most_images}
+use Rattle.report_text.specs.Reading.{strip, word_at, find, place_of, carried_at, flow_at, image_at, imaged, is_before, follows}
 use Rattle.report_text.proofs.Fields.{strip_takes}
 use Rattle.report_text.specs.Steps.{behind_names}
 

@@ -11,6 +11,7 @@ use Rattle.report_text.specs.declared.report.FlowLine.{FlowLine}
 use Rattle.report_text.specs.Names.{same_codes}
 use Rattle.report_text.specs.Reports.{Report, Meets, IsBare, IsImageLine, IsFlowLine, AreDistinct, names_of, Ascend, most_images, most_latencies}
 use Rattle.report_text.specs.Reading.{follows, place_of}
+use Rattle.report_text.proofs.Orders.{Decides-line}
 use Rattle.report_text.proofs.Words.{some_image, same_self}
 use Rattle.report_text.proofs.Machine.{with_latency, with_image, with_size, IsLater}
 
@@ -21,7 +22,7 @@ all_push P (y ∷ xs) x a h = (a.0, all_push P xs x a.1 h)
 
 pub ascend_push : (xs : List FlowLine) (x : FlowLine) → Ascend xs → follows xs x ≡ true → Ascend (xs ++ x ∷ [])
 ascend_push [] x a h = tt
-ascend_push (y ∷ []) x a h = (h, tt)
+ascend_push (y ∷ []) x a h = ((Decides-line y x).0 h, tt)
 ascend_push (y ∷ z ∷ xs) x a h = (a.0, ascend_push (z ∷ xs) x a.1 h)
 
 distinct_push : (names : List (List ℕ)) (n : List ℕ) → AreDistinct names → ((k : ℕ) → k < length names → get_or names k [] ≡ n → ⊥) → AreDistinct (names ++ n ∷ [])

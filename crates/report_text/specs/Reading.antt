@@ -1,7 +1,9 @@
 -- Used by private functions alone.
 -- How a report's text is read, as functions on bytes.
-use Rattle.std.specs.Prelude.{ℕ, ℤ, pos, neg_ℤ, suc, ◌-◌, ◌^◌, List, [], ◌∷◌, ◌++◌, length, take, drop, codes, Option, Some, None, Result, Ok, Err, Bool, true, false, ◌&&◌, ◌||◌, not, nat_lt, nat_eq, if◌then◌else◌}
+use Rattle.std.specs.Prelude.{ℕ, ℤ, pos, neg_ℤ, suc, ◌-◌, ◌^◌, List, [], ◌∷◌, ◌++◌, length, take, drop, codes, Option, Some, None, Result, Ok, Err, Bool, true, false, ◌&&◌, ◌||◌, not, nat_lt, nat_eq, int_lt, if◌then◌else◌}
 use Rattle.std.specs.List.{prefix_len, position_or_len}
+use Rattle.std.specs.Ordering.{int_eq}
+use Rattle.dk_base.specs.declared.stencils.LiveRead.{LiveRead}
 use Rattle.dk_base.specs.declared.TheConstants.{MAX_SIDE, MAX_AGE, MAX_WIDTH}
 use Rattle.report_text.specs.declared.report.ImageLine.{ImageLine}
 use Rattle.report_text.specs.declared.report.FlowLine.{FlowLine}
@@ -11,7 +13,7 @@ use Rattle.report_text.specs.declared.step.Stage.TheVariants.{Start, Plan, Limit
 use Rattle.dk_base.specs.Ascii.{is_digit, is_word_byte}
 use Rattle.report_text.specs.Names.{is_name, same_codes}
 use Rattle.dk_base.specs.Ascii.{value_of}
-use Rattle.report_text.specs.Reports.{Report, is_before, most_images, most_latencies}
+use Rattle.report_text.specs.Reports.{Report, kind, read_named, most_images, most_latencies}
 
 infixl 10 ◌>>=◌
 abbrev pub ◌>>=◌ : {A B : Type 0} → Option A → (A → Option B) → Option B
@@ -137,6 +139,13 @@ flow_at images line =
     or_else (strip (codes "flow hold ") line >>= held_at Hold images)
     (or_else (strip (codes "flow start ") line >>= held_at StartFlow images)
     (or_else (strip (codes "flow read ") line >>= carried_at Read images) (strip (codes "flow keep ") line >>= carried_at Keep images)))
+
+-- the tests of the order of live reads and of flow lines
+abbrev pub is_read_before : LiveRead → LiveRead → Bool
+is_read_before a b = nat_lt a.f b.f || (nat_eq a.f b.f && (nat_lt a.g b.g || (nat_eq a.g b.g && (int_lt a.dy b.dy || (int_eq a.dy b.dy && int_lt a.dx b.dx)))))
+
+abbrev pub is_before : FlowLine → FlowLine → Bool
+is_before a b = nat_lt (kind a) (kind b) || (nat_eq (kind a) (kind b) && is_read_before (read_named a) (read_named b))
 
 -- a flow line may follow these
 abbrev pub follows : List FlowLine → FlowLine → Bool

@@ -1,7 +1,8 @@
 -- What a report says, and what its values keep.
-use Rattle.std.specs.Prelude.{◌≡◌, ◌≢◌, ℕ, ℤ, pos, neg_ℤ, ◌+◌, ◌-◌, ◌^◌, ◌<◌, ◌≤◌, ◌≤ℤ◌, Bool, true, false, ◌&&◌, ◌||◌, nat_lt, nat_eq, int_lt, if◌then◌else◌, List, [], ◌∷◌, length, map, slice_index_or, All}
+use Rattle.std.specs.Prelude.{◌≡◌, ◌≢◌, ℕ, ℤ, pos, neg_ℤ, ◌+◌, ◌-◌, ◌^◌, ◌<◌, ◌≤◌, ◌≤ℤ◌, true, nat_eq, if◌then◌else◌, List, [], ◌∷◌, length, map, slice_index_or, All}
 use Rattle.std.specs.List.{AllByRecursion}
-use Rattle.std.specs.Ordering.{int_eq}
+use Rattle.dk_base.specs.declared.stencils.LiveRead.{LiveRead}
+use Rattle.dk_base.specs.Stencils.{IsBefore}
 use Rattle.dk_base.specs.declared.TheConstants.{MAX_SIDE, MAX_AGE, MAX_WIDTH, MAX_DEFINITIONS, MAX_KEPT_IMAGES, MAX_OUTPUTS}
 use Rattle.report_text.specs.declared.report.ImageLine.{ImageLine}
 use Rattle.report_text.specs.declared.report.FlowLine.{FlowLine}
@@ -65,27 +66,30 @@ IsFlowLine count (Start f n) = (f < count) × IsAmount n
 IsFlowLine count (Read f g dx dy n) = (f < count) × (g < count) × IsOffset dx × IsOffset dy × IsAmount n
 IsFlowLine count (Keep f g dx dy n) = (f < count) × (g < count) × IsOffset dx × IsOffset dy × IsAmount n
 
--- What a flow line is ordered by: its kind, the images that it names, then row and column; 0 where it has none.
-abbrev pub key : FlowLine → ℕ × ℕ × ℕ × ℤ × ℤ
-key (Hold g n) = (0, g, 0, pos 0, pos 0)
-key (Start f n) = (1, f, 0, pos 0, pos 0)
-key (Read f g dx dy n) = (2, f, g, dy, dx)
-key (Keep f g dx dy n) = (3, f, g, dy, dx)
+-- the kinds of flow lines in their order: hold, start, read, keep
+abbrev pub kind : FlowLine → ℕ
+kind (Hold g n) = 0
+kind (Start f n) = 1
+kind (Read f g dx dy n) = 2
+kind (Keep f g dx dy n) = 3
 
--- lexicographic order: less where they first differ
-abbrev pub is_less : (a b : ℕ × ℕ × ℕ × ℤ × ℤ) → Bool
-is_less a b =
-    nat_lt a.0 b.0 || (nat_eq a.0 b.0 && (nat_lt a.1 b.1 || (nat_eq a.1 b.1 && (nat_lt a.2 b.2 || (nat_eq a.2 b.2 && (int_lt a.3 b.3 || (int_eq a.3 b.3 && int_lt a.4 b.4)))))))
+-- the live read that a flow line names, its images by their places; an image alone stands as a read by it, of the first image
+abbrev pub read_named : FlowLine → LiveRead
+read_named (Hold g n) = record { f = g; g = 0; dx = pos 0; dy = pos 0 }
+read_named (Start f n) = record { f = f; g = 0; dx = pos 0; dy = pos 0 }
+read_named (Read f g dx dy n) = record { f = f; g = g; dx = dx; dy = dy }
+read_named (Keep f g dx dy n) = record { f = f; g = g; dx = dx; dy = dy }
 
--- one flow line stands before another
-abbrev pub is_before : FlowLine → FlowLine → Bool
-is_before a b = is_less (key a) (key b)
+-- one flow line stands before another: by kind, and within a kind as live reads do
+pub record StandsBefore (a b : FlowLine) : Type 0 where
+  pub kinds : kind a ≤ kind b
+  pub reads : kind a ≡ kind b → IsBefore (read_named a) (read_named b)
 
 -- each stands before the next one
 abbrev pub Ascend : List FlowLine → Type 0
 Ascend [] = Unit {0}
 Ascend (a ∷ []) = Unit {0}
-Ascend (a ∷ b ∷ more) = (is_before a b ≡ true) × Ascend (b ∷ more)
+Ascend (a ∷ b ∷ more) = StandsBefore a b × Ascend (b ∷ more)
 
 -- a report of version 3 is for any number of inputs and outputs, and the others are for one of each
 abbrev pub most_images : (version : ℕ) → ℕ

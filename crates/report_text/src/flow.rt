@@ -1,13 +1,14 @@
 // Flow lines, and their order.
 
-ghost use Rattle.std.specs.Prelude.{◌≡◌, ℕ, ℤ, Some, None, MatchOption};
+ghost use Rattle.std.specs.Prelude.{◌≡◌, ℕ, ℤ, Some, None, MatchOption, IsTrue};
 ghost use Rattle.report_text.specs.declared.report.FlowLine.{FlowLine};
-ghost use Rattle.report_text.specs.Reports.{key, is_less as less, is_before as before};
+ghost use Rattle.report_text.specs.Reports.{kind, read_named, StandsBefore};
 ghost use Rattle.report_text.specs.Reading.{held_at, carried_at, flow_at, follows};
 ghost use Rattle.report_text.specs.Steps.{behind_names};
 
 use crate::field::{amount, find, offset_at, strip, word_at};
 use crate::report::{FlowLine, ImageLine};
+use dk_base::is_before;
 
 // An image and a flow.
 #[tactic(auto, unfolding(crate::specs::Reading::held_at))]
@@ -88,46 +89,51 @@ pub(crate) fn flow_line(images: &[ImageLine], line: &[u8]) -> Option<FlowLine>
     })
 }
 
-// What a flow line is ordered by: its kind, the images that it names, then row and column.
-fn key(line: FlowLine) -> (u8, usize, usize, i32, i32)
-    ensures { (result.0, result.1, result.2, result.3, result.4) ≡ key line }
+// The place of a flow line's kind among the kinds.
+fn kind(line: FlowLine) -> u8
+    ensures { result ≡ kind line }
 {
     match line {
-        FlowLine::Hold { image, .. } => (0, image, 0, 0, 0),
-        FlowLine::Start { image, .. } => (1, image, 0, 0, 0),
+        FlowLine::Hold { .. } => 0,
+        FlowLine::Start { .. } => 1,
+        FlowLine::Read { .. } => 2,
+        FlowLine::Keep { .. } => 3,
+    }
+}
+
+// What flow lines of a kind are ordered by: the images that they name, row and column; 0 where a line has none.
+fn order_of(line: FlowLine) -> (usize, usize, i32, i32)
+    ensures { record { f = result.0; g = result.1; dy = result.2; dx = result.3 } ≡ read_named line }
+{
+    match line {
+        FlowLine::Hold { image, .. } => (image, 0, 0, 0),
+        FlowLine::Start { image, .. } => (image, 0, 0, 0),
         FlowLine::Read {
             reader,
             source,
             dx,
             dy,
             ..
-        } => (2, reader, source, dy, dx),
+        } => (reader, source, dy, dx),
         FlowLine::Keep {
             reader,
             source,
             dx,
             dy,
             ..
-        } => (3, reader, source, dy, dx),
+        } => (reader, source, dy, dx),
     }
 }
 
-// Whether one is less where they first differ.
-fn is_less(a: (u8, usize, usize, i32, i32), b: (u8, usize, usize, i32, i32)) -> bool
-    ensures { result ≡ less (a.0, a.1, a.2, a.3, a.4) (b.0, b.1, b.2, b.3, b.4) }
-{
-    a.0 < b.0
-        || (a.0 == b.0
-            && (a.1 < b.1
-                || (a.1 == b.1
-                    && (a.2 < b.2 || (a.2 == b.2 && (a.3 < b.3 || (a.3 == b.3 && a.4 < b.4)))))))
-}
-
 // Whether a flow line stands before another one.
-fn is_before(left: FlowLine, right: FlowLine) -> bool
-    ensures { result ≡ before left right }
+fn stands_before(a: FlowLine, b: FlowLine) -> bool
+    ensures yes { IsTrue result → StandsBefore a b }
+    ensures no { StandsBefore a b → IsTrue result }
 {
-    is_less(key(left), key(right))
+    if kind(a) != kind(b) {
+        return kind(a) < kind(b);
+    }
+    is_before(order_of(a), order_of(b))
 }
 
 // Whether a flow line may follow these.
@@ -136,6 +142,6 @@ pub(crate) fn may_follow(flow: &[FlowLine], line: FlowLine) -> bool
 {
     match flow.last() {
         None => true,
-        Some(last) => is_before(*last, line),
+        Some(last) => stands_before(*last, line),
     }
 }
