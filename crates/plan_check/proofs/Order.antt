@@ -1,21 +1,16 @@
 -- Live reads by place stand in order, so that none stands twice.
-use Rattle.std.proofs.Common.{◌≡◌, ◌<◌, ◌≤◌, ℕ, ℤ, pos, true, false, Bool, eqb, ltb, List, map, length, slice_index_or, ◌⊎◌, ◌+◌, ◌∙◌, refl, sym, ap, subst, arith, inl, inr}
-use Rattle.std.specs.Prelude.{◌<ℤ◌, ◌&&◌, ◌||◌, int_lt}
-use Rattle.std.specs.Ordering.{int_eq}
+use Rattle.std.proofs.Common.{◌≡◌, ◌<◌, ◌≤◌, ℕ, pos, List, map, length, slice_index_or, ◌+◌, ◌∙◌, sym, ap, subst, arith, inl, inr}
 use Rattle.std.proofs.lemmas.Int.{ints}
 use Rattle.std.proofs.lemmas.Bool.{cases_eq}
-use Rattle.std.proofs.lemmas.Bool.Decides.{nat_tests, Decides-int_eq}
 use Rattle.std.proofs.lemmas.List.{get_or-map, get_or_default, length-map}
 use Rattle.dk_base.specs.declared.stencils.Image.{Image}
 use Rattle.dk_base.specs.declared.stencils.LiveRead.{LiveRead}
 use Rattle.dk_base.specs.Stencils.{place, IsKept, Ascends, IsBefore}
 use Rattle.dk_base.proofs.Orders.{at_place}
-use Rattle.dk_base.proofs.Compare.{int_lt_cases}
 use Rattle.raster_delay.specs.declared.placed.PlacedRead.{PlacedRead}
 use Rattle.raster_delay.specs.Placing.{placed}
 use Rattle.raster_delay.specs.Systems.{System, IsSystem, placed_reads}
 use Rattle.raster_delay.proofs.Places.{place_le}
-use Rattle.report_text.specs.Reports.{is_less}
 use Rattle.plan_check.specs.Orders.{by_place, IsEarlier, AreSorted}
 
 -- not one before the other and the other before the one
@@ -40,7 +35,7 @@ module _ (images : List Image) (up : Ascends images) where
       let none : Image = record { number = 0; width = 0 } in
       omega (arith, at_place images a none ka, at_place images b none kb, ap (λ k. (slice_index_or images k none).number) e)
 
-  earlier_placed : (a b : LiveRead) → IsKept images a.f → IsKept images a.g → IsKept images b.f → IsKept images b.g → IsBefore a b → IsEarlier (placed images a) (placed images b)
+  pub earlier_placed : (a b : LiveRead) → IsKept images a.f → IsKept images a.g → IsKept images b.f → IsKept images b.g → IsBefore a b → IsEarlier (placed images a) (placed images b)
   earlier_placed a b af ag bf bg h = record {
     reader = place_le images up a.f b.f af bf h.reader;
     source = λ e. place_le images up a.g b.g ag bg (h.source (place_same a.f b.f af bf e));
@@ -65,42 +60,6 @@ AreSorted-placed s is i j d lt below =
     let here = earlier_placed images is.stencils.images.ascending a b ra.reader_kept ra.source_kept rb.reader_kept rb.source_kept (is.stencils.reads.in_order i j none lt short) in
     subst (λ x. IsBefore x (slice_index_or (map by_place (placed_reads s)) j d)) (sym (at i (omega (arith, lt, short))))
     (subst (λ y. IsBefore (by_place (placed images a)) y) (sym (at j short)) here)
-
--- the last part of a test by four parts
-third : (a b c d e k l : Bool) → (a || (b && (c || (d && (e || (k && l)))))) ≡ true → a ≡ false → c ≡ false → (e ≡ true) ⊎ ((k ≡ true) × (l ≡ true))
-third true b c d e k l h p q = absurd (let e : ⊥ = cc in e)
-third false false c d e k l h p q = absurd (let e : ⊥ = cc in e)
-third false true true d e k l h p q = absurd (let e : ⊥ = cc in e)
-third false true false false e k l h p q = absurd (let e : ⊥ = cc in e)
-third false true false true true k l h p q = inl refl
-third false true false true false true true h p q = inr (refl, refl)
-third false true false true false true false h p q = absurd (let e : ⊥ = cc in e)
-third false true false true false false l h p q = absurd (let e : ⊥ = cc in e)
-
-ltb_same : (a b : ℕ) → a ≡ b → ltb a b ≡ false
-ltb_same a b e = grind (arith, nat_tests)
-
-int_less : (a b : ℤ) → int_lt a b ≡ true → a <ℤ b
-int_less a b t = elim (int_lt_cases a b) [ inl h ↦ h.0 | inr h ↦ absurd (let e : ⊥ = cc (h.1, t) in e) ]
-
--- what the test on flow lines says
-module _ (f g : ℕ) (dx dy : ℤ) (f' g' : ℕ) (dx' dy' : ℤ) (h : is_less (0, f, g, dy, dx) (0, f', g', dy', dx') ≡ true) where
-  last_parts : f ≡ f' → g ≡ g' → (int_lt dy dy' ≡ true) ⊎ ((int_eq dy dy' ≡ true) × (int_lt dx dx' ≡ true))
-  last_parts e k = third (ltb f f') (eqb f f') (ltb g g') (eqb g g') (int_lt dy dy') (int_eq dy dy') (int_lt dx dx') h (ltb_same f f' e) (ltb_same g g' k)
-
-  pub earlier_from_test : IsEarlier (record { f = f; g = g; dx = dx; dy = dy }) (record { f = f'; g = g'; dx = dx'; dy = dy' })
-  earlier_from_test = record {
-    reader = grind (arith, nat_tests, h);
-    source = λ e. grind (arith, nat_tests, h, e);
-    rows = λ e k. elim (last_parts e k) [
-      | inl t ↦ let l = int_less dy dy' t in omega (arith, ints, l)
-      | inr t ↦ let y : dy ≡ dy' = (Decides-int_eq dy dy').0 t.0 in omega (arith, ints, y)
-    ];
-    columns = λ e k y. elim (last_parts e k) [
-      | inl t ↦ let l = int_less dy dy' t in absurd (omega (arith, ints, l, y))
-      | inr t ↦ int_less dx dx' t.1
-    ];
-  }
 
 -- of two reads in order the one stands before the other
 sorted_at : (reads : List PlacedRead) → AreSorted reads → (i j : ℕ) (d : PlacedRead) → i < j → j < length reads → IsEarlier (slice_index_or reads i d) (slice_index_or reads j d)

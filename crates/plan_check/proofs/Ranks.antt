@@ -1,24 +1,37 @@
 -- Flow lines that ascend and name constraints are at most as many as these.
-use Rattle.std.proofs.Common.{◌≡◌, ◌<◌, ◌≤◌, ◌+◌, ◌-◌, ◌*◌, ◌^◌, ℕ, zero, suc, true, false, List, [], ◌∷◌, length, slice_index_or, sym, ap, subst, arith, inl, inr, ◌∙◌}
-use Rattle.std.specs.Prelude.{Contains, nat_lt, nat_eq, ◌&&◌, ◌||◌}
+use Rattle.std.proofs.Common.{◌≡◌, ◌<◌, ◌≤◌, ◌+◌, ◌-◌, ◌*◌, ◌^◌, ℕ, zero, suc, pos, List, [], ◌∷◌, length, slice_index_or, refl, sym, ap, subst, arith, inl, inr, ◌∙◌}
+use Rattle.std.specs.Prelude.{Contains, ◌<ℤ◌}
+use Rattle.std.proofs.lemmas.Int.{ints}
 use Rattle.std.proofs.lemmas.Bool.{cases_lt, cases_eq}
-use Rattle.std.proofs.lemmas.Bool.Decides.{nat_tests}
 use Rattle.std.proofs.lemmas.List.{get_or_default}
+use Rattle.dk_base.specs.Stencils.{IsBefore}
 use Rattle.raster_delay.specs.declared.placed.PlacedRead.{PlacedRead}
 use Rattle.raster_delay.specs.Systems.{System, IsSystem, image_count, placed_reads}
 use Rattle.raster_delay.proofs.Places.{system_form}
 use Rattle.report_text.specs.declared.report.FlowLine.{FlowLine}
 use Rattle.report_text.specs.declared.report.FlowLine.TheVariants.{Hold, Start, Read, Keep}
-use Rattle.report_text.specs.Reports.{Ascend, is_before}
+use Rattle.report_text.specs.Reports.{StandsBefore, Ascend}
 use Rattle.plan_check.specs.Holding.{HasConstraint, read_at}
 use Rattle.plan_check.specs.Judging.{line_at}
 use Rattle.plan_check.specs.Orders.{IsEarlier}
-use Rattle.plan_check.proofs.Order.{in_order, not_both, earlier_from_test}
+use Rattle.plan_check.proofs.Order.{in_order, not_both}
 
-less : (a b : ℕ) → (nat_lt a b || (nat_eq a b && false)) ≡ true → a < b
-less a b h = grind (arith, nat_tests)
+-- of two lines of one kind that name an image alone
+image_rises : (f g : ℕ) → IsBefore (record { f = f; g = 0; dx = pos 0; dy = pos 0 }) (record { f = g; g = 0; dx = pos 0; dy = pos 0 }) → f < g
+image_rises f g b = elim (cases_lt f g) [
+  | inl lt ↦ lt
+  | inr le ↦
+      let most = b.reader in
+      let e : f ≡ g = omega (arith, most, le) in
+      let apart : pos 0 <ℤ pos 0 = b.columns e refl refl in
+      absurd (omega (arith, ints, apart))
+]
 
-ascend_at : (flow : List FlowLine) (k : ℕ) (d : FlowLine) → Ascend flow → suc k < length flow → is_before (slice_index_or flow k d) (slice_index_or flow (suc k) d) ≡ true
+-- a line of a later kind stands before none of an earlier one
+kinds_fall : (j k : ℕ) → k < j → j ≤ k → ⊥
+kinds_fall j k lt le = omega (arith, lt, le)
+
+ascend_at : (flow : List FlowLine) (k : ℕ) (d : FlowLine) → Ascend flow → suc k < length flow → StandsBefore (slice_index_or flow k d) (slice_index_or flow (suc k) d)
 ascend_at [] k d up lt = absurd (omega (arith, lt))
 ascend_at (a ∷ []) k d up lt = absurd (omega (arith, lt))
 ascend_at (a ∷ b ∷ more) zero d up lt = up.0
@@ -57,23 +70,23 @@ module _ (s : System) (is : IsSystem s) where
         ]
       ]
 
-  pub rank_rises : (x y : FlowLine) (h : HasConstraint s x) (j : HasConstraint s y) → is_before x y ≡ true → rank x h < rank y j
-  rank_rises (Hold g n) (Hold g' n') h j b = less g g' b
+  pub rank_rises : (x y : FlowLine) (h : HasConstraint s x) (j : HasConstraint s y) → StandsBefore x y → rank x h < rank y j
+  rank_rises (Hold g n) (Hold g' n') h j b = image_rises g g' (b.reads refl)
   rank_rises (Hold g n) (Start f' n') h j b = omega (arith, h, j.0)
   rank_rises (Hold g n) (Read f' g' dx' dy' n') h j b = omega (arith, h)
   rank_rises (Hold g n) (Keep f' g' dx' dy' n') h j b = omega (arith, h)
-  rank_rises (Start f n) (Hold g' n') h j b = let e : ⊥ = cc in absurd e
-  rank_rises (Start f n) (Start f' n') h j b = omega (arith, h.0, j.0, less f f' b)
+  rank_rises (Start f n) (Hold g' n') h j b = absurd (kinds_fall 1 0 (omega arith) b.kinds)
+  rank_rises (Start f n) (Start f' n') h j b = omega (arith, h.0, j.0, image_rises f f' (b.reads refl))
   rank_rises (Start f n) (Read f' g' dx' dy' n') h j b = omega (arith, h.0, h.1)
   rank_rises (Start f n) (Keep f' g' dx' dy' n') h j b = omega (arith, h.0, h.1)
-  rank_rises (Read f g dx dy n) (Hold g' n') h j b = let e : ⊥ = cc in absurd e
-  rank_rises (Read f g dx dy n) (Start f' n') h j b = let e : ⊥ = cc in absurd e
-  rank_rises (Read f g dx dy n) (Read f' g' dx' dy' n') h j b = omega (arith, place_rises (read_at f g dx dy) (read_at f' g' dx' dy') h j (earlier_from_test f g dx dy f' g' dx' dy' b))
+  rank_rises (Read f g dx dy n) (Hold g' n') h j b = absurd (kinds_fall 2 0 (omega arith) b.kinds)
+  rank_rises (Read f g dx dy n) (Start f' n') h j b = absurd (kinds_fall 2 1 (omega arith) b.kinds)
+  rank_rises (Read f g dx dy n) (Read f' g' dx' dy' n') h j b = omega (arith, place_rises (read_at f g dx dy) (read_at f' g' dx' dy') h j (b.reads refl))
   rank_rises (Read f g dx dy n) (Keep f' g' dx' dy' n') h j b = omega (arith, h.1)
-  rank_rises (Keep f g dx dy n) (Hold g' n') h j b = let e : ⊥ = cc in absurd e
-  rank_rises (Keep f g dx dy n) (Start f' n') h j b = let e : ⊥ = cc in absurd e
-  rank_rises (Keep f g dx dy n) (Read f' g' dx' dy' n') h j b = let e : ⊥ = cc in absurd e
-  rank_rises (Keep f g dx dy n) (Keep f' g' dx' dy' n') h j b = omega (arith, place_rises (read_at f g dx dy) (read_at f' g' dx' dy') h j (earlier_from_test f g dx dy f' g' dx' dy' b))
+  rank_rises (Keep f g dx dy n) (Hold g' n') h j b = absurd (kinds_fall 3 0 (omega arith) b.kinds)
+  rank_rises (Keep f g dx dy n) (Start f' n') h j b = absurd (kinds_fall 3 1 (omega arith) b.kinds)
+  rank_rises (Keep f g dx dy n) (Read f' g' dx' dy' n') h j b = absurd (kinds_fall 3 2 (omega arith) b.kinds)
+  rank_rises (Keep f g dx dy n) (Keep f' g' dx' dy' n') h j b = omega (arith, place_rises (read_at f g dx dy) (read_at f' g' dx' dy') h j (b.reads refl))
 
   module _ (flow : List FlowLine) (up : Ascend flow) where
     climbs : (k : ℕ) → k < length flow → ((i : ℕ) → i < suc k → HasConstraint s (line_at flow i)) → (h : HasConstraint s (line_at flow k)) → k ≤ rank (line_at flow k) h

@@ -5,18 +5,18 @@ ghost use Rattle.dk_base.specs.declared.TheConstants.{MAX_SIDE};
 ghost use Rattle.raster_delay.specs.Delays.{IsNear, AreReads, offset, age_of, depth_of};
 ghost use Rattle.plan_check.specs.Holding.{delays_of};
 
-use raster_delay::{PlacedRead, offset};
+use raster_delay::{PlacedRead, age};
 use report_text::ImageLine;
 
-// How old a read is: negative where the pixel that is read comes later.
-fn age(row: u32, images: &[ImageLine], r: PlacedRead) -> i128
+// How old a read is by the printed delays.
+fn printed_age(row: u32, images: &[ImageLine], r: PlacedRead) -> i128
     requires row { row ≤ MAX_SIDE }
     requires near { IsNear (offset row r) }
     requires reader { r.f < length images.now }
     requires earlier { r.g < length images.now }
     ensures { result ≡ age_of row (delays_of images.now) r }
 {
-    i128::from(images[r.f].delay) - i128::from(images[r.g].delay) - i128::from(offset(row, r))
+    age(row, images[r.f].delay, images[r.g].delay, r)
 }
 
 // Whether a read is at least so old, where it is of the image at place `g`.
@@ -31,7 +31,7 @@ fn is_old(row: u32, least: u8, images: &[ImageLine], r: PlacedRead, g: usize) ->
     if r.g != g {
         return true;
     }
-    age(row, images, r) >= i128::from(least)
+    printed_age(row, images, r) >= i128::from(least)
 }
 
 // Whether each live read of the image at place `g` is at least so old.
@@ -66,7 +66,7 @@ fn deeper(row: u32, images: &[ImageLine], r: PlacedRead, g: usize, greatest: u12
     ensures of_others { r.g ≢ g → result ≡ greatest }
 {
     if r.g == g {
-        greatest.max(age(row, images, r).unsigned_abs())
+        greatest.max(printed_age(row, images, r).unsigned_abs())
     } else {
         greatest
     }

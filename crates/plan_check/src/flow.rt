@@ -3,7 +3,7 @@
 ghost use Rattle.std.specs.Prelude.{◌≡◌, ◌≤◌, ◌<◌, ◌^◌, ◌+◌, ◌==◌, ◌↔◌, if◌then◌else◌, ℕ, pos, neg_ℤ, ◌-ℤ◌, ◌*ℤ◌, ◌≤ℤ◌, length, slice_index, All, Contains, IsTrue};
 ghost use Rattle.dk_base.specs.declared.TheConstants.{MAX_SIDE, MAX_AGE, MAX_KEPT_IMAGES};
 ghost use Rattle.raster_delay.specs.Network.{inflow, outflow, worth};
-ghost use Rattle.raster_delay.specs.Delays.{IsNear, IsSmall, offset, hold, start, read, keep};
+ghost use Rattle.raster_delay.specs.Delays.{IsNear, IsSmall, offset};
 ghost use Rattle.raster_delay.specs.Systems.{image_count, placed_reads, nodes, coefficient_in};
 ghost use Rattle.report_text.specs.Reports.{Ascend};
 ghost use Rattle.plan_check.specs.Flows.{amount_of};
@@ -11,7 +11,10 @@ ghost use Rattle.plan_check.specs.Holding.{HasConstraint, FlowHolds};
 ghost use Rattle.plan_check.specs.Sums.{SumsHold, constraint_of, carriers, amounts};
 
 use crate::lines::named;
-use raster_delay::{Constraint, PlacedRead, System, begin_node, end_node, offset};
+use raster_delay::{
+    Constraint, PlacedRead, System, hold_constraint, keep_constraint, read_constraint,
+    start_constraint,
+};
 use report_text::FlowLine;
 
 // The most nodes of a system: those of 264 images and one input.
@@ -37,83 +40,39 @@ fn limits(system: &System)
     system.law();
 }
 
-fn hold_of(system: &System, k: usize) -> Constraint
-    requires { k < image_count system.now }
-    ensures { result ≡ hold system.now.stencils.inputs (image_count system.now) k }
-{
-    limits(system);
-    let inputs = system.inputs();
-    Constraint {
-        source: begin_node(inputs, k),
-        target: end_node(inputs, system.images().len(), k),
-        cost: 0,
-    }
-}
-
-fn start_of(system: &System, k: usize) -> Constraint
-    requires { k < image_count system.now }
-    ensures { result ≡ start system.now.stencils.inputs k }
-{
-    limits(system);
-    Constraint {
-        source: 0,
-        target: begin_node(system.inputs(), k),
-        cost: 0,
-    }
-}
-
-fn read_of(system: &System, r: PlacedRead) -> Constraint
-    requires { Contains (placed_reads system.now) r }
-    ensures { result ≡ read system.now.stencils.width system.now.age system.now.stencils.inputs r }
-{
-    limits(system);
-    read_law(system, r);
-    let inputs = system.inputs();
-    let least = offset(system.width(), r) + i64::from(system.age());
-    Constraint {
-        source: begin_node(inputs, r.g),
-        target: begin_node(inputs, r.f),
-        cost: least,
-    }
-}
-
-fn keep_of(system: &System, r: PlacedRead) -> Constraint
-    requires { Contains (placed_reads system.now) r }
-    ensures { result ≡ keep system.now.stencils.width system.now.stencils.inputs (image_count system.now) r }
-{
-    limits(system);
-    read_law(system, r);
-    let inputs = system.inputs();
-    let most = -offset(system.width(), r);
-    Constraint {
-        source: begin_node(inputs, r.f),
-        target: end_node(inputs, system.images().len(), r.g),
-        cost: most,
-    }
-}
-
 // The constraint that a flow line names.
 fn constraint_of(system: &System, line: FlowLine) -> Constraint
     requires { HasConstraint system.now line }
     ensures { result ≡ constraint_of system.now line }
 {
+    limits(system);
+    let inputs = system.inputs();
+    let images = system.images().len();
     match line {
-        FlowLine::Hold { image, .. } => hold_of(system, image),
-        FlowLine::Start { image, .. } => start_of(system, image),
+        FlowLine::Hold { image, .. } => hold_constraint(inputs, images, image),
+        FlowLine::Start { image, .. } => start_constraint(inputs, image),
         FlowLine::Read {
             reader,
             source,
             dx,
             dy,
             ..
-        } => read_of(system, named(reader, source, dx, dy)),
+        } => {
+            let read = named(reader, source, dx, dy);
+            read_law(system, read);
+            read_constraint(system.width(), system.age(), inputs, read)
+        }
         FlowLine::Keep {
             reader,
             source,
             dx,
             dy,
             ..
-        } => keep_of(system, named(reader, source, dx, dy)),
+        } => {
+            let read = named(reader, source, dx, dy);
+            read_law(system, read);
+            keep_constraint(system.width(), inputs, images, read)
+        }
     }
 }
 

@@ -7,8 +7,8 @@ ghost use Rattle.plan_check.specs.Orders.{IsEarlier, AreSorted};
 ghost use Rattle.plan_check.specs.Holding.{ImageHolds, LatencyHolds, HasConstraint, read_at};
 
 use crate::ages::{are_old, depth};
-use crate::sums::place_of;
-use raster_delay::{PlacedRead, System};
+use dk_base::is_before;
+use raster_delay::{PlacedRead, System, place_of};
 use report_text::{FlowLine, ImageLine};
 
 // Whether the image line at a place is right.
@@ -67,16 +67,7 @@ fn is_earlier(a: PlacedRead, b: PlacedRead) -> bool
     ensures yes { IsTrue result → IsEarlier a b }
     ensures no { IsEarlier a b → IsTrue result }
 {
-    if a.f != b.f {
-        return a.f < b.f;
-    }
-    if a.g != b.g {
-        return a.g < b.g;
-    }
-    if a.dy != b.dy {
-        return a.dy < b.dy;
-    }
-    a.dx < b.dx
+    is_before((a.f, a.g, a.dy, a.dx), (b.f, b.g, b.dy, b.dx))
 }
 
 // A law: a system's live reads stand in order.

@@ -2,11 +2,9 @@
 
 ghost use Rattle.std.specs.Prelude.{◌≡◌, ◌≤◌, ◌<◌, ◌^◌, ◌*◌, length, max, sum_by};
 ghost use Rattle.dk_base.specs.declared.TheConstants.{MAX_KEPT_IMAGES};
-ghost use Rattle.dk_base.specs.Stencils.{place};
 ghost use Rattle.plan_check.specs.Holding.{greatest};
 ghost use Rattle.plan_check.specs.Sums.{bits_of_lines};
 
-use dk_base::Image;
 use report_text::ImageLine;
 
 // The greatest of these numbers, 0 of none.
@@ -38,15 +36,4 @@ pub(crate) fn bits(images: &[ImageLine]) -> u128
         total += bits_of(image);
     }
     total
-}
-
-// The place of an image among the kept ones, or their count where it is not kept.
-pub(crate) fn place_of(images: &[Image], number: u32) -> usize
-    ensures { result ≡ place images.now number }
-{
-    let mut place = 0;
-    while place < images.len() && images[place].number != number {
-        place += 1;
-    }
-    place
 }

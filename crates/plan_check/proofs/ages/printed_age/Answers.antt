@@ -3,7 +3,7 @@ use Rattle.std.proofs.lemmas.Int.{ints}
 use Rattle.std.proofs.lemmas.List.{get_or-map}
 use Rattle.report_text.specs.declared.report.ImageLine.{ImageLine}
 use Rattle.plan_check.specs.Holding.{delays_of}
-use Rattle.plan_check.proofs.ages.age.Goals as goal
+use Rattle.plan_check.proofs.ages.printed_age.Goals as goal
 
 pub returns : goal.returns
 returns c =
@@ -12,4 +12,4 @@ returns c =
     let other = c.index-images-r-2.result in
     let reader : slice_index (delays_of images) c.args.r.f ≡ (slice_index_or images c.args.r.f one).delay = get_or-map (λ (i : ImageLine). i.delay) images c.args.r.f one 0 c.requires.reader in
     let source : slice_index (delays_of images) c.args.r.g ≡ (slice_index_or images c.args.r.g other).delay = get_or-map (λ (i : ImageLine). i.delay) images c.args.r.g other 0 c.requires.earlier in
-    omega (arith, ints, c.from.ensures, c.from-2.ensures, c.from-3.ensures, c.offset.ensures, c.requires.near, reader, source, c.index-images-r.element_fits, c.index-images-r-2.element_fits)
+    omega (arith, ints, c.age.ensures, reader, source)
