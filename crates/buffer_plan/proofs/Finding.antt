@@ -1,30 +1,14 @@
--- Images found by their numbers, and the reads of one image, which stand together.
-use Rattle.std.proofs.Common.{◌≡◌, ◌<◌, ◌≤◌, ℕ, suc, ◌+◌, ◌-◌, ◌==◌, Bool, true, false, List, [], ◌∷◌, ◌++◌, length, take, drop, slice_index_or, Equal, ltb, leb, refl, ap, sym, subst, get_or-take, ◌∙◌, arith, inl, inr}
+-- The reads of one image, which stand together.
+use Rattle.std.proofs.Common.{◌≡◌, ◌<◌, ◌≤◌, ℕ, suc, ◌+◌, ◌-◌, ◌==◌, Bool, true, false, List, [], ◌∷◌, ◌++◌, length, take, drop, slice_index_or, ltb, leb, refl, ap, sym, subst, get_or-take, ◌∙◌, arith, inl, inr}
 use Rattle.std.specs.Prelude.{filter}
-use Rattle.std.specs.Ordering.{nat_cmp}
 use Rattle.std.specs.List.Sorted.{IsPartitionPoint, IsNonDecreasingBy}
 use Rattle.std.proofs.lemmas.Bool.{cases_lt, cases_eq}
 use Rattle.std.proofs.lemmas.Bool.Decides.{nat_tests}
 use Rattle.std.proofs.lemmas.List.{take-append-drop, length-take-le, length-drop, get_or-drop, append-nil, get_or_append_left, get_or-append_right}
 use Rattle.std.proofs.lemmas.List.Elements.{filter-append}
-use Rattle.dk_base.specs.declared.stencils.Image.{Image}
 use Rattle.dk_base.specs.declared.stencils.LiveRead.{LiveRead}
-use Rattle.dk_base.specs.Stencils.{place, IsKept, Ascends, AreInOrder}
-use Rattle.dk_base.proofs.Orders.{kept_at, place_at}
+use Rattle.dk_base.specs.Stencils.{AreInOrder}
 use Rattle.buffer_plan.specs.Plans.{reads_by}
-
-cmp_equal : (a n : ℕ) → nat_cmp a n ≡ Equal → a ≡ n
-cmp_equal a n h = grind (arith, nat_tests, h)
-
--- what a search finds is the place
-pub found_place : (images : List Image) (n i : ℕ) (d : Image) → Ascends images → i < length images → nat_cmp (slice_index_or images i d).number n ≡ Equal
-    → IsKept images n × (i ≡ place images n)
-found_place images n i d up within found =
-    let at = cmp_equal _ n found in
-    (kept_at images i n d within at, sym (place_at images i d up within) ∙ ap (place images) at)
-
-pub no_is_no : false ≡ true → ⊥
-no_is_no h = let e : ⊥ = cc in e
 
 -- a filter that takes all, and one that takes nothing
 filter_all : {X : Type 0} (p : X → Bool) (xs : List X) → ((k : ℕ) (d : X) → k < length xs → p (slice_index_or xs k d) ≡ true) → filter p xs ≡ xs

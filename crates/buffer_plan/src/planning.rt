@@ -6,11 +6,10 @@ ghost use Rattle.flow_dual.specs.Solutions.{IsSolution};
 ghost use Rattle.buffer_plan.specs.Limits.{greatest_delay, IsWithinLimits, Passes};
 
 use crate::fault::PlanFault;
-use crate::find::place_of;
 use crate::plans::{Plan, made};
 use dk_base::{Image, MAX_BUFFER_BITS, MAX_LATENCY};
 use flow_dual::Solution;
-use raster_delay::{System, bits};
+use raster_delay::{System, bits, place_of};
 use std::alloc::Global;
 
 // The greatest delay of these images, 0 of none.

@@ -4,10 +4,10 @@ ghost use Rattle.std.specs.Prelude.{◌≡◌, IfOk};
 ghost use Rattle.buffer_plan.specs.Plans.{IsPlan, latency, bits_of};
 
 use crate::ages::{all_ages, all_depths};
-use crate::find::{find, place_of, placed, reads_by};
+use crate::find::reads_by;
 use dk_base::{Image, LiveRead, OutOfMemory};
 use flow_dual::Numbers;
-use raster_delay::{System, age_held};
+use raster_delay::{System, age_held, find, place_of, placed_read};
 use std::alloc::Global;
 use std::marker::Model;
 
@@ -178,7 +178,7 @@ impl Plan {
         ensures value { pos result ≡ read_age self.now r }
         ensures among { Contains (ages_of self.now r.g) result }
     {
-        let placed = placed(&self.images, r);
+        let placed = placed_read(&self.images, r);
         age_held(self.width, &self.delays, placed)
     }
 
