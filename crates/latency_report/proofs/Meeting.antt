@@ -25,7 +25,7 @@ use Rattle.latency_report.specs.Printed.{name_of, line_of, image_lines, latencie
 use Rattle.plan_check.specs.Flows.{makers, carried}
 use Rattle.plan_check.specs.Sums.{hold_maker, start_maker, read_maker, keep_maker}
 use Rattle.latency_report.proofs.Lines.{Maker}
-use Rattle.latency_report.proofs.Rising.{Precedes, Rises, carried_rise, carried_in, rises_append, kinds, holds_rise, starts_rise, AreKept, reads_rise}
+use Rattle.latency_report.proofs.Rising.{Precedes, Rises, carried_rise, carried_in, rises_append, kinds, holds_rise, starts_rise, by_read, AreKept, reads_rise}
 
 -- what the version says of the counts
 version_low : (b : Bool) → 2 ≤ (if b then 2 else 3)
@@ -207,13 +207,13 @@ module _ (p : Program) (s : System) (d ends flow : List ℕ) where
         rises_append ((holds ++ starts) ++ reads) keeps
         (rises_append (holds ++ starts) reads
         (rises_append holds starts (holds_rise 0 (image_count s)) (starts_rise s.stencils.inputs (image_count s - s.stencils.inputs))
-        (kinds hold_maker start_maker (λ a b m n. refl) places later))
-        (reads_rise s.stencils.images up read_maker (λ a b m n h. h) s.stencils.reads are order)
-        (rec_append (After reads) holds starts (kinds hold_maker read_maker (λ a b m n. refl) places (placed_reads s)) (kinds start_maker read_maker (λ a b m n. refl) later (placed_reads s))))
-        (reads_rise s.stencils.images up keep_maker (λ a b m n h. h) s.stencils.reads are order)
+        (kinds hold_maker start_maker (λ a b m n. omega arith) places later))
+        (reads_rise s.stencils.images up read_maker (λ a b m n h. by_read (read_maker a m) (read_maker b n) refl h) s.stencils.reads are order)
+        (rec_append (After reads) holds starts (kinds hold_maker read_maker (λ a b m n. omega arith) places (placed_reads s)) (kinds start_maker read_maker (λ a b m n. omega arith) later (placed_reads s))))
+        (reads_rise s.stencils.images up keep_maker (λ a b m n h. by_read (keep_maker a m) (keep_maker b n) refl h) s.stencils.reads are order)
         (rec_append (After keeps) (holds ++ starts) reads
-        (rec_append (After keeps) holds starts (kinds hold_maker keep_maker (λ a b m n. refl) places (placed_reads s)) (kinds start_maker keep_maker (λ a b m n. refl) later (placed_reads s)))
-        (kinds read_maker keep_maker (λ a b m n. refl) (placed_reads s) (placed_reads s)))
+        (rec_append (After keeps) holds starts (kinds hold_maker keep_maker (λ a b m n. omega arith) places (placed_reads s)) (kinds start_maker keep_maker (λ a b m n. omega arith) later (placed_reads s)))
+        (kinds read_maker keep_maker (λ a b m n. omega arith) (placed_reads s) (placed_reads s)))
 
     pub meets : Meets (report_of p plan flow)
     meets =
