@@ -18,7 +18,7 @@ use Rattle.verilog_text.specs.declared.written.Written.{Written}
 use Rattle.verilog_text.specs.Lexis.{HasTokens, HasLexFault}
 use Rattle.verilog_text.specs.Grammar.{named as named_as, Source, source_of, Module, whole}
 use Rattle.verilog_text.specs.Stands.{IsWritten}
-use Rattle.verilog_text.specs.Faults.{IsModule, IsFaultyToken, IsErrorBy, Agrees}
+use Rattle.verilog_text.specs.Faults.{IsModule, IsFaultyToken, IsErrorBy}
 use Rattle.verilog_parse.specs.Fault.{IsParseFault, fault_of, fault_at}
 use Rattle.verilog_parse.specs.Sections.{AModule}
 use Rattle.verilog_parse.specs.Named.{IsNamedSource}
@@ -87,7 +87,7 @@ no_fault l text s (Net x f) w h = h
 same_span : (t u : Token) (a b : Span) → t ≡ u → t.span ≡ a → u.span ≡ b → a ≡ b
 same_span t u a b e p q = sym p ∙ ap (λ x. x.span) e ∙ q
 
-pub one_fault : OneReading → (text : List ℕ) (f g : TextFault) → IsParseFault text f → IsParseFault text g → Agrees f g
+pub one_fault : OneReading → (text : List ℕ) (f g : TextFault) → IsParseFault text f → IsParseFault text g → f ≡ g
 one_fault l text (Lex f) (Lex g) a b = ap (λ x. Lex x) (l.fault text f g a b)
 one_fault l text (Lex f) (Syntax y) a b = absurd (l.apart text b.faulty.tokens f b.faulty.has_tokens a)
 one_fault l text (Lex f) (NotInSubset y) a b = absurd (l.apart text b.faulty.tokens f b.faulty.has_tokens a)
@@ -113,7 +113,7 @@ accepts l text (Ok w) a s h =
 accepts l text (Err (Fault f)) a s h = absurd (no_fault l text s f h a)
 accepts l text (Err OutOfMemory) a s h = refl
 
-pub refuses : OneReading → (text : List ℕ) (r : Result Written TextError) → Answers text r → (f : TextFault) → IsParseFault text f → IsErrAnd r (IsErrorBy (λ g. Agrees g f))
+pub refuses : OneReading → (text : List ℕ) (r : Result Written TextError) → Answers text r → (f : TextFault) → IsParseFault text f → IsErrAnd r (IsErrorBy (λ g. g ≡ f))
 refuses l text (Ok w) a f h = no_fault l text (source_of w) f a h
 refuses l text (Err (Fault g)) a f h = one_fault l text g f a h
 refuses l text (Err OutOfMemory) a f h = tt

@@ -5,7 +5,7 @@ ghost use Rattle.verilog_text.specs.declared.fault.TextFault.{TextFault as OneFa
 ghost use Rattle.verilog_text.specs.declared.fault.TextError.TheVariants.{OutOfMemory};
 ghost use Rattle.verilog_text.specs.Grammar.{Source, source_of};
 ghost use Rattle.verilog_text.specs.Stands.{IsWritten};
-ghost use Rattle.verilog_text.specs.Faults.{IsErrorBy, Agrees};
+ghost use Rattle.verilog_text.specs.Faults.{IsErrorBy};
 ghost use Rattle.verilog_parse.specs.Named.{IsNamedSource};
 ghost use Rattle.verilog_parse.specs.Fault.{IsParseFault, fault_at as fault_at_token};
 
@@ -25,7 +25,7 @@ pub fn parse(alloc: Global, text: &[u8]) -> Result<Written, TextError>
 
     // What is so is answered, but for want of memory.
     ensures accepts { (s : Source) → IsWritten text.now s → MatchResult result (λ w. source_of w ≡ s) (λ e. e ≡ OutOfMemory) }
-    ensures refuses { (f : OneFault) → IsParseFault text.now f → IsErrAnd result (IsErrorBy (λ g. Agrees g f)) }
+    ensures refuses { (f : OneFault) → IsParseFault text.now f → IsErrAnd result (IsErrorBy (λ g. g ≡ f)) }
 {
     verilog_text::one_reading();
     read(alloc, text)
