@@ -16,7 +16,7 @@ use Rattle.netlist.specs.declared.fault.Declared.TheVariants.{Port as PortAt, De
 use Rattle.netlist.specs.declared.fault.Statement.{Statement}
 use Rattle.netlist.specs.declared.fault.Statement.TheVariants.{Assign as AssignAt, Update as UpdateAt}
 use Rattle.netlist.specs.declared.fault.NetFault.{NetFault}
-use Rattle.netlist.specs.declared.fault.NetFault.TheVariants.{Duplicate, Ports, Unknown, WrongSort, Divisor, Width, DrivenTwice, Undriven, Cycle, OutOfMemory}
+use Rattle.netlist.specs.declared.fault.NetFault.TheVariants.{Duplicate, Ports, Unknown, WrongSort, Divisor, Width, DrivenTwice, Undriven, Cycle}
 use Rattle.netlist.specs.Names.{NamedNetlist}
 use Rattle.netlist.specs.Scopes.{Entry, scope_of, netlist_of_parts}
 use Rattle.netlist.specs.Faults.{entry_names, NamesDiffer, IsPlace, AssignFits, UpdateFits, FineAssign, FineUpdate, UnknownAssign, UnknownUpdate, WrongSortAssign, WrongSortUpdate, DivisorAssign, DivisorUpdate, WidthAssign, WidthUpdate, FirstWrong, FirstStatement, TargetsDiffer, HasDriver, PassesPorts, PassesStatements, PassesTargets, PassesDrivers, IsFault, IsModuleOf, Agrees}
@@ -202,19 +202,28 @@ module _ (p : Parts) where
   stage (DrivenTwice s) = suc (suc (suc zero))
   stage (Undriven d) = suc (suc (suc (suc zero)))
   stage (Cycle k) = suc (suc (suc (suc (suc zero))))
-  stage OutOfMemory = suc (suc (suc (suc (suc (suc zero)))))
 
-  passed : (f : NetFault) → stage f < 6 → IsFault p f → Passed (stage f)
-  passed (Duplicate d) l a = tt
-  passed Ports l a = a.0
-  passed (Unknown s) l a = a.0
-  passed (WrongSort s) l a = a.0
-  passed (Divisor s) l a = a.0
-  passed (Width s) l a = a.0
-  passed (DrivenTwice s) l a = twice_passed s a
-  passed (Undriven d) l a = a.0
-  passed (Cycle k) l a = a.0
-  passed OutOfMemory l a = absurd (omega (arith, l))
+  stage_few : (f : NetFault) → stage f < 6
+  stage_few (Duplicate d) = omega arith
+  stage_few Ports = omega arith
+  stage_few (Unknown s) = omega arith
+  stage_few (WrongSort s) = omega arith
+  stage_few (Divisor s) = omega arith
+  stage_few (Width s) = omega arith
+  stage_few (DrivenTwice s) = omega arith
+  stage_few (Undriven d) = omega arith
+  stage_few (Cycle k) = omega arith
+
+  passed : (f : NetFault) → IsFault p f → Passed (stage f)
+  passed (Duplicate d) a = tt
+  passed Ports a = a.0
+  passed (Unknown s) a = a.0
+  passed (WrongSort s) a = a.0
+  passed (Divisor s) a = a.0
+  passed (Width s) a = a.0
+  passed (DrivenTwice s) a = twice_passed s a
+  passed (Undriven d) a = a.0
+  passed (Cycle k) a = a.0
 
   refuted : (f : NetFault) → stage f < 5 → IsFault p f → Passed (suc (stage f)) → ⊥
   refuted (Duplicate d) l a names =
@@ -229,7 +238,6 @@ module _ (p : Parts) where
   refuted (DrivenTwice s) l a passes = twice_refuted s a passes
   refuted (Undriven d) l a passes = a.3.wrong (passes.driven a.1 a.3.item a.3.at)
   refuted (Cycle k) l a passes = omega (arith, l)
-  refuted OutOfMemory l a passes = omega (arith, l)
 
   same_stage : (f g : NetFault) → IsFault p f → IsFault p g → stage f ≡ stage g → Agrees f g
   same_stage (Duplicate d) (Duplicate e) a b s = ap (λ (z : Declared). Duplicate z) (place_one d e a.0 b.0 a.1 b.1 (second_one (λ (n : List ℕ). n) (entry_names p) a.0 b.0 a.2 b.2))
@@ -254,69 +262,24 @@ module _ (p : Parts) where
   same_stage (Undriven d) (Undriven e) a b s =
       ap (λ (z : Declared). Undriven z) (place_one d e a.1 b.1 a.2 b.2 (first_one Driven (λ x. Driven x → ⊥) (λ x. Driven x → ⊥) (λ x fine wrong. wrong fine) (λ x fine wrong. wrong fine) (scope_of p) a.1 b.1 a.3 b.3))
   same_stage (Cycle j) (Cycle k) a b s = tt
-  same_stage OutOfMemory OutOfMemory a b s = tt
   same_stage f g a b s = absurd (omega (arith, s))
 
-  past : (f g : NetFault) → stage f < stage g → stage g < 6 → IsFault p f → IsFault p g → ⊥
-  past f g l within a b = refuted f (omega (arith, l, within)) a (lower (stage g) (suc (stage f)) (omega (arith, l)) (passed g within b))
+  past : (f g : NetFault) → stage f < stage g → IsFault p f → IsFault p g → ⊥
+  past f g l a b = refuted f (let few = stage_few g in omega (arith, l, few)) a (lower (stage g) (suc (stage f)) (omega (arith, l)) (passed g b))
 
-  apart : (f g : NetFault) → stage f < 6 → stage g < 6 → IsFault p f → IsFault p g → stage f ≡ stage g
-  apart f g lf lg a b =
+  apart : (f g : NetFault) → IsFault p f → IsFault p g → stage f ≡ stage g
+  apart f g a b =
       elim (cases_lt (stage f) (stage g)) as (λ _. stage f ≡ stage g) [
-        | inl l ↦ absurd (past f g l lg a b)
+        | inl l ↦ absurd (past f g l a b)
         | inr up ↦ elim (cases_lt (stage g) (stage f)) as (λ _. stage f ≡ stage g) [
-          | inl l ↦ absurd (past g f l lf b a)
+          | inl l ↦ absurd (past g f l b a)
           | inr down ↦ omega (arith, up, down)
         ]
       ]
 
-  memory_left : (g : NetFault) → Agrees OutOfMemory g
-  memory_left (Duplicate d) = tt
-  memory_left Ports = tt
-  memory_left (Unknown s) = tt
-  memory_left (WrongSort s) = tt
-  memory_left (Divisor s) = tt
-  memory_left (Width s) = tt
-  memory_left (DrivenTwice s) = tt
-  memory_left (Undriven d) = tt
-  memory_left (Cycle k) = tt
-  memory_left OutOfMemory = tt
-
-  memory_right : (f : NetFault) → Agrees f OutOfMemory
-  memory_right (Duplicate d) = tt
-  memory_right Ports = tt
-  memory_right (Unknown s) = tt
-  memory_right (WrongSort s) = tt
-  memory_right (Divisor s) = tt
-  memory_right (Width s) = tt
-  memory_right (DrivenTwice s) = tt
-  memory_right (Undriven d) = tt
-  memory_right (Cycle k) = tt
-  memory_right OutOfMemory = tt
-
-  is_memory : (f : NetFault) → 6 ≤ stage f → f ≡ OutOfMemory
-  is_memory (Duplicate d) l = absurd (omega (arith, l))
-  is_memory Ports l = absurd (omega (arith, l))
-  is_memory (Unknown s) l = absurd (omega (arith, l))
-  is_memory (WrongSort s) l = absurd (omega (arith, l))
-  is_memory (Divisor s) l = absurd (omega (arith, l))
-  is_memory (Width s) l = absurd (omega (arith, l))
-  is_memory (DrivenTwice s) l = absurd (omega (arith, l))
-  is_memory (Undriven d) l = absurd (omega (arith, l))
-  is_memory (Cycle k) l = absurd (omega (arith, l))
-  is_memory OutOfMemory l = refl
-
   pub faults_agree : (f g : NetFault) → IsFault p f → IsFault p g → Agrees f g
-  faults_agree f g a b =
-      elim (cases_lt (stage f) 6) as (λ _. Agrees f g) [
-        | inl lf ↦ elim (cases_lt (stage g) 6) as (λ _. Agrees f g) [
-          | inl lg ↦ same_stage f g a b (apart f g lf lg a b)
-          | inr ug ↦ subst (λ (z : NetFault). Agrees f z) (sym (is_memory g ug)) (memory_right f)
-        ]
-        | inr uf ↦ subst (λ (z : NetFault). Agrees z g) (sym (is_memory f uf)) (memory_left g)
-      ]
+  faults_agree f g a b = same_stage f g a b (apart f g a b)
 
-  pub module_no_fault : (m : NamedNetlist) (f : NetFault) → IsModuleOf p m → IsFault p f → f ≡ OutOfMemory
-  module_no_fault m (Cycle k) is a = absurd (is.acyclic k a.1)
-  module_no_fault m OutOfMemory is a = refl
-  module_no_fault m f is a = absurd (refuted f (omega arith) a (lower 5 (suc (stage f)) (omega arith) is.passes))
+  pub module_no_fault : (m : NamedNetlist) (f : NetFault) → IsModuleOf p m → IsFault p f → ⊥
+  module_no_fault m (Cycle k) is a = is.acyclic k a.1
+  module_no_fault m f is a = refuted f (omega arith) a (lower 5 (suc (stage f)) (omega arith) is.passes)

@@ -1,5 +1,5 @@
 -- Scopes and nets that grow with ports and declarations.
-use Rattle.std.proofs.Common.{◌≡◌, ◌⊎◌, ℕ, zero, suc, ◌+◌, ◌<◌, ◌≤◌, append_assoc, List, [], ◌∷◌, ◌++◌, length, drop, refl, ap, subst, sym, ◌∙◌, inl, inr, arith, Some}
+use Rattle.std.proofs.Common.{◌≡◌, ℕ, zero, suc, ◌+◌, ◌<◌, ◌≤◌, append_assoc, List, [], ◌∷◌, ◌++◌, length, drop, refl, ap, subst, sym, ◌∙◌, arith, Some}
 use Rattle.std.specs.Prelude.{slice_get, Result, Ok, Err, IfErr, IsErrAnd}
 use Rattle.std.proofs.lemmas.List.{map-append}
 use Rattle.std.proofs.lemmas.Option.{slice_get_within, same_Some}
@@ -11,11 +11,11 @@ use Rattle.netlist.specs.declared.parts.Declaration.{Declaration}
 use Rattle.netlist.specs.declared.parts.Sort.{Sort}
 use Rattle.netlist.specs.declared.parts.Sort.TheVariants.{Wire as OfWire, Reg as OfReg, Array as OfArray}
 use Rattle.netlist.specs.declared.fault.Declared.TheVariants.{Port as PortAt, Declaration as DeclarationAt}
-use Rattle.netlist.specs.declared.fault.NetFault.{NetFault}
-use Rattle.netlist.specs.declared.fault.NetFault.TheVariants.{OutOfMemory}
+use Rattle.netlist.specs.declared.fault.NetError.{NetError}
+use Rattle.netlist.specs.declared.fault.NetError.TheVariants.{Fault, OutOfMemory}
 use Rattle.netlist.specs.Scopes.{Meaning, Entry, port_meaning, inputs_after, outputs_after, port_entries, sort_meaning, wires_after, regs_after, arrays_after, declared_entries, all_ports, scope_of}
 use Rattle.netlist.specs.Names.{AreDistinct}
-use Rattle.netlist.specs.Faults.{entry_names, NamesDiffer, IsFault}
+use Rattle.netlist.specs.Faults.{entry_names, NamesDiffer, IsFault, IsErrorBy}
 use Rattle.netlist.specs.Entries.{names_in, IsRepeat, IsTaken, IsSecondPort, IsSecondDeclaration}
 
 -- the list from the item at k on
@@ -86,31 +86,31 @@ pub if_err : {T E : Type 0} (P : E → Type 0) (r : Result T E) (e : E) → IsEr
 if_err P (Ok x) e is h = tt
 if_err P (Err y) e is h = subst P (sym is) h
 
-module _ (scope whole : List Entry) (n : List ℕ) (f : NetFault) where
+module _ (scope whole : List Entry) (n : List ℕ) where
   pub port_taken : (ports : List Port) (k i o : ℕ) (q : Port) → slice_get ports k ≡ Some q → n ≡ q.name → scope ++ port_entries i o (drop k ports) ≡ whole → length scope ≡ 1 + k
-      → IsTaken scope n (PortAt (k + 1)) f → (f ≡ OutOfMemory) ⊎ IsSecondPort (names_in whole) (1 + length ports) f
-  port_taken ports k i o q at named is size (inl m) = inl m
-  port_taken ports k i o q at named is size (inr t) =
+      → (e : NetError) → IsErrorBy (IsTaken scope n (PortAt (k + 1))) e → IsErrorBy (IsSecondPort (names_in whole) (1 + length ports)) e
+  port_taken ports k i o q at named is size OutOfMemory t = tt
+  port_taken ports k i o q at named is size (Fault f) t =
       let split : scope ++ (port_entry ports k i o q at ∷ later_ports ports k i o q at) ≡ whole = ap (λ (l : List Entry). scope ++ l) (sym (ports_at ports k i o q at)) ∙ is in
       let place : length scope ≡ k + 1 = omega (arith, size) in
       let l = slice_get_within ports k q at in
-      inr (record {
+      record {
         place = k + 1;
         within = omega (arith, l);
         fault = t.0;
         is_repeat = subst (IsRepeat (names_in whole)) place (repeats scope (later_ports ports k i o q at) whole (port_entry ports k i o q at) split (subst (λ (x : List ℕ). IsRepeat (names_in scope ++ x ∷ []) (length scope)) named t.1));
-      })
+      }
 
   pub declaration_taken : (ds : List Declaration) (before k w r a : ℕ) (d : Declaration) → slice_get ds k ≡ Some d → n ≡ d.name → scope ++ declared_entries w r a (drop k ds) ≡ whole → length scope ≡ before + k
-      → IsTaken scope n (DeclarationAt k) f → (f ≡ OutOfMemory) ⊎ IsSecondDeclaration (names_in whole) before f
-  declaration_taken ds before k w r a d at named is size (inl m) = inl m
-  declaration_taken ds before k w r a d at named is size (inr t) =
+      → (e : NetError) → IsErrorBy (IsTaken scope n (DeclarationAt k)) e → IsErrorBy (IsSecondDeclaration (names_in whole) before) e
+  declaration_taken ds before k w r a d at named is size OutOfMemory t = tt
+  declaration_taken ds before k w r a d at named is size (Fault f) t =
       let split : scope ++ (declared_entry ds k w r a d at ∷ later_entries ds k w r a d at) ≡ whole = ap (λ (l : List Entry). scope ++ l) (sym (entries_at ds k w r a d at)) ∙ is in
-      inr (record {
+      record {
         place = k;
         fault = t.0;
         is_repeat = subst (IsRepeat (names_in whole)) size (repeats scope (later_entries ds k w r a d at) whole (declared_entry ds k w r a d at) split (subst (λ (x : List ℕ). IsRepeat (names_in scope ++ x ∷ []) (length scope)) named t.1));
-      })
+      }
 
 -- one declaration more
 pub declaration_grows : (scope new whole : List Entry) (n : List ℕ) (x : Meaning) (ds : List Declaration) (k w r a nw nr na : ℕ) (d : Declaration) → slice_get ds k ≡ Some d → n ≡ d.name → x ≡ sort_meaning d.sort w r a
@@ -163,26 +163,26 @@ module _ (p : Parts) where
   all_names : entry_names p ≡ names_in (all_ports p.ports.items) ++ names_in declared
   all_names = map-append (λ (e : Entry). e.name) (all_ports p.ports.items) declared
 
-  first_port_fault : (f : NetFault) → (f ≡ OutOfMemory) ⊎ IsSecondPort (names_in (all_ports p.ports.items)) (length p.ports.items) f → IsFault p f
-  first_port_fault f (inl m) = subst (IsFault p) (sym m) tt
-  first_port_fault f (inr s) =
+  first_port_error : (e : NetError) → IsErrorBy (IsSecondPort (names_in (all_ports p.ports.items)) (length p.ports.items)) e → IsErrorBy (IsFault p) e
+  first_port_error OutOfMemory s = tt
+  first_port_error (Fault f) s =
       let room : s.place < length (names_in (all_ports p.ports.items)) = omega (arith, s.within, names_length (all_ports p.ports.items), ports_length p.ports.items) in
       let among : IsRepeat (entry_names p) s.place = subst (λ (l : List (List ℕ)). IsRepeat l s.place) (sym all_names) (second_more (λ (n : List ℕ). n) (names_in (all_ports p.ports.items)) (names_in declared) s.place room s.is_repeat) in
       subst (IsFault p) (sym s.fault) (s.place, (s.within, refl), among)
 
-  pub port_fault : (ports : List Port) → ports ≡ p.ports.items → (f : NetFault) → (f ≡ OutOfMemory) ⊎ IsSecondPort (names_in (all_ports ports)) (length ports) f → IsFault p f
-  port_fault ports e f h = first_port_fault f (subst (λ (l : List Port). (f ≡ OutOfMemory) ⊎ IsSecondPort (names_in (all_ports l)) (length l) f) e h)
+  pub port_error : (ports : List Port) → ports ≡ p.ports.items → (e : NetError) → IsErrorBy (IsSecondPort (names_in (all_ports ports)) (length ports)) e → IsErrorBy (IsFault p) e
+  port_error ports same e h = first_port_error e (subst (λ (l : List Port). IsErrorBy (IsSecondPort (names_in (all_ports l)) (length l)) e) same h)
 
-  first_declaration_fault : (scope : List Entry) (f : NetFault) → scope ≡ all_ports p.ports.items → (f ≡ OutOfMemory) ⊎ IsSecondDeclaration (names_in (scope ++ declared)) (length scope) f → IsFault p f
-  first_declaration_fault scope f is (inl m) = subst (IsFault p) (sym m) tt
-  first_declaration_fault scope f is (inr s) =
+  first_declaration_error : (scope : List Entry) (e : NetError) → scope ≡ all_ports p.ports.items → IsErrorBy (IsSecondDeclaration (names_in (scope ++ declared)) (length scope)) e → IsErrorBy (IsFault p) e
+  first_declaration_error scope OutOfMemory is s = tt
+  first_declaration_error scope (Fault f) is s =
       let size : length scope ≡ length p.ports.items = ap length is ∙ ports_length p.ports.items in
       let among : IsRepeat (entry_names p) (length scope + s.place) = subst (λ (l : List Entry). IsRepeat (names_in (l ++ declared)) (length scope + s.place)) is s.is_repeat in
       subst (IsFault p) (sym s.fault) (length scope + s.place, (let e : length p.ports.items + s.place ≡ length scope + s.place = omega (arith, size) in e), among)
 
   module _ (ports : List Port) (same_ports : ports ≡ p.ports.items) (ds : List Declaration) (same_declarations : ds ≡ p.declarations.items) (scope : List Entry) (is : scope ≡ all_ports ports) where
-    pub declaration_fault : (f : NetFault) → (f ≡ OutOfMemory) ⊎ IsSecondDeclaration (names_in (scope ++ declared_entries 0 0 0 ds)) (length scope) f → IsFault p f
-    declaration_fault f h = first_declaration_fault scope f (is ∙ ap all_ports same_ports) (subst (λ (l : List Declaration). (f ≡ OutOfMemory) ⊎ IsSecondDeclaration (names_in (scope ++ declared_entries 0 0 0 l)) (length scope) f) same_declarations h)
+    pub declaration_error : (e : NetError) → IsErrorBy (IsSecondDeclaration (names_in (scope ++ declared_entries 0 0 0 ds)) (length scope)) e → IsErrorBy (IsFault p) e
+    declaration_error e h = first_declaration_error scope e (is ∙ ap all_ports same_ports) (subst (λ (l : List Declaration). IsErrorBy (IsSecondDeclaration (names_in (scope ++ declared_entries 0 0 0 l)) (length scope)) e) same_declarations h)
 
     pub scope_whole : (new : List Entry) → new ≡ scope ++ declared_entries 0 0 0 ds → new ≡ scope_of p
     scope_whole new more = more ∙ ap (λ (l : List Declaration). scope ++ declared_entries 0 0 0 l) same_declarations ∙ ap (λ (l : List Entry). l ++ declared) (is ∙ ap all_ports same_ports)

@@ -1,5 +1,5 @@
 -- What drives each net and array.
-use Rattle.std.proofs.Common.{◌≡◌, ◌⊎◌, ℕ, zero, suc, ◌<◌, true, false, List, [], ◌∷◌, length, refl, ap, subst, sym, ◌∙◌, inl, inr, arith, Option, Some, None}
+use Rattle.std.proofs.Common.{◌≡◌, ℕ, zero, suc, ◌<◌, true, false, List, [], ◌∷◌, length, refl, ap, subst, sym, ◌∙◌, inl, inr, arith, Option, Some, None}
 use Rattle.std.specs.Prelude.{slice_get, All, is_some}
 use Rattle.std.proofs.lemmas.Option.{same_Some}
 use Rattle.wiring.specs.declared.right.Atom.{Atom}
@@ -20,10 +20,11 @@ use Rattle.netlist.specs.declared.parts.Parts.{Parts}
 use Rattle.netlist.specs.declared.parts.NamedUpdate.{NamedUpdate}
 use Rattle.netlist.specs.declared.parts.NamedUpdate.TheVariants.{Set as NamedSet, Put as NamedPut}
 use Rattle.netlist.specs.declared.fault.NetFault.{NetFault}
-use Rattle.netlist.specs.declared.fault.NetFault.TheVariants.{OutOfMemory}
+use Rattle.netlist.specs.declared.fault.NetError.{NetError}
+use Rattle.netlist.specs.declared.fault.NetError.TheVariants.{Fault, OutOfMemory}
 use Rattle.netlist.specs.declared.drive.Tables.{Tables}
 use Rattle.netlist.specs.Scopes.{Meaning, clock, net, array, Entry, scope_of, net_named, array_named, atom_named, assign_named, update_named, reg_of_net, netlist_of_parts}
-use Rattle.netlist.specs.Faults.{FirstWrong, FineAssign, TargetsDiffer, HasAssign, HasUpdate, HasDriver, PassesStatements, PassesTargets, PassesDrivers, IsFault}
+use Rattle.netlist.specs.Faults.{FirstWrong, FineAssign, TargetsDiffer, HasAssign, HasUpdate, HasDriver, PassesStatements, PassesTargets, PassesDrivers, IsFault, IsErrorBy}
 use Rattle.netlist.specs.Driven.{is_driven_by, IsDrivenEntry, AreTables, IsDrivenTwice, IsSecondAssign, IsSecondUpdate, IsFirstUndriven, IsCycle}
 use Rattle.netlist.proofs.Scoped.{two_parts, three_parts, net_declared, array_declared}
 use Rattle.netlist.proofs.Kept.{collected_all}
@@ -139,17 +140,17 @@ module _ (p : Parts) (w : Wiring) (is : netlist_of w ≡ netlist_of_parts p) whe
         updates = differ_by update_target m.updates (updater_of d.updaters) tables.updaters;
       }
 
-  pub twice_fault : PassesStatements p → (f : NetFault) → (f ≡ OutOfMemory) ⊎ IsDrivenTwice (netlist_of w) f → IsFault p f
-  twice_fault passes f h = by (subst (λ (x : Netlist). (f ≡ OutOfMemory) ⊎ IsDrivenTwice x f) is h)
+  pub twice_error : PassesStatements p → (e : NetError) → IsErrorBy (IsDrivenTwice (netlist_of w)) e → IsErrorBy (IsFault p) e
+  twice_error passes OutOfMemory h = tt
+  twice_error passes (Fault f) h = by (subst (λ (x : Netlist). IsDrivenTwice x f) is h)
     where
-      by : (f ≡ OutOfMemory) ⊎ IsDrivenTwice m f → IsFault p f
-      by (inl e) = subst (IsFault p) (sym e) tt
-      by (inr (inl s)) = subst (IsFault p) (sym s.1) (passes, s.2)
-      by (inr (inr s)) = subst (IsFault p) (sym s.1.1) (passes, s.0, s.1.2)
+      by : IsDrivenTwice m f → IsFault p f
+      by (inl s) = subst (IsFault p) (sym s.1) (passes, s.2)
+      by (inr s) = subst (IsFault p) (sym s.1.1) (passes, s.0, s.1.2)
 
-  pub cycle_fault : PassesDrivers p → (f : NetFault) → (f ≡ OutOfMemory) ⊎ IsCycle (netlist_of w) f → IsFault p f
-  cycle_fault passes f (inl e) = subst (IsFault p) (sym e) tt
-  cycle_fault passes f (inr s) = subst (IsFault p) (sym s.1) (passes, subst (λ (x : Netlist). DependsOn x.assigns s.0 s.0) is s.2)
+  pub cycle_error : PassesDrivers p → (e : NetError) → IsErrorBy (IsCycle (netlist_of w)) e → IsErrorBy (IsFault p) e
+  cycle_error passes OutOfMemory s = tt
+  cycle_error passes (Fault f) s = subst (IsFault p) (sym s.1) (passes, subst (λ (x : Netlist). DependsOn x.assigns s.0 s.0) is s.2)
 
   pub ordered_here : (order : List ℕ) → IsEvaluationOrder w.assigns.items order → IsEvaluationOrder m.assigns order
   ordered_here order h = subst (λ (x : Netlist). IsEvaluationOrder x.assigns order) is h
@@ -171,11 +172,11 @@ module _ (p : Parts) (scope : List Entry) (same : scope ≡ scope_of p) (d : Tab
     driven = λ k e at. driver_there (netlist_of_parts p) d tables e.meaning (All-at (IsDrivenEntry d) (scope_of p) k e (subst (λ (s : List Entry). All (IsDrivenEntry d) s) same all) at);
   }
 
-pub second_assign : (m : Netlist) (f : NetFault) → (f ≡ OutOfMemory) ⊎ IsSecondAssign m f → (f ≡ OutOfMemory) ⊎ IsDrivenTwice m f
-second_assign m f (inl e) = inl e
-second_assign m f (inr s) = inr (inl s)
+pub second_assign : (m : Netlist) (e : NetError) → IsErrorBy (IsSecondAssign m) e → IsErrorBy (IsDrivenTwice m) e
+second_assign m OutOfMemory s = tt
+second_assign m (Fault f) s = inl s
 
 -- a second update, where no assign is one
-pub second_update : (m : Netlist) (d : Drivers) → IsTable m.assigns d → (f : NetFault) → (f ≡ OutOfMemory) ⊎ IsSecondUpdate m f → (f ≡ OutOfMemory) ⊎ IsDrivenTwice m f
-second_update m d table f (inl e) = inl e
-second_update m d table f (inr s) = inr (inr (differ_by assign_target m.assigns (driver_of d) table, s))
+pub second_update : (m : Netlist) (d : Drivers) → IsTable m.assigns d → (e : NetError) → IsErrorBy (IsSecondUpdate m) e → IsErrorBy (IsDrivenTwice m) e
+second_update m d table OutOfMemory s = tt
+second_update m d table (Fault f) s = inr (differ_by assign_target m.assigns (driver_of d) table, s)

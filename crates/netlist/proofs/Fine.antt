@@ -1,5 +1,5 @@
 -- Statements that are good against the nets of parts are fine, and wrong ones are the fault.
-use Rattle.std.proofs.Common.{◌≡◌, ◌⊎◌, ℕ, List, ap, subst, sym, ◌∙◌, inl, inr, Some}
+use Rattle.std.proofs.Common.{◌≡◌, ℕ, List, ap, subst, sym, ◌∙◌, Some}
 use Rattle.std.proofs.Math.Path.{fun_ext}
 use Rattle.std.specs.Prelude.{slice_get, slice_index, All, unwrap_or}
 use Rattle.std.specs.Option.{option_map}
@@ -20,12 +20,12 @@ use Rattle.netlist.specs.declared.parts.Parts.{Parts}
 use Rattle.netlist.specs.declared.parts.NamedAssign.{NamedAssign}
 use Rattle.netlist.specs.declared.parts.NamedUpdate.{NamedUpdate}
 use Rattle.netlist.specs.declared.fault.Statement.TheVariants.{Assign as AssignAt, Update as UpdateAt}
-use Rattle.netlist.specs.declared.fault.NetFault.{NetFault}
-use Rattle.netlist.specs.declared.fault.NetFault.TheVariants.{OutOfMemory}
+use Rattle.netlist.specs.declared.fault.NetError.{NetError}
+use Rattle.netlist.specs.declared.fault.NetError.TheVariants.{Fault, OutOfMemory}
 use Rattle.netlist.specs.declared.statement.Wrong.{Wrong}
 use Rattle.netlist.specs.declared.statement.Wrong.TheVariants.{Unknown, WrongSort, Divisor, Width}
 use Rattle.netlist.specs.Scopes.{Entry, scope_of, net_named, right_named, assign_named, update_named, netlist_of_parts, collected, update_constants}
-use Rattle.netlist.specs.Faults.{AssignFits, UpdateFits, IsSortedAssign, FineAssign, FineUpdate, FirstWrong, PassesPorts, IsFault, UnknownAssign, WrongSortAssign, DivisorAssign, WidthAssign, UnknownUpdate, WrongSortUpdate, WidthUpdate}
+use Rattle.netlist.specs.Faults.{AssignFits, UpdateFits, IsSortedAssign, FineAssign, FineUpdate, FirstWrong, PassesPorts, IsFault, IsErrorBy, UnknownAssign, WrongSortAssign, DivisorAssign, WidthAssign, UnknownUpdate, WrongSortUpdate, WidthUpdate}
 use Rattle.netlist.specs.Statements.{IsOfDrivenSort, HasNets, IsGoodAssign, IsGoodUpdate, IsWrongAssign, IsWrongUpdate, IsFirstFault, fault_of}
 use Rattle.netlist.proofs.Scoped.{two_parts, net_declared}
 use Rattle.netlist.proofs.Resolving.{assign_known, update_known}
@@ -138,9 +138,9 @@ module _ (p : Parts) (w : Wiring) (nets : HasNets p w) where
     first_assign Divisor k f = (passes, first_weaker (FineAssign p) (DivisorAssign p) (IsGoodAssign scope n) (IsWrongAssign scope n Divisor) fine_assign divisor_assign p.assigns.items k f)
     first_assign Width k f = (passes, first_weaker (FineAssign p) (WidthAssign p) (IsGoodAssign scope n) (IsWrongAssign scope n Width) fine_assign width_assign p.assigns.items k f)
 
-    pub assign_fault : (f : NetFault) → (f ≡ OutOfMemory) ⊎ IsFirstFault (IsGoodAssign scope n) (IsWrongAssign scope n) (λ k. AssignAt k) p.assigns.items f → IsFault p f
-    assign_fault f (inl e) = subst (IsFault p) (sym e) tt
-    assign_fault f (inr h) = subst (IsFault p) (sym h.fault) (first_assign h.wrong h.place h.first)
+    pub assign_error : (e : NetError) → IsErrorBy (IsFirstFault (IsGoodAssign scope n) (IsWrongAssign scope n) (λ k. AssignAt k) p.assigns.items) e → IsErrorBy (IsFault p) e
+    assign_error OutOfMemory h = tt
+    assign_error (Fault f) h = subst (IsFault p) (sym h.fault) (first_assign h.wrong h.place h.first)
 
     module _ (assigns : All (FineAssign p) p.assigns.items) where
       first_update : (x : Wrong) (k : ℕ) → FirstWrong (IsGoodUpdate scope n) (IsWrongUpdate scope n x) p.updates.items k → IsFault p (fault_of x (UpdateAt k))
@@ -149,18 +149,18 @@ module _ (p : Parts) (w : Wiring) (nets : HasNets p w) where
       first_update Divisor k f = absurd f.wrong
       first_update Width k f = (passes, (assigns, first_weaker (FineUpdate p) (WidthUpdate p) (IsGoodUpdate scope n) (IsWrongUpdate scope n Width) fine_update width_update p.updates.items k f))
 
-      pub update_fault : (f : NetFault) → (f ≡ OutOfMemory) ⊎ IsFirstFault (IsGoodUpdate scope n) (IsWrongUpdate scope n) (λ k. UpdateAt k) p.updates.items f → IsFault p f
-      update_fault f (inl e) = subst (IsFault p) (sym e) tt
-      update_fault f (inr h) = subst (IsFault p) (sym h.fault) (first_update h.wrong h.place h.first)
+      pub update_error : (e : NetError) → IsErrorBy (IsFirstFault (IsGoodUpdate scope n) (IsWrongUpdate scope n) (λ k. UpdateAt k) p.updates.items) e → IsErrorBy (IsFault p) e
+      update_error OutOfMemory h = tt
+      update_error (Fault f) h = subst (IsFault p) (sym h.fault) (first_update h.wrong h.place h.first)
 
   -- the same of the slices and the scope that a call is given
   module _ (s : List Entry) (same_scope : s ≡ scope_of p) where
     module _ (xs : List NamedAssign) (same : xs ≡ p.assigns.items) where
-      pub assigns_fault : PassesPorts p → (f : NetFault) → (f ≡ OutOfMemory) ⊎ IsFirstFault (IsGoodAssign s n) (IsWrongAssign s n) (λ k. AssignAt k) xs f → IsFault p f
-      assigns_fault passes f h =
-          assign_fault passes f
-          (subst (λ (l : List NamedAssign). (f ≡ OutOfMemory) ⊎ IsFirstFault (IsGoodAssign scope n) (IsWrongAssign scope n) (λ k. AssignAt k) l f) same
-          (subst (λ (x : List Entry). (f ≡ OutOfMemory) ⊎ IsFirstFault (IsGoodAssign x n) (IsWrongAssign x n) (λ k. AssignAt k) xs f) same_scope h))
+      pub assigns_error : PassesPorts p → (e : NetError) → IsErrorBy (IsFirstFault (IsGoodAssign s n) (IsWrongAssign s n) (λ k. AssignAt k) xs) e → IsErrorBy (IsFault p) e
+      assigns_error passes e h =
+          assign_error passes e
+          (subst (λ (l : List NamedAssign). IsErrorBy (IsFirstFault (IsGoodAssign scope n) (IsWrongAssign scope n) (λ k. AssignAt k) l) e) same
+          (subst (λ (x : List Entry). IsErrorBy (IsFirstFault (IsGoodAssign x n) (IsWrongAssign x n) (λ k. AssignAt k) xs) e) same_scope h))
 
       good_here : All (IsGoodAssign s n) xs → All (IsGoodAssign scope n) p.assigns.items
       good_here good = subst (λ (l : List NamedAssign). All (IsGoodAssign scope n) l) same (subst (λ (x : List Entry). All (IsGoodAssign x n) xs) same_scope good)
@@ -175,11 +175,11 @@ module _ (p : Parts) (w : Wiring) (nets : HasNets p w) where
       assigns_made bs e = e ∙ ap (λ (x : List Entry). collected (assign_named x) xs) same_scope ∙ ap (λ (l : List NamedAssign). collected (assign_named scope) l) same
 
     module _ (us : List NamedUpdate) (same : us ≡ p.updates.items) where
-      pub updates_fault : PassesPorts p → All (FineAssign p) p.assigns.items → (f : NetFault) → (f ≡ OutOfMemory) ⊎ IsFirstFault (IsGoodUpdate s n) (IsWrongUpdate s n) (λ k. UpdateAt k) us f → IsFault p f
-      updates_fault passes assigns f h =
-          update_fault passes assigns f
-          (subst (λ (l : List NamedUpdate). (f ≡ OutOfMemory) ⊎ IsFirstFault (IsGoodUpdate scope n) (IsWrongUpdate scope n) (λ k. UpdateAt k) l f) same
-          (subst (λ (x : List Entry). (f ≡ OutOfMemory) ⊎ IsFirstFault (IsGoodUpdate x n) (IsWrongUpdate x n) (λ k. UpdateAt k) us f) same_scope h))
+      pub updates_error : PassesPorts p → All (FineAssign p) p.assigns.items → (e : NetError) → IsErrorBy (IsFirstFault (IsGoodUpdate s n) (IsWrongUpdate s n) (λ k. UpdateAt k) us) e → IsErrorBy (IsFault p) e
+      updates_error passes assigns e h =
+          update_error passes assigns e
+          (subst (λ (l : List NamedUpdate). IsErrorBy (IsFirstFault (IsGoodUpdate scope n) (IsWrongUpdate scope n) (λ k. UpdateAt k) l) e) same
+          (subst (λ (x : List Entry). IsErrorBy (IsFirstFault (IsGoodUpdate x n) (IsWrongUpdate x n) (λ k. UpdateAt k) us) e) same_scope h))
 
       good_there : All (IsGoodUpdate s n) us → All (IsGoodUpdate scope n) p.updates.items
       good_there good = subst (λ (l : List NamedUpdate). All (IsGoodUpdate scope n) l) same (subst (λ (x : List Entry). All (IsGoodUpdate x n) us) same_scope good)

@@ -131,8 +131,7 @@ module _ (scope : List Entry) (es : Entries) (name : List ℕ) (view : entries_i
       let differ : AreDistinct (names_in scope) = subst (λ (s : List Entry). AreDistinct (names_in s)) view distinct in
       let some = some_of here e in
       let earlier = place_of scope name (meaning_of some.0) (sym (some.1 ∙ found_in)) in
-      let size : length (names_in scope) ≡ length scope = names_length scope in
-      inr (
+      let size : length (names_in scope) ≡ length scope = names_length scope in (
         refl,
         record {
           before = λ i j x y li lj at_i at_j same.

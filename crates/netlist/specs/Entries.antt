@@ -1,5 +1,5 @@
 -- The scope that a map of names keeps, and names that come a second time.
-use Rattle.std.specs.Prelude.{◌≡◌, ◌⊎◌, ℕ, ◌+◌, ◌<◌, List, [], ◌∷◌, ◌++◌, length, map}
+use Rattle.std.specs.Prelude.{◌≡◌, ℕ, ◌+◌, ◌<◌, List, [], ◌∷◌, ◌++◌, length, map}
 use Rattle.std.specs.Borrow.{Bor}
 use Rattle.wiring.specs.declared.netlist.Net.TheVariants.{Input, Output, Wire, Reg}
 use Rattle.wiring.specs.Tables.{IsSecond}
@@ -8,7 +8,7 @@ use Rattle.netlist.specs.declared.scope.Stands.TheVariants as stands
 use Rattle.netlist.specs.declared.fault.Declared.{Declared}
 use Rattle.netlist.specs.declared.fault.Declared.TheVariants.{Port, Declaration}
 use Rattle.netlist.specs.declared.fault.NetFault.{NetFault}
-use Rattle.netlist.specs.declared.fault.NetFault.TheVariants.{Duplicate, OutOfMemory}
+use Rattle.netlist.specs.declared.fault.NetFault.TheVariants.{Duplicate}
 use Rattle.netlist.specs.Scopes.{Meaning, clock, net, array, Entry}
 
 abbrev pub meaning_of : Stands → Meaning
@@ -32,7 +32,7 @@ IsRepeat names place = IsSecond (λ (n : List ℕ). n) names place
 
 -- the fault of a port or declaration whose name the scope has already
 abbrev pub IsTaken : List Entry → List ℕ → Declared → NetFault → Type 0
-IsTaken scope name declared f = (f ≡ OutOfMemory) ⊎ ((f ≡ Duplicate declared) × IsRepeat (names_in scope ++ name ∷ []) (length scope))
+IsTaken scope name declared f = (f ≡ Duplicate declared) × IsRepeat (names_in scope ++ name ∷ []) (length scope)
 
 -- the fault of the first port, or declaration, whose name came before
 pub record IsSecondPort (names : List (List ℕ)) (ports : ℕ) (f : NetFault) : Type 0 where

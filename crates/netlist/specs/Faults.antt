@@ -1,5 +1,5 @@
 -- The first net fault of the parts of a text, in the order of the passes.
-use Rattle.std.specs.Prelude.{◌≡◌, ℕ, zero, suc, ◌+◌, ◌<◌, Bool, true, false, if◌then◌else◌, List, [], ◌∷◌, ◌++◌, length, map, slice_get, Some, All, codes, IsSome}
+use Rattle.std.specs.Prelude.{◌≡◌, ⊤, ℕ, zero, suc, ◌+◌, ◌<◌, Bool, true, false, if◌then◌else◌, List, [], ◌∷◌, ◌++◌, length, map, slice_get, Some, All, codes, IsSome}
 use Rattle.std.specs.List.{AllZip}
 use Rattle.std.specs.Option.{option_to_list}
 use Rattle.wiring.specs.declared.right.Right.{Right}
@@ -27,7 +27,9 @@ use Rattle.netlist.specs.declared.fault.Declared.TheVariants.{Port as PortAt, De
 use Rattle.netlist.specs.declared.fault.Statement.{Statement}
 use Rattle.netlist.specs.declared.fault.Statement.TheVariants.{Assign as AssignAt, Update as UpdateAt}
 use Rattle.netlist.specs.declared.fault.NetFault.{NetFault}
-use Rattle.netlist.specs.declared.fault.NetFault.TheVariants.{Duplicate, Ports, Unknown, WrongSort, Divisor, Width, DrivenTwice, Undriven, Cycle, OutOfMemory}
+use Rattle.netlist.specs.declared.fault.NetFault.TheVariants.{Duplicate, Ports, Unknown, WrongSort, Divisor, Width, DrivenTwice, Undriven, Cycle}
+use Rattle.netlist.specs.declared.fault.NetError.{NetError}
+use Rattle.netlist.specs.declared.fault.NetError.TheVariants.{Fault, OutOfMemory}
 use Rattle.netlist.specs.Names.{AreDistinct, numbered, NamedNetlist}
 use Rattle.netlist.specs.Scopes.{Entry, Meaning, clock, net, array, scope_of, stands_for, assign_named, update_named, netlist_of_parts, module_of}
 
@@ -217,7 +219,11 @@ IsFault p (DrivenTwice (AssignAt k)) = PassesStatements p × IsSecond assign_tar
 IsFault p (DrivenTwice (UpdateAt k)) = PassesStatements p × TargetsDiffer assign_target (netlist_of_parts p).assigns × IsSecond update_target (netlist_of_parts p).updates k
 IsFault p (Undriven d) = PassesTargets p × (place : ℕ) × IsPlace p d place × FirstWrong (λ (e : Entry). HasDriver (netlist_of_parts p) e.meaning) (λ (e : Entry). HasDriver (netlist_of_parts p) e.meaning → ⊥) (scope_of p) place
 IsFault p (Cycle k) = PassesDrivers p × DependsOn (netlist_of_parts p).assigns k k
-IsFault p OutOfMemory = Unit {0}
+
+-- an error is such a fault, or want of memory, of which the parts say nothing
+abbrev pub IsErrorBy : (NetFault → Type 0) → NetError → Type 0
+IsErrorBy is (Fault fault) = is fault
+IsErrorBy is OutOfMemory = ⊤
 
 -- the parts keep all net rules, and make this module
 pub record IsModuleOf (p : Parts) (m : NamedNetlist) : Type 0 where
@@ -225,9 +231,7 @@ pub record IsModuleOf (p : Parts) (m : NamedNetlist) : Type 0 where
   pub acyclic : IsAcyclic (netlist_of_parts p).assigns
   pub is : m ≡ module_of p
 
--- the same fault; of a cycle any target on it may be told, and want of memory tells nothing
+-- the same fault; of a cycle any target on it may be told
 abbrev pub Agrees : NetFault → NetFault → Type 0
 Agrees (Cycle j) (Cycle k) = Unit {0}
-Agrees OutOfMemory g = Unit {0}
-Agrees f OutOfMemory = Unit {0}
 Agrees f g = f ≡ g

@@ -5,10 +5,10 @@ ghost use Rattle.std.specs.Option.{option_to_list};
 ghost use Rattle.wiring.specs.Netlist.{netlist_of};
 ghost use Rattle.netlist.specs.Names.{names_of as names_told};
 ghost use Rattle.netlist.specs.Scopes.{scope_of, netlist_of_parts, names_of_parts, collected, SizesFit};
-ghost use Rattle.netlist.specs.Faults.{PassesPorts, PassesStatements, IsFault, IsModuleOf};
+ghost use Rattle.netlist.specs.Faults.{PassesPorts, PassesStatements, IsFault, IsErrorBy, IsModuleOf};
 ghost use Rattle.netlist.specs.Driven.{IsWired, wire_name, reg_name, array_name};
 
-use crate::fault::NetFault;
+use crate::fault::NetError;
 use crate::laws::rules_kept;
 use crate::module::Module;
 use crate::names::Names;
@@ -27,13 +27,13 @@ pub(crate) struct Wired {
 }
 
 // The nets, and the statements that drive them.
-fn wiring_of(alloc: Global, parts: &Parts, scope: &Scope) -> Result<Wiring, NetFault>
+fn wiring_of(alloc: Global, parts: &Parts, scope: &Scope) -> Result<Wiring, NetError>
     requires passes { PassesPorts parts.now }
     requires scope { scope.now ≡ scope_of parts.now }
     ensures netlist { IfOk result (λ w. netlist_of w ≡ netlist_of_parts parts.now) }
     ensures passes { OnOk result (PassesStatements parts.now) }
     ensures sizes { OnOk result (SizesFit parts.now) }
-    ensures fault { IfErr result (IsFault parts.now) }
+    ensures fault { IfErr result (IsErrorBy (IsFault parts.now)) }
 {
     let nets = declare::nets_of(alloc, parts)?;
     let assigns = statement::checked_assigns(alloc, scope, &nets, &parts.assigns)?;
@@ -46,9 +46,9 @@ fn wiring_of(alloc: Global, parts: &Parts, scope: &Scope) -> Result<Wiring, NetF
 }
 
 // The parts with nets and arrays in place of names.
-fn wired_of(alloc: Global, parts: &Parts) -> Result<Wired, NetFault>
+fn wired_of(alloc: Global, parts: &Parts) -> Result<Wired, NetError>
     ensures ok { IfOk result (IsWired parts.now) }
-    ensures fault { IfErr result (IsFault parts.now) }
+    ensures fault { IfErr result (IsErrorBy (IsFault parts.now)) }
 {
     let scope = declare::scope_of(alloc, parts)?;
     profile::check_ports(parts)?;
@@ -124,9 +124,9 @@ fn names_of(alloc: Global, parts: Parts) -> Result<Names, AllocError>
 
 impl Module {
     /// The module that these parts make, or their first fault in the order of the passes.
-    pub fn checked(alloc: Global, parts: Parts) -> Result<Module, NetFault>
+    pub fn checked(alloc: Global, parts: Parts) -> Result<Module, NetError>
         ensures made { IfOk result (IsModuleOf parts) }
-        ensures fault { IfErr result (IsFault parts) }
+        ensures fault { IfErr result (IsErrorBy (IsFault parts)) }
     {
         let Wired { wiring, order } = wired_of(alloc, &parts)?;
         let names = names_of(alloc, parts)?;

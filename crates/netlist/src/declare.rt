@@ -1,17 +1,16 @@
 // What is declared: the scope and the nets of parts.
 
-ghost use Rattle.std.specs.Prelude.{◌≡◌, ◌⊎◌, ◌+◌, ◌++◌, ◌<◌, ◌^◌, true, length, All, OnOk, IfOk, IfErr};
+ghost use Rattle.std.specs.Prelude.{◌≡◌, ◌+◌, ◌++◌, ◌<◌, ◌^◌, true, length, All, OnOk, IfOk, IfErr};
 ghost use Rattle.std.specs.Option.{option_to_list};
 ghost use Rattle.net_names.specs.Words.{is_name};
-ghost use Rattle.netlist.specs.declared.fault.NetFault.TheVariants.{OutOfMemory};
 ghost use Rattle.netlist.specs.declared.parts.Port.{Port as OnePort};
 ghost use Rattle.netlist.specs.declared.parts.Declaration.{Declaration as OneDeclaration};
 ghost use Rattle.netlist.specs.Scopes.{port_meaning, inputs_after, outputs_after, port_entries, all_ports, sort_meaning, wires_after, regs_after, arrays_after, declared_entries, scope_of as scope_of_parts, past_clock as ports_past_clock, has_enable as enable_among, collected, taken, given, wire_width, reg_width, array_shape, SortFits, NamesAre};
 ghost use Rattle.netlist.specs.Entries.{meaning_of, names_in, IsSecondPort, IsSecondDeclaration};
-ghost use Rattle.netlist.specs.Faults.{NamesDiffer, IsFault};
+ghost use Rattle.netlist.specs.Faults.{NamesDiffer, IsFault, IsErrorBy};
 ghost use Rattle.netlist.specs.Statements.{HasNets};
 
-use crate::fault::{Declared, NetFault};
+use crate::fault::{Declared, NetError};
 use crate::parts::{Declaration, Direction, Parts, Port, Sort};
 use crate::profile;
 use crate::scope::{Scope, Stands};
@@ -48,10 +47,10 @@ fn output_after(direction: Direction, outputs: usize) -> usize
 }
 
 // Adds the ports behind the clock.
-fn add_ports<'a>(scope: &mut Scope<'a>, ports: &'a [Port]) -> Result<(), NetFault>
+fn add_ports<'a>(scope: &mut Scope<'a>, ports: &'a [Port]) -> Result<(), NetError>
     requires { length scope.old ≡ 1 }
     ensures ok { OnOk result (scope.new ≡ scope.old ++ port_entries 0 0 ports.now) }
-    ensures fault { IfErr result (λ f. (f ≡ OutOfMemory) ⊎ IsSecondPort (names_in (scope.old ++ port_entries 0 0 ports.now)) (1 + length ports.now) f) }
+    ensures fault { IfErr result (IsErrorBy (IsSecondPort (names_in (scope.old ++ port_entries 0 0 ports.now)) (1 + length ports.now))) }
 {
     let mut inputs = 0;
     let mut outputs = 0;
@@ -65,10 +64,10 @@ fn add_ports<'a>(scope: &mut Scope<'a>, ports: &'a [Port]) -> Result<(), NetFaul
 }
 
 // Adds the clock, where there is one, and the ports behind it.
-fn add_all_ports<'a>(scope: &mut Scope<'a>, ports: &'a [Port]) -> Result<(), NetFault>
+fn add_all_ports<'a>(scope: &mut Scope<'a>, ports: &'a [Port]) -> Result<(), NetError>
     requires { length scope.old ≡ 0 }
     ensures ok { OnOk result (scope.new ≡ all_ports ports.now) }
-    ensures fault { IfErr result (λ f. (f ≡ OutOfMemory) ⊎ IsSecondPort (names_in (all_ports ports.now)) (length ports.now) f) }
+    ensures fault { IfErr result (IsErrorBy (IsSecondPort (names_in (all_ports ports.now)) (length ports.now))) }
 {
     match ports.split_first() {
         None => Ok(()),
@@ -134,10 +133,10 @@ fn counts_after(sort: Sort, counts: Counts) -> Counts
 fn add_declarations<'a>(
     scope: &mut Scope<'a>,
     declarations: &'a [Declaration],
-) -> Result<(), NetFault>
+) -> Result<(), NetError>
     ensures ok { OnOk result (scope.new ≡ scope.old ++ declared_entries 0 0 0 declarations.now) }
     ensures names { OnOk result (All (λ (d : OneDeclaration). is_name d.name ≡ true) declarations.now) }
-    ensures fault { IfErr result (λ f. (f ≡ OutOfMemory) ⊎ IsSecondDeclaration (names_in (scope.old ++ declared_entries 0 0 0 declarations.now)) (length scope.old) f) }
+    ensures fault { IfErr result (IsErrorBy (IsSecondDeclaration (names_in (scope.old ++ declared_entries 0 0 0 declarations.now)) (length scope.old))) }
 {
     let mut counts = Counts {
         wires: 0,
@@ -157,11 +156,11 @@ fn add_declarations<'a>(
 }
 
 // What each name of the parts stands for, or the first name that is declared a second time.
-pub(crate) fn scope_of(alloc: Global, parts: &Parts) -> Result<Scope<'_>, NetFault>
+pub(crate) fn scope_of(alloc: Global, parts: &Parts) -> Result<Scope<'_>, NetError>
     ensures scope { IfOk result (λ s. s ≡ scope_of_parts parts.now) }
     ensures differ { OnOk result (NamesDiffer parts.now) }
     ensures names { OnOk result (NamesAre parts.now) }
-    ensures fault { IfErr result (IsFault parts.now) }
+    ensures fault { IfErr result (IsErrorBy (IsFault parts.now)) }
 {
     let mut scope = Scope::new(alloc);
     let _name = parts.name.as_bytes();

@@ -1,18 +1,17 @@
 // What drives each net and array, and in which order.
 
-ghost use Rattle.std.specs.Prelude.{◌≡◌, ◌⊎◌, ◌<◌, length, slice_get, All, OnOk, IfOk, IfErr, IfNone, IfSome};
+ghost use Rattle.std.specs.Prelude.{◌≡◌, ◌<◌, length, slice_get, All, OnOk, IfOk, IfErr, IfNone, IfSome};
 ghost use Rattle.wiring.specs.declared.netlist.Assign.{Assign};
 ghost use Rattle.wiring.specs.declared.netlist.Update.{Update};
 ghost use Rattle.wiring.specs.Netlist.{netlist_of, update_target};
 ghost use Rattle.wiring.specs.Tables.{IsTarget, IsStateTarget, IsTable, IsUpdateTable};
 ghost use Rattle.wiring.specs.Order.{IsEvaluationOrder};
-ghost use Rattle.netlist.specs.declared.fault.NetFault.TheVariants.{OutOfMemory};
 ghost use Rattle.netlist.specs.Scopes.{Entry};
 ghost use Rattle.netlist.specs.Entries.{meaning_of};
-ghost use Rattle.netlist.specs.Faults.{FirstWrong, IsPlace};
+ghost use Rattle.netlist.specs.Faults.{FirstWrong, IsPlace, IsErrorBy};
 ghost use Rattle.netlist.specs.Driven.{is_driven_by, IsDrivenEntry, AreTables, IsDrivenTwice, IsSecondAssign, IsSecondUpdate, IsFirstUndriven, IsCycle};
 
-use crate::fault::{Declared, NetFault, Statement};
+use crate::fault::{Declared, NetError, NetFault, Statement};
 use crate::parts::Parts;
 use crate::scope::{Scope, Stands};
 use std::alloc::Global;
@@ -26,39 +25,43 @@ pub(crate) struct Tables {
 }
 
 // The assign of each output and wire, or the second assign of one.
-fn drivers_of(alloc: Global, wiring: &Wiring) -> Result<Drivers, NetFault>
+fn drivers_of(alloc: Global, wiring: &Wiring) -> Result<Drivers, NetError>
     requires { All (λ (a : Assign). IsTarget (length wiring.now.outputs.items) (length wiring.now.wires.items) a.target) wiring.now.assigns.items }
     ensures ok { IfOk result (IsTable wiring.now.assigns.items) }
-    ensures fault { IfErr result (λ f. (f ≡ OutOfMemory) ⊎ IsSecondAssign (netlist_of wiring.now) f) }
+    ensures fault { IfErr result (IsErrorBy (IsSecondAssign (netlist_of wiring.now))) }
 {
     let outputs = wiring.outputs.len();
     match wiring::drivers_of(alloc, outputs, wiring.wires.len(), &wiring.assigns) {
         Ok(drivers) => Ok(drivers),
-        Err(TableFault::Twice(k)) => Err(NetFault::DrivenTwice(Statement::Assign(k))),
-        Err(TableFault::OutOfMemory) => Err(NetFault::OutOfMemory),
+        Err(TableFault::Twice(k)) => Err(NetError::Fault(NetFault::DrivenTwice(Statement::Assign(
+            k,
+        )))),
+        Err(TableFault::OutOfMemory) => Err(NetError::OutOfMemory),
     }
 }
 
 // The update of each register and array, or the second update of one.
-fn updaters_of(alloc: Global, wiring: &Wiring) -> Result<Updaters, NetFault>
+fn updaters_of(alloc: Global, wiring: &Wiring) -> Result<Updaters, NetError>
     requires { All (λ (u : Update). IsStateTarget (length wiring.now.regs.items) (length wiring.now.arrays.items) (update_target u)) wiring.now.updates.items }
     ensures ok { IfOk result (IsUpdateTable wiring.now.updates.items) }
-    ensures fault { IfErr result (λ f. (f ≡ OutOfMemory) ⊎ IsSecondUpdate (netlist_of wiring.now) f) }
+    ensures fault { IfErr result (IsErrorBy (IsSecondUpdate (netlist_of wiring.now))) }
 {
     let regs = wiring.regs.len();
     match wiring::updaters_of(alloc, regs, wiring.arrays.len(), &wiring.updates) {
         Ok(updaters) => Ok(updaters),
-        Err(TableFault::Twice(k)) => Err(NetFault::DrivenTwice(Statement::Update(k))),
-        Err(TableFault::OutOfMemory) => Err(NetFault::OutOfMemory),
+        Err(TableFault::Twice(k)) => Err(NetError::Fault(NetFault::DrivenTwice(Statement::Update(
+            k,
+        )))),
+        Err(TableFault::OutOfMemory) => Err(NetError::OutOfMemory),
     }
 }
 
 // What drives each net and array, or the second driver of one, assigns first.
-pub(crate) fn tables_of(alloc: Global, wiring: &Wiring) -> Result<Tables, NetFault>
+pub(crate) fn tables_of(alloc: Global, wiring: &Wiring) -> Result<Tables, NetError>
     requires targets { All (λ (a : Assign). IsTarget (length wiring.now.outputs.items) (length wiring.now.wires.items) a.target) wiring.now.assigns.items }
     requires states { All (λ (u : Update). IsStateTarget (length wiring.now.regs.items) (length wiring.now.arrays.items) (update_target u)) wiring.now.updates.items }
     ensures tables { IfOk result (AreTables (netlist_of wiring.now)) }
-    ensures fault { IfErr result (λ f. (f ≡ OutOfMemory) ⊎ IsDrivenTwice (netlist_of wiring.now) f) }
+    ensures fault { IfErr result (IsErrorBy (IsDrivenTwice (netlist_of wiring.now))) }
 {
     let drivers = drivers_of(alloc, wiring)?;
     let updaters = updaters_of(alloc, wiring)?;
@@ -129,14 +132,14 @@ pub(crate) fn order_of(
     alloc: Global,
     wiring: &Wiring,
     drivers: &Drivers,
-) -> Result<Vec<usize>, NetFault>
+) -> Result<Vec<usize>, NetError>
     requires { IsTable wiring.now.assigns.items drivers.now }
     ensures ok { IfOk result (λ order. IsEvaluationOrder wiring.now.assigns.items order.items) }
-    ensures fault { IfErr result (λ f. (f ≡ OutOfMemory) ⊎ IsCycle (netlist_of wiring.now) f) }
+    ensures fault { IfErr result (IsErrorBy (IsCycle (netlist_of wiring.now))) }
 {
     match wiring::evaluation_order(alloc, &wiring.assigns, drivers) {
         Ok(order) => Ok(order),
-        Err(OrderFault::Cycle(k)) => Err(NetFault::Cycle(k)),
-        Err(OrderFault::OutOfMemory) => Err(NetFault::OutOfMemory),
+        Err(OrderFault::Cycle(k)) => Err(NetError::Fault(NetFault::Cycle(k))),
+        Err(OrderFault::OutOfMemory) => Err(NetError::OutOfMemory),
     }
 }

@@ -1,7 +1,7 @@
 // Net faults.
 
 ghost use Rattle.std.specs.Prelude.{◌≡◌};
-ghost use Rattle.netlist.specs.declared.fault.NetFault.TheVariants.{OutOfMemory};
+ghost use Rattle.netlist.specs.declared.fault.NetError.TheVariants.{Fault as AFault, OutOfMemory};
 
 use std::alloc::{AllocError, AllocFailed};
 
@@ -49,23 +49,37 @@ pub enum NetFault {
     /// The assign of this number depends on itself.
     #[error("Cycle at assign {0}")]
     Cycle(usize),
-    /// There was not enough memory to tell.
+}
+
+/// Why no module was made of parts: their first fault, or want of memory.
+#[derive(Clone, Copy, Debug, PartialEq, Eq, thiserror::Error)]
+pub enum NetError {
+    #[error("{0}")]
+    Fault(NetFault),
     #[error("out of memory")]
     OutOfMemory,
 }
 
-impl From<AllocError> for NetFault {
-    ghost from_gives = { λ _ e. e ≡ OutOfMemory };
+impl From<NetFault> for NetError {
+    ghost from_gives = { λ f e. e ≡ AFault f };
 
-    fn from(_: AllocError) -> Self {
-        NetFault::OutOfMemory
+    fn from(fault: NetFault) -> Self {
+        NetError::Fault(fault)
     }
 }
 
-impl<T: Drop> From<AllocFailed<T>> for NetFault {
+impl From<AllocError> for NetError {
+    ghost from_gives = { λ _ e. e ≡ OutOfMemory };
+
+    fn from(_: AllocError) -> Self {
+        NetError::OutOfMemory
+    }
+}
+
+impl<T: Drop> From<AllocFailed<T>> for NetError {
     ghost from_gives = { λ _ e. e ≡ OutOfMemory };
 
     fn from(_: AllocFailed<T>) -> Self {
-        NetFault::OutOfMemory
+        NetError::OutOfMemory
     }
 }

@@ -13,15 +13,14 @@ ghost use Rattle.wiring.specs.Clock.{Clock};
 ghost use Rattle.wiring.specs.Runs.{Runs, RunStops};
 ghost use Rattle.netlist.specs.declared.parts.Parts.{Parts};
 ghost use Rattle.netlist.specs.declared.fault.NetFault.{NetFault};
-ghost use Rattle.netlist.specs.declared.fault.NetFault.TheVariants.{OutOfMemory};
 ghost use Rattle.netlist.specs.Names.{HasNames, NamedNetlist};
 ghost use Rattle.netlist.specs.Scopes.{NamesAre, SizesFit};
 ghost use Rattle.netlist.specs.Faults.{IsFault, IsModuleOf, Agrees};
 
-/// A law: two faults of the same parts are one, but for the target that Cycle names and want of memory; parts that make a module have no fault.
+/// A law: two faults of the same parts are one, but for the target that Cycle names; parts that make a module have no fault.
 pub fn one_fault()
     ensures agree { (p : Parts) (f g : NetFault) → IsFault p f → IsFault p g → Agrees f g }
-    ensures apart { (p : Parts) (m : NamedNetlist) (f : NetFault) → IsModuleOf p m → IsFault p f → f ≡ OutOfMemory }
+    ensures apart { (p : Parts) (m : NamedNetlist) (f : NetFault) → IsModuleOf p m → IsFault p f → ⊥ }
 {}
 
 /// A law: over each list of clocks a run from contents with their places goes to the end or to a clock that stops, and there is one such run.

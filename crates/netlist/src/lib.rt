@@ -17,7 +17,7 @@ mod statement;
 mod width;
 
 pub use buffer::buffer_bits;
-pub use fault::{Declared, NetFault, Statement};
+pub use fault::{Declared, NetError, NetFault, Statement};
 pub use laws::{bounds_are_limits, one_fault, one_run, rules_kept, values_fit};
 pub use module::Module;
 pub use names::Names;

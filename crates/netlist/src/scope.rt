@@ -1,6 +1,6 @@
 // What names stand for.
 
-use crate::fault::{Declared, NetFault};
+use crate::fault::{Declared, NetError, NetFault};
 use indexmap::IndexMap;
 use std::alloc::Global;
 use std::marker::Model;
@@ -41,6 +41,7 @@ impl<'a> Scope<'a> {
     ghost use Rattle.netlist.specs.Names.{AreDistinct};
     ghost use Rattle.netlist.specs.Scopes.{Entry, stands_for};
     ghost use Rattle.netlist.specs.Entries.{meaning_of, names_in, IsTaken};
+    ghost use Rattle.netlist.specs.Faults.{IsErrorBy};
 
     pub(crate) fn new(alloc: Global) -> Scope<'a>
         ensures { result ≡ [] }
@@ -63,11 +64,11 @@ impl<'a> Scope<'a> {
         name: &'a [u8],
         stands: Stands,
         declared: Declared,
-    ) -> Result<(), NetFault>
-        ensures { MatchResult result (λ _. self.new ≡ self.old ++ (record { name = name.now; meaning = meaning_of stands }) ∷ []) (IsTaken self.old name.now declared) }
+    ) -> Result<(), NetError>
+        ensures { MatchResult result (λ _. self.new ≡ self.old ++ (record { name = name.now; meaning = meaning_of stands }) ∷ []) (IsErrorBy (IsTaken self.old name.now declared)) }
     {
         if self.names.contains_key(name) {
-            return Err(NetFault::Duplicate(declared));
+            return Err(NetError::Fault(NetFault::Duplicate(declared)));
         }
         self.names.insert(name, stands)?;
         Ok(())

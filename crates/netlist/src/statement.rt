@@ -1,13 +1,13 @@
 // Statements, checked one by one.
 
-ghost use Rattle.std.specs.Prelude.{◌≡◌, ◌⊎◌, ◌++◌, ◌∷◌, [], All, OnOk, IfOk, IfErr, IsTrue};
+ghost use Rattle.std.specs.Prelude.{◌≡◌, ◌++◌, ◌∷◌, [], All, OnOk, IfOk, IfErr, IsTrue};
 ghost use Rattle.wiring.specs.Netlist.{netlist_of};
-ghost use Rattle.netlist.specs.declared.fault.NetFault.TheVariants.{OutOfMemory};
 ghost use Rattle.netlist.specs.declared.fault.Statement.TheVariants.{Assign as AssignAt, Update as UpdateAt};
 ghost use Rattle.netlist.specs.Scopes.{collected, assign_named, update_named};
+ghost use Rattle.netlist.specs.Faults.{IsErrorBy};
 ghost use Rattle.netlist.specs.Statements.{IsOfDrivenSort, StandsForAssign, StandsForUpdate, IsGoodAssign, IsGoodUpdate, IsWrongAssign, IsWrongUpdate, IsFirstFault, fault_of};
 
-use crate::fault::{NetFault, Statement};
+use crate::fault::{NetError, NetFault, Statement};
 use crate::parts::{NamedAssign, NamedUpdate};
 use crate::scope::Scope;
 use crate::{resolve, width};
@@ -108,16 +108,16 @@ pub(crate) fn checked_assigns(
     scope: &Scope,
     wiring: &Wiring,
     named: &[NamedAssign],
-) -> Result<Vec<Assign>, NetFault>
+) -> Result<Vec<Assign>, NetError>
     ensures ok { IfOk result (λ bs. bs.items ≡ collected (assign_named scope.now) named.now) }
     ensures good { OnOk result (All (IsGoodAssign scope.now (netlist_of wiring.now)) named.now) }
-    ensures wrong { IfErr result (λ f. (f ≡ OutOfMemory) ⊎ IsFirstFault (IsGoodAssign scope.now (netlist_of wiring.now)) (IsWrongAssign scope.now (netlist_of wiring.now)) (λ k. AssignAt k) named.now f) }
+    ensures wrong { IfErr result (IsErrorBy (IsFirstFault (IsGoodAssign scope.now (netlist_of wiring.now)) (IsWrongAssign scope.now (netlist_of wiring.now)) (λ k. AssignAt k) named.now)) }
 {
     let mut assigns = Vec::new(alloc);
     for (k, one) in named.iter().enumerate() {
         match checked_assign(scope, wiring, one) {
             Ok(assign) => keep_assign(&mut assigns, assign)?,
-            Err(wrong) => return Err(fault(wrong, Statement::Assign(k))),
+            Err(wrong) => return Err(NetError::Fault(fault(wrong, Statement::Assign(k)))),
         }
     }
     Ok(assigns)
@@ -129,16 +129,16 @@ pub(crate) fn checked_updates(
     scope: &Scope,
     wiring: &Wiring,
     named: &[NamedUpdate],
-) -> Result<Vec<Update>, NetFault>
+) -> Result<Vec<Update>, NetError>
     ensures ok { IfOk result (λ vs. vs.items ≡ collected (update_named scope.now) named.now) }
     ensures good { OnOk result (All (IsGoodUpdate scope.now (netlist_of wiring.now)) named.now) }
-    ensures wrong { IfErr result (λ f. (f ≡ OutOfMemory) ⊎ IsFirstFault (IsGoodUpdate scope.now (netlist_of wiring.now)) (IsWrongUpdate scope.now (netlist_of wiring.now)) (λ k. UpdateAt k) named.now f) }
+    ensures wrong { IfErr result (IsErrorBy (IsFirstFault (IsGoodUpdate scope.now (netlist_of wiring.now)) (IsWrongUpdate scope.now (netlist_of wiring.now)) (λ k. UpdateAt k) named.now)) }
 {
     let mut updates = Vec::new(alloc);
     for (k, one) in named.iter().enumerate() {
         match checked_update(scope, wiring, one) {
             Ok(update) => keep_update(&mut updates, update)?,
-            Err(wrong) => return Err(fault(wrong, Statement::Update(k))),
+            Err(wrong) => return Err(NetError::Fault(fault(wrong, Statement::Update(k)))),
         }
     }
     Ok(updates)

@@ -1,5 +1,5 @@
 -- A text has one source, or one fault of its tokens and its grammar, and never both.
-use Rattle.std.proofs.Common.{◌≡◌, ◌≢◌, ◌++◌, ℕ, List, [], ◌∷◌, Some, length, slice_get, refl, sym, ap, ◌∙◌, subst, Ok, Err, Result, MatchResult, IfOk}
+use Rattle.std.proofs.Common.{◌≡◌, ◌≢◌, ◌++◌, ℕ, List, [], ◌∷◌, Some, length, slice_get, refl, sym, ap, ◌∙◌, subst, Ok, Err, Result, MatchResult, IfOk, IsErrAnd}
 use Rattle.dk_base.specs.declared.span.Span.{Span}
 use Rattle.dk_grammar.specs.Reading.{Stuck, IsFaulty}
 use Rattle.dk_grammar.proofs.Clears.{first_same, rest_same}
@@ -11,12 +11,14 @@ use Rattle.verilog_text.specs.declared.token.Keyword.TheVariants as keyword
 use Rattle.verilog_text.specs.declared.token.TokenKind.{TokenKind}
 use Rattle.verilog_text.specs.declared.token.TokenKind.TheVariants as kind
 use Rattle.verilog_text.specs.declared.fault.TextFault.{TextFault}
-use Rattle.verilog_text.specs.declared.fault.TextFault.TheVariants.{Lex, Syntax, NotInSubset, Limit, Net, OutOfMemory}
+use Rattle.verilog_text.specs.declared.fault.TextFault.TheVariants.{Lex, Syntax, NotInSubset, Limit, Net}
+use Rattle.verilog_text.specs.declared.fault.TextError.{TextError}
+use Rattle.verilog_text.specs.declared.fault.TextError.TheVariants.{Fault, OutOfMemory}
 use Rattle.verilog_text.specs.declared.written.Written.{Written}
 use Rattle.verilog_text.specs.Lexis.{HasTokens, HasLexFault}
 use Rattle.verilog_text.specs.Grammar.{named as named_as, Source, source_of, Module, whole}
 use Rattle.verilog_text.specs.Stands.{IsWritten}
-use Rattle.verilog_text.specs.Faults.{IsModule, IsFaultyToken, Agrees}
+use Rattle.verilog_text.specs.Faults.{IsModule, IsFaultyToken, IsErrorBy}
 use Rattle.verilog_parse.specs.Fault.{IsParseFault, fault_of, fault_at}
 use Rattle.verilog_parse.specs.Sections.{AModule}
 use Rattle.verilog_parse.specs.Named.{IsNamedSource}
@@ -75,18 +77,17 @@ not_faulty l text s t w f =
     let e = l.tokens text w.tokens f.tokens w.has_tokens f.has_tokens in
     none_faulty IsModule f.tokens f.index (s, subst (λ x. Module x s) e w.is_module) f.faulty
 
-pub no_fault : OneReading → (text : List ℕ) (s : Source) (f : TextFault) → IsWritten text s → IsParseFault text f → f ≡ OutOfMemory
-no_fault l text s (Lex f) w h = absurd (l.apart text w.tokens f w.has_tokens h)
-no_fault l text s (Syntax x) w h = absurd (not_faulty l text s h.token w h.faulty)
-no_fault l text s (NotInSubset x) w h = absurd (not_faulty l text s h.token w h.faulty)
-no_fault l text s (Limit f) w h = absurd h
-no_fault l text s (Net x f) w h = absurd h
-no_fault l text s OutOfMemory w h = refl
+pub no_fault : OneReading → (text : List ℕ) (s : Source) (f : TextFault) → IsWritten text s → IsParseFault text f → ⊥
+no_fault l text s (Lex f) w h = l.apart text w.tokens f w.has_tokens h
+no_fault l text s (Syntax x) w h = not_faulty l text s h.token w h.faulty
+no_fault l text s (NotInSubset x) w h = not_faulty l text s h.token w h.faulty
+no_fault l text s (Limit f) w h = h
+no_fault l text s (Net x f) w h = h
 
 same_span : (t u : Token) (a b : Span) → t ≡ u → t.span ≡ a → u.span ≡ b → a ≡ b
 same_span t u a b e p q = sym p ∙ ap (λ x. x.span) e ∙ q
 
-pub one_fault : OneReading → (text : List ℕ) (f g : TextFault) → IsParseFault text f → IsParseFault text g → Agrees f g
+pub one_fault : OneReading → (text : List ℕ) (f g : TextFault) → IsParseFault text f → IsParseFault text g → f ≡ g
 one_fault l text (Lex f) (Lex g) a b = ap (λ x. Lex x) (l.fault text f g a b)
 one_fault l text (Lex f) (Syntax y) a b = absurd (l.apart text b.faulty.tokens f b.faulty.has_tokens a)
 one_fault l text (Lex f) (NotInSubset y) a b = absurd (l.apart text b.faulty.tokens f b.faulty.has_tokens a)
@@ -100,28 +101,26 @@ one_fault l text (Limit f) g a b = absurd a
 one_fault l text (Net x f) g a b = absurd a
 one_fault l text f (Limit g) a b = absurd b
 one_fault l text f (Net x g) a b = absurd b
-one_fault l text OutOfMemory g a b = tt
-one_fault l text (Lex f) OutOfMemory a b = tt
-one_fault l text (Syntax f) OutOfMemory a b = tt
-one_fault l text (NotInSubset f) OutOfMemory a b = tt
 
 -- the answers of a call
-abbrev Answers : List ℕ → Result Written TextFault → Type 0
-Answers text r = MatchResult r (λ w. IsWritten text (source_of w)) (λ f. IsParseFault text f)
+abbrev Answers : List ℕ → Result Written TextError → Type 0
+Answers text r = MatchResult r (λ w. IsWritten text (source_of w)) (IsErrorBy (IsParseFault text))
 
-pub accepts : OneReading → (text : List ℕ) (r : Result Written TextFault) → Answers text r → (s : Source) → IsWritten text s → MatchResult r (λ w. source_of w ≡ s) (λ f. f ≡ OutOfMemory)
+pub accepts : OneReading → (text : List ℕ) (r : Result Written TextError) → Answers text r → (s : Source) → IsWritten text s → MatchResult r (λ w. source_of w ≡ s) (λ e. e ≡ OutOfMemory)
 accepts l text (Ok w) a s h =
     let e = l.tokens text a.tokens h.tokens a.has_tokens h.has_tokens in
     l.source h.tokens (source_of w) s (subst (λ x. Module x (source_of w)) e a.is_module) h.is_module
-accepts l text (Err f) a s h = no_fault l text s f h a
+accepts l text (Err (Fault f)) a s h = absurd (no_fault l text s f h a)
+accepts l text (Err OutOfMemory) a s h = refl
 
-pub refuses : OneReading → (text : List ℕ) (r : Result Written TextFault) → Answers text r → (f : TextFault) → IsParseFault text f → MatchResult r (λ w. f ≡ OutOfMemory) (λ g. Agrees g f)
+pub refuses : OneReading → (text : List ℕ) (r : Result Written TextError) → Answers text r → (f : TextFault) → IsParseFault text f → IsErrAnd r (IsErrorBy (λ g. g ≡ f))
 refuses l text (Ok w) a f h = no_fault l text (source_of w) f a h
-refuses l text (Err g) a f h = one_fault l text g f a h
+refuses l text (Err (Fault g)) a f h = one_fault l text g f a h
+refuses l text (Err OutOfMemory) a f h = tt
 
-pub named : (text : List ℕ) (r : Result Written TextFault) → Answers text r → IfOk r (λ w. IsNamedSource text (source_of w))
+pub named : (text : List ℕ) (r : Result Written TextError) → Answers text r → IfOk r (λ w. IsNamedSource text (source_of w))
 named text (Ok w) a = written_named text (source_of w) a
-named text (Err f) a = tt
+named text (Err e) a = tt
 
 -- the second token is the name
 name_here : (t : Token) (k : TokenKind) (n : Span) → t.kind ≡ k → named_as k t.span ≡ Some n → t.span ≡ n

@@ -1,11 +1,11 @@
 // Whole texts.
 
-ghost use Rattle.std.specs.Prelude.{◌≡◌, ℕ, List, IfOk, IfErr, MatchResult};
+ghost use Rattle.std.specs.Prelude.{◌≡◌, ℕ, List, IfOk, IfErr, IsErrAnd, MatchResult};
 ghost use Rattle.verilog_text.specs.declared.fault.TextFault.{TextFault as OneFault};
-ghost use Rattle.verilog_text.specs.declared.fault.TextFault.TheVariants.{OutOfMemory};
+ghost use Rattle.verilog_text.specs.declared.fault.TextError.TheVariants.{OutOfMemory};
 ghost use Rattle.verilog_text.specs.Grammar.{Source, source_of};
 ghost use Rattle.verilog_text.specs.Stands.{IsWritten};
-ghost use Rattle.verilog_text.specs.Faults.{Agrees};
+ghost use Rattle.verilog_text.specs.Faults.{IsErrorBy};
 ghost use Rattle.verilog_parse.specs.Named.{IsNamedSource};
 ghost use Rattle.verilog_parse.specs.Fault.{IsParseFault, fault_at as fault_at_token};
 
@@ -14,18 +14,18 @@ use crate::module::module;
 use dk_base::Span;
 use std::alloc::Global;
 use verilog_lexer::Tokens;
-use verilog_text::{TextFault, Token, TokenKind, Written};
+use verilog_text::{TextError, TextFault, Token, TokenKind, Written};
 
 /// What is written in a text, or the first fault of its tokens, or else of its grammar.
-pub fn parse(alloc: Global, text: &[u8]) -> Result<Written, TextFault>
+pub fn parse(alloc: Global, text: &[u8]) -> Result<Written, TextError>
     // What is answered is so.
     ensures written { IfOk result (λ w. IsWritten text.now (source_of w)) }
-    ensures fault { IfErr result (λ f. IsParseFault text.now f) }
+    ensures fault { IfErr result (IsErrorBy (IsParseFault text.now)) }
     ensures named { IfOk result (λ w. IsNamedSource text.now (source_of w)) }
 
     // What is so is answered, but for want of memory.
-    ensures accepts { (s : Source) → IsWritten text.now s → MatchResult result (λ w. source_of w ≡ s) (λ f. f ≡ OutOfMemory) }
-    ensures refuses { (f : OneFault) → IsParseFault text.now f → MatchResult result (λ w. f ≡ OutOfMemory) (λ g. Agrees g f) }
+    ensures accepts { (s : Source) → IsWritten text.now s → MatchResult result (λ w. source_of w ≡ s) (λ e. e ≡ OutOfMemory) }
+    ensures refuses { (f : OneFault) → IsParseFault text.now f → IsErrAnd result (IsErrorBy (λ g. g ≡ f)) }
 {
     verilog_text::one_reading();
     read(alloc, text)
@@ -41,17 +41,17 @@ fn fault_at(token: Token) -> TextFault
     }
 }
 
-fn read(alloc: Global, text: &[u8]) -> Result<Written, TextFault>
-    ensures { MatchResult result (λ w. IsWritten text.now (source_of w)) (λ f. IsParseFault text.now f) }
+fn read(alloc: Global, text: &[u8]) -> Result<Written, TextError>
+    ensures { MatchResult result (λ w. IsWritten text.now (source_of w)) (IsErrorBy (IsParseFault text.now)) }
 {
     let mut tokens = match Tokens::of(text) {
         Ok(tokens) => tokens,
-        Err(fault) => return Err(TextFault::Lex(fault)),
+        Err(fault) => return Err(TextError::Fault(TextFault::Lex(fault))),
     };
     match module(alloc, &mut tokens) {
         Ok(written) => Ok(written),
-        Err(Halt::Faulty) => Err(fault_at(tokens.peek())),
-        Err(Halt::OutOfMemory) => Err(TextFault::OutOfMemory),
+        Err(Halt::Faulty) => Err(TextError::Fault(fault_at(tokens.peek()))),
+        Err(Halt::OutOfMemory) => Err(TextError::OutOfMemory),
     }
 }
 

@@ -16,16 +16,15 @@ use Rattle.netlist.specs.declared.fault.Statement.TheVariants.{Assign as AssignA
 use Rattle.netlist.specs.declared.parts.NamedAssign.{NamedAssign}
 use Rattle.netlist.specs.declared.parts.NamedUpdate.{NamedUpdate}
 use Rattle.netlist.specs.declared.fault.NetFault.{NetFault}
-use Rattle.netlist.specs.declared.fault.NetFault.TheVariants.{Duplicate, Ports, Unknown, WrongSort, Divisor, Width, DrivenTwice, Undriven, Cycle, OutOfMemory}
+use Rattle.netlist.specs.declared.fault.NetFault.TheVariants.{Duplicate, Ports, Unknown, WrongSort, Divisor, Width, DrivenTwice, Undriven, Cycle}
 use Rattle.netlist.specs.Scopes.{Entry, port_entries, all_ports, inputs_after, outputs_after, declared_entries, wires_after, regs_after, arrays_after, scope_of, assign_named, update_named, collected}
 use Rattle.netlist.specs.Faults.{IsPlace, FirstStatement, IsFault, entry_names}
 use Rattle.verilog_text.specs.Grammar.{Source}
 use Rattle.verilog_text.specs.Stands.{ArePartsOf, port_of, declaration_of, assign_of, update_of}
-use Rattle.verilog_text.specs.Faults.{declared_span, driven_span, updated_span}
+use Rattle.verilog_text.specs.Faults.{declared_span, driven_span, updated_span, fault_span}
 use Rattle.verilog_text.specs.declared.written.WrittenPort.{WrittenPort}
 use Rattle.verilog_text.specs.declared.written.WrittenDeclaration.{WrittenDeclaration}
 use Rattle.verilog_text.specs.declared.written.WrittenAssign.{WrittenAssign}
-use Rattle.verilog_read.specs.Spanned.{IsOf}
 
 ports_many : (i o : ℕ) (ports : List Port) → length (port_entries i o ports) ≡ length ports
 ports_many i o [] = refl
@@ -100,7 +99,7 @@ module _ (text : List ℕ) (s : Source) (p : Parts) (are : ArePartsOf text s p) 
   statement_written A U (AssignAt k) h = assign_written k (slice_get_within p.assigns.items k h.item h.at)
   statement_written A U (UpdateAt k) h = update_written k (slice_get_within p.updates.items k h.1.item h.1.at)
 
-  pub fault_written : (f : NetFault) → IsFault p f → IsOf s f
+  pub fault_written : (f : NetFault) → IsFault p f → IsSome (fault_span s f)
   fault_written (Duplicate d) h =
       let l = slice_get_within (entry_names p) h.0 h.2.second h.2.second_at in
       let n = length-map (scope_of p) (λ (e : Entry). e.name) in
@@ -123,4 +122,3 @@ module _ (text : List ℕ) (s : Source) (p : Parts) (are : ArePartsOf text s p) 
       let l = depends_at (collected (assign_named (scope_of p)) p.assigns.items) h.1 in
       let n = collected_few (assign_named (scope_of p)) p.assigns.items in
       assign_written k (omega (arith, l, n))
-  fault_written OutOfMemory h = tt

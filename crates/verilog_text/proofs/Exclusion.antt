@@ -5,19 +5,17 @@ use Rattle.dk_grammar.specs.Reading.{IsFaulty}
 use Rattle.dk_grammar.proofs.Faulty.{one_faulty, none_faulty}
 use Rattle.netlist.specs.declared.parts.Parts.{Parts}
 use Rattle.netlist.specs.declared.fault.NetFault.{NetFault}
-use Rattle.netlist.specs.declared.fault.NetFault.TheVariants.{Duplicate, Ports, Unknown, WrongSort, Divisor, Width, DrivenTwice, Undriven, Cycle, OutOfMemory as NoMemory}
+use Rattle.netlist.specs.declared.fault.NetFault.TheVariants.{Cycle}
 use Rattle.netlist.specs.Names.{NamedNetlist}
 use Rattle.netlist.specs.Faults.{IsModuleOf, IsFault as IsNetFault, Agrees as NetAgrees}
 use Rattle.verilog_text.specs.declared.token.Token.{Token}
-use Rattle.verilog_text.specs.declared.token.LexFault.{LexFault}
 use Rattle.verilog_text.specs.declared.token.TokenKind.TheVariants.{Refused}
 use Rattle.verilog_text.specs.declared.fault.LimitFault.{LimitFault}
 use Rattle.verilog_text.specs.declared.fault.TextFault.{TextFault}
-use Rattle.verilog_text.specs.declared.fault.TextFault.TheVariants.{Lex, Syntax, NotInSubset, Limit, Net, OutOfMemory}
-use Rattle.verilog_text.specs.Lexis.{HasTokens, HasLexFault}
+use Rattle.verilog_text.specs.declared.fault.TextFault.TheVariants.{Lex, Syntax, NotInSubset, Limit, Net}
 use Rattle.verilog_text.specs.Grammar.{Source, Module}
 use Rattle.verilog_text.specs.Limits.{limit_fault}
-use Rattle.verilog_text.specs.Stands.{IsWritten, ArePartsOf, HasParts, StandsFor}
+use Rattle.verilog_text.specs.Stands.{IsWritten, ArePartsOf, StandsFor}
 use Rattle.verilog_text.specs.Faults.{IsModule, IsFaultyToken, IsRefusedAt, IsSyntaxAt, fault_span, HasNetFault, IsFault, Agrees}
 use Rattle.verilog_text.proofs.Unique.{one_lexing, one_refused, no_tokens}
 use Rattle.verilog_text.proofs.Modules.{one_source}
@@ -61,19 +59,14 @@ not_written : (text : List ℕ) (t : Token) (s : Source) → IsFaultyToken text 
 not_written text t s a b = none_faulty IsModule a.tokens a.index (s, subst (λ x. Module x s) (one_lexing b.has_tokens a.tokens a.has_tokens) b.is_module) a.faulty
 
 -- a cycle may be told at any of its targets
-net_equal : (f g : NetFault) → (f ≡ NoMemory → ⊥) → (g ≡ NoMemory → ⊥) → NetAgrees f g → (f ≡ g) ⊎ ((j : ℕ) × (k : ℕ) × (f ≡ Cycle j) × (g ≡ Cycle k))
-net_equal (Cycle j) (Cycle k) n m a = inr (j, k, refl, refl)
-net_equal NoMemory g n m a = absurd (n refl)
-net_equal f NoMemory n m a = absurd (m refl)
-net_equal f g n m a = inl a
+net_equal : (f g : NetFault) → NetAgrees f g → (f ≡ g) ⊎ ((j : ℕ) × (k : ℕ) × (f ≡ Cycle j) × (g ≡ Cycle k))
+net_equal (Cycle j) (Cycle k) a = inr (j, k, refl, refl)
+net_equal f g a = inl a
 
 net_agree : (a b : Span) (f g : NetFault) → (f ≡ g) ⊎ ((j : ℕ) × (k : ℕ) × (f ≡ Cycle j) × (g ≡ Cycle k)) → (f ≡ g → a ≡ b) → Agrees (Net a f) (Net b g)
 net_agree a b f g (inr (j, k, x, y)) s = subst (λ z. Agrees (Net a z) (Net b g)) (sym x) (subst (λ z. Agrees (Net a (Cycle j)) (Net b z)) (sym y) tt)
 net_agree a b (Cycle j) (Cycle k) (inl e) s = tt
 net_agree a b f g (inl e) s = ap (λ x. Net x f) (s e) ∙ ap (λ x. Net b x) e
-
-no_memory : (s : Source) (f : NetFault) (a : Span) → fault_span s f ≡ Some a → f ≡ NoMemory → ⊥
-no_memory s f a h e = let k : None ≡ Some a = sym (ap (λ x. fault_span s x) e) ∙ h in cc
 
 one_span : (o : Option Span) (a b : Span) → o ≡ Some a → o ≡ Some b → a ≡ b
 one_span o a b p q = cc (p, q)
@@ -91,7 +84,7 @@ module _ (agree : (p : Parts) (f g : NetFault) → IsNetFault p f → IsNetFault
       let same : h.source ≡ k.source = one_written text h.source k.source h.written k.written in
       let found = agree h.parts f g h.fault (same_fault k.parts h.parts e g k.fault) in
       let spans : f ≡ g → a ≡ b = λ x. one_span (fault_span k.source g) a b (subst (λ z. fault_span z g ≡ Some a) same (subst (λ z. fault_span h.source z ≡ Some a) x h.spanned)) k.spanned in
-      net_agree a b f g (net_equal f g (no_memory h.source f a h.spanned) (no_memory k.source g b k.spanned) found) spans
+      net_agree a b f g (net_equal f g found) spans
 
   limit_or_net : (f : LimitFault) (a : Span) (g : NetFault) → (s : Source) × IsWritten text s × (limit_fault s ≡ Some f) → HasNetFault text a g → ⊥
   limit_or_net f a g h k = no_limit (limit_fault k.source) f k.limits (subst (λ z. limit_fault z ≡ Some f) (one_written text h.0 k.source h.1 k.written) h.2)
@@ -103,13 +96,6 @@ module _ (agree : (p : Parts) (f g : NetFault) → IsNetFault p f → IsNetFault
   refused_or_not a b h k = h.allowed (subst (λ t. t.kind ≡ Refused) (one_faulty_token text k.token h.token k.faulty h.faulty) k.refused)
 
   pub one_fault : (f g : TextFault) → IsFault text f → IsFault text g → Agrees f g
-  one_fault OutOfMemory g h k = tt
-  one_fault (Lex f) OutOfMemory h k = tt
-  one_fault (Syntax a) OutOfMemory h k = tt
-  one_fault (NotInSubset a) OutOfMemory h k = tt
-  one_fault (Limit f) OutOfMemory h k = tt
-  one_fault (Net a (Cycle j)) OutOfMemory h k = tt
-  one_fault (Net a f) OutOfMemory h k = tt
   one_fault (Lex f) (Lex g) h k = ap Lex (one_refused h g k)
   one_fault (Lex f) (Syntax b) h k = absurd (no_tokens h k.faulty.tokens k.faulty.has_tokens)
   one_fault (Lex f) (NotInSubset b) h k = absurd (no_tokens h k.faulty.tokens k.faulty.has_tokens)
@@ -137,19 +123,18 @@ module _ (agree : (p : Parts) (f g : NetFault) → IsNetFault p f → IsNetFault
   one_fault (Net a f) (Net b g) h k = both_net a b f g h k
 
 -- a text that stands for a module has no fault
-module _ (apart : (p : Parts) (m : NamedNetlist) (f : NetFault) → IsModuleOf p m → IsNetFault p f → f ≡ NoMemory) (text : List ℕ) (m : NamedNetlist) where
+module _ (apart : (p : Parts) (m : NamedNetlist) (f : NetFault) → IsModuleOf p m → IsNetFault p f → ⊥) (text : List ℕ) (m : NamedNetlist) where
   no_net_fault : (a : Span) (f : NetFault) → StandsFor text m → HasNetFault text a f → ⊥
   no_net_fault a f s k =
       let h = s.has_parts in
       let e = same_parts text k.source h.source k.parts s.parts k.written h.written k.are_parts h.parts in
-      no_memory k.source f a k.spanned (apart s.parts m f s.is_module (same_fault k.parts s.parts e f k.fault))
+      apart s.parts m f s.is_module (same_fault k.parts s.parts e f k.fault)
 
-  pub no_fault : (f : TextFault) → StandsFor text m → IsFault text f → f ≡ OutOfMemory
-  no_fault OutOfMemory s k = refl
-  no_fault (Lex f) s k = absurd (no_tokens k s.has_parts.written.tokens s.has_parts.written.has_tokens)
-  no_fault (Syntax a) s k = absurd (not_written text k.token s.has_parts.source k.faulty s.has_parts.written)
-  no_fault (NotInSubset a) s k = absurd (not_written text k.token s.has_parts.source k.faulty s.has_parts.written)
+  pub no_fault : (f : TextFault) → StandsFor text m → IsFault text f → ⊥
+  no_fault (Lex f) s k = no_tokens k s.has_parts.written.tokens s.has_parts.written.has_tokens
+  no_fault (Syntax a) s k = not_written text k.token s.has_parts.source k.faulty s.has_parts.written
+  no_fault (NotInSubset a) s k = not_written text k.token s.has_parts.source k.faulty s.has_parts.written
   no_fault (Limit f) s k =
       let h = s.has_parts in
-      absurd (no_limit (limit_fault h.source) f h.limits (subst (λ z. limit_fault z ≡ Some f) (one_written text k.0 h.source k.1 h.written) k.2))
-  no_fault (Net a f) s k = absurd (no_net_fault a f s k)
+      no_limit (limit_fault h.source) f h.limits (subst (λ z. limit_fault z ≡ Some f) (one_written text k.0 h.source k.1 h.written) k.2)
+  no_fault (Net a f) s k = no_net_fault a f s k

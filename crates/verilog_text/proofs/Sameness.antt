@@ -1,5 +1,5 @@
 -- Parts with the same lists have the same module and the same faults.
-use Rattle.std.proofs.Common.{◌≡◌, ℕ, List, Option, Some, refl, sym, ap, ◌∙◌, subst, All, slice_get}
+use Rattle.std.proofs.Common.{◌≡◌, ℕ, List, Some, sym, ap, ◌∙◌, subst, All, slice_get}
 use Rattle.std.specs.Prelude.{map, ◌++◌, ◌<◌, ◌+◌, length}
 use Rattle.std.proofs.lemmas.List.Elements.{All-weaker}
 use Rattle.std.specs.Option.{option_map}
@@ -19,10 +19,10 @@ use Rattle.netlist.specs.declared.fault.Declared.TheVariants.{Port as PortAt, De
 use Rattle.netlist.specs.declared.fault.Statement.{Statement}
 use Rattle.netlist.specs.declared.fault.Statement.TheVariants.{Assign as AssignAt, Update as UpdateAt}
 use Rattle.netlist.specs.declared.fault.NetFault.{NetFault}
-use Rattle.netlist.specs.declared.fault.NetFault.TheVariants.{Duplicate, Ports, Unknown, WrongSort, Divisor, Width, DrivenTwice, Undriven, Cycle, OutOfMemory}
+use Rattle.netlist.specs.declared.fault.NetFault.TheVariants.{Duplicate, Ports, Unknown, WrongSort, Divisor, Width, DrivenTwice, Undriven, Cycle}
 use Rattle.netlist.specs.Names.{AreDistinct, NamedNetlist, ModuleNames}
 use Rattle.netlist.specs.Scopes.{Entry, all_ports, declared_entries, scope_of, assign_named, update_named, netlist_of_parts, module_of, has_enable, collected, taken, given, past_clock, wire_width, reg_width, array_shape, names_of_parts}
-use Rattle.netlist.specs.Faults.{entry_names, NamesDiffer, IsPlace, PortsFit, AllKnown, assign_names, update_names, AssignFits, UpdateFits, IsSortedAssign, FineAssign, FineUpdate, UnknownAssign, UnknownUpdate, WrongSortAssign, WrongSortUpdate, DivisorAssign, DivisorUpdate, WidthAssign, WidthUpdate, FirstWrong, FirstStatement, TargetsDiffer, HasDriver, PassesPorts, PassesStatements, PassesTargets, PassesDrivers, IsFault, IsModuleOf}
+use Rattle.netlist.specs.Faults.{NamesDiffer, IsPlace, PortsFit, AllKnown, assign_names, update_names, AssignFits, UpdateFits, IsSortedAssign, FineAssign, FineUpdate, UnknownAssign, UnknownUpdate, WrongSortAssign, WrongSortUpdate, DivisorAssign, DivisorUpdate, WidthAssign, WidthUpdate, FirstWrong, FirstStatement, TargetsDiffer, HasDriver, PassesPorts, PassesStatements, PassesTargets, PassesDrivers, IsFault, IsModuleOf}
 
 -- the same name and lists
 pub record SameParts (p q : Parts) : Type 0 where
@@ -218,7 +218,6 @@ same_fault p q e (Undriven d) h = (
       (scope_of p) (scope_of q) h.1 (same_scope p q e) (has_driver p q e) (has_no_driver p q e) h.3,
 )
 same_fault p q e (Cycle k) h = (passes_drivers p q e h.0, subst (λ m. DependsOn m.assigns k k) (same_netlist p q e) h.1)
-same_fault p q e OutOfMemory h = tt
 
 pub same_module_of : (p q : Parts) (m : NamedNetlist) → SameParts p q → IsModuleOf p m → IsModuleOf q m
 same_module_of p q m e h = record {

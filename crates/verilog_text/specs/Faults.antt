@@ -1,5 +1,5 @@
 -- Why a text stands for no module: the passes one after another, each over the whole text.
-use Rattle.std.specs.Prelude.{◌≡◌, ℕ, List, Option, Some, None, slice_get}
+use Rattle.std.specs.Prelude.{◌≡◌, ⊤, ℕ, List, Option, Some, None, slice_get}
 use Rattle.std.specs.Option.{option_map}
 use Rattle.dk_base.specs.declared.span.Span.{Span}
 use Rattle.dk_grammar.specs.Reading.{IsFaulty}
@@ -9,7 +9,7 @@ use Rattle.netlist.specs.declared.fault.Declared.TheVariants.{Port, Declaration}
 use Rattle.netlist.specs.declared.fault.Statement.{Statement}
 use Rattle.netlist.specs.declared.fault.Statement.TheVariants.{Assign, Update}
 use Rattle.netlist.specs.declared.fault.NetFault.{NetFault}
-use Rattle.netlist.specs.declared.fault.NetFault.TheVariants.{Duplicate, Ports, Unknown, WrongSort, Divisor, Width, DrivenTwice, Undriven, Cycle, OutOfMemory as NoMemory}
+use Rattle.netlist.specs.declared.fault.NetFault.TheVariants.{Duplicate, Ports, Unknown, WrongSort, Divisor, Width, DrivenTwice, Undriven, Cycle}
 use Rattle.netlist.specs.Faults.{IsFault as IsNetFault}
 use Rattle.verilog_text.specs.declared.token.Token.{Token}
 use Rattle.verilog_text.specs.declared.token.TokenKind.TheVariants.{Refused}
@@ -19,7 +19,9 @@ use Rattle.verilog_text.specs.declared.written.WrittenAssign.{WrittenAssign}
 use Rattle.verilog_text.specs.declared.written.WrittenUpdate.{WrittenUpdate}
 use Rattle.verilog_text.specs.declared.written.WrittenUpdate.TheVariants.{Set, Put}
 use Rattle.verilog_text.specs.declared.fault.TextFault.{TextFault}
-use Rattle.verilog_text.specs.declared.fault.TextFault.TheVariants.{Lex, Syntax, NotInSubset, Limit, Net, OutOfMemory}
+use Rattle.verilog_text.specs.declared.fault.TextFault.TheVariants.{Lex, Syntax, NotInSubset, Limit, Net}
+use Rattle.verilog_text.specs.declared.fault.TextError.{TextError}
+use Rattle.verilog_text.specs.declared.fault.TextError.TheVariants.{Fault, OutOfMemory}
 use Rattle.verilog_text.specs.Lexis.{HasTokens, HasLexFault}
 use Rattle.verilog_text.specs.Grammar.{Source, Module}
 use Rattle.verilog_text.specs.Limits.{limit_fault}
@@ -74,7 +76,6 @@ fault_span s (Width t) = driven_span s t
 fault_span s (DrivenTwice t) = driven_span s t
 fault_span s (Undriven d) = declared_span s d
 fault_span s (Cycle k) = driven_span s (Assign k)
-fault_span s NoMemory = None
 
 pub record HasNetFault (text : List ℕ) (span : Span) (f : NetFault) : Type 0 where
   pub source : Source
@@ -85,18 +86,20 @@ pub record HasNetFault (text : List ℕ) (span : Span) (f : NetFault) : Type 0 w
   pub fault : IsNetFault parts f
   pub spanned : fault_span source f ≡ Some span
 
--- the fault of a text; want of memory says nothing of it
+-- the fault of a text
 abbrev pub IsFault : List ℕ → TextFault → Type 0
 IsFault text (Lex f) = HasLexFault text f
 IsFault text (Syntax span) = IsSyntaxAt text span
 IsFault text (NotInSubset span) = IsRefusedAt text span
 IsFault text (Limit f) = (s : Source) × IsWritten text s × (limit_fault s ≡ Some f)
 IsFault text (Net span f) = HasNetFault text span f
-IsFault text OutOfMemory = Unit {0}
 
--- the same fault; of a cycle any target on it may be told, and want of memory tells nothing
+-- an error is such a fault, or want of memory, of which the text says nothing
+abbrev pub IsErrorBy : (TextFault → Type 0) → TextError → Type 0
+IsErrorBy is (Fault fault) = is fault
+IsErrorBy is OutOfMemory = ⊤
+
+-- the same fault; of a cycle any target on it may be told
 abbrev pub Agrees : TextFault → TextFault → Type 0
 Agrees (Net a (Cycle j)) (Net b (Cycle k)) = Unit {0}
-Agrees OutOfMemory g = Unit {0}
-Agrees f OutOfMemory = Unit {0}
 Agrees f g = f ≡ g

@@ -43,7 +43,13 @@ pub enum TextFault {
     /// Its parts break a net rule; the span is the name of what is meant.
     #[error("{}-{}: {fault}", .span.start, .span.stop)]
     Net { span: Span, fault: NetFault },
-    /// There was not enough memory to tell.
+}
+
+/// Why a text was not read: its first fault, or want of memory.
+#[derive(Clone, Copy, Debug, PartialEq, Eq, thiserror::Error)]
+pub enum TextError {
+    #[error("{0}")]
+    Fault(TextFault),
     #[error("out of memory")]
     OutOfMemory,
 }

@@ -5,7 +5,6 @@ ghost use Rattle.netlist.specs.Names.{NamedNetlist};
 ghost use Rattle.verilog_text.specs.declared.token.Token.{Token as OneToken};
 ghost use Rattle.verilog_text.specs.declared.token.LexFault.{LexFault as OneLexFault};
 ghost use Rattle.verilog_text.specs.declared.fault.TextFault.{TextFault as OneFault};
-ghost use Rattle.verilog_text.specs.declared.fault.TextFault.TheVariants.{OutOfMemory};
 ghost use Rattle.verilog_text.specs.Lexis.{HasTokens, HasLexFault};
 ghost use Rattle.verilog_text.specs.Grammar.{Source, Module};
 ghost use Rattle.verilog_text.specs.Stands.{StandsFor};
@@ -19,11 +18,11 @@ pub fn one_reading()
     ensures source { (tokens : List OneToken) (s t : Source) → Module tokens s → Module tokens t → s ≡ t }
 {}
 
-/// A law: a text stands for one module. Two faults of a text are one, but for the target that Cycle names and want of memory. A text that stands for a module has no fault but want of memory.
+/// A law: a text stands for one module. Two faults of a text are one, but for the target that Cycle names. A text that stands for a module has no fault.
 pub fn one_module()
     ensures one { (text : List ℕ) (m n : NamedNetlist) → StandsFor text m → StandsFor text n → m ≡ n }
     ensures agree { (text : List ℕ) (f g : OneFault) → IsFault text f → IsFault text g → Agrees f g }
-    ensures apart { (text : List ℕ) (m : NamedNetlist) (f : OneFault) → StandsFor text m → IsFault text f → f ≡ OutOfMemory }
+    ensures apart { (text : List ℕ) (m : NamedNetlist) (f : OneFault) → StandsFor text m → IsFault text f → ⊥ }
 {
     netlist::one_fault();
 }

@@ -7,7 +7,7 @@ mod token;
 mod worked;
 mod written;
 
-pub use fault::{LimitFault, LimitKind, TextFault};
+pub use fault::{LimitFault, LimitKind, TextError, TextFault};
 pub use laws::{one_module, one_reading};
 pub use token::{Keyword, LexFault, LexKind, Symbol, Token, TokenKind};
 pub use worked::{worked_constants, worked_words};

@@ -1,10 +1,10 @@
-use Rattle.std.proofs.Common.{◌≡◌, ◌⊎◌, refl, length, ◌++◌, arith, true}
+use Rattle.std.proofs.Common.{◌≡◌, refl, length, ◌++◌, arith, true}
 use Rattle.std.proofs.lemmas.Option.{slice_get_read}
 use Rattle.net_names.specs.Words.{is_name}
 use Rattle.netlist.specs.declared.parts.Declaration.{Declaration}
-use Rattle.netlist.specs.declared.fault.NetFault.TheVariants.{OutOfMemory}
 use Rattle.netlist.specs.Scopes.{declared_entries}
 use Rattle.netlist.specs.Entries.{names_in, meaning_of, IsSecondDeclaration}
+use Rattle.netlist.specs.Faults.{IsErrorBy}
 use Rattle.netlist.proofs.Declaring.{if_err, declaration_taken, declaration_grows, length_grows, wires_few, regs_few, arrays_few}
 use Rattle.netlist.proofs.Resolving.{before_step, before_end}
 use Rattle.netlist.proofs.declare.add_declarations.Goals as goal
@@ -12,8 +12,8 @@ use Rattle.netlist.proofs.declare.add_declarations.Goals as goal
 pub returns-in_err-add-clause-fault : goal.returns-in_err-add-clause-fault
 returns-in_err-add-clause-fault c =
     let at = slice_get_read c.args.declarations.now (length c.args.declarations.now) c.loop-k.k c.index-declarations-k.result refl c.loop-k-test.true c.index-declarations-k.is in
-    if_err (λ f. (f ≡ OutOfMemory) ⊎ IsSecondDeclaration (names_in (c.args.scope.now ++ declared_entries 0 0 0 c.args.declarations.now)) (length c.args.scope.now) f) c.from_residual.result c.in_err-add.field-0.0 c.from_residual.ensures.1
-    (declaration_taken c.loop-k.scope (c.args.scope.now ++ declared_entries 0 0 0 c.args.declarations.now) c.as_bytes.result.now c.in_err-add.field-0.0 c.args.declarations.now (length c.args.scope.now) c.loop-k.k c.loop-k.counts.wires c.loop-k.counts.regs c.loop-k.counts.arrays c.index-declarations-k.result at c.as_bytes.ensures.bytes c.loop-k.invariant.whole c.loop-k.invariant.size c.in_err-add.ensures)
+    if_err (IsErrorBy (IsSecondDeclaration (names_in (c.args.scope.now ++ declared_entries 0 0 0 c.args.declarations.now)) (length c.args.scope.now))) c.from_residual.result c.in_err-add.field-0.0 c.from_residual.ensures.1
+    (declaration_taken c.loop-k.scope (c.args.scope.now ++ declared_entries 0 0 0 c.args.declarations.now) c.as_bytes.result.now c.args.declarations.now (length c.args.scope.now) c.loop-k.k c.loop-k.counts.wires c.loop-k.counts.regs c.loop-k.counts.arrays c.index-declarations-k.result at c.as_bytes.ensures.bytes c.loop-k.invariant.whole c.loop-k.invariant.size c.in_err-add.field-0.0 c.in_err-add.ensures)
 
 pub loop-k-preserved : goal.loop-k-preserved
 loop-k-preserved c =
