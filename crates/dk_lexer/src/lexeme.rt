@@ -111,6 +111,7 @@ fn word(alloc: Global, bytes: &[u8]) -> Result<(TokenKind, usize), Refusal>
     Ok((TokenKind::Word(Text::new(text)), length))
 }
 
+// The longest symbol, looked for at two bytes and then at one.
 #[tactic(auto, using(crate::proofs::Symbols::is_two, crate::proofs::Symbols::is_one_before, crate::proofs::Symbols::is_one_last))]
 fn symbol(first: u8, after: &[u8]) -> Result<(TokenKind, usize), Refusal>
     ensures answer { Answers (symbol_here (first ∷ after.now)) result }
