@@ -1,6 +1,7 @@
 pub mod Numbers
 pub mod Lexing
 pub mod Unique
+pub mod Symbols
 pub mod Stretches
 pub mod Written
 pub mod Says

@@ -1,18 +1,18 @@
 -- What a lexeme is, in the bytes that write it.
-use Rattle.std.proofs.Common.{◌≡◌, ◌≢◌, ◌≤◌, ◌<◌, ◌+◌, ◌-◌, ◌*◌, List, [], ◌∷◌, ℕ, suc, length, take, arith, refl, subst, ap, ◌∙◌, true, false, Bool, Option, Some, None, Ok, Err, if◌then◌else◌, nat_eq, ◌&&◌}
-use Rattle.std.specs.List.{AllPass, AllByRecursion, prefix_len}
+use Rattle.std.proofs.Common.{◌≡◌, ◌≢◌, ◌≤◌, ◌<◌, ◌+◌, ◌-◌, ◌*◌, List, [], ◌∷◌, ℕ, suc, length, take, arith, refl, sym, subst, ap, true, false, Bool, Option, Some, None, Ok, Err, if◌then◌else◌, cond, nat_eq, nat_lt, ◌&&◌, length-take}
+use Rattle.std.specs.List.{AllPass, AllByRecursion, Contains, find, list_all, prefix_len, starts_with}
+use Rattle.std.specs.Cmp.Lexicographic.{same_text}
 use Rattle.std.specs.Str.Parse.{digits_value, digits_value_after}
 use Rattle.std.specs.Char.{digit_value}
 use Rattle.std.proofs.lemmas.List.Elements.{All-cons, All-nil, recursion_from_All}
 use Rattle.std.proofs.lemmas.List.Sums.{prefix_len-le-length}
 use Rattle.dk_lexer.specs.declared.token.TokenKind.{TokenKind}
-use Rattle.dk_lexer.specs.declared.token.TokenKind.TheVariants.{End}
+use Rattle.dk_lexer.specs.declared.token.TokenKind.TheVariants.{Symbol as Sym, End}
 use Rattle.dk_lexer.specs.declared.token.Symbol.{Symbol}
-use Rattle.dk_lexer.specs.declared.token.Symbol.TheVariants.{ShiftLeft, LessEqual, ShiftRight, GreaterEqual, EqualEqual, NotEqual, Less, Greater, Equal, Bang, Bar, Caret, Ampersand, Plus, Minus, Star, Slash, Open, Close, Comma, Colon}
 use Rattle.dk_base.specs.Ascii.{is_letter, is_digit, is_word_byte, value_after, value_of}
-use Rattle.dk_lexer.specs.Bytes.{one_byte_symbol, two_byte_symbol}
-use Rattle.dk_lexer.specs.Lexis.{Lexeme, lexeme, one_byte_lexeme, two_byte_lexeme, symbol_at, word_here, number_here}
-use Rattle.dk_lexer.specs.Faithful.{spelling, IsWord, Writes}
+use Rattle.dk_lexer.specs.Bytes.{symbols}
+use Rattle.dk_lexer.specs.Lexis.{Lexeme, lexeme, symbol_of, symbol_here, word_here, number_here}
+use Rattle.dk_lexer.specs.Faithful.{IsWord, Writes}
 
 -- the first bytes that pass a test
 run_step : (p : ℕ → Bool) (b : ℕ) (bs : List ℕ) (passes : Bool) → p b ≡ passes → AllPass p (take (prefix_len p bs) bs) → AllPass p (take (prefix_len p (b ∷ bs)) (b ∷ bs))
@@ -77,66 +77,69 @@ found_number a bs found d h =
     subst (λ x. Found (a ∷ bs) x) (found_unless _ _ _ _ h)
     (record { writes = ((some, digits), value); some = run_some is_digit a bs d; within = prefix_len-le-length is_digit (a ∷ bs); inner = λ e. cc })
 
--- a row of a table of symbols
-one_row : (s t : Symbol) (a k : ℕ) (equal : Bool) (rows : Option Symbol) → nat_eq a k ≡ equal → k ∷ [] ≡ spelling t → (rows ≡ Some s → a ∷ [] ≡ spelling s)
-    → (if equal then Some t else rows) ≡ Some s → a ∷ [] ≡ spelling s
-one_row s t a k true rows e row more h = let same : a ≡ k = grind arith in let t' : t ≡ s = cc in rw same (row ∙ ap spelling t')
-one_row s t a k false rows e row more h = more h
+-- what the first row that passes is, where each row keeps a test
+pub record IsFirst {X : Type 0} (p q : X → Bool) (xs : List X) (x : X) : Type 0 where
+  pub among : Contains xs x
+  pub passes : p x ≡ true
+  pub keeps : q x ≡ true
 
-one_spelled : (a : ℕ) (s : Symbol) → one_byte_symbol a ≡ Some s → a ∷ [] ≡ spelling s
-one_spelled a s h =
-    one_row s Less a 60 _ _ refl refl (
-    one_row s Greater a 62 _ _ refl refl (
-    one_row s Equal a 61 _ _ refl refl (
-    one_row s Bang a 33 _ _ refl refl (
-    one_row s Bar a 124 _ _ refl refl (
-    one_row s Caret a 94 _ _ refl refl (
-    one_row s Ampersand a 38 _ _ refl refl (
-    one_row s Plus a 43 _ _ refl refl (
-    one_row s Minus a 45 _ _ refl refl (
-    one_row s Star a 42 _ _ refl refl (
-    one_row s Slash a 47 _ _ refl refl (
-    one_row s Open a 40 _ _ refl refl (
-    one_row s Close a 41 _ _ refl refl (
-    one_row s Comma a 44 _ _ refl refl (
-    one_row s Colon a 58 _ _ refl refl (λ n. absurd (cc)))))))))))))))) h
+first_here : {X : Type 0} (p q : X → Bool) (x y : X) (xs : List X) → p x ≡ true → q x ≡ true → x ≡ y → IsFirst p q (x ∷ xs) y
+first_here p q x y xs t k e = subst (λ z. IsFirst p q (x ∷ xs) z) e (record { among = (0, omega arith, refl); passes = t; keeps = k })
 
-two_row : (s t : Symbol) (a b k l : ℕ) (equal : Bool) (rows : Option Symbol) → (nat_eq a k && nat_eq b l) ≡ equal → k ∷ l ∷ [] ≡ spelling t → (rows ≡ Some s → a ∷ b ∷ [] ≡ spelling s)
-    → (if equal then Some t else rows) ≡ Some s → a ∷ b ∷ [] ≡ spelling s
-two_row s t a b k l true rows e row more h =
-    let first : a ≡ k = grind arith in
-    let second : b ≡ l = grind arith in
-    let t' : t ≡ s = cc in
-    rw (first, second) (row ∙ ap spelling t')
-two_row s t a b k l false rows e row more h = more h
+first_behind : {X : Type 0} (p q : X → Bool) (x y : X) (xs : List X) → IsFirst p q xs y → IsFirst p q (x ∷ xs) y
+first_behind p q x y xs f = let c = f.among in record { among = (suc c.0, omega (arith, c.1), c.2); passes = f.passes; keeps = f.keeps }
 
-two_spelled : (a b : ℕ) (s : Symbol) → two_byte_symbol a b ≡ Some s → a ∷ b ∷ [] ≡ spelling s
-two_spelled a b s h =
-    two_row s ShiftLeft a b 60 60 _ _ refl refl (
-    two_row s LessEqual a b 60 61 _ _ refl refl (
-    two_row s ShiftRight a b 62 62 _ _ refl refl (
-    two_row s GreaterEqual a b 62 61 _ _ refl refl (
-    two_row s EqualEqual a b 61 61 _ _ refl refl (
-    two_row s NotEqual a b 33 61 _ _ refl refl (λ n. absurd (cc))))))) h
+and_first : (a b : Bool) → (a && b) ≡ true → a ≡ true
+and_first true b h = refl
+and_first false b h = absurd (cc)
 
-found_one : (a : ℕ) (bs : List ℕ) (o : Option Symbol) (found : TokenKind × ℕ) → one_byte_symbol a ≡ o → one_byte_lexeme o ≡ Ok found → Found (a ∷ bs) found
-found_one a bs None found e h = absurd (cc)
-found_one a bs (Some s) found e h = subst (λ x. Found (a ∷ bs) x) (same_ok _ _ h) (record { writes = one_spelled a s e; some = omega arith; within = omega arith; inner = λ i. cc })
+and_second : (a b : Bool) → (a && b) ≡ true → b ≡ true
+and_second true b h = h
+and_second false b h = absurd (cc)
 
-found_two : (a b : ℕ) (bs : List ℕ) (o : Option Symbol) (found : TokenKind × ℕ) → two_byte_symbol a b ≡ o → two_byte_lexeme o a ≡ Ok found → Found (a ∷ b ∷ bs) found
-found_two a b bs None found e h = found_one a (b ∷ bs) (one_byte_symbol a) found refl h
-found_two a b bs (Some s) found e h = subst (λ x. Found (a ∷ b ∷ bs) x) (same_ok _ _ h) (record { writes = two_spelled a b s e; some = omega arith; within = omega arith; inner = λ i. cc })
+some_same : {X : Type 0} (x y : X) → Some x ≡ Some y → x ≡ y
+some_same x y h = cc
 
-found_symbol : (a : ℕ) (bs : List ℕ) (found : TokenKind × ℕ) → symbol_at a bs ≡ Ok found → Found (a ∷ bs) found
-found_symbol a [] found h = found_one a [] (one_byte_symbol a) found refl h
-found_symbol a (b ∷ bs) found h = found_two a b bs (two_byte_symbol a b) found refl h
+first_step : {X : Type 0} (p q : X → Bool) (x y : X) (xs : List X) (passes : Bool) → p x ≡ passes → q x ≡ true → (find p xs ≡ Some y → IsFirst p q xs y)
+    → cond passes (Some x) (find p xs) ≡ Some y → IsFirst p q (x ∷ xs) y
+first_step p q x y xs true t k more e = first_here p q x y xs t k (some_same x y e)
+first_step p q x y xs false t k more e = first_behind p q x y xs (more e)
 
-found_digit : (a : ℕ) (bs : List ℕ) (digit : Bool) (found : TokenKind × ℕ) → is_digit a ≡ digit → (if digit then number_here (a ∷ bs) else symbol_at a bs) ≡ Ok found → Found (a ∷ bs) found
+first_is : {X : Type 0} (p q : X → Bool) (y : X) (xs : List X) → list_all q xs ≡ true → find p xs ≡ Some y → IsFirst p q xs y
+first_is p q y [] k e = absurd (cc)
+first_is p q y (x ∷ xs) k e = first_step p q x y xs (p x) refl (and_first _ _ k) (first_is p q y xs (and_second _ _ k)) e
+
+-- a row of the table of symbols
+abbrev begins : List ℕ → (List ℕ × Symbol) → Bool
+begins bytes row = starts_with nat_eq bytes row.0
+
+abbrev has_bytes : (List ℕ × Symbol) → Bool
+has_bytes row = nat_lt 0 (length row.0)
+
+some_bytes : (n : ℕ) → nat_lt 0 n ≡ true → 0 < n
+some_bytes n h = grind arith
+
+front_length : (n : ℕ) (bytes spelling : List ℕ) → take n bytes ≡ spelling → n ≡ length spelling → n ≤ length bytes
+front_length n bytes spelling e l = omega (arith, l, ap (λ x. length x) e, length-take n bytes)
+
+found_row : (bytes spelling : List ℕ) (s : Symbol) → IsFirst (begins bytes) has_bytes symbols (spelling, s) → Found bytes (Sym s, length spelling)
+found_row bytes spelling s f =
+    let front : take (length spelling) bytes ≡ spelling = sym (same_text spelling (take (length spelling) bytes) (sym f.passes)) in
+    record { writes = subst (λ x. Contains symbols (x, s)) (sym front) f.among; some = some_bytes _ f.keeps; within = front_length _ bytes spelling front refl; inner = λ e. cc }
+
+found_first : (bytes : List ℕ) (row : Option (List ℕ × Symbol)) (found : TokenKind × ℕ) → find (begins bytes) symbols ≡ row → symbol_of row ≡ Ok found → Found bytes found
+found_first bytes None found e h = absurd (cc)
+found_first bytes (Some (spelling, s)) found e h = subst (λ x. Found bytes x) (same_ok _ _ h) (found_row bytes spelling s (first_is (begins bytes) has_bytes (spelling, s) symbols refl e))
+
+found_symbol : (bytes : List ℕ) (found : TokenKind × ℕ) → symbol_here bytes ≡ Ok found → Found bytes found
+found_symbol bytes found h = found_first bytes (find (begins bytes) symbols) found refl h
+
+found_digit : (a : ℕ) (bs : List ℕ) (digit : Bool) (found : TokenKind × ℕ) → is_digit a ≡ digit → (if digit then number_here (a ∷ bs) else symbol_here (a ∷ bs)) ≡ Ok found → Found (a ∷ bs) found
 found_digit a bs true found e h = found_number a bs found e h
-found_digit a bs false found e h = found_symbol a bs found h
+found_digit a bs false found e h = found_symbol (a ∷ bs) found h
 
 found_letter : (a : ℕ) (bs : List ℕ) (letter : Bool) (found : TokenKind × ℕ) → is_letter a ≡ letter
-    → (if letter then word_here (a ∷ bs) else (if is_digit a then number_here (a ∷ bs) else symbol_at a bs)) ≡ Ok found → Found (a ∷ bs) found
+    → (if letter then word_here (a ∷ bs) else (if is_digit a then number_here (a ∷ bs) else symbol_here (a ∷ bs))) ≡ Ok found → Found (a ∷ bs) found
 found_letter a bs true found e h = found_word a bs found e h
 found_letter a bs false found e h = found_digit a bs (is_digit a) found refl h
 

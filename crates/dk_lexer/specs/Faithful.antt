@@ -1,37 +1,12 @@
 -- What a list of tokens says of its text, in stretches of the text.
-use Rattle.std.specs.Prelude.{◌≡◌, ◌≢◌, ◌≤◌, ℕ, List, [], ◌∷◌, ◌++◌, length, codes, ⊤, true}
-use Rattle.std.specs.List.{All, AllPass, slice_range}
+use Rattle.std.specs.Prelude.{◌≡◌, ◌≢◌, ◌≤◌, ℕ, List, [], ◌∷◌, ◌++◌, length, ⊤, true}
+use Rattle.std.specs.List.{All, AllPass, Contains, slice_range}
 use Rattle.std.specs.Str.Parse.{digits_value}
 use Rattle.dk_lexer.specs.declared.token.Token.{Token}
 use Rattle.dk_lexer.specs.declared.token.TokenKind.{TokenKind}
 use Rattle.dk_lexer.specs.declared.token.TokenKind.TheVariants.{Word, Number, Symbol as Sym, End}
-use Rattle.dk_lexer.specs.declared.token.Symbol.{Symbol}
-use Rattle.dk_lexer.specs.declared.token.Symbol.TheVariants.{ShiftLeft, LessEqual, ShiftRight, GreaterEqual, EqualEqual, NotEqual, Less, Greater, Equal, Bang, Bar, Caret, Ampersand, Plus, Minus, Star, Slash, Open, Close, Comma, Colon}
 use Rattle.dk_base.specs.Ascii.{is_white, is_letter, is_digit, is_word_byte}
-
--- how a symbol is spelled
-abbrev pub spelling : Symbol → List ℕ
-spelling ShiftLeft = codes "<<"
-spelling LessEqual = codes "<="
-spelling ShiftRight = codes ">>"
-spelling GreaterEqual = codes ">="
-spelling EqualEqual = codes "=="
-spelling NotEqual = codes "!="
-spelling Less = codes "<"
-spelling Greater = codes ">"
-spelling Equal = codes "="
-spelling Bang = codes "!"
-spelling Bar = codes "|"
-spelling Caret = codes "^"
-spelling Ampersand = codes "&"
-spelling Plus = codes "+"
-spelling Minus = codes "-"
-spelling Star = codes "*"
-spelling Slash = codes "/"
-spelling Open = codes "("
-spelling Close = codes ")"
-spelling Comma = codes ","
-spelling Colon = codes ":"
+use Rattle.dk_lexer.specs.Bytes.{symbols}
 
 -- a letter or `_`, and then letters, digits and `_`
 abbrev pub IsWord : List ℕ → Type 0
@@ -46,7 +21,7 @@ IsNumeral bytes = (bytes ≢ []) × AllPass is_digit bytes
 abbrev pub Writes : List ℕ → TokenKind → Type 0
 Writes bytes (Word text) = (text ≡ bytes) × IsWord bytes
 Writes bytes (Number value) = IsNumeral bytes × (digits_value 10 bytes ≡ value)
-Writes bytes (Sym symbol) = bytes ≡ spelling symbol
+Writes bytes (Sym symbol) = Contains symbols (bytes, symbol)
 Writes bytes End = bytes ≡ []
 
 -- the token stands within the text, which writes it there; the end of the text stands at its length

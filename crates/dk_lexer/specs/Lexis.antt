@@ -1,6 +1,6 @@
 -- Tokens, and where a text has none.
-use Rattle.std.specs.Prelude.{◌≡◌, ℕ, ◌+◌, ◌-◌, ◌^◌, List, [], ◌∷◌, length, take, drop, Option, Some, None, Result, Ok, Err, true, false, nat_lt, if◌then◌else◌}
-use Rattle.std.specs.List.{prefix_len}
+use Rattle.std.specs.Prelude.{◌≡◌, ℕ, ◌+◌, ◌-◌, ◌^◌, List, [], ◌∷◌, length, take, drop, Option, Some, None, Result, Ok, Err, true, false, nat_lt, nat_eq, if◌then◌else◌}
+use Rattle.std.specs.List.{prefix_len, find, starts_with}
 use Rattle.dk_base.specs.declared.span.Span.{Span}
 use Rattle.dk_base.specs.declared.TheConstants.{MAX_NAME_BYTES}
 use Rattle.dk_lexer.specs.declared.token.Token.{Token}
@@ -11,7 +11,7 @@ use Rattle.dk_lexer.specs.declared.fault.LexKind.{LexKind}
 use Rattle.dk_lexer.specs.declared.fault.LexKind.TheVariants.{BadByte, NumberTooGreat, NameTooLong}
 use Rattle.dk_lexer.specs.declared.fault.LexFault.{LexFault}
 use Rattle.dk_base.specs.Ascii.{is_white, is_letter, is_digit, is_word_byte, value_of}
-use Rattle.dk_lexer.specs.Bytes.{is_in_line, two_byte_symbol, one_byte_symbol}
+use Rattle.dk_lexer.specs.Bytes.{is_in_line, symbols}
 
 -- what stands at the front of a text, and how many bytes it has
 abbrev pub Lexeme : Type 0
@@ -25,18 +25,13 @@ word_at bytes n = if nat_lt MAX_NAME_BYTES n then Err (NameTooLong, n) else Ok (
 abbrev pub number_of : ℕ → ℕ → Lexeme
 number_of v n = if nat_lt v (2 ^ 64) then Ok (Number v, n) else Err (NumberTooGreat, n)
 
-abbrev pub one_byte_lexeme : Option Symbol → Lexeme
-one_byte_lexeme None = Err (BadByte, 1)
-one_byte_lexeme (Some s) = Ok (Sym s, 1)
+abbrev pub symbol_of : Option (List ℕ × Symbol) → Lexeme
+symbol_of None = Err (BadByte, 1)
+symbol_of (Some row) = Ok (Sym row.1, length row.0)
 
-abbrev pub two_byte_lexeme : Option Symbol → ℕ → Lexeme
-two_byte_lexeme None a = one_byte_lexeme (one_byte_symbol a)
-two_byte_lexeme (Some s) a = Ok (Sym s, 2)
-
--- the longest symbol
-abbrev pub symbol_at : ℕ → List ℕ → Lexeme
-symbol_at a [] = one_byte_lexeme (one_byte_symbol a)
-symbol_at a (b ∷ bs) = two_byte_lexeme (two_byte_symbol a b) a
+-- the longest symbol, which is the first in the table that the bytes begin with
+abbrev pub symbol_here : List ℕ → Lexeme
+symbol_here bytes = symbol_of (find (λ row. starts_with nat_eq bytes row.0) symbols)
 
 abbrev pub word_here : List ℕ → Lexeme
 word_here bytes = word_at bytes (prefix_len is_word_byte bytes)
@@ -47,7 +42,7 @@ number_here bytes = number_of (value_of (take (prefix_len is_digit bytes) bytes)
 unfoldable pub lexeme : ℕ → List ℕ → Lexeme
 lexeme a bs =
     if is_letter a then word_here (a ∷ bs)
-    else (if is_digit a then number_here (a ∷ bs) else symbol_at a bs)
+    else (if is_digit a then number_here (a ∷ bs) else symbol_here (a ∷ bs))
 
 -- Gap text rest: only white space and comments stand in the text before the rest.
 -- A comment goes from `--` to the end of its line, or of the text.

@@ -2,10 +2,12 @@
 
 ghost use Rattle.std.specs.Prelude.{◌≡◌, ◌<◌, ◌≤◌, ◌+◌, ◌-◌, ◌*◌, ◌∷◌, [], suc, length, take, drop, MatchOption, MatchResult, ◌^◌};
 ghost use Rattle.std.specs.List.{prefix_len};
+ghost use Rattle.std.specs.Map.{lookup};
+ghost use Rattle.std.specs.Str.{bytes_eq};
 ghost use Rattle.dk_base.specs.Ascii.{is_letter as letter, is_digit as digit, is_word_byte as word_byte, is_white as white, value_of};
-ghost use Rattle.dk_lexer.specs.Bytes.{is_in_line, two_byte_symbol as two_byte_symbol_of, one_byte_symbol as one_byte_symbol_of};
+ghost use Rattle.dk_lexer.specs.Bytes.{is_in_line, symbols};
 ghost use Rattle.dk_lexer.specs.Answer.{Answers, FitsIn};
-ghost use Rattle.dk_lexer.specs.Lexis.{lexeme as lexeme_of, word_here, number_here, symbol_at as symbol_of, Gap, Solid};
+ghost use Rattle.dk_lexer.specs.Lexis.{lexeme as lexeme_of, word_here, number_here, symbol_here, Gap, Solid};
 
 use crate::fault::{LexKind, Refusal};
 use crate::token::{Symbol, TokenKind};
@@ -20,7 +22,7 @@ fn line_length(bytes: &[u8]) -> usize
 }
 
 fn two_byte_symbol(first: u8, second: u8) -> Option<Symbol>
-    ensures { result ≡ two_byte_symbol_of first second }
+    ensures { result ≡ lookup (bytes_eq (first ∷ second ∷ [])) symbols }
 {
     match (first, second) {
         (b'<', b'<') => Some(Symbol::ShiftLeft),
@@ -34,7 +36,7 @@ fn two_byte_symbol(first: u8, second: u8) -> Option<Symbol>
 }
 
 fn one_byte_symbol(byte: u8) -> Option<Symbol>
-    ensures { result ≡ one_byte_symbol_of byte }
+    ensures { result ≡ lookup (bytes_eq (byte ∷ [])) symbols }
 {
     match byte {
         b'<' => Some(Symbol::Less),
@@ -109,8 +111,10 @@ fn word(alloc: Global, bytes: &[u8]) -> Result<(TokenKind, usize), Refusal>
     Ok((TokenKind::Word(Text::new(text)), length))
 }
 
+// The longest symbol, looked for at two bytes and then at one.
+#[tactic(auto, using(crate::proofs::Symbols::is_two, crate::proofs::Symbols::is_one_before, crate::proofs::Symbols::is_one_last))]
 fn symbol(first: u8, after: &[u8]) -> Result<(TokenKind, usize), Refusal>
-    ensures answer { Answers (symbol_of first after.now) result }
+    ensures answer { Answers (symbol_here (first ∷ after.now)) result }
     ensures some { MatchResult result (λ x. (0 < x.1) × (x.1 ≤ suc (length after.now))) (λ e. FitsIn (suc (length after.now)) e) }
 {
     if let Some((second, _)) = front(after) {

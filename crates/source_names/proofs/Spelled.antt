@@ -11,8 +11,7 @@ use Rattle.dk_lexer.specs.declared.token.TokenKind.TheVariants.{Word, Number, Sy
 use Rattle.dk_lexer.specs.declared.token.Symbol.{Symbol}
 use Rattle.dk_lexer.specs.declared.fault.LexKind.TheVariants.{NumberTooGreat, NameTooLong}
 use Rattle.dk_base.specs.Ascii.{is_letter, is_digit, is_word_byte, value_of}
-use Rattle.dk_lexer.specs.Bytes.{two_byte_symbol, one_byte_symbol}
-use Rattle.dk_lexer.specs.Lexis.{Lexeme, lexeme, word_here, number_of, number_here, one_byte_lexeme, two_byte_lexeme, symbol_at, Lexes, finish, next}
+use Rattle.dk_lexer.specs.Lexis.{Lexeme, lexeme, word_here, number_of, number_here, symbol_of, symbol_here, Lexes, finish, next}
 use Rattle.report_text.specs.Names.{is_word}
 
 -- a word token is a word, and not too long
@@ -75,23 +74,15 @@ number_spelled v k kind n = by (nat_lt v (2 ^ 64))
     by true h = let pair : (let q : TokenKind × ℕ = (Number v, k) in q) ≡ (kind, n) = cc in subst IsSpelled (ap (λ (q : TokenKind × ℕ). q.0) pair) tt
     by false h = absurd (let x : ⊥ = cc in x)
 
-one_spelled : (o : Option Symbol) (kind : TokenKind) (n : ℕ) → one_byte_lexeme o ≡ Ok (kind, n) → IsSpelled kind
-one_spelled None kind n h = absurd (let x : ⊥ = cc in x)
-one_spelled (Some s) kind n h = let pair : (let q : TokenKind × ℕ = (Sym s, 1) in q) ≡ (kind, n) = cc in subst IsSpelled (ap (λ (q : TokenKind × ℕ). q.0) pair) tt
-
-two_spelled : (o : Option Symbol) (a : ℕ) (kind : TokenKind) (n : ℕ) → two_byte_lexeme o a ≡ Ok (kind, n) → IsSpelled kind
-two_spelled None a kind n h = one_spelled (one_byte_symbol a) kind n h
-two_spelled (Some s) a kind n h = let pair : (let q : TokenKind × ℕ = (Sym s, 2) in q) ≡ (kind, n) = cc in subst IsSpelled (ap (λ (q : TokenKind × ℕ). q.0) pair) tt
-
-symbol_spelled : (a : ℕ) (bs : List ℕ) (kind : TokenKind) (n : ℕ) → symbol_at a bs ≡ Ok (kind, n) → IsSpelled kind
-symbol_spelled a [] kind n h = one_spelled (one_byte_symbol a) kind n h
-symbol_spelled a (b ∷ bs) kind n h = two_spelled (two_byte_symbol a b) a kind n h
+symbol_spelled : (row : Option (List ℕ × Symbol)) (kind : TokenKind) (n : ℕ) → symbol_of row ≡ Ok (kind, n) → IsSpelled kind
+symbol_spelled None kind n h = absurd (let x : ⊥ = cc in x)
+symbol_spelled (Some row) kind n h = let pair : (let q : TokenKind × ℕ = (Sym row.1, length row.0) in q) ≡ (kind, n) = cc in subst IsSpelled (ap (λ (q : TokenKind × ℕ). q.0) pair) tt
 
 chosen_spelled : (a : ℕ) (bs : List ℕ) (kind : TokenKind) (n : ℕ) (l d : Bool) → is_letter a ≡ l
-    → (if l then word_here (a ∷ bs) else (if d then number_here (a ∷ bs) else symbol_at a bs)) ≡ Ok (kind, n) → IsSpelled kind
+    → (if l then word_here (a ∷ bs) else (if d then number_here (a ∷ bs) else symbol_here (a ∷ bs))) ≡ Ok (kind, n) → IsSpelled kind
 chosen_spelled a bs kind n true d letter h = word_spelled (a ∷ bs) kind n (front_word a bs letter) h
 chosen_spelled a bs kind n false true letter h = number_spelled (value_of (take (prefix_len is_digit (a ∷ bs)) (a ∷ bs))) (prefix_len is_digit (a ∷ bs)) kind n h
-chosen_spelled a bs kind n false false letter h = symbol_spelled a bs kind n h
+chosen_spelled a bs kind n false false letter h = symbol_spelled _ kind n h
 
 lexeme_spelled : (a : ℕ) (bs : List ℕ) (kind : TokenKind) (n : ℕ) → lexeme a bs ≡ Ok (kind, n) → IsSpelled kind
 unfolding lexeme

@@ -211,51 +211,51 @@ atom_read (atom.Net b) f s = name_read b f s
 atom_read (atom.Constant c) f s = constant_read c f s
 
 operator_read : (o : Operator) {rest : List ℕ} → IsRead (operator_own o) (Sym (operator_sign o)) (32 ∷ rest)
-operator_read Add = lone_read 43 symbol.Plus (refl, refl, refl, refl, refl, refl, refl)
-operator_read Subtract = lone_read 45 symbol.Minus (refl, refl, refl, refl, refl, refl, refl)
-operator_read Multiply = lone_read 42 symbol.Star (refl, refl, refl, refl, refl, refl, refl)
+operator_read Add = lone_read 43 symbol.Plus (refl, refl, refl, refl, λ rest. refl)
+operator_read Subtract = lone_read 45 symbol.Minus (refl, refl, refl, refl, λ rest. refl)
+operator_read Multiply = lone_read 42 symbol.Star (refl, refl, refl, refl, λ rest. refl)
 operator_read Divide = slash_read
 operator_read Less = less_read
 operator_read Equal = same_read
-operator_read And = lone_read 38 symbol.Ampersand (refl, refl, refl, refl, refl, refl, refl)
-operator_read Or = lone_read 124 symbol.Bar (refl, refl, refl, refl, refl, refl, refl)
-operator_read Xor = lone_read 94 symbol.Caret (refl, refl, refl, refl, refl, refl, refl)
+operator_read And = lone_read 38 symbol.Ampersand (refl, refl, refl, refl, λ rest. refl)
+operator_read Or = lone_read 124 symbol.Bar (refl, refl, refl, refl, λ rest. refl)
+operator_read Xor = lone_read 94 symbol.Caret (refl, refl, refl, refl, λ rest. refl)
 
 semicolon_read : {rest : List ℕ} → IsRead (codes ";") (Sym symbol.Semicolon) rest
-semicolon_read = lone_read 59 symbol.Semicolon (refl, refl, refl, refl, refl, refl, refl)
+semicolon_read = lone_read 59 symbol.Semicolon (refl, refl, refl, refl, λ rest. refl)
 
 open_read : {rest : List ℕ} → IsRead (codes "(") (Sym symbol.Open) rest
-open_read = lone_read 40 symbol.Open (refl, refl, refl, refl, refl, refl, refl)
+open_read = lone_read 40 symbol.Open (refl, refl, refl, refl, λ rest. refl)
 
 close_read : {rest : List ℕ} → IsRead (codes ")") (Sym symbol.Close) rest
-close_read = lone_read 41 symbol.Close (refl, refl, refl, refl, refl, refl, refl)
+close_read = lone_read 41 symbol.Close (refl, refl, refl, refl, λ rest. refl)
 
 open_square_read : {rest : List ℕ} → IsRead (codes "[") (Sym symbol.OpenSquare) rest
-open_square_read = lone_read 91 symbol.OpenSquare (refl, refl, refl, refl, refl, refl, refl)
+open_square_read = lone_read 91 symbol.OpenSquare (refl, refl, refl, refl, λ rest. refl)
 
 close_square_read : {rest : List ℕ} → IsRead (codes "]") (Sym symbol.CloseSquare) rest
-close_square_read = lone_read 93 symbol.CloseSquare (refl, refl, refl, refl, refl, refl, refl)
+close_square_read = lone_read 93 symbol.CloseSquare (refl, refl, refl, refl, λ rest. refl)
 
 open_brace_read : {rest : List ℕ} → IsRead (codes "{") (Sym symbol.OpenBrace) rest
-open_brace_read = lone_read 123 symbol.OpenBrace (refl, refl, refl, refl, refl, refl, refl)
+open_brace_read = lone_read 123 symbol.OpenBrace (refl, refl, refl, refl, λ rest. refl)
 
 close_brace_read : {rest : List ℕ} → IsRead (codes "}") (Sym symbol.CloseBrace) rest
-close_brace_read = lone_read 125 symbol.CloseBrace (refl, refl, refl, refl, refl, refl, refl)
+close_brace_read = lone_read 125 symbol.CloseBrace (refl, refl, refl, refl, λ rest. refl)
 
 comma_read : {rest : List ℕ} → IsRead (codes ",") (Sym symbol.Comma) rest
-comma_read = lone_read 44 symbol.Comma (refl, refl, refl, refl, refl, refl, refl)
+comma_read = lone_read 44 symbol.Comma (refl, refl, refl, refl, λ rest. refl)
 
 colon_read : {rest : List ℕ} → IsRead (codes ":") (Sym symbol.Colon) rest
-colon_read = lone_read 58 symbol.Colon (refl, refl, refl, refl, refl, refl, refl)
+colon_read = lone_read 58 symbol.Colon (refl, refl, refl, refl, λ rest. refl)
 
 question_read : {rest : List ℕ} → IsRead (codes "?") (Sym symbol.Question) rest
-question_read = lone_read 63 symbol.Question (refl, refl, refl, refl, refl, refl, refl)
+question_read = lone_read 63 symbol.Question (refl, refl, refl, refl, λ rest. refl)
 
 tilde_read : {rest : List ℕ} → IsRead (codes "~") (Sym symbol.Tilde) rest
-tilde_read = lone_read 126 symbol.Tilde (refl, refl, refl, refl, refl, refl, refl)
+tilde_read = lone_read 126 symbol.Tilde (refl, refl, refl, refl, λ rest. refl)
 
 at_read : {rest : List ℕ} → IsRead (codes "@") (Sym symbol.At) rest
-at_read = lone_read 64 symbol.At (refl, refl, refl, refl, refl, refl, refl)
+at_read = lone_read 64 symbol.At (refl, refl, refl, refl, λ rest. refl)
 
 small : (k : ℕ) → k < 64 → k < 2 ^ 64
 small k h = omega (arith, h)

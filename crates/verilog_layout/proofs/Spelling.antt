@@ -8,7 +8,7 @@ use Rattle.std.proofs.Math.Seq.{take-append_seam, drop-append_seam}
 use Rattle.verilog_text.specs.declared.token.TokenKind.TheVariants.{Sized}
 use Rattle.net_names.specs.Words.{is_letter, is_word_byte, is_digit}
 use Rattle.verilog_text.specs.Bytes.{is_in_number, is_in_constant, is_digit_of, are_digits, is_numeral, with_digit, value_after, word_kind, constant_of, of_size, fitting}
-use Rattle.verilog_text.specs.Lexis.{lexeme, number_at, sized_of, word_at, is_tick_first, word_here, number_here, symbol_at}
+use Rattle.verilog_text.specs.Lexis.{lexeme, number_at, sized_of, word_at, is_tick_first, word_here, number_here, symbol_here}
 
 -- each byte passes the test, and the next one does not
 abbrev pub AllOf : (ℕ → Bool) → List ℕ → Type 0
@@ -35,7 +35,7 @@ word_reads a bs rest b all s fits =
     let whole : take (length (a ∷ bs)) (a ∷ (bs ++ rest)) ≡ a ∷ bs = take-append_seam (a ∷ bs) rest in
     let short : nat_lt 64 (length (a ∷ bs)) ≡ false = grind arith in
     let first : lexeme a (bs ++ rest) ≡ word_at (a ∷ (bs ++ rest)) (prefix_len is_word_byte (a ∷ (bs ++ rest))) =
-    ap (λ t. if t then word_here (a ∷ (bs ++ rest)) else (if is_digit a then number_here (a ∷ (bs ++ rest)) else symbol_at a (bs ++ rest))) b in
+    ap (λ t. if t then word_here (a ∷ (bs ++ rest)) else (if is_digit a then number_here (a ∷ (bs ++ rest)) else symbol_here (a ∷ (bs ++ rest)))) b in
     let second : word_at (a ∷ (bs ++ rest)) (length (a ∷ bs)) ≡ Ok (word_kind (take (length (a ∷ bs)) (a ∷ (bs ++ rest))), length (a ∷ bs)) = rw short refl in
     first ∙ ap (λ n. word_at (a ∷ (bs ++ rest)) n) run ∙ second ∙ ap (λ w. Ok (word_kind w, length (a ∷ bs))) whole
 

@@ -15,8 +15,8 @@ use Rattle.verilog_text.specs.declared.token.Symbol.{Symbol}
 use Rattle.verilog_text.specs.declared.token.Symbol.TheVariants as symbol
 use Rattle.verilog_text.specs.declared.token.Keyword.{Keyword}
 use Rattle.net_names.specs.Words.{is_letter, is_word_byte, is_digit, is_word, is_name, is_among, is_structure_word, is_refused_word, same_codes}
-use Rattle.verilog_text.specs.Bytes.{is_white, is_in_number, is_in_constant, value_of, word_kind, keyword_or, keywords, refused_or_name, one_byte_symbol}
-use Rattle.verilog_text.specs.Lexis.{Solid, lexeme, number_at, plain_of, is_tick_first}
+use Rattle.verilog_text.specs.Bytes.{is_white, is_in_number, is_in_constant, value_of, word_kind, keyword_or, keywords, refused_or_name}
+use Rattle.verilog_text.specs.Lexis.{Solid, lexeme, number_at, plain_of, is_tick_first, symbol_here}
 use Rattle.verilog_text.specs.Grammar.{named, atomic}
 use Rattle.verilog_layout.specs.Layout.{constant_layout}
 use Rattle.verilog_layout.proofs.Pieces.{IsRead}
@@ -225,15 +225,14 @@ constant_read c {rest} k s =
 
 -- a symbol of one byte that begins no other one
 abbrev pub IsLone : ℕ → Symbol → Type 0
-IsLone b s = (is_letter b ≡ false) × (is_digit b ≡ false) × (is_white b ≡ false) × (nat_eq b 47 ≡ false) × (nat_eq b 60 ≡ false) × (nat_eq b 61 ≡ false) × (one_byte_symbol b ≡ Some s)
+IsLone b s = (is_letter b ≡ false) × (is_digit b ≡ false) × (is_white b ≡ false) × (nat_eq b 47 ≡ false) × ((rest : List ℕ) → symbol_here (b ∷ rest) ≡ Ok (Sym s, 1))
 
 not_slash : (b : ℕ) → nat_eq b 47 ≡ false → b ≡ 47 → ⊥
 not_slash b h e = grind arith
 
 lone_reads : (b : ℕ) (s : Symbol) (rest : List ℕ) → IsLone b s → lexeme b rest ≡ Ok (Sym s, 1)
 unfolding lexeme
-lone_reads b s [] l = rw (l.0, l.1, l.6) refl
-lone_reads b s (c ∷ cs) l = rw (l.0, l.1, l.3, l.4, l.5, l.6) refl
+lone_reads b s rest l = let e : lexeme b rest ≡ symbol_here (b ∷ rest) = rw (l.0, l.1) refl in e ∙ l.4 rest
 
 pub lone_read : (b : ℕ) (s : Symbol) {rest : List ℕ} → IsLone b s → IsRead (b ∷ []) (Sym s) rest
 lone_read b s {rest} l = record { first = b; others = []; whole = refl; solid = solid_is b rest l.2 (not_slash b l.3); reads = lone_reads b s rest l }

@@ -1,6 +1,6 @@
 -- No lexeme is the end of the text.
-use Rattle.std.proofs.Common.{◌≡◌, ◌≢◌, ℕ, ◌^◌, List, [], ◌∷◌, take, drop, Option, Some, None, Ok, Err, nat_lt, nat_eq, ◌&&◌, refl, sym, subst, inl, inr, if◌then◌else◌}
-use Rattle.std.specs.List.{prefix_len}
+use Rattle.std.proofs.Common.{◌≡◌, ◌≢◌, ℕ, ◌^◌, List, [], ◌∷◌, take, drop, Option, Some, None, Ok, Err, nat_lt, nat_eq, refl, sym, subst, inl, inr, if◌then◌else◌}
+use Rattle.std.specs.List.{prefix_len, find, starts_with}
 use Rattle.std.proofs.lemmas.Bool.{cases_Bool}
 use Rattle.net_names.specs.Words.{is_letter, is_digit, is_word_byte, same_codes, is_refused_word}
 use Rattle.wiring.specs.Sizes.{SizedNumber}
@@ -8,8 +8,8 @@ use Rattle.verilog_text.specs.declared.token.Keyword.{Keyword}
 use Rattle.verilog_text.specs.declared.token.Symbol.{Symbol}
 use Rattle.verilog_text.specs.declared.token.TokenKind.{TokenKind}
 use Rattle.verilog_text.specs.declared.token.TokenKind.TheVariants as kind
-use Rattle.verilog_text.specs.Bytes.{is_in_number, is_in_constant, value_of, constant_of, two_byte_symbol, one_byte_symbol, keywords, keyword_or, refused_or_name}
-use Rattle.verilog_text.specs.Lexis.{Lexeme, lexeme, word_at, plain_of, sized_of, number_at, number_here, word_here, is_tick_first, one_byte_lexeme, two_byte_lexeme, symbol_at}
+use Rattle.verilog_text.specs.Bytes.{is_in_number, is_in_constant, value_of, constant_of, symbols, keywords, keyword_or, refused_or_name}
+use Rattle.verilog_text.specs.Lexis.{Lexeme, lexeme, word_at, plain_of, sized_of, number_at, number_here, word_here, is_tick_first, symbol_of, symbol_here}
 use Rattle.std.proofs.Common.{codes}
 
 -- a fault is none
@@ -58,19 +58,14 @@ number_is bytes n m = elim (cases_Bool (is_tick_first (drop n bytes))) as (λ _.
   | inr f ↦ rw f (plain_is (value_of 10 (take n bytes)) n)
 ]
 
-one_is : (o : Option Symbol) → IsNoEnd (one_byte_lexeme o)
-one_is None = tt
-one_is (Some s) = λ e. cc
+row_is : (row : Option (List ℕ × Symbol)) → IsNoEnd (symbol_of row)
+row_is None = tt
+row_is (Some row) = λ e. cc
 
-two_is : (o : Option Symbol) (a : ℕ) → IsNoEnd (two_byte_lexeme o a)
-two_is None a = one_is (one_byte_symbol a)
-two_is (Some s) a = λ e. cc
-
-symbol_is : (a : ℕ) (bs : List ℕ) → IsNoEnd (symbol_at a bs)
-symbol_is a [] = one_is (one_byte_symbol a)
-symbol_is a (b ∷ bs) = elim (cases_Bool (nat_eq a 47 && nat_eq b 42)) as (λ _. IsNoEnd (symbol_at a (b ∷ bs))) [
+symbol_is : (bytes : List ℕ) → IsNoEnd (symbol_here bytes)
+symbol_is bytes = elim (cases_Bool (starts_with nat_eq bytes (codes "/*"))) as (λ _. IsNoEnd (symbol_here bytes)) [
   | inl t ↦ rw t tt
-  | inr f ↦ rw f (two_is (two_byte_symbol a b) a)
+  | inr f ↦ rw f (row_is (find (λ row. starts_with nat_eq bytes row.0) symbols))
 ]
 
 lexeme_is : (a : ℕ) (bs : List ℕ) → IsNoEnd (lexeme a bs)
@@ -84,8 +79,8 @@ lexeme_is a bs = elim (cases_Bool (is_letter a)) as (λ _. IsNoEnd (lexeme a bs)
         let e : lexeme a bs ≡ number_here (a ∷ bs) = rw (f, t) refl in
         subst IsNoEnd (sym e) (number_is (a ∷ bs) (prefix_len is_in_number (a ∷ bs)) (prefix_len is_in_constant (a ∷ bs)))
     | inr g ↦
-        let e : lexeme a bs ≡ symbol_at a bs = rw (f, g) refl in
-        subst IsNoEnd (sym e) (symbol_is a bs)
+        let e : lexeme a bs ≡ symbol_here (a ∷ bs) = rw (f, g) refl in
+        subst IsNoEnd (sym e) (symbol_is (a ∷ bs))
   ]
 ]
 

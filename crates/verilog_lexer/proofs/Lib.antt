@@ -1,5 +1,6 @@
 pub mod Numbers
 pub mod Runs
+pub mod Symbols
 pub mod Gaps
 pub mod Lefts
 pub mod Positive

@@ -1,13 +1,13 @@
 -- A token has a byte, so a text has at most one token more than bytes.
-use Rattle.std.proofs.Common.{◌≡◌, ℕ, suc, ◌≤◌, ◌<◌, ◌^◌, List, [], ◌∷◌, length, take, drop, Option, Some, None, Ok, Err, nat_lt, nat_eq, ◌&&◌, refl, sym, subst, arith, length-drop, inl, inr}
-use Rattle.std.specs.List.{prefix_len}
+use Rattle.std.proofs.Common.{◌≡◌, ℕ, suc, ◌≤◌, ◌<◌, ◌^◌, List, [], ◌∷◌, length, take, drop, Option, Some, None, Ok, Err, nat_lt, nat_eq, ◌&&◌, Bool, true, false, codes, refl, sym, subst, arith, length-drop, inl, inr}
+use Rattle.std.specs.List.{prefix_len, find, list_all, starts_with}
 use Rattle.std.proofs.lemmas.Bool.{cases_Bool}
 use Rattle.wiring.specs.Sizes.{SizedNumber}
 use Rattle.verilog_text.specs.declared.token.Symbol.{Symbol}
 use Rattle.verilog_text.specs.declared.token.Token.{Token}
-use Rattle.verilog_text.specs.Bytes.{is_in_number, is_in_constant, value_of, constant_of, two_byte_symbol, one_byte_symbol}
+use Rattle.verilog_text.specs.Bytes.{is_in_number, is_in_constant, value_of, constant_of, symbols}
 use Rattle.net_names.specs.Words.{is_letter, is_digit, is_word_byte}
-use Rattle.verilog_text.specs.Lexis.{Lexes, finish, next, Lexeme, lexeme, word_at, plain_of, sized_of, number_at, number_here, word_here, is_tick_first, one_byte_lexeme, two_byte_lexeme, symbol_at}
+use Rattle.verilog_text.specs.Lexis.{Lexes, finish, next, Lexeme, lexeme, word_at, plain_of, sized_of, number_at, number_here, word_here, is_tick_first, symbol_of, symbol_here}
 use Rattle.verilog_lexer.proofs.Gaps.{gap_fewer}
 use Rattle.verilog_lexer.proofs.Runs.{word_run, number_run, constant_run}
 
@@ -38,19 +38,27 @@ number_has bytes n m h k = elim (cases_Bool (is_tick_first (drop n bytes))) as (
   | inr f ↦ rw f (plain_has (value_of 10 (take n bytes)) n h)
 ]
 
-one_has : (o : Option Symbol) → 0 < bytes_of (one_byte_lexeme o)
-one_has None = omega arith
-one_has (Some s) = omega arith
+-- each spelling has a byte
+and_parts : (a b : Bool) → (a && b) ≡ true → (a ≡ true) × (b ≡ true)
+and_parts true b h = (refl, h)
+and_parts false b h = absurd (cc)
 
-two_has : (o : Option Symbol) (a : ℕ) → 0 < bytes_of (two_byte_lexeme o a)
-two_has None a = one_has (one_byte_symbol a)
-two_has (Some s) a = omega arith
+some_bytes : (n : ℕ) → nat_lt 0 n ≡ true → 0 < n
+some_bytes n h = grind arith
 
-symbol_has : (a : ℕ) (bs : List ℕ) → 0 < bytes_of (symbol_at a bs)
-symbol_has a [] = one_has (one_byte_symbol a)
-symbol_has a (b ∷ bs) = elim (cases_Bool (nat_eq a 47 && nat_eq b 42)) as (λ _. 0 < bytes_of (symbol_at a (b ∷ bs))) [
+row_has : (rows : List (List ℕ × Symbol)) (p : (List ℕ × Symbol) → Bool) → list_all (λ row. nat_lt 0 (length row.0)) rows ≡ true → 0 < bytes_of (symbol_of (find p rows))
+row_has [] p h = omega arith
+row_has (row ∷ rows) p h =
+    let parts = and_parts (nat_lt 0 (length row.0)) (list_all (λ r. nat_lt 0 (length r.0)) rows) h in
+    elim (cases_Bool (p row)) as (λ _. 0 < bytes_of (symbol_of (find p (row ∷ rows)))) [
+      | inl t ↦ rw t (some_bytes (length row.0) parts.0)
+      | inr f ↦ rw f (row_has rows p parts.1)
+    ]
+
+symbol_has : (bytes : List ℕ) → 0 < bytes_of (symbol_here bytes)
+symbol_has bytes = elim (cases_Bool (starts_with nat_eq bytes (codes "/*"))) as (λ _. 0 < bytes_of (symbol_here bytes)) [
   | inl t ↦ rw t (omega arith)
-  | inr f ↦ rw f (two_has (two_byte_symbol a b) a)
+  | inr f ↦ rw f (row_has symbols (λ row. starts_with nat_eq bytes row.0) refl)
 ]
 
 pub lexeme_has : (a : ℕ) (bs : List ℕ) → 0 < bytes_of (lexeme a bs)
@@ -64,8 +72,8 @@ lexeme_has a bs = elim (cases_Bool (is_letter a)) as (λ _. 0 < bytes_of (lexeme
         let e : lexeme a bs ≡ number_here (a ∷ bs) = rw (f, t) refl in
         subst (λ x. 0 < bytes_of x) (sym e) (number_has (a ∷ bs) (prefix_len is_in_number (a ∷ bs)) (prefix_len is_in_constant (a ∷ bs)) (number_run a bs t) (constant_run a bs t))
     | inr g ↦
-        let e : lexeme a bs ≡ symbol_at a bs = rw (f, g) refl in
-        subst (λ x. 0 < bytes_of x) (sym e) (symbol_has a bs)
+        let e : lexeme a bs ≡ symbol_here (a ∷ bs) = rw (f, g) refl in
+        subst (λ x. 0 < bytes_of x) (sym e) (symbol_has (a ∷ bs))
   ]
 ]
 

@@ -4,12 +4,12 @@ ghost use Rattle.std.specs.Prelude.{◌≡◌, ◌<◌, ◌≤◌, ◌∷◌, []
 ghost use Rattle.std.specs.List.{prefix_len};
 ghost use Rattle.net_names.specs.Words.{is_word_byte as word_byte};
 ghost use Rattle.verilog_text.specs.Bytes.{is_in_line as in_line, is_in_number as in_number, is_in_constant as in_constant};
-ghost use Rattle.verilog_text.specs.Lexis.{lexeme as lexeme_of, word_here, number_here, symbol_at, is_tick_first, behind_block as behind_block_of, Gap, Solid};
+ghost use Rattle.verilog_text.specs.Lexis.{lexeme as lexeme_of, word_here, number_here, symbol_here, is_tick_first, behind_block as behind_block_of, Gap, Solid};
 ghost use Rattle.verilog_lexer.specs.Fits.{FitsIn};
 
 use crate::byte::{is_digit, is_in_constant, is_letter, is_white, is_word_byte};
 use crate::number::{constant, digits_first, value};
-use crate::symbol::{one_byte_symbol, two_byte_symbol};
+use crate::symbol::{is_block_open, one_byte_symbol, two_byte_symbol};
 use crate::word::word_kind;
 use dk_base::MAX_NAME_BYTES;
 use verilog_text::{LexKind, TokenKind};
@@ -88,12 +88,14 @@ fn number(bytes: &[u8]) -> Result<(TokenKind, usize), (LexKind, usize)>
     }
 }
 
+// The longest symbol, looked for at two bytes and then at one.
+#[tactic(auto, using(crate::proofs::Symbols::is_open, crate::proofs::Symbols::is_two, crate::proofs::Symbols::is_one_before, crate::proofs::Symbols::is_one_last))]
 fn symbol(first: u8, after: &[u8]) -> Result<(TokenKind, usize), (LexKind, usize)>
-    ensures answer { result ≡ symbol_at first after.now }
+    ensures answer { result ≡ symbol_here (first ∷ after.now) }
     ensures fits { FitsIn (suc (length after.now)) result }
 {
     if let Some((second, _)) = front(after) {
-        if first == b'/' && second == b'*' {
+        if is_block_open(first, second) {
             return Err((LexKind::BadByte, 1));
         }
         if let Some(symbol) = two_byte_symbol(first, second) {

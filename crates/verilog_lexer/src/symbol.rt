@@ -1,12 +1,14 @@
 // Symbols.
 
-ghost use Rattle.std.specs.Prelude.{◌≡◌};
-ghost use Rattle.verilog_text.specs.Bytes.{two_byte_symbol as two_byte_symbol_of, one_byte_symbol as one_byte_symbol_of};
+ghost use Rattle.std.specs.Prelude.{◌≡◌, ◌∷◌, [], ◌&&◌, nat_eq};
+ghost use Rattle.std.specs.Map.{lookup};
+ghost use Rattle.std.specs.Str.{bytes_eq};
+ghost use Rattle.verilog_text.specs.Bytes.{symbols};
 
 use verilog_text::Symbol;
 
 pub(crate) fn two_byte_symbol(first: u8, second: u8) -> Option<Symbol>
-    ensures { result ≡ two_byte_symbol_of first second }
+    ensures { result ≡ lookup (bytes_eq (first ∷ second ∷ [])) symbols }
 {
     match (first, second) {
         (b'<', b'=') => Some(Symbol::LessEqual),
@@ -16,7 +18,7 @@ pub(crate) fn two_byte_symbol(first: u8, second: u8) -> Option<Symbol>
 }
 
 pub(crate) fn one_byte_symbol(byte: u8) -> Option<Symbol>
-    ensures { result ≡ one_byte_symbol_of byte }
+    ensures { result ≡ lookup (bytes_eq (byte ∷ [])) symbols }
 {
     match byte {
         b'(' => Some(Symbol::Open),
@@ -42,4 +44,11 @@ pub(crate) fn one_byte_symbol(byte: u8) -> Option<Symbol>
         b'@' => Some(Symbol::At),
         _ => None,
     }
+}
+
+// Whether the two bytes open a comment.
+pub(crate) fn is_block_open(first: u8, second: u8) -> bool
+    ensures { result ≡ (nat_eq first 47 && nat_eq second 42) }
+{
+    first == b'/' && second == b'*'
 }

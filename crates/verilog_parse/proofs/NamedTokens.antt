@@ -1,6 +1,6 @@
 -- A token that is a name stands at a name.
-use Rattle.std.proofs.Common.{◌≡◌, ◌≢◌, ◌++◌, ◌+◌, ◌-◌, ◌≤◌, ◌^◌, ℕ, suc, List, [], ◌∷◌, length, take, drop, Option, Some, None, Ok, Err, Bool, true, false, ◌&&◌, not, nat_lt, nat_le, nat_eq, map, refl, sym, ap, ◌∙◌, subst, arith, inl, inr, append_assoc}
-use Rattle.std.specs.List.{prefix_len}
+use Rattle.std.proofs.Common.{◌≡◌, ◌≢◌, ◌++◌, ◌+◌, ◌-◌, ◌≤◌, ◌^◌, ℕ, suc, codes, List, [], ◌∷◌, length, take, drop, Option, Some, None, Ok, Err, Bool, true, false, ◌&&◌, not, nat_lt, nat_le, nat_eq, map, refl, sym, ap, ◌∙◌, subst, arith, inl, inr, append_assoc}
+use Rattle.std.specs.List.{prefix_len, find, starts_with}
 use Rattle.std.proofs.lemmas.Bool.{cases_Bool}
 use Rattle.std.proofs.lemmas.List.{length-append}
 use Rattle.std.proofs.lemmas.List.Sums.{prefix_len-le-length}
@@ -15,8 +15,8 @@ use Rattle.verilog_text.specs.declared.token.Keyword.{Keyword}
 use Rattle.verilog_text.specs.declared.token.Symbol.{Symbol}
 use Rattle.verilog_text.specs.declared.token.TokenKind.{TokenKind}
 use Rattle.verilog_text.specs.declared.token.TokenKind.TheVariants as kind
-use Rattle.verilog_text.specs.Bytes.{is_in_line, is_in_number, is_in_constant, value_of, constant_of, two_byte_symbol, one_byte_symbol, keywords, keyword_or, refused_or_name, word_kind}
-use Rattle.verilog_text.specs.Lexis.{Gap, none, white, line, block, behind_block, Lexes, finish, next, Lexeme, lexeme, plain_of, sized_of, number_at, number_here, word_here, is_tick_first, one_byte_lexeme, two_byte_lexeme, symbol_at, span_at}
+use Rattle.verilog_text.specs.Bytes.{is_in_line, is_in_number, is_in_constant, value_of, constant_of, symbols, keywords, keyword_or, refused_or_name, word_kind}
+use Rattle.verilog_text.specs.Lexis.{Gap, none, white, line, block, behind_block, Lexes, finish, next, Lexeme, lexeme, plain_of, sized_of, number_at, number_here, word_here, is_tick_first, symbol_of, symbol_here, span_at}
 use Rattle.verilog_text.specs.Grammar.{named}
 use Rattle.verilog_parse.specs.Named.{IsNameSpan}
 
@@ -154,19 +154,14 @@ number_fine w bytes n m = elim (cases_Bool (is_tick_first (drop n bytes))) as (�
   | inr f ↦ rw f (plain_fine w (value_of 10 (take n bytes)) n)
 ]
 
-one_fine : (bytes : List ℕ) (o : Option Symbol) → IsFine bytes (one_byte_lexeme o)
-one_fine bytes None = tt
-one_fine bytes (Some s) = λ s' m e. absurd (cc)
+row_fine : (w : List ℕ) (row : Option (List ℕ × Symbol)) → IsFine w (symbol_of row)
+row_fine w None = tt
+row_fine w (Some row) = λ s' m e. absurd (cc)
 
-two_fine : (bytes : List ℕ) (o : Option Symbol) (a : ℕ) → IsFine bytes (two_byte_lexeme o a)
-two_fine bytes None a = one_fine bytes (one_byte_symbol a)
-two_fine bytes (Some s) a = λ s' m e. absurd (cc)
-
-symbol_fine : (w : List ℕ) (a : ℕ) (bs : List ℕ) → IsFine w (symbol_at a bs)
-symbol_fine w a [] = one_fine w (one_byte_symbol a)
-symbol_fine w a (b ∷ bs) = elim (cases_Bool (nat_eq a 47 && nat_eq b 42)) as (λ _. IsFine w (symbol_at a (b ∷ bs))) [
+symbol_fine : (w bytes : List ℕ) → IsFine w (symbol_here bytes)
+symbol_fine w bytes = elim (cases_Bool (starts_with nat_eq bytes (codes "/*"))) as (λ _. IsFine w (symbol_here bytes)) [
   | inl t ↦ rw t tt
-  | inr f ↦ rw f (two_fine w (two_byte_symbol a b) a)
+  | inr f ↦ rw f (row_fine w (find (λ row. starts_with nat_eq bytes row.0) symbols))
 ]
 
 lexeme_fine : (a : ℕ) (bs : List ℕ) → IsFine (a ∷ bs) (lexeme a bs)
@@ -180,8 +175,8 @@ lexeme_fine a bs = elim (cases_Bool (is_letter a)) as (λ _. IsFine (a ∷ bs) (
         let e : lexeme a bs ≡ number_here (a ∷ bs) = rw (f, t) refl in
         subst (IsFine (a ∷ bs)) (sym e) (number_fine (a ∷ bs) (a ∷ bs) (prefix_len is_in_number (a ∷ bs)) (prefix_len is_in_constant (a ∷ bs)))
     | inr g ↦
-        let e : lexeme a bs ≡ symbol_at a bs = rw (f, g) refl in
-        subst (IsFine (a ∷ bs)) (sym e) (symbol_fine (a ∷ bs) a bs)
+        let e : lexeme a bs ≡ symbol_here (a ∷ bs) = rw (f, g) refl in
+        subst (IsFine (a ∷ bs)) (sym e) (symbol_fine (a ∷ bs) (a ∷ bs))
   ]
 ]
 

@@ -85,24 +85,13 @@ of_size size (tick ∷ base ∷ digits) = in_base size (base_of base) digits
 abbrev pub constant_of : List ℕ → Option SizedNumber
 constant_of run = of_size (value_of 10 (take (prefix_len is_in_number run) run)) (drop (prefix_len is_in_number run) run)
 
--- a symbol of two bytes
-abbrev pub two_byte_symbol : ℕ → ℕ → Option Symbol
-two_byte_symbol a b =
-    if nat_eq a 60 && nat_eq b 61 then Some symbol.LessEqual
-    else (if nat_eq a 61 && nat_eq b 61 then Some symbol.EqualEqual
-    else None)
-
--- a symbol of one byte
-abbrev pub one_byte_symbol : ℕ → Option Symbol
-one_byte_symbol a =
-    if nat_eq a 40 then Some symbol.Open else (if nat_eq a 41 then Some symbol.Close else (if nat_eq a 91 then Some symbol.OpenSquare
-    else (if nat_eq a 93 then Some symbol.CloseSquare else (if nat_eq a 123 then Some symbol.OpenBrace else (if nat_eq a 125 then Some symbol.CloseBrace
-    else (if nat_eq a 44 then Some symbol.Comma else (if nat_eq a 59 then Some symbol.Semicolon else (if nat_eq a 58 then Some symbol.Colon
-    else (if nat_eq a 63 then Some symbol.Question else (if nat_eq a 61 then Some symbol.Equal else (if nat_eq a 60 then Some symbol.Less
-    else (if nat_eq a 43 then Some symbol.Plus else (if nat_eq a 45 then Some symbol.Minus else (if nat_eq a 42 then Some symbol.Star
-    else (if nat_eq a 47 then Some symbol.Slash else (if nat_eq a 38 then Some symbol.Ampersand else (if nat_eq a 124 then Some symbol.Bar
-    else (if nat_eq a 94 then Some symbol.Caret else (if nat_eq a 126 then Some symbol.Tilde else (if nat_eq a 64 then Some symbol.At
-    else None))))))))))))))))))))
+-- the symbols, each by its spelling, the longer spellings first
+abbrev pub symbols : List (List ℕ × Symbol)
+symbols =
+    (codes "<=", symbol.LessEqual) ∷ (codes "==", symbol.EqualEqual) ∷ (codes "(", symbol.Open) ∷ (codes ")", symbol.Close) ∷ (codes "[", symbol.OpenSquare) ∷ (codes "]", symbol.CloseSquare)
+    ∷ (codes "{", symbol.OpenBrace) ∷ (codes "}", symbol.CloseBrace) ∷ (codes ",", symbol.Comma) ∷ (codes ";", symbol.Semicolon) ∷ (codes ":", symbol.Colon) ∷ (codes "?", symbol.Question)
+    ∷ (codes "=", symbol.Equal) ∷ (codes "<", symbol.Less) ∷ (codes "+", symbol.Plus) ∷ (codes "-", symbol.Minus) ∷ (codes "*", symbol.Star) ∷ (codes "/", symbol.Slash)
+    ∷ (codes "&", symbol.Ampersand) ∷ (codes "|", symbol.Bar) ∷ (codes "^", symbol.Caret) ∷ (codes "~", symbol.Tilde) ∷ (codes "@", symbol.At) ∷ []
 
 -- the words of the grammar
 abbrev pub keywords : List (List ℕ × Keyword)

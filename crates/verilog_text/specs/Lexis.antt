@@ -1,6 +1,6 @@
 -- Tokens, and where a text has none.
-use Rattle.std.specs.Prelude.{◌≡◌, ℕ, ◌+◌, ◌-◌, ◌^◌, List, [], ◌∷◌, length, take, drop, Option, Some, None, Result, Ok, Err, Bool, true, false, ◌&&◌, nat_lt, nat_eq, if◌then◌else◌}
-use Rattle.std.specs.List.{prefix_len}
+use Rattle.std.specs.Prelude.{◌≡◌, ℕ, ◌+◌, ◌-◌, ◌^◌, List, [], ◌∷◌, length, take, drop, Option, Some, None, Result, Ok, Err, Bool, true, false, ◌&&◌, nat_lt, nat_eq, if◌then◌else◌, codes}
+use Rattle.std.specs.List.{prefix_len, find, starts_with}
 use Rattle.dk_base.specs.declared.TheConstants.{MAX_NAME_BYTES}
 use Rattle.dk_base.specs.declared.span.Span.{Span}
 use Rattle.net_names.specs.Words.{is_letter, is_digit, is_word_byte}
@@ -12,7 +12,7 @@ use Rattle.verilog_text.specs.declared.token.TokenKind.TheVariants.{Plain, Sized
 use Rattle.verilog_text.specs.declared.token.LexKind.{LexKind}
 use Rattle.verilog_text.specs.declared.token.LexKind.TheVariants.{BadByte, BadConstant, NumberTooGreat, NameTooLong}
 use Rattle.verilog_text.specs.declared.token.LexFault.{LexFault}
-use Rattle.verilog_text.specs.Bytes.{is_white, is_in_line, is_in_number, is_in_constant, value_of, constant_of, two_byte_symbol, one_byte_symbol, word_kind}
+use Rattle.verilog_text.specs.Bytes.{is_white, is_in_line, is_in_number, is_in_constant, value_of, constant_of, symbols, word_kind}
 
 -- what stands at the front of a text, and how many bytes it has
 abbrev pub Lexeme : Type 0
@@ -39,18 +39,15 @@ number_at bytes digits run =
     if is_tick_first (drop digits bytes) then sized_of (constant_of (take run bytes)) run
     else plain_of (value_of 10 (take digits bytes)) digits
 
-abbrev pub one_byte_lexeme : Option Symbol → Lexeme
-one_byte_lexeme None = Err (BadByte, 1)
-one_byte_lexeme (Some s) = Ok (Sym s, 1)
+abbrev pub symbol_of : Option (List ℕ × Symbol) → Lexeme
+symbol_of None = Err (BadByte, 1)
+symbol_of (Some row) = Ok (Sym row.1, length row.0)
 
-abbrev pub two_byte_lexeme : Option Symbol → ℕ → Lexeme
-two_byte_lexeme None a = one_byte_lexeme (one_byte_symbol a)
-two_byte_lexeme (Some s) a = Ok (Sym s, 2)
-
--- the longest symbol; a `/*` that stands here has no end
-abbrev pub symbol_at : ℕ → List ℕ → Lexeme
-symbol_at a [] = one_byte_lexeme (one_byte_symbol a)
-symbol_at a (b ∷ bs) = if nat_eq a 47 && nat_eq b 42 then Err (BadByte, 1) else two_byte_lexeme (two_byte_symbol a b) a
+-- the longest symbol, which is the first in the table that the bytes begin with; a `/*` that stands here has no end
+abbrev pub symbol_here : List ℕ → Lexeme
+symbol_here bytes =
+    if starts_with nat_eq bytes (codes "/*") then Err (BadByte, 1)
+    else symbol_of (find (λ row. starts_with nat_eq bytes row.0) symbols)
 
 abbrev pub word_here : List ℕ → Lexeme
 word_here bytes = word_at bytes (prefix_len is_word_byte bytes)
@@ -61,7 +58,7 @@ number_here bytes = number_at bytes (prefix_len is_in_number bytes) (prefix_len 
 unfoldable pub lexeme : ℕ → List ℕ → Lexeme
 lexeme a bs =
     if is_letter a then word_here (a ∷ bs)
-    else (if is_digit a then number_here (a ∷ bs) else symbol_at a bs)
+    else (if is_digit a then number_here (a ∷ bs) else symbol_here (a ∷ bs))
 
 -- what follows the first `*/`
 abbrev pub behind_star : ℕ → List ℕ → Option (List ℕ) → Option (List ℕ)

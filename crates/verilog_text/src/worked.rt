@@ -5,7 +5,7 @@ ghost use Rattle.verilog_text.specs.declared.token.TokenKind.TheVariants as kind
 ghost use Rattle.verilog_text.specs.declared.token.Keyword.TheVariants as keyword;
 ghost use Rattle.verilog_text.specs.declared.token.Symbol.TheVariants as symbol;
 ghost use Rattle.verilog_text.specs.declared.token.LexKind.TheVariants as lex;
-ghost use Rattle.verilog_text.specs.Lexis.{word_here, number_here, symbol_at, behind_block};
+ghost use Rattle.verilog_text.specs.Lexis.{word_here, number_here, symbol_here, behind_block};
 
 /// A law: sized constants that are good, and runs that are none.
 pub fn worked_constants()
@@ -32,10 +32,10 @@ pub fn worked_words()
     ensures keyword { word_here (codes "endmodule") ≡ Ok (kind.Keyword keyword.EndModule, 9) }
     ensures upper { word_here (codes "Wire") ≡ Ok (kind.Name, 4) }
     ensures refused { word_here (codes "initial ") ≡ Ok (kind.Refused, 7) }
-    ensures longest { symbol_at 60 (codes "= 1") ≡ Ok (kind.Symbol symbol.LessEqual, 2) }
-    ensures shorter { symbol_at 60 (codes " =") ≡ Ok (kind.Symbol symbol.Less, 1) }
-    ensures no_symbol { symbol_at 37 (codes " rst") ≡ Err (lex.BadByte, 1) }
-    ensures open_comment { symbol_at 47 (codes "* open") ≡ Err (lex.BadByte, 1) }
+    ensures longest { symbol_here (codes "<= 1") ≡ Ok (kind.Symbol symbol.LessEqual, 2) }
+    ensures shorter { symbol_here (codes "< =") ≡ Ok (kind.Symbol symbol.Less, 1) }
+    ensures no_symbol { symbol_here (codes "% rst") ≡ Err (lex.BadByte, 1) }
+    ensures open_comment { symbol_here (codes "/* open") ≡ Err (lex.BadByte, 1) }
     ensures not_closed { behind_block (codes "/ x") ≡ None }
     ensures closed { behind_block (codes " * **/ x") ≡ Some (codes " x") }
 {}
