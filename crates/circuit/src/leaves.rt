@@ -16,6 +16,12 @@ use edge_select::{Pixel, Step};
 use net_build::Builder;
 use pointwise_ir::{Edge, Expr};
 
+fn step_by(edge: Edge, dx: i32, dy: i32) -> Step
+    ensures { result ≡ record { edge = edge; dx = dx; dy = dy } }
+{
+    Step { edge, dx, dy }
+}
+
 // A read that stands at the end of these steps, with its own step.
 fn push_read(
     b: &mut Builder,
@@ -92,20 +98,11 @@ pub fn push_leaves(
     match e {
         Expr::Constant(_, _) => Ok(()),
         Expr::Read(edge, g, dx, dy) => {
-            let step = Step {
-                edge: *edge,
-                dx: *dx,
-                dy: *dy,
-            };
+            let step = step_by(*edge, *dx, *dy);
             push_read(b, reader, made, steps, step, *g, leaves)
         }
         Expr::Shifted(edge, dx, dy, body) => {
-            let step = Step {
-                edge: *edge,
-                dx: *dx,
-                dy: *dy,
-            };
-            steps.push(step)?;
+            steps.push(step_by(*edge, *dx, *dy))?;
             push_test(b, reader, made, steps, *edge, leaves)?;
             still(b, reader);
             push_leaves(body, b, reader, made, steps, leaves)?;

@@ -45,11 +45,36 @@ struct Walked {
     after: Place,
 }
 
+// An operand, and the leaves that come after it.
+fn placed(operand: Operand, after: Place) -> Walked
+    ensures { result ≡ record { operand = operand; after = after } }
+{
+    Walked { operand, after }
+}
+
 fn read_at(reads: &[(Ty, Net)], k: usize) -> (Ty, Net)
     requires { k < length reads.now }
     ensures { slice_get reads.now k ≡ Some result }
 {
     reads[k]
+}
+
+// The operand of the read that comes next.
+fn leaf(read: (Ty, Net), at: Place) -> Walked
+    requires { at.read + 1 < 2 ^ 64 }
+    ensures { result ≡ record { operand = record { bits = signal.Net read.1; ty = read.0 }; after = record { read = at.read + 1; bit = at.bit } } }
+{
+    let (ty, net) = read;
+    Walked {
+        operand: Operand {
+            bits: Signal::Net(net),
+            ty,
+        },
+        after: Place {
+            read: at.read + 1,
+            bit: at.bit,
+        },
+    }
 }
 
 fn bit_at(bits: &[Net], k: usize) -> Net
@@ -145,49 +170,22 @@ fn walk(
     ensures folds { IfOk result (λ w. IsLeafless (tree_of e.now) → IsKnown w.operand.bits × (b.new ≡ b.old)) }
 {
     match e {
-        Expr::Constant(value, ty) => Ok(Walked {
-            operand: literal(*value, *ty),
-            after: at,
-        }),
-        Expr::Read(_, _, _, _) => {
-            let (ty, net) = read_at(reads, at.read);
-            Ok(Walked {
-                operand: Operand {
-                    bits: Signal::Net(net),
-                    ty,
-                },
-                after: Place {
-                    read: at.read + 1,
-                    bit: at.bit,
-                },
-            })
-        }
+        Expr::Constant(value, ty) => Ok(placed(literal(*value, *ty), at)),
+        Expr::Read(_, _, _, _) => Ok(leaf(read_at(reads, at.read), at)),
         Expr::Shifted(edge, _, _, body) => {
             let x = walk(body, b, reads, bits, below_edge(*edge, at))?;
-            let operand = shifted(b, *edge, bits, at.bit, x.operand)?;
-            Ok(Walked {
-                operand,
-                after: x.after,
-            })
+            Ok(placed(shifted(b, *edge, bits, at.bit, x.operand)?, x.after))
         }
         Expr::Unary(operator, body) => {
             let x = walk(body, b, reads, bits, at)?;
-            let operand = unary(b, *operator, x.operand)?;
-            Ok(Walked {
-                operand,
-                after: x.after,
-            })
+            Ok(placed(unary(b, *operator, x.operand)?, x.after))
         }
         Expr::Binary(operator, left, right) => {
             let x = walk(left, b, reads, bits, at)?;
             let right: &Expr = right;
             begins(right, b, reads, bits, x.after);
             let y = walk(right, b, reads, bits, x.after)?;
-            let operand = binary(b, *operator, x.operand, y.operand)?;
-            Ok(Walked {
-                operand,
-                after: y.after,
-            })
+            Ok(placed(binary(b, *operator, x.operand, y.operand)?, y.after))
         }
         Expr::Select(condition, first, second) => {
             let c = walk(condition, b, reads, bits, at)?;
@@ -197,27 +195,15 @@ fn walk(
             let second: &Expr = second;
             begins(second, b, reads, bits, x.after);
             let y = walk(second, b, reads, bits, x.after)?;
-            let operand = choice(b, c.operand, x.operand, y.operand)?;
-            Ok(Walked {
-                operand,
-                after: y.after,
-            })
+            Ok(placed(choice(b, c.operand, x.operand, y.operand)?, y.after))
         }
         Expr::Convert(how, body, ty) => {
             let x = walk(body, b, reads, bits, at)?;
-            let operand = converted(b, *how, x.operand, *ty)?;
-            Ok(Walked {
-                operand,
-                after: x.after,
-            })
+            Ok(placed(converted(b, *how, x.operand, *ty)?, x.after))
         }
         Expr::Scale(operator, body, by) => {
             let x = walk(body, b, reads, bits, at)?;
-            let operand = scaled(b, *operator, x.operand, *by)?;
-            Ok(Walked {
-                operand,
-                after: x.after,
-            })
+            Ok(placed(scaled(b, *operator, x.operand, *by)?, x.after))
         }
     }
 }

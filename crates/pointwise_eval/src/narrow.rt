@@ -68,18 +68,9 @@ pub fn narrow_type(e: &Expr, inputs: &[Input], images: &[Definition]) -> Option<
     ensures narrow { IfSome result (λ t. AreOfNarrowTypes (all_types inputs.now images.now) (tree_of e.now)) }
 {
     match e {
-        Expr::Constant(value, ty) => {
-            let ty = constant_type(*value, *ty)?;
-            narrow(ty)
-        }
-        Expr::Read(_, image, _, _) => {
-            let ty = type_at(inputs, images, *image)?;
-            narrow(ty)
-        }
-        Expr::Shifted(_, _, _, body) => {
-            let ty = narrow_type(body, inputs, images)?;
-            narrow(ty)
-        }
+        Expr::Constant(value, ty) => narrow(constant_type(*value, *ty)?),
+        Expr::Read(_, image, _, _) => narrow(type_at(inputs, images, *image)?),
+        Expr::Shifted(_, _, _, body) => narrow(narrow_type(body, inputs, images)?),
         Expr::Unary(op, body) => {
             let operand = narrow_type(body, inputs, images)?;
             let ty = op.result_type(operand)?;

@@ -97,14 +97,8 @@ fn right_of(
     ensures { IfOk result (λ r. r ≡ named_right text.now right.now) }
 {
     match right {
-        WrittenRight::Copy(a) => {
-            let a = atom_of(alloc, text, a)?;
-            Ok(Right::Copy(a))
-        }
-        WrittenRight::Not(a) => {
-            let a = atom_of(alloc, text, a)?;
-            Ok(Right::Not(a))
-        }
+        WrittenRight::Copy(a) => Ok(Right::Copy(atom_of(alloc, text, a)?)),
+        WrittenRight::Not(a) => Ok(Right::Not(atom_of(alloc, text, a)?)),
         WrittenRight::Binary(operator, a, b) => {
             let a = atom_of(alloc, text, a)?;
             let b = atom_of(alloc, text, b)?;
