@@ -8,9 +8,10 @@ use Rattle.std.proofs.lemmas.Bool.Decides.{nat_tests}
 use Rattle.std.proofs.lemmas.List.{get_or-map, length-map}
 use Rattle.std.proofs.lemmas.List.FromFn.{length-enumerate_from, get_or-enumerate_from}
 use Rattle.std.proofs.lemmas.List.Elements.{recursion_from_All}
+use Rattle.dk_base.specs.declared.TheConstants.{MAX_SIDE}
 use Rattle.dk_base.specs.declared.stencils.Image.{Image}
 use Rattle.dk_base.specs.declared.stencils.LiveRead.{LiveRead}
-use Rattle.dk_base.specs.Stencils.{Ascends, IsRead, place}
+use Rattle.dk_base.specs.Stencils.{Ascends, IsOffset, IsRead, place}
 use Rattle.pointwise_ir.specs.Programs.{Program, names_of}
 use Rattle.raster_delay.specs.declared.placed.PlacedRead.{PlacedRead}
 use Rattle.raster_delay.specs.Placing.{placed}
@@ -156,7 +157,7 @@ module _ (p : Program) (s : System) (d ends flow : List ℕ) where
     IsLine m = (n : ℕ) → IsAmount n → IsFlowLine (image_count s) (m n)
 
     reads_in : (f : PlacedRead → Maker)
-        → ((r : PlacedRead) (n : ℕ) → r.f < image_count s → r.g < image_count s → R.IsOffset r.dx → R.IsOffset r.dy → IsAmount n → IsFlowLine (image_count s) (f r n))
+        → ((r : PlacedRead) (n : ℕ) → r.f < image_count s → r.g < image_count s → IsOffset MAX_SIDE r.dx → IsOffset MAX_SIDE r.dy → IsAmount n → IsFlowLine (image_count s) (f r n))
         → (reads : List LiveRead) → AllByRecursion Reader reads → AllByRecursion IsLine (map f (map (placed s.stencils.images) reads))
     reads_in f line [] h = tt
     reads_in f line (r ∷ reads) h =

@@ -1,6 +1,6 @@
 // Whether frames fit the inputs of a program.
 
-ghost use Rattle.std.specs.Prelude.{◌≡◌, ◌<◌, IsTrue, length};
+ghost use Rattle.std.specs.Prelude.{◌≡◌, ◌<◌, ◌<ℤ◌, pos, IsTrue, length};
 ghost use Rattle.std.specs.List.{All};
 ghost use Rattle.dk_base.specs.FrameSizes.{size_of};
 ghost use Rattle.dk_base.specs.Types.{IsType, above};
@@ -11,31 +11,17 @@ ghost use Rattle.pointwise_eval.specs.Rounds.{IsInputFrame, AreInputFrames, AreF
 use dk_base::{FrameSize, Ty};
 use dk_frames::{Frame, SampleSlice};
 use pointwise_ir::{Input, Ir};
+use value_rows::Element;
 
-// Whether 8-bit samples are in the range of the type.
-fn bytes_fit(samples: &[u8], ty: Ty) -> bool
+// Whether no element is above the range of the type.
+fn elements_fit<T: Element>(elements: &[T], ty: Ty) -> bool
     requires { IsType ty }
-    ensures yes { IsTrue result → All (λ s. s < above ty) samples.now }
-    ensures no { All (λ s. s < above ty) samples.now → IsTrue result }
+    ensures yes { IsTrue result → All (λ e. T.worth e <ℤ pos (above ty)) elements.now }
+    ensures no { All (λ e. T.worth e <ℤ pos (above ty)) elements.now → IsTrue result }
 {
     let greatest = ty.greatest();
-    for sample in samples {
-        if greatest < i128::from(*sample) {
-            return false;
-        }
-    }
-    true
-}
-
-// Whether 16-bit samples are in the range of the type.
-fn words_fit(samples: &[u16], ty: Ty) -> bool
-    requires { IsType ty }
-    ensures yes { IsTrue result → All (λ s. s < above ty) samples.now }
-    ensures no { All (λ s. s < above ty) samples.now → IsTrue result }
-{
-    let greatest = ty.greatest();
-    for sample in samples {
-        if greatest < i128::from(*sample) {
+    for element in elements {
+        if greatest < i128::from(element.widen()) {
             return false;
         }
     }
@@ -49,8 +35,8 @@ fn samples_fit(samples: SampleSlice<'_>, ty: Ty) -> bool
     ensures no { All (λ s. s < above ty) (samples_of samples.entry) → IsTrue result }
 {
     match samples {
-        SampleSlice::U8(samples) => bytes_fit(samples, ty),
-        SampleSlice::U16(samples) => words_fit(samples, ty),
+        SampleSlice::U8(samples) => elements_fit(samples, ty),
+        SampleSlice::U16(samples) => elements_fit(samples, ty),
     }
 }
 

@@ -4,11 +4,13 @@ use Rattle.std.specs.Prelude.{nat_eq, not, if◌then◌else◌}
 use Rattle.std.specs.List.{AllByRecursion}
 use Rattle.std.specs.Fmt.{signed_decimal}
 use Rattle.std.proofs.lemmas.Bool.{eqb-true, ne_eqb}
+use Rattle.dk_base.specs.declared.TheConstants.{MAX_SIDE}
+use Rattle.dk_base.specs.Stencils.{IsOffset}
 use Rattle.report_text.specs.declared.report.ImageLine.{ImageLine}
 use Rattle.report_text.specs.declared.report.FlowLine.{FlowLine}
 use Rattle.report_text.specs.declared.report.FlowLine.TheVariants.{Hold, Start, Read, Keep}
 use Rattle.dk_base.specs.Ascii.{is_digit, is_word_byte}
-use Rattle.report_text.specs.Reports.{Report, Meets, IsImageLine, IsOffset, IsAmount, IsFlowLine}
+use Rattle.report_text.specs.Reports.{Report, Meets, IsImageLine, IsAmount, IsFlowLine}
 use Rattle.report_text.specs.Layout.{number_line, pair_line, plan_line, limits_line, age_line, image_line, latency_line, reads_line, name_at, held, carried, flow_line, end_line, head_lines, unless_first, lines, joined}
 use Rattle.report_text.specs.Texts.{onto_first, cut}
 use Rattle.report_text.specs.Reading.{is_empty}
@@ -49,7 +51,7 @@ word_plain b e = plain_unless b (λ h. absurd (cc (subst (λ x. is_word_byte x �
 decimal_plain : (n : ℕ) → n < 2 ^ 64 → IsPlain (decimal n)
 decimal_plain n h = passes_all is_digit is_plain digit_plain (decimal n) (decimal_passes n h)
 
-signed_plain : (z : ℤ) → IsOffset z → IsPlain (signed_decimal z)
+signed_plain : (z : ℤ) → IsOffset MAX_SIDE z → IsPlain (signed_decimal z)
 signed_plain (pos n) o = let h = pos_small n o in decimal_plain n (omega arith)
 signed_plain (negsuc n) o = let h = neg_small n o in (refl, decimal_plain (suc n) (omega arith))
 
@@ -87,7 +89,7 @@ held_is : (word : List ℕ) (images : List ImageLine) (g n : ℕ) → IsPlain wo
 held_is word images g n p a h m =
     behind word (name_at images g ++ number_line (codes " ") n) p (behind (name_at images g) (number_line (codes " ") n) (name_plain images g a h) (amount_is n m))
 
-carried_is : (word : List ℕ) (images : List ImageLine) (f g : ℕ) (dx dy : ℤ) (n : ℕ) → IsPlain word → AllByRecursion IsImageLine images → f < length images → g < length images → IsOffset dx → IsOffset dy → IsAmount n
+carried_is : (word : List ℕ) (images : List ImageLine) (f g : ℕ) (dx dy : ℤ) (n : ℕ) → IsPlain word → AllByRecursion IsImageLine images → f < length images → g < length images → IsOffset MAX_SIDE dx → IsOffset MAX_SIDE dy → IsAmount n
     → IsLine (carried word images f g dx dy n)
 carried_is word images f g dx dy n p a h k x y m =
     let down = signed_decimal dy ++ number_line (codes " ") n in

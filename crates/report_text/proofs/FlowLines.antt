@@ -5,12 +5,14 @@ use Rattle.std.specs.List.{AllByRecursion}
 use Rattle.std.specs.Fmt.{signed_decimal}
 use Rattle.std.proofs.lemmas.Bool.{ltb-true, lt-ltb}
 use Rattle.std.proofs.lemmas.Option.{same_Some}
+use Rattle.dk_base.specs.declared.TheConstants.{MAX_SIDE}
+use Rattle.dk_base.specs.Stencils.{IsOffset}
 use Rattle.report_text.specs.declared.report.ImageLine.{ImageLine}
 use Rattle.report_text.specs.declared.report.FlowLine.{FlowLine}
 use Rattle.report_text.specs.declared.report.FlowLine.TheVariants.{Hold, Start, Read, Keep}
 use Rattle.dk_base.specs.Ascii.{is_word_byte}
 use Rattle.report_text.specs.Layout.{name_at, number_line, held, carried, flow_line}
-use Rattle.report_text.specs.Reports.{AreDistinct, names_of, IsImageLine, IsOffset, IsAmount, IsFlowLine}
+use Rattle.report_text.specs.Reports.{AreDistinct, names_of, IsImageLine, IsAmount, IsFlowLine}
 use Rattle.report_text.specs.Reading.{◌>>=◌, strip, number_line_at, word_at, find, offset_at, amount_at, held_at, carried_at, flow_at}
 use Rattle.report_text.proofs.Options.{bind_some, if_some, or_some}
 use Rattle.report_text.proofs.Fields.{Passes, strip_takes, line_again, line_takes}
@@ -79,8 +81,8 @@ record Carried (make : ℕ → ℕ → ℤ → ℤ → ℕ → FlowLine) (images
   is : make reader source dx dy flow ≡ x
   reads : reader < length images
   gives : source < length images
-  across : IsOffset dx
-  down : IsOffset dy
+  across : IsOffset MAX_SIDE dx
+  down : IsOffset MAX_SIDE dy
   amount : IsAmount flow
   written : word ++ bytes ≡ carried word images reader source dx dy flow
 
@@ -125,7 +127,7 @@ abbrev across_line : ℤ → ℤ → ℕ → List ℕ
 across_line dx dy n = codes " " ++ (signed_decimal dx ++ down_line dy n)
 
 carried_again : (make : ℕ → ℕ → ℤ → ℤ → ℕ → FlowLine) (images : List ImageLine) (f g : ℕ) (dx dy : ℤ) (n : ℕ) → AllByRecursion IsImageLine images → AreDistinct (names_of images)
-    → f < length images → g < length images → IsOffset dx → IsOffset dy → IsAmount n
+    → f < length images → g < length images → IsOffset MAX_SIDE dx → IsOffset MAX_SIDE dy → IsAmount n
     → carried_at make images (name_at images f ++ (codes " " ++ (name_at images g ++ across_line dx dy n))) ≡ Some (make f g dx dy n)
 unfolding carried_at
 carried_again make images f g dx dy n a d h k x y m =

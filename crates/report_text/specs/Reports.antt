@@ -1,8 +1,8 @@
 -- What a report says, and what its values keep.
-use Rattle.std.specs.Prelude.{◌≡◌, ◌≢◌, ℕ, ℤ, pos, neg_ℤ, ◌+◌, ◌-◌, ◌^◌, ◌<◌, ◌≤◌, ◌≤ℤ◌, true, nat_eq, if◌then◌else◌, List, [], ◌∷◌, length, map, slice_index_or, All}
+use Rattle.std.specs.Prelude.{◌≡◌, ◌≢◌, ℕ, pos, ◌+◌, ◌^◌, ◌<◌, ◌≤◌, true, nat_eq, if◌then◌else◌, List, [], ◌∷◌, length, map, slice_index_or, All}
 use Rattle.std.specs.List.{AllByRecursion}
 use Rattle.dk_base.specs.declared.stencils.LiveRead.{LiveRead}
-use Rattle.dk_base.specs.Stencils.{IsBefore}
+use Rattle.dk_base.specs.Stencils.{IsBefore, IsOffset}
 use Rattle.dk_base.specs.declared.TheConstants.{MAX_SIDE, MAX_AGE, MAX_WIDTH, MAX_DEFINITIONS, MAX_KEPT_IMAGES, MAX_OUTPUTS}
 use Rattle.report_text.specs.declared.report.ImageLine.{ImageLine}
 use Rattle.report_text.specs.declared.report.FlowLine.{FlowLine}
@@ -49,22 +49,17 @@ pub record IsImageLine (i : ImageLine) : Type 0 where
   pub delay : i.delay < 2 ^ 64
   pub depth : i.depth < 2 ^ 64
 
--- an offset that stays within a row or a column of the greatest frame
-pub record IsOffset (z : ℤ) : Type 0 where
-  pub low : neg_ℤ (pos (MAX_SIDE - 1)) ≤ℤ z
-  pub high : z ≤ℤ pos (MAX_SIDE - 1)
-
 -- a flow of at least 1
 pub record IsAmount (n : ℕ) : Type 0 where
   pub some : 1 ≤ n
   pub most : n < 2 ^ 64
 
--- places of images below `count`, offsets and a flow of at least 1
+-- places of images below `count`, offsets within the greatest frame, and a flow of at least 1
 abbrev pub IsFlowLine : (count : ℕ) → FlowLine → Type 0
 IsFlowLine count (Hold g n) = (g < count) × IsAmount n
 IsFlowLine count (Start f n) = (f < count) × IsAmount n
-IsFlowLine count (Read f g dx dy n) = (f < count) × (g < count) × IsOffset dx × IsOffset dy × IsAmount n
-IsFlowLine count (Keep f g dx dy n) = (f < count) × (g < count) × IsOffset dx × IsOffset dy × IsAmount n
+IsFlowLine count (Read f g dx dy n) = (f < count) × (g < count) × IsOffset MAX_SIDE dx × IsOffset MAX_SIDE dy × IsAmount n
+IsFlowLine count (Keep f g dx dy n) = (f < count) × (g < count) × IsOffset MAX_SIDE dx × IsOffset MAX_SIDE dy × IsAmount n
 
 -- the kinds of flow lines in their order: hold, start, read, keep
 abbrev pub kind : FlowLine → ℕ
