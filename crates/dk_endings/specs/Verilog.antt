@@ -1,6 +1,4 @@
 -- What is told of the faults of a Verilog text.
-use Rattle.std.specs.Prelude.{Option, Some, None, option_map}
-use Rattle.dk_base.specs.declared.span.Span.{Span}
 use Rattle.netlist.specs.declared.fault.NetFault.{NetFault}
 use Rattle.netlist.specs.declared.fault.NetFault.TheVariants as net
 use Rattle.verilog_text.specs.declared.fault.TextFault.{TextFault}
@@ -10,24 +8,22 @@ use Rattle.dk_endings.specs.declared.verilog.VerilogKind.TheVariants as kind
 use Rattle.dk_endings.specs.declared.verilog.VerilogFault.{VerilogFault}
 use Rattle.dk_endings.specs.declared.verilog.VerilogFault.TheVariants.{At}
 
--- of the net rules, and nothing of want of memory
-abbrev pub net_kind : NetFault → Option VerilogKind
-net_kind (net.Duplicate _) = Some kind.Duplicate
-net_kind net.Ports = Some kind.Ports
-net_kind (net.Unknown _) = Some kind.Unknown
-net_kind (net.WrongSort _) = Some kind.WrongSort
-net_kind (net.Divisor _) = Some kind.Divisor
-net_kind (net.Width _) = Some kind.Width
-net_kind (net.DrivenTwice _) = Some kind.DrivenTwice
-net_kind (net.Undriven _) = Some kind.Undriven
-net_kind (net.Cycle _) = Some kind.Cycle
-net_kind net.OutOfMemory = None
+-- of the net rules
+abbrev pub net_kind : NetFault → VerilogKind
+net_kind (net.Duplicate _) = kind.Duplicate
+net_kind net.Ports = kind.Ports
+net_kind (net.Unknown _) = kind.Unknown
+net_kind (net.WrongSort _) = kind.WrongSort
+net_kind (net.Divisor _) = kind.Divisor
+net_kind (net.Width _) = kind.Width
+net_kind (net.DrivenTwice _) = kind.DrivenTwice
+net_kind (net.Undriven _) = kind.Undriven
+net_kind (net.Cycle _) = kind.Cycle
 
--- the kind and the place of a fault, and nothing of want of memory
-abbrev pub fault_told : TextFault → Option VerilogFault
-fault_told (text.Lex fault) = Some (At fault.span (kind.Token fault.kind))
-fault_told (text.Syntax span) = Some (At span kind.Syntax)
-fault_told (text.NotInSubset span) = Some (At span kind.NotInSubset)
-fault_told (text.Limit fault) = Some (At fault.span (kind.Limit fault.kind))
-fault_told (text.Net span fault) = option_map (At span) (net_kind fault)
-fault_told text.OutOfMemory = None
+-- the kind and the place of a fault
+abbrev pub fault_told : TextFault → VerilogFault
+fault_told (text.Lex fault) = At fault.span (kind.Token fault.kind)
+fault_told (text.Syntax span) = At span kind.Syntax
+fault_told (text.NotInSubset span) = At span kind.NotInSubset
+fault_told (text.Limit fault) = At fault.span (kind.Limit fault.kind)
+fault_told (text.Net span fault) = At span (net_kind fault)

@@ -1,6 +1,6 @@
 //! What is wrong with a Verilog text.
 
-ghost use Rattle.std.specs.Prelude.{◌≡◌, option_map};
+ghost use Rattle.std.specs.Prelude.{◌≡◌};
 ghost use Rattle.dk_endings.specs.Verilog.{fault_told, net_kind as kind_of_net};
 
 use dk_base::Span;
@@ -47,50 +47,48 @@ pub enum VerilogFault {
     At { span: Span, kind: VerilogKind },
 }
 
-fn net_kind(fault: NetFault) -> Option<VerilogKind>
+fn net_kind(fault: NetFault) -> VerilogKind
     ensures { result ≡ kind_of_net fault }
 {
     match fault {
-        NetFault::Duplicate(_) => Some(VerilogKind::Duplicate),
-        NetFault::Ports => Some(VerilogKind::Ports),
-        NetFault::Unknown(_) => Some(VerilogKind::Unknown),
-        NetFault::WrongSort(_) => Some(VerilogKind::WrongSort),
-        NetFault::Divisor(_) => Some(VerilogKind::Divisor),
-        NetFault::Width(_) => Some(VerilogKind::Width),
-        NetFault::DrivenTwice(_) => Some(VerilogKind::DrivenTwice),
-        NetFault::Undriven(_) => Some(VerilogKind::Undriven),
-        NetFault::Cycle(_) => Some(VerilogKind::Cycle),
-        NetFault::OutOfMemory => None,
+        NetFault::Duplicate(_) => VerilogKind::Duplicate,
+        NetFault::Ports => VerilogKind::Ports,
+        NetFault::Unknown(_) => VerilogKind::Unknown,
+        NetFault::WrongSort(_) => VerilogKind::WrongSort,
+        NetFault::Divisor(_) => VerilogKind::Divisor,
+        NetFault::Width(_) => VerilogKind::Width,
+        NetFault::DrivenTwice(_) => VerilogKind::DrivenTwice,
+        NetFault::Undriven(_) => VerilogKind::Undriven,
+        NetFault::Cycle(_) => VerilogKind::Cycle,
     }
 }
 
 impl VerilogFault {
-    /// What is told of a text's fault; None of want of memory.
-    pub fn of(fault: TextFault) -> Option<VerilogFault>
+    /// What is told of a text's fault.
+    pub fn of(fault: TextFault) -> VerilogFault
         ensures { result ≡ fault_told fault }
     {
         match fault {
-            TextFault::Lex(fault) => Some(VerilogFault::At {
+            TextFault::Lex(fault) => VerilogFault::At {
                 span: fault.span,
                 kind: VerilogKind::Token(fault.kind),
-            }),
-            TextFault::Syntax(span) => Some(VerilogFault::At {
+            },
+            TextFault::Syntax(span) => VerilogFault::At {
                 span,
                 kind: VerilogKind::Syntax,
-            }),
-            TextFault::NotInSubset(span) => Some(VerilogFault::At {
+            },
+            TextFault::NotInSubset(span) => VerilogFault::At {
                 span,
                 kind: VerilogKind::NotInSubset,
-            }),
-            TextFault::Limit(fault) => Some(VerilogFault::At {
+            },
+            TextFault::Limit(fault) => VerilogFault::At {
                 span: fault.span,
                 kind: VerilogKind::Limit(fault.kind),
-            }),
-            TextFault::Net { span, fault } => {
-                let kind = net_kind(fault)?;
-                Some(VerilogFault::At { span, kind })
-            }
-            TextFault::OutOfMemory => None,
+            },
+            TextFault::Net { span, fault } => VerilogFault::At {
+                span,
+                kind: net_kind(fault),
+            },
         }
     }
 }

@@ -1,5 +1,5 @@
 -- A Verilog text and a file decide one ending of `sim`, and one of `trace`.
-use Rattle.std.proofs.Common.{◌≡◌, ◌⊎◌, inl, inr, ℕ, ℤ, ◌<◌, List, [], ◌∷◌, Option, Some, unwrap_or, refl, ap, subst, sym, ◌∙◌, arith, length, true, false}
+use Rattle.std.proofs.Common.{◌≡◌, ◌⊎◌, inl, inr, ℕ, ℤ, ◌<◌, List, [], ◌∷◌, Option, refl, ap, subst, sym, ◌∙◌, arith, length, true, false}
 use Rattle.std.specs.List.{flat_map, AllByRecursion}
 use Rattle.pgm_codec.specs.Rounds.{FitsInputs}
 use Rattle.dk_base.specs.declared.span.Span.{Span}
@@ -46,7 +46,7 @@ abbrev pub OneAgreed : Type 0
 OneAgreed = (t : List ℕ) (f g : TextFault) → IsFault t f → IsFault t g → Agrees f g
 
 abbrev pub ModuleApart : Type 0
-ModuleApart = (t : List ℕ) (m : NamedNetlist) (f : TextFault) → StandsFor t m → IsFault t f → f ≡ text.OutOfMemory
+ModuleApart = (t : List ℕ) (m : NamedNetlist) (f : TextFault) → StandsFor t m → IsFault t f → ⊥
 
 abbrev pub OneTokens : Type 0
 OneTokens = (t : List ℕ) (a b : List Token) → HasTokens t a → HasTokens t b → a ≡ b
@@ -115,119 +115,15 @@ alike_self ending.Memory = refl
 pub alike_of : (a b : Ending) → a ≡ b → AreAlike a b
 alike_of a b e = subst (λ x. AreAlike a x) e (alike_self a)
 
--- what an option holds
-some_is : {A : Type 0} (a b : A) → Some a ≡ Some b → a ≡ b
-some_is a b e = ap (λ o. unwrap_or o a) e
-
--- the same fault is told the same
-same_told : (f g : TextFault) (x y : VerilogFault) → f ≡ g → fault_told f ≡ Some x → fault_told g ≡ Some y → AreAlike (ending.Verilog x) (ending.Verilog y)
-same_told f g x y e a b = alike_of (ending.Verilog x) (ending.Verilog y) (ap ending.Verilog (some_is x y (sym a ∙ (ap fault_told e ∙ b))))
-
--- two cycles
-both_cycles : (s t : Span) (x y : VerilogFault) → At s kind.Cycle ≡ x → At t kind.Cycle ≡ y → AreAlike (ending.Verilog x) (ending.Verilog y)
-both_cycles s t x y a b =
-    let first : AreAlike (ending.Verilog x) (ending.Verilog (At t kind.Cycle)) = subst (λ z. AreAlike (ending.Verilog z) (ending.Verilog (At t kind.Cycle))) a tt in
-    subst (λ z. AreAlike (ending.Verilog x) (ending.Verilog z)) b first
-
-nothing_told : {P : Type 0} (x : VerilogFault) → fault_told text.OutOfMemory ≡ Some x → P
-nothing_told x e = absurd (let f : ⊥ = cc in f)
-
 -- faults that agree are told alike
-told_alike : (f g : TextFault) (x y : VerilogFault) → Agrees f g → fault_told f ≡ Some x → fault_told g ≡ Some y → AreAlike (ending.Verilog x) (ending.Verilog y)
-told_alike (text.Lex p) (text.Lex q) x y same a b = same_told (text.Lex p) (text.Lex q) x y same a b
-told_alike (text.Lex p) (text.Syntax q) x y same a b = same_told (text.Lex p) (text.Syntax q) x y same a b
-told_alike (text.Lex p) (text.NotInSubset q) x y same a b = same_told (text.Lex p) (text.NotInSubset q) x y same a b
-told_alike (text.Lex p) (text.Limit q) x y same a b = same_told (text.Lex p) (text.Limit q) x y same a b
-told_alike (text.Lex p) (text.Net t n) x y same a b = same_told (text.Lex p) (text.Net t n) x y same a b
-told_alike (text.Lex p) text.OutOfMemory x y same a b = nothing_told y b
-told_alike (text.Syntax p) (text.Lex q) x y same a b = same_told (text.Syntax p) (text.Lex q) x y same a b
-told_alike (text.Syntax p) (text.Syntax q) x y same a b = same_told (text.Syntax p) (text.Syntax q) x y same a b
-told_alike (text.Syntax p) (text.NotInSubset q) x y same a b = same_told (text.Syntax p) (text.NotInSubset q) x y same a b
-told_alike (text.Syntax p) (text.Limit q) x y same a b = same_told (text.Syntax p) (text.Limit q) x y same a b
-told_alike (text.Syntax p) (text.Net t n) x y same a b = same_told (text.Syntax p) (text.Net t n) x y same a b
-told_alike (text.Syntax p) text.OutOfMemory x y same a b = nothing_told y b
-told_alike (text.NotInSubset p) (text.Lex q) x y same a b = same_told (text.NotInSubset p) (text.Lex q) x y same a b
-told_alike (text.NotInSubset p) (text.Syntax q) x y same a b = same_told (text.NotInSubset p) (text.Syntax q) x y same a b
-told_alike (text.NotInSubset p) (text.NotInSubset q) x y same a b = same_told (text.NotInSubset p) (text.NotInSubset q) x y same a b
-told_alike (text.NotInSubset p) (text.Limit q) x y same a b = same_told (text.NotInSubset p) (text.Limit q) x y same a b
-told_alike (text.NotInSubset p) (text.Net t n) x y same a b = same_told (text.NotInSubset p) (text.Net t n) x y same a b
-told_alike (text.NotInSubset p) text.OutOfMemory x y same a b = nothing_told y b
-told_alike (text.Limit p) (text.Lex q) x y same a b = same_told (text.Limit p) (text.Lex q) x y same a b
-told_alike (text.Limit p) (text.Syntax q) x y same a b = same_told (text.Limit p) (text.Syntax q) x y same a b
-told_alike (text.Limit p) (text.NotInSubset q) x y same a b = same_told (text.Limit p) (text.NotInSubset q) x y same a b
-told_alike (text.Limit p) (text.Limit q) x y same a b = same_told (text.Limit p) (text.Limit q) x y same a b
-told_alike (text.Limit p) (text.Net t n) x y same a b = same_told (text.Limit p) (text.Net t n) x y same a b
-told_alike (text.Limit p) text.OutOfMemory x y same a b = nothing_told y b
-told_alike (text.Net s (net.Duplicate j)) (text.Lex q) x y same a b = same_told (text.Net s (net.Duplicate j)) (text.Lex q) x y same a b
-told_alike (text.Net s (net.Duplicate j)) (text.Syntax q) x y same a b = same_told (text.Net s (net.Duplicate j)) (text.Syntax q) x y same a b
-told_alike (text.Net s (net.Duplicate j)) (text.NotInSubset q) x y same a b = same_told (text.Net s (net.Duplicate j)) (text.NotInSubset q) x y same a b
-told_alike (text.Net s (net.Duplicate j)) (text.Limit q) x y same a b = same_told (text.Net s (net.Duplicate j)) (text.Limit q) x y same a b
-told_alike (text.Net s (net.Duplicate j)) (text.Net t n) x y same a b = same_told (text.Net s (net.Duplicate j)) (text.Net t n) x y same a b
-told_alike (text.Net s (net.Duplicate j)) text.OutOfMemory x y same a b = nothing_told y b
-told_alike (text.Net s net.Ports) (text.Lex q) x y same a b = same_told (text.Net s net.Ports) (text.Lex q) x y same a b
-told_alike (text.Net s net.Ports) (text.Syntax q) x y same a b = same_told (text.Net s net.Ports) (text.Syntax q) x y same a b
-told_alike (text.Net s net.Ports) (text.NotInSubset q) x y same a b = same_told (text.Net s net.Ports) (text.NotInSubset q) x y same a b
-told_alike (text.Net s net.Ports) (text.Limit q) x y same a b = same_told (text.Net s net.Ports) (text.Limit q) x y same a b
-told_alike (text.Net s net.Ports) (text.Net t n) x y same a b = same_told (text.Net s net.Ports) (text.Net t n) x y same a b
-told_alike (text.Net s net.Ports) text.OutOfMemory x y same a b = nothing_told y b
-told_alike (text.Net s (net.Unknown j)) (text.Lex q) x y same a b = same_told (text.Net s (net.Unknown j)) (text.Lex q) x y same a b
-told_alike (text.Net s (net.Unknown j)) (text.Syntax q) x y same a b = same_told (text.Net s (net.Unknown j)) (text.Syntax q) x y same a b
-told_alike (text.Net s (net.Unknown j)) (text.NotInSubset q) x y same a b = same_told (text.Net s (net.Unknown j)) (text.NotInSubset q) x y same a b
-told_alike (text.Net s (net.Unknown j)) (text.Limit q) x y same a b = same_told (text.Net s (net.Unknown j)) (text.Limit q) x y same a b
-told_alike (text.Net s (net.Unknown j)) (text.Net t n) x y same a b = same_told (text.Net s (net.Unknown j)) (text.Net t n) x y same a b
-told_alike (text.Net s (net.Unknown j)) text.OutOfMemory x y same a b = nothing_told y b
-told_alike (text.Net s (net.WrongSort j)) (text.Lex q) x y same a b = same_told (text.Net s (net.WrongSort j)) (text.Lex q) x y same a b
-told_alike (text.Net s (net.WrongSort j)) (text.Syntax q) x y same a b = same_told (text.Net s (net.WrongSort j)) (text.Syntax q) x y same a b
-told_alike (text.Net s (net.WrongSort j)) (text.NotInSubset q) x y same a b = same_told (text.Net s (net.WrongSort j)) (text.NotInSubset q) x y same a b
-told_alike (text.Net s (net.WrongSort j)) (text.Limit q) x y same a b = same_told (text.Net s (net.WrongSort j)) (text.Limit q) x y same a b
-told_alike (text.Net s (net.WrongSort j)) (text.Net t n) x y same a b = same_told (text.Net s (net.WrongSort j)) (text.Net t n) x y same a b
-told_alike (text.Net s (net.WrongSort j)) text.OutOfMemory x y same a b = nothing_told y b
-told_alike (text.Net s (net.Divisor j)) (text.Lex q) x y same a b = same_told (text.Net s (net.Divisor j)) (text.Lex q) x y same a b
-told_alike (text.Net s (net.Divisor j)) (text.Syntax q) x y same a b = same_told (text.Net s (net.Divisor j)) (text.Syntax q) x y same a b
-told_alike (text.Net s (net.Divisor j)) (text.NotInSubset q) x y same a b = same_told (text.Net s (net.Divisor j)) (text.NotInSubset q) x y same a b
-told_alike (text.Net s (net.Divisor j)) (text.Limit q) x y same a b = same_told (text.Net s (net.Divisor j)) (text.Limit q) x y same a b
-told_alike (text.Net s (net.Divisor j)) (text.Net t n) x y same a b = same_told (text.Net s (net.Divisor j)) (text.Net t n) x y same a b
-told_alike (text.Net s (net.Divisor j)) text.OutOfMemory x y same a b = nothing_told y b
-told_alike (text.Net s (net.Width j)) (text.Lex q) x y same a b = same_told (text.Net s (net.Width j)) (text.Lex q) x y same a b
-told_alike (text.Net s (net.Width j)) (text.Syntax q) x y same a b = same_told (text.Net s (net.Width j)) (text.Syntax q) x y same a b
-told_alike (text.Net s (net.Width j)) (text.NotInSubset q) x y same a b = same_told (text.Net s (net.Width j)) (text.NotInSubset q) x y same a b
-told_alike (text.Net s (net.Width j)) (text.Limit q) x y same a b = same_told (text.Net s (net.Width j)) (text.Limit q) x y same a b
-told_alike (text.Net s (net.Width j)) (text.Net t n) x y same a b = same_told (text.Net s (net.Width j)) (text.Net t n) x y same a b
-told_alike (text.Net s (net.Width j)) text.OutOfMemory x y same a b = nothing_told y b
-told_alike (text.Net s (net.DrivenTwice j)) (text.Lex q) x y same a b = same_told (text.Net s (net.DrivenTwice j)) (text.Lex q) x y same a b
-told_alike (text.Net s (net.DrivenTwice j)) (text.Syntax q) x y same a b = same_told (text.Net s (net.DrivenTwice j)) (text.Syntax q) x y same a b
-told_alike (text.Net s (net.DrivenTwice j)) (text.NotInSubset q) x y same a b = same_told (text.Net s (net.DrivenTwice j)) (text.NotInSubset q) x y same a b
-told_alike (text.Net s (net.DrivenTwice j)) (text.Limit q) x y same a b = same_told (text.Net s (net.DrivenTwice j)) (text.Limit q) x y same a b
-told_alike (text.Net s (net.DrivenTwice j)) (text.Net t n) x y same a b = same_told (text.Net s (net.DrivenTwice j)) (text.Net t n) x y same a b
-told_alike (text.Net s (net.DrivenTwice j)) text.OutOfMemory x y same a b = nothing_told y b
-told_alike (text.Net s (net.Undriven j)) (text.Lex q) x y same a b = same_told (text.Net s (net.Undriven j)) (text.Lex q) x y same a b
-told_alike (text.Net s (net.Undriven j)) (text.Syntax q) x y same a b = same_told (text.Net s (net.Undriven j)) (text.Syntax q) x y same a b
-told_alike (text.Net s (net.Undriven j)) (text.NotInSubset q) x y same a b = same_told (text.Net s (net.Undriven j)) (text.NotInSubset q) x y same a b
-told_alike (text.Net s (net.Undriven j)) (text.Limit q) x y same a b = same_told (text.Net s (net.Undriven j)) (text.Limit q) x y same a b
-told_alike (text.Net s (net.Undriven j)) (text.Net t n) x y same a b = same_told (text.Net s (net.Undriven j)) (text.Net t n) x y same a b
-told_alike (text.Net s (net.Undriven j)) text.OutOfMemory x y same a b = nothing_told y b
-told_alike (text.Net s net.OutOfMemory) (text.Lex q) x y same a b = same_told (text.Net s net.OutOfMemory) (text.Lex q) x y same a b
-told_alike (text.Net s net.OutOfMemory) (text.Syntax q) x y same a b = same_told (text.Net s net.OutOfMemory) (text.Syntax q) x y same a b
-told_alike (text.Net s net.OutOfMemory) (text.NotInSubset q) x y same a b = same_told (text.Net s net.OutOfMemory) (text.NotInSubset q) x y same a b
-told_alike (text.Net s net.OutOfMemory) (text.Limit q) x y same a b = same_told (text.Net s net.OutOfMemory) (text.Limit q) x y same a b
-told_alike (text.Net s net.OutOfMemory) (text.Net t n) x y same a b = same_told (text.Net s net.OutOfMemory) (text.Net t n) x y same a b
-told_alike (text.Net s net.OutOfMemory) text.OutOfMemory x y same a b = nothing_told y b
-told_alike (text.Net s (net.Cycle j)) (text.Lex q) x y same a b = same_told (text.Net s (net.Cycle j)) (text.Lex q) x y same a b
-told_alike (text.Net s (net.Cycle j)) (text.Syntax q) x y same a b = same_told (text.Net s (net.Cycle j)) (text.Syntax q) x y same a b
-told_alike (text.Net s (net.Cycle j)) (text.NotInSubset q) x y same a b = same_told (text.Net s (net.Cycle j)) (text.NotInSubset q) x y same a b
-told_alike (text.Net s (net.Cycle j)) (text.Limit q) x y same a b = same_told (text.Net s (net.Cycle j)) (text.Limit q) x y same a b
-told_alike (text.Net s (net.Cycle j)) (text.Net t (net.Duplicate k)) x y same a b = same_told (text.Net s (net.Cycle j)) (text.Net t (net.Duplicate k)) x y same a b
-told_alike (text.Net s (net.Cycle j)) (text.Net t net.Ports) x y same a b = same_told (text.Net s (net.Cycle j)) (text.Net t net.Ports) x y same a b
-told_alike (text.Net s (net.Cycle j)) (text.Net t (net.Unknown k)) x y same a b = same_told (text.Net s (net.Cycle j)) (text.Net t (net.Unknown k)) x y same a b
-told_alike (text.Net s (net.Cycle j)) (text.Net t (net.WrongSort k)) x y same a b = same_told (text.Net s (net.Cycle j)) (text.Net t (net.WrongSort k)) x y same a b
-told_alike (text.Net s (net.Cycle j)) (text.Net t (net.Divisor k)) x y same a b = same_told (text.Net s (net.Cycle j)) (text.Net t (net.Divisor k)) x y same a b
-told_alike (text.Net s (net.Cycle j)) (text.Net t (net.Width k)) x y same a b = same_told (text.Net s (net.Cycle j)) (text.Net t (net.Width k)) x y same a b
-told_alike (text.Net s (net.Cycle j)) (text.Net t (net.DrivenTwice k)) x y same a b = same_told (text.Net s (net.Cycle j)) (text.Net t (net.DrivenTwice k)) x y same a b
-told_alike (text.Net s (net.Cycle j)) (text.Net t (net.Undriven k)) x y same a b = same_told (text.Net s (net.Cycle j)) (text.Net t (net.Undriven k)) x y same a b
-told_alike (text.Net s (net.Cycle j)) (text.Net t net.OutOfMemory) x y same a b = same_told (text.Net s (net.Cycle j)) (text.Net t net.OutOfMemory) x y same a b
-told_alike (text.Net s (net.Cycle j)) (text.Net t (net.Cycle k)) x y same a b = both_cycles s t x y (some_is _ _ a) (some_is _ _ b)
-told_alike (text.Net s (net.Cycle j)) text.OutOfMemory x y same a b = nothing_told y b
-told_alike text.OutOfMemory g x y same a b = nothing_told x a
+agreed_alike : (f g : TextFault) → Agrees f g → AreAlike (ending.Verilog (fault_told f)) (ending.Verilog (fault_told g))
+agreed_alike (text.Net s (net.Cycle j)) (text.Net t (net.Cycle k)) same = tt
+agreed_alike f g same = alike_of (ending.Verilog (fault_told f)) (ending.Verilog (fault_told g)) (ap (λ x. ending.Verilog (fault_told x)) same)
+
+told_alike : (f g : TextFault) (x y : VerilogFault) → Agrees f g → x ≡ fault_told f → y ≡ fault_told g → AreAlike (ending.Verilog x) (ending.Verilog y)
+told_alike f g x y same a b =
+    let first : AreAlike (ending.Verilog (fault_told f)) (ending.Verilog y) = subst (λ z. AreAlike (ending.Verilog (fault_told f)) (ending.Verilog z)) (sym b) (agreed_alike f g same) in
+    subst (λ z. AreAlike (ending.Verilog z) (ending.Verilog y)) (sym a) first
 
 -- what the laws say together
 module _ (one : OneModule) (agree : OneAgreed) (text_apart : ModuleApart) (tokens : OneTokens) (tree : OneTree) (rounds : OneRounds) (file_apart : RoundsApart) (one_file : OneBenchFault) (one_stop : OneStop) (shown_apart : ShownApart) where
@@ -238,12 +134,9 @@ module _ (one : OneModule) (agree : OneAgreed) (text_apart : ModuleApart) (token
       let e : true ≡ false = sym (is.enable lacks.holds) ∙ (ap (λ (n : NamedNetlist). n.netlist.enable) same ∙ lacks.without) in
       let f : ⊥ = cc in f
 
-  own_apart : (t : List ℕ) (m : NamedNetlist) (f : TextFault) (told : VerilogFault) → StandsFor t m → IsFault t f → fault_told f ≡ Some told → ⊥
-  own_apart t m f told stands is e = nothing_told told (subst (λ g. fault_told g ≡ Some told) (text_apart t m f stands is) e)
-
   -- a text that is in order has no fault
   module_no_text_fault : (hold : Option ℕ) (t : List ℕ) (m : NamedNetlist) (told : VerilogFault) → IsModuleOf hold t m → IsTextFault hold t told → ⊥
-  module_no_text_fault hold t m told is (of_text f fault e) = own_apart t m f told is.stands fault e
+  module_no_text_fault hold t m told is (of_text f fault e) = text_apart t m f is.stands fault
   module_no_text_fault hold t m told is (of_ports name lacks e) = without_enable hold t m name is lacks
 
   module_no_fault : (hold : Option ℕ) (t : List ℕ) (m : NamedNetlist) (f : VerilogFault) → IsModuleOf hold t m → IsVerilogFault hold t f → ⊥
@@ -258,8 +151,8 @@ module _ (one : OneModule) (agree : OneAgreed) (text_apart : ModuleApart) (token
 
   one_text : (hold : Option ℕ) (t : List ℕ) (x y : VerilogFault) → IsTextFault hold t x → IsTextFault hold t y → AreAlike (ending.Verilog x) (ending.Verilog y)
   one_text hold t x y (of_text f fault a) (of_text g other b) = told_alike f g x y (agree t f g fault other) a b
-  one_text hold t x y (of_text f fault a) (of_ports name lacks b) = absurd (own_apart t lacks.m f x lacks.stands fault a)
-  one_text hold t x y (of_ports name lacks a) (of_text g other b) = absurd (own_apart t lacks.m g y lacks.stands other b)
+  one_text hold t x y (of_text f fault a) (of_ports name lacks b) = absurd (text_apart t lacks.m f lacks.stands fault)
+  one_text hold t x y (of_ports name lacks a) (of_text g other b) = absurd (text_apart t lacks.m g lacks.stands other)
   one_text hold t x y (of_ports name lacks a) (of_ports other more b) = alike_of (ending.Verilog x) (ending.Verilog y) (ap ending.Verilog (a ∙ (ap (λ s. At s kind.Ports) (one_lack hold t name other lacks more) ∙ sym b)))
 
   one_verilog : (hold : Option ℕ) (t : List ℕ) (x y : VerilogFault) → IsVerilogFault hold t x → IsVerilogFault hold t y → AreAlike (ending.Verilog x) (ending.Verilog y)

@@ -25,10 +25,8 @@ use Rattle.test_bench.specs.declared.stop.Stop.TheVariants.{Index, Count}
 use Rattle.dk_endings.specs.declared.ending.Ending.{Ending}
 use Rattle.dk_endings.specs.declared.ending.Ending.TheVariants as ending
 use Rattle.dk_endings.specs.declared.ending.ImageFault.TheVariants as image
-use Rattle.netlist.specs.declared.fault.NetFault.TheVariants as net
 use Rattle.verilog_text.specs.declared.fault.TextFault.TheVariants as text
 use Rattle.dk_endings.specs.declared.verilog.VerilogFault.{VerilogFault}
-use Rattle.dk_endings.specs.declared.verilog.VerilogFault.TheVariants.{TooLong, At}
 use Rattle.dk_base.specs.declared.TheConstants.{MAX_PGM_BYTES, MAX_VERILOG_BYTES}
 use Rattle.dk_endings.specs.Verilog.{fault_told}
 use Rattle.dk_top.specs.Simulation.{of_text, drive_of, IsModuleOf, IsVerilogFault, FitsModule, IsSimulated, IsStopped}
@@ -39,28 +37,16 @@ use Rattle.dk_top.specs.Tracing.{trace_drive, IsTraceAnswer}
 use Rattle.dk_top.specs.Simulating.{IsModuleEnding, IsFileEnding, IsInput, IsInputEnding, IsSimInput}
 use Rattle.dk_top.proofs.SimLemmas.{OneModule, OneRounds, fits_some}
 
--- no fault of a text is told as its length
-never_long : {P : Type 0} (f : TextFault) → fault_told f ≡ Some TooLong → P
-never_long (text.Lex p) e = absurd (let f : ⊥ = cc in f)
-never_long (text.Syntax p) e = absurd (let f : ⊥ = cc in f)
-never_long (text.NotInSubset p) e = absurd (let f : ⊥ = cc in f)
-never_long (text.Limit p) e = absurd (let f : ⊥ = cc in f)
-never_long (text.Net s (net.Duplicate k)) e = absurd (let f : ⊥ = cc in f)
-never_long (text.Net s net.Ports) e = absurd (let f : ⊥ = cc in f)
-never_long (text.Net s (net.Unknown k)) e = absurd (let f : ⊥ = cc in f)
-never_long (text.Net s (net.WrongSort k)) e = absurd (let f : ⊥ = cc in f)
-never_long (text.Net s (net.Divisor k)) e = absurd (let f : ⊥ = cc in f)
-never_long (text.Net s (net.Width k)) e = absurd (let f : ⊥ = cc in f)
-never_long (text.Net s (net.DrivenTwice k)) e = absurd (let f : ⊥ = cc in f)
-never_long (text.Net s (net.Undriven k)) e = absurd (let f : ⊥ = cc in f)
-never_long (text.Net s (net.Cycle k)) e = absurd (let f : ⊥ = cc in f)
-never_long (text.Net s net.OutOfMemory) e = absurd (let f : ⊥ = cc in f)
-never_long text.OutOfMemory e = absurd (let f : ⊥ = cc in f)
-
 -- what is told of a text's fault is a fault of the text
-pub told_ending : (f : TextFault) (told : VerilogFault) → fault_told f ≡ Some told → (hold : Option ℕ) (t : List ℕ) → length t ≤ MAX_VERILOG_BYTES → IsFault t f → IsVerilogFault hold t told
-told_ending f TooLong e = never_long f e
-told_ending f (At s k) e = λ hold t within is. (within, of_text f is e)
+own_fault : (f : TextFault) (hold : Option ℕ) (t : List ℕ) → length t ≤ MAX_VERILOG_BYTES → IsFault t f → IsVerilogFault hold t (fault_told f)
+own_fault (text.Lex p) hold t within is = (within, of_text (text.Lex p) is refl)
+own_fault (text.Syntax p) hold t within is = (within, of_text (text.Syntax p) is refl)
+own_fault (text.NotInSubset p) hold t within is = (within, of_text (text.NotInSubset p) is refl)
+own_fault (text.Limit p) hold t within is = (within, of_text (text.Limit p) is refl)
+own_fault (text.Net s n) hold t within is = (within, of_text (text.Net s n) is refl)
+
+pub told_ending : (f : TextFault) (told : VerilogFault) → told ≡ fault_told f → (hold : Option ℕ) (t : List ℕ) → length t ≤ MAX_VERILOG_BYTES → IsFault t f → IsVerilogFault hold t told
+told_ending f told e hold t within is = subst (IsVerilogFault hold t) (sym e) (own_fault f hold t within is)
 
 -- an ending of a text, whatever clocks are held
 pub for_hold : (told : Option Files) (name : List ℕ) (hold : Option ℕ) (e : Ending) → IfSome told (λ f. (h : Option ℕ) → IsModuleEnding h (bytes_of f name) e) → IfSome told (λ f. IsModuleEnding hold (bytes_of f name) e)

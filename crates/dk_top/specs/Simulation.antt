@@ -1,5 +1,5 @@
 -- What `sim` judges: a Verilog text, a file of images for its module, and the run of the module.
-use Rattle.std.specs.Prelude.{◌≡◌, ℕ, ◌<◌, ◌≤◌, false, true, List, length, Option, IsSome, Some}
+use Rattle.std.specs.Prelude.{◌≡◌, ℕ, ◌<◌, ◌≤◌, false, true, List, length, Option, IsSome}
 use Rattle.dk_base.specs.declared.span.Span.{Span}
 use Rattle.dk_base.specs.Frames.{Size}
 use Rattle.netlist.specs.Names.{NamedNetlist}
@@ -54,7 +54,7 @@ pub record LacksEnable (hold : Option ℕ) (text : List ℕ) (name : Span) : Typ
 
 -- the first fault of a text within its limit: its own, and then that of a missing `en`
 pub data IsTextFault (hold : Option ℕ) (text : List ℕ) (told : VerilogFault) : Type 0 where
-  of_text : (f : TextFault) → IsFault text f → fault_told f ≡ Some told → IsTextFault hold text told
+  of_text : (f : TextFault) → IsFault text f → told ≡ fault_told f → IsTextFault hold text told
   of_ports : (name : Span) → LacksEnable hold text name → told ≡ At name Ports → IsTextFault hold text told
 
 abbrev pub IsVerilogFault : Option ℕ → List ℕ → VerilogFault → Type 0

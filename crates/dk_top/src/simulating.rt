@@ -5,7 +5,7 @@ ghost use Rattle.dk_base.specs.Frames.{IsFrame};
 ghost use Rattle.dk_base.specs.FrameSizes.{size_of};
 ghost use Rattle.dk_desk.specs.Calls.{HasCauseIn, IsIfTold, OpensOnly};
 ghost use Rattle.verilog_text.specs.Stands.{StandsFor};
-ghost use Rattle.verilog_text.specs.Faults.{IsFault};
+ghost use Rattle.verilog_text.specs.Faults.{IsFault, IsErrorBy};
 ghost use Rattle.cycle_sim.specs.Ports.{din_widths};
 ghost use Rattle.test_bench.specs.Given.{AreBenchFrames};
 ghost use Rattle.dk_words.specs.declared.command.PowerUp.{PowerUp as OnePower};
@@ -29,17 +29,17 @@ use pgm_rounds::FileError;
 use std::alloc::Global;
 use test_bench::{BenchFault, BenchInput, Drive, dins_of, run_bench};
 use verilog_read::name_span;
-use verilog_text::TextFault;
+use verilog_text::TextError;
 
 // How a call ends whose text stands for no module.
-fn ending_of(fault: TextFault) -> Ending
-    ensures fault { (hold : Option ℕ) (text : List ℕ) → length text ≤ MAX_VERILOG_BYTES → IsFault text fault → IsModuleEnding hold text result }
+fn ending_of(error: TextError) -> Ending
+    ensures fault { (hold : Option ℕ) (text : List ℕ) → length text ≤ MAX_VERILOG_BYTES → IsErrorBy (IsFault text) error → IsModuleEnding hold text result }
     ensures stops { Stops result }
     ensures judged { result ≢ Ending.ReadFault }
 {
-    match VerilogFault::of(fault) {
-        Some(fault) => Ending::Verilog(fault),
-        None => Ending::Memory,
+    match error {
+        TextError::Fault(fault) => Ending::Verilog(VerilogFault::of(fault)),
+        TextError::OutOfMemory => Ending::Memory,
     }
 }
 
@@ -71,7 +71,7 @@ fn module_of(alloc: Global, text: &[u8], hold: Option<u32>) -> Result<Module, En
 {
     let module = match verilog_read::read(alloc, text) {
         Ok(module) => module,
-        Err(fault) => return Err(ending_of(fault)),
+        Err(error) => return Err(ending_of(error)),
     };
     match lacking_enable(&module, hold, text) {
         None => Ok(module),

@@ -3,7 +3,7 @@
 use std::alloc::Global;
 use std::test::Fail;
 use verilog_parse::parse;
-use verilog_text::TextFault;
+use verilog_text::{TextError, TextFault};
 
 // How many ports, declarations, assigns and updates are written; or the fault.
 fn shown(alloc: Global, source: &[u8]) -> Result<String, Fail> {
@@ -19,9 +19,13 @@ fn shown(alloc: Global, source: &[u8]) -> Result<String, Fail> {
             written.assigns.len(),
             written.updates.len()
         )?,
-        Err(TextFault::Lex(fault)) => write!(text, "{:?}", fault.kind)?,
-        Err(TextFault::Syntax(span)) => write!(text, "Syntax {}-{}", span.start, span.stop)?,
-        Err(TextFault::NotInSubset(span)) => {
+        Err(TextError::Fault(TextFault::Lex(fault))) => write!(text, "{:?}", fault.kind)?,
+        Err(TextError::Fault(TextFault::Syntax(span))) => write!(
+            text,
+            "Syntax {}-{}",
+            span.start, span.stop
+        )?,
+        Err(TextError::Fault(TextFault::NotInSubset(span))) => {
             write!(text, "NotInSubset {}-{}", span.start, span.stop)?;
         }
         Err(_) => write!(text, "other")?,

@@ -4,7 +4,7 @@ use netlist::buffer_bits;
 use std::alloc::Global;
 use std::test::Fail;
 use verilog_read::read;
-use verilog_text::TextFault;
+use verilog_text::{TextError, TextFault};
 
 const BYTES: &str =
     "module m(input clk, input rst, input [7:0] din, output valid, output [7:0] dout); ";
@@ -19,7 +19,7 @@ fn told(alloc: Global, text: &str) -> Result<String, Fail> {
             let bits = buffer_bits(alloc, &module)?;
             write!(told, "{bits}")?;
         }
-        Err(TextFault::Net { fault, .. }) => write!(told, "{fault}")?,
+        Err(TextError::Fault(TextFault::Net { fault, .. })) => write!(told, "{fault}")?,
         Err(_) => told.push_str("other")?,
     }
     Ok(told)
