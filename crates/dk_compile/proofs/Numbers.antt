@@ -8,13 +8,12 @@ use Rattle.dk_base.specs.declared.span.Span.{Span}
 use Rattle.dk_lexer.specs.declared.token.Token.{Token}
 use Rattle.dk_lexer.specs.declared.token.TokenKind.{TokenKind}
 use Rattle.dk_lexer.specs.declared.token.TokenKind.TheVariants.{Word, Number, Symbol, End}
-use Rattle.dk_lexer.specs.Lexis.{Lexes, finish, next, lexeme, Lexeme, word_here, number_here, symbol_at, two_byte_lexeme, one_byte_lexeme}
+use Rattle.dk_lexer.specs.Lexis.{Lexes, finish, next, lexeme, Lexeme, word_here, number_here, symbol_here, symbol_of}
 use Rattle.dk_lexer.specs.declared.token.Symbol.{Symbol as Sign}
 use Rattle.dk_lexer.specs.declared.token.Symbol.TheVariants.{Minus}
 use Rattle.dk_lexer.specs.declared.fault.LexKind.TheVariants.{NumberTooGreat}
 use Rattle.dk_base.specs.declared.TheConstants.{MAX_NAME_BYTES}
 use Rattle.dk_base.specs.Ascii.{is_letter, is_digit, is_word_byte, value_of}
-use Rattle.dk_lexer.specs.Bytes.{two_byte_symbol, one_byte_symbol}
 use Rattle.dk_grammar.specs.Reading.{Phrases, Clear, Many, none as nothing, more as another}
 use Rattle.dk_parser.specs.declared.terminal.Keyword.{Keyword}
 use Rattle.dk_parser.specs.declared.terminal.Keyword.TheVariants as word
@@ -88,23 +87,15 @@ number_fits : (v n : ℕ) (b : Bool) → nat_lt v (2 ^ 64) ≡ b → AllFit (if 
 number_fits v n true e = grind (arith, e)
 number_fits v n false e = tt
 
-one_fits : (o : Option Sign) → AllFit (one_byte_lexeme o)
-one_fits None = tt
-one_fits (Some s) = tt
-
-two_fits : (o : Option Sign) (a : ℕ) → AllFit (two_byte_lexeme o a)
-two_fits None a = one_fits (one_byte_symbol a)
-two_fits (Some s) a = tt
-
-symbol_fits : (a : ℕ) (bs : List ℕ) → AllFit (symbol_at a bs)
-symbol_fits a [] = one_fits (one_byte_symbol a)
-symbol_fits a (b ∷ bs) = two_fits (two_byte_symbol a b) a
+symbol_fits : (row : Option (List ℕ × Sign)) → AllFit (symbol_of row)
+symbol_fits None = tt
+symbol_fits (Some row) = tt
 
 lexeme_fits : (a : ℕ) (bs : List ℕ) → AllFit (lexeme a bs)
 unfolding lexeme
 lexeme_fits a bs =
-    chosen (is_letter a) (word_here (a ∷ bs)) (if is_digit a then number_here (a ∷ bs) else symbol_at a bs) (chosen (nat_lt MAX_NAME_BYTES (prefix_len is_word_byte (a ∷ bs))) _ _ tt tt)
-    (chosen (is_digit a) (number_here (a ∷ bs)) (symbol_at a bs) (number_fits (value_of (take (prefix_len is_digit (a ∷ bs)) (a ∷ bs))) (prefix_len is_digit (a ∷ bs)) _ refl) (symbol_fits a bs))
+    chosen (is_letter a) (word_here (a ∷ bs)) (if is_digit a then number_here (a ∷ bs) else symbol_here (a ∷ bs)) (chosen (nat_lt MAX_NAME_BYTES (prefix_len is_word_byte (a ∷ bs))) _ _ tt tt)
+    (chosen (is_digit a) (number_here (a ∷ bs)) (symbol_here (a ∷ bs)) (number_fits (value_of (take (prefix_len is_digit (a ∷ bs)) (a ∷ bs))) (prefix_len is_digit (a ∷ bs)) _ refl) (symbol_fits _))
 
 pub lexed_small : {total : ℕ} {text : List ℕ} {tokens : Tokens} → Lexes total text tokens → AreSmall tokens
 lexed_small (finish g) = (kind_small End tt, tt)
