@@ -1,4 +1,7 @@
-use Rattle.std.proofs.Common.{◌≡◌, [], ◌∷◌, List, ◌++◌, ap, sym, subst, ◌∙◌}
+use Rattle.std.proofs.Common.{◌≡◌, [], ◌∷◌, List, ◌++◌, ap, sym, subst, ◌∙◌, rules, to_z, of_z, w32, FitsSigned}
+use Rattle.std.specs.Prelude.{ℤ}
+use Rattle.std.proofs.lemmas.Int.{to_z-of_z}
+use Rattle.pointwise_ir.specs.declared.expr.Edge.{Edge}
 use Rattle.pointwise_ir.specs.Trees.{Tree, tree_of, shifted, binary, select}
 use Rattle.edge_select.specs.declared.step.Step.{Step}
 use Rattle.net_build.proofs.Parts.{Includes-trans}
@@ -9,6 +12,10 @@ use Rattle.circuit.proofs.Lasting.{reading_more}
 use Rattle.circuit.proofs.Leafing.{leaves_on}
 use Rattle.circuit.proofs.Placing.{control_none}
 use Rattle.circuit.proofs.leaves.«+push_leaves».Goals as goal
+
+-- a step whose offsets are stored and read back
+stepped : (here items : List Step) (edge : Edge) (dx dy : ℤ) → FitsSigned w32 dx → FitsSigned w32 dy → items ≡ with_step here edge (to_z w32 (of_z w32 dx)) (to_z w32 (of_z w32 dy)) → items ≡ with_step here edge dx dy
+stepped here items edge dx dy fx fy h = subst (λ (y : ℤ). items ≡ with_step here edge dx y) (to_z-of_z w32 dy fy) (subst (λ (x : ℤ). items ≡ with_step here edge x (to_z w32 (of_z w32 dy))) (to_z-of_z w32 dx fx) h)
 
 pub still-requires : goal.still-requires
 still-requires t c =
@@ -58,7 +65,7 @@ returns-in_ok-push_leaves-in-Shifted-clause-leaves t c =
     let body = tree_of c.deref-in-Shifted.result.now in
     let here = c.args.steps.now.items in
     let steps : List Step = with_step here edge dx dy in
-    let pushed : c.push.new.self.items ≡ steps = c.in_ok-push-in-Shifted.ensures.items ∙ ap (λ (s : Step). here ++ s ∷ []) c.step_by.ensures in
+    let pushed = stepped here c.push.new.self.items edge dx dy (search rules) (search rules) (c.in_ok-push-in-Shifted.ensures.items ∙ ap (λ (s : Step). here ++ s ∷ []) c.step_by.ensures) in
     let is : tree_of c.args.e.now ≡ shifted edge dx dy body = ap tree_of c.in-Shifted.is ∙ ap (λ a. shifted edge dx dy (tree_of a)) (sym c.deref-in-Shifted.ensures) in
     let one = subst (λ (s : List Step). AddsLeaves mid old p plan taps f [] (own_bit edge s) between before) (c.deref.ensures.value ∙ pushed) c.in_ok-push_test-in-Shifted.ensures.leaves in
     let other = subst (λ (s : List Step). AddsLeaves new mid p plan taps f (reads_of body s) (bits_of body s) now between) pushed c.in_ok-push_leaves-in-Shifted.ensures.leaves in
