@@ -33,9 +33,10 @@ fn drivers_of(alloc: Global, wiring: &Wiring) -> Result<Drivers, NetError>
     let outputs = wiring.outputs.len();
     match wiring::drivers_of(alloc, outputs, wiring.wires.len(), &wiring.assigns) {
         Ok(drivers) => Ok(drivers),
-        Err(TableFault::Twice(k)) => Err(NetError::Fault(NetFault::DrivenTwice(Statement::Assign(
-            k,
-        )))),
+        Err(TableFault::Twice(k)) => {
+            let fault = NetFault::DrivenTwice(Statement::Assign(k));
+            Err(NetError::Fault(fault))
+        }
         Err(TableFault::OutOfMemory) => Err(NetError::OutOfMemory),
     }
 }
@@ -49,9 +50,10 @@ fn updaters_of(alloc: Global, wiring: &Wiring) -> Result<Updaters, NetError>
     let regs = wiring.regs.len();
     match wiring::updaters_of(alloc, regs, wiring.arrays.len(), &wiring.updates) {
         Ok(updaters) => Ok(updaters),
-        Err(TableFault::Twice(k)) => Err(NetError::Fault(NetFault::DrivenTwice(Statement::Update(
-            k,
-        )))),
+        Err(TableFault::Twice(k)) => {
+            let fault = NetFault::DrivenTwice(Statement::Update(k));
+            Err(NetError::Fault(fault))
+        }
         Err(TableFault::OutOfMemory) => Err(NetError::OutOfMemory),
     }
 }

@@ -115,8 +115,7 @@ fn judged(alloc: Global, text: &[u8]) -> Result<Module, TextError>
 {
     match verilog_parse::parse(alloc, text) {
         Ok(written) => within(alloc, text, &written),
-        Err(TextError::Fault(fault)) => Err(TextError::Fault(fault)),
-        Err(TextError::OutOfMemory) => Err(TextError::OutOfMemory),
+        Err(error) => Err(error),
     }
 }
 

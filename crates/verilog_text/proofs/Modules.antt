@@ -1,5 +1,5 @@
 -- Tokens say one thing.
-use Rattle.std.proofs.Common.{◌≡◌, ℕ, List, [], ◌∷◌, Option, Some, None, refl, sym, ap, ◌∙◌, subst}
+use Rattle.std.proofs.Common.{◌≡◌, List, [], ◌∷◌, Option, Some, None, refl, sym, ap, ◌∙◌, subst}
 use Rattle.verilog_text.specs.declared.token.Token.{Token}
 use Rattle.verilog_text.specs.declared.token.Symbol.TheVariants as symbol
 use Rattle.verilog_text.specs.declared.token.TokenKind.TheVariants as kind

@@ -1,9 +1,7 @@
 -- What is read of a part of the grammar is that part.
-use Rattle.std.proofs.Common.{◌≡◌, ℕ, List, [], ◌∷◌, Option, Some, None, refl, sym, ap, ◌∙◌, subst}
+use Rattle.std.proofs.Common.{◌≡◌, Option, Some, None, refl}
 use Rattle.dk_base.specs.declared.span.Span.{Span}
-use Rattle.wiring.specs.declared.right.Atom.{Atom}
 use Rattle.wiring.specs.declared.right.Atom.TheVariants as atom
-use Rattle.verilog_text.specs.declared.token.Token.{Token}
 use Rattle.verilog_text.specs.declared.token.TokenKind.{TokenKind}
 use Rattle.verilog_text.specs.declared.token.TokenKind.TheVariants as kind
 use Rattle.verilog_text.specs.declared.written.Count.{Count}

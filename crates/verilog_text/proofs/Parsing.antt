@@ -1,10 +1,9 @@
 -- The parts of a module as functions of their tokens.
-use Rattle.std.proofs.Common.{ℕ, suc, List, [], ◌∷◌, Option, Some, None, Bool, true, false, nat_eq, if◌then◌else◌}
+use Rattle.std.proofs.Common.{ℕ, [], ◌∷◌, Option, Some, None, nat_eq, if◌then◌else◌}
 use Rattle.dk_base.specs.declared.span.Span.{Span}
 use Rattle.wiring.specs.declared.right.Atom.{Atom}
 use Rattle.wiring.specs.declared.right.Operator.{Operator}
 use Rattle.netlist.specs.declared.parts.Direction.{Direction}
-use Rattle.verilog_text.specs.declared.token.Token.{Token}
 use Rattle.verilog_text.specs.declared.token.Symbol.TheVariants as symbol
 use Rattle.verilog_text.specs.declared.token.Keyword.TheVariants as keyword
 use Rattle.verilog_text.specs.declared.token.TokenKind.{TokenKind}

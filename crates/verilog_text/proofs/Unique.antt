@@ -1,12 +1,11 @@
 -- A text has one reading.
-use Rattle.std.proofs.Common.{◌≡◌, ◌<◌, ◌+◌, ◌-◌, ◌++◌, List, [], ◌∷◌, ℕ, suc, length, drop, arith, refl, sym, subst, Ok, Err, ap, ◌∙◌, true, false, Option, Some, None}
-use Rattle.std.specs.List.{prefix_len}
+use Rattle.std.proofs.Common.{◌≡◌, List, [], ◌∷◌, ℕ, drop, refl, sym, subst, Ok, Err, ap, ◌∙◌, true, Option, Some}
 use Rattle.verilog_text.specs.declared.token.Token.{Token}
 use Rattle.verilog_text.specs.declared.token.TokenKind.{TokenKind}
 use Rattle.verilog_text.specs.declared.token.LexKind.{LexKind}
 use Rattle.verilog_text.specs.declared.token.LexFault.{LexFault}
-use Rattle.verilog_text.specs.Bytes.{is_white, is_in_line}
-use Rattle.verilog_text.specs.Lexis.{Gap, none, white, line, block, behind_block, Solid, Lexes, finish, next, Refused, here, later, lexeme, span_at, Lexeme}
+use Rattle.verilog_text.specs.Bytes.{is_white}
+use Rattle.verilog_text.specs.Lexis.{Gap, none, white, line, block, behind_block, Solid, Lexes, finish, next, Refused, here, later, lexeme, Lexeme}
 
 not_white : (b : ℕ) (text : List ℕ) → Solid (b ∷ text) → is_white b ≡ true → ⊥
 not_white b [] s w = cc

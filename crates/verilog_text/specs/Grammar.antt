@@ -16,7 +16,6 @@ use Rattle.verilog_text.specs.declared.written.Range.{Range}
 use Rattle.netlist.specs.declared.parts.Direction.{Direction}
 use Rattle.netlist.specs.declared.parts.Direction.TheVariants as direction
 use Rattle.verilog_text.specs.declared.written.WrittenPort.{WrittenPort}
-use Rattle.verilog_text.specs.declared.written.WrittenSort.{WrittenSort}
 use Rattle.verilog_text.specs.declared.written.WrittenSort.TheVariants as sort
 use Rattle.verilog_text.specs.declared.written.WrittenDeclaration.{WrittenDeclaration}
 use Rattle.verilog_text.specs.declared.written.WrittenRight.{WrittenRight}

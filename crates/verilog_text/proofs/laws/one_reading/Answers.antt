@@ -1,4 +1,3 @@
-use Rattle.std.proofs.Common.{length}
 use Rattle.verilog_text.proofs.Unique.{one_lexing, one_refused, no_tokens}
 use Rattle.verilog_text.proofs.Modules.{one_source}
 use Rattle.verilog_text.proofs.laws.one_reading.Goals as goal
