@@ -1,4 +1,3 @@
-use Rattle.std.proofs.Common.{sym}
 use Rattle.verilog_layout.proofs.Standing.{layout_is_module}
 use Rattle.verilog_layout.proofs.laws.layout_stands.Goals as goal
 
