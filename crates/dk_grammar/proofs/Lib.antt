@@ -2,3 +2,4 @@ pub mod Clears
 pub mod Stucks
 pub mod Chains
 pub mod Faulty
+pub mod Spellings
