@@ -1,9 +1,9 @@
 #!/usr/bin/env python3
 """Makes the pictures that must come out of the Verilog texts of sim/, by plain formulas: it reads no Verilog.
-usage: examples/tools/sim.py"""
+usage: tests/sim.py"""
 import os
 
-examples = os.path.dirname(os.path.dirname(os.path.abspath(__file__)))
+examples = os.path.join(os.path.dirname(os.path.abspath(__file__)), "..", "examples")
 
 
 def read(name):

@@ -3,9 +3,10 @@
 # at how the call ends: with status 9, the line `out of memory`, nothing created and nothing on standard output, or as it ends
 # without a refusal. The requests are counted and refused by a few lines of C that are loaded before the C library.
 # It says how many requests each call makes, and nothing else where all is as it should be.
-# usage: examples/tools/memory.sh PROGRAM
+# usage: tests/memory.sh PROGRAM
 program=$(cd "$(dirname "$1")" && pwd)/$(basename "$1")
-examples=$(cd "$(dirname "$0")/.." && pwd)
+tests=$(cd "$(dirname "$0")" && pwd)
+examples=$tests/../examples
 command -v gcc >/dev/null || {
     echo "memory: gcc is not installed"
     exit 0
@@ -83,7 +84,7 @@ int posix_memalign(void **to, size_t align, size_t size) {
 }
 END
 gcc -O1 -shared -fPIC -o refuse.so refuse.c -ldl || exit 2
-cp "$examples"/programs/*.dk "$examples"/programs/*.pgm "$examples"/reports/*.dk "$examples"/sim/*.v . || exit 2
+cp "$examples"/programs/*.dk "$examples"/programs/*.pgm "$tests"/reports/*.dk "$examples"/sim/*.v . || exit 2
 printf 'P5\n4 3\n255\n\001\002\003\004\005\006\007\010\011\012\013\014' >square.pgm
 failed=0
 

@@ -5,7 +5,7 @@ It reads no program. Each filter is written here a second time, straight from it
 and mostly in another way than the program has it (whole windows in place of two passes, sorting in
 place of a network), so that the two can be held against each other.
 
-usage: examples/tools/pictures.py [FOLDER]      writes the .pgm files, into examples/programs by default
+usage: tests/pictures.py [FOLDER]      writes the .pgm files, into examples/programs by default
 """
 import os
 import sys
@@ -384,7 +384,7 @@ def files():
 
 
 def main():
-    folder = sys.argv[1] if len(sys.argv) > 1 else os.path.join(os.path.dirname(os.path.dirname(os.path.abspath(__file__))), "programs")
+    folder = sys.argv[1] if len(sys.argv) > 1 else os.path.join(os.path.dirname(os.path.abspath(__file__)), "..", "examples", "programs")
     for name, content in files():
         with open(os.path.join(folder, name + ".pgm"), "wb") as file:
             file.write(content)

@@ -6,9 +6,10 @@
 # - Yosys must find each array as one memory, with as many memory bits in all as `plan` says, and must synthesize the text.
 # - trace.py must write the trace that `trace` writes.
 # It says nothing else where all is as it should be. It takes about 20 minutes, most of them in Verilator's builds; COUNT 0 takes 5.
-# usage: examples/tools/tools.sh PROGRAM [COUNT]
+# usage: tests/tools.sh PROGRAM [COUNT]
 program=$(cd "$(dirname "$1")" && pwd)/$(basename "$1")
-examples=$(cd "$(dirname "$0")/.." && pwd)
+tests=$(cd "$(dirname "$0")" && pwd)
+examples=$tests/../examples
 count=${2-200}
 work=$(mktemp -d) || exit 2
 trap 'rm -rf "$work"' EXIT
@@ -54,7 +55,7 @@ lints() {
 
 # shows SIMULATOR WHAT: what the bench saw is the picture in wanted.pgm
 shows() {
-    said=$(python3 "$examples/tools/bench.py" picture dk.v "$input" seen.txt seen.pgm 2>&1) && cmp -s seen.pgm wanted.pgm || wrong "$* shows another picture: $said"
+    said=$(python3 "$tests/bench.py" picture dk.v "$input" seen.txt seen.pgm 2>&1) && cmp -s seen.pgm wanted.pgm || wrong "$* shows another picture: $said"
 }
 
 # icarus SEED WHAT: the text in dk.v, on $input
@@ -62,7 +63,7 @@ icarus() {
     seed=$1
     shift
     rm -f seen.txt
-    python3 "$examples/tools/bench.py" write dk.v "$input" "$clocks" "$seed" --random
+    python3 "$tests/bench.py" write dk.v "$input" "$clocks" "$seed" --random
     iverilog -g2005 -o bench.vvp dk.v bench.v && vvp -n bench.vvp >said.txt || wrong "iverilog on $*: $(cat said.txt)"
     shows iverilog "$@"
 }
@@ -72,7 +73,7 @@ verilated() {
     seed=$1
     shift
     rm -f seen.txt
-    python3 "$examples/tools/bench.py" write dk.v "$input" "$clocks" "$seed"
+    python3 "$tests/bench.py" write dk.v "$input" "$clocks" "$seed"
     verilator --binary --timing -Wno-fatal -Wno-lint -Wno-style --x-initial unique --x-assign unique --top-module bench --Mdir obj -o bench dk.v bench.v >said.txt 2>&1 &&
         obj/bench "+verilator+seed+$seed" +verilator+rand+reset+2 >said.txt 2>&1 || wrong "verilator on $*: $(tail -n 3 said.txt)"
     shows verilator "$@"
@@ -128,7 +129,7 @@ while read -r name source <&3; do
     synthesized "$name.dk"
     "$program" compile "$name.dk" dk.v
     "$program" trace dk.v 200 "$source.pgm" out.vcd
-    python3 "$examples/tools/trace.py" dk.v 200 "$source.pgm" wanted.vcd
+    python3 "$tests/trace.py" dk.v 200 "$source.pgm" wanted.vcd
     cmp -s out.vcd wanted.vcd || wrong "the trace of $name.dk is not that of trace.py"
 done 3<"$examples/programs/pictures.txt"
 for name in copy double; do
@@ -138,7 +139,7 @@ for name in copy double; do
 done
 number=0
 while [ "$number" -le "$count" ]; do
-    python3 "$examples/tools/made.py" write "$number" || exit 2
+    python3 "$tests/made.py" write "$number" || exit 2
     tried made.dk made.pgm "$number"
     [ $((number % 50)) != 49 ] || built made.dk made.pgm "$number" --enable
     [ $((number % 20)) != 19 ] || synthesized made.dk

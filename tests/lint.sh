@@ -1,9 +1,10 @@
 #!/bin/sh
 # Shows the Verilog texts of this folder to Icarus Verilog and to Verilator, as far as they are installed, and says which it passed over.
 # The texts are those of the law worked_layouts of crates/verilog_layout, which is checked here by their bytes.
-# usage: examples/tools/lint.sh
-examples=$(cd "$(dirname "$0")/.." && pwd)
-worked=$examples/../crates/verilog_layout/src/worked.rt
+# usage: tests/lint.sh
+tests=$(cd "$(dirname "$0")" && pwd)
+examples=$tests/../examples
+worked=$tests/../crates/verilog_layout/src/worked.rt
 failed=0
 
 # is_silent NAME WORD..: the command succeeds and writes nothing
@@ -11,7 +12,7 @@ is_silent() {
     shown=$1
     shift
     said=$("$@" 2>&1) && [ -z "$said" ] || {
-        echo "examples: $* does not take $shown as it is: $said" >&2
+        echo "lint: $* does not take $shown as it is: $said" >&2
         failed=1
     }
 }
@@ -20,7 +21,7 @@ for text in "$examples"/verilog/*.v; do
     name=$(basename "$text" .v)
     line=$(awk '{ printf "%s\\n", $0 }' "$text")
     grep -qF "ensures $name { layout ${name}_module ≡ codes \"$line\" }" "$worked" || {
-        echo "examples: $name.v is not the text of worked_layouts" >&2
+        echo "lint: $name.v is not the text of worked_layouts" >&2
         failed=1
     }
     if command -v iverilog >/dev/null; then
@@ -31,6 +32,6 @@ for text in "$examples"/verilog/*.v; do
     fi
 done
 for tool in iverilog verilator; do
-    command -v "$tool" >/dev/null || echo "examples: $tool is not installed, and was passed over"
+    command -v "$tool" >/dev/null || echo "lint: $tool is not installed, and was passed over"
 done
 exit "$failed"

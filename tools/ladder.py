@@ -1,8 +1,8 @@
 #!/usr/bin/env python3
 """The ladder: the clauses of the program's call, and each definition that they name, from the top down.
 
-    python3 docs/ladder.py            writes the page to standard output
-    python3 docs/ladder.py --counts   the lines of each chapter and crate alone
+    python3 tools/ladder.py            writes the page to standard output
+    python3 tools/ladder.py --counts   the lines of each chapter and crate alone
 
 It reads the sources and nothing else. A definition is shown once, in the first chapter that comes to it, behind the
 definition that named it first. Names of the toolchain's library are left as they stand.
@@ -245,7 +245,7 @@ def page():
     first = sum(map(lines, chapters[0][1]))
     if first > MOST_LINES:
         sys.exit(f"ladder: the first chapter has {first} lines, and may have {MOST_LINES}")
-    out = ["# The ladder", "", "What one has to believe: the clauses of the call that the program makes, and below them each definition that they name, from the top down, each once. This page is made from the sources by `python3 docs/ladder.py`, and is wrong where it is not theirs. Words of the toolchain's library (lists, options, numbers) are left as they stand; structs and enums are those of the code.", "", "The first chapter is to be read first, in about an hour: which pair of a program and a file of images is good, which pictures the program means, which module it is compiled to, what a run of a module is, which pixels it shows at which clock, what is held in its buffers, and why its bits are least. What it names of texts and tokens, of the rules of a well formed module and of a program's form stands in the chapters behind it.", "", "How to read it: `→` is if .. then, `×` and, `⊎` or, `¬` not, `≡` equal, `λ x. ..` a function of x, `ℕ` the whole numbers from 0, `⊤` always true and `⊥` never. `f : A → B → Type 0` is a statement on an A and a B; a `record` holds where all its lines hold, a `data` where one of its lines does. `.old` is a value before the call, `.new` after it, `.now` one that the call only reads. `IfSome v P` says nothing where v is None, `IfOk r P` nothing where r is an error.", "", *counts(chapters), "", "## The clauses", "", f"`dk_main`, {main.module.path}:", "", "```", main.text, "```"]
+    out = ["# The ladder", "", "What one has to believe: the clauses of the call that the program makes, and below them each definition that they name, from the top down, each once. This page is made from the sources by `python3 tools/ladder.py`, and is wrong where it is not theirs. Words of the toolchain's library (lists, options, numbers) are left as they stand; structs and enums are those of the code.", "", "The first chapter is to be read first, in about an hour: which pair of a program and a file of images is good, which pictures the program means, which module it is compiled to, what a run of a module is, which pixels it shows at which clock, what is held in its buffers, and why its bits are least. What it names of texts and tokens, of the rules of a well formed module and of a program's form stands in the chapters behind it.", "", "How to read it: `→` is if .. then, `×` and, `⊎` or, `¬` not, `≡` equal, `λ x. ..` a function of x, `ℕ` the whole numbers from 0, `⊤` always true and `⊥` never. `f : A → B → Type 0` is a statement on an A and a B; a `record` holds where all its lines hold, a `data` where one of its lines does. `.old` is a value before the call, `.new` after it, `.now` one that the call only reads. `IfSome v P` says nothing where v is None, `IfOk r P` nothing where r is an error.", "", *counts(chapters), "", "## The clauses", "", f"`dk_main`, {main.module.path}:", "", "```", main.text, "```"]
     for number, (title, items) in enumerate(chapters, 1):
         out += ["", f"## {number}. {title}"]
         at = None

@@ -12,7 +12,7 @@ import subprocess
 import sys
 import time
 
-EXAMPLES = os.path.dirname(os.path.dirname(os.path.abspath(__file__)))
+EXAMPLES = os.path.join(os.path.dirname(os.path.abspath(__file__)), "..", "examples")
 SECONDS_EACH = 20
 
 # The lines of docs/COMMANDS.md, by status.
@@ -206,7 +206,7 @@ def main(program, seconds, seed):
     programs = [small(read(name)) for name in sorted(glob.glob("programs/*.dk", root_dir=EXAMPLES))]
     programs.append((COPY, ROW))
     texts = [read(name) for name in sorted(glob.glob("sim/*.v", root_dir=EXAMPLES) + glob.glob("verilog/*.v", root_dir=EXAMPLES))]
-    reports = [(read(f"reports/{name}.dk"), read(f"reports/{report}.txt")) for name, report in (("square", "square"), ("skip", "skip"), ("mean", "mean_plan"))]
+    reports = [(read(f"../tests/reports/{name}.dk"), read(f"../tests/reports/{report}.txt")) for name, report in (("square", "square"), ("skip", "skip"), ("mean", "mean_plan"))]
 
     for length in range(len(ROW) + 1):
         answer = calls.agree(["eval", "p.dk", "i.pgm", "out"], ["run", "p.dk", "i.pgm", "out"], {"p.dk": COPY, "i.pgm": ROW[:length]})

@@ -3,7 +3,7 @@
 
 It takes sound texts alone: it judges nothing but an index past its array, where it ends with status 6 and the clocks before.
 
-usage: examples/tools/trace.py VERILOG CLOCKS IN VCD
+usage: tests/trace.py VERILOG CLOCKS IN VCD
 """
 import re
 import sys

@@ -1,18 +1,33 @@
 #!/bin/sh
-# Runs a built program on the examples, from a folder of its own, and compares pictures, lines and statuses.
-# It says nothing where all is as it should be, and else names each case that is not.
-# usage: examples/check.sh PROGRAM
+# The quick tests: runs a built program on the examples, from a folder of its own, and compares pictures, lines and statuses.
+# It names each case that is not as it should be. The last line is `N passed, M failed`.
+# usage: tests/quick.sh PROGRAM
 program=$(cd "$(dirname "$1")" && pwd)/$(basename "$1")
-examples=$(cd "$(dirname "$0")" && pwd)
+tests=$(cd "$(dirname "$0")" && pwd)
+examples=$tests/../examples
 work=$(mktemp -d) || exit 2
 trap 'rm -rf "$work"' EXIT
 cd "$work" || exit 2
-cp "$examples"/programs/*.dk "$examples"/programs/*.pgm "$examples"/reports/*.dk "$examples"/reports/*.txt . || exit 2
+cp "$examples"/programs/*.dk "$examples"/programs/*.pgm "$tests"/reports/*.dk "$tests"/reports/*.txt . || exit 2
 cp "$examples"/sim/*.v . || exit 2
 # Every call here has 4 MiB of stack: the deepest accepted programs need between 1 and 2.
 ulimit -S -s 4096 || exit 2
+cases=0
 failed=0
 usage='usage: run [--age K] PROG IN OUT | compile [--enable] [--age K] PROG OUT | plan [--age K] PROG | sim VERILOG CLOCKS IN OUT [--fill FILL] [--hold K] | eval PROG IN OUT | make N | check PROG REPORT | trace VERILOG CLOCKS IN VCD'
+
+wrong() {
+    echo "quick: $*" >&2
+    failed=$((failed + 1))
+}
+
+# is TEXT WORD..: a case, which holds where the command WORD.. succeeds; TEXT says what is wrong where it does not
+is() {
+    said=$1
+    shift
+    cases=$((cases + 1))
+    "$@" || wrong "$said"
+}
 
 # ends STATUS LINE WORD..: the program with these words ends with this status, prints nothing, and says this line on standard error
 ends() {
@@ -20,34 +35,22 @@ ends() {
     line=$2
     shift 2
     rm -f out.pgm
+    cases=$((cases + 1))
     "$program" "$@" >stdout 2>stderr
     got=$?
     if [ "$got" != "$status" ] || [ -s stdout ] || [ "$(cat stderr)" != "$line" ]; then
-        echo "examples: dk $*: status $got, '$(cat stderr)' where $status, '$line' was wanted" >&2
-        failed=1
+        wrong "dk $*: status $got, '$(cat stderr)', expected $status, '$line'"
     fi
 }
 
 # holds FILE [NAME]: the output is this file, byte for byte; NAME says what it shows
 holds() {
-    cmp -s out.pgm "$1" || {
-        echo "examples: the output is not $1 ${2-}" >&2
-        failed=1
-    }
+    is "the output is not $1 ${2-}" cmp -s out.pgm "$1"
 }
 
 # none: nothing was created
 none() {
-    [ ! -e out.pgm ] || {
-        echo "examples: something was created" >&2
-        failed=1
-    }
-}
-
-# The ladder is what its script makes of the sources.
-python3 "$examples/../docs/ladder.py" | cmp -s - "$examples/../docs/LADDER.md" || {
-    echo "examples: docs/LADDER.md is not that of the sources: python3 docs/ladder.py >docs/LADDER.md" >&2
-    failed=1
+    is "something was created" [ ! -e out.pgm ]
 }
 
 ends 0 '' run copy.dk gradient.pgm out.pgm
@@ -74,7 +77,7 @@ while IFS='|' read -r name text input wanted <&3; do
         ends 0 '' "$command" text.dk input.pgm out.pgm
         holds wanted.pgm "$name"
     done
-done 3<"$examples/calls/pictures.txt"
+done 3<"$tests/calls/pictures.txt"
 
 # Each line of calls/faults.txt is a status, a line on standard error, the program and the input that end so, and what `run` has written before the fault, if anything.
 while IFS='|' read -r status line text input left <&3; do
@@ -89,7 +92,7 @@ while IFS='|' read -r status line text input left <&3; do
     else
         none
     fi
-done 3<"$examples/calls/faults.txt"
+done 3<"$tests/calls/faults.txt"
 
 # Each line of calls/programs.txt is what `compile` says of a program, a tab, and the program.
 tab=$(printf '\t')
@@ -101,17 +104,13 @@ while IFS=$tab read -r line text <&3; do
         ends 3 "$line" compile text.dk out.pgm
         none
     fi
-done 3<"$examples/calls/programs.txt"
+done 3<"$tests/calls/programs.txt"
 
 ends 2 "$usage"
 ends 2 "$usage" run copy.dk
 ends 2 "$usage" help
 ends 2 "$usage" run copy.dk gradient.pgm gradient.pgm
-holds_input=$(cmp gradient.pgm "$examples/programs/gradient.pgm" 2>&1)
-[ -z "$holds_input" ] || {
-    echo "examples: the input was changed: $holds_input" >&2
-    failed=1
-}
+is 'the input was changed' cmp -s gradient.pgm "$examples/programs/gradient.pgm"
 ends 2 "$usage" run "$(printf '\377')" gradient.pgm out.pgm
 none
 
@@ -202,6 +201,11 @@ refused 'program: Reads 4225'
 
 # The deepest programs that the limits accept: 128 open brackets, those of the read among them, a tree of depth 512, and an inlined one of depth 1,024, in which a read of an inline image counts too.
 printf 'P5 1 1 255\n\002' >dot.pgm
+# plan_holds PROG: `check` says yes to the report of `plan`
+plan_holds() {
+    "$program" plan "$1" >plan.txt 2>stderr && "$program" check "$1" plan.txt >stdout 2>stderr
+}
+
 # deep VALUE: the program in text.dk is planned, and makes this sample of the sample 2
 deep() {
     printf "P5\n1 1\n255\n$1" >wanted.pgm
@@ -209,10 +213,7 @@ deep() {
         ends 0 '' "$command" text.dk dot.pgm out.pgm
         holds wanted.pgm
     done
-    "$program" plan text.dk >plan.txt 2>stderr && "$program" check text.dk plan.txt >stdout 2>stderr || {
-        echo "examples: the plan of a deep program does not hold: $(cat stderr)" >&2
-        failed=1
-    }
+    is 'the plan of a deep program does not hold' plan_holds text.dk
 }
 {
     printf 'size 1 1 input a : u8 let f = im(x,y) '
@@ -257,7 +258,10 @@ ends 4 'image: LongHeader 65536' run copy.dk second.pgm out.pgm
 holds gradient.pgm
 # a byte behind 65,536 images
 echo 'size 1 1 input a : u8 output a' >pixel.dk
-python3 -c 'import sys; sys.stdout.buffer.write(b"P5 1 1 255\nx" * 65536)' >pixels.pgm
+printf 'P5 1 1 255\nx' >pixels.pgm
+for _ in 1 2 3 4 5 6 7 8 9 10 11 12 13 14 15 16; do
+    cat pixels.pgm pixels.pgm >twice.pgm && mv twice.pgm pixels.pgm
+done
 ends 0 '' eval pixel.dk pixels.pgm out.pgm
 printf P >>pixels.pgm
 ends 4 'image: Count 65536' eval pixel.dk pixels.pgm out.pgm
@@ -272,11 +276,11 @@ rm zeros.pgm
 prints() {
     text=$1
     shift
+    cases=$((cases + 1))
     "$program" "$@" >stdout 2>stderr
     got=$?
     if [ "$got" != 0 ] || [ -s stderr ] || [ "$(cat stdout)" != "$text" ]; then
-        echo "examples: dk $*: status $got, '$(cat stdout)', '$(cat stderr)' where '$text' was wanted" >&2
-        failed=1
+        wrong "dk $*: status $got, '$(cat stdout)', '$(cat stderr)', expected '$text'"
     fi
 }
 
@@ -342,7 +346,7 @@ while IFS=$tab read -r line text <&3; do
     else
         refuses "$line" "$text"
     fi
-done 3<"$examples/calls/modules.txt"
+done 3<"$tests/calls/modules.txt"
 truncate -s 268435457 zeros.v
 ends 5 'verilog: TooLong 268435456' sim zeros.v 4 missing.pgm out.pgm
 rm zeros.v
@@ -399,10 +403,9 @@ for name in line_buffer median enabled toggle; do
     ends 0 '' trace $name.v 3072 $input.pgm out.pgm
     seq 0 3073 | sed 's/^/#/' >wanted.txt
     grep '^#' out.pgm >times.txt
-    cmp -s times.txt wanted.txt && [ "$(head -n 1 out.pgm)" = '$timescale 1 ns $end' ] && [ "$(tail -n 1 out.pgm)" = '#3073' ] || {
-        echo "examples: the trace of $name.v has other lines" >&2
-        failed=1
-    }
+    is "the trace of $name.v has other times" cmp -s times.txt wanted.txt
+    is "the trace of $name.v begins otherwise" [ "$(head -n 1 out.pgm)" = '$timescale 1 ns $end' ]
+    is "the trace of $name.v ends otherwise" [ "$(tail -n 1 out.pgm)" = '#3073' ]
 done
 # Each line of calls/traces.txt is what it shows, the status and the line of the call, a Verilog text, its clocks, the images and the trace, with bytes as printf reads them.
 while IFS='|' read -r name status line text clocks input wanted <&3; do
@@ -411,7 +414,7 @@ while IFS='|' read -r name status line text clocks input wanted <&3; do
     printf '%b' "$wanted" >wanted.vcd
     ends "$status" "$line" trace text.v "$clocks" input.pgm out.pgm
     holds wanted.vcd "$name"
-done 3<"$examples/calls/traces.txt"
+done 3<"$tests/calls/traces.txt"
 # 95 variables: the last identifier of one byte, and the first of two
 {
     printf 'module m(input clk, input rst, input din, output valid, output dout);\n'
@@ -435,7 +438,7 @@ ends 0 '' trace text.v 1 one.pgm out.pgm
 holds wanted.vcd '95 variables'
 # the stored waves, which trace.py made
 ends 0 '' trace line_buffer.v 192 speckled.pgm out.pgm
-holds "$examples/waves/line_buffer.vcd"
+holds "$tests/waves/line_buffer.vcd"
 ends 4 'image: Maxval 255' trace words.v 4 gradient.pgm out.pgm
 ends 7 'cannot read' trace missing.v 4 rising.pgm out.pgm
 ends 7 'cannot read' trace words.v 4 missing.pgm out.pgm
@@ -459,7 +462,7 @@ ends 0 '' compile mean3.dk text.v
 ends 0 '' sim text.v 5 mean3.pgm out.pgm
 holds wanted.pgm 'compile'
 ends 0 '' trace text.v 5 mean3.pgm out.pgm
-holds "$examples/waves/mean3.vcd"
+holds "$tests/waves/mean3.vcd"
 ends 6 'stopped: count 3 of 4' sim text.v 4 mean3.pgm out.pgm
 ends 5 'verilog 7-9: Ports' sim text.v 5 mean3.pgm out.pgm --hold 1
 ends 0 '' compile --enable mean3.dk text.v
@@ -497,10 +500,7 @@ ends 2 "$usage" compile --hold 1 mean3.dk text.v
 rm -f text.v
 ends 3 'program 0-1: BadByte' compile byte.dk text.v
 ends 7 'cannot read' compile missing.dk text.v
-[ ! -e text.v ] || {
-    echo "examples: compile created something" >&2
-    failed=1
-}
+is 'compile created something' [ ! -e text.v ]
 # An input under another name is not written over: it keeps its bytes.
 cp mean3.pgm same.pgm
 ln -s same.pgm link.pgm
@@ -510,31 +510,20 @@ for name in ./same.pgm link.pgm hard.pgm; do
     ends 8 'cannot write' eval mean3.dk same.pgm "$name"
 done
 ends 8 'cannot write' compile mean3.dk ./mean3.dk
-cmp -s same.pgm mean3.pgm && cmp -s mean3.dk text.dk || {
-    echo "examples: an input was changed under another name" >&2
-    failed=1
-}
+is 'an image was changed under another name' cmp -s same.pgm mean3.pgm
+is 'a program was changed under another name' cmp -s mean3.dk text.dk
 ends 8 'cannot write' compile mean3.dk /dev/full
 ends 8 'cannot write' compile mean3.dk missing/text.v
 
 # Reports: each line of plans.txt is a program of reports/ with an age, and its image lines, latencies, bits and reads. The flow may be any, and the report holds.
 while IFS='|' read -r name age bits latency lines <&3; do
-    "$program" plan "$name.dk" --age "$age" >plan.txt 2>stderr || {
-        echo "examples: plan $name.dk --age $age: $(cat stderr)" >&2
-        failed=1
-    }
-    [ "$(grep -v '^flow\|^limits\|^end' plan.txt | tr '\n' ',')" = "$lines" ] || {
-        echo "examples: plan $name.dk --age $age gave $(tr '\n' ',' <plan.txt)" >&2
-        failed=1
-    }
+    "$program" plan "$name.dk" --age "$age" >plan.txt 2>stderr
+    is "plan $name.dk --age $age: status $?, $(cat stderr), $(tr '\n' ',' <plan.txt)" [ "$(grep -v '^flow\|^limits\|^end' plan.txt | tr '\n' ',')" = "$lines" ]
     prints "report holds: bits $bits latency $latency" check "$name.dk" plan.txt
-done 3<"$examples/reports/plans.txt"
-prints "$(cat "$examples/reports/mean_plan.txt")" plan mean.dk
+done 3<"$tests/reports/plans.txt"
+prints "$(cat "$tests/reports/mean_plan.txt")" plan mean.dk
 for example in "$examples"/programs/*.dk; do
-    "$program" plan "$example" >plan.txt 2>stderr && "$program" check "$example" plan.txt >stdout 2>stderr || {
-        echo "examples: the plan of $example does not hold: $(cat stderr)" >&2
-        failed=1
-    }
+    is "the plan of $example does not hold" plan_holds "$example"
 done
 # a report of another maker, and faults of reports
 prints 'report holds: bits 456 latency 17' check skip.dk skip.txt
@@ -593,10 +582,7 @@ ends 3 'program: Latency 67125248' plan late.dk
 ends 3 'program: Latency 67125248' compile late.dk text.v
 ends 3 'program: Latency 67125248' eval late.dk missing.pgm out.pgm
 "$program" plan mean.dk >/dev/full 2>stderr
-[ $? = 8 ] && [ "$(cat stderr)" = 'cannot write' ] || {
-    echo "examples: a full standard output is not told" >&2
-    failed=1
-}
+is 'a full standard output is not reported' [ "$? $(cat stderr)" = '8 cannot write' ]
 
 ends 7 'cannot read' run missing.dk gradient.pgm out.pgm
 ends 7 'cannot read' run copy.dk missing.pgm out.pgm
@@ -609,29 +595,18 @@ ends 8 'cannot write' run copy.dk gradient.pgm missing/out.pgm
 
 # A line that cannot be written changes no status.
 "$program" run copy.dk 2>&-
-[ $? = 2 ] || {
-    echo "examples: a closed standard error changes the status" >&2
-    failed=1
-}
+is 'a closed standard error changes the status' [ $? = 2 ]
 
 # With all standard descriptors closed no file gets their numbers, and the line of a fault stands in none.
 printf 'P5\n16 8\n255\n' >ends_early.pgm
 rm -f out.pgm
 "$program" run copy.dk ends_early.pgm out.pgm <&- >&- 2>&-
-[ $? = 4 ] || {
-    echo "examples: closed standard descriptors change the status" >&2
-    failed=1
-}
+is 'closed standard descriptors change the status' [ $? = 4 ]
 holds ends_early.pgm 'where the standard descriptors are closed'
 
 # makes N LINE: `make N` ends with status 0 and prints this line alone
 makes() {
-    "$program" make "$1" >stdout 2>stderr
-    got=$?
-    if [ "$got" != 0 ] || [ -s stderr ] || [ "$(cat stdout)" != "$2" ]; then
-        echo "examples: dk make $1: status $got, '$(cat stdout)' where '$2' was wanted" >&2
-        failed=1
-    fi
+    prints "$2" make "$1"
 }
 makes 0 'make 0: size 1 1 images 1 reads 1 bits 0 latency 0 sum 35'
 makes 1 'make 1: size 2 1 images 1 reads 0 bits 0 latency 0 sum 0'
@@ -645,9 +620,7 @@ done
 ends 2 "$usage" make
 ends 2 "$usage" make 1 2
 "$program" make 0 >/dev/full 2>stderr
-[ "$?" = 8 ] && [ "$(cat stderr)" = 'cannot write' ] || {
-    echo "examples: dk make 0 to a full output: '$(cat stderr)'" >&2
-    failed=1
-}
+is 'a full standard output of make is not reported' [ "$? $(cat stderr)" = '8 cannot write' ]
 
-exit $failed
+echo "$((cases - failed)) passed, $failed failed"
+[ "$failed" = 0 ]

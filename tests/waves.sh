@@ -2,12 +2,13 @@
 # Shows value change dumps (those of waves/, or those named) to readers of others, as far as they are installed, and says which it passed over:
 # GTKWave (under xvfb-run, without a screen) and its converters vcd2fst and fst2vcd. The value of each variable at each time must be the one that waves.py reads.
 # It says nothing else where they agree.
-# usage: examples/tools/waves.sh [VCD..]
-examples=$(cd "$(dirname "$0")/.." && pwd)
+# usage: tests/waves.sh [VCD..]
+tests=$(cd "$(dirname "$0")" && pwd)
+examples=$tests/../examples
 work=$(mktemp -d) || exit 2
 trap 'rm -rf "$work"' EXIT
 failed=0
-[ $# -gt 0 ] || set -- "$examples"/waves/*.vcd
+[ $# -gt 0 ] || set -- "$tests"/waves/*.vcd
 
 cat >"$work/look.tcl" <<'END'
 set count [ gtkwave::getNumFacs ]
@@ -34,8 +35,8 @@ END
 
 # agrees READER VCD: the values that the reader gave are those that waves.py reads
 agrees() {
-    python3 "$examples/tools/waves.py" values "$2" | cmp -s "$work/seen" - || {
-        echo "examples: $1 reads $2 otherwise" >&2
+    python3 "$tests/../tools/waves.py" values "$2" | cmp -s "$work/seen" - || {
+        echo "waves: $1 reads $2 otherwise" >&2
         failed=1
     }
 }
@@ -43,7 +44,7 @@ agrees() {
 for dump; do
     if command -v vcd2fst >/dev/null; then
         vcd2fst "$dump" "$work/dump.fst" && fst2vcd "$work/dump.fst" >"$work/back.vcd"
-        python3 "$examples/tools/waves.py" values "$work/back.vcd" >"$work/seen"
+        python3 "$tests/../tools/waves.py" values "$work/back.vcd" >"$work/seen"
         agrees vcd2fst "$dump"
     fi
     if command -v gtkwave >/dev/null && command -v xvfb-run >/dev/null; then
@@ -52,6 +53,6 @@ for dump; do
     fi
 done
 for tool in vcd2fst gtkwave xvfb-run; do
-    command -v "$tool" >/dev/null || echo "examples: $tool is not installed, and was passed over"
+    command -v "$tool" >/dev/null || echo "waves: $tool is not installed, and was passed over"
 done
 exit "$failed"

@@ -1,7 +1,7 @@
 #!/usr/bin/env python3
 """Makes skip.txt, a report of skip.dk, by the linear programming kit GLPK: it knows dk's report by docs/REPORT.md alone.
 It minimises the buffer bits over delays and ends, and takes the flow from the dual values of the rows.
-usage: examples/reports/glpk.py   (needs glpsol of the Debian package glpk-utils)"""
+usage: tests/reports/glpk.py   (needs glpsol of the Debian package glpk-utils)"""
 import os
 import subprocess
 import tempfile

@@ -4,14 +4,14 @@
 The images of a file are set side by side, one line of them for each round. Samples are stretched so
 that the greatest that the header allows is white.
 
-usage: examples/tools/png.py FOLDER      writes NAME-in.png and NAME-out.png for each example of pictures.txt
+usage: tools/png.py FOLDER      writes NAME-in.png and NAME-out.png for each example of pictures.txt
 """
 import os
 import struct
 import sys
 import zlib
 
-EXAMPLES = os.path.dirname(os.path.dirname(os.path.abspath(__file__)))
+EXAMPLES = os.path.join(os.path.dirname(os.path.abspath(__file__)), "..", "examples")
 SCALE = 4
 GAP = 2
 BETWEEN = 255
