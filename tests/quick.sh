@@ -94,8 +94,26 @@ while IFS='|' read -r status line text input left <&3; do
     fi
 done 3<"$tests/calls/faults.txt"
 
-# Each line of calls/programs.txt is what `compile` says of a program, a tab, and the program.
+# Each line of calls/values.txt is an operand P by its type and a number that stands for it modulo 2^N, an operand Q, an expression and its value; B is 1.
+# The expression is made over images, which a bit chooses, and over constants; both have the value.
 tab=$(printf '\t')
+printf 'P5 1 1 1\n\001' >input.pgm
+printf 'P5\n1 1\n1\n\001' >wanted.pgm
+while IFS=$tab read -r left p right q expression value <&3; do
+    nets=$(printf '%s\n' "$expression" | sed 's/P/p(x,y)/g; s/Q/q(x,y)/g; s/B/b(x,y)/g')
+    numbers=$(printf '%s\n' "$expression" | sed "s/P/(($p) as $left)/g; s/Q/(($q) as $right)/g; s/B/1/g")
+    {
+        printf 'size 1 1 input b : u1 let p = im(x,y) select(b(x,y),(%s) as %s,0 as %s) end ' "$p" "$left" "$left"
+        printf 'let q = im(x,y) select(b(x,y),(%s) as %s,0 as %s) end ' "$q" "$right" "$right"
+        printf 'let r = im(x,y) ((%s)==(%s))&((%s)==(%s)) end output r\n' "$nets" "$value" "$numbers" "$value"
+    } >text.dk
+    for command in eval run; do
+        ends 0 '' "$command" text.dk input.pgm out.pgm
+        holds wanted.pgm "$expression, P being $p of $left, Q $q of $right"
+    done
+done 3<"$tests/calls/values.txt"
+
+# Each line of calls/programs.txt is what `compile` says of a program, a tab, and the program.
 while IFS=$tab read -r line text <&3; do
     printf '%s' "$text" >text.dk
     if [ "$line" = accepted ]; then
