@@ -328,6 +328,8 @@ printf 'P5 0 1 3\n' >empty.pgm
 printf 'P5\n4 1\n255\n\005\005\0\0' >wanted.pgm
 ends 0 '' sim words.v 4 rising.pgm out.pgm
 holds wanted.pgm
+ends 0 '' sim words.v 004 rising.pgm out.pgm
+holds wanted.pgm
 printf 'P5\n4 1\n255\n\005\005\377\377' >wanted.pgm
 ends 0 '' sim words.v 4 rising.pgm out.pgm --fill ones
 holds wanted.pgm
@@ -370,10 +372,11 @@ ends 5 'verilog: TooLong 268435456' sim zeros.v 4 missing.pgm out.pgm
 rm zeros.v
 ends 2 "$usage" sim words.v 4 rising.pgm words.v
 ends 2 "$usage" sim words.v 4 rising.pgm rising.pgm
-ends 2 "$usage" sim words.v 007 rising.pgm out.pgm
+ends 2 "$usage" sim words.v +4 rising.pgm out.pgm
 ends 2 "$usage" sim words.v 100000001 rising.pgm out.pgm
 ends 2 "$usage" sim words.v 4 rising.pgm out.pgm --fill two
 ends 2 "$usage" sim words.v 4 rising.pgm out.pgm --hold 0
+ends 2 "$usage" sim words.v 4 rising.pgm out.pgm --hold 000
 ends 2 "$usage" sim words.v 4 rising.pgm out.pgm --hold -1
 ends 2 "$usage" sim words.v 4 rising.pgm out.pgm --fill ones --fill ones
 none
@@ -464,7 +467,7 @@ printf 'module m(input clk); initial' >text.v
 ends 5 'verilog 21-28: NotInSubset' trace text.v 4 missing.pgm out.pgm
 ends 2 "$usage" trace words.v 4 rising.pgm words.v
 ends 2 "$usage" trace words.v 4 rising.pgm rising.pgm
-ends 2 "$usage" trace words.v 007 rising.pgm out.pgm
+ends 2 "$usage" trace words.v +4 rising.pgm out.pgm
 ends 2 "$usage" trace words.v 100000001 rising.pgm out.pgm
 ends 2 "$usage" trace words.v 4 rising.pgm
 ends 2 "$usage" trace enabled.v 4 rising.pgm out.pgm --hold 1
@@ -575,7 +578,7 @@ ends 3 'program 0-1: BadByte' plan byte.dk
 ends 7 'cannot read' plan missing.dk
 ends 2 "$usage" plan mean.dk --age 65
 ends 2 "$usage" plan mean.dk --age=
-ends 2 "$usage" plan mean.dk --age 01
+prints "$("$program" plan mean.dk --age 1)" plan mean.dk --age 01
 ends 2 "$usage" plan --age 1 --age 1 mean.dk
 ends 2 "$usage" --age 1 plan mean.dk
 ends 2 "$usage" plan --ag 1 mean.dk
@@ -632,7 +635,11 @@ makes 3 'make 3: size 4 1 images 1 reads 1 bits 8 latency 0 sum 0'
 # the greatest one, 256 by 256 with 64 definitions, gives the same line each time
 greatest=$("$program" make 4194303)
 makes 4194303 "$greatest"
-for number in 4194304 -1 +1 007 1x ''; do
+# leading zeros change nothing
+makes 007 "$("$program" make 7)"
+makes "$(printf '%0101d' 3)" 'make 3: size 4 1 images 1 reads 1 bits 8 latency 0 sum 0'
+# also past 32 and 64 bits a number is past the range
+for number in 4194304 0004194304 4294967297 18446744073709551617 -1 +1 1x ''; do
     ends 2 "$usage" make "$number"
 done
 ends 2 "$usage" make
