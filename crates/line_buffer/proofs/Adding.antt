@@ -8,6 +8,8 @@ use Rattle.wiring.specs.declared.netlist.Holder.TheVariants.{OfNet, OfArray}
 use Rattle.wiring.specs.declared.netlist.Shape.{Shape}
 use Rattle.wiring.specs.declared.netlist.Update.{Update}
 use Rattle.wiring.specs.Netlist.{Netlist, IsState, update_target}
+use Rattle.wiring.specs.Snapshot.{right_accesses, update_accesses}
+use Rattle.net_build.specs.Control.{TakesControl}
 use Rattle.net_build.specs.Includes.{Includes}
 use Rattle.net_build.specs.Logic.{AddsLogic}
 use Rattle.net_build.proofs.Parts.{Includes-refl, Includes-trans, at_Begins}
@@ -15,7 +17,8 @@ use Rattle.net_build.proofs.Grown.{length_begins}
 use Rattle.net_build.proofs.Reading.{reads_none, reads_joined, reads_weaker, none_reads}
 use Rattle.net_build.proofs.Standing.{still_wires}
 use Rattle.net_build.proofs.Updating.{but_wires}
-use Rattle.line_buffer.specs.Buffers.{AddsBuffer, is_new}
+use Rattle.line_buffer.specs.Buffers.{AddsBuffer, ReadsInside, PutsInside, is_new}
+use Rattle.line_buffer.proofs.More.{added_same, added_weaker, added_joined, takes_more, inside_more, none_inside}
 
 pub le_is : (a b : ℕ) → a ≤ b → IsTrue (nat_le a b)
 le_is a b h = grind arith
@@ -51,8 +54,9 @@ module _ (c b a : Netlist) (after before : List Shape) (g : AddsBuffer c b after
     updated = λ free but. g.updated free (f.updated free but);
     only = only_joined;
     still = λ free but. g.still free (f.still free but);
-    stops = λ h. g.stops (f.stops h);
-    control = λ h. g.control (f.control h);
+    control = added_joined (TakesControl c) c.updates b.updates a.updates g.includes.updates g.control (added_weaker (TakesControl b) (TakesControl c) b.updates a.updates (takes_more c b g.includes) f.control);
+    reads_inside = added_joined (ReadsInside c) c.assigns b.assigns a.assigns g.includes.assigns g.reads_inside (added_weaker (ReadsInside b) (ReadsInside c) b.assigns a.assigns (λ x. inside_more c b g.includes (right_accesses x.right)) f.reads_inside);
+    puts_inside = added_joined (PutsInside c) c.updates b.updates a.updates g.includes.updates g.puts_inside (added_weaker (PutsInside b) (PutsInside c) b.updates a.updates (λ u. inside_more c b g.includes (update_accesses u)) f.puts_inside);
     reads = reads_joined c b a (is_new a) g.includes (reads_weaker c b (is_new b) (is_new a) wider g.reads) f.reads;
   }
 
@@ -63,8 +67,9 @@ adds_none b = record {
   updated = λ free but. but;
   only = λ k u low at state. absurd (omega (arith, low, slice_get_within b.updates k u at));
   still = λ free but. but;
-  stops = λ h. h;
-  control = λ h. h;
+  control = added_same (TakesControl b) b.updates b.updates refl;
+  reads_inside = added_same (ReadsInside b) b.assigns b.assigns refl;
+  puts_inside = added_same (PutsInside b) b.updates b.updates refl;
   reads = reads_none b b (is_new b) refl;
 }
 
@@ -75,8 +80,9 @@ adds_logic new old is = record {
   updated = λ free but. but_wires new old free is.wires but;
   only = λ k u low at state. absurd (omega (arith, low, slice_get_within new.updates k u at, ap length is.wires.updates));
   still = λ free but. still_wires new old free is.includes is.wires but;
-  stops = is.stops;
-  control = is.control;
+  control = added_same (TakesControl new) new.updates old.updates is.wires.updates;
+  reads_inside = none_inside new old is.reads;
+  puts_inside = added_same (PutsInside new) new.updates old.updates is.wires.updates;
   reads = none_reads new old (is_new old) is.reads;
 }
 

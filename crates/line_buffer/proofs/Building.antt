@@ -20,6 +20,8 @@ use Rattle.std.proofs.lemmas.List.Elements.{All-head, All-tail}
 use Rattle.line_buffer.proofs.Adding.{adds_none}
 use Rattle.line_buffer.specs.Rings.{IsRing, AddsTaps, IsRingTap, AreRingTaps}
 use Rattle.line_buffer.specs.Buffers.{AddsBuffer, IsBuffer, AreMadeOfBuffer, is_buffer}
+use Rattle.line_buffer.specs.Fills.{AreFilled}
+use Rattle.line_buffer.proofs.Filling.{fills_more, fills_none, fills_one, line_takes_net}
 use Rattle.line_buffer.proofs.Ages.{age_within}
 use Rattle.line_buffer.proofs.Turns.{yes_eq, no_eq}
 use Rattle.line_buffer.proofs.Turning.{index_more, line_more}
@@ -84,6 +86,10 @@ module _ (b0 b1 : Netlist) (width words bits : ℕ) (value : Net) (line : DelayL
     pub built_buffer : IsBuffer b2 (ring_place (length b0.arrays) ages) ages taps value
     built_buffer = ring_is b2 ages (length b0.arrays) line.index value line.word taps up positive line_here counter_here one_each here (λ k tap et. (tap_at k tap et).net) (λ k tap et. (tap_at k tap et).width)
 
+    pub built_fills : AreFilled b2 (length b0.arrays) (length b0.arrays + length (ring_shapes width ages)) value
+    built_fills = fills_more b2 b1 (length b0.arrays) (length b0.arrays + length (ring_shapes width ages)) value more.includes
+        (fills_one b1 (length b0.arrays) (length b0.arrays + length (ring_shapes width ages)) value (ap (λ (n : ℕ). length b0.arrays + n) (sym (ap length shapes))) (line_takes_net b1 (length b0.arrays) words value line.word turning))
+
     pub built_made : AreMadeOfBuffer b2 (length b0.arrays) (length b0.arrays + length (ring_shapes width ages)) ages taps
     built_made = subst (λ (n : ℕ). AreMadeOfBuffer b2 (length b0.arrays) (length b0.arrays + n) ages taps) (ap length shapes)
         (ring_made b2 ages (length b0.arrays) line.index value line.word taps up positive line_here counter_here one_each here (λ k tap et. (tap_at k tap et).net) (λ k tap et. (tap_at k tap et).width))
@@ -98,6 +104,11 @@ depth_most ages m all = depth_from 0 m ages (omega arith) all
 -- with no age above 0
 pub still_adds : (b : Netlist) (width : ℕ) (ages : List ℕ) → depth_of ages ≡ 0 → AddsBuffer b b (ring_shapes width ages)
 still_adds b width ages none = subst (AddsBuffer b b) (sym (ap (λ (h : Bool). if h then [] else (record { width = width; depth = depth_of ages }) ∷ []) (yes_eq (depth_of ages) 0 none))) (adds_none b)
+
+pub still_fills : (b : Netlist) (first width : ℕ) (ages : List ℕ) (value : Net) → depth_of ages ≡ 0 → AreFilled b first (first + length (ring_shapes width ages)) value
+still_fills b first width ages value none =
+    let empty : length (ring_shapes width ages) ≡ 0 = ap (λ (ss : List Shape). length ss) (ap (λ (h : Bool). if h then [] else (record { width = width; depth = depth_of ages }) ∷ []) (yes_eq (depth_of ages) 0 none)) in
+    fills_none b first (first + length (ring_shapes width ages)) value (omega (arith, empty))
 
 pub still_made : (b : Netlist) (first end : ℕ) (ages : List ℕ) (taps : List Net) → IsStrictlyIncreasing ages → depth_of ages ≡ 0 → AreMadeOfBuffer b first end ages taps
 still_made b first end ages taps up none k age tap ea some et = absurd (omega (arith, none, some, age_within ages up k age ea))

@@ -20,6 +20,8 @@ use Rattle.line_buffer.specs.Places.{last_of, later, depth_of, segment_shapes, c
 use Rattle.line_buffer.specs.Buffers.{IsBuffer, AreMadeOfBuffer, is_buffer}
 use Rattle.line_buffer.specs.Lines.{IsDelayLine}
 use Rattle.line_buffer.specs.Chains.{AreSegments, IsSegment, IsStep, IsChained, last_net, later_taps}
+use Rattle.line_buffer.specs.Fills.{AreFilled}
+use Rattle.line_buffer.proofs.Filling.{segments_fill}
 use Rattle.line_buffer.proofs.Adding.{adds_none, adds_joined, adds_as, le_is, is_le}
 use Rattle.line_buffer.proofs.Ages.{later_depth}
 use Rattle.line_buffer.proofs.Indexed.{once_none, once_joined}
@@ -238,6 +240,10 @@ chained_more old b c width value (x ∷ ages) taps from to age done step up = ch
 -- what was built so is a buffer
 pub chained_buffer : (b old : Netlist) (width : ℕ) (value : Net) (ages : List ℕ) (taps : List Net) (newest : Tap) → IsStrictlyIncreasing ages → net_width b value ≡ width → IsChained b old width value ages taps newest → IsBuffer b (chain_place (length old.arrays) ages) ages taps value
 chained_buffer b old width value ages taps newest up wide done = chain_is b (length old.arrays) value ages taps up done.one_each done.now done.nets (λ k tap e. done.widths k tap e ∙ sym wide) done.segments
+
+-- and each segment takes what the one before it gives
+pub chained_fills : (b old : Netlist) (width : ℕ) (value : Net) (ages : List ℕ) (taps : List Net) (newest : Tap) → IsChained b old width value ages taps newest → AreFilled b (length old.arrays) (length old.arrays + length (chain_shapes width ages)) value
+chained_fills b old width value ages taps newest done = segments_fill b (length old.arrays) 0 value (later ages) (later_taps ages taps) done.segments (length old.arrays + length (chain_shapes width ages)) (ap (λ (n : ℕ). length old.arrays + n) (shapes_long width 0 (later ages)))
 
 -- the same age
 pub step_none : (b : Netlist) (width : ℕ) (from : Tap) (age : ℕ) → age ≡ from.age → IsNet b from.net → net_width b from.net ≡ width → IsStep b b width from age from

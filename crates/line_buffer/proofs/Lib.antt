@@ -1,4 +1,6 @@
 pub mod Turns
+pub mod More
+pub mod Filling
 pub mod Adding
 pub mod States
 pub mod Turning

@@ -1,8 +1,9 @@
 -- What a turning is made by.
 use Rattle.std.proofs.Common.{◌≡◌, ◌⊎◌, ℕ, ◌+◌, ◌<◌, Bool, true, false, List, [], ◌∷◌, ◌++◌, length, Some, refl, sym, ap, subst, ◌∙◌, arith, append-nil}
-use Rattle.std.specs.Prelude.{IsTrue, All, ◌&&◌, nat_le, nat_lt, slice_get, slice_set, slice_index_or}
-use Rattle.std.proofs.lemmas.List.Elements.{All-nil, All-cons}
+use Rattle.std.specs.Prelude.{IsTrue, All, Contains, ◌&&◌, nat_le, nat_lt, slice_get, slice_set, slice_index_or}
+use Rattle.std.proofs.lemmas.List.Elements.{All-nil, All-cons, Contains-append_right}
 use Rattle.wiring.specs.declared.right.Atom.TheVariants as atom
+use Rattle.wiring.specs.declared.right.Right.{Right}
 use Rattle.wiring.specs.declared.right.Right.TheVariants.{Word}
 use Rattle.wiring.specs.declared.netlist.Net.{Net}
 use Rattle.wiring.specs.declared.netlist.Holder.{Holder}
@@ -11,11 +12,11 @@ use Rattle.wiring.specs.declared.netlist.Shape.{Shape}
 use Rattle.wiring.specs.declared.netlist.Update.TheVariants.{Put}
 use Rattle.wiring.specs.BufferBits.{right_reads}
 use Rattle.wiring.specs.Netlist.{Netlist}
-use Rattle.wiring.specs.Snapshot.{net_value, word_value}
+use Rattle.wiring.specs.Snapshot.{net_value, word_value, right_accesses}
 use Rattle.net_build.specs.Includes.{Includes, InEach, AtEachEdge}
 use Rattle.net_build.specs.Draft.{AddsWires, with_wire, with_array, with_update}
-use Rattle.net_build.specs.Runs.{NeverStops, StaysInside}
-use Rattle.net_build.specs.Control.{IsMadeOf, by_itself, is_control, IsControl, IsControlled, AddsReads}
+use Rattle.net_build.specs.Runs.{StaysInside}
+use Rattle.net_build.specs.Control.{IsMadeOf, by_itself, is_control, IsControl, AddsReads}
 use Rattle.net_build.proofs.Control.{made_more, made_wider}
 use Rattle.net_build.proofs.Parts.{Includes-trans, at_Begins, InEach-more}
 use Rattle.net_build.proofs.Reading.{reads_word, reads_joined, none_reads}
@@ -23,7 +24,11 @@ use Rattle.net_build.proofs.Updating.{wires_joined}
 use Rattle.net_build.specs.Logic.{AddsLogic, Computes}
 use Rattle.net_build.specs.Counters.{control_nets, unless_held}
 use Rattle.line_buffer.specs.Lines.{IsIndex, IsDelayLine}
-use Rattle.line_buffer.specs.Buffers.{AddsBuffer, is_new, is_buffer}
+use Rattle.line_buffer.specs.Added.{EachAdded}
+use Rattle.line_buffer.specs.Fills.{IsWordAt, IsUnlessHeld}
+use Rattle.line_buffer.specs.Buffers.{AddsBuffer, ReadsInside, is_new, is_buffer}
+use Rattle.line_buffer.proofs.More.{added_weaker, added_joined, inside_more, none_inside, op_inside_in}
+use Rattle.line_buffer.proofs.Filling.{index_control_more, right_more, unless_held_more}
 use Rattle.line_buffer.proofs.Adding.{adds_joined, le_is}
 use Rattle.line_buffer.proofs.States.{adds_array}
 use Rattle.line_buffer.proofs.Turning.{index_more, line_inside, line_still}
@@ -46,7 +51,8 @@ own_array enable first x e = both (nat_le first x) (nat_lt x (first + 1)) (le_is
 module _ (b0 b1 b2 b3 b4 b5 : Netlist) (width words x : ℕ) (index value word stored : Net) (counted : AddsBuffer b1 b0 []) (counter : IsIndex b1 words index) (index_control : IsControl b1 (OfNet index)) (some : 0 < words)
     (made : b2 ≡ with_array b1 (record { width = width; depth = words })) (numbered : x ≡ length b1.arrays) (there : slice_get b2.arrays x ≡ Some (record { width = width; depth = words })) (f21 : Includes b2 b1) (f32 : Includes b3 b2) (read : (b3 ≡ b2) ⊎ (b3 ≡ with_wire b2 (Word x (atom.Net index)))) (wired : AddsWires b3 b2)
     (word_is : InEach b3 (λ m s. net_value s word ≡ word_value s x (net_value s index))) (logic : AddsLogic b4 b3) (stored_is : Computes b4 b3 (control_nets b3.enable ++ word ∷ (value ∷ [])) width (λ s. unless_held b3.enable (net_value s word) (net_value s value) s) stored)
-    (f54 : Includes b5 b4) (put : b5 ≡ with_update b4 (Put x (atom.Net index) (atom.Net stored))) (edge : AtEachEdge b5 (λ s next. slice_get next.arrays x ≡ Some (slice_set (slice_index_or s.contents.arrays x []) (net_value s index) (net_value s stored)))) where
+    (f54 : Includes b5 b4) (put : b5 ≡ with_update b4 (Put x (atom.Net index) (atom.Net stored))) (edge : AtEachEdge b5 (λ s next. slice_get next.arrays x ≡ Some (slice_set (slice_index_or s.contents.arrays x []) (net_value s index) (net_value s stored))))
+    (word_read : IsWordAt b3 x index word) (right : IsUnlessHeld b4 word value stored) where
   abbrev shape : Shape
   shape = record { width = width; depth = words }
 
@@ -69,8 +75,12 @@ module _ (b0 b1 b2 b3 b4 b5 : Netlist) (width words x : ℕ) (index value word s
     deep = refl;
     index = index;
     counter = index_more b5 b1 words index f51 counter;
+    control = index_control_more b5 b1 index f51 index_control;
+    read = right_more b5 b3 word (Word x (atom.Net index)) f53 word_read;
     gives = InEach-more (λ m s. net_value s word ≡ word_value s x (net_value s index)) b5 b3 f53 word_is;
     stored = stored;
+    value = unless_held_more b5 b4 word value stored f54 right;
+    put = subst (λ (b : Netlist). Contains b.updates (Put x (atom.Net index) (atom.Net stored))) (sym put) (Contains-append_right b4.updates (Put x (atom.Net index) (atom.Net stored) ∷ []) (Put x (atom.Net index) (atom.Net stored)) (0, omega arith, refl));
     takes = λ m s part settled. stored_is.value m s (Includes-trans m b5 b4 part f54) settled ∙ ap (λ (e : Bool). unless_held e (net_value s word) (net_value s value) s) (sym f53.enable);
     edge = edge;
   }
@@ -84,9 +94,19 @@ module _ (b0 b1 b2 b3 b4 b5 : Netlist) (width words x : ℕ) (index value word s
   reads_are : AddsReads b4 b2 (is_new b1)
   reads_are = reads_joined b4 b3 b2 (is_new b1) logic.includes (none_reads b4 b3 (is_new b1) logic.reads) (reads_word b2 b3 x (atom.Net index) (is_new b1) read (le_is (length b1.arrays) x (omega (arith, numbered))))
 
-  pub line_adds : (NeverStops b1 → NeverStops b5) → (IsControlled b1 → IsControlled b5) → AddsBuffer b5 b0 (shape ∷ [])
-  line_adds stops control =
-      adds_joined b5 b1 b0 (shape ∷ []) [] (adds_array b1 b2 b4 b5 shape x index stored made (Includes-trans b4 b3 b2 logic.includes f32) (wires_joined b4 b3 b2 logic.wires wired) reads_are put numbered stops control (line_still b5 x words value word here_is)) counted
+  read_inside : All (StaysInside b5) (right_accesses (let r : Right Net ℕ = Word x (atom.Net index) in r))
+  read_inside = All-cons (StaysInside b5) (x, atom.Net index) [] (inside_is b5 f52) (All-nil (StaysInside b5))
+
+  reads_inside : EachAdded (ReadsInside b5) b4.assigns b2.assigns
+  reads_inside =
+      let f43 : Includes b4 b3 = logic.includes in
+      added_joined (ReadsInside b5) b4.assigns b3.assigns b2.assigns f43.assigns
+      (added_weaker (ReadsInside b4) (ReadsInside b5) b4.assigns b3.assigns (λ a. inside_more b5 b4 f54 (right_accesses a.right)) (none_inside b4 b3 logic.reads))
+      (op_inside_in b5 b3 b2 (Word x (atom.Net index)) read read_inside)
+
+  pub line_adds : AddsBuffer b5 b0 (shape ∷ [])
+  line_adds =
+      adds_joined b5 b1 b0 (shape ∷ []) [] (adds_array b1 b2 b4 b5 shape x index stored made (Includes-trans b4 b3 b2 logic.includes f32) (wires_joined b4 b3 b2 logic.wires wired) reads_are put numbered reads_inside (inside_is b5 f52) (line_still b5 x words value word here_is)) counted
 
   -- what the word is made of
   pub word_made : ((base : Holder → Bool) → All (IsMadeOf b3 base) (right_reads (Word x (atom.Net index))) → IsMadeOf b3 base (OfNet word)) → IsMadeOf b5 (is_buffer b5.enable (length b0.arrays) (length b0.arrays + 1)) (OfNet word)

@@ -2,18 +2,20 @@
 use Rattle.std.proofs.Common.{◌≡◌, ℕ, ◌≤◌, List, [], ◌∷◌, ◌++◌, length, Some, sym, ap, subst, ◌∙◌, inl, inr, arith, append-nil}
 use Rattle.std.specs.Prelude.{slice_get}
 use Rattle.std.proofs.lemmas.Option.{slice_get_within}
+use Rattle.std.proofs.lemmas.List.Elements.{All-nil, All-cons}
 use Rattle.wiring.specs.declared.right.Atom.TheVariants as atom
 use Rattle.wiring.specs.declared.netlist.Net.{Net}
 use Rattle.wiring.specs.declared.netlist.Holder.{Holder}
 use Rattle.wiring.specs.declared.netlist.Holder.TheVariants.{OfArray}
 use Rattle.wiring.specs.declared.netlist.Shape.{Shape}
+use Rattle.wiring.specs.declared.netlist.Assign.{Assign}
 use Rattle.wiring.specs.declared.netlist.Update.{Update}
 use Rattle.wiring.specs.declared.netlist.Update.TheVariants.{Set, Put}
 use Rattle.wiring.specs.Netlist.{Netlist, IsState, update_target}
 use Rattle.net_build.specs.Includes.{Includes}
 use Rattle.net_build.specs.Draft.{AddsWires, UpdatedBut, with_array, with_update}
-use Rattle.net_build.specs.Runs.{NeverStops, IsStill, StillBut}
-use Rattle.net_build.specs.Control.{IsControlled, AddsReads}
+use Rattle.net_build.specs.Runs.{StaysInside, IsStill, StillBut}
+use Rattle.net_build.specs.Control.{TakesControl, AddsReads}
 use Rattle.net_build.specs.Counters.{AddsRegister}
 use Rattle.net_build.proofs.Parts.{Includes-trans}
 use Rattle.wiring.proofs.Search.{at_push}
@@ -21,7 +23,9 @@ use Rattle.net_build.proofs.Drafts.{includes_array, includes_update}
 use Rattle.net_build.proofs.Reading.{reads_none, reads_joined, none_reads}
 use Rattle.net_build.proofs.Standing.{still_wires, still_array, still_update, still_said}
 use Rattle.net_build.proofs.Updating.{but_array, but_wires, but_update}
-use Rattle.line_buffer.specs.Buffers.{AddsBuffer, is_new}
+use Rattle.line_buffer.specs.Added.{EachAdded}
+use Rattle.line_buffer.specs.Buffers.{AddsBuffer, ReadsInside, PutsInside, is_new}
+use Rattle.line_buffer.proofs.More.{added_as, added_last, none_inside}
 
 -- the last update is of something new
 only_last : (updates : List Update) (u : Update) (P : Update → Type 0) → (P u → ⊥) → (k : ℕ) (v : Update) → length updates ≤ k → slice_get (updates ++ u ∷ []) k ≡ Some v → P v → ⊥
@@ -38,8 +42,9 @@ adds_register new old width is = record {
   updated = is.updated;
   only = λ k v low at. only_last old.updates (Set (length old.regs) is.next) (λ w. IsState old (update_target w)) (λ state. omega (arith, state)) k v low (subst (λ (us : List Update). slice_get us k ≡ Some v) is.updates at);
   still = is.still;
-  stops = is.stops;
-  control = is.control;
+  control = added_as (TakesControl new) (old.updates ++ Set (length old.regs) is.next ∷ []) new.updates old.updates is.updates (added_last (TakesControl new) old.updates (Set (length old.regs) is.next) is.next_control);
+  reads_inside = none_inside new old is.reads;
+  puts_inside = added_as (PutsInside new) (old.updates ++ Set (length old.regs) is.next ∷ []) new.updates old.updates is.updates (added_last (PutsInside new) old.updates (Set (length old.regs) is.next) (All-nil (StaysInside new)));
   reads = none_reads new old (is_new old) is.reads;
 }
 
@@ -76,14 +81,16 @@ module _ (old b1 b2 b3 : Netlist) (shape : Shape) (x : ℕ) (index value : Net) 
       let grown : StillBut b3 (OfArray (length old.arrays) ∷ free) = subst (λ (b : Netlist). StillBut b (OfArray (length old.arrays) ∷ free)) (sym put) (still_update b2 w (OfArray (length old.arrays) ∷ free) (still_wires b2 b1 (OfArray (length old.arrays) ∷ free) grows wires with)) in
       still_said b3 g free (subst (λ (j : ℕ). IsStill b3 (OfArray j)) numbered own) grown
 
-  pub adds_array : (NeverStops old → NeverStops b3) → (IsControlled old → IsControlled b3) → IsStill b3 (OfArray x) → AddsBuffer b3 old (shape ∷ [])
-  adds_array stops control own = record {
+  pub adds_array : EachAdded (ReadsInside b3) b2.assigns b1.assigns → StaysInside b3 (x, atom.Net index) → IsStill b3 (OfArray x) → AddsBuffer b3 old (shape ∷ [])
+  adds_array inside inside_put own = record {
     includes = f30;
     arrays = arrays_more;
     updated = updated_all;
     only = λ k v low at. only_last old.updates w (λ y. IsState old (update_target y)) (λ state. omega (arith, state, numbered)) k v low (subst (λ (us : List Update). slice_get us k ≡ Some v) updates_more at);
     still = still_all own;
-    stops = stops;
-    control = control;
+    control = added_as (TakesControl b3) (old.updates ++ w ∷ []) b3.updates old.updates updates_more (added_last (TakesControl b3) old.updates w tt);
+    reads_inside = added_as (ReadsInside b3) b2.assigns b3.assigns old.assigns (ap (λ (b : Netlist). b.assigns) put)
+        (subst (λ (xs : List Assign). EachAdded (ReadsInside b3) b2.assigns xs) (ap (λ (b : Netlist). b.assigns) made) inside);
+    puts_inside = added_as (PutsInside b3) (old.updates ++ w ∷ []) b3.updates old.updates updates_more (added_last (PutsInside b3) old.updates w (All-cons (StaysInside b3) (x, atom.Net index) [] inside_put (All-nil (StaysInside b3))));
     reads = reads_joined b3 b2 old (is_new old) f32 (reads_none b3 b2 (is_new old) (ap (λ (b : Netlist). b.assigns) put)) (reads_joined b2 b1 old (is_new old) grows reads (reads_none b1 old (is_new old) (ap (λ (b : Netlist). b.assigns) made)));
   }

@@ -18,13 +18,13 @@ use Rattle.wiring.specs.declared.netlist.Update.{Update}
 use Rattle.wiring.specs.BufferBits.{right_reads}
 use Rattle.wiring.specs.Sizes.{IsWidth, IsConstant}
 use Rattle.wiring.specs.Netlist.{Netlist, net_width, depth}
-use Rattle.wiring.specs.Snapshot.{Contents, Snapshot, net_value, word_value}
+use Rattle.wiring.specs.Snapshot.{Contents, Snapshot, net_value, word_value, right_accesses, update_accesses}
 use Rattle.wiring.specs.Clock.{Clock, bit}
 use Rattle.net_build.specs.Includes.{Includes, InEach}
 use Rattle.net_build.specs.Draft.{IsNet, AddsWires, with_wire}
-use Rattle.net_build.specs.Runs.{IsClockOf, NeverStops, StaysInside}
+use Rattle.net_build.specs.Runs.{IsClockOf, StaysInside}
 use Rattle.net_build.proofs.Runs.{clock_more}
-use Rattle.net_build.specs.Control.{IsMadeOf, by_itself, is_control, IsControl, IsControlled}
+use Rattle.net_build.specs.Control.{IsMadeOf, by_itself, is_control, IsControl, TakesControl}
 use Rattle.std.specs.Option.{option_map}
 use Rattle.line_buffer.proofs.LineMade.{control_buffer, own_array}
 use Rattle.wiring.specs.History.{was_reset}
@@ -39,7 +39,8 @@ use Rattle.net_build.proofs.Updating.{wires_none, wires_joined, but_wires}
 use Rattle.net_build.specs.Logic.{AddsLogic, Computes, IsGate}
 use Rattle.line_buffer.specs.Rings.{behind, AddsTaps, IsRingTap, AreRingTaps, place_worth, IsRing}
 use Rattle.line_buffer.specs.Lines.{IsIndex, IsDelayLine}
-use Rattle.line_buffer.specs.Buffers.{AddsBuffer, is_new, is_buffer}
+use Rattle.line_buffer.specs.Buffers.{AddsBuffer, ReadsInside, PutsInside, is_new, is_buffer}
+use Rattle.line_buffer.proofs.More.{added_same, added_as, added_weaker, added_joined, takes_more, inside_more, none_inside, op_inside_in}
 use Rattle.line_buffer.specs.declared.lines.DelayLine.{DelayLine}
 use Rattle.net_build.proofs.Logic.{Source, net_source, given_source, number_source, source_more, computes_as, binary_computes, choose_computes, first_in}
 use Rattle.net_build.proofs.Counting.{by_bit}
@@ -48,18 +49,17 @@ use Rattle.line_buffer.proofs.Turns.{yes_lt, no_lt, yes_eq, no_eq, behind_below}
 use Rattle.line_buffer.proofs.Turning.{index_more, index_below}
 
 pub taps_none : (b : Netlist) (x : ℕ) → AddsTaps b b x
-taps_none b x = record { includes = Includes-refl b; wires = wires_none b; reads = reads_none b b (λ y. y == x) refl; stops = λ h. h; control = λ h. h }
+taps_none b x = record { includes = Includes-refl b; wires = wires_none b; reads = reads_none b b (λ y. y == x) refl; reads_inside = added_same (ReadsInside b) b.assigns b.assigns refl }
 
 pub taps_logic : (c b : Netlist) (x : ℕ) → AddsLogic c b → AddsTaps c b x
-taps_logic c b x is = record { includes = is.includes; wires = is.wires; reads = none_reads c b (λ y. y == x) is.reads; stops = is.stops; control = is.control }
+taps_logic c b x is = record { includes = is.includes; wires = is.wires; reads = none_reads c b (λ y. y == x) is.reads; reads_inside = none_inside c b is.reads }
 
 pub taps_joined : (c b a : Netlist) (x : ℕ) → AddsTaps c b x → AddsTaps b a x → AddsTaps c a x
 taps_joined c b a x g f = record {
   includes = Includes-trans c b a g.includes f.includes;
   wires = wires_joined c b a g.wires f.wires;
   reads = reads_joined c b a (λ y. y == x) g.includes g.reads f.reads;
-  stops = λ h. g.stops (f.stops h);
-  control = λ h. g.control (f.control h);
+  reads_inside = added_joined (ReadsInside c) c.assigns b.assigns a.assigns g.includes.assigns g.reads_inside (added_weaker (ReadsInside b) (ReadsInside c) b.assigns a.assigns (λ y. inside_more c b g.includes (right_accesses y.right)) f.reads_inside);
 }
 
 -- taps of an array that was added before them
@@ -77,8 +77,9 @@ module _ (c b a : Netlist) (shapes : List Shape) (x : ℕ) (g : AddsTaps c b x) 
     updated = λ free but. but_wires c b free g.wires (f.updated free but);
     only = λ k u low at state. f.only k u low (subst (λ (us : List Update). slice_get us k ≡ Some u) g.wires.updates at) state;
     still = λ free is. still_wires c b free g.includes g.wires (f.still free is);
-    stops = λ h. g.stops (f.stops h);
-    control = λ h. g.control (f.control h);
+    control = added_as (TakesControl c) b.updates c.updates a.updates g.wires.updates (added_weaker (TakesControl b) (TakesControl c) b.updates a.updates (takes_more c b g.includes) f.control);
+    reads_inside = added_joined (ReadsInside c) c.assigns b.assigns a.assigns g.includes.assigns g.reads_inside (added_weaker (ReadsInside b) (ReadsInside c) b.assigns a.assigns (λ y. inside_more c b g.includes (right_accesses y.right)) f.reads_inside);
+    puts_inside = added_as (PutsInside c) b.updates c.updates a.updates g.wires.updates (added_weaker (PutsInside b) (PutsInside c) b.updates a.updates (λ u. inside_more c b g.includes (update_accesses u)) f.puts_inside);
     reads = reads_joined c b a (is_new a) g.includes (reads_weaker c b (λ y. y == x) (is_new a) wider g.reads) f.reads;
   }
 
@@ -145,9 +146,14 @@ module _ (b0 b1 b2 : Netlist) (x words age bits width : ℕ) (index place tap va
       inside_below b2 x place (slice_get_within b2.arrays x shape (at_Begins b0.arrays b2.arrays x shape g20.arrays there))
       (record { below = λ m from before c s clock since. subst (λ (n : ℕ). net_value s place < n) (sym is) (subst (λ (v : ℕ). v < words) (sym (behind_here m from before c s clock since)) (behind_below words age (net_value s index) some (omega (arith, short)) ((index_below b0 words index (omega (arith, short)) counter).below m from before c s (clock_more b2 b0 m from before c s g20 clock) since))) })
 
-  pub behind_taps : (NeverStops b1 → NeverStops b2) → (IsControlled b1 → IsControlled b2) → AddsTaps b2 b0 x
-  behind_taps stops control =
-      taps_joined b2 b1 b0 x (record { includes = f2; wires = wired; reads = reads_word b1 b2 x (atom.Net place) (λ y. y == x) read (same x); stops = stops; control = control }) (taps_logic b1 b0 x logic)
+  pub behind_taps : AddsTaps b2 b0 x
+  behind_taps =
+      taps_joined b2 b1 b0 x (record {
+        includes = f2;
+        wires = wired;
+        reads = reads_word b1 b2 x (atom.Net place) (λ y. y == x) read (same x);
+        reads_inside = op_inside_in b2 b2 b1 (Word x (atom.Net place)) read (All-cons (StaysInside b2) (x, atom.Net place) [] behind_inside (All-nil (StaysInside b2)));
+      }) (taps_logic b1 b0 x logic)
     where
       same : (y : ℕ) → IsTrue (y == y)
       same y = grind arith

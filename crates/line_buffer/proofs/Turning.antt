@@ -22,7 +22,10 @@ use Rattle.net_build.proofs.Fitting.{array_long}
 use Rattle.net_build.proofs.Runs.{AtEachEdge-more, InEachRun-more, clock_contents, reset_shown}
 use Rattle.net_build.specs.Counters.{unless_held, Counts, IsBehindReset, clock_number, control_nets}
 use Rattle.net_build.specs.Control.{is_control, IsControl}
+use Rattle.wiring.specs.declared.right.Right.TheVariants.{Word}
+use Rattle.wiring.specs.declared.netlist.Update.TheVariants.{Put}
 use Rattle.line_buffer.specs.Lines.{IsIndex, IsDelayLine}
+use Rattle.line_buffer.proofs.Filling.{contains_more, index_control_more, right_more, unless_held_more}
 use Rattle.net_build.proofs.Clocks.{now_on, not_reset, number_off, taken_here, by_clock}
 
 -- what an array takes in a clock that is no reset clock
@@ -68,8 +71,12 @@ line_more b a x n from to f is = record {
   deep = is.deep;
   index = is.index;
   counter = index_more b a n is.index f is.counter;
+  control = index_control_more b a is.index f is.control;
+  read = right_more b a to (Word x (atom.Net is.index)) f is.read;
   gives = InEach-more (λ m s. net_value s to ≡ word_value s x (net_value s is.index)) b a f is.gives;
   stored = is.stored;
+  value = unless_held_more b a to from is.stored f is.value;
+  put = contains_more a.updates b.updates (Put x (atom.Net is.index) (atom.Net is.stored)) f.updates is.put;
   takes = λ m s part settled. InEach-more (λ m s. net_value s is.stored ≡ unless_held a.enable (net_value s to) (net_value s from) s) b a f is.takes m s part settled ∙ ap (λ (e : Bool). unless_held e (net_value s to) (net_value s from) s) (sym f.enable);
   edge = AtEachEdge-more (λ (s : Snapshot) (next : Contents). slice_get next.arrays x ≡ Some (slice_set (slice_index_or s.contents.arrays x []) (net_value s is.index) (net_value s is.stored))) b a f is.edge;
 }

@@ -1,18 +1,20 @@
 -- What the buffer of one image owes, in whatever form.
-use Rattle.std.specs.Prelude.{◌≡◌, ℕ, suc, ◌+◌, ◌<◌, ◌≤◌, Bool, false, ◌&&◌, nat_le, nat_lt, IsTrue, List, [], ◌∷◌, ◌++◌, length, slice_get, Some}
+use Rattle.std.specs.Prelude.{◌≡◌, ℕ, suc, ◌+◌, ◌<◌, ◌≤◌, Bool, false, ◌&&◌, nat_le, nat_lt, IsTrue, List, [], ◌∷◌, ◌++◌, length, slice_get, Some, All}
 use Rattle.wiring.specs.declared.netlist.Net.{Net}
 use Rattle.wiring.specs.declared.netlist.Holder.{Holder}
 use Rattle.wiring.specs.declared.netlist.Holder.TheVariants.{OfNet, OfArray}
 use Rattle.wiring.specs.declared.netlist.Shape.{Shape}
+use Rattle.wiring.specs.declared.netlist.Assign.{Assign}
 use Rattle.wiring.specs.declared.netlist.Update.{Update}
 use Rattle.wiring.specs.Netlist.{Netlist, net_width, IsState, update_target}
-use Rattle.wiring.specs.Snapshot.{Contents, Snapshot, IsNext, net_value}
+use Rattle.wiring.specs.Snapshot.{Contents, Snapshot, IsNext, net_value, right_accesses, update_accesses}
 use Rattle.wiring.specs.Clock.{Clock}
 use Rattle.wiring.specs.History.{was_reset, is_held, counted}
 use Rattle.net_build.specs.Includes.{Includes}
 use Rattle.net_build.specs.Draft.{IsNet, UpdatedBut}
-use Rattle.net_build.specs.Runs.{IsClockOf, InEachRun, NeverStops, StillBut}
-use Rattle.net_build.specs.Control.{IsMadeOf, is_control, IsControlled, AddsReads}
+use Rattle.net_build.specs.Runs.{IsClockOf, InEachRun, StaysInside, StillBut}
+use Rattle.net_build.specs.Control.{IsMadeOf, is_control, TakesControl, AddsReads}
+use Rattle.line_buffer.specs.Added.{EachAdded}
 use Rattle.line_buffer.specs.Streams.{IsPixel, BufferIsRight}
 use Rattle.line_buffer.specs.Places.{Place, word_at, depth_of}
 
@@ -20,15 +22,23 @@ use Rattle.line_buffer.specs.Places.{Place, word_at, depth_of}
 abbrev pub is_new : Netlist → ℕ → Bool
 is_new old x = nat_le (length old.arrays) x
 
--- The new netlist has the old one, and arrays of these shapes. What else it has more are wires, which read none but these arrays, and registers, which take in nothing of what came in. Each register and array that it has more is updated, and keeps what it contains in held clocks; no other has an update more.
+-- each access of an assign, or of an update, is inside its array in each clock since a reset
+abbrev pub ReadsInside : Netlist → Assign → Type 0
+ReadsInside b a = All (StaysInside b) (right_accesses a.right)
+
+abbrev pub PutsInside : Netlist → Update → Type 0
+PutsInside b u = All (StaysInside b) (update_accesses u)
+
+-- The new netlist has the old one, and arrays of these shapes. What else it has more are wires and registers. The wires read none but these arrays. Each register takes what is made of rst, en and registers alone, so neither the image's net nor a din goes into one. Each access that is added is inside its array. Each register and array that it has more is updated, and keeps what it contains in held clocks; no other has an update more.
 pub record AddsBuffer (new old : Netlist) (shapes : List Shape) : Type 0 where
   pub includes : Includes new old
   pub arrays : new.arrays ≡ old.arrays ++ shapes
   pub updated : (free : List Holder) → UpdatedBut old free → UpdatedBut new free
   pub only : (k : ℕ) (u : Update) → length old.updates ≤ k → slice_get new.updates k ≡ Some u → IsState old (update_target u) → ⊥
   pub still : (free : List Holder) → StillBut old free → StillBut new free
-  pub stops : NeverStops old → NeverStops new
-  pub control : IsControlled old → IsControlled new
+  pub control : EachAdded (TakesControl new) new.updates old.updates
+  pub reads_inside : EachAdded (ReadsInside new) new.assigns old.assigns
+  pub puts_inside : EachAdded (PutsInside new) new.updates old.updates
   pub reads : AddsReads new old (is_new old)
 
 -- Of an image whose net is `value`, in each run of every module that includes the netlist: in each clock after a reset clock, t being its number, the tap of each age above 0 is the word at its place, once t is at least the age. In a counted clock the words go on being right, of whatever stream whose pixel the net is; in a held clock they stay.

@@ -1,6 +1,8 @@
 pub mod Streams
 pub mod Places
 pub mod Indices
+pub mod Added
+pub mod Fills
 pub mod Buffers
 pub mod Lines
 pub mod Chains

@@ -9,11 +9,12 @@ use Rattle.wiring.specs.Snapshot.{net_value, word_value}
 use Rattle.wiring.specs.History.{was_reset}
 use Rattle.net_build.specs.Includes.{Includes}
 use Rattle.net_build.specs.Draft.{IsNet, AddsWires}
-use Rattle.net_build.specs.Runs.{InEachRun, NeverStops}
-use Rattle.net_build.specs.Control.{IsMadeOf, IsControl, IsControlled, AddsReads}
+use Rattle.net_build.specs.Runs.{InEachRun}
+use Rattle.net_build.specs.Control.{IsMadeOf, IsControl, AddsReads}
 use Rattle.line_buffer.specs.declared.lines.DelayLine.{DelayLine}
 use Rattle.line_buffer.specs.Lines.{IsIndex}
-use Rattle.line_buffer.specs.Buffers.{is_buffer}
+use Rattle.line_buffer.specs.Added.{EachAdded}
+use Rattle.line_buffer.specs.Buffers.{ReadsInside, is_buffer}
 
 -- the place of the word that was written `age` clocks before the one at the index, in a ring of n words
 abbrev pub behind : (n age index : ℕ) → ℕ
@@ -39,8 +40,7 @@ pub record AddsTaps (new old : Netlist) (x : ℕ) : Type 0 where
   pub includes : Includes new old
   pub wires : AddsWires new old
   pub reads : AddsReads new old (λ y. y == x)
-  pub stops : NeverStops old → NeverStops new
-  pub control : IsControlled old → IsControlled new
+  pub reads_inside : EachAdded (ReadsInside new) new.assigns old.assigns
 
 -- a delay line of so many words for an image's net, with an index of so many bits
 pub record IsRing (b : Netlist) (line : DelayLine) (value : Net) (bits words : ℕ) : Type 0 where

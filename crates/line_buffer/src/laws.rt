@@ -8,11 +8,14 @@ ghost use Rattle.wiring.specs.Netlist.{Netlist};
 ghost use Rattle.wiring.specs.BufferBits.{array_bits};
 ghost use Rattle.net_build.specs.Includes.{Includes};
 ghost use Rattle.net_build.specs.Draft.{IsNet};
+ghost use Rattle.net_build.specs.Runs.{NeverStops};
+ghost use Rattle.net_build.specs.Control.{IsControlled};
 ghost use Rattle.net_build.specs.Logic.{AddsLogic};
 ghost use Rattle.net_build.specs.Counters.{AddsRegister};
 ghost use Rattle.line_buffer.specs.Places.{Place, depth_of, ring_shapes, chain_shapes};
 ghost use Rattle.line_buffer.specs.Buffers.{AddsBuffer, IsBuffer, AreMadeOfBuffer};
 ghost use Rattle.line_buffer.specs.Indices.{AreReadOnce};
+ghost use Rattle.line_buffer.specs.Fills.{AreFilled};
 
 /// A law: a buffer has exactly as many bits as its width times its depth.
 pub fn exact_bits()
@@ -20,17 +23,20 @@ pub fn exact_bits()
     ensures chain { (width : ℕ) (ages : List ℕ) → IsStrictlyIncreasing ages → array_bits (chain_shapes width ages) ≡ width * depth_of ages }
 {}
 
-/// A law: what calls add, a buffer after another, with wires and counters between them.
+/// A law: what calls add, a buffer after another, with wires and counters between them. What never stopped goes on so, and what was controlled stays so.
 pub fn buffers_join()
     ensures none { (b : Netlist) → AddsBuffer b b [] }
     ensures logic { (new old : Netlist) → AddsLogic new old → AddsBuffer new old [] }
     ensures register { (new old : Netlist) (width : ℕ) → AddsRegister new old width → AddsBuffer new old [] }
     ensures joined { (c b a : Netlist) (before after : List Shape) → AddsBuffer b a before → AddsBuffer c b after → AddsBuffer c a (before ++ after) }
+    ensures stops { (new old : Netlist) (shapes : List Shape) → AddsBuffer new old shapes → NeverStops old → NeverStops new }
+    ensures control { (new old : Netlist) (shapes : List Shape) → AddsBuffer new old shapes → IsControlled old → IsControlled new }
     ensures once { (c b a : Netlist) (after : List Shape) → AreReadOnce b a → AddsBuffer c b after → AreReadOnce c b → AreReadOnce c a }
 {}
 
 /// A law: a buffer stays one, as the netlist grows.
 pub fn buffers_last()
     ensures buffer { (b a : Netlist) (place : (age t : ℕ) → Place) (ages : List ℕ) (taps : List Net) (value : Net) → Includes b a → IsNet a value → IsBuffer a place ages taps value → IsBuffer b place ages taps value }
+    ensures fills { (b a : Netlist) (first end : ℕ) (value : Net) → Includes b a → AreFilled a first end value → AreFilled b first end value }
     ensures made { (b a : Netlist) (first end : ℕ) (ages : List ℕ) (taps : List Net) → Includes b a → AreMadeOfBuffer a first end ages taps → AreMadeOfBuffer b first end ages taps }
 {}

@@ -1,6 +1,6 @@
 // Delay lines: arrays of which a word is read and then written in each clock.
 
-ghost use Rattle.std.specs.Prelude.{◌≡◌, ◌+◌, ◌-◌, [], ◌∷◌, length, IfOk, OnOk};
+ghost use Rattle.std.specs.Prelude.{◌≡◌, ◌+◌, ◌-◌, [], ◌∷◌, ◌++◌, length, IfOk, OnOk};
 ghost use Rattle.dk_base.specs.Numbers.{bit_count};
 ghost use Rattle.wiring.specs.declared.netlist.Holder.TheVariants.{OfNet};
 ghost use Rattle.wiring.specs.Netlist.{net_width};
@@ -8,12 +8,16 @@ ghost use Rattle.wiring.specs.Sizes.{IsWidth, IsDepth};
 ghost use Rattle.net_build.specs.Includes.{Includes};
 ghost use Rattle.net_build.specs.Draft.{IsNet};
 ghost use Rattle.net_build.specs.Control.{IsMadeOf, IsControl};
+ghost use Rattle.net_build.specs.Logic.{AddsLogic, Computes};
+ghost use Rattle.net_build.specs.Counters.{control_nets, unless_held};
+ghost use Rattle.wiring.specs.Snapshot.{net_value};
 ghost use Rattle.line_buffer.specs.Buffers.{AddsBuffer, is_buffer};
 ghost use Rattle.line_buffer.specs.Indices.{AreReadOnce};
+ghost use Rattle.line_buffer.specs.Fills.{IsUnlessHeld};
 ghost use Rattle.line_buffer.specs.Lines.{IsIndex, IsDelayLine};
 
 use dk_base::OutOfMemory;
-use net_build::{Builder, counter, unless_held};
+use net_build::{Builder, counter};
 use wiring::{Atom, Net, Right};
 
 // An array, its index, and the word that is read there before it is written.
@@ -37,6 +41,25 @@ fn turning_index(b: &mut Builder, words: u32) -> Result<Net, OutOfMemory>
     let last = u64::from(words) - 1;
     let index = counter(b, last)?;
     Ok(index)
+}
+
+// What an array takes: in a held clock the word that is there, and else the net.
+fn stored_net(b: &mut Builder, now: Net, next: Net, bits: u8) -> Result<Net, OutOfMemory>
+    requires now { IsNet b.old now }
+    requires next { IsNet b.old next }
+    requires now_width { net_width b.old now ≡ bits }
+    requires next_width { net_width b.old next ≡ bits }
+    requires bits { IsWidth bits }
+    ensures logic { AddsLogic b.new b.old }
+    ensures net { IfOk result (Computes b.new b.old (control_nets b.old.enable ++ now ∷ (next ∷ [])) bits (λ s. unless_held b.old.enable (net_value s now) (net_value s next) s)) }
+    ensures right { IfOk result (IsUnlessHeld b.new now next) }
+{
+    if b.has_en() {
+        let en = b.en();
+        let net = b.op(Right::Choose(Atom::Net(en), Atom::Net(next), Atom::Net(now)))?;
+        return Ok(net);
+    }
+    Ok(next)
 }
 
 // An array of so many words, at least one: `value`, of `width` bits, goes in at its index, and comes out there so many counted clocks later. The index is 0 in a reset clock and stands in a held one. Fails only where memory is wanting.
@@ -67,7 +90,7 @@ pub fn delay_line(
     b.law();
     let array = b.array(width, words)?;
     let word = b.op(Right::Word(array, Atom::Net(index)))?;
-    let stored = unless_held(b, word, value, width)?;
+    let stored = stored_net(b, word, value, width)?;
     b.put(array, index, stored);
     Ok(DelayLine { array, index, word })
 }

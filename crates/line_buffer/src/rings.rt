@@ -14,6 +14,7 @@ ghost use Rattle.net_build.specs.Control.{IsControl};
 ghost use Rattle.net_build.specs.Logic.{AddsLogic, Computes};
 ghost use Rattle.line_buffer.specs.Places.{depth_of, ring_shapes, ring_place};
 ghost use Rattle.line_buffer.specs.Rings.{place_worth, IsRing, AddsTaps, IsRingTap, AreRingTaps};
+ghost use Rattle.line_buffer.specs.Fills.{AreFilled};
 ghost use Rattle.line_buffer.specs.Buffers.{AddsBuffer, IsBuffer, IsDelay, AreMadeOfBuffer};
 
 use crate::lines::{DelayLine, delay_line};
@@ -170,6 +171,7 @@ fn ring_array(
     ensures adds { OnOk result (AddsBuffer b.new b.old (ring_shapes width ages.now)) }
     ensures buffer { IfOk result (λ taps. IsBuffer b.new (ring_place (length b.old.arrays) ages.now) ages.now taps.items value) }
     ensures made { IfOk result (λ taps. AreMadeOfBuffer b.new (length b.old.arrays) (length b.old.arrays + length (ring_shapes width ages.now)) ages.now taps.items) }
+    ensures fills { OnOk result (AreFilled b.new (length b.old.arrays) (length b.old.arrays + length (ring_shapes width ages.now)) value) }
 {
     let line = delay_line(b, width, words, value)?;
     let count = u64::from(words);
@@ -198,6 +200,7 @@ pub fn ring(
     ensures buffer { IfOk result (λ taps. IsBuffer b.new (ring_place (length b.old.arrays) ages.now) ages.now taps.items value) }
     ensures delay { IfOk result (λ taps. IsDelay b.new (ring_place (length b.old.arrays) ages.now) ages.now taps.items value) }
     ensures made { IfOk result (λ taps. AreMadeOfBuffer b.new (length b.old.arrays) (length b.old.arrays + length (ring_shapes width ages.now)) ages.now taps.items) }
+    ensures fills { OnOk result (AreFilled b.new (length b.old.arrays) (length b.old.arrays + length (ring_shapes width ages.now)) value) }
 {
     let depth = greatest(ages);
     if depth == 0 {

@@ -5,7 +5,7 @@ use Rattle.net_build.proofs.Parts.{Includes-refl, includes_on}
 use Rattle.net_build.proofs.Grown.{width_more}
 use Rattle.line_buffer.specs.Chains.{IsChained}
 use Rattle.line_buffer.proofs.Delayed.{delay_is}
-use Rattle.line_buffer.proofs.Chaining.{chained_none, chained_more, chained_buffer, up_next, below_next}
+use Rattle.line_buffer.proofs.Chaining.{chained_none, chained_more, chained_buffer, chained_fills, up_next, below_next}
 use Rattle.line_buffer.proofs.chains.chain.Goals as goal
 
 pub loop-age-init : goal.loop-age-init
@@ -48,3 +48,8 @@ returns-clause-delay c =
 
 pub returns-clause-once : goal.returns-clause-once
 returns-clause-once c = c.loop-age.invariant.chained.once
+
+pub returns-clause-fills : goal.returns-clause-fills
+returns-clause-fills c =
+    let all = take_all c.loop-age.age-index c.args.ages.now c.loop-age-test.false in
+    chained_fills c.loop-age.b c.args.b.now c.args.width c.args.value c.args.ages.now c.loop-age.nets.items c.loop-age.last (subst (λ ages. IsChained c.loop-age.b c.args.b.now c.args.width c.args.value ages c.loop-age.nets.items c.loop-age.last) all c.loop-age.invariant.chained)

@@ -1,12 +1,10 @@
-use Rattle.std.proofs.Common.{◌∙◌, [], sym, subst, ap}
+use Rattle.std.proofs.Common.{◌∙◌, sym, subst, ap}
 use Rattle.std.specs.Prelude.{unwrap_or}
 use Rattle.std.specs.Option.{option_map}
-use Rattle.std.proofs.lemmas.List.Elements.{All-nil, All-cons}
 use Rattle.wiring.specs.declared.right.Atom.TheVariants as atom
 use Rattle.wiring.specs.declared.netlist.Shape.{Shape}
 use Rattle.wiring.specs.declared.netlist.Holder.TheVariants.{OfNet}
 use Rattle.net_build.specs.Includes.{Includes}
-use Rattle.net_build.specs.Runs.{StaysInside}
 use Rattle.net_build.specs.Control.{IsMadeOf, is_control}
 use Rattle.net_build.proofs.Parts.{includes_on}
 use Rattle.net_build.proofs.Grown.{net_more, width_more}
@@ -14,7 +12,7 @@ use Rattle.net_build.proofs.Operands.{net_operand, operand_more, word_operation}
 use Rattle.net_build.proofs.Control.{made_more}
 use Rattle.line_buffer.proofs.Turning.{index_more}
 use Rattle.line_buffer.proofs.Indexed.{line_once}
-use Rattle.line_buffer.proofs.LineMade.{line_is, first_is, inside_is, line_adds, word_made}
+use Rattle.line_buffer.proofs.LineMade.{line_is, first_is, line_adds, word_made}
 use Rattle.line_buffer.proofs.lines.delay_line.Goals as goal
 
 pub op-requires : goal.op-requires
@@ -22,72 +20,66 @@ op-requires c =
     word_operation c.array.new.self c.in_ok-array.array (atom.Net c.in_ok-index.index) _ (record { width = c.args.width; depth = c.args.words }) c.in_ok-array.ensures.shape c.requires.bits
     (operand_more c.array.new.self c.turning_index.new.b (atom.Net c.in_ok-index.index) _ c.array.ensures.includes (net_operand c.turning_index.new.b c.in_ok-index.index _ c.in_ok-index.ensures.net c.in_ok-index.ensures.width))
 
-pub unless_held-requires-clause-next : goal.unless_held-requires-clause-next
-unless_held-requires-clause-next c = net_more c.op.new.self c.args.b.now (includes_on _ _ _ c.turning_index.ensures.includes (includes_on _ _ _ c.array.ensures.includes c.op.ensures.includes)) c.args.value c.requires.value
+pub stored_net-requires-clause-next : goal.stored_net-requires-clause-next
+stored_net-requires-clause-next c = net_more c.op.new.self c.args.b.now (includes_on _ _ _ c.turning_index.ensures.includes (includes_on _ _ _ c.array.ensures.includes c.op.ensures.includes)) c.args.value c.requires.value
 
-pub unless_held-requires-clause-next_width : goal.unless_held-requires-clause-next_width
-unless_held-requires-clause-next_width c = width_more c.op.new.self c.args.b.now (includes_on _ _ _ c.turning_index.ensures.includes (includes_on _ _ _ c.array.ensures.includes c.op.ensures.includes)) c.args.value c.requires.value.declared ∙ c.requires.width
+pub stored_net-requires-clause-next_width : goal.stored_net-requires-clause-next_width
+stored_net-requires-clause-next_width c = width_more c.op.new.self c.args.b.now (includes_on _ _ _ c.turning_index.ensures.includes (includes_on _ _ _ c.array.ensures.includes c.op.ensures.includes)) c.args.value c.requires.value.declared ∙ c.requires.width
 
 pub put-requires-clause-index : goal.put-requires-clause-index
-put-requires-clause-index c = net_more c.unless_held.new.b c.turning_index.new.b (includes_on _ _ _ c.array.ensures.includes (includes_on _ _ _ c.op.ensures.includes c.unless_held.ensures.logic.includes)) c.in_ok-index.index c.in_ok-index.ensures.net
+put-requires-clause-index c = net_more c.stored_net.new.b c.turning_index.new.b (includes_on _ _ _ c.array.ensures.includes (includes_on _ _ _ c.op.ensures.includes c.stored_net.ensures.logic.includes)) c.in_ok-index.index c.in_ok-index.ensures.net
 
 pub returns-in_err-stored-clause-includes : goal.returns-in_err-stored-clause-includes
-returns-in_err-stored-clause-includes c = includes_on _ _ _ c.turning_index.ensures.includes (includes_on _ _ _ c.array.ensures.includes (includes_on _ _ _ c.op.ensures.includes c.unless_held.ensures.logic.includes))
+returns-in_err-stored-clause-includes c = includes_on _ _ _ c.turning_index.ensures.includes (includes_on _ _ _ c.array.ensures.includes (includes_on _ _ _ c.op.ensures.includes c.stored_net.ensures.logic.includes))
 
 pub returns-clause-includes : goal.returns-clause-includes
-returns-clause-includes c = includes_on _ _ _ c.turning_index.ensures.includes (includes_on _ _ _ c.array.ensures.includes (includes_on _ _ _ c.op.ensures.includes (includes_on _ _ _ c.unless_held.ensures.logic.includes c.put.ensures.includes)))
+returns-clause-includes c = includes_on _ _ _ c.turning_index.ensures.includes (includes_on _ _ _ c.array.ensures.includes (includes_on _ _ _ c.op.ensures.includes (includes_on _ _ _ c.stored_net.ensures.logic.includes c.put.ensures.includes)))
 
 pub returns-clause-array : goal.returns-clause-array
 returns-clause-array c =
-    first_is c.args.b.now c.turning_index.new.b c.array.new.self c.op.new.self c.unless_held.new.b c.put.new.self c.args.width c.args.words c.in_ok-array.array c.in_ok-index.index c.args.value c.in_ok-word.word c.in_ok-stored.stored c.in_ok-index.ensures.adds c.in_ok-index.ensures.index c.in_ok-index.ensures.control c.requires.words.0
-    c.in_ok-array.ensures.ok c.in_ok-array.ensures.number c.in_ok-array.ensures.shape c.array.ensures.includes c.op.ensures.includes c.in_ok-word.ensures.ok c.op.ensures.wires c.in_ok-word.ensures.value c.unless_held.ensures.logic c.in_ok-stored.ensures.net c.put.ensures.includes c.put.ensures.update c.put.ensures.edge
+    first_is c.args.b.now c.turning_index.new.b c.array.new.self c.op.new.self c.stored_net.new.b c.put.new.self c.args.width c.args.words c.in_ok-array.array c.in_ok-index.index c.args.value c.in_ok-word.word c.in_ok-stored.stored c.in_ok-index.ensures.adds c.in_ok-index.ensures.index c.in_ok-index.ensures.control c.requires.words.0
+    c.in_ok-array.ensures.ok c.in_ok-array.ensures.number c.in_ok-array.ensures.shape c.array.ensures.includes c.op.ensures.includes c.in_ok-word.ensures.ok c.op.ensures.wires c.in_ok-word.ensures.value c.stored_net.ensures.logic c.in_ok-stored.ensures.net c.put.ensures.includes c.put.ensures.update c.put.ensures.edge c.in_ok-word.ensures.made c.in_ok-stored.ensures.right
 
 pub returns-clause-line : goal.returns-clause-line
 returns-clause-line c =
-    line_is c.args.b.now c.turning_index.new.b c.array.new.self c.op.new.self c.unless_held.new.b c.put.new.self c.args.width c.args.words c.in_ok-array.array c.in_ok-index.index c.args.value c.in_ok-word.word c.in_ok-stored.stored c.in_ok-index.ensures.adds c.in_ok-index.ensures.index c.in_ok-index.ensures.control c.requires.words.0
-    c.in_ok-array.ensures.ok c.in_ok-array.ensures.number c.in_ok-array.ensures.shape c.array.ensures.includes c.op.ensures.includes c.in_ok-word.ensures.ok c.op.ensures.wires c.in_ok-word.ensures.value c.unless_held.ensures.logic c.in_ok-stored.ensures.net c.put.ensures.includes c.put.ensures.update c.put.ensures.edge
+    line_is c.args.b.now c.turning_index.new.b c.array.new.self c.op.new.self c.stored_net.new.b c.put.new.self c.args.width c.args.words c.in_ok-array.array c.in_ok-index.index c.args.value c.in_ok-word.word c.in_ok-stored.stored c.in_ok-index.ensures.adds c.in_ok-index.ensures.index c.in_ok-index.ensures.control c.requires.words.0
+    c.in_ok-array.ensures.ok c.in_ok-array.ensures.number c.in_ok-array.ensures.shape c.array.ensures.includes c.op.ensures.includes c.in_ok-word.ensures.ok c.op.ensures.wires c.in_ok-word.ensures.value c.stored_net.ensures.logic c.in_ok-stored.ensures.net c.put.ensures.includes c.put.ensures.update c.put.ensures.edge c.in_ok-word.ensures.made c.in_ok-stored.ensures.right
 
 pub returns-clause-adds : goal.returns-clause-adds
 returns-clause-adds c =
-    let inside = inside_is c.args.b.now c.turning_index.new.b c.array.new.self c.op.new.self c.unless_held.new.b c.put.new.self c.args.width c.args.words c.in_ok-array.array c.in_ok-index.index c.args.value c.in_ok-word.word c.in_ok-stored.stored c.in_ok-index.ensures.adds c.in_ok-index.ensures.index c.in_ok-index.ensures.control c.requires.words.0
-    c.in_ok-array.ensures.ok c.in_ok-array.ensures.number c.in_ok-array.ensures.shape c.array.ensures.includes c.op.ensures.includes c.in_ok-word.ensures.ok c.op.ensures.wires c.in_ok-word.ensures.value c.unless_held.ensures.logic c.in_ok-stored.ensures.net c.put.ensures.includes c.put.ensures.update c.put.ensures.edge in
-    let f52 : Includes c.put.new.self c.array.new.self = includes_on _ _ _ c.op.ensures.includes (includes_on _ _ _ c.unless_held.ensures.logic.includes c.put.ensures.includes) in
-    let read : StaysInside c.op.new.self (c.in_ok-array.array, atom.Net c.in_ok-index.index) = inside c.op.new.self c.op.ensures.includes in
-    line_adds c.args.b.now c.turning_index.new.b c.array.new.self c.op.new.self c.unless_held.new.b c.put.new.self c.args.width c.args.words c.in_ok-array.array c.in_ok-index.index c.args.value c.in_ok-word.word c.in_ok-stored.stored c.in_ok-index.ensures.adds c.in_ok-index.ensures.index c.in_ok-index.ensures.control c.requires.words.0
-    c.in_ok-array.ensures.ok c.in_ok-array.ensures.number c.in_ok-array.ensures.shape c.array.ensures.includes c.op.ensures.includes c.in_ok-word.ensures.ok c.op.ensures.wires c.in_ok-word.ensures.value c.unless_held.ensures.logic c.in_ok-stored.ensures.net c.put.ensures.includes c.put.ensures.update c.put.ensures.edge
-    (λ h. c.put.ensures.stops (c.unless_held.ensures.logic.stops (c.op.ensures.stops (c.array.ensures.stops h) (All-cons (StaysInside c.op.new.self) (c.in_ok-array.array, atom.Net c.in_ok-index.index) [] read (All-nil (StaysInside c.op.new.self))))) (inside c.put.new.self f52))
-    (λ h. c.put.ensures.control (c.unless_held.ensures.logic.control (c.op.ensures.control (c.array.ensures.control h))))
+    line_adds c.args.b.now c.turning_index.new.b c.array.new.self c.op.new.self c.stored_net.new.b c.put.new.self c.args.width c.args.words c.in_ok-array.array c.in_ok-index.index c.args.value c.in_ok-word.word c.in_ok-stored.stored c.in_ok-index.ensures.adds c.in_ok-index.ensures.index c.in_ok-index.ensures.control c.requires.words.0
+    c.in_ok-array.ensures.ok c.in_ok-array.ensures.number c.in_ok-array.ensures.shape c.array.ensures.includes c.op.ensures.includes c.in_ok-word.ensures.ok c.op.ensures.wires c.in_ok-word.ensures.value c.stored_net.ensures.logic c.in_ok-stored.ensures.net c.put.ensures.includes c.put.ensures.update c.put.ensures.edge c.in_ok-word.ensures.made c.in_ok-stored.ensures.right
 
 pub returns-clause-made : goal.returns-clause-made
 returns-clause-made c =
-    word_made c.args.b.now c.turning_index.new.b c.array.new.self c.op.new.self c.unless_held.new.b c.put.new.self c.args.width c.args.words c.in_ok-array.array c.in_ok-index.index c.args.value c.in_ok-word.word c.in_ok-stored.stored c.in_ok-index.ensures.adds c.in_ok-index.ensures.index c.in_ok-index.ensures.control c.requires.words.0
-    c.in_ok-array.ensures.ok c.in_ok-array.ensures.number c.in_ok-array.ensures.shape c.array.ensures.includes c.op.ensures.includes c.in_ok-word.ensures.ok c.op.ensures.wires c.in_ok-word.ensures.value c.unless_held.ensures.logic c.in_ok-stored.ensures.net c.put.ensures.includes c.put.ensures.update c.put.ensures.edge
+    word_made c.args.b.now c.turning_index.new.b c.array.new.self c.op.new.self c.stored_net.new.b c.put.new.self c.args.width c.args.words c.in_ok-array.array c.in_ok-index.index c.args.value c.in_ok-word.word c.in_ok-stored.stored c.in_ok-index.ensures.adds c.in_ok-index.ensures.index c.in_ok-index.ensures.control c.requires.words.0
+    c.in_ok-array.ensures.ok c.in_ok-array.ensures.number c.in_ok-array.ensures.shape c.array.ensures.includes c.op.ensures.includes c.in_ok-word.ensures.ok c.op.ensures.wires c.in_ok-word.ensures.value c.stored_net.ensures.logic c.in_ok-stored.ensures.net c.put.ensures.includes c.put.ensures.update c.put.ensures.edge c.in_ok-word.ensures.made c.in_ok-stored.ensures.right
     c.in_ok-word.ensures.made_of
 
 pub returns-clause-word : goal.returns-clause-word
-returns-clause-word c = net_more c.put.new.self c.op.new.self (includes_on _ _ _ c.unless_held.ensures.logic.includes c.put.ensures.includes) c.in_ok-word.word c.in_ok-word.ensures.net
+returns-clause-word c = net_more c.put.new.self c.op.new.self (includes_on _ _ _ c.stored_net.ensures.logic.includes c.put.ensures.includes) c.in_ok-word.word c.in_ok-word.ensures.net
 
 pub returns-clause-word_width : goal.returns-clause-word_width
 returns-clause-word_width c =
-    width_more c.put.new.self c.op.new.self (includes_on _ _ _ c.unless_held.ensures.logic.includes c.put.ensures.includes) c.in_ok-word.word c.in_ok-word.ensures.net.declared
+    width_more c.put.new.self c.op.new.self (includes_on _ _ _ c.stored_net.ensures.logic.includes c.put.ensures.includes) c.in_ok-word.word c.in_ok-word.ensures.net.declared
     ∙ c.in_ok-word.ensures.width
     ∙ ap (λ o. unwrap_or (option_map (λ (s : Shape). s.width) o) 0) c.in_ok-array.ensures.shape
 
 pub returns-clause-index : goal.returns-clause-index
-returns-clause-index c = index_more c.put.new.self c.turning_index.new.b c.args.words c.in_ok-index.index (includes_on _ _ _ c.array.ensures.includes (includes_on _ _ _ c.op.ensures.includes (includes_on _ _ _ c.unless_held.ensures.logic.includes c.put.ensures.includes))) c.in_ok-index.ensures.index
+returns-clause-index c = index_more c.put.new.self c.turning_index.new.b c.args.words c.in_ok-index.index (includes_on _ _ _ c.array.ensures.includes (includes_on _ _ _ c.op.ensures.includes (includes_on _ _ _ c.stored_net.ensures.logic.includes c.put.ensures.includes))) c.in_ok-index.ensures.index
 
 pub returns-clause-index_net : goal.returns-clause-index_net
-returns-clause-index_net c = net_more c.put.new.self c.turning_index.new.b (includes_on _ _ _ c.array.ensures.includes (includes_on _ _ _ c.op.ensures.includes (includes_on _ _ _ c.unless_held.ensures.logic.includes c.put.ensures.includes))) c.in_ok-index.index c.in_ok-index.ensures.net
+returns-clause-index_net c = net_more c.put.new.self c.turning_index.new.b (includes_on _ _ _ c.array.ensures.includes (includes_on _ _ _ c.op.ensures.includes (includes_on _ _ _ c.stored_net.ensures.logic.includes c.put.ensures.includes))) c.in_ok-index.index c.in_ok-index.ensures.net
 
 pub returns-clause-index_width : goal.returns-clause-index_width
-returns-clause-index_width c = width_more c.put.new.self c.turning_index.new.b (includes_on _ _ _ c.array.ensures.includes (includes_on _ _ _ c.op.ensures.includes (includes_on _ _ _ c.unless_held.ensures.logic.includes c.put.ensures.includes))) c.in_ok-index.index c.in_ok-index.ensures.net.declared ∙ c.in_ok-index.ensures.width
+returns-clause-index_width c = width_more c.put.new.self c.turning_index.new.b (includes_on _ _ _ c.array.ensures.includes (includes_on _ _ _ c.op.ensures.includes (includes_on _ _ _ c.stored_net.ensures.logic.includes c.put.ensures.includes))) c.in_ok-index.index c.in_ok-index.ensures.net.declared ∙ c.in_ok-index.ensures.width
 
 pub returns-clause-index_control : goal.returns-clause-index_control
 returns-clause-index_control c =
-    let f : Includes c.put.new.self c.turning_index.new.b = includes_on _ _ _ c.array.ensures.includes (includes_on _ _ _ c.op.ensures.includes (includes_on _ _ _ c.unless_held.ensures.logic.includes c.put.ensures.includes)) in
+    let f : Includes c.put.new.self c.turning_index.new.b = includes_on _ _ _ c.array.ensures.includes (includes_on _ _ _ c.op.ensures.includes (includes_on _ _ _ c.stored_net.ensures.logic.includes c.put.ensures.includes)) in
     subst (λ e. IsMadeOf c.put.new.self (is_control e) (OfNet c.in_ok-index.index)) (sym f.enable) (made_more c.put.new.self c.turning_index.new.b (is_control c.turning_index.new.b.enable) f c.in_ok-index.ensures.control)
 
 pub returns-clause-once : goal.returns-clause-once
 returns-clause-once c =
-    line_once c.args.b.now c.turning_index.new.b c.array.new.self c.op.new.self c.unless_held.new.b c.put.new.self (record { width = c.args.width; depth = c.args.words }) c.in_ok-array.array c.in_ok-index.index c.in_ok-stored.stored c.in_ok-word.word c.in_ok-index.ensures.adds c.law.ensures.draft
-    c.in_ok-array.ensures.number c.in_ok-array.ensures.ok c.in_ok-array.ensures.free c.in_ok-word.ensures.made c.in_ok-word.ensures.ok c.op.ensures.wires c.unless_held.ensures.logic c.put.ensures.update
+    line_once c.args.b.now c.turning_index.new.b c.array.new.self c.op.new.self c.stored_net.new.b c.put.new.self (record { width = c.args.width; depth = c.args.words }) c.in_ok-array.array c.in_ok-index.index c.in_ok-stored.stored c.in_ok-word.word c.in_ok-index.ensures.adds c.law.ensures.draft
+    c.in_ok-array.ensures.number c.in_ok-array.ensures.ok c.in_ok-array.ensures.free c.in_ok-word.ensures.made c.in_ok-word.ensures.ok c.op.ensures.wires c.stored_net.ensures.logic c.put.ensures.update

@@ -1,5 +1,5 @@
 use Rattle.std.proofs.Common.{◌∙◌, sym}
-use Rattle.line_buffer.proofs.Building.{still_adds, still_made}
+use Rattle.line_buffer.proofs.Building.{still_adds, still_made, still_fills}
 use Rattle.line_buffer.proofs.Ringed.{still_is}
 use Rattle.line_buffer.proofs.Delayed.{delay_is}
 use Rattle.line_buffer.proofs.rings.ring.Goals as goal
@@ -20,3 +20,6 @@ returns-then-depth-eq0-clause-made c = still_made c.args.b.now _ _ c.args.ages.n
 
 pub returns-clause-delay : goal.returns-clause-delay
 returns-clause-delay c = delay_is c.ring_array.new.b _ c.args.ages.now c.in_ok-taps.taps.items c.args.value c.requires.ascending c.in_ok-taps.ensures.buffer
+
+pub returns-then-depth-eq0-clause-fills : goal.returns-then-depth-eq0-clause-fills
+returns-then-depth-eq0-clause-fills c = still_fills c.args.b.now _ c.args.width c.args.ages.now c.args.value (sym c.greatest-depth.ensures.depth ∙ c.if-depth-eq0.true)

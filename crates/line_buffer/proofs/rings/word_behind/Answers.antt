@@ -1,15 +1,13 @@
-use Rattle.std.proofs.Common.{◌≡◌, ◌∙◌, [], ap, sym, subst, Some}
+use Rattle.std.proofs.Common.{◌≡◌, ◌∙◌, ap, sym, subst, Some}
 use Rattle.std.specs.Prelude.{slice_get, unwrap_or}
 use Rattle.std.specs.Option.{option_map}
-use Rattle.std.proofs.lemmas.List.Elements.{All-nil, All-cons}
 use Rattle.wiring.specs.declared.right.Atom.TheVariants as atom
 use Rattle.wiring.specs.declared.netlist.Shape.{Shape}
-use Rattle.net_build.specs.Runs.{StaysInside}
 use Rattle.net_build.proofs.Parts.{includes_on, at_Begins}
 use Rattle.net_build.proofs.Grown.{width_more}
 use Rattle.net_build.proofs.Operands.{net_operand, word_operation}
 use Rattle.line_buffer.specs.Rings.{AddsTaps}
-use Rattle.line_buffer.proofs.Tapping.{behind_inside, behind_taps, behind_tap, taps_logic}
+use Rattle.line_buffer.proofs.Tapping.{behind_taps, behind_tap, taps_logic}
 use Rattle.line_buffer.proofs.rings.word_behind.Goals as goal
 
 pub returns-in_err-place-clause-taps : goal.returns-in_err-place-clause-taps
@@ -27,9 +25,7 @@ returns-in_err-word-clause-taps c = subst (λ n. AddsTaps n c.args.b.now c.args.
 pub returns-clause-taps : goal.returns-clause-taps
 returns-clause-taps c =
     let r = c.requires.ring in
-    let inside = behind_inside c.args.b.now c.index_behind.new.b c.op.new.self c.args.line.array c.args.words c.args.age c.args.bits r.shape.width c.args.line.index c.in_ok-place.place c.in_ok-word.word c.args.value r.shape c.index_behind.ensures.logic c.op.ensures.includes c.op.ensures.wires c.requires.some c.requires.short r.fits r.there r.deep r.counter r.control c.in_ok-place.ensures.net c.in_ok-word.ensures.ok c.in_ok-word.ensures.value in
     behind_taps c.args.b.now c.index_behind.new.b c.op.new.self c.args.line.array c.args.words c.args.age c.args.bits r.shape.width c.args.line.index c.in_ok-place.place c.in_ok-word.word c.args.value r.shape c.index_behind.ensures.logic c.op.ensures.includes c.op.ensures.wires c.requires.some c.requires.short r.fits r.there r.deep r.counter r.control c.in_ok-place.ensures.net c.in_ok-word.ensures.ok c.in_ok-word.ensures.value
-    (λ h. c.op.ensures.stops h (All-cons (StaysInside c.op.new.self) (c.args.line.array, atom.Net c.in_ok-place.place) [] inside (All-nil (StaysInside c.op.new.self)))) c.op.ensures.control
 
 pub returns-clause-tap : goal.returns-clause-tap
 returns-clause-tap c =
