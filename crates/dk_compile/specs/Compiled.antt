@@ -14,7 +14,8 @@ use Rattle.flow_dual.specs.Solutions.{IsSolution}
 use Rattle.buffer_plan.specs.Plans.{Plan, IsPlan, bits_of}
 use Rattle.line_buffer.specs.Indices.{IsReadOnce}
 use Rattle.circuit.specs.Forms.{chain_shapes_of, chain_places, shapes_of}
-use Rattle.circuit.specs.Behaviour.{HasPorts, Behaves, IsApart}
+use Rattle.circuit.specs.Behaviour.{HasPorts, Behaves}
+use Rattle.circuit.specs.Nets.{AreNetsOf, IsApart}
 use Rattle.circuit.specs.Driven.{Drives}
 use Rattle.verilog_text.specs.Stands.{StandsFor}
 use Rattle.dk_compile.specs.Limits.{HasSystem}
@@ -40,6 +41,9 @@ pub record IsCircuitOf (p : Program) (plan : Plan) (enable : Bool) (m : Netlist)
   pub arrays : m.arrays ≡ shapes_of chain_shapes_of plan plan.system.stencils.images
   -- each array is read once and put once, at one index
   pub once : (x : ℕ) → x < length m.arrays → IsReadOnce (read_indices m x) (put_indices m x)
+  -- the nets are the module's: what the douts show, and what goes into the chains' arrays
+  pub nets_are : AreNetsOf m p plan chain_shapes_of nets
+  -- at an age of at least 1 no path of gates passes through two images
   pub apart : IsApart m p plan chain_shapes_of nets
 
 -- the text stands for the module and for no other

@@ -1,8 +1,8 @@
 // What the definitions say together.
 
-ghost use Rattle.std.specs.Prelude.{◌≡◌, ◌⊎◌, ℕ, ◌+◌, ◌-◌, ◌*◌, ◌<◌, ◌≤◌, List, length, map, All, unsigned_abs};
+ghost use Rattle.std.specs.Prelude.{◌≡◌, ◌⊎◌, ℕ, ◌+◌, ◌-◌, ◌*◌, ◌<◌, ◌≤◌, min, List, length, map, take, All, unsigned_abs};
 ghost use Rattle.std.specs.List.{flat_map, range_with_len};
-ghost use Rattle.dk_base.specs.Frames.{Size, Picture, area, pixel_of, raster};
+ghost use Rattle.dk_base.specs.Frames.{Size, Picture, area, pixel_of, raster, picture_at};
 ghost use Rattle.dk_base.specs.Stencils.{Stencils};
 ghost use Rattle.dk_types.specs.Typed.{Typing};
 ghost use Rattle.pointwise_ir.specs.Programs.{Program};
@@ -18,7 +18,7 @@ ghost use Rattle.wiring.specs.Runs.{Runs, picture};
 ghost use Rattle.raster_delay.specs.Systems.{System};
 ghost use Rattle.flow_dual.specs.declared.solution.Solution.{Solution};
 ghost use Rattle.buffer_plan.specs.Plans.{Plan, latency_of};
-ghost use Rattle.circuit.specs.Rounds.{Rounds, AreRounds, pixel, pixel_count};
+ghost use Rattle.circuit.specs.Rounds.{Rounds, AreRounds, pixel, pixel_count, pictures_in};
 ghost use Rattle.circuit.specs.Driven.{Drives, Agree, driven, input_widths, output_at};
 
 /// A law: a text is that of one program at most; one that is accepted has no fault; and two faults of a text are one. Each text is accepted or has a fault. What has a form and stencils within the limits is accepted, and the stencils of any form have the program's own live reads.
@@ -49,9 +49,17 @@ pub fn one_at_age()
 }
 
 /// A law: an output's picture of a drive is its pixels in raster order, counted on through the rounds, as many as there are clocks behind its latency; and pixels that are counted on through pictures are these pictures' rasters, one after another.
+///
+/// A drive may go on after an output's last pixel, as it does for each output that is earlier than the latest one. Its `valid` stays 1 to the end. The first samples at which it is 1, as many as the rounds have pixels, are still the output's pixels (`first`), and its pictures where the drive is long enough (`whole`). Later samples are no pixels.
 pub fn drive_shows()
     ensures picture { (m : Netlist) (p : Program) (plan : Plan) → Drives m p plan → (from to : Contents) (dins : List (List ℕ)) (shots : List Snapshot) → FitsContents m from → All (Fit (input_widths p)) dins
         → Runs m from (driven (length p.inputs) dins) shots to → (rounds : Rounds) → AreRounds p rounds → Agree p rounds dins → (k : ℕ) → k < length p.outputs → length dins ≤ pixel_count p rounds + latency_of plan k
         → picture k shots ≡ map (λ q. unsigned_abs (pixel p rounds (output_at p k) q)) (range_with_len 0 (length dins - latency_of plan k)) }
+    ensures first { (m : Netlist) (p : Program) (plan : Plan) → Drives m p plan → (from to : Contents) (dins : List (List ℕ)) (shots : List Snapshot) → FitsContents m from → All (Fit (input_widths p)) dins
+        → Runs m from (driven (length p.inputs) dins) shots to → (rounds : Rounds) → AreRounds p rounds → Agree p rounds dins → (k : ℕ) → k < length p.outputs
+        → take (pixel_count p rounds) (picture k shots) ≡ map (λ q. unsigned_abs (pixel p rounds (output_at p k) q)) (range_with_len 0 (min (pixel_count p rounds) (length dins - latency_of plan k))) }
+    ensures whole { (m : Netlist) (p : Program) (plan : Plan) → Drives m p plan → (from to : Contents) (dins : List (List ℕ)) (shots : List Snapshot) → FitsContents m from → All (Fit (input_widths p)) dins
+        → Runs m from (driven (length p.inputs) dins) shots to → (rounds : Rounds) → AreRounds p rounds → Agree p rounds dins → (k : ℕ) → k < length p.outputs → pixel_count p rounds + latency_of plan k ≤ length dins
+        → take (pixel_count p rounds) (picture k shots) ≡ flat_map (λ r. raster p.size (picture_at (pictures_in p rounds r) (output_at p k))) (range_with_len 0 (length rounds)) }
     ensures rasters { (size : Size) (pictures : ℕ → Picture) (n : ℕ) → map (λ q. unsigned_abs (pixel_of size pictures q)) (range_with_len 0 (n * area size)) ≡ flat_map (λ k. raster size (pictures k)) (range_with_len 0 n) }
 {}

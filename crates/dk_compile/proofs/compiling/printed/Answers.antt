@@ -15,6 +15,7 @@ returns-clause-circuit c =
       bits = is.bits;
       arrays = is.arrays;
       once = is.property;
+      nets_are = is.nets;
       apart = is.apart;
     }
 
