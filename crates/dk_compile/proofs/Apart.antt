@@ -1,5 +1,5 @@
 -- A text that is accepted has no fault.
-use Rattle.std.proofs.Common.{◌≡◌, ℕ, List, subst, refl, arith}
+use Rattle.std.proofs.Common.{◌≡◌, ℕ, List, subst, arith}
 use Rattle.dk_lexer.specs.declared.token.Token.{Token}
 use Rattle.dk_lexer.specs.declared.fault.LexFault.{LexFault}
 use Rattle.dk_lexer.specs.Lexis.{HasTokens, HasFault}
