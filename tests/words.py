@@ -34,6 +34,7 @@ WORDS = [
 # The pages that have none of these words. The list grows.
 DONE = """
 docs/HARDWARE.md
+docs/LANGUAGE.md
 """.split()
 
 
