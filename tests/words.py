@@ -35,6 +35,7 @@ WORDS = [
 DONE = """
 docs/HARDWARE.md
 docs/LANGUAGE.md
+docs/PGM.md
 """.split()
 
 
