@@ -36,6 +36,7 @@ DONE = """
 docs/HARDWARE.md
 docs/LANGUAGE.md
 docs/PGM.md
+docs/REPORT.md
 """.split()
 
 
