@@ -37,6 +37,7 @@ docs/HARDWARE.md
 docs/LANGUAGE.md
 docs/PGM.md
 docs/REPORT.md
+docs/VERILOG.md
 """.split()
 
 
