@@ -38,6 +38,7 @@ docs/LANGUAGE.md
 docs/PGM.md
 docs/REPORT.md
 docs/VERILOG.md
+docs/CIRCUIT.md
 """.split()
 
 
