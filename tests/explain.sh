@@ -65,7 +65,7 @@ usage_fault() {
 # taken WORD..: nothing is wrong in these words as far as the script can tell
 taken() {
     says 2 "$usage" "$@" <<'end'
-Each word must be UTF-8.
+This script finds no wrong word.
 end
 }
 
@@ -338,13 +338,16 @@ end
 usage_fault plan copy.dk "$(printf 'a\\n\033[31m')" <<'end'
 `a\n?[31m` is one word too many. plan expects PROG.
 end
-usage_fault plan "$(printf '\377')" <<'end'
-Each word must be UTF-8.
+usage_fault plan "$(printf 'a\377')" <<'end'
+`a?` is not UTF-8.
+end
+usage_fault plan "$(printf '\303')" <<'end'
+`?` is not UTF-8.
 end
 taken run -- -a i.pgm o.pgm
 taken run - i.pgm o.pgm
 taken run p.dk --age 01 i.pgm -- -o
-taken run run plan out
+taken run run plan "$(printf '\303\251 \033\302\233 \360\235\204\236')"
 taken check p.dk p.dk
 taken sim v.v 4 i.pgm 4 --hold=1000000 --fill ones
 taken plan -- --age

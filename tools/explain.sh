@@ -18,7 +18,7 @@ explain() (
     shift 2
     read_words "$@"
     case $status in
-    2) put "${wrong:-Each word must be UTF-8.}" ;;
+    2) explain_usage "$@" ;;
     3 | 4 | 5 | 6 | 10) explain_fault ;;
     7) explain_read ;;
     8) explain_write ;;
@@ -30,6 +30,13 @@ explain() (
 # put WORD: writes a line; `echo` would read the backslashes in it.
 put() {
     printf '%s\n' "$1"
+}
+
+explain_usage() {
+    for word in "$@"; do
+        is_utf8 "$word" || note_wrong "$(quoted "$word") is not UTF-8."
+    done
+    put "${wrong:-This script finds no wrong word.}"
 }
 
 # Faults of files.
@@ -175,12 +182,20 @@ shown_word() {
     [ "${#1}" -le 200 ] || printf ' ..'
 }
 
+is_utf8() {
+    [ -z "$(printf '%s' "$1" | {
+        shown >/dev/null
+        printf '%s' "$spoiled"
+    })" ]
+}
+
 # Standard input as a terminal can show it: without ends of lines, and with `?` for each other control character but tab,
 # for each byte that is not part of a character of UTF-8, and for characters that reorder a line or have no width.
 shown() {
     held=
     held_bytes=
     clean=
+    spoiled=
     for byte in $(od -A n -v -t o1); do
         take_byte "$byte"
     done
@@ -199,12 +214,15 @@ take_byte() {
     30[2-7] | 3[1-5]? | 36[0-4] | 3402[4-7]? | 34[1-7]2?? | 35[0-467]2?? | 3552[0-3]? | 3602[2-7]? | 36[1-3]2?? | 3642[01]? | 36?2??2??)
         held=$held$1 held_bytes="$held_bytes\\0$1"
         ;;
+    [23]??) clean="$clean?" spoiled=yes ;;
     ???) clean="$clean?" ;;
     *) drop_held && take_byte "$1" ;;
     esac
 }
 
+# drop_held: these bytes are the beginning of a character that does not go on.
 drop_held() {
+    spoiled=$spoiled$held
     case ${#held} in
     3) clean="$clean?" ;;
     6) clean="$clean??" ;;
