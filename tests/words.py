@@ -39,6 +39,7 @@ docs/PGM.md
 docs/REPORT.md
 docs/VERILOG.md
 docs/CIRCUIT.md
+docs/DECISIONS.md
 """.split()
 
 
