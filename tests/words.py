@@ -40,6 +40,7 @@ docs/REPORT.md
 docs/VERILOG.md
 docs/CIRCUIT.md
 docs/DECISIONS.md
+tests/README.md
 """.split()
 
 
