@@ -41,6 +41,7 @@ docs/VERILOG.md
 docs/CIRCUIT.md
 docs/DECISIONS.md
 tests/README.md
+examples/README.md
 """.split()
 
 
