@@ -42,6 +42,7 @@ docs/CIRCUIT.md
 docs/DECISIONS.md
 tests/README.md
 examples/README.md
+docs/BENCH.md
 """.split()
 
 
