@@ -9,6 +9,8 @@ use Rattle.dk_base.specs.Types.{width_of as bits_of_type}
 use Rattle.dk_base.specs.Stencils.{place}
 use Rattle.dk_base.proofs.Orders.{number_at, at_place, place_at, kept_at}
 use Rattle.raster_delay.specs.Systems.{depth}
+use Rattle.wiring.specs.declared.right.Atom.TheVariants as atom
+use Rattle.wiring.specs.declared.right.Right.TheVariants.{Copy}
 use Rattle.wiring.specs.declared.netlist.Net.{Net}
 use Rattle.wiring.specs.declared.netlist.Net.TheVariants.{Input, Output}
 use Rattle.wiring.specs.declared.netlist.Holder.TheVariants.{OfNet, OfArray}
@@ -18,13 +20,14 @@ use Rattle.wiring.specs.Snapshot.{Contents, Snapshot, net_value}
 use Rattle.wiring.specs.Clock.{Clock, bit}
 use Rattle.wiring.specs.History.{was_reset, counted}
 use Rattle.net_build.specs.Includes.{Includes, InEach}
-use Rattle.net_build.specs.Draft.{UpdatesDiffer, flat}
+use Rattle.net_build.specs.Draft.{IsNet, UpdatesDiffer, flat}
 use Rattle.net_build.specs.Runs.{IsClockOf, InEachRun, IsWhole, RunsOn}
 use Rattle.net_build.specs.Control.{IsMadeOf, AddsReads}
 use Rattle.net_build.specs.Indices.{read_indices, put_indices}
 use Rattle.net_build.proofs.Parts.{Includes-refl}
 use Rattle.net_build.proofs.Runs.{clock_more}
-use Rattle.net_build.proofs.Control.{made_more}
+use Rattle.net_build.proofs.Grown.{net_more, width_more}
+use Rattle.net_build.proofs.Control.{made_more, made_wire, made_net}
 use Rattle.net_build.proofs.Reading.{outputs_read}
 use Rattle.net_build.proofs.Indexed.{reads_last, puts_last}
 use Rattle.net_build.proofs.Updating.{all_updated}
@@ -39,9 +42,12 @@ use Rattle.line_buffer.specs.Places.{word_at}
 use Rattle.line_buffer.proofs.Ages.{age_within}
 use Rattle.circuit.specs.Rounds.{Rounds, AreRounds, Feeds, type_at, pixel_bits, pixel_count}
 use Rattle.circuit.specs.Taps.{Keeps, taps_at}
-use Rattle.circuit.specs.Forms.{Shapes, Places, Property, shapes_of, first_array}
+use Rattle.line_buffer.specs.Fills.{HasRight, AreFilled}
+use Rattle.line_buffer.proofs.Filling.{fills_more}
+use Rattle.circuit.specs.Forms.{Shapes, Places, Property, shapes_of, first_array, end_array}
 use Rattle.circuit.specs.Images.{IsLine, AreBuilt, source_of}
-use Rattle.circuit.specs.Behaviour.{net_of, is_valid, ShowsPixels, Behaves, HasPorts, IsApart}
+use Rattle.circuit.specs.Behaviour.{net_of, is_valid, ShowsPixels, Behaves, HasPorts}
+use Rattle.circuit.specs.Nets.{AreNetsOf, IsApart}
 use Rattle.circuit.specs.Ends.{output_in, CanEnd, IsClosed}
 use Rattle.circuit.proofs.Streamed.{Line, Streams, AreImages}
 use Rattle.circuit.proofs.Horizons.{horizon}
@@ -49,7 +55,8 @@ use Rattle.circuit.proofs.Feeding.{feeds_earlier, input_right, whole_nets}
 use Rattle.circuit.proofs.Bits.{shapes_bits}
 use Rattle.circuit.proofs.Building.{place_of_entry, built_lasts}
 use Rattle.circuit.proofs.Typing.{entry_or, plan_width}
-use Rattle.circuit.proofs.Forming.{plan_depth}
+use Rattle.circuit.proofs.Forming.{plan_depth, plan_wide}
+use Rattle.circuit.proofs.Netted.{shows_only, output_right, some_array, put_made, first_stores, later_stores}
 use Rattle.circuit.proofs.Leaving.{flat_at}
 
 -- the arrays of an image that has this one among them
@@ -285,7 +292,42 @@ module _ (m b : Netlist) (p : Program) (plan : Plan) (shapes : Shapes) (places :
       let put = puts_last m last x grows differ (all_updated last all_built.updated (OfArray x) below) in
       subst (λ ps. property (read_indices m x) ps) (sym put) (subst (λ rs. property rs (put_indices last x)) (sym read) each)
 
+  -- the nets of the images in the module
+  net_in : (g : ℕ) → Keeps plan g → IsNet m (net_of plan nets g)
+  net_in g kept = net_more m last grows (net_of plan nets g) (line g kept).there
+
+  filled : (g : ℕ) → Keeps plan g → AreFilled m (first_array shapes plan g) (end_array shapes plan g) (net_of plan nets g)
+  filled g kept = fills_more m last (first_array shapes plan g) (end_array shapes plan g) (net_of plan nets g) grows (line g kept).fills
+
+  some_there : (g : ℕ) → Keeps plan g → 0 < depth_of plan g → first_array shapes plan g < end_array shapes plan g
+  some_there g kept deep =
+      let wide = plan_wide plan g (width_of plan g) is kept refl in
+      let some = some_array (shapes plan g) (width_of plan g) (depth_of plan g) (line g kept).bits wide.0 deep in
+      omega (arith, some)
+
+  dout_right : (k g : ℕ) → slice_get p.outputs k ≡ Some g → HasRight m (dout_net k) (Copy (atom.Net (net_of plan nets g)))
+  dout_right k g at =
+      let within : k < length p.outputs = slice_get_within p.outputs k g at in
+      let same : output_in plan k ≡ g = ap (λ (os : List ℕ). slice_index os k) stencils.outputs ∙ entry_or p.outputs k g 0 at in
+      let net : (out k).1 ≡ net_of plan nets g = closed.are_outs.dout k (out k) (out_at k within) ∙ ap (net_of plan nets) same in
+      subst (λ (n : Net). HasRight m (dout_net k) (Copy (atom.Net n))) net (output_right m last (flat closed.outs) (2 * k + 1) (out k).1 closed.driven (flat_at closed.outs k (out k) (out_at k within)).1)
+
+  pub nets_of_images : AreNetsOf m p plan shapes nets
+  nets_of_images = record {
+    there = net_in;
+    width = λ g kept. width_more m last grows (net_of plan nets g) (line g kept).there.declared ∙ (line g kept).width ∙ plan_width p plan g stencils kept;
+    input = λ g kept low. (line g kept).input low ∙ ap (λ (e : Bool). din_net (record last { enable = e }) g) (sym grows.enable);
+    driven = λ k g at. shows_only m closed.whole.rules.driven (dout_net k) (net_of plan nets g) (dout_right k g at);
+    stored = λ g kept deep. first_stores m shapes plan g (net_of plan nets g) (filled g kept) closed.whole.rules.updated (some_there g kept deep);
+    passed_on = λ g x kept low high. later_stores m shapes plan g (net_of plan nets g) (filled g kept) closed.whole.rules.updated x low high;
+  }
+
   -- no path passes through two images
   pub apart : IsApart m p plan shapes nets
   apart aged f kept past =
-      subst (λ (e : Bool). IsMadeOf m (source_of shapes plan f e) (OfNet (net_of plan nets f))) (sym grows.enable) (made_more m last (source_of shapes plan f last.enable) grows ((line f kept).apart aged past))
+      let made : IsMadeOf m (source_of shapes plan f m.enable) (OfNet (net_of plan nets f)) = subst (λ (e : Bool). IsMadeOf m (source_of shapes plan f e) (OfNet (net_of plan nets f))) (sym grows.enable) (made_more m last (source_of shapes plan f last.enable) grows ((line f kept).apart aged past)) in
+      record {
+        net = made;
+        dout = λ k at. made_wire m (dout_net k) (Copy (atom.Net (net_of plan nets f))) (source_of shapes plan f m.enable) (dout_right k f at) (made_net m (source_of shapes plan f m.enable) (net_of plan nets f) made);
+        put = λ x u low high at e. put_made m shapes plan f (net_of plan nets f) (filled f kept) closed.whole.rules.updated made x u low high at e;
+      }

@@ -32,6 +32,9 @@ use Rattle.pointwise_ir.specs.Programs.{Program}
 use Rattle.buffer_plan.specs.Plans.{Plan, IsPlan, place_in, ages_of, read_age}
 use Rattle.line_buffer.specs.Buffers.{is_buffer, is_new, IsBuffer, AreMadeOfBuffer}
 use Rattle.line_buffer.proofs.Adding.{is_le}
+use Rattle.line_buffer.specs.Fills.{AreFilled}
+use Rattle.line_buffer.proofs.More.{buffer_stops, buffer_control}
+use Rattle.line_buffer.proofs.Filling.{fills_more}
 use Rattle.line_buffer.proofs.Lasting.{buffer_more, buffer_made_more}
 use Rattle.circuit.specs.Taps.{Keeps, taps_at, IsTapOf, HasControl}
 use Rattle.circuit.specs.Reads.{reads_in}
@@ -108,6 +111,7 @@ module _ (new old : Netlist) (p : Program) (plan : Plan) (shapes : Shapes) (plac
       buffer = subst (λ (ts : List Net). IsBuffer new (places plan g) (ages_of plan g) ts net) (sym (same_taps g there)) (buffer_more new old (places plan g) (ages_of plan g) (taps_at plan taps g) net grows is.there is.buffer);
       bits = is.bits;
       made = subst (λ (ts : List Net). AreMadeOfBuffer new (first_array shapes plan g) (end_array shapes plan g) (ages_of plan g) ts) (sym (same_taps g there)) (buffer_made_more new old (first_array shapes plan g) (end_array shapes plan g) (ages_of plan g) (taps_at plan taps g) grows is.made);
+      fills = fills_more new old (first_array shapes plan g) (end_array shapes plan g) net grows is.fills;
       each = each_lasts;
     }
 
@@ -229,6 +233,7 @@ module _ (b2 b1 b0 : Netlist) (p : Program) (plan : Plan) (shapes : Shapes) (pla
     bits = buffered.bits;
     made = subst (λ (ts : List Net). AreMadeOfBuffer b2 (first_array shapes plan g) (end_array shapes plan g) (ages_of plan g) ts) (sym own_taps)
         (subst (λ (n : ℕ). AreMadeOfBuffer b2 n (n + length (shapes plan g)) (ages_of plan g) own) first_is buffered.made);
+    fills = subst (λ (n : ℕ). AreFilled b2 n (n + length (shapes plan g)) net) first_is buffered.fills;
     each = each_is;
   }
 
@@ -252,8 +257,8 @@ module _ (b2 b1 b0 : Netlist) (p : Program) (plan : Plan) (shapes : Shapes) (pla
     arrays = buffered.adds.arrays ∙ ap (λ (ss : List Shape). ss ++ shapes plan g) (adds.arrays ∙ built.arrays) ∙ sym (shapes_push shapes plan images k i at);
     updated = buffered.adds.updated [] (adds.updated [] built.updated);
     still = buffered.adds.still [] (adds.still [] built.still);
-    stops = buffered.adds.stops (adds.stops built.stops);
-    control = buffered.adds.control (adds.control built.control);
+    stops = buffer_stops b2 b1 (shapes plan g) buffered.adds (adds.stops built.stops);
+    control = buffer_control b2 b1 (shapes plan g) buffered.adds (adds.control built.control);
     line = λ j o lt on. elim (cases_lt j k) [
       | inl less ↦ old_line j o less on
       | inr most ↦

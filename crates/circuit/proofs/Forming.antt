@@ -16,6 +16,7 @@ use Rattle.buffer_plan.specs.Plans.{Plan, IsPlan, ages_of, width_of, depth_of, l
 use Rattle.buffer_plan.proofs.Aged.{are_ages, last_age, depth_most}
 use Rattle.line_buffer.specs.Places as L
 use Rattle.line_buffer.specs.Places.{Place}
+use Rattle.line_buffer.specs.Fills.{AreFilled}
 use Rattle.line_buffer.specs.Buffers.{IsBuffer, AddsBuffer, AreMadeOfBuffer}
 use Rattle.line_buffer.proofs.Building.{ages_deep}
 use Rattle.circuit.specs.Taps.{Keeps}
@@ -58,8 +59,8 @@ module _ (shapes_by : (width : ℕ) → List ℕ → List Shape) (place_by : (fi
 
   module _ (b old : Netlist) (plan : Plan) (g width : ℕ) (ages : List ℕ) (value : Net) (nets taps : List Net) (aged : ages ≡ ages_of plan g) (wide : width ≡ width_of plan g) (same : taps ≡ nets) (arrays : old.arrays ≡ shapes_before shapes plan g) where
     pub form_buffered : array_bits (shapes_by (width_of plan g) (ages_of plan g)) ≡ width_of plan g * L.depth_of (ages_of plan g) → AddsBuffer b old (shapes_by width ages) → IsBuffer b (place_by (length old.arrays) ages) ages nets value →
-        AreMadeOfBuffer b (length old.arrays) (length old.arrays + length (shapes_by width ages)) ages nets → ((x : ℕ) → length old.arrays ≤ x → x < length b.arrays → property (read_indices b x) (put_indices b x)) → IsBuffered b old plan g shapes places property value taps
-    form_buffered bits adds buffer made each = record {
+        AreMadeOfBuffer b (length old.arrays) (length old.arrays + length (shapes_by width ages)) ages nets → AreFilled b (length old.arrays) (length old.arrays + length (shapes_by width ages)) value → ((x : ℕ) → length old.arrays ≤ x → x < length b.arrays → property (read_indices b x) (put_indices b x)) → IsBuffered b old plan g shapes places property value taps
+    form_buffered bits adds buffer made fills each = record {
       buffer = subst (λ (n : ℕ). IsBuffer b (place_by n (ages_of plan g)) (ages_of plan g) taps value) (ap length arrays)
           (subst (λ (ns : List Net). IsBuffer b (place_by (length old.arrays) (ages_of plan g)) (ages_of plan g) ns value) (sym same)
           (subst (λ (list : List ℕ). IsBuffer b (place_by (length old.arrays) list) list nets value) aged buffer));
@@ -68,5 +69,7 @@ module _ (shapes_by : (width : ℕ) → List ℕ → List Shape) (place_by : (fi
       made = subst (λ (ns : List Net). AreMadeOfBuffer b (length old.arrays) (length old.arrays + length (shapes plan g)) (ages_of plan g) ns) (sym same)
           (subst (λ (w : ℕ). AreMadeOfBuffer b (length old.arrays) (length old.arrays + length (shapes_by w (ages_of plan g))) (ages_of plan g) nets) wide
           (subst (λ (list : List ℕ). AreMadeOfBuffer b (length old.arrays) (length old.arrays + length (shapes_by width list)) list nets) aged made));
+      fills = subst (λ (w : ℕ). AreFilled b (length old.arrays) (length old.arrays + length (shapes_by w (ages_of plan g))) value) wide
+          (subst (λ (list : List ℕ). AreFilled b (length old.arrays) (length old.arrays + length (shapes_by width list)) value) aged fills);
       each = each;
     }

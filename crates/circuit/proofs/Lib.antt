@@ -19,6 +19,7 @@ pub mod Imaging
 pub mod Validity
 pub mod Forming
 pub mod Leaving
+pub mod Netted
 pub mod Behaving
 pub mod Adding
 pub mod Driven

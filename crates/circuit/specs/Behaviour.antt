@@ -1,17 +1,15 @@
 -- What the module of a program does, in each run, from any contents that fit, over any clocks.
-use Rattle.std.specs.Prelude.{◌≡◌, ℕ, ◌<◌, ◌≤◌, nat_le, Bool, not, ◌&&◌, IsTrue, if◌then◌else◌, List, ◌∷◌, length, map, slice_index_or, slice_get, Some}
+use Rattle.std.specs.Prelude.{◌≡◌, ℕ, ◌<◌, nat_le, Bool, not, ◌&&◌, IsTrue, if◌then◌else◌, List, ◌∷◌, length, map, slice_index_or, slice_get, Some}
 use Rattle.dk_base.specs.Stencils.{place}
 use Rattle.dk_base.specs.Types.{width_of}
 use Rattle.wiring.specs.declared.netlist.Net.{Net}
 use Rattle.wiring.specs.declared.netlist.Net.TheVariants.{Input}
-use Rattle.wiring.specs.declared.netlist.Holder.TheVariants.{OfNet}
 use Rattle.wiring.specs.Netlist.{Netlist, valid_net, dout_net}
 use Rattle.wiring.specs.Rules.{with_valids}
 use Rattle.wiring.specs.Snapshot.{Contents, Snapshot, IsNext, net_value}
 use Rattle.wiring.specs.Clock.{Clock, bit}
 use Rattle.wiring.specs.History.{was_reset, is_held, counted}
 use Rattle.net_build.specs.Runs.{IsClockOf, InEachRun}
-use Rattle.net_build.specs.Control.{IsMadeOf}
 use Rattle.pointwise_ir.specs.Programs.{Program}
 use Rattle.pointwise_ir.specs.Stencils.{AreStencilsOf}
 use Rattle.buffer_plan.specs.Plans.{Plan, delay_of, depth_of, latency_of}
@@ -21,8 +19,7 @@ use Rattle.circuit.specs.declared.options.Options.{Options}
 use Rattle.circuit.specs.Runs.{IsRunning}
 use Rattle.circuit.specs.Rounds.{Rounds, AreRounds, Feeds, pixel_count, pixel_bits, type_at}
 use Rattle.circuit.specs.Taps.{Keeps}
-use Rattle.circuit.specs.Forms.{Shapes, Places}
-use Rattle.circuit.specs.Images.{source_of}
+use Rattle.circuit.specs.Forms.{Places}
 
 -- the plan is one of the program, at the age that is asked
 pub record IsPlanOf (p : Program) (plan : Plan) (options : Options) : Type 0 where
@@ -63,7 +60,3 @@ pub record Behaves (m : Netlist) (p : Program) (plan : Plan) (places : Places) (
       BufferIsRight (λ age t. word_at s.contents (places plan g age t)) (pixel_bits p rounds g) (pixel_count p rounds) (delay_of plan g) (depth_of plan g) (length (counted n before))
   -- no state changes in a held clock
   pub held : InEachRun m (λ n before c s. n ≡ m → IsTrue (is_held n c) → (next : Contents) → IsNext n s next → next ≡ s.contents)
-
--- Where each read is at least one clock old, the net of a kept image that is no input is made of rst, en, registers and the arrays of the images of which it has a live read, so no path of assigns passes through two images.
-abbrev pub IsApart : Netlist → Program → Plan → Shapes → List Net → Type 0
-IsApart m p plan shapes nets = 1 ≤ plan.system.age → (f : ℕ) → Keeps plan f → length p.inputs ≤ f → IsMadeOf m (source_of shapes plan f m.enable) (OfNet (net_of plan nets f))

@@ -10,6 +10,7 @@ use Rattle.wiring.specs.BufferBits.{array_bits}
 use Rattle.net_build.specs.Indices.{read_indices, put_indices}
 use Rattle.buffer_plan.specs.Plans.{Plan, ages_of, width_of, depth_of}
 use Rattle.line_buffer.specs.Places.{Place, chain_shapes, chain_place, ring_shapes, ring_place}
+use Rattle.line_buffer.specs.Fills.{AreFilled}
 use Rattle.line_buffer.specs.Buffers.{IsBuffer, AddsBuffer, AreMadeOfBuffer}
 
 -- the arrays of a form, by a plan and an image; and where it holds an age of an image at a clock
@@ -39,12 +40,13 @@ first_array shapes plan g = length (shapes_before shapes plan g)
 abbrev pub end_array : Shapes → Plan → (g : ℕ) → ℕ
 end_array shapes plan g = first_array shapes plan g + length (shapes plan g)
 
--- What a form has done for image g: its taps, each for an age; arrays of width times depth bits, and nothing else that takes in what came in; and each array has the form's property.
+-- What a form has done for image g: its taps, each for an age; arrays of width times depth bits, and nothing else that takes in what came in. The first array takes the image's net, each later one a word of the one before it. Each array has the form's property.
 pub record IsBuffered (b old : Netlist) (plan : Plan) (g : ℕ) (shapes : Shapes) (places : Places) (property : Property) (value : Net) (taps : List Net) : Type 0 where
   pub buffer : IsBuffer b (places plan g) (ages_of plan g) taps value
   pub adds : AddsBuffer b old (shapes plan g)
   pub bits : array_bits (shapes plan g) ≡ width_of plan g * depth_of plan g
   pub made : AreMadeOfBuffer b (length old.arrays) (length old.arrays + length (shapes plan g)) (ages_of plan g) taps
+  pub fills : AreFilled b (length old.arrays) (length old.arrays + length (shapes plan g)) value
   pub each : (x : ℕ) → length old.arrays ≤ x → x < length b.arrays → property (read_indices b x) (put_indices b x)
 
 -- a chain for each image, its segments ascending

@@ -21,6 +21,7 @@ use Rattle.net_build.specs.Indices.{read_indices, put_indices}
 use Rattle.pointwise_ir.specs.Programs.{Program}
 use Rattle.buffer_plan.specs.Plans.{Plan, delay_of, ages_of, width_of, depth_of}
 use Rattle.line_buffer.specs.Streams.{IsPixel}
+use Rattle.line_buffer.specs.Fills.{AreFilled}
 use Rattle.line_buffer.specs.Buffers.{IsBuffer, AreMadeOfBuffer}
 use Rattle.circuit.specs.Runs.{IsRunning}
 use Rattle.circuit.specs.Rounds.{Rounds, AreRounds, type_at, pixel_count, pixel_bits}
@@ -61,6 +62,7 @@ pub record IsLine (b : Netlist) (p : Program) (plan : Plan) (shapes : Shapes) (p
   pub buffer : IsBuffer b (places plan g) (ages_of plan g) (taps_at plan taps g) net
   pub bits : array_bits (shapes plan g) ≡ width_of plan g * depth_of plan g
   pub made : AreMadeOfBuffer b (first_array shapes plan g) (end_array shapes plan g) (ages_of plan g) (taps_at plan taps g)
+  pub fills : AreFilled b (first_array shapes plan g) (end_array shapes plan g) net
   pub each : (x : ℕ) → first_array shapes plan g ≤ x → x < end_array shapes plan g → property (read_indices b x) (put_indices b x)
 
 -- a netlist with the ports of a program and nothing else

@@ -6,5 +6,6 @@ pub mod Reads
 pub mod Forms
 pub mod Images
 pub mod Behaviour
+pub mod Nets
 pub mod Ends
 pub mod Driven

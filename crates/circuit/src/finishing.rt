@@ -8,7 +8,8 @@ ghost use Rattle.pointwise_ir.specs.Stencils.{AreStencilsOf};
 ghost use Rattle.buffer_plan.specs.Plans.{bits_of};
 ghost use Rattle.circuit.specs.Forms.{shapes_of};
 ghost use Rattle.circuit.specs.Images.{AreBuilt};
-ghost use Rattle.circuit.specs.Behaviour.{HasPorts, Behaves, IsApart};
+ghost use Rattle.circuit.specs.Behaviour.{HasPorts, Behaves};
+ghost use Rattle.circuit.specs.Nets.{AreNetsOf, IsApart};
 ghost use Rattle.circuit.specs.Ends.{CanEnd, IsClosed};
 
 use crate::forms::BufferForm;
@@ -59,6 +60,7 @@ pub fn finished<F: BufferForm>(
     ensures bits { IfOk result (λ r. IsBufferBits r.module.netlist (bits_of plan.now)) }
     ensures arrays { IfOk result (λ r. r.module.netlist.arrays ≡ shapes_of (F.shapes form.now) plan.now plan.now.system.stencils.images) }
     ensures property { IfOk result (λ r. (x : ℕ) → x < length r.module.netlist.arrays → F.property form.now (read_indices r.module.netlist x) (put_indices r.module.netlist x)) }
+    ensures nets { IfOk result (λ r. AreNetsOf r.module.netlist ir.now plan.now (F.shapes form.now) r.nets.items) }
     ensures apart { IfOk result (λ r. IsApart r.module.netlist ir.now plan.now (F.shapes form.now) r.nets.items) }
 {
     plan.law();

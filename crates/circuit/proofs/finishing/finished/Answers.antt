@@ -1,6 +1,6 @@
 use Rattle.std.proofs.Common.{subst, sym}
 use Rattle.circuit.specs.Ends.{CanEnd, IsClosed}
-use Rattle.circuit.proofs.Behaving.{can_end, behaves, whole, bits, arrays, properties, apart}
+use Rattle.circuit.proofs.Behaving.{can_end, behaves, whole, bits, arrays, properties, apart, nets_of_images}
 use Rattle.circuit.proofs.finishing.finished.Goals as goal
 
 pub closed-requires : goal.closed-requires
@@ -37,4 +37,9 @@ returns-clause-property g c =
 pub returns-clause-apart : goal.returns-clause-apart
 returns-clause-apart g c =
     apart c.in_ok-module.module.netlist c.args.b c.args.ir.now c.args.plan.now (g.F.BufferForm.shapes c.args.form.now) (g.F.BufferForm.places c.args.form.now) (g.F.BufferForm.property c.args.form.now) c.args.nets.items c.args.taps.now c.law.ensures c.requires.stencils c.requires.built
+    (subst (IsClosed c.in_ok-module.module.netlist c.args.b c.args.plan.now) c.deref.ensures.value c.in_ok-module.ensures.closed)
+
+pub returns-clause-nets : goal.returns-clause-nets
+returns-clause-nets g c =
+    nets_of_images c.in_ok-module.module.netlist c.args.b c.args.ir.now c.args.plan.now (g.F.BufferForm.shapes c.args.form.now) (g.F.BufferForm.places c.args.form.now) (g.F.BufferForm.property c.args.form.now) c.args.nets.items c.args.taps.now c.law.ensures c.requires.stencils c.requires.built
     (subst (IsClosed c.in_ok-module.module.netlist c.args.b c.args.plan.now) c.deref.ensures.value c.in_ok-module.ensures.closed)

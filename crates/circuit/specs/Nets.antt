@@ -1,0 +1,67 @@
+-- The nets of the kept images as nets of the module: what they are, which output shows each, and which arrays take it.
+use Rattle.std.specs.Prelude.{◌≡◌, ℕ, ◌-◌, ◌<◌, ◌≤◌, Bool, ◌||◌, List, length, slice_get, Some, All, Contains}
+use Rattle.dk_base.specs.Types.{width_of as bits_of_type}
+use Rattle.wiring.specs.declared.right.Atom.TheVariants as atom
+use Rattle.wiring.specs.declared.right.Right.TheVariants.{Copy}
+use Rattle.wiring.specs.declared.netlist.Net.{Net}
+use Rattle.wiring.specs.declared.netlist.Holder.{Holder}
+use Rattle.wiring.specs.declared.netlist.Holder.TheVariants.{OfNet, OfArray}
+use Rattle.wiring.specs.declared.netlist.Assign.{Assign}
+use Rattle.wiring.specs.declared.netlist.Update.{Update}
+use Rattle.wiring.specs.declared.netlist.Update.TheVariants.{Put}
+use Rattle.wiring.specs.BufferBits.{update_reads}
+use Rattle.wiring.specs.Netlist.{Netlist, net_width, din_net, dout_net, update_target}
+use Rattle.net_build.specs.Draft.{IsNet}
+use Rattle.net_build.specs.Control.{IsMadeOf, is_control}
+use Rattle.pointwise_ir.specs.Programs.{Program}
+use Rattle.buffer_plan.specs.Plans.{Plan, depth_of}
+use Rattle.line_buffer.specs.Fills.{HasRight, IsWordOf, Takes}
+use Rattle.circuit.specs.Rounds.{type_at}
+use Rattle.circuit.specs.Taps.{Keeps}
+use Rattle.circuit.specs.Forms.{Shapes, first_array, end_array}
+use Rattle.circuit.specs.Images.{is_array_of, source_of}
+use Rattle.circuit.specs.Behaviour.{net_of}
+
+-- the one assign of an output copies the net
+pub record Shows (m : Netlist) (output net : Net) : Type 0 where
+  pub assign : HasRight m output (Copy (atom.Net net))
+  pub only : (a : Assign) → Contains m.assigns a → a.target ≡ output → a.right ≡ Copy (atom.Net net)
+
+-- the one put of array x takes the net
+pub record Stores (m : Netlist) (x : ℕ) (net : Net) : Type 0 where
+  pub takes : Takes m x net
+  pub only : (u : Update) → Contains m.updates u → update_target u ≡ OfArray x → u ≡ Put x (atom.Net takes.index) (atom.Net takes.stored)
+
+-- the one put of array x takes a word of the array before it
+pub record PassesOn (m : Netlist) (x : ℕ) : Type 0 where
+  pub from : Net
+  pub word : IsWordOf m (x - 1) from
+  pub stores : Stores m x from
+
+-- The list has the net of each kept image of the module, in order.
+pub record AreNetsOf (m : Netlist) (p : Program) (plan : Plan) (shapes : Shapes) (nets : List Net) : Type 0 where
+  -- each is declared in the module, is no output, and has the width of its image's type
+  pub there : (g : ℕ) → Keeps plan g → IsNet m (net_of plan nets g)
+  pub width : (g : ℕ) → Keeps plan g → net_width m (net_of plan nets g) ≡ bits_of_type (type_at p g)
+  -- that of an input is its din
+  pub input : (g : ℕ) → Keeps plan g → g < length p.inputs → net_of plan nets g ≡ din_net m g
+  -- each output's dout shows the net of its image
+  pub driven : (k g : ℕ) → slice_get p.outputs k ≡ Some g → Shows m (dout_net k) (net_of plan nets g)
+  -- the first array of each image of depth above 0 stores the image's net, and each later one takes a word of the array before it
+  pub stored : (g : ℕ) → Keeps plan g → 0 < depth_of plan g → Stores m (first_array shapes plan g) (net_of plan nets g)
+  pub passed_on : (g x : ℕ) → Keeps plan g → first_array shapes plan g < x → x < end_array shapes plan g → PassesOn m x
+
+-- rst, en, the registers, the arrays of the images of which f has a live read, and its own
+abbrev pub kept_source_of : Shapes → Plan → (f : ℕ) → (enable : Bool) → Holder → Bool
+kept_source_of shapes plan f enable (OfNet n) = is_control enable (OfNet n)
+kept_source_of shapes plan f enable (OfArray x) = is_array_of shapes plan f x || source_of shapes plan f enable (OfArray x)
+
+-- Image f is made of rst, en, registers and the arrays of the images of which it has a live read: its net, each dout that shows it, and what the put of each of its arrays reads, beside its own arrays.
+pub record IsImageApart (m : Netlist) (p : Program) (plan : Plan) (shapes : Shapes) (nets : List Net) (f : ℕ) : Type 0 where
+  pub net : IsMadeOf m (source_of shapes plan f m.enable) (OfNet (net_of plan nets f))
+  pub dout : (k : ℕ) → slice_get p.outputs k ≡ Some f → IsMadeOf m (source_of shapes plan f m.enable) (OfNet (dout_net k))
+  pub put : (x : ℕ) (u : Update) → first_array shapes plan f ≤ x → x < end_array shapes plan f → Contains m.updates u → update_target u ≡ OfArray x → All (IsMadeOf m (kept_source_of shapes plan f m.enable)) (update_reads u)
+
+-- Where each read is at least one clock old, each kept image that is no input is made so. So no path of assigns passes through two images, or from a din to a dout that shows no input.
+abbrev pub IsApart : Netlist → Program → Plan → Shapes → List Net → Type 0
+IsApart m p plan shapes nets = 1 ≤ plan.system.age → (f : ℕ) → Keeps plan f → length p.inputs ≤ f → IsImageApart m p plan shapes nets f
