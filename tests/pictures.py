@@ -348,46 +348,56 @@ def stereo(left, right):
     return each(lambda x, y: min(range(4), key=lambda disparity: sum(inside_window(costs[disparity], x, y, 2))))
 
 
-def files():
-    """The name and bytes of each file."""
-    grey, spots, print_, parts = scene(), speckled(), page(), shapes()
-    dim, bright = exposures()
-    first_left, first_right, second_left, second_right = camera_rounds()
+def inputs():
+    """The images of each input file, each with its greatest sample."""
     raw, mask = sensor()
-    left, right = stereo_pair()
+    return {
+        "scene": [(scene(), 255)],
+        "speckled": [(speckled(), 255)],
+        "page": [(page(), 255)],
+        "shapes": [(shapes(), 255)],
+        "blobs": [(blobs(), 1)],
+        "exposures": [(picture, 255) for picture in exposures()],
+        "cameras": [(picture, 255) for picture in camera_rounds()],
+        "sensor": [(raw, 1023), (mask, 1)],
+        "dots": [(picture, 255) for picture in stereo_pair()],
+    }
 
-    yield "scene", image(grey, 255)
-    yield "speckled", image(spots, 255)
-    yield "page", image(print_, 255)
-    yield "shapes", image(parts, 255)
-    yield "blobs", image(blobs(), 1)
-    yield "exposures", image(dim, 255) + image(bright, 255)
-    yield "cameras", b"".join(image(picture, 255) for picture in camera_rounds())
-    yield "sensor", image(raw, 1023) + image(mask, 1)
-    yield "dots", image(left, 255) + image(right, 255)
 
+def results(given):
+    """The images of each output file by the formulas, each with its greatest sample, from such inputs."""
+    pictures = {name: [picture for picture, _ in images] for name, images in given.items()}
+    grey, print_, spots, mask = (pictures[name][0] for name in ("scene", "page", "speckled", "blobs"))
     for filtered in (gaussian3, gaussian5, sobel, unsharp, dog):
-        yield filtered.__name__, image(filtered(grey), 255)
+        yield filtered.__name__, [(filtered(grey), 255)]
     for filtered in (erode, dilate):
-        yield filtered.__name__, image(filtered(print_), 255)
-    yield "local_threshold", image(local_threshold(print_), 1)
-    yield "median", image(median(spots), 255)
-    yield "majority", image(majority(spots), 1)
-    yield "contour", image(contour(blobs()), 1)
-    yield "census", image(census(dim), 255) + image(census(bright), 255)
-    yield "demosaic", image(demosaic(raw, mask), 1023)
-    strength, corners = harris(parts)
-    yield "harris", image(strength, 65535) + image(corners, 1)
-    rounds = two_cameras(first_left, first_right), two_cameras(second_left, second_right)
-    yield "two_cameras", b"".join(image(difference, 255) + image(differs, 1) for difference, differs in rounds)
-    yield "stereo", image(stereo(left, right), 3)
+        yield filtered.__name__, [(filtered(print_), 255)]
+    yield "local_threshold", [(local_threshold(print_), 1)]
+    yield "median", [(median(spots), 255)]
+    yield "majority", [(majority(spots), 1)]
+    yield "contour", [(contour(mask), 1)]
+    yield "census", [(census(picture), 255) for picture in pictures["exposures"]]
+    yield "demosaic", [(demosaic(*pictures["sensor"]), 1023)]
+    strength, corners = harris(pictures["shapes"][0])
+    yield "harris", [(strength, 65535), (corners, 1)]
+    cameras = pictures["cameras"]
+    rounds = [two_cameras(*cameras[first:first + 2]) for first in range(0, len(cameras), 2)]
+    yield "two_cameras", [part for difference, differs in rounds for part in ((difference, 255), (differs, 1))]
+    yield "stereo", [(stereo(*pictures["dots"]), 3)]
+
+
+def file_of(images):
+    """The bytes of a file of images."""
+    return b"".join(image(picture, greatest) for picture, greatest in images)
 
 
 def main():
     folder = sys.argv[1] if len(sys.argv) > 1 else os.path.join(os.path.dirname(os.path.abspath(__file__)), "..", "examples", "programs")
-    for name, content in files():
+    given = inputs()
+    for name, images in [*given.items(), *results(given)]:
         with open(os.path.join(folder, name + ".pgm"), "wb") as file:
-            file.write(content)
+            file.write(file_of(images))
 
 
-main()
+if __name__ == "__main__":
+    main()

@@ -1,37 +1,75 @@
 #!/usr/bin/env python3
 """The ladder: the clauses of the program's call, and each definition that they name, from the top down.
 
-    python3 tools/ladder.py            writes the page to standard output
-    python3 tools/ladder.py --counts   the lines of each chapter and crate alone
+    python3 tools/ladder.py            writes docs/LADDER.md and a file for each chapter, docs/ladder/NN-name.md
+    python3 tools/ladder.py --check    compares these files with the sources; ends with status 1 where one differs,
+                                       is missing, or belongs to no chapter
+    python3 tools/ladder.py --counts   prints the number of definitions and lines of each chapter
 
-It reads the sources and nothing else. A definition is shown once, in the first chapter that comes to it, behind the
-definition that named it first. Names of the toolchain's library are left as they stand.
+It reads the sources and nothing else. A definition is shown once, in the first chapter that reaches it, after the
+definition that names it first. Names of the toolchain's library are not shown.
 """
 import glob
 import os
 import re
 import sys
+from typing import NamedTuple
 
 TOP = os.path.join(os.path.dirname(os.path.abspath(__file__)), "..")
+INDEX = os.path.join(TOP, "docs", "LADDER.md")
+FOLDER = os.path.join(TOP, "docs", "ladder")
 WORD = re.compile(r"[^\s(){}\[\],;.]+")
 MARKS = r"(?:(?:pub|abbrev|unfoldable)\s+)*"
 
-# The chapters, each with the definitions that it begins with, under which no earlier chapter goes. What stands in none comes last.
-CHAPTERS = [
-    ("What `run` and `compile` promise", ["IsGoodPair", "IsHeldRun", "NotedRun", "IsCompiledText"]),
-    ("When `run` ends otherwise, and what it leaves", ["IsRunAnswer", "CreatesRun", "HoldsAtWrite", "LeavesAtFault", "LeavesAtRead", "IsFaultAt", "IsImageFault"]),
-    ("What makes a module well formed, and its inside", ["IsWhole", "IsApart", "IsReadOnce", "shapes_of", "KeepsRules"]),
-    ("The form of a program, its live reads and its limits", ["dk_compile.Sources.IsAccepted", "AreStencilsOf", "IsForm", "IsFront"]),
-    ("Tokens, grammar and types of a program", ["dk_compile.Sources.IsText", "dk_compile.Sources.IsSourceFault"]),
-    ("Verilog texts", ["StandsFor", "verilog_text.Faults.IsFault"]),
-    ("The frame of the outside", ["OnFiles", "HasCauseIn", "Rose", "IsFresh", "AsksOnly", "AsksWhere", "CreatesNothing", "CreatesOut", "FilesStay", "GainsLine", "WritesNothing", "IsOrMemory"]),
-    ("`eval`, `compile` and `make`", ["IsAnswer", "IsHeldOf", "IsProgramAnswer", "HoldsText", "IsMadeLine", "NotesMade"]),
-    ("`plan` and `check`", ["IsCheckAnswer", "IsPlanOf", "IsClaimLine"]),
-    ("`sim` and `trace`", ["IsSimAnswer", "IsHeldSim", "NotesSim", "IsTraceAnswer", "IsHeldTrace"]),
-    ("Words, endings, and the table of all commands", ["command_of", "fault_line", "IsVerdict", "IsHeld", "IsNoted", "IsReported", "IsGood", "HasOneVerdict"]),
-]
 
-# The first chapter is to be read in an hour.
+class Chapter(NamedTuple):
+    """A chapter: its file, its title, what it answers, and the definitions that it begins with."""
+
+    file: str
+    title: str
+    sentence: str
+    roots: list
+
+
+# A chapter shows its roots and what these name, down to the roots of later chapters.
+CHAPTERS = [
+    Chapter("run-and-compile", "What `run` and `compile` promise",
+            "Which program and image file fit together, which pictures the program means, which module it is compiled to, and which pixels that module shows at which clock.",
+            ["IsGoodPair", "IsHeldRun", "NotedRun", "IsCompiledText"]),
+    Chapter("run-faults", "When `run` ends otherwise, and what it leaves",
+            "Which fault ends `run`, and which lines of the picture the output file then holds.",
+            ["IsRunAnswer", "CreatesRun", "HoldsAtWrite", "LeavesAtFault", "LeavesAtRead", "IsFaultAt", "IsImageFault"]),
+    Chapter("modules", "What makes a module well formed, and its inside",
+            "The rules that the nets, registers and arrays of a module keep, and the registers and arrays of a compiled module.",
+            ["IsWhole", "IsApart", "IsReadOnce", "shapes_of", "KeepsRules"]),
+    Chapter("program-form", "The form of a program, its live reads and its limits",
+            "How inline images are substituted, which images are kept, which live reads they make, and within which limits a program is accepted.",
+            ["dk_compile.Sources.IsAccepted", "AreStencilsOf", "IsForm", "IsFront"]),
+    Chapter("program-text", "Tokens, grammar and types of a program",
+            "Which texts are programs, and which fault any other text has.",
+            ["dk_compile.Sources.IsText", "dk_compile.Sources.IsSourceFault"]),
+    Chapter("verilog-text", "Verilog texts",
+            "Which texts of the Verilog subset stand for which module, and which fault any other text has.",
+            ["StandsFor", "verilog_text.Faults.IsFault"]),
+    Chapter("files", "The frame of the outside",
+            "Which files a command asks for, creates and leaves unchanged, and what it writes to standard error.",
+            ["OnFiles", "HasCauseIn", "Rose", "IsFresh", "AsksOnly", "AsksWhere", "CreatesNothing", "CreatesOut", "FilesStay", "GainsLine", "WritesNothing", "IsOrMemory"]),
+    Chapter("eval-compile-make", "`eval`, `compile` and `make`",
+            "How these three commands end, and what they write.",
+            ["IsAnswer", "IsHeldOf", "IsProgramAnswer", "HoldsText", "IsMadeLine", "NotesMade"]),
+    Chapter("plan-and-check", "`plan` and `check`",
+            "Which report belongs to a program, and which line of a report is its first wrong one.",
+            ["IsCheckAnswer", "IsPlanOf", "IsClaimLine"]),
+    Chapter("sim-and-trace", "`sim` and `trace`",
+            "Which pictures and which value change dump a module's run shows, and which index stops it.",
+            ["IsSimAnswer", "IsHeldSim", "NotesSim", "IsTraceAnswer", "IsHeldTrace"]),
+    Chapter("words-and-endings", "Words, endings, and the table of all commands",
+            "Which command the words name, which line each fault writes, and the tables that choose a definition for each command.",
+            ["command_of", "fault_line", "IsVerdict", "IsHeld", "IsNoted", "IsReported", "IsGood", "HasOneVerdict"]),
+]
+REST = Chapter("rest", "What else the clauses name", "Definitions that the clauses name and no other chapter shows.", [])
+
+# The most lines of the first chapter, which a reader should finish in an hour.
 MOST_LINES = 1500
 
 
@@ -41,7 +79,7 @@ class Definition:
 
 
 class Module:
-    """A file of definitions: what it defines, and what its names stand for."""
+    """A file of definitions: what it defines, and what its names refer to."""
 
     def __init__(self, name, path):
         self.name, self.path, self.uses, self.again, self.defined, self.order = name, path, {}, {}, {}, []
@@ -133,7 +171,7 @@ def load():
 
 
 def find(modules, types, module, name, seen=()):
-    """The definition that a name stands for in a module, if it is one of this repository."""
+    """The definition that a name refers to in a module, if this repository has it."""
     if name in module.defined:
         return module.defined[name]
     if name not in module.uses:
@@ -155,10 +193,10 @@ def named(modules, types, item):
     found, done = [], set()
     for match in WORD.finditer(text):
         word = match[0]
-        behind = re.search(r"([^\s(){}\[\],;.]+)\.$", text[: match.start()])
-        if behind and item.module.uses.get(behind[1], ("", ""))[1] is None and modules.get(item.module.uses[behind[1]][0]):
-            # of a module that stands under a name of its own
-            other = find(modules, types, modules[item.module.uses[behind[1]][0]], word)
+        owner = re.search(r"([^\s(){}\[\],;.]+)\.$", text[: match.start()])
+        if owner and item.module.uses.get(owner[1], ("", ""))[1] is None and modules.get(item.module.uses[owner[1]][0]):
+            # The word is a name of an imported module.
+            other = find(modules, types, modules[item.module.uses[owner[1]][0]], word)
         else:
             other = find(modules, types, item.module, word)
         if other is None and "." in text[match.start() - 1 : match.end() + 1]:
@@ -170,7 +208,7 @@ def named(modules, types, item):
 
 
 def renamed(modules, types, item):
-    """What stands in this definition under another name than its own, as sentences."""
+    """The names that this definition uses under an alias, as sentences."""
     text = re.sub(r"--[^\n]*|//[^\n]*", "", item.text)
     found = []
     for match in WORD.finditer(text):
@@ -199,7 +237,7 @@ def chapter(modules, types, roots, shown):
 
 
 def root(modules, types, top, name):
-    """The definition of this name that a chapter begins with: of the clauses, of dk_top, or of what dk_top names."""
+    """The definition of this name that a chapter begins with: that of the clauses, of dk_top, or of any crate."""
     if "." in name:
         crate, file, name = name.split(".")
         return modules[f"Rattle.{crate}.specs.{file}"].defined[name]
@@ -211,57 +249,161 @@ def root(modules, types, top, name):
     return sys.exit(f"ladder: there is no definition {name}")
 
 
-def ladder(modules, types):
+def ladder():
+    """The clauses, and each chapter with its definitions."""
+    modules, types = load()
     top, main = clauses(f"{TOP}/crates/dk_top/src/top.rt")
-    shown, chapters = set(), []
-    all_roots = [[root(modules, types, top, name) for name in names] for _, names in CHAPTERS]
-    shown |= {id(it) for roots in all_roots for it in roots}
-    for (title, _), roots in zip(CHAPTERS, all_roots):
+    all_roots = [[root(modules, types, top, name) for name in each.roots] for each in CHAPTERS]
+    shown = {id(it) for roots in all_roots for it in roots}
+    chapters = []
+    for each, roots in zip(CHAPTERS, all_roots):
         shown -= {id(it) for it in roots}
-        chapters.append((title, chapter(modules, types, roots, shown)))
-    rest = [it for it in chapter(modules, types, named(modules, types, main), shown)]
+        chapters.append((each, chapter(modules, types, roots, shown)))
+    rest = chapter(modules, types, named(modules, types, main), shown)
     if rest:
-        chapters.append(("What else the clauses name", rest))
-    return main, chapters
+        chapters.append((REST, rest))
+    first = sum(map(lines, chapters[0][1]))
+    if first > MOST_LINES:
+        sys.exit(f"ladder: the first chapter has {first} lines, and may have {MOST_LINES}")
+    return modules, types, main, chapters
 
 
 def lines(item):
     return item.text.count("\n") + 1 + (1 if item.sentence else 0)
 
 
-def counts(chapters):
+def file_of(number, each):
+    return f"{number:02}-{each.file}.md"
+
+
+def counts(chapters, titled):
+    """The table of chapters; `titled` writes the title of one."""
     rows = ["| Chapter | Definitions | Lines | Files |", "|---|---|---|---|"]
-    for number, (title, items) in enumerate(chapters, 1):
+    for number, (each, items) in enumerate(chapters, 1):
         files = {it.module.path for it in items}
-        rows.append(f"| {number}. {title} | {len(items)} | {sum(map(lines, items))} | {len(files)} |")
+        rows.append(f"| {titled(number, each)} | {len(items)} | {sum(map(lines, items))} | {len(files)} |")
     total = [it for _, items in chapters for it in items]
     rows.append(f"| all | {len(total)} | {sum(map(lines, total))} | {len({it.module.path for it in total})} |")
     return rows
 
 
-def page():
-    modules, types = load()
-    main, chapters = ladder(modules, types)
-    first = sum(map(lines, chapters[0][1]))
-    if first > MOST_LINES:
-        sys.exit(f"ladder: the first chapter has {first} lines, and may have {MOST_LINES}")
-    out = ["# The ladder", "", "What one has to believe: the clauses of the call that the program makes, and below them each definition that they name, from the top down, each once. This page is made from the sources by `python3 tools/ladder.py`, and is wrong where it is not theirs. Words of the toolchain's library (lists, options, numbers) are left as they stand; structs and enums are those of the code.", "", "The first chapter is to be read first, in about an hour: which pair of a program and a file of images is good, which pictures the program means, which module it is compiled to, what a run of a module is, which pixels it shows at which clock, what is held in its buffers, and why its bits are least. What it names of texts and tokens, of the rules of a well formed module and of a program's form stands in the chapters behind it.", "", "How to read it: `→` is if .. then, `×` and, `⊎` or, `¬` not, `≡` equal, `λ x. ..` a function of x, `ℕ` the whole numbers from 0, `⊤` always true and `⊥` never. `f : A → B → Type 0` is a statement on an A and a B; a `record` holds where all its lines hold, a `data` where one of its lines does. `.old` is a value before the call, `.new` after it, `.now` one that the call only reads. `IfSome v P` says nothing where v is None, `IfOk r P` nothing where r is an error.", "", *counts(chapters), "", "## The clauses", "", f"`dk_main`, {main.module.path}:", "", "```", main.text, "```"]
-    for number, (title, items) in enumerate(chapters, 1):
-        out += ["", f"## {number}. {title}"]
-        at = None
+def places(chapters):
+    """The file and the anchor of each definition. In a file, the second definition of a name gets the anchor NAME-2."""
+    found = {}
+    for number, (each, items) in enumerate(chapters, 1):
+        used = {}
         for item in items:
-            if item.module.path != at:
-                at = item.module.path
-                out += ["", f"### {at}"]
-            names = " ".join(renamed(modules, types, item))
-            out += ["", *([item.sentence, ""] if item.sentence else []), "```", item.text, "```", *(["", names] if names else [])]
+            used[item.name] = used.get(item.name, 0) + 1
+            found[id(item)] = (file_of(number, each), item.name if used[item.name] == 1 else f"{item.name}-{used[item.name]}")
+    return found
+
+
+def links(items, places, here):
+    """Links to these definitions from the file `here` of docs/ladder/, or from docs/ where it is None."""
+    found = []
+    for item in items:
+        file, anchor = places[id(item)]
+        path = f"ladder/{file}" if here is None else "" if file == here else file
+        found.append(f"[`{item.name}`]({path}#{anchor})")
+    return ", ".join(found)
+
+
+HEAD = """# The ladder
+
+These pages show what a reader of the proof has to believe: the clauses of the program's one call, and each definition that they name, from the top down, each once. `python3 tools/ladder.py` makes them from the sources, and `./check` compares them with the sources. Names of the toolchain's library (lists, options, numbers) are not shown. Structs and enums are those of the code.
+
+Read the first chapter first; it takes about an hour. It also states what the line buffers hold and why their bits are minimal. The later chapters have the rest: texts and tokens, the rules of a well formed module, the form of a program, and the other commands.
+
+How to read a definition:
+
+- `→` is if .. then, `×` is and, `⊎` is or, `¬` is not, `≡` is equal, `λ x. ..` is a function of x. `ℕ` has the whole numbers from 0. `⊤` is always true, `⊥` is never true.
+- `f : A → B → Type 0` is a statement on an A and a B. A `record` holds if all its lines hold, a `data` if one of its lines does.
+- `.old` is a value before the call, `.new` the value after it, `.now` a value that the call only reads.
+- `IfSome v P` states nothing if v is None, `IfOk r P` nothing if r is an error.
+- Below a definition, `Names:` lists the definitions that it names, each a link.
+"""
+
+
+def index(modules, types, main, chapters, places):
+    out = [HEAD, *counts(chapters, lambda number, each: f"[{number}. {each.title}](ladder/{file_of(number, each)})"), "", "What each chapter answers, and the definitions that it begins with:", ""]
+    for number, (each, items) in enumerate(chapters, 1):
+        roots = items[: len(each.roots)] if each.roots else items
+        out.append(f"{number}. {each.sentence} It begins with {links(roots, places, None)}.")
+    out += ["", "## The clauses", "", f"`dk_main`, [{main.module.path}](../{main.module.path}):", "", "```", main.text, "```", "", f"Names: {links(named(modules, types, main), places, None)}."]
     return "\n".join(out) + "\n"
 
 
-if __name__ == "__main__":
-    if sys.argv[1:] == ["--counts"]:
-        print("\n".join(counts(ladder(*load())[1])))
-    elif sys.argv[1:]:
+def page(modules, types, number, chapters, places):
+    """The file of the chapter with this number."""
+    each, items = chapters[number - 1]
+    here = file_of(number, each)
+    near = ["[All chapters](../LADDER.md)"]
+    if number > 1:
+        near.append(f"[before: {number - 1}. {chapters[number - 2][0].title}]({file_of(number - 1, chapters[number - 2][0])})")
+    if number < len(chapters):
+        near.append(f"[next: {number + 1}. {chapters[number][0].title}]({file_of(number + 1, chapters[number][0])})")
+    out = [f"# {number}. {each.title}", "", each.sentence, "", " | ".join(near)]
+    at = None
+    for item in items:
+        if item.module.path != at:
+            at = item.module.path
+            out += ["", f"## [{at}](../../{at})"]
+        out += ["", f'### <a id="{places[id(item)][1]}"></a>`{item.name}`', "", *([item.sentence, ""] if item.sentence else []), "```", item.text, "```"]
+        others = links(named(modules, types, item), places, here)
+        notes = ([f"Names: {others}."] if others else []) + renamed(modules, types, item)
+        out += ["", " ".join(notes)] if notes else []
+    return "\n".join(out) + "\n"
+
+
+def pages():
+    """The text of each file, by its path."""
+    modules, types, main, chapters = ladder()
+    where = places(chapters)
+    found = {INDEX: index(modules, types, main, chapters, where)}
+    for number, (each, _) in enumerate(chapters, 1):
+        found[os.path.join(FOLDER, file_of(number, each))] = page(modules, types, number, chapters, where)
+    return found
+
+
+def there():
+    """The files that are in the place of the ladder."""
+    return [path for path in [INDEX, *sorted(glob.glob(f"{FOLDER}/*"))] if os.path.exists(path)]
+
+
+def write(found):
+    os.makedirs(FOLDER, exist_ok=True)
+    for path in there():
+        if path not in found:
+            os.remove(path)
+    for path, text in found.items():
+        with open(path, "w", encoding="utf-8") as file:
+            file.write(text)
+
+
+def differences(found):
+    for path in there():
+        if path not in found:
+            yield f"{os.path.relpath(path, TOP)} is no chapter's"
+    for path, text in found.items():
+        if not os.path.exists(path):
+            yield f"{os.path.relpath(path, TOP)} is missing"
+        elif open(path, encoding="utf-8").read() != text:
+            yield f"{os.path.relpath(path, TOP)} is not that of the sources"
+
+
+def main(words):
+    if words == ["--counts"]:
+        print("\n".join(counts(ladder()[3], lambda number, each: f"{number}. {each.title}")))
+    elif words == ["--check"]:
+        found = list(differences(pages()))
+        for line in found:
+            print(f"ladder: {line}", file=sys.stderr)
+        sys.exit(1 if found else 0)
+    elif words:
         sys.exit(__doc__)
     else:
-        sys.stdout.write(page())
+        write(pages())
+
+
+if __name__ == "__main__":
+    main(sys.argv[1:])

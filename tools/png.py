@@ -1,18 +1,15 @@
 #!/usr/bin/env python3
-"""Shows the pictures of the examples as PNG files, four times as large, each pixel being a square.
+"""Writes the images of a PGM file as one grey PNG file of 8 bits, a pixel for each sample.
 
-The images of a file are set side by side, one line of them for each round. Samples are stretched so
-that the greatest that the header allows is white.
+The images are placed side by side, COLUMNS of them in a row, with a gap between two. Samples are stretched so that the
+greatest one that the header allows is white.
 
-usage: tools/png.py FOLDER      writes NAME-in.png and NAME-out.png for each example of pictures.txt
+usage: tools/png.py PGM PNG [COLUMNS]      COLUMNS is 1 by default
 """
-import os
 import struct
 import sys
 import zlib
 
-EXAMPLES = os.path.join(os.path.dirname(os.path.abspath(__file__)), "..", "examples")
-SCALE = 4
 GAP = 2
 BETWEEN = 255
 
@@ -32,7 +29,7 @@ def images(content):
 
 
 def sheet(pictures, columns):
-    """One picture of all, in rows of so many, with a gap between two."""
+    """One picture of all, `columns` of them in a row, with a gap between two."""
     lines = []
     for first in range(0, len(pictures), columns):
         row = pictures[first:first + columns]
@@ -50,38 +47,48 @@ def chunk(kind, content):
     return struct.pack(">I", len(content)) + kind + content + struct.pack(">I", zlib.crc32(kind + content))
 
 
+def nearest(left, up, corner):
+    """The neighbour that is nearest to left + up - corner; of equally near ones the first."""
+    guess = left + up - corner
+    return min((left, up, corner), key=lambda sample: abs(guess - sample))
+
+
+def filtered(line, above):
+    """A line under each of the five filters of PNG: bytes of differences to neighbours."""
+    left = [0, *line[:-1]]
+    corner = [0, *above[:-1]]
+    guesses = [[0] * len(line), left, above, [(a + b) // 2 for a, b in zip(left, above)], [nearest(*each) for each in zip(left, above, corner)]]
+    return [bytes([kind, *((sample - guess) % 256 for sample, guess in zip(line, guess_line))]) for kind, guess_line in enumerate(guesses)]
+
+
+def cost(stored):
+    """How far the differences of a line are from 0 in all."""
+    return sum(min(byte, 256 - byte) for byte in stored[1:])
+
+
 def png(lines):
-    """A grey PNG; equal lines of the enlarged picture are stored as differences, so they cost little."""
-    width, height = len(lines[0]) * SCALE, len(lines) * SCALE
-    stored = b""
-    for line in lines:
-        enlarged = bytes(sample for sample in line for _ in range(SCALE))
-        stored += b"\0" + enlarged + (b"\2" + bytes(width)) * (SCALE - 1)
+    """A grey PNG: the shortest of six, one for each filter and one that chooses a filter for each line."""
+    width, height = len(lines[0]), len(lines)
+    ways = [filtered(line, above) for line, above in zip(lines, [[0] * width, *lines])]
+    streams = [b"".join(way[kind] for way in ways) for kind in range(5)] + [b"".join(min(way, key=cost) for way in ways)]
     return (b"\x89PNG\r\n\x1a\n"
             + chunk(b"IHDR", struct.pack(">IIBBBBB", width, height, 8, 0, 0, 0, 0))
-            + chunk(b"IDAT", zlib.compress(stored, 9))
+            + chunk(b"IDAT", min((zlib.compress(stream, 9) for stream in streams), key=len))
             + chunk(b"IEND", b""))
 
 
-def ports(program, word):
-    """How many inputs or outputs a program has: those of the examples stand one on a line."""
-    with open(os.path.join(EXAMPLES, "programs", program + ".dk")) as lines:
-        return sum(line.startswith(word + " ") for line in lines)
-
-
-def show(source, columns, target):
-    with open(os.path.join(EXAMPLES, "programs", source + ".pgm"), "rb") as file:
+def show(pgm, target, columns):
+    with open(pgm, "rb") as file:
         pictures = list(images(file.read()))
     with open(target, "wb") as file:
         file.write(png(sheet(pictures, columns)))
 
 
-def main():
-    folder = sys.argv[1]
-    with open(os.path.join(EXAMPLES, "programs", "pictures.txt")) as table:
-        for name, source in map(str.split, table):
-            show(source, ports(name, "input"), os.path.join(folder, name + "-in.png"))
-            show(name, ports(name, "output"), os.path.join(folder, name + "-out.png"))
+def main(words):
+    if len(words) not in (2, 3):
+        sys.exit(__doc__)
+    show(words[0], words[1], int(words[2]) if words[2:] else 1)
 
 
-main()
+if __name__ == "__main__":
+    main(sys.argv[1:])
