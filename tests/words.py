@@ -43,6 +43,7 @@ docs/DECISIONS.md
 tests/README.md
 examples/README.md
 docs/BENCH.md
+docs/ARCHITECTURE.md
 """.split()
 
 
