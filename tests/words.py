@@ -44,6 +44,7 @@ tests/README.md
 examples/README.md
 docs/BENCH.md
 docs/ARCHITECTURE.md
+docs/COMMANDS.md
 """.split()
 
 
