@@ -45,6 +45,7 @@ examples/README.md
 docs/BENCH.md
 docs/ARCHITECTURE.md
 docs/COMMANDS.md
+docs/BUILDING.md
 """.split()
 
 
