@@ -46,6 +46,16 @@ docs/BENCH.md
 docs/ARCHITECTURE.md
 docs/COMMANDS.md
 docs/BUILDING.md
+crates/base_tests/README.md
+crates/block_code/README.md
+crates/block_plan/README.md
+crates/block_rows/README.md
+crates/block_sim/README.md
+crates/buffer_plan/README.md
+crates/circuit_tests/README.md
+crates/cycle_sim/README.md
+crates/datapath/README.md
+crates/datapath_values/README.md
 """.split()
 
 
