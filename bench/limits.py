@@ -30,7 +30,7 @@ def pgm(width, height, count):
 
 
 def wires(size, source):
-    """A module of so many bytes: one assign for each wire, with what it is told from."""
+    """A module of so many bytes: one assign for each wire, with its driver."""
     lines, assigns, count, used = [], [], 0, len(HEAD) + 120
     while used < size:
         line, assign = f"  wire [7:0] n{count};\n", f"  assign n{count} = {source(count)};\n"
@@ -69,11 +69,11 @@ def verilog():
     row = {"i.pgm": b"P5 4 1 255\n\x01\x02\x03\x04"}
     words = ["sim", "v.v", "4", "i.pgm", "out"]
     for name, text in [
-        ("deep: each wire is told from the next one", deep),
-        ("wide: each wire is told from din", wide),
+        ("deep: each wire is driven by the next one", deep),
+        ("wide: each wire is driven by din", wide),
         ("one line: wide, with blanks in place of line ends", lambda: wide().replace("\n", " ")),
         ("registers in a ring", rings),
-        ("a cycle: deep, and the last wire is told from the first", lambda: module(64 * MIB, lambda k: f"n{k + 1}", "n0")),
+        ("a cycle: deep, and the last wire is driven by the first", lambda: module(64 * MIB, lambda k: f"n{k + 1}", "n0")),
         ("blanks", lambda: filled(b" ", 64 * MIB)),
         ("open comment", lambda: filled(b"a", 64 * MIB, b"/*")),
         ("one comment, and a module", lambda: filled(b"*", 64 * MIB, b"/*", b"*/" + HEAD.encode() + b"assign valid = ~rst; assign dout = din; endmodule")),
@@ -101,7 +101,7 @@ def images():
         yield f"images, {name}: run", ["run", "p.dk", "i.pgm", "out"], files
         yield f"images, {name}: sim", ["sim", "v.v", str(min(width * height * count, 100000000)), "i.pgm", "out"], files
     for name, content in [
-        ("blanks behind P5", lambda: filled(b" ", 256 * MIB, b"P5")),
+        ("blanks after P5", lambda: filled(b" ", 256 * MIB, b"P5")),
         ("a comment", lambda: filled(b"#", 256 * MIB, b"P5 ")),
         ("short by a byte", lambda: pgm(4096, 4096, 15)[:-1]),
         ("a byte past the limit", lambda: bytes(256 * MIB + 1)),

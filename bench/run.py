@@ -107,10 +107,10 @@ def main():
                 sys.exit("Verilator's picture is another one")
             print(f"Verilator -O3: {other:.3f} s; dk run takes {own / other:.1f} times as long")
         if shutil.which("iverilog") and pixels <= 640 * 480:
-            subprocess.run([sys.executable, f"{HERE}/../examples/tools/bench.py", "write", "g.v", "g.pgm", str(clocks), "1"], check=True)
+            subprocess.run([sys.executable, f"{HERE}/../tests/bench.py", "write", "g.v", "g.pgm", str(clocks), "1"], check=True)
             subprocess.run(["iverilog", "-g2005", "-o", "bench.vvp", "bench.v", "g.v"], check=True)
             other = timed("vvp", "-n", "bench.vvp", stdout=subprocess.DEVNULL)
-            subprocess.run([sys.executable, f"{HERE}/../examples/tools/bench.py", "picture", "g.v", "g.pgm", "seen.txt", "seen.pgm"], check=True)
+            subprocess.run([sys.executable, f"{HERE}/../tests/bench.py", "picture", "g.v", "g.pgm", "seen.txt", "seen.pgm"], check=True)
             if open("seen.pgm", "rb").read() != open("own.pgm", "rb").read():
                 sys.exit("the picture of Icarus is another one")
             print(f"Icarus Verilog: {other:.3f} s; dk run takes {other / own:.0f} times less")

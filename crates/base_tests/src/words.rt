@@ -68,7 +68,7 @@ fn reads_options(rt: HostRuntime) -> Result<(), Fail> {
         vcd: "-o",
     };
     assert_eq!(rt; read_command(alloc, &trace), Ok(Asked::Trace(given)));
-    let make = words(alloc, "dk make 4194303")?;
+    let make = words(alloc, "dk make 0004194303")?;
     let given = MakeWords { number: 4_194_303 };
     assert_eq!(rt; read_command(alloc, &make), Ok(Asked::Make(given)));
     let sim = words(alloc, "dk sim v.v --fill ones 100000000 i --hold 1000000 o")?;
@@ -91,12 +91,13 @@ fn other_words_are_not_taken(rt: HostRuntime) -> Result<(), Fail> {
         "dk eval -a b -- c",
         "dk plan p.dk --age 65",
         "dk plan p.dk --age=",
-        "dk sim v.v 007 i o",
+        "dk sim v.v +7 i o",
         "dk sim v.v 4 i o --hold -1",
         "dk compile --enable=true p.dk v.v",
         "dk run p.dk i o --age 65",
         "dk trace v.v 4 i o --hold 1",
-        "dk make 007",
+        "dk make 4294967303",
+        "dk make 18446744073709551617",
         "dk help",
     ] {
         let words = words(alloc, line)?;

@@ -3,6 +3,7 @@
 ghost use Rattle.std.specs.Prelude.{◌≡◌, ℕ, ◌<◌, IfOk, length};
 ghost use Rattle.wiring.specs.BufferBits.{IsBufferBits};
 ghost use Rattle.net_build.specs.Indices.{read_indices, put_indices};
+ghost use Rattle.net_build.specs.Naming.{names_for};
 ghost use Rattle.net_build.specs.Runs.{IsWhole, RunsOn};
 ghost use Rattle.pointwise_ir.specs.Stencils.{AreStencilsOf};
 ghost use Rattle.buffer_plan.specs.Plans.{bits_of};
@@ -34,6 +35,7 @@ pub struct Built {
 fn closed(alloc: Global, mut b: Builder, plan: &Plan, nets: &[Net]) -> Result<Module, OutOfMemory>
     requires ends { CanEnd b plan.now nets.now }
     ensures closed { IfOk result (λ m. IsClosed m.netlist b plan.now nets.now) }
+    ensures named { IfOk result (λ m. m.names ≡ names_for m.netlist) }
 {
     let outs = all_outs(alloc, &mut b, plan, nets)?;
     b.law();
@@ -54,6 +56,7 @@ pub fn finished<F: BufferForm>(
     requires stencils { AreStencilsOf ir.now plan.now.system.stencils }
     requires built { AreBuilt b ir.now plan.now (F.shapes form.now) (F.places form.now) (F.property form.now) (length plan.now.system.stencils.images) nets.items taps.now }
     ensures ports { IfOk result (λ r. HasPorts r.module.netlist ir.now b.enable) }
+    ensures named { IfOk result (λ r. r.module.names ≡ names_for r.module.netlist) }
     ensures whole { IfOk result (λ r. IsWhole r.module.netlist r.module.netlist) }
     ensures runs { IfOk result (λ r. RunsOn r.module.netlist) }
     ensures behaves { IfOk result (λ r. Behaves r.module.netlist ir.now plan.now (F.places form.now) r.nets.items) }

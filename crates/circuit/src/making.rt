@@ -3,6 +3,7 @@
 ghost use Rattle.std.specs.Prelude.{◌≡◌, ℕ, ◌<◌, suc, false, IfOk, length, OnOk};
 ghost use Rattle.wiring.specs.BufferBits.{IsBufferBits};
 ghost use Rattle.net_build.specs.Indices.{read_indices, put_indices};
+ghost use Rattle.net_build.specs.Naming.{names_for};
 ghost use Rattle.net_build.specs.Runs.{IsWhole, RunsOn};
 ghost use Rattle.pointwise_ir.specs.Stencils.{AreStencilsOf};
 ghost use Rattle.buffer_plan.specs.Plans.{bits_of};
@@ -89,6 +90,7 @@ pub fn build_with<F: BufferForm>(
 ) -> Result<Built, OutOfMemory>
     requires plan { IsPlanOf ir.now plan.now options }
     ensures ports { IfOk result (λ r. HasPorts r.module.netlist ir.now options.enable) }
+    ensures named { IfOk result (λ r. r.module.names ≡ names_for r.module.netlist) }
     ensures whole { IfOk result (λ r. IsWhole r.module.netlist r.module.netlist) }
     ensures runs { IfOk result (λ r. RunsOn r.module.netlist) }
     ensures behaves { IfOk result (λ r. Behaves r.module.netlist ir.now plan.now (F.places form.now) r.nets.items) }

@@ -2,7 +2,5 @@
 #![tactic(auto)]
 
 mod built;
-#[cfg(test)]
-mod tests;
 
 pub use built::bit_module;

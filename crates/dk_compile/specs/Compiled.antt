@@ -7,6 +7,7 @@ use Rattle.wiring.specs.BufferBits.{IsBufferBits}
 use Rattle.netlist.specs.Names.{NamedNetlist}
 use Rattle.net_build.specs.Runs.{IsWhole, RunsOn}
 use Rattle.net_build.specs.Indices.{read_indices, put_indices}
+use Rattle.net_build.specs.Naming.{names_for}
 use Rattle.pointwise_ir.specs.Programs.{Program}
 use Rattle.raster_delay.specs.Systems.{System}
 use Rattle.flow_dual.specs.declared.solution.Solution.{Solution}
@@ -18,6 +19,7 @@ use Rattle.circuit.specs.Behaviour.{HasPorts, Behaves}
 use Rattle.circuit.specs.Nets.{AreNetsOf, IsApart}
 use Rattle.circuit.specs.Driven.{Drives}
 use Rattle.verilog_text.specs.Stands.{StandsFor}
+use Rattle.verilog_layout.specs.Layout.{layout}
 use Rattle.dk_compile.specs.Limits.{HasSystem}
 
 -- The program of a text, the system of its live reads at an age, a solution of it, and the plan that has the solution's delays, which are the least vector. All are within the limits.
@@ -46,8 +48,10 @@ pub record IsCircuitOf (p : Program) (plan : Plan) (enable : Bool) (m : Netlist)
   -- at an age of at least 1 no path of gates passes through two images
   pub apart : IsApart m p plan chain_shapes_of nets
 
--- the text stands for the module and for no other
+-- The names of the module are fixed by its netlist: `dk`, and n0, r0 and m0 on for wires, registers and arrays in order. The text is the layout of the module, and stands for it and for no other.
 pub record IsTextOf (m : NamedNetlist) (text : List ℕ) : Type 0 where
+  pub named : m.names ≡ names_for m.netlist
+  pub laid_out : text ≡ layout m
   pub stands : StandsFor text m
   pub only : (other : NamedNetlist) → StandsFor text other → other ≡ m
 

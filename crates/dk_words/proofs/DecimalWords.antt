@@ -1,87 +1,88 @@
--- What commands with numbers read, where the numbers are decimals in their ranges.
-use Rattle.std.proofs.Common.{◌≡◌, ℕ, ◌≤◌, true, false, [], ◌∷◌, Some, None, codes, arith, decimal}
+-- What commands with numbers read, where the numbers are decimals after zeros, in their ranges.
+use Rattle.std.proofs.Common.{◌≡◌, ℕ, ◌≤◌, true, false, [], ◌∷◌, Some, None, codes, arith}
 use Rattle.dk_base.specs.declared.TheConstants.{MAX_CLOCKS, MAX_HOLD, MAX_AGE, MAX_MADE}
 use Rattle.clap.specs.Walk.{Text}
 use Rattle.dk_words.specs.Words.{is_like_option}
+use Rattle.dk_words.specs.Numbers.{padded_decimal}
 use Rattle.dk_words.specs.Command.{age_number, clocks_of, command_of, compile, hold_number, made_number, make, plan, run, sim, trace}
 use Rattle.dk_words.specs.declared.command.PowerUp.TheVariants.{Zeros, Ones}
 use Rattle.dk_words.proofs.FileWords.{age_first_reads, age_last_reads, both_first_reads, both_last_reads, both_reads, compile_age_first_reads, compile_age_last_reads, hold_reads, make_reads, make_reads_after, ones_reads, run_age_first_reads, run_age_last_reads, sim_reads, sim_reads_after, trace_reads, trace_reads_after}
-use Rattle.dk_words.proofs.NumberLemmas.{plain-decimal, within-decimal}
+use Rattle.dk_words.proofs.NumberLemmas.{plain-padded, within-padded}
 
 -- ---- the ranges
 
-clocks_decimal : (n : ℕ) → n ≤ MAX_CLOCKS → clocks_of (decimal n) ≡ Some n
-clocks_decimal n h = within-decimal 0 MAX_CLOCKS n (omega arith) h (omega arith)
+clocks_padded : (z n : ℕ) → n ≤ MAX_CLOCKS → clocks_of (padded_decimal z n) ≡ Some n
+clocks_padded z n h = within-padded 0 MAX_CLOCKS z n (omega arith) h (omega arith)
 
-hold_decimal : (n : ℕ) → 1 ≤ n → n ≤ MAX_HOLD → hold_number (decimal n) ≡ Some n
-hold_decimal n l h = within-decimal 1 MAX_HOLD n l h (omega arith)
+hold_padded : (z n : ℕ) → 1 ≤ n → n ≤ MAX_HOLD → hold_number (padded_decimal z n) ≡ Some n
+hold_padded z n l h = within-padded 1 MAX_HOLD z n l h (omega arith)
 
-age_decimal : (n : ℕ) → n ≤ MAX_AGE → age_number (decimal n) ≡ Some n
-age_decimal n h = within-decimal 0 MAX_AGE n (omega arith) h (omega arith)
+age_padded : (z n : ℕ) → n ≤ MAX_AGE → age_number (padded_decimal z n) ≡ Some n
+age_padded z n h = within-padded 0 MAX_AGE z n (omega arith) h (omega arith)
 
-made_decimal : (n : ℕ) → n ≤ MAX_MADE → made_number (decimal n) ≡ Some n
-made_decimal n h = within-decimal 0 MAX_MADE n (omega arith) h (omega arith)
+made_padded : (z n : ℕ) → n ≤ MAX_MADE → made_number (padded_decimal z n) ≡ Some n
+made_padded z n h = within-padded 0 MAX_MADE z n (omega arith) h (omega arith)
 
--- a decimal in a range is no option
-plain : (n : ℕ) → n ≤ MAX_CLOCKS → is_like_option (decimal n) ≡ false
-plain n h = plain-decimal n (omega arith)
+-- a number in a range is no option
+plain : (z n : ℕ) → n ≤ MAX_CLOCKS → is_like_option (padded_decimal z n) ≡ false
+plain z n h = plain-padded z n (omega arith)
 
 -- ---- the commands
 
-module _ (name v i o : Text) (n : ℕ) (few : n ≤ MAX_CLOCKS) where
-  pub sim_after : command_of (name ∷ codes "sim" ∷ codes "--" ∷ v ∷ decimal n ∷ i ∷ o ∷ []) ≡ Some (sim v n i o Zeros None)
-  sim_after = sim_reads_after name v (decimal n) i o n (clocks_decimal n few)
+module _ (name v i o : Text) (z n : ℕ) (few : n ≤ MAX_CLOCKS) where
+  pub sim_after : command_of (name ∷ codes "sim" ∷ codes "--" ∷ v ∷ padded_decimal z n ∷ i ∷ o ∷ []) ≡ Some (sim v n i o Zeros None)
+  sim_after = sim_reads_after name v (padded_decimal z n) i o n (clocks_padded z n few)
 
   module _ (ev : is_like_option v ≡ false) (ei : is_like_option i ≡ false) (eo : is_like_option o ≡ false) where
-    pub sim_alone : command_of (name ∷ codes "sim" ∷ v ∷ decimal n ∷ i ∷ o ∷ []) ≡ Some (sim v n i o Zeros None)
-    sim_alone = sim_reads v (decimal n) i o ev (plain n few) ei eo name n (clocks_decimal n few)
+    pub sim_alone : command_of (name ∷ codes "sim" ∷ v ∷ padded_decimal z n ∷ i ∷ o ∷ []) ≡ Some (sim v n i o Zeros None)
+    sim_alone = sim_reads v (padded_decimal z n) i o ev (plain z n few) ei eo name n (clocks_padded z n few)
 
-    pub sim_ones : command_of (name ∷ codes "sim" ∷ v ∷ decimal n ∷ i ∷ o ∷ codes "--fill" ∷ codes "ones" ∷ []) ≡ Some (sim v n i o Ones None)
-    sim_ones = ones_reads v (decimal n) i o ev (plain n few) ei eo name n (clocks_decimal n few)
+    pub sim_ones : command_of (name ∷ codes "sim" ∷ v ∷ padded_decimal z n ∷ i ∷ o ∷ codes "--fill" ∷ codes "ones" ∷ []) ≡ Some (sim v n i o Ones None)
+    sim_ones = ones_reads v (padded_decimal z n) i o ev (plain z n few) ei eo name n (clocks_padded z n few)
 
-    module _ (k : ℕ) (low : 1 ≤ k) (high : k ≤ MAX_HOLD) where
-      pub sim_hold : command_of (name ∷ codes "sim" ∷ v ∷ decimal n ∷ i ∷ o ∷ codes "--hold" ∷ decimal k ∷ []) ≡ Some (sim v n i o Zeros (Some k))
-      sim_hold = hold_reads v (decimal n) i o ev (plain n few) ei eo name n (clocks_decimal n few) (decimal k) (plain k (omega arith)) k (hold_decimal k low high)
+    module _ (y k : ℕ) (low : 1 ≤ k) (high : k ≤ MAX_HOLD) where
+      pub sim_hold : command_of (name ∷ codes "sim" ∷ v ∷ padded_decimal z n ∷ i ∷ o ∷ codes "--hold" ∷ padded_decimal y k ∷ []) ≡ Some (sim v n i o Zeros (Some k))
+      sim_hold = hold_reads v (padded_decimal z n) i o ev (plain z n few) ei eo name n (clocks_padded z n few) (padded_decimal y k) (plain y k (omega arith)) k (hold_padded y k low high)
 
-      pub sim_ones_hold : command_of (name ∷ codes "sim" ∷ v ∷ decimal n ∷ i ∷ o ∷ codes "--fill" ∷ codes "ones" ∷ codes "--hold" ∷ decimal k ∷ []) ≡ Some (sim v n i o Ones (Some k))
-      sim_ones_hold = both_reads v (decimal n) i o ev (plain n few) ei eo name n (clocks_decimal n few) (decimal k) (plain k (omega arith)) k (hold_decimal k low high)
+      pub sim_ones_hold : command_of (name ∷ codes "sim" ∷ v ∷ padded_decimal z n ∷ i ∷ o ∷ codes "--fill" ∷ codes "ones" ∷ codes "--hold" ∷ padded_decimal y k ∷ []) ≡ Some (sim v n i o Ones (Some k))
+      sim_ones_hold = both_reads v (padded_decimal z n) i o ev (plain z n few) ei eo name n (clocks_padded z n few) (padded_decimal y k) (plain y k (omega arith)) k (hold_padded y k low high)
 
-module _ (name p : Text) (age : ℕ) (low : age ≤ MAX_AGE) (ep : is_like_option p ≡ false) where
-  pub plan_age_first : command_of (name ∷ codes "plan" ∷ codes "--age" ∷ decimal age ∷ p ∷ []) ≡ Some (plan p age)
-  plan_age_first = age_first_reads p (decimal age) ep (plain age (omega arith)) name age (age_decimal age low)
+module _ (name p : Text) (z age : ℕ) (low : age ≤ MAX_AGE) (ep : is_like_option p ≡ false) where
+  pub plan_age_first : command_of (name ∷ codes "plan" ∷ codes "--age" ∷ padded_decimal z age ∷ p ∷ []) ≡ Some (plan p age)
+  plan_age_first = age_first_reads p (padded_decimal z age) ep (plain z age (omega arith)) name age (age_padded z age low)
 
-  pub plan_age_last : command_of (name ∷ codes "plan" ∷ p ∷ codes "--age" ∷ decimal age ∷ []) ≡ Some (plan p age)
-  plan_age_last = age_last_reads p (decimal age) ep (plain age (omega arith)) name age (age_decimal age low)
+  pub plan_age_last : command_of (name ∷ codes "plan" ∷ p ∷ codes "--age" ∷ padded_decimal z age ∷ []) ≡ Some (plan p age)
+  plan_age_last = age_last_reads p (padded_decimal z age) ep (plain z age (omega arith)) name age (age_padded z age low)
 
-module _ (name p i o : Text) (age : ℕ) (low : age ≤ MAX_AGE) (ep : is_like_option p ≡ false) (ei : is_like_option i ≡ false) (eo : is_like_option o ≡ false) where
-  pub run_age_first : command_of (name ∷ codes "run" ∷ codes "--age" ∷ decimal age ∷ p ∷ i ∷ o ∷ []) ≡ Some (run p i o age)
-  run_age_first = run_age_first_reads p i o ep ei eo (decimal age) (plain age (omega arith)) name age (age_decimal age low)
+module _ (name p i o : Text) (z age : ℕ) (low : age ≤ MAX_AGE) (ep : is_like_option p ≡ false) (ei : is_like_option i ≡ false) (eo : is_like_option o ≡ false) where
+  pub run_age_first : command_of (name ∷ codes "run" ∷ codes "--age" ∷ padded_decimal z age ∷ p ∷ i ∷ o ∷ []) ≡ Some (run p i o age)
+  run_age_first = run_age_first_reads p i o ep ei eo (padded_decimal z age) (plain z age (omega arith)) name age (age_padded z age low)
 
-  pub run_age_last : command_of (name ∷ codes "run" ∷ p ∷ i ∷ o ∷ codes "--age" ∷ decimal age ∷ []) ≡ Some (run p i o age)
-  run_age_last = run_age_last_reads p i o ep ei eo (decimal age) (plain age (omega arith)) name age (age_decimal age low)
+  pub run_age_last : command_of (name ∷ codes "run" ∷ p ∷ i ∷ o ∷ codes "--age" ∷ padded_decimal z age ∷ []) ≡ Some (run p i o age)
+  run_age_last = run_age_last_reads p i o ep ei eo (padded_decimal z age) (plain z age (omega arith)) name age (age_padded z age low)
 
-module _ (name p o : Text) (age : ℕ) (low : age ≤ MAX_AGE) (ep : is_like_option p ≡ false) (eo : is_like_option o ≡ false) where
-  pub compile_age_first : command_of (name ∷ codes "compile" ∷ codes "--age" ∷ decimal age ∷ p ∷ o ∷ []) ≡ Some (compile p o false age)
-  compile_age_first = compile_age_first_reads p o ep eo (decimal age) (plain age (omega arith)) name age (age_decimal age low)
+module _ (name p o : Text) (z age : ℕ) (low : age ≤ MAX_AGE) (ep : is_like_option p ≡ false) (eo : is_like_option o ≡ false) where
+  pub compile_age_first : command_of (name ∷ codes "compile" ∷ codes "--age" ∷ padded_decimal z age ∷ p ∷ o ∷ []) ≡ Some (compile p o false age)
+  compile_age_first = compile_age_first_reads p o ep eo (padded_decimal z age) (plain z age (omega arith)) name age (age_padded z age low)
 
-  pub compile_age_last : command_of (name ∷ codes "compile" ∷ p ∷ o ∷ codes "--age" ∷ decimal age ∷ []) ≡ Some (compile p o false age)
-  compile_age_last = compile_age_last_reads p o ep eo (decimal age) (plain age (omega arith)) name age (age_decimal age low)
+  pub compile_age_last : command_of (name ∷ codes "compile" ∷ p ∷ o ∷ codes "--age" ∷ padded_decimal z age ∷ []) ≡ Some (compile p o false age)
+  compile_age_last = compile_age_last_reads p o ep eo (padded_decimal z age) (plain z age (omega arith)) name age (age_padded z age low)
 
-  pub compile_both_first : command_of (name ∷ codes "compile" ∷ codes "--enable" ∷ codes "--age" ∷ decimal age ∷ p ∷ o ∷ []) ≡ Some (compile p o true age)
-  compile_both_first = both_first_reads p o ep eo (decimal age) (plain age (omega arith)) name age (age_decimal age low)
+  pub compile_both_first : command_of (name ∷ codes "compile" ∷ codes "--enable" ∷ codes "--age" ∷ padded_decimal z age ∷ p ∷ o ∷ []) ≡ Some (compile p o true age)
+  compile_both_first = both_first_reads p o ep eo (padded_decimal z age) (plain z age (omega arith)) name age (age_padded z age low)
 
-  pub compile_both_last : command_of (name ∷ codes "compile" ∷ p ∷ o ∷ codes "--enable" ∷ codes "--age" ∷ decimal age ∷ []) ≡ Some (compile p o true age)
-  compile_both_last = both_last_reads p o ep eo (decimal age) (plain age (omega arith)) name age (age_decimal age low)
+  pub compile_both_last : command_of (name ∷ codes "compile" ∷ p ∷ o ∷ codes "--enable" ∷ codes "--age" ∷ padded_decimal z age ∷ []) ≡ Some (compile p o true age)
+  compile_both_last = both_last_reads p o ep eo (padded_decimal z age) (plain z age (omega arith)) name age (age_padded z age low)
 
-pub make_alone : (name : Text) (n : ℕ) → n ≤ MAX_MADE → command_of (name ∷ codes "make" ∷ decimal n ∷ []) ≡ Some (make n)
-make_alone name n low = make_reads name (decimal n) n (made_decimal n low) (plain n (omega arith))
+pub make_alone : (name : Text) (z n : ℕ) → n ≤ MAX_MADE → command_of (name ∷ codes "make" ∷ padded_decimal z n ∷ []) ≡ Some (make n)
+make_alone name z n low = make_reads name (padded_decimal z n) n (made_padded z n low) (plain z n (omega arith))
 
-pub make_after : (name : Text) (n : ℕ) → n ≤ MAX_MADE → command_of (name ∷ codes "make" ∷ codes "--" ∷ decimal n ∷ []) ≡ Some (make n)
-make_after name n low = make_reads_after name (decimal n) n (made_decimal n low)
+pub make_after : (name : Text) (z n : ℕ) → n ≤ MAX_MADE → command_of (name ∷ codes "make" ∷ codes "--" ∷ padded_decimal z n ∷ []) ≡ Some (make n)
+make_after name z n low = make_reads_after name (padded_decimal z n) n (made_padded z n low)
 
-module _ (name v i o : Text) (n : ℕ) (few : n ≤ MAX_CLOCKS) where
-  pub trace_alone : is_like_option v ≡ false → is_like_option i ≡ false → is_like_option o ≡ false → command_of (name ∷ codes "trace" ∷ v ∷ decimal n ∷ i ∷ o ∷ []) ≡ Some (trace v n i o)
-  trace_alone ev ei eo = trace_reads name v (decimal n) i o n (clocks_decimal n few) ev (plain n few) ei eo
+module _ (name v i o : Text) (z n : ℕ) (few : n ≤ MAX_CLOCKS) where
+  pub trace_alone : is_like_option v ≡ false → is_like_option i ≡ false → is_like_option o ≡ false → command_of (name ∷ codes "trace" ∷ v ∷ padded_decimal z n ∷ i ∷ o ∷ []) ≡ Some (trace v n i o)
+  trace_alone ev ei eo = trace_reads name v (padded_decimal z n) i o n (clocks_padded z n few) ev (plain z n few) ei eo
 
-  pub trace_after : command_of (name ∷ codes "trace" ∷ codes "--" ∷ v ∷ decimal n ∷ i ∷ o ∷ []) ≡ Some (trace v n i o)
-  trace_after = trace_reads_after name v (decimal n) i o n (clocks_decimal n few)
+  pub trace_after : command_of (name ∷ codes "trace" ∷ codes "--" ∷ v ∷ padded_decimal z n ∷ i ∷ o ∷ []) ≡ Some (trace v n i o)
+  trace_after = trace_reads_after name v (padded_decimal z n) i o n (clocks_padded z n few)

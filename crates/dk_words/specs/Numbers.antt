@@ -1,5 +1,6 @@
 -- Numbers that are written as words.
-use Rattle.std.specs.Prelude.{ℕ, ◌==◌, ◌&&◌, Bool, false, not, nat_le, List, [], ◌∷◌, Option, None, Some, option_and_then, if◌then◌else◌}
+use Rattle.std.specs.Prelude.{ℕ, ◌&&◌, Bool, false, nat_le, List, [], ◌∷◌, ◌++◌, replicate, Option, None, Some, option_and_then, if◌then◌else◌}
+use Rattle.std.specs.Fmt.{decimal}
 use Rattle.std.specs.List.{list_all}
 use Rattle.std.specs.Str.Parse.{digits_value}
 
@@ -7,19 +8,18 @@ use Rattle.std.specs.Str.Parse.{digits_value}
 abbrev pub is_digit : ℕ → Bool
 is_digit byte = nat_le 48 byte && nat_le byte 57
 
--- a zero (48) with more after it
-abbrev pub has_leading_zero : List ℕ → Bool
-has_leading_zero (first ∷ second ∷ rest) = first == 48
-has_leading_zero _ = false
-
--- decimal digits without a sign and without a leading zero; zero is `0`
+-- one or more decimal digits, and no other byte
 abbrev pub is_decimal : List ℕ → Bool
 is_decimal [] = false
-is_decimal (first ∷ rest) = list_all is_digit (first ∷ rest) && not (has_leading_zero (first ∷ rest))
+is_decimal (first ∷ rest) = list_all is_digit (first ∷ rest)
 
--- the number that the word writes
+-- the number of a word of decimal digits is the value of its digits
 abbrev pub number_of : List ℕ → Option ℕ
 number_of word = if is_decimal word then Some (digits_value 10 word) else None
+
+-- the number in decimal, after this many zeros (48)
+abbrev pub padded_decimal : (zeros number : ℕ) → List ℕ
+padded_decimal zeros number = replicate zeros 48 ++ decimal number
 
 -- the number, where it is in the range
 abbrev pub within : ℕ → ℕ → ℕ → Option ℕ

@@ -4,16 +4,6 @@ ghost use Rattle.std.specs.Prelude.{◌≡◌, ◌≤◌, ◌^◌, IfSome, Some,
 ghost use Rattle.std.specs.List.{list_all};
 ghost use Rattle.dk_words.specs.Numbers as numbers;
 
-// Whether the bytes are a zero with more after it.
-fn has_leading_zero(bytes: &[u8]) -> bool
-    ensures { result ≡ numbers.has_leading_zero bytes.now }
-{
-    match bytes {
-        [first, _, ..] => *first == b'0',
-        _ => false,
-    }
-}
-
 // Whether each byte is a decimal digit.
 fn are_digits(bytes: &[u8]) -> bool
     ensures { result ≡ list_all numbers.is_digit bytes.now }
@@ -21,15 +11,12 @@ fn are_digits(bytes: &[u8]) -> bool
     bytes.iter().all(|byte| 48 <= *byte && *byte <= 57)
 }
 
-// The number that the word writes, where it fits.
+// The number that the word writes, where it fits; `parse` looks for overflow at each digit.
 fn number(word: &str) -> Option<u32>
     ensures some { IfSome result (λ n. numbers.number_of word.now ≡ Some n) }
     ensures none { result ≡ None → IfSome (numbers.number_of word.now) (λ n. 2 ^ 32 ≤ n) }
 {
     let bytes = word.as_bytes();
-    if has_leading_zero(bytes) {
-        return None;
-    }
     // `parse` takes a plus too
     if !are_digits(bytes) {
         return None;
@@ -37,8 +24,7 @@ fn number(word: &str) -> Option<u32>
     word.parse::<u32>().ok()
 }
 
-// The number that the word writes in decimal digits, without a sign and without a leading zero, where it is from
-// `low` to `high`.
+// The number that the word writes in decimal digits, where it is from `low` to `high`.
 pub fn number_within(word: &str, low: u32, high: u32) -> Option<u32>
     ensures { result ≡ numbers.number_within low high word.now }
 {

@@ -2,8 +2,6 @@
 #![tactic(auto)]
 
 #[cfg(test)]
-mod pictures;
-#[cfg(test)]
 mod sizes;
 #[cfg(test)]
 mod table;

@@ -4,13 +4,9 @@
 #[cfg(test)]
 mod images;
 #[cfg(test)]
-mod pictures;
-#[cfg(test)]
 mod programs;
 #[cfg(test)]
 mod reads;
-#[cfg(test)]
-mod rounds;
 mod worked;
 
 pub use worked::worked_headers;

@@ -1,11 +1,11 @@
 -- The header that comes next, taken byte by byte.
-use Rattle.std.specs.Prelude.{◌≡◌, ℕ, ◌<◌, ◌≤◌, ◌-◌, ◌^◌, ◌++◌, Bool, true, List, length, Some}
+use Rattle.std.specs.Prelude.{◌≡◌, ℕ, ◌<◌, ◌≤◌, ◌-◌, ◌^◌, ◌++◌, Bool, true, List, length, take, Some}
 use Rattle.std.specs.Io.KnownBytes.{prepend_known, IsAtEnd}
 use Rattle.dk_desk.specs.Outside.{Input}
 use Rattle.pgm_codec.specs.declared.header.Header.{Header}
 use Rattle.pgm_codec.specs.declared.header.HeaderFault.{HeaderFault}
 use Rattle.pgm_codec.specs.declared.scan.Scan.TheVariants.{Done, Fault, More}
-use Rattle.pgm_codec.specs.Answers.{Answers, Refuses}
+use Rattle.pgm_codec.specs.Answers.{Answers, Refuses, Undecided}
 use Rattle.pgm_codec.specs.declared.scan.HeaderScan.{HeaderScan}
 use Rattle.pgm_codec.specs.Scans.{Scanned}
 use Rattle.row_stream.specs.declared.heads.HeadFault.{HeadFault}
@@ -16,6 +16,10 @@ use Rattle.dk_base.specs.Frames.{Size}
 use Rattle.dk_base.specs.declared.TheConstants.{MAX_HEADER_BYTES}
 use Rattle.pgm_rounds.specs.declared.fault.FileFault.{FileFault}
 use Rattle.pgm_rounds.specs.Files.{IsHeaded, HasSize, Refused}
+
+-- Each shorter prefix of the bytes begins a header and holds none whole: no byte was taken after the one that decides.
+abbrev pub IsUndecidedBefore : List ℕ → Type 0
+IsUndecidedBefore bytes = (count : ℕ) → count < length bytes → Undecided (take count bytes)
 
 -- a header was read, and no byte behind it
 pub record TakesHead (header : Header) (old new : Input) : Type 0 where
@@ -29,9 +33,10 @@ pub data IsNoHead (read : List ℕ) (fault : HeaderFault) (new : Input) : Type 0
   decided : Answers read (Fault fault) → IsNoHead read fault new
   ended : Refuses read fault → IsAtEnd new.rest → IsNoHead read fault new
 
--- Where there may be none, it is one of which there is a byte.
+-- Where there may be none, it is one of which there is a byte. No byte was taken after the one that shows the fault.
 pub record MissesHead (may_end : Bool) (fault : HeaderFault) (old new : Input) : Type 0 where
   pub read : List ℕ
+  pub before : IsUndecidedBefore read
   pub some : may_end ≡ true → 0 < length read
   pub given : old.rest ≡ prepend_known read new.rest
   pub why : IsNoHead read fault new
@@ -63,9 +68,11 @@ pub record FitsHeader (size : Size) (bits : ℕ) (header : Header) : Type 0 wher
   pub maxval : header.maxval ≤ 2 ^ bits - 1
   pub length : header.length ≤ MAX_HEADER_BYTES
 
--- Bytes were read that with all that is left do not begin with a header of an image that fits, at this offset of the file.
+-- Bytes were read that with all that is left do not begin with a header of an image that fits, at this offset of the file. They end with the byte that shows it, or with the file inside a header.
 pub record RefusesHead (size : Size) (bits offset : ℕ) (may_end : Bool) (fault : FileFault) (old new : Input) : Type 0 where
   pub read : List ℕ
+  pub before : IsUndecidedBefore read
+  pub shown : Undecided read → IsAtEnd new.rest
   pub some : may_end ≡ true → 0 < length read
   pub given : old.rest ≡ prepend_known read new.rest
   pub refused : (number : ℕ) (more : List ℕ) → new.rest ≡ Some more → Refused size bits number offset (read ++ more) fault

@@ -2,6 +2,7 @@
 use Rattle.std.proofs.Common.{◌≡◌, ℕ, ◌+◌, List, [], ◌∷◌, ◌++◌, length, take, refl, ap, sym, subst, ◌∙◌, arith, append_assoc, append-nil, length-append, pos, ◌-ℤ◌}
 use Rattle.std.proofs.lemmas.List.{take-append-le}
 use Rattle.std.proofs.Math.Seq.{take-append-add}
+use Rattle.std.specs.List.{AllByRecursion}
 use Rattle.dk_desk.specs.declared.OutSlot.TheVariants.{File}
 use Rattle.dk_desk.specs.Outside.{Outside}
 use Rattle.dk_desk.specs.Calls.{AddsToFile, WritesFront}
@@ -11,6 +12,7 @@ use Rattle.wiring.specs.Snapshot.{Contents, Snapshot}
 use Rattle.wiring.specs.Clock.{Clock, given, Steps, Stops}
 use Rattle.wiring.specs.Runs.{Runs}
 use Rattle.cycle_sim.specs.Slots.{all_values}
+use Rattle.vcd_trace.specs.Layout.{AreValues}
 use Rattle.vcd_trace.specs.Told.{Told, clock_text}
 use Rattle.test_bench.specs.declared.stop.Stop.TheVariants.{Index, Count}
 use Rattle.test_bench.proofs.Runs.{runs_length}
@@ -19,7 +21,7 @@ use Rattle.trace_bench.specs.declared.ending.TraceEnd.{TraceEnd}
 use Rattle.trace_bench.specs.declared.ending.TraceEnd.TheVariants.{Stopped, Write}
 use Rattle.trace_bench.specs.Traces.{values_of, FailsBehind}
 use Rattle.trace_bench.specs.Going.{told_more, told_after, clocks_text, Goes, StopsIn, FailsIn, EndsIn}
-use Rattle.trace_bench.proofs.Texts.{after_append, texts_append, time_after, values_append, values_count}
+use Rattle.trace_bench.proofs.Texts.{after_append, texts_append, time_after, widths_after, values_append, values_count}
 
 -- ---- writes behind writes
 
@@ -44,11 +46,12 @@ fails_first a b text h = record { write = h; behind = omega arith }
 
 -- ---- one clock
 
-pub goes_one : (m : Netlist) (c : Clock) (from to : Contents) (told : Told) (before now : Outside) (s : Snapshot) (values : List ℕ) → values ≡ all_values s → Steps m from (given m c) s to → (next : Told) → next ≡ told_more told values →
+pub goes_one : (m : Netlist) (c : Clock) (from to : Contents) (told : Told) (before now : Outside) (s : Snapshot) (values : List ℕ) → AreValues told.widths values → values ≡ all_values s → Steps m from (given m c) s to → (next : Told) → next ≡ told_more told values →
     AddsToFile before (clock_text told values) now → Goes m (c ∷ []) from to told next before now
-goes_one m c from to told before now s values e step next is adds = record {
+goes_one m c from to told before now s values fits e step next is adds = record {
   shots = s ∷ [];
   runs = (to, step, refl);
+  fit = (subst (AreValues told.widths) e fits, tt);
   told_is = is ∙ ap (λ z. told_more told z) e;
   adds = subst (λ z. AddsToFile before z now) (ap (λ z. clock_text told z) e ∙ sym (append-nil (clock_text told (all_values s)))) adds;
 }
@@ -74,9 +77,13 @@ fails_one m c from to told before now s values e step h = record {
 
 -- ---- clocks behind clocks
 
+fit_join : (ws : List ℕ) (xs ys : List (List ℕ)) → AllByRecursion (AreValues ws) xs → AllByRecursion (AreValues ws) ys → AllByRecursion (AreValues ws) (xs ++ ys)
+fit_join ws [] ys h g = g
+fit_join ws (x ∷ xs) ys h g = (h.0, fit_join ws xs ys h.1 g)
+
 module _ (m : Netlist) where
   pub goes_none : (at : Contents) (told : Told) (o : Outside) → Goes m [] at at told told o o
-  goes_none at told o = record { shots = []; runs = refl; told_is = refl; adds = Adds-nothing File o }
+  goes_none at told o = record { shots = []; runs = refl; fit = tt; told_is = refl; adds = Adds-nothing File o }
 
   module _ (cs ds : List Clock) (from mid : Contents) (told between : Told) (before half now : Outside) where
     texts_join : (h : Goes m cs from mid told between before half) (more : List Snapshot) → clocks_text told (values_of h.shots) ++ clocks_text between (values_of more) ≡ clocks_text told (values_of (h.shots ++ more))
@@ -88,6 +95,10 @@ module _ (m : Netlist) where
     goes_join to next h g = record {
       shots = h.shots ++ g.shots;
       runs = runs_join m cs ds from mid to h.shots g.shots h.runs g.runs;
+      fit = subst (AllByRecursion (AreValues told.widths)) (sym (values_append h.shots g.shots))
+          (fit_join told.widths (values_of h.shots) (values_of g.shots) h.fit
+          (let same : between.widths ≡ told.widths = ap (λ (t : Told). t.widths) h.told_is ∙ widths_after told (values_of h.shots) in
+          subst (λ ws. AllByRecursion (AreValues ws) (values_of g.shots)) same g.fit));
       told_is = g.told_is ∙ ap (λ t. told_after t (values_of g.shots)) h.told_is ∙ sym (after_append told (values_of h.shots) (values_of g.shots)) ∙ ap (λ z. told_after told z) (sym (values_append h.shots g.shots));
       adds = subst (λ z. AddsToFile before z now) (texts_join h g.shots) (Adds-more File before half now (clocks_text told (values_of h.shots)) (clocks_text between (values_of g.shots)) h.adds g.adds);
     }

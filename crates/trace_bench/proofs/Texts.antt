@@ -27,6 +27,10 @@ pub time_after : (t : Told) (xs : List (List ℕ)) → (told_after t xs).time �
 time_after t [] = omega arith
 time_after t (x ∷ xs) = time_after (told_more t x) xs ∙ (let e : t.time + 1 + length xs ≡ t.time + suc (length xs) = omega arith in e)
 
+pub widths_after : (t : Told) (xs : List (List ℕ)) → (told_after t xs).widths ≡ t.widths
+widths_after t [] = refl
+widths_after t (x ∷ xs) = widths_after (told_more t x) xs
+
 pub values_append : (shots more : List Snapshot) → values_of (shots ++ more) ≡ values_of shots ++ values_of more
 values_append shots more = map-append all_values shots more
 

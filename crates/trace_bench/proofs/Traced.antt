@@ -1,6 +1,6 @@
 -- How a whole run is traced.
-use Rattle.std.proofs.Common.{◌≡◌, ℕ, ◌+◌, List, [], ◌∷◌, ◌++◌, length, replicate, true, ap, sym, subst, ◌∙◌, arith, append-nil, None, Option, pos, ◌-ℤ◌}
-use Rattle.std.specs.List.{flat_map, range_with_len}
+use Rattle.std.proofs.Common.{◌≡◌, ℕ, ◌+◌, List, [], ◌∷◌, ◌++◌, length, replicate, true, refl, ap, sym, subst, ◌∙◌, arith, append-nil, None, Option, pos, ◌-ℤ◌}
+use Rattle.std.specs.List.{AllByRecursion, flat_map, range_with_len}
 use Rattle.dk_desk.specs.declared.OutSlot.TheVariants.{File}
 use Rattle.dk_desk.specs.Outside.{Outside}
 use Rattle.dk_desk.specs.Calls.{AddsToFile, WritesFront}
@@ -12,12 +12,14 @@ use Rattle.netlist.specs.Names.{NamedNetlist}
 use Rattle.cycle_sim.specs.Slots.{all_widths}
 use Rattle.cycle_sim.specs.Ports.{din_widths}
 use Rattle.cycle_sim.specs.Filled.{filled_contents}
-use Rattle.vcd_trace.specs.Layout.{time_line, text_of}
+use Rattle.vcd_trace.specs.Layout.{AreValues, time_line, text_of}
 use Rattle.vcd_trace.specs.Header.{header_text, trace_text}
 use Rattle.vcd_trace.specs.Told.{Told, end_text}
+use Rattle.vcd_trace.specs.Replayed.{IsTraceOf}
 use Rattle.test_bench.specs.declared.drive.Drive.{Drive}
 use Rattle.test_bench.specs.declared.stop.Stop.TheVariants.{Index, Count}
 use Rattle.test_bench.specs.Stimulus.{Rounds, stimulus, reset_clock, clocks_at}
+use Rattle.test_bench.proofs.Runs.{runs_length}
 use Rattle.trace_bench.specs.declared.tracer.Tracer.{Tracer}
 use Rattle.trace_bench.specs.declared.ending.TraceEnd.{TraceEnd}
 use Rattle.trace_bench.specs.declared.ending.TraceEnd.TheVariants.{Stopped, Write}
@@ -65,11 +67,20 @@ module _ (m : NamedNetlist) (drive : Drive) (rounds : Rounds) (told : Told) (wid
         (let e : next.time ≡ length h.shots = omega (arith, ap (λ (t : Told). t.time) h.told_is, time_after told (values_of h.shots), values_count h.shots, start) in e)
         ∙ sym (whole_front m h.shots)
 
+    -- the text is the trace of these clocks, of which the reset clock is the first
+    is_trace : IsTraceOf m (values_of h.shots) (trace_text m (values_of h.shots))
+    is_trace = record {
+      some = omega (arith, values_count h.shots, runs_length m.netlist all from to h.shots h.runs);
+      fit = subst (λ ws. AllByRecursion (AreValues ws) (values_of h.shots)) widths h.fit;
+      is = refl;
+    }
+
     -- it goes to its end, and the last line is written
     goes_whole : AddsToFile made (end_text next) now → TracesRun m drive rounds old now
     goes_whole g = record {
       shots = h.shots;
       run = record { to = to; runs = h.runs };
+      trace = is_trace;
       gained = subst (λ z. AddsToFile old z now) whole (Adds-more File old made now (trace_front m h.shots) (end_text next) front g);
     }
 

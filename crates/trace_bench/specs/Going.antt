@@ -1,11 +1,13 @@
 -- Clocks that are traced one after another.
 use Rattle.std.specs.Prelude.{◌≡◌, ℕ, ◌+◌, ◌≤◌, ℤ, pos, ◌-ℤ◌, List, [], ◌∷◌, ◌++◌, length, take}
+use Rattle.std.specs.List.{AllByRecursion}
 use Rattle.dk_desk.specs.Outside.{Outside}
 use Rattle.dk_desk.specs.Calls.{AddsToFile}
 use Rattle.wiring.specs.Netlist.{Netlist}
 use Rattle.wiring.specs.Snapshot.{Contents, Snapshot}
 use Rattle.wiring.specs.Clock.{Clock}
 use Rattle.wiring.specs.Runs.{Runs, RunStops}
+use Rattle.vcd_trace.specs.Layout.{AreValues}
 use Rattle.vcd_trace.specs.Told.{Told, clock_text}
 use Rattle.test_bench.specs.declared.stop.Stop.TheVariants.{Index, Count}
 use Rattle.trace_bench.specs.declared.ending.TraceEnd.{TraceEnd}
@@ -25,10 +27,11 @@ abbrev pub clocks_text : Told → List (List ℕ) → List ℕ
 clocks_text t [] = []
 clocks_text t (values ∷ clocks) = clock_text t values ++ clocks_text (told_more t values) clocks
 
--- The module goes through these clocks, and File gains their texts.
+-- The module goes through these clocks, the values of each fit the variables, and File gains their texts.
 pub record Goes (m : Netlist) (clocks : List Clock) (from to : Contents) (told now_told : Told) (before now : Outside) : Type 0 where
   pub shots : List Snapshot
   pub runs : Runs m from clocks shots to
+  pub fit : AllByRecursion (AreValues told.widths) (values_of shots)
   pub told_is : now_told ≡ told_after told (values_of shots)
   pub adds : AddsToFile before (clocks_text told (values_of shots)) now
 

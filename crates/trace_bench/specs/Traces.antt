@@ -11,6 +11,7 @@ use Rattle.cycle_sim.specs.Ports.{din_widths}
 use Rattle.cycle_sim.specs.Filled.{filled_contents}
 use Rattle.vcd_trace.specs.Layout.{clock_lines, text_of}
 use Rattle.vcd_trace.specs.Header.{header_text, trace_text}
+use Rattle.vcd_trace.specs.Replayed.{IsTraceOf}
 use Rattle.test_bench.specs.declared.drive.Drive.{Drive}
 use Rattle.test_bench.specs.declared.stop.Stop.TheVariants.{Index, Count}
 use Rattle.test_bench.specs.Stimulus.{Rounds, stimulus}
@@ -34,10 +35,11 @@ trace_front m shots = header_text m ++ text_of (but_last (clock_lines (all_width
 abbrev pub AddsOnly : Outside → Outside → Type 0
 AddsOnly old new = new ≡ record old { file = record old.file { bytes = new.file.bytes }; files = new.files; output_failures = new.output_failures }
 
--- The run goes to its end, and File has gained its trace.
+-- The run goes to its end, and File has gained its trace, which `replay` of vcd_trace reads back to these clocks.
 pub record TracesRun (m : NamedNetlist) (drive : Drive) (rounds : Rounds) (old new : Outside) : Type 0 where
   pub shots : List Snapshot
   pub run : IsRun m.netlist drive rounds shots
+  pub trace : IsTraceOf m (values_of shots) (trace_text m (values_of shots))
   pub gained : AddsToFile old (trace_text m (values_of shots)) new
 
 -- The run stops at this clock, and File has gained the trace of the clocks before it, but no time behind them.

@@ -57,15 +57,15 @@ fn faults_of_the_header(rt: HostRuntime) -> Result<(), Fail> {
     Ok(())
 }
 
-// Another time, no LF, a variable left out, too great a value, a leading zero.
+// Another time, no LF, no clock, a variable left out, too great a value, a leading zero.
 #[test]
 fn faults_at_time_0(rt: HostRuntime) -> Result<(), Fail> {
     let alloc = rt.alloc();
     let module = module(alloc, COPY)?;
-    let texts = "#1\n@#0@#0\n1!\n0#\n@#0\n1!\nb100000000 \"\n@#0\n1!\nb00 \"\n";
+    let texts = "#1\n@#0@#0\n@#0\n1!\n0#\n@#0\n1!\nb100000000 \"\n@#0\n1!\nb00 \"\n";
     assert_eq!(rt;
         lines(alloc, &module, HEAD, texts)?.as_str(),
-        " 9 9 11 11 11"
+        " 9 9 10 11 11 11"
     );
     Ok(())
 }

@@ -1,5 +1,5 @@
 -- Lines at the front of a text, and what may follow a front.
-use Rattle.std.proofs.Common.{◌≡◌, ℕ, zero, suc, ◌+◌, ◌<◌, Bool, true, false, inl, inr, List, [], ◌∷◌, ◌++◌, map, refl, ap, sym, subst, ◌∙◌, arith, append_assoc}
+use Rattle.std.proofs.Common.{◌≡◌, ℕ, zero, suc, ◌+◌, ◌<◌, ◌≤◌, Bool, true, false, inl, inr, List, [], ◌∷◌, ◌++◌, length, map, refl, ap, sym, subst, ◌∙◌, arith, append_assoc}
 use Rattle.std.specs.Prelude.{nat_eq, if◌then◌else◌, reverse}
 use Rattle.std.specs.List.{AllByRecursion}
 use Rattle.std.specs.Int.Digits.{digits_of}
@@ -96,11 +96,12 @@ pub consume : (m : NamedNetlist) (text rest line after : List ℕ) (number : ℕ
 consume m text rest line after number F G lines lines' clocks clocks' r p e up fits is told down = record {
   before = r.before ++ (line ++ 10 ∷ []);
   place = next_line text r.before rest line after number r.place p e;
+  some = λ d g. subst (λ z. 1 ≤ length z) (told d) (r.some (up d) (fits d g));
   fit = λ d g. subst (λ z. AllByRecursion (AreValues (all_widths m.netlist)) z) (told d) (r.fit (up d) (fits d g));
   same = λ d g. append_assoc r.before (line ++ 10 ∷ []) (text_of (lines' d)) ∙ ap (λ z. r.before ++ z) (line_form line (text_of (lines' d))) ∙ ap (λ z. r.before ++ text_of z) (sym (is d g)) ∙ r.same (up d) (fits d g) ∙ ap (trace_text m) (told d);
   only = λ more agrees vs t.
       let found = r.only ((line ++ 10 ∷ []) ++ more) (inr (record { line = line; after = after; behind = more; plain = p; rest_is = e ∙ line_form line after; more_is = line_form line more })) vs
-      (record { fit = t.fit; is = sym (append_assoc r.before (line ++ 10 ∷ []) more) ∙ t.is }) in
+      (record { some = t.some; fit = t.fit; is = sym (append_assoc r.before (line ++ 10 ∷ []) more) ∙ t.is }) in
       let d = down more found.0 found.1 found.2 in
       (d.0, d.1, d.2, found.3 ∙ d.3);
 }
@@ -114,6 +115,7 @@ pub relabel : (m : NamedNetlist) (text rest : List ℕ) (number : ℕ) {C D : Ty
 relabel m text rest number F G lines lines' clocks clocks' r up fits is told down = record {
   before = r.before;
   place = r.place;
+  some = λ d g. subst (λ z. 1 ≤ length z) (told d) (r.some (up d) (fits d g));
   fit = λ d g. subst (λ z. AllByRecursion (AreValues (all_widths m.netlist)) z) (told d) (r.fit (up d) (fits d g));
   same = λ d g. ap (λ z. r.before ++ text_of z) (sym (is d g)) ∙ r.same (up d) (fits d g) ∙ ap (trace_text m) (told d);
   only = λ more agrees vs t.
@@ -131,12 +133,12 @@ faulty m text rest number F lines clocks r c f never = record {
   before = r.before;
   rest = rest;
   place = r.place;
-  begins = (text_of (lines c), (clocks c, record { fit = r.fit c f; is = r.same c f }));
+  begins = (text_of (lines c), (clocks c, record { some = r.some c f; fit = r.fit c f; is = r.same c f }));
   none = λ line after more p e t.
       let agrees : Agrees rest (line ++ 10 ∷ more) = inr (record { line = line; after = after; behind = more; plain = p; rest_is = e; more_is = refl }) in
       let found = r.only (line ++ 10 ∷ more) agrees t.0 t.1 in
       never (line ++ 10 ∷ more) agrees found.0 found.1 found.2;
   no_trace = λ t.
-      let found = r.only rest (inl refl) t.0 (record { fit = t.1.fit; is = sym r.place.whole ∙ t.1.is }) in
+      let found = r.only rest (inl refl) t.0 (record { some = t.1.some; fit = t.1.fit; is = sym r.place.whole ∙ t.1.is }) in
       never rest (inl refl) found.0 found.1 found.2;
 }

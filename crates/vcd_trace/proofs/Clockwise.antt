@@ -138,7 +138,7 @@ value_kept m text rest number k done i new ws old w a r l none =
     down more agrees (x ∷ xs) clocks fv fc t = split (nat_eq a x) x xs clocks more refl agrees fv.0 fv.1 fc t
 
 -- there are values that fit
-zeros_fit : (ws : List ℕ) → AreValues ws (map (λ w. 0) ws)
+pub zeros_fit : (ws : List ℕ) → AreValues ws (map (λ w. 0) ws)
 zeros_fit [] = tt
 zeros_fit (w ∷ ws) = (Rattle.std.proofs.Math.Nat.one-le-pow w 2 (omega arith), zeros_fit ws)
 

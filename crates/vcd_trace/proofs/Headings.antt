@@ -9,7 +9,7 @@ use Rattle.vcd_trace.specs.Header.{header_text, timescale_text, scope_text, vari
 use Rattle.vcd_trace.specs.Replayed.{IsPlain, IsAtLine, IsFaultyLine, line_count, common_lines}
 use Rattle.vcd_trace.proofs.Clocks.{drop_all}
 use Rattle.vcd_trace.proofs.Agreeing.{plain_append, next_line, line_form}
-use Rattle.vcd_trace.proofs.Timewise.{cancel, split_line, line_some, header_differs}
+use Rattle.vcd_trace.proofs.Timewise.{one_clock, clock_follows, cancel, split_line, line_some, header_differs}
 
 differ_by : (x y : ℕ) → nat_eq x y ≡ false → x ≡ y → ⊥
 differ_by x y e h = grind (arith, e, h)
@@ -22,12 +22,15 @@ stops : (m : NamedNetlist) (text before cur hs ts : List ℕ) (h number : ℕ) �
     → ((line after more xs : List ℕ) → IsPlain line → cur ++ ts ≡ line ++ 10 ∷ after → cur ++ (h ∷ hs ++ xs) ≡ line ++ 10 ∷ more → ⊥) → ((xs : List ℕ) → ts ≡ h ∷ hs ++ xs → ⊥)
     → IsFaultyLine m text number
 stops m text before cur hs ts h number at p head other short =
-    let end = text_of (clock_lines (all_widths m.netlist) []) in
+    let ws = all_widths m.netlist in
+    let clocks = one_clock ws in
+    let follows = clock_follows true ws in
+    let end = text_of (clock_lines ws clocks) in
     record {
       before = before;
       rest = cur ++ ts;
       place = at;
-      begins = (cur ++ (h ∷ hs ++ end), ([], record { fit = tt; is = sym (behind m before cur (h ∷ hs) end head) }));
+      begins = (cur ++ (h ∷ hs ++ end), (clocks, record { some = follows.1 refl; fit = follows.0; is = sym (behind m before cur (h ∷ hs) end head) }));
       none = λ line after more pl e t.
           let xs = text_of (clock_lines (all_widths m.netlist) t.0) in
           other line after more xs pl e (cancel before (cur ++ (h ∷ hs ++ xs)) (line ++ 10 ∷ more) (sym (behind m before cur (h ∷ hs) xs head) ∙ sym t.1.is));

@@ -1,11 +1,11 @@
 -- The greatest length of a clock's text.
-use Rattle.std.proofs.Common.{◌≡◌, ℕ, zero, suc, ◌+◌, ◌^◌, ◌<◌, ◌≤◌, Bool, true, false, List, [], ◌∷◌, ◌++◌, length, refl, ap, arith, max}
+use Rattle.std.proofs.Common.{◌≡◌, ℕ, zero, suc, ◌+◌, ◌^◌, ◌<◌, ◌≤◌, Bool, true, false, List, [], ◌∷◌, ◌++◌, length, refl, ap, sym, subst, arith, max}
 use Rattle.std.specs.Prelude.{nat_eq, if◌then◌else◌, decimal}
 use Rattle.std.specs.Int.Digits.{digits_of}
 use Rattle.std.proofs.lemmas.Int.Digits.{length-digits_of-le}
 use Rattle.std.proofs.lemmas.List.{length-append}
 use Rattle.vcd_trace.specs.Layout.{binary, id_of, value_line, all_lines, change_lines, changed_lines, time_line, text_of, AreValues}
-use Rattle.vcd_trace.specs.Told.{line_room, lines_room, value_lines}
+use Rattle.vcd_trace.specs.Told.{Told, IsRoomFor, clock_text, line_room, lines_room, room_of, value_lines}
 use Rattle.vcd_trace.proofs.Lines.{line_by}
 use Rattle.vcd_trace.proofs.Numbers.{length-shifted}
 use Rattle.std.proofs.lemmas.Fmt.{length-decimal-le}
@@ -53,3 +53,22 @@ at_first t ws old new e = ap (λ k. value_lines k ws old new) e
 pub at_later : (t : ℕ) (ws old new : List ℕ) → 0 < t → value_lines t ws old new ≡ changed_lines 0 ws old new
 at_later zero ws old new h = absurd (omega (arith, h))
 at_later (suc t) ws old new h = refl
+
+-- ---- the room is enough for the text of any clock, and for the last line
+
+lines_fit : (t : ℕ) (ws old vs : List ℕ) → AreValues ws vs → length (text_of (value_lines t ws old vs)) ≤ lines_room 0 ws
+lines_fit zero ws old vs h = all_fit 0 ws vs h
+lines_fit (suc t) ws old vs h = changed_fit 0 ws old vs h
+
+clock_fits : (t : Told) (vs : List ℕ) → t.time < 2 ^ 64 → AreValues t.widths vs → length (clock_text t vs) ≤ room_of t.widths
+clock_fits t vs small h = omega (arith, lines_fit t.time t.widths t.values vs h, time_fits t.time small, length-line_text (time_line t.time) (value_lines t.time t.widths t.values vs))
+
+pub room_fits : (ws : List ℕ) (n : ℕ) → n ≡ room_of ws → IsRoomFor ws n
+room_fits ws n e = record {
+  clock = λ t vs same small h.
+      let P : List ℕ → Type 0 = λ us. AreValues us vs in
+      let some : length (clock_text t vs) ≤ room_of t.widths = clock_fits t vs small (subst P (sym same) h) in
+      let room : room_of t.widths ≡ room_of ws = ap room_of same in
+      omega (arith, some, room, e);
+  last = λ t small. omega (arith, e, time_fits t.time small, length-line_text (time_line t.time) []);
+}

@@ -1,5 +1,5 @@
 -- Clocks that are read, one after another.
-use Rattle.std.proofs.Common.{◌≡◌, ℕ, zero, suc, ◌+◌, ◌^◌, ◌<◌, ◌≤◌, Bool, true, false, inl, List, [], ◌∷◌, ◌++◌, ◌-◌, length, take, drop, get_or, replicate, refl, ap, sym, subst, ◌∙◌, arith, append_assoc}
+use Rattle.std.proofs.Common.{◌≡◌, ℕ, zero, suc, ◌+◌, ◌^◌, ◌<◌, ◌≤◌, Bool, true, false, inl, inr, List, [], ◌∷◌, ◌++◌, ◌-◌, length, map, take, drop, get_or, replicate, refl, ap, sym, subst, ◌∙◌, arith, append_assoc}
 use Rattle.std.specs.Prelude.{Option, Some, None, MatchOption}
 use Rattle.std.specs.Bool.{IsTrue}
 use Rattle.std.proofs.Math.Nat.{one-le-pow}
@@ -11,12 +11,12 @@ use Rattle.vcd_trace.specs.Header.{trace_text, header_text}
 use Rattle.vcd_trace.specs.Replayed.{IsPlain, IsAtLine, IsTraceOf, IsFaultyLine, IsReplay}
 use Rattle.vcd_trace.specs.declared.fault.VcdError.{VcdError}
 use Rattle.vcd_trace.specs.Answers.{RefusesAt, EndsAt}
-use Rattle.vcd_trace.specs.Steps.{told_lines, rest_lines, Agrees, AllFit, AtTime, AfterTime, InClock}
+use Rattle.vcd_trace.specs.Steps.{told_lines, rest_lines, Agrees, AllFit, MayFollow, AtTime, AfterTime, InClock}
 use Rattle.vcd_trace.proofs.Lines.{head_same, tail_same}
 use Rattle.vcd_trace.proofs.Agreeing.{plain_same, line_form, agree_front, agree_nothing, consume, relabel, faulty}
 use Rattle.std.proofs.lemmas.List.{drop_more}
 use Rattle.vcd_trace.proofs.Clocks.{at_width, same_count, drop_all}
-use Rattle.vcd_trace.proofs.Clockwise.{time_plain, later_begin}
+use Rattle.vcd_trace.proofs.Clockwise.{time_plain, later_begin, zeros_fit}
 
 none_more : {X : Type 0} (xs : List X) → xs ++ [] ≡ xs
 none_more [] = refl
@@ -53,25 +53,34 @@ start m text rest number old at e =
     record {
       before = header_text m;
       place = at;
-      fit = λ c f. f;
+      some = λ c f. f.1 refl;
+      fit = λ c f. f.0;
       same = λ c f. ap (λ z. header_text m ++ text_of z) (sym (clock_rest ws old c e));
-      only = λ more agrees vs t. (vs, t.fit, cancel (header_text m) more (text_of (time_line 0 ∷ rest_lines true 0 ws old vs)) (t.is ∙ ap (λ z. header_text m ++ text_of z) (clock_rest ws old vs e)), refl);
+      only = λ more agrees vs t. (vs, (t.fit, λ _. t.some), cancel (header_text m) more (text_of (time_line 0 ∷ rest_lines true 0 ws old vs)) (t.is ∙ ap (λ z. header_text m ++ text_of z) (clock_rest ws old vs e)), refl);
     }
 
 pub time_read : (m : NamedNetlist) (text rest after : List ℕ) (number : ℕ) (first : Bool) (k : ℕ) (old : List ℕ) (done : List (List ℕ))
     → AtTime m text rest number first k old done → k < 2 ^ 64 → rest ≡ (time_line k ++ 10 ∷ []) ++ after → AfterTime m text after (number + 1) first k old done
 time_read m text rest after number first k old done r small e =
     let ws = all_widths m.netlist in
-    consume m text rest (time_line k) after number (AllFit ws) (AllFit ws)
+    consume m text rest (time_line k) after number (MayFollow first ws) (MayFollow first ws)
     (λ clocks. time_line k ∷ rest_lines first k ws old clocks) (λ clocks. rest_lines first k ws old clocks) (λ clocks. done ++ clocks) (λ clocks. done ++ clocks)
     r (time_plain k small) e (λ c. c) (λ c f. f) (λ c f. refl) (λ c. refl)
     (λ more c f t. (c, f, (plain_same (time_line k) (time_line k) more (text_of (rest_lines first k ws old c)) (time_plain k small) (time_plain k small) (sym (line_form (time_line k) more) ∙ t)).1, refl))
+
+-- a clock that may follow
+pub one_clock : List ℕ → List (List ℕ)
+one_clock ws = map (λ w. 0) ws ∷ []
+
+pub clock_follows : (first : Bool) (ws : List ℕ) → MayFollow first ws (one_clock ws)
+unfolding one_clock
+clock_follows first ws = ((zeros_fit ws, tt), λ _. omega arith)
 
 pub time_missing : (m : NamedNetlist) (text rest : List ℕ) (number : ℕ) (first : Bool) (k : ℕ) (old : List ℕ) (done : List (List ℕ))
     → AtTime m text rest number first k old done → k < 2 ^ 64 → ((more : List ℕ) → rest ≡ (time_line k ++ 10 ∷ []) ++ more → ⊥) → IsFaultyLine m text number
 time_missing m text rest number first k old done r small none =
     let ws = all_widths m.netlist in
-    faulty m text rest number (AllFit ws) (λ clocks. time_line k ∷ rest_lines first k ws old clocks) (λ clocks. done ++ clocks) r [] tt
+    faulty m text rest number (MayFollow first ws) (λ clocks. time_line k ∷ rest_lines first k ws old clocks) (λ clocks. done ++ clocks) r (one_clock ws) (clock_follows first ws)
     (λ more agrees c f t.
     let front = agree_front rest more (time_line k) (text_of (rest_lines first k ws old c)) agrees (time_plain k small) t in
     none front.0 front.1)
@@ -80,9 +89,9 @@ pub clock_begins : (m : NamedNetlist) (text rest : List ℕ) (number : ℕ) (fir
     → AfterTime m text rest number first k old done → (rest ≡ [] → ⊥) → InClock m text rest number first k done 0 [] (all_widths m.netlist) old
 clock_begins m text rest number first k old done r some =
     let ws = all_widths m.netlist in
-    relabel m text rest number (AllFit ws) (λ p. AreValues ws p.0 × AllFit ws p.1)
+    relabel m text rest number (MayFollow first ws) (λ p. AreValues ws p.0 × AllFit ws p.1)
     (λ clocks. rest_lines first k ws old clocks) (λ p. told_lines first 0 ws old p.0 ++ later_lines (k + 1) ws ([] ++ p.0) p.1) (λ clocks. done ++ clocks) (λ p. done ++ ([] ++ p.0) ∷ p.1)
-    r (λ p. p.0 ∷ p.1) (λ p f. (f.0, f.1)) (λ p f. refl) (λ p. refl) (λ more agrees c f t. down more agrees c f t)
+    r (λ p. p.0 ∷ p.1) (λ p f. ((f.0, f.1), λ _. omega arith)) (λ p f. refl) (λ p. refl) (λ more agrees c f t. down more agrees c f.0 t)
   where
     down : (more : List ℕ) → Agrees rest more → (c : List (List ℕ)) → AllFit (all_widths m.netlist) c → more ≡ text_of (rest_lines first k (all_widths m.netlist) old c)
         → (p : List ℕ × List (List ℕ)) × (AreValues (all_widths m.netlist) p.0 × AllFit (all_widths m.netlist) p.1) × (more ≡ text_of (told_lines first 0 (all_widths m.netlist) old p.0 ++ later_lines (k + 1) (all_widths m.netlist) p.0 p.1)) × (done ++ c ≡ done ++ p.0 ∷ p.1)
@@ -93,31 +102,34 @@ pub clock_ends : (m : NamedNetlist) (text rest : List ℕ) (number : ℕ) (first
     → InClock m text rest number first k done i new [] old → AtTime m text rest number false (k + 1) new (done ++ new ∷ [])
 clock_ends m text rest number first k done i new old r =
     let ws = all_widths m.netlist in
-    relabel m text rest number (λ p. AreValues [] p.0 × AllFit ws p.1) (AllFit ws)
+    relabel m text rest number (λ p. AreValues [] p.0 × AllFit ws p.1) (MayFollow false ws)
     (λ p. told_lines first i [] old p.0 ++ later_lines (k + 1) ws (new ++ p.0) p.1) (λ clocks. time_line (k + 1) ∷ rest_lines false (k + 1) ws new clocks)
     (λ p. done ++ (new ++ p.0) ∷ p.1) (λ clocks. (done ++ new ∷ []) ++ clocks)
-    r (λ clocks. ([], clocks)) (λ clocks f. (tt, f))
+    r (λ clocks. ([], clocks)) (λ clocks f. (tt, f.0))
     (λ clocks f. ap (λ z. later_lines (k + 1) ws z clocks) (none_more new) ∙ later_rest (k + 1) ws new clocks)
     (λ clocks. ap (λ z. done ++ z ∷ clocks) (none_more new) ∙ sym (append_assoc done (new ∷ []) clocks))
     (λ more agrees p f t. down more p.0 p.1 f.0 f.1 t)
   where
     down : (more values : List ℕ) (clocks : List (List ℕ)) → AreValues [] values → AllFit (all_widths m.netlist) clocks → more ≡ text_of (told_lines first i [] old values ++ later_lines (k + 1) (all_widths m.netlist) (new ++ values) clocks)
-        → (c : List (List ℕ)) × AllFit (all_widths m.netlist) c × (more ≡ text_of (time_line (k + 1) ∷ rest_lines false (k + 1) (all_widths m.netlist) new c)) × (done ++ (new ++ values) ∷ clocks ≡ (done ++ new ∷ []) ++ c)
+        → (c : List (List ℕ)) × MayFollow false (all_widths m.netlist) c × (more ≡ text_of (time_line (k + 1) ∷ rest_lines false (k + 1) (all_widths m.netlist) new c)) × (done ++ (new ++ values) ∷ clocks ≡ (done ++ new ∷ []) ++ c)
     down more [] clocks fv fc t = (
       clocks,
-      fc,
+      (fc, λ e. absurd (let f : ⊥ = cc in f)),
       t ∙ ap (λ z. text_of (later_lines (k + 1) (all_widths m.netlist) z clocks)) (none_more new) ∙ ap text_of (later_rest (k + 1) (all_widths m.netlist) new clocks),
       ap (λ z. done ++ z ∷ clocks) (none_more new) ∙ sym (append_assoc done (new ∷ []) clocks),
     )
     down more (x ∷ xs) clocks fv fc t = absurd fv
 
--- nothing is left behind a time
-pub trace_ends : (m : NamedNetlist) (text rest : List ℕ) (number : ℕ) (first : Bool) (k : ℕ) (old : List ℕ) (done : List (List ℕ))
-    → AfterTime m text rest number first k old done → rest ≡ [] → IsTraceOf m done text
-trace_ends m text rest number first k old done r e = record {
-  fit = subst (λ z. AllByRecursion (AreValues (all_widths m.netlist)) z) (none_more done) (r.fit [] tt);
-  is = r.place.whole ∙ ap (λ z. r.before ++ z) e ∙ r.same [] tt ∙ ap (trace_text m) (none_more done);
-}
+-- nothing is left after a time
+pub trace_ends : (m : NamedNetlist) (text rest : List ℕ) (number : ℕ) (k : ℕ) (old : List ℕ) (done : List (List ℕ))
+    → AfterTime m text rest number false k old done → rest ≡ [] → IsTraceOf m done text
+trace_ends m text rest number k old done r e =
+    let follows : MayFollow false (all_widths m.netlist) [] = (tt, λ e. absurd (let f : ⊥ = cc in f)) in
+    record {
+      some = subst (λ z. 1 ≤ length z) (none_more done) (r.some [] follows);
+      fit = subst (λ z. AllByRecursion (AreValues (all_widths m.netlist)) z) (none_more done) (r.fit [] follows);
+      is = r.place.whole ∙ ap (λ z. r.before ++ z) e ∙ r.same [] follows ∙ ap (trace_text m) (none_more done);
+    }
 
 pub line_some : (line rest : List ℕ) → [] ≡ line ++ 10 ∷ rest → ⊥
 line_some [] rest e = cc
@@ -131,7 +143,7 @@ lines_some (x ∷ xs) ys line more e t = line_some x (text_of (xs ++ ys)) t
 pub trace_only : (m : NamedNetlist) (text rest : List ℕ) (number : ℕ) (first : Bool) (k : ℕ) (old : List ℕ) (done : List (List ℕ))
     → AfterTime m text rest number first k old done → rest ≡ [] → (clocks : List (List ℕ)) → IsTraceOf m clocks text → clocks ≡ done
 trace_only m text rest number first k old done r e clocks t =
-    let found = r.only rest (inl refl) clocks (record { fit = t.fit; is = sym r.place.whole ∙ t.is }) in
+    let found = r.only rest (inl refl) clocks (record { some = t.some; fit = t.fit; is = sym r.place.whole ∙ t.is }) in
     by found.0 (sym e ∙ found.2) found.3
   where
     by : (c : List (List ℕ)) → [] ≡ text_of (rest_lines first k (all_widths m.netlist) old c) → clocks ≡ done ++ c → clocks ≡ done
@@ -139,6 +151,24 @@ trace_only m text rest number first k old done r e clocks t =
     by (new ∷ c) h g =
         let begins = later_begin (k + 1) (all_widths m.netlist) new c in
         absurd (lines_some (told_lines first 0 (all_widths m.netlist) old new) (later_lines (k + 1) (all_widths m.netlist) new c) (time_line (k + 1)) begins.0 begins.1 h)
+
+-- nothing is left after the first time
+first_only : (m : NamedNetlist) (text rest : List ℕ) (number : ℕ) (k : ℕ) (old : List ℕ) (done : List (List ℕ))
+    → AfterTime m text rest number true k old done → rest ≡ [] → IsFaultyLine m text number
+first_only m text rest number k old done r e =
+    let ws = all_widths m.netlist in
+    faulty m text rest number (MayFollow true ws) (λ clocks. rest_lines true k ws old clocks) (λ clocks. done ++ clocks) r (one_clock ws) (clock_follows true ws)
+    (λ more agrees c f t. by c (f.1 refl) (sym (nothing more agrees) ∙ t))
+  where
+    nothing : (more : List ℕ) → Agrees rest more → more ≡ []
+    nothing more (inl is) = is ∙ e
+    nothing more (inr s) = absurd (line_some s.line s.after (sym e ∙ s.rest_is))
+
+    by : (c : List (List ℕ)) → 1 ≤ length c → [] ≡ text_of (rest_lines true k (all_widths m.netlist) old c) → ⊥
+    by [] some h = omega (arith, some)
+    by (new ∷ c) some h =
+        let begins = later_begin (k + 1) (all_widths m.netlist) new c in
+        lines_some (told_lines true 0 (all_widths m.netlist) old new) (later_lines (k + 1) (all_widths m.netlist) new c) (time_line (k + 1)) begins.0 begins.1 h
 
 -- the header
 pub split_line : (cur xs line after : List ℕ) → IsPlain cur → cur ++ xs ≡ line ++ 10 ∷ after → (l : List ℕ) × (line ≡ cur ++ l) × (xs ≡ l ++ 10 ∷ after)
@@ -179,13 +209,20 @@ clock_in m text rest after number first k ws old done r small e some same =
     subst (λ z. InClock m text after (number + 1) first k done 0 [] z old) same (clock_begins m text after (number + 1) first k old done (time_read m text rest after number first k old done r small e) some)
 
 pub replay_ends : (m : NamedNetlist) (text rest after : List ℕ) (number : ℕ) (first : Bool) (k : ℕ) (old : List ℕ) (done : List (List ℕ))
-    → AtTime m text rest number first k old done → k < 2 ^ 64 → rest ≡ (time_line k ++ 10 ∷ []) ++ after → after ≡ [] → IsReplay m text done
-replay_ends m text rest after number first k old done r small e none =
-    let behind = time_read m text rest after number first k old done r small e in
+    → first ≡ false → AtTime m text rest number first k old done → k < 2 ^ 64 → rest ≡ (time_line k ++ 10 ∷ []) ++ after → after ≡ [] → IsReplay m text done
+replay_ends m text rest after number true k old done later r small e none = absurd (let f : ⊥ = cc in f)
+replay_ends m text rest after number false k old done later r small e none =
+    let ended = time_read m text rest after number false k old done r small e in
     record {
-      trace = trace_ends m text after (number + 1) first k old done behind none;
-      only = trace_only m text after (number + 1) first k old done behind none;
+      trace = trace_ends m text after (number + 1) k old done ended none;
+      only = trace_only m text after (number + 1) false k old done ended none;
     }
+
+-- the text ends after the line of the first time
+pub clock_missing : (m : NamedNetlist) (text rest after : List ℕ) (number : ℕ) (first : Bool) (k : ℕ) (old : List ℕ) (done : List (List ℕ))
+    → first ≡ true → AtTime m text rest number first k old done → k < 2 ^ 64 → rest ≡ (time_line k ++ 10 ∷ []) ++ after → after ≡ [] → IsFaultyLine m text (number + 1)
+clock_missing m text rest after number true k old done begins r small e none = first_only m text after (number + 1) k old done (time_read m text rest after number true k old done r small e) none
+clock_missing m text rest after number false k old done begins r small e none = absurd (let f : ⊥ = cc in f)
 
 pub never : IsTrue false → ⊥
 never e = grind (arith, e)

@@ -34,7 +34,7 @@ RefusesClock first widths before bytes number e =
 abbrev pub RefusesTime : (k : ℕ) (bytes : List ℕ) (number : ℕ) → VcdError → Type 0
 RefusesTime k bytes number e = (m : NamedNetlist) (text : List ℕ) (first : Bool) (old : List ℕ) (done : List (List ℕ)) → AtTime m text bytes number first k old done → Refuses m text e
 
--- from the line of a time on: the trace ends behind it, or it has one clock more
+-- from the line of a time on: the trace ends after it, or it has one clock more
 abbrev pub EndsAt : (first : Bool) (k : ℕ) (widths before : List ℕ) (bytes : List ℕ) (number : ℕ) → Type 0
 EndsAt first k widths before bytes number =
     (m : NamedNetlist) (text : List ℕ) (done : List (List ℕ)) → all_widths m.netlist ≡ widths → AtTime m text bytes number first k before done → IsReplay m text done

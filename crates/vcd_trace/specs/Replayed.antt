@@ -1,5 +1,5 @@
 -- What a text is a trace of, and its first line that continues no trace.
-use Rattle.std.specs.Prelude.{◌≡◌, ℕ, suc, ◌+◌, ◌*◌, ◌⊎◌, List, [], ◌∷◌, ◌++◌, nat_eq, if◌then◌else◌, ⊤}
+use Rattle.std.specs.Prelude.{◌≡◌, ℕ, suc, ◌+◌, ◌*◌, ◌≤◌, ◌⊎◌, List, [], ◌∷◌, ◌++◌, length, nat_eq, if◌then◌else◌, ⊤}
 use Rattle.std.specs.List.{AllByRecursion}
 use Rattle.netlist.specs.Names.{NamedNetlist}
 use Rattle.cycle_sim.specs.Slots.{all_widths}
@@ -13,8 +13,9 @@ abbrev pub bits_after : ℕ → List ℕ → ℕ
 bits_after a [] = a
 bits_after a (b ∷ bytes) = if nat_eq b 48 then bits_after (2 * a) bytes else if nat_eq b 49 then bits_after (2 * a + 1) bytes else a
 
--- the values fit the module's variables, and the text is the trace of them
+-- the text is the trace of these clocks, of which the reset clock is the first; their values fit the module's variables
 pub record IsTraceOf (m : NamedNetlist) (clocks : List (List ℕ)) (text : List ℕ) : Type 0 where
+  pub some : 1 ≤ length clocks
   pub fit : AllByRecursion (AreValues (all_widths m.netlist)) clocks
   pub is : text ≡ trace_text m clocks
 

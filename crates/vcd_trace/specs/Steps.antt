@@ -1,5 +1,5 @@
 -- What is read of a trace so far, and which lines may follow.
-use Rattle.std.specs.Prelude.{◌≡◌, ℕ, ◌+◌, ◌⊎◌, Bool, false, List, [], ◌∷◌, ◌++◌, nat_eq, if◌then◌else◌}
+use Rattle.std.specs.Prelude.{◌≡◌, ℕ, ◌+◌, ◌≤◌, ◌⊎◌, Bool, true, false, List, [], ◌∷◌, ◌++◌, length, nat_eq, if◌then◌else◌}
 use Rattle.std.specs.List.{AllByRecursion}
 use Rattle.netlist.specs.Names.{NamedNetlist}
 use Rattle.cycle_sim.specs.Slots.{all_widths}
@@ -43,6 +43,7 @@ Agrees rest more = (more ≡ rest) ⊎ ShareLine rest more
 pub record Reads (m : NamedNetlist) (text rest : List ℕ) (number : ℕ) (C : Type 0) (Fits : C → Type 0) (lines : C → List (List ℕ)) (clocks : C → List (List ℕ)) : Type 0 where
   pub before : List ℕ
   pub place : IsAtLine text before rest number
+  pub some : (c : C) → Fits c → 1 ≤ length (clocks c)
   pub fit : (c : C) → Fits c → AllByRecursion (AreValues (all_widths m.netlist)) (clocks c)
   pub same : (c : C) → Fits c → before ++ text_of (lines c) ≡ trace_text m (clocks c)
   pub only : (more : List ℕ) → Agrees rest more → (vs : List (List ℕ)) → IsTraceOf m vs (before ++ more) → (c : C) × Fits c × (more ≡ text_of (lines c)) × (vs ≡ clocks c)
@@ -50,17 +51,21 @@ pub record Reads (m : NamedNetlist) (text rest : List ℕ) (number : ℕ) (C : T
 abbrev pub AllFit : List ℕ → List (List ℕ) → Type 0
 AllFit ws clocks = AllByRecursion (AreValues ws) clocks
 
+-- clocks that may follow: at least one where none is read yet
+abbrev pub MayFollow : (first : Bool) (widths : List ℕ) → List (List ℕ) → Type 0
+MayFollow first ws clocks = AllFit ws clocks × (first ≡ true → 1 ≤ length clocks)
+
 -- before the line of time k: the clocks so far, and the values at the last of them
 abbrev pub AtTime : (m : NamedNetlist) (text rest : List ℕ) (number : ℕ) (first : Bool) (k : ℕ) (old : List ℕ) (done : List (List ℕ)) → Type 0
 AtTime m text rest number first k old done =
     let ws = all_widths m.netlist in
-    Reads m text rest number (List (List ℕ)) (AllFit ws) (λ clocks. time_line k ∷ rest_lines first k ws old clocks) (λ clocks. done ++ clocks)
+    Reads m text rest number (List (List ℕ)) (MayFollow first ws) (λ clocks. time_line k ∷ rest_lines first k ws old clocks) (λ clocks. done ++ clocks)
 
 -- behind that line
 abbrev pub AfterTime : (m : NamedNetlist) (text rest : List ℕ) (number : ℕ) (first : Bool) (k : ℕ) (old : List ℕ) (done : List (List ℕ)) → Type 0
 AfterTime m text rest number first k old done =
     let ws = all_widths m.netlist in
-    Reads m text rest number (List (List ℕ)) (AllFit ws) (λ clocks. rest_lines first k ws old clocks) (λ clocks. done ++ clocks)
+    Reads m text rest number (List (List ℕ)) (MayFollow first ws) (λ clocks. rest_lines first k ws old clocks) (λ clocks. done ++ clocks)
 
 -- within clock k, before variable i: the values of those before it, and the widths and old values from it on
 abbrev pub InClock : (m : NamedNetlist) (text rest : List ℕ) (number : ℕ) (first : Bool) (k : ℕ) (done : List (List ℕ)) (i : ℕ) (new widths old : List ℕ) → Type 0

@@ -1,7 +1,7 @@
 -- What a trace has told, and what it tells of one clock more.
-use Rattle.std.specs.Prelude.{ℕ, zero, suc, ◌+◌, nat_eq, if◌then◌else◌, max, List, [], ◌∷◌, length}
+use Rattle.std.specs.Prelude.{◌≡◌, ℕ, zero, suc, ◌+◌, ◌^◌, ◌<◌, ◌≤◌, nat_eq, if◌then◌else◌, max, List, [], ◌∷◌, length}
 use Rattle.vcd_trace.specs.declared.clock.TheConstants.{TIME_LINE_BYTES}
-use Rattle.vcd_trace.specs.Layout.{id_of, all_lines, changed_lines, time_line, text_of}
+use Rattle.vcd_trace.specs.Layout.{AreValues, id_of, all_lines, changed_lines, time_line, text_of}
 
 -- the widths of the variables, the time of the next clock, and the values at the clock before it, of which nothing is said at time 0
 pub record Told : Type 0 where
@@ -33,3 +33,8 @@ lines_room i (w ∷ widths) = line_room w i + lines_room (i + 1) widths
 -- the greatest length of the text of a clock: a time with its `#` and its LF, and the lines of all variables
 abbrev pub room_of : (widths : List ℕ) → ℕ
 room_of widths = TIME_LINE_BYTES + lines_room 0 widths
+
+-- n bytes are room for the text of each clock of each run of these variables, and for the last line of each
+pub record IsRoomFor (widths : List ℕ) (n : ℕ) : Type 0 where
+  pub clock : (t : Told) (values : List ℕ) → t.widths ≡ widths → t.time < 2 ^ 64 → AreValues widths values → length (clock_text t values) ≤ n
+  pub last : (t : Told) → t.time < 2 ^ 64 → length (end_text t) ≤ n

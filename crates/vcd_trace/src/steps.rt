@@ -138,7 +138,7 @@ fn is_done(bytes: &[u8]) -> bool
     bytes.is_empty()
 }
 
-// The clock at a time, from the line of that time on; None where the text ends behind that line.
+// The clock at a time, from the line of that time on; None where the text ends after that line, and a clock was read before.
 pub(crate) fn read_at<'a>(
     alloc: Global,
     line: &mut Vec<u8>,
@@ -161,6 +161,10 @@ pub(crate) fn read_at<'a>(
         Ok(after) => after,
     };
     if is_done(after) {
+        if first {
+            // the reset clock is in every trace
+            return Err(VcdError::Fault { line: number + 1 });
+        }
         return Ok(None);
     }
     match read_clock(alloc, line, first, widths, before, after, number + 1) {

@@ -60,7 +60,7 @@ impl Trace {
     ghost use Rattle.std.specs.Vec.{vec_len, vec_capacity};
     ghost use Rattle.cycle_sim.specs.Slots.{all_widths};
     ghost use Rattle.vcd_trace.specs.Layout.{AreValues};
-    ghost use Rattle.vcd_trace.specs.Told.{clock_text, end_text, room_of};
+    ghost use Rattle.vcd_trace.specs.Told.{IsRoomFor, clock_text, end_text, room_of};
 
     /// A trace of a module's run that has told nothing yet. The only error is want of memory.
     pub fn new(alloc: Global, module: &Module) -> Result<Trace, OutOfMemory>
@@ -81,7 +81,8 @@ impl Trace {
 
     /// The greatest length of one clock's text, in bytes.
     pub fn room(&self) -> usize
-        ensures { result ≡ room_of self.now.widths }
+        ensures value { result ≡ room_of self.now.widths }
+        ensures enough { IsRoomFor self.now.widths result }
     {
         self.room
     }

@@ -27,31 +27,31 @@ pub returns-clause-plan_after_dashes : goal.returns-clause-plan_after_dashes
 returns-clause-plan_after_dashes c = plan_reads_after
 
 pub returns-clause-plan_age_first : goal.returns-clause-plan_age_first
-returns-clause-plan_age_first c = λ name p age low ep. plan_age_first name p age low ep
+returns-clause-plan_age_first c = λ name p z age low ep. plan_age_first name p z age low ep
 
 pub returns-clause-plan_age_last : goal.returns-clause-plan_age_last
-returns-clause-plan_age_last c = λ name p age low ep. plan_age_last name p age low ep
+returns-clause-plan_age_last c = λ name p z age low ep. plan_age_last name p z age low ep
 
 pub returns-clause-sim : goal.returns-clause-sim
-returns-clause-sim c = λ name v i o n few ev ei eo. sim_alone name v i o n few ev ei eo
+returns-clause-sim c = λ name v i o z n few ev ei eo. sim_alone name v i o z n few ev ei eo
 
 pub returns-clause-sim_after_dashes : goal.returns-clause-sim_after_dashes
-returns-clause-sim_after_dashes c = λ name v i o n few. sim_after name v i o n few
+returns-clause-sim_after_dashes c = λ name v i o z n few. sim_after name v i o z n few
 
 pub returns-clause-sim_ones : goal.returns-clause-sim_ones
-returns-clause-sim_ones c = λ name v i o n few ev ei eo. sim_ones name v i o n few ev ei eo
+returns-clause-sim_ones c = λ name v i o z n few ev ei eo. sim_ones name v i o z n few ev ei eo
 
 pub returns-clause-sim_hold : goal.returns-clause-sim_hold
-returns-clause-sim_hold c = λ name v i o n k few low high ev ei eo. sim_hold name v i o n few ev ei eo k low high
+returns-clause-sim_hold c = λ name v i o z n y k few low high ev ei eo. sim_hold name v i o z n few ev ei eo y k low high
 
 pub returns-clause-sim_ones_hold : goal.returns-clause-sim_ones_hold
-returns-clause-sim_ones_hold c = λ name v i o n k few low high ev ei eo. sim_ones_hold name v i o n few ev ei eo k low high
+returns-clause-sim_ones_hold c = λ name v i o z n y k few low high ev ei eo. sim_ones_hold name v i o z n few ev ei eo y k low high
 
 pub returns-clause-run_age_first : goal.returns-clause-run_age_first
-returns-clause-run_age_first c = λ name p i o age low ep ei eo. run_age_first name p i o age low ep ei eo
+returns-clause-run_age_first c = λ name p i o z age low ep ei eo. run_age_first name p i o z age low ep ei eo
 
 pub returns-clause-run_age_last : goal.returns-clause-run_age_last
-returns-clause-run_age_last c = λ name p i o age low ep ei eo. run_age_last name p i o age low ep ei eo
+returns-clause-run_age_last c = λ name p i o z age low ep ei eo. run_age_last name p i o z age low ep ei eo
 
 pub returns-clause-compile : goal.returns-clause-compile
 returns-clause-compile c = λ name p o ep eo. compile_reads p o ep eo name
@@ -66,22 +66,22 @@ pub returns-clause-compile_enable_last : goal.returns-clause-compile_enable_last
 returns-clause-compile_enable_last c = λ name p o ep eo. enable_last_reads p o ep eo name
 
 pub returns-clause-compile_age_first : goal.returns-clause-compile_age_first
-returns-clause-compile_age_first c = λ name p o age low ep eo. compile_age_first name p o age low ep eo
+returns-clause-compile_age_first c = λ name p o z age low ep eo. compile_age_first name p o z age low ep eo
 
 pub returns-clause-compile_age_last : goal.returns-clause-compile_age_last
-returns-clause-compile_age_last c = λ name p o age low ep eo. compile_age_last name p o age low ep eo
+returns-clause-compile_age_last c = λ name p o z age low ep eo. compile_age_last name p o z age low ep eo
 
 pub returns-clause-compile_enable_age_first : goal.returns-clause-compile_enable_age_first
-returns-clause-compile_enable_age_first c = λ name p o age low ep eo. compile_both_first name p o age low ep eo
+returns-clause-compile_enable_age_first c = λ name p o z age low ep eo. compile_both_first name p o z age low ep eo
 
 pub returns-clause-compile_enable_age_last : goal.returns-clause-compile_enable_age_last
-returns-clause-compile_enable_age_last c = λ name p o age low ep eo. compile_both_last name p o age low ep eo
+returns-clause-compile_enable_age_last c = λ name p o z age low ep eo. compile_both_last name p o z age low ep eo
 
 pub returns-clause-trace : goal.returns-clause-trace
-returns-clause-trace c = λ name v i o n few ev ei eo. trace_alone name v i o n few ev ei eo
+returns-clause-trace c = λ name v i o z n few ev ei eo. trace_alone name v i o z n few ev ei eo
 
 pub returns-clause-trace_after_dashes : goal.returns-clause-trace_after_dashes
-returns-clause-trace_after_dashes c = λ name v i o n few. trace_after name v i o n few
+returns-clause-trace_after_dashes c = λ name v i o z n few. trace_after name v i o z n few
 
 pub returns-clause-make : goal.returns-clause-make
 returns-clause-make c = make_alone

@@ -1,8 +1,8 @@
-use Rattle.dk_words.proofs.NumberLemmas.{number-decimal, decimal-number}
+use Rattle.dk_words.proofs.NumberLemmas.{number-padded, padded-number}
 use Rattle.dk_words.proofs.decimals_are_read.Goals as goal
 
 pub returns-clause-read : goal.returns-clause-read
-returns-clause-read c = number-decimal
+returns-clause-read c = number-padded
 
 pub returns-clause-only : goal.returns-clause-only
-returns-clause-only c = decimal-number
+returns-clause-only c = padded-number

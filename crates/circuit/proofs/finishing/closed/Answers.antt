@@ -1,7 +1,8 @@
-use Rattle.std.proofs.Common.{List, ap, subst, sym, ◌∙◌}
+use Rattle.std.proofs.Common.{◌≡◌, List, refl, ap, subst, sym, ◌∙◌}
 use Rattle.wiring.specs.declared.netlist.Net.{Net}
 use Rattle.netlist.specs.Names.{NamedNetlist}
 use Rattle.net_build.specs.Draft.{AreSources, flat, with_outputs}
+use Rattle.net_build.specs.Naming.{names_for}
 use Rattle.circuit.proofs.Leaving.{can_take, can_update}
 use Rattle.circuit.proofs.finishing.closed.Goals as goal
 
@@ -27,4 +28,5 @@ returns c = record {
     bits = c.in_ok-module.ensures.bits;
     still = c.in_ok-module.ensures.still;
   };
+  named = subst (λ (m : NamedNetlist). m.names ≡ names_for m.netlist) (sym c.in_ok-module.ensures.made) refl;
 }

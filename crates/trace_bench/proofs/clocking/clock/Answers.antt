@@ -1,10 +1,10 @@
-use Rattle.std.proofs.Common.{rules, ◌∙◌, sym, subst, true, to_z, of_z, w64, FitsSigned}
+use Rattle.std.proofs.Common.{rules, ◌≡◌, ◌∙◌, sym, subst, true, to_z, of_z, w64, FitsSigned}
 use Rattle.std.proofs.lemmas.Int.{to_z-of_z}
 use Rattle.dk_desk.specs.declared.OutSlot.TheVariants.{File}
 use Rattle.dk_desk.specs.Calls.{AddsToFile, WritesFront}
 use Rattle.wiring.specs.Snapshot.{Fit}
 use Rattle.wiring.specs.Clock.{Clock, given, Steps, Stops}
-use Rattle.cycle_sim.specs.Slots.{all_widths}
+use Rattle.cycle_sim.specs.Slots.{all_values, all_widths}
 use Rattle.vcd_trace.specs.Layout.{AreValues}
 use Rattle.trace_bench.proofs.Fitting.{values_fit}
 use Rattle.trace_bench.proofs.Going.{goes_one, stops_one, fails_one}
@@ -59,5 +59,9 @@ returns-in-Ok-write-clause-ok g c =
     let step : Steps m from (given m clock) ok.0 to = subst (λ z. Steps m from (given m (record { reset = c.args.reset; enable = true; dins = z })) ok.0 to) c.deref.ensures.value ok.1 in
     let before = g.D.Desk.outside c.args.desk.now in
     let now = g.D.Desk.outside c.write.new.desk in
-    goes_one m clock from to old.trace before now ok.0 c.deref-in-Ok.result.now (c.deref-in-Ok.ensures.value ∙ ok.2) step c.tell.new.trace c.tell.ensures.next
+    let tracing = c.requires.tracing in
+    let fit = values_fit c.values_fit.ensures.nets m tracing.order tracing.rules tracing.ordered clock from to ok.0 c.law.ensures.fit c.requires.dins step in
+    let seen : c.deref-in-Ok.result.now ≡ all_values ok.0 = c.deref-in-Ok.ensures.value ∙ ok.2 in
+    let fits : AreValues old.trace.widths c.deref-in-Ok.result.now = subst (λ z. AreValues z c.deref-in-Ok.result.now) (sym tracing.widths) (subst (λ z. Fit (all_widths m) z) (sym seen) fit) in
+    goes_one m clock from to old.trace before now ok.0 c.deref-in-Ok.result.now fits seen step c.tell.new.trace c.tell.ensures.next
     (subst (λ z. AddsToFile before z now) (c.deref-in-Ok-2.ensures.value ∙ c.tell.ensures.text) c.in-Ok-write.ensures.ok)

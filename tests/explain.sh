@@ -1,0 +1,395 @@
+#!/bin/sh
+# Compares what tools/explain.sh says of worked faults with texts written by hand. Says nothing where all is right, and else names each case.
+# With PROGRAM it also checks that the program ends with the status and the line of each case.
+# usage: tests/explain.sh [PROGRAM]
+top=$(cd "$(dirname "$0")/.." && pwd) || exit 2
+program=
+[ $# = 0 ] || program=$(cd "$(dirname "$1")" && pwd)/$(basename "$1")
+work=$(mktemp -d) || exit 2
+trap 'rm -rf "$work"' EXIT
+cd "$work" || exit 2
+. "$top/tools/explain.sh"
+failed=0
+usage='usage: run [--age K] PROG IN OUT | compile [--enable] [--age K] PROG OUT | plan [--age K] PROG | sim VERILOG CLOCKS IN OUT [--fill FILL] [--hold K] | eval PROG IN OUT | make N | check PROG REPORT | trace VERILOG CLOCKS IN VCD'
+
+wrong_case() {
+    printf 'explain: %s\n' "$1" >&2
+    failed=1
+}
+
+# says STATUS LINE WORD..: the explanation is that of standard input
+says() {
+    wanted=$(cat)
+    got=$(explain "$@" 2>&1 </dev/null)
+    [ "$got" = "$wanted" ] || wrong_case "dk $*: got
+$got
+wanted
+$wanted"
+}
+
+# ends STATUS LINE WORD..: the program with these words ends so, and the explanation is that of standard input
+ends() {
+    says "$@"
+    [ -n "$program" ] || return
+    status=$1
+    line=$2
+    shift 2
+    "$program" "$@" >stdout 2>stderr </dev/null
+    got=$?
+    [ "$got" = "$status" ] && [ "$(cat stderr)" = "$line" ] || wrong_case "dk $*: status $got, '$(cat stderr)' where $status, '$line' was expected"
+}
+
+# source_fault SPAN-AND-FAULT TEXT: writes the program p.dk, and compares as `ends` does
+source_fault() {
+    printf '%b' "$2" >p.dk
+    ends 3 "program $1" plan p.dk
+}
+
+# verilog_fault SPAN-AND-FAULT TEXT: the same for the Verilog text v.v
+verilog_fault() {
+    printf '%b' "$2" >v.v
+    ends 5 "verilog $1" trace v.v 3 i.pgm t.vcd
+}
+
+# image_fault FAULT BYTES: the same for the images of a program that copies images of size 3 1
+image_fault() {
+    printf '%b' "$2" >j.pgm
+    ends 4 "image: $1" eval copy.dk j.pgm o.pgm
+}
+
+# usage_fault WORD..: these words are not taken
+usage_fault() {
+    ends 2 "$usage" "$@"
+}
+
+# taken WORD..: nothing is wrong in these words as far as the script can tell
+taken() {
+    says 2 "$usage" "$@" <<'end'
+This script finds no wrong word.
+end
+}
+
+tab=$(printf '\t')
+printf 'size 3 1\ninput a : u8\noutput a\n' >copy.dk
+printf 'P5\n3 1\n255\nabc' >i.pgm
+
+# Spans.
+source_fault '38-39: UnknownImage' 'size 1 1\ninput a : u8\nlet f = im(x,y) b(x,y) end\noutput f\n' <<'end'
+p.dk:3:17
+    let f = im(x,y) b(x,y) end
+                    ^
+No input and no earlier definition has this name; an image cannot read itself or a later one.
+end
+source_fault '0-0: Syntax' '' <<'end'
+p.dk:1:1, the end of the file
+    
+    ^
+The program cannot go on with this token, or ends too early: a missing `end` or bracket or a reserved word as a name may be why.
+end
+source_fault '28-28: Syntax' 'size 3 1 input a : u8 output' <<'end'
+p.dk:1:29, the end of the file
+    size 3 1 input a : u8 output
+                                ^
+The program cannot go on with this token, or ends too early: a missing `end` or bracket or a reserved word as a name may be why.
+end
+source_fault '29-29: Syntax' 'size 3 1 input a : u8 output\n' <<'end'
+p.dk:2:1, the end of the file
+    
+    ^
+The program cannot go on with this token, or ends too early: a missing `end` or bracket or a reserved word as a name may be why.
+end
+source_fault '39-65: WidthTooGreat' 'size 1 1\ninput a : u16\nlet f = im(x,y) (a(x,y)<<17)*\n(a(x,y)<<17) end\noutput f\n' <<'end'
+p.dk:3:17
+    let f = im(x,y) (a(x,y)<<17)*
+                    ^^^^^^^^^^^^^
+The result or the common type of the operands has more than 64 bits; convert with `as` or `sat` to fewer bits first.
+end
+source_fault '42-44: OffsetRange' 'size 1 1\ninput a : u8\nlet f =\tim(x,y)\ta(x+65,y) end\noutput f\n' <<end
+p.dk:3:21
+    let f =${tab}im(x,y)${tab}a(x+65,y) end
+           ${tab}       ${tab}    ^^
+An offset is at most 64; read in two steps, through an image in between.
+end
+source_fault '40-41: UnknownImage' 'size 1 1\r\ninput a : u8\r\nlet f = im(x,y) b(x,y) end\r\noutput f\r\n' <<'end'
+p.dk:3:17
+    let f = im(x,y) b(x,y) end
+                    ^
+No input and no earlier definition has this name; an image cannot read itself or a later one.
+end
+source_fault '7-8: BadByte' 'size 3 \0303\0251\n' <<'end'
+p.dk:1:8
+    size 3 é
+           ^
+No token begins with this byte; only comments, from `--` to the end of the line, may contain any byte.
+end
+source_fault '7-8: BadByte' 'size 3 \0000\n' <<'end'
+p.dk:1:8
+    size 3 ?
+           ^
+No token begins with this byte; only comments, from `--` to the end of the line, may contain any byte.
+end
+hundred='                                                                                                    '
+source_fault '1007-1008: BadByte' "size 3 $hundred$hundred$hundred$hundred$hundred$hundred$hundred$hundred$hundred$hundred@ $hundred" <<'end'
+p.dk:1:1008
+    ..                                         @                                                            ..
+                                               ^
+No token begins with this byte; only comments, from `--` to the end of the line, may contain any byte.
+end
+verilog_fault "16-22: BadConstant" "/* \0303\0251\0342\0202\0254\0360\0235\0204\0236 */ 8'd256\n" <<'end'
+v.v:1:11
+    /* é€𝄞 */ 8'd256
+              ^^^^^^
+A constant is written as `8'd255`: its size is 1 to 64 bits, and its number fits the size.
+end
+# Control bytes, bytes that are no UTF-8, and a mark that reorders a line.
+verilog_fault "23-29: BadConstant" "/* \0377\0001\0033[31m \0303( \0302\0233\0342\0200\0256 */ 8'd256\n" <<'end'
+v.v:1:21
+    /* ???[31m ?( ?? */ 8'd256
+                        ^^^^^^
+A constant is written as `8'd255`: its size is 1 to 64 bits, and its number fits the size.
+end
+verilog_fault '0-1: BadByte' '/* open' <<'end'
+v.v:1:1
+    /* open
+    ^
+No token of the subset begins with this byte, or a comment does not end.
+end
+
+# A text that is no file that can be read twice, and one that is shorter by now.
+says 3 'program 38-39: UnknownImage' plan /dev/null <<'end'
+No input and no earlier definition has this name; an image cannot read itself or a later one.
+end
+says 3 'program 38-39: UnknownImage' plan copy.dk <<'end'
+No input and no earlier definition has this name; an image cannot read itself or a later one.
+end
+
+# Faults with numbers.
+{
+    printf 'size 1 1\ninput a : u8\ninline let i1 = im(x,y) a(x,y)+a(x,y) end\n'
+    for number in 2 3 4 5 6 7 8 9 10 11 12 13 14 15; do
+        printf 'inline let i%s = im(x,y) i%s(x,y)+i%s(x,y) end\n' "$number" $((number - 1)) $((number - 1))
+    done
+    printf 'let f = im(x,y) i15(x,y) as u8 end\noutput f\n'
+} >nodes.dk
+ends 3 'program: Nodes 98303' plan nodes.dk <<'end'
+`nodes.dk`: With inline images substituted, the program has 98303 nodes, and 65,536 are allowed; remove `inline` from what is read often.
+end
+says 3 'program: Bits 98765432' make 5 <<'end'
+The line buffers need 98765432 bits at least, and 67,108,864 are allowed; use fewer rows, narrower types, a smaller width or a smaller age.
+end
+image_fault 'Short 2 3' 'P5\n3 1\n255\nab' <<'end'
+`j.pgm`: The file ends inside a raster: it has 2 of the 3 bytes of its last image.
+end
+image_fault 'Size 2 1' 'P5\n2 1\n255\nab' <<'end'
+`j.pgm`: The image is 2 wide and 1 high, which is not the program's size (`sim`, `trace`: the first image's, at most 4,096 by 4,096).
+end
+image_fault 'Magic 14' 'P5\n3 1\n255\nabcd' <<'end'
+`j.pgm`: An image must begin at byte 14 (counted from 0), but there is no `P5`: it is another format, or bytes follow the last image.
+end
+image_fault 'Maxval 256' 'P5\n3 1\n256\nababab' <<'end'
+`j.pgm`: The maxval of the image is 256, which is above the greatest number of its input's type.
+end
+printf 'plan 4\n' >report.txt
+ends 10 'report: line 1' check copy.dk report.txt <<'end'
+report.txt:1
+    plan 4
+`report.txt`: Line 1 is the first wrong line of the report, in its form or in what it states (docs/REPORT.md).
+end
+says 10 'report: line 2' check copy.dk report.txt <<'end'
+report.txt ends before line 2.
+`report.txt`: Line 2 is the first wrong line of the report, in its form or in what it states (docs/REPORT.md).
+end
+cat >memory.v <<'end'
+module m(input clk, input rst, input [1:0] din, output valid, output [7:0] dout);
+  reg [7:0] m0 [0:2];
+  assign valid = ~rst;
+  assign dout = m0[din];
+  always @(posedge clk) begin
+    m0[2'd0] <= 8'd5;
+  end
+endmodule
+end
+printf 'P5\n4 1\n3\n\000\000\001\003' >four.pgm
+ends 6 'stopped: clock 3 array 0 index 3' sim memory.v 4 four.pgm o.pgm <<'end'
+`memory.v`: In clock 3 (-1 is the reset clock) array 0 of the text (counted from 0) is read or written at index 3, which is past its end.
+end
+ends 6 'stopped: count 3 of 4' sim memory.v 3 four.pgm o.pgm <<'end'
+`memory.v`: `valid` was 1 in 3 clocks, but the images have 4 pixels; take CLOCKS from the line `clocks` of the program's plan.
+end
+ends 5 'verilog 7-8: Ports' sim memory.v 4 four.pgm o.pgm --hold 1 <<'end'
+memory.v:1:8
+    module m(input clk, input rst, input [1:0] din, output valid, output [7:0] dout);
+           ^
+The ports must be `clk rst [en] din .. valid dout ..` (docs/VERILOG.md); `--hold` requires `en` (`compile --enable`).
+end
+
+# Files that cannot be read or written.
+mkdir folder
+ends 7 'cannot read' run none.dk i.pgm o.pgm <<'end'
+PROG, `none.dk`, cannot be read: there is no such file.
+end
+ends 7 'cannot read' eval copy.dk folder o.pgm <<'end'
+IN, `folder`, cannot be read: it is a folder.
+end
+ends 7 'cannot read' check copy.dk '' <<'end'
+REPORT, ``, cannot be read: an empty word names no file.
+end
+says 7 'cannot read' sim memory.v 4 four.pgm o.pgm <<'end'
+The system refused the read of VERILOG, `memory.v` or IN, `four.pgm`.
+end
+ends 8 'cannot write' run copy.dk i.pgm ./i.pgm <<'end'
+OUT, `./i.pgm`, cannot be written: it is the same file as IN, `i.pgm`.
+end
+ends 8 'cannot write' compile copy.dk folder <<'end'
+OUT, `folder`, cannot be written: it is a folder.
+end
+ends 8 'cannot write' compile copy.dk none/o.v <<'end'
+OUT, `none/o.v`, cannot be written: there is no folder `none`.
+end
+ends 8 'cannot write' compile copy.dk i.pgm/o.v <<'end'
+OUT, `i.pgm/o.v`, cannot be written: there is no folder `i.pgm`.
+end
+ends 8 'cannot write' trace memory.v 2 four.pgm '' <<'end'
+VCD, ``, cannot be written: an empty word names no file.
+end
+says 8 'cannot write' plan copy.dk <<'end'
+The system refused the write to standard output: the device may be full, or the pipe closed.
+end
+[ ! -e /dev/full ] || ends 8 'cannot write' compile copy.dk /dev/full <<'end'
+OUT, `/dev/full`, cannot be written: the system refused the write; the device may be full, or the pipe closed.
+end
+# Who may read and write all files sees no refusal.
+printf 'P5\n3 1\n255\nabc' >locked.pgm
+chmod 0 locked.pgm
+if [ ! -r locked.pgm ]; then
+    ends 7 'cannot read' run copy.dk locked.pgm o.pgm <<'end'
+IN, `locked.pgm`, cannot be read: you have no permission to read it.
+end
+    ends 8 'cannot write' compile copy.dk locked.pgm <<'end'
+OUT, `locked.pgm`, cannot be written: you have no permission to write it.
+end
+fi
+
+# Words.
+usage_fault <<'end'
+The command is missing. `./dk --help` shows the commands and options.
+end
+usage_fault ru p.dk i.pgm o.pgm <<'end'
+There is no command `ru`. The commands are: run compile plan sim eval make check trace. `./dk --help` shows the commands and options.
+end
+usage_fault -- run p.dk i.pgm o.pgm <<'end'
+The command comes first, but `--` begins with a hyphen. `./dk --help` shows the commands and options.
+end
+usage_fault run copy.dk <<'end'
+Missing: IN OUT. run expects PROG IN OUT.
+end
+usage_fault trace v.v 3 i.pgm <<'end'
+Missing: VCD. trace expects VERILOG CLOCKS IN VCD.
+end
+usage_fault plan copy.dk two <<'end'
+`two` is one word too many. plan expects PROG.
+end
+usage_fault plan -a <<'end'
+plan has no option `-a`; it has: --age. Write `--` before a file name that begins with a hyphen. `./dk --help` shows the commands and options.
+end
+usage_fault eval --age 1 copy.dk i.pgm o.pgm <<'end'
+eval has no option `--age`. Write `--` before a file name that begins with a hyphen. `./dk --help` shows the commands and options.
+end
+usage_fault plan --ag 1 copy.dk <<'end'
+plan has no option `--ag`; it has: --age. Write `--` before a file name that begins with a hyphen. `./dk --help` shows the commands and options.
+end
+usage_fault plan --age 1 --age=1 copy.dk <<'end'
+--age is given twice.
+end
+usage_fault compile --enable=yes copy.dk o.v <<'end'
+--enable has no value.
+end
+usage_fault compile --enable= copy.dk o.v <<'end'
+--enable has no value.
+end
+usage_fault plan copy.dk --age <<'end'
+The value of --age is missing.
+end
+usage_fault sim --hold -1 memory.v 4 four.pgm o.pgm <<'end'
+The value of --hold is missing: `-1` begins with a hyphen.
+end
+for value in 65 '' - 1x +1 18446744073709551617; do
+    usage_fault plan "--age=$value" copy.dk <<end
+The value of --age is a number from 0 to 64, but is \`$value\`.
+end
+done
+for value in 0 000 1000001; do
+    usage_fault sim memory.v 4 four.pgm o.pgm --hold "$value" <<end
+The value of --hold is a number from 1 to 1,000,000, but is \`$value\`.
+end
+done
+usage_fault sim memory.v 4 four.pgm o.pgm --fill two <<'end'
+The value of --fill is `zeros` or `ones`, but is `two`.
+end
+usage_fault make 0004194304 <<'end'
+N is a number from 0 to 4,194,303, but is `0004194304`.
+end
+usage_fault trace memory.v 100000001 four.pgm t.vcd <<'end'
+CLOCKS is a number from 0 to 100,000,000, but is `100000001`.
+end
+usage_fault run copy.dk o.pgm o.pgm <<'end'
+OUT is the same word as IN: `o.pgm`. Write the output to a file of its own.
+end
+usage_fault plan copy.dk "$(printf 'a\\n\033[31m')" <<'end'
+`a\n?[31m` is one word too many. plan expects PROG.
+end
+usage_fault plan "$(printf 'a\377')" <<'end'
+`a?` is not UTF-8.
+end
+usage_fault plan "$(printf '\303')" <<'end'
+`?` is not UTF-8.
+end
+taken run -- -a i.pgm o.pgm
+taken run - i.pgm o.pgm
+taken run p.dk --age 01 i.pgm -- -o
+taken run run plan "$(printf '\303\251 \033\302\233 \360\235\204\236')"
+taken check p.dk p.dk
+taken sim v.v 4 i.pgm 4 --hold=1000000 --fill ones
+taken plan -- --age
+taken make 0000000000000000000000000000000000000000000000000000004194303
+
+# The help page has a line for each command and option, of 80 columns at most.
+help_page >page
+for word in $commands --age --enable --fill --hold --; do
+    [ "$(grep -c -- "^  $word " page)" = 1 ] || wrong_case "the help page has no line on $word"
+done
+[ -z "$(cut -c 81- page | tr -d '\n')" ] || wrong_case 'the help page has more than 80 columns'
+
+# The table has the faults of docs/COMMANDS.md and no others.
+awk -F '|' '
+    function add(text, cell,    parts, count, i) {
+        count = split(cell, parts, "`")
+        for (i = 2; i <= count; i += 2) {
+            sub(/^[a-z]+( S-E)?: /, "", parts[i])
+            sub(/ .*/, "", parts[i])
+            if (parts[i] != "KIND") print text "." parts[i]
+        }
+    }
+    /^#/ { text = "" }
+    /^Of a program / { text = "program" }
+    /^Of a file of images / { text = "image" }
+    /^Of a Verilog text / { text = "verilog" }
+    /^\| `/ && text != "" && !/^\| `stopped/ { add(text, $2) }
+    /^\|[^|]*\| `(program|image|verilog|stopped|report)( S-E)?: / && $2 !~ /:/ { match($3, /[a-z]+/); add(substr($3, RSTART, RLENGTH), $3) }
+    /^- The kinds of a Verilog fault are/ { sub(/ They are judged.*/, ""); add("verilog", $0) }
+' "$top/docs/COMMANDS.md" | sort -u >listed
+sed -n 's/^    \([a-z]*\.[A-Za-z]*\)) .*/\1/p' "$top/tools/faults.sh" | sort >explained
+diff listed explained >difference || wrong_case "docs/COMMANDS.md (<) and tools/faults.sh (>) have other faults: $(cat difference)"
+while read -r fault; do
+    [ -n "$(meaning "${fault%.*}" "${fault#*.}" 1 2 3 4 5)" ] || wrong_case "no sentence on $fault"
+done <listed
+
+# Under a terminal the script dk shows both the line and the explanation; without one the line only.
+if [ -n "$program" ] && command -v script >/dev/null; then
+    printf '%s\n' 'cannot read' 'PROG, `none.dk`, cannot be read: there is no such file.' 7 >wanted
+    script -q -e -c "timeout 20 '$top/dk' plan none.dk" /dev/null </dev/null >shown
+    echo $? >>shown
+    tr -d '\r' <shown | cmp -s - wanted || wrong_case "under a terminal dk shows: $(cat shown)"
+    timeout 20 "$top/dk" plan none.dk 2>&1 | cmp -s - wanted && wrong_case 'without a terminal dk explains'
+fi
+exit "$failed"

@@ -1,0 +1,37 @@
+#!/bin/sh
+# Shows the Verilog texts of this folder to Icarus Verilog and to Verilator, as far as they are installed, and says which it passed over.
+# The texts are those of the law worked_layouts of crates/verilog_layout, which is checked here by their bytes.
+# usage: tests/lint.sh
+tests=$(cd "$(dirname "$0")" && pwd)
+examples=$tests/../examples
+worked=$tests/../crates/verilog_layout/src/worked.rt
+failed=0
+
+# is_silent NAME WORD..: the command succeeds and writes nothing
+is_silent() {
+    shown=$1
+    shift
+    said=$("$@" 2>&1) && [ -z "$said" ] || {
+        echo "lint: $* does not take $shown as it is: $said" >&2
+        failed=1
+    }
+}
+
+for text in "$examples"/verilog/*.v; do
+    name=$(basename "$text" .v)
+    line=$(awk '{ printf "%s\\n", $0 }' "$text")
+    grep -qF "ensures $name { layout ${name}_module ≡ codes \"$line\" }" "$worked" || {
+        echo "lint: $name.v is not the text of worked_layouts" >&2
+        failed=1
+    }
+    if command -v iverilog >/dev/null; then
+        is_silent "$name.v" iverilog -g2005 -Wall -o /dev/null "$text"
+    fi
+    if command -v verilator >/dev/null; then
+        is_silent "$name.v" verilator --lint-only "$text"
+    fi
+done
+for tool in iverilog verilator; do
+    command -v "$tool" >/dev/null || echo "lint: $tool is not installed, and was passed over"
+done
+exit "$failed"

@@ -1,0 +1,29 @@
+#!/bin/sh
+# Compares `make N`, for numbers chosen by a seed, with `eval` and `run` on the same program and image, which made.py makes a second time.
+# It says nothing where the sums and the statuses agree, and else names each number where they do not.
+# usage: tests/made.sh PROGRAM COUNT [SEED]
+program=$(cd "$(dirname "$1")" && pwd)/$(basename "$1")
+tests=$(cd "$(dirname "$0")" && pwd)
+examples=$tests/../examples
+work=$(mktemp -d) || exit 2
+trap 'rm -rf "$work"' EXIT
+cd "$work" || exit 2
+failed=0
+for number in $(python3 "$tests/made.py" numbers "$2" "${3-1}"); do
+    python3 "$tests/made.py" write "$number" || exit 2
+    line=$("$program" make "$number" 2>fault)
+    status=$?
+    for command in eval run; do
+        rm -f out.pgm
+        "$program" $command made.dk made.pgm out.pgm 2>stderr
+        got=$?
+        if [ $got != $status ] || ! cmp -s stderr fault; then
+            echo "made: $command of $number: status $got, '$(cat stderr)' where make has $status, '$(cat fault)'" >&2
+            failed=1
+        elif [ $status = 0 ] && [ "${line##* sum }" != "$(python3 "$tests/made.py" sum out.pgm)" ]; then
+            echo "made: the sum of $command is not that of '$line'" >&2
+            failed=1
+        fi
+    done
+done
+exit $failed

@@ -1,0 +1,91 @@
+#!/usr/bin/env python3
+"""Looks up each name that the docs have between backticks in the sources. Prints each one that is not there, with its file and line, and then ends with status 1.
+
+usage: tests/names.py
+
+A name is one identifier, or a path of identifiers with `::` or `.`. It is found where the sources declare or import it, where it is the name of a file, a
+folder or a crate, where a rule below takes it for a word of a program or a Verilog text, or where tests/names.txt has it. Blocks of code are passed over.
+"""
+
+import os
+import re
+import sys
+from pathlib import Path
+
+TOP = Path(__file__).resolve().parent.parent
+WORD = r"[A-Za-z_][A-Za-z0-9_']*"
+NAME = re.compile(rf"{WORD}(?:(?:::|\.){WORD})*")
+# Type words of programs; ports, and names of images, wires, registers and arrays; magic numbers of image files.
+SNIPPET = re.compile(r"[us]([0-9]+|[nNM])|(din|dout|valid|[inrm])[0-9]+|clk|P[1-7]")
+# What the sources declare: after a keyword, before a colon (functions, fields, clauses, binders), or as a variant of an enum.
+RUST = re.compile(
+    rf"\b(?:fn|struct|enum|trait|mod|const|static|type|as|requires|ensures|ghost|for|use)\s+({WORD})|({WORD})\s*:(?!:)|^\s+([A-Z]\w*)\s*[,({{]",
+    re.M,
+)
+KEYWORD = re.compile(rf"\b(?:data|record|abbrev|mod|as|ruleset)\s+(?:pub\s+)?({WORD})")
+TYPED = re.compile(r"([\w' ]+) : ")
+IMPORT = re.compile(r"\buse\s[^{};\n]*(?:\{[^}]*\})?")
+
+
+def declared(path):
+    """The names that a source file declares or imports, comments left out."""
+    text = re.sub(r"//.*" if path.suffix == ".rt" else r"--.*", "", path.read_text())
+    found = {word for use in IMPORT.findall(text) for word in re.findall(WORD, use)}
+    if path.suffix == ".rt":
+        return found.union(*RUST.findall(text))
+    return found.union(KEYWORD.findall(text), *(names.split() for names in TYPED.findall(text)))
+
+
+def sources():
+    """The declared names of each source file, and the names of files, folders and crates."""
+    names = set(re.findall(WORD, (TOP / "crates.txt").read_text()))
+    files = []
+    for folder, folders, found in os.walk(TOP):
+        folders[:] = [name for name in folders if name != "out" and not name.startswith(".")]
+        names.update(folders)
+        for path in (Path(folder, name) for name in found):
+            names |= {path.name, path.stem}
+            if path.suffix in (".rt", ".antt"):
+                files.append(declared(path))
+    return files, names
+
+
+def is_found(name, files, names, every):
+    if name in names or SNIPPET.fullmatch(name):
+        return True
+    parts = re.split(r"::|\.", name)
+    if "::" in name:
+        # One file has to declare or import all parts of such a path.
+        return any(file.issuperset(parts) for file in files)
+    return every.issuperset(parts)
+
+
+def named(doc):
+    """Each name between backticks, with its line."""
+    is_code = False
+    for number, line in enumerate(doc.read_text().splitlines(), 1):
+        if line.startswith("```"):
+            is_code = not is_code
+        elif not is_code and not line.startswith("    "):
+            for text in re.findall(r"`([^`]+)`", line):
+                if NAME.fullmatch(text):
+                    yield number, text
+
+
+def main():
+    files, names = sources()
+    every = set().union(*files)
+    for line in (TOP / "tests/names.txt").read_text().splitlines():
+        names.update([] if line.startswith("#") else line.split())
+    docs = [TOP / "README.md", TOP / "examples/README.md", *sorted(TOP.glob("docs/*.md")), *sorted(TOP.glob("crates/*/README.md"))]
+    docs.remove(TOP / "docs/LADDER.md")
+    status = 0
+    for doc in docs:
+        for number, name in named(doc):
+            if not is_found(name, files, names, every):
+                print(f"{doc.relative_to(TOP)}:{number}: {name} is not in the sources")
+                status = 1
+    return status
+
+
+sys.exit(main())

@@ -1,0 +1,21 @@
+#!/bin/sh
+# Planted bodies: wrong changes of the code, each of which the proofs must refuse. They are edits as those in crates/NAME/must-fail, of crates
+# whose proofs take minutes, so that the gate does not try them. The crates have to be proved before (`./check --proofs`).
+# usage: tests/planted.sh [CRATE..]      all crates by default; it takes some hours of processor time
+top=$(cd "$(dirname "$0")/.." && pwd) && cd "$top" || exit 2
+# shellcheck disable=SC2046
+[ $# -gt 0 ] || set -- $(ls tests/planted)
+clean() {
+    for crate; do
+        for edit in tests/planted/"$crate"/*.edit; do
+            rm -f "crates/$crate/must-fail/${edit##*/}"
+        done
+        rmdir "crates/$crate/must-fail" 2>/dev/null
+    done
+}
+trap 'clean "$@"' EXIT
+trap 'exit 130' INT TERM HUP
+for crate; do
+    mkdir -p "crates/$crate/must-fail" && cp tests/planted/"$crate"/*.edit "crates/$crate/must-fail" || exit 2
+done
+rt must-fail "$@"

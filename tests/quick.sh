@@ -1,0 +1,651 @@
+#!/bin/sh
+# The quick tests: runs a built program on the examples, from a folder of its own, and compares pictures, lines and statuses.
+# It names each case that is not as it should be. The last line is `N passed, M failed`.
+# usage: tests/quick.sh PROGRAM
+program=$(cd "$(dirname "$1")" && pwd)/$(basename "$1")
+tests=$(cd "$(dirname "$0")" && pwd)
+examples=$tests/../examples
+work=$(mktemp -d) || exit 2
+trap 'rm -rf "$work"' EXIT
+cd "$work" || exit 2
+cp "$examples"/programs/*.dk "$examples"/programs/*.pgm "$tests"/reports/*.dk "$tests"/reports/*.txt . || exit 2
+cp "$examples"/sim/*.v . || exit 2
+# Every call here has 4 MiB of stack: the deepest accepted programs need between 1 and 2.
+ulimit -S -s 4096 || exit 2
+cases=0
+failed=0
+usage='usage: run [--age K] PROG IN OUT | compile [--enable] [--age K] PROG OUT | plan [--age K] PROG | sim VERILOG CLOCKS IN OUT [--fill FILL] [--hold K] | eval PROG IN OUT | make N | check PROG REPORT | trace VERILOG CLOCKS IN VCD'
+
+wrong() {
+    echo "quick: $*" >&2
+    failed=$((failed + 1))
+}
+
+# is TEXT WORD..: a case, which holds where the command WORD.. succeeds; TEXT says what is wrong where it does not
+is() {
+    said=$1
+    shift
+    cases=$((cases + 1))
+    "$@" || wrong "$said"
+}
+
+# ends STATUS LINE WORD..: the program with these words ends with this status, prints nothing, and says this line on standard error
+ends() {
+    status=$1
+    line=$2
+    shift 2
+    rm -f out.pgm
+    cases=$((cases + 1))
+    "$program" "$@" >stdout 2>stderr
+    got=$?
+    if [ "$got" != "$status" ] || [ -s stdout ] || [ "$(cat stderr)" != "$line" ]; then
+        wrong "dk $*: status $got, '$(cat stderr)', expected $status, '$line'"
+    fi
+}
+
+# holds FILE [NAME]: the output is this file, byte for byte; NAME says what it shows
+holds() {
+    is "the output is not $1 ${2-}" cmp -s out.pgm "$1"
+}
+
+# none: nothing was created
+none() {
+    is "something was created" [ ! -e out.pgm ]
+}
+
+ends 0 '' run copy.dk gradient.pgm out.pgm
+holds gradient.pgm
+ends 0 '' run double.dk gradient.pgm out.pgm
+holds doubled.pgm
+ends 0 '' run -- copy.dk gradient.pgm out.pgm
+holds gradient.pgm
+
+# Each line of pictures.txt names a program and its input; the picture that is wanted has the program's name.
+while read -r name input <&3; do
+    for command in eval run; do
+        ends 0 '' "$command" "$name.dk" "$input.pgm" out.pgm
+        holds "$name.pgm"
+    done
+done 3<"$examples/programs/pictures.txt"
+
+# Each line of calls/pictures.txt is what it shows, a program, its input and the picture that is wanted, with bytes as printf reads them.
+while IFS='|' read -r name text input wanted <&3; do
+    printf '%b' "$text" >text.dk
+    printf '%b' "$input" >input.pgm
+    printf '%b' "$wanted" >wanted.pgm
+    for command in eval run; do
+        ends 0 '' "$command" text.dk input.pgm out.pgm
+        holds wanted.pgm "$name"
+    done
+done 3<"$tests/calls/pictures.txt"
+
+# Each line of calls/faults.txt is a status, a line on standard error, the program and the input that end so, and what `run` has written before the fault, if anything.
+while IFS='|' read -r status line text input left <&3; do
+    printf '%b' "$text" >text.dk
+    printf '%b' "$input" >input.pgm
+    ends "$status" "$line" eval text.dk input.pgm out.pgm
+    none
+    ends "$status" "$line" run text.dk input.pgm out.pgm
+    if [ -n "$left" ]; then
+        printf '%b' "$left" >wanted.pgm
+        holds wanted.pgm "$line"
+    else
+        none
+    fi
+done 3<"$tests/calls/faults.txt"
+
+# Each line of calls/values.txt is an operand P by its type and a number that stands for it modulo 2^N, an operand Q, an expression and its value; B is 1.
+# The expression is made over images, which a bit chooses, and over constants; both have the value.
+tab=$(printf '\t')
+printf 'P5 1 1 1\n\001' >input.pgm
+printf 'P5\n1 1\n1\n\001' >wanted.pgm
+while IFS=$tab read -r left p right q expression value <&3; do
+    nets=$(printf '%s\n' "$expression" | sed 's/P/p(x,y)/g; s/Q/q(x,y)/g; s/B/b(x,y)/g')
+    numbers=$(printf '%s\n' "$expression" | sed "s/P/(($p) as $left)/g; s/Q/(($q) as $right)/g; s/B/1/g")
+    {
+        printf 'size 1 1 input b : u1 let p = im(x,y) select(b(x,y),(%s) as %s,0 as %s) end ' "$p" "$left" "$left"
+        printf 'let q = im(x,y) select(b(x,y),(%s) as %s,0 as %s) end ' "$q" "$right" "$right"
+        printf 'let r = im(x,y) ((%s)==(%s))&((%s)==(%s)) end output r\n' "$nets" "$value" "$numbers" "$value"
+    } >text.dk
+    for command in eval run; do
+        ends 0 '' "$command" text.dk input.pgm out.pgm
+        holds wanted.pgm "$expression, P being $p of $left, Q $q of $right"
+    done
+done 3<"$tests/calls/values.txt"
+
+# Each line of calls/programs.txt is what `compile` says of a program, a tab, and the program.
+while IFS=$tab read -r line text <&3; do
+    printf '%s' "$text" >text.dk
+    if [ "$line" = accepted ]; then
+        ends 0 '' compile text.dk out.pgm
+    else
+        ends 3 "$line" compile text.dk out.pgm
+        none
+    fi
+done 3<"$tests/calls/programs.txt"
+
+ends 2 "$usage"
+ends 2 "$usage" run copy.dk
+ends 2 "$usage" help
+ends 2 "$usage" run copy.dk gradient.pgm gradient.pgm
+is 'the input was changed' cmp -s gradient.pgm "$examples/programs/gradient.pgm"
+ends 2 "$usage" run "$(printf '\377')" gradient.pgm out.pgm
+none
+
+# Faults of programs.
+printf '\001' >byte.dk
+ends 3 'program 0-1: BadByte' run byte.dk gradient.pgm out.pgm
+none
+head -c 1048577 /dev/zero | tr '\0' ' ' >long.dk
+ends 3 'program: TooLong 1048576' run long.dk gradient.pgm out.pgm
+ends 3 'program: TooLong 1048576' eval long.dk gradient.pgm out.pgm
+none
+{
+    printf 'size 1 1\ninput a : u8\ninline let i1 = im(x,y) a(x,y)+a(x,y) end\n'
+    k=1
+    while [ $k -lt 15 ]; do
+        printf 'inline let i%d = im(x,y) i%d(x,y)+i%d(x,y) end\n' $((k + 1)) $k $k
+        k=$((k + 1))
+    done
+    printf 'let f = im(x,y) i15(x,y) as u8 end\noutput f\n'
+} >nodes.dk
+ends 3 'program: Nodes 98303' eval nodes.dk gradient.pgm out.pgm
+none
+
+# repeat COUNT FORMAT: the format for each number from 1 to COUNT
+repeat() {
+    k=1
+    while [ $k -le "$1" ]; do
+        # shellcheck disable=SC2059
+        printf "$2" $k
+        k=$((k + 1))
+    done
+}
+
+# refused LINE: the text in text.dk ends with this line, by either command
+refused() {
+    ends 3 "$1" eval text.dk gradient.pgm out.pgm
+    ends 3 "$1" run text.dk gradient.pgm out.pgm
+    none
+}
+
+{
+    printf 'size 1 1 '
+    repeat 9 'input a%d : u1 '
+    printf 'output a1'
+} >text.dk
+refused 'program 127-129: TooManyInputs'
+{
+    printf 'size 1 1 input a : u1 '
+    repeat 7 'let b%d = im(x,y) 1 end '
+    printf 'output a '
+    repeat 7 'output b%d '
+    printf 'output a'
+} >text.dk
+refused 'program 269-270: TooManyOutputs'
+{
+    printf 'size 1 1 input a : u1 '
+    repeat 256 'let c%d = im(x,y) 1 end '
+} >text.dk
+start=$(($(wc -c <text.dk) + 4))
+printf 'let c257 = im(x,y) 1 end output a' >>text.dk
+refused "program $start-$((start + 4)): TooManyImages"
+{
+    printf 'size 1 1 input a : u8 let f = im(x,y) 1'
+    repeat 512 '+1%.0s'
+    printf ' end output f'
+} >text.dk
+refused 'program 38-1063: Depth'
+{
+    printf 'size 1 1 input a : u8 inline let d1 = im(x,y) a(x,y)'
+    repeat 400 '|1%.0s'
+    printf ' end inline let d2 = im(x,y) d1(x,y)'
+    repeat 400 '|1%.0s'
+    printf ' end inline let d3 = im(x,y) d2(x,y)'
+    repeat 400 '|1%.0s'
+    printf ' end let '
+} >text.dk
+start=$(wc -c <text.dk)
+printf 'f = im(x,y) d3(x,y) end output f' >>text.dk
+refused "program $start-$((start + 1)): InlineDepth"
+{
+    printf 'size 128 128 input a : u1 inline let r = im(x,y) a(x,y)'
+    repeat 64 '|a(x-%d,y)'
+    printf ' end let f = im(x,y) r(x,y)'
+    repeat 64 '|r(x,y-%d)'
+    printf ' end output f'
+} >text.dk
+refused 'program: Reads 4225'
+
+# The deepest programs that the limits accept: 128 open brackets, those of the read among them, a tree of depth 512, and an inlined one of depth 1,024, in which a read of an inline image counts too.
+printf 'P5 1 1 255\n\002' >dot.pgm
+# plan_holds PROG: `check` says yes to the report of `plan`
+plan_holds() {
+    "$program" plan "$1" >plan.txt 2>stderr && "$program" check "$1" plan.txt >stdout 2>stderr
+}
+
+# deep VALUE: the program in text.dk is planned, and makes this sample of the sample 2
+deep() {
+    printf "P5\n1 1\n255\n$1" >wanted.pgm
+    for command in eval run; do
+        ends 0 '' "$command" text.dk dot.pgm out.pgm
+        holds wanted.pgm
+    done
+    is 'the plan of a deep program does not hold' plan_holds text.dk
+}
+{
+    printf 'size 1 1 input a : u8 let f = im(x,y) '
+    repeat 127 '(%.0s'
+    printf 'a(x,y)'
+    repeat 127 ')%.0s'
+    printf ' end output f'
+} >text.dk
+deep '\002'
+{
+    printf 'size 1 1 input a : u8 let f = im(x,y) a(x,y)'
+    repeat 511 '|1%.0s'
+    printf ' end output f'
+} >text.dk
+deep '\003'
+{
+    printf 'size 1 1 input a : u8 inline let d1 = im(x,y) a(x,y)'
+    repeat 400 '|1%.0s'
+    printf ' end inline let d2 = im(x,y) d1(x,y)'
+    repeat 400 '|1%.0s'
+    printf ' end let f = im(x,y) d2(x,y)'
+    repeat 221 '|1%.0s'
+    printf ' end output f'
+} >text.dk
+deep '\003'
+
+# Faults of files of images.
+cp gradient.pgm longer.pgm
+printf x >>longer.pgm
+ends 4 'image: Magic 140' eval copy.dk longer.pgm out.pgm
+none
+ends 4 'image: Magic 140' run copy.dk longer.pgm out.pgm
+holds gradient.pgm
+{
+    printf P5
+    head -c 65534 /dev/zero | tr '\0' ' '
+} >header.pgm
+ends 4 'image: LongHeader 65536' eval copy.dk header.pgm out.pgm
+none
+cat gradient.pgm header.pgm >second.pgm
+ends 4 'image: LongHeader 65536' run copy.dk second.pgm out.pgm
+holds gradient.pgm
+# a byte behind 65,536 images
+echo 'size 1 1 input a : u8 output a' >pixel.dk
+printf 'P5 1 1 255\nx' >pixels.pgm
+for _ in 1 2 3 4 5 6 7 8 9 10 11 12 13 14 15 16; do
+    cat pixels.pgm pixels.pgm >twice.pgm && mv twice.pgm pixels.pgm
+done
+ends 0 '' eval pixel.dk pixels.pgm out.pgm
+printf P >>pixels.pgm
+ends 4 'image: Count 65536' eval pixel.dk pixels.pgm out.pgm
+none
+ends 4 'image: Count 65536' run pixel.dk pixels.pgm out.pgm
+truncate -s 268435457 zeros.pgm
+ends 4 'image: TooLong 268435456' eval copy.dk zeros.pgm out.pgm
+none
+rm zeros.pgm
+
+# prints TEXT WORD..: the program with these words is done, prints this text and says nothing
+prints() {
+    text=$1
+    shift
+    cases=$((cases + 1))
+    "$program" "$@" >stdout 2>stderr
+    got=$?
+    if [ "$got" != 0 ] || [ -s stderr ] || [ "$(cat stdout)" != "$text" ]; then
+        wrong "dk $*: status $got, '$(cat stdout)', '$(cat stderr)', expected '$text'"
+    fi
+}
+
+# Verilog texts, clocked. What must come out of NAME.v is sim/NAME.pgm.
+for name in line_buffer median enabled; do
+    ends 0 '' sim $name.v 3072 scene.pgm out.pgm
+    holds "$examples/sim/$name.pgm"
+done
+ends 0 '' sim enabled.v 3072 scene.pgm out.pgm --hold 1
+holds "$examples/sim/enabled.pgm"
+ends 0 '' sim --hold 7 enabled.v 3072 scene.pgm out.pgm
+holds "$examples/sim/enabled.pgm"
+ends 0 '' sim line_buffer.v 3072 --fill=ones scene.pgm out.pgm
+holds "$examples/sim/line_buffer_ones.pgm"
+printf 'P5 4 1 1\n\0\0\0\0' >bits.pgm
+printf 'P5\n4 1\n1\n\001\0\001\0' >wanted.pgm
+ends 0 '' sim toggle.v 4 bits.pgm out.pgm
+holds wanted.pgm
+printf 'P5\n4 1\n1\n\001\001\001\001' >wanted.pgm
+ends 0 '' sim toggle.v 4 bits.pgm out.pgm --fill ones
+holds wanted.pgm
+ends 6 'stopped: count 3 of 4' sim toggle.v 3 bits.pgm out.pgm --fill ones
+none
+printf 'P5 4 1 3\n\0\0\001\002' >rising.pgm
+printf 'P5 4 1 3\n\0\0\001\003' >past.pgm
+printf 'P5 0 1 3\n' >empty.pgm
+printf 'P5\n4 1\n255\n\005\005\0\0' >wanted.pgm
+ends 0 '' sim words.v 4 rising.pgm out.pgm
+holds wanted.pgm
+ends 0 '' sim words.v 004 rising.pgm out.pgm
+holds wanted.pgm
+printf 'P5\n4 1\n255\n\005\005\377\377' >wanted.pgm
+ends 0 '' sim words.v 4 rising.pgm out.pgm --fill ones
+holds wanted.pgm
+ends 6 'stopped: clock 3 array 0 index 3' sim words.v 4 past.pgm out.pgm
+ends 6 'stopped: count 3 of 4' sim words.v 3 rising.pgm out.pgm
+ends 6 'stopped: count 5 of 4' sim words.v 5 rising.pgm out.pgm
+ends 6 'stopped: count 0 of 4' sim words.v 0 rising.pgm out.pgm
+ends 4 'image: Maxval 255' sim words.v 4 gradient.pgm out.pgm
+ends 4 'image: Size 0 1' sim words.v 4 empty.pgm out.pgm
+ends 7 'cannot read' sim missing.v 4 rising.pgm out.pgm
+ends 7 'cannot read' sim words.v 4 missing.pgm out.pgm
+none
+
+# refuses LINE TEXT: the Verilog text ends with this line, before the images are asked for
+refuses() {
+    printf '%b' "$2" >text.v
+    shown=$1
+    shift 2
+    ends 5 "$shown" sim text.v 4 missing.pgm out.pgm "$@"
+    none
+}
+
+refuses 'verilog 0-0: Syntax' ''
+refuses 'verilog 21-28: NotInSubset' 'module m(input clk); initial'
+refuses 'verilog 0-1: BadByte' '/* open'
+refuses 'verilog 0-6: BadConstant' "8'd256"
+refuses 'verilog 7-8: Ports' 'module m(input clk, input rst, input din, output valid, output dout);\n  assign valid = ~rst;\n  assign dout = din;\nendmodule\n' --hold 1
+# Each line of calls/modules.txt is what `sim` says of a Verilog text, a tab, and the text, with bytes as printf reads them.
+while IFS=$tab read -r line text <&3; do
+    if [ "$line" = accepted ]; then
+        printf '%b' "$text" >text.v
+        ends 7 'cannot read' sim text.v 4 missing.pgm out.pgm
+        none
+    else
+        refuses "$line" "$text"
+    fi
+done 3<"$tests/calls/modules.txt"
+truncate -s 268435457 zeros.v
+ends 5 'verilog: TooLong 268435456' sim zeros.v 4 missing.pgm out.pgm
+rm zeros.v
+ends 2 "$usage" sim words.v 4 rising.pgm words.v
+ends 2 "$usage" sim words.v 4 rising.pgm rising.pgm
+ends 2 "$usage" sim words.v +4 rising.pgm out.pgm
+ends 2 "$usage" sim words.v 100000001 rising.pgm out.pgm
+ends 2 "$usage" sim words.v 4 rising.pgm out.pgm --fill two
+ends 2 "$usage" sim words.v 4 rising.pgm out.pgm --hold 0
+ends 2 "$usage" sim words.v 4 rising.pgm out.pgm --hold 000
+ends 2 "$usage" sim words.v 4 rising.pgm out.pgm --hold -1
+ends 2 "$usage" sim words.v 4 rising.pgm out.pgm --fill ones --fill ones
+none
+ends 8 'cannot write' sim words.v 4 rising.pgm /dev/full
+
+# Traces. A small one stands whole; of the others the first and the last line, and each time once and in turn.
+cat >wanted.vcd <<'END'
+$timescale 1 ns $end
+$scope module m $end
+$var wire 1 ! rst $end
+$var wire 2 " din $end
+$var wire 1 # valid $end
+$var wire 8 $ dout $end
+$upscope $end
+$enddefinitions $end
+#0
+1!
+b0 "
+0#
+b0 $
+#1
+0!
+1#
+b101 $
+#2
+#3
+b1 "
+b0 $
+#4
+b10 "
+#5
+END
+ends 0 '' trace words.v 4 rising.pgm out.pgm
+holds wanted.vcd 'trace'
+sed '/^#4$/,$d' wanted.vcd >stopped.vcd
+ends 6 'stopped: clock 3 array 0 index 3' trace words.v 4 past.pgm out.pgm
+holds stopped.vcd 'trace, stopped'
+sed '/^#1$/,$d' wanted.vcd >first.vcd
+echo '#1' >>first.vcd
+ends 0 '' trace words.v 0 rising.pgm out.pgm
+holds first.vcd 'trace, no clock'
+for name in line_buffer median enabled toggle; do
+    input=scene
+    [ $name = toggle ] && input=bits
+    ends 0 '' trace $name.v 3072 $input.pgm out.pgm
+    seq 0 3073 | sed 's/^/#/' >wanted.txt
+    grep '^#' out.pgm >times.txt
+    is "the trace of $name.v has other times" cmp -s times.txt wanted.txt
+    is "the trace of $name.v begins otherwise" [ "$(head -n 1 out.pgm)" = '$timescale 1 ns $end' ]
+    is "the trace of $name.v ends otherwise" [ "$(tail -n 1 out.pgm)" = '#3073' ]
+done
+# Each line of calls/traces.txt is what it shows, the status and the line of the call, a Verilog text, its clocks, the images and the trace, with bytes as printf reads them.
+while IFS='|' read -r name status line text clocks input wanted <&3; do
+    printf '%b' "$text" >text.v
+    printf '%b' "$input" >input.pgm
+    printf '%b' "$wanted" >wanted.vcd
+    ends "$status" "$line" trace text.v "$clocks" input.pgm out.pgm
+    holds wanted.vcd "$name"
+done 3<"$tests/calls/traces.txt"
+# 95 variables: the last identifier of one byte, and the first of two
+{
+    printf 'module m(input clk, input rst, input din, output valid, output dout);\n'
+    repeat 91 'wire n%d;\n'
+    repeat 91 'assign n%d = din;\n'
+    printf 'assign valid = ~rst;\nassign dout = din;\nendmodule\n'
+} >text.v
+awk 'function id(k) { return k < 94 ? sprintf("%c", 33 + k) : "!\"" }
+BEGIN {
+    printf "$timescale 1 ns $end\n$scope module m $end\n"
+    split("rst din valid dout", ports, " ")
+    for (k = 0; k < 95; k++) printf "$var wire 1 %s %s $end\n", id(k), (k < 4 ? ports[k + 1] : "n" (k - 3))
+    printf "$upscope $end\n$enddefinitions $end\n#0\n1!\n"
+    for (k = 1; k < 95; k++) printf "0%s\n", id(k)
+    printf "#1\n0!\n"
+    for (k = 1; k < 95; k++) printf "1%s\n", id(k)
+    printf "#2\n"
+}' >wanted.vcd
+printf 'P5 1 1 1\n\001' >one.pgm
+ends 0 '' trace text.v 1 one.pgm out.pgm
+holds wanted.vcd '95 variables'
+# the stored waves, which trace.py made
+ends 0 '' trace line_buffer.v 192 speckled.pgm out.pgm
+holds "$tests/waves/line_buffer.vcd"
+ends 4 'image: Maxval 255' trace words.v 4 gradient.pgm out.pgm
+ends 7 'cannot read' trace missing.v 4 rising.pgm out.pgm
+ends 7 'cannot read' trace words.v 4 missing.pgm out.pgm
+printf 'module m(input clk); initial' >text.v
+ends 5 'verilog 21-28: NotInSubset' trace text.v 4 missing.pgm out.pgm
+ends 2 "$usage" trace words.v 4 rising.pgm words.v
+ends 2 "$usage" trace words.v 4 rising.pgm rising.pgm
+ends 2 "$usage" trace words.v +4 rising.pgm out.pgm
+ends 2 "$usage" trace words.v 100000001 rising.pgm out.pgm
+ends 2 "$usage" trace words.v 4 rising.pgm
+ends 2 "$usage" trace enabled.v 4 rising.pgm out.pgm --hold 1
+ends 2 "$usage" trace words.v 4 rising.pgm out.pgm --fill ones
+none
+ends 8 'cannot write' trace words.v 4 rising.pgm /dev/full
+
+# Compiled texts, clocked: the mean of three at each age, with the port `en` and without it, from zeros and from ones, gives its picture.
+printf 'size 4 1\ninput a : u8\nlet f = im(x,y) ((a(x-1,y)+a(x,y)+a(x+1,y))/3) as u8 end\noutput f\n' >mean3.dk
+printf 'P5\n4 1\n255\n\003\006\011\014' >mean3.pgm
+printf 'P5\n4 1\n255\n\003\006\011\007' >wanted.pgm
+ends 0 '' compile mean3.dk text.v
+ends 0 '' sim text.v 5 mean3.pgm out.pgm
+holds wanted.pgm 'compile'
+ends 0 '' trace text.v 5 mean3.pgm out.pgm
+holds "$tests/waves/mean3.vcd"
+ends 6 'stopped: count 3 of 4' sim text.v 4 mean3.pgm out.pgm
+ends 5 'verilog 7-9: Ports' sim text.v 5 mean3.pgm out.pgm --hold 1
+ends 0 '' compile --enable mean3.dk text.v
+for hold in 1 2 1000000; do
+    ends 0 '' sim text.v 5 mean3.pgm out.pgm --fill ones --hold $hold
+    holds wanted.pgm 'compile --enable'
+done
+ends 0 '' sim text.v 5 mean3.pgm out.pgm
+holds wanted.pgm 'compile --enable'
+for age in 1 2 64; do
+    ends 0 '' compile mean3.dk text.v --age $age
+    clocks=$("$program" plan --age $age mean3.dk | sed -n 's/^clocks //p')
+    ends 0 '' sim text.v "$clocks" mean3.pgm out.pgm --fill ones
+    holds wanted.pgm "compile --age $age"
+    ends 0 '' run --age $age mean3.dk mean3.pgm out.pgm
+    holds wanted.pgm "run --age $age"
+done
+# the same of each example, with the clocks that its plan asks for, and those of further rounds; its images have 64 by 48 pixels of one byte
+while read -r name input <&3; do
+    ends 0 '' compile "$name.dk" text.v
+    rounds=$(($(wc -c <"$input.pgm") / 3073 / $(grep -c '^input' "$name.dk")))
+    clocks=$(($("$program" plan "$name.dk" | sed -n 's/^clocks //p') + (rounds - 1) * 3072))
+    for fill in zeros ones; do
+        ends 0 '' sim text.v "$clocks" "$input.pgm" out.pgm --fill $fill
+        holds "$name.pgm" 'compile'
+    done
+done 3<"$examples/programs/pictures.txt"
+cp mean3.dk text.dk
+ends 2 "$usage" compile mean3.dk
+ends 2 "$usage" compile mean3.dk mean3.dk
+ends 2 "$usage" compile mean3.dk text.v --age 65
+ends 2 "$usage" compile mean3.dk text.v --enable=true
+ends 2 "$usage" compile mean3.dk text.v --enable --enable
+ends 2 "$usage" compile --hold 1 mean3.dk text.v
+rm -f text.v
+ends 3 'program 0-1: BadByte' compile byte.dk text.v
+ends 7 'cannot read' compile missing.dk text.v
+is 'compile created something' [ ! -e text.v ]
+# An input under another name is not written over: it keeps its bytes.
+cp mean3.pgm same.pgm
+ln -s same.pgm link.pgm
+ln same.pgm hard.pgm
+for name in ./same.pgm link.pgm hard.pgm; do
+    ends 8 'cannot write' run mean3.dk same.pgm "$name"
+    ends 8 'cannot write' eval mean3.dk same.pgm "$name"
+done
+ends 8 'cannot write' compile mean3.dk ./mean3.dk
+is 'an image was changed under another name' cmp -s same.pgm mean3.pgm
+is 'a program was changed under another name' cmp -s mean3.dk text.dk
+ends 8 'cannot write' compile mean3.dk /dev/full
+ends 8 'cannot write' compile mean3.dk missing/text.v
+
+# Reports: each line of plans.txt is a program of reports/ with an age, and its image lines, latencies, bits and reads. The flow may be any, and the report holds.
+while IFS='|' read -r name age bits latency lines <&3; do
+    "$program" plan "$name.dk" --age "$age" >plan.txt 2>stderr
+    is "plan $name.dk --age $age: status $?, $(cat stderr), $(tr '\n' ',' <plan.txt)" [ "$(grep -v '^flow\|^limits\|^end' plan.txt | tr '\n' ',')" = "$lines" ]
+    prints "report holds: bits $bits latency $latency" check "$name.dk" plan.txt
+done 3<"$tests/reports/plans.txt"
+prints "$(cat "$tests/reports/mean_plan.txt")" plan mean.dk
+for example in "$examples"/programs/*.dk; do
+    is "the plan of $example does not hold" plan_holds "$example"
+done
+# a report of another maker, and faults of reports
+prints 'report holds: bits 456 latency 17' check skip.dk skip.txt
+sed 's/^image across 10 1 32$/image across 10 1 33/' skip.txt >wrong.txt
+ends 10 'report: line 6' check skip.dk wrong.txt
+prints 'report holds: bits 64 latency 8' check square.dk square.txt
+sed 's/^flow hold p 8$/flow hold p 9/' square.txt >wrong.txt
+ends 10 'report: line 15' check square.dk wrong.txt
+sed 's/^image p 16 8 0$/image p 16 7 0/' square.txt >wrong.txt
+ends 10 'report: line 2' check square.dk wrong.txt
+sed 's/^image a 8 0 8$/image a 8 0 0/; s/^image p 16 8 0$/image p 16 0 8/; s/^bits 64$/bits 128/' square.txt >wrong.txt
+ends 10 'report: line 15' check square.dk wrong.txt
+printf '%s' "$(cat square.txt)" >wrong.txt
+ends 10 'report: line 15' check square.dk wrong.txt
+sed 's/^image s /image p /' square.txt >wrong.txt
+ends 10 'report: line 4' check square.dk wrong.txt
+ends 10 'report: line 1' check mean.dk square.txt
+ends 10 'report: line 4' check square.dk mean_plan.txt
+echo 'plan 4' >wrong.txt
+ends 10 'report: line 1' check square.dk wrong.txt
+printf 'size 1 1' >text.dk
+ends 3 'program 8-8: Syntax' check text.dk mean_plan.txt
+grep -v '^end' mean_plan.txt >wrong.txt
+ends 10 'report: line 14' check mean.dk wrong.txt
+head -c 4194305 /dev/zero >long.txt
+ends 10 'report: TooLong 4194304' check mean.dk long.txt
+ends 3 'program 0-1: BadByte' check byte.dk missing.txt
+ends 7 'cannot read' check mean.dk missing.txt
+ends 7 'cannot read' check missing.dk square.txt
+ends 3 'program 0-1: BadByte' plan byte.dk
+ends 7 'cannot read' plan missing.dk
+ends 2 "$usage" plan mean.dk --age 65
+ends 2 "$usage" plan mean.dk --age=
+prints "$("$program" plan mean.dk --age 1)" plan mean.dk --age 01
+ends 2 "$usage" plan --age 1 --age 1 mean.dk
+ends 2 "$usage" --age 1 plan mean.dk
+ends 2 "$usage" plan --ag 1 mean.dk
+ends 2 "$usage" check mean.dk
+# images in a row, each of which reads the one before: how many, and the read
+chain() {
+    printf 'size 4096 4096 input f0 : u16 '
+    k=1
+    while [ $k -le "$1" ]; do
+        printf "let f%d = im(x,y) f%d$2 end " $k $((k - 1))
+        k=$((k + 1))
+    done
+    printf 'output f%d' "$1"
+}
+chain 17 '(x,y-64)' >bits.dk
+ends 3 'program: Bits 71303168' plan bits.dk
+ends 3 'program: Bits 71303168' compile bits.dk text.v
+ends 3 'program: Bits 71303168' eval bits.dk missing.pgm out.pgm
+ends 3 'program: Bits 71303168' run bits.dk missing.pgm out.pgm
+chain 256 '(x+64,y+64)' >late.dk
+ends 3 'program: Latency 67125248' plan late.dk
+ends 3 'program: Latency 67125248' compile late.dk text.v
+ends 3 'program: Latency 67125248' eval late.dk missing.pgm out.pgm
+"$program" plan mean.dk >/dev/full 2>stderr
+is 'a full standard output is not reported' [ "$? $(cat stderr)" = '8 cannot write' ]
+
+ends 7 'cannot read' run missing.dk gradient.pgm out.pgm
+ends 7 'cannot read' run copy.dk missing.pgm out.pgm
+none
+ends 7 'cannot read' run . gradient.pgm out.pgm
+ends 7 'cannot read' run copy.dk . out.pgm
+none
+ends 8 'cannot write' run copy.dk gradient.pgm /dev/full
+ends 8 'cannot write' run copy.dk gradient.pgm missing/out.pgm
+
+# A line that cannot be written changes no status.
+"$program" run copy.dk 2>&-
+is 'a closed standard error changes the status' [ $? = 2 ]
+
+# With all standard descriptors closed no file gets their numbers, and the line of a fault stands in none.
+printf 'P5\n16 8\n255\n' >ends_early.pgm
+rm -f out.pgm
+"$program" run copy.dk ends_early.pgm out.pgm <&- >&- 2>&-
+is 'closed standard descriptors change the status' [ $? = 4 ]
+holds ends_early.pgm 'where the standard descriptors are closed'
+
+# makes N LINE: `make N` ends with status 0 and prints this line alone
+makes() {
+    prints "$2" make "$1"
+}
+makes 0 'make 0: size 1 1 images 1 reads 1 bits 0 latency 0 sum 35'
+makes 1 'make 1: size 2 1 images 1 reads 0 bits 0 latency 0 sum 0'
+makes 3 'make 3: size 4 1 images 1 reads 1 bits 8 latency 0 sum 0'
+# the greatest one, 256 by 256 with 64 definitions, gives the same line each time
+greatest=$("$program" make 4194303)
+makes 4194303 "$greatest"
+# leading zeros change nothing
+makes 007 "$("$program" make 7)"
+makes "$(printf '%0101d' 3)" 'make 3: size 4 1 images 1 reads 1 bits 8 latency 0 sum 0'
+# also past 32 and 64 bits a number is past the range
+for number in 4194304 0004194304 4294967297 18446744073709551617 -1 +1 1x ''; do
+    ends 2 "$usage" make "$number"
+done
+ends 2 "$usage" make
+ends 2 "$usage" make 1 2
+"$program" make 0 >/dev/full 2>stderr
+is 'a full standard output of make is not reported' [ "$? $(cat stderr)" = '8 cannot write' ]
+
+echo "$((cases - failed)) passed, $failed failed"
+[ "$failed" = 0 ]

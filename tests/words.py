@@ -1,0 +1,83 @@
+#!/usr/bin/env python3
+"""The words of the documentation: counts words that have a plainer word of the field, outside of code and quotations.
+Says nothing where the pages of DONE have none of them, and else names each place and ends with status 1.
+usage: python3 tests/words.py [--count]    (--count: how often each page has such words)
+"""
+import pathlib
+import re
+import sys
+
+TOP = pathlib.Path(__file__).resolve().parent.parent
+
+# A pattern, and the word to write in its place.
+WORDS = [
+    (r"stands?", "is, is in; of a theorem or a clause: holds, is proved"),
+    (r"tells?|told", "reports, is reported; of a contract: specifies; of a wire: is driven by"),
+    (r"wants? of memory|memory is wanting|wanting", "out of memory"),
+    (r"behind", "after"),
+    (r"ow(?:e|es|ed)", "what it must ensure"),
+    (r"put in where", "substituted at each use"),
+    (r"want(?:s|ed)?", "expects, is expected; requires; need"),
+    (r"images' file", "image file"),
+    (r"due(?! to)", "scheduled"),
+    (r"takes? (?:the |these |no |its )?words?|words? (?:is|are) (?:not )?taken", "accepts, is accepted"),
+    (r"gives?|gave", "returns"),
+    (r"says?", "states"),
+    (r"(?<!here )(?:is|are) no (?!longer|less|more|greater|wider|smaller|later|earlier)\w+", "is not a .."),
+    (r"alone", "only, before the noun"),
+    (r"undercut\w*", "minimal over all causal schedules"),
+    (r"first that is passed|limit that is passed|passed first", "the first limit exceeded"),
+    (r"(?:for|is|by|of|as) who|who reads|who takes it over", "a reader, a maintainer"),
+    (r"so many", "n"),
+]
+
+# The pages that have none of these words. The list grows.
+DONE = """
+docs/HARDWARE.md
+docs/LANGUAGE.md
+docs/PGM.md
+docs/REPORT.md
+docs/VERILOG.md
+docs/CIRCUIT.md
+docs/DECISIONS.md
+tests/README.md
+examples/README.md
+docs/BENCH.md
+""".split()
+
+
+def pages():
+    found = [*TOP.glob("docs/*.md"), TOP / "README.md", *TOP.glob("crates/*/README.md"), TOP / "tests/README.md", TOP / "examples/README.md"]
+    return sorted(page for page in found if page != TOP / "docs/LADDER.md")
+
+
+def prose(text):
+    """The text without code and quotations, which become blanks; its lines stay where they are."""
+    blank = lambda match: re.sub(r"[^\n]", " ", match.group())
+    for pattern in (r"^```.*?^```", r"^(?: {4}|\t).*$", r"``.+?``", r"`[^`\n]+`", r"\"[^\"\n]+\"", r"«[^»\n]*»", r"(?<=\]\()[^)\s]+"):
+        text = re.sub(pattern, blank, text, flags=re.M | re.S if "```" in pattern else re.M)
+    return text
+
+
+def places(page):
+    text = prose(page.read_text(encoding="utf-8"))
+    for pattern, better in WORDS:
+        for match in re.finditer(rf"\b(?:{pattern})\b", text, re.I):
+            yield text.count("\n", 0, match.start()) + 1, match.group(), better
+
+
+def main(arguments):
+    counted = {page.relative_to(TOP).as_posix(): sorted(places(page)) for page in pages()}
+    if arguments == ["--count"]:
+        for name, found in counted.items():
+            print(f"{len(found):5} {name}{' (done)' if name in DONE else ''}")
+    elif arguments:
+        sys.exit(__doc__)
+    wrong = [(name, *place) for name in DONE for place in counted.get(name, [(0, "no such page", "its name")])]
+    for name, line, word, better in wrong:
+        print(f"words: {name}:{line}: {word}: write: {better}", file=sys.stderr)
+    return 1 if wrong else 0
+
+
+if __name__ == "__main__":
+    sys.exit(main(sys.argv[1:]))

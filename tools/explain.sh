@@ -1,0 +1,233 @@
+# Explains the faults of dk to a reader at a terminal. The script dk sources this file after a fault; `top` is its folder.
+# It uses the shell and coreutils only, so that it works wherever the program does. No loop goes over the bytes of a file.
+#
+# explain STATUS LINE WORD..    writes what helps next, to standard error; LINE is the fault line, the words are those of the call
+# help_page                     writes the commands and options to standard output (tools/words.sh)
+
+. "${top:?}/tools/words.sh"
+. "$top/tools/faults.sh"
+
+# The body is a subshell, so that no variable of the script dk is changed.
+explain() (
+    LC_ALL=C
+    export LC_ALL
+    set -f
+    exec >&2
+    status=$1
+    line=$2
+    shift 2
+    read_words "$@"
+    case $status in
+    2) explain_usage "$@" ;;
+    3 | 4 | 5 | 6 | 10) explain_fault ;;
+    7) explain_read ;;
+    8) explain_write ;;
+    9) put 'The system refused memory, and nothing was written; raise the limit (`ulimit -v`), or use a smaller program or image file.' ;;
+    139) put 'The system ended the program (SIGSEGV): a limit on its stack or its memory is too low.' ;;
+    esac
+)
+
+# put WORD: writes a line; `echo` would read the backslashes in it.
+put() {
+    printf '%s\n' "$1"
+}
+
+explain_usage() {
+    for word in "$@"; do
+        is_utf8 "$word" || note_wrong "$(quoted "$word") is not UTF-8."
+    done
+    put "${wrong:-This script finds no wrong word.}"
+}
+
+# Faults of files.
+
+explain_read() {
+    refused=
+    for name in PROG VERILOG IN REPORT; do
+        set_file "$name"
+        [ -n "${file+set}" ] || continue
+        reason=
+        if [ -z "$file" ]; then
+            reason='an empty word names no file.'
+        elif [ ! -e "$file" ]; then
+            reason='there is no such file.'
+        elif [ -d "$file" ]; then
+            reason='it is a folder.'
+        elif [ ! -r "$file" ]; then
+            reason='you have no permission to read it.'
+        fi
+        [ -z "$reason" ] || {
+            put "$name, $(quoted "$file"), cannot be read: $reason"
+            return
+        }
+        refused="$refused${refused:+ or }$name, $(quoted "$file")"
+    done
+    put "The system refused the read of $refused."
+}
+
+explain_write() {
+    [ -n "${out+set}" ] || {
+        put 'The system refused the write to standard output: the device may be full, or the pipe closed.'
+        return
+    }
+    put "${expected##* }, $(quoted "$out"), cannot be written: $(why_not_written)"
+}
+
+why_not_written() {
+    folder=$(dirname -- "$out")
+    for name in PROG VERILOG IN; do
+        set_file "$name"
+        if [ -f "$out" ] && [ -n "${file+set}" ] && [ "$file" -ef "$out" ]; then
+            put "it is the same file as $name, $(quoted "$file")."
+            return
+        fi
+    done
+    if [ -z "$out" ]; then
+        put 'an empty word names no file.'
+    elif [ -d "$out" ]; then
+        put 'it is a folder.'
+    elif [ -e "$out" ] && [ ! -w "$out" ]; then
+        put 'you have no permission to write it.'
+    elif [ -e "$out" ]; then
+        put 'the system refused the write; the device may be full, or the pipe closed.'
+    elif [ ! -d "$folder" ]; then
+        put "there is no folder $(quoted "$folder")."
+    elif [ ! -w "$folder" ]; then
+        put "you have no permission to create a file in the folder $(quoted "$folder")."
+    else
+        put 'the system refused the write.'
+    fi
+}
+
+# Faults of texts and images.
+
+# The line is `TEXT START-STOP: FAULT`, or `TEXT: FAULT` with numbers after the fault's name.
+explain_fault() {
+    text=${line%%[ :]*}
+    span=${line%%:*}
+    span=${span#"$text"}
+    fault=${line#*: }
+    case $text in
+    program) set_file PROG ;;
+    verilog | stopped) set_file VERILOG ;;
+    image) set_file IN ;;
+    report) set_file REPORT ;;
+    esac
+    if [ -n "$span" ]; then
+        span=${span# }
+        [ -z "${file+set}" ] || show_place "${span%-*}" "${span#*-}"
+        meaning "$text" "$fault"
+    else
+        case $fault in
+        line*) show_line "${fault#line }" ;;
+        esac
+        # The fault is split at its blanks, into its name and its numbers.
+        put "${file+$(quoted "$file"): }$(meaning "$text" $fault)"
+    fi
+}
+
+# show_place START STOP: the place of these bytes in the file, their line, and carets below them.
+show_place() {
+    [ -f "$file" ] && [ -r "$file" ] && [ "$2" -le "$(wc -c <"$file")" ] || return
+    number=$(($(head -c "$1" <"$file" | wc -l) + 1))
+    before=$(($(head -c "$1" <"$file" | tail -n "+$number" | wc -c)))
+    column=$(($(head -c "$1" <"$file" | tail -n "+$number" | tr -d '\200-\277' | wc -c) + 1))
+    # A long line is shown from 40 bytes before the span.
+    cut=
+    first=$(($1 - before))
+    [ "$before" -le 80 ] || {
+        cut='.. '
+        first=$(($1 - 40))
+    }
+    end=
+    [ "$1" -lt "$(wc -c <"$file")" ] || end=', the end of the file'
+    put "$(shown_word "$file"):$number:$column$end"
+    show_window
+    indent=$(window | head -c "$(($1 - first))" | shown | tr -d '\200-\277' | tr -c '\t' ' ')
+    carets=$(window | tail -c "+$(($1 - first + 1))" | head -c "$(($2 - $1))" | shown | tr -d '\200-\277' | tr -c '\t' '^')
+    put "    ${cut:+   }$indent${carets:-^}"
+}
+
+# show_line NUMBER: this line of the file.
+show_line() {
+    [ -n "${file+set}" ] && [ -f "$file" ] && [ -r "$file" ] || return
+    before=$(($(head -n "$(($1 - 1))" <"$file" | wc -c)))
+    [ "$before" -lt "$(wc -c <"$file")" ] || {
+        put "$(shown_word "$file") ends before line $1."
+        return
+    }
+    cut=
+    first=$before
+    put "$(shown_word "$file"):$1"
+    show_window
+}
+
+show_window() {
+    more=
+    [ "$(window | wc -c)" -lt 100 ] || more=' ..'
+    put "    $cut$(window | shown)$more"
+}
+
+# The bytes of the line from `first` on, 100 at most.
+window() {
+    tail -c "+$((first + 1))" <"$file" 2>/dev/null | head -c 100 | head -n 1 | tr -d '\n'
+}
+
+quoted() {
+    put "\`$(shown_word "$1")\`"
+}
+
+shown_word() {
+    printf '%s' "$1" | head -c 200 | shown
+    [ "${#1}" -le 200 ] || printf ' ..'
+}
+
+is_utf8() {
+    [ -z "$(printf '%s' "$1" | {
+        shown >/dev/null
+        printf '%s' "$spoiled"
+    })" ]
+}
+
+# Standard input as a terminal can show it: without ends of lines, and with `?` for each other control character but tab,
+# for each byte that is not part of a character of UTF-8, and for characters that reorder a line or have no width.
+shown() {
+    held=
+    held_bytes=
+    clean=
+    spoiled=
+    for byte in $(od -A n -v -t o1); do
+        take_byte "$byte"
+    done
+    drop_held
+    printf '%b' "$clean"
+}
+
+# take_byte OCTAL: `held` has the octal digits of a character that is not whole yet.
+take_byte() {
+    case $held$1 in
+    012 | 015) ;;
+    3022[0-3]? | 34220021[3-7] | 34220025[0-6] | 3422012[45]? | 357273277) clean="$clean?" held= held_bytes= ;;
+    011 | 0[4-7]? | 1[0-6]? | 17[0-6] | 3022[4-7]? | 30[3-7]2?? | 3[1-3]?2?? | 3[45]?2??2?? | 36?2??2??2??)
+        clean="$clean$held_bytes\\0$1" held= held_bytes=
+        ;;
+    30[2-7] | 3[1-5]? | 36[0-4] | 3402[4-7]? | 34[1-7]2?? | 35[0-467]2?? | 3552[0-3]? | 3602[2-7]? | 36[1-3]2?? | 3642[01]? | 36?2??2??)
+        held=$held$1 held_bytes="$held_bytes\\0$1"
+        ;;
+    [23]??) clean="$clean?" spoiled=yes ;;
+    ???) clean="$clean?" ;;
+    *) drop_held && take_byte "$1" ;;
+    esac
+}
+
+# drop_held: these bytes are the beginning of a character that does not go on.
+drop_held() {
+    spoiled=$spoiled$held
+    case ${#held} in
+    3) clean="$clean?" ;;
+    6) clean="$clean??" ;;
+    9) clean="$clean???" ;;
+    esac
+    held=
+    held_bytes=
+}

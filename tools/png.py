@@ -1,0 +1,94 @@
+#!/usr/bin/env python3
+"""Writes the images of a PGM file as one grey PNG file of 8 bits, a pixel for each sample.
+
+The images are placed side by side, COLUMNS of them in a row, with a gap between two. Samples are stretched so that the
+greatest one that the header allows is white.
+
+usage: tools/png.py PGM PNG [COLUMNS]      COLUMNS is 1 by default
+"""
+import struct
+import sys
+import zlib
+
+GAP = 2
+BETWEEN = 255
+
+
+def images(content):
+    """The images of a PGM file whose headers are three lines: lines of samples of 8 bits."""
+    while content:
+        _, size, greatest, rest = content.split(b"\n", 3)
+        width, height = map(int, size.split())
+        greatest = int(greatest)
+        bytes_each = 1 if greatest < 256 else 2
+        length = width * height * bytes_each
+        samples = [int.from_bytes(rest[k:k + bytes_each], "big") * 255 // greatest
+                   for k in range(0, length, bytes_each)]
+        content = rest[length:]
+        yield [samples[k:k + width] for k in range(0, width * height, width)]
+
+
+def sheet(pictures, columns):
+    """One picture of all, `columns` of them in a row, with a gap between two."""
+    lines = []
+    for first in range(0, len(pictures), columns):
+        row = pictures[first:first + columns]
+        if lines:
+            lines += [[BETWEEN] * len(lines[0])] * GAP
+        for parts in zip(*row):
+            line = list(parts[0])
+            for part in parts[1:]:
+                line += [BETWEEN] * GAP + part
+            lines.append(line)
+    return lines
+
+
+def chunk(kind, content):
+    return struct.pack(">I", len(content)) + kind + content + struct.pack(">I", zlib.crc32(kind + content))
+
+
+def nearest(left, up, corner):
+    """The neighbour that is nearest to left + up - corner; of equally near ones the first."""
+    guess = left + up - corner
+    return min((left, up, corner), key=lambda sample: abs(guess - sample))
+
+
+def filtered(line, above):
+    """A line under each of the five filters of PNG: bytes of differences to neighbours."""
+    left = [0, *line[:-1]]
+    corner = [0, *above[:-1]]
+    guesses = [[0] * len(line), left, above, [(a + b) // 2 for a, b in zip(left, above)], [nearest(*each) for each in zip(left, above, corner)]]
+    return [bytes([kind, *((sample - guess) % 256 for sample, guess in zip(line, guess_line))]) for kind, guess_line in enumerate(guesses)]
+
+
+def cost(stored):
+    """How far the differences of a line are from 0 in all."""
+    return sum(min(byte, 256 - byte) for byte in stored[1:])
+
+
+def png(lines):
+    """A grey PNG: the shortest of six, one for each filter and one that chooses a filter for each line."""
+    width, height = len(lines[0]), len(lines)
+    ways = [filtered(line, above) for line, above in zip(lines, [[0] * width, *lines])]
+    streams = [b"".join(way[kind] for way in ways) for kind in range(5)] + [b"".join(min(way, key=cost) for way in ways)]
+    return (b"\x89PNG\r\n\x1a\n"
+            + chunk(b"IHDR", struct.pack(">IIBBBBB", width, height, 8, 0, 0, 0, 0))
+            + chunk(b"IDAT", min((zlib.compress(stream, 9) for stream in streams), key=len))
+            + chunk(b"IEND", b""))
+
+
+def show(pgm, target, columns):
+    with open(pgm, "rb") as file:
+        pictures = list(images(file.read()))
+    with open(target, "wb") as file:
+        file.write(png(sheet(pictures, columns)))
+
+
+def main(words):
+    if len(words) not in (2, 3):
+        sys.exit(__doc__)
+    show(words[0], words[1], int(words[2]) if words[2:] else 1)
+
+
+if __name__ == "__main__":
+    main(sys.argv[1:])
