@@ -16,7 +16,7 @@ use Rattle.dk_endings.specs.declared.ending.Ending.TheVariants as ending
 use Rattle.dk_top.specs.Verdict.{Terms, Files, bytes_of, eval_terms, OfPair, OnFiles, IsVerdict}
 use Rattle.dk_top.specs.Command.{Command, run, eval, compile, sim, trace, plan, check, make}
 use Rattle.dk_desk.specs.declared.Stage.{Stage}
-use Rattle.dk_top.specs.State.{AsksInOrder, CreatesBy, IsNoted, IsReported}
+use Rattle.dk_top.specs.State.{AsksInOrder, CreatesBy, ReadsBy, IsNoted, IsReported}
 use Rattle.dk_top.specs.Reading.{AreRead, IsRead}
 use Rattle.dk_top.proofs.OutputLemmas.{evaluated_is}
 
@@ -201,3 +201,29 @@ words_begun (Some c) (Some f) e s (inr is) = subst (λ x. CreatesBy c x f s) (sy
 pub named_has : (o : Option Command) (c : Command) → o ≡ Some c → (P : Command → Type 0) → P c → IfSome o P
 named_has None c e P h = absurd (let f : ⊥ = cc in f)
 named_has (Some d) c e P h = let same : d ≡ c = cc in subst P (sym same) h
+
+usage_reads : (c : Command) (f : Files) (i : Input) (s : Stage) → ReadsBy c ending.Usage f i s
+usage_reads (run p i o a) f slot s = tt
+usage_reads (eval p i o) f slot s = tt
+usage_reads (compile p o e a) f slot s = tt
+usage_reads (trace v c i o) f slot s = tt
+usage_reads (make k) f slot s = tt
+usage_reads (sim v c i o p h) f slot s = tt
+usage_reads (plan p a) f slot s = tt
+usage_reads (check p t) f slot s = tt
+
+memory_reads : (c : Command) (f : Files) (i : Input) (s : Stage) → ReadsBy c ending.Memory f i s
+memory_reads (run p i o a) f slot s = tt
+memory_reads (eval p i o) f slot s = tt
+memory_reads (compile p o e a) f slot s = tt
+memory_reads (trace v c i o) f slot s = tt
+memory_reads (make k) f slot s = tt
+memory_reads (sim v c i o p h) f slot s = tt
+memory_reads (plan p a) f slot s = tt
+memory_reads (check p t) f slot s = tt
+
+pub words_reads : (command : Option Command) (files : Option Files) (e : Ending) (i : Input) (s : Stage) → (e ≡ ending.Usage) ⊎ (e ≡ ending.Memory) → IfSome command (λ c. IfSome files (λ f. ReadsBy c e f i s))
+words_reads None files e i s either = tt
+words_reads (Some c) None e i s either = tt
+words_reads (Some c) (Some f) e i s (inl is) = subst (λ x. ReadsBy c x f i s) (sym is) (usage_reads c f i s)
+words_reads (Some c) (Some f) e i s (inr is) = subst (λ x. ReadsBy c x f i s) (sym is) (memory_reads c f i s)

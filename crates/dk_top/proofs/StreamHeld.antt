@@ -1,11 +1,10 @@
 -- What a stream leaves behind, in words of the program.
 use Rattle.std.proofs.Common.{◌≡◌, ℕ, zero, suc, ◌+◌, ◌-◌, ◌*◌, ◌^◌, ◌<◌, ◌≤◌, List, [], ◌∷◌, ◌++◌, length, take, drop, replicate, slice_index, Option, None, Some, IfSome, refl, sym, ap, ◌∙◌, subst, arith, suc-mul, append-nil, append_assoc, length-append}
 use Rattle.std.specs.List.{flat_map, AllByRecursion}
-use Rattle.std.proofs.lemmas.List.{append_cancel_right, length-replicate, take-append-drop}
+use Rattle.std.proofs.lemmas.List.{length-replicate, take-append-drop}
 use Rattle.std.proofs.lemmas.List.Concat.{flat_map-append}
 use Rattle.std.proofs.lemmas.Nat.{pow_pos}
 use Rattle.std.proofs.Math.Nat.{mul-pos, mul_comm, add-mul}
-use Rattle.std.specs.Io.KnownBytes.{prepend_known}
 use Rattle.dk_base.specs.declared.TheConstants.{MAX_FILE_IMAGES}
 use Rattle.dk_base.specs.Frames.{Size}
 use Rattle.dk_desk.specs.declared.Stage.TheVariants.{Unasked, Refused, Open}
@@ -22,22 +21,15 @@ use Rattle.row_stream.specs.declared.rows.RowsFault.TheVariants.{Raster, Read as
 use Rattle.row_stream.specs.Lines.{Kind, head}
 use Rattle.row_stream.specs.Heads.{FitsHeader, TakesHead}
 use Rattle.row_stream.specs.Images.{FitsImage, samples_of}
-use Rattle.row_stream.specs.Ends.{greatest, RefusesNext, refused, too_many, LosesNext, in_header, at_byte}
+use Rattle.row_stream.specs.Ends.{greatest}
 use Rattle.row_stream.specs.Whole.{Creates, LeavesBehind, LeavesInside, FailsInside, FailsBehind, FailsFirst, at_create, at_head, at_reset, LeavesAtFault as StreamsToFault, at_start, behind, inside, LeavesAtRead as StreamsToRead, read_at_start, read_behind, read_inside, LeavesAtWrite as StreamsToWrite, write_first, write_inside, write_behind}
-use Rattle.row_stream.specs.Most.{EndsLines}
 use Rattle.row_stream.proofs.FirstFault.{told_parts}
 use Rattle.row_stream.proofs.HeadEnds.{at_end}
-use Rattle.dk_top.specs.Streaming.{first_bits, output_kind, shown_by, LinesTaken, AreMost, HoldsLines, LeavesAtFault, LeavesAtRead, LeavesAtWrite, of_header, of_line, of_rest}
+use Rattle.dk_top.specs.Streaming.{first_bits, output_kind, shown_by, LinesTaken, HoldsLines, LeavesAtFault, LeavesAtRead, LeavesAtWrite, of_header, of_line, of_rest}
 use Rattle.dk_top.proofs.DriveRounds.{all_append, AreZeros, zeros_behind}
 use Rattle.dk_top.proofs.StreamFile.{ShowsLaw, Small, AreSame, IsFront, shows_lines, fails_line, not_at_reset, fails_head}
-use Rattle.dk_top.proofs.StreamTaken.{headed_images, headed_taken, most_of, most_full, takes_images, all_images, takes_lines, all_lines}
-
--- the laws of row_stream on the lines that were left
-pub record MostLaws : Type 0 where
-  pub fault_behind : (kind : Kind) (m : Netlist) (bits : ℕ) (from : Contents) (created now : Outside) (fault : FileFault) (file : List ℕ) → (e : LeavesBehind kind m bits (ImageFails fault) (Some file) from created now) → e.count < MAX_FILE_IMAGES → EndsLines kind.size bits file (e.count * kind.size.height)
-  pub fault_inside : (kind : Kind) (m : Netlist) (bits : ℕ) (from : Contents) (created now : Outside) (fault : RasterFault) (file : List ℕ) → (e : LeavesInside kind m bits (Raster fault) (Some file) from created now) → EndsLines kind.size bits file (e.count * kind.size.height + e.rows)
-  pub read_behind : (kind : Kind) (m : Netlist) (bits : ℕ) (from : Contents) (created now : Outside) (all : Option (List ℕ)) → (e : LeavesBehind kind m bits Read all from created now) → e.count < MAX_FILE_IMAGES → (read : List ℕ) × (all ≡ prepend_known read now.image.rest) × EndsLines kind.size bits read (e.count * kind.size.height)
-  pub read_inside : (kind : Kind) (m : Netlist) (bits : ℕ) (from : Contents) (created now : Outside) (all : Option (List ℕ)) → (e : LeavesInside kind m bits RowsRead all from created now) → (read : List ℕ) × (all ≡ prepend_known read now.image.rest) × EndsLines kind.size bits read (e.count * kind.size.height + e.rows)
+use Rattle.dk_top.proofs.StreamTaken.{all_images, takes_lines, all_lines}
+use Rattle.dk_top.proofs.StreamReads.{MostLaws, fault_behind_reads, fault_inside_reads, read_behind_reads, read_inside_reads, first_reads}
 
 -- what follows from what is told
 pub some_then : (P Q : List ℕ → Type 0) (b : Option (List ℕ)) → ((x : List ℕ) → P x → Q x) → IfSome b P → IfSome b Q
@@ -133,13 +125,6 @@ closed e = cc
 not_refused : Refused ≡ Open → ⊥
 not_refused e = cc
 
--- what was read is one list
-same_read : (file : List ℕ) (left : Option (List ℕ)) (a b rest : List ℕ) → Some file ≡ prepend_known a left → left ≡ Some rest → file ≡ b ++ rest → (P : List ℕ → Type 0) → P a → P b
-same_read file left a b rest given is parts P h =
-    let (other, told, whole) = told_parts a left file (sym given) in
-    let same : other ≡ rest = let e : Some other ≡ Some rest = sym told ∙ is in cc in
-    subst P (append_cancel_right a b rest (sym (sym parts ∙ (whole ∙ ap (λ z. a ++ z) same)) ∙ refl)) h
-
 module _ (p : Typing) (m : Netlist) (from : Contents) (late : ℕ) (law : ShowsLaw m from (first_bits p) late (shown_by p)) (long : (whole : List ℕ) → length whole ≤ length (shown_by p whole)) (wide : 0 < p.size.width) (laws : MostLaws) where
   abbrev kind : Kind
   kind = output_kind p
@@ -149,36 +134,26 @@ module _ (p : Typing) (m : Netlist) (from : Contents) (late : ℕ) (law : ShowsL
 
   module _ (file name : List ℕ) (old now : Outside) (told : old.image.rest ≡ Some file) (unasked : old.file.stage ≡ Unasked) (there : now.file.stage ≡ Open) where
     -- a fault behind whole images
-    fault_behind_held : (f : FileFault) (created : Outside) → Creates name old created → (e : LeavesBehind kind m bits (ImageFails f) (Some file) from created now) → IfSome now.file.bytes (LeavesAtFault p late file)
+    fault_behind_held : (f : FileFault) (created : Outside) → Creates name old created → (e : LeavesBehind kind m bits (ImageFails f) (Some file) from created now) → IfSome now.file.bytes (LeavesAtFault p late file now.image.rest)
     fault_behind_held f created creates e =
         let same : now.file ≡ e.half.file = ap (λ (o : Outside). o.file) e.only in
-        subst (λ (c : Created). IfSome c.bytes (LeavesAtFault p late file)) (sym same)
-        (some_then (HoldsLines p late (samples_of e.taken.images)) (LeavesAtFault p late file) e.half.file.bytes (λ bytes holds. by e.why bytes holds)
-        (shows_lines kind m from bits late (shown_by p) law long (samples_of e.taken.images) name old created e.half (images_small p.size bits e.taken.images e.taken.bytes e.taken.are e.taken.fit) creates e.taken.shows))
-      where
-        built : (few : e.count ≤ MAX_FILE_IMAGES) → AreMost p.size bits file (e.count * p.size.height) → (bytes : List ℕ) → HoldsLines p late (samples_of e.taken.images) bytes → LeavesAtFault p late file bytes
-        built few most bytes holds =
-            let t = takes_images kind m bits e.count file from created e.half e.taken few in
-            record { rows = e.count * p.size.height; samples = samples_of e.taken.images; front = e.taken.bytes; rest = t.rest; taken = t.taken; most = most; holds = holds }
-
-        by : RefusesNext p.size bits e.count (length e.taken.bytes) f e.half.image now.image → (bytes : List ℕ) → HoldsLines p late (samples_of e.taken.images) bytes → LeavesAtFault p late file bytes
-        by (refused few h) bytes holds = built (omega (arith, few)) (most_of p.size bits file (e.count * p.size.height) (laws.fault_behind kind m bits from created now f file e few)) bytes holds
-        by (too_many full is byte given) bytes holds = built (omega (arith, full)) (most_full p.size bits file (e.count * p.size.height) (ap (λ n. n * p.size.height) full)) bytes holds
+        let samples = samples_of e.taken.images in
+        subst (λ (c : Created). IfSome c.bytes (LeavesAtFault p late file now.image.rest)) (sym same)
+        (some_then (HoldsLines p late samples) (LeavesAtFault p late file now.image.rest) e.half.file.bytes (λ bytes holds. record { samples = samples; reads = fault_behind_reads p m from laws file created now f e; holds = holds })
+        (shows_lines kind m from bits late (shown_by p) law long samples name old created e.half (images_small p.size bits e.taken.images e.taken.bytes e.taken.are e.taken.fit) creates e.taken.shows))
 
     -- a fault inside an image
-    fault_inside_held : (f : RasterFault) (created : Outside) → Creates name old created → (e : LeavesInside kind m bits (Raster f) (Some file) from created now) → IfSome now.file.bytes (LeavesAtFault p late file)
+    fault_inside_held : (f : RasterFault) (created : Outside) → Creates name old created → (e : LeavesInside kind m bits (Raster f) (Some file) from created now) → IfSome now.file.bytes (LeavesAtFault p late file now.image.rest)
     fault_inside_held f created creates e =
         let same : now.file ≡ e.half.file = ap (λ (o : Outside). o.file) e.only in
         let s = e.taken in
         let samples = samples_of s.images ++ s.samples in
         let small = all_append (λ n. n < 2 ^ bits) (samples_of s.images) s.samples (images_small p.size bits s.images s.bytes s.are s.fit) (small_of bits e.header.maxval s.samples e.fits.maxval s.is_raster.bounded) in
-        let t = takes_lines kind m bits e.count e.header e.rows file from created e.half s e.few e.fits (let i = e.inside in omega (arith, i)) in
-        subst (λ (c : Created). IfSome c.bytes (LeavesAtFault p late file)) (sym same)
-        (some_then (HoldsLines p late samples) (LeavesAtFault p late file) e.half.file.bytes (λ bytes holds.
-        record { rows = e.count * p.size.height + e.rows; samples = samples; front = s.bytes ++ (s.head ++ s.raster); rest = t.rest; taken = t.taken; most = most_of p.size bits file (e.count * p.size.height + e.rows) (laws.fault_inside kind m bits from created now f file e); holds = holds })
+        subst (λ (c : Created). IfSome c.bytes (LeavesAtFault p late file now.image.rest)) (sym same)
+        (some_then (HoldsLines p late samples) (LeavesAtFault p late file now.image.rest) e.half.file.bytes (λ bytes holds. record { samples = samples; reads = fault_inside_reads p m from laws file created now f e; holds = holds })
         (shows_lines kind m from bits late (shown_by p) law long samples name old created e.half small creates s.shows))
 
-    pub held_fault : (f : FileFault) → StreamsToFault kind m bits f name from old now → IfSome now.file.bytes (LeavesAtFault p late file)
+    pub held_fault : (f : FileFault) → StreamsToFault kind m bits f name from old now → IfSome now.file.bytes (LeavesAtFault p late file now.image.rest)
     held_fault f (at_start h only) = absurd (closed (sym unasked ∙ (sym (ap (λ (o : Outside). o.file.stage) only) ∙ there)))
     held_fault f (behind created creates e) = fault_behind_held f created creates (subst (λ all. LeavesBehind kind m bits (ImageFails f) all from created now) told e)
     held_fault f (inside created creates g e) = fault_inside_held g created creates (subst (λ all. LeavesInside kind m bits (Raster g) all from created now) told e)
@@ -187,36 +162,11 @@ module _ (p : Typing) (m : Netlist) (from : Contents) (late : ℕ) (law : ShowsL
     read_behind_held : (created : Outside) → Creates name old created → (e : LeavesBehind kind m bits Read (Some file) from created now) → IfSome now.file.bytes (LeavesAtRead p late file now.image.rest)
     read_behind_held created creates e =
         let same : now.file ≡ e.half.file = ap (λ (o : Outside). o.file) e.only in
+        let samples = samples_of e.taken.images in
+        let r = read_behind_reads p m from laws file created now e in
         subst (λ (c : Created). IfSome c.bytes (LeavesAtRead p late file now.image.rest)) (sym same)
-        (some_then (HoldsLines p late (samples_of e.taken.images)) (LeavesAtRead p late file now.image.rest) e.half.file.bytes (λ bytes holds. by e.why bytes holds)
-        (shows_lines kind m from bits late (shown_by p) law long (samples_of e.taken.images) name old created e.half (images_small p.size bits e.taken.images e.taken.bytes e.taken.are e.taken.fit) creates e.taken.shows))
-      where
-        built : (few : e.count ≤ MAX_FILE_IMAGES) (more rest : List ℕ) → file ≡ (e.taken.bytes ++ more) ++ rest → now.image.rest ≡ Some rest → AreMost p.size bits (e.taken.bytes ++ more) (e.count * p.size.height) → (bytes : List ℕ) → HoldsLines p late (samples_of e.taken.images) bytes → LeavesAtRead p late file now.image.rest bytes
-        built few more rest parts left most bytes holds = record {
-          read = e.taken.bytes ++ more;
-          rest = rest;
-          parts = parts;
-          is_left = left;
-          begun = headed_images p.size bits e.taken.images e.taken.bytes more e.taken.are e.taken.fit (let a = e.some in let b = e.taken.count_is in omega (arith, a, b));
-          rows = e.count * p.size.height;
-          samples = samples_of e.taken.images;
-          front = e.taken.bytes;
-          behind = more;
-          taken = all_images p.size bits e.count (e.taken.bytes ++ more) e.taken.images e.taken.bytes more e.taken.are e.taken.fit e.taken.count_is few refl;
-          most = most;
-          holds = holds;
-        }
-
-        by : LosesNext e.count e.half.image now.image → (bytes : List ℕ) → HoldsLines p late (samples_of e.taken.images) bytes → LeavesAtRead p late file now.image.rest bytes
-        by (in_header few loses) bytes holds =
-            let t = takes_images kind m bits e.count file from created e.half e.taken (omega (arith, few)) in
-            let (rest, left, inner) = told_parts loses.read now.image.rest t.rest (sym loses.given ∙ t.left) in
-            let parts : file ≡ (e.taken.bytes ++ loses.read) ++ rest = t.parts ∙ (ap (λ z. e.taken.bytes ++ z) inner ∙ sym (append_assoc e.taken.bytes loses.read rest)) in
-            let law_is = laws.read_behind kind m bits from created now (Some file) e few in
-            built (omega (arith, few)) loses.read rest parts left (most_of p.size bits (e.taken.bytes ++ loses.read) (e.count * p.size.height) (same_read file now.image.rest law_is.0 (e.taken.bytes ++ loses.read) rest law_is.1 left parts (λ z. EndsLines p.size bits z (e.count * p.size.height)) law_is.2)) bytes holds
-        by (at_byte full untouched) bytes holds =
-            let t = takes_images kind m bits e.count file from created e.half e.taken (omega (arith, full)) in
-            built (omega (arith, full)) [] t.rest (t.parts ∙ ap (λ z. z ++ t.rest) (sym (append-nil e.taken.bytes))) (sym untouched ∙ t.left) (most_full p.size bits (e.taken.bytes ++ []) (e.count * p.size.height) (ap (λ n. n * p.size.height) full)) bytes holds
+        (some_then (HoldsLines p late samples) (LeavesAtRead p late file now.image.rest) e.half.file.bytes (λ bytes holds. record { samples = samples; reads = r.0; begun = r.1; holds = holds })
+        (shows_lines kind m from bits late (shown_by p) law long samples name old created e.half (images_small p.size bits e.taken.images e.taken.bytes e.taken.are e.taken.fit) creates e.taken.shows))
 
     -- a failed read inside an image
     read_inside_held : (created : Outside) → Creates name old created → (e : LeavesInside kind m bits RowsRead (Some file) from created now) → IfSome now.file.bytes (LeavesAtRead p late file now.image.rest)
@@ -225,30 +175,9 @@ module _ (p : Typing) (m : Netlist) (from : Contents) (late : ℕ) (law : ShowsL
         let s = e.taken in
         let samples = samples_of s.images ++ s.samples in
         let small = all_append (λ n. n < 2 ^ bits) (samples_of s.images) s.samples (images_small p.size bits s.images s.bytes s.are s.fit) (small_of bits e.header.maxval s.samples e.fits.maxval s.is_raster.bounded) in
-        let within : e.rows ≤ e.header.height = (let i = e.inside in omega (arith, i)) in
-        let t = takes_lines kind m bits e.count e.header e.rows file from created e.half s e.few e.fits within in
-        let front = s.bytes ++ (s.head ++ s.raster) in
-        let loses = e.why in
-        let (rest, left, inner) = told_parts loses.0 now.image.rest t.rest (sym loses.2 ∙ t.left) in
-        let parts : file ≡ (front ++ loses.0) ++ rest = t.parts ∙ (ap (λ z. front ++ z) inner ∙ sym (append_assoc front loses.0 rest)) in
-        let law_is = laws.read_inside kind m bits from created now (Some file) e in
-        let rows = e.count * p.size.height + e.rows in
+        let r = read_inside_reads p m from laws file created now e in
         subst (λ (c : Created). IfSome c.bytes (LeavesAtRead p late file now.image.rest)) (sym same)
-        (some_then (HoldsLines p late samples) (LeavesAtRead p late file now.image.rest) e.half.file.bytes (λ bytes holds.
-        record {
-          read = front ++ loses.0;
-          rest = rest;
-          parts = parts;
-          is_left = left;
-          begun = headed_taken p.size bits s.images s.bytes s.head s.raster loses.0 e.header s.are s.fit s.reads e.fits;
-          rows = rows;
-          samples = samples;
-          front = front;
-          behind = loses.0;
-          taken = all_lines p.size bits e.count e.rows e.header (front ++ loses.0) s.images s.bytes s.head s.raster s.samples loses.0 s.are s.fit s.count_is e.few e.fits s.reads s.exact within s.is_raster refl;
-          most = most_of p.size bits (front ++ loses.0) rows (same_read file now.image.rest law_is.0 (front ++ loses.0) rest law_is.1 left parts (λ z. EndsLines p.size bits z rows) law_is.2);
-          holds = holds;
-        })
+        (some_then (HoldsLines p late samples) (LeavesAtRead p late file now.image.rest) e.half.file.bytes (λ bytes holds. record { samples = samples; reads = r.0; begun = r.1; holds = holds })
         (shows_lines kind m from bits late (shown_by p) law long samples name old created e.half small creates s.shows))
 
     pub held_read : StreamsToRead kind m bits name from old now → IfSome now.file.bytes (LeavesAtRead p late file now.image.rest)
@@ -317,9 +246,7 @@ module _ (p : Typing) (m : Netlist) (from : Contents) (late : ℕ) (law : ShowsL
     write_first_held header before takes fits only same (at_create stage named files h) = absurd (not_refused (sym stage ∙ there))
     write_first_held header before takes fits only same (at_reset created creates h) = absurd (not_at_reset kind m from bits late (shown_by p) law long wide created now h)
     write_first_held header before takes fits only same (at_head created creates w) =
-        let (rest, left, parts) = told_parts takes.read before.image.rest file (sym takes.given ∙ told) in
-        some_then (λ bytes. bytes ≡ take w.count (head kind)) (LeavesAtWrite p late file now.image.rest) now.file.bytes (λ bytes h.
-        of_header header takes.read rest w.count fits takes.reads takes.exact parts (ap (λ (i : Input). i.rest) same ∙ left) w.within h) (fails_head kind name before created now creates w)
+        some_then (λ bytes. bytes ≡ take w.count (head kind)) (LeavesAtWrite p late file now.image.rest) now.file.bytes (λ bytes h. of_header (first_reads p m from laws file name old now told header before takes fits same) w.count w.within h) (fails_head kind name before created now creates w)
 
     pub held_write : StreamsToWrite kind m bits late name from old now → IfSome now.file.bytes (LeavesAtWrite p late file now.image.rest)
     held_write (write_first header before takes fits only same h) = write_first_held header before takes fits only same h

@@ -31,7 +31,7 @@ use Rattle.dk_compile.specs.Limits.{IsAcceptedAt}
 use Rattle.dk_top.specs.Program.{ports}
 use Rattle.dk_top.specs.Output.{output_file}
 use Rattle.dk_top.specs.Compiling.{IsCompiledFrom, NotesRun}
-use Rattle.dk_top.specs.Streaming.{IsOnePort, first_bits, IsBegun, output_kind, shown_by, OfStream, LeavesAtFault, LeavesAtRead, LeavesAtWrite}
+use Rattle.dk_top.specs.Streaming.{IsOnePort, first_bits, IsBegun, output_kind, shown_by, OfStream, ReadsToFault, ReadsFirst, CreatesAtFailure, OnStream, ReadsRun, LeavesAtFault, LeavesAtRead, LeavesAtWrite}
 use Rattle.dk_top.specs.Verdict.{Files, bytes_of, run_terms, OfPair, IsRunAnswer}
 use Rattle.dk_top.specs.Command.{run}
 use Rattle.dk_top.specs.State.{OthersStay, CreatesNothing, CreatesRun, IsStreamed, IsHeldRun, by_lines, NotedRun}
@@ -44,7 +44,8 @@ use Rattle.dk_top.proofs.DriveLemmas as D
 use Rattle.dk_top.proofs.StreamLemmas as S
 use Rattle.dk_top.proofs.StreamFile.{ShowsLaw}
 use Rattle.dk_top.proofs.StreamTaken.{headed_images, headed_line, headed_taken}
-use Rattle.dk_top.proofs.StreamHeld.{MostLaws, held_fault, held_read, held_write}
+use Rattle.dk_top.proofs.StreamReads.{MostLaws, fault_reads, failure_reads, write_reads, done_reads}
+use Rattle.dk_top.proofs.StreamHeld.{held_fault, held_read, held_write}
 use Rattle.dk_top.proofs.StreamDone.{rounds_of_images, inputs, ports_one, whole_fits, file_done, notes_done}
 
 -- what is told of the files
@@ -308,16 +309,17 @@ module _ (law : PlannedAccepted) (one_program : OneProgram) (one_rounds : (ports
   -- all that is the same at each end
   module _ (now : Outside) (result : Ending) (left : Leaves_so out opened now) where
     built : result ≢ ending.Usage → ((file : List ℕ) → opened.image.rest ≡ Some file → IsRunAnswer age source file result) → ((program : List ℕ) → CreatesNothing (Some (run program image out age)) result → now.file.stage ≡ Unasked) → ((file : List ℕ) → opened.image.rest ≡ Some file → CreatesRun age source file result now.file.stage)
-        → (result ≡ ending.Done → now.file.stage ≡ Open) → (now.file.stage ≡ Open → (file : List ℕ) → opened.image.rest ≡ Some file → IfSome now.file.bytes (IsHeldRun result age source file now.image.rest))
+        → ((file : List ℕ) → opened.image.rest ≡ Some file → ReadsRun result age source file now.image now.file.stage) → (result ≡ ending.Done → now.file.stage ≡ Open) → (now.file.stage ≡ Open → (file : List ℕ) → opened.image.rest ≡ Some file → IfSome now.file.bytes (IsHeldRun result age source file now.image.rest))
         → ((file : List ℕ) → opened.image.rest ≡ Some file → NotedRun result age source file old.notes now.notes)
         → HasCauseIn (result ≡ ending.ReadFault) old.input_failures now.input_failures → HasCauseIn (result ≡ ending.WriteFault) old.output_failures now.output_failures → RunsOn source age image out result old now
-    built taken verdict created begun written output notes read write = record {
+    built taken verdict created begun reads written output notes read write = record {
       taken = taken;
       verdict = of_told (λ file. IsRunAnswer age source file result) verdict;
       image_name = λ asked. subst (λ (n : Option (List ℕ)). IsIfTold n (Some image)) (sym left.image.1) opens.named;
       file_name = left.named;
       created = created;
       begun = of_told (λ file. CreatesRun age source file result now.file.stage) begun;
+      reads = of_told (λ file. ReadsRun result age source file now.image now.file.stage) reads;
       written = written;
       output = λ there. of_told (λ file. IfSome now.file.bytes (IsHeldRun result age source file now.image.rest)) (output there);
       notes = of_told (λ file. NotedRun result age source file old.notes now.notes) notes;
@@ -345,6 +347,10 @@ module _ (law : PlannedAccepted) (one_program : OneProgram) (one_rounds : (ports
   is_streamed : (p : Typing) → IsAcceptedAt source age p → (file : List ℕ) → IsBegun q file → IsStreamed p file
   is_streamed p a file begun = let same = same_program one_program one_rounds source age c from p a in subst (λ (x : Typing). IsStreamed x file) same (one, begun)
 
+  -- what holds of this program on a stream
+  on_stream : (is : Typing → Type 0) → is q → OnStream source age is
+  on_stream is h p a one_p = subst is (same_program one_program one_rounds source age c from p a) h
+
   created_by_fault : (f : FileFault) (now : Outside) (file : List ℕ) → opened.image.rest ≡ Some file → StreamsToFault kind m bits f out zeros opened now → CreatesRun age source file (ending.Image (File f)) now.file.stage
   created_by_fault f now file told (at_start h only) =
       let stage : now.file.stage ≡ Unasked = ap (λ (o : Outside). o.file.stage) only ∙ closed in
@@ -367,6 +373,13 @@ module _ (law : PlannedAccepted) (one_program : OneProgram) (one_rounds : (ports
   created_by_read now file told (read_at_start h only) = λ asked. absurd (asked (ap (λ (o : Outside). o.file.stage) only ∙ closed))
   created_by_read now file told (read_behind created creates e) = λ asked. (q, accepted, (one, begun_behind Read created now file (subst (λ all. LeavesBehind kind m bits Read all zeros created now) told e)))
   created_by_read now file told (read_inside created creates e) = λ asked. (q, accepted, (one, begun_inside RowsRead created now file (subst (λ all. LeavesInside kind m bits RowsRead all zeros created now) told e)))
+
+  reads_by_read : (now : Outside) (file : List ℕ) → opened.image.rest ≡ Some file → StreamsToRead kind m bits out zeros opened now → ReadsRun ending.ReadFault age source file now.image now.file.stage
+  reads_by_read now file told e = record {
+    unopened = λ shut. absurd (shut ((left_read out opened closed kind m bits zeros now e).image.0 ∙ opens.stage));
+    several = λ p a no. absurd (no (subst IsOnePort (same_program one_program one_rounds source age c from p a) one));
+    streamed = λ there. on_stream (λ p. CreatesAtFailure p file now.image.rest now.file.stage) (failure_reads q m zeros laws file out opened now told closed e);
+  }
 
   begun_by_write : (now : Outside) (file : List ℕ) → opened.image.rest ≡ Some file → StreamsToWrite kind m bits late out zeros opened now → IsBegun q file
   begun_by_write now file told (write_first header before takes fits only same f) =
@@ -396,7 +409,7 @@ module _ (law : PlannedAccepted) (one_program : OneProgram) (one_rounds : (ports
       let notes_same : opened.notes ≡ old.notes = ap (λ (o : Outside). o.notes) opens.only in
       built now ending.Done l.1 (λ x. absurd (let f : ⊥ = cc in f))
       (λ file told. record { program = q; rounds = rounds_of_images e.images; accepted = accepted; fits = record { within = tt; holds = fits file told } })
-      (λ program x. absurd x) (λ file told. tt) (λ x. l.0)
+      (λ program x. absurd x) (λ file told. tt) (λ file told. on_stream (λ p. now.image.rest ≡ Some []) (done_reads q m zeros laws file out opened now told late e)) (λ x. l.0)
       (λ there file told. held_by (λ bytes. bytes ≡ output_file q (rounds_of_images e.images)) (IsHeldRun ending.Done age source file now.image.rest) now.file.bytes
       (λ bytes h. of_pair one_program one_rounds source age c from file (rounds_of_images e.images) (fits file told) some_inputs (λ p rounds. bytes ≡ output_file p rounds) h) (file_done source age c from one picture_law raster_law file out opened now told e tall wide))
       (λ file told. of_pair one_program one_rounds source age c from file (rounds_of_images e.images) (fits file told) some_inputs (λ p rounds. NotesRun source age p rounds old.notes now.notes)
@@ -410,20 +423,21 @@ module _ (law : PlannedAccepted) (one_program : OneProgram) (one_rounds : (ports
   runs_fault f now e read write =
       built now (ending.Image (File f)) (left_fault out opened closed kind m bits f zeros now e.leaves) (λ x. absurd (let g : ⊥ = cc in g))
       (λ file told. record { program = q; accepted = accepted; unfit = (tt, subst (λ (x : Ports). IsFault x file f) (sym (ports_one source age c from one)) (e.first file told)) })
-      (λ program x. absurd x) (λ file told. created_by_fault f now file told e.leaves) (λ x. absurd (let g : ⊥ = cc in g))
-      (λ there file told. held_by (LeavesAtFault q late file) (IsHeldRun (ending.Image (File f)) age source file now.image.rest) now.file.bytes (λ bytes h. of_stream (λ p l. LeavesAtFault p l file bytes) h)
+      (λ program x. absurd x) (λ file told. created_by_fault f now file told e.leaves)
+      (λ file told. on_stream (λ p. (samples : List ℕ) × ReadsToFault p file now.image.rest samples) (fault_reads q m zeros laws file out opened now told f e.leaves)) (λ x. absurd (let g : ⊥ = cc in g))
+      (λ there file told. held_by (LeavesAtFault q late file now.image.rest) (IsHeldRun (ending.Image (File f)) age source file now.image.rest) now.file.bytes (λ bytes h. of_stream (λ p l. LeavesAtFault p l file now.image.rest bytes) h)
       (held_fault q m zeros late shows_law long wide laws file out opened now told closed there f e.leaves)) (λ file told. tt) read write
 
   runs_read : (now : Outside) → StreamsToRead kind m bits out zeros opened now → HasCauseIn (ending.ReadFault ≡ ending.ReadFault) old.input_failures now.input_failures → HasCauseIn (ending.ReadFault ≡ ending.WriteFault) old.output_failures now.output_failures → RunsOn source age image out ending.ReadFault old now
   runs_read now e read write =
-      built now ending.ReadFault (left_read out opened closed kind m bits zeros now e) (λ x. absurd (let g : ⊥ = cc in g)) (λ file told. tt) (λ program x. absurd x) (λ file told. created_by_read now file told e) (λ x. absurd (let g : ⊥ = cc in g))
+      built now ending.ReadFault (left_read out opened closed kind m bits zeros now e) (λ x. absurd (let g : ⊥ = cc in g)) (λ file told. tt) (λ program x. absurd x) (λ file told. created_by_read now file told e) (λ file told. reads_by_read now file told e) (λ x. absurd (let g : ⊥ = cc in g))
       (λ there file told. held_by (LeavesAtRead q late file now.image.rest) (IsHeldRun ending.ReadFault age source file now.image.rest) now.file.bytes (λ bytes h. of_stream (λ p l. LeavesAtRead p l file now.image.rest bytes) h)
       (held_read q m zeros late shows_law long wide laws file out opened now told closed there e)) (λ file told. tt) read write
 
   runs_write : (now : Outside) → StreamsToWrite kind m bits late out zeros opened now → HasCauseIn (ending.WriteFault ≡ ending.ReadFault) old.input_failures now.input_failures → HasCauseIn (ending.WriteFault ≡ ending.WriteFault) old.output_failures now.output_failures → RunsOn source age image out ending.WriteFault old now
   runs_write now e read write =
       built now ending.WriteFault (left_write out opened closed kind m bits late zeros now e) (λ x. absurd (let g : ⊥ = cc in g))
-      (λ file told. record { program = q; accepted = accepted; begun = λ is. begun_by_write now file told e; whole = λ is. absurd (is one) }) (λ program x. absurd x) (λ file told. tt) (λ x. absurd (let g : ⊥ = cc in g))
+      (λ file told. record { program = q; accepted = accepted; begun = λ is. begun_by_write now file told e; whole = λ is. absurd (is one) }) (λ program x. absurd x) (λ file told. tt) (λ file told. λ stage. on_stream (λ p. ReadsFirst p file now.image.rest) (write_reads q m zeros laws file out opened now told late e stage)) (λ x. absurd (let g : ⊥ = cc in g))
       (λ there file told. held_by (LeavesAtWrite q late file now.image.rest) (IsHeldRun ending.WriteFault age source file now.image.rest) now.file.bytes (λ bytes h. by_lines (of_stream (λ p l. LeavesAtWrite p l file now.image.rest bytes) h))
       (held_write q m zeros late shows_law long wide laws file out opened now told closed there e)) (λ file told. tt) read write
 

@@ -81,7 +81,7 @@ most_full size bits bytes rows full more samples front rest t = by (length t.ima
         omega (arith, low, full, within, is, next, h)
 
 -- the lines of whole images
-pub all_images : (size : Size) (bits count : ℕ) (file : List ℕ) (images : List Image) (bytes rest : List ℕ) → AreImages bytes images → AllByRecursion (FitsImage size (greatest bits)) images → length images ≡ count → count ≤ MAX_FILE_IMAGES → file ≡ bytes ++ rest
+abbrev pub all_images : (size : Size) (bits count : ℕ) (file : List ℕ) (images : List Image) (bytes rest : List ℕ) → AreImages bytes images → AllByRecursion (FitsImage size (greatest bits)) images → length images ≡ count → count ≤ MAX_FILE_IMAGES → file ≡ bytes ++ rest
     → LinesTaken size bits file (count * size.height) (samples_of images) bytes rest
 all_images size bits count file images bytes rest are fit many few parts = record {
   images = images;
@@ -112,7 +112,7 @@ takes_images kind m bits count file from created half e few =
     record { rest = rest; left = left; parts = parts; taken = all_images kind.size bits count file e.images e.bytes rest e.are e.fit e.count_is few parts }
 
 -- the lines of whole images and of one more
-pub all_lines : (size : Size) (bits count rows : ℕ) (header : Header) (file : List ℕ) (images : List Image) (bytes head raster samples rest : List ℕ) → AreImages bytes images → AllByRecursion (FitsImage size (greatest bits)) images → length images ≡ count → count < MAX_FILE_IMAGES
+abbrev pub all_lines : (size : Size) (bits count rows : ℕ) (header : Header) (file : List ℕ) (images : List Image) (bytes head raster samples rest : List ℕ) → AreImages bytes images → AllByRecursion (FitsImage size (greatest bits)) images → length images ≡ count → count < MAX_FILE_IMAGES
     → FitsHeader size bits header → Reads head header → length head ≡ header.length → rows ≤ header.height → IsRaster raster header.width rows header.maxval samples → file ≡ (bytes ++ (head ++ raster)) ++ rest
     → LinesTaken size bits file (count * size.height + rows) (samples_of images ++ samples) (bytes ++ (head ++ raster)) rest
 all_lines size bits count rows header file images bytes head raster samples rest are fit many few fits reads exact within is parts = record {

@@ -1,22 +1,29 @@
 -- What `run` leaves behind of a program with one input and one output: its images are read, clocked and written line by line.
-use Rattle.std.specs.Prelude.{◌≡◌, ℕ, ◌+◌, ◌-◌, ◌*◌, ◌/◌, ◌^◌, ◌<◌, ◌≤◌, List, [], ◌∷◌, ◌++◌, false, length, map, take, drop, replicate, slice_index_or, Option, Some}
+use Rattle.std.specs.Prelude.{◌≡◌, ◌≢◌, ℕ, ◌+◌, ◌-◌, ◌*◌, ◌/◌, ◌^◌, ◌<◌, ◌≤◌, List, [], ◌∷◌, ◌++◌, false, length, map, take, drop, replicate, slice_index_or, Option, Some, ⊤}
 use Rattle.std.specs.List.{flat_map, range_with_len, AllByRecursion}
 use Rattle.dk_base.specs.declared.TheConstants.{MAX_FILE_IMAGES}
 use Rattle.dk_base.specs.Frames.{Size, area}
+use Rattle.dk_desk.specs.declared.Stage.{Stage}
+use Rattle.dk_desk.specs.declared.Stage.TheVariants.{Unasked, Refused, Open}
+use Rattle.dk_desk.specs.Outside.{Input}
 use Rattle.dk_types.specs.Typed.{Typing, types_of}
 use Rattle.dk_types.specs.Meaning.{meaning_on}
 use Rattle.buffer_plan.specs.Plans.{latency}
 use Rattle.pgm_codec.specs.declared.header.Header.{Header}
-use Rattle.pgm_codec.specs.Answers.{Reads}
+use Rattle.pgm_codec.specs.Answers.{Reads, Undecided}
 use Rattle.pgm_codec.specs.Images.{Image, AreImages, IsRaster}
+use Rattle.pgm_codec.specs.Rasters.{row_length}
 use Rattle.pgm_rounds.specs.Files.{IsHeaded}
 use Rattle.program_images.specs.Ports.{bits_of}
 use Rattle.program_images.specs.Outputs.{output_images}
 use Rattle.row_stream.specs.Lines.{Kind, head, line_at, lines}
-use Rattle.row_stream.specs.Heads.{FitsHeader}
+use Rattle.row_stream.specs.Heads.{FitsHeader, IsUndecidedBefore}
 use Rattle.row_stream.specs.Images.{FitsImage, samples_of}
 use Rattle.row_stream.specs.Ends.{greatest}
 use Rattle.dk_compile.specs.declared.compiling.Compiled.{Compiled}
+use Rattle.dk_compile.specs.Limits.{IsAcceptedAt}
+use Rattle.dk_endings.specs.declared.ending.Ending.{Ending}
+use Rattle.dk_endings.specs.declared.ending.Ending.TheVariants as ending
 use Rattle.dk_top.specs.Program.{ports}
 use Rattle.dk_top.specs.Compiling.{IsCompiledFrom}
 
@@ -82,6 +89,71 @@ pub record LinesTaken (size : Size) (bits : ℕ) (bytes : List ℕ) (rows : ℕ)
 abbrev pub AreMost : Size → (bits : ℕ) → (bytes : List ℕ) → (rows : ℕ) → Type 0
 AreMost size bits bytes rows = (more : ℕ) (samples front rest : List ℕ) → LinesTaken size bits bytes more samples front rest → more ≤ rows
 
+-- What is read of a header that has a fault, after this many images: the bytes up to the one that shows it, or all that there are. After as many images as a file may have one byte shows the fault.
+pub data ReadsHeader (size : Size) (bits images : ℕ) (last after : List ℕ) : Type 0 where
+  to_fault : images < MAX_FILE_IMAGES → ((header : Header) → ¬ (IsHeaded size bits (last ++ after) header)) → IsUndecidedBefore last → (Undecided last → after ≡ []) → ReadsHeader size bits images last after
+  further_byte : images ≡ MAX_FILE_IMAGES → length last ≡ 1 → ReadsHeader size bits images last after
+
+-- What is read of a row that has a fault, after this many rows of its image: its bytes, or all that there are.
+pub record ReadsRow (header : Header) (rows : ℕ) (last after : List ℕ) : Type 0 where
+  pub inside : rows < header.height
+  pub all : last ≡ take (row_length header) (last ++ after)
+
+-- what is read after these lines in order, where what follows them has a fault: a row of the open image, or a header
+abbrev pub ReadsNext : {size : Size} {bits images rows : ℕ} {samples part : List ℕ} → OpenLines size bits images rows samples part → (last after : List ℕ) → Type 0
+ReadsNext {size = size} {bits = bits} {images = images} (between none no_samples no_part) last after = ReadsHeader size bits images last after
+ReadsNext {rows = rows} (opened header head raster few fits reads exact within is part_is) last after = ReadsRow header rows last after
+
+-- What was read of a header when a read failed: bytes that begin a header and hold none whole. After as many images as a file may have it is none.
+pub data BeginsHeader (images : ℕ) (last : List ℕ) : Type 0 where
+  in_header : images < MAX_FILE_IMAGES → Undecided last → BeginsHeader images last
+  no_byte : images ≡ MAX_FILE_IMAGES → last ≡ [] → BeginsHeader images last
+
+-- What was read of a row when a read failed: fewer bytes than the row has.
+pub record BeginsRow (header : Header) (rows : ℕ) (last : List ℕ) : Type 0 where
+  pub inside : rows < header.height
+  pub fewer : length last < row_length header
+
+-- what was read after these lines when a read failed
+abbrev pub BeginsNext : {size : Size} {bits images rows : ℕ} {samples part : List ℕ} → OpenLines size bits images rows samples part → (last : List ℕ) → Type 0
+BeginsNext {images = images} (between none no_samples no_part) last = BeginsHeader images last
+BeginsNext {rows = rows} (opened header head raster few fits reads exact within is part_is) last = BeginsRow header rows last
+
+-- What is read of a file that has a fault: all lines in order before it, and then no more than the row or the header that has the fault. `left` is what is left of the file.
+pub record ReadsToFault (p : Typing) (file : List ℕ) (left : Option (List ℕ)) (samples : List ℕ) : Type 0 where
+  pub rows : ℕ
+  pub front : List ℕ
+  pub last : List ℕ
+  pub after : List ℕ
+  pub taken : LinesTaken p.size (first_bits p) file rows samples front (last ++ after)
+  pub most : AreMost p.size (first_bits p) file rows
+  pub next : ReadsNext taken.open_lines last after
+  pub is_left : left ≡ Some after
+
+-- What was read of a file when a read failed. It has no fault: it is lines in order and then less than one row or header.
+pub record ReadsToFailure (p : Typing) (file : List ℕ) (left : Option (List ℕ)) (samples : List ℕ) : Type 0 where
+  pub read : List ℕ
+  pub rest : List ℕ
+  pub parts : file ≡ read ++ rest
+  pub is_left : left ≡ Some rest
+  pub rows : ℕ
+  pub front : List ℕ
+  pub last : List ℕ
+  pub taken : LinesTaken p.size (first_bits p) read rows samples front last
+  pub most : AreMost p.size (first_bits p) read rows
+  pub next : BeginsNext taken.open_lines last
+
+-- Of the file its first header was read, which fits, and nothing after it.
+pub record ReadsFirst (p : Typing) (file : List ℕ) (left : Option (List ℕ)) : Type 0 where
+  pub header : Header
+  pub front : List ℕ
+  pub rest : List ℕ
+  pub fits : FitsHeader p.size (first_bits p) header
+  pub reads : Reads front header
+  pub exact : length front ≡ header.length
+  pub parts : file ≡ front ++ rest
+  pub is_left : left ≡ Some rest
+
 -- how many lines of the output are whole once so many pixels came in
 abbrev pub complete : Size → (latency pixels : ℕ) → ℕ
 complete size latency pixels = (pixels - latency) / size.width
@@ -96,35 +168,22 @@ pub record HoldsFront (p : Typing) (samples : List ℕ) (y : ℕ) (bytes : List 
   pub inside : count < length (line_at (output_kind p) (shown_by p samples) y)
   pub holds : bytes ≡ head (output_kind p) ++ (lines (output_kind p) (shown_by p samples) y ++ take count (line_at (output_kind p) (shown_by p samples) y))
 
--- After a fault of the images: all lines of the file that are in order before it were clocked.
-pub record LeavesAtFault (p : Typing) (latency : ℕ) (file bytes : List ℕ) : Type 0 where
-  pub rows : ℕ
+-- After a fault of the images: all lines in order before it were clocked.
+pub record LeavesAtFault (p : Typing) (latency : ℕ) (file : List ℕ) (left : Option (List ℕ)) (bytes : List ℕ) : Type 0 where
   pub samples : List ℕ
-  pub front : List ℕ
-  pub rest : List ℕ
-  pub taken : LinesTaken p.size (first_bits p) file rows samples front rest
-  pub most : AreMost p.size (first_bits p) file rows
+  pub reads : ReadsToFault p file left samples
   pub holds : HoldsLines p latency samples bytes
 
--- After a failed read: of the bytes that were taken of the file, which begin with a header that fits, all whole lines were clocked. `left` is what is left of the file.
+-- After a failed read: a whole first header that fits was read, and all whole lines that were read were clocked.
 pub record LeavesAtRead (p : Typing) (latency : ℕ) (file : List ℕ) (left : Option (List ℕ)) (bytes : List ℕ) : Type 0 where
-  pub read : List ℕ
-  pub rest : List ℕ
-  pub parts : file ≡ read ++ rest
-  pub is_left : left ≡ Some rest
-  pub begun : IsBegun p read
-  pub rows : ℕ
   pub samples : List ℕ
-  pub front : List ℕ
-  pub behind : List ℕ
-  pub taken : LinesTaken p.size (first_bits p) read rows samples front behind
-  pub most : AreMost p.size (first_bits p) read rows
+  pub reads : ReadsToFailure p file left samples
+  pub begun : IsBegun p reads.read
   pub holds : HoldsLines p latency samples bytes
 
--- After a failed write: a front of the first header, where that header of the file alone was taken; or all lines before line y and a front of it, where the fewest lines were taken that make line y whole, or all there are.
+-- After a failed write: a front of the first header, where that header of the file alone was read; or all lines before line y and a front of it, where the fewest lines were taken that make line y whole, or all there are.
 pub data LeavesAtWrite (p : Typing) (latency : ℕ) (file : List ℕ) (left : Option (List ℕ)) (bytes : List ℕ) : Type 0 where
-  of_header : (header : Header) (front rest : List ℕ) (count : ℕ) → FitsHeader p.size (first_bits p) header → Reads front header → length front ≡ header.length → file ≡ front ++ rest → left ≡ Some rest
-      → count < length (head (output_kind p)) → bytes ≡ take count (head (output_kind p)) → LeavesAtWrite p latency file left bytes
+  of_header : ReadsFirst p file left → (count : ℕ) → count < length (head (output_kind p)) → bytes ≡ take count (head (output_kind p)) → LeavesAtWrite p latency file left bytes
   of_line : (y rows : ℕ) (samples front rest : List ℕ) → LinesTaken p.size (first_bits p) file rows samples front rest → left ≡ Some rest
       → (y + 1) * p.size.width + latency ≤ rows * p.size.width → rows * p.size.width < (y + 1) * p.size.width + latency + p.size.width
       → HoldsFront p samples y bytes → LeavesAtWrite p latency file left bytes
@@ -138,3 +197,28 @@ pub record OfStream (source : List ℕ) (age : ℕ) (is : Typing → (latency : 
   pub from : IsCompiledFrom source age false compiled
   pub one : IsOnePort from.program
   pub holds : is from.program (latency compiled.plan)
+
+-- what is said of the program of this text, where it is accepted at this age and takes one image and gives one
+abbrev pub OnStream : (source : List ℕ) → (age : ℕ) → (Typing → Type 0) → Type 0
+OnStream source age is = (p : Typing) → IsAcceptedAt source age p → IsOnePort p → is p
+
+-- After a failed read File was created exactly where a whole first header that fits was read.
+pub record CreatesAtFailure (p : Typing) (file : List ℕ) (left : Option (List ℕ)) (created : Stage) : Type 0 where
+  pub samples : List ℕ
+  pub reads : ReadsToFailure p file left samples
+  pub begun : IsBegun p reads.read → created ≡ Open
+  pub before : ¬ (IsBegun p reads.read) → created ≡ Unasked
+
+-- After a failed read File was not created where the images were not opened, or where the program does not take one image and give one.
+pub record FailsReading (age : ℕ) (source file : List ℕ) (image : Input) (created : Stage) : Type 0 where
+  pub unopened : image.stage ≢ Open → created ≡ Unasked
+  pub several : (p : Typing) → IsAcceptedAt source age p → ¬ (IsOnePort p) → created ≡ Unasked
+  pub streamed : image.stage ≡ Open → OnStream source age (λ p. CreatesAtFailure p file image.rest created)
+
+-- What `run` has read of the file of images, of a program that takes one image and gives one: all of it; or no more than the first fault; or, where File could not be created, the first header. `image` is the slot of the images, `created` the stage of File.
+abbrev pub ReadsRun : Ending → (age : ℕ) → (source file : List ℕ) → (image : Input) → (created : Stage) → Type 0
+ReadsRun ending.Done age source file image created = OnStream source age (λ p. image.rest ≡ Some [])
+ReadsRun (ending.Image fault) age source file image created = OnStream source age (λ p. (samples : List ℕ) × ReadsToFault p file image.rest samples)
+ReadsRun ending.ReadFault age source file image created = FailsReading age source file image created
+ReadsRun ending.WriteFault age source file image created = created ≡ Refused → OnStream source age (λ p. ReadsFirst p file image.rest)
+ReadsRun _ age source file image created = ⊤

@@ -1,7 +1,7 @@
 -- How the images of a program with one input and one output are streamed, for the private functions.
 use Rattle.std.specs.Prelude.{◌≡◌, ◌≢◌, ℕ, List, Option, Some, IfSome}
 use Rattle.dk_desk.specs.declared.InSlot.TheVariants.{Image as ImageSlot}
-use Rattle.dk_desk.specs.declared.Stage.TheVariants.{Unasked, Open}
+use Rattle.dk_desk.specs.declared.Stage.TheVariants.{Unasked, Refused, Open}
 use Rattle.dk_desk.specs.Outside.{Outside}
 use Rattle.dk_desk.specs.Calls.{IsIfTold, HasCauseIn, OpensOnly}
 use Rattle.wiring.specs.Netlist.{Netlist}
@@ -15,6 +15,7 @@ use Rattle.dk_endings.specs.declared.ending.ImageFault.TheVariants as image
 use Rattle.dk_compile.specs.declared.compiling.Compiled.{Compiled}
 use Rattle.dk_top.specs.Compiling.{IsCompiledFrom}
 use Rattle.dk_top.specs.Verdict.{bytes_of, IsRunAnswer}
+use Rattle.dk_top.specs.Streaming.{ReadsRun}
 use Rattle.dk_top.specs.Command.{run}
 use Rattle.dk_compile.specs.Limits.{IsAcceptedAt}
 use Rattle.dk_top.specs.State.{AsksOnly, AsksWhere, CreatesNothing, CreatesOut, OthersStay, CreatesRun, IsHeldRun, NotedRun}
@@ -38,7 +39,7 @@ pub record OpensImages (image : List ℕ) (old opened : Outside) : Type 0 where
 
 -- The images were opened and streamed, or could not be opened.
 pub data RunsStream (kind : Kind) (m : Netlist) (bits late : ℕ) (image out : List ℕ) (from : Contents) (old now : Outside) (result : Ending) : Type 0 where
-  refused : result ≡ ending.ReadFault → OpensOnly ImageSlot old now → IsIfTold now.image.name (Some image) → RunsStream kind m bits late image out from old now result
+  refused : result ≡ ending.ReadFault → OpensOnly ImageSlot old now → now.image.stage ≡ Refused → IsIfTold now.image.name (Some image) → RunsStream kind m bits late image out from old now result
   streamed : (opened : Outside) → OpensImages image old opened → StreamEnds kind m bits late out from opened now result → RunsStream kind m bits late image out from old now result
 
 -- What `run` does behind the compiling of its program.
@@ -49,6 +50,7 @@ pub record RunsOn (source : List ℕ) (age : ℕ) (image out : List ℕ) (result
   pub file_name : new.file.stage ≢ Unasked → IsIfTold new.file.name (Some out)
   pub created : (program : List ℕ) → CreatesNothing (Some (run program image out age)) result → new.file.stage ≡ Unasked
   pub begun : IfSome old.files (λ files. CreatesRun age source (bytes_of files image) result new.file.stage)
+  pub reads : IfSome old.files (λ files. ReadsRun result age source (bytes_of files image) new.image new.file.stage)
   pub written : result ≡ ending.Done → new.file.stage ≡ Open
   pub output : new.file.stage ≡ Open → IfSome old.files (λ files. IfSome new.file.bytes (IsHeldRun result age source (bytes_of files image) new.image.rest))
   pub notes : IfSome old.files (λ files. NotedRun result age source (bytes_of files image) old.notes new.notes)
@@ -66,6 +68,7 @@ pub record PerformsRun (program image out : List ℕ) (age : ℕ) (result : Endi
   pub order : IfSome old.files (λ files. AsksWhere (IsAcceptedAt (bytes_of files program) age) new)
   pub created : CreatesNothing (Some (run program image out age)) result → new.file.stage ≡ Unasked
   pub begun : IfSome old.files (λ files. CreatesRun age (bytes_of files program) (bytes_of files image) result new.file.stage)
+  pub reads : IfSome old.files (λ files. ReadsRun result age (bytes_of files program) (bytes_of files image) new.image new.file.stage)
   pub written : result ≡ ending.Done → CreatesOut (Some (run program image out age)) new
   pub output : new.file.stage ≡ Open → IfSome old.files (λ files. IfSome new.file.bytes (IsHeldRun result age (bytes_of files program) (bytes_of files image) new.image.rest))
   pub notes : IfSome old.files (λ files. NotedRun result age (bytes_of files program) (bytes_of files image) old.notes new.notes)

@@ -1,12 +1,14 @@
-//! What the definitions on plans and reports say together.
+//! What the definitions on plans, reports and what is read say together.
 
-ghost use Rattle.std.specs.Prelude.{◌≡◌, ℕ, List};
+ghost use Rattle.std.specs.Prelude.{◌≡◌, ℕ, ◌<◌, List, Option};
 ghost use Rattle.dk_base.specs.Stencils.{Stencils};
 ghost use Rattle.dk_compile.specs.declared.fault.SourceFault.{SourceFault};
 ghost use Rattle.dk_plan.specs.declared.judging.Claim.{Claim as TheClaim};
 ghost use Rattle.dk_compile.specs.Limits.{IsFaultAt};
 ghost use Rattle.dk_top.specs.Program.{CanBeCompiled};
 ghost use Rattle.dk_top.specs.Plans.{HasStencils, IsConfirmed, IsWrongLine};
+ghost use Rattle.dk_top.specs.Streaming.{ReadsToFault};
+ghost use Rattle.dk_types.specs.Typed.{Typing};
 
 /// Laws: an accepted text has one list of names and one of live reads. One that is accepted at an age has no fault at it, and one that is not has one fault. A report that holds has no wrong line and says one thing, and another has one first wrong line.
 pub fn one_plan()
@@ -21,4 +23,11 @@ pub fn one_plan()
     dk_compile::one_at_age();
     stencil_sets::one_answer();
     dk_plan::one_plan();
+}
+
+/// A law: the file decides what a streamed `run` leaves of it at its first fault.
+pub fn one_rest()
+    ensures { (p : Typing) (file : List ℕ) (left other : Option (List ℕ)) (xs ys : List ℕ) → 0 < p.size.height → ReadsToFault p file left xs → ReadsToFault p file other ys → left ≡ other }
+{
+    pgm_codec::one_reading();
 }

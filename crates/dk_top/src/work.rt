@@ -5,7 +5,7 @@ ghost use Rattle.dk_desk.specs.Outside.{Outside};
 ghost use Rattle.dk_desk.specs.Calls.{HasCauseIn};
 ghost use Rattle.dk_top.specs.Command.{Command, IsInRange};
 ghost use Rattle.dk_top.specs.Verdict.{OnFiles, IsVerdict};
-ghost use Rattle.dk_top.specs.State.{IsFresh, AsksOnly, AsksInOrder, CreatesNothing, CreatesBy, CreatesOut, FilesStay, IsHeld, IsNoted, IsReported, WritesNothing};
+ghost use Rattle.dk_top.specs.State.{IsFresh, AsksOnly, AsksInOrder, CreatesNothing, CreatesBy, ReadsBy, CreatesOut, FilesStay, IsHeld, IsNoted, IsReported, WritesNothing};
 
 use dk_desk::{Desk, Stage};
 use dk_endings::Ending;
@@ -26,6 +26,7 @@ pub trait Work {
         ensures order { IfSome (D.outside desk.old).files (λ files. AsksInOrder (command self.now) files (D.outside desk.new)) }
         ensures created { CreatesNothing (Some (command self.now)) result → (D.outside desk.new).file.stage ≡ Stage.Unasked }
         ensures begun { IfSome (D.outside desk.old).files (λ files. CreatesBy (command self.now) result files (D.outside desk.new).file.stage) }
+        ensures reads { IfSome (D.outside desk.old).files (λ files. ReadsBy (command self.now) result files (D.outside desk.new).image (D.outside desk.new).file.stage) }
         ensures written { result ≡ Ending.Done → CreatesOut (Some (command self.now)) (D.outside desk.new) }
         ensures output { (D.outside desk.new).file.stage ≡ Stage.Open → IfSome (D.outside desk.old).files (λ files. IfSome (D.outside desk.new).file.bytes (IsHeld result (command self.now) files (D.outside desk.new).image.rest)) }
         ensures files { FilesStay (Some (command self.now)) (D.outside desk.old).files (D.outside desk.new).files }

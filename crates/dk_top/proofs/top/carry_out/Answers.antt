@@ -3,7 +3,7 @@ use Rattle.dk_words.specs.declared.command.Asked.{Asked}
 use Rattle.dk_top.specs.Command.{Command, make, command_asked}
 use Rattle.dk_top.specs.Verdict.{OnFiles, IsVerdict}
 use Rattle.dk_top.specs.State.{IsReported}
-use Rattle.dk_top.proofs.CommandLemmas.{words_verdict, words_order, words_report, words_notes, words_begun, named_has}
+use Rattle.dk_top.proofs.CommandLemmas.{words_verdict, words_order, words_report, words_notes, words_begun, words_reads, named_has}
 use Rattle.dk_top.proofs.top.carry_out.Goals as goal
 
 pub returns-in-Err-clause-verdict : goal.returns-in-Err-clause-verdict
@@ -14,6 +14,9 @@ returns-in-Err-clause-order g c = words_order _ _ _ c.requires.image
 
 pub returns-in-Err-clause-begun : goal.returns-in-Err-clause-begun
 returns-in-Err-clause-begun g c = words_begun _ _ c.in-Err.ending _ c.in-Err.ensures.other
+
+pub returns-in-Err-clause-reads : goal.returns-in-Err-clause-reads
+returns-in-Err-clause-reads g c = words_reads _ _ c.in-Err.ending _ _ c.in-Err.ensures.other
 
 pub returns-in-Err-clause-report : goal.returns-in-Err-clause-report
 returns-in-Err-clause-report g c = words_report _ _ c.in-Err.ending _ c.in-Err.ensures.other
