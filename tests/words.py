@@ -43,6 +43,8 @@ docs/DECISIONS.md
 tests/README.md
 examples/README.md
 docs/BENCH.md
+docs/GALLERY.md
+docs/PROVING.md
 """.split()
 
 
