@@ -56,6 +56,8 @@ crates/circuit_tests/README.md
 crates/cycle_sim/README.md
 crates/datapath/README.md
 crates/datapath_values/README.md
+docs/GALLERY.md
+docs/PROVING.md
 """.split()
 
 

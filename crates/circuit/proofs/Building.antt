@@ -116,7 +116,7 @@ module _ (new old : Netlist) (p : Program) (plan : Plan) (shapes : Shapes) (plac
     }
 
 -- arrays of images one after another
-shapes_push : (shapes : Shapes) (plan : Plan) (images : List Image) (k : ℕ) (i : Image) → slice_get images k ≡ Some i → shapes_of shapes plan (take (suc k) images) ≡ shapes_of shapes plan (take k images) ++ shapes plan i.number
+pub shapes_push : (shapes : Shapes) (plan : Plan) (images : List Image) (k : ℕ) (i : Image) → slice_get images k ≡ Some i → shapes_of shapes plan (take (suc k) images) ≡ shapes_of shapes plan (take k images) ++ shapes plan i.number
 shapes_push shapes plan [] k i at = absurd (let f : ⊥ = cc in f)
 shapes_push shapes plan (j ∷ images) zero i at =
     let same : j ≡ i = cc in

@@ -21,5 +21,6 @@ pub mod Forming
 pub mod Leaving
 pub mod Netted
 pub mod Behaving
+pub mod Counting
 pub mod Adding
 pub mod Driven

@@ -1,4 +1,4 @@
--- The nets of the kept images as nets of the module: what they are, which output shows each, and which arrays take it.
+-- The nets of the kept images in the module: which nets they are, which output shows each, and which array stores it.
 use Rattle.std.specs.Prelude.{◌≡◌, ℕ, ◌-◌, ◌<◌, ◌≤◌, Bool, ◌||◌, List, length, slice_get, Some, All, Contains}
 use Rattle.dk_base.specs.Types.{width_of as bits_of_type}
 use Rattle.wiring.specs.declared.right.Atom.TheVariants as atom
@@ -40,7 +40,7 @@ pub record PassesOn (m : Netlist) (x : ℕ) : Type 0 where
 
 -- The list has the net of each kept image of the module, in order.
 pub record AreNetsOf (m : Netlist) (p : Program) (plan : Plan) (shapes : Shapes) (nets : List Net) : Type 0 where
-  -- each is declared in the module, is no output, and has the width of its image's type
+  -- each is declared in the module, is not an output, and has the width of its image's type
   pub there : (g : ℕ) → Keeps plan g → IsNet m (net_of plan nets g)
   pub width : (g : ℕ) → Keeps plan g → net_width m (net_of plan nets g) ≡ bits_of_type (type_at p g)
   -- that of an input is its din
@@ -56,12 +56,12 @@ abbrev pub kept_source_of : Shapes → Plan → (f : ℕ) → (enable : Bool) �
 kept_source_of shapes plan f enable (OfNet n) = is_control enable (OfNet n)
 kept_source_of shapes plan f enable (OfArray x) = is_array_of shapes plan f x || source_of shapes plan f enable (OfArray x)
 
--- Image f is made of rst, en, registers and the arrays of the images of which it has a live read: its net, each dout that shows it, and what the put of each of its arrays reads, beside its own arrays.
+-- What image f is made of. Its net and each dout that shows it are made of rst, en, registers and the arrays of the images of which f has a live read. What the puts of its arrays read is made of these and of its own arrays.
 pub record IsImageApart (m : Netlist) (p : Program) (plan : Plan) (shapes : Shapes) (nets : List Net) (f : ℕ) : Type 0 where
   pub net : IsMadeOf m (source_of shapes plan f m.enable) (OfNet (net_of plan nets f))
   pub dout : (k : ℕ) → slice_get p.outputs k ≡ Some f → IsMadeOf m (source_of shapes plan f m.enable) (OfNet (dout_net k))
   pub put : (x : ℕ) (u : Update) → first_array shapes plan f ≤ x → x < end_array shapes plan f → Contains m.updates u → update_target u ≡ OfArray x → All (IsMadeOf m (kept_source_of shapes plan f m.enable)) (update_reads u)
 
--- Where each read is at least one clock old, each kept image that is no input is made so. So no path of assigns passes through two images, or from a din to a dout that shows no input.
+-- At an age of at least 1 this holds of each kept image that is not an input. So no path of assigns passes through two images. No path leads from a din to a dout, unless the dout shows an input.
 abbrev pub IsApart : Netlist → Program → Plan → Shapes → List Net → Type 0
 IsApart m p plan shapes nets = 1 ≤ plan.system.age → (f : ℕ) → Keeps plan f → length p.inputs ≤ f → IsImageApart m p plan shapes nets f

@@ -1,18 +1,19 @@
 // Forms of buffers.
 
-ghost use Rattle.std.specs.Prelude.{◌≡◌, ℕ, List, IfOk, ⊤};
+ghost use Rattle.std.specs.Prelude.{◌≡◌, ◌<◌, ◌≤◌, ℕ, List, IfOk, ⊤, length};
 ghost use Rattle.wiring.specs.declared.right.Atom.{Atom};
 ghost use Rattle.wiring.specs.declared.netlist.Net.{Net};
 ghost use Rattle.wiring.specs.declared.netlist.Shape.{Shape};
 ghost use Rattle.wiring.specs.Netlist.{net_width};
 ghost use Rattle.net_build.specs.Includes.{Includes};
 ghost use Rattle.net_build.specs.Draft.{IsNet};
-ghost use Rattle.buffer_plan.specs.Plans.{Plan as ThePlan, width_of};
+ghost use Rattle.buffer_plan.specs.Plans.{Plan as ThePlan, width_of, depth_of};
 ghost use Rattle.line_buffer.specs.Places.{Place};
 ghost use Rattle.line_buffer.specs.Indices.{IsReadOnce};
 ghost use Rattle.circuit.specs.Taps.{Keeps};
 ghost use Rattle.circuit.specs.Forms.{IsBuffered, shapes_before, chain_shapes_of, chain_places, ring_shapes_of, ring_places};
 
+use crate::slots::{Slot, chain_slot, ring_slot};
 use crate::taps::Taps;
 use buffer_plan::Plan;
 use dk_base::OutOfMemory;
@@ -31,6 +32,14 @@ pub trait BufferForm {
 
     /// What each array keeps, by the indices at which it is read and those at which it is put.
     ghost property: { Self → List (Atom Net) → List (Atom Net) → Type 0 };
+
+    /// The word that holds the pixel of an age of a kept image before the edge of a counted clock: `clock` clocks were counted since the last reset, and the pixel came `age` clocks before, 1 to the image's depth. It takes no memory.
+    fn place(&self, plan: &Plan, image: u32, age: u64, clock: u64) -> Slot
+        requires kept { Keeps plan.now image }
+        requires some { 0 < age }
+        requires deep { age ≤ depth_of plan.now image }
+        ensures array { result.array ≡ (places self.now plan.now image age clock).array }
+        ensures word { result.word ≡ (places self.now plan.now image age clock).word };
 
     /// Adds the buffer of a kept image whose net is `value`, after those of the kept images before it.
     fn add(
@@ -64,6 +73,10 @@ impl BufferForm for Ring {
 
     ghost property = { λ form reads puts. ⊤ };
 
+    fn place(&self, plan: &Plan, image: u32, age: u64, clock: u64) -> Slot {
+        ring_slot(plan, image, age, clock)
+    }
+
     fn add(
         &self,
         alloc: Global,
@@ -84,6 +97,10 @@ impl BufferForm for Chain {
     ghost places = { λ form. chain_places };
 
     ghost property = { λ form. IsReadOnce };
+
+    fn place(&self, plan: &Plan, image: u32, age: u64, clock: u64) -> Slot {
+        chain_slot(plan, image, age, clock)
+    }
 
     fn add(
         &self,

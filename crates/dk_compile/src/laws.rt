@@ -50,7 +50,7 @@ pub fn one_at_age()
 
 /// A law: an output's picture of a drive is its pixels in raster order, counted on through the rounds, as many as there are clocks behind its latency; and pixels that are counted on through pictures are these pictures' rasters, one after another.
 ///
-/// A drive may go on after an output's last pixel, as it does for each output that is earlier than the latest one. Its `valid` stays 1 to the end. The first samples at which it is 1, as many as the rounds have pixels, are still the output's pixels (`first`), and its pictures where the drive is long enough (`whole`). Later samples are no pixels.
+/// A drive may continue after an output's last pixel, as it does for each output that is earlier than the latest one. Its `valid` stays 1 to the end. The first samples at which it is 1, as many as the rounds have pixels, are still the output's pixels (`first`), and its pictures where the drive is long enough (`whole`). Later samples are not pixels.
 pub fn drive_shows()
     ensures picture { (m : Netlist) (p : Program) (plan : Plan) → Drives m p plan → (from to : Contents) (dins : List (List ℕ)) (shots : List Snapshot) → FitsContents m from → All (Fit (input_widths p)) dins
         → Runs m from (driven (length p.inputs) dins) shots to → (rounds : Rounds) → AreRounds p rounds → Agree p rounds dins → (k : ℕ) → k < length p.outputs → length dins ≤ pixel_count p rounds + latency_of plan k

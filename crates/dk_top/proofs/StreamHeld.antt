@@ -5,10 +5,9 @@ use Rattle.std.proofs.lemmas.List.{length-replicate, take-append-drop}
 use Rattle.std.proofs.lemmas.List.Concat.{flat_map-append}
 use Rattle.std.proofs.lemmas.Nat.{pow_pos}
 use Rattle.std.proofs.Math.Nat.{mul-pos, mul_comm, add-mul}
-use Rattle.dk_base.specs.declared.TheConstants.{MAX_FILE_IMAGES}
 use Rattle.dk_base.specs.Frames.{Size}
 use Rattle.dk_desk.specs.declared.Stage.TheVariants.{Unasked, Refused, Open}
-use Rattle.dk_desk.specs.Outside.{Outside, Input, Created}
+use Rattle.dk_desk.specs.Outside.{Outside, Created}
 use Rattle.dk_types.specs.Typed.{Typing}
 use Rattle.wiring.specs.Netlist.{Netlist}
 use Rattle.wiring.specs.Snapshot.{Contents}

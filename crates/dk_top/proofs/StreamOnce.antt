@@ -1,20 +1,19 @@
 -- At an Image fault what is left of the file is decided by the file.
-use Rattle.std.proofs.Common.{◌≡◌, ℕ, zero, suc, ◌+◌, ◌-◌, ◌*◌, ◌/◌, ◌^◌, ◌<◌, ◌≤◌, ◌⊎◌, inl, inr, Bool, true, false, List, [], ◌∷◌, ◌++◌, length, take, drop, Option, Some, refl, sym, ap, ◌∙◌, subst, arith, suc-mul, append-nil, append_assoc, length-append}
+use Rattle.std.proofs.Common.{◌≡◌, ℕ, suc, ◌+◌, ◌*◌, ◌/◌, ◌<◌, ◌≤◌, ◌⊎◌, inl, inr, Bool, true, false, List, [], ◌∷◌, ◌++◌, length, take, drop, Option, Some, sym, ap, ◌∙◌, subst, arith, append_assoc, length-append}
 use Rattle.std.specs.List.{flat_map}
-use Rattle.std.proofs.lemmas.List.{append_cancel_left, take-append-drop, take-append-le, take_all}
+use Rattle.std.proofs.lemmas.List.{take-append-le, take_all}
 use Rattle.std.proofs.lemmas.Nat.{div-mul-add}
 use Rattle.std.proofs.lemmas.Bool.{cases_lt}
 use Rattle.dk_base.specs.declared.TheConstants.{MAX_FILE_IMAGES}
 use Rattle.dk_base.specs.Frames.{Size}
 use Rattle.dk_types.specs.Typed.{Typing}
 use Rattle.pgm_codec.specs.declared.header.Header.{Header}
-use Rattle.pgm_codec.specs.Answers.{Whole, Reads, Undecided}
+use Rattle.pgm_codec.specs.Answers.{Reads, Undecided}
 use Rattle.pgm_codec.specs.Images.{Image, AreImages, IsImageOf, IsRaster, is_narrow, spelled, size_of, sample_size}
 use Rattle.pgm_codec.specs.Rasters.{row_length}
 use Rattle.pgm_codec.proofs.Unique.{one_front}
-use Rattle.pgm_codec.proofs.Stays.{reads_more}
 use Rattle.pgm_rounds.specs.Files.{IsHeaded}
-use Rattle.row_stream.specs.Heads.{FitsHeader, IsUndecidedBefore}
+use Rattle.row_stream.specs.Heads.{IsUndecidedBefore}
 use Rattle.row_stream.proofs.HeadEnds.{exact_whole, one_header}
 use Rattle.dk_top.specs.Streaming.{first_bits, OpenLines, between, opened, ReadsHeader, to_fault, further_byte, ReadsRow, ReadsNext, ReadsToFault}
 use Rattle.dk_top.proofs.StreamTaken.{headed_line}
@@ -23,7 +22,7 @@ abbrev pub OneImage : Type 0
 OneImage = (first second rest more : List ℕ) (p q : Image) → IsImageOf first p → IsImageOf second q → first ++ rest ≡ second ++ more → (first ≡ second) × (p ≡ q)
 
 -- fronts of one length
-same_rest : (xs ys rest more : List ℕ) → length xs ≡ length ys → xs ++ rest ≡ ys ++ more → rest ≡ more
+pub same_rest : (xs ys rest more : List ℕ) → length xs ≡ length ys → xs ++ rest ≡ ys ++ more → rest ≡ more
 same_rest [] [] rest more count e = e
 same_rest [] (y ∷ ys) rest more count e = absurd (let f : ⊥ = omega (arith, count) in f)
 same_rest (x ∷ xs) [] rest more count e = absurd (let f : ⊥ = omega (arith, count) in f)
@@ -47,7 +46,7 @@ spelled_length narrow [] = let e : 0 ≡ 0 * size_of narrow = omega arith in e
 spelled_length true (x ∷ xs) = ap suc (spelled_length true xs) ∙ (let e : suc (length xs * 1) ≡ suc (length xs) * 1 = omega arith in e)
 spelled_length false (x ∷ xs) = ap (λ n. suc (suc n)) (spelled_length false xs) ∙ (let e : suc (suc (length xs * 2)) ≡ suc (length xs) * 2 = omega arith in e)
 
-raster_length : (raster samples : List ℕ) (width rows maxval : ℕ) → IsRaster raster width rows maxval samples → length raster ≡ width * rows * sample_size maxval
+pub raster_length : (raster samples : List ℕ) (width rows maxval : ℕ) → IsRaster raster width rows maxval samples → length raster ≡ width * rows * sample_size maxval
 raster_length raster samples width rows maxval is = ap length is.bytes_are ∙ (spelled_length (is_narrow maxval) samples ∙ ap (λ n. n * sample_size maxval) is.count)
 
 -- the first byte at which more is known
@@ -60,14 +59,14 @@ shorter_undecided xs ys rest more before shown e less =
     f
 
 one_header_read : (size : Size) (bits images others : ℕ) (xs ys rest more : List ℕ) → ReadsHeader size bits images xs rest → ReadsHeader size bits others ys more → images ≡ others → xs ++ rest ≡ ys ++ more → rest ≡ more
-one_header_read size bits images others xs ys rest more (to_fault few none before shown) (to_fault less nor earlier seen) same e = by (cases_lt (length xs) (length ys)) (cases_lt (length ys) (length xs))
+one_header_read size bits images others xs ys rest more (to_fault few r) (to_fault less s) same e = by (cases_lt (length xs) (length ys)) (cases_lt (length ys) (length xs))
   where
     by : (length xs < length ys) ⊎ (length ys ≤ length xs) → (length ys < length xs) ⊎ (length xs ≤ length ys) → rest ≡ more
-    by (inl lt) other = absurd (shorter_undecided xs ys rest more earlier shown e lt)
-    by (inr le) (inl lt) = absurd (shorter_undecided ys xs more rest before seen (sym e) lt)
+    by (inl lt) other = absurd (shorter_undecided xs ys rest more s.before r.shown e lt)
+    by (inr le) (inl lt) = absurd (shorter_undecided ys xs more rest r.before s.shown (sym e) lt)
     by (inr le) (inr ge) = same_rest xs ys rest more (omega (arith, le, ge)) e
-one_header_read size bits images others xs ys rest more (to_fault few none before shown) (further_byte full one) same e = absurd (let f : ⊥ = omega (arith, few, full, same) in f)
-one_header_read size bits images others xs ys rest more (further_byte full one) (to_fault few none before shown) same e = absurd (let f : ⊥ = omega (arith, few, full, same) in f)
+one_header_read size bits images others xs ys rest more (to_fault few r) (further_byte full one) same e = absurd (let f : ⊥ = omega (arith, few, full, same) in f)
+one_header_read size bits images others xs ys rest more (further_byte full one) (to_fault few r) same e = absurd (let f : ⊥ = omega (arith, few, full, same) in f)
 one_header_read size bits images others xs ys rest more (further_byte full one) (further_byte filled single) same e = same_rest xs ys rest more (one ∙ sym single) e
 
 one_row_read : (header other : Header) (rows others : ℕ) (xs ys rest more : List ℕ) → header ≡ other → ReadsRow header rows xs rest → ReadsRow other others ys more → xs ++ rest ≡ ys ++ more → rest ≡ more
@@ -100,7 +99,7 @@ module _ (one : OneImage) (size : Size) (bits : ℕ) (tall : 0 < size.height) (p
       absurd (headed next (subst (λ z. IsHeaded size bits z header) (sym (sym (ap (λ z. z ++ (last ++ after)) c) ∙ (behind ∙ (ap (λ z. z ++ (final ++ more)) part_is ∙ append_assoc head raster (final ++ more))))) (headed_line size bits head (raster ++ (final ++ more)) header reads fits)) (omega (arith, few, count.0)))
     where
       headed : ReadsHeader size bits (length ps) last after → IsHeaded size bits (last ++ after) header → length ps < MAX_FILE_IMAGES → ⊥
-      headed (to_fault few none b s) is less = none header is
+      headed (to_fault few r) is less = r.none header is
       headed (further_byte full b) is less = let f : ⊥ = omega (arith, full, less) in f
   both {o = o} {u = u} {part = part} {piece = piece} last final after more (opened header head raster few fits reads exact within is part_is) (between d e f) next then parts rows =
       let count = one_count size.height (length ps) (length qs) o u (let i = next.inside in let h = fits.sized.height in omega (arith, i, h)) (omega (arith, d, tall)) rows in
@@ -110,7 +109,7 @@ module _ (one : OneImage) (size : Size) (bits : ℕ) (tall : 0 < size.height) (p
       absurd (headed then (subst (λ z. IsHeaded size bits z header) (sym (sym (ap (λ z. z ++ (final ++ more)) f) ∙ (sym behind ∙ (ap (λ z. z ++ (last ++ after)) part_is ∙ append_assoc head raster (last ++ after))))) (headed_line size bits head (raster ++ (last ++ after)) header reads fits)) (omega (arith, few, count.0)))
     where
       headed : ReadsHeader size bits (length qs) final more → IsHeaded size bits (final ++ more) header → length qs < MAX_FILE_IMAGES → ⊥
-      headed (to_fault few none b s) is less = none header is
+      headed (to_fault few r) is less = r.none header is
       headed (further_byte full b) is less = let f : ⊥ = omega (arith, full, less) in f
   both {o = o} {u = u} {xs = xs} {ys = ys} {part = part} {piece = piece} last final after more (opened header head raster few fits reads exact within is part_is) (opened other crown grid less suits tells precise inner es piece_is) next then parts rows =
       let count = one_count size.height (length ps) (length qs) o u (let i = next.inside in let h = fits.sized.height in omega (arith, i, h)) (let i = then.inside in let h = suits.sized.height in omega (arith, i, h)) rows in

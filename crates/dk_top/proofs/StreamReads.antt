@@ -1,7 +1,7 @@
 -- What a stream has read of the file of images.
-use Rattle.std.proofs.Common.{◌≡◌, ℕ, zero, suc, ◌+◌, ◌*◌, ◌<◌, ◌≤◌, List, [], ◌∷◌, ◌++◌, length, take, Option, None, Some, refl, sym, ap, ◌∙◌, subst, arith, append-nil, append_assoc}
+use Rattle.std.proofs.Common.{◌≡◌, ℕ, zero, suc, ◌+◌, ◌*◌, ◌<◌, ◌≤◌, List, [], ◌∷◌, ◌++◌, length, take, Option, Some, refl, sym, ap, ◌∙◌, subst, arith, append-nil, append_assoc}
 use Rattle.std.proofs.lemmas.List.{append_cancel_right}
-use Rattle.std.specs.Io.KnownBytes.{prepend_known, IsAtEnd}
+use Rattle.std.specs.Io.KnownBytes.{prepend_known}
 use Rattle.dk_base.specs.declared.TheConstants.{MAX_FILE_IMAGES}
 use Rattle.dk_base.specs.Frames.{Size}
 use Rattle.dk_desk.specs.declared.Stage.{Stage}
@@ -12,7 +12,7 @@ use Rattle.wiring.specs.Netlist.{Netlist}
 use Rattle.wiring.specs.Snapshot.{Contents}
 use Rattle.pgm_codec.specs.declared.header.Header.{Header}
 use Rattle.pgm_codec.specs.declared.raster.RasterFault.{RasterFault}
-use Rattle.pgm_codec.specs.Answers.{Reads, Undecided}
+use Rattle.pgm_codec.specs.Answers.{Undecided}
 use Rattle.pgm_codec.specs.Rasters.{row_length}
 use Rattle.pgm_codec.proofs.Unique.{reads_whole}
 use Rattle.pgm_codec.proofs.Stays.{undecided_front}
@@ -21,15 +21,15 @@ use Rattle.pgm_rounds.specs.Files.{IsHeaded}
 use Rattle.row_stream.specs.declared.faults.StreamFault.TheVariants.{Image as ImageFails, Read}
 use Rattle.row_stream.specs.declared.rows.RowsFault.TheVariants.{Raster, Read as RowsRead}
 use Rattle.row_stream.specs.Lines.{Kind}
-use Rattle.row_stream.specs.Heads.{FitsHeader, TakesHead, RefusesHead, LosesHead}
+use Rattle.row_stream.specs.Heads.{FitsHeader, TakesHead}
 use Rattle.row_stream.specs.Images.{samples_of}
 use Rattle.row_stream.specs.Ends.{RefusesNext, refused, too_many, LosesNext, in_header, at_byte}
 use Rattle.row_stream.specs.Moving.{Gains, GainsBut}
-use Rattle.row_stream.specs.Whole.{Creates, LeavesAll, LeavesBehind, LeavesInside, FailsFirst, at_create, at_head, at_reset, LeavesAtFault as StreamsToFault, at_start, behind, inside, LeavesAtRead as StreamsToRead, read_at_start, read_behind, read_inside, LeavesAtWrite as StreamsToWrite, write_first, write_inside, write_behind}
+use Rattle.row_stream.specs.Whole.{Creates, LeavesAll, LeavesBehind, LeavesInside, LeavesAtFault as StreamsToFault, at_start, behind, inside, LeavesAtRead as StreamsToRead, read_at_start, read_behind, read_inside, LeavesAtWrite as StreamsToWrite, write_first, write_inside, write_behind}
 use Rattle.row_stream.specs.Most.{EndsLines}
 use Rattle.row_stream.proofs.FirstFault.{told_parts}
 use Rattle.row_stream.proofs.HeadEnds.{at_end}
-use Rattle.dk_top.specs.Streaming.{first_bits, output_kind, IsBegun, OpenLines, between, opened, LinesTaken, AreMost, to_fault, further_byte, in_header as begins_header, no_byte, ReadsToFault, ReadsToFailure, ReadsFirst, CreatesAtFailure}
+use Rattle.dk_top.specs.Streaming.{first_bits, output_kind, IsBegun, OpenLines, between, opened, AreMost, to_fault, further_byte, in_header as begins_header, no_byte, ReadsToFault, ReadsToFailure, ReadsFirst, CreatesAtFailure}
 use Rattle.dk_top.proofs.StreamTaken.{headed_images, headed_taken, most_of, most_full, takes_images, all_images, takes_lines, all_lines}
 
 -- the laws of row_stream on the lines that were left
@@ -103,7 +103,7 @@ module _ (p : Typing) (m : Netlist) (from : Contents) where
               after = after;
               taken = all_images p.size bits e.count file e.taken.images e.taken.bytes (h.read ++ after) e.taken.are e.taken.fit e.taken.count_is (omega (arith, few)) (t.parts ∙ ap (λ z. e.taken.bytes ++ z) inner);
               most = most_of p.size bits file (e.count * p.size.height) (laws.fault_behind kind m bits from created now f file e few);
-              next = to_fault (let same = e.taken.count_is in omega (arith, same, few)) (h.none after left) h.before (λ u. at_end now.image.rest after (h.shown u) left);
+              next = to_fault (let same = e.taken.count_is in omega (arith, same, few)) (record { none = h.none after left; before = h.before; shown = λ u. at_end now.image.rest after (h.shown u) left });
               is_left = left;
             }
         by (too_many full is byte given) =
@@ -232,7 +232,7 @@ module _ (p : Typing) (m : Netlist) (from : Contents) where
             after = after;
             taken = all_images p.size bits 0 file [] [] (h.read ++ after) refl tt refl (omega arith) inner;
             most = subst (λ n. AreMost p.size bits file n) (let e : 0 ≡ 0 * p.size.height = omega arith in e) (most_none p.size bits file (λ header is. h.none after left header (subst (λ z. IsHeaded p.size bits z header) inner is)));
-            next = to_fault (omega arith) (h.none after left) h.before (λ u. at_end now.image.rest after (h.shown u) left);
+            next = to_fault (omega arith) (record { none = h.none after left; before = h.before; shown = λ u. at_end now.image.rest after (h.shown u) left });
             is_left = left;
           },
         )

@@ -1,5 +1,5 @@
 -- What `run` does of a program with one input and one output.
-use Rattle.std.proofs.Common.{◌≡◌, ◌≢◌, ℕ, ◌+◌, ◌-◌, ◌*◌, ◌^◌, ◌<◌, ◌≤◌, Bool, true, false, List, [], ◌∷◌, ◌++◌, length, take, Option, None, Some, IfSome, refl, sym, ap, ◌∙◌, subst, arith, cond}
+use Rattle.std.proofs.Common.{◌≡◌, ◌≢◌, ℕ, ◌<◌, ◌≤◌, Bool, true, false, List, [], ◌++◌, length, take, Option, None, Some, IfSome, refl, sym, ap, ◌∙◌, subst, arith, cond}
 use Rattle.std.specs.Str.{bytes_eq}
 use Rattle.std.specs.Bool.{Decides}
 use Rattle.std.proofs.lemmas.Slice.Eq.{bytes_eq-Decides}
@@ -35,7 +35,7 @@ use Rattle.dk_top.specs.Streaming.{IsOnePort, first_bits, IsBegun, output_kind, 
 use Rattle.dk_top.specs.Verdict.{Files, bytes_of, run_terms, OfPair, IsRunAnswer}
 use Rattle.dk_top.specs.Command.{run}
 use Rattle.dk_top.specs.State.{OthersStay, CreatesNothing, CreatesRun, IsStreamed, IsHeldRun, by_lines, NotedRun}
-use Rattle.dk_top.specs.Streams.{StreamEnds, OpensImages, streamed, RunsOn}
+use Rattle.dk_top.specs.Streams.{StreamEnds, OpensImages, RunsOn}
 use Rattle.dk_top.proofs.VerdictLemmas.{OneProgram}
 use Rattle.dk_top.proofs.CompileLemmas.{PlannedAccepted, compiled_accepted}
 use Rattle.dk_top.proofs.DriveShown.{PictureLaw, RasterLaw}

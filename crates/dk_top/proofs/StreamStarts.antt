@@ -1,5 +1,5 @@
 -- What a stream asks of a module: a compiled one of one input and one output can be streamed.
-use Rattle.std.proofs.Common.{◌≡◌, ℕ, ◌+◌, ◌-◌, ◌*◌, ◌^◌, ◌<◌, ◌≤◌, true, false, List, [], ◌∷◌, ◌++◌, length, map, All, Some, slice_get, slice_index, slice_index_or, if◌then◌else◌, Bool, refl, sym, ap, ◌∙◌, subst, arith}
+use Rattle.std.proofs.Common.{◌≡◌, ℕ, ◌-◌, ◌*◌, ◌^◌, ◌<◌, ◌≤◌, true, false, List, [], ◌∷◌, ◌++◌, length, map, All, Some, slice_get, slice_index, slice_index_or, if◌then◌else◌, Bool, refl, sym, ap, ◌∙◌, subst, arith}
 use Rattle.std.specs.List.{AllByRecursion}
 use Rattle.std.proofs.lemmas.List.{length-map}
 use Rattle.std.proofs.lemmas.List.Elements.{All-nil, All-cons}
@@ -30,7 +30,6 @@ use Rattle.dk_desk.specs.Outside.{Outside}
 use Rattle.dk_endings.specs.declared.ending.Ending.{Ending}
 use Rattle.dk_top.specs.Streams.{RunsStream}
 use Rattle.dk_compile.specs.declared.compiling.Compiled.{Compiled}
-use Rattle.dk_top.specs.Program.{ports}
 use Rattle.dk_top.specs.Compiling.{IsCompiledFrom}
 use Rattle.dk_top.specs.Streaming.{IsOnePort, first_bits, output_kind}
 use Rattle.dk_top.proofs.DrivePorts.{two_each, output_typed, power_up_fits}

@@ -89,9 +89,15 @@ pub record LinesTaken (size : Size) (bits : ℕ) (bytes : List ℕ) (rows : ℕ)
 abbrev pub AreMost : Size → (bits : ℕ) → (bytes : List ℕ) → (rows : ℕ) → Type 0
 AreMost size bits bytes rows = (more : ℕ) (samples front rest : List ℕ) → LinesTaken size bits bytes more samples front rest → more ≤ rows
 
--- What is read of a header that has a fault, after this many images: the bytes up to the one that shows it, or all that there are. After as many images as a file may have one byte shows the fault.
+-- What is read of a header that is none that fits: the bytes up to the one that shows it, or all that there are.
+pub record ReadsRefused (size : Size) (bits : ℕ) (last after : List ℕ) : Type 0 where
+  pub none : (header : Header) → ¬ (IsHeaded size bits (last ++ after) header)
+  pub before : IsUndecidedBefore last
+  pub shown : Undecided last → after ≡ []
+
+-- What is read of a header that has a fault, after this many images. After as many images as a file may have one byte shows the fault.
 pub data ReadsHeader (size : Size) (bits images : ℕ) (last after : List ℕ) : Type 0 where
-  to_fault : images < MAX_FILE_IMAGES → ((header : Header) → ¬ (IsHeaded size bits (last ++ after) header)) → IsUndecidedBefore last → (Undecided last → after ≡ []) → ReadsHeader size bits images last after
+  to_fault : images < MAX_FILE_IMAGES → ReadsRefused size bits last after → ReadsHeader size bits images last after
   further_byte : images ≡ MAX_FILE_IMAGES → length last ≡ 1 → ReadsHeader size bits images last after
 
 -- What is read of a row that has a fault, after this many rows of its image: its bytes, or all that there are.

@@ -1,5 +1,5 @@
 -- How the images of a program with one input and one output are streamed, for the private functions.
-use Rattle.std.specs.Prelude.{◌≡◌, ◌≢◌, ℕ, List, Option, Some, IfSome}
+use Rattle.std.specs.Prelude.{◌≡◌, ◌≢◌, ℕ, List, Some, IfSome}
 use Rattle.dk_desk.specs.declared.InSlot.TheVariants.{Image as ImageSlot}
 use Rattle.dk_desk.specs.declared.Stage.TheVariants.{Unasked, Refused, Open}
 use Rattle.dk_desk.specs.Outside.{Outside}
@@ -12,8 +12,6 @@ use Rattle.row_stream.specs.Whole.{LeavesAll, Leaves}
 use Rattle.dk_endings.specs.declared.ending.Ending.{Ending}
 use Rattle.dk_endings.specs.declared.ending.Ending.TheVariants as ending
 use Rattle.dk_endings.specs.declared.ending.ImageFault.TheVariants as image
-use Rattle.dk_compile.specs.declared.compiling.Compiled.{Compiled}
-use Rattle.dk_top.specs.Compiling.{IsCompiledFrom}
 use Rattle.dk_top.specs.Verdict.{bytes_of, IsRunAnswer}
 use Rattle.dk_top.specs.Streaming.{ReadsRun}
 use Rattle.dk_top.specs.Command.{run}

@@ -1,13 +1,13 @@
 //! What the definitions on plans, reports and what is read say together.
 
-ghost use Rattle.std.specs.Prelude.{◌≡◌, ℕ, ◌<◌, List, Option};
+ghost use Rattle.std.specs.Prelude.{◌≡◌, ℕ, ◌<◌, ◌≤◌, List, length, Option, Some};
 ghost use Rattle.dk_base.specs.Stencils.{Stencils};
 ghost use Rattle.dk_compile.specs.declared.fault.SourceFault.{SourceFault};
 ghost use Rattle.dk_plan.specs.declared.judging.Claim.{Claim as TheClaim};
 ghost use Rattle.dk_compile.specs.Limits.{IsFaultAt};
 ghost use Rattle.dk_top.specs.Program.{CanBeCompiled};
 ghost use Rattle.dk_top.specs.Plans.{HasStencils, IsConfirmed, IsWrongLine};
-ghost use Rattle.dk_top.specs.Streaming.{ReadsToFault};
+ghost use Rattle.dk_top.specs.Streaming.{ReadsToFault, ReadsToFailure};
 ghost use Rattle.dk_types.specs.Typed.{Typing};
 
 /// Laws: an accepted text has one list of names and one of live reads. One that is accepted at an age has no fault at it, and one that is not has one fault. A report that holds has no wrong line and says one thing, and another has one first wrong line.
@@ -25,9 +25,10 @@ pub fn one_plan()
     dk_plan::one_plan();
 }
 
-/// A law: the file decides what a streamed `run` leaves of it at its first fault.
+/// Laws: the file decides what a streamed `run` leaves of it at its first fault, and a read that fails leaves no less. So no fault is hidden by a read that fails after it.
 pub fn one_rest()
-    ensures { (p : Typing) (file : List ℕ) (left other : Option (List ℕ)) (xs ys : List ℕ) → 0 < p.size.height → ReadsToFault p file left xs → ReadsToFault p file other ys → left ≡ other }
+    ensures fault { (p : Typing) (file : List ℕ) (left other : Option (List ℕ)) (xs ys : List ℕ) → 0 < p.size.height → ReadsToFault p file left xs → ReadsToFault p file other ys → left ≡ other }
+    ensures failure { (p : Typing) (file after rest xs ys : List ℕ) → 0 < p.size.height → ReadsToFault p file (Some after) xs → ReadsToFailure p file (Some rest) ys → length after ≤ length rest }
 {
     pgm_codec::one_reading();
 }

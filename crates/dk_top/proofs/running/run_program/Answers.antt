@@ -1,4 +1,3 @@
-use Rattle.std.proofs.Common.{◌≡◌}
 use Rattle.dk_top.proofs.RunLemmas.{ok_apart, same_count, performs_on}
 use Rattle.dk_top.proofs.running.run_program.Goals as goal
 

@@ -1,4 +1,4 @@
-use Rattle.std.proofs.Common.{◌≡◌, ap, ◌∙◌}
+use Rattle.std.proofs.Common.{ap, ◌∙◌}
 use Rattle.dk_base.specs.FrameSizes.{size_of}
 use Rattle.row_stream.specs.Forms.{kind_of}
 use Rattle.dk_top.proofs.StreamStarts.{inputs_two, outputs_two, dout_small, kind_is, one_as, fit_as, starts_as, runs_as}

@@ -1,4 +1,3 @@
-use Rattle.std.proofs.Common.{◌≡◌}
 use Rattle.dk_top.proofs.RunLemmas.{lines_on}
 use Rattle.dk_top.proofs.streaming.run_streamed.Goals as goal
 

@@ -1,4 +1,4 @@
-use Rattle.std.proofs.Common.{◌≡◌, subst}
+use Rattle.std.proofs.Common.{subst}
 use Rattle.row_stream.specs.Forms.{kind_of}
 use Rattle.row_stream.specs.Whole.{Leaves}
 use Rattle.dk_top.specs.Streams.{OpensImages, streamed}

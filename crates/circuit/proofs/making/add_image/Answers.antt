@@ -5,7 +5,7 @@ use Rattle.wiring.specs.declared.netlist.Net.{Net}
 use Rattle.circuit.specs.Taps.{IsReading}
 use Rattle.circuit.specs.Images.{AreBuilt, IsImageNet}
 use Rattle.circuit.proofs.Adding.{image_at, next_reading, next_kept, next_arrays, next_built}
-use Rattle.circuit.proofs.build.add_image.Goals as goal
+use Rattle.circuit.proofs.making.add_image.Goals as goal
 
 abbrev none : Image
 none = record { number = 0; width = 0 }

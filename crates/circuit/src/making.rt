@@ -1,6 +1,6 @@
 // The module of a program.
 
-ghost use Rattle.std.specs.Prelude.{◌≡◌, ℕ, ◌<◌, suc, IfOk, length, OnOk};
+ghost use Rattle.std.specs.Prelude.{◌≡◌, ℕ, ◌<◌, suc, false, IfOk, length, OnOk};
 ghost use Rattle.wiring.specs.BufferBits.{IsBufferBits};
 ghost use Rattle.net_build.specs.Indices.{read_indices, put_indices};
 ghost use Rattle.net_build.specs.Naming.{names_for};
@@ -105,5 +105,30 @@ pub fn build_with<F: BufferForm>(
     let mut taps = Vec::new(alloc);
     add_images(alloc, &mut b, ir, plan, form, &mut nets, &mut taps)?;
     let built = finished(alloc, b, ir, plan, form, nets, &taps)?;
+    Ok(built)
+}
+
+/// The module of a program at age 0, without the port `en`: `build_with` without options.
+pub fn build<F: BufferForm>(
+    alloc: Global,
+    ir: &Ir,
+    plan: &Plan,
+    form: &F,
+) -> Result<Built, OutOfMemory>
+    requires plan { IsPlanOf ir.now plan.now (record { enable = false; age = 0 }) }
+    ensures ports { IfOk result (λ r. HasPorts r.module.netlist ir.now false) }
+    ensures whole { IfOk result (λ r. IsWhole r.module.netlist r.module.netlist) }
+    ensures runs { IfOk result (λ r. RunsOn r.module.netlist) }
+    ensures behaves { IfOk result (λ r. Behaves r.module.netlist ir.now plan.now (F.places form.now) r.nets.items) }
+    ensures bits { IfOk result (λ r. IsBufferBits r.module.netlist (bits_of plan.now)) }
+    ensures arrays { IfOk result (λ r. r.module.netlist.arrays ≡ shapes_of (F.shapes form.now) plan.now plan.now.system.stencils.images) }
+    ensures property { IfOk result (λ r. (x : ℕ) → x < length r.module.netlist.arrays → F.property form.now (read_indices r.module.netlist x) (put_indices r.module.netlist x)) }
+    ensures nets { IfOk result (λ r. AreNetsOf r.module.netlist ir.now plan.now (F.shapes form.now) r.nets.items) }
+{
+    let options = Options {
+        enable: false,
+        age: 0,
+    };
+    let built = build_with(alloc, ir, plan, form, options)?;
     Ok(built)
 }

@@ -1,6 +1,6 @@
 use Rattle.std.proofs.Common.{◌≡◌}
 use Rattle.circuit.specs.Images.{AreBuilt}
-use Rattle.circuit.proofs.build.add_images.Given as goal
+use Rattle.circuit.proofs.making.add_images.Given as goal
 
 abbrev pub invariant-loop-k : goal.invariant-loop-k
 invariant-loop-k g l = record {

@@ -1,0 +1,127 @@
+// Which word of which array holds a pixel.
+
+ghost use Rattle.std.specs.Prelude.{◌≡◌, ◌+◌, ◌-◌, ◌%◌, ◌<◌, ◌≤◌, ◌^◌, length};
+ghost use Rattle.dk_base.specs.declared.TheConstants.{MAX_BUFFER_BITS};
+ghost use Rattle.line_buffer.specs.Places.{Ascend, later, segment_place};
+ghost use Rattle.circuit.specs.Taps.{Keeps};
+ghost use Rattle.buffer_plan.specs.Plans.{depth_of};
+ghost use Rattle.circuit.specs.Forms.{first_array, chain_shapes_of, chain_places, ring_shapes_of, ring_places};
+
+use buffer_plan::Plan;
+
+/// A word of an array of the module, both by their numbers.
+#[derive(Clone, Copy, Debug, PartialEq, Eq)]
+pub struct Slot {
+    pub array: usize,
+    pub word: u64,
+}
+
+// The ages above 0, of ages that ascend.
+fn later_ages(ages: &[u64]) -> &[u64]
+    ensures { result.now ≡ later ages.now }
+{
+    match ages.split_first() {
+        None => ages,
+        Some((first, rest)) => {
+            if *first == 0 {
+                return rest;
+            }
+            ages
+        }
+    }
+}
+
+// How many arrays a chain of a kept image has.
+fn chain_arrays(plan: &Plan, image: u32) -> usize
+    requires { Keeps plan.now image }
+    ensures { result ≡ length (chain_shapes_of plan.now image) }
+{
+    later_ages(plan.ages(image)).len()
+}
+
+// How many arrays a ring of a kept image has.
+fn ring_arrays(plan: &Plan, image: u32) -> usize
+    requires { Keeps plan.now image }
+    ensures { result ≡ length (ring_shapes_of plan.now image) }
+{
+    if plan.depth(image) == 0 {
+        return 0;
+    }
+    1
+}
+
+// The number of the first array of an image's chain: as many arrays as the kept images before it have.
+fn first_of_chain(plan: &Plan, image: u32) -> usize
+    requires { Keeps plan.now image }
+    ensures first { result ≡ first_array chain_shapes_of plan.now image }
+    ensures few { result ≤ MAX_BUFFER_BITS }
+{
+    plan.law();
+    let mut first = 0;
+    for k in 0..plan.place(image) {
+        first += chain_arrays(plan, plan.images()[k].number);
+    }
+    first
+}
+
+// The same of its ring.
+fn first_of_ring(plan: &Plan, image: u32) -> usize
+    requires { Keeps plan.now image }
+    ensures first { result ≡ first_array ring_shapes_of plan.now image }
+    ensures few { result ≤ MAX_BUFFER_BITS }
+{
+    plan.law();
+    let mut first = 0;
+    for k in 0..plan.place(image) {
+        first += ring_arrays(plan, plan.images()[k].number);
+    }
+    first
+}
+
+// The word of an age in segments to these ages, from the array `first` and from above the age `low` on.
+fn segment_slot(first: usize, low: u64, ages: &[u64], age: u64, clock: u64) -> Slot
+    requires ascend { Ascend low ages.now }
+    requires room { first + length ages.now < 2 ^ 64 }
+    ensures array { result.array ≡ (segment_place first low ages.now age clock).array }
+    ensures word { result.word ≡ (segment_place first low ages.now age clock).word }
+{
+    match ages.split_first() {
+        None => Slot {
+            array: first,
+            word: 0,
+        },
+        Some((high, rest)) => {
+            if age <= *high {
+                let behind = clock.saturating_sub(age.saturating_sub(low));
+                return Slot {
+                    array: first,
+                    word: behind % (*high - low),
+                };
+            }
+            segment_slot(first + 1, *high, rest, age, clock)
+        }
+    }
+}
+
+// The word of an age of an image in its chain.
+pub fn chain_slot(plan: &Plan, image: u32, age: u64, clock: u64) -> Slot
+    requires { Keeps plan.now image }
+    ensures array { result.array ≡ (chain_places plan.now image age clock).array }
+    ensures word { result.word ≡ (chain_places plan.now image age clock).word }
+{
+    plan.law();
+    let first = first_of_chain(plan, image);
+    segment_slot(first, 0, later_ages(plan.ages(image)), age, clock)
+}
+
+// The word of an age of an image in its ring.
+pub fn ring_slot(plan: &Plan, image: u32, age: u64, clock: u64) -> Slot
+    requires kept { Keeps plan.now image }
+    requires some { 0 < depth_of plan.now image }
+    ensures array { result.array ≡ (ring_places plan.now image age clock).array }
+    ensures word { result.word ≡ (ring_places plan.now image age clock).word }
+{
+    let array = first_of_ring(plan, image);
+    let word = clock.saturating_sub(age) % plan.depth(image);
+    Slot { array, word }
+}
