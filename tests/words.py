@@ -58,6 +58,20 @@ crates/datapath/README.md
 crates/datapath_values/README.md
 docs/GALLERY.md
 docs/PROVING.md
+crates/dk/README.md
+crates/dk_base/README.md
+crates/dk_compile/README.md
+crates/dk_desk/README.md
+crates/dk_endings/README.md
+crates/dk_frames/README.md
+crates/dk_grammar/README.md
+crates/dk_inline/README.md
+crates/dk_lexer/README.md
+crates/dk_parser/README.md
+crates/dk_plan/README.md
+crates/dk_top/README.md
+crates/dk_types/README.md
+crates/dk_words/README.md
 """.split()
 
 
