@@ -72,6 +72,12 @@ crates/dk_plan/README.md
 crates/dk_top/README.md
 crates/dk_types/README.md
 crates/dk_words/README.md
+crates/edge_select/README.md
+crates/flow_dual/README.md
+crates/frame_paths/README.md
+crates/front_tests/README.md
+crates/latency_report/README.md
+crates/made_program/README.md
 """.split()
 
 
