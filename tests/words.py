@@ -78,6 +78,8 @@ crates/frame_paths/README.md
 crates/front_tests/README.md
 crates/latency_report/README.md
 crates/made_program/README.md
+crates/circuit/README.md
+crates/line_buffer/README.md
 """.split()
 
 
