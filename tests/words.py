@@ -80,6 +80,14 @@ crates/latency_report/README.md
 crates/made_program/README.md
 crates/circuit/README.md
 crates/line_buffer/README.md
+crates/net_build/README.md
+crates/net_build_ring/README.md
+crates/net_names/README.md
+crates/net_tests/README.md
+crates/netlist/README.md
+crates/pgm_codec/README.md
+crates/pgm_rounds/README.md
+crates/picture_tests/README.md
 """.split()
 
 
