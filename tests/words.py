@@ -88,6 +88,13 @@ crates/netlist/README.md
 crates/pgm_codec/README.md
 crates/pgm_rounds/README.md
 crates/picture_tests/README.md
+crates/plan_check/README.md
+crates/plan_tests/README.md
+crates/pointwise_eval/README.md
+crates/pointwise_ir/README.md
+crates/program_images/README.md
+crates/raster_delay/README.md
+crates/report_text/README.md
 """.split()
 
 
