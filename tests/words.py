@@ -95,6 +95,15 @@ crates/pointwise_ir/README.md
 crates/program_images/README.md
 crates/raster_delay/README.md
 crates/report_text/README.md
+crates/row_stream/README.md
+crates/source_names/README.md
+crates/stencil_sets/README.md
+crates/test_bench/README.md
+crates/top_tests/README.md
+crates/trace_bench/README.md
+crates/trace_tests/README.md
+crates/value_rows/README.md
+crates/vcd_trace/README.md
 """.split()
 
 
