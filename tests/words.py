@@ -104,6 +104,14 @@ crates/trace_bench/README.md
 crates/trace_tests/README.md
 crates/value_rows/README.md
 crates/vcd_trace/README.md
+crates/verilog_layout/README.md
+crates/verilog_lexer/README.md
+crates/verilog_parse/README.md
+crates/verilog_print/README.md
+crates/verilog_read/README.md
+crates/verilog_tests/README.md
+crates/verilog_text/README.md
+crates/wiring/README.md
 """.split()
 
 
