@@ -8,7 +8,7 @@ ghost use Rattle.test_bench.specs.Given.{AreBenchFrames};
 ghost use Rattle.trace_bench.specs.Tracers.{IsTracer};
 ghost use Rattle.dk_top.specs.Command.{trace as trace_command};
 ghost use Rattle.dk_top.specs.Tracing.{IsTraceAnswer, IsHeldTrace};
-ghost use Rattle.dk_top.specs.State.{CreatesNothing, OthersStay};
+ghost use Rattle.dk_top.specs.State.{CreatesNothing, CreatesTrace, OthersStay};
 ghost use Rattle.dk_top.specs.Simulating.{IsSimInput};
 
 use crate::simulating::{SimInput, drive_for, read_all};
@@ -38,6 +38,7 @@ fn write_trace<D: Desk>(
     ensures taken { result ≢ Ending.Usage }
     ensures judged { result ≢ Ending.ReadFault }
     ensures created { (verilog image vcd : List ℕ) (clocks : ℕ) → CreatesNothing (Some (trace_command verilog clocks image vcd)) result → (D.outside desk.new).file.stage ≡ Stage.Unasked }
+    ensures begun { CreatesTrace result (D.outside desk.new).file.stage }
     ensures written { result ≡ Ending.Done → (D.outside desk.new).file.stage ≡ Stage.Open }
     ensures name { IsIfTold (D.outside desk.new).file.name (Some name.now) }
     ensures files { OthersStay name.now (D.outside desk.old).files (D.outside desk.new).files }
@@ -82,6 +83,7 @@ fn traced<D: Desk>(
     ensures taken { result ≢ Ending.Usage }
     ensures judged { result ≢ Ending.ReadFault }
     ensures created { (verilog image vcd : List ℕ) (clocks : ℕ) → CreatesNothing (Some (trace_command verilog clocks image vcd)) result → (D.outside desk.new).file.stage ≡ Stage.Unasked }
+    ensures begun { CreatesTrace result (D.outside desk.new).file.stage }
     ensures written { result ≡ Ending.Done → (D.outside desk.new).file.stage ≡ Stage.Open }
     ensures name { (D.outside desk.new).file.stage ≢ Stage.Unasked → IsIfTold (D.outside desk.new).file.name (Some name.now) }
     ensures files { OthersStay name.now (D.outside desk.old).files (D.outside desk.new).files }
