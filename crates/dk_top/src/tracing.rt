@@ -10,6 +10,7 @@ ghost use Rattle.dk_top.specs.Command.{trace as trace_command};
 ghost use Rattle.dk_top.specs.Tracing.{IsTraceAnswer, IsHeldTrace};
 ghost use Rattle.dk_top.specs.State.{CreatesNothing, CreatesTrace, OthersStay};
 ghost use Rattle.dk_top.specs.Simulating.{IsSimInput};
+ghost use Rattle.dk_top.specs.Reading.{TellsNoText, TellsNoImages};
 
 use crate::simulating::{SimInput, drive_for, read_all};
 use crate::work::Work;
@@ -37,6 +38,8 @@ fn write_trace<D: Desk>(
     ensures output { (D.outside desk.new).file.stage ≡ Stage.Open → IfSome (D.outside desk.new).file.bytes (λ bytes. (text images : List ℕ) → IsSimInput drive.hold text images given.now.«module» (size_of given.now.input.size) given.now.input.rounds.items → IsHeldTrace result drive text images bytes) }
     ensures taken { result ≢ Ending.Usage }
     ensures judged { result ≢ Ending.ReadFault }
+    ensures no_text { TellsNoText result }
+    ensures no_images { TellsNoImages result }
     ensures created { (verilog image vcd : List ℕ) (clocks : ℕ) → CreatesNothing (Some (trace_command verilog clocks image vcd)) result → (D.outside desk.new).file.stage ≡ Stage.Unasked }
     ensures begun { CreatesTrace result (D.outside desk.new).file.stage }
     ensures written { result ≡ Ending.Done → (D.outside desk.new).file.stage ≡ Stage.Open }
@@ -82,6 +85,8 @@ fn traced<D: Desk>(
     ensures output { (D.outside desk.new).file.stage ≡ Stage.Open → IfSome (D.outside desk.new).file.bytes (λ bytes. (text images : List ℕ) → IsSimInput drive.hold text images given.now.«module» (size_of given.now.input.size) given.now.input.rounds.items → IsHeldTrace result drive text images bytes) }
     ensures taken { result ≢ Ending.Usage }
     ensures judged { result ≢ Ending.ReadFault }
+    ensures no_text { TellsNoText result }
+    ensures no_images { TellsNoImages result }
     ensures created { (verilog image vcd : List ℕ) (clocks : ℕ) → CreatesNothing (Some (trace_command verilog clocks image vcd)) result → (D.outside desk.new).file.stage ≡ Stage.Unasked }
     ensures begun { CreatesTrace result (D.outside desk.new).file.stage }
     ensures written { result ≡ Ending.Done → (D.outside desk.new).file.stage ≡ Stage.Open }

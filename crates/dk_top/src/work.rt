@@ -5,7 +5,7 @@ ghost use Rattle.dk_desk.specs.Outside.{Outside};
 ghost use Rattle.dk_desk.specs.Calls.{HasCauseIn};
 ghost use Rattle.dk_top.specs.Command.{Command, IsInRange};
 ghost use Rattle.dk_top.specs.Verdict.{OnFiles, IsVerdict};
-ghost use Rattle.dk_top.specs.State.{IsFresh, AsksOnly, AsksInOrder, CreatesNothing, CreatesBy, CreatesOut, FilesStay, IsHeld, IsNoted, IsReported, WritesNothing, NotesNothing};
+ghost use Rattle.dk_top.specs.State.{IsFresh, AsksOnly, AsksInOrder, CreatesNothing, CreatesBy, CreatesOut, FilesStay, IsHeld, IsNoted, IsReported, WritesNothing, NotesNothing, TakesNoMore};
 
 use dk_desk::{Desk, Stage};
 use dk_endings::Ending;
@@ -24,6 +24,7 @@ pub trait Work {
         ensures verdict { OnFiles (command self.now) (D.outside desk.old).files (λ files. IsVerdict (command self.now) files result) }
         ensures asked { AsksOnly (Some (command self.now)) (D.outside desk.new) }
         ensures order { IfSome (D.outside desk.old).files (λ files. AsksInOrder (command self.now) files (D.outside desk.new)) }
+        ensures too_long { IfSome (D.outside desk.old).files (λ files. TakesNoMore (command self.now) result files (D.outside desk.new).program (D.outside desk.new).image) }
         ensures created { CreatesNothing (Some (command self.now)) result → (D.outside desk.new).file.stage ≡ Stage.Unasked }
         ensures begun { IfSome (D.outside desk.old).files (λ files. CreatesBy (command self.now) result files (D.outside desk.new).file.stage) }
         ensures written { result ≡ Ending.Done → CreatesOut (Some (command self.now)) (D.outside desk.new) }
