@@ -6,6 +6,7 @@ use Rattle.dk_desk.specs.Calls.{IsIfTold}
 use Rattle.dk_types.specs.Typed.{Typing}
 use Rattle.netlist.specs.Names.{NamedNetlist}
 use Rattle.buffer_plan.specs.Plans.{latency}
+use Rattle.cycle_sim.specs.declared.fill.Fill.TheVariants.{Zeros}
 use Rattle.cycle_sim.specs.Ports.{din_widths}
 use Rattle.pgm_codec.specs.Images.{Image}
 use Rattle.pgm_rounds.specs.declared.round.Round.{Round}
@@ -58,12 +59,12 @@ module _ (source : List ℕ) (age : ℕ) (c : Compiled) (from : IsCompiledFrom s
     module _ (picture_law : PictureLaw) (raster_law : RasterLaw) (d : Drive) (is : d ≡ frame_drive size (latency c.plan) (length rounds)) where
       never : (stop : Stop) → IsStop m.netlist d size (rounds_of rounds) stop → ⊥
       never stop h =
-          never_stops source age false q c.ir c.system c.solution c.plan c.«module» c.nets.items c.text.items from.is file images fits picture_law raster_law clocks refl stop
+          never_stops source age false q c.ir c.system c.solution c.plan c.«module» c.nets.items c.text.items from.is file images fits Zeros picture_law raster_law clocks refl stop
           (moved (λ n e s x. IsStop n.netlist e s x stop) m c.«module» d (drive_of clocks) size q.size (rounds_of rounds) (samples_of images) again (same_drive d is) same_size same_rounds h)
 
       shown : (output : List ℕ) → IsShown m.netlist d size (rounds_of rounds) output → output ≡ output_file q images
       shown output h =
-          drive_file source age false q c.ir c.system c.solution c.plan c.«module» c.nets.items c.text.items from.is file images fits picture_law raster_law clocks refl output
+          drive_file source age false q c.ir c.system c.solution c.plan c.«module» c.nets.items c.text.items from.is file images fits Zeros picture_law raster_law clocks refl output
           (moved (λ n e s x. IsShown n.netlist e s x output) m c.«module» d (drive_of clocks) size q.size (rounds_of rounds) (samples_of images) again (same_drive d is) same_size same_rounds h)
 
       noted : (old new : Option (List (Bool × ℕ))) (notes : List (Bool × ℕ)) → AreNotes m.netlist d (rounds_of rounds) notes → IsIfTold new (option_map (λ before. before ++ notes) old) → NotesRun source age q images old new

@@ -26,6 +26,7 @@ use Rattle.raster_delay.specs.Systems.{System}
 use Rattle.flow_dual.specs.declared.solution.Solution.{Solution}
 use Rattle.buffer_plan.specs.Plans.{Plan, latency, latency_of}
 use Rattle.circuit.specs.Driven.{Agree, driven, fed_clock, input_widths, output_at}
+use Rattle.cycle_sim.specs.declared.fill.Fill.{Fill}
 use Rattle.cycle_sim.specs.declared.fill.Fill.TheVariants.{Zeros}
 use Rattle.cycle_sim.specs.Filled.{filled_contents}
 use Rattle.cycle_sim.specs.Ports.{din_widths}
@@ -52,13 +53,17 @@ use Rattle.dk_top.proofs.RoundLemmas.{pieces_of_map}
 use Rattle.dk_top.proofs.TextLemmas.{output_stays, has_input}
 use Rattle.dk_top.proofs.DriveRounds.{IsSampled, AreSampled, HasPortTypes, pictured, is_round, are_rounds, dins_fit, agrees, extended, extended_sampled, extended_stream, all_at}
 use Rattle.dk_top.proofs.DriveShown.{PictureLaw, RasterLaw, rastered, picture_shown, pieces_at, places_at, pieces_length, piece_within}
-use Rattle.dk_top.proofs.DrivePorts.{widths_are, count_is, dout_width, has_port_types, widths_same, power_up_fits, latency_bounds, latency_of_one}
+use Rattle.dk_top.proofs.DrivePorts.{widths_are, count_is, dout_width, has_port_types, widths_same, filled_fits, latency_bounds, latency_of_one}
 use Rattle.dk_top.proofs.DriveFrames.{file_sampled, frames_fit, samples_read}
 use Rattle.std.specs.List.{AllZip}
 
--- a drive of so many clocks from zeros, without held clocks
+-- a drive of so many clocks from these contents, without held clocks
+abbrev pub drive_from : Fill → ℕ → Drive
+drive_from fill clocks = record { clocks = clocks; fill = fill; hold = None }
+
+-- and from zeros
 abbrev pub drive_of : ℕ → Drive
-drive_of clocks = record { clocks = clocks; fill = Zeros; hold = None }
+drive_of clocks = drive_from Zeros clocks
 
 -- the numbers at the dins in these clocks
 abbrev pub dins_of : (inputs : ℕ) → List (List (List ℕ)) → ℕ → List (List ℕ)
@@ -163,7 +168,7 @@ module _ (source : List ℕ) (age : ℕ) (enable : Bool) (p : Typing) (ir : Prog
         (subst (λ ws. AreSampled p.size ws samples) (widths_same p ir form) (file_sampled (ports p) file rounds fits))
 
     -- what the module shows over all clocks
-    module _ (picture_law : PictureLaw) (raster_law : RasterLaw) (clocks : ℕ) (are : clocks ≡ length rounds * area p.size + latency plan) where
+    module _ (fill : Fill) (picture_law : PictureLaw) (raster_law : RasterLaw) (clocks : ℕ) (are : clocks ≡ length rounds * area p.size + latency plan) where
       abbrev dins : List (List ℕ)
       dins = dins_of (length ir.inputs) samples clocks
 
@@ -202,21 +207,21 @@ module _ (source : List ℕ) (age : ℕ) (enable : Bool) (p : Typing) (ir : Prog
       enough_clocks = let behind = many_times (latency plan) (area p.size) some_area in omega (arith, are, room, behind)
 
       -- the pictures of the outputs
-      pictures_are : (shots : List Snapshot) → IsRun m.netlist (drive_of clocks) samples shots → (k : ℕ) → k < length p.outputs → picture k shots ≡ take (clocks - latency_of plan k) (flat_map (rastered ir (output_at ir k)) padded)
+      pictures_are : (shots : List Snapshot) → IsRun m.netlist (drive_from fill clocks) samples shots → (k : ℕ) → k < length p.outputs → picture k shots ≡ take (clocks - latency_of plan k) (flat_map (rastered ir (output_at ir k)) padded)
       pictures_are shots run k lt =
-          let from = filled_contents Zeros m.netlist in
+          let from = filled_contents fill m.netlist in
           let runs : Runs m.netlist from (driven (length ir.inputs) dins) shots run.to = subst (λ cs. Runs m.netlist from cs shots run.to) (stimulus_is (din_widths m.netlist) samples (length ir.inputs) clocks dins_long) run.runs in
-          let fill : length dins ≤ length padded * area ir.size + latency_of plan k = subst (λ n. length dins ≤ length padded * n + latency_of plan k) (sym same_area) (let e = enough_clocks in omega (arith, e, dins_count)) in
-          picture_shown picture_law raster_law m.netlist ir plan c.circuit.drives from run.to dins shots (power_up_fits m.netlist) all_dins_fit runs padded (are_rounds ir types padded padded_sampled) agree k (in_form k lt) fill
+          let enough : length dins ≤ length padded * area ir.size + latency_of plan k = subst (λ n. length dins ≤ length padded * n + latency_of plan k) (sym same_area) (let e = enough_clocks in omega (arith, e, dins_count)) in
+          picture_shown picture_law raster_law m.netlist ir plan c.circuit.drives from run.to dins shots (filled_fits fill m.netlist) all_dins_fit runs padded (are_rounds ir types padded padded_sampled) agree k (in_form k lt) enough
           ∙ ap (λ n. take (n - latency_of plan k) (flat_map (rastered ir (output_at ir k)) padded)) dins_count
 
-      pub shown_count : (shots : List Snapshot) → IsRun m.netlist (drive_of clocks) samples shots → (k : ℕ) → k < length p.outputs → length (picture k shots) ≡ clocks - latency_of plan k
+      pub shown_count : (shots : List Snapshot) → IsRun m.netlist (drive_from fill clocks) samples shots → (k : ℕ) → k < length p.outputs → length (picture k shots) ≡ clocks - latency_of plan k
       shown_count shots run k lt =
           let g = output_at ir k in
           let long = pieces_length (rastered ir g) (area p.size) (as_long g) padded in
           ap length (pictures_are shots run k lt) ∙ length-take-le (clocks - latency_of plan k) (flat_map (rastered ir g) padded) (let e = enough_clocks in omega (arith, e, long))
 
-      shows_enough : (shots : List Snapshot) → IsRun m.netlist (drive_of clocks) samples shots → (k : ℕ) → k < output_count m.netlist → HasShown m.netlist p.size samples shots k
+      pub shows_enough : (shots : List Snapshot) → IsRun m.netlist (drive_from fill clocks) samples shots → (k : ℕ) → k < output_count m.netlist → HasShown m.netlist p.size samples shots k
       shows_enough shots run k within =
           let lt : k < length p.outputs = subst (λ n. k < n) outputs_are within in
           let count = shown_count shots run k lt in
@@ -231,15 +236,18 @@ module _ (source : List ℕ) (age : ℕ) (enable : Bool) (p : Typing) (ir : Prog
                 omega (arith, count, late, all, are);
           }
 
-      pub never_stops : (stop : Stop) → IsStop m.netlist (drive_of clocks) p.size (samples_of rounds) stop → ⊥
-      never_stops (Index clock array index) is =
-          let from = filled_contents Zeros m.netlist in
-          c.circuit.drives.never from dins is.shots array index (power_up_fits m.netlist) all_dins_fit
-          (subst (λ cs. RunStops m.netlist from cs is.shots array index) (stimulus_is (din_widths m.netlist) samples (length ir.inputs) clocks dins_long) is.stops)
+      pub no_stop : (shots : List Snapshot) (array index : ℕ) → RunStops m.netlist (filled_contents fill m.netlist) (stimulus (drive_from fill clocks) (din_widths m.netlist) samples) shots array index → ⊥
+      no_stop shots array index stops =
+          let from = filled_contents fill m.netlist in
+          c.circuit.drives.never from dins shots array index (filled_fits fill m.netlist) all_dins_fit
+          (subst (λ cs. RunStops m.netlist from cs shots array index) (stimulus_is (din_widths m.netlist) samples (length ir.inputs) clocks dins_long) stops)
+
+      pub never_stops : (stop : Stop) → IsStop m.netlist (drive_from fill clocks) p.size (samples_of rounds) stop → ⊥
+      never_stops (Index clock array index) is = no_stop is.shots array index is.stops
       never_stops (Count shown wanted) is = is.wrong (shows_enough is.shots is.run is.output is.there)
 
       -- the samples of an output in a round
-      samples_are : (shots : List Snapshot) → IsRun m.netlist (drive_of clocks) samples shots → (r k g : ℕ) (round : List Image) → slice_get rounds r ≡ Some round → slice_get p.outputs k ≡ Some g
+      samples_are : (shots : List Snapshot) → IsRun m.netlist (drive_from fill clocks) samples shots → (r k g : ℕ) (round : List Image) → slice_get rounds r ≡ Some round → slice_get p.outputs k ≡ Some g
           → take (area p.size) (drop (r * area p.size) (picture k shots)) ≡ raster p.size (picture_at (meaning_on p (map (λ (i : Image). i.samples) round)) g)
       samples_are shots run r k g round there at =
           let lt = slice_get_within p.outputs k g at in
@@ -254,13 +262,13 @@ module _ (source : List ℕ) (age : ℕ) (enable : Bool) (p : Typing) (ir : Prog
           ∙ ap (λ h. rastered ir h given) is
           ∙ meant given (is_round ir types given (all_at (AllZip (IsSampled ir.size) (input_widths ir)) samples sampled r given here)) k g at
 
-      image_is : (shots : List Snapshot) → IsRun m.netlist (drive_of clocks) samples shots → (r k g : ℕ) (round : List Image) → slice_get rounds r ≡ Some round → slice_get p.outputs k ≡ Some g
+      image_is : (shots : List Snapshot) → IsRun m.netlist (drive_from fill clocks) samples shots → (r k g : ℕ) (round : List Image) → slice_get rounds r ≡ Some round → slice_get p.outputs k ≡ Some g
           → image_shown m.netlist p.size shots r k ≡ image_of p.size (bits_of (types_of p) g) (picture_at (meaning_on p (map (λ (i : Image). i.samples) round)) g)
       image_is shots run r k g round there at =
           let whole : ℕ → List ℕ → Image = λ bits xs. record { width = p.size.width; height = p.size.height; maxval = 2 ^ bits - 1; samples = xs } in
           ap (λ bits. whole bits (take (area p.size) (drop (r * area p.size) (picture k shots)))) (dout_width_is k g at) ∙ ap (whole (bits_of (types_of p) g)) (samples_are shots run r k g round there at)
 
-      pub images_same : (shots : List Snapshot) → IsRun m.netlist (drive_of clocks) samples shots → images_shown m.netlist p.size (length samples) shots ≡ joined (map (outputs_of p) rounds)
+      pub images_same : (shots : List Snapshot) → IsRun m.netlist (drive_from fill clocks) samples shots → images_shown m.netlist p.size (length samples) shots ≡ joined (map (outputs_of p) rounds)
       images_same shots run =
           ap (λ n. images_shown m.netlist p.size n shots) as_many
           ∙ pieces_at (λ r. map (image_shown m.netlist p.size shots r) (range_with_len 0 (output_count m.netlist))) (outputs_of p) 0 rounds (λ r round there.
@@ -270,5 +278,5 @@ module _ (source : List ℕ) (age : ℕ) (enable : Bool) (p : Typing) (ir : Prog
           ap (image_shown m.netlist p.size shots r) (zero-add k) ∙ image_is shots run r k g round there at))
           ∙ sym (pieces_of_map (λ (r : List Image). r) (outputs_of p) rounds)
 
-      pub drive_file : (bytes : List ℕ) → IsShown m.netlist (drive_of clocks) p.size (samples_of rounds) bytes → bytes ≡ output_file p rounds
+      pub drive_file : (bytes : List ℕ) → IsShown m.netlist (drive_from fill clocks) p.size (samples_of rounds) bytes → bytes ≡ output_file p rounds
       drive_file bytes is = is.file_is ∙ ap file_of (images_same is.shots is.run)

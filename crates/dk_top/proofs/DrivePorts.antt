@@ -23,7 +23,8 @@ use Rattle.buffer_plan.specs.Plans.{Plan, latency, latency_of}
 use Rattle.circuit.specs.Rounds.{type_at}
 use Rattle.circuit.specs.Behaviour.{HasPorts}
 use Rattle.circuit.specs.Driven.{input_widths}
-use Rattle.cycle_sim.specs.declared.fill.Fill.TheVariants.{Zeros}
+use Rattle.cycle_sim.specs.declared.fill.Fill.{Fill}
+use Rattle.cycle_sim.specs.declared.fill.Fill.TheVariants.{Zeros, Ones}
 use Rattle.cycle_sim.specs.Filled.{filled_contents, fill_value, filled_words}
 use Rattle.cycle_sim.specs.Ports.{din_widths}
 use Rattle.program_images.specs.Ports.{bits_of}
@@ -89,17 +90,24 @@ widths_same p ir form = ap (map width_of) (sym form.inputs) ∙ fused ir.inputs
     fused [] = refl
     fused (x ∷ xs) = ap (λ ws. width_of x.ty ∷ ws) (fused xs)
 
--- zeros fit
-zeros_fit : (ws : List ℕ) → Fit ws (map (fill_value Zeros) ws)
-zeros_fit [] = tt
-zeros_fit (w ∷ ws) = (pow_pos w, zeros_fit ws)
+-- what is held at power-up fits
+fill_fits : (fill : Fill) (w : ℕ) → fill_value fill w < 2 ^ w
+fill_fits Zeros w = pow_pos w
+fill_fits Ones w = let some : 0 < 2 ^ w = pow_pos w in omega (arith, some)
 
-words_fit : (ss : List Shape) → AllZip (λ (s : Shape) words. (length words ≡ s.depth) × All (λ w. w < 2 ^ s.width) words) ss (map (filled_words Zeros) ss)
-words_fit [] = tt
-words_fit (s ∷ ss) = ((length-replicate s.depth 0, All-replicate (λ w. w < 2 ^ s.width) s.depth 0 (pow_pos s.width)), words_fit ss)
+regs_fit : (fill : Fill) (ws : List ℕ) → Fit ws (map (fill_value fill) ws)
+regs_fit fill [] = tt
+regs_fit fill (w ∷ ws) = (fill_fits fill w, regs_fit fill ws)
+
+words_fit : (fill : Fill) (ss : List Shape) → AllZip (λ (s : Shape) words. (length words ≡ s.depth) × All (λ w. w < 2 ^ s.width) words) ss (map (filled_words fill) ss)
+words_fit fill [] = tt
+words_fit fill (s ∷ ss) = ((length-replicate s.depth (fill_value fill s.width), All-replicate (λ w. w < 2 ^ s.width) s.depth (fill_value fill s.width) (fill_fits fill s.width)), words_fit fill ss)
+
+pub filled_fits : (fill : Fill) (m : Netlist) → FitsContents m (filled_contents fill m)
+filled_fits fill m = record { regs = regs_fit fill m.regs; arrays = words_fit fill m.arrays }
 
 pub power_up_fits : (m : Netlist) → FitsContents m (filled_contents Zeros m)
-power_up_fits m = record { regs = zeros_fit m.regs; arrays = words_fit m.arrays }
+power_up_fits m = filled_fits Zeros m
 
 -- no output is later than the latency, and an only one is as late
 greatest_is : (images : List Image) (d gs : List ℕ) (k : ℕ) → k < length gs → slice_index d (place images (slice_index gs k)) ≤ greatest_delay images d gs

@@ -138,14 +138,14 @@ module _ (source : List ℕ) (age : ℕ) (c : Compiled) (from : IsCompiledFrom s
       run = record { to = to; runs = subst (λ cs. Runs m (filled_contents Zeros m) cs shots to) (sym clocks_same) runs }
 
       images_are : images_shown m q.size (length (bench_samples (rounds_of_images images))) shots ≡ Rattle.pgm_rounds.specs.Files.joined (map (outputs_of q) (rounds_of_images images))
-      images_are = D.images_same source age false q c.ir c.system c.solution c.plan c.«module» c.nets.items c.text.items from.is file (rounds_of_images images) fits picture_law raster_law clocks refl shots run
+      images_are = D.images_same source age false q c.ir c.system c.solution c.plan c.«module» c.nets.items c.text.items from.is file (rounds_of_images images) fits Zeros picture_law raster_law clocks refl shots run
 
       many : length (picture 0 shots) ≡ length images * q.size.height * q.size.width
       many =
           let o = one.output in
           let first : 0 < length q.outputs = omega (arith, o) in
           let lone : latency_of c.plan 0 ≡ late = Rattle.dk_top.proofs.DrivePorts.latency_of_one c.plan (ap length (D.planned_outputs source age false q c.ir c.system c.solution c.plan c.«module» c.nets.items c.text.items from.is) ∙ one.output) in
-          D.shown_count source age false q c.ir c.system c.solution c.plan c.«module» c.nets.items c.text.items from.is file (rounds_of_images images) fits picture_law raster_law clocks refl shots run 0 first
+          D.shown_count source age false q c.ir c.system c.solution c.plan c.«module» c.nets.items c.text.items from.is file (rounds_of_images images) fits Zeros picture_law raster_law clocks refl shots run 0 first
           ∙ (ap (λ k. clocks - k) lone ∙ ((let e : clocks - late ≡ length (rounds_of_images images) * area q.size = omega arith in e) ∙ (ap (λ k. k * area q.size) n_is ∙ sym (area_turned (length images)))))
 
       -- one image of the picture for each round

@@ -1,6 +1,7 @@
 -- What `trace` judges and writes, from what is traced.
 use Rattle.std.proofs.Common.{◌≡◌, ℕ, ℤ, List, [], ◌∷◌, ◌++◌, take, Option, None, Some, IfSome, refl, ap, sym, subst, arith}
 use Rattle.dk_base.specs.Frames.{Size}
+use Rattle.dk_desk.specs.declared.Stage.{Stage}
 use Rattle.dk_desk.specs.Outside.{Outside}
 use Rattle.dk_desk.specs.Calls.{IsIfTold, grown}
 use Rattle.wiring.specs.Runs.{RunStops}
@@ -25,8 +26,12 @@ use Rattle.dk_endings.specs.declared.ending.Ending.{Ending}
 use Rattle.dk_endings.specs.declared.ending.Ending.TheVariants as ending
 use Rattle.dk_top.specs.Tracing.{in_header, in_clock, at_end, IsInOrder, AreInOrder, CanBeTraced, IsTraced, HoldsTrace, HoldsToStop, HoldsCut, IsCutBehind, IsCutTrace, IsTraceAnswer, IsHeldTrace}
 use Rattle.dk_top.specs.Verdict.{Files, bytes_of}
-use Rattle.dk_top.specs.State.{OthersStay}
-use Rattle.dk_top.specs.Simulating.{IsSimInput}
+use Rattle.dk_words.specs.declared.command.PowerUp.{PowerUp}
+use Rattle.dk_words.specs.declared.command.PowerUp.TheVariants.{Zeros}
+use Rattle.dk_top.specs.Command.{trace}
+use Rattle.dk_top.specs.Simulation.{drive_of}
+use Rattle.dk_top.specs.State.{OthersStay, CreatesBy, CreatesTrace}
+use Rattle.dk_top.specs.Simulating.{IsInputEnding, IsSimInput}
 use Rattle.dk_top.proofs.SimReads.{samples_same, stopped_of}
 
 -- what a file that was empty holds after bytes were added
@@ -122,3 +127,26 @@ stay_others created None mid (Some after) e h = tt
 stay_others created (Some before) mid (Some after) e h = λ name differs.
     let stay : OthersStay created (Some before) (Some after) = subst (λ o. OthersStay created o (Some after)) e h in
     stay name (λ same. differs (ap Some (sym same)))
+
+-- what `trace` has created where the text or the file is not in order
+unread_creates : (drive : Drive) (t file : List ℕ) (stage : Stage) (e : Ending) → IsInputEnding drive t file e → CreatesTrace e stage
+unread_creates drive t file stage (ending.Stopped stop) h = absurd h
+unread_creates drive t file stage ending.Done h = tt
+unread_creates drive t file stage ending.Usage h = tt
+unread_creates drive t file stage ending.ReadFault h = tt
+unread_creates drive t file stage ending.WriteFault h = tt
+unread_creates drive t file stage ending.Memory h = tt
+unread_creates drive t file stage (ending.Source f) h = tt
+unread_creates drive t file stage (ending.Verilog f) h = tt
+unread_creates drive t file stage (ending.Image f) h = tt
+unread_creates drive t file stage (ending.Rejected f) h = tt
+
+pub unread_begun : (told : Option Files) (verilog image vcd : List ℕ) (clocks : ℕ) (e : Ending) (stage : Stage) → IfSome told (λ f. (n : ℕ) (p : PowerUp) → IsInputEnding (drive_of n p None) (bytes_of f verilog) (bytes_of f image) e)
+    → IfSome told (λ f. CreatesBy (trace verilog clocks image vcd) e f stage)
+unread_begun None verilog image vcd clocks e stage h = tt
+unread_begun (Some f) verilog image vcd clocks e stage h = unread_creates (drive_of clocks Zeros None) (bytes_of f verilog) (bytes_of f image) stage e (h clocks Zeros)
+
+-- and once it is driven
+pub driven_begun : (told : Option Files) (verilog image vcd : List ℕ) (clocks : ℕ) (e : Ending) (stage : Stage) → CreatesTrace e stage → IfSome told (λ f. CreatesBy (trace verilog clocks image vcd) e f stage)
+driven_begun None verilog image vcd clocks e stage h = tt
+driven_begun (Some f) verilog image vcd clocks e stage h = h

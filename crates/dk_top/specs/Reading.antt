@@ -17,7 +17,9 @@ use Rattle.dk_compile.specs.declared.fault.SourceFault.TheVariants as source
 use Rattle.dk_base.specs.declared.TheConstants.{MAX_SOURCE_BYTES}
 use Rattle.dk_compile.specs.Limits.{IsAcceptedAt}
 use Rattle.dk_top.specs.Output.{Fits, IsImageFault}
+use Rattle.dk_desk.specs.Outside.{Input}
 use Rattle.dk_top.specs.Verdict.{Terms, IsGoodPair}
+use Rattle.dk_top.specs.State.{LeavesText, LeavesImages}
 
 -- the endings that may come before anything is created
 abbrev pub Stops : Ending → Type 0
@@ -25,6 +27,14 @@ Stops ending.Done = ⊥
 Stops ending.Usage = ⊥
 Stops ending.WriteFault = ⊥
 Stops _ = ⊤
+
+-- an ending that reports no text that is too long
+abbrev pub TellsNoText : Ending → Type 0
+TellsNoText e = (file : List ℕ) (slot : Input) → LeavesText e file slot
+
+-- an ending that reports no images and no report that are too long
+abbrev pub TellsNoImages : Ending → Type 0
+TellsNoImages e = (file : List ℕ) (slot : Input) → LeavesImages e file slot
 
 -- the ending of a text whose faults are these: its fault, or a failure
 abbrev pub IsSourceEnding : (SourceFault → Type 0) → Ending → Type 0

@@ -89,28 +89,28 @@ pub record LinesTaken (size : Size) (bits : ℕ) (bytes : List ℕ) (rows : ℕ)
 abbrev pub AreMost : Size → (bits : ℕ) → (bytes : List ℕ) → (rows : ℕ) → Type 0
 AreMost size bits bytes rows = (more : ℕ) (samples front rest : List ℕ) → LinesTaken size bits bytes more samples front rest → more ≤ rows
 
--- What is read of a header that is none that fits: the bytes up to the one that shows it, or all that there are.
+-- The bytes do not begin with a header that fits. The bytes up to the first that shows this were read, or all that there are.
 pub record ReadsRefused (size : Size) (bits : ℕ) (last after : List ℕ) : Type 0 where
   pub none : (header : Header) → ¬ (IsHeaded size bits (last ++ after) header)
   pub before : IsUndecidedBefore last
   pub shown : Undecided last → after ≡ []
 
--- What is read of a header that has a fault, after this many images. After as many images as a file may have one byte shows the fault.
+-- What is read of a header that has a fault, after this many images. After as many images as a file may have, one byte shows the fault.
 pub data ReadsHeader (size : Size) (bits images : ℕ) (last after : List ℕ) : Type 0 where
   to_fault : images < MAX_FILE_IMAGES → ReadsRefused size bits last after → ReadsHeader size bits images last after
   further_byte : images ≡ MAX_FILE_IMAGES → length last ≡ 1 → ReadsHeader size bits images last after
 
--- What is read of a row that has a fault, after this many rows of its image: its bytes, or all that there are.
+-- What is read of a row that has a fault, after this many rows of its image: all its bytes, or as many as there are.
 pub record ReadsRow (header : Header) (rows : ℕ) (last after : List ℕ) : Type 0 where
   pub inside : rows < header.height
   pub all : last ≡ take (row_length header) (last ++ after)
 
--- what is read after these lines in order, where what follows them has a fault: a row of the open image, or a header
+-- what is read after these lines in order, where a fault follows them: the next row of the open image, or the next header
 abbrev pub ReadsNext : {size : Size} {bits images rows : ℕ} {samples part : List ℕ} → OpenLines size bits images rows samples part → (last after : List ℕ) → Type 0
 ReadsNext {size = size} {bits = bits} {images = images} (between none no_samples no_part) last after = ReadsHeader size bits images last after
 ReadsNext {rows = rows} (opened header head raster few fits reads exact within is part_is) last after = ReadsRow header rows last after
 
--- What was read of a header when a read failed: bytes that begin a header and hold none whole. After as many images as a file may have it is none.
+-- What was read of a header when a read failed: bytes that begin a header and hold none whole. After as many images as a file may have, no byte.
 pub data BeginsHeader (images : ℕ) (last : List ℕ) : Type 0 where
   in_header : images < MAX_FILE_IMAGES → Undecided last → BeginsHeader images last
   no_byte : images ≡ MAX_FILE_IMAGES → last ≡ [] → BeginsHeader images last
@@ -221,7 +221,7 @@ pub record FailsReading (age : ℕ) (source file : List ℕ) (image : Input) (cr
   pub several : (p : Typing) → IsAcceptedAt source age p → ¬ (IsOnePort p) → created ≡ Unasked
   pub streamed : image.stage ≡ Open → OnStream source age (λ p. CreatesAtFailure p file image.rest created)
 
--- What `run` has read of the file of images, of a program that takes one image and gives one: all of it; or no more than the first fault; or, where File could not be created, the first header. `image` is the slot of the images, `created` the stage of File.
+-- How far `run` has read the image file, for a program that takes one image and gives one. After Done: all of it. After an Image fault or a failed read: no further than the first fault. Where File could not be created: the first header. `image` is the slot of the image file, `created` the stage of File.
 abbrev pub ReadsRun : Ending → (age : ℕ) → (source file : List ℕ) → (image : Input) → (created : Stage) → Type 0
 ReadsRun ending.Done age source file image created = OnStream source age (λ p. image.rest ≡ Some [])
 ReadsRun (ending.Image fault) age source file image created = OnStream source age (λ p. (samples : List ℕ) × ReadsToFault p file image.rest samples)

@@ -9,6 +9,7 @@ ghost use Rattle.dk_top.specs.Program.{CanBeCompiled};
 ghost use Rattle.dk_top.specs.Compiling.{IsCompiledFrom, IsCompiledText};
 ghost use Rattle.dk_top.specs.Verdict.{bytes_of};
 ghost use Rattle.dk_top.specs.Reading.{Stops, IsSourceEnding};
+ghost use Rattle.dk_top.specs.State.{LeavesText};
 
 use crate::files::write_file;
 use crate::reading::{ending_of, read_text};
@@ -50,6 +51,7 @@ pub fn read_compiled<D: Desk>(
     ensures good { OnOk result (IfSome (D.outside desk.old).files (λ files. CanBeCompiled (bytes_of files name.now) options.age)) }
     ensures fault { IfErr result (λ e. IfSome (D.outside desk.old).files (λ files. IsSourceEnding (IsFaultAt (bytes_of files name.now) options.age) e)) }
     ensures stops { IfErr result Stops }
+    ensures left { IfErr result (λ e. IfSome (D.outside desk.old).files (λ files. LeavesText e (bytes_of files name.now) (D.outside desk.new).program)) }
     ensures name { IsIfTold (D.outside desk.new).program.name (Some name.now) }
     ensures only { D.outside desk.new ≡ record (D.outside desk.old) { program = (D.outside desk.new).program; input_failures = (D.outside desk.new).input_failures } }
     ensures cause { HasCauseIn (result ≡ Err Ending.ReadFault) (D.outside desk.old).input_failures (D.outside desk.new).input_failures }
@@ -75,6 +77,7 @@ fn verilog_of<D: Desk>(
     ensures good { OnOk result (IfSome (D.outside desk.old).files (λ files. CanBeCompiled (bytes_of files name.now) options.age)) }
     ensures fault { IfErr result (λ e. IfSome (D.outside desk.old).files (λ files. IsSourceEnding (IsFaultAt (bytes_of files name.now) options.age) e)) }
     ensures stops { IfErr result Stops }
+    ensures left { IfErr result (λ e. IfSome (D.outside desk.old).files (λ files. LeavesText e (bytes_of files name.now) (D.outside desk.new).program)) }
     ensures name { IsIfTold (D.outside desk.new).program.name (Some name.now) }
     ensures only { D.outside desk.new ≡ record (D.outside desk.old) { program = (D.outside desk.new).program; input_failures = (D.outside desk.new).input_failures } }
     ensures cause { HasCauseIn (result ≡ Err Ending.ReadFault) (D.outside desk.old).input_failures (D.outside desk.new).input_failures }

@@ -4,8 +4,8 @@ ghost use Rattle.std.specs.Prelude.{◌≡◌, ◌≢◌, ◌<◌, ◌≤◌, So
 ghost use Rattle.dk_desk.specs.Outside.{Outside, input};
 ghost use Rattle.dk_desk.specs.Calls.{HasCauseIn, IsIfTold, OpensOnly, CreatesOnly, grown};
 ghost use Rattle.dk_top.specs.Verdict.{bytes_of};
-ghost use Rattle.dk_top.specs.State.{IsPrefix, OthersStay, ReportsFront};
-ghost use Rattle.dk_top.specs.Reading.{IsUnread, Stops};
+ghost use Rattle.dk_top.specs.State.{IsPrefix, OthersStay, ReportsFront, LeavesRest};
+ghost use Rattle.dk_top.specs.Reading.{IsUnread, Stops, TellsNoText};
 
 use dk_desk::transfer::{ReadAll, read_all, read_upto, write_all};
 use dk_desk::{Desk, Failed, InSlot, OutSlot, Stage};
@@ -25,6 +25,7 @@ pub fn read_input<D: Desk>(
     ensures whole { IfOk result (λ bytes. IfSome (D.outside desk.old).files (λ files. bytes.items ≡ bytes_of files name.now)) }
     ensures within { IfOk result (λ bytes. vec_len bytes ≤ limit) }
     ensures too_long { result ≡ Err ReadAll.TooLong → IfSome (D.outside desk.old).files (λ files. limit < length (bytes_of files name.now)) }
+    ensures taken { result ≡ Err ReadAll.TooLong → IfSome (D.outside desk.old).files (λ files. LeavesRest limit (bytes_of files name.now) (input (D.outside desk.new) slot)) }
     ensures name { IsIfTold (input (D.outside desk.new) slot).name (Some name.now) }
     ensures only { OpensOnly slot (D.outside desk.old) (D.outside desk.new) }
     ensures cause { HasCauseIn (result ≡ Err ReadAll.Failed) (D.outside desk.old).input_failures (D.outside desk.new).input_failures }
@@ -91,7 +92,9 @@ pub fn read_file<D: Desk>(
     ensures whole { IfOk result (λ bytes. IfSome (D.outside desk.old).files (λ files. bytes.items ≡ bytes_of files name.now)) }
     ensures within { IfOk result (λ bytes. IfSome most (λ n. length bytes.items ≤ n)) }
     ensures fault { IfErr result (λ e. IfSome (D.outside desk.old).files (λ files. IsUnread most (bytes_of files name.now) e)) }
+    ensures taken { result ≡ Err (Ending.Image ImageFault.TooLong) → IfSome (D.outside desk.old).files (λ files. IfSome most (λ n. LeavesRest n (bytes_of files name.now) (D.outside desk.new).image)) }
     ensures stops { IfErr result Stops }
+    ensures no_text { IfErr result TellsNoText }
     ensures name { IsIfTold (D.outside desk.new).image.name (Some name.now) }
     ensures only { OpensOnly InSlot.Image (D.outside desk.old) (D.outside desk.new) }
     ensures cause { HasCauseIn (result ≡ Err Ending.ReadFault) (D.outside desk.old).input_failures (D.outside desk.new).input_failures }

@@ -1,6 +1,6 @@
-//! What the definitions on plans, reports and what is read say together.
+//! What the definitions say together.
 
-ghost use Rattle.std.specs.Prelude.{◌≡◌, ℕ, ◌<◌, ◌≤◌, List, length, Option, Some};
+ghost use Rattle.std.specs.Prelude.{◌≡◌, ℕ, ◌<◌, ◌≤◌, Bool, List, length, Option, Some};
 ghost use Rattle.dk_base.specs.Stencils.{Stencils};
 ghost use Rattle.dk_compile.specs.declared.fault.SourceFault.{SourceFault};
 ghost use Rattle.dk_plan.specs.declared.judging.Claim.{Claim as TheClaim};
@@ -9,6 +9,12 @@ ghost use Rattle.dk_top.specs.Program.{CanBeCompiled};
 ghost use Rattle.dk_top.specs.Plans.{HasStencils, IsConfirmed, IsWrongLine};
 ghost use Rattle.dk_top.specs.Streaming.{ReadsToFault, ReadsToFailure};
 ghost use Rattle.dk_types.specs.Typed.{Typing};
+ghost use Rattle.buffer_plan.specs.Plans.{Plan, latency};
+ghost use Rattle.pgm_codec.specs.Images.{Image as OneImage};
+ghost use Rattle.dk_words.specs.declared.command.PowerUp.{PowerUp as OnePower};
+ghost use Rattle.dk_top.specs.Agreement.{IsCompiledInput, whole_drive};
+ghost use Rattle.dk_top.specs.Output.{output_file};
+ghost use Rattle.dk_top.specs.Simulation.{IsSimulated};
 
 /// Laws: an accepted text has one list of names and one of live reads. One that is accepted at an age has no fault at it, and one that is not has one fault. A report that holds has no wrong line and says one thing, and another has one first wrong line.
 pub fn one_plan()
@@ -31,4 +37,19 @@ pub fn one_rest()
     ensures failure { (p : Typing) (file after rest xs ys : List ℕ) → 0 < p.size.height → ReadsToFault p file (Some after) xs → ReadsToFailure p file (Some rest) ys → length after ≤ length rest }
 {
     pgm_codec::one_reading();
+}
+
+/// Laws: `sim` shows, of each text that a program is compiled to, with the port `en` or without it, the file that `run` writes of the program: the pictures by its meaning, on each file of images that fits it. From zeros and from ones, the module is clocked once for each pixel and then for the latency.
+pub fn compile_then_sim()
+    ensures shows { (source text file : List ℕ) (age : ℕ) (enable : Bool) (p : Typing) (plan : Plan) (rounds : List (List OneImage)) → IsCompiledInput source age enable p plan text file rounds → (power : OnePower) → IsSimulated (whole_drive power p.size (length rounds) (latency plan)) text file (output_file p rounds) }
+    ensures only { (source text file : List ℕ) (age : ℕ) (enable : Bool) (p : Typing) (plan : Plan) (rounds : List (List OneImage)) → IsCompiledInput source age enable p plan text file rounds → (power : OnePower) (pictures : List ℕ) → IsSimulated (whole_drive power p.size (length rounds) (latency plan)) text file pictures → pictures ≡ output_file p rounds }
+{
+    dk_compile::one_source();
+    dk_compile::one_at_age();
+    dk_compile::drive_shows();
+    buffer_plan::one_limit();
+    wiring::one_valuation();
+    wiring::one_next();
+    netlist::one_run();
+    test_bench::one_input();
 }

@@ -11,8 +11,8 @@ ghost use Rattle.pointwise_eval.specs.Rounds.{AreFrames};
 ghost use Rattle.dk_compile.specs.Sources.{IsSourceFault, IsErrorBy};
 ghost use Rattle.dk_compile.specs.Limits.{IsAcceptedAt, IsFaultAt};
 ghost use Rattle.dk_top.specs.Verdict.{bytes_of, eval_terms, IsAnswer};
-ghost use Rattle.dk_top.specs.State.{AsksWhere};
-ghost use Rattle.dk_top.specs.Reading.{IsSourceEnding, IsUnreadText, IsImageEnding, IsInputOf, AreRead, IsRead, Stops};
+ghost use Rattle.dk_top.specs.State.{AsksWhere, LeavesText, LeavesImages, LeavesBoth};
+ghost use Rattle.dk_top.specs.Reading.{IsSourceEnding, IsUnreadText, IsImageEnding, IsInputOf, AreRead, IsRead, Stops, TellsNoText, TellsNoImages};
 
 use crate::files::{read_file, read_input};
 use dk_base::{MAX_PGM_BYTES, MAX_SOURCE_BYTES};
@@ -33,6 +33,8 @@ pub fn read_text<D: Desk>(alloc: Global, desk: &mut D, name: &str) -> Result<Vec
     ensures within { IfOk result (λ bytes. vec_len bytes ≤ MAX_SOURCE_BYTES) }
     ensures fault { IfErr result (λ e. IfSome (D.outside desk.old).files (λ files. IsUnreadText (bytes_of files name.now) e)) }
     ensures stops { IfErr result Stops }
+    ensures left { IfErr result (λ e. IfSome (D.outside desk.old).files (λ files. LeavesText e (bytes_of files name.now) (D.outside desk.new).program)) }
+    ensures no_images { IfErr result TellsNoImages }
     ensures name { IsIfTold (D.outside desk.new).program.name (Some name.now) }
     ensures only { OpensOnly InSlot.Program (D.outside desk.old) (D.outside desk.new) }
     ensures cause { HasCauseIn (result ≡ Err Ending.ReadFault) (D.outside desk.old).input_failures (D.outside desk.new).input_failures }
@@ -80,6 +82,8 @@ pub fn read_frames(alloc: Global, ir: &Ir, file: &[u8]) -> Result<Vec<Round>, En
     ensures read { IfOk result (λ rounds. AreRead ir.now rounds.items) }
     ensures fault { IfErr result (λ e. (most : Option ℕ) → IfSome most (λ n. length file.now ≤ n) → (p : Typing) → IsForm p ir.now → IsImageEnding most p file.now e) }
     ensures stops { IfErr result Stops }
+    ensures no_text { IfErr result TellsNoText }
+    ensures no_images { IfErr result TellsNoImages }
     ensures judged { result ≢ Err Ending.ReadFault }
 {
     one_file();
@@ -107,6 +111,8 @@ fn read_source<D: Desk>(alloc: Global, desk: &mut D, name: &str) -> Result<Sourc
     ensures every { IfOk result (λ source. (p : Typing) → IsAcceptedAt source.text.items 0 p → IsForm p source.ir) }
     ensures fault { IfErr result (λ e. IfSome (D.outside desk.old).files (λ files. IsSourceEnding (IsFaultAt (bytes_of files name.now) 0) e)) }
     ensures stops { IfErr result Stops }
+    ensures left { IfErr result (λ e. IfSome (D.outside desk.old).files (λ files. LeavesText e (bytes_of files name.now) (D.outside desk.new).program)) }
+    ensures no_images { IfErr result TellsNoImages }
     ensures name { IsIfTold (D.outside desk.new).program.name (Some name.now) }
     ensures only { OpensOnly InSlot.Program (D.outside desk.old) (D.outside desk.new) }
     ensures cause { HasCauseIn (result ≡ Err Ending.ReadFault) (D.outside desk.old).input_failures (D.outside desk.new).input_failures }
@@ -135,6 +141,8 @@ pub fn read_images<D: Desk>(
     ensures read { IfOk result (λ rounds. AreRead ir.now rounds.items) }
     ensures fault { IfErr result (λ e. IfSome (D.outside desk.old).files (λ files. (p : Typing) → IsForm p ir.now → IsImageEnding most p (bytes_of files name.now) e)) }
     ensures stops { IfErr result Stops }
+    ensures left { IfErr result (λ e. most ≡ Some MAX_PGM_BYTES → IfSome (D.outside desk.old).files (λ files. LeavesImages e (bytes_of files name.now) (D.outside desk.new).image)) }
+    ensures no_text { IfErr result TellsNoText }
     ensures name { IsIfTold (D.outside desk.new).image.name (Some name.now) }
     ensures only { OpensOnly InSlot.Image (D.outside desk.old) (D.outside desk.new) }
     ensures cause { HasCauseIn (result ≡ Err Ending.ReadFault) (D.outside desk.old).input_failures (D.outside desk.new).input_failures }
@@ -171,6 +179,7 @@ pub fn read_given<D: Desk>(
     ensures frames { IfOk result (λ given. AreRead given.ir given.rounds.items) }
     ensures fault { IfErr result (λ e. IfSome (D.outside desk.old).files (λ files. IsAnswer eval_terms (bytes_of files program.now) (bytes_of files image.now) e)) }
     ensures stops { IfErr result Stops }
+    ensures left { IfErr result (λ e. IfSome (D.outside desk.old).files (λ files. LeavesBoth e (bytes_of files program.now) (bytes_of files image.now) (D.outside desk.new).program (D.outside desk.new).image)) }
     ensures program_name { (D.outside desk.new).program.stage ≢ Stage.Unasked → IsIfTold (D.outside desk.new).program.name (Some program.now) }
     ensures image_name { (D.outside desk.new).image.stage ≢ Stage.Unasked → IsIfTold (D.outside desk.new).image.name (Some image.now) }
     ensures only { D.outside desk.new ≡ record (D.outside desk.old) { program = (D.outside desk.new).program; image = (D.outside desk.new).image; input_failures = (D.outside desk.new).input_failures } }

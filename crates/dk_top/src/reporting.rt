@@ -14,8 +14,8 @@ ghost use Rattle.dk_compile.specs.Limits.{IsFaultAt};
 ghost use Rattle.dk_top.specs.Program.{CanBeCompiled};
 ghost use Rattle.dk_top.specs.Reports.{IsChecked};
 ghost use Rattle.dk_top.specs.Verdict.{bytes_of, IsCheckAnswer};
-ghost use Rattle.dk_top.specs.State.{AsksWhere};
-ghost use Rattle.dk_top.specs.Reading.{Stops, IsSourceEnding};
+ghost use Rattle.dk_top.specs.State.{AsksWhere, LeavesText, LeavesImages, LeavesBoth};
+ghost use Rattle.dk_top.specs.Reading.{Stops, IsSourceEnding, TellsNoText, TellsNoImages};
 ghost use Rattle.dk_top.specs.Reporting.{HasFront, IsReportEnding};
 
 use crate::files::{read_input, write_report};
@@ -89,6 +89,7 @@ fn read_plan<D: Desk>(alloc: Global, desk: &mut D, name: &str, age: u8) -> Resul
     ensures good { OnOk result (IfSome (D.outside desk.old).files (λ files. CanBeCompiled (bytes_of files name.now) age)) }
     ensures fault { IfErr result (λ e. IfSome (D.outside desk.old).files (λ files. IsSourceEnding (IsFaultAt (bytes_of files name.now) age) e)) }
     ensures stops { IfErr result Stops }
+    ensures left { IfErr result (λ e. IfSome (D.outside desk.old).files (λ files. LeavesText e (bytes_of files name.now) (D.outside desk.new).program)) }
     ensures name { IsIfTold (D.outside desk.new).program.name (Some name.now) }
     ensures only { OpensOnly InSlot.Program (D.outside desk.old) (D.outside desk.new) }
     ensures cause { HasCauseIn (result ≡ Err Ending.ReadFault) (D.outside desk.old).input_failures (D.outside desk.new).input_failures }
@@ -137,6 +138,8 @@ fn read_front<D: Desk>(alloc: Global, desk: &mut D, name: &str) -> Result<Front,
     ensures some { IfOk result (λ front. (source : List ℕ) × HasFront source front.ir front.stencils) }
     ensures fault { IfErr result (λ e. IfSome (D.outside desk.old).files (λ files. IsSourceEnding (IsSourceFault (bytes_of files name.now)) e)) }
     ensures stops { IfErr result Stops }
+    ensures left { IfErr result (λ e. IfSome (D.outside desk.old).files (λ files. LeavesText e (bytes_of files name.now) (D.outside desk.new).program)) }
+    ensures no_images { IfErr result TellsNoImages }
     ensures name { IsIfTold (D.outside desk.new).program.name (Some name.now) }
     ensures only { OpensOnly InSlot.Program (D.outside desk.old) (D.outside desk.new) }
     ensures cause { HasCauseIn (result ≡ Err Ending.ReadFault) (D.outside desk.old).input_failures (D.outside desk.new).input_failures }
@@ -155,6 +158,8 @@ fn judged(alloc: Global, front: &Front, report: &[u8]) -> Result<Claim, Ending>
     ensures holds { IfOk result (λ claim. (source : List ℕ) → HasFront source front.now.ir front.now.stencils → IsChecked source report.now claim) }
     ensures fault { IfErr result (λ e. (source : List ℕ) → HasFront source front.now.ir front.now.stencils → IsReportEnding source report.now e) }
     ensures stops { IfErr result Stops }
+    ensures no_text { IfErr result TellsNoText }
+    ensures no_images { IfErr result TellsNoImages }
     ensures judged { result ≢ Err Ending.ReadFault }
 {
     match judge_report(alloc, &front.ir, &front.stencils, report) {
@@ -172,6 +177,8 @@ fn report_bytes<D: Desk>(alloc: Global, desk: &mut D, name: &str) -> Result<Vec<
     ensures within { IfOk result (λ bytes. vec_len bytes ≤ MAX_REPORT_BYTES) }
     ensures fault { IfErr result (λ e. IfSome (D.outside desk.old).files (λ files. (source : List ℕ) → IsReportEnding source (bytes_of files name.now) e)) }
     ensures stops { IfErr result Stops }
+    ensures left { IfErr result (λ e. IfSome (D.outside desk.old).files (λ files. LeavesImages e (bytes_of files name.now) (D.outside desk.new).image)) }
+    ensures no_text { IfErr result TellsNoText }
     ensures name { IsIfTold (D.outside desk.new).image.name (Some name.now) }
     ensures only { OpensOnly InSlot.Image (D.outside desk.old) (D.outside desk.new) }
     ensures cause { HasCauseIn (result ≡ Err Ending.ReadFault) (D.outside desk.old).input_failures (D.outside desk.new).input_failures }
@@ -197,6 +204,8 @@ fn read_report<D: Desk>(
     ensures holds { IfOk result (λ claim. IfSome (D.outside desk.old).files (λ files. (source : List ℕ) → HasFront source front.now.ir front.now.stencils → IsChecked source (bytes_of files name.now) claim)) }
     ensures fault { IfErr result (λ e. IfSome (D.outside desk.old).files (λ files. (source : List ℕ) → HasFront source front.now.ir front.now.stencils → IsReportEnding source (bytes_of files name.now) e)) }
     ensures stops { IfErr result Stops }
+    ensures left { IfErr result (λ e. IfSome (D.outside desk.old).files (λ files. LeavesImages e (bytes_of files name.now) (D.outside desk.new).image)) }
+    ensures no_text { IfErr result TellsNoText }
     ensures name { IsIfTold (D.outside desk.new).image.name (Some name.now) }
     ensures only { OpensOnly InSlot.Image (D.outside desk.old) (D.outside desk.new) }
     ensures cause { HasCauseIn (result ≡ Err Ending.ReadFault) (D.outside desk.old).input_failures (D.outside desk.new).input_failures }
@@ -222,6 +231,7 @@ fn read_claim<D: Desk>(
     ensures holds { IfOk result (λ claim. IfSome (D.outside desk.old).files (λ files. IsChecked (bytes_of files program.now) (bytes_of files report.now) claim)) }
     ensures fault { IfErr result (λ e. IfSome (D.outside desk.old).files (λ files. IsCheckAnswer (bytes_of files program.now) (bytes_of files report.now) e)) }
     ensures stops { IfErr result Stops }
+    ensures left { IfErr result (λ e. IfSome (D.outside desk.old).files (λ files. LeavesBoth e (bytes_of files program.now) (bytes_of files report.now) (D.outside desk.new).program (D.outside desk.new).image)) }
     ensures program_name { (D.outside desk.new).program.stage ≢ Stage.Unasked → IsIfTold (D.outside desk.new).program.name (Some program.now) }
     ensures image_name { (D.outside desk.new).image.stage ≢ Stage.Unasked → IsIfTold (D.outside desk.new).image.name (Some report.now) }
     ensures only { D.outside desk.new ≡ record (D.outside desk.old) { program = (D.outside desk.new).program; image = (D.outside desk.new).image; input_failures = (D.outside desk.new).input_failures } }

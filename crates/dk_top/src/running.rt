@@ -11,7 +11,7 @@ ghost use Rattle.dk_compile.specs.Limits.{IsAcceptedAt, IsFaultAt};
 ghost use Rattle.dk_top.specs.Output.{output_file};
 ghost use Rattle.dk_top.specs.Compiling.{IsCompiledFrom, NotesRun, frame_drive};
 ghost use Rattle.dk_top.specs.Verdict.{bytes_of, run_terms, IsAnswer, IsGoodPair, OfPair};
-ghost use Rattle.dk_top.specs.State.{IsFresh};
+ghost use Rattle.dk_top.specs.State.{IsFresh, LeavesText};
 ghost use Rattle.dk_top.specs.Streaming.{IsOnePort};
 ghost use Rattle.dk_top.specs.Streams.{RunsOn, PerformsRun};
 ghost use Rattle.dk_types.specs.Typed.{Typing};
@@ -112,6 +112,7 @@ fn read_machine<D: Desk>(
     ensures again { IfOk result (λ m. m.«module» ≡ m.compiled.«module») }
     ensures fault { IfErr result (λ e. IfSome (D.outside desk.old).files (λ files. IsSourceEnding (IsFaultAt (bytes_of files program.now) age) e)) }
     ensures stops { IfErr result Stops }
+    ensures left { IfErr result (λ e. IfSome (D.outside desk.old).files (λ files. LeavesText e (bytes_of files program.now) (D.outside desk.new).program)) }
     ensures name { IsIfTold (D.outside desk.new).program.name (Some program.now) }
     ensures only { D.outside desk.new ≡ record (D.outside desk.old) { program = (D.outside desk.new).program; input_failures = (D.outside desk.new).input_failures } }
     ensures cause { HasCauseIn (result ≡ Err Ending.ReadFault) (D.outside desk.old).input_failures (D.outside desk.new).input_failures }
@@ -199,6 +200,7 @@ fn run_program<D: Desk>(
     requires fresh { IsFresh (D.outside desk.old) }
     requires age { age ≤ MAX_AGE }
     ensures performs { PerformsRun program.now image.now out.now age result (D.outside desk.old) (D.outside desk.new) }
+    ensures left { IfSome (D.outside desk.old).files (λ files. LeavesText result (bytes_of files program.now) (D.outside desk.new).program) }
 {
     one_source();
     one_at_age();

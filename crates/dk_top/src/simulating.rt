@@ -12,9 +12,9 @@ ghost use Rattle.dk_words.specs.declared.command.PowerUp.{PowerUp as OnePower};
 ghost use Rattle.dk_top.specs.Command.{sim as sim_command};
 ghost use Rattle.dk_top.specs.Simulation.{drive_of, fill_of as fill_named, IsModuleOf, LacksEnable, IsSimulated};
 ghost use Rattle.dk_top.specs.Verdict.{bytes_of, IsSimAnswer};
-ghost use Rattle.dk_top.specs.State.{AsksWhereModule, NotesSim};
+ghost use Rattle.dk_top.specs.State.{AsksWhereModule, NotesSim, LeavesText, LeavesImages, LeavesBoth};
 ghost use Rattle.dk_top.specs.Simulating.{IsModuleEnding, IsFileEnding, IsInput, IsInputEnding, IsSimInput};
-ghost use Rattle.dk_top.specs.Reading.{Stops};
+ghost use Rattle.dk_top.specs.Reading.{Stops, TellsNoText, TellsNoImages};
 
 use crate::files::{read_file, read_input, write_file};
 use crate::work::Work;
@@ -90,6 +90,8 @@ fn read_text<D: Desk>(alloc: Global, desk: &mut D, name: &str) -> Result<Vec<u8>
     ensures within { IfOk result (λ bytes. vec_len bytes ≤ MAX_VERILOG_BYTES) }
     ensures fault { IfErr result (λ e. IfSome (D.outside desk.old).files (λ files. (hold : Option ℕ) → IsModuleEnding hold (bytes_of files name.now) e)) }
     ensures stops { IfErr result Stops }
+    ensures left { IfErr result (λ e. IfSome (D.outside desk.old).files (λ files. LeavesText e (bytes_of files name.now) (D.outside desk.new).program)) }
+    ensures no_images { IfErr result TellsNoImages }
     ensures name { IsIfTold (D.outside desk.new).program.name (Some name.now) }
     ensures only { OpensOnly InSlot.Program (D.outside desk.old) (D.outside desk.new) }
     ensures cause { HasCauseIn (result ≡ Err Ending.ReadFault) (D.outside desk.old).input_failures (D.outside desk.new).input_failures }
@@ -114,6 +116,8 @@ fn read_module<D: Desk>(
     ensures made { IfOk result (λ m. IfSome (D.outside desk.old).files (λ files. IsModuleOf hold (bytes_of files name.now) m)) }
     ensures fault { IfErr result (λ e. IfSome (D.outside desk.old).files (λ files. IsModuleEnding hold (bytes_of files name.now) e)) }
     ensures stops { IfErr result Stops }
+    ensures left { IfErr result (λ e. IfSome (D.outside desk.old).files (λ files. LeavesText e (bytes_of files name.now) (D.outside desk.new).program)) }
+    ensures no_images { IfErr result TellsNoImages }
     ensures name { IsIfTold (D.outside desk.new).program.name (Some name.now) }
     ensures only { OpensOnly InSlot.Program (D.outside desk.old) (D.outside desk.new) }
     ensures cause { HasCauseIn (result ≡ Err Ending.ReadFault) (D.outside desk.old).input_failures (D.outside desk.new).input_failures }
@@ -133,6 +137,8 @@ fn rounds_for(alloc: Global, module: &Module, file: &[u8]) -> Result<BenchInput,
     ensures frames { IfOk result (λ input. AreBenchFrames (din_widths «module».now.netlist) (size_of input.size) input.rounds.items) }
     ensures fault { IfErr result (IsFileEnding «module».now file.now) }
     ensures stops { IfErr result Stops }
+    ensures no_text { IfErr result TellsNoText }
+    ensures no_images { IfErr result TellsNoImages }
     ensures judged { result ≢ Err Ending.ReadFault }
 {
     match test_bench::read_input(alloc, dins_of(module), file) {
@@ -156,6 +162,8 @@ fn read_images<D: Desk>(
     ensures frames { IfOk result (λ input. AreBenchFrames (din_widths «module».now.netlist) (size_of input.size) input.rounds.items) }
     ensures fault { IfErr result (λ e. IfSome (D.outside desk.old).files (λ files. IsFileEnding «module».now (bytes_of files name.now) e)) }
     ensures stops { IfErr result Stops }
+    ensures left { IfErr result (λ e. IfSome (D.outside desk.old).files (λ files. LeavesImages e (bytes_of files name.now) (D.outside desk.new).image)) }
+    ensures no_text { IfErr result TellsNoText }
     ensures name { IsIfTold (D.outside desk.new).image.name (Some name.now) }
     ensures only { OpensOnly InSlot.Image (D.outside desk.old) (D.outside desk.new) }
     ensures cause { HasCauseIn (result ≡ Err Ending.ReadFault) (D.outside desk.old).input_failures (D.outside desk.new).input_failures }
@@ -191,6 +199,7 @@ pub fn read_all<D: Desk>(
     ensures frames { IfOk result (λ given. AreBenchFrames (din_widths given.«module».netlist) (size_of given.input.size) given.input.rounds.items) }
     ensures fault { IfErr result (λ e. IfSome (D.outside desk.old).files (λ files. (clocks : ℕ) (power : OnePower) → IsInputEnding (drive_of clocks power hold) (bytes_of files verilog.now) (bytes_of files image.now) e)) }
     ensures stops { IfErr result Stops }
+    ensures left { IfErr result (λ e. IfSome (D.outside desk.old).files (λ files. LeavesBoth e (bytes_of files verilog.now) (bytes_of files image.now) (D.outside desk.new).program (D.outside desk.new).image)) }
     ensures program_name { (D.outside desk.new).program.stage ≢ Stage.Unasked → IsIfTold (D.outside desk.new).program.name (Some verilog.now) }
     ensures image_name { (D.outside desk.new).image.stage ≢ Stage.Unasked → IsIfTold (D.outside desk.new).image.name (Some image.now) }
     ensures only { D.outside desk.new ≡ record (D.outside desk.old) { program = (D.outside desk.new).program; image = (D.outside desk.new).image; input_failures = (D.outside desk.new).input_failures } }
@@ -245,6 +254,8 @@ fn pictures<D: Desk>(
     ensures notes { OnOk result ((text images : List ℕ) → IsSimInput drive.hold text images given.now.«module» (size_of given.now.input.size) given.now.input.rounds.items → NotesSim drive text images (D.outside desk.old).notes (D.outside desk.new).notes) }
     ensures fault { IfErr result (λ e. (text images : List ℕ) → IsSimInput drive.hold text images given.now.«module» (size_of given.now.input.size) given.now.input.rounds.items → IsSimAnswer drive text images e) }
     ensures stops { IfErr result Stops }
+    ensures no_text { IfErr result TellsNoText }
+    ensures no_images { IfErr result TellsNoImages }
     ensures judged { result ≢ Err Ending.ReadFault }
 {
     verilog_text::one_module();

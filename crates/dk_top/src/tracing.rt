@@ -8,8 +8,9 @@ ghost use Rattle.test_bench.specs.Given.{AreBenchFrames};
 ghost use Rattle.trace_bench.specs.Tracers.{IsTracer};
 ghost use Rattle.dk_top.specs.Command.{trace as trace_command};
 ghost use Rattle.dk_top.specs.Tracing.{IsTraceAnswer, IsHeldTrace};
-ghost use Rattle.dk_top.specs.State.{CreatesNothing, OthersStay};
+ghost use Rattle.dk_top.specs.State.{CreatesNothing, CreatesTrace, OthersStay};
 ghost use Rattle.dk_top.specs.Simulating.{IsSimInput};
+ghost use Rattle.dk_top.specs.Reading.{TellsNoText, TellsNoImages};
 
 use crate::simulating::{SimInput, drive_for, read_all};
 use crate::work::Work;
@@ -37,7 +38,10 @@ fn write_trace<D: Desk>(
     ensures output { (D.outside desk.new).file.stage ≡ Stage.Open → IfSome (D.outside desk.new).file.bytes (λ bytes. (text images : List ℕ) → IsSimInput drive.hold text images given.now.«module» (size_of given.now.input.size) given.now.input.rounds.items → IsHeldTrace result drive text images bytes) }
     ensures taken { result ≢ Ending.Usage }
     ensures judged { result ≢ Ending.ReadFault }
+    ensures no_text { TellsNoText result }
+    ensures no_images { TellsNoImages result }
     ensures created { (verilog image vcd : List ℕ) (clocks : ℕ) → CreatesNothing (Some (trace_command verilog clocks image vcd)) result → (D.outside desk.new).file.stage ≡ Stage.Unasked }
+    ensures begun { CreatesTrace result (D.outside desk.new).file.stage }
     ensures written { result ≡ Ending.Done → (D.outside desk.new).file.stage ≡ Stage.Open }
     ensures name { IsIfTold (D.outside desk.new).file.name (Some name.now) }
     ensures files { OthersStay name.now (D.outside desk.old).files (D.outside desk.new).files }
@@ -81,7 +85,10 @@ fn traced<D: Desk>(
     ensures output { (D.outside desk.new).file.stage ≡ Stage.Open → IfSome (D.outside desk.new).file.bytes (λ bytes. (text images : List ℕ) → IsSimInput drive.hold text images given.now.«module» (size_of given.now.input.size) given.now.input.rounds.items → IsHeldTrace result drive text images bytes) }
     ensures taken { result ≢ Ending.Usage }
     ensures judged { result ≢ Ending.ReadFault }
+    ensures no_text { TellsNoText result }
+    ensures no_images { TellsNoImages result }
     ensures created { (verilog image vcd : List ℕ) (clocks : ℕ) → CreatesNothing (Some (trace_command verilog clocks image vcd)) result → (D.outside desk.new).file.stage ≡ Stage.Unasked }
+    ensures begun { CreatesTrace result (D.outside desk.new).file.stage }
     ensures written { result ≡ Ending.Done → (D.outside desk.new).file.stage ≡ Stage.Open }
     ensures name { (D.outside desk.new).file.stage ≢ Stage.Unasked → IsIfTold (D.outside desk.new).file.name (Some name.now) }
     ensures files { OthersStay name.now (D.outside desk.old).files (D.outside desk.new).files }

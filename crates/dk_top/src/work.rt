@@ -5,7 +5,7 @@ ghost use Rattle.dk_desk.specs.Outside.{Outside};
 ghost use Rattle.dk_desk.specs.Calls.{HasCauseIn};
 ghost use Rattle.dk_top.specs.Command.{Command, IsInRange};
 ghost use Rattle.dk_top.specs.Verdict.{OnFiles, IsVerdict};
-ghost use Rattle.dk_top.specs.State.{IsFresh, AsksOnly, AsksInOrder, CreatesNothing, CreatesBy, ReadsBy, CreatesOut, FilesStay, IsHeld, IsNoted, IsReported, WritesNothing};
+ghost use Rattle.dk_top.specs.State.{IsFresh, AsksOnly, AsksInOrder, CreatesNothing, CreatesBy, ReadsBy, CreatesOut, FilesStay, IsHeld, IsNoted, IsReported, WritesNothing, NotesNothing, TakesNoMore};
 
 use dk_desk::{Desk, Stage};
 use dk_endings::Ending;
@@ -24,6 +24,7 @@ pub trait Work {
         ensures verdict { OnFiles (command self.now) (D.outside desk.old).files (λ files. IsVerdict (command self.now) files result) }
         ensures asked { AsksOnly (Some (command self.now)) (D.outside desk.new) }
         ensures order { IfSome (D.outside desk.old).files (λ files. AsksInOrder (command self.now) files (D.outside desk.new)) }
+        ensures too_long { IfSome (D.outside desk.old).files (λ files. TakesNoMore (command self.now) result files (D.outside desk.new).program (D.outside desk.new).image) }
         ensures created { CreatesNothing (Some (command self.now)) result → (D.outside desk.new).file.stage ≡ Stage.Unasked }
         ensures begun { IfSome (D.outside desk.old).files (λ files. CreatesBy (command self.now) result files (D.outside desk.new).file.stage) }
         ensures reads { IfSome (D.outside desk.old).files (λ files. ReadsBy (command self.now) result files (D.outside desk.new).image (D.outside desk.new).file.stage) }
@@ -34,6 +35,7 @@ pub trait Work {
         ensures report_stays { WritesNothing (Some (command self.now)) result → (D.outside desk.new).report ≡ (D.outside desk.old).report }
         ensures report { OnFiles (command self.now) (D.outside desk.old).files (λ files. IsReported result (command self.now) files (D.outside desk.old).report (D.outside desk.new).report) }
         ensures notes { OnFiles (command self.now) (D.outside desk.old).files (λ files. IsNoted (command self.now) result files (D.outside desk.old).notes (D.outside desk.new).notes) }
+        ensures notes_stay { NotesNothing (Some (command self.now)) → (D.outside desk.new).notes ≡ (D.outside desk.old).notes }
         ensures fault { (D.outside desk.new).fault ≡ (D.outside desk.old).fault }
         ensures fault_count { (D.outside desk.new).fault_failures ≡ (D.outside desk.old).fault_failures }
         ensures read_fault { HasCauseIn (result ≡ Ending.ReadFault) (D.outside desk.old).input_failures (D.outside desk.new).input_failures }

@@ -1,8 +1,10 @@
-use Rattle.std.proofs.Common.{ℕ, List, ◌≤◌, length, IfSome, subst, sym}
+use Rattle.std.proofs.Common.{◌≡◌, ℕ, List, ◌≤◌, length, Some, IfSome, Err, ap, subst, sym}
 use Rattle.dk_types.specs.Typed.{Typing}
 use Rattle.dk_compile.specs.Fronts.{IsForm}
 use Rattle.dk_top.specs.Reading.{IsImageEnding, IsInputOf}
 use Rattle.dk_top.proofs.ReadLemmas.{ok_told, err_told, unread_told, ok_within, err_within, told_same}
+use Rattle.dk_base.specs.declared.TheConstants.{MAX_PGM_BYTES}
+use Rattle.dk_top.proofs.LongLemmas.{unread_left, whole_where}
 use Rattle.dk_top.proofs.reading.read_images.Goals as goal
 
 pub returns-in-Err-clause-fault : goal.returns-in-Err-clause-fault
@@ -21,3 +23,9 @@ returns-clause-fault g c =
     let within : IfSome c.args.most (λ n. length file ≤ n) = subst (λ (bytes : List ℕ). IfSome c.args.most (λ n. length bytes ≤ n)) (sym c.deref.ensures.value) c.in-Ok.ensures.within in
     err_told c.read_frames.result _ file c.args.name.now (λ e bytes. (p : Typing) → IsForm p c.args.ir.now → IsImageEnding c.args.most p bytes e) (told_same _ file _ c.args.name.now c.deref.ensures.value c.in-Ok.ensures.whole)
     (err_within c.read_frames.result c.args.most (length file) (λ most e. (p : Typing) → IsForm p c.args.ir.now → IsImageEnding most p file e) within c.read_frames.ensures.fault)
+
+pub returns-in-Err-clause-left : goal.returns-in-Err-clause-left
+returns-in-Err-clause-left g c = λ same. unread_left _ c.args.name.now c.args.most _ c.in-Err.ending same c.in-Err.ensures.fault (λ is. c.in-Err.ensures.taken (ap Err is))
+
+pub returns-clause-left : goal.returns-clause-left
+returns-clause-left g c = whole_where c.read_frames.result _ c.args.name.now _ (c.args.most ≡ Some MAX_PGM_BYTES) c.read_frames.ensures.no_images

@@ -7,6 +7,7 @@ use Rattle.dk_top.specs.Simulation.{drive_of}
 use Rattle.dk_top.specs.Verdict.{IsSimAnswer}
 use Rattle.dk_top.specs.State.{IsPrefix, NotesSim}
 use Rattle.dk_top.proofs.SimReads.{for_clocks, of_input, held_sim}
+use Rattle.dk_top.proofs.LongLemmas.{no_text, no_images, both_left}
 use Rattle.dk_top.proofs.simulating.SimWordsWork.perform.Goals as goal
 
 pub returns-in-Err-clause-verdict : goal.returns-in-Err-clause-verdict
@@ -67,3 +68,8 @@ returns-clause-output g c = λ opened.
     let same : d ≡ drive_of w.clocks w.fill w.hold = c.drive_for-drive.ensures.is in
     held_sim _ w.verilog.now w.image.now d (drive_of w.clocks w.fill w.hold) given.module (size_of given.input.size) given.input.rounds.items _ c.in-Ok-pictures.output.items IsPrefix same c.in-Ok.ensures.input c.in-Ok-pictures.ensures.only_file
     (subst (λ bytes. IfSome (g.D.Desk.outside c.write_file.new.desk).file.bytes (λ written. IsPrefix written bytes)) c.deref.ensures.value (c.in-Err-write_file.ensures.prefix opened))
+
+pub returns-in-Err-pictures-clause-too_long : goal.returns-in-Err-pictures-clause-too_long
+returns-in-Err-pictures-clause-too_long g c =
+    let e = c.in-Err-pictures.ending in
+    both_left _ c.args.self.now.verilog.now c.args.self.now.image.now _ _ e (no_text _ c.args.self.now.verilog.now _ e c.in-Err-pictures.ensures.no_text) (no_images _ c.args.self.now.image.now _ e c.in-Err-pictures.ensures.no_images)

@@ -6,7 +6,8 @@ use Rattle.dk_desk.specs.Calls.{IsIfTold}
 use Rattle.test_bench.specs.declared.drive.Drive.{Drive}
 use Rattle.dk_top.specs.Tracing.{trace_drive, IsTraceAnswer}
 use Rattle.dk_top.proofs.SimReads.{for_trace, of_input}
-use Rattle.dk_top.proofs.TraceLemmas.{held_trace, stay_others}
+use Rattle.dk_top.proofs.TraceLemmas.{held_trace, stay_others, unread_begun, driven_begun}
+use Rattle.dk_top.proofs.LongLemmas.{no_text, no_images, both_left}
 use Rattle.dk_top.proofs.tracing.TraceWordsWork.perform.Goals as goal
 
 pub returns-in-Err-clause-verdict : goal.returns-in-Err-clause-verdict
@@ -45,3 +46,14 @@ returns-clause-files g c = stay_others c.args.self.now.vcd.now _ _ _ (ap (λ (o 
 
 pub returns-clause-files_stay : goal.returns-clause-files_stay
 returns-clause-files_stay g c = λ closed. c.traced.ensures.files_stay closed ∙ ap (λ (o : Outside). o.files) c.in-Ok.ensures.only
+
+pub returns-in-Err-clause-begun : goal.returns-in-Err-clause-begun
+returns-in-Err-clause-begun g c = unread_begun _ c.args.self.now.verilog.now c.args.self.now.image.now c.args.self.now.vcd.now c.args.self.now.clocks c.in-Err.ending _ c.in-Err.ensures.fault
+
+pub returns-clause-begun : goal.returns-clause-begun
+returns-clause-begun g c = driven_begun _ c.args.self.now.verilog.now c.args.self.now.image.now c.args.self.now.vcd.now c.args.self.now.clocks c.traced.result _ c.traced.ensures.begun
+
+pub returns-clause-too_long : goal.returns-clause-too_long
+returns-clause-too_long g c =
+    let e = c.traced.result in
+    both_left _ c.args.self.now.verilog.now c.args.self.now.image.now _ _ e (no_text _ c.args.self.now.verilog.now _ e c.traced.ensures.no_text) (no_images _ c.args.self.now.image.now _ e c.traced.ensures.no_images)

@@ -1,0 +1,168 @@
+-- The module of a compiled text, driven by `sim`, shows the file of the program's pictures.
+use Rattle.std.proofs.Common.{◌≡◌, ◌⊎◌, inl, inr, ℕ, ◌≤◌, ◌+◌, ◌*◌, Bool, List, length, map, refl, sym, ap, ◌∙◌, subst}
+use Rattle.std.proofs.lemmas.List.{length-map}
+use Rattle.dk_base.specs.declared.TheConstants.{MAX_PGM_BYTES, MAX_VERILOG_BYTES}
+use Rattle.dk_base.specs.Frames.{area}
+use Rattle.dk_types.specs.Typed.{Typing}
+use Rattle.dk_types.specs.declared.typed.TypedInput.{TypedInput}
+use Rattle.dk_base.specs.Types.{width_of}
+use Rattle.wiring.specs.Netlist.{Netlist}
+use Rattle.wiring.specs.Order.{IsEvaluationOrder}
+use Rattle.wiring.specs.Rules.{KeepsRules}
+use Rattle.wiring.specs.Clock.{Clock}
+use Rattle.wiring.specs.Snapshot.{Contents, Snapshot, HasPlaces, HasOneSnapshot, HasOneNext}
+use Rattle.wiring.specs.Runs.{Runs, RunStops}
+use Rattle.netlist.specs.Names.{NamedNetlist}
+use Rattle.pointwise_ir.specs.Programs.{Program}
+use Rattle.raster_delay.specs.Systems.{System}
+use Rattle.flow_dual.specs.Solutions.{IsLeastVector}
+use Rattle.flow_dual.specs.declared.solution.Solution.{Solution}
+use Rattle.buffer_plan.specs.Plans.{Plan, latency}
+use Rattle.verilog_text.specs.Stands.{StandsFor}
+use Rattle.cycle_sim.specs.declared.fill.Fill.{Fill}
+use Rattle.cycle_sim.specs.Ports.{din_widths}
+use Rattle.cycle_sim.specs.Filled.{fill_value, filled_words, filled_contents}
+use Rattle.pgm_codec.specs.Images.{Image, file_of}
+use Rattle.pgm_rounds.specs.Ports.{ports_with}
+use Rattle.pgm_rounds.specs.Files.{FitsFile}
+use Rattle.test_bench.specs.Stimulus.{stimulus}
+use Rattle.test_bench.specs.Inputs.{FitsBench, samples_of}
+use Rattle.test_bench.specs.Showing.{IsShown}
+use Rattle.dk_words.specs.declared.command.PowerUp.{PowerUp}
+use Rattle.dk_compile.specs.Limits.{HasSystem}
+use Rattle.dk_compile.specs.Compiled.{IsPlanned}
+use Rattle.dk_compile.specs.declared.compiling.Compiled.{Compiled}
+use Rattle.dk_top.specs.Compiling.{IsCompiledFrom}
+use Rattle.dk_top.specs.Agreement.{IsCompiledInput, whole_drive}
+use Rattle.dk_top.specs.Simulation.{fill_of, FitsModule, IsSimulated}
+use Rattle.dk_top.specs.Program.{ports}
+use Rattle.dk_top.specs.Output.{output_file}
+use Rattle.dk_top.proofs.VerdictLemmas.{OneProgram}
+use Rattle.dk_top.proofs.SimLemmas.{OneRounds, fits_some}
+use Rattle.dk_top.proofs.DriveShown.{PictureLaw, RasterLaw}
+use Rattle.dk_top.proofs.DrivePorts.{widths_same}
+use Rattle.dk_top.proofs.DriveLemmas.{drive_from, form, is_typed, din_widths_are, no_stop, shows_enough, images_same, drive_file}
+
+-- the laws that are used
+pub record Laws : Type 0 where
+  pub one_program : OneProgram
+  pub one_system : (text : List ℕ) (age : ℕ) (p q : Typing) (a b : Program) (s t : System) → HasSystem text age p a s → HasSystem text age q b t → s ≡ t
+  pub one_vector : (s : System) (d e : List ℕ) → IsLeastVector s d → IsLeastVector s e → d ≡ e
+  pub picture : PictureLaw
+  pub rasters : RasterLaw
+  pub valuation : (m : Netlist) (order : List ℕ) → KeepsRules m → IsEvaluationOrder m.assigns order → HasOneSnapshot m
+  pub next : (m : Netlist) → KeepsRules m → HasOneNext m
+  pub some_run : (m : Netlist) → HasOneSnapshot m → HasOneNext m → (from : Contents) (clocks : List Clock) → HasPlaces m from
+      → ((shots : List Snapshot) × (to : Contents) × Runs m from clocks shots to) ⊎ ((shots : List Snapshot) × (x : ℕ) × (i : ℕ) × RunStops m from clocks shots x i)
+  pub one_rounds : OneRounds
+
+filled_places : (fill : Fill) (m : Netlist) → HasPlaces m (filled_contents fill m)
+filled_places fill m = record { regs = length-map m.regs (fill_value fill); arrays = length-map m.arrays (filled_words fill) }
+
+-- two plans of a text at an age are one
+plan_once : Laws → (source : List ℕ) (age : ℕ) (p q : Typing) (a b : Program) (s t : System) (x y : Solution) (plan other : Plan) → IsPlanned source age p a s x plan → IsPlanned source age q b t y other → plan ≡ other
+plan_once laws source age p q a b s t x y plan other one two =
+    let same : s ≡ t = laws.one_system source age p q a b s t one.has two.has in
+    let vector : IsLeastVector t x.delays = subst (λ z. IsLeastVector z x.delays) same (one.solved).vector in
+    let delays : x.delays ≡ y.delays = laws.one_vector t x.delays y.delays vector (two.solved).vector in
+    let made : System → List ℕ → Plan = λ z d. record { system = z; delays = d } in
+    one.plan_is ∙ (ap (λ z. made z x.delays) same ∙ (ap (made t) delays ∙ sym two.plan_is))
+
+module _ (laws : Laws) (source : List ℕ) (age : ℕ) (enable : Bool) (c : Compiled) (from : IsCompiledFrom source age enable c) (text file : List ℕ) (rounds : List (List Image)) (is_text : text ≡ c.text.items) (fits : FitsFile (ports from.program) file rounds) (power : PowerUp) where
+  abbrev q : Typing
+  q = from.program
+
+  abbrev m : Netlist
+  m = (c.«module»).netlist
+
+  abbrev fill : Fill
+  fill = fill_of power
+
+  abbrev clocks : ℕ
+  clocks = length rounds * area q.size + latency c.plan
+
+  bench : FitsBench (din_widths m) file q.size rounds
+  bench =
+      let typed = is_typed source age enable q c.ir c.system c.solution c.plan c.«module» c.nets.items c.text.items from.is in
+      let given = form source age enable q c.ir c.system c.solution c.plan c.«module» c.nets.items c.text.items from.is in
+      let dins = din_widths_are source age enable q c.ir c.system c.solution c.plan c.«module» c.nets.items c.text.items from.is in
+      let widths : map width_of (map (λ (i : TypedInput). i.ty) q.inputs) ≡ din_widths m = widths_same q c.ir given ∙ sym dins in
+      record { frame = typed.frame; fits = subst (λ ws. FitsFile (ports_with q.size ws) file rounds) widths fits }
+
+  stands : StandsFor text c.«module»
+  stands = subst (λ t. StandsFor t c.«module») (sym is_text) (from.is.printed).stands
+
+  abbrev begin : Contents
+  begin = filled_contents fill m
+
+  abbrev given_clocks : List Clock
+  given_clocks = stimulus (drive_from fill clocks) (din_widths m) (samples_of rounds)
+
+  -- the module runs over all clocks
+  ran : (shots : List Snapshot) × (to : Contents) × Runs m begin given_clocks shots to
+  ran = by (laws.some_run m (laws.valuation m from.is.circuit.whole.order from.is.circuit.whole.rules from.is.circuit.whole.ordered) (laws.next m from.is.circuit.whole.rules) begin given_clocks (filled_places fill m))
+    where
+      by : ((shots : List Snapshot) × (to : Contents) × Runs m begin given_clocks shots to) ⊎ ((shots : List Snapshot) × (x : ℕ) × (i : ℕ) × RunStops m begin given_clocks shots x i)
+          → (shots : List Snapshot) × (to : Contents) × Runs m begin given_clocks shots to
+      by (inl run) = run
+      by (inr (shots, x, i, stops)) =
+          absurd (no_stop source age enable q c.ir c.system c.solution c.plan c.«module» c.nets.items c.text.items from.is file rounds fits fill laws.picture laws.rasters clocks refl shots x i stops)
+
+  shown : IsShown m (drive_from fill clocks) q.size (samples_of rounds) (output_file q rounds)
+  shown =
+      let (shots, to, runs) = ran in
+      record {
+        shots = shots;
+        run = record { to = to; runs = runs };
+        enough = shows_enough source age enable q c.ir c.system c.solution c.plan c.«module» c.nets.items c.text.items from.is file rounds fits fill laws.picture laws.rasters clocks refl shots (record { to = to; runs = runs });
+        file_is = sym (ap file_of (images_same source age enable q c.ir c.system c.solution c.plan c.«module» c.nets.items c.text.items from.is file rounds fits fill laws.picture laws.rasters clocks refl shots (record { to = to; runs = runs })));
+      }
+
+  sim_file : length text ≤ MAX_VERILOG_BYTES → length file ≤ MAX_PGM_BYTES → IsSimulated (drive_from fill clocks) text file (output_file q rounds)
+  sim_file short small = record {
+    m = c.«module»;
+    made = record { within = short; stands = stands; enable = λ some. let apart : ⊥ = cc in absurd apart };
+    size = q.size;
+    images = rounds;
+    fits = record { within = small; fits = bench };
+    shown = shown;
+  }
+
+  only_file : (pictures : List ℕ) → IsSimulated (drive_from fill clocks) text file pictures → pictures ≡ output_file q rounds
+  only_file pictures other =
+      let same : other.m ≡ c.«module» = (from.is.printed).only other.m (subst (λ t. StandsFor t other.m) is_text (other.made).stands) in
+      let fits_other : FitsModule c.«module» file other.size other.images = subst (λ (n : NamedNetlist). FitsModule n file other.size other.images) same other.fits in
+      let both = laws.one_rounds (din_widths m) (fits_some (din_widths m) file q.size rounds bench) file other.size q.size other.images rounds fits_other.fits bench in
+      let first : IsShown m (drive_from fill clocks) other.size (samples_of other.images) pictures = subst (λ (n : NamedNetlist). IsShown n.netlist (drive_from fill clocks) other.size (samples_of other.images) pictures) same other.shown in
+      let second : IsShown m (drive_from fill clocks) q.size (samples_of other.images) pictures = subst (λ z. IsShown m (drive_from fill clocks) z (samples_of other.images) pictures) both.0 first in
+      let third : IsShown m (drive_from fill clocks) q.size (samples_of rounds) pictures = subst (λ z. IsShown m (drive_from fill clocks) q.size (samples_of z) pictures) both.1 second in
+      drive_file source age enable q c.ir c.system c.solution c.plan c.«module» c.nets.items c.text.items from.is file rounds fits fill laws.picture laws.rasters clocks refl pictures third
+
+-- what `sim` shows of a text that is compiled, by any plan of its program
+module _ (laws : Laws) (source text file : List ℕ) (age : ℕ) (enable : Bool) (p : Typing) (plan : Plan) (rounds : List (List Image)) (given : IsCompiledInput source age enable p plan text file rounds) (power : PowerUp) where
+  abbrev c : Compiled
+  c = given.compiled.compiled
+
+  from : IsCompiledFrom source age enable c
+  from = given.compiled.from
+
+  same : from.program ≡ p
+  same = laws.one_program source from.program p from.is.planned.has.front.program given.has_plan.planned.has.front.program
+
+  same_plan : c.plan ≡ plan
+  same_plan = plan_once laws source age from.program p c.ir given.has_plan.ir c.system given.has_plan.system c.solution given.has_plan.solution c.plan plan from.is.planned given.has_plan.planned
+
+  fits : FitsFile (ports from.program) file rounds
+  fits = subst (λ (x : Typing). FitsFile (ports x) file rounds) (sym same) given.fits.holds
+
+  pub sim_shows : IsSimulated (whole_drive power p.size (length rounds) (latency plan)) text file (output_file p rounds)
+  sim_shows =
+      subst (λ (z : Plan). IsSimulated (whole_drive power p.size (length rounds) (latency z)) text file (output_file p rounds)) same_plan
+      (subst (λ (x : Typing). IsSimulated (whole_drive power x.size (length rounds) (latency c.plan)) text file (output_file x rounds)) same
+      (sim_file laws source age enable c from text file rounds given.compiled.is fits power given.short given.fits.within))
+
+  pub sim_only : (pictures : List ℕ) → IsSimulated (whole_drive power p.size (length rounds) (latency plan)) text file pictures → pictures ≡ output_file p rounds
+  sim_only pictures other =
+      let back : IsSimulated (whole_drive power p.size (length rounds) (latency c.plan)) text file pictures = subst (λ (z : Plan). IsSimulated (whole_drive power p.size (length rounds) (latency z)) text file pictures) (sym same_plan) other in
+      let mine : IsSimulated (whole_drive power from.program.size (length rounds) (latency c.plan)) text file pictures = subst (λ (x : Typing). IsSimulated (whole_drive power x.size (length rounds) (latency c.plan)) text file pictures) (sym same) back in
+      only_file laws source age enable c from text file rounds given.compiled.is fits power pictures mine ∙ ap (λ (x : Typing). output_file x rounds) same

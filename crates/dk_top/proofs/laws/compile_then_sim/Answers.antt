@@ -1,0 +1,20 @@
+use Rattle.dk_top.proofs.AgreeLemmas.{Laws, sim_shows, sim_only}
+use Rattle.dk_top.proofs.laws.compile_then_sim.Goals as goal
+
+pub returns : goal.returns
+returns c =
+    let laws : Laws = record {
+      one_program = c.one_source.ensures.program;
+      one_system = c.one_at_age.ensures.system;
+      one_vector = c.one_limit.ensures.vector;
+      picture = c.drive_shows.ensures.picture;
+      rasters = c.drive_shows.ensures.rasters;
+      valuation = c.one_valuation.ensures;
+      next = c.one_next.ensures;
+      some_run = c.one_run.ensures.some;
+      one_rounds = c.one_input.ensures.rounds;
+    } in
+    record {
+      shows = λ source text file age enable p plan rounds given power. sim_shows laws source text file age enable p plan rounds given power;
+      only = λ source text file age enable p plan rounds given power. sim_only laws source text file age enable p plan rounds given power;
+    }

@@ -1,0 +1,7 @@
+use Rattle.dk_endings.specs.declared.ending.Ending.TheVariants as ending
+use Rattle.dk_top.proofs.LongLemmas.{no_text}
+use Rattle.dk_top.proofs.running.read_machine.Goals as goal
+
+pub returns-in-Err-read_again-clause-left : goal.returns-in-Err-read_again-clause-left
+returns-in-Err-read_again-clause-left g c =
+    no_text (g.D.Desk.outside c.args.desk.now).files c.args.program.now (g.D.Desk.outside c.read_compiled.new.desk).program ending.Memory (λ file slot. tt)
