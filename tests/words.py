@@ -46,6 +46,7 @@ docs/BENCH.md
 docs/ARCHITECTURE.md
 docs/COMMANDS.md
 docs/BUILDING.md
+docs/PROMISES.md
 crates/base_tests/README.md
 crates/block_code/README.md
 crates/block_plan/README.md
