@@ -25,6 +25,7 @@ use Rattle.cycle_sim.specs.Filled.{fill_value, filled_words, filled_contents}
 use Rattle.pgm_codec.specs.Images.{Image, file_of}
 use Rattle.pgm_rounds.specs.Ports.{ports_with}
 use Rattle.pgm_rounds.specs.Files.{FitsFile}
+use Rattle.test_bench.specs.declared.drive.Drive.{Drive}
 use Rattle.test_bench.specs.Stimulus.{stimulus}
 use Rattle.test_bench.specs.Inputs.{FitsBench, samples_of}
 use Rattle.test_bench.specs.Showing.{IsShown}
@@ -33,7 +34,7 @@ use Rattle.dk_compile.specs.Limits.{HasSystem}
 use Rattle.dk_compile.specs.Compiled.{IsPlanned}
 use Rattle.dk_compile.specs.declared.compiling.Compiled.{Compiled}
 use Rattle.dk_top.specs.Compiling.{IsCompiledFrom}
-use Rattle.dk_top.specs.Agreement.{IsCompiledInput, whole_drive}
+use Rattle.dk_top.specs.Agreement.{CompiledInput, whole_drive}
 use Rattle.dk_top.specs.Simulation.{fill_of, FitsModule, IsSimulated}
 use Rattle.dk_top.specs.Program.{ports}
 use Rattle.dk_top.specs.Output.{output_file}
@@ -139,30 +140,34 @@ module _ (laws : Laws) (source : List ℕ) (age : ℕ) (enable : Bool) (c : Comp
       drive_file source age enable q c.ir c.system c.solution c.plan c.«module» c.nets.items c.text.items from.is file rounds fits fill laws.picture laws.rasters clocks refl pictures third
 
 -- what `sim` shows of a text that is compiled, by any plan of its program
-module _ (laws : Laws) (source text file : List ℕ) (age : ℕ) (enable : Bool) (p : Typing) (plan : Plan) (rounds : List (List Image)) (given : IsCompiledInput source age enable p plan text file rounds) (power : PowerUp) where
+module _ (laws : Laws) (given : CompiledInput) (power : PowerUp) where
   abbrev c : Compiled
   c = given.compiled.compiled
 
-  from : IsCompiledFrom source age enable c
+  from : IsCompiledFrom given.source given.age given.enable c
   from = given.compiled.from
 
-  same : from.program ≡ p
-  same = laws.one_program source from.program p from.is.planned.has.front.program given.has_plan.planned.has.front.program
+  same : from.program ≡ given.program
+  same = laws.one_program given.source from.program given.program from.is.planned.has.front.program given.has_plan.planned.has.front.program
 
-  same_plan : c.plan ≡ plan
-  same_plan = plan_once laws source age from.program p c.ir given.has_plan.ir c.system given.has_plan.system c.solution given.has_plan.solution c.plan plan from.is.planned given.has_plan.planned
+  same_plan : c.plan ≡ given.plan
+  same_plan = plan_once laws given.source given.age from.program given.program c.ir given.has_plan.ir c.system given.has_plan.system c.solution given.has_plan.solution c.plan given.plan from.is.planned given.has_plan.planned
 
-  fits : FitsFile (ports from.program) file rounds
-  fits = subst (λ (x : Typing). FitsFile (ports x) file rounds) (sym same) given.fits.holds
+  fits : FitsFile (ports from.program) given.file given.rounds
+  fits = subst (λ (x : Typing). FitsFile (ports x) given.file given.rounds) (sym same) given.fits.holds
 
-  pub sim_shows : IsSimulated (whole_drive power p.size (length rounds) (latency plan)) text file (output_file p rounds)
+  -- how a program of this plan is driven
+  abbrev driven : Typing → Plan → Drive
+  driven x z = drive_from (fill_of power) (length given.rounds * area x.size + latency z)
+
+  pub sim_shows : IsSimulated (whole_drive given power) given.text given.file (output_file given.program given.rounds)
   sim_shows =
-      subst (λ (z : Plan). IsSimulated (whole_drive power p.size (length rounds) (latency z)) text file (output_file p rounds)) same_plan
-      (subst (λ (x : Typing). IsSimulated (whole_drive power x.size (length rounds) (latency c.plan)) text file (output_file x rounds)) same
-      (sim_file laws source age enable c from text file rounds given.compiled.is fits power given.short given.fits.within))
+      subst (λ (z : Plan). IsSimulated (driven given.program z) given.text given.file (output_file given.program given.rounds)) same_plan
+      (subst (λ (x : Typing). IsSimulated (driven x c.plan) given.text given.file (output_file x given.rounds)) same
+      (sim_file laws given.source given.age given.enable c from given.text given.file given.rounds given.compiled.is fits power given.short given.fits.within))
 
-  pub sim_only : (pictures : List ℕ) → IsSimulated (whole_drive power p.size (length rounds) (latency plan)) text file pictures → pictures ≡ output_file p rounds
+  pub sim_only : (pictures : List ℕ) → IsSimulated (whole_drive given power) given.text given.file pictures → pictures ≡ output_file given.program given.rounds
   sim_only pictures other =
-      let back : IsSimulated (whole_drive power p.size (length rounds) (latency c.plan)) text file pictures = subst (λ (z : Plan). IsSimulated (whole_drive power p.size (length rounds) (latency z)) text file pictures) (sym same_plan) other in
-      let mine : IsSimulated (whole_drive power from.program.size (length rounds) (latency c.plan)) text file pictures = subst (λ (x : Typing). IsSimulated (whole_drive power x.size (length rounds) (latency c.plan)) text file pictures) (sym same) back in
-      only_file laws source age enable c from text file rounds given.compiled.is fits power pictures mine ∙ ap (λ (x : Typing). output_file x rounds) same
+      let back : IsSimulated (driven given.program c.plan) given.text given.file pictures = subst (λ (z : Plan). IsSimulated (driven given.program z) given.text given.file pictures) (sym same_plan) other in
+      let mine : IsSimulated (driven from.program c.plan) given.text given.file pictures = subst (λ (x : Typing). IsSimulated (driven x c.plan) given.text given.file pictures) (sym same) back in
+      only_file laws given.source given.age given.enable c from given.text given.file given.rounds given.compiled.is fits power pictures mine ∙ ap (λ (x : Typing). output_file x given.rounds) same

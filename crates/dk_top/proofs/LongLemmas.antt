@@ -40,6 +40,11 @@ pub no_text : (told : Option Files) (name : List ℕ) (slot : Input) (e : Ending
 no_text None name slot e h = tt
 no_text (Some f) name slot e h = h (bytes_of f name) slot
 
+-- out of memory is an ending whatever the files are
+pub out_of_memory : (told : Option Files) (is : Files → SourceFault → Type 0) → IfSome told (λ f. IsSourceEnding (is f) ending.Memory)
+out_of_memory None is = tt
+out_of_memory (Some f) is = tt
+
 pub no_images : (told : Option Files) (name : List ℕ) (slot : Input) (e : Ending) → TellsNoImages e → IfSome told (λ f. LeavesImages e (bytes_of f name) slot)
 no_images None name slot e h = tt
 no_images (Some f) name slot e h = h (bytes_of f name) slot

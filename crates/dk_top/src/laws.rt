@@ -1,6 +1,6 @@
 //! What the definitions say together.
 
-ghost use Rattle.std.specs.Prelude.{◌≡◌, ℕ, ◌<◌, ◌≤◌, Bool, List, length, Option, Some};
+ghost use Rattle.std.specs.Prelude.{◌≡◌, ℕ, ◌<◌, ◌≤◌, List, length, Option, Some};
 ghost use Rattle.dk_base.specs.Stencils.{Stencils};
 ghost use Rattle.dk_compile.specs.declared.fault.SourceFault.{SourceFault};
 ghost use Rattle.dk_plan.specs.declared.judging.Claim.{Claim as TheClaim};
@@ -9,10 +9,8 @@ ghost use Rattle.dk_top.specs.Program.{CanBeCompiled};
 ghost use Rattle.dk_top.specs.Plans.{HasStencils, IsConfirmed, IsWrongLine};
 ghost use Rattle.dk_top.specs.Streaming.{ReadsToFault, ReadsToFailure};
 ghost use Rattle.dk_types.specs.Typed.{Typing};
-ghost use Rattle.buffer_plan.specs.Plans.{Plan, latency};
-ghost use Rattle.pgm_codec.specs.Images.{Image as OneImage};
 ghost use Rattle.dk_words.specs.declared.command.PowerUp.{PowerUp as OnePower};
-ghost use Rattle.dk_top.specs.Agreement.{IsCompiledInput, whole_drive};
+ghost use Rattle.dk_top.specs.Agreement.{CompiledInput, whole_drive};
 ghost use Rattle.dk_top.specs.Output.{output_file};
 ghost use Rattle.dk_top.specs.Simulation.{IsSimulated};
 
@@ -41,8 +39,8 @@ pub fn one_rest()
 
 /// Laws: `sim` shows, of each text that a program is compiled to, with the port `en` or without it, the file that `run` writes of the program: the pictures by its meaning, on each file of images that fits it. From zeros and from ones, the module is clocked once for each pixel and then for the latency.
 pub fn compile_then_sim()
-    ensures shows { (source text file : List ℕ) (age : ℕ) (enable : Bool) (p : Typing) (plan : Plan) (rounds : List (List OneImage)) → IsCompiledInput source age enable p plan text file rounds → (power : OnePower) → IsSimulated (whole_drive power p.size (length rounds) (latency plan)) text file (output_file p rounds) }
-    ensures only { (source text file : List ℕ) (age : ℕ) (enable : Bool) (p : Typing) (plan : Plan) (rounds : List (List OneImage)) → IsCompiledInput source age enable p plan text file rounds → (power : OnePower) (pictures : List ℕ) → IsSimulated (whole_drive power p.size (length rounds) (latency plan)) text file pictures → pictures ≡ output_file p rounds }
+    ensures shows { (given : CompiledInput) (fill : OnePower) → IsSimulated (whole_drive given fill) given.text given.file (output_file given.program given.rounds) }
+    ensures only { (given : CompiledInput) (fill : OnePower) (pictures : List ℕ) → IsSimulated (whole_drive given fill) given.text given.file pictures → pictures ≡ output_file given.program given.rounds }
 {
     dk_compile::one_source();
     dk_compile::one_at_age();

@@ -15,6 +15,6 @@ returns c =
       one_rounds = c.one_input.ensures.rounds;
     } in
     record {
-      shows = λ source text file age enable p plan rounds given power. sim_shows laws source text file age enable p plan rounds given power;
-      only = λ source text file age enable p plan rounds given power. sim_only laws source text file age enable p plan rounds given power;
+      shows = λ given fill. sim_shows laws given fill;
+      only = λ given fill. sim_only laws given fill;
     }

@@ -1,6 +1,12 @@
+use Rattle.dk_compile.specs.Limits.{IsFaultAt}
 use Rattle.dk_endings.specs.declared.ending.Ending.TheVariants as ending
-use Rattle.dk_top.proofs.LongLemmas.{no_text}
+use Rattle.dk_top.specs.Verdict.{bytes_of}
+use Rattle.dk_top.proofs.LongLemmas.{no_text, out_of_memory}
 use Rattle.dk_top.proofs.running.read_machine.Goals as goal
+
+pub returns-in-Err-read_again-clause-fault : goal.returns-in-Err-read_again-clause-fault
+returns-in-Err-read_again-clause-fault g c =
+    out_of_memory (g.D.Desk.outside c.args.desk.now).files (λ files. IsFaultAt (bytes_of files c.args.program.now) c.args.age)
 
 pub returns-in-Err-read_again-clause-left : goal.returns-in-Err-read_again-clause-left
 returns-in-Err-read_again-clause-left g c =
