@@ -2,6 +2,7 @@
 """Makes the pictures of docs/GALLERY.md by a built program.
 
 usage: tools/gallery.py PROGRAM [FOLDER]      FOLDER is docs/gallery by default
+       tools/gallery.py --check PROGRAM       compares only the plans of docs/gallery, which takes seconds
 
 For each line of examples/programs/pictures.txt it writes
     INPUT.png        the input, made here by formulas, with frames of 256 by 192
@@ -18,12 +19,15 @@ import sys
 import tempfile
 
 TOP = os.path.join(os.path.dirname(os.path.abspath(__file__)), "..")
+sys.dont_write_bytecode = True
 sys.path += [os.path.join(TOP, "tests"), os.path.join(TOP, "tools")]
 import pictures as formulas  # noqa: E402
+import plan  # noqa: E402
 import png  # noqa: E402
 
 WIDTH, HEIGHT = formulas.WIDTH, formulas.HEIGHT = 256, 192
 EXAMPLES = os.path.join(TOP, "examples", "programs")
+GALLERY = os.path.join(TOP, "docs", "gallery")
 
 
 # The inputs
@@ -191,11 +195,25 @@ def ports(text, word):
     return sum(line.startswith(word + " ") for line in text.splitlines())
 
 
-def plan(program, example, target):
-    report = subprocess.run([program, "plan", example], check=True, capture_output=True).stdout
-    drawn = subprocess.run([sys.executable, os.path.join(TOP, "tools", "plan.py"), "-", example], input=report, check=True, capture_output=True)
-    with open(target, "wb") as file:
-        file.write(drawn.stdout)
+def table():
+    """Each example of the gallery with the name of its input."""
+    with open(os.path.join(EXAMPLES, "pictures.txt"), encoding="ascii") as lines:
+        return [line.split() for line in lines]
+
+
+def plan_of(program, name):
+    """The picture of the plan of an example."""
+    example = os.path.join(EXAMPLES, name + ".dk")
+    report = plan.Report(subprocess.run([program, "plan", example], check=True, capture_output=True, text=True).stdout)
+    with open(example, encoding="ascii") as file:
+        return plan.draw(report, plan.live_reads(report, plan.Program(file.read())), True)
+
+
+def check_plans(program):
+    for name, _ in table():
+        path = os.path.join(GALLERY, name + "-plan.svg")
+        if not os.path.exists(path) or open(path, encoding="ascii").read() != plan_of(program, name):
+            sys.exit(f"gallery.py: docs/gallery/{name}-plan.svg is not the plan of the program")
 
 
 def show(program, name, source, folder, aside):
@@ -210,26 +228,31 @@ def show(program, name, source, folder, aside):
     subprocess.run([program, "run", larger, given, made], check=True)
     png.show(given, os.path.join(folder, source + ".png"), ports(text, "input"))
     png.show(made, os.path.join(folder, name + ".png"), ports(text, "output"))
-    plan(program, example, os.path.join(folder, name + "-plan.svg"))
+    with open(os.path.join(folder, name + "-plan.svg"), "w", encoding="ascii") as file:
+        file.write(plan_of(program, name))
     with open(made, "rb") as file:
         return file.read()
 
 
-def main(words):
-    if len(words) not in (1, 2):
-        sys.exit(__doc__)
-    program = os.path.abspath(words[0])
-    folder = words[1] if words[1:] else os.path.join(TOP, "docs", "gallery")
+def make(program, folder):
     given = inputs()
     expected = {name: formulas.file_of(images) for name, images in formulas.results(given)}
     with tempfile.TemporaryDirectory() as aside:
         for name, images in given.items():
             with open(os.path.join(aside, name + ".pgm"), "wb") as file:
                 file.write(formulas.file_of(images))
-        with open(os.path.join(EXAMPLES, "pictures.txt"), encoding="ascii") as table:
-            for name, source in map(str.split, table):
-                if show(program, name, source, folder, aside) != expected[name]:
-                    sys.exit(f"gallery.py: the picture of {name} is not that of its formula")
+        for name, source in table():
+            if show(program, name, source, folder, aside) != expected[name]:
+                sys.exit(f"gallery.py: the picture of {name} is not that of its formula")
+
+
+def main(words):
+    if words[:1] == ["--check"] and len(words) == 2:
+        check_plans(os.path.abspath(words[1]))
+    elif len(words) in (1, 2):
+        make(os.path.abspath(words[0]), words[1] if words[1:] else GALLERY)
+    else:
+        sys.exit(__doc__)
 
 
 if __name__ == "__main__":
