@@ -7,7 +7,7 @@ use Rattle.std.specs.declared.alloc.Global.{Global}
 use Rattle.block_rows.specs.declared.code.Instruction.{Instruction}
 use Rattle.block_rows.specs.Rights.{items_of, HaveRoom}
 use Rattle.block_rows.specs.Code.{AreRows}
-use Rattle.block_sim.specs.declared.table.Table.{Table}
+use Rattle.block_sim.specs.declared.rows.table.Table.{Table}
 use Rattle.block_sim.specs.Table.{IsTable}
 
 zeros_are : (widths : List ℕ) (slots long : ℕ) → slots ≡ length widths → AreRows widths long (replicate slots (replicate long 0))

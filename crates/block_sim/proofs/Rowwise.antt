@@ -18,6 +18,8 @@ use Rattle.block_rows.specs.Rights.{value_at}
 use Rattle.block_code.specs.Rows.{RowsRan}
 use Rattle.block_sim.specs.Called.{din_count, output_count, of_clock, block_clocks, Came}
 use Rattle.block_sim.specs.Checked.{input_of, AreInputRows}
+use Rattle.block_sim.specs.declared.inputs.Piece.{Piece}
+use Rattle.block_sim.specs.Pieces.{clocks_in}
 use Rattle.block_sim.specs.Shown.{row_out, AreRowOuts}
 use Rattle.block_sim.proofs.Clockwise.{drop_more, same_place, put_here, clock_at, clocks_count, take_whole, place_size, half_is}
 
@@ -65,15 +67,6 @@ module _ (m : Netlist) (enables : List Bool) (dins : List ℕ) (first size : ℕ
       let within : first + t < length enables = omega (arith, slice_get_within (block_clocks m enables dins) (first + t) c f.1, clocks_count (din_count m) enables dins) in
       (f.0, same_Some c (record { reset = false; enable = slice_index_or enables (first + t) false; dins = of_clock (din_count m) (first + t) dins }) (sym f.1 ∙ clock_at (din_count m) enables dins (first + t) (slice_index_or enables (first + t) false) (slice_get-get_or enables (first + t) false within)))
 
-  pub piece_given : (has_enable : Bool) (ports inputs : ℕ) → has_enable ≡ m.enable → ports ≡ din_count m → inputs ≡ length m.inputs → (rows : List (List ℕ)) → AreInputRows has_enable ports enables dins first size inputs rows →
-      (t i : ℕ) (c : Clock) → slice_get piece t ≡ Some c → i < length m.inputs → value_at rows t i ≡ slice_index (given m c) i
-  piece_given has_enable ports inputs e p n rows are t i c at l =
-      let f = clock_is t c at in
-      are i (omega (arith, l, n)) t f.0
-      ∙ ap (λ (b : Bool). input_of b ports enables dins (first + t) i) e
-      ∙ ap (λ (k : ℕ). input_of m.enable k enables dins (first + t) i) p
-      ∙ ap (λ (k : Clock). slice_index (given m k) i) (sym f.1)
-
   pub piece_fits : All (λ (c : Clock). Fit (din_widths m) c.dins) (block_clocks m enables dins) → All (λ (c : Clock). Fit (din_widths m) c.dins) piece
   piece_fits all = All-from_at (λ (c : Clock). Fit (din_widths m) c.dins) piece (λ t c at. All-at (λ (k : Clock). Fit (din_widths m) k.dins) (block_clocks m enables dins) (first + t) c all (got_in (block_clocks m enables dins) first size t c at).1)
 
@@ -86,6 +79,16 @@ module _ (m : Netlist) (enables : List Bool) (dins : List ℕ) (first size : ℕ
       long_in (x ∷ xs) zero (suc n) h = ap suc (long_in xs 0 n (omega (arith, h)))
       long_in [] (suc k) n h = absurd (omega (arith, h))
       long_in (x ∷ xs) (suc k) n h = long_in xs k n (omega (arith, h))
+
+-- the rows of the inputs are what the clocks of a piece are given
+pub piece_given : (m : Netlist) (p : Piece) (has_enable : Bool) (ports inputs : ℕ) → has_enable ≡ m.enable → ports ≡ din_count m → inputs ≡ length m.inputs → (rows : List (List ℕ)) → AreInputRows has_enable ports p inputs rows →
+    (t i : ℕ) (c : Clock) → slice_get (clocks_in m p) t ≡ Some c → i < length m.inputs → value_at rows t i ≡ slice_index (given m c) i
+piece_given m p has_enable ports inputs e same n rows are t i c at l =
+    let f = clock_is m p.inputs.enables.now p.inputs.dins.now p.first p.count t c at in
+    are i (omega (arith, l, n)) t f.0
+    ∙ ap (λ (b : Bool). input_of b ports p.inputs.enables.now p.inputs.dins.now (p.first + t) i) e
+    ∙ ap (λ (k : ℕ). input_of m.enable k p.inputs.enables.now p.inputs.dins.now (p.first + t) i) same
+    ∙ ap (λ (k : Clock). slice_index (given m k) i) (sym f.1)
 
 -- ---- a piece behind what came
 

@@ -11,7 +11,7 @@ use Rattle.wiring.proofs.Local.{right_local}
 use Rattle.block_rows.specs.declared.code.Instruction.{Instruction}
 use Rattle.block_rows.specs.Rights.{items_of, value_at, HaveRoom}
 use Rattle.block_rows.specs.Code.{AreRows, AllHold}
-use Rattle.block_sim.specs.declared.table.Table.{Table}
+use Rattle.block_sim.specs.declared.rows.table.Table.{Table}
 use Rattle.block_sim.specs.Table.{AreFirstUses, IsTable, IsRefilled}
 
 module _ (widths : List ℕ) (code : List Instruction) (uses : List ℕ) (first : AreFirstUses code uses) (long done slot : ℕ) (free : done ≤ slice_index uses slot)

@@ -1,11 +1,17 @@
 -- The arrays over the clocks of a block.
-use Rattle.std.specs.Prelude.{◌≡◌, ℕ, ◌<◌, ◌≤◌, List, [], length, slice_index, slice_index_or, slice_get, Some}
+use Rattle.std.specs.Prelude.{◌≡◌, ℕ, ◌<◌, ◌≤◌, List, [], length, slice_index, slice_index_or, slice_get, Some, Vec}
+use Rattle.std.specs.declared.alloc.Global.{Global}
+use Rattle.cycle_sim.specs.Slots.{words_of}
 use Rattle.block_rows.specs.Rights.{HasRow}
 use Rattle.block_rows.specs.Rows.{words_after, IsReadUpTo, AreInside}
 use Rattle.block_code.specs.declared.code.WordRead.{WordRead}
-use Rattle.block_sim.specs.declared.arrays.ArrayRoom.{ArrayRoom}
+use Rattle.block_sim.specs.declared.judge.arrays.ArrayRoom.{ArrayRoom}
 use Rattle.block_code.specs.declared.code.WordPut.{WordPut}
 use Rattle.block_code.specs.Rows.{atom_at, words_put, KeepsArray}
+
+-- the words of one of some arrays
+abbrev pub words_at : List (Vec ℕ Global) → ℕ → List ℕ
+words_at arrays x = slice_index_or (words_of arrays) x []
 
 -- an array was read and written over so many clocks, and what was read is the target's row
 pub record IsPassed (old new lost read index value target : List ℕ) (count : ℕ) : Type 0 where
@@ -23,7 +29,8 @@ PutsInside rows p count depth = (t : ℕ) → t < count → atom_at rows t p.ind
 
 -- what each put took away
 abbrev pub WasLost : List (List ℕ) → WordPut → List ℕ → List ℕ → ℕ → Type 0
-WasLost rows p words lost count = (t : ℕ) → t < count → slice_index lost t ≡ slice_index (words_put rows p words t) (atom_at rows t p.index)
+WasLost rows p words lost count =
+    (t : ℕ) → t < count → slice_index lost t ≡ slice_index (words_put rows p words t) (atom_at rows t p.index)
 
 -- the rows of an array's indexes, value and target have so many clocks
 pub record HaveAccessRows (rows : List (List ℕ)) (count : ℕ) (r : WordRead) (p : WordPut) : Type 0 where
@@ -36,16 +43,19 @@ pub record HaveAccessRows (rows : List (List ℕ)) (count : ℕ) (r : WordRead) 
 -- the first so many arrays hold their words behind the block, and the others those before it
 pub record ArePut (rows : List (List ℕ)) (puts : List WordPut) (count : ℕ) (before now : List (List ℕ)) (done : ℕ) : Type 0 where
   pub same : length now ≡ length before
-  pub put : (x : ℕ) (p : WordPut) → x < done → slice_get puts x ≡ Some p → slice_index_or now x [] ≡ words_put rows p (slice_index_or before x []) count
+  pub put : (x : ℕ) (p : WordPut) → x < done → slice_get puts x ≡ Some p →
+      slice_index_or now x [] ≡ words_put rows p (slice_index_or before x []) count
   pub left : (x : ℕ) → done ≤ x → slice_index_or now x [] ≡ slice_index_or before x []
 
 -- what each put of the first so many arrays took away is kept
 abbrev pub AreLost : List (List ℕ) → List WordPut → ℕ → List (List ℕ) → List (List ℕ) → ℕ → Type 0
-AreLost rows puts count before lost done = (x : ℕ) (p : WordPut) → x < done → slice_get puts x ≡ Some p → PutsInside rows p count (length (slice_index_or before x [])) × WasLost rows p (slice_index_or before x []) (slice_index_or lost x []) count
+AreLost rows puts count before lost done = (x : ℕ) (p : WordPut) → x < done → slice_get puts x ≡ Some p →
+    PutsInside rows p count (length (slice_index_or before x [])) × WasLost rows p (slice_index_or before x []) (slice_index_or lost x []) count
 
 -- the equations of the first so many arrays are kept
 abbrev pub AreKept : List (List ℕ) → List WordRead → List WordPut → ℕ → List (List ℕ) → ℕ → Type 0
-AreKept rows reads puts count before done = (x : ℕ) (r : WordRead) (p : WordPut) → x < done → slice_get reads x ≡ Some r → slice_get puts x ≡ Some p → KeepsArray rows count (slice_index_or before x []) r p
+AreKept rows reads puts count before done = (x : ℕ) (r : WordRead) (p : WordPut) → x < done →
+    slice_get reads x ≡ Some r → slice_get puts x ≡ Some p → KeepsArray rows count (slice_index_or before x []) r p
 
 -- room for so many clocks
 pub record IsArrayRoom (r : ArrayRoom) (count : ℕ) : Type 0 where
@@ -55,7 +65,8 @@ pub record IsArrayRoom (r : ArrayRoom) (count : ℕ) : Type 0 where
 
 -- the rows of all arrays' indexes, values and targets have so many clocks
 abbrev pub AreAccessRows : List (List ℕ) → ℕ → List WordRead → List WordPut → Type 0
-AreAccessRows rows count reads puts = (x : ℕ) (r : WordRead) (p : WordPut) → slice_get reads x ≡ Some r → slice_get puts x ≡ Some p → HaveAccessRows rows count r p
+AreAccessRows rows count reads puts =
+    (x : ℕ) (r : WordRead) (p : WordPut) → slice_get reads x ≡ Some r → slice_get puts x ≡ Some p → HaveAccessRows rows count r p
 
 -- each of so many lists has room for so many clocks
 abbrev pub HaveLong : List (List ℕ) → ℕ → Type 0
@@ -63,4 +74,19 @@ HaveLong lists count = (x : ℕ) → x < length lists → count ≤ length (slic
 
 -- the puts of the first so many arrays are inside
 abbrev pub AreInsideAll : List (List ℕ) → List WordPut → ℕ → List (List ℕ) → ℕ → Type 0
-AreInsideAll rows puts count arrays done = (x : ℕ) (p : WordPut) → x < done → slice_get puts x ≡ Some p → PutsInside rows p count (length (slice_index_or arrays x []))
+AreInsideAll rows puts count arrays done =
+    (x : ℕ) (p : WordPut) → x < done → slice_get puts x ≡ Some p → PutsInside rows p count (length (slice_index_or arrays x []))
+
+-- the rows of all puts' indexes and values have so many clocks
+abbrev pub HavePutRows : List (List ℕ) → ℕ → List WordPut → Type 0
+HavePutRows rows count puts = (x : ℕ) (p : WordPut) → slice_get puts x ≡ Some p → HasRow rows count p.index × HasRow rows count p.value
+
+-- what so many clocks left of some words is these words again, with what each put took away
+abbrev pub TakesBack : List (List ℕ) → WordPut → ℕ → (lost old new : List ℕ) → Type 0
+TakesBack rows p count lost old new = (before : List ℕ) →
+    old ≡ words_put rows p before count → length old ≡ length before → WasLost rows p before lost count → new ≡ before
+
+-- the same of the first so many arrays
+abbrev pub AllTakenBack : List (List ℕ) → List WordPut → ℕ → (lost old new : List (List ℕ)) → ℕ → Type 0
+AllTakenBack rows puts count lost old new done = (before : List (List ℕ)) →
+    ArePut rows puts count before old done → AreLost rows puts count before lost done → new ≡ before

@@ -1,11 +1,12 @@
 -- What a call for a block of clocks is given and gives.
-use Rattle.std.specs.Prelude.{◌≡◌, ℕ, ◌*◌, ◌/◌, Bool, false, List, [], ◌∷◌, length, take, drop, slice_get, Some}
+use Rattle.std.specs.Prelude.{◌≡◌, ℕ, ◌*◌, ◌/◌, Bool, false, List, [], ◌∷◌, length, take, drop, slice_get, Some, Result, Err}
 use Rattle.wiring.specs.Netlist.{Netlist}
 use Rattle.wiring.specs.Snapshot.{Contents, Snapshot}
 use Rattle.wiring.specs.Clock.{Clock}
 use Rattle.wiring.specs.Runs.{Runs, RunStops}
 use Rattle.cycle_sim.specs.declared.ports.Out.{Out}
 use Rattle.cycle_sim.specs.Ports.{din_widths, AreShown}
+use Rattle.cycle_sim.specs.Simulated.{Machine}
 use Rattle.block_sim.specs.declared.blocks.Stop.{Stop}
 
 -- the number of dins, and of outputs, each of a valid and a dout
@@ -57,3 +58,12 @@ pub record BlockStops (m : Netlist) (clocks : List Clock) (from to : Contents) (
   pub run : Runs m from (take stop.done clocks) shots to
   pub shown : AllShown m shots outs
   pub later : drop (stop.done * output_count m) outs ≡ drop (stop.done * output_count m) old
+
+-- where the run over these clocks stops, the result is that stop and no other
+abbrev pub IsStopOfRun : Netlist → List Clock → Contents → Result (Unit {0}) Stop → Type 0
+IsStopOfRun m clocks from result = (shots : List Snapshot) (x i : ℕ) →
+    RunStops m from clocks shots x i → result ≡ Err (record { done = length shots; range = record { array = x; index = i } })
+
+-- a machine made the clocks up to a stop
+abbrev pub MachineStops : (old new : Machine) → List Clock → (before after : List Out) → Stop → Type 0
+MachineStops old new clocks before after stop = BlockStops old.netlist clocks old.contents new.contents before after stop

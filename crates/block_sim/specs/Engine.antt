@@ -1,17 +1,21 @@
 -- What is known of a module that is clocked over rows.
-use Rattle.std.specs.Prelude.{◌≡◌, ℕ, ◌+◌, ◌<◌, ◌≤◌, Bool, Option, IfSome, List, [], length, slice_index, slice_index_or, if◌then◌else◌}
+use Rattle.std.specs.Prelude.{◌≡◌, ℕ, ◌+◌, ◌<◌, ◌≤◌, Option, IfSome, List, [], length, slice_index, slice_index_or, if◌then◌else◌}
 use Rattle.wiring.specs.Netlist.{Netlist}
 use Rattle.wiring.specs.Rules.{KeepsRules}
 use Rattle.wiring.specs.Snapshot.{FitsContents}
 use Rattle.block_sim.specs.Held.{contents_in}
 use Rattle.block_rows.specs.Code.{AreSound, IsOrdered}
 use Rattle.block_code.specs.Code.{IsBlockCode}
-use Rattle.block_sim.specs.declared.engine.Engine.{Engine}
+use Rattle.block_sim.specs.declared.rows.engine.Engine.{Engine}
 use Rattle.block_sim.specs.Called.{din_count}
 use Rattle.cycle_sim.specs.Slots.{words_of}
-use Rattle.block_rows.specs.Rights.{value_at}
+use Rattle.block_rows.specs.Rights.{items_of, value_at}
+use Rattle.block_code.specs.Rows.{RowsRan}
+use Rattle.block_sim.specs.Pieces.{clocks_in}
 use Rattle.block_sim.specs.declared.held.Held.{Held}
 use Rattle.block_sim.specs.declared.rows.Rows.{Rows}
+use Rattle.block_sim.specs.declared.rows.table.Table.{Table}
+use Rattle.block_sim.specs.declared.inputs.Piece.{Piece}
 use Rattle.block_sim.specs.Arrays.{AreAccessRows, ArePut, AreKept}
 use Rattle.block_sim.specs.Checked.{HaveAtomRows, AreInputRows, AreRegisterRows}
 use Rattle.block_sim.specs.Table.{AreFirstUses, IsTable}
@@ -21,6 +25,10 @@ pub record IsEngine (e : Engine) : Type 0 where
   pub sound : AreSound e.code.widths.items e.code.instructions.items
   pub ordered : IsOrdered e.code.instructions.items
   pub uses : AreFirstUses e.code.instructions.items e.uses.items
+
+-- the first so many instructions were run over a table whose rows have so many places
+abbrev pub HasRun : Engine → (long : ℕ) → Table → (done : ℕ) → Type 0
+HasRun e long t done = IsTable e.code.widths.items e.code.instructions.items long t done
 
 -- it is a netlist's
 pub record IsEngineOf (m : Netlist) (e : Engine) : Type 0 where
@@ -41,18 +49,22 @@ pub record AreWide (e : Engine) (rows : List (List ℕ)) (count : ℕ) : Type 0 
 -- rows for a netlist
 pub record AreRowsOf (m : Netlist) (r : Rows) : Type 0 where
   pub engine : IsEngineOf m r.engine
-  pub table : IsTable r.engine.code.widths.items r.engine.code.instructions.items (length r.table.room.items) r.table 0
+  pub table : HasRun r.engine (length r.table.room.items) r.table 0
   pub some : 1 ≤ r.size
   pub wide : r.size < length r.table.room.items
 
--- the rows keep the equations of the code over so many clocks from one on, and what is held is what it was and what they leave
-pub record IsJudged (e : Engine) (rows : List (List ℕ)) (enables : List Bool) (dins : List ℕ) (first count : ℕ) (old new : Held) : Type 0 where
-  pub given : AreInputRows e.has_enable e.ports enables dins first count e.code.first_output rows
-  pub registers : AreRegisterRows rows count e.code.first_reg old.regs.items e.code.nexts.items
-  pub kept : AreKept rows e.code.reads.items e.code.puts.items count (words_of old.arrays.items) (length old.arrays.items)
-  pub put : ArePut rows e.code.puts.items count (words_of old.arrays.items) (words_of new.arrays.items) (length old.arrays.items)
+-- the rows keep the equations of the code over the clocks of a piece, and what is held is what it was and what they leave
+pub record IsJudged (e : Engine) (rows : List (List ℕ)) (p : Piece) (old new : Held) : Type 0 where
+  pub given : AreInputRows e.has_enable e.ports p e.code.first_output rows
+  pub registers : AreRegisterRows rows p.count e.code.first_reg old.regs.items e.code.nexts.items
+  pub kept : AreKept rows e.code.reads.items e.code.puts.items p.count (words_of old.arrays.items) (length old.arrays.items)
+  pub put : ArePut rows e.code.puts.items p.count (words_of old.arrays.items) (words_of new.arrays.items) (length old.arrays.items)
   pub long : length new.regs.items ≡ length old.regs.items
-  pub taken : (r : ℕ) → r < length new.regs.items → slice_index new.regs.items r ≡ value_at rows count (e.code.first_reg + r)
+  pub taken : (r : ℕ) → r < length new.regs.items → slice_index new.regs.items r ≡ value_at rows p.count (e.code.first_reg + r)
+
+-- the rows are those of a run over the clocks of a piece
+abbrev pub RanOver : Netlist → Piece → (old new : Held) → Rows → Type 0
+RanOver m p old new r = RowsRan m (clocks_in m p) (contents_in old) (contents_in new) (items_of r.table.rows.items)
 
 -- what a simulator of blocks is made of
 pub record AreBlocks (m : Netlist) (held : Held) (count : ℕ) (rows : Option Rows) : Type 0 where

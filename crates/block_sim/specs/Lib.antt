@@ -3,5 +3,6 @@ pub mod Called
 pub mod Checked
 pub mod Engine
 pub mod Held
+pub mod Pieces
 pub mod Shown
 pub mod Table

@@ -8,7 +8,7 @@ use Rattle.wiring.specs.Rights.{nets_of}
 use Rattle.block_rows.specs.declared.code.Instruction.{Instruction}
 use Rattle.block_rows.specs.Rights.{items_of, HaveRoom}
 use Rattle.block_rows.specs.Code.{AreRows, AllHold}
-use Rattle.block_sim.specs.declared.table.Table.{Table}
+use Rattle.block_sim.specs.declared.rows.table.Table.{Table}
 
 -- no number grows
 abbrev pub LastNo : (old new : List ℕ) → Type 0

@@ -5,17 +5,17 @@ ghost use Rattle.wiring.specs.Netlist.{netlist_of};
 ghost use Rattle.wiring.specs.Rules.{KeepsRules};
 ghost use Rattle.wiring.specs.Snapshot.{Snapshot, Fit, HasOneSnapshot, HasOneNext, HasPlaces, FitsContents};
 ghost use Rattle.wiring.specs.Clock.{Clock};
-ghost use Rattle.wiring.specs.Runs.{RunStops};
 ghost use Rattle.cycle_sim.specs.Ports.{din_widths, AreShown};
 ghost use Rattle.cycle_sim.specs.Filled.{filled_contents};
 ghost use Rattle.cycle_sim.specs.Simulated.{GoesOn, StopsIn, clock};
-ghost use Rattle.block_sim.specs.Called.{din_count, output_count, block_clocks, BlockRan, BlockStops};
+ghost use Rattle.block_sim.specs.Called.{din_count, output_count, block_clocks, BlockRan, MachineStops, IsStopOfRun};
 
 use crate::held::{Held, step_held, zeros};
-use crate::make::rows_of;
+use crate::inputs::Inputs;
 use crate::pause::Pause;
 use crate::pieces::step_pieces;
 use crate::rows::Rows;
+use crate::rows::make::rows_of;
 use cycle_sim::{Fill, IndexRange, Out, Sim};
 use dk_base::OutOfMemory;
 use netlist::{Module, Wiring, one_run};
@@ -143,19 +143,19 @@ impl Blocks {
         requires outs { length outs.old ≡ length enables.now * output_count self.old.netlist }
         ensures netlist { self.new.netlist ≡ self.old.netlist }
         ensures ok { OnOk result (BlockRan self.old.netlist (block_clocks self.old.netlist enables.now dins.now) self.old.contents self.new.contents outs.new) }
-        ensures stops { IfErr result (BlockStops self.old.netlist (block_clocks self.old.netlist enables.now dins.now) self.old.contents self.new.contents outs.old outs.new) }
-        ensures only { (shots : List Snapshot) (x i : ℕ) → RunStops self.old.netlist self.old.contents (block_clocks self.old.netlist enables.now dins.now) shots x i → result ≡ Err (record { done = length shots; range = record { array = x; index = i } }) }
+        ensures stops { IfErr result (MachineStops self.old self.new (block_clocks self.old.netlist enables.now dins.now) outs.old outs.new) }
+        ensures only { IsStopOfRun self.old.netlist (block_clocks self.old.netlist enables.now dins.now) self.old.contents result }
     {
         self.sim.law();
         one_run();
+        let inputs = Inputs { enables, dins };
         step_pieces(
             &mut self.sim,
             &mut self.rows,
             &mut self.pause,
             &mut self.held,
             self.dins,
-            enables,
-            dins,
+            &inputs,
             outs,
         )
     }

@@ -1,41 +1,35 @@
 // Clocks of a block, one by one.
 
-ghost use Rattle.std.specs.Prelude.{◌≡◌, ◌≤◌, ◌*◌, List, length, All, OnOk, IfErr};
-ghost use Rattle.wiring.specs.Snapshot.{Contents, Fit};
-ghost use Rattle.wiring.specs.Clock.{Clock};
-ghost use Rattle.cycle_sim.specs.declared.ports.Out.{Out};
-ghost use Rattle.cycle_sim.specs.Ports.{din_widths};
-ghost use Rattle.block_sim.specs.Called.{din_count, output_count, block_clocks, Came, BlockStops};
+ghost use Rattle.std.specs.Prelude.{◌≡◌, OnOk, IfErr};
+ghost use Rattle.block_sim.specs.Called.{din_count};
+ghost use Rattle.block_sim.specs.Pieces.{IsPieceOf, HavePlaces, PieceRan, PieceStops};
 
 use crate::blocks::Stop;
+use crate::inputs::Piece;
 use cycle_sim::{Out, Sim};
 
-// The clocks of a block from one up to another, one after another, each with so many dins. What is said of them begins with
-// what came before.
+// The clocks of a piece, one after another, each with so many dins.
 pub fn step_each(
     sim: &mut Sim,
     ports: usize,
-    enables: &[bool],
-    dins: &[u64],
+    piece: &Piece<'_>,
     outs: &mut [Out],
-    first: usize,
-    last: usize,
 ) -> Result<(), Stop>
     requires ports { ports ≡ din_count sim.old.netlist }
-    requires dins { All (λ (c : Clock). Fit (din_widths sim.old.netlist) c.dins) (block_clocks sim.old.netlist enables.now dins.now) }
-    requires all { length dins.now ≡ length enables.now * din_count sim.old.netlist }
-    requires outs { length outs.old ≡ length enables.now * output_count sim.old.netlist }
-    requires places { first ≤ last }
-    requires within { last ≤ length enables.now }
+    requires piece { IsPieceOf sim.old.netlist piece.now }
+    requires outs { HavePlaces sim.old.netlist piece.now.inputs outs.old }
     ensures netlist { sim.new.netlist ≡ sim.old.netlist }
-    ensures ok { OnOk result ((from : Contents) (old : List Out) → Came sim.old.netlist (block_clocks sim.old.netlist enables.now dins.now) from sim.old.contents old outs.old first → Came sim.old.netlist (block_clocks sim.old.netlist enables.now dins.now) from sim.new.contents old outs.new last) }
-    ensures stops { IfErr result (λ stop. (from : Contents) (old : List Out) → Came sim.old.netlist (block_clocks sim.old.netlist enables.now dins.now) from sim.old.contents old outs.old first → BlockStops sim.old.netlist (block_clocks sim.old.netlist enables.now dins.now) from sim.new.contents old outs.new stop) }
+    ensures ok { OnOk result (PieceRan sim.old.netlist piece.now sim.old.contents sim.new.contents outs.old outs.new) }
+    ensures stops { IfErr result (PieceStops sim.old.netlist piece.now sim.old.contents sim.new.contents outs.old outs.new) }
 {
     let count = sim.outputs();
+    let inputs = piece.inputs;
+    let first = piece.first;
+    let last = first + piece.count;
     for number in first..last {
-        let din = &dins[number * ports..(number + 1) * ports];
+        let din = &inputs.dins[number * ports..(number + 1) * ports];
         let out = &mut outs[number * count..(number + 1) * count];
-        match sim.step_all(false, enables[number], din, out) {
+        match sim.step_all(false, inputs.enables[number], din, out) {
             Err(range) => {
                 return Err(Stop {
                     done: number,

@@ -1,19 +1,19 @@
 // What registers and arrays hold, outside of a simulator.
 
-ghost use Rattle.std.specs.Prelude.{◌≡◌, ℕ, ◌≤◌, ◌*◌, Err, List, length, map, replicate, All, IfOk, OnOk, IfErr, OnErr};
+ghost use Rattle.std.specs.Prelude.{◌≡◌, ℕ, ◌*◌, Err, length, map, replicate, IfOk, OnOk, IfErr, OnErr};
 ghost use Rattle.wiring.specs.declared.netlist.Shape.{Shape};
 ghost use Rattle.wiring.specs.Netlist.{netlist_of};
-ghost use Rattle.wiring.specs.Snapshot.{Contents, Snapshot, Fit, FitsContents};
-ghost use Rattle.wiring.specs.Clock.{Clock, given, Steps, Stops};
-ghost use Rattle.cycle_sim.specs.declared.ports.Out.{Out};
-ghost use Rattle.cycle_sim.specs.Ports.{din_widths, AreShown};
+ghost use Rattle.wiring.specs.Snapshot.{Fit, FitsContents};
+ghost use Rattle.cycle_sim.specs.Ports.{din_widths};
 ghost use Rattle.cycle_sim.specs.Slots.{words_of};
 ghost use Rattle.cycle_sim.specs.Simulated.{clock};
-ghost use Rattle.block_sim.specs.Called.{din_count, output_count, block_clocks, Came, BlockStops};
-ghost use Rattle.block_sim.specs.Held.{contents_in};
+ghost use Rattle.block_sim.specs.Called.{din_count};
+ghost use Rattle.block_sim.specs.Held.{contents_in, HeldGoesOn, HeldStops};
+ghost use Rattle.block_sim.specs.Pieces.{IsPieceOf, HavePlaces, PieceRan, PieceStops};
 
 use crate::blocks::Stop;
 use crate::each::step_each;
+use crate::inputs::Piece;
 use cycle_sim::{IndexRange, Out, Sim};
 use netlist::{Shape, Width, Wiring};
 use std::alloc::{AllocError, Global};
@@ -67,9 +67,9 @@ pub fn step_held(
     requires outs { length sim.old.netlist.outputs ≡ 2 * length outs.old }
     ensures netlist { sim.new.netlist ≡ sim.old.netlist }
     ensures fits { FitsContents sim.old.netlist (contents_in held.new) }
-    ensures ok { OnOk result ((s : Snapshot) × Steps sim.old.netlist (contents_in held.old) (given sim.old.netlist (clock reset enable dins.now)) s (contents_in held.new) × AreShown s outs.new) }
-    ensures stops { IfErr result (λ r. Stops sim.old.netlist (contents_in held.old) (given sim.old.netlist (clock reset enable dins.now)) r.array r.index) }
-    ensures only { (x i : ℕ) → Stops sim.old.netlist (contents_in held.old) (given sim.old.netlist (clock reset enable dins.now)) x i → result ≡ Err (record { array = x; index = i }) }
+    ensures ok { OnOk result (HeldGoesOn sim.old.netlist held.old held.new (clock reset enable dins.now) outs.new) }
+    ensures stops { IfErr result (λ r. HeldStops sim.old.netlist held.old (clock reset enable dins.now) r.array r.index) }
+    ensures only { (x i : ℕ) → HeldStops sim.old.netlist held.old (clock reset enable dins.now) x i → result ≡ Err (record { array = x; index = i }) }
     ensures err { OnErr result (contents_in held.new ≡ contents_in held.old) }
     ensures outs { OnErr result (outs.new ≡ outs.old) }
 {
@@ -81,32 +81,26 @@ pub fn step_held(
     done
 }
 
-// Clocks of a block, one by one, over what is held: `step_each`.
+// The clocks of a piece, one by one, over what is held: `step_each`.
 pub fn each_held(
     sim: &mut Sim,
     held: &mut Held,
     ports: usize,
-    enables: &[bool],
-    dins: &[u64],
+    piece: &Piece<'_>,
     outs: &mut [Out],
-    first: usize,
-    last: usize,
 ) -> Result<(), Stop>
     requires fits { FitsContents sim.old.netlist (contents_in held.old) }
     requires ports { ports ≡ din_count sim.old.netlist }
-    requires dins { All (λ (c : Clock). Fit (din_widths sim.old.netlist) c.dins) (block_clocks sim.old.netlist enables.now dins.now) }
-    requires all { length dins.now ≡ length enables.now * din_count sim.old.netlist }
-    requires outs { length outs.old ≡ length enables.now * output_count sim.old.netlist }
-    requires places { first ≤ last }
-    requires within { last ≤ length enables.now }
+    requires piece { IsPieceOf sim.old.netlist piece.now }
+    requires outs { HavePlaces sim.old.netlist piece.now.inputs outs.old }
     ensures netlist { sim.new.netlist ≡ sim.old.netlist }
     ensures fits { FitsContents sim.old.netlist (contents_in held.new) }
-    ensures ok { OnOk result ((from : Contents) (old : List Out) → Came sim.old.netlist (block_clocks sim.old.netlist enables.now dins.now) from (contents_in held.old) old outs.old first → Came sim.old.netlist (block_clocks sim.old.netlist enables.now dins.now) from (contents_in held.new) old outs.new last) }
-    ensures stops { IfErr result (λ stop. (from : Contents) (old : List Out) → Came sim.old.netlist (block_clocks sim.old.netlist enables.now dins.now) from (contents_in held.old) old outs.old first → BlockStops sim.old.netlist (block_clocks sim.old.netlist enables.now dins.now) from (contents_in held.new) old outs.new stop) }
+    ensures ok { OnOk result (PieceRan sim.old.netlist piece.now (contents_in held.old) (contents_in held.new) outs.old outs.new) }
+    ensures stops { IfErr result (PieceStops sim.old.netlist piece.now (contents_in held.old) (contents_in held.new) outs.old outs.new) }
 {
     sim.law();
     sim.exchange(&mut held.regs, &mut held.arrays);
-    let done = step_each(sim, ports, enables, dins, outs, first, last);
+    let done = step_each(sim, ports, piece, outs);
     sim.law();
     sim.exchange(&mut held.regs, &mut held.arrays);
     done

@@ -1,111 +1,90 @@
 // Whether rows keep the equations of their code.
 
-ghost use Rattle.std.specs.Prelude.{◌≡◌, ℕ, ◌+◌, ◌*◌, ◌<◌, ◌≤◌, length, slice_index, IsTrue, IsFalse};
-ghost use Rattle.cycle_sim.specs.Slots.{words_of};
-ghost use Rattle.block_rows.specs.Rights.{items_of, value_at};
-ghost use Rattle.block_sim.specs.Arrays.{IsArrayRoom, HaveLong, ArePut, AreKept};
+ghost use Rattle.std.specs.Prelude.{◌≡◌, ◌≤◌, length, IsTrue, IsFalse};
+ghost use Rattle.block_rows.specs.Rights.{items_of};
+ghost use Rattle.block_sim.specs.Arrays.{IsArrayRoom, HaveLong};
 ghost use Rattle.block_sim.specs.Checked.{AreInputRows, AreRegisterRows};
-ghost use Rattle.block_sim.specs.Engine.{AreWide};
+ghost use Rattle.block_sim.specs.Engine.{AreWide, IsJudged};
+ghost use Rattle.block_sim.specs.Held.{contents_in};
+ghost use Rattle.block_sim.specs.Pieces.{HasDins};
 
-use crate::arrays::ArrayRoom;
-use crate::engine::Engine;
-use crate::given::are_given;
-use crate::passes::pass_arrays;
-use crate::registers::{are_kept, take_registers};
+pub mod arrays;
+pub mod given;
+pub mod passes;
+pub mod registers;
 
-// Whether the inputs and the registers of rows are right over so many clocks from this one on.
+use crate::held::Held;
+use crate::inputs::Piece;
+use crate::judge::arrays::{Accesses, ArrayRoom};
+use crate::judge::given::are_given;
+use crate::judge::passes::pass_arrays;
+use crate::judge::registers::{are_kept, take_registers};
+use crate::rows::engine::Engine;
+
+// Whether the inputs and the registers of rows are right over the clocks of a piece.
 fn are_right(
     engine: &Engine,
     rows: &[Vec<u64>],
     spare: &mut [u64],
     regs: &[u64],
-    enables: &[bool],
-    dins: &[u64],
-    first: usize,
-    count: usize,
+    piece: &Piece<'_>,
 ) -> bool
-    requires wide { AreWide engine.now (items_of rows.now) count }
+    requires wide { AreWide engine.now (items_of rows.now) piece.now.count }
     requires slots { length (items_of rows.now) ≡ length rows.now }
-    requires spare { count ≤ length spare.old }
+    requires spare { piece.now.count ≤ length spare.old }
     requires regs { length regs.now ≡ length engine.now.code.nexts.items }
-    requires all { length dins.now ≡ length enables.now * engine.now.ports }
-    requires within { first + count ≤ length enables.now }
-    ensures given { IsTrue result → AreInputRows engine.now.has_enable engine.now.ports enables.now dins.now first count engine.now.code.first_output (items_of rows.now) }
-    ensures kept { IsTrue result → AreRegisterRows (items_of rows.now) count engine.now.code.first_reg regs.now engine.now.code.nexts.items }
+    requires dins { HasDins engine.now.ports piece.now }
+    ensures given { IsTrue result → AreInputRows engine.now.has_enable engine.now.ports piece.now engine.now.code.first_output (items_of rows.now) }
+    ensures kept { IsTrue result → AreRegisterRows (items_of rows.now) piece.now.count engine.now.code.first_reg regs.now engine.now.code.nexts.items }
 {
+    let code = &engine.code;
     if !are_given(
         rows,
-        engine.code.first_output,
+        code.first_output,
         engine.has_enable,
         engine.ports,
-        enables,
-        dins,
-        first,
-        count,
+        piece,
     ) {
         return false;
     }
-    are_kept(
-        rows,
-        spare,
-        engine.code.first_reg,
-        &engine.code.nexts,
-        regs,
-        count,
-    )
+    are_kept(rows, spare, code.first_reg, &code.nexts, regs, piece.count)
 }
 
-// Whether rows keep the equations of their code over so many clocks from this one on. Registers and arrays then hold what they do
-// behind these clocks, else what they did.
+// Whether rows keep the equations of their code over the clocks of a piece. Registers and arrays then hold what they do after these
+// clocks, else what they did.
 pub fn judge(
     engine: &Engine,
     rows: &[Vec<u64>],
     room: &mut ArrayRoom,
     to: &mut [u64],
     lost: &mut [Vec<u64>],
-    regs: &mut [u64],
-    arrays: &mut [Vec<u64>],
-    enables: &[bool],
-    dins: &[u64],
-    first: usize,
-    count: usize,
+    held: &mut Held,
+    piece: &Piece<'_>,
 ) -> bool
-    requires wide { AreWide engine.now (items_of rows.now) count }
+    requires wide { AreWide engine.now (items_of rows.now) piece.now.count }
     requires slots { length (items_of rows.now) ≡ length rows.now }
-    requires room { IsArrayRoom room.old count }
-    requires to { count ≤ length to.old }
-    requires losts { length lost.old ≡ length arrays.old }
-    requires lost { HaveLong (items_of lost.old) count }
-    requires regs { length regs.old ≡ length engine.now.code.nexts.items }
-    requires reads { length engine.now.code.reads.items ≡ length arrays.old }
-    requires puts { length engine.now.code.puts.items ≡ length arrays.old }
-    requires all { length dins.now ≡ length enables.now * engine.now.ports }
-    requires within { first + count ≤ length enables.now }
-    ensures room { IsArrayRoom room.new count }
-    ensures long { HaveLong (items_of lost.new) count }
-    ensures given { IsTrue result → AreInputRows engine.now.has_enable engine.now.ports enables.now dins.now first count engine.now.code.first_output (items_of rows.now) }
-    ensures registers { IsTrue result → AreRegisterRows (items_of rows.now) count engine.now.code.first_reg regs.old engine.now.code.nexts.items }
-    ensures kept { IsTrue result → AreKept (items_of rows.now) engine.now.code.reads.items engine.now.code.puts.items count (words_of arrays.old) (length arrays.old) }
-    ensures put { IsTrue result → ArePut (items_of rows.now) engine.now.code.puts.items count (words_of arrays.old) (words_of arrays.new) (length arrays.old) }
-    ensures taken { IsTrue result → (r : ℕ) → r < length regs.new → slice_index regs.new r ≡ value_at (items_of rows.now) count (engine.now.code.first_reg + r) }
-    ensures regs_back { IsFalse result → regs.new ≡ regs.old }
-    ensures arrays_back { IsFalse result → words_of arrays.new ≡ words_of arrays.old }
+    requires room { IsArrayRoom room.old piece.now.count }
+    requires to { piece.now.count ≤ length to.old }
+    requires losts { length lost.old ≡ length held.old.arrays.items }
+    requires lost { HaveLong (items_of lost.old) piece.now.count }
+    requires regs { length held.old.regs.items ≡ length engine.now.code.nexts.items }
+    requires reads { length engine.now.code.reads.items ≡ length held.old.arrays.items }
+    requires puts { length engine.now.code.puts.items ≡ length held.old.arrays.items }
+    requires dins { HasDins engine.now.ports piece.now }
+    ensures yes { IsTrue result → IsJudged engine.now (items_of rows.now) piece.now held.old held.new }
+    ensures back { IsFalse result → contents_in held.new ≡ contents_in held.old }
 {
-    if !are_right(engine, rows, to, regs, enables, dins, first, count) {
+    if !are_right(engine, rows, to, &held.regs, piece) {
         return false;
     }
-    if !pass_arrays(
-        rows,
-        room,
-        &engine.code.reads,
-        &engine.code.puts,
-        arrays,
-        to,
-        lost,
-        count,
-    ) {
+    let all = Accesses {
+        reads: &engine.code.reads,
+        puts: &engine.code.puts,
+        count: piece.count,
+    };
+    if !pass_arrays(rows, room, &all, &mut held.arrays, to, lost) {
         return false;
     }
-    take_registers(rows, engine.code.first_reg, regs, count);
+    take_registers(rows, engine.code.first_reg, &mut held.regs, piece.count);
     true
 }

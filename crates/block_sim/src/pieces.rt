@@ -1,53 +1,47 @@
 // Blocks of any length, piece by piece.
 
-ghost use Rattle.std.specs.Prelude.{◌≡◌, ◌+◌, ◌*◌, ◌≤◌, List, length, All, OnOk, IfErr, IfSome, IsTrue, IsFalse};
+ghost use Rattle.std.specs.Prelude.{◌≡◌, ◌≤◌, OnOk, IfErr, IfSome, IsTrue, IsFalse};
 ghost use Rattle.wiring.specs.Rules.{KeepsRules};
-ghost use Rattle.wiring.specs.Snapshot.{Contents, Fit, FitsContents};
-ghost use Rattle.wiring.specs.Clock.{Clock};
-ghost use Rattle.cycle_sim.specs.Ports.{din_widths};
-ghost use Rattle.cycle_sim.specs.declared.ports.Out.{Out};
+ghost use Rattle.wiring.specs.Snapshot.{FitsContents};
 ghost use Rattle.block_sim.specs.Engine.{AreRowsOf};
-ghost use Rattle.block_sim.specs.Called.{din_count, output_count, block_clocks, Came, BlockRan, BlockStops};
+ghost use Rattle.block_sim.specs.Called.{din_count, BlockRan};
 ghost use Rattle.block_sim.specs.Held.{contents_in};
+ghost use Rattle.block_sim.specs.Pieces.{clocks_of, InputsStop, AreInputsOf, IsPieceOf, HavePlaces, PieceRan, PieceStops};
 
 use crate::blocks::Stop;
 use crate::held::{Held, each_held};
+use crate::inputs::{Inputs, Piece};
 use crate::pause::Pause;
 use crate::rows::{Rows, rows_block};
 use cycle_sim::{Out, Sim};
 
 // The greatest number of clocks that are made over whole rows.
-pub const PIECE: usize = 128;
+pub const MOST_CLOCKS: usize = 128;
 
 // Pieces of fewer clocks are made one by one.
 const LEAST: usize = 24;
 
-// So many clocks over rows, if there are rows and they do.
+// The clocks of a piece over rows, if there are rows and they do.
 fn by_rows(
     sim: &Sim,
     rows: &mut Option<Rows>,
     pause: &mut Pause,
     held: &mut Held,
-    enables: &[bool],
-    dins: &[u64],
+    piece: &Piece<'_>,
     outs: &mut [Out],
-    first: usize,
-    count: usize,
 ) -> bool
     requires rules { KeepsRules sim.now.netlist }
     requires rows { IfSome rows.old (AreRowsOf sim.now.netlist) }
     requires fits { FitsContents sim.now.netlist (contents_in held.old) }
-    requires dins { All (λ (c : Clock). Fit (din_widths sim.now.netlist) c.dins) (block_clocks sim.now.netlist enables.now dins.now) }
-    requires all { length dins.now ≡ length enables.now * din_count sim.now.netlist }
-    requires outs { length outs.old ≡ length enables.now * output_count sim.now.netlist }
-    requires within { first + count ≤ length enables.now }
+    requires piece { IsPieceOf sim.now.netlist piece.now }
+    requires outs { HavePlaces sim.now.netlist piece.now.inputs outs.old }
     ensures rows { IfSome rows.new (AreRowsOf sim.now.netlist) }
     ensures fits { FitsContents sim.now.netlist (contents_in held.new) }
-    ensures ran { IsTrue result → (from : Contents) (old : List Out) → Came sim.now.netlist (block_clocks sim.now.netlist enables.now dins.now) from (contents_in held.old) old outs.old first → Came sim.now.netlist (block_clocks sim.now.netlist enables.now dins.now) from (contents_in held.new) old outs.new (first + count) }
+    ensures ran { IsTrue result → PieceRan sim.now.netlist piece.now (contents_in held.old) (contents_in held.new) outs.old outs.new }
     ensures back { IsFalse result → contents_in held.new ≡ contents_in held.old }
     ensures outs { IsFalse result → outs.new ≡ outs.old }
 {
-    if count < LEAST {
+    if piece.count < LEAST {
         return false;
     }
     if pause.is_on() {
@@ -55,7 +49,7 @@ fn by_rows(
     }
     match rows {
         Some(rows) => {
-            let ran = rows_block(sim, rows, held, enables, dins, outs, first, count);
+            let ran = rows_block(sim, rows, held, piece, outs);
             pause.note(ran);
             ran
         }
@@ -63,37 +57,32 @@ fn by_rows(
     }
 }
 
-// So many clocks, over rows or one by one.
+// The clocks of a piece, over rows or one by one.
 fn step_piece(
     sim: &mut Sim,
     rows: &mut Option<Rows>,
     pause: &mut Pause,
     held: &mut Held,
     ports: usize,
-    enables: &[bool],
-    dins: &[u64],
+    piece: &Piece<'_>,
     outs: &mut [Out],
-    first: usize,
-    count: usize,
 ) -> Result<(), Stop>
     requires rules { KeepsRules sim.old.netlist }
     requires rows { IfSome rows.old (AreRowsOf sim.old.netlist) }
     requires fits { FitsContents sim.old.netlist (contents_in held.old) }
     requires ports { ports ≡ din_count sim.old.netlist }
-    requires dins { All (λ (c : Clock). Fit (din_widths sim.old.netlist) c.dins) (block_clocks sim.old.netlist enables.now dins.now) }
-    requires all { length dins.now ≡ length enables.now * din_count sim.old.netlist }
-    requires outs { length outs.old ≡ length enables.now * output_count sim.old.netlist }
-    requires within { first + count ≤ length enables.now }
+    requires piece { IsPieceOf sim.old.netlist piece.now }
+    requires outs { HavePlaces sim.old.netlist piece.now.inputs outs.old }
     ensures netlist { sim.new.netlist ≡ sim.old.netlist }
     ensures rows { IfSome rows.new (AreRowsOf sim.old.netlist) }
     ensures fits { FitsContents sim.old.netlist (contents_in held.new) }
-    ensures ok { OnOk result ((from : Contents) (old : List Out) → Came sim.old.netlist (block_clocks sim.old.netlist enables.now dins.now) from (contents_in held.old) old outs.old first → Came sim.old.netlist (block_clocks sim.old.netlist enables.now dins.now) from (contents_in held.new) old outs.new (first + count)) }
-    ensures stops { IfErr result (λ stop. (from : Contents) (old : List Out) → Came sim.old.netlist (block_clocks sim.old.netlist enables.now dins.now) from (contents_in held.old) old outs.old first → BlockStops sim.old.netlist (block_clocks sim.old.netlist enables.now dins.now) from (contents_in held.new) old outs.new stop) }
+    ensures ok { OnOk result (PieceRan sim.old.netlist piece.now (contents_in held.old) (contents_in held.new) outs.old outs.new) }
+    ensures stops { IfErr result (PieceStops sim.old.netlist piece.now (contents_in held.old) (contents_in held.new) outs.old outs.new) }
 {
-    if by_rows(sim, rows, pause, held, enables, dins, outs, first, count) {
+    if by_rows(sim, rows, pause, held, piece, outs) {
         return Ok(());
     }
-    each_held(sim, held, ports, enables, dins, outs, first, first + count)
+    each_held(sim, held, ports, piece, outs)
 }
 
 // The most clocks of a piece.
@@ -103,7 +92,7 @@ fn size_of(rows: &Option<Rows>) -> usize
 {
     match rows {
         Some(rows) => rows.size,
-        None => PIECE,
+        None => MOST_CLOCKS,
     }
 }
 
@@ -115,46 +104,41 @@ pub fn step_pieces(
     pause: &mut Pause,
     held: &mut Held,
     ports: usize,
-    enables: &[bool],
-    dins: &[u64],
+    inputs: &Inputs<'_>,
     outs: &mut [Out],
 ) -> Result<(), Stop>
     requires rules { KeepsRules sim.old.netlist }
     requires rows { IfSome rows.old (AreRowsOf sim.old.netlist) }
     requires fits { FitsContents sim.old.netlist (contents_in held.old) }
     requires ports { ports ≡ din_count sim.old.netlist }
-    requires dins { All (λ (c : Clock). Fit (din_widths sim.old.netlist) c.dins) (block_clocks sim.old.netlist enables.now dins.now) }
-    requires all { length dins.now ≡ length enables.now * din_count sim.old.netlist }
-    requires outs { length outs.old ≡ length enables.now * output_count sim.old.netlist }
+    requires inputs { AreInputsOf sim.old.netlist inputs.now }
+    requires outs { HavePlaces sim.old.netlist inputs.now outs.old }
     ensures netlist { sim.new.netlist ≡ sim.old.netlist }
     ensures rows { IfSome rows.new (AreRowsOf sim.old.netlist) }
     ensures fits { FitsContents sim.old.netlist (contents_in held.new) }
-    ensures ok { OnOk result (BlockRan sim.old.netlist (block_clocks sim.old.netlist enables.now dins.now) (contents_in held.old) (contents_in held.new) outs.new) }
-    ensures stops { IfErr result (BlockStops sim.old.netlist (block_clocks sim.old.netlist enables.now dins.now) (contents_in held.old) (contents_in held.new) outs.old outs.new) }
+    ensures ok { OnOk result (BlockRan sim.old.netlist (clocks_of sim.old.netlist inputs.now) (contents_in held.old) (contents_in held.new) outs.new) }
+    ensures stops { IfErr result (InputsStop sim.old.netlist inputs.now (contents_in held.old) (contents_in held.new) outs.old outs.new) }
 {
-    let count = enables.len();
+    let count = inputs.enables.len();
     let size = size_of(rows);
     let mut first = 0;
     for _piece in 0..count / size {
         let most = (count - first).min(size);
-        match step_piece(
-            sim, rows, pause, held, ports, enables, dins, outs, first, most,
-        ) {
+        let piece = Piece {
+            inputs: *inputs,
+            first,
+            count: most,
+        };
+        match step_piece(sim, rows, pause, held, ports, &piece, outs) {
             Err(stop) => return Err(stop),
             Ok(()) => {}
         }
         first += most;
     }
-    step_piece(
-        sim,
-        rows,
-        pause,
-        held,
-        ports,
-        enables,
-        dins,
-        outs,
+    let rest = Piece {
+        inputs: *inputs,
         first,
-        count - first,
-    )
+        count: count - first,
+    };
+    step_piece(sim, rows, pause, held, ports, &rest, outs)
 }

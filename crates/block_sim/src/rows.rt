@@ -1,29 +1,31 @@
 // Pieces of a block over whole rows.
 
-ghost use Rattle.std.specs.Prelude.{◌≡◌, ℕ, ◌+◌, ◌*◌, ◌<◌, ◌≤◌, List, [], length, All, IsTrue, IsFalse};
+ghost use Rattle.std.specs.Prelude.{◌≡◌, ℕ, ◌≤◌, [], length, IsTrue, IsFalse};
 ghost use Rattle.wiring.specs.Rules.{KeepsRules};
-ghost use Rattle.wiring.specs.Snapshot.{Contents, Fit, FitsContents};
-ghost use Rattle.wiring.specs.Clock.{Clock};
-ghost use Rattle.cycle_sim.specs.declared.ports.Out.{Out};
-ghost use Rattle.cycle_sim.specs.Ports.{din_widths};
-ghost use Rattle.cycle_sim.specs.Slots.{words_of};
+ghost use Rattle.wiring.specs.Snapshot.{FitsContents};
 ghost use Rattle.block_rows.specs.Rights.{items_of};
-ghost use Rattle.block_code.specs.Rows.{RowsRan};
 ghost use Rattle.block_sim.specs.Arrays.{IsArrayRoom, HaveLong};
-ghost use Rattle.block_sim.specs.Called.{din_count, output_count, of_clock, block_clocks, piece_of, Came};
 ghost use Rattle.block_sim.specs.Held.{contents_in};
-ghost use Rattle.block_sim.specs.Shown.{AreRowOuts};
-ghost use Rattle.block_sim.specs.Table.{IsTable};
-ghost use Rattle.block_sim.specs.Engine.{IsEngine, IsEngineOf, AreWide, AreRowsOf, IsJudged};
+ghost use Rattle.block_sim.specs.Engine.{IsEngine, HasRun, AreWide, AreRowsOf, IsJudged, RanOver};
+ghost use Rattle.block_sim.specs.Pieces.{IsPieceOf, HasDins, HavePlaces, PieceRan};
 
-use crate::arrays::ArrayRoom;
-use crate::engine::Engine;
-use crate::fill::propose_input;
+pub mod engine;
+pub mod fill;
+pub mod make;
+pub mod shown;
+pub mod steps;
+pub mod table;
+pub mod uses;
+
 use crate::held::Held;
+use crate::inputs::Piece;
+use crate::judge::arrays::ArrayRoom;
 use crate::judge::judge;
-use crate::shown::show_rows;
-use crate::steps::{Hints, offer_row, take_steps};
-use crate::table::Table;
+use crate::rows::engine::Engine;
+use crate::rows::fill::propose_input;
+use crate::rows::shown::show_rows;
+use crate::rows::steps::{Hints, offer_row, take_steps};
+use crate::rows::table::Table;
 use cycle_sim::{Out, Sim};
 
 // The rows of a module, and room for what is made over them.
@@ -39,23 +41,16 @@ pub struct Rows {
     pub size: usize,
 }
 
-// The rows of the inputs are proposed: what they are given in so many clocks from this one on.
+// The rows of the inputs are proposed: what they are given in the clocks of a piece.
 #[tactic(auto, using(crate::proofs::Tables::table_refilled))]
-fn propose_inputs(
-    engine: &Engine,
-    table: &mut Table,
-    enables: &[bool],
-    dins: &[u64],
-    first: usize,
-    count: usize,
-)
+fn propose_inputs(engine: &Engine, table: &mut Table, piece: &Piece<'_>)
     requires engine { IsEngine engine.now }
-    requires table { IsTable engine.now.code.widths.items engine.now.code.instructions.items (length table.old.room.items) table.old 0 }
+    requires table { HasRun engine.now (length table.old.room.items) table.old 0 }
     ensures room { length table.new.room.items ≡ length table.old.room.items }
-    ensures table { IsTable engine.now.code.widths.items engine.now.code.instructions.items (length table.old.room.items) table.new 0 }
+    ensures table { HasRun engine.now (length table.old.room.items) table.new 0 }
 {
     for input in 0..engine.code.first_output {
-        propose_input(table, engine, enables, dins, input, first);
+        propose_input(table, engine, piece, input);
         let _offered = offer_row(engine, table, 0, input);
     }
 }
@@ -66,19 +61,16 @@ fn propose(
     table: &mut Table,
     hints: &mut Hints,
     held: &Held,
-    enables: &[bool],
-    dins: &[u64],
-    first: usize,
-    count: usize,
+    piece: &Piece<'_>,
 ) -> bool
     requires engine { IsEngine engine.now }
-    requires table { IsTable engine.now.code.widths.items engine.now.code.instructions.items (length table.old.room.items) table.old 0 }
+    requires table { HasRun engine.now (length table.old.room.items) table.old 0 }
     ensures room { length table.new.room.items ≡ length table.old.room.items }
-    ensures table { IsTrue result → IsTable engine.now.code.widths.items engine.now.code.instructions.items (length table.old.room.items) table.new (length engine.now.code.instructions.items) }
-    ensures least { IsTable engine.now.code.widths.items engine.now.code.instructions.items (length table.old.room.items) table.new 0 }
+    ensures table { IsTrue result → HasRun engine.now (length table.old.room.items) table.new (length engine.now.code.instructions.items) }
+    ensures least { HasRun engine.now (length table.old.room.items) table.new 0 }
 {
-    propose_inputs(engine, table, enables, dins, first, count);
-    take_steps(engine, table, held, hints, count)
+    propose_inputs(engine, table, piece);
+    take_steps(engine, table, held, hints, piece.count)
 }
 
 // Whether the rows are right, over what is held.
@@ -89,40 +81,24 @@ fn judge_held(
     to: &mut Vec<u64>,
     lost: &mut Vec<Vec<u64>>,
     held: &mut Held,
-    enables: &[bool],
-    dins: &[u64],
-    first: usize,
-    count: usize,
+    piece: &Piece<'_>,
 ) -> bool
-    requires wide { AreWide engine.now (items_of table.now.rows.items) count }
+    requires wide { AreWide engine.now (items_of table.now.rows.items) piece.now.count }
     requires slots { length (items_of table.now.rows.items) ≡ length table.now.rows.items }
-    requires room { IsArrayRoom room.old count }
-    requires to { count ≤ length to.old.items }
+    requires room { IsArrayRoom room.old piece.now.count }
+    requires to { piece.now.count ≤ length to.old.items }
     requires losts { length lost.old.items ≡ length held.old.arrays.items }
-    requires lost { HaveLong (items_of lost.old.items) count }
+    requires lost { HaveLong (items_of lost.old.items) piece.now.count }
     requires regs { length held.old.regs.items ≡ length engine.now.code.nexts.items }
     requires reads { length engine.now.code.reads.items ≡ length held.old.arrays.items }
     requires puts { length engine.now.code.puts.items ≡ length held.old.arrays.items }
-    requires all { length dins.now ≡ length enables.now * engine.now.ports }
-    requires within { first + count ≤ length enables.now }
-    ensures yes { IsTrue result → IsJudged engine.now (items_of table.now.rows.items) enables.now dins.now first count held.old held.new }
+    requires dins { HasDins engine.now.ports piece.now }
+    ensures yes { IsTrue result → IsJudged engine.now (items_of table.now.rows.items) piece.now held.old held.new }
     ensures back { IsFalse result → contents_in held.new ≡ contents_in held.old }
     ensures to { length to.new.items ≡ length to.old.items }
     ensures losts { length lost.new.items ≡ length lost.old.items }
 {
-    judge(
-        engine,
-        &table.rows,
-        room,
-        to,
-        lost,
-        &mut held.regs,
-        &mut held.arrays,
-        enables,
-        dins,
-        first,
-        count,
-    )
+    judge(engine, &table.rows, room, to, lost, held, piece)
 }
 
 // Whether each of some lists has so many places.
@@ -167,31 +143,21 @@ fn has_room(rows: &Rows, arrays: usize, count: usize) -> bool
 }
 
 // The rows are judged, behind all instructions.
-fn judge_rows(
-    sim: &Sim,
-    rows: &mut Rows,
-    held: &mut Held,
-    enables: &[bool],
-    dins: &[u64],
-    first: usize,
-    count: usize,
-) -> bool
+fn judge_rows(sim: &Sim, rows: &mut Rows, held: &mut Held, piece: &Piece<'_>) -> bool
     requires rules { KeepsRules sim.now.netlist }
     requires rows { AreRowsOf sim.now.netlist rows.old }
-    requires table { IsTable rows.old.engine.code.widths.items rows.old.engine.code.instructions.items (length rows.old.table.room.items) rows.old.table (length rows.old.engine.code.instructions.items) }
+    requires table { HasRun rows.old.engine (length rows.old.table.room.items) rows.old.table (length rows.old.engine.code.instructions.items) }
     requires fits { FitsContents sim.now.netlist (contents_in held.old) }
-    requires dins { All (λ (c : Clock). Fit (din_widths sim.now.netlist) c.dins) (block_clocks sim.now.netlist enables.now dins.now) }
-    requires all { length dins.now ≡ length enables.now * din_count sim.now.netlist }
-    requires within { first + count ≤ length enables.now }
+    requires piece { IsPieceOf sim.now.netlist piece.now }
     ensures engine { rows.new.engine ≡ rows.old.engine }
     ensures table { rows.new.table ≡ rows.old.table }
     ensures size { rows.new.size ≡ rows.old.size }
-    ensures most { IsTrue result → count ≤ rows.old.size }
+    ensures most { IsTrue result → piece.now.count ≤ rows.old.size }
     ensures fits { FitsContents sim.now.netlist (contents_in held.new) }
-    ensures ran { IsTrue result → RowsRan sim.now.netlist (piece_of sim.now.netlist enables.now dins.now first count) (contents_in held.old) (contents_in held.new) (items_of rows.old.table.rows.items) }
+    ensures ran { IsTrue result → RanOver sim.now.netlist piece.now held.old held.new rows.old }
     ensures back { IsFalse result → contents_in held.new ≡ contents_in held.old }
 {
-    if !has_room(rows, held.arrays.len(), count) {
+    if !has_room(rows, held.arrays.len(), piece.count) {
         return false;
     }
     judge_held(
@@ -201,87 +167,60 @@ fn judge_rows(
         &mut rows.to,
         &mut rows.lost,
         held,
-        enables,
-        dins,
-        first,
-        count,
+        piece,
     )
 }
 
-// So many clocks from this one on, over rows.
+// The clocks of a piece, over rows.
 #[tactic(auto, using(crate::proofs::Judged::engine_of, crate::proofs::Judged::rows_as))]
-fn run_piece(
-    sim: &Sim,
-    rows: &mut Rows,
-    held: &mut Held,
-    enables: &[bool],
-    dins: &[u64],
-    first: usize,
-    count: usize,
-) -> bool
+fn run_piece(sim: &Sim, rows: &mut Rows, held: &mut Held, piece: &Piece<'_>) -> bool
     requires rules { KeepsRules sim.now.netlist }
     requires rows { AreRowsOf sim.now.netlist rows.old }
     requires fits { FitsContents sim.now.netlist (contents_in held.old) }
-    requires dins { All (λ (c : Clock). Fit (din_widths sim.now.netlist) c.dins) (block_clocks sim.now.netlist enables.now dins.now) }
-    requires all { length dins.now ≡ length enables.now * din_count sim.now.netlist }
-    requires within { first + count ≤ length enables.now }
+    requires piece { IsPieceOf sim.now.netlist piece.now }
     ensures rows { AreRowsOf sim.now.netlist rows.new }
-    ensures most { IsTrue result → count ≤ rows.new.size }
+    ensures most { IsTrue result → piece.now.count ≤ rows.new.size }
     ensures fits { FitsContents sim.now.netlist (contents_in held.new) }
-    ensures ran { IsTrue result → RowsRan sim.now.netlist (piece_of sim.now.netlist enables.now dins.now first count) (contents_in held.old) (contents_in held.new) (items_of rows.new.table.rows.items) }
+    ensures ran { IsTrue result → RanOver sim.now.netlist piece.now held.old held.new rows.new }
     ensures back { IsFalse result → contents_in held.new ≡ contents_in held.old }
 {
-    if !propose(
-        &rows.engine,
-        &mut rows.table,
-        &mut rows.hints,
-        held,
-        enables,
-        dins,
-        first,
-        count,
-    ) {
+    if !propose(&rows.engine, &mut rows.table, &mut rows.hints, held, piece) {
         return false;
     }
-    judge_rows(sim, rows, held, enables, dins, first, count)
+    judge_rows(sim, rows, held, piece)
 }
 
-// So many clocks of a block from this one on, over rows: true if they took place. What registers and arrays hold and the outputs
+// The clocks of a piece, over rows: true if they took place. What registers and arrays hold and the outputs
 // are then those of these clocks, else as before.
 pub fn rows_block(
     sim: &Sim,
     rows: &mut Rows,
     held: &mut Held,
-    enables: &[bool],
-    dins: &[u64],
+    piece: &Piece<'_>,
     outs: &mut [Out],
-    first: usize,
-    count: usize,
 ) -> bool
     requires rules { KeepsRules sim.now.netlist }
     requires rows { AreRowsOf sim.now.netlist rows.old }
     requires fits { FitsContents sim.now.netlist (contents_in held.old) }
-    requires dins { All (λ (c : Clock). Fit (din_widths sim.now.netlist) c.dins) (block_clocks sim.now.netlist enables.now dins.now) }
-    requires all { length dins.now ≡ length enables.now * din_count sim.now.netlist }
-    requires outs { length outs.old ≡ length enables.now * output_count sim.now.netlist }
-    requires within { first + count ≤ length enables.now }
+    requires piece { IsPieceOf sim.now.netlist piece.now }
+    requires outs { HavePlaces sim.now.netlist piece.now.inputs outs.old }
     ensures rows { AreRowsOf sim.now.netlist rows.new }
     ensures fits { FitsContents sim.now.netlist (contents_in held.new) }
-    ensures ran { IsTrue result → (from : Contents) (old : List Out) → Came sim.now.netlist (block_clocks sim.now.netlist enables.now dins.now) from (contents_in held.old) old outs.old first → Came sim.now.netlist (block_clocks sim.now.netlist enables.now dins.now) from (contents_in held.new) old outs.new (first + count) }
+    ensures ran { IsTrue result → PieceRan sim.now.netlist piece.now (contents_in held.old) (contents_in held.new) outs.old outs.new }
     ensures back { IsFalse result → contents_in held.new ≡ contents_in held.old }
     ensures outs { IsFalse result → outs.new ≡ outs.old }
 {
-    if !run_piece(sim, rows, held, enables, dins, first, count) {
+    if !run_piece(sim, rows, held, piece) {
         return false;
     }
     let outputs = sim.outputs();
-    let part = &mut outs[first * outputs..(first + count) * outputs];
+    let part = &mut outs[piece.first * outputs..(piece.first + piece.count) * outputs];
     show_rows(
         &rows.table.rows,
         rows.engine.code.first_output,
         outputs,
         part,
-        count,
+        piece.count,
     );
     true
 }

@@ -2,8 +2,9 @@ use Rattle.std.proofs.Common.{◌≡◌, ◌≤◌, length}
 use Rattle.std.specs.Prelude.{IfSome}
 use Rattle.block_sim.specs.Engine.{AreRowsOf}
 use Rattle.wiring.specs.Snapshot.{FitsContents}
-use Rattle.block_sim.specs.Called.{block_clocks, Came}
+use Rattle.block_sim.specs.Called.{Came}
 use Rattle.block_sim.specs.Held.{contents_in}
+use Rattle.block_sim.specs.Pieces.{clocks_of}
 use Rattle.block_sim.proofs.pieces.step_pieces.Given as goal
 
 abbrev pub invariant-loop-piece : goal.invariant-loop-piece
@@ -11,6 +12,6 @@ invariant-loop-piece l = record {
   netlist : l.sim.netlist ≡ l.fn.sim.netlist;
   rows : IfSome l.rows (AreRowsOf l.fn.sim.netlist);
   fits : FitsContents l.fn.sim.netlist (contents_in l.held);
-  places : l.first ≤ length l.enables;
-  came : Came l.fn.sim.netlist (block_clocks l.fn.sim.netlist l.enables l.dins) (contents_in l.fn.held) (contents_in l.held) l.fn.outs l.outs l.first;
+  places : l.first ≤ length l.inputs.enables.now;
+  came : Came l.fn.sim.netlist (clocks_of l.fn.sim.netlist l.inputs) (contents_in l.fn.held) (contents_in l.held) l.fn.outs l.outs l.first;
 }

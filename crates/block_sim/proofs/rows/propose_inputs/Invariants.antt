@@ -1,9 +1,9 @@
 use Rattle.std.proofs.Common.{◌≡◌, length}
-use Rattle.block_sim.specs.Table.{IsTable}
+use Rattle.block_sim.specs.Engine.{HasRun}
 use Rattle.block_sim.proofs.rows.propose_inputs.Given as goal
 
 abbrev pub invariant-loop-input : goal.invariant-loop-input
 invariant-loop-input l = record {
   room : length l.table.room.items ≡ length l.fn.table.room.items;
-  table : IsTable l.engine.code.widths.items l.engine.code.instructions.items (length l.fn.table.room.items) l.table 0;
+  table : HasRun l.engine (length l.fn.table.room.items) l.table 0;
 }

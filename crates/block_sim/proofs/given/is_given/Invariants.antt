@@ -1,5 +1,0 @@
-use Rattle.block_sim.specs.Checked.{IsInputRow}
-use Rattle.block_sim.proofs.given.is_given.Given as goal
-
-abbrev pub invariant-loop-t : goal.invariant-loop-t
-invariant-loop-t l = IsInputRow l.has_enable l.ports l.enables l.dins l.first l.t l.input l.row

@@ -1,0 +1,31 @@
+use Rattle.std.proofs.Common.{◌≤◌, ◌∙◌, ℕ, List, length, ap, sym, subst, arith}
+use Rattle.std.specs.Prelude.{slice_index}
+use Rattle.block_rows.specs.Rights.{items_of}
+use Rattle.block_rows.proofs.Running.{row_here, row_other}
+use Rattle.block_code.specs.Rows.{atom_at, words_put}
+use Rattle.block_sim.proofs.Vectors.{vec_at, length-items, long_on, same_on}
+use Rattle.block_sim.proofs.judge.passes.pass_at.Goals as goal
+
+pub pass_vec-requires-clause-lost : goal.pass_vec-requires-clause-lost
+pass_vec-requires-clause-lost c = subst (λ (ws : List ℕ). c.args.access.now.count ≤ length ws) (sym (vec_at c.args.lost.now c.args.array c.index-lost-array.result c.requires.place)) (c.requires.lost c.args.array (omega (arith, c.requires.place, length-items c.args.lost.now)))
+
+pub returns-clause-long : goal.returns-clause-long
+returns-clause-long c = long_on c.args.lost.now c.args.array c.pass_vec.new.lost c.index-lost-array.result c.requires.place c.args.access.now.count c.pass_vec.ensures.long c.requires.lost
+
+pub returns-clause-words : goal.returns-clause-words
+returns-clause-words c = λ yes. row_here c.args.arrays.now c.args.array c.pass_vec.new.words c.requires.array ∙ c.pass_vec.ensures.words yes ∙ ap (λ (ws : List ℕ). words_put (items_of c.args.rows.now) c.args.access.now.put.now ws c.args.access.now.count) (vec_at c.args.arrays.now c.args.array c.index-arrays-array.result c.requires.array)
+
+pub returns-clause-lost : goal.returns-clause-lost
+returns-clause-lost c = λ yes t l.
+    ap (λ (r : List ℕ). slice_index r t) (row_here c.args.lost.now c.args.array c.pass_vec.new.lost c.requires.place)
+    ∙ c.pass_vec.ensures.lost yes t l
+    ∙ ap (λ (ws : List ℕ). slice_index (words_put (items_of c.args.rows.now) c.args.access.now.put.now ws t) (atom_at (items_of c.args.rows.now) t c.args.access.now.put.now.index)) (vec_at c.args.arrays.now c.args.array c.index-arrays-array.result c.requires.array)
+
+pub returns-clause-others : goal.returns-clause-others
+returns-clause-others c = λ x apart. row_other c.args.arrays.now c.args.array x c.pass_vec.new.words apart
+
+pub returns-clause-other_lost : goal.returns-clause-other_lost
+returns-clause-other_lost c = λ x apart. row_other c.args.lost.now c.args.array x c.pass_vec.new.lost apart
+
+pub returns-clause-back : goal.returns-clause-back
+returns-clause-back c = λ no x. same_on c.args.arrays.now c.args.array c.pass_vec.new.words c.index-arrays-array.result c.requires.array (c.pass_vec.ensures.back no) x

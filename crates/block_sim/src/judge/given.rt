@@ -1,0 +1,82 @@
+// The rows of the inputs.
+
+ghost use Rattle.std.specs.Prelude.{◌≡◌, ℕ, ◌+◌, ◌*◌, ◌<◌, ◌≤◌, length, slice_index, IsTrue, [], slice_index_or, if◌then◌else◌};
+ghost use Rattle.block_rows.specs.Rights.{items_of, value_at};
+ghost use Rattle.block_sim.specs.Checked.{input_of, IsInputRow, AreInputRows};
+ghost use Rattle.block_sim.specs.Pieces.{HasDins};
+
+use crate::inputs::Piece;
+
+// The row of a slot.
+pub fn row_at(rows: &[Vec<u64>], slot: usize) -> &[u64]
+    requires { slot < length rows.now }
+    ensures { result.now ≡ slice_index_or (items_of rows.now) slot [] }
+{
+    &rows[slot]
+}
+
+// What the inputs are given: rst, en where there is one, and the dins.
+#[tactic(auto, using(crate::proofs::Checks::input_reset, crate::proofs::Checks::input_enable, crate::proofs::Checks::input_din))]
+fn input_at(
+    has_enable: bool,
+    ports: usize,
+    enables: &[bool],
+    dins: &[u64],
+    clock: usize,
+    input: usize,
+) -> u64
+    requires clock { clock < length enables.now }
+    requires all { length dins.now ≡ length enables.now * ports }
+    requires input { input < (if has_enable then 2 else 1) + ports }
+    ensures { result ≡ input_of has_enable ports enables.now dins.now clock input }
+{
+    if input == 0 {
+        return 0;
+    }
+    if has_enable && input == 1 {
+        return u64::from(enables[clock]);
+    }
+    let head = if has_enable { 2 } else { 1 };
+    dins[clock * ports + (input - head)]
+}
+
+// Whether a row is what an input is given.
+fn is_given(row: &[u64], has_enable: bool, ports: usize, piece: &Piece<'_>, input: usize) -> bool
+    requires dins { HasDins ports piece.now }
+    requires input { input < (if has_enable then 2 else 1) + ports }
+    requires room { piece.now.count ≤ length row.now }
+    ensures { IsTrue result → IsInputRow has_enable ports piece.now input row.now }
+{
+    let enables = piece.inputs.enables;
+    let dins = piece.inputs.dins;
+    let first = piece.first;
+    for t in 0..piece.count {
+        if row[t] != input_at(has_enable, ports, enables, dins, first + t, input) {
+            return false;
+        }
+    }
+    true
+}
+
+// Whether the rows of all inputs are what the ports are given in the clocks of a piece.
+pub fn are_given(
+    rows: &[Vec<u64>],
+    inputs: usize,
+    has_enable: bool,
+    ports: usize,
+    piece: &Piece<'_>,
+) -> bool
+    requires dins { HasDins ports piece.now }
+    requires inputs { inputs ≡ (if has_enable then 2 else 1) + ports }
+    requires slots { inputs ≤ length rows.now }
+    requires long { (n : ℕ) → n < length rows.now → piece.now.count ≤ length (slice_index_or (items_of rows.now) n []) }
+    ensures { IsTrue result → AreInputRows has_enable ports piece.now inputs (items_of rows.now) }
+{
+    for input in 0..inputs {
+        let row = row_at(rows, input);
+        if !is_given(row, has_enable, ports, piece, input) {
+            return false;
+        }
+    }
+    true
+}

@@ -1,0 +1,172 @@
+// Rows for a module.
+
+ghost use Rattle.std.specs.Prelude.{◌≡◌, ◌<◌, ◌≤◌, length, replicate, IfOk, IfSome};
+ghost use Rattle.wiring.specs.Netlist.{netlist_of};
+ghost use Rattle.block_rows.specs.Rights.{items_of};
+ghost use Rattle.block_code.specs.Code.{IsBlockCode};
+ghost use Rattle.block_sim.specs.Called.{din_count};
+ghost use Rattle.block_sim.specs.Engine.{IsEngineOf, AreRowsOf, HasRun};
+
+use crate::judge::arrays::ArrayRoom;
+use crate::pieces::MOST_CLOCKS;
+use crate::rows::Rows;
+use crate::rows::engine::{Engine, arrays_of, makers_of, registers_of};
+use crate::rows::steps::Hints;
+use crate::rows::table::Table;
+use crate::rows::uses::first_uses;
+use block_code::BlockCode;
+use block_plan::{Plan, make_plan};
+use block_rows::Spares;
+use dk_base::OutOfMemory;
+use netlist::{Module, Wiring};
+use std::alloc::{AllocError, Global};
+
+// The most words that rows take.
+const MOST_WORDS: usize = 8 * 1024 * 1024;
+
+// Arrays of fewer words are copied for a piece.
+const SMALL: usize = MOST_CLOCKS + 1;
+
+// So many rows of zeros.
+#[tactic(auto, using(crate::proofs::Made::rows_more))]
+fn zero_rows(alloc: Global, slots: usize, long: usize) -> Result<Vec<Vec<u64>>, AllocError>
+    ensures { IfOk result (λ v. items_of v.items ≡ replicate slots (replicate long 0)) }
+{
+    let mut rows = Vec::new(alloc);
+    for _slot in 0..slots {
+        rows.push(vec![in alloc; 0; long]?)?;
+    }
+    Ok(rows)
+}
+
+#[tactic(auto, using(crate::proofs::Made::zero_table))]
+fn table_of(alloc: Global, engine: &Engine, long: usize) -> Result<Table, AllocError>
+    ensures table { IfOk result (λ t. HasRun engine.now (length t.room.items) t 0) }
+    ensures long { IfOk result (λ t. length t.room.items ≡ long) }
+{
+    let rows = zero_rows(alloc, engine.code.widths.len(), long)?;
+    let room = vec![in alloc; 0; long]?;
+    let spares = Spares::new(alloc, long)?;
+    let table = Table { rows, room, spares };
+    Ok(table)
+}
+
+fn room_of(alloc: Global, size: usize) -> Result<ArrayRoom, AllocError> {
+    let read = vec![in alloc; 0; size]?;
+    let index = vec![in alloc; 0; size]?;
+    let value = vec![in alloc; 0; size]?;
+    Ok(ArrayRoom { read, index, value })
+}
+
+// Room for the words of small arrays.
+fn copies_of(alloc: Global, wiring: &Wiring) -> Result<Vec<Vec<u64>>, AllocError> {
+    let mut copies = Vec::new(alloc);
+    for shape in &wiring.arrays {
+        let depth = shape.depth.words() as usize;
+        let words = if depth < SMALL { depth } else { 0 };
+        copies.push(vec![in alloc; 0; words]?)?;
+    }
+    Ok(copies)
+}
+
+fn hints_of(alloc: Global, wiring: &Wiring) -> Result<Hints, AllocError> {
+    let words = copies_of(alloc, wiring)?;
+    let steps = vec![in alloc; 1; wiring.regs.len()]?;
+    let stands = vec![in alloc; true; wiring.regs.len()]?;
+    Ok(Hints {
+        words,
+        steps,
+        stands,
+    })
+}
+
+// The most clocks of a piece for which rows of so many slots and arrays have room: 0 where there is none.
+fn size_of(slots: usize) -> usize
+    ensures { result ≤ 1024 }
+{
+    let most = MOST_WORDS / slots.saturating_add(1);
+    if most > MOST_CLOCKS {
+        MOST_CLOCKS
+    } else if most > MOST_CLOCKS / 2 {
+        MOST_CLOCKS / 2
+    } else {
+        0
+    }
+}
+
+// The rows of an engine.
+fn rows_of_engine(
+    alloc: Global,
+    engine: Engine,
+    wiring: &Wiring,
+    size: usize,
+) -> Result<Rows, AllocError>
+    requires some { 1 ≤ size }
+    requires size { size ≤ 1024 }
+    requires engine { IsEngineOf (netlist_of wiring.now) engine }
+    ensures { IfOk result (AreRowsOf (netlist_of wiring.now)) }
+{
+    let table = table_of(alloc, &engine, size + 1)?;
+    let hints = hints_of(alloc, wiring)?;
+    let room = room_of(alloc, size)?;
+    let to = vec![in alloc; 0; size]?;
+    let lost = zero_rows(alloc, wiring.arrays.len(), size)?;
+    Ok(Rows {
+        engine,
+        table,
+        hints,
+        room,
+        to,
+        lost,
+        size,
+    })
+}
+
+// The engine of a code and its plan.
+fn engine_of(
+    alloc: Global,
+    code: BlockCode,
+    plan: Plan,
+    wiring: &Wiring,
+    ports: usize,
+) -> Result<Engine, AllocError>
+    requires code { IsBlockCode (netlist_of wiring.now) code }
+    requires ports { ports ≡ din_count (netlist_of wiring.now) }
+    ensures { IfOk result (IsEngineOf (netlist_of wiring.now)) }
+{
+    let uses = first_uses(alloc, code.widths.len(), &code.instructions)?;
+    let registers = registers_of(alloc, wiring)?;
+    let arrays = arrays_of(alloc, wiring)?;
+    let makers = makers_of(alloc, &code)?;
+    Ok(Engine {
+        code,
+        plan,
+        uses,
+        registers,
+        arrays,
+        makers,
+        has_enable: wiring.enable,
+        ports,
+    })
+}
+
+// Rows for a module, if there is a plan for it and not too much room is wanted.
+pub fn rows_of(alloc: Global, module: &Module, ports: usize) -> Result<Option<Rows>, OutOfMemory>
+    requires ports { ports ≡ din_count «module».now.netlist }
+    ensures { IfOk result (λ o. IfSome o (AreRowsOf «module».now.netlist)) }
+{
+    let Some(plan) = make_plan(alloc, module, MOST_CLOCKS)? else {
+        return Ok(None);
+    };
+    let Some(code) = BlockCode::of(alloc, module, &plan.order)? else {
+        return Ok(None);
+    };
+    let wiring = module.wiring();
+    let size = size_of(code.widths.len().saturating_add(wiring.arrays.len()));
+    if size == 0 {
+        return Ok(None);
+    }
+    let engine = engine_of(alloc, code, plan, wiring, ports)?;
+    let rows = rows_of_engine(alloc, engine, wiring, size)?;
+    Ok(Some(rows))
+}

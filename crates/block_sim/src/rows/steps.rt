@@ -1,0 +1,535 @@
+// The steps of a plan. What they fill in claims nothing but that it fits.
+
+ghost use Rattle.std.specs.Prelude.{◌≡◌, ◌≤◌, length, IfSome, IsTrue};
+ghost use Rattle.block_sim.specs.Engine.{IsEngine, HasRun};
+
+use crate::held::Held;
+use crate::judge::arrays::are_same;
+use crate::rows::engine::Engine;
+use crate::rows::fill::{
+    ENABLE, Line, Worth, atom_value, propose_choice, propose_line, propose_read, propose_shift,
+    propose_small, row_of, slot_value, worth_at, worth_of,
+};
+use crate::rows::table::{Table, offer, run_upto};
+use block_plan::Step;
+use block_rows::Instruction;
+use wiring::Atom;
+
+// The most rounds in which the rows of a cycle are guessed.
+const ROUNDS: usize = 6;
+
+// What the steps work with: copies of the words of small arrays, and of each register by which step it goes on and whether it
+// stands in held clocks.
+#[derive(Debug, Drop)]
+pub struct Hints {
+    pub words: Vec<Vec<u64>>,
+    pub steps: Vec<u64>,
+    pub stands: Vec<bool>,
+}
+
+// The updates of a cycle of registers, by their first place in the plan's list and that after their last, and the instructions up to
+// which it reaches.
+#[derive(Clone, Copy)]
+pub struct Cycle {
+    first: usize,
+    last: usize,
+    upto: usize,
+}
+
+// The register of an update of the plan.
+fn register_at(engine: &Engine, update: usize) -> Option<usize> {
+    match engine.registers.get(update) {
+        Some(register) => *register,
+        None => None,
+    }
+}
+
+fn array_at(engine: &Engine, assign: usize) -> Option<usize> {
+    match engine.arrays.get(assign) {
+        Some(array) => *array,
+        None => None,
+    }
+}
+
+fn number_in(numbers: &[u64], place: usize) -> u64 {
+    if place < numbers.len() {
+        numbers[place]
+    } else {
+        0
+    }
+}
+
+fn flag_in(flags: &[bool], place: usize) -> bool {
+    if place < flags.len() {
+        flags[place]
+    } else {
+        false
+    }
+}
+
+fn lower_flag(flags: &mut [bool], place: usize) {
+    if place < flags.len() {
+        flags[place] = false;
+    }
+}
+
+fn set_number(numbers: &mut [u64], place: usize, number: u64) {
+    if place < numbers.len() {
+        numbers[place] = number;
+    }
+}
+
+#[tactic(auto, using(crate::proofs::Tables::table_refilled))]
+fn shift(engine: &Engine, table: &mut Table, held: &Held, done: usize, update: usize) -> bool
+    requires engine { IsEngine engine.now }
+    requires table { HasRun engine.now (length table.old.room.items) table.old done }
+    ensures room { length table.new.room.items ≡ length table.old.room.items }
+    ensures table { HasRun engine.now (length table.old.room.items) table.new done }
+{
+    let Some(register) = register_at(engine, update) else {
+        return false;
+    };
+    let Some(next) = engine.code.nexts.get(register) else {
+        return false;
+    };
+    propose_shift(table, next, number_in(&held.regs, register));
+    let slot = engine.code.first_reg.saturating_add(register);
+    offer_row(engine, table, done, slot)
+}
+
+// Offers the spare row to a slot.
+pub fn offer_row(engine: &Engine, table: &mut Table, done: usize, slot: usize) -> bool
+    requires engine { IsEngine engine.now }
+    requires table { HasRun engine.now (length table.old.room.items) table.old done }
+    ensures room { length table.new.room.items ≡ length table.old.room.items }
+    ensures table { HasRun engine.now (length table.old.room.items) table.new done }
+{
+    offer(
+        &engine.code.widths,
+        &engine.code.instructions,
+        &engine.uses,
+        table,
+        done,
+        slot,
+    )
+}
+
+#[tactic(auto, using(crate::proofs::Tables::table_refilled))]
+fn read(engine: &Engine, table: &mut Table, held: &Held, done: usize, assign: usize) -> bool
+    requires engine { IsEngine engine.now }
+    requires table { HasRun engine.now (length table.old.room.items) table.old done }
+    ensures room { length table.new.room.items ≡ length table.old.room.items }
+    ensures table { HasRun engine.now (length table.old.room.items) table.new done }
+{
+    let Some(array) = array_at(engine, assign) else {
+        return false;
+    };
+    let Some(read) = engine.code.reads.get(array) else {
+        return false;
+    };
+    let Some(words) = held.arrays.get(array) else {
+        return false;
+    };
+    propose_read(table, &read.index, words);
+    offer_row(engine, table, done, read.target)
+}
+
+// A copy of words, as far as there is room.
+fn copy_words(to: &mut [u64], words: &[u64]) {
+    for i in 0..to.len() {
+        to[i] = number_in(words, i);
+    }
+}
+
+#[tactic(auto, using(crate::proofs::Tables::table_refilled))]
+fn small(
+    engine: &Engine,
+    table: &mut Table,
+    held: &Held,
+    hints: &mut Hints,
+    done: usize,
+    assign: usize,
+) -> bool
+    requires engine { IsEngine engine.now }
+    requires table { HasRun engine.now (length table.old.room.items) table.old done }
+    ensures room { length table.new.room.items ≡ length table.old.room.items }
+    ensures table { HasRun engine.now (length table.old.room.items) table.new done }
+{
+    let Some(array) = array_at(engine, assign) else {
+        return false;
+    };
+    let Some(read) = engine.code.reads.get(array) else {
+        return false;
+    };
+    let Some(put) = engine.code.puts.get(array) else {
+        return false;
+    };
+    let Some(words) = held.arrays.get(array) else {
+        return false;
+    };
+    let Some(copy) = hints.words.get_mut(array) else {
+        return false;
+    };
+    copy_words(copy, words);
+    propose_small(table, &read.index, &put.index, &put.value, copy);
+    offer_row(engine, table, done, read.target)
+}
+
+// The instruction that makes what an array is given.
+fn maker_at(engine: &Engine, array: usize) -> Option<&Instruction> {
+    match engine.makers.get(array) {
+        Some(Some(maker)) => engine.code.instructions.get(*maker),
+        _ => None,
+    }
+}
+
+// An array that is given what is read, or else a value chosen by a bit.
+#[tactic(auto, using(crate::proofs::Tables::table_refilled))]
+fn hold(
+    engine: &Engine,
+    table: &mut Table,
+    held: &Held,
+    hints: &mut Hints,
+    done: usize,
+    assign: usize,
+) -> bool
+    requires engine { IsEngine engine.now }
+    requires table { HasRun engine.now (length table.old.room.items) table.old done }
+    ensures room { length table.new.room.items ≡ length table.old.room.items }
+    ensures table { HasRun engine.now (length table.old.room.items) table.new done }
+{
+    let Some(array) = array_at(engine, assign) else {
+        return false;
+    };
+    let Some(read) = engine.code.reads.get(array) else {
+        return false;
+    };
+    let Some(maker) = maker_at(engine, array) else {
+        return false;
+    };
+    let Some(words) = held.arrays.get(array) else {
+        return false;
+    };
+    let Some(copy) = hints.words.get_mut(array) else {
+        return false;
+    };
+    copy_words(copy, words);
+    propose_choice(table, &read.index, &maker.right, copy);
+    offer_row(engine, table, done, read.target)
+}
+
+// A register's row as it is up to a place, and a line from there.
+#[tactic(auto, using(crate::proofs::Tables::table_refilled))]
+fn go_on(
+    engine: &Engine,
+    table: &mut Table,
+    done: usize,
+    register: usize,
+    first: usize,
+    line: Line,
+) -> bool
+    requires engine { IsEngine engine.now }
+    requires table { HasRun engine.now (length table.old.room.items) table.old done }
+    ensures room { length table.new.room.items ≡ length table.old.room.items }
+    ensures table { HasRun engine.now (length table.old.room.items) table.new done }
+{
+    let slot = engine.code.first_reg.saturating_add(register);
+    propose_line(table, engine.has_enable, slot, first, line);
+    offer_row(engine, table, done, slot)
+}
+
+// The first guess of a register: a line from what it holds.
+fn guess_one(
+    engine: &Engine,
+    table: &mut Table,
+    held: &Held,
+    hints: &Hints,
+    done: usize,
+    update: usize,
+) -> bool
+    requires engine { IsEngine engine.now }
+    requires table { HasRun engine.now (length table.old.room.items) table.old done }
+    ensures room { length table.new.room.items ≡ length table.old.room.items }
+    ensures table { HasRun engine.now (length table.old.room.items) table.new done }
+{
+    let Some(register) = register_at(engine, update) else {
+        return false;
+    };
+    let line = Line {
+        value: number_in(&held.regs, register),
+        step: number_in(&hints.steps, register),
+        stands: flag_in(&hints.stands, register),
+    };
+    go_on(engine, table, done, register, 0, line)
+}
+
+// The registers of these updates, each by its first guess.
+fn guess_all(
+    engine: &Engine,
+    table: &mut Table,
+    held: &Held,
+    hints: &Hints,
+    done: usize,
+    cycle: Cycle,
+) -> bool
+    requires engine { IsEngine engine.now }
+    requires table { HasRun engine.now (length table.old.room.items) table.old done }
+    ensures room { length table.new.room.items ≡ length table.old.room.items }
+    ensures table { HasRun engine.now (length table.old.room.items) table.new done }
+{
+    for place in cycle.first..cycle.last.min(engine.plan.looped.len()) {
+        if !guess_one(engine, table, held, hints, done, engine.plan.looped[place]) {
+            return false;
+        }
+    }
+    true
+}
+
+// Whether the first so many places of a row are another row's: in one pass that does not end early, which is faster where they
+// are.
+fn agrees(row: &[u64], worth: Worth<'_>, count: usize) -> bool {
+    match worth {
+        Worth::Row(next) if count <= row.len() && count <= next.len() => {
+            are_same(&row[..count], next)
+        }
+        _ => false,
+    }
+}
+
+// The first of so many clocks at which a row is not this, one clock later.
+fn first_apart(row: &[u64], worth: Worth<'_>, count: usize) -> usize {
+    let Some((_, later)) = row.split_first() else {
+        return 0;
+    };
+    if agrees(later, worth, count) {
+        return count;
+    }
+    for t in 0..count.min(later.len()) {
+        if later[t] != worth_at(worth, t) {
+            return t;
+        }
+    }
+    count
+}
+
+// The first of so many clocks at which a register's row is not its next value's row, one clock later.
+fn wrong_one(engine: &Engine, table: &Table, update: usize, count: usize) -> usize {
+    let Some(register) = register_at(engine, update) else {
+        return 0;
+    };
+    let Some(next) = engine.code.nexts.get(register) else {
+        return 0;
+    };
+    let slot = engine.code.first_reg.saturating_add(register);
+    first_apart(
+        row_of(&table.rows, slot),
+        worth_of(&table.rows, next),
+        count,
+    )
+}
+
+fn wrong_first(engine: &Engine, table: &Table, cycle: Cycle, count: usize) -> usize {
+    let mut wrong = count;
+    for place in cycle.first..cycle.last.min(engine.plan.looped.len()) {
+        wrong = wrong_one(engine, table, engine.plan.looped[place], wrong);
+    }
+    wrong
+}
+
+// Whether a clock is held.
+fn is_held(engine: &Engine, table: &Table, clock: usize) -> bool {
+    engine.has_enable && slot_value(&table.rows, ENABLE, clock) == 0
+}
+
+// How a register goes on behind the first wrong place: from the right value, by the step 1 where it changes as it did before, or
+// may have done before a held clock. One that changes in a held clock does not stand in such clocks.
+fn mended(
+    engine: &Engine,
+    table: &Table,
+    hints: &mut Hints,
+    register: usize,
+    next: &Atom<usize>,
+    wrong: usize,
+) -> Line {
+    let slot = engine.code.first_reg.saturating_add(register);
+    let value = atom_value(&table.rows, next, wrong);
+    let is = slot_value(&table.rows, slot, wrong);
+    let before = wrong.saturating_sub(1);
+    let was = slot_value(&table.rows, slot, before);
+    let moved = wrong == 0 || is != was || is_held(engine, table, before);
+    let step = u64::from(value != is && moved);
+    set_number(&mut hints.steps, register, step);
+    if value != is && is_held(engine, table, wrong) {
+        lower_flag(&mut hints.stands, register);
+    }
+    let stands = flag_in(&hints.stands, register);
+    Line {
+        value,
+        step,
+        stands,
+    }
+}
+
+fn mend_one(
+    engine: &Engine,
+    table: &mut Table,
+    hints: &mut Hints,
+    done: usize,
+    update: usize,
+    wrong: usize,
+) -> bool
+    requires engine { IsEngine engine.now }
+    requires table { HasRun engine.now (length table.old.room.items) table.old done }
+    ensures room { length table.new.room.items ≡ length table.old.room.items }
+    ensures table { HasRun engine.now (length table.old.room.items) table.new done }
+{
+    let Some(register) = register_at(engine, update) else {
+        return false;
+    };
+    let Some(next) = engine.code.nexts.get(register) else {
+        return false;
+    };
+    let line = mended(engine, table, hints, register, next, wrong);
+    go_on(engine, table, done, register, wrong.saturating_add(1), line)
+}
+
+fn mend_all(
+    engine: &Engine,
+    table: &mut Table,
+    hints: &mut Hints,
+    done: usize,
+    cycle: Cycle,
+    wrong: usize,
+) -> bool
+    requires engine { IsEngine engine.now }
+    requires table { HasRun engine.now (length table.old.room.items) table.old done }
+    ensures room { length table.new.room.items ≡ length table.old.room.items }
+    ensures table { HasRun engine.now (length table.old.room.items) table.new done }
+{
+    for place in cycle.first..cycle.last.min(engine.plan.looped.len()) {
+        if !mend_one(engine, table, hints, done, engine.plan.looped[place], wrong) {
+            return false;
+        }
+    }
+    true
+}
+
+// Instructions from so many on up to a place.
+fn run(engine: &Engine, table: &mut Table, done: usize, upto: usize) -> usize
+    requires engine { IsEngine engine.now }
+    requires table { HasRun engine.now (length table.old.room.items) table.old done }
+    ensures room { length table.new.room.items ≡ length table.old.room.items }
+    ensures table { HasRun engine.now (length table.old.room.items) table.new result }
+    ensures more { done ≤ result }
+{
+    run_upto(
+        &engine.code.widths,
+        &engine.code.instructions,
+        table,
+        done,
+        upto,
+    )
+}
+
+// The registers of a cycle, guessed and mended until they are right over so many clocks. None where that does not come to an end.
+#[tactic(auto, using(crate::proofs::Tables::hold_fewer))]
+fn guess(
+    engine: &Engine,
+    table: &mut Table,
+    held: &Held,
+    hints: &mut Hints,
+    done: usize,
+    cycle: Cycle,
+    count: usize,
+) -> Option<usize>
+    requires engine { IsEngine engine.now }
+    requires table { HasRun engine.now (length table.old.room.items) table.old done }
+    ensures room { length table.new.room.items ≡ length table.old.room.items }
+    ensures table { IfSome result (λ n. HasRun engine.now (length table.old.room.items) table.new n) }
+    ensures least { HasRun engine.now (length table.old.room.items) table.new 0 }
+{
+    if !guess_all(engine, table, held, hints, done, cycle) {
+        return None;
+    }
+    for _round in 0..ROUNDS {
+        let now = run(engine, table, done, cycle.upto);
+        let wrong = wrong_first(engine, table, cycle, count);
+        if wrong >= count {
+            return Some(now);
+        }
+        if !mend_all(engine, table, hints, done, cycle, wrong) {
+            return None;
+        }
+    }
+    None
+}
+
+// Goes on where a row was offered.
+fn when(offered: bool, done: usize) -> Option<usize>
+    ensures { IfSome result (λ n. n ≡ done) }
+{
+    if offered { Some(done) } else { None }
+}
+
+// One step of the plan, behind so many instructions that are run: how many are run then.
+#[tactic(auto, using(crate::proofs::Tables::hold_fewer))]
+pub fn take_step(
+    engine: &Engine,
+    table: &mut Table,
+    held: &Held,
+    hints: &mut Hints,
+    done: usize,
+    step: Step,
+    count: usize,
+) -> Option<usize>
+    requires engine { IsEngine engine.now }
+    requires table { HasRun engine.now (length table.old.room.items) table.old done }
+    ensures room { length table.new.room.items ≡ length table.old.room.items }
+    ensures table { IfSome result (λ n. HasRun engine.now (length table.old.room.items) table.new n) }
+    ensures least { HasRun engine.now (length table.old.room.items) table.new 0 }
+{
+    match step {
+        Step::Run { upto } => Some(run(engine, table, done, upto)),
+        Step::Shift { update } => when(shift(engine, table, held, done, update), done),
+        Step::Read { assign } => when(read(engine, table, held, done, assign), done),
+        Step::Small { assign } => when(small(engine, table, held, hints, done, assign), done),
+        Step::Held { assign } => when(hold(engine, table, held, hints, done, assign), done),
+        Step::Guess { first, last, upto } => {
+            let cycle = Cycle { first, last, upto };
+            guess(engine, table, held, hints, done, cycle, count)
+        }
+    }
+}
+
+// All steps of the plan: true if all instructions are run then.
+#[tactic(auto, using(crate::proofs::Tables::hold_fewer))]
+pub fn take_steps(
+    engine: &Engine,
+    table: &mut Table,
+    held: &Held,
+    hints: &mut Hints,
+    count: usize,
+) -> bool
+    requires engine { IsEngine engine.now }
+    requires table { HasRun engine.now (length table.old.room.items) table.old 0 }
+    ensures room { length table.new.room.items ≡ length table.old.room.items }
+    ensures table { IsTrue result → HasRun engine.now (length table.old.room.items) table.new (length engine.now.code.instructions.items) }
+    ensures least { HasRun engine.now (length table.old.room.items) table.new 0 }
+{
+    let mut done = 0;
+    for k in 0..engine.plan.steps.len() {
+        match take_step(
+            engine,
+            table,
+            held,
+            hints,
+            done,
+            engine.plan.steps[k],
+            count,
+        ) {
+            None => return false,
+            Some(now) => done = now,
+        }
+    }
+    done == engine.code.instructions.len()
+}
