@@ -11,7 +11,8 @@ use Rattle.std.proofs.lemmas.Option.{same_Some, slice_get_within, get_or_from_sl
 use Rattle.std.proofs.lemmas.List.FromFn.{length-map-range_with_len, get_or-map-range_with_len, map-range_with_len_more}
 use Rattle.std.proofs.lemmas.Bool.Decides.{nat_tests}
 use Rattle.wiring.proofs.Lists.{All-from_at}
-use Rattle.net_names.specs.Words.{is_letter, is_digit, is_name, is_word, is_word_byte, same_codes, is_among, structure_words, is_structure_word, is_refused_word, refused_a_to_d, refused_e, refused_f, refused_g_to_n, refused_o_to_s, refused_t_to_x}
+use Rattle.std.specs.Str.{bytes_eq}
+use Rattle.net_names.specs.Words.{is_letter, is_digit, is_name, is_word, is_word_byte, is_among, structure_words, is_structure_word, is_refused_word, refused_a_to_d, refused_e, refused_f, refused_g_to_n, refused_o_to_s, refused_t_to_x}
 use Rattle.wiring.specs.Netlist.{Netlist, first_din}
 use Rattle.netlist.specs.Names.{numbered, din_names, output_names, input_names, port_names, AreDistinct, HasNames}
 use Rattle.net_build.specs.Naming.{made_name, made_names, names_for, AreCounts}
@@ -49,14 +50,14 @@ both true true e = (refl, refl)
 both true false e = cc
 both false b e = cc
 
-no_same : (l d : ℕ) (rest w : List ℕ) → is_digit d ≡ true → not (is_digit (second w)) ≡ true → same_codes (l ∷ (d ∷ rest)) w ≡ false
+no_same : (l d : ℕ) (rest w : List ℕ) → is_digit d ≡ true → not (is_digit (second w)) ≡ true → bytes_eq (l ∷ (d ∷ rest)) w ≡ false
 no_same l d rest [] digit none = refl
 no_same l d rest (a ∷ []) digit none = by (nat_eq l a)
   where
     by : (t : Bool) → (t && false) ≡ false
     by true = refl
     by false = refl
-no_same l d rest (a ∷ (b ∷ w)) digit none = by (nat_eq l a) (nat_eq d b) (same_codes rest w) (no_digit d b digit none)
+no_same l d rest (a ∷ (b ∷ w)) digit none = by (nat_eq l a) (nat_eq d b) (bytes_eq rest w) (no_digit d b digit none)
   where
     by : (t u v : Bool) → u ≡ false → (t && (u && v)) ≡ false
     by true false v e = refl

@@ -1,6 +1,7 @@
 -- The words of Verilog texts, and which of them are names.
-use Rattle.std.specs.Prelude.{ℕ, List, [], ◌∷◌, length, Bool, true, false, ◌&&◌, ◌||◌, not, nat_lt, nat_le, nat_eq, codes}
+use Rattle.std.specs.Prelude.{ℕ, List, [], ◌∷◌, length, Bool, false, ◌&&◌, ◌||◌, not, nat_lt, nat_le, nat_eq, codes}
 use Rattle.std.specs.List.{prefix_len}
+use Rattle.std.specs.Str.{bytes_eq}
 use Rattle.net_names.specs.declared.TheConstants.{MOST_NAME_BYTES}
 
 abbrev pub is_letter : ℕ → Bool
@@ -17,15 +18,9 @@ abbrev pub is_word : List ℕ → Bool
 is_word [] = false
 is_word (b ∷ bytes) = is_letter b && nat_eq (prefix_len is_word_byte bytes) (length bytes)
 
--- the same bytes
-abbrev pub same_codes : List ℕ → List ℕ → Bool
-same_codes [] [] = true
-same_codes (a ∷ as') (b ∷ bs) = nat_eq a b && same_codes as' bs
-same_codes _ _ = false
-
 abbrev pub is_among : List ℕ → List (List ℕ) → Bool
 is_among bytes [] = false
-is_among bytes (w ∷ words) = same_codes bytes w || is_among bytes words
+is_among bytes (w ∷ words) = bytes_eq bytes w || is_among bytes words
 
 -- the words of the grammar
 abbrev pub structure_words : List (List ℕ)

@@ -2,7 +2,8 @@
 
 ghost use Rattle.std.specs.Prelude.{◌≡◌};
 ghost use Rattle.std.specs.List.{prefix_len};
-ghost use Rattle.net_names.specs.Words.{is_letter as letter, is_digit as digit, is_word_byte as word_byte, is_word as word, same_codes, is_among, structure_words, refused_a_to_d, refused_e, refused_f, refused_g_to_n, refused_o_to_s, refused_t_to_x, is_structure_word as structure_word, is_refused_word as refused_word, is_name as name};
+ghost use Rattle.std.specs.Str.{bytes_eq};
+ghost use Rattle.net_names.specs.Words.{is_letter as letter, is_digit as digit, is_word_byte as word_byte, is_word as word, is_among, structure_words, refused_a_to_d, refused_e, refused_f, refused_g_to_n, refused_o_to_s, refused_t_to_x, is_structure_word as structure_word, is_refused_word as refused_word, is_name as name};
 
 use crate::MOST_NAME_BYTES;
 
@@ -41,7 +42,7 @@ pub fn is_word(bytes: &[u8]) -> bool
 }
 
 fn same(left: &[u8], right: &[u8]) -> bool
-    ensures { result ≡ same_codes left.now right.now }
+    ensures { result ≡ bytes_eq left.now right.now }
 {
     left == right
 }

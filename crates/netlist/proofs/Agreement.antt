@@ -17,9 +17,10 @@ use Rattle.netlist.specs.declared.fault.Statement.{Statement}
 use Rattle.netlist.specs.declared.fault.Statement.TheVariants.{Assign as AssignAt, Update as UpdateAt}
 use Rattle.netlist.specs.declared.fault.NetFault.{NetFault}
 use Rattle.netlist.specs.declared.fault.NetFault.TheVariants.{Duplicate, Ports, Unknown, WrongSort, Divisor, Width, DrivenTwice, Undriven, Cycle}
-use Rattle.netlist.specs.Names.{NamedNetlist}
+use Rattle.wiring.specs.Order.{IsAcyclic}
 use Rattle.netlist.specs.Scopes.{Entry, scope_of, netlist_of_parts}
-use Rattle.netlist.specs.Faults.{entry_names, NamesDiffer, IsPlace, AssignFits, UpdateFits, FineAssign, FineUpdate, UnknownAssign, UnknownUpdate, WrongSortAssign, WrongSortUpdate, DivisorAssign, DivisorUpdate, WidthAssign, WidthUpdate, FirstWrong, FirstStatement, TargetsDiffer, HasDriver, PassesPorts, PassesStatements, PassesTargets, PassesDrivers, IsFault, IsModuleOf, Agrees}
+use Rattle.netlist.specs.Faults.{AssignFits, UpdateFits, TargetsDiffer, HasDriver, Agrees}
+use Rattle.netlist.specs.Passes.{entry_names, NamesDiffer, IsPlace, FineAssign, FineUpdate, UnknownAssign, UnknownUpdate, WrongSortAssign, WrongSortUpdate, DivisorAssign, DivisorUpdate, WidthAssign, WidthUpdate, FirstWrong, FirstStatement, PassesPorts, PassesStatements, PassesTargets, PassesDrivers, IsPassFault}
 
 -- the first wrong item is one
 first_one : {X : Type 0} (Fine Wrong Other : X → Type 0) → ((x : X) → Fine x → Wrong x → ⊥) → ((x : X) → Fine x → Other x → ⊥) → (items : List X) (j k : ℕ) → FirstWrong Fine Wrong items j → FirstWrong Fine Other items k → j ≡ k
@@ -150,17 +151,17 @@ module _ (p : Parts) where
   place_one (DeclarationAt k) (PortAt l) i j a b e = absurd (omega (arith, b.0, b.1, a, e))
   place_one (DeclarationAt k) (DeclarationAt l) i j a b e = ap (λ (z : ℕ). DeclarationAt z) (let f : k ≡ l = omega (arith, a, b, e) in f)
 
-  twice_one : (s t : Statement) → IsFault p (DrivenTwice s) → IsFault p (DrivenTwice t) → s ≡ t
+  twice_one : (s t : Statement) → IsPassFault p (DrivenTwice s) → IsPassFault p (DrivenTwice t) → s ≡ t
   twice_one (AssignAt i) (AssignAt j) a b = ap (λ (z : ℕ). AssignAt z) (second_one assign_target (netlist_of_parts p).assigns i j a.1 b.1)
   twice_one (AssignAt i) (UpdateAt j) a b = absurd (second_differs assign_target (netlist_of_parts p).assigns i a.1 b.1)
   twice_one (UpdateAt i) (AssignAt j) a b = absurd (second_differs assign_target (netlist_of_parts p).assigns j b.1 a.1)
   twice_one (UpdateAt i) (UpdateAt j) a b = ap (λ (z : ℕ). UpdateAt z) (second_one update_target (netlist_of_parts p).updates i j a.2 b.2)
 
-  twice_refuted : (s : Statement) → IsFault p (DrivenTwice s) → PassesTargets p → ⊥
+  twice_refuted : (s : Statement) → IsPassFault p (DrivenTwice s) → PassesTargets p → ⊥
   twice_refuted (AssignAt i) a passes = second_differs assign_target (netlist_of_parts p).assigns i a.1 passes.assigns
   twice_refuted (UpdateAt i) a passes = second_differs update_target (netlist_of_parts p).updates i a.2 passes.updates
 
-  twice_passed : (s : Statement) → IsFault p (DrivenTwice s) → PassesStatements p
+  twice_passed : (s : Statement) → IsPassFault p (DrivenTwice s) → PassesStatements p
   twice_passed (AssignAt i) a = a.0
   twice_passed (UpdateAt i) a = a.0
 
@@ -214,7 +215,7 @@ module _ (p : Parts) where
   stage_few (Undriven d) = omega arith
   stage_few (Cycle k) = omega arith
 
-  passed : (f : NetFault) → IsFault p f → Passed (stage f)
+  passed : (f : NetFault) → IsPassFault p f → Passed (stage f)
   passed (Duplicate d) a = tt
   passed Ports a = a.0
   passed (Unknown s) a = a.0
@@ -225,7 +226,7 @@ module _ (p : Parts) where
   passed (Undriven d) a = a.0
   passed (Cycle k) a = a.0
 
-  refuted : (f : NetFault) → stage f < 5 → IsFault p f → Passed (suc (stage f)) → ⊥
+  refuted : (f : NetFault) → stage f < 5 → IsPassFault p f → Passed (suc (stage f)) → ⊥
   refuted (Duplicate d) l a names =
       let second = a.2 in
       let e : second.earlier ≡ a.0 = names second.earlier a.0 second.second (subst (λ (n : List ℕ). slice_get (entry_names p) second.earlier ≡ Some n) second.same second.first_at) second.second_at in
@@ -239,7 +240,7 @@ module _ (p : Parts) where
   refuted (Undriven d) l a passes = a.3.wrong (passes.driven a.1 a.3.item a.3.at)
   refuted (Cycle k) l a passes = omega (arith, l)
 
-  same_stage : (f g : NetFault) → IsFault p f → IsFault p g → stage f ≡ stage g → Agrees f g
+  same_stage : (f g : NetFault) → IsPassFault p f → IsPassFault p g → stage f ≡ stage g → Agrees f g
   same_stage (Duplicate d) (Duplicate e) a b s = ap (λ (z : Declared). Duplicate z) (place_one d e a.0 b.0 a.1 b.1 (second_one (λ (n : List ℕ). n) (entry_names p) a.0 b.0 a.2 b.2))
   same_stage Ports Ports a b s = refl
   same_stage (Unknown x) (Unknown y) a b s = same_statement of_unknown of_unknown x y a.1 b.1
@@ -264,10 +265,10 @@ module _ (p : Parts) where
   same_stage (Cycle j) (Cycle k) a b s = tt
   same_stage f g a b s = absurd (omega (arith, s))
 
-  past : (f g : NetFault) → stage f < stage g → IsFault p f → IsFault p g → ⊥
+  past : (f g : NetFault) → stage f < stage g → IsPassFault p f → IsPassFault p g → ⊥
   past f g l a b = refuted f (let few = stage_few g in omega (arith, l, few)) a (lower (stage g) (suc (stage f)) (omega (arith, l)) (passed g b))
 
-  apart : (f g : NetFault) → IsFault p f → IsFault p g → stage f ≡ stage g
+  apart : (f g : NetFault) → IsPassFault p f → IsPassFault p g → stage f ≡ stage g
   apart f g a b =
       elim (cases_lt (stage f) (stage g)) as (λ _. stage f ≡ stage g) [
         | inl l ↦ absurd (past f g l a b)
@@ -277,9 +278,9 @@ module _ (p : Parts) where
         ]
       ]
 
-  pub faults_agree : (f g : NetFault) → IsFault p f → IsFault p g → Agrees f g
+  pub faults_agree : (f g : NetFault) → IsPassFault p f → IsPassFault p g → Agrees f g
   faults_agree f g a b = same_stage f g a b (apart f g a b)
 
-  pub module_no_fault : (m : NamedNetlist) (f : NetFault) → IsModuleOf p m → IsFault p f → ⊥
-  module_no_fault m (Cycle k) is a = is.acyclic k a.1
-  module_no_fault m f is a = refuted f (omega arith) a (lower 5 (suc (stage f)) (omega arith) is.passes)
+  pub no_fault : (f : NetFault) → PassesDrivers p → IsAcyclic (netlist_of_parts p).assigns → IsPassFault p f → ⊥
+  no_fault (Cycle k) passes acyclic a = acyclic k a.1
+  no_fault f passes acyclic a = refuted f (omega arith) a (lower 5 (suc (stage f)) (omega arith) passes)

@@ -15,7 +15,8 @@ use Rattle.netlist.specs.declared.fault.NetError.{NetError}
 use Rattle.netlist.specs.declared.fault.NetError.TheVariants.{Fault, OutOfMemory}
 use Rattle.netlist.specs.Scopes.{Meaning, Entry, port_meaning, inputs_after, outputs_after, port_entries, sort_meaning, wires_after, regs_after, arrays_after, declared_entries, all_ports, scope_of}
 use Rattle.netlist.specs.Names.{AreDistinct}
-use Rattle.netlist.specs.Faults.{entry_names, NamesDiffer, IsFault, IsErrorBy}
+use Rattle.netlist.specs.Faults.{IsErrorBy}
+use Rattle.netlist.specs.Passes.{entry_names, NamesDiffer, IsPassFault}
 use Rattle.netlist.specs.Entries.{names_in, IsRepeat, IsTaken, IsSecondPort, IsSecondDeclaration}
 
 -- the list from the item at k on
@@ -163,25 +164,25 @@ module _ (p : Parts) where
   all_names : entry_names p ≡ names_in (all_ports p.ports.items) ++ names_in declared
   all_names = map-append (λ (e : Entry). e.name) (all_ports p.ports.items) declared
 
-  first_port_error : (e : NetError) → IsErrorBy (IsSecondPort (names_in (all_ports p.ports.items)) (length p.ports.items)) e → IsErrorBy (IsFault p) e
+  first_port_error : (e : NetError) → IsErrorBy (IsSecondPort (names_in (all_ports p.ports.items)) (length p.ports.items)) e → IsErrorBy (IsPassFault p) e
   first_port_error OutOfMemory s = tt
   first_port_error (Fault f) s =
       let room : s.place < length (names_in (all_ports p.ports.items)) = omega (arith, s.within, names_length (all_ports p.ports.items), ports_length p.ports.items) in
       let among : IsRepeat (entry_names p) s.place = subst (λ (l : List (List ℕ)). IsRepeat l s.place) (sym all_names) (second_more (λ (n : List ℕ). n) (names_in (all_ports p.ports.items)) (names_in declared) s.place room s.is_repeat) in
-      subst (IsFault p) (sym s.fault) (s.place, (s.within, refl), among)
+      subst (IsPassFault p) (sym s.fault) (s.place, (s.within, refl), among)
 
-  pub port_error : (ports : List Port) → ports ≡ p.ports.items → (e : NetError) → IsErrorBy (IsSecondPort (names_in (all_ports ports)) (length ports)) e → IsErrorBy (IsFault p) e
+  pub port_error : (ports : List Port) → ports ≡ p.ports.items → (e : NetError) → IsErrorBy (IsSecondPort (names_in (all_ports ports)) (length ports)) e → IsErrorBy (IsPassFault p) e
   port_error ports same e h = first_port_error e (subst (λ (l : List Port). IsErrorBy (IsSecondPort (names_in (all_ports l)) (length l)) e) same h)
 
-  first_declaration_error : (scope : List Entry) (e : NetError) → scope ≡ all_ports p.ports.items → IsErrorBy (IsSecondDeclaration (names_in (scope ++ declared)) (length scope)) e → IsErrorBy (IsFault p) e
+  first_declaration_error : (scope : List Entry) (e : NetError) → scope ≡ all_ports p.ports.items → IsErrorBy (IsSecondDeclaration (names_in (scope ++ declared)) (length scope)) e → IsErrorBy (IsPassFault p) e
   first_declaration_error scope OutOfMemory is s = tt
   first_declaration_error scope (Fault f) is s =
       let size : length scope ≡ length p.ports.items = ap length is ∙ ports_length p.ports.items in
       let among : IsRepeat (entry_names p) (length scope + s.place) = subst (λ (l : List Entry). IsRepeat (names_in (l ++ declared)) (length scope + s.place)) is s.is_repeat in
-      subst (IsFault p) (sym s.fault) (length scope + s.place, (let e : length p.ports.items + s.place ≡ length scope + s.place = omega (arith, size) in e), among)
+      subst (IsPassFault p) (sym s.fault) (length scope + s.place, (let e : length p.ports.items + s.place ≡ length scope + s.place = omega (arith, size) in e), among)
 
   module _ (ports : List Port) (same_ports : ports ≡ p.ports.items) (ds : List Declaration) (same_declarations : ds ≡ p.declarations.items) (scope : List Entry) (is : scope ≡ all_ports ports) where
-    pub declaration_error : (e : NetError) → IsErrorBy (IsSecondDeclaration (names_in (scope ++ declared_entries 0 0 0 ds)) (length scope)) e → IsErrorBy (IsFault p) e
+    pub declaration_error : (e : NetError) → IsErrorBy (IsSecondDeclaration (names_in (scope ++ declared_entries 0 0 0 ds)) (length scope)) e → IsErrorBy (IsPassFault p) e
     declaration_error e h = first_declaration_error scope e (is ∙ ap all_ports same_ports) (subst (λ (l : List Declaration). IsErrorBy (IsSecondDeclaration (names_in (scope ++ declared_entries 0 0 0 l)) (length scope)) e) same_declarations h)
 
     pub scope_whole : (new : List Entry) → new ≡ scope ++ declared_entries 0 0 0 ds → new ≡ scope_of p

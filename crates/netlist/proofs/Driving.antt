@@ -24,7 +24,8 @@ use Rattle.netlist.specs.declared.fault.NetError.{NetError}
 use Rattle.netlist.specs.declared.fault.NetError.TheVariants.{Fault, OutOfMemory}
 use Rattle.netlist.specs.declared.drive.Tables.{Tables}
 use Rattle.netlist.specs.Scopes.{Meaning, clock, net, array, Entry, scope_of, net_named, array_named, atom_named, assign_named, update_named, reg_of_net, netlist_of_parts}
-use Rattle.netlist.specs.Faults.{FirstWrong, FineAssign, TargetsDiffer, HasAssign, HasUpdate, HasDriver, PassesStatements, PassesTargets, PassesDrivers, IsFault, IsErrorBy}
+use Rattle.netlist.specs.Faults.{TargetsDiffer, HasAssign, HasUpdate, HasDriver, IsErrorBy}
+use Rattle.netlist.specs.Passes.{FirstWrong, FineAssign, PassesStatements, PassesTargets, PassesDrivers, IsPassFault}
 use Rattle.netlist.specs.Driven.{is_driven_by, IsDrivenEntry, AreTables, IsDrivenTwice, IsSecondAssign, IsSecondUpdate, IsFirstUndriven, IsCycle}
 use Rattle.netlist.proofs.Scoped.{two_parts, three_parts, net_declared, array_declared}
 use Rattle.netlist.proofs.Kept.{collected_all}
@@ -140,23 +141,23 @@ module _ (p : Parts) (w : Wiring) (is : netlist_of w ≡ netlist_of_parts p) whe
         updates = differ_by update_target m.updates (updater_of d.updaters) tables.updaters;
       }
 
-  pub twice_error : PassesStatements p → (e : NetError) → IsErrorBy (IsDrivenTwice (netlist_of w)) e → IsErrorBy (IsFault p) e
+  pub twice_error : PassesStatements p → (e : NetError) → IsErrorBy (IsDrivenTwice (netlist_of w)) e → IsErrorBy (IsPassFault p) e
   twice_error passes OutOfMemory h = tt
   twice_error passes (Fault f) h = by (subst (λ (x : Netlist). IsDrivenTwice x f) is h)
     where
-      by : IsDrivenTwice m f → IsFault p f
-      by (inl s) = subst (IsFault p) (sym s.1) (passes, s.2)
-      by (inr s) = subst (IsFault p) (sym s.1.1) (passes, s.0, s.1.2)
+      by : IsDrivenTwice m f → IsPassFault p f
+      by (inl s) = subst (IsPassFault p) (sym s.1) (passes, s.2)
+      by (inr s) = subst (IsPassFault p) (sym s.1.1) (passes, s.0, s.1.2)
 
-  pub cycle_error : PassesDrivers p → (e : NetError) → IsErrorBy (IsCycle (netlist_of w)) e → IsErrorBy (IsFault p) e
+  pub cycle_error : PassesDrivers p → (e : NetError) → IsErrorBy (IsCycle (netlist_of w)) e → IsErrorBy (IsPassFault p) e
   cycle_error passes OutOfMemory s = tt
-  cycle_error passes (Fault f) s = subst (IsFault p) (sym s.1) (passes, subst (λ (x : Netlist). DependsOn x.assigns s.0 s.0) is s.2)
+  cycle_error passes (Fault f) s = subst (IsPassFault p) (sym s.1) (passes, subst (λ (x : Netlist). DependsOn x.assigns s.0 s.0) is s.2)
 
   pub ordered_here : (order : List ℕ) → IsEvaluationOrder w.assigns.items order → IsEvaluationOrder m.assigns order
   ordered_here order h = subst (λ (x : Netlist). IsEvaluationOrder x.assigns order) is h
 
 module _ (p : Parts) (scope : List Entry) (same : scope ≡ scope_of p) (d : Tables) (tables : AreTables (netlist_of_parts p) d) (passes : PassesTargets p) where
-  pub undriven_fault : (f : NetFault) → IsFirstUndriven p scope d f → IsFault p f
+  pub undriven_fault : (f : NetFault) → IsFirstUndriven p scope d f → IsPassFault p f
   undriven_fault f u =
       let first : FirstWrong (λ (e : Entry). HasDriver (netlist_of_parts p) e.meaning) (λ (e : Entry). HasDriver (netlist_of_parts p) e.meaning → ⊥) scope u.place = record {
         item = u.first.item;
@@ -164,7 +165,7 @@ module _ (p : Parts) (scope : List Entry) (same : scope ≡ scope_of p) (d : Tab
         wrong = λ h. u.first.wrong (there_driver (netlist_of_parts p) d tables u.first.item.meaning h);
         before = λ j e l at. driver_there (netlist_of_parts p) d tables e.meaning (u.first.before j e l at);
       } in
-      subst (IsFault p) (sym u.fault) (passes, u.place, u.is_place, subst (λ (s : List Entry). FirstWrong (λ (e : Entry). HasDriver (netlist_of_parts p) e.meaning) (λ (e : Entry). HasDriver (netlist_of_parts p) e.meaning → ⊥) s u.place) same first)
+      subst (IsPassFault p) (sym u.fault) (passes, u.place, u.is_place, subst (λ (s : List Entry). FirstWrong (λ (e : Entry). HasDriver (netlist_of_parts p) e.meaning) (λ (e : Entry). HasDriver (netlist_of_parts p) e.meaning → ⊥) s u.place) same first)
 
   pub passes_drivers : All (IsDrivenEntry d) scope → PassesDrivers p
   passes_drivers all = record {

@@ -25,7 +25,8 @@ use Rattle.netlist.specs.declared.fault.NetError.TheVariants.{Fault, OutOfMemory
 use Rattle.netlist.specs.declared.statement.Wrong.{Wrong}
 use Rattle.netlist.specs.declared.statement.Wrong.TheVariants.{Unknown, WrongSort, Divisor, Width}
 use Rattle.netlist.specs.Scopes.{Entry, scope_of, net_named, right_named, assign_named, update_named, netlist_of_parts, collected, update_constants}
-use Rattle.netlist.specs.Faults.{AssignFits, UpdateFits, IsSortedAssign, FineAssign, FineUpdate, FirstWrong, PassesPorts, IsFault, IsErrorBy, UnknownAssign, WrongSortAssign, DivisorAssign, WidthAssign, UnknownUpdate, WrongSortUpdate, WidthUpdate}
+use Rattle.netlist.specs.Faults.{AssignFits, UpdateFits, IsErrorBy}
+use Rattle.netlist.specs.Passes.{IsSortedAssign, FineAssign, FineUpdate, FirstWrong, PassesPorts, IsPassFault, UnknownAssign, WrongSortAssign, DivisorAssign, WidthAssign, UnknownUpdate, WrongSortUpdate, WidthUpdate}
 use Rattle.netlist.specs.Statements.{IsOfDrivenSort, HasNets, IsGoodAssign, IsGoodUpdate, IsWrongAssign, IsWrongUpdate, IsFirstFault, fault_of}
 use Rattle.netlist.proofs.Scoped.{two_parts, net_declared}
 use Rattle.netlist.proofs.Resolving.{assign_known, update_known}
@@ -132,31 +133,31 @@ module _ (p : Parts) (w : Wiring) (nets : HasNets p w) where
   updates_fine good = all_weaker (FineUpdate p) (IsGoodUpdate scope n) fine_update p.updates.items good
 
   module _ (passes : PassesPorts p) where
-    first_assign : (x : Wrong) (k : ℕ) → FirstWrong (IsGoodAssign scope n) (IsWrongAssign scope n x) p.assigns.items k → IsFault p (fault_of x (AssignAt k))
+    first_assign : (x : Wrong) (k : ℕ) → FirstWrong (IsGoodAssign scope n) (IsWrongAssign scope n x) p.assigns.items k → IsPassFault p (fault_of x (AssignAt k))
     first_assign Unknown k f = (passes, first_weaker (FineAssign p) (UnknownAssign p) (IsGoodAssign scope n) (IsWrongAssign scope n Unknown) fine_assign (λ a h. h) p.assigns.items k f)
     first_assign WrongSort k f = (passes, first_weaker (FineAssign p) (WrongSortAssign p) (IsGoodAssign scope n) (IsWrongAssign scope n WrongSort) fine_assign sort_assign p.assigns.items k f)
     first_assign Divisor k f = (passes, first_weaker (FineAssign p) (DivisorAssign p) (IsGoodAssign scope n) (IsWrongAssign scope n Divisor) fine_assign divisor_assign p.assigns.items k f)
     first_assign Width k f = (passes, first_weaker (FineAssign p) (WidthAssign p) (IsGoodAssign scope n) (IsWrongAssign scope n Width) fine_assign width_assign p.assigns.items k f)
 
-    pub assign_error : (e : NetError) → IsErrorBy (IsFirstFault (IsGoodAssign scope n) (IsWrongAssign scope n) (λ k. AssignAt k) p.assigns.items) e → IsErrorBy (IsFault p) e
+    pub assign_error : (e : NetError) → IsErrorBy (IsFirstFault (IsGoodAssign scope n) (IsWrongAssign scope n) (λ k. AssignAt k) p.assigns.items) e → IsErrorBy (IsPassFault p) e
     assign_error OutOfMemory h = tt
-    assign_error (Fault f) h = subst (IsFault p) (sym h.fault) (first_assign h.wrong h.place h.first)
+    assign_error (Fault f) h = subst (IsPassFault p) (sym h.fault) (first_assign h.wrong h.place h.first)
 
     module _ (assigns : All (FineAssign p) p.assigns.items) where
-      first_update : (x : Wrong) (k : ℕ) → FirstWrong (IsGoodUpdate scope n) (IsWrongUpdate scope n x) p.updates.items k → IsFault p (fault_of x (UpdateAt k))
+      first_update : (x : Wrong) (k : ℕ) → FirstWrong (IsGoodUpdate scope n) (IsWrongUpdate scope n x) p.updates.items k → IsPassFault p (fault_of x (UpdateAt k))
       first_update Unknown k f = (passes, (assigns, first_weaker (FineUpdate p) (UnknownUpdate p) (IsGoodUpdate scope n) (IsWrongUpdate scope n Unknown) fine_update (λ u h. h) p.updates.items k f))
       first_update WrongSort k f = (passes, (assigns, first_weaker (FineUpdate p) (WrongSortUpdate p) (IsGoodUpdate scope n) (IsWrongUpdate scope n WrongSort) fine_update sort_update p.updates.items k f))
       first_update Divisor k f = absurd f.wrong
       first_update Width k f = (passes, (assigns, first_weaker (FineUpdate p) (WidthUpdate p) (IsGoodUpdate scope n) (IsWrongUpdate scope n Width) fine_update width_update p.updates.items k f))
 
-      pub update_error : (e : NetError) → IsErrorBy (IsFirstFault (IsGoodUpdate scope n) (IsWrongUpdate scope n) (λ k. UpdateAt k) p.updates.items) e → IsErrorBy (IsFault p) e
+      pub update_error : (e : NetError) → IsErrorBy (IsFirstFault (IsGoodUpdate scope n) (IsWrongUpdate scope n) (λ k. UpdateAt k) p.updates.items) e → IsErrorBy (IsPassFault p) e
       update_error OutOfMemory h = tt
-      update_error (Fault f) h = subst (IsFault p) (sym h.fault) (first_update h.wrong h.place h.first)
+      update_error (Fault f) h = subst (IsPassFault p) (sym h.fault) (first_update h.wrong h.place h.first)
 
   -- the same of the slices and the scope that a call is given
   module _ (s : List Entry) (same_scope : s ≡ scope_of p) where
     module _ (xs : List NamedAssign) (same : xs ≡ p.assigns.items) where
-      pub assigns_error : PassesPorts p → (e : NetError) → IsErrorBy (IsFirstFault (IsGoodAssign s n) (IsWrongAssign s n) (λ k. AssignAt k) xs) e → IsErrorBy (IsFault p) e
+      pub assigns_error : PassesPorts p → (e : NetError) → IsErrorBy (IsFirstFault (IsGoodAssign s n) (IsWrongAssign s n) (λ k. AssignAt k) xs) e → IsErrorBy (IsPassFault p) e
       assigns_error passes e h =
           assign_error passes e
           (subst (λ (l : List NamedAssign). IsErrorBy (IsFirstFault (IsGoodAssign scope n) (IsWrongAssign scope n) (λ k. AssignAt k) l) e) same
@@ -175,7 +176,7 @@ module _ (p : Parts) (w : Wiring) (nets : HasNets p w) where
       assigns_made bs e = e ∙ ap (λ (x : List Entry). collected (assign_named x) xs) same_scope ∙ ap (λ (l : List NamedAssign). collected (assign_named scope) l) same
 
     module _ (us : List NamedUpdate) (same : us ≡ p.updates.items) where
-      pub updates_error : PassesPorts p → All (FineAssign p) p.assigns.items → (e : NetError) → IsErrorBy (IsFirstFault (IsGoodUpdate s n) (IsWrongUpdate s n) (λ k. UpdateAt k) us) e → IsErrorBy (IsFault p) e
+      pub updates_error : PassesPorts p → All (FineAssign p) p.assigns.items → (e : NetError) → IsErrorBy (IsFirstFault (IsGoodUpdate s n) (IsWrongUpdate s n) (λ k. UpdateAt k) us) e → IsErrorBy (IsPassFault p) e
       updates_error passes assigns e h =
           update_error passes assigns e
           (subst (λ (l : List NamedUpdate). IsErrorBy (IsFirstFault (IsGoodUpdate scope n) (IsWrongUpdate scope n) (λ k. UpdateAt k) l) e) same

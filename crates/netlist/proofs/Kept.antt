@@ -6,7 +6,7 @@ use Rattle.std.specs.List.{AllZip}
 use Rattle.std.proofs.lemmas.Bool.{cases_lt}
 use Rattle.std.proofs.lemmas.List.Elements.{All-nil, All-cons, All-append}
 use Rattle.std.proofs.lemmas.Option.{same_Some}
-use Rattle.net_names.specs.Words.{same_codes}
+use Rattle.std.specs.Str.{bytes_eq}
 use Rattle.wiring.specs.declared.right.Atom.{Atom}
 use Rattle.wiring.specs.declared.right.Atom.TheVariants as atom
 use Rattle.wiring.specs.declared.right.Right.{Right}
@@ -36,7 +36,8 @@ use Rattle.netlist.specs.declared.parts.NamedAssign.{NamedAssign}
 use Rattle.netlist.specs.declared.parts.NamedUpdate.{NamedUpdate}
 use Rattle.netlist.specs.declared.parts.NamedUpdate.TheVariants.{Set as NamedSet, Put as NamedPut}
 use Rattle.netlist.specs.Scopes.{Meaning, clock, net, array, Entry, port_meaning, inputs_after, outputs_after, port_entries, all_ports, sort_meaning, wires_after, regs_after, arrays_after, declared_entries, scope_of, net_named, array_named, atom_named, right_named, assign_named, update_named, reg_of_net, collected, taken, given, past_clock, has_enable, wire_width, reg_width, array_shape, netlist_of_parts, SortFits, update_constants, SizesFit}
-use Rattle.netlist.specs.Faults.{din_rules, output_rules, profile, FitsRule, UpdateFits, FineAssign, FineUpdate, HasDriver, HasAssign, HasUpdate, PassesDrivers}
+use Rattle.netlist.specs.Faults.{din_rules, output_rules, profile, FitsRule, UpdateFits, HasDriver, HasAssign, HasUpdate}
+use Rattle.netlist.specs.Passes.{FineAssign, FineUpdate, PassesDrivers}
 use Rattle.netlist.proofs.Scoped.{takings, givings, wires_of, regs_of, arrays_of, one_part, two_parts, three_parts, net_declared, array_declared, atom_declared, right_declared}
 
 option_all : {Y : Type 0} (P : Y → Type 0) (o : Option Y) → ((y : Y) → o ≡ Some y → P y) → All P (option_to_list o)
@@ -116,7 +117,7 @@ Ports ports = ArePorts (has_enable ports) (takings (past_clock ports)) (givings 
 with_enable : (c r e : Port) (ports : List Port) (dins douts : ℕ) → IsPortCount dins → IsPortCount douts → AllZip FitsRule (c ∷ (r ∷ (e ∷ ports))) (profile true dins douts) → Ports (c ∷ (r ∷ (e ∷ ports)))
 with_enable c r e ports dins douts ci co fit =
     let rest = dins_part dins 0 douts ports fit.1.1.1 in
-    let named : same_codes e.name (codes "en") ≡ true = ap (λ (n : List ℕ). same_codes n (codes "en")) fit.1.1.0.name in
+    let named : bytes_eq e.name (codes "en") ≡ true = ap (λ (n : List ℕ). bytes_eq n (codes "en")) fit.1.1.0.name in
     let ins : takings (r ∷ (e ∷ ports)) ≡ 1 ∷ (1 ∷ rest.ws) =
     taking_one r (e ∷ ports) fit.1.0.direction ∙ ap (λ (w : ℕ). w ∷ takings (e ∷ ports)) fit.1.0.width ∙ ap (λ (l : List ℕ). 1 ∷ l) (taking_one e ports fit.1.1.0.direction ∙ ap (λ (w : ℕ). w ∷ takings ports) fit.1.1.0.width ∙ ap (λ (l : List ℕ). 1 ∷ l) rest.taken_are) in
     let outs : givings (r ∷ (e ∷ ports)) ≡ with_valids rest.ds = giving_none r (e ∷ ports) fit.1.0.direction ∙ giving_none e ports fit.1.1.0.direction ∙ rest.given_are in
@@ -127,7 +128,7 @@ no_enable : (c r e : Port) (ports : List Port) (dins douts : ℕ) → IsPortCoun
 no_enable c r e ports zero douts ci co fit = absurd (omega (arith, ci.0))
 no_enable c r e ports (suc n) douts ci co fit =
     let rest = dins_part (suc n) 0 douts (e ∷ ports) fit.1.1 in
-    let named : same_codes e.name (codes "en") ≡ false = ap (λ (n : List ℕ). same_codes n (codes "en")) fit.1.1.0.name in
+    let named : bytes_eq e.name (codes "en") ≡ false = ap (λ (n : List ℕ). bytes_eq n (codes "en")) fit.1.1.0.name in
     let ins : takings (r ∷ (e ∷ ports)) ≡ 1 ∷ rest.ws = taking_one r (e ∷ ports) fit.1.0.direction ∙ ap (λ (w : ℕ). w ∷ takings (e ∷ ports)) fit.1.0.width ∙ ap (λ (l : List ℕ). 1 ∷ l) rest.taken_are in
     let outs : givings (r ∷ (e ∷ ports)) ≡ with_valids rest.ds = giving_none r (e ∷ ports) fit.1.0.direction ∙ rest.given_are in
     subst (λ (b : Bool). ArePorts b (takings (r ∷ (e ∷ ports))) (givings (r ∷ (e ∷ ports)))) (sym named)

@@ -1,4 +1,5 @@
 pub mod Agreement
+pub mod Ruled
 pub mod RunLaws
 pub mod FitLaws
 pub mod Scoped

@@ -9,10 +9,11 @@ use Rattle.netlist.specs.Names.{ModuleNames, NamedNetlist, HasNames}
 use Rattle.netlist.specs.Scopes.{netlist_of_parts, names_of_parts, module_of}
 use Rattle.netlist.specs.Faults.{IsModuleOf}
 use Rattle.netlist.specs.Driven.{IsWired}
+use Rattle.netlist.proofs.Ruled.{keeps_of}
 
 module _ (p : Parts) (w : Wired) (wired : IsWired p w) (acyclic : IsAcyclic (netlist_of_parts p).assigns) where
   pub is_module : IsModuleOf p (module_of p)
-  is_module = record { passes = wired.passes; acyclic = acyclic; is = refl }
+  is_module = record { keeps = keeps_of p wired.passes acyclic; is = refl }
 
   pub rules_here : KeepsRules (netlist_of_parts p) → KeepsRules (netlist_of w.wiring)
   rules_here rules = subst KeepsRules (sym wired.netlist) rules
@@ -22,7 +23,6 @@ module _ (p : Parts) (w : Wired) (wired : IsWired p w) (acyclic : IsAcyclic (net
 
   pub module_here : (n : ModuleNames) → n ≡ names_of_parts p → (m : NamedNetlist) → m ≡ record { netlist = netlist_of w.wiring; names = n } → IsModuleOf p m
   module_here n is m e = record {
-    passes = wired.passes;
-    acyclic = acyclic;
+    keeps = keeps_of p wired.passes acyclic;
     is = e ∙ ap (λ (x : Netlist). let y : NamedNetlist = record { netlist = x; names = n } in y) wired.netlist ∙ ap (λ (x : ModuleNames). let y : NamedNetlist = record { netlist = netlist_of_parts p; names = x } in y) is;
   }

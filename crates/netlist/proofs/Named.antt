@@ -5,7 +5,8 @@ use Rattle.std.specs.Option.{option_map, option_to_list}
 use Rattle.std.specs.List.{AllZip}
 use Rattle.std.proofs.lemmas.List.Elements.{All-nil, All-cons, All-append}
 use Rattle.std.proofs.lemmas.Option.{same_Some, slice_get_within, slice_get-map}
-use Rattle.net_names.specs.Words.{same_codes, is_name}
+use Rattle.std.specs.Str.{bytes_eq}
+use Rattle.net_names.specs.Words.{is_name}
 use Rattle.wiring.specs.declared.netlist.Net.TheVariants.{Input, Output, Wire, Reg}
 use Rattle.wiring.specs.declared.netlist.Shape.{Shape}
 use Rattle.wiring.specs.Rules.{IsPortCount, with_valids}
@@ -19,7 +20,8 @@ use Rattle.netlist.specs.declared.parts.Sort.{Sort}
 use Rattle.netlist.specs.declared.parts.Sort.TheVariants.{Wire as OfWire, Reg as OfReg, Array as ArrayOf}
 use Rattle.netlist.specs.Names.{numbered, din_names, output_names, port_names, AreDistinct, HasNames}
 use Rattle.netlist.specs.Scopes.{Meaning, clock, net, array, Entry, port_entries, inputs_after, outputs_after, all_ports, sort_meaning, wires_after, regs_after, arrays_after, declared_entries, scope_of, collected, past_clock, has_enable, wire_width, reg_width, array_shape, netlist_of_parts, names_of_parts, port_meaning, NamesAre}
-use Rattle.netlist.specs.Faults.{entry_names, PortRule, din_rules, output_rules, profile, FitsRule, PassesDrivers}
+use Rattle.netlist.specs.Faults.{PortRule, din_rules, output_rules, profile, FitsRule}
+use Rattle.netlist.specs.Passes.{entry_names, PassesDrivers}
 use Rattle.netlist.proofs.Scoped.{takings, givings, one_part}
 use Rattle.netlist.proofs.Kept.{dins_part, taking_one, giving_none, collected_all}
 
@@ -78,7 +80,7 @@ ports_named (c ∷ (r ∷ [])) false zero douts ci fit = absurd (omega (arith, c
 ports_named (c ∷ (r ∷ [])) false (suc n) douts ci fit = absurd fit.1.1
 ports_named (c ∷ (r ∷ (e ∷ ports))) true dins douts ci fit =
     let rest = dins_part dins 0 douts ports fit.1.1.1 in
-    let named : same_codes e.name (codes "en") ≡ true = ap (λ (n : List ℕ). same_codes n (codes "en")) fit.1.1.0.name in
+    let named : bytes_eq e.name (codes "en") ≡ true = ap (λ (n : List ℕ). bytes_eq n (codes "en")) fit.1.1.0.name in
     let ins : takings (r ∷ (e ∷ ports)) ≡ 1 ∷ (1 ∷ rest.ws) =
     taking_one r (e ∷ ports) fit.1.0.direction ∙ ap (λ (w : ℕ). w ∷ takings (e ∷ ports)) fit.1.0.width ∙ ap (λ (l : List ℕ). 1 ∷ l) (taking_one e ports fit.1.1.0.direction ∙ ap (λ (w : ℕ). w ∷ takings ports) fit.1.1.0.width ∙ ap (λ (l : List ℕ). 1 ∷ l) rest.taken_are) in
     let outs : givings (r ∷ (e ∷ ports)) ≡ with_valids rest.ds = giving_none r (e ∷ ports) fit.1.0.direction ∙ giving_none e ports fit.1.1.0.direction ∙ rest.given_are in
@@ -89,7 +91,7 @@ ports_named (c ∷ (r ∷ (e ∷ ports))) true dins douts ci fit =
 ports_named (c ∷ (r ∷ (e ∷ ports))) false zero douts ci fit = absurd (omega (arith, ci.0))
 ports_named (c ∷ (r ∷ (e ∷ ports))) false (suc n) douts ci fit =
     let rest = dins_part (suc n) 0 douts (e ∷ ports) fit.1.1 in
-    let named : same_codes e.name (codes "en") ≡ false = ap (λ (n : List ℕ). same_codes n (codes "en")) fit.1.1.0.name in
+    let named : bytes_eq e.name (codes "en") ≡ false = ap (λ (n : List ℕ). bytes_eq n (codes "en")) fit.1.1.0.name in
     let ins : takings (r ∷ (e ∷ ports)) ≡ 1 ∷ rest.ws = taking_one r (e ∷ ports) fit.1.0.direction ∙ ap (λ (w : ℕ). w ∷ takings (e ∷ ports)) fit.1.0.width ∙ ap (λ (l : List ℕ). 1 ∷ l) rest.taken_are in
     let outs : givings (r ∷ (e ∷ ports)) ≡ with_valids rest.ds = giving_none r (e ∷ ports) fit.1.0.direction ∙ rest.given_are in
     let names : map (λ (q : Port). q.name) (c ∷ (r ∷ (e ∷ ports))) ≡ codes "clk" ∷ (codes "rst" ∷ (din_names 0 (suc n) ++ output_names 0 douts)) =

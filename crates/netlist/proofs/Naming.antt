@@ -11,7 +11,8 @@ use Rattle.std.proofs.lemmas.List.{map-append}
 use Rattle.std.proofs.lemmas.Option.{slice_get_within, same_Some, none-some}
 use Rattle.indexmap.specs.IndexMap.{insert_entry}
 use Rattle.indexmap.proofs.MapLemmas.{insert_entry-absent, absent_from_lookup}
-use Rattle.net_names.specs.Words.{same_codes}
+use Rattle.std.specs.Str.{bytes_eq}
+use Rattle.std.proofs.lemmas.Slice.Eq.{bytes_eq-Decides}
 use Rattle.wiring.proofs.Search.{at_push, last_push}
 use Rattle.wiring.proofs.Lists.{slice_get-append}
 use Rattle.netlist.specs.declared.scope.Stands.{Stands}
@@ -34,25 +35,17 @@ eq_flip a b =
       ]
     ]
 
-same_flip : (a b : List ℕ) → pointwise nat_eq a b ≡ same_codes b a
+same_flip : (a b : List ℕ) → pointwise nat_eq a b ≡ bytes_eq b a
 same_flip [] [] = refl
 same_flip [] (y ∷ b) = refl
 same_flip (x ∷ a) [] = refl
 same_flip (x ∷ a) (y ∷ b) = ap (λ (t : Bool). t && pointwise nat_eq a b) (eq_flip x y) ∙ ap (λ (t : Bool). nat_eq y x && t) (same_flip a b)
 
-pub codes_same : (a : List ℕ) → same_codes a a ≡ true
-codes_same [] = refl
-codes_same (x ∷ a) = ap (λ (t : Bool). t && same_codes a a) (eq-eqb x x refl) ∙ codes_same a
+pub codes_same : (a : List ℕ) → bytes_eq a a ≡ true
+codes_same a = (bytes_eq-Decides a a).1 refl
 
-pub same_equal : (a b : List ℕ) → same_codes a b ≡ true → a ≡ b
-same_equal [] [] e = refl
-same_equal [] (y ∷ b) e = absurd (let f : false ≡ true = e in cc)
-same_equal (x ∷ a) [] e = absurd (let f : false ≡ true = e in cc)
-same_equal (x ∷ a) (y ∷ b) e =
-    elim (eqb_tells x y) as (λ _. x ∷ a ≡ y ∷ b) [
-      | inl p ↦ ap (λ (n : ℕ). n ∷ a) p.1 ∙ ap (λ (l : List ℕ). y ∷ l) (same_equal a b (sym (ap (λ (t : Bool). t && same_codes a b) p.0) ∙ e))
-      | inr p ↦ absurd (let f : false ≡ true = sym (ap (λ (t : Bool). t && same_codes a b) p.0) ∙ e in cc)
-    ]
+pub same_equal : (a b : List ℕ) → bytes_eq a b ≡ true → a ≡ b
+same_equal a b e = (bytes_eq-Decides a b).0 e
 
 -- what the map has for a name is what the scope has
 pub found : (es : Entries) (name : List ℕ) → option_map meaning_of (lookup (λ (k : Bor (List ℕ)). pointwise nat_eq name k.now) es) ≡ stands_for (entries_in es) name
@@ -60,7 +53,7 @@ found [] name = refl
 found (e ∷ es) name =
     step (pointwise nat_eq name e.0.now) e.1 (lookup (λ (k : Bor (List ℕ)). pointwise nat_eq name k.now) es)
     ∙ ap (λ (t : Bool). if t then Some (meaning_of e.1) else option_map meaning_of (lookup (λ (k : Bor (List ℕ)). pointwise nat_eq name k.now) es)) (same_flip name e.0.now)
-    ∙ ap (λ (o : Option Meaning). if same_codes e.0.now name then Some (meaning_of e.1) else o) (found es name)
+    ∙ ap (λ (o : Option Meaning). if bytes_eq e.0.now name then Some (meaning_of e.1) else o) (found es name)
   where
     step : (t : Bool) (s : Stands) (o : Option Stands) → option_map meaning_of (cond t (Some s) o) ≡ (if t then Some (meaning_of s) else option_map meaning_of o)
     step true s o = refl
@@ -69,21 +62,21 @@ found (e ∷ es) name =
 -- a name that is there has a place
 pub place_of : (scope : List Entry) (name : List ℕ) (x : Meaning) → stands_for scope name ≡ Some x → (j : ℕ) × (slice_get (names_in scope) j ≡ Some name)
 place_of [] name x e = absurd (let f : None ≡ Some x = e in cc)
-place_of (b ∷ scope) name x e = by (same_codes b.name name) refl e (λ f. place_of scope name x f)
+place_of (b ∷ scope) name x e = by (bytes_eq b.name name) refl e (λ f. place_of scope name x f)
   where
-    by : (t : Bool) → same_codes b.name name ≡ t → (if t then Some b.meaning else stands_for scope name) ≡ Some x → (stands_for scope name ≡ Some x → (j : ℕ) × (slice_get (names_in scope) j ≡ Some name)) → (j : ℕ) × (slice_get (names_in (b ∷ scope)) j ≡ Some name)
+    by : (t : Bool) → bytes_eq b.name name ≡ t → (if t then Some b.meaning else stands_for scope name) ≡ Some x → (stands_for scope name ≡ Some x → (j : ℕ) × (slice_get (names_in scope) j ≡ Some name)) → (j : ℕ) × (slice_get (names_in (b ∷ scope)) j ≡ Some name)
     by true is f later = (zero, ap (λ (n : List ℕ). Some n) (same_equal b.name name is))
     by false is f later = let r = later f in (suc r.0, r.1)
 
 pub no_place : (scope : List Entry) (name : List ℕ) (j : ℕ) → stands_for scope name ≡ None → slice_get (names_in scope) j ≡ Some name → ⊥
 no_place [] name j e at = omega (arith, slice_get_within {A = List ℕ} [] j name at)
-no_place (b ∷ scope) name j e at = by (same_codes b.name name) refl e j at (λ f k h. no_place scope name k f h)
+no_place (b ∷ scope) name j e at = by (bytes_eq b.name name) refl e j at (λ f k h. no_place scope name k f h)
   where
-    by : (t : Bool) → same_codes b.name name ≡ t → (if t then Some b.meaning else stands_for scope name) ≡ None → (j : ℕ) → slice_get (names_in (b ∷ scope)) j ≡ Some name → (stands_for scope name ≡ None → (k : ℕ) → slice_get (names_in scope) k ≡ Some name → ⊥) → ⊥
+    by : (t : Bool) → bytes_eq b.name name ≡ t → (if t then Some b.meaning else stands_for scope name) ≡ None → (j : ℕ) → slice_get (names_in (b ∷ scope)) j ≡ Some name → (stands_for scope name ≡ None → (k : ℕ) → slice_get (names_in scope) k ≡ Some name → ⊥) → ⊥
     by true is f j at later = none-some b.meaning (sym f)
     by false is f zero at later =
         let g : b.name ≡ name = same_Some b.name name at in
-        let h : false ≡ true = sym is ∙ ap (λ (n : List ℕ). same_codes n name) g ∙ codes_same name in
+        let h : false ≡ true = sym is ∙ ap (λ (n : List ℕ). bytes_eq n name) g ∙ codes_same name in
         cc
     by false is f (suc k) at later = later f k at
 

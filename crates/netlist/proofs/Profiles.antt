@@ -2,7 +2,7 @@
 use Rattle.std.proofs.Common.{◌≡◌, ℕ, zero, suc, ◌+◌, ◌<◌, ◌≤◌, true, false, List, [], ◌∷◌, ◌++◌, length, refl, ap, subst, sym, ◌∙◌, arith}
 use Rattle.std.specs.Prelude.{codes}
 use Rattle.std.specs.List.{AllZip}
-use Rattle.net_names.specs.Words.{same_codes}
+use Rattle.std.specs.Str.{bytes_eq}
 use Rattle.wiring.specs.Rules.{IsPortCount}
 use Rattle.netlist.specs.declared.parts.Port.{Port}
 use Rattle.netlist.specs.declared.parts.Direction.TheVariants.{Input as Takes, Output as Gives}
@@ -31,17 +31,17 @@ push_equal (a ∷ xs) (b ∷ ys) x y e =
     (ap (λ (z : ℕ). z ∷ xs) head ∙ ap (λ (l : List ℕ). b ∷ l) rest.0, rest.1)
 
 module _ (name front word : List ℕ) (digit n : ℕ) (whole : name ≡ front ++ digit ∷ []) (some : 0 < n) where
-  pub not_numbered : same_codes front word ≡ false → name ≡ numbered word n → ⊥
+  pub not_numbered : bytes_eq front word ≡ false → name ≡ numbered word n → ⊥
   not_numbered other is = by n some is
     where
       by : (m : ℕ) → 0 < m → name ≡ numbered word m → ⊥
       by zero l e = omega (arith, l)
       by (suc k) l e =
           let parts = push_equal front word digit (49 + k) (sym whole ∙ e) in
-          let same : false ≡ true = sym other ∙ ap (λ (x : List ℕ). same_codes x word) parts.0 ∙ codes_same word in
+          let same : false ≡ true = sym other ∙ ap (λ (x : List ℕ). bytes_eq x word) parts.0 ∙ codes_same word in
           cc
 
-  pub numbered_is : same_codes front word ≡ true → digit ≡ 48 + n → name ≡ numbered word n
+  pub numbered_is : bytes_eq front word ≡ true → digit ≡ 48 + n → name ≡ numbered word n
   numbered_is same last = by n some last
     where
       by : (m : ℕ) → 0 < m → digit ≡ 48 + m → name ≡ numbered word m

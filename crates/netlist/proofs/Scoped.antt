@@ -4,7 +4,7 @@ use Rattle.std.specs.Prelude.{All, if◌then◌else◌}
 use Rattle.std.specs.Option.{option_map, option_to_list}
 use Rattle.std.proofs.lemmas.List.Elements.{All-nil, All-cons, All-append}
 use Rattle.std.proofs.lemmas.Option.{same_Some}
-use Rattle.net_names.specs.Words.{same_codes}
+use Rattle.std.specs.Str.{bytes_eq}
 use Rattle.wiring.specs.declared.right.Atom.{Atom}
 use Rattle.wiring.specs.declared.right.Atom.TheVariants as atom
 use Rattle.wiring.specs.declared.right.Right.{Right}
@@ -78,7 +78,7 @@ module _ (I O W R A : ℕ) where
   stands_below : (scope : List Entry) (name : List ℕ) (x : Meaning) → All EntryBelow scope → stands_for scope name ≡ Some x → IsBelow I O W R A x
   stands_below [] name x all e = absurd (let f : None ≡ Some x = e in cc)
   stands_below (b ∷ scope) name x all e =
-      either (same_codes b.name name) e (λ f. stands_below scope name x (λ k d l. all (suc k) d (omega (arith, l))) f)
+      either (bytes_eq b.name name) e (λ f. stands_below scope name x (λ k d l. all (suc k) d (omega (arith, l))) f)
     where
       either : (t : Bool) → (if t then Some b.meaning else stands_for scope name) ≡ Some x → (stands_for scope name ≡ Some x → IsBelow I O W R A x) → IsBelow I O W R A x
       either true f later = subst (IsBelow I O W R A) (same_Some b.meaning x f) (all 0 b (omega arith))

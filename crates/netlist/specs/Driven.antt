@@ -1,13 +1,10 @@
--- What the tables of drivers say of the nets and arrays of a scope.
-use Rattle.std.specs.Prelude.{◌≡◌, ◌⊎◌, ℕ, Bool, true, is_some, List, Option}
-use Rattle.std.specs.Option.{option_map}
+-- For the private functions: what the tables of drivers say of the nets and arrays of a scope.
+use Rattle.std.specs.Prelude.{◌≡◌, ◌⊎◌, ℕ, Bool, true, is_some, List}
 use Rattle.wiring.specs.declared.netlist.Net.TheVariants.{Input, Output, Wire, Reg}
 use Rattle.wiring.specs.declared.netlist.Holder.TheVariants.{OfNet, OfArray}
 use Rattle.wiring.specs.Netlist.{Netlist, netlist_of, update_target}
 use Rattle.wiring.specs.Tables.{IsSecond, assign_target, driver_of, updater_of, IsTable, IsUpdateTable}
 use Rattle.wiring.specs.Order.{DependsOn, IsEvaluationOrder}
-use Rattle.wiring.specs.declared.netlist.Shape.{Shape}
-use Rattle.netlist.specs.declared.parts.Declaration.{Declaration}
 use Rattle.netlist.specs.declared.parts.Parts.{Parts}
 use Rattle.netlist.specs.declared.fault.Declared.{Declared}
 use Rattle.netlist.specs.declared.fault.Statement.TheVariants.{Assign as AssignAt, Update as UpdateAt}
@@ -15,8 +12,9 @@ use Rattle.netlist.specs.declared.fault.NetFault.{NetFault}
 use Rattle.netlist.specs.declared.fault.NetFault.TheVariants.{DrivenTwice, Undriven, Cycle}
 use Rattle.netlist.specs.declared.drive.Tables.{Tables}
 use Rattle.netlist.specs.declared.checking.Wired.{Wired}
-use Rattle.netlist.specs.Scopes.{Meaning, clock, net, array, Entry, SizesFit, NamesAre, wire_width, reg_width, array_shape, netlist_of_parts}
-use Rattle.netlist.specs.Faults.{FirstWrong, IsPlace, TargetsDiffer, PassesDrivers}
+use Rattle.netlist.specs.Scopes.{Meaning, clock, net, array, Entry, SizesFit, NamesAre, netlist_of_parts}
+use Rattle.netlist.specs.Faults.{TargetsDiffer}
+use Rattle.netlist.specs.Passes.{FirstWrong, IsPlace, PassesDrivers}
 
 -- whether the tables have what drives it; the clock and inputs need nothing
 abbrev pub is_driven_by : Tables → Meaning → Bool
@@ -62,13 +60,3 @@ pub record IsWired (p : Parts) (w : Wired) : Type 0 where
   pub ordered : IsEvaluationOrder (netlist_of_parts p).assigns w.order.items
   pub sizes : SizesFit p
   pub names : NamesAre p
-
--- the name of a declaration, where it is a wire, a register or an array
-abbrev pub wire_name : Declaration → Option (List ℕ)
-wire_name d = option_map (λ (w : ℕ). d.name) (wire_width d.sort)
-
-abbrev pub reg_name : Declaration → Option (List ℕ)
-reg_name d = option_map (λ (w : ℕ). d.name) (reg_width d.sort)
-
-abbrev pub array_name : Declaration → Option (List ℕ)
-array_name d = option_map (λ (s : Shape). d.name) (array_shape d.sort)

@@ -1,4 +1,4 @@
--- The scope that a map of names keeps, and names that come a second time.
+-- For the private functions: the scope that a map of names keeps, and names that come a second time.
 use Rattle.std.specs.Prelude.{◌≡◌, ℕ, ◌+◌, ◌<◌, List, [], ◌∷◌, ◌++◌, length, map}
 use Rattle.std.specs.Borrow.{Bor}
 use Rattle.wiring.specs.declared.netlist.Net.TheVariants.{Input, Output, Wire, Reg}

@@ -1,5 +1,5 @@
--- The first net fault of the parts of a text, in the order of the passes.
-use Rattle.std.specs.Prelude.{◌≡◌, ⊤, ℕ, zero, suc, ◌+◌, ◌<◌, Bool, true, false, if◌then◌else◌, List, [], ◌∷◌, ◌++◌, length, map, slice_get, Some, All, codes, IsSome}
+-- The rules of nets in order, and the fault of parts: one that breaks the first rule that they do not keep.
+use Rattle.std.specs.Prelude.{◌≡◌, ⊤, ◌⊎◌, ℕ, zero, suc, ◌+◌, ◌-◌, ◌<◌, Bool, true, false, if◌then◌else◌, nat_lt, List, [], ◌∷◌, ◌++◌, length, map, slice_get, Some, All, IsSome}
 use Rattle.std.specs.List.{AllZip}
 use Rattle.std.specs.Option.{option_to_list}
 use Rattle.wiring.specs.declared.right.Right.{Right}
@@ -24,28 +24,16 @@ use Rattle.netlist.specs.declared.parts.NamedUpdate.{NamedUpdate}
 use Rattle.netlist.specs.declared.parts.NamedUpdate.TheVariants.{Set as NamedSet, Put as NamedPut}
 use Rattle.netlist.specs.declared.fault.Declared.{Declared}
 use Rattle.netlist.specs.declared.fault.Declared.TheVariants.{Port as PortAt, Declaration as DeclarationAt}
-use Rattle.netlist.specs.declared.fault.Statement.{Statement}
 use Rattle.netlist.specs.declared.fault.Statement.TheVariants.{Assign as AssignAt, Update as UpdateAt}
 use Rattle.netlist.specs.declared.fault.NetFault.{NetFault}
 use Rattle.netlist.specs.declared.fault.NetFault.TheVariants.{Duplicate, Ports, Unknown, WrongSort, Divisor, Width, DrivenTwice, Undriven, Cycle}
 use Rattle.netlist.specs.declared.fault.NetError.{NetError}
 use Rattle.netlist.specs.declared.fault.NetError.TheVariants.{Fault, OutOfMemory}
-use Rattle.netlist.specs.Names.{AreDistinct, numbered, NamedNetlist}
+use Rattle.netlist.specs.Names.{clock_name, reset_name, enable_name, din_name, valid_name, dout_name, NamedNetlist}
 use Rattle.netlist.specs.Scopes.{Entry, Meaning, clock, net, array, scope_of, stands_for, assign_named, update_named, netlist_of_parts, module_of}
 
--- 1. No name is declared twice.
-abbrev pub entry_names : Parts → List (List ℕ)
-entry_names p = map (λ (e : Entry). e.name) (scope_of p)
+-- ---- the ports of the profile
 
-abbrev pub NamesDiffer : Parts → Type 0
-NamesDiffer p = AreDistinct (entry_names p)
-
--- the place of a port or declaration among all names
-abbrev pub IsPlace : Parts → Declared → ℕ → Type 0
-IsPlace p (PortAt k) place = (k < length p.ports.items) × (k ≡ place)
-IsPlace p (DeclarationAt k) place = length p.ports.items + k ≡ place
-
--- 2. The ports are those of the profile.
 pub record PortRule : Type 0 where
   pub direction : Direction
   pub name : List ℕ
@@ -53,18 +41,18 @@ pub record PortRule : Type 0 where
 
 abbrev pub din_rules : ℕ → ℕ → List PortRule
 din_rules k zero = []
-din_rules k (suc n) = record { direction = Takes; name = numbered (codes "din") k; wide = true } ∷ din_rules (suc k) n
+din_rules k (suc n) = record { direction = Takes; name = din_name k; wide = true } ∷ din_rules (suc k) n
 
 abbrev pub output_rules : ℕ → ℕ → List PortRule
 output_rules k zero = []
-output_rules k (suc n) = record { direction = Gives; name = numbered (codes "valid") k; wide = false } ∷ (record { direction = Gives; name = numbered (codes "dout") k; wide = true } ∷ output_rules (suc k) n)
+output_rules k (suc n) = record { direction = Gives; name = valid_name k; wide = false } ∷ (record { direction = Gives; name = dout_name k; wide = true } ∷ output_rules (suc k) n)
 
 abbrev pub bit_input : List ℕ → PortRule
 bit_input name = record { direction = Takes; name = name; wide = false }
 
 abbrev pub profile : Bool → ℕ → ℕ → List PortRule
 profile enable dins douts =
-    bit_input (codes "clk") ∷ (bit_input (codes "rst") ∷ ((if enable then bit_input (codes "en") ∷ [] else []) ++ (din_rules 0 dins ++ output_rules 0 douts)))
+    bit_input clock_name ∷ (bit_input reset_name ∷ ((if enable then bit_input enable_name ∷ [] else []) ++ (din_rules 0 dins ++ output_rules 0 douts)))
 
 -- 1 to 16 bits where it is wide, else 1
 abbrev pub HasRuleWidth : Bool → ℕ → Type 0
@@ -84,7 +72,8 @@ pub record PortsFit (ports : List Port) : Type 0 where
   pub dout_count : IsPortCount douts
   pub fit : AllZip FitsRule ports (profile enable dins douts)
 
--- 3. Each assign and each update has known names of the right sorts, a constant divisor and widths that agree.
+-- ---- what a statement names
+
 abbrev pub AllKnown : List Entry → List (List ℕ) → Type 0
 AllKnown scope names = All (λ n. IsSome (stands_for scope n)) names
 
@@ -105,73 +94,8 @@ abbrev pub UpdateFits : Netlist → Update → Type 0
 UpdateFits m (Set r a) = atom_width (net_width m) a ≡ net_width m (Reg r)
 UpdateFits m (Put x i a) = atom_width (net_width m) a ≡ word_width m x
 
--- the assign with nets in place of names; it drives a wire or an output
-abbrev pub IsSortedAssign : Parts → NamedAssign → Assign → Type 0
-IsSortedAssign p a b = (assign_named (scope_of p) a ≡ Some b) × IsDriven (netlist_of_parts p) b.target
+-- ---- what drives
 
-module _ (p : Parts) where
-  pub record FineAssign (a : NamedAssign) : Type 0 where
-    pub known : AllKnown (scope_of p) (assign_names a)
-    pub stands : Assign
-    pub sorted : IsSortedAssign p a stands
-    pub divisor : DivisorIsConstant stands.right
-    pub widths : AssignFits (netlist_of_parts p) stands
-
-  pub record FineUpdate (u : NamedUpdate) : Type 0 where
-    pub known : AllKnown (scope_of p) (update_names u)
-    pub stands : Update
-    pub sorted : update_named (scope_of p) u ≡ Some stands
-    pub widths : UpdateFits (netlist_of_parts p) stands
-
-  abbrev pub UnknownAssign : NamedAssign → Type 0
-  UnknownAssign a = AllKnown (scope_of p) (assign_names a) → ⊥
-
-  abbrev pub UnknownUpdate : NamedUpdate → Type 0
-  UnknownUpdate u = AllKnown (scope_of p) (update_names u) → ⊥
-
-  pub record WrongSortAssign (a : NamedAssign) : Type 0 where
-    pub known : AllKnown (scope_of p) (assign_names a)
-    pub wrong : (b : Assign) → IsSortedAssign p a b → ⊥
-
-  pub record WrongSortUpdate (u : NamedUpdate) : Type 0 where
-    pub known : AllKnown (scope_of p) (update_names u)
-    pub wrong : (v : Update) → update_named (scope_of p) u ≡ Some v → ⊥
-
-  pub record DivisorAssign (a : NamedAssign) : Type 0 where
-    pub known : AllKnown (scope_of p) (assign_names a)
-    pub stands : Assign
-    pub sorted : IsSortedAssign p a stands
-    pub wrong : DivisorIsConstant stands.right → ⊥
-
-  abbrev pub DivisorUpdate : NamedUpdate → Type 0
-  DivisorUpdate u = ⊥
-
-  pub record WidthAssign (a : NamedAssign) : Type 0 where
-    pub known : AllKnown (scope_of p) (assign_names a)
-    pub stands : Assign
-    pub sorted : IsSortedAssign p a stands
-    pub divisor : DivisorIsConstant stands.right
-    pub wrong : AssignFits (netlist_of_parts p) stands → ⊥
-
-  pub record WidthUpdate (u : NamedUpdate) : Type 0 where
-    pub known : AllKnown (scope_of p) (update_names u)
-    pub stands : Update
-    pub sorted : update_named (scope_of p) u ≡ Some stands
-    pub wrong : UpdateFits (netlist_of_parts p) stands → ⊥
-
--- the item at k is wrong, those before it are fine
-pub record FirstWrong {X : Type 0} (Fine Wrong : X → Type 0) (items : List X) (k : ℕ) : Type 0 where
-  pub item : X
-  pub at : slice_get items k ≡ Some item
-  pub wrong : Wrong item
-  pub before : (j : ℕ) (x : X) → j < k → slice_get items j ≡ Some x → Fine x
-
--- assigns in order, then updates
-abbrev pub FirstStatement : Parts → (NamedAssign → Type 0) → (NamedUpdate → Type 0) → Statement → Type 0
-FirstStatement p WrongAssign WrongUpdate (AssignAt k) = FirstWrong (FineAssign p) WrongAssign p.assigns.items k
-FirstStatement p WrongAssign WrongUpdate (UpdateAt k) = All (FineAssign p) p.assigns.items × FirstWrong (FineUpdate p) WrongUpdate p.updates.items k
-
--- 4. and 5. Each wire and output has one assign, each register and array one update.
 abbrev pub TargetsDiffer : {X T : Type 0} → (X → T) → List X → Type 0
 TargetsDiffer {X} target items = (i j : ℕ) (x y : X) → slice_get items i ≡ Some x → slice_get items j ≡ Some y → target x ≡ target y → i ≡ j
 
@@ -189,36 +113,90 @@ HasDriver m (net (Wire i)) = HasAssign m (Wire i)
 HasDriver m (net (Reg i)) = HasUpdate m (OfNet (Reg i))
 HasDriver m (array x) = HasUpdate m (OfArray x)
 
-pub record PassesPorts (p : Parts) : Type 0 where
-  pub names : NamesDiffer p
-  pub ports : PortsFit p.ports.items
+-- ---- rules
 
-pub record PassesStatements (p : Parts) : Type 0 where
-  pub before : PassesPorts p
-  pub assigns : All (FineAssign p) p.assigns.items
-  pub updates : All (FineUpdate p) p.updates.items
+-- what holds of parts that keep a rule, and the faults that break it
+abbrev pub Rule : Type 1
+Rule = Type 0 × (NetFault → Type 0)
 
-pub record PassesTargets (p : Parts) : Type 0 where
-  pub before : PassesStatements p
-  pub assigns : TargetsDiffer assign_target (netlist_of_parts p).assigns
-  pub updates : TargetsDiffer update_target (netlist_of_parts p).updates
+abbrev pub Keeps : List Rule → Type 0
+Keeps [] = ⊤
+Keeps (rule ∷ rules) = rule.0 × Keeps rules
 
-pub record PassesDrivers (p : Parts) : Type 0 where
-  pub before : PassesTargets p
-  pub driven : (k : ℕ) (e : Entry) → slice_get (scope_of p) k ≡ Some e → HasDriver (netlist_of_parts p) e.meaning
+-- the fault breaks the first rule that is not kept
+abbrev pub Breaks : List Rule → NetFault → Type 0
+Breaks [] f = ⊥
+Breaks (rule ∷ rules) f = rule.1 f ⊎ (rule.0 × Breaks rules f)
 
--- 6. No assign depends on itself.
+-- this fault breaks it where it does not hold
+abbrev pub condition : NetFault → Type 0 → Rule
+condition fault Holds = (Holds, λ f. (f ≡ fault) × (Holds → ⊥))
+
+-- the first of the items that does not keep its rules breaks them by this fault
+pub record FirstBreaks {X : Type 0} (rules_at : ℕ → X → List Rule) (items : List X) (f : NetFault) : Type 0 where
+  pub place : ℕ
+  pub item : X
+  pub at : slice_get items place ≡ Some item
+  pub breaks : Breaks (rules_at place item) f
+  pub before : (j : ℕ) (x : X) → j < place → slice_get items j ≡ Some x → Keeps (rules_at j x)
+
+-- each item keeps its rules
+abbrev pub each : {X : Type 0} → (ℕ → X → List Rule) → List X → Rule
+each {X} rules_at items = ((k : ℕ) (x : X) → slice_get items k ≡ Some x → Keeps (rules_at k x), λ f. FirstBreaks rules_at items f)
+
+-- no two items have the same target; the first with the target of an earlier one breaks it
+abbrev pub unique : {X T : Type 0} → (ℕ → NetFault) → (X → T) → List X → Rule
+unique fault target items = (TargetsDiffer target items, λ f. (k : ℕ) × (f ≡ fault k) × IsSecond target items k)
+
+-- the port or declaration of a name's place, after this many ports
+abbrev pub declared_at : ℕ → ℕ → Declared
+declared_at ports place = if nat_lt place ports then PortAt place else DeclarationAt (place - ports)
+
+module _ (scope : List Entry) (m : Netlist) where
+  -- the assign with nets in place of names; it drives a wire or an output
+  abbrev pub IsSorted : NamedAssign → Assign → Type 0
+  IsSorted a b = (assign_named scope a ≡ Some b) × IsDriven m b.target
+
+  abbrev pub assign_rules : ℕ → NamedAssign → List Rule
+  assign_rules k a =
+      condition (Unknown (AssignAt k)) (AllKnown scope (assign_names a))
+      ∷ condition (WrongSort (AssignAt k)) ((b : Assign) × IsSorted a b)
+      ∷ condition (Divisor (AssignAt k)) ((b : Assign) × IsSorted a b × DivisorIsConstant b.right)
+      ∷ condition (Width (AssignAt k)) ((b : Assign) × IsSorted a b × AssignFits m b)
+      ∷ []
+
+  abbrev pub update_rules : ℕ → NamedUpdate → List Rule
+  update_rules k u =
+      condition (Unknown (UpdateAt k)) (AllKnown scope (update_names u))
+      ∷ condition (WrongSort (UpdateAt k)) ((v : Update) × (update_named scope u ≡ Some v))
+      ∷ condition (Width (UpdateAt k)) ((v : Update) × (update_named scope u ≡ Some v) × UpdateFits m v)
+      ∷ []
+
+abbrev pub driver_rules : ℕ → Netlist → ℕ → Entry → List Rule
+driver_rules ports m k e = condition (Undriven (declared_at ports k)) (HasDriver m e.meaning) ∷ []
+
+-- no assign depends on itself; of those that do, the fault names any
+abbrev pub acyclic : Netlist → Rule
+acyclic m = (IsAcyclic m.assigns, λ f. (k : ℕ) × (f ≡ Cycle k) × DependsOn m.assigns k k)
+
+-- Names, ports, assigns and updates one by one, second drivers, what nothing drives, and cycles.
+abbrev pub rules_of : List Port → List Entry → Netlist → List NamedAssign → List NamedUpdate → List Rule
+rules_of ports scope m assigns updates =
+    unique (λ k. Duplicate (declared_at (length ports) k)) (λ (n : List ℕ). n) (map (λ (e : Entry). e.name) scope)
+    ∷ condition Ports (PortsFit ports)
+    ∷ each (assign_rules scope m) assigns
+    ∷ each (update_rules scope m) updates
+    ∷ unique (λ k. DrivenTwice (AssignAt k)) assign_target m.assigns
+    ∷ unique (λ k. DrivenTwice (UpdateAt k)) update_target m.updates
+    ∷ each (driver_rules (length ports) m) scope
+    ∷ acyclic m
+    ∷ []
+
+abbrev pub net_rules : Parts → List Rule
+net_rules p = rules_of p.ports.items (scope_of p) (netlist_of_parts p) p.assigns.items p.updates.items
+
 abbrev pub IsFault : Parts → NetFault → Type 0
-IsFault p (Duplicate d) = (place : ℕ) × IsPlace p d place × IsSecond (λ (n : List ℕ). n) (entry_names p) place
-IsFault p Ports = NamesDiffer p × (PortsFit p.ports.items → ⊥)
-IsFault p (Unknown s) = PassesPorts p × FirstStatement p (UnknownAssign p) (UnknownUpdate p) s
-IsFault p (WrongSort s) = PassesPorts p × FirstStatement p (WrongSortAssign p) (WrongSortUpdate p) s
-IsFault p (Divisor s) = PassesPorts p × FirstStatement p (DivisorAssign p) (DivisorUpdate p) s
-IsFault p (Width s) = PassesPorts p × FirstStatement p (WidthAssign p) (WidthUpdate p) s
-IsFault p (DrivenTwice (AssignAt k)) = PassesStatements p × IsSecond assign_target (netlist_of_parts p).assigns k
-IsFault p (DrivenTwice (UpdateAt k)) = PassesStatements p × TargetsDiffer assign_target (netlist_of_parts p).assigns × IsSecond update_target (netlist_of_parts p).updates k
-IsFault p (Undriven d) = PassesTargets p × (place : ℕ) × IsPlace p d place × FirstWrong (λ (e : Entry). HasDriver (netlist_of_parts p) e.meaning) (λ (e : Entry). HasDriver (netlist_of_parts p) e.meaning → ⊥) (scope_of p) place
-IsFault p (Cycle k) = PassesDrivers p × DependsOn (netlist_of_parts p).assigns k k
+IsFault p f = Breaks (net_rules p) f
 
 -- an error is such a fault, or want of memory, of which the parts say nothing
 abbrev pub IsErrorBy : (NetFault → Type 0) → NetError → Type 0
@@ -227,8 +205,7 @@ IsErrorBy is OutOfMemory = ⊤
 
 -- the parts keep all net rules, and make this module
 pub record IsModuleOf (p : Parts) (m : NamedNetlist) : Type 0 where
-  pub passes : PassesDrivers p
-  pub acyclic : IsAcyclic (netlist_of_parts p).assigns
+  pub keeps : Keeps (net_rules p)
   pub is : m ≡ module_of p
 
 -- the same fault; of a cycle any target on it may be told

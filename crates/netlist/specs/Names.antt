@@ -1,6 +1,7 @@
 -- The names beside a netlist.
-use Rattle.std.specs.Prelude.{◌≡◌, ℕ, zero, suc, ◌+◌, ◌-◌, ◌/◌, true, if◌then◌else◌, List, [], ◌∷◌, ◌++◌, length, slice_get, Some, All, codes}
+use Rattle.std.specs.Prelude.{◌≡◌, ℕ, zero, suc, ◌+◌, ◌-◌, ◌/◌, Bool, true, if◌then◌else◌, List, [], ◌∷◌, ◌++◌, length, slice_get, Some, unwrap_or, All, codes}
 use Rattle.net_names.specs.Words.{is_name}
+use Rattle.wiring.specs.declared.TheConstants.{MOST_PORTS}
 use Rattle.wiring.specs.Netlist.{Netlist, first_din}
 use Rattle.netlist.specs.declared.names.Names.{Names}
 
@@ -24,20 +25,54 @@ abbrev pub numbered : List ℕ → ℕ → List ℕ
 numbered name zero = name
 numbered name (suc k) = name ++ (49 + k) ∷ []
 
+-- The names of ports: clock, reset, enable, and the k-th din, valid and dout.
+abbrev pub clock_name : List ℕ
+clock_name = codes "clk"
+
+abbrev pub reset_name : List ℕ
+reset_name = codes "rst"
+
+abbrev pub enable_name : List ℕ
+enable_name = codes "en"
+
+abbrev pub din_name : ℕ → List ℕ
+din_name k = numbered (codes "din") k
+
+abbrev pub valid_name : ℕ → List ℕ
+valid_name k = numbered (codes "valid") k
+
+abbrev pub dout_name : ℕ → List ℕ
+dout_name k = numbered (codes "dout") k
+
+-- this many dins, and outputs, from the k-th on
 abbrev pub din_names : ℕ → ℕ → List (List ℕ)
 din_names k zero = []
-din_names k (suc n) = numbered (codes "din") k ∷ din_names (suc k) n
+din_names k (suc n) = din_name k ∷ din_names (suc k) n
 
 abbrev pub output_names : ℕ → ℕ → List (List ℕ)
 output_names k zero = []
-output_names k (suc n) = numbered (codes "valid") k ∷ (numbered (codes "dout") k ∷ output_names (suc k) n)
+output_names k (suc n) = valid_name k ∷ (dout_name k ∷ output_names (suc k) n)
 
--- clk, rst, en where there is one, each din, and each valid before its dout
+-- the inputs after the clock: the reset, the enable where there is one, and this many dins
+abbrev pub names_after_clock : Bool → ℕ → List (List ℕ)
+names_after_clock enable dins = reset_name ∷ (if enable then enable_name ∷ din_names 0 dins else din_names 0 dins)
+
 abbrev pub input_names : Netlist → List (List ℕ)
-input_names m = codes "clk" ∷ (codes "rst" ∷ (if m.enable then codes "en" ∷ din_names 0 (length m.inputs - first_din m) else din_names 0 (length m.inputs - first_din m)))
+input_names m = clock_name ∷ names_after_clock m.enable (length m.inputs - first_din m)
 
 abbrev pub port_names : Netlist → List (List ℕ)
 port_names m = input_names m ++ output_names 0 (length m.outputs / 2)
+
+-- the name at a place
+abbrev pub name_at : List (List ℕ) → ℕ → List ℕ
+name_at names k = unwrap_or (slice_get names k) []
+
+-- the inputs after the clock, and the outputs, of a module with as many ports as there may be
+abbrev pub all_inputs : Bool → List (List ℕ)
+all_inputs enable = names_after_clock enable MOST_PORTS
+
+abbrev pub all_outputs : List (List ℕ)
+all_outputs = output_names 0 MOST_PORTS
 
 -- no two places have the same name
 abbrev pub AreDistinct : List (List ℕ) → Type 0

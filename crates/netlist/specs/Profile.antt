@@ -1,4 +1,4 @@
--- The end of a list of ports, from the outputs, the dins or the enable on.
+-- For the private functions: the end of a list of ports, from the outputs, the dins or the enable on.
 use Rattle.std.specs.Prelude.{◌≤◌, ℕ, ◌+◌, Bool, true, if◌then◌else◌, List, [], ◌∷◌, ◌++◌, codes}
 use Rattle.std.specs.List.{AllZip}
 use Rattle.wiring.specs.declared.TheConstants.{MOST_PORTS}

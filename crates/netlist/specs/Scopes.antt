@@ -1,7 +1,8 @@
 -- What the names of a text stand for, and the module that the parts of a text make.
-use Rattle.std.specs.Prelude.{ℕ, suc, Bool, false, if◌then◌else◌, List, [], ◌∷◌, ◌++◌, Option, Some, None, codes, All, ◌≡◌, true}
+use Rattle.std.specs.Prelude.{ℕ, suc, Bool, false, if◌then◌else◌, List, [], ◌∷◌, ◌++◌, Option, Some, None, All, ◌≡◌, true}
 use Rattle.std.specs.Option.{option_map, option_to_list}
-use Rattle.net_names.specs.Words.{same_codes, is_name}
+use Rattle.std.specs.Str.{bytes_eq}
+use Rattle.net_names.specs.Words.{is_name}
 use Rattle.wiring.specs.declared.right.Atom.{Atom}
 use Rattle.wiring.specs.declared.right.Atom.TheVariants as atom
 use Rattle.wiring.specs.declared.right.Right.{Right}
@@ -26,7 +27,7 @@ use Rattle.netlist.specs.declared.parts.Sort.TheVariants.{Wire as OfWire, Reg as
 use Rattle.netlist.specs.declared.parts.NamedAssign.{NamedAssign}
 use Rattle.netlist.specs.declared.parts.NamedUpdate.{NamedUpdate}
 use Rattle.netlist.specs.declared.parts.NamedUpdate.TheVariants.{Set as NamedSet, Put as NamedPut}
-use Rattle.netlist.specs.Names.{ModuleNames, NamedNetlist}
+use Rattle.netlist.specs.Names.{ModuleNames, NamedNetlist, enable_name}
 
 -- what a name stands for
 pub data Meaning : Type 0 where
@@ -93,7 +94,7 @@ scope_of p = all_ports p.ports.items ++ declared_entries 0 0 0 p.declarations.it
 -- the first entry of a name
 abbrev pub stands_for : List Entry → List ℕ → Option Meaning
 stands_for [] name = None
-stands_for (e ∷ scope) name = if same_codes e.name name then Some e.meaning else stands_for scope name
+stands_for (e ∷ scope) name = if bytes_eq e.name name then Some e.meaning else stands_for scope name
 
 abbrev pub as_net : Option Meaning → Option Net
 as_net None = None
@@ -176,7 +177,7 @@ abbrev pub has_enable : List Port → Bool
 has_enable [] = false
 has_enable (c ∷ []) = false
 has_enable (c ∷ r ∷ []) = false
-has_enable (c ∷ r ∷ e ∷ ports) = same_codes e.name (codes "en")
+has_enable (c ∷ r ∷ e ∷ ports) = bytes_eq e.name enable_name
 
 abbrev pub wire_width : Sort → Option ℕ
 wire_width (OfWire w) = Some w
@@ -206,12 +207,22 @@ netlist_of_parts p = record {
   updates = collected (update_named (scope_of p)) p.updates.items;
 }
 
+-- the name of a declaration, where it is a wire, a register or an array
+abbrev pub wire_name : Declaration → Option (List ℕ)
+wire_name d = option_map (λ (w : ℕ). d.name) (wire_width d.sort)
+
+abbrev pub reg_name : Declaration → Option (List ℕ)
+reg_name d = option_map (λ (w : ℕ). d.name) (reg_width d.sort)
+
+abbrev pub array_name : Declaration → Option (List ℕ)
+array_name d = option_map (λ (s : Shape). d.name) (array_shape d.sort)
+
 abbrev pub names_of_parts : Parts → ModuleNames
 names_of_parts p = record {
   «module» = p.name;
-  wires = collected (λ (d : Declaration). option_map (λ (w : ℕ). d.name) (wire_width d.sort)) p.declarations.items;
-  regs = collected (λ (d : Declaration). option_map (λ (w : ℕ). d.name) (reg_width d.sort)) p.declarations.items;
-  arrays = collected (λ (d : Declaration). option_map (λ (s : Shape). d.name) (array_shape d.sort)) p.declarations.items;
+  wires = collected wire_name p.declarations.items;
+  regs = collected reg_name p.declarations.items;
+  arrays = collected array_name p.declarations.items;
 }
 
 abbrev pub module_of : Parts → NamedNetlist

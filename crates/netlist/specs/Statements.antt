@@ -1,4 +1,4 @@
--- Statements by what their names stand for, and what is wrong with one.
+-- For the private functions: statements by what their names stand for, and what is wrong with one.
 use Rattle.std.specs.Prelude.{◌≡◌, ℕ, Bool, true, ◌&&◌, is_some, List, [], ◌∷◌, All, Some}
 use Rattle.wiring.specs.declared.right.Right.{Right}
 use Rattle.wiring.specs.declared.netlist.Net.{Net}
@@ -19,7 +19,8 @@ use Rattle.netlist.specs.declared.fault.NetFault.TheVariants as faults
 use Rattle.netlist.specs.declared.statement.Wrong.{Wrong}
 use Rattle.netlist.specs.declared.statement.Wrong.TheVariants.{Unknown, WrongSort, Divisor, Width}
 use Rattle.netlist.specs.Scopes.{Entry, stands_for, assign_named, update_named, update_constants, netlist_of_parts}
-use Rattle.netlist.specs.Faults.{AllKnown, assign_names, update_names, AssignFits, UpdateFits, FirstWrong}
+use Rattle.netlist.specs.Faults.{AllKnown, assign_names, update_names, AssignFits, UpdateFits}
+use Rattle.netlist.specs.Passes.{FirstWrong}
 
 -- whether each of the names is declared
 abbrev pub all_known : List Entry → List (List ℕ) → Bool

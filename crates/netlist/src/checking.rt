@@ -4,9 +4,10 @@ ghost use Rattle.std.specs.Prelude.{◌≡◌, ◌++◌, reverse, OnOk, IfOk, If
 ghost use Rattle.std.specs.Option.{option_to_list};
 ghost use Rattle.wiring.specs.Netlist.{netlist_of};
 ghost use Rattle.netlist.specs.Names.{names_of as names_told};
-ghost use Rattle.netlist.specs.Scopes.{scope_of, netlist_of_parts, names_of_parts, collected, SizesFit};
-ghost use Rattle.netlist.specs.Faults.{PassesPorts, PassesStatements, IsFault, IsErrorBy, IsModuleOf};
-ghost use Rattle.netlist.specs.Driven.{IsWired, wire_name, reg_name, array_name};
+ghost use Rattle.netlist.specs.Scopes.{scope_of, wire_name, reg_name, array_name, netlist_of_parts, names_of_parts, collected, SizesFit};
+ghost use Rattle.netlist.specs.Faults.{IsFault, IsErrorBy, IsModuleOf};
+ghost use Rattle.netlist.specs.Passes.{PassesPorts, PassesStatements, IsPassFault};
+ghost use Rattle.netlist.specs.Driven.{IsWired};
 
 use crate::fault::NetError;
 use crate::laws::rules_kept;
@@ -33,7 +34,7 @@ fn wiring_of(alloc: Global, parts: &Parts, scope: &Scope) -> Result<Wiring, NetE
     ensures netlist { IfOk result (λ w. netlist_of w ≡ netlist_of_parts parts.now) }
     ensures passes { OnOk result (PassesStatements parts.now) }
     ensures sizes { OnOk result (SizesFit parts.now) }
-    ensures fault { IfErr result (IsErrorBy (IsFault parts.now)) }
+    ensures fault { IfErr result (IsErrorBy (IsPassFault parts.now)) }
 {
     let nets = declare::nets_of(alloc, parts)?;
     let assigns = statement::checked_assigns(alloc, scope, &nets, &parts.assigns)?;
@@ -48,7 +49,7 @@ fn wiring_of(alloc: Global, parts: &Parts, scope: &Scope) -> Result<Wiring, NetE
 // The parts with nets and arrays in place of names.
 fn wired_of(alloc: Global, parts: &Parts) -> Result<Wired, NetError>
     ensures ok { IfOk result (IsWired parts.now) }
-    ensures fault { IfErr result (IsErrorBy (IsFault parts.now)) }
+    ensures fault { IfErr result (IsErrorBy (IsPassFault parts.now)) }
 {
     let scope = declare::scope_of(alloc, parts)?;
     profile::check_ports(parts)?;

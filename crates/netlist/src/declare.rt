@@ -7,7 +7,8 @@ ghost use Rattle.netlist.specs.declared.parts.Port.{Port as OnePort};
 ghost use Rattle.netlist.specs.declared.parts.Declaration.{Declaration as OneDeclaration};
 ghost use Rattle.netlist.specs.Scopes.{port_meaning, inputs_after, outputs_after, port_entries, all_ports, sort_meaning, wires_after, regs_after, arrays_after, declared_entries, scope_of as scope_of_parts, past_clock as ports_past_clock, has_enable as enable_among, collected, taken, given, wire_width, reg_width, array_shape, SortFits, NamesAre};
 ghost use Rattle.netlist.specs.Entries.{meaning_of, names_in, IsSecondPort, IsSecondDeclaration};
-ghost use Rattle.netlist.specs.Faults.{NamesDiffer, IsFault, IsErrorBy};
+ghost use Rattle.netlist.specs.Faults.{IsErrorBy};
+ghost use Rattle.netlist.specs.Passes.{NamesDiffer, IsPassFault};
 ghost use Rattle.netlist.specs.Statements.{HasNets};
 
 use crate::fault::{Declared, NetError};
@@ -160,7 +161,7 @@ pub(crate) fn scope_of(alloc: Global, parts: &Parts) -> Result<Scope<'_>, NetErr
     ensures scope { IfOk result (λ s. s ≡ scope_of_parts parts.now) }
     ensures differ { OnOk result (NamesDiffer parts.now) }
     ensures names { OnOk result (NamesAre parts.now) }
-    ensures fault { IfErr result (IsErrorBy (IsFault parts.now)) }
+    ensures fault { IfErr result (IsErrorBy (IsPassFault parts.now)) }
 {
     let mut scope = Scope::new(alloc);
     let _name = parts.name.as_bytes();

@@ -8,7 +8,8 @@ ghost use Rattle.wiring.specs.Tables.{IsTarget, IsStateTarget, IsTable, IsUpdate
 ghost use Rattle.wiring.specs.Order.{IsEvaluationOrder};
 ghost use Rattle.netlist.specs.Scopes.{Entry};
 ghost use Rattle.netlist.specs.Entries.{meaning_of};
-ghost use Rattle.netlist.specs.Faults.{FirstWrong, IsPlace, IsErrorBy};
+ghost use Rattle.netlist.specs.Faults.{IsErrorBy};
+ghost use Rattle.netlist.specs.Passes.{FirstWrong, IsPlace};
 ghost use Rattle.netlist.specs.Driven.{is_driven_by, IsDrivenEntry, AreTables, IsDrivenTwice, IsSecondAssign, IsSecondUpdate, IsFirstUndriven, IsCycle};
 
 use crate::fault::{Declared, NetError, NetFault, Statement};

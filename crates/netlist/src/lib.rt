@@ -10,6 +10,7 @@ mod laws;
 mod module;
 mod names;
 mod parts;
+mod port_names;
 mod profile;
 mod resolve;
 mod scope;
@@ -23,6 +24,7 @@ pub use module::Module;
 pub use names::Names;
 pub use net_names::Name;
 pub use parts::{Declaration, Direction, NamedAssign, NamedUpdate, Parts, Port, Sort};
+pub use port_names::{input_name, output_name};
 pub use wiring::{
     Assign, Atom, Constant, Depth, Net, Operator, Right, Shape, Update, Width, Wiring,
 };

@@ -1,10 +1,11 @@
 // Whether ports are those of the profile.
 
 ghost use Rattle.std.specs.Prelude.{◌≡◌, ◌<◌, ◌≤◌, IsTrue, OnOk, IfErr};
-ghost use Rattle.net_names.specs.Words.{same_codes};
+ghost use Rattle.std.specs.Str.{bytes_eq};
 ghost use Rattle.wiring.specs.declared.TheConstants.{MOST_PORTS};
 ghost use Rattle.netlist.specs.Names.{numbered};
-ghost use Rattle.netlist.specs.Faults.{FitsRule, HasRuleWidth, PortsFit, NamesDiffer, PassesPorts, IsFault};
+ghost use Rattle.netlist.specs.Faults.{FitsRule, HasRuleWidth, PortsFit};
+ghost use Rattle.netlist.specs.Passes.{NamesDiffer, PassesPorts, IsPassFault};
 ghost use Rattle.netlist.specs.Profile.{din_rule, AreOutputs, AreFromDins, AreFromEnable};
 
 use crate::fault::NetFault;
@@ -13,7 +14,7 @@ use wiring::{MOST_PORT_BITS, MOST_PORTS, Width};
 
 // Whether the bytes are the same.
 pub(crate) fn same(left: &[u8], right: &[u8]) -> bool
-    ensures { result ≡ same_codes left.now right.now }
+    ensures { result ≡ bytes_eq left.now right.now }
 {
     left == right
 }
@@ -152,7 +153,7 @@ fn ports_fit(ports: &[Port]) -> bool
 pub(crate) fn check_ports(parts: &Parts) -> Result<(), NetFault>
     requires { NamesDiffer parts.now }
     ensures ok { OnOk result (PassesPorts parts.now) }
-    ensures fault { IfErr result (IsFault parts.now) }
+    ensures fault { IfErr result (IsPassFault parts.now) }
 {
     if ports_fit(&parts.ports) {
         Ok(())

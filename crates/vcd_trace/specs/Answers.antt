@@ -1,4 +1,4 @@
--- What the private functions of the replay answer.
+-- For the private functions: what each step of the replay answers.
 use Rattle.std.specs.Prelude.{◌≡◌, ℕ, ◌+◌, Bool, false, List, [], ◌∷◌, ◌++◌, Vec, Result, Ok, Err, ⊤}
 use Rattle.std.specs.declared.alloc.Global.{Global}
 use Rattle.netlist.specs.Names.{NamedNetlist}

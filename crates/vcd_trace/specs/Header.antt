@@ -1,22 +1,10 @@
 -- The lines before the first time: the module's name, and the variables with their widths and names.
-use Rattle.std.specs.Prelude.{ℕ, suc, ◌+◌, Bool, if◌then◌else◌, List, [], ◌∷◌, ◌++◌, length, slice_get, unwrap_or, codes}
+use Rattle.std.specs.Prelude.{ℕ, suc, ◌+◌, Bool, List, [], ◌∷◌, ◌++◌, length, codes}
 use Rattle.std.specs.Fmt.{decimal}
-use Rattle.dk_base.specs.declared.TheConstants.{MAX_INPUTS, MAX_OUTPUTS}
 use Rattle.wiring.specs.Netlist.{Netlist}
-use Rattle.netlist.specs.Names.{NamedNetlist, din_names, output_names}
+use Rattle.netlist.specs.Names.{NamedNetlist, name_at, all_inputs, all_outputs}
 use Rattle.vcd_trace.specs.Layout.{id_of, text_of, clock_lines}
 use Rattle.cycle_sim.specs.Slots.{all_widths}
-
--- the name at a place
-abbrev pub name_at : List (List ℕ) → ℕ → List ℕ
-name_at names k = unwrap_or (slice_get names k) []
-
--- the names of inputs behind the clock, and of outputs, where there are as many as there may be
-abbrev pub all_inputs : Bool → List (List ℕ)
-all_inputs enable = codes "rst" ∷ (if enable then codes "en" ∷ din_names 0 MAX_INPUTS else din_names 0 MAX_INPUTS)
-
-abbrev pub all_outputs : List (List ℕ)
-all_outputs = output_names 0 MAX_OUTPUTS
 
 -- one after another, each with its place
 abbrev pub each_at : (ℕ → ℕ → List ℕ) → ℕ → List ℕ → List ℕ

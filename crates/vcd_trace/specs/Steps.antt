@@ -1,4 +1,4 @@
--- What is read of a trace so far, and which lines may follow.
+-- For the private functions: what is read of a trace so far, and which lines may follow.
 use Rattle.std.specs.Prelude.{◌≡◌, ℕ, ◌+◌, ◌≤◌, ◌⊎◌, Bool, true, false, List, [], ◌∷◌, ◌++◌, length, nat_eq, if◌then◌else◌}
 use Rattle.std.specs.List.{AllByRecursion}
 use Rattle.netlist.specs.Names.{NamedNetlist}

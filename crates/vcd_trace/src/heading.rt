@@ -1,70 +1,16 @@
 // The lines before the first time.
 
 ghost use Rattle.std.specs.Prelude.{◌≡◌, ◌+◌, ◌++◌, OnOk, IfOk, codes, decimal, length};
-ghost use Rattle.dk_base.specs.declared.TheConstants.{MAX_INPUTS};
-ghost use Rattle.netlist.specs.Names.{din_names};
+ghost use Rattle.netlist.specs.Names.{name_at};
 ghost use Rattle.wiring.specs.Netlist.{netlist_of};
 ghost use Rattle.vcd_trace.specs.Layout.{id_of};
-ghost use Rattle.vcd_trace.specs.Header.{name_at, all_inputs, all_outputs, each_at, kind_text, variable_text, input_text, output_text, named_text, ports_text, variables_text, scope_head, scope_text, timescale_text, end_text, header_text};
+ghost use Rattle.vcd_trace.specs.Header.{each_at, kind_text, variable_text, input_text, output_text, named_text, ports_text, variables_text, scope_head, scope_text, timescale_text, end_text, header_text};
 
 use crate::number::{id_length, push_id};
 use dk_base::OutOfMemory;
 use itoa::Buffer;
-use netlist::{Module, Name, Width, Wiring};
+use netlist::{Module, Name, Width, Wiring, input_name, output_name};
 use std::alloc::{AllocError, Global};
-
-fn din_name(place: usize) -> &'static [u8]
-    ensures { result.now ≡ name_at (din_names 0 MAX_INPUTS) place }
-{
-    match place {
-        0 => b"din",
-        1 => b"din1",
-        2 => b"din2",
-        3 => b"din3",
-        4 => b"din4",
-        5 => b"din5",
-        6 => b"din6",
-        7 => b"din7",
-        _ => b"",
-    }
-}
-
-// The name of the input of this number, `rst` being input 0.
-fn input_name(enable: bool, place: usize) -> &'static [u8]
-    ensures { result.now ≡ name_at (all_inputs enable) place }
-{
-    match place {
-        0 => b"rst",
-        1 if enable => b"en",
-        _ if enable => din_name(place - 2),
-        _ => din_name(place - 1),
-    }
-}
-
-// The name of the output of this number, `valid` being output 0.
-fn output_name(place: usize) -> &'static [u8]
-    ensures { result.now ≡ name_at all_outputs place }
-{
-    match place {
-        0 => b"valid",
-        1 => b"dout",
-        2 => b"valid1",
-        3 => b"dout1",
-        4 => b"valid2",
-        5 => b"dout2",
-        6 => b"valid3",
-        7 => b"dout3",
-        8 => b"valid4",
-        9 => b"dout4",
-        10 => b"valid5",
-        11 => b"dout5",
-        12 => b"valid6",
-        13 => b"dout6",
-        14 => b"valid7",
-        15 => b"dout7",
-        _ => b"",
-    }
-}
 
 fn push_number(out: &mut Vec<u8>, number: u8) -> Result<(), OutOfMemory>
     ensures { OnOk result (out.new.items ≡ out.old.items ++ decimal number) }

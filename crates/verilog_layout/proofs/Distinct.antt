@@ -3,9 +3,8 @@ use Rattle.std.proofs.Common.{◌≡◌, ℕ, zero, suc, ◌-◌, ◌*◌, ◌/�
 use Rattle.std.specs.Prelude.{if◌then◌else◌, codes}
 use Rattle.std.proofs.lemmas.List.{map-append}
 use Rattle.wiring.specs.Rules.{ArePorts, with_valids}
-use Rattle.netlist.specs.Names.{AreDistinct, NamedNetlist, HasNames, numbered, din_names, output_names, input_names, port_names}
+use Rattle.netlist.specs.Names.{AreDistinct, NamedNetlist, HasNames, numbered, din_names, output_names, input_names, port_names, name_at, all_inputs, all_outputs}
 use Rattle.netlist.specs.Scopes.{Meaning, Entry}
-use Rattle.verilog_layout.specs.Layout.{name_at, all_inputs, all_outputs}
 use Rattle.verilog_layout.proofs.Entries.{names_in, named_entries, inputs_of, outputs_of, wires_of, regs_of, arrays_of, port_scope, declared_scope, module_scope}
 
 -- so many names, from the k-th on

@@ -1,34 +1,24 @@
 -- The scope of a module's parts: each name that it has stands for what has that name.
-use Rattle.std.proofs.Common.{◌≡◌, ℕ, zero, suc, ◌+◌, ◌&&◌, Bool, true, false, List, [], ◌∷◌, ◌++◌, length, refl, ap, subst, sym, ◌∙◌, inl, inr, arith, Some, None}
+use Rattle.std.proofs.Common.{◌≡◌, ℕ, zero, suc, ◌+◌, Bool, true, false, List, [], ◌∷◌, ◌++◌, length, refl, ap, subst, sym, ◌∙◌, arith, Some, None}
 use Rattle.std.specs.Prelude.{Contains, slice_get, map, if◌then◌else◌, codes}
-use Rattle.std.proofs.lemmas.Bool.{eq-eqb}
-use Rattle.std.proofs.lemmas.Bool.Decides.{eqb_tells}
 use Rattle.std.proofs.lemmas.Option.{slice_get_read, same_Some, slice_get-map}
-use Rattle.net_names.specs.Words.{same_codes}
+use Rattle.std.specs.Str.{bytes_eq}
+use Rattle.std.proofs.lemmas.Slice.Eq.{bytes_eq-Decides}
 use Rattle.wiring.specs.declared.netlist.Net.TheVariants.{Input, Output, Wire, Reg}
 use Rattle.netlist.specs.declared.parts.Port.{Port}
 use Rattle.netlist.specs.declared.parts.Direction.TheVariants.{Input as Takes, Output as Gives}
 use Rattle.netlist.specs.declared.parts.Declaration.{Declaration}
 use Rattle.netlist.specs.declared.parts.Sort.TheVariants.{Wire as OfWire, Reg as OfReg, Array as OfArray}
 use Rattle.wiring.specs.declared.netlist.Shape.{Shape}
-use Rattle.netlist.specs.Names.{AreDistinct, NamedNetlist}
+use Rattle.netlist.specs.Names.{AreDistinct, NamedNetlist, name_at, all_inputs, all_outputs}
 use Rattle.netlist.specs.Scopes.{Meaning, clock, net, array, Entry, port_entries, all_ports, declared_entries, stands_for}
-use Rattle.verilog_layout.specs.Layout.{name_at, all_inputs, all_outputs}
 use Rattle.verilog_layout.proofs.Named.{named_ports, ports_of, named_sorts, declarations_of}
 
-codes_same : (a : List ℕ) → same_codes a a ≡ true
-codes_same [] = refl
-codes_same (x ∷ a) = ap (λ (t : Bool). t && same_codes a a) (eq-eqb x x refl) ∙ codes_same a
+codes_same : (a : List ℕ) → bytes_eq a a ≡ true
+codes_same a = (bytes_eq-Decides a a).1 refl
 
-same_equal : (a b : List ℕ) → same_codes a b ≡ true → a ≡ b
-same_equal [] [] e = refl
-same_equal [] (y ∷ b) e = absurd (let f : false ≡ true = e in cc)
-same_equal (x ∷ a) [] e = absurd (let f : false ≡ true = e in cc)
-same_equal (x ∷ a) (y ∷ b) e =
-    elim (eqb_tells x y) as (λ _. x ∷ a ≡ y ∷ b) [
-      | inl p ↦ ap (λ (n : ℕ). n ∷ a) p.1 ∙ ap (λ (l : List ℕ). y ∷ l) (same_equal a b (sym (ap (λ (t : Bool). t && same_codes a b) p.0) ∙ e))
-      | inr p ↦ absurd (let f : false ≡ true = sym (ap (λ (t : Bool). t && same_codes a b) p.0) ∙ e in cc)
-    ]
+same_equal : (a b : List ℕ) → bytes_eq a b ≡ true → a ≡ b
+same_equal a b e = (bytes_eq-Decides a b).0 e
 
 abbrev pub names_in : List Entry → List (List ℕ)
 names_in scope = map (λ (e : Entry). e.name) scope
@@ -41,20 +31,20 @@ stands_at : (scope : List Entry) (k : ℕ) (e : Entry) → slice_get scope k ≡
 stands_at [] k e at d = absurd (let f : None ≡ Some e = at in cc)
 stands_at (b ∷ scope) zero e at d =
     let same : b ≡ e = same_Some b e at in
-    let t : same_codes b.name e.name ≡ true = subst (λ x. same_codes b.name x.name ≡ true) same (codes_same b.name) in
+    let t : bytes_eq b.name e.name ≡ true = subst (λ x. bytes_eq b.name x.name ≡ true) same (codes_same b.name) in
     rw t (ap (λ x. Some x.meaning) same)
 stands_at (b ∷ scope) (suc k) e at d =
-    either (same_codes b.name e.name) refl (stands_at scope k e at (distinct_rest b.name (names_in scope) d))
+    either (bytes_eq b.name e.name) refl (stands_at scope k e at (distinct_rest b.name (names_in scope) d))
   where
     there : slice_get (names_in (b ∷ scope)) (suc k) ≡ Some e.name
     there = slice_get-map (λ (x : Entry). x.name) scope k ∙ rw at refl
 
-    not_here : same_codes b.name e.name ≡ true → ⊥
+    not_here : bytes_eq b.name e.name ≡ true → ⊥
     not_here t =
         let first : slice_get (names_in (b ∷ scope)) zero ≡ Some e.name = ap (λ x. Some x) (same_equal b.name e.name t) in
         let f : zero ≡ suc k = d zero (suc k) e.name first there in absurd (omega (arith, f))
 
-    either : (t : Bool) → same_codes b.name e.name ≡ t → stands_for scope e.name ≡ Some e.meaning → (if t then Some b.meaning else stands_for scope e.name) ≡ Some e.meaning
+    either : (t : Bool) → bytes_eq b.name e.name ≡ t → stands_for scope e.name ≡ Some e.meaning → (if t then Some b.meaning else stands_for scope e.name) ≡ Some e.meaning
     either true f later = absurd (not_here f)
     either false f later = later
 

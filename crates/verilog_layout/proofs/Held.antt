@@ -10,10 +10,10 @@ use Rattle.netlist.specs.declared.parts.Parts.{Parts}
 use Rattle.netlist.specs.declared.parts.Direction.{Direction}
 use Rattle.netlist.specs.declared.parts.Direction.TheVariants.{Input as Takes, Output as Gives}
 use Rattle.netlist.specs.declared.parts.Sort.{Sort}
-use Rattle.netlist.specs.Names.{NamedNetlist, HasNames}
+use Rattle.netlist.specs.Names.{NamedNetlist, HasNames, all_inputs, all_outputs}
 use Rattle.verilog_text.specs.Grammar.{Source}
 use Rattle.verilog_text.specs.Stands.{StandsFor}
-use Rattle.verilog_layout.specs.Layout.{all_inputs, all_outputs, each, each_at, input_layout, output_layout, net_line, array_line, assign_layout, update_layout, head_layout, declarations_layout, block_head, block_layout, layout}
+use Rattle.verilog_layout.specs.Layout.{each, each_at, input_layout, output_layout, net_line, array_line, assign_layout, update_layout, head_layout, declarations_layout, block_head, block_layout, layout}
 use Rattle.verilog_layout.proofs.Named.{named_assign, named_update, named_ports, ports_of, named_sorts, wire_declarations, reg_declarations, array_declarations, declarations_of, IsSourceOf}
 use Rattle.verilog_layout.proofs.Made.{is_module_of}
 

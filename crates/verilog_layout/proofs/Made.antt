@@ -23,10 +23,11 @@ use Rattle.netlist.specs.declared.parts.Direction.TheVariants.{Input as Takes, O
 use Rattle.netlist.specs.declared.parts.Declaration.{Declaration}
 use Rattle.netlist.specs.declared.parts.Sort.{Sort}
 use Rattle.netlist.specs.declared.parts.Sort.TheVariants.{Wire as OfWire, Reg as OfReg, Array as ArrayOf}
-use Rattle.netlist.specs.Names.{AreDistinct, NamedNetlist, ModuleNames, HasNames, numbered, din_names, output_names}
+use Rattle.netlist.specs.Names.{AreDistinct, NamedNetlist, ModuleNames, HasNames, numbered, din_names, output_names, name_at, all_inputs, all_outputs}
 use Rattle.netlist.specs.Scopes.{Meaning, Entry, all_ports, declared_entries, scope_of, assign_named, update_named, collected, taken, given, past_clock, has_enable, wire_width, reg_width, array_shape, netlist_of_parts, names_of_parts, module_of}
-use Rattle.netlist.specs.Faults.{PortRule, bit_input, din_rules, output_rules, FitsRule, PortsFit, AllKnown, assign_names, update_names, AssignFits, UpdateFits, FineAssign, FineUpdate, TargetsDiffer, HasDriver, PassesPorts, PassesStatements, PassesTargets, PassesDrivers, IsModuleOf}
-use Rattle.verilog_layout.specs.Layout.{name_at, all_inputs, all_outputs}
+use Rattle.netlist.specs.Faults.{PortRule, bit_input, din_rules, output_rules, FitsRule, PortsFit, AllKnown, assign_names, update_names, AssignFits, UpdateFits, TargetsDiffer, HasDriver, IsModuleOf}
+use Rattle.netlist.proofs.Ruled.{keeps_of}
+use Rattle.netlist.specs.Passes.{FineAssign, FineUpdate, PassesPorts, PassesStatements, PassesTargets, PassesDrivers}
 use Rattle.verilog_layout.proofs.Named.{named_assign, named_update, named_ports, clock_port, ports_of, named_sorts, wire_declarations, reg_declarations, array_declarations, declarations_of}
 use Rattle.verilog_layout.proofs.Entries.{names_in, named_entries, inputs_of, outputs_of, wires_of, regs_of, arrays_of, port_scope, declared_scope, module_scope, scope_is}
 use Rattle.verilog_layout.proofs.Distinct.{picked, picked_all, scope_distinct}
@@ -352,4 +353,4 @@ module _ (m : NamedNetlist) (p : Parts) (rules : KeepsRules m.netlist) (named : 
 
   -- parts with these lists make this module
   pub is_module_of : IsModuleOf p m
-  is_module_of = record { passes = passes_drivers; acyclic = subst (λ n. IsAcyclic n.assigns) (sym netlist_here) rules.acyclic; is = module_here }
+  is_module_of = record { keeps = keeps_of p passes_drivers (subst (λ n. IsAcyclic n.assigns) (sym netlist_here) rules.acyclic); is = module_here }

@@ -19,11 +19,11 @@ use Rattle.netlist.specs.declared.parts.Sort.TheVariants.{Wire as OfWire, Reg as
 use Rattle.netlist.specs.declared.parts.NamedAssign.{NamedAssign}
 use Rattle.netlist.specs.declared.parts.NamedUpdate.{NamedUpdate}
 use Rattle.netlist.specs.declared.parts.NamedUpdate.TheVariants.{Set as NamedSet, Put as NamedPut}
-use Rattle.netlist.specs.Names.{NamedNetlist}
+use Rattle.netlist.specs.Names.{NamedNetlist, name_at, all_inputs, all_outputs}
 use Rattle.verilog_text.specs.Grammar.{Source}
 use Rattle.verilog_text.specs.Limits.{limit_fault}
 use Rattle.verilog_text.specs.Stands.{bytes_at, port_of, declaration_of, assign_of, update_of, IsWritten}
-use Rattle.verilog_layout.specs.Layout.{name_at, all_inputs, all_outputs, net_name, array_name, layout}
+use Rattle.verilog_layout.specs.Layout.{net_name, array_name, layout}
 
 module _ (m : NamedNetlist) where
   abbrev pub named_atom : Atom Net → Atom (List ℕ)

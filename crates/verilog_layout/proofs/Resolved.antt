@@ -16,10 +16,10 @@ use Rattle.wiring.specs.Rights.{nets_of, atom_nets}
 use Rattle.wiring.specs.Netlist.{IsDeclared, IsDriven}
 use Rattle.wiring.specs.Rules.{ArrayIsDeclared, AssignIsSound, UpdateIsSound}
 use Rattle.wiring.proofs.Lists.{All-left, All-right}
-use Rattle.netlist.specs.Names.{AreDistinct, NamedNetlist}
+use Rattle.netlist.specs.Names.{AreDistinct, NamedNetlist, name_at, all_inputs, all_outputs}
 use Rattle.netlist.specs.Scopes.{Meaning, net, array, Entry, stands_for, as_net, as_array, net_named, array_named, atom_named, right_named, assign_named, update_named}
 use Rattle.netlist.specs.Faults.{AllKnown, array_names, assign_names, update_names}
-use Rattle.verilog_layout.specs.Layout.{name_at, all_inputs, all_outputs, net_name, array_name}
+use Rattle.verilog_layout.specs.Layout.{net_name, array_name}
 use Rattle.verilog_layout.proofs.Named.{named_atom, named_right, named_assign, named_update}
 use Rattle.verilog_layout.proofs.Entries.{names_in, named_entries, inputs_of, outputs_of, wires_of, regs_of, arrays_of, clock_entry, port_scope, declared_scope, module_scope, stands_entry}
 

@@ -19,8 +19,8 @@ use Rattle.netlist.specs.declared.parts.Direction.{Direction}
 use Rattle.netlist.specs.declared.parts.Direction.TheVariants.{Input as Takes, Output as Gives}
 use Rattle.netlist.specs.declared.parts.Sort.{Sort}
 use Rattle.netlist.specs.declared.parts.Sort.TheVariants.{Wire as OfWire, Reg as OfReg, Array as OfArray}
-use Rattle.netlist.specs.Names.{NamedNetlist}
-use Rattle.verilog_layout.specs.Layout.{name_at, all_inputs, all_outputs, net_name, atom_layout, operator_layout, right_layout, assign_layout, update_layout, range_layout, named_layout, net_line, array_line, each_at, each, input_layout, output_layout, declarations_layout, block_head, block_layout, layout}
+use Rattle.netlist.specs.Names.{NamedNetlist, name_at, all_inputs, all_outputs}
+use Rattle.verilog_layout.specs.Layout.{net_name, atom_layout, operator_layout, right_layout, assign_layout, update_layout, range_layout, named_layout, net_line, array_line, each_at, each, input_layout, output_layout, declarations_layout, block_head, block_layout, layout}
 use Rattle.verilog_layout.proofs.Named.{named_atom, named_right, named_assign, named_update, named_ports, clock_port, named_sorts, wire_declarations, reg_declarations, array_declarations, declarations_of}
 use Rattle.verilog_layout.proofs.Pieces.{Piece, text_of}
 use Rattle.verilog_layout.proofs.Clear.{word, atom_own, operator_own, end_line, right_pieces, assign_pieces, update_pieces, wide_pieces, ranged_pieces, words_pieces, sort_pieces, declaration_pieces, direction_own, port_pieces, more_ports, each_pieces, end_pieces, block_pieces, module_pieces, last_line}

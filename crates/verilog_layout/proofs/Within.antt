@@ -27,8 +27,8 @@ use Rattle.netlist.specs.declared.parts.Direction.TheVariants.{Input as Takes, O
 use Rattle.netlist.specs.declared.parts.Declaration.{Declaration}
 use Rattle.netlist.specs.declared.parts.Sort.{Sort}
 use Rattle.netlist.specs.declared.parts.Sort.TheVariants.{Wire as OfWire, Reg as OfReg, Array as OfArray}
-use Rattle.netlist.specs.Names.{NamedNetlist, HasNames}
-use Rattle.verilog_layout.specs.Layout.{name_at, all_inputs, all_outputs, net_name, array_name}
+use Rattle.netlist.specs.Names.{NamedNetlist, HasNames, name_at, all_inputs, all_outputs}
+use Rattle.verilog_layout.specs.Layout.{net_name, array_name}
 use Rattle.verilog_layout.proofs.Named.{named_atom, named_right, named_assign, named_update, named_ports, clock_port, named_sorts, wire_declarations, reg_declarations, array_declarations, declarations_of}
 use Rattle.verilog_layout.proofs.Clear.{IsNamed, AtomIsFine, RightIsFine, AssignIsFine, UpdateIsFine, SortIsFine, DeclarationIsFine, PortIsFine}
 use Rattle.verilog_layout.proofs.Derived.{sort_bits}

@@ -14,7 +14,8 @@ use Rattle.verilog_text.specs.declared.token.TokenKind.TheVariants.{Name, Clock,
 use Rattle.verilog_text.specs.declared.token.Symbol.{Symbol}
 use Rattle.verilog_text.specs.declared.token.Symbol.TheVariants as symbol
 use Rattle.verilog_text.specs.declared.token.Keyword.{Keyword}
-use Rattle.net_names.specs.Words.{is_letter, is_word_byte, is_digit, is_word, is_name, is_among, is_structure_word, is_refused_word, same_codes}
+use Rattle.std.specs.Str.{bytes_eq}
+use Rattle.net_names.specs.Words.{is_letter, is_word_byte, is_digit, is_word, is_name, is_among, is_structure_word, is_refused_word}
 use Rattle.verilog_text.specs.Bytes.{is_white, is_in_number, is_in_constant, value_of, word_kind, keyword_or, keywords, refused_or_name}
 use Rattle.verilog_text.specs.Lexis.{Solid, lexeme, number_at, plain_of, is_tick_first, symbol_here}
 use Rattle.verilog_text.specs.Grammar.{named, atomic}
@@ -130,13 +131,13 @@ name_facts bytes h =
 
 no_keyword : (bytes : List ℕ) (ws : List (List ℕ × Keyword)) (other : TokenKind) → is_among bytes (map (λ (w : List ℕ × Keyword). w.0) ws) ≡ false → keyword_or bytes ws other ≡ other
 no_keyword bytes [] other h = refl
-no_keyword bytes (w ∷ ws) other h = by_word (same_codes bytes w.0) (is_among bytes (map (λ (v : List ℕ × Keyword). v.0) ws)) h (no_keyword bytes ws other)
+no_keyword bytes (w ∷ ws) other h = by_word (bytes_eq bytes w.0) (is_among bytes (map (λ (v : List ℕ × Keyword). v.0) ws)) h (no_keyword bytes ws other)
   where
     by_word : (s t : Bool) → (s || t) ≡ false → (t ≡ false → keyword_or bytes ws other ≡ other) → (if s then TokenKind.Keyword w.1 else keyword_or bytes ws other) ≡ other
     by_word true t e go = absurd (cc)
     by_word false t e go = go e
 
-pub name_kind : (bytes : List ℕ) → is_name bytes ≡ true → word_kind bytes ≡ (if same_codes bytes (codes "clk") then Clock else Name)
+pub name_kind : (bytes : List ℕ) → is_name bytes ≡ true → word_kind bytes ≡ (if bytes_eq bytes (codes "clk") then Clock else Name)
 name_kind bytes h =
     let f = name_facts bytes h in
     no_keyword bytes keywords (refused_or_name bytes) f.free ∙ (rw (f.allowed) refl)
@@ -150,10 +151,10 @@ atomic_either true s = refl
 atomic_either false s = refl
 
 pub is_named : (bytes : List ℕ) (s : Span) → is_name bytes ≡ true → named (word_kind bytes) s ≡ Some s
-is_named bytes s h = ap (λ k. named k s) (name_kind bytes h) ∙ named_either (same_codes bytes (codes "clk")) s
+is_named bytes s h = ap (λ k. named k s) (name_kind bytes h) ∙ named_either (bytes_eq bytes (codes "clk")) s
 
 pub is_atomic : (bytes : List ℕ) (s : Span) → is_name bytes ≡ true → atomic (word_kind bytes) s ≡ Some (atom.Net s)
-is_atomic bytes s h = ap (λ k. atomic k s) (name_kind bytes h) ∙ atomic_either (same_codes bytes (codes "clk")) s
+is_atomic bytes s h = ap (λ k. atomic k s) (name_kind bytes h) ∙ atomic_either (bytes_eq bytes (codes "clk")) s
 
 pub name_read : (bytes : List ℕ) {rest : List ℕ} → is_name bytes ≡ true → StopsAt is_tail rest → IsRead bytes (word_kind bytes) rest
 name_read bytes {rest} h s =

@@ -3,10 +3,10 @@ use Rattle.std.proofs.Common.{◌≤◌, [], ◌++◌, map, refl, sym, subst}
 use Rattle.wiring.specs.Rules.{KeepsRules}
 use Rattle.wiring.specs.BufferBits.{array_bits}
 use Rattle.netlist.specs.declared.parts.Direction.TheVariants.{Input as Takes, Output as Gives}
-use Rattle.netlist.specs.Names.{NamedNetlist, HasNames}
+use Rattle.netlist.specs.Names.{NamedNetlist, HasNames, all_inputs, all_outputs}
 use Rattle.verilog_text.specs.Lexis.{none, white, HasTokens}
 use Rattle.verilog_text.specs.Grammar.{Source}
-use Rattle.verilog_layout.specs.Layout.{all_inputs, all_outputs, layout}
+use Rattle.verilog_layout.specs.Layout.{layout}
 use Rattle.verilog_layout.proofs.Named.{named_assign, named_update, named_ports, clock_port, declarations_of, IsSourceOf}
 use Rattle.verilog_layout.proofs.Pieces.{Spells, lexes_pieces}
 use Rattle.verilog_layout.proofs.Clear.{module_clear, last_line}

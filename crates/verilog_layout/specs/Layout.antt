@@ -1,5 +1,5 @@
 -- The layout of a printed text.
-use Rattle.std.specs.Prelude.{ℕ, suc, ◌-◌, Bool, if◌then◌else◌, nat_eq, List, [], ◌∷◌, ◌++◌, slice_get, unwrap_or, codes, decimal}
+use Rattle.std.specs.Prelude.{ℕ, suc, ◌-◌, Bool, if◌then◌else◌, nat_eq, List, [], ◌∷◌, ◌++◌, codes, decimal}
 use Rattle.wiring.specs.Sizes.{SizedNumber}
 use Rattle.wiring.specs.declared.right.Atom.{Atom}
 use Rattle.wiring.specs.declared.right.Atom.TheVariants as atom
@@ -13,19 +13,9 @@ use Rattle.wiring.specs.declared.netlist.Shape.{Shape}
 use Rattle.wiring.specs.declared.netlist.Assign.{Assign}
 use Rattle.wiring.specs.declared.netlist.Update.{Update}
 use Rattle.wiring.specs.declared.netlist.Update.TheVariants.{Set, Put}
-use Rattle.netlist.specs.Names.{NamedNetlist, din_names, output_names}
+use Rattle.netlist.specs.Names.{NamedNetlist, name_at, all_inputs, all_outputs}
 
--- the name at a place
-abbrev pub name_at : List (List ℕ) → ℕ → List ℕ
-name_at names k = unwrap_or (slice_get names k) []
-
--- the names of inputs behind the clock, and of outputs, where there are as many as there may be
-abbrev pub all_inputs : Bool → List (List ℕ)
-all_inputs enable = codes "rst" ∷ (if enable then codes "en" ∷ din_names 0 8 else din_names 0 8)
-
-abbrev pub all_outputs : List (List ℕ)
-all_outputs = output_names 0 8
-
+-- the names of nets and arrays, by their places
 abbrev pub net_name : NamedNetlist → Net → List ℕ
 net_name m (Input k) = name_at (all_inputs m.netlist.enable) k
 net_name m (Output k) = name_at all_outputs k

@@ -2,7 +2,8 @@
 use Rattle.std.proofs.Common.{◌≡◌, ◌≢◌, ℕ, ◌^◌, List, [], ◌∷◌, take, drop, Option, Some, None, Ok, Err, nat_lt, nat_eq, refl, sym, subst, inl, inr, if◌then◌else◌}
 use Rattle.std.specs.List.{prefix_len, find, starts_with}
 use Rattle.std.proofs.lemmas.Bool.{cases_Bool}
-use Rattle.net_names.specs.Words.{is_letter, is_digit, is_word_byte, same_codes, is_refused_word}
+use Rattle.net_names.specs.Words.{is_letter, is_digit, is_word_byte, is_refused_word}
+use Rattle.std.specs.Str.{bytes_eq}
 use Rattle.wiring.specs.Sizes.{SizedNumber}
 use Rattle.verilog_text.specs.declared.token.Keyword.{Keyword}
 use Rattle.verilog_text.specs.declared.token.Symbol.{Symbol}
@@ -17,8 +18,8 @@ abbrev IsNoEnd : Lexeme → Type 0
 IsNoEnd (Ok x) = x.0 ≢ kind.End
 IsNoEnd (Err e) = Unit {0}
 
-clock_is : (bytes : List ℕ) → (if same_codes bytes (codes "clk") then kind.Clock else kind.Name) ≢ kind.End
-clock_is bytes = elim (cases_Bool (same_codes bytes (codes "clk"))) as (λ _. (if same_codes bytes (codes "clk") then kind.Clock else kind.Name) ≢ kind.End) [
+clock_is : (bytes : List ℕ) → (if bytes_eq bytes (codes "clk") then kind.Clock else kind.Name) ≢ kind.End
+clock_is bytes = elim (cases_Bool (bytes_eq bytes (codes "clk"))) as (λ _. (if bytes_eq bytes (codes "clk") then kind.Clock else kind.Name) ≢ kind.End) [
   | inl t ↦ rw t (λ e. cc)
   | inr f ↦ rw f (λ e. cc)
 ]
@@ -31,7 +32,7 @@ name_is bytes = elim (cases_Bool (is_refused_word bytes)) as (λ _. refused_or_n
 
 keyword_is : (bytes : List ℕ) (ws : List (List ℕ × Keyword)) (other : TokenKind) → other ≢ kind.End → keyword_or bytes ws other ≢ kind.End
 keyword_is bytes [] other h = h
-keyword_is bytes (w ∷ ws) other h = elim (cases_Bool (same_codes bytes w.0)) as (λ _. keyword_or bytes (w ∷ ws) other ≢ kind.End) [
+keyword_is bytes (w ∷ ws) other h = elim (cases_Bool (bytes_eq bytes w.0)) as (λ _. keyword_or bytes (w ∷ ws) other ≢ kind.End) [
   | inl t ↦ rw t (λ e. cc)
   | inr f ↦ rw f (keyword_is bytes ws other h)
 ]

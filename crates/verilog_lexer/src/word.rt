@@ -1,13 +1,13 @@
 // Words.
 
 ghost use Rattle.std.specs.Prelude.{◌≡◌};
-ghost use Rattle.net_names.specs.Words.{same_codes};
+ghost use Rattle.std.specs.Str.{bytes_eq};
 ghost use Rattle.verilog_text.specs.Bytes.{refused_or_name as refused_or_name_of, word_kind as word_kind_of};
 
 use verilog_text::{Keyword, TokenKind};
 
 fn same(bytes: &[u8], word: &[u8]) -> bool
-    ensures { result ≡ same_codes bytes.now word.now }
+    ensures { result ≡ bytes_eq bytes.now word.now }
 {
     bytes == word
 }

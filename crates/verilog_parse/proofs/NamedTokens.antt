@@ -7,7 +7,8 @@ use Rattle.std.proofs.lemmas.List.Sums.{prefix_len-le-length}
 use Rattle.std.proofs.lemmas.List.Folds.{length-prefix_len}
 use Rattle.std.proofs.Math.Seq.{drop-append_seam}
 use Rattle.std.proofs.Common.{take-append-drop}
-use Rattle.net_names.specs.Words.{is_letter, is_digit, is_word_byte, is_word, same_codes, is_among, is_structure_word, is_refused_word, is_name}
+use Rattle.net_names.specs.Words.{is_letter, is_digit, is_word_byte, is_word, is_among, is_structure_word, is_refused_word, is_name}
+use Rattle.std.specs.Str.{bytes_eq}
 use Rattle.wiring.specs.Sizes.{SizedNumber}
 use Rattle.dk_base.specs.declared.span.Span.{Span}
 use Rattle.verilog_text.specs.declared.token.Token.{Token}
@@ -87,7 +88,7 @@ word_run a bs h =
 -- a word that is a name is none of the words that are none
 keyword_no : (x : List ℕ) (ws : List (List ℕ × Keyword)) (other k : TokenKind) → keyword_or x ws other ≡ k → ((w : Keyword) → k ≢ kind.Keyword w) → (is_among x (map (λ w. w.0) ws) ≡ false) × (other ≡ k)
 keyword_no x [] other k e h = (refl, e)
-keyword_no x (w ∷ ws) other k e h = elim (cases_Bool (same_codes x w.0)) as (λ _. (is_among x (map (λ w. w.0) (w ∷ ws)) ≡ false) × (other ≡ k)) [
+keyword_no x (w ∷ ws) other k e h = elim (cases_Bool (bytes_eq x w.0)) as (λ _. (is_among x (map (λ w. w.0) (w ∷ ws)) ≡ false) × (other ≡ k)) [
   | inl t ↦
       let found : keyword_or x (w ∷ ws) other ≡ kind.Keyword w.1 = rw t refl in
       absurd (h w.1 (sym e ∙ found))

@@ -1,4 +1,4 @@
--- The grammar as it is read, with one token ahead.
+-- For the private functions: the grammar as it is read, with one token ahead.
 use Rattle.std.specs.Prelude.{◌≡◌, List, Option, Some, None, Bool, true, false}
 use Rattle.wiring.specs.declared.right.Atom.{Atom}
 use Rattle.wiring.specs.declared.right.Atom.TheVariants as atom

@@ -1,4 +1,4 @@
--- Ports and the sections of a module as they are read, with one token ahead.
+-- For the private functions: ports and the sections of a module as they are read, with one token ahead.
 use Rattle.std.specs.Prelude.{◌≡◌, List, [], ◌∷◌, ◌++◌, Option, Some, None, Bool, true, false}
 use Rattle.dk_grammar.specs.Reading.{Phrases, One, Then, Done, Listed, Chain}
 use Rattle.dk_base.specs.declared.span.Span.{Span}

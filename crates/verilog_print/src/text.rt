@@ -8,8 +8,7 @@ ghost use Rattle.verilog_text.specs.Stands.{StandsFor};
 ghost use Rattle.verilog_layout.specs.Layout.{layout, head_layout, declarations_layout, block_head, whole_block, block_layout, input_layout, output_layout, each_at};
 
 use crate::line::{push_arrays, push_assigns, push_named, push_nets, push_updates};
-use crate::name::{input_name, output_name};
-use netlist::{Module, Update, Width};
+use netlist::{Module, Update, Width, input_name, output_name};
 use std::alloc::{AllocError, Global};
 
 // The bytes that are kept ready for a declaration and for a statement.

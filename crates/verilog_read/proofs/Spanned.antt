@@ -18,7 +18,9 @@ use Rattle.netlist.specs.declared.parts.NamedUpdate.{NamedUpdate}
 use Rattle.netlist.specs.declared.fault.NetFault.{NetFault}
 use Rattle.netlist.specs.declared.fault.NetFault.TheVariants.{Duplicate, Ports, Unknown, WrongSort, Divisor, Width, DrivenTwice, Undriven, Cycle}
 use Rattle.netlist.specs.Scopes.{Entry, port_entries, all_ports, inputs_after, outputs_after, declared_entries, wires_after, regs_after, arrays_after, scope_of, assign_named, update_named, collected}
-use Rattle.netlist.specs.Faults.{IsPlace, FirstStatement, IsFault, entry_names}
+use Rattle.netlist.specs.Faults.{IsFault}
+use Rattle.netlist.proofs.Ruled.{passed}
+use Rattle.netlist.specs.Passes.{IsPassFault, IsPlace, FirstStatement, entry_names}
 use Rattle.verilog_text.specs.Grammar.{Source}
 use Rattle.verilog_text.specs.Stands.{ArePartsOf, port_of, declaration_of, assign_of, update_of}
 use Rattle.verilog_text.specs.Faults.{declared_span, driven_span, updated_span, fault_span}
@@ -99,26 +101,29 @@ module _ (text : List ℕ) (s : Source) (p : Parts) (are : ArePartsOf text s p) 
   statement_written A U (AssignAt k) h = assign_written k (slice_get_within p.assigns.items k h.item h.at)
   statement_written A U (UpdateAt k) h = update_written k (slice_get_within p.updates.items k h.1.item h.1.at)
 
-  pub fault_written : (f : NetFault) → IsFault p f → IsSome (fault_span s f)
-  fault_written (Duplicate d) h =
+  pass_written : (f : NetFault) → IsPassFault p f → IsSome (fault_span s f)
+  pass_written (Duplicate d) h =
       let l = slice_get_within (entry_names p) h.0 h.2.second h.2.second_at in
       let n = length-map (scope_of p) (λ (e : Entry). e.name) in
       place_written d h.0 h.1 (omega (arith, l, n))
-  fault_written Ports h = refl
-  fault_written (Unknown t) h = statement_written _ _ t h.1
-  fault_written (WrongSort t) h = statement_written _ _ t h.1
-  fault_written (Divisor t) h = statement_written _ _ t h.1
-  fault_written (Width t) h = statement_written _ _ t h.1
-  fault_written (DrivenTwice (AssignAt k)) h =
+  pass_written Ports h = refl
+  pass_written (Unknown t) h = statement_written _ _ t h.1
+  pass_written (WrongSort t) h = statement_written _ _ t h.1
+  pass_written (Divisor t) h = statement_written _ _ t h.1
+  pass_written (Width t) h = statement_written _ _ t h.1
+  pass_written (DrivenTwice (AssignAt k)) h =
       let l = slice_get_within (collected (assign_named (scope_of p)) p.assigns.items) k h.1.second h.1.second_at in
       let n = collected_few (assign_named (scope_of p)) p.assigns.items in
       assign_written k (omega (arith, l, n))
-  fault_written (DrivenTwice (UpdateAt k)) h =
+  pass_written (DrivenTwice (UpdateAt k)) h =
       let l = slice_get_within (collected (update_named (scope_of p)) p.updates.items) k h.2.second h.2.second_at in
       let n = collected_few (update_named (scope_of p)) p.updates.items in
       update_written k (omega (arith, l, n))
-  fault_written (Undriven d) h = place_written d h.1 h.2 (slice_get_within (scope_of p) h.1 h.3.item h.3.at)
-  fault_written (Cycle k) h =
+  pass_written (Undriven d) h = place_written d h.1 h.2 (slice_get_within (scope_of p) h.1 h.3.item h.3.at)
+  pass_written (Cycle k) h =
       let l = depends_at (collected (assign_named (scope_of p)) p.assigns.items) h.1 in
       let n = collected_few (assign_named (scope_of p)) p.assigns.items in
       assign_written k (omega (arith, l, n))
+
+  pub fault_written : (f : NetFault) → IsFault p f → IsSome (fault_span s f)
+  fault_written f h = pass_written f (passed p f h)

@@ -2,7 +2,8 @@
 use Rattle.std.specs.Prelude.{ℕ, ◌+◌, ◌-◌, ◌*◌, ◌^◌, List, [], ◌∷◌, take, drop, Option, Some, None, Bool, true, false, ◌&&◌, ◌||◌, not, nat_lt, nat_le, nat_eq, if◌then◌else◌, codes}
 use Rattle.std.specs.List.{prefix_len}
 use Rattle.dk_base.specs.declared.TheConstants.{MAX_WIDTH}
-use Rattle.net_names.specs.Words.{is_letter, is_digit, same_codes, is_refused_word}
+use Rattle.net_names.specs.Words.{is_letter, is_digit, is_refused_word}
+use Rattle.std.specs.Str.{bytes_eq}
 use Rattle.wiring.specs.Sizes.{SizedNumber}
 use Rattle.verilog_text.specs.declared.token.Symbol.{Symbol}
 use Rattle.verilog_text.specs.declared.token.Symbol.TheVariants as symbol
@@ -102,10 +103,10 @@ keywords =
 
 abbrev pub keyword_or : List ℕ → List (List ℕ × Keyword) → TokenKind → TokenKind
 keyword_or bytes [] other = other
-keyword_or bytes (w ∷ ws) other = if same_codes bytes w.0 then kind.Keyword w.1 else keyword_or bytes ws other
+keyword_or bytes (w ∷ ws) other = if bytes_eq bytes w.0 then kind.Keyword w.1 else keyword_or bytes ws other
 
 abbrev pub refused_or_name : List ℕ → TokenKind
-refused_or_name bytes = if is_refused_word bytes then kind.Refused else (if same_codes bytes (codes "clk") then kind.Clock else kind.Name)
+refused_or_name bytes = if is_refused_word bytes then kind.Refused else (if bytes_eq bytes (codes "clk") then kind.Clock else kind.Name)
 
 -- case is kept apart
 abbrev pub word_kind : List ℕ → TokenKind

@@ -1,5 +1,5 @@
 use Rattle.std.proofs.Common.{◌≡◌, ◌++◌, ◌∷◌, [], ◌∙◌}
-use Rattle.netlist.specs.Driven.{wire_name, reg_name, array_name}
+use Rattle.netlist.specs.Scopes.{wire_name, reg_name, array_name}
 use Rattle.netlist.proofs.Turning.{take_last}
 use Rattle.netlist.proofs.checking.names_backwards.Goals as goal
 

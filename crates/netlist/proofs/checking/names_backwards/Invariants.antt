@@ -1,7 +1,6 @@
 use Rattle.std.proofs.Common.{◌≡◌, ◌++◌}
 use Rattle.std.specs.Prelude.{reverse, vec_len}
-use Rattle.netlist.specs.Scopes.{collected}
-use Rattle.netlist.specs.Driven.{wire_name, reg_name, array_name}
+use Rattle.netlist.specs.Scopes.{collected, wire_name, reg_name, array_name}
 use Rattle.netlist.proofs.checking.names_backwards.Given as goal
 
 abbrev pub invariant-loop-declaration : goal.invariant-loop-declaration
