@@ -28,6 +28,10 @@ entry_or [] k x d at = absurd (let f : ⊥ = cc in f)
 entry_or (y ∷ xs) zero x d at = same_Some y x at
 entry_or (y ∷ xs) (suc k) x d at = entry_or xs k x d at
 
+-- the type of an image that is there
+pub type_is : (p : Program) (g : ℕ) (t : Ty) → slice_get (types_of p) g ≡ Some t → t ≡ type_at p g
+type_is p g t at = sym (entry_or (types_of p) g t (Unsigned 1) at)
+
 -- the width of a kept image is its type's
 pub plan_width : (p : Program) (plan : Plan) (g : ℕ) → AreStencilsOf p plan.system.stencils → Keeps plan g → width_of plan g ≡ bits_of_type (type_at p g)
 plan_width p plan g are kept =

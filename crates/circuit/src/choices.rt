@@ -18,7 +18,7 @@ ghost use Rattle.circuit.specs.Taps.{IsReading};
 ghost use Rattle.circuit.specs.Reads.{HasPosition, ChoosesAlso, Chooses, IsReadNet, IsNetOf, reads_in, atom_of_choice, choice_nets, chosen_by};
 
 use crate::positions::test_at;
-use crate::reader::{Reader, tap_of, type_of};
+use crate::reader::{Reader, tap_of};
 use dk_base::{LiveRead, OutOfMemory, Ty};
 use edge_select::{Extent, Pixel, Step, passing};
 use net_build::{Builder, gate, number};
@@ -197,7 +197,7 @@ pub fn read_net(
     ensures net { IfOk result (λ n. (first : Netlist) → Includes b.old first → IsReadNet b.new first reader.now.plan.now reader.now.taps.now reader.now.image (leaf_at g steps.now) (width_of n.0) n.1) }
 {
     reader.ir.law();
-    let ty = type_of(reader.ir, g);
+    let ty = reader.ir.type_of(g);
     let choice = choice_of(b, reader, made, steps, g)?;
     let net = net_of(b, ty.width(), choice)?;
     Ok((ty, net))

@@ -8,7 +8,6 @@ ghost use Rattle.net_build.specs.Control.{IsControlled};
 ghost use Rattle.circuit.specs.Rounds.{type_at};
 ghost use Rattle.circuit.specs.Images.{ports_of};
 
-use crate::reader::type_of;
 use dk_base::OutOfMemory;
 use net_build::Builder;
 use pointwise_ir::Ir;
@@ -26,13 +25,14 @@ fn din_bits(alloc: Global, ir: &Ir) -> Result<Vec<u8>, OutOfMemory>
 }
 
 // The width of each output.
+#[tactic(auto, using(crate::proofs::Typing::type_is))]
 fn dout_bits(alloc: Global, ir: &Ir) -> Result<Vec<u8>, OutOfMemory>
     ensures { IfOk result (λ bits. bits.items ≡ map (λ g. width_of (type_at ir.now g)) ir.now.outputs) }
 {
     ir.law();
     let mut bits = Vec::new(alloc);
     for image in ir.outputs() {
-        bits.push(type_of(ir, *image).width())?;
+        bits.push(ir.type_of(*image).width())?;
     }
     Ok(bits)
 }

@@ -2,14 +2,12 @@
 
 ghost use Rattle.std.specs.Prelude.{◌≡◌, ◌<◌, Some, Contains, length, slice_get, slice_index, slice_index_or, []};
 ghost use Rattle.std.specs.List.Sorted.{IsStrictlyIncreasing};
-ghost use Rattle.pointwise_ir.specs.Programs.{types_of};
 ghost use Rattle.buffer_plan.specs.Plans.{place_in, ages_of};
-ghost use Rattle.circuit.specs.Rounds.{type_at};
 ghost use Rattle.circuit.specs.Taps.{taps_at, IsTapOf};
 
 use crate::taps::Taps;
 use buffer_plan::Plan;
-use dk_base::{LiveRead, Ty};
+use dk_base::LiveRead;
 use pointwise_ir::Ir;
 use wiring::Net;
 
@@ -20,19 +18,6 @@ pub struct Reader<'a> {
     pub plan: &'a Plan,
     pub taps: &'a [Taps],
     pub image: u32,
-}
-
-// The type of an image.
-pub fn type_of(ir: &Ir, g: u32) -> Ty
-    requires { g < length (types_of ir.now) }
-    ensures { result ≡ type_at ir.now g }
-{
-    let inputs = ir.inputs();
-    let place = g as usize;
-    if place < inputs.len() {
-        return inputs[place].ty;
-    }
-    ir.images()[place - inputs.len()].ty
 }
 
 // Where an age stands among the ages of an image.

@@ -50,9 +50,9 @@ impl Model for Ir {
 }
 
 impl Ir {
-    ghost use Rattle.std.specs.Prelude.{◌≡◌, IsSome, IfSome, ◌↔◌};
+    ghost use Rattle.std.specs.Prelude.{◌≡◌, ◌<◌, Some, IsSome, IfSome, ◌↔◌, length, slice_get};
     ghost use Rattle.dk_base.specs.FrameSizes.{size_of};
-    ghost use Rattle.pointwise_ir.specs.Programs.{program_of, IsProgram};
+    ghost use Rattle.pointwise_ir.specs.Programs.{program_of, types_of, IsProgram};
 
     /// The Ir of these parts. It takes no memory.
     pub fn new(parts: Parts) -> Ir
@@ -114,5 +114,19 @@ impl Ir {
         ensures { result.now ≡ self.now.outputs }
     {
         &self.parts.outputs
+    }
+
+    /// The type of an image, by its number: of an input, or of one of the further images.
+    pub fn type_of(&self, image: u32) -> Ty
+        requires there { image < length (types_of self.now) }
+        ensures { slice_get (types_of self.now) image ≡ Some result }
+    {
+        let inputs = self.inputs();
+        let place = image as usize;
+        if place < inputs.len() {
+            inputs[place].ty
+        } else {
+            self.images()[place - inputs.len()].ty
+        }
     }
 }

@@ -1,6 +1,6 @@
 // The images of the outputs.
 
-ghost use Rattle.std.specs.Prelude.{◌≡◌, ◌<◌, ◌-◌, ◌^◌, ◌++◌, OnOk, Some, length, slice_get};
+ghost use Rattle.std.specs.Prelude.{◌≡◌, ◌<◌, ◌-◌, ◌^◌, ◌++◌, OnOk};
 ghost use Rattle.pgm_codec.specs.Images.{file_of};
 ghost use Rattle.pointwise_ir.specs.Programs.{types_of, IsOutput};
 ghost use Rattle.pointwise_ir.specs.Meaning.{pictures};
@@ -9,26 +9,12 @@ ghost use Rattle.program_images.specs.Ports.{bits_of};
 ghost use Rattle.program_images.specs.Outputs.{output_images};
 ghost use Rattle.program_images.specs.Writing.{AreOutputFrames, images_with};
 
-use dk_base::{FrameSize, OutOfMemory, Ty};
+use dk_base::{FrameSize, OutOfMemory};
 use dk_frames::Frame;
 use pgm_rounds::{Round, write_image};
 use pointwise_eval::evaluate;
 use pointwise_ir::{Ir, meaning_law};
 use std::alloc::Global;
-
-// The type of an image.
-fn type_of(ir: &Ir, image: u32) -> Ty
-    requires { image < length (types_of ir.now) }
-    ensures { slice_get (types_of ir.now) image ≡ Some result }
-{
-    let inputs = ir.inputs();
-    let place = image as usize;
-    if place < inputs.len() {
-        inputs[place].ty
-    } else {
-        ir.images()[place - inputs.len()].ty
-    }
-}
 
 // The greatest sample of an output.
 fn greatest_sample(ir: &Ir, output: u32) -> u16
@@ -36,7 +22,7 @@ fn greatest_sample(ir: &Ir, output: u32) -> u16
     ensures is { result ≡ 2 ^ bits_of (types_of ir.now) output - 1 }
     ensures some { 0 < result }
 {
-    type_of(ir, output).greatest() as u16
+    ir.type_of(output).greatest() as u16
 }
 
 // Adds the images of the outputs' frames.

@@ -1,29 +1,14 @@
 // The kept images with their widths.
 
-ghost use Rattle.std.specs.Prelude.{◌≡◌, ◌++◌, ◌∷◌, [], ◌+◌, ◌<◌, Some, OnOk, IfOk, length, slice_get};
+ghost use Rattle.std.specs.Prelude.{◌≡◌, ◌++◌, ◌∷◌, [], OnOk, IfOk, length};
 ghost use Rattle.dk_base.specs.Types.{width_of};
 ghost use Rattle.dk_base.specs.Stencils.{AreKeptImages};
-ghost use Rattle.pointwise_ir.specs.Programs.{types_of};
 ghost use Rattle.pointwise_ir.specs.Stencils.{AreImages};
 ghost use Rattle.stencil_sets.specs.Marks.{AreMarks};
 
 use dk_base::{Image, OutOfMemory, Ty};
 use pointwise_ir::Ir;
 use std::alloc::Global;
-
-// The type of image g.
-fn type_of(ir: &Ir, g: usize) -> Ty
-    requires there { g < length ir.now.inputs + length ir.now.images }
-    ensures { slice_get (types_of ir.now) g ≡ Some result }
-{
-    let inputs = ir.inputs();
-    let images = ir.images();
-    if g < inputs.len() {
-        inputs[g].ty
-    } else {
-        images[g - inputs.len()].ty
-    }
-}
 
 // One image more.
 fn push_kept(images: &mut Vec<Image>, number: u32, ty: Ty) -> Result<(), OutOfMemory>
@@ -44,7 +29,7 @@ pub(crate) fn images_of(alloc: Global, ir: &Ir, kept: &[bool]) -> Result<Vec<Ima
     let mut images = Vec::new(alloc);
     for g in 0..kept.len() {
         if kept[g] {
-            push_kept(&mut images, g as u32, type_of(ir, g))?;
+            push_kept(&mut images, g as u32, ir.type_of(g as u32))?;
         }
     }
     Ok(images)

@@ -9,13 +9,14 @@ use Rattle.circuit.specs.Reads.{IsNetOf, IsReadNet}
 use Rattle.circuit.proofs.Placing.{control_logic}
 use Rattle.circuit.proofs.Lasting.{positions_more}
 use Rattle.circuit.proofs.Taking.{chosen_is_read, type_wide}
+use Rattle.circuit.proofs.Typing.{type_is}
 use Rattle.circuit.proofs.choices.read_net.Goals as goal
 
 pub net_of-requires : goal.net_of-requires
 net_of-requires c =
     let r = c.args.reader.now in
     let there : c.args.g < length (types_of r.ir.now) = omega (arith, c.requires.earlier, c.requires.reading.there) in
-    record { bits = subst IsWidth (sym (c.width.ensures ∙ ap width_of c.type_of-ty.ensures)) (type_wide r.ir.now c.law.ensures c.args.g there) }
+    record { bits = subst IsWidth (sym (c.width.ensures ∙ ap width_of (type_is r.ir.now c.args.g c.type_of-ty.result c.type_of-ty.ensures))) (type_wide r.ir.now c.law.ensures c.args.g there) }
 
 pub returns-clause-adds : goal.returns-clause-adds
 returns-clause-adds c = control_logic c.net_of.new.b c.choice_of.new.b c.args.b.now c.in_ok-choice.ensures.adds c.in_ok-net.ensures.logic
@@ -23,10 +24,14 @@ returns-clause-adds c = control_logic c.net_of.new.b c.choice_of.new.b c.args.b.
 pub returns-clause-made : goal.returns-clause-made
 returns-clause-made c = positions_more c.net_of.new.b c.choice_of.new.b c.in_ok-net.ensures.logic.includes c.args.reader.now.plan.now c.args.reader.now.image c.choice_of.new.made c.in_ok-choice.ensures.made
 
+pub returns-clause-ty : goal.returns-clause-ty
+returns-clause-ty c = type_is c.args.reader.now.ir.now c.args.g c.type_of-ty.result c.type_of-ty.ensures
+
 pub returns-clause-net : goal.returns-clause-net
 returns-clause-net c first inc =
     let r = c.args.reader.now in
-    let bits : c.width.result ≡ width_of (type_at r.ir.now c.args.g) = c.width.ensures ∙ ap width_of c.type_of-ty.ensures in
-    subst (λ (t : Ty). IsReadNet c.net_of.new.b first r.plan.now r.taps.now r.image (leaf_at c.args.g c.args.steps.now) (width_of t) c.in_ok-net.net) (sym c.type_of-ty.ensures)
+    let typed = type_is r.ir.now c.args.g c.type_of-ty.result c.type_of-ty.ensures in
+    let bits : c.width.result ≡ width_of (type_at r.ir.now c.args.g) = c.width.ensures ∙ ap width_of typed in
+    subst (λ (t : Ty). IsReadNet c.net_of.new.b first r.plan.now r.taps.now r.image (leaf_at c.args.g c.args.steps.now) (width_of t) c.in_ok-net.net) (sym typed)
     (chosen_is_read c.net_of.new.b c.choice_of.new.b first r.plan.now r.taps.now r.image (leaf_at c.args.g c.args.steps.now) (width_of (type_at r.ir.now c.args.g)) c.in_ok-choice.choice c.in_ok-net.net c.in_ok-net.ensures.logic.includes (c.in_ok-choice.ensures.choice first inc)
     (subst (λ (w : ℕ). IsNetOf c.net_of.new.b c.choice_of.new.b w c.in_ok-choice.choice c.in_ok-net.net) bits c.in_ok-net.ensures.net))
