@@ -4,6 +4,8 @@
 #[cfg(test)]
 mod clocked;
 #[cfg(test)]
+mod forms;
+#[cfg(test)]
 mod limits;
 #[cfg(test)]
 mod plans;

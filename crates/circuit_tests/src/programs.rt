@@ -44,6 +44,9 @@ pub const LEFT_FRAME: &str =
 pub const FAR_AND_NEAR: &str =
     "size 8 1 input a:u8 let f=im(x,y) (a(x-5,y)+a(x-2,y)) as u8 end output f";
 
+pub const IN_TURN: &str =
+    "size 8 1 input a:u8 let f=im(x,y) (a(x-5,y)+a(x-2,y)) as u8 end let g=im(x,y) (f(x-1,y)+f(x-3,y)) as u8 end output g";
+
 pub const CLAMPED_LEFT: &str =
     "size 3 1 input a:u8 let f=im(x,y) (a(x-1,y) edge clamp+a(x,y)) as u8 end output f";
 
