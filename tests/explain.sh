@@ -385,7 +385,7 @@ while read -r fault; do
 done <listed
 
 # Under a terminal the script dk shows both the line and the explanation; without one the line only.
-if [ -n "$program" ] && command -v script >/dev/null; then
+if [ -n "$program" ] && script -q -e -c true /dev/null </dev/null >/dev/null 2>&1; then
     printf '%s\n' 'cannot read' 'PROG, `none.dk`, cannot be read: there is no such file.' 7 >wanted
     script -q -e -c "timeout 20 '$top/dk' plan none.dk" /dev/null </dev/null >shown
     echo $? >>shown

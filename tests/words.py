@@ -33,6 +33,7 @@ WORDS = [
 
 # The pages that have none of these words. The list grows.
 DONE = """
+README.md
 docs/HARDWARE.md
 docs/LANGUAGE.md
 docs/PGM.md
