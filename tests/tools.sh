@@ -5,7 +5,7 @@
 # - From random contents at power-up, both simulators must show the picture that `run` writes; with `--enable`, with clocks that are held at random.
 # - Yosys must find each array as one memory, with as many memory bits in all as `plan` says, and must synthesize the text.
 # - trace.py must write the trace that `trace` writes.
-# It says nothing else where all is as it should be. It takes about 20 minutes, most of them in Verilator's builds; COUNT 0 takes 5.
+# It says nothing else where all is as it should be. It takes about 20 minutes, most of them in Verilator's builds; COUNT 0 takes 5 to 10.
 # usage: tests/tools.sh PROGRAM [COUNT]
 program=$(cd "$(dirname "$1")" && pwd)/$(basename "$1")
 tests=$(cd "$(dirname "$0")" && pwd)
