@@ -1,11 +1,11 @@
 use Rattle.std.proofs.Common.{◌≡◌, ap, subst, sym, IfSome}
 use Rattle.dk_base.specs.FrameSizes.{size_of}
-use Rattle.dk_desk.specs.Outside.{Outside}
+use Rattle.dk_desk.specs.Outside.{Outside, Input}
 use Rattle.test_bench.specs.declared.drive.Drive.{Drive}
 use Rattle.dk_endings.specs.declared.ending.Ending.TheVariants as ending
 use Rattle.dk_top.specs.Simulation.{drive_of}
-use Rattle.dk_top.specs.Verdict.{IsSimAnswer}
-use Rattle.dk_top.specs.State.{IsPrefix, NotesSim}
+use Rattle.dk_top.specs.Verdict.{IsSimAnswer, bytes_of}
+use Rattle.dk_top.specs.State.{IsPrefix, NotesSim, AsksWhereModule}
 use Rattle.dk_top.proofs.SimReads.{for_clocks, of_input, held_sim}
 use Rattle.dk_top.proofs.LongLemmas.{no_text, no_images, both_left}
 use Rattle.dk_top.proofs.simulating.SimWordsWork.perform.Goals as goal
@@ -50,6 +50,16 @@ returns-in-Ok-write_file-clause-notes g c =
     let after : (outside c.write_file.new.desk).notes ≡ (outside c.pictures.new.desk).notes = ap (λ (o : Outside). o.notes) c.in-Ok-write_file.ensures.only in
     of_input _ w.verilog.now w.image.now d (drive_of w.clocks w.fill w.hold) given.module (size_of given.input.size) given.input.rounds.items (λ x t i. NotesSim x t i (outside c.args.desk.now).notes (outside c.write_file.new.desk).notes) same c.in-Ok.ensures.input
     (λ t i is. rw (after, sym before) (c.in-Ok-pictures.ensures.notes t i is))
+
+pub returns-in-Ok-write_file-clause-order : goal.returns-in-Ok-write_file-clause-order
+returns-in-Ok-write_file-clause-order g c =
+    let outside = g.D.Desk.outside in
+    let w = c.args.self.now in
+    let read : Outside = outside c.read_all.new.desk in
+    let drawn : (outside c.pictures.new.desk).image ≡ read.image = ap (λ (o : Outside). o.image) c.in-Ok-pictures.ensures.only in
+    let written : (outside c.write_file.new.desk).image ≡ (outside c.pictures.new.desk).image = ap (λ (o : Outside). o.image) c.in-Ok-write_file.ensures.only in
+    let drawn_order = subst (λ (image : Input). IfSome (outside c.args.desk.now).files (λ files. AsksWhereModule w.hold (bytes_of files w.verilog.now) (record read { image = image }))) (sym drawn) c.in-Ok.ensures.order in
+    subst (λ (image : Input). IfSome (outside c.args.desk.now).files (λ files. AsksWhereModule w.hold (bytes_of files w.verilog.now) (record read { image = image }))) (sym written) drawn_order
 
 pub returns-clause-verdict : goal.returns-clause-verdict
 returns-clause-verdict g c =
