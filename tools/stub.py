@@ -77,13 +77,15 @@ def strip(s):
         res.append(text)
     return "".join(res)
 gone = {}
-for f in os.listdir(f"{src}/src"):
+files = [os.path.relpath(f"{folder}/{f}", f"{src}/src") for folder, _, names in os.walk(f"{src}/src") for f in names]
+for f in files:
     s = open(f"{src}/src/{f}").read()
     t = strip(s)
+    os.makedirs(os.path.dirname(f"{to}/src/{f}"), exist_ok=True)
     open(f"{to}/src/{f}", "w").write(t)
 # drop uses of functions: names in lower case within use lists
 names = set()
-for f in os.listdir(f"{to}/src"):
+for f in files:
     p = f"{to}/src/{f}"; s = open(p).read()
     def fix(m):
         vis, body = m.group(1) or "", m.group(2)
