@@ -2,7 +2,7 @@
 """Builds the program from the sources of this checkout by the Rattle kit, and puts it into build/.
 
 dk and each crate below it are proved from nothing, as many side by side as there are processors and memory, by `rt ci` in a copy
-that has no tests and no edits. What is proved is kept beside the kit, also where this is interrupted.
+that has no tests and no edits. Kit 13f keeps what is proved for the next run, also after an interruption; kit 13b does not.
 
 usage: tools/build.py
 """
