@@ -38,6 +38,6 @@ END
 refused 'a pixel that is taken without room' 'run & room &' 'run &'
 refused 'a flush that ends a clock early' 'count < LATEST;' 'count < LATEST - ONE;'
 refused 'a cut frame that goes on' '~first & some_begin' "1'b0"
-refused 'a pixel of the next frame that is shown' "& (run | count" "& (1'b1 | count"
+refused 'a place in the frame that survives a cut' '!aresetn | state == RESET' '!aresetn'
 echo "$passed passed, $failed failed"
 [ $failed = 0 ]
