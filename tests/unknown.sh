@@ -23,12 +23,12 @@ wrong() {
 shown() {
     name=$1 input=$2
     shift 2
-    age=$(echo "$*" | sed 's/--enable//')
+    aged=$(echo "$*" | sed 's/--enable//')
     "$program" compile "$@" "$name.dk" dk.v || wrong "compile $* $name"
     # shellcheck disable=SC2086
-    clocks=$("$program" plan $age "$name.dk" | sed -n 's/^clocks //p')
+    clocks=$("$program" plan $aged "$name.dk" | sed -n 's/^clocks //p')
     # shellcheck disable=SC2086
-    "$program" run $age "$name.dk" "$input" wanted.pgm || wrong "run $age $name"
+    "$program" run $aged "$name.dk" "$input" wanted.pgm || wrong "run $aged $name"
     python3 "$tests/bench.py" write dk.v "$input" "$clocks" 5
     rm -f seen.txt seen.pgm
     iverilog -g2005 -o bench.vvp dk.v bench.v && vvp -n bench.vvp >said.txt || wrong "iverilog on $name $*: $(cat said.txt)"
