@@ -6,7 +6,7 @@ use dk_desk::{Desk, Failed, InSlot, OutSlot};
 use std::test::Fail;
 use std::{env, fs, process};
 
-// A name of this process alone, in the directory for such files.
+// A name that only this process uses, in the directory for such files.
 fn own_name(rt: &HostRuntime) -> Result<String, Fail> {
     let name = format!(in rt.alloc(); "dk_desk-{}", process::id(rt.process()))?;
     let path = env::temp_dir(rt)?.join(rt.alloc(), name.as_str())?;

@@ -11,8 +11,10 @@ ghost use Rattle.dk_base.specs.Operators.{unary_type, binary_type, scaling_type,
 
 /// A law: numbers as s8 and as u4, wrapped and saturated, and how many bits numbers have.
 pub fn worked_numbers()
-    ensures wrapped { map (wrap (Signed 8)) (pos 200 ∷ neg_ℤ (pos 129) ∷ pos 511 ∷ neg_ℤ (pos 200) ∷ pos 127 ∷ []) ≡ neg_ℤ (pos 56) ∷ pos 127 ∷ neg_ℤ (pos 1) ∷ pos 56 ∷ pos 127 ∷ [] }
-    ensures saturated { map (saturate (Signed 8)) (pos 200 ∷ neg_ℤ (pos 129) ∷ pos 511 ∷ neg_ℤ (pos 200) ∷ pos 127 ∷ []) ≡ pos 127 ∷ neg_ℤ (pos 128) ∷ pos 127 ∷ neg_ℤ (pos 128) ∷ pos 127 ∷ [] }
+    ensures wrapped { map (wrap (Signed 8)) (pos 200 ∷ neg_ℤ (pos 129) ∷ pos 511 ∷ neg_ℤ (pos 200) ∷ pos 127 ∷ [])
+        ≡ neg_ℤ (pos 56) ∷ pos 127 ∷ neg_ℤ (pos 1) ∷ pos 56 ∷ pos 127 ∷ [] }
+    ensures saturated { map (saturate (Signed 8)) (pos 200 ∷ neg_ℤ (pos 129) ∷ pos 511 ∷ neg_ℤ (pos 200) ∷ pos 127 ∷ [])
+        ≡ pos 127 ∷ neg_ℤ (pos 128) ∷ pos 127 ∷ neg_ℤ (pos 128) ∷ pos 127 ∷ [] }
     ensures wrapped_unsigned { wrap (Unsigned 4) (neg_ℤ (pos 1)) ≡ pos 15 }
     ensures saturated_unsigned { map (saturate (Unsigned 4)) (neg_ℤ (pos 1) ∷ pos 16 ∷ []) ≡ pos 0 ∷ pos 15 ∷ [] }
     ensures bits { map bit_count (0 ∷ 1 ∷ 2 ∷ 255 ∷ 256 ∷ 18446744073709551615 ∷ []) ≡ 1 ∷ 1 ∷ 2 ∷ 8 ∷ 9 ∷ 64 ∷ [] }
@@ -22,7 +24,8 @@ pub fn worked_numbers()
 pub fn worked_ranges()
     ensures least { map least_of (Unsigned 1 ∷ Unsigned 63 ∷ Unsigned 64 ∷ []) ≡ pos 0 ∷ pos 0 ∷ pos 0 ∷ [] }
     ensures greatest { map greatest_of (Unsigned 1 ∷ Unsigned 63 ∷ Unsigned 64 ∷ []) ≡ pos 1 ∷ pos 9223372036854775807 ∷ pos 18446744073709551615 ∷ [] }
-    ensures least_signed { map least_of (Signed 1 ∷ Signed 63 ∷ Signed 64 ∷ []) ≡ neg_ℤ (pos 1) ∷ neg_ℤ (pos 4611686018427387904) ∷ neg_ℤ (pos 9223372036854775808) ∷ [] }
+    ensures least_signed { map least_of (Signed 1 ∷ Signed 63 ∷ Signed 64 ∷ [])
+        ≡ neg_ℤ (pos 1) ∷ neg_ℤ (pos 4611686018427387904) ∷ neg_ℤ (pos 9223372036854775808) ∷ [] }
     ensures greatest_signed { map greatest_of (Signed 1 ∷ Signed 63 ∷ Signed 64 ∷ []) ≡ pos 0 ∷ pos 4611686018427387903 ∷ pos 9223372036854775807 ∷ [] }
     ensures over { wrap (Signed 64) (pos 9223372036854775808) ≡ neg_ℤ (pos 9223372036854775808) }
     ensures under { wrap (Signed 64) (neg_ℤ (pos 9223372036854775809)) ≡ pos 9223372036854775807 }

@@ -1,4 +1,4 @@
--- What is left behind a block fits.
+-- What is left after a block fits.
 use Rattle.std.proofs.Common.{◌≡◌, ℕ, zero, suc, ◌^◌, ◌<◌, ◌≤◌, List, [], ◌∷◌, length, refl, ap, sym, subst, ◌∙◌, arith, Some, lit<, length-set}
 use Rattle.std.specs.Prelude.{All, slice_get, slice_index, slice_index_or, unwrap_or}
 use Rattle.std.specs.Option.{option_map}

@@ -8,7 +8,7 @@ use Rattle.wiring.specs.Clock.{Clock, given, Steps}
 abbrev pub IsBlock : Netlist → List Clock → (ℕ → Snapshot) → (ℕ → Contents) → Type 0
 IsBlock m clocks shot held = (t : ℕ) (c : Clock) → slice_get clocks t ≡ Some c → Steps m (held t) (given m c) (shot t) (held (suc t))
 
--- the first so many of a sequence
+-- the first n of a sequence
 abbrev pub firsts : {X : Type 0} → (ℕ → X) → ℕ → List X
 firsts f zero = []
 firsts f (suc n) = f 0 ∷ firsts (λ k. f (suc k)) n

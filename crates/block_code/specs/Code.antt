@@ -15,7 +15,7 @@ use Rattle.block_code.specs.declared.code.WordRead.{WordRead}
 use Rattle.block_code.specs.declared.code.WordPut.{WordPut}
 use Rattle.block_code.specs.declared.code.BlockCode.{BlockCode}
 
--- an atom is a constant, or one of so many slots
+-- an atom is a constant, or one of this many slots
 abbrev pub IsWithin : ℕ → Atom ℕ → Type 0
 IsWithin slots (atom.Net n) = n < slots
 IsWithin slots (atom.Constant c) = Unit {0}

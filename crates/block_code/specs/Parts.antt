@@ -28,19 +28,19 @@ pub record HasInstructions (m : Netlist) (code : List Instruction) : Type 0 wher
   pub plain : All (IsPlain m) code
   pub all : (k : ℕ) (a : Assign) → slice_get m.assigns k ≡ Some a → array_of a.right ≡ None → Contains code (instruction m a)
 
--- a place for each register, and those of the first so many updates in theirs
+-- a place for each register, and those of the first n updates in theirs
 pub record AreNexts (m : Netlist) (count : ℕ) (nexts : List (Atom ℕ)) : Type 0 where
   pub places : length nexts ≡ length m.regs
   pub within : All (IsWithin (length (all_widths m))) nexts
   pub each : (k r : ℕ) (a : Atom Net) → k < count → slice_get m.updates k ≡ Some (Set r a) → slice_get nexts r ≡ Some (rename_atom (slot m) a)
 
--- a place for each array, and the puts of the first so many updates in theirs
+-- a place for each array, and the puts of the first n updates in theirs
 pub record ArePuts (m : Netlist) (count : ℕ) (puts : List WordPut) : Type 0 where
   pub places : length puts ≡ length m.arrays
   pub within : All (PutIsWithin (length (all_widths m))) puts
   pub each : (k x : ℕ) (i a : Atom Net) → k < count → slice_get m.updates k ≡ Some (Put x i a) → slice_get puts x ≡ Some (put_of m i a)
 
--- the reads of arrays by the first so many assigns, with a mark for each array that has one
+-- the reads of arrays by the first n assigns, with a mark for each array that has one
 pub record AreReads (m : Netlist) (count : ℕ) (reads : List WordRead) (marks : List Bool) : Type 0 where
   pub places : length reads ≡ length m.arrays
   pub mark_count : length marks ≡ length m.arrays

@@ -24,7 +24,7 @@ abbrev pub words_put : List (List ℕ) → WordPut → List ℕ → ℕ → List
 words_put rows p words zero = words
 words_put rows p words (suc t) = slice_set (words_put rows p words t) (atom_at rows t p.index) (atom_at rows t p.value)
 
--- over so many clocks the indexes are inside an array, and its target's row is what is read before each edge
+-- over this many clocks the indexes are inside an array, and its target's row is what is read before each edge
 pub record KeepsArray (rows : List (List ℕ)) (count : ℕ) (words : List ℕ) (r : WordRead) (p : WordPut) : Type 0 where
   pub read_inside : (t : ℕ) → t < count → atom_at rows t r.index < length words
   pub put_inside : (t : ℕ) → t < count → atom_at rows t p.index < length words
@@ -35,14 +35,14 @@ pub record KeepsRegister (rows : List (List ℕ)) (count held reg : ℕ) (next :
   pub first : value_at rows 0 reg ≡ held
   pub later : (t : ℕ) → t < count → value_at rows (suc t) reg ≡ atom_at rows t next
 
--- rows of which so many places are a block's: they keep every equation of the code, from these contents
+-- rows of which this many places are a block's: they keep every equation of the code, from these contents
 pub record KeepEquations (m : Netlist) (c : BlockCode) (clocks : List Clock) (from : Contents) (rows : List (List ℕ)) : Type 0 where
   pub inputs : (t i : ℕ) (k : Clock) → slice_get clocks t ≡ Some k → i < length m.inputs → value_at rows t i ≡ slice_index (given m k) i
   pub instructions : AllHold c.widths.items (length clocks) rows (length c.instructions.items) c.instructions.items
   pub registers : (r : ℕ) (next : Atom ℕ) → slice_get c.nexts.items r ≡ Some next → KeepsRegister rows (length clocks) (slice_index from.regs r) (slot m (Reg r)) next
   pub arrays : (x : ℕ) (r : WordRead) (p : WordPut) → slice_get c.reads.items x ≡ Some r → slice_get c.puts.items x ≡ Some p → KeepsArray rows (length clocks) (slice_index_or from.arrays x []) r p
 
--- the contents behind so many clocks, as rows have them
+-- the contents after this many clocks, as rows have them
 pub record AreLeft (m : Netlist) (c : BlockCode) (rows : List (List ℕ)) (count : ℕ) (from to : Contents) : Type 0 where
   pub reg_count : length to.regs ≡ length m.regs
   pub regs : (r : ℕ) → r < length m.regs → slice_index to.regs r ≡ value_at rows count (slot m (Reg r))

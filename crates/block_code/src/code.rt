@@ -44,7 +44,7 @@ pub struct BlockCode {
 
 impl BlockCode {
     /// The code of a module, with its instructions in this order of its assigns. None where the order does not name each assign that
-    /// reads no array, or does not put an instruction behind those that it reads, or where some array is not read by one assign.
+    /// reads no array, or does not put an instruction after those that it reads, or where some array is not read by one assign.
     pub fn of(
         alloc: Global,
         module: &Module,

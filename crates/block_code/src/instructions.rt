@@ -122,7 +122,8 @@ fn note_order(
 fn is_covered(marks: &[bool], wiring: &Wiring, number: usize) -> bool
     requires within { number < length wiring.now.assigns.items }
     requires count { length marks.now ≡ length wiring.now.assigns.items }
-    ensures { IsTrue result → (a : Assign) → slice_get wiring.now.assigns.items number ≡ Some a → array_of a.right ≡ None → slice_index_or marks.now number false ≡ true }
+    ensures { IsTrue result → (a : Assign) → slice_get wiring.now.assigns.items number ≡ Some a → array_of a.right ≡ None
+        → slice_index_or marks.now number false ≡ true }
 {
     if !is_plain(wiring, number) {
         return true;
@@ -133,7 +134,8 @@ fn is_covered(marks: &[bool], wiring: &Wiring, number: usize) -> bool
 // Whether each assign that reads no array has its mark.
 fn are_covered(marks: &[bool], wiring: &Wiring) -> bool
     requires count { length marks.now ≡ length wiring.now.assigns.items }
-    ensures { IsTrue result → (k : ℕ) (a : Assign) → slice_get wiring.now.assigns.items k ≡ Some a → array_of a.right ≡ None → slice_index_or marks.now k false ≡ true }
+    ensures { IsTrue result → (k : ℕ) (a : Assign) → slice_get wiring.now.assigns.items k ≡ Some a → array_of a.right ≡ None
+        → slice_index_or marks.now k false ≡ true }
 {
     for number in 0..wiring.assigns.len() {
         if !is_covered(marks, wiring, number) {
@@ -163,7 +165,7 @@ fn note_all(
     Ok(covered)
 }
 
-// No marks, of so many.
+// No marks, of this many.
 pub fn bare_marks(alloc: Global, count: usize) -> Result<Vec<bool>, AllocError>
     ensures { IfOk result (λ v. v.items ≡ replicate count false) }
 {
@@ -172,7 +174,7 @@ pub fn bare_marks(alloc: Global, count: usize) -> Result<Vec<bool>, AllocError>
 }
 
 // The instructions of the assigns in this order. None where the order does not name each assign that reads no array, or does not
-// put an instruction behind those that it reads.
+// put an instruction after those that it reads.
 pub fn instructions_of(
     alloc: Global,
     layout: Layout,

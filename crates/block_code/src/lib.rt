@@ -8,4 +8,7 @@ mod reads;
 mod updates;
 
 pub use code::{BlockCode, WordPut, WordRead};
-pub use laws::{array_kept, block_runs, contents_fit, rows_run, streams_run, words_are_put};
+pub use laws::{
+    array_kept_law, block_runs_law, contents_fit_law, rows_run_law, streams_run_law,
+    words_are_put_law,
+};

@@ -303,7 +303,7 @@ fn add_assign(
     Ok(())
 }
 
-// The graph of a module, for blocks of so many clocks.
+// The graph of a module, for blocks of this many clocks.
 pub(crate) fn graph_of(alloc: Global, wiring: &Wiring, size: usize) -> Result<Graph, AllocError> {
     let drivers = drivers_of(alloc, wiring)?;
     let mut counts = vec![in alloc; 0usize; wiring.arrays.len()]?;

@@ -30,8 +30,8 @@ pub enum Step {
     Small {
         assign: usize,
     },
-    /// The same where what is put is chosen: by a bit a value, or else what this assign reads, which stands there already. The
-    /// indexes, the bit and the value are known, and the choice is evaluated behind this step.
+    /// The same where what is put is chosen: by a bit a value, or else what this assign reads, which is there already. The
+    /// indexes, the bit and the value are known, and the choice is evaluated after this step.
     Held {
         assign: usize,
     },
@@ -44,7 +44,7 @@ pub enum Step {
     },
 }
 
-/// The assigns that read no array, each behind all that it reads but for cycles through registers, and the steps that evaluate
+/// The assigns that read no array, each after all that it reads but for cycles through registers, and the steps that evaluate
 /// them.
 #[derive(Debug, Drop)]
 pub struct Plan {
@@ -201,7 +201,7 @@ fn add_groups(
     Ok(Some(draft.plan))
 }
 
-/// The plan of a module for blocks of so many clocks; None where there is none: an array that is not read by one assign and put
+/// The plan of a module for blocks of this many clocks; None where there is none: an array that is not read by one assign and put
 /// once, or one on a cycle. Time and memory are linear in the module.
 pub fn make_plan(alloc: Global, module: &Module, size: usize) -> Result<Option<Plan>, OutOfMemory> {
     let wiring = module.wiring();

@@ -1,4 +1,4 @@
-// The strongly connected components of what nodes need, each behind those that it needs: the search of Tarjan ("Depth-first
+// The strongly connected components of what nodes need, each after those that it needs: the search of Tarjan ("Depth-first
 // search and linear graph algorithms", 1972), with a path of its own in place of recursion.
 
 use crate::graph::{Needs, number_at, put};

@@ -85,7 +85,7 @@ shifted_quotient x d k l e =
     let same : k % 64 ≡ k = omega (arith, l) in
     ap (λ n. x / 2 ^ n) same ∙ ap (λ n. x / n) (sym e)
 
--- so many bits, from a place on
+-- this many bits, from a place on
 pub part_is : (x from mask w : ℕ) → from < 64 → w ≤ 64 → mask ≡ 2 ^ w - 1 → bit_and (x / 2 ^ (from % 64)) mask ≡ x / 2 ^ from % 2 ^ w
 part_is x from mask w near narrow is =
     let same : from % 64 ≡ from = omega (arith, near) in

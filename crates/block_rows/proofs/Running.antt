@@ -72,7 +72,7 @@ module _ (widths : List ℕ) (count : ℕ) (rows : List (List ℕ)) (are : AreRo
     pub value_other : (t n : ℕ) → n ≢ i.target → value_at new t n ≡ value_at rows t n
     value_other t n apart = ap (λ (r : List ℕ). slice_index r t) (others n apart)
 
-    -- the rows behind it are rows
+    -- the rows after it are rows
     pub rows_on : AreRows widths count new
     rows_on = record {
       slots = size ∙ are.slots;

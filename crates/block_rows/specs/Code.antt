@@ -6,7 +6,7 @@ use Rattle.wiring.specs.Rules.{WidthsAgree}
 use Rattle.block_rows.specs.declared.code.Instruction.{Instruction}
 use Rattle.block_rows.specs.Rights.{value_at}
 
--- as many rows as widths, each of so many values that fit
+-- as many rows as widths, each of this many values that fit
 pub record AreRows (widths : List ℕ) (count : ℕ) (rows : List (List ℕ)) : Type 0 where
   pub slots : length rows ≡ length widths
   pub long : (n : ℕ) → n < length rows → length (slice_index_or rows n []) ≡ count
@@ -34,7 +34,7 @@ pub record IsOrdered (code : List Instruction) : Type 0 where
 abbrev pub HoldsAt : List ℕ → List (List ℕ) → ℕ → Instruction → Type 0
 HoldsAt widths rows t i = value_at rows t i.target ≡ right_value (λ n. slice_index widths n) (λ _ _. 0) (value_at rows t) i.right
 
--- those of the first so many instructions, at each of so many clocks
+-- those of the first n instructions, at each of this many clocks
 abbrev pub AllHold : List ℕ → ℕ → List (List ℕ) → ℕ → List Instruction → Type 0
 AllHold widths count rows k code = (p t : ℕ) (i : Instruction) → p < k → t < count → slice_get code p ≡ Some i → HoldsAt widths rows t i
 

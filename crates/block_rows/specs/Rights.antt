@@ -16,7 +16,7 @@ items_of rows = map (λ (v : Vec ℕ Global). v.items) rows
 abbrev pub value_at : List (List ℕ) → ℕ → ℕ → ℕ
 value_at rows t n = slice_index (slice_index_or rows n []) t
 
--- the row of an atom has so many clocks
+-- the row of an atom has this many clocks
 abbrev pub HasRow : List (List ℕ) → ℕ → Atom ℕ → Type 0
 HasRow rows count (atom.Net n) = (n < length rows) × (count ≤ length (slice_index_or rows n []))
 HasRow rows count (atom.Constant c) = Unit {0}
@@ -33,7 +33,7 @@ HaveRows rows count (Bit v k) = HasRow rows count (atom.Net v)
 HaveRows rows count (Slice v m l) = HasRow rows count (atom.Net v)
 HaveRows rows count (Word m i) = HasRow rows count i
 
--- a number that stands for a constant
+-- a number that denotes a constant
 abbrev pub StandsFor : Atom ℕ → ℕ → Type 0
 StandsFor (atom.Net n) x = Unit {0}
 StandsFor (atom.Constant c) x = x ≡ c.value
@@ -46,6 +46,6 @@ IsAtomRow rows a count row = (t : ℕ) → t < count → slice_index row t ≡ a
 abbrev pub IsRightRow : List ℕ → List (List ℕ) → Right ℕ ℕ → List ℕ → Type 0
 IsRightRow widths rows r row = (t : ℕ) → t < length row → slice_index row t ≡ right_value (λ n. slice_index widths n) (λ _ _. 0) (value_at rows t) r
 
--- room for so many clocks
+-- room for this many clocks
 abbrev pub HaveRoom : Spares → ℕ → Type 0
 HaveRoom s count = (count ≤ length s.first.items) × (count ≤ length s.second.items) × (count ≤ length s.third.items)

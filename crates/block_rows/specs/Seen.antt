@@ -29,7 +29,7 @@ RightSeen seen (Word m i) = AtomSeen seen i
 abbrev pub Keeps : (old new : List Bool) → Type 0
 Keeps old new = (n : ℕ) → IsSeen old n → IsSeen new n
 
--- the slots of the first so many instructions are marked, and none of these writes what one before it, or itself, reads or has written
+-- the slots of the first n instructions are marked, and none of these writes what one before it, or itself, reads or has written
 pub record IsOrderedUpTo (seen : List Bool) (k : ℕ) (code : List Instruction) : Type 0 where
   pub read : (p : ℕ) (i : Instruction) → p < k → slice_get code p ≡ Some i → RightSeen seen i.right
   pub written : (p : ℕ) (i : Instruction) → p < k → slice_get code p ≡ Some i → IsSeen seen i.target

@@ -47,7 +47,7 @@ fn run_instruction(
     put_row(rows, instruction.target, room);
 }
 
-/// The instructions from one place up to another, behind those that hold already: each slot that is a target of theirs gets its
+/// The instructions from one place up to another, after those that hold already: each slot that is a target of theirs gets its
 /// row, and the others stay.
 pub fn run_code(
     widths: &[Width],

@@ -23,7 +23,7 @@ pub struct Spares {
 }
 
 impl Spares {
-    /// Room for rows of so many clocks.
+    /// Room for rows of this many clocks.
     pub fn new(alloc: Global, count: usize) -> Result<Spares, AllocError>
         ensures { IfOk result (λ s. HaveRoom s count) }
     {
@@ -121,7 +121,8 @@ fn not_row(widths: &[Width], rows: &[Vec<u64>], spare: &mut [u64], a: &Atom<usiz
     requires room { length to.old ≤ length spare.old }
     ensures spare { length spare.new ≡ length spare.old }
     ensures count { length to.new ≡ length to.old }
-    ensures row { (t : ℕ) → t < length to.new → slice_index to.new t ≡ 2 ^ atom_width (λ n. slice_index widths.now n) a.now - 1 - atom_value (value_at (items_of rows.now) t) a.now }
+    ensures row { (t : ℕ) → t < length to.new
+        → slice_index to.new t ≡ 2 ^ atom_width (λ n. slice_index widths.now n) a.now - 1 - atom_value (value_at (items_of rows.now) t) a.now }
 {
     let count = to.len();
     let mask = (limit(width_of(widths, a)) - 1) as u64;
@@ -144,7 +145,9 @@ fn binary_number_row(
     requires room { length to.old ≤ length spare.old }
     ensures spare { length spare.new ≡ length spare.old }
     ensures count { length to.new ≡ length to.old }
-    ensures row { (t : ℕ) → t < length to.new → slice_index to.new t ≡ operator_value op (atom_width (λ n. slice_index widths.now n) a.now) (atom_value (value_at (items_of rows.now) t) a.now) number }
+    ensures row { (t : ℕ) → t < length to.new
+        → slice_index to.new t
+        ≡ operator_value op (atom_width (λ n. slice_index widths.now n) a.now) (atom_value (value_at (items_of rows.now) t) a.now) number }
 {
     let count = to.len();
     let width = width_of(widths, a);
@@ -153,7 +156,7 @@ fn binary_number_row(
     operator_number_row(op, width, to, a, number);
 }
 
-// The row of two atoms under an operator. A constant that stands second needs no row.
+// The row of two atoms under an operator. A constant that is second needs no row.
 fn binary_row(
     widths: &[Width],
     rows: &[Vec<u64>],
@@ -168,7 +171,9 @@ fn binary_row(
     requires room { HaveRoom spares.old (length to.old) }
     ensures spares { HaveRoom spares.new (length to.old) }
     ensures count { length to.new ≡ length to.old }
-    ensures row { (t : ℕ) → t < length to.new → slice_index to.new t ≡ operator_value op (atom_width (λ n. slice_index widths.now n) a.now) (atom_value (value_at (items_of rows.now) t) a.now) (atom_value (value_at (items_of rows.now) t) b.now) }
+    ensures row { (t : ℕ) → t < length to.new
+        → slice_index to.new t
+        ≡ operator_value op (atom_width (λ n. slice_index widths.now n) a.now) (atom_value (value_at (items_of rows.now) t) a.now) (atom_value (value_at (items_of rows.now) t) b.now) }
 {
     if let Atom::Constant(c) = b {
         return binary_number_row(widths, rows, &mut spares.first, op, a, c.value(), to);
@@ -196,7 +201,9 @@ fn number_or_row(
     requires room { HaveRoom spares.old (length to.old) }
     ensures spares { HaveRoom spares.new (length to.old) }
     ensures count { length to.new ≡ length to.old }
-    ensures row { (t : ℕ) → t < length to.new → slice_index to.new t ≡ (if atom_value (value_at (items_of rows.now) t) c.now == 1 then number else atom_value (value_at (items_of rows.now) t) b.now) }
+    ensures row { (t : ℕ) → t < length to.new
+        → slice_index to.new t
+        ≡ (if atom_value (value_at (items_of rows.now) t) c.now == 1 then number else atom_value (value_at (items_of rows.now) t) b.now) }
 {
     let count = to.len();
     note_constant(&mut spares.second, b);
@@ -220,7 +227,9 @@ fn row_or_number(
     requires room { HaveRoom spares.old (length to.old) }
     ensures spares { HaveRoom spares.new (length to.old) }
     ensures count { length to.new ≡ length to.old }
-    ensures row { (t : ℕ) → t < length to.new → slice_index to.new t ≡ (if atom_value (value_at (items_of rows.now) t) c.now == 1 then atom_value (value_at (items_of rows.now) t) a.now else number) }
+    ensures row { (t : ℕ) → t < length to.new
+        → slice_index to.new t
+        ≡ (if atom_value (value_at (items_of rows.now) t) c.now == 1 then atom_value (value_at (items_of rows.now) t) a.now else number) }
 {
     let count = to.len();
     note_constant(&mut spares.first, a);
@@ -245,7 +254,9 @@ fn chosen_row(
     requires room { HaveRoom spares.old (length to.old) }
     ensures spares { HaveRoom spares.new (length to.old) }
     ensures count { length to.new ≡ length to.old }
-    ensures row { (t : ℕ) → t < length to.new → slice_index to.new t ≡ (if atom_value (value_at (items_of rows.now) t) c.now == 1 then atom_value (value_at (items_of rows.now) t) a.now else atom_value (value_at (items_of rows.now) t) b.now) }
+    ensures row { (t : ℕ) → t < length to.new
+        → slice_index to.new t
+        ≡ (if atom_value (value_at (items_of rows.now) t) c.now == 1 then atom_value (value_at (items_of rows.now) t) a.now else atom_value (value_at (items_of rows.now) t) b.now) }
 {
     if let Atom::Constant(number) = a {
         return number_or_row(rows, spares, c, number.value(), b, to);
@@ -263,7 +274,7 @@ fn chosen_row(
     choose_row(to, bit, left, right);
 }
 
-// So many bits of a slot, from a place on.
+// This many bits of a slot, from a place on.
 #[tactic(auto, using(crate::proofs::Masks::part_is))]
 fn part_row(rows: &[Vec<u64>], slot: usize, from: u8, width: u8, to: &mut [u64])
     requires row { HasRow (items_of rows.now) (length to.old) (AtomVariants.Net slot) }
@@ -289,10 +300,12 @@ fn number_above_row(
 )
     requires b { HasRow (items_of rows.now) (length to.old) b.now }
     requires room { length to.old ≤ length spare.old }
-    requires fits { (t : ℕ) → t < length to.old → number * 2 ^ atom_width (λ n. slice_index widths.now n) b.now + atom_value (value_at (items_of rows.now) t) b.now < 2 ^ 64 }
+    requires fits { (t : ℕ) → t < length to.old
+        → number * 2 ^ atom_width (λ n. slice_index widths.now n) b.now + atom_value (value_at (items_of rows.now) t) b.now < 2 ^ 64 }
     ensures spare { length spare.new ≡ length spare.old }
     ensures count { length to.new ≡ length to.old }
-    ensures row { (t : ℕ) → t < length to.new → slice_index to.new t ≡ number * 2 ^ atom_width (λ n. slice_index widths.now n) b.now + atom_value (value_at (items_of rows.now) t) b.now }
+    ensures row { (t : ℕ) → t < length to.new
+        → slice_index to.new t ≡ number * 2 ^ atom_width (λ n. slice_index widths.now n) b.now + atom_value (value_at (items_of rows.now) t) b.now }
 {
     let count = to.len();
     let width = width_of(widths, b);
@@ -301,7 +314,7 @@ fn number_above_row(
     join_number_row(width, to, number, below);
 }
 
-// An atom above another one. A constant that stands above needs no row.
+// An atom above another one. A constant that is above needs no row.
 fn joined_row(
     widths: &[Width],
     rows: &[Vec<u64>],
@@ -313,10 +326,13 @@ fn joined_row(
     requires a { HasRow (items_of rows.now) (length to.old) a.now }
     requires b { HasRow (items_of rows.now) (length to.old) b.now }
     requires room { HaveRoom spares.old (length to.old) }
-    requires fits { (t : ℕ) → t < length to.old → atom_value (value_at (items_of rows.now) t) a.now * 2 ^ atom_width (λ n. slice_index widths.now n) b.now + atom_value (value_at (items_of rows.now) t) b.now < 2 ^ 64 }
+    requires fits { (t : ℕ) → t < length to.old
+        → atom_value (value_at (items_of rows.now) t) a.now * 2 ^ atom_width (λ n. slice_index widths.now n) b.now + atom_value (value_at (items_of rows.now) t) b.now < 2 ^ 64 }
     ensures spares { HaveRoom spares.new (length to.old) }
     ensures count { length to.new ≡ length to.old }
-    ensures row { (t : ℕ) → t < length to.new → slice_index to.new t ≡ atom_value (value_at (items_of rows.now) t) a.now * 2 ^ atom_width (λ n. slice_index widths.now n) b.now + atom_value (value_at (items_of rows.now) t) b.now }
+    ensures row { (t : ℕ) → t < length to.new
+        → slice_index to.new t
+        ≡ atom_value (value_at (items_of rows.now) t) a.now * 2 ^ atom_width (λ n. slice_index widths.now n) b.now + atom_value (value_at (items_of rows.now) t) b.now }
 {
     if let Atom::Constant(number) = a {
         return number_above_row(widths, rows, &mut spares.second, number.value(), b, to);
@@ -341,10 +357,12 @@ fn repeated_row(
 )
     requires long { HasRow (items_of rows.now) (length to.old) a.now }
     requires room { length to.old ≤ length spare.old }
-    requires fits { (t : ℕ) → t < length to.old → repeated copies (atom_width (λ n. slice_index widths.now n) a.now) (atom_value (value_at (items_of rows.now) t) a.now) < 2 ^ 64 }
+    requires fits { (t : ℕ) → t < length to.old
+        → repeated copies (atom_width (λ n. slice_index widths.now n) a.now) (atom_value (value_at (items_of rows.now) t) a.now) < 2 ^ 64 }
     ensures spare { length spare.new ≡ length spare.old }
     ensures count { length to.new ≡ length to.old }
-    ensures row { (t : ℕ) → t < length to.new → slice_index to.new t ≡ repeated copies (atom_width (λ n. slice_index widths.now n) a.now) (atom_value (value_at (items_of rows.now) t) a.now) }
+    ensures row { (t : ℕ) → t < length to.new
+        → slice_index to.new t ≡ repeated copies (atom_width (λ n. slice_index widths.now n) a.now) (atom_value (value_at (items_of rows.now) t) a.now) }
 {
     let count = to.len();
     let width = width_of(widths, a);

@@ -63,7 +63,7 @@ impl Single for Part {
     }
 }
 
-// So many times a number.
+// This many times a number.
 #[derive(Clone, Copy)]
 pub(crate) struct Times {
     pub(crate) factor: u64,

@@ -67,7 +67,9 @@ pub fn take_back(words: &mut [u64], lost: &[u64], index: &[u64])
     requires lost { length lost.now ≡ length index.now }
     requires writes { AreInside (length index.now) index.now (length words.old) }
     ensures depth { length words.new ≡ length words.old }
-    ensures words { (before value : List ℕ) → words.old ≡ words_after before index.now value (length index.now) → AreInside (length index.now) index.now (length before) → IsReadUpTo (length index.now) before lost.now index.now index.now value → words.new ≡ before }
+    ensures words { (before value : List ℕ) → words.old ≡ words_after before index.now value (length index.now)
+        → AreInside (length index.now) index.now (length before) → IsReadUpTo (length index.now) before lost.now index.now index.now value
+        → words.new ≡ before }
 {
     for done in 0..index.len() {
         let t = index.len() - 1 - done;

@@ -221,7 +221,7 @@ stop_only apart one m clocks from to old outs v n places (Err e) ok err shots x 
     ∙ ap (λ (k : ℕ). let r : Result (Unit {0}) Stop = Err (record { done = length shots; range = record { array = k; index = e.range.index } }) in r) same.1
     ∙ ap (λ (k : ℕ). let r : Result (Unit {0}) Stop = Err (record { done = length shots; range = record { array = x; index = k } }) in r) same.2
 
--- the last clocks of a block, behind those that came before
+-- the last clocks of a block, after those that came before
 pub came_ok : (m n : Netlist) → n ≡ m → (enables : List Bool) (dins : List ℕ) (from mid to : Contents) (old outs new : List Out) (k : ℕ) → (r : Result (Unit {0}) Stop) →
     OnOk r ((f : Contents) (o : List Out) → Came n (block_clocks n enables dins) f mid o outs k → Came n (block_clocks n enables dins) f to o new (length enables)) →
     Came m (block_clocks m enables dins) from mid old outs k → OnOk r (BlockRan m (block_clocks m enables dins) from to new)

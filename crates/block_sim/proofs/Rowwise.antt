@@ -90,7 +90,7 @@ piece_given m p has_enable ports inputs e same n rows are t i c at l =
     ∙ ap (λ (k : ℕ). input_of m.enable k p.inputs.enables.now p.inputs.dins.now (p.first + t) i) same
     ∙ ap (λ (k : Clock). slice_index (given m k) i) (sym f.1)
 
--- ---- a piece behind what came
+-- ---- a piece after what came
 
 module _ (m : Netlist) where
   runs_on : (cs ds : List Clock) (from mid to : Contents) (shots more : List Snapshot) → Runs m from cs shots mid → Runs m mid ds more to → Runs m from (cs ++ ds) (shots ++ more) to

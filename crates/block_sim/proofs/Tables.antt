@@ -51,7 +51,7 @@ module _ (widths : List ℕ) (code : List Instruction) (uses : List ℕ) (first 
       ∙ hold p t j less l there
       ∙ sym (right_local (value_at new t) (value_at old t) (λ n. slice_index widths n) (λ _ _. 0) j.right (λ n c. value_other t n (reads n c)))
 
--- what holds of the first so many holds of fewer
+-- what holds of the first n holds of fewer
 pub hold_fewer : (widths : List ℕ) (code : List Instruction) (long : ℕ) (t : Table) (done fewer : ℕ) → fewer ≤ done → IsTable widths code long t done → IsTable widths code long t fewer
 hold_fewer widths code long t done fewer le h = record {
   rows = h.rows;

@@ -13,7 +13,7 @@ use Rattle.block_code.specs.Rows.{atom_at, words_put, KeepsArray}
 abbrev pub words_at : List (Vec ℕ Global) → ℕ → List ℕ
 words_at arrays x = slice_index_or (words_of arrays) x []
 
--- an array was read and written over so many clocks, and what was read is the target's row
+-- an array was read and written over this many clocks, and what was read is the target's row
 pub record IsPassed (old new lost read index value target : List ℕ) (count : ℕ) : Type 0 where
   pub reads : AreInside count read (length old)
   pub writes : AreInside count index (length old)
@@ -23,7 +23,7 @@ pub record IsPassed (old new lost read index value target : List ℕ) (count : �
   pub words : new ≡ words_after old index value count
   pub lost_row : IsReadUpTo count old lost index index value
 
--- each put of so many clocks is inside
+-- each put of this many clocks is inside
 abbrev pub PutsInside : List (List ℕ) → WordPut → ℕ → ℕ → Type 0
 PutsInside rows p count depth = (t : ℕ) → t < count → atom_at rows t p.index < depth
 
@@ -32,7 +32,7 @@ abbrev pub WasLost : List (List ℕ) → WordPut → List ℕ → List ℕ → �
 WasLost rows p words lost count =
     (t : ℕ) → t < count → slice_index lost t ≡ slice_index (words_put rows p words t) (atom_at rows t p.index)
 
--- the rows of an array's indexes, value and target have so many clocks
+-- the rows of an array's indexes, value and target have this many clocks
 pub record HaveAccessRows (rows : List (List ℕ)) (count : ℕ) (r : WordRead) (p : WordPut) : Type 0 where
   pub target : r.target < length rows
   pub long : count ≤ length (slice_index_or rows r.target [])
@@ -40,53 +40,53 @@ pub record HaveAccessRows (rows : List (List ℕ)) (count : ℕ) (r : WordRead) 
   pub index : HasRow rows count p.index
   pub value : HasRow rows count p.value
 
--- the first so many arrays hold their words behind the block, and the others those before it
+-- the first n arrays hold their words after the block, and the others those before it
 pub record ArePut (rows : List (List ℕ)) (puts : List WordPut) (count : ℕ) (before now : List (List ℕ)) (done : ℕ) : Type 0 where
   pub same : length now ≡ length before
   pub put : (x : ℕ) (p : WordPut) → x < done → slice_get puts x ≡ Some p →
       slice_index_or now x [] ≡ words_put rows p (slice_index_or before x []) count
   pub left : (x : ℕ) → done ≤ x → slice_index_or now x [] ≡ slice_index_or before x []
 
--- what each put of the first so many arrays took away is kept
+-- what each put of the first n arrays took away is kept
 abbrev pub AreLost : List (List ℕ) → List WordPut → ℕ → List (List ℕ) → List (List ℕ) → ℕ → Type 0
 AreLost rows puts count before lost done = (x : ℕ) (p : WordPut) → x < done → slice_get puts x ≡ Some p →
     PutsInside rows p count (length (slice_index_or before x [])) × WasLost rows p (slice_index_or before x []) (slice_index_or lost x []) count
 
--- the equations of the first so many arrays are kept
+-- the equations of the first n arrays are kept
 abbrev pub AreKept : List (List ℕ) → List WordRead → List WordPut → ℕ → List (List ℕ) → ℕ → Type 0
 AreKept rows reads puts count before done = (x : ℕ) (r : WordRead) (p : WordPut) → x < done →
     slice_get reads x ≡ Some r → slice_get puts x ≡ Some p → KeepsArray rows count (slice_index_or before x []) r p
 
--- room for so many clocks
+-- room for this many clocks
 pub record IsArrayRoom (r : ArrayRoom) (count : ℕ) : Type 0 where
   pub read : count ≤ length r.read.items
   pub index : count ≤ length r.index.items
   pub value : count ≤ length r.value.items
 
--- the rows of all arrays' indexes, values and targets have so many clocks
+-- the rows of all arrays' indexes, values and targets have this many clocks
 abbrev pub AreAccessRows : List (List ℕ) → ℕ → List WordRead → List WordPut → Type 0
 AreAccessRows rows count reads puts =
     (x : ℕ) (r : WordRead) (p : WordPut) → slice_get reads x ≡ Some r → slice_get puts x ≡ Some p → HaveAccessRows rows count r p
 
--- each of so many lists has room for so many clocks
+-- each of this many lists has room for this many clocks
 abbrev pub HaveLong : List (List ℕ) → ℕ → Type 0
 HaveLong lists count = (x : ℕ) → x < length lists → count ≤ length (slice_index_or lists x [])
 
--- the puts of the first so many arrays are inside
+-- the puts of the first n arrays are inside
 abbrev pub AreInsideAll : List (List ℕ) → List WordPut → ℕ → List (List ℕ) → ℕ → Type 0
 AreInsideAll rows puts count arrays done =
     (x : ℕ) (p : WordPut) → x < done → slice_get puts x ≡ Some p → PutsInside rows p count (length (slice_index_or arrays x []))
 
--- the rows of all puts' indexes and values have so many clocks
+-- the rows of all puts' indexes and values have this many clocks
 abbrev pub HavePutRows : List (List ℕ) → ℕ → List WordPut → Type 0
 HavePutRows rows count puts = (x : ℕ) (p : WordPut) → slice_get puts x ≡ Some p → HasRow rows count p.index × HasRow rows count p.value
 
--- what so many clocks left of some words is these words again, with what each put took away
+-- what this many clocks left of some words is these words again, with what each put took away
 abbrev pub TakesBack : List (List ℕ) → WordPut → ℕ → (lost old new : List ℕ) → Type 0
 TakesBack rows p count lost old new = (before : List ℕ) →
     old ≡ words_put rows p before count → length old ≡ length before → WasLost rows p before lost count → new ≡ before
 
--- the same of the first so many arrays
+-- the same of the first n arrays
 abbrev pub AllTakenBack : List (List ℕ) → List WordPut → ℕ → (lost old new : List (List ℕ)) → ℕ → Type 0
 AllTakenBack rows puts count lost old new done = (before : List (List ℕ)) →
     ArePut rows puts count before old done → AreLost rows puts count before lost done → new ≡ before

@@ -16,7 +16,7 @@ din_count m = length (din_widths m)
 abbrev pub output_count : Netlist → ℕ
 output_count m = length m.outputs / 2
 
--- those of the k-th clock, where each clock has so many, behind those of the clock before
+-- those of the k-th clock, where each clock has this many, after those of the clock before
 abbrev pub of_clock : {X : Type 0} → (count k : ℕ) → List X → List X
 of_clock count k xs = take count (drop (k * count) xs)
 
@@ -28,7 +28,7 @@ clocks_with count (enable ∷ enables) dins = record { reset = false; enable = e
 abbrev pub block_clocks : Netlist → List Bool → List ℕ → List Clock
 block_clocks m enables dins = clocks_with (din_count m) enables dins
 
--- so many clocks of a block, from one on
+-- this many clocks of a block, from one on
 abbrev pub piece_of : Netlist → List Bool → List ℕ → ℕ → ℕ → List Clock
 piece_of m enables dins first count = take count (drop first (block_clocks m enables dins))
 
@@ -36,7 +36,7 @@ piece_of m enables dins first count = take count (drop first (block_clocks m ena
 abbrev pub AllShown : Netlist → List Snapshot → List Out → Type 0
 AllShown m shots outs = (k : ℕ) (s : Snapshot) → slice_get shots k ≡ Some s → AreShown s (of_clock (output_count m) k outs)
 
--- so many of the clocks took place, and the later outputs are as they were
+-- this many of the clocks took place, and the later outputs are as they were
 pub record Came (m : Netlist) (clocks : List Clock) (from to : Contents) (old outs : List Out) (k : ℕ) : Type 0 where
   pub shots : List Snapshot
   pub count : length shots ≡ k
@@ -50,7 +50,7 @@ pub record BlockRan (m : Netlist) (clocks : List Clock) (from to : Contents) (ou
   pub run : Runs m from clocks shots to
   pub shown : AllShown m shots outs
 
--- so many clocks took place, and the next one stops; the places of the later outputs are as they were
+-- this many clocks took place, and the next one stops; the places of the later outputs are as they were
 pub record BlockStops (m : Netlist) (clocks : List Clock) (from to : Contents) (old outs : List Out) (stop : Stop) : Type 0 where
   pub shots : List Snapshot
   pub done : length shots ≡ stop.done

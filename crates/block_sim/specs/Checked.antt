@@ -22,7 +22,7 @@ abbrev pub AreInputRows : Bool → ℕ → Piece → ℕ → List (List ℕ) →
 AreInputRows has_enable ports p inputs rows =
     (input : ℕ) → input < inputs → IsInputRow has_enable ports p input (slice_index_or rows input [])
 
--- the rows of all atoms of a list have so many clocks
+-- the rows of all atoms of a list have this many clocks
 abbrev pub HaveAtomRows : List (List ℕ) → ℕ → List (Atom ℕ) → Type 0
 HaveAtomRows rows count atoms = (k : ℕ) (a : Atom ℕ) → slice_get atoms k ≡ Some a → HasRow rows count a
 

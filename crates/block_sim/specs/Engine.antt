@@ -26,7 +26,7 @@ pub record IsEngine (e : Engine) : Type 0 where
   pub ordered : IsOrdered e.code.instructions.items
   pub uses : AreFirstUses e.code.instructions.items e.uses.items
 
--- the first so many instructions were run over a table whose rows have so many places
+-- the first n instructions were run over a table whose rows have this many places
 abbrev pub HasRun : Engine → (long : ℕ) → Table → (done : ℕ) → Type 0
 HasRun e long t done = IsTable e.code.widths.items e.code.instructions.items long t done
 
@@ -37,7 +37,7 @@ pub record IsEngineOf (m : Netlist) (e : Engine) : Type 0 where
   pub enable : e.has_enable ≡ m.enable
   pub ports : e.ports ≡ din_count m
 
--- the rows of a code's slots have so many clocks and one place more
+-- the rows of a code's slots have this many clocks and one place more
 pub record AreWide (e : Engine) (rows : List (List ℕ)) (count : ℕ) : Type 0 where
   pub inputs : e.code.first_output ≡ (if e.has_enable then 2 else 1) + e.ports
   pub slots : e.code.first_output ≤ length rows

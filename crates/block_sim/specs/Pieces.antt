@@ -28,7 +28,7 @@ pub record IsPieceOf (m : Netlist) (p : Piece) : Type 0 where
   pub inputs : AreInputsOf m p.inputs
   pub within : p.first + p.count ≤ length p.inputs.enables.now
 
--- these are clocks of a block with so many dins in each
+-- these are clocks of a block with this many dins in each
 pub record HasDins (ports : ℕ) (p : Piece) : Type 0 where
   pub all : length p.inputs.dins.now ≡ length p.inputs.enables.now * ports
   pub within : p.first + p.count ≤ length p.inputs.enables.now

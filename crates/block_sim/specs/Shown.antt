@@ -7,7 +7,7 @@ use Rattle.block_rows.specs.Rights.{value_at}
 abbrev pub row_out : List (List ℕ) → ℕ → ℕ → ℕ → Out
 row_out rows first output t = record { valid = value_at rows t (first + 2 * output) == 1; dout = value_at rows t (first + 2 * output + 1) }
 
--- so many outputs are what their slots show at a clock
+-- this many outputs are what their slots show at a clock
 pub record AreRowOuts (rows : List (List ℕ)) (first t count : ℕ) (outs : List Out) : Type 0 where
   pub long : length outs ≡ count
   pub each : (k : ℕ) → k < count → slice_get outs k ≡ Some (row_out rows first k t)

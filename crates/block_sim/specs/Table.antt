@@ -30,7 +30,7 @@ RightUsed uses number (Bit v k) = slice_index uses v ≤ number
 RightUsed uses number (Slice v m l) = slice_index uses v ≤ number
 RightUsed uses number (Word m i) = AtomUsed uses number i
 
--- no one of the first so many instructions reads or writes a slot before its first use
+-- no one of the first n instructions reads or writes a slot before its first use
 pub record AreFirstUsesOf (count : ℕ) (code : List Instruction) (uses : List ℕ) : Type 0 where
   pub reads : (p n : ℕ) (i : Instruction) → p < count → slice_get code p ≡ Some i → Contains (nets_of i.right) n → slice_index uses n ≤ p
   pub writes : (p : ℕ) (i : Instruction) → p < count → slice_get code p ≡ Some i → slice_index uses i.target ≤ p
@@ -38,7 +38,7 @@ pub record AreFirstUsesOf (count : ℕ) (code : List Instruction) (uses : List �
 abbrev pub AreFirstUses : List Instruction → List ℕ → Type 0
 AreFirstUses code uses = AreFirstUsesOf (length code) code uses
 
--- a table has a row of so many places for each slot, all values fit, and the equations of the first so many instructions hold
+-- a table has a row of this many places for each slot, all values fit, and the equations of the first n instructions hold
 pub record IsTable (widths : List ℕ) (code : List Instruction) (long : ℕ) (t : Table) (done : ℕ) : Type 0 where
   pub rows : AreRows widths long (items_of t.rows.items)
   pub hold : AllHold widths long (items_of t.rows.items) done code

@@ -1,8 +1,6 @@
 // Blocks of clocks.
 
 ghost use Rattle.std.specs.Prelude.{◌≡◌, ℕ, Err, List, ◌*◌, length, All, IfOk, OnOk, IfErr, OnErr};
-ghost use Rattle.wiring.specs.Netlist.{netlist_of};
-ghost use Rattle.wiring.specs.Rules.{KeepsRules};
 ghost use Rattle.wiring.specs.Snapshot.{Snapshot, Fit, HasOneSnapshot, HasOneNext, HasPlaces, FitsContents};
 ghost use Rattle.wiring.specs.Clock.{Clock};
 ghost use Rattle.cycle_sim.specs.Ports.{din_widths, AreShown};
@@ -16,9 +14,9 @@ use crate::pause::Pause;
 use crate::pieces::step_pieces;
 use crate::rows::Rows;
 use crate::rows::make::rows_of;
-use cycle_sim::{Fill, IndexRange, Out, Sim};
+use cycle_sim::{Fill, IndexRange, Out, Sim, dins_of};
 use dk_base::OutOfMemory;
-use netlist::{Module, Wiring, one_run};
+use netlist::{Module, one_run_law};
 use std::alloc::Global;
 use std::marker::Model;
 
@@ -45,28 +43,18 @@ impl Model for Blocks {
     ghost invariant = { λ b. AreBlocks b.sim.netlist b.held b.dins b.rows };
 }
 
-/// Where a block stops: so many clocks took place, and in the next one this index is outside its array.
+/// Where a block stops: `done` clocks took place, and in the next one this index is outside its array.
 #[derive(Clone, Copy, Debug, PartialEq, Eq)]
 pub struct Stop {
     pub done: usize,
     pub range: IndexRange,
 }
 
-// The number of dins: the inputs behind `rst` and, where there is one, `en`.
-fn dins_in(wiring: &Wiring) -> usize
-    requires { KeepsRules (netlist_of wiring.now) }
-    ensures { result ≡ din_count (netlist_of wiring.now) }
-{
-    let first = if wiring.enable { 2 } else { 1 };
-    wiring.inputs.split_at(first).1.len()
-}
-
 // The number of dins of a module.
-fn dins_of(module: &Module) -> usize
+fn count_dins(module: &Module) -> usize
     ensures { result ≡ din_count «module».now.netlist }
 {
-    let wiring = module.wiring();
-    dins_in(wiring)
+    dins_of(module).len()
 }
 
 impl Blocks {
@@ -75,7 +63,7 @@ impl Blocks {
         ensures netlist { IfOk result (λ b. b.netlist ≡ «module».now.netlist) }
         ensures contents { IfOk result (λ b. b.contents ≡ filled_contents fill «module».now.netlist) }
     {
-        let dins = dins_of(module);
+        let dins = count_dins(module);
         let rows = rows_of(alloc, module, dins)?;
         let mut held = zeros(alloc, module.wiring())?;
         let mut sim = Sim::new(alloc, module, fill)?;
@@ -129,9 +117,8 @@ impl Blocks {
     }
 
     /// As many clocks as `enables` has, none of them a reset. The dins of each clock, in their order and each fitting its port,
-    /// stand behind those of the clock before, and so do its outputs, which are as they are before its edge. It answers Stop
-    /// exactly where one of the clocks stops: those before it took place, and the outputs from it on are as they were. It takes
-    /// no memory.
+    /// follow those of the clock before. So do its outputs, which are as they are before its edge. It answers Stop exactly if
+    /// one of the clocks stops: those before it took place, and the outputs from it on are unchanged. It allocates no memory.
     pub fn step_block(
         &mut self,
         enables: &[bool],
@@ -147,7 +134,7 @@ impl Blocks {
         ensures only { IsStopOfRun self.old.netlist (block_clocks self.old.netlist enables.now dins.now) self.old.contents result }
     {
         self.sim.law();
-        one_run();
+        one_run_law();
         let inputs = Inputs { enables, dins };
         step_pieces(
             &mut self.sim,

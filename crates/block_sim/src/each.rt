@@ -8,7 +8,7 @@ use crate::blocks::Stop;
 use crate::inputs::Piece;
 use cycle_sim::{Out, Sim};
 
-// The clocks of a piece, one after another, each with so many dins.
+// The clocks of a piece, one after another, each with this many dins.
 pub fn step_each(
     sim: &mut Sim,
     ports: usize,

@@ -25,7 +25,7 @@ pub struct Held {
     pub arrays: Vec<Vec<u64>>,
 }
 
-// So many zeros.
+// This many zeros.
 fn zero_slots(alloc: Global, widths: &[Width]) -> Result<Vec<u64>, AllocError>
     ensures { IfOk result (λ v. v.items ≡ replicate (length widths.now) 0) }
 {

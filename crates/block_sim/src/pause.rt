@@ -1,6 +1,6 @@
 // When pieces are not tried over rows.
 
-// How many pieces are left clock by clock: behind one that could not be made over rows one, and twice as many and one more behind
+// How many pieces are left clock by clock: after one that could not be made over rows one, and twice as many and one more after
 // each further one, up to 63.
 #[derive(Clone, Copy, Debug)]
 pub struct Pause {

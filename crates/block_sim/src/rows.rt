@@ -101,7 +101,7 @@ fn judge_held(
     judge(engine, &table.rows, room, to, lost, held, piece)
 }
 
-// Whether each of some lists has so many places.
+// Whether each of some lists has this many places.
 fn are_long(lists: &[Vec<u64>], count: usize) -> bool
     ensures { IsTrue result → HaveLong (items_of lists.now) count }
 {
@@ -113,7 +113,7 @@ fn are_long(lists: &[Vec<u64>], count: usize) -> bool
     true
 }
 
-// Whether there is room for so many clocks of so many arrays.
+// Whether there is room for this many clocks of this many arrays.
 fn has_room(rows: &Rows, arrays: usize, count: usize) -> bool
     ensures most { IsTrue result → count ≤ rows.now.size }
     ensures room { IsTrue result → IsArrayRoom rows.now.room count }
@@ -142,7 +142,7 @@ fn has_room(rows: &Rows, arrays: usize, count: usize) -> bool
     are_long(&rows.lost, count)
 }
 
-// The rows are judged, behind all instructions.
+// The rows are judged, after all instructions.
 fn judge_rows(sim: &Sim, rows: &mut Rows, held: &mut Held, piece: &Piece<'_>) -> bool
     requires rules { KeepsRules sim.now.netlist }
     requires rows { AreRowsOf sim.now.netlist rows.old }

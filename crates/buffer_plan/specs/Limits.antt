@@ -22,7 +22,7 @@ pub record IsWithinLimits (s : System) (d : List ℕ) : Type 0 where
   pub few_bits : bits s d ≤ MAX_BUFFER_BITS
   pub short : latency_in s d ≤ MAX_LATENCY
 
--- The limit that these delays pass first: Bits, and then Latency. Want of memory tells nothing.
+-- The first limit that these delays exceed: Bits, and then Latency. Out of memory states nothing.
 abbrev pub Passes : System → List ℕ → PlanFault → Type 0
 Passes s d (Bits least) = (least ≡ bits s d) × (MAX_BUFFER_BITS < least)
 Passes s d (Latency clocks) = (bits s d ≤ MAX_BUFFER_BITS) × (clocks ≡ latency_in s d) × (MAX_LATENCY < clocks)

@@ -15,7 +15,7 @@ pub record Plan : Type 0 where
   pub system : System
   pub delays : List ℕ
 
--- where an image stands among the kept ones
+-- where an image is among the kept ones
 abbrev pub place_in : Plan → ℕ → ℕ
 place_in p g = place p.system.stencils.images g
 
@@ -39,7 +39,7 @@ pub record AreDistinct (all distinct : List ℕ) : Type 0 where
 abbrev pub AreAges : Plan → ℕ → List ℕ → Type 0
 AreAges p g ages = AreDistinct (ages_in p.system.stencils.width p.delays (place_in p g) (placed_reads p.system)) ages
 
--- the last of a list that begins behind `before`
+-- the last of a list that begins after `before`
 abbrev pub last_of : (before : ℕ) → List ℕ → ℕ
 last_of before [] = before
 last_of before (x ∷ xs) = last_of x xs

@@ -67,7 +67,8 @@ pub fn all_ages(alloc: Global, system: &System, delays: &[u64]) -> Result<Vec<Nu
     requires causal { IsCausal system.now delays.now }
     requires small { AreNear delays.now }
     ensures length { IfOk result (λ v. length v.items ≡ image_count system.now) }
-    ensures ages { IfOk result (λ v. (k : ℕ) → k < image_count system.now → AreDistinct (ages_in system.now.stencils.width delays.now k (placed_reads system.now)) (slice_index_or v.items k [])) }
+    ensures ages { IfOk result (λ v. (k : ℕ) → k < image_count system.now
+        → AreDistinct (ages_in system.now.stencils.width delays.now k (placed_reads system.now)) (slice_index_or v.items k [])) }
 {
     let mut all = Vec::new(alloc);
     for k in 0..system.images().len() {

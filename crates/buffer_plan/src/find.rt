@@ -6,7 +6,7 @@ ghost use Rattle.buffer_plan.specs.Plans.{reads_by};
 
 use dk_base::LiveRead;
 
-// The reads that an image makes, which stand together.
+// The reads that an image makes, which are together.
 pub fn reads_by(reads: &[LiveRead], f: u32) -> &[LiveRead]
     requires { AreInOrder reads.now }
     ensures { result.now ≡ reads_by f reads.now }

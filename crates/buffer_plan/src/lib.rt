@@ -9,6 +9,6 @@ mod planning;
 mod plans;
 
 pub use fault::PlanFault;
-pub use laws::{ages_of_images, one_limit};
+pub use laws::{ages_of_images_law, one_limit_law};
 pub use planning::plan;
 pub use plans::Plan;

@@ -1,4 +1,4 @@
-// A plan, and what it tells.
+// A plan, and what it contains.
 
 ghost use Rattle.std.specs.Prelude.{◌≡◌, IfOk};
 ghost use Rattle.buffer_plan.specs.Plans.{IsPlan, latency, bits_of};
@@ -138,7 +138,7 @@ impl Plan {
         }
     }
 
-    /// Where a kept image stands among the kept ones.
+    /// Where a kept image is among the kept ones.
     pub fn place(&self, g: u32) -> usize
         requires { IsKept self.now.system.stencils.images g }
         ensures { result ≡ place_in self.now g }

@@ -98,7 +98,7 @@ module _ (b0 : Netlist) (p : Program) (plan : Plan) (shapes : Shapes) (places : 
 pub image_at : (images xs : List Image) (k : ℕ) (d : Image) → xs ≡ images → k < length images → slice_get images k ≡ Some (slice_index_or xs k d)
 image_at images xs k d same lt = subst (λ (ys : List Image). slice_get images k ≡ Some (slice_index_or ys k d)) (sym same) (slice_get-get_or images k d lt)
 
--- with ports alone nothing is built
+-- with only ports nothing is built
 pub built_none : (b : Netlist) (p : Program) (plan : Plan) (shapes : Shapes) (places : Places) (property : Property) (enable : Bool) → b ≡ ports_of p enable → AllUpdated b → StillBut b [] → NeverStops b → IsControlled b → AreBuilt b p plan shapes places property 0 [] []
 built_none b p plan shapes places property enable is updated still stops control = record {
   ports = subst (λ (m : Netlist). Includes m (ports_of p m.enable)) (sym is) (Includes-refl (ports_of p enable));

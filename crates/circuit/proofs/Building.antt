@@ -84,7 +84,7 @@ old_array old x lt = by (is_new old x) refl
     by false e = e
     by true e = absurd (let h : length old.arrays ≤ x = is_le (length old.arrays) x e in let f : ⊥ = omega (arith, h, lt) in f)
 
--- What has been built lasts, as more is built behind it, and the taps of these images stay.
+-- What has been built lasts, as more is built after it, and the taps of these images stay.
 module _ (new old : Netlist) (p : Program) (plan : Plan) (shapes : Shapes) (places : Places) (property : Property) (taps more : List (List Net)) (same_taps : (g : ℕ) → place_in plan g < length taps → taps_at plan more g ≡ taps_at plan taps g)
     (grows : Includes new old) (reads : AddsReads new old (is_new old)) (differ : UpdatesDiffer new.updates) (updated : UpdatedBut old []) where
   module _ (g : ℕ) (net : Net) (there : place_in plan g < length taps) (end : end_array shapes plan g ≤ length old.arrays)

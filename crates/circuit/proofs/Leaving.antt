@@ -84,7 +84,7 @@ shared_more plan outs more out e old is = subst (AreShared plan) (sym e) (λ k o
   ]
 ])
 
--- where the valids and douts stand among all nets
+-- where the valids and douts are among all nets
 pub flat_at : (outs : List (Net × Net)) (k : ℕ) (o : Net × Net) → slice_get outs k ≡ Some o → (slice_get (flat outs) (2 * k) ≡ Some o.0) × (slice_get (flat outs) (2 * k + 1) ≡ Some o.1)
 flat_at [] k o at = absurd (let f : ⊥ = cc in f)
 flat_at (p ∷ outs) zero o at =
@@ -104,7 +104,7 @@ valids_long : (ws : List ℕ) → length (with_valids ws) ≡ 2 * length ws
 valids_long [] = refl
 valids_long (w ∷ ws) = (let rest = valids_long ws in omega (arith, rest))
 
--- a valid of one bit, and a dout of so many
+-- a valid of one bit, and a dout of this many
 record IsPair (b : Netlist) (o : Net × Net) (w : ℕ) : Type 0 where
   pub valid : IsNet b o.0
   pub one : net_width b o.0 ≡ 1

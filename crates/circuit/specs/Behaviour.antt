@@ -26,7 +26,7 @@ pub record IsPlanOf (p : Program) (plan : Plan) (options : Options) : Type 0 whe
   pub stencils : AreStencilsOf p plan.system.stencils
   pub age : plan.system.age ≡ options.age
 
--- the ports: rst, en where it is wanted, a din for each input, and for each output its valid and its dout
+-- the ports: rst, en if it is requested, a din for each input, and for each output its valid and its dout
 pub record HasPorts (m : Netlist) (p : Program) (enable : Bool) : Type 0 where
   pub enable_is : m.enable ≡ enable
   pub inputs : m.inputs ≡ 1 ∷ (if enable then 1 ∷ map (λ i. width_of i.ty) p.inputs else map (λ i. width_of i.ty) p.inputs)
@@ -49,7 +49,7 @@ ShowsPixels m p delay g net =
 -- The behaviour of the module of a program under a plan, where `places` says which word holds which pixel, and the kept images have these nets.
 pub record Behaves (m : Netlist) (p : Program) (plan : Plan) (places : Places) (nets : List Net) : Type 0 where
   pub one_each : length nets ≡ length plan.system.stencils.images
-  -- each kept image's net is its pixel that is due
+  -- each kept image's net is its pixel scheduled for this clock
   pub net : (g : ℕ) → Keeps plan g → ShowsPixels m p (delay_of plan g) g (net_of plan nets g)
   -- and so is each output's dout
   pub dout : (k g : ℕ) → slice_get p.outputs k ≡ Some g → ShowsPixels m p (latency_of plan k) g (dout_net k)

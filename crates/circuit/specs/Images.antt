@@ -29,7 +29,7 @@ use Rattle.circuit.specs.Taps.{Keeps, taps_at, TapsAreRight}
 use Rattle.circuit.specs.Reads.{reads_in, IsMadeOfTaps}
 use Rattle.circuit.specs.Forms.{Shapes, Places, Property, shapes_of, first_array, end_array}
 
--- In each counted clock the net of image f is the pixel that is due, for all rounds whose pixels the taps of the images before it have.
+-- In each counted clock the net of image f is the pixel scheduled for it, for all rounds whose pixels the taps of the images before it have.
 abbrev pub IsBodyNet : Netlist → Program → Plan → List (List Net) → (f : ℕ) → Net → Type 0
 IsBodyNet b p plan taps f net =
     (m : Netlist) (from : Contents) (before : List Clock) (c : Clock) (s : Snapshot) → IsRunning b m from before c s → (rounds : Rounds) → AreRounds p rounds → ((g : ℕ) → g < f → Keeps plan g → TapsAreRight p rounds plan taps (length (counted m before)) s g) →

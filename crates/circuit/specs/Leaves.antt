@@ -18,7 +18,7 @@ leaf_at g steps = record { image = g; steps = steps }
 abbrev pub with_step : List Step → Edge → (dx dy : ℤ) → List Step
 with_step steps edge dx dy = steps ++ (record { edge = edge; dx = dx; dy = dy }) ∷ []
 
--- those of an expression that stands at the end of these steps
+-- those of an expression that is at the end of these steps
 abbrev pub reads_of : Tree → List Step → List LeafRead
 reads_of (constant v t) steps = []
 reads_of (read edge g dx dy) steps = (record { image = g; steps = with_step steps edge dx dy }) ∷ []

@@ -64,7 +64,7 @@ abbrev pub IsMadeOfTaps : (b first : Netlist) → Plan → List (List Net) → L
 IsMadeOfTaps b first plan taps reads net =
     (base : Holder → Bool) → HasControl first.enable base → ((r : LiveRead) (tap : Net) → Contains reads r → IsTapOf plan taps r tap → IsMadeOf first base (OfNet tap)) → IsMadeOf b base (OfNet net)
 
--- what a net has, where none stands for 0
+-- what a net has, where none means 0
 abbrev pub worth_of : Snapshot → Option Net → ℕ
 worth_of s None = 0
 worth_of s (Some n) = net_value s n
@@ -83,7 +83,7 @@ pub record IsReadNet (b first : Netlist) (plan : Plan) (taps : List (List Net)) 
   pub value : AtEachPixel b (size_in plan) (delay_of plan f) (λ x y s. IsChosen (size_in plan) plan taps (reads_in plan f) leaf x y s (net_value s net))
   pub made : IsMadeOfTaps b first plan taps (reads_in plan f) net
 
--- A bit of image f that is 1 in the pixels that pass, and made of rst, en and registers alone.
+-- A bit of image f that is 1 in the pixels that pass, and made only of rst, en and registers.
 pub record IsPixelTest (b : Netlist) (plan : Plan) (f : ℕ) (passes : (x y : ℕ) → Type 0) (net : Net) : Type 0 where
   pub there : IsNet b net
   pub width : net_width b net ≡ 1
@@ -112,7 +112,7 @@ abbrev pub choice_nets : Option Net → List Net
 choice_nets None = []
 choice_nets (Some n) = n ∷ []
 
--- the same in a right side of so many bits
+-- the same in a right side of this many bits
 abbrev pub atom_of_choice : (bits : ℕ) → Option Net → Atom Net
 atom_of_choice bits None = atom.Constant (record { width = bits; value = 0 })
 atom_of_choice bits (Some n) = atom.Net n
@@ -126,6 +126,6 @@ pub record IsNetOf (b old : Netlist) (bits : ℕ) (choice : Option Net) (net : N
   pub there : IfSome choice (λ n. n ≡ net)
   pub zero : IfNone choice (Computes b old [] bits (λ s. 0) net)
 
--- behind the leaves that are there these are added, with their nets
+-- after the leaves that are there these are added, with their nets
 pub record AddsLeaves (b old : Netlist) (p : Program) (plan : Plan) (taps : List (List Net)) (f : ℕ) (leaves : List LeafRead) (parts : List (List Step)) (now before : Leaves) : Type 0 where
   pub added : (first : Netlist) (ls : List LeafRead) (ps : List (List Step)) → Includes old first → AreLeafNets old first p plan taps f ls ps before.reads.items before.bits.items → AreLeafNets b first p plan taps f (ls ++ leaves) (ps ++ parts) now.reads.items now.bits.items

@@ -1,4 +1,4 @@
--- The taps of images: a net for each age, which has the pixel of so many clocks before.
+-- The taps of images: a net for each age, which has the pixel of this many clocks before.
 use Rattle.std.specs.Prelude.{◌≡◌, ℕ, ◌+◌, ◌<◌, pos, Bool, IsTrue, List, [], length, slice_get, slice_index_or, Some}
 use Rattle.dk_base.specs.declared.stencils.LiveRead.{LiveRead}
 use Rattle.dk_base.specs.Stencils.{IsKept}
@@ -41,7 +41,7 @@ pub record HasTaps (b : Netlist) (plan : Plan) (taps : List (List Net)) (f : ℕ
   pub net : (g : ℕ) → Keeps plan g → g < f → (k : ℕ) (tap : Net) → slice_get (taps_at plan taps g) k ≡ Some tap → IsNet b tap
   pub width : (g : ℕ) → Keeps plan g → g < f → (k : ℕ) (tap : Net) → slice_get (taps_at plan taps g) k ≡ Some tap → net_width b tap ≡ width_of plan g
 
--- at counted clock t the tap of each age is the pixel of image g that came so many clocks before, where there was one
+-- at counted clock t the tap of each age is the pixel of image g that came this many clocks before, where there was one
 abbrev pub TapsAreRight : Program → Rounds → Plan → List (List Net) → (t : ℕ) → Snapshot → (g : ℕ) → Type 0
 TapsAreRight p rounds plan taps t s g =
     (k age q : ℕ) (tap : Net) → slice_get (ages_of plan g) k ≡ Some age → slice_get (taps_at plan taps g) k ≡ Some tap → q + age + delay_of plan g ≡ t → q < pixel_count p rounds → net_value s tap ≡ pixel_bits p rounds g q

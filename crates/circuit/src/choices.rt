@@ -25,7 +25,7 @@ use net_build::{Builder, gate, number};
 use pointwise_ir::Edge;
 use wiring::{Atom, Net, Right};
 
-// What a right side of so many bits has for a choice.
+// What a right side of this many bits has for a choice.
 fn atom_of(bits: u8, choice: Option<Net>) -> Atom<Net>
     requires { IsWidth bits }
     ensures { result ≡ atom_of_choice bits choice }
@@ -101,7 +101,7 @@ fn differs(step: Step, read: LiveRead) -> bool
     }
 }
 
-// Whether there is one step alone, which is so. It is asked of every read of an image for every leaf, most of which stand at the end of one step.
+// Fast path: true if the path is a single step that leads by this offset. It is asked of every read of an image for every leaf, and most leaves are at the end of one step.
 fn misses(steps: &[Step], read: LiveRead) -> bool
     ensures { IsTrue result → (size : Size) (x y : ℕ) → LeadBy size steps.now read.dx read.dy x y → ⊥ }
 {
@@ -194,7 +194,8 @@ pub fn read_net(
     ensures adds { OnOk result (AddsControl b.new b.old) }
     ensures made { OnOk result (IfSome made.new (HasPosition b.new reader.now.plan.now reader.now.image)) }
     ensures ty { IfOk result (λ n. n.0 ≡ type_at reader.now.ir.now g) }
-    ensures net { IfOk result (λ n. (first : Netlist) → Includes b.old first → IsReadNet b.new first reader.now.plan.now reader.now.taps.now reader.now.image (leaf_at g steps.now) (width_of n.0) n.1) }
+    ensures net { IfOk result (λ n. (first : Netlist) → Includes b.old first
+        → IsReadNet b.new first reader.now.plan.now reader.now.taps.now reader.now.image (leaf_at g steps.now) (width_of n.0) n.1) }
 {
     reader.ir.law();
     let ty = reader.ir.type_of(g);

@@ -62,7 +62,8 @@ pub fn finished<F: BufferForm>(
     ensures behaves { IfOk result (λ r. Behaves r.module.netlist ir.now plan.now (F.places form.now) r.nets.items) }
     ensures bits { IfOk result (λ r. IsBufferBits r.module.netlist (bits_of plan.now)) }
     ensures arrays { IfOk result (λ r. r.module.netlist.arrays ≡ shapes_of (F.shapes form.now) plan.now plan.now.system.stencils.images) }
-    ensures property { IfOk result (λ r. (x : ℕ) → x < length r.module.netlist.arrays → F.property form.now (read_indices r.module.netlist x) (put_indices r.module.netlist x)) }
+    ensures property { IfOk result (λ r. (x : ℕ) → x < length r.module.netlist.arrays
+        → F.property form.now (read_indices r.module.netlist x) (put_indices r.module.netlist x)) }
     ensures nets { IfOk result (λ r. AreNetsOf r.module.netlist ir.now plan.now (F.shapes form.now) r.nets.items) }
     ensures apart { IfOk result (λ r. IsApart r.module.netlist ir.now plan.now (F.shapes form.now) r.nets.items) }
 {

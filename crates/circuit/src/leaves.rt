@@ -22,7 +22,7 @@ fn step_by(edge: Edge, dx: i32, dy: i32) -> Step
     Step { edge, dx, dy }
 }
 
-// A read that stands at the end of these steps, with its own step.
+// A read that is at the end of these steps, with its own step.
 fn push_read(
     b: &mut Builder,
     reader: &Reader,
@@ -47,7 +47,7 @@ fn push_read(
     Ok(())
 }
 
-// The test of a shifted part that stands at the end of these steps; a clamped one has none.
+// The test of a shifted part that is at the end of these steps; a clamped one has none.
 fn push_test(
     b: &mut Builder,
     reader: &Reader,
@@ -73,12 +73,12 @@ fn push_test(
 }
 
 // A law, called where the leaves of a part come after others: what they need is known there.
-fn still(b: &Builder, reader: &Reader)
+fn still_law(b: &Builder, reader: &Reader)
     requires { IsReading b.now reader.now.ir.now reader.now.plan.now reader.now.taps.now reader.now.image }
     ensures { IsReading b.now reader.now.ir.now reader.now.plan.now reader.now.taps.now reader.now.image }
 {}
 
-// Adds the nets of the leaves of an expression that stands at the end of these steps. It calls itself as deep as the expression is.
+// Adds the nets of the leaves of an expression that is at the end of these steps. It calls itself as deep as the expression is.
 pub fn push_leaves(
     e: &Expr,
     b: &mut Builder,
@@ -104,7 +104,7 @@ pub fn push_leaves(
         Expr::Shifted(edge, dx, dy, body) => {
             steps.push(step_by(*edge, *dx, *dy))?;
             push_test(b, reader, made, steps, *edge, leaves)?;
-            still(b, reader);
+            still_law(b, reader);
             push_leaves(body, b, reader, made, steps, leaves)?;
             steps.pop();
             Ok(())
@@ -112,15 +112,15 @@ pub fn push_leaves(
         Expr::Unary(_, body) => push_leaves(body, b, reader, made, steps, leaves),
         Expr::Binary(_, left, right) => {
             push_leaves(left, b, reader, made, steps, leaves)?;
-            still(b, reader);
+            still_law(b, reader);
             push_leaves(right, b, reader, made, steps, leaves)?;
             Ok(())
         }
         Expr::Select(condition, first, second) => {
             push_leaves(condition, b, reader, made, steps, leaves)?;
-            still(b, reader);
+            still_law(b, reader);
             push_leaves(first, b, reader, made, steps, leaves)?;
-            still(b, reader);
+            still_law(b, reader);
             push_leaves(second, b, reader, made, steps, leaves)?;
             Ok(())
         }

@@ -19,7 +19,7 @@ mod valid;
 
 pub use finishing::Built;
 pub use forms::{BufferForm, Chain, Ring};
-pub use laws::frame_drive;
+pub use laws::frame_drive_law;
 pub use making::{build, build_with};
 pub use options::Options;
 pub use slots::Slot;

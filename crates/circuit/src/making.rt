@@ -80,7 +80,7 @@ fn add_images<F: BufferForm>(
     Ok(())
 }
 
-/// The module of a program: its ports, for each kept image its net and behind it its buffer, and its outputs. The plan is of the program's stencils, with the age that is asked.
+/// The module of a program: its ports, for each kept image its net and after it its buffer, and its outputs. The plan is of the program's stencils, with the age that is asked.
 pub fn build_with<F: BufferForm>(
     alloc: Global,
     ir: &Ir,
@@ -96,7 +96,8 @@ pub fn build_with<F: BufferForm>(
     ensures behaves { IfOk result (λ r. Behaves r.module.netlist ir.now plan.now (F.places form.now) r.nets.items) }
     ensures bits { IfOk result (λ r. IsBufferBits r.module.netlist (bits_of plan.now)) }
     ensures arrays { IfOk result (λ r. r.module.netlist.arrays ≡ shapes_of (F.shapes form.now) plan.now plan.now.system.stencils.images) }
-    ensures property { IfOk result (λ r. (x : ℕ) → x < length r.module.netlist.arrays → F.property form.now (read_indices r.module.netlist x) (put_indices r.module.netlist x)) }
+    ensures property { IfOk result (λ r. (x : ℕ) → x < length r.module.netlist.arrays
+        → F.property form.now (read_indices r.module.netlist x) (put_indices r.module.netlist x)) }
     ensures nets { IfOk result (λ r. AreNetsOf r.module.netlist ir.now plan.now (F.shapes form.now) r.nets.items) }
     ensures apart { IfOk result (λ r. IsApart r.module.netlist ir.now plan.now (F.shapes form.now) r.nets.items) }
 {
@@ -122,7 +123,8 @@ pub fn build<F: BufferForm>(
     ensures behaves { IfOk result (λ r. Behaves r.module.netlist ir.now plan.now (F.places form.now) r.nets.items) }
     ensures bits { IfOk result (λ r. IsBufferBits r.module.netlist (bits_of plan.now)) }
     ensures arrays { IfOk result (λ r. r.module.netlist.arrays ≡ shapes_of (F.shapes form.now) plan.now plan.now.system.stencils.images) }
-    ensures property { IfOk result (λ r. (x : ℕ) → x < length r.module.netlist.arrays → F.property form.now (read_indices r.module.netlist x) (put_indices r.module.netlist x)) }
+    ensures property { IfOk result (λ r. (x : ℕ) → x < length r.module.netlist.arrays
+        → F.property form.now (read_indices r.module.netlist x) (put_indices r.module.netlist x)) }
     ensures nets { IfOk result (λ r. AreNetsOf r.module.netlist ir.now plan.now (F.shapes form.now) r.nets.items) }
 {
     let options = Options {

@@ -29,7 +29,7 @@ fn same_latency(plan: &Plan, k: usize) -> Option<usize>
     None
 }
 
-// The valid of the output behind these: that of one of them, or a new one.
+// The valid of the output after these: that of one of them, or a new one.
 fn valid_behind(b: &mut Builder, plan: &Plan, outs: &[(Net, Net)]) -> Result<Net, OutOfMemory>
     requires within { length outs.now < length plan.now.system.stencils.outputs }
     requires valids { AreValids b.old plan.now outs.now }
@@ -58,7 +58,7 @@ fn dout_at(plan: &Plan, nets: &[Net], k: usize) -> Net
     nets[plan.place(g)]
 }
 
-// The output behind these.
+// The output after these.
 fn out_behind(
     b: &mut Builder,
     plan: &Plan,

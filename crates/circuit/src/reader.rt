@@ -20,7 +20,7 @@ pub struct Reader<'a> {
     pub image: u32,
 }
 
-// Where an age stands among the ages of an image.
+// The place of an age among the ages of an image.
 fn place_of_age(ages: &[u64], age: u64) -> usize
     requires ascending { IsStrictlyIncreasing ages.now }
     requires there { Contains ages.now age }

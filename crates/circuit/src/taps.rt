@@ -5,7 +5,7 @@ ghost use Rattle.std.specs.Prelude.{◌≡◌};
 use std::marker::Model;
 use wiring::Net;
 
-/// One net for each distinct age of an image, ascending: in a counted clock it has the pixel of so many clocks before.
+/// One net for each distinct age of an image, ascending: in a counted clock it has the pixel of this many clocks before.
 #[derive(Debug, Drop)]
 pub struct Taps {
     nets: Vec<Net>,

@@ -68,7 +68,7 @@ fn disturb(sim: &mut Sim, clocks: u64, given: &[&[u64]], outs: &mut [Out]) -> Re
     quiet(sim, true, false, first, outs)
 }
 
-// What the outputs show in each of these clocks after a reset clock. A disturbed run has so many other clocks first and then a second reset, and a held clock after each clock.
+// What the outputs show in each of these clocks after a reset clock. A disturbed run has this many other clocks first and then a second reset, and a held clock after each clock.
 fn shown(
     alloc: Global,
     module: &Module,

@@ -1,11 +1,11 @@
 -- What the ports are given, and what is shown of a clock.
 use Rattle.std.proofs.Common.{◌≡◌, ℕ, ◌*◌, ◌^◌, ◌<◌, Bool, true, false, List, [], ◌∷◌, length, drop, refl, ap, sym, subst, ◌∙◌, arith, Some, lit<}
-use Rattle.std.specs.Prelude.{if◌then◌else◌, slice_get}
+use Rattle.std.specs.Prelude.{All, if◌then◌else◌, slice_get}
 use Rattle.std.proofs.lemmas.Option.{slice_get_within, same_Some}
 use Rattle.wiring.specs.Netlist.{Netlist}
 use Rattle.wiring.specs.Snapshot.{Snapshot, Fit}
 use Rattle.wiring.specs.Clock.{Clock, bit, given}
-use Rattle.wiring.specs.Rules.{KeepsRules, ArePorts, with_valids}
+use Rattle.wiring.specs.Rules.{KeepsRules, ArePorts, IsPortCount, IsPortWidth, with_valids}
 use Rattle.cycle_sim.specs.declared.ports.Out.{Out}
 use Rattle.cycle_sim.specs.OneClock.{port_values}
 use Rattle.cycle_sim.specs.Ports.{din_widths, out_of, IsShown, AreShown}
@@ -23,6 +23,16 @@ fit_by false inputs outputs ports r e dins h =
 -- where each din fits its port, all inputs fit theirs
 pub given_fit : (m : Netlist) → KeepsRules m → (c : Clock) → Fit (din_widths m) c.dins → Fit m.inputs (given m c)
 given_fit m rules c fits = fit_by m.enable m.inputs m.outputs rules.ports c.reset c.enable c.dins fits
+
+dins_are : (enable : Bool) (inputs outputs : List ℕ) (p : ArePorts enable inputs outputs) → drop (if enable then 2 else 1) inputs ≡ p.dins
+dins_are true inputs outputs p = ap (λ z. drop 2 z) p.inputs_are
+dins_are false inputs outputs p = ap (λ z. drop 1 z) p.inputs_are
+
+-- there are 1 to 8 dins, each of 1 to 16 bits
+pub din_ports : (m : Netlist) → KeepsRules m → IsPortCount (length (din_widths m)) × All IsPortWidth (din_widths m)
+din_ports m rules =
+    let e = dins_are m.enable m.inputs m.outputs rules.ports in
+    (subst (λ z. IsPortCount (length z)) (sym e) rules.ports.din_count, subst (λ z. All IsPortWidth z) (sym e) rules.ports.din_widths)
 
 -- each output has two ports
 pub valids_even : (douts : List ℕ) → length (with_valids douts) ≡ 2 * length douts

@@ -15,7 +15,7 @@ use Rattle.wiring.specs.Sizes.{IsConstant}
 use Rattle.cycle_sim.specs.Slots.{rename, rename_atom, IsNarrow}
 
 module _ {N M : Type 0} (f : N → M) (v w : N → ℕ) (v' w' : M → ℕ) where
-  -- the names stand for the same values and widths
+  -- the names denote the same values and widths
   abbrev pub Same : List N → Type 0
   Same ns = (n : N) → Contains ns n → (v' (f n) ≡ v n) × (w' (f n) ≡ w n)
 

@@ -31,7 +31,7 @@ module _ (m : Netlist) (rules : KeepsRules m) where
         let declared = All-contains (IsDeclared m) (nets_of a.right) n sound.right.nets c in
         (flat_at m s n ready.shape declared, flat_width_at m n declared)
 
-    -- the instruction gives what the assign wants
+    -- the instruction returns the value of the assign
     pub instruction_is : instruction_value (all_widths m) s.contents.arrays (all_values s) (instruction m a) ≡ right_value (net_width m) (word_value s) (net_value s) a.right
     instruction_is = right_renamed (slot m) (net_value s) (net_width m) (λ x. slice_index (all_values s) x) (λ x. slice_index (all_widths m) x) (word_value s) a.right same_names
 

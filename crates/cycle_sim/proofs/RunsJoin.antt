@@ -84,7 +84,7 @@ module _ (m : Netlist) where
         RanToStop m output (c ∷ []) mid between to samples x i → RanToStop m output (cs ++ c ∷ rest) from before to samples x i
     stop_later cs c rest from mid to before between samples x i h g = stop_after cs c rest from mid to before between samples x i h g.shots g.stop g.run g.shown
 
--- an item of a list, what stands before it, and what stands behind it, each under a function
+-- an item of a list, what comes before it, and what follows it, each under a function
 around_suc : {A B : Type 0} (f : A → B) (xs : List A) (k : ℕ) (x : A) → slice_get xs k ≡ Some x → (map f (take (suc k) xs) ≡ map f (take k xs) ++ f x ∷ []) × (map f xs ≡ map f (take k xs) ++ f x ∷ map f (drop (suc k) xs))
 around_suc f [] k x at = absurd (omega (arith, slice_get_within [] k x at))
 around_suc f (y ∷ xs) zero x at = let e : y ≡ x = same_Some y x at in (ap (λ z. f z ∷ []) e, ap (λ z. f z ∷ map f xs) e)

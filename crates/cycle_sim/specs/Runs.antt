@@ -14,7 +14,7 @@ clock_of c = record { reset = c.reset; enable = c.enable; dins = c.dins.items }
 abbrev pub clocks_of : List GivenClock → List Clock
 clocks_of clocks = map clock_of clocks
 
--- the run goes to the end of the list, and the samples are those before it with its picture behind them
+-- the run goes to the end of the list, and the samples are those before it with its picture after them
 pub record Ran (m : Netlist) (output : ℕ) (clocks : List Clock) (from : Contents) (before : List ℕ) (to : Contents) (samples : List ℕ) : Type 0 where
   pub shots : List Snapshot
   pub run : Runs m from clocks shots to
@@ -27,7 +27,7 @@ pub record RanToStop (m : Netlist) (output : ℕ) (clocks : List Clock) (from : 
   pub run : Runs m from (take (length shots) clocks) shots to
   pub shown : samples ≡ before ++ picture output shots
 
--- a run stops, or for want of memory no clock of it takes place
+-- a run stops, or no clock of it takes place because of out of memory
 abbrev pub EndsEarly : Netlist → ℕ → List Clock → Contents → List ℕ → Contents → List ℕ → RunFault → Type 0
 EndsEarly m output clocks from before to samples (Stopped range) = RanToStop m output clocks from before to samples range.array range.index
 EndsEarly m output clocks from before to samples OutOfMemory = (to ≡ from) × (samples ≡ before)

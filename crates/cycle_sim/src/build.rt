@@ -157,7 +157,8 @@ pub fn code_of(
 }
 
 fn note_assign(accesses: &mut Vec<Access>, layout: Layout, a: &Assign) -> Result<(), AllocError>
-    ensures { OnOk result ((m : Netlist) → IsLayout m layout → All (IsDeclared m) (nets_of a.now.right) → accesses.new.items ≡ accesses.old.items ++ map (access m) (assign_accesses_of a.now)) }
+    ensures { OnOk result ((m : Netlist) → IsLayout m layout → All (IsDeclared m) (nets_of a.now.right)
+        → accesses.new.items ≡ accesses.old.items ++ map (access m) (assign_accesses_of a.now)) }
 {
     match a.right {
         Right::Word(array, index) => {
@@ -170,7 +171,8 @@ fn note_assign(accesses: &mut Vec<Access>, layout: Layout, a: &Assign) -> Result
 }
 
 fn note_update(accesses: &mut Vec<Access>, layout: Layout, u: &Update) -> Result<(), AllocError>
-    ensures { OnOk result ((m : Netlist) → IsLayout m layout → UpdateIsSound m u.now → accesses.new.items ≡ accesses.old.items ++ map (access m) (update_accesses u.now)) }
+    ensures { OnOk result ((m : Netlist) → IsLayout m layout → UpdateIsSound m u.now
+        → accesses.new.items ≡ accesses.old.items ++ map (access m) (update_accesses u.now)) }
 {
     match *u {
         Update::Put(array, index, _) => {

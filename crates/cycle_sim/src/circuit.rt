@@ -10,7 +10,7 @@ use crate::build::program_of;
 use crate::edge::IndexRange;
 use crate::fill::{Fill, filled_arrays, filled_slots};
 use crate::machine::{Program, edge_vec, exchange_arrays, exchange_vec, settle_vec};
-use crate::ports::{all_fit, dins_of, output_count};
+use crate::ports::{all_fit, dins_in, output_count};
 use netlist::{Module, Wiring};
 use std::alloc::{AllocError, Global};
 use std::marker::Model;
@@ -54,7 +54,7 @@ fn copy_of(alloc: Global, wiring: &Wiring) -> Result<Wiring, AllocError>
     })
 }
 
-// So many numbers from this place on.
+// `count` numbers from this place on.
 fn part(numbers: &[u64], from: usize, count: usize) -> &[u64]
     requires { from + count ≤ length numbers.now }
     ensures items { result.now ≡ take count (drop from numbers.now) }
@@ -98,8 +98,8 @@ impl Circuit {
         ensures fit { FitsContents self.now.netlist self.now.shot.contents }
     {
         let _order = &self.order;
-        wiring::one_valuation();
-        wiring::one_next();
+        wiring::one_valuation_law();
+        wiring::one_next_law();
     }
 
     // Whether these are a number for each din, each fitting its port.
@@ -107,7 +107,7 @@ impl Circuit {
         ensures yes { IsTrue result → Fit (din_widths self.now.netlist) dins.now }
         ensures no { Fit (din_widths self.now.netlist) dins.now → IsTrue result }
     {
-        all_fit(dins_of(&self.wiring), dins)
+        all_fit(dins_in(&self.wiring), dins)
     }
 
     // The number of outputs, of two ports each.
@@ -134,14 +134,16 @@ impl Circuit {
         part(&self.values, first, self.wiring.outputs.len())
     }
 
-    // The nets take the values of a clock that is given these. Told is the first access outside its array. It takes no memory.
+    // The nets take the values of a clock with these inputs. Returns the first access outside its array. It takes no memory.
     pub fn settle(&mut self, reset: bool, enable: bool, dins: &[u64]) -> Result<(), IndexRange>
         requires { Fit (din_widths self.old.netlist) dins.now }
         ensures netlist { self.new.netlist ≡ self.old.netlist }
         ensures shot { SnapshotOf self.old.netlist self.old.shot.contents (given self.old.netlist (record { reset = reset; enable = enable; dins = dins.now })) self.new.shot }
         ensures ok { OnOk result (IsInRange self.old.netlist self.new.shot) }
         ensures stops { IfErr result (λ r. StopsAt self.old.netlist self.new.shot r.array r.index) }
-        ensures only { (x i : ℕ) → Stops self.old.netlist self.old.shot.contents (given self.old.netlist (record { reset = reset; enable = enable; dins = dins.now })) x i → result ≡ Err (record { array = x; index = i }) }
+        ensures only { (x i : ℕ)
+            → Stops self.old.netlist self.old.shot.contents (given self.old.netlist (record { reset = reset; enable = enable; dins = dins.now })) x i
+            → result ≡ Err (record { array = x; index = i }) }
     {
         settle_vec(
             &self.program,

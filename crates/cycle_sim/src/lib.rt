@@ -15,6 +15,6 @@ mod sim;
 pub use build::{Layout, atom_of, layout_of, right_of, slot_of, widths_of_wiring};
 pub use edge::IndexRange;
 pub use fill::Fill;
-pub use ports::Out;
+pub use ports::{Out, dins_of};
 pub use running::{Clock, RunFault, clocks_fit, run};
 pub use sim::Sim;

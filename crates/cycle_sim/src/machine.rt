@@ -22,7 +22,7 @@ pub struct Program {
     pub first_reg: usize,
 }
 
-// The values settle by what the ports are given. Told is the first access outside its array.
+// The values settle by what the ports are given. Returns the first access outside its array.
 pub fn settle_ports(
     program: &Program,
     values: &mut [u64],
@@ -68,7 +68,8 @@ pub fn settle_vec(
 ) -> Result<(), IndexRange>
     requires inputs { length (port_values program.now.enable reset enable dins.now) ≤ length values.old.items }
     requires code { CodeIsSafe program.now.widths.items (words_of arrays.now.items) program.now.code.items (with_inputs (port_values program.now.enable reset enable dins.now) values.old.items) }
-    ensures values { values.new.items ≡ settled_values program.now (words_of arrays.now.items) (port_values program.now.enable reset enable dins.now) values.old.items }
+    ensures values { values.new.items
+        ≡ settled_values program.now (words_of arrays.now.items) (port_values program.now.enable reset enable dins.now) values.old.items }
     ensures ok { OnOk result (All (IsAccessInside (words_of arrays.now.items) (settled_values program.now (words_of arrays.now.items) (port_values program.now.enable reset enable dins.now) values.old.items)) program.now.accesses.items) }
     ensures stops { IfErr result (IsFirstOutside (words_of arrays.now.items) (settled_values program.now (words_of arrays.now.items) (port_values program.now.enable reset enable dins.now) values.old.items) program.now.accesses.items) }
 {
@@ -85,7 +86,8 @@ pub fn edge_vec(
     requires edges { EdgesAreSafe values.old.items program.now.edges.items (length staged.old.items) (words_of arrays.old.items) }
     requires regs { program.now.first_reg + length staged.old.items ≤ length values.old.items }
     ensures staged { staged.new.items ≡ run_sets values.old.items program.now.edges.items staged.old.items }
-    ensures values { values.new.items ≡ take program.now.first_reg values.old.items ++ staged.new.items ++ drop (program.now.first_reg + length staged.new.items) values.old.items }
+    ensures values { values.new.items
+        ≡ take program.now.first_reg values.old.items ++ staged.new.items ++ drop (program.now.first_reg + length staged.new.items) values.old.items }
     ensures arrays { words_of arrays.new.items ≡ run_puts values.old.items program.now.edges.items (words_of arrays.old.items) }
 {
     take_edge(program, values, staged, arrays);

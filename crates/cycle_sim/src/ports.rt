@@ -1,12 +1,12 @@
 // What the ports take and show.
 
-ghost use Rattle.std.specs.Prelude.{◌≡◌, ℕ, ◌+◌, ◌*◌, ◌<◌, length, slice_get, Some, IsTrue, if◌then◌else◌};
+ghost use Rattle.std.specs.Prelude.{◌≡◌, ℕ, ◌+◌, ◌*◌, ◌<◌, length, slice_get, All, Some, IsTrue, if◌then◌else◌};
 ghost use Rattle.wiring.specs.Netlist.{netlist_of};
-ghost use Rattle.wiring.specs.Rules.{KeepsRules};
+ghost use Rattle.wiring.specs.Rules.{KeepsRules, IsPortCount, IsPortWidth};
 ghost use Rattle.wiring.specs.Snapshot.{Fit};
 ghost use Rattle.cycle_sim.specs.Ports.{din_widths, out_of};
 
-use netlist::{Width, Wiring};
+use netlist::{Module, Width, Wiring};
 use wiring::limit;
 
 /// What the two ports of an output show.
@@ -62,11 +62,21 @@ fn first_din(has_enable: bool) -> usize
 }
 
 // The widths of the din ports.
-pub fn dins_of(wiring: &Wiring) -> &[Width]
+pub fn dins_in(wiring: &Wiring) -> &[Width]
     requires { KeepsRules (netlist_of wiring.now) }
     ensures { result.now ≡ din_widths (netlist_of wiring.now) }
 {
     wiring.inputs.split_at(first_din(wiring.enable)).1
+}
+
+/// The widths of a module's dins in bits, the first din first.
+pub fn dins_of(module: &Module) -> &[Width]
+    ensures widths { result.now ≡ din_widths «module».now.netlist }
+    ensures count { IsPortCount (length result.now) }
+    ensures ports { All IsPortWidth result.now }
+{
+    let wiring = module.wiring();
+    dins_in(wiring)
 }
 
 // The number of outputs.

@@ -12,7 +12,7 @@ ghost use Rattle.cycle_sim.specs.declared.running.RunFault.TheVariants.{Stopped,
 use crate::edge::IndexRange;
 use crate::ports::Out;
 use crate::sim::Sim;
-use netlist::one_run;
+use netlist::one_run_law;
 
 /// What the ports are given in a clock. Without the port `en` its value is not looked at.
 #[derive(Debug, Drop)]
@@ -116,14 +116,17 @@ pub fn run(
     ensures netlist { sim.new.netlist ≡ sim.old.netlist }
     ensures ok { OnOk result (Ran sim.old.netlist output (clocks_of clocks.now) sim.old.contents samples.old.items sim.new.contents samples.new.items) }
     ensures err { IfErr result (EndsEarly sim.old.netlist output (clocks_of clocks.now) sim.old.contents samples.old.items sim.new.contents samples.new.items) }
-    ensures to_end { (to : Contents) (all : List ℕ) → Ran sim.old.netlist output (clocks_of clocks.now) sim.old.contents samples.old.items to all → (result ≡ Err OutOfMemory) ⊎ (IsOk result × (sim.new.contents ≡ to) × (samples.new.items ≡ all)) }
-    ensures to_stop { (to : Contents) (all : List ℕ) (x i : ℕ) → RanToStop sim.old.netlist output (clocks_of clocks.now) sim.old.contents samples.old.items to all x i → (result ≡ Err OutOfMemory) ⊎ ((result ≡ Err (Stopped (record { array = x; index = i }))) × (sim.new.contents ≡ to) × (samples.new.items ≡ all)) }
+    ensures to_end { (to : Contents) (all : List ℕ) → Ran sim.old.netlist output (clocks_of clocks.now) sim.old.contents samples.old.items to all
+        → (result ≡ Err OutOfMemory) ⊎ (IsOk result × (sim.new.contents ≡ to) × (samples.new.items ≡ all)) }
+    ensures to_stop { (to : Contents) (all : List ℕ) (x i : ℕ)
+        → RanToStop sim.old.netlist output (clocks_of clocks.now) sim.old.contents samples.old.items to all x i → (result ≡ Err OutOfMemory)
+        ⊎ ((result ≡ Err (Stopped (record { array = x; index = i }))) × (sim.new.contents ≡ to) × (samples.new.items ≡ all)) }
     ensures room { vec_len samples.old + length clocks.now ≤ vec_capacity samples.old → result ≢ Err OutOfMemory }
     ensures count { vec_len samples.new ≤ vec_len samples.old + length clocks.now }
     ensures capacity { vec_capacity samples.old ≤ vec_capacity samples.new }
 {
     sim.law();
-    one_run();
+    one_run_law();
     if samples.try_reserve(clocks.len()).is_err() {
         return Err(RunFault::OutOfMemory);
     }

@@ -90,7 +90,7 @@ two_known f x y left right s e g = sym (ap (λ v. f v (bits_of s y)) (bits_known
 pub one_known : (f : ℕ → ℕ) (x : Signal) (v : ℕ) (s : Snapshot) → known_value x ≡ Some v → f v ≡ f (bits_of s x)
 one_known f x v s e = sym (ap f (bits_known x v s e))
 
--- so many copies of a bit
+-- this many copies of a bit
 pub no_copies : (count bit : ℕ) → bit ≡ 0 → 0 ≡ repeated count 1 bit
 no_copies count bit e = sym (ap (repeated count 1) e ∙ copies_zero count)
 

@@ -1,4 +1,4 @@
--- The parts of an expression: where their leaves stand, that they are typed, and of what their nets are made.
+-- The parts of an expression: where their leaves are, that they are typed, and of what their nets are made.
 use Rattle.std.proofs.Common.{ℕ, ℤ, ◌≡◌, ◌+◌, ◌<◌, ◌≤◌, [], ◌∷◌, ap, subst, sym, ◌∙◌, List, length, arith}
 use Rattle.std.specs.Prelude.{slice_get, Some, IsTrue}
 use Rattle.dk_base.specs.declared.ty.Ty.{Ty}

@@ -48,7 +48,7 @@ signed_bits w n k some h =
           wide_negative w n k some high h ∙ sym (ap (λ x. x * 2 ^ w + n) s)
     ]
 
--- what stands where x's type is known
+-- what is where x's type is known
 of_type : (b : Netlist) (x : Operand) (t : Ty) (r : Signal) (m : ℕ) → x.ty ≡ t → IsWord b r m (λ nets. code m (number t (bits_of nets x.bits))) → IsWord b r m (λ nets. code m (worth nets x))
 of_type b x t r m e word = record {
   width = word.width;

@@ -1,4 +1,4 @@
--- The values of expressions over the values of their leaves, which stand in the order of the nodes: a net for each read, and a bit for each shifted part that is not clamped.
+-- The values of expressions over the values of their leaves, which are in the order of the nodes: a net for each read, and a bit for each shifted part that is not clamped.
 use Rattle.std.specs.Prelude.{◌≡◌, ℕ, ◌+◌, ◌<◌, ◌≤◌, ℤ, pos, Bool, IsTrue, false, nat_eq, List, length, slice_get, Option, Some, None, if◌then◌else◌}
 use Rattle.dk_base.specs.declared.ty.Ty.{Ty}
 use Rattle.dk_base.specs.declared.ty.Ty.TheVariants.{Unsigned}
@@ -46,12 +46,12 @@ TakesNumber Divide k = 0 < k
 TakesNumber ShiftLeft k = k ≤ 63
 TakesNumber ShiftRight k = k ≤ 63
 
--- one bit stands for a shifted part, none where it is clamped
+-- one bit denotes a shifted part, none where it is clamped
 abbrev pub edge_bits : Edge → ℕ
 edge_bits Zero = 1
 edge_bits Clamp = 0
 
--- how many leaves of each sort stand in an expression
+-- how many leaves of each sort are in an expression
 abbrev pub reads_in : Tree → ℕ
 reads_in (constant v t) = 0
 reads_in (read edge g dx dy) = 1
@@ -72,11 +72,11 @@ bits_in (select c a b) = bits_in c + bits_in a + bits_in b
 bits_in (convert how a t) = bits_in a
 bits_in (scale op a k) = bits_in a
 
--- neither a read nor an unclamped step stands in it
+-- neither a read nor an unclamped step is in it
 abbrev pub IsLeafless : Tree → Type 0
 IsLeafless e = (reads_in e ≡ 0) × (bits_in e ≡ 0)
 
--- An expression's type over the types of its reads, which stand in order from the n-th on.
+-- An expression's type over the types of its reads, which are in order from the n-th on.
 abbrev pub type_of : Tree → (ℕ → Ty) → ℕ → Ty
 type_of (constant v t) types n = t
 type_of (read edge g dx dy) types n = types n
@@ -99,7 +99,7 @@ IsTyped (select c a b) types n =
 IsTyped (convert how a t) types n = IsTyped a types n × IsType t
 IsTyped (scale op a k) types n = IsTyped a types n × TakesNumber op k × IsType (scaling_result op (type_of a types n) k)
 
--- the reads, from the n-th on, stand for images of these types
+-- the reads, from the n-th on, denote images of these types
 abbrev pub AreReadsOf : List Ty → Tree → (ℕ → Ty) → ℕ → Type 0
 AreReadsOf images (constant v t) types n = Unit {0}
 AreReadsOf images (read edge g dx dy) types n = slice_get images g ≡ Some (types n)
@@ -173,7 +173,7 @@ pub record AreLeavesMade (m : Netlist) (base : Holder → Bool) (reads : List (T
   pub read : (k : ℕ) (leaf : Ty × Net) → slice_get reads k ≡ Some leaf → IsMadeOf m base (OfNet leaf.1)
   pub bit : (k : ℕ) (n : Net) → slice_get bits k ≡ Some n → IsMadeOf m base (OfNet n)
 
--- made of the leaves' nets alone: in every netlist that includes this one it is made of whatever they are made of
+-- made only of the leaves' nets: in every netlist that includes this one it is made of whatever they are made of
 pub record IsMadeOfLeaves (part : Netlist) (r : Signal) (reads : List (Ty × Net)) (bits : List Net) : Type 0 where
   pub made : (m : Netlist) (base : Holder → Bool) → IsPartOf part m → AreLeavesMade m base reads bits → IsMade m base r
 

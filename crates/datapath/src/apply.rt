@@ -10,7 +10,7 @@ ghost use Rattle.datapath.specs.Operands.{IsOperand, Carries, worth};
 ghost use Rattle.datapath.specs.Expressions.{unary_result, scaling_result, TakesOperand, TakesNumber};
 
 use crate::arithmetic::{difference, negation, product, sum};
-use crate::bits::{conjunction, disjunction, negated, parity};
+use crate::bits::{bit_complement, conjunction, disjunction, exclusive_or};
 use crate::comparison::{
     cast, is_at_least, is_at_most, is_equal, is_less, is_unequal, maximum, minimum,
 };
@@ -53,7 +53,7 @@ pub fn binary(
         Binary::NotEqual => is_unequal(b, x, y),
         Binary::And => conjunction(b, x, y),
         Binary::Or => disjunction(b, x, y),
-        Binary::Xor => parity(b, x, y),
+        Binary::Xor => exclusive_or(b, x, y),
         Binary::Min => minimum(b, x, y),
         Binary::Max => maximum(b, x, y),
     }
@@ -71,7 +71,7 @@ pub fn unary(b: &mut Builder, operator: Unary, x: Operand) -> Result<Operand, Ou
 {
     match operator {
         Unary::Negate => negation(b, x),
-        Unary::Not => negated(b, x),
+        Unary::Not => bit_complement(b, x),
         Unary::Abs => magnitude(b, x),
     }
 }

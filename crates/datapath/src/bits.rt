@@ -54,9 +54,9 @@ pub fn disjunction(b: &mut Builder, x: Operand, y: Operand) -> Result<Operand, O
     })
 }
 
-/// The bits that one of the operands alone has.
+/// The bits that exactly one of the operands has.
 #[tactic(auto, using(crate::proofs::Carried::later))]
-pub fn parity(b: &mut Builder, x: Operand, y: Operand) -> Result<Operand, OutOfMemory>
+pub fn exclusive_or(b: &mut Builder, x: Operand, y: Operand) -> Result<Operand, OutOfMemory>
     requires x { IsOperand b.old x }
     requires y { IsOperand b.old y }
     requires unsigned { IsTrue (not (is_signed x.ty || is_signed y.ty)) }
@@ -77,7 +77,7 @@ pub fn parity(b: &mut Builder, x: Operand, y: Operand) -> Result<Operand, OutOfM
 
 /// The other bit.
 #[tactic(auto, using(crate::proofs::Carried::later))]
-pub fn negated(b: &mut Builder, x: Operand) -> Result<Operand, OutOfMemory>
+pub fn bit_complement(b: &mut Builder, x: Operand) -> Result<Operand, OutOfMemory>
     requires x { IsOperand b.old x }
     requires bit { x.ty ≡ Ty.Unsigned 1 }
     ensures grows { Grows b.old b.new }

@@ -9,7 +9,7 @@ ghost use Rattle.dk_base.specs.Operators.{truth, select_value as chosen};
 ghost use Rattle.std.specs.Int.{int_min, int_max};
 ghost use Rattle.std.specs.Ordering.{int_eq};
 
-use crate::bits::negated;
+use crate::bits::bit_complement;
 use crate::constants::top_bit;
 use crate::operand::{Operand, Signal};
 use crate::resize::resized;
@@ -170,7 +170,7 @@ pub fn is_at_most(b: &mut Builder, x: Operand, y: Operand) -> Result<Operand, Ou
     ensures folds { IfOk result (λ r. Folds b.old b.new r.bits (x.bits ∷ (y.bits ∷ []))) }
 {
     let opposite = is_less(b, y, x)?;
-    let negation = negated(b, opposite)?;
+    let negation = bit_complement(b, opposite)?;
     Ok(negation)
 }
 
@@ -186,7 +186,7 @@ pub fn is_at_least(b: &mut Builder, x: Operand, y: Operand) -> Result<Operand, O
     ensures folds { IfOk result (λ r. Folds b.old b.new r.bits (x.bits ∷ (y.bits ∷ []))) }
 {
     let opposite = is_less(b, x, y)?;
-    let negation = negated(b, opposite)?;
+    let negation = bit_complement(b, opposite)?;
     Ok(negation)
 }
 
@@ -202,6 +202,6 @@ pub fn is_unequal(b: &mut Builder, x: Operand, y: Operand) -> Result<Operand, Ou
     ensures folds { IfOk result (λ r. Folds b.old b.new r.bits (x.bits ∷ (y.bits ∷ []))) }
 {
     let opposite = is_equal(b, x, y)?;
-    let negation = negated(b, opposite)?;
+    let negation = bit_complement(b, opposite)?;
     Ok(negation)
 }

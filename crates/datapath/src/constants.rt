@@ -25,7 +25,7 @@ pub(crate) fn constant(width: u8, value: u64) -> Signal
     Signal::Constant(width, value)
 }
 
-// The number of `width` bits whose highest bit alone is 1.
+// The number of `width` bits of which only the highest bit is 1.
 #[tactic(auto, using(std::proofs::lemmas::Nat::one_shl, std::proofs::lemmas::Nat::pow_below))]
 fn half(width: u8) -> u64
     requires { IsWidth width }
@@ -35,7 +35,7 @@ fn half(width: u8) -> u64
     1 << (width - 1)
 }
 
-// The constant of `width` bits whose highest bit alone is 1.
+// The constant of `width` bits of which only the highest bit is 1.
 pub(crate) fn top_bit(width: u8) -> Signal
     requires { IsWidth width }
     ensures is { result ≡ signal.Constant width (2 ^ (width - 1)) }
@@ -67,7 +67,7 @@ fn evaluated_width(operator: Operator, width: u8) -> u8
     }
 }
 
-// So many copies of a bit.
+// This many copies of a bit.
 fn copies(count: u8, bit: u64) -> u64
     requires count { IsWidth count }
     requires bit { bit < 2 ^ 1 }
@@ -119,7 +119,7 @@ pub(crate) fn folded_join(b: &Builder, high: u8, x: Signal, low: u8, y: Signal) 
     Some(constant(high + low, value))
 }
 
-// So many copies of a constant bit, or None of a net.
+// This many copies of a constant bit, or None of a net.
 pub(crate) fn folded_repeat(b: &Builder, count: u8, x: Signal) -> Option<Signal>
     requires width { IsWidth count }
     requires x { HasWidth b.now x 1 }

@@ -24,7 +24,7 @@ use net_build::Builder;
 use pointwise_ir::{Edge, Expr};
 use wiring::Net;
 
-/// What stands for the leaves of an expression, in the order of its nodes: a type and a net for each read, and a net of one bit for each shifted part that is not clamped.
+/// What denotes the leaves of an expression, in the order of its nodes: a type and a net for each read, and a net of one bit for each shifted part that is not clamped.
 #[derive(Debug, Drop)]
 pub struct Leaves {
     pub reads: Vec<(Ty, Net)>,
@@ -147,14 +147,14 @@ fn shifted(
 }
 
 // A law, called where the walk of a part begins after another's: what it needs is known there.
-fn begins(part: &Expr, b: &Builder, reads: &[(Ty, Net)], bits: &[Net], at: Place)
+fn begins_law(part: &Expr, b: &Builder, reads: &[(Ty, Net)], bits: &[Net], at: Place)
     requires leaves { LeavesAreOperands b.now reads.now bits.now }
     requires part { IsPartAt (tree_of part.now) reads.now bits.now at.read at.bit }
     ensures leaves { LeavesAreOperands b.now reads.now bits.now }
     ensures part { IsPartAt (tree_of part.now) reads.now bits.now at.read at.bit }
 {}
 
-// The operand of a part of an expression, whose leaves stand from a place on.
+// The operand of a part of an expression, whose leaves begin at a place on.
 #[tactic(auto, using(crate::proofs::Carried::later))]
 fn walk(
     e: &Expr,
@@ -183,17 +183,17 @@ fn walk(
         Expr::Binary(operator, left, right) => {
             let x = walk(left, b, reads, bits, at)?;
             let right: &Expr = right;
-            begins(right, b, reads, bits, x.after);
+            begins_law(right, b, reads, bits, x.after);
             let y = walk(right, b, reads, bits, x.after)?;
             Ok(placed(binary(b, *operator, x.operand, y.operand)?, y.after))
         }
         Expr::Select(condition, first, second) => {
             let c = walk(condition, b, reads, bits, at)?;
             let first: &Expr = first;
-            begins(first, b, reads, bits, c.after);
+            begins_law(first, b, reads, bits, c.after);
             let x = walk(first, b, reads, bits, c.after)?;
             let second: &Expr = second;
-            begins(second, b, reads, bits, x.after);
+            begins_law(second, b, reads, bits, x.after);
             let y = walk(second, b, reads, bits, x.after)?;
             Ok(placed(choice(b, c.operand, x.operand, y.operand)?, y.after))
         }
@@ -209,8 +209,9 @@ fn walk(
 }
 
 /// A law: an expression that has a type over its images is typed over its leaves, and has that type there.
-pub fn typed_over_leaves()
-    ensures { (types : List Ty) (e : Tree) (t : Ty) (reads : List (Ty × Net)) → ((g : ℕ) (s : Ty) → slice_get types g ≡ Some s → IsType s) → HasType types e t → AreReadsOf types e (types_in reads) 0 → IsTyped e (types_in reads) 0 × (type_of e (types_in reads) 0 ≡ t) }
+pub fn typed_over_leaves_law()
+    ensures { (types : List Ty) (e : Tree) (t : Ty) (reads : List (Ty × Net)) → ((g : ℕ) (s : Ty) → slice_get types g ≡ Some s → IsType s) → HasType types e t
+        → AreReadsOf types e (types_in reads) 0 → IsTyped e (types_in reads) 0 × (type_of e (types_in reads) 0 ≡ t) }
 {}
 
 /// The net of an expression over the nets of its leaves. Its bits, read in the expression's type, are the expression's value over what the leaves' nets say. It adds wires alone, no assign that reads an array, and is made of the leaves' nets alone. Where there is no leaf, it is a constant, and takes one assign at most. It calls itself as deep as the expression is.

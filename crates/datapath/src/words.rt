@@ -196,7 +196,7 @@ pub(crate) fn or(b: &mut Builder, width: u8, x: Signal, y: Signal) -> Result<Sig
     Ok(atom)
 }
 
-// The bits that one of them alone has.
+// The bits that exactly one of them has.
 pub(crate) fn xor(b: &mut Builder, width: u8, x: Signal, y: Signal) -> Result<Signal, OutOfMemory>
     requires width { IsWidth width }
     requires x { HasWidth b.old x width }
@@ -268,7 +268,7 @@ pub(crate) fn join(
     Ok(Signal::Net(net))
 }
 
-// So many copies of a bit.
+// This many copies of a bit.
 pub(crate) fn repeat(b: &mut Builder, count: u8, x: Signal) -> Result<Signal, OutOfMemory>
     requires width { IsWidth count }
     requires x { HasWidth b.old x 1 }

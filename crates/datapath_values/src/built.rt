@@ -18,7 +18,7 @@ use pointwise_ir::Expr;
 use std::alloc::Global;
 use wiring::Net;
 
-// So many reads of the bit.
+// This many reads of the bit.
 fn bit_reads(alloc: Global, bit: Net, count: usize) -> Result<Vec<(Ty, Net)>, OutOfMemory>
     requires { bit ≡ Input 1 }
     ensures { IfOk result (λ reads. reads.items ≡ bit_leaves count) }
@@ -30,10 +30,12 @@ fn bit_reads(alloc: Global, bit: Net, count: usize) -> Result<Vec<(Ty, Net)>, Ou
     Ok(reads)
 }
 
-/// A module with a `din` of one bit, whose `dout` has so many bits: those of the value of an expression with so many reads, each of that bit, and no unclamped step. Its `valid` is `rst`.
+/// A module with a `din` of one bit, whose `dout` has this many bits: those of the value of an expression with this many reads, each of that bit, and no unclamped step. Its `valid` is `rst`.
 pub fn bit_module(alloc: Global, e: &Expr, count: usize, width: u8) -> Result<Module, OutOfMemory>
     requires { CanShow (tree_of e.now) count width }
-    ensures shown { IfOk result (λ m. (s : Snapshot) → IsValuation m.netlist s → number (type_of (tree_of e.now) (types_in (bit_leaves count)) 0) (net_value s (dout_net 0)) ≡ leaf_value (tree_of e.now) (worth_in s (bit_leaves count)) (set_in s []) 0 0) }
+    ensures shown { IfOk result (λ m. (s : Snapshot) → IsValuation m.netlist s
+        → number (type_of (tree_of e.now) (types_in (bit_leaves count)) 0) (net_value s (dout_net 0))
+        ≡ leaf_value (tree_of e.now) (worth_in s (bit_leaves count)) (set_in s []) 0 0) }
 {
     let mut b = Builder::new(alloc, 1, width)?;
     let reads = bit_reads(alloc, b.din(), count)?;

@@ -76,7 +76,7 @@ in_order_by_next reads next i j d h g = from_gap IsBefore before_passes reads ne
 pub number_at : (images : List Image) (k : ℕ) (d : Image) → k < length images → slice_index (numbers images) k ≡ (slice_index_or images k d).number
 number_at images k d h = get_or-map (λ i. i.number) images k d 0 h
 
--- an image is kept where its number stands, and stands at its place
+-- an image is kept where its number is, and is at its place
 pub kept_at : (images : List Image) (k n : ℕ) (d : Image) → k < length images → (slice_index_or images k d).number ≡ n → IsKept images n
 kept_at images k n d h e = elim (cases_lt (place images n) (length images)) [
   | inl low ↦ low
@@ -94,7 +94,7 @@ at_place images n d h = equal (slice_index_or images (place images n) d).number 
     equal : (a b : ℕ) → not (a == b) ≡ false → a ≡ b
     equal a b f = grind (arith, nat_tests, f)
 
--- in order, each image stands at its place
+-- in order, each image is at its place
 pub place_at : (images : List Image) (k : ℕ) (d : Image) → Ascends images → k < length images → place images (slice_index_or images k d).number ≡ k
 place_at images k d up h =
     let n = (slice_index_or images k d).number in

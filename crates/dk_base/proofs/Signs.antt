@@ -18,7 +18,7 @@ sign_of_high n x some high h =
     let e : x ≡ 1 * 2 ^ (n - 1) + (x - 2 ^ (n - 1)) = omega arith in
     ap (λ z. z % 2 ^ 1) (ap (λ z. z / 2 ^ (n - 1)) e ∙ div-mul-add 1 (2 ^ (n - 1)) (x - 2 ^ (n - 1)) m)
 
--- the sign bit tells the two halves apart
+-- the sign bit distinguishes the two halves
 pub by_sign : (n x p q : ℕ) → 1 ≤ n → x < 2 ^ n →
     ((x < 2 ^ (n - 1)) × ((if nat_eq (x / 2 ^ (n - 1) % 2 ^ 1) 1 then p else q) ≡ q)) ⊎ ((2 ^ (n - 1) ≤ x) × ((if nat_eq (x / 2 ^ (n - 1) % 2 ^ 1) 1 then p else q) ≡ p))
 by_sign n x p q some h = elim (cases_lt x (2 ^ (n - 1))) [

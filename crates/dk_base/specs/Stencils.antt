@@ -35,22 +35,22 @@ pub record HasWidth (image : Image) : Type 0 where
   pub some : 1 ≤ image.width
   pub most : image.width ≤ MAX_WIDTH
 
--- the number at k stands before it too
+-- the number at k comes before it too
 abbrev pub Repeats : List ℕ → ℕ → Type 0
 Repeats xs k = (i : ℕ) × (i < k) × (slice_index xs i ≡ slice_index xs k)
 
--- no number stands twice
+-- no number occurs twice
 abbrev pub IsDistinct : List ℕ → Type 0
 IsDistinct xs = (i j : ℕ) → i < j → j < length xs → slice_index xs i ≡ slice_index xs j → ⊥
 
--- one read stands before another: by the image that reads, then by the one that is read, then by row, then by column
+-- one read comes before another: by the image that reads, then by the one that is read, then by row, then by column
 pub record IsBefore (a b : LiveRead) : Type 0 where
   pub reader : a.f ≤ b.f
   pub source : a.f ≡ b.f → a.g ≤ b.g
   pub rows : a.f ≡ b.f → a.g ≡ b.g → a.dy ≤ℤ b.dy
   pub columns : a.f ≡ b.f → a.g ≡ b.g → a.dy ≡ b.dy → a.dx <ℤ b.dx
 
--- so no read stands twice
+-- so no read occurs twice
 abbrev pub AreInOrder : List LiveRead → Type 0
 AreInOrder reads = (i j : ℕ) (d : LiveRead) → i < j → j < length reads → IsBefore (slice_index_or reads i d) (slice_index_or reads j d)
 

@@ -32,7 +32,7 @@ pub fn is_word_byte(byte: u8) -> bool
     is_letter(byte) || is_digit(byte)
 }
 
-/// How many letters, `_` and digits stand at the front.
+/// How many letters, `_` and digits are at the front.
 pub fn word_length(bytes: &[u8]) -> usize
     ensures is { result ≡ prefix_len ascii.is_word_byte bytes.now }
     ensures within { result ≤ length bytes.now }
@@ -40,7 +40,7 @@ pub fn word_length(bytes: &[u8]) -> usize
     bytes.iter().take_while(|byte| is_word_byte(**byte)).count()
 }
 
-/// How many decimal digits stand at the front.
+/// How many decimal digits are at the front.
 pub fn digits_length(bytes: &[u8]) -> usize
     ensures is { result ≡ prefix_len ascii.is_digit bytes.now }
     ensures within { result ≤ length bytes.now }

@@ -14,7 +14,7 @@ mod ty;
 
 pub use ascii::{digits_length, is_digit, is_letter, is_white, is_word_byte, word_length};
 pub use frame::FrameSize;
-pub use limit::limits;
+pub use limit::limits_law;
 pub use number::{bits_for, saturate, saturate_law, wrap, wrap_law};
 pub use operator::{Binary, Conversion, Scaling, Unary, select_type};
 pub use span::Span;
@@ -23,7 +23,7 @@ pub use stencils::{Image, LiveRead, Stencils};
 pub use text::Text;
 pub use ty::Ty;
 
-/// Want of memory: the error of a call that can fail in no other way.
+/// Out of memory: the error of a call that can fail in no other way.
 pub type OutOfMemory = std::alloc::AllocError;
 
 /// The greatest length of a program's text, in bytes.
@@ -56,7 +56,7 @@ pub const MAX_NODES: u64 = 65_536;
 /// The greatest number of live reads of the kept images.
 pub const MAX_LIVE_READS: usize = 4_096;
 
-/// The greatest number of live reads that is told as it is; more of them count as one more than this.
+/// The greatest number of live reads that is specified as it is; more of them count as one more than this.
 pub const MAX_COUNTED_READS: usize = 65_536;
 
 /// The greatest number of buffer bits, of a plan and of the arrays of a Verilog text that is read.

@@ -3,8 +3,8 @@
 ghost use Rattle.std.specs.Prelude.{◌≡◌};
 ghost use Rattle.dk_base.specs.declared.TheConstants.{MAX_SOURCE_BYTES, MAX_VERILOG_BYTES, MAX_SIDE, MAX_DEFINITIONS, MAX_OFFSET, MAX_OPEN_BRACKETS, MAX_SOURCE_DEPTH, MAX_INLINED_DEPTH, MAX_NODES, MAX_LIVE_READS, MAX_COUNTED_READS, MAX_BUFFER_BITS, MAX_LATENCY, MAX_NAME_BYTES, MAX_HEADER_BYTES, MAX_MAXVAL, MAX_CLOCKS, MAX_MADE, MAX_WIDTH, MAX_PORT_WIDTH, MAX_SHIFT, MAX_INPUTS, MAX_OUTPUTS, MAX_KEPT_IMAGES, MAX_FILE_IMAGES, MAX_PGM_BYTES, MAX_AGE, MAX_HOLD, MAX_REPORT_BYTES};
 
-/// A law: the number of each limit. net_names and wiring do not stand on this crate and have five of these numbers under names of their own; netlist shows that they are the same (`bounds_are_limits`).
-pub fn limits()
+/// A law: the number of each limit. net_names and wiring do not depend on this crate and have five of these numbers under names of their own; netlist shows that they are the same (`bounds_are_limits`).
+pub fn limits_law()
     ensures source_bytes { MAX_SOURCE_BYTES ≡ 1048576 }
     ensures verilog_bytes { MAX_VERILOG_BYTES ≡ 268435456 }
     ensures side { MAX_SIDE ≡ 4096 }

@@ -83,7 +83,7 @@ fn are_kept(images: &[Image], outputs: &[u32]) -> bool
     true
 }
 
-// Whether the output at `k` stands before it too.
+// Whether the output at `k` comes before it too.
 fn is_repeated(outputs: &[u32], k: usize) -> bool
     requires { k < length outputs.now }
     ensures repeated { IsTrue result → Repeats outputs.now k }
@@ -92,7 +92,7 @@ fn is_repeated(outputs: &[u32], k: usize) -> bool
     outputs[..k].contains(&outputs[k])
 }
 
-// Whether no output stands twice.
+// Whether no output occurs twice.
 fn are_distinct(outputs: &[u32]) -> bool
     ensures yes { IsTrue result → IsDistinct outputs.now }
     ensures no { IsDistinct outputs.now → IsTrue result }
@@ -105,7 +105,7 @@ fn are_distinct(outputs: &[u32]) -> bool
     true
 }
 
-/// Whether a read stands before another: by the image that reads, then by the one that is read, then by row, then by column. A read is given as these four, and its images go by their numbers or by their places.
+/// Whether a read comes before another: by the image that reads, then by the one that is read, then by row, then by column. A read is given as these four, and its images go by their numbers or by their places.
 pub fn is_before(a: (usize, usize, i32, i32), b: (usize, usize, i32, i32)) -> bool
     ensures yes { IsTrue result → IsBefore (record { f = a.0; g = a.1; dy = a.2; dx = a.3 }) (record { f = b.0; g = b.1; dy = b.2; dx = b.3 }) }
     ensures no { IsBefore (record { f = a.0; g = a.1; dy = a.2; dx = a.3 }) (record { f = b.0; g = b.1; dy = b.2; dx = b.3 }) → IsTrue result }
@@ -129,7 +129,7 @@ fn order_of(read: LiveRead) -> (usize, usize, i32, i32)
     (read.f as usize, read.g as usize, read.dy, read.dx)
 }
 
-// Whether a live read stands before another.
+// Whether a live read comes before another.
 fn is_read_before(a: LiveRead, b: LiveRead) -> bool
     ensures yes { IsTrue result → IsBefore a b }
     ensures no { IsBefore a b → IsTrue result }
@@ -205,8 +205,10 @@ pub(crate) fn is_stencils(
     images: &[Image],
     reads: &[LiveRead],
 ) -> bool
-    ensures yes { IsTrue result → IsStencils (record { width = width; height = height; inputs = inputs; outputs = outputs.now; images = images.now; reads = reads.now }) }
-    ensures no { IsStencils (record { width = width; height = height; inputs = inputs; outputs = outputs.now; images = images.now; reads = reads.now }) → IsTrue result }
+    ensures yes { IsTrue result
+        → IsStencils (record { width = width; height = height; inputs = inputs; outputs = outputs.now; images = images.now; reads = reads.now }) }
+    ensures no { IsStencils (record { width = width; height = height; inputs = inputs; outputs = outputs.now; images = images.now; reads = reads.now })
+        → IsTrue result }
 {
     if !are_images(inputs, images) {
         return false;

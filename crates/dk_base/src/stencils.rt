@@ -53,8 +53,10 @@ impl Stencils {
         images: Vec<Image>,
         reads: Vec<LiveRead>,
     ) -> Option<Stencils>
-        ensures made { IsSome result ↔ IsStencils (record { width = width; height = height; inputs = inputs; outputs = outputs.items; images = images.items; reads = reads.items }) }
-        ensures parts { IfSome result (λ s. s ≡ record { width = width; height = height; inputs = inputs; outputs = outputs.items; images = images.items; reads = reads.items }) }
+        ensures made { IsSome result
+            ↔ IsStencils (record { width = width; height = height; inputs = inputs; outputs = outputs.items; images = images.items; reads = reads.items }) }
+        ensures parts { IfSome result (λ s. s
+            ≡ record { width = width; height = height; inputs = inputs; outputs = outputs.items; images = images.items; reads = reads.items }) }
     {
         if is_stencils(width, height, inputs, &outputs, &images, &reads) {
             Some(Stencils {

@@ -24,7 +24,7 @@ use Rattle.dk_compile.specs.Sources.{IsCut, HasTree, IsText, HasTooMany, IsSourc
 use Rattle.dk_compile.proofs.Once.{tree_one, text_one}
 use Rattle.dk_compile.proofs.Counts.{too_many_once}
 
--- a fault of the grammar as that of a text; want of memory is none
+-- a fault of the grammar as that of a text; out of memory is none
 abbrev parsed_as : ParseError → SourceFault
 parsed_as (parser.Nest span) = Nest span
 parsed_as (parser.Syntax span) = Syntax span

@@ -23,7 +23,7 @@ same_system : (s t : System) → s.stencils ≡ t.stencils → s.age ≡ t.age �
 same_system s t one other =
     ap (λ (x : Stencils). let r : System = record { stencils = x; age = s.age } in r) one ∙ ap (λ (n : ℕ). let r : System = record { stencils = t.stencils; age = n } in r) other
 
--- an error tells one fault
+-- an error has one fault
 fault_one : (f g : SourceFault) → Fault f ≡ Fault g → f ≡ g
 fault_one f g e = cc
 
@@ -51,7 +51,7 @@ limit_fault text age p ir s (plan.Bits n) has is = record { program = p; ir = ir
 limit_fault text age p ir s (plan.Latency n) has is = record { program = p; ir = ir; system = s; has = has; passes = is }
 limit_fault text age p ir s plan.OutOfMemory has is = tt
 
--- a limit that is passed, and the fault that tells it
+-- a limit that is exceeded, and the fault that reports it
 record Told (text : List ℕ) (age : ℕ) (f : SourceFault) : Type 0 where
   fault : PlanFault
   passes : PassesLimit text age fault

@@ -43,7 +43,7 @@ module _ (p : Typing) where
       let g = b.many in
       omega (arith, l, c, f, g)
 
-  -- so many reads at most
+  -- this many reads at most
   pub too_many_once : (m n : ℕ) → HasTooMany p m → HasTooMany p n → m ≡ n
   too_many_once m n a b = elim a.counted [
     | inl x ↦ elim b.counted [

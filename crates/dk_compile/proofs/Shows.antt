@@ -60,7 +60,7 @@ take_range f n most = elim (cases_lt n most) as (λ _. take most (map f (range_w
 none : Snapshot
 none = record { inputs = []; outputs = []; wires = []; contents = record { regs = []; arrays = [] } }
 
--- the first samples of an output, however long the drive goes on behind them
+-- the first samples of an output, however long the drive goes on after them
 module _ (m : Netlist) (p : Program) (plan : Plan) (d : Drives m p plan) (from to : Contents) (dins : List (List ℕ)) (shots : List Snapshot) (fc : FitsContents m from) (fn : All (Fit (input_widths p)) dins) (runs : Runs m from (driven (length p.inputs) dins) shots to)
     (rounds : Rounds) (ok : AreRounds p rounds) (agree : Agree p rounds dins) (k : ℕ) (l : k < length p.outputs) where
   abbrev late : ℕ

@@ -14,7 +14,7 @@ abbrev pub In : LiveRead → List LiveRead → Type 0
 In r [] = ⊥
 In r (x ∷ xs) = (x ≡ r) ⊎ In r xs
 
--- each stands before all later ones
+-- each comes before all later ones
 abbrev pub Ascend : List LiveRead → Type 0
 Ascend [] = Unit {0}
 Ascend (x ∷ xs) = Each (IsBefore x) xs × Ascend xs
@@ -59,7 +59,7 @@ in_second : (r : LiveRead) (xs ys : List LiveRead) → In r ys → In r (xs ++ y
 in_second r [] ys h = h
 in_second r (x ∷ xs) ys h = inr (in_second r xs ys h)
 
--- the lists 0 to n - 1, one behind another
+-- the lists 0 to n - 1, one after another
 abbrev pub sweep : ℕ → (ℕ → List LiveRead) → List LiveRead
 sweep zero F = []
 sweep (suc n) F = sweep n F ++ F n
@@ -75,7 +75,7 @@ in_sweep r (suc n) F k lt h = elim (cases_lt k n) [
   | inr most ↦ let same : k ≡ n = omega (arith, lt, most) in in_second r (sweep n F) (F n) (subst (λ i. In r (F i)) same h)
 ]
 
--- where the key of each list's reads tells which of two stands first
+-- where the key of each list's reads decides which of two comes first
 pub ascend_sweep : (K : ℕ → LiveRead → Type 0) → ((j k : ℕ) (a b : LiveRead) → j < k → K j a → K k b → IsBefore a b) → (n : ℕ) (F : ℕ → List LiveRead) → ((k : ℕ) → Ascend (F k)) → ((k : ℕ) → Each (K k) (F k)) → Ascend (sweep n F)
 ascend_sweep K rule zero F ascend keys = tt
 ascend_sweep K rule (suc n) F ascend keys =

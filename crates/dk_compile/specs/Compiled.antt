@@ -48,7 +48,7 @@ pub record IsCircuitOf (p : Program) (plan : Plan) (enable : Bool) (m : Netlist)
   -- at an age of at least 1 no path of gates passes through two images
   pub apart : IsApart m p plan chain_shapes_of nets
 
--- The names of the module are fixed by its netlist: `dk`, and n0, r0 and m0 on for wires, registers and arrays in order. The text is the layout of the module, and stands for it and for no other.
+-- The names of the module are fixed by its netlist: `dk`, and n0, r0 and m0 on for wires, registers and arrays in order. The text is the layout of the module, and denotes it and no other.
 pub record IsTextOf (m : NamedNetlist) (text : List ℕ) : Type 0 where
   pub named : m.names ≡ names_for m.netlist
   pub laid_out : text ≡ layout m

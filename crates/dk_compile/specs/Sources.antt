@@ -42,7 +42,7 @@ pub record IsKeptRead (p : Typing) (r : LiveRead) : Type 0 where
   pub kept : IsKept p r.f
   pub live : IsLive p r.f r.g r.dx r.dy
 
--- they are the live reads of the kept images, in order, so that none stands twice
+-- they are the live reads of the kept images, in order, so that none occurs twice
 pub record AreReadsOf (p : Typing) (reads : List LiveRead) : Type 0 where
   pub in_order : AreInOrder reads
   pub exact : (r : LiveRead) → Contains reads r ↔ IsKeptRead p r
@@ -55,7 +55,7 @@ pub record IsAccepted (text : List ℕ) (p : Typing) : Type 0 where
   pub are_reads : AreReadsOf p reads
   pub few : length reads ≤ MAX_LIVE_READS
 
--- so many live reads of kept images, where they are at most MAX_COUNTED_READS
+-- this many live reads of kept images, where they are at most MAX_COUNTED_READS
 pub record HasReads (p : Typing) (count : ℕ) : Type 0 where
   pub reads : List LiveRead
   pub are_reads : AreReadsOf p reads
@@ -70,12 +70,12 @@ pub record HasManyReads (p : Typing) (count : ℕ) : Type 0 where
   pub many : MAX_COUNTED_READS < length reads
   pub count_is : count ≡ MAX_COUNTED_READS + 1
 
--- so many live reads of kept images, which are too many
+-- this many live reads of kept images, which are too many
 pub record HasTooMany (p : Typing) (count : ℕ) : Type 0 where
   pub more : MAX_LIVE_READS < count
   pub counted : HasReads p count ⊎ HasManyReads p count
 
--- The first fault of a text: its length, tokens, brackets, grammar, depth, types, nodes, depth after inlining, live reads. Each is told where all before it is in order. Bits and latency are not judged.
+-- The first fault of a text: its length, tokens, brackets, grammar, depth, types, nodes, depth after inlining, live reads. Each is specified where all before it is in order. Bits and latency are not judged.
 abbrev pub IsSourceFault : List ℕ → SourceFault → Type 0
 IsSourceFault text TooLong = MAX_SOURCE_BYTES < length text
 IsSourceFault text (Lex fault) = (length text ≤ MAX_SOURCE_BYTES) × HasFault text fault
@@ -89,7 +89,7 @@ IsSourceFault text (Reads count) = (p : Typing) × IsText text p × IsWithin p �
 IsSourceFault text (Bits least) = ⊥
 IsSourceFault text (Latency clocks) = ⊥
 
--- an error is such a fault, or want of memory, of which the text says nothing
+-- an error is such a fault, or out of memory, of which the text says nothing
 abbrev pub IsErrorBy : (SourceFault → Type 0) → SourceError → Type 0
 IsErrorBy is (Fault fault) = is fault
 IsErrorBy is OutOfMemory = ⊤

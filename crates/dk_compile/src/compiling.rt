@@ -15,7 +15,7 @@ use crate::accepted::Front;
 use crate::fault::SourceError;
 use crate::reading::front;
 use buffer_plan::{Plan, PlanFault, plan};
-use circuit::{Built, Chain, Options, build_with, frame_drive};
+use circuit::{Built, Chain, Options, build_with, frame_drive_law};
 use dk_base::{OutOfMemory, Stencils};
 use flow_dual::{Solution, solve};
 use netlist::Module;
@@ -115,16 +115,17 @@ fn printed(
 {
     ir.law();
     plan.law();
-    frame_drive();
+    frame_drive_law();
     let Built { module, nets } = build_with(alloc, ir, plan, &Chain, options)?;
     let text = print(alloc, &module)?;
     Ok(PrintedModule { module, nets, text })
 }
 
-/// The Verilog text of the circuit of a program, with the port `en` where it is wanted, at an age of at most 64 clocks; or the first fault of the text at this age. The Verilog text is in the language of IEEE Std 1364-2005.
+/// The Verilog text of the circuit of a program, with the port `en` if it is requested, at an age of at most 64 clocks; or the first fault of the text at this age. The Verilog text is in the language of IEEE Std 1364-2005.
 pub fn compile_with(alloc: Global, text: &[u8], options: Options) -> Result<Compiled, SourceError>
     requires age { options.age ≤ MAX_AGE }
-    ensures compiled { IfOk result (λ c. (p : Typing) × IsCompiled text.now options.age options.enable p c.ir c.system c.solution c.plan c.«module» c.nets.items c.text.items) }
+    ensures compiled { IfOk result (λ c. (p : Typing)
+        × IsCompiled text.now options.age options.enable p c.ir c.system c.solution c.plan c.«module» c.nets.items c.text.items) }
     ensures fault { IfErr result (IsErrorBy (IsFaultAt text.now options.age)) }
 {
     let PlannedProgram {

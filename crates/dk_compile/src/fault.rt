@@ -50,7 +50,7 @@ pub enum SourceFault {
     Latency { clocks: u64 },
 }
 
-/// Why a text was not read as a program: its first fault, or want of memory.
+/// Why a text was not read as a program: its first fault, or out of memory.
 #[derive(Clone, Copy, Debug, PartialEq, Eq, thiserror::Error)]
 pub enum SourceError {
     #[error("{0}")]

@@ -11,5 +11,5 @@ pub use accepted::Front;
 pub use circuit::Options;
 pub use compiling::{Compiled, PlannedProgram, compile, compile_with, planned};
 pub use fault::{SourceError, SourceFault};
-pub use laws::{drive_shows, one_at_age, one_source};
+pub use laws::{drive_shows_law, one_at_age_law, one_source_law};
 pub use reading::{front, typed};

@@ -1,4 +1,4 @@
--- Which calls of a desk fail, where it tells that.
+-- Which calls of a desk fail, if it specifies that.
 use Rattle.std.specs.Prelude.{ℕ, ◌+◌, ◌-◌, ◌^◌, ◌==◌, ◌||◌, Bool, false, List, length, Option, None, Some, is_none, min, nat_le, nat_lt, if◌then◌else◌}
 use Rattle.std.specs.Option.{option_map}
 use Rattle.std.specs.List.{list_any}
@@ -18,7 +18,7 @@ pub record Schedule : Type 0 where
   -- how many notes there is room for, with those that are kept
   pub most_notes : ℕ
 
--- What a desk tells of its failures: nothing, that no call fails, or by which schedule.
+-- What a desk specifies of its failures: nothing, that no call fails, or by which schedule.
 pub data Failures : Type 0 where
   unknown : Failures
   never : Failures
@@ -28,14 +28,14 @@ pub data Failures : Type 0 where
 abbrev pub is_listed : Schedule → Bool
 is_listed s = list_any (λ n. n == s.calls) s.failing
 
--- the call asks for more than there is, where the files are told or it opens none
+-- the call asks for more than there is, where the files are specified or it opens none
 abbrev pub lacks : Schedule → Outside → Call → Option Bool
 lacks s o (opening name) = option_map (λ (files : List ℕ → Option (List ℕ)). is_none (files name) || nat_lt s.room (length name)) o.files
 lacks s o reading = Some false
 lacks s o (creating name) = Some (nat_lt s.room (length name))
 lacks s o (writing count) = Some (nat_lt s.room (min count s.piece))
 
--- whether the call fails if it is made now, where that is told
+-- whether the call fails if it is made now, if that is specified
 abbrev pub fails_now : Failures → Outside → Call → Option Bool
 fails_now unknown o call = None
 fails_now never o call = Some false
@@ -52,25 +52,25 @@ room_after s reading ok = s.room
 room_after s (creating name) ok = spend (length name) s.room
 room_after s (writing count) ok = if ok then spend (min count s.piece) s.room else s.room
 
--- what is told after a call that answered Ok or not
+-- what is specified after a call that answered Ok or not
 abbrev pub after : Failures → Call → Bool → Failures
 after unknown call ok = unknown
 after never call ok = never
 after (scheduled s) call ok = scheduled (record s { calls = min (s.calls + 1) (2 ^ 64 - 1); room = room_after s call ok })
 
--- the most bytes in one call, where that is told
+-- the most bytes in one call, if that is specified
 abbrev pub piece_of : Failures → Option ℕ
 piece_of unknown = None
 piece_of never = None
 piece_of (scheduled s) = Some s.piece
 
--- whether an asked name finds room and is told from then on, where that is told
+-- whether an asked name finds room and is specified from then on, if that is specified
 abbrev pub keeps_name : Failures → List ℕ → Option Bool
 keeps_name unknown name = None
 keeps_name never name = None
 keeps_name (scheduled s) name = Some (nat_le (length name) s.room)
 
--- whether one note more is kept and told, where that is told
+-- whether one note more is kept, if that is specified
 abbrev pub keeps_note : Failures → Option (List (Bool × ℕ)) → Option Bool
 keeps_note unknown notes = None
 keeps_note never notes = None

@@ -1,4 +1,4 @@
--- What is told of the faults of a Verilog text.
+-- What is reported of the faults of a Verilog text.
 use Rattle.netlist.specs.declared.fault.NetFault.{NetFault}
 use Rattle.netlist.specs.declared.fault.NetFault.TheVariants as net
 use Rattle.verilog_text.specs.declared.fault.TextFault.{TextFault}

@@ -37,7 +37,7 @@ pub enum Ending {
     Source(SourceFault),
     /// A file of images is refused.
     Image(ImageFault),
-    /// A Verilog text is too long, stands for no module, or is to hold clocks without the port `en`.
+    /// A Verilog text is too long, denotes no module, or is to hold clocks without the port `en`.
     Verilog(VerilogFault),
     /// A module's run gives no pictures.
     Stopped(Stop),

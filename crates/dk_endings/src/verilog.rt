@@ -24,7 +24,7 @@ pub enum VerilogKind {
     Ports,
     /// A name is not declared.
     Unknown,
-    /// A name stands for something of another sort.
+    /// A name denotes something of another sort.
     WrongSort,
     /// The divisor is no constant, or 0.
     Divisor,
@@ -64,7 +64,7 @@ fn net_kind(fault: NetFault) -> VerilogKind
 }
 
 impl VerilogFault {
-    /// What is told of a text's fault.
+    /// What is reported of a text's fault.
     pub fn of(fault: TextFault) -> VerilogFault
         ensures { result ≡ fault_told fault }
     {

@@ -46,7 +46,7 @@ clear_chain m c s = record {
   some = s m;
 }
 
--- at the start of a chain, and behind an element and the token after it
+-- at the start of a chain, and after an element and the token after it
 pub chain_start : {T M V : Type 0} {P : M → Phrases T V} {f : M → T → Option M} {l : M → Bool} (m : M) (ts : List T) → Reached (Chain P f l m) (Chain P f l m) (λ vs. [] ++ vs) ts ts
 chain_start m ts = record { own = []; whole = refl; into = λ q. q; out = λ {v = v} p. (v, p, refl) }
 
@@ -78,7 +78,7 @@ chain_next {T = T} {V = V} {P = P} {f = f} {l = l} vs {m0 = m0} {m = m} {n = n} 
           (b.0, b.1, a.2 ∙ ap (λ x. vs ++ x) b.2 ∙ sym (append_assoc vs (v ∷ []) b.0));
     }
 
--- what a chain goes on with behind an element
+-- what a chain goes on with after an element
 chain_rest : {T M V : Type 0} {P : M → Phrases T V} {f : M → T → Option M} {l : M → Bool} {m : M} {ts r : List T} {vs : List V} → l m ≡ false → Chain P f l m ts vs r
     → (v : V) × (mid : List T) × (n : M) × (t : T) × (after : List T) × (us : List V) × P m ts v mid × (mid ≡ t ∷ after) × (f m t ≡ Some n) × Chain P f l n after us r
 chain_rest g (end g') = absurd (cc (g, g'))

@@ -30,3 +30,11 @@ one_faulty L ts j k a b = same_index L ts j k a b (cases_order j k)
 
 pub none_faulty : {T : Type 0} (L : List T → Type 0) (ts : List T) (k : ℕ) → L ts → IsFaulty L ts k → ⊥
 none_faulty L ts k whole f = f.none (drop (suc k) ts, subst L (sym (take-append-drop (suc k) ts)) whole)
+
+-- two languages of the same lists have the same faulty tokens
+pub like_faulty : {T : Type 0} (L M : List T → Type 0) (ts : List T) (k : ℕ) → ((xs : List T) → L xs → M xs) → ((xs : List T) → M xs → L xs) → IsFaulty L ts k → IsFaulty M ts k
+like_faulty L M ts k to from f = record {
+  inside = f.inside;
+  before = (f.before.0, to (take k ts ++ f.before.0) f.before.1);
+  none = λ b. f.none (b.0, from (take (suc k) ts ++ b.0) b.1);
+}

@@ -3,3 +3,4 @@ pub mod Stucks
 pub mod Chains
 pub mod Faulty
 pub mod Spellings
+pub mod FaultyLines

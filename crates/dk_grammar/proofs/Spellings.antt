@@ -1,4 +1,4 @@
--- Tables of spellings: which row is the first that a text begins with, by look-ups, where spellings of two bytes stand before those of one.
+-- Tables of spellings: which row is the first that a text begins with, by look-ups, where spellings of two bytes come before those of one.
 use Rattle.std.proofs.Common.{◌≡◌, ℕ, List, [], ◌∷◌, ◌++◌, length, Option, Some, None, Bool, true, false, nat_eq, arith, refl}
 use Rattle.std.specs.List.{find, starts_with}
 use Rattle.std.specs.Map.{lookup}

@@ -74,7 +74,7 @@ faulty P ts after t s =
           (subst (λ x. P x b.1.0 []) (append_assoc s.taken (t ∷ []) b.0) (subst (λ x. P (x ++ b.0) b.1.0 []) (take_front_more s.taken after t) b.1.1));
     })
 
--- What P reads at ts is f of what Q reads at rest, whatever stands in place of rest.
+-- What P reads at ts is f of what Q reads at rest, whatever is in place of rest.
 pub record Reached {T U V : Type 0} (P : Phrases T V) (Q : Phrases T U) (f : U → V) (ts rest : List T) : Type 0 where
   pub own : List T
   pub whole : ts ≡ own ++ rest
@@ -96,7 +96,7 @@ reached_stuck {T = T} {P = P} {f = f} {at = at} d s = record {
 pub reached_whole : {T U V : Type 0} {P : Phrases T V} {Q : Phrases T U} {f : U → V} {ts rest after : List T} {u : U} → Reached P Q f ts rest → Q rest u after → P ts (f u) after
 reached_whole {P = P} {f = f} {after = after} {u = u} d q = subst (λ x. P x (f u) after) (sym d.whole) (d.into q)
 
--- at the start of a list, and behind an element and a mark that says that another one follows
+-- at the start of a list, and after an element and a mark that says that another one follows
 pub listed_start : {T V : Type 0} {P : Phrases T V} {f : T → Option Bool} (ts : List T) → Reached (Listed P f) (Listed P f) (λ vs. [] ++ vs) ts ts
 listed_start ts = record { own = []; whole = refl; into = λ q. q; out = λ {v = v} p. (v, p, refl) }
 
@@ -183,7 +183,7 @@ listed_mark {P = P} {f = f} {v = v} t e c p s =
     stuck_same {P = Unfolded P f} (λ w r v u. refold P f w r v u) (λ w r v l. unfold_list l)
     (then_second c p (then_first (clear_one (mark_class f t e)) (λ b. clear_tail f t e c v b) s))
 
--- behind an element and a mark fewer tokens are left
+-- after an element and a mark fewer tokens are left
 pub listed_fewer : {T V : Type 0} {P : Phrases T V} {ts mid behind : List T} {v : V} (t : T) → Clear P → P ts v mid → mid ≡ t ∷ behind → length behind < length ts
 listed_fewer {behind = b} t c p e =
     let o = c.own p in

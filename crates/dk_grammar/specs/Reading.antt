@@ -1,4 +1,4 @@
--- What stands at the front of a list of tokens, and where a list stops being the beginning of a phrase.
+-- What is at the front of a list of tokens, and where a list stops being the beginning of a phrase.
 use Rattle.std.specs.Prelude.{◌≡◌, ℕ, suc, ◌<◌, List, [], ◌∷◌, ◌++◌, length, take, Option, Some, Bool, true, false}
 
 -- tokens, what is read at their front, and the tokens after it
@@ -67,7 +67,7 @@ pub record IsFaulty {T : Type 0} (L : List T → Type 0) (ts : List T) (k : ℕ)
   pub before : Begins L (take k ts)
   pub none : Begins L (take (suc k) ts) → ⊥
 
--- Each phrase is its own tokens, whatever follows; the tokens tell where it ends and what it is; and there is one.
+-- Each phrase is its own tokens, whatever follows; the tokens determine where it ends and what it is; and there is one.
 pub record Clear {T V : Type 0} (P : Phrases T V) : Type 0 where
   pub own : {ts rest : List T} {v : V} → P ts v rest → (o : List T) × (ts ≡ o ++ rest) × ((w : List T) → P (o ++ w) v w)
   pub one : {ts a b : List T} {v w : V} → P ts v a → P ts w b → (v ≡ w) × (a ≡ b)

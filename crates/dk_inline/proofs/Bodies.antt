@@ -1,4 +1,4 @@
--- The definitions of a typed program: their types, and what stands in place of them.
+-- The definitions of a typed program: their types, and what is in place of them.
 use Rattle.std.proofs.Common.{◌≡◌, ℕ, ◌+◌, ◌-◌, ◌<◌, ◌≤◌, List, ◌++◌, length, map, take, drop, slice_get, slice_index_or, Some, refl, ap, sym, ◌∙◌, subst, true, false, if◌then◌else◌, append_assoc, arith, length-append, pos}
 use Rattle.std.specs.Option.{option_map}
 use Rattle.std.proofs.lemmas.List.{map-append, take-append-drop, length-map}
@@ -54,7 +54,7 @@ stands : (p : TypedProgram) → IsTyped (typing_of p) → (image k : ℕ) (d : T
     slice_index_or (substitutes (typing_of p)) image itself ≡ substitute_of (substitutes (typing_of p)) (definition_of d)
 stands p typed image k d place is = ap (λ n. slice_index_or (substitutes (typing_of p)) n itself) place ∙ definition (typing_of p) typed k (definition_of d) (entry_as p.definitions k d is)
 
--- in place of an inline image stands its body
+-- an inline image is substituted by its body
 pub inline_stands : (p : TypedProgram) → IsTyped (typing_of p) → (image k : ℕ) (d : TypedDefinition) → image ≡ length p.inputs + k → slice_get p.definitions k ≡ Some d → d.inline ≡ true →
     (slice_index_or (substitutes (typing_of p)) image itself ≡ body (inlined_body (substitutes (typing_of p)) (definition_of d))) × IsWell (types_of (typing_of p)) (typed_of d.body)
 inline_stands p typed image k d place is inline = (

@@ -111,7 +111,7 @@ none_is p xs k have past before j d is =
     let n = have.long in
     before j d (omega (arith, lt, n, past)) is
 
--- what stands in place of the inputs and the first k definitions
+-- what is in place of the inputs and the first k definitions
 abbrev pub images_before : Typing → ℕ → List Substitute
 images_before p k = take (length p.inputs + k) (substitutes p)
 

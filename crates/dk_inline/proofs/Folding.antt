@@ -1,4 +1,4 @@
--- Expressions that stand for others, and those with folded parts.
+-- Expressions that may replace others, and those with folded parts.
 use Rattle.std.proofs.Common.{◌≡◌, ℕ, List, [], ℤ, pos, ◌+ℤ◌, Option, Some, None, refl, ap, sym, ◌∙◌, subst, arith, ◌⊎◌, inl, inr}
 use Rattle.std.specs.Prelude.{◌↔◌, IfNone}
 use Rattle.dk_base.specs.declared.ty.Ty.{Ty}
@@ -59,7 +59,7 @@ no_types g t is = absurd (let e : ⊥ = cc in e)
 none_in : AreInTypes [] []
 none_in g t is x y = absurd (let e : ⊥ = cc in e)
 
--- a constant stands for what has its type and its value, and no read
+-- a constant may replace what has its type and its value, and no read
 constant_stands : (a : Tree) (v : ℤ) (s : Ty) → IsClosed a →
     ((types : List Ty) (t : Ty) → HasType types a t → t ≡ s) → ((size : Size) (known : List Picture) (x y : ℤ) → value size known a x y ≡ v) → StandsFor a (constant v s)
 constant_stands a v s closed same worth = record {
@@ -96,7 +96,7 @@ one_type types (select c a b) s t (o, p, q, g, h, i, is) (j, l, m, f, k, n, of) 
 one_type types (convert how a r) s t (ok, is, p, h) (also, of, q, k) = is ∙ sym of
 one_type types (scale op a n) s t (p, h, is) (q, k, of) = same_some s t (sym is ∙ ap (λ w. scaling_type op w n) (one_type types a p q h k) ∙ of)
 
--- the constant of its value and its type stands for an expression
+-- the constant of its value and its type may replace an expression
 pub worth_stands : (a : Tree) (v : ℤ) (s : Ty) → IsWorth a v s → StandsFor a (constant v s)
 worth_stands a v s w = constant_stands a v s w.closed (λ types t has. one_type [] a t s (closed_typed types a t w.closed has) w.typed) w.value
 
@@ -161,7 +161,7 @@ takes_two op a b v u r q s e f typed rule =
     let right = subst Q f typed.typed.3 in
     record { a = r; b = q; t = s; left_typed = left.0; right_typed = right.0; left = left.1; right = right.1; rule = rule }
 
--- what stands for another in a form
+-- what may replace another in a form
 pub stands_on : (a b c : Tree) → StandsFor a b → StandsFor b c → StandsFor a c
 stands_on a b c first next = record {
   rewriting = λ size types t has near.
@@ -274,7 +274,7 @@ select_stands a b c d e f first left right = record {
       };
 }
 
--- what stands for a typed expression is typed
+-- what may replace a typed expression is typed
 pub still_typed : (a b : Tree) → StandsFor a b → IsTyped a → IsTyped b
 still_typed a b stands typed =
     let is = stands.rewriting (record { width = 0; height = 0 }) typed.types typed.ty typed.typed typed.offsets in

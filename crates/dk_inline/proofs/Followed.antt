@@ -35,7 +35,7 @@ declared_reads : (size : Size) (t : Option Ty) (e : Tree) (x y : ℤ) (g : ℕ) 
 declared_reads size None e x y g u v = (λ h. h, λ h. h)
 declared_reads size (Some t) e x y g u v = (λ h. h, λ h. h)
 
--- what stands in place of a read that the expression has is read
+-- what is in place of a read that the expression has is read
 mentioned : (size : Size) (known : List Substitute) (e : Typed) (r : TypedRead) (x y : ℤ) (g : ℕ) (u v : ℤ) → Mentions e r → R.Reads size (read_of (substitute_at known r.image) r) x y g u v → R.Reads size (inlined known e) x y g u v
 mentioned size known (constant t c) r x y g u v m reads = absurd m
 mentioned size known (fetch t s) r x y g u v m reads = let P : TypedRead → Type 0 = λ z. R.Reads size (read_of (substitute_at known z.image) z) x y g u v in subst P (sym m) reads
@@ -143,7 +143,7 @@ module _ (p : Typing) (typed : IsTyped p) where
       let b = earlier p k in
       omega (arith, a, b, here)
 
-  -- of an expression that reads the first n images alone
+  -- of an expression that reads only the first n images
   back : (n : ℕ) → n ≤ length p.inputs + length p.definitions → (e : Typed) → ((r : TypedRead) → Mentions e r → r.image < n) → (x y : ℤ) (g : ℕ) (u v : ℤ) → R.Reads p.size (inlined (substitutes p) e) x y g u v → Reads p e x y g u v
   back zero few e below x y g u v reads = let h = mention p.size (substitutes p) e x y g u v reads in absurd (let lt = below h.by h.stands in omega (arith, lt))
   back (suc n) few e below x y g u v reads =

@@ -22,7 +22,7 @@ framed_twice size p x y = by (in_frame size x y)
     by true = refl
     by false = refl
 
--- an edge shows of a picture what lies in the frame alone
+-- an edge shows only what of a picture is in the frame
 pub edged_framed : (size : Size) → IsFrame size.width size.height → (edge : Edge) (p : Picture) → Agree (edged size edge p) (edged size edge (framed size p))
 edged_framed size frame Zero p x y = framed_twice size p x y
 edged_framed size frame Clamp p x y =

@@ -32,7 +32,7 @@ use Rattle.dk_inline.proofs.Framed.{edged_framed}
 use Rattle.dk_inline.proofs.Meant.{input_picture, definition_picture, long_meaning}
 use Rattle.dk_inline.proofs.Substituted.{substitute_at, input, definition, past, well_at, earlier}
 
--- what stands in place of image g has its picture p, over these pictures of the new program
+-- what is in place of image g has its picture p, over these pictures of the new program
 abbrev pub Shows : Size → List Picture → ℕ → Picture → Substitute → Type 0
 Shows size new g p itself = Agree (picture_at new g) p
 Shows size new g p (body e) = Agree (framed size (value size new e)) p
@@ -182,7 +182,7 @@ past_shows p ir inlining round are g ge x y =
     ap (λ (q : Picture). q x y) (zero_past (pictures ir round) g (omega (arith, ge, long, bodies_long, new_long)))
     ∙ sym (ap (λ (q : Picture). q x y) (zero_past (meaning p round) g (omega (arith, ge, old_long))))
 
--- the k-th of a list, if there are so many
+-- the k-th of a list, if there are this many
 entry : {A : Type 0} (xs : List A) (k : ℕ) → ((x : A) × (slice_get xs k ≡ Some x)) ⊎ (length xs ≤ k)
 entry [] k = inr (omega arith)
 entry (x ∷ xs) zero = inl (x, refl)

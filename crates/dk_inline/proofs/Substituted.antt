@@ -1,4 +1,4 @@
--- What stands in place of each image, over the list of all.
+-- What is in place of each image, over the list of all.
 use Rattle.std.proofs.Common.{◌≡◌, ℕ, zero, suc, ◌+◌, ◌<◌, ◌≤◌, List, [], ◌∷◌, ◌++◌, length, map, take, Some, slice_get, refl, ap, sym, ◌∙◌, subst, arith, append-nil, append_assoc, length-append, add-zero}
 use Rattle.std.proofs.Math.ListN.{get_or-append}
 use Rattle.std.proofs.Math.Seq.{get_or-append_seam}
@@ -15,7 +15,7 @@ use Rattle.pointwise_ir.specs.Trees.{unary, binary, select, convert, scale}
 use Rattle.dk_inline.specs.Inlined.{Substitute, itself, body, read_of, inlined, declared_as, inlined_body, substitute_of, substitutes_from, substitutes}
 use Rattle.dk_inline.proofs.Lists.{past_end, length-taken}
 
--- what stands in place of image g
+-- what is in place of image g
 abbrev pub substitute_at : List Substitute → ℕ → Substitute
 substitute_at known g = slice_index_or known g itself
 
@@ -23,7 +23,7 @@ substitute_at known g = slice_index_or known g itself
 abbrev pub AreSame : ℕ → (one other : List Substitute) → Type 0
 AreSame n one other = (g : ℕ) → g < n → substitute_at one g ≡ substitute_at other g
 
--- An expression depends only on what stands in place of the images that it may read.
+-- An expression depends only on what is in place of the images that it may read.
 pub inlined_same : (ts : List Ty) (one other : List Substitute) → AreSame (length ts) one other → (e : Typed) → IsWell ts e → inlined one e ≡ inlined other e
 inlined_same ts one other same (T.constant t v) well = refl
 inlined_same ts one other same (fetch t r) well = ap (λ s. read_of s r) (same r.image (slice_get_within ts r.image t well.image))
@@ -43,7 +43,7 @@ body_same ts one other same d well = ap (declared_as d.declared) (inlined_same t
 pub substitute_same : (ts : List Ty) (one other : List Substitute) → AreSame (length ts) one other → (d : Definition) → IsWell ts d.body → substitute_of one d ≡ substitute_of other d
 substitute_same ts one other same d well = ap (λ e. if d.inline then body e else itself) (body_same ts one other same d well)
 
--- what stands first stays
+-- what comes first stays
 pub first_stay : (ds : List Definition) (known : List Substitute) (g : ℕ) → g < length known → substitute_at (substitutes_from known ds) g ≡ substitute_at known g
 first_stay [] known g lt = refl
 first_stay (d ∷ ds) known g lt =
@@ -59,7 +59,7 @@ length-substitutes (d ∷ ds) known =
     let longer = length-append known (s ∷ []) in
     omega (arith, rest, longer)
 
--- In place of a definition stands what it is over the list of all.
+-- A definition is replaced by what it is over the list of all.
 pub definition_from : (ds : List Definition) (ts : List Ty) (known : List Substitute) → length known ≡ length ts → AreWell ts ds → (k : ℕ) (d : Definition) → slice_get ds k ≡ Some d →
     substitute_at (substitutes_from known ds) (length known + k) ≡ substitute_of (substitutes_from known ds) d
 definition_from [] ts known long well k d is = absurd (let no : ⊥ = cc in no)
@@ -79,7 +79,7 @@ definition_from (c ∷ ds) ts known long well (suc k) d is =
     let place : length (known ++ s ∷ []) + k ≡ length known + suc k = omega (arith, a) in
     ap (substitute_at (substitutes_from known (c ∷ ds))) (sym place) ∙ definition_from ds (ts ++ image_type c ∷ []) (known ++ s ∷ []) (omega (arith, a, b, long)) well.2 k d is
 
--- a definition's body reads the images before it alone, and its declared type takes it
+-- a definition's body reads only the images before it, and its declared type takes it
 pub well_from : (ds : List Definition) (ts : List Ty) → AreWell ts ds → (k : ℕ) (d : Definition) → slice_get ds k ≡ Some d → IsWell (ts ++ map image_type (take k ds)) d.body × Takes d.declared (type_of d.body)
 well_from [] ts well k d is = absurd (let no : ⊥ = cc in no)
 well_from (c ∷ ds) ts well zero d is =
@@ -92,7 +92,7 @@ well_from (c ∷ ds) ts well (suc k) d is =
     let Q : List Ty → Type 0 = λ us. IsWell us d.body in
     (subst Q (append_assoc ts (image_type c ∷ []) (map image_type (take k ds))) rest.0, rest.1)
 
--- inputs stand for themselves
+-- inputs are replaced by themselves
 inputs_stay : (is : List TypedInput) (g : ℕ) → substitute_at (map (λ i. itself) is) g ≡ itself
 inputs_stay [] g = refl
 inputs_stay (i ∷ is) zero = refl

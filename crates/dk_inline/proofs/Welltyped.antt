@@ -35,7 +35,7 @@ type_more ts us (select c a b) t (q, s, r, h, g, f, k) = (q, s, r, type_more ts 
 type_more ts us (convert how a s) t (ok, is, r, h) = (ok, is, r, type_more ts us a r h)
 type_more ts us (scale op a k) t (s, h, is) = (s, type_more ts us a s h, is)
 
--- what stands in place of an image has its type
+-- what is in place of an image has its type
 abbrev pub Fits : List Ty → Ty → Substitute → Type 0
 Fits ts t itself = Unit {0}
 Fits ts t (body e) = HasType ts e t × AreNear e
@@ -109,7 +109,7 @@ fitting_more ts t all fit last g s is = elim (last_entry ts t s g is) [
       subst P (sym e.0) (subst Q e.1 (fits_more ts (t ∷ []) t (slice_index_or all (length ts) itself) last))
 ]
 
--- definitions over images of the types ts, where `all` has what stands in place of each
+-- definitions over images of the types ts, where `all` has what is in place of each
 fits_from : (all : List Substitute) (ds : List Definition) (ts : List Ty) → AreWell ts ds → ((k : ℕ) (d : Definition) → slice_get ds k ≡ Some d → slice_index_or all (length ts + k) itself ≡ substitute_of all d) → AreFitting ts all →
     (k : ℕ) (d : Definition) → slice_get ds k ≡ Some d → HasType (ts ++ map image_type (take k ds)) (inlined_body all d) (image_type d) × AreNear (inlined_body all d)
 fits_from all [] ts well stand fit k d is = absurd (let f : ⊥ = cc in f)

@@ -40,7 +40,7 @@ pub record KeepsProgram (p : Typing) (ir : Program) : Type 0 where
   pub stay : (g : ℕ) → IsKept p g → Stays p g
   pub live : (f g : ℕ) (dx dy : ℤ) → Stays p f → R.IsLive ir f g dx dy ↔ IsLive p f g dx dy
 
--- the limit that is passed first; a count of nodes is told up to 2^64 - 1
+-- the limit that is passed first; a count of nodes is specified up to 2^64 - 1
 abbrev pub IsFault : Typing → InlineFault → Type 0
 IsFault p (Nodes count) = (MAX_NODES < node_count p) × (count ≡ min (node_count p) 18446744073709551615)
 IsFault p (InlineDepth name) = (node_count p ≤ MAX_NODES) × IsFirstDeep p name

@@ -10,7 +10,7 @@ use Rattle.pointwise_ir.specs.declared.expr.Edge.{Edge}
 use Rattle.pointwise_ir.specs.declared.expr.Edge.TheVariants.{Zero, Clamp}
 use Rattle.pointwise_ir.specs.Trees.{Tree, constant, read, shifted, unary, binary, select, convert, scale}
 
--- what stands in place of the reads of an image: the image itself, or the inlined body of an inline one
+-- what is in place of the reads of an image: the image itself, or the inlined body of an inline one
 pub data Substitute : Type 0 where
   itself : Substitute
   body : Tree → Substitute
@@ -45,7 +45,7 @@ inlined_body known d = declared_as d.declared (inlined known d.body)
 abbrev pub substitute_of : List Substitute → Definition → Substitute
 substitute_of known d = if d.inline then body (inlined_body known d) else itself
 
--- what stands in place of each image, and of each of the definitions after them
+-- what is in place of each image, and of each of the definitions after them
 abbrev pub substitutes_from : List Substitute → List Definition → List Substitute
 substitutes_from known ds = fold (λ before d. before ++ substitute_of before d ∷ []) known ds
 

@@ -103,7 +103,7 @@ fn read_extent(definition: &TypedDefinition, body: Extent) -> Option<Extent>
     if definition.inline { Some(body) } else { None }
 }
 
-// What reads of so many inputs add.
+// What reads of this many inputs add.
 fn unread(alloc: Global, inputs: usize) -> Result<Vec<Option<Extent>>, AllocError>
     ensures long { IfOk result (λ v. length v.items ≡ inputs) }
     ensures none { IfOk result (λ v. (g : ℕ) → slice_index_or v.items g None ≡ None) }
@@ -145,7 +145,8 @@ pub(crate) fn stays(program: &TypedProgram, number: usize) -> bool
 fn counted(program: &TypedProgram, extents: &[Extent], number: usize) -> u64
     requires extents { HaveExtents (typing_of program.now) extents.now }
     requires number { number < length extents.now }
-    ensures { (d : Definition) → slice_get (typing_of program.now).definitions number ≡ Some d → result ≡ saturated (if stays_at (typing_of program.now) number d then nodes_of (inlined_body (substitutes (typing_of program.now)) d) else 0) }
+    ensures { (d : Definition) → slice_get (typing_of program.now).definitions number ≡ Some d
+        → result ≡ saturated (if stays_at (typing_of program.now) number d then nodes_of (inlined_body (substitutes (typing_of program.now)) d) else 0) }
 {
     if stays(program, number) {
         extents[number].nodes

@@ -21,7 +21,7 @@ pub enum InlineFault {
     /// A definition deeper than 1,024 after inlining, at its name.
     #[error("{}-{}: InlineDepth", .span.start, .span.stop)]
     InlineDepth { span: Span },
-    /// There was not enough memory to tell.
+    /// Out of memory.
     #[error("out of memory")]
     OutOfMemory,
 }

@@ -23,7 +23,9 @@ fn edge(clamped: bool) -> Edge
 // The definition of an inline image.
 fn inline_definition(program: &TypedProgram, image: u32) -> Option<&TypedDefinition>
     requires { image < length (types_of (typing_of program.now)) }
-    ensures { MatchOption result (slice_index_or (substitutes (typing_of program.now)) image itself ≡ itself) (λ d. (slice_index_or (substitutes (typing_of program.now)) image itself ≡ body (inlined_body (substitutes (typing_of program.now)) (definition_of d.now))) × IsWell (types_of (typing_of program.now)) (typed_of d.now.body)) }
+    ensures { MatchOption result (slice_index_or (substitutes (typing_of program.now)) image itself
+        ≡ itself) (λ d. (slice_index_or (substitutes (typing_of program.now)) image itself
+        ≡ body (inlined_body (substitutes (typing_of program.now)) (definition_of d.now))) × IsWell (types_of (typing_of program.now)) (typed_of d.now.body)) }
 {
     program.law();
     let image = image as usize;
@@ -142,7 +144,8 @@ fn whole_body(
 // The body of the image of the definition of this number.
 fn image_body(alloc: Global, program: &TypedProgram, number: usize) -> Result<Expr, OutOfMemory>
     requires { number < length program.now.definitions }
-    ensures { (d : T.Definition) → slice_get (typing_of program.now).definitions number ≡ Some d → IfOk result (λ e. tree_of e ≡ body_of (typing_of program.now) number d) }
+    ensures { (d : T.Definition) → slice_get (typing_of program.now).definitions number ≡ Some d
+        → IfOk result (λ e. tree_of e ≡ body_of (typing_of program.now) number d) }
 {
     program.law();
     let definition = &program.definitions()[number];

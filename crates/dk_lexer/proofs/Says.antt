@@ -1,4 +1,4 @@
--- The tokens of a text say what stands in it.
+-- The tokens of a text say what is in it.
 use Rattle.std.proofs.Common.{◌≡◌, ◌≢◌, ◌≤◌, ◌+◌, ◌-◌, List, [], ◌∷◌, ℕ, suc, length, take, drop, arith, refl, sym, ap, ◌∙◌, length-drop, length-append, Ok, false, zero}
 use Rattle.std.specs.List.{AllByRecursion, slice_range}
 use Rattle.std.proofs.lemmas.List.Elements.{All-from_recursion}

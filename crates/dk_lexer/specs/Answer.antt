@@ -9,18 +9,18 @@ use Rattle.dk_lexer.specs.declared.fault.Refusal.{Refusal}
 use Rattle.dk_lexer.specs.declared.fault.Refusal.TheVariants.{Fault as Here, OutOfMemory as NoMemory}
 use Rattle.dk_lexer.specs.Lexis.{Lexeme, HasFault}
 
--- an error is the first fault of the text, or want of memory
+-- an error is the first fault of the text, or out of memory
 abbrev pub Stops : List ℕ → LexError → Type 0
 Stops text (Fault fault) = HasFault text fault
 Stops text OutOfMemory = ⊤
 
--- an answer is the lexeme, or want of memory
+-- an answer is the lexeme, or out of memory
 abbrev pub Answers : Lexeme → Result (TokenKind × ℕ) Refusal → Type 0
 Answers l (Ok x) = l ≡ Ok x
 Answers l (Err (Here kind n)) = l ≡ Err (kind, n)
 Answers l (Err NoMemory) = ⊤
 
--- a fault is of so many bytes at most
+-- a fault is of this many bytes at most
 abbrev pub FitsIn : ℕ → Refusal → Type 0
 FitsIn m (Here kind n) = n ≤ m
 FitsIn m NoMemory = ⊤

@@ -24,7 +24,7 @@ Writes bytes (Number value) = IsNumeral bytes × (digits_value 10 bytes ≡ valu
 Writes bytes (Sym symbol) = Contains symbols (bytes, symbol)
 Writes bytes End = bytes ≡ []
 
--- the token stands within the text, which writes it there; the end of the text stands at its length
+-- the token is within the text, which writes it there; the end of the text is at its length
 pub record Stands (source : List ℕ) (token : Token) : Type 0 where
   pub ordered : token.span.start ≤ token.span.stop
   pub within : token.span.stop ≤ length source
@@ -42,7 +42,7 @@ abbrev pub with_line_end : TokenKind → List ℕ → List ℕ
 with_line_end End bytes = bytes ++ 10 ∷ []
 with_line_end _ bytes = bytes
 
--- the tokens stand one after another from this byte on, and only white space and comments stand between them
+-- the tokens are one after another from this byte on, and only white space and comments are between them
 abbrev pub Follow : List ℕ → ℕ → List Token → Type 0
 Follow source from [] = ⊤
 Follow source from (token ∷ tokens) =

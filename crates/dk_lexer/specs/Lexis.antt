@@ -13,7 +13,7 @@ use Rattle.dk_lexer.specs.declared.fault.LexFault.{LexFault}
 use Rattle.dk_base.specs.Ascii.{is_white, is_letter, is_digit, is_word_byte, value_of}
 use Rattle.dk_lexer.specs.Bytes.{is_in_line, symbols}
 
--- what stands at the front of a text, and how many bytes it has
+-- what is at the front of a text, and how many bytes it has
 abbrev pub Lexeme : Type 0
 Lexeme = Result (TokenKind × ℕ) (LexKind × ℕ)
 
@@ -44,7 +44,7 @@ lexeme a bs =
     if is_letter a then word_here (a ∷ bs)
     else (if is_digit a then number_here (a ∷ bs) else symbol_here (a ∷ bs))
 
--- Gap text rest: only white space and comments stand in the text before the rest.
+-- Gap text rest: only white space and comments are in the text before the rest.
 -- A comment goes from `--` to the end of its line, or of the text.
 pub data Gap : List ℕ → List ℕ → Type 0 where
   none : {rest : List ℕ} → Gap rest rest
@@ -61,14 +61,14 @@ Solid (a ∷ b ∷ bs) = (is_white a ≡ false) × (a ≡ 45 → b ≡ 45 → �
 abbrev pub span_at : ℕ → List ℕ → ℕ → Span
 span_at total left n = record { start = total - length left; stop = total - length left + n }
 
--- Lexes total text tokens: these are the tokens of what is left of a text of so many bytes.
+-- Lexes total text tokens: these are the tokens of what is left of a text of this many bytes.
 pub data Lexes (total : ℕ) : List ℕ → List Token → Type 0 where
   finish : {text : List ℕ} → Gap text [] → Lexes total text (record { span = record { start = total; stop = total }; kind = End } ∷ [])
   next : {text bs : List ℕ} {a n : ℕ} {kind : TokenKind} {tokens : List Token} → Gap text (a ∷ bs) → Solid (a ∷ bs) → lexeme a bs ≡ Ok (kind, n)
       → Lexes total (drop n (a ∷ bs)) tokens
       → Lexes total text (record { span = span_at total (a ∷ bs) n; kind = kind } ∷ tokens)
 
--- Refused total text fault: this is the first fault in what is left of a text of so many bytes.
+-- Refused total text fault: this is the first fault in what is left of a text of this many bytes.
 pub data Refused (total : ℕ) : List ℕ → LexFault → Type 0 where
   here : {text bs : List ℕ} {a n : ℕ} {kind : LexKind} → Gap text (a ∷ bs) → Solid (a ∷ bs) → lexeme a bs ≡ Err (kind, n)
       → Refused total text (record { span = span_at total (a ∷ bs) n; kind = kind })

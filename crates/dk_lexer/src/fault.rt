@@ -24,14 +24,14 @@ pub struct LexFault {
     pub kind: LexKind,
 }
 
-// Why there is no token at the front of a text: a fault of so many bytes, or want of memory.
+// Why there is no token at the front of a text: a fault of this many bytes, or out of memory.
 #[derive(Debug, Drop)]
 pub(crate) enum Refusal {
     Fault(LexKind, usize),
     OutOfMemory,
 }
 
-/// Why a text has no tokens: its first fault, or want of memory.
+/// Why a text has no tokens: its first fault, or out of memory.
 #[derive(Debug, Drop, thiserror::Error)]
 pub enum LexError {
     #[error("{0}")]

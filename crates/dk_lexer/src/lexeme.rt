@@ -128,7 +128,7 @@ fn symbol(first: u8, after: &[u8]) -> Result<(TokenKind, usize), Refusal>
     }
 }
 
-// What stands at the front of the bytes, the first byte and those after it.
+// What is at the front of the bytes, the first byte and those after it.
 #[tactic(auto, unfolding(crate::specs::Lexis::lexeme))]
 pub(crate) fn lexeme(
     alloc: Global,

@@ -8,4 +8,4 @@ mod tokens;
 
 pub use fault::{LexError, LexFault, LexKind};
 pub use token::{Symbol, Token, TokenKind};
-pub use tokens::{faithful, lex, one_reading};
+pub use tokens::{faithful_law, lex, one_reading_law};

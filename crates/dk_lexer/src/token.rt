@@ -59,7 +59,7 @@ pub enum TokenKind {
     End,
 }
 
-/// A token, and where it stands in its text.
+/// A token, and where it is in its text.
 #[derive(Debug, Drop)]
 pub struct Token {
     pub span: Span,

@@ -21,9 +21,11 @@ pub fn lex(alloc: Global, source: &[u8]) -> Result<Vec<Token>, LexError>
     ensures fault { IfErr result (λ error. Stops source.now error) }
     ensures ended { IfOk result (λ tokens. IsEnded tokens.items) }
 
-    // What is so is answered, but for want of memory.
-    ensures accepts { (tokens : List Token) → HasTokens source.now tokens → MatchResult result (λ found. found.items ≡ tokens) (λ error. error ≡ LexError.OutOfMemory) }
-    ensures refuses { (fault : LexFault) → HasFault source.now fault → IsErrAnd result (λ error. (error ≡ LexError.Fault fault) ⊎ (error ≡ LexError.OutOfMemory)) }
+    // What is so is answered, except if out of memory.
+    ensures accepts { (tokens : List Token) → HasTokens source.now tokens
+        → MatchResult result (λ found. found.items ≡ tokens) (λ error. error ≡ LexError.OutOfMemory) }
+    ensures refuses { (fault : LexFault) → HasFault source.now fault → IsErrAnd result (λ error. (error ≡ LexError.Fault fault)
+        ⊎ (error ≡ LexError.OutOfMemory)) }
 {
     read(alloc, source)
 }
@@ -88,14 +90,14 @@ fn located(start: usize, refusal: Refusal) -> LexError
 }
 
 /// A text has one list of tokens, or one first fault, and never both.
-pub fn one_reading()
+pub fn one_reading_law()
     ensures some { (text : List ℕ) → ((tokens : List Token) × HasTokens text tokens) ⊎ ((fault : LexFault) × HasFault text fault) }
     ensures tokens { (text : List ℕ) (one other : List Token) → HasTokens text one → HasTokens text other → one ≡ other }
     ensures fault { (text : List ℕ) (one other : LexFault) → HasFault text one → HasFault text other → one ≡ other }
     ensures either { (text : List ℕ) (tokens : List Token) (fault : LexFault) → HasTokens text tokens → HasFault text fault → ⊥ }
 {}
 
-/// Each token of a text stands where its span says, in order, with only white space and comments between them.
-pub fn faithful()
+/// Each token of a text is where its span says, in order, with only white space and comments between them.
+pub fn faithful_law()
     ensures { (text : List ℕ) (tokens : List Token) → HasTokens text tokens → IsFaithful text tokens }
 {}

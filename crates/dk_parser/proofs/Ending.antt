@@ -71,7 +71,7 @@ closes_behind ts mid rest f c =
 not_ending : (k : Terminal) (n : Lead) → lead_of k ≡ Some n → n ≢ lead.End → k ≢ EndOfText
 not_ending k n e o h = o (same_Some _ _ (sym e ∙ ap lead_of h))
 
--- one item and the word behind it
+-- one item and the word after it
 last_word : (l : Lead) {ts mid rest : Tokens} (v : Item) (t : Token) → is_end l ≡ false → AnItem l ts v mid → mid ≡ t ∷ rest → next l t ≡ Some lead.End → Closes ts rest
 last_word l {ts = ts} {mid = mid} {rest = rest} v t g p e k =
     closes_behind ts mid rest ((free_item l g).free p) (rw e (record { own = []; tok = t; whole = refl; free = tt; is_end' = ends_only (terminal t) (allowed_some l (lead_of (terminal t)) lead.End k) }))
@@ -104,7 +104,7 @@ program_closes {ts = ts} {rest = rest} p =
     (closes_behind w.1 h.1 rest (free_literal.free h.2)
     (closes_behind h.1 i.1 rest ((free_mark (mark.Reserved word.Input) (λ e. cc)).free i.2) c)))
 
--- The parser does not stop behind the end of the text.
+-- The parser does not stop after the end of the text.
 pub not_behind : (ts : Tokens) → Ended ts → Stuck AProgram ts [] → ⊥
 not_behind ts h s =
     let e : ts ≡ s.taken = s.whole ∙ append_nil s.taken in

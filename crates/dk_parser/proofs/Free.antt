@@ -1,4 +1,4 @@
--- The end of the text stands in no phrase.
+-- The end of the text is in no phrase.
 use Rattle.std.proofs.Common.{◌≡◌, List, Bool, ℕ, [], ◌∷◌, ◌++◌, refl, ap, sym, ◌∙◌, ◌≢◌, Some, None}
 use Rattle.dk_lexer.specs.declared.token.Token.{Token}
 use Rattle.dk_lexer.specs.declared.token.Symbol.{Symbol}

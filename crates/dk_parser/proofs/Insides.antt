@@ -1,4 +1,4 @@
--- Enclosed expressions and reads, behind their first token.
+-- Enclosed expressions and reads, after their first token.
 use Rattle.std.proofs.Common.{◌≡◌, ◌≢◌, ◌⊎◌, inl, inr, ◌<◌, ◌≤◌, [], ◌∷◌, ◌++◌, refl, ap, sym, ◌∙◌, subst, arith, append_assoc}
 use Rattle.dk_base.specs.declared.span.Span.{Span}
 use Rattle.dk_base.specs.declared.operator.Unary.{Unary}
@@ -26,7 +26,7 @@ use Rattle.dk_parser.proofs.ReadLaws.{clear_unclamped, reads_first}
 use Rattle.dk_parser.proofs.Laws.{local, not_read, enclosed_first, head_is, tail_is}
 use Rattle.dk_parser.proofs.Stucks.{alike_rank, ends_there}
 
--- Behind its first token stands what that token asks for.
+-- After its first token comes what that token asks for.
 pub enclosed_out : {w r : Tokens} {e : Tree} {tok : Token} → Phrase enclosed (tok ∷ w) e r → Inside (start (terminal tok)) tok.span w e r
 enclosed_out (constant n) = rw n (refl, refl)
 enclosed_out {r = z} (bracket {e = x} {close = c} a p b) = rw a ((x, c.span), z, (c, p, b, refl), (refl, refl))
@@ -166,7 +166,7 @@ stuck_unclamped ts after at tok e s k =
     (λ w r v a m. let like = subst (λ x. Alike x w) e a in unclamped_out (read_out m.0 tok like.0 like.1 s))
     k
 
--- A read with `edge` behind it goes on with `clamp`.
+-- A read with `edge` after it goes on with `clamp`.
 clamp_out : {ts w r : Tokens} {e : Tree} {x : Span × ImageRead} {edge : Token} → Unclamped ts x (edge ∷ w) → terminal edge ≡ Keyword Edge → Phrase primary ts e r → 1 < rank r
     → (z : Span) × Sign (mark.Reserved Clamp) w z r
 clamp_out p f (closed q) h = absurd (not_read q (unclamped' p))

@@ -189,7 +189,7 @@ more_output p q vs n h a b c d = record {
   outputs = c ∙ ap (λ x. x ++ (n ∷ [])) h.outputs ∙ sym (outputs_more vs (output n));
 }
 
--- A definition more: behind one that is too deep, too deep itself, or kept.
+-- A definition more: after one that is too deep, too deep itself, or kept.
 pub still_deep : (p : Parts) (vs : List Item) (d : Definition) (s : Span) → Holds p vs → p.deep ≡ Some s → Holds p (vs ++ (definition d ∷ []))
 still_deep p vs d s h e = record {
   inputs = h.inputs ∙ sym (append_nil (inputs_of vs)) ∙ sym (inputs_more vs (definition d));

@@ -1,4 +1,4 @@
--- Laws of the grammar: a phrase does not depend on what follows it, and what follows it tells where it ends.
+-- Laws of the grammar: a phrase does not depend on what follows it, and what follows it determines where it ends.
 use Rattle.std.proofs.Common.{◌≡◌, ℕ, suc, ◌<◌, [], ◌∷◌, ◌++◌, Some, refl, ap, sym, ◌∙◌, subst, arith, append_assoc}
 use Rattle.dk_base.specs.declared.operator.Unary.{Unary}
 use Rattle.dk_base.specs.declared.operator.Binary.{Binary}

@@ -6,7 +6,7 @@ use Rattle.dk_parser.specs.Front.{rank}
 use Rattle.dk_parser.specs.Grown.{Stands}
 use Rattle.dk_parser.specs.declared.built.Built.{Built}
 
--- The steps after l0 in ts are those after l in rest, whatever stands in place of rest.
+-- The steps after l0 in ts are those after l in rest, whatever is in place of rest.
 pub record Resumes (n : ℕ) (l0 : Tree) (ts : Tokens) (l : Tree) (rest : Tokens) : Type 0 where
   pub own : Tokens
   pub whole : ts ≡ own ++ rest

@@ -307,7 +307,7 @@ outputs_go : {ts mid rest : Tokens} {os : List Name} → Many OutputRule ts os m
 outputs_go none r = r
 outputs_go (more {v = o} p q) r = output_goes lead.Output o refl p (outputs_go q r)
 
--- what stands behind definitions goes on from an input and from a definition
+-- what follows definitions goes on from an input and from a definition
 abbrev Reaches : Tokens → List Item → Tokens → Type 0
 Reaches ts vs rest = (l : Lead) → may_follow l lead.Output ≡ true → Goes l ts vs rest
 

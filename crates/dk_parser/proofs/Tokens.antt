@@ -1,4 +1,4 @@
--- Tokens of each kind, to go on with, and where a token is not the one that is wanted.
+-- Tokens of each kind, to go on with, and where a token is not the expected one.
 use Rattle.std.proofs.Common.{◌≡◌, ◌≢◌, ℕ, List, [], ◌∷◌, Option, Some, None, refl, ap, sym, ◌∙◌, codes}
 use Rattle.std.proofs.lemmas.Option.{same_Some}
 use Rattle.dk_base.specs.declared.span.Span.{Span}

@@ -76,7 +76,7 @@ closed_read m d b ts (inl good) = by good.1 good.2
 closed_reader : {n : ℕ} (m : Mark) → Decides m → binding (mark_terminal m) ≡ Stops → Parses comparison n → Reader n (Closed m)
 closed_reader m d b p = record { clear = S.clear_closed m b; reads = λ ts lt. closed_read m d b ts (p ts lt) }
 
--- Behind the first token of an enclosed expression.
+-- After the first token of an enclosed expression.
 inside : {n : ℕ} → Parses comparison n → (k : Start) → Opens k → (s : Span) → Reader n (Inside k s)
 inside p (Constant v) o s = done_reader _
 inside p Bracket o s = then_reader (closed_reader (mark.Sign Close) is_close refl p) (λ a. done_reader _)
@@ -171,7 +171,7 @@ unary_of n p (t ∷ after) lt = elim (is_prefix (start (terminal t))) [
   | inr other ↦ plain_of (t ∷ after) (λ tok s o e k. let same : t ≡ tok = cc in other o (ap (λ x. start (terminal x)) same ∙ k)) (p (t ∷ after) lt)
 ]
 
--- What follows a first operand; the lists have at most so many tokens.
+-- What follows a first operand; the lists have at most this many tokens.
 module _ (n m : ℕ) (small : m < 7) (p : Parses (level m) n) where
   ends_here : (l : Tree) (ts : Tokens) → suc (suc m) < rank ts → Parse (steps m l) ts
   ends_here l ts h = inl (l, ts, record { phrase = done; ends = h; fewer = omega arith })

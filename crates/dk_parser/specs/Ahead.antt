@@ -1,4 +1,4 @@
--- Used by private functions alone.
+-- Used by private functions only.
 -- What goes on with an expression.
 use Rattle.std.specs.Prelude.{◌≡◌, ◌≢◌, ℕ, suc, ◌<◌, ◌∷◌, length}
 use Rattle.dk_base.specs.declared.operator.Binary.{Binary}

@@ -1,4 +1,4 @@
--- Used by private functions alone.
+-- Used by private functions only.
 -- Lists of tokens that end.
 use Rattle.std.specs.Prelude.{◌≡◌, ◌≢◌, [], ◌∷◌}
 use Rattle.dk_parser.specs.declared.terminal.Terminal.TheVariants.{EndOfText}

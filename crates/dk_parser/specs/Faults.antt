@@ -1,4 +1,4 @@
--- Used by private functions alone.
+-- Used by private functions only.
 -- What is read, and where it is stuck.
 use Rattle.std.specs.Prelude.{◌≡◌, ◌<◌, ◌≤◌, ◌∷◌, length, Some}
 use Rattle.dk_base.specs.declared.span.Span.{Span}
@@ -30,11 +30,11 @@ pub record Parsed (f : Form) (ts : Tokens) (e : Tree) (rest : Tokens) : Type 0 w
   pub ends : bound f < rank rest
   pub fewer : length rest ≤ length ts
 
--- one token after an operator that wants a number or a type
+-- one token after an operator that requires a number or a type
 abbrev pub Suffix : Tree → Step → Phrases Token Tree
 Suffix l s ts m rest = (tok : Token) × (ts ≡ tok ∷ rest) × (suffix l s tok ≡ Some m)
 
--- what stands behind the first token of an enclosed expression
+-- what follows the first token of an enclosed expression
 abbrev pub Inside : Start → Span → Phrases Token Tree
 Inside (Constant v) s = Done (number s v)
 Inside Bracket s = Then (Closed (mark.Sign Close)) (λ a. Done (at_span (over s a.1) a.0))

@@ -1,5 +1,5 @@
--- Used by private functions alone.
--- The first token, and how it goes on with what stands before it.
+-- Used by private functions only.
+-- The first token, and how it goes on with what comes before it.
 use Rattle.std.specs.Prelude.{◌≡◌, ℕ, suc, ◌<◌, [], ◌∷◌, length}
 use Rattle.dk_lexer.specs.declared.token.Token.{Token}
 use Rattle.dk_parser.specs.declared.terminal.Keyword.TheVariants.{Edge}

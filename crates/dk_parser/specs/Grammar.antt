@@ -82,7 +82,7 @@ pub data Form : Type 0 where
   enclosed : Form
 
 -- Phrase f ts e rest: the tokens ts begin with a phrase of the form f, its tree is e, and rest comes after it.
--- At level 0 stand the unary operators, at level n the operators of precedence n; steps are what follows a first operand.
+-- At level 0 are the unary operators, at level n the operators of precedence n; steps are what follows a first operand.
 -- Enclosed is a primary expression that is no read.
 pub data Phrase : Form → Tokens → Tree → Tokens → Type 0 where
   single : {ts rest : Tokens} {e : Tree} → Phrase (level 7) ts e rest → Phrase comparison ts e rest

@@ -1,4 +1,4 @@
--- Used by private functions alone.
+-- Used by private functions only.
 -- What was read, and what is kept of its tree.
 use Rattle.std.specs.Prelude.{◌≡◌, suc, ◌≤◌, ◌<◌, length, Some}
 use Rattle.dk_base.specs.declared.TheConstants.{MAX_SOURCE_DEPTH}

@@ -1,4 +1,4 @@
--- Used by private functions alone.
+-- Used by private functions only.
 -- The items of a program as one chain: which word comes after which item.
 use Rattle.std.specs.Prelude.{if◌then◌else◌, List, [], ◌∷◌, Option, Some, None, Bool, true, false}
 use Rattle.dk_lexer.specs.declared.token.Token.{Token}
@@ -22,7 +22,7 @@ pub data Item : Type 0 where
   definition : Definition → Item
   output : Name → Item
 
--- What stands behind the word that an item begins with.
+-- What follows the word that an item begins with.
 abbrev pub AnItem : Lead → Phrases Token Item
 AnItem lead.Input = Then AnInput (λ i. Done (input i))
 AnItem lead.Let = Then (ADefinition false) (λ d. Done (definition d))

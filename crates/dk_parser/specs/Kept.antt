@@ -1,4 +1,4 @@
--- Used by private functions alone.
+-- Used by private functions only.
 -- What is kept of the items of a program.
 use Rattle.std.specs.Prelude.{◌≡◌, ◌<◌, length, List, [], ◌∷◌, ◌++◌, Option, Some, None, Bool}
 use Rattle.dk_base.specs.declared.span.Span.{Span}

@@ -8,13 +8,13 @@ use Rattle.dk_parser.specs.declared.terminal.Terminal.TheVariants.{Symbol as Sym
 use Rattle.dk_parser.specs.Terminals.{terminal}
 use Rattle.dk_parser.specs.Grammar.{Tokens}
 
--- how many brackets are unclosed behind a terminal, after so many before it
+-- how many brackets are unclosed after a terminal, after this many before it
 abbrev pub unclosed : ℕ → Terminal → ℕ
 unclosed n (Sym Open) = suc n
 unclosed n (Sym Close) = n - 1
 unclosed n _ = n
 
--- no more than the limit are unclosed anywhere in the tokens, after so many before them
+-- no more than the limit are unclosed anywhere in the tokens, after this many before them
 abbrev pub StaysShallow : ℕ → Tokens → Type 0
 StaysShallow n [] = n ≤ MAX_OPEN_BRACKETS
 StaysShallow n (t ∷ ts) = (n ≤ MAX_OPEN_BRACKETS) × StaysShallow (unclosed n (terminal t)) ts

@@ -22,9 +22,9 @@ pub(crate) fn front(tokens: &[Token]) -> Option<(&Token, Terminal, &[Token])>
 // How the tokens go on with an expression before them, at a level of operators.
 #[derive(Drop)]
 pub(crate) enum Ahead<'a> {
-    // An operator of the level that wants an operand, and the tokens after it.
+    // An operator of the level that requires an operand, and the tokens after it.
     Operand(Binary, &'a [Token]),
-    // An operator of the level that wants a number or a type, and the tokens after it.
+    // An operator of the level that requires a number or a type, and the tokens after it.
     Suffix(Step, &'a [Token]),
     // An operator that binds tighter than the level.
     Tighter,
@@ -57,7 +57,7 @@ pub(crate) fn look_ahead<'a>(precedence: u8, tokens: &'a [Token]) -> Ahead<'a>
     }
 }
 
-// The tokens behind the word that makes a read a clamped one, where it stands first.
+// The tokens after the word that makes a read a clamped one, where it is first.
 #[tactic(auto, using(crate::proofs::Edges::not_edge))]
 pub(crate) fn edge(tokens: &[Token]) -> Option<&[Token]>
     ensures { MatchOption result (1 < rank tokens.now) (λ x. IsEdge tokens.now x.now) }

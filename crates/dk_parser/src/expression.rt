@@ -68,7 +68,8 @@ fn steps_of<'a>(
     tokens: &'a [Token],
 ) -> Result<(Built, &'a [Token]), Halt<'a>>
     requires { precedence < 7 }
-    ensures parsed { (l : Tree) → Stands first l → MatchResult result (λ x. Grown (steps precedence l) tokens.now x.0 x.1.now) (λ e. Halts (Ends (steps precedence l)) tokens.now e) }
+    ensures parsed { (l : Tree) → Stands first l
+        → MatchResult result (λ x. Grown (steps precedence l) tokens.now x.0 x.1.now) (λ e. Halts (Ends (steps precedence l)) tokens.now e) }
 {
     let mut left = first;
     let mut rest = tokens;
@@ -90,7 +91,7 @@ fn steps_of<'a>(
     }
 }
 
-// The number or the type that an operator wants after it.
+// The number or the type that an operator requires after it.
 fn suffix<'a>(
     alloc: Global,
     left: Built,
@@ -98,7 +99,8 @@ fn suffix<'a>(
     tokens: &'a [Token],
 ) -> Result<(Built, &'a [Token]), Halt<'a>>
     requires { (o : Binary) → step ≢ Step.Operand o }
-    ensures parsed { (l : Tree) → Stands left l → MatchResult result (λ x. GrownOf (Suffix l step) tokens.now x.0 x.1.now) (λ e. Halts (Suffix l step) tokens.now e) }
+    ensures parsed { (l : Tree) → Stands left l
+        → MatchResult result (λ x. GrownOf (Suffix l step) tokens.now x.0 x.1.now) (λ e. Halts (Suffix l step) tokens.now e) }
     ensures fewer { IfOk result (λ x. length x.1.now < length tokens.now) }
 {
     let Some((first, kind, after)) = classes::front(tokens) else {
@@ -163,7 +165,7 @@ fn primary_of<'a>(alloc: Global, tokens: &'a [Token]) -> Result<(Built, &'a [Tok
     }
 }
 
-// What stands behind the first token of a primary expression that is no read.
+// What follows the first token of a primary expression that is no read.
 #[cycle(expression)]
 fn inside_of<'a>(
     alloc: Global,

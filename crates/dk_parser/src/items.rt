@@ -120,7 +120,7 @@ fn header(tokens: &[Token]) -> Result<(Span, &[Token]), Halt>
     Ok((last, rest))
 }
 
-// A definition behind its `let`.
+// A definition after its `let`.
 fn definition<'a>(
     alloc: Global,
     inline: bool,
@@ -210,7 +210,8 @@ fn item<'a>(
     tokens: &'a [Token],
 ) -> Result<(Parts, &'a [Token]), Halt<'a>>
     requires { lead ≢ Lead.End }
-    ensures parsed { (vs : List Item) → Holds parts vs → MatchResult result (λ x. GrownItem lead vs tokens.now x.0 x.1.now) (λ e. Halts (AnItem lead) tokens.now e) }
+    ensures parsed { (vs : List Item) → Holds parts vs
+        → MatchResult result (λ x. GrownItem lead vs tokens.now x.0 x.1.now) (λ e. Halts (AnItem lead) tokens.now e) }
     ensures fewer { IfOk result (λ x. length x.1.now < length tokens.now) }
 {
     match lead {
@@ -282,7 +283,8 @@ fn allowed(before: Lead, found: Option<Lead>) -> Option<Lead>
 // The word that the next item begins with.
 fn lead_after(before: Lead, tokens: &[Token]) -> Result<(Lead, &[Token]), Halt>
     requires { before ≢ Lead.End }
-    ensures parsed { MatchResult result (λ x. One (λ t n. next before t ≡ Some n) tokens.now x.0 x.1.now) (λ e. Halts (One (λ t n. next before t ≡ Some n)) tokens.now e) }
+    ensures parsed { MatchResult result (λ x. One (λ t n. next before t ≡ Some n) tokens.now x.0 x.1.now) (λ e. Halts (One (λ t n. next before t
+        ≡ Some n)) tokens.now e) }
     ensures fewer { IfOk result (λ x. length x.1.now < length tokens.now) }
 {
     let Some((_, kind, after)) = classes::front(tokens) else {

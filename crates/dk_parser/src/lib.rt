@@ -17,4 +17,4 @@ pub use terminal::{Keyword, Mark, Terminal};
 pub use tree::{
     Def, Expr, ImageRead, Input, Literal, Name, Node, Offset, Program, Start, Step, TypeWord,
 };
-pub use whole::{ParseError, one_judgement, parse};
+pub use whole::{ParseError, one_judgement_law, parse};

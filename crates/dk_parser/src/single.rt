@@ -15,7 +15,7 @@ use dk_base::{Span, Text};
 use dk_lexer::{Symbol, Token, TokenKind};
 use std::alloc::{AllocError, Global};
 
-// A mark where a signed number may stand before it, or the sign of that number.
+// A mark where a signed number may come before it, or the sign of that number.
 #[derive(Clone, Copy, Drop)]
 pub(crate) enum Turn {
     Mark(Span),

@@ -81,8 +81,8 @@ pub fn parse(alloc: Global, tokens: &[Token]) -> Result<Program, ParseError>
     }
 }
 
-/// Tokens that end as those of a text have one program, or one fault, but for want of memory; and a type word is what the rules of the language say.
-pub fn one_judgement()
+/// Tokens that end as those of a text have one program, or one fault, except if out of memory; and a type word is what the rules of the language say.
+pub fn one_judgement_law()
     ensures program { (ts : Tokens) (p q : Source) → Derives ts p → Derives ts q → p ≡ q }
     ensures none_beside { (ts : Tokens) (p : Source) (f : ParseError) → Accepted ts p → Faults ts f → f ≡ ParseError.OutOfMemory }
     ensures one_fault { (ts : Tokens) (f g : ParseError) → Faults ts f → Faults ts g → f ≢ ParseError.OutOfMemory → g ≢ ParseError.OutOfMemory → f ≡ g }

@@ -1,4 +1,4 @@
--- What is told where a plan or a report is refused.
+-- What is specified where a plan or a report is refused.
 use Rattle.std.proofs.Common.{◌≡◌, ℕ, List, slice_index, Result, Ok, Err, sym, subst}
 use Rattle.std.specs.Result.{IfErr, IsErrAnd}
 use Rattle.dk_base.specs.Stencils.{Stencils}

@@ -35,7 +35,7 @@ abbrev pub of_reader : ReportFault → CheckFault
 of_reader (reader.Line number) = Line number
 of_reader reader.OutOfMemory = OutOfMemory
 
--- why a report does not hold; want of memory tells nothing
+-- why a report does not hold; out of memory states nothing
 abbrev pub IsCheckFault : (names : List (List ℕ)) → Stencils → (bytes : List ℕ) → CheckFault → Type 0
 IsCheckFault names stencils bytes (Line number) = IsWrongLine names stencils bytes number
 IsCheckFault names stencils bytes OutOfMemory = ⊤

@@ -8,6 +8,6 @@ mod printed;
 
 pub use buffer_plan::PlanFault;
 pub use judging::{CheckFault, Claim, judge_report};
-pub use one::one_plan;
+pub use one::one_plan_law;
 pub use planning::plan_report;
-pub use printed::{printed_holds, printed_yes};
+pub use printed::{printed_holds_law, printed_yes_law};

@@ -8,11 +8,11 @@ ghost use Rattle.report_text.specs.Reports.{AreNames};
 ghost use Rattle.buffer_plan.specs.Limits.{KeepsLimits, IsPlanFault};
 ghost use Rattle.dk_plan.specs.Planned.{aged, IsReportText};
 
-use crate::printed::printed_holds;
+use crate::printed::printed_holds_law;
 use buffer_plan::{PlanFault, plan};
 use dk_base::Stencils;
 use flow_dual::solve;
-use latency_report::{print, printed_meets};
+use latency_report::{print, printed_meets_law};
 use pointwise_ir::Ir;
 use raster_delay::System;
 use std::alloc::Global;
@@ -35,8 +35,8 @@ pub fn plan_report(
     system.law();
     let solution = solve(alloc, &system)?;
     let plan = plan(alloc, &system, &solution)?;
-    printed_meets(ir, &plan, &system, &solution);
-    printed_holds();
+    printed_meets_law(ir, &plan, &system, &solution);
+    printed_holds_law();
     let text = print(alloc, ir, &plan, &system, &solution)?;
     Ok(text)
 }

@@ -28,14 +28,14 @@ evaluated_pair ir rounds output program all is source file read = λ p images ac
     let form = read.formed p accepted in
     is ∙ evaluated_is source p ir accepted.accepted.program form program rounds images (read.input.frames p form images fits) all.each
 
--- what is written is the output file, or stands to it as it stands to what was made
+-- what is written is the output file, or is related to it as it is to what was made
 pub held_told : (told : Option Files) (terms : Terms) (program image : List ℕ) (bytes : Option (List ℕ)) (output : List ℕ) (R : List ℕ → List ℕ → Type 0) → IfSome told (λ f. OfPair terms (bytes_of f program) (bytes_of f image) (λ p images. output ≡ output_file p images))
     → IfSome bytes (λ written. R written output) → IfSome told (λ f. IfSome bytes (λ written. OfPair terms (bytes_of f program) (bytes_of f image) (λ p images. R written (output_file p images))))
 held_told None terms program image bytes output R made written = tt
 held_told (Some f) terms program image None output R made written = tt
 held_told (Some f) terms program image (Some b) output R made written = λ p images accepted fits. subst (R b) (made p images accepted fits) written
 
--- what is made of the files that were read, as far as they are told
+-- what is made of the files that were read, as far as they are specified
 pub read_pair : (told : Option Files) (program image : List ℕ) (ir : Program) (rounds : List Round) (Q : List ℕ → List ℕ → Type 0) → IfSome told (λ f. IsRead eval_terms (bytes_of f program) (bytes_of f image) ir rounds)
     → ((source file : List ℕ) → IsRead eval_terms source file ir rounds → Q source file) → IfSome told (λ f. Q (bytes_of f program) (bytes_of f image))
 read_pair None program image ir rounds Q read made = tt

@@ -25,7 +25,7 @@ pub text_told : (told : Option Files) (program : List ℕ) (age : ℕ) (enable :
 text_told None program age enable c from = tt
 text_told (Some f) program age enable c from = record { compiled = c; from = from; is = refl }
 
--- what is written is the text, or stands to it as it stands to what was made
+-- what is written is the text, or is related to it as it is to what was made
 pub text_held : (told : Option Files) (program : List ℕ) (age : ℕ) (enable : Bool) (text : List ℕ) (bytes : Option (List ℕ)) (result : Ending) → IfSome told (λ f. IsCompiledText (bytes_of f program) age enable text)
     → IfSome bytes (λ b. HoldsOutput result b text) → IfSome told (λ f. IfSome bytes (HoldsText (IsCompiledText (bytes_of f program) age enable) result))
 text_held None program age enable text bytes result is held = tt

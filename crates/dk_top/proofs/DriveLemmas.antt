@@ -57,7 +57,7 @@ use Rattle.dk_top.proofs.DrivePorts.{widths_are, count_is, dout_width, has_port_
 use Rattle.dk_top.proofs.DriveFrames.{file_sampled, frames_fit, samples_read}
 use Rattle.std.specs.List.{AllZip}
 
--- a drive of so many clocks from these contents, without held clocks
+-- a drive of this many clocks from these contents, without held clocks
 abbrev pub drive_from : Fill → ℕ → Drive
 drive_from fill clocks = record { clocks = clocks; fill = fill; hold = None }
 
@@ -172,7 +172,7 @@ module _ (source : List ℕ) (age : ℕ) (enable : Bool) (p : Typing) (ir : Prog
       abbrev dins : List (List ℕ)
       dins = dins_of (length ir.inputs) samples clocks
 
-      -- the rounds with rounds of zeros behind them, for the clocks after the last pixel
+      -- the rounds with rounds of zeros after them, for the clocks after the last pixel
       abbrev padded : List (List (List ℕ))
       padded = extended ir.size (input_widths ir) samples (latency plan)
 

@@ -24,7 +24,7 @@ use Rattle.circuit.specs.Driven.{Agree, input_widths}
 use Rattle.test_bench.specs.Stimulus.{stream, dins_at}
 use Rattle.test_bench.proofs.Streams.{flat_at, map_at, read_at}
 
--- as many samples as a frame has, each of so many bits
+-- as many samples as a frame has, each of this many bits
 pub record IsSampled (size : Size) (width : ℕ) (samples : List ℕ) : Type 0 where
   pub whole : length samples ≡ area size
   pub values : AllByRecursion (λ s. s < 2 ^ width) samples
@@ -67,7 +67,7 @@ all_at P [] h k x at = absurd (let e : ⊥ = cc in e)
 all_at P (y ∷ xs) h zero x at = let same : y ≡ x = cc in subst P same h.0
 all_at P (y ∷ xs) h (suc k) x at = all_at P xs h.1 k x at
 
--- a number of a list is below what all are, also behind its end
+-- a number of a list is below what all are, also after its end
 below_any : (b : ℕ) (xs : List ℕ) → 0 < b → AllByRecursion (λ s. s < b) xs → (k : ℕ) → get_or xs k 0 < b
 below_any b [] some h k = some
 below_any b (x ∷ xs) some h zero = h.0
@@ -173,7 +173,7 @@ agrees ir rounds dins some are come k q there within low =
 abbrev pub blank : Size → (widths : List ℕ) → List (List ℕ)
 blank size widths = map (λ _. replicate (area size) 0) widths
 
--- rounds with so many rounds of zeros behind them
+-- rounds with this many rounds of zeros after them
 abbrev pub extended : Size → (widths : List ℕ) → List (List (List ℕ)) → (more : ℕ) → List (List (List ℕ))
 extended size widths rounds more = rounds ++ replicate more (blank size widths)
 
@@ -186,7 +186,7 @@ extended_sampled size widths rounds more are =
     let P = AllZip (IsSampled size) widths in
     all_append P rounds (replicate more (blank size widths)) are (all_replicate P (blank size widths) more (blank_sampled size widths))
 
--- zeros behind a list
+-- zeros after a list
 abbrev pub AreZeros : List ℕ → Type 0
 AreZeros xs = AllByRecursion (λ s. s ≡ 0) xs
 

@@ -1,4 +1,4 @@
--- What is told of an accepted text's plan and reports, from what is told of its live reads.
+-- What is reported of an accepted text's plan and reports, from what is specified of its live reads.
 use Rattle.std.proofs.Common.{ℕ, List, refl}
 use Rattle.dk_base.specs.Stencils.{Stencils}
 use Rattle.pointwise_ir.specs.Programs.{Program, names_of}

@@ -24,7 +24,7 @@ use Rattle.dk_top.specs.Reading.{IsSourceEnding, IsUnread, TellsNoText, TellsNoI
 use Rattle.dk_top.specs.Simulating.{IsModuleEnding}
 use Rattle.dk_top.proofs.CompileLemmas.{PlannedAccepted, compiled_accepted}
 
--- what is left, where so many bytes were taken
+-- what is left, where this many bytes were taken
 left_over : (file bytes : List ℕ) (limit : ℕ) (rest : Option (List ℕ)) → length bytes ≡ limit + 1 → Some file ≡ prepend_known bytes rest → rest ≡ Some (drop (limit + 1) file)
 left_over file bytes limit None long is = absurd (let apart : ⊥ = cc in apart)
 left_over file bytes limit (Some r) long is =
@@ -35,7 +35,7 @@ pub left_rest : (told : Option Files) (name : List ℕ) (limit : ℕ) (mid new :
 left_rest None name limit mid new start lost = tt
 left_rest (Some f) name limit mid new start (bytes, long, is) = left_over (bytes_of f name) bytes limit new.rest long (sym start ∙ is)
 
--- an ending that tells of no text leaves any text
+-- an ending that reports no text leaves any text
 pub no_text : (told : Option Files) (name : List ℕ) (slot : Input) (e : Ending) → TellsNoText e → IfSome told (λ f. LeavesText e (bytes_of f name) slot)
 no_text None name slot e h = tt
 no_text (Some f) name slot e h = h (bytes_of f name) slot

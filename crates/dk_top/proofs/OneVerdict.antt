@@ -79,7 +79,7 @@ good_is_done l (check program report) files result =
     good_check l.front_accepted l.text_apart l.one_text l.wrong_apart l.one_line (bytes_of files program) (bytes_of files report) result
 good_is_done l (make number) files result = good_program l.apart_at l.fault_at 0 (program_of number) result
 
--- the same of what is told
+-- the same of what is specified
 pub complete_of : Laws → (command : Option Command) (files : Option Files) (result : Ending) (Read Write : Type 0) → IfSome command (λ c. OnFiles c files (λ f. IsVerdict c f result)) → (result ≡ ending.ReadFault → Read) → (result ≡ ending.WriteFault → Write)
     → IfSome command (λ c. OnFiles c files (λ f. IsGood c f → ¬ Read → ¬ Write → IsOrMemory result ending.Done))
 complete_of l None files result Read Write verdict read write = tt

@@ -80,7 +80,7 @@ claim_told (Some f) between program report ir s claim same has h =
     let Holds : Option Files → Type 0 = λ o. IfSome o (λ g. (source : List ℕ) → HasFront source ir s → IsChecked source (bytes_of g report) claim) in
     (subst Holds same h) (bytes_of f program) has
 
--- the text's front, as far as the file is told
+-- the text's front, as far as the file is specified
 pub front_told : (told : Option Files) (name source : List ℕ) (ir : Program) (s : Stencils) → IfSome told (λ f. source ≡ bytes_of f name) → HasFront source ir s → IfSome told (λ f. HasFront (bytes_of f name) ir s)
 front_told None name source ir s is has = tt
 front_told (Some f) name source ir s is has = subst (λ t. HasFront t ir s) is has

@@ -115,7 +115,7 @@ alike_self ending.Memory = refl
 pub alike_of : (a b : Ending) → a ≡ b → AreAlike a b
 alike_of a b e = subst (λ x. AreAlike a x) e (alike_self a)
 
--- faults that agree are told alike
+-- faults that agree are specified alike
 agreed_alike : (f g : TextFault) → Agrees f g → AreAlike (ending.Verilog (fault_told f)) (ending.Verilog (fault_told g))
 agreed_alike (text.Net s (net.Cycle j)) (text.Net t (net.Cycle k)) same = tt
 agreed_alike f g same = alike_of (ending.Verilog (fault_told f)) (ending.Verilog (fault_told g)) (ap (λ x. ending.Verilog (fault_told x)) same)

@@ -37,7 +37,7 @@ use Rattle.dk_top.specs.Tracing.{trace_drive, IsTraceAnswer}
 use Rattle.dk_top.specs.Simulating.{IsModuleEnding, IsFileEnding, IsInput, IsInputEnding, IsSimInput}
 use Rattle.dk_top.proofs.SimLemmas.{OneModule, OneRounds, fits_some}
 
--- what is told of a text's fault is a fault of the text
+-- what is specified of a text's fault is a fault of the text
 own_fault : (f : TextFault) (hold : Option ℕ) (t : List ℕ) → length t ≤ MAX_VERILOG_BYTES → IsFault t f → IsVerilogFault hold t (fault_told f)
 own_fault (text.Lex p) hold t within is = (within, of_text (text.Lex p) is refl)
 own_fault (text.Syntax p) hold t within is = (within, of_text (text.Syntax p) is refl)
@@ -222,7 +222,7 @@ of_input None verilog image d drive m size rounds P e given h = tt
 of_input (Some f) verilog image d drive m size rounds P e given h =
     subst (λ x. P x (bytes_of f verilog) (bytes_of f image)) e (h (bytes_of f verilog) (bytes_of f image) (subst (λ (x : Drive). IsSimInput x.hold (bytes_of f verilog) (bytes_of f image) m size rounds) (sym e) given))
 
--- what is written stands to the pictures as it stands to what was made
+-- what is written is related to the pictures as it is to what was made
 pub held_sim : (told : Option Files) (verilog image : List ℕ) (d drive : Drive) (m : NamedNetlist) (size : Size) (rounds : List Round) (bytes : Option (List ℕ)) (file : List ℕ) (R : List ℕ → List ℕ → Type 0) → d ≡ drive → IfSome told (λ f. IsSimInput drive.hold (bytes_of f verilog) (bytes_of f image) m size rounds)
     → ((t i : List ℕ) → IsSimInput d.hold t i m size rounds → (pictures : List ℕ) → IsSimulated d t i pictures → pictures ≡ file) → IfSome bytes (λ written. R written file)
     → IfSome told (λ f. IfSome bytes (λ written. (pictures : List ℕ) → IsSimulated drive (bytes_of f verilog) (bytes_of f image) pictures → R written pictures))

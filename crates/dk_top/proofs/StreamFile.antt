@@ -15,7 +15,7 @@ use Rattle.row_stream.specs.Standing.{pixel_clock, reset_clock}
 use Rattle.row_stream.specs.Whole.{Creates, Shows, FailsShowing, drive}
 use Rattle.row_stream.proofs.Adding.{lines_same}
 
--- what is told of a file that was created empty
+-- what is specified of a file that was created empty
 pub told_file : (a b : Option (List ℕ)) (w : List ℕ) → IsIfTold a (Some []) → IsIfTold b (grown a w) → IfSome b (λ x. x ≡ w)
 told_file a None w empty grows = tt
 told_file None (Some x) w empty grows = absurd (let e : ⊥ = cc in e)
@@ -48,7 +48,7 @@ rows_of rows W n low high =
     let all : rows * W + (n - rows * W) ≡ n = omega (arith, low) in
     sym (div-mul-add rows W (n - rows * W) rest) ∙ ap (λ k. k / W) all
 
--- a line is that of what goes on behind it
+-- a line is that of what goes on after it
 line_same : (kind : Kind) (samples more : List ℕ) (k : ℕ) → k * kind.size.width + kind.size.width ≤ length samples → line_at kind (samples ++ more) k ≡ line_at kind samples k
 line_same kind samples more k h =
     let w = kind.size.width in
@@ -63,7 +63,7 @@ lines_taken kind xs n rows low = sym (lines_same kind (take n xs) (drop n xs) ro
 line_taken : (kind : Kind) (xs : List ℕ) (n y : ℕ) → y * kind.size.width + kind.size.width ≤ length (take n xs) → line_at kind (take n xs) y ≡ line_at kind xs y
 line_taken kind xs n y low = sym (line_same kind (take n xs) (drop n xs) y low) ∙ ap (λ z. line_at kind z y) (take-append-drop n xs)
 
--- what a module shows over these numbers at the din: of what it gives for the same numbers and zeros behind them, as many as came in behind its latency
+-- what a module shows over these numbers at the din: of what it gives for the same numbers and zeros after them, as many as came in after its latency
 abbrev pub Small : (bits : ℕ) → List ℕ → Type 0
 Small bits samples = AllByRecursion (λ s. s < 2 ^ bits) samples
 
@@ -81,7 +81,7 @@ pub record IsFront (kind : Kind) (given : List ℕ) (y : ℕ) (bytes : List ℕ)
   pub inside : count < length (line_at kind given y)
   pub holds : bytes ≡ head kind ++ (lines kind given y ++ take count (line_at kind given y))
 
--- A write failed in line y, which is whole with so many of the numbers behind those before.
+-- A write failed in line y, which is whole with this many of the numbers after those before.
 pub record FailsLine (kind : Kind) (late before more : ℕ) (given : List ℕ) (now : Outside) : Type 0 where
   pub y : ℕ
   pub made : ℕ

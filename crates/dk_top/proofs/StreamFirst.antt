@@ -59,7 +59,7 @@ image_head : (bytes : List ℕ) (p : Image) → (is : IsImageOf bytes p) → Rea
 image_head bytes p is = record { front = is.header; rest = []; place = is.place; parts = sym (append-nil is.header); heads = is.heads; positive = is.positive; small = is.small; length_is = refl }
 
 module _ (size : Size) (bits : ℕ) where
-  -- inside the first image that the fault is behind
+  -- inside the first image that the fault is after
   inside_image : {c u : ℕ} {ys piece : List ℕ} (first final rest more : List ℕ) (p : Image) → IsImageOf first p → (k : OpenLines size bits c u ys piece) → BeginsNext k final → first ++ more ≡ piece ++ (final ++ rest) → length piece + length final ≤ length first
   inside_image {c = c} {piece = piece} first final rest more p is (between a b d) begins e = by begins
     where
@@ -81,7 +81,7 @@ module _ (size : Size) (bits : ℕ) where
       let low = row_within (row_length header) u p.height (length final) (let i = begins.inside in omega (arith, i, tall)) begins.fewer in
       omega (arith, low, rows, raster_rows raster ys header u is_raster, ap length part_is, length-append head raster, ap length is.parts, length-append is.header is.raster, ap length heads)
 
-  -- behind as many images
+  -- after as many images
   same_image : {n c o u : ℕ} {xs ys part piece : List ℕ} (last final after rest : List ℕ) → n ≡ c → (l : OpenLines size bits n o xs part) → (k : OpenLines size bits c u ys piece) → ReadsNext l last after → BeginsNext k final → part ++ (last ++ after) ≡ piece ++ (final ++ rest) → u ≤ o
       → length piece + length final ≤ length part + length last
   same_image {n = n} {c = c} {part = part} {piece = piece} last final after rest count (between a b d) (between a' b' d') next begins e rows = by next begins

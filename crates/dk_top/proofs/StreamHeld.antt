@@ -1,4 +1,4 @@
--- What a stream leaves behind, in words of the program.
+-- What a stream leaves, in words of the program.
 use Rattle.std.proofs.Common.{◌≡◌, ℕ, zero, suc, ◌+◌, ◌-◌, ◌*◌, ◌^◌, ◌<◌, ◌≤◌, List, [], ◌∷◌, ◌++◌, length, take, drop, replicate, slice_index, Option, None, Some, IfSome, refl, sym, ap, ◌∙◌, subst, arith, suc-mul, append-nil, append_assoc, length-append}
 use Rattle.std.specs.List.{flat_map, AllByRecursion}
 use Rattle.std.proofs.lemmas.List.{length-replicate, take-append-drop}
@@ -30,12 +30,12 @@ use Rattle.dk_top.proofs.StreamFile.{ShowsLaw, Small, AreSame, IsFront, shows_li
 use Rattle.dk_top.proofs.StreamTaken.{all_images, takes_lines, all_lines}
 use Rattle.dk_top.proofs.StreamReads.{MostLaws, fault_behind_reads, fault_inside_reads, read_behind_reads, read_inside_reads, first_reads}
 
--- what follows from what is told
+-- what follows from what is specified
 pub some_then : (P Q : List ℕ → Type 0) (b : Option (List ℕ)) → ((x : List ℕ) → P x → Q x) → IfSome b P → IfSome b Q
 some_then P Q None f h = tt
 some_then P Q (Some x) f h = f x h
 
--- samples of so many bits
+-- samples of this many bits
 pub small_of : (bits maxval : ℕ) (xs : List ℕ) → maxval ≤ 2 ^ bits - 1 → AllByRecursion (λ s. s ≤ maxval) xs → Small bits xs
 small_of bits maxval [] most all = tt
 small_of bits maxval (x ∷ xs) most all = (let some = pow_pos bits in let low = all.0 in omega (arith, some, low, most), small_of bits maxval xs most all.1)
@@ -101,7 +101,7 @@ regrouped a b c d e =
     ∙ (ap (λ z. a ++ z) (append_assoc b c (d ++ e) ∙ ap (λ z. b ++ z) (sym (append_assoc c d e)))
     ∙ (ap (λ z. a ++ z) (sym (append_assoc b (c ++ d) e)) ∙ sym (append_assoc a (b ++ (c ++ d)) e)))
 
--- how many samples stand before a line
+-- how many samples come before a line
 rows_before : (lines W rows : ℕ) → lines * W + W * rows ≡ (lines + rows) * W
 rows_before lines W rows = ap (λ k. lines * W + k) (mul_comm W rows) ∙ sym (add-mul lines rows W)
 
@@ -112,7 +112,7 @@ line_numbers W R y before more made late wide is many some within whole =
     let next : (R + 1) * W ≡ R * W + W = ap (λ k. k * W) (let e : R + 1 ≡ suc R = omega arith in e) ∙ suc-mul R W in
     (omega (arith, is, many, some, within, whole, some_line, next), omega (arith, is, many, some, within, whole, some_line, next))
 
--- where it is whole with some clocks behind all lines
+-- where it is whole with some clocks after all lines
 rest_numbers : (W R y before more made late : ℕ) → 0 < W → before ≡ R * W → more ≡ late → 0 < made → made ≤ more → (y + 1) * W ≡ before + made - late → (R * W < (y + 1) * W + late) × ((y + 1) * W ≤ R * W)
 rest_numbers W R y before more made late wide is many some within whole =
     let some_line : 0 < (y + 1) * W = mul-pos (let e : 0 < y + 1 = omega arith in e) wide in
@@ -132,7 +132,7 @@ module _ (p : Typing) (m : Netlist) (from : Contents) (late : ℕ) (law : ShowsL
   bits = first_bits p
 
   module _ (file name : List ℕ) (old now : Outside) (told : old.image.rest ≡ Some file) (unasked : old.file.stage ≡ Unasked) (there : now.file.stage ≡ Open) where
-    -- a fault behind whole images
+    -- a fault after whole images
     fault_behind_held : (f : FileFault) (created : Outside) → Creates name old created → (e : LeavesBehind kind m bits (ImageFails f) (Some file) from created now) → IfSome now.file.bytes (LeavesAtFault p late file now.image.rest)
     fault_behind_held f created creates e =
         let same : now.file ≡ e.half.file = ap (λ (o : Outside). o.file) e.only in
@@ -157,7 +157,7 @@ module _ (p : Typing) (m : Netlist) (from : Contents) (late : ℕ) (law : ShowsL
     held_fault f (behind created creates e) = fault_behind_held f created creates (subst (λ all. LeavesBehind kind m bits (ImageFails f) all from created now) told e)
     held_fault f (inside created creates g e) = fault_inside_held g created creates (subst (λ all. LeavesInside kind m bits (Raster g) all from created now) told e)
 
-    -- a failed read behind whole images
+    -- a failed read after whole images
     read_behind_held : (created : Outside) → Creates name old created → (e : LeavesBehind kind m bits Read (Some file) from created now) → IfSome now.file.bytes (LeavesAtRead p late file now.image.rest)
     read_behind_held created creates e =
         let same : now.file ≡ e.half.file = ap (λ (o : Outside). o.file) e.only in
@@ -219,7 +219,7 @@ module _ (p : Typing) (m : Netlist) (from : Contents) (late : ℕ) (law : ShowsL
         (subst (λ n. n * W < (f.y + 1) * W + late + W) (let i : R + 1 ≡ e.count * p.size.height + (e.rows + 1) = omega arith in i) nums.1)
         (record { count = h.count; inside = h.inside; holds = h.holds })) f.told
 
-    -- a line that can't be written, behind all images
+    -- a line that can't be written, after all images
     write_behind_held : (created : Outside) → Creates name old created → (e : FailsBehind kind m bits late (Some file) from created now) → IfSome now.file.bytes (LeavesAtWrite p late file now.image.rest)
     write_behind_held created creates e =
         let xs = samples_of e.images in

@@ -104,7 +104,7 @@ module _ (source : List ℕ) (age : ℕ) (enable : Bool) (p : Typing) (ir : Prog
       ∙ sym (append-nil (raster p.size (picture_at (meaning_on p (frame ∷ [])) g)))
       ∙ sym (ap (λ gs. flat_map (λ (image : Image). image.samples) (output_images p.size (types_of p) gs (meaning_on p (frame ∷ [])))) one)
 
-  -- what the output shows over a reset clock and a clock for each sample, where these are the numbers of a whole and zeros behind them
+  -- what the output shows over a reset clock and a clock for each sample, where these are the numbers of a whole and zeros after them
   pub stream_shown : PictureLaw → RasterLaw → (samples whole : List ℕ) → AllByRecursion (λ s. s < 2 ^ bits) samples → AllByRecursion (λ s. s < 2 ^ bits) whole → ((q : ℕ) → q < length samples → slice_index samples q ≡ slice_index whole q)
       → length samples ≤ length whole + latency plan → (from to : Contents) (shots : List Snapshot) → FitsContents m.netlist from → Runs m.netlist from (stream_clocks samples) shots to → picture 0 shots ≡ take (length samples - latency plan) (shown_by p whole)
   stream_shown law rasters samples whole low low_whole agrees_so few from to shots fits runs =

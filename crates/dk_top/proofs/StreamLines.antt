@@ -29,7 +29,7 @@ two_parts F a (suc m) n =
     joined [] ys zs = refl
     joined (x ∷ xs) ys zs = ap (λ l. x ∷ l) (joined xs ys zs)
 
--- so many groups of H numbers each
+-- this many groups of H numbers each
 pub in_groups : (F : ℕ → List ℕ) (H a n : ℕ) → flat_map F (range_with_len (a * H) (n * H)) ≡ flat_map (λ r. flat_map (λ y. F (r * H + y)) (range_with_len 0 H)) (range_with_len a n)
 in_groups F H a zero = ap (λ k. flat_map F (range_with_len (a * H) k)) (zero-mul H)
 in_groups F H a (suc n) =

@@ -88,7 +88,7 @@ module _ (p : Typing) (m : Netlist) (from : Contents) where
   bits = first_bits p
 
   module _ (laws : MostLaws) (file : List ℕ) (created now : Outside) where
-    -- a fault behind whole images
+    -- a fault after whole images
     pub fault_behind_reads : (f : FileFault) → (e : LeavesBehind kind m bits (ImageFails f) (Some file) from created now) → ReadsToFault p file now.image.rest (samples_of e.taken.images)
     fault_behind_reads f e = by e.why
       where
@@ -139,7 +139,7 @@ module _ (p : Typing) (m : Netlist) (from : Contents) where
           is_left = left;
         }
 
-    -- a failed read behind whole images
+    -- a failed read after whole images
     pub read_behind_reads : (e : LeavesBehind kind m bits Read (Some file) from created now) → (r : ReadsToFailure p file now.image.rest (samples_of e.taken.images)) × IsBegun p r.read
     read_behind_reads e = by e.why
       where
@@ -276,7 +276,7 @@ module _ (p : Typing) (m : Netlist) (from : Contents) where
           before = λ none. absurd (none r.1);
         }
 
-    -- the first header alone
+    -- only the first header
     pub first_reads : (header : Header) (before : Outside) → TakesHead header old.image before.image → FitsHeader p.size bits header → now.image ≡ before.image → ReadsFirst p file now.image.rest
     first_reads header before takes fits same =
         let (rest, left, parts) = told_parts takes.read before.image.rest file (sym takes.given ∙ told) in

@@ -48,7 +48,7 @@ use Rattle.dk_top.proofs.StreamReads.{MostLaws, fault_reads, failure_reads, writ
 use Rattle.dk_top.proofs.StreamHeld.{held_fault, held_read, held_write}
 use Rattle.dk_top.proofs.StreamDone.{rounds_of_images, inputs, ports_one, whole_fits, file_done, notes_done}
 
--- what is told of the files
+-- what is specified of the files
 pub on_files : (told : Option Files) (P Q : Files → Type 0) → ((f : Files) → P f → Q f) → IfSome told P → IfSome told Q
 on_files None P Q f h = tt
 on_files (Some x) P Q f h = f x h
@@ -213,7 +213,7 @@ module _ (name : List ℕ) (opened : Outside) (unasked : opened.file.stage ≡ U
   left_read kind m bits from now (read_behind created creates e) = (left_half created e.half now _ _ creates e.taken.shows.gained e.only).1
   left_read kind m bits from now (read_inside created creates e) = (left_half created e.half now _ _ creates e.taken.shows.gained e.only).1
 
-  -- where File can't be begun, from the outside behind the first header
+  -- where File can't be begun, from the outside after the first header
   left_first : (kind : Kind) (m : Netlist) (from : Rattle.wiring.specs.Snapshot.Contents) (before now : Outside) → before ≡ record opened { image = record opened.image { rest = before.image.rest } } → now.image ≡ before.image → FailsFirst kind m name from before now → Leaves_so name opened now
   left_first kind m from before now only same (at_create stage named files h) = record {
     frame = record {
@@ -302,7 +302,7 @@ module _ (law : PlannedAccepted) (one_program : OneProgram) (one_rounds : (ports
   opened_frame : Frame old opened
   opened_frame = record { program = ap (λ (o : Outside). o.program) opens.only; report = ap (λ (o : Outside). o.report) opens.only; fault = ap (λ (o : Outside). o.fault) opens.only; fault_failures = ap (λ (o : Outside). o.fault_failures) opens.only }
 
-  -- what was found of the file holds where the files are told
+  -- what was found of the file holds where the files are specified
   of_told : (Q : List ℕ → Type 0) → ((file : List ℕ) → opened.image.rest ≡ Some file → Q file) → IfSome old.files (λ files. Q (bytes_of files image))
   of_told Q h = on_files old.files (λ files. opened.image.rest ≡ Some (bytes_of files image)) (λ files. Q (bytes_of files image)) (λ files told. h (bytes_of files image) told) opens.start
 

@@ -53,7 +53,7 @@ greatest_bounds n some few =
 abbrev FitsPorts : Netlist → Clock → Type 0
 FitsPorts m k = Fit m.inputs (given m k)
 
--- a run, and a clock that stops behind it
+-- a run, and a clock that stops after it
 run_then_stop : (m : Netlist) (from to : Contents) (clocks : List Clock) (shots : List Snapshot) (c : Clock) (array index : ℕ) → Runs m from clocks shots to → Stops m to (given m c) array index → RunStops m from (clocks ++ c ∷ []) shots array index
 run_then_stop m from to [] [] c array index runs stops = subst (λ (x : Contents). Stops m x (given m c) array index) (sym runs) stops
 run_then_stop m from to [] (s ∷ shots) c array index runs stops = absurd runs

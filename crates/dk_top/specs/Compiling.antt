@@ -24,7 +24,7 @@ pub record IsCompiledText (source : List ℕ) (age : ℕ) (enable : Bool) (text 
   pub from : IsCompiledFrom source age enable compiled
   pub is : text ≡ compiled.text.items
 
--- how a module is driven with so many rounds of frames: from zeros, with a clock for each pixel, and then those of the latency
+-- how a module is driven with this many rounds of frames: from zeros, with a clock for each pixel, and then those of the latency
 abbrev pub frame_drive : Size → (latency rounds : ℕ) → Drive
 frame_drive size latency rounds = record { clocks = rounds * area size + latency; fill = Zeros; hold = None }
 

@@ -1,4 +1,4 @@
--- What is told of a made program: it is compiled, and clocked on its image.
+-- What is reported of a made program: it is compiled, and clocked on its image.
 use Rattle.std.specs.Prelude.{◌≡◌, ℕ, ◌-◌, Bool, false, List, length, map, Option}
 use Rattle.std.specs.List.{sum}
 use Rattle.dk_types.specs.Typed.{Typing}

@@ -36,13 +36,13 @@ fill_of Ones = fill.Ones
 abbrev pub drive_of : (clocks : ℕ) → PowerUp → Option ℕ → Drive
 drive_of clocks power hold = record { clocks = clocks; fill = fill_of power; hold = hold }
 
--- The text is within its limit and stands for this module, which has the port `en` where clocks are to be held.
+-- The text is within its limit and denotes this module, which has the port `en` where clocks are to be held.
 pub record IsModuleOf (hold : Option ℕ) (text : List ℕ) (m : NamedNetlist) : Type 0 where
   pub within : length text ≤ MAX_VERILOG_BYTES
   pub stands : StandsFor text m
   pub enable : IsSome hold → m.netlist.enable ≡ true
 
--- Clocks are to be held, and the text's module, whose name stands here, has no port `en`.
+-- Clocks are to be held, and the text's module, whose name is here, has no port `en`.
 pub record LacksEnable (hold : Option ℕ) (text : List ℕ) (name : Span) : Type 0 where
   pub holds : IsSome hold
   pub m : NamedNetlist

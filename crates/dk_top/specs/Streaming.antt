@@ -1,4 +1,4 @@
--- What `run` leaves behind of a program with one input and one output: its images are read, clocked and written line by line.
+-- What `run` leaves of a program with one input and one output: its images are read, clocked and written line by line.
 use Rattle.std.specs.Prelude.{◌≡◌, ◌≢◌, ℕ, ◌+◌, ◌-◌, ◌*◌, ◌/◌, ◌^◌, ◌<◌, ◌≤◌, List, [], ◌∷◌, ◌++◌, false, length, map, take, drop, replicate, slice_index_or, Option, Some, ⊤}
 use Rattle.std.specs.List.{flat_map, range_with_len, AllByRecursion}
 use Rattle.dk_base.specs.declared.TheConstants.{MAX_FILE_IMAGES}
@@ -44,7 +44,7 @@ IsBegun p bytes = (header : Header) × IsHeaded p.size (first_bits p) bytes head
 abbrev pub output_kind : Typing → Kind
 output_kind p = record { size = p.size; maxval = 2 ^ bits_of (types_of p) (slice_index_or p.outputs 0 0) - 1 }
 
--- the frames of so many samples
+-- the frames of this many samples
 abbrev pub frame_count : Size → ℕ → ℕ
 frame_count size count = (count + area size - 1) / area size
 
@@ -69,7 +69,7 @@ pub data OpenLines (size : Size) (bits images : ℕ) (rows : ℕ) (samples part 
   opened : (header : Header) (head raster : List ℕ) → images < MAX_FILE_IMAGES → FitsHeader size bits header → Reads head header → length head ≡ header.length → rows ≤ header.height
       → IsRaster raster header.width rows header.maxval samples → part ≡ head ++ raster → OpenLines size bits images rows samples part
 
--- The bytes begin with so many whole lines of images of this size and of so many bits, counted through all images, each behind its header, all in order. These are their samples, the part of the bytes that they take, and what follows it.
+-- The bytes begin with this many whole lines of images of this size and of this many bits, counted through all images, each after its header, all in order. These are their samples, the part of the bytes that they take, and what follows it.
 pub record LinesTaken (size : Size) (bits : ℕ) (bytes : List ℕ) (rows : ℕ) (samples front rest : List ℕ) : Type 0 where
   pub images : List Image
   pub before : List ℕ
@@ -160,7 +160,7 @@ pub record ReadsFirst (p : Typing) (file : List ℕ) (left : Option (List ℕ)) 
   pub parts : file ≡ front ++ rest
   pub is_left : left ≡ Some rest
 
--- how many lines of the output are whole once so many pixels came in
+-- how many lines of the output are whole once this many pixels came in
 abbrev pub complete : Size → (latency pixels : ℕ) → ℕ
 complete size latency pixels = (pixels - latency) / size.width
 
@@ -187,7 +187,7 @@ pub record LeavesAtRead (p : Typing) (latency : ℕ) (file : List ℕ) (left : O
   pub begun : IsBegun p reads.read
   pub holds : HoldsLines p latency samples bytes
 
--- After a failed write: a front of the first header, where that header of the file alone was read; or all lines before line y and a front of it, where the fewest lines were taken that make line y whole, or all there are.
+-- After a failed write: a front of the first header, where only that header of the file was read; or all lines before line y and a front of it, where the fewest lines were taken that make line y whole, or all there are.
 pub data LeavesAtWrite (p : Typing) (latency : ℕ) (file : List ℕ) (left : Option (List ℕ)) (bytes : List ℕ) : Type 0 where
   of_header : ReadsFirst p file left → (count : ℕ) → count < length (head (output_kind p)) → bytes ≡ take count (head (output_kind p)) → LeavesAtWrite p latency file left bytes
   of_line : (y rows : ℕ) (samples front rest : List ℕ) → LinesTaken p.size (first_bits p) file rows samples front rest → left ≡ Some rest

@@ -18,7 +18,7 @@ use Rattle.dk_top.specs.Command.{run}
 use Rattle.dk_compile.specs.Limits.{IsAcceptedAt}
 use Rattle.dk_top.specs.State.{AsksOnly, AsksWhere, CreatesNothing, CreatesOut, OthersStay, CreatesRun, IsHeldRun, NotedRun}
 
--- what the stream leaves behind, by the ending
+-- what the stream leaves after, by the ending
 abbrev pub StreamEnds : Kind → Netlist → (bits latency : ℕ) → (name : List ℕ) → Contents → (opened now : Outside) → Ending → Type 0
 StreamEnds kind m bits late name from opened now ending.Done = LeavesAll kind m bits late name from opened now
 StreamEnds kind m bits late name from opened now (ending.Image (image.File fault)) = Leaves kind m bits late (ImageFails fault) name from opened now
@@ -40,7 +40,7 @@ pub data RunsStream (kind : Kind) (m : Netlist) (bits late : ℕ) (image out : L
   refused : result ≡ ending.ReadFault → OpensOnly ImageSlot old now → now.image.stage ≡ Refused → IsIfTold now.image.name (Some image) → RunsStream kind m bits late image out from old now result
   streamed : (opened : Outside) → OpensImages image old opened → StreamEnds kind m bits late out from opened now result → RunsStream kind m bits late image out from old now result
 
--- What `run` does behind the compiling of its program.
+-- What `run` does after the compiling of its program.
 pub record RunsOn (source : List ℕ) (age : ℕ) (image out : List ℕ) (result : Ending) (old new : Outside) : Type 0 where
   pub taken : result ≢ ending.Usage
   pub verdict : IfSome old.files (λ files. IsRunAnswer age source (bytes_of files image) result)

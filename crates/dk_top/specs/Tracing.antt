@@ -46,7 +46,7 @@ pub record IsTraced (drive : Drive) (text file : List ℕ) (m : NamedNetlist) (s
 abbrev pub CanBeTraced : Drive → (text file : List ℕ) → Type 0
 CanBeTraced drive text file = (m : NamedNetlist) × (shots : List Snapshot) × IsTraced drive text file m shots
 
--- When each ending comes. Of a failed read and of want of memory the files say nothing, and the counts of pictures are not judged.
+-- When each ending comes. Of a failed read and of out of memory the files say nothing, and the counts of pictures are not judged.
 abbrev pub IsTraceAnswer : Drive → (text file : List ℕ) → Ending → Type 0
 IsTraceAnswer drive text file ending.Done = CanBeTraced drive text file
 IsTraceAnswer drive text file ending.WriteFault = AreInOrder drive text file

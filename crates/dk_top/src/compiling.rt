@@ -14,7 +14,7 @@ ghost use Rattle.dk_top.specs.State.{LeavesText};
 use crate::files::write_file;
 use crate::reading::{ending_of, read_text};
 use crate::work::Work;
-use dk_compile::{Compiled, Options, compile_with, one_at_age};
+use dk_compile::{Compiled, Options, compile_with, one_at_age_law};
 use dk_desk::{Desk, Stage};
 use dk_endings::Ending;
 use dk_words::CompileWords;
@@ -29,7 +29,7 @@ pub fn compiled(alloc: Global, text: &[u8], options: Options) -> Result<Compiled
     ensures stops { IfErr result Stops }
     ensures judged { result ≢ Err Ending.ReadFault }
 {
-    one_at_age();
+    one_at_age_law();
     match compile_with(alloc, text, options) {
         Ok(compiled) => Ok(compiled),
         Err(error) => Err(ending_of(error)),
@@ -53,7 +53,8 @@ pub fn read_compiled<D: Desk>(
     ensures stops { IfErr result Stops }
     ensures left { IfErr result (λ e. IfSome (D.outside desk.old).files (λ files. LeavesText e (bytes_of files name.now) (D.outside desk.new).program)) }
     ensures name { IsIfTold (D.outside desk.new).program.name (Some name.now) }
-    ensures only { D.outside desk.new ≡ record (D.outside desk.old) { program = (D.outside desk.new).program; input_failures = (D.outside desk.new).input_failures } }
+    ensures only { D.outside desk.new
+        ≡ record (D.outside desk.old) { program = (D.outside desk.new).program; input_failures = (D.outside desk.new).input_failures } }
     ensures cause { HasCauseIn (result ≡ Err Ending.ReadFault) (D.outside desk.old).input_failures (D.outside desk.new).input_failures }
 {
     let text = match read_text(alloc, desk, name) {
@@ -79,7 +80,8 @@ fn verilog_of<D: Desk>(
     ensures stops { IfErr result Stops }
     ensures left { IfErr result (λ e. IfSome (D.outside desk.old).files (λ files. LeavesText e (bytes_of files name.now) (D.outside desk.new).program)) }
     ensures name { IsIfTold (D.outside desk.new).program.name (Some name.now) }
-    ensures only { D.outside desk.new ≡ record (D.outside desk.old) { program = (D.outside desk.new).program; input_failures = (D.outside desk.new).input_failures } }
+    ensures only { D.outside desk.new
+        ≡ record (D.outside desk.old) { program = (D.outside desk.new).program; input_failures = (D.outside desk.new).input_failures } }
     ensures cause { HasCauseIn (result ≡ Err Ending.ReadFault) (D.outside desk.old).input_failures (D.outside desk.new).input_failures }
 {
     match read_compiled(alloc, desk, name, options) {

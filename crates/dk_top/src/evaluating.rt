@@ -19,7 +19,8 @@ use std::alloc::Global;
 // The output file by the program's meaning.
 fn evaluated(alloc: Global, given: &Given) -> Result<Vec<u8>, OutOfMemory>
     requires frames { AreRead given.now.ir given.now.rounds.items }
-    ensures output { IfOk result (λ output. (source file : List ℕ) → IsRead eval_terms source file given.now.ir given.now.rounds.items → OfPair eval_terms source file (λ p rounds. output.items ≡ output_file p rounds)) }
+    ensures output { IfOk result (λ output. (source file : List ℕ) → IsRead eval_terms source file given.now.ir given.now.rounds.items
+        → OfPair eval_terms source file (λ p rounds. output.items ≡ output_file p rounds)) }
 {
     given.ir.law();
     let mut file = Vec::new(alloc);

@@ -25,7 +25,8 @@ pub fn read_input<D: Desk>(
     ensures whole { IfOk result (λ bytes. IfSome (D.outside desk.old).files (λ files. bytes.items ≡ bytes_of files name.now)) }
     ensures within { IfOk result (λ bytes. vec_len bytes ≤ limit) }
     ensures too_long { result ≡ Err ReadAll.TooLong → IfSome (D.outside desk.old).files (λ files. limit < length (bytes_of files name.now)) }
-    ensures taken { result ≡ Err ReadAll.TooLong → IfSome (D.outside desk.old).files (λ files. LeavesRest limit (bytes_of files name.now) (input (D.outside desk.new) slot)) }
+    ensures taken { result ≡ Err ReadAll.TooLong
+        → IfSome (D.outside desk.old).files (λ files. LeavesRest limit (bytes_of files name.now) (input (D.outside desk.new) slot)) }
     ensures name { IsIfTold (input (D.outside desk.new) slot).name (Some name.now) }
     ensures only { OpensOnly slot (D.outside desk.old) (D.outside desk.new) }
     ensures cause { HasCauseIn (result ≡ Err ReadAll.Failed) (D.outside desk.old).input_failures (D.outside desk.new).input_failures }
@@ -58,7 +59,8 @@ fn read_to_end<D: Desk>(
 pub fn write_file<D: Desk>(desk: &mut D, name: &str, bytes: &[u8]) -> Result<(), Failed>
     requires { (D.outside desk.old).file.stage ≡ Stage.Unasked }
     ensures whole { OnOk result (IfSome (D.outside desk.new).file.bytes (λ written. written ≡ bytes.now)) }
-    ensures prefix { OnErr result ((D.outside desk.new).file.stage ≡ Stage.Open → IfSome (D.outside desk.new).file.bytes (λ written. IsPrefix written bytes.now)) }
+    ensures prefix { OnErr result ((D.outside desk.new).file.stage ≡ Stage.Open
+        → IfSome (D.outside desk.new).file.bytes (λ written. IsPrefix written bytes.now)) }
     ensures opened { OnOk result ((D.outside desk.new).file.stage ≡ Stage.Open) }
     ensures name { IsIfTold (D.outside desk.new).file.name (Some name.now) }
     ensures files { OthersStay name.now (D.outside desk.old).files (D.outside desk.new).files }
@@ -74,7 +76,8 @@ pub fn write_file<D: Desk>(desk: &mut D, name: &str, bytes: &[u8]) -> Result<(),
 pub fn write_report<D: Desk>(desk: &mut D, text: &[u8]) -> Result<(), Failed>
     ensures whole { OnOk result (IsIfTold (D.outside desk.new).report (grown (D.outside desk.old).report text.now)) }
     ensures front { OnErr result (ReportsFront text.now (D.outside desk.old).report (D.outside desk.new).report) }
-    ensures only { D.outside desk.new ≡ record (D.outside desk.old) { report = (D.outside desk.new).report; output_failures = (D.outside desk.new).output_failures } }
+    ensures only { D.outside desk.new
+        ≡ record (D.outside desk.old) { report = (D.outside desk.new).report; output_failures = (D.outside desk.new).output_failures } }
     ensures cause { HasCauseIn (IsErr result) (D.outside desk.old).output_failures (D.outside desk.new).output_failures }
 {
     write_all(desk, OutSlot::Report, text)
@@ -92,7 +95,8 @@ pub fn read_file<D: Desk>(
     ensures whole { IfOk result (λ bytes. IfSome (D.outside desk.old).files (λ files. bytes.items ≡ bytes_of files name.now)) }
     ensures within { IfOk result (λ bytes. IfSome most (λ n. length bytes.items ≤ n)) }
     ensures fault { IfErr result (λ e. IfSome (D.outside desk.old).files (λ files. IsUnread most (bytes_of files name.now) e)) }
-    ensures taken { result ≡ Err (Ending.Image ImageFault.TooLong) → IfSome (D.outside desk.old).files (λ files. IfSome most (λ n. LeavesRest n (bytes_of files name.now) (D.outside desk.new).image)) }
+    ensures taken { result ≡ Err (Ending.Image ImageFault.TooLong)
+        → IfSome (D.outside desk.old).files (λ files. IfSome most (λ n. LeavesRest n (bytes_of files name.now) (D.outside desk.new).image)) }
     ensures stops { IfErr result Stops }
     ensures no_text { IfErr result TellsNoText }
     ensures name { IsIfTold (D.outside desk.new).image.name (Some name.now) }

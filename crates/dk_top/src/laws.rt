@@ -15,7 +15,7 @@ ghost use Rattle.dk_top.specs.Output.{output_file};
 ghost use Rattle.dk_top.specs.Simulation.{IsSimulated};
 
 /// Laws: an accepted text has one list of names and one of live reads. One that is accepted at an age has no fault at it, and one that is not has one fault. A report that holds has no wrong line and says one thing, and another has one first wrong line.
-pub fn one_plan()
+pub fn one_plan_law()
     ensures stencils { (text : List ℕ) (a b : List (List ℕ)) (s t : Stencils) → HasStencils text a s → HasStencils text b t → (a ≡ b) × (s ≡ t) }
     ensures apart { (text : List ℕ) (age : ℕ) (f : SourceFault) → CanBeCompiled text age → IsFaultAt text age f → ⊥ }
     ensures fault { (text : List ℕ) (age : ℕ) (f g : SourceFault) → IsFaultAt text age f → IsFaultAt text age g → f ≡ g }
@@ -23,31 +23,35 @@ pub fn one_plan()
     ensures wrong { (text bytes : List ℕ) (c : TheClaim) (line : ℕ) → IsConfirmed text bytes c → IsWrongLine text bytes line → ⊥ }
     ensures line { (text bytes : List ℕ) (m n : ℕ) → IsWrongLine text bytes m → IsWrongLine text bytes n → m ≡ n }
 {
-    dk_compile::one_source();
-    dk_compile::one_at_age();
-    stencil_sets::one_answer();
-    dk_plan::one_plan();
+    dk_compile::one_source_law();
+    dk_compile::one_at_age_law();
+    stencil_sets::one_answer_law();
+    dk_plan::one_plan_law();
 }
 
 /// Laws: the file decides what a streamed `run` leaves of it at its first fault, and a read that fails leaves no less. So no fault is hidden by a read that fails after it.
-pub fn one_rest()
-    ensures fault { (p : Typing) (file : List ℕ) (left other : Option (List ℕ)) (xs ys : List ℕ) → 0 < p.size.height → ReadsToFault p file left xs → ReadsToFault p file other ys → left ≡ other }
-    ensures failure { (p : Typing) (file after rest xs ys : List ℕ) → 0 < p.size.height → ReadsToFault p file (Some after) xs → ReadsToFailure p file (Some rest) ys → length after ≤ length rest }
+pub fn one_rest_law()
+    ensures fault { (p : Typing) (file : List ℕ) (left other : Option (List ℕ)) (xs ys : List ℕ) → 0 < p.size.height → ReadsToFault p file left xs
+        → ReadsToFault p file other ys → left ≡ other }
+    ensures failure { (p : Typing) (file after rest xs ys : List ℕ) → 0 < p.size.height → ReadsToFault p file (Some after) xs
+        → ReadsToFailure p file (Some rest) ys → length after ≤ length rest }
 {
-    pgm_codec::one_reading();
+    pgm_codec::one_reading_law();
 }
 
 /// Laws: `sim` shows, of each text that a program is compiled to, with the port `en` or without it, the file that `run` writes of the program: the pictures by its meaning, on each file of images that fits it. From zeros and from ones, the module is clocked once for each pixel and then for the latency.
-pub fn compile_then_sim()
-    ensures shows { (given : CompiledInput) (fill : OnePower) → IsSimulated (whole_drive given fill) given.text given.file (output_file given.program given.rounds) }
-    ensures only { (given : CompiledInput) (fill : OnePower) (pictures : List ℕ) → IsSimulated (whole_drive given fill) given.text given.file pictures → pictures ≡ output_file given.program given.rounds }
+pub fn compile_then_sim_law()
+    ensures shows { (given : CompiledInput) (fill : OnePower)
+        → IsSimulated (whole_drive given fill) given.text given.file (output_file given.program given.rounds) }
+    ensures only { (given : CompiledInput) (fill : OnePower) (pictures : List ℕ) → IsSimulated (whole_drive given fill) given.text given.file pictures
+        → pictures ≡ output_file given.program given.rounds }
 {
-    dk_compile::one_source();
-    dk_compile::one_at_age();
-    dk_compile::drive_shows();
-    buffer_plan::one_limit();
-    wiring::one_valuation();
-    wiring::one_next();
-    netlist::one_run();
-    test_bench::one_input();
+    dk_compile::one_source_law();
+    dk_compile::one_at_age_law();
+    dk_compile::drive_shows_law();
+    buffer_plan::one_limit_law();
+    wiring::one_valuation_law();
+    wiring::one_next_law();
+    netlist::one_run_law();
+    test_bench::one_input_law();
 }

@@ -18,13 +18,13 @@ use crate::reading::read_frames;
 use crate::running::{clocked, read_again};
 use crate::work::Work;
 use dk_base::OutOfMemory;
-use dk_compile::{Compiled, Options, one_at_age};
+use dk_compile::{Compiled, Options, one_at_age_law};
 use dk_desk::Desk;
 use dk_endings::Ending;
 use dk_words::MakeWords;
-use made_program::{Figures, made_is_read, make, sample_sum, summary};
+use made_program::{Figures, made_is_read_law, make, sample_sum, summary};
 use netlist::Module;
-use pgm_codec::one_reading;
+use pgm_codec::one_reading_law;
 use pgm_rounds::Round;
 use pointwise_ir::meaning_law;
 use std::alloc::Global;
@@ -68,7 +68,7 @@ fn made_ready(alloc: Global, n: u32) -> Result<Ready, Ending>
             module,
             rounds,
         }),
-        // That a made image fits its program is tested and not proved; where it did not, this would be told.
+        // That a made image fits its program is tested and not proved; where it did not, this would be reported.
         Err(_) => Err(Ending::Memory),
     }
 }
@@ -78,8 +78,8 @@ fn line_of(alloc: Global, n: u32, compiled: &Compiled, file: &[u8]) -> Result<Ve
     requires { (rounds : List (List OneImage)) × IsMade n compiled.now rounds file.now }
     ensures { IfOk result (λ line. IsMadeLine n line.items) }
 {
-    one_reading();
-    made_is_read();
+    one_reading_law();
+    made_is_read_law();
     meaning_law(&compiled.ir);
     compiled.system.law();
     let sample_sum = sample_sum(alloc, compiled.ir.size(), file)?;
@@ -103,7 +103,7 @@ fn made_line<D: Desk>(alloc: Global, desk: &mut D, n: u32) -> Result<Vec<u8>, En
     ensures stops { IfErr result Stops }
     ensures judged { result ≢ Err Ending.ReadFault }
 {
-    one_at_age();
+    one_at_age_law();
     let ready = match made_ready(alloc, n) {
         Ok(ready) => ready,
         Err(ending) => return Err(ending),

@@ -16,11 +16,11 @@ ghost use Rattle.dk_top.specs.Reading.{IsSourceEnding, IsUnreadText, IsImageEndi
 
 use crate::files::{read_file, read_input};
 use dk_base::{MAX_PGM_BYTES, MAX_SOURCE_BYTES};
-use dk_compile::{SourceError, SourceFault, one_at_age, one_source, planned};
+use dk_compile::{SourceError, SourceFault, one_at_age_law, one_source_law, planned};
 use dk_desk::transfer::ReadAll;
 use dk_desk::{Desk, InSlot, Stage};
 use dk_endings::{Ending, ImageFault};
-use pgm_rounds::{FileError, Round, one_file};
+use pgm_rounds::{FileError, Round, one_file_law};
 use pointwise_ir::Ir;
 use program_images::read_program_rounds;
 use std::alloc::Global;
@@ -68,8 +68,8 @@ fn read_form(alloc: Global, text: &[u8]) -> Result<Ir, Ending>
     ensures stops { IfErr result Stops }
     ensures judged { result ≢ Err Ending.ReadFault }
 {
-    one_source();
-    one_at_age();
+    one_source_law();
+    one_at_age_law();
     match planned(alloc, text, 0) {
         Ok(program) => Ok(program.ir),
         Err(error) => Err(ending_of(error)),
@@ -80,13 +80,14 @@ fn read_form(alloc: Global, text: &[u8]) -> Result<Ir, Ending>
 pub fn read_frames(alloc: Global, ir: &Ir, file: &[u8]) -> Result<Vec<Round>, Ending>
     ensures input { IfOk result (λ rounds. (most : Option ℕ) → IfSome most (λ n. length file.now ≤ n) → IsInputOf most ir.now file.now rounds.items) }
     ensures read { IfOk result (λ rounds. AreRead ir.now rounds.items) }
-    ensures fault { IfErr result (λ e. (most : Option ℕ) → IfSome most (λ n. length file.now ≤ n) → (p : Typing) → IsForm p ir.now → IsImageEnding most p file.now e) }
+    ensures fault { IfErr result (λ e. (most : Option ℕ) → IfSome most (λ n. length file.now ≤ n) → (p : Typing) → IsForm p ir.now
+        → IsImageEnding most p file.now e) }
     ensures stops { IfErr result Stops }
     ensures no_text { IfErr result TellsNoText }
     ensures no_images { IfErr result TellsNoImages }
     ensures judged { result ≢ Err Ending.ReadFault }
 {
-    one_file();
+    one_file_law();
     ir.law();
     match read_program_rounds(alloc, ir, file) {
         Ok(rounds) => Ok(rounds),
@@ -139,9 +140,11 @@ pub fn read_images<D: Desk>(
     requires before_create { (D.outside desk.old).file.stage ≡ Stage.Unasked }
     ensures input { IfOk result (λ rounds. IfSome (D.outside desk.old).files (λ files. IsInputOf most ir.now (bytes_of files name.now) rounds.items)) }
     ensures read { IfOk result (λ rounds. AreRead ir.now rounds.items) }
-    ensures fault { IfErr result (λ e. IfSome (D.outside desk.old).files (λ files. (p : Typing) → IsForm p ir.now → IsImageEnding most p (bytes_of files name.now) e)) }
+    ensures fault { IfErr result (λ e. IfSome (D.outside desk.old).files (λ files. (p : Typing) → IsForm p ir.now
+        → IsImageEnding most p (bytes_of files name.now) e)) }
     ensures stops { IfErr result Stops }
-    ensures left { IfErr result (λ e. most ≡ Some MAX_PGM_BYTES → IfSome (D.outside desk.old).files (λ files. LeavesImages e (bytes_of files name.now) (D.outside desk.new).image)) }
+    ensures left { IfErr result (λ e. most ≡ Some MAX_PGM_BYTES
+        → IfSome (D.outside desk.old).files (λ files. LeavesImages e (bytes_of files name.now) (D.outside desk.new).image)) }
     ensures no_text { IfErr result TellsNoText }
     ensures name { IsIfTold (D.outside desk.new).image.name (Some name.now) }
     ensures only { OpensOnly InSlot.Image (D.outside desk.old) (D.outside desk.new) }
@@ -182,7 +185,8 @@ pub fn read_given<D: Desk>(
     ensures left { IfErr result (λ e. IfSome (D.outside desk.old).files (λ files. LeavesBoth e (bytes_of files program.now) (bytes_of files image.now) (D.outside desk.new).program (D.outside desk.new).image)) }
     ensures program_name { (D.outside desk.new).program.stage ≢ Stage.Unasked → IsIfTold (D.outside desk.new).program.name (Some program.now) }
     ensures image_name { (D.outside desk.new).image.stage ≢ Stage.Unasked → IsIfTold (D.outside desk.new).image.name (Some image.now) }
-    ensures only { D.outside desk.new ≡ record (D.outside desk.old) { program = (D.outside desk.new).program; image = (D.outside desk.new).image; input_failures = (D.outside desk.new).input_failures } }
+    ensures only { D.outside desk.new
+        ≡ record (D.outside desk.old) { program = (D.outside desk.new).program; image = (D.outside desk.new).image; input_failures = (D.outside desk.new).input_failures } }
     ensures cause { HasCauseIn (result ≡ Err Ending.ReadFault) (D.outside desk.old).input_failures (D.outside desk.new).input_failures }
 {
     let Source { text, ir } = match read_source(alloc, desk, program) {

@@ -28,12 +28,13 @@ use dk_desk::{Desk, InSlot, Stage};
 use dk_endings::{Ending, ReportFault, holds_line};
 use dk_plan::{CheckFault, Claim, PlanFault, judge_report, plan_report};
 use dk_words::{CheckWords, PlanWords};
-use source_names::source_names;
+use source_names::source_names_law;
 use std::alloc::Global;
 
 // How a call ends whose program has no report.
 fn plan_ending(fault: PlanFault) -> Ending
-    ensures fault { (source : List ℕ) (age : ℕ) (ir : Program) (s : Stencils) → HasFront source ir s → IsPlanFault (aged s age) fault → IsSourceEnding (IsFaultAt source age) result }
+    ensures fault { (source : List ℕ) (age : ℕ) (ir : Program) (s : Stencils) → HasFront source ir s → IsPlanFault (aged s age) fault
+        → IsSourceEnding (IsFaultAt source age) result }
     ensures stops { Stops result }
     ensures judged { result ≢ Ending.ReadFault }
 {
@@ -54,7 +55,7 @@ fn report_of(alloc: Global, front: &Front, age: u8) -> Result<Vec<u8>, Ending>
     ensures stops { IfErr result Stops }
     ensures judged { result ≢ Err Ending.ReadFault }
 {
-    source_names();
+    source_names_law();
     match plan_report(alloc, &front.ir, &front.stencils, age) {
         Ok(report) => Ok(report),
         Err(fault) => Err(plan_ending(fault)),
@@ -201,8 +202,10 @@ fn read_report<D: Desk>(
     requires fresh { (D.outside desk.old).image.stage ≡ Stage.Unasked }
     requires before_create { (D.outside desk.old).file.stage ≡ Stage.Unasked }
     requires accepted { (source : List ℕ) × HasFront source front.now.ir front.now.stencils }
-    ensures holds { IfOk result (λ claim. IfSome (D.outside desk.old).files (λ files. (source : List ℕ) → HasFront source front.now.ir front.now.stencils → IsChecked source (bytes_of files name.now) claim)) }
-    ensures fault { IfErr result (λ e. IfSome (D.outside desk.old).files (λ files. (source : List ℕ) → HasFront source front.now.ir front.now.stencils → IsReportEnding source (bytes_of files name.now) e)) }
+    ensures holds { IfOk result (λ claim. IfSome (D.outside desk.old).files (λ files. (source : List ℕ) → HasFront source front.now.ir front.now.stencils
+        → IsChecked source (bytes_of files name.now) claim)) }
+    ensures fault { IfErr result (λ e. IfSome (D.outside desk.old).files (λ files. (source : List ℕ) → HasFront source front.now.ir front.now.stencils
+        → IsReportEnding source (bytes_of files name.now) e)) }
     ensures stops { IfErr result Stops }
     ensures left { IfErr result (λ e. IfSome (D.outside desk.old).files (λ files. LeavesImages e (bytes_of files name.now) (D.outside desk.new).image)) }
     ensures no_text { IfErr result TellsNoText }
@@ -234,7 +237,8 @@ fn read_claim<D: Desk>(
     ensures left { IfErr result (λ e. IfSome (D.outside desk.old).files (λ files. LeavesBoth e (bytes_of files program.now) (bytes_of files report.now) (D.outside desk.new).program (D.outside desk.new).image)) }
     ensures program_name { (D.outside desk.new).program.stage ≢ Stage.Unasked → IsIfTold (D.outside desk.new).program.name (Some program.now) }
     ensures image_name { (D.outside desk.new).image.stage ≢ Stage.Unasked → IsIfTold (D.outside desk.new).image.name (Some report.now) }
-    ensures only { D.outside desk.new ≡ record (D.outside desk.old) { program = (D.outside desk.new).program; image = (D.outside desk.new).image; input_failures = (D.outside desk.new).input_failures } }
+    ensures only { D.outside desk.new
+        ≡ record (D.outside desk.old) { program = (D.outside desk.new).program; image = (D.outside desk.new).image; input_failures = (D.outside desk.new).input_failures } }
     ensures cause { HasCauseIn (result ≡ Err Ending.ReadFault) (D.outside desk.old).input_failures (D.outside desk.new).input_failures }
 {
     let front = match read_front(alloc, desk, program) {

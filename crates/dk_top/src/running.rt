@@ -25,7 +25,7 @@ use crate::streaming::{is_one_port, run_streamed};
 use crate::work::Work;
 use cycle_sim::Fill;
 use dk_base::{FrameSize, OutOfMemory};
-use dk_compile::{Compiled, Options, drive_shows, one_at_age, one_source};
+use dk_compile::{Compiled, Options, drive_shows_law, one_at_age_law, one_source_law};
 use dk_desk::{Desk, Stage};
 use dk_endings::Ending;
 use dk_words::RunWords;
@@ -34,19 +34,19 @@ use pgm_rounds::Round;
 use std::alloc::{AllocError, Global};
 use test_bench::{BenchFault, Drive, run_bench};
 
-// The module that the Verilog text of a program stands for.
+// The module that the Verilog text of a program denotes.
 pub fn read_again(alloc: Global, compiled: &Compiled) -> Result<Module, OutOfMemory>
     requires { (source : List ℕ) × (age : ℕ) × IsCompiledFrom source age false compiled.now }
     ensures { IfOk result (λ m. m ≡ compiled.now.«module») }
 {
     match verilog_read::read(alloc, &compiled.text) {
         Ok(module) => Ok(module),
-        // the text stands for a module, so what is left is want of memory
+        // the text denotes a module, so what is left is out of memory
         Err(_) => Err(AllocError),
     }
 }
 
-// How the module of a plan is driven with so many rounds of frames.
+// How the module of a plan is driven with this many rounds of frames.
 fn drive_of(size: FrameSize, latency: u64, rounds: usize) -> Drive
     requires latency { latency ≤ MAX_LATENCY }
     requires rounds { rounds ≤ MAX_FILE_IMAGES }
@@ -74,11 +74,14 @@ pub fn clocked<D: Desk>(
     requires again { «module».now ≡ compiled.now.«module» }
     requires read { AreRead compiled.now.ir rounds.now }
     ensures only { D.outside desk.new ≡ record (D.outside desk.old) { notes = (D.outside desk.new).notes } }
-    ensures output { IfOk result (λ output. (source file : List ℕ) (age : ℕ) → IsCompiledFrom source age false compiled.now → IsInputOf None compiled.now.ir file rounds.now → OfPair (run_terms age) source file (λ p rounds. output.items ≡ output_file p rounds)) }
-    ensures notes { OnOk result ((source file : List ℕ) (age : ℕ) → IsCompiledFrom source age false compiled.now → IsInputOf None compiled.now.ir file rounds.now → OfPair (run_terms age) source file (λ p rounds. NotesRun source age p rounds (D.outside desk.old).notes (D.outside desk.new).notes)) }
+    ensures output { IfOk result (λ output. (source file : List ℕ) (age : ℕ) → IsCompiledFrom source age false compiled.now
+        → IsInputOf None compiled.now.ir file rounds.now → OfPair (run_terms age) source file (λ p rounds. output.items ≡ output_file p rounds)) }
+    ensures notes { OnOk result ((source file : List ℕ) (age : ℕ) → IsCompiledFrom source age false compiled.now
+        → IsInputOf None compiled.now.ir file rounds.now
+        → OfPair (run_terms age) source file (λ p rounds. NotesRun source age p rounds (D.outside desk.old).notes (D.outside desk.new).notes)) }
 {
-    one_source();
-    drive_shows();
+    one_source_law();
+    drive_shows_law();
     compiled.ir.law();
     compiled.plan.law();
     let size = compiled.ir.size();
@@ -90,7 +93,7 @@ pub fn clocked<D: Desk>(
     }
 }
 
-// The program, compiled, and the module that its Verilog text stands for.
+// The program, compiled, and the module that its Verilog text denotes.
 #[derive(Drop)]
 struct Machine {
     compiled: Compiled,
@@ -114,7 +117,8 @@ fn read_machine<D: Desk>(
     ensures stops { IfErr result Stops }
     ensures left { IfErr result (λ e. IfSome (D.outside desk.old).files (λ files. LeavesText e (bytes_of files program.now) (D.outside desk.new).program)) }
     ensures name { IsIfTold (D.outside desk.new).program.name (Some program.now) }
-    ensures only { D.outside desk.new ≡ record (D.outside desk.old) { program = (D.outside desk.new).program; input_failures = (D.outside desk.new).input_failures } }
+    ensures only { D.outside desk.new
+        ≡ record (D.outside desk.old) { program = (D.outside desk.new).program; input_failures = (D.outside desk.new).input_failures } }
     ensures cause { HasCauseIn (result ≡ Err Ending.ReadFault) (D.outside desk.old).input_failures (D.outside desk.new).input_failures }
 {
     let options = Options { enable: false, age };
@@ -140,16 +144,22 @@ fn ran<D: Desk>(
     requires again { «module».now ≡ compiled.now.«module» }
     requires image { (D.outside desk.old).image.stage ≡ Stage.Unasked }
     requires file { (D.outside desk.old).file.stage ≡ Stage.Unasked }
-    ensures output { IfOk result (λ output. (source : List ℕ) (age : ℕ) → IsCompiledFrom source age false compiled.now → IfSome (D.outside desk.old).files (λ files. OfPair (run_terms age) source (bytes_of files image.now) (λ p rounds. output.items ≡ output_file p rounds))) }
-    ensures notes { OnOk result ((source : List ℕ) (age : ℕ) → IsCompiledFrom source age false compiled.now → IfSome (D.outside desk.old).files (λ files. OfPair (run_terms age) source (bytes_of files image.now) (λ p rounds. NotesRun source age p rounds (D.outside desk.old).notes (D.outside desk.new).notes))) }
-    ensures fault { IfErr result (λ e. (source : List ℕ) (age : ℕ) → IsCompiledFrom source age false compiled.now → IfSome (D.outside desk.old).files (λ files. IsAnswer (run_terms age) source (bytes_of files image.now) e)) }
-    ensures good { OnOk result ((source : List ℕ) (age : ℕ) → IsCompiledFrom source age false compiled.now → IfSome (D.outside desk.old).files (λ files. IsGoodPair (run_terms age) source (bytes_of files image.now))) }
+    ensures output { IfOk result (λ output. (source : List ℕ) (age : ℕ) → IsCompiledFrom source age false compiled.now
+        → IfSome (D.outside desk.old).files (λ files. OfPair (run_terms age) source (bytes_of files image.now) (λ p rounds. output.items
+        ≡ output_file p rounds))) }
+    ensures notes { OnOk result ((source : List ℕ) (age : ℕ) → IsCompiledFrom source age false compiled.now
+        → IfSome (D.outside desk.old).files (λ files. OfPair (run_terms age) source (bytes_of files image.now) (λ p rounds. NotesRun source age p rounds (D.outside desk.old).notes (D.outside desk.new).notes))) }
+    ensures fault { IfErr result (λ e. (source : List ℕ) (age : ℕ) → IsCompiledFrom source age false compiled.now
+        → IfSome (D.outside desk.old).files (λ files. IsAnswer (run_terms age) source (bytes_of files image.now) e)) }
+    ensures good { OnOk result ((source : List ℕ) (age : ℕ) → IsCompiledFrom source age false compiled.now
+        → IfSome (D.outside desk.old).files (λ files. IsGoodPair (run_terms age) source (bytes_of files image.now))) }
     ensures stops { IfErr result Stops }
     ensures name { IsIfTold (D.outside desk.new).image.name (Some image.now) }
-    ensures only { D.outside desk.new ≡ record (D.outside desk.old) { image = (D.outside desk.new).image; notes = (D.outside desk.new).notes; input_failures = (D.outside desk.new).input_failures } }
+    ensures only { D.outside desk.new
+        ≡ record (D.outside desk.old) { image = (D.outside desk.new).image; notes = (D.outside desk.new).notes; input_failures = (D.outside desk.new).input_failures } }
     ensures cause { HasCauseIn (result ≡ Err Ending.ReadFault) (D.outside desk.old).input_failures (D.outside desk.new).input_failures }
 {
-    one_at_age();
+    one_at_age_law();
     let rounds = match read_images(alloc, desk, &compiled.ir, image, None) {
         Ok(rounds) => rounds,
         Err(ending) => return Err(ending),
@@ -174,10 +184,11 @@ fn run_rounds<D: Desk>(
     requires several { (p : Typing) → IsForm p compiled.now.ir → IsOnePort p → ⊥ }
     requires image { (D.outside desk.old).image.stage ≡ Stage.Unasked }
     requires file { (D.outside desk.old).file.stage ≡ Stage.Unasked }
-    ensures runs { (source : List ℕ) (age : ℕ) → IsCompiledFrom source age false compiled.now → RunsOn source age image.now out.now result (D.outside desk.old) (D.outside desk.new) }
+    ensures runs { (source : List ℕ) (age : ℕ) → IsCompiledFrom source age false compiled.now
+        → RunsOn source age image.now out.now result (D.outside desk.old) (D.outside desk.new) }
 {
-    one_source();
-    one_at_age();
+    one_source_law();
+    one_at_age_law();
     let output = match ran(alloc, desk, compiled, module, image) {
         Ok(output) => output,
         Err(ending) => return ending,
@@ -202,8 +213,8 @@ fn run_program<D: Desk>(
     ensures performs { PerformsRun program.now image.now out.now age result (D.outside desk.old) (D.outside desk.new) }
     ensures left { IfSome (D.outside desk.old).files (λ files. LeavesText result (bytes_of files program.now) (D.outside desk.new).program) }
 {
-    one_source();
-    one_at_age();
+    one_source_law();
+    one_at_age_law();
     let Machine { compiled, module } = match read_machine(alloc, desk, program, age) {
         Ok(machine) => machine,
         Err(ending) => return ending,

@@ -18,7 +18,7 @@ ghost use Rattle.dk_top.specs.Reading.{Stops, TellsNoText, TellsNoImages};
 
 use crate::files::{read_file, read_input, write_file};
 use crate::work::Work;
-use cycle_sim::Fill;
+use cycle_sim::{Fill, dins_of};
 use dk_base::{MAX_PGM_BYTES, MAX_VERILOG_BYTES, Span};
 use dk_desk::transfer::ReadAll;
 use dk_desk::{Desk, InSlot, Stage};
@@ -27,11 +27,11 @@ use dk_words::{PowerUp, SimWords};
 use netlist::Module;
 use pgm_rounds::FileError;
 use std::alloc::Global;
-use test_bench::{BenchFault, BenchInput, Drive, dins_of, run_bench};
+use test_bench::{BenchFault, BenchInput, Drive, run_bench};
 use verilog_read::name_span;
 use verilog_text::TextError;
 
-// How a call ends whose text stands for no module.
+// How a call ends whose text denotes no module.
 fn ending_of(error: TextError) -> Ending
     ensures fault { (hold : Option ℕ) (text : List ℕ) → length text ≤ MAX_VERILOG_BYTES → IsErrorBy (IsFault text) error → IsModuleEnding hold text result }
     ensures stops { Stops result }
@@ -197,12 +197,14 @@ pub fn read_all<D: Desk>(
     ensures input { IfOk result (λ given. IfSome (D.outside desk.old).files (λ files. IsSimInput hold (bytes_of files verilog.now) (bytes_of files image.now) given.«module» (size_of given.input.size) given.input.rounds.items)) }
     ensures frame { IfOk result (λ given. IsFrame given.input.size.width given.input.size.height) }
     ensures frames { IfOk result (λ given. AreBenchFrames (din_widths given.«module».netlist) (size_of given.input.size) given.input.rounds.items) }
-    ensures fault { IfErr result (λ e. IfSome (D.outside desk.old).files (λ files. (clocks : ℕ) (power : OnePower) → IsInputEnding (drive_of clocks power hold) (bytes_of files verilog.now) (bytes_of files image.now) e)) }
+    ensures fault { IfErr result (λ e. IfSome (D.outside desk.old).files (λ files. (clocks : ℕ) (power : OnePower)
+        → IsInputEnding (drive_of clocks power hold) (bytes_of files verilog.now) (bytes_of files image.now) e)) }
     ensures stops { IfErr result Stops }
     ensures left { IfErr result (λ e. IfSome (D.outside desk.old).files (λ files. LeavesBoth e (bytes_of files verilog.now) (bytes_of files image.now) (D.outside desk.new).program (D.outside desk.new).image)) }
     ensures program_name { (D.outside desk.new).program.stage ≢ Stage.Unasked → IsIfTold (D.outside desk.new).program.name (Some verilog.now) }
     ensures image_name { (D.outside desk.new).image.stage ≢ Stage.Unasked → IsIfTold (D.outside desk.new).image.name (Some image.now) }
-    ensures only { D.outside desk.new ≡ record (D.outside desk.old) { program = (D.outside desk.new).program; image = (D.outside desk.new).image; input_failures = (D.outside desk.new).input_failures } }
+    ensures only { D.outside desk.new
+        ≡ record (D.outside desk.old) { program = (D.outside desk.new).program; image = (D.outside desk.new).image; input_failures = (D.outside desk.new).input_failures } }
     ensures cause { HasCauseIn (result ≡ Err Ending.ReadFault) (D.outside desk.old).input_failures (D.outside desk.new).input_failures }
 {
     let module = match read_module(alloc, desk, verilog, hold) {
@@ -249,18 +251,25 @@ fn pictures<D: Desk>(
     requires frame { IsFrame given.now.input.size.width given.now.input.size.height }
     requires frames { AreBenchFrames (din_widths given.now.«module».netlist) (size_of given.now.input.size) given.now.input.rounds.items }
     ensures only { D.outside desk.new ≡ record (D.outside desk.old) { notes = (D.outside desk.new).notes } }
-    ensures file { IfOk result (λ file. (text images : List ℕ) → IsSimInput drive.hold text images given.now.«module» (size_of given.now.input.size) given.now.input.rounds.items → IsSimulated drive text images file.items) }
-    ensures only_file { IfOk result (λ file. (text images : List ℕ) → IsSimInput drive.hold text images given.now.«module» (size_of given.now.input.size) given.now.input.rounds.items → (pictures : List ℕ) → IsSimulated drive text images pictures → pictures ≡ file.items) }
-    ensures notes { OnOk result ((text images : List ℕ) → IsSimInput drive.hold text images given.now.«module» (size_of given.now.input.size) given.now.input.rounds.items → NotesSim drive text images (D.outside desk.old).notes (D.outside desk.new).notes) }
-    ensures fault { IfErr result (λ e. (text images : List ℕ) → IsSimInput drive.hold text images given.now.«module» (size_of given.now.input.size) given.now.input.rounds.items → IsSimAnswer drive text images e) }
+    ensures file { IfOk result (λ file. (text images : List ℕ)
+        → IsSimInput drive.hold text images given.now.«module» (size_of given.now.input.size) given.now.input.rounds.items
+        → IsSimulated drive text images file.items) }
+    ensures only_file { IfOk result (λ file. (text images : List ℕ)
+        → IsSimInput drive.hold text images given.now.«module» (size_of given.now.input.size) given.now.input.rounds.items → (pictures : List ℕ)
+        → IsSimulated drive text images pictures → pictures ≡ file.items) }
+    ensures notes { OnOk result ((text images : List ℕ)
+        → IsSimInput drive.hold text images given.now.«module» (size_of given.now.input.size) given.now.input.rounds.items
+        → NotesSim drive text images (D.outside desk.old).notes (D.outside desk.new).notes) }
+    ensures fault { IfErr result (λ e. (text images : List ℕ)
+        → IsSimInput drive.hold text images given.now.«module» (size_of given.now.input.size) given.now.input.rounds.items → IsSimAnswer drive text images e) }
     ensures stops { IfErr result Stops }
     ensures no_text { IfErr result TellsNoText }
     ensures no_images { IfErr result TellsNoImages }
     ensures judged { result ≢ Err Ending.ReadFault }
 {
-    verilog_text::one_module();
-    test_bench::one_input();
-    test_bench::one_bench();
+    verilog_text::one_module_law();
+    test_bench::one_input_law();
+    test_bench::one_bench_law();
     given.module.law();
     match run_bench(
         alloc,

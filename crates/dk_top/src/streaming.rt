@@ -20,11 +20,11 @@ ghost use Rattle.dk_top.specs.Streams.{RunsStream, RunsOn};
 use block_sim::Blocks;
 use cycle_sim::Fill;
 use dk_base::FrameSize;
-use dk_compile::{Compiled, drive_shows, one_at_age, one_source};
+use dk_compile::{Compiled, drive_shows_law, one_at_age_law, one_source_law};
 use dk_desk::{Desk, InSlot, Stage};
 use dk_endings::{Ending, ImageFault};
 use netlist::Module;
-use pgm_rounds::one_file;
+use pgm_rounds::one_file_law;
 use pointwise_ir::Ir;
 use row_stream::{Form, Room, StreamFault, stream, streams_most};
 use std::alloc::Global;
@@ -53,7 +53,7 @@ fn dout_bits(module: &Module) -> u8
     module.wiring().outputs[1].bits()
 }
 
-// The images that a module with a dout of so many bits writes.
+// The images that a module with a dout of this many bits writes.
 fn form_of(size: FrameSize, bits: u8) -> Form
     requires { bits ≤ MAX_PORT_WIDTH }
     ensures size { result.size ≡ size }
@@ -115,11 +115,12 @@ fn run_lines<D: Desk>(
     requires image { (D.outside desk.old).image.stage ≡ Stage.Unasked }
     requires file { (D.outside desk.old).file.stage ≡ Stage.Unasked }
     ensures memory { result ≡ Ending.Memory → D.outside desk.new ≡ D.outside desk.old }
-    ensures runs { result ≢ Ending.Memory → (source : List ℕ) (age : ℕ) → (from : IsCompiledFrom source age false compiled.now) → RunsStream (output_kind from.program) «module».now.netlist (first_bits from.program) (latency_of_plan compiled.now.plan) image.now out.now (filled_contents Fill.Zeros «module».now.netlist) (D.outside desk.old) (D.outside desk.new) result }
+    ensures runs { result ≢ Ending.Memory → (source : List ℕ) (age : ℕ) → (from : IsCompiledFrom source age false compiled.now)
+        → RunsStream (output_kind from.program) «module».now.netlist (first_bits from.program) (latency_of_plan compiled.now.plan) image.now out.now (filled_contents Fill.Zeros «module».now.netlist) (D.outside desk.old) (D.outside desk.new) result }
     ensures read { HasCauseIn (result ≡ Ending.ReadFault) (D.outside desk.old).input_failures (D.outside desk.new).input_failures }
     ensures write { HasCauseIn (result ≡ Ending.WriteFault) (D.outside desk.old).output_failures (D.outside desk.new).output_failures }
 {
-    one_source();
+    one_source_law();
     compiled.ir.law();
     compiled.plan.law();
     let size = compiled.ir.size();
@@ -159,12 +160,13 @@ pub fn run_streamed<D: Desk>(
     requires one { (p : Typing) → IsForm p compiled.now.ir → IsOnePort p }
     requires image { (D.outside desk.old).image.stage ≡ Stage.Unasked }
     requires file { (D.outside desk.old).file.stage ≡ Stage.Unasked }
-    ensures runs { (source : List ℕ) (age : ℕ) → IsCompiledFrom source age false compiled.now → RunsOn source age image.now out.now result (D.outside desk.old) (D.outside desk.new) }
+    ensures runs { (source : List ℕ) (age : ℕ) → IsCompiledFrom source age false compiled.now
+        → RunsOn source age image.now out.now result (D.outside desk.old) (D.outside desk.new) }
 {
-    one_source();
-    one_at_age();
-    one_file();
-    drive_shows();
+    one_source_law();
+    one_at_age_law();
+    one_file_law();
+    drive_shows_law();
     streams_most();
     run_lines(alloc, desk, compiled, module, image, out)
 }

@@ -34,13 +34,17 @@ fn write_trace<D: Desk>(
     requires unheld { drive.hold ≡ None }
     requires clocks { drive.clocks < 2 ^ 60 }
     requires frames { AreBenchFrames (din_widths given.now.«module».netlist) (size_of given.now.input.size) given.now.input.rounds.items }
-    ensures verdict { (text images : List ℕ) → IsSimInput drive.hold text images given.now.«module» (size_of given.now.input.size) given.now.input.rounds.items → IsTraceAnswer drive text images result }
-    ensures output { (D.outside desk.new).file.stage ≡ Stage.Open → IfSome (D.outside desk.new).file.bytes (λ bytes. (text images : List ℕ) → IsSimInput drive.hold text images given.now.«module» (size_of given.now.input.size) given.now.input.rounds.items → IsHeldTrace result drive text images bytes) }
+    ensures verdict { (text images : List ℕ) → IsSimInput drive.hold text images given.now.«module» (size_of given.now.input.size) given.now.input.rounds.items
+        → IsTraceAnswer drive text images result }
+    ensures output { (D.outside desk.new).file.stage ≡ Stage.Open → IfSome (D.outside desk.new).file.bytes (λ bytes. (text images : List ℕ)
+        → IsSimInput drive.hold text images given.now.«module» (size_of given.now.input.size) given.now.input.rounds.items
+        → IsHeldTrace result drive text images bytes) }
     ensures taken { result ≢ Ending.Usage }
     ensures judged { result ≢ Ending.ReadFault }
     ensures no_text { TellsNoText result }
     ensures no_images { TellsNoImages result }
-    ensures created { (verilog image vcd : List ℕ) (clocks : ℕ) → CreatesNothing (Some (trace_command verilog clocks image vcd)) result → (D.outside desk.new).file.stage ≡ Stage.Unasked }
+    ensures created { (verilog image vcd : List ℕ) (clocks : ℕ) → CreatesNothing (Some (trace_command verilog clocks image vcd)) result
+        → (D.outside desk.new).file.stage ≡ Stage.Unasked }
     ensures begun { CreatesTrace result (D.outside desk.new).file.stage }
     ensures written { result ≡ Ending.Done → (D.outside desk.new).file.stage ≡ Stage.Open }
     ensures name { IsIfTold (D.outside desk.new).file.name (Some name.now) }
@@ -81,13 +85,17 @@ fn traced<D: Desk>(
     requires unheld { drive.hold ≡ None }
     requires clocks { drive.clocks < 2 ^ 60 }
     requires frames { AreBenchFrames (din_widths given.now.«module».netlist) (size_of given.now.input.size) given.now.input.rounds.items }
-    ensures verdict { (text images : List ℕ) → IsSimInput drive.hold text images given.now.«module» (size_of given.now.input.size) given.now.input.rounds.items → IsTraceAnswer drive text images result }
-    ensures output { (D.outside desk.new).file.stage ≡ Stage.Open → IfSome (D.outside desk.new).file.bytes (λ bytes. (text images : List ℕ) → IsSimInput drive.hold text images given.now.«module» (size_of given.now.input.size) given.now.input.rounds.items → IsHeldTrace result drive text images bytes) }
+    ensures verdict { (text images : List ℕ) → IsSimInput drive.hold text images given.now.«module» (size_of given.now.input.size) given.now.input.rounds.items
+        → IsTraceAnswer drive text images result }
+    ensures output { (D.outside desk.new).file.stage ≡ Stage.Open → IfSome (D.outside desk.new).file.bytes (λ bytes. (text images : List ℕ)
+        → IsSimInput drive.hold text images given.now.«module» (size_of given.now.input.size) given.now.input.rounds.items
+        → IsHeldTrace result drive text images bytes) }
     ensures taken { result ≢ Ending.Usage }
     ensures judged { result ≢ Ending.ReadFault }
     ensures no_text { TellsNoText result }
     ensures no_images { TellsNoImages result }
-    ensures created { (verilog image vcd : List ℕ) (clocks : ℕ) → CreatesNothing (Some (trace_command verilog clocks image vcd)) result → (D.outside desk.new).file.stage ≡ Stage.Unasked }
+    ensures created { (verilog image vcd : List ℕ) (clocks : ℕ) → CreatesNothing (Some (trace_command verilog clocks image vcd)) result
+        → (D.outside desk.new).file.stage ≡ Stage.Unasked }
     ensures begun { CreatesTrace result (D.outside desk.new).file.stage }
     ensures written { result ≡ Ending.Done → (D.outside desk.new).file.stage ≡ Stage.Open }
     ensures name { (D.outside desk.new).file.stage ≢ Stage.Unasked → IsIfTold (D.outside desk.new).file.name (Some name.now) }

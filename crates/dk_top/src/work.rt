@@ -29,7 +29,8 @@ pub trait Work {
         ensures begun { IfSome (D.outside desk.old).files (λ files. CreatesBy (command self.now) result files (D.outside desk.new).file.stage) }
         ensures reads { IfSome (D.outside desk.old).files (λ files. ReadsBy (command self.now) result files (D.outside desk.new).image (D.outside desk.new).file.stage) }
         ensures written { result ≡ Ending.Done → CreatesOut (Some (command self.now)) (D.outside desk.new) }
-        ensures output { (D.outside desk.new).file.stage ≡ Stage.Open → IfSome (D.outside desk.old).files (λ files. IfSome (D.outside desk.new).file.bytes (IsHeld result (command self.now) files (D.outside desk.new).image.rest)) }
+        ensures output { (D.outside desk.new).file.stage ≡ Stage.Open
+            → IfSome (D.outside desk.old).files (λ files. IfSome (D.outside desk.new).file.bytes (IsHeld result (command self.now) files (D.outside desk.new).image.rest)) }
         ensures files { FilesStay (Some (command self.now)) (D.outside desk.old).files (D.outside desk.new).files }
         ensures files_stay { (D.outside desk.new).file.stage ≢ Stage.Open → (D.outside desk.new).files ≡ (D.outside desk.old).files }
         ensures report_stays { WritesNothing (Some (command self.now)) result → (D.outside desk.new).report ≡ (D.outside desk.old).report }

@@ -85,7 +85,7 @@ apart start rest n name e =
     ap (λ (m : Name). is_same name m.text) (sym (get_or-append_seam start n rest n))
     ∙ fails_before_first (λ (m : Name). is_same name m.text) (start ++ n ∷ rest) (length start) n (omega (arith, long, l))
 
--- names that stand for one image are the same
+-- names that denote one image are the same
 one_name : (scope : Scope) (a b : List ℕ) (g : ℕ) (t : Ty) → image_of scope a ≡ Some g → image_of scope b ≡ Some g → is_same b a ≡ true
 one_name scope a b g t here there =
     let d : Named = record { name = a; ty = t } in

@@ -7,7 +7,7 @@ use Rattle.dk_base.specs.Numbers.{IsBitCount, bit_count}
 use Rattle.dk_base.specs.Operators.{literal_type}
 use Rattle.dk_base.proofs.BitCounts.{bit_count_is, bit_count_only}
 
--- a number of so many bits
+-- a number of this many bits
 pub literal : (v n : ℕ) → v < 2 ^ 64 → 2 ^ n ≤ v → v < 2 ^ suc n → literal_type v ≡ Unsigned (suc n)
 literal v n fits least most =
     let bits : IsBitCount v (suc n) = record {

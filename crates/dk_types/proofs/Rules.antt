@@ -35,7 +35,7 @@ use Rattle.dk_types.specs.Faults.{Faulty, Stops, at}
 use Rattle.dk_types.specs.Faults as F
 use Rattle.dk_types.specs.Found.{IsFarAt}
 
--- what is told by this error
+-- what is specified by this error
 pub told : (P : TypeFault → Type 0) (x : TypeError) (f g : TypeFault) → x ≡ Fault f → g ≡ f → P g → Stops P x
 told P x f g e q h = let R : TypeError → Type 0 = λ y. Stops P y in subst R (ap Fault q ∙ sym e) h
 

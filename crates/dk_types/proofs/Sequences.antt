@@ -7,7 +7,7 @@ use Rattle.dk_types.specs.declared.fault.TypeError.TheVariants as Error
 use Rattle.dk_types.specs.Faults.{Stops}
 use Rattle.dk_types.specs.Sequences.{Each, First, none, next, here, later}
 
--- an item, what stands before it, and what stands after it
+-- an item, what comes before it, and what follows it
 step : {A : Type 0} (xs : List A) (k : ℕ) (x : A) → slice_get xs k ≡ Some x → (take (suc k) xs ≡ take k xs ++ x ∷ []) × (xs ≡ take k xs ++ (x ∷ drop (suc k) xs))
 step [] k x h = absurd (let e : ⊥ = cc in e)
 step (y ∷ ys) zero x h = let e : y ≡ x = cc in (ap (λ z. z ∷ []) e, ap (λ z. z ∷ ys) e)

@@ -37,7 +37,7 @@ use Rattle.dk_types.specs.Types.{HasType, IsSide, Takes, declared_type, IsInput,
 abbrev pub at : Span → TypeFaultKind → TypeFault
 at s k = record { span = s; kind = k }
 
--- Faulty scope e f: f is the first fault of the expression e. What stands before it has types.
+-- Faulty scope e f: f is the first fault of the expression e. What comes before it has types.
 -- Operands are judged from left to right before their operator.
 pub data Faulty (scope : Scope) : Tree → TypeFault → Type 0 where
   -- a read: its name, then x, then y
@@ -140,7 +140,7 @@ pub data IsFirstFault (p : Source) : TypeFault → Type 0 where
   output : {f : TypeFault} {is : List TypedInput} {ds : List Definition} → IsSide p.width.value → IsSide p.height.value
       → AreInputs p.inputs is → AreDefinitions is p.definitions ds → FaultyOutputs (scope_of is ds) p.outputs f → IsFirstFault p f
 
--- what is told is so, or memory is wanting
+-- what is specified is so, or out of memory
 abbrev pub Stops : (TypeFault → Type 0) → TypeError → Type 0
 Stops F (Fault f) = F f
 Stops F OutOfMemory = Unit {0}

@@ -33,7 +33,7 @@ IsWell types (scaled t o a k) = IsWell types a × (scaling_type o (type_of a) k 
 IsWell types (converted t o a) = IsWell types a × IsType t
 IsWell types (chosen t c a b) = IsWell types c × IsWell types a × IsWell types b × (select_type (type_of c) (type_of a) (type_of b) ≡ Some t)
 
--- Each definition reads what comes before it alone, and its declared type takes its body.
+-- Each definition reads only what comes before it, and its declared type takes its body.
 abbrev pub AreWell : List Ty → List Definition → Type 0
 AreWell types [] = Unit {0}
 AreWell types (d ∷ ds) = IsWell types d.body × Takes d.declared (type_of d.body) × AreWell (types ++ image_type d ∷ []) ds

@@ -4,7 +4,7 @@ use Rattle.dk_base.specs.Frames.{Size, in_frame, clamped}
 use Rattle.dk_types.specs.declared.typed.TypedRead.{TypedRead}
 use Rattle.dk_types.specs.Typed.{Typed, constant, fetch, single, double, scaled, converted, chosen, Definition, Typing}
 
--- the read stands in the expression
+-- the read is in the expression
 abbrev pub Mentions : Typed → TypedRead → Type 0
 Mentions (constant t v) r = ⊥
 Mentions (fetch t s) r = s ≡ r
@@ -37,7 +37,7 @@ pub data Reads (p : Typing) : Typed → (x y : ℤ) → (g : ℕ) → (x' y' : �
   through : {e : Typed} (r : TypedRead) (d : Definition) {g : ℕ} {x y x' y' : ℤ} (u v : ℤ)
       → Mentions e r → Steps p.size r x y u v → IsDefinitionOf p r.image d → d.inline ≡ true → Reads p d.body u v g x' y' → Reads p e x y g x' y'
 
--- in some pixel, image f reads image g so many columns to the right and rows down
+-- in some pixel, image f reads image g this many columns to the right and rows down
 pub record IsLive (p : Typing) (f g : ℕ) (dx dy : ℤ) : Type 0 where
   pub definition : Definition
   pub is : IsDefinitionOf p f definition

@@ -1,4 +1,4 @@
--- What names stand for: the images that may be read at a place of the text.
+-- What names denote: the images that may be read at a place of the text.
 use Rattle.std.specs.Prelude.{◌≡◌, ℕ, Bool, List, ◌++◌, map, nat_eq, slice_get, position, Option, Some, None}
 use Rattle.std.specs.Cmp.Lexicographic.{pointwise}
 use Rattle.dk_base.specs.declared.ty.Ty.{Ty}
@@ -26,12 +26,12 @@ image_of scope name = position (λ i. is_same name i.name) scope
 abbrev pub types_in : Scope → List Ty
 types_in scope = map (λ i. i.ty) scope
 
--- the name stands for image g, which has the type t
+-- the name denotes image g, which has the type t
 pub record IsImage (scope : Scope) (name : List ℕ) (g : ℕ) (t : Ty) : Type 0 where
   pub number : image_of scope name ≡ Some g
   pub type : slice_get (types_in scope) g ≡ Some t
 
--- the name stands for no image
+-- the name denotes no image
 abbrev pub IsUnknown : Scope → List ℕ → Type 0
 IsUnknown scope name = image_of scope name ≡ None
 

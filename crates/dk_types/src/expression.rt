@@ -94,7 +94,8 @@ fn binary(
 ) -> Result<TypedExpr, TypeError>
     requires left { IsType left.ty }
     requires right { IsType right.ty }
-    ensures { (scope : Names) → IsTypedAs scope (tree_of a.now) left → IsTypedAs scope (tree_of b.now) right → Judged scope (T.binary span operator (tree_of a.now) (tree_of b.now)) result }
+    ensures { (scope : Names) → IsTypedAs scope (tree_of a.now) left → IsTypedAs scope (tree_of b.now) right
+        → Judged scope (T.binary span operator (tree_of a.now) (tree_of b.now)) result }
 {
     let ty = operators::binary_type(span, operator, a.span, left.ty, b.span, right.ty)?;
     let left = Box::new(alloc, left)?;
@@ -160,7 +161,8 @@ fn select(
 ) -> Result<TypedExpr, TypeError>
     requires left { IsType left.ty }
     requires right { IsType right.ty }
-    ensures { (scope : Names) → IsTypedAs scope (tree_of c.now) condition → IsTypedAs scope (tree_of a.now) left → IsTypedAs scope (tree_of b.now) right → Judged scope (T.select span (tree_of c.now) (tree_of a.now) (tree_of b.now)) result }
+    ensures { (scope : Names) → IsTypedAs scope (tree_of c.now) condition → IsTypedAs scope (tree_of a.now) left → IsTypedAs scope (tree_of b.now) right
+        → Judged scope (T.select span (tree_of c.now) (tree_of a.now) (tree_of b.now)) result }
 {
     let ty = operators::select_type(span, c.span, condition.ty, left.ty, right.ty)?;
     let condition = Box::new(alloc, condition)?;

@@ -19,9 +19,9 @@ pub enum TypeFaultKind {
     TooManyOutputs,
     /// The 257th definition.
     TooManyImages,
-    /// A name that stands for an image already, or that is an output already.
+    /// A name that denotes an image already, or that is an output already.
     DuplicateName,
-    /// A name that stands for no image, or for one that comes later.
+    /// A name that denotes no image, or for one that comes later.
     UnknownImage,
     /// An offset above 64.
     OffsetRange,
@@ -49,7 +49,7 @@ pub struct TypeFault {
     pub kind: TypeFaultKind,
 }
 
-/// Why a program has no types: its first fault, or want of memory.
+/// Why a program has no types: its first fault, or out of memory.
 #[derive(Debug, Drop, thiserror::Error)]
 pub enum TypeError {
     #[error("{0}")]

@@ -24,7 +24,8 @@ use std::alloc::{AllocError, Global};
 
 // A side of the frame.
 pub(crate) fn side(number: Literal) -> Result<u32, TypeError>
-    ensures { MatchResult result (λ n. IsSide number.value × (n ≡ number.value)) (λ stop. ¬ IsSide number.value × (stop ≡ TypeError.Fault (at number.span TypeFaultKind.SizeRange))) }
+    ensures { MatchResult result (λ n. IsSide number.value × (n ≡ number.value)) (λ stop. ¬ IsSide number.value
+        × (stop ≡ TypeError.Fault (at number.span TypeFaultKind.SizeRange))) }
 {
     if 1 <= number.value && number.value <= MAX_SIDE as u64 {
         Ok(number.value as u32)
@@ -61,7 +62,9 @@ fn input<'a>(
     item: &'a Input,
 ) -> Result<TypedInput, TypeError>
     requires { length scope.old ≡ before }
-    ensures { (is : List Input) (done : List TypedInput) → scope.old ≡ inputs_scope done → MatchResult result (λ t. IsInput is done item.now t × (scope.new ≡ inputs_scope (done ++ t ∷ []))) (λ stop. Stops (InputFault is done item.now) stop) }
+    ensures { (is : List Input) (done : List TypedInput) → scope.old ≡ inputs_scope done
+        → MatchResult result (λ t. IsInput is done item.now t
+        × (scope.new ≡ inputs_scope (done ++ t ∷ []))) (λ stop. Stops (InputFault is done item.now) stop) }
 {
     if MAX_INPUTS <= before {
         return Err(fault(item.name.span, TypeFaultKind::TooManyInputs));
@@ -125,7 +128,9 @@ fn definition<'a>(
 ) -> Result<TypedDefinition, TypeError>
     requires { length scope.old ≤ before + MAX_INPUTS }
     ensures one_more { OnOk result (length scope.new ≡ length scope.old + 1) }
-    ensures judged { (is : List TypedInput) (ds : List P.Definition) (done : List Definition) → length done ≡ before → scope.old ≡ scope_of is done → MatchResult result (λ t. IsDefinition is ds done (source_of item.now) (definition_of t) × (scope.new ≡ scope_of is (done ++ definition_of t ∷ []))) (λ stop. Stops (DefinitionFault is ds done (source_of item.now)) stop) }
+    ensures judged { (is : List TypedInput) (ds : List P.Definition) (done : List Definition) → length done ≡ before → scope.old ≡ scope_of is done
+        → MatchResult result (λ t. IsDefinition is ds done (source_of item.now) (definition_of t)
+        × (scope.new ≡ scope_of is (done ++ definition_of t ∷ []))) (λ stop. Stops (DefinitionFault is ds done (source_of item.now)) stop) }
 {
     if MAX_DEFINITIONS <= before {
         return Err(fault(item.name.span, TypeFaultKind::TooManyImages));
@@ -155,7 +160,8 @@ pub(crate) fn definitions<'a>(
     items: &'a [Def],
 ) -> Result<Vec<TypedDefinition>, TypeError>
     requires { length scope.old ≤ MAX_INPUTS }
-    ensures { (is : List TypedInput) → scope.old ≡ inputs_scope is → MatchResult result (λ v. AreDefinitions is (sources_as items.now) (definitions_as v.items) × (scope.new ≡ scope_of is (definitions_as v.items))) (λ stop. Stops (FaultyDefinitions is (sources_as items.now)) stop) }
+    ensures { (is : List TypedInput) → scope.old ≡ inputs_scope is → MatchResult result (λ v. AreDefinitions is (sources_as items.now) (definitions_as v.items)
+        × (scope.new ≡ scope_of is (definitions_as v.items))) (λ stop. Stops (FaultyDefinitions is (sources_as items.now)) stop) }
 {
     let mut done = Vec::new(alloc);
     for item in items {
@@ -173,7 +179,8 @@ fn place(names: &[Name], name: &[u8]) -> Option<usize>
 }
 
 fn output(scope: &Scope, before: &[Name], item: &Name) -> Result<u32, TypeError>
-    ensures { (done : List ℕ) → MatchResult result (λ g. IsOutput scope.now before.now done item.now g) (λ stop. Stops (OutputFault scope.now before.now done item.now) stop) }
+    ensures { (done : List ℕ)
+        → MatchResult result (λ g. IsOutput scope.now before.now done item.now g) (λ stop. Stops (OutputFault scope.now before.now done item.now) stop) }
 {
     if MAX_OUTPUTS <= before.len() {
         return Err(fault(item.span, TypeFaultKind::TooManyOutputs));

@@ -12,5 +12,5 @@ mod worked;
 
 pub use fault::{TypeError, TypeFault, TypeFaultKind};
 pub use typed::{TypedDefinition, TypedExpr, TypedInput, TypedNode, TypedProgram, TypedRead};
-pub use whole::{check, one_typing, values_in_types};
+pub use whole::{check, one_typing_law, values_in_types_law};
 pub use worked::worked_types;

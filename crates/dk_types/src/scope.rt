@@ -1,4 +1,4 @@
-// What names stand for.
+// What names denote.
 
 use crate::fault::TypeError;
 use dk_base::Ty;

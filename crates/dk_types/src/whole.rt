@@ -27,9 +27,11 @@ pub fn check(alloc: Global, program: &Program) -> Result<TypedProgram, TypeError
     ensures typed { IfOk result (λ t. IsTyping (source_of program.now) (typing_of t)) }
     ensures fault { IfErr result (λ stop. Stops (IsFirstFault (source_of program.now)) stop) }
 
-    // What is so is answered, but for want of memory.
-    ensures accepts { (t : Typing) → IsTyping (source_of program.now) t → MatchResult result (λ found. typing_of found ≡ t) (λ stop. stop ≡ TypeError.OutOfMemory) }
-    ensures refuses { (f : TypeFault) → IsFirstFault (source_of program.now) f → IsErrAnd result (λ stop. (stop ≡ TypeError.Fault f) ⊎ (stop ≡ TypeError.OutOfMemory)) }
+    // What is so is answered, except if out of memory.
+    ensures accepts { (t : Typing) → IsTyping (source_of program.now) t
+        → MatchResult result (λ found. typing_of found ≡ t) (λ stop. stop ≡ TypeError.OutOfMemory) }
+    ensures refuses { (f : TypeFault) → IsFirstFault (source_of program.now) f → IsErrAnd result (λ stop. (stop ≡ TypeError.Fault f)
+        ⊎ (stop ≡ TypeError.OutOfMemory)) }
 {
     judged(alloc, program)
 }
@@ -50,7 +52,7 @@ fn judged(alloc: Global, program: &Program) -> Result<TypedProgram, TypeError>
 }
 
 /// A program has one typing, or one first fault, and never both; and where its numbers are below 2^64, as a text's are, it has one of them.
-pub fn one_typing()
+pub fn one_typing_law()
     ensures typing { (p : Source) (one other : Typing) → IsTyping p one → IsTyping p other → one ≡ other }
     ensures fault { (p : Source) (one other : TypeFault) → IsFirstFault p one → IsFirstFault p other → one ≡ other }
     ensures either { (p : Source) (t : Typing) (f : TypeFault) → IsTyping p t → IsFirstFault p f → ⊥ }
@@ -58,7 +60,9 @@ pub fn one_typing()
 {}
 
 /// Wherever the values of the inputs are in their types, so are the values of each image, and of each part of a body.
-pub fn values_in_types()
-    ensures images { (p : Typing) (inputs : List Picture) → IsTyped p → length inputs ≡ length p.inputs → AreIn (input_types p.inputs) inputs → AreIn (types_of p) (meaning p inputs) }
-    ensures parts { (size : Size) (types : List Ty) (known : List Picture) (e : Typed) → AreTypes types → AreIn types known → IsWell types e → (x y : ℤ) → IsIn (type_of e) (value size known e x y) }
+pub fn values_in_types_law()
+    ensures images { (p : Typing) (inputs : List Picture) → IsTyped p → length inputs ≡ length p.inputs → AreIn (input_types p.inputs) inputs
+        → AreIn (types_of p) (meaning p inputs) }
+    ensures parts { (size : Size) (types : List Ty) (known : List Picture) (e : Typed) → AreTypes types → AreIn types known → IsWell types e → (x y : ℤ)
+        → IsIn (type_of e) (value size known e x y) }
 {}

@@ -52,7 +52,7 @@ is_no_flag s word h e = rw (no_dashes word e, no_long word e, no_short word e) r
 
 -- ---- one word of three
 
--- where the walk stands before the positional of this number
+-- where the walk is before the positional of this number
 abbrev standing : Held → ℕ → Walk
 standing h position = record { held = h; waiting = idle; position = position; is_trailing = false; stopped = None }
 
@@ -70,7 +70,7 @@ turn s h position word e step =
 
 -- ---- a word for an option that waits
 
--- where the walk stands where this option waits for its value
+-- where the walk is where this option waits for its value
 abbrev waiting_for : Text → Held → ℕ → Walk
 waiting_for id h position = record { held = h; waiting = option id; position = position; is_trailing = false; stopped = None }
 
@@ -136,7 +136,7 @@ named false read is e same = absurd (cc)
 
 -- ---- words for positionals, and options
 
--- where the walk stands after words that go to positionals
+-- where the walk is after words that go to positionals
 abbrev placed_from : Shape → Walk → List Text → Walk
 placed_from s w words = fold (λ w word. to_positional s.rules (arg_by_index s.rules w.position) word w w.held) w words
 
@@ -147,7 +147,7 @@ placed s words = placed_from s (walk_from nothing_held) words
 abbrev asked_held : Shape → Text → Held → Held
 asked_held s id h = record (settled s.rules h) { pending = Some (id, []) }
 
--- where the walk stands after the value of an option
+-- where the walk is after the value of an option
 abbrev given_option : Shape → Text → Walk → Text → Walk
 given_option s id w k = after_step s.rules k (waiting_for id (asked_held s id w.held) w.position) (plain_word s.rules (option id) k (asked_held s id w.held)).0 (plain_word s.rules (option id) k (asked_held s id w.held)).1
 
@@ -167,7 +167,7 @@ age_word = codes "--age"
 abbrev enable_word : Text
 enable_word = codes "--enable"
 
--- where the walk stands after `--age` and its value
+-- where the walk is after `--age` and its value
 abbrev aged : Shape → Walk → Text → Walk
 aged s w k = given_option s (codes "age") w k
 
@@ -198,7 +198,7 @@ abbrev run_shape : Shape
 run_shape = in_program run_command
 
 module _ (p i o : Text) (ep : is_like_option p ≡ false) (ei : is_like_option i ≡ false) (eo : is_like_option o ≡ false) where
-  -- the three words, from where the walk stands
+  -- the three words, from where the walk is
   three_from : (h : Held) (rest : List Text) (to : Walk) → pass.step_passes run_shape 1 h value ≡ true → pass.step_passes run_shape 2 (held_after run_shape h 1 p) value ≡ true → pass.step_passes run_shape 3 (held_after run_shape (held_after run_shape h 1 p) 2 i) value ≡ true
       → Goes run_shape (placed_from run_shape (standing h 1) (p ∷ i ∷ o ∷ [])) rest to → Goes run_shape (standing h 1) (p ∷ i ∷ o ∷ rest) to
   three_from h rest to one two three goes =
@@ -228,7 +228,7 @@ module _ (p i o : Text) (ep : is_like_option p ≡ false) (ei : is_like_option i
         goes_by_option run_shape (codes "age") age_word (walk_from nothing_held) _ k _ refl refl ek
         (three_from (aged run_shape (walk_from nothing_held) k).held [] age_then_three refl refl refl (goes_nowhere run_shape age_then_three))
 
-    -- the option behind
+    -- the option after
     run_age_last_go : Goes run_shape (walk_from nothing_held) (p ∷ i ∷ o ∷ age_word ∷ k ∷ []) (aged run_shape run_three k)
     unfolding walked
     run_age_last_go = run_go (age_word ∷ k ∷ []) _ (goes_by_option run_shape (codes "age") age_word run_three _ k [] refl refl ek (goes_nowhere run_shape _))
@@ -255,17 +255,17 @@ run_reads_after name p i o = refl
 abbrev compile_shape : Shape
 compile_shape = in_program compile_command
 
--- where the walk stands after `--enable`
+-- where the walk is after `--enable`
 abbrev enabled : Walk → Walk
 enabled w = walked_from compile_shape.rules [] w.stopped w enable_word
 
 module _ (p o : Text) (ep : is_like_option p ≡ false) (eo : is_like_option o ≡ false) where
-  -- the two words, from where the walk stands
+  -- the two words, from where the walk is
   two_from : (h : Held) (rest : List Text) (to : Walk) → pass.step_passes compile_shape 1 h value ≡ true → pass.step_passes compile_shape 2 (held_after compile_shape h 1 p) value ≡ true
       → Goes compile_shape (placed_from compile_shape (standing h 1) (p ∷ o ∷ [])) rest to → Goes compile_shape (standing h 1) (p ∷ o ∷ rest) to
   two_from h rest to one two goes = goes_by_word compile_shape h 1 to p (o ∷ rest) ep one (goes_by_word compile_shape (held_after compile_shape h 1 p) 2 to o rest eo two goes)
 
-  -- the two words alone, and from another start
+  -- only the two words, and from another start
   abbrev two_after : Walk → Walk
   two_after w = placed_from compile_shape w (p ∷ o ∷ [])
 
@@ -297,7 +297,7 @@ module _ (p o : Text) (ep : is_like_option p ≡ false) (eo : is_like_option o �
       named _ _ _ (both _ _ (level compile_shape (enable_word ∷ p ∷ o ∷ []) enable_then_two enable_first_go refl) refl)
       (reads compile_shape (enable_word ∷ p ∷ o ∷ []) enable_then_two compile_of_rows _ enable_first_go refl)
 
-  -- and behind
+  -- and after
   two_enable_go : (rest : List Text) (to : Walk) → Goes compile_shape (enabled two) rest to → Goes compile_shape (walk_from nothing_held) (p ∷ o ∷ enable_word ∷ rest) to
   unfolding walked
   two_enable_go rest to goes = two_go (enable_word ∷ rest) to (goes_by compile_shape two (enabled two) to enable_word rest refl refl goes)
@@ -319,7 +319,7 @@ module _ (p o : Text) (ep : is_like_option p ≡ false) (eo : is_like_option o �
         goes_by_option compile_shape (codes "age") age_word (walk_from nothing_held) _ k _ refl refl ek
         (two_from (aged compile_shape (walk_from nothing_held) k).held [] age_then_two refl refl (goes_nowhere compile_shape age_then_two))
 
-    -- and behind
+    -- and after
     compile_age_last_go : Goes compile_shape (walk_from nothing_held) (p ∷ o ∷ age_word ∷ k ∷ []) (aged compile_shape two k)
     unfolding walked
     compile_age_last_go = two_go (age_word ∷ k ∷ []) _ (goes_by_option compile_shape (codes "age") age_word two _ k [] refl refl ek (goes_nowhere compile_shape _))
@@ -335,7 +335,7 @@ module _ (p o : Text) (ep : is_like_option p ≡ false) (eo : is_like_option o �
         (goes_by_option compile_shape (codes "age") age_word (enabled (walk_from nothing_held)) _ k _ refl refl ek
         (two_from (aged compile_shape (enabled (walk_from nothing_held)) k).held [] both_then_two refl refl (goes_nowhere compile_shape both_then_two)))
 
-    -- and behind
+    -- and after
     both_last_go : Goes compile_shape (walk_from nothing_held) (p ∷ o ∷ enable_word ∷ age_word ∷ k ∷ []) (aged compile_shape (enabled two) k)
     unfolding walked
     both_last_go = two_enable_go (age_word ∷ k ∷ []) _ (goes_by_option compile_shape (codes "age") age_word (enabled two) _ k [] refl refl ek (goes_nowhere compile_shape _))
@@ -457,7 +457,7 @@ module _ (p k : Text) (ep : is_like_option p ≡ false) (ek : is_like_option k �
       goes_by_option plan_shape (codes "age") age_word (walk_from nothing_held) _ k _ refl refl ek
       (goes_by_word plan_shape (aged plan_shape (walk_from nothing_held) k).held 1 _ p _ ep refl (goes_nowhere plan_shape _))
 
-  -- the option behind
+  -- the option after
   abbrev program_then_age : Walk
   program_then_age = aged plan_shape (placed plan_shape (p ∷ [])) k
 
@@ -484,7 +484,7 @@ abbrev sim_shape : Shape
 sim_shape = in_program sim_command
 
 module _ (v n i o : Text) (ev : is_like_option v ≡ false) (en : is_like_option n ≡ false) (ei : is_like_option i ≡ false) (eo : is_like_option o ≡ false) where
-  -- where the walk stands after the four words, and then after options
+  -- where the walk is after the four words, and then after options
   abbrev four : Walk
   four = placed sim_shape (v ∷ n ∷ i ∷ o ∷ [])
 

@@ -111,7 +111,7 @@ digits_plain (x ∷ y ∷ rest) e = let r = digit_range x (left (is_digit x) (li
     no_hyphen : (x : ℕ) → IsInRange 48 57 x → (x == 45) ≡ false
     no_hyphen x r = grind (arith, nat_tests)
 
--- a word that is a number has digits alone
+-- a word that is a number has only digits
 number_digits : (word : Text) (n : ℕ) → number_of word ≡ Some n → list_all is_digit word ≡ true
 number_digits [] n e = absurd (cc)
 number_digits (b ∷ bs) n e = at (list_all is_digit (b ∷ bs)) e
@@ -132,7 +132,7 @@ has_leading_zero : Text → Bool
 has_leading_zero (first ∷ second ∷ rest) = first == 48
 has_leading_zero _ = false
 
--- without a leading zero a first digit of zero stands alone
+-- without a leading zero a first digit of zero is the only digit
 zero_alone : (ds : Text) → 0 < length ds → has_leading_zero ds ≡ false → get_or ds 0 0 ≡ 48 → length ds ≡ 1
 unfolding has_leading_zero
 zero_alone [] l z e = absurd (omega (arith, l))

@@ -1,4 +1,4 @@
--- Where each use of an argument has a value, or one that stands for it, each row that words leave, where they pass, has a value.
+-- Where each use of an argument has a value, or one that takes its place, each row that words leave, where they pass, has a value.
 use Rattle.std.proofs.Common.{◌≡◌, ℕ, zero, suc, ◌&&◌, not, Bool, true, false, cond, List, [], ◌∷◌, ◌++◌, length, drop, fold, Option, None, Some, is_some, refl, find, encode_utf8, slice_get, option_and_then, ◌||◌, ap, ◌∙◌, nat_le, arith}
 use Rattle.std.proofs.lemmas.Bool.Decides.{nat_tests}
 use Rattle.std.specs.List.{list_all}
@@ -80,7 +80,7 @@ used_with HelpShort id how v vs rows e = e
 used_with HelpLong id how v vs rows e = e
 used_with Version id how v vs rows e = e
 
--- each use of each argument has a value, its own or one that stands for it
+-- each use of each argument has a value, its own or one that takes its place
 abbrev pub has_least_one : Rule → Bool
 has_least_one a = nat_le 1 (unwrap_or_range a.range).start_inclusive || has_first a.missing
 
@@ -96,12 +96,12 @@ found_has (a ∷ rest) test e =
       | false ↦ found_has rest test (right (has_least_one a) (have_values rest) e)
     ]
 
--- where a use that passes has no value of its own, one stands for it
+-- where a use that passes has no value of its own, one takes its place
 must_stand : (n : ℕ) (stands : Bool) → (nat_le 1 n || stands) ≡ true → nat_le n 0 ≡ true → stands ≡ true
 must_stand n true x y = refl
 must_stand n false x y = grind (arith, nat_tests)
 
--- a use with the values that stand for it
+-- a use with the values that take its place
 used_standing : (act : ArgAction) (id : Text) (how : Reading) (vs : List Text) (rows : List Row) → has_first vs ≡ true → are_valued rows ≡ true → are_valued (used_as act id how vs rows) ≡ true
 used_standing act id how [] rows some all = absurd (cc)
 used_standing act id how (v ∷ vs) rows some all = used_with act id how v vs rows all
@@ -245,7 +245,7 @@ positional_kept c again a word h one e all = by_pending (is_pending a h.pending 
     by_pending true x = all
     by_pending false x = rows_settled c again h one x all
 
--- a word, by the positional that stands next
+-- a word, by the positional that is next
 placed_kept : (c : List Rule) (again : Bool) (o : Option Rule) (word : Text) (w : Walk) (h : Held) → have_values c ≡ true → option_map_or (λ a. positional_passes c again a h) o false ≡ true → are_valued h.rows ≡ true → are_valued (to_positional c o word w h).held.rows ≡ true
 placed_kept c again None word w h one e all = all
 placed_kept c again (Some a) word w h one e all = positional_kept c again a word h one e all

@@ -213,7 +213,8 @@ fn read_compile<'a>(matches: &ArgMatches<'a>) -> Option<CompileWords<'a>>
 
 // The words of `sim`, where each has a value.
 fn read_sim<'a>(matches: &ArgMatches<'a>) -> Option<SimWords<'a>>
-    ensures { option_map (λ s. command.sim s.verilog.now s.clocks s.image.now s.out.now s.fill s.hold) result ≡ command.sim_of_rows (rows_of (found_of matches.now)) }
+    ensures { option_map (λ s. command.sim s.verilog.now s.clocks s.image.now s.out.now s.fill s.hold) result
+        ≡ command.sim_of_rows (rows_of (found_of matches.now)) }
 {
     Some(SimWords {
         verilog: given(matches, "VERILOG")?,

@@ -49,7 +49,7 @@ row_is b0 b1 b2 b3 p bits last_column last_row going next n has e ec er f1 f2 f3
     ∙ ap (λ (l : ℕ). if nat_lt (net_value s p.column) l then net_value s p.row else down s) ec
     ∙ ap (λ (l : ℕ). if nat_lt (net_value s p.column) (p.size.width - 1) then net_value s p.row else after true l (net_value s p.row)) er)
 
--- what a register takes, by the pixel's nets alone
+-- what a register takes, by only the pixel's nets
 pub advances : (new mid one old : Netlist) (p : Pixel) (now next n : Net) (bits next_bits first : ℕ) (worth : Snapshot → ℕ) → Includes new mid → Includes mid one → Includes one old → Contains (p.column ∷ (p.row ∷ [])) now → Computes one old (p.column ∷ (p.row ∷ [])) next_bits worth next →
     Computes new mid (control_nets mid.enable ++ now ∷ (next ∷ [])) bits (λ s. taken mid.enable first (net_value s now) (net_value s next) s) n → Computes new old (pixel_nets old.enable p) bits (λ s. taken old.enable first (net_value s now) (worth s) s) n
 advances new mid one old p now next n bits next_bits first worth f g h at c d =

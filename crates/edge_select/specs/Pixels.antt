@@ -36,7 +36,7 @@ pub record IsPixel (p : Pixel) (k : ℕ) (s : Snapshot) : Type 0 where
   pub column : net_value s p.column ≡ column (size_of p.size) k
   pub row : net_value s p.row ≡ row (size_of p.size) k
 
--- In each run of every module that includes the netlist, in each clock after a reset clock, held ones included: with t the number of counted clocks since the reset, the nets are column and row of pixel t - delay, once t is at least the delay. They are those of some pixel before, and in held clocks they stand still.
+-- In each run of every module that includes the netlist, in each clock after a reset clock, held ones included: with t the number of counted clocks since the reset, the nets are column and row of pixel t - delay, once t is at least the delay. They are those of some pixel before, and in held clocks they do not change.
 pub record Follows (b : Netlist) (delay : ℕ) (p : Pixel) : Type 0 where
   pub pixel : InEachRun b (λ m before c s. IsTrue (was_reset before) → (k : ℕ) → k + delay ≡ length (counted m before) → IsPixel p k s)
   pub on_frame : InEachRun b (λ m before c s. IsTrue (was_reset before) → IsOnFrame p s)

@@ -43,7 +43,7 @@ fn at_least(b: &mut Builder, x: Net, bits: u8, first: u32) -> Result<Option<Net>
     Ok(Some(net))
 }
 
-// The test that a coordinate of a side of so many is at most `last`, or None where each is.
+// The test that a coordinate of a side of this many is at most `last`, or None where each is.
 fn at_most(
     b: &mut Builder,
     x: Net,

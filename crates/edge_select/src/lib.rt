@@ -1,4 +1,4 @@
-//! Where a pixel stands, and whether a read falls inside: counters of column and row, and tests at the edges of a frame.
+//! Where a pixel is, and whether a read falls inside: counters of column and row, and tests at the edges of a frame.
 #![tactic(auto)]
 
 mod counters;
@@ -12,6 +12,6 @@ mod step;
 pub use counters::position;
 pub use extents::{Extent, leading, passing};
 pub use frame_conditions::{at, constant_test, inside, leads};
-pub use laws::{one_step, one_way, pixels_last, steps_end, steps_lead};
+pub use laws::{one_step_law, one_way_law, pixels_last_law, steps_end_law, steps_lead_law};
 pub use pixel::Pixel;
 pub use step::Step;

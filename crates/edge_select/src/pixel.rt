@@ -16,7 +16,7 @@ pub struct Pixel {
     pub row: Net,
 }
 
-// The last of so many columns or rows.
+// The last of this many columns or rows.
 pub fn last_of(side: u32) -> u64
     requires { 1 ≤ side }
     ensures { result ≡ side - 1 }
@@ -24,7 +24,7 @@ pub fn last_of(side: u32) -> u64
     u64::from(side) - 1
 }
 
-// The width in bits of a net of so many columns or rows.
+// The width in bits of a net of this many columns or rows.
 pub fn width_for(side: u32) -> u8
     requires some { 1 ≤ side }
     requires most { side ≤ MAX_SIDE }

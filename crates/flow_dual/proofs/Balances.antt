@@ -30,7 +30,7 @@ one_more ns xs i v h k =
     let f : ℕ × ℕ → ℕ = λ a. cond (eqb a.0 v) a.1 0 in
     omega (arith, sum_by_more f (zip ns xs) i (0, 0) (omega (arith, length-zip ns xs)), ap f (get_or-zip ns xs i (0, 0) h k))
 
--- an amount that is added to what stands at a node
+-- an amount that is added to what is at a node
 pub added : (p : List ℕ) (t a v : ℕ) → t < length p → slice_index (set p t (slice_index p t + a)) v ≡ slice_index p v + spot t a v
 added p t a v h = elim (cases_eq v t) [
   | inl e ↦ omega (arith, get_or-set_same p t (slice_index p t + a) 0 h, ap (slice_index p) e, ap (slice_index (set p t (slice_index p t + a))) e, spot_here t a v e)

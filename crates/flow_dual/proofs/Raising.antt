@@ -51,7 +51,7 @@ module _ (cs : List Constraint) (flow order old new : List ℕ) (by : ℕ) (shif
         | inr s ↦ let t = (closed i h).forward s tight in omega (arith, ints, shifts.reached c.source s, shifts.reached c.target t, tight)
       ]
 
--- a push along a tree of tight constraints leaves flow on tight constraints alone
+-- a push along a tree of tight constraints leaves flow only on tight constraints
 pub pushed_complementary : (cs : List Constraint) (p order parent old new : List ℕ) (root node : ℕ) → HangsTight cs p order parent root
     → ChangesOnlyOn order parent root node old new → IsComplementary cs old p → IsComplementary cs new p
 pushed_complementary cs p order parent old new root node tight changes carries = λ i h some.

@@ -20,7 +20,7 @@ pub record IsSolution (s : System) (x : Solution) : Type 0 where
   pub worth_is : worth_of s x.flow ≡ pos (bits s x.delays)
   pub near : AreNear x.delays
 
--- numbers of the nodes and a flow: the numbers keep the constraints, the flow is balanced and on tight constraints alone, and the numbers are the least that suit it
+-- numbers of the nodes and a flow: the numbers keep the constraints, the flow is balanced and only on tight constraints, and the numbers are the least that suit it
 pub record IsOptimum (s : System) (p flow : List ℕ) : Type 0 where
   pub one_each : length p ≡ nodes s
   pub inputs_at_once : slice_index p 0 ≡ 0

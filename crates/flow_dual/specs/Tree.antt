@@ -1,4 +1,4 @@
--- Used by private functions alone.
+-- Used by private functions only.
 -- A tree of the nodes that are reached from a root, and flow pushed along it.
 use Rattle.std.specs.Prelude.{◌≡◌, ◌≢◌, ℕ, pos, ◌≤ℤ◌, ◌+ℤ◌, ◌+◌, ◌^◌, ◌<◌, ◌≤◌, ◌==◌, nat_lt, if◌then◌else◌, List, length, slice_index, All, count_by, ◌⊎◌}
 use Rattle.raster_delay.specs.Network.{constraint_at, inflow, outflow, Holds, IsTight, IsComplementary}
@@ -43,7 +43,7 @@ pub record IsClosedAt (cs : List Constraint) (p flow order : List ℕ) (i : ℕ)
 abbrev pub IsClosed : List Constraint → List ℕ → List ℕ → List ℕ → Type 0
 IsClosed cs p flow order = (i : ℕ) → i < length cs → IsClosedAt cs p flow order i
 
--- so many nodes are reached, and no order is above their number
+-- this many nodes are reached, and no order is above their number
 pub record CountsReached (order : List ℕ) (count : ℕ) : Type 0 where
   pub count_is : count ≡ count_by (λ o. nat_lt 0 o) order
   pub bound : (v : ℕ) → slice_index order v ≤ count
@@ -51,7 +51,7 @@ pub record CountsReached (order : List ℕ) (count : ℕ) : Type 0 where
 abbrev pub AreSmall : List ℕ → Type 0
 AreSmall p = (v : ℕ) → slice_index p v < 2 ^ 60
 
--- numbers that keep the constraints, which are between their nodes, and a flow on tight constraints alone
+-- numbers that keep the constraints, which are between their nodes, and a flow only on tight constraints
 pub record IsState (cs : List Constraint) (p flow : List ℕ) : Type 0 where
   pub one_each : length flow ≡ length cs
   pub sources : All (λ c. c.source < length p) cs
@@ -61,7 +61,7 @@ pub record IsState (cs : List Constraint) (p flow : List ℕ) : Type 0 where
   pub holds : All (Holds p) cs
   pub carries : IsComplementary cs flow p
 
--- a tree of tight constraints with so many nodes
+-- a tree of tight constraints with this many nodes
 pub record IsSearch (cs : List Constraint) (p flow order parent : List ℕ) (root count : ℕ) : Type 0 where
   pub orders : length order ≡ length p
   pub parents : length parent ≡ length p

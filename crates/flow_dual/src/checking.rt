@@ -132,7 +132,8 @@ fn are_balanced(system: &System, inflows: &[u64], outflows: &[u64]) -> bool
     requires outflows { length outflows.now ≡ nodes system.now }
     requires near_in { (v : ℕ) → slice_index inflows.now v ≤ 2 ^ 46 }
     requires near_out { (v : ℕ) → slice_index outflows.now v ≤ 2 ^ 46 }
-    ensures { OnTrue result ((v : ℕ) → v < nodes system.now → pos (slice_index inflows.now v) -ℤ pos (slice_index outflows.now v) ≡ coefficient_in system.now v) }
+    ensures { OnTrue result ((v : ℕ) → v < nodes system.now
+        → pos (slice_index inflows.now v) -ℤ pos (slice_index outflows.now v) ≡ coefficient_in system.now v) }
 {
     for v in 0..inflows.len() {
         let surplus = inflows[v] as i64 - outflows[v] as i64;
@@ -157,7 +158,7 @@ fn is_balanced(alloc: Global, system: &System, flow: &[u64]) -> Result<bool, Out
     Ok(balanced)
 }
 
-/// Whether numbers of the nodes keep the constraints, and a flow is balanced and on tight constraints alone. It may say no to numbers above 2^59 and flows above 2^32.
+/// Whether numbers of the nodes keep the constraints, and a flow is balanced and only on tight constraints. It may say no to numbers above 2^59 and flows above 2^32.
 pub fn is_optimal(
     alloc: Global,
     system: &System,

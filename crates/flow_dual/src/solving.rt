@@ -78,7 +78,8 @@ fn balance(
 fn delays_among(alloc: Global, system: &System, numbers: &[u64]) -> Result<Numbers, OutOfMemory>
     requires { length numbers.now ≡ nodes system.now }
     ensures length { IfOk result (λ delays. length delays ≡ image_count system.now) }
-    ensures numbers { IfOk result (λ delays. (k : ℕ) → k < image_count system.now → slice_index delays k ≡ slice_index numbers.now (begin_of system.now.stencils.inputs k)) }
+    ensures numbers { IfOk result (λ delays. (k : ℕ) → k < image_count system.now
+        → slice_index delays k ≡ slice_index numbers.now (begin_of system.now.stencils.inputs k)) }
 {
     let delays = begin_numbers(alloc, system, numbers)?;
     Ok(Numbers::new(delays))
@@ -88,13 +89,14 @@ fn delays_among(alloc: Global, system: &System, numbers: &[u64]) -> Result<Numbe
 fn ends_among(alloc: Global, system: &System, numbers: &[u64]) -> Result<Numbers, OutOfMemory>
     requires { length numbers.now ≡ nodes system.now }
     ensures length { IfOk result (λ ends. length ends ≡ image_count system.now) }
-    ensures numbers { IfOk result (λ ends. (k : ℕ) → k < image_count system.now → slice_index ends k ≡ slice_index numbers.now (end_of system.now.stencils.inputs (image_count system.now) k)) }
+    ensures numbers { IfOk result (λ ends. (k : ℕ) → k < image_count system.now
+        → slice_index ends k ≡ slice_index numbers.now (end_of system.now.stencils.inputs (image_count system.now) k)) }
 {
     let ends = end_numbers(alloc, system, numbers)?;
     Ok(Numbers::new(ends))
 }
 
-// The solution that an optimum tells.
+// The solution that an optimum determines.
 fn answer(
     alloc: Global,
     system: &System,

@@ -45,7 +45,8 @@ fn cross(residual: &Residual, tree: &mut Tree, i: usize)
     ensures count { CountsReached tree.new.order.items tree.new.reached }
     ensures more { tree.old.reached ≤ tree.new.reached }
     ensures same { tree.new.reached ≡ tree.old.reached → tree.new.order.items ≡ tree.old.order.items }
-    ensures closed { tree.new.reached ≡ tree.old.reached → IsClosedAt residual.now.constraints.now residual.now.potentials.now residual.now.flow.now tree.new.order.items i }
+    ensures closed { tree.new.reached ≡ tree.old.reached
+        → IsClosedAt residual.now.constraints.now residual.now.potentials.now residual.now.flow.now tree.new.order.items i }
 {
     let c = residual.constraints[i];
     if tree.order[c.source] != 0 && tree.order[c.target] == 0 {
@@ -70,7 +71,8 @@ fn widen(residual: &Residual, tree: &mut Tree)
     ensures root { tree.new.root ≡ tree.old.root }
     ensures search { IsSearch residual.now.constraints.now residual.now.potentials.now residual.now.flow.now tree.new.order.items tree.new.parent.items tree.new.root tree.new.reached }
     ensures more { tree.old.reached ≤ tree.new.reached }
-    ensures closed { tree.new.reached ≡ tree.old.reached → IsClosed residual.now.constraints.now residual.now.potentials.now residual.now.flow.now tree.new.order.items }
+    ensures closed { tree.new.reached ≡ tree.old.reached
+        → IsClosed residual.now.constraints.now residual.now.potentials.now residual.now.flow.now tree.new.order.items }
 {
     for i in 0..residual.constraints.len() {
         cross(residual, tree, i);

@@ -59,7 +59,7 @@ fn difference(a: i64, b: i64) -> i32
     (a - b) as i32
 }
 
-// The last of so many coordinates.
+// The last of this many coordinates.
 fn last_of(side: u32) -> i64
     ensures { result ≡ pos side -ℤ pos 1 }
 {
@@ -67,7 +67,7 @@ fn last_of(side: u32) -> i64
 }
 
 impl Moves {
-    /// No step, in a frame with so many coordinates.
+    /// No step, in a frame with this many coordinates.
     pub fn none(side: u32) -> Moves
         requires some { 1 ≤ side }
         ensures moves { IsMoves side result }
@@ -230,7 +230,7 @@ impl Moves {
         })
     }
 
-    /// How far the coordinates are led, each from where it stands: these offsets, each of some coordinate.
+    /// How far the coordinates are led, each from where it is: these offsets, each of some coordinate.
     pub fn offsets(self, side: u32) -> Offsets
         requires moves { IsMoves side self }
         requires side { side ≤ MAX_SIDE }

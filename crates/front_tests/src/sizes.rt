@@ -7,7 +7,7 @@ use dk_inline::inline;
 use std::alloc::Global;
 use std::test::Fail;
 
-// Bodies in three parts, of which the middle one stands so many times. A body that is too wide is not too deep. What stands in brackets has their span.
+// Bodies in three parts, of which the middle one is this many times. A body that is too wide is not too deep. What is in brackets has their span.
 const REPEATED: &str = "1|+1|511| => WidthTooGreat 34-163
 1|+1|512| => Depth 34-1059
 1|+1|200000| => Depth 34-1059
@@ -83,7 +83,7 @@ fn many_definitions(rt: HostRuntime) -> Result<(), Fail> {
     Ok(())
 }
 
-// What follows inline images of 9, 21, 45 and more nodes. At `$` stands a sum of 65,536 nodes: 49,150 of i14, and one more than a read of each further image.
+// What follows inline images of 9, 21, 45 and more nodes. `$` is a sum of 65,536 nodes: 49,150 of i14, and one more than a read of each further image.
 const NODES: &str = "let f=im(x,y) i15(x,y) as u8 end output f => Nodes 98303
 let f=im(x,y) $ end output a => 1 images, 0 reads
 let f=im(x,y) -($) end output a => Nodes 65537
@@ -168,7 +168,7 @@ fn depths(rt: HostRuntime) -> Result<(), Fail> {
     Ok(())
 }
 
-// An inline row of 65 reads, read in so many rows: 63 rows make 4,095 reads, and 64 make 4,160.
+// An inline row of 65 reads, read in this many rows: 63 rows make 4,095 reads, and 64 make 4,160.
 #[test]
 fn reads(rt: HostRuntime) -> Result<(), Fail> {
     let alloc = rt.alloc();

@@ -23,7 +23,7 @@ by_kind x y lt = record { kinds = omega (arith, lt); reads = λ e. absurd (omega
 pub by_read : (x y : FlowLine) → kind x ≡ kind y → IsBefore (read_named x) (read_named y) → StandsBefore x y
 by_read x y e h = record { kinds = omega (arith, e); reads = λ _. h }
 
--- whatever flow they carry, the line of the first stands before that of the second
+-- whatever flow they carry, the line of the first comes before that of the second
 abbrev pub Precedes : Maker → Maker → Type 0
 Precedes a b = (m n : ℕ) → StandsBefore (a m) (b n)
 

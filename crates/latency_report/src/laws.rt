@@ -19,8 +19,8 @@ fn fit(numbers: &[u64])
     let _numbers = numbers;
 }
 
-/// A law: where the images of a program have names of the source language, distinct, and at most 256 of them are no inputs, the report of its plan has the values of a report of its version. So what `print` makes of it stands for this report alone.
-pub fn printed_meets(ir: &Ir, plan: &Plan, system: &System, solution: &Solution)
+/// A law: where the images of a program have names of the source language, distinct, and at most 256 of them are no inputs, the report of its plan has the values of a report of its version. So what `print` makes of it denotes this report alone.
+pub fn printed_meets_law(ir: &Ir, plan: &Plan, system: &System, solution: &Solution)
     requires solution { IsSolution system.now solution.now }
     requires plan { plan.now ≡ record { system = system.now; delays = solution.now.delays } }
     requires images { All (λ (i : Image). i.number < length (names_of ir.now)) system.now.stencils.images }

@@ -6,8 +6,8 @@ mod images;
 mod laws;
 mod printing;
 
-pub use laws::printed_meets;
+pub use laws::printed_meets_law;
 pub use printing::print;
 pub use report_text::{
-    FlowLine, ImageLine, Limits, Report, ReportFault, one_reading, read, read_again, write,
+    FlowLine, ImageLine, Limits, Report, ReportFault, one_reading_law, read, read_again_law, write,
 };

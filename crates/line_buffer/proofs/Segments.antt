@@ -84,7 +84,7 @@ module _ (b m : Netlist) (from : Contents) (before : List Clock) (c : Clock) (s 
       ]
 
   module _ (since : IsTrue (was_reset before)) (off : c.reset ≡ false) where
-    -- what comes out of a segment is what went in so many clocks before
+    -- what comes out of a segment is what went in this many clocks before
     comes_out : (pixel : ℕ → ℕ) (count delay first low high : ℕ) (feed tap : Net) → low < high → IsDelayLine b first (high - low) feed tap → HoldsPixels pixel count (delay + low) (length (counted m before)) (words_of s.contents first) →
         IsPixel pixel count (delay + high) (length (counted m before)) (net_value s tap)
     comes_out pixel count delay first low high feed tap rises turning held q e lt =

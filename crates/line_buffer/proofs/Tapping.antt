@@ -129,7 +129,7 @@ module _ (b0 b1 b2 b3 b4 : Netlist) (index low up down place : Net) (bits words 
       (net_source b3 b0 from bits (λ s. (net_value s index + 2 ^ bits - age) % 2 ^ bits) down c3) g4)
       (λ s. by_bit (nat_lt (net_value s index) age) ((net_value s index + (words - age)) % 2 ^ bits) ((net_value s index + 2 ^ bits - age) % 2 ^ bits))
 
--- the word behind the index
+-- the word after the index
 module _ (b0 b1 b2 : Netlist) (x words age bits width : ℕ) (index place tap value : Net) (shape : Shape) (logic : AddsLogic b1 b0) (f2 : Includes b2 b1) (wired : AddsWires b2 b1) (some : 0 < age) (short : age < words) (fits : words - 1 < 2 ^ bits) (there : slice_get b0.arrays x ≡ Some shape) (deep : shape.depth ≡ words)
     (counter : IsIndex b0 words index) (index_control : IsControl b0 (OfNet index)) (worth : Computes b1 b0 (index ∷ []) bits (λ s. place_worth words age bits (net_value s index)) place) (read : (b2 ≡ b1) ⊎ (b2 ≡ with_wire b1 (Word x (atom.Net place)))) (word_is : InEach b2 (λ m s. net_value s tap ≡ word_value s x (net_value s place))) where
   g20 : Includes b2 b0

@@ -7,7 +7,7 @@ use Rattle.std.proofs.lemmas.Bool.{cases_eq, cases_lt}
 use Rattle.line_buffer.specs.Rings.{behind}
 use Rattle.line_buffer.specs.Streams.{HoldsPixels, IsPixel}
 
--- a word that is fewer than n places behind in a ring of n words is another word
+-- a word that is fewer than n places back in a ring of n words is another word
 pub other_place : (t age n : ℕ) → 0 < age → age < n → age ≤ t → (t - age) % n ≢ t % n
 other_place t age n some fewer passed same =
     let e : (t - age) / n * n + age ≡ t / n * n + 0 = omega (arith, same, passed, div-add-mod' t n, div-add-mod' (t - age) n) in
@@ -55,7 +55,7 @@ no_eq a b h = grind arith
 pub yes_eq : (a b : ℕ) → a ≡ b → nat_eq a b ≡ true
 yes_eq a b h = grind arith
 
--- the word so many places behind the index is that of the age
+-- the word this many places back from the index is that of the age
 pub behind_is : (t age n : ℕ) → 0 < age → age ≤ n → age ≤ t → behind n age (t % n) ≡ (t - age) % n
 behind_is t age n some deep passed =
     elim (cases_eq age n) as (λ _. behind n age (t % n) ≡ (t - age) % n) [

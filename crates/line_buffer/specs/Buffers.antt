@@ -1,4 +1,4 @@
--- What the buffer of one image owes, in whatever form.
+-- What the buffer of one image must ensure, in whatever form.
 use Rattle.std.specs.Prelude.{◌≡◌, ℕ, suc, ◌+◌, ◌<◌, ◌≤◌, Bool, false, ◌&&◌, nat_le, nat_lt, IsTrue, List, [], ◌∷◌, ◌++◌, length, slice_get, Some, All}
 use Rattle.wiring.specs.declared.netlist.Net.{Net}
 use Rattle.wiring.specs.declared.netlist.Holder.{Holder}
@@ -60,7 +60,7 @@ abbrev pub is_buffer : (enable : Bool) (first end : ℕ) → Holder → Bool
 is_buffer enable first end (OfNet n) = is_control enable (OfNet n)
 is_buffer enable first end (OfArray x) = nat_le first x && nat_lt x end
 
--- the taps of ages above 0 are made of the buffer's own arrays, and of rst, en and registers, alone
+-- the taps of ages above 0 are made only of the buffer's own arrays, rst, en and registers
 abbrev pub AreMadeOfBuffer : Netlist → (first end : ℕ) → (ages : List ℕ) → (taps : List Net) → Type 0
 AreMadeOfBuffer b first end ages taps = (k age : ℕ) (tap : Net) → slice_get ages k ≡ Some age → 0 < age → slice_get taps k ≡ Some tap → IsMadeOf b (is_buffer b.enable first end) (OfNet tap)
 
@@ -70,7 +70,7 @@ HadValues part m from net v [] = Unit {0}
 HadValues part m from net v (d ∷ rest) =
     d.reset ≡ false → HadValues part m from net v rest × ((s : Snapshot) → IsClockOf part m from rest d s → is_held m d ≡ false → net_value s net ≡ v (length (counted m rest)))
 
--- What comes out of a buffer is what went in, from any contents at power-up: in each clock after a reset clock, t being its number, each word from which a pixel may still be read holds the net's value of so many counted clocks before, and each tap is that value.
+-- What comes out of a buffer is what went in, from any contents at power-up: in each clock after a reset clock, t being its number, each word from which a pixel may still be read holds the net's value of this many counted clocks before, and each tap is that value.
 pub record IsDelay (b : Netlist) (place : (age t : ℕ) → Place) (ages : List ℕ) (taps : List Net) (value : Net) : Type 0 where
   pub word : (v : ℕ → ℕ) (m : Netlist) (from : Contents) (before : List Clock) (c : Clock) (s : Snapshot) → IsClockOf b m from before c s → IsTrue (was_reset before) → HadValues b m from value v before →
       (age q : ℕ) → 0 < age → age ≤ depth_of ages → q + age ≡ length (counted m before) → word_at s.contents (place age (length (counted m before))) ≡ v q

@@ -11,7 +11,7 @@ use Rattle.line_buffer.specs.Buffers.{AddsBuffer, AreMadeOfBuffer, is_buffer}
 use Rattle.line_buffer.specs.Indices.{AreReadOnce}
 use Rattle.line_buffer.specs.Lines.{IsDelayLine}
 
--- Segments one behind another, for ages that ascend from above `low`: each is fed by the one before it, and gives the tap of its age.
+-- Segments one after another, for ages that ascend from above `low`: each is fed by the one before it, and gives the tap of its age.
 abbrev pub AreSegments : Netlist → (first low : ℕ) → (feed : Net) → (ages : List ℕ) → List Net → Type 0
 AreSegments b first low feed [] [] = Unit {0}
 AreSegments b first low feed [] (tap ∷ taps) = ⊥
@@ -38,7 +38,7 @@ abbrev pub last_net : Net → List Net → Net
 last_net feed [] = feed
 last_net feed (tap ∷ taps) = last_net tap taps
 
--- the taps of the ages above 0: all, but for one of age 0 that stands before them
+-- the taps of the ages above 0: all, but for one of age 0 that comes before them
 abbrev pub later_taps : List ℕ → List Net → List Net
 later_taps [] taps = taps
 later_taps (zero ∷ ages) [] = []

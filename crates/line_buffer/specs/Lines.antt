@@ -16,7 +16,7 @@ use Rattle.line_buffer.specs.Fills.{IsWordAt, IsUnlessHeld}
 abbrev pub IsIndex : Netlist → ℕ → Net → Type 0
 IsIndex part n net = Counts part (λ t. t % n) net
 
--- The array has so many words. In each counted clock the one at the index is read, which `to` gives, and then takes the value of `from`: what goes in comes out so many clocks later. In a held clock it takes what it gave.
+-- The array has this many words. In each counted clock the one at the index is read, which `to` gives, and then takes the value of `from`: what goes in comes out this many clocks later. In a held clock it takes what it gave.
 pub record IsDelayLine (b : Netlist) (array words : ℕ) (from to : Net) : Type 0 where
   pub shape : Shape
   pub there : slice_get b.arrays array ≡ Some shape

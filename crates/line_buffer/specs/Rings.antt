@@ -20,11 +20,11 @@ use Rattle.line_buffer.specs.Buffers.{ReadsInside, is_buffer}
 abbrev pub behind : (n age index : ℕ) → ℕ
 behind n age index = if nat_eq age n then index else if nat_lt index age then index + (n - age) else index - age
 
--- the same as the gates give it, in numbers of so many bits
+-- the same as the gates give it, in numbers of this many bits
 abbrev pub place_worth : (words age bits index : ℕ) → ℕ
 place_worth words age bits index = if nat_lt index age then (index + (words - age)) % 2 ^ bits else (index + 2 ^ bits - age) % 2 ^ bits
 
--- The tap of an age in a ring of n words, in array `first`: the image's net itself at age 0, and else the word so many behind the index.
+-- The tap of an age in a ring of n words, in array `first`: the image's net itself at age 0, and else the word this many after the index.
 pub record IsRingTap (b : Netlist) (first n : ℕ) (index value : Net) (age : ℕ) (tap : Net) : Type 0 where
   pub net : IsNet b tap
   pub width : net_width b tap ≡ net_width b value
@@ -35,14 +35,14 @@ pub record IsRingTap (b : Netlist) (first n : ℕ) (index value : Net) (age : �
 abbrev pub AreRingTaps : Netlist → (first n : ℕ) → (index value : Net) → (ages : List ℕ) → List Net → Type 0
 AreRingTaps b first n index value ages taps = (k age : ℕ) (tap : Net) → slice_get ages k ≡ Some age → slice_get taps k ≡ Some tap → IsRingTap b first n index value age tap
 
--- the new netlist has more wires, which read array x alone, and nothing else
+-- the new netlist has more wires, which read only array x, and nothing else
 pub record AddsTaps (new old : Netlist) (x : ℕ) : Type 0 where
   pub includes : Includes new old
   pub wires : AddsWires new old
   pub reads : AddsReads new old (λ y. y == x)
   pub reads_inside : EachAdded (ReadsInside new) new.assigns old.assigns
 
--- a delay line of so many words for an image's net, with an index of so many bits
+-- a delay line of this many words for an image's net, with an index of this many bits
 pub record IsRing (b : Netlist) (line : DelayLine) (value : Net) (bits words : ℕ) : Type 0 where
   pub shape : Shape
   pub there : slice_get b.arrays line.array ≡ Some shape

@@ -19,7 +19,7 @@ use net_build::Builder;
 use std::alloc::Global;
 use wiring::Net;
 
-// A net, and how many clocks its pixel is behind the image's.
+// A net, and how many clocks its pixel is after the image's.
 #[derive(Clone, Copy)]
 pub struct Tap {
     pub age: u64,
@@ -60,9 +60,9 @@ fn next_tap(b: &mut Builder, width: u8, from: Tap, age: u64) -> Result<Tap, OutO
     Ok(Tap { age, net })
 }
 
-/// The buffer of an image, as a chain: for each of these ages a net, the image's net `value` of so many counted clocks before.
+/// The buffer of an image, as a chain: for each of these ages a net, the image's net `value` of this many counted clocks before.
 ///
-/// The ages ascend. `width` is the net's, in bits, and that of each array's words. There is one array for each age above 0, of as many words as lie between this age and the one before. Fails only where memory is wanting; what the builder had is then still there.
+/// The ages ascend. `width` is the net's, in bits, and that of each array's words. There is one array for each age above 0, of as many words as lie between this age and the one before. Fails only if out of memory; what the builder had is then still there.
 pub fn chain(
     alloc: Global,
     b: &mut Builder,

@@ -18,13 +18,13 @@ ghost use Rattle.line_buffer.specs.Indices.{AreReadOnce};
 ghost use Rattle.line_buffer.specs.Fills.{AreFilled};
 
 /// A law: a buffer has exactly as many bits as its width times its depth.
-pub fn exact_bits()
+pub fn exact_bits_law()
     ensures ring { (width : ℕ) (ages : List ℕ) → array_bits (ring_shapes width ages) ≡ width * depth_of ages }
     ensures chain { (width : ℕ) (ages : List ℕ) → IsStrictlyIncreasing ages → array_bits (chain_shapes width ages) ≡ width * depth_of ages }
 {}
 
 /// A law: what calls add, a buffer after another, with wires and counters between them. What never stopped goes on so, and what was controlled stays so.
-pub fn buffers_join()
+pub fn buffers_join_law()
     ensures none { (b : Netlist) → AddsBuffer b b [] }
     ensures logic { (new old : Netlist) → AddsLogic new old → AddsBuffer new old [] }
     ensures register { (new old : Netlist) (width : ℕ) → AddsRegister new old width → AddsBuffer new old [] }
@@ -35,8 +35,10 @@ pub fn buffers_join()
 {}
 
 /// A law: a buffer stays one, as the netlist grows.
-pub fn buffers_last()
-    ensures buffer { (b a : Netlist) (place : (age t : ℕ) → Place) (ages : List ℕ) (taps : List Net) (value : Net) → Includes b a → IsNet a value → IsBuffer a place ages taps value → IsBuffer b place ages taps value }
+pub fn buffers_last_law()
+    ensures buffer { (b a : Netlist) (place : (age t : ℕ) → Place) (ages : List ℕ) (taps : List Net) (value : Net) → Includes b a → IsNet a value
+        → IsBuffer a place ages taps value → IsBuffer b place ages taps value }
     ensures fills { (b a : Netlist) (first end : ℕ) (value : Net) → Includes b a → AreFilled a first end value → AreFilled b first end value }
-    ensures made { (b a : Netlist) (first end : ℕ) (ages : List ℕ) (taps : List Net) → Includes b a → AreMadeOfBuffer a first end ages taps → AreMadeOfBuffer b first end ages taps }
+    ensures made { (b a : Netlist) (first end : ℕ) (ages : List ℕ) (taps : List Net) → Includes b a → AreMadeOfBuffer a first end ages taps
+        → AreMadeOfBuffer b first end ages taps }
 {}

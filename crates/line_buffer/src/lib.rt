@@ -7,5 +7,5 @@ mod lines;
 mod rings;
 
 pub use chains::chain;
-pub use laws::{buffers_join, buffers_last, exact_bits};
+pub use laws::{buffers_join_law, buffers_last_law, exact_bits_law};
 pub use rings::ring;

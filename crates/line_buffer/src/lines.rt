@@ -28,7 +28,7 @@ pub struct DelayLine {
     pub word: Net,
 }
 
-// An index that goes through so many words, a word in each counted clock, from the first on after a reset.
+// An index that goes through this many words, a word in each counted clock, from the first on after a reset.
 fn turning_index(b: &mut Builder, words: u32) -> Result<Net, OutOfMemory>
     requires { IsDepth words }
     ensures includes { Includes b.new b.old }
@@ -62,7 +62,7 @@ fn stored_net(b: &mut Builder, now: Net, next: Net, bits: u8) -> Result<Net, Out
     Ok(next)
 }
 
-// An array of so many words, at least one: `value`, of `width` bits, goes in at its index, and comes out there so many counted clocks later. The index is 0 in a reset clock and stands in a held one. Fails only where memory is wanting.
+// An array of this many words, at least one: `value`, of `width` bits, goes in at its index, and comes out there this many counted clocks later. The index is 0 in a reset clock and is in a held one. Fails only if out of memory.
 pub fn delay_line(
     b: &mut Builder,
     width: u8,

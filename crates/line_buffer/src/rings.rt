@@ -23,7 +23,7 @@ use net_build::{Builder, gate, number};
 use std::alloc::Global;
 use wiring::{Atom, Net, Operator, Right};
 
-// The index of the word that was written `age` clocks before the one at the index, in a ring of so many words.
+// The index of the word that was written `age` clocks before the one at the index, in a ring of this many words.
 fn index_behind(
     b: &mut Builder,
     index: Net,
@@ -79,7 +79,7 @@ fn word_behind(
     Ok(word)
 }
 
-// The net of one age: the image's own, the oldest word, or one behind the index.
+// The net of one age: the image's own, the oldest word, or one after the index.
 fn ring_tap(
     b: &mut Builder,
     line: DelayLine,
@@ -180,9 +180,9 @@ fn ring_array(
     Ok(taps)
 }
 
-/// The buffer of an image, as a ring: for each of these ages a net, the image's net `value` of so many counted clocks before.
+/// The buffer of an image, as a ring: for each of these ages a net, the image's net `value` of this many counted clocks before.
 ///
-/// The ages ascend. `width` is the net's, in bits, and that of the array's words. There is one array of as many words as the greatest age, and none where that is 0. Fails only where memory is wanting; what the builder had is then still there.
+/// The ages ascend. `width` is the net's, in bits, and that of the array's words. There is one array of as many words as the greatest age, and none where that is 0. Fails only if out of memory; what the builder had is then still there.
 pub fn ring(
     alloc: Global,
     b: &mut Builder,

@@ -10,7 +10,7 @@ range_more zero a j e = ap (λ k. k ∷ []) (let h : a ≡ j = omega (arith, e) 
 range_more (suc n) a j e =
     ap (λ k. range_with_len a k) (let h : suc n + 1 ≡ suc (n + 1) = omega arith in h) ∙ ap (λ l. a ∷ l) (range_more n (a + 1) j (omega (arith, e)))
 
--- the states behind draws and more draws
+-- the states after draws and more draws
 pub after_sum : (m n s : ℕ) → after (m + n) s ≡ after n (after m s)
 after_sum zero n s = ap (λ k. after k s) (let h : 0 + n ≡ n = omega arith in h)
 after_sum (suc m) n s = ap (λ k. after k s) (let h : suc m + n ≡ suc (m + n) = omega arith in h) ∙ after_sum m n (next s)

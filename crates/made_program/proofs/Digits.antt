@@ -1,4 +1,4 @@
--- The digits of the numbers that stand in worked texts.
+-- The digits of the numbers that are in worked texts.
 use Rattle.std.proofs.Common.{◌≡◌, ℕ, ◌+◌, ◌<◌, [], ◌∷◌, ◌++◌, ap, ◌∙◌, lit<, lit≤, decimal}
 use Rattle.std.proofs.lemmas.Fmt.{decimal_digit, decimal_step}
 

@@ -6,7 +6,7 @@ use Rattle.made_program.specs.declared.draws.Draws.{Draws}
 use Rattle.made_program.specs.declared.draws.Offset.{Offset}
 use Rattle.made_program.specs.declared.draws.Reads.{Reads}
 
--- the state behind a draw
+-- the state after a draw
 abbrev pub next : ℕ → ℕ
 next state = (25173 * state + 13849) % 65536
 
@@ -14,7 +14,7 @@ next state = (25173 * state + 13849) % 65536
 abbrev pub drawn : (most state : ℕ) → ℕ
 drawn most state = next state / 8 % most
 
--- the state behind so many draws
+-- the state after this many draws
 abbrev pub after : (count state : ℕ) → ℕ
 after zero state = state
 after (suc count) state = after count (next state)

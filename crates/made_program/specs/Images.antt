@@ -5,11 +5,11 @@ use Rattle.pgm_codec.specs.Images.{Image, header_of}
 use Rattle.made_program.specs.Draws.{drawn, after}
 use Rattle.made_program.specs.Programs.{width_of, height_of, count_of, seed_of}
 
--- so many samples, drawn from this state on
+-- this many samples, drawn from this state on
 abbrev pub samples_from : (count state : ℕ) → List ℕ
 samples_from count state = map (λ place. drawn 256 (after place state)) (range_with_len 0 count)
 
--- the samples of the image, drawn behind the numbers of the program
+-- the samples of the image, drawn after the numbers of the program
 abbrev pub samples_of : ℕ → List ℕ
 samples_of n = samples_from (width_of n * height_of n) (after (7 * count_of n) (seed_of n))
 

@@ -24,7 +24,7 @@ count_of n = 1 + n / 65536 % 64
 abbrev pub seed_of : ℕ → ℕ
 seed_of n = n % 65536
 
--- the step that a draw below 5 stands for, which is 2 less than it; nothing for 0
+-- the step that a draw below 5 denotes, which is 2 less than it; nothing for 0
 abbrev pub step : ℕ → List ℕ
 step number = if nat_eq number 0 then codes "-2" else (if nat_eq number 1 then codes "-1" else (if nat_eq number 3 then codes "+1" else (if nat_eq number 4 then codes "+2" else [])))
 
@@ -69,7 +69,7 @@ definitions last state = flat_map (definition_at last state) (range_with_len 1 l
 abbrev pub head_lines : (width height : ℕ) → List ℕ
 head_lines width height = codes "size " ++ (decimal width ++ (codes " " ++ (decimal height ++ codes "\ninput a : u8\n")))
 
--- the line behind the definitions: the output is the last image
+-- the line after the definitions: the output is the last image
 abbrev pub output_line : ℕ → List ℕ
 output_line last = codes "output " ++ (name last ++ codes "\n")
 

@@ -1,4 +1,4 @@
--- The line that is told of a number.
+-- the line that reports a number.
 use Rattle.std.specs.Prelude.{ℕ, List, ◌++◌, codes}
 use Rattle.std.specs.Fmt.{decimal}
 use Rattle.made_program.specs.Programs.{width_of, height_of}

@@ -105,7 +105,7 @@ fn draw_reads(state: &mut u16, k: u32) -> Reads
     }
 }
 
-// Draws the mark of image k, and tells whether the image may be inline.
+// Draws the mark of image k, and returns whether the image may be inline.
 fn draw_mark(state: &mut u16, k: u32) -> bool
     ensures mark { result ≡ is_inlinable k (drawn 4 state.old) }
     ensures state { state.new ≡ next state.old }

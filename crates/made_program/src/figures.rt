@@ -1,4 +1,4 @@
-// The line that is told of a number.
+// the line that reports a number.
 
 ghost use Rattle.std.specs.Prelude.{◌≡◌, ◌++◌, OnOk, IfOk, codes};
 ghost use Rattle.made_program.specs.Programs.{width_of, height_of};
@@ -9,7 +9,7 @@ use crate::pieces::push_number;
 use dk_base::OutOfMemory;
 use std::alloc::Global;
 
-/// What is told of a program that was compiled and clocked.
+/// What is reported of a program that was compiled and clocked.
 #[derive(Clone, Copy, Debug, PartialEq, Eq)]
 pub struct Figures {
     /// The number of kept images without the input.
@@ -35,7 +35,8 @@ fn push_figure(to: &mut Vec<u8>, word: &[u8], number: u64) -> Result<(), OutOfMe
 
 // Adds the number and the size of the frame.
 fn push_size(to: &mut Vec<u8>, n: u32) -> Result<(), OutOfMemory>
-    ensures { OnOk result (to.new.items ≡ to.old.items ++ (figure (codes "make ") n ++ (figure (codes ": size ") (width_of n) ++ figure (codes " ") (height_of n)))) }
+    ensures { OnOk result (to.new.items
+        ≡ to.old.items ++ (figure (codes "make ") n ++ (figure (codes ": size ") (width_of n) ++ figure (codes " ") (height_of n)))) }
 {
     push_figure(to, b"make ", u64::from(n))?;
     push_figure(to, b": size ", u64::from(frame_width(n)))?;
@@ -56,7 +57,7 @@ fn push_figures(to: &mut Vec<u8>, figures: Figures) -> Result<(), OutOfMemory>
     Ok(())
 }
 
-/// The line that is told of number n with these figures, and its LF. The only error is want of memory.
+/// the line that reports number n with these figures, and its LF. The only error is out of memory.
 pub fn summary(alloc: Global, n: u32, figures: Figures) -> Result<Vec<u8>, OutOfMemory>
     ensures { IfOk result (λ line. line.items ≡ summary n figures.images figures.reads figures.bits figures.latency figures.sample_sum) }
 {

@@ -43,7 +43,7 @@ fn push_output_line(to: &mut Vec<u8>, last: u32) -> Result<(), OutOfMemory>
     Ok(())
 }
 
-// The program, and the state behind its draws.
+// The program, and the state after its draws.
 fn make_program(alloc: Global, n: u32, state: &mut u16) -> Result<Vec<u8>, OutOfMemory>
     requires { state.old ≡ seed_of n }
     ensures program { IfOk result (λ program. program.items ≡ program_of n) }
@@ -57,7 +57,7 @@ fn make_program(alloc: Global, n: u32, state: &mut u16) -> Result<Vec<u8>, OutOf
     Ok(program)
 }
 
-// Adds so many samples.
+// Adds this many samples.
 fn push_samples(to: &mut Vec<u8>, count: u32, state: &mut u16) -> Result<(), OutOfMemory>
     ensures { OnOk result (to.new.items ≡ to.old.items ++ samples_from count state.old) }
 {
@@ -89,7 +89,7 @@ fn make_image(alloc: Global, n: u32, state: &mut u16) -> Result<Vec<u8>, OutOfMe
     Ok(image)
 }
 
-/// Makes the program and the image file of number n. Every number has one program and one image; the only error is want of memory.
+/// Makes the program and the image file of number n. Every number has one program and one image; the only error is out of memory.
 pub fn make(alloc: Global, n: u32) -> Result<Made, OutOfMemory>
     ensures program { IfOk result (λ made. made.program.items ≡ program_of n) }
     ensures image { IfOk result (λ made. made.image.items ≡ image_of n) }

@@ -1,4 +1,4 @@
-// What a number stands for.
+// What a number denotes.
 
 ghost use Rattle.std.specs.Prelude.{◌≡◌, ◌<◌, ◌≤◌};
 ghost use Rattle.made_program.specs.Programs.{width_of, height_of, count_of, seed_of};

@@ -90,7 +90,7 @@ fn push_difference(to: &mut Vec<u8>, first: &[u8], second: &[u8]) -> Result<(), 
     Ok(())
 }
 
-// Adds the choice of the first one, and what stands before its other case.
+// Adds the choice of the first one, and what comes before its other case.
 fn push_choice(to: &mut Vec<u8>, first: &[u8], second: &[u8]) -> Result<(), OutOfMemory>
     ensures { OnOk result (to.new.items ≡ to.old.items ++ (codes "select(" ++ (first.now ++ (codes "<" ++ (second.now ++ (codes "," ++ first.now)))))) }
 {

@@ -9,8 +9,8 @@ ghost use Rattle.made_program.specs.Sums.{AreSummed, IsOneFrame, samples_of_roun
 
 use dk_base::{FrameSize, MAX_PORT_WIDTH, OutOfMemory};
 use dk_frames::Samples;
-use pgm_codec::read_again;
-use pgm_rounds::{FileError, Round, one_file, read_rounds};
+use pgm_codec::read_again_law;
+use pgm_rounds::{FileError, Round, one_file_law, read_rounds};
 use std::alloc::{AllocError, Global};
 
 // The sum of the samples of one frame.
@@ -53,10 +53,11 @@ fn read_images(alloc: Global, size: FrameSize, file: &[u8]) -> Result<Vec<Round>
     requires images { (images : List Image) × AreSummed (size_of size) images × (file.now ≡ file_of images) }
     ensures few { IfOk result (λ rounds. length rounds.items ≤ MAX_FILE_IMAGES) }
     ensures frames { IfOk result (λ rounds. All IsOneFrame rounds.items) }
-    ensures samples { IfOk result (λ rounds. (images : List Image) → AreSummed (size_of size) images → file.now ≡ file_of images → flat_map samples_of_round rounds.items ≡ flat_map (λ image. image.samples) images) }
+    ensures samples { IfOk result (λ rounds. (images : List Image) → AreSummed (size_of size) images → file.now ≡ file_of images
+        → flat_map samples_of_round rounds.items ≡ flat_map (λ image. image.samples) images) }
 {
-    read_again();
-    one_file();
+    read_again_law();
+    one_file_law();
     match read_rounds(alloc, size, &[MAX_PORT_WIDTH], file) {
         Ok(rounds) => Ok(rounds),
         Err(FileError::OutOfMemory) => Err(AllocError),
@@ -64,10 +65,11 @@ fn read_images(alloc: Global, size: FrameSize, file: &[u8]) -> Result<Vec<Round>
     }
 }
 
-/// The sum of the samples of a file of images of this size. The only error is want of memory.
+/// The sum of the samples of a file of images of this size. The only error is out of memory.
 pub fn sample_sum(alloc: Global, size: FrameSize, file: &[u8]) -> Result<u64, OutOfMemory>
     requires images { (images : List Image) × AreSummed (size_of size) images × (file.now ≡ file_of images) }
-    ensures { IfOk result (λ total. (images : List Image) → AreSummed (size_of size) images → file.now ≡ file_of images → total ≡ sum (flat_map (λ image. image.samples) images)) }
+    ensures { IfOk result (λ total. (images : List Image) → AreSummed (size_of size) images → file.now ≡ file_of images
+        → total ≡ sum (flat_map (λ image. image.samples) images)) }
 {
     let rounds = read_images(alloc, size, file)?;
     let total = sum_of_rounds(&rounds);

@@ -26,7 +26,7 @@ pub last_push : {X : Type 0} (xs : List X) (y : X) → slice_get (xs ++ y ∷ []
 last_push [] y = refl
 last_push (x ∷ xs) y = last_push xs y
 
--- what stands in two lists, one behind the other
+-- what is in two lists, one after the other
 abbrev pub InAppend : {X : Type 0} → List X → List X → ℕ → X → Type 0
 InAppend {X} xs ys i x = (slice_get xs i ≡ Some x) ⊎ ((j : ℕ) × (i ≡ length xs + j) × (slice_get ys j ≡ Some x))
 

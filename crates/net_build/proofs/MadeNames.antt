@@ -33,7 +33,7 @@ all_of a b c d e f g h = rw (e, f, g, h) refl
 abbrev second : List ℕ → ℕ
 second x = get_or x 1 0
 
--- none of the words has a digit behind its first letter
+-- none of the words has a digit after its first letter
 abbrev none_numbered : List (List ℕ) → Bool
 none_numbered [] = true
 none_numbered (w ∷ words) = not (is_digit (second w)) && none_numbered words
@@ -253,7 +253,7 @@ distinct_append xs ys d e apart i j x at_i at_j =
       ]
     ]
 
--- the names of inputs behind rst
+-- the names of inputs after rst
 abbrev behind : Bool → ℕ → List (List ℕ)
 behind enable n = if enable then codes "en" ∷ din_names 0 n else din_names 0 n
 

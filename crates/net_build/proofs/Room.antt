@@ -14,7 +14,7 @@ use Rattle.wiring.proofs.Lists.{All-at}
 use Rattle.net_build.specs.Draft.{IsDraft, IsFree, with_update}
 use Rattle.net_build.proofs.Drafts.{draft_update}
 
--- a number for each register, and one behind those for each array
+-- a number for each register, and one after those for each array
 abbrev code : ℕ → Update → ℕ
 code regs (Set r a) = r
 code regs (Put x i a) = regs + x

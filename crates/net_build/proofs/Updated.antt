@@ -23,7 +23,7 @@ use Rattle.net_build.proofs.Room.{has_room}
 net_sound : (b : Netlist) (n : Net) → IsNet b n → AtomIsSound b (atom.Net n)
 net_sound b n h = record { nets = All-cons (IsDeclared b) n [] h.declared (All-nil (IsDeclared b)); constants = All-nil IsConstant }
 
--- what an update that is added owes
+-- what an update that is added must ensure
 pub record CanAdd (b : Netlist) (u : Update) : Type 0 where
   pub draft : IsDraft (with_update b u)
   pub room : length b.updates < length b.regs + length b.arrays

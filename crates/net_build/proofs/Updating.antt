@@ -1,4 +1,4 @@
--- Which registers and arrays still want an update.
+-- Which registers and arrays still need an update.
 use Rattle.std.proofs.Common.{◌≡◌, ◌≢◌, ◌⊎◌, ℕ, zero, suc, List, [], ◌∷◌, length, Some, ◌∙◌, ap, refl, sym, subst, inl, inr, arith}
 use Rattle.std.specs.Prelude.{slice_get, Contains}
 use Rattle.std.proofs.lemmas.List.{length_push, get_or_push}
@@ -78,7 +78,7 @@ more : (b : Netlist) (free : List Holder) (g h : Holder) → Waits b free h → 
 more b free g h (inl c) = inl (later g free h c)
 more b free g h (inr u) = inr u
 
--- a register or an array more wants its update
+-- a register or an array more needs its update
 pub but_reg : (b : Netlist) (w : ℕ) (free : List Holder) → UpdatedBut b free → UpdatedBut (with_reg b w) (OfNet (Reg (length b.regs)) ∷ free)
 but_reg b w free h (OfNet (Input k)) d = absurd d
 but_reg b w free h (OfNet (Output k)) d = absurd d
@@ -101,7 +101,7 @@ but_array b s free h (OfArray x) d =
       | inr ne ↦ more b free (OfArray (length b.arrays)) (OfArray x) (h (OfArray x) (omega (arith, d, ne, length_push b.arrays s)))
     ]
 
--- and an update is of the first that wants one
+-- and an update is of the first that needs one
 module _ (b : Netlist) (u : Update) (g : Holder) (free : List Holder) (of : update_target u ≡ g) where
   kept : (h : Holder) → HasUpdate b h → HasUpdate (with_update b u) h
   kept h (k, v, at, e) = (k, v, slice_get-append b.updates (u ∷ []) k v at, e)
@@ -118,7 +118,7 @@ module _ (b : Netlist) (u : Update) (g : Holder) (free : List Holder) (of : upda
   but_update h (OfNet (Reg k)) d = given (OfNet (Reg k)) (h (OfNet (Reg k)) d)
   but_update h (OfArray x) d = given (OfArray x) (h (OfArray x) d)
 
--- those that want one, in another order or among others
+-- those that need one, in another order or among others
 pub but_among : (b : Netlist) (free more : List Holder) → ((h : Holder) → Contains free h → Contains more h) → UpdatedBut b free → UpdatedBut b more
 but_among b free more among but h d = elim (but h d) as (λ _. Waits b more h) [ inl c ↦ inl (among h c) | inr u ↦ inr u ]
 

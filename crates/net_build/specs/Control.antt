@@ -14,7 +14,7 @@ use Rattle.wiring.specs.Netlist.{Netlist}
 use Rattle.wiring.specs.BufferBits.{atom_reads, right_reads}
 use Rattle.wiring.specs.Rights.{array_of}
 
--- made of these nets and arrays alone: one of them, or driven by what is made of them alone
+-- made only of these nets and arrays: one of them, or driven by what is made only of them
 pub data IsMadeOf (m : Netlist) (base : Holder → Bool) : Holder → Type 0 where
   by_itself : {h : Holder} → IsTrue (base h) → IsMadeOf m base h
   by_assign : {h : Holder} (a : Assign) → Contains m.assigns a → OfNet a.target ≡ h → ((g : Holder) → Contains (right_reads a.right) g → IsMadeOf m base g) → IsMadeOf m base h

@@ -48,7 +48,7 @@ pub record IsOperation (b : Netlist) (r : Right Net ℕ) : Type 0 where
   pub readable : IsReadable r
   pub wide : IsWidth (width_of b r)
 
--- what may stand in a right side of the draft, of this width
+-- what may are in a right side of the draft, of this width
 pub record IsOperand (b : Netlist) (a : Atom Net) (width : ℕ) : Type 0 where
   pub nets : (n : Net) → Contains (atom_nets a) n → IsNet b n
   pub constants : All IsConstant (atom_constants a)
@@ -102,7 +102,7 @@ UpdatedBut b free = (h : Holder) → IsState b h → Contains free h ⊎ HasUpda
 abbrev pub AllUpdated : Netlist → Type 0
 AllUpdated b = (h : Holder) → IsState b h → HasUpdate b h
 
--- the k-th assign drives the k-th wire and reads earlier wires alone, and no two updates are of the same register or array
+-- the k-th assign drives the k-th wire and reads only earlier wires, and no two updates are of the same register or array
 pub record IsDraft (b : Netlist) : Type 0 where
   pub ports : ArePorts b.enable b.inputs b.outputs
   pub wires : length b.assigns ≡ length b.wires

@@ -88,7 +88,7 @@ pub fn unless_held(b: &mut Builder, now: Net, next: Net, bits: u8) -> Result<Net
     Ok(next)
 }
 
-/// What a register takes that begins at `first` after a reset and stands still in held clocks: in a reset clock `first`, in a held clock `now`, and else `next`.
+/// What a register takes that begins at `first` after a reset and does not change in held clocks: in a reset clock `first`, in a held clock `now`, and else `next`.
 pub fn register_value(
     b: &mut Builder,
     now: Net,
@@ -163,7 +163,7 @@ fn counter_of(b: &mut Builder, last: u64, wraps: bool) -> Result<Net, OutOfMemor
     Ok(values.index)
 }
 
-/// A net that counts clocks from 0 to `last`, and then from 0 again: the number of the counted clocks since a reset, modulo `last` and one. It is 0 in a reset clock, and stands still in held clocks. It has a register behind it.
+/// A net that counts clocks from 0 to `last`, and then from 0 again: the number of the counted clocks since a reset, modulo `last` and one. It is 0 in a reset clock, and does not change in held clocks. It has a register after it.
 pub fn counter(b: &mut Builder, last: u64) -> Result<Net, OutOfMemory>
     ensures includes { Includes b.new b.old }
     ensures adds { OnOk result (AddsRegister b.new b.old (bit_count last)) }

@@ -11,7 +11,7 @@ use crate::builder::Builder;
 use dk_base::OutOfMemory;
 use wiring::{Atom, Constant, Net, Right, Width};
 
-/// A number of so many bits.
+/// A number of this many bits.
 pub fn number(bits: u8, value: u64) -> Atom<Net>
     requires bits { IsWidth bits }
     requires fits { value < 2 ^ bits }

@@ -85,7 +85,7 @@ pub fn wire_of(
     Ok(k)
 }
 
-// Makes room for the updates of so many registers and arrays and of one more.
+// Makes room for the updates of this many registers and arrays and of one more.
 fn make_room(updates: &mut Vec<Update>, states: usize) -> Result<(), OutOfMemory>
     ensures items { updates.new.items ≡ updates.old.items }
     ensures room { OnOk result (states < vec_capacity updates.new) }

@@ -15,6 +15,6 @@ pub use builder::Builder;
 pub use counters::{Counted, count, counter, counter_up_to, register_value, started, unless_held};
 pub use gates::{gate, number};
 pub use laws::{
-    held, indices_last, outputs_shown, parts_grow, ports_shown, reads_grow, runs_last, runs_on,
-    still_grows,
+    held_law, indices_last_law, outputs_shown_law, parts_grow_law, ports_shown_law, reads_grow_law,
+    runs_last_law, runs_on_law, still_grows_law,
 };

@@ -1,4 +1,4 @@
-//! A ring of three words, made by the calls of `net_build` alone: what it gives is the din of three clocks before.
+//! A ring of three words, made only by calls of `net_build`: it returns the din of three clocks before.
 #![tactic(auto)]
 
 mod delay;

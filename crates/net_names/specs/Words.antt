@@ -51,6 +51,6 @@ is_structure_word bytes = is_among bytes structure_words
 abbrev pub is_refused_word : List ℕ → Bool
 is_refused_word bytes = is_among bytes refused_a_to_d || is_among bytes refused_e || is_among bytes refused_f || is_among bytes refused_g_to_n || is_among bytes refused_o_to_s || is_among bytes refused_t_to_x
 
--- a word of at most so many bytes that is none of those
+-- a word of at most this many bytes that is none of those
 abbrev pub is_name : List ℕ → Bool
 is_name bytes = (is_word bytes && nat_le (length bytes) MOST_NAME_BYTES) && not (is_structure_word bytes) && not (is_refused_word bytes)

@@ -59,7 +59,7 @@ fn shown(sim: &mut Sim, clock: u8, din: u64) -> u64 {
     }
 }
 
-// What the output shows, a hexadecimal digit for each clock behind a 1. In a clock `r` there is a reset, and a clock `h` is held. The first din is 0, and each later one is one more, up to `last` and from 0 on again.
+// What the output shows, a hexadecimal digit for each clock after a 1. In a clock `r` there is a reset, and a clock `h` is held. The first din is 0, and each later one is one more, up to `last` and from 0 on again.
 fn digits(alloc: Global, module: &Module, clocks: &[u8], last: u64) -> Result<u64, OutOfMemory> {
     let mut sim = Sim::new(alloc, module, Fill::Ones)?;
     let mut all: u64 = 1;
@@ -108,7 +108,7 @@ fn ring_digits(
     Ok(all)
 }
 
-// The tap of age 0 alone in both forms, and the bits of their buffers.
+// Only the tap of age 0 in both forms, and the bits of their buffers.
 fn age_zero(alloc: Global, clocks: &[u8]) -> Result<(u64, u64, u128, u128), OutOfMemory> {
     let ages = [0];
     let chained = chain_tap(alloc, 4, &ages, 0)?;
@@ -120,7 +120,7 @@ fn age_zero(alloc: Global, clocks: &[u8]) -> Result<(u64, u64, u128, u128), OutO
     Ok((chain_all, ring_all, chain_bits, ring_bits))
 }
 
-// The tap of age 3 behind one of age 1, in a chain of one bit.
+// The tap of age 3 after one of age 1, in a chain of one bit.
 fn bit_digits(alloc: Global, clocks: &[u8]) -> Result<u64, OutOfMemory> {
     let ages = [1, 3];
     let module = chain_tap(alloc, 1, &ages, 1)?;

@@ -21,7 +21,7 @@ fn is_shared(alloc: Global) -> Result<bool, OutOfMemory> {
     Ok(one == other)
 }
 
-// The buffer bits of a register behind another.
+// The buffer bits of a register after another.
 fn shift_bits(alloc: Global) -> Result<u128, OutOfMemory> {
     let mut b = Builder::new(alloc, 8, 8)?;
     let din = b.din();

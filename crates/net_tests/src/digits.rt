@@ -20,7 +20,7 @@ fn shown(sim: &mut Sim, reset: bool, enable: bool) -> u64 {
     }
 }
 
-// What the output shows, a digit for each clock behind a 1, from power-up ones and a reset clock on, which is left out. In a clock `r` there is a reset, in a clock `R` there is one with `en` at 0, and a clock `h` is held.
+// What the output shows, a digit for each clock after a 1, from power-up ones and a reset clock on, which is left out. In a clock `r` there is a reset, in a clock `R` there is one with `en` at 0, and a clock `h` is held.
 pub fn digits(alloc: Global, module: &Module, clocks: &[u8]) -> Result<u64, OutOfMemory> {
     let mut sim = Sim::new(alloc, module, Fill::Ones)?;
     let _ = shown(&mut sim, true, true);

@@ -11,7 +11,7 @@ use Rattle.netlist.specs.Faults.{PortRule, FitsRule, din_rules, output_rules}
 use Rattle.netlist.specs.Profile.{din_rule, AreOutputs, AreFromDins}
 use Rattle.netlist.proofs.Naming.{codes_same, same_equal}
 
--- a list with one item at its end is told by both
+-- a list with one item at its end is determined by both
 pub push_equal : (xs ys : List ℕ) (x y : ℕ) → xs ++ x ∷ [] ≡ ys ++ y ∷ [] → (xs ≡ ys) × (x ≡ y)
 push_equal [] [] x y e = (refl, cc)
 push_equal [] (b ∷ ys) x y e = absurd (omega (arith, ap length e, push_length ys y))
@@ -84,7 +84,7 @@ module _ (ports rest more : List Port) (v d : Port) (n : ℕ) (first : ports ≡
         rest_are = record { count = c; few = omega (arith, few); fit = subst (λ (z : ℕ). AllZip FitsRule more (output_rules z c)) (let e : suc n ≡ n + 1 = omega arith in e) fit.1.1 };
       }
 
--- one output alone is none
+-- a single output is none
 pub outputs_pair : (ports rest : List Port) (v : Port) (n : ℕ) → ports ≡ v ∷ rest → length rest ≡ 0 → AreOutputs ports n → ⊥
 outputs_pair ports rest v n first none are = by rest none are.count (subst (λ (l : List Port). AllZip FitsRule l (output_rules n are.count)) first are.fit)
   where

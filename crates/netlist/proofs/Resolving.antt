@@ -1,4 +1,4 @@
--- Statements by what their names stand for.
+-- Statements by what their names denote.
 use Rattle.std.proofs.Common.{◌≡◌, ℕ, suc, ◌+◌, ◌<◌, ◌≤◌, ◌&&◌, append_assoc, Bool, true, false, List, [], ◌∷◌, ◌++◌, length, take, refl, ap, subst, sym, ◌∙◌, inl, inr, arith, Option, Some, None}
 use Rattle.std.specs.Prelude.{slice_get, is_some, IsSome, All}
 use Rattle.std.specs.Option.{option_to_list}
@@ -89,7 +89,7 @@ module _ (scope : List Entry) where
       let s = two_parts (λ (y : ℕ) (z : Atom Net). Word y z) (array_named scope x) (atom_named scope i) q e in
       known_append (x ∷ []) (atom_nets i) (named_array x s.0 s.2) (named_atom i s.1 s.3)
 
-  -- an assign that stands for one has known names
+  -- an assign that denotes one has known names
   pub assign_known : (a : NamedAssign) (b : Assign) → assign_named scope a ≡ Some b → AllKnown scope (assign_names a)
   assign_known a b e =
       let s = two_parts (λ (t : Net) (q : Right Net ℕ). let x : Assign = record { target = t; right = q } in x) (net_named scope a.target) (right_named scope a.right) b e in

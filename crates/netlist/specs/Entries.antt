@@ -19,14 +19,14 @@ meaning_of (stands.Wire i) = net (Wire i)
 meaning_of (stands.Reg i) = net (Reg i)
 meaning_of (stands.Array x) = array x
 
--- the entries of a map, each a slice and what it stands for
+-- the entries of a map, each a slice and what it denotes
 abbrev pub entries_in : List (Bor (List ℕ) × Stands) → List Entry
 entries_in es = map (λ e. record { name = e.0.now; meaning = meaning_of e.1 }) es
 
 abbrev pub names_in : List Entry → List (List ℕ)
 names_in scope = map (λ (e : Entry). e.name) scope
 
--- the name at this place stands at an earlier one, and no name before it does
+-- the name at this place is at an earlier one, and no name before it does
 abbrev pub IsRepeat : List (List ℕ) → ℕ → Type 0
 IsRepeat names place = IsSecond (λ (n : List ℕ). n) names place
 

@@ -198,7 +198,7 @@ net_rules p = rules_of p.ports.items (scope_of p) (netlist_of_parts p) p.assigns
 abbrev pub IsFault : Parts → NetFault → Type 0
 IsFault p f = Breaks (net_rules p) f
 
--- an error is such a fault, or want of memory, of which the parts say nothing
+-- an error is such a fault, or out of memory, of which the parts say nothing
 abbrev pub IsErrorBy : (NetFault → Type 0) → NetError → Type 0
 IsErrorBy is (Fault fault) = is fault
 IsErrorBy is OutOfMemory = ⊤
@@ -208,7 +208,7 @@ pub record IsModuleOf (p : Parts) (m : NamedNetlist) : Type 0 where
   pub keeps : Keeps (net_rules p)
   pub is : m ≡ module_of p
 
--- the same fault; of a cycle any target on it may be told
+-- the same fault; of a cycle any target on it may be named
 abbrev pub Agrees : NetFault → NetFault → Type 0
 Agrees (Cycle j) (Cycle k) = Unit {0}
 Agrees f g = f ≡ g

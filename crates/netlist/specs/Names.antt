@@ -20,7 +20,7 @@ pub record NamedNetlist : Type 0 where
   pub netlist : Netlist
   pub names : ModuleNames
 
--- the first port of a kind has the bare name, the k-th further one the digit k behind it
+-- the first port of a kind has the bare name, the k-th further one the digit k after it
 abbrev pub numbered : List ℕ → ℕ → List ℕ
 numbered name zero = name
 numbered name (suc k) = name ++ (49 + k) ∷ []

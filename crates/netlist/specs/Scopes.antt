@@ -1,4 +1,4 @@
--- What the names of a text stand for, and the module that the parts of a text make.
+-- What the names of a text denote, and the module that the parts of a text make.
 use Rattle.std.specs.Prelude.{ℕ, suc, Bool, false, if◌then◌else◌, List, [], ◌∷◌, ◌++◌, Option, Some, None, All, ◌≡◌, true}
 use Rattle.std.specs.Option.{option_map, option_to_list}
 use Rattle.std.specs.Str.{bytes_eq}
@@ -29,13 +29,13 @@ use Rattle.netlist.specs.declared.parts.NamedUpdate.{NamedUpdate}
 use Rattle.netlist.specs.declared.parts.NamedUpdate.TheVariants.{Set as NamedSet, Put as NamedPut}
 use Rattle.netlist.specs.Names.{ModuleNames, NamedNetlist, enable_name}
 
--- what a name stands for
+-- what a name denotes
 pub data Meaning : Type 0 where
   clock : Meaning
   net : Net → Meaning
   array : ℕ → Meaning
 
--- a declared name with what it stands for
+-- a declared name with what it denotes
 pub record Entry : Type 0 where
   pub name : List ℕ
   pub meaning : Meaning
@@ -52,7 +52,7 @@ abbrev pub outputs_after : Direction → ℕ → ℕ
 outputs_after Takes o = o
 outputs_after Gives o = suc o
 
--- ports behind i inputs and o outputs
+-- ports after i inputs and o outputs
 abbrev pub port_entries : ℕ → ℕ → List Port → List Entry
 port_entries i o [] = []
 port_entries i o (p ∷ ports) = record { name = p.name; meaning = port_meaning p.direction i o } ∷ port_entries (inputs_after p.direction i) (outputs_after p.direction o) ports
@@ -62,7 +62,7 @@ abbrev pub all_ports : List Port → List Entry
 all_ports [] = []
 all_ports (p ∷ ports) = record { name = p.name; meaning = clock } ∷ port_entries 0 0 ports
 
--- declarations behind w wires, r registers and a arrays
+-- declarations after w wires, r registers and a arrays
 abbrev pub sort_meaning : Sort → ℕ → ℕ → ℕ → Meaning
 sort_meaning (OfWire v) w r a = net (Wire w)
 sort_meaning (OfReg v) w r a = net (Reg r)
@@ -124,7 +124,7 @@ abbrev pub three : {A B C D : Type 0} → (A → B → C → D) → Option A →
 three f None b c = None
 three f (Some a) b c = two (f a) b c
 
--- right sides and updates with nets and arrays in place of their names, where each name stands for one of the sort that is meant
+-- right sides and updates with nets and arrays in place of their names, where each name denotes one of the sort that is meant
 module _ (scope : List Entry) where
   abbrev pub net_named : List ℕ → Option Net
   net_named name = as_net (stands_for scope name)
@@ -194,7 +194,7 @@ array_shape (OfWire w) = None
 array_shape (OfReg w) = None
 array_shape (OfArray s) = Some s
 
--- the netlist that the parts make, its assigns and updates where each name stands for one of the sort that is meant
+-- the netlist that the parts make, its assigns and updates where each name denotes one of the sort that is meant
 abbrev pub netlist_of_parts : Parts → Netlist
 netlist_of_parts p = record {
   enable = has_enable p.ports.items;

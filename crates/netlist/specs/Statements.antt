@@ -1,4 +1,4 @@
--- For the private functions: statements by what their names stand for, and what is wrong with one.
+-- For the private functions: statements by what their names denote, and what is wrong with one.
 use Rattle.std.specs.Prelude.{◌≡◌, ℕ, Bool, true, ◌&&◌, is_some, List, [], ◌∷◌, All, Some}
 use Rattle.wiring.specs.declared.right.Right.{Right}
 use Rattle.wiring.specs.declared.netlist.Net.{Net}
@@ -39,7 +39,7 @@ abbrev pub RightFits : Netlist → Right Net ℕ → ℕ → Type 0
 RightFits m r target = WidthsAgree (net_width m) (word_width m) r × (right_width (net_width m) (word_width m) r ≡ target)
 
 module _ (scope : List Entry) (m : Netlist) where
-  -- the assign that a named one stands for, with nothing wrong
+  -- the assign that a named one denotes, with nothing wrong
   pub record StandsForAssign (a : NamedAssign) (b : Assign) : Type 0 where
     pub named : assign_named scope a ≡ Some b
     pub driven : IsOfDrivenSort b.target

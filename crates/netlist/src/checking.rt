@@ -10,7 +10,7 @@ ghost use Rattle.netlist.specs.Passes.{PassesPorts, PassesStatements, IsPassFaul
 ghost use Rattle.netlist.specs.Driven.{IsWired};
 
 use crate::fault::NetError;
-use crate::laws::rules_kept;
+use crate::laws::rules_kept_law;
 use crate::module::Module;
 use crate::names::Names;
 use crate::parts::{Declaration, Parts, Sort};
@@ -105,7 +105,7 @@ fn turn(names: &mut Vec<Name>)
     names.reverse();
 }
 
-// The names of the module and of what is declared behind the ports.
+// The names of the module and of what is declared after the ports.
 fn names_of(alloc: Global, parts: Parts) -> Result<Names, AllocError>
     ensures { IfOk result (λ n. names_told n ≡ names_of_parts parts) }
 {
@@ -131,8 +131,8 @@ impl Module {
     {
         let Wired { wiring, order } = wired_of(alloc, &parts)?;
         let names = names_of(alloc, parts)?;
-        wiring::no_cycle();
-        rules_kept();
+        wiring::no_cycle_law();
+        rules_kept_law();
         let made = Module::in_order(names, wiring, order);
         Ok(made)
     }

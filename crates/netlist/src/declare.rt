@@ -47,7 +47,7 @@ fn output_after(direction: Direction, outputs: usize) -> usize
     }
 }
 
-// Adds the ports behind the clock.
+// Adds the ports after the clock.
 fn add_ports<'a>(scope: &mut Scope<'a>, ports: &'a [Port]) -> Result<(), NetError>
     requires { length scope.old ≡ 1 }
     ensures ok { OnOk result (scope.new ≡ scope.old ++ port_entries 0 0 ports.now) }
@@ -64,7 +64,7 @@ fn add_ports<'a>(scope: &mut Scope<'a>, ports: &'a [Port]) -> Result<(), NetErro
     Ok(())
 }
 
-// Adds the clock, where there is one, and the ports behind it.
+// Adds the clock, where there is one, and the ports after it.
 fn add_all_ports<'a>(scope: &mut Scope<'a>, ports: &'a [Port]) -> Result<(), NetError>
     requires { length scope.old ≡ 0 }
     ensures ok { OnOk result (scope.new ≡ all_ports ports.now) }
@@ -156,7 +156,7 @@ fn add_declarations<'a>(
     Ok(())
 }
 
-// What each name of the parts stands for, or the first name that is declared a second time.
+// What each name of the parts denotes, or the first name that is declared a second time.
 pub(crate) fn scope_of(alloc: Global, parts: &Parts) -> Result<Scope<'_>, NetError>
     ensures scope { IfOk result (λ s. s ≡ scope_of_parts parts.now) }
     ensures differ { OnOk result (NamesDiffer parts.now) }

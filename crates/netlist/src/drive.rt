@@ -84,7 +84,7 @@ fn is_driven(tables: &Tables, stands: Stands) -> bool
     }
 }
 
-// Whether what stands at this place of the scope is driven.
+// Whether what is at this place of the scope is driven.
 fn is_driven_at(scope: &Scope, tables: &Tables, place: usize) -> bool
     requires { place < length scope.now }
     ensures { (e : Entry) → slice_get scope.now place ≡ Some e → result ≡ is_driven_by tables.now e.meaning }
@@ -95,7 +95,7 @@ fn is_driven_at(scope: &Scope, tables: &Tables, place: usize) -> bool
     }
 }
 
-// The first place of the scope at which nothing drives what stands there.
+// The first place of the scope at which nothing drives what is there.
 fn first_undriven(scope: &Scope, tables: &Tables) -> Option<usize>
     ensures none { IfNone result (All (IsDrivenEntry tables.now) scope.now) }
     ensures some { IfSome result (FirstWrong (IsDrivenEntry tables.now) (λ e. IsDrivenEntry tables.now e → ⊥) scope.now) }

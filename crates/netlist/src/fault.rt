@@ -19,7 +19,7 @@ pub enum Statement {
     Update(usize),
 }
 
-/// Why parts make no module. The passes come in this order but for Width, which stands behind Divisor.
+/// Why parts make no module. The passes come in this order but for Width, which follows Divisor.
 #[derive(Clone, Copy, Debug, PartialEq, Eq, thiserror::Error)]
 pub enum NetFault {
     /// A name is declared a second time here.
@@ -31,7 +31,7 @@ pub enum NetFault {
     /// A name is not declared.
     #[error("Unknown {0:?}")]
     Unknown(Statement),
-    /// A name stands for something of another sort.
+    /// A name denotes something of another sort.
     #[error("WrongSort {0:?}")]
     WrongSort(Statement),
     /// The divisor is no constant, or 0.
@@ -51,7 +51,7 @@ pub enum NetFault {
     Cycle(usize),
 }
 
-/// Why no module was made of parts: their first fault, or want of memory.
+/// Why no module was made of parts: their first fault, or out of memory.
 #[derive(Clone, Copy, Debug, PartialEq, Eq, thiserror::Error)]
 pub enum NetError {
     #[error("{0}")]

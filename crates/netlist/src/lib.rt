@@ -19,7 +19,7 @@ mod width;
 
 pub use buffer::buffer_bits;
 pub use fault::{Declared, NetError, NetFault, Statement};
-pub use laws::{bounds_are_limits, one_fault, one_run, rules_kept, values_fit};
+pub use laws::{bounds_are_limits_law, one_fault_law, one_run_law, rules_kept_law, values_fit_law};
 pub use module::Module;
 pub use names::Names;
 pub use net_names::Name;

@@ -63,7 +63,7 @@ impl Module {
         &self.names
     }
 
-    /// An order in which the assigns can be evaluated: each stands behind those that it reads.
+    /// An order in which the assigns can be evaluated: each follows those that it reads.
     pub fn order(&self) -> &[usize]
         ensures { IsEvaluationOrder self.now.netlist.assigns result.now }
     {
@@ -76,7 +76,7 @@ impl Module {
         ensures one_next { HasOneNext self.now.netlist }
     {
         let _order = &self.order;
-        wiring::one_valuation();
-        wiring::one_next();
+        wiring::one_valuation_law();
+        wiring::one_next_law();
     }
 }

@@ -1,4 +1,4 @@
-// A module as a text tells it.
+// A module as a text describes it.
 
 use net_names::Name;
 use wiring::{Atom, Right, Shape, Width};
@@ -26,7 +26,7 @@ pub enum Sort {
     Array(Shape),
 }
 
-/// A declaration behind the ports.
+/// A declaration after the ports.
 #[derive(Debug, Drop)]
 pub struct Declaration {
     pub name: Name,
@@ -49,7 +49,7 @@ pub enum NamedUpdate {
     Put(Name, Atom<Name>, Atom<Name>),
 }
 
-/// A module as a text tells it: the name, the ports, the declarations, the assigns and the updates, each in the order of the text.
+/// A module as a text describes it: the name, the ports, the declarations, the assigns and the updates, each in the order of the text.
 #[derive(Debug, Drop)]
 pub struct Parts {
     pub name: Name,

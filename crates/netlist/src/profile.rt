@@ -99,7 +99,7 @@ fn is_din(port: &Port, number: usize) -> bool
     fits(port, Direction::Input, b"din", number, true)
 }
 
-// Whether these are dins from this number on, and outputs behind them.
+// Whether these are dins from this number on, and outputs after them.
 fn are_from_dins(ports: &[Port], number: usize) -> bool
     requires { number ≤ MOST_PORTS }
     ensures yes { IsTrue result → AreFromDins ports.now number }

@@ -68,7 +68,7 @@ fn atom(scope: &Scope, atom: &Atom<Name>) -> Option<Atom<Net>>
     }
 }
 
-// The right side with nets and arrays in place of names, where each name stands for one of its sort.
+// The right side with nets and arrays in place of names, where each name denotes one of its sort.
 fn right(scope: &Scope, right: &Right<Name, Name>) -> Option<Right<Net, usize>>
     ensures named { result ≡ right_named scope.now right.now }
     ensures constants { IsSome result → All IsConstant (constants_of right.now) }
@@ -90,7 +90,7 @@ fn right(scope: &Scope, right: &Right<Name, Name>) -> Option<Right<Net, usize>>
     }
 }
 
-// The assign that a named one stands for.
+// The assign that a named one denotes.
 pub(crate) fn assign(scope: &Scope, named: &NamedAssign) -> Option<Assign>
     ensures named { result ≡ assign_named scope.now named.now }
     ensures constants { IsSome result → All IsConstant (constants_of named.now.right) }
@@ -100,7 +100,7 @@ pub(crate) fn assign(scope: &Scope, named: &NamedAssign) -> Option<Assign>
     Some(Assign { target, right })
 }
 
-// The update that a named one stands for.
+// The update that a named one denotes.
 pub(crate) fn update(scope: &Scope, named: &NamedUpdate) -> Option<Update>
     ensures named { result ≡ update_named scope.now named.now }
     ensures constants { IsSome result → All IsConstant (update_constants named.now) }

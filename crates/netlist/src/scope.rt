@@ -1,11 +1,11 @@
-// What names stand for.
+// What names denote.
 
 use crate::fault::{Declared, NetError, NetFault};
 use indexmap::IndexMap;
 use std::alloc::Global;
 use std::marker::Model;
 
-// What a name stands for.
+// What a name denotes.
 #[derive(Clone, Copy, Debug)]
 pub(crate) enum Stands {
     Clock,
@@ -16,7 +16,7 @@ pub(crate) enum Stands {
     Array(usize),
 }
 
-// Declared names, each once, with what they stand for, in the order of the text.
+// Declared names, each once, with what they denote, in the order of the text.
 #[derive(Drop)]
 pub(crate) struct Scope<'a> {
     names: IndexMap<&'a [u8], Stands>,
@@ -51,21 +51,22 @@ impl<'a> Scope<'a> {
         }
     }
 
-    // What the name stands for.
+    // What the name denotes.
     pub(crate) fn find(&self, name: &[u8]) -> Option<Stands>
         ensures { option_map meaning_of result ≡ stands_for self.now name.now }
     {
         self.names.get(name).copied()
     }
 
-    // Adds the next name, or tells that it is there.
+    // Adds the next name, or reports that it is there.
     pub(crate) fn add(
         &mut self,
         name: &'a [u8],
         stands: Stands,
         declared: Declared,
     ) -> Result<(), NetError>
-        ensures { MatchResult result (λ _. self.new ≡ self.old ++ (record { name = name.now; meaning = meaning_of stands }) ∷ []) (IsErrorBy (IsTaken self.old name.now declared)) }
+        ensures { MatchResult result (λ _. self.new
+            ≡ self.old ++ (record { name = name.now; meaning = meaning_of stands }) ∷ []) (IsErrorBy (IsTaken self.old name.now declared)) }
     {
         if self.names.contains_key(name) {
             return Err(NetError::Fault(NetFault::Duplicate(declared)));
@@ -81,7 +82,7 @@ impl<'a> Scope<'a> {
         self.names.len()
     }
 
-    // What the name at this place stands for.
+    // What the name at this place denotes.
     pub(crate) fn stands_at(&self, place: usize) -> Option<Stands>
         ensures { option_map meaning_of result ≡ option_map (λ (e : Entry). e.meaning) (slice_get self.now place) }
     {

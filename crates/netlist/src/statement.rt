@@ -102,7 +102,7 @@ fn keep_update(updates: &mut Vec<Update>, update: Update) -> Result<(), AllocErr
     Ok(())
 }
 
-// The assigns that these stand for, or the first that is wrong.
+// The assigns that these denote, or the first that is wrong.
 pub(crate) fn checked_assigns(
     alloc: Global,
     scope: &Scope,
@@ -123,7 +123,7 @@ pub(crate) fn checked_assigns(
     Ok(assigns)
 }
 
-// The updates that these stand for, or the first that is wrong.
+// The updates that these denote, or the first that is wrong.
 pub(crate) fn checked_updates(
     alloc: Global,
     scope: &Scope,

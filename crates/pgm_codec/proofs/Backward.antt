@@ -11,7 +11,7 @@ use Rattle.pgm_codec.specs.Headers.{is_line_end, IsInLine, Filling, none, white,
 use Rattle.pgm_codec.specs.Machine.{reading, start, step, run, digit_after, finished}
 use Rattle.pgm_codec.proofs.ByteTests.{is_hash, is_letter, is_five}
 
--- the numbers behind this one
+-- the numbers after this one
 abbrev pub left : Number → ℕ
 left Width = 2
 left Height = 1
@@ -184,7 +184,7 @@ digits_end k n bytes fields f c = record {
 nothing_left : (n b : ℕ) (bs : List ℕ) → is_white b ≡ true → bs ≡ [] → Fields n (b ∷ bs) []
 nothing_left n b bs is e = subst (λ x. Fields n (b ∷ x) []) (sym e) (last is)
 
--- behind a number
+-- after a number
 digits_from_white : (k : Number) (w h v p n b : ℕ) (bs : List ℕ) → is_white b ≡ true → RestOf (finished k (reading Digits k w h v p n)) bs → DigitsRest k n (b ∷ bs)
 digits_from_white Width w h v p n b bs is f = let g = gap_from Height n b bs is f in digits_end Width n (b ∷ bs) g.fields g.numbers g.count
 digits_from_white Height w h v p n b bs is f = let g = gap_from Maxval n b bs is f in digits_end Height n (b ∷ bs) g.fields g.numbers g.count

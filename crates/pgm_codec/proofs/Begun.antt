@@ -44,7 +44,7 @@ live_not_lost Digits l = tt
 live_not_lost Whole l = tt
 live_not_lost Lost l = absurd l
 
--- what completes a header behind a number
+-- what completes a header after a number
 abbrev behind : Number → List ℕ
 behind Width = 32 ∷ 48 ∷ 32 ∷ 48 ∷ 32 ∷ []
 behind Height = 32 ∷ 48 ∷ 32 ∷ []

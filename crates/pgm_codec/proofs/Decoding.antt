@@ -9,7 +9,7 @@ use Rattle.pgm_codec.specs.Rasters.{sample_by}
 abbrev pub AreBytes : List ℕ → Type 0
 AreBytes bytes = (k : ℕ) → get_or bytes k 0 < 256
 
--- the samples of so many in bytes
+-- the samples of this many in bytes
 abbrev pub decoded : Bool → ℕ → List ℕ → List ℕ
 decoded true zero bytes = []
 decoded true (suc n) bytes = get_or bytes 0 0 ∷ decoded true n (drop 1 bytes)

@@ -15,7 +15,7 @@ pub run_append : (xs ys : List ℕ) (r : Reading) → run r (xs ++ ys) ≡ run (
 run_append [] ys r = refl
 run_append (x ∷ xs) ys r = run_append xs ys (step r x)
 
--- the same, so many bytes on
+-- the same, this many bytes on
 at_count : (s : Stage) (k : Number) (w h v p a b : ℕ) (more : List ℕ) → a ≡ b → run (reading s k w h v p a) more ≡ run (reading s k w h v p b) more
 at_count s k w h v p a b more e = ap (λ x. run (reading s k w h v p x) more) e
 
@@ -65,7 +65,7 @@ through_digits (b ∷ bs) more k w h v p n i =
     ∙ through_digits bs more k w h (digit_after v b) p (n + 1) i.1
     ∙ at_count Digits k w h (digits_on (digit_after v b) bs) p (n + 1 + length bs) (n + suc (length bs)) more (one_more n (length bs))
 
--- a numeral behind the gap before it
+-- a numeral after the gap before it
 through_numeral : (digits more : List ℕ) (k : Number) (w h v p n : ℕ) → IsNumeral digits
     → run (reading Filled k w h v p n) (digits ++ more) ≡ run (reading Digits k w h (capped (value_of digits)) n (n + length digits)) more
 through_numeral [] more k w h v p n i = absurd i
@@ -102,7 +102,7 @@ pub opened : (gap tail bytes : List ℕ) → IsGap gap → bytes ≡ gap ++ tail
 opened [] tail bytes g parts = absurd g
 opened (b ∷ bs) tail bytes g parts = (b, bs ++ tail, g.0, parts)
 
--- behind the width and behind the height a gap begins
+-- after the width and after the height a gap begins
 behind_width : (bytes rest : List ℕ) (w h v p n b : ℕ) → is_white b ≡ true → bytes ≡ b ∷ rest
     → run (reading Digits Width w h v p n) bytes ≡ run (reading Gap Height v h v p n) bytes
 behind_width bytes rest w h v p n b is parts =
@@ -120,7 +120,7 @@ behind_height bytes rest w h v p n b is parts =
 counted : (n next : ℕ) (gap digits rest bytes : List ℕ) → next ≡ n + length gap + length digits → bytes ≡ gap ++ (digits ++ rest) → next + length rest ≡ n + length bytes
 counted n next gap digits rest bytes on parts = omega (arith, ap length parts, length-append gap (digits ++ rest), length-append digits rest)
 
--- what comes behind a number, up to the end
+-- what comes after a number, up to the end
 from_maxval : (bytes : List ℕ) (w h v p n : ℕ) → Fields n bytes [] → run (reading Digits Maxval w h v p n) bytes ≡ reading Whole Maxval w h v p (n + length bytes)
 from_maxval bytes w h v p n (last {b = b} is) = number_ends Maxval w h v p n b is
 

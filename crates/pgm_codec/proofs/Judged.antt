@@ -1,4 +1,4 @@
--- What a raster is told to be is what it is.
+-- What a raster is specified to be is what it is.
 use Rattle.std.proofs.Common.{◌≡◌, ◌∙◌, sym, ap, refl, subst, ◌++◌, List, ℕ, ◌+◌, ◌*◌, ◌<◌, ◌≤◌, Bool, true, false, arith, length, take, drop, get_or, append_assoc, length-append, Result, Ok, Err}
 use Rattle.std.specs.List.{flat_map}
 use Rattle.std.proofs.lemmas.List.{get_or-take, get_or-drop, take-append-drop, take_all, length-take}
@@ -63,7 +63,7 @@ too_short bytes h seen held need e a n l f =
     let same : seen ≡ behind h bytes = e ∙ all in
     record { held_is = a ∙ ap length same; need_is = n; short = l; fit = subst (λ x. AllFit h.maxval x) same f }
 
--- what is behind the header
+-- what follows the header
 rest_is : (bytes : List ℕ) (h : Header) (r : Reads bytes h) → behind h bytes ≡ r.rest
 rest_is bytes h r = ap (λ n. drop n bytes) r.length_is ∙ ap (λ x. drop (length r.front) x) r.parts ∙ drop-append_seam r.front r.rest
 
@@ -109,7 +109,7 @@ begins_image bytes h seen are r e enough fit =
       },
     )
 
--- what an image says of the bytes behind its header
+-- what an image says of the bytes after its header
 pub record Holds (raster : List ℕ) (width height maxval : ℕ) (samples : List ℕ) : Type 0 where
   pub enough : width * height * sample_size maxval ≤ length raster
   pub same : (k : ℕ) → k < width * height → sample_at maxval raster k ≡ get_or samples k 0

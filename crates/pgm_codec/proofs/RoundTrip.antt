@@ -86,7 +86,7 @@ not_capped : (n : ℕ) → n < 2 ^ 32 → n ≡ capped n
 unfolding capped
 not_capped n l = omega arith
 
--- one number behind a gap of one byte
+-- one number after a gap of one byte
 abbrev at_place : ℕ → ℕ → Field
 at_place n at = record { value = n; place = at }
 

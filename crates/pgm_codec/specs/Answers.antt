@@ -1,4 +1,4 @@
--- What is answered on bytes, in words of the definition of a header alone.
+-- What is answered on bytes, only in words of the definition of a header.
 use Rattle.std.specs.Prelude.{◌≡◌, ℕ, ◌+◌, ◌<◌, ◌≤◌, List, ◌∷◌, ◌++◌, length, take, Result, Ok, Err, ◌⊎◌}
 use Rattle.dk_base.specs.declared.TheConstants.{MAX_HEADER_BYTES, MAX_MAXVAL}
 use Rattle.pgm_codec.specs.Headers.{Field, HeaderText, IsHeader}

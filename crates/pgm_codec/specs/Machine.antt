@@ -25,7 +25,7 @@ lost r = reading Lost r.number r.width r.height r.value r.first r.length
 abbrev pub moved : Stage → Reading → Reading
 moved stage r = reading stage r.number r.width r.height r.value r.first (r.length + 1)
 
--- after the white space byte behind a number
+-- after the white space byte after a number
 abbrev pub finished : Number → Reading → Reading
 finished Width r = reading Filled Height r.value r.height r.value r.first (r.length + 1)
 finished Height r = reading Filled Maxval r.width r.value r.value r.first (r.length + 1)

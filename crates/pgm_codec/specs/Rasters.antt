@@ -23,7 +23,7 @@ pub record FirstGreat (maxval : ℕ) (bytes : List ℕ) (index : ℕ) : Type 0 w
   pub great : maxval < sample_at maxval bytes index
   pub before : (k : ℕ) → k < index → sample_at maxval bytes k ≤ maxval
 
--- the bytes behind the header
+-- the bytes after the header
 abbrev pub behind : Header → List ℕ → List ℕ
 behind header bytes = drop header.length bytes
 

@@ -3,7 +3,7 @@ use Rattle.std.specs.Prelude.{◌≡◌, ℕ, ◌-◌, ◌^◌, ◌≤◌, List,
 use Rattle.std.specs.List.{flat_map, AllByRecursion}
 use Rattle.pgm_codec.specs.Images.{Image}
 
--- The images fit the inputs of a frame, one for each input in order: each has the frame's size, and its maxval is in the input's type, of so many bits without a sign.
+-- The images fit the inputs of a frame, one for each input in order: each has the frame's size, and its maxval is in the input's type, of this many bits without a sign.
 abbrev pub FitsInputs : ℕ → ℕ → List ℕ → List Image → Type 0
 FitsInputs width height [] [] = Unit {0}
 FitsInputs width height (b ∷ bs) (p ∷ ps) = (p.width ≡ width) × (p.height ≡ height) × (p.maxval ≤ 2 ^ b - 1) × FitsInputs width height bs ps

@@ -12,7 +12,9 @@ mod scan;
 mod write;
 
 pub use header::{Header, HeaderFault};
-pub use laws::{one_answer, one_cut, one_reading, read_again, rows_are_rasters};
+pub use laws::{
+    one_answer_law, one_cut_law, one_reading_law, read_again_law, rows_are_rasters_law,
+};
 pub use raster::{RasterFault, check_raster, check_row, sample};
 pub use read::read_header;
 pub use scan::{HeaderScan, Scan};

@@ -8,7 +8,7 @@ ghost use Rattle.pgm_codec.specs.Rasters.{sample_by, sample_at, AllFit, FirstGre
 
 use crate::header::Header;
 
-/// Why the bytes behind a header are not its raster.
+/// Why the bytes after a header are not its raster.
 #[derive(Clone, Copy, Debug, PartialEq, Eq, thiserror::Error)]
 pub enum RasterFault {
     /// The first sample above maxval, counted from 0.
@@ -83,7 +83,7 @@ fn raster_length(header: &Header) -> u128
     u128::from(header.width) * u128::from(header.height) * u128::from(sample_size(header.maxval))
 }
 
-// The first so many bytes, or all where there are fewer.
+// The first this many bytes, or all where there are fewer.
 fn first_bytes(bytes: &[u8], most: u128) -> &[u8]
     ensures { result.now ≡ take most bytes.now }
 {
@@ -94,7 +94,7 @@ fn first_bytes(bytes: &[u8], most: u128) -> &[u8]
     }
 }
 
-// The bytes behind the header.
+// The bytes after the header.
 fn behind<'a>(header: &Header, bytes: &'a [u8]) -> &'a [u8]
     requires { Reads bytes.now header.now }
     ensures { result.now ≡ bytes_behind header.now bytes.now }

@@ -15,7 +15,7 @@ pub(crate) enum Stage {
     Start,
     // The `P`.
     Letter,
-    // The `5`, behind which a gap begins.
+    // The `5`, after which a gap begins.
     Gap,
     // A byte of a gap, outside comments.
     Filled,
@@ -23,7 +23,7 @@ pub(crate) enum Stage {
     Comment,
     // A digit.
     Digits,
-    // The white space byte behind maxval.
+    // The white space byte after maxval.
     Whole,
     // A byte that continues no header.
     Lost,
@@ -106,7 +106,7 @@ impl Reading {
         }
     }
 
-    // The white space byte behind a number was read.
+    // The white space byte after a number was read.
     fn finished(self) -> Self
         requires { self.length < MAX_HEADER_BYTES }
         ensures { result ≡ finished_at self.number self }

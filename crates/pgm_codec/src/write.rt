@@ -6,7 +6,7 @@ ghost use Rattle.pgm_codec.specs.Images.{header_of, sample_bytes};
 
 use itoa::Buffer;
 
-// Puts a piece at this place, and answers the place behind it.
+// Puts a piece at this place, and answers the place after it.
 fn put(out: &mut [u8], at: usize, piece: &[u8]) -> usize
     requires { at + length piece.now ≤ length out.old }
     ensures end { result ≡ at + length piece.now }
@@ -17,7 +17,7 @@ fn put(out: &mut [u8], at: usize, piece: &[u8]) -> usize
     end
 }
 
-// Puts a number in decimal and a byte behind it.
+// Puts a number in decimal and a byte after it.
 fn put_number(out: &mut [u8], at: usize, number: u32, last: u8) -> usize
     requires { at + length (decimal number) + 1 ≤ length out.old }
     ensures end { result ≡ at + length (decimal number) + 1 }

@@ -1,4 +1,4 @@
--- A maxval's first digit stands in its header.
+-- A maxval's first digit is in its header.
 use Rattle.std.proofs.Common.{List, [], ◌∷◌, ◌++◌, ℕ, ◌+◌, ◌≤◌, arith, ap, length, length-append}
 use Rattle.pgm_codec.specs.Headers.{Field, Fields, last, field}
 use Rattle.pgm_codec.specs.Answers.{OutOfRange}

@@ -67,7 +67,7 @@ spelled_byte s below =
     let low : s ≡ s % 256 = omega (arith, below) in
     ap (λ x. x ∷ s ∷ []) high ∙ ap (λ x. s / 256 ∷ x ∷ []) low
 
--- a byte more, behind a zero byte
+-- a byte more, after a zero byte
 pub byte_more : (old file samples : List ℕ) (i s : ℕ) → i < length samples → s < 256 → s ≡ get_or samples i s → file ≡ old ++ flat_map (spelled false) (take i samples) → (file ++ 0 ∷ []) ++ s ∷ [] ≡ old ++ flat_map (spelled false) (take (i + 1) samples)
 byte_more old file samples i s lt below is done =
     append_assoc file (0 ∷ []) (s ∷ []) ∙ ap (λ x. x ++ 0 ∷ s ∷ []) done ∙ append_assoc old (flat_map (spelled false) (take i samples)) (0 ∷ s ∷ [])

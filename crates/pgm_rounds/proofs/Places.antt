@@ -9,7 +9,7 @@ use Rattle.pgm_rounds.specs.Files.{joined}
 abbrev Images : Type 0
 Images = List Image
 
--- an image fits an input of so many bits
+-- an image fits an input of this many bits
 pub record FitsOne (w h b : ℕ) (p : Image) : Type 0 where
   pub width : p.width ≡ w
   pub height : p.height ≡ h
@@ -41,7 +41,7 @@ one_each w h [] (p ∷ ps) f = absurd f
 one_each w h (n ∷ ns) [] f = absurd f
 one_each w h (n ∷ ns) (p ∷ ps) f = ap suc (one_each w h ns ps f.3)
 
--- the image behind the first ones fits the input at its place
+-- the image after the first ones fits the input at its place
 pub fits_next : (w h : ℕ) (bits : List ℕ) (a round : Images) (x y : Images) (q : Image) (b : ℕ) → FitsInputs w h bits round → slice_get bits (length a) ≡ Some b → round ++ y ≡ a ++ q ∷ x → FitsOne w h b q
 fits_next w h [] [] round x y q b f s e = cc
 fits_next w h [] (v ∷ vs) round x y q b f s e = cc
@@ -68,7 +68,7 @@ first_whole w h inputs r rs further o = o.whole.0
 others : (w h : ℕ) (inputs : List ℕ) (r : Images) (rs : List Images) (further : Images) → InOrder w h inputs (r ∷ rs) further → InOrder w h inputs rs further
 others w h inputs r rs further o = record { whole = o.whole.1; begun = o.begun; room = o.room }
 
--- behind the first round
+-- after the first round
 behind : (w h : ℕ) (inputs : List ℕ) (r s x y : Images) → FitsInputs w h inputs r → FitsInputs w h inputs s → r ++ x ≡ s ++ y → x ≡ y
 behind w h inputs r s x y f g e =
     let same : r ≡ s = same_front w h inputs r s x y f g e in

@@ -30,7 +30,7 @@ length_raster b (s ∷ samples) =
 abbrev told_by : (bytes : List ℕ) (h : Header) (samples : List ℕ) → BeginsImage bytes h samples → Header
 told_by bytes h samples b = record { width = h.width; height = h.height; maxval = h.maxval; length = length b.is_image.header }
 
--- the length that a header tells is that of the image's header
+-- the length that a header states is that of the image's header
 length_of_header : OneHeader → (bytes : List ℕ) (h : Header) (samples : List ℕ) → Reads bytes h → (b : BeginsImage bytes h samples) → h.length ≡ length b.is_image.header
 length_of_header one bytes h samples r b = ap (λ x. x.length) (taken_out h (told_by bytes h samples b) (one bytes (Ok h) (Ok (told_by bytes h samples b)) r reads))
   where

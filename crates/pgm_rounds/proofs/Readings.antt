@@ -24,10 +24,10 @@ OneCut = (width height : ℕ) (inputs : List ℕ) (images : List Image) (rounds 
 abbrev pub OneHeader : Type 0
 OneHeader = (bytes : List ℕ) (a b : Result Header HeaderFault) → Judges bytes a → Judges bytes b → a ≡ b
 
--- and on the raster behind it
+-- and on the raster after it
 abbrev pub OneRaster : Type 0
 OneRaster = (bytes : List ℕ) (header : Header) → Reads bytes header → (a b : Result Unit RasterFault) → JudgesRaster bytes header a → JudgesRaster bytes header b → a ≡ b
 
--- the samples of a raster stand at their places in its bytes
+-- the samples of a raster are at their places in its bytes
 abbrev pub SamplesPlaced : Type 0
 SamplesPlaced = (bytes rest samples : List ℕ) (width height maxval : ℕ) → IsRaster bytes width height maxval samples → (k : ℕ) → k < width * height → get_or samples k 0 ≡ sample_at maxval (bytes ++ rest) k

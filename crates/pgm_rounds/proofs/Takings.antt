@@ -62,7 +62,7 @@ no_bytes : (between rest : List ℕ) → [] ≡ between ++ rest → 0 < length r
 no_bytes between rest e l = omega (arith, ap length e, length-append between rest)
 
 module _ (one_image : OneImage) (one_file : OneFile) (one_header : OneHeader) (one_raster : OneRaster) (ports : Ports) (bytes : List ℕ) where
-  -- no image that is in order stands where one is refused
+  -- no image that is in order is where one is refused
   goes_on : (f : FileFault) (x : IsRefused ports bytes f) (rounds : List (List Image)) (further : List Image) (front rest between : List ℕ) (q : Image) (more : List Image) → Taken ports bytes rounds further front rest
       → joined rounds ++ further ≡ (joined x.rounds ++ x.further) ++ q ∷ more → AreImages between (q ∷ more) → x.rest ≡ between ++ rest → ⊥
   goes_on f x rounds further front rest between q more t e a r =
@@ -74,7 +74,7 @@ module _ (one_image : OneImage) (one_file : OneFile) (one_header : OneHeader) (o
   both : (rs : List (List Image)) (f : List Image) (a b : List ℕ) (ss : List (List Image)) (g : List Image) (c d : List ℕ) → Taken ports bytes rs f a b → Taken ports bytes ss g c d → Compared (joined rs ++ f) (joined ss ++ g) b d
   both rs f a b ss g c d t u = compared one_image (joined rs ++ f) (joined ss ++ g) a c b d t.images u.images (sym t.parts ∙ u.parts)
 
-  -- all bytes are images that are in order: none is refused, and a byte behind them is none
+  -- all bytes are images that are in order: none is refused, and a byte after them is none
   whole_not_refused : (rounds : List (List Image)) (further : List Image) (f : FileFault) → Taken ports bytes rounds further bytes [] → 0 < length (joined rounds ++ further) → IsRefused ports bytes f → ⊥
   whole_not_refused rounds further f t l x = decided (both x.rounds x.further x.front x.rest rounds further bytes [] x.taken t)
     where

@@ -41,13 +41,13 @@ pub record HasSize (size : Size) (header : Header) : Type 0 where
   pub width : header.width ≡ size.width
   pub height : header.height ≡ size.height
 
--- The bytes begin with a header of the frame's size and with a maxval that an input of so many bits takes.
+-- The bytes begin with a header of the frame's size and with a maxval that an input of this many bits takes.
 pub record IsHeaded (size : Size) (bits : ℕ) (bytes : List ℕ) (header : Header) : Type 0 where
   pub reads : Reads bytes header
   pub sized : HasSize size header
   pub maxval : header.maxval ≤ 2 ^ bits - 1
 
--- Why bytes, which stand at this offset of a file behind so many images, do not begin with an image for an input of so many bits.
+-- Why bytes, which are at this offset of a file after this many images, do not begin with an image for an input of this many bits.
 abbrev pub Refused : Size → (bits number offset : ℕ) → List ℕ → FileFault → Type 0
 Refused size bits number offset bytes (Magic at) = Refuses bytes header.Magic × (at ≡ offset)
 Refused size bits number offset bytes LongHeader = Refuses bytes header.LongHeader
@@ -73,7 +73,7 @@ pub record IsRefused (ports : Ports) (bytes : List ℕ) (fault : FileFault) : Ty
   pub input : slice_get ports.inputs (length further) ≡ Some bits
   pub refused : Refused ports.size bits (length (joined rounds ++ further)) (length front) rest fault
 
--- A byte stands behind 65,536 images that are in order.
+-- A byte follows 65,536 images that are in order.
 pub record IsTooMany (ports : Ports) (bytes : List ℕ) : Type 0 where
   pub rounds : List (List Image)
   pub further : List Image
@@ -83,7 +83,7 @@ pub record IsTooMany (ports : Ports) (bytes : List ℕ) : Type 0 where
   pub full : length (joined rounds ++ further) ≡ MAX_FILE_IMAGES
   pub more : 0 < length rest
 
--- All images are in order, and the last round has so many of its images.
+-- All images are in order, and the last round has this many of its images.
 pub record EndsInRound (ports : Ports) (bytes : List ℕ) (held : ℕ) : Type 0 where
   pub rounds : List (List Image)
   pub further : List Image
@@ -105,7 +105,7 @@ IsFault ports bytes (Maxval maxval) = IsRefused ports bytes (Maxval maxval)
 IsFault ports bytes (SampleTooGreat index) = IsRefused ports bytes (SampleTooGreat index)
 IsFault ports bytes (Short held need) = IsRefused ports bytes (Short held need)
 
--- a file's fault, or want of memory
+-- a file's fault, or out of memory
 abbrev pub IsError : Ports → List ℕ → FileError → Type 0
 IsError ports bytes (error.Fault fault) = IsFault ports bytes fault
 IsError ports bytes error.OutOfMemory = Unit {0}
@@ -117,7 +117,7 @@ frame_of image = record { width = image.width; height = image.height; samples = 
 abbrev pub frames_of : List Round → List (List Frame)
 frames_of rounds = map (λ r. r.frames.items) rounds
 
--- a whole frame of this size for an input of so many bits
+-- a whole frame of this size for an input of this many bits
 pub record IsPortFrame (size : Size) (bits : ℕ) (f : Frame) : Type 0 where
   pub width : f.width ≡ size.width
   pub height : f.height ≡ size.height

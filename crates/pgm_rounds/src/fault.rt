@@ -32,7 +32,7 @@ pub enum FileFault {
     /// Bytes of an image's raster that are there, and bytes that it has to have.
     #[error("Short {held} {need}")]
     Short { held: u128, need: u128 },
-    /// A byte behind 65,536 images.
+    /// A byte after 65,536 images.
     #[error("Count")]
     Count,
     /// The images of the last round that are there, and those that it has to have.
@@ -40,7 +40,7 @@ pub enum FileFault {
     Round { held: usize, need: usize },
 }
 
-/// Why a file was not read: its first fault, or want of memory.
+/// Why a file was not read: its first fault, or out of memory.
 #[derive(Clone, Copy, Debug, PartialEq, Eq, thiserror::Error)]
 pub enum FileError {
     #[error("{0}")]

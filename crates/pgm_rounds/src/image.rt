@@ -15,7 +15,7 @@ use dk_frames::{Frame, Samples};
 use pgm_codec::{Header, HeaderFault, RasterFault, check_raster, read_header};
 use std::alloc::Global;
 
-// Where an image stands in a file: behind so many images and so many bytes.
+// Where an image is in a file: after this many images and this many bytes.
 #[derive(Clone, Copy)]
 pub(crate) struct Place {
     pub(crate) images: usize,
@@ -40,7 +40,7 @@ fn next_header(offset: usize, rest: &[u8]) -> Result<Header, FileFault>
     }
 }
 
-// The greatest sample of so many bits.
+// The greatest sample of this many bits.
 fn greatest_sample(width: u8) -> u32
     requires { width ≤ MAX_PORT_WIDTH }
     ensures { result ≡ 2 ^ width - 1 }
@@ -48,7 +48,7 @@ fn greatest_sample(width: u8) -> u32
     (1 << width) - 1
 }
 
-// Whether the image has the frame's size, and a maxval that an input of so many bits takes.
+// Whether the image has the frame's size, and a maxval that an input of this many bits takes.
 fn check_header(size: FrameSize, width: u8, header: &Header, rest: &[u8]) -> Result<(), FileFault>
     requires width { width ≤ MAX_PORT_WIDTH }
     requires reads { Reads rest.now header.now }
@@ -88,7 +88,8 @@ fn check_samples(
     requires reads { Reads rest.now header.now }
     requires sized { HasSize (size_of size) header.now }
     ensures image { IfOk result (λ _. (samples : List ℕ) × BeginsImage rest.now header.now samples) }
-    ensures fault { IfErr result (λ f. (bits offset : ℕ) → IsHeaded (size_of size) bits rest.now header.now → Refused (size_of size) bits images offset rest.now f) }
+    ensures fault { IfErr result (λ f. (bits offset : ℕ) → IsHeaded (size_of size) bits rest.now header.now
+        → Refused (size_of size) bits images offset rest.now f) }
 {
     match check_raster(header, rest) {
         Ok(()) => Ok(()),
@@ -121,7 +122,7 @@ fn bytes_of(alloc: Global, raster: &[u8]) -> Result<Samples, OutOfMemory>
     Ok(Samples::from_bytes(samples))
 }
 
-// So many samples of two bytes each.
+// This many samples of two bytes each.
 fn pairs_of(alloc: Global, raster: &[u8], count: usize) -> Result<Vec<u16>, OutOfMemory>
     requires { 2 * count ≤ length raster.now }
     ensures { IfOk result (λ samples. AreSamples false raster.now count samples.items) }
@@ -133,7 +134,7 @@ fn pairs_of(alloc: Global, raster: &[u8], count: usize) -> Result<Vec<u16>, OutO
         .collect(alloc)
 }
 
-// So many samples of two bytes each.
+// This many samples of two bytes each.
 fn words_of(alloc: Global, raster: &[u8], count: usize) -> Result<Samples, OutOfMemory>
     requires { 2 * count ≤ length raster.now }
     ensures { IfOk result (AreSamples false raster.now count) }
@@ -149,8 +150,8 @@ fn read_samples(alloc: Global, header: &Header, rest: &[u8]) -> Result<Samples, 
     requires few { header.now.width * header.now.height ≤ MAX_SIDE * MAX_SIDE }
     ensures { IfOk result (λ read. (samples : List ℕ) → BeginsImage rest.now header.now samples → read ≡ samples) }
 {
-    pgm_codec::one_answer();
-    pgm_codec::rows_are_rasters();
+    pgm_codec::one_answer_law();
+    pgm_codec::rows_are_rasters_law();
     let raster = rest.split_at(header.length).1;
     let count = header.width as usize * header.height as usize;
     if header.maxval < 256 {
@@ -180,7 +181,7 @@ pub(crate) struct ReadImage {
     pub(crate) length: usize,
 }
 
-// The image with which the bytes at this place begin, for an input of so many bits.
+// The image with which the bytes at this place begin, for an input of this many bits.
 pub(crate) fn read_image(
     alloc: Global,
     size: FrameSize,
@@ -194,7 +195,7 @@ pub(crate) fn read_image(
     ensures next { IfOk result (λ image. IsNext (size_of size) width rest.now image.length image.frame) }
     ensures refusal { IfErr result (IsRefusal (size_of size) width place.images place.offset rest.now) }
 {
-    pgm_codec::one_answer();
+    pgm_codec::one_answer_law();
     let header = judge(size, width, place, rest)?;
     let samples = read_samples(alloc, &header, rest)?;
     let length = header.length + raster_length(&header);

@@ -10,7 +10,7 @@ mod rounds;
 mod writing;
 
 pub use fault::{FileError, FileFault};
-pub use laws::one_file;
+pub use laws::one_file_law;
 pub use round::Round;
 pub use rounds::read_rounds;
 pub use writing::write_image;

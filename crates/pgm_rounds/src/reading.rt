@@ -1,4 +1,4 @@
-// Where the reading of a file stands.
+// How far the reading of a file is.
 
 ghost use Rattle.std.specs.Prelude.{◌≡◌, ◌+◌, ◌<◌, ◌≤◌, ◌++◌, ◌∷◌, [], length, OnOk, IfOk, IfErr};
 ghost use Rattle.std.specs.List.{All};
@@ -18,7 +18,7 @@ use dk_base::{FrameSize, OutOfMemory};
 use dk_frames::Frame;
 use std::alloc::Global;
 
-// The rounds that were read, the frames of the round that is begun, and the place behind them.
+// The rounds that were read, the frames of the round that is begun, and the place after them.
 #[derive(Drop)]
 pub(crate) struct Reading {
     pub(crate) rounds: Vec<Round>,
@@ -49,7 +49,8 @@ impl Reading {
         ensures begun { OnOk result (length self.old.frames.items + 1 < inputs → self.new.frames.items ≡ self.old.frames.items ++ frame ∷ []) }
         ensures kept { OnOk result (length self.old.frames.items + 1 < inputs → frames_of self.new.rounds.items ≡ frames_of self.old.rounds.items) }
         ensures fresh { OnOk result (length self.old.frames.items + 1 ≡ inputs → self.new.frames.items ≡ []) }
-        ensures whole { OnOk result (length self.old.frames.items + 1 ≡ inputs → frames_of self.new.rounds.items ≡ frames_of self.old.rounds.items ++ (self.old.frames.items ++ frame ∷ []) ∷ []) }
+        ensures whole { OnOk result (length self.old.frames.items + 1 ≡ inputs
+            → frames_of self.new.rounds.items ≡ frames_of self.old.rounds.items ++ (self.old.frames.items ++ frame ∷ []) ∷ []) }
     {
         self.frames.push(frame)?;
         if self.frames.len() == inputs {

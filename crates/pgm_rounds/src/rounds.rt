@@ -24,7 +24,8 @@ pub fn read_rounds(
 ) -> Result<Vec<Round>, FileError>
     requires some { 0 < length widths.now }
     requires widths { All (λ width. width ≤ MAX_PORT_WIDTH) widths.now }
-    ensures fits { IfOk result (λ rounds. (images : List (List Image)) × FitsFile (ports_with (size_of size) widths.now) bytes.now images × (frames_of rounds.items ≡ map (map frame_of) images)) }
+    ensures fits { IfOk result (λ rounds. (images : List (List Image)) × FitsFile (ports_with (size_of size) widths.now) bytes.now images
+        × (frames_of rounds.items ≡ map (map frame_of) images)) }
     ensures frames { IfOk result (λ rounds. All (IsPortRound (ports_with (size_of size) widths.now)) rounds.items) }
     ensures fault { IfErr result (IsError (ports_with (size_of size) widths.now) bytes.now) }
 {

@@ -55,7 +55,7 @@ fn add_pairs(samples: &[u16], file: &mut Vec<u8>) -> Result<(), OutOfMemory>
     Ok(())
 }
 
-// Adds each byte behind a zero byte, as samples of two bytes each.
+// Adds each byte after a zero byte, as samples of two bytes each.
 fn add_wide_bytes(samples: &[u8], file: &mut Vec<u8>) -> Result<(), OutOfMemory>
     ensures { OnOk result (file.new.items ≡ file.old.items ++ flat_map (spelled false) samples.now) }
 {

@@ -1,8 +1,8 @@
 //! Files of the Netpbm form with answers that were worked out by hand.
 
 use pgm_codec::{
-    Header, HeaderFault, HeaderScan, RasterFault, Scan, check_raster, check_row, one_reading,
-    put_sample, read_again, read_header, rows_are_rasters, sample, write_header,
+    Header, HeaderFault, HeaderScan, RasterFault, Scan, check_raster, check_row, one_reading_law,
+    put_sample, read_again_law, read_header, rows_are_rasters_law, sample, write_header,
 };
 use std::test::Fail;
 
@@ -156,7 +156,7 @@ fn output_is_written(rt: HostRuntime) {
     assert_eq!(rt; pair, [1, 0x90]);
     assert_eq!(rt; put_sample(7, 255, &mut pair), 1);
     assert_eq!(rt; pair[0], 7);
-    one_reading();
-    rows_are_rasters();
-    read_again();
+    one_reading_law();
+    rows_are_rasters_law();
+    read_again_law();
 }

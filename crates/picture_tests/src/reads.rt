@@ -125,7 +125,7 @@ fn reads_of_one_body(rt: HostRuntime) -> Result<(), Fail> {
 fn two_images(alloc: Global, row: usize) -> Result<Vec<(Ty, Expr)>, AllocError> {
     let mut images = Vec::new(alloc);
     match row {
-        // the first is reached through a dead read alone
+        // the first is reached only through a dead read
         0 => {
             images.push((BYTE, read(0, 0, 0)))?;
             images.push((SUM, sum(alloc, read(2, 5, 0), read(0, 0, 0))?))?;

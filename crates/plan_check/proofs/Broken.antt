@@ -36,7 +36,7 @@ breaks_split [] ts m h = inr h
 breaks_split (r ∷ rs) ts m (inl h) = inl (inl h)
 breaks_split (r ∷ rs) ts m (inr h) = elim (breaks_split rs ts m h) [ inl x ↦ inl (inr x) | inr x ↦ inr x ]
 
--- each of these rules is at line n or behind it
+-- each of these rules is at line n or after it
 abbrev pub From : ℕ → List (ℕ × Type 0) → Type 0
 From n [] = Unit {0}
 From n (r ∷ rs) = (n ≤ r.0) × From n rs

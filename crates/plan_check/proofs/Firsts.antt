@@ -28,7 +28,7 @@ abbrev flow_rules : System → Report → List (ℕ × Type 0)
 flow_rules s r = (last_number r, FlowHolds s r.flow r.bits) ∷ []
 
 module _ (s : System) (r : Report) where
-  -- the last line stands behind those of the flow, and is no earlier than that of the bits
+  -- the last line follows those of the flow, and is no earlier than that of the bits
   pub last_is : last_number r ≡ flow_number r 0 + length r.flow + length (unless_first r.version (end_line ∷ [])) - 1
   last_is =
       let h = head_lines r in

@@ -1,4 +1,4 @@
--- Live reads by place stand in order, so that none stands twice.
+-- Live reads by place are in order, so that none occurs twice.
 use Rattle.std.proofs.Common.{◌≡◌, ◌<◌, ◌≤◌, ℕ, pos, List, map, length, slice_index_or, ◌+◌, ◌∙◌, sym, ap, subst, arith, inl, inr}
 use Rattle.std.proofs.lemmas.Int.{ints}
 use Rattle.std.proofs.lemmas.Bool.{cases_eq}
@@ -61,7 +61,7 @@ AreSorted-placed s is i j d lt below =
     subst (λ x. IsBefore x (slice_index_or (map by_place (placed_reads s)) j d)) (sym (at i (omega (arith, lt, short))))
     (subst (λ y. IsBefore (by_place (placed images a)) y) (sym (at j short)) here)
 
--- of two reads in order the one stands before the other
+-- of two reads in order the one comes before the other
 sorted_at : (reads : List PlacedRead) → AreSorted reads → (i j : ℕ) (d : PlacedRead) → i < j → j < length reads → IsEarlier (slice_index_or reads i d) (slice_index_or reads j d)
 sorted_at reads sorted i j d lt below =
     let before = sorted i j (by_place d) lt (omega (arith, below, length-map reads by_place)) in
@@ -71,7 +71,7 @@ sorted_at reads sorted i j d lt below =
 pub in_order : (s : System) → IsSystem s → (i j : ℕ) (d : PlacedRead) → i < j → j < length (placed_reads s) → IsEarlier (slice_index_or (placed_reads s) i d) (slice_index_or (placed_reads s) j d)
 in_order s is = sorted_at (placed_reads s) (AreSorted-placed s is)
 
--- no two reads at places of a list in order are the same, and none is the same as one that stands before or behind its place
+-- no two reads at places of a list in order are the same, and none is the same as one that comes before or after its place
 module _ (reads : List PlacedRead) (sorted : AreSorted reads) (r : PlacedRead) (m : ℕ) (d : PlacedRead) (within : m < length reads) where
   pub not_before : IsEarlier (slice_index_or reads m d) r → (k : ℕ) (e : PlacedRead) → k < m + 1 → slice_index_or reads k e ≡ r → ⊥
   not_before h k e lt same =

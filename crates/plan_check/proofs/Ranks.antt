@@ -16,7 +16,7 @@ use Rattle.plan_check.specs.Judging.{line_at}
 use Rattle.plan_check.specs.Orders.{IsEarlier}
 use Rattle.plan_check.proofs.Order.{in_order, not_both}
 
--- of two lines of one kind that name an image alone
+-- of two lines of one kind that name only an image
 image_rises : (f g : ℕ) → IsBefore (record { f = f; g = 0; dx = pos 0; dy = pos 0 }) (record { f = g; g = 0; dx = pos 0; dy = pos 0 }) → f < g
 image_rises f g b = elim (cases_lt f g) [
   | inl lt ↦ lt
@@ -27,7 +27,7 @@ image_rises f g b = elim (cases_lt f g) [
       absurd (omega (arith, ints, apart))
 ]
 
--- a line of a later kind stands before none of an earlier one
+-- a line of a later kind comes before none of an earlier one
 kinds_fall : (j k : ℕ) → k < j → j ≤ k → ⊥
 kinds_fall j k lt le = omega (arith, lt, le)
 

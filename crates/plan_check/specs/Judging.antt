@@ -31,7 +31,7 @@ abbrev pub Judges : System → Report → Verdict → Type 0
 Judges s r Yes = Keeps (number_rules s r)
 Judges s r (No line) = IsFirst (Breaks (number_rules s r)) line
 
--- A report at the system's age, of as many images and outputs as the system has, and in whose text the flow lines stand in order. Every report that meets its version and is of this age and these counts suits.
+-- A report at the system's age, of as many images and outputs as the system has, and in whose text the flow lines are in order. Every report that meets its version and is of this age and these counts suits.
 pub record Suits (s : System) (r : Report) : Type 0 where
   pub age : r.age ≡ s.age
   pub columns : r.width ≤ MAX_SIDE

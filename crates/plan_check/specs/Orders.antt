@@ -1,4 +1,4 @@
--- Used by private functions alone.
+-- Used by private functions only.
 -- The order of live reads by place: that of live reads, with places for the numbers of the images.
 use Rattle.std.specs.Prelude.{List, map}
 use Rattle.dk_base.specs.declared.stencils.LiveRead.{LiveRead}

@@ -27,7 +27,7 @@ pub record IsOfSize (s : Stencils) (r : Report) : Type 0 where
   pub width : r.width ≡ s.width
   pub height : r.height ≡ s.height
 
--- The rules by the program, in the order of the lines. What is missing is told at the line that stands in its place.
+-- The rules by the program, in the order of the lines. What is missing is specified at the line that is in its place.
 abbrev pub program_rules : (names : List (List ℕ)) → Stencils → Report → List (ℕ × Type 0)
 program_rules names s r =
     (size_number r, IsOfSize s r)

@@ -1,4 +1,4 @@
--- Used by private functions alone.
+-- Used by private functions only.
 -- What the lines of a report sum to: image lines to bits, and flow lines, each on the constraint that it names. Laws lead from there to the bits of the delays, and to a flow on all constraints.
 use Rattle.std.specs.Prelude.{◌≡◌, ℕ, pos, ◌<◌, ◌-ℤ◌, ◌*◌, List, map, sum_by}
 use Rattle.raster_delay.specs.declared.network.Constraint.{Constraint}

@@ -23,7 +23,8 @@ use report_text::{FlowLine, ImageLine, Report};
 // The place of the first image line that is wrong.
 fn wrong_image(system: &System, images: &[ImageLine]) -> Option<usize>
     requires count { length images.now ≡ image_count system.now }
-    ensures { MatchOption result ((k : ℕ) → k < length images.now → ImageHolds system.now images.now k) (λ w. IsFirst (Misses (λ k. ImageHolds system.now images.now k) (length images.now)) w) }
+    ensures { MatchOption result ((k : ℕ) → k < length images.now
+        → ImageHolds system.now images.now k) (λ w. IsFirst (Misses (λ k. ImageHolds system.now images.now k) (length images.now)) w) }
 {
     for k in 0..images.len() {
         if !image_holds(system, images, k) {
@@ -37,7 +38,8 @@ fn wrong_image(system: &System, images: &[ImageLine]) -> Option<usize>
 fn wrong_latency(system: &System, images: &[ImageLine], latencies: &[u64]) -> Option<usize>
     requires count { length images.now ≡ image_count system.now }
     requires outputs { length latencies.now ≡ length system.now.stencils.outputs }
-    ensures { MatchOption result ((k : ℕ) → k < length latencies.now → LatencyHolds system.now images.now latencies.now k) (λ w. IsFirst (Misses (λ k. LatencyHolds system.now images.now latencies.now k) (length latencies.now)) w) }
+    ensures { MatchOption result ((k : ℕ) → k < length latencies.now
+        → LatencyHolds system.now images.now latencies.now k) (λ w. IsFirst (Misses (λ k. LatencyHolds system.now images.now latencies.now k) (length latencies.now)) w) }
 {
     for k in 0..latencies.len() {
         if !latency_holds(system, images, latencies, k) {
@@ -49,7 +51,8 @@ fn wrong_latency(system: &System, images: &[ImageLine], latencies: &[u64]) -> Op
 
 // The place of the first flow line of no constraint.
 fn wrong_constraint(system: &System, flow: &[FlowLine]) -> Option<usize>
-    ensures { MatchOption result ((k : ℕ) → k < length flow.now → HasConstraint system.now (line_at flow.now k)) (λ w. IsFirst (Misses (λ k. HasConstraint system.now (line_at flow.now k)) (length flow.now)) w) }
+    ensures { MatchOption result ((k : ℕ) → k < length flow.now
+        → HasConstraint system.now (line_at flow.now k)) (λ w. IsFirst (Misses (λ k. HasConstraint system.now (line_at flow.now k)) (length flow.now)) w) }
 {
     for k in 0..flow.len() {
         if !has_constraint(system, flow[k]) {
@@ -60,7 +63,7 @@ fn wrong_constraint(system: &System, flow: &[FlowLine]) -> Option<usize>
 }
 
 // A law: flow lines that ascend and name constraints are few, since there are few constraints.
-fn few_lines(system: &System, flow: &[FlowLine], count: usize)
+fn few_lines_law(system: &System, flow: &[FlowLine], count: usize)
     requires ascending { Ascend flow.now }
     requires within { count ≤ length flow.now }
     requires constraints { (k : ℕ) → k < count → HasConstraint system.now (line_at flow.now k) }
@@ -69,7 +72,7 @@ fn few_lines(system: &System, flow: &[FlowLine], count: usize)
     system.law();
 }
 
-// How many lines stand between that of the bits and the flow lines, and how many behind those.
+// How many lines are between that of the bits and the flow lines, and how many after those.
 fn between(report: &Report) -> u64
     ensures before { result ≡ length (unless_first report.now.version (reads_line report.now.reads ∷ [])) }
     ensures behind { result ≡ length (unless_first report.now.version (end_line ∷ [])) }
@@ -100,7 +103,8 @@ fn counts(system: &System, report: &Report)
 // The first wrong line of an image.
 fn faulty_image(system: &System, report: &Report) -> Option<u64>
     requires { Suits system.now (parts_of report.now) }
-    ensures { MatchOption result ((k : ℕ) → k < length report.now.images.items → ImageHolds system.now report.now.images.items k) (λ line. IsFirst (Breaks (number_rules system.now (parts_of report.now))) line) }
+    ensures { MatchOption result ((k : ℕ) → k < length report.now.images.items
+        → ImageHolds system.now report.now.images.items k) (λ line. IsFirst (Breaks (number_rules system.now (parts_of report.now))) line) }
 {
     counts(system, report);
     match wrong_image(system, &report.images) {
@@ -113,7 +117,8 @@ fn faulty_image(system: &System, report: &Report) -> Option<u64>
 fn faulty_latency(system: &System, report: &Report) -> Option<u64>
     requires suits { Suits system.now (parts_of report.now) }
     requires images { (k : ℕ) → k < length report.now.images.items → ImageHolds system.now report.now.images.items k }
-    ensures { MatchOption result ((k : ℕ) → k < length report.now.latencies.items → LatencyHolds system.now report.now.images.items report.now.latencies.items k) (λ line. IsFirst (Breaks (number_rules system.now (parts_of report.now))) line) }
+    ensures { MatchOption result ((k : ℕ) → k < length report.now.latencies.items
+        → LatencyHolds system.now report.now.images.items report.now.latencies.items k) (λ line. IsFirst (Breaks (number_rules system.now (parts_of report.now))) line) }
 {
     counts(system, report);
     match wrong_latency(system, &report.images, &report.latencies) {
@@ -137,7 +142,8 @@ fn faulty_sum(system: &System, report: &Report) -> Option<u64>
     requires suits { Suits system.now (parts_of report.now) }
     requires images { (k : ℕ) → k < length report.now.images.items → ImageHolds system.now report.now.images.items k }
     requires latencies { (k : ℕ) → k < length report.now.latencies.items → LatencyHolds system.now report.now.images.items report.now.latencies.items k }
-    ensures { MatchOption result ((report.now.clocks ≡ clocks_of (parts_of report.now)) × (report.now.bits ≡ bits system.now (delays (parts_of report.now)))) (λ line. IsFirst (Breaks (number_rules system.now (parts_of report.now))) line) }
+    ensures { MatchOption result ((report.now.clocks ≡ clocks_of (parts_of report.now))
+        × (report.now.bits ≡ bits system.now (delays (parts_of report.now)))) (λ line. IsFirst (Breaks (number_rules system.now (parts_of report.now))) line) }
 {
     system.law();
     counts(system, report);
@@ -157,7 +163,8 @@ fn faulty_constraint(system: &System, report: &Report) -> Option<u64>
     requires latencies { (k : ℕ) → k < length report.now.latencies.items → LatencyHolds system.now report.now.images.items report.now.latencies.items k }
     requires clocks { report.now.clocks ≡ clocks_of (parts_of report.now) }
     requires bits { report.now.bits ≡ bits system.now (delays (parts_of report.now)) }
-    ensures { MatchOption result ((k : ℕ) → k < length report.now.flow.items → HasConstraint system.now (line_at report.now.flow.items k)) (λ line. IsFirst (Breaks (number_rules system.now (parts_of report.now))) line) }
+    ensures { MatchOption result ((k : ℕ) → k < length report.now.flow.items
+        → HasConstraint system.now (line_at report.now.flow.items k)) (λ line. IsFirst (Breaks (number_rules system.now (parts_of report.now))) line) }
 {
     counts(system, report);
     match wrong_constraint(system, &report.flow) {
@@ -190,7 +197,7 @@ pub fn check(system: &System, report: &Report) -> Verdict
         None => {}
         Some(line) => return Verdict::No { line },
     }
-    few_lines(system, &report.flow, report.flow.len());
+    few_lines_law(system, &report.flow, report.flow.len());
     if flow_holds(system, &report.flow, report.bits) {
         Verdict::Yes
     } else {

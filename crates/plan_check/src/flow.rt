@@ -114,7 +114,8 @@ fn add_line(system: &System, line: FlowLine, brought: &mut [u128], taken: &mut [
     requires some_taken { nodes system.now ≤ length taken.old }
     requires brought { (v : ℕ) → slice_index brought.old v ≤ 2 ^ 100 }
     requires taken { (v : ℕ) → slice_index taken.old v ≤ 2 ^ 100 }
-    ensures brought { (v : ℕ) → slice_index brought.new v ≡ slice_index brought.old v + (if (constraint_of system.now line).target == v then amount_of line else 0) }
+    ensures brought { (v : ℕ)
+        → slice_index brought.new v ≡ slice_index brought.old v + (if (constraint_of system.now line).target == v then amount_of line else 0) }
     ensures taken { (v : ℕ) → slice_index taken.new v ≡ slice_index taken.old v + (if (constraint_of system.now line).source == v then amount_of line else 0) }
     ensures few_brought { (v : ℕ) → slice_index brought.new v ≤ slice_index brought.old v + 2 ^ 64 }
     ensures few_taken { (v : ℕ) → slice_index taken.new v ≤ slice_index taken.old v + 2 ^ 64 }
@@ -159,8 +160,10 @@ fn are_even(system: &System, brought: &[u128], taken: &[u128]) -> bool
     requires some_taken { nodes system.now ≤ length taken.now }
     requires few_brought { (v : ℕ) → slice_index brought.now v ≤ 2 ^ 100 }
     requires few_taken { (v : ℕ) → slice_index taken.now v ≤ 2 ^ 100 }
-    ensures yes { IsTrue result → (v : ℕ) → v < nodes system.now → pos (slice_index brought.now v) -ℤ pos (slice_index taken.now v) ≡ coefficient_in system.now v }
-    ensures no { ((v : ℕ) → v < nodes system.now → pos (slice_index brought.now v) -ℤ pos (slice_index taken.now v) ≡ coefficient_in system.now v) → IsTrue result }
+    ensures yes { IsTrue result → (v : ℕ) → v < nodes system.now
+        → pos (slice_index brought.now v) -ℤ pos (slice_index taken.now v) ≡ coefficient_in system.now v }
+    ensures no { ((v : ℕ) → v < nodes system.now → pos (slice_index brought.now v) -ℤ pos (slice_index taken.now v) ≡ coefficient_in system.now v)
+        → IsTrue result }
 {
     for node in 0..system.nodes() {
         if !is_even(system, node, brought[node], taken[node]) {
@@ -174,8 +177,12 @@ fn are_even(system: &System, brought: &[u128], taken: &[u128]) -> bool
 fn is_balanced(system: &System, flow: &[FlowLine]) -> bool
     requires constraints { All (HasConstraint system.now) flow.now }
     requires few { length flow.now ≤ 2 ^ 32 }
-    ensures yes { IsTrue result → (v : ℕ) → v < nodes system.now → pos (inflow (carriers system.now flow.now) (amounts flow.now) v) -ℤ pos (outflow (carriers system.now flow.now) (amounts flow.now) v) ≡ coefficient_in system.now v }
-    ensures no { ((v : ℕ) → v < nodes system.now → pos (inflow (carriers system.now flow.now) (amounts flow.now) v) -ℤ pos (outflow (carriers system.now flow.now) (amounts flow.now) v) ≡ coefficient_in system.now v) → IsTrue result }
+    ensures yes { IsTrue result → (v : ℕ) → v < nodes system.now
+        → pos (inflow (carriers system.now flow.now) (amounts flow.now) v) -ℤ pos (outflow (carriers system.now flow.now) (amounts flow.now) v)
+        ≡ coefficient_in system.now v }
+    ensures no { ((v : ℕ) → v < nodes system.now
+        → pos (inflow (carriers system.now flow.now) (amounts flow.now) v) -ℤ pos (outflow (carriers system.now flow.now) (amounts flow.now) v)
+        ≡ coefficient_in system.now v) → IsTrue result }
 {
     system.law();
     let mut brought = [0; MOST_NODES];

@@ -14,5 +14,5 @@ mod verdict;
 
 pub use checking::check;
 pub use judging::judge;
-pub use laws::least_agree;
+pub use laws::least_agree_law;
 pub use verdict::Verdict;

@@ -62,7 +62,7 @@ pub(crate) fn latency_holds(
     latencies[k] == images[place].delay
 }
 
-// Whether one live read stands before another.
+// Whether one live read comes before another.
 fn is_earlier(a: PlacedRead, b: PlacedRead) -> bool
     ensures yes { IsTrue result → IsEarlier a b }
     ensures no { IsEarlier a b → IsTrue result }
@@ -70,7 +70,7 @@ fn is_earlier(a: PlacedRead, b: PlacedRead) -> bool
     is_before((a.f, a.g, a.dy, a.dx), (b.f, b.g, b.dy, b.dx))
 }
 
-// A law: a system's live reads stand in order.
+// A law: a system's live reads are in order.
 fn order_law(system: &System)
     ensures { AreSorted (placed_reads system.now) }
 {

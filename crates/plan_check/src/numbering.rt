@@ -1,4 +1,4 @@
-// At which lines of a report its parts stand.
+// At which lines of a report its parts are.
 
 ghost use Rattle.std.specs.Prelude.{◌≡◌, ◌≤◌, ◌^◌, length};
 ghost use Rattle.dk_base.specs.declared.TheConstants.{MAX_KEPT_IMAGES, MAX_OUTPUTS};

@@ -59,7 +59,8 @@ fn is_named(ir: &Ir, stencils: &Stencils, images: &[ImageLine], k: usize) -> boo
 // The place of the first image line that is not.
 fn unnamed(ir: &Ir, stencils: &Stencils, images: &[ImageLine]) -> Option<usize>
     requires { All (λ (i : Image). i.number < length (names_of ir.now)) stencils.now.images }
-    ensures { MatchOption result ((k : ℕ) → k < length images.now → IsNamed (names_of ir.now) stencils.now images.now k) (λ w. IsFirst (Misses (λ k. IsNamed (names_of ir.now) stencils.now images.now k) (length images.now)) w) }
+    ensures { MatchOption result ((k : ℕ) → k < length images.now
+        → IsNamed (names_of ir.now) stencils.now images.now k) (λ w. IsFirst (Misses (λ k. IsNamed (names_of ir.now) stencils.now images.now k) (length images.now)) w) }
 {
     for k in 0..images.len() {
         if !is_named(ir, stencils, images, k) {
@@ -95,7 +96,8 @@ pub(crate) fn is_of_counts(system: &System, report: &Report) -> bool
 fn foreign_image(ir: &Ir, stencils: &Stencils, report: &Report) -> Option<u64>
     requires images { All (λ (i : Image). i.number < length (names_of ir.now)) stencils.now.images }
     requires limit { length report.now.images.items ≤ MAX_KEPT_IMAGES }
-    ensures { MatchOption result (IsOfSize stencils.now (parts_of report.now) × ((k : ℕ) → k < length report.now.images.items → IsNamed (names_of ir.now) stencils.now report.now.images.items k)) (λ line. IsFirst (Breaks (program_rules (names_of ir.now) stencils.now (parts_of report.now))) line) }
+    ensures { MatchOption result (IsOfSize stencils.now (parts_of report.now) × ((k : ℕ) → k < length report.now.images.items
+        → IsNamed (names_of ir.now) stencils.now report.now.images.items k)) (λ line. IsFirst (Breaks (program_rules (names_of ir.now) stencils.now (parts_of report.now))) line) }
 {
     if !is_of_size(stencils, report) {
         return Some(size_line(report));
@@ -112,7 +114,8 @@ fn foreign_latency(ir: &Ir, stencils: &Stencils, report: &Report) -> Option<u64>
     requires latencies { length report.now.latencies.items ≤ MAX_OUTPUTS }
     requires size { IsOfSize stencils.now (parts_of report.now) }
     requires named { (k : ℕ) → k < length report.now.images.items → IsNamed (names_of ir.now) stencils.now report.now.images.items k }
-    ensures { MatchOption result ((length stencils.now.images ≤ length report.now.images.items) × (length report.now.latencies.items ≤ length stencils.now.outputs)) (λ line. IsFirst (Breaks (program_rules (names_of ir.now) stencils.now (parts_of report.now))) line) }
+    ensures { MatchOption result ((length stencils.now.images ≤ length report.now.images.items)
+        × (length report.now.latencies.items ≤ length stencils.now.outputs)) (λ line. IsFirst (Breaks (program_rules (names_of ir.now) stencils.now (parts_of report.now))) line) }
 {
     let first = size_line(report) + report.images.len() as u64 + 1;
     if report.images.len() < stencils.images().len() {
@@ -155,7 +158,7 @@ fn foreign_sum(ir: &Ir, stencils: &Stencils, report: &Report) -> Option<u64>
 }
 
 // How many lines of images and latencies there are at most.
-fn most_lines(report: &Report)
+fn most_lines_law(report: &Report)
     requires { Meets (parts_of report.now) }
     ensures images { length report.now.images.items ≤ MAX_KEPT_IMAGES }
     ensures latencies { length report.now.latencies.items ≤ MAX_OUTPUTS }
@@ -167,7 +170,7 @@ pub(crate) fn foreign_line(ir: &Ir, stencils: &Stencils, report: &Report) -> Opt
     requires images { All (λ (i : Image). i.number < length (names_of ir.now)) stencils.now.images }
     ensures { MatchOption result (Keeps (program_rules (names_of ir.now) stencils.now (parts_of report.now))) (λ line. IsFirst (Breaks (program_rules (names_of ir.now) stencils.now (parts_of report.now))) line) }
 {
-    most_lines(report);
+    most_lines_law(report);
     match foreign_image(ir, stencils, report) {
         None => {}
         Some(line) => return Some(line),

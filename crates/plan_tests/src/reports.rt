@@ -65,7 +65,7 @@ fn reports_are_written(rt: HostRuntime) -> Result<(), Fail> {
     Ok(())
 }
 
-// The line told, or 0 where the text is a report's.
+// The line reported, or 0 if the text is a report's.
 fn line_told(alloc: Global, text: &[u8]) -> Result<u64, OutOfMemory> {
     match read(alloc, text) {
         Ok(_) => Ok(0),

@@ -4,7 +4,7 @@ ghost use Rattle.std.specs.Prelude.{IfOk};
 ghost use Rattle.report_text.specs.Reports.{Ascend};
 
 use dk_base::{Image, LiveRead, OutOfMemory, Stencils, Text};
-use plan_check::{Verdict, check, least_agree};
+use plan_check::{Verdict, check, least_agree_law};
 use raster_delay::System;
 use report_text::{FlowLine, ImageLine, Limits, Report};
 use std::alloc::Global;
@@ -176,6 +176,6 @@ fn reports_are_judged(rt: HostRuntime) -> Result<(), Fail> {
             Some(verdict)
         );
     }
-    least_agree();
+    least_agree_law();
     Ok(())
 }

@@ -15,7 +15,7 @@ use Rattle.pointwise_eval.specs.Needs.{IsNeeded, image_count, AreNeeds}
 pub same_index : (xs ys : List ℕ) (g : ℕ) → slice_get xs g ≡ slice_get ys g → slice_index xs g ≡ slice_index ys g
 same_index xs ys g same = sym (unwrap_or-slice_get xs g 0) ∙ ap (λ (o : Option ℕ). unwrap_or o 0) same ∙ unwrap_or-slice_get ys g 0
 
--- from image k on, what an image reads that is needed behind itself is needed up to it
+-- from image k on, what an image reads that is needed after itself is needed up to it
 abbrev pub IsClosed : ℕ → List Tree → List ℕ → ℕ → Type 0
 IsClosed inputs bodies until k = (j : ℕ) (e : Tree) → k ≤ j → slice_get bodies j ≡ Some e → IsNeeded until (inputs + j + 1) (inputs + j) → EachImage (IsNeeded until (inputs + j)) e
 

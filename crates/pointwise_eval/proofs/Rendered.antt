@@ -186,7 +186,7 @@ types-length inputs images k le =
 pub body_of : (p : Program) (k : ℕ) (d : Definition) → slice_get p.images k ≡ Some d → slice_get (bodies_of p) k ≡ Some (tree_of d.body)
 body_of p k d is = slice_get-map (λ (d : Definition). tree_of d.body) p.images k ∙ ap (option_map (λ (d : Definition). tree_of d.body)) is
 
--- an image that is needed behind itself can be evaluated on the planes before it
+-- an image that is needed after itself can be evaluated on the planes before it
 pub can_be : (p : Program) (known : List Picture) (until : List ℕ) (planes : List Plane) (k : ℕ) (d : Definition) → IsProgram p → AreNeeds p until → slice_get p.images k ≡ Some d →
     ShowsNeeded p.size (all_types p.inputs (take k p.images)) known until (length p.inputs + k) planes → IsNeeded until (length p.inputs + k + 1) (length p.inputs + k) → CanEvaluate p.size planes (tree_of d.body)
 can_be p known until planes k d is needs there shows wanted =
@@ -348,7 +348,7 @@ dropped_each start old new i others here before g =
     same_or_gone a b c (inr gone) (inl bc) = inr (bc ∙ gone)
     same_or_gone a b c ab (inr gone) = inr gone
 
--- the planes behind some that were let go of
+-- the planes after some that were let go of
 pub shows_after : (p : Program) (types : List Ty) (known : List Picture) (until : List ℕ) (n : ℕ) (old new : List Plane) → length new ≡ length old → ((g : ℕ) → IsNeeded until n g → slice_get new g ≡ slice_get old g) →
     ((g : ℕ) → AreSameOrGone (slice_get old g) (slice_get new g)) → ShowsNeeded p.size types known until n old → ShowsNeeded p.size types known until n new
 shows_after p types known until n old new count kept each shows = record {

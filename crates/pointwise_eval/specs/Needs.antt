@@ -4,7 +4,7 @@ use Rattle.std.specs.List.{All}
 use Rattle.pointwise_ir.specs.Trees.{Tree, EachImage}
 use Rattle.pointwise_ir.specs.Programs.{Program, IsBody}
 
--- Image g is needed behind the first n images: it is an output, or a later image that is needed reads it. Given is for each image how many images there are before it is not needed any more.
+-- Image g is needed after the first n images: it is an output, or a later image that is needed reads it. Given is for each image how many images there are before it is not needed any more.
 abbrev pub IsNeeded : List ℕ → (n g : ℕ) → Type 0
 IsNeeded until n g = n < slice_index until g
 
@@ -12,7 +12,7 @@ IsNeeded until n g = n < slice_index until g
 abbrev pub image_count : Program → ℕ
 image_count p = length p.inputs + length p.images
 
--- The outputs are needed behind all images. Where an image is needed behind itself, what it reads is needed up to it.
+-- The outputs are needed after all images. Where an image is needed after itself, what it reads is needed up to it.
 pub record AreNeeds (p : Program) (until : List ℕ) : Type 0 where
   pub one_each : length until ≡ image_count p
   pub outputs : All (IsNeeded until (image_count p)) p.outputs

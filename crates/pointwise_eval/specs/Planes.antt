@@ -84,7 +84,7 @@ pub record CanEvaluate (size : Size) (planes : List Plane) (e : Tree) : Type 0 w
   pub values : AreValues size types planes
   pub whole : EachImage (IsWhole size planes) e
 
--- a step to the point (x, y) that leads nowhere: what stands there is 0
+-- a step to the point (x, y) that leads nowhere: what is there is 0
 abbrev pub IsNowhere : Size → Edge → (x y : ℤ) → Type 0
 IsNowhere size edge x y = (picture : Picture) → edged size edge picture x y ≡ pos 0
 
@@ -94,13 +94,13 @@ pub record LeadsTo (size : Size) (edge : Edge) (x y : ℤ) (u v : ℕ) : Type 0 
   pub down : v < size.height
   pub same : (picture : Picture) → edged size edge picture x y ≡ picture (pos u) (pos v)
 
--- the plane of an image that is no input: where it is wanted, the expression's value at each pixel, and else empty
+-- the plane of an image that is not an input: the expression's value at each pixel if it is needed, else empty
 pub record IsPlaneOf (size : Size) (planes : List Plane) (e : Tree) (wanted : Bool) (plane : Plane) : Type 0 where
   pub whole : IsTrue wanted → length (values_of plane) ≡ area size
   pub shown : IsTrue wanted → shown size (values_of plane) ≡ framed size (value size (all_shown size planes) e)
   pub empty : IsFalse wanted → values_of plane ≡ []
 
--- the planes of images, of which those that are needed behind the first n have these pictures
+-- the planes of images, of which those that are needed after the first n have these pictures
 pub record ShowsNeeded (size : Size) (types : List Ty) (known : List Picture) (until : List ℕ) (n : ℕ) (planes : List Plane) : Type 0 where
   pub one_each : length planes ≡ length types
   pub values : AreValues size types planes

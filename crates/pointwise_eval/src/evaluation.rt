@@ -45,7 +45,7 @@ fn input_planes<'a>(alloc: Global, frames: &'a [Frame]) -> Result<Vec<Plane<'a>>
     Ok(planes)
 }
 
-// The plane of an image that is no input, which is empty where it is not wanted.
+// The plane of an image that is not an input, which is empty if it is not needed.
 fn next_plane<'a>(
     alloc: Global,
     size: FrameSize,
@@ -76,7 +76,7 @@ fn earlier(images: &[Definition], k: usize) -> &[Definition]
     images.split_at(k).0
 }
 
-// Lets go of a plane that is needed behind `until` images at most, where so many are made.
+// Lets go of a plane that is needed after `until` images at most, where this many are made.
 fn drop_plane(planes: &mut [Plane<'_>], image: usize, until: usize, made: usize)
     requires { image < length planes.old }
     ensures others { (g : ℕ) → g ≢ image → slice_get planes.new g ≡ slice_get planes.old g }
@@ -88,7 +88,7 @@ fn drop_plane(planes: &mut [Plane<'_>], image: usize, until: usize, made: usize)
     }
 }
 
-// Lets go of the planes that are not needed behind so many images.
+// Lets go of the planes that are not needed after this many images.
 fn drop_planes(planes: &mut [Plane<'_>], until: &[usize], made: usize)
     requires { length planes.old ≤ length until.now }
     ensures count { length planes.new ≡ length planes.old }

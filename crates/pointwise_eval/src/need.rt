@@ -9,7 +9,7 @@ use dk_base::OutOfMemory;
 use pointwise_ir::{Definition, Expr, Ir};
 use std::alloc::Global;
 
-// Notes that an image is needed behind so many images.
+// Notes that an image is needed after this many images.
 fn need(until: &mut [usize], image: usize, behind: usize)
     requires there { image < length until.old }
     requires few { behind < 2 ^ 62 }
@@ -22,7 +22,7 @@ fn need(until: &mut [usize], image: usize, behind: usize)
     }
 }
 
-// Notes that the images that an expression reads are needed behind so many images.
+// Notes that the images that an expression reads are needed after this many images.
 fn mark(e: &Expr, until: &mut [usize], behind: usize)
     requires there { EachImage (λ g. g < length until.old) (tree_of e.now) }
     requires few { behind < 2 ^ 62 }
@@ -49,7 +49,7 @@ fn mark(e: &Expr, until: &mut [usize], behind: usize)
     }
 }
 
-// Notes that the outputs are needed behind so many images.
+// Notes that the outputs are needed after this many images.
 fn mark_outputs(outputs: &[u32], until: &mut [usize], behind: usize)
     requires there { All (λ g. g < length until.old) outputs.now }
     requires few { behind < 2 ^ 62 }
@@ -60,7 +60,7 @@ fn mark_outputs(outputs: &[u32], until: &mut [usize], behind: usize)
     }
 }
 
-// Whether the image of this number is needed behind itself.
+// Whether the image of this number is needed after itself.
 pub fn is_needed(until: &[usize], number: usize) -> bool
     requires there { number < length until.now }
     requires few { number < 2 ^ 62 }
@@ -70,13 +70,14 @@ pub fn is_needed(until: &[usize], number: usize) -> bool
     until[number] > number + 1
 }
 
-// Notes what the images read that are needed behind themselves, the last first.
+// Notes what the images read that are needed after themselves, the last first.
 fn mark_reads(inputs: usize, images: &[Definition], until: &mut [usize])
     requires long { length until.old ≡ inputs + length images.now }
     requires few { inputs + length images.now < 2 ^ 62 }
     requires earlier { (k : ℕ) (e : Tree) → slice_get (map (λ d. tree_of d.body) images.now) k ≡ Some e → EachImage (λ g. g < inputs + k) e }
     ensures kept { (n g : ℕ) → IsNeeded until.old n g → IsNeeded until.new n g }
-    ensures closed { (k : ℕ) (e : Tree) → slice_get (map (λ d. tree_of d.body) images.now) k ≡ Some e → IsNeeded until.new (inputs + k + 1) (inputs + k) → EachImage (IsNeeded until.new (inputs + k)) e }
+    ensures closed { (k : ℕ) (e : Tree) → slice_get (map (λ d. tree_of d.body) images.now) k ≡ Some e → IsNeeded until.new (inputs + k + 1) (inputs + k)
+        → EachImage (IsNeeded until.new (inputs + k)) e }
 {
     let mut k = images.len();
     while k > 0 {

@@ -57,7 +57,8 @@ fn rows_of(
     requires row { length row.old ≡ size.width }
     requires room { depth_of (tree_of e.now) * (size.width + size.width) ≤ length scratch.old }
     ensures whole { IfOk result (λ v. length v.items ≡ area (size_of size)) }
-    ensures value { IfOk result (λ v. shown (size_of size) v.items ≡ framed (size_of size) (value (size_of size) (all_shown (size_of size) planes.now) (tree_of e.now))) }
+    ensures value { IfOk result (λ v. shown (size_of size) v.items
+        ≡ framed (size_of size) (value (size_of size) (all_shown (size_of size) planes.now) (tree_of e.now))) }
 {
     let mut values = Vec::with_capacity(alloc, size.width as usize * size.height as usize)?;
     for y in 0..size.height {
@@ -109,7 +110,8 @@ fn elements_of_rows<T: Element>(
     requires room { depth_of (tree_of e.now) * (size.width + size.width) ≤ length scratch.old }
     requires part { length part.old ≡ size.width }
     ensures whole { IfOk result (λ v. length (map T.worth v.items) ≡ area (size_of size)) }
-    ensures value { IfOk result (λ v. shown (size_of size) (map T.worth v.items) ≡ framed (size_of size) (value (size_of size) (all_shown (size_of size) planes.now) (tree_of e.now))) }
+    ensures value { IfOk result (λ v. shown (size_of size) (map T.worth v.items)
+        ≡ framed (size_of size) (value (size_of size) (all_shown (size_of size) planes.now) (tree_of e.now))) }
 {
     let mut elements = Vec::with_capacity(alloc, size.width as usize * size.height as usize)?;
     for y in 0..size.height {
@@ -132,7 +134,8 @@ fn render_elements<T: Element>(
     requires typed { AreAllIn (size_of size) (all_shown (size_of size) planes.now) (tree_of e.now) T.ty }
     requires depth { depth_of (tree_of e.now) ≤ MAX_INLINED_DEPTH }
     ensures whole { IfOk result (λ v. length (map T.worth v.items) ≡ area (size_of size)) }
-    ensures value { IfOk result (λ v. shown (size_of size) (map T.worth v.items) ≡ framed (size_of size) (value (size_of size) (all_shown (size_of size) planes.now) (tree_of e.now))) }
+    ensures value { IfOk result (λ v. shown (size_of size) (map T.worth v.items)
+        ≡ framed (size_of size) (value (size_of size) (all_shown (size_of size) planes.now) (tree_of e.now))) }
 {
     let width = size.width as usize;
     let mut row = vec![in alloc; 0i64; width]?;
@@ -154,7 +157,8 @@ fn render_values(
     requires narrow { AreNarrow (size_of size) (all_shown (size_of size) planes.now) (tree_of e.now) }
     requires depth { depth_of (tree_of e.now) ≤ MAX_INLINED_DEPTH }
     ensures whole { IfOk result (λ v. length v.items ≡ area (size_of size)) }
-    ensures value { IfOk result (λ v. shown (size_of size) v.items ≡ framed (size_of size) (value (size_of size) (all_shown (size_of size) planes.now) (tree_of e.now))) }
+    ensures value { IfOk result (λ v. shown (size_of size) v.items
+        ≡ framed (size_of size) (value (size_of size) (all_shown (size_of size) planes.now) (tree_of e.now))) }
 {
     let width = size.width as usize;
     let mut row = vec![in alloc; 0i64; width]?;
@@ -210,7 +214,8 @@ fn render_rows<'a>(
     requires typed { AreAllIn (size_of size) (all_shown (size_of size) planes.now) (tree_of e.now) ty }
     requires depth { depth_of (tree_of e.now) ≤ MAX_INLINED_DEPTH }
     ensures whole { IfOk result (λ p. length (values_of p) ≡ area (size_of size)) }
-    ensures value { IfOk result (λ p. shown (size_of size) (values_of p) ≡ framed (size_of size) (value (size_of size) (all_shown (size_of size) planes.now) (tree_of e.now))) }
+    ensures value { IfOk result (λ p. shown (size_of size) (values_of p)
+        ≡ framed (size_of size) (value (size_of size) (all_shown (size_of size) planes.now) (tree_of e.now))) }
 {
     match held_as(ty) {
         Held::Unsigned8 => Ok(Plane::Unsigned8(render_elements(alloc, size, planes, e)?)),
@@ -237,7 +242,8 @@ pub fn render<'a>(
     requires values { AreValues (size_of size) (all_types inputs.now images.now) planes.now }
     requires depth { depth_of (tree_of e.now) ≤ MAX_INLINED_DEPTH }
     ensures whole { IfOk result (λ p. length (values_of p) ≡ area (size_of size)) }
-    ensures value { IfOk result (λ p. shown (size_of size) (values_of p) ≡ framed (size_of size) (value (size_of size) (all_shown (size_of size) planes.now) (tree_of e.now))) }
+    ensures value { IfOk result (λ p. shown (size_of size) (values_of p)
+        ≡ framed (size_of size) (value (size_of size) (all_shown (size_of size) planes.now) (tree_of e.now))) }
 {
     if !reads_rows(planes, e) {
         return render_points(alloc, size, planes, e);

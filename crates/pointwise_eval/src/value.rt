@@ -101,7 +101,8 @@ pub fn render_points<'a>(
 ) -> Result<Plane<'a>, OutOfMemory>
     requires can { CanEvaluate (size_of size) planes.now (tree_of e.now) }
     ensures whole { IfOk result (λ p. length (values_of p) ≡ area (size_of size)) }
-    ensures value { IfOk result (λ p. shown (size_of size) (values_of p) ≡ framed (size_of size) (value (size_of size) (all_shown (size_of size) planes.now) (tree_of e.now))) }
+    ensures value { IfOk result (λ p. shown (size_of size) (values_of p)
+        ≡ framed (size_of size) (value (size_of size) (all_shown (size_of size) planes.now) (tree_of e.now))) }
 {
     let mut values = Vec::new(alloc);
     for y in 0..size.height {

@@ -64,7 +64,7 @@ fn row_values<'a>(plane: &'a Plane<'_>) -> Row<'a>
     }
 }
 
-// So many elements from a place on.
+// This many elements from a place on.
 #[tactic(auto, using(crate::proofs::Pixels::part_length, crate::proofs::Pixels::part_entry, crate::proofs::Pixels::all_within))]
 fn elements_part<T: Element>(elements: &[T], start: usize, count: usize) -> &[T]
     requires { start + count ≤ length (map T.worth elements.now) }
@@ -74,7 +74,7 @@ fn elements_part<T: Element>(elements: &[T], start: usize, count: usize) -> &[T]
     elements.split_at(start).1.split_at(count).0
 }
 
-// So many values from a place on.
+// This many values from a place on.
 fn values_part(values: &[i64], start: usize, count: usize) -> &[i64]
     requires { start + count ≤ length values.now }
     ensures whole { length result.now ≡ count }
@@ -83,7 +83,7 @@ fn values_part(values: &[i64], start: usize, count: usize) -> &[i64]
     values.split_at(start).1.split_at(count).0
 }
 
-// So many values of a row from a place on.
+// This many values of a row from a place on.
 fn part<'a>(row: Row<'a>, start: usize, count: usize) -> Row<'a>
     requires { start + count ≤ length (entries_of row) }
     ensures whole { length (entries_of result) ≡ count }

@@ -59,7 +59,7 @@ each_weaker P Q all (select c a b) each = (each_weaker P Q all c each.0, each_we
 each_weaker P Q all (convert how a t) each = each_weaker P Q all a each
 each_weaker P Q all (scale op a k) each = each_weaker P Q all a each
 
--- the entry behind the known ones
+-- the entry after the known ones
 at_end : (known : List Picture) (p : Picture) (g : ℕ) → length known ≤ g → picture_at (known ++ p ∷ []) g ≡ picture_at (p ∷ []) (g - length known)
 at_end known p g past = get_or-append_right known (p ∷ []) g (λ _ _. pos 0) past
 

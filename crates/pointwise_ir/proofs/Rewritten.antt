@@ -1,4 +1,4 @@
--- A program with bodies that may stand for the old ones keeps the meaning.
+-- A program with bodies that may replace the old ones keeps the meaning.
 use Rattle.std.proofs.Common.{◌≡◌, ℕ, zero, suc, ◌+◌, ◌<◌, ◌≤◌, List, [], ◌∷◌, ◌++◌, length, map, take, ℤ, ◌+ℤ◌, Some, slice_get, refl, ap, sym, ◌∙◌, subst, arith, append-nil, append_assoc, length-append}
 use Rattle.std.specs.Prelude.{◌↔◌, IsTrue, Contains}
 use Rattle.std.specs.List.{All}

@@ -15,7 +15,7 @@ use Rattle.pointwise_ir.specs.Reads.{Reads}
 abbrev pub AreInTypes : List Ty → List Picture → Type 0
 AreInTypes types known = (g : ℕ) (t : Ty) → slice_get types g ≡ Some t → (x y : ℤ) → IsIn t (picture_at known g x y)
 
--- b may stand for a, which has the type t over images of these types: it has that type, is no deeper, has the same value at each point, and reads the same pixels
+-- b may replace a, which has the type t over images of these types: it has that type, is no deeper, has the same value at each point, and reads the same pixels
 pub record IsRewriting (size : Size) (types : List Ty) (t : Ty) (a b : Tree) : Type 0 where
   pub typed : HasType types b t
   pub depth : depth_of b ≤ depth_of a
@@ -23,7 +23,7 @@ pub record IsRewriting (size : Size) (types : List Ty) (t : Ty) (a b : Tree) : T
   pub values : (known : List Picture) → AreInTypes types known → (x y : ℤ) → value size known b x y ≡ value size known a x y
   pub reads : (x y : ℤ) (g : ℕ) (u v : ℤ) → Reads size b x y g u v ↔ Reads size a x y g u v
 
--- d' is d with a body that may stand for d's
+-- d' is d with a body that may replace d's
 pub record IsRewritten (size : Size) (earlier : List Ty) (d d' : Definition) : Type 0 where
   pub name : d'.name ≡ d.name
   pub ty : d'.ty ≡ d.ty
@@ -36,7 +36,7 @@ AreRewritten size ts [] (d' ∷ new) = ⊥
 AreRewritten size ts (d ∷ old) [] = ⊥
 AreRewritten size ts (d ∷ old) (d' ∷ new) = IsRewritten size ts d d' × AreRewritten size (ts ++ d.ty ∷ []) old new
 
--- the same program, but for bodies that may stand for the old ones
+-- the same program, but for bodies that may replace the old ones
 pub record IsSameBut (old new : Program) : Type 0 where
   pub size : new.size ≡ old.size
   pub inputs : new.inputs ≡ old.inputs

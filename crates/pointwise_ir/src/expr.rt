@@ -6,7 +6,7 @@ ghost use Rattle.pointwise_ir.specs.Trees.{tree_of};
 use dk_base::{Binary, Conversion, OutOfMemory, Scaling, Ty, Unary};
 use std::alloc::Global;
 
-/// What stands for a picture outside the frame: 0, or the pixel at the nearest point of the frame, each coordinate by itself.
+/// What takes the place of a picture outside the frame: 0, or the pixel at the nearest point of the frame, each coordinate by itself.
 #[derive(Clone, Copy, Debug, PartialEq, Eq)]
 pub enum Edge {
     Zero,

@@ -210,7 +210,7 @@ fn are_images(inputs: &[Input], images: &[Definition]) -> bool
     true
 }
 
-// Whether the output at `k` stands before it too.
+// Whether the output at `k` comes before it too.
 fn is_repeated(outputs: &[u32], k: usize) -> bool
     requires { k < length outputs.now }
     ensures repeated { IsTrue result → Repeats outputs.now k }
@@ -219,7 +219,7 @@ fn is_repeated(outputs: &[u32], k: usize) -> bool
     outputs[..k].contains(&outputs[k])
 }
 
-// Whether no output stands twice.
+// Whether no output occurs twice.
 fn are_distinct(outputs: &[u32]) -> bool
     ensures yes { IsTrue result → IsDistinct outputs.now }
     ensures no { IsDistinct outputs.now → IsTrue result }

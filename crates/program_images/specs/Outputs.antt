@@ -6,7 +6,7 @@ use Rattle.pgm_codec.specs.Images.{Image}
 use Rattle.dk_base.specs.Frames.{picture_at}
 use Rattle.program_images.specs.Ports.{bits_of}
 
--- the image of a picture whose values have so many bits: its maxval is the greatest of them
+-- the image of a picture whose values have this many bits: its maxval is the greatest of them
 abbrev pub image_of : Size → ℕ → Picture → Image
 image_of size bits picture = record { width = size.width; height = size.height; maxval = 2 ^ bits - 1; samples = raster size picture }
 

@@ -8,7 +8,7 @@ use Rattle.pointwise_ir.specs.Programs.{Program, types_of}
 use Rattle.dk_frames.specs.declared.frame.Frame.{Frame}
 use Rattle.program_images.specs.Ports.{bits_of}
 
--- a frame of this size whose samples have so many bits
+-- a frame of this size whose samples have this many bits
 pub record IsOutputFrame (size : Size) (bits : ℕ) (f : Frame) : Type 0 where
   pub width : f.width ≡ size.width
   pub height : f.height ≡ size.height
@@ -19,7 +19,7 @@ pub record AreOutputFrames (p : Program) (frames : List Frame) : Type 0 where
   pub one_each : length frames ≡ length p.outputs
   pub each : (k : ℕ) (f : Frame) (g : ℕ) → slice_get frames k ≡ Some f → slice_get p.outputs k ≡ Some g → IsOutputFrame p.size (bits_of (types_of p) g) f
 
--- the image of a frame whose samples have so many bits
+-- the image of a frame whose samples have this many bits
 abbrev pub image_with : ℕ → Frame → Image
 image_with bits f = record { width = f.width; height = f.height; maxval = 2 ^ bits - 1; samples = f.samples }
 

@@ -7,7 +7,7 @@ use Rattle.std.proofs.lemmas.List.Sums.{sum_by_more}
 use Rattle.raster_delay.specs.Network.{Buffer, amount_at}
 use Rattle.raster_delay.specs.Delays.{buffer, buffers_of}
 
--- the amount that stands at v, where it is to stand at node k
+-- the amount that is at v, where it is to are at node k
 abbrev pub spot : ℕ → ℕ → ℕ → ℕ
 spot k a v = cond (eqb k v) a 0
 

@@ -51,7 +51,7 @@ module _ (row age inputs images : ℕ) (reads : List PlacedRead) (kept : inputs 
       ∙ get_or_append_left (holds_of inputs images) (starts_of inputs images) nothing i (omega (arith, length-map-range_with_len (hold inputs images) 0 images))
       ∙ get_or-map-range_with_len (hold inputs images) 0 images i i nothing h (omega arith)
 
-  -- the start of image k stands behind the holds
+  -- the start of image k follows the holds
   pub start_at : (k : ℕ) → inputs ≤ k → k < images → constraint_at (constraints_of row age inputs images reads) (images + (k - inputs)) ≡ start inputs k
   start_at k some h =
       in_front (images + (k - inputs)) (omega arith)

@@ -65,7 +65,7 @@ near_offset w h (negsuc a) dx columns rows l1 u1 l2 u2 =
     (rw negsuc-*ℤ-pos (omega (arith, ints, times, l2, columns)), rw negsuc-*ℤ-pos (omega (arith, ints, times, u2, columns)))
 
 module _ (s : Stencils) (is : IsStencils s) where
-  -- an image that is no input stands behind the inputs
+  -- an image that is no input follows the inputs
   pub place_no_input : (f : ℕ) → IsKept s.images f → s.inputs ≤ f → s.inputs ≤ place s.images f
   place_no_input f kept le = elim (cases_lt (place s.images f) s.inputs) [
     | inl low ↦

@@ -6,7 +6,7 @@ use Rattle.raster_delay.specs.Network.{Buffer, constraint_at}
 use Rattle.raster_delay.specs.declared.network.Constraint.{Constraint}
 use Rattle.raster_delay.specs.declared.placed.PlacedRead.{PlacedRead}
 
--- how much later in raster order the pixel that is read stands
+-- how much later in raster order the pixel that is read comes
 abbrev pub offset : ℕ → PlacedRead → ℤ
 offset row r = r.dy *ℤ pos row +ℤ r.dx
 
@@ -37,7 +37,7 @@ begin_of inputs k = k + 1 - inputs
 abbrev pub begin_count : (inputs images : ℕ) → ℕ
 begin_count inputs images = images + 1 - inputs
 
--- the node at which image k ends: behind the others, one for each image in order
+-- the node at which image k ends: after the others, one for each image in order
 abbrev pub end_of : (inputs images k : ℕ) → ℕ
 end_of inputs images k = begin_count inputs images + k
 

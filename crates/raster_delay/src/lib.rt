@@ -12,7 +12,7 @@ mod system;
 pub use build::{
     begin_node, end_node, hold_constraint, keep_constraint, read_constraint, start_constraint,
 };
-pub use laws::{flow_shows_least, weak_duality};
+pub use laws::{flow_shows_least_law, weak_duality_law};
 pub use measure::{age, age_held, bits, causal, depth};
 pub use network::Constraint;
 pub use numbers::{begin_numbers, earliest, earliest_numbers, end_numbers};

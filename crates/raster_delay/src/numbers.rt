@@ -33,7 +33,8 @@ fn relax(constraints: &[Constraint], numbers: &mut [u64])
     ensures least { (d : List ℕ) → All (Holds d) constraints.now → ((v : ℕ) → slice_index numbers.old v ≤ slice_index d v)
         → (v : ℕ) → slice_index numbers.new v ≤ slice_index d v }
     ensures more { (v : ℕ) → slice_index numbers.old v ≤ slice_index numbers.new v }
-    ensures others { (v : ℕ) → ((i : ℕ) → i < length constraints.now → (constraint_at constraints.now i).target ≢ v) → slice_index numbers.new v ≡ slice_index numbers.old v }
+    ensures others { (v : ℕ) → ((i : ℕ) → i < length constraints.now → (constraint_at constraints.now i).target ≢ v)
+        → slice_index numbers.new v ≡ slice_index numbers.old v }
     ensures near { (m : ℕ) → ((v : ℕ) → slice_index numbers.old v ≤ m) → (v : ℕ) → slice_index numbers.new v ≤ m + 2 ^ 39 }
 {
     for i in 0..constraints.len() {
@@ -63,7 +64,8 @@ pub fn earliest_numbers(alloc: Global, system: &System) -> Result<Vec<u64>, OutO
     ensures length { IfOk result (λ numbers. length numbers.items ≡ nodes system.now) }
     ensures holds { IfOk result (λ numbers. All (Holds numbers.items) (constraints_in system.now)) }
     ensures zero { IfOk result (λ numbers. slice_index numbers.items 0 ≡ 0) }
-    ensures least { IfOk result (λ numbers. (p : List ℕ) → All (Holds p) (constraints_in system.now) → (v : ℕ) → slice_index numbers.items v ≤ slice_index p v) }
+    ensures least { IfOk result (λ numbers. (p : List ℕ) → All (Holds p) (constraints_in system.now) → (v : ℕ)
+        → slice_index numbers.items v ≤ slice_index p v) }
     ensures near { IfOk result (λ numbers. (v : ℕ) → slice_index numbers.items v ≤ 2 ^ 41) }
 {
     let mut numbers = vec![in alloc; 0u64; system.nodes()]?;
@@ -79,7 +81,8 @@ pub fn begin_numbers(
 ) -> Result<Vec<u64>, OutOfMemory>
     requires { length numbers.now ≡ nodes system.now }
     ensures length { IfOk result (λ delays. length delays.items ≡ image_count system.now) }
-    ensures numbers { IfOk result (λ delays. (k : ℕ) → k < image_count system.now → slice_index delays.items k ≡ slice_index numbers.now (begin_of system.now.stencils.inputs k)) }
+    ensures numbers { IfOk result (λ delays. (k : ℕ) → k < image_count system.now
+        → slice_index delays.items k ≡ slice_index numbers.now (begin_of system.now.stencils.inputs k)) }
 {
     system.law();
     let inputs = system.inputs();
@@ -94,7 +97,8 @@ pub fn begin_numbers(
 pub fn end_numbers(alloc: Global, system: &System, numbers: &[u64]) -> Result<Vec<u64>, OutOfMemory>
     requires { length numbers.now ≡ nodes system.now }
     ensures length { IfOk result (λ ends. length ends.items ≡ image_count system.now) }
-    ensures numbers { IfOk result (λ ends. (k : ℕ) → k < image_count system.now → slice_index ends.items k ≡ slice_index numbers.now (end_of system.now.stencils.inputs (image_count system.now) k)) }
+    ensures numbers { IfOk result (λ ends. (k : ℕ) → k < image_count system.now
+        → slice_index ends.items k ≡ slice_index numbers.now (end_of system.now.stencils.inputs (image_count system.now) k)) }
 {
     system.law();
     let inputs = system.inputs();

@@ -76,7 +76,7 @@ pub fn placed_reads(
     Ok(placed)
 }
 
-/// How much later in raster order the pixel that is read stands, in a frame with `row` columns.
+/// How much later in raster order the pixel that is read comes, in a frame with `row` columns.
 pub fn offset(row: u32, r: PlacedRead) -> i64
     requires row { row ≤ MAX_SIDE }
     ensures { result ≡ offset row r }

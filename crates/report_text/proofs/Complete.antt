@@ -82,7 +82,7 @@ flow_none images = refl
 flowing_none : (r : Report) → flowing r end_line ≡ None
 flowing_none r = ap (λ o. o >>= λ x. if follows r.flow x then Some (Flow, record r { flow = r.flow ++ x ∷ [] }) else None) (flow_none r.images)
 
--- a stage at which a flow line or the end may stand
+-- a stage at which a flow line or the end may come
 record MayFlow (stage : Stage) (version : ℕ) : Type 0 where
   flows : (s : Report) (line : List ℕ) (x : Stage × Report) → s.version ≡ version → flowing s line ≡ Some x → next stage s line ≡ Some x
   ends : (r : Report) → r.version ≡ version → AreRead stage r (ending r) r

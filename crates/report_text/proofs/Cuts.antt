@@ -12,7 +12,7 @@ use Rattle.report_text.specs.declared.report.FlowLine.TheVariants.{Hold, Start, 
 use Rattle.dk_base.specs.Ascii.{is_digit, is_word_byte}
 use Rattle.report_text.specs.Reports.{Report, Meets, IsImageLine, IsAmount, IsFlowLine}
 use Rattle.report_text.specs.Layout.{number_line, pair_line, plan_line, limits_line, age_line, image_line, latency_line, reads_line, name_at, held, carried, flow_line, end_line, head_lines, unless_first, lines, joined}
-use Rattle.report_text.specs.Texts.{onto_first, cut}
+use Rattle.dk_grammar.specs.Lines.{onto_first, cut}
 use Rattle.report_text.specs.Reading.{is_empty}
 use Rattle.report_text.proofs.Fields.{Passes, decimal_passes}
 use Rattle.report_text.proofs.Offsets.{pos_small, neg_small}
@@ -27,7 +27,7 @@ is_plain b = not (nat_eq b 10)
 abbrev pub IsPlain : List ℕ → Type 0
 IsPlain bytes = Passes is_plain bytes
 
--- such bytes, and an LF behind them
+-- such bytes, and an LF after them
 abbrev pub IsLine : List ℕ → Type 0
 IsLine line = (front : List ℕ) × IsPlain front × (line ≡ front ++ 10 ∷ [])
 

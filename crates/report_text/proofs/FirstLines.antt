@@ -5,11 +5,11 @@ use Rattle.std.specs.List.{prefix_len}
 use Rattle.std.proofs.lemmas.Bool.{eqb-true}
 use Rattle.report_text.specs.declared.step.Stage.{Stage}
 use Rattle.report_text.specs.Reports.{Report}
-use Rattle.report_text.specs.Texts.{cut}
+use Rattle.dk_grammar.specs.Lines.{cut}
 use Rattle.report_text.specs.Reading.{reading, reading_on, next, is_empty, is_final}
 use Rattle.report_text.specs.Steps.{is_inside, Does}
 
--- the first line ends behind the first LF
+-- the first line ends after the first LF
 pub cut_first : (text : List ℕ) (n : ℕ) → n ≡ prefix_len is_inside text → n < length text → cut text ≡ take (n + 1) text ∷ cut (drop (n + 1) text)
 cut_first [] n e h = absurd (omega (arith, h))
 cut_first (b ∷ bytes) n e h = by (nat_eq b 10) refl (cut_first bytes (prefix_len is_inside bytes) refl)

@@ -1,15 +1,17 @@
--- Reading: a text is read as the report that it stands for, and its first faulty line is told.
+-- Reading: a text is read as the report that it denotes, and its first faulty line is specified.
 use Rattle.std.proofs.Common.{◌≡◌, ◌∙◌, ℕ, suc, List, [], ◌∷◌, ◌++◌, length, take, refl, ap, sym, subst, arith, append_assoc, Bool, true, false, Ok, Err}
 use Rattle.std.specs.Prelude.{Option, Some, None, Result, ◌&&◌, if◌then◌else◌}
 use Rattle.std.proofs.lemmas.Bool.{and_parts}
 use Rattle.std.proofs.lemmas.List.{append-nil, length-append, length_push, take_at}
 use Rattle.dk_grammar.specs.Reading.{IsFaulty}
-use Rattle.dk_grammar.proofs.Faulty.{one_faulty, none_faulty}
+use Rattle.dk_grammar.specs.Lines.{cut, AreLinesOf}
+use Rattle.dk_grammar.proofs.Faulty.{like_faulty}
+use Rattle.dk_grammar.proofs.FaultyLines.{one_first_faulty, none_first_faulty}
 use Rattle.report_text.specs.declared.step.Stage.{Stage}
 use Rattle.report_text.specs.declared.step.Stage.TheVariants.{Start, Bits, Flow, End}
 use Rattle.report_text.specs.Reports.{Report, Meets}
 use Rattle.report_text.specs.Layout.{lines, joined, layout}
-use Rattle.report_text.specs.Texts.{StandsFor, cut, AreLines, IsFaultyLine}
+use Rattle.report_text.specs.Texts.{StandsFor, IsReportText, IsFaultyLine}
 use Rattle.report_text.specs.Reading.{next, is_final, is_empty, nothing, reading_on, reading}
 use Rattle.report_text.proofs.Chains.{joined_append}
 use Rattle.report_text.proofs.Machine.{upto, finished, live, bits_whole, first_split, end_split}
@@ -92,6 +94,10 @@ sound (line ∷ l ∷ more) taken stage r s k b e = by (next stage r line) refl 
         → Meets s × (taken ++ line ∷ l ∷ more ≡ lines s ++ [] ∷ [])
     by None n i go = absurd (not_both s k (sym i))
     by (Some x) n i go = let g = go x (steps stage r taken line x b n) i in (g.0, sym (append_assoc taken (line ∷ []) (l ∷ more)) ∙ g.1)
+
+-- these are the lines of a report's text
+abbrev AreLines : List (List ℕ) → Type 0
+AreLines all = (r : Report) × Meets r × (all ≡ lines r ++ ([] ∷ []))
 
 -- A line is the first that continues no report, where those before it begin one and no report's lines go on with it.
 take_more : (taken : List (List ℕ)) (line : List ℕ) (after : List (List ℕ)) → take (suc (length taken)) (taken ++ line ∷ after) ≡ taken ++ line ∷ []
@@ -179,13 +185,23 @@ pub reading_complete : (text : List ℕ) (r : Report) → StandsFor text r → r
 reading_complete text r s = ap (reading 1 Start nothing) (text_lines text r s) ∙ complete r s.meets 1
 
 pub reading_faulty : (text : List ℕ) (n : ℕ) → reading 1 Start nothing (cut text) ≡ Err n → IsFaultyLine text n
-reading_faulty text n e = faults (cut text) [] Start nothing 1 n start (λ line more. refl) refl (are_cut text) e
+reading_faulty text n e =
+    let f = faults (cut text) [] Start nothing 1 n start (λ line more. refl) refl (are_cut text) e in
+    (f.0, f.1, like_faulty AreLines (AreLinesOf IsReportText) (cut text) f.0 of_text text_of f.2)
+  where
+    of_text : (all : List (List ℕ)) → AreLines all → AreLinesOf IsReportText all
+    of_text all a =
+        let s : StandsFor (layout a.0) a.0 = record { meets = a.1; written = refl } in
+        (layout a.0, (a.0, s), a.2 ∙ sym (text_lines (layout a.0) a.0 s))
+
+    text_of : (all : List (List ℕ)) → AreLinesOf IsReportText all → AreLines all
+    text_of all a = (a.1.0, a.1.1.meets, a.2 ∙ text_lines a.0 a.1.0 a.1.1)
 
 pub fault_is_one : (text : List ℕ) (m n : ℕ) → IsFaultyLine text m → IsFaultyLine text n → m ≡ n
-fault_is_one text m n a b = a.1 ∙ ap (λ k. suc k) (one_faulty AreLines (cut text) a.0 b.0 a.2 b.2) ∙ sym b.1
+fault_is_one text m n a b = one_first_faulty IsReportText text m n a b
 
 pub fault_apart : (text : List ℕ) (r : Report) (n : ℕ) → StandsFor text r → IsFaultyLine text n → ⊥
-fault_apart text r n s f = none_faulty AreLines (cut text) f.0 (r, s.meets, text_lines text r s) f.2
+fault_apart text r n s f = none_first_faulty IsReportText text n (r, s) f
 
 pub faulty_reading : (text : List ℕ) (n : ℕ) → IsFaultyLine text n → reading 1 Start nothing (cut text) ≡ Err n
 faulty_reading text n f = by (reading 1 Start nothing (cut text)) refl

@@ -1,4 +1,4 @@
--- What lines are, from what stands in them.
+-- What lines are, from what is in them.
 use Rattle.std.proofs.Common.{◌≡◌, ◌<◌, ◌-◌, ◌∙◌, ℕ, ℤ, suc, List, [], ◌∷◌, ◌++◌, length, codes, refl, ap, sym, subst, arith, Bool, true, false}
 use Rattle.std.specs.Prelude.{Option, Some, None, MatchOption, nat_lt, if◌then◌else◌, not}
 use Rattle.std.specs.List.{slice_get}

@@ -63,7 +63,7 @@ from_images r = map image_line r.images ++ from_latencies r
 abbrev pub from_size : Report → List (List ℕ)
 from_size r = size_line r.width r.height ∷ from_images r
 
--- the report with what is missing behind a line of a kind
+-- the report with what is missing after a line of a kind
 abbrev pub with_latency : Report → Report
 with_latency r = record r { latencies = 0 ∷ [] }
 

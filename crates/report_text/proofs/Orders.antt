@@ -1,4 +1,4 @@
--- The tests of the order of live reads and of flow lines tell it.
+-- The tests of the order of live reads and of flow lines decide it.
 use Rattle.std.proofs.Common.{◌≡◌, ◌<◌, ◌≤◌, ◌⊎◌, inl, inr, ℕ, ℤ, Bool, arith}
 use Rattle.std.specs.Prelude.{◌<ℤ◌, ◌≤ℤ◌, ◌&&◌, ◌||◌, nat_lt, nat_eq, int_lt}
 use Rattle.std.specs.Bool.{Decides}
@@ -55,6 +55,6 @@ Decides-line a b =
     (λ h. (h.kinds, h.reads))
     (nat_first _ _ (Decides-read (read_named a) (read_named b)) (kind a) (kind b))
 
--- a test that tells the order is this one
+-- a test that decides the order is this one
 pub is_the_test : (a b : FlowLine) (t : Bool) → Decides t (StandsBefore a b) → t ≡ is_before a b
 is_the_test a b t h = same_from_decides t (is_before a b) h (Decides-line a b)

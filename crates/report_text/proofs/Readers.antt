@@ -6,7 +6,8 @@ use Rattle.report_text.specs.declared.report.Report.{Report as TheReport}
 use Rattle.report_text.specs.declared.reading.ReportFault.{ReportFault}
 use Rattle.report_text.specs.declared.reading.ReportFault.TheVariants.{Line, OutOfMemory}
 use Rattle.report_text.specs.Reports.{Report, parts_of}
-use Rattle.report_text.specs.Texts.{StandsFor, IsFaultyLine, cut}
+use Rattle.dk_grammar.specs.Lines.{cut}
+use Rattle.report_text.specs.Texts.{StandsFor, IsFaultyLine}
 use Rattle.report_text.specs.Reading.{reading, nothing}
 use Rattle.report_text.specs.Answers.{Refuses, Gives, Tells}
 use Rattle.report_text.specs.Steps.{Finds}

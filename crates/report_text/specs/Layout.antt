@@ -6,7 +6,7 @@ use Rattle.report_text.specs.declared.report.FlowLine.{FlowLine}
 use Rattle.report_text.specs.declared.report.FlowLine.TheVariants.{Hold, Start, Read, Keep}
 use Rattle.report_text.specs.Reports.{Report, names_of}
 
--- a word with a blank behind it, and a number or two
+-- a word with a blank after it, and a number or two
 abbrev pub number_line : List ℕ → ℕ → List ℕ
 number_line word n = word ++ (decimal n ++ codes "\n")
 

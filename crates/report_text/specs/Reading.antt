@@ -1,4 +1,4 @@
--- Used by private functions alone.
+-- Used by private functions only.
 -- How a report's text is read, as functions on bytes.
 use Rattle.std.specs.Prelude.{ℕ, ℤ, pos, neg_ℤ, suc, ◌-◌, ◌^◌, List, [], ◌∷◌, ◌++◌, length, take, drop, codes, Option, Some, None, Result, Ok, Err, Bool, true, false, ◌&&◌, ◌||◌, not, nat_lt, nat_eq, int_lt, if◌then◌else◌}
 use Rattle.std.specs.List.{prefix_len, position_or_len}
@@ -25,7 +25,7 @@ abbrev pub or_else : {A : Type 0} → Option A → Option A → Option A
 or_else None o = o
 or_else (Some x) o = Some x
 
--- the bytes behind a word
+-- the bytes after a word
 abbrev pub strip : List ℕ → List ℕ → Option (List ℕ)
 strip [] bytes = Some bytes
 strip (w ∷ word) [] = None
@@ -47,7 +47,7 @@ is_canonical (d ∷ e ∷ ds) = not (nat_eq d 48)
 abbrev pub numeral : List ℕ → Option ℕ
 numeral ds = if is_canonical ds && nat_lt (value_of ds) (2 ^ 64) then Some (value_of ds) else None
 
--- a number at the front, and the bytes behind it
+-- a number at the front, and the bytes after it
 unfoldable pub number_at : List ℕ → Option (ℕ × List ℕ)
 number_at bytes = do
   v ← numeral (take (prefix_len is_digit bytes) bytes)
@@ -71,7 +71,7 @@ offset_by (Some rest) bytes = negative_at rest
 unfoldable pub offset_at : List ℕ → Option (ℤ × List ℕ)
 offset_at bytes = offset_by (strip (codes "-") bytes) bytes
 
--- the letters, digits and `_` at the front, and the bytes behind them
+-- the letters, digits and `_` at the front, and the bytes after them
 abbrev pub word_at : List ℕ → List ℕ × List ℕ
 word_at bytes = (take (prefix_len is_word_byte bytes) bytes, drop (prefix_len is_word_byte bytes) bytes)
 
@@ -114,14 +114,14 @@ amount_at bytes = do
   n ← number_line_at (codes " ") bytes
   if nat_lt 0 n then Some n else None
 
--- behind the words of a flow line: an image and a flow
+-- after the words of a flow line: an image and a flow
 unfoldable pub held_at : (ℕ → ℕ → FlowLine) → List ImageLine → List ℕ → Option FlowLine
 held_at make images bytes = do
   g ← find images (word_at bytes).0
   n ← amount_at (word_at bytes).1
   Some (make g n)
 
--- behind the words of a flow line: a read and a flow
+-- after the words of a flow line: a read and a flow
 unfoldable pub carried_at : (ℕ → ℕ → ℤ → ℤ → ℕ → FlowLine) → List ImageLine → List ℕ → Option FlowLine
 carried_at make images bytes = do
   f ← find images (word_at bytes).0
@@ -207,7 +207,7 @@ next Reads r line = or_else (flowing r line) (ended r line)
 next Flow r line = or_else (flowing r line) (ended r line)
 next End r line = None
 
--- a report may end behind a line of this kind
+-- a report may end after a line of this kind
 abbrev pub is_final : Stage → ℕ → Bool
 is_final End version = true
 is_final Bits version = nat_eq version 1

@@ -68,19 +68,19 @@ kind (Start f n) = 1
 kind (Read f g dx dy n) = 2
 kind (Keep f g dx dy n) = 3
 
--- the live read that a flow line names, its images by their places; an image alone stands as a read by it, of the first image
+-- the live read that a flow line names, its images by their places; a single image counts as a read by it, of the first image
 abbrev pub read_named : FlowLine → LiveRead
 read_named (Hold g n) = record { f = g; g = 0; dx = pos 0; dy = pos 0 }
 read_named (Start f n) = record { f = f; g = 0; dx = pos 0; dy = pos 0 }
 read_named (Read f g dx dy n) = record { f = f; g = g; dx = dx; dy = dy }
 read_named (Keep f g dx dy n) = record { f = f; g = g; dx = dx; dy = dy }
 
--- one flow line stands before another: by kind, and within a kind as live reads do
+-- one flow line comes before another: by kind, and within a kind as live reads do
 pub record StandsBefore (a b : FlowLine) : Type 0 where
   pub kinds : kind a ≤ kind b
   pub reads : kind a ≡ kind b → IsBefore (read_named a) (read_named b)
 
--- each stands before the next one
+-- each comes before the next one
 abbrev pub Ascend : List FlowLine → Type 0
 Ascend [] = Unit {0}
 Ascend (a ∷ []) = Unit {0}

@@ -1,4 +1,4 @@
--- Used by private functions alone.
+-- Used by private functions only.
 -- What the functions of the reader answer.
 use Rattle.std.specs.Prelude.{◌≡◌, ℕ, ℤ, List, codes, Option, Some, None, Result, Ok, Err, ⊤, Bool, not, nat_eq}
 use Rattle.report_text.specs.declared.report.FlowLine.{FlowLine}
@@ -15,11 +15,11 @@ abbrev pub Does : Option (Stage × Report) → (old : Report) → Option Stage �
 Does read old None new = (read ≡ None) × (new ≡ old)
 Does read old (Some stage) new = read ≡ Some (stage, new)
 
--- behind the latencies: the clocks
+-- after the latencies: the clocks
 abbrev pub clocked : Report → List ℕ → Option (Stage × Report)
 clocked r line = number_line_at (codes "clocks ") line >>= λ n. Some (Clocks, record r { clocks = n })
 
--- behind the names of a read: its offset and a flow
+-- after the names of a read: its offset and a flow
 abbrev pub behind_names : (ℤ → ℤ → ℕ → FlowLine) → List ℕ → Option FlowLine
 behind_names make bytes = do
   across ← strip (codes " ") bytes
@@ -33,7 +33,7 @@ behind_names make bytes = do
 abbrev pub is_inside : ℕ → Bool
 is_inside b = not (nat_eq b 10)
 
--- the report or the number of the faulty line, as it is read, or want of memory
+-- the report or the number of the faulty line, as it is read, or out of memory
 abbrev pub Finds : Result Report ℕ → Result TheReport ReportFault → Type 0
 Finds read (Ok report) = read ≡ Ok (parts_of report)
 Finds read (Err (Line number)) = read ≡ Err number

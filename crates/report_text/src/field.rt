@@ -15,7 +15,7 @@ use std::alloc::Global;
 // The greatest size of an offset, to either side.
 const MAX_OFFSET: u64 = MAX_SIDE as u64 - 1;
 
-// The bytes behind a word.
+// The bytes after a word.
 pub(crate) fn strip<'a>(word: &[u8], bytes: &'a [u8]) -> Option<&'a [u8]>
     ensures { MatchOption result (strip_of word.now bytes.now ≡ None) (λ rest. strip_of word.now bytes.now ≡ Some rest.now) }
 {
@@ -71,7 +71,7 @@ fn numeral(digits: &[u8]) -> Option<u64>
     value(digits)
 }
 
-// The number at the front, without leading zeros, and the bytes behind it.
+// The number at the front, without leading zeros, and the bytes after it.
 #[tactic(auto, unfolding(crate::specs::Reading::number_at))]
 fn number_at(bytes: &[u8]) -> Option<(u64, &[u8])>
     ensures { MatchOption result (number_of bytes.now ≡ None) (λ x. number_of bytes.now ≡ Some (x.0, x.1.now)) }
@@ -103,7 +103,7 @@ fn negative(bytes: &[u8]) -> Option<(i32, &[u8])>
     Some((-(value as i32), rest))
 }
 
-// The offset at the front, and the bytes behind it.
+// The offset at the front, and the bytes after it.
 #[tactic(auto, unfolding(crate::specs::Reading::offset_at))]
 pub(crate) fn offset_at(bytes: &[u8]) -> Option<(i32, &[u8])>
     ensures { MatchOption result (offset_of bytes.now ≡ None) (λ x. offset_of bytes.now ≡ Some (x.0, x.1.now)) }
@@ -114,7 +114,7 @@ pub(crate) fn offset_at(bytes: &[u8]) -> Option<(i32, &[u8])>
     }
 }
 
-// The letters, digits and `_` at the front, and the bytes behind them.
+// The letters, digits and `_` at the front, and the bytes after them.
 pub(crate) fn word_at(bytes: &[u8]) -> (&[u8], &[u8])
     ensures word { result.0.now ≡ (word_of bytes.now).0 }
     ensures rest { result.1.now ≡ (word_of bytes.now).1 }
@@ -143,7 +143,7 @@ pub(crate) fn pair_line(word: &[u8], line: &[u8]) -> Option<(u64, u64)>
     Some((first, second))
 }
 
-// A flow of at least 1, behind a blank.
+// A flow of at least 1, after a blank.
 pub(crate) fn amount(bytes: &[u8]) -> Option<u64>
     ensures { MatchOption result (amount_at bytes.now ≡ None) (λ n. amount_at bytes.now ≡ Some n) }
 {
@@ -163,7 +163,8 @@ pub(crate) struct ImageParts<'a> {
 // An image line, its name not owned yet.
 #[tactic(auto, unfolding(crate::specs::Reading::image_at))]
 pub(crate) fn image_parts(line: &[u8]) -> Option<ImageParts<'_>>
-    ensures { MatchOption result (image_at line.now ≡ None) (λ i. image_at line.now ≡ Some (record { name = i.name.now; width = i.width; delay = i.delay; depth = i.depth })) }
+    ensures { MatchOption result (image_at line.now ≡ None) (λ i. image_at line.now
+        ≡ Some (record { name = i.name.now; width = i.width; delay = i.delay; depth = i.depth })) }
 {
     let rest = strip(b"image ", line)?;
     let (name, behind) = word_at(rest);

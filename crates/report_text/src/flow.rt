@@ -13,7 +13,8 @@ use dk_base::is_before;
 // An image and a flow.
 #[tactic(auto, unfolding(crate::specs::Reading::held_at))]
 fn held(images: &[ImageLine], bytes: &[u8]) -> Option<(usize, u64)>
-    ensures { MatchOption result ((make : ℕ → ℕ → FlowLine) → held_at make images.now bytes.now ≡ None) (λ x. (make : ℕ → ℕ → FlowLine) → held_at make images.now bytes.now ≡ Some (make x.0 x.1)) }
+    ensures { MatchOption result ((make : ℕ → ℕ → FlowLine) → held_at make images.now bytes.now ≡ None) (λ x. (make : ℕ → ℕ → FlowLine)
+        → held_at make images.now bytes.now ≡ Some (make x.0 x.1)) }
 {
     let (name, rest) = word_at(bytes);
     let place = find(images, name)?;
@@ -21,10 +22,11 @@ fn held(images: &[ImageLine], bytes: &[u8]) -> Option<(usize, u64)>
     Some((place, flow))
 }
 
-// The images of a read, and the bytes behind their names.
+// The images of a read, and the bytes after their names.
 #[tactic(auto, unfolding(crate::specs::Reading::carried_at))]
 fn places<'a>(images: &[ImageLine], bytes: &'a [u8]) -> Option<(usize, usize, &'a [u8])>
-    ensures { MatchOption result ((make : ℕ → ℕ → ℤ → ℤ → ℕ → FlowLine) → carried_at make images.now bytes.now ≡ None) (λ x. (make : ℕ → ℕ → ℤ → ℤ → ℕ → FlowLine) → carried_at make images.now bytes.now ≡ behind_names (make x.0 x.1) x.2.now) }
+    ensures { MatchOption result ((make : ℕ → ℕ → ℤ → ℤ → ℕ → FlowLine) → carried_at make images.now bytes.now ≡ None) (λ x. (make : ℕ → ℕ → ℤ → ℤ → ℕ
+        → FlowLine) → carried_at make images.now bytes.now ≡ behind_names (make x.0 x.1) x.2.now) }
 {
     let (reader, behind) = word_at(bytes);
     let reader = find(images, reader)?;
@@ -36,7 +38,8 @@ fn places<'a>(images: &[ImageLine], bytes: &'a [u8]) -> Option<(usize, usize, &'
 
 // The offset of a read, and a flow.
 fn offset(bytes: &[u8]) -> Option<(i32, i32, u64)>
-    ensures { MatchOption result ((make : ℤ → ℤ → ℕ → FlowLine) → behind_names make bytes.now ≡ None) (λ x. (make : ℤ → ℤ → ℕ → FlowLine) → behind_names make bytes.now ≡ Some (make x.0 x.1 x.2)) }
+    ensures { MatchOption result ((make : ℤ → ℤ → ℕ → FlowLine) → behind_names make bytes.now ≡ None) (λ x. (make : ℤ → ℤ → ℕ → FlowLine)
+        → behind_names make bytes.now ≡ Some (make x.0 x.1 x.2)) }
 {
     let across = strip(b" ", bytes)?;
     let (dx, behind) = offset_at(across)?;
@@ -48,7 +51,8 @@ fn offset(bytes: &[u8]) -> Option<(i32, i32, u64)>
 
 // The images of a read, its offset and a flow.
 fn carried(images: &[ImageLine], bytes: &[u8]) -> Option<(usize, usize, i32, i32, u64)>
-    ensures { MatchOption result ((make : ℕ → ℕ → ℤ → ℤ → ℕ → FlowLine) → carried_at make images.now bytes.now ≡ None) (λ x. (make : ℕ → ℕ → ℤ → ℤ → ℕ → FlowLine) → carried_at make images.now bytes.now ≡ Some (make x.0 x.1 x.2 x.3 x.4)) }
+    ensures { MatchOption result ((make : ℕ → ℕ → ℤ → ℤ → ℕ → FlowLine) → carried_at make images.now bytes.now ≡ None) (λ x. (make : ℕ → ℕ → ℤ → ℤ → ℕ
+        → FlowLine) → carried_at make images.now bytes.now ≡ Some (make x.0 x.1 x.2 x.3 x.4)) }
 {
     let (reader, source, rest) = places(images, bytes)?;
     let (dx, dy, flow) = offset(rest)?;
@@ -125,7 +129,7 @@ fn order_of(line: FlowLine) -> (usize, usize, i32, i32)
     }
 }
 
-// Whether a flow line stands before another one.
+// Whether a flow line comes before another one.
 fn stands_before(a: FlowLine, b: FlowLine) -> bool
     ensures yes { IsTrue result → StandsBefore a b }
     ensures no { StandsBefore a b → IsTrue result }

@@ -11,6 +11,6 @@ mod word;
 mod writing;
 
 pub use reading::{ReportFault, read};
-pub use reading_laws::{one_reading, read_again};
+pub use reading_laws::{one_reading_law, read_again_law};
 pub use report::{FlowLine, ImageLine, Limits, Report};
 pub use writing::write;

@@ -1,9 +1,10 @@
-// The report that a text stands for.
+// The report that a text denotes.
 
 ghost use Rattle.std.specs.Prelude.{◌≡◌, ◌&&◌, ◌≤◌, ◌<◌, [], ◌∷◌, length, take, drop, MatchOption, MatchResult, ⊤, ℕ};
 ghost use Rattle.std.specs.List.{prefix_len};
 ghost use Rattle.report_text.specs.Reports.{Report as TheReport, parts_of};
-ghost use Rattle.report_text.specs.Texts.{cut, StandsFor, IsFaultyLine};
+ghost use Rattle.dk_grammar.specs.Lines.{cut};
+ghost use Rattle.report_text.specs.Texts.{StandsFor, IsFaultyLine};
 ghost use Rattle.report_text.specs.Reading.{reading, nothing as no_parts, is_final as final, is_empty};
 ghost use Rattle.report_text.specs.Answers.{Refuses, Gives, Tells};
 ghost use Rattle.report_text.specs.Steps.{Finds, is_inside};
@@ -22,7 +23,7 @@ pub enum ReportFault {
     OutOfMemory,
 }
 
-// How many bytes stand before the first LF.
+// How many bytes come before the first LF.
 fn inside_length(text: &[u8]) -> usize
     ensures is { result ≡ prefix_len is_inside text.now }
     ensures within { result ≤ length text.now }
@@ -54,7 +55,7 @@ fn is_final(stage: Stage, version: u8) -> bool
     }
 }
 
-// Whether a report ends behind a line of this kind, with these bytes left.
+// Whether a report ends after a line of this kind, with these bytes left.
 fn is_whole(stage: Stage, version: u8, rest: &[u8]) -> bool
     ensures { result ≡ (is_empty rest.now && final stage version) }
 {
@@ -108,7 +109,7 @@ fn all(alloc: Global, text: &[u8]) -> Result<Report, ReportFault>
     }
 }
 
-/// The report that a text stands for, or the first line that continues no report.
+/// The report that a text denotes, or the first line that continues no report.
 pub fn read(alloc: Global, text: &[u8]) -> Result<Report, ReportFault>
     ensures judged { MatchResult result (λ report. StandsFor text.now (parts_of report)) (λ fault. Refuses text.now fault) }
     ensures accepts { (r : TheReport) → StandsFor text.now r → Gives r result }

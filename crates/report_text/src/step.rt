@@ -32,7 +32,7 @@ pub(crate) enum Stage {
     End,
 }
 
-// Each of these answers the kind of the line, or None where the line is none of that kind that may stand here; the report has then its values too.
+// Each of these answers the kind of the line, or None if the line is none of that kind that may come here; the report then has its values too.
 
 fn plan(report: &mut Report, line: &[u8]) -> Option<Stage>
     ensures { Does (planned (parts_of report.old) line.now) (parts_of report.old) result (parts_of report.new) }
@@ -218,7 +218,7 @@ fn flow_or_end(report: &mut Report, line: &[u8]) -> Result<Option<Stage>, OutOfM
     }
 }
 
-// The kind of a line behind one of this kind, with its values put into the report; None where the line continues no report.
+// The kind of a line after one of this kind, with its values put into the report; None where the line continues no report.
 pub(crate) fn step(
     alloc: Global,
     report: &mut Report,

@@ -29,7 +29,7 @@ fn push_signed(out: &mut Vec<u8>, number: i32) -> Result<(), OutOfMemory>
     Ok(())
 }
 
-// A word with a blank behind it, and a number.
+// A word with a blank after it, and a number.
 fn push_number_line(out: &mut Vec<u8>, word: &[u8], number: u64) -> Result<(), OutOfMemory>
     ensures { OnOk result (out.new.items ≡ out.old.items ++ number_line word.now number) }
 {
@@ -39,7 +39,7 @@ fn push_number_line(out: &mut Vec<u8>, word: &[u8], number: u64) -> Result<(), O
     Ok(())
 }
 
-// A word with a blank behind it, and two numbers.
+// A word with a blank after it, and two numbers.
 fn push_pair_line(
     out: &mut Vec<u8>,
     word: &[u8],
@@ -115,7 +115,8 @@ fn push_held(
 
 // The offset of a read with a blank before each number, and a flow.
 fn push_offset(out: &mut Vec<u8>, dx: i32, dy: i32, flow: u64) -> Result<(), OutOfMemory>
-    ensures { OnOk result (out.new.items ≡ out.old.items ++ (codes " " ++ (signed_decimal dx ++ (codes " " ++ (signed_decimal dy ++ number_line (codes " ") flow))))) }
+    ensures { OnOk result (out.new.items
+        ≡ out.old.items ++ (codes " " ++ (signed_decimal dx ++ (codes " " ++ (signed_decimal dy ++ number_line (codes " ") flow))))) }
 {
     out.extend_from_slice(b" ")?;
     push_signed(out, dx)?;
@@ -228,7 +229,8 @@ fn push_end(out: &mut Vec<u8>, version: u8) -> Result<(), OutOfMemory>
 
 // The lines of the frame and the images.
 fn push_first(out: &mut Vec<u8>, report: &Report) -> Result<(), OutOfMemory>
-    ensures { OnOk result (out.new.items ≡ out.old.items ++ (joined (head_lines (parts_of report.now)) ++ (size_line report.now.width report.now.height ++ (joined (map image_line report.now.images.items) ++ joined (map latency_line report.now.latencies.items))))) }
+    ensures { OnOk result (out.new.items
+        ≡ out.old.items ++ (joined (head_lines (parts_of report.now)) ++ (size_line report.now.width report.now.height ++ (joined (map image_line report.now.images.items) ++ joined (map latency_line report.now.latencies.items))))) }
 {
     push_head(out, report)?;
     push_pair_line(
@@ -244,7 +246,8 @@ fn push_first(out: &mut Vec<u8>, report: &Report) -> Result<(), OutOfMemory>
 
 // The lines of the sums and the flow.
 fn push_last(out: &mut Vec<u8>, report: &Report) -> Result<(), OutOfMemory>
-    ensures { OnOk result (out.new.items ≡ out.old.items ++ (clocks_line report.now.clocks ++ (bits_line report.now.bits ++ (joined (unless_first report.now.version (reads_line report.now.reads ∷ [])) ++ (joined (map (flow_line report.now.images.items) report.now.flow.items) ++ joined (unless_first report.now.version (end_line ∷ []))))))) }
+    ensures { OnOk result (out.new.items
+        ≡ out.old.items ++ (clocks_line report.now.clocks ++ (bits_line report.now.bits ++ (joined (unless_first report.now.version (reads_line report.now.reads ∷ [])) ++ (joined (map (flow_line report.now.images.items) report.now.flow.items) ++ joined (unless_first report.now.version (end_line ∷ []))))))) }
 {
     push_number_line(out, b"clocks ", report.clocks)?;
     push_number_line(out, b"bits ", report.bits)?;
@@ -254,7 +257,7 @@ fn push_last(out: &mut Vec<u8>, report: &Report) -> Result<(), OutOfMemory>
     Ok(())
 }
 
-/// The text of a report, by the layout of its version. Where the report's values are those of its version, the text stands for it and for no other.
+/// The text of a report, by the layout of its version. Where the report's values are those of its version, the text denotes it and no other.
 pub fn write(alloc: Global, report: &Report) -> Result<Vec<u8>, OutOfMemory>
     ensures { IfOk result (λ text. text.items ≡ layout (parts_of report.now)) }
 {

@@ -23,7 +23,7 @@ upto k n w total l h = let e : k * w + w ≤ n * w = below k n w l in omega (ari
     below zero (suc n) w l = omega arith
     below (suc k) (suc n) w l = let e : k * w + w ≤ n * w = below k n w (omega (arith, l)) in omega (arith, e)
 
--- whole lines are the same with samples behind them
+-- whole lines are the same with samples after them
 line_same : (kind : Kind) (samples more : List ℕ) (k : ℕ) → k * kind.size.width + kind.size.width ≤ length samples → line_at kind (samples ++ more) k ≡ line_at kind samples k
 line_same kind samples more k h =
     let w = kind.size.width in

@@ -1,4 +1,4 @@
--- The first fault of a file, behind images that were streamed.
+-- The first fault of a file, after images that were streamed.
 use Rattle.std.proofs.Common.{◌≡◌, ℕ, ◌+◌, ◌*◌, ◌<◌, ◌≤◌, ◌⊎◌, inl, inr, List, [], ◌∷◌, ◌++◌, length, map, drop, Option, Some, None, Err, refl, ap, sym, subst, ◌∙◌, arith, append-nil, length-append}
 use Rattle.dk_base.specs.declared.TheConstants.{MAX_FILE_IMAGES}
 use Rattle.std.specs.List.{AllByRecursion}
@@ -66,7 +66,7 @@ as_fault size bits number offset bytes rest (image.Short held need) i r = i
 as_fault size bits number offset bytes rest image.Count i r = absurd r
 as_fault size bits number offset bytes rest (image.Round held need) i r = absurd r
 
--- an image behind these is refused
+-- an image after these is refused
 pub first_refused : (size : Size) (bits count : ℕ) (images : List Image) (bytes rest file : List ℕ) (f : FileFault) → file ≡ bytes ++ rest → AreImages bytes images → AllByRecursion (FitsImage size (greatest bits)) images → length images ≡ count
     → count < MAX_FILE_IMAGES → (0 < count → 0 < length rest) → Refused size bits count (length bytes) rest f → IsFault (one_port size bits) file f
 first_refused size bits count images bytes rest file f parts are fit number few some r =
@@ -85,7 +85,7 @@ first_refused size bits count images bytes rest file f parts are fit number few 
       refused = subst (λ z. Refused size bits z (length bytes) rest f) (sym is) r;
     }) r)
 
--- a byte behind as many images as a file may have
+-- a byte after as many images as a file may have
 pub first_too_many : (size : Size) (bits : ℕ) (images : List Image) (bytes rest file : List ℕ) → file ≡ bytes ++ rest → AreImages bytes images → AllByRecursion (FitsImage size (greatest bits)) images → length images ≡ MAX_FILE_IMAGES → 0 < length rest
     → IsFault (one_port size bits) file image.Count
 first_too_many size bits images bytes rest file parts are fit number some =
@@ -99,7 +99,7 @@ first_too_many size bits images bytes rest file parts are fit number some =
       more = some;
     })
 
--- what is told of the front and of what is left
+-- what is specified of the front and of what is left
 pub told_parts : (xs : List ℕ) (known : Option (List ℕ)) (file : List ℕ) → prepend_known xs known ≡ Some file → (more : List ℕ) × (known ≡ Some more) × (file ≡ xs ++ more)
 told_parts xs None file e = absurd (let z : ⊥ = cc in z)
 told_parts xs (Some more) file e = (more, refl, sym (taken (xs ++ more) file e))

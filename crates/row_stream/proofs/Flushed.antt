@@ -58,7 +58,7 @@ fails_all kind m x n from old before now l h =
     subst (λ z. Fails kind m z from old before now) (sym (ap zeros (let e : n ≡ x + (n - x) = omega (arith, l) in e) ∙ zeros_join x (n - x)))
     (fails_more kind m (zeros x) (zeros (n - x)) from old before now h)
 
--- so many lines, and one more
+-- this many lines, and one more
 pub next_line : (k width : ℕ) → (k + 1) * width ≡ k * width + width
 next_line k width = grind arith
 

@@ -51,7 +51,7 @@ exact_undecided bytes h r exact count inside = record {
     count_is : length (take count bytes) ≡ count
     count_is = length-take-le count bytes (omega (arith, inside))
 
--- the first digit of a maxval stands in the header
+-- the first digit of a maxval is in the header
 pub range_short : (bytes : List ℕ) (offset : ℕ) → OutOfRange bytes offset → offset ≤ MAX_HEADER_BYTES
 range_short bytes offset r =
     let front : OutOfRange r.front offset = record {

@@ -100,7 +100,7 @@ module _ (kind : Kind) (m : Netlist) (bits count offset : ℕ) (header : Header)
       end = subst (λ (z : Outside). IsAtEnd z.image.rest) same end;
     })
 
--- what was refused behind images is the file's first fault
+-- what was refused after images is the file's first fault
 module _ (kind : Kind) (m : Netlist) (bits : ℕ) (f : FileFault) (all : Option (List ℕ)) (from : Contents) (old : Line) (before now : Outside) where
   first_behind : (e : EndsBehind kind m bits (Image f) all from old before now) → RefusesNext kind.size bits e.count (length e.images.bytes) f e.half.image now.image → (file : List ℕ) → all ≡ Some file → IsFault (one_port kind.size bits) file f
   first_behind e (refused few r) file told =

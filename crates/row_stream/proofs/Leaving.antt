@@ -1,4 +1,4 @@
--- What a stream leaves behind, of what was clocked since File was created.
+-- What a stream leaves, of what was clocked since File was created.
 use Rattle.std.proofs.Common.{◌≡◌, ℕ, zero, suc, ◌+◌, ◌*◌, ◌<◌, ◌≤◌, Bool, false, List, [], ◌∷◌, ◌++◌, take, drop, map, replicate, Option, Some, None, Err, Result, inl, inr, ◌⊎◌, refl, ap, sym, subst, ◌∙◌, arith, append-nil}
 use Rattle.dk_base.specs.declared.TheConstants.{MAX_FILE_IMAGES}
 use Rattle.std.specs.Option.{option_map}
@@ -38,7 +38,7 @@ use Rattle.row_stream.proofs.Taken.{samples, is_raster, sample_is}
 use Rattle.row_stream.proofs.FirstFault.{first_refused, told_parts, fits_file}
 use Rattle.row_stream.proofs.HeadEnds.{at_end}
 
--- ---- bytes and notes behind the header
+-- ---- bytes and notes after the header
 
 told_none : (notes : Option (List (Bool × ℕ))) → IsIfTold notes (option_map (λ l. l ++ []) notes)
 told_none None = tt
@@ -189,7 +189,7 @@ zeros : (n a : ℕ) → map (λ (k : ℕ). pixel_clock 0) (range_with_len a n) �
 zeros zero a = refl
 zeros (suc n) a = ap (λ z. pixel_clock 0 ∷ z) (zeros n (a + 1))
 
--- ---- the images, behind the reset clock
+-- ---- the images, after the reset clock
 
 module _ (kind : Kind) (m : Netlist) (bits latency : ℕ) (name : List ℕ) (from first : Contents) (line next : Line) (old before created begun reset : Outside) (fresh : IsFresh line) (some : 0 < kind.size.width)
     (taken : before ≡ record old { image = record old.image { rest = before.image.rest } }) (creates : Creates name before created) (header : AddsToFile created (head kind) begun) (goes : Goes kind m (reset_clock ∷ []) from first line next begun reset) where

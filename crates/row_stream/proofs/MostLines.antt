@@ -41,7 +41,7 @@ use Rattle.row_stream.proofs.FirstFault.{behind_is, columns, some_size, told_par
 abbrev AreMost : Size → ℕ → List ℕ → ℕ → Type 0
 AreMost size bits bytes rows = (more : ℕ) → BeginsLines size bits bytes more → more ≤ rows
 
--- so many lines in order at the front of bytes
+-- this many lines in order at the front of bytes
 record Held (header : Header) (rows : ℕ) (bytes : List ℕ) : Type 0 where
   enough : rows * header.width * sample_size header.maxval ≤ length bytes
   fit : (k : ℕ) → k < rows * header.width → sample_at header.maxval bytes k ≤ header.maxval
@@ -59,7 +59,7 @@ raster_count : (header : Header) (rows : ℕ) (raster samples : List ℕ) → Is
 raster_count header rows raster samples is =
     ap length is.bytes_are ∙ length_spelled (is_narrow header.maxval) samples ∙ ap (λ z. z * sample_size header.maxval) (is.count ∙ sym (times_turned header.width rows))
 
--- what stands where the next line would be, and is none
+-- what is where the next line would be, and is none
 pub data Obstacle (header : Header) (rows : ℕ) (bytes : List ℕ) : Type 0 where
   short : length bytes < (rows + 1) * row_length header → Obstacle header rows bytes
   great : (k : ℕ) → k < (rows + 1) * header.width → header.maxval < sample_at header.maxval bytes k → Obstacle header rows bytes
@@ -87,7 +87,7 @@ picture_reads first rest p i = record {
   length_is = refl;
 }
 
--- behind a header and lines in order stands an obstacle
+-- after a header and lines in order comes an obstacle
 most_inside : (size : Size) (bits : ℕ) (header : Header) (head bytes : List ℕ) (rows : ℕ) → Reads head header → length head ≡ header.length → rows < header.height → Obstacle header rows bytes → AreMost size bits (head ++ bytes) rows
 most_inside size bits header head bytes rows reads exact below o more (nothing e) = omega (arith, e)
 most_inside size bits header head bytes rows reads exact below o more (lines other front raster samples rest fits others length_is within are e) =
@@ -153,7 +153,7 @@ ends_inside one size bits count images bytes head raster samples tail file heade
       most = most_images one size bits images bytes (head ++ (raster ++ tail)) rows are (most_inside size bits header head (raster ++ tail) rows reads exact below o);
     }))
 
--- ---- what stands behind the lines that were streamed
+-- ---- what follows the lines that were streamed
 
 short_of : (header : Header) (rows : ℕ) (raster samples tail : List ℕ) → IsRaster raster header.width rows header.maxval samples → length tail < row_length header → Obstacle header rows (raster ++ tail)
 short_of header rows raster samples tail is l = short (let e : (rows + 1) * row_length header ≡ rows * row_length header + row_length header = omega arith in

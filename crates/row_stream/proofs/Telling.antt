@@ -1,4 +1,4 @@
--- What is told of clocks that follow one another, and the run that shows it.
+-- What is reported of clocks that follow one another, and the run that shows it.
 use Rattle.std.proofs.Common.{◌≡◌, ℕ, zero, suc, ◌+◌, ◌*◌, Bool, List, [], ◌∷◌, ◌++◌, length, take, drop, map, refl, ap, sym, subst, ◌∙◌, arith, append_assoc, append-nil, length-append, Some}
 use Rattle.std.specs.Prelude.{◌/◌, slice_get}
 use Rattle.std.specs.List.{AllZip, flat_map}
@@ -140,7 +140,7 @@ runs_length m [] from to (t ∷ shots) h = absurd h
 runs_length m (c ∷ cs) from to [] h = absurd h
 runs_length m (c ∷ cs) from to (t ∷ shots) h = ap suc (runs_length m cs h.0 to shots h.2)
 
--- the first so many clocks
+-- the first n clocks
 pub runs_first : (m : Netlist) (n : ℕ) (cs : List Clock) (from to : Contents) (shots : List Snapshot) → Runs m from cs shots to → (mid : Contents) × Runs m from (take n cs) (take n shots) mid
 runs_first m zero cs from to shots h = (from, refl)
 runs_first m (suc n) [] from to [] h = (from, refl)

@@ -37,7 +37,7 @@ gains_add start now next w x notes h a = record {
   told = subst (λ z. Rattle.dk_desk.specs.Calls.IsIfTold z (Rattle.std.specs.Option.option_map (λ before. before ++ notes) start.notes)) (sym (ap (λ (o : Outside). o.notes) a.only)) h.told;
 }
 
--- the same where a write failed behind some of them
+-- the same where a write failed after some of them
 pub gains_front : (start now next : Outside) (w x : List ℕ) (notes : List (Bool × ℕ)) → Gains start w notes now → (h : WritesFront File now x next) → GainsBut start (w ++ take h.count x) notes next
 gains_front start now next w x notes g h =
     let output : now.output_failures ≡ start.output_failures = ap (λ (o : Outside). o.output_failures) g.only in

@@ -1,4 +1,4 @@
--- The clocks of a line, and what is told and shown of them.
+-- The clocks of a line, and what is specified and shown of them.
 use Rattle.std.specs.Prelude.{◌≡◌, ℕ, ◌<◌, ◌≤◌, Bool, true, List, ◌++◌, length, take, map, replicate}
 use Rattle.std.specs.List.{flat_map}
 use Rattle.cycle_sim.specs.declared.ports.Out.{Out}
@@ -8,7 +8,7 @@ use Rattle.row_stream.specs.declared.line.Line.{Line}
 use Rattle.row_stream.specs.Lines.{Kind}
 use Rattle.row_stream.specs.Standing.{Writes, FailsInLine, sample_of}
 
--- room for so many clocks, the port en being at 1 in each
+-- room for this many clocks, the port en being at 1 in each
 pub record HasBlock (count : ℕ) (block : Block) : Type 0 where
   pub enables : block.enables.items ≡ replicate count true
   pub dins : length block.dins.items ≡ count

@@ -23,31 +23,31 @@ use Rattle.row_stream.specs.Heads.{FitsHeader, RefusesHead, LosesHead}
 use Rattle.row_stream.specs.Rows.{EndsRows}
 use Rattle.row_stream.specs.Images.{Images, AtHead}
 
--- frames of this size for one input of so many bits
+-- frames of this size for one input of this many bits
 abbrev pub one_port : Size → ℕ → Ports
 one_port size bits = ports_with size (bits ∷ [])
 
--- the greatest sample of so many bits
+-- the greatest sample of this many bits
 abbrev pub greatest : ℕ → ℕ
 greatest bits = 2 ^ bits - 1
 
--- What stands behind so many images, and is no image that fits: a header that is refused, or a byte behind as many images as a file may have.
+-- What follows this many images, and is no image that fits: a header that is refused, or a byte after as many images as a file may have.
 pub data RefusesNext (size : Size) (bits images offset : ℕ) (fault : FileFault) (old new : Input) : Type 0 where
   refused : images < MAX_FILE_IMAGES → RefusesHead size bits offset true fault old new → RefusesNext size bits images offset fault old new
   too_many : images ≡ MAX_FILE_IMAGES → fault ≡ Count → (byte : ℕ) → old.rest ≡ prepend_known (byte ∷ []) new.rest → RefusesNext size bits images offset fault old new
 
--- Where a read failed behind so many images: inside a header, or at a byte behind as many images as a file may have.
+-- Where a read failed after this many images: inside a header, or at a byte after as many images as a file may have.
 pub data LosesNext (images : ℕ) (old new : Input) : Type 0 where
   in_header : images < MAX_FILE_IMAGES → LosesHead old new → LosesNext images old new
   at_byte : images ≡ MAX_FILE_IMAGES → old.rest ≡ new.rest → LosesNext images old new
 
--- why there is no further image behind so many images and bytes
+-- why there is no further image after this many images and bytes
 abbrev pub EndsNext : Size → (bits images offset : ℕ) → StreamFault → (old new : Input) → Type 0
 EndsNext size bits images offset (Image fault) old new = RefusesNext size bits images offset fault old new
 EndsNext size bits images offset Read old new = LosesNext images old new
 EndsNext size bits images offset Write old new = ⊥
 
--- why the lines of an image behind so many others were not all streamed
+-- why the lines of an image after this many others were not all streamed
 abbrev pub EndsImage : Kind → Netlist → Header → (bits images : ℕ) → StreamFault → Contents → Line → (before now : Outside) → Type 0
 EndsImage kind m header bits images (Image fault) from old before now =
     (f : RasterFault) × EndsRows kind m header (Raster f) from old before now
@@ -55,7 +55,7 @@ EndsImage kind m header bits images (Image fault) from old before now =
 EndsImage kind m header bits images Read from old before now = EndsRows kind m header RowsRead from old before now
 EndsImage kind m header bits images Write from old before now = EndsRows kind m header RowsWrite from old before now
 
--- So many images were streamed and a header was taken behind them, at this offset of the file.
+-- This many images were streamed and a header was taken after them, at this offset of the file.
 pub record Stands (kind : Kind) (m : Netlist) (bits count offset : ℕ) (header : Header) (all : Option (List ℕ)) (from to : Contents) (old new : Line) (before now : Outside) : Type 0 where
   pub at : AtHead kind m (greatest bits) count header all from to old new before now
   pub offset_is : offset ≡ length at.images.bytes

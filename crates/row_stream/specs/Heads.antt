@@ -21,7 +21,7 @@ use Rattle.pgm_rounds.specs.Files.{IsHeaded, HasSize, Refused}
 abbrev pub IsUndecidedBefore : List ℕ → Type 0
 IsUndecidedBefore bytes = (count : ℕ) → count < length bytes → Undecided (take count bytes)
 
--- a header was read, and no byte behind it
+-- a header was read, and no byte after it
 pub record TakesHead (header : Header) (old new : Input) : Type 0 where
   pub read : List ℕ
   pub given : old.rest ≡ prepend_known read new.rest
@@ -55,14 +55,14 @@ EndsHead may_end Read old new = LosesHead old new
 abbrev pub IsRefusal : HeaderFault → Type 0
 IsRefusal fault = (bytes : List ℕ) × Refuses bytes fault
 
--- So many bytes were taken, and they begin a header.
+-- This many bytes were taken, and they begin a header.
 pub record IsScanning (scan : HeaderScan) (count : ℕ) (old new : Input) : Type 0 where
   pub read : List ℕ
   pub count_is : length read ≡ count
   pub given : old.rest ≡ prepend_known read new.rest
   pub scanned : Scanned scan read
 
--- A header of an image of this size, with a maxval of so many bits.
+-- A header of an image of this size, with a maxval of this many bits.
 pub record FitsHeader (size : Size) (bits : ℕ) (header : Header) : Type 0 where
   pub sized : HasSize size header
   pub maxval : header.maxval ≤ 2 ^ bits - 1

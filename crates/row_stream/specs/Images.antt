@@ -22,7 +22,7 @@ pub record FitsImage (size : Size) (most : ℕ) (image : Image) : Type 0 where
 abbrev pub samples_of : List Image → List ℕ
 samples_of images = flat_map (λ (image : Image). image.samples) images
 
--- These images were read and clocked; their bytes stand at the front of all that there was.
+-- These images were read and clocked; their bytes are at the front of all that there was.
 pub record Images (kind : Kind) (m : Netlist) (most count : ℕ) (all : Option (List ℕ)) (from to : Contents) (old new : Line) (before now : Outside) : Type 0 where
   pub images : List Image
   pub bytes : List ℕ
@@ -32,7 +32,7 @@ pub record Images (kind : Kind) (m : Netlist) (most count : ℕ) (all : Option (
   pub given : all ≡ prepend_known bytes now.image.rest
   pub goes : Goes kind m (map (λ s. pixel_clock s) (samples_of images)) from to old new before now
 
--- The same, and this header was taken behind them.
+-- The same, and this header was taken after them.
 pub record AtHead (kind : Kind) (m : Netlist) (most count : ℕ) (header : Header) (all : Option (List ℕ)) (from to : Contents) (old new : Line) (before now : Outside) : Type 0 where
   pub half : Outside
   pub images : Images kind m most count all from to old new before half

@@ -8,7 +8,7 @@ use Rattle.row_stream.specs.Heads.{FitsHeader}
 use Rattle.row_stream.specs.Images.{FitsImage}
 use Rattle.row_stream.specs.Ends.{greatest}
 
--- The bytes begin with so many whole lines in order, counted through images of this size and of so many bits, each behind its header.
+-- The bytes begin with this many whole lines in order, counted through images of this size and of this many bits, each after its header.
 pub data BeginsLines (size : Size) (bits : ℕ) : List ℕ → ℕ → Type 0 where
   nothing : {bytes : List ℕ} {rows : ℕ} → rows ≡ 0 → BeginsLines size bits bytes rows
   lines : {bytes : List ℕ} {rows : ℕ} (header : Header) (head raster samples rest : List ℕ) → FitsHeader size bits header → Reads head header → length head ≡ header.length → rows ≤ header.height → IsRaster raster header.width rows header.maxval samples
@@ -16,7 +16,7 @@ pub data BeginsLines (size : Size) (bits : ℕ) : List ℕ → ℕ → Type 0 wh
   image : {bytes : List ℕ} {rows : ℕ} (image : Image) (first rest : List ℕ) (more : ℕ) → IsImageOf first image → FitsImage size (greatest bits) image → bytes ≡ first ++ rest → BeginsLines size bits rest more
       → rows ≡ size.height + more → BeginsLines size bits bytes rows
 
--- So many whole lines in order are all with which the bytes begin.
+-- This many whole lines in order are all with which the bytes begin.
 pub record EndsLines (size : Size) (bits : ℕ) (bytes : List ℕ) (rows : ℕ) : Type 0 where
   pub begins : BeginsLines size bits bytes rows
   pub most : (more : ℕ) → BeginsLines size bits bytes more → more ≤ rows

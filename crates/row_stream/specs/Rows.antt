@@ -31,13 +31,13 @@ IsRowFault header row (Raster f) old new = IsRowRefused header row f old new
 IsRowFault header row Read old new = LosesFewer (row_length header) old new
 IsRowFault header row Write old new = ⊥
 
--- So many whole lines of an image were read and are in order.
+-- This many whole lines of an image were read and are in order.
 pub record AreRows (header : Header) (rows : ℕ) (raster : List ℕ) : Type 0 where
   pub length_is : length raster ≡ rows * row_length header
   pub fit : AllFit header.maxval raster
   pub bytes : (k : ℕ) → slice_index raster k < 256
 
--- So many lines were read, and clocked.
+-- This many lines were read, and clocked.
 pub record Streams (kind : Kind) (m : Netlist) (header : Header) (rows : ℕ) (from to : Contents) (old new : Line) (before now : Outside) : Type 0 where
   pub raster : List ℕ
   pub are : AreRows header rows raster

@@ -1,4 +1,4 @@
--- Where a stream stands.
+-- The state of a stream.
 use Rattle.std.specs.Prelude.{◌≡◌, ℕ, ◌+◌, ◌-◌, ◌*◌, ◌<◌, ◌≤◌, ◌^◌, ◌==◌, Bool, true, false, List, [], ◌∷◌, ◌++◌, length, take, drop, map, if◌then◌else◌, vec_capacity}
 use Rattle.wiring.specs.Netlist.{Netlist, net_width, valid_net, dout_net}
 use Rattle.std.specs.List.{AllByRecursion, range_with_len}
@@ -89,7 +89,7 @@ IsPixelClock m c = (c.reset ≡ false) × Fit (din_widths m) c.dins
 pub record Lasts (m : Netlist) (from : Contents) : Type 0 where
   pub on : (clocks : List Clock) (shots : List Snapshot) (to : Contents) → AllByRecursion (IsPixelClock m) clocks → Runs m from clocks shots to → (c : Clock) → IsPixelClock m c → GoesOn m to c
 
--- so many clocks, with these numbers at the din
+-- this many clocks, with these numbers at the din
 abbrev pub pixel_clocks : (ℕ → ℕ) → ℕ → List Clock
 pixel_clocks f count = map (λ k. pixel_clock (f k)) (range_with_len 0 count)
 
@@ -97,7 +97,7 @@ pixel_clocks f count = map (λ k. pixel_clock (f k)) (range_with_len 0 count)
 abbrev pub reset_clock : Clock
 reset_clock = record { reset = true; enable = true; dins = 0 ∷ [] }
 
--- a reset clock does not stop, and behind it no clock stops as long as none is a reset
+-- a reset clock does not stop, and after it no clock stops as long as none is a reset
 pub record Starts (m : Netlist) (from : Contents) : Type 0 where
   pub on : GoesOn m from reset_clock
   pub lasts : (s : Snapshot) (to : Contents) → Steps m from (given m reset_clock) s to → Lasts m to

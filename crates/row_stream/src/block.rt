@@ -23,7 +23,7 @@ pub(crate) struct Block {
 }
 
 impl Block {
-    // Room for so many clocks.
+    // Room for this many clocks.
     pub(crate) fn new(alloc: Global, count: usize) -> Result<Block, OutOfMemory>
         ensures { IfOk result (HasBlock count) }
     {
@@ -47,7 +47,9 @@ pub(crate) fn step(sim: &mut Blocks, reset: bool, din: u64) -> Result<Out, Index
     requires din { Fit (din_widths sim.old.netlist) (din ∷ []) }
     requires one { length sim.old.netlist.outputs ≡ 2 }
     ensures netlist { sim.new.netlist ≡ sim.old.netlist }
-    ensures ok { IfOk result (λ out. (s : Snapshot) × Steps sim.old.netlist sim.old.contents (given sim.old.netlist (record { reset = reset; enable = true; dins = din ∷ [] })) s sim.new.contents × IsShown s 0 out) }
+    ensures ok { IfOk result (λ out. (s : Snapshot)
+        × Steps sim.old.netlist sim.old.contents (given sim.old.netlist (record { reset = reset; enable = true; dins = din ∷ [] })) s sim.new.contents
+        × IsShown s 0 out) }
     ensures stops { IfErr result (λ r. Stops sim.old.netlist sim.old.contents (given sim.old.netlist (record { reset = reset; enable = true; dins = din ∷ [] })) r.array r.index) }
 {
     let mut outs = [Out {

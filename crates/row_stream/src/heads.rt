@@ -23,7 +23,8 @@ pub(crate) enum HeadFault {
 // The next byte, or None at the end.
 pub(crate) fn next_byte<D: Desk>(desk: &mut D) -> Result<Option<u8>, Failed>
     requires { (D.outside desk.old).image.stage ≡ Stage.Open }
-    ensures given { IfOk result (λ next. (D.outside desk.old).image.rest ≡ prepend_known (Rattle.std.specs.Prelude.option_to_list next) (D.outside desk.new).image.rest) }
+    ensures given { IfOk result (λ next. (D.outside desk.old).image.rest
+        ≡ prepend_known (Rattle.std.specs.Prelude.option_to_list next) (D.outside desk.new).image.rest) }
     ensures end { result ≡ Ok None → IsAtEnd (D.outside desk.new).image.rest }
     ensures stays { Rattle.std.specs.Prelude.OnErr result ((D.outside desk.old).image.rest ≡ (D.outside desk.new).image.rest) }
     ensures only { ReadsOnly InSlot.Image (D.outside desk.old) (D.outside desk.new) }
@@ -49,7 +50,7 @@ pub(crate) fn next_head<D: Desk>(desk: &mut D, may_end: bool) -> Result<Option<H
     ensures only { ReadsOnly InSlot.Image (D.outside desk.old) (D.outside desk.new) }
     ensures cause { HasCauseIn (result ≡ Err HeadFault.Read) (D.outside desk.old).input_failures (D.outside desk.new).input_failures }
 {
-    pgm_codec::one_reading();
+    pgm_codec::one_reading_law();
     let mut scan = HeaderScan::new();
     for index in 0..MAX_HEADER_BYTES {
         match next_byte(desk) {
@@ -70,7 +71,7 @@ pub(crate) fn next_head<D: Desk>(desk: &mut D, may_end: bool) -> Result<Option<H
     unreachable!()
 }
 
-// Takes the header that comes next, of an image that fits, behind so many bytes of the file; None where the input may end here, and does.
+// Takes the header that comes next, of an image that fits, after this many bytes of the file; None where the input may end here, and does.
 pub(crate) fn next_image<D: Desk>(
     desk: &mut D,
     size: FrameSize,

@@ -42,7 +42,7 @@ all_fail p xs e = elim (cases_lt (position_or_len p xs) (length xs)) [
   | inr le ↦ le
 ]
 
--- a name that stands for no image is none of the scope's
+-- a name that denotes no image is none of the scope's
 unknown_differs : (scope : Scope) (name : List ℕ) → IsUnknown scope name → (k : ℕ) → k < length scope → slice_index_or (map (λ (i : Named). i.name) scope) k [] ≢ name
 unknown_differs scope name h k lt same =
     let d : Named = record { name = []; ty = Unsigned 1 } in

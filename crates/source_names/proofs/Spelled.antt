@@ -42,7 +42,7 @@ front_passes p (x ∷ xs) = by (p x) refl (front_passes p xs)
 equal : (a b : ℕ) → a ≡ b → eqb a b ≡ true
 equal a b e = grind (arith, nat_tests)
 
--- a letter and the longest run of letters and digits behind it are a word
+-- a letter and the longest run of letters and digits after it are a word
 front_word : (a : ℕ) (bs : List ℕ) → is_letter a ≡ true → is_word (take (prefix_len is_word_byte (a ∷ bs)) (a ∷ bs)) ≡ true
 front_word a bs letter =
     let m = prefix_len is_word_byte bs in

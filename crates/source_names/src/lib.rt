@@ -1,6 +1,6 @@
-//! A law alone: what the names of a source's images keep.
+//! Only a law: what the names of a source's images keep.
 #![tactic(auto)]
 
 mod laws;
 
-pub use laws::source_names;
+pub use laws::source_names_law;

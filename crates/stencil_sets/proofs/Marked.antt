@@ -181,7 +181,7 @@ below_more old new after k a b =
 pub below_all : (old new : List Bool) (k n : ℕ) → n ≤ k → k ≤ n → MarksMore old new (λ h. h < k) → MarksMore old new (λ h. h < n)
 below_all old new k n a b m = let e : k ≡ n = omega (arith, a, b) in subst (λ x. MarksMore old new (λ h. h < x)) e m
 
--- the first so many of a list
+-- the first n of a list
 abbrev pub Among : List ℕ → ℕ → ℕ → Type 0
 Among xs i h = (k : ℕ) × (k < i) × (slice_index_or xs k h ≡ h)
 

@@ -37,7 +37,7 @@ same_test n g e f = grind (arith, e, f)
 test_same : (n g : ℕ) → (n == g) ≡ true → n ≡ g
 test_same n g e = grind (arith, e)
 
--- an image that stands in the list is kept
+-- an image that is in the list is kept
 pub number_kept : (images : List Image) (g k : ℕ) → k < length images → (slice_index_or images k no_image).number ≡ g → IsKept images g
 number_kept images g k h e = which (cases_lt (place images g) (length images))
   where

@@ -37,7 +37,7 @@ in_order_at xs r o b i j d h k (inr (inr g)) = let e = length-append xs (r ∷ [
 pub in_order_more : (xs : List LiveRead) (r : LiveRead) → AreInOrder xs → AllBefore xs r → AreInOrder (xs ++ r ∷ [])
 in_order_more xs r o b i j d h k = in_order_at xs r o b i j d h k (cases_order j (length xs))
 
--- what stands before a place stands before each later one
+-- what comes before a place comes before each later one
 before_later : (a b c : LiveRead) → IsBefore a b → ((b.f < c.f) ⊎ ((b.f ≡ c.f) × ((b.g < c.g) ⊎ ((b.g ≡ c.g) × ((b.dy <ℤ c.dy) ⊎ ((b.dy ≡ c.dy) × (b.dx ≤ℤ c.dx))))))) → IsBefore a c
 before_later a b c p (inl h) = record { reader = omega (arith, p.reader, h); source = λ e. absurd (omega (arith, p.reader, h, e)); rows = λ e g. absurd (omega (arith, p.reader, h, e)); columns = λ e g r. absurd (omega (arith, p.reader, h, e)) }
 before_later a b c p (inr (s, inl h)) = record {

@@ -9,7 +9,7 @@ use Rattle.stencil_sets.specs.declared.found.Halt.TheVariants.{Full, OutOfMemory
 use Rattle.stencil_sets.specs.declared.path.Rect.{Rect}
 use Rattle.frame_paths.specs.Moves.{IsOffset}
 
--- all of these stand before it
+-- all of these come before it
 abbrev pub AllBefore : List LiveRead → LiveRead → Type 0
 AllBefore [] r = Unit {0}
 AllBefore (a ∷ rs) r = IsBefore a r × AllBefore rs r

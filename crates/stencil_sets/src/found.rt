@@ -65,7 +65,7 @@ fn push_run(
     Ok(())
 }
 
-// The reads of a row that the rectangle has, from a column offset on, and the offset behind them.
+// The reads of a row that the rectangle has, from a column offset on, and the offset after them.
 fn push_part(
     all: &mut Vec<LiveRead>,
     f: u32,
@@ -113,7 +113,7 @@ fn push_row(all: &mut Vec<LiveRead>, f: u32, g: u32, dy: i32, rects: &[Rect]) ->
     Ok(())
 }
 
-// The first of the rows of these rectangles, and the row behind the last.
+// The first of the rows of these rectangles, and the row after the last.
 fn rows_of(rects: &[Rect]) -> (i32, i32)
     requires near { All IsNearRect rects.now }
     ensures among { All (IsAmong result.0 result.1) rects.now }

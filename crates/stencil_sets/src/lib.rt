@@ -10,5 +10,5 @@ mod path;
 mod reader;
 mod reads;
 
-pub use laws::one_answer;
+pub use laws::one_answer_law;
 pub use live::{StencilFault, live_reads};

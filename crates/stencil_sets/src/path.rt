@@ -44,7 +44,8 @@ fn add_read(
     dy: i32,
 ) -> Result<(), OutOfMemory>
     requires { IsPath (size_of size) path }
-    ensures added { OnOk result ((g : ℕ) (x y : ℤ) → Covered all.new.items g x y ↔ (Covered all.old.items g x y ⊎ ReadsFrom (size_of size) (read edge image dx dy) path g x y)) }
+    ensures added { OnOk result ((g : ℕ) (x y : ℤ) → Covered all.new.items g x y
+        ↔ (Covered all.old.items g x y ⊎ ReadsFrom (size_of size) (read edge image dx dy) path g x y)) }
     ensures near { All IsNearRect all.old.items → All IsNearRect all.new.items }
 {
     match path.step(size, edge, dx, dy) {
@@ -65,7 +66,8 @@ pub fn add_reads(
     path: Path,
 ) -> Result<(), OutOfMemory>
     requires { IsPath (size_of size) path }
-    ensures added { OnOk result ((g : ℕ) (x y : ℤ) → Covered all.new.items g x y ↔ (Covered all.old.items g x y ⊎ ReadsFrom (size_of size) (tree_of body.now) path g x y)) }
+    ensures added { OnOk result ((g : ℕ) (x y : ℤ) → Covered all.new.items g x y
+        ↔ (Covered all.old.items g x y ⊎ ReadsFrom (size_of size) (tree_of body.now) path g x y)) }
     ensures near { All IsNearRect all.old.items → All IsNearRect all.new.items }
 {
     match body {

@@ -39,7 +39,8 @@ pub fn rects_of(alloc: Global, size: FrameSize, body: &Expr) -> Result<Vec<Rect>
 
 // Chooses the rectangle where it is of image g.
 fn choose(chosen: &mut SmallVec<Rect, 8>, rect: Rect, g: u32) -> Result<(), OutOfMemory>
-    ensures { OnOk result (((rect.image ≡ g) × (chosen.new.items ≡ chosen.old.items ++ rect ∷ [])) ⊎ ((rect.image ≢ g) × (chosen.new.items ≡ chosen.old.items))) }
+    ensures { OnOk result (((rect.image ≡ g) × (chosen.new.items ≡ chosen.old.items ++ rect ∷ []))
+        ⊎ ((rect.image ≢ g) × (chosen.new.items ≡ chosen.old.items))) }
 {
     if rect.image == g {
         chosen.push(rect)?;

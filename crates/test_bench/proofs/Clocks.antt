@@ -19,7 +19,8 @@ use Rattle.cycle_sim.proofs.RunsJoin.{picture_one}
 use Rattle.test_bench.specs.declared.picture.Shown.{Shown}
 use Rattle.test_bench.specs.declared.clocking.Bench.{Bench}
 use Rattle.test_bench.specs.Showing.{output_count, notes_at, notes_of}
-use Rattle.test_bench.specs.Clocking.{IsKept, AreKept, GoOn, DoutsFit, IsBench, Clocked, Extends, sample_of, pairs_of}
+use Rattle.test_bench.specs.Clocking.{IsKept, AreKept, GoOn, DoutsFit, IsBench, Clocked}
+use Rattle.test_bench.specs.BlockClocks.{Extends, sample_of, pairs_of}
 use Rattle.test_bench.specs.Blocks.{HasBlock}
 use Rattle.test_bench.proofs.Runs.{picture_join, go_on}
 use Rattle.test_bench.proofs.Ranges.{map_more}
@@ -127,20 +128,10 @@ clocked_one c old new before now s bench netlist most made outs block pictures r
       told = subst (λ z. GoOn before z now) (pairs_are old.sim.netlist s new.outs.items shown count) told;
     }
 
--- one output more is told
+-- one output more is specified
 pub told_more : (outs : List Out) (i : ℕ) (o : Out) (before between now : Option (List (Bool × ℕ))) → slice_get outs i ≡ Some o → GoOn before (pairs_of (take i outs)) between → GoOn between ((o.valid, o.dout) ∷ []) now → GoOn before (pairs_of (take (i + 1) outs)) now
 told_more outs i o before between now at h g =
     subst (λ z. GoOn before z now) (sym (map_more (λ (out : Out). (out.valid, out.dout)) outs i o at)) (go_on (pairs_of (take i outs)) ((o.valid, o.dout) ∷ []) before between now h g)
-
-dins_are : (enable : Bool) (inputs outputs : List ℕ) (p : ArePorts enable inputs outputs) → drop (if enable then 2 else 1) inputs ≡ p.dins
-dins_are true inputs outputs p = ap (λ z. drop 2 z) p.inputs_are
-dins_are false inputs outputs p = ap (λ z. drop 1 z) p.inputs_are
-
--- there are 1 to 8 dins, each of 1 to 16 bits
-pub din_ports : (m : Netlist) → KeepsRules m → IsPortCount (length (din_widths m)) × All IsPortWidth (din_widths m)
-din_ports m rules =
-    let e = dins_are m.enable m.inputs m.outputs rules.ports in
-    (subst (λ z. IsPortCount (length z)) (sym e) rules.ports.din_count, subst (λ z. All IsPortWidth z) (sym e) rules.ports.din_widths)
 
 -- there are few outputs
 pub few_outputs : (m now : Netlist) → KeepsRules m → now ≡ m → (count : ℕ) → length now.outputs ≡ 2 * count → count < 2 ^ 32

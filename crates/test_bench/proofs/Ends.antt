@@ -30,7 +30,8 @@ use Rattle.dk_frames.specs.declared.frame.Frame.{Frame}
 use Rattle.pgm_rounds.specs.declared.round.Round.{Round}
 use Rattle.pgm_rounds.specs.Files.{frames_of}
 use Rattle.test_bench.proofs.Runs.{runs_length}
-use Rattle.test_bench.specs.Writing.{HasEnough, AreFilled, image_kept, round_kept, IsShort}
+use Rattle.test_bench.specs.Writing.{HasEnough, image_kept, round_kept}
+use Rattle.test_bench.specs.Filling.{AreFilled, IsShort}
 use Rattle.test_bench.proofs.Clocks.{there, port_width, counted}
 use Rattle.test_bench.proofs.Ranges.{same_map, same_flat}
 use Rattle.test_bench.proofs.Written.{kept_at, round_there}
@@ -174,7 +175,7 @@ is_stop m drive size rounds first (Index clock array index) e s = record {
 }
 is_stop m drive size rounds first (Count shown wanted) e s = absurd s
 
--- the bench behind the whole stimulus
+-- the bench after the whole stimulus
 pub record Ended (m : Netlist) (drive : Drive) (size : Size) (rounds : Rounds) (pictures : List Shown) (before now : Option (List (Bool × ℕ))) : Type 0 where
   pub shots : List Snapshot
   pub run : IsRun m drive rounds shots

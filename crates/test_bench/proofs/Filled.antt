@@ -46,7 +46,7 @@ range_count a (suc n) = ap suc (range_count (a + 1) n)
 pub dins_count : (n : ℕ) (rounds : Rounds) (k : ℕ) → length (dins_at n rounds k) ≡ n
 dins_count n rounds k = length-map (range_with_len 0 n) _ ∙ range_count 0 n
 
--- so many numbers, and one clock more
+-- this many numbers, and one clock more
 pub total_more : (n clocks count : ℕ) → count ≡ clocks * n → count + n ≡ (clocks + 1) * n
 total_more n clocks count e = let f : (clocks + 1) * n ≡ clocks * n + n = grind arith in omega (arith, e, f)
 

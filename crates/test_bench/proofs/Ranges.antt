@@ -11,7 +11,7 @@ flat_more f a n = ap (λ k. flat_map f (range_with_len a k)) (let e : n + 1 ≡ 
     more f a zero = append-nil (f a) ∙ ap f (let e : a ≡ a + 0 = omega arith in e)
     more f a (suc n) = ap (λ z. f a ++ z) (more f (a + 1) n ∙ ap (λ k. flat_map f (range_with_len (a + 1) n) ++ f k) (let e : a + 1 + n ≡ a + suc n = omega arith in e)) ∙ sym (append_assoc (f a) (flat_map f (range_with_len (a + 1) n)) (f (a + suc n)))
 
--- the whole, cut behind number k
+-- the whole, cut after number k
 pub flat_cut : {X : Type 0} (f : ℕ → List X) (a k more : ℕ) → flat_map f (range_with_len a (k + suc more)) ≡ flat_map f (range_with_len a k) ++ (f (a + k) ++ flat_map f (range_with_len (a + k + 1) more))
 flat_cut f a zero more = ap (λ z. flat_map f (range_with_len a z)) (let e : 0 + suc more ≡ suc more = omega arith in e) ∙ ap (λ z. f z ++ flat_map f (range_with_len (z + 1) more)) (let e : a ≡ a + 0 = omega arith in e)
 flat_cut f a (suc k) more =

@@ -70,7 +70,7 @@ module _ (m : Netlist) where
   kept_join : (most : ℕ) (all shots more : List Snapshot) (pictures : List Rattle.test_bench.specs.declared.picture.Shown.Shown) → AreKept most ((all ++ shots) ++ more) pictures → AreKept most (all ++ (shots ++ more)) pictures
   kept_join most all shots more pictures h = subst (λ z. AreKept most z pictures) (append_assoc all shots more) h
 
-  -- a stop in later clocks, and more clocks behind
+  -- a stop in later clocks, and more clocks after
   pub stops_later : (cs ds : List Clock) (old mid : Bench) (before now : Notes) (stop : Stop) → Clocked m cs old mid before now → StopsIn m mid.sim.contents mid.made ds stop → StopsIn m old.sim.contents old.made (cs ++ ds) stop
   stops_later cs ds old mid before now (Index clock array index) h s = record {
     shots = h.shots ++ s.shots;

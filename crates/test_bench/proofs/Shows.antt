@@ -25,8 +25,9 @@ use Rattle.test_bench.specs.declared.picture.Shown.{Shown}
 use Rattle.test_bench.specs.declared.clocking.Bench.{Bench}
 use Rattle.test_bench.specs.declared.stop.Stop.TheVariants.{Index}
 use Rattle.test_bench.specs.Showing.{notes_of}
-use Rattle.test_bench.specs.Blocks.{HasBlock, AreShownIn}
-use Rattle.test_bench.specs.Clocking.{AreKept, GoOn, DoutsFit, IsBench, Clocked, ShowsBlock, StopsBlock, StopsIn, Extends, sample_of, pairs_of}
+use Rattle.test_bench.specs.Blocks.{HasBlock}
+use Rattle.test_bench.specs.BlockClocks.{AreShownIn, ShowsBlock, StopsBlock, Extends, sample_of, pairs_of}
+use Rattle.test_bench.specs.Clocking.{AreKept, GoOn, DoutsFit, IsBench, Clocked, StopsIn}
 use Rattle.test_bench.proofs.Clocks.{douts_fit, outs_small, pairs_are, there, kept_one, one}
 use Rattle.test_bench.proofs.Runs.{notes_join, runs_length}
 
@@ -170,7 +171,7 @@ done_within m enables dins from stop h =
 pub stops_in : (m : Netlist) (clocks : List Clock) (from : Contents) (first : ℕ) (stop : BlockStop) → StopsBlock m clocks from stop → StopsIn m from first clocks (Index (pos (first + stop.done) -ℤ pos 1) stop.range.array stop.range.index)
 stops_in m clocks from first stop h = record { shots = h.shots; stops = h.stops; clock_is = ap (λ n. pos (first + n) -ℤ pos 1) (sym h.done) }
 
--- ---- the bench behind a block
+-- ---- the bench after a block
 
 pub clocked_block : (enables : List Bool) (dins : List ℕ) (old new : Bench) (before now : Option (List (Bool × ℕ))) → IsBench old → new.sim.netlist ≡ old.sim.netlist → new.most ≡ old.most → new.made ≡ old.made + length enables → new.outs.items ≡ old.outs.items →
     length new.pictures.items ≡ length old.pictures.items → All (λ shown. old.most ≤ vec_capacity shown.samples) new.pictures.items → HasBlock (length (din_widths old.sim.netlist)) (length old.outs.items) new.block →

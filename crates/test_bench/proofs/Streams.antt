@@ -29,7 +29,7 @@ flat_at f A (y ∷ ys) h (suc q) r x l e =
     nia' : (A q r n : ℕ) → n ≡ A → suc q * A + r ≡ n + (q * A + r)
     nia' A q r n e = ap (λ z. z + r) (suc-mul q A) ∙ (omega (arith, e))
 
--- 0 behind the last
+-- 0 after the last
 pub flat_past : {X : Type 0} (f : X → List ℕ) (A : ℕ) (xs : List X) → ((k : ℕ) (x : X) → slice_get xs k ≡ Some x → length (f x) ≡ A) → (q r : ℕ) → slice_get xs q ≡ None → get_or (flat_map f xs) (q * A + r) 0 ≡ 0
 flat_past f A [] h q r e = refl
 flat_past f A (y ∷ ys) h zero r e = absurd (let z : ⊥ = cc in z)

@@ -1,5 +1,5 @@
 -- How far a bench has come: its clocks, its pictures and its notes.
-use Rattle.std.specs.Prelude.{◌≡◌, ℕ, ◌+◌, ◌-◌, ◌*◌, ◌^◌, ◌<◌, ◌≤◌, min, ℤ, pos, ◌-ℤ◌, Bool, List, [], ◌∷◌, ◌++◌, length, map, take, Option, slice_get, Some, vec_capacity, if◌then◌else◌, IfSome}
+use Rattle.std.specs.Prelude.{◌≡◌, ℕ, ◌+◌, ◌-◌, ◌*◌, ◌^◌, ◌<◌, ◌≤◌, min, ℤ, pos, ◌-ℤ◌, Bool, List, ◌++◌, length, take, Option, slice_get, Some, vec_capacity, IfSome}
 use Rattle.std.specs.List.{All}
 use Rattle.std.specs.Option.{option_map}
 use Rattle.dk_base.specs.Frames.{Size, area}
@@ -10,7 +10,6 @@ use Rattle.wiring.specs.Order.{IsEvaluationOrder}
 use Rattle.wiring.specs.Snapshot.{Contents, Snapshot, net_value}
 use Rattle.wiring.specs.Clock.{Clock}
 use Rattle.wiring.specs.Runs.{Runs, RunStops, picture}
-use Rattle.cycle_sim.specs.declared.ports.Out.{Out}
 use Rattle.cycle_sim.specs.Ports.{din_widths}
 use Rattle.pgm_rounds.specs.declared.round.Round.{Round}
 use Rattle.test_bench.specs.declared.picture.Shown.{Shown}
@@ -18,13 +17,12 @@ use Rattle.test_bench.specs.declared.clocking.Bench.{Bench}
 use Rattle.test_bench.specs.declared.clocking.Feed.{Feed}
 use Rattle.test_bench.specs.declared.stop.Stop.{Stop}
 use Rattle.test_bench.specs.declared.stop.Stop.TheVariants.{Index, Count}
-use Rattle.block_sim.specs.declared.blocks.Stop.{Stop as BlockStop}
 use Rattle.test_bench.specs.Stimulus.{greatest_dins}
 use Rattle.test_bench.specs.Given.{AreBenchFrames}
 use Rattle.test_bench.specs.Showing.{output_count, notes_of}
 use Rattle.test_bench.specs.Blocks.{HasBlock}
 
--- of this picture the first so many samples are kept, and how many it has
+-- of this picture the first `most` samples are kept, and their number
 pub record IsKept (most : ℕ) (whole : List ℕ) (kept : Shown) : Type 0 where
   pub samples : kept.samples.items ≡ take most whole
   pub count : kept.count ≡ min (length whole) (2 ^ 64 - 1)
@@ -33,18 +31,6 @@ pub record IsKept (most : ℕ) (whole : List ℕ) (kept : Shown) : Type 0 where
 abbrev pub AreKept : ℕ → List Snapshot → List Shown → Type 0
 AreKept most shots pictures = (k : ℕ) (kept : Shown) → slice_get pictures k ≡ Some kept → IsKept most (picture k shots) kept
 
--- what an output adds to its picture
-abbrev pub sample_of : Out → List ℕ
-sample_of out = if out.valid then out.dout ∷ [] else []
-
--- a picture has more samples at its end
-abbrev pub Extends : ℕ → (old new : Shown) → List ℕ → Type 0
-Extends most old new samples = (whole : List ℕ) → IsKept most whole old → IsKept most (whole ++ samples) new
-
--- the pair of each output
-abbrev pub pairs_of : List Out → List (Bool × ℕ)
-pairs_of outs = map (λ out. (out.valid, out.dout)) outs
-
 -- the notes go on with these
 abbrev pub GoOn : (before : Option (List (Bool × ℕ))) → List (Bool × ℕ) → (now : Option (List (Bool × ℕ))) → Type 0
 GoOn before more now = IsIfTold now (option_map (λ notes. notes ++ more) before)
@@ -52,20 +38,6 @@ GoOn before more now = IsIfTold now (option_map (λ notes. notes ++ more) before
 -- each dout fits its port
 abbrev pub DoutsFit : Netlist → Snapshot → Type 0
 DoutsFit m s = (k : ℕ) → k < output_count m → net_value s (dout_net k) < 2 ^ net_width m (dout_net k)
-
--- The module goes through the clocks of a block, the pictures have what is shown in them, and the notes go on.
-pub record ShowsBlock (m : Netlist) (clocks : List Clock) (from to : Contents) (most : ℕ) (old new : List Shown) (before now : Option (List (Bool × ℕ))) : Type 0 where
-  pub shots : List Snapshot
-  pub runs : Runs m from clocks shots to
-  pub kept : (all : List Snapshot) → AreKept most all old → AreKept most (all ++ shots) new
-  pub fit : All (DoutsFit m) shots
-  pub told : GoOn before (notes_of m shots) now
-
--- so many clocks of a block took place, and the next one stops
-pub record StopsBlock (m : Netlist) (clocks : List Clock) (from : Contents) (stop : BlockStop) : Type 0 where
-  pub shots : List Snapshot
-  pub done : length shots ≡ stop.done
-  pub stops : RunStops m from clocks shots stop.range.array stop.range.index
 
 -- a picture and a place for each output, and room for the samples and for a block of clocks
 pub record IsBench (b : Bench) : Type 0 where

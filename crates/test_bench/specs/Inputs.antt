@@ -39,7 +39,7 @@ pub data IsBenchFault (widths bytes : List ℕ) (f : FileFault) : Type 0 where
 abbrev pub samples_of : List (List Image) → Rounds
 samples_of rounds = map (λ round. map (λ (image : Image). image.samples) round) rounds
 
--- a file's fault, or want of memory
+-- a file's fault, or out of memory
 abbrev pub IsBenchError : (widths bytes : List ℕ) → FileError → Type 0
 IsBenchError widths bytes (error.Fault f) = IsBenchFault widths bytes f
 IsBenchError widths bytes error.OutOfMemory = Unit {0}

@@ -5,4 +5,6 @@ pub mod Stops
 pub mod Inputs
 pub mod Blocks
 pub mod Clocking
+pub mod BlockClocks
 pub mod Writing
+pub mod Filling

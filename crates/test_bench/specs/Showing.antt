@@ -36,7 +36,7 @@ HasShown m size rounds shots output = IsEnough (output_count m) (asked size roun
 abbrev pub image_shown : Netlist → Size → List Snapshot → (round output : ℕ) → Image
 image_shown m size shots round output = record { width = size.width; height = size.height; maxval = 2 ^ net_width m (dout_net output) - 1; samples = take (area size) (drop (round * area size) (picture output shots)) }
 
--- one image for each output, for each of so many rounds
+-- one image for each output, for each of this many rounds
 abbrev pub images_shown : Netlist → Size → ℕ → List Snapshot → List Image
 images_shown m size rounds shots = flat_map (λ round. map (image_shown m size shots round) (range_with_len 0 (output_count m))) (range_with_len 0 rounds)
 

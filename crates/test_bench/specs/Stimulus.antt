@@ -12,7 +12,7 @@ Rounds = List (List (List ℕ))
 abbrev pub stream : Rounds → ℕ → List ℕ
 stream rounds input = flat_map (λ round. slice_index_or round input []) rounds
 
--- pixel k of each of so many inputs, 0 after the last pixel
+-- pixel k of each of this many inputs, 0 after the last pixel
 abbrev pub dins_at : (inputs : ℕ) → Rounds → ℕ → List ℕ
 dins_at inputs rounds k = map (λ input. slice_index (stream rounds input) k) (range_with_len 0 inputs)
 
@@ -29,12 +29,12 @@ greatest_dins widths = map (λ w. 2 ^ w - 1) widths
 abbrev pub held_clock : List ℕ → Clock
 held_clock widths = record { reset = false; enable = false; dins = greatest_dins widths }
 
--- a held clock follows clock k: after every so many
+-- a held clock follows clock k: after every this many
 abbrev pub is_held_after : Option ℕ → ℕ → Bool
 is_held_after None k = false
 is_held_after (Some count) k = nat_eq ((k + 1) % count) 0
 
--- clock k, and the held one behind it
+-- clock k, and the held one after it
 abbrev pub clocks_at : Option ℕ → List ℕ → Rounds → ℕ → List Clock
 clocks_at hold widths rounds k = pixel_clock (length widths) rounds k ∷ (if is_held_after hold k then held_clock widths ∷ [] else [])
 

@@ -20,7 +20,7 @@ pub record StopsAtClock (m : Netlist) (drive : Drive) (rounds : Rounds) (clock :
   pub stops : RunStops m (filled_contents drive.fill m) (stimulus drive (din_widths m) rounds) shots array index
   pub clock_is : clock ≡ pos (length shots) -ℤ pos 1
 
--- The run goes to its end, and the first output that has not shown enough has shown so many samples.
+-- The run goes to its end, and the first output that has not shown enough has shown this many samples.
 pub record ShowsOthers (m : Netlist) (drive : Drive) (size : Size) (rounds : Rounds) (shown wanted : ℕ) : Type 0 where
   pub shots : List Snapshot
   pub run : IsRun m drive rounds shots
@@ -35,7 +35,7 @@ abbrev pub IsStop : Netlist → Drive → Size → Rounds → Stop → Type 0
 IsStop m drive size rounds (Index clock array index) = StopsAtClock m drive rounds clock array index
 IsStop m drive size rounds (Count shown wanted) = ShowsOthers m drive size rounds shown wanted
 
--- a stop, or want of memory
+-- a stop, or out of memory
 abbrev pub IsBenchEnd : Netlist → Drive → Size → Rounds → BenchFault → Type 0
 IsBenchEnd m drive size rounds (Stopped stop) = IsStop m drive size rounds stop
 IsBenchEnd m drive size rounds OutOfMemory = Unit {0}

@@ -5,16 +5,13 @@ use Rattle.dk_base.specs.Frames.{Size, area}
 use Rattle.wiring.specs.Rules.{IsPortWidth}
 use Rattle.pgm_codec.specs.Images.{Image}
 use Rattle.test_bench.specs.declared.picture.Shown.{Shown}
-use Rattle.test_bench.specs.declared.stop.Stop.TheVariants.{Index, Count}
-use Rattle.test_bench.specs.declared.stop.BenchFault.{BenchFault}
-use Rattle.test_bench.specs.declared.stop.BenchFault.TheVariants.{Stopped, OutOfMemory}
 use Rattle.test_bench.specs.Showing.{IsEnough}
 
 -- the picture of this number has shown enough
 abbrev pub HasEnough : (pictures : List Shown) → (asked : ℕ) → ℕ → Type 0
 HasEnough pictures asked k = (kept : Shown) → slice_get pictures k ≡ Some kept → IsEnough (length pictures) asked kept.count
 
--- the first picture that has not shown enough has so many samples
+-- the first picture that has not shown enough has `shown` samples
 pub record IsFirstShort (pictures : List Shown) (asked shown : ℕ) : Type 0 where
   pub output : ℕ
   pub kept : Shown
@@ -23,7 +20,7 @@ pub record IsFirstShort (pictures : List Shown) (asked shown : ℕ) : Type 0 whe
   pub before : (k : ℕ) → k < output → HasEnough pictures asked k
   pub shown_is : shown ≡ kept.count
 
--- so many samples are there, and each fits the dout of this width
+-- the required samples are there, and each fits the dout of this width
 pub record IsWhole (asked bits : ℕ) (kept : Shown) : Type 0 where
   pub samples : asked ≤ length kept.samples.items
   pub width : IsPortWidth bits
@@ -44,14 +41,3 @@ image_kept size ports pictures round output = record { width = size.width; heigh
 -- those of all outputs
 abbrev pub round_kept : Size → (ports : List ℕ) → List Shown → (round : ℕ) → List Image
 round_kept size ports pictures round = map (image_kept size ports pictures round) (range_with_len 0 (length pictures))
-
--- pictures, each of which is whole where it has shown so many samples
-pub record AreFilled (size : Size) (ports : List ℕ) (rounds : ℕ) (pictures : List Shown) : Type 0 where
-  pub count : length ports ≡ 2 * length pictures
-  pub each : (k : ℕ) (kept : Shown) → slice_get pictures k ≡ Some kept → rounds * area size ≤ kept.count → IsWhole (rounds * area size) (slice_index ports (2 * k + 1)) kept
-
--- a picture has not shown what is asked, or memory is wanting
-abbrev pub IsShort : List Shown → (asked : ℕ) → BenchFault → Type 0
-IsShort pictures asked (Stopped (Count shown wanted)) = IsFirstShort pictures asked shown × (wanted ≡ asked)
-IsShort pictures asked (Stopped (Index clock array index)) = ⊥
-IsShort pictures asked OutOfMemory = Unit {0}

@@ -9,8 +9,6 @@ ghost use Rattle.dk_desk.specs.Calls.{IsIfTold};
 ghost use Rattle.std.specs.List.{flat_map, range_with_len};
 ghost use Rattle.dk_base.specs.declared.TheConstants.{MAX_FILE_IMAGES};
 ghost use Rattle.pgm_codec.specs.Images.{file_of};
-ghost use Rattle.wiring.specs.Netlist.{netlist_of};
-ghost use Rattle.wiring.specs.Rules.{KeepsRules, IsPortCount, IsPortWidth};
 ghost use Rattle.cycle_sim.specs.Filled.{filled_contents};
 ghost use Rattle.cycle_sim.specs.Ports.{din_widths};
 ghost use Rattle.test_bench.specs.Stimulus.{greatest_dins};
@@ -18,7 +16,8 @@ ghost use Rattle.test_bench.specs.Given.{rounds_of, AreBenchFrames};
 ghost use Rattle.test_bench.specs.Showing.{asked as asked_of, IsShown, IsNoted};
 ghost use Rattle.test_bench.specs.Stops.{IsBenchEnd};
 ghost use Rattle.test_bench.specs.Clocking.{IsBench, AreKept};
-ghost use Rattle.test_bench.specs.Writing.{AreFilled, HasEnough, IsShort, round_kept};
+ghost use Rattle.test_bench.specs.Writing.{HasEnough, round_kept};
+ghost use Rattle.test_bench.specs.Filling.{AreFilled, IsShort};
 
 use crate::block::Block;
 use crate::clocking::{Bench, Feed, all_clocks};
@@ -28,33 +27,14 @@ use crate::pixels::{greatest_of, zeros};
 use crate::stop::{BenchFault, Stop};
 use crate::writing::{area, first_short, write_rounds};
 use block_sim::Blocks;
-use cycle_sim::{Fill, Out};
+use cycle_sim::{Fill, Out, dins_of};
 use dk_base::{FrameSize, OutOfMemory};
 use dk_desk::Desk;
-use netlist::{Module, Width, Wiring};
+use netlist::{Module, Width};
 use pgm_rounds::Round;
 use std::alloc::Global;
 
-// The widths behind those of the other inputs.
-fn dins_in(wiring: &Wiring) -> &[Width]
-    requires { KeepsRules (netlist_of wiring.now) }
-    ensures { result.now ≡ din_widths (netlist_of wiring.now) }
-{
-    let first = if wiring.enable { 2 } else { 1 };
-    wiring.inputs.split_at(first).1
-}
-
-/// The widths of a module's dins in bits, the first din first: what `read_input` asks for.
-pub fn dins_of(module: &Module) -> &[Width]
-    ensures widths { result.now ≡ din_widths «module».now.netlist }
-    ensures count { IsPortCount (length result.now) }
-    ensures ports { All IsPortWidth result.now }
-{
-    let wiring = module.wiring();
-    dins_in(wiring)
-}
-
-// So many outputs that show nothing.
+// `count` outputs that show nothing.
 fn no_outs(alloc: Global, count: usize) -> Result<Vec<Out>, OutOfMemory>
     ensures { IfOk result (λ outs. length outs.items ≡ count) }
 {
@@ -66,7 +46,7 @@ fn no_outs(alloc: Global, count: usize) -> Result<Vec<Out>, OutOfMemory>
     Ok(outs)
 }
 
-// So many pictures without samples, with room for `most` samples each.
+// `count` pictures without samples, with room for `most` samples each.
 fn no_pictures(alloc: Global, count: usize, most: usize) -> Result<Vec<Shown>, OutOfMemory>
     ensures count { IfOk result (λ pictures. length pictures.items ≡ count) }
     ensures kept { IfOk result (λ pictures. AreKept most [] pictures.items) }
@@ -106,7 +86,7 @@ pub fn set_up(alloc: Global, module: &Module, fill: Fill, most: usize) -> Result
     })
 }
 
-// The file of the pictures, or the first output that has not shown what is asked.
+// The file of the pictures, or the first output that has not shown the required samples.
 fn finish(
     alloc: Global,
     ports: &[Width],
@@ -116,7 +96,8 @@ fn finish(
 ) -> Result<Vec<u8>, BenchFault>
     requires rounds { rounds ≤ MAX_FILE_IMAGES }
     requires filled { AreFilled (size_of size) ports.now rounds pictures.now }
-    ensures file { IfOk result (λ file. ((k : ℕ) → HasEnough pictures.now (rounds * area_of (size_of size)) k) × (file.items ≡ file_of (flat_map (round_kept (size_of size) ports.now pictures.now) (range_with_len 0 rounds)))) }
+    ensures file { IfOk result (λ file. ((k : ℕ) → HasEnough pictures.now (rounds * area_of (size_of size)) k)
+        × (file.items ≡ file_of (flat_map (round_kept (size_of size) ports.now pictures.now) (range_with_len 0 rounds)))) }
     ensures short { IfErr result (IsShort pictures.now (rounds * area_of (size_of size))) }
 {
     let wanted = (rounds * area(size)) as u64;
@@ -129,7 +110,7 @@ fn finish(
     }
 }
 
-/// Runs a module on the images of a file, and gives the file of the pictures that it shows: for each round one image for each output in order, of the size of the file's images, with the greatest value of the output's dout as maxval. Each clock is told to the desk, one pair of valid and dout for each output in order. It answers Stopped where an index is past its array, or where an output has not shown what is asked.
+/// Runs a module on the images of a file, and returns the file of the pictures that it shows. For each round it has one image for each output in order, of the size of the file's images, with the greatest value of the output's dout as maxval. Each clock is noted on the desk, one pair of valid and dout for each output in order. It answers Stopped if an index is past its array, or if an output has not shown the required samples.
 pub fn run_bench<D: Desk>(
     alloc: Global,
     desk: &mut D,
@@ -143,7 +124,8 @@ pub fn run_bench<D: Desk>(
     requires frames { AreBenchFrames (din_widths «module».now.netlist) (size_of size) rounds.now }
     ensures only { D.outside desk.new ≡ record (D.outside desk.old) { notes = (D.outside desk.new).notes } }
     ensures file { IfOk result (λ file. IsShown «module».now.netlist drive (size_of size) (rounds_of rounds.now) file.items) }
-    ensures notes { OnOk result ((notes : List (Bool × ℕ)) × IsNoted «module».now.netlist drive (rounds_of rounds.now) notes × IsIfTold (D.outside desk.new).notes (option_map (λ before. before ++ notes) (D.outside desk.old).notes)) }
+    ensures notes { OnOk result ((notes : List (Bool × ℕ)) × IsNoted «module».now.netlist drive (rounds_of rounds.now) notes
+        × IsIfTold (D.outside desk.new).notes (option_map (λ before. before ++ notes) (D.outside desk.old).notes)) }
     ensures stop { IfErr result (λ f. IsBenchEnd «module».now.netlist drive (size_of size) (rounds_of rounds.now) f) }
 {
     let wiring = module.wiring();

@@ -32,7 +32,7 @@ pub(crate) struct Block {
 }
 
 impl Block {
-    // Room for the clocks of a block, held ones too, each with so many dins and outputs.
+    // Room for the clocks of a block, held ones too, each with this many dins and outputs.
     pub(crate) fn new(alloc: Global, dins: usize, outputs: usize) -> Result<Block, OutOfMemory>
         requires dins { dins < 2 ^ 32 }
         requires outputs { outputs < 2 ^ 32 }
@@ -84,7 +84,8 @@ fn push_pixel_clock(block: &mut Block, feed: &Feed, rounds: &[Round], number: u6
     requires enables { length block.old.enables.items + 1 ≤ vec_capacity block.old.enables }
     requires dins { length block.old.dins.items + length feed.now.held.items ≤ vec_capacity block.old.dins }
     requires whole { length block.old.dins.items ≡ length block.old.enables.items * length feed.now.held.items }
-    ensures clocks { clocks_with (length feed.now.held.items) block.new.enables.items block.new.dins.items ≡ clocks_with (length feed.now.held.items) block.old.enables.items block.old.dins.items ++ pixel_clock (length feed.now.held.items) (rounds_of rounds.now) number ∷ [] }
+    ensures clocks { clocks_with (length feed.now.held.items) block.new.enables.items block.new.dins.items
+        ≡ clocks_with (length feed.now.held.items) block.old.enables.items block.old.dins.items ++ pixel_clock (length feed.now.held.items) (rounds_of rounds.now) number ∷ [] }
     ensures count { length block.new.enables.items ≡ length block.old.enables.items + 1 }
     ensures whole { length block.new.dins.items ≡ length block.new.enables.items * length feed.now.held.items }
     ensures enables { vec_capacity block.new.enables ≡ vec_capacity block.old.enables }
@@ -100,7 +101,8 @@ fn push_held_clock(block: &mut Block, comes: bool, held: &[u64])
     requires enables { length block.old.enables.items + 1 ≤ vec_capacity block.old.enables }
     requires dins { length block.old.dins.items + length held.now ≤ vec_capacity block.old.dins }
     requires whole { length block.old.dins.items ≡ length block.old.enables.items * length held.now }
-    ensures clocks { clocks_with (length held.now) block.new.enables.items block.new.dins.items ≡ clocks_with (length held.now) block.old.enables.items block.old.dins.items ++ (if comes then record { reset = false; enable = false; dins = held.now } ∷ [] else []) }
+    ensures clocks { clocks_with (length held.now) block.new.enables.items block.new.dins.items
+        ≡ clocks_with (length held.now) block.old.enables.items block.old.dins.items ++ (if comes then record { reset = false; enable = false; dins = held.now } ∷ [] else []) }
     ensures count { length block.new.enables.items ≤ length block.old.enables.items + 1 }
     ensures whole { length block.new.dins.items ≡ length block.new.enables.items * length held.now }
     ensures enables { vec_capacity block.new.enables ≡ vec_capacity block.old.enables }
@@ -113,14 +115,16 @@ fn push_held_clock(block: &mut Block, comes: bool, held: &[u64])
     }
 }
 
-// Adds the clock of this number and the held one behind it, if one follows.
+// Adds the clock of this number and the held one after it, if one follows.
 fn push_clocks(block: &mut Block, feed: &Feed, rounds: &[Round], number: u64)
     requires fed { (m : Netlist) × (size : Size) × IsFed m size feed.now rounds.now }
     requires number { number + 1 < 2 ^ 64 }
     requires enables { length block.old.enables.items + 2 ≤ vec_capacity block.old.enables }
     requires dins { length block.old.dins.items + 2 * length feed.now.held.items ≤ vec_capacity block.old.dins }
     requires whole { length block.old.dins.items ≡ length block.old.enables.items * length feed.now.held.items }
-    ensures clocks { (m : Netlist) (size : Size) → IsFed m size feed.now rounds.now → clocks_with (length feed.now.held.items) block.new.enables.items block.new.dins.items ≡ clocks_with (length feed.now.held.items) block.old.enables.items block.old.dins.items ++ clocks_at feed.now.hold (din_widths m) (rounds_of rounds.now) number }
+    ensures clocks { (m : Netlist) (size : Size) → IsFed m size feed.now rounds.now
+        → clocks_with (length feed.now.held.items) block.new.enables.items block.new.dins.items
+        ≡ clocks_with (length feed.now.held.items) block.old.enables.items block.old.dins.items ++ clocks_at feed.now.hold (din_widths m) (rounds_of rounds.now) number }
     ensures count { length block.new.enables.items ≤ length block.old.enables.items + 2 }
     ensures whole { length block.new.dins.items ≡ length block.new.enables.items * length feed.now.held.items }
     ensures enables { vec_capacity block.new.enables ≡ vec_capacity block.old.enables }
@@ -144,14 +148,16 @@ fn clear(block: &mut Block)
     block.dins.clear();
 }
 
-// Makes a block of so many clocks, counted from this one, with the held ones between them.
+// Makes a block of this many clocks, counted from this one, with the held ones between them.
 pub(crate) fn fill_block(block: &mut Block, feed: &Feed, rounds: &[Round], start: u64, count: u64)
     requires fed { (m : Netlist) × (size : Size) × IsFed m size feed.now rounds.now }
     requires start { start < 2 ^ 60 }
     requires count { count ≤ BLOCK_PIXELS }
     requires enables { 2 * BLOCK_PIXELS ≤ vec_capacity block.old.enables }
     requires dins { 2 * BLOCK_PIXELS * length feed.now.held.items ≤ vec_capacity block.old.dins }
-    ensures clocks { (m : Netlist) (size : Size) → IsFed m size feed.now rounds.now → clocks_with (length feed.now.held.items) block.new.enables.items block.new.dins.items ≡ flat_map (clocks_at feed.now.hold (din_widths m) (rounds_of rounds.now)) (range_with_len start count) }
+    ensures clocks { (m : Netlist) (size : Size) → IsFed m size feed.now rounds.now
+        → clocks_with (length feed.now.held.items) block.new.enables.items block.new.dins.items
+        ≡ flat_map (clocks_at feed.now.hold (din_widths m) (rounds_of rounds.now)) (range_with_len start count) }
     ensures count { length block.new.enables.items ≤ 2 * count }
     ensures whole { length block.new.dins.items ≡ length block.new.enables.items * length feed.now.held.items }
     ensures enables { vec_capacity block.new.enables ≡ vec_capacity block.old.enables }

@@ -10,13 +10,13 @@ ghost use Rattle.wiring.specs.Order.{IsEvaluationOrder};
 ghost use Rattle.wiring.specs.Rules.{KeepsRules};
 ghost use Rattle.block_sim.specs.Called.{block_clocks};
 ghost use Rattle.test_bench.specs.declared.block.TheConstants.{BLOCK_PIXELS};
-ghost use Rattle.test_bench.specs.Blocks.{AreShownIn};
+ghost use Rattle.test_bench.specs.BlockClocks.{AreShownIn, Extends, ShowsBlock, StopsBlock, sample_of, pairs_of};
 ghost use Rattle.cycle_sim.specs.declared.ports.Out.{Out as Ports};
 ghost use Rattle.cycle_sim.specs.Ports.{din_widths, AreShown};
 ghost use Rattle.test_bench.specs.declared.picture.Shown.{Shown as Picture};
 ghost use Rattle.test_bench.specs.Stimulus.{reset_clock, clocks_at};
 ghost use Rattle.test_bench.specs.Given.{rounds_of};
-ghost use Rattle.test_bench.specs.Clocking.{Extends, AreKept, ShowsBlock, StopsBlock, sample_of, pairs_of, GoOn, IsBench, Clocked, StopsIn, IsFed};
+ghost use Rattle.test_bench.specs.Clocking.{AreKept, GoOn, IsBench, Clocked, StopsIn, IsFed};
 
 use crate::block::{BLOCK_PIXELS, Block, fill_block};
 use crate::picture::Shown;
@@ -26,10 +26,10 @@ use cycle_sim::{IndexRange, Out};
 use dk_desk::Desk;
 use pgm_rounds::Round;
 
-/// A module on a test bench. `IsBench` says what its fields keep.
+/// A module on a test bench. `IsBench` is the invariant of its fields.
 #[derive(Drop)]
 pub struct Bench {
-    /// The module, behind the latest clock.
+    /// The module, after the latest clock.
     pub sim: Blocks,
     /// Room for what each output shows in a clock.
     pub outs: Vec<Out>,
@@ -48,7 +48,7 @@ pub struct Bench {
 pub struct Feed {
     /// The number of pixels of a frame.
     pub area: usize,
-    /// After how many clocks one held clock follows each time; None where there are no held clocks.
+    /// The number of clocks after which a held clock follows each time. None if there are no held clocks.
     pub hold: Option<u32>,
     /// What the dins have in a held clock.
     pub held: Vec<u64>,
@@ -66,13 +66,15 @@ fn step(
     requires outs { length sim.old.netlist.outputs ≡ 2 * length outs.old.items }
     ensures netlist { sim.new.netlist ≡ sim.old.netlist }
     ensures count { length outs.new.items ≡ length outs.old.items }
-    ensures ok { OnOk result ((s : Snapshot) × Steps sim.old.netlist sim.old.contents (given sim.old.netlist (record { reset = reset; enable = enable; dins = dins.now })) s sim.new.contents × AreShown s outs.new.items) }
+    ensures ok { OnOk result ((s : Snapshot)
+        × Steps sim.old.netlist sim.old.contents (given sim.old.netlist (record { reset = reset; enable = enable; dins = dins.now })) s sim.new.contents
+        × AreShown s outs.new.items) }
     ensures stops { IfErr result (λ r. Stops sim.old.netlist sim.old.contents (given sim.old.netlist (record { reset = reset; enable = enable; dins = dins.now })) r.array r.index) }
 {
     sim.step_all(reset, enable, dins, outs)
 }
 
-// Tells the pair of each output to the desk, clock for clock.
+// Notes the pair of each output at the desk, clock for clock.
 fn tell<D: Desk>(desk: &mut D, outs: &[Out])
     ensures only { D.outside desk.new ≡ record (D.outside desk.old) { notes = (D.outside desk.new).notes } }
     ensures notes { GoOn (D.outside desk.old).notes (pairs_of outs.now) (D.outside desk.new).notes }
@@ -89,14 +91,15 @@ fn show(pictures: &mut Vec<Shown>, most: usize, outs: &[Out])
     requires douts { All (λ out. out.dout < 2 ^ MAX_PORT_WIDTH) outs.now }
     ensures count { length pictures.new.items ≡ length outs.now }
     ensures room { All (λ shown. most ≤ vec_capacity shown.samples) pictures.new.items }
-    ensures kept { (k : ℕ) (old new : Picture) (out : Ports) → slice_get pictures.old.items k ≡ Some old → slice_get pictures.new.items k ≡ Some new → slice_get outs.now k ≡ Some out → Extends most old new (sample_of out) }
+    ensures kept { (k : ℕ) (old new : Picture) (out : Ports) → slice_get pictures.old.items k ≡ Some old → slice_get pictures.new.items k ≡ Some new
+        → slice_get outs.now k ≡ Some out → Extends most old new (sample_of out) }
 {
     for k in 0..outs.len() {
         pictures[k].add(most, outs[k]);
     }
 }
 
-/// One clock. Behind it each output has one sample more in its picture, if its valid is 1, and the pair of valid and dout of each output is noted on the desk, in their order. It stops where an index is past its array.
+/// One clock. After it each output has one sample more in its picture, if its valid is 1, and the pair of valid and dout of each output is noted on the desk, in their order. It stops if an index is past its array.
 pub fn clock<D: Desk>(
     desk: &mut D,
     bench: &mut Bench,
@@ -112,7 +115,7 @@ pub fn clock<D: Desk>(
     ensures stop { IfErr result (StopsIn bench.old.sim.netlist bench.old.sim.contents bench.old.made (record { reset = reset; enable = enable; dins = dins.now } ∷ [])) }
 {
     bench.sim.law();
-    netlist::values_fit();
+    netlist::values_fit_law();
     match step(&mut bench.sim, reset, enable, dins, &mut bench.outs) {
         Err(range) => Err(Stop::Index {
             clock: bench.made as i64 - 1,
@@ -128,14 +131,15 @@ pub fn clock<D: Desk>(
     }
 }
 
-// Adds what each output shows in each of so many clocks to its picture, the outputs of a clock behind those of the clock before.
+// Adds what each output shows in each of these clocks to its picture. The outputs of a clock follow those of the clock before.
 fn show_all(pictures: &mut Vec<Shown>, most: usize, outs: &[Out], count: usize)
     requires places { length outs.now ≡ count * length pictures.old.items }
     requires room { All (λ shown. most ≤ vec_capacity shown.samples) pictures.old.items }
     requires douts { All (λ out. out.dout < 2 ^ MAX_PORT_WIDTH) outs.now }
     ensures count { length pictures.new.items ≡ length pictures.old.items }
     ensures room { All (λ shown. most ≤ vec_capacity shown.samples) pictures.new.items }
-    ensures kept { (shots all : List Snapshot) → length shots ≡ count → AreShownIn (length pictures.old.items) shots outs.now → AreKept most all pictures.old.items → AreKept most (all ++ shots) pictures.new.items }
+    ensures kept { (shots all : List Snapshot) → length shots ≡ count → AreShownIn (length pictures.old.items) shots outs.now
+        → AreKept most all pictures.old.items → AreKept most (all ++ shots) pictures.new.items }
 {
     let ports = pictures.len();
     for number in 0..count {
@@ -144,7 +148,7 @@ fn show_all(pictures: &mut Vec<Shown>, most: usize, outs: &[Out], count: usize)
     }
 }
 
-// The outputs of the first so many clocks.
+// The outputs of the first clocks.
 fn outs_before(outs: &[Out], count: usize, ports: usize) -> &[Out]
     requires { count * ports ≤ length outs.now }
     ensures { result.now ≡ take (count * ports) outs.now }
@@ -152,7 +156,7 @@ fn outs_before(outs: &[Out], count: usize, ports: usize) -> &[Out]
     outs.split_at(count * ports).0
 }
 
-// The stop in the clock behind so many.
+// The stop in the clock after these.
 fn stopped(made: u64, range: IndexRange) -> Stop
     requires { made < 2 ^ 63 }
     ensures { result ≡ Stop.Index (pos made -ℤ pos 1) range.array range.index }
@@ -164,7 +168,7 @@ fn stopped(made: u64, range: IndexRange) -> Stop
     }
 }
 
-// The clocks of a block in one call, and then what is to be told of them: each is noted, and what each output shows in it is added to its picture. At a stop the clocks before it are noted.
+// The clocks of a block in one call. Then each clock is noted, and what each output shows in it is added to its picture. At a stop the clocks before it are noted.
 fn clock_all<D: Desk>(
     desk: &mut D,
     sim: &mut Blocks,
@@ -190,7 +194,7 @@ fn clock_all<D: Desk>(
     ensures stop { IfErr result (StopsBlock sim.old.netlist (block_clocks sim.old.netlist enables.now dins.now) sim.old.contents) }
 {
     sim.law();
-    netlist::values_fit();
+    netlist::values_fit_law();
     let ports = pictures.len();
     match sim.step_block(enables, dins, outs) {
         Err(stop) => {
@@ -205,7 +209,7 @@ fn clock_all<D: Desk>(
     }
 }
 
-// The same, where there is room for more outputs than these places.
+// `clock_all` with room for more outputs than these.
 fn clock_front<D: Desk>(
     desk: &mut D,
     sim: &mut Blocks,
@@ -309,7 +313,7 @@ fn clock_block<D: Desk>(desk: &mut D, bench: &mut Bench) -> Result<(), Stop>
     }
 }
 
-// So many clocks, counted from this one, in one call, with the held ones between them.
+// `count` clocks from this one on, in one call, with the held ones between them.
 fn some_pixel_clocks<D: Desk>(
     desk: &mut D,
     bench: &mut Bench,
@@ -332,7 +336,7 @@ fn some_pixel_clocks<D: Desk>(
     clock_block(desk, bench)
 }
 
-// So many blocks of pixels, with the held clocks between them.
+// Whole blocks of pixels, with the held clocks between them.
 fn whole_blocks<D: Desk>(
     desk: &mut D,
     bench: &mut Bench,
@@ -362,7 +366,7 @@ fn whole_blocks<D: Desk>(
     Ok(())
 }
 
-// So many clocks, with the held ones between them.
+// Clocks with pixels, with the held ones between them.
 fn all_pixel_clocks<D: Desk>(
     desk: &mut D,
     bench: &mut Bench,
@@ -386,7 +390,7 @@ fn all_pixel_clocks<D: Desk>(
     Ok(())
 }
 
-/// All clocks of a drive: the reset clock, in which each din is 0, and then so many clocks with the pixels, with the held ones between them.
+/// All clocks of a drive: the reset clock, in which each din is 0, and then the clocks with the pixels, with the held ones between them.
 pub fn all_clocks<D: Desk>(
     desk: &mut D,
     bench: &mut Bench,

@@ -48,7 +48,8 @@ fn bits_of(alloc: Global, widths: &[Width]) -> Result<Vec<u8>, OutOfMemory>
 pub fn read_input(alloc: Global, widths: &[Width], file: &[u8]) -> Result<BenchInput, FileError>
     requires count { IsPortCount (length widths.now) }
     requires ports { All IsPortWidth widths.now }
-    ensures fits { IfOk result (λ input. (images : List (List Image)) × FitsBench widths.now file.now (size_of input.size) images × (frames_of input.rounds.items ≡ map (map frame_of) images)) }
+    ensures fits { IfOk result (λ input. (images : List (List Image)) × FitsBench widths.now file.now (size_of input.size) images
+        × (frames_of input.rounds.items ≡ map (map frame_of) images)) }
     ensures frames { IfOk result (λ input. AreBenchFrames widths.now (size_of input.size) input.rounds.items) }
     ensures fault { IfErr result (IsBenchError widths.now file.now) }
 {

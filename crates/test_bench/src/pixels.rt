@@ -39,10 +39,11 @@ pub(crate) fn pixel(rounds: &[Round], area: usize, input: usize, number: u64) ->
     sample(&frame.samples, place % area)
 }
 
-/// Gives each din its pixel of this number, counted over all rounds; 0 behind the last one. A frame has `area` pixels.
+/// Gives each din its pixel of this number, counted over all rounds; 0 after the last one. A frame has `area` pixels.
 pub fn fill_dins(rounds: &[Round], area: usize, number: u64, dins: &mut Vec<u64>)
     requires area { 0 < area }
-    requires frames { (widths : List ℕ) × (size : Size) × AreBenchFrames widths size rounds.now × (length dins.old.items ≡ length widths) × (area ≡ area_of size) }
+    requires frames { (widths : List ℕ) × (size : Size) × AreBenchFrames widths size rounds.now × (length dins.old.items ≡ length widths)
+        × (area ≡ area_of size) }
     ensures is { dins.new.items ≡ dins_at (length dins.old.items) (rounds_of rounds.now) number }
     ensures count { length dins.new.items ≡ length dins.old.items }
 {
@@ -51,7 +52,7 @@ pub fn fill_dins(rounds: &[Round], area: usize, number: u64, dins: &mut Vec<u64>
     }
 }
 
-// The greatest number of so many bits.
+// The greatest number of this many bits.
 fn greatest(width: Width) -> u64
     requires { width ≤ MAX_PORT_WIDTH }
     ensures { result ≡ 2 ^ width - 1 }
@@ -71,7 +72,7 @@ pub fn greatest_of(alloc: Global, widths: &[Width]) -> Result<Vec<u64>, OutOfMem
     Ok(dins)
 }
 
-/// So many zeros.
+/// This many zeros.
 pub fn zeros(alloc: Global, count: usize) -> Result<Vec<u64>, OutOfMemory>
     ensures { IfOk result (λ dins. dins.items ≡ replicate count 0) }
 {

@@ -15,7 +15,7 @@ pub enum Stop {
         array: usize,
         index: u64,
     },
-    /// The first output that has not shown what is asked has shown so many samples.
+    /// The first output that has not shown what is asked has shown this many samples.
     #[error("count {shown} of {wanted}")]
     Count {
         shown: u64,

@@ -26,7 +26,7 @@ pub fn area(size: FrameSize) -> usize
     size.width as usize * size.height as usize
 }
 
-// Whether an output has shown enough: exactly so many samples where it is the only one, and else at least that.
+// Whether an output has shown enough: exactly this many samples where it is the only one, and else at least that.
 fn is_enough(outputs: usize, asked: u64, shown: u64) -> bool
     ensures { MatchBool result (IsEnough outputs asked shown) (¬ IsEnough outputs asked shown) }
 {
@@ -49,7 +49,7 @@ pub fn first_short(pictures: &[Shown], asked: u64) -> Option<u64>
     None
 }
 
-// The greatest number of so many bits.
+// The greatest number of this many bits.
 fn greatest(width: Width) -> u16
     requires { IsPortWidth width }
     ensures { result ≡ 2 ^ width - 1 }
@@ -57,7 +57,7 @@ fn greatest(width: Width) -> u16
     ((1u32 << width.bits()) - 1) as u16
 }
 
-// So many samples from this place on.
+// This many samples from this place on.
 fn part(samples: &[u16], from: usize, count: usize) -> &[u16]
     requires { from + count ≤ length samples.now }
     ensures { result.now ≡ take count (drop from samples.now) }
@@ -76,7 +76,8 @@ fn write_output(
 ) -> Result<(), OutOfMemory>
     requires whole { (rounds : ℕ) × (round < rounds) × (rounds ≤ MAX_FILE_IMAGES) × AreWhole (size_of size) ports.now rounds pictures.now }
     requires output { output < length pictures.now }
-    ensures { OnOk result (let image = image_kept (size_of size) ports.now pictures.now round output in file.new.items ≡ file.old.items ++ (header_of size.width size.height image.maxval ++ raster_of image.maxval image.samples)) }
+    ensures { OnOk result (let image = image_kept (size_of size) ports.now pictures.now round output in file.new.items
+        ≡ file.old.items ++ (header_of size.width size.height image.maxval ++ raster_of image.maxval image.samples)) }
 {
     let pixels = area(size);
     let maxval = greatest(ports[2 * output + 1]);
@@ -102,7 +103,7 @@ fn write_round(
     Ok(())
 }
 
-/// The file of the images of so many rounds.
+/// The file of the images of this many rounds.
 pub fn write_rounds(
     alloc: Global,
     size: FrameSize,

@@ -43,7 +43,7 @@ pub fn words(alloc: Global, line: &str) -> Result<Vec<String>, OutOfMemory> {
     Ok(words)
 }
 
-// A desk with the files `first` and `second`, on which the call of this number fails, and which takes and gives pieces of so many bytes.
+// A desk with the files `first` and `second`, on which the call of this number fails, and which takes and gives pieces of this many bytes.
 pub fn desk(
     alloc: Global,
     first: &[u8],
@@ -93,7 +93,7 @@ fn file_at(
     }
 }
 
-// `run` writes a line as soon as it is whole: a copy of two lines, and a mean whose latency is one clock, so that its first line is whole with the second one of the input, and its last one behind all of them.
+// `run` writes a line as soon as it is whole: a copy of two lines, and a mean whose latency is one clock, so that its first line is whole with the second one of the input, and its last one after all of them.
 #[test]
 fn lines_are_written_as_they_are_whole(rt: HostRuntime) -> Result<(), Fail> {
     let alloc = rt.alloc();
@@ -102,7 +102,7 @@ fn lines_are_written_as_they_are_whole(rt: HostRuntime) -> Result<(), Fail> {
     let mean =
         b"size 3 2 input a : u8 let f = im(x,y) ((a(x-1,y)+a(x,y)+a(x+1,y))/3) as u8 end output f".as_slice();
     let means = b"P5\n3 2\n255\n\x03\x06\x05\x03\x06\x05".as_slice();
-    // so many calls come before File is created: three for the program, one that opens the images, nine for the header
+    // this many calls come before File is created: three for the program, one that opens the images, nine for the header
     let cases: [(&[u8], &[u8], &[u8], &[usize]); 2] = [
         (
             copy,

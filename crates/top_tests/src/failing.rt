@@ -60,7 +60,7 @@ fn is_front(file: Option<&[u8]>, whole: Option<&[u8]>) -> bool {
     }
 }
 
-// Whether a failed read or write is told and has left what it may. Only `run` of one input and one output has created something when it reads.
+// Whether a failed read or write is specified and has left what it may. Only `run` of one input and one output has created something when it reads.
 fn is_promised(left: &Left, whole: &Left, streams: bool) -> bool {
     let file = left.file.as_deref();
     let is_told = match left.status {

@@ -1,4 +1,4 @@
-//! Whole calls over a desk in memory. The words are read and the answers told as in docs/.
+//! Whole calls over a desk in memory. The words are read and the answers reported as in docs/.
 
 ghost use Rattle.std.specs.Prelude.{IfOk};
 ghost use Rattle.dk_top.specs.State.{IsFresh};

@@ -23,7 +23,7 @@ use Rattle.trace_bench.specs.Traces.{values_of, FailsBehind}
 use Rattle.trace_bench.specs.Going.{told_more, told_after, clocks_text, Goes, StopsIn, FailsIn, EndsIn}
 use Rattle.trace_bench.proofs.Texts.{after_append, texts_append, time_after, widths_after, values_append, values_count}
 
--- ---- writes behind writes
+-- ---- writes after writes
 
 -- bytes that were written before
 pub fails_later : (a b c : Outside) (x front text : List ℕ) → AddsToFile a x b → FailsBehind front text b c → FailsBehind (x ++ front) (x ++ text) a c
@@ -75,7 +75,7 @@ fails_one m c from to told before now s values e step h = record {
   fails = subst (λ z. FailsBehind [] z before now) (ap (λ z. clock_text told z) e ∙ sym (append-nil (clock_text told (all_values s)))) (fails_first before now (clock_text told values) h);
 }
 
--- ---- clocks behind clocks
+-- ---- clocks after clocks
 
 fit_join : (ws : List ℕ) (xs ys : List (List ℕ)) → AllByRecursion (AreValues ws) xs → AllByRecursion (AreValues ws) ys → AllByRecursion (AreValues ws) (xs ++ ys)
 fit_join ws [] ys h g = g
@@ -135,7 +135,7 @@ module _ (m : Netlist) where
     ends_later (Stopped (Count shown wanted)) h g = absurd g
     ends_later Write h g = write_later h g
 
-  -- and more clocks behind
+  -- and more clocks after
   pub ends_more : (cs rest : List Clock) (from : Contents) (told : Told) (end : TraceEnd) (before now : Outside) → EndsIn m cs from told end before now → EndsIn m (cs ++ rest) from told end before now
   ends_more cs rest from told (Stopped (Index clock array index)) before now h = record { shots = h.shots; stops = stop_more m cs rest from h.shots array index h.stops; clock_is = h.clock_is; adds = h.adds }
   ends_more cs rest from told (Stopped (Count shown wanted)) before now h = absurd h

@@ -13,7 +13,7 @@ use Rattle.vcd_trace.proofs.Rooms.{at_first, at_later}
 use Rattle.trace_bench.specs.Traces.{values_of, but_last, trace_front}
 use Rattle.trace_bench.specs.Going.{told_more, told_after, clocks_text}
 
--- ---- clocks behind clocks
+-- ---- clocks after clocks
 
 pub after_append : (t : Told) (xs ys : List (List ℕ)) → told_after t (xs ++ ys) ≡ told_after (told_after t xs) ys
 after_append t [] ys = refl

@@ -1,3 +1,4 @@
+-- Used by private functions only.
 -- Clocks that are traced one after another.
 use Rattle.std.specs.Prelude.{◌≡◌, ℕ, ◌+◌, ◌≤◌, ℤ, pos, ◌-ℤ◌, List, [], ◌∷◌, ◌++◌, length, take}
 use Rattle.std.specs.List.{AllByRecursion}
@@ -14,7 +15,7 @@ use Rattle.trace_bench.specs.declared.ending.TraceEnd.{TraceEnd}
 use Rattle.trace_bench.specs.declared.ending.TraceEnd.TheVariants.{Stopped, Write}
 use Rattle.trace_bench.specs.Traces.{values_of, FailsBehind}
 
--- what has told a clock more
+-- the trace with one clock more
 abbrev pub told_more : Told → List ℕ → Told
 told_more t values = record { widths = t.widths; values = values; time = t.time + 1 }
 

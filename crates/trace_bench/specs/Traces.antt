@@ -1,4 +1,4 @@
--- What File has gained where the run of a module that is traced ends.
+-- What File has gained at the end of a traced run.
 use Rattle.std.specs.Prelude.{◌≡◌, ℕ, ◌+◌, ◌-◌, ◌≤◌, ℤ, List, [], ◌∷◌, ◌++◌, length, map, take}
 use Rattle.dk_desk.specs.declared.OutSlot.TheVariants.{File}
 use Rattle.dk_desk.specs.Outside.{Outside}
@@ -27,7 +27,7 @@ values_of shots = map all_values shots
 abbrev pub but_last : List (List ℕ) → List (List ℕ)
 but_last lines = take (length lines - 1) lines
 
--- the trace of these clocks without its last line, the time behind them
+-- the trace of these clocks without its last line, the time after them
 abbrev pub trace_front : NamedNetlist → List Snapshot → List ℕ
 trace_front m shots = header_text m ++ text_of (but_last (clock_lines (all_widths m.netlist) (values_of shots)))
 
@@ -42,12 +42,12 @@ pub record TracesRun (m : NamedNetlist) (drive : Drive) (rounds : Rounds) (old n
   pub trace : IsTraceOf m (values_of shots) (trace_text m (values_of shots))
   pub gained : AddsToFile old (trace_text m (values_of shots)) new
 
--- The run stops at this clock, and File has gained the trace of the clocks before it, but no time behind them.
+-- The run stops at this clock, and File has gained the trace of the clocks before it, but no time after them.
 pub record TracesToStop (m : NamedNetlist) (drive : Drive) (rounds : Rounds) (clock : ℤ) (array index : ℕ) (old new : Outside) : Type 0 where
   pub stop : StopsAtClock m.netlist drive rounds clock array index
   pub gained : AddsToFile old (trace_front m stop.shots) new
 
--- A write failed before the end of a text, and behind the whole of this front of it.
+-- A write failed before the end of a text, and after the whole of this front of it.
 pub record FailsBehind (front text : List ℕ) (old new : Outside) : Type 0 where
   pub write : WritesFront File old text new
   pub behind : length front ≤ write.count

@@ -30,7 +30,9 @@ fn step(sim: &mut Sim, reset: bool, dins: &[u64], values: &mut Vec<u64>) -> Resu
     requires values { length values.old.items ≡ length (all_widths sim.old.netlist) }
     ensures netlist { sim.new.netlist ≡ sim.old.netlist }
     ensures count { length values.new.items ≡ length values.old.items }
-    ensures ok { OnOk result ((s : Snapshot) × Steps sim.old.netlist sim.old.contents (given sim.old.netlist (record { reset = reset; enable = true; dins = dins.now })) s sim.new.contents × (values.new.items ≡ all_values s)) }
+    ensures ok { OnOk result ((s : Snapshot)
+        × Steps sim.old.netlist sim.old.contents (given sim.old.netlist (record { reset = reset; enable = true; dins = dins.now })) s sim.new.contents
+        × (values.new.items ≡ all_values s)) }
     ensures stops { IfErr result (λ r. Stops sim.old.netlist sim.old.contents (given sim.old.netlist (record { reset = reset; enable = true; dins = dins.now })) r.array r.index) }
 {
     sim.step_seen(reset, true, dins, values)
@@ -62,7 +64,7 @@ pub(crate) fn write<D: Desk>(desk: &mut D, bytes: &[u8]) -> Result<(), Failed>
     write_all(desk, OutSlot::File, bytes)
 }
 
-// The number of the clock that comes behind so many, the reset clock being -1.
+// The number of the clock that comes after this many, the reset clock being -1.
 fn clock_number(made: u64) -> i64
     requires { made < 2 ^ 62 }
     ensures { result ≡ pos made -ℤ pos 1 }
@@ -84,7 +86,7 @@ pub(crate) fn clock<D: Desk>(desk: &mut D, tracer: &mut Tracer, reset: bool) -> 
     ensures cause { HasCauseIn (result ≡ Err TraceEnd.Write) (D.outside desk.old).output_failures (D.outside desk.new).output_failures }
 {
     tracer.sim.law();
-    netlist::values_fit();
+    netlist::values_fit_law();
     match step(&mut tracer.sim, reset, &tracer.dins, &mut tracer.values) {
         Err(range) => Err(TraceEnd::Stopped(Stop::Index {
             clock: clock_number(tracer.made),
@@ -126,7 +128,7 @@ fn pixel_clock<D: Desk>(
     clock(desk, tracer, false)
 }
 
-// So many clocks with the pixels.
+// This many clocks with the pixels.
 pub(crate) fn pixel_clocks<D: Desk>(
     desk: &mut D,
     tracer: &mut Tracer,

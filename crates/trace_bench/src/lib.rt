@@ -8,6 +8,6 @@ mod tracer;
 mod tracing;
 
 pub use ending::TraceEnd;
-pub use laws::{one_end, trace_grows};
+pub use laws::{one_end_law, trace_grows_law};
 pub use tracer::Tracer;
 pub use tracing::run_trace;

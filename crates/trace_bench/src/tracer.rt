@@ -4,19 +4,19 @@ ghost use Rattle.std.specs.Prelude.{◌≡◌, ◌≤◌, length, IfOk, vec_capa
 ghost use Rattle.cycle_sim.specs.Slots.{all_widths};
 ghost use Rattle.trace_bench.specs.Tracers.{IsTracer};
 
-use cycle_sim::{Fill, Sim};
+use cycle_sim::{Fill, Sim, dins_of};
 use dk_base::OutOfMemory;
 use netlist::Module;
 use std::alloc::Global;
-use test_bench::{dins_of, zeros};
+use test_bench::zeros;
 use vcd_trace::{Trace, header};
 
 /// A module that is traced, with all the memory that this takes. `IsTracer` and `IsTracing` say what its fields keep.
 #[derive(Drop)]
 pub struct Tracer {
-    // The module, behind the latest clock.
+    // The module, after the latest clock.
     pub(crate) sim: Sim,
-    // What was told of the clocks so far.
+    // The trace of the clocks so far.
     pub(crate) trace: Trace,
     // The lines before the first clock.
     pub(crate) header: Vec<u8>,

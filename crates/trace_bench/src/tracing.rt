@@ -19,7 +19,7 @@ use pgm_rounds::Round;
 use test_bench::Drive;
 use vcd_trace::Trace;
 
-// Writes the time behind the last clock.
+// Writes the time after the last clock.
 fn write_end<D: Desk>(desk: &mut D, trace: &Trace, text: &mut Vec<u8>) -> Result<(), Failed>
     requires open { (D.outside desk.old).file.stage ≡ Stage.Open }
     requires room { room_of trace.now.widths ≤ vec_capacity text.old }
@@ -34,7 +34,7 @@ fn write_end<D: Desk>(desk: &mut D, trace: &Trace, text: &mut Vec<u8>) -> Result
     }
 }
 
-/// Drives a module on the rounds of frames of a file, and adds the trace of its run to File, which was created: the header, the text of each clock as soon as it was made, and the time behind the last one. Values are those before a clock's edge. There are no held clocks, and no note is told. It takes no memory, and uses the tracer up.
+/// Drives a module on the rounds of frames of a file, and adds the trace of its run to File, which was created: the header, the text of each clock as soon as it was made, and the time after the last one. Values are those before a clock's edge. There are no held clocks, and no note is specified. It takes no memory, and uses the tracer up.
 ///
 /// Where an index is past its array it answers `Stopped`, and File has the header and the lines of the clocks before. `Write` is a write that failed; File has a front of the trace.
 pub fn run_trace<D: Desk>(
@@ -55,7 +55,7 @@ pub fn run_trace<D: Desk>(
     ensures end { IfErr result (λ e. EndsTrace «module».now drive (rounds_of rounds.now) e (D.outside desk.old) (D.outside desk.new)) }
     ensures cause { HasCauseIn (result ≡ Err TraceEnd.Write) (D.outside desk.old).output_failures (D.outside desk.new).output_failures }
 {
-    // The clauses alone speak of the module: the tracer has its own.
+    // Only the clauses speak of the module: the tracer has its own.
     let _module = module;
     match write(desk, &tracer.header) {
         Err(_) => return Err(TraceEnd::Write),

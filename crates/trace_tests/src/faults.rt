@@ -34,7 +34,7 @@ fn line(alloc: Global, module: &Module, text: &str) -> Result<u64, Fail> {
     }
 }
 
-// The lines of the faults of texts that go on behind this one, each up to an `@`.
+// The lines of the faults of texts that go on after this one, each up to an `@`.
 fn lines(alloc: Global, module: &Module, front: &str, rests: &str) -> Result<String, Fail> {
     let mut lines = String::new(alloc);
     for rest in rests.split('@') {

@@ -66,7 +66,7 @@ fn push_row(text: &mut String, row: &[u64]) -> Result<(), Fail> {
     Ok(())
 }
 
-// The values at each clock, with a `/` behind those of one clock.
+// The values at each clock, with a `/` after those of one clock.
 fn told(alloc: Global, rows: &[Vec<u64>]) -> Result<String, Fail> {
     let mut text = String::new(alloc);
     for row in rows {
@@ -89,7 +89,7 @@ fn enable_and_register(rt: HostRuntime) -> Result<(), Fail> {
     Ok(())
 }
 
-// A copy with so many wires that nothing reads.
+// A copy with this many wires that nothing reads.
 fn wide(alloc: Global, wires: u32) -> Result<String, Fail> {
     let mut text = String::from_str(
         alloc,

@@ -15,7 +15,7 @@ pub record IsRow (size : Size) (picture : Picture) (y : ℤ) (row : List ℤ) : 
   pub whole : length row ≡ size.width
   pub values : (x : ℕ) → x < size.width → entry row x ≡ picture (pos x) y
 
--- what stands beside a row that ends with this value
+-- what is beside a row that ends with this value
 abbrev pub end_of : Edge → ℤ → ℤ
 end_of Zero v = pos 0
 end_of Clamp v = v

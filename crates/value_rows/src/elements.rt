@@ -106,7 +106,7 @@ impl Element for i32 {
     }
 }
 
-/// Writes so many elements, from the place `from` on, at the places from `start` on.
+/// Writes this many elements, from the place `from` on, at the places from `start` on.
 #[tactic(auto, using(crate::proofs::Besides::element_entry))]
 pub fn widen_part<T: Element>(
     to: &mut [i64],

@@ -29,7 +29,7 @@ fn power(exponent: u8) -> i64
     bits as i64
 }
 
-// So many bits, all of them 1.
+// This many bits, all of them 1.
 #[tactic(auto, using(std::proofs::lemmas::Nat::one_shl, std::proofs::lemmas::Nat::pow_below))]
 fn mask(width: u8) -> u64
     requires { width ≤ 63 }
@@ -39,7 +39,7 @@ fn mask(width: u8) -> u64
     above - 1
 }
 
-// So many low bits of a value in two's complement.
+// This many low bits of a value in two's complement.
 #[tactic(auto, using(crate::proofs::Bits::low_bits_are))]
 fn low_bits(value: i64, width: u8) -> u64
     requires { width ≤ 63 }
@@ -48,7 +48,7 @@ fn low_bits(value: i64, width: u8) -> u64
     value.cast_unsigned() & mask(width)
 }
 
-// What so many bits are worth in a signed type.
+// What this many bits are worth in a signed type.
 fn signed_number(bits: i64, width: u8) -> i64
     requires some { 1 ≤ width }
     requires most { width ≤ 62 }

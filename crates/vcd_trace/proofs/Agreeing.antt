@@ -8,7 +8,9 @@ use Rattle.netlist.specs.Names.{NamedNetlist}
 use Rattle.cycle_sim.specs.Slots.{all_widths}
 use Rattle.vcd_trace.specs.Layout.{AreValues, binary, id_of, value_line, text_of}
 use Rattle.vcd_trace.specs.Header.{trace_text}
-use Rattle.vcd_trace.specs.Replayed.{IsPlain, IsAtLine, IsFaultyLine, line_count}
+use Rattle.dk_grammar.specs.Lines.{IsPlain, IsAtLine, line_count}
+use Rattle.dk_grammar.proofs.FaultyLines.{faulty_at}
+use Rattle.vcd_trace.specs.Replayed.{IsTrace, IsFaultyLine}
 use Rattle.vcd_trace.specs.Steps.{Agrees, Reads}
 use Rattle.vcd_trace.proofs.Lines.{line_by, head_same, tail_same}
 
@@ -35,7 +37,7 @@ by_plain false i v = ((λ e. omega (arith, e)), plain_append (binary v) (32 ∷ 
 pub value_plain : (w i v : ℕ) → IsPlain (value_line w i v)
 value_plain w i v = by_plain (nat_eq w 1) i v
 
--- one line stands at the front
+-- one line is at the front
 pub plain_same : (l k a b : List ℕ) → IsPlain l → IsPlain k → l ++ 10 ∷ a ≡ k ++ 10 ∷ b → (l ≡ k) × (a ≡ b)
 plain_same [] [] a b h g e = (refl, tail_same 10 10 a b e)
 plain_same [] (y ∷ k) a b h g e = absurd (g.0 (sym (head_same 10 y a (k ++ 10 ∷ b) e)))
@@ -106,7 +108,7 @@ consume m text rest line after number F G lines lines' clocks clocks' r p e up f
       (d.0, d.1, d.2, found.3 ∙ d.3);
 }
 
--- the same place, told in other words
+-- the same place, stated in other words
 pub relabel : (m : NamedNetlist) (text rest : List ℕ) (number : ℕ) {C D : Type 0} (F : C → Type 0) (G : D → Type 0) (lines : C → List (List ℕ)) (lines' : D → List (List ℕ)) (clocks : C → List (List ℕ)) (clocks' : D → List (List ℕ))
     → Reads m text rest number C F lines clocks
     → (up : D → C) → ((d : D) → G d → F (up d)) → ((d : D) → G d → lines (up d) ≡ lines' d) → ((d : D) → clocks (up d) ≡ clocks' d)
@@ -129,16 +131,13 @@ pub faulty : (m : NamedNetlist) (text rest : List ℕ) (number : ℕ) {C : Type 
     → Reads m text rest number C F lines clocks → (c : C) → F c
     → ((more : List ℕ) → Agrees rest more → (c : C) → F c → more ≡ text_of (lines c) → ⊥)
     → IsFaultyLine m text number
-faulty m text rest number F lines clocks r c f never = record {
-  before = r.before;
-  rest = rest;
-  place = r.place;
-  begins = (text_of (lines c), (clocks c, record { some = r.some c f; fit = r.fit c f; is = r.same c f }));
-  none = λ line after more p e t.
-      let agrees : Agrees rest (line ++ 10 ∷ more) = inr (record { line = line; after = after; behind = more; plain = p; rest_is = e; more_is = refl }) in
-      let found = r.only (line ++ 10 ∷ more) agrees t.0 t.1 in
-      never (line ++ 10 ∷ more) agrees found.0 found.1 found.2;
-  no_trace = λ t.
-      let found = r.only rest (inl refl) t.0 (record { some = t.1.some; fit = t.1.fit; is = sym r.place.whole ∙ t.1.is }) in
-      never rest (inl refl) found.0 found.1 found.2;
-}
+faulty m text rest number F lines clocks r c f never =
+    faulty_at (IsTrace m) text r.before rest number r.place
+    (text_of (lines c), (clocks c, record { some = r.some c f; fit = r.fit c f; is = r.same c f }))
+    (λ line after more p e t.
+    let agrees : Agrees rest (line ++ 10 ∷ more) = inr (record { line = line; after = after; behind = more; plain = p; rest_is = e; more_is = refl }) in
+    let found = r.only (line ++ 10 ∷ more) agrees t.0 t.1 in
+    never (line ++ 10 ∷ more) agrees found.0 found.1 found.2)
+    (λ t.
+    let found = r.only rest (inl refl) t.0 (record { some = t.1.some; fit = t.1.fit; is = sym r.place.whole ∙ t.1.is }) in
+    never rest (inl refl) found.0 found.1 found.2)

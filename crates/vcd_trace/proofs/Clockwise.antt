@@ -7,7 +7,8 @@ use Rattle.std.proofs.lemmas.Fmt.{decimal-digits_of, decimal_digit}
 use Rattle.netlist.specs.Names.{NamedNetlist}
 use Rattle.cycle_sim.specs.Slots.{all_widths}
 use Rattle.vcd_trace.specs.Layout.{AreValues, value_line, time_line, changed_lines, later_lines, text_of}
-use Rattle.vcd_trace.specs.Replayed.{IsPlain, IsFaultyLine}
+use Rattle.dk_grammar.specs.Lines.{IsPlain}
+use Rattle.vcd_trace.specs.Replayed.{IsFaultyLine}
 use Rattle.vcd_trace.specs.Steps.{stays, told_lines, Agrees, AllFit, InClock}
 use Rattle.vcd_trace.proofs.Lines.{line_by, shows}
 use Rattle.vcd_trace.proofs.Agreeing.{value_plain, shifted_plain, plain_same, line_form, agree_front, agree_back, consume, relabel, faulty}
@@ -54,7 +55,7 @@ not_told first i (x ∷ ws) (a ∷ old) (b ∷ new) h w j v l f k all next clock
         let which = shows x w i j b v h.0 f same.0 in
         omega (arith, which.0, l)
 
--- the values that are told, with one more
+-- the values that are specified, with one more
 one_more : (xs : List ℕ) (x : ℕ) (ys : List ℕ) → xs ++ x ∷ ys ≡ (xs ++ x ∷ []) ++ ys
 one_more xs x ys = sym (append_assoc xs (x ∷ []) ys)
 
@@ -142,7 +143,7 @@ pub zeros_fit : (ws : List ℕ) → AreValues ws (map (λ w. 0) ws)
 zeros_fit [] = tt
 zeros_fit (w ∷ ws) = (Rattle.std.proofs.Math.Nat.one-le-pow w 2 (omega arith), zeros_fit ws)
 
--- a line that tells what is so already
+-- a line that states what is so already
 pub value_idle : (m : NamedNetlist) (text rest after : List ℕ) (number : ℕ) (first : Bool) (k : ℕ) (done : List (List ℕ)) (i : ℕ) (new ws old : List ℕ) (w a v : ℕ)
     → InClock m text rest number first k done i new (w ∷ ws) (a ∷ old) → v < 2 ^ w → stays first a v ≡ true → rest ≡ (value_line w i v ++ 10 ∷ []) ++ after
     → IsFaultyLine m text number

@@ -1,12 +1,19 @@
 -- A text that does not begin with the header.
 use Rattle.std.proofs.Common.{◌≡◌, ℕ, zero, suc, ◌+◌, ◌<◌, ◌≤◌, Bool, true, false, ◌⊎◌, inl, inr, List, [], ◌∷◌, ◌++◌, length, drop, get_or, codes, refl, ap, sym, subst, ◌∙◌, arith, append_assoc}
-use Rattle.std.specs.Prelude.{nat_eq, if◌then◌else◌}
+use Rattle.std.specs.Prelude.{nat_eq, if◌then◌else◌, Vec, Result, Ok, Err, MatchResult}
+use Rattle.std.specs.declared.alloc.Global.{Global}
 use Rattle.std.proofs.lemmas.Bool.{eqb-true}
 use Rattle.netlist.specs.Names.{NamedNetlist}
-use Rattle.cycle_sim.specs.Slots.{all_widths}
+use Rattle.cycle_sim.specs.Slots.{all_widths, words_of}
+use Rattle.vcd_trace.specs.declared.fault.VcdError.{VcdError}
+use Rattle.vcd_trace.specs.declared.fault.VcdError.TheVariants.{Fault, OutOfMemory}
 use Rattle.vcd_trace.specs.Layout.{clock_lines, text_of}
 use Rattle.vcd_trace.specs.Header.{header_text, timescale_text, scope_text, variables_text, end_text}
-use Rattle.vcd_trace.specs.Replayed.{IsPlain, IsAtLine, IsFaultyLine, line_count, common_lines}
+use Rattle.dk_grammar.specs.Lines.{IsPlain, IsAtLine, line_count}
+use Rattle.dk_grammar.proofs.FaultyLines.{none_first_faulty, faulty_at}
+use Rattle.vcd_trace.specs.Replayed.{IsTraceOf, IsTrace, IsFaultyLine, Gives}
+use Rattle.vcd_trace.specs.Answers.{ReadsText, RefusesText}
+use Rattle.vcd_trace.specs.Steps.{common_lines}
 use Rattle.vcd_trace.proofs.Clocks.{drop_all}
 use Rattle.vcd_trace.proofs.Agreeing.{plain_append, next_line, line_form}
 use Rattle.vcd_trace.proofs.Timewise.{one_clock, clock_follows, cancel, split_line, line_some, header_differs}
@@ -14,7 +21,7 @@ use Rattle.vcd_trace.proofs.Timewise.{one_clock, clock_follows, cancel, split_li
 differ_by : (x y : ℕ) → nat_eq x y ≡ false → x ≡ y → ⊥
 differ_by x y e h = grind (arith, e, h)
 
--- what any trace has behind these bytes of the header
+-- what any trace has after these bytes of the header
 behind : (m : NamedNetlist) (before cur hs xs : List ℕ) → header_text m ≡ before ++ (cur ++ hs) → header_text m ++ xs ≡ before ++ (cur ++ (hs ++ xs))
 behind m before cur hs xs e = ap (λ z. z ++ xs) e ∙ append_assoc before (cur ++ hs) xs ∙ ap (λ z. before ++ z) (append_assoc cur hs xs)
 
@@ -26,18 +33,14 @@ stops m text before cur hs ts h number at p head other short =
     let clocks = one_clock ws in
     let follows = clock_follows true ws in
     let end = text_of (clock_lines ws clocks) in
-    record {
-      before = before;
-      rest = cur ++ ts;
-      place = at;
-      begins = (cur ++ (h ∷ hs ++ end), (clocks, record { some = follows.1 refl; fit = follows.0; is = sym (behind m before cur (h ∷ hs) end head) }));
-      none = λ line after more pl e t.
-          let xs = text_of (clock_lines (all_widths m.netlist) t.0) in
-          other line after more xs pl e (cancel before (cur ++ (h ∷ hs ++ xs)) (line ++ 10 ∷ more) (sym (behind m before cur (h ∷ hs) xs head) ∙ sym t.1.is));
-      no_trace = λ t.
-          let xs = text_of (clock_lines (all_widths m.netlist) t.0) in
-          short xs (cancel cur ts (h ∷ hs ++ xs) (cancel before (cur ++ ts) (cur ++ (h ∷ hs ++ xs)) (sym at.whole ∙ t.1.is ∙ behind m before cur (h ∷ hs) xs head)));
-    }
+    faulty_at (IsTrace m) text before (cur ++ ts) number at
+    (cur ++ (h ∷ hs ++ end), (clocks, record { some = follows.1 refl; fit = follows.0; is = sym (behind m before cur (h ∷ hs) end head) }))
+    (λ line after more pl e t.
+    let xs = text_of (clock_lines (all_widths m.netlist) t.0) in
+    other line after more xs pl e (cancel before (cur ++ (h ∷ hs ++ xs)) (line ++ 10 ∷ more) (sym (behind m before cur (h ∷ hs) xs head) ∙ sym t.1.is)))
+    (λ t.
+    let xs = text_of (clock_lines (all_widths m.netlist) t.0) in
+    short xs (cancel cur ts (h ∷ hs ++ xs) (cancel before (cur ++ ts) (cur ++ (h ∷ hs ++ xs)) (sym at.whole ∙ t.1.is ∙ behind m before cur (h ∷ hs) xs head))))
 
 short_of : (cur line after : List ℕ) → IsPlain cur → cur ++ [] ≡ line ++ 10 ∷ after → ⊥
 short_of cur line after p e = let l = split_line cur [] line after p e in line_some l.0 after l.2
@@ -128,3 +131,10 @@ refuse_text m text head number same e none =
 pub at_text : (m : NamedNetlist) (text head rest : List ℕ) (number : ℕ) → header_text m ≡ head → number ≡ common_lines 1 head text → text ≡ head ++ rest → IsAtLine text (header_text m) rest number
 at_text m text head rest number same e f =
     subst (IsAtLine text (header_text m) rest) (ap (λ z. common_lines 1 z text) same ∙ sym e) (behind_header m text rest (f ∙ ap (λ z. z ++ rest) (sym same)))
+
+-- the answer on the trace of these clocks
+pub gives : (m : NamedNetlist) (head widths text : List ℕ) (clocks : List (List ℕ)) (r : Result (Vec (Vec ℕ Global) Global) VcdError) → all_widths m.netlist ≡ widths → header_text m ≡ head
+    → MatchResult r (λ rows. ReadsText head widths text (words_of rows.items)) (λ e. RefusesText head widths text e) → IsTraceOf m clocks text → Gives clocks r
+gives m head widths text clocks (Ok rows) w h reads t = sym ((reads m w h).only clocks t)
+gives m head widths text clocks (Err (Fault line)) w h refuses t = none_first_faulty (IsTrace m) text line (clocks, t) (refuses m w h)
+gives m head widths text clocks (Err OutOfMemory) w h refuses t = tt

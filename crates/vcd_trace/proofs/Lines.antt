@@ -52,7 +52,7 @@ binary_high : (v : ℕ) → AreHigh (binary v)
 binary_high zero = ((let l : 48 ≤ 48 = omega arith in l), tt)
 binary_high (suc v) = shifted_high (digits_of 2 (suc v))
 
--- what stands before the first blank, and behind it
+-- what comes before the first blank, and after it
 cut_same : (xs ys a b : List ℕ) → AreHigh xs → AreHigh ys → xs ++ 32 ∷ a ≡ ys ++ 32 ∷ b → (xs ≡ ys) × (a ≡ b)
 cut_same [] [] a b h g e = (refl, tail_same 32 32 a b e)
 cut_same [] (y ∷ ys) a b h g e = absurd (let f : 32 ≡ y = head_same 32 y a (ys ++ 32 ∷ b) e in omega (arith, f, g.0))

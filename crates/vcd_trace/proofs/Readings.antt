@@ -10,7 +10,7 @@ use Rattle.std.proofs.lemmas.Int.Digits.{number_digits_of, all_below_base_digits
 use Rattle.std.proofs.Math.Pow.{pow_mono}
 use denote.Ref.{Bor}
 use Rattle.vcd_trace.specs.Layout.{binary, id_of, value_line, time_line}
-use Rattle.vcd_trace.specs.Replayed.{bits_after}
+use Rattle.vcd_trace.specs.Steps.{bits_after}
 use Rattle.vcd_trace.proofs.Lines.{line_by}
 
 pub stripped : (front bytes : List ℕ) (r : Option (Bor (List ℕ))) → MatchOption r (pointwise eqb (take (length front) bytes) front ≡ false) (λ x. (pointwise eqb (take (length front) bytes) front ≡ true) × (x.now ≡ drop (length front) bytes) × (length x.now + length front ≡ length bytes))
@@ -69,7 +69,7 @@ wide_read v n digits rest l e h =
 pub small_number : (w n v : ℕ) → n ≤ w → v < 2 ^ n → v < 2 ^ w
 small_number w n v h l = omega (arith, pow_mono h, l)
 
--- what a line tells of a variable
+-- what a line states of a variable
 abbrev pub Tells : (w i : ℕ) (bytes : List ℕ) → Option (ℕ × Bor (List ℕ)) → Type 0
 Tells w i bytes r = MatchOption r ((v : ℕ) (more : List ℕ) → v < 2 ^ w → bytes ≡ (value_line w i v ++ 10 ∷ []) ++ more → ⊥) (λ x. (x.0 < 2 ^ w) × (bytes ≡ (value_line w i x.0 ++ 10 ∷ []) ++ x.1.now))
 

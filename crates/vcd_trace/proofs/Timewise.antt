@@ -8,9 +8,10 @@ use Rattle.netlist.specs.Names.{NamedNetlist}
 use Rattle.cycle_sim.specs.Slots.{all_widths}
 use Rattle.vcd_trace.specs.Layout.{AreValues, value_line, time_line, all_lines, change_lines, changed_lines, later_lines, clock_lines, text_of}
 use Rattle.vcd_trace.specs.Header.{trace_text, header_text}
-use Rattle.vcd_trace.specs.Replayed.{IsPlain, IsAtLine, IsTraceOf, IsFaultyLine, IsReplay}
+use Rattle.dk_grammar.specs.Lines.{IsPlain, IsAtLine}
+use Rattle.vcd_trace.specs.Replayed.{IsTraceOf, IsFaultyLine}
+use Rattle.vcd_trace.specs.Answers.{IsReplay, RefusesAt, EndsAt}
 use Rattle.vcd_trace.specs.declared.fault.VcdError.{VcdError}
-use Rattle.vcd_trace.specs.Answers.{RefusesAt, EndsAt}
 use Rattle.vcd_trace.specs.Steps.{told_lines, rest_lines, Agrees, AllFit, MayFollow, AtTime, AfterTime, InClock}
 use Rattle.vcd_trace.proofs.Lines.{head_same, tail_same}
 use Rattle.vcd_trace.proofs.Agreeing.{plain_same, line_form, agree_front, agree_nothing, consume, relabel, faulty}
@@ -46,7 +47,7 @@ clock_rest : (ws old : List ℕ) (clocks : List (List ℕ)) → length old ≡ l
 clock_rest ws old [] e = refl
 clock_rest ws old (new ∷ clocks) e = ap (λ z. time_line 0 ∷ (z ++ later_lines 1 ws new clocks)) (sym (told_true 0 ws old new e))
 
--- behind the header
+-- after the header
 pub start : (m : NamedNetlist) (text rest : List ℕ) (number : ℕ) (old : List ℕ) → IsAtLine text (header_text m) rest number → length old ≡ length (all_widths m.netlist) → AtTime m text rest number true 0 old []
 start m text rest number old at e =
     let ws = all_widths m.netlist in
@@ -139,7 +140,7 @@ lines_some : (xs ys : List (List ℕ)) (line : List ℕ) (more : List (List ℕ)
 lines_some [] ys line more e t = line_some line (text_of more) (t ∙ ap text_of e)
 lines_some (x ∷ xs) ys line more e t = line_some x (text_of (xs ++ ys)) t
 
--- and it is the trace of these clocks alone
+-- and it is the trace of only these clocks
 pub trace_only : (m : NamedNetlist) (text rest : List ℕ) (number : ℕ) (first : Bool) (k : ℕ) (old : List ℕ) (done : List (List ℕ))
     → AfterTime m text rest number first k old done → rest ≡ [] → (clocks : List (List ℕ)) → IsTraceOf m clocks text → clocks ≡ done
 trace_only m text rest number first k old done r e clocks t =
@@ -178,7 +179,7 @@ split_line (c ∷ cur) xs (y ∷ line) after p e =
     let more = split_line cur xs line after p.1 (tail_same c y (cur ++ xs) (line ++ 10 ∷ after) e) in
     (more.0, ap (λ z. z ∷ line) (sym (head_same c y (cur ++ xs) (line ++ 10 ∷ after) e)) ∙ ap (λ z. c ∷ z) more.1, more.2)
 
--- what differs behind the same bytes
+-- what differs after the same bytes
 pub header_differs : (cur hs ts line after more xs : List ℕ) (h t : ℕ) → IsPlain cur → (h ≡ t → ⊥) → cur ++ t ∷ ts ≡ line ++ 10 ∷ after → cur ++ (h ∷ hs ++ xs) ≡ line ++ 10 ∷ more → ⊥
 header_differs cur hs ts line after more xs h t p differ e f =
     let l = split_line cur (t ∷ ts) line after p e in

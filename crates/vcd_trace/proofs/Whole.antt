@@ -37,7 +37,7 @@ first_same x y xs ys e = ap (λ (l : Text). get_or l 0 []) e
 rest_same : (x y : List ℕ) (xs ys : Text) → x ∷ xs ≡ y ∷ ys → xs ≡ ys
 rest_same x y xs ys e = ap (λ (l : Text). drop 1 l) e
 
--- what stands before the first time, and what from it on
+-- what comes before the first time, and what from it on
 cut : (xs ys : Text) (a b : ℕ) (r s : Text) → AllByRecursion IsValue xs → AllByRecursion IsValue ys → xs ++ time_line a ∷ r ≡ ys ++ time_line b ∷ s → (xs ≡ ys) × (time_line a ∷ r ≡ time_line b ∷ s)
 cut [] [] a b r s h g e = (refl, e)
 cut [] (y ∷ ys) a b r s h g e = absurd (g.0 (ap (λ l. get_or l 0 0) (sym (first_same (time_line a) y r (ys ++ time_line b ∷ s) e))))

@@ -1,13 +1,18 @@
--- For the private functions: what each step of the replay answers.
-use Rattle.std.specs.Prelude.{◌≡◌, ℕ, ◌+◌, Bool, false, List, [], ◌∷◌, ◌++◌, Vec, Result, Ok, Err, ⊤}
-use Rattle.std.specs.declared.alloc.Global.{Global}
+-- Used by private functions only.
+-- What each step of the replay answers.
+use Rattle.std.specs.Prelude.{◌≡◌, ℕ, ◌+◌, Bool, false, List, [], ◌∷◌, ◌++◌}
+use Rattle.dk_grammar.specs.Lines.{IsAtLine}
 use Rattle.netlist.specs.Names.{NamedNetlist}
-use Rattle.cycle_sim.specs.Slots.{all_widths, words_of}
+use Rattle.cycle_sim.specs.Slots.{all_widths}
 use Rattle.vcd_trace.specs.declared.fault.VcdError.{VcdError}
-use Rattle.vcd_trace.specs.declared.fault.VcdError.TheVariants.{Fault, OutOfMemory}
 use Rattle.vcd_trace.specs.Header.{header_text}
-use Rattle.vcd_trace.specs.Replayed.{IsAtLine, IsReplay, Refuses}
+use Rattle.vcd_trace.specs.Replayed.{Refuses, IsTraceOf}
 use Rattle.vcd_trace.specs.Steps.{AtTime, InClock}
+
+-- the trace of these clocks, and of no others
+pub record IsReplay (m : NamedNetlist) (text : List ℕ) (clocks : List (List ℕ)) : Type 0 where
+  pub trace : IsTraceOf m clocks text
+  pub only : (others : List (List ℕ)) → IsTraceOf m others text → others ≡ clocks
 
 -- a variable's value is this, and its line, if it has one, was read
 abbrev pub ReadsValue : (first : Bool) (i width before : ℕ) (bytes : List ℕ) (number value : ℕ) (rest : List ℕ) (next : ℕ) → Type 0
@@ -30,7 +35,7 @@ abbrev pub RefusesClock : (first : Bool) (widths before : List ℕ) (bytes : Lis
 RefusesClock first widths before bytes number e =
     (m : NamedNetlist) (text : List ℕ) (k : ℕ) (done : List (List ℕ)) → InClock m text bytes number first k done 0 [] widths before → Refuses m text e
 
--- a time whose line is wanted at the front
+-- a time whose line must be at the front
 abbrev pub RefusesTime : (k : ℕ) (bytes : List ℕ) (number : ℕ) → VcdError → Type 0
 RefusesTime k bytes number e = (m : NamedNetlist) (text : List ℕ) (first : Bool) (old : List ℕ) (done : List (List ℕ)) → AtTime m text bytes number first k old done → Refuses m text e
 
@@ -48,7 +53,7 @@ abbrev pub RefusesAt : (first : Bool) (k : ℕ) (widths before : List ℕ) (byte
 RefusesAt first k widths before bytes number e =
     (m : NamedNetlist) (text : List ℕ) (done : List (List ℕ)) → all_widths m.netlist ≡ widths → AtTime m text bytes number first k before done → Refuses m text e
 
--- behind the header
+-- after the header
 abbrev pub ReadsAll : (widths : List ℕ) (bytes : List ℕ) (number : ℕ) (clocks : List (List ℕ)) → Type 0
 ReadsAll widths bytes number clocks = (m : NamedNetlist) (text : List ℕ) → all_widths m.netlist ≡ widths → IsAtLine text (header_text m) bytes number → IsReplay m text clocks
 
@@ -61,9 +66,3 @@ ReadsText head widths text clocks = (m : NamedNetlist) → all_widths m.netlist 
 
 abbrev pub RefusesText : (head widths text : List ℕ) → VcdError → Type 0
 RefusesText head widths text e = (m : NamedNetlist) → all_widths m.netlist ≡ widths → header_text m ≡ head → Refuses m text e
-
--- the answer is these clocks, or want of memory
-abbrev pub Gives : (clocks : List (List ℕ)) → Result (Vec (Vec ℕ Global) Global) VcdError → Type 0
-Gives clocks (Ok rows) = words_of rows.items ≡ clocks
-Gives clocks (Err (Fault line)) = ⊥
-Gives clocks (Err OutOfMemory) = ⊤

@@ -19,7 +19,7 @@ kind_text kind width i = codes "$var " ++ (kind ++ (codes " " ++ (decimal width 
 abbrev pub variable_text : (kind : List ℕ) (width i : ℕ) (name : List ℕ) → List ℕ
 variable_text kind width i name = kind_text kind width i ++ (codes " " ++ (name ++ codes " $end\n"))
 
--- the line of a net at this place of its sort, behind so many variables of other sorts
+-- the line of a net at this place of its sort, after this many variables of other sorts
 abbrev pub input_text : Bool → (place width : ℕ) → List ℕ
 input_text enable place width = variable_text (codes "wire") width place (name_at (all_inputs enable) place)
 

@@ -43,12 +43,12 @@ abbrev pub later_lines : (k : ℕ) → (widths old : List ℕ) → List (List �
 later_lines k widths old [] = time_line k ∷ []
 later_lines k widths old (new ∷ clocks) = time_line k ∷ (changed_lines 0 widths old new ++ later_lines (k + 1) widths new clocks)
 
--- the lines behind the header: at time 0 every variable stands; behind the last clock the next time stands alone
+-- The lines after the header. Time 0 has a line for every variable. After the last clock comes the next time, without values.
 abbrev pub clock_lines : (widths : List ℕ) → List (List ℕ) → List (List ℕ)
 clock_lines widths [] = time_line 0 ∷ []
 clock_lines widths (first ∷ clocks) = time_line 0 ∷ (all_lines 0 widths first ++ later_lines 1 widths first clocks)
 
--- the lines one after another, an LF behind each
+-- the lines one after another, each with an LF after it
 abbrev pub text_of : List (List ℕ) → List ℕ
 text_of [] = []
 text_of (line ∷ lines) = line ++ 10 ∷ text_of lines

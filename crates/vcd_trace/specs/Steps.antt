@@ -1,13 +1,26 @@
--- For the private functions: what is read of a trace so far, and which lines may follow.
-use Rattle.std.specs.Prelude.{◌≡◌, ℕ, ◌+◌, ◌≤◌, ◌⊎◌, Bool, true, false, List, [], ◌∷◌, ◌++◌, length, nat_eq, if◌then◌else◌}
+-- Used by private functions only.
+-- What is read of a trace so far, and which lines may follow.
+use Rattle.std.specs.Prelude.{◌≡◌, ℕ, ◌+◌, ◌*◌, ◌≤◌, ◌⊎◌, Bool, true, false, List, [], ◌∷◌, ◌++◌, length, nat_eq, if◌then◌else◌}
 use Rattle.std.specs.List.{AllByRecursion}
+use Rattle.dk_grammar.specs.Lines.{IsPlain, IsAtLine}
 use Rattle.netlist.specs.Names.{NamedNetlist}
 use Rattle.cycle_sim.specs.Slots.{all_widths}
 use Rattle.vcd_trace.specs.Layout.{AreValues, value_line, time_line, later_lines, text_of}
 use Rattle.vcd_trace.specs.Header.{trace_text}
-use Rattle.vcd_trace.specs.Replayed.{IsPlain, IsAtLine, IsTraceOf}
+use Rattle.vcd_trace.specs.Replayed.{IsTraceOf}
 
--- nothing is told of a value: never at the first clock, and later where it is what it was
+-- the number of the binary digits at the front, after those of a number
+abbrev pub bits_after : ℕ → List ℕ → ℕ
+bits_after a [] = a
+bits_after a (b ∷ bytes) = if nat_eq b 48 then bits_after (2 * a) bytes else if nat_eq b 49 then bits_after (2 * a + 1) bytes else a
+
+-- the number of the line at which two texts differ or one ends, where they begin at line n
+abbrev pub common_lines : ℕ → (xs ys : List ℕ) → ℕ
+common_lines n [] ys = n
+common_lines n (x ∷ xs) [] = n
+common_lines n (x ∷ xs) (y ∷ ys) = if nat_eq x y then common_lines (if nat_eq x 10 then n + 1 else n) xs ys else n
+
+-- a value has no line: never at the first clock, and later if it is unchanged
 abbrev pub stays : (first : Bool) (a b : ℕ) → Bool
 stays first a b = if first then false else nat_eq a b
 
@@ -21,7 +34,7 @@ told_lines first i (w ∷ ws) [] new = []
 told_lines first i (w ∷ ws) (a ∷ old) [] = []
 told_lines first i (w ∷ ws) (a ∷ old) (b ∷ new) = told_line first w i a b ++ told_lines first (i + 1) ws old new
 
--- the lines behind that of time k
+-- the lines after that of time k
 abbrev pub rest_lines : (first : Bool) (k : ℕ) (widths old : List ℕ) → List (List ℕ) → List (List ℕ)
 rest_lines first k widths old [] = []
 rest_lines first k widths old (new ∷ clocks) = told_lines first 0 widths old new ++ later_lines (k + 1) widths new clocks
@@ -35,7 +48,7 @@ pub record ShareLine (rest more : List ℕ) : Type 0 where
   pub rest_is : rest ≡ line ++ 10 ∷ after
   pub more_is : more ≡ line ++ 10 ∷ behind
 
--- what might stand in place of the rest of a text if its first line is as it is
+-- what might replace the rest of a text whose first line is unchanged
 abbrev pub Agrees : (rest more : List ℕ) → Type 0
 Agrees rest more = (more ≡ rest) ⊎ ShareLine rest more
 
@@ -51,7 +64,7 @@ pub record Reads (m : NamedNetlist) (text rest : List ℕ) (number : ℕ) (C : T
 abbrev pub AllFit : List ℕ → List (List ℕ) → Type 0
 AllFit ws clocks = AllByRecursion (AreValues ws) clocks
 
--- clocks that may follow: at least one where none is read yet
+-- clocks that may follow: at least one if none is read yet
 abbrev pub MayFollow : (first : Bool) (widths : List ℕ) → List (List ℕ) → Type 0
 MayFollow first ws clocks = AllFit ws clocks × (first ≡ true → 1 ≤ length clocks)
 
@@ -61,7 +74,7 @@ AtTime m text rest number first k old done =
     let ws = all_widths m.netlist in
     Reads m text rest number (List (List ℕ)) (MayFollow first ws) (λ clocks. time_line k ∷ rest_lines first k ws old clocks) (λ clocks. done ++ clocks)
 
--- behind that line
+-- after that line
 abbrev pub AfterTime : (m : NamedNetlist) (text rest : List ℕ) (number : ℕ) (first : Bool) (k : ℕ) (old : List ℕ) (done : List (List ℕ)) → Type 0
 AfterTime m text rest number first k old done =
     let ws = all_widths m.netlist in

@@ -1,4 +1,4 @@
--- What a trace has told, and what it tells of one clock more.
+-- What a trace has shown, and what it shows of one clock more.
 use Rattle.std.specs.Prelude.{◌≡◌, ℕ, zero, suc, ◌+◌, ◌^◌, ◌<◌, ◌≤◌, nat_eq, if◌then◌else◌, max, List, [], ◌∷◌, length}
 use Rattle.vcd_trace.specs.declared.clock.TheConstants.{TIME_LINE_BYTES}
 use Rattle.vcd_trace.specs.Layout.{AreValues, id_of, all_lines, changed_lines, time_line, text_of}
@@ -9,7 +9,7 @@ pub record Told : Type 0 where
   pub values : List ℕ
   pub time : ℕ
 
--- behind the time: all variables at time 0, and later those that changed
+-- after the time: all variables at time 0, and later those that changed
 abbrev pub value_lines : (time : ℕ) → (widths old new : List ℕ) → List (List ℕ)
 value_lines zero widths old new = all_lines 0 widths new
 value_lines (suc k) widths old new = changed_lines 0 widths old new
@@ -18,7 +18,7 @@ value_lines (suc k) widths old new = changed_lines 0 widths old new
 abbrev pub clock_text : Told → (new : List ℕ) → List ℕ
 clock_text t new = text_of (time_line t.time ∷ value_lines t.time t.widths t.values new)
 
--- the time behind the last clock stands alone
+-- after the last clock there is only the line of the next time
 abbrev pub end_text : Told → List ℕ
 end_text t = text_of (time_line t.time ∷ [])
 

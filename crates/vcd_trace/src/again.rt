@@ -3,8 +3,9 @@
 ghost use Rattle.std.specs.Prelude.{◌≡◌, ◌≤◌, ◌<◌, ◌+◌, ◌^◌, ◌++◌, ◌∷◌, [], ℕ, List, length, nat_eq, if◌then◌else◌, IfOk, IfErr, OnOk, MatchResult, ⊤};
 ghost use Rattle.cycle_sim.specs.Slots.{words_of};
 ghost use Rattle.vcd_trace.specs.Layout.{AreValues};
-ghost use Rattle.vcd_trace.specs.Replayed.{IsTraceOf, Refuses, common_lines as common_of};
-ghost use Rattle.vcd_trace.specs.Answers.{ReadsAll, RefusesAll, ReadsText, RefusesText, Gives};
+ghost use Rattle.vcd_trace.specs.Replayed.{IsTraceOf, Refuses, Gives};
+ghost use Rattle.vcd_trace.specs.Steps.{common_lines as common_of};
+ghost use Rattle.vcd_trace.specs.Answers.{ReadsAll, RefusesAll, ReadsText, RefusesText};
 
 use crate::fault::VcdError;
 use crate::heading::header;
@@ -34,7 +35,7 @@ fn add_row(alloc: Global, rows: &mut Vec<Vec<u64>>, row: &[u64]) -> Result<(), O
     Ok(())
 }
 
-// The clocks of a trace, behind its header.
+// The clocks of a trace, after its header.
 fn read_clocks(
     alloc: Global,
     widths: &[Width],
@@ -82,7 +83,7 @@ fn read_clocks(
     }
 }
 
-// A line number, behind a byte.
+// A line number, after a byte.
 fn next_number(number: u64, byte: u8) -> u64
     requires { number + 1 < 2 ^ 64 }
     ensures number { result ≡ (if nat_eq byte 10 then number + 1 else number) }

@@ -76,7 +76,7 @@ fn push_named(
     push_variable(out, kind, width, id, name)
 }
 
-// The number of a variable behind others. More than there are numbers find no memory.
+// The number of a variable after others. More than there are numbers find no memory.
 fn place_behind(from: usize, place: usize) -> Result<usize, OutOfMemory>
     ensures { IfOk result (λ n. n ≡ from + place) }
 {
@@ -196,7 +196,7 @@ fn push_end(out: &mut Vec<u8>) -> Result<(), OutOfMemory>
     Ok(())
 }
 
-/// The lines of a module's trace before its first time: the time scale, the scope and the variables, which are the ports but the clock, the wires and the registers in the module's order (IEEE Std 1364-2005, 18.2.3). The only error is want of memory.
+/// The lines of a module's trace before its first time: the time scale, the scope and the variables, which are the ports but the clock, the wires and the registers in the module's order (IEEE Std 1364-2005, 18.2.3). The only error is out of memory.
 pub fn header(alloc: Global, module: &Module) -> Result<Vec<u8>, OutOfMemory>
     ensures { IfOk result (λ text. text.items ≡ header_text «module».now) }
 {

@@ -15,5 +15,5 @@ pub use again::replay;
 pub use clock::TIME_LINE_BYTES;
 pub use fault::VcdError;
 pub use heading::header;
-pub use laws::{one_change, one_trace};
+pub use laws::{one_change_law, one_fault_law, one_trace_law};
 pub use trace::Trace;

@@ -6,7 +6,7 @@ ghost use Rattle.vcd_trace.specs.Layout.{binary, id_of, value_line};
 
 use netlist::Width;
 
-// The number of bytes that can stand in an identifier: the printable ones, from `!` on.
+// The number of bytes that can are in an identifier: the printable ones, from `!` on.
 const ID_BASE: usize = 94;
 
 // The number of bytes of a variable's identifier.

@@ -3,23 +3,24 @@
 ghost use Rattle.std.specs.Prelude.{◌≡◌, ◌≤◌, ◌<◌, ◌^◌, ◌+◌, ◌++◌, ◌∷◌, ℕ, List, [], IfOk, OnOk, MatchOption, IsTrue};
 ghost use Rattle.dk_base.specs.Numbers.{IsBitCount};
 ghost use Rattle.vcd_trace.specs.Layout.{binary, id_of, value_line, time_line};
-ghost use Rattle.vcd_trace.specs.Replayed.{bits_after};
+ghost use Rattle.vcd_trace.specs.Steps.{bits_after};
 
 use crate::clock::{TIME_LINE_BYTES, push_time, room_for_line};
 use crate::number::push_value;
 use dk_base::{OutOfMemory, bits_for};
 use netlist::Width;
 
-// The bytes behind a front.
+// The bytes after a front.
 pub(crate) fn strip<'a>(front: &[u8], bytes: &'a [u8]) -> Option<&'a [u8]>
     ensures { MatchOption result ((more : List ℕ) → bytes.now ≡ front.now ++ more → ⊥) (λ rest. bytes.now ≡ front.now ++ rest.now) }
 {
     bytes.strip_prefix(front)
 }
 
-// A number with one binary digit more behind it, or None where the byte is none. One of more than 64 bits is any number.
+// A number with one binary digit more after it, or None if the byte is not a digit. A number of more than 64 bits is any number.
 fn with_bit(value: u64, byte: u8) -> Option<u64>
-    ensures { MatchOption result ((bytes : List ℕ) → bits_after value (byte ∷ bytes) ≡ value) (λ next. (bytes : List ℕ) → bits_after value (byte ∷ bytes) < 2 ^ 64 → bits_after next bytes ≡ bits_after value (byte ∷ bytes)) }
+    ensures { MatchOption result ((bytes : List ℕ) → bits_after value (byte ∷ bytes) ≡ value) (λ next. (bytes : List ℕ)
+        → bits_after value (byte ∷ bytes) < 2 ^ 64 → bits_after next bytes ≡ bits_after value (byte ∷ bytes)) }
 {
     match byte {
         b'0' => Some(value.saturating_mul(2)),
@@ -28,7 +29,7 @@ fn with_bit(value: u64, byte: u8) -> Option<u64>
     }
 }
 
-// The number of the binary digits at the front, where it has at most 64 bits.
+// The number of the binary digits at the front, if it has at most 64 bits.
 fn bits_value(bytes: &[u8]) -> u64
     ensures { bits_after 0 bytes.now < 2 ^ 64 → result ≡ bits_after 0 bytes.now }
 {
@@ -42,7 +43,7 @@ fn bits_value(bytes: &[u8]) -> u64
     value
 }
 
-// The only value of a variable of one bit whose line may stand at the front.
+// The only value of a variable of one bit whose line may be at the front.
 fn bit_value(bytes: &[u8]) -> u64
     ensures { (v : ℕ) (rest : List ℕ) → v < 2 → bytes.now ≡ (48 + v) ∷ rest → result ≡ v }
 {
@@ -52,7 +53,7 @@ fn bit_value(bytes: &[u8]) -> u64
     }
 }
 
-// The only value of a variable of several bits whose line may stand at the front.
+// The only value of a variable of several bits whose line may be at the front.
 fn wide_value(bytes: &[u8]) -> u64
     ensures { (v : ℕ) (rest : List ℕ) → v < 2 ^ 64 → bytes.now ≡ 98 ∷ (binary v ++ 32 ∷ rest) → result ≡ v }
 {
@@ -62,7 +63,7 @@ fn wide_value(bytes: &[u8]) -> u64
     }
 }
 
-// The only value of a variable of this width whose line may stand at the front.
+// The only value of a variable of this width whose line may be at the front.
 fn value_at(width: Width, bytes: &[u8]) -> u64
     ensures { (i v : ℕ) (rest : List ℕ) → v < 2 ^ width → bytes.now ≡ (value_line width i v ++ 10 ∷ []) ++ rest → result ≡ v }
 {
@@ -73,7 +74,7 @@ fn value_at(width: Width, bytes: &[u8]) -> u64
     }
 }
 
-// Whether a number has at most so many bits.
+// Whether a number has at most this width.
 fn fits(width: Width, value: u64) -> bool
     ensures yes { IsTrue result → value < 2 ^ width }
     ensures no { value < 2 ^ width → IsTrue result }
@@ -98,14 +99,15 @@ fn write_value(
     Ok(())
 }
 
-// The value that the line at the front tells of a variable, and the bytes behind that line. None where it tells none of it.
+// The value of a variable by the line at the front, and the bytes after that line. None if it is not a line of this variable.
 pub(crate) fn told<'a>(
     line: &mut Vec<u8>,
     width: Width,
     place: usize,
     bytes: &'a [u8],
 ) -> Result<Option<(u64, &'a [u8])>, OutOfMemory>
-    ensures { IfOk result (λ r. MatchOption r ((v : ℕ) (more : List ℕ) → v < 2 ^ width → bytes.now ≡ (value_line width place v ++ 10 ∷ []) ++ more → ⊥) (λ x. (x.0 < 2 ^ width) × (bytes.now ≡ (value_line width place x.0 ++ 10 ∷ []) ++ x.1.now))) }
+    ensures { IfOk result (λ r. MatchOption r ((v : ℕ) (more : List ℕ) → v < 2 ^ width → bytes.now ≡ (value_line width place v ++ 10 ∷ []) ++ more
+        → ⊥) (λ x. (x.0 < 2 ^ width) × (bytes.now ≡ (value_line width place x.0 ++ 10 ∷ []) ++ x.1.now))) }
 {
     let value = value_at(width, bytes);
     if !fits(width, value) {
@@ -128,13 +130,14 @@ fn write_time(line: &mut Vec<u8>, time: u64) -> Result<(), OutOfMemory>
     Ok(())
 }
 
-// The bytes behind the line of a time, where that stands at the front.
+// The bytes after the line of a time, if that line is at the front.
 pub(crate) fn after_time<'a>(
     line: &mut Vec<u8>,
     time: u64,
     bytes: &'a [u8],
 ) -> Result<Option<&'a [u8]>, OutOfMemory>
-    ensures { IfOk result (λ r. MatchOption r ((more : List ℕ) → bytes.now ≡ (time_line time ++ 10 ∷ []) ++ more → ⊥) (λ rest. bytes.now ≡ (time_line time ++ 10 ∷ []) ++ rest.now)) }
+    ensures { IfOk result (λ r. MatchOption r ((more : List ℕ) → bytes.now ≡ (time_line time ++ 10 ∷ []) ++ more
+        → ⊥) (λ rest. bytes.now ≡ (time_line time ++ 10 ∷ []) ++ rest.now)) }
 {
     write_time(line, time)?;
     match strip(line.as_slice(), bytes) {

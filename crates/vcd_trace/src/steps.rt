@@ -1,6 +1,6 @@
 // A clock of a trace that is read.
 
-ghost use Rattle.std.specs.Prelude.{◌≡◌, ◌≤◌, ◌<◌, ◌+◌, ◌^◌, ◌++◌, [], ◌∷◌, length, IfOk, IfSome, IsTrue, MatchResult, MatchOption};
+ghost use Rattle.std.specs.Prelude.{◌≡◌, ◌≤◌, ◌<◌, ◌+◌, ◌^◌, ◌++◌, [], ◌∷◌, length, true, false, IfOk, IfErr, IfSome, OnOk, IsTrue, MatchResult, MatchOption};
 ghost use Rattle.vcd_trace.specs.Layout.{AreValues, time_line};
 ghost use Rattle.vcd_trace.specs.Steps.{stays as stays_at};
 ghost use Rattle.vcd_trace.specs.Answers.{ReadsValue, RefusesValue, ReadsClock, RefusesClock, EndsAt, RefusesTime, GoesOnAt, RefusesAt};
@@ -10,14 +10,14 @@ use crate::reading::{after_time, told};
 use netlist::Width;
 use std::alloc::Global;
 
-// Whether a clock tells nothing of a variable that has this value.
+// Whether a clock has no line for a variable that has this value.
 fn stays(first: bool, before: u64, value: u64) -> bool
     ensures { result ≡ stays_at first before value }
 {
     if first { false } else { before == value }
 }
 
-// A value, the bytes behind its line, and their line's number.
+// A value, the bytes after its line, and their line's number.
 #[derive(Clone, Copy, Drop)]
 pub(crate) struct ReadValue<'a> {
     pub value: u64,
@@ -25,7 +25,7 @@ pub(crate) struct ReadValue<'a> {
     pub number: u64,
 }
 
-// The value of a variable that is told at the front, or else the one that it had.
+// The value of a variable whose line is at the front, or else the value that it had.
 fn read_value<'a>(
     line: &mut Vec<u8>,
     first: bool,
@@ -67,7 +67,7 @@ fn read_value<'a>(
     }
 }
 
-// The values of a clock, the bytes behind its lines, and the number of the line there.
+// The values of a clock, the bytes after its lines, and the number of the line there.
 #[derive(Drop)]
 pub(crate) struct ReadClock<'a> {
     pub values: Vec<u64>,
@@ -114,7 +114,7 @@ fn read_clock<'a>(
     })
 }
 
-// The bytes behind the line of a time.
+// The bytes after the line of a time.
 fn read_time<'a>(
     line: &mut Vec<u8>,
     time: u64,
@@ -138,7 +138,20 @@ fn is_done(bytes: &[u8]) -> bool
     bytes.is_empty()
 }
 
-// The clock at a time, from the line of that time on; None where the text ends after that line, and a clock was read before.
+// A trace may end after the line of a time if a clock was read before: the reset clock is in every trace.
+fn may_end(first: bool, number: u64) -> Result<(), VcdError>
+    ensures begun { OnOk result (first ≡ false) }
+    ensures missing { IfErr result (λ e. (first ≡ true) × (e ≡ VcdError.Fault number)) }
+{
+    let begun = !first;
+    if begun {
+        Ok(())
+    } else {
+        Err(VcdError::Fault { line: number })
+    }
+}
+
+// The clock at a time, from the line of that time on. None if the text ends after that line and a clock was read before.
 pub(crate) fn read_at<'a>(
     alloc: Global,
     line: &mut Vec<u8>,
@@ -161,11 +174,10 @@ pub(crate) fn read_at<'a>(
         Ok(after) => after,
     };
     if is_done(after) {
-        if first {
-            // the reset clock is in every trace
-            return Err(VcdError::Fault { line: number + 1 });
+        match may_end(first, number + 1) {
+            Err(fault) => return Err(fault),
+            Ok(()) => return Ok(None),
         }
-        return Ok(None);
     }
     match read_clock(alloc, line, first, widths, before, after, number + 1) {
         Err(fault) => Err(fault),

@@ -10,7 +10,7 @@ use netlist::{Module, Width};
 use std::alloc::{AllocError, Global};
 use std::marker::Model;
 
-/// What a trace has told: the widths of its variables, the time of the next clock, and the values at the clock before it.
+/// What a trace has shown: the widths of its variables, the time of the next clock, and the values at the clock before it.
 #[derive(Debug, Drop)]
 pub struct Trace {
     widths: Vec<Width>,
@@ -62,7 +62,7 @@ impl Trace {
     ghost use Rattle.vcd_trace.specs.Layout.{AreValues};
     ghost use Rattle.vcd_trace.specs.Told.{IsRoomFor, clock_text, end_text, room_of};
 
-    /// A trace of a module's run that has told nothing yet. The only error is want of memory.
+    /// A trace of a module's run that has shown nothing yet. The only error is out of memory.
     pub fn new(alloc: Global, module: &Module) -> Result<Trace, OutOfMemory>
         ensures widths { IfOk result (λ t. t.widths ≡ all_widths «module».now.netlist) }
         ensures time { IfOk result (λ t. t.time ≡ 0) }
@@ -104,7 +104,7 @@ impl Trace {
         self.time += 1;
         Ok(())
     }
-    /// Adds the last line, the time of the clock that is not told. It takes no memory where the vector has as many free bytes as `room` tells.
+    /// Adds the last line, the time of the clock that is not specified. It takes no memory where the vector has as many free bytes as `room` tells.
     pub fn end(&self, to: &mut Vec<u8>) -> Result<(), OutOfMemory>
         ensures text { OnOk result (to.new.items ≡ to.old.items ++ end_text self.now) }
         ensures room { vec_len to.old + room_of self.now.widths ≤ vec_capacity to.old → IsOk result }

@@ -76,7 +76,7 @@ operator_sign Xor = symbol.Caret
 abbrev pub end_line : Piece
 end_line = sign [] (codes ";") symbol.Semicolon
 
--- each part's pieces stand in front of those that follow
+-- each part's pieces precede those that follow
 -- a right side and its `;`
 abbrev pub right_pieces : Right (List ℕ) (List ℕ) → List Piece → List Piece
 right_pieces (Copy a) ps = atom_piece (codes " ") a ∷ end_line ∷ ps
@@ -128,7 +128,7 @@ direction_own Gives = codes "output"
 abbrev pub port_pieces : List ℕ → Port → List Piece → List Piece
 port_pieces gap p ps = word gap (direction_own p.direction) ∷ ranged_pieces p.width p.name ps
 
--- the ports behind the first one, each behind a comma, and the bracket
+-- the ports after the first one, each after a comma, and the bracket
 abbrev pub more_ports : List Port → List Piece → List Piece
 more_ports [] qs = sign [] (codes ")") symbol.Close ∷ qs
 more_ports (p ∷ ps) qs = sign [] (codes ",") symbol.Comma ∷ port_pieces (codes " ") p (more_ports ps qs)

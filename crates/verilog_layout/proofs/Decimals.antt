@@ -4,7 +4,7 @@ use Rattle.std.specs.Prelude.{if◌then◌else◌}
 use Rattle.std.proofs.lemmas.Fmt.{decimal_digit, decimal_step}
 use Rattle.std.proofs.lemmas.Bool.{ltb-true, ltb-false}
 
--- so many digits at most, and what has so many
+-- this many digits at most, and what has this many
 abbrev pub written : ℕ → ℕ → List ℕ
 written zero n = []
 written (suc k) n = if nat_lt n 10 then (48 + n) ∷ [] else written k (n / 10) ++ (48 + n % 10) ∷ []

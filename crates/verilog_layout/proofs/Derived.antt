@@ -36,7 +36,7 @@ use Rattle.verilog_layout.proofs.Spelling.{le_true}
 use Rattle.verilog_layout.proofs.Words.{is_named, is_atomic}
 use Rattle.verilog_layout.proofs.Clear.{word as word_piece, atom_own, atom_kind, operator_sign, end_line, right_pieces, assign_pieces, update_pieces, wide_pieces, ranged_pieces, words_pieces, sort_pieces, IsNamed, AtomIsFine, RightIsFine, AssignIsFine, UpdateIsFine, SortIsFine}
 
--- the tokens begin with a part of the grammar, which means so, and those behind it spell the pieces that are left
+-- the tokens begin with a part of the grammar, which means so, and those after it spell the pieces that are left
 pub record Parsed {V : Type 0} (whole : List ℕ) (P : Tokens → V → Tokens → Type 0) (Means : V → Type 0) (ts : Tokens) (ps : List Piece) : Type 0 where
   pub value : V
   pub after : Tokens

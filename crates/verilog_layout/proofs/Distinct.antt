@@ -7,7 +7,7 @@ use Rattle.netlist.specs.Names.{AreDistinct, NamedNetlist, HasNames, numbered, d
 use Rattle.netlist.specs.Scopes.{Meaning, Entry}
 use Rattle.verilog_layout.proofs.Entries.{names_in, named_entries, inputs_of, outputs_of, wires_of, regs_of, arrays_of, port_scope, declared_scope, module_scope}
 
--- so many names, from the k-th on
+-- this many names, from the k-th on
 abbrev pub picked : List (List ℕ) → ℕ → ℕ → List (List ℕ)
 picked names k zero = []
 picked names k (suc n) = name_at names k ∷ picked names (suc k) n

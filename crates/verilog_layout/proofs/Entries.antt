@@ -1,4 +1,4 @@
--- The scope of a module's parts: each name that it has stands for what has that name.
+-- The scope of a module's parts: each name that it has denotes what has that name.
 use Rattle.std.proofs.Common.{◌≡◌, ℕ, zero, suc, ◌+◌, Bool, true, false, List, [], ◌∷◌, ◌++◌, length, refl, ap, subst, sym, ◌∙◌, arith, Some, None}
 use Rattle.std.specs.Prelude.{Contains, slice_get, map, if◌then◌else◌, codes}
 use Rattle.std.proofs.lemmas.Option.{slice_get_read, same_Some, slice_get-map}
@@ -26,7 +26,7 @@ names_in scope = map (λ (e : Entry). e.name) scope
 distinct_rest : (x : List ℕ) (xs : List (List ℕ)) → AreDistinct (x ∷ xs) → AreDistinct xs
 distinct_rest x xs d i j y a b = let e : suc i ≡ suc j = d (suc i) (suc j) y a b in omega (arith, e)
 
--- among distinct names the entry at a place is what its name stands for
+-- among distinct names the entry at a place is what its name denotes
 stands_at : (scope : List Entry) (k : ℕ) (e : Entry) → slice_get scope k ≡ Some e → AreDistinct (names_in scope) → stands_for scope e.name ≡ Some e.meaning
 stands_at [] k e at d = absurd (let f : None ≡ Some e = at in cc)
 stands_at (b ∷ scope) zero e at d =

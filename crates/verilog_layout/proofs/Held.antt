@@ -1,4 +1,4 @@
--- A text that is held in memory has room for the parts that it tells.
+-- A text that is held in memory has room for the parts that it describes.
 use Rattle.std.proofs.Common.{◌≡◌, ℕ, suc, ◌+◌, ◌≤◌, List, [], ◌∷◌, ◌++◌, length, refl, sym, ap, ◌∙◌, subst, arith, codes}
 use Rattle.std.specs.Prelude.{map}
 use Rattle.std.specs.Global.{Vec}
@@ -133,7 +133,7 @@ module _ (m : NamedNetlist) where
       updates = vec_beside text (map (named_update m) m.netlist.updates) (fits_text _ lists_fit.updates);
     }
 
-    -- what is written in the text are these parts, so it stands for the module
+    -- what is written in the text are these parts, so it denotes the module
     pub layout_held : (s : Source) → IsSourceOf m s → KeepsRules m.netlist → HasNames m.netlist m.names → StandsFor text.items m
     unfolding vec_beside parts_held
     layout_held s h rules named = subst (λ (x : List ℕ). StandsFor x m) (sym is) (record {

@@ -48,7 +48,7 @@ module _ (m : NamedNetlist) where
   named_update (Set r a) = NamedSet (net_name m (Reg r)) (named_atom a)
   named_update (Put x i a) = NamedPut (array_name m x) (named_atom i) (named_atom a)
 
--- ports behind the clock, from the k-th name on
+-- ports after the clock, from the k-th name on
 abbrev pub named_ports : Direction → List (List ℕ) → ℕ → List ℕ → List Port
 named_ports d names k [] = []
 named_ports d names k (w ∷ ws) = record { direction = d; width = w; name = name_at names k } ∷ named_ports d names (suc k) ws

@@ -1,4 +1,4 @@
--- Each name of a module stands for what has it, so its named assigns and updates are its assigns and updates.
+-- Each name of a module denotes what has it, so its named assigns and updates are its assigns and updates.
 use Rattle.std.proofs.Common.{◌≡◌, ℕ, zero, suc, ◌+◌, ◌<◌, List, [], ◌∷◌, ◌++◌, length, refl, ap, subst, arith, Some}
 use Rattle.std.specs.Prelude.{All, Contains, IsSome}
 use Rattle.std.specs.Option.{option_map}
@@ -123,7 +123,7 @@ module _ (m : NamedNetlist) (distinct : AreDistinct (names_in (module_scope m)))
   update_is (Set r a) s = rw (net_is (Reg r) s.0, atom_is a s.1.nets) refl
   update_is (Put x i a) s = rw (array_is x s.0, atom_is i s.1.nets, atom_is a s.2.nets) refl
 
-  -- names that stand for something
+  -- names that denote something
   abbrev IsKnown : List ℕ → Type 0
   IsKnown n = IsSome (stands_for scope n)
 

@@ -118,7 +118,7 @@ is_digit_of_ten a h = grind arith
 pub no_word : (a : ℕ) → is_digit a ≡ true → is_letter a ≡ false
 no_word a h = grind arith
 
--- a size, `'d` and a value, over digits that stand for them
+-- a size, `'d` and a value, over digits that denote them
 pub constant_is : (w v : ℕ) (ws vs : List ℕ) → IsDecimal w ws → IsDecimal v vs → 1 ≤ w → w ≤ 64 → v < 2 ^ w → constant_of (ws ++ 39 ∷ 100 ∷ vs) ≡ Some (record { width = w; value = v })
 constant_is w v ws vs a b low high fits =
     let size : prefix_len is_in_number (ws ++ 39 ∷ 100 ∷ vs) ≡ length ws = run_of is_in_number ws (39 ∷ 100 ∷ vs) (all_number ws (numeral_digits ws a.numeral)) refl in

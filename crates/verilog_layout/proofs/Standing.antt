@@ -1,4 +1,4 @@
--- A text that is the layout of a printable module stands for it.
+-- A text that is the layout of a printable module denotes it.
 use Rattle.std.proofs.Common.{◌≡◌, ℕ}
 use Rattle.std.specs.Global.{Vec}
 use Rattle.netlist.specs.Names.{NamedNetlist}

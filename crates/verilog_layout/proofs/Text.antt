@@ -1,4 +1,4 @@
--- The text of a module's pieces is its layout. A line's LF stands in the gap before the next piece.
+-- The text of a module's pieces is its layout. A line's LF is in the gap before the next piece.
 use Rattle.std.proofs.Common.{◌≡◌, ℕ, suc, ◌-◌, List, [], ◌∷◌, ◌++◌, map, Bool, true, false, nat_eq, refl, sym, ap, ◌∙◌, append_assoc, codes}
 use Rattle.std.specs.Prelude.{if◌then◌else◌}
 use Rattle.std.specs.Fmt.{decimal}
@@ -146,7 +146,7 @@ pieces_of m =
     module_pieces m.names.«module» clock_port (named_ports Takes (all_inputs m.netlist.enable) 0 m.netlist.inputs ++ named_ports Gives all_outputs 0 m.netlist.outputs) (declarations_of m)
     (map (named_assign m) m.netlist.assigns) (map (named_update m) m.netlist.updates)
 
--- what stands behind the first line
+-- what follows the first line
 abbrev body_layout : NamedNetlist → List ℕ
 body_layout m = declarations_layout m ++ (each (assign_layout m) m.netlist.assigns ++ (block_layout m m.netlist.updates ++ codes "endmodule\n"))
 
@@ -160,7 +160,7 @@ body_text m =
     declarations_text m (each_pieces assign_pieces (map (named_assign m) m.netlist.assigns) block) last_line (each (assign_layout m) m.netlist.assigns ++ last)
     (each_text (named_assign m) assign_pieces (assign_layout m) (assign_text m) m.netlist.assigns block last_line last (block_text m m.netlist.updates))
 
--- the ports behind the clock, and the end of the line
+-- the ports after the clock, and the end of the line
 head_text : (m : NamedNetlist) (qs : List Piece) (end : List ℕ)
     → text_of (more_ports (named_ports Takes (all_inputs m.netlist.enable) 0 m.netlist.inputs ++ named_ports Gives all_outputs 0 m.netlist.outputs) qs) end
     ≡ each_at (input_layout m.netlist.enable) 0 m.netlist.inputs ++ (each_at output_layout 0 m.netlist.outputs ++ (41 ∷ text_of qs end))

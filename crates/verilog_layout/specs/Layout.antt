@@ -86,7 +86,7 @@ abbrev pub each : {X : Type 0} → (X → List ℕ) → List X → List ℕ
 each layout [] = []
 each layout (x ∷ xs) = layout x ++ each layout xs
 
--- a port behind the clock
+-- a port after the clock
 abbrev pub input_layout : Bool → ℕ → ℕ → List ℕ
 input_layout enable k w = named_layout (codes ", input ") w (name_at (all_inputs enable) k)
 

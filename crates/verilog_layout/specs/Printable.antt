@@ -1,4 +1,4 @@
--- Modules that a text can tell.
+-- Modules that a text can describe.
 use Rattle.std.specs.Prelude.{◌≤◌}
 use Rattle.dk_base.specs.declared.TheConstants.{MAX_BUFFER_BITS}
 use Rattle.wiring.specs.Rules.{KeepsRules}

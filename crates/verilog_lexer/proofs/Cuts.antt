@@ -1,4 +1,4 @@
--- The first token of what is left, and the tokens behind it.
+-- The first token of what is left, and the tokens after it.
 use Rattle.std.proofs.Common.{◌≡◌, ◌≢◌, ℕ, suc, ◌≤◌, ◌<◌, List, [], ◌∷◌, length, drop, Ok, Err, refl, sym, ap, ◌∙◌, subst, arith, length-drop}
 use Rattle.verilog_text.specs.declared.token.Token.{Token}
 use Rattle.verilog_text.specs.declared.token.LexKind.{LexKind}
@@ -47,7 +47,7 @@ pub cut_fault : (total : ℕ) (text bytes after' : List ℕ) (first n : ℕ) (k 
 cut_fault total text bytes after' first n k g s e l =
     subst (λ x. Refused total text (record { span = span_at total x n; kind = k })) (sym e) (here (subst (λ x. Gap text x) e g) (subst (λ x. Solid x) e s) l)
 
--- what is behind a cut
+-- what follows a cut
 pub cut_shorter : {total : ℕ} {text rest : List ℕ} {t : Token} → IsCut total text t rest → t.kind ≢ kind.End → length rest < length text
 cut_shorter (ended g) h = absurd (h refl)
 cut_shorter (found {bs = bs} {a = a} {n = n} g s l e) h =
@@ -62,7 +62,7 @@ pub cut_ended : {total : ℕ} {text rest : List ℕ} {t : Token} → IsCut total
 cut_ended (ended g) h = (refl, refl)
 cut_ended (found {bs = bs} {a = a} {n = n} {kind = k} g s l e) h = absurd (no_end a n bs k l h)
 
--- the tokens of the text, from those behind the cut
+-- the tokens of the text, from those after the cut
 pub cut_lexes : {total : ℕ} {text rest : List ℕ} {t : Token} → IsCut total text t rest → (ts : List Token) → Lexes total rest ts → Lexes total text (t ∷ after t.kind ts)
 cut_lexes (ended g) ts l = finish g
 cut_lexes {total = total} (found {bs = bs} {a = a} {n = n} {kind = k} g s m e) ts l =
@@ -99,7 +99,7 @@ cut_left {total = total} {rest = rest} {t = t} h c =
 pub no_refused : {total : ℕ} {text : List ℕ} {f : LexFault} → HasSome total text → Refused total text f → ⊥
 no_refused h r = no_tokens r h.tokens h.lexes
 
--- behind the end of the text nothing changes
+-- after the end of the text nothing changes
 pub end_stays : {total : ℕ} {old new : Token} {rest behind : List ℕ} → IsPlace total old rest → IsCut total rest new behind → old.kind ≡ kind.End
     → new ∷ after new.kind (left_of total behind) ≡ old ∷ after old.kind (left_of total rest)
 end_stays {total = total} {old = old} {rest = rest} p c e =

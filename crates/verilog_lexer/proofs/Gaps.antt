@@ -1,4 +1,4 @@
--- What is behind a comment is shorter.
+-- What follows a comment is shorter.
 use Rattle.std.proofs.Common.{◌≡◌, ℕ, ◌≤◌, List, [], ◌∷◌, length, Some, true, ◌&&◌, nat_eq, arith, refl, sym, ◌∙◌, inl, inr, drop, subst, length-drop}
 use Rattle.std.proofs.lemmas.Bool.{cases_Bool}
 use Rattle.verilog_text.specs.Lexis.{behind_block, Gap, none, white, line, block}

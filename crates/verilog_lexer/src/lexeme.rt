@@ -108,7 +108,7 @@ fn symbol(first: u8, after: &[u8]) -> Result<(TokenKind, usize), (LexKind, usize
     }
 }
 
-// What stands at the front of the bytes, the first byte and those after it.
+// What is at the front of the bytes, the first byte and those after it.
 #[tactic(auto, using(crate::proofs::Runs::word_run, crate::proofs::Runs::number_run, crate::proofs::Runs::constant_run), unfolding(verilog_text::specs::Lexis::lexeme))]
 pub(crate) fn lexeme(
     bytes: &[u8],

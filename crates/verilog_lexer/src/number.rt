@@ -97,7 +97,7 @@ fn in_base(size: u64, base: u8, digits: &[u8]) -> Option<Constant>
     fitting(size, value(base, digits)?)
 }
 
-// What stands behind a size: `'`, a base, digits.
+// What follows a size: `'`, a base, digits.
 fn of_size(size: u64, rest: &[u8]) -> Option<Constant>
     ensures { result ≡ of_size_of size rest.now }
 {

@@ -43,7 +43,7 @@ fn is_end(token: Token) -> bool
     }
 }
 
-// The end of a text of so many bytes.
+// The end of a text of this many bytes.
 fn end_of(total: usize) -> Token
     ensures { result ≡ end_at total }
 {
@@ -56,7 +56,7 @@ fn end_of(total: usize) -> Token
     }
 }
 
-// The first token of what is left of a text of so many bytes, and what is behind it.
+// The first token of what is left of a text of this many bytes, and what follows it.
 fn cut(total: usize, text: &[u8]) -> Result<(Token, &[u8]), LexFault>
     requires { length text.now ≤ total }
     ensures { MatchResult result (λ x. IsCut total text.now x.0 x.1.now) (λ f. Refused total text.now f) }
@@ -108,7 +108,7 @@ fn first_fault(source: &[u8]) -> Option<LexFault>
     }
 }
 
-// The first token of what is left of a text that has tokens, and what is behind it.
+// The first token of what is left of a text that has tokens, and what follows it.
 fn next_token(total: usize, text: &[u8]) -> (Token, &[u8])
     requires fewer { length text.now ≤ total }
     requires has { HasSome total text.now }
@@ -131,7 +131,7 @@ impl<'a> Tokens<'a> {
         ensures accepts { (tokens : List OneToken) → HasTokens source.now tokens → IsOkAnd result (λ t. t ≡ tokens) }
         ensures refuses { (fault : OneLexFault) → HasLexFault source.now fault → IsErrAnd result (λ f. f ≡ fault) }
     {
-        verilog_text::one_reading();
+        verilog_text::one_reading_law();
         Tokens::read(source)
     }
 
@@ -151,7 +151,7 @@ impl<'a> Tokens<'a> {
         }
     }
 
-    /// The next token. The end of the text has none behind it.
+    /// The next token. The end of the text has none after it.
     pub fn peek(&self) -> Token
         ensures next { (rest : List OneToken) × (self.now ≡ result ∷ rest) }
         ensures last { result.kind ≡ kind.End → self.now ≡ result ∷ [] }

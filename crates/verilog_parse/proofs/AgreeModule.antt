@@ -30,7 +30,7 @@ record Body (m : Section) (ts : List Token) (pieces : List Piece) (rest : List T
   pub no_assigns : is_closing m ≡ true → (gather assigned pieces ≡ []) × (behind ≡ mid)
   pub no_updates : is_ending m ≡ true → gather updated pieces ≡ []
 
--- "always" and what stands behind it, up to "endmodule"
+-- "always" and what follows it, up to "endmodule"
 to_block : {mid rest behind : List Token} {us : List WrittenUpdate} (t e : Token) → t.kind ≡ kind.Keyword keyword.Always → ABlock mid us behind → behind ≡ e ∷ rest → e.kind ≡ kind.Keyword keyword.EndModule → Block (t ∷ mid) us rest
 to_block {mid = mid} {rest = z} {us = us} t e w q h k =
     let a = q.2 in

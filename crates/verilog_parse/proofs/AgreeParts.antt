@@ -30,7 +30,7 @@ use Rattle.verilog_parse.specs.Forms.{Gives}
 use Rattle.verilog_parse.specs.Sections.{comma_or_close, heading, leading, tailing, arrowing, targeting, ABits, AfterHead, ARanged, AfterLead, APort, Ports, AWire, AfterReg, AReg, AfterArrow, AnUpdate, UpdatesFrom, Updates}
 use Rattle.verilog_parse.proofs.Means.{HeadMeans, LeadMeans, TailMeans, ArrowMeans, TargetMeans, head_means, lead_means, comma_means, tail_means, arrow_means, target_means, head_name, lead_name, target_name}
 
--- a range behind its opening bracket
+-- a range after its opening bracket
 pub record Opened (ts : List Token) (r : Range) (rest : List Token) : Type 0 where
   pub open' : Token
   pub inner : List Token
@@ -112,7 +112,7 @@ pub to_ports : {ts rest : List Token} {ps : List WrittenPort} → Ports ts ps re
 to_ports {ts = ts} (last' {t = t} {v = v} p e k) = last (subst (λ x. Port ts v x) e (to_port p)) (comma_means _ false k)
 to_ports {ts = ts} (another {t = t} {v = v} p e k l) = more (subst (λ x. Port ts v x) e (to_port p)) (comma_means _ true k) (to_ports l)
 
--- declarations, behind their first word
+-- declarations, after their first word
 abbrev pub declared_as : WrittenSort → RangedName → WrittenDeclaration
 declared_as s r = record { sort = s; bits = r.bits; name = r.name }
 
@@ -137,7 +137,7 @@ to_reg {ts = ts} {rest = z} {d = d} k w q =
     let t = q.3 in
     to_tail t.0 k t.2.0 ts q.1 t.1 z q.0 d w (to_ranged q.2) t.2.1 (tail_means _ _ t.2.2) t.3
 
--- a declaration is a first word and what stands behind it
+-- a declaration is a first word and what follows it
 pub data IsDeclared (k : Token) : List Token → WrittenDeclaration → List Token → Type 0 where
   of_wire : {mid rest : List Token} {d : WrittenDeclaration} → k.kind ≡ kind.Keyword keyword.Wire → AWire mid d rest → IsDeclared k mid d rest
   of_reg : {mid rest : List Token} {d : WrittenDeclaration} → k.kind ≡ kind.Keyword keyword.Reg → AReg mid d rest → IsDeclared k mid d rest

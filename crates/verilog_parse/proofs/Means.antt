@@ -402,7 +402,7 @@ section_means (kind.Keyword keyword.Begin) v e = absurd (cc)
 section_means (kind.Keyword keyword.End) v e = absurd (cc)
 section_means (kind.Symbol y) v e = absurd (cc)
 
--- which sections may stand behind an assign, and which behind the block
+-- which sections may follow an assign, and which after the block
 abbrev pub is_statement : Section → Bool
 is_statement sections.Wire = false
 is_statement sections.Reg = false

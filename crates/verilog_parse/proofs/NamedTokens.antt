@@ -1,4 +1,4 @@
--- A token that is a name stands at a name.
+-- A token that is a name is at a name.
 use Rattle.std.proofs.Common.{◌≡◌, ◌≢◌, ◌++◌, ◌+◌, ◌-◌, ◌≤◌, ◌^◌, ℕ, suc, codes, List, [], ◌∷◌, length, take, drop, Option, Some, None, Ok, Err, Bool, true, false, ◌&&◌, not, nat_lt, nat_le, nat_eq, map, refl, sym, ap, ◌∙◌, subst, arith, inl, inr, append_assoc}
 use Rattle.std.specs.List.{prefix_len, find, starts_with}
 use Rattle.std.proofs.lemmas.Bool.{cases_Bool}
@@ -29,7 +29,7 @@ abbrev pub AllNamed : List ℕ → List Token → Type 0
 AllNamed text [] = Unit {0}
 AllNamed text (t ∷ ts) = IsNamedToken text t × AllNamed text ts
 
--- what stands before the rest
+-- what comes before the rest
 behind_front : (text behind : List ℕ) → behind_block text ≡ Some behind → (q : List ℕ) × (text ≡ q ++ behind)
 behind_front [] behind e = absurd (cc)
 behind_front (a ∷ []) behind e = absurd (cc)

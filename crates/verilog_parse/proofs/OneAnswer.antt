@@ -25,7 +25,7 @@ use Rattle.verilog_parse.specs.Named.{IsNamedSource}
 use Rattle.verilog_parse.proofs.NamedParts.{written_named}
 use Rattle.verilog_parse.proofs.AgreeModule.{to_module, faulty_module}
 
--- the token behind these
+-- the token after these
 token_behind : (xs ys : List Token) (t : Token) → slice_get (xs ++ t ∷ ys) (length xs) ≡ Some t
 token_behind [] ys t = refl
 token_behind (x ∷ xs) ys t = token_behind xs ys t

@@ -25,7 +25,7 @@ use Rattle.verilog_parse.specs.declared.kind.Follow.TheVariants as follow
 use Rattle.verilog_parse.specs.declared.halt.Halt.{Halt}
 use Rattle.verilog_parse.specs.declared.halt.Halt.TheVariants.{Faulty, OutOfMemory}
 
--- where the cursor stands at a fault
+-- where the cursor is at a fault
 abbrev pub Halts : {V : Type 0} → Phrases Token V → List Token → List Token → Halt → Type 0
 Halts P ts at Faulty = Stuck P ts at
 Halts P ts at OutOfMemory = Unit {0}
@@ -132,6 +132,6 @@ AfterStart (start.Atom a) = Then (One (Gives (λ k s. following a k))) (λ f. Af
 abbrev pub ARight : Phrases Token WrittenRight
 ARight = Then (One (Gives starting)) (λ s. AfterStart s)
 
--- what stands behind "assign"
+-- what follows "assign"
 abbrev pub AnAssign : Phrases Token WrittenAssign
 AnAssign = Then AName (λ n. Then (Sign symbol.Equal) (λ _. Then ARight (λ r. Done (record { target = n; right = r }))))

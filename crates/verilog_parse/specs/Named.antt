@@ -14,7 +14,7 @@ use Rattle.verilog_text.specs.declared.written.WrittenUpdate.TheVariants as upda
 use Rattle.verilog_text.specs.Grammar.{Source}
 use Rattle.verilog_text.specs.Stands.{bytes_at}
 
--- a name stands at this span of the text
+-- a name is at this span of the text
 pub record IsNameSpan (text : List ℕ) (s : Span) : Type 0 where
   pub ordered : s.start ≤ s.stop
   pub within : s.stop ≤ length text
@@ -44,7 +44,7 @@ module _ (text : List ℕ) where
   IsNamedUpdate (update.Set r a) = IsNameSpan text r × IsNamedAtom a
   IsNamedUpdate (update.Put m i a) = IsNameSpan text m × IsNamedAtom i × IsNamedAtom a
 
--- each name of the source stands at its span
+-- each name of the source is at its span
 pub record IsNamedSource (text : List ℕ) (s : Source) : Type 0 where
   pub name : IsNameSpan text s.name
   pub ports : All (λ (p : WrittenPort). IsNameSpan text p.name) s.ports

@@ -65,7 +65,7 @@ targeting kind.Clock s = Some (targets.Name s)
 targeting (kind.Keyword keyword.End) s = Some targets.End
 targeting _ s = None
 
--- the first words of all sections, of those behind the declarations, and of the last one
+-- the first words of all sections, of those after the declarations, and of the last one
 abbrev pub section_of : TokenKind → Option Section
 section_of (kind.Keyword keyword.Wire) = Some sections.Wire
 section_of (kind.Keyword keyword.Reg) = Some sections.Reg
@@ -91,7 +91,7 @@ section_after sections.Assign k = statement_of k
 section_after sections.Always k = last_of k
 section_after sections.End k = None
 
--- a range behind its "["
+-- a range after its "["
 abbrev pub ABits : Phrases Token Range
 ABits = Then ACount (λ a. Then (Sign symbol.Colon) (λ _. Then ACount (λ b. Then (Sign symbol.CloseSquare) (λ _. Done (record { first = a; second = b })))))
 
@@ -114,7 +114,7 @@ APort = Then (One (Gives (λ k s. directed k))) (λ d. Then (One (Gives leading)
 abbrev pub Ports : Phrases Token (List WrittenPort)
 Ports = Listed APort (λ t. comma_or_close t.kind)
 
--- what stands behind "wire" and behind "reg"
+-- what follows "wire" and after "reg"
 abbrev pub AWire : Phrases Token WrittenDeclaration
 AWire = Then ARanged (λ r. Then (Sign symbol.Semicolon) (λ _. Done (record { sort = sort.Wire; bits = r.bits; name = r.name })))
 
@@ -156,7 +156,7 @@ Updates = Then (One (Gives targeting)) UpdatesFrom
 abbrev pub ATrigger : Phrases Token (Unit {0})
 ATrigger = Then (Sign symbol.At) (λ _. Then (Sign symbol.Open) (λ _. Then (Word keyword.Posedge) (λ _. One (Is kind.Clock))))
 
--- what stands behind "always"
+-- what follows "always"
 abbrev pub ABlock : Phrases Token (List WrittenUpdate)
 ABlock = Then ATrigger (λ _. Then (Sign symbol.Close) (λ _. Then (Word keyword.Begin) (λ _. Updates)))
 

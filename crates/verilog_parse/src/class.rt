@@ -72,7 +72,7 @@ pub(crate) fn start(tokens: &mut Tokens<'_>) -> Result<Start, Halt>
     }
 }
 
-// What stands first in brackets.
+// What comes first in brackets.
 pub(crate) fn item(tokens: &mut Tokens<'_>) -> Result<Item, Halt>
     ensures parsed { MatchResult result (λ v. One (Gives item_of) tokens.old v tokens.new) (λ e. Halts (One (Gives item_of)) tokens.old tokens.new e) }
 {
@@ -100,7 +100,7 @@ pub(crate) fn follow(before: &Atom<Span>, tokens: &mut Tokens<'_>) -> Result<Fol
     }
 }
 
-// `:`, behind which a number follows, or `]`.
+// `:`, after which a number follows, or `]`.
 pub(crate) fn colon_or_close(tokens: &mut Tokens<'_>) -> Result<bool, Halt>
     ensures parsed { MatchResult result (λ v. One (Gives (λ k s. colon_or_close_of k)) tokens.old v tokens.new) (λ e. Halts (One (Gives (λ k s. colon_or_close_of k))) tokens.old tokens.new e) }
 {
@@ -114,7 +114,7 @@ pub(crate) fn colon_or_close(tokens: &mut Tokens<'_>) -> Result<bool, Halt>
     }
 }
 
-// `,`, behind which a port follows, or `)`.
+// `,`, after which a port follows, or `)`.
 pub(crate) fn comma_or_close(tokens: &mut Tokens<'_>) -> Result<bool, Halt>
     ensures parsed { MatchResult result (λ v. One (Gives (λ k s. comma_or_close_of k)) tokens.old v tokens.new) (λ e. Halts (One (Gives (λ k s. comma_or_close_of k))) tokens.old tokens.new e) }
 {
@@ -226,7 +226,7 @@ pub(crate) fn section(tokens: &mut Tokens<'_>) -> Result<Section, Halt>
     }
 }
 
-// The first word of the section behind this one.
+// The first word of the section after this one.
 pub(crate) fn section_after(before: Section, tokens: &mut Tokens<'_>) -> Result<Section, Halt>
     requires { is_last before ≡ false }
     ensures parsed { MatchResult result (λ v. One (Gives (λ k s. section_after_of before k)) tokens.old v tokens.new) (λ e. Halts (One (Gives (λ k s. section_after_of before k))) tokens.old tokens.new e) }

@@ -11,7 +11,7 @@ use crate::port::{bits, ranged};
 use verilog_lexer::Tokens;
 use verilog_text::{Symbol, WrittenDeclaration, WrittenSort};
 
-// What stands behind `wire`.
+// What follows `wire`.
 pub(crate) fn wire(tokens: &mut Tokens<'_>) -> Result<WrittenDeclaration, Halt>
     ensures parsed { MatchResult result (λ v. AWire tokens.old v tokens.new) (λ e. Halts AWire tokens.old tokens.new e) }
 {
@@ -49,7 +49,7 @@ fn after_reg(
     }
 }
 
-// What stands behind `reg`.
+// What follows `reg`.
 pub(crate) fn reg(tokens: &mut Tokens<'_>) -> Result<WrittenDeclaration, Halt>
     ensures parsed { MatchResult result (λ v. AReg tokens.old v tokens.new) (λ e. Halts AReg tokens.old tokens.new e) }
 {

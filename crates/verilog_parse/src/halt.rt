@@ -5,7 +5,7 @@ ghost use Rattle.verilog_parse.specs.declared.halt.Halt.TheVariants.{OutOfMemory
 
 use std::alloc::AllocFailed;
 
-// Why nothing was read. At a faulty token the cursor stands at it.
+// Why nothing was read. At a faulty token the cursor is at it.
 #[derive(Clone, Copy, Drop)]
 pub(crate) enum Halt {
     Faulty,

@@ -12,7 +12,7 @@ pub(crate) enum Start {
     Atom(Atom<Span>),
 }
 
-// What stands first in brackets.
+// What comes first in brackets.
 #[derive(Clone, Copy, Drop)]
 pub(crate) enum Item {
     Count(Count),
@@ -70,7 +70,7 @@ pub(crate) enum Target {
     End,
 }
 
-// A section of a module behind its ports, by its first word.
+// A section of a module after its ports, by its first word.
 #[derive(Clone, Copy, Drop)]
 pub(crate) enum Section {
     Wire,

@@ -18,9 +18,10 @@ use std::alloc::Global;
 use verilog_lexer::Tokens;
 use verilog_text::{Keyword, Symbol, Written, WrittenAssign, WrittenRight};
 
-// The assign behind its first word, which is added to the others. A copy is taken apart, so that the checker sees the atoms that the list holds.
+// The assign after its first word, which is added to the others. A copy is taken apart, so that the checker sees the atoms that the list holds.
 fn next_assign(assigns: &mut Vec<WrittenAssign>, tokens: &mut Tokens<'_>) -> Result<(), Halt>
-    ensures parsed { MatchResult result (λ v. (a : OneAssign) × AnAssign tokens.old a tokens.new × (assigns.new.items ≡ assigns.old.items ++ a ∷ [])) (λ e. Halts AnAssign tokens.old tokens.new e) }
+    ensures parsed { MatchResult result (λ v. (a : OneAssign) × AnAssign tokens.old a tokens.new
+        × (assigns.new.items ≡ assigns.old.items ++ a ∷ [])) (λ e. Halts AnAssign tokens.old tokens.new e) }
 {
     let WrittenAssign { target, right } = assign(tokens)?;
     match right {
@@ -33,10 +34,11 @@ fn next_assign(assigns: &mut Vec<WrittenAssign>, tokens: &mut Tokens<'_>) -> Res
     Ok(())
 }
 
-// The section behind its first word.
+// The section after its first word.
 fn section(first: Section, written: &mut Written, tokens: &mut Tokens<'_>) -> Result<(), Halt>
     requires { is_last first ≡ false }
-    ensures parsed { MatchResult result (λ v. (p : Piece) × AfterSection first tokens.old p tokens.new × Adds (p ∷ []) written.old written.new) (λ e. Halts (AfterSection first) tokens.old tokens.new e) }
+    ensures parsed { MatchResult result (λ v. (p : Piece) × AfterSection first tokens.old p tokens.new
+        × Adds (p ∷ []) written.old written.new) (λ e. Halts (AfterSection first) tokens.old tokens.new e) }
 {
     match first {
         Section::Wire => {
@@ -98,7 +100,8 @@ fn is_last_section(section: Section) -> bool
 
 // The sections from this one on, and `endmodule`.
 fn sections_from(first: Section, written: &mut Written, tokens: &mut Tokens<'_>) -> Result<(), Halt>
-    ensures parsed { MatchResult result (λ v. (pieces : List Piece) × SectionsFrom first tokens.old pieces tokens.new × Adds pieces written.old written.new) (λ e. Halts (SectionsFrom first) tokens.old tokens.new e) }
+    ensures parsed { MatchResult result (λ v. (pieces : List Piece) × SectionsFrom first tokens.old pieces tokens.new
+        × Adds pieces written.old written.new) (λ e. Halts (SectionsFrom first) tokens.old tokens.new e) }
 {
     let mut next = first;
     'sections: loop {
@@ -112,7 +115,8 @@ fn sections_from(first: Section, written: &mut Written, tokens: &mut Tokens<'_>)
 
 // The sections and `endmodule`.
 fn sections(written: &mut Written, tokens: &mut Tokens<'_>) -> Result<(), Halt>
-    ensures parsed { MatchResult result (λ v. (pieces : List Piece) × Sections tokens.old pieces tokens.new × Adds pieces written.old written.new) (λ e. Halts Sections tokens.old tokens.new e) }
+    ensures parsed { MatchResult result (λ v. (pieces : List Piece) × Sections tokens.old pieces tokens.new
+        × Adds pieces written.old written.new) (λ e. Halts Sections tokens.old tokens.new e) }
 {
     let first = class::section(tokens)?;
     sections_from(first, written, tokens)?;

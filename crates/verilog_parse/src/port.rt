@@ -11,7 +11,7 @@ use std::alloc::Global;
 use verilog_lexer::Tokens;
 use verilog_text::{Range, Symbol, WrittenPort};
 
-// A range behind its `[`.
+// A range after its `[`.
 pub(crate) fn bits(tokens: &mut Tokens<'_>) -> Result<Range, Halt>
     ensures parsed { MatchResult result (λ v. ABits tokens.old v tokens.new) (λ e. Halts ABits tokens.old tokens.new e) }
 {

@@ -142,7 +142,7 @@ fn right(tokens: &mut Tokens<'_>) -> Result<WrittenRight, Halt>
     Ok(right)
 }
 
-// What stands behind `assign`.
+// What follows `assign`.
 pub(crate) fn assign(tokens: &mut Tokens<'_>) -> Result<WrittenAssign, Halt>
     ensures parsed { MatchResult result (λ v. AnAssign tokens.old v tokens.new) (λ e. Halts AnAssign tokens.old tokens.new e) }
 {

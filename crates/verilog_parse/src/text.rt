@@ -23,11 +23,11 @@ pub fn parse(alloc: Global, text: &[u8]) -> Result<Written, TextError>
     ensures fault { IfErr result (IsErrorBy (IsParseFault text.now)) }
     ensures named { IfOk result (λ w. IsNamedSource text.now (source_of w)) }
 
-    // What is so is answered, but for want of memory.
+    // What is so is answered, except if out of memory.
     ensures accepts { (s : Source) → IsWritten text.now s → MatchResult result (λ w. source_of w ≡ s) (λ e. e ≡ OutOfMemory) }
     ensures refuses { (f : OneFault) → IsParseFault text.now f → IsErrAnd result (IsErrorBy (λ g. g ≡ f)) }
 {
-    verilog_text::one_reading();
+    verilog_text::one_reading_law();
     read(alloc, text)
 }
 
@@ -60,7 +60,7 @@ pub fn name_span(text: &[u8]) -> Span
     requires { (s : Source) × IsWritten text.now s }
     ensures { (s : Source) → IsWritten text.now s → result ≡ s.name }
 {
-    verilog_text::one_reading();
+    verilog_text::one_reading_law();
     match Tokens::of(text) {
         Ok(tokens) => {
             let mut tokens = tokens;

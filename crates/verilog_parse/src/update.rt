@@ -45,7 +45,8 @@ fn next_update(
     updates: &mut Vec<WrittenUpdate>,
     tokens: &mut Tokens<'_>,
 ) -> Result<(), Halt>
-    ensures parsed { MatchResult result (λ v. (u : OneUpdate) × AnUpdate name tokens.old u tokens.new × (updates.new.items ≡ updates.old.items ++ u ∷ [])) (λ e. Halts (AnUpdate name) tokens.old tokens.new e) }
+    ensures parsed { MatchResult result (λ v. (u : OneUpdate) × AnUpdate name tokens.old u tokens.new
+        × (updates.new.items ≡ updates.old.items ++ u ∷ [])) (λ e. Halts (AnUpdate name) tokens.old tokens.new e) }
 {
     match update(name, tokens)? {
         WrittenUpdate::Set(register, value) => {
@@ -64,7 +65,8 @@ fn updates_from(
     updates: &mut Vec<WrittenUpdate>,
     tokens: &mut Tokens<'_>,
 ) -> Result<(), Halt>
-    ensures parsed { MatchResult result (λ v. (us : List OneUpdate) × UpdatesFrom first tokens.old us tokens.new × (updates.new.items ≡ updates.old.items ++ us)) (λ e. Halts (UpdatesFrom first) tokens.old tokens.new e) }
+    ensures parsed { MatchResult result (λ v. (us : List OneUpdate) × UpdatesFrom first tokens.old us tokens.new
+        × (updates.new.items ≡ updates.old.items ++ us)) (λ e. Halts (UpdatesFrom first) tokens.old tokens.new e) }
 {
     let mut target = first;
     'updates: loop {
@@ -78,7 +80,8 @@ fn updates_from(
 
 // The updates and `end`.
 fn updates(updates: &mut Vec<WrittenUpdate>, tokens: &mut Tokens<'_>) -> Result<(), Halt>
-    ensures parsed { MatchResult result (λ v. (us : List OneUpdate) × Updates tokens.old us tokens.new × (updates.new.items ≡ updates.old.items ++ us)) (λ e. Halts Updates tokens.old tokens.new e) }
+    ensures parsed { MatchResult result (λ v. (us : List OneUpdate) × Updates tokens.old us tokens.new
+        × (updates.new.items ≡ updates.old.items ++ us)) (λ e. Halts Updates tokens.old tokens.new e) }
 {
     let first = class::target(tokens)?;
     updates_from(first, updates, tokens)?;
@@ -96,9 +99,10 @@ fn trigger(tokens: &mut Tokens<'_>) -> Result<(), Halt>
     Ok(())
 }
 
-// What stands behind `always`. The updates are added to those that are there.
+// What follows `always`. The updates are added to those that are there.
 pub(crate) fn block(list: &mut Vec<WrittenUpdate>, tokens: &mut Tokens<'_>) -> Result<(), Halt>
-    ensures parsed { MatchResult result (λ v. (us : List OneUpdate) × ABlock tokens.old us tokens.new × (list.new.items ≡ list.old.items ++ us)) (λ e. Halts ABlock tokens.old tokens.new e) }
+    ensures parsed { MatchResult result (λ v. (us : List OneUpdate) × ABlock tokens.old us tokens.new
+        × (list.new.items ≡ list.old.items ++ us)) (λ e. Halts ABlock tokens.old tokens.new e) }
 {
     trigger(tokens)?;
     class::sign(Symbol::Close, tokens)?;

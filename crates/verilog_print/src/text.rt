@@ -129,16 +129,17 @@ fn push_text(text: &mut Vec<u8>, module: &Module) -> Result<(), AllocError>
     Ok(())
 }
 
-/// The Verilog text of a module, whose every byte is fixed by the module. It stands for this module, and for no other, where the arrays have no more than 67,108,864 bits, which is what a text may have. The only error is want of memory. The layout is that of docs/VERILOG.md, part 12, in the language of IEEE Std 1364-2005.
+/// The Verilog text of a module, whose every byte is fixed by the module. It denotes this module, and no other, where the arrays have no more than 67,108,864 bits, which is what a text may have. The only error is out of memory. The layout is that of docs/VERILOG.md, part 12, in the language of IEEE Std 1364-2005.
 pub fn print(alloc: Global, module: &Module) -> Result<Vec<u8>, AllocError>
     ensures text { IfOk result (λ t. t.items ≡ layout «module».now) }
     ensures stands { array_bits «module».now.netlist.arrays ≤ MAX_BUFFER_BITS → IfOk result (λ t. StandsFor t.items «module».now) }
-    ensures only { array_bits «module».now.netlist.arrays ≤ MAX_BUFFER_BITS → IfOk result (λ t. (other : NamedNetlist) → StandsFor t.items other → other ≡ «module».now) }
+    ensures only { array_bits «module».now.netlist.arrays ≤ MAX_BUFFER_BITS → IfOk result (λ t. (other : NamedNetlist) → StandsFor t.items other
+        → other ≡ «module».now) }
 {
     let mut text = Vec::with_capacity(alloc, room_for(module))?;
     push_text(&mut text, module)?;
     let _rules = module.wiring();
     let _names = module.names();
-    verilog_layout::layout_stands();
+    verilog_layout::layout_stands_law();
     Ok(text)
 }

@@ -35,7 +35,7 @@ parse_is text (NotInSubset s) h = h
 parse_is text (Limit f) h = absurd h
 parse_is text (Net s f) h = absurd h
 
--- what verilog_text says: a text stands for one module, or has one fault
+-- what verilog_text says: a text denotes one module, or has one fault
 pub record OneModule : Type 0 where
   pub one : (text : List ℕ) (m n : NamedNetlist) → StandsFor text m → StandsFor text n → m ≡ n
   pub agree : (text : List ℕ) (f g : TextFault) → IsFault text f → IsFault text g → Agrees f g

@@ -89,7 +89,8 @@ fn with_array(
 ) -> Result<u64, LimitFault>
     requires width { width_fault declaration.now.bits ≡ None }
     requires before { before ≤ MOST }
-    ensures judged { MatchResult result (λ total. sort_fault declaration.now (sort.Array words.now) before ≡ None) (λ f. sort_fault declaration.now (sort.Array words.now) before ≡ Some f) }
+    ensures judged { MatchResult result (λ total. sort_fault declaration.now (sort.Array words.now) before
+        ≡ None) (λ f. sort_fault declaration.now (sort.Array words.now) before ≡ Some f) }
     ensures total { IfOk result (λ total. total ≡ before + bits_of declaration.now.bits (sort.Array words.now)) }
     ensures most { IfOk result (λ total. total ≤ MOST) }
 {
@@ -108,7 +109,8 @@ fn with_array(
 fn with_sort(declaration: &WrittenDeclaration, before: u64) -> Result<u64, LimitFault>
     requires width { width_fault declaration.now.bits ≡ None }
     requires before { before ≤ MOST }
-    ensures judged { MatchResult result (λ total. sort_fault declaration.now declaration.now.sort before ≡ None) (λ f. sort_fault declaration.now declaration.now.sort before ≡ Some f) }
+    ensures judged { MatchResult result (λ total. sort_fault declaration.now declaration.now.sort before
+        ≡ None) (λ f. sort_fault declaration.now declaration.now.sort before ≡ Some f) }
     ensures total { IfOk result (λ total. total ≡ before + bits_of declaration.now.bits declaration.now.sort) }
     ensures most { IfOk result (λ total. total ≤ MOST) }
 {
@@ -122,7 +124,8 @@ fn with_sort(declaration: &WrittenDeclaration, before: u64) -> Result<u64, Limit
 // The bits of all arrays with those of a declaration.
 fn with_declaration(declaration: &WrittenDeclaration, before: u64) -> Result<u64, LimitFault>
     requires before { before ≤ MOST }
-    ensures judged { MatchResult result (λ total. or_else (width_fault declaration.now.bits) (sort_fault declaration.now declaration.now.sort before) ≡ None) (λ f. or_else (width_fault declaration.now.bits) (sort_fault declaration.now declaration.now.sort before) ≡ Some f) }
+    ensures judged { MatchResult result (λ total. or_else (width_fault declaration.now.bits) (sort_fault declaration.now declaration.now.sort before)
+        ≡ None) (λ f. or_else (width_fault declaration.now.bits) (sort_fault declaration.now declaration.now.sort before) ≡ Some f) }
     ensures total { IfOk result (λ total. total ≡ before + bits_of declaration.now.bits declaration.now.sort) }
     ensures most { IfOk result (λ total. total ≤ MOST) }
 {

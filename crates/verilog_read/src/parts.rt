@@ -18,7 +18,7 @@ use verilog_text::{
 };
 use wiring::{Atom, Depth, Right, Shape, Width};
 
-// The name that stands at a span.
+// The name that is at a span.
 fn name_at(alloc: Global, text: &[u8], span: Span) -> Result<Name, OutOfMemory>
     requires { IsNameSpan text.now span }
     ensures { IfOk result (λ n. n ≡ bytes_at text.now span) }

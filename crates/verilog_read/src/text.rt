@@ -119,16 +119,16 @@ fn judged(alloc: Global, text: &[u8]) -> Result<Module, TextError>
     }
 }
 
-/// The module that a text of the Verilog subset stands for, or its first fault. The passes are tokens, grammar, limits and net rules, each over the whole text. The subset is that of docs/VERILOG.md, which narrows IEEE Std 1364-2005.
+/// The module that a text of the Verilog subset denotes, or its first fault. The passes are tokens, grammar, limits and net rules, each over the whole text. The subset is that of docs/VERILOG.md, which narrows IEEE Std 1364-2005.
 pub fn read(alloc: Global, text: &[u8]) -> Result<Module, TextError>
     // What is answered is so.
     ensures stands { IfOk result (StandsFor text.now) }
     ensures fault { IfErr result (IsErrorBy (IsFault text.now)) }
 
-    // What is so is answered, but for want of memory.
+    // What is so is answered, except if out of memory.
     ensures accepts { (m : NamedNetlist) → StandsFor text.now m → MatchResult result (λ n. n ≡ m) (λ e. e ≡ OutOfMemory) }
     ensures refuses { (f : OneFault) → IsFault text.now f → IsErrAnd result (IsErrorBy (λ g. Agrees g f)) }
 {
-    verilog_text::one_module();
+    verilog_text::one_module_law();
     judged(alloc, text)
 }

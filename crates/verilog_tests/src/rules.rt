@@ -25,7 +25,7 @@ fn told(alloc: Global, text: &str) -> Result<String, Fail> {
     Ok(told)
 }
 
-// What is told of each of these parts of a text, parted by `|`.
+// What is reported of each of these parts of a text, parted by `|`.
 fn all_told(alloc: Global, head: &str, parts: &str, tail: &str) -> Result<String, Fail> {
     let mut all = String::new(alloc);
     for part in parts.split('|') {
@@ -78,7 +78,7 @@ fn operands_are_judged(rt: HostRuntime) -> Result<(), Fail> {
     Ok(())
 }
 
-// A second `din`; a wire, a register and an array that nothing drives; an input that is driven, an output that is driven twice; two assigns that feed each other, either of which may be told.
+// A second `din`; a wire, a register and an array that nothing drives; an input that is driven, an output that is driven twice; two assigns that feed each other, either of which may be named.
 #[test]
 fn drivers_are_judged(rt: HostRuntime) -> Result<(), Fail> {
     let alloc = rt.alloc();

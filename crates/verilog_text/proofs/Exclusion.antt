@@ -1,4 +1,4 @@
--- A text stands for one module, or has one fault.
+-- A text denotes one module, or has one fault.
 use Rattle.std.proofs.Common.{◌≡◌, ◌⊎◌, inl, inr, ℕ, List, Option, Some, None, refl, sym, ap, ◌∙◌, subst, slice_get}
 use Rattle.dk_base.specs.declared.span.Span.{Span}
 use Rattle.dk_grammar.specs.Reading.{IsFaulty}
@@ -58,7 +58,7 @@ one_faulty_token text t u a b =
 not_written : (text : List ℕ) (t : Token) (s : Source) → IsFaultyToken text t → IsWritten text s → ⊥
 not_written text t s a b = none_faulty IsModule a.tokens a.index (s, subst (λ x. Module x s) (one_lexing b.has_tokens a.tokens a.has_tokens) b.is_module) a.faulty
 
--- a cycle may be told at any of its targets
+-- a cycle may be named at any of its targets
 net_equal : (f g : NetFault) → NetAgrees f g → (f ≡ g) ⊎ ((j : ℕ) × (k : ℕ) × (f ≡ Cycle j) × (g ≡ Cycle k))
 net_equal (Cycle j) (Cycle k) a = inr (j, k, refl, refl)
 net_equal f g a = inl a
@@ -122,7 +122,7 @@ module _ (agree : (p : Parts) (f g : NetFault) → IsNetFault p f → IsNetFault
   one_fault (Net a f) (Limit g) h k = absurd (limit_or_net g a f k h)
   one_fault (Net a f) (Net b g) h k = both_net a b f g h k
 
--- a text that stands for a module has no fault
+-- a text that denotes a module has no fault
 module _ (apart : (p : Parts) (m : NamedNetlist) (f : NetFault) → IsModuleOf p m → IsNetFault p f → ⊥) (text : List ℕ) (m : NamedNetlist) where
   no_net_fault : (a : Span) (f : NetFault) → StandsFor text m → HasNetFault text a f → ⊥
   no_net_fault a f s k =

@@ -20,7 +20,7 @@ use Rattle.verilog_text.specs.declared.written.WrittenUpdate.{WrittenUpdate}
 use Rattle.verilog_text.specs.declared.written.WrittenUpdate.TheVariants as update
 use Rattle.verilog_text.specs.Grammar.{Tokens, named, atomic, counted, binary, directed}
 
--- the signs and words that tell what comes
+-- the signs and words that determine what comes
 abbrev pub code : TokenKind → ℕ
 code (kind.Symbol symbol.Semicolon) = 1
 code (kind.Symbol symbol.Question) = 2
@@ -45,7 +45,7 @@ abbrev pub bind : {A B : Type 0} → Option A → (A → Option B) → Option B
 bind None f = None
 bind (Some a) f = f a
 
--- the tokens behind this sign or word
+-- the tokens after this sign or word
 abbrev pub behind : ℕ → Tokens → Option Tokens
 behind n [] = None
 behind n (t ∷ ts) = if nat_eq (code t.kind) n then Some ts else None

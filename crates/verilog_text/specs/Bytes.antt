@@ -76,7 +76,7 @@ abbrev pub in_base : ℕ → Option ℕ → List ℕ → Option SizedNumber
 in_base size None digits = None
 in_base size (Some base) digits = if is_numeral base digits then fitting size (value_of base digits) else None
 
--- what stands behind a size: `'`, a base, digits
+-- what follows a size: `'`, a base, digits
 abbrev pub of_size : ℕ → List ℕ → Option SizedNumber
 of_size size [] = None
 of_size size (tick ∷ []) = None

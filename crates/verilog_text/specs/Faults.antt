@@ -1,4 +1,4 @@
--- Why a text stands for no module: the passes one after another, each over the whole text.
+-- Why a text denotes no module: the passes one after another, each over the whole text.
 use Rattle.std.specs.Prelude.{◌≡◌, ⊤, ℕ, List, Option, Some, None, slice_get}
 use Rattle.std.specs.Option.{option_map}
 use Rattle.dk_base.specs.declared.span.Span.{Span}
@@ -94,12 +94,12 @@ IsFault text (NotInSubset span) = IsRefusedAt text span
 IsFault text (Limit f) = (s : Source) × IsWritten text s × (limit_fault s ≡ Some f)
 IsFault text (Net span f) = HasNetFault text span f
 
--- an error is such a fault, or want of memory, of which the text says nothing
+-- an error is such a fault, or out of memory, of which the text says nothing
 abbrev pub IsErrorBy : (TextFault → Type 0) → TextError → Type 0
 IsErrorBy is (Fault fault) = is fault
 IsErrorBy is OutOfMemory = ⊤
 
--- the same fault; of a cycle any target on it may be told
+-- the same fault; of a cycle any target on it may be named
 abbrev pub Agrees : TextFault → TextFault → Type 0
 Agrees (Net a (Cycle j)) (Net b (Cycle k)) = Unit {0}
 Agrees f g = f ≡ g

@@ -14,7 +14,7 @@ use Rattle.verilog_text.specs.declared.token.LexKind.TheVariants.{BadByte, BadCo
 use Rattle.verilog_text.specs.declared.token.LexFault.{LexFault}
 use Rattle.verilog_text.specs.Bytes.{is_white, is_in_line, is_in_number, is_in_constant, value_of, constant_of, symbols, word_kind}
 
--- what stands at the front of a text, and how many bytes it has
+-- what is at the front of a text, and how many bytes it has
 abbrev pub Lexeme : Type 0
 Lexeme = Result (TokenKind × ℕ) (LexKind × ℕ)
 
@@ -43,7 +43,7 @@ abbrev pub symbol_of : Option (List ℕ × Symbol) → Lexeme
 symbol_of None = Err (BadByte, 1)
 symbol_of (Some row) = Ok (Sym row.1, length row.0)
 
--- the longest symbol, which is the first in the table that the bytes begin with; a `/*` that stands here has no end
+-- the longest symbol, which is the first in the table that the bytes begin with; a `/*` that is here has no end
 abbrev pub symbol_here : List ℕ → Lexeme
 symbol_here bytes =
     if starts_with nat_eq bytes (codes "/*") then Err (BadByte, 1)
@@ -69,7 +69,7 @@ abbrev pub behind_block : List ℕ → Option (List ℕ)
 behind_block [] = None
 behind_block (a ∷ bs) = behind_star a bs (behind_block bs)
 
--- Gap text rest: only white space and comments stand in the text before the rest.
+-- Gap text rest: only white space and comments are in the text before the rest.
 -- A comment goes from `//` to the end of its line, or of the text, or from `/*` to the next `*/`.
 pub data Gap : List ℕ → List ℕ → Type 0 where
   none : {rest : List ℕ} → Gap rest rest
@@ -87,14 +87,14 @@ Solid (a ∷ b ∷ bs) = (is_white a ≡ false) × (a ≡ 47 → b ≡ 47 → �
 abbrev pub span_at : ℕ → List ℕ → ℕ → Span
 span_at total left n = record { start = total - length left; stop = total - length left + n }
 
--- Lexes total text tokens: these are the tokens of what is left of a text of so many bytes.
+-- Lexes total text tokens: these are the tokens of what is left of a text of this many bytes.
 pub data Lexes (total : ℕ) : List ℕ → List Token → Type 0 where
   finish : {text : List ℕ} → Gap text [] → Lexes total text (record { span = record { start = total; stop = total }; kind = End } ∷ [])
   next : {text bs : List ℕ} {a n : ℕ} {kind : TokenKind} {tokens : List Token} → Gap text (a ∷ bs) → Solid (a ∷ bs) → lexeme a bs ≡ Ok (kind, n)
       → Lexes total (drop n (a ∷ bs)) tokens
       → Lexes total text (record { span = span_at total (a ∷ bs) n; kind = kind } ∷ tokens)
 
--- Refused total text fault: this is the first fault in what is left of a text of so many bytes.
+-- Refused total text fault: this is the first fault in what is left of a text of this many bytes.
 pub data Refused (total : ℕ) : List ℕ → LexFault → Type 0 where
   here : {text bs : List ℕ} {a n : ℕ} {kind : LexKind} → Gap text (a ∷ bs) → Solid (a ∷ bs) → lexeme a bs ≡ Err (kind, n)
       → Refused total text (record { span = span_at total (a ∷ bs) n; kind = kind })

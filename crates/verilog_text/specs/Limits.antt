@@ -45,11 +45,11 @@ bits_of bits sort.Wire = 0
 bits_of bits sort.Reg = 0
 bits_of bits (sort.Array words) = width_of bits * depth_of words
 
--- all arrays so far have so many bits
+-- all arrays so far have this many bits
 abbrev pub bits_fault : WrittenDeclaration → ℕ → Option LimitFault
 bits_fault d total = if nat_le total MAX_BUFFER_BITS then None else Some (record { span = d.name; kind = ArrayBits })
 
--- an array, behind so many bits in arrays
+-- an array, after this many bits in arrays
 abbrev pub sort_fault : WrittenDeclaration → WrittenSort → ℕ → Option LimitFault
 sort_fault d sort.Wire before = None
 sort_fault d sort.Reg before = None

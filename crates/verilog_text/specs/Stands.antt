@@ -1,4 +1,4 @@
--- The parts and the module that a text stands for.
+-- The parts and the module that a text denotes.
 use Rattle.std.specs.Prelude.{◌≡◌, ℕ, ◌-◌, List, Option, None, take, drop, map}
 use Rattle.dk_base.specs.declared.span.Span.{Span}
 use Rattle.wiring.specs.declared.right.Atom.{Atom}
@@ -90,7 +90,7 @@ pub record HasParts (text : List ℕ) (p : Parts) : Type 0 where
   pub limits : limit_fault source ≡ None
   pub parts : ArePartsOf text source p
 
--- the text stands for this module
+-- the text denotes this module
 pub record StandsFor (text : List ℕ) (m : NamedNetlist) : Type 0 where
   pub parts : Parts
   pub has_parts : HasParts text parts

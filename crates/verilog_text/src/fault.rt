@@ -1,4 +1,4 @@
-// Why a text stands for no module.
+// Why a text denotes no module.
 
 use crate::token::LexFault;
 use dk_base::Span;
@@ -25,7 +25,7 @@ pub struct LimitFault {
     pub kind: LimitKind,
 }
 
-/// Why a text stands for no module, in the order of the passes.
+/// Why a text denotes no module, in the order of the passes.
 #[derive(Clone, Copy, Debug, PartialEq, Eq, thiserror::Error)]
 pub enum TextFault {
     /// It has no tokens.
@@ -45,7 +45,7 @@ pub enum TextFault {
     Net { span: Span, fault: NetFault },
 }
 
-/// Why a text was not read: its first fault, or want of memory.
+/// Why a text was not read: its first fault, or out of memory.
 #[derive(Clone, Copy, Debug, PartialEq, Eq, thiserror::Error)]
 pub enum TextError {
     #[error("{0}")]

@@ -11,18 +11,18 @@ ghost use Rattle.verilog_text.specs.Stands.{StandsFor};
 ghost use Rattle.verilog_text.specs.Faults.{IsFault, Agrees};
 
 /// A law: a text has one list of tokens or one first fault, and tokens say one thing.
-pub fn one_reading()
+pub fn one_reading_law()
     ensures tokens { (text : List ℕ) (a b : List OneToken) → HasTokens text a → HasTokens text b → a ≡ b }
     ensures fault { (text : List ℕ) (f g : OneLexFault) → HasLexFault text f → HasLexFault text g → f ≡ g }
     ensures apart { (text : List ℕ) (a : List OneToken) (f : OneLexFault) → HasTokens text a → HasLexFault text f → ⊥ }
     ensures source { (tokens : List OneToken) (s t : Source) → Module tokens s → Module tokens t → s ≡ t }
 {}
 
-/// A law: a text stands for one module. Two faults of a text are one, but for the target that Cycle names. A text that stands for a module has no fault.
-pub fn one_module()
+/// A law: a text denotes one module. Two faults of a text are one, but for the target that Cycle names. A text that denotes a module has no fault.
+pub fn one_module_law()
     ensures one { (text : List ℕ) (m n : NamedNetlist) → StandsFor text m → StandsFor text n → m ≡ n }
     ensures agree { (text : List ℕ) (f g : OneFault) → IsFault text f → IsFault text g → Agrees f g }
     ensures apart { (text : List ℕ) (m : NamedNetlist) (f : OneFault) → StandsFor text m → IsFault text f → ⊥ }
 {
-    netlist::one_fault();
+    netlist::one_fault_law();
 }

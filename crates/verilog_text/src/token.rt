@@ -89,7 +89,7 @@ pub enum TokenKind {
     End,
 }
 
-/// A token, and where it stands in its text.
+/// A token, and where it is in its text.
 #[derive(Clone, Copy, Debug, PartialEq, Eq)]
 pub struct Token {
     pub span: Span,

@@ -1,10 +1,10 @@
-// What is written in a text: the parts of the grammar. A name is the span that it stands at.
+// What is written in a text: the parts of the grammar. A name is the span that it is at.
 
 use dk_base::Span;
 use netlist::Direction;
 use wiring::{Atom, Operator};
 
-/// A plain number, and where it stands.
+/// A plain number, and where it is.
 #[derive(Clone, Copy, Debug, PartialEq, Eq)]
 pub struct Count {
     pub value: u64,
@@ -34,7 +34,7 @@ pub enum WrittenSort {
     Array(Range),
 }
 
-/// A declaration behind the ports. Without a range of bits it has one bit.
+/// A declaration after the ports. Without a range of bits it has one bit.
 #[derive(Clone, Copy, Debug, PartialEq, Eq)]
 pub struct WrittenDeclaration {
     pub sort: WrittenSort,

@@ -1,4 +1,4 @@
--- So many bits that are all 1.
+-- This many bits that are all 1.
 use Rattle.std.proofs.Common.{◌≡◌, ℕ, zero, suc, ◌+◌, ◌-◌, ◌^◌, ◌≤◌, ap, ◌∙◌, arith}
 use Rattle.std.proofs.lemmas.Nat.{pow_pos}
 

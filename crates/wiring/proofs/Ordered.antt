@@ -7,9 +7,9 @@ use Rattle.wiring.specs.declared.netlist.Assign.{Assign}
 use Rattle.wiring.specs.declared.order.Mark.{Mark}
 use Rattle.wiring.specs.declared.order.Mark.TheVariants.{New, Open, Done}
 use Rattle.wiring.specs.declared.order.Visit.{Visit}
-use Rattle.wiring.specs.Order.{Feeds, DependsOn, directly, through, IsSearch, IsEvaluationOrder, IsAcyclic}
+use Rattle.wiring.specs.Order.{Feeds, DependsOn, directly, through, IsEvaluationOrder, IsAcyclic}
+use Rattle.wiring.specs.Moves.{IsSearch, Enters, KeepsMarks}
 use Rattle.wiring.specs.declared.order.Search.{Search}
-use Rattle.wiring.specs.Moves.{Enters, KeepsMarks}
 use Rattle.std.proofs.lemmas.Bool.{cases_eq}
 use Rattle.wiring.proofs.Search.{enter_keeps, get_set_same, get_set_other}
 

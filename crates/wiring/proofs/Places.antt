@@ -15,9 +15,9 @@ use Rattle.wiring.specs.declared.order.Mark.TheVariants.{New, Open, Done}
 use Rattle.wiring.specs.declared.order.Visit.{Visit}
 use Rattle.wiring.specs.declared.drivers.Drivers.{Drivers}
 use Rattle.wiring.specs.Rights.{operands, nets_of, atom_nets}
-use Rattle.wiring.specs.Order.{Feeds, FeedsAt, net_in, reads_at, driver_at_of}
+use Rattle.wiring.specs.Order.{Feeds, net_in, reads_at, driver_at_of}
+use Rattle.wiring.specs.Moves.{FeedsAt, new_count, path_weight}
 use Rattle.wiring.specs.Tables.{driver_of, IsTable}
-use Rattle.wiring.specs.Moves.{new_count, path_weight}
 use Rattle.wiring.proofs.Lists.{at_one}
 
 one : (n : Net) → Contains (n ∷ []) n
@@ -71,7 +71,7 @@ reads_past r i l = ap (option_and_then net_in) (slice_get_past (operands r) i (o
     few (Slice v m l) = omega arith
     few (Word m i) = omega arith
 
--- what stands at a place is read
+-- what is at a place is read
 reads_in : (r : Right Net ℕ) (place : ℕ) (n : Net) → reads_at r place ≡ Some n → Contains (nets_of r) n
 reads_in r zero n e = first_in r n e
 reads_in r (suc zero) n e = second_in r n e
@@ -81,7 +81,7 @@ reads_in r (suc (suc (suc k))) n e = absurd (none-some n (sym (reads_past r (suc
 abbrev Stands : Right Net ℕ → Net → Type 0
 Stands r n = (place : ℕ) × (place < 3) × (reads_at r place ≡ Some n)
 
--- what is read stands at a place
+-- what is read is at a place
 stands : (r : Right Net ℕ) (n : Net) → Contains (nets_of r) n → Stands r n
 stands (Copy a) n c = (0, lit< tt, atom_in a n c)
 stands (Not a) n c = (0, lit< tt, atom_in a n c)

@@ -8,7 +8,8 @@ use Rattle.wiring.specs.declared.netlist.Assign.{Assign}
 use Rattle.wiring.specs.declared.order.Mark.{Mark}
 use Rattle.wiring.specs.declared.order.Mark.TheVariants.{New, Open, Done}
 use Rattle.wiring.specs.declared.order.Visit.{Visit}
-use Rattle.wiring.specs.Order.{Feeds, DependsOn, directly, through, FeedsAt, IsSearch}
+use Rattle.wiring.specs.Order.{Feeds, DependsOn, directly, through}
+use Rattle.wiring.specs.Moves.{FeedsAt, IsSearch}
 use Rattle.wiring.proofs.Lists.{at_one, slice_get-append}
 
 pub at_push : {X : Type 0} (xs : List X) (y x : X) (k : ℕ) → slice_get (xs ++ y ∷ []) k ≡ Some x → (slice_get xs k ≡ Some x) ⊎ ((k ≡ length xs) × (y ≡ x))
@@ -231,7 +232,7 @@ module _ (assigns : List Assign) (marks : List Mark) (path : List Visit) (v : Vi
   abbrev pub more : Visit
   more = record { assign = v.assign; looked = v.looked + 1 }
 
-  -- what stands at a place of the path, but for how often it was looked at
+  -- what is at a place of the path, except how often it was looked at
   same_at : (i : ℕ) (w : Visit) → slice_get (path ++ more ∷ []) i ≡ Some w → (x : Visit) × (slice_get (path ++ v ∷ []) i ≡ Some x) × (x.assign ≡ w.assign)
   same_at i w at =
       elim (at_push path more w i at) as (λ _. (x : Visit) × (slice_get (path ++ v ∷ []) i ≡ Some x) × (x.assign ≡ w.assign)) [

@@ -10,9 +10,9 @@ use Rattle.wiring.specs.declared.order.Mark.TheVariants.{New, Open, Done}
 use Rattle.wiring.specs.declared.order.Visit.{Visit}
 use Rattle.wiring.specs.declared.drivers.Drivers.{Drivers}
 use Rattle.wiring.specs.declared.order.Search.{Search}
-use Rattle.wiring.specs.Order.{Feeds, FeedsAt, DependsOn, IsSearch}
+use Rattle.wiring.specs.Order.{Feeds, DependsOn}
+use Rattle.wiring.specs.Moves.{FeedsAt, IsSearch, Enters, Leaves, Looks, new_count, path_weight, weight, KeepsMarks, DriverIs}
 use Rattle.wiring.specs.Tables.{IsTable}
-use Rattle.wiring.specs.Moves.{Enters, Leaves, Looks, new_count, path_weight, weight, KeepsMarks, DriverIs}
 use Rattle.wiring.proofs.Lists.{at_one}
 use Rattle.wiring.proofs.Search.{get_set_other, get_set_same, enter_keeps, leave_keeps, look_keeps, cycle_found}
 use Rattle.wiring.proofs.Places.{feeds_driver, driver_feeds, feeds_at, count_opened, count_done, weight_push}

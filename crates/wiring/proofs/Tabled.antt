@@ -7,7 +7,7 @@ use Rattle.wiring.specs.Tables.{IsTableOf, IsSecond, Notes}
 use Rattle.wiring.proofs.Lists.{slice_get-append}
 use Rattle.wiring.proofs.Search.{at_push, last_push}
 
--- what stands among the first elements
+-- what is among the first elements
 in_take : {X : Type 0} (xs : List X) (n k : ℕ) (x : X) → slice_get (take n xs) k ≡ Some x → slice_get xs k ≡ Some x
 in_take [] zero k x e = e
 in_take [] (suc n) k x e = e

@@ -1,14 +1,34 @@
--- The moves of the search.
-use Rattle.std.specs.Prelude.{◌≡◌, ℕ, suc, ◌+◌, ◌-◌, ◌*◌, List, [], ◌∷◌, ◌++◌, take, length, slice_set, slice_get, Some, min, ◌^◌, ◌≢◌, Option}
+-- Used by private functions only.
+-- The search in depth for an order of evaluation: its state and its moves.
+use Rattle.std.specs.Prelude.{◌≡◌, ℕ, suc, ◌<◌, ◌+◌, ◌-◌, ◌*◌, List, [], ◌∷◌, ◌++◌, take, length, slice_set, slice_get, Some, min, ◌^◌, ◌≢◌, Option}
 use Rattle.wiring.specs.declared.order.Mark.{Mark}
 use Rattle.wiring.specs.declared.order.Mark.TheVariants.{New, Open, Done}
 use Rattle.wiring.specs.declared.order.Visit.{Visit}
 use Rattle.wiring.specs.declared.order.Search.{Search}
 use Rattle.wiring.specs.declared.netlist.Assign.{Assign}
-use Rattle.wiring.specs.declared.order.OrderFault.{OrderFault}
-use Rattle.wiring.specs.declared.order.OrderFault.TheVariants.{Cycle, OutOfMemory}
 use Rattle.wiring.specs.declared.drivers.Drivers.{Drivers}
-use Rattle.wiring.specs.Order.{DependsOn, driver_at_of}
+use Rattle.wiring.specs.Order.{Feeds, reads_at, driver_at_of}
+
+-- the assign at k reads what the assign at j drives, at this place
+pub record FeedsAt (assigns : List Assign) (j k place : ℕ) : Type 0 where
+  pub from : Assign
+  pub to : Assign
+  pub from_at : slice_get assigns j ≡ Some from
+  pub to_at : slice_get assigns k ≡ Some to
+  pub read : reads_at to.right place ≡ Some from.target
+
+-- what a search in depth keeps: the path is of open assigns, each fed by the next, and the order is of those that are done
+pub record IsSearch (assigns : List Assign) (marks : List Mark) (path : List Visit) (order : List ℕ) : Type 0 where
+  pub size : length marks ≡ length assigns
+  pub path_open : (i : ℕ) (v : Visit) → slice_get path i ≡ Some v → slice_get marks v.assign ≡ Some Open
+  pub path_once : (i j : ℕ) (v w : Visit) → slice_get path i ≡ Some v → slice_get path j ≡ Some w → v.assign ≡ w.assign → i ≡ j
+  pub open_path : (k : ℕ) → slice_get marks k ≡ Some Open → (i : ℕ) × (v : Visit) × (slice_get path i ≡ Some v) × (v.assign ≡ k)
+  pub chain : (i : ℕ) (v w : Visit) → slice_get path i ≡ Some v → slice_get path (suc i) ≡ Some w → Feeds assigns w.assign v.assign
+  pub looked : (i : ℕ) (v : Visit) (j place : ℕ) → slice_get path i ≡ Some v → place < v.looked → FeedsAt assigns j v.assign place → slice_get marks j ≡ Some Done
+  pub order_done : (p k : ℕ) → slice_get order p ≡ Some k → slice_get marks k ≡ Some Done
+  pub done_order : (k : ℕ) → slice_get marks k ≡ Some Done → (p : ℕ) × (slice_get order p ≡ Some k)
+  pub order_once : (p q k : ℕ) → slice_get order p ≡ Some k → slice_get order q ≡ Some k → p ≡ q
+  pub behind : (p j k : ℕ) → slice_get order p ≡ Some k → Feeds assigns j k → (q : ℕ) × (q < p) × (slice_get order q ≡ Some j)
 
 pub record Enters (old new : Search) (assign : ℕ) : Type 0 where
   pub marks : new.marks.items ≡ slice_set old.marks.items assign Open
@@ -42,11 +62,6 @@ weight s = 5 * new_count s.marks.items + path_weight s.path.items
 -- an assign that the search has come to stays so
 abbrev pub KeepsMarks : List Mark → List Mark → Type 0
 KeepsMarks old new = (k : ℕ) → slice_get old k ≢ Some New → slice_get new k ≢ Some New
-
--- the fault's cause
-abbrev pub IsCause : List Assign → OrderFault → Type 0
-IsCause assigns (Cycle k) = DependsOn assigns k k
-IsCause assigns OutOfMemory = Unit {0}
 
 -- what drives a place of the assign at k
 abbrev pub DriverIs : List Assign → Drivers → ℕ → ℕ → Option ℕ → Type 0

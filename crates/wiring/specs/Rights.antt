@@ -32,7 +32,7 @@ array_of (Bit v k) = None
 array_of (Slice v m l) = None
 array_of (Word m i) = Some m
 
--- a list, and behind it what each of these gives
+-- a list, and after it what each of these gives
 abbrev pub gathered : {X Y : Type 0} → (X → List Y) → List Y → List X → List Y
 gathered f ys [] = ys
 gathered f ys (x ∷ xs) = gathered f (ys ++ f x) xs

@@ -19,11 +19,11 @@ use Rattle.wiring.specs.Netlist.{Netlist, net_width, word_width, IsDeclared, IsD
 use Rattle.wiring.specs.declared.netlist.Holder.{Holder}
 use Rattle.wiring.specs.Order.{IsAcyclic}
 
--- so many dins there may be, and so many douts
+-- this many dins there may be, and this many douts
 abbrev pub IsPortCount : ℕ → Type 0
 IsPortCount n = (1 ≤ n) × (n ≤ MOST_PORTS)
 
--- of so many bits each
+-- of this many bits each
 abbrev pub IsPortWidth : ℕ → Type 0
 IsPortWidth w = (1 ≤ w) × (w ≤ MOST_PORT_BITS)
 

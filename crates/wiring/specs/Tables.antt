@@ -61,14 +61,14 @@ updater_of d (OfArray x) = unwrap_or (slice_get d.arrays.items x) None
 abbrev pub IsUpdateTable : List Update → Updaters → Type 0
 IsUpdateTable updates d = IsTableOf update_target updates (updater_of d)
 
--- a table of so many outputs and wires has a place for the net
+-- a table of this many outputs and wires has a place for the net
 abbrev pub IsTarget : ℕ → ℕ → Net → Type 0
 IsTarget outputs wires (Input i) = ⊥
 IsTarget outputs wires (Output i) = i < outputs
 IsTarget outputs wires (Wire i) = i < wires
 IsTarget outputs wires (Reg i) = ⊥
 
--- one of so many registers and arrays has a place for it
+-- one of this many registers and arrays has a place for it
 abbrev pub IsStateTarget : ℕ → ℕ → Holder → Type 0
 IsStateTarget regs arrays (OfNet (Input i)) = ⊥
 IsStateTarget regs arrays (OfNet (Output i)) = ⊥

@@ -296,7 +296,8 @@ fn mark_din(marks: &mut Marks, wiring: &Wiring, number: usize)
 fn mark_dins(marks: &mut Marks, wiring: &Wiring, found: &mut Vec<Holder>) -> Result<(), AllocError>
     requires size { HasMarks (netlist_of wiring.now) marks.old }
     ensures spreads { Spreads (netlist_of wiring.now) marks.old marks.new }
-    ensures dins { OnOk result ((i : ℕ) → first_din (netlist_of wiring.now) ≤ i → i < length wiring.now.inputs.items → is_marked marks.new (OfNet (Input i)) ≡ true) }
+    ensures dins { OnOk result ((i : ℕ) → first_din (netlist_of wiring.now) ≤ i → i < length wiring.now.inputs.items
+        → is_marked marks.new (OfNet (Input i)) ≡ true) }
 {
     let first = if wiring.enable { 2 } else { 1 };
     for i in first..wiring.inputs.len() {

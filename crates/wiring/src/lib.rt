@@ -14,8 +14,8 @@ mod values;
 pub use buffer::buffer_bits;
 pub use drivers::{Drivers, TableFault, Updaters, drivers_of, updaters_of};
 pub use laws::{
-    clocks_counted, counted_since, equal_rights, no_cycle, one_count, one_next, one_valuation,
-    runs_are_histories,
+    clocks_counted_law, counted_since_law, equal_rights_law, no_cycle_law, one_count_law,
+    one_next_law, one_valuation_law, runs_are_histories_law,
 };
 pub use netlist::{Assign, Holder, Net, Shape, Update, Wiring};
 pub use order::{OrderFault, evaluation_order};

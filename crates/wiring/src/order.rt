@@ -1,9 +1,9 @@
 // An order in which assigns can be evaluated.
 
 ghost use Rattle.std.specs.Prelude.{◌≡◌, ◌≢◌, ℕ, ◌+◌, ◌<◌, ◌≤◌, ◌++◌, ◌∷◌, [], length, slice_get, slice_set, Some, None, All, OnOk, OnErr, IfOk, IfErr, vec_len};
-ghost use Rattle.wiring.specs.Order.{IsEvaluationOrder, IsSearch, reads_at, net_in, driver_at_of};
+ghost use Rattle.wiring.specs.Order.{IsEvaluationOrder, reads_at, net_in, driver_at_of, IsCause};
+ghost use Rattle.wiring.specs.Moves.{IsSearch, Enters, Leaves, Looks, weight, KeepsMarks, DriverIs};
 ghost use Rattle.wiring.specs.Tables.{IsTable};
-ghost use Rattle.wiring.specs.Moves.{Enters, Leaves, Looks, weight, KeepsMarks, IsCause, DriverIs};
 ghost use Rattle.wiring.specs.declared.order.Mark.TheVariants.{New, Open, Done};
 
 use crate::drivers::Drivers;
@@ -107,7 +107,7 @@ impl From<AllocError> for OrderFault {
     }
 }
 
-// The assign that drives what stands at a place of a right side.
+// The assign that drives what is at a place of a right side.
 fn driver_at(drivers: &Drivers, right: &Right<Net, usize>, place: usize) -> Option<usize>
     ensures { result ≡ driver_at_of drivers.now right.now place }
 {

@@ -2,7 +2,7 @@
 
 use crate::size::Constant;
 
-/// What stands where one value is wanted.
+/// What is where one value is expected.
 #[derive(Clone, Copy, Debug, PartialEq, Eq, Hash, Drop)]
 pub enum Atom<N> {
     Net(N),

@@ -23,7 +23,7 @@ fn half(width: u8) -> u64
     1 << (width - 1)
 }
 
-// So many bits that are all 1, made in 64 bits, since most assigns of a step need it.
+// This many bits that are all 1, made in 64 bits, since most assigns of a step need it.
 fn mask(width: u8) -> u64
     requires { width ≤ 64 }
     ensures { result ≡ 2 ^ width - 1 }

@@ -20,7 +20,7 @@ pub struct ArrayRoom {
     pub value: Vec<u64>,
 }
 
-// The accesses of one array: at each of so many clocks it is read, and a word is put.
+// The accesses of one array: at each of this many clocks it is read, and a word is put.
 #[derive(Clone, Copy)]
 pub struct Access<'a> {
     pub read: &'a WordRead,
@@ -148,7 +148,7 @@ fn pass_changed_rows(
     pass_changes(words, lost, indexes, values, target)
 }
 
-// One array over so many clocks: true if its equations are kept, and its words are then those behind them; else the words are as before.
+// One array over this many clocks: true if its equations are kept, and its words are then those after them; else the words are as before.
 #[tactic(auto, using(crate::proofs::OnePass::passed_kept, crate::proofs::OnePass::passed_words, crate::proofs::OnePass::passed_lost))]
 fn pass_rows(
     rows: &[Vec<u64>],
@@ -206,7 +206,7 @@ pub fn pass_first(
     pass_rows(rows, room, access.read, access.put, words, to, lost)
 }
 
-// Takes back what an array was given in so many clocks.
+// Takes back what an array was given in this many clocks.
 #[tactic(auto, using(crate::proofs::OnePass::puts_inside))]
 pub fn undo_array(
     rows: &[Vec<u64>],

@@ -104,7 +104,7 @@ fn undo_at(
     undo_vec(rows, room, put, &mut arrays[array], lost, count);
 }
 
-// Takes back the first so many arrays, the last one first.
+// Takes back the first n arrays, the last one first.
 fn undo_arrays(
     rows: &[Vec<u64>],
     room: &mut ArrayRoom,
@@ -130,7 +130,7 @@ fn undo_arrays(
     }
 }
 
-// All arrays over so many clocks: true if the equations of each are kept, and their words are then those after them; else all
+// All arrays over this many clocks: true if the equations of each are kept, and their words are then those after them; else all
 // words are as before.
 pub fn pass_arrays(
     rows: &[Vec<u64>],

@@ -25,7 +25,7 @@ fn follows(row: &[u64], next: &[u64], held: u64) -> bool
     same
 }
 
-// Whether a register's row begins with what it holds, and is that of its next value, a clock later, over so many clocks.
+// Whether a register's row begins with what it holds, and is that of its next value, a clock later, over this many clocks.
 #[tactic(auto, using(crate::proofs::Checks::kept_register))]
 fn is_kept(
     rows: &[Vec<u64>],

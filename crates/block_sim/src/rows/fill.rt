@@ -55,12 +55,12 @@ pub fn atom_value(rows: &[Vec<u64>], a: &Atom<usize>, t: usize) -> u64 {
     }
 }
 
-// Numbers from a first one on, each by a step behind the one before.
+// Numbers from a first one on, each by a step after the one before.
 #[derive(Clone, Copy)]
 pub struct Line {
     pub value: u64,
     pub step: u64,
-    // Whether it stands in held clocks.
+    // Whether it is in held clocks.
     pub stands: bool,
 }
 
@@ -182,7 +182,7 @@ fn line_where(to: &mut [u64], line: Line, bits: &[u64]) {
     }
 }
 
-// The first so many places of a row, and then a line.
+// The first this many places of a row, and then a line.
 fn fill_line(to: &mut [u64], row: &[u64], first: usize, line: Line, goes: Worth<'_>) {
     let first = first.min(to.len());
     let (front, rest) = to.split_at_mut(first);
@@ -235,7 +235,7 @@ pub fn propose_choice(
     }
 }
 
-// The bit of the port en in so many clocks from this one on.
+// The bit of the port en in this many clocks from this one on.
 fn fill_enable(to: &mut [u64], enables: &[bool], first: usize) {
     for t in 0..to.len() {
         let clock = first.saturating_add(t);
@@ -243,7 +243,7 @@ fn fill_enable(to: &mut [u64], enables: &[bool], first: usize) {
     }
 }
 
-// Every so many numbers one, from this place on.
+// Every this many numbers one, from this place on.
 fn fill_strides(to: &mut [u64], numbers: &[u64], first: usize, stride: usize) {
     let mut place = first;
     for t in 0..to.len() {
@@ -292,7 +292,7 @@ fn goes_on<'a>(rows: &'a [Vec<u64>], has_enable: bool, line: Line) -> Worth<'a> 
     }
 }
 
-// The spare row becomes the first so many places of a slot's row, and then a line.
+// The spare row becomes the first n places of a slot's row, and then a line.
 pub fn propose_line(table: &mut Table, has_enable: bool, slot: usize, first: usize, line: Line)
     ensures { IsRefilled table.old table.new }
 {

@@ -27,7 +27,7 @@ const MOST_WORDS: usize = 8 * 1024 * 1024;
 // Arrays of fewer words are copied for a piece.
 const SMALL: usize = MOST_CLOCKS + 1;
 
-// So many rows of zeros.
+// This many rows of zeros.
 #[tactic(auto, using(crate::proofs::Made::rows_more))]
 fn zero_rows(alloc: Global, slots: usize, long: usize) -> Result<Vec<Vec<u64>>, AllocError>
     ensures { IfOk result (λ v. items_of v.items ≡ replicate slots (replicate long 0)) }
@@ -80,7 +80,7 @@ fn hints_of(alloc: Global, wiring: &Wiring) -> Result<Hints, AllocError> {
     })
 }
 
-// The most clocks of a piece for which rows of so many slots and arrays have room: 0 where there is none.
+// The most clocks of a piece for which rows of this many slots and arrays have room: 0 where there is none.
 fn size_of(slots: usize) -> usize
     ensures { result ≤ 1024 }
 {
@@ -150,7 +150,7 @@ fn engine_of(
     })
 }
 
-// Rows for a module, if there is a plan for it and not too much room is wanted.
+// Rows for a module, if there is a plan for it that does not need too much room.
 pub fn rows_of(alloc: Global, module: &Module, ports: usize) -> Result<Option<Rows>, OutOfMemory>
     requires ports { ports ≡ din_count «module».now.netlist }
     ensures { IfOk result (λ o. IfSome o (AreRowsOf «module».now.netlist)) }

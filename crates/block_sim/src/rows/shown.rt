@@ -34,7 +34,7 @@ fn show_clock(rows: &[Vec<u64>], first: usize, clock: usize, outs: &mut [Out])
     }
 }
 
-// All outputs, whose slots begin with the first one, at each of so many clocks, so many a clock.
+// All outputs, whose slots begin with the first one, at each of this many clocks, this many a clock.
 pub fn show_rows(rows: &[Vec<u64>], first: usize, count: usize, outs: &mut [Out], clocks: usize)
     requires outs { length outs.old ≡ clocks * count }
     requires slots { first + 2 * count ≤ length rows.now }

@@ -1,7 +1,8 @@
-// The steps of a plan. What they fill in claims nothing but that it fits.
+// The steps of a plan. The rows that they propose only have to fit.
 
 ghost use Rattle.std.specs.Prelude.{◌≡◌, ◌≤◌, length, IfSome, IsTrue};
 ghost use Rattle.block_sim.specs.Engine.{IsEngine, HasRun};
+ghost use Rattle.block_sim.specs.Table.{IsRefilled};
 
 use crate::held::Held;
 use crate::judge::arrays::are_same;
@@ -11,6 +12,7 @@ use crate::rows::fill::{
     propose_small, row_of, slot_value, worth_at, worth_of,
 };
 use crate::rows::table::{Table, offer, run_upto};
+use block_code::WordRead;
 use block_plan::Step;
 use block_rows::Instruction;
 use wiring::Atom;
@@ -18,8 +20,8 @@ use wiring::Atom;
 // The most rounds in which the rows of a cycle are guessed.
 const ROUNDS: usize = 6;
 
-// What the steps work with: copies of the words of small arrays, and of each register by which step it goes on and whether it
-// stands in held clocks.
+// What the steps work with: copies of the words of small arrays, and for each register its step and whether it keeps its value
+// in held clocks.
 #[derive(Debug, Drop)]
 pub struct Hints {
     pub words: Vec<Vec<u64>>,
@@ -141,40 +143,6 @@ fn copy_words(to: &mut [u64], words: &[u64]) {
     }
 }
 
-#[tactic(auto, using(crate::proofs::Tables::table_refilled))]
-fn small(
-    engine: &Engine,
-    table: &mut Table,
-    held: &Held,
-    hints: &mut Hints,
-    done: usize,
-    assign: usize,
-) -> bool
-    requires engine { IsEngine engine.now }
-    requires table { HasRun engine.now (length table.old.room.items) table.old done }
-    ensures room { length table.new.room.items ≡ length table.old.room.items }
-    ensures table { HasRun engine.now (length table.old.room.items) table.new done }
-{
-    let Some(array) = array_at(engine, assign) else {
-        return false;
-    };
-    let Some(read) = engine.code.reads.get(array) else {
-        return false;
-    };
-    let Some(put) = engine.code.puts.get(array) else {
-        return false;
-    };
-    let Some(words) = held.arrays.get(array) else {
-        return false;
-    };
-    let Some(copy) = hints.words.get_mut(array) else {
-        return false;
-    };
-    copy_words(copy, words);
-    propose_small(table, &read.index, &put.index, &put.value, copy);
-    offer_row(engine, table, done, read.target)
-}
-
 // The instruction that makes what an array is given.
 fn maker_at(engine: &Engine, array: usize) -> Option<&Instruction> {
     match engine.makers.get(array) {
@@ -183,15 +151,51 @@ fn maker_at(engine: &Engine, array: usize) -> Option<&Instruction> {
     }
 }
 
-// An array that is given what is read, or else a value chosen by a bit.
+// How an array is written: by its put, or by a choice between what is read and a value.
+#[derive(Clone, Copy)]
+enum Written {
+    Put,
+    Choice,
+}
+
+// The spare row becomes what is read of an array that is written clock by clock.
+fn propose_written(
+    engine: &Engine,
+    table: &mut Table,
+    array: usize,
+    read: &WordRead,
+    words: &mut [u64],
+    written: Written,
+) -> bool
+    ensures { IsRefilled table.old table.new }
+{
+    match written {
+        Written::Put => {
+            let Some(put) = engine.code.puts.get(array) else {
+                return false;
+            };
+            propose_small(table, &read.index, &put.index, &put.value, words);
+        }
+        Written::Choice => {
+            let Some(maker) = maker_at(engine, array) else {
+                return false;
+            };
+            propose_choice(table, &read.index, &maker.right, words);
+        }
+    }
+    true
+}
+
+// The row of a read of an array that is written. It works on a copy of the array's words.
 #[tactic(auto, using(crate::proofs::Tables::table_refilled))]
-fn hold(
+fn read_written(
     engine: &Engine,
     table: &mut Table,
     held: &Held,
     hints: &mut Hints,
     done: usize,
     assign: usize,
+    written: Written,
 ) -> bool
     requires engine { IsEngine engine.now }
     requires table { HasRun engine.now (length table.old.room.items) table.old done }
@@ -204,9 +208,6 @@ fn hold(
     let Some(read) = engine.code.reads.get(array) else {
         return false;
     };
-    let Some(maker) = maker_at(engine, array) else {
-        return false;
-    };
     let Some(words) = held.arrays.get(array) else {
         return false;
     };
@@ -214,7 +215,9 @@ fn hold(
         return false;
     };
     copy_words(copy, words);
-    propose_choice(table, &read.index, &maker.right, copy);
+    if !propose_written(engine, table, array, read, copy, written) {
+        return false;
+    }
     offer_row(engine, table, done, read.target)
 }
 
@@ -285,8 +288,7 @@ fn guess_all(
     true
 }
 
-// Whether the first so many places of a row are another row's: in one pass that does not end early, which is faster where they
-// are.
+// Whether two rows agree in their first `count` places. The pass does not end early, which is faster if they do.
 fn agrees(row: &[u64], worth: Worth<'_>, count: usize) -> bool {
     match worth {
         Worth::Row(next) if count <= row.len() && count <= next.len() => {
@@ -296,7 +298,7 @@ fn agrees(row: &[u64], worth: Worth<'_>, count: usize) -> bool {
     }
 }
 
-// The first of so many clocks at which a row is not this, one clock later.
+// The first of `count` clocks at which a row is not this, one clock later.
 fn first_apart(row: &[u64], worth: Worth<'_>, count: usize) -> usize {
     let Some((_, later)) = row.split_first() else {
         return 0;
@@ -312,7 +314,7 @@ fn first_apart(row: &[u64], worth: Worth<'_>, count: usize) -> usize {
     count
 }
 
-// The first of so many clocks at which a register's row is not its next value's row, one clock later.
+// The first of `count` clocks at which a register's row is not its next value's row, one clock later.
 fn wrong_one(engine: &Engine, table: &Table, update: usize, count: usize) -> usize {
     let Some(register) = register_at(engine, update) else {
         return 0;
@@ -341,8 +343,8 @@ fn is_held(engine: &Engine, table: &Table, clock: usize) -> bool {
     engine.has_enable && slot_value(&table.rows, ENABLE, clock) == 0
 }
 
-// How a register goes on behind the first wrong place: from the right value, by the step 1 where it changes as it did before, or
-// may have done before a held clock. One that changes in a held clock does not stand in such clocks.
+// How a register goes on after the first wrong place: from the right value, by the step 1 if it changes as it did before, or
+// may have done before a held clock. One that changes in a held clock does not keep its value in such clocks.
 fn mended(
     engine: &Engine,
     table: &Table,
@@ -414,7 +416,7 @@ fn mend_all(
     true
 }
 
-// Instructions from so many on up to a place.
+// The instructions from `done` up to a place.
 fn run(engine: &Engine, table: &mut Table, done: usize, upto: usize) -> usize
     requires engine { IsEngine engine.now }
     requires table { HasRun engine.now (length table.old.room.items) table.old done }
@@ -431,7 +433,7 @@ fn run(engine: &Engine, table: &mut Table, done: usize, upto: usize) -> usize
     )
 }
 
-// The registers of a cycle, guessed and mended until they are right over so many clocks. None where that does not come to an end.
+// The registers of a cycle, guessed and mended until they are right over `count` clocks. None if that takes too many rounds.
 #[tactic(auto, using(crate::proofs::Tables::hold_fewer))]
 fn guess(
     engine: &Engine,
@@ -471,7 +473,7 @@ fn when(offered: bool, done: usize) -> Option<usize>
     if offered { Some(done) } else { None }
 }
 
-// One step of the plan, behind so many instructions that are run: how many are run then.
+// One step of the plan, after `done` instructions: the number of instructions that are run then.
 #[tactic(auto, using(crate::proofs::Tables::hold_fewer))]
 pub fn take_step(
     engine: &Engine,
@@ -492,8 +494,20 @@ pub fn take_step(
         Step::Run { upto } => Some(run(engine, table, done, upto)),
         Step::Shift { update } => when(shift(engine, table, held, done, update), done),
         Step::Read { assign } => when(read(engine, table, held, done, assign), done),
-        Step::Small { assign } => when(small(engine, table, held, hints, done, assign), done),
-        Step::Held { assign } => when(hold(engine, table, held, hints, done, assign), done),
+        Step::Small { assign } => {
+            let put = Written::Put;
+            when(
+                read_written(engine, table, held, hints, done, assign, put),
+                done,
+            )
+        }
+        Step::Held { assign } => {
+            let choice = Written::Choice;
+            when(
+                read_written(engine, table, held, hints, done, assign, choice),
+                done,
+            )
+        }
         Step::Guess { first, last, upto } => {
             let cycle = Cycle { first, last, upto };
             guess(engine, table, held, hints, done, cycle, count)

@@ -60,7 +60,7 @@ fn put_free(widths: &[Width], table: &mut Table, slot: usize)
     put_row(&mut table.rows, slot, &mut table.room);
 }
 
-// Whether no one of the first so many instructions uses a slot.
+// Whether no one of the first n instructions uses a slot.
 fn is_free(uses: &[usize], done: usize, slot: usize) -> bool
     ensures { IsTrue result → done ≤ slice_index uses.now slot }
 {
@@ -71,7 +71,7 @@ fn is_free(uses: &[usize], done: usize, slot: usize) -> bool
     }
 }
 
-// The spare row becomes that of a slot, cut to its width, if no one of the first so many instructions uses this slot.
+// The spare row becomes that of a slot, cut to its width, if no one of the first n instructions uses this slot.
 pub fn offer(
     widths: &[Width],
     code: &[Instruction],
@@ -116,7 +116,7 @@ fn run_between(widths: &[Width], code: &[Instruction], table: &mut Table, done: 
     );
 }
 
-// The instructions from so many on up to this place, if there are so many: how many are run then.
+// The instructions from this many on up to this place, if there are this many: how many are run then.
 pub fn run_upto(
     widths: &[Width],
     code: &[Instruction],

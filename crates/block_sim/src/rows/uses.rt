@@ -81,7 +81,7 @@ fn note_code(uses: &mut [usize], code: &[Instruction])
     }
 }
 
-// For each of so many slots the number of the first instruction that reads or writes it, or that of all.
+// For each of this many slots the number of the first instruction that reads or writes it, or that of all.
 pub fn first_uses(
     alloc: Global,
     slots: usize,

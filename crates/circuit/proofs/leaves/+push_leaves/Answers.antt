@@ -17,23 +17,23 @@ use Rattle.circuit.proofs.leaves.«+push_leaves».Goals as goal
 stepped : (here items : List Step) (edge : Edge) (dx dy : ℤ) → FitsSigned w32 dx → FitsSigned w32 dy → items ≡ with_step here edge (to_z w32 (of_z w32 dx)) (to_z w32 (of_z w32 dy)) → items ≡ with_step here edge dx dy
 stepped here items edge dx dy fx fy h = subst (λ (y : ℤ). items ≡ with_step here edge dx y) (to_z-of_z w32 dy fy) (subst (λ (x : ℤ). items ≡ with_step here edge x (to_z w32 (of_z w32 dy))) (to_z-of_z w32 dx fx) h)
 
-pub still-requires : goal.still-requires
-still-requires t c =
+pub still_law-requires : goal.still_law-requires
+still_law-requires t c =
     let r = c.args.reader.now in
     reading_more c.push_test.new.b c.args.b.now c.in_ok-push_test-in-Shifted.ensures.adds.includes r.ir.now r.plan.now r.taps.now r.image c.requires.reading
 
-pub still-requires-in-Binary : goal.still-requires-in-Binary
-still-requires-in-Binary t c =
+pub still_law-requires-in-Binary : goal.still_law-requires-in-Binary
+still_law-requires-in-Binary t c =
     let r = c.args.reader.now in
     reading_more c.push_leaves-in-Binary.new.b c.args.b.now c.in_ok-push_leaves-in-Binary.ensures.adds.includes r.ir.now r.plan.now r.taps.now r.image c.requires.reading
 
-pub still-requires-in-Select : goal.still-requires-in-Select
-still-requires-in-Select t c =
+pub still_law-requires-in-Select : goal.still_law-requires-in-Select
+still_law-requires-in-Select t c =
     let r = c.args.reader.now in
     reading_more c.push_leaves-in-Select.new.b c.args.b.now c.in_ok-push_leaves-in-Select.ensures.adds.includes r.ir.now r.plan.now r.taps.now r.image c.requires.reading
 
-pub still-requires-in-Select-2 : goal.still-requires-in-Select-2
-still-requires-in-Select-2 t c =
+pub still_law-requires-in-Select-2 : goal.still_law-requires-in-Select-2
+still_law-requires-in-Select-2 t c =
     let r = c.args.reader.now in
     reading_more c.push_leaves-in-Select-2.new.b c.push_leaves-in-Select.new.b c.in_ok-push_leaves-in-Select-2.ensures.adds.includes r.ir.now r.plan.now r.taps.now r.image
     (reading_more c.push_leaves-in-Select.new.b c.args.b.now c.in_ok-push_leaves-in-Select.ensures.adds.includes r.ir.now r.plan.now r.taps.now r.image c.requires.reading)

@@ -39,7 +39,7 @@ pub returns-in-Or-clause-value : goal.returns-in-Or-clause-value
 returns-in-Or-clause-value c = subst (λ (o : Binary). IfOk c.disjunction.result (λ r. Carries c.disjunction.new.b r (binary_result o c.args.x.ty c.args.y.ty) (λ s. binary_value o (worth s c.args.x) (worth s c.args.y)))) (sym c.in-Or.is) c.disjunction.ensures.value
 
 pub returns-in-Xor-clause-value : goal.returns-in-Xor-clause-value
-returns-in-Xor-clause-value c = subst (λ (o : Binary). IfOk c.parity.result (λ r. Carries c.parity.new.b r (binary_result o c.args.x.ty c.args.y.ty) (λ s. binary_value o (worth s c.args.x) (worth s c.args.y)))) (sym c.in-Xor.is) c.parity.ensures.value
+returns-in-Xor-clause-value c = subst (λ (o : Binary). IfOk c.exclusive_or.result (λ r. Carries c.exclusive_or.new.b r (binary_result o c.args.x.ty c.args.y.ty) (λ s. binary_value o (worth s c.args.x) (worth s c.args.y)))) (sym c.in-Xor.is) c.exclusive_or.ensures.value
 
 pub returns-in-Min-clause-value : goal.returns-in-Min-clause-value
 returns-in-Min-clause-value c = subst (λ (o : Binary). IfOk c.minimum.result (λ r. Carries c.minimum.new.b r (binary_result o c.args.x.ty c.args.y.ty) (λ s. binary_value o (worth s c.args.x) (worth s c.args.y)))) (sym c.in-Min.is) c.minimum.ensures.value

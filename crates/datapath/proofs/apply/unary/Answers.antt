@@ -13,8 +13,8 @@ returns-in-Negate-clause-value c = subst (λ (o : Unary). IfOk c.negation.result
 pub returns-in-Not-clause-value : goal.returns-in-Not-clause-value
 returns-in-Not-clause-value c =
     let e : c.args.x.ty ≡ Unsigned 1 = subst (λ (o : Unary). TakesOperand o c.args.x.ty) c.in-Not.is c.requires.takes in
-    let h = subst (λ (t : Ty). IfOk c.negated.result (λ r. Carries c.negated.new.b r t (λ s. pos 1 -ℤ worth s c.args.x))) (sym e) c.negated.ensures.value in
-    subst (λ (o : Unary). IfOk c.negated.result (λ r. Carries c.negated.new.b r (unary_result o c.args.x.ty) (λ s. unary_value o (worth s c.args.x)))) (sym c.in-Not.is) h
+    let h = subst (λ (t : Ty). IfOk c.bit_complement.result (λ r. Carries c.bit_complement.new.b r t (λ s. pos 1 -ℤ worth s c.args.x))) (sym e) c.bit_complement.ensures.value in
+    subst (λ (o : Unary). IfOk c.bit_complement.result (λ r. Carries c.bit_complement.new.b r (unary_result o c.args.x.ty) (λ s. unary_value o (worth s c.args.x)))) (sym c.in-Not.is) h
 
 pub returns-in-Abs-clause-value : goal.returns-in-Abs-clause-value
 returns-in-Abs-clause-value c = subst (λ (o : Unary). IfOk c.magnitude.result (λ r. Carries c.magnitude.new.b r (unary_result o c.args.x.ty) (λ s. unary_value o (worth s c.args.x)))) (sym c.in-Abs.is) c.magnitude.ensures.value

@@ -162,14 +162,14 @@ choice-requires-clause-ty t c = select_type _ _ _ _ _ c.requires.part _ _ _ _ _ 
 pub returns-in_ok-choice-in-Select-clause-walked : goal.returns-in_ok-choice-in-Select-clause-walked
 returns-in_ok-choice-in-Select-clause-walked t c = rw c.placed-in-Select.ensures (select_walked _ _ _ _ _ _ _ _ _ c.in_ok-c-in-Select.c c.in_ok-x-in-Select.x c.in_ok-y-in-Select.y _ _ _ _ (select_tree _ _ _ _ _ _ _ _ _ _ c.in-Select.is c.deref-in-Select.ensures c.deref-first.ensures c.deref-second.ensures) c.walk-in-Select-2.ensures.grows.includes c.walk-in-Select-3.ensures.grows.includes c.choice.ensures.grows.includes c.in_ok-c-in-Select.ensures.walked c.in_ok-x-in-Select.ensures.walked c.in_ok-y-in-Select.ensures.walked c.in_ok-choice-in-Select.ensures.value c.in_ok-choice-in-Select.ensures.made)
 
-pub begins-requires-clause-leaves : goal.begins-requires-clause-leaves
-begins-requires-clause-leaves t c = leaves_later _ _ _ _ c.walk-in-Binary.ensures.grows c.requires.leaves
+pub begins_law-requires-clause-leaves : goal.begins_law-requires-clause-leaves
+begins_law-requires-clause-leaves t c = leaves_later _ _ _ _ c.walk-in-Binary.ensures.grows c.requires.leaves
 
-pub begins-requires-in-Select-clause-leaves : goal.begins-requires-in-Select-clause-leaves
-begins-requires-in-Select-clause-leaves t c = leaves_later _ _ _ _ c.walk-in-Select.ensures.grows c.requires.leaves
+pub begins_law-requires-in-Select-clause-leaves : goal.begins_law-requires-in-Select-clause-leaves
+begins_law-requires-in-Select-clause-leaves t c = leaves_later _ _ _ _ c.walk-in-Select.ensures.grows c.requires.leaves
 
-pub begins-requires-in-Select-2-clause-leaves : goal.begins-requires-in-Select-2-clause-leaves
-begins-requires-in-Select-2-clause-leaves t c = leaves_later _ _ _ _ (then_grows c.walk-in-Select.ensures.grows c.walk-in-Select-2.ensures.grows) c.requires.leaves
+pub begins_law-requires-in-Select-2-clause-leaves : goal.begins_law-requires-in-Select-2-clause-leaves
+begins_law-requires-in-Select-2-clause-leaves t c = leaves_later _ _ _ _ (then_grows c.walk-in-Select.ensures.grows c.walk-in-Select-2.ensures.grows) c.requires.leaves
 
 pub returns-in-Constant-clause-folds : goal.returns-in-Constant-clause-folds
 returns-in-Constant-clause-folds t c h = rw c.placed.ensures (c.literal.ensures.known, refl)

@@ -6,7 +6,7 @@ use Rattle.std.specs.Io.KnownBytes.{prepend_known}
 use Rattle.dk_desk.proofs.DeskLemmas.{prepend_known-more}
 use Rattle.dk_desk.proofs.transfer.read_full.Goals as goal
 
--- what was read into a part stands after what was there
+-- what was read into a part follows what was there
 filled_then : (a k n : ℕ) (xs ys : List ℕ) → a ≤ length xs → n ≤ length ys → take (a + n) (put_mid a k xs ys) ≡ take a xs ++ take n ys
 filled_then a k n xs ys p q =
     ap (λ m. take (m + n) (put_mid a k xs ys)) (sym (length-take-le a xs p)) ∙ take-append-add (take a xs) (ys ++ post_of a k xs) n

@@ -14,4 +14,4 @@ pub returns-in-Ok-clause-good : goal.returns-in-Ok-clause-good
 returns-in-Ok-clause-good c =
     let found = c.in-Ok.ensures.compiled in
     let from : IsCompiledFrom c.args.text.now c.args.options.age c.args.options.enable c.in-Ok.compiled = record { program = found.0; is = found.1 } in
-    (found.0, compiled_accepted c.one_at_age.ensures.accepted c.args.text.now c.args.options.age c.args.options.enable c.in-Ok.compiled from)
+    (found.0, compiled_accepted c.one_at_age_law.ensures.accepted c.args.text.now c.args.options.age c.args.options.enable c.in-Ok.compiled from)

@@ -15,7 +15,7 @@ sample_sum-requires c =
     let (rounds, made) = c.requires in
     let n = c.args.n in
     let p = made.from.program in
-    let are = summed (program_of n) 0 c.args.compiled.now made.from c.meaning_law.ensures.values (image_of n) (picture_of n) rounds c.one_reading.ensures.files (c.made_is_read.ensures.file n) made.fits in
+    let are = summed (program_of n) 0 c.args.compiled.now made.from c.meaning_law.ensures.values (image_of n) (picture_of n) rounds c.one_reading_law.ensures.files (c.made_is_read_law.ensures.file n) made.fits in
     record { images = (joined (map (outputs_of p) rounds), subst (λ (s : Size). AreSummed s (joined (map (outputs_of p) rounds))) (sym (c.size.ensures ∙ (made.from.is.planned.has.front).form.size)) are, made.file_is) }
 
 pub returns : goal.returns
@@ -24,7 +24,7 @@ returns c =
     let n = c.args.n in
     let p = made.from.program in
     let k = c.args.compiled.now in
-    let are = summed (program_of n) 0 k made.from c.meaning_law.ensures.values (image_of n) (picture_of n) rounds c.one_reading.ensures.files (c.made_is_read.ensures.file n) made.fits in
+    let are = summed (program_of n) 0 k made.from c.meaning_law.ensures.values (image_of n) (picture_of n) rounds c.one_reading_law.ensures.files (c.made_is_read_law.ensures.file n) made.fits in
     let here = subst (λ (s : Size). AreSummed s (joined (map (outputs_of p) rounds))) (sym (c.size.ensures ∙ (made.from.is.planned.has.front).form.size)) are in
     let total = c.in_ok-sample_sum.ensures (joined (map (outputs_of p) rounds)) here made.file_is in
     let images = ap (λ (xs : List Kept). length xs - c.inputs.result) c.images.ensures ∙ ap (λ (m : ℕ). length k.system.stencils.images - m) c.inputs.ensures in

@@ -4,7 +4,7 @@ use Rattle.dk_top.proofs.reading.read_form.Goals as goal
 pub returns-in-Ok-clause-every : goal.returns-in-Ok-clause-every
 returns-in-Ok-clause-every c =
     let found = c.in-Ok.ensures.planned in
-    every_form c.one_source.ensures.program c.args.text.now 0 found.0 c.in-Ok.program.ir c.in-Ok.program.system c.in-Ok.program.solution c.in-Ok.program.plan found.1
+    every_form c.one_source_law.ensures.program c.args.text.now 0 found.0 c.in-Ok.program.ir c.in-Ok.program.system c.in-Ok.program.solution c.in-Ok.program.plan found.1
 
 pub returns-in-Err-clause-fault : goal.returns-in-Err-clause-fault
 returns-in-Err-clause-fault c = c.ending_of.ensures.fault_at c.args.text.now 0 c.in-Err.ensures.fault
@@ -12,4 +12,4 @@ returns-in-Err-clause-fault c = c.ending_of.ensures.fault_at c.args.text.now 0 c
 pub returns-in-Ok-clause-accepted : goal.returns-in-Ok-clause-accepted
 returns-in-Ok-clause-accepted c =
     let found = c.in-Ok.ensures.planned in
-    (found.0, c.one_at_age.ensures.accepted c.args.text.now 0 found.0 c.in-Ok.program.ir c.in-Ok.program.system c.in-Ok.program.solution c.in-Ok.program.plan found.1, found.1.has.front.form)
+    (found.0, c.one_at_age_law.ensures.accepted c.args.text.now 0 found.0 c.in-Ok.program.ir c.in-Ok.program.system c.in-Ok.program.solution c.in-Ok.program.plan found.1, found.1.has.front.form)

@@ -10,7 +10,7 @@ plan_report-requires-clause-images c =
 pub plan_report-requires-clause-names : goal.plan_report-requires-clause-names
 plan_report-requires-clause-names c =
     let has = c.requires.accepted in
-    front_names c.source_names.ensures has.0 has.1.program c.args.front.now.ir c.args.front.now.stencils has.1.front
+    front_names c.source_names_law.ensures has.0 has.1.program c.args.front.now.ir c.args.front.now.stencils has.1.front
 
 pub returns-in-Ok-clause-plan : goal.returns-in-Ok-clause-plan
 returns-in-Ok-clause-plan c = λ text front. plan_of text c.args.front.now.ir c.args.front.now.stencils front c.args.age c.in-Ok.report.items c.in-Ok.ensures.report

@@ -24,7 +24,7 @@ unreachable-requires g c =
     let size = size_of c.size-size.result in
     let d = c.drive_of-drive.result in
     let is : d ≡ frame_drive size (latency c.args.compiled.now.plan) (length c.args.rounds.now) = c.drive_of-drive.ensures.is ∙ ap (λ (n : ℕ). frame_drive size n (length c.args.rounds.now)) c.latency.ensures in
-    never_of given.0 given.1 c.args.compiled.now given.2 c.args.«module».now size c.args.rounds.now c.requires.again c.size-size.ensures c.drive_shows.ensures.picture c.drive_shows.ensures.rasters d is c.requires.read c.in-Err-Stopped.field-0-0
+    never_of given.0 given.1 c.args.compiled.now given.2 c.args.«module».now size c.args.rounds.now c.requires.again c.size-size.ensures c.drive_shows_law.ensures.picture c.drive_shows_law.ensures.rasters d is c.requires.read c.in-Err-Stopped.field-0-0
     (subst (λ (f : BenchFault). IsBenchEnd (c.args.«module».now).netlist d size (rounds_of c.args.rounds.now) f) c.in-Err-Stopped.field-0-is c.in-Err-Stopped.ensures.stop)
 
 pub returns-in-Ok-clause-output : goal.returns-in-Ok-clause-output
@@ -32,7 +32,7 @@ returns-in-Ok-clause-output g c = λ source file age from input.
     let size = size_of c.size-size.result in
     let d = c.drive_of-drive.result in
     let is : d ≡ frame_drive size (latency c.args.compiled.now.plan) (length c.args.rounds.now) = c.drive_of-drive.ensures.is ∙ ap (λ (n : ℕ). frame_drive size n (length c.args.rounds.now)) c.latency.ensures in
-    shown_of c.one_source.ensures.program c.drive_shows.ensures.picture c.drive_shows.ensures.rasters source file age c.args.compiled.now c.args.«module».now size c.args.rounds.now c.requires.again c.size-size.ensures d is from input c.in-Ok.file.items c.in-Ok.ensures.file
+    shown_of c.one_source_law.ensures.program c.drive_shows_law.ensures.picture c.drive_shows_law.ensures.rasters source file age c.args.compiled.now c.args.«module».now size c.args.rounds.now c.requires.again c.size-size.ensures d is from input c.in-Ok.file.items c.in-Ok.ensures.file
 
 pub returns-in-Ok-clause-notes : goal.returns-in-Ok-clause-notes
 returns-in-Ok-clause-notes g c = λ source file age from input.
@@ -40,4 +40,4 @@ returns-in-Ok-clause-notes g c = λ source file age from input.
     let d = c.drive_of-drive.result in
     let is : d ≡ frame_drive size (latency c.args.compiled.now.plan) (length c.args.rounds.now) = c.drive_of-drive.ensures.is ∙ ap (λ (n : ℕ). frame_drive size n (length c.args.rounds.now)) c.latency.ensures in
     let noted = c.in-Ok.ensures.notes in
-    noted_of c.one_source.ensures.program c.drive_shows.ensures.picture c.drive_shows.ensures.rasters source file age c.args.compiled.now c.args.«module».now size c.args.rounds.now c.requires.again c.size-size.ensures d is from input _ _ noted.0 noted.1 noted.2
+    noted_of c.one_source_law.ensures.program c.drive_shows_law.ensures.picture c.drive_shows_law.ensures.rasters source file age c.args.compiled.now c.args.«module».now size c.args.rounds.now c.requires.again c.size-size.ensures d is from input _ _ noted.0 noted.1 noted.2

@@ -9,7 +9,7 @@ use Rattle.dk_top.proofs.RunLemmas.{unfit_from, good_from, input_from}
 use Rattle.dk_top.proofs.running.ran.Goals as goal
 
 pub returns-in-Err-clause-fault : goal.returns-in-Err-clause-fault
-returns-in-Err-clause-fault g c = λ source age from. unfit_from c.one_at_age.ensures.accepted (g.D.Desk.outside c.args.desk.now).files c.args.image.now c.args.compiled.now c.in-Err.ending source age from c.in-Err.ensures.fault
+returns-in-Err-clause-fault g c = λ source age from. unfit_from c.one_at_age_law.ensures.accepted (g.D.Desk.outside c.args.desk.now).files c.args.image.now c.args.compiled.now c.in-Err.ending source age from c.in-Err.ensures.fault
 
 pub returns-in-Ok-clocked-clause-output : goal.returns-in-Ok-clocked-clause-output
 returns-in-Ok-clocked-clause-output g c = λ source age from.
@@ -25,4 +25,4 @@ returns-in-Ok-clocked-clause-notes g c = λ source age from.
     (c.in-Ok-clocked.ensures.notes source file age from (subst (λ (rs : List Round). IsInputOf None c.args.compiled.now.ir file rs) (sym c.deref.ensures.value) input)))
 
 pub returns-in-Ok-clocked-clause-good : goal.returns-in-Ok-clocked-clause-good
-returns-in-Ok-clocked-clause-good g c = λ source age from. good_from c.one_at_age.ensures.accepted (g.D.Desk.outside c.args.desk.now).files c.args.image.now c.args.compiled.now c.in-Ok.rounds.items source age from c.in-Ok.ensures.input
+returns-in-Ok-clocked-clause-good g c = λ source age from. good_from c.one_at_age_law.ensures.accepted (g.D.Desk.outside c.args.desk.now).files c.args.image.now c.args.compiled.now c.in-Ok.rounds.items source age from c.in-Ok.ensures.input

@@ -8,11 +8,11 @@ returns-then-is_one_port g c =
     let old = g.D.Desk.outside c.args.desk.now in
     let mid = g.D.Desk.outside c.read_machine.new.desk in
     let e = c.in-Ok.ensures in
-    let performs : PerformsRun c.args.program.now c.args.image.now c.args.out.now c.args.age c.run_streamed.result old (g.D.Desk.outside c.run_streamed.new.desk) = performs_on c.one_at_age.ensures.accepted c.args.program.now c.args.image.now c.args.out.now c.args.age c.run_streamed.result old mid (g.D.Desk.outside c.run_streamed.new.desk) c.in-Ok.machine.compiled c.requires.fresh e.compiled e.some e.name e.only
+    let performs : PerformsRun c.args.program.now c.args.image.now c.args.out.now c.args.age c.run_streamed.result old (g.D.Desk.outside c.run_streamed.new.desk) = performs_on c.one_at_age_law.ensures.accepted c.args.program.now c.args.image.now c.args.out.now c.args.age c.run_streamed.result old mid (g.D.Desk.outside c.run_streamed.new.desk) c.in-Ok.machine.compiled c.requires.fresh e.compiled e.some e.name e.only
     (same_count _ old.input_failures mid.input_failures (λ is. ok_apart _ _ is) e.cause) c.run_streamed.ensures.runs in
     record {
       performs = performs;
-      left = ran_left c.one_at_age.ensures.apart c.one_at_age.ensures.accepted old.files c.args.program.now c.args.image.now c.args.age c.in-Ok.machine.compiled (g.D.Desk.outside c.run_streamed.new.desk).program c.run_streamed.result e.compiled performs.verdict;
+      left = ran_left c.one_at_age_law.ensures.apart c.one_at_age_law.ensures.accepted old.files c.args.program.now c.args.image.now c.args.age c.in-Ok.machine.compiled (g.D.Desk.outside c.run_streamed.new.desk).program c.run_streamed.result e.compiled performs.verdict;
     }
 
 pub returns : goal.returns
@@ -20,9 +20,9 @@ returns g c =
     let old = g.D.Desk.outside c.args.desk.now in
     let mid = g.D.Desk.outside c.read_machine.new.desk in
     let e = c.in-Ok.ensures in
-    let performs : PerformsRun c.args.program.now c.args.image.now c.args.out.now c.args.age c.run_rounds.result old (g.D.Desk.outside c.run_rounds.new.desk) = performs_on c.one_at_age.ensures.accepted c.args.program.now c.args.image.now c.args.out.now c.args.age c.run_rounds.result old mid (g.D.Desk.outside c.run_rounds.new.desk) c.in-Ok.machine.compiled c.requires.fresh e.compiled e.some e.name e.only
+    let performs : PerformsRun c.args.program.now c.args.image.now c.args.out.now c.args.age c.run_rounds.result old (g.D.Desk.outside c.run_rounds.new.desk) = performs_on c.one_at_age_law.ensures.accepted c.args.program.now c.args.image.now c.args.out.now c.args.age c.run_rounds.result old mid (g.D.Desk.outside c.run_rounds.new.desk) c.in-Ok.machine.compiled c.requires.fresh e.compiled e.some e.name e.only
     (same_count _ old.input_failures mid.input_failures (λ is. ok_apart _ _ is) e.cause) c.run_rounds.ensures.runs in
     record {
       performs = performs;
-      left = ran_left c.one_at_age.ensures.apart c.one_at_age.ensures.accepted old.files c.args.program.now c.args.image.now c.args.age c.in-Ok.machine.compiled (g.D.Desk.outside c.run_rounds.new.desk).program c.run_rounds.result e.compiled performs.verdict;
+      left = ran_left c.one_at_age_law.ensures.apart c.one_at_age_law.ensures.accepted old.files c.args.program.now c.args.image.now c.args.age c.in-Ok.machine.compiled (g.D.Desk.outside c.run_rounds.new.desk).program c.run_rounds.result e.compiled performs.verdict;
     }

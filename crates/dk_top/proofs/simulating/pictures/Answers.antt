@@ -19,7 +19,7 @@ pub returns-in-Ok-clause-only_file : goal.returns-in-Ok-clause-only_file
 returns-in-Ok-clause-only_file g c =
     let m = c.args.given.now.module in
     let size = size_of c.args.given.now.input.size in
-    one_shown c.args.drive m size c.args.given.now.input.rounds.items c.one_module.ensures.one c.one_input.ensures.rounds c.one_bench.ensures.file c.law.ensures.one_valuation c.law.ensures.one_next c.in-Ok.file.items
+    one_shown c.args.drive m size c.args.given.now.input.rounds.items c.one_module_law.ensures.one c.one_input_law.ensures.rounds c.one_bench_law.ensures.file c.law.ensures.one_valuation c.law.ensures.one_next c.in-Ok.file.items
     (subst (λ (rs : List Round). IsShown m.netlist c.args.drive size (rounds_of rs) c.in-Ok.file.items) c.deref.ensures.value c.in-Ok.ensures.file)
 
 pub returns-in-Ok-clause-notes : goal.returns-in-Ok-clause-notes

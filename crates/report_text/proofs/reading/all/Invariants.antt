@@ -1,6 +1,6 @@
 use Rattle.std.proofs.Common.{◌≡◌, ◌+◌, ◌≤◌, length}
 use Rattle.report_text.specs.Reports.{parts_of}
-use Rattle.report_text.specs.Texts.{cut}
+use Rattle.dk_grammar.specs.Lines.{cut}
 use Rattle.report_text.specs.declared.step.Stage.TheVariants.{Start}
 use Rattle.report_text.specs.Reading.{reading, nothing}
 use Rattle.report_text.proofs.reading.all.Given as goal

@@ -10,7 +10,7 @@ pub tell-requires-clause-dout : goal.tell-requires-clause-dout
 tell-requires-clause-dout g c =
     let ok = c.in-Ok.ensures.ok in
     let clock : Clock = record { reset = c.args.reset; enable = true; dins = c.args.din ∷ [] } in
-    dout_fits c.values_fit.ensures.nets (kind_of c.args.form) c.args.sim.now.netlist c.requires.one clock c.args.sim.now.contents c.step.new.sim.contents ok.0 c.in-Ok.out c.law.ensures.fit c.requires.din ok.1 ok.2
+    dout_fits c.values_fit_law.ensures.nets (kind_of c.args.form) c.args.sim.now.netlist c.requires.one clock c.args.sim.now.contents c.step.new.sim.contents ok.0 c.in-Ok.out c.law.ensures.fit c.requires.din ok.1 ok.2
 
 pub returns-clause-ok : goal.returns-clause-ok
 returns-clause-ok g c =

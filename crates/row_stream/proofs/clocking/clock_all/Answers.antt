@@ -24,7 +24,7 @@ tell_all-requires-clause-douts g c =
     let to = c.step_block.new.self.contents in
     let runs = ran_runs m c.args.enables.now c.args.dins.now c.requires.one_din c.requires.enables c.args.sim.now.contents to outs ok in
     let shown = ran_shown m c.args.enables.now c.args.dins.now c.requires.one_din c.requires.enables c.args.sim.now.contents to outs ok c.requires.one.one (c.step_block.auto.outs ∙ c.requires.outs) in
-    all_small c.args.form.maxval outs (douts_fit c.values_fit.ensures.nets c.values_fit.ensures.next kind m c.requires.one (map pixel_clock c.args.dins.now) c.args.sim.now.contents to ok.shots outs c.law.ensures.fit (each_fits m c.args.dins.now c.requires.fit) runs shown)
+    all_small c.args.form.maxval outs (douts_fit c.values_fit_law.ensures.nets c.values_fit_law.ensures.next kind m c.requires.one (map pixel_clock c.args.dins.now) c.args.sim.now.contents to ok.shots outs c.law.ensures.fit (each_fits m c.args.dins.now c.requires.fit) runs shown)
 
 pub returns-clause-ok : goal.returns-clause-ok
 returns-clause-ok g c =

@@ -34,7 +34,7 @@ returns-in-Done-clause-ok g c =
       read = s.read ++ byte ∷ [];
       given = s.given ∙ ap (λ z. prepend_known s.read z) here ∙ prepend_known-more s.read (byte ∷ []) (g.D.Desk.outside c.next_byte.new.desk).image.rest;
       reads = c.in-Done.ensures.answer s.read s.scanned;
-      exact = exact_head c.one_reading.ensures.headers s.read byte c.in-Done.header open_yet (c.in-Done.ensures.answer s.read s.scanned);
+      exact = exact_head c.one_reading_law.ensures.headers s.read byte c.in-Done.header open_yet (c.in-Done.ensures.answer s.read s.scanned);
     }
 
 pub returns-in-Ok-None-clause-err : goal.returns-in-Ok-None-clause-err

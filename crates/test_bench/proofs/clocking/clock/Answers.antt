@@ -2,7 +2,8 @@ use Rattle.std.proofs.Common.{◌∙◌, ◌*◌, ◌^◌, ◌<◌, ap, sym, sub
 use Rattle.std.specs.Prelude.{slice_get}
 use Rattle.std.specs.List.{All}
 use Rattle.wiring.specs.Clock.{Clock}
-use Rattle.test_bench.specs.Clocking.{GoOn, pairs_of}
+use Rattle.test_bench.specs.Clocking.{GoOn}
+use Rattle.test_bench.specs.BlockClocks.{pairs_of}
 use Rattle.test_bench.proofs.Clocks.{douts_fit, outs_small, clocked_one}
 use Rattle.test_bench.proofs.clocking.clock.Goals as goal
 
@@ -12,7 +13,7 @@ show-requires-clause-douts g c =
     let m = c.args.bench.now.sim.netlist in
     let clock : Clock = record { reset = c.args.reset; enable = c.args.enable; dins = c.args.dins.now } in
     let ok = c.in-Ok.ensures.ok in
-    let fit = douts_fit c.values_fit.ensures.nets m bench.order bench.rules bench.ordered clock c.args.bench.now.sim.contents c.step.new.sim.contents ok.0 c.law.ensures.fit c.requires.dins ok.1 in
+    let fit = douts_fit c.values_fit_law.ensures.nets m bench.order bench.rules bench.ordered clock c.args.bench.now.sim.contents c.step.new.sim.contents ok.0 c.law.ensures.fit c.requires.dins ok.1 in
     subst (λ z. All (λ out. out.dout < 2 ^ 16) z) (sym c.deref-in-Ok.ensures.value) (outs_small m bench.rules ok.0 c.step.new.outs.items fit ok.2 (bench.outs ∙ ap (λ n. 2 * n) (sym c.in-Ok.ensures.count)))
 
 pub returns-in-Ok-clause-ok : goal.returns-in-Ok-clause-ok
@@ -22,7 +23,7 @@ returns-in-Ok-clause-ok g c =
     let old = c.args.bench.now in
     let clock : Clock = record { reset = c.args.reset; enable = c.args.enable; dins = c.args.dins.now } in
     let ok = c.in-Ok.ensures.ok in
-    let fit = douts_fit c.values_fit.ensures.nets old.sim.netlist bench.order bench.rules bench.ordered clock old.sim.contents c.step.new.sim.contents ok.0 c.law.ensures.fit c.requires.dins ok.1 in
+    let fit = douts_fit c.values_fit_law.ensures.nets old.sim.netlist bench.order bench.rules bench.ordered clock old.sim.contents c.step.new.sim.contents ok.0 c.law.ensures.fit c.requires.dins ok.1 in
     clocked_one clock old _ (outside c.args.desk.now).notes (outside c.tell.new.desk).notes ok.0 bench c.in-Ok.ensures.netlist refl refl c.in-Ok.ensures.count refl
     (c.show.ensures.count ∙ ap length c.deref-in-Ok.ensures.value) c.show.ensures.room ok.1 ok.2 fit
     (subst (λ z. GoOn (outside c.args.desk.now).notes (pairs_of z) (outside c.tell.new.desk).notes) c.deref.ensures.value c.tell.ensures.notes)

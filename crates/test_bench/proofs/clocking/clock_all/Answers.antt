@@ -17,7 +17,7 @@ returns-in-Err-clause-stop g c =
 
 pub show_all-requires-clause-douts : goal.show_all-requires-clause-douts
 show_all-requires-clause-douts g c =
-    small_all c.values_fit.ensures.nets c.values_fit.ensures.next c.args.sim.now.netlist c.requires.order.0 c.requires.rules c.requires.order.1 c.args.enables.now c.args.dins.now c.args.sim.now.contents c.step_block.new.self.contents c.step_block.new.outs (length c.args.pictures.now.items) c.requires.pictures (c.step_block.auto.outs ∙ c.requires.outs) c.law.ensures.fit c.requires.fit c.in-Ok.ensures.ok
+    small_all c.values_fit_law.ensures.nets c.values_fit_law.ensures.next c.args.sim.now.netlist c.requires.order.0 c.requires.rules c.requires.order.1 c.args.enables.now c.args.dins.now c.args.sim.now.contents c.step_block.new.self.contents c.step_block.new.outs (length c.args.pictures.now.items) c.requires.pictures (c.step_block.auto.outs ∙ c.requires.outs) c.law.ensures.fit c.requires.fit c.in-Ok.ensures.ok
 
 pub returns-in-Ok-clause-ok : goal.returns-in-Ok-clause-ok
 returns-in-Ok-clause-ok g c =
@@ -28,8 +28,8 @@ returns-in-Ok-clause-ok g c =
     let ok = c.in-Ok.ensures.ok in
     let to = c.step_block.new.self.contents in
     let count = c.step_block.auto.outs ∙ c.requires.outs in
-    let nets = c.values_fit.ensures.nets in
-    let next = c.values_fit.ensures.next in
+    let nets = c.values_fit_law.ensures.nets in
+    let next = c.values_fit_law.ensures.next in
     let fits = c.law.ensures.fit in
     let n = shots_count nets next m c.requires.order.0 c.requires.rules c.requires.order.1 c.args.enables.now c.args.dins.now c.args.sim.now.contents to outs w c.requires.pictures count fits c.requires.fit ok in
     let shown = shown_in nets next m c.requires.order.0 c.requires.rules c.requires.order.1 c.args.enables.now c.args.dins.now c.args.sim.now.contents to outs w c.requires.pictures count fits c.requires.fit ok in

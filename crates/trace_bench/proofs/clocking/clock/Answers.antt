@@ -20,7 +20,7 @@ tell-requires-clause-values g c =
     let ok = c.in-Ok.ensures.ok in
     let clock : Clock = record { reset = c.args.reset; enable = true; dins = old.dins.items } in
     let step : Steps m from (given m clock) ok.0 to = subst (λ z. Steps m from (given m (record { reset = c.args.reset; enable = true; dins = z })) ok.0 to) c.deref.ensures.value ok.1 in
-    let fit = values_fit c.values_fit.ensures.nets m tracing.order tracing.rules tracing.ordered clock from to ok.0 c.law.ensures.fit c.requires.dins step in
+    let fit = values_fit c.values_fit_law.ensures.nets m tracing.order tracing.rules tracing.ordered clock from to ok.0 c.law.ensures.fit c.requires.dins step in
     subst (λ z. AreValues z c.deref-in-Ok.result.now) (sym tracing.widths) (subst (λ z. Fit (all_widths m) z) (sym (c.deref-in-Ok.ensures.value ∙ ok.2)) fit)
 
 pub returns-in-Err-clause-end : goal.returns-in-Err-clause-end
@@ -60,7 +60,7 @@ returns-in-Ok-write-clause-ok g c =
     let before = g.D.Desk.outside c.args.desk.now in
     let now = g.D.Desk.outside c.write.new.desk in
     let tracing = c.requires.tracing in
-    let fit = values_fit c.values_fit.ensures.nets m tracing.order tracing.rules tracing.ordered clock from to ok.0 c.law.ensures.fit c.requires.dins step in
+    let fit = values_fit c.values_fit_law.ensures.nets m tracing.order tracing.rules tracing.ordered clock from to ok.0 c.law.ensures.fit c.requires.dins step in
     let seen : c.deref-in-Ok.result.now ≡ all_values ok.0 = c.deref-in-Ok.ensures.value ∙ ok.2 in
     let fits : AreValues old.trace.widths c.deref-in-Ok.result.now = subst (λ z. AreValues z c.deref-in-Ok.result.now) (sym tracing.widths) (subst (λ z. Fit (all_widths m) z) (sym seen) fit) in
     goes_one m clock from to old.trace before now ok.0 c.deref-in-Ok.result.now fits seen step c.tell.new.trace c.tell.ensures.next

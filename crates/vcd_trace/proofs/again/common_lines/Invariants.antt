@@ -1,5 +1,5 @@
 use Rattle.std.proofs.Common.{◌≡◌, ◌≤◌, ◌+◌, drop}
-use Rattle.vcd_trace.specs.Replayed.{common_lines}
+use Rattle.vcd_trace.specs.Steps.{common_lines}
 use Rattle.vcd_trace.proofs.again.common_lines.Given as goal
 
 abbrev pub invariant-loop-place : goal.invariant-loop-place

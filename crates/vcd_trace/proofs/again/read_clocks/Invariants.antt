@@ -3,7 +3,7 @@ use Rattle.netlist.specs.Names.{NamedNetlist}
 use Rattle.cycle_sim.specs.Slots.{all_widths, words_of}
 use Rattle.vcd_trace.specs.Layout.{AreValues}
 use Rattle.vcd_trace.specs.Header.{header_text}
-use Rattle.vcd_trace.specs.Replayed.{IsAtLine}
+use Rattle.dk_grammar.specs.Lines.{IsAtLine}
 use Rattle.vcd_trace.specs.Steps.{AtTime}
 use Rattle.vcd_trace.proofs.again.read_clocks.Given as goal
 

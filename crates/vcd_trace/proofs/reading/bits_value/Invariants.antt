@@ -1,5 +1,5 @@
 use Rattle.std.proofs.Common.{◌≡◌, ◌<◌, ◌^◌, drop}
-use Rattle.vcd_trace.specs.Replayed.{bits_after}
+use Rattle.vcd_trace.specs.Steps.{bits_after}
 use Rattle.vcd_trace.proofs.reading.bits_value.Given as goal
 
 abbrev pub invariant-loop-byte : goal.invariant-loop-byte

@@ -1,6 +1,6 @@
 use Rattle.std.proofs.Common.{List, subst, arith}
 use Rattle.wiring.specs.declared.order.Visit.{Visit}
-use Rattle.wiring.specs.Order.{IsSearch}
+use Rattle.wiring.specs.Moves.{IsSearch}
 use Rattle.wiring.proofs.Ordered.{search_ends}
 use Rattle.wiring.proofs.order.evaluation_order.Goals as goal
 

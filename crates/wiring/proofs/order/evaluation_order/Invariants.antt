@@ -1,7 +1,7 @@
 use Rattle.std.proofs.Common.{◌≡◌, ◌≢◌, ℕ, ◌<◌, [], Some}
 use Rattle.std.specs.Prelude.{slice_get}
 use Rattle.wiring.specs.declared.order.Mark.TheVariants.{New}
-use Rattle.wiring.specs.Order.{IsSearch}
+use Rattle.wiring.specs.Moves.{IsSearch}
 use Rattle.wiring.proofs.order.evaluation_order.Given as goal
 
 abbrev pub invariant-loop-start : goal.invariant-loop-start

@@ -1,5 +1,4 @@
-use Rattle.wiring.specs.Order.{IsSearch}
-use Rattle.wiring.specs.Moves.{weight, KeepsMarks}
+use Rattle.wiring.specs.Moves.{IsSearch, weight, KeepsMarks}
 use Rattle.wiring.proofs.order.finish.Given as goal
 
 abbrev pub invariant-loop-search : goal.invariant-loop-search

@@ -1,5 +1,0 @@
-use Rattle.circuit.proofs.Driven.{drives}
-use Rattle.circuit.proofs.laws.frame_drive.Goals as goal
-
-pub returns : goal.returns
-returns c m p plan places nets enable program ports whole runs behaves = drives m p plan places nets enable program ports whole runs behaves

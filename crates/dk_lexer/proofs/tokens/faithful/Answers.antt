@@ -1,5 +1,0 @@
-use Rattle.dk_lexer.proofs.Says.{faithful_tokens}
-use Rattle.dk_lexer.proofs.tokens.faithful.Goals as goal
-
-pub returns : goal.returns
-returns c = λ text tokens h. faithful_tokens text tokens h

@@ -1,0 +1,5 @@
+use Rattle.net_build.proofs.Standing.{held_same}
+use Rattle.net_build.proofs.laws.held_law.Goals as goal
+
+pub returns : goal.returns
+returns c m still n from before d s clock same held next goes = held_same m n from before d s next still clock same held goes

@@ -1,5 +1,0 @@
-use Rattle.net_build.proofs.Finished.{output_shown}
-use Rattle.net_build.proofs.laws.outputs_shown.Goals as goal
-
-pub returns : goal.returns
-returns c b sources k n at = output_shown b sources k n at

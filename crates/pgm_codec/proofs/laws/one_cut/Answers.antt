@@ -1,5 +1,0 @@
-use Rattle.pgm_codec.proofs.Cuts.{one_cut}
-use Rattle.pgm_codec.proofs.laws.one_cut.Goals as goal
-
-pub returns : goal.returns
-returns c = one_cut

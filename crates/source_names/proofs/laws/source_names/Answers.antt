@@ -1,5 +1,0 @@
-use Rattle.source_names.proofs.Naming.{text_names}
-use Rattle.source_names.proofs.laws.source_names.Goals as goal
-
-pub returns : goal.returns
-returns c = text_names

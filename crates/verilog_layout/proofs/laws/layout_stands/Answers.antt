@@ -1,8 +1,0 @@
-use Rattle.verilog_layout.proofs.Standing.{layout_is_module}
-use Rattle.verilog_layout.proofs.laws.layout_stands.Goals as goal
-
-pub returns : goal.returns
-returns c = record {
-  stands = layout_is_module;
-  only = λ m n text printable is other. c.one_module.ensures.one text.items n m other (layout_is_module m text printable is);
-}

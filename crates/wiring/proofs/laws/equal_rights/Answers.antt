@@ -1,5 +1,0 @@
-use Rattle.wiring.proofs.Same.{same_right}
-use Rattle.wiring.proofs.laws.equal_rights.Goals as goal
-
-pub returns : goal.returns
-returns c a b h = same_right a b h

@@ -1,5 +1,0 @@
-use Rattle.wiring.proofs.Counts.{same_count}
-use Rattle.wiring.proofs.laws.one_count.Goals as goal
-
-pub returns : goal.returns
-returns c m a b x y = same_count m a b x y

@@ -1,5 +1,0 @@
-use Rattle.wiring.proofs.Next.{has_one_next}
-use Rattle.wiring.proofs.laws.one_next.Goals as goal
-
-pub returns : goal.returns
-returns c m rules = has_one_next m rules
