@@ -53,7 +53,7 @@ CHAPTERS = [
             ["StandsFor", "verilog_layout.Layout.layout", "names_for", "verilog_text.Faults.IsFault"]),
     Chapter("files", "The frame of the outside",
             "Which files a command asks for, creates and leaves unchanged, and what it writes to standard error.",
-            ["OnFiles", "HasCauseIn", "Rose", "IsFresh", "AsksOnly", "AsksWhere", "CreatesNothing", "CreatesOut", "FilesStay", "GainsLine", "WritesNothing", "IsOrMemory"]),
+            ["OnCommand", "OnFiles", "UnlessFailed", "HasCauseIn", "Rose", "IsFresh", "AsksOnly", "AsksWhere", "CreatesNothing", "CreatesOut", "FilesStay", "GainsLine", "WritesNothing", "IsOrMemory"]),
     Chapter("eval-compile-make", "`eval`, `compile` and `make`",
             "How these three commands end, and what they write.",
             ["IsAnswer", "IsHeldOf", "IsProgramAnswer", "HoldsText", "IsMadeLine", "NotesMade"]),

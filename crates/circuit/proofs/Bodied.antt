@@ -1,5 +1,5 @@
 -- From the nets of a body's leaves to the net of the image.
-use Rattle.std.proofs.Common.{◌≡◌, ℕ, zero, suc, ◌+◌, ◌-◌, ◌^◌, ◌<◌, ◌==◌, nat_lt, Bool, true, false, List, [], ◌∷◌, length, Some, refl, sym, ap, subst, ◌∙◌, inl, inr, arith, cond}
+use Rattle.std.proofs.Common.{◌≡◌, ℕ, zero, suc, ◌+◌, ◌-◌, ◌^◌, ◌<◌, ◌==◌, nat_lt, Bool, true, false, List, [], ◌∷◌, length, Some, refl, sym, ap, subst, ◌∙◌, arith, cond}
 use Rattle.std.specs.Prelude.{ℤ, pos, ◌-ℤ◌, IsTrue, Contains, filter, slice_get, slice_index_or, if◌then◌else◌}
 use Rattle.std.proofs.Math.Pow.{pow_pos}
 use Rattle.std.proofs.lemmas.Bool.Decides.{nat_tests}
@@ -22,7 +22,7 @@ use Rattle.wiring.specs.History.{counted}
 use Rattle.pointwise_ir.specs.Programs.{Program, IsProgram, IsBody, types_of}
 use Rattle.pointwise_ir.specs.Meaning.{pictures, value, IsRound, IsPicture}
 use Rattle.pointwise_ir.specs.Reads.{IsLive, Kept}
-use Rattle.pointwise_ir.specs.Stencils.{Has, IsThe, AreStencilsOf}
+use Rattle.pointwise_ir.specs.Stencils.{the, AreStencilsOf}
 use Rattle.pointwise_ir.specs.Trees.{Tree}
 use Rattle.pointwise_ir.proofs.Defined.{types_are}
 use Rattle.edge_select.specs.declared.step.Step.{Step}
@@ -93,13 +93,6 @@ read_of plan f r has =
 pub read_is_between : (plan : Plan) → IsPlan plan → (r : LiveRead) → Contains plan.system.stencils.reads r → IsRead plan.system.stencils.width plan.system.stencils.height plan.system.stencils.inputs plan.system.stencils.images r
 read_is_between plan is r (k, lt, e) = subst (IsRead plan.system.stencils.width plan.system.stencils.height plan.system.stencils.inputs plan.system.stencils.images) e (is.system.stencils.reads.between k r lt)
 
-has_entry : (reads : List LiveRead) (f g : ℕ) (dx dy : ℤ) → Has reads f g dx dy → (r : LiveRead) × Contains reads r × IsThe r f g dx dy
-has_entry [] f g dx dy h = absurd h
-has_entry (r ∷ rs) f g dx dy (inl is) = (r, (0, omega arith, refl), is)
-has_entry (r ∷ rs) f g dx dy (inr rest) =
-    let (q, (k, lt, e), is) = has_entry rs f g dx dy rest in
-    (q, (suc k, (let h : suc k < length (r ∷ rs) = omega (arith, lt) in h), e), is)
-
 pub size_is : (p : Program) (plan : Plan) → AreStencilsOf p plan.system.stencils → size_in plan ≡ p.size
 size_is p plan are = ap (λ (w : ℕ). record { width = w; height = plan.system.stencils.height }) are.width ∙ ap (λ (h : ℕ). record { width = p.size.width; height = h }) are.height
 
@@ -113,8 +106,8 @@ kept_is p plan g are kept =
 -- where a leaf's steps lead the read is live, so the plan has it
 live_read : (p : Program) (plan : Plan) (f g : ℕ) (dx dy : ℤ) → AreStencilsOf p plan.system.stencils → Keeps plan f → IsLive p f g dx dy → (r : LiveRead) × Contains (reads_in plan f) r × (r.g ≡ g) × (r.dx ≡ dx) × (r.dy ≡ dy)
 live_read p plan f g dx dy are kept live =
-    let (r, has, is) = has_entry plan.system.stencils.reads f g dx dy ((are.reads.exact f g dx dy).1 (record { kept = kept_is p plan f are kept; live = live })) in
-    (r, passing_in (λ (q : LiveRead). q.f == f) plan.system.stencils.reads r has (same r.f f is.reader), is.source, is.across, is.down)
+    let has = (are.reads.exact f g dx dy).1 (record { kept = kept_is p plan f are kept; live = live }) in
+    (the f g dx dy, passing_in (λ (q : LiveRead). q.f == f) plan.system.stencils.reads (the f g dx dy) has (same f f refl), refl, refl, refl)
   where
     same : (a b : ℕ) → a ≡ b → (a == b) ≡ true
     same a b h = grind (arith, nat_tests, h)

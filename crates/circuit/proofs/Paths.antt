@@ -15,6 +15,7 @@ use Rattle.edge_select.specs.Steps.{Lead, LeadOn}
 use Rattle.circuit.specs.Leaves.{LeafRead, with_step, reads_of, own_bit, bits_of, ReadIsRight, BitIsRight}
 use Rattle.datapath.specs.Meant.{AreRight, SaysInside}
 use Rattle.net_build.proofs.Clocks.{bool_cases, never}
+use Rattle.frame_steps.proofs.Unclamped.{ends_here, is_inside}
 use Rattle.edge_select.proofs.Stepping.{lead_one, lead_then, lead_parts}
 
 -- one step more
@@ -82,7 +83,7 @@ module _ (size : Size) (known : List Picture) (px py : ℕ) (reads : ℕ → ℤ
   read_is Zero g dx dy path u v w at is =
       elim (bool_cases (in_frame size (u +ℤ dx) (v +ℤ dy))) as (λ _. w ≡ (if in_frame size (u +ℤ dx) (v +ℤ dy) then picture_at known g (u +ℤ dx) (v +ℤ dy) else pos 0)) [
         | inl inside ↦
-            is.led (u +ℤ dx) (v +ℤ dy) (lead_push size path Zero dx dy x y u v (u +ℤ dx) (v +ℤ dy) at (refl, refl, is_true inside))
+            is.led (u +ℤ dx) (v +ℤ dy) (lead_push size path Zero dx dy x y u v (u +ℤ dx) (v +ℤ dy) at (ends_here size (u +ℤ dx) (v +ℤ dy) (is_true inside)))
             ∙ sym (ap (λ (h : Bool). if h then picture_at known g (u +ℤ dx) (v +ℤ dy) else pos 0) inside)
         | inr out ↦
             is.none (λ led. never (subst IsTrue out (there (lead_last size path Zero dx dy x y led.0 led.1 led.2))))
@@ -93,13 +94,13 @@ module _ (size : Size) (known : List Picture) (px py : ℕ) (reads : ℕ → ℤ
       is_true e = e
 
       there : {a b : ℤ} → ((i : ℤ) × (j : ℤ) × Lead size path x y i j × EndsAt size Zero (i +ℤ dx) (j +ℤ dy) a b) → IsTrue (in_frame size (u +ℤ dx) (v +ℤ dy))
-      there (i, j, lead, ends) =
+      there {a} {b} (i, j, lead, ends) =
           let e = lead_one size path x y i j u v lead at in
-          subst (λ (p : ℤ). IsTrue (in_frame size (p +ℤ dx) (v +ℤ dy))) e.0 (subst (λ (q : ℤ). IsTrue (in_frame size (i +ℤ dx) (q +ℤ dy))) e.1 ends.2)
+          subst (λ (p : ℤ). IsTrue (in_frame size (p +ℤ dx) (v +ℤ dy))) e.0 (subst (λ (q : ℤ). IsTrue (in_frame size (i +ℤ dx) (q +ℤ dy))) e.1 (is_inside size (i +ℤ dx) (j +ℤ dy) a b ends))
 
   -- the bit of a shifted part
   bit_is : (dx dy : ℤ) (path : List Step) (u v : ℤ) (bit : Bool) → Lead size path x y u v → BitIsRight size px py (with_step path Zero dx dy) bit → bit ≡ in_frame size (u +ℤ dx) (v +ℤ dy)
-  bit_is dx dy path u v bit at is = same bit (in_frame size (u +ℤ dx) (v +ℤ dy)) (λ on. there (is.no on)) (λ inside. is.yes (u +ℤ dx, v +ℤ dy, lead_push size path Zero dx dy x y u v (u +ℤ dx) (v +ℤ dy) at (refl, refl, inside)))
+  bit_is dx dy path u v bit at is = same bit (in_frame size (u +ℤ dx) (v +ℤ dy)) (λ on. there (is.no on)) (λ inside. is.yes (u +ℤ dx, v +ℤ dy, lead_push size path Zero dx dy x y u v (u +ℤ dx) (v +ℤ dy) at (ends_here size (u +ℤ dx) (v +ℤ dy) inside)))
     where
       same : (p q : Bool) → (IsTrue p → IsTrue q) → (IsTrue q → IsTrue p) → p ≡ q
       same true true f g = refl
@@ -111,7 +112,7 @@ module _ (size : Size) (known : List Picture) (px py : ℕ) (reads : ℕ → ℤ
       there (a, b, led) =
           let r = lead_last size path Zero dx dy x y a b led in
           let e = lead_one size path x y r.0 r.1 u v r.2 at in
-          subst (λ (p : ℤ). IsTrue (in_frame size (p +ℤ dx) (v +ℤ dy))) e.0 (subst (λ (q : ℤ). IsTrue (in_frame size (r.0 +ℤ dx) (q +ℤ dy))) e.1 r.3.2)
+          subst (λ (p : ℤ). IsTrue (in_frame size (p +ℤ dx) (v +ℤ dy))) e.0 (subst (λ (q : ℤ). IsTrue (in_frame size (r.0 +ℤ dx) (q +ℤ dy))) e.1 (is_inside size (r.0 +ℤ dx) (r.1 +ℤ dy) a b r.3))
 
   own_bit_is : (edge : Edge) (dx dy : ℤ) (path : List Step) (u v : ℤ) (k : ℕ) → Lead size path x y u v → BitsRight (own_bit edge (with_step path edge dx dy)) k → SaysInside size edge (u +ℤ dx) (v +ℤ dy) (bits k)
   own_bit_is Zero dx dy path u v k at bs = bit_is dx dy path u v (bits k) at (subst (λ (j : ℕ). BitIsRight size px py (with_step path Zero dx dy) (bits j)) (let e : k + 0 ≡ k = omega arith in e) (bs 0 (with_step path Zero dx dy) refl))

@@ -9,12 +9,13 @@ use Rattle.pointwise_ir.specs.Trees.{Tree, constant, read, shifted, unary, binar
 use Rattle.pointwise_ir.specs.Meaning.{value}
 use Rattle.pointwise_ir.specs.Meaning as meant
 use Rattle.pointwise_ir.specs.Reads.{EndsAt}
+use Rattle.frame_steps.proofs.Unclamped.{ends_here}
 use Rattle.datapath.specs.Expressions.{leaf_value, edged, edge_bits, reads_in, bits_in}
 use Rattle.datapath.specs.Meant.{SaysInside, AreRight}
 
 -- a shifted part
 step_is : (size : Size) (edge : Edge) (picture : Picture) (x y v : ℤ) (bit : Bool) → SaysInside size edge x y bit → ((u w : ℤ) → EndsAt size edge x y u w → v ≡ picture u w) → edged edge bit v ≡ meant.edged size edge picture x y
-step_is size Zero picture x y v bit says at = ap (λ (b : Bool). if b then v else pos 0) says ∙ by (in_frame size x y) (λ inside. at x y (refl, refl, inside))
+step_is size Zero picture x y v bit says at = ap (λ (b : Bool). if b then v else pos 0) says ∙ by (in_frame size x y) (λ inside. at x y (ends_here size x y inside))
   where
     by : (b : Bool) → (IsTrue b → v ≡ picture x y) → (if b then v else pos 0) ≡ (if b then picture x y else pos 0)
     by true h = h refl

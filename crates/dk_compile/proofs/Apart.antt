@@ -12,8 +12,8 @@ use Rattle.dk_types.specs.Typed.{Typing}
 use Rattle.dk_types.specs.Types.{IsTyping}
 use Rattle.dk_types.specs.Faults.{IsFirstFault}
 use Rattle.dk_inline.specs.Answers.{IsWithin}
-use Rattle.dk_compile.specs.declared.fault.SourceFault.{SourceFault}
-use Rattle.dk_compile.specs.declared.fault.SourceFault.TheVariants.{TooLong, Lex, Nest, Syntax, Depth, Types, Nodes, InlineDepth, Reads, Bits, Latency}
+use Rattle.source_fault.specs.declared.fault.SourceFault.{SourceFault}
+use Rattle.source_fault.specs.declared.fault.SourceFault.TheVariants.{TooLong, Lex, Nest, Syntax, Depth, Types, Nodes, InlineDepth, Reads, Bits, Latency}
 use Rattle.dk_compile.specs.Sources.{IsCut, IsText, IsAccepted, HasTooMany, IsSourceFault}
 use Rattle.dk_compile.proofs.Once.{tree_one, text_one}
 use Rattle.dk_compile.proofs.Counts.{few_not_many}

@@ -9,8 +9,8 @@ use Rattle.buffer_plan.specs.Plans.{Plan}
 use Rattle.buffer_plan.specs.declared.fault.PlanFault.{PlanFault}
 use Rattle.buffer_plan.specs.declared.fault.PlanFault.TheVariants as plan
 use Rattle.buffer_plan.specs.Limits.{IsWithinLimits, KeepsLimits, IsPlanFault}
-use Rattle.dk_compile.specs.declared.fault.SourceFault.{SourceFault}
-use Rattle.dk_compile.specs.declared.fault.SourceFault.TheVariants.{TooLong, Lex, Nest, Syntax, Depth, Types, Nodes, InlineDepth, Reads, Bits, Latency}
+use Rattle.source_fault.specs.declared.fault.SourceFault.{SourceFault}
+use Rattle.source_fault.specs.declared.fault.SourceFault.TheVariants.{TooLong, Lex, Nest, Syntax, Depth, Types, Nodes, InlineDepth, Reads, Bits, Latency}
 use Rattle.dk_compile.specs.declared.fault.SourceError.{SourceError}
 use Rattle.dk_compile.specs.declared.fault.SourceError.TheVariants.{Fault, OutOfMemory}
 use Rattle.dk_compile.specs.Sources.{IsAccepted, IsSourceFault, IsErrorBy}
@@ -51,7 +51,7 @@ limit_fault text age p ir s (plan.Bits n) has is = record { program = p; ir = ir
 limit_fault text age p ir s (plan.Latency n) has is = record { program = p; ir = ir; system = s; has = has; passes = is }
 limit_fault text age p ir s plan.OutOfMemory has is = tt
 
--- a limit that is exceeded, and the fault that reports it
+-- the first limit exceeded, and its fault
 record Told (text : List ℕ) (age : ℕ) (f : SourceFault) : Type 0 where
   fault : PlanFault
   passes : PassesLimit text age fault

@@ -1,36 +1,25 @@
 -- The live reads of a program are those of any of its forms, and one list in order.
-use Rattle.std.proofs.Common.{◌≡◌, ℕ, zero, suc, ◌≤◌, ◌<◌, ℤ, inl, inr, List, [], ◌∷◌, length, refl, sym, ap, ◌∙◌, arith}
+use Rattle.std.proofs.Common.{◌≡◌, ℕ, ◌≤◌, ◌<◌, inl, inr, List, length, refl, sym, ap, ◌∙◌, arith}
 use Rattle.std.specs.Prelude.{Contains}
 use Rattle.dk_base.specs.declared.stencils.LiveRead.{LiveRead}
 use Rattle.dk_base.specs.Stencils.{Stencils}
 use Rattle.dk_types.specs.Typed.{Typing}
 use Rattle.pointwise_ir.specs.Programs.{Program}
-use Rattle.pointwise_ir.specs.Stencils.{Has, the, AreReads, AreStencilsOf}
+use Rattle.pointwise_ir.specs.Stencils.{AreReads, AreStencilsOf}
 use Rattle.stencil_sets.specs.Live.{HasCount}
 use Rattle.pointwise_ir.specs.Stencils as S
 use Rattle.stencil_sets.specs.Faults as F
 use Rattle.stencil_sets.specs.declared.live.StencilFault.{StencilFault}
 use Rattle.stencil_sets.specs.declared.live.StencilFault.TheVariants as stencils
-use Rattle.pointwise_ir.proofs.ReadLists.{the_is, no_longer, same_list}
+use Rattle.pointwise_ir.proofs.ReadLists.{no_longer, same_list}
 use Rattle.dk_inline.specs.Answers.{IsWithin}
 use Rattle.dk_compile.specs.Faults.{of_stencils}
 use Rattle.dk_compile.specs.Sources.{IsText, IsKeptRead, AreReadsOf, IsAccepted, HasReads, HasManyReads, HasTooMany, IsSourceFault, IsErrorBy}
 use Rattle.dk_compile.specs.Fronts.{IsForm, IsFront}
 
--- the two ways to say that a read is one of some
-has_of : (xs : List LiveRead) (r : LiveRead) → Contains xs r → Has xs r.f r.g r.dx r.dy
-has_of [] r (k, lt, is) = absurd (omega (arith, lt))
-has_of (x ∷ xs) r (zero, lt, is) = inl (record { reader = ap (λ (a : LiveRead). a.f) is; source = ap (λ (a : LiveRead). a.g) is; across = ap (λ (a : LiveRead). a.dx) is; down = ap (λ (a : LiveRead). a.dy) is })
-has_of (x ∷ xs) r (suc k, lt, is) = inr (has_of xs r (k, (let less : k < length xs = omega (arith, lt) in less), is))
-
-of_has : (xs : List LiveRead) (r : LiveRead) → Has xs r.f r.g r.dx r.dy → Contains xs r
-of_has [] r h = absurd h
-of_has (x ∷ xs) r (inl k) = (zero, (let some : 0 < length (x ∷ xs) = omega arith in some), the_is x r.f r.g r.dx r.dy k)
-of_has (x ∷ xs) r (inr h) = let (k, lt, is) = of_has xs r h in (suc k, (let more : suc k < length (x ∷ xs) = omega (arith, lt) in more), is)
-
 module _ (p : Typing) where
-  more_of : (a b : List LiveRead) → ((r : LiveRead) → Contains a r → IsKeptRead p r) → AreReadsOf p b → (f g : ℕ) (dx dy : ℤ) → Has a f g dx dy → Has b f g dx dy
-  more_of a b sound are f g dx dy h = has_of b (the f g dx dy) ((are.exact (the f g dx dy)).1 (sound (the f g dx dy) (of_has a (the f g dx dy) h)))
+  more_of : (a b : List LiveRead) → ((r : LiveRead) → Contains a r → IsKeptRead p r) → AreReadsOf p b → (r : LiveRead) → Contains a r → Contains b r
+  more_of a b sound are r h = (are.exact r).1 (sound r h)
 
   one_list : (a b : List LiveRead) → AreReadsOf p a → AreReadsOf p b → a ≡ b
   one_list a b x y = same_list a b x.in_order y.in_order (more_of a b (λ r. (x.exact r).0) y) (more_of b a (λ r. (y.exact r).0) x)
@@ -43,7 +32,7 @@ module _ (p : Typing) where
       let g = b.many in
       omega (arith, l, c, f, g)
 
-  -- this many reads at most
+  -- one count of too many reads
   pub too_many_once : (m n : ℕ) → HasTooMany p m → HasTooMany p n → m ≡ n
   too_many_once m n a b = elim a.counted [
     | inl x ↦ elim b.counted [
@@ -75,7 +64,7 @@ module _ (p : Typing) where
     pub reads_of : (reads : List LiveRead) → AreReads ir reads → AreReadsOf p reads
     reads_of reads are = record {
       in_order = are.in_order;
-      exact = λ r. (λ h. of_form r ((are.exact r.f r.g r.dx r.dy).0 (has_of reads r h)), λ h. of_has reads r ((are.exact r.f r.g r.dx r.dy).1 (to_form r h)));
+      exact = λ r. (λ h. of_form r ((are.exact r.f r.g r.dx r.dy).0 h), λ h. (are.exact r.f r.g r.dx r.dy).1 (to_form r h));
     }
 
     pub same_reads : (s : Stencils) (reads : List LiveRead) → AreStencilsOf ir s → AreReadsOf p reads → s.reads ≡ reads
@@ -89,7 +78,7 @@ module _ (p : Typing) where
         | inr many ↦ inr (record {
           reads = many.reads;
           in_order = many.some.in_order;
-          sound = λ r h. of_form r (many.some.sound r.f r.g r.dx r.dy (has_of many.reads r h));
+          sound = λ r h. of_form r (many.some.sound r.f r.g r.dx r.dy h);
           many = many.many;
           count_is = many.count_is;
         })

@@ -5,7 +5,8 @@ use Rattle.std.proofs.lemmas.Bool.{cases_lt}
 use Rattle.std.proofs.lemmas.Int.{ints}
 use Rattle.std.proofs.lemmas.Option.{slice_get_within}
 use Rattle.dk_base.specs.declared.ty.Ty.{Ty}
-use Rattle.dk_base.specs.Frames.{Size, in_frame, clamped}
+use Rattle.dk_base.specs.Frames.{Size, in_frame, is_below, clamped}
+use Rattle.frame_steps.proofs.Unclamped.{ends_here, is_inside}
 use Rattle.dk_base.specs.Stencils.{IsOffset}
 use Rattle.dk_base.proofs.Rasters.{below_is, inside_is, inside}
 use Rattle.dk_types.specs.Typed.{Definition, Typing, image_type, input_types}
@@ -26,14 +27,14 @@ use Rattle.stencil_sets.proofs.Stenciled.{in_frame_is, read_inside, offset_insid
 use Rattle.dk_compile.proofs.Searches.{Settled, both, all_three, one_of, settled_as, same_number, same_integer, is_so, some_below}
 
 ends_or_not : (size : Size) (edge : Edge) (x y u v : ℤ) → Settled (EndsAt size edge x y u v)
-ends_or_not size Zero x y u v = all_three (same_integer u x) (same_integer v y) (is_so (in_frame size x y))
+ends_or_not size Zero x y u v = both (both (same_integer u x) (is_so (is_below x size.width))) (both (same_integer v y) (is_so (is_below y size.height)))
 ends_or_not size Clamp x y u v = both (same_integer u (clamped size.width x)) (same_integer v (clamped size.height y))
 
 -- after a step, which ends at one point at most
 stepped_or_not : (size : Size) (edge : Edge) (a : Tree) (x y : ℤ) (g : ℕ) (u v : ℤ) → ((w z : ℤ) → Settled (Reads size a w z g u v)) → Settled ((w : ℤ) × (z : ℤ) × EndsAt size edge x y w z × Reads size a w z g u v)
 stepped_or_not size Zero a x y g u v settled =
-    settled_as (λ h. (x, y, (refl, refl, h.0), h.1))
-    (λ h. (h.2.2, let P : ℤ → Type 0 = λ w. Reads size a w h.1 g u v in let Q : ℤ → Type 0 = λ z. Reads size a x z g u v in subst Q h.2.1 (subst P h.2.0 h.3)))
+    settled_as (λ h. (x, y, ends_here size x y h.0, h.1))
+    (λ h. (is_inside size x y h.0 h.1 h.2, let P : ℤ → Type 0 = λ w. Reads size a w h.1 g u v in let Q : ℤ → Type 0 = λ z. Reads size a x z g u v in subst Q h.2.1.0 (subst P h.2.0.0 h.3)))
     (both (is_so (in_frame size x y)) (settled x y))
 stepped_or_not size Clamp a x y g u v settled =
     settled_as (λ h. (clamped size.width x, clamped size.height y, (refl, refl), h))

@@ -1,9 +1,8 @@
 -- The numbers of a text's program are those of its tokens.
-use Rattle.std.proofs.Common.{◌≡◌, ℕ, ◌<◌, ◌^◌, List, [], ◌∷◌, ◌++◌, take, Option, Some, None, Ok, Err, Bool, true, false, nat_eq, nat_lt, if◌then◌else◌, refl, subst, arith}
+use Rattle.std.proofs.Common.{◌≡◌, ℕ, ◌<◌, ◌^◌, List, [], ◌∷◌, ◌++◌, take, Option, Some, None, Ok, Err, Bool, true, false, nat_lt, if◌then◌else◌, refl, subst, arith}
 use Rattle.std.specs.List.{All, AllByRecursion, prefix_len}
 use Rattle.std.proofs.lemmas.List.Elements.{All-from_recursion}
 use Rattle.dk_base.specs.declared.ty.Ty.{Ty}
-use Rattle.dk_base.specs.declared.ty.Ty.TheVariants.{Unsigned, Signed}
 use Rattle.dk_base.specs.declared.span.Span.{Span}
 use Rattle.dk_lexer.specs.declared.token.Token.{Token}
 use Rattle.dk_lexer.specs.declared.token.TokenKind.{TokenKind}
@@ -15,8 +14,8 @@ use Rattle.dk_lexer.specs.declared.fault.LexKind.TheVariants.{NumberTooGreat}
 use Rattle.dk_base.specs.declared.TheConstants.{MAX_NAME_BYTES}
 use Rattle.dk_base.specs.Ascii.{is_letter, is_digit, is_word_byte, value_of}
 use Rattle.dk_grammar.specs.Reading.{Phrases, Clear, Many, none as nothing, more as another}
-use Rattle.dk_parser.specs.declared.terminal.Keyword.{Keyword}
-use Rattle.dk_parser.specs.declared.terminal.Keyword.TheVariants as word
+use Rattle.source_words.specs.declared.word.Keyword.{Keyword}
+use Rattle.source_words.specs.declared.word.Keyword.TheVariants as word
 use Rattle.dk_parser.specs.declared.terminal.Mark.TheVariants as mark
 use Rattle.dk_parser.specs.declared.terminal.Terminal.{Terminal}
 use Rattle.dk_parser.specs.declared.terminal.Terminal.TheVariants.{Keyword as Keyword', Symbol as Symbol', Number as Number', TypeWord as Type'}
@@ -25,7 +24,8 @@ use Rattle.dk_parser.specs.declared.tree.Start.TheVariants.{Constant}
 use Rattle.dk_parser.specs.declared.tree.Step.{Step}
 use Rattle.dk_parser.specs.declared.tree.Input.{Input}
 use Rattle.dk_parser.specs.Tree.{Tree, number, read, unary, binary, scale, cast, sat, select, span_of, at_span}
-use Rattle.dk_parser.specs.Terminals.{terminal, terminal_of, keyword_or, reserved, type_or_name, typed, width_of, same_codes}
+use Rattle.dk_parser.specs.Terminals.{terminal, terminal_of, word_terminal}
+use Rattle.source_words.specs.Words.{keyword_of, type_of_word}
 use Rattle.dk_parser.specs.Words.{over}
 use Rattle.dk_parser.specs.Reads.{plain as unclamped', clamped}
 use Rattle.dk_parser.specs.Grammar.{Tokens, Form, steps, Phrase, single, compared, prefixed, plain, chain, done, operand, suffixed, suffix, scaled, converted, closed, reading, constant, bracket, pair, absolute, saturate, choice, start}
@@ -46,22 +46,11 @@ abbrev pub AreSmall : Tokens → Type 0
 AreSmall [] = Unit {0}
 AreSmall (t ∷ ts) = IsSmall (terminal t) × AreSmall ts
 
--- Words are no numbers.
-picked : (b : Bool) (k l : Terminal) → IsSmall k → IsSmall l → IsSmall (if b then k else l)
-picked true k l p q = p
-picked false k l p q = q
-
-typed_small : (f : ℕ → Ty) (o : Option ℕ) → IsSmall (typed f o)
-typed_small f None = tt
-typed_small f (Some n) = tt
-
-name_small : (bytes : List ℕ) → IsSmall (type_or_name bytes)
-name_small [] = tt
-name_small (c ∷ ds) = picked (nat_eq c 117) _ _ (typed_small Unsigned (width_of ds)) (picked (nat_eq c 115) _ _ (typed_small Signed (width_of ds)) tt)
-
-keyword_small : (bytes : List ℕ) (ws : List (List ℕ × Keyword)) (other : Terminal) → IsSmall other → IsSmall (keyword_or bytes ws other)
-keyword_small bytes [] other s = s
-keyword_small bytes (w ∷ ws) other s = picked (same_codes bytes w.0) _ _ tt (keyword_small bytes ws other s)
+-- Words are not numbers.
+word_small : (k : Option Keyword) (t : Option Ty) → IsSmall (word_terminal k t)
+word_small (Some k) t = tt
+word_small None (Some t) = tt
+word_small None None = tt
 
 -- The lexer's numbers.
 abbrev Fits : TokenKind → Type 0
@@ -70,7 +59,7 @@ Fits _ = Unit {0}
 
 kind_small : (k : TokenKind) → Fits k → IsSmall (terminal_of k)
 unfolding terminal_of
-kind_small (Word t) f = keyword_small t reserved (type_or_name t) (name_small t)
+kind_small (Word t) f = word_small (keyword_of t) (type_of_word t)
 kind_small (Number v) f = f
 kind_small (Symbol s) f = tt
 kind_small End f = tt

@@ -11,7 +11,8 @@ use Rattle.dk_lexer.specs.Lexis.{HasTokens, HasFault}
 use Rattle.dk_lexer.specs.Faithful.{IsFaithful, IsEnded}
 use Rattle.dk_parser.specs.declared.whole.ParseError.{ParseError}
 use Rattle.dk_parser.specs.declared.whole.ParseError.TheVariants as parser
-use Rattle.dk_parser.specs.Programs.{Source}
+use Rattle.dk_parser.specs.Programs.{Source, AllConvertToTypes}
+use Rattle.dk_parser.proofs.Conversions.{program_types}
 use Rattle.dk_parser.specs.Programs as P
 use Rattle.dk_parser.specs.Judged.{Accepted, Faults}
 use Rattle.dk_types.specs.declared.fault.TypeFault.{TypeFault}
@@ -23,8 +24,8 @@ use Rattle.pointwise_ir.specs.Trees.{depth_of}
 use Rattle.dk_inline.specs.Inlined.{inlined_body, substitutes, stays}
 use Rattle.dk_inline.specs.Nodes.{node_count, IsDeep, IsFirstDeep}
 use Rattle.dk_inline.specs.Answers.{IsWithin}
-use Rattle.dk_compile.specs.declared.fault.SourceFault.{SourceFault}
-use Rattle.dk_compile.specs.declared.fault.SourceFault.TheVariants.{TooLong, Lex, Nest, Syntax, Depth, Types, Nodes, InlineDepth, Reads}
+use Rattle.source_fault.specs.declared.fault.SourceFault.{SourceFault}
+use Rattle.source_fault.specs.declared.fault.SourceFault.TheVariants.{TooLong, Lex, Nest, Syntax, Depth, Types, Nodes, InlineDepth, Reads}
 use Rattle.dk_compile.specs.Sources.{IsCut, HasTree, IsText, IsAccepted, IsSourceFault}
 use Rattle.dk_compile.proofs.Numbers.{lexed_small, program_numbers}
 use Rattle.dk_compile.proofs.Listed.{listed}
@@ -100,7 +101,7 @@ parse_fault text tokens cut parser.OutOfMemory is some = absurd (some refl)
 module _ (lex_some : (text : List ℕ) → ((tokens : List Token) × HasTokens text tokens) ⊎ ((fault : LexFault) × HasFault text fault))
     (faithful : (text : List ℕ) (tokens : List Token) → HasTokens text tokens → IsFaithful text tokens)
     (parse_some : (ts : List Token) → IsEnded ts → ((p : Source) × Accepted ts p) ⊎ ((f : ParseError) × Faults ts f × (f ≢ parser.OutOfMemory)))
-    (type_some : (p : Source) → All (λ (d : P.Definition). HasNumbers d.body) p.definitions → ((t : Typing) × IsTyping p t) ⊎ ((f : TypeFault) × IsFirstFault p f)) where
+    (type_some : (p : Source) → All (λ (d : P.Definition). HasNumbers d.body) p.definitions → AllConvertToTypes p → ((t : Typing) × IsTyping p t) ⊎ ((f : TypeFault) × IsFirstFault p f)) where
   -- a text that is not too long
   judged_within : (text : List ℕ) → length text ≤ MAX_SOURCE_BYTES → Judged text
   judged_within text within = elim (lex_some text) [
@@ -111,7 +112,7 @@ module _ (lex_some : (text : List ℕ) → ((tokens : List Token) × HasTokens t
           | inr bad ↦ parse_fault text lexed.0 cut bad.0 bad.1 bad.2
           | inl parsed ↦
               let has : HasTree text parsed.0 = record { tokens = lexed.0; cut = cut; parsed = parsed.1 } in
-              elim (type_some parsed.0 (program_numbers lexed.0 parsed.0 parsed.1.derives (lexed_small lexed.1))) [
+              elim (type_some parsed.0 (program_numbers lexed.0 parsed.0 parsed.1.derives (lexed_small lexed.1)) (program_types lexed.0 parsed.0 parsed.1.derives)) [
                 | inr bad ↦ inr (Types bad.0, (parsed.0, has, bad.1))
                 | inl typed ↦ sized text typed.0 (record { tree = parsed.0; parsed = has; typed = typed.1 })
               ]

@@ -11,7 +11,7 @@ use Rattle.stencil_sets.specs.declared.live.StencilFault.{StencilFault}
 use Rattle.stencil_sets.specs.declared.live.StencilFault.TheVariants as stencils
 use Rattle.buffer_plan.specs.declared.fault.PlanFault.{PlanFault}
 use Rattle.buffer_plan.specs.declared.fault.PlanFault.TheVariants as plan
-use Rattle.dk_compile.specs.declared.fault.SourceFault.TheVariants.{Lex, Nest, Syntax, Depth, Types, Nodes, InlineDepth, Reads, Bits, Latency}
+use Rattle.source_fault.specs.declared.fault.SourceFault.TheVariants.{Lex, Nest, Syntax, Depth, Types, Nodes, InlineDepth, Reads, Bits, Latency}
 use Rattle.dk_compile.specs.declared.fault.SourceError.{SourceError}
 use Rattle.dk_compile.specs.declared.fault.SourceError.TheVariants.{Fault, OutOfMemory}
 

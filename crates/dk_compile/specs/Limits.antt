@@ -1,4 +1,4 @@
--- Texts at an age that is asked of their live reads: their systems, and the limits on bits and latency.
+-- Texts at a requested age of their live reads: their systems, and the limits on bits and latency.
 use Rattle.std.specs.Prelude.{◌≡◌, ℕ, List}
 use Rattle.dk_types.specs.Typed.{Typing}
 use Rattle.pointwise_ir.specs.Programs.{Program}
@@ -6,8 +6,8 @@ use Rattle.raster_delay.specs.Systems.{System}
 use Rattle.buffer_plan.specs.declared.fault.PlanFault.{PlanFault}
 use Rattle.buffer_plan.specs.declared.fault.PlanFault.TheVariants as plan
 use Rattle.buffer_plan.specs.Limits.{KeepsLimits, IsPassed}
-use Rattle.dk_compile.specs.declared.fault.SourceFault.{SourceFault}
-use Rattle.dk_compile.specs.declared.fault.SourceFault.TheVariants.{Bits, Latency}
+use Rattle.source_fault.specs.declared.fault.SourceFault.{SourceFault}
+use Rattle.source_fault.specs.declared.fault.SourceFault.TheVariants.{Bits, Latency}
 use Rattle.dk_compile.specs.Sources.{IsAccepted, IsSourceFault}
 use Rattle.dk_compile.specs.Fronts.{IsFront}
 
@@ -24,7 +24,7 @@ pub record IsAcceptedAt (text : List ℕ) (age : ℕ) (p : Typing) : Type 0 wher
   pub has : HasSystem text age p ir system
   pub keeps : KeepsLimits system
 
--- the text is accepted, and this is the limit that its least vector at this age passes first
+-- the text is accepted, and this is the first limit that its least vector at this age exceeds
 pub record PassesLimit (text : List ℕ) (age : ℕ) (fault : PlanFault) : Type 0 where
   pub program : Typing
   pub ir : Program

@@ -1,4 +1,4 @@
--- Texts as programs within the limits, and the first fault of those that are none.
+-- Texts as programs within the limits, and the first fault of the other texts.
 use Rattle.std.specs.Prelude.{◌≡◌, ◌⊎◌, ◌↔◌, ⊤, ℕ, ◌+◌, ◌<◌, ◌≤◌, List, length, Contains}
 use Rattle.dk_base.specs.declared.TheConstants.{MAX_SOURCE_BYTES, MAX_LIVE_READS, MAX_COUNTED_READS}
 use Rattle.dk_base.specs.declared.stencils.LiveRead.{LiveRead}
@@ -15,8 +15,8 @@ use Rattle.dk_types.specs.Reads.{IsLive, IsKept}
 use Rattle.dk_inline.specs.declared.inlining.InlineFault.TheVariants as inlining
 use Rattle.dk_inline.specs.Answers.{IsWithin}
 use Rattle.dk_inline.specs.Answers as I
-use Rattle.dk_compile.specs.declared.fault.SourceFault.{SourceFault}
-use Rattle.dk_compile.specs.declared.fault.SourceFault.TheVariants.{TooLong, Lex, Nest, Syntax, Depth, Types, Nodes, InlineDepth, Reads, Bits, Latency}
+use Rattle.source_fault.specs.declared.fault.SourceFault.{SourceFault}
+use Rattle.source_fault.specs.declared.fault.SourceFault.TheVariants.{TooLong, Lex, Nest, Syntax, Depth, Types, Nodes, InlineDepth, Reads, Bits, Latency}
 use Rattle.dk_compile.specs.declared.fault.SourceError.{SourceError}
 use Rattle.dk_compile.specs.declared.fault.SourceError.TheVariants.{Fault, OutOfMemory}
 
@@ -42,7 +42,7 @@ pub record IsKeptRead (p : Typing) (r : LiveRead) : Type 0 where
   pub kept : IsKept p r.f
   pub live : IsLive p r.f r.g r.dx r.dy
 
--- they are the live reads of the kept images, in order, so that none occurs twice
+-- they are the live reads of the kept images, in order, each once
 pub record AreReadsOf (p : Typing) (reads : List LiveRead) : Type 0 where
   pub in_order : AreInOrder reads
   pub exact : (r : LiveRead) → Contains reads r ↔ IsKeptRead p r
@@ -55,14 +55,14 @@ pub record IsAccepted (text : List ℕ) (p : Typing) : Type 0 where
   pub are_reads : AreReadsOf p reads
   pub few : length reads ≤ MAX_LIVE_READS
 
--- this many live reads of kept images, where they are at most MAX_COUNTED_READS
+-- the number of live reads of kept images, if it is at most MAX_COUNTED_READS
 pub record HasReads (p : Typing) (count : ℕ) : Type 0 where
   pub reads : List LiveRead
   pub are_reads : AreReadsOf p reads
   pub count_is : count ≡ length reads
   pub few : count ≤ MAX_COUNTED_READS
 
--- more of them, which count as one more than that
+-- the number of more live reads, which saturates at one more than that
 pub record HasManyReads (p : Typing) (count : ℕ) : Type 0 where
   pub reads : List LiveRead
   pub in_order : AreInOrder reads
@@ -70,12 +70,12 @@ pub record HasManyReads (p : Typing) (count : ℕ) : Type 0 where
   pub many : MAX_COUNTED_READS < length reads
   pub count_is : count ≡ MAX_COUNTED_READS + 1
 
--- this many live reads of kept images, which are too many
+-- the number of live reads of kept images, if it is above the limit
 pub record HasTooMany (p : Typing) (count : ℕ) : Type 0 where
   pub more : MAX_LIVE_READS < count
   pub counted : HasReads p count ⊎ HasManyReads p count
 
--- The first fault of a text: its length, tokens, brackets, grammar, depth, types, nodes, depth after inlining, live reads. Each is specified where all before it is in order. Bits and latency are not judged.
+-- The first fault of a text: its length, tokens, brackets, grammar, depth, types, nodes, depth after inlining, live reads. Each is reported if all before it is in order. Bits and latency are not judged.
 abbrev pub IsSourceFault : List ℕ → SourceFault → Type 0
 IsSourceFault text TooLong = MAX_SOURCE_BYTES < length text
 IsSourceFault text (Lex fault) = (length text ≤ MAX_SOURCE_BYTES) × HasFault text fault
@@ -89,7 +89,7 @@ IsSourceFault text (Reads count) = (p : Typing) × IsText text p × IsWithin p �
 IsSourceFault text (Bits least) = ⊥
 IsSourceFault text (Latency clocks) = ⊥
 
--- an error is such a fault, or out of memory, of which the text says nothing
+-- an error is such a fault, or out of memory, which no text determines
 abbrev pub IsErrorBy : (SourceFault → Type 0) → SourceError → Type 0
 IsErrorBy is (Fault fault) = is fault
 IsErrorBy is OutOfMemory = ⊤

@@ -1,4 +1,4 @@
-// What the definitions say together.
+// Laws of the definitions.
 
 ghost use Rattle.std.specs.Prelude.{◌≡◌, ◌⊎◌, ℕ, ◌+◌, ◌-◌, ◌*◌, ◌<◌, ◌≤◌, min, List, length, map, take, All, unsigned_abs};
 ghost use Rattle.std.specs.List.{flat_map, range_with_len};
@@ -6,7 +6,7 @@ ghost use Rattle.dk_base.specs.Frames.{Size, Picture, area, pixel_of, raster, pi
 ghost use Rattle.dk_base.specs.Stencils.{Stencils};
 ghost use Rattle.dk_types.specs.Typed.{Typing};
 ghost use Rattle.pointwise_ir.specs.Programs.{Program};
-ghost use Rattle.dk_compile.specs.declared.fault.SourceFault.{SourceFault};
+ghost use Rattle.source_fault.specs.declared.fault.SourceFault.{SourceFault};
 ghost use Rattle.pointwise_ir.specs.Stencils.{AreStencilsOf};
 ghost use Rattle.dk_compile.specs.Sources.{IsText, IsAccepted, IsSourceFault};
 ghost use Rattle.dk_compile.specs.Fronts.{IsForm, IsFront};

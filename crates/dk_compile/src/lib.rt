@@ -10,6 +10,7 @@ mod reading;
 pub use accepted::Front;
 pub use circuit::Options;
 pub use compiling::{Compiled, PlannedProgram, compile, compile_with, planned};
-pub use fault::{SourceError, SourceFault};
+pub use fault::SourceError;
 pub use laws::{drive_shows_law, one_at_age_law, one_source_law};
 pub use reading::{front, typed};
+pub use source_fault::SourceFault;

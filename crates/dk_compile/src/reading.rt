@@ -1,7 +1,7 @@
 // From a text to its program.
 
 ghost use Rattle.std.specs.Prelude.{◌≤◌, IfOk, IfErr, length};
-ghost use Rattle.dk_parser.specs.Programs.{source_of};
+ghost use Rattle.dk_parser.specs.Programs.{source_of, AllConvertToTypes};
 ghost use Rattle.dk_types.specs.Typed.{Typing, typing_of};
 ghost use Rattle.pointwise_ir.specs.Passes.{KeepsMeaning};
 ghost use Rattle.dk_inline.specs.Folded.{IsFolded};
@@ -10,19 +10,21 @@ ghost use Rattle.dk_compile.specs.Sources.{HasTree, IsText, IsAccepted, IsSource
 ghost use Rattle.dk_compile.specs.Fronts.{IsForm, IsFront};
 
 use crate::accepted::Front;
-use crate::fault::{SourceError, SourceFault};
+use crate::fault::SourceError;
 use dk_base::{MAX_SOURCE_BYTES, OutOfMemory};
 use dk_inline::{Fold, inline};
 use dk_lexer::lex;
 use dk_parser::{Program, parse};
 use dk_types::{TypedProgram, check};
 use pointwise_ir::{Ir, Rewrite, run_passes};
+use source_fault::SourceFault;
 use std::alloc::Global;
 use stencil_sets::live_reads;
 
 // The tree of a text.
 fn tree(alloc: Global, text: &[u8]) -> Result<Program, SourceError>
     ensures tree { IfOk result (λ program. HasTree text.now (source_of program)) }
+    ensures types { IfOk result (λ program. AllConvertToTypes (source_of program)) }
     ensures fault { IfErr result (IsErrorBy (IsSourceFault text.now)) }
 {
     if MAX_SOURCE_BYTES < text.len() {

@@ -4,8 +4,8 @@ ghost use Rattle.std.specs.Prelude.{◌≡◌};
 ghost use Rattle.dk_endings.specs.Lines.{status_of};
 
 use crate::verilog::VerilogFault;
-use dk_compile::SourceFault;
 use pgm_rounds::FileFault;
+use source_fault::SourceFault;
 use test_bench::Stop;
 
 /// Why a file of images is refused.
@@ -31,7 +31,7 @@ pub enum ReportFault {
 pub enum Ending {
     /// All was done and written.
     Done,
-    /// The words are not taken, a value is not in its range, or the output has the name of an input.
+    /// The words are refused, a value is not in its range, or the output has the name of an input.
     Usage,
     /// A program's text is refused.
     Source(SourceFault),
@@ -39,7 +39,7 @@ pub enum Ending {
     Image(ImageFault),
     /// A Verilog text is too long, denotes no module, or is to hold clocks without the port `en`.
     Verilog(VerilogFault),
-    /// A module's run gives no pictures.
+    /// A module's run shows no pictures.
     Stopped(Stop),
     /// A report does not hold.
     Rejected(ReportFault),

@@ -11,11 +11,11 @@ use dk_base::{
     MAX_FILE_IMAGES, MAX_HEADER_BYTES, MAX_PGM_BYTES, MAX_REPORT_BYTES, MAX_SOURCE_BYTES,
     MAX_VERILOG_BYTES, Span,
 };
-use dk_compile::SourceFault;
 use dk_lexer::LexKind;
 use dk_types::TypeFaultKind;
 use itoa::Buffer;
 use pgm_rounds::FileFault;
+use source_fault::SourceFault;
 use test_bench::Stop;
 use verilog_text::{LexKind as TokenKind, LimitKind};
 
@@ -270,7 +270,7 @@ fn report_line(fault: &ReportFault) -> Line
     }
 }
 
-/// The line of a report that holds, with its buffer bits and the latency of the first output in clocks. It takes no memory.
+/// The line of a report that holds, with its buffer bits and the latency of the first output in clocks. It allocates no memory.
 pub fn holds_line(bits: u64, latency: u64) -> Line
     ensures { result.bytes ≡ holds_text bits latency }
 {
@@ -283,7 +283,7 @@ pub fn holds_line(bits: u64, latency: u64) -> Line
 }
 
 impl Ending {
-    /// The line that goes to Fault, with its line end; after Done there is none. It takes no memory.
+    /// The line that goes to Fault, with its line end; after Done there is none. It allocates no memory.
     pub fn line(&self) -> Line
         ensures { result.bytes ≡ fault_line self.now }
     {

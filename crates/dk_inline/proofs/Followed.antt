@@ -1,14 +1,15 @@
 -- An expression and its inlined form read the same pixels.
 use Rattle.std.proofs.Common.{◌≡◌, ℕ, zero, suc, ◌+◌, ◌-◌, ◌<◌, ◌≤◌, List, ◌++◌, length, map, take, ℤ, ◌+ℤ◌, Option, Some, None, slice_get, refl, ap, sym, ◌∙◌, subst, arith, ◌⊎◌, inl, inr}
-use Rattle.std.specs.Prelude.{Bool, true, false, if◌then◌else◌, IsTrue, ◌↔◌}
+use Rattle.std.specs.Prelude.{Bool, true, false, if◌then◌else◌, ◌↔◌}
 use Rattle.std.proofs.lemmas.Bool.{cases_lt}
 use Rattle.std.proofs.lemmas.Option.{slice_get_within}
 use Rattle.dk_base.specs.declared.ty.Ty.{Ty}
-use Rattle.dk_base.specs.Frames.{Size, in_frame}
+use Rattle.dk_base.specs.Frames.{Size}
+use Rattle.frame_steps.specs.Steps.{EndsAt}
 use Rattle.dk_types.specs.declared.typed.TypedRead.{TypedRead}
 use Rattle.dk_types.specs.Typed.{Typed, constant, fetch, single, double, scaled, converted, chosen, Definition, Typing, image_type, input_types}
 use Rattle.dk_types.specs.Kept.{IsWell, IsTyped}
-use Rattle.dk_types.specs.Reads.{Mentions, IsDefinitionOf, IsStored, Ends, Reads, directly, through}
+use Rattle.dk_types.specs.Reads.{Mentions, IsDefinitionOf, IsStored, Reads, directly, through}
 use Rattle.pointwise_ir.specs.Trees.{Tree}
 use Rattle.pointwise_ir.specs.Reads as R
 use Rattle.dk_inline.specs.Inlined.{Substitute, itself, body, edge_of, read_of, inlined, declared_as, inlined_body, substitutes}
@@ -16,26 +17,20 @@ use Rattle.dk_inline.proofs.Lists.{entry}
 use Rattle.dk_inline.proofs.Substituted.{substitute_at, input, definition, well_at, earlier}
 
 -- a step ends at the same point on both sides
-ends_at : (size : Size) (c : Bool) (x y u v : ℤ) → Ends c size x y u v → R.EndsAt size (edge_of c) x y u v
+ends_at : (size : Size) (c : Bool) (x y u v : ℤ) → EndsAt c size x y u v → R.EndsAt size (edge_of c) x y u v
 ends_at size true x y u v h = h
-ends_at size false x y u v h =
-    let P : ℤ → Type 0 = λ a. IsTrue (in_frame size a v) in
-    let Q : ℤ → Type 0 = λ b. IsTrue (in_frame size x b) in
-    (h.0, h.1, subst Q h.1 (subst P h.0 h.2))
+ends_at size false x y u v h = h
 
-ends_from : (size : Size) (c : Bool) (x y u v : ℤ) → R.EndsAt size (edge_of c) x y u v → Ends c size x y u v
+ends_from : (size : Size) (c : Bool) (x y u v : ℤ) → R.EndsAt size (edge_of c) x y u v → EndsAt c size x y u v
 ends_from size true x y u v h = h
-ends_from size false x y u v h =
-    let P : ℤ → Type 0 = λ a. IsTrue (in_frame size a y) in
-    let Q : ℤ → Type 0 = λ b. IsTrue (in_frame size u b) in
-    (h.0, h.1, subst Q (sym h.1) (subst P (sym h.0) h.2))
+ends_from size false x y u v h = h
 
 -- a declared type changes no read
 declared_reads : (size : Size) (t : Option Ty) (e : Tree) (x y : ℤ) (g : ℕ) (u v : ℤ) → R.Reads size (declared_as t e) x y g u v ↔ R.Reads size e x y g u v
 declared_reads size None e x y g u v = (λ h. h, λ h. h)
 declared_reads size (Some t) e x y g u v = (λ h. h, λ h. h)
 
--- what is in place of a read that the expression has is read
+-- the substitute of a read in the expression is read
 mentioned : (size : Size) (known : List Substitute) (e : Typed) (r : TypedRead) (x y : ℤ) (g : ℕ) (u v : ℤ) → Mentions e r → R.Reads size (read_of (substitute_at known r.image) r) x y g u v → R.Reads size (inlined known e) x y g u v
 mentioned size known (constant t c) r x y g u v m reads = absurd m
 mentioned size known (fetch t s) r x y g u v m reads = let P : TypedRead → Type 0 = λ z. R.Reads size (read_of (substitute_at known z.image) z) x y g u v in subst P (sym m) reads

@@ -1,4 +1,5 @@
--- How large expressions are, as they are counted.
+-- Used by private functions only.
+-- Sizes of expressions, as they are counted.
 use Rattle.std.specs.Prelude.{◌≡◌, ℕ, min, List, length, slice_get, slice_index_or, Option, Some, None}
 use Rattle.dk_types.specs.Typed.{Definition, Typing}
 use Rattle.pointwise_ir.specs.Trees.{Tree, depth_of}
@@ -14,7 +15,7 @@ pub record IsExtent (x : Extent) (e : Tree) : Type 0 where
   pub nodes : x.nodes ≡ saturated (nodes_of e)
   pub depth : x.depth ≡ saturated (depth_of e)
 
--- of what is in place of an image: none of an image that stays
+-- of the substitute of an image; an image that stays has none
 abbrev pub IsExtentOf : Option Extent → Substitute → Type 0
 IsExtentOf None itself = Unit {0}
 IsExtentOf (Some x) (body e) = IsExtent x e

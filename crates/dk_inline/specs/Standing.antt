@@ -1,4 +1,5 @@
--- Expressions that denote others, with folded parts.
+-- Used by private functions only.
+-- Expressions that may replace others, with folded parts.
 use Rattle.std.specs.Prelude.{◌≡◌, List}
 use Rattle.dk_base.specs.declared.ty.Ty.{Ty}
 use Rattle.dk_base.specs.Frames.{Size}
@@ -15,7 +16,7 @@ pub record IsTyped (e : Tree) : Type 0 where
   pub typed : HasType types e ty
   pub offsets : AreNear e
 
--- wherever a has a type, b may denote it
+-- wherever a has a type, b may replace it
 pub record StandsFor (a b : Tree) : Type 0 where
   pub rewriting : (size : Size) (types : List Ty) (t : Ty) → HasType types a t → AreNear a → IsRewriting size types t a b
 
@@ -41,7 +42,7 @@ AreOperandsFolded (select a b c) new = (d : Tree) × (e : Tree) × (f : Tree) ×
 AreOperandsFolded (convert how a t) new = (b : Tree) × (new ≡ convert how b t) × IsFoldOf a b
 AreOperandsFolded (scale op a k) new = (b : Tree) × (new ≡ scale op b k) × IsFoldOf a b
 
--- d' is d with its body folded, which denotes d's and has folded parts
+-- d' is d with its body folded: the new body may replace that of d, and has folded parts
 pub record IsFoldedImage (d d' : Definition) : Type 0 where
   pub name : d'.name ≡ d.name
   pub ty : d'.ty ≡ d.ty

@@ -2,7 +2,7 @@
 use Rattle.std.proofs.Common.{◌≢◌, ◌<◌, refl, arith, ap}
 use Rattle.dk_lexer.specs.declared.token.Token.{Token}
 use Rattle.dk_lexer.specs.declared.token.Symbol.TheVariants.{Star}
-use Rattle.dk_parser.specs.declared.terminal.Keyword.TheVariants.{Edge}
+use Rattle.source_words.specs.declared.word.Keyword.TheVariants.{Edge}
 use Rattle.dk_parser.specs.declared.terminal.Terminal.{Terminal}
 use Rattle.dk_parser.specs.declared.terminal.Terminal.TheVariants.{Keyword, Symbol as Sym}
 use Rattle.dk_parser.specs.Grammar.{Tokens, binding}

@@ -12,7 +12,7 @@ use Rattle.dk_parser.specs.declared.halt.Halt.{Halt}
 use Rattle.dk_parser.specs.declared.halt.Halt.TheVariants.{Faulty}
 use Rattle.dk_parser.specs.declared.items.Lead.{Lead}
 use Rattle.dk_parser.specs.declared.items.Lead.TheVariants as lead
-use Rattle.dk_parser.specs.declared.terminal.Keyword.TheVariants as word
+use Rattle.source_words.specs.declared.word.Keyword.TheVariants as word
 use Rattle.dk_parser.specs.declared.terminal.Terminal.{Terminal}
 use Rattle.dk_parser.specs.declared.terminal.Terminal.TheVariants.{Keyword, EndOfText}
 use Rattle.dk_parser.specs.declared.terminal.Mark.TheVariants as mark

@@ -17,7 +17,7 @@ use Rattle.dk_grammar.specs.Reading.{Phrases, One, Then, Done}
 use Rattle.dk_parser.specs.declared.single.Turn.{Turn}
 use Rattle.dk_parser.specs.declared.single.Turn.TheVariants as turn
 use Rattle.dk_parser.specs.declared.terminal.Terminal.{Terminal}
-use Rattle.dk_parser.specs.declared.terminal.Keyword.TheVariants.{X, Y}
+use Rattle.source_words.specs.declared.word.Keyword.TheVariants.{X, Y}
 use Rattle.dk_parser.specs.declared.terminal.Mark.{Mark}
 use Rattle.dk_parser.specs.declared.terminal.Mark.TheVariants.{Reserved, Sign}
 use Rattle.dk_parser.specs.declared.tree.Literal.{Literal}

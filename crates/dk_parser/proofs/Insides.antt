@@ -6,7 +6,7 @@ use Rattle.dk_lexer.specs.declared.token.Token.{Token}
 use Rattle.dk_grammar.specs.Reading.{Alike, Stuck}
 use Rattle.dk_grammar.proofs.Stucks.{stuck_within, stuck_here, front_alike}
 use Rattle.dk_parser.specs.declared.terminal.Mark.TheVariants as mark
-use Rattle.dk_parser.specs.declared.terminal.Keyword.TheVariants.{Edge, Clamp}
+use Rattle.source_words.specs.declared.word.Keyword.TheVariants.{Edge, Clamp}
 use Rattle.dk_parser.specs.declared.terminal.Terminal.{Terminal}
 use Rattle.dk_parser.specs.declared.terminal.Terminal.TheVariants.{Keyword}
 use Rattle.dk_parser.specs.declared.tree.ImageRead.{ImageRead}
@@ -26,7 +26,7 @@ use Rattle.dk_parser.proofs.ReadLaws.{clear_unclamped, reads_first}
 use Rattle.dk_parser.proofs.Laws.{local, not_read, enclosed_first, head_is, tail_is}
 use Rattle.dk_parser.proofs.Stucks.{alike_rank, ends_there}
 
--- After its first token comes what that token asks for.
+-- The first token determines what follows it.
 pub enclosed_out : {w r : Tokens} {e : Tree} {tok : Token} → Phrase enclosed (tok ∷ w) e r → Inside (start (terminal tok)) tok.span w e r
 enclosed_out (constant n) = rw n (refl, refl)
 enclosed_out {r = z} (bracket {e = x} {close = c} a p b) = rw a ((x, c.span), z, (c, p, b, refl), (refl, refl))
@@ -166,7 +166,7 @@ stuck_unclamped ts after at tok e s k =
     (λ w r v a m. let like = subst (λ x. Alike x w) e a in unclamped_out (read_out m.0 tok like.0 like.1 s))
     k
 
--- A read with `edge` after it goes on with `clamp`.
+-- After a read and `edge` comes `clamp`.
 clamp_out : {ts w r : Tokens} {e : Tree} {x : Span × ImageRead} {edge : Token} → Unclamped ts x (edge ∷ w) → terminal edge ≡ Keyword Edge → Phrase primary ts e r → 1 < rank r
     → (z : Span) × Sign (mark.Reserved Clamp) w z r
 clamp_out p f (closed q) h = absurd (not_read q (unclamped' p))

@@ -11,7 +11,7 @@ use Rattle.dk_parser.specs.declared.items.Draft.{Draft}
 use Rattle.dk_parser.specs.declared.items.Lead.{Lead}
 use Rattle.dk_parser.specs.declared.items.Lead.TheVariants as lead
 use Rattle.dk_parser.specs.declared.items.Parts.{Parts}
-use Rattle.dk_parser.specs.declared.terminal.Keyword.TheVariants as word
+use Rattle.source_words.specs.declared.word.Keyword.TheVariants as word
 use Rattle.dk_parser.specs.declared.terminal.Terminal.{Terminal}
 use Rattle.dk_parser.specs.declared.terminal.Terminal.TheVariants.{EndOfText}
 use Rattle.dk_parser.specs.declared.terminal.Mark.TheVariants as mark
@@ -189,7 +189,7 @@ more_output p q vs n h a b c d = record {
   outputs = c ∙ ap (λ x. x ++ (n ∷ [])) h.outputs ∙ sym (outputs_more vs (output n));
 }
 
--- A definition more: after one that is too deep, too deep itself, or kept.
+-- One more definition: after one that is too deep, too deep itself, or kept.
 pub still_deep : (p : Parts) (vs : List Item) (d : Definition) (s : Span) → Holds p vs → p.deep ≡ Some s → Holds p (vs ++ (definition d ∷ []))
 still_deep p vs d s h e = record {
   inputs = h.inputs ∙ sym (append_nil (inputs_of vs)) ∙ sym (inputs_more vs (definition d));

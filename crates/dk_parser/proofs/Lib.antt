@@ -14,5 +14,6 @@ pub mod LexedEnd
 pub mod Ruled
 pub mod Exclusion
 pub mod TypeWords
+pub mod Conversions
 pub mod Readers
 pub mod Total

@@ -7,7 +7,7 @@ use Rattle.dk_grammar.specs.Reading.{Clear}
 use Rattle.dk_grammar.proofs.Clears.{clear_one, clear_then, clear_done}
 use Rattle.dk_parser.specs.declared.single.Turn.{Turn}
 use Rattle.dk_parser.specs.declared.single.Turn.TheVariants as turn
-use Rattle.dk_parser.specs.declared.terminal.Keyword.TheVariants.{X, Y}
+use Rattle.source_words.specs.declared.word.Keyword.TheVariants.{X, Y}
 use Rattle.dk_parser.specs.declared.terminal.Terminal.{Terminal}
 use Rattle.dk_parser.specs.declared.terminal.Terminal.TheVariants.{Name as Name'}
 use Rattle.dk_parser.specs.declared.terminal.Mark.{Mark}

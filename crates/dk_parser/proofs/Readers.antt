@@ -7,7 +7,7 @@ use Rattle.dk_grammar.proofs.Clears.{clear_one, clear_then, clear_done}
 use Rattle.dk_grammar.proofs.Stucks.{stuck_one, then_first, then_second}
 use Rattle.dk_parser.specs.declared.single.Turn.TheVariants as turn
 use Rattle.dk_parser.specs.declared.single.Turn.{Turn}
-use Rattle.dk_parser.specs.declared.terminal.Keyword.TheVariants as word
+use Rattle.source_words.specs.declared.word.Keyword.TheVariants as word
 use Rattle.dk_parser.specs.declared.terminal.Terminal.{Terminal}
 use Rattle.dk_parser.specs.declared.terminal.Terminal.TheVariants.{Keyword, Symbol as Sym}
 use Rattle.dk_parser.specs.declared.terminal.Mark.{Mark}

@@ -5,7 +5,7 @@ use Rattle.dk_lexer.specs.declared.token.Token.{Token}
 use Rattle.dk_grammar.specs.Reading.{Phrases, Many, none, more, Several, end, link}
 use Rattle.dk_parser.specs.declared.items.Lead.{Lead}
 use Rattle.dk_parser.specs.declared.items.Lead.TheVariants as lead
-use Rattle.dk_parser.specs.declared.terminal.Keyword.TheVariants as word
+use Rattle.source_words.specs.declared.word.Keyword.TheVariants as word
 use Rattle.dk_parser.specs.declared.terminal.Terminal.{Terminal}
 use Rattle.dk_parser.specs.declared.terminal.Terminal.TheVariants.{Keyword, EndOfText}
 use Rattle.dk_parser.specs.declared.tree.Name.{Name}
@@ -307,7 +307,7 @@ outputs_go : {ts mid rest : Tokens} {os : List Name} → Many OutputRule ts os m
 outputs_go none r = r
 outputs_go (more {v = o} p q) r = output_goes lead.Output o refl p (outputs_go q r)
 
--- what follows definitions goes on from an input and from a definition
+-- what follows definitions may follow an input or a definition
 abbrev Reaches : Tokens → List Item → Tokens → Type 0
 Reaches ts vs rest = (l : Lead) → may_follow l lead.Output ≡ true → Goes l ts vs rest
 

@@ -15,7 +15,7 @@ use Rattle.dk_parser.specs.declared.classes.Ahead.{Ahead}
 use Rattle.dk_parser.specs.declared.halt.Halt.{Halt}
 use Rattle.dk_parser.specs.declared.halt.Halt.TheVariants.{Faulty, OutOfMemory}
 use Rattle.dk_parser.specs.declared.terminal.Mark.{Mark}
-use Rattle.dk_parser.specs.declared.terminal.Keyword.TheVariants.{As}
+use Rattle.source_words.specs.declared.word.Keyword.TheVariants.{As}
 use Rattle.dk_parser.specs.declared.terminal.Terminal.{Terminal}
 use Rattle.dk_parser.specs.declared.terminal.Terminal.TheVariants.{Keyword, TypeWord as Type', Number as Number', Symbol as Sym}
 use Rattle.dk_parser.specs.declared.tree.Step.{Step}
@@ -95,7 +95,7 @@ closed_first m ts at b k =
     (λ w r v a q. let e = mark_rank m q.0 r b q.2 in (v.0, q.0 ∷ r, (q.1, omega (arith, e))))
     k
 
--- the same expression, with another token after it than the mark
+-- an expression that is followed by another token than the mark
 pub closed_second : (m : Mark) (ts rest : Tokens) (e : Tree) → binding (mark_terminal m) ≡ Stops → Parsed comparison ts e rest
     → ((tok : Token) (r : Tokens) → rest ≡ tok ∷ r → terminal tok ≡ mark_terminal m → ⊥) → Stuck (Closed m) ts rest
 closed_second m ts rest e b p none =
@@ -219,7 +219,7 @@ level_whole n ts mid rest l e p q = record { phrase = chain p.phrase q.phrase; e
 pub level_whole_at : (m n : ℕ) (ts mid rest : Tokens) (l x : Tree) → m ≡ suc n → Parsed (level n) ts l mid → Parsed (steps n l) mid x rest → Parsed (level m) ts x rest
 level_whole_at m n ts mid rest l x e p q = rw e (level_whole n ts mid rest l x p q)
 
--- After an operator that requires an operand.
+-- After an operator that expects an operand.
 operand_out : {n : ℕ} {w r : Tokens} {l e : Tree} {tok : Token} {o : Binary} → Phrase (steps n l) (tok ∷ w) e r → suc (suc n) < rank r
     → binding (terminal tok) ≡ Operator (suc n) (Step.Operand o)
     → (x : Tree) × (m : Tokens) × Phrase (level n) w x m × (suc n < rank m) × Phrase (steps n (binary (over (span_of l) (span_of x)) o l x)) m e r
@@ -228,7 +228,7 @@ operand_out {n = n} {l = l} {o = o} (operand {mid = m} {r = x} s p q) h b =
     (x, m, p, steps_first q h, moved (cc (s, b)) refl q)
 operand_out {l = l} (suffixed {word = x} s k q) h b = absurd (no_suffix l _ _ x _ (same_step _ _ _ _ _ s b) k)
 
--- After an operator that requires a number or a type.
+-- After an operator that expects a number or a type.
 suffix_out : {n : ℕ} {w r : Tokens} {l e : Tree} {tok : Token} {s : Step} → Phrase (steps n l) (tok ∷ w) e r → suc (suc n) < rank r
     → binding (terminal tok) ≡ Operator (suc n) s → ((o : Binary) → s ≢ Step.Operand o)
     → (x : Token) × (t : Tree) × (m : Tokens) × (w ≡ x ∷ m) × (suffix l s x ≡ Some t) × Phrase (steps n t) m e r
@@ -302,7 +302,7 @@ stuck_suffix n l rest after at tok s g e b other k =
     (λ w r v a m. let d = suffix_out m.0 m.1 b other in (d.1, d.2, (d.0, d.3, d.4)))
     k)
 
--- A token that binds tighter than the level, where none may be.
+-- A token that binds tighter than the level, where none is allowed.
 tight : {n : ℕ} {ts r : Tokens} {l e : Tree} → Phrase (steps n l) ts e r → rank ts ≤ suc n → suc (suc n) < rank r → ⊥
 tight done k h = omega (arith, k, h)
 tight (operand {ts = m} {tok = t} s p q) k h = omega (arith, k, rank_is t m _ _ s)
@@ -312,7 +312,7 @@ pub stuck_tight : (n : ℕ) (l : Tree) (rest : Tokens) → n < 8 → rank rest �
 stuck_tight n l rest g k =
     stuck_here {P = Ends (steps n l)} rest [] l (done, omega (arith, g)) (λ w r v a m. tight m.0 (rw (sym (alike_rank rest w a)) k) m.1)
 
--- One token after an operator that requires a number or a type.
+-- One token after an operator that expects a number or a type.
 suffix_token : (l : Tree) (s : Step) → ((o : Binary) → s ≢ Step.Operand o) → (tok : Token) × (m : Tree) × (suffix l s tok ≡ Some m)
 suffix_token l (Step.Operand o) other = absurd (other o refl)
 suffix_token l (Step.Number o) other = let t = number_token 0 in (t.0, scale (over (span_of l) t.0.span) o l (record { span = t.0.span; value = 0 }), rw t.1 refl)
@@ -360,7 +360,7 @@ pub prefixed_whole : (ts after rest : Tokens) (e : Tree) (tok : Token) (o : Unar
     → Parsed (level 0) ts (unary (over tok.span (span_of e)) o e) rest
 prefixed_whole ts after rest e tok o w s p = record { phrase = rw w (prefixed s p.phrase); ends = p.ends; fewer = omega (arith, p.fewer, ap (λ x. length x) w) }
 
--- The same tree at another span.
+-- A tree at another span.
 pub respanned : (s t : Span) (n : Node) → at_span t (tree_at s n) ≡ tree_at t n
 respanned s t (Node.Number v) = refl
 respanned s t (Node.Read r) = refl
@@ -380,7 +380,7 @@ not_end n ts (Ahead.Suffix s after) h e = let w = h.operates.whole in omega (ari
 not_end n ts Ahead.Tighter h e = omega (arith, h)
 not_end n ts Ahead.End h e = absurd (e refl)
 
--- An operator of the last level requires an operand.
+-- An operator of the last level expects an operand.
 pub eight_operand : (t : Terminal) (s : Step) → binding t ≡ Operator 8 s → ((o : Binary) → s ≢ Step.Operand o) → ⊥
 eight_operand (Keyword As) s e h = cc
 eight_operand (Sym Less) s e h = h _ (sym (same_step _ _ _ _ _ refl e))

@@ -1,4 +1,4 @@
--- Tokens of each kind, to go on with, and where a token is not the expected one.
+-- Tokens of each kind, and where a token is not the expected one.
 use Rattle.std.proofs.Common.{◌≡◌, ◌≢◌, ℕ, List, [], ◌∷◌, Option, Some, None, refl, ap, sym, ◌∙◌, codes}
 use Rattle.std.proofs.lemmas.Option.{same_Some}
 use Rattle.dk_base.specs.declared.span.Span.{Span}
@@ -12,8 +12,8 @@ use Rattle.dk_parser.specs.declared.single.Turn.{Turn}
 use Rattle.dk_parser.specs.declared.single.Turn.TheVariants as turn
 use Rattle.dk_parser.specs.declared.terminal.Mark.{Mark}
 use Rattle.dk_parser.specs.declared.terminal.Mark.TheVariants.{Reserved, Sign, Finish}
-use Rattle.dk_parser.specs.declared.terminal.Keyword.{Keyword as Keyword'}
-use Rattle.dk_parser.specs.declared.terminal.Keyword.TheVariants.{As, Size, Input, Let, Inline, Im, End, Output, Select, Min, Max, Abs, Sat, X, Y, Edge, Clamp}
+use Rattle.source_words.specs.declared.word.Keyword.{Keyword as Keyword'}
+use Rattle.source_words.specs.declared.word.Keyword.TheVariants.{As, Size, Input, Let, Inline, Im, End, Output, Select, Min, Max, Abs, Sat, X, Y, Edge, Clamp}
 use Rattle.dk_parser.specs.declared.terminal.Terminal.{Terminal}
 use Rattle.dk_parser.specs.declared.terminal.Terminal.TheVariants.{Keyword, TypeWord as Type', Name as Name', Number as Number'}
 use Rattle.dk_parser.specs.Marks.{mark_terminal}

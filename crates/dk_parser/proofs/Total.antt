@@ -12,7 +12,7 @@ use Rattle.dk_grammar.proofs.Stucks.{reached_stuck}
 use Rattle.dk_grammar.proofs.Chains.{chain_element, chain_mark, chain_start, chain_next}
 use Rattle.dk_parser.specs.declared.items.Lead.{Lead}
 use Rattle.dk_parser.specs.declared.items.Lead.TheVariants as lead
-use Rattle.dk_parser.specs.declared.terminal.Keyword.TheVariants as word
+use Rattle.source_words.specs.declared.word.Keyword.TheVariants as word
 use Rattle.dk_parser.specs.declared.terminal.Terminal.{Terminal}
 use Rattle.dk_parser.specs.declared.terminal.Terminal.TheVariants.{Symbol as Sym}
 use Rattle.dk_parser.specs.declared.terminal.Mark.{Mark}
@@ -171,7 +171,7 @@ unary_of n p (t ∷ after) lt = elim (is_prefix (start (terminal t))) [
   | inr other ↦ plain_of (t ∷ after) (λ tok s o e k. let same : t ≡ tok = cc in other o (ap (λ x. start (terminal x)) same ∙ k)) (p (t ∷ after) lt)
 ]
 
--- What follows a first operand; the lists have at most this many tokens.
+-- What follows a first operand, in lists of at most n tokens.
 module _ (n m : ℕ) (small : m < 7) (p : Parses (level m) n) where
   ends_here : (l : Tree) (ts : Tokens) → suc (suc m) < rank ts → Parse (steps m l) ts
   ends_here l ts h = inl (l, ts, record { phrase = done; ends = h; fewer = omega arith })

@@ -4,10 +4,11 @@ use Rattle.std.proofs.lemmas.Bool.{cases_order, eqb-true, ltb-true, ltb-false, l
 use Rattle.std.proofs.lemmas.Fmt.{decimal_digit, decimal_step}
 use Rattle.dk_base.specs.declared.ty.Ty.{Ty}
 use Rattle.dk_base.specs.declared.ty.Ty.TheVariants.{Unsigned, Signed}
-use Rattle.dk_parser.specs.declared.terminal.Keyword.{Keyword}
+use Rattle.source_words.specs.declared.word.Keyword.{Keyword}
 use Rattle.dk_parser.specs.declared.terminal.Terminal.{Terminal}
-use Rattle.dk_parser.specs.declared.terminal.Terminal.TheVariants.{Keyword as Keyword', TypeWord as Type', Name as Name'}
-use Rattle.dk_parser.specs.Terminals.{same_codes, width_of, typed, type_or_name, keyword_or, reserved, terminal_of_word}
+use Rattle.dk_parser.specs.declared.terminal.Terminal.TheVariants.{TypeWord as Type'}
+use Rattle.source_words.specs.Words.{keyword_of, width_of, typed, type_of_word}
+use Rattle.dk_parser.specs.Terminals.{word_terminal, terminal_of_word}
 use Rattle.dk_parser.specs.Rules.{IsTypeWord}
 
 -- a test of the numbers below a bound
@@ -120,14 +121,14 @@ width_is (d ∷ e ∷ []) n k =
     two_digits d e n (ltb-true 48 d f.0) (ltb-true d 58 f.1) (ltb-true 47 e c.1) (ltb-true e 58 b.1) (omega (arith, most, value)) value
 width_is (d ∷ e ∷ f ∷ ds) n k = absurd (cc (k))
 
-unsigned_is : (ds : List ℕ) (o : Option ℕ) (t : Ty) → width_of ds ≡ o → typed Unsigned o ≡ Type' t → IsTypeWord (117 ∷ ds) t
+unsigned_is : (ds : List ℕ) (o : Option ℕ) (t : Ty) → width_of ds ≡ o → typed Unsigned o ≡ Some t → IsTypeWord (117 ∷ ds) t
 unsigned_is ds None t w e = absurd (cc (e))
 unsigned_is ds (Some n) t w e =
     let k = width_is ds n w in
     let is : Unsigned n ≡ t = cc in
     subst (λ x. IsTypeWord (117 ∷ ds) x) is (record { some = k.some; most = k.most }, ap (λ x. 117 ∷ x) k.digits)
 
-signed_is : (ds : List ℕ) (o : Option ℕ) (t : Ty) → width_of ds ≡ o → typed Signed o ≡ Type' t → IsTypeWord (115 ∷ ds) t
+signed_is : (ds : List ℕ) (o : Option ℕ) (t : Ty) → width_of ds ≡ o → typed Signed o ≡ Some t → IsTypeWord (115 ∷ ds) t
 signed_is ds None t w e = absurd (cc (e))
 signed_is ds (Some n) t w e =
     let k = width_is ds n w in
@@ -135,22 +136,19 @@ signed_is ds (Some n) t w e =
     subst (λ x. IsTypeWord (115 ∷ ds) x) is (record { some = k.some; most = k.most }, ap (λ x. 115 ∷ x) k.digits)
 
 by_letter : (c : ℕ) (ds : List ℕ) (t : Ty) (a b : Bool) → nat_eq c 117 ≡ a → nat_eq c 115 ≡ b
-    → (if a then typed Unsigned (width_of ds) else (if b then typed Signed (width_of ds) else Name')) ≡ Type' t → IsTypeWord (c ∷ ds) t
+    → (if a then typed Unsigned (width_of ds) else (if b then typed Signed (width_of ds) else None)) ≡ Some t → IsTypeWord (c ∷ ds) t
 by_letter c ds t true b p q e = subst (λ x. IsTypeWord (x ∷ ds) t) (sym (eqb-true c 117 p)) (unsigned_is ds (width_of ds) t refl e)
 by_letter c ds t false true p q e = subst (λ x. IsTypeWord (x ∷ ds) t) (sym (eqb-true c 115 q)) (signed_is ds (width_of ds) t refl e)
 by_letter c ds t false false p q e = absurd (cc (e))
 
-type_is : (bytes : List ℕ) (t : Ty) → type_or_name bytes ≡ Type' t → IsTypeWord bytes t
+type_is : (bytes : List ℕ) (t : Ty) → type_of_word bytes ≡ Some t → IsTypeWord bytes t
 type_is [] t e = absurd (cc (e))
 type_is (c ∷ ds) t e = by_letter c ds t (nat_eq c 117) (nat_eq c 115) refl refl e
 
-passed : (b : Bool) (k : Keyword) (other : Terminal) (t : Ty) → (if b then Keyword' k else other) ≡ Type' t → other ≡ Type' t
-passed true k other t e = absurd (cc (e))
-passed false k other t e = e
-
-no_keyword : (bytes : List ℕ) (ws : List (List ℕ × Keyword)) (other : Terminal) (t : Ty) → keyword_or bytes ws other ≡ Type' t → other ≡ Type' t
-no_keyword bytes [] other t e = e
-no_keyword bytes (w ∷ ws) other t e = no_keyword bytes ws other t (passed (same_codes bytes w.0) w.1 (keyword_or bytes ws other) t e)
+typed_word : (k : Option Keyword) (o : Option Ty) (t : Ty) → word_terminal k o ≡ Type' t → o ≡ Some t
+typed_word (Some k) o t e = absurd (cc (e))
+typed_word None (Some u) t e = let same : u ≡ t = cc in ap (λ x. Some x) same
+typed_word None None t e = absurd (cc (e))
 
 pub type_word_is : (bytes : List ℕ) (t : Ty) → terminal_of_word bytes ≡ Type' t → IsTypeWord bytes t
-type_word_is bytes t e = type_is bytes t (no_keyword bytes reserved (type_or_name bytes) t e)
+type_word_is bytes t e = type_is bytes t (typed_word (keyword_of bytes) (type_of_word bytes) t e)

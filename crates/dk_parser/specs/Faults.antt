@@ -30,7 +30,7 @@ pub record Parsed (f : Form) (ts : Tokens) (e : Tree) (rest : Tokens) : Type 0 w
   pub ends : bound f < rank rest
   pub fewer : length rest ≤ length ts
 
--- one token after an operator that requires a number or a type
+-- one token after an operator that expects a number or a type
 abbrev pub Suffix : Tree → Step → Phrases Token Tree
 Suffix l s ts m rest = (tok : Token) × (ts ≡ tok ∷ rest) × (suffix l s tok ≡ Some m)
 

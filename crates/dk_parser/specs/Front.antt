@@ -1,8 +1,8 @@
 -- Used by private functions only.
--- The first token, and how it goes on with what comes before it.
+-- The first token, and how it continues what is before it.
 use Rattle.std.specs.Prelude.{◌≡◌, ℕ, suc, ◌<◌, [], ◌∷◌, length}
 use Rattle.dk_lexer.specs.declared.token.Token.{Token}
-use Rattle.dk_parser.specs.declared.terminal.Keyword.TheVariants.{Edge}
+use Rattle.source_words.specs.declared.word.Keyword.TheVariants.{Edge}
 use Rattle.dk_parser.specs.declared.terminal.Terminal.{Terminal}
 use Rattle.dk_parser.specs.declared.tree.Start.{Start}
 use Rattle.dk_parser.specs.declared.terminal.Terminal.TheVariants.{Keyword}

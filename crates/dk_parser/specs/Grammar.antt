@@ -7,7 +7,7 @@ use Rattle.dk_base.specs.declared.operator.Scaling.{Scaling}
 use Rattle.dk_lexer.specs.declared.token.Token.{Token}
 use Rattle.dk_lexer.specs.declared.token.Symbol.TheVariants.{Bang, Bar, Caret, Ampersand, Plus, Minus, Star, Slash, Open, Close, Comma, ShiftLeft as Shl, ShiftRight as Shr, Less as Lt, LessEqual as Le, Greater as Gt, GreaterEqual as Ge, EqualEqual as Eq, NotEqual as Ne}
 use Rattle.dk_grammar.specs.Reading.{Phrases}
-use Rattle.dk_parser.specs.declared.terminal.Keyword.TheVariants.{As, Edge, Select, Min, Max, Abs, Sat}
+use Rattle.source_words.specs.declared.word.Keyword.TheVariants.{As, Edge, Select, Min, Max, Abs, Sat}
 use Rattle.dk_parser.specs.declared.terminal.Terminal.{Terminal}
 use Rattle.dk_parser.specs.declared.terminal.Terminal.TheVariants.{Keyword, TypeWord as Type', Name as Name', Number as Number', Symbol as Sym}
 use Rattle.dk_parser.specs.declared.terminal.Mark.{Mark}
@@ -82,7 +82,7 @@ pub data Form : Type 0 where
   enclosed : Form
 
 -- Phrase f ts e rest: the tokens ts begin with a phrase of the form f, its tree is e, and rest comes after it.
--- At level 0 are the unary operators, at level n the operators of precedence n; steps are what follows a first operand.
+-- Level 0 has the unary operators, level n the operators of precedence n. Steps are what follows a first operand.
 -- Enclosed is a primary expression that is no read.
 pub data Phrase : Form → Tokens → Tree → Tokens → Type 0 where
   single : {ts rest : Tokens} {e : Tree} → Phrase (level 7) ts e rest → Phrase comparison ts e rest

@@ -5,7 +5,7 @@ use Rattle.dk_lexer.specs.declared.token.Token.{Token}
 use Rattle.dk_grammar.specs.Reading.{Phrases, Then, Done, Chain}
 use Rattle.dk_parser.specs.declared.items.Lead.{Lead}
 use Rattle.dk_parser.specs.declared.items.Lead.TheVariants as lead
-use Rattle.dk_parser.specs.declared.terminal.Keyword.TheVariants as word
+use Rattle.source_words.specs.declared.word.Keyword.TheVariants as word
 use Rattle.dk_parser.specs.declared.terminal.Terminal.{Terminal}
 use Rattle.dk_parser.specs.declared.terminal.Terminal.TheVariants.{Keyword, EndOfText}
 use Rattle.dk_parser.specs.declared.terminal.Mark.TheVariants as mark
@@ -22,7 +22,7 @@ pub data Item : Type 0 where
   definition : Definition → Item
   output : Name → Item
 
--- What follows the word that an item begins with.
+-- What follows the first word of an item.
 abbrev pub AnItem : Lead → Phrases Token Item
 AnItem lead.Input = Then AnInput (λ i. Done (input i))
 AnItem lead.Let = Then (ADefinition false) (λ d. Done (definition d))

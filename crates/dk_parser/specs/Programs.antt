@@ -1,10 +1,10 @@
 -- Programs without where they lie in memory, and their inputs and definitions.
-use Rattle.std.specs.Prelude.{List, [], ◌∷◌, Option, Some, None, Bool, true, false}
+use Rattle.std.specs.Prelude.{List, [], ◌∷◌, Option, Some, None, Bool, true, false, All}
 use Rattle.dk_base.specs.declared.span.Span.{Span}
 use Rattle.dk_lexer.specs.declared.token.Token.{Token}
 use Rattle.dk_lexer.specs.declared.token.Symbol.TheVariants.{Open, Close, Comma, Colon, Equal}
 use Rattle.dk_grammar.specs.Reading.{Phrases, One, Then, Done}
-use Rattle.dk_parser.specs.declared.terminal.Keyword.TheVariants as word
+use Rattle.source_words.specs.declared.word.Keyword.TheVariants as word
 use Rattle.dk_parser.specs.declared.terminal.Terminal.{Terminal}
 use Rattle.dk_parser.specs.declared.terminal.Terminal.TheVariants.{Symbol as Sym}
 use Rattle.dk_parser.specs.declared.terminal.Mark.TheVariants as mark
@@ -14,7 +14,7 @@ use Rattle.dk_parser.specs.declared.tree.TypeWord.{TypeWord}
 use Rattle.dk_parser.specs.declared.tree.Input.{Input}
 use Rattle.dk_parser.specs.declared.tree.Def.{Def}
 use Rattle.dk_parser.specs.declared.tree.Program.{Program}
-use Rattle.dk_parser.specs.Tree.{Tree, tree_of}
+use Rattle.dk_parser.specs.Tree.{Tree, tree_of, ConvertsToTypes}
 use Rattle.dk_parser.specs.Terminals.{terminal}
 use Rattle.dk_parser.specs.Words.{Gives, Sign, AName, AType}
 use Rattle.dk_parser.specs.Grammar.{Closed}
@@ -33,6 +33,10 @@ pub record Source : Type 0 where
   pub inputs : List Input
   pub definitions : List Definition
   pub outputs : List Name
+
+-- each conversion of its bodies is to a type of 1 to 64 bits
+abbrev pub AllConvertToTypes : Source → Type 0
+AllConvertToTypes p = All (λ d. ConvertsToTypes d.body) p.definitions
 
 abbrev pub definition_of : Def → Definition
 definition_of d = record { inline = d.inline; name = d.name; declared = d.declared; body = tree_of d.body }

@@ -4,7 +4,7 @@ use Rattle.dk_base.specs.declared.span.Span.{Span}
 use Rattle.dk_lexer.specs.declared.token.Token.{Token}
 use Rattle.dk_lexer.specs.declared.token.Symbol.TheVariants.{Open, Close, Comma}
 use Rattle.dk_grammar.specs.Reading.{Phrases, One, Then, Done}
-use Rattle.dk_parser.specs.declared.terminal.Keyword.TheVariants.{X, Y, Edge, Clamp}
+use Rattle.source_words.specs.declared.word.Keyword.TheVariants.{X, Y, Edge, Clamp}
 use Rattle.dk_parser.specs.declared.terminal.Terminal.TheVariants.{Keyword}
 use Rattle.dk_parser.specs.declared.terminal.Mark.{Mark}
 use Rattle.dk_parser.specs.declared.terminal.Mark.TheVariants as mark

@@ -1,5 +1,6 @@
 -- Syntax trees, without where they lie in memory.
 use Rattle.std.specs.Prelude.{ℕ}
+use Rattle.dk_base.specs.Types.{IsType}
 use Rattle.dk_base.specs.declared.span.Span.{Span}
 use Rattle.dk_base.specs.declared.operator.Unary.{Unary}
 use Rattle.dk_base.specs.declared.operator.Binary.{Binary}
@@ -40,6 +41,17 @@ at_span s (scale _ o a k) = scale s o a k
 at_span s (cast _ a t) = cast s a t
 at_span s (sat _ a t) = sat s a t
 at_span s (select _ a b c) = select s a b c
+
+-- each conversion is to a type of 1 to 64 bits
+abbrev pub ConvertsToTypes : Tree → Type 0
+ConvertsToTypes (number s v) = Unit {0}
+ConvertsToTypes (read s r) = Unit {0}
+ConvertsToTypes (unary s o a) = ConvertsToTypes a
+ConvertsToTypes (binary s o a b) = ConvertsToTypes a × ConvertsToTypes b
+ConvertsToTypes (scale s o a k) = ConvertsToTypes a
+ConvertsToTypes (cast s a t) = IsType t.ty × ConvertsToTypes a
+ConvertsToTypes (sat s a t) = IsType t.ty × ConvertsToTypes a
+ConvertsToTypes (select s a b c) = ConvertsToTypes a × ConvertsToTypes b × ConvertsToTypes c
 
 abbrev pub tree_at : Span → Node → Tree
 tree_at span (Number v) = number span v

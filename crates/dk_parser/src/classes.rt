@@ -3,13 +3,14 @@
 ghost use Rattle.std.specs.Prelude.{◌≡◌, ◌<◌, [], MatchOption};
 ghost use Rattle.dk_parser.specs.Ahead.{IsAhead};
 ghost use Rattle.dk_parser.specs.Front.{IsFront, IsEdge, rank};
-ghost use Rattle.dk_parser.specs.Terminals.{terminal_of, terminal_of_word, same_codes, type_or_name as type_or_name_of, width_of};
+ghost use Rattle.dk_parser.specs.Terminals.{terminal_of, terminal_of_word};
 ghost use Rattle.dk_parser.specs.Grammar.{binding as binding_of, start as start_of};
 
-use crate::terminal::{Keyword, Terminal};
+use crate::terminal::Terminal;
 use crate::tree::{Binding, Start, Step};
-use dk_base::{Binary, Scaling, Ty, Unary};
+use dk_base::{Binary, Scaling, Unary};
 use dk_lexer::{Symbol, Token, TokenKind};
+use source_words::{Keyword, find_keyword, read_type};
 
 // The first token, what the grammar sees of it, and the tokens after it.
 pub(crate) fn front(tokens: &[Token]) -> Option<(&Token, Terminal, &[Token])>
@@ -22,9 +23,9 @@ pub(crate) fn front(tokens: &[Token]) -> Option<(&Token, Terminal, &[Token])>
 // How the tokens go on with an expression before them, at a level of operators.
 #[derive(Drop)]
 pub(crate) enum Ahead<'a> {
-    // An operator of the level that requires an operand, and the tokens after it.
+    // An operator of the level that expects an operand, and the tokens after it.
     Operand(Binary, &'a [Token]),
-    // An operator of the level that requires a number or a type, and the tokens after it.
+    // An operator of the level that expects a number or a type, and the tokens after it.
     Suffix(Step, &'a [Token]),
     // An operator that binds tighter than the level.
     Tighter,
@@ -57,7 +58,7 @@ pub(crate) fn look_ahead<'a>(precedence: u8, tokens: &'a [Token]) -> Ahead<'a>
     }
 }
 
-// The tokens after the word that makes a read a clamped one, where it is first.
+// The tokens after `edge`, if it is the first token.
 #[tactic(auto, using(crate::proofs::Edges::not_edge))]
 pub(crate) fn edge(tokens: &[Token]) -> Option<&[Token]>
     ensures { MatchOption result (1 < rank tokens.now) (λ x. IsEdge tokens.now x.now) }
@@ -86,78 +87,12 @@ pub(crate) fn terminal(token: &Token) -> Terminal
 fn word(bytes: &[u8]) -> Terminal
     ensures { result ≡ terminal_of_word bytes.now }
 {
-    if same(bytes, b"size") {
-        Terminal::Keyword(Keyword::Size)
-    } else if same(bytes, b"input") {
-        Terminal::Keyword(Keyword::Input)
-    } else if same(bytes, b"let") {
-        Terminal::Keyword(Keyword::Let)
-    } else if same(bytes, b"inline") {
-        Terminal::Keyword(Keyword::Inline)
-    } else if same(bytes, b"im") {
-        Terminal::Keyword(Keyword::Im)
-    } else if same(bytes, b"end") {
-        Terminal::Keyword(Keyword::End)
-    } else if same(bytes, b"output") {
-        Terminal::Keyword(Keyword::Output)
-    } else if same(bytes, b"as") {
-        Terminal::Keyword(Keyword::As)
-    } else if same(bytes, b"select") {
-        Terminal::Keyword(Keyword::Select)
-    } else if same(bytes, b"min") {
-        Terminal::Keyword(Keyword::Min)
-    } else if same(bytes, b"max") {
-        Terminal::Keyword(Keyword::Max)
-    } else if same(bytes, b"abs") {
-        Terminal::Keyword(Keyword::Abs)
-    } else if same(bytes, b"sat") {
-        Terminal::Keyword(Keyword::Sat)
-    } else if same(bytes, b"x") {
-        Terminal::Keyword(Keyword::X)
-    } else if same(bytes, b"y") {
-        Terminal::Keyword(Keyword::Y)
-    } else if same(bytes, b"edge") {
-        Terminal::Keyword(Keyword::Edge)
-    } else if same(bytes, b"clamp") {
-        Terminal::Keyword(Keyword::Clamp)
-    } else {
-        type_or_name(bytes)
+    if let Some(keyword) = find_keyword(bytes) {
+        return Terminal::Keyword(keyword);
     }
-}
-
-fn same(left: &[u8], right: &[u8]) -> bool
-    ensures { result ≡ same_codes left.now right.now }
-{
-    left == right
-}
-
-fn type_or_name(bytes: &[u8]) -> Terminal
-    ensures { result ≡ type_or_name_of bytes.now }
-{
-    match bytes {
-        [b'u', digits @ ..] => match width(digits) {
-            Some(bits) => Terminal::TypeWord(Ty::Unsigned(bits)),
-            None => Terminal::Name,
-        },
-        [b's', digits @ ..] => match width(digits) {
-            Some(bits) => Terminal::TypeWord(Ty::Signed(bits)),
-            None => Terminal::Name,
-        },
-        _ => Terminal::Name,
-    }
-}
-
-// 1 to 64 in decimal, without a leading zero.
-fn width(digits: &[u8]) -> Option<u8>
-    ensures { result ≡ width_of digits.now }
-{
-    match digits {
-        [ones @ b'1'..=b'9'] => Some(*ones - b'0'),
-        [tens @ b'1'..=b'9', ones @ b'0'..=b'9'] => {
-            let bits = 10 * (*tens - b'0') + (*ones - b'0');
-            if bits <= 64 { Some(bits) } else { None }
-        }
-        _ => None,
+    match read_type(bytes) {
+        Some(ty) => Terminal::TypeWord(ty),
+        None => Terminal::Name,
     }
 }
 

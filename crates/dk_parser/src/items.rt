@@ -12,11 +12,12 @@ ghost use Rattle.dk_parser.specs.Kept.{IsDraft, GrownDraft, GrownItem, GrownItem
 
 use crate::built::{self, Built};
 use crate::halt::Halt;
-use crate::terminal::{Keyword, Mark, Terminal};
+use crate::terminal::{Mark, Terminal};
 use crate::tree::{Def, Input, Name, TypeWord};
 use crate::{classes, expression, single};
 use dk_base::Span;
 use dk_lexer::{Symbol, Token};
+use source_words::Keyword;
 use std::alloc::{AllocError, Global};
 
 // The word that an input, a definition or an output begins with, or the end of the text.
@@ -120,7 +121,7 @@ fn header(tokens: &[Token]) -> Result<(Span, &[Token]), Halt>
     Ok((last, rest))
 }
 
-// A definition after its `let`.
+// A definition, after its `let`.
 fn definition<'a>(
     alloc: Global,
     inline: bool,

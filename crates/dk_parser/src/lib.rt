@@ -13,7 +13,7 @@ mod terminal;
 mod tree;
 mod whole;
 
-pub use terminal::{Keyword, Mark, Terminal};
+pub use terminal::{Mark, Terminal};
 pub use tree::{
     Def, Expr, ImageRead, Input, Literal, Name, Node, Offset, Program, Start, Step, TypeWord,
 };

@@ -15,10 +15,11 @@ use crate::built::{self, Built};
 use crate::classes;
 use crate::halt::Halt;
 use crate::single::{self, Turn};
-use crate::terminal::{Keyword, Mark};
+use crate::terminal::Mark;
 use crate::tree::{ImageRead, Name, Offset};
 use dk_base::Span;
 use dk_lexer::{Symbol, Token};
+use source_words::Keyword;
 use std::alloc::Global;
 
 // What follows a mark, or the sign of a number before it.

@@ -5,27 +5,7 @@ ghost use Rattle.dk_parser.specs.Marks.{mark_terminal};
 
 use dk_base::Ty;
 use dk_lexer::Symbol;
-
-#[derive(Clone, Copy, PartialEq, Eq)]
-pub enum Keyword {
-    Size,
-    Input,
-    Let,
-    Inline,
-    Im,
-    End,
-    Output,
-    As,
-    Select,
-    Min,
-    Max,
-    Abs,
-    Sat,
-    X,
-    Y,
-    Edge,
-    Clamp,
-}
+use source_words::Keyword;
 
 /// A terminal of the grammar.
 #[derive(Clone, Copy, PartialEq, Eq)]

@@ -1,6 +1,6 @@
 // Programs.
 
-ghost use Rattle.std.specs.Prelude.{◌⊎◌, ◌≡◌, ◌≢◌, ◌↔◌, ℕ, List, MatchResult};
+ghost use Rattle.std.specs.Prelude.{◌⊎◌, ◌≡◌, ◌≢◌, ◌↔◌, ℕ, List, IfOk, MatchResult};
 ghost use Rattle.dk_parser.specs.declared.whole.ParseError.{ParseError};
 ghost use Rattle.dk_parser.specs.Faults.{Halts};
 ghost use Rattle.dk_base.specs.declared.ty.Ty.{Ty};
@@ -8,7 +8,7 @@ ghost use Rattle.dk_parser.specs.declared.terminal.Terminal.{Terminal};
 ghost use Rattle.dk_parser.specs.Terminals.{terminal_of_word};
 ghost use Rattle.dk_parser.specs.Grammar.{Tokens};
 ghost use Rattle.dk_lexer.specs.Faithful.{IsEnded};
-ghost use Rattle.dk_parser.specs.Programs.{Source, source_of};
+ghost use Rattle.dk_parser.specs.Programs.{Source, source_of, AllConvertToTypes};
 ghost use Rattle.dk_parser.specs.Items.{AProgram};
 ghost use Rattle.dk_parser.specs.Rules.{IsTypeWord};
 ghost use Rattle.dk_parser.specs.Judged.{Derives, Accepted, Faults};
@@ -16,11 +16,12 @@ ghost use Rattle.dk_parser.specs.Kept.{GrownProgram};
 
 use crate::halt::Halt;
 use crate::items::{self, Parts};
-use crate::terminal::{Keyword, Mark};
+use crate::terminal::Mark;
 use crate::tree::{Literal, Program};
 use crate::{classes, nest, single};
 use dk_base::Span;
 use dk_lexer::Token;
+use source_words::Keyword;
 use std::alloc::Global;
 
 /// Why tokens have no program.
@@ -54,8 +55,7 @@ fn program<'a>(
     Ok((width, height, parts, rest))
 }
 
-/// The program of these tokens, of which the last and no other is the end of the text.
-pub fn parse(alloc: Global, tokens: &[Token]) -> Result<Program, ParseError>
+fn judged(alloc: Global, tokens: &[Token]) -> Result<Program, ParseError>
     requires { IsEnded tokens.now }
     ensures { MatchResult result (λ p. Accepted tokens.now (source_of p)) (λ fault. Faults tokens.now fault) }
 {
@@ -81,7 +81,17 @@ pub fn parse(alloc: Global, tokens: &[Token]) -> Result<Program, ParseError>
     }
 }
 
-/// Tokens that end as those of a text have one program, or one fault, except if out of memory; and a type word is what the rules of the language say.
+/// The program of these tokens, of which the last and no other is the end of the text.
+pub fn parse(alloc: Global, tokens: &[Token]) -> Result<Program, ParseError>
+    requires { IsEnded tokens.now }
+    ensures judged { MatchResult result (λ p. Accepted tokens.now (source_of p)) (λ fault. Faults tokens.now fault) }
+    ensures types { IfOk result (λ p. AllConvertToTypes (source_of p)) }
+{
+    let program = judged(alloc, tokens)?;
+    Ok(program)
+}
+
+/// Tokens that end as those of a text have exactly one program or one fault, except if out of memory. A type word is what the rules of the language state.
 pub fn one_judgement_law()
     ensures program { (ts : Tokens) (p q : Source) → Derives ts p → Derives ts q → p ≡ q }
     ensures none_beside { (ts : Tokens) (p : Source) (f : ParseError) → Accepted ts p → Faults ts f → f ≡ ParseError.OutOfMemory }

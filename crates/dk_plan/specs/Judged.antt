@@ -14,7 +14,7 @@ use Rattle.dk_plan.specs.declared.judging.CheckFault.TheVariants.{Line, OutOfMem
 use Rattle.dk_plan.specs.Planned.{aged, IsTextOf}
 use Rattle.plan_check.specs.First.{IsFirst}
 
--- The report holds: all its lines are right, and no causal delays need fewer bits than it says. These are its bits and its first latency.
+-- The report holds: all its lines are right, and no causal schedule needs fewer bits than it claims. These are its bits and its first latency.
 pub record Confirms (names : List (List ℕ)) (s : System) (claim : Claim) (r : Report) : Type 0 where
   pub holds : HoldsOf names s r
   pub least : AreLeast s r
@@ -35,7 +35,7 @@ abbrev pub of_reader : ReportFault → CheckFault
 of_reader (reader.Line number) = Line number
 of_reader reader.OutOfMemory = OutOfMemory
 
--- why a report does not hold; out of memory states nothing
+-- why a report does not hold; no report determines out of memory
 abbrev pub IsCheckFault : (names : List (List ℕ)) → Stencils → (bytes : List ℕ) → CheckFault → Type 0
 IsCheckFault names stencils bytes (Line number) = IsWrongLine names stencils bytes number
 IsCheckFault names stencils bytes OutOfMemory = ⊤

@@ -28,31 +28,29 @@ evaluated_pair ir rounds output program all is source file read = λ p images ac
     let form = read.formed p accepted in
     is ∙ evaluated_is source p ir accepted.accepted.program form program rounds images (read.input.frames p form images fits) all.each
 
--- what is written is the output file, or is related to it as it is to what was made
+-- what is written is the output file, or has the same relation to it as to what was made
 pub held_told : (told : Option Files) (terms : Terms) (program image : List ℕ) (bytes : Option (List ℕ)) (output : List ℕ) (R : List ℕ → List ℕ → Type 0) → IfSome told (λ f. OfPair terms (bytes_of f program) (bytes_of f image) (λ p images. output ≡ output_file p images))
     → IfSome bytes (λ written. R written output) → IfSome told (λ f. IfSome bytes (λ written. OfPair terms (bytes_of f program) (bytes_of f image) (λ p images. R written (output_file p images))))
 held_told None terms program image bytes output R made written = tt
 held_told (Some f) terms program image None output R made written = tt
 held_told (Some f) terms program image (Some b) output R made written = λ p images accepted fits. subst (R b) (made p images accepted fits) written
 
--- what is made of the files that were read, as far as they are specified
+-- what is made of the files that were read, as far as the desk specifies them
 pub read_pair : (told : Option Files) (program image : List ℕ) (ir : Program) (rounds : List Round) (Q : List ℕ → List ℕ → Type 0) → IfSome told (λ f. IsRead eval_terms (bytes_of f program) (bytes_of f image) ir rounds)
     → ((source file : List ℕ) → IsRead eval_terms source file ir rounds → Q source file) → IfSome told (λ f. Q (bytes_of f program) (bytes_of f image))
 read_pair None program image ir rounds Q read made = tt
 read_pair (Some f) program image ir rounds Q read made = made (bytes_of f program) (bytes_of f image) read
 
--- a line to Fault leaves what was asked for
-pub order_stays : (command : Option Command) (files : Option Files) (mid new : Outside) → new.image ≡ mid.image → IfSome command (λ c. IfSome files (λ f. AsksInOrder c f mid)) → IfSome command (λ c. IfSome files (λ f. AsksInOrder c f new))
-order_stays None files mid new same h = tt
-order_stays (Some c) None mid new same h = tt
-order_stays (Some (run p i o a)) (Some f) mid new same h = λ asked. h (subst (λ (s : Input). s.stage ≢ Unasked) same asked)
-order_stays (Some (eval p i o)) (Some f) mid new same h = λ asked. h (subst (λ (s : Input). s.stage ≢ Unasked) same asked)
-order_stays (Some (compile p o e a)) (Some f) mid new same h = tt
-order_stays (Some (trace v c i o)) (Some f) mid new same h = λ asked. h (subst (λ (s : Input). s.stage ≢ Unasked) same asked)
-order_stays (Some (make n)) (Some f) mid new same h = tt
-order_stays (Some (sim v c i o p h)) (Some f) mid new same h' = λ asked. h' (subst (λ (s : Input). s.stage ≢ Unasked) same asked)
-order_stays (Some (plan p a)) (Some f) mid new same h = tt
-order_stays (Some (check p r)) (Some f) mid new same h = λ asked. h (subst (λ (s : Input). s.stage ≢ Unasked) same asked)
+-- a line to Fault leaves what was requested
+same_order : (c : Command) (f : Files) (mid new : Outside) → new.image ≡ mid.image → AsksInOrder c f mid → AsksInOrder c f new
+same_order (run p i o a) f mid new same h = λ asked. h (subst (λ (s : Input). s.stage ≢ Unasked) same asked)
+same_order (eval p i o) f mid new same h = λ asked. h (subst (λ (s : Input). s.stage ≢ Unasked) same asked)
+same_order (compile p o e a) f mid new same h = tt
+same_order (trace v c i o) f mid new same h = λ asked. h (subst (λ (s : Input). s.stage ≢ Unasked) same asked)
+same_order (make n) f mid new same h = tt
+same_order (sim v c i o p k) f mid new same h = λ asked. h (subst (λ (s : Input). s.stage ≢ Unasked) same asked)
+same_order (plan p a) f mid new same h = tt
+same_order (check p r) f mid new same h = λ asked. h (subst (λ (s : Input). s.stage ≢ Unasked) same asked)
 
 -- what holds of all files holds on every desk
 pub on_all : (c : Command) (told : Option Files) (P : Files → Type 0) → ((f : Files) → P f) → OnFiles c told P
@@ -90,7 +88,11 @@ on_each (plan p a) (Some f) P Q g h = g f h
 on_each (check p r) None P Q g h = tt
 on_each (check p r) (Some f) P Q g h = g f h
 
--- what is left where the words are not taken, or for which there was no memory
+pub order_stays : (command : Option Command) (files : Option Files) (mid new : Outside) → new.image ≡ mid.image → IfSome command (λ c. OnFiles c files (λ f. AsksInOrder c f mid)) → IfSome command (λ c. OnFiles c files (λ f. AsksInOrder c f new))
+order_stays None files mid new same h = tt
+order_stays (Some c) files mid new same h = on_each c files (λ f. AsksInOrder c f mid) (λ f. AsksInOrder c f new) (λ f. same_order c f mid new same) h
+
+-- what holds if the words are refused, or if out of memory
 memory_verdict : (c : Command) (f : Files) → IsVerdict c f ending.Memory
 memory_verdict (run p i o a) f = tt
 memory_verdict (eval p i o) f = tt
@@ -116,10 +118,9 @@ unasked_order (sim v c i out p h) f o fresh = λ asked. absurd (asked fresh)
 unasked_order (plan p a) f o fresh = tt
 unasked_order (check p r) f o fresh = λ asked. absurd (asked fresh)
 
-pub words_order : (command : Option Command) (files : Option Files) (o : Outside) → o.image.stage ≡ Unasked → IfSome command (λ c. IfSome files (λ f. AsksInOrder c f o))
+pub words_order : (command : Option Command) (files : Option Files) (o : Outside) → o.image.stage ≡ Unasked → IfSome command (λ c. OnFiles c files (λ f. AsksInOrder c f o))
 words_order None files o fresh = tt
-words_order (Some c) None o fresh = tt
-words_order (Some c) (Some f) o fresh = unasked_order c f o fresh
+words_order (Some c) files o fresh = on_all c files (λ f. AsksInOrder c f o) (λ f. unasked_order c f o fresh)
 
 usage_report : (c : Command) (f : Files) (r : Option (List ℕ)) → IsReported ending.Usage c f r r
 usage_report (run p i o a) f r = refl
@@ -191,11 +192,10 @@ memory_begun (sim v c i o p h) f s = tt
 memory_begun (plan p a) f s = tt
 memory_begun (check p t) f s = tt
 
-pub words_begun : (command : Option Command) (files : Option Files) (e : Ending) (s : Stage) → (e ≡ ending.Usage) ⊎ (e ≡ ending.Memory) → IfSome command (λ c. IfSome files (λ f. CreatesBy c e f s))
+pub words_begun : (command : Option Command) (files : Option Files) (e : Ending) (s : Stage) → (e ≡ ending.Usage) ⊎ (e ≡ ending.Memory) → IfSome command (λ c. OnFiles c files (λ f. CreatesBy c e f s))
 words_begun None files e s either = tt
-words_begun (Some c) None e s either = tt
-words_begun (Some c) (Some f) e s (inl is) = subst (λ x. CreatesBy c x f s) (sym is) (usage_begun c f s)
-words_begun (Some c) (Some f) e s (inr is) = subst (λ x. CreatesBy c x f s) (sym is) (memory_begun c f s)
+words_begun (Some c) files e s (inl is) = on_all c files (λ f. CreatesBy c e f s) (λ f. subst (λ x. CreatesBy c x f s) (sym is) (usage_begun c f s))
+words_begun (Some c) files e s (inr is) = on_all c files (λ f. CreatesBy c e f s) (λ f. subst (λ x. CreatesBy c x f s) (sym is) (memory_begun c f s))
 
 -- what holds of the command that is named
 pub named_has : (o : Option Command) (c : Command) → o ≡ Some c → (P : Command → Type 0) → P c → IfSome o P
@@ -222,8 +222,7 @@ memory_reads (sim v c i o p h) f slot s = tt
 memory_reads (plan p a) f slot s = tt
 memory_reads (check p t) f slot s = tt
 
-pub words_reads : (command : Option Command) (files : Option Files) (e : Ending) (i : Input) (s : Stage) → (e ≡ ending.Usage) ⊎ (e ≡ ending.Memory) → IfSome command (λ c. IfSome files (λ f. ReadsBy c e f i s))
+pub words_reads : (command : Option Command) (files : Option Files) (e : Ending) (i : Input) (s : Stage) → (e ≡ ending.Usage) ⊎ (e ≡ ending.Memory) → IfSome command (λ c. OnFiles c files (λ f. ReadsBy c e f i s))
 words_reads None files e i s either = tt
-words_reads (Some c) None e i s either = tt
-words_reads (Some c) (Some f) e i s (inl is) = subst (λ x. ReadsBy c x f i s) (sym is) (usage_reads c f i s)
-words_reads (Some c) (Some f) e i s (inr is) = subst (λ x. ReadsBy c x f i s) (sym is) (memory_reads c f i s)
+words_reads (Some c) files e i s (inl is) = on_all c files (λ f. ReadsBy c e f i s) (λ f. subst (λ x. ReadsBy c x f i s) (sym is) (usage_reads c f i s))
+words_reads (Some c) files e i s (inr is) = on_all c files (λ f. ReadsBy c e f i s) (λ f. subst (λ x. ReadsBy c x f i s) (sym is) (memory_reads c f i s))

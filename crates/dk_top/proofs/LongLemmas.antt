@@ -7,8 +7,8 @@ use Rattle.dk_desk.specs.declared.Stage.TheVariants.{Unasked}
 use Rattle.dk_desk.specs.Outside.{Input, Outside}
 use Rattle.dk_desk.specs.Calls.{LosesCount}
 use Rattle.dk_compile.specs.declared.compiling.Compiled.{Compiled}
-use Rattle.dk_compile.specs.declared.fault.SourceFault.{SourceFault}
-use Rattle.dk_compile.specs.declared.fault.SourceFault.TheVariants as source
+use Rattle.source_fault.specs.declared.fault.SourceFault.{SourceFault}
+use Rattle.source_fault.specs.declared.fault.SourceFault.TheVariants as source
 use Rattle.dk_compile.specs.Limits.{IsAcceptedAt, IsFaultAt}
 use Rattle.dk_types.specs.Typed.{Typing}
 use Rattle.dk_endings.specs.declared.ending.Ending.{Ending}
@@ -17,14 +17,15 @@ use Rattle.dk_endings.specs.declared.ending.ImageFault.TheVariants as image
 use Rattle.dk_endings.specs.declared.verilog.VerilogFault.{VerilogFault}
 use Rattle.dk_endings.specs.declared.verilog.VerilogFault.TheVariants as verilog
 use Rattle.dk_top.specs.Compiling.{IsCompiledFrom}
-use Rattle.dk_top.specs.Verdict.{Files, bytes_of, IsRunAnswer}
+use Rattle.dk_top.specs.Verdict.{Files, bytes_of, OnFiles, IsRunAnswer}
 use Rattle.dk_top.specs.Command.{Command, run, eval, compile, sim, trace, plan, check, make}
 use Rattle.dk_top.specs.State.{LeavesRest, LeavesText, LeavesImages, LeavesBoth, TakesNoMore, AsksWhere, AsksWhereModule}
 use Rattle.dk_top.specs.Reading.{IsSourceEnding, IsUnread, TellsNoText, TellsNoImages}
 use Rattle.dk_top.specs.Simulating.{IsModuleEnding}
+use Rattle.dk_top.proofs.CommandLemmas.{on_all}
 use Rattle.dk_top.proofs.CompileLemmas.{PlannedAccepted, compiled_accepted}
 
--- what is left, where this many bytes were taken
+-- what is left after one byte more than the limit was read
 left_over : (file bytes : List ℕ) (limit : ℕ) (rest : Option (List ℕ)) → length bytes ≡ limit + 1 → Some file ≡ prepend_known bytes rest → rest ≡ Some (drop (limit + 1) file)
 left_over file bytes limit None long is = absurd (let apart : ⊥ = cc in apart)
 left_over file bytes limit (Some r) long is =
@@ -186,7 +187,7 @@ pub ran_left : ((text : List ℕ) (age : ℕ) (p : Typing) (f : SourceFault) →
 ran_left apart law None program images age c slot e from h = tt
 ran_left apart law (Some f) program images age c slot e from h = ran_text apart law (bytes_of f program) (bytes_of f images) age c from e h (bytes_of f program) slot
 
--- words that are not taken, or for which there was no memory
+-- words that are refused, or out of memory
 usage_left : (c : Command) (f : Files) (i j : Input) → TakesNoMore c ending.Usage f i j
 usage_left (run p im o a) f i j = tt
 usage_left (eval p im o) f i j = (tt, tt)
@@ -207,13 +208,12 @@ memory_left (sim v c im o p h) f i j = (tt, tt)
 memory_left (plan p a) f i j = tt
 memory_left (check p t) f i j = (tt, tt)
 
-pub words_left : (command : Option Command) (files : Option Files) (e : Ending) (i j : Input) → (e ≡ ending.Usage) ⊎ (e ≡ ending.Memory) → IfSome command (λ c. IfSome files (λ f. TakesNoMore c e f i j))
+pub words_left : (command : Option Command) (files : Option Files) (e : Ending) (i j : Input) → (e ≡ ending.Usage) ⊎ (e ≡ ending.Memory) → IfSome command (λ c. OnFiles c files (λ f. TakesNoMore c e f i j))
 words_left None files e i j either = tt
-words_left (Some c) None e i j either = tt
-words_left (Some c) (Some f) e i j (inl is) = subst (λ x. TakesNoMore c x f i j) (sym is) (usage_left c f i j)
-words_left (Some c) (Some f) e i j (inr is) = subst (λ x. TakesNoMore c x f i j) (sym is) (memory_left c f i j)
+words_left (Some c) files e i j (inl is) = on_all c files (λ f. TakesNoMore c e f i j) (λ f. subst (λ x. TakesNoMore c x f i j) (sym is) (usage_left c f i j))
+words_left (Some c) files e i j (inr is) = on_all c files (λ f. TakesNoMore c e f i j) (λ f. subst (λ x. TakesNoMore c x f i j) (sym is) (memory_left c f i j))
 
--- nothing was asked of the images yet
+-- the images were not requested yet
 pub unasked_where : (told : Option Files) (is : Files → Typing → Type 0) (o : Outside) → o.image.stage ≡ Unasked → IfSome told (λ f. AsksWhere (is f) o)
 unasked_where None is o fresh = tt
 unasked_where (Some f) is o fresh = λ asked. absurd (asked fresh)

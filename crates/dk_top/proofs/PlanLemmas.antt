@@ -4,7 +4,7 @@ use Rattle.dk_types.specs.Typed.{Typing}
 use Rattle.dk_plan.specs.declared.judging.Claim.{Claim}
 use Rattle.dk_endings.specs.declared.ending.Ending.{Ending}
 use Rattle.dk_endings.specs.declared.ending.Ending.TheVariants as ending
-use Rattle.dk_compile.specs.declared.fault.SourceFault.{SourceFault}
+use Rattle.source_fault.specs.declared.fault.SourceFault.{SourceFault}
 use Rattle.dk_endings.specs.declared.ending.ReportFault.{ReportFault}
 use Rattle.dk_endings.specs.declared.ending.ReportFault.TheVariants as report
 use Rattle.dk_base.specs.Stencils.{Stencils}

@@ -10,7 +10,7 @@ use Rattle.flow_dual.specs.declared.solution.Solution.{Solution}
 use Rattle.buffer_plan.specs.Plans.{Plan}
 use Rattle.dk_compile.specs.Sources.{IsText}
 use Rattle.dk_compile.specs.Fronts.{IsForm}
-use Rattle.dk_compile.specs.declared.fault.SourceFault.{SourceFault}
+use Rattle.source_fault.specs.declared.fault.SourceFault.{SourceFault}
 use Rattle.dk_compile.specs.Compiled.{IsPlanned}
 use Rattle.pgm_codec.specs.Images.{Image}
 use Rattle.pgm_rounds.specs.declared.round.Round.{Round}
@@ -21,14 +21,14 @@ use Rattle.pgm_rounds.specs.Files.{FitsFile, IsFault, frame_of, frames_of}
 use Rattle.dk_endings.specs.declared.ending.Ending.{Ending}
 use Rattle.dk_endings.specs.declared.ending.Ending.TheVariants as ending
 use Rattle.dk_endings.specs.declared.ending.ImageFault.TheVariants as image
-use Rattle.dk_compile.specs.declared.fault.SourceFault.TheVariants as source
+use Rattle.source_fault.specs.declared.fault.SourceFault.TheVariants as source
 use Rattle.dk_compile.specs.Sources.{IsSourceFault}
 use Rattle.dk_compile.specs.Limits.{IsAcceptedAt, IsFaultAt}
 use Rattle.dk_top.specs.Program.{ports}
 use Rattle.dk_top.specs.Verdict.{Terms, Files, bytes_of, IsGoodPair, IsAnswer}
 use Rattle.dk_top.specs.Reading.{IsSourceEnding, IsUnreadText, IsImageEnding, IsUnread, IsInputOf, IsRead}
 
--- a form asks of files what its program asks
+-- a form expects of files what its program expects
 pub ports_same : (p : Typing) (ir : Program) → IsForm p ir → ports_of ir ≡ ports p
 ports_same p ir f =
     ap (λ s. ports_from s (map (λ i. i.ty) ir.inputs)) f.size ∙ ap (λ is. ports_from p.size is) f.inputs
@@ -84,7 +84,7 @@ source_answer terms source file ending.Memory is = tt
 pub every_form : ((text : List ℕ) (p q : Typing) → IsText text p → IsText text q → p ≡ q) → (text : List ℕ) (age : ℕ) (found : Typing) (ir : Program) (s : System) (x : Solution) (plan : Plan) → IsPlanned text age found ir s x plan → (p : Typing) → IsAcceptedAt text age p → IsForm p ir
 every_form one text age found ir s x plan is p accepted = subst (λ (q : Typing). IsForm q ir) (one text found p is.has.front.program accepted.accepted.program) is.has.front.form
 
--- what holds of the bytes that were read holds of those of the file, as far as it is specified
+-- what holds of the bytes that were read holds of those of the file, as far as the desk specifies it
 pub ok_told : {A E : Type 0} (r : Result A E) (told : Option Files) (file name : List ℕ) (Q : A → List ℕ → Type 0) → IfSome told (λ f. file ≡ bytes_of f name) → IfOk r (λ a. Q a file) → IfOk r (λ a. IfSome told (λ f. Q a (bytes_of f name)))
 ok_told (Ok a) None file name Q is h = tt
 ok_told (Ok a) (Some f) file name Q is h = subst (Q a) is h
@@ -187,7 +187,7 @@ pub told_same : (told : Option Files) (a b name : List ℕ) → a ≡ b → IfSo
 told_same None a b name e is = tt
 told_same (Some f) a b name e is = e ∙ is
 
--- the same of what is there without the value
+-- the same of a fact without the value
 pub good_told : {A E : Type 0} (r : Result A E) (told : Option Files) (file name : List ℕ) (Q : List ℕ → Type 0) → IfSome told (λ f. file ≡ bytes_of f name) → OnOk r (Q file) → OnOk r (IfSome told (λ f. Q (bytes_of f name)))
 good_told (Ok a) None file name Q is h = tt
 good_told (Ok a) (Some f) file name Q is h = subst Q is h

@@ -1,5 +1,5 @@
 -- What is read of a command's files, for the private functions.
-use Rattle.std.specs.Prelude.{◌≡◌, ℕ, ◌<◌, List, Option, ⊤, length, map, IsSomeAnd}
+use Rattle.std.specs.Prelude.{◌≡◌, ℕ, ◌<◌, List, Option, ⊤, length, map, IfSome, IsSomeAnd}
 use Rattle.dk_types.specs.Typed.{Typing}
 use Rattle.pgm_codec.specs.Images.{Image}
 use Rattle.pgm_rounds.specs.declared.round.Round.{Round}
@@ -12,14 +12,44 @@ use Rattle.dk_endings.specs.declared.ending.Ending.{Ending}
 use Rattle.dk_endings.specs.declared.ending.Ending.TheVariants as ending
 use Rattle.dk_endings.specs.declared.ending.ImageFault.TheVariants as image
 use Rattle.dk_compile.specs.Fronts.{IsForm}
-use Rattle.dk_compile.specs.declared.fault.SourceFault.{SourceFault}
-use Rattle.dk_compile.specs.declared.fault.SourceFault.TheVariants as source
+use Rattle.source_fault.specs.declared.fault.SourceFault.{SourceFault}
+use Rattle.source_fault.specs.declared.fault.SourceFault.TheVariants as source
 use Rattle.dk_base.specs.declared.TheConstants.{MAX_SOURCE_BYTES}
 use Rattle.dk_compile.specs.Limits.{IsAcceptedAt}
 use Rattle.dk_top.specs.Output.{Fits, IsImageFault}
-use Rattle.dk_desk.specs.Outside.{Input}
-use Rattle.dk_top.specs.Verdict.{Terms, IsGoodPair}
-use Rattle.dk_top.specs.State.{LeavesText, LeavesImages}
+use Rattle.dk_desk.specs.declared.transfer.ReadAll.{ReadAll}
+use Rattle.dk_desk.specs.declared.transfer.ReadAll.TheVariants as unread
+use Rattle.dk_desk.specs.Outside.{Outside, Input}
+use Rattle.dk_top.specs.Verdict.{Terms, bytes_of, IsGoodPair}
+use Rattle.dk_top.specs.State.{LeavesText, LeavesImages, LeavesBoth}
+
+-- what holds of the bytes of the file of this name, if the desk specifies its files
+abbrev pub OfFile : Outside → (name : List ℕ) → (List ℕ → Type 0) → Type 0
+OfFile o name P = IfSome o.files (λ files. P (bytes_of files name))
+
+-- what holds of the bytes of two files
+abbrev pub OfFiles : Outside → (first second : List ℕ) → (List ℕ → List ℕ → Type 0) → Type 0
+OfFiles o first second P = IfSome o.files (λ files. P (bytes_of files first) (bytes_of files second))
+
+-- the inputs of a command were opened and read, and nothing else was changed
+abbrev pub ReadsInputs : (old new : Outside) → Type 0
+ReadsInputs old new = new ≡ record old { program = new.program; image = new.image; input_failures = new.input_failures }
+
+-- the images were read, clocks were noted, and nothing else was changed
+abbrev pub ReadsAndNotes : (old new : Outside) → Type 0
+ReadsAndNotes old new = new ≡ record old { image = new.image; notes = new.notes; input_failures = new.input_failures }
+
+-- Report was written, and nothing else was changed
+abbrev pub WritesReport : (old new : Outside) → Type 0
+WritesReport old new = new ≡ record old { report = new.report; output_failures = new.output_failures }
+
+-- Fault was written, and nothing else was changed
+abbrev pub WritesFault : (old new : Outside) → Type 0
+WritesFault old new = new ≡ record old { fault = new.fault; fault_failures = new.fault_failures }
+
+-- what is left of a program and of images that are too long
+abbrev pub LeavesInputs : Ending → (program image : List ℕ) → (old new : Outside) → Type 0
+LeavesInputs e program image old new = OfFiles old program image (λ source file. LeavesBoth e source file new.program new.image)
 
 -- the endings that may come before anything is created
 abbrev pub Stops : Ending → Type 0
@@ -42,6 +72,12 @@ IsSourceEnding is (ending.Source fault) = is fault
 IsSourceEnding is ending.ReadFault = ⊤
 IsSourceEnding is ending.Memory = ⊤
 IsSourceEnding is _ = ⊥
+
+-- how a call ends that did not read a file whole; `too_long` is the ending for a file above its limit
+abbrev pub unread_by : ReadAll → (too_long : Ending) → Ending
+unread_by unread.Failed too_long = ending.ReadFault
+unread_by unread.TooLong too_long = too_long
+unread_by unread.OutOfMemory too_long = ending.Memory
 
 -- why a text was not read whole: its length, or a failure
 abbrev pub IsUnreadText : (text : List ℕ) → Ending → Type 0
@@ -69,7 +105,8 @@ pub record IsInputOf (most : Option ℕ) (ir : Program) (file : List ℕ) (round
   pub some : (p : Typing) → IsForm p ir → (images : List (List Image)) × Fits most p file images
   pub frames : (p : Typing) → IsForm p ir → (images : List (List Image)) → Fits most p file images → frames_of rounds ≡ map (map frame_of) images
 
--- The text is accepted, and the file fits its program. This is the program's form, and these are the frames of the rounds, whichever program and rounds the text and the file are read as.
+-- The text is accepted, and the file fits its program. This is the program's form, and these are the frames of the rounds,
+-- whichever program and rounds the text and the file are read as.
 pub record IsRead (terms : Terms) (source file : List ℕ) (ir : Program) (rounds : List Round) : Type 0 where
   pub good : IsGoodPair terms source file
   pub formed : (p : Typing) → IsAcceptedAt source terms.age p → IsForm p ir

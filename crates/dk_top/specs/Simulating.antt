@@ -8,6 +8,8 @@ use Rattle.pgm_rounds.specs.Files.{frame_of, frames_of}
 use Rattle.dk_endings.specs.declared.ending.Ending.{Ending}
 use Rattle.dk_endings.specs.declared.ending.Ending.TheVariants as ending
 use Rattle.test_bench.specs.declared.drive.Drive.{Drive}
+use Rattle.dk_base.specs.FrameSizes.{size_of}
+use Rattle.dk_top.specs.declared.commands.simulating.SimInput.{SimInput}
 use Rattle.dk_top.specs.Simulation.{IsVerilogFault, IsFileFault, IsUnfit, IsModuleOf, FitsModule}
 
 -- the ending of a Verilog text: its fault, or a failure
@@ -42,3 +44,7 @@ pub record IsInput (m : NamedNetlist) (file : List ℕ) (size : Size) (rounds : 
 pub record IsSimInput (hold : Option ℕ) (text file : List ℕ) (m : NamedNetlist) (size : Size) (rounds : List Round) : Type 0 where
   pub made : IsModuleOf hold text m
   pub input : IsInput m file size rounds
+
+-- what holds of each text and each file from which this was read
+abbrev pub OfInput : (hold : Option ℕ) → SimInput → (List ℕ → List ℕ → Type 0) → Type 0
+OfInput hold given P = (text images : List ℕ) → IsSimInput hold text images given.«module» (size_of given.input.size) given.input.rounds.items → P text images

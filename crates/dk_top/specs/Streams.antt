@@ -1,5 +1,5 @@
 -- How the images of a program with one input and one output are streamed, for the private functions.
-use Rattle.std.specs.Prelude.{◌≡◌, ◌≢◌, ℕ, List, Some, IfSome}
+use Rattle.std.specs.Prelude.{◌≡◌, ◌≢◌, ℕ, List, false, None, Some, IfSome}
 use Rattle.dk_desk.specs.declared.InSlot.TheVariants.{Image as ImageSlot}
 use Rattle.dk_desk.specs.declared.Stage.TheVariants.{Unasked, Refused, Open}
 use Rattle.dk_desk.specs.Outside.{Outside}
@@ -13,12 +13,20 @@ use Rattle.dk_endings.specs.declared.ending.Ending.{Ending}
 use Rattle.dk_endings.specs.declared.ending.Ending.TheVariants as ending
 use Rattle.dk_endings.specs.declared.ending.ImageFault.TheVariants as image
 use Rattle.dk_top.specs.Verdict.{bytes_of, IsRunAnswer}
-use Rattle.dk_top.specs.Streaming.{ReadsRun}
+use Rattle.dk_types.specs.Typed.{Typing}
+use Rattle.buffer_plan.specs.Plans.{Plan, latency}
+use Rattle.cycle_sim.specs.declared.fill.Fill.TheVariants.{Zeros}
+use Rattle.cycle_sim.specs.Filled.{filled_contents}
+use Rattle.dk_top.specs.Streaming.{ReadsRun, output_kind, first_bits}
+use Rattle.pgm_rounds.specs.declared.round.Round.{Round}
+use Rattle.dk_compile.specs.declared.compiling.Compiled.{Compiled}
+use Rattle.dk_top.specs.Compiling.{IsCompiledFrom}
+use Rattle.dk_top.specs.Reading.{IsInputOf}
 use Rattle.dk_top.specs.Command.{run}
 use Rattle.dk_compile.specs.Limits.{IsAcceptedAt}
 use Rattle.dk_top.specs.State.{AsksOnly, AsksWhere, CreatesNothing, CreatesOut, OthersStay, CreatesRun, IsHeldRun, NotedRun}
 
--- what the stream leaves after, by the ending
+-- what the stream leaves, by the ending
 abbrev pub StreamEnds : Kind → Netlist → (bits latency : ℕ) → (name : List ℕ) → Contents → (opened now : Outside) → Ending → Type 0
 StreamEnds kind m bits late name from opened now ending.Done = LeavesAll kind m bits late name from opened now
 StreamEnds kind m bits late name from opened now (ending.Image (image.File fault)) = Leaves kind m bits late (ImageFails fault) name from opened now
@@ -40,7 +48,11 @@ pub data RunsStream (kind : Kind) (m : Netlist) (bits late : ℕ) (image out : L
   refused : result ≡ ending.ReadFault → OpensOnly ImageSlot old now → now.image.stage ≡ Refused → IsIfTold now.image.name (Some image) → RunsStream kind m bits late image out from old now result
   streamed : (opened : Outside) → OpensImages image old opened → StreamEnds kind m bits late out from opened now result → RunsStream kind m bits late image out from old now result
 
--- What `run` does after the compiling of its program.
+-- The images of a program with one input and one output are streamed through its module, from zeros.
+abbrev pub StreamsFrom : Typing → Plan → Netlist → (image out : List ℕ) → (old now : Outside) → Ending → Type 0
+StreamsFrom p plan m image out old now result = RunsStream (output_kind p) m (first_bits p) (latency plan) image out (filled_contents Zeros m) old now result
+
+-- What `run` does after it has compiled its program.
 pub record RunsOn (source : List ℕ) (age : ℕ) (image out : List ℕ) (result : Ending) (old new : Outside) : Type 0 where
   pub taken : result ≢ ending.Usage
   pub verdict : IfSome old.files (λ files. IsRunAnswer age source (bytes_of files image) result)
@@ -75,3 +87,11 @@ pub record PerformsRun (program image out : List ℕ) (age : ℕ) (result : Endi
   pub only : new ≡ record old { program = new.program; image = new.image; file = new.file; files = new.files; notes = new.notes; input_failures = new.input_failures; output_failures = new.output_failures }
   pub read_fault : HasCauseIn (result ≡ ending.ReadFault) old.input_failures new.input_failures
   pub write_fault : HasCauseIn (result ≡ ending.WriteFault) old.output_failures new.output_failures
+
+-- what holds of each text and age that this is compiled from
+abbrev pub OfCompiled : Compiled → (List ℕ → ℕ → Type 0) → Type 0
+OfCompiled c P = (source : List ℕ) (age : ℕ) → IsCompiledFrom source age false c → P source age
+
+-- what holds of each text, file and age from which this is compiled and these rounds are read
+abbrev pub OfRun : Compiled → List Round → (List ℕ → List ℕ → ℕ → Type 0) → Type 0
+OfRun c rounds P = (source file : List ℕ) (age : ℕ) → IsCompiledFrom source age false c → IsInputOf None c.ir file rounds → P source file age

@@ -1,16 +1,26 @@
 //! Inputs that are read whole, and outputs that are written whole.
 
 ghost use Rattle.std.specs.Prelude.{◌≡◌, ◌≢◌, ◌<◌, ◌≤◌, Some, Err, IfOk, IfErr, IfSome, OnOk, OnErr, IsErr, length, vec_len};
-ghost use Rattle.dk_desk.specs.Outside.{Outside, input};
+ghost use Rattle.dk_desk.specs.Outside.{input};
 ghost use Rattle.dk_desk.specs.Calls.{HasCauseIn, IsIfTold, OpensOnly, CreatesOnly, grown};
-ghost use Rattle.dk_top.specs.Verdict.{bytes_of};
 ghost use Rattle.dk_top.specs.State.{IsPrefix, OthersStay, ReportsFront, LeavesRest};
-ghost use Rattle.dk_top.specs.Reading.{IsUnread, Stops, TellsNoText};
+ghost use Rattle.dk_top.specs.Reading.{unread_by, WritesReport, OfFile, IsUnread, Stops, TellsNoText};
 
 use dk_desk::transfer::{ReadAll, read_all, read_upto, write_all};
 use dk_desk::{Desk, Failed, InSlot, OutSlot, Stage};
 use dk_endings::{Ending, ImageFault};
 use std::alloc::Global;
+
+// How a call ends that did not read a file whole. A file above its limit has the ending `too_long`.
+pub fn unread(error: ReadAll, too_long: Ending) -> Ending
+    ensures { result ≡ unread_by error too_long }
+{
+    match error {
+        ReadAll::Failed => Ending::ReadFault,
+        ReadAll::TooLong => too_long,
+        ReadAll::OutOfMemory => Ending::Memory,
+    }
+}
 
 // Opens an input and reads it whole.
 pub fn read_input<D: Desk>(
@@ -22,11 +32,10 @@ pub fn read_input<D: Desk>(
 ) -> Result<Vec<u8>, ReadAll>
     requires fresh { (input (D.outside desk.old) slot).stage ≡ Stage.Unasked }
     requires before_create { (D.outside desk.old).file.stage ≡ Stage.Unasked }
-    ensures whole { IfOk result (λ bytes. IfSome (D.outside desk.old).files (λ files. bytes.items ≡ bytes_of files name.now)) }
+    ensures whole { IfOk result (λ bytes. OfFile (D.outside desk.old) name.now (λ file. bytes.items ≡ file)) }
     ensures within { IfOk result (λ bytes. vec_len bytes ≤ limit) }
-    ensures too_long { result ≡ Err ReadAll.TooLong → IfSome (D.outside desk.old).files (λ files. limit < length (bytes_of files name.now)) }
-    ensures taken { result ≡ Err ReadAll.TooLong
-        → IfSome (D.outside desk.old).files (λ files. LeavesRest limit (bytes_of files name.now) (input (D.outside desk.new) slot)) }
+    ensures too_long { result ≡ Err ReadAll.TooLong → OfFile (D.outside desk.old) name.now (λ file. limit < length file) }
+    ensures taken { result ≡ Err ReadAll.TooLong → OfFile (D.outside desk.old) name.now (λ file. LeavesRest limit file (input (D.outside desk.new) slot)) }
     ensures name { IsIfTold (input (D.outside desk.new) slot).name (Some name.now) }
     ensures only { OpensOnly slot (D.outside desk.old) (D.outside desk.new) }
     ensures cause { HasCauseIn (result ≡ Err ReadAll.Failed) (D.outside desk.old).input_failures (D.outside desk.new).input_failures }
@@ -44,14 +53,14 @@ fn read_to_end<D: Desk>(
 ) -> Result<Vec<u8>, ReadAll>
     requires fresh { (input (D.outside desk.old) slot).stage ≡ Stage.Unasked }
     requires before_create { (D.outside desk.old).file.stage ≡ Stage.Unasked }
-    ensures whole { IfOk result (λ bytes. IfSome (D.outside desk.old).files (λ files. bytes.items ≡ bytes_of files name.now)) }
+    ensures whole { IfOk result (λ bytes. OfFile (D.outside desk.old) name.now (λ file. bytes.items ≡ file)) }
     ensures never { result ≢ Err ReadAll.TooLong }
     ensures name { IsIfTold (input (D.outside desk.new) slot).name (Some name.now) }
     ensures only { OpensOnly slot (D.outside desk.old) (D.outside desk.new) }
     ensures cause { HasCauseIn (result ≡ Err ReadAll.Failed) (D.outside desk.old).input_failures (D.outside desk.new).input_failures }
 {
     desk.open_in(slot, name)?;
-    // no list of bytes is so long
+    // no list of bytes is longer
     read_upto(alloc, desk, slot, usize::MAX)
 }
 
@@ -76,8 +85,7 @@ pub fn write_file<D: Desk>(desk: &mut D, name: &str, bytes: &[u8]) -> Result<(),
 pub fn write_report<D: Desk>(desk: &mut D, text: &[u8]) -> Result<(), Failed>
     ensures whole { OnOk result (IsIfTold (D.outside desk.new).report (grown (D.outside desk.old).report text.now)) }
     ensures front { OnErr result (ReportsFront text.now (D.outside desk.old).report (D.outside desk.new).report) }
-    ensures only { D.outside desk.new
-        ≡ record (D.outside desk.old) { report = (D.outside desk.new).report; output_failures = (D.outside desk.new).output_failures } }
+    ensures only { WritesReport (D.outside desk.old) (D.outside desk.new) }
     ensures cause { HasCauseIn (IsErr result) (D.outside desk.old).output_failures (D.outside desk.new).output_failures }
 {
     write_all(desk, OutSlot::Report, text)
@@ -92,11 +100,11 @@ pub fn read_file<D: Desk>(
 ) -> Result<Vec<u8>, Ending>
     requires fresh { (D.outside desk.old).image.stage ≡ Stage.Unasked }
     requires before_create { (D.outside desk.old).file.stage ≡ Stage.Unasked }
-    ensures whole { IfOk result (λ bytes. IfSome (D.outside desk.old).files (λ files. bytes.items ≡ bytes_of files name.now)) }
+    ensures whole { IfOk result (λ bytes. OfFile (D.outside desk.old) name.now (λ file. bytes.items ≡ file)) }
     ensures within { IfOk result (λ bytes. IfSome most (λ n. length bytes.items ≤ n)) }
-    ensures fault { IfErr result (λ e. IfSome (D.outside desk.old).files (λ files. IsUnread most (bytes_of files name.now) e)) }
-    ensures taken { result ≡ Err (Ending.Image ImageFault.TooLong)
-        → IfSome (D.outside desk.old).files (λ files. IfSome most (λ n. LeavesRest n (bytes_of files name.now) (D.outside desk.new).image)) }
+    ensures fault { IfErr result (λ e. OfFile (D.outside desk.old) name.now (λ file. IsUnread most file e)) }
+    ensures taken { result ≡ Err (Ending.Image ImageFault.TooLong) → OfFile (D.outside desk.old) name.now
+        (λ file. IfSome most (λ n. LeavesRest n file (D.outside desk.new).image)) }
     ensures stops { IfErr result Stops }
     ensures no_text { IfErr result TellsNoText }
     ensures name { IsIfTold (D.outside desk.new).image.name (Some name.now) }
@@ -109,8 +117,6 @@ pub fn read_file<D: Desk>(
     };
     match read {
         Ok(file) => Ok(file),
-        Err(ReadAll::Failed) => Err(Ending::ReadFault),
-        Err(ReadAll::TooLong) => Err(Ending::Image(ImageFault::TooLong)),
-        Err(ReadAll::OutOfMemory) => Err(Ending::Memory),
+        Err(error) => Err(unread(error, Ending::Image(ImageFault::TooLong))),
     }
 }

@@ -1,8 +1,8 @@
-//! What the definitions say together.
+//! Laws of the definitions.
 
 ghost use Rattle.std.specs.Prelude.{◌≡◌, ℕ, ◌<◌, ◌≤◌, List, length, Option, Some};
 ghost use Rattle.dk_base.specs.Stencils.{Stencils};
-ghost use Rattle.dk_compile.specs.declared.fault.SourceFault.{SourceFault};
+ghost use Rattle.source_fault.specs.declared.fault.SourceFault.{SourceFault};
 ghost use Rattle.dk_plan.specs.declared.judging.Claim.{Claim as TheClaim};
 ghost use Rattle.dk_compile.specs.Limits.{IsFaultAt};
 ghost use Rattle.dk_top.specs.Program.{CanBeCompiled};
@@ -14,7 +14,8 @@ ghost use Rattle.dk_top.specs.Agreement.{CompiledInput, whole_drive};
 ghost use Rattle.dk_top.specs.Output.{output_file};
 ghost use Rattle.dk_top.specs.Simulation.{IsSimulated};
 
-/// Laws: an accepted text has one list of names and one of live reads. One that is accepted at an age has no fault at it, and one that is not has one fault. A report that holds has no wrong line and says one thing, and another has one first wrong line.
+/// Laws: an accepted text has one list of names and one of live reads. A text that is accepted at an age has no fault at it, and any other has one fault.
+/// A report that holds has no wrong line and one claim, and any other has one first wrong line.
 pub fn one_plan_law()
     ensures stencils { (text : List ℕ) (a b : List (List ℕ)) (s t : Stencils) → HasStencils text a s → HasStencils text b t → (a ≡ b) × (s ≡ t) }
     ensures apart { (text : List ℕ) (age : ℕ) (f : SourceFault) → CanBeCompiled text age → IsFaultAt text age f → ⊥ }
@@ -29,22 +30,25 @@ pub fn one_plan_law()
     dk_plan::one_plan_law();
 }
 
-/// Laws: the file decides what a streamed `run` leaves of it at its first fault, and a read that fails leaves no less. So no fault is hidden by a read that fails after it.
+/// Laws: the file determines what a streamed `run` leaves of it at its first fault, and a failed read leaves no less.
+/// So no failed read hides an earlier fault.
 pub fn one_rest_law()
-    ensures fault { (p : Typing) (file : List ℕ) (left other : Option (List ℕ)) (xs ys : List ℕ) → 0 < p.size.height → ReadsToFault p file left xs
-        → ReadsToFault p file other ys → left ≡ other }
-    ensures failure { (p : Typing) (file after rest xs ys : List ℕ) → 0 < p.size.height → ReadsToFault p file (Some after) xs
-        → ReadsToFailure p file (Some rest) ys → length after ≤ length rest }
+    ensures fault { (p : Typing) (file : List ℕ) (left other : Option (List ℕ)) (xs ys : List ℕ)
+        → 0 < p.size.height → ReadsToFault p file left xs → ReadsToFault p file other ys → left ≡ other }
+    ensures failure { (p : Typing) (file after rest xs ys : List ℕ) → 0 < p.size.height
+        → ReadsToFault p file (Some after) xs → ReadsToFailure p file (Some rest) ys → length after ≤ length rest }
 {
     pgm_codec::one_reading_law();
 }
 
-/// Laws: `sim` shows, of each text that a program is compiled to, with the port `en` or without it, the file that `run` writes of the program: the pictures by its meaning, on each file of images that fits it. From zeros and from ones, the module is clocked once for each pixel and then for the latency.
+/// Laws: of each text that a program is compiled to, with or without the port `en`, `sim` shows the file that `run` writes of the program:
+/// the pictures by its meaning, on each file of images that fits it.
+/// From zeros and from ones, the module is clocked once for each pixel and then for the latency.
 pub fn compile_then_sim_law()
     ensures shows { (given : CompiledInput) (fill : OnePower)
         → IsSimulated (whole_drive given fill) given.text given.file (output_file given.program given.rounds) }
-    ensures only { (given : CompiledInput) (fill : OnePower) (pictures : List ℕ) → IsSimulated (whole_drive given fill) given.text given.file pictures
-        → pictures ≡ output_file given.program given.rounds }
+    ensures only { (given : CompiledInput) (fill : OnePower) (pictures : List ℕ)
+        → IsSimulated (whole_drive given fill) given.text given.file pictures → pictures ≡ output_file given.program given.rounds }
 {
     dk_compile::one_source_law();
     dk_compile::one_at_age_law();

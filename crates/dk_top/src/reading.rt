@@ -1,23 +1,19 @@
 //! What a command reads: the program, and the file of images.
 
 ghost use Rattle.std.specs.Prelude.{◌≡◌, ◌≢◌, ℕ, ◌≤◌, List, length, Option, Some, Err, IfOk, IfErr, IfSome, vec_len};
-ghost use Rattle.std.specs.List.{All};
-ghost use Rattle.dk_base.specs.declared.TheConstants.{MAX_AGE};
-ghost use Rattle.dk_desk.specs.Outside.{Outside, input};
+ghost use Rattle.dk_desk.specs.Outside.{input};
 ghost use Rattle.dk_desk.specs.Calls.{HasCauseIn, IsIfTold, OpensOnly};
 ghost use Rattle.dk_types.specs.Typed.{Typing};
 ghost use Rattle.dk_compile.specs.Fronts.{IsForm};
-ghost use Rattle.pointwise_eval.specs.Rounds.{AreFrames};
 ghost use Rattle.dk_compile.specs.Sources.{IsSourceFault, IsErrorBy};
 ghost use Rattle.dk_compile.specs.Limits.{IsAcceptedAt, IsFaultAt};
-ghost use Rattle.dk_top.specs.Verdict.{bytes_of, eval_terms, IsAnswer};
-ghost use Rattle.dk_top.specs.State.{AsksWhere, LeavesText, LeavesImages, LeavesBoth};
-ghost use Rattle.dk_top.specs.Reading.{IsSourceEnding, IsUnreadText, IsImageEnding, IsInputOf, AreRead, IsRead, Stops, TellsNoText, TellsNoImages};
+ghost use Rattle.dk_top.specs.Verdict.{eval_terms, IsAnswer};
+ghost use Rattle.dk_top.specs.State.{AsksWhere, LeavesText, LeavesImages};
+ghost use Rattle.dk_top.specs.Reading.{LeavesInputs, ReadsInputs, OfFiles, OfFile, IsSourceEnding, IsUnreadText, IsImageEnding, IsInputOf, AreRead, IsRead, Stops, TellsNoText, TellsNoImages};
 
-use crate::files::{read_file, read_input};
+use crate::files::{read_file, read_input, unread};
 use dk_base::{MAX_PGM_BYTES, MAX_SOURCE_BYTES};
 use dk_compile::{SourceError, SourceFault, one_at_age_law, one_source_law, planned};
-use dk_desk::transfer::ReadAll;
 use dk_desk::{Desk, InSlot, Stage};
 use dk_endings::{Ending, ImageFault};
 use pgm_rounds::{FileError, Round, one_file_law};
@@ -29,11 +25,11 @@ use std::alloc::Global;
 pub fn read_text<D: Desk>(alloc: Global, desk: &mut D, name: &str) -> Result<Vec<u8>, Ending>
     requires fresh { (D.outside desk.old).program.stage ≡ Stage.Unasked }
     requires before_create { (D.outside desk.old).file.stage ≡ Stage.Unasked }
-    ensures whole { IfOk result (λ bytes. IfSome (D.outside desk.old).files (λ files. bytes.items ≡ bytes_of files name.now)) }
+    ensures whole { IfOk result (λ bytes. OfFile (D.outside desk.old) name.now (λ source. bytes.items ≡ source)) }
     ensures within { IfOk result (λ bytes. vec_len bytes ≤ MAX_SOURCE_BYTES) }
-    ensures fault { IfErr result (λ e. IfSome (D.outside desk.old).files (λ files. IsUnreadText (bytes_of files name.now) e)) }
+    ensures fault { IfErr result (λ e. OfFile (D.outside desk.old) name.now (λ source. IsUnreadText source e)) }
     ensures stops { IfErr result Stops }
-    ensures left { IfErr result (λ e. IfSome (D.outside desk.old).files (λ files. LeavesText e (bytes_of files name.now) (D.outside desk.new).program)) }
+    ensures left { IfErr result (λ e. OfFile (D.outside desk.old) name.now (λ source. LeavesText e source (D.outside desk.new).program)) }
     ensures no_images { IfErr result TellsNoImages }
     ensures name { IsIfTold (D.outside desk.new).program.name (Some name.now) }
     ensures only { OpensOnly InSlot.Program (D.outside desk.old) (D.outside desk.new) }
@@ -41,9 +37,7 @@ pub fn read_text<D: Desk>(alloc: Global, desk: &mut D, name: &str) -> Result<Vec
 {
     match read_input(alloc, desk, InSlot::Program, name, MAX_SOURCE_BYTES) {
         Ok(text) => Ok(text),
-        Err(ReadAll::Failed) => Err(Ending::ReadFault),
-        Err(ReadAll::TooLong) => Err(Ending::Source(SourceFault::TooLong)),
-        Err(ReadAll::OutOfMemory) => Err(Ending::Memory),
+        Err(error) => Err(unread(error, Ending::Source(SourceFault::TooLong))),
     }
 }
 
@@ -80,8 +74,8 @@ fn read_form(alloc: Global, text: &[u8]) -> Result<Ir, Ending>
 pub fn read_frames(alloc: Global, ir: &Ir, file: &[u8]) -> Result<Vec<Round>, Ending>
     ensures input { IfOk result (λ rounds. (most : Option ℕ) → IfSome most (λ n. length file.now ≤ n) → IsInputOf most ir.now file.now rounds.items) }
     ensures read { IfOk result (λ rounds. AreRead ir.now rounds.items) }
-    ensures fault { IfErr result (λ e. (most : Option ℕ) → IfSome most (λ n. length file.now ≤ n) → (p : Typing) → IsForm p ir.now
-        → IsImageEnding most p file.now e) }
+    ensures fault { IfErr result (λ e. (most : Option ℕ) → IfSome most (λ n. length file.now ≤ n)
+        → (p : Typing) → IsForm p ir.now → IsImageEnding most p file.now e) }
     ensures stops { IfErr result Stops }
     ensures no_text { IfErr result TellsNoText }
     ensures no_images { IfErr result TellsNoImages }
@@ -107,12 +101,12 @@ struct Source {
 fn read_source<D: Desk>(alloc: Global, desk: &mut D, name: &str) -> Result<Source, Ending>
     requires fresh { (D.outside desk.old).program.stage ≡ Stage.Unasked }
     requires before_create { (D.outside desk.old).file.stage ≡ Stage.Unasked }
-    ensures text { IfOk result (λ source. IfSome (D.outside desk.old).files (λ files. source.text.items ≡ bytes_of files name.now)) }
+    ensures text { IfOk result (λ source. OfFile (D.outside desk.old) name.now (λ text. source.text.items ≡ text)) }
     ensures accepted { IfOk result (λ source. (p : Typing) × IsAcceptedAt source.text.items 0 p × IsForm p source.ir) }
     ensures every { IfOk result (λ source. (p : Typing) → IsAcceptedAt source.text.items 0 p → IsForm p source.ir) }
-    ensures fault { IfErr result (λ e. IfSome (D.outside desk.old).files (λ files. IsSourceEnding (IsFaultAt (bytes_of files name.now) 0) e)) }
+    ensures fault { IfErr result (λ e. OfFile (D.outside desk.old) name.now (λ source. IsSourceEnding (IsFaultAt source 0) e)) }
     ensures stops { IfErr result Stops }
-    ensures left { IfErr result (λ e. IfSome (D.outside desk.old).files (λ files. LeavesText e (bytes_of files name.now) (D.outside desk.new).program)) }
+    ensures left { IfErr result (λ e. OfFile (D.outside desk.old) name.now (λ source. LeavesText e source (D.outside desk.new).program)) }
     ensures no_images { IfErr result TellsNoImages }
     ensures name { IsIfTold (D.outside desk.new).program.name (Some name.now) }
     ensures only { OpensOnly InSlot.Program (D.outside desk.old) (D.outside desk.new) }
@@ -138,13 +132,12 @@ pub fn read_images<D: Desk>(
 ) -> Result<Vec<Round>, Ending>
     requires fresh { (D.outside desk.old).image.stage ≡ Stage.Unasked }
     requires before_create { (D.outside desk.old).file.stage ≡ Stage.Unasked }
-    ensures input { IfOk result (λ rounds. IfSome (D.outside desk.old).files (λ files. IsInputOf most ir.now (bytes_of files name.now) rounds.items)) }
+    ensures input { IfOk result (λ rounds. OfFile (D.outside desk.old) name.now (λ file. IsInputOf most ir.now file rounds.items)) }
     ensures read { IfOk result (λ rounds. AreRead ir.now rounds.items) }
-    ensures fault { IfErr result (λ e. IfSome (D.outside desk.old).files (λ files. (p : Typing) → IsForm p ir.now
-        → IsImageEnding most p (bytes_of files name.now) e)) }
+    ensures fault { IfErr result (λ e. OfFile (D.outside desk.old) name.now (λ file. (p : Typing) → IsForm p ir.now → IsImageEnding most p file e)) }
     ensures stops { IfErr result Stops }
     ensures left { IfErr result (λ e. most ≡ Some MAX_PGM_BYTES
-        → IfSome (D.outside desk.old).files (λ files. LeavesImages e (bytes_of files name.now) (D.outside desk.new).image)) }
+        → OfFile (D.outside desk.old) name.now (λ file. LeavesImages e file (D.outside desk.new).image)) }
     ensures no_text { IfErr result TellsNoText }
     ensures name { IsIfTold (D.outside desk.new).image.name (Some name.now) }
     ensures only { OpensOnly InSlot.Image (D.outside desk.old) (D.outside desk.new) }
@@ -176,17 +169,17 @@ pub fn read_given<D: Desk>(
     requires image { (D.outside desk.old).image.stage ≡ Stage.Unasked }
     requires file { (D.outside desk.old).file.stage ≡ Stage.Unasked }
     ensures accepted { IfOk result (λ given. (p : Typing) × IsAcceptedAt given.text.items 0 p × IsForm p given.ir) }
-    ensures order { IfSome (D.outside desk.old).files (λ files. AsksWhere (IsAcceptedAt (bytes_of files program.now) 0) (D.outside desk.new)) }
-    ensures text { IfOk result (λ given. IfSome (D.outside desk.old).files (λ files. given.text.items ≡ bytes_of files program.now)) }
-    ensures read { IfOk result (λ given. IfSome (D.outside desk.old).files (λ files. IsRead eval_terms (bytes_of files program.now) (bytes_of files image.now) given.ir given.rounds.items)) }
+    ensures order { OfFile (D.outside desk.old) program.now (λ source. AsksWhere (IsAcceptedAt source 0) (D.outside desk.new)) }
+    ensures text { IfOk result (λ given. OfFile (D.outside desk.old) program.now (λ source. given.text.items ≡ source)) }
+    ensures read { IfOk result (λ given. OfFiles (D.outside desk.old) program.now image.now
+        (λ source file. IsRead eval_terms source file given.ir given.rounds.items)) }
     ensures frames { IfOk result (λ given. AreRead given.ir given.rounds.items) }
-    ensures fault { IfErr result (λ e. IfSome (D.outside desk.old).files (λ files. IsAnswer eval_terms (bytes_of files program.now) (bytes_of files image.now) e)) }
+    ensures fault { IfErr result (λ e. OfFiles (D.outside desk.old) program.now image.now (λ source file. IsAnswer eval_terms source file e)) }
     ensures stops { IfErr result Stops }
-    ensures left { IfErr result (λ e. IfSome (D.outside desk.old).files (λ files. LeavesBoth e (bytes_of files program.now) (bytes_of files image.now) (D.outside desk.new).program (D.outside desk.new).image)) }
+    ensures left { IfErr result (λ e. LeavesInputs e program.now image.now (D.outside desk.old) (D.outside desk.new)) }
     ensures program_name { (D.outside desk.new).program.stage ≢ Stage.Unasked → IsIfTold (D.outside desk.new).program.name (Some program.now) }
     ensures image_name { (D.outside desk.new).image.stage ≢ Stage.Unasked → IsIfTold (D.outside desk.new).image.name (Some image.now) }
-    ensures only { D.outside desk.new
-        ≡ record (D.outside desk.old) { program = (D.outside desk.new).program; image = (D.outside desk.new).image; input_failures = (D.outside desk.new).input_failures } }
+    ensures only { ReadsInputs (D.outside desk.old) (D.outside desk.new) }
     ensures cause { HasCauseIn (result ≡ Err Ending.ReadFault) (D.outside desk.old).input_failures (D.outside desk.new).input_failures }
 {
     let Source { text, ir } = match read_source(alloc, desk, program) {

@@ -97,13 +97,9 @@ scale_answer s o k (Ok e) = scale_own s o k e (scaling_type o (type_of e) k.valu
 abbrev pub is_type : Ty → Bool
 is_type t = nat_le 1 (width_of t) && nat_le (width_of t) 64
 
-abbrev conversion_own : Span → Conversion → Ty → Typed → Bool → Answer Typed
-conversion_own s o t e true = Ok (converted t o e)
-conversion_own s o t e false = Err (at s WidthTooGreat)
-
-abbrev conversion_answer : Span → Conversion → Ty → Answer Typed → Answer Typed
-conversion_answer s o t (Err f) = Err f
-conversion_answer s o t (Ok e) = conversion_own s o t e (is_type t)
+abbrev conversion_answer : Conversion → Ty → Answer Typed → Answer Typed
+conversion_answer o t (Err f) = Err f
+conversion_answer o t (Ok e) = Ok (converted t o e)
 
 abbrev select_own : Span → Span → Typed → Typed → Typed → Bool → Option Ty → Answer Typed
 select_own s p d e f false t = Err (at p NotOneBit)
@@ -122,8 +118,8 @@ answer scope (T.read s r) = image_answer scope r (image_of scope r.name.text)
 answer scope (T.unary s o a) = unary_answer s o (span_of a) (answer scope a)
 answer scope (T.binary s o a b) = binary_answer s o (span_of a) (span_of b) (answer scope a) (answer scope b)
 answer scope (T.scale s o a k) = scale_answer s o k (answer scope a)
-answer scope (T.cast s a w) = conversion_answer s Cast w.ty (answer scope a)
-answer scope (T.sat s a w) = conversion_answer s Saturate w.ty (answer scope a)
+answer scope (T.cast s a w) = conversion_answer Cast w.ty (answer scope a)
+answer scope (T.sat s a w) = conversion_answer Saturate w.ty (answer scope a)
 answer scope (T.select s c a b) = select_answer s (span_of c) (answer scope c) (answer scope a) (answer scope b)
 
 -- tests
@@ -145,13 +141,6 @@ is_a_type t h =
     let p = both (nat_le 1 (width_of t)) (nat_le (width_of t) 64) h in
     let a = p.0 in let b = p.1 in
     record { some = grind (arith, a); most = grind (arith, b) }
-
-pub not_type : (t : Ty) → ¬ IsType t → is_type t ≡ false
-not_type t n = by (is_type t) refl
-  where
-    by : (b : Bool) → is_type t ≡ b → is_type t ≡ false
-    by true e = absurd (n (is_a_type t e))
-    by false e = e
 
 too_wide : (t : Ty) → 64 < width_of t → limited t ≡ None
 too_wide t h = let e : nat_le (width_of t) 64 ≡ false = grind arith in rw e refl
@@ -199,8 +188,8 @@ typed_answer (H.binary {o = o} {e = e} {f = f} {t = t} h g k) =
     let n = none_barred o (type_of e) (type_of f) (takes_operands o (type_of e) (type_of f) t k) in
     rw (typed_answer h, typed_answer g, n.0, n.1, k) refl
 typed_answer (H.scale h k) = rw (typed_answer h, k) refl
-typed_answer (H.cast {w = w} h k) = rw (typed_answer h, type_is w.ty k) refl
-typed_answer (H.saturate {w = w} h k) = rw (typed_answer h, type_is w.ty k) refl
+typed_answer (H.cast h k) = rw (typed_answer h) refl
+typed_answer (H.saturate h k) = rw (typed_answer h) refl
 typed_answer (H.select {d = d} {e = e} {f = f} {t = t} h g i k) =
     let p = bit_and_wide (type_of d) (type_of e) (type_of f) t k in
     rw (typed_answer h, typed_answer g, typed_answer i, p.0, p.1) refl
@@ -227,9 +216,7 @@ faulty_answer (F.wide_shift {k = k} {e = e} h b w) =
     let q : nat_lt 63 k.value ≡ false = grind arith in
     rw (typed_answer h, shift_wide (type_of e) k.value b w, q) refl
 faulty_answer (F.in_cast h) = rw (faulty_answer h) refl
-faulty_answer (F.wide_cast {w = w} h n) = rw (typed_answer h, not_type w.ty n) refl
 faulty_answer (F.in_saturate h) = rw (faulty_answer h) refl
-faulty_answer (F.wide_saturate {w = w} h n) = rw (typed_answer h, not_type w.ty n) refl
 faulty_answer (F.in_condition h) = rw (faulty_answer h) refl
 faulty_answer (F.in_first h g) = rw (typed_answer h, faulty_answer g) refl
 faulty_answer (F.in_second h g i) = rw (typed_answer h, typed_answer g, faulty_answer i) refl

@@ -1,9 +1,13 @@
 -- From the parts of a program to the whole.
-use Rattle.std.proofs.Common.{◌≡◌, ℕ, ◌≤◌, ◌⊎◌, inl, inr, List, length, Result, Ok, Err, MatchResult, refl, ap, ◌∙◌, subst, arith}
+use Rattle.std.proofs.Common.{◌≡◌, ℕ, ◌≤◌, ◌⊎◌, inl, inr, List, [], ◌∷◌, length, Result, Ok, Err, MatchResult, refl, ap, ◌∙◌, subst, arith}
 use Rattle.std.specs.Result.{IsErrAnd}
+use Rattle.std.specs.List.{All, AllByRecursion}
+use Rattle.std.proofs.lemmas.List.Elements.{All-from_recursion, recursion_from_All}
 use Rattle.dk_base.specs.Frames.{Size}
 use Rattle.dk_parser.specs.declared.tree.Input.{Input}
 use Rattle.dk_parser.specs.declared.tree.Name.{Name}
+use Rattle.dk_parser.specs.declared.tree.Def.{Def}
+use Rattle.dk_parser.specs.Tree.{tree_of, ConvertsToTypes}
 use Rattle.dk_parser.specs.Programs.{Source, definitions_as as sources_as}
 use Rattle.dk_parser.specs.Programs as P
 use Rattle.dk_types.specs.declared.fault.TypeFault.{TypeFault}
@@ -76,3 +80,11 @@ pub faulty_so : {T : Type 0} (view : T → Typing) (p : Source) (r : Result T Ty
     → MatchResult r (λ _. Unit {0}) (λ stop. Stops (IsFirstFault p) stop)
 faulty_so view p (Ok t) h = tt
 faulty_so view p (Err e) h = h
+
+-- bodies as trees, and as the code has them
+each_converts : (xs : List Def) → AllByRecursion (λ (d : P.Definition). ConvertsToTypes d.body) (sources_as xs) → AllByRecursion (λ (d : Def). ConvertsToTypes (tree_of d.body)) xs
+each_converts [] all = tt
+each_converts (x ∷ xs) all = (all.0, each_converts xs all.1)
+
+pub bodies_convert : (xs : List Def) → All (λ (d : P.Definition). ConvertsToTypes d.body) (sources_as xs) → All (λ (d : Def). ConvertsToTypes (tree_of d.body)) xs
+bodies_convert xs all = All-from_recursion (λ (d : Def). ConvertsToTypes (tree_of d.body)) xs (each_converts xs (recursion_from_All (λ (d : P.Definition). ConvertsToTypes d.body) (sources_as xs) all))

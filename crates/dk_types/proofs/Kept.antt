@@ -20,7 +20,8 @@ use Rattle.dk_parser.specs.Programs.{Source}
 use Rattle.dk_parser.specs.Programs as P
 use Rattle.dk_types.specs.declared.typed.TypedInput.{TypedInput}
 use Rattle.dk_types.specs.Typed.{Typed, type_of, Definition, Typing, image_type, input_types}
-use Rattle.dk_types.specs.Scopes.{Named, Scope, is_same, image_of, types_in, inputs_scope, scope_of, definition_named, name_among}
+use Rattle.dk_types.specs.Scopes.{Named, Scope, image_of, types_in, inputs_scope, scope_of, definition_named, name_among}
+use Rattle.std.specs.Str.{bytes_eq}
 use Rattle.dk_types.specs.Offsets.{amount_of, offset_of, signed}
 use Rattle.dk_types.specs.Sequences.{Each, none, next}
 use Rattle.dk_base.specs.Types.{IsPort}
@@ -78,20 +79,20 @@ all_fail p xs e = elim (cases_lt (position_or_len p xs) (length xs)) [
 ]
 
 -- a new name is not the same as one of those before it
-apart : (start rest : List Name) (n : Name) (name : List ℕ) → name_among (start ++ n ∷ rest) name ≡ None → is_same name n.text ≡ false
+apart : (start rest : List Name) (n : Name) (name : List ℕ) → name_among (start ++ n ∷ rest) name ≡ None → bytes_eq name n.text ≡ false
 apart start rest n name e =
-    let long = all_fail (λ (m : Name). is_same name m.text) (start ++ n ∷ rest) e in
+    let long = all_fail (λ (m : Name). bytes_eq name m.text) (start ++ n ∷ rest) e in
     let l = length-append start (n ∷ rest) in
-    ap (λ (m : Name). is_same name m.text) (sym (get_or-append_seam start n rest n))
-    ∙ fails_before_first (λ (m : Name). is_same name m.text) (start ++ n ∷ rest) (length start) n (omega (arith, long, l))
+    ap (λ (m : Name). bytes_eq name m.text) (sym (get_or-append_seam start n rest n))
+    ∙ fails_before_first (λ (m : Name). bytes_eq name m.text) (start ++ n ∷ rest) (length start) n (omega (arith, long, l))
 
--- names that denote one image are the same
-one_name : (scope : Scope) (a b : List ℕ) (g : ℕ) (t : Ty) → image_of scope a ≡ Some g → image_of scope b ≡ Some g → is_same b a ≡ true
+-- names of one image are equal
+one_name : (scope : Scope) (a b : List ℕ) (g : ℕ) (t : Ty) → image_of scope a ≡ Some g → image_of scope b ≡ Some g → bytes_eq b a ≡ true
 one_name scope a b g t here there =
     let d : Named = record { name = a; ty = t } in
-    let left = same_text a (get_or scope g d).name (sym (position-Some (λ (i : Named). is_same a i.name) scope g d here).1) in
-    let right = same_text b (get_or scope g d).name (sym (position-Some (λ (i : Named). is_same b i.name) scope g d there).1) in
-    ap (λ z. is_same z a) (right ∙ sym left) ∙ nat_list_eq_equiv.refl a
+    let left = same_text a (get_or scope g d).name (sym (position-Some (λ (i : Named). bytes_eq a i.name) scope g d here).1) in
+    let right = same_text b (get_or scope g d).name (sym (position-Some (λ (i : Named). bytes_eq b i.name) scope g d there).1) in
+    ap (λ z. bytes_eq z a) (right ∙ sym left) ∙ nat_list_eq_equiv.refl a
 
 -- later outputs are other images
 differ : {scope : Scope} {is : List Name} {os : List ℕ} {xs : List Name} {ys : List ℕ} → Each (IsOutput scope) is os xs ys → (start rest : List Name) (n : Name) → is ≡ start ++ n ∷ rest

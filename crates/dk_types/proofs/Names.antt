@@ -11,13 +11,14 @@ use Rattle.indexmap.specs.IndexMap.{insert_entry}
 use Rattle.indexmap.proofs.MapLemmas.{Missing-position, insert_entry-absent}
 use Rattle.dk_base.specs.declared.ty.Ty.{Ty}
 use Rattle.dk_base.specs.Types.{IsType}
-use Rattle.dk_types.specs.Scopes.{Named, Scope, is_same, image_of, types_in, IsUnknown}
+use Rattle.dk_types.specs.Scopes.{Named, Scope, image_of, types_in, IsUnknown}
+use Rattle.std.specs.Str.{bytes_eq}
 use Rattle.dk_types.specs.Entries.{named_in, IsFull, IsFound}
 
 abbrev Entries : Type 0
 Entries = List (Bor (List ℕ) × Ty)
 
-same_place : (name : List ℕ) (es : Entries) → position_or_len (λ (k : Bor (List ℕ)). pointwise nat_eq name k.now) (keys_of es) ≡ position_or_len (λ (i : Named). is_same name i.name) (named_in es)
+same_place : (name : List ℕ) (es : Entries) → position_or_len (λ (k : Bor (List ℕ)). pointwise nat_eq name k.now) (keys_of es) ≡ position_or_len (λ (i : Named). bytes_eq name i.name) (named_in es)
 same_place name [] = refl
 same_place name (e ∷ es) = ap (λ n. cond (not (pointwise nat_eq name e.0.now)) (1 + n) 0) (same_place name es)
 
@@ -28,7 +29,7 @@ same_length (e ∷ es) = ap suc (same_length es)
 pub place_named : (name : List ℕ) (es : Entries) → position (λ (k : Bor (List ℕ)). pointwise nat_eq name k.now) (keys_of es) ≡ image_of (named_in es) name
 place_named name es =
     ap (λ n. cond (nat_lt n (length (keys_of es))) (Some n) None) (same_place name es)
-    ∙ ap (λ m. cond (nat_lt (position_or_len (λ (i : Named). is_same name i.name) (named_in es)) m) (Some (position_or_len (λ (i : Named). is_same name i.name) (named_in es))) None) (same_length es)
+    ∙ ap (λ m. cond (nat_lt (position_or_len (λ (i : Named). bytes_eq name i.name) (named_in es)) m) (Some (position_or_len (λ (i : Named). bytes_eq name i.name) (named_in es))) None) (same_length es)
 
 type_named : (es : Entries) (g : ℕ) (k : Bor (List ℕ)) (t : Ty) → slice_get es g ≡ Some (k, t) → slice_get (types_in (named_in es)) g ≡ Some t
 type_named es g k t h =

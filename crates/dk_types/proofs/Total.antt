@@ -23,19 +23,20 @@ use Rattle.dk_parser.specs.declared.tree.Offset.{Offset}
 use Rattle.dk_parser.specs.declared.tree.ImageRead.{ImageRead}
 use Rattle.dk_parser.specs.Tree.{Tree}
 use Rattle.dk_parser.specs.Tree as T
-use Rattle.dk_parser.specs.Programs.{Source}
+use Rattle.dk_parser.specs.Tree.{ConvertsToTypes}
+use Rattle.dk_parser.specs.Programs.{Source, AllConvertToTypes}
 use Rattle.dk_parser.specs.Programs as P
 use Rattle.dk_types.specs.declared.fault.TypeFault.{TypeFault}
 use Rattle.dk_types.specs.declared.typed.TypedInput.{TypedInput}
 use Rattle.dk_types.specs.Typed.{Typed, type_of, Definition, Typing}
-use Rattle.dk_types.specs.Scopes.{Named, Scope, IsImage, image_of, types_in, is_same, inputs_scope, scope_of, name_among}
+use Rattle.dk_types.specs.Scopes.{Named, Scope, IsImage, image_of, types_in, inputs_scope, scope_of, name_among}
+use Rattle.std.specs.Str.{bytes_eq}
 use Rattle.dk_types.specs.Sequences.{Each, First, none, next, here, later}
 use Rattle.dk_types.specs.Offsets.{amount_of}
 use Rattle.dk_types.specs.Types.{HasType, declared_type, IsInput, IsDefinition, IsOutput, IsTyping, HasNumbers}
 use Rattle.dk_types.specs.Types as H
 use Rattle.dk_types.specs.Faults.{Faulty, InputFault, DefinitionFault, OutputFault, IsFirstFault}
 use Rattle.dk_types.specs.Faults as F
-use Rattle.dk_types.proofs.Answers.{is_type, type_is, is_a_type}
 use Rattle.dk_types.proofs.Programs.{port_test, port_is, is_a_port, takes_test, takes_is, is_taken, side_test, side_is, is_a_side}
 
 -- what keeps the rule, or a fault
@@ -75,7 +76,7 @@ wide t h = by (nat_le (width_of t) 64) refl h
 image_there : (scope : Scope) (name : List ℕ) (g : ℕ) → image_of scope name ≡ Some g → (t : Ty) × IsImage scope name g t
 image_there scope name g is =
     let d : Named = record { name = []; ty = Unsigned 1 } in
-    let within = (position-Some (λ (i : Named). is_same name i.name) scope g d is).0 in
+    let within = (position-Some (λ (i : Named). bytes_eq name i.name) scope g d is).0 in
     let same : length (types_in scope) ≡ length scope = length-map scope _ in
     let less : g < length (types_in scope) = omega (arith, within, same) in
     (get_or (types_in scope) g (Unsigned 1), record { number = is; type = slice_get-get_or (types_in scope) g (Unsigned 1) less })
@@ -139,16 +140,16 @@ select_judged scope s c a b d e f h k l = elim (either_way (is_bit (type_of d)))
 ]
 
 -- each expression has its types or a first fault
-pub expression : (scope : Scope) (e : Tree) → HasNumbers e → Judged (HasType scope e) (Faulty scope e)
-expression scope (T.number s v) h = inl (_, H.literal h)
-expression scope (T.read s r) h = read_judged scope s r
-expression scope (T.unary s o a) h = elim (expression scope a h) [
+pub expression : (scope : Scope) (e : Tree) → HasNumbers e → ConvertsToTypes e → Judged (HasType scope e) (Faulty scope e)
+expression scope (T.number s v) h k = inl (_, H.literal h)
+expression scope (T.read s r) h k = read_judged scope s r
+expression scope (T.unary s o a) h k = elim (expression scope a h k) [
   | inr bad ↦ inr (bad.0, F.in_unary bad.1)
   | inl good ↦ elim (some_or_none (unary_type o (type_of good.0))) [ inl some ↦ inl (_, H.unary good.1 some.1) | inr nothing ↦ inr (unary_refused scope s o a good.0 good.1 nothing) ]
 ]
-expression scope (T.binary s o a b) h = elim (expression scope a h.0) [
+expression scope (T.binary s o a b) h k = elim (expression scope a h.0 k.0) [
   | inr bad ↦ inr (bad.0, F.in_left bad.1)
-  | inl left ↦ elim (expression scope b h.1) [
+  | inl left ↦ elim (expression scope b h.1 k.1) [
     | inr bad ↦ inr (bad.0, F.in_right left.1 bad.1)
     | inl right ↦ elim (some_or_none (binary_type o (type_of left.0) (type_of right.0))) [
       | inl some ↦ inl (_, H.binary left.1 right.1 some.1)
@@ -156,23 +157,17 @@ expression scope (T.binary s o a b) h = elim (expression scope a h.0) [
     ]
   ]
 ]
-expression scope (T.scale s o a k) h = elim (expression scope a h) [
+expression scope (T.scale s o a k) h l = elim (expression scope a h l) [
   | inr bad ↦ inr (bad.0, F.in_scale bad.1)
   | inl good ↦ elim (some_or_none (scaling_type o (type_of good.0) k.value)) [ inl some ↦ inl (_, H.scale good.1 some.1) | inr nothing ↦ inr (scale_refused scope s o a k good.0 good.1 nothing) ]
 ]
-expression scope (T.cast s a w) h = elim (expression scope a h) [
-  | inr bad ↦ inr (bad.0, F.in_cast bad.1)
-  | inl good ↦ elim (either_way (is_type w.ty)) [ inl holds ↦ inl (_, H.cast good.1 (is_a_type w.ty holds)) | inr fails ↦ inr (_, F.wide_cast good.1 (refuted (is_type w.ty) (type_is w.ty) fails)) ]
-]
-expression scope (T.sat s a w) h = elim (expression scope a h) [
-  | inr bad ↦ inr (bad.0, F.in_saturate bad.1)
-  | inl good ↦ elim (either_way (is_type w.ty)) [ inl holds ↦ inl (_, H.saturate good.1 (is_a_type w.ty holds)) | inr fails ↦ inr (_, F.wide_saturate good.1 (refuted (is_type w.ty) (type_is w.ty) fails)) ]
-]
-expression scope (T.select s c a b) h = elim (expression scope c h.0) [
+expression scope (T.cast s a w) h k = elim (expression scope a h k.1) [ inr bad ↦ inr (bad.0, F.in_cast bad.1) | inl good ↦ inl (_, H.cast good.1 k.0) ]
+expression scope (T.sat s a w) h k = elim (expression scope a h k.1) [ inr bad ↦ inr (bad.0, F.in_saturate bad.1) | inl good ↦ inl (_, H.saturate good.1 k.0) ]
+expression scope (T.select s c a b) h k = elim (expression scope c h.0 k.0) [
   | inr bad ↦ inr (bad.0, F.in_condition bad.1)
-  | inl first ↦ elim (expression scope a h.1) [
+  | inl first ↦ elim (expression scope a h.1 k.1) [
     | inr bad ↦ inr (bad.0, F.in_first first.1 bad.1)
-    | inl left ↦ elim (expression scope b h.2) [
+    | inl left ↦ elim (expression scope b h.2 k.2) [
       | inr bad ↦ inr (bad.0, F.in_second first.1 left.1 bad.1)
       | inl right ↦ select_judged scope s c a b first.0 left.0 right.0 first.1 left.1 right.1
     ]
@@ -210,12 +205,16 @@ input is done i _ = elim (cases_lt (length done) 8) [
   ]
 ]
 
-definition : (inputs : List TypedInput) (ds : List P.Definition) (done : List Definition) (d : P.Definition) → HasNumbers d.body → Judged (IsDefinition inputs ds done d) (DefinitionFault inputs ds done d)
-definition inputs ds done d numbers = elim (cases_lt (length done) 256) [
+-- what the body of a text's definition has
+abbrev IsWritten : P.Definition → Type 0
+IsWritten d = HasNumbers d.body × ConvertsToTypes d.body
+
+definition : (inputs : List TypedInput) (ds : List P.Definition) (done : List Definition) (d : P.Definition) → IsWritten d → Judged (IsDefinition inputs ds done d) (DefinitionFault inputs ds done d)
+definition inputs ds done d written = elim (cases_lt (length done) 256) [
   | inr many ↦ inr (_, DefinitionFault.too_many (omega (arith, many)))
   | inl few ↦ elim (some_or_none (image_of (scope_of inputs done) d.name.text)) [
     | inl some ↦ inr (_, DefinitionFault.again few some.1)
-    | inr fresh ↦ elim (expression (scope_of inputs done) d.body numbers) [
+    | inr fresh ↦ elim (expression (scope_of inputs done) d.body written.0 written.1) [
       | inr bad ↦ inr (bad.0, DefinitionFault.in_body few fresh bad.1)
       | inl good ↦ elim (either_way (takes_test (declared_type d.declared) (type_of good.0))) [
         | inl fits ↦ inl (_, record { few = few; new = fresh; body = good.0; typed = good.1; fits = is_taken (declared_type d.declared) (type_of good.0) fits; is = refl })
@@ -243,8 +242,8 @@ output scope before done n _ = elim (cases_lt (length before) 8) [
 ]
 
 -- each program has a typing or a first fault
-pub program : (p : Source) → All (λ (d : P.Definition). HasNumbers d.body) p.definitions → ((t : Typing) × IsTyping p t) ⊎ ((f : TypeFault) × IsFirstFault p f)
-program p numbers = elim (either_way (side_test p.width.value)) [
+pub program : (p : Source) → All (λ (d : P.Definition). HasNumbers d.body) p.definitions → AllConvertToTypes p → ((t : Typing) × IsTyping p t) ⊎ ((f : TypeFault) × IsFirstFault p f)
+program p numbers types = elim (either_way (side_test p.width.value)) [
   | inr fails ↦ inr (_, F.width (refuted (side_test p.width.value) (side_is p.width.value) fails))
   | inl holds ↦
       let width = is_a_side p.width.value holds in
@@ -254,7 +253,7 @@ program p numbers = elim (either_way (side_test p.width.value)) [
             let height = is_a_side p.height.value also in
             elim (each_judged Any IsInput InputFault input [] [] p.inputs (any p.inputs)) [
               | inr bad ↦ inr (bad.0, F.input width height bad.1)
-              | inl is ↦ elim (each_judged (λ (d : P.Definition). HasNumbers d.body) (IsDefinition is.0) (DefinitionFault is.0) (definition is.0) [] [] p.definitions (recursion_from_All (λ (d : P.Definition). HasNumbers d.body) p.definitions numbers)) [
+              | inl is ↦ elim (each_judged IsWritten (IsDefinition is.0) (DefinitionFault is.0) (definition is.0) [] [] p.definitions (recursion_from_All IsWritten p.definitions (λ k d lt. (numbers k d lt, types k d lt)))) [
                 | inr bad ↦ inr (bad.0, F.definition width height is.1 bad.1)
                 | inl ds ↦ elim (each_judged Any (IsOutput (scope_of is.0 ds.0)) (OutputFault (scope_of is.0 ds.0)) (output (scope_of is.0 ds.0)) [] [] p.outputs (any p.outputs)) [
                   | inr bad ↦ inr (bad.0, F.output width height is.1 ds.1 bad.1)

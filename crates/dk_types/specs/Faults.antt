@@ -8,7 +8,7 @@ use Rattle.dk_base.specs.declared.operator.Unary.TheVariants.{Negate, Not}
 use Rattle.dk_base.specs.declared.operator.Binary.{Binary}
 use Rattle.dk_base.specs.declared.operator.Scaling.{Scaling}
 use Rattle.dk_base.specs.declared.operator.Scaling.TheVariants.{ShiftLeft, Divide}
-use Rattle.dk_base.specs.Types.{IsType, width_of, is_signed, is_bit, common_type, negation_type, shifted_type}
+use Rattle.dk_base.specs.Types.{width_of, is_signed, is_bit, common_type, negation_type, shifted_type}
 use Rattle.dk_base.specs.Operators.{is_bitwise, are_operands, binary_type}
 use Rattle.dk_parser.specs.declared.tree.Literal.{Literal}
 use Rattle.dk_parser.specs.declared.tree.TypeWord.{TypeWord}
@@ -37,7 +37,7 @@ use Rattle.dk_types.specs.Types.{HasType, IsSide, Takes, declared_type, IsInput,
 abbrev pub at : Span → TypeFaultKind → TypeFault
 at s k = record { span = s; kind = k }
 
--- Faulty scope e f: f is the first fault of the expression e. What comes before it has types.
+-- Faulty scope e f: f is the first fault of the expression e. The parts before it have types.
 -- Operands are judged from left to right before their operator.
 pub data Faulty (scope : Scope) : Tree → TypeFault → Type 0 where
   -- a read: its name, then x, then y
@@ -76,13 +76,9 @@ pub data Faulty (scope : Scope) : Tree → TypeFault → Type 0 where
   wide_shift : {s : Span} {a : Tree} {k : Literal} {e : Typed}
       → HasType scope a e → k.value ≤ MAX_SHIFT → MAX_WIDTH < width_of (shifted_type (type_of e) k.value)
       → Faulty scope (T.scale s ShiftLeft a k) (at s WidthTooGreat)
-  -- a conversion; no type of the language is refused here
+  -- a conversion
   in_cast : {s : Span} {a : Tree} {w : TypeWord} {f : TypeFault} → Faulty scope a f → Faulty scope (T.cast s a w) f
-  wide_cast : {s : Span} {a : Tree} {w : TypeWord} {e : Typed}
-      → HasType scope a e → ¬ IsType w.ty → Faulty scope (T.cast s a w) (at s WidthTooGreat)
   in_saturate : {s : Span} {a : Tree} {w : TypeWord} {f : TypeFault} → Faulty scope a f → Faulty scope (T.sat s a w) f
-  wide_saturate : {s : Span} {a : Tree} {w : TypeWord} {e : Typed}
-      → HasType scope a e → ¬ IsType w.ty → Faulty scope (T.sat s a w) (at s WidthTooGreat)
   -- a choice
   in_condition : {s : Span} {c a b : Tree} {f : TypeFault} → Faulty scope c f → Faulty scope (T.select s c a b) f
   in_first : {s : Span} {c a b : Tree} {d : Typed} {f : TypeFault}
@@ -140,7 +136,7 @@ pub data IsFirstFault (p : Source) : TypeFault → Type 0 where
   output : {f : TypeFault} {is : List TypedInput} {ds : List Definition} → IsSide p.width.value → IsSide p.height.value
       → AreInputs p.inputs is → AreDefinitions is p.definitions ds → FaultyOutputs (scope_of is ds) p.outputs f → IsFirstFault p f
 
--- what is specified is so, or out of memory
+-- the reported fault is one of F, or the error is out of memory
 abbrev pub Stops : (TypeFault → Type 0) → TypeError → Type 0
 Stops F (Fault f) = F f
 Stops F OutOfMemory = Unit {0}

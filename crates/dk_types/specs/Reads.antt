@@ -1,6 +1,7 @@
 -- Which images a program reads, and where: live reads and kept images.
-use Rattle.std.specs.Prelude.{◌≡◌, ◌⊎◌, ℕ, ◌+◌, ◌<◌, ℤ, ◌+ℤ◌, Bool, true, false, IsTrue, length, slice_get, Some, Contains}
-use Rattle.dk_base.specs.Frames.{Size, in_frame, clamped}
+use Rattle.std.specs.Prelude.{◌≡◌, ◌⊎◌, ℕ, ◌+◌, ◌<◌, ℤ, ◌+ℤ◌, true, false, IsTrue, length, slice_get, Some, Contains}
+use Rattle.dk_base.specs.Frames.{Size, in_frame}
+use Rattle.frame_steps.specs.Steps.{EndsAt}
 use Rattle.dk_types.specs.declared.typed.TypedRead.{TypedRead}
 use Rattle.dk_types.specs.Typed.{Typed, constant, fetch, single, double, scaled, converted, chosen, Definition, Typing}
 
@@ -22,14 +23,9 @@ IsDefinitionOf p g d = (k : ℕ) × (g ≡ length p.inputs + k) × (slice_get p.
 abbrev pub IsStored : Typing → ℕ → Type 0
 IsStored p g = (g < length p.inputs) ⊎ ((d : Definition) × IsDefinitionOf p g d × (d.inline ≡ false))
 
--- Where a move to (u, v) ends: an unclamped one there, in the frame; a clamped one at the nearest point of the frame.
-abbrev pub Ends : (is_clamped : Bool) → Size → (u v x y : ℤ) → Type 0
-Ends true size u v x y = (x ≡ clamped size.width u) × (y ≡ clamped size.height v)
-Ends false size u v x y = (x ≡ u) × (y ≡ v) × IsTrue (in_frame size x y)
-
 -- a step of a read from one point to another
 abbrev pub Steps : Size → TypedRead → (x y x' y' : ℤ) → Type 0
-Steps size r x y x' y' = Ends r.clamped size (x +ℤ r.dx) (y +ℤ r.dy) x' y'
+Steps size r x y x' y' = EndsAt r.clamped size (x +ℤ r.dx) (y +ℤ r.dy) x' y'
 
 -- The expression e at (x, y) reads image g at (x', y'), step by step through the bodies of inline images.
 pub data Reads (p : Typing) : Typed → (x y : ℤ) → (g : ℕ) → (x' y' : ℤ) → Type 0 where
@@ -37,7 +33,7 @@ pub data Reads (p : Typing) : Typed → (x y : ℤ) → (g : ℕ) → (x' y' : �
   through : {e : Typed} (r : TypedRead) (d : Definition) {g : ℕ} {x y x' y' : ℤ} (u v : ℤ)
       → Mentions e r → Steps p.size r x y u v → IsDefinitionOf p r.image d → d.inline ≡ true → Reads p d.body u v g x' y' → Reads p e x y g x' y'
 
--- in some pixel, image f reads image g this many columns to the right and rows down
+-- in some pixel, image f reads the pixel of image g that is dx columns to the right and dy rows down
 pub record IsLive (p : Typing) (f g : ℕ) (dx dy : ℤ) : Type 0 where
   pub definition : Definition
   pub is : IsDefinitionOf p f definition

@@ -1,6 +1,6 @@
--- What names denote: the images that may be read at a place of the text.
-use Rattle.std.specs.Prelude.{◌≡◌, ℕ, Bool, List, ◌++◌, map, nat_eq, slice_get, position, Option, Some, None}
-use Rattle.std.specs.Cmp.Lexicographic.{pointwise}
+-- Scopes: the images that may be read at a place of the text, by their names.
+use Rattle.std.specs.Prelude.{◌≡◌, ℕ, List, ◌++◌, map, slice_get, position, Option, Some, None}
+use Rattle.std.specs.Str.{bytes_eq}
 use Rattle.dk_base.specs.declared.ty.Ty.{Ty}
 use Rattle.dk_parser.specs.declared.tree.Name.{Name}
 use Rattle.dk_types.specs.declared.typed.TypedInput.{TypedInput}
@@ -15,23 +15,19 @@ pub record Named : Type 0 where
 abbrev pub Scope : Type 0
 Scope = List Named
 
--- the same bytes
-abbrev pub is_same : List ℕ → List ℕ → Bool
-is_same a b = pointwise nat_eq a b
-
 -- the number of the first image with this name
 abbrev pub image_of : Scope → List ℕ → Option ℕ
-image_of scope name = position (λ i. is_same name i.name) scope
+image_of scope name = position (λ i. bytes_eq name i.name) scope
 
 abbrev pub types_in : Scope → List Ty
 types_in scope = map (λ i. i.ty) scope
 
--- the name denotes image g, which has the type t
+-- the name is that of image g, which has the type t
 pub record IsImage (scope : Scope) (name : List ℕ) (g : ℕ) (t : Ty) : Type 0 where
   pub number : image_of scope name ≡ Some g
   pub type : slice_get (types_in scope) g ≡ Some t
 
--- the name denotes no image
+-- no image has the name
 abbrev pub IsUnknown : Scope → List ℕ → Type 0
 IsUnknown scope name = image_of scope name ≡ None
 
@@ -50,4 +46,4 @@ scope_of is ds = inputs_scope is ++ map definition_named ds
 
 -- the name is among these
 abbrev pub name_among : List Name → List ℕ → Option ℕ
-name_among names name = position (λ n. is_same name n.text) names
+name_among names name = position (λ n. bytes_eq name n.text) names

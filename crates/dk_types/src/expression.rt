@@ -3,7 +3,7 @@
 ghost use Rattle.std.specs.Prelude.{◌≡◌, ◌≤◌, IfOk, IfErr};
 ghost use Rattle.dk_base.specs.declared.TheConstants.{MAX_OFFSET};
 ghost use Rattle.dk_base.specs.Types.{IsType};
-ghost use Rattle.dk_parser.specs.Tree.{tree_of};
+ghost use Rattle.dk_parser.specs.Tree.{tree_of, ConvertsToTypes};
 ghost use Rattle.dk_parser.specs.Tree as T;
 ghost use Rattle.dk_types.specs.Scopes.{Scope as Names};
 ghost use Rattle.dk_types.specs.Offsets.{offset_of, amount_of};
@@ -128,11 +128,11 @@ fn cast(
     operand: TypedExpr,
     to: TypeWord,
 ) -> Result<TypedExpr, TypeError>
+    requires { IsType to.ty }
     ensures { (scope : Names) → IsTypedAs scope (tree_of a.now) operand → Judged scope (T.cast span (tree_of a.now) to) result }
 {
-    let ty = operators::conversion_type(span, to)?;
     let node = TypedNode::Convert(Conversion::Cast, Box::new(alloc, operand)?);
-    Ok(TypedExpr { ty, node })
+    Ok(TypedExpr { ty: to.ty, node })
 }
 
 fn saturate(
@@ -142,11 +142,11 @@ fn saturate(
     operand: TypedExpr,
     to: TypeWord,
 ) -> Result<TypedExpr, TypeError>
+    requires { IsType to.ty }
     ensures { (scope : Names) → IsTypedAs scope (tree_of a.now) operand → Judged scope (T.sat span (tree_of a.now) to) result }
 {
-    let ty = operators::conversion_type(span, to)?;
     let node = TypedNode::Convert(Conversion::Saturate, Box::new(alloc, operand)?);
-    Ok(TypedExpr { ty, node })
+    Ok(TypedExpr { ty: to.ty, node })
 }
 
 fn select(
@@ -174,6 +174,7 @@ fn select(
 
 // The typed form of an expression.
 pub(crate) fn expression(alloc: Global, scope: &Scope, e: &Expr) -> Result<TypedExpr, TypeError>
+    requires { ConvertsToTypes (tree_of e.now) }
     ensures { Judged scope.now (tree_of e.now) result }
 {
     match &e.node {

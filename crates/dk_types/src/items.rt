@@ -1,9 +1,10 @@
 // The types of inputs, definitions and outputs.
 
-ghost use Rattle.std.specs.Prelude.{◌≡◌, ◌≤◌, ◌+◌, ◌++◌, ◌∷◌, [], ℕ, List, length, IsTrue, ◌↔◌, MatchResult, MatchOption, IfOk, OnOk, IfSome};
+ghost use Rattle.std.specs.Prelude.{◌≡◌, ◌≤◌, ◌+◌, ◌++◌, ◌∷◌, [], ℕ, List, All, length, IsTrue, ◌↔◌, MatchResult, MatchOption, IfOk, OnOk, IfSome};
 ghost use Rattle.dk_base.specs.declared.TheConstants.{MAX_INPUTS};
 ghost use Rattle.dk_base.specs.Types.{IsType};
 ghost use Rattle.dk_parser.specs.declared.tree.Input.{Input};
+ghost use Rattle.dk_parser.specs.Tree.{tree_of, ConvertsToTypes};
 ghost use Rattle.dk_parser.specs.Programs.{definition_of as source_of, definitions_as as sources_as};
 ghost use Rattle.dk_parser.specs.Programs as P;
 ghost use Rattle.dk_types.specs.declared.typed.TypedInput.{TypedInput};
@@ -126,7 +127,8 @@ fn definition<'a>(
     before: usize,
     item: &'a Def,
 ) -> Result<TypedDefinition, TypeError>
-    requires { length scope.old ≤ before + MAX_INPUTS }
+    requires few { length scope.old ≤ before + MAX_INPUTS }
+    requires converts { ConvertsToTypes (tree_of item.now.body) }
     ensures one_more { OnOk result (length scope.new ≡ length scope.old + 1) }
     ensures judged { (is : List TypedInput) (ds : List P.Definition) (done : List Definition) → length done ≡ before → scope.old ≡ scope_of is done
         → MatchResult result (λ t. IsDefinition is ds done (source_of item.now) (definition_of t)
@@ -159,7 +161,8 @@ pub(crate) fn definitions<'a>(
     scope: &mut Scope<'a>,
     items: &'a [Def],
 ) -> Result<Vec<TypedDefinition>, TypeError>
-    requires { length scope.old ≤ MAX_INPUTS }
+    requires few { length scope.old ≤ MAX_INPUTS }
+    requires converts { All (λ d. ConvertsToTypes (tree_of d.body)) items.now }
     ensures { (is : List TypedInput) → scope.old ≡ inputs_scope is → MatchResult result (λ v. AreDefinitions is (sources_as items.now) (definitions_as v.items)
         × (scope.new ≡ scope_of is (definitions_as v.items))) (λ stop. Stops (FaultyDefinitions is (sources_as items.now)) stop) }
 {

@@ -9,14 +9,14 @@ ghost use Rattle.dk_parser.specs.Tree.{Tree, span_of};
 ghost use Rattle.dk_types.specs.Scopes.{Scope};
 ghost use Rattle.dk_types.specs.Typed.{Typed, type_of};
 ghost use Rattle.dk_types.specs.Types.{HasType};
-ghost use Rattle.dk_types.specs.Faults.{Faulty, Stops, at};
+ghost use Rattle.dk_types.specs.Faults.{Faulty, Stops};
 ghost use Rattle.dk_types.specs.declared.fault.TypeFaultKind.TheVariants.{SignedBits};
 
 use crate::fault::{TypeError, TypeFaultKind, fault};
 use dk_base::{Binary, MAX_SHIFT, MAX_WIDTH, Scaling, Span, Ty, Unary};
-use dk_parser::{Literal, TypeWord};
+use dk_parser::Literal;
 
-// The type of what an operator at `span` gives with an operand at `first`.
+// The result type of an operator at `span` with an operand at `first`.
 pub(crate) fn unary_type(
     span: Span,
     operator: Unary,
@@ -63,7 +63,7 @@ fn signed_operand(
     None
 }
 
-// The type of what an operator at `span` gives with operands at `first` and `second`.
+// The result type of an operator at `span` with operands at `first` and `second`.
 pub(crate) fn binary_type(
     span: Span,
     operator: Binary,
@@ -88,7 +88,7 @@ pub(crate) fn binary_type(
     }
 }
 
-// The type of what a division or a shift at `span` gives.
+// The result type of a division or a shift at `span`.
 pub(crate) fn scale_type(
     span: Span,
     operator: Scaling,
@@ -116,19 +116,6 @@ pub(crate) fn is_type(ty: Ty) -> bool
     ensures { IsTrue result ↔ IsType ty }
 {
     1 <= ty.width() && ty.width() <= MAX_WIDTH
-}
-
-// The type that a conversion at `span` brings values into.
-pub(crate) fn conversion_type(span: Span, to: TypeWord) -> Result<Ty, TypeError>
-    ensures typed { IfOk result (λ t. t ≡ to.ty) }
-    ensures is_type { IfOk result (λ t. IsType t) }
-    ensures faulty { IfErr result (λ stop. ¬ IsType to.ty × (stop ≡ TypeError.Fault (at span TypeFaultKind.WidthTooGreat))) }
-{
-    if is_type(to.ty) {
-        Ok(to.ty)
-    } else {
-        Err(fault(span, TypeFaultKind::WidthTooGreat))
-    }
 }
 
 // The type of a choice at `span`, whose condition is at `first`.

@@ -5,7 +5,7 @@ ghost use Rattle.std.specs.Result.{IsErrAnd};
 ghost use Rattle.dk_base.specs.declared.ty.Ty.{Ty};
 ghost use Rattle.dk_base.specs.Types.{IsIn};
 ghost use Rattle.dk_base.specs.Frames.{Size, Picture};
-ghost use Rattle.dk_parser.specs.Programs.{Source, source_of};
+ghost use Rattle.dk_parser.specs.Programs.{Source, source_of, AllConvertToTypes};
 ghost use Rattle.dk_types.specs.declared.fault.TypeFault.{TypeFault};
 ghost use Rattle.dk_types.specs.Typed.{Typed, Typing, typing_of, type_of, types_of, input_types};
 ghost use Rattle.dk_types.specs.Types.{IsTyping, HasNumbers};
@@ -21,13 +21,14 @@ use dk_base::FrameSize;
 use dk_parser::Program;
 use std::alloc::Global;
 
-/// Gives each expression of a program its one type and each name its image, or finds the first fault.
+/// Finds the one type of each expression and the image of each name, or else the first fault.
 pub fn check(alloc: Global, program: &Program) -> Result<TypedProgram, TypeError>
-    // What is answered is so.
+    requires { AllConvertToTypes (source_of program.now) }
+    // What is returned is right.
     ensures typed { IfOk result (λ t. IsTyping (source_of program.now) (typing_of t)) }
     ensures fault { IfErr result (λ stop. Stops (IsFirstFault (source_of program.now)) stop) }
 
-    // What is so is answered, except if out of memory.
+    // What is right is returned, except if out of memory.
     ensures accepts { (t : Typing) → IsTyping (source_of program.now) t
         → MatchResult result (λ found. typing_of found ≡ t) (λ stop. stop ≡ TypeError.OutOfMemory) }
     ensures refuses { (f : TypeFault) → IsFirstFault (source_of program.now) f → IsErrAnd result (λ stop. (stop ≡ TypeError.Fault f)
@@ -37,6 +38,7 @@ pub fn check(alloc: Global, program: &Program) -> Result<TypedProgram, TypeError
 }
 
 fn judged(alloc: Global, program: &Program) -> Result<TypedProgram, TypeError>
+    requires { AllConvertToTypes (source_of program.now) }
     ensures { MatchResult result (λ t. IsTyping (source_of program.now) (typing_of t)) (λ stop. Stops (IsFirstFault (source_of program.now)) stop) }
 {
     let width = items::side(program.width)?;
@@ -51,12 +53,13 @@ fn judged(alloc: Global, program: &Program) -> Result<TypedProgram, TypeError>
     Ok(TypedProgram::new(size, inputs, definitions, outputs))
 }
 
-/// A program has one typing, or one first fault, and never both; and where its numbers are below 2^64, as a text's are, it has one of them.
+/// A program has at most one typing or first fault. It has one of them if its numbers are below 2^64 and it converts to types of at most 64 bits only, as the program of a text does.
 pub fn one_typing_law()
     ensures typing { (p : Source) (one other : Typing) → IsTyping p one → IsTyping p other → one ≡ other }
     ensures fault { (p : Source) (one other : TypeFault) → IsFirstFault p one → IsFirstFault p other → one ≡ other }
     ensures either { (p : Source) (t : Typing) (f : TypeFault) → IsTyping p t → IsFirstFault p f → ⊥ }
-    ensures some { (p : Source) → All (λ d. HasNumbers d.body) p.definitions → ((t : Typing) × IsTyping p t) ⊎ ((f : TypeFault) × IsFirstFault p f) }
+    ensures some { (p : Source) → All (λ d. HasNumbers d.body) p.definitions → AllConvertToTypes p → ((t : Typing) × IsTyping p t)
+        ⊎ ((f : TypeFault) × IsFirstFault p f) }
 {}
 
 /// Wherever the values of the inputs are in their types, so are the values of each image, and of each part of a body.

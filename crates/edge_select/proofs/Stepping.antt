@@ -20,7 +20,8 @@ clamped_below side (pos n) some = yes_lt (min n (side - 1)) side (omega (arith, 
 clamped_below side (negsuc n) some = yes_lt 0 side (omega (arith, some))
 
 pub ends_in : (size : Size) (edge : Edge) (x y u v : ℤ) → 1 ≤ size.width → 1 ≤ size.height → EndsAt size edge x y u v → IsTrue (in_frame size u v)
-ends_in size Zero x y u v some tall (e, f, h) = subst (λ (p : ℤ). IsTrue (in_frame size p v)) (sym e) (subst (λ (q : ℤ). IsTrue (in_frame size x q)) (sym f) h)
+ends_in size Zero x y u v some tall ((e, on), (f, too)) =
+    subst (λ (p : ℤ). IsTrue (in_frame size p v)) (sym e) (subst (λ (q : ℤ). IsTrue (in_frame size x q)) (sym f) (both_true (is_below x size.width) (is_below y size.height) on too))
 ends_in size Clamp x y u v some tall (e, f) =
     subst (λ (p : ℤ). IsTrue (in_frame size p v)) (sym e) (subst (λ (q : ℤ). IsTrue (in_frame size (clamped size.width x) q)) (sym f)
     (both_true (is_below (clamped size.width x) size.width) (is_below (clamped size.height y) size.height) (clamped_below size.width x some) (clamped_below size.height y tall)))
@@ -34,7 +35,7 @@ clamped_ends size x y = (clamped size.width x, clamped size.height y, (refl, ref
 
 -- one end
 ends_one : (size : Size) (edge : Edge) (x y u v a b : ℤ) → EndsAt size edge x y u v → EndsAt size edge x y a b → (u ≡ a) × (v ≡ b)
-ends_one size Zero x y u v a b p q = (p.0 ∙ sym q.0, p.1 ∙ sym q.1)
+ends_one size Zero x y u v a b p q = (p.0.0 ∙ sym q.0.0, p.1.0 ∙ sym q.1.0)
 ends_one size Clamp x y u v a b p q = (p.0 ∙ sym q.0, p.1 ∙ sym q.1)
 
 pub lead_one : (size : Size) (steps : List Step) (x y u v a b : ℤ) → Lead size steps x y u v → Lead size steps x y a b → (u ≡ a) × (v ≡ b)

@@ -8,6 +8,7 @@ use Rattle.frame_paths.specs.declared.moves.Interval.{Interval}
 use Rattle.frame_paths.specs.declared.path.Path.{Path}
 use Rattle.frame_paths.specs.Moves.{Leads, IsInOn}
 use Rattle.frame_paths.specs.Paths.{LeadsTo, StepsTo}
+use Rattle.frame_steps.proofs.Unclamped.{ends_here, is_inside}
 use Rattle.frame_paths.proofs.Walks.{true_both}
 use Rattle.edge_select.specs.declared.step.Step.{Step}
 use Rattle.edge_select.specs.declared.paths.Rectangle.{Rectangle}
@@ -63,10 +64,10 @@ abbrev pub one_step : (dx dy : ℤ) → List Step
 one_step dx dy = (record { edge = Zero; dx = dx; dy = dy }) ∷ []
 
 pub one_to : (size : Size) (dx dy : ℤ) (x y : ℕ) → LeadBy size (one_step dx dy) dx dy x y → IsTrue (in_frame size (pos x +ℤ dx) (pos y +ℤ dy))
-one_to size dx dy x y k = k.2.2
+one_to size dx dy x y k = is_inside size (pos x +ℤ dx) (pos y +ℤ dy) k.0 k.1 k.2
 
 pub one_from : (size : Size) (dx dy : ℤ) (x y : ℕ) → IsTrue (in_frame size (pos x +ℤ dx) (pos y +ℤ dy)) → LeadBy size (one_step dx dy) dx dy x y
-one_from size dx dy x y h = (pos x +ℤ dx, pos y +ℤ dy, (refl, refl, h), (refl, refl))
+one_from size dx dy x y h = (pos x +ℤ dx, pos y +ℤ dy, ends_here size (pos x +ℤ dx) (pos y +ℤ dy) h, (refl, refl))
 
 -- the interval is the whole side
 abbrev pub IsWhole : Interval → ℕ → Type 0

@@ -1,12 +1,10 @@
 -- Paths, columns and rows apart.
-use Rattle.std.proofs.Common.{◌≡◌, ℕ, ℤ, ◌+ℤ◌, Bool, true, false, ◌&&◌, refl, subst, IsTrue, Option}
+use Rattle.std.proofs.Common.{◌≡◌, ℕ, ℤ, Bool, true, false, ◌&&◌, refl, subst, IsTrue, Option}
 use Rattle.dk_base.specs.Frames.{Size, in_frame, is_below}
 use Rattle.pointwise_ir.specs.declared.expr.Edge.{Edge}
-use Rattle.pointwise_ir.specs.declared.expr.Edge.TheVariants.{Zero, Clamp}
-use Rattle.pointwise_ir.specs.Reads.{EndsAt}
 use Rattle.frame_paths.specs.declared.moves.Moves.{Moves}
 use Rattle.frame_paths.specs.declared.path.Path.{Path}
-use Rattle.frame_paths.specs.Moves.{Leads, LeadsOn, LeadsThen, Ends}
+use Rattle.frame_paths.specs.Moves.{Leads, LeadsOn, LeadsThen}
 use Rattle.frame_paths.specs.Paths.{LeadsTo, LeadsToOn, StepsTo}
 
 pub both_true : (a b : Bool) → IsTrue (a && b) → IsTrue a × IsTrue b
@@ -19,22 +17,11 @@ true_both true true s t = refl
 true_both true false s t = absurd (cc (t))
 true_both false b s t = absurd (cc (s))
 
-ends_apart : (size : Size) (edge : Edge) (x y u v : ℤ) → EndsAt size edge x y u v → Ends size.width edge x u × Ends size.height edge y v
-ends_apart size Zero x y u v e = let b = both_true (is_below x size.width) (is_below y size.height) e.2 in ((e.0, b.0), (e.1, b.1))
-ends_apart size Clamp x y u v e = e
-
-ends_together : (size : Size) (edge : Edge) (x y u v : ℤ) → Ends size.width edge x u → Ends size.height edge y v → EndsAt size edge x y u v
-ends_together size Zero x y u v a b = (a.0, b.0, true_both (is_below x size.width) (is_below y size.height) a.1 b.1)
-ends_together size Clamp x y u v a b = (a, b)
-
 pub steps_apart : (size : Size) (p : Path) (edge : Edge) (dx dy x y u v : ℤ) → StepsTo size p edge dx dy x y u v → LeadsThen size.width p.across edge dx x u × LeadsThen size.height p.down edge dy y v
-steps_apart size p edge dx dy x y u v s =
-    let e = ends_apart size edge (s.0 +ℤ dx) (s.1 +ℤ dy) u v s.3 in
-    ((s.0, s.2.across, e.0), (s.1, s.2.down, e.1))
+steps_apart size p edge dx dy x y u v s = ((s.0, s.2.across, s.3.0), (s.1, s.2.down, s.3.1))
 
 pub steps_together : (size : Size) (p : Path) (edge : Edge) (dx dy x y u v : ℤ) → LeadsThen size.width p.across edge dx x u → LeadsThen size.height p.down edge dy y v → StepsTo size p edge dx dy x y u v
-steps_together size p edge dx dy x y u v a b =
-    (a.0, b.0, record { across = a.1; down = b.1 }, ends_together size edge (a.0 +ℤ dx) (b.0 +ℤ dy) u v a.2 b.2)
+steps_together size p edge dx dy x y u v a b = (a.0, b.0, record { across = a.1; down = b.1 }, (a.2, b.2))
 
 -- what steps lead to
 abbrev pub StepsAs : Size → Path → Edge → (dx dy : ℤ) → Option Path → Type 0

@@ -1,10 +1,10 @@
 -- What steps make of one coordinate.
-use Rattle.std.specs.Prelude.{◌≡◌, ℕ, ◌<◌, ◌≤◌, ◌*◌, ℤ, pos, ◌+ℤ◌, ◌≤ℤ◌, ◌<ℤ◌, IsTrue, Option, Some, None, unsigned_abs}
+use Rattle.std.specs.Prelude.{◌≡◌, ℕ, ◌<◌, ◌≤◌, ◌*◌, ℤ, pos, ◌+ℤ◌, ◌≤ℤ◌, ◌<ℤ◌, Option, Some, None, unsigned_abs}
 use Rattle.std.specs.Int.{int_min, int_max}
 use Rattle.dk_base.specs.declared.TheConstants.{MAX_SIDE}
-use Rattle.dk_base.specs.Frames.{is_below, clamped}
 use Rattle.pointwise_ir.specs.declared.expr.Edge.{Edge}
-use Rattle.pointwise_ir.specs.declared.expr.Edge.TheVariants.{Zero, Clamp}
+use Rattle.frame_steps.specs.Steps.{EndsOn}
+use Rattle.pointwise_ir.specs.Reads.{is_clamped}
 use Rattle.frame_paths.specs.declared.moves.Moves.{Moves}
 use Rattle.frame_paths.specs.declared.moves.Interval.{Interval}
 use Rattle.frame_paths.specs.declared.moves.Offsets.{Offsets}
@@ -23,14 +23,9 @@ abbrev pub LeadsOn : Option Moves → (x u : ℤ) → Type 0
 LeadsOn None x u = ⊥
 LeadsOn (Some m) x u = Leads m x u
 
--- A step to coordinate x ends at u: where it is not clamped, at x in the frame or nowhere; where it is, at the nearest coordinate of the frame.
-abbrev pub Ends : (side : ℕ) → Edge → (x u : ℤ) → Type 0
-Ends side Zero x u = (u ≡ x) × IsTrue (is_below x side)
-Ends side Clamp x u = u ≡ clamped side x
-
 -- first the moves, and then a step
 abbrev pub LeadsThen : (side : ℕ) → Moves → Edge → ℤ → (x u : ℤ) → Type 0
-LeadsThen side m edge by x u = (w : ℤ) × Leads m x w × Ends side edge (w +ℤ by) u
+LeadsThen side m edge by x u = (w : ℤ) × Leads m x w × EndsOn (is_clamped edge) side (w +ℤ by) u
 
 -- they lead some coordinate of the frame, and each into the frame
 pub record LeadWithin (side : ℕ) (m : Moves) : Type 0 where

@@ -19,7 +19,7 @@ use Rattle.raster_delay.specs.Systems.{System, image_count, placed_reads, depth}
 use Rattle.raster_delay.proofs.Bridge.{rec_append, rec_map_in, rec_range_in}
 use Rattle.buffer_plan.specs.Plans.{Plan, IsPlan}
 use Rattle.report_text.specs.declared.report.ImageLine.{ImageLine}
-use Rattle.report_text.specs.Names.{is_name}
+use Rattle.source_words.specs.Words.{is_name}
 use Rattle.report_text.specs.Reports.{IsImageLine, IsAmount, IsFlowLine, AreDistinct, Ascend, most_images, most_latencies, Meets}
 use Rattle.report_text.specs.Reports as R
 use Rattle.latency_report.specs.Printed.{name_of, line_of, image_lines, latencies, version_of, report_of}
@@ -28,7 +28,7 @@ use Rattle.plan_check.specs.Sums.{hold_maker, start_maker, read_maker, keep_make
 use Rattle.latency_report.proofs.Lines.{Maker}
 use Rattle.latency_report.proofs.Rising.{Precedes, Rises, carried_rise, carried_in, rises_append, kinds, holds_rise, starts_rise, by_read, AreKept, reads_rise}
 
--- what the version says of the counts
+-- what the version states of the counts
 version_low : (b : Bool) → 2 ≤ (if b then 2 else 3)
 version_low true = omega arith
 version_low false = omega arith

@@ -1,13 +1,21 @@
 -- Lists of reads in order.
-use Rattle.std.proofs.Common.{◌≡◌, ℕ, zero, suc, ◌≤◌, ◌<◌, ℤ, inl, inr, List, [], ◌∷◌, length, slice_index_or, refl, sym, ap, subst, ◌∙◌, arith}
+use Rattle.std.proofs.Common.{◌≡◌, ◌⊎◌, zero, suc, ◌≤◌, ◌<◌, inl, inr, List, [], ◌∷◌, length, Contains, refl, sym, ap, subst, ◌∙◌, arith}
 use Rattle.std.proofs.lemmas.Int.{ints}
 use Rattle.dk_base.specs.declared.stencils.LiveRead.{LiveRead}
 use Rattle.dk_base.specs.Stencils.{IsBefore, AreInOrder}
-use Rattle.pointwise_ir.specs.Stencils.{IsThe, Has, the}
 
-pub the_is : (r : LiveRead) (f g : ℕ) (dx dy : ℤ) → IsThe r f g dx dy → r ≡ the f g dx dy
-the_is r f g dx dy k =
-    subst (λ n. r ≡ the n g dx dy) k.reader (subst (λ n. r ≡ the r.f n dx dy) k.source (subst (λ n. r ≡ the r.f r.g n dy) k.across (subst (λ n. r ≡ the r.f r.g r.dx n) k.down refl)))
+pub head_in : {X : Type 0} (x : X) (xs : List X) → Contains (x ∷ xs) x
+head_in x xs = (0, omega arith, refl)
+
+pub tail_in : {X : Type 0} (x : X) (xs : List X) (a : X) → Contains xs a → Contains (x ∷ xs) a
+tail_in x xs a (k, lt, e) = (suc k, (let h : suc k < length (x ∷ xs) = omega (arith, lt) in h), e)
+
+pub one_of : {X : Type 0} (x : X) (xs : List X) (a : X) → Contains (x ∷ xs) a → (x ≡ a) ⊎ Contains xs a
+one_of x xs a (zero, lt, e) = inl e
+one_of x xs a (suc k, lt, e) = inr (k, (let h : k < length xs = omega (arith, lt) in h), e)
+
+pub none_in : {X : Type 0} (a : X) → Contains [] a → ⊥
+none_in a (k, lt, e) = omega (arith, lt)
 
 not_itself : (a : LiveRead) → IsBefore a a → ⊥
 not_itself a b = let h = b.columns refl refl refl in omega (arith, ints, h)
@@ -30,64 +38,55 @@ not_both a b h k =
 tail_order : (x : LiveRead) (xs : List LiveRead) → AreInOrder (x ∷ xs) → AreInOrder xs
 tail_order x xs o i j d h l = o (suc i) (suc j) d (omega (arith, h)) (omega (arith, l))
 
-has_before : (x : LiveRead) (xs : List LiveRead) → ((j : ℕ) (d : LiveRead) → j < length xs → IsBefore x (slice_index_or xs j d)) → (f g : ℕ) (dx dy : ℤ) → Has xs f g dx dy → IsBefore x (the f g dx dy)
-has_before x [] a f g dx dy h = absurd h
-has_before x (r ∷ rs) a f g dx dy (inl k) = subst (IsBefore x) (the_is r f g dx dy k) (a zero r (omega arith))
-has_before x (r ∷ rs) a f g dx dy (inr h) = has_before x rs (λ j d l. a (suc j) d (omega (arith, l))) f g dx dy h
-
-later : (x : LiveRead) (xs : List LiveRead) → AreInOrder (x ∷ xs) → (f g : ℕ) (dx dy : ℤ) → Has xs f g dx dy → IsBefore x (the f g dx dy)
-later x xs o = has_before x xs (λ j d l. o zero (suc j) d (omega arith) (omega (arith, l)))
-
-itself : (x : LiveRead) (xs : List LiveRead) → Has (x ∷ xs) x.f x.g x.dx x.dy
-itself x xs = inl (record { reader = refl; source = refl; across = refl; down = refl })
+later : (x : LiveRead) (xs : List LiveRead) → AreInOrder (x ∷ xs) → (r : LiveRead) → Contains xs r → IsBefore x r
+later x xs o r (k, lt, is) = subst (IsBefore x) is (o zero (suc k) r (omega arith) (omega (arith, lt)))
 
 -- a list in order that has no more is no longer
-pub no_longer : (xs ys : List LiveRead) → AreInOrder xs → AreInOrder ys → ((f g : ℕ) (dx dy : ℤ) → Has xs f g dx dy → Has ys f g dx dy) → length xs ≤ length ys
+pub no_longer : (xs ys : List LiveRead) → AreInOrder xs → AreInOrder ys → ((r : LiveRead) → Contains xs r → Contains ys r) → length xs ≤ length ys
 no_longer [] ys o q s = omega arith
-no_longer (x ∷ xs) [] o q s = absurd (s x.f x.g x.dx x.dy (itself x xs))
-no_longer (x ∷ xs) (y ∷ ys) o q s = which (s x.f x.g x.dx x.dy (itself x xs)) (λ r. no_longer xs ys (tail_order x xs o) (tail_order y ys q) r) (λ r. no_longer (x ∷ xs) ys o (tail_order y ys q) r)
+no_longer (x ∷ xs) [] o q s = absurd (none_in x (s x (head_in x xs)))
+no_longer (x ∷ xs) (y ∷ ys) o q s = which (one_of y ys x (s x (head_in x xs))) (λ r. no_longer xs ys (tail_order x xs o) (tail_order y ys q) r) (λ r. no_longer (x ∷ xs) ys o (tail_order y ys q) r)
   where
-    rest : y ≡ x → (f g : ℕ) (dx dy : ℤ) → Has xs f g dx dy → Has (y ∷ ys) f g dx dy → Has ys f g dx dy
-    rest e f g dx dy h (inl k) = absurd (not_itself x (subst (IsBefore x) (sym (the_is y f g dx dy k) ∙ e) (later x xs o f g dx dy h)))
-    rest e f g dx dy h (inr k) = k
+    rest : y ≡ x → (r : LiveRead) → Contains xs r → (y ≡ r) ⊎ Contains ys r → Contains ys r
+    rest e r h (inl k) = absurd (not_itself x (subst (IsBefore x) (sym k ∙ e) (later x xs o r h)))
+    rest e r h (inr k) = k
 
-    all : IsBefore y x → (f g : ℕ) (dx dy : ℤ) → Has (x ∷ xs) f g dx dy → Has (y ∷ ys) f g dx dy → Has ys f g dx dy
-    all b f g dx dy h (inr k) = k
-    all b f g dx dy (inl h) (inl k) = absurd (not_itself y (subst (IsBefore y) (the_is x f g dx dy h ∙ sym (the_is y f g dx dy k)) b))
-    all b f g dx dy (inr h) (inl k) = absurd (not_both y x b (subst (IsBefore x) (sym (the_is y f g dx dy k)) (later x xs o f g dx dy h)))
+    all : IsBefore y x → (r : LiveRead) → (x ≡ r) ⊎ Contains xs r → (y ≡ r) ⊎ Contains ys r → Contains ys r
+    all b r h (inr k) = k
+    all b r (inl h) (inl k) = absurd (not_itself y (subst (IsBefore y) (h ∙ sym k) b))
+    all b r (inr h) (inl k) = absurd (not_both y x b (subst (IsBefore x) (sym k) (later x xs o r h)))
 
-    which : Has (y ∷ ys) x.f x.g x.dx x.dy → (((f g : ℕ) (dx dy : ℤ) → Has xs f g dx dy → Has ys f g dx dy) → length xs ≤ length ys)
-        → (((f g : ℕ) (dx dy : ℤ) → Has (x ∷ xs) f g dx dy → Has ys f g dx dy) → length (x ∷ xs) ≤ length ys) → length (x ∷ xs) ≤ length (y ∷ ys)
+    which : (y ≡ x) ⊎ Contains ys x → (((r : LiveRead) → Contains xs r → Contains ys r) → length xs ≤ length ys)
+        → (((r : LiveRead) → Contains (x ∷ xs) r → Contains ys r) → length (x ∷ xs) ≤ length ys) → length (x ∷ xs) ≤ length (y ∷ ys)
     which (inl k) one two =
-        let e = the_is y x.f x.g x.dx x.dy k in
-        let l = one (λ f g dx dy h. rest e f g dx dy h (s f g dx dy (inr h))) in
+        let l = one (λ r h. rest k r h (one_of y ys r (s r (tail_in x xs r h)))) in
         omega (arith, l)
     which (inr k) one two =
-        let b = later y ys q x.f x.g x.dx x.dy k in
-        let l = two (λ f g dx dy h. all b f g dx dy h (s f g dx dy h)) in
+        let b = later y ys q x k in
+        let l = two (λ r h. all b r (one_of x xs r h) (one_of y ys r (s r h))) in
         omega (arith, l)
 
 -- lists in order that have the same are the same
-pub same_list : (xs ys : List LiveRead) → AreInOrder xs → AreInOrder ys → ((f g : ℕ) (dx dy : ℤ) → Has xs f g dx dy → Has ys f g dx dy) → ((f g : ℕ) (dx dy : ℤ) → Has ys f g dx dy → Has xs f g dx dy) → xs ≡ ys
+pub same_list : (xs ys : List LiveRead) → AreInOrder xs → AreInOrder ys → ((r : LiveRead) → Contains xs r → Contains ys r) → ((r : LiveRead) → Contains ys r → Contains xs r) → xs ≡ ys
 same_list [] [] o q s t = refl
-same_list [] (y ∷ ys) o q s t = absurd (t y.f y.g y.dx y.dy (itself y ys))
-same_list (x ∷ xs) [] o q s t = absurd (s x.f x.g x.dx x.dy (itself x xs))
+same_list [] (y ∷ ys) o q s t = absurd (none_in y (t y (head_in y ys)))
+same_list (x ∷ xs) [] o q s t = absurd (none_in x (s x (head_in x xs)))
 same_list (x ∷ xs) (y ∷ ys) o q s t =
     ap (λ r. r ∷ xs) head ∙ ap (λ rs. y ∷ rs) (same_list xs ys (tail_order x xs o) (tail_order y ys q)
-    (λ f g dx dy h. there f g dx dy h (s f g dx dy (inr h))) (λ f g dx dy h. back f g dx dy h (t f g dx dy (inr h))))
+    (λ r h. there r h (one_of y ys r (s r (tail_in x xs r h)))) (λ r h. back r h (one_of x xs r (t r (tail_in y ys r h)))))
   where
-    first : Has (y ∷ ys) x.f x.g x.dx x.dy → Has (x ∷ xs) y.f y.g y.dx y.dy → x ≡ y
-    first (inl k) h = sym (the_is y x.f x.g x.dx x.dy k)
-    first (inr k) (inl h) = the_is x y.f y.g y.dx y.dy h
-    first (inr k) (inr h) = absurd (not_both y x (later y ys q x.f x.g x.dx x.dy k) (later x xs o y.f y.g y.dx y.dy h))
+    first : (y ≡ x) ⊎ Contains ys x → (x ≡ y) ⊎ Contains xs y → x ≡ y
+    first (inl k) h = sym k
+    first (inr k) (inl h) = h
+    first (inr k) (inr h) = absurd (not_both y x (later y ys q x k) (later x xs o y h))
 
     head : x ≡ y
-    head = first (s x.f x.g x.dx x.dy (itself x xs)) (t y.f y.g y.dx y.dy (itself y ys))
+    head = first (one_of y ys x (s x (head_in x xs))) (one_of x xs y (t y (head_in y ys)))
 
-    there : (f g : ℕ) (dx dy : ℤ) → Has xs f g dx dy → Has (y ∷ ys) f g dx dy → Has ys f g dx dy
-    there f g dx dy h (inl k) = absurd (not_itself x (subst (IsBefore x) (sym (the_is y f g dx dy k) ∙ sym head) (later x xs o f g dx dy h)))
-    there f g dx dy h (inr k) = k
+    there : (r : LiveRead) → Contains xs r → (y ≡ r) ⊎ Contains ys r → Contains ys r
+    there r h (inl k) = absurd (not_itself x (subst (IsBefore x) (sym k ∙ sym head) (later x xs o r h)))
+    there r h (inr k) = k
 
-    back : (f g : ℕ) (dx dy : ℤ) → Has ys f g dx dy → Has (x ∷ xs) f g dx dy → Has xs f g dx dy
-    back f g dx dy h (inl k) = absurd (not_itself y (subst (IsBefore y) (sym (the_is x f g dx dy k) ∙ head) (later y ys q f g dx dy h)))
-    back f g dx dy h (inr k) = k
+    back : (r : LiveRead) → Contains ys r → (x ≡ r) ⊎ Contains xs r → Contains xs r
+    back r h (inl k) = absurd (not_itself y (subst (IsBefore y) (sym k ∙ head) (later y ys q r h)))
+    back r h (inr k) = k

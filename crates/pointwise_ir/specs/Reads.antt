@@ -1,15 +1,20 @@
 -- Which pixels an expression reads at a point, the live reads, and the images that are kept.
-use Rattle.std.specs.Prelude.{◌≡◌, ℕ, ◌<◌, ℤ, ◌+ℤ◌, IsTrue, Contains, length, ◌⊎◌}
-use Rattle.dk_base.specs.Frames.{Size, in_frame, clamped}
+use Rattle.std.specs.Prelude.{◌≡◌, ℕ, ◌<◌, ℤ, ◌+ℤ◌, Bool, true, false, IsTrue, Contains, length, ◌⊎◌}
+use Rattle.dk_base.specs.Frames.{Size, in_frame}
+use Rattle.frame_steps.specs.Steps as S
 use Rattle.pointwise_ir.specs.declared.expr.Edge.{Edge}
 use Rattle.pointwise_ir.specs.declared.expr.Edge.TheVariants.{Zero, Clamp}
 use Rattle.pointwise_ir.specs.Trees.{Tree, constant, read, shifted, unary, binary, select, convert, scale}
 use Rattle.pointwise_ir.specs.Programs.{Program, IsBody}
 
--- A step to the point (x, y) ends at (u, v): where it is not clamped, at that point in the frame or nowhere; where it is, at the nearest point of the frame.
+-- a step with this edge is a clamped one
+abbrev pub is_clamped : Edge → Bool
+is_clamped Zero = false
+is_clamped Clamp = true
+
+-- a step to the point (x, y) ends at (u, v)
 abbrev pub EndsAt : Size → Edge → (x y u v : ℤ) → Type 0
-EndsAt size Zero x y u v = (u ≡ x) × (v ≡ y) × IsTrue (in_frame size x y)
-EndsAt size Clamp x y u v = (u ≡ clamped size.width x) × (v ≡ clamped size.height y)
+EndsAt size edge x y u v = S.EndsAt (is_clamped edge) size x y u v
 
 -- at the point (x, y) the expression reads the pixel (u, v) of image g
 abbrev pub Reads : Size → Tree → (x y : ℤ) → (g : ℕ) → (u v : ℤ) → Type 0

@@ -1,5 +1,5 @@
 -- The stencils of a program: the images that it keeps and their live reads.
-use Rattle.std.specs.Prelude.{◌≡◌, ℕ, ◌⊎◌, ◌↔◌, ℤ, List, [], ◌∷◌, length, Some, slice_get}
+use Rattle.std.specs.Prelude.{◌≡◌, ℕ, ◌↔◌, ℤ, List, Contains, length, Some, slice_get}
 use Rattle.std.specs.List.{All}
 use Rattle.dk_base.specs.declared.stencils.Image.{Image}
 use Rattle.dk_base.specs.declared.stencils.LiveRead.{LiveRead}
@@ -13,18 +13,6 @@ use Rattle.pointwise_ir.specs.Reads.{IsLive, Kept}
 abbrev pub the : (f g : ℕ) → (dx dy : ℤ) → LiveRead
 the f g dx dy = record { f = f; g = g; dx = dx; dy = dy }
 
--- the read is that of image g by image f at this offset
-pub record IsThe (r : LiveRead) (f g : ℕ) (dx dy : ℤ) : Type 0 where
-  pub reader : r.f ≡ f
-  pub source : r.g ≡ g
-  pub across : r.dx ≡ dx
-  pub down : r.dy ≡ dy
-
--- it is one of these
-abbrev pub Has : List LiveRead → (f g : ℕ) → (dx dy : ℤ) → Type 0
-Has [] f g dx dy = ⊥
-Has (r ∷ rs) f g dx dy = IsThe r f g dx dy ⊎ Has rs f g dx dy
-
 -- a live read by an image that is kept
 pub record IsKeptRead (p : Program) (f g : ℕ) (dx dy : ℤ) : Type 0 where
   pub kept : Kept p f
@@ -33,7 +21,7 @@ pub record IsKeptRead (p : Program) (f g : ℕ) (dx dy : ℤ) : Type 0 where
 -- they are the live reads of kept images, each once, in order
 pub record AreReads (p : Program) (reads : List LiveRead) : Type 0 where
   pub in_order : AreInOrder reads
-  pub exact : (f g : ℕ) (dx dy : ℤ) → Has reads f g dx dy ↔ IsKeptRead p f g dx dy
+  pub exact : (f g : ℕ) (dx dy : ℤ) → Contains reads (the f g dx dy) ↔ IsKeptRead p f g dx dy
 
 -- the image is kept, and this is the width of its type
 pub record IsKeptImage (p : Program) (image : Image) : Type 0 where

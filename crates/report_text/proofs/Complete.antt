@@ -9,7 +9,7 @@ use Rattle.report_text.specs.declared.report.ImageLine.{ImageLine}
 use Rattle.report_text.specs.declared.report.FlowLine.{FlowLine}
 use Rattle.report_text.specs.declared.step.Stage.{Stage}
 use Rattle.report_text.specs.declared.step.Stage.TheVariants.{Start, Plan, Limits, Age, Size, Images, Latencies, Clocks, Bits, Reads, Flow, End}
-use Rattle.report_text.specs.Names.{same_codes}
+use Rattle.std.specs.Str.{bytes_eq}
 use Rattle.report_text.specs.Reports.{Report, Meets, IsImageLine, IsFlowLine, AreDistinct, names_of, Ascend, most_images, most_latencies}
 use Rattle.report_text.specs.Layout.{plan_line, limits_line, age_line, size_line, image_line, latency_line, clocks_line, bits_line, reads_line, flow_line, end_line, lines}
 use Rattle.report_text.specs.Reading.{◌>>=◌, or_else, number_line_at, image_at, flow_at, place_of, within, follows, sized, imaged, delayed, counted, flowing, ended, next, is_final, nothing, reading_on, reading}
@@ -205,7 +205,7 @@ place_is : (done : List ImageLine) (i : ImageLine) (rest : List ImageLine) → A
 place_is done i rest d =
     let n = length-append done (i ∷ rest) in
     let many : length (names_of (done ++ i ∷ rest)) ≡ length (done ++ i ∷ rest) = length-map (done ++ i ∷ rest) (λ i. i.name) in
-    position_or_len_is (λ j. same_codes j.name i.name) done (length done) some_image (omega arith)
+    position_or_len_is (λ j. bytes_eq j.name i.name) done (length done) some_image (omega arith)
     (λ k h. same_not (get_or done k some_image).name i.name (λ e. d k (length done) h (omega arith) (name_before done i rest k h ∙ e ∙ sym (name_there done i rest))))
     (λ h. absurd (omega arith))
 

@@ -3,7 +3,7 @@ use Rattle.std.proofs.Common.{◌≡◌, ◌<◌, ◌≤◌, ◌^◌, ◌∙◌,
 use Rattle.std.specs.Prelude.{Option, Some, None, nat_lt, ◌&&◌, if◌then◌else◌}
 use Rattle.std.proofs.lemmas.Bool.{ltb-true, lt-ltb, and_parts, and_from}
 use Rattle.report_text.specs.declared.report.ImageLine.{ImageLine}
-use Rattle.report_text.specs.Names.{is_name}
+use Rattle.source_words.specs.Words.{is_name}
 use Rattle.report_text.specs.Layout.{image_line}
 use Rattle.report_text.specs.Reports.{IsImageLine}
 use Rattle.report_text.specs.Reading.{◌>>=◌, strip, number_at, pair_line_at, word_at, within, image_at}

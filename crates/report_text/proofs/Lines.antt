@@ -8,7 +8,7 @@ use Rattle.report_text.specs.declared.report.ImageLine.{ImageLine}
 use Rattle.report_text.specs.declared.report.FlowLine.{FlowLine}
 use Rattle.report_text.specs.declared.report.FlowLine.TheVariants.{Read}
 use Rattle.report_text.specs.declared.step.Stage.TheVariants.{Images}
-use Rattle.report_text.specs.Names.{same_codes}
+use Rattle.std.specs.Str.{bytes_eq}
 use Rattle.report_text.specs.Reports.{Report, most_images}
 use Rattle.report_text.specs.Reading.{strip, word_at, find, place_of, carried_at, flow_at, image_at, imaged, is_before, follows}
 use Rattle.report_text.proofs.Fields.{strip_takes}
@@ -75,7 +75,7 @@ fresh images name e = by (nat_lt (place_of images name) (length images)) refl e
   where
     by : (t : Bool) → nat_lt (place_of images name) (length images) ≡ t → (if t then Some (place_of images name) else None) ≡ None → place_of images name ≡ length images
     by true f e = absurd (cc e)
-    by false f e = let l = ltb-false _ _ f in let m = prefix_len-le-length (λ (i : ImageLine). not (same_codes i.name name)) images in omega (arith, l, m)
+    by false f e = let l = ltb-false _ _ f in let m = prefix_len-le-length (λ (i : ImageLine). not (bytes_eq i.name name)) images in omega (arith, l, m)
 
 pub image_more : (r : Report) (line : List ℕ) (i j : ImageLine) (held all : List ImageLine) → image_at line ≡ Some j → i ≡ j → length r.images < most_images r.version → held ≡ r.images → find held j.name ≡ None → all ≡ r.images ++ i ∷ [] → imaged r line ≡ Some (Images, record r { images = all })
 image_more r line i j held all e same few h none is =

@@ -8,7 +8,7 @@ use Rattle.std.proofs.lemmas.Option.{same_Some}
 use Rattle.report_text.specs.declared.report.ImageLine.{ImageLine}
 use Rattle.report_text.specs.declared.step.Stage.{Stage}
 use Rattle.report_text.specs.declared.step.Stage.TheVariants.{Start, Plan, Limits, Age, Size, Images, Latencies, Clocks, Bits, Reads, Flow, End}
-use Rattle.report_text.specs.Names.{same_codes}
+use Rattle.std.specs.Str.{bytes_eq}
 use Rattle.report_text.specs.Reports.{Report, Meets, IsImageLine, AreDistinct, names_of, most_images, most_latencies}
 use Rattle.report_text.specs.Layout.{plan_line, limits_line, age_line, size_line, image_line, latency_line, clocks_line, reads_line, flow_line, head_lines}
 use Rattle.report_text.specs.Reading.{◌>>=◌, number_line_at, pair_line_at, image_at, flow_at, place_of, within, follows, planned, sized, imaged, delayed, counted, flowing, ended, next}
@@ -190,8 +190,8 @@ flowing_step r taken line s b m e =
 
 ended_step : (r : Report) (taken : List (List ℕ)) (line : List ℕ) (s : Stage × Report) → taken ≡ upto_flow r → Meets r → ended r line ≡ Some s → With taken line s
 ended_step r taken line s b m e =
-    let i = if_some (same_codes line (codes "end\n") && not (nat_eq r.version 1)) (End, r) s e in
-    let p = and_parts (same_codes line (codes "end\n")) (not (nat_eq r.version 1)) i.0 in
+    let i = if_some (bytes_eq line (codes "end\n") && not (nat_eq r.version 1)) (End, r) s e in
+    let p = and_parts (bytes_eq line (codes "end\n")) (not (nat_eq r.version 1)) i.0 in
     subst (With taken line) i.1 (record {
       ready = not-true _ p.1;
       meets = m;

@@ -8,7 +8,7 @@ use Rattle.std.proofs.lemmas.List.{length_push, get_or_push, get_or_append_left,
 use Rattle.std.proofs.lemmas.List.Sums.{fails_before_first}
 use Rattle.report_text.specs.declared.report.ImageLine.{ImageLine}
 use Rattle.report_text.specs.declared.report.FlowLine.{FlowLine}
-use Rattle.report_text.specs.Names.{same_codes}
+use Rattle.std.specs.Str.{bytes_eq}
 use Rattle.report_text.specs.Reports.{Report, Meets, IsBare, IsImageLine, IsFlowLine, AreDistinct, names_of, Ascend, most_images, most_latencies}
 use Rattle.report_text.specs.Reading.{follows, place_of}
 use Rattle.report_text.proofs.Orders.{Decides-line}
@@ -44,8 +44,8 @@ distinct_push names n d new a b h l e = by (cases_order b (length names))
 new_name : (images : List ImageLine) (name : List ℕ) (k : ℕ) → place_of images name ≡ length images → k < length images → get_or (names_of images) k [] ≡ name → ⊥
 new_name images name k p h e =
     let same = sym (get_or-map (λ i. i.name) images k some_image [] h) ∙ e in
-    let f = fails_before_first (λ i. same_codes i.name name) images k some_image (subst (λ n. k < n) (sym p) h) in
-    let t = subst (λ x. same_codes x name ≡ true) (sym same) (same_self name) in
+    let f = fails_before_first (λ i. bytes_eq i.name name) images k some_image (subst (λ n. k < n) (sym p) h) in
+    let t = subst (λ x. bytes_eq x name ≡ true) (sym same) (same_self name) in
     absurd (cc (f, t))
 
 pub distinct_more : (images : List ImageLine) (i : ImageLine) → AreDistinct (names_of images) → place_of images i.name ≡ length images → AreDistinct (names_of (images ++ i ∷ []))

@@ -1,4 +1,3 @@
-pub mod Names
 pub mod Reports
 pub mod Layout
 pub mod Texts

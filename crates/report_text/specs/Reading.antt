@@ -11,7 +11,8 @@ use Rattle.report_text.specs.declared.report.FlowLine.TheVariants.{Hold, Start a
 use Rattle.report_text.specs.declared.step.Stage.{Stage}
 use Rattle.report_text.specs.declared.step.Stage.TheVariants.{Start, Plan, Limits, Age, Size, Images, Latencies, Clocks, Bits, Reads, Flow, End}
 use Rattle.dk_base.specs.Ascii.{is_digit, is_word_byte}
-use Rattle.report_text.specs.Names.{is_name, same_codes}
+use Rattle.source_words.specs.Words.{is_name}
+use Rattle.std.specs.Str.{bytes_eq}
 use Rattle.dk_base.specs.Ascii.{value_of}
 use Rattle.report_text.specs.Reports.{Report, kind, read_named, most_images, most_latencies}
 
@@ -103,7 +104,7 @@ image_at line = do
 
 -- the place of the image line of this name
 abbrev pub place_of : List ImageLine → List ℕ → ℕ
-place_of images name = position_or_len (λ i. same_codes i.name name) images
+place_of images name = position_or_len (λ i. bytes_eq i.name name) images
 
 abbrev pub find : List ImageLine → List ℕ → Option ℕ
 find images name = if nat_lt (place_of images name) (length images) then Some (place_of images name) else None
@@ -175,7 +176,7 @@ flowing r line = do
   if follows r.flow x then Some (Flow, record r { flow = r.flow ++ x ∷ [] }) else None
 
 abbrev pub ended : Report → List ℕ → Option (Stage × Report)
-ended r line = if same_codes line (codes "end\n") && not (nat_eq r.version 1) then Some (End, r) else None
+ended r line = if bytes_eq line (codes "end\n") && not (nat_eq r.version 1) then Some (End, r) else None
 
 abbrev pub planned : Report → List ℕ → Option (Stage × Report)
 planned r line = do
@@ -214,7 +215,7 @@ is_final Bits version = nat_eq version 1
 is_final Flow version = nat_eq version 1
 is_final _ version = false
 
--- before the first line; the version is 1 until a line says otherwise
+-- before the first line; the version is 1 until a line states another
 abbrev pub nothing : Report
 nothing = record { version = 1; bits_limit = 0; latency_limit = 0; age = 0; width = 0; height = 0; images = []; latencies = []; clocks = 0; bits = 0; reads = 0; flow = [] }
 

@@ -1,4 +1,4 @@
--- What a report says, and what its values keep.
+-- What a report states, and what its values keep.
 use Rattle.std.specs.Prelude.{◌≡◌, ◌≢◌, ℕ, pos, ◌+◌, ◌^◌, ◌<◌, ◌≤◌, true, nat_eq, if◌then◌else◌, List, [], ◌∷◌, length, map, slice_index_or, All}
 use Rattle.std.specs.List.{AllByRecursion}
 use Rattle.dk_base.specs.declared.stencils.LiveRead.{LiveRead}
@@ -8,7 +8,7 @@ use Rattle.report_text.specs.declared.report.ImageLine.{ImageLine}
 use Rattle.report_text.specs.declared.report.FlowLine.{FlowLine}
 use Rattle.report_text.specs.declared.report.FlowLine.TheVariants.{Hold, Start, Read, Keep}
 use Rattle.report_text.specs.declared.report.Report.{Report as TheReport}
-use Rattle.report_text.specs.Names.{is_name}
+use Rattle.source_words.specs.Words.{is_name}
 
 -- the values of a report, with its lists as lists
 pub record Report : Type 0 where
@@ -68,19 +68,19 @@ kind (Start f n) = 1
 kind (Read f g dx dy n) = 2
 kind (Keep f g dx dy n) = 3
 
--- the live read that a flow line names, its images by their places; a single image counts as a read by it, of the first image
+-- The live read that a flow line names, its images by their places. A line of one image counts as a read by it of the first image.
 abbrev pub read_named : FlowLine → LiveRead
 read_named (Hold g n) = record { f = g; g = 0; dx = pos 0; dy = pos 0 }
 read_named (Start f n) = record { f = f; g = 0; dx = pos 0; dy = pos 0 }
 read_named (Read f g dx dy n) = record { f = f; g = g; dx = dx; dy = dy }
 read_named (Keep f g dx dy n) = record { f = f; g = g; dx = dx; dy = dy }
 
--- one flow line comes before another: by kind, and within a kind as live reads do
+-- one flow line is before another: by kind, and within a kind in the order of live reads
 pub record StandsBefore (a b : FlowLine) : Type 0 where
   pub kinds : kind a ≤ kind b
   pub reads : kind a ≡ kind b → IsBefore (read_named a) (read_named b)
 
--- each comes before the next one
+-- each is before the next one
 abbrev pub Ascend : List FlowLine → Type 0
 Ascend [] = Unit {0}
 Ascend (a ∷ []) = Unit {0}

@@ -10,7 +10,7 @@ use Rattle.report_text.specs.declared.step.Stage.TheVariants.{Clocks}
 use Rattle.report_text.specs.Reports.{Report, parts_of}
 use Rattle.report_text.specs.Reading.{◌>>=◌, strip, offset_at, amount_at, number_line_at}
 
--- the kind of the line and the report that a step gives; where it gives none the report stays as it was
+-- the kind of the line and the report that a step returns; if it returns none, the report is unchanged
 abbrev pub Does : Option (Stage × Report) → (old : Report) → Option Stage → (new : Report) → Type 0
 Does read old None new = (read ≡ None) × (new ≡ old)
 Does read old (Some stage) new = read ≡ Some (stage, new)

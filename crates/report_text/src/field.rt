@@ -3,13 +3,14 @@
 ghost use Rattle.std.specs.Prelude.{◌≡◌, ◌≤◌, ◌+◌, ◌*◌, ◌-◌, ◌^◌, Some, None, MatchOption, IfOk, length, codes, position};
 ghost use Rattle.std.specs.List.{prefix_len};
 ghost use Rattle.dk_base.specs.Ascii.{is_digit as digit};
-ghost use Rattle.report_text.specs.Names.{same_codes};
+ghost use Rattle.std.specs.Str.{bytes_eq};
 ghost use Rattle.dk_base.specs.Ascii.{value_of};
 ghost use Rattle.report_text.specs.Reading.{strip as strip_of, is_end as end, is_canonical as canonical, numeral as numeral_of, number_at as number_of, offset_at as offset_of, unsigned_at, negative_at, word_at as word_of, number_line_at, pair_line_at, image_at, find as find_of, amount_at};
 
 use crate::report::ImageLine;
-use crate::word::{is_name, same};
+use crate::word::same;
 use dk_base::{MAX_SIDE, OutOfMemory, Text, digits_length, word_length};
+use source_words::is_name;
 use std::alloc::Global;
 
 // The greatest size of an offset, to either side.
@@ -196,7 +197,7 @@ pub(crate) fn owned(alloc: Global, parts: &ImageParts<'_>) -> Result<ImageLine, 
 }
 
 fn first_place(images: &[ImageLine], name: &[u8]) -> Option<usize>
-    ensures { result ≡ position (λ i. same_codes i.name name.now) images.now }
+    ensures { result ≡ position (λ i. bytes_eq i.name name.now) images.now }
 {
     images
         .iter()

@@ -11,7 +11,7 @@ use Rattle.dk_desk.specs.Outside.{Outside}
 use Rattle.dk_desk.specs.Calls.{AddsToFile, WritesFront}
 use Rattle.row_stream.specs.declared.line.Line.{Line}
 use Rattle.row_stream.specs.Moving.{Gains, GainsBut}
-use Rattle.row_stream.specs.Standing.{IsPending, Writes, FailsInLine}
+use Rattle.row_stream.specs.Progress.{IsPending, Writes, FailsInLine}
 use Rattle.row_stream.proofs.Ranges.{flat_more, same_flat}
 use Rattle.row_stream.proofs.Writes.{gains_add, gains_front}
 

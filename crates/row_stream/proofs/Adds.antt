@@ -14,9 +14,11 @@ use Rattle.pgm_codec.specs.Images.{Image, AreImages}
 use Rattle.pgm_codec.specs.Rasters.{row_length}
 use Rattle.row_stream.specs.declared.line.Line.{Line}
 use Rattle.row_stream.specs.Lines.{Kind}
-use Rattle.row_stream.specs.Standing.{Goes, pixel_clock, pixel_clocks}
-use Rattle.row_stream.specs.Rows.{Streams, samples_in}
-use Rattle.row_stream.specs.Images.{FitsImage, samples_of, Images, AtHead}
+use Rattle.row_stream.specs.Standing.{pixel_clock}
+use Rattle.row_stream.specs.Progress.{Goes, pixel_clocks}
+use Rattle.row_stream.specs.RowReading.{Streams, samples_in}
+use Rattle.row_stream.specs.Images.{FitsImage, samples_of}
+use Rattle.row_stream.specs.ImageReading.{Images, AtHead}
 use Rattle.row_stream.proofs.Clocks.{goes_join}
 use Rattle.row_stream.proofs.RowLemmas.{goes_read}
 use Rattle.row_stream.proofs.Taken.{samples, sample_is, is_image, is_raster}

@@ -20,7 +20,8 @@ use Rattle.cycle_sim.proofs.Given.{given_fit}
 use Rattle.row_stream.specs.declared.line.Line.{Line}
 use Rattle.row_stream.specs.Lines.{Kind}
 use Rattle.row_stream.specs.Moving.{Gains}
-use Rattle.row_stream.specs.Standing.{Writes, FailsInLine, note_of, Goes, Fails, IsOneToOne}
+use Rattle.row_stream.specs.Standing.{note_of, IsOneToOne}
+use Rattle.row_stream.specs.Progress.{Writes, FailsInLine, Goes, Fails}
 
 abbrev NetsFit : Type 0
 NetsFit = (m : Netlist) (order : List ℕ) → KeepsRules m → IsEvaluationOrder m.assigns order → (s : Snapshot) → IsSettled m s → FitsContents m s.contents → Fit m.inputs s.inputs → (n : Net) → IsDeclared m n → net_value s n < 2 ^ net_width m n

@@ -15,7 +15,7 @@ use Rattle.pgm_codec.specs.Rounds.{FitsInputs}
 use Rattle.pgm_rounds.specs.declared.fault.FileFault.{FileFault}
 use Rattle.pgm_rounds.specs.declared.fault.FileFault.TheVariants as image
 use Rattle.pgm_rounds.specs.Files.{joined, Taken, Refused, IsRefused, IsFault, FitsFile}
-use Rattle.row_stream.specs.Rows.{AreRows}
+use Rattle.row_stream.specs.RowReading.{AreRows}
 use Rattle.row_stream.specs.Images.{FitsImage}
 use Rattle.row_stream.specs.Ends.{one_port, greatest}
 use Rattle.row_stream.proofs.Rasters.{side, placed_front, placed_back, fit_both, times, row_bytes}

@@ -9,7 +9,8 @@ use Rattle.wiring.specs.Clock.{Clock}
 use Rattle.wiring.proofs.Lists.{All-from_at}
 use Rattle.row_stream.specs.declared.line.Line.{Line}
 use Rattle.row_stream.specs.Lines.{Kind}
-use Rattle.row_stream.specs.Standing.{Goes, Fails, pixel_clock, pixel_clocks}
+use Rattle.row_stream.specs.Standing.{pixel_clock}
+use Rattle.row_stream.specs.Progress.{Goes, Fails, pixel_clocks}
 use Rattle.std.proofs.Math.Nat.{div-add-mod, mod-lt}
 use Rattle.row_stream.proofs.Clocks.{goes_none, goes_join, fails_after, fails_more}
 use Rattle.row_stream.proofs.Pixels.{cut}

@@ -16,7 +16,8 @@ use Rattle.pgm_codec.proofs.Stays.{stays, reads_more, undecided_front}
 use Rattle.pgm_rounds.specs.declared.fault.FileFault.{FileFault}
 use Rattle.pgm_rounds.specs.Files.{HasSize, Refused}
 use Rattle.pgm_rounds.proofs.Digits.{range_within}
-use Rattle.row_stream.specs.Heads.{IsUndecidedBefore, IsNoHead, decided, ended, MissesHead, TakesHead, RefusesHead}
+use Rattle.row_stream.specs.Heads.{IsUndecidedBefore, TakesHead, RefusesHead}
+use Rattle.row_stream.specs.HeadReading.{IsNoHead, decided, ended, MissesHead}
 
 -- a prefix of bytes that begin a header and hold none whole
 pub undecided_before : (bytes : List ℕ) → Undecided bytes → IsUndecidedBefore bytes

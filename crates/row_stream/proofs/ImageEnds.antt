@@ -20,9 +20,9 @@ use Rattle.row_stream.specs.declared.faults.StreamFault.{StreamFault}
 use Rattle.row_stream.specs.declared.faults.StreamFault.TheVariants.{Image, Read, Write}
 use Rattle.row_stream.specs.Lines.{Kind}
 use Rattle.row_stream.specs.Heads.{TakesHead, FitsHeader}
-use Rattle.row_stream.specs.Rows.{Streams, EndsReading}
-use Rattle.row_stream.specs.Images.{Images}
-use Rattle.row_stream.specs.Ends.{one_port, greatest, RefusesNext, refused, too_many, EndsNext, EndsImage, Stands, StreamsAll, EndsBehind, EndsInside, found_behind, found_inside, EndsAtFault, lost_behind, lost_inside, EndsImages, unread}
+use Rattle.row_stream.specs.RowReading.{Streams, EndsReading}
+use Rattle.row_stream.specs.ImageReading.{Images, EndsImage, Stands, StreamsAll, EndsBehind, EndsInside, found_behind, found_inside, EndsAtFault, lost_behind, lost_inside, EndsImages, unread}
+use Rattle.row_stream.specs.Ends.{one_port, greatest, RefusesNext, refused, too_many, EndsNext}
 use Rattle.row_stream.proofs.Clocks.{goes_none}
 use Rattle.row_stream.proofs.RowLemmas.{read_only}
 use Rattle.row_stream.proofs.Rasters.{times}

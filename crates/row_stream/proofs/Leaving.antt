@@ -25,11 +25,14 @@ use Rattle.row_stream.specs.declared.faults.StreamFault.{StreamFault}
 use Rattle.row_stream.specs.declared.faults.StreamFault.TheVariants.{Image, Read, Write}
 use Rattle.row_stream.specs.Lines.{Kind, head, lines, line_at}
 use Rattle.row_stream.specs.Moving.{Gains, GainsBut}
-use Rattle.row_stream.specs.Standing.{Writes, FailsInLine, Goes, Fails, note_of, pixel_clock, pixel_clocks, reset_clock, Starts, Lasts}
-use Rattle.row_stream.specs.Heads.{FitsHeader, EndsHeading}
-use Rattle.row_stream.specs.Rows.{AreRows, Streams, EndsReading, samples_in}
-use Rattle.row_stream.specs.Images.{samples_of, AtHead}
-use Rattle.row_stream.specs.Ends.{greatest, EndsBehind, EndsInside, FindsFault, found_behind, found_inside, EndsAtRead, lost_behind, lost_inside, EndsImages, StreamsAll, unread}
+use Rattle.row_stream.specs.Standing.{note_of, pixel_clock, reset_clock, Starts, Lasts}
+use Rattle.row_stream.specs.Progress.{Writes, FailsInLine, Goes, Fails, pixel_clocks}
+use Rattle.row_stream.specs.Heads.{FitsHeader}
+use Rattle.row_stream.specs.HeadReading.{EndsHeading}
+use Rattle.row_stream.specs.RowReading.{AreRows, Streams, EndsReading, samples_in}
+use Rattle.row_stream.specs.Images.{samples_of}
+use Rattle.row_stream.specs.ImageReading.{AtHead, EndsBehind, EndsInside, FindsFault, found_behind, found_inside, EndsAtRead, lost_behind, lost_inside, EndsImages, StreamsAll, unread}
+use Rattle.row_stream.specs.Ends.{greatest}
 use Rattle.row_stream.specs.Whole.{IsFresh, Creates, drive, Shows, FailsShowing, ShowsLines, LeavesAll, LeavesBehind, LeavesInside, FailsInside, LeavesAtFault, at_start, behind, inside, LeavesAtRead, read_at_start, read_behind, read_inside, write_inside, write_behind, Leaves}
 use Rattle.row_stream.proofs.Clocks.{goes_join, goes_none, runs_join, shown_join, notes_join}
 use Rattle.row_stream.proofs.RowLemmas.{goes_read, gains_read, read_only}

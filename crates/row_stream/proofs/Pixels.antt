@@ -9,7 +9,8 @@ use Rattle.wiring.specs.Clock.{Clock}
 use Rattle.cycle_sim.specs.Ports.{din_widths}
 use Rattle.row_stream.specs.declared.line.Line.{Line}
 use Rattle.row_stream.specs.Lines.{Kind}
-use Rattle.row_stream.specs.Standing.{Goes, Fails, GoesOn, IsPixelClock, pixel_clock, pixel_clocks, Lasts}
+use Rattle.row_stream.specs.Standing.{GoesOn, IsPixelClock, pixel_clock, Lasts}
+use Rattle.row_stream.specs.Progress.{Goes, Fails, pixel_clocks}
 use Rattle.row_stream.proofs.Clocks.{goes_join, fails_after, fails_more}
 
 pub all_pixels : (m : Netlist) (f : ℕ → ℕ) (a n : ℕ) → ((k : ℕ) → k < a + n → Fit (din_widths m) (f k ∷ [])) → AllByRecursion (IsPixelClock m) (map (λ k. pixel_clock (f k)) (range_with_len a n))

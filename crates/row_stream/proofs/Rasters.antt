@@ -14,8 +14,9 @@ use Rattle.pgm_codec.specs.Images.{is_narrow, size_of, sample_size}
 use Rattle.pgm_codec.specs.Rasters.{AllFit, sample_by, sample_at, row_length}
 use Rattle.row_stream.specs.declared.line.Line.{Line}
 use Rattle.row_stream.specs.Lines.{Kind}
-use Rattle.row_stream.specs.Standing.{Goes, pixel_clock, pixel_clocks, IsPixelClock, Lasts}
-use Rattle.row_stream.specs.Rows.{Streams, samples_in}
+use Rattle.row_stream.specs.Standing.{pixel_clock, IsPixelClock, Lasts}
+use Rattle.row_stream.specs.Progress.{Goes, pixel_clocks}
+use Rattle.row_stream.specs.RowReading.{Streams, samples_in}
 use Rattle.row_stream.proofs.Clocks.{goes_join, goes_none, runs_join}
 use Rattle.row_stream.proofs.Pixels.{cut, all_pixels}
 

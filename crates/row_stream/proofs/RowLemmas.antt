@@ -14,11 +14,11 @@ use Rattle.pgm_codec.specs.Rasters.{JudgesRow, row_length}
 use Rattle.row_stream.specs.declared.line.Line.{Line}
 use Rattle.row_stream.specs.Lines.{Kind}
 use Rattle.row_stream.specs.Moving.{Gains}
-use Rattle.row_stream.specs.Standing.{Goes, Fails, pixel_clocks}
+use Rattle.row_stream.specs.Progress.{Goes, Fails, pixel_clocks}
 use Rattle.row_stream.specs.declared.rows.RowsFault.{RowsFault}
 use Rattle.row_stream.specs.declared.rows.RowsFault.TheVariants.{Raster, Read, Write}
 use Rattle.pgm_codec.specs.Images.{sample_size}
-use Rattle.row_stream.specs.Rows.{AreRows, Streams, FailsRow, EndsRow, EndsRows, samples_in}
+use Rattle.row_stream.specs.RowReading.{AreRows, Streams, FailsRow, EndsRow, EndsRows, samples_in}
 
 -- a read that did not fail
 pub read_only : (before mid : Outside) → ReadsOnly Image before mid → mid.input_failures ≡ before.input_failures → mid ≡ record before { image = record before.image { rest = mid.image.rest } }

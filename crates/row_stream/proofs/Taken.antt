@@ -7,7 +7,7 @@ use Rattle.pgm_codec.specs.Images.{is_narrow, sample_size, IsRaster, IsImage}
 use Rattle.pgm_codec.specs.Rasters.{sample_at}
 use Rattle.pgm_codec.specs.Answers.{Reads}
 use Rattle.pgm_codec.proofs.Decoding.{decoded, length_decoded, decoded_at, spelled_again, all_bounded}
-use Rattle.row_stream.specs.Rows.{AreRows}
+use Rattle.row_stream.specs.RowReading.{AreRows}
 use Rattle.row_stream.proofs.Rasters.{row_bytes, times}
 
 pub turned : (w h s : ℕ) → h * w * s ≡ w * h * s

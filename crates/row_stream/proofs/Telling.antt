@@ -19,8 +19,9 @@ use Rattle.cycle_sim.proofs.RunsJoin.{picture_one}
 use Rattle.block_sim.specs.Called.{output_count, AllShown}
 use Rattle.row_stream.specs.declared.line.Line.{Line}
 use Rattle.row_stream.specs.Lines.{Kind}
-use Rattle.row_stream.specs.Standing.{Writes, FailsInLine, sample_of, note_of, Goes, Fails}
-use Rattle.row_stream.specs.Blocks.{pair_of, Tells, FailsTelling}
+use Rattle.row_stream.specs.Standing.{note_of}
+use Rattle.row_stream.specs.Progress.{Writes, FailsInLine, sample_of, Goes, Fails}
+use Rattle.row_stream.specs.Telling.{pair_of, Tells, FailsTelling}
 use Rattle.row_stream.proofs.Clocks.{noted, picture_join}
 
 pub tells_none : (kind : Kind) (line : Line) (o : Outside) → Tells kind [] line line o o

@@ -1,30 +1,9 @@
--- The clocks of a line, and what is specified and shown of them.
-use Rattle.std.specs.Prelude.{◌≡◌, ℕ, ◌<◌, ◌≤◌, Bool, true, List, ◌++◌, length, take, map, replicate}
-use Rattle.std.specs.List.{flat_map}
-use Rattle.cycle_sim.specs.declared.ports.Out.{Out}
-use Rattle.dk_desk.specs.Outside.{Outside}
+-- Room for the clocks of a line.
+use Rattle.std.specs.Prelude.{◌≡◌, ℕ, true, length, replicate}
 use Rattle.row_stream.specs.declared.block.Block.{Block}
-use Rattle.row_stream.specs.declared.line.Line.{Line}
-use Rattle.row_stream.specs.Lines.{Kind}
-use Rattle.row_stream.specs.Standing.{Writes, FailsInLine, sample_of}
 
--- room for this many clocks, the port en being at 1 in each
+-- room for `count` clocks, with the port en at 1 in each
 pub record HasBlock (count : ℕ) (block : Block) : Type 0 where
   pub enables : block.enables.items ≡ replicate count true
   pub dins : length block.dins.items ≡ count
   pub outs : length block.outs.items ≡ count
-
--- what is noted of an output
-abbrev pub pair_of : Out → Bool × ℕ
-pair_of out = (out.valid, out.dout)
-
--- What the output shows in these clocks was noted and added to the samples, of which the whole lines are written.
-pub record Tells (kind : Kind) (outs : List Out) (old new : Line) (before now : Outside) : Type 0 where
-  pub writes : (start : Outside) (samples : List ℕ) (notes : List (Bool × ℕ)) → Writes kind start samples notes old before → Writes kind start (samples ++ flat_map sample_of outs) (notes ++ map pair_of outs) new now
-
--- In one of these clocks, the last that is noted, a line is whole that can't be written.
-pub record FailsTelling (kind : Kind) (outs : List Out) (old : Line) (before now : Outside) : Type 0 where
-  pub made : ℕ
-  pub some : 0 < made
-  pub within : made ≤ length outs
-  pub fails : (start : Outside) (samples : List ℕ) (notes : List (Bool × ℕ)) → Writes kind start samples notes old before → FailsInLine kind start (samples ++ flat_map sample_of (take made outs)) (notes ++ map pair_of (take made outs)) now

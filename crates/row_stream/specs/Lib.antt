@@ -2,10 +2,16 @@ pub mod Lines
 pub mod Forms
 pub mod Moving
 pub mod Standing
+pub mod Progress
 pub mod Blocks
+pub mod Telling
 pub mod Rows
+pub mod RowReading
 pub mod Heads
+pub mod HeadReading
 pub mod Images
 pub mod Ends
+pub mod ImageReading
 pub mod Whole
+pub mod Beginning
 pub mod Most

@@ -1,4 +1,4 @@
--- How many lines a file begins with.
+-- The number of lines with which a file begins.
 use Rattle.std.specs.Prelude.{◌≡◌, ℕ, ◌+◌, ◌≤◌, List, ◌++◌, length}
 use Rattle.dk_base.specs.Frames.{Size}
 use Rattle.pgm_codec.specs.declared.header.Header.{Header}
@@ -8,7 +8,7 @@ use Rattle.row_stream.specs.Heads.{FitsHeader}
 use Rattle.row_stream.specs.Images.{FitsImage}
 use Rattle.row_stream.specs.Ends.{greatest}
 
--- The bytes begin with this many whole lines in order, counted through images of this size and of this many bits, each after its header.
+-- The bytes begin with `rows` whole lines in order, counted through images of this size and width, each after its header.
 pub data BeginsLines (size : Size) (bits : ℕ) : List ℕ → ℕ → Type 0 where
   nothing : {bytes : List ℕ} {rows : ℕ} → rows ≡ 0 → BeginsLines size bits bytes rows
   lines : {bytes : List ℕ} {rows : ℕ} (header : Header) (head raster samples rest : List ℕ) → FitsHeader size bits header → Reads head header → length head ≡ header.length → rows ≤ header.height → IsRaster raster header.width rows header.maxval samples

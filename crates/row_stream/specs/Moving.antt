@@ -4,7 +4,7 @@ use Rattle.std.specs.Option.{option_map}
 use Rattle.dk_desk.specs.Outside.{Outside}
 use Rattle.dk_desk.specs.Calls.{IsIfTold, grown, grow_created}
 
--- Bytes were taken from Image, bytes were added to File and notes were made, and nothing else changed.
+-- Bytes were read from Image, bytes were added to File and clocks were noted, and nothing else changed.
 pub record Gains (start : Outside) (written : List ℕ) (notes : List (Bool × ℕ)) (now : Outside) : Type 0 where
   pub only : now ≡ record start { image = record start.image { rest = now.image.rest }; file = record start.file { bytes = now.file.bytes }; files = now.files; notes = now.notes }
   pub grows : IsIfTold now.file.bytes (grown start.file.bytes written)

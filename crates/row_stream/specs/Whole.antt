@@ -1,4 +1,4 @@
--- What a whole stream leaves after.
+-- The state after a whole stream.
 use Rattle.std.specs.Prelude.{◌≡◌, ℕ, ◌+◌, ◌*◌, ◌<◌, ◌≤◌, false, List, [], ◌∷◌, ◌++◌, length, map, take, replicate, Option, Some}
 use Rattle.std.specs.List.{AllByRecursion}
 use Rattle.std.specs.Io.KnownBytes.{prepend_known, IsAtEnd}
@@ -6,7 +6,7 @@ use Rattle.dk_base.specs.declared.TheConstants.{MAX_FILE_IMAGES}
 use Rattle.dk_desk.specs.declared.Stage.TheVariants.{Open, Refused}
 use Rattle.dk_desk.specs.declared.OutSlot.TheVariants.{File}
 use Rattle.dk_desk.specs.Outside.{Outside}
-use Rattle.dk_desk.specs.Calls.{IsIfTold, CreatesOnly, AddsToFile, WritesFront, with_created}
+use Rattle.dk_desk.specs.Calls.{IsIfTold, CreatesOnly, WritesFront, with_created}
 use Rattle.wiring.specs.Netlist.{Netlist}
 use Rattle.wiring.specs.Snapshot.{Contents, Snapshot}
 use Rattle.wiring.specs.Clock.{Clock}
@@ -25,7 +25,7 @@ use Rattle.row_stream.specs.declared.faults.StreamFault.{StreamFault}
 use Rattle.row_stream.specs.declared.faults.StreamFault.TheVariants.{Image as ImageFails, Read, Write}
 use Rattle.row_stream.specs.Lines.{Kind, head, line_at, lines}
 use Rattle.row_stream.specs.Moving.{Gains, GainsBut}
-use Rattle.row_stream.specs.Standing.{HasRoom, Goes, note_of, pixel_clock, reset_clock}
+use Rattle.row_stream.specs.Standing.{HasRoom, note_of, pixel_clock, reset_clock}
 use Rattle.row_stream.specs.Blocks.{HasBlock}
 use Rattle.row_stream.specs.Heads.{FitsHeader, RefusesHead, LosesHead, TakesHead}
 use Rattle.row_stream.specs.Rows.{IsRowFault}
@@ -81,7 +81,7 @@ pub record FailsShowing (kind : Kind) (m : Netlist) (from : Contents) (clocks la
   pub inside : count < length (line_at kind (picture 0 shots) row)
   pub gained : GainsBut created (head kind ++ (lines kind (picture 0 shots) row ++ take count (line_at kind (picture 0 shots) row))) (map note_of shots) now
 
--- This many images are at the front of all that there was, and were clocked.
+-- All that there was begins with `count` images, which were clocked.
 pub record ShowsImages (kind : Kind) (m : Netlist) (bits count : ℕ) (all : Option (List ℕ)) (from : Contents) (created now : Outside) : Type 0 where
   pub images : List Image
   pub bytes : List ℕ
@@ -91,7 +91,7 @@ pub record ShowsImages (kind : Kind) (m : Netlist) (bits count : ℕ) (all : Opt
   pub given : all ≡ prepend_known bytes now.image.rest
   pub shows : Shows kind m from (drive (samples_of images)) created now
 
--- This many images, the header of one more and this many of its lines are at the front of all that there was; the images and the lines were clocked.
+-- All that there was begins with `count` images, the header of one more and `rows` of its lines. The images and the lines were clocked.
 pub record ShowsLines (kind : Kind) (m : Netlist) (bits count : ℕ) (header : Header) (rows : ℕ) (all : Option (List ℕ)) (from : Contents) (created now : Outside) : Type 0 where
   pub images : List Image
   pub bytes : List ℕ
@@ -107,7 +107,7 @@ pub record ShowsLines (kind : Kind) (m : Netlist) (bits count : ℕ) (header : H
   pub given : all ≡ prepend_known (bytes ++ (head ++ raster)) now.image.rest
   pub shows : Shows kind m from (drive (samples_of images ++ samples)) created now
 
--- A file of images, each of them a round, was streamed to its end, and this many clocks with 0 at the din came after it.
+-- A file of images, each of them a round, was streamed to its end, and `latency` clocks with 0 at the din came after it.
 pub record LeavesAll (kind : Kind) (m : Netlist) (bits latency : ℕ) (name : List ℕ) (from : Contents) (old now : Outside) : Type 0 where
   pub created : Outside
   pub creates : Creates name old created
@@ -186,7 +186,7 @@ pub data LeavesAtRead (kind : Kind) (m : Netlist) (bits : ℕ) (name : List ℕ)
   read_behind : (created : Outside) → Creates name old created → LeavesBehind kind m bits Read old.image.rest from created now → LeavesAtRead kind m bits name from old now
   read_inside : (created : Outside) → Creates name old created → LeavesInside kind m bits RowsRead old.image.rest from created now → LeavesAtRead kind m bits name from old now
 
--- where File can't be begun, after the first header of Image
+-- why File can't be begun, after the first header of Image
 pub data FailsFirst (kind : Kind) (m : Netlist) (name : List ℕ) (from : Contents) (before now : Outside) : Type 0 where
   at_create : now.file.stage ≡ Refused → IsIfTold now.file.name (Some name) → now.files ≡ before.files → CreatesOnly before now → FailsFirst kind m name from before now
   at_head : (created : Outside) → Creates name before created → WritesFront File created (head kind) now → FailsFirst kind m name from before now
@@ -204,16 +204,8 @@ pub record StopsAtFault (kind : Kind) (m : Netlist) (bits : ℕ) (fault : FileFa
   pub leaves : LeavesAtFault kind m bits fault name from old now
   pub first : (file : List ℕ) → old.image.rest ≡ Some file → IsFault (one_port kind.size bits) file fault
 
--- what a stream that ended early leaves after
+-- the state after a stream that ended early
 abbrev pub Leaves : Kind → Netlist → (bits latency : ℕ) → StreamFault → (name : List ℕ) → Contents → (old now : Outside) → Type 0
 Leaves kind m bits latency (ImageFails fault) name from old now = StopsAtFault kind m bits fault name from old now
 Leaves kind m bits latency Read name from old now = LeavesAtRead kind m bits name from old now
 Leaves kind m bits latency Write name from old now = LeavesAtWrite kind m bits latency name from old now
-
--- File was created, its header written, and the reset clock made.
-pub record Begins (kind : Kind) (m : Netlist) (name : List ℕ) (from to : Contents) (old new : Line) (before now : Outside) : Type 0 where
-  pub created : Outside
-  pub creates : Creates name before created
-  pub begun : Outside
-  pub header : AddsToFile created (head kind) begun
-  pub goes : Goes kind m (reset_clock ∷ []) from to old new begun now

@@ -23,7 +23,7 @@ pub(crate) struct Block {
 }
 
 impl Block {
-    // Room for this many clocks.
+    // Room for `count` clocks.
     pub(crate) fn new(alloc: Global, count: usize) -> Result<Block, OutOfMemory>
         ensures { IfOk result (HasBlock count) }
     {

@@ -8,7 +8,7 @@ ghost use Rattle.pgm_codec.specs.declared.header.Header.{Header as TheHeader};
 ghost use Rattle.pgm_codec.specs.Answers.{Refuses, Reads};
 ghost use Rattle.pgm_codec.specs.Rasters.{JudgesRaster};
 ghost use Rattle.pgm_rounds.specs.Files.{HasSize, IsHeaded, Refused};
-ghost use Rattle.row_stream.specs.Heads.{IsRefusal};
+ghost use Rattle.row_stream.specs.HeadReading.{IsRefusal};
 
 use dk_base::FrameSize;
 use pgm_codec::{Header, HeaderFault, RasterFault};
@@ -26,7 +26,7 @@ pub enum StreamFault {
     Write,
 }
 
-// A header's fault, after this many bytes of the file.
+// A header's fault, for a header at this offset of the file.
 pub(crate) fn header_fault(fault: HeaderFault, offset: usize) -> FileFault
     requires refusal { IsRefusal fault }
     requires offset { offset < 2 ^ 62 }
@@ -44,7 +44,7 @@ pub(crate) fn header_fault(fault: HeaderFault, offset: usize) -> FileFault
     }
 }
 
-// The greatest sample of this many bits.
+// The greatest sample of this width.
 fn greatest_sample(bits: u8) -> u32
     requires { bits ≤ MAX_PORT_WIDTH }
     ensures { result ≡ 2 ^ bits - 1 }
@@ -52,7 +52,7 @@ fn greatest_sample(bits: u8) -> u32
     (1 << bits) - 1
 }
 
-// Whether a header has the size of the frames, and a maxval of this many bits.
+// Tests that a header has the size of the frames and a maxval of this width.
 pub(crate) fn check_header(size: FrameSize, bits: u8, header: &Header) -> Result<(), FileFault>
     requires bits { bits ≤ MAX_PORT_WIDTH }
     ensures sized { IfOk result (λ _. HasSize (size_of size) header.now) }
@@ -74,7 +74,7 @@ pub(crate) fn check_header(size: FrameSize, bits: u8, header: &Header) -> Result
     Ok(())
 }
 
-// The number of pixels of this many images.
+// The number of pixels of `images` images.
 fn pixels(size: FrameSize, images: u64) -> usize
     requires { images < MAX_FILE_IMAGES }
     ensures is { result ≡ images * (size.width * size.height) }
@@ -83,7 +83,7 @@ fn pixels(size: FrameSize, images: u64) -> usize
     images as usize * (size.width as usize * size.height as usize)
 }
 
-// A raster's fault, after this many images of the file.
+// A raster's fault, for an image after `images` others of the file.
 pub(crate) fn raster_fault(fault: RasterFault, size: FrameSize, images: u64) -> FileFault
     requires images { images < MAX_FILE_IMAGES }
     requires index { (index : ℕ) → fault ≡ RasterFault.SampleTooGreat index → index < 2 ^ 40 }

@@ -6,7 +6,8 @@ ghost use Rattle.dk_desk.specs.Outside.{Outside, Input};
 ghost use Rattle.dk_desk.specs.Calls.{HasCauseIn, ReadsOnly};
 ghost use Rattle.dk_base.specs.declared.TheConstants.{MAX_PORT_WIDTH};
 ghost use Rattle.dk_base.specs.FrameSizes.{size_of};
-ghost use Rattle.row_stream.specs.Heads.{TakesHead, EndsHead, FitsHeader, EndsHeading};
+ghost use Rattle.row_stream.specs.Heads.{TakesHead, FitsHeader};
+ghost use Rattle.row_stream.specs.HeadReading.{EndsHead, EndsHeading};
 
 use crate::faults::{StreamFault, check_header, header_fault};
 use dk_base::{FrameSize, MAX_HEADER_BYTES};
@@ -38,7 +39,7 @@ pub(crate) fn next_byte<D: Desk>(desk: &mut D) -> Result<Option<u8>, Failed>
     }
 }
 
-// Takes the header that comes next; None where the input may end here, and does.
+// Reads the header that comes next. None if the input may end here, and does.
 pub(crate) fn next_head<D: Desk>(desk: &mut D, may_end: bool) -> Result<Option<Header>, HeadFault>
     requires { (D.outside desk.old).image.stage ≡ Stage.Open }
     ensures ok { IfOk result (λ next. IfSome next (λ header. TakesHead header (D.outside desk.old).image (D.outside desk.new).image)) }
@@ -71,7 +72,7 @@ pub(crate) fn next_head<D: Desk>(desk: &mut D, may_end: bool) -> Result<Option<H
     unreachable!()
 }
 
-// Takes the header that comes next, of an image that fits, after this many bytes of the file; None where the input may end here, and does.
+// Reads the header that comes next, of an image that fits, at this offset of the file. None if the input may end here, and does.
 pub(crate) fn next_image<D: Desk>(
     desk: &mut D,
     size: FrameSize,

@@ -12,9 +12,10 @@ ghost use Rattle.pgm_codec.specs.Rasters.{row_length};
 ghost use Rattle.row_stream.specs.Forms.{kind_of};
 ghost use Rattle.row_stream.specs.Standing.{HasRoom, IsOneToOne, Lasts};
 ghost use Rattle.row_stream.specs.Blocks.{HasBlock};
-ghost use Rattle.row_stream.specs.Rows.{Streams};
+ghost use Rattle.row_stream.specs.RowReading.{Streams};
 ghost use Rattle.row_stream.specs.Heads.{TakesHead, FitsHeader};
-ghost use Rattle.row_stream.specs.Ends.{EndsNext, EndsImage, EndsImages, StreamsAll, unread};
+ghost use Rattle.row_stream.specs.Ends.{EndsNext};
+ghost use Rattle.row_stream.specs.ImageReading.{EndsImage, EndsImages, StreamsAll, unread};
 
 use crate::block::Block;
 use crate::faults::{StreamFault, raster_fault};
@@ -51,7 +52,7 @@ fn image_bytes(header: &Header) -> usize
     header.length + header.height as usize * row_bytes(header)
 }
 
-// Streams the lines of an image after this many others.
+// Streams the lines of an image after `images` others.
 fn stream_image<D: Desk>(
     desk: &mut D,
     sim: &mut Blocks,
@@ -99,7 +100,7 @@ fn stream_image<D: Desk>(
     }
 }
 
-// Takes the header of the image that comes next after this many images and bytes; None at the end of the input.
+// Reads the header of the image that comes next, after this number of images and bytes. None at the end of the input.
 fn further_image<D: Desk>(
     desk: &mut D,
     size: FrameSize,

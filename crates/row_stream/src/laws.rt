@@ -1,11 +1,10 @@
 //! Laws of lines, as contracts of functions that do nothing.
 
-ghost use Rattle.std.specs.Prelude.{◌≡◌, ℕ, ◌<◌, ◌≤◌, ◌+◌, ◌*◌, ◌++◌, List, length, slice_index};
+ghost use Rattle.std.specs.Prelude.{◌≡◌, ℕ, ◌<◌, ◌≤◌, ◌+◌, ◌*◌, ◌++◌, List, length, slice_index, Option, Some};
 ghost use Rattle.pgm_codec.specs.declared.header.Header.{Header as TheHeader};
 ghost use Rattle.pgm_codec.specs.Answers.{Reads};
 ghost use Rattle.pgm_codec.specs.Images.{IsImage};
 ghost use Rattle.pgm_codec.specs.Rasters.{sample_at};
-ghost use Rattle.std.specs.Prelude.{Option, Some};
 ghost use Rattle.std.specs.Io.KnownBytes.{prepend_known};
 ghost use Rattle.dk_base.specs.declared.TheConstants.{MAX_FILE_IMAGES};
 ghost use Rattle.pgm_codec.specs.declared.raster.RasterFault.{RasterFault as TheRasterFault};
@@ -17,8 +16,8 @@ ghost use Rattle.wiring.specs.Netlist.{Netlist};
 ghost use Rattle.wiring.specs.Snapshot.{Contents};
 ghost use Rattle.row_stream.specs.declared.line.Line.{Line};
 ghost use Rattle.row_stream.specs.Lines.{Kind};
-ghost use Rattle.row_stream.specs.Rows.{AreRows, Streams};
-ghost use Rattle.row_stream.specs.Images.{Images, AtHead};
+ghost use Rattle.row_stream.specs.RowReading.{AreRows, Streams};
+ghost use Rattle.row_stream.specs.ImageReading.{Images, AtHead};
 
 use crate::faults::StreamFault;
 use crate::rows::RowsFault;
@@ -36,7 +35,7 @@ pub(crate) fn one_image_more_law()
         → AtHead kind m most count header all from mid old between before half → Streams kind m header header.height mid to between new half now → Images kind m most (count + 1) all from to old new before now }
 {}
 
-/// Where a stream ends at an Image fault, the lines that were streamed are all that the file begins with; where it ends at a failed read, they are all that the bytes begin with that were taken.
+/// If a stream ends at an Image fault, the file begins with no more lines than those that were streamed. If it ends at a failed read, the bytes that were read begin with no more lines.
 pub fn streams_most()
     ensures fault_behind { (kind : Kind) (m : Netlist) (bits : ℕ) (from : Contents) (created now : Outside) (fault : FileFault) (file : List ℕ)
         → (e : LeavesBehind kind m bits (StreamFault.Image fault) (Some file) from created now)

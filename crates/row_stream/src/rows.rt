@@ -11,7 +11,8 @@ ghost use Rattle.pgm_codec.specs.Rasters.{JudgesRow, row_length};
 ghost use Rattle.row_stream.specs.Forms.{kind_of};
 ghost use Rattle.row_stream.specs.Standing.{HasRoom, IsOneToOne, Lasts};
 ghost use Rattle.row_stream.specs.Blocks.{HasBlock};
-ghost use Rattle.row_stream.specs.Rows.{IsRowFault, AreRows, Streams, EndsRow, EndsRows};
+ghost use Rattle.row_stream.specs.Rows.{IsRowFault};
+ghost use Rattle.row_stream.specs.RowReading.{AreRows, Streams, EndsRow, EndsRows};
 
 use crate::block::Block;
 use crate::clocking::clock_row;

@@ -8,7 +8,8 @@ ghost use Rattle.wiring.specs.Snapshot.{Fit};
 ghost use Rattle.cycle_sim.specs.Ports.{din_widths};
 ghost use Rattle.row_stream.specs.Forms.{kind_of};
 ghost use Rattle.row_stream.specs.Standing.{HasRoom, IsOneToOne, Lasts, Starts};
-ghost use Rattle.row_stream.specs.Whole.{IsFresh, IsRoom, FailsFirst, Begins, LeavesAll, Leaves};
+ghost use Rattle.row_stream.specs.Whole.{IsFresh, IsRoom, FailsFirst, LeavesAll, Leaves};
+ghost use Rattle.row_stream.specs.Beginning.{Begins};
 
 use crate::block::Block;
 use crate::clocking::{clock, flush};
@@ -86,9 +87,9 @@ fn begin<D: Desk>(
     }
 }
 
-/// Drives a module of one din and one output with the images of Image, each of the size of `form` and of samples of `bits` bits, from its start to its end, and then with `latency` clocks of 0 at the din. File is created under `name` once the first header is in order, and gets each line as soon as it is whole, a header before the first line of each image. Each clock is noted. It takes no memory.
+/// Drives a module of one din and one output with the images of Image, each of the size of `form` and of samples of `bits` bits, from its start to its end, and then with `latency` clocks of 0 at the din. File is created under `name` once the first header is in order, and gets each line as soon as it is whole, a header before the first line of each image. Each clock is noted. It allocates no memory.
 ///
-/// `Image` is the first fault of the file, `Read` and `Write` a call of the desk that failed; all lines that came before are then written.
+/// `Image` is the first fault of the file, `Read` and `Write` a call of the desk that failed. All lines that came before are then written.
 pub fn stream<D: Desk>(
     desk: &mut D,
     sim: &mut Blocks,

@@ -11,7 +11,7 @@ use Rattle.dk_types.specs.Typed.{Definition, Typing}
 use Rattle.dk_types.specs.Types.{IsTyping}
 use Rattle.dk_types.proofs.Kept.{typed_is_kept}
 use Rattle.dk_inline.specs.Answers.{image_names}
-use Rattle.report_text.specs.Names.{is_name}
+use Rattle.source_words.specs.Words.{is_name}
 use Rattle.report_text.specs.Reports.{AreNames}
 use Rattle.source_names.proofs.Spelled.{spelled}
 use Rattle.source_names.proofs.Treed.{tree_named}

@@ -1,10 +1,8 @@
 -- The images of a typed program have the names of its tree, and no two of them the same.
 use Rattle.std.proofs.Common.{◌≡◌, ◌≢◌, ◌∙◌, ℕ, ◌-◌, ◌<◌, ◌≤◌, Bool, true, List, [], ◌∷◌, ◌++◌, length, map, get_or, slice_index_or, None, refl, sym, ap, subst, append_assoc, append-nil, length-append, lt-ltb, not, arith, inl, inr}
-use Rattle.std.specs.Prelude.{nat_eq, position, ◌&&◌}
-use Rattle.std.specs.Cmp.Lexicographic.{pointwise}
+use Rattle.std.specs.Prelude.{position}
 use Rattle.std.specs.List.{AllByRecursion, position_or_len}
 use Rattle.std.proofs.lemmas.Bool.{cases_lt}
-use Rattle.std.proofs.lemmas.Bool.Decides.{nat_tests}
 use Rattle.std.proofs.lemmas.List.{map-append, length-map, get_or-map, get_or_append_left, get_or-append_right}
 use Rattle.std.proofs.lemmas.List.Sums.{prefix_len_passes}
 use Rattle.dk_base.specs.declared.ty.Ty.TheVariants.{Unsigned}
@@ -13,10 +11,12 @@ use Rattle.dk_parser.specs.Programs.{Source}
 use Rattle.dk_parser.specs.Programs as P
 use Rattle.dk_types.specs.declared.typed.TypedInput.{TypedInput}
 use Rattle.dk_types.specs.Typed.{Definition, Typing}
-use Rattle.dk_types.specs.Scopes.{Scope, Named, is_same, IsUnknown, definition_named, inputs_scope, scope_of}
+use Rattle.std.specs.Str.{bytes_eq}
+use Rattle.std.proofs.lemmas.Slice.Eq.{bytes_eq-Decides}
+use Rattle.dk_types.specs.Scopes.{Scope, Named, IsUnknown, definition_named, inputs_scope, scope_of}
 use Rattle.dk_types.specs.Sequences.{Each, none, next}
 use Rattle.dk_types.specs.Types.{IsInput, IsDefinition, IsTyping}
-use Rattle.report_text.specs.Names.{is_name}
+use Rattle.source_words.specs.Words.{is_name}
 use Rattle.report_text.specs.Reports.{AreDistinct}
 use Rattle.source_names.proofs.Treed.{IsNamed, AreNamed}
 
@@ -29,9 +29,8 @@ definition_names ds = map (λ (d : Definition). d.name.text) ds
 abbrev pub all_names : List TypedInput → List Definition → List (List ℕ)
 all_names is ds = input_names is ++ definition_names ds
 
-same_self : (t : List ℕ) → is_same t t ≡ true
-same_self [] = refl
-same_self (b ∷ bs) = ap (λ (x : Bool). x && pointwise nat_eq bs bs) (let e : nat_eq b b ≡ true = grind (arith, nat_tests) in e) ∙ same_self bs
+same_self : (t : List ℕ) → bytes_eq t t ≡ true
+same_self t = (bytes_eq-Decides t t).1 refl
 
 not_true : (b : Bool) → b ≡ true → not b ≡ true → ⊥
 not_true b e h = let x : ⊥ = cc in x
@@ -42,14 +41,14 @@ all_fail p xs e = elim (cases_lt (position_or_len p xs) (length xs)) [
   | inr le ↦ le
 ]
 
--- a name that denotes no image is none of the scope's
+-- a name that no image has is not one of the scope's
 unknown_differs : (scope : Scope) (name : List ℕ) → IsUnknown scope name → (k : ℕ) → k < length scope → slice_index_or (map (λ (i : Named). i.name) scope) k [] ≢ name
 unknown_differs scope name h k lt same =
     let d : Named = record { name = []; ty = Unsigned 1 } in
-    let past = all_fail (λ i. is_same name i.name) scope h in
-    let other = prefix_len_passes (λ (i : Named). not (is_same name i.name)) scope k d (omega (arith, past)) in
+    let past = all_fail (λ i. bytes_eq name i.name) scope h in
+    let other = prefix_len_passes (λ (i : Named). not (bytes_eq name i.name)) scope k d (omega (arith, past)) in
     let is : (get_or scope k d).name ≡ name = sym (get_or-map (λ (i : Named). i.name) scope k d [] lt) ∙ same in
-    not_true (is_same name (get_or scope k d).name) (ap (is_same name) is ∙ same_self name) other
+    not_true (bytes_eq name (get_or scope k d).name) (ap (bytes_eq name) is ∙ same_self name) other
 
 AreDistinct-snoc : (xs : List (List ℕ)) (n : List ℕ) → AreDistinct xs → ((k : ℕ) → k < length xs → slice_index_or xs k [] ≢ n) → AreDistinct (xs ++ n ∷ [])
 AreDistinct-snoc xs n apart new i j lt below same =

@@ -12,7 +12,7 @@ use Rattle.dk_lexer.specs.declared.token.Symbol.{Symbol}
 use Rattle.dk_lexer.specs.declared.fault.LexKind.TheVariants.{NumberTooGreat, NameTooLong}
 use Rattle.dk_base.specs.Ascii.{is_letter, is_digit, is_word_byte, value_of}
 use Rattle.dk_lexer.specs.Lexis.{Lexeme, lexeme, word_here, number_of, number_here, symbol_of, symbol_here, Lexes, finish, next}
-use Rattle.report_text.specs.Names.{is_word}
+use Rattle.source_words.specs.Words.{is_word}
 
 -- a word token is a word, and not too long
 abbrev pub IsSpelled : TokenKind → Type 0

@@ -10,7 +10,7 @@ use Rattle.dk_parser.specs.Programs.{Source, Definition, AnInput, ADefinition}
 use Rattle.dk_parser.specs.Rules.{InputRule, DefinitionRule, plain, inlined}
 use Rattle.dk_parser.specs.Judged.{Derives}
 use Rattle.dk_parser.proofs.Keeping.{clear_input, clear_definition}
-use Rattle.report_text.specs.Names.{is_name}
+use Rattle.source_words.specs.Words.{is_name}
 use Rattle.source_names.proofs.Spelled.{AllSpelled}
 use Rattle.source_names.proofs.Worded.{token_named}
 

@@ -1,4 +1,4 @@
-//! Only a law: what the names of a source's images keep.
+//! A law on the names of a source's images.
 #![tactic(auto)]
 
 mod laws;

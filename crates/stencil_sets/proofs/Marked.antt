@@ -9,9 +9,8 @@ use Rattle.pointwise_ir.specs.declared.ir.Input.{Input}
 use Rattle.pointwise_ir.specs.Programs.{Program, IsProgram, IsDefined, IsOutput, all_types, types_of, bodies_of}
 use Rattle.pointwise_ir.specs.Reads.{Reads, IsLive, Kept, input, output, reached}
 use Rattle.pointwise_ir.proofs.Pictured.{reads_earlier}
-use Rattle.stencil_sets.specs.Live.{ReadsAt}
+use Rattle.stencil_sets.specs.Paths.{ReadsAt, IsIn, Covered}
 use Rattle.stencil_sets.specs.declared.path.Rect.{Rect}
-use Rattle.stencil_sets.specs.Paths.{IsIn, Covered}
 use Rattle.stencil_sets.specs.Marks.{IsMarked, AreMarks, MarksMore, MarkedSoFar}
 
 pub marks_none : (old : List Bool) (P : ℕ → Type 0) → ((g : ℕ) → P g → ⊥) → MarksMore old old P

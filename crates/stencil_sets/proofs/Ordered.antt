@@ -1,12 +1,13 @@
 -- Lists of reads in order.
-use Rattle.std.proofs.Common.{◌≡◌, ℕ, zero, suc, ◌<◌, ℤ, pos, ◌+ℤ◌, ◌≤ℤ◌, ◌<ℤ◌, ◌⊎◌, inl, inr, List, [], ◌∷◌, ◌++◌, length, slice_index_or, refl, sym, ap, subst, ◌∙◌, arith}
+use Rattle.std.proofs.Common.{◌≡◌, ℕ, zero, suc, ◌<◌, ℤ, pos, ◌+ℤ◌, ◌≤ℤ◌, ◌<ℤ◌, ◌⊎◌, inl, inr, List, [], ◌∷◌, ◌++◌, length, slice_index_or, Contains, refl, sym, ap, subst, ◌∙◌, arith}
 use Rattle.std.proofs.lemmas.Int.{ints}
 use Rattle.std.proofs.lemmas.Bool.{cases_order}
 use Rattle.std.proofs.lemmas.List.{length-append}
 use Rattle.dk_base.specs.declared.stencils.LiveRead.{LiveRead}
 use Rattle.dk_base.specs.Stencils.{IsBefore, AreInOrder}
-use Rattle.pointwise_ir.specs.Stencils.{IsThe, Has, the}
-use Rattle.stencil_sets.specs.Found.{AllBefore, IsRun, RunSoFar}
+use Rattle.pointwise_ir.specs.Stencils.{the}
+use Rattle.pointwise_ir.proofs.ReadLists.{head_in, tail_in, one_of, none_in}
+use Rattle.stencil_sets.specs.Found.{AllBefore, Within, IsRun, RunSoFar}
 use Rattle.frame_paths.proofs.Chains.{either}
 
 at_front : (xs : List LiveRead) (r d : LiveRead) (i : ℕ) → i < length xs → slice_index_or (xs ++ r ∷ []) i d ≡ slice_index_or xs i d
@@ -37,7 +38,7 @@ in_order_at xs r o b i j d h k (inr (inr g)) = let e = length-append xs (r ∷ [
 pub in_order_more : (xs : List LiveRead) (r : LiveRead) → AreInOrder xs → AllBefore xs r → AreInOrder (xs ++ r ∷ [])
 in_order_more xs r o b i j d h k = in_order_at xs r o b i j d h k (cases_order j (length xs))
 
--- what comes before a place comes before each later one
+-- what is before a place is before each later one
 before_later : (a b c : LiveRead) → IsBefore a b → ((b.f < c.f) ⊎ ((b.f ≡ c.f) × ((b.g < c.g) ⊎ ((b.g ≡ c.g) × ((b.dy <ℤ c.dy) ⊎ ((b.dy ≡ c.dy) × (b.dx ≤ℤ c.dx))))))) → IsBefore a c
 before_later a b c p (inl h) = record { reader = omega (arith, p.reader, h); source = λ e. absurd (omega (arith, p.reader, h, e)); rows = λ e g. absurd (omega (arith, p.reader, h, e)); columns = λ e g r. absurd (omega (arith, p.reader, h, e)) }
 before_later a b c p (inr (s, inl h)) = record {
@@ -73,32 +74,44 @@ row_more xs f g dx dy b =
     all_before_more xs (the f g dx dy) (the f g (dx +ℤ pos 1) dy) (all_before_later xs (the f g dx dy) (the f g (dx +ℤ pos 1) dy) b (inr (refl, inr (refl, inr (refl, omega (arith, ints))))))
     (record { reader = omega arith; source = λ e. omega arith; rows = λ e h. omega (arith, ints); columns = λ e h r. omega (arith, ints) })
 
-has_more : (xs : List LiveRead) (r : LiveRead) (f g : ℕ) (dx dy : ℤ) → Has (xs ++ r ∷ []) f g dx dy → Has xs f g dx dy ⊎ IsThe r f g dx dy
-has_more [] r f g dx dy (inl i) = inr i
-has_more [] r f g dx dy (inr n) = absurd n
-has_more (q ∷ rs) r f g dx dy (inl i) = inl (inl i)
-has_more (q ∷ rs) r f g dx dy (inr c) = later (has_more rs r f g dx dy c)
-  where
-    later : Has rs f g dx dy ⊎ IsThe r f g dx dy → (IsThe q f g dx dy ⊎ Has rs f g dx dy) ⊎ IsThe r f g dx dy
-    later (inl d) = inl (inr d)
-    later (inr i) = inr i
+contains_one : (r q : LiveRead) → (r ≡ q) ⊎ Contains [] q → r ≡ q
+contains_one r q (inl e) = e
+contains_one r q (inr n) = absurd (none_in q n)
 
-has_same : (xs : List LiveRead) (r : LiveRead) (f g : ℕ) (dx dy : ℤ) → Has xs f g dx dy ⊎ IsThe r f g dx dy → Has (xs ++ r ∷ []) f g dx dy
-has_same [] r f g dx dy (inl n) = absurd n
-has_same [] r f g dx dy (inr i) = inl i
-has_same (q ∷ rs) r f g dx dy (inl (inl i)) = inl i
-has_same (q ∷ rs) r f g dx dy (inl (inr c)) = inr (has_same rs r f g dx dy (inl c))
-has_same (q ∷ rs) r f g dx dy (inr i) = inr (has_same rs r f g dx dy (inr i))
+contains_more : (xs : List LiveRead) (r q : LiveRead) → Contains (xs ++ r ∷ []) q → Contains xs q ⊎ (r ≡ q)
+contains_more [] r q h = inr (contains_one r q (one_of r [] q h))
+contains_more (x ∷ xs) r q h = first (one_of x (xs ++ r ∷ []) q h) (λ c. contains_more xs r q c)
+  where
+    more : Contains xs q ⊎ (r ≡ q) → Contains (x ∷ xs) q ⊎ (r ≡ q)
+    more (inl c) = inl (tail_in x xs q c)
+    more (inr e) = inr e
+
+    first : (x ≡ q) ⊎ Contains (xs ++ r ∷ []) q → (Contains (xs ++ r ∷ []) q → Contains xs q ⊎ (r ≡ q)) → Contains (x ∷ xs) q ⊎ (r ≡ q)
+    first (inl e) split = inl (subst (Contains (x ∷ xs)) e (head_in x xs))
+    first (inr c) split = more (split c)
+
+contains_same : (xs : List LiveRead) (r q : LiveRead) → Contains xs q ⊎ (r ≡ q) → Contains (xs ++ r ∷ []) q
+contains_same [] r q (inl n) = absurd (none_in q n)
+contains_same [] r q (inr e) = subst (Contains (r ∷ [])) e (head_in r [])
+contains_same (x ∷ xs) r q (inr e) = tail_in x (xs ++ r ∷ []) q (contains_same xs r q (inr e))
+contains_same (x ∷ xs) r q (inl h) = first (one_of x xs q h) (λ c. contains_same xs r q (inl c))
+  where
+    first : (x ≡ q) ⊎ Contains xs q → (Contains xs q → Contains (xs ++ r ∷ []) q) → Contains (x ∷ (xs ++ r ∷ [])) q
+    first (inl e) rest = subst (Contains (x ∷ (xs ++ r ∷ []))) e (head_in x (xs ++ r ∷ []))
+    first (inr c) rest = tail_in x (xs ++ r ∷ []) q (rest c)
+
+the_are : (f f' g g' : ℕ) (dx dx' dy dy' : ℤ) → f' ≡ f → g' ≡ g → dx' ≡ dx → dy' ≡ dy → the f g dx dy ≡ the f' g' dx' dy'
+the_are f f' g g' dx dx' dy dy' a b c d = rw (a, b, c, d) refl
 
 pub run_start : (xs : List LiveRead) (a b : ℕ) (row from : ℤ) → AreInOrder xs → AllBefore xs (the a b from row) → RunSoFar xs xs a b row from from
 run_start xs a b row from o k = record { order = o; gains = λ f g dx dy. (inl, λ h. kept f g dx dy h); before = k }
   where
-    kept : (f g : ℕ) (dx dy : ℤ) → Has xs f g dx dy ⊎ IsRun a b row from from f g dx dy → Has xs f g dx dy
+    kept : (f g : ℕ) (dx dy : ℤ) → Contains xs (the f g dx dy) ⊎ IsRun a b row from from f g dx dy → Contains xs (the f g dx dy)
     kept f g dx dy (inl h) = h
     kept f g dx dy (inr r) = let l = r.low in let h = r.high in absurd (omega (arith, ints, l, h))
 
-run_split : (a b : ℕ) (row from col : ℤ) (f g : ℕ) (dx dy : ℤ) → (dx ≡ col) ⊎ (dx <ℤ col) → IsRun a b row from (col +ℤ pos 1) f g dx dy → IsRun a b row from col f g dx dy ⊎ IsThe (the a b col row) f g dx dy
-run_split a b row from col f g dx dy (inl e) r = inr (record { reader = sym r.reader; source = sym r.source; across = sym e; down = sym r.down })
+run_split : (a b : ℕ) (row from col : ℤ) (f g : ℕ) (dx dy : ℤ) → (dx ≡ col) ⊎ (dx <ℤ col) → IsRun a b row from (col +ℤ pos 1) f g dx dy → IsRun a b row from col f g dx dy ⊎ (the a b col row ≡ the f g dx dy)
+run_split a b row from col f g dx dy (inl e) r = inr (the_are a f b g col dx row dy r.reader r.source e r.down)
 run_split a b row from col f g dx dy (inr l) r = inl (record { reader = r.reader; source = r.source; down = r.down; low = r.low; high = l })
 
 next_col : (dx col : ℤ) → dx <ℤ (col +ℤ pos 1) → (dx ≤ℤ col) ⊎ (col <ℤ dx) → (col ≤ℤ dx) ⊎ (dx <ℤ col) → (dx ≡ col) ⊎ (dx <ℤ col)
@@ -106,9 +119,17 @@ next_col dx col h a (inr l) = inr l
 next_col dx col h (inl a) (inl b) = inl (omega (arith, ints, a, b))
 next_col dx col h (inr a) (inl b) = absurd (omega (arith, ints, h, a))
 
-run_longer : (a b : ℕ) (row from col : ℤ) → from ≤ℤ col → (f g : ℕ) (dx dy : ℤ) → IsRun a b row from col f g dx dy ⊎ IsThe (the a b col row) f g dx dy → IsRun a b row from (col +ℤ pos 1) f g dx dy
+run_longer : (a b : ℕ) (row from col : ℤ) → from ≤ℤ col → (f g : ℕ) (dx dy : ℤ) → IsRun a b row from col f g dx dy ⊎ (the a b col row ≡ the f g dx dy) → IsRun a b row from (col +ℤ pos 1) f g dx dy
 run_longer a b row from col k f g dx dy (inl r) = let h = r.high in record { reader = r.reader; source = r.source; down = r.down; low = r.low; high = omega (arith, ints, h) }
-run_longer a b row from col k f g dx dy (inr i) = let e = i.across in record { reader = sym i.reader; source = sym i.source; down = sym i.down; low = omega (arith, ints, e, k); high = omega (arith, ints, e) }
+run_longer a b row from col k f g dx dy (inr i) =
+    let e : col ≡ dx = ap (λ (q : LiveRead). q.dx) i in
+    record {
+      reader = sym (ap (λ (q : LiveRead). q.f) i);
+      source = sym (ap (λ (q : LiveRead). q.g) i);
+      down = sym (ap (λ (q : LiveRead). q.dy) i);
+      low = omega (arith, ints, e, k);
+      high = omega (arith, ints, e);
+    }
 
 third : {A B C D : Type 0} → (B ⊎ C → D) → (A ⊎ B) ⊎ C → A ⊎ D
 third f (inl (inl a)) = inl a
@@ -127,12 +148,25 @@ either_of : {A B C D : Type 0} → (A → C) → (B → D) → A ⊎ B → C ⊎
 either_of f g (inl a) = inl (f a)
 either_of f g (inr b) = inr (g b)
 
+-- a run that ends early
+pub run_within : (old mid new : List LiveRead) (a b : ℕ) (row row' from from' col end : ℤ) → row ≡ row' → from ≡ from' → col ≤ℤ end → new ≡ mid → RunSoFar old mid a b row from col
+    → Within old new (λ f g dx dy. IsRun a b row' from' end f g dx dy)
+run_within old mid new a b row row' from from' col end e k l same s =
+    let P : List LiveRead → Type 0 = λ xs. Within old xs (λ f g dx dy. IsRun a b row' from' end f g dx dy) in
+    subst P (sym same) (λ f g dx dy h. either_of (λ x. x) (λ r. longer f g dx dy r) ((s.gains f g dx dy).0 h))
+  where
+    longer : (f g : ℕ) (dx dy : ℤ) → IsRun a b row from col f g dx dy → IsRun a b row' from' end f g dx dy
+    longer f g dx dy r =
+        let low = r.low in
+        let high = r.high in
+        record { reader = r.reader; source = r.source; down = r.down ∙ e; low = omega (arith, ints, low, k); high = omega (arith, ints, high, l) }
+
 pub run_more : (old new next : List LiveRead) (a b : ℕ) (row from col to : ℤ) → from ≤ℤ col → next ≡ new ++ the a b col row ∷ [] → to ≡ col +ℤ pos 1 → RunSoFar old new a b row from col → RunSoFar old next a b row from to
 run_more old new next a b row from col to k e t s = rw (e, t) (record {
   order = in_order_more new (the a b col row) s.order s.before;
   gains = λ f g dx dy. (
-    (λ h. third (run_longer a b row from col k f g dx dy) (either_of (s.gains f g dx dy).0 (λ i. i) (has_more new (the a b col row) f g dx dy h))),
-    (λ h. has_same new (the a b col row) f g dx dy (either_of (s.gains f g dx dy).1 (λ i. i)
+    (λ h. third (run_longer a b row from col k f g dx dy) (either_of (s.gains f g dx dy).0 (λ i. i) (contains_more new (the a b col row) (the f g dx dy) h))),
+    (λ h. contains_same new (the a b col row) (the f g dx dy) (either_of (s.gains f g dx dy).1 (λ i. i)
         (split_third (λ r. let u = r.high in run_split a b row from col f g dx dy (next_col dx col u (either dx col) (either col dx)) r) h))),
   );
   before = row_more new a b col row s.before;

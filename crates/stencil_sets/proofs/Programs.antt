@@ -1,5 +1,5 @@
 -- The reads of a program, from its images one after another.
-use Rattle.std.proofs.Common.{◌≡◌, ℕ, ◌+◌, ◌≤◌, ◌<◌, ℤ, pos, neg_ℤ, ◌⊎◌, inl, inr, List, [], length, slice_get, Some, sym, ap, subst, ◌∙◌, arith}
+use Rattle.std.proofs.Common.{◌≡◌, ℕ, ◌+◌, ◌≤◌, ◌<◌, ℤ, pos, neg_ℤ, ◌⊎◌, inl, inr, Contains, List, [], length, slice_get, Some, sym, ap, subst, ◌∙◌, arith}
 use Rattle.std.proofs.lemmas.Bool.{cases_lt}
 use Rattle.dk_base.specs.declared.stencils.LiveRead.{LiveRead}
 use Rattle.dk_base.specs.Frames.{Size}
@@ -8,10 +8,11 @@ use Rattle.pointwise_ir.specs.Trees.{Tree, tree_of}
 use Rattle.pointwise_ir.specs.Programs.{Program, IsProgram, bodies_of}
 use Rattle.pointwise_ir.specs.Reads.{IsLive, Kept}
 use Rattle.stencil_sets.specs.declared.path.Rect.{Rect}
-use Rattle.stencil_sets.specs.Paths.{Covered}
-use Rattle.pointwise_ir.specs.Stencils.{Has, the, IsKeptRead, AreReads}
+use Rattle.stencil_sets.specs.Paths.{Covered, ReadsAt, IsOfReader, IsReadOf}
+use Rattle.pointwise_ir.specs.Stencils.{the, IsKeptRead, AreReads}
+use Rattle.pointwise_ir.proofs.ReadLists.{none_in}
 use Rattle.stencil_sets.specs.Found.{AllBefore, Gains, Within}
-use Rattle.stencil_sets.specs.Live.{ReadsAt, IsOfReader, IsReadOf, AreSome}
+use Rattle.stencil_sets.specs.Live.{AreSome}
 use Rattle.stencil_sets.proofs.Ordered.{all_before_later}
 use Rattle.stencil_sets.proofs.Rows.{IsOnTheWay, way_start, way_end, way_within, way_more}
 use Rattle.stencil_sets.proofs.Marked.{live_of, same_body, mapped_short, read_below}
@@ -29,18 +30,18 @@ pub gains_as : (old new : List LiveRead) (P Q : ℕ → ℕ → ℤ → ℤ → 
     → Gains old new P → Gains old new Q
 gains_as old new P Q there back k f g dx dy = ((λ h. placed ((k f g dx dy).0 h)), (λ h. (k f g dx dy).1 (replaced h)))
   where
-    placed : Has old f g dx dy ⊎ P f g dx dy → Has old f g dx dy ⊎ Q f g dx dy
+    placed : Contains old (the f g dx dy) ⊎ P f g dx dy → Contains old (the f g dx dy) ⊎ Q f g dx dy
     placed (inl h) = inl h
     placed (inr p) = inr (there f g dx dy p)
 
-    replaced : Has old f g dx dy ⊎ Q f g dx dy → Has old f g dx dy ⊎ P f g dx dy
+    replaced : Contains old (the f g dx dy) ⊎ Q f g dx dy → Contains old (the f g dx dy) ⊎ P f g dx dy
     replaced (inl h) = inl h
     replaced (inr q) = inr (back f g dx dy q)
 
 pub within_as : (old new : List LiveRead) (P Q : ℕ → ℕ → ℤ → ℤ → Type 0) → ((f g : ℕ) (dx dy : ℤ) → P f g dx dy → Q f g dx dy) → Within old new P → Within old new Q
 within_as old new P Q there w f g dx dy h = placed (w f g dx dy h)
   where
-    placed : Has old f g dx dy ⊎ P f g dx dy → Has old f g dx dy ⊎ Q f g dx dy
+    placed : Contains old (the f g dx dy) ⊎ P f g dx dy → Contains old (the f g dx dy) ⊎ Q f g dx dy
     placed (inl k) = inl k
     placed (inr p) = inr (there f g dx dy p)
 
@@ -97,7 +98,7 @@ readers_left p new k none s = record {
   way = record { there = λ f g dx dy h. s.way.there f g dx dy (less f g dx dy h); back = λ f g dx dy h. more f g dx dy (s.way.back f g dx dy h) };
 }
   where
-    less : (f g : ℕ) (dx dy : ℤ) → Has new f g dx dy ⊎ IsLeftAfter p (k + 1) f g dx dy → Has new f g dx dy ⊎ IsLeftAfter p k f g dx dy
+    less : (f g : ℕ) (dx dy : ℤ) → Contains new (the f g dx dy) ⊎ IsLeftAfter p (k + 1) f g dx dy → Contains new (the f g dx dy) ⊎ IsLeftAfter p k f g dx dy
     less f g dx dy (inl h) = inl h
     less f g dx dy (inr l) = let low = l.low in inr (record { kept = l.kept; low = omega (arith, low); live = l.live })
 
@@ -105,7 +106,7 @@ readers_left p new k none s = record {
     which f g dx dy l (inl h) = record { kept = l.kept; low = omega (arith, h); live = l.live }
     which f g dx dy l (inr h) = let low = l.low in let own : f ≡ length p.inputs + k = omega (arith, low, h) in absurd (none (subst (Kept p) own l.kept))
 
-    more : (f g : ℕ) (dx dy : ℤ) → Has new f g dx dy ⊎ IsLeftAfter p k f g dx dy → Has new f g dx dy ⊎ IsLeftAfter p (k + 1) f g dx dy
+    more : (f g : ℕ) (dx dy : ℤ) → Contains new (the f g dx dy) ⊎ IsLeftAfter p k f g dx dy → Contains new (the f g dx dy) ⊎ IsLeftAfter p (k + 1) f g dx dy
     more f g dx dy (inl h) = inl h
     more f g dx dy (inr l) = inr (which f g dx dy l (cases_lt (length p.inputs + k) f))
 
@@ -130,8 +131,8 @@ readers_done p new k h s = record { in_order = s.order; exact = λ f g dx dy. ((
     all : Gains [] new (λ f g dx dy. IsLeftAfter p 0 f g dx dy)
     all = way_end [] new (λ f g dx dy. IsLeftAfter p 0 f g dx dy) (λ f g dx dy. IsLeftAfter p k f g dx dy) s.way (none_left p k h)
 
-    there : (f g : ℕ) (dx dy : ℤ) → ⊥ ⊎ IsLeftAfter p 0 f g dx dy → IsKeptRead p f g dx dy
-    there f g dx dy (inl n) = absurd n
+    there : (f g : ℕ) (dx dy : ℤ) → Contains [] (the f g dx dy) ⊎ IsLeftAfter p 0 f g dx dy → IsKeptRead p f g dx dy
+    there f g dx dy (inl n) = absurd (none_in (the f g dx dy) n)
     there f g dx dy (inr l) = kept_read p f g dx dy l
 
 pub readers_within : (p : Program) (new after : List LiveRead) (k a : ℕ) (e : Tree) → slice_get (bodies_of p) k ≡ Some e → Kept p (length p.inputs + k) → a ≡ length p.inputs + k → ReadersSoFar p new k → AreInOrder after
@@ -142,8 +143,8 @@ readers_within p new after k a e there kept own s o w = record { in_order = o; s
     all = way_within [] new after (λ f g dx dy. IsLeftAfter p 0 f g dx dy) (λ f g dx dy. IsLeftAfter p k f g dx dy) (λ f g dx dy. IsReadOf p.size e (length p.inputs + k) f g dx dy)
         s.way (subst (λ n. Within new after (λ f g dx dy. IsReadOf p.size e n f g dx dy)) own w) (λ f g dx dy r. (images_step p k e there kept f g dx dy).0 (inl r))
 
-    sound : (f g : ℕ) (dx dy : ℤ) → ⊥ ⊎ IsLeftAfter p 0 f g dx dy → IsKeptRead p f g dx dy
-    sound f g dx dy (inl n) = absurd n
+    sound : (f g : ℕ) (dx dy : ℤ) → Contains [] (the f g dx dy) ⊎ IsLeftAfter p 0 f g dx dy → IsKeptRead p f g dx dy
+    sound f g dx dy (inl n) = absurd (none_in (the f g dx dy) n)
     sound f g dx dy (inr l) = kept_read p f g dx dy l
 
 pub body_below : (p : Program) → IsProgram p → (k : ℕ) (e : Tree) → slice_get (bodies_of p) k ≡ Some e → (size : Size) (n : ℕ) → size ≡ p.size → n ≡ length p.inputs

@@ -18,9 +18,8 @@ use Rattle.stencil_sets.specs.declared.path.Rect.{Rect}
 use Rattle.frame_paths.specs.declared.moves.Offsets.{Offsets}
 use Rattle.frame_paths.specs.Moves.{IsOffset}
 use Rattle.frame_paths.specs.Paths.{LeadsTo}
-use Rattle.stencil_sets.specs.Paths.{IsIn, IsNearRect, Covered, ReadsFrom}
+use Rattle.stencil_sets.specs.Paths.{IsIn, IsNearRect, Covered, ReadsFrom, ReadsAt, IsByReader}
 use Rattle.stencil_sets.specs.Found.{InRow, InRows, AllFrom, AreSorted, IsOf}
-use Rattle.stencil_sets.specs.Live.{ReadsAt, IsByReader}
 use Rattle.frame_paths.proofs.Chains.{either}
 
 -- without a step, what is read is read in the frame

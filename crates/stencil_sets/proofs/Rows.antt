@@ -1,5 +1,5 @@
 -- The reads of a row.
-use Rattle.std.proofs.Common.{◌≡◌, ℕ, zero, suc, ◌+◌, ◌≤◌, ◌<◌, ℤ, pos, neg_ℤ, ◌+ℤ◌, ◌≤ℤ◌, ◌<ℤ◌, ◌⊎◌, inl, inr, List, [], ◌∷◌, length, refl, sym, ap, subst, ◌∙◌, arith, unsigned_abs, drop, take, slice_index_or, All}
+use Rattle.std.proofs.Common.{◌≡◌, ℕ, zero, suc, ◌+◌, ◌≤◌, ◌<◌, ℤ, pos, neg_ℤ, ◌+ℤ◌, ◌≤ℤ◌, ◌<ℤ◌, ◌⊎◌, inl, inr, Contains, List, [], ◌∷◌, length, refl, sym, ap, subst, ◌∙◌, arith, unsigned_abs, drop, take, slice_index_or, All}
 use Rattle.std.proofs.lemmas.Int.{ints, clamps}
 use Rattle.std.proofs.lemmas.List.Elements.{All-head, All-tail, All-more, All-weaker}
 use Rattle.std.specs.Int.{int_min, int_max}
@@ -7,7 +7,7 @@ use Rattle.dk_base.specs.declared.stencils.LiveRead.{LiveRead}
 use Rattle.dk_base.specs.Stencils.{AreInOrder}
 use Rattle.stencil_sets.specs.declared.path.Rect.{Rect}
 use Rattle.stencil_sets.specs.Paths.{IsNearRect}
-use Rattle.pointwise_ir.specs.Stencils.{Has, the}
+use Rattle.pointwise_ir.specs.Stencils.{the}
 use Rattle.stencil_sets.specs.Found.{AllBefore, IsRun, InRows, AllFrom, AreSorted, IsLeft, IsBelow, IsOf, IsAmong, IsBehind, Gains, Within}
 use Rattle.frame_paths.proofs.Chains.{either}
 use Rattle.stencil_sets.proofs.Ordered.{all_before_later}
@@ -28,7 +28,7 @@ not_in_row rect a b row next (inr l) f g dx dy k = none k.in_row
 pub gains_nothing : (xs : List LiveRead) (R : ℕ → ℕ → ℤ → ℤ → Type 0) → ((f g : ℕ) (dx dy : ℤ) → R f g dx dy → ⊥) → Gains xs xs R
 gains_nothing xs R n f g dx dy = (inl, kept)
   where
-    kept : Has xs f g dx dy ⊎ R f g dx dy → Has xs f g dx dy
+    kept : Contains xs (the f g dx dy) ⊎ R f g dx dy → Contains xs (the f g dx dy)
     kept (inl h) = h
     kept (inr r) = absurd (n f g dx dy r)
 
@@ -113,8 +113,8 @@ first_done rect rs a b row next end s k f g dx dy = (there, back)
 
 -- What is found, with what is left, is what there was with all.
 pub record IsOnTheWay (old new : List LiveRead) (All Left : ℕ → ℕ → ℤ → ℤ → Type 0) : Type 0 where
-  pub there : (f g : ℕ) (dx dy : ℤ) → Has new f g dx dy ⊎ Left f g dx dy → Has old f g dx dy ⊎ All f g dx dy
-  pub back : (f g : ℕ) (dx dy : ℤ) → Has old f g dx dy ⊎ All f g dx dy → Has new f g dx dy ⊎ Left f g dx dy
+  pub there : (f g : ℕ) (dx dy : ℤ) → Contains new (the f g dx dy) ⊎ Left f g dx dy → Contains old (the f g dx dy) ⊎ All f g dx dy
+  pub back : (f g : ℕ) (dx dy : ℤ) → Contains old (the f g dx dy) ⊎ All f g dx dy → Contains new (the f g dx dy) ⊎ Left f g dx dy
 
 pub way_start : (xs : List LiveRead) (R : ℕ → ℕ → ℤ → ℤ → Type 0) → IsOnTheWay xs xs R R
 way_start xs R = record { there = λ f g dx dy h. h; back = λ f g dx dy h. h }
@@ -122,7 +122,7 @@ way_start xs R = record { there = λ f g dx dy h. h; back = λ f g dx dy h. h }
 pub way_end : (old new : List LiveRead) (R L : ℕ → ℕ → ℤ → ℤ → Type 0) → IsOnTheWay old new R L → ((f g : ℕ) (dx dy : ℤ) → L f g dx dy → ⊥) → Gains old new R
 way_end old new R L w n f g dx dy = (λ h. w.there f g dx dy (inl h), λ h. only (w.back f g dx dy h))
   where
-    only : Has new f g dx dy ⊎ L f g dx dy → Has new f g dx dy
+    only : Contains new (the f g dx dy) ⊎ L f g dx dy → Contains new (the f g dx dy)
     only (inl h) = h
     only (inr l) = absurd (n f g dx dy l)
 
@@ -137,16 +137,16 @@ way_more old new next R L P M w k e = record {
   back = λ f g dx dy h. either_of (k f g dx dy).1 (λ x. x) (parted f g dx dy (w.back f g dx dy h));
 }
   where
-    joined : (f g : ℕ) (dx dy : ℤ) → (Has new f g dx dy ⊎ P f g dx dy) ⊎ M f g dx dy → Has new f g dx dy ⊎ L f g dx dy
+    joined : (f g : ℕ) (dx dy : ℤ) → (Contains new (the f g dx dy) ⊎ P f g dx dy) ⊎ M f g dx dy → Contains new (the f g dx dy) ⊎ L f g dx dy
     joined f g dx dy (inl (inl h)) = inl h
     joined f g dx dy (inl (inr p)) = inr ((e f g dx dy).0 (inl p))
     joined f g dx dy (inr m) = inr ((e f g dx dy).0 (inr m))
 
-    placed : (f g : ℕ) (dx dy : ℤ) → P f g dx dy ⊎ M f g dx dy → (Has new f g dx dy ⊎ P f g dx dy) ⊎ M f g dx dy
+    placed : (f g : ℕ) (dx dy : ℤ) → P f g dx dy ⊎ M f g dx dy → (Contains new (the f g dx dy) ⊎ P f g dx dy) ⊎ M f g dx dy
     placed f g dx dy (inl p) = inl (inr p)
     placed f g dx dy (inr m) = inr m
 
-    parted : (f g : ℕ) (dx dy : ℤ) → Has new f g dx dy ⊎ L f g dx dy → (Has new f g dx dy ⊎ P f g dx dy) ⊎ M f g dx dy
+    parted : (f g : ℕ) (dx dy : ℤ) → Contains new (the f g dx dy) ⊎ L f g dx dy → (Contains new (the f g dx dy) ⊎ P f g dx dy) ⊎ M f g dx dy
     parted f g dx dy (inl h) = inl (inl h)
     parted f g dx dy (inr l) = placed f g dx dy ((e f g dx dy).1 l)
 

@@ -1,13 +1,12 @@
 -- The reads of an image, from the images before it one after another.
-use Rattle.std.proofs.Common.{◌≡◌, ℕ, ◌+◌, ◌≤◌, ◌<◌, ℤ, pos, neg_ℤ, ◌⊎◌, inl, inr, List, refl, sym, subst, arith}
+use Rattle.std.proofs.Common.{◌≡◌, ℕ, ◌+◌, ◌≤◌, ◌<◌, ℤ, pos, neg_ℤ, ◌⊎◌, inl, inr, Contains, List, refl, sym, subst, arith}
 use Rattle.std.proofs.lemmas.Bool.{cases_lt}
 use Rattle.dk_base.specs.declared.stencils.LiveRead.{LiveRead}
 use Rattle.dk_base.specs.Stencils.{AreInOrder}
 use Rattle.stencil_sets.specs.declared.path.Rect.{Rect}
-use Rattle.stencil_sets.specs.Paths.{Covered}
-use Rattle.pointwise_ir.specs.Stencils.{Has, the}
+use Rattle.stencil_sets.specs.Paths.{Covered, IsByReader, IsOfReader}
+use Rattle.pointwise_ir.specs.Stencils.{the}
 use Rattle.stencil_sets.specs.Found.{AllBefore, Gains, Within}
-use Rattle.stencil_sets.specs.Live.{IsByReader, IsOfReader}
 use Rattle.stencil_sets.proofs.Ordered.{all_before_later}
 use Rattle.stencil_sets.proofs.Rows.{IsOnTheWay, way_start, way_end, way_within, way_more}
 
@@ -57,7 +56,7 @@ sources_within old new after rects a b h s w f g dx dy k =
     placed (way_within old new after (λ f g dx dy. IsLeftFrom rects a 0 f g dx dy) (λ f g dx dy. IsLeftFrom rects a b f g dx dy) (λ f g dx dy. IsByReader rects a b f g dx dy) s.way w
     (λ f g dx dy l. (sources_step rects a b (b + 1) h refl f g dx dy).0 (inl l)) f g dx dy k)
   where
-    placed : Has old f g dx dy ⊎ IsLeftFrom rects a 0 f g dx dy → Has old f g dx dy ⊎ IsOfReader rects a f g dx dy
+    placed : Contains old (the f g dx dy) ⊎ IsLeftFrom rects a 0 f g dx dy → Contains old (the f g dx dy) ⊎ IsOfReader rects a f g dx dy
     placed (inl x) = inl x
     placed (inr l) = inr (first_is rects a f g dx dy l)
 
@@ -68,10 +67,10 @@ sources_done old new rects a b h s f g dx dy =
     all : Gains old new (λ f g dx dy. IsLeftFrom rects a 0 f g dx dy)
     all = way_end old new (λ f g dx dy. IsLeftFrom rects a 0 f g dx dy) (λ f g dx dy. IsLeftFrom rects a b f g dx dy) s.way (λ f g dx dy l. let x = l.low in let y = l.earlier in omega (arith, x, y, h))
 
-    placed : Has old f g dx dy ⊎ IsLeftFrom rects a 0 f g dx dy → Has old f g dx dy ⊎ IsOfReader rects a f g dx dy
+    placed : Contains old (the f g dx dy) ⊎ IsLeftFrom rects a 0 f g dx dy → Contains old (the f g dx dy) ⊎ IsOfReader rects a f g dx dy
     placed (inl x) = inl x
     placed (inr l) = inr (first_is rects a f g dx dy l)
 
-    back : Has old f g dx dy ⊎ IsOfReader rects a f g dx dy → Has old f g dx dy ⊎ IsLeftFrom rects a 0 f g dx dy
+    back : Contains old (the f g dx dy) ⊎ IsOfReader rects a f g dx dy → Contains old (the f g dx dy) ⊎ IsLeftFrom rects a 0 f g dx dy
     back (inl x) = inl x
     back (inr l) = inr (record { reader = l.reader; low = omega arith; earlier = l.earlier; covered = l.covered })

@@ -12,7 +12,7 @@ use Rattle.pointwise_ir.specs.declared.expr.Edge.TheVariants.{Zero, Clamp}
 use Rattle.pointwise_ir.specs.Trees.{Tree, constant, read, shifted, unary, binary, select, convert, scale}
 use Rattle.pointwise_ir.specs.Programs.{Program, IsProgram}
 use Rattle.pointwise_ir.specs.Reads.{EndsAt, Reads, reached, output}
-use Rattle.pointwise_ir.specs.Stencils.{Has, IsKeptRead, AreReads, AreImages}
+use Rattle.pointwise_ir.specs.Stencils.{IsKeptRead, AreReads, AreImages}
 use Rattle.stencil_sets.specs.Live.{AreSome, HasCount}
 use Rattle.frame_paths.proofs.Chains.{IsInside, inside_is, clamped_is}
 use Rattle.frame_paths.proofs.Walks.{both_true}
@@ -29,7 +29,7 @@ clamped_inside : (side : ℕ) (v : ℤ) → 1 ≤ side → IsInside side (clampe
 clamped_inside side v h = let e = clamped_is side v h in subst (IsInside side) (sym e) (record { low = omega (arith, ints, clamps, h); high = omega (arith, ints, clamps, h) })
 
 end_inside : (size : Size) (edge : Edge) (x y u v : ℤ) → 1 ≤ size.width → 1 ≤ size.height → EndsAt size edge x y u v → InFrame size u v
-end_inside size Zero x y u v w h e = let i = in_frame_is size x y e.2 in record { across = subst (IsInside size.width) (sym e.0) i.across; down = subst (IsInside size.height) (sym e.1) i.down }
+end_inside size Zero x y u v w h e = record { across = subst (IsInside size.width) (sym e.0.0) (inside_is size.width x e.0.1); down = subst (IsInside size.height) (sym e.1.0) (inside_is size.height y e.1.1) }
 end_inside size Clamp x y u v w h e = record { across = subst (IsInside size.width) (sym e.0) (clamped_inside size.width x w); down = subst (IsInside size.height) (sym e.1) (clamped_inside size.height y h) }
 
 -- what is read lies in the frame
@@ -72,15 +72,10 @@ read_kept p is images are r k =
 no_read : LiveRead
 no_read = record { f = 0; g = 0; dx = pos 0; dy = pos 0 }
 
-has_entry : (rs : List LiveRead) (i : ℕ) (d : LiveRead) → i < length rs → Has rs (slice_index_or rs i d).f (slice_index_or rs i d).g (slice_index_or rs i d).dx (slice_index_or rs i d).dy
-has_entry [] i d h = absurd (omega (arith, h))
-has_entry (r ∷ rs) zero d h = inl (record { reader = refl; source = refl; across = refl; down = refl })
-has_entry (r ∷ rs) (suc i) d h = inr (has_entry rs i d (omega (arith, h)))
-
-contains_entry : (xs : List ℕ) (i d : ℕ) → i < length xs → Contains xs (slice_index_or xs i d)
-contains_entry xs i d h = (i, h, same xs i d (slice_index_or xs i d) h)
+contains_entry : {X : Type 0} (xs : List X) (i : ℕ) (d : X) → i < length xs → Contains xs (slice_index_or xs i d)
+contains_entry {X = X} xs i d h = (i, h, same xs i d (slice_index_or xs i d) h)
   where
-    same : (xs : List ℕ) (i d e : ℕ) → i < length xs → slice_index_or xs i e ≡ slice_index_or xs i d
+    same : (xs : List X) (i : ℕ) (d e : X) → i < length xs → slice_index_or xs i e ≡ slice_index_or xs i d
     same [] i d e h = absurd (omega (arith, h))
     same (x ∷ xs) zero d e h = refl
     same (x ∷ xs) (suc i) d e h = same xs i d e (omega (arith, h))
@@ -103,7 +98,7 @@ stencils_are p is images reads are form exact few = record {
     most_reads = few;
     in_order = exact.in_order;
     between = All-from_get_or (IsRead p.size.width p.size.height (length p.inputs) images) reads no_read (λ i h.
-        read_kept p is images are (slice_index_or reads i no_read) ((exact.exact (slice_index_or reads i no_read).f (slice_index_or reads i no_read).g (slice_index_or reads i no_read).dx (slice_index_or reads i no_read).dy).0 (has_entry reads i no_read h)));
+        read_kept p is images are (slice_index_or reads i no_read) ((exact.exact (slice_index_or reads i no_read).f (slice_index_or reads i no_read).g (slice_index_or reads i no_read).dx (slice_index_or reads i no_read).dy).0 (contains_entry reads i no_read h)));
   };
 }
 

@@ -8,10 +8,10 @@ use Rattle.pointwise_ir.proofs.ReadLists.{no_longer, same_list}
 use Rattle.stencil_sets.specs.Live.{AreSome, HasFew, HasMany, HasCount}
 
 pub one_list : (p : Program) (a b : List LiveRead) → AreReads p a → AreReads p b → a ≡ b
-one_list p a b x y = same_list a b x.in_order y.in_order (λ f g dx dy h. (y.exact f g dx dy).1 ((x.exact f g dx dy).0 h)) (λ f g dx dy h. (x.exact f g dx dy).1 ((y.exact f g dx dy).0 h))
+one_list p a b x y = same_list a b x.in_order y.in_order (λ r h. (y.exact r.f r.g r.dx r.dy).1 ((x.exact r.f r.g r.dx r.dy).0 h)) (λ r h. (x.exact r.f r.g r.dx r.dy).1 ((y.exact r.f r.g r.dx r.dy).0 h))
 
 pub some_fewer : (p : Program) (a b : List LiveRead) → AreSome p a → AreReads p b → length a ≤ length b
-some_fewer p a b x y = no_longer a b x.in_order y.in_order (λ f g dx dy h. (y.exact f g dx dy).1 (x.sound f g dx dy h))
+some_fewer p a b x y = no_longer a b x.in_order y.in_order (λ r h. (y.exact r.f r.g r.dx r.dy).1 (x.sound r.f r.g r.dx r.dy h))
 
 few_many : (p : Program) (m n : ℕ) → HasFew p m → HasMany p n → ⊥
 few_many p m n a b = let l = some_fewer p b.reads a.reads b.some a.exact in let c = a.count_is in let f = a.few in let g = b.many in omega (arith, l, c, f, g)

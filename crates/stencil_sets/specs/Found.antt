@@ -1,15 +1,16 @@
+-- Used by private functions only.
 -- Live reads as they are found, one after another in order.
-use Rattle.std.specs.Prelude.{◌≡◌, ℕ, ◌+◌, ℤ, ◌≤ℤ◌, ◌<ℤ◌, ◌⊎◌, ◌↔◌, List, [], ◌∷◌, length}
+use Rattle.std.specs.Prelude.{◌≡◌, ℕ, ◌+◌, ℤ, ◌≤ℤ◌, ◌<ℤ◌, ◌⊎◌, ◌↔◌, Contains, List, [], ◌∷◌, length}
 use Rattle.dk_base.specs.declared.TheConstants.{MAX_COUNTED_READS}
 use Rattle.dk_base.specs.declared.stencils.LiveRead.{LiveRead}
 use Rattle.dk_base.specs.Stencils.{IsBefore, AreInOrder}
-use Rattle.pointwise_ir.specs.Stencils.{Has, the}
+use Rattle.pointwise_ir.specs.Stencils.{the}
 use Rattle.stencil_sets.specs.declared.found.Halt.{Halt}
 use Rattle.stencil_sets.specs.declared.found.Halt.TheVariants.{Full, OutOfMemory}
 use Rattle.stencil_sets.specs.declared.path.Rect.{Rect}
 use Rattle.frame_paths.specs.Moves.{IsOffset}
 
--- all of these come before it
+-- all of these are before it
 abbrev pub AllBefore : List LiveRead → LiveRead → Type 0
 AllBefore [] r = Unit {0}
 AllBefore (a ∷ rs) r = IsBefore a r × AllBefore rs r
@@ -72,11 +73,11 @@ Stopped OutOfMemory reads = Unit {0}
 
 -- the new list has what the old one has, and these
 abbrev pub Gains : (old new : List LiveRead) → ((f g : ℕ) → (dx dy : ℤ) → Type 0) → Type 0
-Gains old new R = (f g : ℕ) (dx dy : ℤ) → Has new f g dx dy ↔ (Has old f g dx dy ⊎ R f g dx dy)
+Gains old new R = (f g : ℕ) (dx dy : ℤ) → Contains new (the f g dx dy) ↔ (Contains old (the f g dx dy) ⊎ R f g dx dy)
 
 -- it has nothing else
 abbrev pub Within : (old new : List LiveRead) → ((f g : ℕ) → (dx dy : ℤ) → Type 0) → Type 0
-Within old new R = (f g : ℕ) (dx dy : ℤ) → Has new f g dx dy → Has old f g dx dy ⊎ R f g dx dy
+Within old new R = (f g : ℕ) (dx dy : ℤ) → Contains new (the f g dx dy) → Contains old (the f g dx dy) ⊎ R f g dx dy
 
 -- reads of image g by image f in one row, from one column offset to before another
 pub record IsRun (a b : ℕ) (row from end : ℤ) (f g : ℕ) (dx dy : ℤ) : Type 0 where

@@ -1,9 +1,10 @@
+-- Used by private functions only.
 -- Which images are kept, by marks.
 use Rattle.std.specs.Prelude.{◌≡◌, ℕ, ℤ, ◌+◌, ◌<◌, ◌≤◌, ◌⊎◌, Bool, true, List, length, slice_get, Some}
 use Rattle.pointwise_ir.specs.Trees.{Tree}
 use Rattle.pointwise_ir.specs.Programs.{Program, bodies_of}
 use Rattle.pointwise_ir.specs.Reads.{Kept}
-use Rattle.stencil_sets.specs.Live.{ReadsAt}
+use Rattle.stencil_sets.specs.Paths.{ReadsAt}
 
 abbrev pub IsMarked : List Bool → ℕ → Type 0
 IsMarked kept g = slice_get kept g ≡ Some true

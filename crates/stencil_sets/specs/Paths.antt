@@ -1,6 +1,7 @@
--- What is read at the ends of paths through an expression.
-use Rattle.std.specs.Prelude.{◌≡◌, ℕ, ℤ, ◌+ℤ◌, ◌⊎◌, List, [], ◌∷◌}
-use Rattle.dk_base.specs.Frames.{Size}
+-- Used by private functions only.
+-- What an expression reads at the ends of paths, and in a frame.
+use Rattle.std.specs.Prelude.{◌≡◌, ℕ, ◌<◌, ℤ, ◌+ℤ◌, ◌⊎◌, IsTrue, List, [], ◌∷◌}
+use Rattle.dk_base.specs.Frames.{Size, in_frame}
 use Rattle.pointwise_ir.specs.Trees.{Tree}
 use Rattle.pointwise_ir.specs.Reads.{Reads}
 use Rattle.frame_paths.specs.declared.path.Path.{Path}
@@ -27,3 +28,24 @@ Covered (r ∷ rs) g dx dy = IsIn r g dx dy ⊎ Covered rs g dx dy
 -- Where the path ends, the expression reads a pixel of image g: dx columns to the right and dy rows down of where the path began.
 abbrev pub ReadsFrom : Size → Tree → Path → (g : ℕ) → (dx dy : ℤ) → Type 0
 ReadsFrom size e p g dx dy = (x : ℤ) × (y : ℤ) × (u : ℤ) × (v : ℤ) × LeadsTo p x y u v × Reads size e u v g (x +ℤ dx) (y +ℤ dy)
+
+-- in some pixel of the frame the expression reads the pixel of image g that is dx columns to the right and dy rows down
+abbrev pub ReadsAt : Size → Tree → (g : ℕ) → (dx dy : ℤ) → Type 0
+ReadsAt size e g dx dy = (x : ℤ) × (y : ℤ) × IsTrue (in_frame size x y) × Reads size e x y g (x +ℤ dx) (y +ℤ dy)
+
+-- reads of image b by image a that the rectangles have
+pub record IsByReader (rects : List Rect) (a b : ℕ) (f g : ℕ) (dx dy : ℤ) : Type 0 where
+  pub reader : f ≡ a
+  pub source : g ≡ b
+  pub covered : Covered rects b dx dy
+
+-- reads by image a of images before it that the rectangles have
+pub record IsOfReader (rects : List Rect) (a : ℕ) (f g : ℕ) (dx dy : ℤ) : Type 0 where
+  pub reader : f ≡ a
+  pub earlier : g < a
+  pub covered : Covered rects g dx dy
+
+-- reads that the expression makes, as image a's
+pub record IsReadOf (size : Size) (e : Tree) (a : ℕ) (f g : ℕ) (dx dy : ℤ) : Type 0 where
+  pub reader : f ≡ a
+  pub made : ReadsAt size e g dx dy

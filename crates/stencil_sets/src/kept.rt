@@ -5,8 +5,7 @@ ghost use Rattle.dk_base.specs.FrameSizes.{size_of};
 ghost use Rattle.pointwise_ir.specs.Trees.{tree_of};
 ghost use Rattle.pointwise_ir.specs.Programs.{Program, IsProgram, bodies_of};
 ghost use Rattle.pointwise_ir.specs.Reads.{Kept};
-ghost use Rattle.stencil_sets.specs.Paths.{IsIn, Covered};
-ghost use Rattle.stencil_sets.specs.Live.{ReadsAt};
+ghost use Rattle.stencil_sets.specs.Paths.{IsIn, Covered, ReadsAt};
 ghost use Rattle.stencil_sets.specs.Marks.{IsMarked, AreMarks, MarksMore, MarkedSoFar};
 
 use crate::path::Rect;

@@ -92,7 +92,7 @@ fn kept_of(alloc: Global, ir: &Ir, kept: &[bool]) -> Result<(Vec<u32>, Vec<Image
     Ok((outputs, images))
 }
 
-/// The stencils of a program: its kept images, which are the inputs, the outputs and what they need, and exactly the reads that some pixel of the frame makes; or how many of them there are, where they are more than 4,096.
+/// The stencils of a program: its kept images, which are the inputs, the outputs and what they need, and exactly the reads that some pixel of the frame makes. Or else the number of these reads, if it is above 4,096.
 pub fn live_reads(alloc: Global, ir: &Ir) -> Result<Stencils, StencilFault>
     ensures stencils { IfOk result (λ s. AreStencilsOf ir.now s) }
     ensures fault { IfErr result (λ fault. IsFault ir.now fault) }

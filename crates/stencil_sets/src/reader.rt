@@ -5,10 +5,9 @@ ghost use Rattle.dk_base.specs.FrameSizes.{size_of};
 ghost use Rattle.dk_base.specs.Stencils.{AreInOrder};
 ghost use Rattle.pointwise_ir.specs.Trees.{tree_of};
 ghost use Rattle.stencil_sets.specs.declared.found.TheConstants.{FIRST_OFFSET};
-ghost use Rattle.stencil_sets.specs.Paths.{IsNearRect, Covered};
+ghost use Rattle.stencil_sets.specs.Paths.{IsNearRect, Covered, ReadsAt, IsByReader, IsOfReader};
 ghost use Rattle.pointwise_ir.specs.Stencils.{the};
 ghost use Rattle.stencil_sets.specs.Found.{AllBefore, Stopped, Gains, Within, InRows, AreSorted};
-ghost use Rattle.stencil_sets.specs.Live.{ReadsAt, IsByReader, IsOfReader};
 
 use crate::found::{Halt, push_image};
 use crate::path::{Rect, add_reads};

@@ -7,7 +7,8 @@ ghost use Rattle.pointwise_ir.specs.Trees.{tree_of};
 ghost use Rattle.pointwise_ir.specs.Stencils.{the, AreReads};
 ghost use Rattle.stencil_sets.specs.Found.{AllBefore, Stopped, Gains, Within};
 ghost use Rattle.stencil_sets.specs.declared.found.TheConstants.{FIRST_OFFSET};
-ghost use Rattle.stencil_sets.specs.Live.{ReadsAt, IsReadOf, AreSome};
+ghost use Rattle.stencil_sets.specs.Live.{AreSome};
+ghost use Rattle.stencil_sets.specs.Paths.{ReadsAt, IsReadOf};
 ghost use Rattle.stencil_sets.specs.Marks.{AreMarks};
 
 use crate::found::Halt;

@@ -14,4 +14,4 @@ returns-in_err-program-clause-fault c =
     let within : length c.args.text.now ≤ MAX_SOURCE_BYTES = omega (arith, few) in
     let cut : IsCut c.args.text.now c.in_ok-tokens.tokens.items = record { within = within; are = c.in_ok-tokens.ensures.tokens } in
     let P : List Token → Type 0 = λ ts. Faults ts c.in_err-program.field-0.0 in
-    rw (p.1, p.2) (parse_error c.args.text.now c.in_ok-tokens.tokens.items c.in_err-program.field-0.0 cut (subst P c.deref.ensures.value c.in_err-program.ensures))
+    rw (p.1, p.2) (parse_error c.args.text.now c.in_ok-tokens.tokens.items c.in_err-program.field-0.0 cut (subst P c.deref.ensures.value c.in_err-program.ensures.judged))

@@ -2,7 +2,7 @@ use Rattle.std.proofs.lemmas.Result.{err_from_is_err_and}
 use Rattle.dk_grammar.proofs.Clears.{clear_then, clear_done}
 use Rattle.dk_grammar.proofs.Stucks as T
 use Rattle.dk_parser.specs.declared.items.Lead.TheVariants as lead
-use Rattle.dk_parser.specs.declared.terminal.Keyword.TheVariants as word
+use Rattle.source_words.specs.declared.word.Keyword.TheVariants as word
 use Rattle.dk_parser.specs.declared.terminal.Mark.TheVariants as mark
 use Rattle.dk_parser.proofs.Tokens as K
 use Rattle.dk_parser.proofs.Stucks as S

@@ -15,7 +15,7 @@ pub loop-item-init : goal.loop-item-init
 loop-item-init c = record {
   kept = λ is e. let P : List TypedDefinition → Type 0 = λ l. AreDefinitions is [] (definitions_as l) in subst P (sym c.new-done.ensures.items) none;
   names = λ is e. e ∙ (sym (append-nil (inputs_scope is)) ∙ ap (λ l. scope_of is (definitions_as l)) (sym c.new-done.ensures.items));
-  long = omega (arith, c.requires);
+  long = omega (arith, c.requires.few);
 }
 
 pub returns-in_err-typed : goal.returns-in_err-typed

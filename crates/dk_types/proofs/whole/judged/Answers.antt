@@ -1,4 +1,6 @@
 use Rattle.std.proofs.Common.{refl, sym, ap, subst, List}
+use Rattle.std.specs.List.{All}
+use Rattle.dk_parser.specs.Tree.{tree_of, ConvertsToTypes}
 use Rattle.std.proofs.lemmas.Result.{err_from_is_err_and}
 use Rattle.dk_parser.specs.declared.tree.Input.{Input}
 use Rattle.dk_parser.specs.declared.tree.Name.{Name}
@@ -10,7 +12,7 @@ use Rattle.dk_types.specs.Types.{IsTyping, AreInputs, AreDefinitions, AreOutputs
 use Rattle.dk_types.specs.Faults.{IsFirstFault}
 use Rattle.dk_types.specs.Faults as F
 use Rattle.dk_types.proofs.Rules.{told}
-use Rattle.dk_types.proofs.Finds.{stops_inputs, stops_definitions, stops_outputs, scope_few, same_size}
+use Rattle.dk_types.proofs.Finds.{bodies_convert, stops_inputs, stops_definitions, stops_outputs, scope_few, same_size}
 use Rattle.dk_types.proofs.Kept.{typed_is_kept}
 use Rattle.dk_types.proofs.whole.judged.Goals as goal
 
@@ -29,8 +31,8 @@ returns-in_err-inputs c =
     let q = err_from_is_err_and c.from_residual-in_err-inputs.result c.from_residual-in_err-inputs.ensures.1 in
     rw (q.1, q.2) (stops_inputs (source_of c.args.program.now) c.in_err-inputs.field-0.0 c.in_ok-width.ensures.0 c.in_ok-height.ensures.0 c.deref.result.now c.deref.ensures.value c.in_err-inputs.ensures)
 
-pub definitions-requires : goal.definitions-requires
-definitions-requires c = scope_few c.inputs.new.scope c.deref.result.now c.in_ok-inputs.inputs.items c.in_ok-inputs.ensures.0 c.in_ok-inputs.ensures.1
+pub definitions-requires-clause-few : goal.definitions-requires-clause-few
+definitions-requires-clause-few c = scope_few c.inputs.new.scope c.deref.result.now c.in_ok-inputs.inputs.items c.in_ok-inputs.ensures.0 c.in_ok-inputs.ensures.1
 
 pub returns-in_err-definitions : goal.returns-in_err-definitions
 returns-in_err-definitions c =
@@ -74,3 +76,6 @@ returns c =
     } in
     let V : TypedProgram → Type 0 = λ v. IsTyping (source_of c.args.program.now) (typing_of v) in
     subst V (sym c.new.ensures) whole
+
+pub definitions-requires-clause-converts : goal.definitions-requires-clause-converts
+definitions-requires-clause-converts c = let P : List Def → Type 0 = λ l. All (λ (d : Def). ConvertsToTypes (tree_of d.body)) l in subst P (sym c.deref-2.ensures.value) (bodies_convert c.args.program.now.definitions.items c.requires)

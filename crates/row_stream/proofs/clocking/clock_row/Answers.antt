@@ -5,7 +5,7 @@ use Rattle.wiring.specs.Snapshot.{Fit}
 use Rattle.cycle_sim.specs.Ports.{din_widths}
 use Rattle.pgm_codec.specs.Rasters.{sample_at}
 use Rattle.row_stream.specs.Forms.{kind_of}
-use Rattle.row_stream.specs.Standing.{Goes, Fails}
+use Rattle.row_stream.specs.Progress.{Goes, Fails}
 use Rattle.row_stream.proofs.Blocks.{one_din}
 use Rattle.row_stream.proofs.Flushed.{all_made, first_clocks}
 use Rattle.row_stream.proofs.clocking.clock_row.Goals as goal

@@ -3,7 +3,8 @@ use Rattle.wiring.specs.Snapshot.{Fit}
 use Rattle.wiring.specs.Netlist.{Netlist}
 use Rattle.cycle_sim.specs.Ports.{din_widths}
 use Rattle.row_stream.specs.Forms.{kind_of}
-use Rattle.row_stream.specs.Standing.{Goes, Fails, pixel_clock}
+use Rattle.row_stream.specs.Standing.{pixel_clock}
+use Rattle.row_stream.specs.Progress.{Goes, Fails}
 use Rattle.row_stream.proofs.Rasters.{still_lasts}
 use Rattle.row_stream.proofs.Blocks.{one_din}
 use Rattle.row_stream.proofs.Flushed.{all_made, first_clocks, goes_zeros, fails_zeros, next_line, lines_within, zeros_none}

@@ -1,7 +1,8 @@
 use Rattle.std.proofs.Common.{◌≡◌, ◌+◌, ◌*◌, ◌≤◌}
 use Rattle.dk_desk.specs.declared.Stage.TheVariants.{Open}
 use Rattle.row_stream.specs.Forms.{kind_of}
-use Rattle.row_stream.specs.Standing.{HasRoom, Goes, pixel_clocks, Lasts}
+use Rattle.row_stream.specs.Standing.{HasRoom, Lasts}
+use Rattle.row_stream.specs.Progress.{Goes, pixel_clocks}
 use Rattle.row_stream.specs.Blocks.{HasBlock}
 use Rattle.row_stream.proofs.clocking.flush_lines.Given as goal
 

@@ -1,7 +1,7 @@
 use Rattle.std.proofs.Common.{rules, ◌≡◌, ◌++◌, ◌∷◌, [], sym, subst, append-nil, if◌then◌else◌, true, false}
 use Rattle.std.proofs.lemmas.Result.{on_ok_weaker}
 use Rattle.row_stream.specs.Forms.{kind_of}
-use Rattle.row_stream.specs.Standing.{Writes}
+use Rattle.row_stream.specs.Progress.{Writes}
 use Rattle.row_stream.proofs.clocking.show.Goals as goal
 
 pub returns-then-out-clause-ok : goal.returns-then-out-clause-ok

@@ -2,7 +2,7 @@ use Rattle.std.proofs.Common.{rules, refl, ◌∙◌, subst, arith}
 use Rattle.std.proofs.lemmas.Option.{slice_get-get_or}
 use Rattle.std.proofs.lemmas.List.{take_all}
 use Rattle.row_stream.specs.Forms.{kind_of}
-use Rattle.row_stream.specs.Blocks.{Tells}
+use Rattle.row_stream.specs.Telling.{Tells}
 use Rattle.row_stream.proofs.Telling.{tells_none, tells_more, fails_next}
 use Rattle.row_stream.proofs.clocking.tell_all.Goals as goal
 

@@ -2,7 +2,7 @@ use Rattle.std.proofs.Common.{◌≡◌, ◌+◌, ◌≤◌, take}
 use Rattle.dk_desk.specs.declared.Stage.TheVariants.{Open}
 use Rattle.row_stream.specs.Forms.{kind_of}
 use Rattle.row_stream.specs.Standing.{HasRoom}
-use Rattle.row_stream.specs.Blocks.{Tells}
+use Rattle.row_stream.specs.Telling.{Tells}
 use Rattle.row_stream.proofs.clocking.tell_all.Given as goal
 
 abbrev pub invariant-loop-out : goal.invariant-loop-out

@@ -3,7 +3,7 @@ use Rattle.std.specs.Prelude.{option_to_list}
 use Rattle.std.specs.Io.KnownBytes.{prepend_known}
 use Rattle.dk_desk.proofs.DeskLemmas.{prepend_known-more}
 use Rattle.pgm_codec.specs.Answers.{Answers, Undecided}
-use Rattle.row_stream.specs.Heads.{decided}
+use Rattle.row_stream.specs.HeadReading.{decided, ended}
 use Rattle.row_stream.proofs.HeadEnds.{undecided_before, undecided_more}
 use Rattle.row_stream.proofs.HeadLemmas.{exact_head}
 use Rattle.row_stream.proofs.heads.next_head.Goals as goal
@@ -46,5 +46,5 @@ returns-in-Ok-None-clause-err g c =
       before = undecided_before s.read open_yet;
       some = search rules;
       given = search rules;
-      why = search rules;
+      why = ended (c.end.ensures s.read s.scanned) (search rules);
     }

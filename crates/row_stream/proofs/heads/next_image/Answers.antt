@@ -3,7 +3,8 @@ use Rattle.dk_base.specs.Frames.{Size}
 use Rattle.pgm_codec.specs.Answers.{Refuses}
 use Rattle.pgm_rounds.specs.Files.{Refused}
 use Rattle.dk_base.specs.FrameSizes.{size_of}
-use Rattle.row_stream.specs.Heads.{TakesHead, EndsHead}
+use Rattle.row_stream.specs.Heads.{TakesHead}
+use Rattle.row_stream.specs.HeadReading.{EndsHead}
 use Rattle.row_stream.proofs.HeadEnds.{refuses_head, refuses_taken}
 use Rattle.row_stream.proofs.heads.next_image.Goals as goal
 

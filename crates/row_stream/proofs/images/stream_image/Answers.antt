@@ -1,7 +1,7 @@
 use Rattle.std.proofs.Common.{◌≡◌, ◌≤◌, arith, subst}
 use Rattle.dk_base.specs.declared.TheConstants.{MAX_SIDE}
 use Rattle.row_stream.specs.Forms.{kind_of}
-use Rattle.row_stream.specs.Rows.{EndsRows}
+use Rattle.row_stream.specs.RowReading.{EndsRows}
 use Rattle.row_stream.proofs.ImageEnds.{raster_index}
 use Rattle.row_stream.proofs.images.stream_image.Goals as goal
 

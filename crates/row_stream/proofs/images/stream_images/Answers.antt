@@ -4,8 +4,8 @@ use Rattle.dk_base.specs.FrameSizes.{size_of}
 use Rattle.row_stream.specs.Forms.{kind_of}
 use Rattle.row_stream.specs.Standing.{Lasts}
 use Rattle.row_stream.specs.Heads.{TakesHead, FitsHeader}
-use Rattle.row_stream.specs.Rows.{Streams}
-use Rattle.row_stream.specs.Ends.{EndsImage, unread}
+use Rattle.row_stream.specs.RowReading.{Streams}
+use Rattle.row_stream.specs.ImageReading.{EndsImage, unread}
 use Rattle.row_stream.proofs.ImageEnds.{stands_none, stands_more, ends_behind, ends_further, ends_image, streams_all}
 use Rattle.row_stream.proofs.images.stream_images.Goals as goal
 

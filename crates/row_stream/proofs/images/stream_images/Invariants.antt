@@ -7,7 +7,7 @@ use Rattle.row_stream.specs.Forms.{kind_of}
 use Rattle.row_stream.specs.Standing.{HasRoom, Lasts}
 use Rattle.row_stream.specs.Blocks.{HasBlock}
 use Rattle.row_stream.specs.Heads.{FitsHeader, TakesHead}
-use Rattle.row_stream.specs.Ends.{Stands, unread}
+use Rattle.row_stream.specs.ImageReading.{Stands, unread}
 use Rattle.row_stream.proofs.images.stream_images.Given as goal
 
 abbrev pub invariant-loop-images : goal.invariant-loop-images

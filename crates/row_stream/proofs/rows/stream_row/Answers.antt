@@ -2,7 +2,7 @@ use Rattle.std.proofs.Common.{rules, ◌≡◌, ◌∷◌, [], subst, sym}
 use Rattle.wiring.specs.Snapshot.{Fit}
 use Rattle.cycle_sim.specs.Ports.{din_widths}
 use Rattle.row_stream.specs.Standing.{Lasts}
-use Rattle.row_stream.specs.Rows.{samples_in}
+use Rattle.row_stream.specs.RowReading.{samples_in}
 use Rattle.row_stream.proofs.Rasters.{still_lasts}
 use Rattle.row_stream.specs.Forms.{kind_of}
 use Rattle.row_stream.proofs.RowLemmas.{streams_one, fails_row, one_row, row_fits}

@@ -1,7 +1,7 @@
 use Rattle.std.proofs.Common.{rules, refl, subst, ◌∙◌, arith}
 use Rattle.row_stream.specs.Forms.{kind_of}
 use Rattle.row_stream.specs.Standing.{Lasts}
-use Rattle.row_stream.specs.Rows.{Streams, EndsRow}
+use Rattle.row_stream.specs.RowReading.{Streams, EndsRow}
 use Rattle.row_stream.proofs.Rasters.{streams_none, streams_more}
 use Rattle.row_stream.proofs.RowLemmas.{ends_rows}
 use Rattle.row_stream.proofs.rows.stream_rows.Goals as goal

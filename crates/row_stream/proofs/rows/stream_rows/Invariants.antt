@@ -5,7 +5,7 @@ use Rattle.pgm_codec.specs.Rasters.{row_length}
 use Rattle.row_stream.specs.Forms.{kind_of}
 use Rattle.row_stream.specs.Standing.{HasRoom, Lasts}
 use Rattle.row_stream.specs.Blocks.{HasBlock}
-use Rattle.row_stream.specs.Rows.{Streams}
+use Rattle.row_stream.specs.RowReading.{Streams}
 use Rattle.row_stream.proofs.rows.stream_rows.Given as goal
 
 abbrev pub invariant-loop-row : goal.invariant-loop-row

@@ -2,9 +2,9 @@ use Rattle.std.proofs.Common.{rules, ◌≡◌, sym, subst, ◌∙◌, arith, If
 use Rattle.dk_desk.specs.Outside.{Input}
 use Rattle.dk_base.specs.FrameSizes.{size_of}
 use Rattle.row_stream.specs.Forms.{kind_of}
-use Rattle.row_stream.specs.Standing.{Goes, Fails, pixel_clocks}
+use Rattle.row_stream.specs.Progress.{Goes, Fails, pixel_clocks}
 use Rattle.row_stream.specs.Heads.{TakesHead, FitsHeader}
-use Rattle.row_stream.specs.Ends.{EndsImages, StreamsAll, unread}
+use Rattle.row_stream.specs.ImageReading.{EndsImages, StreamsAll, unread}
 use Rattle.row_stream.specs.Whole.{write_first}
 use Rattle.row_stream.proofs.RowLemmas.{read_only}
 use Rattle.row_stream.proofs.Leaving.{leaves_first, leaves_images, leaves_all, fails_behind, taken_out}

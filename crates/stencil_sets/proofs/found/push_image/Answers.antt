@@ -1,7 +1,7 @@
 use Rattle.std.proofs.Common.{arith, ◌+ℤ◌, pos, to_z, of_z, w32}
 use Rattle.std.proofs.lemmas.Int.{ints}
 use Rattle.frame_paths.proofs.Spreads.{small32}
-use Rattle.stencil_sets.proofs.Rows.{rows_start, rows_more, rows_done, rows_from, among_as}
+use Rattle.stencil_sets.proofs.Rows.{rows_start, rows_more, rows_within, rows_done, rows_in, rows_from, among_as}
 use Rattle.stencil_sets.proofs.found.push_image.Goals as goal
 
 pub loop-dy-init : goal.loop-dy-init
@@ -34,3 +34,18 @@ returns-clause-found c =
     let i = c.loop-dy.invariant in
     rows_done c.args.all.now.items c.loop-dy.all.items c.args.f c.args.g c.args.rects.now _ (to_z w32 c.loop-dy.dy-bits)
     (among_as c.args.rects.now _ _ _ _ f (omega (arith, ints, e, i.2, c.loop-dy-test.false)) c.rows_of-first.ensures.among) i.0
+
+pub returns-clause-sound : goal.returns-clause-sound
+returns-clause-sound c =
+    let f = small32 c.rows_of-first.result.0 (omega (arith, c.rows_of-first.ensures.first)) in
+    let e = small32 c.rows_of-first.result.1 (omega (arith, c.rows_of-first.ensures.end)) in
+    let i = c.loop-dy.invariant in
+    let found = rows_done c.args.all.now.items c.loop-dy.all.items c.args.f c.args.g c.args.rects.now _ (to_z w32 c.loop-dy.dy-bits)
+    (among_as c.args.rects.now _ _ _ _ f (omega (arith, ints, e, i.2, c.loop-dy-test.false)) c.rows_of-first.ensures.among) i.0 in
+    λ f' g dx dy h. (found f' g dx dy).0 h
+
+pub returns-in_err-push_row-clause-sound : goal.returns-in_err-push_row-clause-sound
+returns-in_err-push_row-clause-sound c =
+    let first = to_z w32 (of_z w32 c.rows_of-first.result.0) in
+    rows_in c.args.all.now.items c.push_row.new.all.items c.args.f c.args.g c.args.rects.now first
+    (rows_within c.args.all.now.items c.loop-dy.all.items c.push_row.new.all.items c.args.f c.args.g c.args.rects.now first (to_z w32 c.loop-dy.dy-bits) c.requires.near c.loop-dy.invariant.0 c.in_err-push_row.ensures.sound)

@@ -1,11 +1,12 @@
-use Rattle.std.proofs.Common.{arith, rules, refl, sym, ◌≡◌, ◌≤ℤ◌, ◌+ℤ◌, pos, to_z, of_z, w32, inr, [], ◌∷◌}
+use Rattle.std.proofs.Common.{arith, rules, refl, sym, ◌≡◌, ◌≤ℤ◌, ◌+ℤ◌, pos, to_z, of_z, w32, inl, inr, [], ◌∷◌}
 use Rattle.std.proofs.lemmas.Int.{ints, clamps, to_z-of_z}
 use Rattle.std.specs.Int.{int_max}
 use Rattle.pointwise_ir.specs.Stencils.{the}
 use Rattle.stencil_sets.specs.Found.{IsRun, IsLeft}
 use Rattle.frame_paths.proofs.Spreads.{small32}
 use Rattle.stencil_sets.proofs.Ordered.{all_before_later}
-use Rattle.stencil_sets.proofs.Rows.{gains_as, within_as, run_is, behind_run, gains_run, within_run, before_at}
+use Rattle.stencil_sets.proofs.Rows.{not_in_row, gains_nothing, gains_as, within_as, run_is, behind_run, gains_run, within_run, before_at}
+use Rattle.stencil_sets.proofs.found.push_part.Goals.{then-dy-rect-via-then-dy-rect, then-dy-rect-via-else-dy-rect+then-rect-dy}
 use Rattle.stencil_sets.proofs.found.push_part.Goals as goal
 
 pub push_run-requires-clause-before : goal.push_run-requires-clause-before
@@ -98,3 +99,16 @@ returns-clause-end c =
     let from' = int_max c.args.next rect.across.least in
     let end' = int_max from' (rect.across.greatest +ℤ pos 1) in
     behind_run rect c.args.dy c.args.next from' _ low high refl end
+
+pub returns-then-dy-rect-clause-found : goal.returns-then-dy-rect-clause-found
+returns-then-dy-rect-clause-found c =
+    let rect = c.args.rect in
+    let row = to_z-of_z w32 c.args.dy c.ranges.dy in
+    let least = small32 rect.down.least (omega (arith, c.requires.rows.least)) in
+    let greatest = small32 rect.down.greatest (omega (arith, c.requires.rows.greatest)) in
+    gains_nothing c.args.all.now.items (λ f g dx dy. IsLeft (rect ∷ []) c.args.f c.args.g c.args.dy c.args.next f g dx dy)
+    (not_in_row rect c.args.f c.args.g c.args.dy c.args.next
+    (elim c.then-dy-rect.branch [
+      | then-dy-rect-via-then-dy-rect w ↦ inl (omega (arith, ints, w.if-dy-rect.true, row, least))
+      | then-dy-rect-via-else-dy-rect+then-rect-dy w ↦ inr (omega (arith, ints, w.if-rect-dy.true, row, greatest))
+    ]))

@@ -1,9 +1,8 @@
 use Rattle.std.proofs.Common.{rules, ◌≡◌, ℤ, subst}
 use Rattle.pointwise_ir.specs.Trees.{tree_of}
 use Rattle.dk_base.specs.FrameSizes.{size_of}
-use Rattle.stencil_sets.specs.Paths.{Covered}
+use Rattle.stencil_sets.specs.Paths.{Covered, ReadsAt}
 use Rattle.stencil_sets.specs.Marks.{MarksMore}
-use Rattle.stencil_sets.specs.Live.{ReadsAt}
 use Rattle.stencil_sets.proofs.Marked.{marks_as}
 use Rattle.stencil_sets.proofs.kept.mark_reads.Goals as goal
 

@@ -1,5 +1,5 @@
 use Rattle.std.proofs.Common.{refl}
-use Rattle.stencil_sets.proofs.Sources.{sources_more, sources_done}
+use Rattle.stencil_sets.proofs.Sources.{sources_more, sources_within, sources_done}
 use Rattle.stencil_sets.proofs.reader.push_reader.Goals as goal
 
 pub loop-g-preserved : goal.loop-g-preserved
@@ -9,3 +9,10 @@ loop-g-preserved c =
 
 pub returns-clause-found : goal.returns-clause-found
 returns-clause-found c = sources_done c.args.all.now.items c.loop-g.all.items c.args.rects.now c.args.f c.loop-g.g c.loop-g-test.false c.loop-g.invariant
+
+pub returns-clause-sound : goal.returns-clause-sound
+returns-clause-sound c = λ f g dx dy h. (sources_done c.args.all.now.items c.loop-g.all.items c.args.rects.now c.args.f c.loop-g.g c.loop-g-test.false c.loop-g.invariant f g dx dy).0 h
+
+pub returns-in_err-push_source-clause-sound : goal.returns-in_err-push_source-clause-sound
+returns-in_err-push_source-clause-sound c =
+    sources_within c.args.all.now.items c.loop-g.all.items c.push_source.new.all.items c.args.rects.now c.args.f c.loop-g.g c.loop-g-test.true c.loop-g.invariant c.in_err-push_source.ensures.sound

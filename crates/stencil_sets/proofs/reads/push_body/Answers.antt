@@ -2,7 +2,7 @@ use Rattle.std.proofs.Common.{◌≡◌, rules}
 use Rattle.std.proofs.lemmas.Result.{on_ok_weaker}
 use Rattle.dk_base.specs.FrameSizes.{size_of}
 use Rattle.pointwise_ir.specs.Trees.{tree_of}
-use Rattle.stencil_sets.specs.Live.{IsOfReader, IsReadOf}
+use Rattle.stencil_sets.specs.Paths.{IsOfReader, IsReadOf}
 use Rattle.stencil_sets.proofs.Programs.{covered_made, made_covered, gains_as, within_as, covered_is}
 use Rattle.stencil_sets.proofs.reads.push_body.Goals as goal
 

@@ -3,7 +3,7 @@ use Rattle.dk_base.specs.FrameSizes.{size_of}
 use Rattle.pointwise_ir.specs.Trees.{tree_of}
 use Rattle.pointwise_ir.specs.Reads.{Kept}
 use Rattle.stencil_sets.specs.Found.{Gains, Within}
-use Rattle.stencil_sets.specs.Live.{IsReadOf}
+use Rattle.stencil_sets.specs.Paths.{IsReadOf}
 use Rattle.stencil_sets.specs.Marks.{IsMarked}
 use Rattle.stencil_sets.proofs.Marked.{body_there, mark_there, mark_not}
 use Rattle.stencil_sets.proofs.Programs.{ReadersSoFar, readers_more, readers_left, readers_done, readers_within, body_below}
@@ -53,3 +53,10 @@ loop-k-preserved c =
 
 pub returns-clause-exact : goal.returns-clause-exact
 returns-clause-exact c = let l = c.loop-k-test.false in let n = ap length c.images-images.ensures in readers_done c.args.ir.now c.loop-k.all.items c.loop-k.k (omega (arith, l, n)) c.loop-k.invariant
+
+pub returns-clause-sound : goal.returns-clause-sound
+returns-clause-sound c =
+    let l = c.loop-k-test.false in
+    let n = ap length c.images-images.ensures in
+    let are = readers_done c.args.ir.now c.loop-k.all.items c.loop-k.k (omega (arith, l, n)) c.loop-k.invariant in
+    record { in_order = are.in_order; sound = λ f g dx dy h. (are.exact f g dx dy).0 h }

@@ -1,0 +1,14 @@
+use Rattle.std.proofs.Common.{◌≡◌, ap, subst}
+use Rattle.dk_desk.specs.Calls.{IsIfTold, grown}
+use Rattle.dk_desk.specs.Outside.{Outside}
+use Rattle.dk_top.specs.Making.{IsMadeLine}
+use Rattle.dk_top.proofs.ReportLemmas.{whole}
+use Rattle.dk_top.proofs.commands.making.MakeWordsWork.perform.Goals as goal
+
+pub returns-in-Ok-write_report-clause-report : goal.returns-in-Ok-write_report-clause-report
+returns-in-Ok-write_report-clause-report g c = λ files.
+    let outside = g.D.Desk.outside in
+    let before : (outside c.made_line.new.desk).report ≡ (outside c.args.desk.now).report = ap (λ (o : Outside). o.report) c.in-Ok.ensures.only in
+    whole (IsMadeLine c.args.self.now.number) c.in-Ok.line.items _ _ c.in-Ok.ensures.line
+    (subst (λ t. IsIfTold (outside c.write_report.new.desk).report (grown (outside c.args.desk.now).report t)) c.deref.ensures.value
+    (subst (λ r. IsIfTold (outside c.write_report.new.desk).report (grown r c.deref.result.now)) before c.in-Ok-write_report.ensures.whole))

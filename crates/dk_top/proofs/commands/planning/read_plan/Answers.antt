@@ -1,0 +1,14 @@
+use Rattle.dk_top.proofs.ReadLemmas.{unread_at}
+use Rattle.std.proofs.Common.{rules, ◌≤◌, length}
+use Rattle.dk_base.specs.declared.TheConstants.{MAX_SOURCE_BYTES}
+use Rattle.dk_compile.specs.Limits.{IsFaultAt}
+use Rattle.dk_top.proofs.LongLemmas.{short_text}
+use Rattle.dk_top.proofs.commands.planning.read_plan.Goals as goal
+
+pub returns-in-Err-clause-fault : goal.returns-in-Err-clause-fault
+returns-in-Err-clause-fault g c = unread_at _ c.args.name.now c.args.age c.in-Err.ending c.in-Err.ensures.fault
+
+pub returns-clause-left : goal.returns-clause-left
+returns-clause-left g c =
+    let within : length c.deref.result.now ≤ MAX_SOURCE_BYTES = search rules in
+    short_text c.report_of.result _ c.args.name.now _ (IsFaultAt c.deref.result.now c.args.age) c.deref.result.now (λ h. h) within c.report_of.ensures.fault

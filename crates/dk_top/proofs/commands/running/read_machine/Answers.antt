@@ -1,0 +1,13 @@
+use Rattle.dk_compile.specs.Limits.{IsFaultAt}
+use Rattle.dk_endings.specs.declared.ending.Ending.TheVariants as ending
+use Rattle.dk_top.specs.Verdict.{bytes_of}
+use Rattle.dk_top.proofs.LongLemmas.{no_text, out_of_memory}
+use Rattle.dk_top.proofs.commands.running.read_machine.Goals as goal
+
+pub returns-in-Err-read_again-clause-fault : goal.returns-in-Err-read_again-clause-fault
+returns-in-Err-read_again-clause-fault g c =
+    out_of_memory (g.D.Desk.outside c.args.desk.now).files (λ files. IsFaultAt (bytes_of files c.args.program.now) c.args.age)
+
+pub returns-in-Err-read_again-clause-left : goal.returns-in-Err-read_again-clause-left
+returns-in-Err-read_again-clause-left g c =
+    no_text (g.D.Desk.outside c.args.desk.now).files c.args.program.now (g.D.Desk.outside c.read_compiled.new.desk).program ending.Memory (λ file slot. tt)

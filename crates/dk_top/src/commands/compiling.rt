@@ -1,0 +1,108 @@
+//! `compile`: the Verilog text of a program.
+
+ghost use Rattle.std.specs.Prelude.{◌≡◌, ◌≢◌, ◌≤◌, ℕ, List, Some, Err, IfOk, IfErr, OnOk};
+ghost use Rattle.dk_base.specs.declared.TheConstants.{MAX_AGE};
+ghost use Rattle.dk_desk.specs.Calls.{HasCauseIn, IsIfTold};
+ghost use Rattle.dk_top.specs.Command.{compile as compile_command};
+ghost use Rattle.dk_compile.specs.Limits.{IsFaultAt};
+ghost use Rattle.dk_top.specs.Program.{CanBeCompiled};
+ghost use Rattle.dk_top.specs.Compiling.{IsCompiledFrom, IsCompiledText};
+ghost use Rattle.dk_top.specs.Reading.{OfFile, Stops, IsSourceEnding};
+ghost use Rattle.dk_top.specs.State.{LeavesText};
+
+use crate::files::write_file;
+use crate::reading::{ending_of, read_text};
+use crate::work::Work;
+use dk_compile::{Compiled, Options, compile_with, one_at_age_law};
+use dk_desk::{Desk, Stage};
+use dk_endings::Ending;
+use dk_words::CompileWords;
+use std::alloc::Global;
+
+// What a text is compiled to.
+pub fn compiled(alloc: Global, text: &[u8], options: Options) -> Result<Compiled, Ending>
+    requires age { options.age ≤ MAX_AGE }
+    ensures compiled { IfOk result (IsCompiledFrom text.now options.age options.enable) }
+    ensures good { OnOk result (CanBeCompiled text.now options.age) }
+    ensures fault { IfErr result (IsSourceEnding (IsFaultAt text.now options.age)) }
+    ensures stops { IfErr result Stops }
+    ensures judged { result ≢ Err Ending.ReadFault }
+{
+    one_at_age_law();
+    match compile_with(alloc, text, options) {
+        Ok(compiled) => Ok(compiled),
+        Err(error) => Err(ending_of(error)),
+    }
+}
+
+// Reads, judges and compiles the program.
+pub fn read_compiled<D: Desk>(
+    alloc: Global,
+    desk: &mut D,
+    name: &str,
+    options: Options,
+) -> Result<Compiled, Ending>
+    requires fresh { (D.outside desk.old).program.stage ≡ Stage.Unasked }
+    requires before_create { (D.outside desk.old).file.stage ≡ Stage.Unasked }
+    requires age { options.age ≤ MAX_AGE }
+    ensures compiled { IfOk result (λ c. OfFile (D.outside desk.old) name.now (λ source. IsCompiledFrom source options.age options.enable c)) }
+    ensures some { IfOk result (λ c. (source : List ℕ) × IsCompiledFrom source options.age options.enable c) }
+    ensures good { OnOk result (OfFile (D.outside desk.old) name.now (λ source. CanBeCompiled source options.age)) }
+    ensures fault { IfErr result (λ e. OfFile (D.outside desk.old) name.now (λ source. IsSourceEnding (IsFaultAt source options.age) e)) }
+    ensures stops { IfErr result Stops }
+    ensures left { IfErr result (λ e. OfFile (D.outside desk.old) name.now (λ source. LeavesText e source (D.outside desk.new).program)) }
+    ensures name { IsIfTold (D.outside desk.new).program.name (Some name.now) }
+    ensures only { OpensOnly InSlot.Program (D.outside desk.old) (D.outside desk.new) }
+    ensures cause { HasCauseIn (result ≡ Err Ending.ReadFault) (D.outside desk.old).input_failures (D.outside desk.new).input_failures }
+{
+    let text = match read_text(alloc, desk, name) {
+        Ok(text) => text,
+        Err(ending) => return Err(ending),
+    };
+    compiled(alloc, &text, options)
+}
+
+// Reads, judges and compiles the program, and returns its Verilog text.
+fn verilog_of<D: Desk>(
+    alloc: Global,
+    desk: &mut D,
+    name: &str,
+    options: Options,
+) -> Result<Vec<u8>, Ending>
+    requires fresh { (D.outside desk.old).program.stage ≡ Stage.Unasked }
+    requires before_create { (D.outside desk.old).file.stage ≡ Stage.Unasked }
+    requires age { options.age ≤ MAX_AGE }
+    ensures text { IfOk result (λ text. OfFile (D.outside desk.old) name.now (λ source. IsCompiledText source options.age options.enable text.items)) }
+    ensures good { OnOk result (OfFile (D.outside desk.old) name.now (λ source. CanBeCompiled source options.age)) }
+    ensures fault { IfErr result (λ e. OfFile (D.outside desk.old) name.now (λ source. IsSourceEnding (IsFaultAt source options.age) e)) }
+    ensures stops { IfErr result Stops }
+    ensures left { IfErr result (λ e. OfFile (D.outside desk.old) name.now (λ source. LeavesText e source (D.outside desk.new).program)) }
+    ensures name { IsIfTold (D.outside desk.new).program.name (Some name.now) }
+    ensures only { OpensOnly InSlot.Program (D.outside desk.old) (D.outside desk.new) }
+    ensures cause { HasCauseIn (result ≡ Err Ending.ReadFault) (D.outside desk.old).input_failures (D.outside desk.new).input_failures }
+{
+    match read_compiled(alloc, desk, name, options) {
+        Ok(compiled) => Ok(compiled.text),
+        Err(ending) => Err(ending),
+    }
+}
+
+/// Compiles the program, and writes its Verilog text once the text is whole.
+impl Work for CompileWords<'_> {
+    ghost command = { λ words. compile_command words.program.now words.out.now words.enable words.age };
+
+    fn perform<D: Desk>(&self, alloc: Global, desk: &mut D) -> Ending {
+        let options = Options {
+            enable: self.enable,
+            age: self.age,
+        };
+        let text = match verilog_of(alloc, desk, self.program, options) {
+            Ok(text) => text,
+            Err(ending) => return ending,
+        };
+        match write_file(desk, self.out, &text) {
+            Ok(()) => Ending::Done,
+            Err(_) => Ending::WriteFault,
+        }
+    }
+}

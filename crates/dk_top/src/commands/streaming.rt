@@ -1,0 +1,169 @@
+//! `run` of a program with one input and one output: its images are read, clocked and written line by line.
+
+ghost use Rattle.std.specs.Prelude.{◌≡◌, ◌≢◌, ℕ, ◌≤◌, ◌-◌, ◌^◌, ◌∷◌, [], List, false, Err, IsTrue, length, slice_index};
+ghost use Rattle.dk_base.specs.declared.TheConstants.{MAX_LATENCY, MAX_PORT_WIDTH};
+ghost use Rattle.cycle_sim.specs.Ports.{din_widths};
+ghost use Rattle.dk_compile.specs.Fronts.{IsForm};
+ghost use Rattle.dk_desk.specs.Calls.{HasCauseIn};
+ghost use Rattle.dk_types.specs.Typed.{Typing};
+ghost use Rattle.row_stream.specs.Forms.{kind_of};
+ghost use Rattle.row_stream.specs.Standing.{IsOneToOne, Starts};
+ghost use Rattle.row_stream.specs.Whole.{IsRoom};
+ghost use Rattle.wiring.specs.Snapshot.{Fit};
+ghost use Rattle.dk_top.specs.Compiling.{IsCompiledFrom};
+ghost use Rattle.dk_top.specs.Streaming.{IsOnePort};
+ghost use Rattle.dk_top.specs.Streams.{StreamsFrom, OfCompiled, RunsStream, RunsOn};
+
+use block_sim::Blocks;
+use cycle_sim::Fill;
+use dk_base::FrameSize;
+use dk_compile::{Compiled, drive_shows_law, one_at_age_law, one_source_law};
+use dk_desk::{Desk, InSlot, Stage};
+use dk_endings::{Ending, ImageFault};
+use netlist::Module;
+use pgm_rounds::one_file_law;
+use pointwise_ir::Ir;
+use row_stream::{Form, Room, StreamFault, stream, streams_most};
+use std::alloc::Global;
+
+// Whether the program has one input and one output.
+pub fn is_one_port(ir: &Ir) -> bool
+    ensures yes { IsTrue result → (p : Typing) → IsForm p ir.now → IsOnePort p }
+    ensures no { (p : Typing) → IsForm p ir.now → IsOnePort p → IsTrue result }
+{
+    ir.inputs().len() == 1 && ir.outputs().len() == 1
+}
+
+// The bits of the din of a module with no port `en` and one din.
+fn din_bits(module: &Module) -> u8
+    requires { length «module».now.netlist.inputs ≡ 2 }
+    ensures { result ≡ slice_index «module».now.netlist.inputs 1 }
+{
+    module.wiring().inputs[1].bits()
+}
+
+// The bits of the dout of a module with one output.
+fn dout_bits(module: &Module) -> u8
+    requires { length «module».now.netlist.outputs ≡ 2 }
+    ensures { result ≡ slice_index «module».now.netlist.outputs 1 }
+{
+    module.wiring().outputs[1].bits()
+}
+
+// The images that a module with a dout of this width writes.
+fn form_of(size: FrameSize, bits: u8) -> Form
+    requires { bits ≤ MAX_PORT_WIDTH }
+    ensures size { result.size ≡ size }
+    ensures maxval { result.maxval ≡ 2 ^ bits - 1 }
+{
+    Form {
+        size,
+        maxval: ((1u32 << bits) - 1) as u16,
+    }
+}
+
+// Opens the images and streams them.
+fn stream_file<D: Desk>(
+    desk: &mut D,
+    sim: &mut Blocks,
+    room: Room,
+    form: Form,
+    bits: u8,
+    latency: u64,
+    image: &str,
+    out: &str,
+) -> Ending
+    requires image { (D.outside desk.old).image.stage ≡ Stage.Unasked }
+    requires file { (D.outside desk.old).file.stage ≡ Stage.Unasked }
+    requires bits { bits ≤ MAX_PORT_WIDTH }
+    requires latency { latency ≤ MAX_LATENCY }
+    requires room { IsRoom form.size.width room }
+    requires one { IsOneToOne (kind_of form) sim.old.netlist }
+    requires fit { (s : ℕ) → s ≤ 2 ^ bits - 1 → Fit (din_widths sim.old.netlist) (s ∷ []) }
+    requires starts { Starts sim.old.netlist sim.old.contents }
+    ensures runs { RunsStream (kind_of form) sim.old.netlist bits latency image.now out.now sim.old.contents (D.outside desk.old) (D.outside desk.new) result }
+    ensures read { HasCauseIn (result ≡ Ending.ReadFault) (D.outside desk.old).input_failures (D.outside desk.new).input_failures }
+    ensures write { HasCauseIn (result ≡ Ending.WriteFault) (D.outside desk.old).output_failures (D.outside desk.new).output_failures }
+{
+    match desk.open_in(InSlot::Image, image) {
+        Err(_) => return Ending::ReadFault,
+        Ok(()) => {}
+    }
+    match stream(desk, sim, room, form, bits, latency, out) {
+        Ok(()) => Ending::Done,
+        Err(StreamFault::Image(fault)) => Ending::Image(ImageFault::File(fault)),
+        Err(StreamFault::Read) => Ending::ReadFault,
+        Err(StreamFault::Write) => Ending::WriteFault,
+    }
+}
+
+// Clocks the module of a program with one input and one output on the images, and writes each line as soon as it is whole.
+// All memory is allocated before the images are opened.
+fn run_lines<D: Desk>(
+    alloc: Global,
+    desk: &mut D,
+    compiled: &Compiled,
+    module: &Module,
+    image: &str,
+    out: &str,
+) -> Ending
+    requires compiled { (source : List ℕ) × (age : ℕ) × IsCompiledFrom source age false compiled.now }
+    requires again { «module».now ≡ compiled.now.«module» }
+    requires one { (p : Typing) → IsForm p compiled.now.ir → IsOnePort p }
+    requires image { (D.outside desk.old).image.stage ≡ Stage.Unasked }
+    requires file { (D.outside desk.old).file.stage ≡ Stage.Unasked }
+    ensures memory { result ≡ Ending.Memory → D.outside desk.new ≡ D.outside desk.old }
+    ensures runs { result ≢ Ending.Memory → (source : List ℕ) (age : ℕ) → (from : IsCompiledFrom source age false compiled.now)
+        → StreamsFrom from.program compiled.now.plan «module».now.netlist image.now out.now (D.outside desk.old) (D.outside desk.new) result }
+    ensures read { HasCauseIn (result ≡ Ending.ReadFault) (D.outside desk.old).input_failures (D.outside desk.new).input_failures }
+    ensures write { HasCauseIn (result ≡ Ending.WriteFault) (D.outside desk.old).output_failures (D.outside desk.new).output_failures }
+{
+    one_source_law();
+    compiled.ir.law();
+    compiled.plan.law();
+    let size = compiled.ir.size();
+    let mut sim = match Blocks::new(alloc, module, Fill::Zeros) {
+        Ok(sim) => sim,
+        Err(_) => return Ending::Memory,
+    };
+    let room = match Room::new(alloc, size) {
+        Ok(room) => room,
+        Err(_) => return Ending::Memory,
+    };
+    let form = form_of(size, dout_bits(module));
+    let latency = compiled.plan.latency();
+    stream_file(
+        desk,
+        &mut sim,
+        room,
+        form,
+        din_bits(module),
+        latency,
+        image,
+        out,
+    )
+}
+
+// Clocks and writes as run_lines does, stated of the program's text.
+pub fn run_streamed<D: Desk>(
+    alloc: Global,
+    desk: &mut D,
+    compiled: &Compiled,
+    module: &Module,
+    image: &str,
+    out: &str,
+) -> Ending
+    requires compiled { (source : List ℕ) × (age : ℕ) × IsCompiledFrom source age false compiled.now }
+    requires again { «module».now ≡ compiled.now.«module» }
+    requires one { (p : Typing) → IsForm p compiled.now.ir → IsOnePort p }
+    requires image { (D.outside desk.old).image.stage ≡ Stage.Unasked }
+    requires file { (D.outside desk.old).file.stage ≡ Stage.Unasked }
+    ensures runs { OfCompiled compiled.now (λ source age. RunsOn source age image.now out.now result (D.outside desk.old) (D.outside desk.new)) }
+{
+    one_source_law();
+    one_at_age_law();
+    one_file_law();
+    drive_shows_law();
+    streams_most();
+    run_lines(alloc, desk, compiled, module, image, out)
+}

@@ -1,0 +1,6 @@
+//! Words of the source language: reserved words, type words and names.
+#![tactic(auto)]
+
+mod word;
+
+pub use word::{Keyword, find_keyword, is_name, read_type};
