@@ -8,7 +8,8 @@ use Rattle.pgm_codec.specs.declared.reading.Number.TheVariants.{Width, Height, M
 use Rattle.pgm_codec.specs.declared.reading.Reading.{Reading}
 use Rattle.dk_base.specs.Ascii.{is_white, is_digit}
 use Rattle.pgm_codec.specs.Headers.{is_line_end}
-use Rattle.pgm_codec.specs.Machine.{reading, start, step, step_at, run, digit_after, finished}
+use Rattle.pgm_codec.specs.Scans.{reading}
+use Rattle.pgm_codec.specs.Machine.{start, step, step_at, run, digit_after, finished}
 use Rattle.pgm_codec.specs.Answers.{Whole as IsWhole, Begins, Inside}
 use Rattle.pgm_codec.proofs.Forward.{whole, run_append}
 use Rattle.pgm_codec.proofs.Backward.{text_of}

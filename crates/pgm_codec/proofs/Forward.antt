@@ -103,7 +103,7 @@ opened [] tail bytes g parts = absurd g
 opened (b ∷ bs) tail bytes g parts = (b, bs ++ tail, g.0, parts)
 
 -- after the width and after the height a gap begins
-behind_width : (bytes rest : List ℕ) (w h v p n b : ℕ) → is_white b ≡ true → bytes ≡ b ∷ rest
+pub behind_width : (bytes rest : List ℕ) (w h v p n b : ℕ) → is_white b ≡ true → bytes ≡ b ∷ rest
     → run (reading Digits Width w h v p n) bytes ≡ run (reading Gap Height v h v p n) bytes
 behind_width bytes rest w h v p n b is parts =
     ap (λ x. run (reading Digits Width w h v p n) x) parts

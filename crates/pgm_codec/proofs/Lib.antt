@@ -6,6 +6,7 @@ pub mod Begun
 pub mod Verdicts
 pub mod Stays
 pub mod Unique
+pub mod Places
 pub mod Scanning
 pub mod Sizes
 pub mod Decoding

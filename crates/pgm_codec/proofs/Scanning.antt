@@ -9,13 +9,11 @@ use Rattle.pgm_codec.specs.declared.scan.Scan.{Scan}
 use Rattle.pgm_codec.specs.declared.scan.Scan.TheVariants.{More, Done, Fault}
 use Rattle.pgm_codec.specs.Machine.{start, step, run, verdict, fault_at}
 use Rattle.pgm_codec.specs.Answers.{Answers, Refuses}
-use Rattle.pgm_codec.specs.Scans.{Scanned, told}
-use Rattle.pgm_codec.proofs.Forward.{run_append}
+use Rattle.pgm_codec.specs.Scans.{IsPlace, Scanned, told}
 use Rattle.pgm_codec.proofs.Verdicts.{verdict_answers, ends_here}
+use Rattle.pgm_codec.proofs.Begun.{Live}
+use Rattle.pgm_codec.proofs.Places.{place_run, place_step, more_live}
 use Rattle.pgm_codec.proofs.Stays.{stays}
-
-more_reading : (r : Reading) (bytes : List ℕ) (b : ℕ) → r ≡ run start bytes → step r b ≡ run start (bytes ++ b ∷ [])
-more_reading r bytes b e = ap (λ x. step x b) e ∙ sym (run_append bytes (b ∷ []) start)
 
 more_answers : (r : Reading) (bytes : List ℕ) (b : ℕ) → r ≡ run start bytes → Answers bytes More → Answers (bytes ++ b ∷ []) (verdict (step r b))
 more_answers r bytes b e a = subst (λ x. Answers (bytes ++ b ∷ []) (verdict (step x b))) (sym e) (verdict_answers bytes b a)
@@ -24,12 +22,12 @@ more_answers r bytes b e a = subst (λ x. Answers (bytes ++ b ∷ []) (verdict (
 pub pushed : (old : HeaderScan) (r : Reading) (a : Scan) (bytes : List ℕ) (b : ℕ) → Scanned old bytes → told old ≡ More → r ≡ step old.reading b → a ≡ verdict r → Answers (bytes ++ b ∷ []) a
 pushed old r a bytes b s m e f =
     subst (λ x. Answers (bytes ++ b ∷ []) x) (sym (f ∙ ap (λ x. verdict x) e))
-    (more_answers old.reading bytes b (s.reading m) (subst (λ x. Answers bytes x) m s.answers))
+    (more_answers old.reading bytes b (place_run bytes old.reading (s.place m)) (subst (λ x. Answers bytes x) m s.answers))
 
 pub pushed_on : (old new : HeaderScan) (bytes : List ℕ) (b : ℕ) → Scanned old bytes → told old ≡ More → new.reading ≡ step old.reading b → told new ≡ verdict new.reading → Scanned new (bytes ++ b ∷ [])
 pushed_on old new bytes b s m e f = record {
   answers = pushed old new.reading (told new) bytes b s m e f;
-  reading = λ g. e ∙ more_reading old.reading bytes b (s.reading m);
+  place = λ g. subst (λ r. IsPlace (bytes ++ b ∷ []) r) (sym e) (place_step bytes old.reading b (s.place m) (subst (λ r. Live r.stage) e (more_live new.reading.stage new.reading (sym f ∙ g))));
 }
 
 -- a scan that has answered stays
@@ -39,7 +37,7 @@ stayed old a bytes b s e n = stays bytes (b ∷ []) a (subst (λ x. Answers byte
 pub stayed_on : (old : HeaderScan) (a : Scan) (bytes : List ℕ) (b : ℕ) → Scanned old bytes → told old ≡ a → (a ≡ More → ⊥) → Scanned old (bytes ++ b ∷ [])
 stayed_on old a bytes b s e n = record {
   answers = subst (λ x. Answers (bytes ++ b ∷ []) x) (sym e) (stayed old a bytes b s e n);
-  reading = λ g. absurd (n (sym e ∙ g));
+  place = λ g. absurd (n (sym e ∙ g));
 }
 
 pub done_not_more : (h : Header) → Done h ≡ More → ⊥
@@ -51,7 +49,7 @@ fault_not_more f e = cc
 -- the end of the bytes
 pub ended : (scan : HeaderScan) (bytes : List ℕ) → Scanned scan bytes → told scan ≡ More → Refuses bytes (fault_at scan.reading.length)
 ended scan bytes s m =
-    subst (λ r. Refuses bytes (fault_at r.length)) (sym (s.reading m)) (ends_here bytes (subst (λ x. Answers bytes x) m s.answers))
+    subst (λ r. Refuses bytes (fault_at r.length)) (sym (place_run bytes scan.reading (s.place m))) (ends_here bytes (subst (λ x. Answers bytes x) m s.answers))
 
 -- what was answered at a byte holds of all the bytes
 cut_at : (bytes : List ℕ) (i : ℕ) → i < length bytes → (take i bytes ++ get_or bytes i 0 ∷ []) ++ drop (suc i) bytes ≡ bytes

@@ -1,7 +1,7 @@
 pub mod Headers
 pub mod Images
-pub mod Machine
 pub mod Answers
 pub mod Scans
+pub mod Machine
 pub mod Rasters
 pub mod Rounds

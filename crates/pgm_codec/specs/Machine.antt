@@ -1,3 +1,4 @@
+-- Used by private functions only.
 -- How a header is read, byte after byte.
 use Rattle.std.specs.Prelude.{ℕ, ◌+◌, ◌*◌, ◌-◌, List, [], ◌∷◌, nat_eq, nat_lt, ◌||◌, if◌then◌else◌}
 use Rattle.dk_base.specs.declared.TheConstants.{MAX_HEADER_BYTES, MAX_MAXVAL}
@@ -12,9 +13,7 @@ use Rattle.pgm_codec.specs.declared.scan.Scan.{Scan}
 use Rattle.pgm_codec.specs.declared.scan.Scan.TheVariants.{More, Done, Fault}
 use Rattle.dk_base.specs.Ascii.{is_white, is_digit}
 use Rattle.pgm_codec.specs.Headers.{is_line_end, capped}
-
-abbrev pub reading : Stage → Number → ℕ → ℕ → ℕ → ℕ → ℕ → Reading
-reading stage number width height value first length = record { stage = stage; number = number; width = width; height = height; value = value; first = first; length = length }
+use Rattle.pgm_codec.specs.Scans.{reading}
 
 abbrev pub start : Reading
 start = reading Start Width 0 0 0 0 0

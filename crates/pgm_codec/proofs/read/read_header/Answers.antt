@@ -28,6 +28,9 @@ returns-in-Fault-clause-only c =
     let is : Answers c.args.bytes.now (Fault c.in-Fault.fault) = answered c.args.bytes.now c.loop-byte.byte-index (Fault c.in-Fault.fault) (omega arith) (c.in-Fault.ensures.answer _ c.loop-byte.invariant.scanned) (fault_not_more c.in-Fault.fault) in
     λ other j. one_answer c.args.bytes.now other (Err c.in-Fault.fault) j is.0
 
+pub returns-clause-judged : goal.returns-clause-judged
+returns-clause-judged c = refused_all c.args.bytes.now c.loop-byte.byte-index c.end.result (omega arith) (c.end.ensures _ c.loop-byte.invariant.scanned)
+
 pub returns-clause-only : goal.returns-clause-only
 returns-clause-only c =
     let is : Refuses c.args.bytes.now c.end.result = refused_all c.args.bytes.now c.loop-byte.byte-index c.end.result (omega arith) (c.end.ensures _ c.loop-byte.invariant.scanned) in
