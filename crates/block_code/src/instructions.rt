@@ -12,7 +12,7 @@ ghost use Rattle.block_code.specs.Parts.{IsInstructionOf, AreInstructions, HasIn
 
 use block_rows::{Instruction, is_ordered};
 use cycle_sim::{Layout, right_of, slot_of};
-use netlist::{Net, Right, Wiring};
+use netlist::{Net, Netlist, Right};
 use std::alloc::{AllocError, Global};
 
 fn reads_no_array(right: &Right<Net, usize>) -> bool
@@ -25,7 +25,7 @@ fn reads_no_array(right: &Right<Net, usize>) -> bool
 }
 
 // The instruction of the assign of this number.
-fn instruction_at(layout: Layout, wiring: &Wiring, number: usize) -> Instruction
+fn instruction_at(layout: Layout, wiring: &Netlist, number: usize) -> Instruction
     requires layout { IsLayout (netlist_of wiring.now) layout }
     requires rules { KeepsRules (netlist_of wiring.now) }
     requires within { number < length wiring.now.assigns.items }
@@ -53,7 +53,7 @@ fn add_assign(
     code: &mut Vec<Instruction>,
     marks: &mut [bool],
     layout: Layout,
-    wiring: &Wiring,
+    wiring: &Netlist,
     number: usize,
 ) -> Result<(), AllocError>
     requires layout { IsLayout (netlist_of wiring.now) layout }
@@ -69,7 +69,7 @@ fn add_assign(
     Ok(())
 }
 
-fn is_plain(wiring: &Wiring, number: usize) -> bool
+fn is_plain(wiring: &Netlist, number: usize) -> bool
     requires within { number < length wiring.now.assigns.items }
     ensures { (a : Assign) → slice_get wiring.now.assigns.items number ≡ Some a → result ≡ is_none (array_of a.right) }
 {
@@ -81,7 +81,7 @@ fn note_assign(
     code: &mut Vec<Instruction>,
     marks: &mut [bool],
     layout: Layout,
-    wiring: &Wiring,
+    wiring: &Netlist,
     number: usize,
 ) -> Result<bool, AllocError>
     requires layout { IsLayout (netlist_of wiring.now) layout }
@@ -103,7 +103,7 @@ fn note_order(
     code: &mut Vec<Instruction>,
     marks: &mut [bool],
     layout: Layout,
-    wiring: &Wiring,
+    wiring: &Netlist,
     order: &[usize],
 ) -> Result<bool, AllocError>
     requires layout { IsLayout (netlist_of wiring.now) layout }
@@ -119,7 +119,7 @@ fn note_order(
     Ok(true)
 }
 
-fn is_covered(marks: &[bool], wiring: &Wiring, number: usize) -> bool
+fn is_covered(marks: &[bool], wiring: &Netlist, number: usize) -> bool
     requires within { number < length wiring.now.assigns.items }
     requires count { length marks.now ≡ length wiring.now.assigns.items }
     ensures { IsTrue result → (a : Assign) → slice_get wiring.now.assigns.items number ≡ Some a → array_of a.right ≡ None
@@ -132,7 +132,7 @@ fn is_covered(marks: &[bool], wiring: &Wiring, number: usize) -> bool
 }
 
 // Whether each assign that reads no array has its mark.
-fn are_covered(marks: &[bool], wiring: &Wiring) -> bool
+fn are_covered(marks: &[bool], wiring: &Netlist) -> bool
     requires count { length marks.now ≡ length wiring.now.assigns.items }
     ensures { IsTrue result → (k : ℕ) (a : Assign) → slice_get wiring.now.assigns.items k ≡ Some a → array_of a.right ≡ None
         → slice_index_or marks.now k false ≡ true }
@@ -150,7 +150,7 @@ fn note_all(
     code: &mut Vec<Instruction>,
     marks: &mut [bool],
     layout: Layout,
-    wiring: &Wiring,
+    wiring: &Netlist,
     order: &[usize],
 ) -> Result<bool, AllocError>
     requires layout { IsLayout (netlist_of wiring.now) layout }
@@ -178,7 +178,7 @@ pub fn bare_marks(alloc: Global, count: usize) -> Result<Vec<bool>, AllocError>
 pub fn instructions_of(
     alloc: Global,
     layout: Layout,
-    wiring: &Wiring,
+    wiring: &Netlist,
     order: &[usize],
 ) -> Result<Option<Vec<Instruction>>, AllocError>
     requires layout { IsLayout (netlist_of wiring.now) layout }

@@ -10,7 +10,7 @@ ghost use Rattle.block_code.specs.Parts.{AreReads, AreReadWhereMarked, HasReads}
 use crate::code::WordRead;
 use crate::instructions::bare_marks;
 use cycle_sim::{Layout, atom_of, slot_of};
-use netlist::{Atom, Right, Wiring};
+use netlist::{Atom, Netlist, Right};
 use std::alloc::{AllocError, Global};
 
 // The read of an array, where this assign is one. False where its array has one already.
@@ -18,7 +18,7 @@ fn note_read(
     reads: &mut [WordRead],
     marks: &mut [bool],
     layout: Layout,
-    wiring: &Wiring,
+    wiring: &Netlist,
     number: usize,
 ) -> bool
     requires layout { IsLayout (netlist_of wiring.now) layout }
@@ -45,7 +45,7 @@ fn note_read(
     }
 }
 
-fn note_reads(reads: &mut [WordRead], marks: &mut [bool], layout: Layout, wiring: &Wiring) -> bool
+fn note_reads(reads: &mut [WordRead], marks: &mut [bool], layout: Layout, wiring: &Netlist) -> bool
     requires layout { IsLayout (netlist_of wiring.now) layout }
     requires rules { KeepsRules (netlist_of wiring.now) }
     requires before { AreReads (netlist_of wiring.now) 0 reads.old marks.old }
@@ -73,7 +73,7 @@ fn all_marked(marks: &[bool]) -> bool
 }
 
 // The same, and whether each array has its read.
-fn note_all(reads: &mut [WordRead], marks: &mut [bool], layout: Layout, wiring: &Wiring) -> bool
+fn note_all(reads: &mut [WordRead], marks: &mut [bool], layout: Layout, wiring: &Netlist) -> bool
     requires layout { IsLayout (netlist_of wiring.now) layout }
     requires rules { KeepsRules (netlist_of wiring.now) }
     requires before { AreReads (netlist_of wiring.now) 0 reads.old marks.old }
@@ -86,7 +86,7 @@ fn note_all(reads: &mut [WordRead], marks: &mut [bool], layout: Layout, wiring: 
     all_marked(marks)
 }
 
-fn bare_reads(alloc: Global, wiring: &Wiring) -> Result<Vec<WordRead>, AllocError>
+fn bare_reads(alloc: Global, wiring: &Netlist) -> Result<Vec<WordRead>, AllocError>
     ensures { IfOk result (λ v. v.items ≡ replicate (length wiring.now.arrays.items) (record { target = 0; index = atom.Net 0 })) }
 {
     let read = WordRead {
@@ -102,7 +102,7 @@ fn bare_reads(alloc: Global, wiring: &Wiring) -> Result<Vec<WordRead>, AllocErro
 pub fn reads_of(
     alloc: Global,
     layout: Layout,
-    wiring: &Wiring,
+    wiring: &Netlist,
 ) -> Result<Option<Vec<WordRead>>, AllocError>
     requires layout { IsLayout (netlist_of wiring.now) layout }
     requires rules { KeepsRules (netlist_of wiring.now) }

@@ -8,11 +8,11 @@ ghost use Rattle.block_code.specs.Parts.{AreNexts, ArePuts};
 
 use crate::code::WordPut;
 use cycle_sim::{Layout, atom_of};
-use netlist::{Atom, Update, Wiring};
+use netlist::{Atom, Netlist, Update};
 use std::alloc::{AllocError, Global};
 
 // The next value of a register, where this update has one.
-fn note_next(nexts: &mut [Atom<usize>], layout: Layout, wiring: &Wiring, number: usize)
+fn note_next(nexts: &mut [Atom<usize>], layout: Layout, wiring: &Netlist, number: usize)
     requires layout { IsLayout (netlist_of wiring.now) layout }
     requires rules { KeepsRules (netlist_of wiring.now) }
     requires within { number < length wiring.now.updates.items }
@@ -25,7 +25,7 @@ fn note_next(nexts: &mut [Atom<usize>], layout: Layout, wiring: &Wiring, number:
     }
 }
 
-fn bare_nexts(alloc: Global, wiring: &Wiring) -> Result<Vec<Atom<usize>>, AllocError>
+fn bare_nexts(alloc: Global, wiring: &Netlist) -> Result<Vec<Atom<usize>>, AllocError>
     requires rules { KeepsRules (netlist_of wiring.now) }
     ensures { IfOk result (λ v. AreNexts (netlist_of wiring.now) 0 v.items) }
 {
@@ -37,7 +37,7 @@ fn bare_nexts(alloc: Global, wiring: &Wiring) -> Result<Vec<Atom<usize>>, AllocE
 pub fn nexts_of(
     alloc: Global,
     layout: Layout,
-    wiring: &Wiring,
+    wiring: &Netlist,
 ) -> Result<Vec<Atom<usize>>, AllocError>
     requires layout { IsLayout (netlist_of wiring.now) layout }
     requires rules { KeepsRules (netlist_of wiring.now) }
@@ -51,7 +51,7 @@ pub fn nexts_of(
 }
 
 // The put of an array, where this update is one.
-fn note_put(puts: &mut [WordPut], layout: Layout, wiring: &Wiring, number: usize)
+fn note_put(puts: &mut [WordPut], layout: Layout, wiring: &Netlist, number: usize)
     requires layout { IsLayout (netlist_of wiring.now) layout }
     requires rules { KeepsRules (netlist_of wiring.now) }
     requires within { number < length wiring.now.updates.items }
@@ -68,7 +68,7 @@ fn note_put(puts: &mut [WordPut], layout: Layout, wiring: &Wiring, number: usize
     }
 }
 
-fn bare_puts(alloc: Global, wiring: &Wiring) -> Result<Vec<WordPut>, AllocError>
+fn bare_puts(alloc: Global, wiring: &Netlist) -> Result<Vec<WordPut>, AllocError>
     requires rules { KeepsRules (netlist_of wiring.now) }
     ensures { IfOk result (λ v. ArePuts (netlist_of wiring.now) 0 v.items) }
 {
@@ -79,7 +79,7 @@ fn bare_puts(alloc: Global, wiring: &Wiring) -> Result<Vec<WordPut>, AllocError>
 }
 
 // The put of each array.
-pub fn puts_of(alloc: Global, layout: Layout, wiring: &Wiring) -> Result<Vec<WordPut>, AllocError>
+pub fn puts_of(alloc: Global, layout: Layout, wiring: &Netlist) -> Result<Vec<WordPut>, AllocError>
     requires layout { IsLayout (netlist_of wiring.now) layout }
     requires rules { KeepsRules (netlist_of wiring.now) }
     ensures { IfOk result (λ v. ArePuts (netlist_of wiring.now) (length wiring.now.updates.items) v.items) }

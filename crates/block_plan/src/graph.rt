@@ -1,6 +1,6 @@
 // What each assign and each update needs. The nodes are the assigns, and then the updates.
 
-use netlist::Wiring;
+use netlist::Netlist;
 use std::alloc::{AllocError, Global};
 use wiring::{Assign, Atom, Net, Right, Update};
 
@@ -42,7 +42,7 @@ fn node_at(nodes: &[Option<usize>], place: usize) -> Option<usize> {
 }
 
 // The place of a net among outputs, wires and registers.
-fn place_of(wiring: &Wiring, net: Net) -> Option<usize> {
+fn place_of(wiring: &Netlist, net: Net) -> Option<usize> {
     let wires = wiring.outputs.len();
     let regs = wires.saturating_add(wiring.wires.len());
     match net {
@@ -53,7 +53,7 @@ fn place_of(wiring: &Wiring, net: Net) -> Option<usize> {
     }
 }
 
-fn note_assigns(wiring: &Wiring, drivers: &mut [Option<usize>]) {
+fn note_assigns(wiring: &Netlist, drivers: &mut [Option<usize>]) {
     for number in 0..wiring.assigns.len() {
         let target = wiring.assigns[number].target;
         if let Some(place) = place_of(wiring, target) {
@@ -62,7 +62,7 @@ fn note_assigns(wiring: &Wiring, drivers: &mut [Option<usize>]) {
     }
 }
 
-fn note_updates(wiring: &Wiring, drivers: &mut [Option<usize>]) {
+fn note_updates(wiring: &Netlist, drivers: &mut [Option<usize>]) {
     let first = wiring.assigns.len();
     for number in 0..wiring.updates.len() {
         if let Update::Set(reg, _) = wiring.updates[number] {
@@ -74,7 +74,7 @@ fn note_updates(wiring: &Wiring, drivers: &mut [Option<usize>]) {
 }
 
 // The node that drives each net.
-fn drivers_of(alloc: Global, wiring: &Wiring) -> Result<Vec<Option<usize>>, AllocError> {
+fn drivers_of(alloc: Global, wiring: &Netlist) -> Result<Vec<Option<usize>>, AllocError> {
     let wires = wiring.outputs.len().saturating_add(wiring.wires.len());
     let mut drivers = vec![in alloc; None; wires.saturating_add(wiring.regs.len())]?;
     note_assigns(wiring, &mut drivers);
@@ -82,14 +82,14 @@ fn drivers_of(alloc: Global, wiring: &Wiring) -> Result<Vec<Option<usize>>, Allo
     Ok(drivers)
 }
 
-fn driver_of_net(wiring: &Wiring, drivers: &[Option<usize>], net: Net) -> Option<usize> {
+fn driver_of_net(wiring: &Netlist, drivers: &[Option<usize>], net: Net) -> Option<usize> {
     match place_of(wiring, net) {
         Some(place) => node_at(drivers, place),
         None => None,
     }
 }
 
-fn driver_of(wiring: &Wiring, drivers: &[Option<usize>], a: &Atom<Net>) -> Option<usize> {
+fn driver_of(wiring: &Netlist, drivers: &[Option<usize>], a: &Atom<Net>) -> Option<usize> {
     match a {
         Atom::Net(net) => driver_of_net(wiring, drivers, *net),
         Atom::Constant(_) => None,
@@ -97,7 +97,7 @@ fn driver_of(wiring: &Wiring, drivers: &[Option<usize>], a: &Atom<Net>) -> Optio
 }
 
 // The number of words of an array.
-fn depth_of(wiring: &Wiring, array: usize) -> usize {
+fn depth_of(wiring: &Netlist, array: usize) -> usize {
     match wiring.arrays.get(array) {
         Some(shape) => shape.depth.words() as usize,
         None => 0,
@@ -116,7 +116,7 @@ pub(crate) enum Access {
 }
 
 // How many assigns read each array.
-fn count_reads(wiring: &Wiring, counts: &mut [usize]) {
+fn count_reads(wiring: &Netlist, counts: &mut [usize]) {
     for number in 0..wiring.assigns.len() {
         if let Right::Word(array, _) = wiring.assigns[number].right {
             let count = number_at(counts, array);
@@ -126,7 +126,7 @@ fn count_reads(wiring: &Wiring, counts: &mut [usize]) {
 }
 
 // The update that puts into each array, counted from 1, and how many there are.
-fn note_puts(wiring: &Wiring, puts: &mut [usize], counts: &mut [usize]) {
+fn note_puts(wiring: &Netlist, puts: &mut [usize], counts: &mut [usize]) {
     for number in 0..wiring.updates.len() {
         if let Update::Put(array, _, _) = wiring.updates[number] {
             let count = number_at(counts, array);
@@ -146,7 +146,7 @@ fn are_one(counts: &[usize]) -> bool {
 }
 
 // Whether each array is read by one assign and put once.
-pub(crate) fn arrays_are_single(alloc: Global, wiring: &Wiring) -> Result<bool, AllocError> {
+pub(crate) fn arrays_are_single(alloc: Global, wiring: &Netlist) -> Result<bool, AllocError> {
     let arrays = wiring.arrays.len();
     let mut reads = vec![in alloc; 0usize; arrays]?;
     count_reads(wiring, &mut reads);
@@ -158,7 +158,7 @@ pub(crate) fn arrays_are_single(alloc: Global, wiring: &Wiring) -> Result<bool, 
 
 // The right side of the assign that drives an atom.
 fn right_of<'a>(
-    wiring: &'a Wiring,
+    wiring: &'a Netlist,
     drivers: &[Option<usize>],
     a: &Atom<Net>,
 ) -> Option<&'a Right<Net, usize>> {
@@ -188,7 +188,7 @@ fn are_one_net(a: &Atom<Net>, b: &Atom<Net>) -> bool {
 
 // What is put by a choice at an index, or else this net there.
 fn held_needs(
-    wiring: &Wiring,
+    wiring: &Netlist,
     drivers: &[Option<usize>],
     value: &Atom<Net>,
     target: Net,
@@ -206,7 +206,7 @@ fn held_needs(
 
 // What the read of an array with few words needs beside its index: what is put, or what it is chosen from.
 fn small_needs(
-    wiring: &Wiring,
+    wiring: &Netlist,
     drivers: &[Option<usize>],
     update: &Update,
     target: Net,
@@ -227,7 +227,7 @@ fn small_needs(
 
 // What the read of an array needs: where a block comes back to its words also what is put.
 fn word_needs(
-    wiring: &Wiring,
+    wiring: &Netlist,
     drivers: &[Option<usize>],
     puts: &[usize],
     size: usize,
@@ -246,7 +246,7 @@ fn word_needs(
 }
 
 // What an assign that reads no array needs.
-fn right_needs(wiring: &Wiring, drivers: &[Option<usize>], right: &Right<Net, usize>) -> Needs {
+fn right_needs(wiring: &Netlist, drivers: &[Option<usize>], right: &Right<Net, usize>) -> Needs {
     let mut needs = NONE;
     match right {
         Right::Copy(a) | Right::Not(a) | Right::Repeat(_, a) | Right::Word(_, a) => {
@@ -268,7 +268,7 @@ fn right_needs(wiring: &Wiring, drivers: &[Option<usize>], right: &Right<Net, us
     needs
 }
 
-fn update_needs(wiring: &Wiring, drivers: &[Option<usize>], update: &Update) -> Needs {
+fn update_needs(wiring: &Netlist, drivers: &[Option<usize>], update: &Update) -> Needs {
     let mut needs = NONE;
     if let Update::Set(_, value) = update {
         needs.first = driver_of(wiring, drivers, value);
@@ -285,7 +285,7 @@ pub(crate) struct Graph {
 
 fn add_assign(
     graph: &mut Graph,
-    wiring: &Wiring,
+    wiring: &Netlist,
     drivers: &[Option<usize>],
     puts: &[usize],
     size: usize,
@@ -304,7 +304,7 @@ fn add_assign(
 }
 
 // The graph of a module, for blocks of this many clocks.
-pub(crate) fn graph_of(alloc: Global, wiring: &Wiring, size: usize) -> Result<Graph, AllocError> {
+pub(crate) fn graph_of(alloc: Global, wiring: &Netlist, size: usize) -> Result<Graph, AllocError> {
     let drivers = drivers_of(alloc, wiring)?;
     let mut counts = vec![in alloc; 0usize; wiring.arrays.len()]?;
     let mut puts = vec![in alloc; 0usize; wiring.arrays.len()]?;

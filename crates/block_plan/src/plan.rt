@@ -6,7 +6,7 @@ use crate::graph::{Access, Graph, Needs, arrays_are_single, graph_of};
 use crate::groups::{Groups, groups_of};
 use crate::search::components_of;
 use dk_base::OutOfMemory;
-use netlist::{Module, Wiring};
+use netlist::{Module, Netlist};
 use std::alloc::{AllocError, Global};
 use wiring::Update;
 
@@ -99,7 +99,7 @@ fn add_assign(draft: &mut Draft, graph: &Graph, assign: usize) -> Result<(), All
     }
 }
 
-fn sets_register(wiring: &Wiring, update: usize) -> bool {
+fn sets_register(wiring: &Netlist, update: usize) -> bool {
     match wiring.updates.get(update) {
         Some(Update::Set(_, _)) => true,
         _ => false,
@@ -109,7 +109,7 @@ fn sets_register(wiring: &Wiring, update: usize) -> bool {
 // The one node of a group, on no cycle.
 fn add_single(
     draft: &mut Draft,
-    wiring: &Wiring,
+    wiring: &Netlist,
     graph: &Graph,
     node: usize,
 ) -> Result<(), AllocError> {
@@ -127,7 +127,7 @@ fn add_single(
 // The nodes of a group on a cycle; false where one of them reads an array.
 fn add_cycle(
     draft: &mut Draft,
-    wiring: &Wiring,
+    wiring: &Netlist,
     graph: &Graph,
     nodes: &[usize],
 ) -> Result<bool, AllocError> {
@@ -152,7 +152,7 @@ fn add_cycle(
 
 fn add_group(
     draft: &mut Draft,
-    wiring: &Wiring,
+    wiring: &Netlist,
     graph: &Graph,
     nodes: &[usize],
 ) -> Result<bool, AllocError> {
@@ -180,7 +180,7 @@ fn needs_itself(needs: &[Needs], node: usize) -> bool {
 // All groups; None where one of them has no step.
 fn add_groups(
     alloc: Global,
-    wiring: &Wiring,
+    wiring: &Netlist,
     graph: &Graph,
     groups: &Groups,
 ) -> Result<Option<Plan>, AllocError> {

@@ -15,7 +15,7 @@ use crate::blocks::Stop;
 use crate::each::step_each;
 use crate::inputs::Piece;
 use cycle_sim::{IndexRange, Out, Sim};
-use netlist::{Shape, Width, Wiring};
+use netlist::{Netlist, Shape, Width};
 use std::alloc::{AllocError, Global};
 
 // What registers and arrays hold.
@@ -45,7 +45,7 @@ fn zero_arrays(alloc: Global, shapes: &[Shape]) -> Result<Vec<Vec<u64>>, AllocEr
 
 // Zeros in all registers and arrays of a netlist.
 #[tactic(auto, using(crate::proofs::Fitting::zeros_fit))]
-pub fn zeros(alloc: Global, wiring: &Wiring) -> Result<Held, AllocError>
+pub fn zeros(alloc: Global, wiring: &Netlist) -> Result<Held, AllocError>
     ensures { IfOk result (λ h. FitsContents (netlist_of wiring.now) (contents_in h)) }
 {
     let regs = zero_slots(alloc, &wiring.regs)?;

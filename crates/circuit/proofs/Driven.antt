@@ -23,8 +23,8 @@ use Rattle.wiring.specs.Runs.{Runs, RunStops}
 use Rattle.wiring.proofs.Lists.{All-at}
 use Rattle.net_build.specs.Runs.{IsWhole, FitsPorts, IsClockOf, RunsOn}
 use Rattle.net_build.proofs.Runs.{run_clock}
-use Rattle.pointwise_ir.specs.declared.ir.Input.{Input}
-use Rattle.pointwise_ir.specs.declared.ir.Definition.{Definition}
+use Rattle.pointwise_ir.specs.declared.program.Input.{Input}
+use Rattle.pointwise_ir.specs.declared.program.Definition.{Definition}
 use Rattle.pointwise_ir.specs.Programs.{Program, IsProgram, IsOutput, types_of}
 use Rattle.pointwise_ir.specs.Meaning.{IsRound}
 use Rattle.pointwise_ir.proofs.Pictured.{values_in, mapped_entry}

@@ -15,8 +15,8 @@ use Rattle.net_build.specs.Includes.{Includes}
 use Rattle.net_build.specs.Draft.{IsNet}
 use Rattle.net_build.proofs.Parts.{Includes-refl}
 use Rattle.net_build.proofs.Drafts.{append_behind}
-use Rattle.pointwise_ir.specs.declared.ir.Input.{Input}
-use Rattle.pointwise_ir.specs.declared.ir.Definition.{Definition}
+use Rattle.pointwise_ir.specs.declared.program.Input.{Input}
+use Rattle.pointwise_ir.specs.declared.program.Definition.{Definition}
 use Rattle.pointwise_ir.specs.Trees.{Tree, tree_of, constant, read, shifted, unary, binary, select, convert, scale}
 use Rattle.pointwise_ir.specs.Typing.{HasType}
 use Rattle.pointwise_ir.specs.Programs.{Program, IsProgram, IsBody, types_of, all_types}

@@ -20,7 +20,7 @@ use buffer_plan::Plan;
 use dk_base::OutOfMemory;
 use net_build::Builder;
 use netlist::Module;
-use pointwise_ir::Ir;
+use pointwise_ir::Program;
 use std::alloc::Global;
 use wiring::Net;
 
@@ -47,7 +47,7 @@ fn closed(alloc: Global, mut b: Builder, plan: &Plan, nets: &[Net]) -> Result<Mo
 pub fn finished<F: BufferForm>(
     alloc: Global,
     b: Builder,
-    ir: &Ir,
+    ir: &Program,
     plan: &Plan,
     form: &F,
     nets: Vec<Net>,

@@ -22,7 +22,7 @@ use crate::taps::Taps;
 use buffer_plan::Plan;
 use dk_base::OutOfMemory;
 use net_build::Builder;
-use pointwise_ir::Ir;
+use pointwise_ir::Program;
 use std::alloc::Global;
 use wiring::Net;
 
@@ -30,7 +30,7 @@ use wiring::Net;
 fn add_image<F: BufferForm>(
     alloc: Global,
     b: &mut Builder,
-    ir: &Ir,
+    ir: &Program,
     plan: &Plan,
     form: &F,
     k: usize,
@@ -63,7 +63,7 @@ fn add_image<F: BufferForm>(
 fn add_images<F: BufferForm>(
     alloc: Global,
     b: &mut Builder,
-    ir: &Ir,
+    ir: &Program,
     plan: &Plan,
     form: &F,
     nets: &mut Vec<Net>,
@@ -83,7 +83,7 @@ fn add_images<F: BufferForm>(
 /// The module of a program: its ports, for each kept image its net and after it its buffer, and its outputs. The plan is of the program's stencils, with the age that is asked.
 pub fn build_with<F: BufferForm>(
     alloc: Global,
-    ir: &Ir,
+    ir: &Program,
     plan: &Plan,
     form: &F,
     options: Options,
@@ -112,7 +112,7 @@ pub fn build_with<F: BufferForm>(
 /// The module of a program at age 0, without the port `en`: `build_with` without options.
 pub fn build<F: BufferForm>(
     alloc: Global,
-    ir: &Ir,
+    ir: &Program,
     plan: &Plan,
     form: &F,
 ) -> Result<Built, OutOfMemory>

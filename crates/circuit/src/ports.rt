@@ -10,11 +10,11 @@ ghost use Rattle.circuit.specs.Images.{ports_of};
 
 use dk_base::OutOfMemory;
 use net_build::Builder;
-use pointwise_ir::Ir;
+use pointwise_ir::Program;
 use std::alloc::Global;
 
 // The width of each input.
-fn din_bits(alloc: Global, ir: &Ir) -> Result<Vec<u8>, OutOfMemory>
+fn din_bits(alloc: Global, ir: &Program) -> Result<Vec<u8>, OutOfMemory>
     ensures { IfOk result (λ bits. bits.items ≡ map (λ i. width_of i.ty) ir.now.inputs) }
 {
     let mut bits = Vec::new(alloc);
@@ -26,7 +26,7 @@ fn din_bits(alloc: Global, ir: &Ir) -> Result<Vec<u8>, OutOfMemory>
 
 // The width of each output.
 #[tactic(auto, using(crate::proofs::Typing::type_is))]
-fn dout_bits(alloc: Global, ir: &Ir) -> Result<Vec<u8>, OutOfMemory>
+fn dout_bits(alloc: Global, ir: &Program) -> Result<Vec<u8>, OutOfMemory>
     ensures { IfOk result (λ bits. bits.items ≡ map (λ g. width_of (type_at ir.now g)) ir.now.outputs) }
 {
     ir.law();
@@ -38,7 +38,7 @@ fn dout_bits(alloc: Global, ir: &Ir) -> Result<Vec<u8>, OutOfMemory>
 }
 
 // A builder with the ports of a program, and nothing else.
-pub fn begun(alloc: Global, ir: &Ir, enable: bool) -> Result<Builder, OutOfMemory>
+pub fn begun(alloc: Global, ir: &Program, enable: bool) -> Result<Builder, OutOfMemory>
     ensures ports { IfOk result (λ b. b ≡ ports_of ir.now enable) }
     ensures updated { IfOk result AllUpdated }
     ensures still { IfOk result (λ b. StillBut b []) }

@@ -8,13 +8,13 @@ ghost use Rattle.circuit.specs.Taps.{taps_at, IsTapOf};
 use crate::taps::Taps;
 use buffer_plan::Plan;
 use dk_base::LiveRead;
-use pointwise_ir::Ir;
+use pointwise_ir::Program;
 use wiring::Net;
 
 // An image that reads others, by its number, and the taps of the kept images before it, in order.
 #[derive(Clone, Copy)]
 pub struct Reader<'a> {
-    pub ir: &'a Ir,
+    pub ir: &'a Program,
     pub plan: &'a Plan,
     pub taps: &'a [Taps],
     pub image: u32,

@@ -2,7 +2,7 @@
 ghost use Rattle.std.specs.Prelude.{◌≡◌, ℕ, ◌+◌, ◌<◌, ◌≤◌, ◌^◌, ◌++◌, [], ◌∷◌, length, map, All, IfOk, OnOk, vec_len};
 ghost use Rattle.cycle_sim.specs.declared.settle.Instruction.{Instruction};
 ghost use Rattle.wiring.specs.Rights.{atom_nets, nets_of};
-ghost use Rattle.wiring.specs.Netlist.{Netlist, netlist_of, IsDeclared};
+ghost use Rattle.wiring.specs.Netlist.{Netlist as TheNetlist, netlist_of, IsDeclared};
 ghost use Rattle.wiring.specs.Snapshot.{accesses, accesses_of, update_accesses};
 ghost use Rattle.cycle_sim.specs.Slots.{slot, rename, rename_atom, all_widths};
 ghost use Rattle.cycle_sim.specs.Simulated.{IsLayout, IsProgram};
@@ -13,7 +13,7 @@ ghost use Rattle.cycle_sim.specs.Edge.{edge, access, assign_accesses_of};
 use crate::edge::{Access, Edge};
 use crate::machine::Program;
 use crate::settle::Instruction;
-use netlist::{Assign, Atom, Net, Right, Update, Width, Wiring};
+use netlist::{Assign, Atom, Net, Netlist, Right, Update, Width};
 use std::alloc::{AllocError, Global};
 
 /// Where the nets of each sort begin.
@@ -27,7 +27,7 @@ pub struct Layout {
 
 /// The slot of a net: inputs before outputs before wires before registers, each in the module's order.
 pub fn slot_of(layout: Layout, net: Net) -> usize
-    ensures { (m : Netlist) → IsLayout m layout → IsDeclared m net → result ≡ slot m net }
+    ensures { (m : TheNetlist) → IsLayout m layout → IsDeclared m net → result ≡ slot m net }
 {
     match net {
         Net::Input(i) => i,
@@ -39,7 +39,7 @@ pub fn slot_of(layout: Layout, net: Net) -> usize
 
 /// An atom over slots.
 pub fn atom_of(layout: Layout, a: Atom<Net>) -> Atom<usize>
-    ensures { (m : Netlist) → IsLayout m layout → All (IsDeclared m) (atom_nets a) → result ≡ rename_atom (slot m) a }
+    ensures { (m : TheNetlist) → IsLayout m layout → All (IsDeclared m) (atom_nets a) → result ≡ rename_atom (slot m) a }
 {
     match a {
         Atom::Net(n) => Atom::Net(slot_of(layout, n)),
@@ -49,7 +49,7 @@ pub fn atom_of(layout: Layout, a: Atom<Net>) -> Atom<usize>
 
 /// A right side over slots.
 pub fn right_of(layout: Layout, r: Right<Net, usize>) -> Right<usize, usize>
-    ensures { (m : Netlist) → IsLayout m layout → All (IsDeclared m) (nets_of r) → result ≡ rename (slot m) r }
+    ensures { (m : TheNetlist) → IsLayout m layout → All (IsDeclared m) (nets_of r) → result ≡ rename (slot m) r }
 {
     match r {
         Right::Copy(a) => Right::Copy(atom_of(layout, a)),
@@ -67,7 +67,7 @@ pub fn right_of(layout: Layout, r: Right<Net, usize>) -> Right<usize, usize>
 }
 
 pub fn instruction_of(layout: Layout, a: &Assign) -> Instruction
-    ensures { (m : Netlist) → IsLayout m layout → IsDeclared m a.now.target → All (IsDeclared m) (nets_of a.now.right) → result ≡ instruction m a.now }
+    ensures { (m : TheNetlist) → IsLayout m layout → IsDeclared m a.now.target → All (IsDeclared m) (nets_of a.now.right) → result ≡ instruction m a.now }
 {
     let target = slot_of(layout, a.target);
     let right = right_of(layout, a.right);
@@ -75,7 +75,7 @@ pub fn instruction_of(layout: Layout, a: &Assign) -> Instruction
 }
 
 pub fn edge_of(layout: Layout, u: &Update) -> Edge
-    ensures { (m : Netlist) → IsLayout m layout → UpdateIsSound m u.now → result ≡ edge m u.now }
+    ensures { (m : TheNetlist) → IsLayout m layout → UpdateIsSound m u.now → result ≡ edge m u.now }
 {
     match u {
         Update::Set(r, a) => Edge::Set(*r, atom_of(layout, *a)),
@@ -84,7 +84,7 @@ pub fn edge_of(layout: Layout, u: &Update) -> Edge
 }
 
 // The instruction of the assign of this number.
-fn instruction_at(layout: Layout, wiring: &Wiring, number: usize) -> Instruction
+fn instruction_at(layout: Layout, wiring: &Netlist, number: usize) -> Instruction
     requires layout { IsLayout (netlist_of wiring.now) layout }
     requires rules { KeepsRules (netlist_of wiring.now) }
     requires within { number < length wiring.now.assigns.items }
@@ -109,7 +109,7 @@ fn add_instruction(
 fn note_instruction(
     code: &mut Vec<Instruction>,
     layout: Layout,
-    wiring: &Wiring,
+    wiring: &Netlist,
     number: usize,
 ) -> Result<(), AllocError>
     requires layout { IsLayout (netlist_of wiring.now) layout }
@@ -124,7 +124,7 @@ fn note_instruction(
 fn note_code(
     code: &mut Vec<Instruction>,
     layout: Layout,
-    wiring: &Wiring,
+    wiring: &Netlist,
     order: &[usize],
 ) -> Result<(), AllocError>
     requires layout { IsLayout (netlist_of wiring.now) layout }
@@ -143,7 +143,7 @@ fn note_code(
 pub fn code_of(
     alloc: Global,
     layout: Layout,
-    wiring: &Wiring,
+    wiring: &Netlist,
     order: &[usize],
 ) -> Result<Vec<Instruction>, AllocError>
     requires layout { IsLayout (netlist_of wiring.now) layout }
@@ -157,7 +157,7 @@ pub fn code_of(
 }
 
 fn note_assign(accesses: &mut Vec<Access>, layout: Layout, a: &Assign) -> Result<(), AllocError>
-    ensures { OnOk result ((m : Netlist) → IsLayout m layout → All (IsDeclared m) (nets_of a.now.right)
+    ensures { OnOk result ((m : TheNetlist) → IsLayout m layout → All (IsDeclared m) (nets_of a.now.right)
         → accesses.new.items ≡ accesses.old.items ++ map (access m) (assign_accesses_of a.now)) }
 {
     match a.right {
@@ -171,7 +171,7 @@ fn note_assign(accesses: &mut Vec<Access>, layout: Layout, a: &Assign) -> Result
 }
 
 fn note_update(accesses: &mut Vec<Access>, layout: Layout, u: &Update) -> Result<(), AllocError>
-    ensures { OnOk result ((m : Netlist) → IsLayout m layout → UpdateIsSound m u.now
+    ensures { OnOk result ((m : TheNetlist) → IsLayout m layout → UpdateIsSound m u.now
         → accesses.new.items ≡ accesses.old.items ++ map (access m) (update_accesses u.now)) }
 {
     match *u {
@@ -188,7 +188,7 @@ fn note_update(accesses: &mut Vec<Access>, layout: Layout, u: &Update) -> Result
 fn assign_accesses(
     alloc: Global,
     layout: Layout,
-    wiring: &Wiring,
+    wiring: &Netlist,
 ) -> Result<Vec<Access>, AllocError>
     requires layout { IsLayout (netlist_of wiring.now) layout }
     requires rules { KeepsRules (netlist_of wiring.now) }
@@ -205,7 +205,7 @@ fn assign_accesses(
 pub fn accesses_of_wiring(
     alloc: Global,
     layout: Layout,
-    wiring: &Wiring,
+    wiring: &Netlist,
 ) -> Result<Vec<Access>, AllocError>
     requires layout { IsLayout (netlist_of wiring.now) layout }
     requires rules { KeepsRules (netlist_of wiring.now) }
@@ -222,7 +222,7 @@ pub fn accesses_of_wiring(
 pub fn edges_of_wiring(
     alloc: Global,
     layout: Layout,
-    wiring: &Wiring,
+    wiring: &Netlist,
 ) -> Result<Vec<Edge>, AllocError>
     requires layout { IsLayout (netlist_of wiring.now) layout }
     requires rules { KeepsRules (netlist_of wiring.now) }
@@ -236,7 +236,7 @@ pub fn edges_of_wiring(
 }
 
 /// The widths of all slots.
-pub fn widths_of_wiring(alloc: Global, wiring: &Wiring) -> Result<Vec<Width>, AllocError>
+pub fn widths_of_wiring(alloc: Global, wiring: &Netlist) -> Result<Vec<Width>, AllocError>
     ensures { IfOk result (λ v. v.items ≡ all_widths (netlist_of wiring.now)) }
 {
     let mut widths = Vec::from_slice(alloc, &wiring.inputs)?;
@@ -247,7 +247,7 @@ pub fn widths_of_wiring(alloc: Global, wiring: &Wiring) -> Result<Vec<Width>, Al
 }
 
 /// Where the nets of each sort begin.
-pub fn layout_of(wiring: &Wiring) -> Layout
+pub fn layout_of(wiring: &Netlist) -> Layout
     ensures { length (all_widths (netlist_of wiring.now)) < 2 ^ 64 → IsLayout (netlist_of wiring.now) result }
 {
     let first_output = wiring.inputs.len();
@@ -263,7 +263,7 @@ pub fn layout_of(wiring: &Wiring) -> Layout
 }
 
 // The program of a netlist.
-pub fn program_of(alloc: Global, wiring: &Wiring, order: &[usize]) -> Result<Program, AllocError>
+pub fn program_of(alloc: Global, wiring: &Netlist, order: &[usize]) -> Result<Program, AllocError>
     requires rules { KeepsRules (netlist_of wiring.now) }
     requires within { All (λ k. k < length wiring.now.assigns.items) order.now }
     ensures { IfOk result (IsProgram (netlist_of wiring.now) order.now) }

@@ -11,14 +11,14 @@ use crate::edge::IndexRange;
 use crate::fill::{Fill, filled_arrays, filled_slots};
 use crate::machine::{Program, edge_vec, exchange_arrays, exchange_vec, settle_vec};
 use crate::ports::{all_fit, dins_in, output_count};
-use netlist::{Module, Wiring};
+use netlist::{Module, Netlist};
 use std::alloc::{AllocError, Global};
 use std::marker::Model;
 
 // A netlist with the values of its nets, and what its registers and arrays hold.
 #[derive(Debug, Drop)]
 pub struct Circuit {
-    wiring: Wiring,
+    wiring: Netlist,
     order: Vec<usize>,
     program: Program,
     values: Vec<u64>,
@@ -39,10 +39,10 @@ impl Model for Circuit {
 }
 
 // A copy of a netlist.
-fn copy_of(alloc: Global, wiring: &Wiring) -> Result<Wiring, AllocError>
+fn copy_of(alloc: Global, wiring: &Netlist) -> Result<Netlist, AllocError>
     ensures { IfOk result (λ w. netlist_of w ≡ netlist_of wiring.now) }
 {
-    Ok(Wiring {
+    Ok(Netlist {
         enable: wiring.enable,
         inputs: Vec::from_slice(alloc, &wiring.inputs)?,
         outputs: Vec::from_slice(alloc, &wiring.outputs)?,

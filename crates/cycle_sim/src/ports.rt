@@ -6,7 +6,7 @@ ghost use Rattle.wiring.specs.Rules.{KeepsRules, IsPortCount, IsPortWidth};
 ghost use Rattle.wiring.specs.Snapshot.{Fit};
 ghost use Rattle.cycle_sim.specs.Ports.{din_widths, out_of};
 
-use netlist::{Module, Width, Wiring};
+use netlist::{Module, Netlist, Width};
 use wiring::limit;
 
 /// What the two ports of an output show.
@@ -62,7 +62,7 @@ fn first_din(has_enable: bool) -> usize
 }
 
 // The widths of the din ports.
-pub fn dins_in(wiring: &Wiring) -> &[Width]
+pub fn dins_in(wiring: &Netlist) -> &[Width]
     requires { KeepsRules (netlist_of wiring.now) }
     ensures { result.now ≡ din_widths (netlist_of wiring.now) }
 {
@@ -80,7 +80,7 @@ pub fn dins_of(module: &Module) -> &[Width]
 }
 
 // The number of outputs.
-pub fn output_count(wiring: &Wiring) -> usize
+pub fn output_count(wiring: &Netlist) -> usize
     requires { KeepsRules (netlist_of wiring.now) }
     ensures { length (netlist_of wiring.now).outputs ≡ 2 * result }
 {

@@ -8,7 +8,7 @@ use Rattle.dk_base.specs.Frames.{Size}
 use Rattle.dk_base.specs.Stencils.{Stencils}
 use Rattle.dk_types.specs.declared.typed.TypedInput.{TypedInput}
 use Rattle.dk_types.specs.Typed.{Typing}
-use Rattle.pointwise_ir.specs.declared.ir.Input.{Input}
+use Rattle.pointwise_ir.specs.declared.program.Input.{Input}
 use Rattle.pointwise_ir.specs.Programs.{Program}
 use Rattle.pointwise_ir.specs.Stencils.{IsKeptRead, AreReads, AreImages, AreStencilsOf}
 use Rattle.dk_compile.specs.Sources.{IsText}

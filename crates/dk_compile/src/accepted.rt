@@ -1,11 +1,11 @@
 // Programs within the limits.
 
 use dk_base::Stencils;
-use pointwise_ir::Ir;
+use pointwise_ir::Program;
 
 /// A program that is within the limits: its images without inline ones and with folded constants, and its live reads.
 #[derive(Drop)]
 pub struct Front {
-    pub ir: Ir,
+    pub ir: Program,
     pub stencils: Stencils,
 }

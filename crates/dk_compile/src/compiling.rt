@@ -19,7 +19,7 @@ use circuit::{Built, Chain, Options, build_with, frame_drive_law};
 use dk_base::{OutOfMemory, Stencils};
 use flow_dual::{Solution, solve};
 use netlist::Module;
-use pointwise_ir::Ir;
+use pointwise_ir::Program;
 use raster_delay::System;
 use std::alloc::Global;
 use verilog_print::print;
@@ -28,7 +28,7 @@ use wiring::Net;
 /// A program with its plan: its images without inline ones, the system of its live reads, the solution that shows the bits least, and the plan of the least vector.
 #[derive(Drop)]
 pub struct PlannedProgram {
-    pub ir: Ir,
+    pub ir: Program,
     pub system: System,
     pub solution: Solution,
     pub plan: Plan,
@@ -37,7 +37,7 @@ pub struct PlannedProgram {
 /// A program that is compiled: its plan with what that rests on, its module with the net of each kept image in order, and the Verilog text of the module.
 #[derive(Drop)]
 pub struct Compiled {
-    pub ir: Ir,
+    pub ir: Program,
     pub system: System,
     pub solution: Solution,
     pub plan: Plan,
@@ -105,7 +105,7 @@ pub fn planned(alloc: Global, text: &[u8], age: u8) -> Result<PlannedProgram, So
 // The module of a plan, and its text.
 fn printed(
     alloc: Global,
-    ir: &Ir,
+    ir: &Program,
     plan: &Plan,
     options: Options,
 ) -> Result<PrintedModule, OutOfMemory>

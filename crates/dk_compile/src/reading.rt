@@ -14,15 +14,15 @@ use crate::fault::SourceError;
 use dk_base::{MAX_SOURCE_BYTES, OutOfMemory};
 use dk_inline::{Fold, inline};
 use dk_lexer::lex;
-use dk_parser::{Program, parse};
+use dk_parser::{Program as SyntaxTree, parse};
 use dk_types::{TypedProgram, check};
-use pointwise_ir::{Ir, Rewrite, run_passes};
+use pointwise_ir::{Program, Rewrite, run_passes};
 use source_fault::SourceFault;
 use std::alloc::Global;
 use stencil_sets::live_reads;
 
 // The tree of a text.
-fn tree(alloc: Global, text: &[u8]) -> Result<Program, SourceError>
+fn tree(alloc: Global, text: &[u8]) -> Result<SyntaxTree, SourceError>
     ensures tree { IfOk result (λ program. HasTree text.now (source_of program)) }
     ensures types { IfOk result (λ program. AllConvertToTypes (source_of program)) }
     ensures fault { IfErr result (IsErrorBy (IsSourceFault text.now)) }
@@ -48,7 +48,7 @@ pub fn typed(alloc: Global, text: &[u8]) -> Result<TypedProgram, SourceError>
 }
 
 // The program with folded constants.
-fn folded(alloc: Global, ir: Ir) -> Result<Ir, OutOfMemory>
+fn folded(alloc: Global, ir: Program) -> Result<Program, OutOfMemory>
     ensures meaning { IfOk result (λ new. KeepsMeaning ir new) }
     ensures folded { IfOk result (λ new. IsFolded new) }
 {
@@ -59,7 +59,7 @@ fn folded(alloc: Global, ir: Ir) -> Result<Ir, OutOfMemory>
 }
 
 // The form of a text's program, which is within the limits on nodes and depth.
-fn form(alloc: Global, text: &[u8]) -> Result<Ir, SourceError>
+fn form(alloc: Global, text: &[u8]) -> Result<Program, SourceError>
     ensures form { IfOk result (λ ir. (p : Typing) × IsText text.now p × IsWithin p × IsForm p ir × IsFolded ir) }
     ensures fault { IfErr result (IsErrorBy (IsSourceFault text.now)) }
 {

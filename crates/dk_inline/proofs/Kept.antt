@@ -12,7 +12,7 @@ use Rattle.dk_types.specs.Typed.{Typed, Definition, Typing, image_type, input_ty
 use Rattle.dk_types.specs.Kept.{AreOutputsOf, IsTyped}
 use Rattle.dk_types.specs.Reads.{IsDefinitionOf, IsStored, Reads, directly, through, IsLive, IsKept}
 use Rattle.dk_types.specs.Reads as T
-use Rattle.pointwise_ir.specs.declared.ir.Input.{Input}
+use Rattle.pointwise_ir.specs.declared.program.Input.{Input}
 use Rattle.pointwise_ir.specs.Trees.{Tree, constant}
 use Rattle.pointwise_ir.specs.Programs.{Program, bodies_of}
 use Rattle.pointwise_ir.specs.Reads as R

@@ -18,7 +18,7 @@ use Rattle.dk_types.specs.Kept.{IsWell, IsTyped}
 use Rattle.dk_types.specs.Meaning.{read_value, meaning, AreIn, AreTypes}
 use Rattle.dk_types.specs.Meaning as T
 use Rattle.dk_types.proofs.Values.{value_in, meaning_in}
-use Rattle.pointwise_ir.specs.declared.ir.Input.{Input}
+use Rattle.pointwise_ir.specs.declared.program.Input.{Input}
 use Rattle.pointwise_ir.specs.Trees.{Tree}
 use Rattle.pointwise_ir.specs.Programs.{Program, bodies_of, IsProgram}
 use Rattle.dk_base.specs.Frames.{framed, picture_at}

@@ -14,8 +14,8 @@ use Rattle.dk_base.specs.Stencils.{IsDistinct}
 use Rattle.dk_types.specs.Typed.{type_of, Definition, Typing, declared_or, image_type, input_types, types_of}
 use Rattle.dk_types.specs.Kept.{IsTyped, AreWell, ArePorts, AreOutputsOf}
 use Rattle.dk_types.specs.Types as T
-use Rattle.pointwise_ir.specs.declared.ir.Input.{Input}
-use Rattle.pointwise_ir.specs.declared.ir.Definition as D
+use Rattle.pointwise_ir.specs.declared.program.Input.{Input}
+use Rattle.pointwise_ir.specs.declared.program.Definition as D
 use Rattle.pointwise_ir.specs.Trees.{Tree, constant, tree_of, depth_of, AreNear}
 use Rattle.pointwise_ir.specs.Typing.{HasType}
 use Rattle.dk_base.specs.Types.{IsPort}

@@ -5,7 +5,7 @@ use Rattle.dk_types.specs.declared.typed.TypedInput.{TypedInput}
 use Rattle.dk_types.specs.Typed.{Typing, image_type}
 use Rattle.dk_types.specs.Typed as T
 use Rattle.dk_types.specs.Kept.{IsTyped}
-use Rattle.pointwise_ir.specs.declared.ir.Parts.{Parts}
+use Rattle.pointwise_ir.specs.declared.program.Parts.{Parts}
 use Rattle.pointwise_ir.specs.Trees.{tree_of}
 use Rattle.pointwise_ir.specs.Programs.{Program, program_of, IsProgram}
 use Rattle.dk_inline.specs.Inlined.{bodies}

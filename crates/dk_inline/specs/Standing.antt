@@ -3,7 +3,7 @@
 use Rattle.std.specs.Prelude.{◌≡◌, List}
 use Rattle.dk_base.specs.declared.ty.Ty.{Ty}
 use Rattle.dk_base.specs.Frames.{Size}
-use Rattle.pointwise_ir.specs.declared.ir.Definition.{Definition}
+use Rattle.pointwise_ir.specs.declared.program.Definition.{Definition}
 use Rattle.pointwise_ir.specs.Trees.{Tree, constant, read, shifted, unary, binary, select, convert, scale, tree_of, AreNear}
 use Rattle.pointwise_ir.specs.Typing.{HasType}
 use Rattle.pointwise_ir.specs.Rewritings.{IsRewriting}

@@ -7,11 +7,11 @@ ghost use Rattle.pointwise_ir.specs.Passes.{KeepsMeaning};
 ghost use Rattle.pointwise_ir.specs.Rewritings.{IsSameBut};
 ghost use Rattle.dk_inline.specs.Folded.{IsConstant, HasFoldedParts, IsFolded, IsWorth, IsFoldOf, IsFolding};
 ghost use Rattle.dk_inline.specs.Standing.{IsTyped, StandsFor, HasFoldedOperands, AreOperandsFolded, IsFoldedImage};
-ghost use Rattle.pointwise_ir.specs.declared.ir.Definition.{Definition};
+ghost use Rattle.pointwise_ir.specs.declared.program.Definition.{Definition};
 
 use dk_base::{Binary, Conversion, OutOfMemory, Scaling, Ty, Unary, select_type};
 use pointwise_ir::{
-    Definition, Expr, Ir, Parts, Rewrite, binary_value, conversion_value, rewriting_law,
+    Definition, Expr, Parts, Program, Rewrite, binary_value, conversion_value, rewriting_law,
     scaling_value, select_value, unary_value,
 };
 use std::alloc::Global;
@@ -23,7 +23,7 @@ pub struct Fold;
 impl Rewrite for Fold {
     ghost gives = { λ _ p. IsFolded p };
 
-    fn apply(&self, _alloc: Global, ir: Ir) -> Result<Ir, OutOfMemory>
+    fn apply(&self, _alloc: Global, ir: Program) -> Result<Program, OutOfMemory>
         ensures made { IsOk result }
         ensures meaning { IfOk result (λ new. KeepsMeaning ir new) }
         ensures gives { IfOk result (λ new. IsFolded new) }
@@ -33,7 +33,7 @@ impl Rewrite for Fold {
         let mut parts = ir.into_parts();
         fold_parts(&mut parts);
         rewriting_law();
-        Ok(Ir::new(parts))
+        Ok(Program::new(parts))
     }
 }
 

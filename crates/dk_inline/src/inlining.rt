@@ -9,7 +9,7 @@ use crate::extent::{extents, first_deep, node_count};
 use crate::substitution::{images, inputs};
 use dk_base::{MAX_NODES, OutOfMemory, Span};
 use dk_types::TypedProgram;
-use pointwise_ir::{Ir, Parts};
+use pointwise_ir::{Parts, Program};
 use std::alloc::{AllocError, AllocFailed, Global};
 
 /// Why a program is not inlined.
@@ -54,7 +54,7 @@ fn inlined_parts(alloc: Global, program: &TypedProgram) -> Result<Parts, OutOfMe
 }
 
 // The program with its inline images substituted, which is within the limits.
-fn substituted(alloc: Global, program: &TypedProgram) -> Result<Ir, OutOfMemory>
+fn substituted(alloc: Global, program: &TypedProgram) -> Result<Program, OutOfMemory>
     requires some_inputs { 1 ≤ length program.now.inputs }
     requires some_outputs { 1 ≤ length program.now.outputs }
     requires within { IsWithin (typing_of program.now) }
@@ -62,11 +62,11 @@ fn substituted(alloc: Global, program: &TypedProgram) -> Result<Ir, OutOfMemory>
 {
     program.law();
     let parts = inlined_parts(alloc, program)?;
-    Ok(Ir::new(parts))
+    Ok(Program::new(parts))
 }
 
 // The program with its inline images substituted, or the first limit that it passes.
-fn inlined(alloc: Global, program: &TypedProgram) -> Result<Ir, InlineFault>
+fn inlined(alloc: Global, program: &TypedProgram) -> Result<Program, InlineFault>
     requires some_inputs { 1 ≤ length program.now.inputs }
     requires some_outputs { 1 ≤ length program.now.outputs }
     ensures within { IfOk result (λ ir. IsWithin (typing_of program.now)) }
@@ -91,7 +91,7 @@ fn inlined(alloc: Global, program: &TypedProgram) -> Result<Ir, InlineFault>
 ///
 /// The images keep their numbers, names and types. An output that is marked inline stays an image like any other, and reads of it are substituted all the same. Any other inline image is left with the body 0, since nobody reads it any more.
 #[tactic(auto, using(crate::proofs::Whole::keeps_program))]
-pub fn inline(alloc: Global, program: TypedProgram) -> Result<Ir, InlineFault>
+pub fn inline(alloc: Global, program: TypedProgram) -> Result<Program, InlineFault>
     requires some_inputs { 1 ≤ length program.inputs }
     requires some_outputs { 1 ≤ length program.outputs }
     ensures within { IfOk result (λ ir. IsWithin (typing_of program)) }

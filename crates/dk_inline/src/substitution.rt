@@ -103,7 +103,7 @@ fn copied(alloc: Global, name: &Name) -> Result<Text, OutOfMemory>
     Ok(Text::new(Vec::from_slice(alloc, name.text.as_bytes())?))
 }
 
-// The inputs as those of an Ir.
+// The inputs as those of a `Program`.
 pub(crate) fn inputs(alloc: Global, items: &[TypedInput]) -> Result<Vec<Input>, OutOfMemory>
     ensures names { IfOk result (λ v. map (λ i. i.name) v.items ≡ map (λ i. i.name.text) items.now) }
     ensures types { IfOk result (λ v. map (λ i. i.ty) v.items ≡ map (λ i. i.ty) items.now) }

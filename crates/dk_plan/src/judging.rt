@@ -7,7 +7,7 @@ ghost use Rattle.dk_plan.specs.Judged.{IsConfirmed, IsCheckFault};
 
 use dk_base::{OutOfMemory, Stencils};
 use plan_check::{Verdict, judge};
-use pointwise_ir::Ir;
+use pointwise_ir::Program;
 use raster_delay::System;
 use report_text::{ReportFault, read};
 use std::alloc::Global;
@@ -57,7 +57,7 @@ impl From<ReportFault> for CheckFault {
 /// Whether a report, whoever made it, holds of a program with these live reads at the report's own age, and what it then says. The kept images are images of the program. Limits on bits and latency are not judged.
 pub fn judge_report(
     alloc: Global,
-    ir: &Ir,
+    ir: &Program,
     stencils: &Stencils,
     report: &[u8],
 ) -> Result<Claim, CheckFault>

@@ -12,14 +12,14 @@ use buffer_plan::Plan;
 use dk_base::OutOfMemory;
 use flow_dual::Solution;
 use latency_report::{print, printed_meets_law};
-use pointwise_ir::Ir;
+use pointwise_ir::Program;
 use raster_delay::System;
 use std::alloc::Global;
 
 /// The report of a program's plan, in version 2 for one input and one output and in version 3 for any other. The plan has the delays of a solution of the system, and the kept images are images of the program.
 pub fn plan_report(
     alloc: Global,
-    ir: &Ir,
+    ir: &Program,
     system: &System,
     solution: &Solution,
     plan: &Plan,

@@ -19,7 +19,7 @@ use Rattle.wiring.specs.Snapshot.{Snapshot, Fit}
 use Rattle.wiring.specs.Runs.{Runs, RunStops, picture}
 use Rattle.wiring.proofs.Lists.{Contains-at, slice_get-append}
 use Rattle.netlist.specs.Names.{NamedNetlist}
-use Rattle.pointwise_ir.specs.declared.ir.Input.{Input}
+use Rattle.pointwise_ir.specs.declared.program.Input.{Input}
 use Rattle.pointwise_ir.specs.Programs.{Program}
 use Rattle.pointwise_ir.specs.Meaning.{IsRound}
 use Rattle.raster_delay.specs.Systems.{System}

@@ -16,7 +16,7 @@ use Rattle.wiring.specs.declared.netlist.Shape.{Shape}
 use Rattle.wiring.specs.Netlist.{Netlist, net_width, dout_net, first_din}
 use Rattle.wiring.specs.Rules.{with_valids}
 use Rattle.wiring.specs.Snapshot.{Fit, FitsContents}
-use Rattle.pointwise_ir.specs.declared.ir.Input.{Input}
+use Rattle.pointwise_ir.specs.declared.program.Input.{Input}
 use Rattle.pointwise_ir.specs.Programs.{Program}
 use Rattle.buffer_plan.specs.Limits.{greatest_delay}
 use Rattle.buffer_plan.specs.Plans.{Plan, latency, latency_of}

@@ -14,7 +14,7 @@ use Rattle.dk_base.specs.Frames.{Size, area, Picture, in_frame, raster_number, p
 use Rattle.dk_base.proofs.Rasters.{picture_at as pixel_there}
 use Rattle.wiring.specs.Snapshot.{Fit}
 use Rattle.wiring.proofs.Lists.{All-at}
-use Rattle.pointwise_ir.specs.declared.ir.Input.{Input}
+use Rattle.pointwise_ir.specs.declared.program.Input.{Input}
 use Rattle.pointwise_ir.specs.Programs.{Program, bodies_of}
 use Rattle.pointwise_ir.specs.Meaning.{IsPicture, IsRound, pictures}
 use Rattle.pointwise_ir.proofs.Typed.{zero_in}

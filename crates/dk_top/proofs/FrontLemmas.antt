@@ -12,8 +12,8 @@ use Rattle.dk_parser.specs.Judged.{Accepted}
 use Rattle.dk_types.specs.Typed.{Typing}
 use Rattle.dk_types.specs.Types.{IsTyping}
 use Rattle.dk_inline.specs.Answers.{image_names}
-use Rattle.pointwise_ir.specs.declared.ir.Input.{Input}
-use Rattle.pointwise_ir.specs.declared.ir.Definition.{Definition}
+use Rattle.pointwise_ir.specs.declared.program.Input.{Input}
+use Rattle.pointwise_ir.specs.declared.program.Definition.{Definition}
 use Rattle.pointwise_ir.specs.Programs.{Program, names_of, types_of}
 use Rattle.dk_compile.specs.Fronts.{IsFront}
 use Rattle.dk_compile.proofs.Stenciled.{inputs_count}

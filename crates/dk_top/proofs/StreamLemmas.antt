@@ -14,7 +14,7 @@ use Rattle.wiring.specs.Snapshot.{Contents, Snapshot, Fit, FitsContents}
 use Rattle.wiring.specs.Clock.{Clock}
 use Rattle.wiring.specs.Runs.{Runs, picture}
 use Rattle.netlist.specs.Names.{NamedNetlist}
-use Rattle.pointwise_ir.specs.declared.ir.Input.{Input}
+use Rattle.pointwise_ir.specs.declared.program.Input.{Input}
 use Rattle.pointwise_ir.specs.Programs.{Program}
 use Rattle.raster_delay.specs.Systems.{System}
 use Rattle.flow_dual.specs.declared.solution.Solution.{Solution}

@@ -17,7 +17,7 @@ use dk_compile::{SourceError, SourceFault, one_at_age_law, one_source_law, plann
 use dk_desk::{Desk, InSlot, Stage};
 use dk_endings::{Ending, ImageFault};
 use pgm_rounds::{FileError, Round, one_file_law};
-use pointwise_ir::Ir;
+use pointwise_ir::Program;
 use program_images::read_program_rounds;
 use std::alloc::Global;
 
@@ -55,7 +55,7 @@ pub fn ending_of(error: SourceError) -> Ending
 }
 
 // The form of the program that a text is accepted as at age 0.
-fn read_form(alloc: Global, text: &[u8]) -> Result<Ir, Ending>
+fn read_form(alloc: Global, text: &[u8]) -> Result<Program, Ending>
     ensures accepted { IfOk result (λ ir. (p : Typing) × IsAcceptedAt text.now 0 p × IsForm p ir) }
     ensures every { IfOk result (λ ir. (p : Typing) → IsAcceptedAt text.now 0 p → IsForm p ir) }
     ensures fault { IfErr result (IsSourceEnding (IsFaultAt text.now 0)) }
@@ -71,7 +71,7 @@ fn read_form(alloc: Global, text: &[u8]) -> Result<Ir, Ending>
 }
 
 // The rounds of a file, for the programs of this form.
-pub fn read_frames(alloc: Global, ir: &Ir, file: &[u8]) -> Result<Vec<Round>, Ending>
+pub fn read_frames(alloc: Global, ir: &Program, file: &[u8]) -> Result<Vec<Round>, Ending>
     ensures input { IfOk result (λ rounds. (most : Option ℕ) → IfSome most (λ n. length file.now ≤ n) → IsInputOf most ir.now file.now rounds.items) }
     ensures read { IfOk result (λ rounds. AreRead ir.now rounds.items) }
     ensures fault { IfErr result (λ e. (most : Option ℕ) → IfSome most (λ n. length file.now ≤ n)
@@ -94,7 +94,7 @@ pub fn read_frames(alloc: Global, ir: &Ir, file: &[u8]) -> Result<Vec<Round>, En
 #[derive(Drop)]
 struct Source {
     text: Vec<u8>,
-    ir: Ir,
+    ir: Program,
 }
 
 // Reads and judges the program.
@@ -126,7 +126,7 @@ fn read_source<D: Desk>(alloc: Global, desk: &mut D, name: &str) -> Result<Sourc
 pub fn read_images<D: Desk>(
     alloc: Global,
     desk: &mut D,
-    ir: &Ir,
+    ir: &Program,
     name: &str,
     most: Option<usize>,
 ) -> Result<Vec<Round>, Ending>
@@ -154,7 +154,7 @@ pub fn read_images<D: Desk>(
 #[derive(Drop)]
 pub struct Given {
     pub text: Vec<u8>,
-    pub ir: Ir,
+    pub ir: Program,
     pub rounds: Vec<Round>,
 }
 

@@ -9,13 +9,13 @@ ghost use Rattle.latency_report.specs.Printed.{name_of, image_lines, latencies};
 use buffer_plan::Plan;
 use dk_base::{Image, OutOfMemory, Text};
 use flow_dual::Solution;
-use pointwise_ir::Ir;
+use pointwise_ir::Program;
 use raster_delay::System;
 use report_text::ImageLine;
 use std::alloc::Global;
 
 // The name of the image of this number.
-fn name(ir: &Ir, number: usize) -> &Text
+fn name(ir: &Program, number: usize) -> &Text
     requires { number < length (names_of ir.now) }
     ensures { result.now ≡ name_of ir.now number }
 {
@@ -30,7 +30,7 @@ fn name(ir: &Ir, number: usize) -> &Text
 // The line of a kept image.
 fn image_line(
     alloc: Global,
-    ir: &Ir,
+    ir: &Program,
     image: Image,
     delay: u64,
     depth: u64,
@@ -51,7 +51,7 @@ fn image_line(
 // The lines of the kept images in order.
 pub fn image_lines(
     alloc: Global,
-    ir: &Ir,
+    ir: &Program,
     system: &System,
     solution: &Solution,
 ) -> Result<Vec<ImageLine>, OutOfMemory>

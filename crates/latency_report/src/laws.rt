@@ -9,7 +9,7 @@ ghost use Rattle.latency_report.specs.Printed.{report_of};
 
 use buffer_plan::Plan;
 use flow_dual::Solution;
-use pointwise_ir::Ir;
+use pointwise_ir::Program;
 use raster_delay::System;
 
 // The numbers of a slice are below 2^64.
@@ -20,7 +20,7 @@ fn fit(numbers: &[u64])
 }
 
 /// A law: where the images of a program have names of the source language, distinct, and at most 256 of them are no inputs, the report of its plan has the values of a report of its version. So what `print` makes of it denotes this report alone.
-pub fn printed_meets_law(ir: &Ir, plan: &Plan, system: &System, solution: &Solution)
+pub fn printed_meets_law(ir: &Program, plan: &Plan, system: &System, solution: &Solution)
     requires solution { IsSolution system.now solution.now }
     requires plan { plan.now ≡ record { system = system.now; delays = solution.now.delays } }
     requires images { All (λ (i : Image). i.number < length (names_of ir.now)) system.now.stencils.images }

@@ -13,7 +13,7 @@ use crate::images::{image_lines, latencies};
 use buffer_plan::Plan;
 use dk_base::{MAX_BUFFER_BITS, MAX_LATENCY, OutOfMemory};
 use flow_dual::Solution;
-use pointwise_ir::Ir;
+use pointwise_ir::Program;
 use raster_delay::System;
 use report_text::{Limits, Report, write};
 use std::alloc::Global;
@@ -32,7 +32,7 @@ fn version(system: &System) -> u8
 // The report of a program's plan.
 fn report(
     alloc: Global,
-    ir: &Ir,
+    ir: &Program,
     plan: &Plan,
     system: &System,
     solution: &Solution,
@@ -66,7 +66,7 @@ fn report(
 /// The text of the report of a program's plan, in version 2 for one input and one output and in version 3 for any other. The kept images are images of the program.
 pub fn print(
     alloc: Global,
-    ir: &Ir,
+    ir: &Program,
     plan: &Plan,
     system: &System,
     solution: &Solution,

@@ -6,7 +6,7 @@ ghost use Rattle.net_build.specs.Draft.{flat, output_assigns, with_outputs, IsCo
 
 use dk_base::OutOfMemory;
 use std::alloc::Global;
-use wiring::{Assign, Atom, Net, Right, Wiring};
+use wiring::{Assign, Atom, Net, Netlist, Right};
 
 // Each `valid` before its `dout`.
 pub fn sources(alloc: Global, outs: &[(Net, Net)]) -> Result<Vec<Net>, OutOfMemory>
@@ -32,7 +32,7 @@ fn push_outputs(assigns: &mut Vec<Assign>, nets: &[Net]) -> Result<(), OutOfMemo
 }
 
 // Lets the outputs take these nets.
-pub fn drive_outputs(wiring: &mut Wiring, nets: &[Net]) -> Result<(), OutOfMemory>
+pub fn drive_outputs(wiring: &mut Netlist, nets: &[Net]) -> Result<(), OutOfMemory>
     ensures { OnOk result (netlist_of wiring.new ≡ with_outputs (netlist_of wiring.old) nets.now) }
 {
     push_outputs(&mut wiring.assigns, nets)?;

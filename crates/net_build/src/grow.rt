@@ -14,10 +14,10 @@ use dk_base::OutOfMemory;
 use indexmap::IndexSet;
 use std::alloc::AllocError;
 use std::hash::Hash;
-use wiring::{Assign, Atom, Net, Right, Shape, Update, Width, Wiring};
+use wiring::{Assign, Atom, Net, Netlist, Right, Shape, Update, Width};
 
 // Adds the wire of a right side that is not there yet.
-fn push_wire(wiring: &mut Wiring, right: &Right<Net, usize>) -> Result<(), OutOfMemory>
+fn push_wire(wiring: &mut Netlist, right: &Right<Net, usize>) -> Result<(), OutOfMemory>
     requires { IsOperation (netlist_of wiring.old) right.now }
     ensures ok { OnOk result (netlist_of wiring.new ≡ with_wire (netlist_of wiring.old) right.now) }
     ensures err { OnErr result (netlist_of wiring.new ≡ netlist_of wiring.old) }
@@ -61,7 +61,7 @@ fn add_key<T: Copy + Eq + Hash + Drop>(known: &mut IndexSet<T>, key: &T)
 
 // The wire with this right side, added where there is none.
 pub fn wire_of(
-    wiring: &mut Wiring,
+    wiring: &mut Netlist,
     known: &mut IndexSet<Right<Net, usize>>,
     right: &Right<Net, usize>,
 ) -> Result<usize, OutOfMemory>
@@ -98,7 +98,7 @@ fn make_room(updates: &mut Vec<Update>, states: usize) -> Result<(), OutOfMemory
 }
 
 // Adds a register, with room for its update.
-pub fn add_reg(wiring: &mut Wiring, width: Width) -> Result<usize, OutOfMemory>
+pub fn add_reg(wiring: &mut Netlist, width: Width) -> Result<usize, OutOfMemory>
     requires { length wiring.old.regs.items + length wiring.old.arrays.items ≤ vec_capacity wiring.old.updates }
     ensures number { IfOk result (λ k. k ≡ length wiring.old.regs.items) }
     ensures ok { OnOk result (netlist_of wiring.new ≡ with_reg (netlist_of wiring.old) width) }
@@ -112,7 +112,7 @@ pub fn add_reg(wiring: &mut Wiring, width: Width) -> Result<usize, OutOfMemory>
 }
 
 // Adds an array, with room for its update.
-pub fn add_array(wiring: &mut Wiring, shape: Shape) -> Result<usize, OutOfMemory>
+pub fn add_array(wiring: &mut Netlist, shape: Shape) -> Result<usize, OutOfMemory>
     requires { length wiring.old.regs.items + length wiring.old.arrays.items ≤ vec_capacity wiring.old.updates }
     ensures number { IfOk result (λ x. x ≡ length wiring.old.arrays.items) }
     ensures ok { OnOk result (netlist_of wiring.new ≡ with_array (netlist_of wiring.old) shape) }

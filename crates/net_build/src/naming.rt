@@ -9,7 +9,7 @@ use dk_base::OutOfMemory;
 use net_names::Name;
 use netlist::Names;
 use std::alloc::Global;
-use wiring::Wiring;
+use wiring::Netlist;
 
 fn wire_name(alloc: Global, k: usize) -> Result<Name, OutOfMemory>
     ensures { IfOk result (λ name. name ≡ made_name (codes "n") k) }
@@ -69,7 +69,7 @@ fn title(alloc: Global) -> Result<Name, OutOfMemory>
 }
 
 // The name `dk`, `n0` and so on for wires, `r0` for registers, `m0` for arrays.
-pub fn names_of_wiring(alloc: Global, wiring: &Wiring) -> Result<Names, OutOfMemory>
+pub fn names_of_wiring(alloc: Global, wiring: &Netlist) -> Result<Names, OutOfMemory>
     ensures names { IfOk result (λ names. names_of names ≡ names_for (netlist_of wiring.now)) }
     ensures counts { OnOk result (AreCounts (netlist_of wiring.now)) }
 {

@@ -5,7 +5,7 @@ ghost use Rattle.wiring.specs.Netlist.{netlist_of, net_width, word_width};
 ghost use Rattle.wiring.specs.Rights.{atom_width, right_width, operator_width};
 ghost use Rattle.wiring.specs.Sizes.{IsWidth};
 
-use wiring::{Atom, Net, Operator, Right, Width, Wiring};
+use wiring::{Atom, Net, Netlist, Operator, Right, Width};
 
 fn bits_at(widths: &[Width], k: usize) -> u8
     ensures { result ≡ slice_index widths.now k }
@@ -16,7 +16,7 @@ fn bits_at(widths: &[Width], k: usize) -> u8
     }
 }
 
-fn net_bits(wiring: &Wiring, net: Net) -> u8
+fn net_bits(wiring: &Netlist, net: Net) -> u8
     ensures { result ≡ net_width (netlist_of wiring.now) net }
 {
     match net {
@@ -27,7 +27,7 @@ fn net_bits(wiring: &Wiring, net: Net) -> u8
     }
 }
 
-fn atom_bits(wiring: &Wiring, atom: &Atom<Net>) -> u8
+fn atom_bits(wiring: &Netlist, atom: &Atom<Net>) -> u8
     ensures { result ≡ atom_width (net_width (netlist_of wiring.now)) atom.now }
 {
     match atom {
@@ -36,7 +36,7 @@ fn atom_bits(wiring: &Wiring, atom: &Atom<Net>) -> u8
     }
 }
 
-fn word_bits(wiring: &Wiring, array: usize) -> u8
+fn word_bits(wiring: &Netlist, array: usize) -> u8
     ensures { result ≡ word_width (netlist_of wiring.now) array }
 {
     match wiring.arrays.get(array) {
@@ -55,7 +55,7 @@ fn operator_bits(operator: Operator, bits: u8) -> u8
 }
 
 // The width of a right side.
-pub fn right_size(wiring: &Wiring, right: &Right<Net, usize>) -> Width
+pub fn right_size(wiring: &Netlist, right: &Right<Net, usize>) -> Width
     requires { IsWidth (right_width (net_width (netlist_of wiring.now)) (word_width (netlist_of wiring.now)) right.now) }
     ensures { result ≡ right_width (net_width (netlist_of wiring.now)) (word_width (netlist_of wiring.now)) right.now }
 {

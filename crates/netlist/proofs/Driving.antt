@@ -10,7 +10,7 @@ use Rattle.wiring.specs.declared.netlist.Holder.TheVariants.{OfNet, OfArray}
 use Rattle.wiring.specs.declared.netlist.Assign.{Assign}
 use Rattle.wiring.specs.declared.netlist.Update.{Update}
 use Rattle.wiring.specs.declared.netlist.Update.TheVariants.{Set, Put}
-use Rattle.wiring.specs.declared.netlist.Wiring.{Wiring}
+use Rattle.wiring.specs.declared.netlist.Netlist.{Netlist as TheNetlist}
 use Rattle.wiring.specs.declared.drivers.Drivers.{Drivers}
 use Rattle.wiring.specs.Netlist.{Netlist, netlist_of, IsDriven, update_target}
 use Rattle.wiring.specs.Tables.{IsTableOf, IsTable, IsTarget, IsStateTarget, assign_target, driver_of, updater_of}
@@ -84,7 +84,7 @@ module _ (m : Netlist) (d : Tables) (tables : AreTables m d) where
 pub differ_by : {X T : Type 0} (target : X → T) (items : List X) (entry : T → Option ℕ) → IsTableOf target items entry → TargetsDiffer target items
 differ_by target items entry table i j x y at_i at_j same = same_Some i j (sym (table.complete i x at_i) ∙ ap entry same ∙ table.complete j y at_j)
 
-module _ (p : Parts) (w : Wiring) (is : netlist_of w ≡ netlist_of_parts p) where
+module _ (p : Parts) (w : TheNetlist) (is : netlist_of w ≡ netlist_of_parts p) where
   abbrev m : Netlist
   m = netlist_of_parts p
 

@@ -10,7 +10,7 @@ use Rattle.wiring.specs.declared.netlist.Shape.{Shape}
 use Rattle.wiring.specs.declared.netlist.Assign.{Assign}
 use Rattle.wiring.specs.declared.netlist.Update.{Update}
 use Rattle.wiring.specs.declared.netlist.Update.TheVariants.{Set, Put}
-use Rattle.wiring.specs.declared.netlist.Wiring.{Wiring}
+use Rattle.wiring.specs.declared.netlist.Netlist.{Netlist as TheNetlist}
 use Rattle.wiring.specs.Rights.{atom_width, right_width, constants_of}
 use Rattle.wiring.specs.Netlist.{Netlist, netlist_of, net_width, word_width, IsDeclared, IsDriven}
 use Rattle.wiring.specs.Sizes.{IsConstant}
@@ -38,7 +38,7 @@ first_weaker Fine Wrong Good Bad fine wrong items k f = record { item = f.item; 
 all_weaker : {X : Type 0} (Fine Good : X → Type 0) → ((x : X) → Good x → Fine x) → (items : List X) → All Good items → All Fine items
 all_weaker Fine Good fine items all = All-from_at Fine items (λ k x at. fine x (All-at Good items k x all at))
 
-module _ (p : Parts) (w : Wiring) (nets : HasNets p w) where
+module _ (p : Parts) (w : TheNetlist) (nets : HasNets p w) where
   abbrev m : Netlist
   m = netlist_of_parts p
 

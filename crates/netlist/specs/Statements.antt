@@ -5,7 +5,7 @@ use Rattle.wiring.specs.declared.netlist.Net.{Net}
 use Rattle.wiring.specs.declared.netlist.Net.TheVariants.{Input, Output, Wire, Reg}
 use Rattle.wiring.specs.declared.netlist.Assign.{Assign}
 use Rattle.wiring.specs.declared.netlist.Update.{Update}
-use Rattle.wiring.specs.declared.netlist.Wiring.{Wiring}
+use Rattle.wiring.specs.declared.netlist.Netlist.{Netlist as TheNetlist}
 use Rattle.wiring.specs.Sizes.{IsConstant}
 use Rattle.wiring.specs.Rights.{constants_of, right_width}
 use Rattle.wiring.specs.Netlist.{Netlist, net_width, word_width}
@@ -84,7 +84,7 @@ pub record IsFirstFault {X : Type 0} (Good : X → Type 0) (Bad : Wrong → X �
   pub first : FirstWrong Good (Bad wrong) items place
 
 -- the ports, nets and arrays of the parts, whatever drives them
-pub record HasNets (p : Parts) (w : Wiring) : Type 0 where
+pub record HasNets (p : Parts) (w : TheNetlist) : Type 0 where
   pub enable : w.enable ≡ (netlist_of_parts p).enable
   pub inputs : w.inputs.items ≡ (netlist_of_parts p).inputs
   pub outputs : w.outputs.items ≡ (netlist_of_parts p).outputs

@@ -18,17 +18,17 @@ use crate::scope::Scope;
 use crate::{declare, drive, profile, statement};
 use net_names::Name;
 use std::alloc::{AllocError, Global};
-use wiring::Wiring;
+use wiring::Netlist;
 
 // Parts with nets and arrays in place of names, and an order of their assigns.
 #[derive(Debug, Drop)]
 pub(crate) struct Wired {
-    pub wiring: Wiring,
+    pub wiring: Netlist,
     pub order: Vec<usize>,
 }
 
 // The nets, and the statements that drive them.
-fn wiring_of(alloc: Global, parts: &Parts, scope: &Scope) -> Result<Wiring, NetError>
+fn wiring_of(alloc: Global, parts: &Parts, scope: &Scope) -> Result<Netlist, NetError>
     requires passes { PassesPorts parts.now }
     requires scope { scope.now ≡ scope_of parts.now }
     ensures netlist { IfOk result (λ w. netlist_of w ≡ netlist_of_parts parts.now) }
@@ -39,7 +39,7 @@ fn wiring_of(alloc: Global, parts: &Parts, scope: &Scope) -> Result<Wiring, NetE
     let nets = declare::nets_of(alloc, parts)?;
     let assigns = statement::checked_assigns(alloc, scope, &nets, &parts.assigns)?;
     let updates = statement::checked_updates(alloc, scope, &nets, &parts.updates)?;
-    Ok(Wiring {
+    Ok(Netlist {
         assigns,
         updates,
         ..nets

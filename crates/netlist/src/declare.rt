@@ -16,7 +16,7 @@ use crate::parts::{Declaration, Direction, Parts, Port, Sort};
 use crate::profile;
 use crate::scope::{Scope, Stands};
 use std::alloc::{AllocError, Global};
-use wiring::{Shape, Width, Wiring};
+use wiring::{Netlist, Shape, Width};
 
 fn port_stands(direction: Direction, inputs: usize, outputs: usize) -> Stands
     ensures { meaning_of result ≡ port_meaning direction inputs outputs }
@@ -278,7 +278,7 @@ fn sorts_of(alloc: Global, declarations: &[Declaration]) -> Result<Sorts, AllocE
 }
 
 // The nets and arrays of parts, with nothing that drives them.
-pub(crate) fn nets_of(alloc: Global, parts: &Parts) -> Result<Wiring, AllocError>
+pub(crate) fn nets_of(alloc: Global, parts: &Parts) -> Result<Netlist, AllocError>
     ensures nets { IfOk result (HasNets parts.now) }
     ensures fit { OnOk result (All (λ (d : OneDeclaration). SortFits d.sort) parts.now.declarations.items) }
 {
@@ -288,7 +288,7 @@ pub(crate) fn nets_of(alloc: Global, parts: &Parts) -> Result<Wiring, AllocError
         regs,
         arrays,
     } = sorts_of(alloc, &parts.declarations)?;
-    Ok(Wiring {
+    Ok(Netlist {
         enable: has_enable(&parts.ports),
         inputs,
         outputs,

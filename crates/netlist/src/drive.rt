@@ -16,7 +16,7 @@ use crate::fault::{Declared, NetError, NetFault, Statement};
 use crate::parts::Parts;
 use crate::scope::{Scope, Stands};
 use std::alloc::Global;
-use wiring::{Drivers, Net, OrderFault, TableFault, Updaters, Wiring};
+use wiring::{Drivers, Net, Netlist, OrderFault, TableFault, Updaters};
 
 // What drives each net and array.
 #[derive(Debug, Drop)]
@@ -26,7 +26,7 @@ pub(crate) struct Tables {
 }
 
 // The assign of each output and wire, or the second assign of one.
-fn drivers_of(alloc: Global, wiring: &Wiring) -> Result<Drivers, NetError>
+fn drivers_of(alloc: Global, wiring: &Netlist) -> Result<Drivers, NetError>
     requires { All (λ (a : Assign). IsTarget (length wiring.now.outputs.items) (length wiring.now.wires.items) a.target) wiring.now.assigns.items }
     ensures ok { IfOk result (IsTable wiring.now.assigns.items) }
     ensures fault { IfErr result (IsErrorBy (IsSecondAssign (netlist_of wiring.now))) }
@@ -43,7 +43,7 @@ fn drivers_of(alloc: Global, wiring: &Wiring) -> Result<Drivers, NetError>
 }
 
 // The update of each register and array, or the second update of one.
-fn updaters_of(alloc: Global, wiring: &Wiring) -> Result<Updaters, NetError>
+fn updaters_of(alloc: Global, wiring: &Netlist) -> Result<Updaters, NetError>
     requires { All (λ (u : Update). IsStateTarget (length wiring.now.regs.items) (length wiring.now.arrays.items) (update_target u)) wiring.now.updates.items }
     ensures ok { IfOk result (IsUpdateTable wiring.now.updates.items) }
     ensures fault { IfErr result (IsErrorBy (IsSecondUpdate (netlist_of wiring.now))) }
@@ -60,7 +60,7 @@ fn updaters_of(alloc: Global, wiring: &Wiring) -> Result<Updaters, NetError>
 }
 
 // What drives each net and array, or the second driver of one, assigns first.
-pub(crate) fn tables_of(alloc: Global, wiring: &Wiring) -> Result<Tables, NetError>
+pub(crate) fn tables_of(alloc: Global, wiring: &Netlist) -> Result<Tables, NetError>
     requires targets { All (λ (a : Assign). IsTarget (length wiring.now.outputs.items) (length wiring.now.wires.items) a.target) wiring.now.assigns.items }
     requires states { All (λ (u : Update). IsStateTarget (length wiring.now.regs.items) (length wiring.now.arrays.items) (update_target u)) wiring.now.updates.items }
     ensures tables { IfOk result (AreTables (netlist_of wiring.now)) }
@@ -133,7 +133,7 @@ pub(crate) fn check_driven(parts: &Parts, scope: &Scope, tables: &Tables) -> Res
 // An order in which the assigns can be evaluated, or one that depends on itself.
 pub(crate) fn order_of(
     alloc: Global,
-    wiring: &Wiring,
+    wiring: &Netlist,
     drivers: &Drivers,
 ) -> Result<Vec<usize>, NetError>
     requires { IsTable wiring.now.assigns.items drivers.now }

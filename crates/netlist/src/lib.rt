@@ -26,5 +26,5 @@ pub use net_names::Name;
 pub use parts::{Declaration, Direction, NamedAssign, NamedUpdate, Parts, Port, Sort};
 pub use port_names::{input_name, output_name};
 pub use wiring::{
-    Assign, Atom, Constant, Depth, Net, Operator, Right, Shape, Update, Width, Wiring,
+    Assign, Atom, Constant, Depth, Net, Netlist, Operator, Right, Shape, Update, Width,
 };

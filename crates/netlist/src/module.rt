@@ -2,13 +2,13 @@
 
 use crate::names::Names;
 use std::marker::Model;
-use wiring::Wiring;
+use wiring::Netlist;
 
 /// A netlist that keeps the net rules, with names beside it and an order in which its assigns can be evaluated.
 #[derive(Debug, Drop)]
 pub struct Module {
     names: Names,
-    wiring: Wiring,
+    wiring: Netlist,
     order: Vec<usize>,
 }
 
@@ -34,7 +34,7 @@ impl Module {
     ghost use Rattle.netlist.specs.Names.{names_of, HasNames};
 
     /// The module of these, whose rules and order are known. It takes no memory.
-    pub fn in_order(names: Names, wiring: Wiring, order: Vec<usize>) -> Module
+    pub fn in_order(names: Names, wiring: Netlist, order: Vec<usize>) -> Module
         requires rules { KeepsRules (netlist_of wiring) }
         requires names { HasNames (netlist_of wiring) (names_of names) }
         requires ordered { IsEvaluationOrder wiring.assigns.items order.items }
@@ -48,7 +48,7 @@ impl Module {
     }
 
     /// The netlist.
-    pub fn wiring(&self) -> &Wiring
+    pub fn wiring(&self) -> &Netlist
         ensures netlist { netlist_of result.now ≡ self.now.netlist }
         ensures rules { KeepsRules self.now.netlist }
     {

@@ -12,7 +12,7 @@ use crate::parts::{NamedAssign, NamedUpdate};
 use crate::scope::Scope;
 use crate::{resolve, width};
 use std::alloc::{AllocError, Global};
-use wiring::{Assign, Net, Update, Wiring};
+use wiring::{Assign, Net, Netlist, Update};
 
 // What is wrong with a statement.
 #[derive(Clone, Copy, Debug)]
@@ -46,7 +46,7 @@ fn is_driven(net: Net) -> bool
     }
 }
 
-fn checked_assign(scope: &Scope, wiring: &Wiring, named: &NamedAssign) -> Result<Assign, Wrong>
+fn checked_assign(scope: &Scope, wiring: &Netlist, named: &NamedAssign) -> Result<Assign, Wrong>
     ensures ok { IfOk result (StandsForAssign scope.now (netlist_of wiring.now) named.now) }
     ensures wrong { IfErr result (λ w. IsWrongAssign scope.now (netlist_of wiring.now) w named.now) }
 {
@@ -68,7 +68,7 @@ fn checked_assign(scope: &Scope, wiring: &Wiring, named: &NamedAssign) -> Result
     Ok(assign)
 }
 
-fn checked_update(scope: &Scope, wiring: &Wiring, named: &NamedUpdate) -> Result<Update, Wrong>
+fn checked_update(scope: &Scope, wiring: &Netlist, named: &NamedUpdate) -> Result<Update, Wrong>
     ensures ok { IfOk result (StandsForUpdate scope.now (netlist_of wiring.now) named.now) }
     ensures wrong { IfErr result (λ w. IsWrongUpdate scope.now (netlist_of wiring.now) w named.now) }
 {
@@ -106,7 +106,7 @@ fn keep_update(updates: &mut Vec<Update>, update: Update) -> Result<(), AllocErr
 pub(crate) fn checked_assigns(
     alloc: Global,
     scope: &Scope,
-    wiring: &Wiring,
+    wiring: &Netlist,
     named: &[NamedAssign],
 ) -> Result<Vec<Assign>, NetError>
     ensures ok { IfOk result (λ bs. bs.items ≡ collected (assign_named scope.now) named.now) }
@@ -127,7 +127,7 @@ pub(crate) fn checked_assigns(
 pub(crate) fn checked_updates(
     alloc: Global,
     scope: &Scope,
-    wiring: &Wiring,
+    wiring: &Netlist,
     named: &[NamedUpdate],
 ) -> Result<Vec<Update>, NetError>
     ensures ok { IfOk result (λ vs. vs.items ≡ collected (update_named scope.now) named.now) }

@@ -7,7 +7,7 @@ ghost use Rattle.wiring.specs.Rules.{DivisorIsConstant, IsDivisor, DividesByDivi
 ghost use Rattle.netlist.specs.Faults.{AssignFits, UpdateFits};
 ghost use Rattle.netlist.specs.Statements.{RightFits};
 
-use wiring::{Assign, Atom, Net, Operator, Right, Update, Width, Wiring};
+use wiring::{Assign, Atom, Net, Netlist, Operator, Right, Update, Width};
 
 fn width_at(widths: &[Width], place: usize) -> u8
     ensures { result ≡ slice_index widths.now place }
@@ -18,7 +18,7 @@ fn width_at(widths: &[Width], place: usize) -> u8
     }
 }
 
-fn net_width(wiring: &Wiring, net: Net) -> u8
+fn net_width(wiring: &Netlist, net: Net) -> u8
     ensures { result ≡ width_of_net (netlist_of wiring.now) net }
 {
     match net {
@@ -29,7 +29,7 @@ fn net_width(wiring: &Wiring, net: Net) -> u8
     }
 }
 
-fn word_width(wiring: &Wiring, array: usize) -> u8
+fn word_width(wiring: &Netlist, array: usize) -> u8
     ensures { result ≡ width_of_word (netlist_of wiring.now) array }
 {
     match wiring.arrays.get(array) {
@@ -38,7 +38,7 @@ fn word_width(wiring: &Wiring, array: usize) -> u8
     }
 }
 
-fn atom_width(wiring: &Wiring, atom: &Atom<Net>) -> u8
+fn atom_width(wiring: &Netlist, atom: &Atom<Net>) -> u8
     ensures { result ≡ width_of_atom (width_of_net (netlist_of wiring.now)) atom.now }
 {
     match atom {
@@ -128,7 +128,7 @@ fn slice_fits(vector: u8, high: u64, low: u64, target: u8) -> bool
     high - low + 1 == target as u64
 }
 
-fn right_fits(wiring: &Wiring, right: &Right<Net, usize>, target: u8) -> bool
+fn right_fits(wiring: &Netlist, right: &Right<Net, usize>, target: u8) -> bool
     ensures yes { IsTrue result → RightFits (netlist_of wiring.now) right.now target }
     ensures no { RightFits (netlist_of wiring.now) right.now target → IsTrue result }
 {
@@ -153,7 +153,7 @@ fn right_fits(wiring: &Wiring, right: &Right<Net, usize>, target: u8) -> bool
 }
 
 // Whether the widths of an assign agree.
-pub(crate) fn assign_fits(wiring: &Wiring, assign: &Assign) -> bool
+pub(crate) fn assign_fits(wiring: &Netlist, assign: &Assign) -> bool
     ensures yes { IsTrue result → AssignFits (netlist_of wiring.now) assign.now }
     ensures no { AssignFits (netlist_of wiring.now) assign.now → IsTrue result }
 {
@@ -161,7 +161,7 @@ pub(crate) fn assign_fits(wiring: &Wiring, assign: &Assign) -> bool
 }
 
 // Whether the widths of an update agree.
-pub(crate) fn update_fits(wiring: &Wiring, update: &Update) -> bool
+pub(crate) fn update_fits(wiring: &Netlist, update: &Update) -> bool
     ensures yes { IsTrue result → UpdateFits (netlist_of wiring.now) update.now }
     ensures no { UpdateFits (netlist_of wiring.now) update.now → IsTrue result }
 {

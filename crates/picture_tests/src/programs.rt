@@ -1,7 +1,7 @@
 // What programs are made of, and lists of passes.
 
 use dk_base::{Binary, FrameSize, OutOfMemory, Text, Ty};
-use pointwise_ir::{Definition, Edge, Expr, Input, Ir, Parts, Rewrite, run_passes};
+use pointwise_ir::{Definition, Edge, Expr, Input, Parts, Program, Rewrite, run_passes};
 use std::alloc::{AllocError, Global};
 use std::test::Fail;
 
@@ -10,12 +10,12 @@ use std::test::Fail;
 struct Unchanged;
 
 impl Rewrite for Unchanged {
-    ghost use Rattle.pointwise_ir.specs.Programs.{Program, IsProgram};
+    ghost use Rattle.pointwise_ir.specs.Programs.{Program as TheProgram, IsProgram};
 
     // a program
     ghost gives = { λ _ p. IsProgram p };
 
-    fn apply(&self, _alloc: Global, ir: Ir) -> Result<Ir, OutOfMemory> {
+    fn apply(&self, _alloc: Global, ir: Program) -> Result<Program, OutOfMemory> {
         ir.law();
         Ok(ir)
     }
@@ -71,11 +71,11 @@ fn parts(alloc: Global, body: Expr, outputs: &[u32]) -> Result<Option<Parts>, Al
 }
 
 // The program of these parts, where they are those of one.
-fn program(alloc: Global, body: Expr, outputs: &[u32]) -> Result<Option<Ir>, AllocError> {
+fn program(alloc: Global, body: Expr, outputs: &[u32]) -> Result<Option<Program>, AllocError> {
     let Some(parts) = parts(alloc, body, outputs)? else {
         return Ok(None);
     };
-    Ok(Ir::checked(parts))
+    Ok(Program::checked(parts))
 }
 
 #[test]

@@ -1,7 +1,7 @@
 // Live reads that were worked out by hand.
 
 use dk_base::{Binary, FrameSize, Stencils, Text, Ty};
-use pointwise_ir::{Definition, Edge, Expr, Input, Ir, Parts};
+use pointwise_ir::{Definition, Edge, Expr, Input, Parts, Program};
 use std::alloc::{AllocError, Global};
 use std::test::Fail;
 use stencil_sets::{StencilFault, live_reads};
@@ -17,7 +17,7 @@ fn program(
     inputs: usize,
     images: Vec<(Ty, Expr)>,
     outputs: &[u32],
-) -> Result<Ir, Fail> {
+) -> Result<Program, Fail> {
     let Some(size) = FrameSize::checked(width, height) else {
         return Err(Fail::new("no size"));
     };
@@ -40,7 +40,7 @@ fn program(
             body,
         })?;
     }
-    match Ir::checked(parts) {
+    match Program::checked(parts) {
         Some(ir) => Ok(ir),
         None => Err(Fail::new("no program")),
     }
@@ -59,7 +59,7 @@ fn told(alloc: Global, stencils: &Stencils) -> Result<String, Fail> {
 }
 
 // What is live in a program.
-fn live(alloc: Global, ir: &Ir) -> Result<String, Fail> {
+fn live(alloc: Global, ir: &Program) -> Result<String, Fail> {
     match live_reads(alloc, ir) {
         Ok(stencils) => told(alloc, &stencils),
         Err(fault) => {

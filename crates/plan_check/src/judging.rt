@@ -14,12 +14,12 @@ use crate::checking::check;
 use crate::program::{foreign_line, is_of_counts};
 use crate::verdict::Verdict;
 use dk_base::Stencils;
-use pointwise_ir::Ir;
+use pointwise_ir::Program;
 use raster_delay::System;
 use report_text::Report;
 
 // The first wrong line, where this one is the first that is wrong by the program.
-fn first_amiss(ir: &Ir, system: &System, report: &Report, line: u64) -> u64
+fn first_amiss(ir: &Program, system: &System, report: &Report, line: u64) -> u64
     requires meets { Meets (parts_of report.now) }
     requires age { report.now.age ≡ system.now.age }
     requires foreign { IsFirst (Breaks (program_rules (names_of ir.now) system.now.stencils (parts_of report.now))) line }
@@ -35,7 +35,7 @@ fn first_amiss(ir: &Ir, system: &System, report: &Report, line: u64) -> u64
 }
 
 /// Whether a report is one of this program, or its first wrong line. The stencils are those of the system, and their kept images are images of the program. It takes no memory.
-pub fn judge(ir: &Ir, stencils: &Stencils, system: &System, report: &Report) -> Verdict
+pub fn judge(ir: &Program, stencils: &Stencils, system: &System, report: &Report) -> Verdict
     requires meets { Meets (parts_of report.now) }
     requires age { report.now.age ≡ system.now.age }
     requires stencils { stencils.now ≡ system.now.stencils }

@@ -12,12 +12,12 @@ ghost use Rattle.plan_check.specs.Rules.{Keeps, Breaks};
 
 use crate::numbering::{bits_line, clocks_line, size_line};
 use dk_base::Stencils;
-use pointwise_ir::Ir;
+use pointwise_ir::Program;
 use raster_delay::System;
 use report_text::{ImageLine, Report};
 
 // The name of an image.
-fn name_of(ir: &Ir, number: usize) -> &[u8]
+fn name_of(ir: &Program, number: usize) -> &[u8]
     requires { number < length (names_of ir.now) }
     ensures { result.now ≡ slice_index_or (names_of ir.now) number [] }
 {
@@ -37,7 +37,7 @@ fn is_same(a: &[u8], b: &[u8]) -> bool
 }
 
 // Whether the image line at a place is that of the program's kept image there.
-fn is_named(ir: &Ir, stencils: &Stencils, images: &[ImageLine], k: usize) -> bool
+fn is_named(ir: &Program, stencils: &Stencils, images: &[ImageLine], k: usize) -> bool
     requires place { k < length images.now }
     requires images { All (λ (i : Image). i.number < length (names_of ir.now)) stencils.now.images }
     ensures yes { IsTrue result → IsNamed (names_of ir.now) stencils.now images.now k }
@@ -57,7 +57,7 @@ fn is_named(ir: &Ir, stencils: &Stencils, images: &[ImageLine], k: usize) -> boo
 }
 
 // The place of the first image line that is not.
-fn unnamed(ir: &Ir, stencils: &Stencils, images: &[ImageLine]) -> Option<usize>
+fn unnamed(ir: &Program, stencils: &Stencils, images: &[ImageLine]) -> Option<usize>
     requires { All (λ (i : Image). i.number < length (names_of ir.now)) stencils.now.images }
     ensures { MatchOption result ((k : ℕ) → k < length images.now
         → IsNamed (names_of ir.now) stencils.now images.now k) (λ w. IsFirst (Misses (λ k. IsNamed (names_of ir.now) stencils.now images.now k) (length images.now)) w) }
@@ -93,7 +93,7 @@ pub(crate) fn is_of_counts(system: &System, report: &Report) -> bool
 }
 
 // The line of the size or of an image, where it is wrong by the program and none before it is.
-fn foreign_image(ir: &Ir, stencils: &Stencils, report: &Report) -> Option<u64>
+fn foreign_image(ir: &Program, stencils: &Stencils, report: &Report) -> Option<u64>
     requires images { All (λ (i : Image). i.number < length (names_of ir.now)) stencils.now.images }
     requires limit { length report.now.images.items ≤ MAX_KEPT_IMAGES }
     ensures { MatchOption result (IsOfSize stencils.now (parts_of report.now) × ((k : ℕ) → k < length report.now.images.items
@@ -109,7 +109,7 @@ fn foreign_image(ir: &Ir, stencils: &Stencils, report: &Report) -> Option<u64>
 }
 
 // The line at which there are too few images or too many latencies, where none before it is wrong by the program.
-fn foreign_latency(ir: &Ir, stencils: &Stencils, report: &Report) -> Option<u64>
+fn foreign_latency(ir: &Program, stencils: &Stencils, report: &Report) -> Option<u64>
     requires images { length report.now.images.items ≤ MAX_KEPT_IMAGES }
     requires latencies { length report.now.latencies.items ≤ MAX_OUTPUTS }
     requires size { IsOfSize stencils.now (parts_of report.now) }
@@ -139,7 +139,7 @@ fn has_reads(stencils: &Stencils, report: &Report) -> bool
 }
 
 // The line of the clocks where there are too few latencies, or of the reads, where it is wrong by the program and none before it is.
-fn foreign_sum(ir: &Ir, stencils: &Stencils, report: &Report) -> Option<u64>
+fn foreign_sum(ir: &Program, stencils: &Stencils, report: &Report) -> Option<u64>
     requires images { length report.now.images.items ≤ MAX_KEPT_IMAGES }
     requires latencies { length report.now.latencies.items ≤ MAX_OUTPUTS }
     requires size { IsOfSize stencils.now (parts_of report.now) }
@@ -165,7 +165,7 @@ fn most_lines_law(report: &Report)
 {}
 
 // The first line that is wrong by the program.
-pub(crate) fn foreign_line(ir: &Ir, stencils: &Stencils, report: &Report) -> Option<u64>
+pub(crate) fn foreign_line(ir: &Program, stencils: &Stencils, report: &Report) -> Option<u64>
     requires meets { Meets (parts_of report.now) }
     requires images { All (λ (i : Image). i.number < length (names_of ir.now)) stencils.now.images }
     ensures { MatchOption result (Keeps (program_rules (names_of ir.now) stencils.now (parts_of report.now))) (λ line. IsFirst (Breaks (program_rules (names_of ir.now) stencils.now (parts_of report.now))) line) }

@@ -14,8 +14,8 @@ use Rattle.dk_base.specs.declared.ty.Ty.{Ty}
 use Rattle.dk_base.specs.declared.ty.Ty.TheVariants.{Unsigned, Signed}
 use Rattle.dk_base.specs.Types.{IsType, IsIn, above}
 use Rattle.dk_base.specs.Frames.{Size, area, in_frame, raster_number, Picture, picture_of}
-use Rattle.pointwise_ir.specs.declared.ir.Input.{Input}
-use Rattle.pointwise_ir.specs.declared.ir.Definition.{Definition}
+use Rattle.pointwise_ir.specs.declared.program.Input.{Input}
+use Rattle.pointwise_ir.specs.declared.program.Definition.{Definition}
 use Rattle.pointwise_ir.specs.Trees.{Tree, constant, read, shifted, unary, binary, select, convert, scale, tree_of, EachImage}
 use Rattle.dk_base.specs.Types.{IsPort}
 use Rattle.pointwise_ir.specs.Programs.{Program, IsProgram, all_types, bodies_of}

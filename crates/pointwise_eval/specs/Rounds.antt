@@ -4,7 +4,7 @@ use Rattle.std.specs.List.{All}
 use Rattle.dk_base.specs.declared.ty.Ty.{Ty}
 use Rattle.dk_base.specs.Types.{above}
 use Rattle.dk_base.specs.Frames.{Size, area, Picture, picture_of, raster}
-use Rattle.pointwise_ir.specs.declared.ir.Input.{Input}
+use Rattle.pointwise_ir.specs.declared.program.Input.{Input}
 use Rattle.pointwise_ir.specs.Programs.{Program}
 use Rattle.dk_base.specs.Frames.{picture_at}
 use Rattle.dk_frames.specs.declared.frame.Frame.{Frame}

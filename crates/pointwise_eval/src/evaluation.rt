@@ -19,7 +19,7 @@ use crate::plane::Plane;
 use crate::rows::render;
 use dk_base::{FrameSize, OutOfMemory};
 use dk_frames::{Frame, SampleSlice, Samples};
-use pointwise_ir::{Definition, Expr, Input, Ir};
+use pointwise_ir::{Definition, Expr, Input, Program};
 use std::alloc::Global;
 use std::mem;
 use value_rows::Element;
@@ -113,7 +113,7 @@ fn drop_unneeded(planes: &mut Vec<Plane<'_>>, until: &[usize], made: usize)
 // The planes of all images, of which those of the outputs are there.
 fn all_planes<'a>(
     alloc: Global,
-    ir: &Ir,
+    ir: &Program,
     frames: &'a [Frame],
     until: &[usize],
 ) -> Result<Vec<Plane<'a>>, OutOfMemory>
@@ -270,7 +270,7 @@ fn frames_of_outputs(
 }
 
 /// The pictures of the outputs in order, on one frame for each input in order, which has the size of the frame and samples in the range of the input's type. Memory is taken for the values of each image that an output needs, and given back once no later image reads it.
-pub fn evaluate(alloc: Global, ir: &Ir, frames: &[Frame]) -> Result<Vec<Frame>, OutOfMemory>
+pub fn evaluate(alloc: Global, ir: &Program, frames: &[Frame]) -> Result<Vec<Frame>, OutOfMemory>
     requires { AreFrames ir.now frames.now }
     ensures { IfOk result (λ outs. outs.items ≡ output_frames ir.now (pictures ir.now (round_of ir.now.size frames.now))) }
 {

@@ -10,7 +10,7 @@ ghost use Rattle.pointwise_eval.specs.Rounds.{IsInputFrame, AreInputFrames, AreF
 
 use dk_base::{FrameSize, Ty};
 use dk_frames::{Frame, SampleSlice};
-use pointwise_ir::{Input, Ir};
+use pointwise_ir::{Input, Program};
 use value_rows::Element;
 
 // Whether no element is above the range of the type.
@@ -75,7 +75,7 @@ fn each_fits(size: FrameSize, inputs: &[Input], frames: &[Frame]) -> bool
 }
 
 /// Whether there is one frame for each input in order, each of the program's size and with samples in the range of its input's type.
-pub fn frames_fit(ir: &Ir, frames: &[Frame]) -> bool
+pub fn frames_fit(ir: &Program, frames: &[Frame]) -> bool
     ensures yes { IsTrue result → AreFrames ir.now frames.now }
     ensures no { AreFrames ir.now frames.now → IsTrue result }
 {

@@ -6,7 +6,7 @@ ghost use Rattle.pointwise_ir.specs.Trees.{Tree, tree_of, EachImage};
 ghost use Rattle.pointwise_eval.specs.Needs.{IsNeeded, image_count, AreNeeds};
 
 use dk_base::OutOfMemory;
-use pointwise_ir::{Definition, Expr, Ir};
+use pointwise_ir::{Definition, Expr, Program};
 use std::alloc::Global;
 
 // Notes that an image is needed after this many images.
@@ -89,7 +89,7 @@ fn mark_reads(inputs: usize, images: &[Definition], until: &mut [usize])
 }
 
 // Notes until when the outputs need each image.
-fn mark_all(ir: &Ir, until: &mut [usize])
+fn mark_all(ir: &Program, until: &mut [usize])
     requires { length until.old ≡ image_count ir.now }
     ensures { AreNeeds ir.now until.new }
 {
@@ -101,7 +101,7 @@ fn mark_all(ir: &Ir, until: &mut [usize])
 }
 
 // For each image how many images there are before the outputs do not need it any more.
-pub fn needs(alloc: Global, ir: &Ir) -> Result<Vec<usize>, OutOfMemory>
+pub fn needs(alloc: Global, ir: &Program) -> Result<Vec<usize>, OutOfMemory>
     ensures { IfOk result (λ until. AreNeeds ir.now until.items) }
 {
     ir.law();

@@ -8,8 +8,8 @@ use Rattle.std.proofs.lemmas.Bool.{cases_lt}
 use Rattle.dk_base.specs.declared.ty.Ty.{Ty}
 use Rattle.dk_base.specs.Types.{IsIn}
 use Rattle.dk_base.specs.Frames.{Size, in_frame, Picture}
-use Rattle.pointwise_ir.specs.declared.ir.Input.{Input}
-use Rattle.pointwise_ir.specs.declared.ir.Definition.{Definition}
+use Rattle.pointwise_ir.specs.declared.program.Input.{Input}
+use Rattle.pointwise_ir.specs.declared.program.Definition.{Definition}
 use Rattle.pointwise_ir.specs.Trees.{Tree, tree_of, EachImage}
 use Rattle.pointwise_ir.specs.Programs.{Program, bodies_of, types_of, all_types, IsBody, IsProgram}
 use Rattle.dk_base.specs.Frames.{framed, picture_at}

@@ -6,7 +6,7 @@ use Rattle.dk_base.specs.Operators.{unary_value, binary_value, scaling_value, co
 use Rattle.dk_base.specs.Frames.{Size, in_frame, clamped, Picture, framed, picture_at}
 use Rattle.pointwise_ir.specs.declared.expr.Edge.{Edge}
 use Rattle.pointwise_ir.specs.declared.expr.Edge.TheVariants.{Zero, Clamp}
-use Rattle.pointwise_ir.specs.declared.ir.Input.{Input}
+use Rattle.pointwise_ir.specs.declared.program.Input.{Input}
 use Rattle.pointwise_ir.specs.Trees.{Tree, constant, read, shifted, unary, binary, select, convert, scale}
 use Rattle.pointwise_ir.specs.Programs.{Program, bodies_of}
 

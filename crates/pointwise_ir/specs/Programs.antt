@@ -7,9 +7,9 @@ use Rattle.dk_base.specs.Types.{IsPort}
 use Rattle.dk_base.specs.Frames.{Size, IsFrame}
 use Rattle.dk_base.specs.FrameSizes.{size_of}
 use Rattle.dk_base.specs.Stencils.{IsDistinct}
-use Rattle.pointwise_ir.specs.declared.ir.Input.{Input}
-use Rattle.pointwise_ir.specs.declared.ir.Definition.{Definition}
-use Rattle.pointwise_ir.specs.declared.ir.Parts.{Parts}
+use Rattle.pointwise_ir.specs.declared.program.Input.{Input}
+use Rattle.pointwise_ir.specs.declared.program.Definition.{Definition}
+use Rattle.pointwise_ir.specs.declared.program.Parts.{Parts}
 use Rattle.pointwise_ir.specs.Trees.{Tree, tree_of, depth_of, AreNear}
 use Rattle.pointwise_ir.specs.Typing.{HasType}
 

@@ -4,16 +4,16 @@ ghost use Rattle.std.specs.Prelude.{◌≡◌, ℕ, ℤ, ◌<◌, List, Some, le
 ghost use Rattle.dk_base.specs.declared.ty.Ty.{Ty};
 ghost use Rattle.dk_base.specs.Frames.{Picture};
 ghost use Rattle.pointwise_ir.specs.Trees.{Tree};
-ghost use Rattle.pointwise_ir.specs.Programs.{Program, IsProgram, IsBody, types_of};
+ghost use Rattle.pointwise_ir.specs.Programs.{Program as TheProgram, IsProgram, IsBody, types_of};
 ghost use Rattle.pointwise_ir.specs.Rewritings.{IsSameBut};
 ghost use Rattle.pointwise_ir.specs.Passes.{KeepsMeaning};
 ghost use Rattle.dk_base.specs.Frames.{framed, picture_at};
 ghost use Rattle.pointwise_ir.specs.Meaning.{value, pictures, IsRound, IsPicture, AgreeInside};
 
-use crate::ir::Ir;
+use crate::program::Program;
 
 /// A law: the picture of an input is the one that is given, and that of any other image is its body's value over the pictures of all images, in the frame. The values of an image lie in its type, and are 0 outside the frame. The pictures depend on the pixels of the inputs alone.
-pub fn meaning_law(ir: &Ir)
+pub fn meaning_law(ir: &Program)
     ensures inputs { (round : List Picture) → length round ≡ length ir.now.inputs → (g : ℕ) → g < length round
         → picture_at (pictures ir.now round) g ≡ picture_at round g }
     ensures images { (round : List Picture) → length round ≡ length ir.now.inputs → (f : ℕ) (e : Tree) → IsBody ir.now f e → (x y : ℤ)
@@ -28,6 +28,6 @@ pub fn meaning_law(ir: &Ir)
 
 /// A law: what is a program but for bodies that may replace its own is a program, and keeps its meaning.
 pub fn rewriting_law()
-    ensures program { (old new : Program) → IsProgram old → IsSameBut old new → IsProgram new }
-    ensures meaning { (old new : Program) → IsProgram old → IsSameBut old new → KeepsMeaning old new }
+    ensures program { (old new : TheProgram) → IsProgram old → IsSameBut old new → IsProgram new }
+    ensures meaning { (old new : TheProgram) → IsProgram old → IsSameBut old new → KeepsMeaning old new }
 {}

@@ -2,15 +2,15 @@
 #![tactic(auto)]
 
 mod expr;
-mod ir;
 mod laws;
+mod program;
 mod rewrite;
 mod typing;
 mod values;
 
 pub use expr::{Edge, Expr};
-pub use ir::{Definition, Input, Ir, Parts};
 pub use laws::{meaning_law, rewriting_law};
+pub use program::{Definition, Input, Parts, Program};
 pub use rewrite::{Rewrite, run_passes};
 pub use values::{binary_value, conversion_value, scaling_value, select_value, unary_value};
 

@@ -1,4 +1,4 @@
-// The types of expressions, and the tests of what an Ir is made of.
+// The types of expressions, and the tests of what a program is made of.
 
 ghost use Rattle.std.specs.Prelude.{◌≡◌, ℕ, ◌≤◌, ◌<◌, ◌+◌, Some, IsTrue, IsSome, IfSome, slice_get, slice_index_or, take, length};
 ghost use Rattle.std.specs.List.{All};
@@ -11,7 +11,7 @@ ghost use Rattle.pointwise_ir.specs.Programs.{all_types, IsOutput, IsDefined, Ar
 
 use crate::FARTHEST;
 use crate::expr::Expr;
-use crate::ir::{Definition, Input, Parts};
+use crate::program::{Definition, Input, Parts};
 use dk_base::{
     MAX_INLINED_DEPTH, MAX_INPUTS, MAX_KEPT_IMAGES, MAX_OUTPUTS, MAX_PORT_WIDTH, MAX_WIDTH, Ty,
     select_type,
@@ -256,7 +256,7 @@ fn are_outputs(inputs: &[Input], images: &[Definition], outputs: &[u32]) -> bool
     true
 }
 
-// Whether these are the parts of an Ir.
+// Whether these are the parts of a program.
 pub(crate) fn is_program(parts: &Parts) -> bool
     ensures yes { IsTrue result → IsProgram (program_of parts.now) }
     ensures no { IsProgram (program_of parts.now) → IsTrue result }

@@ -8,7 +8,7 @@ use Rattle.dk_base.specs.declared.ty.Ty.TheVariants.{Unsigned, Signed}
 use Rattle.dk_base.specs.Types.{width_of}
 use Rattle.dk_base.specs.Frames.{Size}
 use Rattle.dk_frames.specs.declared.frame.Frame.{Frame}
-use Rattle.pointwise_ir.specs.declared.ir.Input.{Input}
+use Rattle.pointwise_ir.specs.declared.program.Input.{Input}
 use Rattle.dk_base.specs.Types.{IsPort}
 use Rattle.pointwise_ir.specs.Programs.{Program}
 use Rattle.pointwise_eval.specs.Rounds.{IsInputFrame, AreFrames}

@@ -13,11 +13,11 @@ use dk_base::{FrameSize, OutOfMemory};
 use dk_frames::Frame;
 use pgm_rounds::{Round, write_image};
 use pointwise_eval::evaluate;
-use pointwise_ir::{Ir, meaning_law};
+use pointwise_ir::{Program, meaning_law};
 use std::alloc::Global;
 
 // The greatest sample of an output.
-fn greatest_sample(ir: &Ir, output: u32) -> u16
+fn greatest_sample(ir: &Program, output: u32) -> u16
     requires { IsOutput (types_of ir.now) output }
     ensures is { result ≡ 2 ^ bits_of (types_of ir.now) output - 1 }
     ensures some { 0 < result }
@@ -26,7 +26,7 @@ fn greatest_sample(ir: &Ir, output: u32) -> u16
 }
 
 // Adds the images of the outputs' frames.
-fn add_images(ir: &Ir, frames: &[Frame], file: &mut Vec<u8>) -> Result<(), OutOfMemory>
+fn add_images(ir: &Program, frames: &[Frame], file: &mut Vec<u8>) -> Result<(), OutOfMemory>
     requires { AreOutputFrames ir.now frames.now }
     ensures { OnOk result (file.new.items ≡ file.old.items ++ file_of (images_with (types_of ir.now) ir.now.outputs frames.now)) }
 {
@@ -47,7 +47,7 @@ fn add_images(ir: &Ir, frames: &[Frame], file: &mut Vec<u8>) -> Result<(), OutOf
 /// Evaluates the program on a round, and adds one image for each output in order, whose maxval is the greatest number of the output's type.
 pub fn write_outputs(
     alloc: Global,
-    ir: &Ir,
+    ir: &Program,
     round: &Round,
     file: &mut Vec<u8>,
 ) -> Result<(), OutOfMemory>

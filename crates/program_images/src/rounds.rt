@@ -11,7 +11,7 @@ ghost use Rattle.program_images.specs.Ports.{ports_of};
 
 use dk_base::OutOfMemory;
 use pgm_rounds::{FileError, Round, read_rounds};
-use pointwise_ir::{Input, Ir};
+use pointwise_ir::{Input, Program};
 use std::alloc::Global;
 
 // The width of each input, in bits.
@@ -27,7 +27,11 @@ fn widths_of(alloc: Global, inputs: &[Input]) -> Result<Vec<u8>, OutOfMemory>
 }
 
 /// The rounds of a file of PGM images, for a program: images of the size of its frames, one for each of its inputs in order, and again, to the file's end. Otherwise the first fault.
-pub fn read_program_rounds(alloc: Global, ir: &Ir, bytes: &[u8]) -> Result<Vec<Round>, FileError>
+pub fn read_program_rounds(
+    alloc: Global,
+    ir: &Program,
+    bytes: &[u8],
+) -> Result<Vec<Round>, FileError>
     ensures fits { IfOk result (λ rounds. (images : List (List Image)) × FitsFile (ports_of ir.now) bytes.now images
         × (frames_of rounds.items ≡ map (map frame_of) images)) }
     ensures frames { IfOk result (λ rounds. All (λ r. AreFrames ir.now r.frames.items) rounds.items) }

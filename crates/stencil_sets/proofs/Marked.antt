@@ -4,8 +4,8 @@ use Rattle.std.proofs.lemmas.Bool.{cases_lt}
 use Rattle.dk_base.specs.Frames.{Size}
 use Rattle.pointwise_ir.specs.Trees.{Tree, tree_of, constant, read, shifted, unary, binary, select, convert, scale, EachImage}
 use Rattle.std.proofs.lemmas.List.{length-append}
-use Rattle.pointwise_ir.specs.declared.ir.Definition.{Definition}
-use Rattle.pointwise_ir.specs.declared.ir.Input.{Input}
+use Rattle.pointwise_ir.specs.declared.program.Definition.{Definition}
+use Rattle.pointwise_ir.specs.declared.program.Input.{Input}
 use Rattle.pointwise_ir.specs.Programs.{Program, IsProgram, IsDefined, IsOutput, all_types, types_of, bodies_of}
 use Rattle.pointwise_ir.specs.Reads.{Reads, IsLive, Kept, input, output, reached}
 use Rattle.pointwise_ir.proofs.Pictured.{reads_earlier}

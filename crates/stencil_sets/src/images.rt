@@ -7,7 +7,7 @@ ghost use Rattle.pointwise_ir.specs.Stencils.{AreImages};
 ghost use Rattle.stencil_sets.specs.Marks.{AreMarks};
 
 use dk_base::{Image, OutOfMemory, Ty};
-use pointwise_ir::Ir;
+use pointwise_ir::Program;
 use std::alloc::Global;
 
 // One image more.
@@ -20,7 +20,11 @@ fn push_kept(images: &mut Vec<Image>, number: u32, ty: Ty) -> Result<(), OutOfMe
 }
 
 // The images that are marked, in order.
-pub(crate) fn images_of(alloc: Global, ir: &Ir, kept: &[bool]) -> Result<Vec<Image>, OutOfMemory>
+pub(crate) fn images_of(
+    alloc: Global,
+    ir: &Program,
+    kept: &[bool],
+) -> Result<Vec<Image>, OutOfMemory>
     requires { AreMarks ir.now kept.now }
     ensures images { IfOk result (λ v. AreImages ir.now v.items) }
     ensures form { IfOk result (λ v. AreKeptImages (length ir.now.inputs) v.items) }

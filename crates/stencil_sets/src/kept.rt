@@ -3,7 +3,7 @@
 ghost use Rattle.std.specs.Prelude.{◌≡◌, ◌+◌, ◌<◌, ◌≤◌, ◌⊎◌, ℕ, ℤ, IsTrue, OnOk, IfOk, All, Contains, length};
 ghost use Rattle.dk_base.specs.FrameSizes.{size_of};
 ghost use Rattle.pointwise_ir.specs.Trees.{tree_of};
-ghost use Rattle.pointwise_ir.specs.Programs.{Program, IsProgram, bodies_of};
+ghost use Rattle.pointwise_ir.specs.Programs.{Program as TheProgram, IsProgram, bodies_of};
 ghost use Rattle.pointwise_ir.specs.Reads.{Kept};
 ghost use Rattle.stencil_sets.specs.Paths.{IsIn, Covered, ReadsAt};
 ghost use Rattle.stencil_sets.specs.Marks.{IsMarked, AreMarks, MarksMore, MarkedSoFar};
@@ -11,7 +11,7 @@ ghost use Rattle.stencil_sets.specs.Marks.{IsMarked, AreMarks, MarksMore, Marked
 use crate::path::Rect;
 use crate::reader::rects_of;
 use dk_base::{FrameSize, OutOfMemory};
-use pointwise_ir::{Expr, Ir};
+use pointwise_ir::{Expr, Program};
 use std::alloc::Global;
 
 // Whether the rectangle has an offset.
@@ -84,7 +84,7 @@ fn mark_outputs(kept: &mut [bool], outputs: &[u32])
 }
 
 // Marks what marked images read, the last image first.
-fn mark_needed(alloc: Global, ir: &Ir, kept: &mut [bool]) -> Result<(), OutOfMemory>
+fn mark_needed(alloc: Global, ir: &Program, kept: &mut [bool]) -> Result<(), OutOfMemory>
     requires one_each { length kept.old ≡ length ir.now.inputs + length ir.now.images }
     requires sound { (g : ℕ) → IsMarked kept.old g → Kept ir.now g }
     ensures done { OnOk result (MarkedSoFar ir.now kept.old kept.new 0) }
@@ -104,7 +104,7 @@ fn mark_needed(alloc: Global, ir: &Ir, kept: &mut [bool]) -> Result<(), OutOfMem
 }
 
 // Marks all that is kept.
-fn mark_all(alloc: Global, ir: &Ir, kept: &mut [bool]) -> Result<(), OutOfMemory>
+fn mark_all(alloc: Global, ir: &Program, kept: &mut [bool]) -> Result<(), OutOfMemory>
     requires one_each { length kept.old ≡ length ir.now.inputs + length ir.now.images }
     requires none { (g : ℕ) → IsMarked kept.old g → ⊥ }
     ensures marks { OnOk result (AreMarks ir.now kept.new) }
@@ -117,7 +117,7 @@ fn mark_all(alloc: Global, ir: &Ir, kept: &mut [bool]) -> Result<(), OutOfMemory
 }
 
 // For each image, whether it is kept.
-pub fn kept_images(alloc: Global, ir: &Ir) -> Result<Vec<bool>, OutOfMemory>
+pub fn kept_images(alloc: Global, ir: &Program) -> Result<Vec<bool>, OutOfMemory>
     ensures { IfOk result (λ kept. AreMarks ir.now kept.items) }
 {
     let count = ir.inputs().len() + ir.images().len();

@@ -12,7 +12,7 @@ use crate::images::images_of;
 use crate::kept::kept_images;
 use crate::reads::push_marked;
 use dk_base::{Image, LiveRead, MAX_COUNTED_READS, OutOfMemory, Stencils};
-use pointwise_ir::Ir;
+use pointwise_ir::Program;
 use std::alloc::Global;
 
 /// Why a program has no stencils.
@@ -41,7 +41,7 @@ fn count_of(reads: &[LiveRead]) -> u32
 }
 
 // The live reads of the images that are marked.
-fn reads_of(alloc: Global, ir: &Ir, kept: &[bool]) -> Result<Vec<LiveRead>, StencilFault>
+fn reads_of(alloc: Global, ir: &Program, kept: &[bool]) -> Result<Vec<LiveRead>, StencilFault>
     requires { AreMarks ir.now kept.now }
     ensures reads { IfOk result (λ v. AreReads ir.now v.items) }
     ensures fault { IfErr result (λ fault. IsFault ir.now fault) }
@@ -58,7 +58,7 @@ fn reads_of(alloc: Global, ir: &Ir, kept: &[bool]) -> Result<Vec<LiveRead>, Sten
 
 // The stencils of these images and reads.
 fn stencils_of(
-    ir: &Ir,
+    ir: &Program,
     outputs: Vec<u32>,
     images: Vec<Image>,
     reads: Vec<LiveRead>,
@@ -81,7 +81,11 @@ fn stencils_of(
 }
 
 // The kept images with their widths, and the outputs.
-fn kept_of(alloc: Global, ir: &Ir, kept: &[bool]) -> Result<(Vec<u32>, Vec<Image>), OutOfMemory>
+fn kept_of(
+    alloc: Global,
+    ir: &Program,
+    kept: &[bool],
+) -> Result<(Vec<u32>, Vec<Image>), OutOfMemory>
     requires { AreMarks ir.now kept.now }
     ensures outputs { IfOk result (λ r. r.0.items ≡ ir.now.outputs) }
     ensures images { IfOk result (λ r. AreImages ir.now r.1.items) }
@@ -93,7 +97,7 @@ fn kept_of(alloc: Global, ir: &Ir, kept: &[bool]) -> Result<(Vec<u32>, Vec<Image
 }
 
 /// The stencils of a program: its kept images, which are the inputs, the outputs and what they need, and exactly the reads that some pixel of the frame makes. Or else the number of these reads, if it is above 4,096.
-pub fn live_reads(alloc: Global, ir: &Ir) -> Result<Stencils, StencilFault>
+pub fn live_reads(alloc: Global, ir: &Program) -> Result<Stencils, StencilFault>
     ensures stencils { IfOk result (λ s. AreStencilsOf ir.now s) }
     ensures fault { IfErr result (λ fault. IsFault ir.now fault) }
 {

@@ -14,7 +14,7 @@ ghost use Rattle.stencil_sets.specs.Marks.{AreMarks};
 use crate::found::Halt;
 use crate::reader::{push_reader, rects_of};
 use dk_base::{FrameSize, LiveRead};
-use pointwise_ir::{Expr, Ir};
+use pointwise_ir::{Expr, Program};
 use std::alloc::Global;
 
 // The reads of image f, whose body this is.
@@ -43,7 +43,7 @@ fn push_body(
 // The live reads of the images that are marked.
 pub(crate) fn push_marked(
     alloc: Global,
-    ir: &Ir,
+    ir: &Program,
     kept: &[bool],
     all: &mut Vec<LiveRead>,
 ) -> Result<(), Halt>

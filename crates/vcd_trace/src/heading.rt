@@ -9,7 +9,7 @@ ghost use Rattle.vcd_trace.specs.Header.{each_at, kind_text, variable_text, inpu
 use crate::number::{id_length, push_id};
 use dk_base::OutOfMemory;
 use itoa::Buffer;
-use netlist::{Module, Name, Width, Wiring, input_name, output_name};
+use netlist::{Module, Name, Netlist, Width, input_name, output_name};
 use std::alloc::{AllocError, Global};
 
 fn push_number(out: &mut Vec<u8>, number: u8) -> Result<(), OutOfMemory>
@@ -142,7 +142,7 @@ fn push_nets(
     Ok(())
 }
 
-fn push_ports(out: &mut Vec<u8>, wiring: &Wiring) -> Result<(), OutOfMemory>
+fn push_ports(out: &mut Vec<u8>, wiring: &Netlist) -> Result<(), OutOfMemory>
     ensures { OnOk result (out.new.items ≡ out.old.items ++ ports_text (netlist_of wiring.now)) }
 {
     push_inputs(out, wiring.enable, &wiring.inputs)?;

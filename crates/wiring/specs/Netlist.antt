@@ -9,7 +9,7 @@ use Rattle.wiring.specs.declared.netlist.Shape.{Shape}
 use Rattle.wiring.specs.declared.netlist.Assign.{Assign}
 use Rattle.wiring.specs.declared.netlist.Update.{Update}
 use Rattle.wiring.specs.declared.netlist.Update.TheVariants.{Set, Put}
-use Rattle.wiring.specs.declared.netlist.Wiring.{Wiring}
+use Rattle.wiring.specs.declared.netlist.Netlist.{Netlist as TheNetlist}
 
 -- the widths of the nets of each sort, the arrays, and what drives them, each in the order of the text
 pub record Netlist : Type 0 where
@@ -22,7 +22,7 @@ pub record Netlist : Type 0 where
   pub assigns : List Assign
   pub updates : List Update
 
-abbrev pub netlist_of : Wiring → Netlist
+abbrev pub netlist_of : TheNetlist → Netlist
 netlist_of w = record { enable = w.enable; inputs = w.inputs.items; outputs = w.outputs.items; wires = w.wires.items; regs = w.regs.items; arrays = w.arrays.items; assigns = w.assigns.items; updates = w.updates.items }
 
 abbrev pub net_width : Netlist → Net → ℕ

@@ -13,7 +13,7 @@ ghost use Rattle.wiring.specs.BufferBits.{assign_drive, update_drive, drives, Is
 ghost use Rattle.wiring.specs.Marks.{is_marked, HasMarks, IsSound, IsOpen, IsClosed, Spreads, gap};
 
 use crate::marks::{Marks, add_mark, is_open_assign, is_open_update, no_marks, target_of};
-use crate::netlist::{Assign, Holder, Net, Shape, Update, Wiring};
+use crate::netlist::{Assign, Holder, Net, Netlist, Shape, Update};
 use crate::order::read_at;
 use crate::right::Right;
 use crate::size::Width;
@@ -34,7 +34,7 @@ struct Readings {
 }
 
 // The number of a net or array among all, the sorts one after another.
-fn slot(wiring: &Wiring, holder: Holder) -> usize {
+fn slot(wiring: &Netlist, holder: Holder) -> usize {
     let outputs = wiring.inputs.len();
     let wires = outputs.saturating_add(wiring.outputs.len());
     let regs = wires.saturating_add(wiring.wires.len());
@@ -63,7 +63,7 @@ fn note(readings: &mut Readings, slot: usize, drive: usize) -> Result<(), AllocE
 
 fn note_right(
     readings: &mut Readings,
-    wiring: &Wiring,
+    wiring: &Netlist,
     right: &Right<Net, usize>,
     drive: usize,
 ) -> Result<(), AllocError> {
@@ -80,7 +80,7 @@ fn note_right(
 
 fn note_update(
     readings: &mut Readings,
-    wiring: &Wiring,
+    wiring: &Netlist,
     update: &Update,
     drive: usize,
 ) -> Result<(), AllocError> {
@@ -90,7 +90,7 @@ fn note_update(
     }
 }
 
-fn readings_of(alloc: Global, wiring: &Wiring) -> Result<Readings, AllocError> {
+fn readings_of(alloc: Global, wiring: &Netlist) -> Result<Readings, AllocError> {
     let slots = slot(wiring, Holder::OfArray(wiring.arrays.len()));
     let mut readings = Readings {
         first: vec![in alloc; None; slots]?,
@@ -118,7 +118,7 @@ fn update_at(updates: &[Update], number: usize) -> Option<&Update>
     updates.get(number)
 }
 
-fn mark_assign(marks: &mut Marks, wiring: &Wiring, number: usize) -> Option<Holder>
+fn mark_assign(marks: &mut Marks, wiring: &Netlist, number: usize) -> Option<Holder>
     requires rules { KeepsRules (netlist_of wiring.now) }
     requires size { HasMarks (netlist_of wiring.now) marks.old }
     ensures { Spreads (netlist_of wiring.now) marks.old marks.new }
@@ -136,7 +136,7 @@ fn mark_assign(marks: &mut Marks, wiring: &Wiring, number: usize) -> Option<Hold
     }
 }
 
-fn mark_update(marks: &mut Marks, wiring: &Wiring, number: usize) -> Option<Holder>
+fn mark_update(marks: &mut Marks, wiring: &Netlist, number: usize) -> Option<Holder>
     requires rules { KeepsRules (netlist_of wiring.now) }
     requires size { HasMarks (netlist_of wiring.now) marks.old }
     ensures { Spreads (netlist_of wiring.now) marks.old marks.new }
@@ -155,7 +155,7 @@ fn mark_update(marks: &mut Marks, wiring: &Wiring, number: usize) -> Option<Hold
 }
 
 // Marks the target of an assign or update that reads what has a mark. The target, where it is new.
-fn mark_drive(marks: &mut Marks, wiring: &Wiring, drive: usize) -> Option<Holder>
+fn mark_drive(marks: &mut Marks, wiring: &Netlist, drive: usize) -> Option<Holder>
     requires rules { KeepsRules (netlist_of wiring.now) }
     requires size { HasMarks (netlist_of wiring.now) marks.old }
     ensures { Spreads (netlist_of wiring.now) marks.old marks.new }
@@ -171,7 +171,7 @@ fn mark_drive(marks: &mut Marks, wiring: &Wiring, drive: usize) -> Option<Holder
 // Marks what reads this net or array, and notes what got a mark.
 fn follow(
     marks: &mut Marks,
-    wiring: &Wiring,
+    wiring: &Netlist,
     readings: &Readings,
     found: &mut Vec<Holder>,
     holder: Holder,
@@ -203,7 +203,7 @@ fn follow(
 // Marks all that is reached from what was found. Which readings there are is not proved: `close` looks whether all was reached.
 fn spread(
     marks: &mut Marks,
-    wiring: &Wiring,
+    wiring: &Netlist,
     readings: &Readings,
     found: &mut Vec<Holder>,
 ) -> Result<(), AllocError>
@@ -245,7 +245,7 @@ fn open_update(marks: &Marks, updates: &[Update]) -> Option<Holder>
 }
 
 // Marks the target of one assign or update that reads what has a mark. Whether there was one.
-fn close(marks: &mut Marks, wiring: &Wiring) -> bool
+fn close(marks: &mut Marks, wiring: &Netlist) -> bool
     requires rules { KeepsRules (netlist_of wiring.now) }
     requires size { HasMarks (netlist_of wiring.now) marks.old }
     ensures spreads { Spreads (netlist_of wiring.now) marks.old marks.new }
@@ -261,7 +261,7 @@ fn close(marks: &mut Marks, wiring: &Wiring) -> bool
     }
 }
 
-fn close_updates(marks: &mut Marks, wiring: &Wiring) -> bool
+fn close_updates(marks: &mut Marks, wiring: &Netlist) -> bool
     requires rules { KeepsRules (netlist_of wiring.now) }
     requires size { HasMarks (netlist_of wiring.now) marks.old }
     requires assigns { All (λ (a : Assign). IsClosed marks.old (assign_drive a)) wiring.now.assigns.items }
@@ -278,7 +278,7 @@ fn close_updates(marks: &mut Marks, wiring: &Wiring) -> bool
     }
 }
 
-fn mark_din(marks: &mut Marks, wiring: &Wiring, number: usize)
+fn mark_din(marks: &mut Marks, wiring: &Netlist, number: usize)
     requires port { first_din (netlist_of wiring.now) ≤ number }
     requires within { number < length wiring.now.inputs.items }
     requires size { HasMarks (netlist_of wiring.now) marks.old }
@@ -293,7 +293,7 @@ fn mark_din(marks: &mut Marks, wiring: &Wiring, number: usize)
 }
 
 // Marks each din, and notes it.
-fn mark_dins(marks: &mut Marks, wiring: &Wiring, found: &mut Vec<Holder>) -> Result<(), AllocError>
+fn mark_dins(marks: &mut Marks, wiring: &Netlist, found: &mut Vec<Holder>) -> Result<(), AllocError>
     requires size { HasMarks (netlist_of wiring.now) marks.old }
     ensures spreads { Spreads (netlist_of wiring.now) marks.old marks.new }
     ensures dins { OnOk result ((i : ℕ) → first_din (netlist_of wiring.now) ≤ i → i < length wiring.now.inputs.items
@@ -308,7 +308,7 @@ fn mark_dins(marks: &mut Marks, wiring: &Wiring, found: &mut Vec<Holder>) -> Res
 }
 
 // The nets and arrays that the inputs feed.
-fn fed_marks(alloc: Global, wiring: &Wiring) -> Result<Marks, AllocError>
+fn fed_marks(alloc: Global, wiring: &Netlist) -> Result<Marks, AllocError>
     requires { KeepsRules (netlist_of wiring.now) }
     ensures size { IfOk result (HasMarks (netlist_of wiring.now)) }
     ensures sound { IfOk result (IsSound (netlist_of wiring.now)) }
@@ -364,7 +364,7 @@ fn chosen_bits(widths: &[Width], chosen: &[bool]) -> u128
 }
 
 /// The bits of all arrays, and of each register that takes in what the inputs were fed, through assigns and state.
-pub fn buffer_bits(alloc: Global, wiring: &Wiring) -> Result<u128, AllocError>
+pub fn buffer_bits(alloc: Global, wiring: &Netlist) -> Result<u128, AllocError>
     requires { KeepsRules (netlist_of wiring.now) }
     ensures { IfOk result (IsBufferBits (netlist_of wiring.now)) }
 {

@@ -17,7 +17,7 @@ pub use laws::{
     clocks_counted_law, counted_since_law, equal_rights_law, no_cycle_law, one_count_law,
     one_next_law, one_valuation_law, runs_are_histories_law,
 };
-pub use netlist::{Assign, Holder, Net, Shape, Update, Wiring};
+pub use netlist::{Assign, Holder, Net, Netlist, Shape, Update};
 pub use order::{OrderFault, evaluation_order};
 pub use right::{Atom, Operator, Right};
 pub use size::{Constant, Depth, Width};

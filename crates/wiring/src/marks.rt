@@ -7,7 +7,7 @@ ghost use Rattle.wiring.specs.Netlist.{netlist_of, update_target};
 ghost use Rattle.wiring.specs.BufferBits.{atom_reads, right_reads, update_reads, assign_drive, update_drive};
 ghost use Rattle.wiring.specs.Marks.{is_marked, any_marked, HasMark, HasMarks, Adds, IsClosed, IsOpen};
 
-use crate::netlist::{Assign, Holder, Net, Update, Wiring};
+use crate::netlist::{Assign, Holder, Net, Netlist, Update};
 use crate::right::{Atom, Right};
 use std::alloc::{AllocError, Global};
 
@@ -29,7 +29,7 @@ fn bare(alloc: Global, length: usize) -> Result<Vec<bool>, AllocError>
 }
 
 // No marks, with a place for each.
-pub fn no_marks(alloc: Global, wiring: &Wiring) -> Result<Marks, AllocError>
+pub fn no_marks(alloc: Global, wiring: &Netlist) -> Result<Marks, AllocError>
     ensures size { IfOk result (HasMarks (netlist_of wiring.now)) }
     ensures none { IfOk result (λ d. (h : Holder) → is_marked d h ≡ false) }
 {

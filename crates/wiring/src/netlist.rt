@@ -46,7 +46,7 @@ pub enum Update {
 
 /// Nets by their widths, arrays by their shapes, and what drives them.
 #[derive(Debug, Drop)]
-pub struct Wiring {
+pub struct Netlist {
     /// Whether there is the port `en`.
     pub enable: bool,
     pub inputs: Vec<Width>,

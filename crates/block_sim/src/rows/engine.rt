@@ -4,7 +4,7 @@ ghost use Rattle.std.specs.Prelude.{◌≡◌, length};
 
 use block_code::BlockCode;
 use block_plan::Plan;
-use netlist::{Right, Update, Wiring};
+use netlist::{Netlist, Right, Update};
 use std::alloc::{AllocError, Global};
 use wiring::Atom;
 
@@ -33,7 +33,7 @@ fn register_of(update: &Update) -> Option<usize> {
 }
 
 // The register that each update sets.
-pub fn registers_of(alloc: Global, wiring: &Wiring) -> Result<Vec<Option<usize>>, AllocError> {
+pub fn registers_of(alloc: Global, wiring: &Netlist) -> Result<Vec<Option<usize>>, AllocError> {
     let mut registers = Vec::new(alloc);
     for update in &wiring.updates {
         registers.push(register_of(update))?;
@@ -49,7 +49,7 @@ fn array_of<N>(right: &Right<N, usize>) -> Option<usize> {
 }
 
 // The array that each assign reads.
-pub fn arrays_of(alloc: Global, wiring: &Wiring) -> Result<Vec<Option<usize>>, AllocError> {
+pub fn arrays_of(alloc: Global, wiring: &Netlist) -> Result<Vec<Option<usize>>, AllocError> {
     let mut arrays = Vec::new(alloc);
     for assign in &wiring.assigns {
         arrays.push(array_of(&assign.right))?;

@@ -18,7 +18,7 @@ use block_code::BlockCode;
 use block_plan::{Plan, make_plan};
 use block_rows::Spares;
 use dk_base::OutOfMemory;
-use netlist::{Module, Wiring};
+use netlist::{Module, Netlist};
 use std::alloc::{AllocError, Global};
 
 // The most words that rows take.
@@ -59,7 +59,7 @@ fn room_of(alloc: Global, size: usize) -> Result<ArrayRoom, AllocError> {
 }
 
 // Room for the words of small arrays.
-fn copies_of(alloc: Global, wiring: &Wiring) -> Result<Vec<Vec<u64>>, AllocError> {
+fn copies_of(alloc: Global, wiring: &Netlist) -> Result<Vec<Vec<u64>>, AllocError> {
     let mut copies = Vec::new(alloc);
     for shape in &wiring.arrays {
         let depth = shape.depth.words() as usize;
@@ -69,7 +69,7 @@ fn copies_of(alloc: Global, wiring: &Wiring) -> Result<Vec<Vec<u64>>, AllocError
     Ok(copies)
 }
 
-fn hints_of(alloc: Global, wiring: &Wiring) -> Result<Hints, AllocError> {
+fn hints_of(alloc: Global, wiring: &Netlist) -> Result<Hints, AllocError> {
     let words = copies_of(alloc, wiring)?;
     let steps = vec![in alloc; 1; wiring.regs.len()]?;
     let stands = vec![in alloc; true; wiring.regs.len()]?;
@@ -98,7 +98,7 @@ fn size_of(slots: usize) -> usize
 fn rows_of_engine(
     alloc: Global,
     engine: Engine,
-    wiring: &Wiring,
+    wiring: &Netlist,
     size: usize,
 ) -> Result<Rows, AllocError>
     requires some { 1 ≤ size }
@@ -127,7 +127,7 @@ fn engine_of(
     alloc: Global,
     code: BlockCode,
     plan: Plan,
-    wiring: &Wiring,
+    wiring: &Netlist,
     ports: usize,
 ) -> Result<Engine, AllocError>
     requires code { IsBlockCode (netlist_of wiring.now) code }

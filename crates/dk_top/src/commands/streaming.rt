@@ -22,12 +22,12 @@ use dk_desk::{Desk, InSlot, Stage};
 use dk_endings::{Ending, ImageFault};
 use netlist::Module;
 use pgm_rounds::one_file_law;
-use pointwise_ir::Ir;
+use pointwise_ir::Program;
 use row_stream::{Form, Room, StreamFault, stream, streams_most};
 use std::alloc::Global;
 
 // Whether the program has one input and one output.
-pub fn is_one_port(ir: &Ir) -> bool
+pub fn is_one_port(ir: &Program) -> bool
     ensures yes { IsTrue result → (p : Typing) → IsForm p ir.now → IsOnePort p }
     ensures no { (p : Typing) → IsForm p ir.now → IsOnePort p → IsTrue result }
 {

@@ -1,5 +1,5 @@
 use Rattle.std.proofs.Common.{◌≡◌, ℕ, slice_index_or, ◌<◌, ◌≤◌}
-use Rattle.pointwise_ir.specs.declared.ir.Definition.{Definition}
+use Rattle.pointwise_ir.specs.declared.program.Definition.{Definition}
 use Rattle.dk_inline.specs.Standing.{IsFoldedImage}
 use Rattle.dk_inline.proofs.fold.fold_images.Given as goal
 

@@ -1,7 +1,7 @@
 use Rattle.std.proofs.Common.{◌≡◌, List, length, ap, sym, ◌∙◌, subst, map}
 use Rattle.std.specs.List.{All}
 use Rattle.dk_base.specs.FrameSizes.{size_of}
-use Rattle.pointwise_ir.specs.declared.ir.Definition.{Definition}
+use Rattle.pointwise_ir.specs.declared.program.Definition.{Definition}
 use Rattle.pointwise_ir.specs.Trees.{tree_of}
 use Rattle.pointwise_ir.specs.Programs.{program_of}
 use Rattle.pointwise_ir.specs.Rewritings.{IsSameBut}

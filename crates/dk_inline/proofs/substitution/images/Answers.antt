@@ -2,7 +2,7 @@ use Rattle.std.proofs.Common.{length, subst, ◌<◌, List}
 use Rattle.dk_types.specs.declared.typed.TypedDefinition.{TypedDefinition}
 use Rattle.dk_types.specs.Typed.{definition_of, typing_of, image_type}
 use Rattle.dk_types.specs.Typed as T
-use Rattle.pointwise_ir.specs.declared.ir.Definition.{Definition}
+use Rattle.pointwise_ir.specs.declared.program.Definition.{Definition}
 use Rattle.pointwise_ir.specs.Trees.{tree_of}
 use Rattle.dk_inline.proofs.Bodies.{at_number}
 use Rattle.dk_inline.proofs.Listed.{mapped_more, bodies_more}

@@ -1,7 +1,7 @@
 use Rattle.std.proofs.Common.{◌≡◌, map, take}
 use Rattle.dk_types.specs.Typed.{typing_of, image_type}
 use Rattle.dk_types.specs.Typed as T
-use Rattle.pointwise_ir.specs.declared.ir.Definition.{Definition}
+use Rattle.pointwise_ir.specs.declared.program.Definition.{Definition}
 use Rattle.pointwise_ir.specs.Trees.{tree_of}
 use Rattle.dk_inline.specs.Inlined.{bodies_from}
 use Rattle.dk_inline.proofs.substitution.images.Given as goal

@@ -1,5 +1,5 @@
 use Rattle.std.proofs.Common.{◌≡◌, map, take}
-use Rattle.pointwise_ir.specs.declared.ir.Input.{Input}
+use Rattle.pointwise_ir.specs.declared.program.Input.{Input}
 use Rattle.dk_types.specs.declared.typed.TypedInput.{TypedInput}
 use Rattle.dk_inline.proofs.substitution.inputs.Given as goal
 

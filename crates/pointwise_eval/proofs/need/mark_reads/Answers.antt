@@ -1,5 +1,5 @@
 use Rattle.std.proofs.Common.{◌≡◌, ◌+◌, ◌-◌, ◌<◌, true, false, length, map, get_or, ◌∙◌, sym, subst, arith}
-use Rattle.pointwise_ir.specs.declared.ir.Definition.{Definition}
+use Rattle.pointwise_ir.specs.declared.program.Definition.{Definition}
 use Rattle.pointwise_ir.specs.Trees.{tree_of}
 use Rattle.pointwise_ir.proofs.Agreement.{each_weaker}
 use Rattle.pointwise_eval.proofs.Marks.{IsClosed, closed_marked, closed_left, body_at}

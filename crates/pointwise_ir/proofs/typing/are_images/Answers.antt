@@ -2,7 +2,7 @@ use Rattle.std.proofs.Common.{List, refl, sym, subst, ◌∙◌, arith, ◌<◌}
 use Rattle.std.specs.List.{All}
 use Rattle.std.proofs.lemmas.Option.{slice_get_read, slice_get_within}
 use Rattle.dk_base.specs.Types.{IsType}
-use Rattle.pointwise_ir.specs.declared.ir.Definition.{Definition}
+use Rattle.pointwise_ir.specs.declared.program.Definition.{Definition}
 use Rattle.pointwise_ir.specs.Programs.{IsDefined, all_types}
 use Rattle.pointwise_ir.proofs.Defined.{types_below, defined_more}
 use Rattle.pointwise_ir.proofs.typing.are_images.Goals as goal

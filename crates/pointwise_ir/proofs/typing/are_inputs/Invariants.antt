@@ -1,5 +1,5 @@
 use Rattle.std.proofs.Common.{ℕ, ◌<◌, slice_index_or}
-use Rattle.pointwise_ir.specs.declared.ir.Input.{Input}
+use Rattle.pointwise_ir.specs.declared.program.Input.{Input}
 use Rattle.dk_base.specs.Types.{IsPort}
 use Rattle.pointwise_ir.proofs.typing.are_inputs.Given as goal
 

@@ -20,7 +20,7 @@ pub struct Definition {
     pub body: Expr,
 }
 
-/// The parts of an `Ir`. The images are the inputs, numbered from 0, and then the definitions, numbered on; `outputs` has the numbers of those that are outputs.
+/// The parts of a `Program`. The images are the inputs, numbered from 0, and then the definitions, numbered on; `outputs` has the numbers of those that are outputs.
 #[derive(Drop)]
 pub struct Parts {
     pub size: FrameSize,
@@ -31,16 +31,16 @@ pub struct Parts {
 
 /// A program whose inline images are substituted: images over a frame, each an expression of earlier ones.
 #[derive(Drop)]
-pub struct Ir {
+pub struct Program {
     parts: Parts,
 }
 
-impl Model for Ir {
+impl Model for Program {
     ghost use Rattle.std.specs.Coded.{codes};
     ghost use Rattle.pointwise_ir.specs.contracts.expr.Expr as e;
-    ghost use Rattle.pointwise_ir.specs.Programs.{Program, program_of, IsProgram};
+    ghost use Rattle.pointwise_ir.specs.Programs.{Program as TheProgram, program_of, IsProgram};
 
-    ghost Value = { Program };
+    ghost Value = { TheProgram };
 
     ghost coded = { Prim.hlevel (codes, e.the_row.coded) };
 
@@ -49,26 +49,26 @@ impl Model for Ir {
     ghost invariant = { λ a. IsProgram (program_of a.parts) };
 }
 
-impl Ir {
+impl Program {
     ghost use Rattle.std.specs.Prelude.{◌≡◌, ◌<◌, Some, IsSome, IfSome, ◌↔◌, length, slice_get};
     ghost use Rattle.dk_base.specs.FrameSizes.{size_of};
     ghost use Rattle.pointwise_ir.specs.Programs.{program_of, types_of, IsProgram};
 
-    /// The Ir of these parts. It takes no memory.
-    pub fn new(parts: Parts) -> Ir
+    /// The program of these parts. It takes no memory.
+    pub fn new(parts: Parts) -> Program
         requires { IsProgram (program_of parts) }
         ensures { result ≡ program_of parts }
     {
-        Ir { parts }
+        Program { parts }
     }
 
-    /// The Ir of these parts, or None where they are none. It takes no memory.
-    pub fn checked(parts: Parts) -> Option<Ir>
+    /// The program of these parts, or None if they are not those of a program. It takes no memory.
+    pub fn checked(parts: Parts) -> Option<Program>
         ensures made { IsSome result ↔ IsProgram (program_of parts) }
         ensures parts { IfSome result (λ ir. ir ≡ program_of parts) }
     {
         if is_program(&parts) {
-            Some(Ir { parts })
+            Some(Program { parts })
         } else {
             None
         }
