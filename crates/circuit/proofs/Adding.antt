@@ -35,7 +35,7 @@ use Rattle.circuit.specs.Reads.{reads_in}
 use Rattle.circuit.specs.Forms.{Shapes, Places, Property, IsBuffered, shapes_of, shapes_before}
 use Rattle.circuit.specs.Images.{IsImageNet, IsLine, AreBuilt, ports_of}
 use Rattle.circuit.proofs.Typing.{entry_or}
-use Rattle.circuit.proofs.Bodied.{read_of, read_is_between}
+use Rattle.circuit.proofs.BodyNets.{read_of, read_is_between}
 use Rattle.circuit.proofs.Building.{built_more, entry_kept, place_of_entry}
 
 -- The image i, at place k among the kept ones.

@@ -35,7 +35,7 @@ use Rattle.circuit.specs.Rounds.{Rounds, AreRounds, Feeds, pixel, pixel_bits, pi
 use Rattle.circuit.specs.Forms.{Places}
 use Rattle.circuit.specs.Behaviour.{HasPorts, Behaves, is_valid}
 use Rattle.circuit.specs.Driven.{input_widths, output_at, fed_clock, driven, Agree, Drives}
-use Rattle.circuit.proofs.Bodied.{entry_of}
+use Rattle.circuit.proofs.BodyNets.{entry_of}
 use Rattle.circuit.proofs.Typing.{entry_or}
 
 -- a run has a snapshot for each clock

@@ -36,7 +36,7 @@ use Rattle.circuit.specs.Images.{IsImageNet, ports_of}
 use Rattle.circuit.proofs.Typing.{entry_or, plan_width, reads_typed, reads_before}
 use Rattle.circuit.proofs.Paths.{reads_long, bits_long}
 use Rattle.circuit.proofs.Lasting.{leaf_nets_more}
-use Rattle.circuit.proofs.Bodied.{entry_of, type_typed, types_of_reads, body_net_is}
+use Rattle.circuit.proofs.BodyNets.{entry_of, type_typed, types_of_reads, body_net_is}
 
 -- what is there of the first images is there of them all
 among_all : {A B : Type 0} (f : A → B) (xs : List B) (ys : List A) (k g : ℕ) (t : B) → slice_get (xs ++ map f (take k ys)) g ≡ Some t → slice_get (xs ++ map f ys) g ≡ Some t

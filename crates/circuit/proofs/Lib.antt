@@ -4,7 +4,7 @@ pub mod Feeding
 pub mod Paths
 pub mod Tapped
 pub mod Reading
-pub mod Bodies
+pub mod BodyPixels
 pub mod Bits
 pub mod Lasting
 pub mod Choosing
@@ -12,7 +12,7 @@ pub mod Building
 pub mod Leafing
 pub mod Typing
 pub mod Placing
-pub mod Bodied
+pub mod BodyNets
 pub mod Searching
 pub mod Taking
 pub mod Imaging

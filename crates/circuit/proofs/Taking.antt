@@ -20,7 +20,7 @@ use Rattle.circuit.specs.Leaves.{LeafRead}
 use Rattle.circuit.specs.Taps.{Keeps, size_in, taps_at, IsTapOf, IsReading}
 use Rattle.circuit.specs.Reads.{reads_in, IsChoice, IsChosen, IsNetOf, IsReadNet}
 use Rattle.circuit.proofs.Typing.{plan_width}
-use Rattle.circuit.proofs.Bodied.{read_of, read_is_between, type_typed}
+use Rattle.circuit.proofs.BodyNets.{read_of, read_is_between, type_typed}
 use Rattle.circuit.proofs.Lasting.{choice_more}
 
 -- what is known of a live read by image f

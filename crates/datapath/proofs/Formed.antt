@@ -16,7 +16,7 @@ use Rattle.datapath.specs.declared.lowering.Walked.{Walked}
 use Rattle.datapath.specs.Expressions.{edge_bits}
 use Rattle.datapath.specs.Walks.{IsPartAt, IsWalked}
 use Rattle.datapath.proofs.Gates.{leaves_later}
-use Rattle.datapath.proofs.Parted.{shifted_part, unary_part, convert_part, scale_part, left_part, right_part, condition_part, chosen_part, other_part}
+use Rattle.datapath.proofs.ExpressionParts.{shifted_part, unary_part, convert_part, scale_part, left_part, right_part, condition_part, chosen_part, other_part}
 
 pub shifted_tree : (x : Expr) (edge : Edge) (dx dy : ℤ) (p : _) (a d : Expr) → x ≡ Shifted' edge dx dy p a → d ≡ a → tree_of x ≡ shifted edge dx dy (tree_of d)
 shifted_tree x edge dx dy p a d is h = ap tree_of is ∙ sym (ap (λ e. shifted edge dx dy (tree_of e)) h)

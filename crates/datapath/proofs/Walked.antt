@@ -22,7 +22,7 @@ use Rattle.datapath.specs.Operands.{IsOperand, Carries, worth}
 use Rattle.datapath.specs.Expressions.{HasLeaves, LeavesAreOperands, IsMadeOfLeaves, edge_bits, edged, unary_result, scaling_result, type_of, types_in, type_or, worth_in, worth_or, set_in, is_set, leaf_value, reads_in, bits_in}
 use Rattle.datapath.specs.Walks.{IsPartAt, IsWalked}
 use Rattle.datapath.proofs.Growth.{part_on}
-use Rattle.datapath.proofs.Parted.{leaves_constant, leaves_read, leaves_one, leaves_two, leaves_three}
+use Rattle.datapath.proofs.ExpressionParts.{leaves_constant, leaves_read, leaves_one, leaves_two, leaves_three}
 
 at_place : (b : Netlist) (w : Walked) (e : Tree) (reads : List (Ty × Net)) (bits : List Net) (m n j k : ℕ) → m ≡ n → j ≡ k → IsWalked b w e reads bits m j → IsWalked b w e reads bits n k
 at_place b w e reads bits m n j k p q h =

@@ -13,7 +13,7 @@ pub mod Listed
 pub mod Stenciled
 pub mod AtAge
 pub mod Errors
-pub mod Shown
-pub mod Shows
+pub mod LatePictures
+pub mod DrivePictures
 pub mod Rounds
 pub mod Printed

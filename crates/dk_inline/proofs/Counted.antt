@@ -15,7 +15,7 @@ use Rattle.dk_inline.specs.Inlined.{Substitute, itself, body, inlined_body, subs
 use Rattle.dk_inline.specs.Nodes.{nodes_of, nodes_from, node_count, IsDeep, IsFirstDeep}
 use Rattle.dk_inline.specs.Extents.{saturated, IsExtent, IsExtentOf, AreExtents, HaveExtents}
 use Rattle.dk_inline.proofs.Substituted.{body_same, input, definition, well_at, earlier}
-use Rattle.dk_inline.proofs.Lists.{entry, past_end, none_left, length-taken}
+use Rattle.dk_inline.proofs.ListPlaces.{entry, past_end, none_left, length-taken}
 use Rattle.dk_inline.proofs.Bodies.{entry_as}
 
 -- numbers

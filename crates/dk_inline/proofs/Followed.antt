@@ -13,7 +13,7 @@ use Rattle.dk_types.specs.Reads.{Mentions, IsDefinitionOf, IsStored, Reads, dire
 use Rattle.pointwise_ir.specs.Trees.{Tree}
 use Rattle.pointwise_ir.specs.Reads as R
 use Rattle.dk_inline.specs.Inlined.{Substitute, itself, body, edge_of, read_of, inlined, declared_as, inlined_body, substitutes}
-use Rattle.dk_inline.proofs.Lists.{entry}
+use Rattle.dk_inline.proofs.ListPlaces.{entry}
 use Rattle.dk_inline.proofs.Substituted.{substitute_at, input, definition, well_at, earlier}
 
 -- a step ends at the same point on both sides

@@ -1,4 +1,4 @@
-pub mod Lists
+pub mod ListPlaces
 pub mod Substituted
 pub mod Framed
 pub mod Meant
@@ -9,9 +9,9 @@ pub mod Welltyped
 pub mod Programs
 pub mod Bodies
 pub mod Counted
-pub mod Listed
+pub mod ListJoins
 pub mod Whole
-pub mod Folding
-pub mod Folds
+pub mod Replacements
+pub mod FoldResults
 pub mod WorkedFolds
-pub mod FoldedImages
+pub mod FoldedPrograms

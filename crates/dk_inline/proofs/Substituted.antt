@@ -13,7 +13,7 @@ use Rattle.dk_types.specs.Types.{Takes}
 use Rattle.dk_types.specs.Kept.{IsWell, AreWell, IsTyped}
 use Rattle.pointwise_ir.specs.Trees.{unary, binary, select, convert, scale}
 use Rattle.dk_inline.specs.Inlined.{Substitute, itself, body, read_of, inlined, declared_as, inlined_body, substitute_of, substitutes_from, substitutes}
-use Rattle.dk_inline.proofs.Lists.{past_end, length-taken}
+use Rattle.dk_inline.proofs.ListPlaces.{past_end, length-taken}
 
 -- what is in place of image g
 abbrev pub substitute_at : List Substitute → ℕ → Substitute

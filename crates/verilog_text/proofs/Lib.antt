@@ -1,6 +1,6 @@
 pub mod Unique
-mod Parsing
-mod Parsed
+mod PartReaders
+mod ParsedParts
 mod Modules
 mod Sameness
 mod Exclusion

@@ -9,8 +9,8 @@ use Rattle.verilog_text.specs.declared.written.WrittenDeclaration.{WrittenDeclar
 use Rattle.verilog_text.specs.declared.written.WrittenAssign.{WrittenAssign}
 use Rattle.verilog_text.specs.declared.written.WrittenUpdate.{WrittenUpdate}
 use Rattle.verilog_text.specs.Grammar.{Tokens, named, Ports, last, more, Each, none, more as further, Assign, assign, Update, Declares, Block, left_out, always, Source, Module, whole}
-use Rattle.verilog_text.proofs.Parsing.{port_of, assign_of, update_of, declaration_of}
-use Rattle.verilog_text.proofs.Parsed.{port_is, assign_is, update_is, declaration_is}
+use Rattle.verilog_text.proofs.PartReaders.{port_of, assign_of, update_of, declaration_of}
+use Rattle.verilog_text.proofs.ParsedParts.{port_is, assign_is, update_is, declaration_is}
 
 -- one result
 abbrev found_or : {V : Type 0} → V × Tokens → Option (V × Tokens) → V × Tokens

@@ -7,7 +7,7 @@ use Rattle.wiring.specs.declared.netlist.Holder.{Holder}
 use Rattle.wiring.specs.declared.netlist.Holder.TheVariants.{OfNet, OfArray}
 use Rattle.wiring.specs.declared.marks.Marks.{Marks}
 use Rattle.wiring.specs.Marks.{is_marked, HasMark, unmarked, Adds}
-use Rattle.wiring.proofs.Marking.{unmarked-set}
+use Rattle.wiring.proofs.MarkSpread.{unmarked-set}
 
 -- no mark in a list of none
 pub none_at : (n i : ℕ) → get_or (replicate n false) i false ≡ false

@@ -100,7 +100,7 @@ fn reads_atom(marks: &Marks, atom: &Atom<Net>) -> bool
 }
 
 // Whether a right side reads what has a mark.
-#[tactic(auto, using(crate::proofs::Marking::any_append))]
+#[tactic(auto, using(crate::proofs::MarkSpread::any_append))]
 pub fn reads_right(marks: &Marks, right: &Right<Net, usize>) -> bool
     ensures { result ≡ any_marked marks.now (right_reads right.now) }
 {
@@ -116,7 +116,7 @@ pub fn reads_right(marks: &Marks, right: &Right<Net, usize>) -> bool
 }
 
 // Whether an update reads what has a mark.
-#[tactic(auto, using(crate::proofs::Marking::any_append))]
+#[tactic(auto, using(crate::proofs::MarkSpread::any_append))]
 pub fn reads_update(marks: &Marks, update: &Update) -> bool
     ensures { result ≡ any_marked marks.now (update_reads update.now) }
 {

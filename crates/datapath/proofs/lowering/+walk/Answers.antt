@@ -5,7 +5,7 @@ use Rattle.pointwise_ir.specs.Trees.{tree_of}
 use Rattle.datapath.proofs.Growth.{then_grows, grows_itself}
 use Rattle.datapath.proofs.Carried.{operand_later}
 use Rattle.datapath.proofs.Gates.{leaves_later}
-use Rattle.datapath.proofs.Parted.{constant_typed, read_place, shifted_place, unary_takes, convert_type, scale_takes, binary_takes, condition_type, select_type}
+use Rattle.datapath.proofs.ExpressionParts.{constant_typed, read_place, shifted_place, unary_takes, convert_type, scale_takes, binary_takes, condition_type, select_type}
 use Rattle.datapath.proofs.Formed.{shifted_tree, unary_tree, convert_tree, scale_tree, binary_tree, select_tree}
 use Rattle.datapath.proofs.Leafless.{no_read, shifted_leafless, unary_leafless, convert_leafless, scale_leafless, binary_leafless, select_leafless}
 use Rattle.datapath.proofs.Walked.{literal_walked, read_walked, shifted_walked, unary_walked, convert_walked, scale_walked, binary_walked, select_walked}

@@ -3,7 +3,7 @@ use Rattle.wiring.specs.Netlist.{Netlist}
 use Rattle.datapath.proofs.Named.{named_carries}
 use Rattle.datapath.proofs.Gates.{leaves_have}
 use Rattle.datapath.proofs.Growth.{then_grows}
-use Rattle.datapath.proofs.Parted.{leaves_one}
+use Rattle.datapath.proofs.ExpressionParts.{leaves_one}
 use Rattle.datapath.proofs.Walked.{whole_part, leaves_as, part_as, walked_over}
 use Rattle.datapath.proofs.lowering.lower.Goals as goal
 

@@ -2,7 +2,7 @@ use Rattle.std.proofs.Common.{refl}
 use Rattle.datapath.proofs.Leafless.{unclamped}
 use Rattle.datapath.proofs.Growth.{grows_itself}
 use Rattle.datapath.proofs.Walked.{gate_carries, clamped_carries}
-use Rattle.datapath.proofs.Parted.{leaves_gate}
+use Rattle.datapath.proofs.ExpressionParts.{leaves_gate}
 use Rattle.datapath.proofs.lowering.shifted.Goals as goal
 
 pub returns-in_ok-gate-in-Zero-clause-value : goal.returns-in_ok-gate-in-Zero-clause-value

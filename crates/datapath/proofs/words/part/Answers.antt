@@ -1,5 +1,5 @@
 use Rattle.std.proofs.Common.{refl}
-use Rattle.datapath.proofs.Parts.{whole_part, part_word}
+use Rattle.datapath.proofs.WordParts.{whole_part, part_word}
 use Rattle.datapath.proofs.Growth.{then_grows, grows_itself}
 use Rattle.datapath.proofs.Over.{itself_over, then_one, over_later, nothing_over}
 use Rattle.datapath.proofs.Known.{not_none}

@@ -1,5 +1,5 @@
 use Rattle.std.proofs.Common.{◌∙◌}
-use Rattle.datapath.proofs.Parts.{signs_of}
+use Rattle.datapath.proofs.WordParts.{signs_of}
 use Rattle.datapath.proofs.Growth.{then_grows, width_later}
 use Rattle.datapath.proofs.Over.{itself_over, then_one, then_two, over_later}
 use Rattle.datapath.proofs.words.with_signs.Goals as goal

@@ -1,7 +1,7 @@
 use Rattle.std.proofs.Common.{◌≡◌, ◌*◌, ◌∙◌, ap, arith, map, unsigned_abs}
 use Rattle.std.specs.List.{range_with_len}
 use Rattle.dk_base.specs.Frames.{area, pixel_of}
-use Rattle.dk_compile.proofs.Shows.{shows, first_shown, whole_shown}
+use Rattle.dk_compile.proofs.DrivePictures.{shows, first_shown, whole_shown}
 use Rattle.dk_compile.proofs.Rounds.{all_rasters}
 use Rattle.dk_compile.proofs.laws.drive_shows_law.Goals as goal
 

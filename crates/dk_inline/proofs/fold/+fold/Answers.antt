@@ -1,8 +1,8 @@
 use Rattle.std.proofs.Common.{refl, rules}
 use Rattle.pointwise_ir.specs.Trees.{tree_of}
 use Rattle.dk_inline.specs.Folded.{HasFoldedParts}
-use Rattle.dk_inline.proofs.Folding.{still_typed, worth_stands, stands_on, shifted_stands, unary_stands, binary_stands, select_stands, convert_stands, scale_stands}
-use Rattle.dk_inline.proofs.Folds.{constant_fold, same_fold}
+use Rattle.dk_inline.proofs.Replacements.{still_typed, worth_stands, stands_on, shifted_stands, unary_stands, binary_stands, select_stands, convert_stands, scale_stands}
+use Rattle.dk_inline.proofs.FoldResults.{constant_fold, same_fold}
 use Rattle.dk_inline.proofs.fold.+fold.Goals as goal
 
 pub fold_expression-constant_of-requires-clause-typed : goal.fold_expression-constant_of-requires-clause-typed

@@ -1,7 +1,7 @@
 use Rattle.std.proofs.Common.{rules, sym, FitsSigned}
 use Rattle.std.proofs.lemmas.Int.{to_z-of_z}
 use mir.Syntax.{w128}
-use Rattle.dk_inline.proofs.Folding.{binary_worth, takes_two}
+use Rattle.dk_inline.proofs.Replacements.{binary_worth, takes_two}
 use Rattle.dk_inline.proofs.fold.binary_constant.Goals as goal
 
 pub binary_value-value-requires : goal.binary_value-value-requires

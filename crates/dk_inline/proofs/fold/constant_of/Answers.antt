@@ -1,4 +1,4 @@
-use Rattle.dk_inline.proofs.Folding.{if_none, unary_folds, binary_folds, select_folds, convert_folds, scale_folds}
+use Rattle.dk_inline.proofs.Replacements.{if_none, unary_folds, binary_folds, select_folds, convert_folds, scale_folds}
 use Rattle.dk_inline.proofs.fold.constant_of.Goals as goal
 
 pub returns-in-Unary-clause-none : goal.returns-in-Unary-clause-none

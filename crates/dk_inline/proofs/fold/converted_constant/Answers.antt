@@ -1,7 +1,7 @@
 use Rattle.std.proofs.Common.{rules, FitsSigned}
 use Rattle.std.proofs.lemmas.Int.{to_z-of_z}
 use mir.Syntax.{w128}
-use Rattle.dk_inline.proofs.Folding.{convert_worth}
+use Rattle.dk_inline.proofs.Replacements.{convert_worth}
 use Rattle.dk_inline.proofs.fold.converted_constant.Goals as goal
 
 pub returns-clause-found : goal.returns-clause-found

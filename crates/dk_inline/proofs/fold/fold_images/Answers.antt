@@ -1,5 +1,5 @@
 use Rattle.std.proofs.Common.{◌<◌, length, arith}
-use Rattle.dk_inline.proofs.FoldedImages.{folds_more, rest_stays}
+use Rattle.dk_inline.proofs.FoldedPrograms.{folds_more, rest_stays}
 use Rattle.dk_inline.proofs.fold.fold_images.Goals as goal
 
 pub loop-image-preserved : goal.loop-image-preserved

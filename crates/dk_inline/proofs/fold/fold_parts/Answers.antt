@@ -6,7 +6,7 @@ use Rattle.pointwise_ir.specs.Trees.{tree_of}
 use Rattle.pointwise_ir.specs.Programs.{program_of}
 use Rattle.pointwise_ir.specs.Rewritings.{IsSameBut}
 use Rattle.dk_inline.specs.Folded.{HasFoldedParts, IsFolding}
-use Rattle.dk_inline.proofs.FoldedImages.{AreFolds, refilled, all_typed, same_but, all_folded, is_folding}
+use Rattle.dk_inline.proofs.FoldedPrograms.{AreFolds, refilled, all_typed, same_but, all_folded, is_folding}
 use Rattle.dk_inline.proofs.fold.fold_parts.Goals as goal
 
 pub fold_images-requires : goal.fold_images-requires

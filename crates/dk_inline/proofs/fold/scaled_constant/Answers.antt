@@ -1,7 +1,7 @@
 use Rattle.std.proofs.Common.{rules, sym, FitsSigned}
 use Rattle.std.proofs.lemmas.Int.{to_z-of_z}
 use mir.Syntax.{w128}
-use Rattle.dk_inline.proofs.Folding.{scale_worth}
+use Rattle.dk_inline.proofs.Replacements.{scale_worth}
 use Rattle.dk_inline.proofs.fold.scaled_constant.Goals as goal
 
 pub returns-clause-found : goal.returns-clause-found

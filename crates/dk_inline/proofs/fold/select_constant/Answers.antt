@@ -1,7 +1,7 @@
 use Rattle.std.proofs.Common.{rules, sym, FitsSigned}
 use Rattle.std.proofs.lemmas.Int.{to_z-of_z}
 use mir.Syntax.{w128}
-use Rattle.dk_inline.proofs.Folding.{select_worth}
+use Rattle.dk_inline.proofs.Replacements.{select_worth}
 use Rattle.dk_inline.proofs.fold.select_constant.Goals as goal
 
 pub returns-clause-found : goal.returns-clause-found

@@ -5,7 +5,7 @@ use Rattle.dk_types.specs.Typed as T
 use Rattle.pointwise_ir.specs.declared.program.Definition.{Definition}
 use Rattle.pointwise_ir.specs.Trees.{tree_of}
 use Rattle.dk_inline.proofs.Bodies.{at_number}
-use Rattle.dk_inline.proofs.Listed.{mapped_more, bodies_more}
+use Rattle.dk_inline.proofs.ListJoins.{mapped_more, bodies_more}
 use Rattle.dk_inline.proofs.substitution.images.Goals as goal
 
 pub loop-k-preserved : goal.loop-k-preserved

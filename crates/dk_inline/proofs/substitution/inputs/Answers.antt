@@ -2,7 +2,7 @@ use Rattle.std.proofs.Common.{◌≡◌, length, map, slice_get, Some, refl, ap}
 use Rattle.std.proofs.lemmas.Option.{slice_get_read}
 use Rattle.pointwise_ir.specs.declared.program.Input.{Input}
 use Rattle.dk_types.specs.declared.typed.TypedInput.{TypedInput}
-use Rattle.dk_inline.proofs.Listed.{mapped_more, mapped_whole}
+use Rattle.dk_inline.proofs.ListJoins.{mapped_more, mapped_whole}
 use Rattle.dk_inline.proofs.substitution.inputs.Goals as goal
 
 pub loop-k-init : goal.loop-k-init

@@ -3,7 +3,7 @@ use Rattle.std.specs.Prelude.{slice_get}
 use Rattle.wiring.specs.declared.netlist.Assign.{Assign}
 use Rattle.wiring.specs.Netlist.{netlist_of}
 use Rattle.wiring.specs.Marks.{HasMark}
-use Rattle.wiring.proofs.Marking.{assign_opens, assign_place}
+use Rattle.wiring.proofs.MarkSpread.{assign_opens, assign_place}
 use Rattle.wiring.proofs.buffer.close.Goals as goal
 
 pub add_mark-requires-clause-place : goal.add_mark-requires-clause-place

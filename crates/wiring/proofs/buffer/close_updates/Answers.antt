@@ -4,7 +4,7 @@ use Rattle.wiring.specs.declared.netlist.Update.{Update}
 use Rattle.wiring.specs.BufferBits.{update_drive}
 use Rattle.wiring.specs.Netlist.{netlist_of}
 use Rattle.wiring.specs.Marks.{HasMark, IsClosed}
-use Rattle.wiring.proofs.Marking.{update_opens, update_place, all_drives}
+use Rattle.wiring.proofs.MarkSpread.{update_opens, update_place, all_drives}
 use Rattle.wiring.proofs.buffer.close_updates.Goals as goal
 
 pub add_mark-requires-clause-place : goal.add_mark-requires-clause-place

@@ -2,7 +2,7 @@ use Rattle.std.proofs.Common.{◌≡◌, true, false}
 use Rattle.wiring.specs.declared.netlist.Holder.TheVariants.{OfNet}
 use Rattle.wiring.specs.declared.netlist.Net.TheVariants.{Input}
 use Rattle.wiring.specs.Netlist.{netlist_of}
-use Rattle.wiring.proofs.Marking.{none_sound, closed_complete}
+use Rattle.wiring.proofs.MarkSpread.{none_sound, closed_complete}
 use Rattle.wiring.proofs.buffer.fed_marks.Goals as goal
 
 pub loop-open-init : goal.loop-open-init

@@ -1,5 +1,5 @@
 use Rattle.wiring.specs.Netlist.{netlist_of}
-use Rattle.wiring.proofs.Marking.{Spreads-trans}
+use Rattle.wiring.proofs.MarkSpread.{Spreads-trans}
 use Rattle.wiring.proofs.buffer.follow.Goals as goal
 
 pub returns-in_err-push : goal.returns-in_err-push

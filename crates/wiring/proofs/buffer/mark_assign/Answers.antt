@@ -2,7 +2,7 @@ use Rattle.wiring.specs.Netlist.{netlist_of}
 use Rattle.std.proofs.Common.{◌≡◌, Some, subst, List}
 use Rattle.std.specs.Prelude.{slice_get}
 use Rattle.wiring.specs.declared.netlist.Assign.{Assign}
-use Rattle.wiring.proofs.Marking.{assign_spreads, assign_place}
+use Rattle.wiring.proofs.MarkSpread.{assign_spreads, assign_place}
 use Rattle.wiring.proofs.buffer.mark_assign.Goals as goal
 
 pub add_mark-requires-clause-place : goal.add_mark-requires-clause-place

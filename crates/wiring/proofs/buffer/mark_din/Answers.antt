@@ -1,5 +1,5 @@
 use Rattle.wiring.specs.Netlist.{netlist_of}
-use Rattle.wiring.proofs.Marking.{din_spreads}
+use Rattle.wiring.proofs.MarkSpread.{din_spreads}
 use Rattle.wiring.proofs.buffer.mark_din.Goals as goal
 
 pub returns-clause-spreads : goal.returns-clause-spreads

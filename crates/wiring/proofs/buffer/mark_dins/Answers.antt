@@ -4,7 +4,7 @@ use Rattle.wiring.specs.declared.netlist.Holder.TheVariants.{OfNet}
 use Rattle.wiring.specs.declared.netlist.Net.TheVariants.{Input}
 use Rattle.wiring.specs.Netlist.{netlist_of}
 use Rattle.wiring.specs.Marks.{is_marked}
-use Rattle.wiring.proofs.Marking.{Spreads-trans}
+use Rattle.wiring.proofs.MarkSpread.{Spreads-trans}
 use Rattle.wiring.proofs.buffer.mark_dins.Goals as goal
 
 pub returns-in_err-push-clause-spreads : goal.returns-in_err-push-clause-spreads

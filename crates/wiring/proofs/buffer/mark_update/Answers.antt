@@ -4,7 +4,7 @@ use Rattle.wiring.specs.declared.netlist.Update.{Update}
 use Rattle.wiring.specs.declared.netlist.Holder.{Holder}
 use Rattle.wiring.specs.Netlist.{netlist_of}
 use Rattle.wiring.specs.Marks.{Adds, HasMark}
-use Rattle.wiring.proofs.Marking.{update_spreads, update_place}
+use Rattle.wiring.proofs.MarkSpread.{update_spreads, update_place}
 use Rattle.wiring.proofs.buffer.mark_update.Goals as goal
 
 pub add_mark-requires-clause-place : goal.add_mark-requires-clause-place

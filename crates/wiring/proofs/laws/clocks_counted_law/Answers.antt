@@ -1,4 +1,4 @@
-use Rattle.wiring.proofs.Counted.{sorts, at_reset, at_held, at_counted, none_held, fed_counted, fed_long}
+use Rattle.wiring.proofs.CountedClocks.{sorts, at_reset, at_held, at_counted, none_held, fed_counted, fed_long}
 use Rattle.wiring.proofs.laws.clocks_counted_law.Goals as goal
 
 pub returns-clause-cases : goal.returns-clause-cases

@@ -1,4 +1,4 @@
-use Rattle.wiring.proofs.Counted.{since, reset_before}
+use Rattle.wiring.proofs.CountedClocks.{since, reset_before}
 use Rattle.wiring.proofs.laws.counted_since_law.Goals as goal
 
 pub returns-clause-counted : goal.returns-clause-counted

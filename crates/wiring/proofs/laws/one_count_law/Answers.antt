@@ -1,4 +1,4 @@
-use Rattle.wiring.proofs.Counts.{same_count}
+use Rattle.wiring.proofs.BitCounts.{same_count}
 use Rattle.wiring.proofs.laws.one_count_law.Goals as goal
 
 pub returns : goal.returns

@@ -12,7 +12,7 @@ use Rattle.verilog_text.specs.declared.written.WrittenRight.{WrittenRight}
 use Rattle.verilog_text.specs.declared.written.WrittenAssign.{WrittenAssign}
 use Rattle.verilog_text.specs.declared.written.WrittenUpdate.{WrittenUpdate}
 use Rattle.verilog_text.specs.Grammar.{Tokens, named, atomic, counted, Bits, bits, Ranged, one_bit, wide, Port, plain, wire as wire_port, Right, copy, complement, two, choose, join, repeat, bit, slice, word, Assign, assign, Update, set, put, Declares, wire, reg, array}
-use Rattle.verilog_text.proofs.Parsing.{code, bits_of, ranged_of, port_of, right_of, assign_of, update_of, declaration_of}
+use Rattle.verilog_text.proofs.PartReaders.{code, bits_of, ranged_of, port_of, right_of, assign_of, update_of, declaration_of}
 
 -- a name is an atom, and neither is a number
 name_is_atom : (k : TokenKind) (s n : Span) → named k s ≡ Some n → atomic k s ≡ Some (atom.Net n)

@@ -40,7 +40,7 @@ use Rattle.circuit.specs.Reads.{reads_in, IsChosen, AreLeafNets}
 use Rattle.circuit.specs.Images.{IsBodyNet}
 use Rattle.circuit.proofs.Placing.{columns_below, rows_below}
 use Rattle.circuit.proofs.Reading.{read_right}
-use Rattle.circuit.proofs.Bodies.{bit_right, pixel_right}
+use Rattle.circuit.proofs.BodyPixels.{bit_right, pixel_right}
 
 -- 0 is 0 in each type
 pub zero_number : (t : Ty) → number t 0 ≡ pos 0

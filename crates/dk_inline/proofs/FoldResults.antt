@@ -10,7 +10,7 @@ use Rattle.pointwise_ir.specs.Trees.{Tree, constant, read, shifted, unary, binar
 use Rattle.pointwise_ir.specs.Meaning.{value}
 use Rattle.dk_inline.specs.Folded.{IsClosed, HasFoldedParts, IsWorth, IsFoldOf, to_constant, in_read, in_shifted, in_unary, in_binary, in_select, in_convert, in_scale}
 use Rattle.dk_inline.specs.Standing.{IsTyped, AreOperandsFolded}
-use Rattle.dk_inline.proofs.Folding.{constant_worth, not_closed}
+use Rattle.dk_inline.proofs.Replacements.{constant_worth, not_closed}
 
 -- the fold of what has no read and no shift has none
 closed_fold : (a b : Tree) → IsFoldOf a b → IsClosed a → IsClosed b

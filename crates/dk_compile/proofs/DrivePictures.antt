@@ -16,7 +16,7 @@ use Rattle.wiring.specs.Runs.{Runs, picture}
 use Rattle.circuit.specs.Rounds.{Rounds, AreRounds, pixel, pixel_count, pictures_in}
 use Rattle.circuit.specs.Driven.{Drives, Agree, driven, fed_clock, input_widths, output_at}
 use Rattle.dk_compile.proofs.Rounds.{all_rasters}
-use Rattle.dk_compile.proofs.Shown.{shown}
+use Rattle.dk_compile.proofs.LatePictures.{shown}
 
 runs_length : (m : Netlist) (cs : List Clock) (from to : Contents) (shots : List Snapshot) → Runs m from cs shots to → length cs ≡ length shots
 runs_length m [] from to [] h = refl
