@@ -327,7 +327,8 @@ fn joined_row(
     requires b { HasRow (items_of rows.now) (length to.old) b.now }
     requires room { HaveRoom spares.old (length to.old) }
     requires fits { (t : ℕ) → t < length to.old
-        → atom_value (value_at (items_of rows.now) t) a.now * 2 ^ atom_width (λ n. slice_index widths.now n) b.now + atom_value (value_at (items_of rows.now) t) b.now < 2 ^ 64 }
+        → atom_value (value_at (items_of rows.now) t) a.now * 2 ^ atom_width
+        (λ n. slice_index widths.now n) b.now + atom_value (value_at (items_of rows.now) t) b.now < 2 ^ 64 }
     ensures spares { HaveRoom spares.new (length to.old) }
     ensures count { length to.new ≡ length to.old }
     ensures row { (t : ℕ) → t < length to.new

@@ -138,7 +138,8 @@ impl Circuit {
     pub fn settle(&mut self, reset: bool, enable: bool, dins: &[u64]) -> Result<(), IndexRange>
         requires { Fit (din_widths self.old.netlist) dins.now }
         ensures netlist { self.new.netlist ≡ self.old.netlist }
-        ensures shot { SnapshotOf self.old.netlist self.old.shot.contents (given self.old.netlist (record { reset = reset; enable = enable; dins = dins.now })) self.new.shot }
+        ensures shot { SnapshotOf self.old.netlist self.old.shot.contents
+            (given self.old.netlist (record { reset = reset; enable = enable; dins = dins.now })) self.new.shot }
         ensures ok { OnOk result (IsInRange self.old.netlist self.new.shot) }
         ensures stops { IfErr result (λ r. StopsAt self.old.netlist self.new.shot r.array r.index) }
         ensures only { (x i : ℕ)

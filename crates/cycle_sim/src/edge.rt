@@ -39,7 +39,8 @@ fn depth_of(arrays: &[Vec<u64>], array: usize) -> u64
 
 // The first access outside its array.
 pub fn first_outside(accesses: &[Access], arrays: &[Vec<u64>], values: &[u64]) -> Option<IndexRange>
-    ensures { MatchOption result (All (IsAccessInside (words_of arrays.now) values.now) accesses.now) (IsFirstOutside (words_of arrays.now) values.now accesses.now) }
+    ensures { MatchOption result (All (IsAccessInside (words_of arrays.now) values.now) accesses.now)
+        (IsFirstOutside (words_of arrays.now) values.now accesses.now) }
 {
     for access in accesses {
         let index = atom(values, &access.index);

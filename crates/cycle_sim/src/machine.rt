@@ -32,10 +32,13 @@ pub fn settle_ports(
     dins: &[u64],
 ) -> Result<(), IndexRange>
     requires inputs { length (port_values program.now.enable reset enable dins.now) ≤ length values.old }
-    requires code { CodeIsSafe program.now.widths.items (words_of arrays.now) program.now.code.items (with_inputs (port_values program.now.enable reset enable dins.now) values.old) }
+    requires code { CodeIsSafe program.now.widths.items (words_of arrays.now) program.now.code.items
+        (with_inputs (port_values program.now.enable reset enable dins.now) values.old) }
     ensures values { values.new ≡ settled_values program.now (words_of arrays.now) (port_values program.now.enable reset enable dins.now) values.old }
-    ensures ok { OnOk result (All (IsAccessInside (words_of arrays.now) (settled_values program.now (words_of arrays.now) (port_values program.now.enable reset enable dins.now) values.old)) program.now.accesses.items) }
-    ensures stops { IfErr result (IsFirstOutside (words_of arrays.now) (settled_values program.now (words_of arrays.now) (port_values program.now.enable reset enable dins.now) values.old) program.now.accesses.items) }
+    ensures ok { OnOk result (All (IsAccessInside (words_of arrays.now)
+        (settled_values program.now (words_of arrays.now) (port_values program.now.enable reset enable dins.now) values.old)) program.now.accesses.items) }
+    ensures stops { IfErr result (IsFirstOutside (words_of arrays.now)
+        (settled_values program.now (words_of arrays.now) (port_values program.now.enable reset enable dins.now) values.old) program.now.accesses.items) }
 {
     put_ports(values, program.enable, reset, enable, dins);
     settle(&program.code, &program.widths, arrays, values);
@@ -67,11 +70,14 @@ pub fn settle_vec(
     dins: &[u64],
 ) -> Result<(), IndexRange>
     requires inputs { length (port_values program.now.enable reset enable dins.now) ≤ length values.old.items }
-    requires code { CodeIsSafe program.now.widths.items (words_of arrays.now.items) program.now.code.items (with_inputs (port_values program.now.enable reset enable dins.now) values.old.items) }
+    requires code { CodeIsSafe program.now.widths.items (words_of arrays.now.items) program.now.code.items
+        (with_inputs (port_values program.now.enable reset enable dins.now) values.old.items) }
     ensures values { values.new.items
         ≡ settled_values program.now (words_of arrays.now.items) (port_values program.now.enable reset enable dins.now) values.old.items }
-    ensures ok { OnOk result (All (IsAccessInside (words_of arrays.now.items) (settled_values program.now (words_of arrays.now.items) (port_values program.now.enable reset enable dins.now) values.old.items)) program.now.accesses.items) }
-    ensures stops { IfErr result (IsFirstOutside (words_of arrays.now.items) (settled_values program.now (words_of arrays.now.items) (port_values program.now.enable reset enable dins.now) values.old.items) program.now.accesses.items) }
+    ensures ok { OnOk result (All (IsAccessInside (words_of arrays.now.items) (settled_values program.now (words_of arrays.now.items)
+        (port_values program.now.enable reset enable dins.now) values.old.items)) program.now.accesses.items) }
+    ensures stops { IfErr result (IsFirstOutside (words_of arrays.now.items) (settled_values program.now (words_of arrays.now.items)
+        (port_values program.now.enable reset enable dins.now) values.old.items) program.now.accesses.items) }
 {
     settle_ports(program, values, arrays, reset, enable, dins)
 }

@@ -67,7 +67,8 @@ fn run_clock(
     requires room { vec_len samples.old < vec_capacity samples.old }
     ensures netlist { sim.new.netlist ≡ sim.old.netlist }
     ensures ok { OnOk result (Ran sim.old.netlist output (clock_of clock.now ∷ []) sim.old.contents samples.old.items sim.new.contents samples.new.items) }
-    ensures stop { IfErr result (λ r. RanToStop sim.old.netlist output (clock_of clock.now ∷ []) sim.old.contents samples.old.items sim.new.contents samples.new.items r.array r.index) }
+    ensures stop { IfErr result (λ r. RanToStop sim.old.netlist output
+        (clock_of clock.now ∷ []) sim.old.contents samples.old.items sim.new.contents samples.new.items r.array r.index) }
     ensures count { vec_len samples.new ≤ vec_len samples.old + 1 }
     ensures capacity { vec_capacity samples.new ≡ vec_capacity samples.old }
 {
@@ -92,7 +93,8 @@ fn run_clocks(
     requires room { vec_len samples.old + length clocks.now ≤ vec_capacity samples.old }
     ensures netlist { sim.new.netlist ≡ sim.old.netlist }
     ensures ok { OnOk result (Ran sim.old.netlist output (clocks_of clocks.now) sim.old.contents samples.old.items sim.new.contents samples.new.items) }
-    ensures stop { IfErr result (λ r. RanToStop sim.old.netlist output (clocks_of clocks.now) sim.old.contents samples.old.items sim.new.contents samples.new.items r.array r.index) }
+    ensures stop { IfErr result (λ r. RanToStop sim.old.netlist output
+        (clocks_of clocks.now) sim.old.contents samples.old.items sim.new.contents samples.new.items r.array r.index) }
     ensures count { vec_len samples.new ≤ vec_len samples.old + length clocks.now }
     ensures capacity { vec_capacity samples.new ≡ vec_capacity samples.old }
 {

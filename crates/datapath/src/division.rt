@@ -22,7 +22,8 @@ fn turned(b: &mut Builder, width: u8, sign: Signal, x: Signal) -> Result<Signal,
     requires sign { HasWidth b.old sign 1 }
     requires x { HasWidth b.old x width }
     ensures grows { Grows b.old b.new }
-    ensures word { IfOk result (λ r. IsWord b.new r width (λ nets. if nat_eq (bits_of nets sign) 1 then (0 + 2 ^ width - bits_of nets x) % 2 ^ width else bits_of nets x)) }
+    ensures word { IfOk result (λ r. IsWord b.new r width
+        (λ nets. if nat_eq (bits_of nets sign) 1 then (0 + 2 ^ width - bits_of nets x) % 2 ^ width else bits_of nets x)) }
     ensures made { IfOk result (λ r. IsMadeOver b.new r (sign ∷ (x ∷ []))) }
     ensures folds { IfOk result (λ r. Folds b.old b.new r (sign ∷ (x ∷ []))) }
 {

@@ -44,7 +44,8 @@ fn lowered(b: &mut Builder, x: Operand, ty: Ty, bits: Signal) -> Result<Signal, 
     requires ty { IsType ty }
     requires bits { HasWidth b.old bits (width_of ty) }
     ensures grows { Grows b.old b.new }
-    ensures word { IfOk result (λ r. IsWord b.new r (width_of ty) (λ nets. if int_lt (greatest_of ty) (worth nets x) then above ty - 1 else bits_of nets bits)) }
+    ensures word { IfOk result (λ r. IsWord b.new r (width_of ty)
+        (λ nets. if int_lt (greatest_of ty) (worth nets x) then above ty - 1 else bits_of nets bits)) }
     ensures made { IfOk result (λ r. IsMadeOver b.new r (x.bits ∷ (bits ∷ []))) }
     ensures folds { IfOk result (λ r. Folds b.old b.new r (x.bits ∷ (bits ∷ []))) }
 {

@@ -15,7 +15,8 @@ ghost use Rattle.dk_inline.specs.Worked.{number, pixel};
 pub fn worked_folds()
     ensures sum { IsFoldOf (binary Multiply pixel (binary Add (number 2 2) (number 3 2))) (binary Multiply pixel (number 5 3)) }
     ensures product_with_zero { IsFoldOf (binary Multiply pixel (number 0 1)) (binary Multiply pixel (number 0 1)) }
-    ensures moved_sum { IsFoldOf (shifted Zero (pos 0) (neg_ℤ (pos 1)) (binary Add (number 2 2) (number 3 2))) (shifted Zero (pos 0) (neg_ℤ (pos 1)) (number 5 3)) }
+    ensures moved_sum { IsFoldOf (shifted Zero (pos 0) (neg_ℤ (pos 1)) (binary Add (number 2 2) (number 3 2)))
+        (shifted Zero (pos 0) (neg_ℤ (pos 1)) (number 5 3)) }
     ensures chosen_first { IsFoldOf (select (number 1 1) (number 2 2) (number 3 2)) (number 2 2) }
     ensures chosen_second { IsFoldOf (select (number 0 1) (number 7 3) (number 3 2)) (number 3 3) }
     ensures choice_of_a_pixel { IsFoldOf (select (number 0 1) (number 3 2) pixel) (select (number 0 1) (number 3 2) pixel) }

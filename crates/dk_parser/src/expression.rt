@@ -193,7 +193,8 @@ fn bracket_of<'a>(
     first: Span,
     tokens: &'a [Token],
 ) -> Result<(Built, &'a [Token]), Halt<'a>>
-    ensures parsed { MatchResult result (λ x. GrownOf (Inside Start.Bracket first) tokens.now x.0 x.1.now) (λ e. Halts (Inside Start.Bracket first) tokens.now e) }
+    ensures parsed { MatchResult result (λ x. GrownOf (Inside Start.Bracket first) tokens.now x.0 x.1.now)
+        (λ e. Halts (Inside Start.Bracket first) tokens.now e) }
 {
     let (body, last, rest) = closed_by(alloc, Mark::Sign(Symbol::Close), tokens)?;
     let span = Span {
@@ -211,7 +212,8 @@ fn pair_of<'a>(
     first: Span,
     tokens: &'a [Token],
 ) -> Result<(Built, &'a [Token]), Halt<'a>>
-    ensures parsed { MatchResult result (λ x. GrownOf (Inside (Start.Pair operator) first) tokens.now x.0 x.1.now) (λ e. Halts (Inside (Start.Pair operator) first) tokens.now e) }
+    ensures parsed { MatchResult result (λ x. GrownOf (Inside (Start.Pair operator) first) tokens.now x.0 x.1.now)
+        (λ e. Halts (Inside (Start.Pair operator) first) tokens.now e) }
 {
     let (_, inner) = single::mark(Mark::Sign(Symbol::Open), tokens)?;
     let (left, _, behind) = closed_by(alloc, Mark::Sign(Symbol::Comma), inner)?;
@@ -230,7 +232,8 @@ fn absolute_of<'a>(
     first: Span,
     tokens: &'a [Token],
 ) -> Result<(Built, &'a [Token]), Halt<'a>>
-    ensures parsed { MatchResult result (λ x. GrownOf (Inside Start.Absolute first) tokens.now x.0 x.1.now) (λ e. Halts (Inside Start.Absolute first) tokens.now e) }
+    ensures parsed { MatchResult result (λ x. GrownOf (Inside Start.Absolute first) tokens.now x.0 x.1.now)
+        (λ e. Halts (Inside Start.Absolute first) tokens.now e) }
 {
     let (_, inner) = single::mark(Mark::Sign(Symbol::Open), tokens)?;
     let (body, last, rest) = closed_by(alloc, Mark::Sign(Symbol::Close), inner)?;
@@ -248,7 +251,8 @@ fn saturate_of<'a>(
     first: Span,
     tokens: &'a [Token],
 ) -> Result<(Built, &'a [Token]), Halt<'a>>
-    ensures parsed { MatchResult result (λ x. GrownOf (Inside Start.Saturate first) tokens.now x.0 x.1.now) (λ e. Halts (Inside Start.Saturate first) tokens.now e) }
+    ensures parsed { MatchResult result (λ x. GrownOf (Inside Start.Saturate first) tokens.now x.0 x.1.now)
+        (λ e. Halts (Inside Start.Saturate first) tokens.now e) }
 {
     let (_, inner) = single::mark(Mark::Sign(Symbol::Open), tokens)?;
     let (body, _, behind) = closed_by(alloc, Mark::Sign(Symbol::Comma), inner)?;
@@ -269,7 +273,8 @@ fn choice_of<'a>(
     first: Span,
     tokens: &'a [Token],
 ) -> Result<(Built, &'a [Token]), Halt<'a>>
-    ensures parsed { MatchResult result (λ x. GrownOf (Inside Start.Choice first) tokens.now x.0 x.1.now) (λ e. Halts (Inside Start.Choice first) tokens.now e) }
+    ensures parsed { MatchResult result (λ x. GrownOf (Inside Start.Choice first) tokens.now x.0 x.1.now)
+        (λ e. Halts (Inside Start.Choice first) tokens.now e) }
 {
     let (_, inner) = single::mark(Mark::Sign(Symbol::Open), tokens)?;
     let (test, _, middle) = closed_by(alloc, Mark::Sign(Symbol::Comma), inner)?;

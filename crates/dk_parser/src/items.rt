@@ -71,7 +71,8 @@ fn declares(kind: Terminal) -> Option<bool>
 
 // Whether a type is declared.
 fn is_declared(tokens: &[Token]) -> Result<(bool, &[Token]), Halt>
-    ensures parsed { MatchResult result (λ x. One (Gives (λ t. declares_of (terminal t))) tokens.now x.0 x.1.now) (λ e. Halts (One (Gives (λ t. declares_of (terminal t)))) tokens.now e) }
+    ensures parsed { MatchResult result (λ x. One (Gives (λ t. declares_of (terminal t))) tokens.now x.0 x.1.now)
+        (λ e. Halts (One (Gives (λ t. declares_of (terminal t)))) tokens.now e) }
     ensures fewer { IfOk result (λ x. length x.1.now < length tokens.now) }
 {
     let Some((_, kind, after)) = classes::front(tokens) else {

@@ -38,7 +38,8 @@ fn send(
     ensures amounts { OnOk result ((i : ℕ) → slice_index flow.new i ≤ (image + 1) * 2 ^ 8) }
     ensures holds { OnOk result (All (Holds numbers.new) network.now.constraints.now) }
     ensures carries { OnOk result (IsComplementary network.now.constraints.now flow.new numbers.new) }
-    ensures moves { OnOk result (Moves network.now.constraints.now flow.old flow.new (constraint_at network.now.constraints.now image).source (constraint_at network.now.constraints.now image).target width) }
+    ensures moves { OnOk result (Moves network.now.constraints.now flow.old flow.new
+        (constraint_at network.now.constraints.now image).source (constraint_at network.now.constraints.now image).target width) }
 {
     let constraints = network.constraints;
     let begin = constraints[image].source;

@@ -35,7 +35,8 @@ pub struct Tree {
 // Hangs the node that a constraint reaches on it, if there is one.
 fn cross(residual: &Residual, tree: &mut Tree, i: usize)
     requires state { IsState residual.now.constraints.now residual.now.potentials.now residual.now.flow.now }
-    requires search { IsSearch residual.now.constraints.now residual.now.potentials.now residual.now.flow.now tree.old.order.items tree.old.parent.items tree.old.root tree.old.reached }
+    requires search { IsSearch residual.now.constraints.now residual.now.potentials.now residual.now.flow.now
+        tree.old.order.items tree.old.parent.items tree.old.root tree.old.reached }
     requires index { i < length residual.now.constraints.now }
     ensures root { tree.new.root ≡ tree.old.root }
     ensures orders { length tree.new.order.items ≡ length tree.old.order.items }
@@ -67,9 +68,11 @@ fn cross(residual: &Residual, tree: &mut Tree, i: usize)
 // Goes once over the constraints, and hangs each node that one of them reaches on it.
 fn widen(residual: &Residual, tree: &mut Tree)
     requires state { IsState residual.now.constraints.now residual.now.potentials.now residual.now.flow.now }
-    requires search { IsSearch residual.now.constraints.now residual.now.potentials.now residual.now.flow.now tree.old.order.items tree.old.parent.items tree.old.root tree.old.reached }
+    requires search { IsSearch residual.now.constraints.now residual.now.potentials.now residual.now.flow.now
+        tree.old.order.items tree.old.parent.items tree.old.root tree.old.reached }
     ensures root { tree.new.root ≡ tree.old.root }
-    ensures search { IsSearch residual.now.constraints.now residual.now.potentials.now residual.now.flow.now tree.new.order.items tree.new.parent.items tree.new.root tree.new.reached }
+    ensures search { IsSearch residual.now.constraints.now residual.now.potentials.now residual.now.flow.now
+        tree.new.order.items tree.new.parent.items tree.new.root tree.new.reached }
     ensures more { tree.old.reached ≤ tree.new.reached }
     ensures closed { tree.new.reached ≡ tree.old.reached
         → IsClosed residual.now.constraints.now residual.now.potentials.now residual.now.flow.now tree.new.order.items }
@@ -82,9 +85,11 @@ fn widen(residual: &Residual, tree: &mut Tree)
 // Hangs what these constraints reach, and notes which node was reached at each order.
 fn explore_from(residual: &Residual, tree: &mut Tree, found: &mut [usize], incident: &[usize])
     requires state { IsState residual.now.constraints.now residual.now.potentials.now residual.now.flow.now }
-    requires search { IsSearch residual.now.constraints.now residual.now.potentials.now residual.now.flow.now tree.old.order.items tree.old.parent.items tree.old.root tree.old.reached }
+    requires search { IsSearch residual.now.constraints.now residual.now.potentials.now residual.now.flow.now
+        tree.old.order.items tree.old.parent.items tree.old.root tree.old.reached }
     ensures root { tree.new.root ≡ tree.old.root }
-    ensures search { IsSearch residual.now.constraints.now residual.now.potentials.now residual.now.flow.now tree.new.order.items tree.new.parent.items tree.new.root tree.new.reached }
+    ensures search { IsSearch residual.now.constraints.now residual.now.potentials.now residual.now.flow.now
+        tree.new.order.items tree.new.parent.items tree.new.root tree.new.reached }
     ensures more { tree.old.reached ≤ tree.new.reached }
 {
     for k in 0..incident.len() {
@@ -109,9 +114,11 @@ fn explore_from(residual: &Residual, tree: &mut Tree, found: &mut [usize], incid
 // that nothing is left out rests on `widen`, and not on the lists.
 fn explore(residual: &Residual, tree: &mut Tree, found: &mut [usize], incident: &[Vec<usize>])
     requires state { IsState residual.now.constraints.now residual.now.potentials.now residual.now.flow.now }
-    requires search { IsSearch residual.now.constraints.now residual.now.potentials.now residual.now.flow.now tree.old.order.items tree.old.parent.items tree.old.root tree.old.reached }
+    requires search { IsSearch residual.now.constraints.now residual.now.potentials.now residual.now.flow.now
+        tree.old.order.items tree.old.parent.items tree.old.root tree.old.reached }
     ensures root { tree.new.root ≡ tree.old.root }
-    ensures search { IsSearch residual.now.constraints.now residual.now.potentials.now residual.now.flow.now tree.new.order.items tree.new.parent.items tree.new.root tree.new.reached }
+    ensures search { IsSearch residual.now.constraints.now residual.now.potentials.now residual.now.flow.now
+        tree.new.order.items tree.new.parent.items tree.new.root tree.new.reached }
     ensures more { tree.old.reached ≤ tree.new.reached }
 {
     for next in 1..found.len() {

@@ -62,7 +62,8 @@ fn updaters_of(alloc: Global, wiring: &Netlist) -> Result<Updaters, NetError>
 // What drives each net and array, or the second driver of one, assigns first.
 pub(crate) fn tables_of(alloc: Global, wiring: &Netlist) -> Result<Tables, NetError>
     requires targets { All (λ (a : Assign). IsTarget (length wiring.now.outputs.items) (length wiring.now.wires.items) a.target) wiring.now.assigns.items }
-    requires states { All (λ (u : Update). IsStateTarget (length wiring.now.regs.items) (length wiring.now.arrays.items) (update_target u)) wiring.now.updates.items }
+    requires states { All (λ (u : Update). IsStateTarget (length wiring.now.regs.items)
+        (length wiring.now.arrays.items) (update_target u)) wiring.now.updates.items }
     ensures tables { IfOk result (AreTables (netlist_of wiring.now)) }
     ensures fault { IfErr result (IsErrorBy (IsDrivenTwice (netlist_of wiring.now))) }
 {

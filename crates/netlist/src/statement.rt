@@ -111,7 +111,8 @@ pub(crate) fn checked_assigns(
 ) -> Result<Vec<Assign>, NetError>
     ensures ok { IfOk result (λ bs. bs.items ≡ collected (assign_named scope.now) named.now) }
     ensures good { OnOk result (All (IsGoodAssign scope.now (netlist_of wiring.now)) named.now) }
-    ensures wrong { IfErr result (IsErrorBy (IsFirstFault (IsGoodAssign scope.now (netlist_of wiring.now)) (IsWrongAssign scope.now (netlist_of wiring.now)) (λ k. AssignAt k) named.now)) }
+    ensures wrong { IfErr result (IsErrorBy (IsFirstFault (IsGoodAssign scope.now (netlist_of wiring.now))
+        (IsWrongAssign scope.now (netlist_of wiring.now)) (λ k. AssignAt k) named.now)) }
 {
     let mut assigns = Vec::new(alloc);
     for (k, one) in named.iter().enumerate() {
@@ -132,7 +133,8 @@ pub(crate) fn checked_updates(
 ) -> Result<Vec<Update>, NetError>
     ensures ok { IfOk result (λ vs. vs.items ≡ collected (update_named scope.now) named.now) }
     ensures good { OnOk result (All (IsGoodUpdate scope.now (netlist_of wiring.now)) named.now) }
-    ensures wrong { IfErr result (IsErrorBy (IsFirstFault (IsGoodUpdate scope.now (netlist_of wiring.now)) (IsWrongUpdate scope.now (netlist_of wiring.now)) (λ k. UpdateAt k) named.now)) }
+    ensures wrong { IfErr result (IsErrorBy (IsFirstFault (IsGoodUpdate scope.now (netlist_of wiring.now))
+        (IsWrongUpdate scope.now (netlist_of wiring.now)) (λ k. UpdateAt k) named.now)) }
 {
     let mut updates = Vec::new(alloc);
     for (k, one) in named.iter().enumerate() {

@@ -71,9 +71,11 @@ impl Reading {
         requires widths { All (λ width. width ≤ MAX_PORT_WIDTH) widths.now }
         requires few { self.old.place.images < MAX_FILE_IMAGES }
         requires some { 0 < self.old.place.images → self.old.place.offset < length bytes.now }
-        requires stands { Stands (ports_with (size_of size) widths.now) bytes.now (frames_of self.old.rounds.items) self.old.frames.items self.old.place.images self.old.place.offset }
+        requires stands { Stands (ports_with (size_of size) widths.now) bytes.now
+            (frames_of self.old.rounds.items) self.old.frames.items self.old.place.images self.old.place.offset }
         ensures images { OnOk result (self.new.place.images ≡ self.old.place.images + 1) }
-        ensures stands { OnOk result (Stands (ports_with (size_of size) widths.now) bytes.now (frames_of self.new.rounds.items) self.new.frames.items self.new.place.images self.new.place.offset) }
+        ensures stands { OnOk result (Stands (ports_with (size_of size) widths.now) bytes.now
+            (frames_of self.new.rounds.items) self.new.frames.items self.new.place.images self.new.place.offset) }
         ensures fault { IfErr result (IsError (ports_with (size_of size) widths.now) bytes.now) }
     {
         let width = widths[self.frames.len()];

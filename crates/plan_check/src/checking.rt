@@ -39,7 +39,8 @@ fn wrong_latency(system: &System, images: &[ImageLine], latencies: &[u64]) -> Op
     requires count { length images.now ≡ image_count system.now }
     requires outputs { length latencies.now ≡ length system.now.stencils.outputs }
     ensures { MatchOption result ((k : ℕ) → k < length latencies.now
-        → LatencyHolds system.now images.now latencies.now k) (λ w. IsFirst (Misses (λ k. LatencyHolds system.now images.now latencies.now k) (length latencies.now)) w) }
+        → LatencyHolds system.now images.now latencies.now k)
+        (λ w. IsFirst (Misses (λ k. LatencyHolds system.now images.now latencies.now k) (length latencies.now)) w) }
 {
     for k in 0..latencies.len() {
         if !latency_holds(system, images, latencies, k) {
@@ -118,7 +119,8 @@ fn faulty_latency(system: &System, report: &Report) -> Option<u64>
     requires suits { Suits system.now (parts_of report.now) }
     requires images { (k : ℕ) → k < length report.now.images.items → ImageHolds system.now report.now.images.items k }
     ensures { MatchOption result ((k : ℕ) → k < length report.now.latencies.items
-        → LatencyHolds system.now report.now.images.items report.now.latencies.items k) (λ line. IsFirst (Breaks (number_rules system.now (parts_of report.now))) line) }
+        → LatencyHolds system.now report.now.images.items report.now.latencies.items k)
+        (λ line. IsFirst (Breaks (number_rules system.now (parts_of report.now))) line) }
 {
     counts(system, report);
     match wrong_latency(system, &report.images, &report.latencies) {

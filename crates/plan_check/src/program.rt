@@ -60,7 +60,8 @@ fn is_named(ir: &Program, stencils: &Stencils, images: &[ImageLine], k: usize) -
 fn unnamed(ir: &Program, stencils: &Stencils, images: &[ImageLine]) -> Option<usize>
     requires { All (λ (i : Image). i.number < length (names_of ir.now)) stencils.now.images }
     ensures { MatchOption result ((k : ℕ) → k < length images.now
-        → IsNamed (names_of ir.now) stencils.now images.now k) (λ w. IsFirst (Misses (λ k. IsNamed (names_of ir.now) stencils.now images.now k) (length images.now)) w) }
+        → IsNamed (names_of ir.now) stencils.now images.now k)
+        (λ w. IsFirst (Misses (λ k. IsNamed (names_of ir.now) stencils.now images.now k) (length images.now)) w) }
 {
     for k in 0..images.len() {
         if !is_named(ir, stencils, images, k) {
@@ -97,7 +98,8 @@ fn foreign_image(ir: &Program, stencils: &Stencils, report: &Report) -> Option<u
     requires images { All (λ (i : Image). i.number < length (names_of ir.now)) stencils.now.images }
     requires limit { length report.now.images.items ≤ MAX_KEPT_IMAGES }
     ensures { MatchOption result (IsOfSize stencils.now (parts_of report.now) × ((k : ℕ) → k < length report.now.images.items
-        → IsNamed (names_of ir.now) stencils.now report.now.images.items k)) (λ line. IsFirst (Breaks (program_rules (names_of ir.now) stencils.now (parts_of report.now))) line) }
+        → IsNamed (names_of ir.now) stencils.now report.now.images.items k))
+        (λ line. IsFirst (Breaks (program_rules (names_of ir.now) stencils.now (parts_of report.now))) line) }
 {
     if !is_of_size(stencils, report) {
         return Some(size_line(report));
@@ -146,7 +148,8 @@ fn foreign_sum(ir: &Program, stencils: &Stencils, report: &Report) -> Option<u64
     requires named { (k : ℕ) → k < length report.now.images.items → IsNamed (names_of ir.now) stencils.now report.now.images.items k }
     requires enough { length stencils.now.images ≤ length report.now.images.items }
     requires outputs { length report.now.latencies.items ≤ length stencils.now.outputs }
-    ensures { MatchOption result (Keeps (program_rules (names_of ir.now) stencils.now (parts_of report.now))) (λ line. IsFirst (Breaks (program_rules (names_of ir.now) stencils.now (parts_of report.now))) line) }
+    ensures { MatchOption result (Keeps (program_rules (names_of ir.now) stencils.now (parts_of report.now)))
+        (λ line. IsFirst (Breaks (program_rules (names_of ir.now) stencils.now (parts_of report.now))) line) }
 {
     if report.latencies.len() < stencils.outputs().len() {
         return Some(clocks_line(report));
@@ -168,7 +171,8 @@ fn most_lines_law(report: &Report)
 pub(crate) fn foreign_line(ir: &Program, stencils: &Stencils, report: &Report) -> Option<u64>
     requires meets { Meets (parts_of report.now) }
     requires images { All (λ (i : Image). i.number < length (names_of ir.now)) stencils.now.images }
-    ensures { MatchOption result (Keeps (program_rules (names_of ir.now) stencils.now (parts_of report.now))) (λ line. IsFirst (Breaks (program_rules (names_of ir.now) stencils.now (parts_of report.now))) line) }
+    ensures { MatchOption result (Keeps (program_rules (names_of ir.now) stencils.now (parts_of report.now)))
+        (λ line. IsFirst (Breaks (program_rules (names_of ir.now) stencils.now (parts_of report.now))) line) }
 {
     most_lines_law(report);
     match foreign_image(ir, stencils, report) {

@@ -119,7 +119,8 @@ fn all_planes<'a>(
 ) -> Result<Vec<Plane<'a>>, OutOfMemory>
     requires frames { AreFrames ir.now frames.now }
     requires needs { AreNeeds ir.now until.now }
-    ensures { IfOk result (λ planes. ShowsNeeded ir.now.size (types_of ir.now) (pictures ir.now (round_of ir.now.size frames.now)) until.now (image_count ir.now) planes.items) }
+    ensures { IfOk result (λ planes. ShowsNeeded ir.now.size (types_of ir.now)
+        (pictures ir.now (round_of ir.now.size frames.now)) until.now (image_count ir.now) planes.items) }
 {
     ir.law();
     let size = ir.size();

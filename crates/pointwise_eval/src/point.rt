@@ -46,7 +46,8 @@ pub fn brought(at: u32, by: i32, limit: u32) -> u32
 
 // The pixel to which a step leads, or None where it leads out of the frame.
 pub fn step(size: FrameSize, edge: Edge, from: Point, dx: i32, dy: i32) -> Option<Point>
-    ensures { MatchOption result (IsNowhere (size_of size) edge (pos from.x +ℤ dx) (pos from.y +ℤ dy)) (λ p. LeadsTo (size_of size) edge (pos from.x +ℤ dx) (pos from.y +ℤ dy) p.x p.y) }
+    ensures { MatchOption result (IsNowhere (size_of size) edge (pos from.x +ℤ dx) (pos from.y +ℤ dy))
+        (λ p. LeadsTo (size_of size) edge (pos from.x +ℤ dx) (pos from.y +ℤ dy) p.x p.y) }
 {
     match edge {
         Edge::Zero => {

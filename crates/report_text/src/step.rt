@@ -210,7 +210,8 @@ fn flow_or_reads(report: &mut Report, line: &[u8]) -> Result<Option<Stage>, OutO
 }
 
 fn flow_or_end(report: &mut Report, line: &[u8]) -> Result<Option<Stage>, OutOfMemory>
-    ensures { IfOk result (λ stage. Does (or_else (flowing (parts_of report.old) line.now) (ended (parts_of report.old) line.now)) (parts_of report.old) stage (parts_of report.new)) }
+    ensures { IfOk result (λ stage. Does (or_else (flowing (parts_of report.old) line.now) (ended (parts_of report.old) line.now))
+        (parts_of report.old) stage (parts_of report.new)) }
 {
     match flow(report, line)? {
         Some(stage) => Ok(Some(stage)),

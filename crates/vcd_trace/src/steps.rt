@@ -37,7 +37,8 @@ fn read_value<'a>(
 ) -> Result<ReadValue<'a>, VcdError>
     requires before { before < 2 ^ width }
     requires count { number + length bytes.now < 2 ^ 64 }
-    ensures value { MatchResult result (λ r. ReadsValue first place width before bytes.now number r.value r.rest.now r.number) (λ e. RefusesValue first place width before bytes.now number e) }
+    ensures value { MatchResult result (λ r. ReadsValue first place width before bytes.now number r.value r.rest.now r.number)
+        (λ e. RefusesValue first place width before bytes.now number e) }
     ensures fits { IfOk result (λ r. r.value < 2 ^ width) }
     ensures count { IfOk result (λ r. r.number + length r.rest.now ≤ number + length bytes.now) }
     ensures shorter { IfOk result (λ r. length r.rest.now ≤ length bytes.now) }
@@ -87,7 +88,8 @@ fn read_clock<'a>(
 ) -> Result<ReadClock<'a>, VcdError>
     requires before { AreValues widths.now before.now }
     requires count { number + length bytes.now < 2 ^ 64 }
-    ensures clock { MatchResult result (λ r. ReadsClock first widths.now before.now bytes.now number r.values.items r.rest.now r.number) (λ e. RefusesClock first widths.now before.now bytes.now number e) }
+    ensures clock { MatchResult result (λ r. ReadsClock first widths.now before.now bytes.now number r.values.items r.rest.now r.number)
+        (λ e. RefusesClock first widths.now before.now bytes.now number e) }
     ensures fits { IfOk result (λ r. AreValues widths.now r.values.items) }
     ensures count { IfOk result (λ r. r.number + length r.rest.now ≤ number + length bytes.now) }
     ensures shorter { IfOk result (λ r. length r.rest.now ≤ length bytes.now) }
@@ -164,7 +166,9 @@ pub(crate) fn read_at<'a>(
 ) -> Result<Option<ReadClock<'a>>, VcdError>
     requires before { AreValues widths.now before.now }
     requires count { number + length bytes.now < 2 ^ 64 }
-    ensures clock { MatchResult result (λ o. MatchOption o (EndsAt first time widths.now before.now bytes.now number) (λ r. GoesOnAt first time widths.now before.now bytes.now number r.values.items r.rest.now r.number)) (λ e. RefusesAt first time widths.now before.now bytes.now number e) }
+    ensures clock { MatchResult result (λ o. MatchOption o (EndsAt first time widths.now before.now bytes.now number)
+        (λ r. GoesOnAt first time widths.now before.now bytes.now number r.values.items r.rest.now r.number))
+        (λ e. RefusesAt first time widths.now before.now bytes.now number e) }
     ensures fits { IfOk result (λ o. IfSome o (λ r. AreValues widths.now r.values.items)) }
     ensures count { IfOk result (λ o. IfSome o (λ r. r.number + length r.rest.now ≤ number + length bytes.now)) }
     ensures shorter { IfOk result (λ o. IfSome o (λ r. length r.rest.now < length bytes.now)) }

@@ -1,5 +1,5 @@
 -- For the private functions: the grammar as it is read, with one token ahead.
-use Rattle.std.specs.Prelude.{◌≡◌, List, Option, Some, None, Bool, true, false}
+use Rattle.std.specs.Prelude.{◌≡◌, List, Option, Some, None, Bool, true, false, Result, MatchResult}
 use Rattle.wiring.specs.declared.right.Atom.{Atom}
 use Rattle.wiring.specs.declared.right.Atom.TheVariants as atom
 use Rattle.wiring.specs.declared.right.Operator.TheVariants as operator
@@ -29,6 +29,10 @@ use Rattle.verilog_parse.specs.declared.halt.Halt.TheVariants.{Faulty, OutOfMemo
 abbrev pub Halts : {V : Type 0} → Phrases Token V → List Token → List Token → Halt → Type 0
 Halts P ts at Faulty = Stuck P ts at
 Halts P ts at OutOfMemory = Unit {0}
+
+-- A reader of this phrase: the cursor is after the phrase with its value, or at the faulty token.
+abbrev pub Reads : {V : Type 0} → Phrases Token V → (old new : List Token) → Result V Halt → Type 0
+Reads P old new result = MatchResult result (λ v. P old v new) (λ e. Halts P old new e)
 
 -- a token of this kind
 abbrev pub Is : TokenKind → Token → Unit {0} → Type 0

@@ -4,7 +4,7 @@ ghost use Rattle.std.specs.Prelude.{◌≡◌, [], MatchResult, false};
 ghost use Rattle.dk_grammar.specs.Reading.{One};
 ghost use Rattle.verilog_text.specs.declared.token.TokenKind.TheVariants.{Symbol as Sym, Keyword as Key, Clock, End};
 ghost use Rattle.verilog_text.specs.Grammar.{named as named_of, atomic as atomic_of, counted as counted_of, directed as directed_of};
-ghost use Rattle.verilog_parse.specs.Forms.{Halts, Is, Gives, starting as starting_of, item as item_of, following as following_of, colon_or_close as colon_or_close_of};
+ghost use Rattle.verilog_parse.specs.Forms.{Halts, Is, Gives, Reads, starting as starting_of, item as item_of, following as following_of, colon_or_close as colon_or_close_of};
 ghost use Rattle.verilog_parse.specs.Sections.{comma_or_close as comma_or_close_of, heading as heading_of, leading as leading_of, tailing as tailing_of, arrowing as arrowing_of, targeting as targeting_of, section_of, section_after as section_after_of, is_last};
 
 use crate::halt::Halt;
@@ -18,7 +18,7 @@ use wiring::Atom;
 
 // A name.
 pub(crate) fn name(tokens: &mut Tokens<'_>) -> Result<Span, Halt>
-    ensures parsed { MatchResult result (λ v. One (Gives named_of) tokens.old v tokens.new) (λ e. Halts (One (Gives named_of)) tokens.old tokens.new e) }
+    ensures parsed { Reads (One (Gives named_of)) tokens.old tokens.new result }
 {
     let token = tokens.peek();
     match table::named(token.kind, token.span) {
@@ -32,7 +32,7 @@ pub(crate) fn name(tokens: &mut Tokens<'_>) -> Result<Span, Halt>
 
 // A name or a sized constant.
 pub(crate) fn atom(tokens: &mut Tokens<'_>) -> Result<Atom<Span>, Halt>
-    ensures parsed { MatchResult result (λ v. One (Gives atomic_of) tokens.old v tokens.new) (λ e. Halts (One (Gives atomic_of)) tokens.old tokens.new e) }
+    ensures parsed { Reads (One (Gives atomic_of)) tokens.old tokens.new result }
 {
     let token = tokens.peek();
     match table::atomic(token.kind, token.span) {
@@ -46,7 +46,7 @@ pub(crate) fn atom(tokens: &mut Tokens<'_>) -> Result<Atom<Span>, Halt>
 
 // A plain number.
 pub(crate) fn count(tokens: &mut Tokens<'_>) -> Result<Count, Halt>
-    ensures parsed { MatchResult result (λ v. One (Gives counted_of) tokens.old v tokens.new) (λ e. Halts (One (Gives counted_of)) tokens.old tokens.new e) }
+    ensures parsed { Reads (One (Gives counted_of)) tokens.old tokens.new result }
 {
     let token = tokens.peek();
     match table::counted(token.kind, token.span) {
@@ -60,7 +60,7 @@ pub(crate) fn count(tokens: &mut Tokens<'_>) -> Result<Count, Halt>
 
 // What a right side begins with.
 pub(crate) fn start(tokens: &mut Tokens<'_>) -> Result<Start, Halt>
-    ensures parsed { MatchResult result (λ v. One (Gives starting_of) tokens.old v tokens.new) (λ e. Halts (One (Gives starting_of)) tokens.old tokens.new e) }
+    ensures parsed { Reads (One (Gives starting_of)) tokens.old tokens.new result }
 {
     let token = tokens.peek();
     match table::starting(token.kind, token.span) {
@@ -74,7 +74,7 @@ pub(crate) fn start(tokens: &mut Tokens<'_>) -> Result<Start, Halt>
 
 // What comes first in brackets.
 pub(crate) fn item(tokens: &mut Tokens<'_>) -> Result<Item, Halt>
-    ensures parsed { MatchResult result (λ v. One (Gives item_of) tokens.old v tokens.new) (λ e. Halts (One (Gives item_of)) tokens.old tokens.new e) }
+    ensures parsed { Reads (One (Gives item_of)) tokens.old tokens.new result }
 {
     let token = tokens.peek();
     match table::item(token.kind, token.span) {
@@ -88,7 +88,7 @@ pub(crate) fn item(tokens: &mut Tokens<'_>) -> Result<Item, Halt>
 
 // What follows this atom at the start of a right side.
 pub(crate) fn follow(before: &Atom<Span>, tokens: &mut Tokens<'_>) -> Result<Follow, Halt>
-    ensures parsed { MatchResult result (λ v. One (Gives (λ k s. following_of before.now k)) tokens.old v tokens.new) (λ e. Halts (One (Gives (λ k s. following_of before.now k))) tokens.old tokens.new e) }
+    ensures parsed { Reads (One (Gives (λ k s. following_of before.now k))) tokens.old tokens.new result }
 {
     let token = tokens.peek();
     match table::following(before, token.kind) {
@@ -102,7 +102,7 @@ pub(crate) fn follow(before: &Atom<Span>, tokens: &mut Tokens<'_>) -> Result<Fol
 
 // `:`, after which a number follows, or `]`.
 pub(crate) fn colon_or_close(tokens: &mut Tokens<'_>) -> Result<bool, Halt>
-    ensures parsed { MatchResult result (λ v. One (Gives (λ k s. colon_or_close_of k)) tokens.old v tokens.new) (λ e. Halts (One (Gives (λ k s. colon_or_close_of k))) tokens.old tokens.new e) }
+    ensures parsed { Reads (One (Gives (λ k s. colon_or_close_of k))) tokens.old tokens.new result }
 {
     let token = tokens.peek();
     match table::colon_or_close(token.kind) {
@@ -116,7 +116,7 @@ pub(crate) fn colon_or_close(tokens: &mut Tokens<'_>) -> Result<bool, Halt>
 
 // `,`, after which a port follows, or `)`.
 pub(crate) fn comma_or_close(tokens: &mut Tokens<'_>) -> Result<bool, Halt>
-    ensures parsed { MatchResult result (λ v. One (Gives (λ k s. comma_or_close_of k)) tokens.old v tokens.new) (λ e. Halts (One (Gives (λ k s. comma_or_close_of k))) tokens.old tokens.new e) }
+    ensures parsed { Reads (One (Gives (λ k s. comma_or_close_of k))) tokens.old tokens.new result }
 {
     let token = tokens.peek();
     match table::comma_or_close(token.kind) {
@@ -130,7 +130,7 @@ pub(crate) fn comma_or_close(tokens: &mut Tokens<'_>) -> Result<bool, Halt>
 
 // The direction of a port.
 pub(crate) fn direction(tokens: &mut Tokens<'_>) -> Result<Direction, Halt>
-    ensures parsed { MatchResult result (λ v. One (Gives (λ k s. directed_of k)) tokens.old v tokens.new) (λ e. Halts (One (Gives (λ k s. directed_of k))) tokens.old tokens.new e) }
+    ensures parsed { Reads (One (Gives (λ k s. directed_of k))) tokens.old tokens.new result }
 {
     let token = tokens.peek();
     match table::directed(token.kind) {
@@ -144,7 +144,7 @@ pub(crate) fn direction(tokens: &mut Tokens<'_>) -> Result<Direction, Halt>
 
 // What a name with its range begins with.
 pub(crate) fn head(tokens: &mut Tokens<'_>) -> Result<Head, Halt>
-    ensures parsed { MatchResult result (λ v. One (Gives heading_of) tokens.old v tokens.new) (λ e. Halts (One (Gives heading_of)) tokens.old tokens.new e) }
+    ensures parsed { Reads (One (Gives heading_of)) tokens.old tokens.new result }
 {
     let token = tokens.peek();
     match table::heading(token.kind, token.span) {
@@ -158,7 +158,7 @@ pub(crate) fn head(tokens: &mut Tokens<'_>) -> Result<Head, Halt>
 
 // What follows the direction of a port.
 pub(crate) fn lead(tokens: &mut Tokens<'_>) -> Result<Lead, Halt>
-    ensures parsed { MatchResult result (λ v. One (Gives leading_of) tokens.old v tokens.new) (λ e. Halts (One (Gives leading_of)) tokens.old tokens.new e) }
+    ensures parsed { Reads (One (Gives leading_of)) tokens.old tokens.new result }
 {
     let token = tokens.peek();
     match table::leading(token.kind, token.span) {
@@ -172,7 +172,7 @@ pub(crate) fn lead(tokens: &mut Tokens<'_>) -> Result<Lead, Halt>
 
 // What follows the name of a register or an array.
 pub(crate) fn tail(tokens: &mut Tokens<'_>) -> Result<Tail, Halt>
-    ensures parsed { MatchResult result (λ v. One (Gives (λ k s. tailing_of k)) tokens.old v tokens.new) (λ e. Halts (One (Gives (λ k s. tailing_of k))) tokens.old tokens.new e) }
+    ensures parsed { Reads (One (Gives (λ k s. tailing_of k))) tokens.old tokens.new result }
 {
     let token = tokens.peek();
     match table::tailing(token.kind) {
@@ -186,7 +186,7 @@ pub(crate) fn tail(tokens: &mut Tokens<'_>) -> Result<Tail, Halt>
 
 // What follows the name of what is updated.
 pub(crate) fn arrow(tokens: &mut Tokens<'_>) -> Result<Arrow, Halt>
-    ensures parsed { MatchResult result (λ v. One (Gives (λ k s. arrowing_of k)) tokens.old v tokens.new) (λ e. Halts (One (Gives (λ k s. arrowing_of k))) tokens.old tokens.new e) }
+    ensures parsed { Reads (One (Gives (λ k s. arrowing_of k))) tokens.old tokens.new result }
 {
     let token = tokens.peek();
     match table::arrowing(token.kind) {
@@ -200,7 +200,7 @@ pub(crate) fn arrow(tokens: &mut Tokens<'_>) -> Result<Arrow, Halt>
 
 // What an update begins with, or the end of the block.
 pub(crate) fn target(tokens: &mut Tokens<'_>) -> Result<Target, Halt>
-    ensures parsed { MatchResult result (λ v. One (Gives targeting_of) tokens.old v tokens.new) (λ e. Halts (One (Gives targeting_of)) tokens.old tokens.new e) }
+    ensures parsed { Reads (One (Gives targeting_of)) tokens.old tokens.new result }
 {
     let token = tokens.peek();
     match table::targeting(token.kind, token.span) {
@@ -214,7 +214,7 @@ pub(crate) fn target(tokens: &mut Tokens<'_>) -> Result<Target, Halt>
 
 // The first word of a section.
 pub(crate) fn section(tokens: &mut Tokens<'_>) -> Result<Section, Halt>
-    ensures parsed { MatchResult result (λ v. One (Gives (λ k s. section_of k)) tokens.old v tokens.new) (λ e. Halts (One (Gives (λ k s. section_of k))) tokens.old tokens.new e) }
+    ensures parsed { Reads (One (Gives (λ k s. section_of k))) tokens.old tokens.new result }
 {
     let token = tokens.peek();
     match table::section(token.kind) {
@@ -229,7 +229,7 @@ pub(crate) fn section(tokens: &mut Tokens<'_>) -> Result<Section, Halt>
 // The first word of the section after this one.
 pub(crate) fn section_after(before: Section, tokens: &mut Tokens<'_>) -> Result<Section, Halt>
     requires { is_last before ≡ false }
-    ensures parsed { MatchResult result (λ v. One (Gives (λ k s. section_after_of before k)) tokens.old v tokens.new) (λ e. Halts (One (Gives (λ k s. section_after_of before k))) tokens.old tokens.new e) }
+    ensures parsed { Reads (One (Gives (λ k s. section_after_of before k))) tokens.old tokens.new result }
 {
     let token = tokens.peek();
     match table::section_after(before, token.kind) {
@@ -243,7 +243,7 @@ pub(crate) fn section_after(before: Section, tokens: &mut Tokens<'_>) -> Result<
 
 // This symbol.
 pub(crate) fn sign(symbol: Symbol, tokens: &mut Tokens<'_>) -> Result<(), Halt>
-    ensures parsed { MatchResult result (λ v. One (Is (Sym symbol)) tokens.old v tokens.new) (λ e. Halts (One (Is (Sym symbol))) tokens.old tokens.new e) }
+    ensures parsed { Reads (One (Is (Sym symbol))) tokens.old tokens.new result }
 {
     let token = tokens.peek();
     if token.kind == TokenKind::Symbol(symbol) {
@@ -256,7 +256,7 @@ pub(crate) fn sign(symbol: Symbol, tokens: &mut Tokens<'_>) -> Result<(), Halt>
 
 // This word.
 pub(crate) fn word(word: Keyword, tokens: &mut Tokens<'_>) -> Result<(), Halt>
-    ensures parsed { MatchResult result (λ v. One (Is (Key word)) tokens.old v tokens.new) (λ e. Halts (One (Is (Key word))) tokens.old tokens.new e) }
+    ensures parsed { Reads (One (Is (Key word))) tokens.old tokens.new result }
 {
     let token = tokens.peek();
     if token.kind == TokenKind::Keyword(word) {
@@ -269,7 +269,7 @@ pub(crate) fn word(word: Keyword, tokens: &mut Tokens<'_>) -> Result<(), Halt>
 
 // The name `clk`.
 pub(crate) fn clock(tokens: &mut Tokens<'_>) -> Result<(), Halt>
-    ensures parsed { MatchResult result (λ v. One (Is Clock) tokens.old v tokens.new) (λ e. Halts (One (Is Clock)) tokens.old tokens.new e) }
+    ensures parsed { Reads (One (Is Clock)) tokens.old tokens.new result }
 {
     let token = tokens.peek();
     if token.kind == TokenKind::Clock {

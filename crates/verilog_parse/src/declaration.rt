@@ -1,7 +1,7 @@
 // Declarations.
 
-ghost use Rattle.std.specs.Prelude.{◌≡◌, MatchResult};
-ghost use Rattle.verilog_parse.specs.Forms.{Halts};
+ghost use Rattle.std.specs.Prelude.{◌≡◌};
+ghost use Rattle.verilog_parse.specs.Forms.{Reads};
 ghost use Rattle.verilog_parse.specs.Sections.{AWire, AfterReg, AReg};
 
 use crate::class;
@@ -13,7 +13,7 @@ use verilog_text::{Symbol, WrittenDeclaration, WrittenSort};
 
 // What follows `wire`.
 pub(crate) fn wire(tokens: &mut Tokens<'_>) -> Result<WrittenDeclaration, Halt>
-    ensures parsed { MatchResult result (λ v. AWire tokens.old v tokens.new) (λ e. Halts AWire tokens.old tokens.new e) }
+    ensures parsed { Reads AWire tokens.old tokens.new result }
 {
     let found = ranged(tokens)?;
     class::sign(Symbol::Semicolon, tokens)?;
@@ -29,7 +29,7 @@ fn after_reg(
     tail: Tail,
     tokens: &mut Tokens<'_>,
 ) -> Result<WrittenDeclaration, Halt>
-    ensures parsed { MatchResult result (λ v. AfterReg found tail tokens.old v tokens.new) (λ e. Halts (AfterReg found tail) tokens.old tokens.new e) }
+    ensures parsed { Reads (AfterReg found tail) tokens.old tokens.new result }
 {
     match tail {
         Tail::End => Ok(WrittenDeclaration {
@@ -51,7 +51,7 @@ fn after_reg(
 
 // What follows `reg`.
 pub(crate) fn reg(tokens: &mut Tokens<'_>) -> Result<WrittenDeclaration, Halt>
-    ensures parsed { MatchResult result (λ v. AReg tokens.old v tokens.new) (λ e. Halts AReg tokens.old tokens.new e) }
+    ensures parsed { Reads AReg tokens.old tokens.new result }
 {
     let found = ranged(tokens)?;
     let tail = class::tail(tokens)?;

@@ -3,7 +3,7 @@
 ghost use Rattle.std.specs.Prelude.{◌≡◌, [], ◌∷◌, ◌++◌, List, MatchResult, false};
 ghost use Rattle.verilog_text.specs.declared.written.WrittenAssign.{WrittenAssign as OneAssign};
 ghost use Rattle.verilog_text.specs.Grammar.{source_of};
-ghost use Rattle.verilog_parse.specs.Forms.{Halts, AnAssign};
+ghost use Rattle.verilog_parse.specs.Forms.{Halts, AnAssign, Reads};
 ghost use Rattle.verilog_parse.specs.Sections.{Piece, AfterSection, SectionsFrom, Sections, is_last, AHeadline, AHead, AModule, source_with, Adds};
 
 use crate::class;
@@ -65,7 +65,7 @@ fn section(first: Section, written: &mut Written, tokens: &mut Tokens<'_>) -> Re
 
 // `module NAME (`
 fn headline(tokens: &mut Tokens<'_>) -> Result<Span, Halt>
-    ensures parsed { MatchResult result (λ v. AHeadline tokens.old v tokens.new) (λ e. Halts AHeadline tokens.old tokens.new e) }
+    ensures parsed { Reads AHeadline tokens.old tokens.new result }
 {
     class::word(Keyword::Module, tokens)?;
     let name = class::name(tokens)?;

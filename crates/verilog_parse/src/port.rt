@@ -1,7 +1,7 @@
 // Ranges, names and ports.
 
 ghost use Rattle.std.specs.Prelude.{◌≡◌, MatchResult};
-ghost use Rattle.verilog_parse.specs.Forms.{Halts};
+ghost use Rattle.verilog_parse.specs.Forms.{Halts, Reads};
 ghost use Rattle.verilog_parse.specs.Sections.{ABits, AfterHead, ARanged, AfterLead, APort, Ports};
 
 use crate::class;
@@ -13,7 +13,7 @@ use verilog_text::{Range, Symbol, WrittenPort};
 
 // A range after its `[`.
 pub(crate) fn bits(tokens: &mut Tokens<'_>) -> Result<Range, Halt>
-    ensures parsed { MatchResult result (λ v. ABits tokens.old v tokens.new) (λ e. Halts ABits tokens.old tokens.new e) }
+    ensures parsed { Reads ABits tokens.old tokens.new result }
 {
     let first = class::count(tokens)?;
     class::sign(Symbol::Colon, tokens)?;
@@ -23,7 +23,7 @@ pub(crate) fn bits(tokens: &mut Tokens<'_>) -> Result<Range, Halt>
 }
 
 fn after_head(head: Head, tokens: &mut Tokens<'_>) -> Result<RangedName, Halt>
-    ensures parsed { MatchResult result (λ v. AfterHead head tokens.old v tokens.new) (λ e. Halts (AfterHead head) tokens.old tokens.new e) }
+    ensures parsed { Reads (AfterHead head) tokens.old tokens.new result }
 {
     match head {
         Head::Square => {
@@ -40,7 +40,7 @@ fn after_head(head: Head, tokens: &mut Tokens<'_>) -> Result<RangedName, Halt>
 
 // A name with its range, where one is written.
 pub(crate) fn ranged(tokens: &mut Tokens<'_>) -> Result<RangedName, Halt>
-    ensures parsed { MatchResult result (λ v. ARanged tokens.old v tokens.new) (λ e. Halts ARanged tokens.old tokens.new e) }
+    ensures parsed { Reads ARanged tokens.old tokens.new result }
 {
     let head = class::head(tokens)?;
     let name = after_head(head, tokens)?;
@@ -48,7 +48,7 @@ pub(crate) fn ranged(tokens: &mut Tokens<'_>) -> Result<RangedName, Halt>
 }
 
 fn after_lead(lead: Lead, tokens: &mut Tokens<'_>) -> Result<RangedName, Halt>
-    ensures parsed { MatchResult result (λ v. AfterLead lead tokens.old v tokens.new) (λ e. Halts (AfterLead lead) tokens.old tokens.new e) }
+    ensures parsed { Reads (AfterLead lead) tokens.old tokens.new result }
 {
     match lead {
         Lead::Wire => {
@@ -63,7 +63,7 @@ fn after_lead(lead: Lead, tokens: &mut Tokens<'_>) -> Result<RangedName, Halt>
 }
 
 fn port(tokens: &mut Tokens<'_>) -> Result<WrittenPort, Halt>
-    ensures parsed { MatchResult result (λ v. APort tokens.old v tokens.new) (λ e. Halts APort tokens.old tokens.new e) }
+    ensures parsed { Reads APort tokens.old tokens.new result }
 {
     let direction = class::direction(tokens)?;
     let lead = class::lead(tokens)?;

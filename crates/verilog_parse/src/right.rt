@@ -1,7 +1,7 @@
 // Right sides and assigns.
 
-ghost use Rattle.std.specs.Prelude.{◌≡◌, MatchResult};
-ghost use Rattle.verilog_parse.specs.Forms.{Halts, Closed, Ended, AfterFirst, AfterItem, AfterAtom, AfterBrace, AfterStart, ARight, AnAssign};
+ghost use Rattle.std.specs.Prelude.{◌≡◌};
+ghost use Rattle.verilog_parse.specs.Forms.{Closed, Ended, AfterFirst, AfterItem, AfterAtom, AfterBrace, AfterStart, ARight, AnAssign, Reads};
 
 use crate::class;
 use crate::halt::Halt;
@@ -13,7 +13,7 @@ use wiring::Atom;
 
 // An atom and the symbol after it.
 pub(crate) fn closed(symbol: Symbol, tokens: &mut Tokens<'_>) -> Result<Atom<Span>, Halt>
-    ensures parsed { MatchResult result (λ v. Closed symbol tokens.old v tokens.new) (λ e. Halts (Closed symbol) tokens.old tokens.new e) }
+    ensures parsed { Reads (Closed symbol) tokens.old tokens.new result }
 {
     let atom = class::atom(tokens)?;
     class::sign(symbol, tokens)?;
@@ -22,7 +22,7 @@ pub(crate) fn closed(symbol: Symbol, tokens: &mut Tokens<'_>) -> Result<Atom<Spa
 
 // A symbol and `;`.
 fn ended(symbol: Symbol, tokens: &mut Tokens<'_>) -> Result<(), Halt>
-    ensures parsed { MatchResult result (λ v. Ended symbol tokens.old v tokens.new) (λ e. Halts (Ended symbol) tokens.old tokens.new e) }
+    ensures parsed { Reads (Ended symbol) tokens.old tokens.new result }
 {
     class::sign(symbol, tokens)?;
     class::sign(Symbol::Semicolon, tokens)?;
@@ -36,7 +36,7 @@ fn after_first(
     more: bool,
     tokens: &mut Tokens<'_>,
 ) -> Result<WrittenRight, Halt>
-    ensures parsed { MatchResult result (λ v. AfterFirst name first more tokens.old v tokens.new) (λ e. Halts (AfterFirst name first more) tokens.old tokens.new e) }
+    ensures parsed { Reads (AfterFirst name first more) tokens.old tokens.new result }
 {
     if more {
         let low = class::count(tokens)?;
@@ -50,7 +50,7 @@ fn after_first(
 
 // What follows the first item in square brackets.
 fn after_item(name: Span, item: Item, tokens: &mut Tokens<'_>) -> Result<WrittenRight, Halt>
-    ensures parsed { MatchResult result (λ v. AfterItem name item tokens.old v tokens.new) (λ e. Halts (AfterItem name item) tokens.old tokens.new e) }
+    ensures parsed { Reads (AfterItem name item) tokens.old tokens.new result }
 {
     match item {
         Item::Count(first) => {
@@ -71,7 +71,7 @@ fn after_atom(
     follow: Follow,
     tokens: &mut Tokens<'_>,
 ) -> Result<WrittenRight, Halt>
-    ensures parsed { MatchResult result (λ v. AfterAtom first follow tokens.old v tokens.new) (λ e. Halts (AfterAtom first follow) tokens.old tokens.new e) }
+    ensures parsed { Reads (AfterAtom first follow) tokens.old tokens.new result }
 {
     match follow {
         Follow::End => Ok(WrittenRight::Copy(first)),
@@ -94,7 +94,7 @@ fn after_atom(
 
 // What follows the first item in braces.
 fn after_brace(item: Item, tokens: &mut Tokens<'_>) -> Result<WrittenRight, Halt>
-    ensures parsed { MatchResult result (λ v. AfterBrace item tokens.old v tokens.new) (λ e. Halts (AfterBrace item) tokens.old tokens.new e) }
+    ensures parsed { Reads (AfterBrace item) tokens.old tokens.new result }
 {
     match item {
         Item::Count(count) => {
@@ -113,7 +113,7 @@ fn after_brace(item: Item, tokens: &mut Tokens<'_>) -> Result<WrittenRight, Halt
 }
 
 fn after_start(start: Start, tokens: &mut Tokens<'_>) -> Result<WrittenRight, Halt>
-    ensures parsed { MatchResult result (λ v. AfterStart start tokens.old v tokens.new) (λ e. Halts (AfterStart start) tokens.old tokens.new e) }
+    ensures parsed { Reads (AfterStart start) tokens.old tokens.new result }
 {
     match start {
         Start::Tilde => {
@@ -135,7 +135,7 @@ fn after_start(start: Start, tokens: &mut Tokens<'_>) -> Result<WrittenRight, Ha
 
 // A right side and its `;`.
 fn right(tokens: &mut Tokens<'_>) -> Result<WrittenRight, Halt>
-    ensures parsed { MatchResult result (λ v. ARight tokens.old v tokens.new) (λ e. Halts ARight tokens.old tokens.new e) }
+    ensures parsed { Reads ARight tokens.old tokens.new result }
 {
     let start = class::start(tokens)?;
     let right = after_start(start, tokens)?;
@@ -144,7 +144,7 @@ fn right(tokens: &mut Tokens<'_>) -> Result<WrittenRight, Halt>
 
 // What follows `assign`.
 pub(crate) fn assign(tokens: &mut Tokens<'_>) -> Result<WrittenAssign, Halt>
-    ensures parsed { MatchResult result (λ v. AnAssign tokens.old v tokens.new) (λ e. Halts AnAssign tokens.old tokens.new e) }
+    ensures parsed { Reads AnAssign tokens.old tokens.new result }
 {
     let target = class::name(tokens)?;
     class::sign(Symbol::Equal, tokens)?;

@@ -2,7 +2,7 @@
 
 ghost use Rattle.std.specs.Prelude.{◌≡◌, ◌++◌, ◌∷◌, [], List, MatchResult};
 ghost use Rattle.verilog_text.specs.declared.written.WrittenUpdate.{WrittenUpdate as OneUpdate};
-ghost use Rattle.verilog_parse.specs.Forms.{Halts};
+ghost use Rattle.verilog_parse.specs.Forms.{Halts, Reads};
 ghost use Rattle.verilog_parse.specs.Sections.{AfterArrow, AnUpdate, UpdatesFrom, Updates, ATrigger, ABlock};
 
 use crate::class;
@@ -14,7 +14,7 @@ use verilog_lexer::Tokens;
 use verilog_text::{Keyword, Symbol, WrittenUpdate};
 
 fn after_arrow(name: Span, arrow: Arrow, tokens: &mut Tokens<'_>) -> Result<WrittenUpdate, Halt>
-    ensures parsed { MatchResult result (λ v. AfterArrow name arrow tokens.old v tokens.new) (λ e. Halts (AfterArrow name arrow) tokens.old tokens.new e) }
+    ensures parsed { Reads (AfterArrow name arrow) tokens.old tokens.new result }
 {
     match arrow {
         Arrow::Takes => {
@@ -32,7 +32,7 @@ fn after_arrow(name: Span, arrow: Arrow, tokens: &mut Tokens<'_>) -> Result<Writ
 
 // What follows the name of what is updated.
 fn update(name: Span, tokens: &mut Tokens<'_>) -> Result<WrittenUpdate, Halt>
-    ensures parsed { MatchResult result (λ v. AnUpdate name tokens.old v tokens.new) (λ e. Halts (AnUpdate name) tokens.old tokens.new e) }
+    ensures parsed { Reads (AnUpdate name) tokens.old tokens.new result }
 {
     let arrow = class::arrow(tokens)?;
     let update = after_arrow(name, arrow, tokens)?;
@@ -90,7 +90,7 @@ fn updates(updates: &mut Vec<WrittenUpdate>, tokens: &mut Tokens<'_>) -> Result<
 
 // `@ ( posedge clk`
 fn trigger(tokens: &mut Tokens<'_>) -> Result<(), Halt>
-    ensures parsed { MatchResult result (λ v. ATrigger tokens.old v tokens.new) (λ e. Halts ATrigger tokens.old tokens.new e) }
+    ensures parsed { Reads ATrigger tokens.old tokens.new result }
 {
     class::sign(Symbol::At, tokens)?;
     class::sign(Symbol::Open, tokens)?;
