@@ -100,6 +100,7 @@ crates/report_text/README.md
 crates/row_stream/README.md
 crates/source_names/README.md
 crates/stencil_sets/README.md
+crates/stimulus/README.md
 crates/test_bench/README.md
 crates/top_tests/README.md
 crates/trace_bench/README.md

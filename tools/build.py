@@ -58,7 +58,7 @@ def main():
         say("the command rt of the Rattle kit is not there, so no program can be built (docs/BUILDING.md)")
         return 1
     names = shell("crates_of_dk", TOP)
-    say(f"{len(names)} crates are proved and built; from nothing this takes about two and a half hours of processor time")
+    say(f"{len(names)} crates are proved and built; from nothing this takes nearly three hours of processor time")
     work, process = tempfile.mkdtemp(prefix="dk-build-"), None
     try:
         copied(names, work)

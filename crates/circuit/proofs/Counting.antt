@@ -14,7 +14,7 @@ use Rattle.wiring.specs.declared.netlist.Shape.{Shape}
 use Rattle.buffer_plan.specs.Plans.{Plan, IsPlan, place_in, ages_of, width_of, depth_of}
 use Rattle.buffer_plan.proofs.Aged.{are_ages}
 use Rattle.line_buffer.specs.Places as L
-use Rattle.line_buffer.specs.Places.{Ascend, later, segment_shapes, chain_shapes, ring_shapes}
+use Rattle.line_buffer.specs.Places.{Ascend, later, segment_shapes}
 use Rattle.line_buffer.proofs.Turns.{yes_eq, no_eq}
 use Rattle.line_buffer.proofs.Ages.{later_ascends, later_depth}
 use Rattle.circuit.specs.Taps.{Keeps}

@@ -15,7 +15,7 @@ use Rattle.edge_select.specs.Steps.{Lead, LeadOn}
 use Rattle.circuit.specs.Leaves.{LeafRead, with_step, reads_of, own_bit, bits_of, ReadIsRight, BitIsRight}
 use Rattle.datapath.specs.Meant.{AreRight, SaysInside}
 use Rattle.net_build.proofs.Clocks.{bool_cases, never}
-use Rattle.frame_steps.proofs.Unclamped.{ends_here, is_inside}
+use Rattle.dk_base.proofs.Unclamped.{ends_here, is_inside}
 use Rattle.edge_select.proofs.Stepping.{lead_one, lead_then, lead_parts}
 
 -- one step more

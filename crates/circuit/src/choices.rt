@@ -75,7 +75,8 @@ fn with_tap(
     requires before_width { IfSome before (λ n. net_width b.old n ≡ width_of (type_at reader.now.ir.now read.g)) }
     ensures adds { OnOk result (AddsControl b.new b.old) }
     ensures made { OnOk result (IfSome made.new (HasPosition b.new reader.now.plan.now reader.now.image)) }
-    ensures choice { IfOk result (ChoosesAlso b.new b.old reader.now.ir.now reader.now.plan.now reader.now.taps.now reader.now.image (leaf_at read.g steps.now) read before) }
+    ensures choice { IfOk result (ChoosesAlso b.new b.old reader.now.ir.now reader.now.plan.now reader.now.taps.now reader.now.image
+        (leaf_at read.g steps.now) read before) }
 {
     let plan = reader.plan;
     plan.law();
@@ -131,7 +132,8 @@ fn with_read(
     requires before_width { IfSome before (λ n. net_width b.old n ≡ width_of (type_at reader.now.ir.now g)) }
     ensures adds { OnOk result (AddsControl b.new b.old) }
     ensures made { OnOk result (IfSome made.new (HasPosition b.new reader.now.plan.now reader.now.image)) }
-    ensures choice { IfOk result (ChoosesAlso b.new b.old reader.now.ir.now reader.now.plan.now reader.now.taps.now reader.now.image (leaf_at g steps.now) read before) }
+    ensures choice { IfOk result (ChoosesAlso b.new b.old reader.now.ir.now reader.now.plan.now reader.now.taps.now reader.now.image
+        (leaf_at g steps.now) read before) }
 {
     if read.g != g {
         return Ok(before);

@@ -54,7 +54,8 @@ pub fn finished<F: BufferForm>(
     taps: &[Taps],
 ) -> Result<Built, OutOfMemory>
     requires stencils { AreStencilsOf ir.now plan.now.system.stencils }
-    requires built { AreBuilt b ir.now plan.now (F.shapes form.now) (F.places form.now) (F.property form.now) (length plan.now.system.stencils.images) nets.items taps.now }
+    requires built { AreBuilt b ir.now plan.now (F.shapes form.now) (F.places form.now) (F.property form.now)
+        (length plan.now.system.stencils.images) nets.items taps.now }
     ensures ports { IfOk result (λ r. HasPorts r.module.netlist ir.now b.enable) }
     ensures named { IfOk result (λ r. r.module.names ≡ names_for r.module.netlist) }
     ensures whole { IfOk result (λ r. IsWhole r.module.netlist r.module.netlist) }

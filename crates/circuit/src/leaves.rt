@@ -38,7 +38,8 @@ fn push_read(
     ensures adds { OnOk result (AddsControl b.new b.old) }
     ensures made { OnOk result (IfSome made.new (HasPosition b.new reader.now.plan.now reader.now.image)) }
     ensures steps { OnOk result (steps.new.items ≡ steps.old.items) }
-    ensures leaves { OnOk result (AddsLeaves b.new b.old reader.now.ir.now reader.now.plan.now reader.now.taps.now reader.now.image ((record { image = g; steps = steps.old.items ++ step ∷ [] }) ∷ []) [] leaves.new leaves.old) }
+    ensures leaves { OnOk result (AddsLeaves b.new b.old reader.now.ir.now reader.now.plan.now reader.now.taps.now reader.now.image
+        ((record { image = g; steps = steps.old.items ++ step ∷ [] }) ∷ []) [] leaves.new leaves.old) }
 {
     steps.push(step)?;
     let net = read_net(b, reader, made, steps, g)?;
@@ -60,7 +61,8 @@ fn push_test(
     requires made { IfSome made.old (HasPosition b.old reader.now.plan.now reader.now.image) }
     ensures adds { OnOk result (AddsControl b.new b.old) }
     ensures made { OnOk result (IfSome made.new (HasPosition b.new reader.now.plan.now reader.now.image)) }
-    ensures leaves { OnOk result (AddsLeaves b.new b.old reader.now.ir.now reader.now.plan.now reader.now.taps.now reader.now.image [] (own_bit edge steps.now) leaves.new leaves.old) }
+    ensures leaves { OnOk result (AddsLeaves b.new b.old reader.now.ir.now reader.now.plan.now reader.now.taps.now reader.now.image
+        [] (own_bit edge steps.now) leaves.new leaves.old) }
 {
     match edge {
         Edge::Zero => {
@@ -93,7 +95,8 @@ pub fn push_leaves(
     ensures adds { OnOk result (AddsControl b.new b.old) }
     ensures made { OnOk result (IfSome made.new (HasPosition b.new reader.now.plan.now reader.now.image)) }
     ensures steps { OnOk result (steps.new.items ≡ steps.old.items) }
-    ensures leaves { OnOk result (AddsLeaves b.new b.old reader.now.ir.now reader.now.plan.now reader.now.taps.now reader.now.image (reads_of (tree_of e.now) steps.old.items) (bits_of (tree_of e.now) steps.old.items) leaves.new leaves.old) }
+    ensures leaves { OnOk result (AddsLeaves b.new b.old reader.now.ir.now reader.now.plan.now reader.now.taps.now reader.now.image
+        (reads_of (tree_of e.now) steps.old.items) (bits_of (tree_of e.now) steps.old.items) leaves.new leaves.old) }
 {
     match e {
         Expr::Constant(_, _) => Ok(()),

@@ -41,7 +41,8 @@ fn add_image<F: BufferForm>(
     requires within { k < length plan.now.system.stencils.images }
     requires built { AreBuilt b.old ir.now plan.now (F.shapes form.now) (F.places form.now) (F.property form.now) k nets.old.items taps.old.items }
     ensures enable { OnOk result (b.new.enable ≡ b.old.enable) }
-    ensures built { OnOk result (AreBuilt b.new ir.now plan.now (F.shapes form.now) (F.places form.now) (F.property form.now) (suc k) nets.new.items taps.new.items) }
+    ensures built { OnOk result (AreBuilt b.new ir.now plan.now (F.shapes form.now) (F.places form.now) (F.property form.now)
+        (suc k) nets.new.items taps.new.items) }
 {
     plan.law();
     let image = plan.images()[k].number;
@@ -72,7 +73,8 @@ fn add_images<F: BufferForm>(
     requires stencils { AreStencilsOf ir.now plan.now.system.stencils }
     requires built { AreBuilt b.old ir.now plan.now (F.shapes form.now) (F.places form.now) (F.property form.now) 0 nets.old.items taps.old.items }
     ensures enable { OnOk result (b.new.enable ≡ b.old.enable) }
-    ensures built { OnOk result (AreBuilt b.new ir.now plan.now (F.shapes form.now) (F.places form.now) (F.property form.now) (length plan.now.system.stencils.images) nets.new.items taps.new.items) }
+    ensures built { OnOk result (AreBuilt b.new ir.now plan.now (F.shapes form.now) (F.places form.now) (F.property form.now)
+        (length plan.now.system.stencils.images) nets.new.items taps.new.items) }
 {
     for k in 0..plan.images().len() {
         add_image(alloc, b, ir, plan, form, k, nets, taps)?;

@@ -11,7 +11,7 @@ use Rattle.dk_base.proofs.Ranges.{negation_in}
 use Rattle.std.proofs.lemmas.Nat.{pow_pos}
 use Rattle.datapath.specs.Nets.{IsValuation, IsPartOf, Grows, HasWidth, IsWord, InEachFit, bits_of}
 use Rattle.wiring.specs.Snapshot.{Snapshot}
-use Rattle.datapath.proofs.Growth.{fits_later, width_more, width_later, part_on, grows_on, grows_itself}
+use Rattle.datapath.proofs.Growth.{fits_later, width_more, width_later, part_on}
 use Rattle.datapath.specs.declared.operand.Signal.{Signal}
 use Rattle.wiring.specs.Netlist.{Netlist}
 use Rattle.datapath.specs.declared.operand.Signal.TheVariants as signal

@@ -9,7 +9,7 @@ use Rattle.pointwise_ir.specs.Trees.{Tree, constant, read, shifted, unary, binar
 use Rattle.pointwise_ir.specs.Meaning.{value}
 use Rattle.pointwise_ir.specs.Meaning as meant
 use Rattle.pointwise_ir.specs.Reads.{EndsAt}
-use Rattle.frame_steps.proofs.Unclamped.{ends_here}
+use Rattle.dk_base.proofs.Unclamped.{ends_here}
 use Rattle.datapath.specs.Expressions.{leaf_value, edged, edge_bits, reads_in, bits_in}
 use Rattle.datapath.specs.Meant.{SaysInside, AreRight}
 

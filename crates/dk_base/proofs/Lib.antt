@@ -13,3 +13,4 @@ pub mod Operations
 pub mod Orders
 pub mod Rasters
 pub mod Table
+pub mod Unclamped

@@ -5,3 +5,4 @@ pub mod Operators
 pub mod Frames
 pub mod FrameSizes
 pub mod Stencils
+pub mod Steps

@@ -6,7 +6,7 @@ use Rattle.std.proofs.lemmas.Int.{ints}
 use Rattle.std.proofs.lemmas.Option.{slice_get_within}
 use Rattle.dk_base.specs.declared.ty.Ty.{Ty}
 use Rattle.dk_base.specs.Frames.{Size, in_frame, is_below, clamped}
-use Rattle.frame_steps.proofs.Unclamped.{ends_here, is_inside}
+use Rattle.dk_base.proofs.Unclamped.{ends_here, is_inside}
 use Rattle.dk_base.specs.Stencils.{IsOffset}
 use Rattle.dk_base.proofs.Rasters.{below_is, inside_is, inside}
 use Rattle.dk_types.specs.Typed.{Definition, Typing, image_type, input_types}

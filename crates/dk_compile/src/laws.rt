@@ -56,8 +56,8 @@ pub fn one_at_age_law()
 pub fn drive_shows_law()
     ensures picture { (m : Netlist) (p : Program) (plan : Plan) → Drives m p plan → (from to : Contents) (dins : List (List ℕ)) (shots : List Snapshot)
         → FitsContents m from → All (Fit (input_widths p)) dins
-        → Runs m from (driven (length p.inputs) dins) shots to → (rounds : Rounds) → AreRounds p rounds
-        → Agree p rounds dins → (k : ℕ) → k < length p.outputs → length dins ≤ pixel_count p rounds + latency_of plan k
+        → Runs m from (driven (length p.inputs) dins) shots to → (rounds : Rounds) → AreRounds p rounds → Agree p rounds dins → (k : ℕ) → k < length p.outputs
+        → length dins ≤ pixel_count p rounds + latency_of plan k
         → picture k shots ≡ map (λ q. unsigned_abs (pixel p rounds (output_at p k) q)) (range_with_len 0 (length dins - latency_of plan k)) }
     ensures first { (m : Netlist) (p : Program) (plan : Plan) → Drives m p plan → (from to : Contents) (dins : List (List ℕ)) (shots : List Snapshot)
         → FitsContents m from → All (Fit (input_widths p)) dins
@@ -66,8 +66,8 @@ pub fn drive_shows_law()
         ≡ map (λ q. unsigned_abs (pixel p rounds (output_at p k) q)) (range_with_len 0 (min (pixel_count p rounds) (length dins - latency_of plan k))) }
     ensures whole { (m : Netlist) (p : Program) (plan : Plan) → Drives m p plan → (from to : Contents) (dins : List (List ℕ)) (shots : List Snapshot)
         → FitsContents m from → All (Fit (input_widths p)) dins
-        → Runs m from (driven (length p.inputs) dins) shots to → (rounds : Rounds) → AreRounds p rounds
-        → Agree p rounds dins → (k : ℕ) → k < length p.outputs → pixel_count p rounds + latency_of plan k ≤ length dins
+        → Runs m from (driven (length p.inputs) dins) shots to → (rounds : Rounds) → AreRounds p rounds → Agree p rounds dins → (k : ℕ) → k < length p.outputs
+        → pixel_count p rounds + latency_of plan k ≤ length dins
         → take (pixel_count p rounds) (picture k shots)
         ≡ flat_map (λ r. raster p.size (picture_at (pictures_in p rounds r) (output_at p k))) (range_with_len 0 (length rounds)) }
     ensures rasters { (size : Size) (pictures : ℕ → Picture) (n : ℕ)

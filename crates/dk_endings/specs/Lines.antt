@@ -13,8 +13,8 @@ use Rattle.verilog_text.specs.declared.token.LexKind.{LexKind as TokenKind}
 use Rattle.verilog_text.specs.declared.token.LexKind.TheVariants as token
 use Rattle.verilog_text.specs.declared.fault.LimitKind.{LimitKind}
 use Rattle.verilog_text.specs.declared.fault.LimitKind.TheVariants as limit
-use Rattle.test_bench.specs.declared.stop.Stop.{Stop}
-use Rattle.test_bench.specs.declared.stop.Stop.TheVariants as stop
+use Rattle.stimulus.specs.declared.stop.Stop.{Stop}
+use Rattle.stimulus.specs.declared.stop.Stop.TheVariants as stop
 use Rattle.dk_endings.specs.declared.ending.Ending.{Ending}
 use Rattle.dk_endings.specs.declared.ending.Ending.TheVariants as ending
 use Rattle.source_fault.specs.declared.fault.SourceFault.{SourceFault}

@@ -6,7 +6,7 @@ ghost use Rattle.dk_endings.specs.Lines.{status_of};
 use crate::verilog::VerilogFault;
 use pgm_rounds::FileFault;
 use source_fault::SourceFault;
-use test_bench::Stop;
+use stimulus::Stop;
 
 /// Why a file of images is refused.
 #[derive(Clone, Copy, Debug, PartialEq, Eq)]

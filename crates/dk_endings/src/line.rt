@@ -16,7 +16,7 @@ use dk_types::TypeFaultKind;
 use itoa::Buffer;
 use pgm_rounds::FileFault;
 use source_fault::SourceFault;
-use test_bench::Stop;
+use stimulus::Stop;
 use verilog_text::{LexKind as TokenKind, LimitKind};
 
 /// The room for a line to Fault, in bytes.

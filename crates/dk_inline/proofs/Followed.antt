@@ -5,7 +5,7 @@ use Rattle.std.proofs.lemmas.Bool.{cases_lt}
 use Rattle.std.proofs.lemmas.Option.{slice_get_within}
 use Rattle.dk_base.specs.declared.ty.Ty.{Ty}
 use Rattle.dk_base.specs.Frames.{Size}
-use Rattle.frame_steps.specs.Steps.{EndsAt}
+use Rattle.dk_base.specs.Steps.{EndsAt}
 use Rattle.dk_types.specs.declared.typed.TypedRead.{TypedRead}
 use Rattle.dk_types.specs.Typed.{Typed, constant, fetch, single, double, scaled, converted, chosen, Definition, Typing, image_type, input_types}
 use Rattle.dk_types.specs.Kept.{IsWell, IsTyped}

@@ -10,7 +10,7 @@ use Rattle.dk_base.specs.Frames.{Size, in_frame}
 use Rattle.dk_types.specs.declared.typed.TypedInput.{TypedInput}
 use Rattle.dk_types.specs.Typed.{Typed, Definition, Typing, image_type, input_types, types_of}
 use Rattle.dk_types.specs.Kept.{AreOutputsOf, IsTyped}
-use Rattle.dk_types.specs.Reads.{IsDefinitionOf, IsStored, Reads, directly, through, IsLive, IsKept}
+use Rattle.dk_types.specs.Reads.{IsStored, Reads, directly, through, IsLive, IsKept}
 use Rattle.dk_types.specs.Reads as T
 use Rattle.pointwise_ir.specs.declared.program.Input.{Input}
 use Rattle.pointwise_ir.specs.Trees.{Tree, constant}

@@ -8,7 +8,7 @@ use Rattle.dk_base.specs.Types.{IsType, IsIn}
 use Rattle.dk_base.specs.Numbers.{bit_count}
 use Rattle.dk_base.proofs.BitCounts.{bit_count_is, bit_count_type, bit_count_in}
 use Rattle.dk_types.specs.declared.typed.TypedRead.{TypedRead}
-use Rattle.dk_types.specs.Typed.{Typed, fetch, single, double, scaled, converted, chosen, type_of, Definition, Typing, image_type, declared_or, input_types, types_of}
+use Rattle.dk_types.specs.Typed.{Typed, fetch, single, double, scaled, converted, chosen, type_of, Definition, Typing, image_type, declared_or, input_types}
 use Rattle.dk_types.specs.Typed as T
 use Rattle.dk_types.specs.Types.{Takes}
 use Rattle.dk_types.specs.Kept.{IsNear, IsReadOf, IsWell, AreWell, IsTyped}

@@ -285,8 +285,8 @@ fn allowed(before: Lead, found: Option<Lead>) -> Option<Lead>
 // The word that the next item begins with.
 fn lead_after(before: Lead, tokens: &[Token]) -> Result<(Lead, &[Token]), Halt>
     requires { before ≢ Lead.End }
-    ensures parsed { MatchResult result (λ x. One (λ t n. next before t ≡ Some n) tokens.now x.0 x.1.now) (λ e. Halts (One (λ t n. next before t
-        ≡ Some n)) tokens.now e) }
+    ensures parsed { MatchResult result (λ x. One (λ t n. next before t ≡ Some n) tokens.now x.0 x.1.now)
+        (λ e. Halts (One (λ t n. next before t ≡ Some n)) tokens.now e) }
     ensures fewer { IfOk result (λ x. length x.1.now < length tokens.now) }
 {
     let Some((_, kind, after)) = classes::front(tokens) else {

@@ -25,10 +25,10 @@ use Rattle.cycle_sim.specs.Filled.{fill_value, filled_words, filled_contents}
 use Rattle.pgm_codec.specs.Images.{Image, file_of}
 use Rattle.pgm_rounds.specs.Ports.{ports_with}
 use Rattle.pgm_rounds.specs.Files.{FitsFile}
-use Rattle.test_bench.specs.declared.drive.Drive.{Drive}
-use Rattle.test_bench.specs.Stimulus.{stimulus}
-use Rattle.test_bench.specs.Inputs.{FitsBench, samples_of}
-use Rattle.test_bench.specs.Showing.{IsShown}
+use Rattle.stimulus.specs.declared.drive.Drive.{Drive}
+use Rattle.stimulus.specs.Stimulus.{stimulus}
+use Rattle.stimulus.specs.Inputs.{FitsBench, samples_of}
+use Rattle.stimulus.specs.Showing.{IsShown}
 use Rattle.dk_words.specs.declared.command.PowerUp.{PowerUp}
 use Rattle.dk_compile.specs.Limits.{HasSystem}
 use Rattle.dk_compile.specs.Compiled.{IsPlanned}

@@ -12,13 +12,13 @@ use Rattle.pgm_codec.specs.Images.{Image}
 use Rattle.pgm_rounds.specs.declared.round.Round.{Round}
 use Rattle.pgm_rounds.specs.Ports.{Ports}
 use Rattle.pgm_rounds.specs.Files.{FitsFile, frame_of, frames_of}
-use Rattle.test_bench.specs.declared.drive.Drive.{Drive}
-use Rattle.test_bench.specs.declared.stop.Stop.{Stop}
-use Rattle.test_bench.specs.Stimulus.{Rounds}
-use Rattle.test_bench.specs.Inputs.{samples_of}
-use Rattle.test_bench.specs.Given.{AreBenchFrames, rounds_of}
-use Rattle.test_bench.specs.Showing.{IsShown, IsNoted as AreNotes}
-use Rattle.test_bench.specs.Stops.{IsStop}
+use Rattle.stimulus.specs.declared.drive.Drive.{Drive}
+use Rattle.stimulus.specs.declared.stop.Stop.{Stop}
+use Rattle.stimulus.specs.Stimulus.{Rounds}
+use Rattle.stimulus.specs.Inputs.{samples_of}
+use Rattle.stimulus.specs.Given.{AreBenchFrames, rounds_of}
+use Rattle.stimulus.specs.Showing.{IsShown, IsNoted as AreNotes}
+use Rattle.stimulus.specs.Stops.{IsStop}
 use Rattle.dk_compile.specs.declared.compiling.Compiled.{Compiled}
 use Rattle.dk_top.specs.Program.{ports}
 use Rattle.dk_top.specs.Output.{Fits, output_file}

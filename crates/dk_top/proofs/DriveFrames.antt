@@ -18,8 +18,8 @@ use Rattle.pgm_codec.specs.Rounds.{FitsInputs}
 use Rattle.pgm_rounds.specs.declared.round.Round.{Round}
 use Rattle.pgm_rounds.specs.Ports.{Ports}
 use Rattle.pgm_rounds.specs.Files.{FitsFile, frame_of, frames_of}
-use Rattle.test_bench.specs.Inputs.{samples_of}
-use Rattle.test_bench.specs.Given.{IsBenchFrame, AreBenchFrames, rounds_of}
+use Rattle.stimulus.specs.Inputs.{samples_of}
+use Rattle.stimulus.specs.Given.{IsBenchFrame, AreBenchFrames, rounds_of}
 use Rattle.circuit.specs.Driven.{input_widths}
 use Rattle.dk_top.proofs.DriveRounds.{IsSampled, AreSampled, HasPortTypes}
 

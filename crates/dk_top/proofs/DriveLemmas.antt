@@ -36,15 +36,15 @@ use Rattle.pgm_rounds.specs.Files.{FitsFile, frame_of, frames_of, joined}
 use Rattle.pointwise_eval.specs.Rounds.{AreFrames}
 use Rattle.program_images.specs.Ports.{bits_of}
 use Rattle.program_images.specs.Outputs.{image_of}
-use Rattle.test_bench.specs.declared.drive.Drive.{Drive}
-use Rattle.test_bench.specs.declared.stop.Stop.{Stop}
-use Rattle.test_bench.specs.declared.stop.Stop.TheVariants.{Index, Count}
-use Rattle.test_bench.specs.Stimulus.{stream, dins_at, stimulus, clocks_at, reset_clock}
-use Rattle.test_bench.specs.Inputs.{samples_of}
-use Rattle.test_bench.specs.Given.{AreBenchFrames, rounds_of}
-use Rattle.test_bench.specs.Showing.{IsRun, IsShown, HasShown, output_count, image_shown, images_shown}
-use Rattle.test_bench.specs.Stops.{IsStop}
-use Rattle.test_bench.proofs.Streams.{map_at, read_at}
+use Rattle.stimulus.specs.declared.drive.Drive.{Drive}
+use Rattle.stimulus.specs.declared.stop.Stop.{Stop}
+use Rattle.stimulus.specs.declared.stop.Stop.TheVariants.{Index, Count}
+use Rattle.stimulus.specs.Stimulus.{stream, dins_at, stimulus, clocks_at, reset_clock}
+use Rattle.stimulus.specs.Inputs.{samples_of}
+use Rattle.stimulus.specs.Given.{AreBenchFrames, rounds_of}
+use Rattle.stimulus.specs.Showing.{IsRun, IsShown, HasShown, output_count, image_shown, images_shown}
+use Rattle.stimulus.specs.Stops.{IsStop}
+use Rattle.stimulus.proofs.Streams.{map_at, read_at}
 use Rattle.dk_compile.specs.Fronts.{IsForm, IsFront}
 use Rattle.dk_compile.specs.Compiled.{IsCompiled}
 use Rattle.dk_top.specs.Program.{ports}

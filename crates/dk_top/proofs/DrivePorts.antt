@@ -29,8 +29,8 @@ use Rattle.cycle_sim.specs.Filled.{filled_contents, fill_value, filled_words}
 use Rattle.cycle_sim.specs.Ports.{din_widths}
 use Rattle.program_images.specs.Ports.{bits_of}
 use Rattle.dk_compile.specs.Fronts.{IsForm}
-use Rattle.test_bench.specs.Showing.{output_count}
-use Rattle.test_bench.proofs.Streams.{map_at, read_at}
+use Rattle.stimulus.specs.Showing.{output_count}
+use Rattle.stimulus.proofs.Streams.{map_at, read_at}
 use Rattle.dk_top.proofs.DriveRounds.{HasPortTypes}
 
 -- the dins

@@ -21,8 +21,8 @@ use Rattle.pointwise_ir.proofs.Typed.{zero_in}
 use Rattle.pointwise_ir.proofs.Pictured.{first_pictures}
 use Rattle.circuit.specs.Rounds.{Rounds, AreRounds, pixel}
 use Rattle.circuit.specs.Driven.{Agree, input_widths}
-use Rattle.test_bench.specs.Stimulus.{stream, dins_at}
-use Rattle.test_bench.proofs.Streams.{flat_at, map_at, read_at}
+use Rattle.stimulus.specs.Stimulus.{stream, dins_at}
+use Rattle.stimulus.proofs.Streams.{flat_at, map_at, read_at}
 
 -- as many samples as a frame has, each of this many bits
 pub record IsSampled (size : Size) (width : ℕ) (samples : List ℕ) : Type 0 where

@@ -12,7 +12,7 @@ use Rattle.pointwise_ir.specs.Meaning.{pictures}
 use Rattle.buffer_plan.specs.Plans.{Plan, latency_of}
 use Rattle.circuit.specs.Rounds.{Rounds, AreRounds, pixel, pixel_count, pictures_in}
 use Rattle.circuit.specs.Driven.{Drives, Agree, driven, input_widths, output_at}
-use Rattle.test_bench.proofs.Streams.{map_at, read_at}
+use Rattle.stimulus.proofs.Streams.{map_at, read_at}
 use Rattle.dk_top.proofs.DriveRounds.{pictured}
 
 -- the laws of what a drive shows

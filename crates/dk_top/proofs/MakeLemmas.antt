@@ -23,7 +23,7 @@ use Rattle.made_program.specs.Images.{image_of, picture_of as made_picture}
 use Rattle.made_program.specs.Programs.{program_of}
 use Rattle.made_program.specs.Sums.{IsSummed, AreSummed}
 use Rattle.made_program.specs.Summary.{summary}
-use Rattle.test_bench.specs.Inputs.{samples_of}
+use Rattle.stimulus.specs.Inputs.{samples_of}
 use Rattle.dk_compile.specs.declared.compiling.Compiled.{Compiled}
 use Rattle.dk_compile.proofs.Ports.{some_ports}
 use Rattle.dk_top.specs.Program.{ports}

@@ -18,13 +18,13 @@ use Rattle.verilog_text.specs.Faults.{IsFault, Agrees}
 use Rattle.pgm_codec.specs.Images.{Image}
 use Rattle.pgm_rounds.specs.declared.fault.FileFault.{FileFault}
 use Rattle.cycle_sim.specs.Ports.{din_widths}
-use Rattle.test_bench.specs.declared.drive.Drive.{Drive}
-use Rattle.test_bench.specs.declared.stop.Stop.{Stop}
-use Rattle.test_bench.specs.declared.stop.Stop.TheVariants.{Index, Count}
-use Rattle.test_bench.specs.Stimulus.{Rounds}
-use Rattle.test_bench.specs.Inputs.{FitsBench, IsBenchFault, samples_of}
-use Rattle.test_bench.specs.Showing.{IsShown, IsRun}
-use Rattle.test_bench.specs.Stops.{IsStop, StopsAtClock}
+use Rattle.stimulus.specs.declared.drive.Drive.{Drive}
+use Rattle.stimulus.specs.declared.stop.Stop.{Stop}
+use Rattle.stimulus.specs.declared.stop.Stop.TheVariants.{Index, Count}
+use Rattle.stimulus.specs.Stimulus.{Rounds}
+use Rattle.stimulus.specs.Inputs.{FitsBench, IsBenchFault, samples_of}
+use Rattle.stimulus.specs.Showing.{IsShown, IsRun}
+use Rattle.stimulus.specs.Stops.{IsStop, StopsAtClock}
 use Rattle.dk_endings.specs.declared.ending.Ending.{Ending}
 use Rattle.dk_endings.specs.declared.ending.Ending.TheVariants as ending
 use Rattle.dk_endings.specs.declared.ending.ImageFault.{ImageFault}

@@ -12,16 +12,16 @@ use Rattle.pgm_codec.specs.Images.{Image}
 use Rattle.dk_frames.specs.declared.frame.Frame.{Frame}
 use Rattle.pgm_rounds.specs.declared.round.Round.{Round}
 use Rattle.pgm_rounds.specs.Files.{frame_of, frames_of}
-use Rattle.test_bench.specs.declared.drive.Drive.{Drive}
-use Rattle.test_bench.specs.declared.stop.Stop.{Stop}
-use Rattle.test_bench.specs.Stimulus.{Rounds}
-use Rattle.test_bench.specs.Given.{rounds_of}
-use Rattle.test_bench.specs.Inputs.{samples_of}
-use Rattle.test_bench.specs.Showing.{IsShown, IsNoted as AreNotes}
-use Rattle.test_bench.specs.Stops.{IsStop}
+use Rattle.stimulus.specs.declared.drive.Drive.{Drive}
+use Rattle.stimulus.specs.declared.stop.Stop.{Stop}
+use Rattle.stimulus.specs.Stimulus.{Rounds}
+use Rattle.stimulus.specs.Given.{rounds_of}
+use Rattle.stimulus.specs.Inputs.{samples_of}
+use Rattle.stimulus.specs.Showing.{IsShown, IsNoted as AreNotes}
+use Rattle.stimulus.specs.Stops.{IsStop}
 use Rattle.dk_words.specs.declared.command.PowerUp.{PowerUp}
 use Rattle.dk_words.specs.declared.command.PowerUp.TheVariants.{Zeros}
-use Rattle.test_bench.specs.declared.stop.Stop.TheVariants.{Index, Count}
+use Rattle.stimulus.specs.declared.stop.Stop.TheVariants.{Index, Count}
 use Rattle.dk_endings.specs.declared.ending.Ending.{Ending}
 use Rattle.dk_endings.specs.declared.ending.Ending.TheVariants as ending
 use Rattle.dk_endings.specs.declared.ending.ImageFault.TheVariants as image

@@ -17,10 +17,10 @@ use Rattle.dk_types.specs.Typed.{Typing, types_of}
 use Rattle.pgm_codec.specs.Images.{Image, header_of, raster_of, sample_bytes, file_of}
 use Rattle.pgm_rounds.specs.Files.{FitsFile, joined}
 use Rattle.program_images.specs.Ports.{bits_of}
-use Rattle.test_bench.specs.Stimulus.{stimulus, stream, dins_at}
-use Rattle.test_bench.specs.Inputs.{samples_of as bench_samples}
-use Rattle.test_bench.specs.Showing.{IsRun, output_count, image_shown, images_shown, notes_of}
-use Rattle.test_bench.proofs.Streams.{read_at}
+use Rattle.stimulus.specs.Stimulus.{stimulus, stream, dins_at}
+use Rattle.stimulus.specs.Inputs.{samples_of as bench_samples}
+use Rattle.stimulus.specs.Showing.{IsRun, output_count, image_shown, images_shown, notes_of}
+use Rattle.stimulus.proofs.Streams.{read_at}
 use Rattle.row_stream.specs.Lines.{head, lines}
 use Rattle.row_stream.specs.Standing.{note_of}
 use Rattle.row_stream.specs.Images.{samples_of}
@@ -131,7 +131,7 @@ module _ (source : List ℕ) (age : ℕ) (c : Compiled) (from : IsCompiledFrom s
         inputs_one = Rattle.dk_top.proofs.StreamLemmas.one_input source age false q c.ir c.system c.solution c.plan c.«module» c.nets.items c.text.items from.is (first_bits q) inputs one.output
 
     module _ (picture_law : PictureLaw) (raster_law : RasterLaw) (shots : List Snapshot) (to : Rattle.wiring.specs.Snapshot.Contents) (runs : Runs m (filled_contents Zeros m) (drive numbers) shots to) where
-      abbrev bench : Rattle.test_bench.specs.declared.drive.Drive.Drive
+      abbrev bench : Rattle.stimulus.specs.declared.drive.Drive.Drive
       bench = frame_drive q.size late (length (rounds_of_images images))
 
       pub run : IsRun m bench (bench_samples (rounds_of_images images)) shots

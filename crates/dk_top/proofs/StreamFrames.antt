@@ -5,7 +5,7 @@ use Rattle.std.proofs.lemmas.List.{length-replicate, length-take-le}
 use Rattle.std.proofs.lemmas.Nat.{pow_pos, div-add-mod'}
 use Rattle.std.proofs.Math.Nat.{mod-lt, mul-le-mul_right}
 use Rattle.dk_base.specs.Frames.{Size, area}
-use Rattle.test_bench.specs.Stimulus.{stream}
+use Rattle.stimulus.specs.Stimulus.{stream}
 use Rattle.dk_top.specs.Streaming.{frame_count, padded, padded_frames}
 use Rattle.dk_top.proofs.RoundLemmas.{pieces_of_map}
 use Rattle.dk_top.proofs.DriveRounds.{IsSampled, AreSampled, AreZeros, all_append, zeros_behind}

@@ -22,8 +22,8 @@ use Rattle.buffer_plan.specs.Plans.{Plan, latency, latency_of}
 use Rattle.circuit.specs.Driven.{Agree, driven, fed_clock, input_widths, output_at}
 use Rattle.pgm_codec.specs.Images.{Image}
 use Rattle.program_images.specs.Outputs.{output_images}
-use Rattle.test_bench.specs.Stimulus.{stream}
-use Rattle.test_bench.proofs.Streams.{read_at}
+use Rattle.stimulus.specs.Stimulus.{stream}
+use Rattle.stimulus.proofs.Streams.{read_at}
 use Rattle.dk_compile.specs.Fronts.{IsForm}
 use Rattle.dk_compile.specs.Compiled.{IsCompiled}
 use Rattle.dk_top.specs.Program.{ports}

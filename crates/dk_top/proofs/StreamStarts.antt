@@ -21,7 +21,7 @@ use Rattle.cycle_sim.specs.Ports.{din_widths}
 use Rattle.cycle_sim.specs.declared.fill.Fill.TheVariants.{Zeros}
 use Rattle.cycle_sim.specs.Filled.{filled_contents}
 use Rattle.program_images.specs.Ports.{bits_of}
-use Rattle.test_bench.proofs.Streams.{read_at}
+use Rattle.stimulus.proofs.Streams.{read_at}
 use Rattle.row_stream.specs.Lines.{Kind}
 use Rattle.row_stream.specs.Standing.{IsOneToOne, IsPixelClock, Starts, reset_clock}
 use Rattle.netlist.specs.Names.{NamedNetlist}

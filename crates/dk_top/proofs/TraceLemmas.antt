@@ -12,14 +12,14 @@ use Rattle.netlist.specs.Names.{NamedNetlist}
 use Rattle.vcd_trace.specs.Header.{header_text, trace_text}
 use Rattle.pgm_codec.specs.Images.{Image}
 use Rattle.pgm_rounds.specs.declared.round.Round.{Round}
-use Rattle.test_bench.specs.declared.drive.Drive.{Drive}
-use Rattle.test_bench.specs.declared.stop.Stop.{Stop}
-use Rattle.test_bench.specs.declared.stop.Stop.TheVariants.{Index, Count}
-use Rattle.test_bench.specs.Stimulus.{Rounds, stimulus}
-use Rattle.test_bench.specs.Given.{rounds_of}
-use Rattle.test_bench.specs.Inputs.{samples_of}
-use Rattle.test_bench.specs.Showing.{IsRun}
-use Rattle.test_bench.specs.Stops.{StopsAtClock}
+use Rattle.stimulus.specs.declared.drive.Drive.{Drive}
+use Rattle.stimulus.specs.declared.stop.Stop.{Stop}
+use Rattle.stimulus.specs.declared.stop.Stop.TheVariants.{Index, Count}
+use Rattle.stimulus.specs.Stimulus.{Rounds, stimulus}
+use Rattle.stimulus.specs.Given.{rounds_of}
+use Rattle.stimulus.specs.Inputs.{samples_of}
+use Rattle.stimulus.specs.Showing.{IsRun}
+use Rattle.stimulus.specs.Stops.{StopsAtClock}
 use Rattle.trace_bench.specs.declared.ending.TraceEnd.TheVariants.{Stopped}
 use Rattle.trace_bench.specs.Traces.{in_header as fails_in_header, in_clock as fails_in_clock, at_end as fails_at_end, values_of, trace_front, TracesRun, FailsTracing, FailsBehind, EndsTrace}
 use Rattle.dk_endings.specs.declared.ending.Ending.{Ending}

@@ -8,7 +8,7 @@ use Rattle.raster_delay.specs.Systems.{System}
 use Rattle.flow_dual.specs.declared.solution.Solution.{Solution}
 use Rattle.buffer_plan.specs.Plans.{Plan, latency}
 use Rattle.pgm_codec.specs.Images.{Image}
-use Rattle.test_bench.specs.declared.drive.Drive.{Drive}
+use Rattle.stimulus.specs.declared.drive.Drive.{Drive}
 use Rattle.dk_words.specs.declared.command.PowerUp.{PowerUp}
 use Rattle.dk_compile.specs.Compiled.{IsPlanned}
 use Rattle.dk_top.specs.Compiling.{IsCompiledText}
@@ -22,7 +22,8 @@ pub record HasPlan (source : List ℕ) (age : ℕ) (p : Typing) (plan : Plan) : 
   pub solution : Solution
   pub planned : IsPlanned source age p ir system solution plan
 
--- A program with its plan at an age, a Verilog text that it is compiled to, and a file of rounds of images that fit it. Both files are within the limits of `sim`.
+-- A program with its plan at an age, a Verilog text that it is compiled to, and a file of rounds of images that fit it.
+-- Both files are within the limits of `sim`.
 pub record CompiledInput : Type 0 where
   pub source : List ℕ
   pub age : ℕ

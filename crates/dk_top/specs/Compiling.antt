@@ -6,9 +6,9 @@ use Rattle.dk_desk.specs.Calls.{IsIfTold}
 use Rattle.buffer_plan.specs.Plans.{latency}
 use Rattle.cycle_sim.specs.declared.fill.Fill.TheVariants.{Zeros}
 use Rattle.pgm_codec.specs.Images.{Image}
-use Rattle.test_bench.specs.declared.drive.Drive.{Drive}
-use Rattle.test_bench.specs.Inputs.{samples_of}
-use Rattle.test_bench.specs.Showing.{IsNoted as AreNotes}
+use Rattle.stimulus.specs.declared.drive.Drive.{Drive}
+use Rattle.stimulus.specs.Inputs.{samples_of}
+use Rattle.stimulus.specs.Showing.{IsNoted as AreNotes}
 use Rattle.dk_types.specs.Typed.{Typing}
 use Rattle.dk_compile.specs.declared.compiling.Compiled.{Compiled}
 use Rattle.dk_compile.specs.Compiled.{IsCompiled}

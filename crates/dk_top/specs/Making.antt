@@ -1,6 +1,7 @@
 -- What is reported of a made program: it is compiled, and clocked on its image.
 use Rattle.std.specs.Prelude.{◌≡◌, ℕ, ◌-◌, Bool, false, List, length, map, Option}
 use Rattle.std.specs.List.{sum}
+use Rattle.dk_base.specs.Stencils.{Stencils}
 use Rattle.dk_types.specs.Typed.{Typing}
 use Rattle.buffer_plan.specs.Plans.{bits_of, latency}
 use Rattle.pgm_codec.specs.Images.{Image}
@@ -19,13 +20,22 @@ pub record IsMade (n : ℕ) (compiled : Compiled) (rounds : List (List Image)) (
   pub fits : FitsFile (ports from.program) (image_of n) rounds
   pub file_is : file ≡ output_file from.program rounds
 
+-- how many kept images are not inputs
+abbrev pub body_count : Stencils → ℕ
+body_count stencils = length stencils.images - stencils.inputs
+
+-- the sum of the samples of the outputs, by the program's meaning
+abbrev pub output_sum : Typing → List (List Image) → ℕ
+output_sum p rounds = sum (all_samples (map (outputs_of p) rounds))
+
 -- The line of a number: kept images without the inputs, live reads, bits and latency of its plan, and the sum of the samples of the outputs.
 pub record IsMadeLine (n : ℕ) (line : List ℕ) : Type 0 where
   pub compiled : Compiled
   pub from : IsCompiledFrom (program_of n) 0 false compiled
   pub rounds : List (List Image)
   pub fits : FitsFile (ports from.program) (image_of n) rounds
-  pub line_is : line ≡ summary n (length compiled.system.stencils.images - compiled.system.stencils.inputs) (length compiled.system.stencils.reads) (bits_of compiled.plan) (latency compiled.plan) (sum (all_samples (map (outputs_of from.program) rounds)))
+  pub line_is : line ≡ summary n (body_count compiled.system.stencils) (length compiled.system.stencils.reads)
+      (bits_of compiled.plan) (latency compiled.plan) (output_sum from.program rounds)
 
 -- The notes have gained those of the run on the image of a number.
 pub record NotesMade (n : ℕ) (old new : Option (List (Bool × ℕ))) : Type 0 where

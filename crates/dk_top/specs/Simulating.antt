@@ -7,7 +7,7 @@ use Rattle.pgm_rounds.specs.declared.round.Round.{Round}
 use Rattle.pgm_rounds.specs.Files.{frame_of, frames_of}
 use Rattle.dk_endings.specs.declared.ending.Ending.{Ending}
 use Rattle.dk_endings.specs.declared.ending.Ending.TheVariants as ending
-use Rattle.test_bench.specs.declared.drive.Drive.{Drive}
+use Rattle.stimulus.specs.declared.drive.Drive.{Drive}
 use Rattle.dk_base.specs.FrameSizes.{size_of}
 use Rattle.dk_top.specs.declared.commands.simulating.SimInput.{SimInput}
 use Rattle.dk_top.specs.Simulation.{IsVerilogFault, IsFileFault, IsUnfit, IsModuleOf, FitsModule}

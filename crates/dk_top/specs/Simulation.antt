@@ -13,11 +13,11 @@ use Rattle.verilog_text.specs.Stands.{IsWritten, StandsFor}
 use Rattle.verilog_text.specs.Faults.{IsFault}
 use Rattle.pgm_codec.specs.Images.{Image}
 use Rattle.pgm_rounds.specs.declared.fault.FileFault.{FileFault}
-use Rattle.test_bench.specs.declared.drive.Drive.{Drive}
-use Rattle.test_bench.specs.declared.stop.Stop.{Stop}
-use Rattle.test_bench.specs.Inputs.{FitsBench, IsBenchFault, samples_of}
-use Rattle.test_bench.specs.Showing.{IsShown}
-use Rattle.test_bench.specs.Stops.{IsStop}
+use Rattle.stimulus.specs.declared.drive.Drive.{Drive}
+use Rattle.stimulus.specs.declared.stop.Stop.{Stop}
+use Rattle.stimulus.specs.Inputs.{FitsBench, IsBenchFault, samples_of}
+use Rattle.stimulus.specs.Showing.{IsShown}
+use Rattle.stimulus.specs.Stops.{IsStop}
 use Rattle.dk_words.specs.declared.command.PowerUp.{PowerUp}
 use Rattle.dk_words.specs.declared.command.PowerUp.TheVariants.{Zeros, Ones}
 use Rattle.dk_endings.specs.declared.ending.ImageFault.{ImageFault}

@@ -57,7 +57,8 @@ padded_frames size samples = map (λ r. take (area size) (drop (r * area size) (
 
 -- the samples of the outputs on frames of the input, by the program's meaning, one frame after another
 abbrev pub output_samples : Typing → List (List ℕ) → List ℕ
-output_samples p frames = flat_map (λ frame. flat_map (λ (image : Image). image.samples) (output_images p.size (types_of p) p.outputs (meaning_on p (frame ∷ [])))) frames
+output_samples p frames =
+    flat_map (λ frame. flat_map (λ (image : Image). image.samples) (output_images p.size (types_of p) p.outputs (meaning_on p (frame ∷ [])))) frames
 
 -- what a program gives for samples of its input: its outputs on their frames
 abbrev pub shown_by : Typing → List ℕ → List ℕ
@@ -66,10 +67,12 @@ shown_by p samples = output_samples p (padded_frames p.size samples)
 -- The header and some whole lines of a further image, or nothing of it.
 pub data OpenLines (size : Size) (bits images : ℕ) (rows : ℕ) (samples part : List ℕ) : Type 0 where
   between : rows ≡ 0 → samples ≡ [] → part ≡ [] → OpenLines size bits images rows samples part
-  opened : (header : Header) (head raster : List ℕ) → images < MAX_FILE_IMAGES → FitsHeader size bits header → Reads head header → length head ≡ header.length → rows ≤ header.height
+  opened : (header : Header) (head raster : List ℕ) → images < MAX_FILE_IMAGES → FitsHeader size bits header
+      → Reads head header → length head ≡ header.length → rows ≤ header.height
       → IsRaster raster header.width rows header.maxval samples → part ≡ head ++ raster → OpenLines size bits images rows samples part
 
--- The bytes begin with this many whole lines of images of this size and of this many bits, counted through all images, each after its header, all in order. These are their samples, the part of the bytes that they take, and what follows it.
+-- The bytes begin with this many whole lines of images of this size and of this many bits, counted through all images, each after its header,
+-- all in order. These are their samples, the part of the bytes that they take, and what follows it.
 pub record LinesTaken (size : Size) (bits : ℕ) (bytes : List ℕ) (rows : ℕ) (samples front rest : List ℕ) : Type 0 where
   pub images : List Image
   pub before : List ℕ
@@ -106,7 +109,8 @@ pub record ReadsRow (header : Header) (rows : ℕ) (last after : List ℕ) : Typ
   pub all : last ≡ take (row_length header) (last ++ after)
 
 -- what is read after these lines in order, where a fault follows them: the next row of the open image, or the next header
-abbrev pub ReadsNext : {size : Size} {bits images rows : ℕ} {samples part : List ℕ} → OpenLines size bits images rows samples part → (last after : List ℕ) → Type 0
+abbrev pub ReadsNext : {size : Size} {bits images rows : ℕ} {samples part : List ℕ}
+    → OpenLines size bits images rows samples part → (last after : List ℕ) → Type 0
 ReadsNext {size = size} {bits = bits} {images = images} (between none no_samples no_part) last after = ReadsHeader size bits images last after
 ReadsNext {rows = rows} (opened header head raster few fits reads exact within is part_is) last after = ReadsRow header rows last after
 
@@ -125,7 +129,8 @@ abbrev pub BeginsNext : {size : Size} {bits images rows : ℕ} {samples part : L
 BeginsNext {images = images} (between none no_samples no_part) last = BeginsHeader images last
 BeginsNext {rows = rows} (opened header head raster few fits reads exact within is part_is) last = BeginsRow header rows last
 
--- What is read of a file that has a fault: all lines in order before it, and then no more than the row or the header that has the fault. `left` is what is left of the file.
+-- What is read of a file that has a fault: all lines in order before it, and then no more than the row or the header that has the fault.
+-- `left` is what is left of the file.
 pub record ReadsToFault (p : Typing) (file : List ℕ) (left : Option (List ℕ)) (samples : List ℕ) : Type 0 where
   pub rows : ℕ
   pub front : List ℕ
@@ -187,9 +192,11 @@ pub record LeavesAtRead (p : Typing) (latency : ℕ) (file : List ℕ) (left : O
   pub begun : IsBegun p reads.read
   pub holds : HoldsLines p latency samples bytes
 
--- After a failed write: a front of the first header, where only that header of the file was read; or all lines before line y and a front of it, where the fewest lines were taken that make line y whole, or all there are.
+-- After a failed write: a front of the first header, where only that header of the file was read; or all lines before line y and a front of it,
+-- where the fewest lines were taken that make line y whole, or all there are.
 pub data LeavesAtWrite (p : Typing) (latency : ℕ) (file : List ℕ) (left : Option (List ℕ)) (bytes : List ℕ) : Type 0 where
-  of_header : ReadsFirst p file left → (count : ℕ) → count < length (head (output_kind p)) → bytes ≡ take count (head (output_kind p)) → LeavesAtWrite p latency file left bytes
+  of_header : ReadsFirst p file left → (count : ℕ) → count < length (head (output_kind p))
+      → bytes ≡ take count (head (output_kind p)) → LeavesAtWrite p latency file left bytes
   of_line : (y rows : ℕ) (samples front rest : List ℕ) → LinesTaken p.size (first_bits p) file rows samples front rest → left ≡ Some rest
       → (y + 1) * p.size.width + latency ≤ rows * p.size.width → rows * p.size.width < (y + 1) * p.size.width + latency + p.size.width
       → HoldsFront p samples y bytes → LeavesAtWrite p latency file left bytes
@@ -221,7 +228,9 @@ pub record FailsReading (age : ℕ) (source file : List ℕ) (image : Input) (cr
   pub several : (p : Typing) → IsAcceptedAt source age p → ¬ (IsOnePort p) → created ≡ Unasked
   pub streamed : image.stage ≡ Open → OnStream source age (λ p. CreatesAtFailure p file image.rest created)
 
--- How far `run` has read the image file, for a program that takes one image and gives one. After Done: all of it. After an Image fault or a failed read: no further than the first fault. Where File could not be created: the first header. `image` is the slot of the image file, `created` the stage of File.
+-- How far `run` has read the image file, for a program that takes one image and gives one. After Done: all of it.
+-- After an Image fault or a failed read: no further than the first fault. Where File could not be created: the first header.
+-- `image` is the slot of the image file, `created` the stage of File.
 abbrev pub ReadsRun : Ending → (age : ℕ) → (source file : List ℕ) → (image : Input) → (created : Stage) → Type 0
 ReadsRun ending.Done age source file image created = OnStream source age (λ p. image.rest ≡ Some [])
 ReadsRun (ending.Image fault) age source file image created = OnStream source age (λ p. (samples : List ℕ) × ReadsToFault p file image.rest samples)

@@ -45,12 +45,39 @@ pub record OpensImages (image : List ℕ) (old opened : Outside) : Type 0 where
 
 -- The images were opened and streamed, or could not be opened.
 pub data RunsStream (kind : Kind) (m : Netlist) (bits late : ℕ) (image out : List ℕ) (from : Contents) (old now : Outside) (result : Ending) : Type 0 where
-  refused : result ≡ ending.ReadFault → OpensOnly ImageSlot old now → now.image.stage ≡ Refused → IsIfTold now.image.name (Some image) → RunsStream kind m bits late image out from old now result
-  streamed : (opened : Outside) → OpensImages image old opened → StreamEnds kind m bits late out from opened now result → RunsStream kind m bits late image out from old now result
+  refused : result ≡ ending.ReadFault → OpensOnly ImageSlot old now → now.image.stage ≡ Refused → IsIfTold now.image.name (Some image)
+      → RunsStream kind m bits late image out from old now result
+  streamed : (opened : Outside) → OpensImages image old opened → StreamEnds kind m bits late out from opened now result
+      → RunsStream kind m bits late image out from old now result
 
 -- The images of a program with one input and one output are streamed through its module, from zeros.
 abbrev pub StreamsFrom : Typing → Plan → Netlist → (image out : List ℕ) → (old now : Outside) → Ending → Type 0
 StreamsFrom p plan m image out old now result = RunsStream (output_kind p) m (first_bits p) (latency plan) image out (filled_contents Zeros m) old now result
+
+-- the images were read, clocks were noted, File was written, and nothing else was changed
+abbrev pub StreamsOnly : (old new : Outside) → Type 0
+StreamsOnly old new =
+    new ≡ record old {
+      image = new.image;
+      file = new.file;
+      files = new.files;
+      notes = new.notes;
+      input_failures = new.input_failures;
+      output_failures = new.output_failures;
+    }
+
+-- the same, and the program was read
+abbrev pub RunsOnly : (old new : Outside) → Type 0
+RunsOnly old new =
+    new ≡ record old {
+      program = new.program;
+      image = new.image;
+      file = new.file;
+      files = new.files;
+      notes = new.notes;
+      input_failures = new.input_failures;
+      output_failures = new.output_failures;
+    }
 
 -- What `run` does after it has compiled its program.
 pub record RunsOn (source : List ℕ) (age : ℕ) (image out : List ℕ) (result : Ending) (old new : Outside) : Type 0 where
@@ -66,7 +93,7 @@ pub record RunsOn (source : List ℕ) (age : ℕ) (image out : List ℕ) (result
   pub notes : IfSome old.files (λ files. NotedRun result age source (bytes_of files image) old.notes new.notes)
   pub files : OthersStay out old.files new.files
   pub files_stay : new.file.stage ≢ Open → new.files ≡ old.files
-  pub only : new ≡ record old { image = new.image; file = new.file; files = new.files; notes = new.notes; input_failures = new.input_failures; output_failures = new.output_failures }
+  pub only : StreamsOnly old new
   pub read_fault : HasCauseIn (result ≡ ending.ReadFault) old.input_failures new.input_failures
   pub write_fault : HasCauseIn (result ≡ ending.WriteFault) old.output_failures new.output_failures
 
@@ -80,11 +107,12 @@ pub record PerformsRun (program image out : List ℕ) (age : ℕ) (result : Endi
   pub begun : IfSome old.files (λ files. CreatesRun age (bytes_of files program) (bytes_of files image) result new.file.stage)
   pub reads : IfSome old.files (λ files. ReadsRun result age (bytes_of files program) (bytes_of files image) new.image new.file.stage)
   pub written : result ≡ ending.Done → CreatesOut (Some (run program image out age)) new
-  pub output : new.file.stage ≡ Open → IfSome old.files (λ files. IfSome new.file.bytes (IsHeldRun result age (bytes_of files program) (bytes_of files image) new.image.rest))
+  pub output : new.file.stage ≡ Open
+      → IfSome old.files (λ files. IfSome new.file.bytes (IsHeldRun result age (bytes_of files program) (bytes_of files image) new.image.rest))
   pub notes : IfSome old.files (λ files. NotedRun result age (bytes_of files program) (bytes_of files image) old.notes new.notes)
   pub files : OthersStay out old.files new.files
   pub files_stay : new.file.stage ≢ Open → new.files ≡ old.files
-  pub only : new ≡ record old { program = new.program; image = new.image; file = new.file; files = new.files; notes = new.notes; input_failures = new.input_failures; output_failures = new.output_failures }
+  pub only : RunsOnly old new
   pub read_fault : HasCauseIn (result ≡ ending.ReadFault) old.input_failures new.input_failures
   pub write_fault : HasCauseIn (result ≡ ending.WriteFault) old.output_failures new.output_failures
 

@@ -8,12 +8,12 @@ use Rattle.cycle_sim.specs.Ports.{din_widths}
 use Rattle.cycle_sim.specs.Filled.{filled_contents}
 use Rattle.vcd_trace.specs.Header.{header_text, trace_text}
 use Rattle.pgm_codec.specs.Images.{Image}
-use Rattle.test_bench.specs.declared.drive.Drive.{Drive}
-use Rattle.test_bench.specs.declared.stop.Stop.TheVariants.{Index, Count}
-use Rattle.test_bench.specs.Inputs.{samples_of}
-use Rattle.test_bench.specs.Stimulus.{Rounds, stimulus}
-use Rattle.test_bench.specs.Showing.{IsRun}
-use Rattle.test_bench.specs.Stops.{StopsAtClock}
+use Rattle.stimulus.specs.declared.drive.Drive.{Drive}
+use Rattle.stimulus.specs.declared.stop.Stop.TheVariants.{Index, Count}
+use Rattle.stimulus.specs.Inputs.{samples_of}
+use Rattle.stimulus.specs.Stimulus.{Rounds, stimulus}
+use Rattle.stimulus.specs.Showing.{IsRun}
+use Rattle.stimulus.specs.Stops.{StopsAtClock}
 use Rattle.trace_bench.specs.Traces.{values_of, trace_front}
 use Rattle.dk_words.specs.declared.command.PowerUp.TheVariants.{Zeros}
 use Rattle.dk_endings.specs.declared.ending.Ending.{Ending}
@@ -87,7 +87,8 @@ pub record IsCutInClock (m : NamedNetlist) (drive : Drive) (rounds : Rounds) (by
   pub shots : List Snapshot
   pub last : Snapshot
   pub to : Contents
-  pub runs : Runs m.netlist (filled_contents drive.fill m.netlist) (take (length shots + 1) (stimulus drive (din_widths m.netlist) rounds)) (shots ++ last ∷ []) to
+  pub runs : Runs m.netlist (filled_contents drive.fill m.netlist)
+      (take (length shots + 1) (stimulus drive (din_widths m.netlist) rounds)) (shots ++ last ∷ []) to
   pub cut : IsCutBehind (trace_front m shots) (trace_front m (shots ++ last ∷ [])) bytes
 
 -- The run goes to its end, and the last line is cut.

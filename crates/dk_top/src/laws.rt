@@ -57,5 +57,5 @@ pub fn compile_then_sim_law()
     wiring::one_valuation_law();
     wiring::one_next_law();
     netlist::one_run_law();
-    test_bench::one_input_law();
+    stimulus::one_input_law();
 }

@@ -1,5 +1,5 @@
 -- What a typed program means: the pictures of its images on a round of frames.
-use Rattle.std.specs.Prelude.{◌≡◌, ℕ, ℤ, pos, ◌+ℤ◌, List, [], ◌∷◌, ◌++◌, fold, map, slice_get, slice_index_or, Some, if◌then◌else◌}
+use Rattle.std.specs.Prelude.{◌≡◌, ℕ, ℤ, pos, ◌+ℤ◌, List, [], ◌∷◌, ◌++◌, fold, map, slice_get, Some, if◌then◌else◌}
 use Rattle.dk_base.specs.declared.ty.Ty.{Ty}
 use Rattle.dk_base.specs.Types.{IsType, IsIn}
 use Rattle.dk_base.specs.Frames.{Size, Picture, clamped, picture_of, framed, picture_at}

@@ -1,7 +1,7 @@
 -- Which images a program reads, and where: live reads and kept images.
 use Rattle.std.specs.Prelude.{◌≡◌, ◌⊎◌, ℕ, ◌+◌, ◌<◌, ℤ, ◌+ℤ◌, true, false, IsTrue, length, slice_get, Some, Contains}
 use Rattle.dk_base.specs.Frames.{Size, in_frame}
-use Rattle.frame_steps.specs.Steps.{EndsAt}
+use Rattle.dk_base.specs.Steps.{EndsAt}
 use Rattle.dk_types.specs.declared.typed.TypedRead.{TypedRead}
 use Rattle.dk_types.specs.Typed.{Typed, constant, fetch, single, double, scaled, converted, chosen, Definition, Typing}
 

@@ -8,7 +8,7 @@ use Rattle.frame_paths.specs.declared.moves.Interval.{Interval}
 use Rattle.frame_paths.specs.declared.path.Path.{Path}
 use Rattle.frame_paths.specs.Moves.{Leads, IsInOn}
 use Rattle.frame_paths.specs.Paths.{LeadsTo, StepsTo}
-use Rattle.frame_steps.proofs.Unclamped.{ends_here, is_inside}
+use Rattle.dk_base.proofs.Unclamped.{ends_here, is_inside}
 use Rattle.frame_paths.proofs.Walks.{true_both}
 use Rattle.edge_select.specs.declared.step.Step.{Step}
 use Rattle.edge_select.specs.declared.paths.Rectangle.{Rectangle}

@@ -3,7 +3,7 @@ use Rattle.std.specs.Prelude.{◌≡◌, ℕ, ◌<◌, ◌≤◌, ◌*◌, ℤ, 
 use Rattle.std.specs.Int.{int_min, int_max}
 use Rattle.dk_base.specs.declared.TheConstants.{MAX_SIDE}
 use Rattle.pointwise_ir.specs.declared.expr.Edge.{Edge}
-use Rattle.frame_steps.specs.Steps.{EndsOn}
+use Rattle.dk_base.specs.Steps.{EndsOn}
 use Rattle.pointwise_ir.specs.Reads.{is_clamped}
 use Rattle.frame_paths.specs.declared.moves.Moves.{Moves}
 use Rattle.frame_paths.specs.declared.moves.Interval.{Interval}

@@ -20,7 +20,7 @@ use Rattle.raster_delay.proofs.Bridge.{rec_append, rec_map_in, rec_range_in}
 use Rattle.buffer_plan.specs.Plans.{Plan, IsPlan}
 use Rattle.report_text.specs.declared.report.ImageLine.{ImageLine}
 use Rattle.source_words.specs.Words.{is_name}
-use Rattle.report_text.specs.Reports.{IsImageLine, IsAmount, IsFlowLine, AreDistinct, Ascend, most_images, most_latencies, Meets}
+use Rattle.report_text.specs.Reports.{IsImageLine, IsAmount, IsFlowLine, AreDistinct, most_images, most_latencies, Meets}
 use Rattle.report_text.specs.Reports as R
 use Rattle.latency_report.specs.Printed.{name_of, line_of, image_lines, latencies, version_of, report_of}
 use Rattle.plan_check.specs.Flows.{makers, carried}

@@ -7,7 +7,8 @@ use Rattle.pgm_codec.specs.declared.reading.Number.TheVariants.{Width, Height, M
 use Rattle.pgm_codec.specs.declared.reading.Reading.{Reading}
 use Rattle.dk_base.specs.Ascii.{is_white, value_after, value_of}
 use Rattle.pgm_codec.specs.Headers.{IsInLine, Filling, none, white, comment, IsGap, AreDigits, IsNumeral, Field, Fields, last, field, HeaderText, capped}
-use Rattle.pgm_codec.specs.Machine.{reading, start, step, run, digit_after}
+use Rattle.pgm_codec.specs.Scans.{reading}
+use Rattle.pgm_codec.specs.Machine.{start, step, run, digit_after}
 use Rattle.pgm_codec.proofs.ByteTests.{capped_digit, digit_capped}
 use Rattle.pgm_codec.proofs.Steps.{in_line, line_ends, still_filled, gap_begins, number_begins, digit_more, number_ends}
 
@@ -110,7 +111,7 @@ behind_width bytes rest w h v p n b is parts =
     ∙ ap (λ r. run r rest) (number_ends Width w h v p n b is ∙ sym (gap_begins Height v h v p n b is))
     ∙ ap (λ x. run (reading Gap Height v h v p n) x) (sym parts)
 
-behind_height : (bytes rest : List ℕ) (w h v p n b : ℕ) → is_white b ≡ true → bytes ≡ b ∷ rest
+pub behind_height : (bytes rest : List ℕ) (w h v p n b : ℕ) → is_white b ≡ true → bytes ≡ b ∷ rest
     → run (reading Digits Height w h v p n) bytes ≡ run (reading Gap Maxval w v v p n) bytes
 behind_height bytes rest w h v p n b is parts =
     ap (λ x. run (reading Digits Height w h v p n) x) parts

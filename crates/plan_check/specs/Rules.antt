@@ -1,6 +1,7 @@
 -- Rules on the lines of a text: a rule is the number of a line, and what has to hold there.
-use Rattle.std.specs.Prelude.{◌≡◌, ℕ, ◌⊎◌, List, [], ◌∷◌, map}
+use Rattle.std.specs.Prelude.{◌≡◌, ℕ, ◌⊎◌, List, [], ◌∷◌, map, Option, MatchOption}
 use Rattle.std.specs.List.{range_with_len}
+use Rattle.plan_check.specs.First.{IsFirst}
 
 -- a rule for each place below a count
 abbrev pub each : (line_of : ℕ → ℕ) → (count : ℕ) → (ℕ → Type 0) → List (ℕ × Type 0)
@@ -15,3 +16,7 @@ Keeps (rule ∷ rules) = rule.1 × Keeps rules
 abbrev pub Breaks : List (ℕ × Type 0) → (line : ℕ) → Type 0
 Breaks [] line = ⊥
 Breaks (rule ∷ rules) line = ((line ≡ rule.0) × (rule.1 → ⊥)) ⊎ Breaks rules line
+
+-- None if all of them hold, or else the first line at which one does not
+abbrev pub IsFirstBroken : List (ℕ × Type 0) → Option ℕ → Type 0
+IsFirstBroken rules result = MatchOption result (Keeps rules) (IsFirst (Breaks rules))

@@ -24,7 +24,7 @@ use report_text::{FlowLine, ImageLine, Report};
 fn wrong_image(system: &System, images: &[ImageLine]) -> Option<usize>
     requires count { length images.now ≡ image_count system.now }
     ensures { MatchOption result ((k : ℕ) → k < length images.now
-        → ImageHolds system.now images.now k) (λ w. IsFirst (Misses (λ k. ImageHolds system.now images.now k) (length images.now)) w) }
+        → ImageHolds system.now images.now k) (IsFirst (Misses (ImageHolds system.now images.now) (length images.now))) }
 {
     for k in 0..images.len() {
         if !image_holds(system, images, k) {
@@ -39,8 +39,7 @@ fn wrong_latency(system: &System, images: &[ImageLine], latencies: &[u64]) -> Op
     requires count { length images.now ≡ image_count system.now }
     requires outputs { length latencies.now ≡ length system.now.stencils.outputs }
     ensures { MatchOption result ((k : ℕ) → k < length latencies.now
-        → LatencyHolds system.now images.now latencies.now k)
-        (λ w. IsFirst (Misses (λ k. LatencyHolds system.now images.now latencies.now k) (length latencies.now)) w) }
+        → LatencyHolds system.now images.now latencies.now k) (IsFirst (Misses (LatencyHolds system.now images.now latencies.now) (length latencies.now))) }
 {
     for k in 0..latencies.len() {
         if !latency_holds(system, images, latencies, k) {
@@ -53,7 +52,7 @@ fn wrong_latency(system: &System, images: &[ImageLine], latencies: &[u64]) -> Op
 // The place of the first flow line of no constraint.
 fn wrong_constraint(system: &System, flow: &[FlowLine]) -> Option<usize>
     ensures { MatchOption result ((k : ℕ) → k < length flow.now
-        → HasConstraint system.now (line_at flow.now k)) (λ w. IsFirst (Misses (λ k. HasConstraint system.now (line_at flow.now k)) (length flow.now)) w) }
+        → HasConstraint system.now (line_at flow.now k)) (IsFirst (Misses (λ k. HasConstraint system.now (line_at flow.now k)) (length flow.now))) }
 {
     for k in 0..flow.len() {
         if !has_constraint(system, flow[k]) {
@@ -105,7 +104,7 @@ fn counts(system: &System, report: &Report)
 fn faulty_image(system: &System, report: &Report) -> Option<u64>
     requires { Suits system.now (parts_of report.now) }
     ensures { MatchOption result ((k : ℕ) → k < length report.now.images.items
-        → ImageHolds system.now report.now.images.items k) (λ line. IsFirst (Breaks (number_rules system.now (parts_of report.now))) line) }
+        → ImageHolds system.now report.now.images.items k) (IsFirst (Breaks (number_rules system.now (parts_of report.now)))) }
 {
     counts(system, report);
     match wrong_image(system, &report.images) {
@@ -119,8 +118,7 @@ fn faulty_latency(system: &System, report: &Report) -> Option<u64>
     requires suits { Suits system.now (parts_of report.now) }
     requires images { (k : ℕ) → k < length report.now.images.items → ImageHolds system.now report.now.images.items k }
     ensures { MatchOption result ((k : ℕ) → k < length report.now.latencies.items
-        → LatencyHolds system.now report.now.images.items report.now.latencies.items k)
-        (λ line. IsFirst (Breaks (number_rules system.now (parts_of report.now))) line) }
+        → LatencyHolds system.now report.now.images.items report.now.latencies.items k) (IsFirst (Breaks (number_rules system.now (parts_of report.now)))) }
 {
     counts(system, report);
     match wrong_latency(system, &report.images, &report.latencies) {
@@ -145,7 +143,7 @@ fn faulty_sum(system: &System, report: &Report) -> Option<u64>
     requires images { (k : ℕ) → k < length report.now.images.items → ImageHolds system.now report.now.images.items k }
     requires latencies { (k : ℕ) → k < length report.now.latencies.items → LatencyHolds system.now report.now.images.items report.now.latencies.items k }
     ensures { MatchOption result ((report.now.clocks ≡ clocks_of (parts_of report.now))
-        × (report.now.bits ≡ bits system.now (delays (parts_of report.now)))) (λ line. IsFirst (Breaks (number_rules system.now (parts_of report.now))) line) }
+        × (report.now.bits ≡ bits system.now (delays (parts_of report.now)))) (IsFirst (Breaks (number_rules system.now (parts_of report.now)))) }
 {
     system.law();
     counts(system, report);
@@ -166,7 +164,7 @@ fn faulty_constraint(system: &System, report: &Report) -> Option<u64>
     requires clocks { report.now.clocks ≡ clocks_of (parts_of report.now) }
     requires bits { report.now.bits ≡ bits system.now (delays (parts_of report.now)) }
     ensures { MatchOption result ((k : ℕ) → k < length report.now.flow.items
-        → HasConstraint system.now (line_at report.now.flow.items k)) (λ line. IsFirst (Breaks (number_rules system.now (parts_of report.now))) line) }
+        → HasConstraint system.now (line_at report.now.flow.items k)) (IsFirst (Breaks (number_rules system.now (parts_of report.now)))) }
 {
     counts(system, report);
     match wrong_constraint(system, &report.flow) {

@@ -8,7 +8,7 @@ ghost use Rattle.report_text.specs.Reports.{Meets, parts_of};
 ghost use Rattle.plan_check.specs.Numbering.{size_number, latency_number, clocks_number, bits_number};
 ghost use Rattle.plan_check.specs.Program.{IsNamed, IsOfSize, IsOfCounts, program_rules};
 ghost use Rattle.plan_check.specs.First.{IsFirst, Misses};
-ghost use Rattle.plan_check.specs.Rules.{Keeps, Breaks};
+ghost use Rattle.plan_check.specs.Rules.{Breaks, IsFirstBroken};
 
 use crate::numbering::{bits_line, clocks_line, size_line};
 use dk_base::Stencils;
@@ -60,8 +60,7 @@ fn is_named(ir: &Program, stencils: &Stencils, images: &[ImageLine], k: usize) -
 fn unnamed(ir: &Program, stencils: &Stencils, images: &[ImageLine]) -> Option<usize>
     requires { All (λ (i : Image). i.number < length (names_of ir.now)) stencils.now.images }
     ensures { MatchOption result ((k : ℕ) → k < length images.now
-        → IsNamed (names_of ir.now) stencils.now images.now k)
-        (λ w. IsFirst (Misses (λ k. IsNamed (names_of ir.now) stencils.now images.now k) (length images.now)) w) }
+        → IsNamed (names_of ir.now) stencils.now images.now k) (IsFirst (Misses (IsNamed (names_of ir.now) stencils.now images.now) (length images.now))) }
 {
     for k in 0..images.len() {
         if !is_named(ir, stencils, images, k) {
@@ -99,7 +98,7 @@ fn foreign_image(ir: &Program, stencils: &Stencils, report: &Report) -> Option<u
     requires limit { length report.now.images.items ≤ MAX_KEPT_IMAGES }
     ensures { MatchOption result (IsOfSize stencils.now (parts_of report.now) × ((k : ℕ) → k < length report.now.images.items
         → IsNamed (names_of ir.now) stencils.now report.now.images.items k))
-        (λ line. IsFirst (Breaks (program_rules (names_of ir.now) stencils.now (parts_of report.now))) line) }
+        (IsFirst (Breaks (program_rules (names_of ir.now) stencils.now (parts_of report.now)))) }
 {
     if !is_of_size(stencils, report) {
         return Some(size_line(report));
@@ -117,7 +116,8 @@ fn foreign_latency(ir: &Program, stencils: &Stencils, report: &Report) -> Option
     requires size { IsOfSize stencils.now (parts_of report.now) }
     requires named { (k : ℕ) → k < length report.now.images.items → IsNamed (names_of ir.now) stencils.now report.now.images.items k }
     ensures { MatchOption result ((length stencils.now.images ≤ length report.now.images.items)
-        × (length report.now.latencies.items ≤ length stencils.now.outputs)) (λ line. IsFirst (Breaks (program_rules (names_of ir.now) stencils.now (parts_of report.now))) line) }
+        × (length report.now.latencies.items ≤ length stencils.now.outputs))
+        (IsFirst (Breaks (program_rules (names_of ir.now) stencils.now (parts_of report.now)))) }
 {
     let first = size_line(report) + report.images.len() as u64 + 1;
     if report.images.len() < stencils.images().len() {
@@ -148,8 +148,7 @@ fn foreign_sum(ir: &Program, stencils: &Stencils, report: &Report) -> Option<u64
     requires named { (k : ℕ) → k < length report.now.images.items → IsNamed (names_of ir.now) stencils.now report.now.images.items k }
     requires enough { length stencils.now.images ≤ length report.now.images.items }
     requires outputs { length report.now.latencies.items ≤ length stencils.now.outputs }
-    ensures { MatchOption result (Keeps (program_rules (names_of ir.now) stencils.now (parts_of report.now)))
-        (λ line. IsFirst (Breaks (program_rules (names_of ir.now) stencils.now (parts_of report.now))) line) }
+    ensures { IsFirstBroken (program_rules (names_of ir.now) stencils.now (parts_of report.now)) result }
 {
     if report.latencies.len() < stencils.outputs().len() {
         return Some(clocks_line(report));
@@ -171,8 +170,7 @@ fn most_lines_law(report: &Report)
 pub(crate) fn foreign_line(ir: &Program, stencils: &Stencils, report: &Report) -> Option<u64>
     requires meets { Meets (parts_of report.now) }
     requires images { All (λ (i : Image). i.number < length (names_of ir.now)) stencils.now.images }
-    ensures { MatchOption result (Keeps (program_rules (names_of ir.now) stencils.now (parts_of report.now)))
-        (λ line. IsFirst (Breaks (program_rules (names_of ir.now) stencils.now (parts_of report.now))) line) }
+    ensures { IsFirstBroken (program_rules (names_of ir.now) stencils.now (parts_of report.now)) result }
 {
     most_lines_law(report);
     match foreign_image(ir, stencils, report) {

@@ -1,7 +1,7 @@
 -- Which pixels an expression reads at a point, the live reads, and the images that are kept.
 use Rattle.std.specs.Prelude.{◌≡◌, ℕ, ◌<◌, ℤ, ◌+ℤ◌, Bool, true, false, IsTrue, Contains, length, ◌⊎◌}
 use Rattle.dk_base.specs.Frames.{Size, in_frame}
-use Rattle.frame_steps.specs.Steps as S
+use Rattle.dk_base.specs.Steps as S
 use Rattle.pointwise_ir.specs.declared.expr.Edge.{Edge}
 use Rattle.pointwise_ir.specs.declared.expr.Edge.TheVariants.{Zero, Clamp}
 use Rattle.pointwise_ir.specs.Trees.{Tree, constant, read, shifted, unary, binary, select, convert, scale}

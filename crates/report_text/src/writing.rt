@@ -230,7 +230,8 @@ fn push_end(out: &mut Vec<u8>, version: u8) -> Result<(), OutOfMemory>
 // The lines of the frame and the images.
 fn push_first(out: &mut Vec<u8>, report: &Report) -> Result<(), OutOfMemory>
     ensures { OnOk result (out.new.items
-        ≡ out.old.items ++ (joined (head_lines (parts_of report.now)) ++ (size_line report.now.width report.now.height ++ (joined (map image_line report.now.images.items) ++ joined (map latency_line report.now.latencies.items))))) }
+        ≡ out.old.items ++ (joined (head_lines (parts_of report.now)) ++ (size_line report.now.width report.now.height
+        ++ (joined (map image_line report.now.images.items) ++ joined (map latency_line report.now.latencies.items))))) }
 {
     push_head(out, report)?;
     push_pair_line(
@@ -247,7 +248,9 @@ fn push_first(out: &mut Vec<u8>, report: &Report) -> Result<(), OutOfMemory>
 // The lines of the sums and the flow.
 fn push_last(out: &mut Vec<u8>, report: &Report) -> Result<(), OutOfMemory>
     ensures { OnOk result (out.new.items
-        ≡ out.old.items ++ (clocks_line report.now.clocks ++ (bits_line report.now.bits ++ (joined (unless_first report.now.version (reads_line report.now.reads ∷ [])) ++ (joined (map (flow_line report.now.images.items) report.now.flow.items) ++ joined (unless_first report.now.version (end_line ∷ []))))))) }
+        ≡ out.old.items ++ (clocks_line report.now.clocks ++ (bits_line report.now.bits
+        ++ (joined (unless_first report.now.version (reads_line report.now.reads ∷ []))
+        ++ (joined (map (flow_line report.now.images.items) report.now.flow.items) ++ joined (unless_first report.now.version (end_line ∷ []))))))) }
 {
     push_number_line(out, b"clocks ", report.clocks)?;
     push_number_line(out, b"bits ", report.bits)?;

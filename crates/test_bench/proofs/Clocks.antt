@@ -18,12 +18,13 @@ use Rattle.cycle_sim.proofs.Given.{given_fit, valids_even}
 use Rattle.cycle_sim.proofs.RunsJoin.{picture_one}
 use Rattle.test_bench.specs.declared.picture.Shown.{Shown}
 use Rattle.test_bench.specs.declared.clocking.Bench.{Bench}
-use Rattle.test_bench.specs.Showing.{output_count, notes_at, notes_of}
+use Rattle.stimulus.specs.Showing.{output_count, notes_at, notes_of}
 use Rattle.test_bench.specs.Clocking.{IsKept, AreKept, GoOn, DoutsFit, IsBench, Clocked}
 use Rattle.test_bench.specs.BlockClocks.{Extends, sample_of, pairs_of}
 use Rattle.test_bench.specs.Blocks.{HasBlock}
-use Rattle.test_bench.proofs.Runs.{picture_join, go_on}
-use Rattle.test_bench.proofs.Ranges.{map_more}
+use Rattle.stimulus.proofs.Runs.{picture_join}
+use Rattle.test_bench.proofs.Runs.{go_on}
+use Rattle.stimulus.proofs.Ranges.{map_more}
 
 -- each dout has 1 to 16 bits
 dout_at : (douts : List ℕ) (k : ℕ) → slice_index (with_valids douts) (2 * k + 1) ≡ slice_index douts k

@@ -14,26 +14,26 @@ use Rattle.wiring.proofs.Lists.{All-at, All-from_at, All-right}
 use Rattle.cycle_sim.specs.Ports.{din_widths}
 use Rattle.cycle_sim.specs.Filled.{filled_contents}
 use Rattle.pgm_codec.specs.Images.{file_of}
-use Rattle.test_bench.specs.declared.drive.Drive.{Drive}
+use Rattle.stimulus.specs.declared.drive.Drive.{Drive}
 use Rattle.test_bench.specs.declared.picture.Shown.{Shown}
-use Rattle.test_bench.specs.declared.stop.Stop.{Stop}
-use Rattle.test_bench.specs.declared.stop.Stop.TheVariants.{Index, Count}
-use Rattle.test_bench.specs.declared.stop.BenchFault.{BenchFault}
-use Rattle.test_bench.specs.declared.stop.BenchFault.TheVariants.{Stopped, OutOfMemory}
-use Rattle.test_bench.specs.Stimulus.{Rounds, stimulus}
-use Rattle.test_bench.specs.Showing.{output_count, IsRun, IsEnough, asked, HasShown, image_shown, images_shown, IsShown, notes_of}
-use Rattle.test_bench.specs.Stops.{IsStop, IsBenchEnd}
+use Rattle.stimulus.specs.declared.stop.Stop.{Stop}
+use Rattle.stimulus.specs.declared.stop.Stop.TheVariants.{Index, Count}
+use Rattle.stimulus.specs.declared.stop.BenchFault.{BenchFault}
+use Rattle.stimulus.specs.declared.stop.BenchFault.TheVariants.{Stopped, OutOfMemory}
+use Rattle.stimulus.specs.Stimulus.{Rounds, stimulus}
+use Rattle.stimulus.specs.Showing.{output_count, IsRun, IsEnough, asked, HasShown, image_shown, images_shown, IsShown, notes_of}
+use Rattle.stimulus.specs.Stops.{IsStop, IsBenchEnd}
 use Rattle.test_bench.specs.Clocking.{AreKept, DoutsFit, StopsIn, GoOn, Clocked}
 use Rattle.test_bench.specs.declared.clocking.Bench.{Bench}
-use Rattle.test_bench.specs.Given.{rounds_of}
+use Rattle.stimulus.specs.Given.{rounds_of}
 use Rattle.dk_frames.specs.declared.frame.Frame.{Frame}
 use Rattle.pgm_rounds.specs.declared.round.Round.{Round}
 use Rattle.pgm_rounds.specs.Files.{frames_of}
-use Rattle.test_bench.proofs.Runs.{runs_length}
+use Rattle.stimulus.proofs.Runs.{runs_length}
 use Rattle.test_bench.specs.Writing.{HasEnough, image_kept, round_kept}
 use Rattle.test_bench.specs.Filling.{AreFilled, IsShort}
 use Rattle.test_bench.proofs.Clocks.{there, port_width, counted}
-use Rattle.test_bench.proofs.Ranges.{same_map, same_flat}
+use Rattle.stimulus.proofs.Ranges.{same_map, same_flat}
 use Rattle.test_bench.proofs.Written.{kept_at, round_there}
 
 -- a picture has no more samples than the run has clocks

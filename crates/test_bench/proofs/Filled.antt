@@ -12,8 +12,8 @@ use Rattle.wiring.specs.Clock.{Clock}
 use Rattle.cycle_sim.specs.Ports.{din_widths}
 use Rattle.block_sim.specs.Called.{clocks_with}
 use Rattle.test_bench.specs.declared.clocking.Feed.{Feed}
-use Rattle.test_bench.specs.Stimulus.{Rounds, stream, dins_at, pixel_clock, is_held_after, clocks_at}
-use Rattle.test_bench.specs.Given.{rounds_of}
+use Rattle.stimulus.specs.Stimulus.{Rounds, stream, dins_at, pixel_clock, is_held_after, clocks_at}
+use Rattle.stimulus.specs.Given.{rounds_of}
 use Rattle.test_bench.specs.Clocking.{IsFed}
 
 take_whole : {X : Type 0} (n : ℕ) (xs : List X) → length xs ≡ n → take n xs ≡ xs

@@ -13,13 +13,13 @@ use Rattle.block_sim.specs.Called.{clocks_with, block_clocks}
 use Rattle.test_bench.specs.declared.block.Block.{Block}
 use Rattle.test_bench.specs.declared.clocking.Bench.{Bench}
 use Rattle.test_bench.specs.declared.clocking.Feed.{Feed}
-use Rattle.test_bench.specs.declared.stop.Stop.{Stop}
-use Rattle.test_bench.specs.Stimulus.{held_clock, pixel_clock, is_held_after, clocks_at}
-use Rattle.test_bench.specs.Given.{rounds_of}
+use Rattle.stimulus.specs.declared.stop.Stop.{Stop}
+use Rattle.stimulus.specs.Stimulus.{held_clock, pixel_clock, is_held_after, clocks_at}
+use Rattle.stimulus.specs.Given.{rounds_of}
 use Rattle.test_bench.specs.Blocks.{HasBlock}
 use Rattle.test_bench.specs.Clocking.{IsBench, IsFed, Clocked, StopsIn}
 use Rattle.test_bench.proofs.Clocks.{one}
-use Rattle.test_bench.proofs.Stimuli.{fit_dins, fit_greatest}
+use Rattle.stimulus.proofs.Stimuli.{fit_dins, fit_greatest}
 use Rattle.test_bench.proofs.Filled.{inputs_are}
 use Rattle.test_bench.proofs.Runs.{clocked_join, stops_later, stops_more}
 

@@ -1,15 +1,9 @@
 pub mod Runs
-pub mod Inputs
 pub mod Filled
 pub mod Clocks
-pub mod Streams
-pub mod Stimuli
 pub mod Pictures
-pub mod Ranges
 pub mod Written
 pub mod Shows
 pub mod Joined
-pub mod Benches
 pub mod Stimulated
-pub mod Takings
 pub mod Ends

@@ -1,29 +1,18 @@
--- Runs go on, and stop.
-use Rattle.std.proofs.Common.{◌≡◌, ℕ, suc, ◌+◌, Bool, List, [], ◌∷◌, ◌++◌, length, map, refl, ap, sym, subst, ◌∙◌, arith, append_assoc, append-nil, Some, Option, None, pos, ◌-ℤ◌, length-append}
-use Rattle.std.specs.Prelude.{◌==◌, filter}
-use Rattle.std.proofs.lemmas.List.{map-append}
-use Rattle.std.proofs.lemmas.List.Elements.{filter-append, All-append, All-nil}
-use Rattle.std.proofs.lemmas.Grind.{flat_map-append}
-use Rattle.wiring.specs.Netlist.{Netlist, valid_net, dout_net}
-use Rattle.wiring.specs.Snapshot.{Contents, Snapshot, net_value}
+-- A bench goes on, and stops.
+use Rattle.std.proofs.Common.{◌≡◌, ℕ, ◌+◌, Bool, List, [], ◌++◌, length, refl, ap, sym, subst, ◌∙◌, arith, append_assoc, append-nil, Some, Option, None, pos, ◌-ℤ◌, length-append}
+use Rattle.std.proofs.lemmas.List.Elements.{All-append, All-nil}
+use Rattle.wiring.specs.Netlist.{Netlist}
+use Rattle.wiring.specs.Snapshot.{Contents, Snapshot}
 use Rattle.wiring.specs.Clock.{Clock}
-use Rattle.wiring.specs.Runs.{Runs, RunStops, picture}
 use Rattle.test_bench.specs.declared.clocking.Bench.{Bench}
-use Rattle.test_bench.specs.declared.stop.Stop.{Stop}
-use Rattle.test_bench.specs.declared.stop.Stop.TheVariants.{Index, Count}
-use Rattle.test_bench.specs.Showing.{notes_at, notes_of}
+use Rattle.stimulus.specs.declared.stop.Stop.{Stop}
+use Rattle.stimulus.specs.declared.stop.Stop.TheVariants.{Index, Count}
+use Rattle.stimulus.specs.Showing.{notes_of}
+use Rattle.stimulus.proofs.Runs.{notes_join, runs_join, stop_join, stop_more, runs_length}
 use Rattle.test_bench.specs.Clocking.{AreKept, GoOn, DoutsFit, IsBench, Clocked, StopsIn}
-
-pub picture_join : (k : ℕ) (shots more : List Snapshot) → picture k (shots ++ more) ≡ picture k shots ++ picture k more
-picture_join k shots more =
-    ap (λ (l : List Snapshot). map (λ t. net_value t (dout_net k)) l) (filter-append (λ t. net_value t (valid_net k) == 1) shots more)
-    ∙ map-append (λ t. net_value t (dout_net k)) (filter (λ t. net_value t (valid_net k) == 1) shots) (filter (λ t. net_value t (valid_net k) == 1) more)
 
 abbrev Notes : Type 0
 Notes = Option (List (Bool × ℕ))
-
-pub notes_join : (m : Netlist) (shots more : List Snapshot) → notes_of m (shots ++ more) ≡ notes_of m shots ++ notes_of m more
-notes_join m shots more = flat_map-append (notes_at m) shots more
 
 -- notes that go on twice
 pub go_on : (xs ys : List (Bool × ℕ)) (before between now : Notes) → GoOn before xs between → GoOn between ys now → GoOn before (xs ++ ys) now
@@ -44,29 +33,6 @@ go_none None = tt
 go_none (Some l) = ap (λ z. Some z) (append-nil l)
 
 module _ (m : Netlist) where
-  pub runs_join : (cs ds : List Clock) (from mid to : Contents) (shots more : List Snapshot) → Runs m from cs shots mid → Runs m mid ds more to → Runs m from (cs ++ ds) (shots ++ more) to
-  runs_join [] ds from mid to [] more h g = subst (λ (x : Contents). Runs m x ds more to) (sym h) g
-  runs_join [] ds from mid to (t ∷ shots) more h g = absurd h
-  runs_join (c ∷ cs) ds from mid to [] more h g = absurd h
-  runs_join (c ∷ cs) ds from mid to (t ∷ shots) more h g = (h.0, h.1, runs_join cs ds h.0 mid to shots more h.2 g)
-
-  pub stop_join : (cs ds : List Clock) (from mid : Contents) (shots more : List Snapshot) (x i : ℕ) → Runs m from cs shots mid → RunStops m mid ds more x i → RunStops m from (cs ++ ds) (shots ++ more) x i
-  stop_join [] ds from mid [] more x i h g = subst (λ (y : Contents). RunStops m y ds more x i) (sym h) g
-  stop_join [] ds from mid (t ∷ shots) more x i h g = absurd h
-  stop_join (d ∷ cs) ds from mid [] more x i h g = absurd h
-  stop_join (d ∷ cs) ds from mid (t ∷ shots) more x i h g = (h.0, h.1, stop_join cs ds h.0 mid shots more x i h.2 g)
-
-  pub stop_more : (cs rest : List Clock) (from : Contents) (shots : List Snapshot) (x i : ℕ) → RunStops m from cs shots x i → RunStops m from (cs ++ rest) shots x i
-  stop_more [] rest from shots x i h = absurd h
-  stop_more (c ∷ cs) rest from [] x i h = h
-  stop_more (c ∷ cs) rest from (s ∷ shots) x i h = (h.0, h.1, stop_more cs rest h.0 shots x i h.2)
-
-  pub runs_length : (cs : List Clock) (from to : Contents) (shots : List Snapshot) → Runs m from cs shots to → length cs ≡ length shots
-  runs_length [] from to [] h = refl
-  runs_length [] from to (t ∷ shots) h = absurd h
-  runs_length (c ∷ cs) from to [] h = absurd h
-  runs_length (c ∷ cs) from to (t ∷ shots) h = ap suc (runs_length cs h.0 to shots h.2)
-
   kept_join : (most : ℕ) (all shots more : List Snapshot) (pictures : List Rattle.test_bench.specs.declared.picture.Shown.Shown) → AreKept most ((all ++ shots) ++ more) pictures → AreKept most (all ++ (shots ++ more)) pictures
   kept_join most all shots more pictures h = subst (λ z. AreKept most z pictures) (append_assoc all shots more) h
 
@@ -74,13 +40,13 @@ module _ (m : Netlist) where
   pub stops_later : (cs ds : List Clock) (old mid : Bench) (before now : Notes) (stop : Stop) → Clocked m cs old mid before now → StopsIn m mid.sim.contents mid.made ds stop → StopsIn m old.sim.contents old.made (cs ++ ds) stop
   stops_later cs ds old mid before now (Index clock array index) h s = record {
     shots = h.shots ++ s.shots;
-    stops = stop_join cs ds old.sim.contents mid.sim.contents h.shots s.shots array index h.runs s.stops;
-    clock_is = s.clock_is ∙ ap (λ n. pos n -ℤ pos 1) (let e : mid.made + length s.shots ≡ old.made + length (h.shots ++ s.shots) = omega (arith, h.made, runs_length cs old.sim.contents mid.sim.contents h.shots h.runs, length-append h.shots s.shots) in e);
+    stops = stop_join m cs ds old.sim.contents mid.sim.contents h.shots s.shots array index h.runs s.stops;
+    clock_is = s.clock_is ∙ ap (λ n. pos n -ℤ pos 1) (let e : mid.made + length s.shots ≡ old.made + length (h.shots ++ s.shots) = omega (arith, h.made, runs_length m cs old.sim.contents mid.sim.contents h.shots h.runs, length-append h.shots s.shots) in e);
   }
   stops_later cs ds old mid before now (Count shown wanted) h s = absurd s
 
   pub stops_more : (cs rest : List Clock) (from : Contents) (first : ℕ) (stop : Stop) → StopsIn m from first cs stop → StopsIn m from first (cs ++ rest) stop
-  stops_more cs rest from first (Index clock array index) s = record { shots = s.shots; stops = stop_more cs rest from s.shots array index s.stops; clock_is = s.clock_is }
+  stops_more cs rest from first (Index clock array index) s = record { shots = s.shots; stops = stop_more m cs rest from s.shots array index s.stops; clock_is = s.clock_is }
   stops_more cs rest from first (Count shown wanted) s = absurd s
 
   pub clocked_none : (b : Bench) (before : Notes) → IsBench b → b.sim.netlist ≡ m → Clocked m [] b b before before
@@ -103,7 +69,7 @@ module _ (m : Netlist) where
     most = g.most ∙ h.most;
     made = omega (arith, h.made, g.made, length-append cs ds);
     shots = h.shots ++ g.shots;
-    runs = runs_join cs ds old.sim.contents mid.sim.contents new.sim.contents h.shots g.shots h.runs g.runs;
+    runs = runs_join m cs ds old.sim.contents mid.sim.contents new.sim.contents h.shots g.shots h.runs g.runs;
     kept = λ all k. kept_join old.most all h.shots g.shots new.pictures.items
         (subst (λ n. AreKept n ((all ++ h.shots) ++ g.shots) new.pictures.items) h.most (g.kept (all ++ h.shots) (subst (λ n. AreKept n (all ++ h.shots) mid.pictures.items) (sym h.most) (h.kept all k))));
     fit = All-append (DoutsFit m) h.shots g.shots h.fit g.fit;

@@ -23,13 +23,13 @@ use Rattle.block_sim.specs.Called.{of_clock, block_clocks, BlockRan, BlockStops}
 use Rattle.block_sim.proofs.Clockwise.{clocks_count, place_within, half_is}
 use Rattle.test_bench.specs.declared.picture.Shown.{Shown}
 use Rattle.test_bench.specs.declared.clocking.Bench.{Bench}
-use Rattle.test_bench.specs.declared.stop.Stop.TheVariants.{Index}
-use Rattle.test_bench.specs.Showing.{notes_of}
+use Rattle.stimulus.specs.declared.stop.Stop.TheVariants.{Index}
+use Rattle.stimulus.specs.Showing.{notes_of}
 use Rattle.test_bench.specs.Blocks.{HasBlock}
 use Rattle.test_bench.specs.BlockClocks.{AreShownIn, ShowsBlock, StopsBlock, Extends, sample_of, pairs_of}
 use Rattle.test_bench.specs.Clocking.{AreKept, GoOn, DoutsFit, IsBench, Clocked, StopsIn}
 use Rattle.test_bench.proofs.Clocks.{douts_fit, outs_small, pairs_are, there, kept_one, one}
-use Rattle.test_bench.proofs.Runs.{notes_join, runs_length}
+use Rattle.stimulus.proofs.Runs.{notes_join, runs_length}
 
 took_one : {X : Type 0} (xs : List X) (k : ℕ) (x : X) → slice_get xs k ≡ Some x → take (k + 1) xs ≡ take k xs ++ x ∷ []
 took_one xs k x at = ap (λ n. take n xs) (let e : k + 1 ≡ suc k = omega arith in e) ∙ took xs k x at

@@ -5,9 +5,9 @@ use Rattle.wiring.specs.Netlist.{Netlist}
 use Rattle.wiring.specs.Snapshot.{Contents}
 use Rattle.wiring.specs.Clock.{Clock}
 use Rattle.test_bench.specs.declared.clocking.Bench.{Bench}
-use Rattle.test_bench.specs.declared.stop.Stop.{Stop}
+use Rattle.stimulus.specs.declared.stop.Stop.{Stop}
 use Rattle.test_bench.specs.Clocking.{Clocked, StopsIn}
-use Rattle.test_bench.proofs.Ranges.{flat_more, flat_cut}
+use Rattle.stimulus.proofs.Ranges.{flat_more, flat_cut}
 use Rattle.test_bench.proofs.Runs.{stops_more, clocked_join}
 
 module _ (m : Netlist) (f : ℕ → List Clock) where

@@ -5,7 +5,7 @@ use Rattle.std.proofs.lemmas.Option.{slice_get-get_or, get_or_from_slice_get}
 use Rattle.std.proofs.Math.Pow.{pow_mono}
 use Rattle.wiring.proofs.Lists.{All-at, All-from_at}
 use Rattle.wiring.proofs.Search.{at_push}
-use Rattle.test_bench.specs.Showing.{IsEnough}
+use Rattle.stimulus.specs.Showing.{IsEnough}
 use Rattle.test_bench.specs.Clocking.{IsKept, AreKept}
 use Rattle.std.specs.List.{flat_map, range_with_len, All}
 use Rattle.std.proofs.lemmas.Grind.{flat_map-append}
@@ -15,8 +15,8 @@ use Rattle.dk_base.specs.Frames.{Size, area}
 use Rattle.pgm_codec.specs.Images.{Image, header_of, raster_of, file_of}
 use Rattle.test_bench.specs.declared.picture.Shown.{Shown}
 use Rattle.test_bench.specs.Writing.{HasEnough, IsWhole, AreWhole, samples_at}
-use Rattle.test_bench.proofs.Ranges.{flat_more}
-use Rattle.test_bench.proofs.Streams.{map_at, read_at}
+use Rattle.stimulus.proofs.Ranges.{flat_more}
+use Rattle.stimulus.proofs.Streams.{map_at, read_at}
 use Rattle.test_bench.proofs.Clocks.{there}
 use Rattle.wiring.specs.Rules.{IsPortWidth}
 

@@ -11,7 +11,7 @@ use Rattle.wiring.specs.Clock.{Clock}
 use Rattle.wiring.specs.Runs.{Runs, RunStops, picture}
 use Rattle.test_bench.specs.declared.picture.Shown.{Shown}
 use Rattle.block_sim.specs.declared.blocks.Stop.{Stop as BlockStop}
-use Rattle.test_bench.specs.Showing.{notes_of}
+use Rattle.stimulus.specs.Showing.{notes_of}
 use Rattle.test_bench.specs.Clocking.{AreKept, DoutsFit, GoOn, IsKept}
 
 -- the outputs of each clock show its snapshot; those of a clock follow those of the clock before

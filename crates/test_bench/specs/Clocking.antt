@@ -15,11 +15,11 @@ use Rattle.pgm_rounds.specs.declared.round.Round.{Round}
 use Rattle.test_bench.specs.declared.picture.Shown.{Shown}
 use Rattle.test_bench.specs.declared.clocking.Bench.{Bench}
 use Rattle.test_bench.specs.declared.clocking.Feed.{Feed}
-use Rattle.test_bench.specs.declared.stop.Stop.{Stop}
-use Rattle.test_bench.specs.declared.stop.Stop.TheVariants.{Index, Count}
-use Rattle.test_bench.specs.Stimulus.{greatest_dins}
-use Rattle.test_bench.specs.Given.{AreBenchFrames}
-use Rattle.test_bench.specs.Showing.{output_count, notes_of}
+use Rattle.stimulus.specs.declared.stop.Stop.{Stop}
+use Rattle.stimulus.specs.declared.stop.Stop.TheVariants.{Index, Count}
+use Rattle.stimulus.specs.Stimulus.{greatest_dins}
+use Rattle.stimulus.specs.Given.{AreBenchFrames}
+use Rattle.stimulus.specs.Showing.{output_count, notes_of}
 use Rattle.test_bench.specs.Blocks.{HasBlock}
 
 -- of this picture the first `most` samples are kept, and their number

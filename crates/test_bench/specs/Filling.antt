@@ -3,9 +3,9 @@
 use Rattle.std.specs.Prelude.{◌≡◌, ℕ, ◌+◌, ◌*◌, ◌-◌, ◌≤◌, List, length, slice_get, slice_index, Some}
 use Rattle.dk_base.specs.Frames.{Size, area}
 use Rattle.test_bench.specs.declared.picture.Shown.{Shown}
-use Rattle.test_bench.specs.declared.stop.Stop.TheVariants.{Index, Count}
-use Rattle.test_bench.specs.declared.stop.BenchFault.{BenchFault}
-use Rattle.test_bench.specs.declared.stop.BenchFault.TheVariants.{Stopped, OutOfMemory}
+use Rattle.stimulus.specs.declared.stop.Stop.TheVariants.{Index, Count}
+use Rattle.stimulus.specs.declared.stop.BenchFault.{BenchFault}
+use Rattle.stimulus.specs.declared.stop.BenchFault.TheVariants.{Stopped, OutOfMemory}
 use Rattle.test_bench.specs.Writing.{IsFirstShort, IsWhole}
 
 -- pictures, each of which is whole if it has shown the samples of all rounds

@@ -1,8 +1,3 @@
-pub mod Stimulus
-pub mod Given
-pub mod Showing
-pub mod Stops
-pub mod Inputs
 pub mod Blocks
 pub mod Clocking
 pub mod BlockClocks

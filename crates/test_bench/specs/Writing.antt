@@ -5,7 +5,7 @@ use Rattle.dk_base.specs.Frames.{Size, area}
 use Rattle.wiring.specs.Rules.{IsPortWidth}
 use Rattle.pgm_codec.specs.Images.{Image}
 use Rattle.test_bench.specs.declared.picture.Shown.{Shown}
-use Rattle.test_bench.specs.Showing.{IsEnough}
+use Rattle.stimulus.specs.Showing.{IsEnough}
 
 -- the picture of this number has shown enough
 abbrev pub HasEnough : (pictures : List Shown) → (asked : ℕ) → ℕ → Type 0

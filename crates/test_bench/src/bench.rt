@@ -11,20 +11,17 @@ ghost use Rattle.dk_base.specs.declared.TheConstants.{MAX_FILE_IMAGES};
 ghost use Rattle.pgm_codec.specs.Images.{file_of};
 ghost use Rattle.cycle_sim.specs.Filled.{filled_contents};
 ghost use Rattle.cycle_sim.specs.Ports.{din_widths};
-ghost use Rattle.test_bench.specs.Stimulus.{greatest_dins};
-ghost use Rattle.test_bench.specs.Given.{rounds_of, AreBenchFrames};
-ghost use Rattle.test_bench.specs.Showing.{asked as asked_of, IsShown, IsNoted};
-ghost use Rattle.test_bench.specs.Stops.{IsBenchEnd};
+ghost use Rattle.stimulus.specs.Stimulus.{greatest_dins};
+ghost use Rattle.stimulus.specs.Given.{rounds_of, AreBenchFrames};
+ghost use Rattle.stimulus.specs.Showing.{asked as asked_of, IsShown, IsNoted};
+ghost use Rattle.stimulus.specs.Stops.{IsBenchEnd};
 ghost use Rattle.test_bench.specs.Clocking.{IsBench, AreKept};
 ghost use Rattle.test_bench.specs.Writing.{HasEnough, round_kept};
 ghost use Rattle.test_bench.specs.Filling.{AreFilled, IsShort};
 
 use crate::block::Block;
 use crate::clocking::{Bench, Feed, all_clocks};
-use crate::drive::Drive;
 use crate::picture::Shown;
-use crate::pixels::{greatest_of, zeros};
-use crate::stop::{BenchFault, Stop};
 use crate::writing::{area, first_short, write_rounds};
 use block_sim::Blocks;
 use cycle_sim::{Fill, Out, dins_of};
@@ -33,6 +30,7 @@ use dk_desk::Desk;
 use netlist::{Module, Width};
 use pgm_rounds::Round;
 use std::alloc::Global;
+use stimulus::{BenchFault, Drive, Stop, greatest_of, zeros};
 
 // `count` outputs that show nothing.
 fn no_outs(alloc: Global, count: usize) -> Result<Vec<Out>, OutOfMemory>

@@ -7,18 +7,17 @@ ghost use Rattle.wiring.specs.Netlist.{Netlist};
 ghost use Rattle.cycle_sim.specs.Ports.{din_widths};
 ghost use Rattle.block_sim.specs.Called.{clocks_with};
 ghost use Rattle.test_bench.specs.declared.block.TheConstants.{BLOCK_PIXELS};
-ghost use Rattle.test_bench.specs.Stimulus.{dins_at, pixel_clock, clocks_at};
-ghost use Rattle.test_bench.specs.Given.{rounds_of, AreBenchFrames};
+ghost use Rattle.stimulus.specs.Stimulus.{dins_at, pixel_clock, clocks_at};
+ghost use Rattle.stimulus.specs.Given.{rounds_of, AreBenchFrames};
 ghost use Rattle.test_bench.specs.Clocking.{IsFed};
 ghost use Rattle.test_bench.specs.Blocks.{HasBlock};
 
 use crate::clocking::Feed;
-use crate::drive::is_held_after;
-use crate::pixels::pixel;
 use cycle_sim::Out;
 use dk_base::OutOfMemory;
 use pgm_rounds::Round;
 use std::alloc::Global;
+use stimulus::{is_held_after, pixel};
 
 /// How many pixels of an input are clocked in one call at most.
 pub const BLOCK_PIXELS: u64 = 1024;

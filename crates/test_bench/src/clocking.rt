@@ -14,17 +14,17 @@ ghost use Rattle.test_bench.specs.BlockClocks.{AreShownIn, Extends, ShowsBlock, 
 ghost use Rattle.cycle_sim.specs.declared.ports.Out.{Out as Ports};
 ghost use Rattle.cycle_sim.specs.Ports.{din_widths, AreShown};
 ghost use Rattle.test_bench.specs.declared.picture.Shown.{Shown as Picture};
-ghost use Rattle.test_bench.specs.Stimulus.{reset_clock, clocks_at};
-ghost use Rattle.test_bench.specs.Given.{rounds_of};
+ghost use Rattle.stimulus.specs.Stimulus.{reset_clock, clocks_at};
+ghost use Rattle.stimulus.specs.Given.{rounds_of};
 ghost use Rattle.test_bench.specs.Clocking.{AreKept, GoOn, IsBench, Clocked, StopsIn, IsFed};
 
 use crate::block::{BLOCK_PIXELS, Block, fill_block};
 use crate::picture::Shown;
-use crate::stop::Stop;
 use block_sim::{Blocks, Stop as BlockStop};
 use cycle_sim::{IndexRange, Out};
 use dk_desk::Desk;
 use pgm_rounds::Round;
+use stimulus::Stop;
 
 /// A module on a test bench. `IsBench` is the invariant of its fields.
 #[derive(Drop)]

@@ -4,21 +4,11 @@
 mod bench;
 mod block;
 mod clocking;
-mod drive;
-mod input;
-mod laws;
 mod picture;
-mod pixels;
-mod stop;
 mod writing;
 
 pub use bench::{run_bench, set_up};
 pub use block::BLOCK_PIXELS;
 pub use clocking::{Bench, Feed, all_clocks, clock};
-pub use drive::{Drive, is_held_after};
-pub use input::{BenchInput, read_input};
-pub use laws::{one_bench_law, one_input_law};
 pub use picture::Shown;
-pub use pixels::{fill_dins, greatest_of, zeros};
-pub use stop::{BenchFault, Stop};
 pub use writing::{first_short, write_rounds};

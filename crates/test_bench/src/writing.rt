@@ -7,7 +7,7 @@ ghost use Rattle.dk_base.specs.Frames.{area as area_of};
 ghost use Rattle.dk_base.specs.FrameSizes.{size_of};
 ghost use Rattle.wiring.specs.Rules.{IsPortWidth};
 ghost use Rattle.pgm_codec.specs.Images.{header_of, raster_of, file_of};
-ghost use Rattle.test_bench.specs.Showing.{IsEnough};
+ghost use Rattle.stimulus.specs.Showing.{IsEnough};
 ghost use Rattle.test_bench.specs.Writing.{HasEnough, IsFirstShort, AreWhole, image_kept, round_kept};
 
 use crate::picture::Shown;

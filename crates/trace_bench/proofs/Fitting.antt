@@ -13,9 +13,9 @@ use Rattle.cycle_sim.specs.Slots.{all_values, all_widths}
 use Rattle.cycle_sim.specs.Ports.{din_widths}
 use Rattle.cycle_sim.proofs.Given.{given_fit}
 use Rattle.pgm_rounds.specs.declared.round.Round.{Round}
-use Rattle.test_bench.specs.Stimulus.{dins_at}
-use Rattle.test_bench.specs.Given.{rounds_of, AreBenchFrames}
-use Rattle.test_bench.proofs.Stimuli.{fit_dins}
+use Rattle.stimulus.specs.Stimulus.{dins_at}
+use Rattle.stimulus.specs.Given.{rounds_of, AreBenchFrames}
+use Rattle.stimulus.proofs.Stimuli.{fit_dins}
 
 fit_append : (ws us vs xs : List ℕ) → Fit ws vs → Fit us xs → Fit (ws ++ us) (vs ++ xs)
 fit_append [] us [] xs h g = g

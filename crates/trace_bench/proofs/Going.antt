@@ -14,9 +14,9 @@ use Rattle.wiring.specs.Runs.{Runs}
 use Rattle.cycle_sim.specs.Slots.{all_values}
 use Rattle.vcd_trace.specs.Layout.{AreValues}
 use Rattle.vcd_trace.specs.Told.{Told, clock_text}
-use Rattle.test_bench.specs.declared.stop.Stop.TheVariants.{Index, Count}
-use Rattle.test_bench.proofs.Runs.{runs_length}
-use Rattle.test_bench.proofs.Runs.{runs_join, stop_join, stop_more}
+use Rattle.stimulus.specs.declared.stop.Stop.TheVariants.{Index, Count}
+use Rattle.stimulus.proofs.Runs.{runs_length}
+use Rattle.stimulus.proofs.Runs.{runs_join, stop_join, stop_more}
 use Rattle.trace_bench.specs.declared.ending.TraceEnd.{TraceEnd}
 use Rattle.trace_bench.specs.declared.ending.TraceEnd.TheVariants.{Stopped, Write}
 use Rattle.trace_bench.specs.Traces.{values_of, FailsBehind}

@@ -5,11 +5,11 @@ use Rattle.wiring.specs.Snapshot.{Contents, Snapshot, HasOneSnapshot, HasOneNext
 use Rattle.wiring.specs.Clock.{Clock}
 use Rattle.cycle_sim.specs.Ports.{din_widths}
 use Rattle.cycle_sim.specs.Filled.{filled_contents}
-use Rattle.test_bench.specs.declared.drive.Drive.{Drive}
-use Rattle.test_bench.specs.Stimulus.{Rounds, stimulus}
-use Rattle.test_bench.specs.Showing.{IsRun}
-use Rattle.test_bench.specs.Stops.{StopsAtClock}
-use Rattle.test_bench.proofs.Benches.{OneRun, OneStop, Apart, places, same_shots, not_both}
+use Rattle.stimulus.specs.declared.drive.Drive.{Drive}
+use Rattle.stimulus.specs.Stimulus.{Rounds, stimulus}
+use Rattle.stimulus.specs.Showing.{IsRun}
+use Rattle.stimulus.specs.Stops.{StopsAtClock}
+use Rattle.stimulus.proofs.Benches.{OneRun, OneStop, Apart, places, same_shots, not_both}
 
 module _ (m : Netlist) (one_shot : HasOneSnapshot m) (one_next : HasOneNext m) (drive : Drive) (rounds : Rounds) where
   abbrev from : Contents

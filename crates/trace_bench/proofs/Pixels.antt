@@ -6,7 +6,7 @@ use Rattle.wiring.specs.Netlist.{Netlist}
 use Rattle.wiring.specs.Snapshot.{Contents}
 use Rattle.wiring.specs.Clock.{Clock}
 use Rattle.vcd_trace.specs.Told.{Told}
-use Rattle.test_bench.proofs.Ranges.{flat_more, flat_cut}
+use Rattle.stimulus.proofs.Ranges.{flat_more, flat_cut}
 use Rattle.trace_bench.specs.declared.ending.TraceEnd.{TraceEnd}
 use Rattle.trace_bench.specs.Going.{Goes, EndsIn}
 use Rattle.trace_bench.proofs.Going.{goes_join, ends_later, ends_more}

@@ -16,10 +16,10 @@ use Rattle.vcd_trace.specs.Layout.{AreValues, time_line, text_of}
 use Rattle.vcd_trace.specs.Header.{header_text, trace_text}
 use Rattle.vcd_trace.specs.Told.{Told, end_text}
 use Rattle.vcd_trace.specs.Replayed.{IsTraceOf}
-use Rattle.test_bench.specs.declared.drive.Drive.{Drive}
-use Rattle.test_bench.specs.declared.stop.Stop.TheVariants.{Index, Count}
-use Rattle.test_bench.specs.Stimulus.{Rounds, stimulus, reset_clock, clocks_at}
-use Rattle.test_bench.proofs.Runs.{runs_length}
+use Rattle.stimulus.specs.declared.drive.Drive.{Drive}
+use Rattle.stimulus.specs.declared.stop.Stop.TheVariants.{Index, Count}
+use Rattle.stimulus.specs.Stimulus.{Rounds, stimulus, reset_clock, clocks_at}
+use Rattle.stimulus.proofs.Runs.{runs_length}
 use Rattle.trace_bench.specs.declared.tracer.Tracer.{Tracer}
 use Rattle.trace_bench.specs.declared.ending.TraceEnd.{TraceEnd}
 use Rattle.trace_bench.specs.declared.ending.TraceEnd.TheVariants.{Stopped, Write}

@@ -10,7 +10,7 @@ use Rattle.wiring.specs.Clock.{Clock}
 use Rattle.wiring.specs.Runs.{Runs, RunStops}
 use Rattle.vcd_trace.specs.Layout.{AreValues}
 use Rattle.vcd_trace.specs.Told.{Told, clock_text}
-use Rattle.test_bench.specs.declared.stop.Stop.TheVariants.{Index, Count}
+use Rattle.stimulus.specs.declared.stop.Stop.TheVariants.{Index, Count}
 use Rattle.trace_bench.specs.declared.ending.TraceEnd.{TraceEnd}
 use Rattle.trace_bench.specs.declared.ending.TraceEnd.TheVariants.{Stopped, Write}
 use Rattle.trace_bench.specs.Traces.{values_of, FailsBehind}

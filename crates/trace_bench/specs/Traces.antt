@@ -12,11 +12,11 @@ use Rattle.cycle_sim.specs.Filled.{filled_contents}
 use Rattle.vcd_trace.specs.Layout.{clock_lines, text_of}
 use Rattle.vcd_trace.specs.Header.{header_text, trace_text}
 use Rattle.vcd_trace.specs.Replayed.{IsTraceOf}
-use Rattle.test_bench.specs.declared.drive.Drive.{Drive}
-use Rattle.test_bench.specs.declared.stop.Stop.TheVariants.{Index, Count}
-use Rattle.test_bench.specs.Stimulus.{Rounds, stimulus}
-use Rattle.test_bench.specs.Showing.{IsRun}
-use Rattle.test_bench.specs.Stops.{StopsAtClock}
+use Rattle.stimulus.specs.declared.drive.Drive.{Drive}
+use Rattle.stimulus.specs.declared.stop.Stop.TheVariants.{Index, Count}
+use Rattle.stimulus.specs.Stimulus.{Rounds, stimulus}
+use Rattle.stimulus.specs.Showing.{IsRun}
+use Rattle.stimulus.specs.Stops.{StopsAtClock}
 use Rattle.trace_bench.specs.declared.ending.TraceEnd.{TraceEnd}
 use Rattle.trace_bench.specs.declared.ending.TraceEnd.TheVariants.{Stopped, Write}
 

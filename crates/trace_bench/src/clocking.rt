@@ -10,8 +10,8 @@ ghost use Rattle.cycle_sim.specs.Slots.{all_values, all_widths};
 ghost use Rattle.cycle_sim.specs.Ports.{din_widths};
 ghost use Rattle.vcd_trace.specs.Layout.{AreValues};
 ghost use Rattle.vcd_trace.specs.Told.{clock_text, room_of};
-ghost use Rattle.test_bench.specs.Stimulus.{clocks_at};
-ghost use Rattle.test_bench.specs.Given.{rounds_of, AreBenchFrames};
+ghost use Rattle.stimulus.specs.Stimulus.{clocks_at};
+ghost use Rattle.stimulus.specs.Given.{rounds_of, AreBenchFrames};
 ghost use Rattle.trace_bench.specs.Tracers.{IsTracing};
 ghost use Rattle.trace_bench.specs.Going.{told_more, Goes, EndsIn};
 
@@ -21,7 +21,7 @@ use cycle_sim::{IndexRange, Sim};
 use dk_desk::transfer::write_all;
 use dk_desk::{Desk, Failed, OutSlot, Stage};
 use pgm_rounds::Round;
-use test_bench::{Stop, fill_dins};
+use stimulus::{Stop, fill_dins};
 use vcd_trace::Trace;
 
 // One clock of the simulator, and the values before its edge.

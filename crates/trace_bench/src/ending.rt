@@ -1,6 +1,6 @@
 // Why a trace is not whole.
 
-use test_bench::Stop;
+use stimulus::Stop;
 
 /// Why there is no whole trace of a run.
 #[derive(Clone, Copy, Debug, PartialEq, Eq, thiserror::Error)]

@@ -6,10 +6,10 @@ ghost use Rattle.wiring.specs.Snapshot.{Snapshot, HasOneSnapshot, HasOneNext};
 ghost use Rattle.netlist.specs.Names.{NamedNetlist};
 ghost use Rattle.vcd_trace.specs.Layout.{time_line, text_of};
 ghost use Rattle.vcd_trace.specs.Header.{header_text, trace_text};
-ghost use Rattle.test_bench.specs.declared.drive.Drive.{Drive};
-ghost use Rattle.test_bench.specs.Stimulus.{Rounds};
-ghost use Rattle.test_bench.specs.Showing.{IsRun};
-ghost use Rattle.test_bench.specs.Stops.{StopsAtClock};
+ghost use Rattle.stimulus.specs.declared.drive.Drive.{Drive};
+ghost use Rattle.stimulus.specs.Stimulus.{Rounds};
+ghost use Rattle.stimulus.specs.Showing.{IsRun};
+ghost use Rattle.stimulus.specs.Stops.{StopsAtClock};
 ghost use Rattle.trace_bench.specs.Traces.{values_of, trace_front};
 
 /// Laws: before the first clock there is only the header, each clock adds its time and its lines, and the time after the last clock makes the trace whole.

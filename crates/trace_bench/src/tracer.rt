@@ -8,7 +8,7 @@ use cycle_sim::{Fill, Sim, dins_of};
 use dk_base::OutOfMemory;
 use netlist::Module;
 use std::alloc::Global;
-use test_bench::zeros;
+use stimulus::zeros;
 use vcd_trace::{Trace, header};
 
 /// A module that is traced, with all the memory that this takes. `IsTracer` and `IsTracing` say what its fields keep.

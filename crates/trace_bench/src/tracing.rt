@@ -5,7 +5,7 @@ ghost use Rattle.dk_base.specs.FrameSizes.{size_of};
 ghost use Rattle.dk_desk.specs.Calls.{HasCauseIn, Adds, WritesFront};
 ghost use Rattle.cycle_sim.specs.Ports.{din_widths};
 ghost use Rattle.vcd_trace.specs.Told.{end_text, room_of};
-ghost use Rattle.test_bench.specs.Given.{rounds_of, AreBenchFrames};
+ghost use Rattle.stimulus.specs.Given.{rounds_of, AreBenchFrames};
 ghost use Rattle.trace_bench.specs.Traces.{AddsOnly, TracesRun, EndsTrace};
 ghost use Rattle.trace_bench.specs.Tracers.{IsTracer};
 
@@ -16,7 +16,7 @@ use dk_base::FrameSize;
 use dk_desk::{Desk, Failed, OutSlot, Stage};
 use netlist::Module;
 use pgm_rounds::Round;
-use test_bench::Drive;
+use stimulus::Drive;
 use vcd_trace::Trace;
 
 // Writes the time after the last clock.

@@ -2,7 +2,7 @@
 
 ghost use Rattle.std.specs.Prelude.{◌≡◌, ◌≢◌, ◌≤◌, ℕ, List, Some, Err, IfOk, IfErr, OnOk};
 ghost use Rattle.dk_base.specs.declared.TheConstants.{MAX_AGE};
-ghost use Rattle.dk_desk.specs.Calls.{HasCauseIn, IsIfTold};
+ghost use Rattle.dk_desk.specs.Calls.{HasCauseIn, IsIfTold, OpensOnly};
 ghost use Rattle.dk_top.specs.Command.{compile as compile_command};
 ghost use Rattle.dk_compile.specs.Limits.{IsFaultAt};
 ghost use Rattle.dk_top.specs.Program.{CanBeCompiled};
@@ -14,7 +14,7 @@ use crate::files::write_file;
 use crate::reading::{ending_of, read_text};
 use crate::work::Work;
 use dk_compile::{Compiled, Options, compile_with, one_at_age_law};
-use dk_desk::{Desk, Stage};
+use dk_desk::{Desk, InSlot, Stage};
 use dk_endings::Ending;
 use dk_words::CompileWords;
 use std::alloc::Global;

@@ -4,7 +4,7 @@ ghost use Rattle.std.specs.Prelude.{◌≡◌, ◌≤◌, ◌<◌, ◌^◌, ℕ,
 ghost use Rattle.dk_base.specs.declared.TheConstants.{MAX_AGE, MAX_LATENCY, MAX_FILE_IMAGES};
 ghost use Rattle.dk_base.specs.Frames.{IsFrame};
 ghost use Rattle.dk_base.specs.FrameSizes.{size_of};
-ghost use Rattle.dk_desk.specs.Calls.{HasCauseIn, IsIfTold};
+ghost use Rattle.dk_desk.specs.Calls.{HasCauseIn, IsIfTold, OpensOnly};
 ghost use Rattle.dk_top.specs.Command.{run as run_command};
 ghost use Rattle.dk_compile.specs.Limits.{IsFaultAt};
 ghost use Rattle.dk_top.specs.Output.{output_file};
@@ -25,13 +25,14 @@ use crate::work::Work;
 use cycle_sim::Fill;
 use dk_base::{FrameSize, OutOfMemory};
 use dk_compile::{Compiled, Options, drive_shows_law, one_at_age_law, one_source_law};
-use dk_desk::{Desk, Stage};
+use dk_desk::{Desk, InSlot, Stage};
 use dk_endings::Ending;
 use dk_words::RunWords;
 use netlist::Module;
 use pgm_rounds::Round;
 use std::alloc::{AllocError, Global};
-use test_bench::{BenchFault, Drive, run_bench};
+use stimulus::{BenchFault, Drive};
+use test_bench::run_bench;
 
 // The module that the Verilog text of a program denotes.
 pub fn read_again(alloc: Global, compiled: &Compiled) -> Result<Module, OutOfMemory>

@@ -7,7 +7,7 @@ ghost use Rattle.dk_desk.specs.Calls.{HasCauseIn, IsIfTold, OpensOnly};
 ghost use Rattle.verilog_text.specs.Stands.{StandsFor};
 ghost use Rattle.verilog_text.specs.Faults.{IsFault, IsErrorBy};
 ghost use Rattle.cycle_sim.specs.Ports.{din_widths};
-ghost use Rattle.test_bench.specs.Given.{AreBenchFrames};
+ghost use Rattle.stimulus.specs.Given.{AreBenchFrames};
 ghost use Rattle.dk_words.specs.declared.command.PowerUp.{PowerUp as OnePower};
 ghost use Rattle.dk_top.specs.Command.{sim as sim_command};
 ghost use Rattle.dk_top.specs.Simulation.{drive_of, fill_of as fill_named, IsModuleOf, LacksEnable, IsSimulated};
@@ -26,7 +26,8 @@ use dk_words::{PowerUp, SimWords};
 use netlist::Module;
 use pgm_rounds::FileError;
 use std::alloc::Global;
-use test_bench::{BenchFault, BenchInput, Drive, run_bench};
+use stimulus::{BenchFault, BenchInput, Drive};
+use test_bench::run_bench;
 use verilog_read::name_span;
 use verilog_text::TextError;
 
@@ -139,7 +140,7 @@ fn rounds_for(alloc: Global, module: &Module, file: &[u8]) -> Result<BenchInput,
     ensures no_images { IfErr result TellsNoImages }
     ensures judged { result ≢ Err Ending.ReadFault }
 {
-    match test_bench::read_input(alloc, dins_of(module), file) {
+    match stimulus::read_input(alloc, dins_of(module), file) {
         Ok(input) => Ok(input),
         Err(FileError::Fault(fault)) => Err(Ending::Image(ImageFault::File(fault))),
         Err(FileError::OutOfMemory) => Err(Ending::Memory),
@@ -262,8 +263,8 @@ fn pictures<D: Desk>(
     ensures judged { result ≢ Err Ending.ReadFault }
 {
     verilog_text::one_module_law();
-    test_bench::one_input_law();
-    test_bench::one_bench_law();
+    stimulus::one_input_law();
+    stimulus::one_bench_law();
     given.module.law();
     match run_bench(
         alloc,

@@ -4,7 +4,7 @@ ghost use Rattle.std.specs.Prelude.{◌≡◌, ◌≢◌, ◌<◌, ◌^◌, ℕ,
 ghost use Rattle.dk_base.specs.FrameSizes.{size_of};
 ghost use Rattle.dk_desk.specs.Calls.{HasCauseIn, IsIfTold, CreatesOnly};
 ghost use Rattle.cycle_sim.specs.Ports.{din_widths};
-ghost use Rattle.test_bench.specs.Given.{AreBenchFrames};
+ghost use Rattle.stimulus.specs.Given.{AreBenchFrames};
 ghost use Rattle.trace_bench.specs.Tracers.{IsTracer};
 ghost use Rattle.dk_top.specs.Command.{trace as trace_command};
 ghost use Rattle.dk_top.specs.Tracing.{IsTraceAnswer, IsHeldTrace};
@@ -18,7 +18,7 @@ use dk_desk::{Desk, Stage};
 use dk_endings::Ending;
 use dk_words::{PowerUp, TraceWords};
 use std::alloc::Global;
-use test_bench::Drive;
+use stimulus::Drive;
 use trace_bench::{TraceEnd, Tracer, run_trace};
 
 // Creates the file, and writes the trace of the run to it.

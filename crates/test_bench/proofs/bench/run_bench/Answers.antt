@@ -2,8 +2,8 @@ use Rattle.std.proofs.Common.{◌≡◌, ◌∙◌, ◌*◌, [], ap, sym, subst,
 use Rattle.std.proofs.lemmas.Result.{err_from_is_err_and}
 use Rattle.dk_base.specs.Frames.{area}
 use Rattle.dk_base.specs.FrameSizes.{size_of}
-use Rattle.test_bench.specs.Given.{rounds_of}
-use Rattle.test_bench.specs.Showing.{asked, notes_of}
+use Rattle.stimulus.specs.Given.{rounds_of}
+use Rattle.stimulus.specs.Showing.{asked, notes_of}
 use Rattle.test_bench.specs.Clocking.{AreKept}
 use Rattle.test_bench.proofs.Ends.{ended, rounds_length, filled_end, file_end, short_end}
 use Rattle.test_bench.proofs.bench.run_bench.Goals as goal

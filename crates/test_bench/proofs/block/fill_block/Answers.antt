@@ -1,8 +1,8 @@
 use Rattle.std.proofs.Common.{◌∙◌, ◌+◌, ◌++◌, ap, sym, arith}
 use Rattle.cycle_sim.specs.Ports.{din_widths}
-use Rattle.test_bench.specs.Stimulus.{clocks_at}
-use Rattle.test_bench.specs.Given.{rounds_of}
-use Rattle.test_bench.proofs.Ranges.{flat_more}
+use Rattle.stimulus.specs.Stimulus.{clocks_at}
+use Rattle.stimulus.specs.Given.{rounds_of}
+use Rattle.stimulus.proofs.Ranges.{flat_more}
 use Rattle.test_bench.proofs.block.fill_block.Goals as goal
 
 pub loop-number-preserved : goal.loop-number-preserved

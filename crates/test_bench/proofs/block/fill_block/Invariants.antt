@@ -5,8 +5,8 @@ use Rattle.dk_base.specs.Frames.{Size}
 use Rattle.wiring.specs.Netlist.{Netlist}
 use Rattle.cycle_sim.specs.Ports.{din_widths}
 use Rattle.block_sim.specs.Called.{clocks_with}
-use Rattle.test_bench.specs.Stimulus.{clocks_at}
-use Rattle.test_bench.specs.Given.{rounds_of}
+use Rattle.stimulus.specs.Stimulus.{clocks_at}
+use Rattle.stimulus.specs.Given.{rounds_of}
 use Rattle.test_bench.specs.Clocking.{IsFed}
 use Rattle.test_bench.proofs.block.fill_block.Given as goal
 

@@ -1,6 +1,6 @@
 use Rattle.std.proofs.Common.{◌≡◌, ◌∙◌, ◌++◌, ap, length, true, arith}
-use Rattle.test_bench.specs.Stimulus.{dins_at}
-use Rattle.test_bench.specs.Given.{rounds_of}
+use Rattle.stimulus.specs.Stimulus.{dins_at}
+use Rattle.stimulus.specs.Given.{rounds_of}
 use Rattle.test_bench.proofs.Filled.{clock_more, whole_more, dins_count}
 use Rattle.test_bench.proofs.block.push_pixel_clock.Goals as goal
 

@@ -1,6 +1,6 @@
 use Rattle.std.proofs.Common.{◌≡◌, ◌+◌, ◌++◌, [], ◌∷◌, length, ap, ◌∙◌, arith, append_assoc, length-append}
-use Rattle.test_bench.specs.Stimulus.{dins_at}
-use Rattle.test_bench.specs.Given.{rounds_of}
+use Rattle.stimulus.specs.Stimulus.{dins_at}
+use Rattle.stimulus.specs.Given.{rounds_of}
 use Rattle.test_bench.proofs.Filled.{dins_count, dins_more}
 use Rattle.test_bench.proofs.block.push_pixels.Goals as goal
 

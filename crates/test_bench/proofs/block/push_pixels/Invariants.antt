@@ -1,7 +1,7 @@
 use Rattle.std.proofs.Common.{◌≡◌, ◌++◌}
 use Rattle.std.specs.Prelude.{vec_capacity}
-use Rattle.test_bench.specs.Stimulus.{dins_at}
-use Rattle.test_bench.specs.Given.{rounds_of}
+use Rattle.stimulus.specs.Stimulus.{dins_at}
+use Rattle.stimulus.specs.Given.{rounds_of}
 use Rattle.test_bench.proofs.block.push_pixels.Given as goal
 
 abbrev pub invariant-loop-input : goal.invariant-loop-input

@@ -3,10 +3,10 @@ use Rattle.std.specs.List.{flat_map, range_with_len}
 use Rattle.std.proofs.lemmas.Result.{err_from_is_err_and}
 use Rattle.wiring.specs.Snapshot.{Fit}
 use Rattle.cycle_sim.specs.Ports.{din_widths}
-use Rattle.test_bench.specs.Stimulus.{reset_clock, clocks_at}
-use Rattle.test_bench.specs.Given.{rounds_of}
+use Rattle.stimulus.specs.Stimulus.{reset_clock, clocks_at}
+use Rattle.stimulus.specs.Given.{rounds_of}
 use Rattle.test_bench.specs.Clocking.{Clocked, StopsIn}
-use Rattle.test_bench.proofs.Stimuli.{fit_zeros}
+use Rattle.stimulus.proofs.Stimuli.{fit_zeros}
 use Rattle.test_bench.proofs.Runs.{clocked_join, stops_later}
 use Rattle.test_bench.proofs.clocking.all_clocks.Goals as goal
 

@@ -4,8 +4,8 @@ use Rattle.std.specs.List.{flat_map, range_with_len}
 use Rattle.std.proofs.lemmas.Result.{err_from_is_err_and}
 use Rattle.cycle_sim.specs.Ports.{din_widths}
 use Rattle.test_bench.specs.declared.block.TheConstants.{BLOCK_PIXELS}
-use Rattle.test_bench.specs.Stimulus.{clocks_at}
-use Rattle.test_bench.specs.Given.{rounds_of}
+use Rattle.stimulus.specs.Stimulus.{clocks_at}
+use Rattle.stimulus.specs.Given.{rounds_of}
 use Rattle.test_bench.specs.Clocking.{Clocked, StopsIn}
 use Rattle.test_bench.proofs.Joined.{clocked_on, stops_on, stops_all, parts_of}
 use Rattle.test_bench.proofs.clocking.all_pixel_clocks.Goals as goal

@@ -2,8 +2,8 @@ use Rattle.std.proofs.Common.{◌≡◌, ◌+◌, ◌*◌, ◌≤◌}
 use Rattle.std.specs.List.{flat_map, range_with_len}
 use Rattle.cycle_sim.specs.Ports.{din_widths}
 use Rattle.test_bench.specs.declared.block.TheConstants.{BLOCK_PIXELS}
-use Rattle.test_bench.specs.Stimulus.{clocks_at}
-use Rattle.test_bench.specs.Given.{rounds_of}
+use Rattle.stimulus.specs.Stimulus.{clocks_at}
+use Rattle.stimulus.specs.Given.{rounds_of}
 use Rattle.test_bench.specs.Clocking.{Clocked}
 use Rattle.test_bench.proofs.clocking.whole_blocks.Given as goal
 

@@ -1,7 +1,7 @@
 use Rattle.std.proofs.Common.{rules, refl, ◌∙◌, subst, arith, None}
 use Rattle.cycle_sim.specs.Ports.{din_widths}
-use Rattle.test_bench.specs.Stimulus.{clocks_at}
-use Rattle.test_bench.specs.Given.{rounds_of}
+use Rattle.stimulus.specs.Stimulus.{clocks_at}
+use Rattle.stimulus.specs.Given.{rounds_of}
 use Rattle.trace_bench.specs.Going.{Goes, EndsIn}
 use Rattle.trace_bench.proofs.Going.{goes_none}
 use Rattle.trace_bench.proofs.Pixels.{goes_more, ends_within}

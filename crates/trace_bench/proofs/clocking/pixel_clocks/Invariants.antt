@@ -2,8 +2,8 @@ use Rattle.std.proofs.Common.{◌≡◌, ◌+◌, None}
 use Rattle.std.specs.List.{flat_map, range_with_len}
 use Rattle.dk_desk.specs.declared.Stage.TheVariants.{Open}
 use Rattle.cycle_sim.specs.Ports.{din_widths}
-use Rattle.test_bench.specs.Stimulus.{clocks_at}
-use Rattle.test_bench.specs.Given.{rounds_of}
+use Rattle.stimulus.specs.Stimulus.{clocks_at}
+use Rattle.stimulus.specs.Given.{rounds_of}
 use Rattle.trace_bench.specs.Tracers.{IsTracing}
 use Rattle.trace_bench.specs.Going.{Goes}
 use Rattle.trace_bench.proofs.clocking.pixel_clocks.Given as goal

@@ -2,8 +2,8 @@ use Rattle.std.proofs.Common.{◌∙◌, ap, sym, subst, length, replicate}
 use Rattle.dk_desk.specs.Calls.{AddsToFile}
 use Rattle.wiring.specs.Snapshot.{Fit}
 use Rattle.cycle_sim.specs.Ports.{din_widths}
-use Rattle.test_bench.specs.Given.{rounds_of}
-use Rattle.test_bench.proofs.Stimuli.{fit_zeros}
+use Rattle.stimulus.specs.Given.{rounds_of}
+use Rattle.stimulus.proofs.Stimuli.{fit_zeros}
 use Rattle.trace_bench.specs.declared.ending.TraceEnd.TheVariants.{Write}
 use Rattle.trace_bench.proofs.Traced.{reset_ends, pixels_end, traced, last_fails, failed_only, ends_only, traced_only}
 use Rattle.trace_bench.proofs.tracing.run_trace.Goals as goal

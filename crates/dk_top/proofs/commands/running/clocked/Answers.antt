@@ -1,9 +1,9 @@
 use Rattle.std.proofs.Common.{◌≡◌, ℕ, length, ap, ◌∙◌, subst}
 use Rattle.dk_base.specs.FrameSizes.{size_of}
 use Rattle.buffer_plan.specs.Plans.{latency}
-use Rattle.test_bench.specs.declared.stop.BenchFault.{BenchFault}
-use Rattle.test_bench.specs.Given.{rounds_of}
-use Rattle.test_bench.specs.Stops.{IsBenchEnd}
+use Rattle.stimulus.specs.declared.stop.BenchFault.{BenchFault}
+use Rattle.stimulus.specs.Given.{rounds_of}
+use Rattle.stimulus.specs.Stops.{IsBenchEnd}
 use Rattle.dk_top.specs.Compiling.{frame_drive}
 use Rattle.dk_top.proofs.ClockedLemmas.{bench_of, never_of, shown_of, noted_of}
 use Rattle.dk_top.proofs.commands.running.clocked.Goals as goal

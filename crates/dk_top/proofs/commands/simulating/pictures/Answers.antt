@@ -2,9 +2,9 @@ use Rattle.std.proofs.Common.{subst, List, ℕ, Bool, ◌++◌, option_map}
 use Rattle.dk_base.specs.FrameSizes.{size_of}
 use Rattle.dk_desk.specs.Calls.{IsIfTold}
 use Rattle.pgm_rounds.specs.declared.round.Round.{Round}
-use Rattle.test_bench.specs.Given.{rounds_of}
-use Rattle.test_bench.specs.Showing.{IsShown, IsNoted as AreNotes}
-use Rattle.test_bench.specs.Stops.{IsBenchEnd}
+use Rattle.stimulus.specs.Given.{rounds_of}
+use Rattle.stimulus.specs.Showing.{IsShown, IsNoted as AreNotes}
+use Rattle.stimulus.specs.Stops.{IsBenchEnd}
 use Rattle.dk_top.proofs.SimReads.{shown_of, one_shown, notes_of_run, stopped_of}
 use Rattle.dk_top.proofs.commands.simulating.pictures.Goals as goal
 

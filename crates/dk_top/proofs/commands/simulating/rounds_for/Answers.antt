@@ -1,8 +1,8 @@
 use Rattle.std.proofs.Common.{◌<◌, List, ℕ, length, subst}
 use Rattle.dk_base.specs.FrameSizes.{size_of}
 use Rattle.cycle_sim.specs.Ports.{din_widths}
-use Rattle.test_bench.specs.Inputs.{FitsBench, IsBenchError}
-use Rattle.test_bench.specs.Given.{AreBenchFrames}
+use Rattle.stimulus.specs.Inputs.{FitsBench, IsBenchError}
+use Rattle.stimulus.specs.Given.{AreBenchFrames}
 use Rattle.dk_top.proofs.commands.simulating.rounds_for.Goals as goal
 
 pub returns-in-Ok-clause-input : goal.returns-in-Ok-clause-input

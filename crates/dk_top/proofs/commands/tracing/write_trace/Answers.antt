@@ -1,7 +1,7 @@
 use Rattle.std.proofs.Common.{List, subst}
 use Rattle.dk_base.specs.FrameSizes.{size_of}
 use Rattle.pgm_rounds.specs.declared.round.Round.{Round}
-use Rattle.test_bench.specs.Given.{rounds_of}
+use Rattle.stimulus.specs.Given.{rounds_of}
 use Rattle.trace_bench.specs.Traces.{TracesRun, EndsTrace}
 use Rattle.dk_top.proofs.TraceLemmas.{can_be_traced, trace_stops, held_run, held_stop, held_cut}
 use Rattle.dk_top.proofs.commands.tracing.write_trace.Goals as goal

@@ -1,7 +1,7 @@
 use Rattle.std.proofs.Common.{◌≡◌, ap, subst, sym, IfSome}
 use Rattle.dk_base.specs.FrameSizes.{size_of}
 use Rattle.dk_desk.specs.Outside.{Outside, Input}
-use Rattle.test_bench.specs.declared.drive.Drive.{Drive}
+use Rattle.stimulus.specs.declared.drive.Drive.{Drive}
 use Rattle.dk_endings.specs.declared.ending.Ending.TheVariants as ending
 use Rattle.dk_top.specs.Simulation.{drive_of}
 use Rattle.dk_top.specs.Verdict.{IsSimAnswer, bytes_of}

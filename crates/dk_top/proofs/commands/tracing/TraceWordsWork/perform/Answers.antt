@@ -3,7 +3,7 @@ use Rattle.dk_base.specs.FrameSizes.{size_of}
 use Rattle.dk_desk.specs.declared.Stage.TheVariants.{Unasked}
 use Rattle.dk_desk.specs.Outside.{Input, Outside}
 use Rattle.dk_desk.specs.Calls.{IsIfTold}
-use Rattle.test_bench.specs.declared.drive.Drive.{Drive}
+use Rattle.stimulus.specs.declared.drive.Drive.{Drive}
 use Rattle.dk_top.specs.Tracing.{trace_drive, IsTraceAnswer}
 use Rattle.dk_top.proofs.SimReads.{for_trace, of_input}
 use Rattle.dk_top.proofs.TraceLemmas.{held_trace, stay_others, unread_begun, driven_begun}

@@ -1,0 +1,7 @@
+pub mod Runs
+pub mod Inputs
+pub mod Streams
+pub mod Stimuli
+pub mod Ranges
+pub mod Benches
+pub mod Takings

@@ -1,0 +1,5 @@
+pub mod Stimulus
+pub mod Given
+pub mod Showing
+pub mod Stops
+pub mod Inputs
