@@ -10,7 +10,7 @@ trap 'rm -rf "$work"' EXIT
 cd "$work" || exit 2
 . "$top/tools/explain.sh"
 failed=0
-usage='usage: run [--age K] PROG IN OUT | compile [--enable] [--age K] PROG OUT | plan [--age K] PROG | sim VERILOG CLOCKS IN OUT [--fill FILL] [--hold K] | eval PROG IN OUT | make N | check PROG REPORT | trace VERILOG CLOCKS IN VCD'
+usage='usage: run [--age K] PROG IN OUT | compile [--enable] [--age K] [--block N] PROG OUT | plan [--age K] PROG | sim VERILOG CLOCKS IN OUT [--fill FILL] [--hold K] | eval PROG IN OUT | make N | check PROG REPORT | trace VERILOG CLOCKS IN VCD'
 
 wrong_case() {
     printf 'explain: %s\n' "$1" >&2
@@ -316,6 +316,11 @@ end
 for value in 65 '' - 1x +1 18446744073709551617; do
     usage_fault plan "--age=$value" copy.dk <<end
 The value of --age is a number from 0 to 64, but is \`$value\`.
+end
+done
+for value in 1 '' 67108865 2.; do
+    usage_fault compile copy.dk o.v --block "$value" <<end
+The value of --block is a number from 2 to 67,108,864, but is \`$value\`.
 end
 done
 for value in 0 000 1000001; do

@@ -14,7 +14,7 @@ cp "$examples"/sim/*.v . || exit 2
 ulimit -S -s 4096 || exit 2
 cases=0
 failed=0
-usage='usage: run [--age K] PROG IN OUT | compile [--enable] [--age K] PROG OUT | plan [--age K] PROG | sim VERILOG CLOCKS IN OUT [--fill FILL] [--hold K] | eval PROG IN OUT | make N | check PROG REPORT | trace VERILOG CLOCKS IN VCD'
+usage='usage: run [--age K] PROG IN OUT | compile [--enable] [--age K] [--block N] PROG OUT | plan [--age K] PROG | sim VERILOG CLOCKS IN OUT [--fill FILL] [--hold K] | eval PROG IN OUT | make N | check PROG REPORT | trace VERILOG CLOCKS IN VCD'
 
 wrong() {
     echo "quick: $*" >&2
@@ -76,6 +76,15 @@ while IFS='|' read -r name text input wanted <&3; do
     for command in eval run; do
         ends 0 '' "$command" text.dk input.pgm out.pgm
         holds wanted.pgm "$name"
+    done
+    # its compiled text shows the same from ones, with a held clock before each counted one
+    rounds=$(($(grep -a -o P5 input.pgm | wc -l) / $(grep -o 'input ' text.dk | wc -l)))
+    pixels=$(($(sed -n '1s/^.*size \([0-9]*\) \([0-9]*\).*$/\1 * \2/p' text.dk)))
+    for age in 0 1; do
+        ends 0 '' compile --enable --age $age text.dk text.v
+        clocks=$(($("$program" plan --age $age text.dk | sed -n 's/^clocks //p') + (rounds - 1) * pixels))
+        ends 0 '' sim text.v $clocks input.pgm out.pgm --fill ones --hold 1
+        holds wanted.pgm "$name, compiled at age $age"
     done
 done 3<"$tests/calls/pictures.txt"
 
@@ -511,6 +520,25 @@ while read -r name input <&3; do
         holds "$name.pgm" 'compile'
     done
 done 3<"$examples/programs/pictures.txt"
+# The same picture with arrays that are read one clock ahead, of each example, with `en` and without it, at the ages 0 and 1.
+while read -r name input <&3; do
+    rounds=$(($(wc -c <"$input.pgm") / 3073 / $(grep -c '^input' "$name.dk")))
+    for age in 0 1; do
+        clocks=$(($("$program" plan --age $age "$name.dk" | sed -n 's/^clocks //p') + (rounds - 1) * 3072))
+        for block in 2 0032; do
+            ends 0 '' compile --age $age --block $block "$name.dk" text.v
+            ends 0 '' sim text.v "$clocks" "$input.pgm" out.pgm --fill ones
+            holds "$name.pgm" "compile --age $age --block $block"
+            ends 0 '' compile --enable --age $age --block $block "$name.dk" text.v
+            ends 0 '' sim text.v "$clocks" "$input.pgm" out.pgm --fill ones --hold 3
+            holds "$name.pgm" "compile --enable --age $age --block $block"
+        done
+    done
+done 3<"$examples/programs/pictures.txt"
+# Without an array of so many words the text is that without the option.
+ends 0 '' compile mean3.dk text.v
+ends 0 '' compile --block 2 mean3.dk out.pgm
+is 'compile --block changed a text without long arrays' cmp -s text.v out.pgm
 cp mean3.dk text.dk
 ends 2 "$usage" compile mean3.dk
 ends 2 "$usage" compile mean3.dk mean3.dk
@@ -518,6 +546,9 @@ ends 2 "$usage" compile mean3.dk text.v --age 65
 ends 2 "$usage" compile mean3.dk text.v --enable=true
 ends 2 "$usage" compile mean3.dk text.v --enable --enable
 ends 2 "$usage" compile --hold 1 mean3.dk text.v
+ends 2 "$usage" compile --block 1 mean3.dk text.v
+ends 2 "$usage" compile --block 67108865 mean3.dk text.v
+ends 2 "$usage" run --block 2 mean3.dk mean3.pgm out.pgm
 rm -f text.v
 ends 3 'program 0-1: BadByte' compile byte.dk text.v
 ends 7 'cannot read' compile missing.dk text.v
@@ -535,6 +566,30 @@ is 'an image was changed under another name' cmp -s same.pgm mean3.pgm
 is 'a program was changed under another name' cmp -s mean3.dk text.dk
 ends 8 'cannot write' compile mean3.dk /dev/full
 ends 8 'cannot write' compile mean3.dk missing/text.v
+
+# Each line of calls/circuits.txt is a program, an age, the delay of each kept image, the buffer bits, and the words and bits of a word of each array.
+# The plan has these delays and bits, and the text of `compile` these arrays.
+while IFS='|' read -r text age wanted <&3; do
+    printf '%s\n' "$text" >text.dk
+    ends 0 '' compile --age "$age" text.dk text.v
+    "$program" plan --age "$age" text.dk >plan.txt 2>stderr
+    found=$(awk '/^image/ { line = line $4 " " } /^bits/ { bits = $2 } END { sub(/ $/, "", line); print line "|" bits "|" }' plan.txt)
+    found=$found$(awk '/^  reg .*m[0-9]+ / { gsub(/[^0-9]+/, " "); print $NF + 1 "x" (NF > 3 ? $1 + 1 : 1) }' text.v | tr '\n' ' ' | sed 's/ $//')
+    is "$text at age $age: $found, expected $wanted" [ "$found" = "$wanted" ]
+done 3<"$tests/calls/circuits.txt"
+# at the limits on bits and latency, and above them: four images of 64 bits, each read where it is and 64 rows above, and with them an image of one bit
+# that is read one column to the left; and 256 images of which each reads the one before it 64 rows below
+wide=$(printf 'size 4096 4096 input a:u8 let p=im(x,y) a(x,y) as u64 end let q=im(x,y) p(x,y)|p(x,y-64) end let r=im(x,y) q(x,y)|q(x,y-64) end
+let s=im(x,y) r(x,y)|r(x,y-64) end let t=im(x,y) (s(x,y)|s(x,y-64)) as u8 end')
+echo "$wide output t" >text.dk
+is 'the bits at the limit' [ "$("$program" plan text.dk | grep '^bits\|^latency' | tr '\n' ' ')" = 'latency 0 bits 67108864 ' ]
+echo "$wide let b=im(x,y) a(x,y)==0 end let c=im(x,y) b(x,y)|b(x-1,y) end output t output c" >text.dk
+ends 3 'program: Bits 67108865' plan text.dk
+late=$(awk 'BEGIN { for (k = 0; k < 255; k++) printf "let i%d=im(x,y) i%d(x,y+64) end ", k + 1, k }')
+echo "size 4096 4096 input i0:u8 $late let last=im(x,y) i255(x,y+64) end output last" >text.dk
+is 'the latency at the limit' [ "$("$program" plan text.dk | grep '^bits\|^latency' | tr '\n' ' ')" = 'latency 67108864 bits 0 ' ]
+echo "size 4096 4096 input i0:u8 $late let last=im(x,y) i255(x+1,y+64) end output last" >text.dk
+ends 3 'program: Latency 67108865' plan text.dk
 
 # Reports: each line of plans.txt is a program of reports/ with an age, and its image lines, latencies, bits and reads. The flow may be any, and the report holds.
 while IFS='|' read -r name age bits latency lines <&3; do

@@ -1,6 +1,7 @@
 #!/bin/sh
 # Clocks the text of reports/square.dk, a sum of squares and of the picture two rows below, under Icarus Verilog: from zeros, from ones and from random contents,
-# with a second reset clock after each of the clocks 0 to 19 and with none, as it is, with `--age 1`, and with `--enable` and clocks that are held at random.
+# with a second reset clock after each of the clocks 0 to 19 and with none, as it is, with `--age 1`, and with `--enable` and clocks that are held at random,
+# and each of these with `--block 2`.
 # The next 12 valid pixels must be the picture's, which was worked out by hand. It says nothing where they are.
 # usage: tests/resets.sh PROGRAM
 program=$(cd "$(dirname "$1")" && pwd)/$(basename "$1")
@@ -16,11 +17,12 @@ cd "$work" || exit 2
 failed=0
 printf 'P5\n4 3\n255\n\001\002\003\004\005\006\007\010\011\012\013\014' >in.pgm
 printf 'P5\n4 3\n65535\n\0\012\0\016\0\024\0\034\0\031\0\044\0\061\0\100\0\121\0\144\0\171\0\220' >wanted.pgm
-for option in '' '--age 1' --enable '--enable --age 1'; do
+for option in '' '--age 1' --enable '--enable --age 1' '--block 2' '--block 2 --age 1' '--block 2 --enable' '--block 2 --enable --age 1'; do
     # shellcheck disable=SC2086
     "$program" compile "$tests/reports/square.dk" dk.v $option || exit 2
+    age=$(echo "$option" | sed 's/--enable//; s/--block 2//')
     # shellcheck disable=SC2086
-    clocks=$("$program" plan "$tests/reports/square.dk" ${option#--enable} | sed -n 's/^clocks //p')
+    clocks=$("$program" plan "$tests/reports/square.dk" $age | sed -n 's/^clocks //p')
     for contents in zeros ones random; do
         python3 "$tests/bench.py" write dk.v in.pgm "$clocks" 7 --$contents && iverilog -g2005 -o bench.vvp dk.v bench.v || exit 2
         early=0

@@ -1,11 +1,13 @@
 #!/bin/sh
 # Shows the texts that `compile` writes to the tools of the field, as far as they are installed, and says which it passed over:
-# of all examples and of the programs of `make` from 0 to COUNT, as they are, with `--enable`, with `--age 1` and with both.
+# of all examples and of the programs of `make` from 0 to COUNT, as they are, with `--enable`, with `--age 1` and with both, and with `--block 2`, without and with `--enable`.
 # - Icarus Verilog (-g2005 -Wall) and Verilator (--lint-only -Wall) may warn of nothing but the forms that "warnings" below names.
 # - From random contents at power-up, both simulators must show the picture that `run` writes; with `--enable`, with clocks that are held at random.
 # - Yosys must find each array as one memory, with as many memory bits in all as `plan` says, and must synthesize the text.
+#   With `--block 32` it must make at least one block memory of each array of 512 words and more, in each of five families (tools/memories.py).
 # - trace.py must write the trace that `trace` writes.
-# It says nothing else where all is as it should be. It takes about 20 minutes, most of them in Verilator's builds; COUNT 0 takes 5 to 10.
+# - The design of examples/design must show the pictures of `eval`.
+# It says nothing else where all is as it should be. It takes about 30 minutes, most of them in Verilator's builds; COUNT 0 takes 10 to 15.
 # usage: tests/tools.sh PROGRAM [COUNT]
 program=$(cd "$(dirname "$1")" && pwd)/$(basename "$1")
 tests=$(cd "$(dirname "$0")" && pwd)
@@ -90,17 +92,17 @@ memories() {
 # tried PROGRAM INPUT SEED: all of it but Verilator's build
 tried() {
     input=$2
-    for option in '' '--enable' '--age 1' '--enable --age 1'; do
+    for option in '' '--enable' '--age 1' '--enable --age 1' '--block 2' '--enable --block 2'; do
         # shellcheck disable=SC2086
         "$program" compile "$1" dk.v $option || wrong "compile $1 $option"
         lints "$1 $option"
-        age=${option#--enable}
+        age=$(echo "$option" | sed 's/--enable//; s/--block 2//')
         # shellcheck disable=SC2086
         clocks=$("$program" plan "$1" $age | sed -n 's/^clocks //p')
         # shellcheck disable=SC2086
         "$program" run "$1" "$2" wanted.pgm $age || wrong "run $1 $age"
         ! has iverilog || icarus "$3" "$1 $option"
-        [ -n "$option" ] || ! has yosys || memories "$1"
+        case $option in '' | '--block 2') ! has yosys || memories "$1" ;; esac
     done
 }
 
@@ -126,6 +128,7 @@ while read -r name source <&3; do
     tried "$name.dk" "$source.pgm" 1
     built "$name.dk" "$source.pgm" 2
     built "$name.dk" "$source.pgm" 3 --enable
+    built "$name.dk" "$source.pgm" 4 --enable --block 2
     synthesized "$name.dk"
     "$program" compile "$name.dk" dk.v
     "$program" trace dk.v 200 "$source.pgm" out.vcd
@@ -145,4 +148,10 @@ while [ "$number" -le "$count" ]; do
     [ $((number % 20)) != 19 ] || synthesized made.dk
     number=$((number + 1))
 done
+# two modules in one design, with `dk compile` as a step of make
+if has verilator; then
+    mkdir -p examples && cp -r "$examples/design" examples || exit 2
+    make -s -C examples/design DK="$program" PROGRAMS="$examples/programs" test >said.txt 2>&1 || wrong "examples/design: $(tail -n 3 said.txt)"
+fi
+! has yosys || python3 "$tests/../tools/memories.py" --check "$program" || failed=1
 exit $failed

@@ -1,7 +1,7 @@
 #!/bin/sh
 # Unknown values: each example under Icarus Verilog, whose registers and arrays are x at power-up, at ages 0, 1 and 3, without and with `--enable`
-# (then with held clocks at random). No dout may be x in a clock in which it is valid, no valid may be x, and the picture must be the one that `run` writes.
-# It says nothing else where all is as it should be. It takes one to two minutes.
+# (then with held clocks at random), and with `--block 2` at ages 0 and 1. No dout may be x in a clock in which it is valid, no valid may be x, and the picture must be the one that `run` writes.
+# It says nothing else where all is as it should be. It takes two to four minutes.
 # usage: tests/unknown.sh PROGRAM
 program=$(cd "$(dirname "$1")" && pwd)/$(basename "$1")
 tests=$(cd "$(dirname "$0")" && pwd)
@@ -23,7 +23,7 @@ wrong() {
 shown() {
     name=$1 input=$2
     shift 2
-    aged=$(echo "$*" | sed 's/--enable//')
+    aged=$(echo "$*" | sed 's/--enable//; s/--block 2//')
     "$program" compile "$@" "$name.dk" dk.v || wrong "compile $* $name"
     # shellcheck disable=SC2086
     clocks=$("$program" plan $aged "$name.dk" | sed -n 's/^clocks //p')
@@ -45,6 +45,10 @@ while read -r name source <&3; do
     for age in 0 1 3; do
         shown "$name" "$source.pgm" --age $age
         shown "$name" "$source.pgm" --enable --age $age
+    done
+    for age in 0 1; do
+        shown "$name" "$source.pgm" --block 2 --age $age
+        shown "$name" "$source.pgm" --enable --block 2 --age $age
     done
 done 3<"$examples/programs/pictures.txt"
 [ "$tried" -gt 0 ] || wrong 'no text was tried'

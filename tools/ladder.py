@@ -41,7 +41,7 @@ CHAPTERS = [
             ["IsRunAnswer", "CreatesRun", "HoldsAtWrite", "LeavesAtFault", "LeavesAtRead", "IsFaultAt", "IsImageFault"]),
     Chapter("modules", "What makes a module well formed, and its inside",
             "The rules that the nets, registers and arrays of a module keep, and which nets and arrays of a compiled module hold which images.",
-            ["IsWhole", "AreNetsOf", "IsApart", "IsReadOnce", "shapes_of", "KeepsRules"]),
+            ["IsWhole", "AreNetsOf", "IsApart", "IsReadOnce", "IsReadAndPut", "CopyLongArrays", "ReadsDirectly", "HasBits", "form_with", "shapes_of", "KeepsRules"]),
     Chapter("program-form", "The form of a program, its live reads and its limits",
             "How inline images are substituted, which images are kept, which live reads they make, and within which limits a program is accepted.",
             ["dk_compile.Sources.IsAccepted", "AreStencilsOf", "IsForm", "IsFront"]),

@@ -14,7 +14,7 @@ read_words() {
     shift
     while [ $# -gt 0 ] && [ "$1" != -- ]; do
         case $1 in
-        --age | --fill | --hold)
+        --age | --block | --fill | --hold)
             take_next_value "$@"
             [ $# -lt 2 ] || shift
             ;;
@@ -38,7 +38,7 @@ find_command() {
     options=
     case $command in
     run) names='PROG IN OUT' options='--age' ;;
-    compile) names='PROG OUT' options='--enable --age' ;;
+    compile) names='PROG OUT' options='--enable --age --block' ;;
     plan) names='PROG' options='--age' ;;
     sim) names='VERILOG CLOCKS IN OUT' options='--fill --hold' ;;
     eval) names='PROG IN OUT' ;;
@@ -81,6 +81,7 @@ take_option() {
     given="$given $1"
     case $1 in
     --age) is_within "$2" 0 64 || note_wrong "The value of --age is a number from 0 to 64, but is $(quoted "$2")." ;;
+    --block) is_within "$2" 2 67108864 || note_wrong "The value of --block is a number from 2 to 67,108,864, but is $(quoted "$2")." ;;
     --hold) is_within "$2" 1 1000000 || note_wrong "The value of --hold is a number from 1 to 1,000,000, but is $(quoted "$2")." ;;
     --fill) [ "$2" = zeros ] || [ "$2" = ones ] || note_wrong "The value of --fill is \`zeros\` or \`ones\`, but is $(quoted "$2")." ;;
     --enable) [ -z "${3-}" ] || note_wrong "--enable has no value." ;;
@@ -150,6 +151,7 @@ usage: ./dk COMMAND [OPTION..] WORD..
 
   --age K      compile, run, plan: reads are at least K clocks old, 0 to 64
   --enable     compile: the module has a clock enable, the port en
+  --block N    compile: arrays of N words or more fit block RAM, 2 to 67,108,864
   --fill FILL  sim: registers and memories start as zeros (default) or ones
   --hold K     sim: a held clock after every K clocks, 1 to 1,000,000
   --           ends the options; a later word may begin with a hyphen

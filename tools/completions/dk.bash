@@ -20,7 +20,7 @@ _dk() {
     fi
     case $command in
     run) words=(.dk .pgm any) options='--age' ;;
-    compile) words=(.dk any) options='--enable --age' ;;
+    compile) words=(.dk any) options='--enable --age --block' ;;
     plan) words=(.dk) options='--age' ;;
     sim) words=(.v number .pgm any) options='--fill --hold' ;;
     eval) words=(.dk .pgm any) ;;
@@ -40,7 +40,7 @@ _dk() {
         else
             case $option in
             --) given=-- options= ;;
-            --age | --fill | --hold) value=$option options=${options/$option/} ;;
+            --age | --block | --fill | --hold) value=$option options=${options/$option/} ;;
             --enable) options=${options/$option/} ;;
             *) at=$((at + 1)) ;;
             esac

@@ -52,12 +52,13 @@ fn reads_options(rt: HostRuntime) -> Result<(), Fail> {
         age: 64,
     };
     assert_eq!(rt; read_command(alloc, &plan), Ok(Asked::Plan(given)));
-    let compile = words(alloc, "dk compile --age 3 p.dk --enable v.v")?;
+    let compile = words(alloc, "dk compile --age 3 p.dk --enable v.v --block 032")?;
     let given = CompileWords {
         program: "p.dk",
         out: "v.v",
         enable: true,
         age: 3,
+        block: Some(32),
     };
     assert_eq!(rt; read_command(alloc, &compile), Ok(Asked::Compile(given)));
     let trace = words(alloc, "dk trace v.v 4 i -- -o")?;

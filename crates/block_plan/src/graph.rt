@@ -113,6 +113,8 @@ pub(crate) enum Access {
     Small,
     // The same, and what is put is what is read, or else a value chosen by a bit, at the index of the read.
     Held,
+    // A block comes back to its words, and what is put is a value chosen by a bit, or else the register that takes what is read.
+    Copied,
 }
 
 // How many assigns read each array.
@@ -204,6 +206,66 @@ fn held_needs(
     }
 }
 
+// The bit by which a register takes what is read of an array, and that net; where the bit is 0 it keeps its value.
+fn loaded<'a>(
+    wiring: &'a Netlist,
+    drivers: &[Option<usize>],
+    update: &Update,
+) -> Option<(&'a Atom<Net>, &'a Atom<Net>)> {
+    let Update::Set(register, next) = update else {
+        return None;
+    };
+    match right_of(wiring, drivers, next) {
+        Some(Right::Choose(bit, read, kept)) if is_net(kept, Net::Reg(*register)) => {
+            match right_of(wiring, drivers, read) {
+                Some(Right::Word(_, _)) => Some((bit, read)),
+                _ => None,
+            }
+        }
+        _ => None,
+    }
+}
+
+// The update that sets the register of an atom.
+fn setting<'a>(
+    wiring: &'a Netlist,
+    drivers: &[Option<usize>],
+    a: &Atom<Net>,
+) -> Option<&'a Update> {
+    let node = driver_of(wiring, drivers, a)?;
+    let update = node.checked_sub(wiring.assigns.len())?;
+    wiring.updates.get(update)
+}
+
+// Whether an atom is a register that takes this net, which is read of an array, or keeps its value.
+fn is_copy(wiring: &Netlist, drivers: &[Option<usize>], a: &Atom<Net>, target: Net) -> bool {
+    match setting(wiring, drivers, a) {
+        Some(update) => match loaded(wiring, drivers, update) {
+            Some((_, read)) => is_net(read, target),
+            None => false,
+        },
+        None => false,
+    }
+}
+
+// What is put by a choice, or else the register that takes this net.
+fn copied_needs(
+    wiring: &Netlist,
+    drivers: &[Option<usize>],
+    value: &Atom<Net>,
+    target: Net,
+) -> Option<Needs> {
+    match right_of(wiring, drivers, value) {
+        Some(Right::Choose(bit, put, kept)) if is_copy(wiring, drivers, kept, target) => {
+            let mut needs = NONE;
+            needs.second = driver_of(wiring, drivers, bit);
+            needs.third = driver_of(wiring, drivers, put);
+            Some(needs)
+        }
+        _ => None,
+    }
+}
+
 // What the read of an array with few words needs beside its index: what is put, or what it is chosen from.
 fn small_needs(
     wiring: &Netlist,
@@ -218,6 +280,9 @@ fn small_needs(
             if let Some(held) = held_needs(wiring, drivers, value, target) {
                 return (held, Access::Held);
             }
+        }
+        if let Some(copied) = copied_needs(wiring, drivers, value, target) {
+            return (copied, Access::Copied);
         }
         needs.second = driver_of(wiring, drivers, place);
         needs.third = driver_of(wiring, drivers, value);
@@ -270,17 +335,22 @@ fn right_needs(wiring: &Netlist, drivers: &[Option<usize>], right: &Right<Net, u
 
 fn update_needs(wiring: &Netlist, drivers: &[Option<usize>], update: &Update) -> Needs {
     let mut needs = NONE;
-    if let Update::Set(_, value) = update {
+    if let Some((bit, read)) = loaded(wiring, drivers, update) {
+        needs.first = driver_of(wiring, drivers, bit);
+        needs.second = driver_of(wiring, drivers, read);
+    } else if let Update::Set(_, value) = update {
         needs.first = driver_of(wiring, drivers, value);
     }
     needs
 }
 
-// What each node needs, and how each assign that reads an array does so.
+// What each node needs, how each assign that reads an array does so, and which updates are of registers that take what is read
+// of an array or keep their value.
 #[derive(Drop)]
 pub(crate) struct Graph {
     pub(crate) needs: Vec<Needs>,
     pub(crate) accesses: Vec<Option<Access>>,
+    pub(crate) loads: Vec<bool>,
 }
 
 fn add_assign(
@@ -312,12 +382,16 @@ pub(crate) fn graph_of(alloc: Global, wiring: &Netlist, size: usize) -> Result<G
     let mut graph = Graph {
         needs: Vec::new(alloc),
         accesses: Vec::new(alloc),
+        loads: Vec::new(alloc),
     };
     for assign in &wiring.assigns {
         add_assign(&mut graph, wiring, &drivers, &puts, size, assign)?;
     }
     for update in &wiring.updates {
         graph.needs.push(update_needs(wiring, &drivers, update))?;
+        graph
+            .loads
+            .push(loaded(wiring, &drivers, update).is_some())?;
     }
     Ok(graph)
 }

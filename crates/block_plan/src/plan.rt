@@ -35,6 +35,16 @@ pub enum Step {
     Held {
         assign: usize,
     },
+    /// The register of this update takes what is read of an array where a bit is 1, and else keeps its value: its row is made from
+    /// those of the bit and of the read, and the choice is evaluated after this step.
+    Load {
+        update: usize,
+    },
+    /// As `Small`, where what is put is chosen: by a bit a value, or else the register that takes what this assign reads. The
+    /// indexes, the bit and the value are known, and the register's row and the choice are made after this step.
+    Copied {
+        assign: usize,
+    },
     /// The registers of the updates `looped[first..last]` are on a cycle: their rows are guessed, the assigns of the order up to
     /// `upto` are evaluated, and what was guessed is compared and mended.
     Guess {
@@ -96,6 +106,14 @@ fn add_assign(draft: &mut Draft, graph: &Graph, assign: usize) -> Result<(), All
         Some(Access::Long) => add_step(draft, Step::Read { assign }),
         Some(Access::Small) => add_step(draft, Step::Small { assign }),
         Some(Access::Held) => add_step(draft, Step::Held { assign }),
+        Some(Access::Copied) => add_step(draft, Step::Copied { assign }),
+    }
+}
+
+fn is_load(graph: &Graph, update: usize) -> bool {
+    match graph.loads.get(update) {
+        Some(load) => *load,
+        None => false,
     }
 }
 
@@ -118,6 +136,9 @@ fn add_single(
         return add_assign(draft, graph, node);
     }
     let update = node - assigns;
+    if is_load(graph, update) {
+        return add_step(draft, Step::Load { update });
+    }
     if sets_register(wiring, update) {
         return add_step(draft, Step::Shift { update });
     }

@@ -173,7 +173,8 @@ fn binary_row(
     ensures count { length to.new ≡ length to.old }
     ensures row { (t : ℕ) → t < length to.new
         → slice_index to.new t
-        ≡ operator_value op (atom_width (λ n. slice_index widths.now n) a.now) (atom_value (value_at (items_of rows.now) t) a.now) (atom_value (value_at (items_of rows.now) t) b.now) }
+        ≡ operator_value op (atom_width (λ n. slice_index widths.now n) a.now)
+        (atom_value (value_at (items_of rows.now) t) a.now) (atom_value (value_at (items_of rows.now) t) b.now) }
 {
     if let Atom::Constant(c) = b {
         return binary_number_row(widths, rows, &mut spares.first, op, a, c.value(), to);
@@ -256,7 +257,8 @@ fn chosen_row(
     ensures count { length to.new ≡ length to.old }
     ensures row { (t : ℕ) → t < length to.new
         → slice_index to.new t
-        ≡ (if atom_value (value_at (items_of rows.now) t) c.now == 1 then atom_value (value_at (items_of rows.now) t) a.now else atom_value (value_at (items_of rows.now) t) b.now) }
+        ≡ (if atom_value (value_at (items_of rows.now) t) c.now == 1 then atom_value (value_at (items_of rows.now) t) a.now
+        else atom_value (value_at (items_of rows.now) t) b.now) }
 {
     if let Atom::Constant(number) = a {
         return number_or_row(rows, spares, c, number.value(), b, to);
@@ -333,7 +335,8 @@ fn joined_row(
     ensures count { length to.new ≡ length to.old }
     ensures row { (t : ℕ) → t < length to.new
         → slice_index to.new t
-        ≡ atom_value (value_at (items_of rows.now) t) a.now * 2 ^ atom_width (λ n. slice_index widths.now n) b.now + atom_value (value_at (items_of rows.now) t) b.now }
+        ≡ atom_value (value_at (items_of rows.now) t) a.now
+        * 2 ^ atom_width (λ n. slice_index widths.now n) b.now + atom_value (value_at (items_of rows.now) t) b.now }
 {
     if let Atom::Constant(number) = a {
         return number_above_row(widths, rows, &mut spares.second, number.value(), b, to);

@@ -1,6 +1,6 @@
 -- One image more.
 use Rattle.std.proofs.Common.{◌≡◌, ℕ, zero, suc, ◌<◌, Bool, List, [], ◌∷◌, ◌++◌, length, map, take, get_or, Some, refl, sym, ap, subst, ◌∙◌, inr, arith}
-use Rattle.std.specs.Prelude.{pos, ◌≤ℤ◌, Contains, slice_get, slice_index_or}
+use Rattle.std.specs.Prelude.{pos, ◌≤ℤ◌, Contains, filter, slice_get, slice_index_or}
 use Rattle.std.specs.List.{All}
 use Rattle.std.proofs.lemmas.List.{length-map}
 use Rattle.std.proofs.lemmas.Option.{slice_get_within, slice_get-get_or, get_or_from_slice_get}
@@ -17,6 +17,7 @@ use Rattle.raster_delay.specs.Systems.{placed_reads}
 use Rattle.raster_delay.proofs.Places.{place_less}
 use Rattle.wiring.specs.declared.netlist.Net.{Net}
 use Rattle.wiring.specs.declared.netlist.Net.TheVariants.{Input}
+use Rattle.wiring.specs.declared.netlist.Shape.{Shape}
 use Rattle.wiring.specs.Netlist.{Netlist}
 use Rattle.net_build.specs.Includes.{Includes}
 use Rattle.net_build.specs.Draft.{IsDraft, AllUpdated}
@@ -32,15 +33,15 @@ use Rattle.buffer_plan.proofs.Aged.{placed_in}
 use Rattle.circuit.specs.Rounds.{type_at}
 use Rattle.circuit.specs.Taps.{Keeps, IsReading}
 use Rattle.circuit.specs.Reads.{reads_in}
-use Rattle.circuit.specs.Forms.{Shapes, Places, Property, IsBuffered, shapes_of, shapes_before}
+use Rattle.circuit.specs.Forms.{Form, IsBuffered, shapes_of, shapes_before}
 use Rattle.circuit.specs.Images.{IsImageNet, IsLine, AreBuilt, ports_of}
 use Rattle.circuit.proofs.Typing.{entry_or}
 use Rattle.circuit.proofs.BodyNets.{read_of, read_is_between}
 use Rattle.circuit.proofs.Building.{built_more, entry_kept, place_of_entry}
 
 -- The image i, at place k among the kept ones.
-module _ (b0 : Netlist) (p : Program) (plan : Plan) (shapes : Shapes) (places : Places) (property : Property) (k : ℕ) (nets : List Net) (taps : List (List Net)) (i : Image)
-    (is_plan : IsPlan plan) (stencils : AreStencilsOf p plan.system.stencils) (at : slice_get plan.system.stencils.images k ≡ Some i) (built : AreBuilt b0 p plan shapes places property k nets taps) where
+module _ (b0 : Netlist) (p : Program) (plan : Plan) (form : Form) (k : ℕ) (nets : List Net) (taps : List (List Net)) (i : Image)
+    (is_plan : IsPlan plan) (stencils : AreStencilsOf p plan.system.stencils) (at : slice_get plan.system.stencils.images k ≡ Some i) (built : AreBuilt b0 p plan form k nets taps) where
   abbrev images : List Image
   images = plan.system.stencils.images
 
@@ -53,10 +54,10 @@ module _ (b0 : Netlist) (p : Program) (plan : Plan) (shapes : Shapes) (places : 
   low : (h : ℕ) → h < i.number → Keeps plan h → place_in plan h < k
   low h less keeps = (let l = place_less images is_plan.system.stencils.images.ascending h i.number keeps kept less in omega (arith, l, here))
 
-  line_of : (h : ℕ) → h < i.number → Keeps plan h → IsLine b0 p plan shapes places property taps h (slice_index_or nets (place_in plan h) (Input 0))
+  line_of : (h : ℕ) → h < i.number → Keeps plan h → IsLine b0 p plan form built.copies taps h (slice_index_or nets (place_in plan h) (Input 0))
   line_of h less keeps =
       let none : Image = record { number = 0; width = 0 } in
-      subst (λ (j : ℕ). IsLine b0 p plan shapes places property taps j (slice_index_or nets (place_in plan h) (Input 0))) (at_place images h none keeps)
+      subst (λ (j : ℕ). IsLine b0 p plan form built.copies taps j (slice_index_or nets (place_in plan h) (Input 0))) (at_place images h none keeps)
       (built.line (place_in plan h) (slice_index_or images (place_in plan h) none) (low h less keeps) (slice_get-get_or images (place_in plan h) none keeps))
 
   reader : (r : LiveRead) → Contains (reads_in plan i.number) r → Keeps plan r.g × (r.g < i.number)
@@ -88,23 +89,25 @@ module _ (b0 : Netlist) (p : Program) (plan : Plan) (shapes : Shapes) (places : 
   next_kept = kept
 
   -- the arrays before its own
-  pub next_arrays : (b1 : Netlist) → AddsControl b1 b0 → b1.arrays ≡ shapes_before shapes plan i.number
-  next_arrays b1 adds = adds.arrays ∙ built.arrays ∙ ap (λ (n : ℕ). shapes_of shapes plan (take n images)) (sym here)
+  pub next_arrays : (b1 : Netlist) → AddsControl b1 b0 → b1.arrays ≡ shapes_before form.shapes plan i.number
+  next_arrays b1 adds = adds.arrays ∙ built.arrays ∙ ap (λ (n : ℕ). shapes_of form.shapes plan (take n images)) (sym here)
 
-  pub next_built : (b2 b1 : Netlist) (net : Net) (own : List Net) → AddsControl b1 b0 → IsImageNet b1 b0 p plan taps i.number net → IsBuffered b2 b1 plan i.number shapes places property net own → IsDraft b2 → AreBuilt b2 p plan shapes places property (suc k) (nets ++ net ∷ []) (taps ++ own ∷ [])
-  next_built b2 b1 net own adds image buffered draft = built_more b2 b1 b0 p plan shapes places property k nets taps i net own is_plan at low reader aged built adds image buffered draft
+  pub next_built : (b2 b1 : Netlist) (net : Net) (own : List Net) → AddsControl b1 b0 → IsImageNet b1 b0 p plan taps i.number net → IsBuffered b2 b1 plan i.number form net own → IsDraft b1 → IsDraft b2 → AreBuilt b2 p plan form (suc k) (nets ++ net ∷ []) (taps ++ own ∷ [])
+  next_built b2 b1 net own adds image buffered drafted draft = built_more b2 b1 b0 p plan form k nets taps i net own is_plan at low reader aged built adds image buffered drafted draft
 
 -- an image by its place
 pub image_at : (images xs : List Image) (k : ℕ) (d : Image) → xs ≡ images → k < length images → slice_get images k ≡ Some (slice_index_or xs k d)
 image_at images xs k d same lt = subst (λ (ys : List Image). slice_get images k ≡ Some (slice_index_or ys k d)) (sym same) (slice_get-get_or images k d lt)
 
 -- with only ports nothing is built
-pub built_none : (b : Netlist) (p : Program) (plan : Plan) (shapes : Shapes) (places : Places) (property : Property) (enable : Bool) → b ≡ ports_of p enable → AllUpdated b → StillBut b [] → NeverStops b → IsControlled b → AreBuilt b p plan shapes places property 0 [] []
-built_none b p plan shapes places property enable is updated still stops control = record {
+pub built_none : (b : Netlist) (p : Program) (plan : Plan) (form : Form) (enable : Bool) → b ≡ ports_of p enable → AllUpdated b → StillBut b [] [] → NeverStops b → IsControlled b [] → AreBuilt b p plan form 0 [] []
+built_none b p plan form enable is updated still stops control = record {
   ports = subst (λ (m : Netlist). Includes m (ports_of p m.enable)) (sym is) (Includes-refl (ports_of p enable));
   net_count = refl;
   tap_count = refl;
   arrays = ap (λ (m : Netlist). m.arrays) is;
+  copies = [];
+  copied = ap (λ (ss : List Shape). map (λ (s : Shape). s.width) (filter (λ (s : Shape). form.long s.depth) ss)) (sym (ap (λ (m : Netlist). m.arrays) is));
   updated = λ h state. inr (updated h state);
   still = still;
   stops = stops;

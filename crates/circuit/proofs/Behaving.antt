@@ -1,6 +1,8 @@
 -- What the module of a circuit does, once all its images are built.
 use Rattle.std.proofs.Common.{◌≡◌, ◌⊎◌, ℕ, suc, ◌+◌, ◌-◌, ◌*◌, ◌<◌, ◌≤◌, Bool, false, List, [], ◌∷◌, length, map, Some, refl, sym, ap, subst, ◌∙◌, inl, inr, arith, take, length-append}
-use Rattle.std.specs.Prelude.{IsTrue, slice_get, slice_index, slice_index_or}
+use Rattle.std.specs.Prelude.{IsTrue, Contains, slice_get, slice_index, slice_index_or, unwrap_or}
+use Rattle.std.specs.Option.{option_map}
+use Rattle.std.proofs.lemmas.List.Elements.{All-weaker, All-contains}
 use Rattle.std.proofs.lemmas.Bool.{cases_lt}
 use Rattle.std.proofs.lemmas.Option.{slice_get_within, slice_get-get_or}
 use Rattle.std.proofs.lemmas.List.{get_or-map, length-map, take_all}
@@ -13,21 +15,26 @@ use Rattle.wiring.specs.declared.right.Atom.TheVariants as atom
 use Rattle.wiring.specs.declared.right.Right.TheVariants.{Copy}
 use Rattle.wiring.specs.declared.netlist.Net.{Net}
 use Rattle.wiring.specs.declared.netlist.Net.TheVariants.{Input, Output}
+use Rattle.wiring.specs.declared.netlist.Shape.{Shape}
+use Rattle.wiring.specs.declared.netlist.Update.{Update}
+use Rattle.wiring.specs.declared.netlist.Update.TheVariants.{Set, Put}
+use Rattle.wiring.specs.declared.netlist.Holder.{Holder}
 use Rattle.wiring.specs.declared.netlist.Holder.TheVariants.{OfNet, OfArray}
-use Rattle.wiring.specs.Netlist.{Netlist, din_net, valid_net, dout_net}
-use Rattle.wiring.specs.BufferBits.{array_bits, IsBufferBits}
+use Rattle.wiring.specs.Netlist.{Netlist, din_net, valid_net, dout_net, depth as array_depth}
+use Rattle.wiring.specs.BufferBits.{array_bits, chosen_bits, atom_reads, IsBufferBits}
+use Rattle.wiring.specs.Rules.{UpdateIsSound}
 use Rattle.wiring.specs.Snapshot.{Contents, Snapshot, net_value}
 use Rattle.wiring.specs.Clock.{Clock, bit}
 use Rattle.wiring.specs.History.{was_reset, counted}
 use Rattle.net_build.specs.Includes.{Includes, InEach}
 use Rattle.net_build.specs.Draft.{IsNet, UpdatesDiffer, flat}
 use Rattle.net_build.specs.Runs.{IsClockOf, InEachRun, IsWhole, RunsOn}
-use Rattle.net_build.specs.Control.{IsMadeOf, AddsReads}
+use Rattle.net_build.specs.Control.{FedOnly, IsMadeOf, is_control, is_control_but, IsControl, IsControlBut, TakesControl, IsControlled, AddsReads}
 use Rattle.net_build.specs.Indices.{read_indices, put_indices}
 use Rattle.net_build.proofs.Parts.{Includes-refl}
 use Rattle.net_build.proofs.Runs.{clock_more}
 use Rattle.net_build.proofs.Grown.{net_more, width_more}
-use Rattle.net_build.proofs.Control.{made_more, made_wire, made_net}
+use Rattle.net_build.proofs.Control.{made_more, made_wider, made_wire, made_net, outputs_control}
 use Rattle.net_build.proofs.Reading.{outputs_read}
 use Rattle.net_build.proofs.Indexed.{reads_last, puts_last}
 use Rattle.net_build.proofs.Updating.{all_updated}
@@ -39,25 +46,37 @@ use Rattle.buffer_plan.specs.Plans.{Plan, IsPlan, place_in, ages_of, delay_of, w
 use Rattle.buffer_plan.proofs.Aged.{are_ages}
 use Rattle.line_buffer.specs.Streams.{BufferIsRight}
 use Rattle.line_buffer.specs.Places.{word_at}
+use Rattle.line_buffer.specs.Chains.{AreCopies}
 use Rattle.line_buffer.proofs.Ages.{age_within}
 use Rattle.circuit.specs.Rounds.{Rounds, AreRounds, Feeds, type_at, pixel_bits, pixel_count}
 use Rattle.circuit.specs.Taps.{Keeps, taps_at}
 use Rattle.line_buffer.specs.Fills.{HasRight, AreFilled}
-use Rattle.line_buffer.proofs.Filling.{fills_more}
-use Rattle.circuit.specs.Forms.{Shapes, Places, Property, shapes_of, first_array, end_array}
-use Rattle.circuit.specs.Images.{IsLine, AreBuilt, source_of}
+use Rattle.line_buffer.proofs.Filling.{fills_more, index_control_more}
+use Rattle.circuit.specs.Forms.{Shapes, Form, HasProperty, shapes_of, first_array, end_array}
+use Rattle.circuit.specs.Images.{IsLine, AreBuilt, words_in, reads_directly, source_of, direct_source}
 use Rattle.circuit.specs.Behaviour.{net_of, is_valid, ShowsPixels, Behaves, HasPorts}
-use Rattle.circuit.specs.Nets.{AreNetsOf, IsApart}
+use Rattle.circuit.specs.Nets.{AreNetsOf, IsApart, kept_source_of}
+use Rattle.circuit.specs.Modules.{CopyLongArrays, AddsCopies, HasBits, ReadsOnly, IsModuleOf}
 use Rattle.circuit.specs.Ends.{output_in, CanEnd, IsClosed}
 use Rattle.circuit.proofs.Streamed.{Line, Streams, AreImages}
 use Rattle.circuit.proofs.Horizons.{horizon}
 use Rattle.circuit.proofs.Feeding.{feeds_earlier, input_right, whole_nets}
 use Rattle.circuit.proofs.Bits.{shapes_bits}
-use Rattle.circuit.proofs.Building.{place_of_entry, built_lasts}
+use Rattle.circuit.proofs.Sourced.{source_kept, control_kept, own_kept, control_direct, but_direct, copies_last}
+use Rattle.circuit.proofs.Building.{place_of_entry, entry_kept, built_lasts}
 use Rattle.circuit.proofs.Typing.{entry_or, plan_width}
 use Rattle.circuit.proofs.Forming.{plan_depth, plan_wide}
-use Rattle.circuit.proofs.Netted.{shows_only, output_right, some_array, put_made, first_stores, later_stores}
+use Rattle.circuit.proofs.Netted.{shows_only, output_right, some_array, put_made, first_stores, later_stores, long_copied}
 use Rattle.circuit.proofs.Leaving.{flat_at}
+
+-- the buffer bits are those of the arrays and of the copies that a din reaches, where no other register is reached
+with_copies : (m : Netlist) (n : ℕ) (copies : List ℕ) → array_bits m.arrays ≡ n → FedOnly m copies → (k : ℕ) → IsBufferBits m k → AddsCopies m n copies k
+with_copies m n copies arrays fed k is = record {
+  fed = is.fed;
+  size = is.size;
+  each = λ r lt. (λ t. (fed r ((is.each r lt).0 t), (is.each r lt).0 t), λ both. (is.each r lt).1 both.1);
+  bits = is.bits ∙ ap (λ (a : ℕ). a + chosen_bits m.regs is.fed) arrays;
+}
 
 -- the arrays of an image that has this one among them
 record Owns (shapes : Shapes) (plan : Plan) (images : List Image) (x : ℕ) : Type 0 where
@@ -88,22 +107,22 @@ owner shapes plan (i ∷ images) x lt =
     ]
 
 -- what was built for a kept image
-line_at : (b : Netlist) (p : Program) (plan : Plan) (shapes : Shapes) (places : Places) (property : Property) (nets : List Net) (taps : List (List Net)) → AreBuilt b p plan shapes places property (length plan.system.stencils.images) nets taps →
-    (g : ℕ) → Keeps plan g → IsLine b p plan shapes places property taps g (net_of plan nets g)
-line_at b p plan shapes places property nets taps built g kept =
+line_at : (b : Netlist) (p : Program) (plan : Plan) (form : Form) (nets : List Net) (taps : List (List Net)) → (built : AreBuilt b p plan form (length plan.system.stencils.images) nets taps) →
+    (g : ℕ) → Keeps plan g → IsLine b p plan form built.copies taps g (net_of plan nets g)
+line_at b p plan form nets taps built g kept =
     let images = plan.system.stencils.images in
     let none : Image = record { number = 0; width = 0 } in
     let number : (slice_index_or images (place_in plan g) none).number ≡ g = at_place images g none kept in
-    subst (λ (j : ℕ). IsLine b p plan shapes places property taps j (net_of plan nets g)) number (built.line (place_in plan g) (slice_index_or images (place_in plan g) none) kept (slice_get-get_or images (place_in plan g) none kept))
+    subst (λ (j : ℕ). IsLine b p plan form built.copies taps j (net_of plan nets g)) number (built.line (place_in plan g) (slice_index_or images (place_in plan g) none) kept (slice_get-get_or images (place_in plan g) none kept))
 
 -- the images of outputs are kept
 output_kept : (plan : Plan) (k : ℕ) → IsPlan plan → k < length plan.system.stencils.outputs → Keeps plan (output_in plan k)
 output_kept plan k is lt = is.system.stencils.outputs.outputs_kept k 0 lt
 
 -- the outputs of what is built can be driven
-pub can_end : (b : Netlist) (p : Program) (plan : Plan) (shapes : Shapes) (places : Places) (property : Property) (nets : List Net) (taps : List (List Net)) → IsPlan plan → AreStencilsOf p plan.system.stencils →
-    AreBuilt b p plan shapes places property (length plan.system.stencils.images) nets taps → CanEnd b plan nets
-can_end b p plan shapes places property nets taps is stencils built = record {
+pub can_end : (b : Netlist) (p : Program) (plan : Plan) (form : Form) (nets : List Net) (taps : List (List Net)) → IsPlan plan → AreStencilsOf p plan.system.stencils →
+    AreBuilt b p plan form (length plan.system.stencils.images) nets taps → CanEnd b plan nets
+can_end b p plan form nets taps is stencils built = record {
   count = built.net_count;
   widths = map (λ (g : ℕ). bits_of_type (type_at p g)) p.outputs;
   outputs = built.ports.outputs;
@@ -113,34 +132,37 @@ can_end b p plan shapes places property nets taps is stencils built = record {
   updated = built.updated;
 }
   where
-    line_of : (k : ℕ) → k < length plan.system.stencils.outputs → IsLine b p plan shapes places property taps (output_in plan k) (net_of plan nets (output_in plan k))
-    line_of k lt = line_at b p plan shapes places property nets taps built (output_in plan k) (output_kept plan k is lt)
+    line_of : (k : ℕ) → k < length plan.system.stencils.outputs → IsLine b p plan form built.copies taps (output_in plan k) (net_of plan nets (output_in plan k))
+    line_of k lt = line_at b p plan form nets taps built (output_in plan k) (output_kept plan k is lt)
 
     width_at : (k : ℕ) → k < length plan.system.stencils.outputs → bits_of_type (type_at p (output_in plan k)) ≡ slice_index (map (λ (g : ℕ). bits_of_type (type_at p g)) p.outputs) k
     width_at k lt =
         let within : k < length p.outputs = omega (arith, lt, ap length stencils.outputs) in
         ap (λ (os : List ℕ). bits_of_type (type_at p (slice_index os k))) stencils.outputs ∙ sym (get_or-map (λ (g : ℕ). bits_of_type (type_at p g)) p.outputs k 0 0 within)
 
-module _ (m b : Netlist) (p : Program) (plan : Plan) (shapes : Shapes) (places : Places) (property : Property) (nets : List Net) (taps : List (List Net))
-    (is : IsPlan plan) (stencils : AreStencilsOf p plan.system.stencils) (built : AreBuilt b p plan shapes places property (length plan.system.stencils.images) nets taps) (closed : IsClosed m b plan nets) where
+module _ (m b : Netlist) (p : Program) (plan : Plan) (form : Form) (nets : List Net) (taps : List (List Net))
+    (is : IsPlan plan) (stencils : AreStencilsOf p plan.system.stencils) (built : AreBuilt b p plan form (length plan.system.stencils.images) nets taps) (closed : IsClosed m b plan nets) where
   abbrev images : List Image
   images = plan.system.stencils.images
 
   abbrev last : Netlist
   last = closed.last
 
-  all_built : AreBuilt last p plan shapes places property (length images) nets taps
-  all_built = built_lasts last b p plan shapes places property (length images) nets taps is (omega arith) closed.adds closed.draft built
+  all_built : AreBuilt last p plan form (length images) nets taps
+  all_built = built_lasts last b p plan form (length images) nets taps is (omega arith) closed.adds closed.draft built
 
   grows : Includes m last
   grows = closed.whole.includes
 
-  line : (g : ℕ) → Keeps plan g → IsLine last p plan shapes places property taps g (net_of plan nets g)
-  line g kept = line_at last p plan shapes places property nets taps all_built g kept
+  abbrev copies : List ℕ
+  copies = all_built.copies
+
+  line : (g : ℕ) → Keeps plan g → IsLine last p plan form copies taps g (net_of plan nets g)
+  line g kept = line_at last p plan form nets taps all_built g kept
 
   -- the images as streams
   abbrev lines : ℕ → Line
-  lines g = record { net = net_of plan nets g; ages = ages_of plan g; taps = taps_at plan taps g; place = places plan g }
+  lines g = record { net = net_of plan nets g; ages = ages_of plan g; taps = taps_at plan taps g; place = form.places plan g }
 
   abbrev streams : Rounds → Streams
   streams rounds = record { pixel = pixel_bits p rounds; count = pixel_count p rounds; delay = delay_of plan }
@@ -186,7 +208,7 @@ module _ (m b : Netlist) (p : Program) (plan : Plan) (shapes : Shapes) (places :
   input_delay g low = ap (λ (k : ℕ). slice_index plan.delays k) (input_place g low) ∙ is.causal.inputs_at_once g (input_low g low)
 
   -- all that the induction over clocks and images asks for
-  parts : (n : Netlist) (from : Contents) (rounds : Rounds) → AreRounds p rounds → AreImages last n from (streams rounds) lines (Keeps plan) IsInput (Feeds n p rounds)
+  parts : (n : Netlist) (from : Contents) (rounds : Rounds) → AreRounds p rounds → AreImages last n copies from (streams rounds) lines (Keeps plan) IsInput (Feeds n p rounds)
   parts n from rounds are = record {
     buffer = λ g kept. (line g kept).buffer;
     within = λ g k age kept at. age_within (ages_of plan g) (are_ages plan g).ascending k age at;
@@ -198,13 +220,13 @@ module _ (m b : Netlist) (p : Program) (plan : Plan) (shapes : Shapes) (places :
   }
 
   shown : (g : ℕ) → Keeps plan g → ShowsPixels m p (delay_of plan g) g (net_of plan nets g)
-  shown g kept n from before c s run rounds are feeds = whole_nets m last n grows from (streams rounds) lines (Keeps plan) IsInput (Feeds n p rounds) input_or (parts n from rounds are) before c s run feeds g kept
+  shown g kept n from before c s run rounds are feeds = whole_nets m last n grows copies from (streams rounds) lines (Keeps plan) IsInput (Feeds n p rounds) input_or (parts n from rounds are) before c s run feeds g kept
 
   horizons : (n : Netlist) (from : Contents) (before : List Clock) (c : Clock) (s : Snapshot) → IsClockOf m n from before c s → IsTrue (was_reset before) → (rounds : Rounds) → AreRounds p rounds → Feeds n p rounds before → (g : ℕ) → Keeps plan g →
-      BufferIsRight (λ age t. word_at s.contents (places plan g age t)) (pixel_bits p rounds g) (pixel_count p rounds) (delay_of plan g) (depth_of plan g) (length (counted n before))
+      BufferIsRight (λ age t. word_at s.contents (form.places plan g age t)) (pixel_bits p rounds g) (pixel_count p rounds) (delay_of plan g) (depth_of plan g) (length (counted n before))
   horizons n from before c s clock since rounds are feeds g kept =
-      subst (λ (d : ℕ). BufferIsRight (λ age t. word_at s.contents (places plan g age t)) (pixel_bits p rounds g) (pixel_count p rounds) (delay_of plan g) d (length (counted n before))) (plan_depth plan g)
-      (horizon last n from (streams rounds) lines (Keeps plan) IsInput (Feeds n p rounds) input_or (parts n from rounds are) before c s (clock_more m last n from before c s grows clock) since feeds g kept)
+      subst (λ (d : ℕ). BufferIsRight (λ age t. word_at s.contents (form.places plan g age t)) (pixel_bits p rounds g) (pixel_count p rounds) (delay_of plan g) d (length (counted n before))) (plan_depth plan g)
+      (horizon last n copies from (streams rounds) lines (Keeps plan) IsInput (Feeds n p rounds) input_or (parts n from rounds are) before c s (clock_more m last n from before c s grows clock) since feeds g kept)
 
   -- what the outputs show
   outs_count : length closed.outs ≡ length p.outputs
@@ -233,14 +255,14 @@ module _ (m b : Netlist) (p : Program) (plan : Plan) (shapes : Shapes) (places :
   valids k lt n from before c s clock since =
       drives (2 * k) (out k).0 (flat_at closed.outs k (out k) (out_at k lt)).0 n s clock.whole.includes clock.at.snapshot.settled ∙ (closed.are_outs.valid k (out k) (out_at k lt)).started n from before c s (clock_more m last n from before c s grows clock) since
 
-  pub behaves : Behaves m p plan places nets
+  behaves : Behaves m p plan form.places copies nets
   behaves = record {
     one_each = built.net_count;
     net = shown;
     dout = douts;
     valid = valids;
     horizon = horizons;
-    held = λ n from before c s clock same held next goes. held_same m n from before c s next (closed.still all_built.still) clock same held goes;
+    held = λ n from before c s clock same ready held next goes. held_same m n copies from before c s next (closed.still copies all_built.still) clock same ready held goes;
   }
 
   -- the ports, and what every module keeps
@@ -258,13 +280,13 @@ module _ (m b : Netlist) (p : Program) (plan : Plan) (shapes : Shapes) (places :
   runs = closed.runs all_built.stops
 
   -- the arrays are those of the kept images, and their bits the plan's
-  last_arrays : last.arrays ≡ shapes_of shapes plan images
-  last_arrays = all_built.arrays ∙ ap (shapes_of shapes plan) (take_all (length images) images (omega arith))
+  last_arrays : last.arrays ≡ shapes_of form.shapes plan images
+  last_arrays = all_built.arrays ∙ ap (shapes_of form.shapes plan) (take_all (length images) images (omega arith))
 
-  pub arrays : m.arrays ≡ shapes_of shapes plan images
+  pub arrays : m.arrays ≡ shapes_of form.shapes plan images
   arrays = ap (λ (x : Netlist). x.arrays) closed.driven ∙ last_arrays
 
-  image_bits : (k : ℕ) (i : Image) → slice_get images k ≡ Some i → array_bits (shapes plan i.number) ≡ i.width * depth plan.system plan.delays (0 + k)
+  image_bits : (k : ℕ) (i : Image) → slice_get images k ≡ Some i → array_bits (form.shapes plan i.number) ≡ i.width * depth plan.system plan.delays (0 + k)
   image_bits k i at =
       let lt = slice_get_within images k i at in
       let there : place_in plan i.number ≡ k = place_of_entry images k i is.system.stencils.images.ascending at in
@@ -272,37 +294,64 @@ module _ (m b : Netlist) (p : Program) (plan : Plan) (shapes : Shapes) (places :
       let deep : depth_of plan i.number ≡ depth plan.system plan.delays (0 + k) = ap (depth plan.system plan.delays) (let e : place_in plan i.number ≡ 0 + k = omega (arith, there) in e) in
       (all_built.line k i lt at).bits ∙ ap (λ (w : ℕ). w * depth_of plan i.number) wide ∙ ap (λ (d : ℕ). i.width * d) deep
 
-  pub bits : IsBufferBits m (bits_of plan)
-  bits = subst (IsBufferBits m) (ap array_bits last_arrays ∙ shapes_bits shapes plan (depth plan.system plan.delays) 0 images image_bits) (closed.bits all_built.control)
+  last_bits : array_bits last.arrays ≡ bits_of plan
+  last_bits = ap array_bits last_arrays ∙ shapes_bits form.shapes plan (depth plan.system plan.delays) 0 images image_bits
+
+  own_bits : array_bits m.arrays ≡ bits_of plan
+  own_bits = ap (λ (x : Netlist). array_bits x.arrays) closed.driven ∙ last_bits
+
+  bits : HasBits m (bits_of plan) copies
+  bits = record {
+    arrays = own_bits;
+    fed = closed.fed copies all_built.control;
+    plain = λ none. subst (IsBufferBits m) last_bits (closed.bits (subst (IsControlled last) none all_built.control));
+    exact = with_copies m (bits_of plan) copies own_bits (closed.fed copies all_built.control);
+  }
+
+  -- the image of an array
+  owns : (x : ℕ) → x < length m.arrays → Owns form.shapes plan images x
+  owns x lt = owner form.shapes plan images x (let here = ap length arrays in omega (arith, lt, here))
+
+  owner_kept : (x : ℕ) (lt : x < length m.arrays) → Keeps plan (owns x lt).image.number
+  owner_kept x lt = entry_kept images (owns x lt).number (owns x lt).image (owns x lt).at
+
+  owner_first : (x : ℕ) (lt : x < length m.arrays) → first_array form.shapes plan (owns x lt).image.number ≡ length (shapes_of form.shapes plan (take (owns x lt).number images))
+  owner_first x lt = ap (λ (k : ℕ). length (shapes_of form.shapes plan (take k images))) (place_of_entry images (owns x lt).number (owns x lt).image is.system.stencils.images.ascending (owns x lt).at)
+
+  owner_low : (x : ℕ) (lt : x < length m.arrays) → first_array form.shapes plan (owns x lt).image.number ≤ x
+  owner_low x lt = (let low = (owns x lt).low in omega (arith, low, owner_first x lt))
+
+  owner_high : (x : ℕ) (lt : x < length m.arrays) → x < end_array form.shapes plan (owns x lt).image.number
+  owner_high x lt = (let high = (owns x lt).high in omega (arith, high, owner_first x lt))
+
+  words : (x : ℕ) → array_depth m x ≡ words_in form.shapes plan x
+  words x = ap (λ (ss : List Shape). unwrap_or (option_map (λ (s : Shape). s.depth) (slice_get ss x)) 0) arrays
 
   -- each array keeps its form's property
-  pub properties : (x : ℕ) → x < length m.arrays → property (read_indices m x) (put_indices m x)
+  pub properties : HasProperty m form.property
   properties x lt =
-      let here : length m.arrays ≡ length (shapes_of shapes plan images) = ap length arrays in
+      let here : length m.arrays ≡ length (shapes_of form.shapes plan images) = ap length arrays in
       let below : x < length last.arrays = omega (arith, lt, here, ap length last_arrays) in
-      let owns = owner shapes plan images x (omega (arith, lt, here)) in
-      let there : place_in plan owns.image.number ≡ owns.number = place_of_entry images owns.number owns.image is.system.stencils.images.ascending owns.at in
-      let first : first_array shapes plan owns.image.number ≡ length (shapes_of shapes plan (take owns.number images)) = ap (λ (k : ℕ). length (shapes_of shapes plan (take k images))) there in
-      let low = owns.low in
-      let high = owns.high in
-      let each : property (read_indices last x) (put_indices last x) = (all_built.line owns.number owns.image (slice_get_within images owns.number owns.image owns.at) owns.at).each x (omega (arith, first, low)) (omega (arith, first, high)) in
+      let w : ℕ = words_in form.shapes plan x in
+      let each : form.property w (read_indices last x) (put_indices last x) = (line (owns x lt).image.number (owner_kept x lt)).each x (owner_low x lt) (owner_high x lt) in
       let no_reads : AddsReads m last (λ y. false) = subst (λ (n : Netlist). AddsReads n last (λ y. false)) (sym closed.driven) (outputs_read last (flat closed.outs)) in
       let differ : UpdatesDiffer m.updates = subst (λ (n : Netlist). UpdatesDiffer n.updates) (sym closed.driven) closed.draft.once in
       let read = reads_last m last (λ y. false) x grows no_reads refl in
       let put = puts_last m last x grows differ (all_updated last all_built.updated (OfArray x) below) in
-      subst (λ ps. property (read_indices m x) ps) (sym put) (subst (λ rs. property rs (put_indices last x)) (sym read) each)
+      subst (λ (d : ℕ). form.property d (read_indices m x) (put_indices m x)) (sym (words x))
+      (subst (λ ps. form.property w (read_indices m x) ps) (sym put) (subst (λ rs. form.property w rs (put_indices last x)) (sym read) each))
 
   -- the nets of the images in the module
   net_in : (g : ℕ) → Keeps plan g → IsNet m (net_of plan nets g)
   net_in g kept = net_more m last grows (net_of plan nets g) (line g kept).there
 
-  filled : (g : ℕ) → Keeps plan g → AreFilled m (first_array shapes plan g) (end_array shapes plan g) (net_of plan nets g)
-  filled g kept = fills_more m last (first_array shapes plan g) (end_array shapes plan g) (net_of plan nets g) grows (line g kept).fills
+  filled : (g : ℕ) → Keeps plan g → AreFilled m (reads_directly form plan) copies (first_array form.shapes plan g) (end_array form.shapes plan g) (net_of plan nets g)
+  filled g kept = fills_more m last (reads_directly form plan) copies (first_array form.shapes plan g) (end_array form.shapes plan g) (net_of plan nets g) grows (line g kept).fills
 
-  some_there : (g : ℕ) → Keeps plan g → 0 < depth_of plan g → first_array shapes plan g < end_array shapes plan g
+  some_there : (g : ℕ) → Keeps plan g → 0 < depth_of plan g → first_array form.shapes plan g < end_array form.shapes plan g
   some_there g kept deep =
       let wide = plan_wide plan g (width_of plan g) is kept refl in
-      let some = some_array (shapes plan g) (width_of plan g) (depth_of plan g) (line g kept).bits wide.0 deep in
+      let some = some_array (form.shapes plan g) (width_of plan g) (depth_of plan g) (line g kept).bits wide.0 deep in
       omega (arith, some)
 
   dout_right : (k g : ℕ) → slice_get p.outputs k ≡ Some g → HasRight m (dout_net k) (Copy (atom.Net (net_of plan nets g)))
@@ -312,22 +361,79 @@ module _ (m b : Netlist) (p : Program) (plan : Plan) (shapes : Shapes) (places :
       let net : (out k).1 ≡ net_of plan nets g = closed.are_outs.dout k (out k) (out_at k within) ∙ ap (net_of plan nets) same in
       subst (λ (n : Net). HasRight m (dout_net k) (Copy (atom.Net n))) net (output_right m last (flat closed.outs) (2 * k + 1) (out k).1 closed.driven (flat_at closed.outs k (out k) (out_at k within)).1)
 
-  pub nets_of_images : AreNetsOf m p plan shapes nets
+  nets_of_images : AreNetsOf m p plan form copies nets
   nets_of_images = record {
     there = net_in;
     width = λ g kept. width_more m last grows (net_of plan nets g) (line g kept).there.declared ∙ (line g kept).width ∙ plan_width p plan g stencils kept;
     input = λ g kept low. (line g kept).input low ∙ ap (λ (e : Bool). din_net (record last { enable = e }) g) (sym grows.enable);
     driven = λ k g at. shows_only m closed.whole.rules.driven (dout_net k) (net_of plan nets g) (dout_right k g at);
-    stored = λ g kept deep. first_stores m shapes plan g (net_of plan nets g) (filled g kept) closed.whole.rules.updated (some_there g kept deep);
-    passed_on = λ g x kept low high. later_stores m shapes plan g (net_of plan nets g) (filled g kept) closed.whole.rules.updated x low high;
+    stored = λ g kept deep. first_stores m form plan copies g (net_of plan nets g) (filled g kept) closed.whole.rules.updated (some_there g kept deep);
+    passed_on = λ g x kept low high. later_stores m form plan copies g (net_of plan nets g) (filled g kept) closed.whole.rules.updated x low high;
   }
 
   -- no path passes through two images
-  pub apart : IsApart m p plan shapes nets
+  pub apart : IsApart m p plan form nets
   apart aged f kept past =
-      let made : IsMadeOf m (source_of shapes plan f m.enable) (OfNet (net_of plan nets f)) = subst (λ (e : Bool). IsMadeOf m (source_of shapes plan f e) (OfNet (net_of plan nets f))) (sym grows.enable) (made_more m last (source_of shapes plan f last.enable) grows ((line f kept).apart aged past)) in
+      let base : Holder → Bool = source_of form plan f m.enable in
+      let kept_base : Holder → Bool = kept_source_of form plan f m.enable in
+      let made : IsMadeOf m base (OfNet (net_of plan nets f)) = subst (λ (e : Bool). IsMadeOf m (source_of form plan f e) (OfNet (net_of plan nets f))) (sym grows.enable) (made_more m last (source_of form plan f last.enable) grows ((line f kept).apart aged past)) in
       record {
         net = made;
-        dout = λ k at. made_wire m (dout_net k) (Copy (atom.Net (net_of plan nets f))) (source_of shapes plan f m.enable) (dout_right k f at) (made_net m (source_of shapes plan f m.enable) (net_of plan nets f) made);
-        put = λ x u low high at e. put_made m shapes plan f (net_of plan nets f) (filled f kept) closed.whole.rules.updated made x u low high at e;
+        dout = λ k at. made_wire m (dout_net k) (Copy (atom.Net (net_of plan nets f))) base (dout_right k f at) (made_net m base (net_of plan nets f) made);
+        put = λ x u low high at e.
+            put_made m form plan copies f (net_of plan nets f) (filled f kept) kept_base (control_kept form plan f m.enable) (own_kept form plan f m.enable) closed.whole.rules.updated
+            (made_wider m base kept_base (source_kept form plan f m.enable) made) x u low high at e;
       }
+
+  -- no path leads from a long array but into its copy
+  direct_net : (g : ℕ) → Keeps plan g → IsMadeOf m (direct_source form plan) (OfNet (net_of plan nets g))
+  direct_net g kept = made_more m last (direct_source form plan) grows (line g kept).direct
+
+  direct_dout : (k : ℕ) → k < length p.outputs → IsMadeOf m (direct_source form plan) (OfNet (dout_net k))
+  direct_dout k lt =
+      let g : ℕ = slice_index p.outputs k in
+      let at : slice_get p.outputs k ≡ Some g = slice_get-get_or p.outputs k 0 lt in
+      let listed : k < length plan.system.stencils.outputs = omega (arith, lt, ap length stencils.outputs) in
+      let kept : Keeps plan g = subst (Keeps plan) (ap (λ (os : List ℕ). slice_index os k) stencils.outputs) (output_kept plan k is listed) in
+      made_wire m (dout_net k) (Copy (atom.Net (net_of plan nets g))) (direct_source form plan) (dout_right k g at) (made_net m (direct_source form plan) (net_of plan nets g) (direct_net g kept))
+
+  direct_valid : (k : ℕ) → k < length p.outputs → IsMadeOf m (direct_source form plan) (OfNet (valid_net k))
+  direct_valid k lt =
+      let base : Holder → Bool = direct_source form plan in
+      let net : Net = (out k).0 in
+      let control : IsControl m (OfNet net) = index_control_more m last net grows (closed.are_outs.valid k (out k) (out_at k lt)).control in
+      made_wire m (valid_net k) (Copy (atom.Net net)) base (output_right m last (flat closed.outs) (2 * k) net closed.driven (flat_at closed.outs k (out k) (out_at k lt)).0)
+      (made_net m base net (made_wider m (is_control m.enable) base (control_direct form plan m.enable) control))
+
+  controlled : IsControlled m copies
+  controlled = subst (λ (n : Netlist). IsControlled n copies) (sym closed.driven) (outputs_control last (flat closed.outs) copies all_built.control)
+
+  direct_update : (u : Update) → Contains m.updates u → ReadsOnly m (direct_source form plan) copies u
+  direct_update (Set r a) at = set_direct (All-contains (TakesControl m copies) m.updates (Set r a) controlled.each at)
+    where
+      set_direct : TakesControl m copies (Set r a) → ReadsOnly m (direct_source form plan) copies (Set r a)
+      set_direct (inl copy) = inl copy
+      set_direct (inr made) = inr (All-weaker (IsControlBut m copies) (IsMadeOf m (direct_source form plan)) (λ h is. made_wider m (is_control_but m.enable copies) (direct_source form plan) (but_direct form plan m.enable copies) is) (atom_reads a) made)
+  direct_update (Put x i a) at =
+      let there : x < length m.arrays = (All-contains (UpdateIsSound m) m.updates (Put x i a) closed.whole.rules.updates at).0 in
+      let g : ℕ = (owns x there).image.number in
+      let kept : Keeps plan g = owner_kept x there in
+      put_made m form plan copies g (net_of plan nets g) (filled g kept) (direct_source form plan) (control_direct form plan m.enable) (λ y own short. short) closed.whole.rules.updated (direct_net g kept) x (Put x i a) (owner_low x there) (owner_high x there) at refl
+
+  copied : CopyLongArrays m form.long copies
+  copied = record {
+    widths = subst (AreCopies form.long m copies) (ap (λ (n : Netlist). n.arrays) (sym closed.driven)) (copies_last form.long m last copies last.arrays grows all_built.control.there all_built.copied);
+    each = λ x lt long.
+        let g : ℕ = (owns x lt).image.number in
+        long_copied m form plan copies g (net_of plan nets g) (filled g (owner_kept x lt)) x (owner_low x lt) (owner_high x lt) (subst (λ (d : ℕ). IsTrue (form.long d)) (words x) long);
+  }
+
+  pub module_is : IsModuleOf m p plan form nets
+  module_is = record {
+    copies = copies;
+    copied = copied;
+    behaves = behaves;
+    bits = bits;
+    nets_are = nets_of_images;
+    direct = record { net = direct_net; dout = direct_dout; valid = direct_valid; updates = direct_update };
+  }

@@ -1,11 +1,11 @@
 -- One image more is built.
 use Rattle.std.proofs.Common.{◌≡◌, ℕ, zero, suc, ◌+◌, ◌-◌, ◌<◌, ◌≤◌, nat_le, Bool, true, false, List, [], ◌∷◌, ◌++◌, length, Some, refl, sym, ap, subst, ◌∙◌, inl, inr, arith, take, append_assoc, append-nil}
-use Rattle.std.specs.Prelude.{pos, ◌≤ℤ◌, IsTrue, ◌||◌, Contains, slice_get, slice_index_or}
-use Rattle.std.specs.List.{list_any}
-use Rattle.std.proofs.lemmas.Bool.{cases_lt}
+use Rattle.std.specs.Prelude.{pos, ◌≤ℤ◌, Contains, slice_get, slice_index_or}
+use Rattle.std.proofs.lemmas.Bool.{cases_eq, cases_lt}
 use Rattle.std.proofs.lemmas.Int.{ints}
 use Rattle.std.proofs.lemmas.Option.{same_Some}
 use Rattle.std.proofs.lemmas.List.{get_or_append_left, get_or-append_right, length-append}
+use Rattle.std.proofs.lemmas.List.Elements.{Contains-append_left, Contains-append_right}
 use Rattle.dk_base.specs.declared.stencils.Image.{Image}
 use Rattle.dk_base.specs.declared.stencils.LiveRead.{LiveRead}
 use Rattle.dk_base.specs.Stencils.{place, IsKept, Ascends}
@@ -14,33 +14,38 @@ use Rattle.raster_delay.proofs.Places.{place_less}
 use Rattle.wiring.specs.declared.netlist.Net.{Net}
 use Rattle.wiring.specs.declared.netlist.Net.TheVariants.{Input}
 use Rattle.wiring.specs.declared.netlist.Shape.{Shape}
-use Rattle.wiring.specs.declared.netlist.Holder.{Holder}
 use Rattle.wiring.specs.declared.netlist.Holder.TheVariants.{OfNet, OfArray}
-use Rattle.wiring.specs.Netlist.{Netlist, din_net}
+use Rattle.wiring.specs.Netlist.{Netlist, din_net, depth}
 use Rattle.net_build.specs.Includes.{Includes}
+use Rattle.wiring.specs.Clock.{Clock}
 use Rattle.net_build.specs.Draft.{IsDraft, UpdatesDiffer, UpdatedBut}
-use Rattle.net_build.specs.Control.{IsMadeOf, AddsReads}
+use Rattle.net_build.specs.Runs.{IsReady}
+use Rattle.net_build.specs.Control.{IsMadeOf, by_itself, AddsReads}
 use Rattle.net_build.specs.Counters.{AddsControl}
 use Rattle.net_build.specs.Indices.{read_indices, put_indices}
-use Rattle.net_build.proofs.Parts.{Includes-trans}
+use Rattle.net_build.proofs.Parts.{Includes-refl, Includes-trans}
 use Rattle.net_build.proofs.Grown.{net_more, width_more}
 use Rattle.net_build.proofs.Control.{made_more, made_wider}
+use Rattle.net_build.proofs.Standing.{ready_first, ready_last}
 use Rattle.net_build.proofs.Reading.{reads_joined, none_reads}
 use Rattle.net_build.proofs.Indexed.{reads_last, puts_last}
 use Rattle.net_build.proofs.Updating.{all_updated}
 use Rattle.pointwise_ir.specs.Programs.{Program}
 use Rattle.buffer_plan.specs.Plans.{Plan, IsPlan, place_in, ages_of, read_age}
-use Rattle.line_buffer.specs.Buffers.{is_buffer, is_new, IsBuffer, AreMadeOfBuffer}
-use Rattle.line_buffer.proofs.Adding.{is_le}
+use Rattle.line_buffer.specs.Buffers.{is_new, IsBuffer}
+use Rattle.line_buffer.specs.Indices.{is_direct}
+use Rattle.line_buffer.specs.Chains.{AreCopies, is_short}
 use Rattle.line_buffer.specs.Fills.{AreFilled}
-use Rattle.line_buffer.proofs.More.{buffer_stops, buffer_control}
-use Rattle.line_buffer.proofs.Filling.{fills_more}
-use Rattle.line_buffer.proofs.Lasting.{buffer_more, buffer_made_more}
-use Rattle.circuit.specs.Taps.{Keeps, taps_at, IsTapOf, HasControl}
+use Rattle.line_buffer.proofs.More.{is_le, buffer_stops, buffer_control}
+use Rattle.line_buffer.proofs.Filling.{fills_wider}
+use Rattle.line_buffer.proofs.Lasting.{buffer_more, buffer_ready}
+use Rattle.line_buffer.proofs.Chaining.{copies_joined}
+use Rattle.circuit.specs.Taps.{Keeps, taps_at, IsTapOf}
 use Rattle.circuit.specs.Reads.{reads_in}
-use Rattle.circuit.specs.Forms.{Shapes, Places, Property, IsBuffered, shapes_of, first_array, end_array}
-use Rattle.circuit.specs.Images.{IsBodyNet, IsImageNet, IsLine, AreBuilt, is_array_of, source_of, ports_of}
+use Rattle.circuit.specs.Forms.{Shapes, Form, IsBuffered, shapes_of, first_array, end_array}
+use Rattle.circuit.specs.Images.{IsBodyNet, IsImageNet, IsLine, AreBuilt, words_in, reads_directly, tap_source_of, source_of, direct_source, ports_of}
 use Rattle.circuit.proofs.Lasting.{running_more}
+use Rattle.circuit.proofs.Sourced.{words_are, direct_is, short_tap, control_source, tap_in_source, control_direct, tap_in_direct, copies_last}
 
 -- entries of a list with one more
 pub at_old : {X : Type 0} (xs : List X) (y d : X) (k : ℕ) → k < length xs → slice_index_or (xs ++ y ∷ []) k d ≡ slice_index_or xs k d
@@ -84,34 +89,41 @@ old_array old x lt = by (is_new old x) refl
     by false e = e
     by true e = absurd (let h : length old.arrays ≤ x = is_le (length old.arrays) x e in let f : ⊥ = omega (arith, h, lt) in f)
 
--- What has been built lasts, as more is built after it, and the taps of these images stay.
-module _ (new old : Netlist) (p : Program) (plan : Plan) (shapes : Shapes) (places : Places) (property : Property) (taps more : List (List Net)) (same_taps : (g : ℕ) → place_in plan g < length taps → taps_at plan more g ≡ taps_at plan taps g)
+-- What has been built lasts, as more is built after it with more copies, and the taps of these images stay.
+module _ (new old : Netlist) (p : Program) (plan : Plan) (form : Form) (copies more_copies : List ℕ) (taps more : List (List Net)) (same_taps : (g : ℕ) → place_in plan g < length taps → taps_at plan more g ≡ taps_at plan taps g) (ready : (before : List Clock) → IsReady more_copies before → IsReady copies before) (among : (r : ℕ) → Contains copies r → Contains more_copies r)
     (grows : Includes new old) (reads : AddsReads new old (is_new old)) (differ : UpdatesDiffer new.updates) (updated : UpdatedBut old []) where
-  module _ (g : ℕ) (net : Net) (there : place_in plan g < length taps) (end : end_array shapes plan g ≤ length old.arrays)
-      (earlier : (h : ℕ) → h < g → Keeps plan h → place_in plan h < length taps) (is : IsLine old p plan shapes places property taps g net) where
+  module _ (g : ℕ) (net : Net) (there : place_in plan g < length taps) (end : end_array form.shapes plan g ≤ length old.arrays)
+      (earlier : (h : ℕ) → h < g → Keeps plan h → place_in plan h < length taps) (is : IsLine old p plan form copies taps g net) where
     body_lasts : length p.inputs ≤ g → IsBodyNet new p plan more g net
     body_lasts low m from before c s run rounds are right =
         is.body low m from before c s (running_more new old grows m from before c s run) rounds are
         (λ h less kept k age q tap ea et e lt. right h less kept k age q tap ea (subst (λ (ts : List Net). slice_get ts k ≡ Some tap) (sym (same_taps h (earlier h less kept))) et) e lt)
 
-    each_lasts : (x : ℕ) → first_array shapes plan g ≤ x → x < end_array shapes plan g → property (read_indices new x) (put_indices new x)
+    each_lasts : (x : ℕ) → first_array form.shapes plan g ≤ x → x < end_array form.shapes plan g → form.property (words_in form.shapes plan x) (read_indices new x) (put_indices new x)
     each_lasts x low high =
         let lt : x < length old.arrays = omega (arith, high, end) in
+        let words : ℕ = words_in form.shapes plan x in
         let read = reads_last new old (is_new old) x grows reads (old_array old x lt) in
         let put = puts_last new old x grows differ (all_updated old updated (OfArray x) lt) in
-        subst (λ ps. property (read_indices new x) ps) (sym put) (subst (λ rs. property rs (put_indices old x)) (sym read) (is.each x low high))
+        subst (λ ps. form.property words (read_indices new x) ps) (sym put) (subst (λ rs. form.property words rs (put_indices old x)) (sym read) (is.each x low high))
 
-    pub line_lasts : IsLine new p plan shapes places property more g net
+    buffer_lasts : IsBuffer new more_copies (form.places plan g) (ages_of plan g) (taps_at plan taps g) net
+    buffer_lasts = buffer_ready new copies more_copies (form.places plan g) (ages_of plan g) (taps_at plan taps g) net ready (buffer_more new old copies (form.places plan g) (ages_of plan g) (taps_at plan taps g) net grows is.there is.buffer)
+
+    pub line_lasts : IsLine new p plan form more_copies more g net
     line_lasts = record {
       there = net_more new old grows net is.there;
       width = width_more new old grows net is.there.declared ∙ is.width;
       input = λ low. is.input low ∙ ap (λ (e : Bool). din_net (record old { enable = e }) g) (sym grows.enable);
       body = body_lasts;
-      apart = λ aged low. subst (λ (e : Bool). IsMadeOf new (source_of shapes plan g e) (OfNet net)) (sym grows.enable) (made_more new old (source_of shapes plan g old.enable) grows (is.apart aged low));
-      buffer = subst (λ (ts : List Net). IsBuffer new (places plan g) (ages_of plan g) ts net) (sym (same_taps g there)) (buffer_more new old (places plan g) (ages_of plan g) (taps_at plan taps g) net grows is.there is.buffer);
+      apart = λ aged low. subst (λ (e : Bool). IsMadeOf new (source_of form plan g e) (OfNet net)) (sym grows.enable) (made_more new old (source_of form plan g old.enable) grows (is.apart aged low));
+      direct = made_more new old (direct_source form plan) grows is.direct;
+      buffer = subst (λ (ts : List Net). IsBuffer new more_copies (form.places plan g) (ages_of plan g) ts net) (sym (same_taps g there)) buffer_lasts;
       bits = is.bits;
-      made = subst (λ (ts : List Net). AreMadeOfBuffer new (first_array shapes plan g) (end_array shapes plan g) (ages_of plan g) ts) (sym (same_taps g there)) (buffer_made_more new old (first_array shapes plan g) (end_array shapes plan g) (ages_of plan g) (taps_at plan taps g) grows is.made);
-      fills = fills_more new old (first_array shapes plan g) (end_array shapes plan g) net grows is.fills;
+      made = λ k age tap ea some et.
+          subst (λ (e : Bool). IsMadeOf new (tap_source_of form plan g e) (OfNet tap)) (sym grows.enable)
+          (made_more new old (tap_source_of form plan g old.enable) grows (is.made k age tap ea some (subst (λ (ts : List Net). slice_get ts k ≡ Some tap) (same_taps g there) et)));
+      fills = fills_wider new old (reads_directly form plan) (reads_directly form plan) copies more_copies (first_array form.shapes plan g) (end_array form.shapes plan g) net grows (λ x l h is. is) among is.fills;
       each = each_lasts;
     }
 
@@ -137,33 +149,11 @@ ends_within shapes plan (x ∷ images) (suc j) (suc k) i at lt =
     let rest = ends_within shapes plan images j k i at (let h : j < k = omega (arith, lt) in h) in
     omega (arith, low, high, rest)
 
-any_of : {X : Type 0} (test : X → Bool) (xs : List X) (x : X) → Contains xs x → IsTrue (test x) → IsTrue (list_any test xs)
-any_of test [] x (k, lt, e) h = absurd (let f : ⊥ = omega (arith, lt) in f)
-any_of test (y ∷ xs) x (zero, lt, e) h = first (test y) (subst (λ z. IsTrue (test z)) (sym e) h)
-  where
-    first : (t : Bool) → IsTrue t → IsTrue (t || list_any test xs)
-    first true h = h
-    first false h = absurd (let f : ⊥ = cc in f)
-any_of test (y ∷ xs) x (suc k, lt, e) h = rest (test y) (any_of test xs x (k, (let g : k < length xs = omega (arith, lt) in g), e) h)
-  where
-    rest : (t : Bool) → IsTrue (list_any test xs) → IsTrue (t || list_any test xs)
-    rest true h = refl
-    rest false h = h
-
--- the base of an image has rst, en and the registers, and what the taps of its reads are made of
-control_source : (shapes : Shapes) (plan : Plan) (f : ℕ) (e : Bool) → HasControl e (source_of shapes plan f e)
-control_source shapes plan f e (OfNet n) h = h
-control_source shapes plan f e (OfArray x) h = absurd (let f : ⊥ = cc in f)
-
-buffer_source : (shapes : Shapes) (plan : Plan) (f : ℕ) (e : Bool) (r : LiveRead) → Contains (reads_in plan f) r → (h : Holder) → IsTrue (is_buffer e (first_array shapes plan r.g) (end_array shapes plan r.g) h) → IsTrue (source_of shapes plan f e h)
-buffer_source shapes plan f e r has (OfNet n) h = h
-buffer_source shapes plan f e r has (OfArray x) h = any_of (λ (q : LiveRead). is_array_of shapes plan q.g x) (reads_in plan f) r has h
-
 -- The next image, whose net and then buffer are added.
-module _ (b2 b1 b0 : Netlist) (p : Program) (plan : Plan) (shapes : Shapes) (places : Places) (property : Property) (k : ℕ) (nets : List Net) (taps : List (List Net)) (i : Image) (net : Net) (own : List Net)
+module _ (b2 b1 b0 : Netlist) (p : Program) (plan : Plan) (form : Form) (k : ℕ) (nets : List Net) (taps : List (List Net)) (i : Image) (net : Net) (own : List Net)
     (is_plan : IsPlan plan) (at : slice_get plan.system.stencils.images k ≡ Some i) (low : (h : ℕ) → h < i.number → Keeps plan h → place_in plan h < k) (reader : (r : LiveRead) → Contains (reads_in plan i.number) r → Keeps plan r.g × (r.g < i.number))
     (aged : (r : LiveRead) → Contains (reads_in plan i.number) r → pos plan.system.age ≤ℤ read_age plan r)
-    (built : AreBuilt b0 p plan shapes places property k nets taps) (adds : AddsControl b1 b0) (image : IsImageNet b1 b0 p plan taps i.number net) (buffered : IsBuffered b2 b1 plan i.number shapes places property net own) (draft : IsDraft b2) where
+    (built : AreBuilt b0 p plan form k nets taps) (adds : AddsControl b1 b0) (image : IsImageNet b1 b0 p plan taps i.number net) (buffered : IsBuffered b2 b1 plan i.number form net own) (drafted : IsDraft b1) (draft : IsDraft b2) where
   abbrev g : ℕ
   g = i.number
 
@@ -172,6 +162,9 @@ module _ (b2 b1 b0 : Netlist) (p : Program) (plan : Plan) (shapes : Shapes) (pla
 
   abbrev taps' : List (List Net)
   taps' = taps ++ own ∷ []
+
+  abbrev copies' : List ℕ
+  copies' = built.copies ++ buffered.copies
 
   here : place_in plan g ≡ k
   here = place_of_entry images k i is_plan.system.stencils.images.ascending at
@@ -182,8 +175,21 @@ module _ (b2 b1 b0 : Netlist) (p : Program) (plan : Plan) (shapes : Shapes) (pla
   same_enable : b1.enable ≡ b0.enable
   same_enable = adds.includes.enable
 
-  first_is : length b1.arrays ≡ first_array shapes plan g
-  first_is = ap length adds.arrays ∙ ap length built.arrays ∙ ap (λ (n : ℕ). length (shapes_of shapes plan (take n images))) (sym here)
+  first_is : length b1.arrays ≡ first_array form.shapes plan g
+  first_is = ap length adds.arrays ∙ ap length built.arrays ∙ ap (λ (n : ℕ). length (shapes_of form.shapes plan (take n images))) (sym here)
+
+  arrays_are : b2.arrays ≡ b0.arrays ++ form.shapes plan g
+  arrays_are = buffered.adds.arrays ∙ ap (λ (ss : List Shape). ss ++ form.shapes plan g) adds.arrays
+
+  all_arrays : b2.arrays ≡ shapes_of form.shapes plan (take (suc k) images)
+  all_arrays = arrays_are ∙ ap (λ (ss : List Shape). ss ++ form.shapes plan g) built.arrays ∙ sym (shapes_push form.shapes plan images k i at)
+
+  -- the image's own arrays are there, with the words that the plan gives them
+  end_is : end_array form.shapes plan g ≡ length b2.arrays
+  end_is = (let long = length-append b1.arrays (form.shapes plan g) in let whole = ap length buffered.adds.arrays in omega (arith, first_is, long, whole))
+
+  words_here : (x : ℕ) → x < length b2.arrays → depth b2 x ≡ words_in form.shapes plan x
+  words_here x lt = words_are form.shapes plan b2 (suc k) all_arrays x lt
 
   own_taps : taps_at plan taps' g ≡ own
   own_taps = at_last taps own [] (place_in plan g) (built.tap_count ∙ sym here)
@@ -196,69 +202,111 @@ module _ (b2 b1 b0 : Netlist) (p : Program) (plan : Plan) (shapes : Shapes) (pla
       image.body no_input m from before c s (running_more b2 b1 buffered.adds.includes m from before c s run) rounds are
       (λ h less kept k age q tap ea et e lt. right h less kept k age q tap ea (subst (λ (ts : List Net). slice_get ts k ≡ Some tap) (sym (earlier_taps h less kept)) et) e lt)
 
-  line_of : (h : ℕ) → h < g → Keeps plan h → IsLine b0 p plan shapes places property taps h (slice_index_or nets (place_in plan h) (Input 0))
+  line_of : (h : ℕ) → h < g → Keeps plan h → IsLine b0 p plan form built.copies taps h (slice_index_or nets (place_in plan h) (Input 0))
   line_of h less kept =
       let none : Image = record { number = 0; width = 0 } in
       let entry : Image = slice_index_or images (place_in plan h) none in
       let number : entry.number ≡ h = at_place images h none kept in
-      subst (λ (j : ℕ). IsLine b0 p plan shapes places property taps j (slice_index_or nets (place_in plan h) (Input 0))) number (built.line (place_in plan h) entry (low h less kept) (slice_get_at images (place_in plan h) none kept))
+      subst (λ (j : ℕ). IsLine b0 p plan form built.copies taps j (slice_index_or nets (place_in plan h) (Input 0))) number (built.line (place_in plan h) entry (low h less kept) (slice_get_at images (place_in plan h) none kept))
 
-  tap_made : 1 ≤ plan.system.age → (r : LiveRead) (tap : Net) → Contains (reads_in plan g) r → IsTapOf plan taps r tap → IsMadeOf b0 (source_of shapes plan g b0.enable) (OfNet tap)
+  tap_made : 1 ≤ plan.system.age → (r : LiveRead) (tap : Net) → Contains (reads_in plan g) r → IsTapOf plan taps r tap → IsMadeOf b0 (source_of form plan g b0.enable) (OfNet tap)
   tap_made some r tap has is =
       let (kept, less) = reader r has in
       let least = aged r has in
       let positive : 0 < is.age = (let e = is.is_age in omega (arith, ints, some, least, e)) in
-      made_wider b0 (is_buffer b0.enable (first_array shapes plan r.g) (end_array shapes plan r.g)) (source_of shapes plan g b0.enable) (buffer_source shapes plan g b0.enable r has) ((line_of r.g less kept).made is.place is.age tap is.aged positive is.there)
+      made_wider b0 (tap_source_of form plan r.g b0.enable) (source_of form plan g b0.enable) (tap_in_source form plan g b0.enable r has) ((line_of r.g less kept).made is.place is.age tap is.aged positive is.there)
 
-  apart_is : 1 ≤ plan.system.age → length p.inputs ≤ g → IsMadeOf b2 (source_of shapes plan g b2.enable) (OfNet net)
+  apart_is : 1 ≤ plan.system.age → length p.inputs ≤ g → IsMadeOf b2 (source_of form plan g b2.enable) (OfNet net)
   apart_is some no_input =
-      let base = source_of shapes plan g b0.enable in
-      subst (λ (e : Bool). IsMadeOf b2 (source_of shapes plan g e) (OfNet net)) (sym grown.enable)
-      (made_more b2 b1 base buffered.adds.includes (image.made no_input base (control_source shapes plan g b0.enable) (tap_made some)))
+      let base = source_of form plan g b0.enable in
+      subst (λ (e : Bool). IsMadeOf b2 (source_of form plan g e) (OfNet net)) (sym grown.enable)
+      (made_more b2 b1 base buffered.adds.includes (image.made no_input base (control_source form plan g b0.enable) (tap_made some)))
 
-  each_is : (x : ℕ) → first_array shapes plan g ≤ x → x < end_array shapes plan g → property (read_indices b2 x) (put_indices b2 x)
+  -- no path leads from a long array to a tap of an earlier image, at any age
+  tap_direct : (r : LiveRead) (tap : Net) → Contains (reads_in plan g) r → IsTapOf plan taps r tap → IsMadeOf b0 (direct_source form plan) (OfNet tap)
+  tap_direct r tap has is =
+      let (kept, less) = reader r has in
+      let line = line_of r.g less kept in
+      elim (cases_eq is.age 0) as (λ _. IsMadeOf b0 (direct_source form plan) (OfNet tap)) [
+        | inl now ↦
+            let same : tap ≡ slice_index_or nets (place_in plan r.g) (Input 0) = line.buffer.now is.place tap (subst (λ (a : ℕ). slice_get (ages_of plan r.g) is.place ≡ Some a) now is.aged) is.there in
+            subst (λ (n : Net). IsMadeOf b0 (direct_source form plan) (OfNet n)) (sym same) line.direct
+        | inr later ↦
+            let positive : 0 < is.age = omega (arith, later) in
+            made_wider b0 (tap_source_of form plan r.g b0.enable) (direct_source form plan) (tap_in_direct form plan r.g b0.enable) (line.made is.place is.age tap is.aged positive is.there)
+      ]
+
+  direct_net : IsMadeOf b2 (direct_source form plan) (OfNet net)
+  direct_net = elim (cases_lt g (length p.inputs)) as (λ _. IsMadeOf b2 (direct_source form plan) (OfNet net)) [
+    | inl input ↦ subst (λ (n : Net). IsMadeOf b2 (direct_source form plan) (OfNet n)) (sym (image.input input)) (by_itself refl)
+    | inr beyond ↦ made_more b2 b1 (direct_source form plan) buffered.adds.includes (image.made beyond (direct_source form plan) (control_direct form plan b0.enable) tap_direct)
+  ]
+
+  each_is : (x : ℕ) → first_array form.shapes plan g ≤ x → x < end_array form.shapes plan g → form.property (words_in form.shapes plan x) (read_indices b2 x) (put_indices b2 x)
   each_is x from to =
-      let long = length-append b1.arrays (shapes plan g) in
-      let whole = ap length buffered.adds.arrays in
-      buffered.each x (omega (arith, from, first_is)) (omega (arith, to, first_is, long, whole))
+      let there : x < length b2.arrays = omega (arith, to, end_is) in
+      subst (λ (w : ℕ). form.property w (read_indices b2 x) (put_indices b2 x)) (words_here x there) (buffered.each x (omega (arith, from, first_is)) there)
 
-  line_new : IsLine b2 p plan shapes places property taps' g net
+  own_made : (j age : ℕ) (tap : Net) → slice_get (ages_of plan g) j ≡ Some age → 0 < age → slice_get own j ≡ Some tap → IsMadeOf b2 (tap_source_of form plan g b2.enable) (OfNet tap)
+  own_made j age tap ea some et =
+      let first = length b1.arrays in
+      let end = length b1.arrays + length (form.shapes plan g) in
+      made_wider b2 (is_short form.long b2 first end) (tap_source_of form plan g b2.enable)
+      (short_tap form plan g b2 first end first_is (ap (λ (n : ℕ). n + length (form.shapes plan g)) first_is) (λ x lt. words_here x (omega (arith, lt, end_is, first_is))))
+      (buffered.made j age tap ea some et)
+
+  own_fills : AreFilled b2 (reads_directly form plan) copies' (first_array form.shapes plan g) (end_array form.shapes plan g) net
+  own_fills =
+      fills_wider b2 b2 (is_direct form.long b2) (reads_directly form plan) buffered.copies copies' (first_array form.shapes plan g) (end_array form.shapes plan g) net (Includes-refl b2)
+      (λ x l h is. direct_is form plan b2 x (words_here x (omega (arith, h, end_is))) is) (λ r c. Contains-append_right built.copies buffered.copies r c)
+      (subst (λ (n : ℕ). AreFilled b2 (is_direct form.long b2) buffered.copies n (n + length (form.shapes plan g)) net) first_is buffered.fills)
+
+  own_buffer : IsBuffer b2 copies' (form.places plan g) (ages_of plan g) own net
+  own_buffer = buffer_ready b2 buffered.copies copies' (form.places plan g) (ages_of plan g) own net (ready_last built.copies buffered.copies) buffered.buffer
+
+  line_new : IsLine b2 p plan form copies' taps' g net
   line_new = record {
     there = net_more b2 b1 buffered.adds.includes net image.there;
     width = width_more b2 b1 buffered.adds.includes net image.there.declared ∙ image.width;
     input = λ is_input. image.input is_input ∙ ap (λ (e : Bool). din_net (record b1 { enable = e }) g) (sym buffered.adds.includes.enable);
     body = body_is;
     apart = apart_is;
-    buffer = subst (λ (ts : List Net). IsBuffer b2 (places plan g) (ages_of plan g) ts net) (sym own_taps) buffered.buffer;
+    direct = direct_net;
+    buffer = subst (λ (ts : List Net). IsBuffer b2 copies' (form.places plan g) (ages_of plan g) ts net) (sym own_taps) own_buffer;
     bits = buffered.bits;
-    made = subst (λ (ts : List Net). AreMadeOfBuffer b2 (first_array shapes plan g) (end_array shapes plan g) (ages_of plan g) ts) (sym own_taps)
-        (subst (λ (n : ℕ). AreMadeOfBuffer b2 n (n + length (shapes plan g)) (ages_of plan g) own) first_is buffered.made);
-    fills = subst (λ (n : ℕ). AreFilled b2 n (n + length (shapes plan g)) net) first_is buffered.fills;
+    made = λ j age tap ea some et. own_made j age tap ea some (subst (λ (ts : List Net). slice_get ts j ≡ Some tap) own_taps et);
+    fills = own_fills;
     each = each_is;
   }
 
   reads_new : AddsReads b2 b0 (is_new b0)
   reads_new = reads_joined b2 b1 b0 (is_new b0) buffered.adds.includes (subst (λ (ss : List Shape). AddsReads b2 b1 (λ x. nat_le (length ss) x)) adds.arrays buffered.adds.reads) (none_reads b1 b0 (is_new b0) adds.reads)
 
-  old_line : (j : ℕ) (o : Image) → j < k → slice_get images j ≡ Some o → IsLine b2 p plan shapes places property taps' o.number (slice_index_or (nets ++ net ∷ []) j (Input 0))
+  old_line : (j : ℕ) (o : Image) → j < k → slice_get images j ≡ Some o → IsLine b2 p plan form copies' taps' o.number (slice_index_or (nets ++ net ∷ []) j (Input 0))
   old_line j o lt on =
       let there : place_in plan o.number ≡ j = place_of_entry images j o is_plan.system.stencils.images.ascending on in
-      let within : length (shapes_of shapes plan (take j images)) + length (shapes plan o.number) ≤ length b0.arrays = (let w = ends_within shapes plan images j k o on lt in omega (arith, w, ap length built.arrays)) in
-      let end : end_array shapes plan o.number ≤ length b0.arrays = subst (λ (n : ℕ). length (shapes_of shapes plan (take n images)) + length (shapes plan o.number) ≤ length b0.arrays) (sym there) within in
-      subst (IsLine b2 p plan shapes places property taps' o.number) (sym (at_old nets net (Input 0) j (omega (arith, lt, built.net_count))))
-      (line_lasts b2 b0 p plan shapes places property taps taps' (λ h lt. at_old taps own [] (place_in plan h) lt) grown reads_new draft.once built.updated o.number (slice_index_or nets j (Input 0)) (omega (arith, there, lt, built.tap_count)) end
+      let within : length (shapes_of form.shapes plan (take j images)) + length (form.shapes plan o.number) ≤ length b0.arrays = (let w = ends_within form.shapes plan images j k o on lt in omega (arith, w, ap length built.arrays)) in
+      let end : end_array form.shapes plan o.number ≤ length b0.arrays = subst (λ (n : ℕ). length (shapes_of form.shapes plan (take n images)) + length (form.shapes plan o.number) ≤ length b0.arrays) (sym there) within in
+      subst (IsLine b2 p plan form copies' taps' o.number) (sym (at_old nets net (Input 0) j (omega (arith, lt, built.net_count))))
+      (line_lasts b2 b0 p plan form built.copies copies' taps taps' (λ h lt. at_old taps own [] (place_in plan h) lt) (ready_first built.copies buffered.copies) (λ r c. Contains-append_left built.copies buffered.copies r c)
+      grown reads_new draft.once built.updated o.number (slice_index_or nets j (Input 0)) (omega (arith, there, lt, built.tap_count)) end
       (λ h less kept. let l = place_less images is_plan.system.stencils.images.ascending h o.number kept (entry_kept images j o on) less in omega (arith, l, there, lt, built.tap_count)) (built.line j o lt on))
 
-  pub built_more : AreBuilt b2 p plan shapes places property (suc k) (nets ++ net ∷ []) taps'
+  copied_all : AreCopies form.long b2 copies' b2.arrays
+  copied_all = subst (AreCopies form.long b2 copies') (sym arrays_are) (copies_joined form.long b2 b0 built.copies buffered.copies b0.arrays (form.shapes plan g) grown built.control.there built.copied buffered.copied)
+
+  pub built_more : AreBuilt b2 p plan form (suc k) (nets ++ net ∷ []) taps'
   built_more = record {
     ports = subst (λ (e : Bool). Includes b2 (ports_of p e)) (sym grown.enable) (Includes-trans b2 b0 (ports_of p b0.enable) grown built.ports);
     net_count = (let l = length-append nets (net ∷ []) in omega (arith, l, built.net_count));
     tap_count = (let l = length-append taps (own ∷ []) in omega (arith, l, built.tap_count));
-    arrays = buffered.adds.arrays ∙ ap (λ (ss : List Shape). ss ++ shapes plan g) (adds.arrays ∙ built.arrays) ∙ sym (shapes_push shapes plan images k i at);
+    arrays = all_arrays;
+    copies = copies';
+    copied = copied_all;
     updated = buffered.adds.updated [] (adds.updated [] built.updated);
-    still = buffered.adds.still [] (adds.still [] built.still);
-    stops = buffer_stops b2 b1 (shapes plan g) buffered.adds (adds.stops built.stops);
-    control = buffer_control b2 b1 (shapes plan g) buffered.adds (adds.control built.control);
+    still = buffered.adds.still built.copies [] (adds.still built.copies [] built.still);
+    stops = buffer_stops b2 b1 (form.shapes plan g) buffered.copies buffered.adds (adds.stops built.stops);
+    control = buffer_control b2 b1 (form.shapes plan g) buffered.copies built.copies drafted buffered.adds (adds.control built.copies built.control);
     line = λ j o lt on. elim (cases_lt j k) [
       | inl less ↦ old_line j o less on
       | inr most ↦
@@ -267,30 +315,32 @@ module _ (b2 b1 b0 : Netlist) (p : Program) (plan : Plan) (shapes : Shapes) (pla
     ];
   }
     where
-      last_line : (j : ℕ) (o : Image) → j ≡ k → slice_get images j ≡ Some o → IsLine b2 p plan shapes places property taps' o.number (slice_index_or (nets ++ net ∷ []) j (Input 0))
+      last_line : (j : ℕ) (o : Image) → j ≡ k → slice_get images j ≡ Some o → IsLine b2 p plan form copies' taps' o.number (slice_index_or (nets ++ net ∷ []) j (Input 0))
       last_line j o e on =
           let there : slice_get images k ≡ Some o = subst (λ (n : ℕ). slice_get images n ≡ Some o) e on in
           let same : i ≡ o = same_Some i o (sym at ∙ there) in
-          subst (λ (x : Image). IsLine b2 p plan shapes places property taps' x.number (slice_index_or (nets ++ net ∷ []) j (Input 0))) same
-          (subst (IsLine b2 p plan shapes places property taps' g) (sym (at_last nets net (Input 0) j (built.net_count ∙ sym e))) line_new)
+          subst (λ (x : Image). IsLine b2 p plan form copies' taps' x.number (slice_index_or (nets ++ net ∷ []) j (Input 0))) same
+          (subst (IsLine b2 p plan form copies' taps' g) (sym (at_last nets net (Input 0) j (built.net_count ∙ sym e))) line_new)
 
 -- all that is built lasts where what controls it is added
-pub built_lasts : (new old : Netlist) (p : Program) (plan : Plan) (shapes : Shapes) (places : Places) (property : Property) (k : ℕ) (nets : List Net) (taps : List (List Net)) → IsPlan plan → k ≤ length plan.system.stencils.images → AddsControl new old → IsDraft new →
-    AreBuilt old p plan shapes places property k nets taps → AreBuilt new p plan shapes places property k nets taps
-built_lasts new old p plan shapes places property k nets taps is_plan few adds draft built = record {
+pub built_lasts : (new old : Netlist) (p : Program) (plan : Plan) (form : Form) (k : ℕ) (nets : List Net) (taps : List (List Net)) → IsPlan plan → k ≤ length plan.system.stencils.images → AddsControl new old → IsDraft new →
+    AreBuilt old p plan form k nets taps → AreBuilt new p plan form k nets taps
+built_lasts new old p plan form k nets taps is_plan few adds draft built = record {
   ports = subst (λ (e : Bool). Includes new (ports_of p e)) (sym adds.includes.enable) (Includes-trans new old (ports_of p old.enable) adds.includes built.ports);
   net_count = built.net_count;
   tap_count = built.tap_count;
   arrays = adds.arrays ∙ built.arrays;
+  copies = built.copies;
+  copied = subst (AreCopies form.long new built.copies) (sym adds.arrays) (copies_last form.long new old built.copies old.arrays adds.includes built.control.there built.copied);
   updated = adds.updated [] built.updated;
-  still = adds.still [] built.still;
+  still = adds.still built.copies [] built.still;
   stops = adds.stops built.stops;
-  control = adds.control built.control;
+  control = adds.control built.copies built.control;
   line = λ j o lt on.
       let images = plan.system.stencils.images in
       let there : place_in plan o.number ≡ j = place_of_entry images j o is_plan.system.stencils.images.ascending on in
-      let within : length (shapes_of shapes plan (take j images)) + length (shapes plan o.number) ≤ length old.arrays = (let w = ends_within shapes plan images j k o on lt in omega (arith, w, ap length built.arrays)) in
-      let end : end_array shapes plan o.number ≤ length old.arrays = subst (λ (n : ℕ). length (shapes_of shapes plan (take n images)) + length (shapes plan o.number) ≤ length old.arrays) (sym there) within in
-      line_lasts new old p plan shapes places property taps taps (λ h low. refl) adds.includes (none_reads new old (is_new old) adds.reads) draft.once built.updated o.number (slice_index_or nets j (Input 0)) (omega (arith, there, lt, built.tap_count)) end
+      let within : length (shapes_of form.shapes plan (take j images)) + length (form.shapes plan o.number) ≤ length old.arrays = (let w = ends_within form.shapes plan images j k o on lt in omega (arith, w, ap length built.arrays)) in
+      let end : end_array form.shapes plan o.number ≤ length old.arrays = subst (λ (n : ℕ). length (shapes_of form.shapes plan (take n images)) + length (form.shapes plan o.number) ≤ length old.arrays) (sym there) within in
+      line_lasts new old p plan form built.copies built.copies taps taps (λ h low. refl) (λ before set. set) (λ r c. c) adds.includes (none_reads new old (is_new old) adds.reads) draft.once built.updated o.number (slice_index_or nets j (Input 0)) (omega (arith, there, lt, built.tap_count)) end
       (λ h less kept. let l = place_less images is_plan.system.stencils.images.ascending h o.number kept (entry_kept images j o on) less in omega (arith, l, there, lt, built.tap_count)) (built.line j o lt on);
 }

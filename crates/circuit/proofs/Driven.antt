@@ -195,7 +195,7 @@ bit_is : (b : Bool) (v : ℕ) → v ≡ bit b → (v == 1) ≡ b
 bit_is true v e = ap (λ n. n == 1) e
 bit_is false v e = ap (λ n. n == 1) e
 
-module _ (m : Netlist) (p : Program) (plan : Plan) (places : Places) (nets : List Net) (enable : Bool) (is : IsProgram p) (ports : HasPorts m p enable) (whole : IsWhole m m) (runs_on : RunsOn m) (behaves : Behaves m p plan places nets) where
+module _ (m : Netlist) (p : Program) (plan : Plan) (places : Places) (copies : List ℕ) (nets : List Net) (enable : Bool) (is : IsProgram p) (ports : HasPorts m p enable) (whole : IsWhole m m) (runs_on : RunsOn m) (behaves : Behaves m p plan places copies nets) where
   all_fit : (dins : List (List ℕ)) → All (Fit (input_widths p)) dins → All (FitsPorts m) (driven (length p.inputs) dins)
   all_fit dins fit = All-cons (FitsPorts m) (reset_first p) (map fed_clock dins) (given_fits m p enable ports (reset_first p) (zeros_fit p.inputs is.inputs)) (fed_fit m p enable ports dins fit)
 

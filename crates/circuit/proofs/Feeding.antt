@@ -46,9 +46,9 @@ input_right b m from p rounds streams lines before c s is feeds g input net at_o
     ∙ sym (bits q)
 
 -- In each run of a module that includes the builder's netlist the net of each kept image is right, and so is its horizon.
-module _ (whole b m : Netlist) (grows : Includes whole b) (from : Contents) (streams : Streams) (lines : ℕ → Line) (IsKept IsInput : ℕ → Type 0) (Fed : List Clock → Type 0) (cases : (g : ℕ) → IsInput g ⊎ (IsInput g → ⊥)) (parts : AreImages b m from streams lines IsKept IsInput Fed) where
+module _ (whole b m : Netlist) (grows : Includes whole b) (copies : List ℕ) (from : Contents) (streams : Streams) (lines : ℕ → Line) (IsKept IsInput : ℕ → Type 0) (Fed : List Clock → Type 0) (cases : (g : ℕ) → IsInput g ⊎ (IsInput g → ⊥)) (parts : AreImages b m copies from streams lines IsKept IsInput Fed) where
   running_part : (before : List Clock) (c : Clock) (s : Snapshot) → IsRunning whole m from before c s → IsRunning b m from before c s
   running_part before c s is = record { clock = clock_more whole b m from before c s grows is.clock; since = is.since; off = is.off; going = is.going }
 
   pub whole_nets : (before : List Clock) (c : Clock) (s : Snapshot) → IsRunning whole m from before c s → Fed (c ∷ before) → (g : ℕ) → IsKept g → NetIsRight streams lines (length (counted m before)) s g
-  whole_nets before c s is feeds g kept = nets b m from streams lines IsKept IsInput Fed cases parts before c s (running_part before c s is) feeds g kept
+  whole_nets before c s is feeds g kept = nets b m copies from streams lines IsKept IsInput Fed cases parts before c s (running_part before c s is) feeds g kept

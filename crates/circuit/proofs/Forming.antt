@@ -1,6 +1,6 @@
 -- What a form of buffers has done for an image.
-use Rattle.std.proofs.Common.{◌≡◌, ℕ, ◌+◌, ◌*◌, ◌<◌, ◌≤◌, List, [], ◌∷◌, length, refl, sym, ap, subst, ◌∙◌, arith}
-use Rattle.std.specs.Prelude.{All, slice_index_or}
+use Rattle.std.proofs.Common.{◌≡◌, ℕ, ◌+◌, ◌*◌, ◌<◌, ◌≤◌, true, false, List, [], ◌∷◌, length, refl, sym, ap, subst, ◌∙◌, arith}
+use Rattle.std.specs.Prelude.{All, IsTrue, ◌&&◌, nat_le, nat_lt, slice_index_or}
 use Rattle.std.specs.List.Sorted.{IsStrictlyIncreasing}
 use Rattle.std.proofs.lemmas.List.{get_or-map}
 use Rattle.dk_base.specs.declared.TheConstants.{MAX_BUFFER_BITS}
@@ -8,19 +8,25 @@ use Rattle.dk_base.specs.declared.stencils.Image.{Image}
 use Rattle.dk_base.specs.Stencils.{place, HasWidth}
 use Rattle.wiring.specs.declared.netlist.Net.{Net}
 use Rattle.wiring.specs.declared.netlist.Shape.{Shape}
-use Rattle.wiring.specs.Netlist.{Netlist}
+use Rattle.wiring.specs.declared.netlist.Holder.{Holder}
+use Rattle.wiring.specs.declared.netlist.Holder.TheVariants.{OfNet, OfArray}
+use Rattle.wiring.specs.Netlist.{Netlist, depth}
 use Rattle.wiring.specs.Sizes.{IsWidth}
 use Rattle.wiring.specs.BufferBits.{array_bits}
 use Rattle.net_build.specs.Indices.{read_indices, put_indices}
+use Rattle.net_build.proofs.Control.{made_wider}
 use Rattle.buffer_plan.specs.Plans.{Plan, IsPlan, ages_of, width_of, depth_of, last_of}
 use Rattle.buffer_plan.proofs.Aged.{are_ages, last_age, depth_most}
 use Rattle.line_buffer.specs.Places as L
 use Rattle.line_buffer.specs.Places.{Place}
 use Rattle.line_buffer.specs.Fills.{AreFilled}
-use Rattle.line_buffer.specs.Buffers.{IsBuffer, AddsBuffer, AreMadeOfBuffer}
+use Rattle.line_buffer.specs.Buffers.{IsBuffer, AddsBuffer, AreMadeOfBuffer, is_buffer}
+use Rattle.line_buffer.specs.Chains.{AreCopies, is_short, AreMadeOfShort, IsChain}
 use Rattle.line_buffer.proofs.Building.{ages_deep}
+use Rattle.line_buffer.proofs.Bits.{chain_bits}
+use Rattle.line_buffer.proofs.More.{and_both}
 use Rattle.circuit.specs.Taps.{Keeps}
-use Rattle.circuit.specs.Forms.{Shapes, Places, Property, IsBuffered, shapes_before, first_array}
+use Rattle.circuit.specs.Forms.{Shapes, Places, Property, Form, IsBuffered, shapes_before, first_array, block_form}
 
 -- the greatest age of an image is its depth
 last_same : (low : ℕ) (xs : List ℕ) → L.last_of low xs ≡ last_of low xs
@@ -49,7 +55,19 @@ plan_wide plan g width is kept e =
     let has : HasWidth (slice_index_or images (place images g) none) = is.system.stencils.images.widths (place images g) none kept in
     subst IsWidth (sym (e ∙ here)) (has.some, has.most)
 
--- a form that has its shapes and places by widths and ages
+-- where no array is long, the taps are made of any array of the buffer
+none_long : (b : Netlist) (first end : ℕ) (h : Holder) → IsTrue (is_buffer b.enable first end h) → IsTrue (is_short (λ words. false) b first end h)
+none_long b first end (OfNet n) is = is
+none_long b first end (OfArray x) is = and_both (nat_le first x && nat_lt x end) true is refl
+
+all_short : (b : Netlist) (first end : ℕ) (ages : List ℕ) (taps : List Net) → AreMadeOfBuffer b first end ages taps → AreMadeOfShort (λ words. false) b first end ages taps
+all_short b first end ages taps is k age tap ea some et = made_wider b (is_buffer b.enable first end) (is_short (λ words. false) b first end) (none_long b first end) (is k age tap ea some et)
+
+no_copies : (b : Netlist) (shapes : List Shape) → AreCopies (λ words. false) b [] shapes
+no_copies b [] = refl
+no_copies b (s ∷ shapes) = no_copies b shapes
+
+-- a form that has its shapes and places by widths and ages, and no long arrays
 module _ (shapes_by : (width : ℕ) → List ℕ → List Shape) (place_by : (first : ℕ) → List ℕ → (age t : ℕ) → Place) (property : Property) where
   abbrev shapes : Shapes
   shapes plan g = shapes_by (width_of plan g) (ages_of plan g)
@@ -57,19 +75,49 @@ module _ (shapes_by : (width : ℕ) → List ℕ → List Shape) (place_by : (fi
   abbrev places : Places
   places plan g age t = place_by (first_array shapes plan g) (ages_of plan g) age t
 
+  abbrev form : Form
+  form = record { shapes = shapes; places = places; long = λ words. false; property = property }
+
   module _ (b old : Netlist) (plan : Plan) (g width : ℕ) (ages : List ℕ) (value : Net) (nets taps : List Net) (aged : ages ≡ ages_of plan g) (wide : width ≡ width_of plan g) (same : taps ≡ nets) (arrays : old.arrays ≡ shapes_before shapes plan g) where
-    pub form_buffered : array_bits (shapes_by (width_of plan g) (ages_of plan g)) ≡ width_of plan g * L.depth_of (ages_of plan g) → AddsBuffer b old (shapes_by width ages) → IsBuffer b (place_by (length old.arrays) ages) ages nets value →
-        AreMadeOfBuffer b (length old.arrays) (length old.arrays + length (shapes_by width ages)) ages nets → AreFilled b (length old.arrays) (length old.arrays + length (shapes_by width ages)) value → ((x : ℕ) → length old.arrays ≤ x → x < length b.arrays → property (read_indices b x) (put_indices b x)) → IsBuffered b old plan g shapes places property value taps
+    pub form_buffered : array_bits (shapes_by (width_of plan g) (ages_of plan g)) ≡ width_of plan g * L.depth_of (ages_of plan g) → AddsBuffer b old (shapes_by width ages) [] → IsBuffer b [] (place_by (length old.arrays) ages) ages nets value →
+        AreMadeOfBuffer b (length old.arrays) (length old.arrays + length (shapes_by width ages)) ages nets → AreFilled b (λ x. true) [] (length old.arrays) (length old.arrays + length (shapes_by width ages)) value →
+        ((x : ℕ) → length old.arrays ≤ x → x < length b.arrays → property (depth b x) (read_indices b x) (put_indices b x)) → IsBuffered b old plan g form value taps
     form_buffered bits adds buffer made fills each = record {
-      buffer = subst (λ (n : ℕ). IsBuffer b (place_by n (ages_of plan g)) (ages_of plan g) taps value) (ap length arrays)
-          (subst (λ (ns : List Net). IsBuffer b (place_by (length old.arrays) (ages_of plan g)) (ages_of plan g) ns value) (sym same)
-          (subst (λ (list : List ℕ). IsBuffer b (place_by (length old.arrays) list) list nets value) aged buffer));
-      adds = subst (λ (w : ℕ). AddsBuffer b old (shapes_by w (ages_of plan g))) wide (subst (λ (list : List ℕ). AddsBuffer b old (shapes_by width list)) aged adds);
+      copies = [];
+      buffer = subst (λ (n : ℕ). IsBuffer b [] (place_by n (ages_of plan g)) (ages_of plan g) taps value) (ap length arrays)
+          (subst (λ (ns : List Net). IsBuffer b [] (place_by (length old.arrays) (ages_of plan g)) (ages_of plan g) ns value) (sym same)
+          (subst (λ (list : List ℕ). IsBuffer b [] (place_by (length old.arrays) list) list nets value) aged buffer));
+      adds = subst (λ (w : ℕ). AddsBuffer b old (shapes_by w (ages_of plan g)) []) wide (subst (λ (list : List ℕ). AddsBuffer b old (shapes_by width list) []) aged adds);
+      copied = no_copies b (shapes plan g);
       bits = bits ∙ ap (λ (d : ℕ). width_of plan g * d) (plan_depth plan g);
-      made = subst (λ (ns : List Net). AreMadeOfBuffer b (length old.arrays) (length old.arrays + length (shapes plan g)) (ages_of plan g) ns) (sym same)
+      made = all_short b (length old.arrays) (length old.arrays + length (shapes plan g)) (ages_of plan g) taps
+          (subst (λ (ns : List Net). AreMadeOfBuffer b (length old.arrays) (length old.arrays + length (shapes plan g)) (ages_of plan g) ns) (sym same)
           (subst (λ (w : ℕ). AreMadeOfBuffer b (length old.arrays) (length old.arrays + length (shapes_by w (ages_of plan g))) (ages_of plan g) nets) wide
-          (subst (λ (list : List ℕ). AreMadeOfBuffer b (length old.arrays) (length old.arrays + length (shapes_by width list)) list nets) aged made));
-      fills = subst (λ (w : ℕ). AreFilled b (length old.arrays) (length old.arrays + length (shapes_by w (ages_of plan g))) value) wide
-          (subst (λ (list : List ℕ). AreFilled b (length old.arrays) (length old.arrays + length (shapes_by width list)) value) aged fills);
+          (subst (λ (list : List ℕ). AreMadeOfBuffer b (length old.arrays) (length old.arrays + length (shapes_by width list)) list nets) aged made)));
+      fills = subst (λ (w : ℕ). AreFilled b (λ x. true) [] (length old.arrays) (length old.arrays + length (shapes_by w (ages_of plan g))) value) wide
+          (subst (λ (list : List ℕ). AreFilled b (λ x. true) [] (length old.arrays) (length old.arrays + length (shapes_by width list)) value) aged fills);
       each = each;
     }
+
+-- a chain of which the long arrays have at least this number of words
+module _ (least : ℕ) (b old : Netlist) (plan : Plan) (g : ℕ) (value : Net) where
+  abbrev Chained : (width : ℕ) → List ℕ → List Net → Type 0
+  Chained width ages taps = IsChain b old width (block_form least).long value ages taps
+
+  chain_buffered : (taps : List Net) → old.arrays ≡ shapes_before (block_form least).shapes plan g → Chained (width_of plan g) (ages_of plan g) taps → IsBuffered b old plan g (block_form least) value taps
+  chain_buffered taps arrays is = record {
+    copies = is.copies;
+    buffer = subst (λ (n : ℕ). IsBuffer b is.copies (L.chain_place n (ages_of plan g)) (ages_of plan g) taps value) (ap length arrays) is.buffer;
+    adds = is.adds;
+    copied = is.copied;
+    bits = chain_bits (width_of plan g) (ages_of plan g) (are_ages plan g).ascending ∙ ap (λ (d : ℕ). width_of plan g * d) (plan_depth plan g);
+    made = is.made;
+    fills = is.fills;
+    each = is.once;
+  }
+
+  pub block_buffered : (width : ℕ) (ages : List ℕ) (nets taps : List Net) → ages ≡ ages_of plan g → width ≡ width_of plan g → taps ≡ nets → old.arrays ≡ shapes_before (block_form least).shapes plan g → Chained width ages nets → IsBuffered b old plan g (block_form least) value taps
+  block_buffered width ages nets taps aged wide same arrays is =
+      chain_buffered taps arrays
+      (subst (λ (ns : List Net). Chained (width_of plan g) (ages_of plan g) ns) (sym same)
+      (subst (λ (w : ℕ). Chained w (ages_of plan g) nets) wide (subst (λ (list : List ℕ). Chained width list nets) aged is)))

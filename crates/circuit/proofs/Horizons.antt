@@ -9,10 +9,11 @@ use Rattle.wiring.specs.History.{was_reset, is_held, counted}
 use Rattle.net_build.specs.Runs.{IsClockOf}
 use Rattle.net_build.proofs.Runs.{clock_before}
 use Rattle.net_build.proofs.Clocks.{bool_cases, never, was_off, count_of}
+use Rattle.line_buffer.proofs.Delayed.{ready_since}
 use Rattle.circuit.specs.Runs.{IsRunning}
 use Rattle.circuit.proofs.Streamed.{Line, Streams, NetIsRight, HorizonOf, TapsAreRight, AreImages}
 
-module _ (b m : Netlist) (from : Contents) (p : Streams) (lines : ℕ → Line) (IsKept IsInput : ℕ → Type 0) (Fed : List Clock → Type 0) (cases : (g : ℕ) → IsInput g ⊎ (IsInput g → ⊥)) (parts : AreImages b m from p lines IsKept IsInput Fed) where
+module _ (b m : Netlist) (copies : List ℕ) (from : Contents) (p : Streams) (lines : ℕ → Line) (IsKept IsInput : ℕ → Type 0) (Fed : List Clock → Type 0) (cases : (g : ℕ) → IsInput g ⊎ (IsInput g → ⊥)) (parts : AreImages b m copies from p lines IsKept IsInput Fed) where
   -- taps are right where the net is and the words are
   taps_right : (before : List Clock) (c : Clock) (s : Snapshot) → IsRunning b m from before c s → (g : ℕ) → IsKept g → HorizonOf p lines (length (counted m before)) s.contents g → NetIsRight p lines (length (counted m before)) s g →
       TapsAreRight p lines (length (counted m before)) s g
@@ -54,7 +55,7 @@ module _ (b m : Netlist) (from : Contents) (p : Streams) (lines : ℕ → Line) 
             elim (bool_cases (is_held m d)) as (λ _. HorizonOf p lines (length (counted m (d ∷ before))) s.contents g) [
               | inl held ↦
                   at_count (length (counted m before)) (here ∙ ap (λ (h : Bool). if h then length (counted m before) else suc (length (counted m before))) held)
-                  (λ age q some deep e lt. (parts.buffer g kept).waits m from before d prior.0 prior.1 (is_true (is_held m d) held) s.contents prior.3 age (length (counted m before)) some deep ∙ old g kept age q some deep e lt)
+                  (λ age q some deep e lt. (parts.buffer g kept).waits m from before d prior.0 prior.1 (ready_since copies before since_d) (is_true (is_held m d) held) s.contents prior.3 age (length (counted m before)) some deep ∙ old g kept age q some deep e lt)
               | inr going ↦
                   let running : IsRunning b m from before d prior.0 = record { clock = prior.1; since = since_d; off = off; going = going } in
                   at_count (suc (length (counted m before))) (here ∙ ap (λ (h : Bool). if h then length (counted m before) else suc (length (counted m before))) going)

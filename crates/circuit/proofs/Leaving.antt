@@ -13,12 +13,13 @@ use Rattle.net_build.proofs.Grown.{net_more, width_more}
 use Rattle.net_build.proofs.Runs.{clock_more}
 use Rattle.net_build.proofs.Updating.{all_updated}
 use Rattle.buffer_plan.specs.Plans.{Plan, latency_of}
+use Rattle.line_buffer.proofs.Filling.{index_control_more}
 use Rattle.circuit.specs.Behaviour.{net_of}
 use Rattle.circuit.specs.Ends.{IsStarted, AreOuts, output_in, IsValidOf, AreValids, IsOut, IsSharedBy, AreShared, CanEnd}
 
 -- a valid lasts
 started_more : (new old : Netlist) (latency : ℕ) (n : Net) → Includes new old → IsStarted old latency n → IsStarted new latency n
-started_more new old latency n grows is = record { started = λ m from before c s clock since. is.started m from before c s (clock_more new old m from before c s grows clock) since }
+started_more new old latency n grows is = record { control = index_control_more new old n grows is.control; started = λ m from before c s clock since. is.started m from before c s (clock_more new old m from before c s grows clock) since }
 
 out_more : (new old : Netlist) (plan : Plan) (nets : List Net) (k : ℕ) (out : Net × Net) → Includes new old → IsOut old plan nets k out → IsOut new plan nets k out
 out_more new old plan nets k out grows is = record {

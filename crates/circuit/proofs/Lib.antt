@@ -8,6 +8,7 @@ pub mod BodyPixels
 pub mod Bits
 pub mod Lasting
 pub mod Choosing
+pub mod Sourced
 pub mod Building
 pub mod Leafing
 pub mod Typing

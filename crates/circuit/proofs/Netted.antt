@@ -1,6 +1,6 @@
 -- The nets of the kept images, in the module.
-use Rattle.std.proofs.Common.{◌≡◌, ℕ, zero, suc, ◌+◌, ◌-◌, ◌*◌, ◌<◌, ◌≤◌, Bool, true, false, List, [], ◌∷◌, ◌||◌, length, Some, refl, sym, ap, subst, ◌∙◌, inl, inr, arith}
-use Rattle.std.specs.Prelude.{IsTrue, nat_le, nat_lt, ◌&&◌, All, Contains, slice_get}
+use Rattle.std.proofs.Common.{◌≡◌, ℕ, zero, suc, ◌+◌, ◌-◌, ◌*◌, ◌<◌, ◌≤◌, Bool, true, false, List, [], ◌∷◌, length, Some, refl, sym, ap, subst, ◌∙◌, inl, inr, arith}
+use Rattle.std.specs.Prelude.{IsTrue, not, nat_le, nat_lt, All, Contains, slice_get}
 use Rattle.std.proofs.Math.Nat.{mul-pos}
 use Rattle.std.proofs.lemmas.Bool.{cases_lt}
 use Rattle.std.proofs.lemmas.Option.{same_Some}
@@ -8,7 +8,7 @@ use Rattle.std.proofs.lemmas.List.Elements.{All-nil, All-cons, Contains-append_r
 use Rattle.wiring.specs.declared.right.Atom.TheVariants as atom
 use Rattle.wiring.specs.declared.right.Right.TheVariants.{Copy, Choose, Word}
 use Rattle.wiring.specs.declared.netlist.Net.{Net}
-use Rattle.wiring.specs.declared.netlist.Net.TheVariants.{Output}
+use Rattle.wiring.specs.declared.netlist.Net.TheVariants.{Output, Reg}
 use Rattle.wiring.specs.declared.netlist.Shape.{Shape}
 use Rattle.wiring.specs.declared.netlist.Holder.{Holder}
 use Rattle.wiring.specs.declared.netlist.Holder.TheVariants.{OfNet, OfArray}
@@ -22,11 +22,13 @@ use Rattle.net_build.specs.Draft.{output_assign, output_assigns, with_outputs}
 use Rattle.net_build.specs.Control.{IsMadeOf, by_itself, is_control, IsControl}
 use Rattle.net_build.proofs.Control.{made_wider, made_wire}
 use Rattle.buffer_plan.specs.Plans.{Plan}
-use Rattle.line_buffer.specs.Fills.{HasRight, IsUnlessHeld, Takes, IsFilled, AreFilled}
-use Rattle.line_buffer.proofs.Adding.{le_is}
-use Rattle.circuit.specs.Forms.{Shapes, first_array, end_array}
-use Rattle.circuit.specs.Images.{is_array_of, source_of}
-use Rattle.circuit.specs.Nets.{Shows, Stores, PassesOn, kept_source_of}
+use Rattle.line_buffer.specs.Fills.{HasRight, IsUnlessHeld, ShowsWord, by_read, by_copy, Takes, IsFilled, AreFilled}
+use Rattle.line_buffer.proofs.More.{le_is, lt_is, and_both}
+use Rattle.circuit.specs.Taps.{HasControl}
+use Rattle.circuit.specs.Forms.{Form, first_array, end_array}
+use Rattle.circuit.specs.Images.{is_array_of, words_in, reads_directly}
+use Rattle.circuit.specs.Nets.{Shows, Stores, PassesOn}
+use Rattle.circuit.specs.Modules.{HasCopy}
 
 -- the place of an entry
 place_of : {X : Type 0} (xs : List X) (x : X) → Contains xs x → (k : ℕ) × (slice_get xs k ≡ Some x)
@@ -55,8 +57,8 @@ shows_only m driven output net is = record {
   only = λ a at e. ap (λ (z : Assign). z.right) (only_assign m driven a (record { target = output; right = Copy (atom.Net net) }) at is e);
 }
 
-pub stores_only : (m : Netlist) → UpdatedOnce m → (x : ℕ) (net : Net) → Takes m x net → Stores m x net
-stores_only m updated x net is = record {
+pub stores_only : (m : Netlist) (direct : ℕ → Bool) (copies : List ℕ) → UpdatedOnce m → (x : ℕ) (net : Net) → Takes m direct copies x net → Stores m direct copies x net
+stores_only m direct copies updated x net is = record {
   takes = is;
   only = λ u at e. only_update m updated u (Put x (atom.Net is.index) (atom.Net is.stored)) at is.put e;
 }
@@ -79,83 +81,72 @@ pub some_array : (arrays : List Shape) (width depth : ℕ) → array_bits arrays
 some_array [] width depth e wide deep = absurd (let some : 0 < width * depth = mul-pos wide deep in let none : 0 ≡ width * depth = e in let f : ⊥ = omega (arith, some, none) in f)
 some_array (s ∷ arrays) width depth e wide deep = omega arith
 
--- what an image's own arrays take
-module _ (m : Netlist) (shapes : Shapes) (plan : Plan) (f : ℕ) (net : Net) (fills : AreFilled m (first_array shapes plan f) (end_array shapes plan f) net) where
-  abbrev kept : Holder → Bool
-  kept = kept_source_of shapes plan f m.enable
+-- What an image's own arrays take. The base has rst, en, the registers, and those of the image's arrays that are not long.
+module _ (m : Netlist) (form : Form) (plan : Plan) (copies : List ℕ) (f : ℕ) (net : Net) (fills : AreFilled m (reads_directly form plan) copies (first_array form.shapes plan f) (end_array form.shapes plan f) net) where
+  module _ (base : Holder → Bool) (control : HasControl m.enable base) (own : (x : ℕ) → IsTrue (is_array_of form.shapes plan f x) → IsTrue (reads_directly form plan x) → IsTrue (base (OfArray x))) where
+    among : (x : ℕ) → first_array form.shapes plan f ≤ x → x < end_array form.shapes plan f → IsTrue (is_array_of form.shapes plan f x)
+    among x low high = and_both (nat_le (first_array form.shapes plan f) x) (nat_lt x (end_array form.shapes plan f)) (le_is (first_array form.shapes plan f) x low) (lt_is x (end_array form.shapes plan f) high)
 
-  or_right : (p q : Bool) → IsTrue q → IsTrue (p || q)
-  or_right true q h = refl
-  or_right false q h = h
+    enable_own : (e : Bool) → e ≡ true → IsTrue (is_control e (OfNet enable_net))
+    enable_own true e = refl
+    enable_own false e = absurd (let f : ⊥ = cc in f)
 
-  or_left : (p q : Bool) → IsTrue p → IsTrue (p || q)
-  or_left true q h = refl
-  or_left false q h = absurd (let g : false ≡ true = h in let f : ⊥ = cc in f)
+    index_made : (n : Net) → IsControl m (OfNet n) → IsMadeOf m base (OfNet n)
+    index_made n is = made_wider m (is_control m.enable) base control is
 
-  both : (p q : Bool) → IsTrue p → IsTrue q → IsTrue (p && q)
-  both true true p q = refl
-  both true false p q = q
-  both false q p r = p
+    -- a word is read from an array that is not long, or is a register
+    word_made : (x : ℕ) (index word : Net) → first_array form.shapes plan f ≤ x → x < end_array form.shapes plan f → IsControl m (OfNet index) → ShowsWord m (reads_directly form plan) copies x index word → IsMadeOf m base (OfNet word)
+    word_made x index word low high is (by_read short read) =
+        made_wire m word (Word x (atom.Net index)) base read
+        (All-cons (IsMadeOf m base) (OfArray x) (OfNet index ∷ []) (by_itself (own x (among x low high) short)) (All-cons (IsMadeOf m base) (OfNet index) [] (index_made index is) (All-nil (IsMadeOf m base))))
+    word_made x index word low high is (by_copy r has copy) = by_itself (control (OfNet (Reg r)) refl)
 
-  lt_is : (a b : ℕ) → a < b → IsTrue (nat_lt a b)
-  lt_is a b h = grind arith
+    value_made : (word from stored : Net) → IsUnlessHeld m word from stored → IsMadeOf m base (OfNet word) → IsMadeOf m base (OfNet from) → IsMadeOf m base (OfNet stored)
+    value_made word from stored is of_word of_from = by m.enable refl
+      where
+        by : (e : Bool) → m.enable ≡ e → IsMadeOf m base (OfNet stored)
+        by false off = subst (λ (n : Net). IsMadeOf m base (OfNet n)) (sym (is.plain off)) of_from
+        by true on =
+            made_wire m stored (Choose (atom.Net enable_net) (atom.Net from) (atom.Net word)) base (is.held on)
+            (All-cons (IsMadeOf m base) (OfNet enable_net) (OfNet from ∷ (OfNet word ∷ [])) (by_itself (control (OfNet enable_net) (enable_own m.enable on)))
+            (All-cons (IsMadeOf m base) (OfNet from) (OfNet word ∷ []) of_from (All-cons (IsMadeOf m base) (OfNet word) [] of_word (All-nil (IsMadeOf m base)))))
 
-  wider : (h : Holder) → IsTrue (source_of shapes plan f m.enable h) → IsTrue (kept h)
-  wider (OfNet n) is = is
-  wider (OfArray x) is = or_right (is_array_of shapes plan f x) (source_of shapes plan f m.enable (OfArray x)) is
+    from_made : IsMadeOf m base (OfNet net) → (x : ℕ) → first_array form.shapes plan f ≤ x → x < end_array form.shapes plan f → (is : IsFilled m (reads_directly form plan) copies (first_array form.shapes plan f) net x) → IsMadeOf m base (OfNet is.from)
+    from_made made x low high is =
+        elim (cases_lt (first_array form.shapes plan f) x) as (λ _. IsMadeOf m base (OfNet is.from)) [
+          | inl later ↦ (let w = is.word later in word_made (x - 1) w.index is.from (let h : first_array form.shapes plan f ≤ x - 1 = omega (arith, later) in h) (let h : x - 1 < end_array form.shapes plan f = omega (arith, high) in h) w.control w.shown)
+          | inr most ↦ (let same : x ≡ first_array form.shapes plan f = omega (arith, low, most) in subst (λ (n : Net). IsMadeOf m base (OfNet n)) (sym (is.net same)) made)
+        ]
 
-  control : (h : Holder) → IsTrue (is_control m.enable h) → IsTrue (kept h)
-  control (OfNet n) is = is
-  control (OfArray x) is = absurd (let g : false ≡ true = is in let f : ⊥ = cc in f)
-
-  own : (x : ℕ) → first_array shapes plan f ≤ x → x < end_array shapes plan f → IsTrue (kept (OfArray x))
-  own x low high = or_left (is_array_of shapes plan f x) (source_of shapes plan f m.enable (OfArray x)) (both (nat_le (first_array shapes plan f) x) (nat_lt x (end_array shapes plan f)) (le_is (first_array shapes plan f) x low) (lt_is x (end_array shapes plan f) high))
-
-  enable_own : (e : Bool) → e ≡ true → IsTrue (is_control e (OfNet enable_net))
-  enable_own true e = refl
-  enable_own false e = absurd (let f : ⊥ = cc in f)
-
-  index_made : (n : Net) → IsControl m (OfNet n) → IsMadeOf m kept (OfNet n)
-  index_made n is = made_wider m (is_control m.enable) kept control is
-
-  word_made : (x : ℕ) (index word : Net) → first_array shapes plan f ≤ x → x < end_array shapes plan f → IsControl m (OfNet index) → HasRight m word (Word x (atom.Net index)) → IsMadeOf m kept (OfNet word)
-  word_made x index word low high is read =
-      made_wire m word (Word x (atom.Net index)) kept read (All-cons (IsMadeOf m kept) (OfArray x) (OfNet index ∷ []) (by_itself (own x low high)) (All-cons (IsMadeOf m kept) (OfNet index) [] (index_made index is) (All-nil (IsMadeOf m kept))))
-
-  value_made : (word from stored : Net) → IsUnlessHeld m word from stored → IsMadeOf m kept (OfNet word) → IsMadeOf m kept (OfNet from) → IsMadeOf m kept (OfNet stored)
-  value_made word from stored is of_word of_from = by m.enable refl
-    where
-      by : (e : Bool) → m.enable ≡ e → IsMadeOf m kept (OfNet stored)
-      by false off = subst (λ (n : Net). IsMadeOf m kept (OfNet n)) (sym (is.plain off)) of_from
-      by true on =
-          made_wire m stored (Choose (atom.Net enable_net) (atom.Net from) (atom.Net word)) kept (is.held on)
-          (All-cons (IsMadeOf m kept) (OfNet enable_net) (OfNet from ∷ (OfNet word ∷ [])) (by_itself (control (OfNet enable_net) (enable_own m.enable on)))
-          (All-cons (IsMadeOf m kept) (OfNet from) (OfNet word ∷ []) of_from (All-cons (IsMadeOf m kept) (OfNet word) [] of_word (All-nil (IsMadeOf m kept)))))
-
-  from_made : IsMadeOf m (source_of shapes plan f m.enable) (OfNet net) → (x : ℕ) → first_array shapes plan f ≤ x → x < end_array shapes plan f → (is : IsFilled m (first_array shapes plan f) net x) → IsMadeOf m kept (OfNet is.from)
-  from_made made x low high is =
-      elim (cases_lt (first_array shapes plan f) x) as (λ _. IsMadeOf m kept (OfNet is.from)) [
-        | inl later ↦ (let w = is.word later in word_made (x - 1) w.index is.from (let h : first_array shapes plan f ≤ x - 1 = omega (arith, later) in h) (let h : x - 1 < end_array shapes plan f = omega (arith, high) in h) w.control w.read)
-        | inr most ↦ (let same : x ≡ first_array shapes plan f = omega (arith, low, most) in subst (λ (n : Net). IsMadeOf m kept (OfNet n)) (sym (is.net same)) (made_wider m (source_of shapes plan f m.enable) kept wider made))
-      ]
-
-  -- what a put of one of them reads
-  pub put_made : UpdatedOnce m → IsMadeOf m (source_of shapes plan f m.enable) (OfNet net) → (x : ℕ) (u : Update) → first_array shapes plan f ≤ x → x < end_array shapes plan f → Contains m.updates u → update_target u ≡ OfArray x → All (IsMadeOf m kept) (update_reads u)
-  put_made updated made x u low high at e =
-      let is : IsFilled m (first_array shapes plan f) net x = fills x low high in
-      let t : Takes m x is.from = is.takes in
-      let same : u ≡ Put x (atom.Net t.index) (atom.Net t.stored) = only_update m updated u (Put x (atom.Net t.index) (atom.Net t.stored)) at t.put e in
-      subst (λ (v : Update). All (IsMadeOf m kept) (update_reads v)) (sym same)
-      (All-cons (IsMadeOf m kept) (OfNet t.index) (OfNet t.stored ∷ []) (index_made t.index t.control)
-      (All-cons (IsMadeOf m kept) (OfNet t.stored) [] (value_made t.word is.from t.stored t.value (word_made x t.index t.word low high t.control t.read) (from_made made x low high is)) (All-nil (IsMadeOf m kept))))
+    -- what a put of one of them reads
+    pub put_made : UpdatedOnce m → IsMadeOf m base (OfNet net) → (x : ℕ) (u : Update) → first_array form.shapes plan f ≤ x → x < end_array form.shapes plan f → Contains m.updates u → update_target u ≡ OfArray x → All (IsMadeOf m base) (update_reads u)
+    put_made updated made x u low high at e =
+        let is : IsFilled m (reads_directly form plan) copies (first_array form.shapes plan f) net x = fills x low high in
+        let t : Takes m (reads_directly form plan) copies x is.from = is.takes in
+        let same : u ≡ Put x (atom.Net t.index) (atom.Net t.stored) = only_update m updated u (Put x (atom.Net t.index) (atom.Net t.stored)) at t.put e in
+        subst (λ (v : Update). All (IsMadeOf m base) (update_reads v)) (sym same)
+        (All-cons (IsMadeOf m base) (OfNet t.index) (OfNet t.stored ∷ []) (index_made t.index t.control)
+        (All-cons (IsMadeOf m base) (OfNet t.stored) [] (value_made t.word is.from t.stored t.value (word_made x t.index t.word low high t.control t.shown) (from_made made x low high is)) (All-nil (IsMadeOf m base))))
 
   -- the first takes the image's net, each later one a word of the one before it
-  pub first_stores : UpdatedOnce m → first_array shapes plan f < end_array shapes plan f → Stores m (first_array shapes plan f) net
+  pub first_stores : UpdatedOnce m → first_array form.shapes plan f < end_array form.shapes plan f → Stores m (reads_directly form plan) copies (first_array form.shapes plan f) net
   first_stores updated some =
-      let is : IsFilled m (first_array shapes plan f) net (first_array shapes plan f) = fills (first_array shapes plan f) (omega arith) some in
-      subst (λ (n : Net). Stores m (first_array shapes plan f) n) (is.net refl) (stores_only m updated (first_array shapes plan f) is.from is.takes)
+      let is : IsFilled m (reads_directly form plan) copies (first_array form.shapes plan f) net (first_array form.shapes plan f) = fills (first_array form.shapes plan f) (omega arith) some in
+      subst (λ (n : Net). Stores m (reads_directly form plan) copies (first_array form.shapes plan f) n) (is.net refl) (stores_only m (reads_directly form plan) copies updated (first_array form.shapes plan f) is.from is.takes)
 
-  pub later_stores : UpdatedOnce m → (x : ℕ) → first_array shapes plan f < x → x < end_array shapes plan f → PassesOn m x
+  pub later_stores : UpdatedOnce m → (x : ℕ) → first_array form.shapes plan f < x → x < end_array form.shapes plan f → PassesOn m (reads_directly form plan) copies x
   later_stores updated x low high =
-      let is : IsFilled m (first_array shapes plan f) net x = fills x (omega (arith, low)) high in
-      record { from = is.from; word = is.word low; stores = stores_only m updated x is.from is.takes }
+      let is : IsFilled m (reads_directly form plan) copies (first_array form.shapes plan f) net x = fills x (omega (arith, low)) high in
+      record { from = is.from; word = is.word low; stores = stores_only m (reads_directly form plan) copies updated x is.from is.takes }
+
+  -- a long array has its copy
+  pub long_copied : (x : ℕ) → first_array form.shapes plan f ≤ x → x < end_array form.shapes plan f → IsTrue (form.long (words_in form.shapes plan x)) → HasCopy m copies x
+  long_copied x low high long = (let t : Takes m (reads_directly form plan) copies x (fills x low high).from = (fills x low high).takes in by t.word t.shown)
+    where
+      never : (t : Bool) → IsTrue t → IsTrue (not t) → ⊥
+      never true on off = absurd (let e : false ≡ true = off in let f : ⊥ = cc in f)
+      never false on off = absurd (let e : false ≡ true = on in let f : ⊥ = cc in f)
+
+      by : (word : Net) → ShowsWord m (reads_directly form plan) copies x (fills x low high).takes.index word → HasCopy m copies x
+      by word (by_read short read) = absurd (never (form.long (words_in form.shapes plan x)) long short)
+      by word (by_copy r has copy) = record { copy = r; among = has; copies_word = copy }

@@ -35,7 +35,7 @@ pub control_logic : (new mid old : Netlist) → AddsControl mid old → AddsLogi
 control_logic new mid old f g = control_on old mid new f (logic_adds new mid g)
 
 -- the counters of a position are control
-pub counters_control : (new old : Netlist) (first second : ℕ) → Includes new old → AddsCounters new old first second → ((free : List Holder) → UpdatedBut old free → UpdatedBut new free) → ((free : List Holder) → StillBut old free → StillBut new free) → (NeverStops old → NeverStops new) → (IsControlled old → IsControlled new) → AddsControl new old
+pub counters_control : (new old : Netlist) (first second : ℕ) → Includes new old → AddsCounters new old first second → ((free : List Holder) → UpdatedBut old free → UpdatedBut new free) → ((copies : List ℕ) (free : List Holder) → StillBut old copies free → StillBut new copies free) → (NeverStops old → NeverStops new) → ((copies : List ℕ) → IsControlled old copies → IsControlled new copies) → AddsControl new old
 counters_control new old first second grows is updated still stops control = record { includes = grows; arrays = is.arrays; reads = is.reads; updated = updated; still = still; stops = stops; control = control }
 
 -- columns and rows of pixels are in the frame

@@ -36,8 +36,8 @@ abbrev pub TapsAreRight : Streams → (lines : ℕ → Line) → (t : ℕ) → S
 TapsAreRight p lines t s g = (k age q : ℕ) (tap : Net) → slice_get (lines g).ages k ≡ Some age → slice_get (lines g).taps k ≡ Some tap → q + age + p.delay g ≡ t → q < p.count → net_value s tap ≡ p.pixel g q
 
 -- What the parts of a circuit must ensure, where `Fed history` states that the streams agree with what came in at these clocks.
-pub record AreImages (b m : Netlist) (from : Contents) (p : Streams) (lines : ℕ → Line) (IsKept IsInput : ℕ → Type 0) (Fed : List Clock → Type 0) : Type 0 where
-  pub buffer : (g : ℕ) → IsKept g → IsBuffer b (lines g).place (lines g).ages (lines g).taps (lines g).net
+pub record AreImages (b m : Netlist) (copies : List ℕ) (from : Contents) (p : Streams) (lines : ℕ → Line) (IsKept IsInput : ℕ → Type 0) (Fed : List Clock → Type 0) : Type 0 where
+  pub buffer : (g : ℕ) → IsKept g → IsBuffer b copies (lines g).place (lines g).ages (lines g).taps (lines g).net
   pub within : (g k age : ℕ) → IsKept g → slice_get (lines g).ages k ≡ Some age → age ≤ depth_of (lines g).ages
   pub earlier : (before : List Clock) (c : Clock) → c.reset ≡ false → Fed (c ∷ before) → Fed before
   pub input : (before : List Clock) (c : Clock) (s : Snapshot) → IsRunning b m from before c s → Fed (c ∷ before) → (g : ℕ) → IsInput g → NetIsRight p lines (length (counted m before)) s g

@@ -9,7 +9,7 @@ use Rattle.wiring.specs.Rules.{with_valids}
 use Rattle.wiring.specs.Snapshot.{Contents, Snapshot, IsNext, net_value}
 use Rattle.wiring.specs.Clock.{Clock, bit}
 use Rattle.wiring.specs.History.{was_reset, is_held, counted}
-use Rattle.net_build.specs.Runs.{IsClockOf, InEachRun}
+use Rattle.net_build.specs.Runs.{IsClockOf, InEachRun, IsReady}
 use Rattle.pointwise_ir.specs.Programs.{Program}
 use Rattle.pointwise_ir.specs.Stencils.{AreStencilsOf}
 use Rattle.buffer_plan.specs.Plans.{Plan, delay_of, depth_of, latency_of}
@@ -46,8 +46,8 @@ ShowsPixels m p delay g net =
     (n : Netlist) (from : Contents) (before : List Clock) (c : Clock) (s : Snapshot) → IsRunning m n from before c s → (rounds : Rounds) → AreRounds p rounds → Feeds n p rounds (c ∷ before) →
     IsPixel (pixel_bits p rounds g) (pixel_count p rounds) delay (length (counted n before)) (net_value s net)
 
--- The behaviour of the module of a program under a plan, where `places` says which word holds which pixel, and the kept images have these nets.
-pub record Behaves (m : Netlist) (p : Program) (plan : Plan) (places : Places) (nets : List Net) : Type 0 where
+-- The behaviour of the module of a program under a plan, where `places` says which word holds which pixel, the copies are registers that copy words, and the kept images have these nets.
+pub record Behaves (m : Netlist) (p : Program) (plan : Plan) (places : Places) (copies : List ℕ) (nets : List Net) : Type 0 where
   pub one_each : length nets ≡ length plan.system.stencils.images
   -- each kept image's net is its pixel scheduled for this clock
   pub net : (g : ℕ) → Keeps plan g → ShowsPixels m p (delay_of plan g) g (net_of plan nets g)
@@ -58,5 +58,5 @@ pub record Behaves (m : Netlist) (p : Program) (plan : Plan) (places : Places) (
   -- the horizon, at every clock after a reset: before the edge each word that is still to be read holds its pixel
   pub horizon : (n : Netlist) (from : Contents) (before : List Clock) (c : Clock) (s : Snapshot) → IsClockOf m n from before c s → IsTrue (was_reset before) → (rounds : Rounds) → AreRounds p rounds → Feeds n p rounds before → (g : ℕ) → Keeps plan g →
       BufferIsRight (λ age t. word_at s.contents (places plan g age t)) (pixel_bits p rounds g) (pixel_count p rounds) (delay_of plan g) (depth_of plan g) (length (counted n before))
-  -- no state changes in a held clock
-  pub held : InEachRun m (λ n before c s. n ≡ m → IsTrue (is_held n c) → (next : Contents) → IsNext n s next → next ≡ s.contents)
+  -- no state changes in a held clock: in none at all if there are no copies, and else in none after a reset
+  pub held : InEachRun m (λ n before c s. n ≡ m → IsReady copies before → IsTrue (is_held n c) → (next : Contents) → IsNext n s next → next ≡ s.contents)

@@ -1,6 +1,7 @@
 -- How a circuit ends: each output has its valid and the net of its image.
 use Rattle.std.specs.Prelude.{◌≡◌, ℕ, ◌<◌, IsTrue, List, [], ◌∷◌, length, slice_index, slice_get, Some}
 use Rattle.wiring.specs.declared.netlist.Net.{Net}
+use Rattle.wiring.specs.declared.netlist.Holder.TheVariants.{OfNet}
 use Rattle.wiring.specs.Netlist.{Netlist, net_width}
 use Rattle.wiring.specs.Rules.{with_valids}
 use Rattle.wiring.specs.BufferBits.{IsBufferBits, array_bits}
@@ -9,13 +10,14 @@ use Rattle.wiring.specs.Clock.{bit}
 use Rattle.wiring.specs.History.{was_reset}
 use Rattle.net_build.specs.Draft.{IsNet, IsDraft, UpdatedBut, flat, with_outputs}
 use Rattle.net_build.specs.Runs.{IsWhole, NeverStops, StillBut, RunsOn, InEachRun}
-use Rattle.net_build.specs.Control.{IsControlled}
+use Rattle.net_build.specs.Control.{IsControl, IsControlled, FedOnly}
 use Rattle.net_build.specs.Counters.{AddsControl}
 use Rattle.buffer_plan.specs.Plans.{Plan, latency_of}
 use Rattle.circuit.specs.Behaviour.{net_of, is_valid}
 
--- since a reset the net is 0 in each reset clock, each held clock and each counted clock below the latency, and 1 in each later one
+-- Since a reset the net is 0 in each reset clock, each held clock and each counted clock below the latency, and 1 in each later one. It is made of rst, en and registers.
 pub record IsStarted (b : Netlist) (latency : ℕ) (net : Net) : Type 0 where
+  pub control : IsControl b (OfNet net)
   pub started : InEachRun b (λ m before c s. IsTrue (was_reset (c ∷ before)) → net_value s net ≡ bit (is_valid m latency before c))
 
 -- For each of the first n outputs its valid and its dout.
@@ -73,5 +75,6 @@ pub record IsClosed (m b : Netlist) (plan : Plan) (nets : List Net) : Type 0 whe
   pub driven : m ≡ with_outputs last (flat outs)
   pub whole : IsWhole m last
   pub runs : NeverStops last → RunsOn m
-  pub bits : IsControlled last → IsBufferBits m (array_bits last.arrays)
-  pub still : StillBut last [] → StillBut m []
+  pub bits : IsControlled last [] → IsBufferBits m (array_bits last.arrays)
+  pub fed : (copies : List ℕ) → IsControlled last copies → FedOnly m copies
+  pub still : (copies : List ℕ) → StillBut last copies [] → StillBut m copies []

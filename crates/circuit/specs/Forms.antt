@@ -1,17 +1,19 @@
 -- The law of a form of buffers, over a plan.
-use Rattle.std.specs.Prelude.{◌≡◌, ℕ, ◌+◌, ◌*◌, ◌<◌, ◌≤◌, List, [], ◌∷◌, ◌++◌, length, take}
+use Rattle.std.specs.Prelude.{◌≡◌, ℕ, ◌+◌, ◌*◌, ◌<◌, ◌≤◌, Bool, false, not, List, [], ◌∷◌, ◌++◌, length, take, Some, ⊤}
 use Rattle.dk_base.specs.declared.stencils.Image.{Image}
 use Rattle.dk_base.specs.Stencils.{place}
 use Rattle.wiring.specs.declared.right.Atom.{Atom}
 use Rattle.wiring.specs.declared.netlist.Net.{Net}
 use Rattle.wiring.specs.declared.netlist.Shape.{Shape}
-use Rattle.wiring.specs.Netlist.{Netlist}
+use Rattle.wiring.specs.Netlist.{Netlist, depth}
 use Rattle.wiring.specs.BufferBits.{array_bits}
 use Rattle.net_build.specs.Indices.{read_indices, put_indices}
 use Rattle.buffer_plan.specs.Plans.{Plan, ages_of, width_of, depth_of}
 use Rattle.line_buffer.specs.Places.{Place, chain_shapes, chain_place, ring_shapes, ring_place}
 use Rattle.line_buffer.specs.Fills.{AreFilled}
-use Rattle.line_buffer.specs.Buffers.{IsBuffer, AddsBuffer, AreMadeOfBuffer}
+use Rattle.line_buffer.specs.Indices.{IsReadOnce, IsReadAndPut, is_long, is_direct}
+use Rattle.line_buffer.specs.Buffers.{IsBuffer, AddsBuffer}
+use Rattle.line_buffer.specs.Chains.{AreCopies, AreMadeOfShort}
 
 -- the arrays of a form, by a plan and an image; and where it holds an age of an image at a clock
 abbrev pub Shapes : Type 0
@@ -20,9 +22,16 @@ Shapes = Plan → (g : ℕ) → List Shape
 abbrev pub Places : Type 0
 Places = Plan → (g age t : ℕ) → Place
 
--- what each array of a form keeps, by the indices at which it is read and those at which it is put
+-- what each array of a form keeps, by its number of words, the indices at which it is read and those at which it is put
 abbrev pub Property : Type 1
-Property = (reads puts : List (Atom Net)) → Type 0
+Property = (words : ℕ) → (reads puts : List (Atom Net)) → Type 0
+
+-- A form of buffers: the arrays, where each age is, which arrays are long, by their number of words, and what each array keeps. A long array has a register that copies its word, and nothing else reads it.
+pub record Form : Type 1 where
+  pub shapes : Shapes
+  pub places : Places
+  pub long : (words : ℕ) → Bool
+  pub property : Property
 
 -- the arrays of these images, one after another
 abbrev pub shapes_of : Shapes → Plan → List Image → List Shape
@@ -40,14 +49,20 @@ first_array shapes plan g = length (shapes_before shapes plan g)
 abbrev pub end_array : Shapes → Plan → (g : ℕ) → ℕ
 end_array shapes plan g = first_array shapes plan g + length (shapes plan g)
 
--- What a form has done for image g: its taps, each for an age; arrays of width times depth bits, and nothing else that takes in what came in. The first array takes the image's net, each later one a word of the one before it. Each array has the form's property.
-pub record IsBuffered (b old : Netlist) (plan : Plan) (g : ℕ) (shapes : Shapes) (places : Places) (property : Property) (value : Net) (taps : List Net) : Type 0 where
-  pub buffer : IsBuffer b (places plan g) (ages_of plan g) taps value
-  pub adds : AddsBuffer b old (shapes plan g)
-  pub bits : array_bits (shapes plan g) ≡ width_of plan g * depth_of plan g
-  pub made : AreMadeOfBuffer b (length old.arrays) (length old.arrays + length (shapes plan g)) (ages_of plan g) taps
-  pub fills : AreFilled b (length old.arrays) (length old.arrays + length (shapes plan g)) value
-  pub each : (x : ℕ) → length old.arrays ≤ x → x < length b.arrays → property (read_indices b x) (put_indices b x)
+-- What a form has done for image g: its taps, each for an age; arrays of width times depth bits, a copy for each long array, and nothing else that takes in what came in. The taps are made of the arrays that are not long, and of the copies. The first array takes the image's net, each later one a word of the one before it. Each array has the form's property.
+pub record IsBuffered (b old : Netlist) (plan : Plan) (g : ℕ) (form : Form) (value : Net) (taps : List Net) : Type 0 where
+  pub copies : List ℕ
+  pub buffer : IsBuffer b copies (form.places plan g) (ages_of plan g) taps value
+  pub adds : AddsBuffer b old (form.shapes plan g) copies
+  pub copied : AreCopies form.long b copies (form.shapes plan g)
+  pub bits : array_bits (form.shapes plan g) ≡ width_of plan g * depth_of plan g
+  pub made : AreMadeOfShort form.long b (length old.arrays) (length old.arrays + length (form.shapes plan g)) (ages_of plan g) taps
+  pub fills : AreFilled b (is_direct form.long b) copies (length old.arrays) (length old.arrays + length (form.shapes plan g)) value
+  pub each : (x : ℕ) → length old.arrays ≤ x → x < length b.arrays → form.property (depth b x) (read_indices b x) (put_indices b x)
+
+-- each array of the module has the property
+abbrev pub HasProperty : Netlist → Property → Type 0
+HasProperty m property = (x : ℕ) → x < length m.arrays → property (depth m x) (read_indices m x) (put_indices m x)
 
 -- a chain for each image, its segments ascending
 abbrev pub chain_shapes_of : Shapes
@@ -56,9 +71,20 @@ chain_shapes_of plan g = chain_shapes (width_of plan g) (ages_of plan g)
 abbrev pub chain_places : Places
 chain_places plan g age t = chain_place (first_array chain_shapes_of plan g) (ages_of plan g) age t
 
+-- each array is read once and put once, at one index
+abbrev pub chain_form : Form
+chain_form = record { shapes = chain_shapes_of; places = chain_places; long = λ words. false; property = λ words. IsReadOnce }
+
+-- The arrays of a chain. Those of at least this number of words are long: each is read once, one clock ahead, and put once.
+abbrev pub block_form : (least : ℕ) → Form
+block_form least = record { shapes = chain_shapes_of; places = chain_places; long = is_long (Some least); property = λ words. IsReadAndPut (not (is_long (Some least) words)) }
+
 -- a ring for each image of depth above 0
 abbrev pub ring_shapes_of : Shapes
 ring_shapes_of plan g = ring_shapes (width_of plan g) (ages_of plan g)
 
 abbrev pub ring_places : Places
 ring_places plan g age t = ring_place (first_array ring_shapes_of plan g) (ages_of plan g) age t
+
+abbrev pub ring_form : Form
+ring_form = record { shapes = ring_shapes_of; places = ring_places; long = λ words. false; property = λ words reads puts. ⊤ }

@@ -1,13 +1,15 @@
 -- What is built for the images of a plan, one after another.
-use Rattle.std.specs.Prelude.{◌≡◌, ℕ, ◌*◌, ◌<◌, ◌≤◌, nat_le, nat_lt, ◌&&◌, Bool, List, [], length, map, take, slice_get, slice_index_or, Some}
+use Rattle.std.specs.Prelude.{◌≡◌, ℕ, ◌*◌, ◌<◌, ◌≤◌, nat_le, nat_lt, ◌&&◌, Bool, true, false, not, List, [], length, map, take, slice_get, slice_index_or, unwrap_or, Some}
 use Rattle.std.specs.List.{list_any}
+use Rattle.std.specs.Option.{option_map}
 use Rattle.dk_base.specs.declared.stencils.Image.{Image}
 use Rattle.dk_base.specs.declared.stencils.LiveRead.{LiveRead}
 use Rattle.dk_base.specs.Types.{width_of as bits_of_type}
 use Rattle.wiring.specs.declared.netlist.Net.{Net}
-use Rattle.wiring.specs.declared.netlist.Net.TheVariants.{Input}
+use Rattle.wiring.specs.declared.netlist.Net.TheVariants.{Input, Output, Wire, Reg}
 use Rattle.wiring.specs.declared.netlist.Holder.{Holder}
 use Rattle.wiring.specs.declared.netlist.Holder.TheVariants.{OfNet, OfArray}
+use Rattle.wiring.specs.declared.netlist.Shape.{Shape}
 use Rattle.wiring.specs.Netlist.{Netlist, net_width, din_net}
 use Rattle.wiring.specs.BufferBits.{array_bits}
 use Rattle.wiring.specs.Snapshot.{Contents, Snapshot, net_value}
@@ -22,12 +24,13 @@ use Rattle.pointwise_ir.specs.Programs.{Program}
 use Rattle.buffer_plan.specs.Plans.{Plan, delay_of, ages_of, width_of, depth_of}
 use Rattle.line_buffer.specs.Streams.{IsPixel}
 use Rattle.line_buffer.specs.Fills.{AreFilled}
-use Rattle.line_buffer.specs.Buffers.{IsBuffer, AreMadeOfBuffer}
+use Rattle.line_buffer.specs.Buffers.{IsBuffer}
+use Rattle.line_buffer.specs.Chains.{AreCopies}
 use Rattle.circuit.specs.Runs.{IsRunning}
 use Rattle.circuit.specs.Rounds.{Rounds, AreRounds, type_at, pixel_count, pixel_bits}
 use Rattle.circuit.specs.Taps.{Keeps, taps_at, TapsAreRight}
 use Rattle.circuit.specs.Reads.{reads_in, IsMadeOfTaps}
-use Rattle.circuit.specs.Forms.{Shapes, Places, Property, shapes_of, first_array, end_array}
+use Rattle.circuit.specs.Forms.{Shapes, Form, shapes_of, first_array, end_array}
 
 -- In each counted clock the net of image f is the pixel scheduled for it, for all rounds whose pixels the taps of the images before it have.
 abbrev pub IsBodyNet : Netlist → Program → Plan → List (List Net) → (f : ℕ) → Net → Type 0
@@ -47,36 +50,60 @@ pub record IsImageNet (b old : Netlist) (p : Program) (plan : Plan) (taps : List
 abbrev pub is_array_of : Shapes → Plan → (g x : ℕ) → Bool
 is_array_of shapes plan g x = nat_le (first_array shapes plan g) x && nat_lt x (end_array shapes plan g)
 
--- rst, en, the registers, and the arrays of the images of which f has a live read
-abbrev pub source_of : Shapes → Plan → (f : ℕ) → (enable : Bool) → Holder → Bool
-source_of shapes plan f enable (OfNet n) = is_control enable (OfNet n)
-source_of shapes plan f enable (OfArray x) = list_any (λ (r : LiveRead). is_array_of shapes plan r.g x) (reads_in plan f)
+-- the number of words of array x, of the arrays of all kept images
+abbrev pub words_in : Shapes → Plan → (x : ℕ) → ℕ
+words_in shapes plan x = unwrap_or (option_map (λ (s : Shape). s.depth) (slice_get (shapes_of shapes plan plan.system.stencils.images) x)) 0
 
--- What has been built for image g, as the netlist b has it: its net, and its buffer by its taps.
-pub record IsLine (b : Netlist) (p : Program) (plan : Plan) (shapes : Shapes) (places : Places) (property : Property) (taps : List (List Net)) (g : ℕ) (net : Net) : Type 0 where
+-- array x is not long, so any logic may read it
+abbrev pub reads_directly : Form → Plan → (x : ℕ) → Bool
+reads_directly form plan x = not (form.long (words_in form.shapes plan x))
+
+-- rst, en, the registers, and the arrays of image g that are not long
+abbrev pub tap_source_of : Form → Plan → (g : ℕ) → (enable : Bool) → Holder → Bool
+tap_source_of form plan g enable (OfNet n) = is_control enable (OfNet n)
+tap_source_of form plan g enable (OfArray x) = reads_directly form plan x && is_array_of form.shapes plan g x
+
+-- rst, en, the registers, and the arrays that are not long of the images of which f has a live read
+abbrev pub source_of : Form → Plan → (f : ℕ) → (enable : Bool) → Holder → Bool
+source_of form plan f enable (OfNet n) = is_control enable (OfNet n)
+source_of form plan f enable (OfArray x) = reads_directly form plan x && list_any (λ (r : LiveRead). is_array_of form.shapes plan r.g x) (reads_in plan f)
+
+-- the inputs of the module, the registers, and the arrays that are not long
+abbrev pub direct_source : Form → Plan → Holder → Bool
+direct_source form plan (OfNet (Input k)) = true
+direct_source form plan (OfNet (Output k)) = false
+direct_source form plan (OfNet (Wire k)) = false
+direct_source form plan (OfNet (Reg k)) = true
+direct_source form plan (OfArray x) = reads_directly form plan x
+
+-- What has been built for image g, as the netlist b has it: its net, and its buffer by its taps. No path of assigns leads from a long array to them, except through a register.
+pub record IsLine (b : Netlist) (p : Program) (plan : Plan) (form : Form) (copies : List ℕ) (taps : List (List Net)) (g : ℕ) (net : Net) : Type 0 where
   pub there : IsNet b net
   pub width : net_width b net ≡ width_of plan g
   pub input : g < length p.inputs → net ≡ din_net b g
   pub body : length p.inputs ≤ g → IsBodyNet b p plan taps g net
-  pub apart : 1 ≤ plan.system.age → length p.inputs ≤ g → IsMadeOf b (source_of shapes plan g b.enable) (OfNet net)
-  pub buffer : IsBuffer b (places plan g) (ages_of plan g) (taps_at plan taps g) net
-  pub bits : array_bits (shapes plan g) ≡ width_of plan g * depth_of plan g
-  pub made : AreMadeOfBuffer b (first_array shapes plan g) (end_array shapes plan g) (ages_of plan g) (taps_at plan taps g)
-  pub fills : AreFilled b (first_array shapes plan g) (end_array shapes plan g) net
-  pub each : (x : ℕ) → first_array shapes plan g ≤ x → x < end_array shapes plan g → property (read_indices b x) (put_indices b x)
+  pub apart : 1 ≤ plan.system.age → length p.inputs ≤ g → IsMadeOf b (source_of form plan g b.enable) (OfNet net)
+  pub direct : IsMadeOf b (direct_source form plan) (OfNet net)
+  pub buffer : IsBuffer b copies (form.places plan g) (ages_of plan g) (taps_at plan taps g) net
+  pub bits : array_bits (form.shapes plan g) ≡ width_of plan g * depth_of plan g
+  pub made : (k age : ℕ) (tap : Net) → slice_get (ages_of plan g) k ≡ Some age → 0 < age → slice_get (taps_at plan taps g) k ≡ Some tap → IsMadeOf b (tap_source_of form plan g b.enable) (OfNet tap)
+  pub fills : AreFilled b (reads_directly form plan) copies (first_array form.shapes plan g) (end_array form.shapes plan g) net
+  pub each : (x : ℕ) → first_array form.shapes plan g ≤ x → x < end_array form.shapes plan g → form.property (words_in form.shapes plan x) (read_indices b x) (put_indices b x)
 
 -- a netlist with the ports of a program and nothing else
 abbrev pub ports_of : Program → (enable : Bool) → Netlist
 ports_of p enable = empty_draft enable (map (λ i. bits_of_type i.ty) p.inputs) (map (λ g. bits_of_type (type_at p g)) p.outputs)
 
 -- The first n of the kept images have their nets and their buffers, and nothing else is there.
-pub record AreBuilt (b : Netlist) (p : Program) (plan : Plan) (shapes : Shapes) (places : Places) (property : Property) (n : ℕ) (nets : List Net) (taps : List (List Net)) : Type 0 where
+pub record AreBuilt (b : Netlist) (p : Program) (plan : Plan) (form : Form) (n : ℕ) (nets : List Net) (taps : List (List Net)) : Type 0 where
   pub ports : Includes b (ports_of p b.enable)
   pub net_count : length nets ≡ n
   pub tap_count : length taps ≡ n
-  pub arrays : b.arrays ≡ shapes_of shapes plan (take n plan.system.stencils.images)
+  pub arrays : b.arrays ≡ shapes_of form.shapes plan (take n plan.system.stencils.images)
+  pub copies : List ℕ
+  pub copied : AreCopies form.long b copies b.arrays
   pub updated : UpdatedBut b []
-  pub still : StillBut b []
+  pub still : StillBut b copies []
   pub stops : NeverStops b
-  pub control : IsControlled b
-  pub line : (k : ℕ) (i : Image) → k < n → slice_get plan.system.stencils.images k ≡ Some i → IsLine b p plan shapes places property taps i.number (slice_index_or nets k (Input 0))
+  pub control : IsControlled b copies
+  pub line : (k : ℕ) (i : Image) → k < n → slice_get plan.system.stencils.images k ≡ Some i → IsLine b p plan form copies taps i.number (slice_index_or nets k (Input 0))

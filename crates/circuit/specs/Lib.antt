@@ -7,5 +7,6 @@ pub mod Forms
 pub mod Images
 pub mod Behaviour
 pub mod Nets
+pub mod Modules
 pub mod Ends
 pub mod Driven

@@ -1,16 +1,14 @@
 // The module of a circuit, once all its images are built.
 
-ghost use Rattle.std.specs.Prelude.{◌≡◌, ℕ, ◌<◌, IfOk, length};
-ghost use Rattle.wiring.specs.BufferBits.{IsBufferBits};
-ghost use Rattle.net_build.specs.Indices.{read_indices, put_indices};
+ghost use Rattle.std.specs.Prelude.{◌≡◌, IfOk, length};
 ghost use Rattle.net_build.specs.Naming.{names_for};
 ghost use Rattle.net_build.specs.Runs.{IsWhole, RunsOn};
 ghost use Rattle.pointwise_ir.specs.Stencils.{AreStencilsOf};
-ghost use Rattle.buffer_plan.specs.Plans.{bits_of};
-ghost use Rattle.circuit.specs.Forms.{shapes_of};
+ghost use Rattle.circuit.specs.Forms.{shapes_of, HasProperty};
 ghost use Rattle.circuit.specs.Images.{AreBuilt};
-ghost use Rattle.circuit.specs.Behaviour.{HasPorts, Behaves};
-ghost use Rattle.circuit.specs.Nets.{AreNetsOf, IsApart};
+ghost use Rattle.circuit.specs.Behaviour.{HasPorts};
+ghost use Rattle.circuit.specs.Nets.{IsApart};
+ghost use Rattle.circuit.specs.Modules.{IsModuleOf};
 ghost use Rattle.circuit.specs.Ends.{CanEnd, IsClosed};
 
 use crate::forms::BufferForm;
@@ -54,19 +52,15 @@ pub fn finished<F: BufferForm>(
     taps: &[Taps],
 ) -> Result<Built, OutOfMemory>
     requires stencils { AreStencilsOf ir.now plan.now.system.stencils }
-    requires built { AreBuilt b ir.now plan.now (F.shapes form.now) (F.places form.now) (F.property form.now)
-        (length plan.now.system.stencils.images) nets.items taps.now }
+    requires built { AreBuilt b ir.now plan.now (F.form form.now) (length plan.now.system.stencils.images) nets.items taps.now }
     ensures ports { IfOk result (λ r. HasPorts r.module.netlist ir.now b.enable) }
     ensures named { IfOk result (λ r. r.module.names ≡ names_for r.module.netlist) }
     ensures whole { IfOk result (λ r. IsWhole r.module.netlist r.module.netlist) }
     ensures runs { IfOk result (λ r. RunsOn r.module.netlist) }
-    ensures behaves { IfOk result (λ r. Behaves r.module.netlist ir.now plan.now (F.places form.now) r.nets.items) }
-    ensures bits { IfOk result (λ r. IsBufferBits r.module.netlist (bits_of plan.now)) }
-    ensures arrays { IfOk result (λ r. r.module.netlist.arrays ≡ shapes_of (F.shapes form.now) plan.now plan.now.system.stencils.images) }
-    ensures property { IfOk result (λ r. (x : ℕ) → x < length r.module.netlist.arrays
-        → F.property form.now (read_indices r.module.netlist x) (put_indices r.module.netlist x)) }
-    ensures nets { IfOk result (λ r. AreNetsOf r.module.netlist ir.now plan.now (F.shapes form.now) r.nets.items) }
-    ensures apart { IfOk result (λ r. IsApart r.module.netlist ir.now plan.now (F.shapes form.now) r.nets.items) }
+    ensures circuit { IfOk result (λ r. IsModuleOf r.module.netlist ir.now plan.now (F.form form.now) r.nets.items) }
+    ensures arrays { IfOk result (λ r. r.module.netlist.arrays ≡ shapes_of (F.form form.now).shapes plan.now plan.now.system.stencils.images) }
+    ensures property { IfOk result (λ r. HasProperty r.module.netlist (F.form form.now).property) }
+    ensures apart { IfOk result (λ r. IsApart r.module.netlist ir.now plan.now (F.form form.now) r.nets.items) }
 {
     plan.law();
     let module = closed(alloc, b, plan, &nets)?;

@@ -1,16 +1,14 @@
 // The module of a program.
 
-ghost use Rattle.std.specs.Prelude.{◌≡◌, ℕ, ◌<◌, suc, false, IfOk, length, OnOk};
-ghost use Rattle.wiring.specs.BufferBits.{IsBufferBits};
-ghost use Rattle.net_build.specs.Indices.{read_indices, put_indices};
+ghost use Rattle.std.specs.Prelude.{◌≡◌, ◌<◌, suc, false, IfOk, length, OnOk};
 ghost use Rattle.net_build.specs.Naming.{names_for};
 ghost use Rattle.net_build.specs.Runs.{IsWhole, RunsOn};
 ghost use Rattle.pointwise_ir.specs.Stencils.{AreStencilsOf};
-ghost use Rattle.buffer_plan.specs.Plans.{bits_of};
-ghost use Rattle.circuit.specs.Forms.{shapes_of};
+ghost use Rattle.circuit.specs.Forms.{shapes_of, HasProperty};
 ghost use Rattle.circuit.specs.Images.{AreBuilt};
-ghost use Rattle.circuit.specs.Behaviour.{IsPlanOf, HasPorts, Behaves};
-ghost use Rattle.circuit.specs.Nets.{AreNetsOf, IsApart};
+ghost use Rattle.circuit.specs.Behaviour.{IsPlanOf, HasPorts};
+ghost use Rattle.circuit.specs.Nets.{IsApart};
+ghost use Rattle.circuit.specs.Modules.{IsModuleOf};
 
 use crate::finishing::{Built, finished};
 use crate::forms::BufferForm;
@@ -39,10 +37,9 @@ fn add_image<F: BufferForm>(
 ) -> Result<(), OutOfMemory>
     requires stencils { AreStencilsOf ir.now plan.now.system.stencils }
     requires within { k < length plan.now.system.stencils.images }
-    requires built { AreBuilt b.old ir.now plan.now (F.shapes form.now) (F.places form.now) (F.property form.now) k nets.old.items taps.old.items }
+    requires built { AreBuilt b.old ir.now plan.now (F.form form.now) k nets.old.items taps.old.items }
     ensures enable { OnOk result (b.new.enable ≡ b.old.enable) }
-    ensures built { OnOk result (AreBuilt b.new ir.now plan.now (F.shapes form.now) (F.places form.now) (F.property form.now)
-        (suc k) nets.new.items taps.new.items) }
+    ensures built { OnOk result (AreBuilt b.new ir.now plan.now (F.form form.now) (suc k) nets.new.items taps.new.items) }
 {
     plan.law();
     let image = plan.images()[k].number;
@@ -53,6 +50,7 @@ fn add_image<F: BufferForm>(
         image,
     };
     let net = image_net(alloc, b, &reader)?;
+    b.law();
     let own = form.add(alloc, plan, image, net, b)?;
     b.law();
     nets.push(net)?;
@@ -71,10 +69,9 @@ fn add_images<F: BufferForm>(
     taps: &mut Vec<Taps>,
 ) -> Result<(), OutOfMemory>
     requires stencils { AreStencilsOf ir.now plan.now.system.stencils }
-    requires built { AreBuilt b.old ir.now plan.now (F.shapes form.now) (F.places form.now) (F.property form.now) 0 nets.old.items taps.old.items }
+    requires built { AreBuilt b.old ir.now plan.now (F.form form.now) 0 nets.old.items taps.old.items }
     ensures enable { OnOk result (b.new.enable ≡ b.old.enable) }
-    ensures built { OnOk result (AreBuilt b.new ir.now plan.now (F.shapes form.now) (F.places form.now) (F.property form.now)
-        (length plan.now.system.stencils.images) nets.new.items taps.new.items) }
+    ensures built { OnOk result (AreBuilt b.new ir.now plan.now (F.form form.now) (length plan.now.system.stencils.images) nets.new.items taps.new.items) }
 {
     for k in 0..plan.images().len() {
         add_image(alloc, b, ir, plan, form, k, nets, taps)?;
@@ -95,13 +92,10 @@ pub fn build_with<F: BufferForm>(
     ensures named { IfOk result (λ r. r.module.names ≡ names_for r.module.netlist) }
     ensures whole { IfOk result (λ r. IsWhole r.module.netlist r.module.netlist) }
     ensures runs { IfOk result (λ r. RunsOn r.module.netlist) }
-    ensures behaves { IfOk result (λ r. Behaves r.module.netlist ir.now plan.now (F.places form.now) r.nets.items) }
-    ensures bits { IfOk result (λ r. IsBufferBits r.module.netlist (bits_of plan.now)) }
-    ensures arrays { IfOk result (λ r. r.module.netlist.arrays ≡ shapes_of (F.shapes form.now) plan.now plan.now.system.stencils.images) }
-    ensures property { IfOk result (λ r. (x : ℕ) → x < length r.module.netlist.arrays
-        → F.property form.now (read_indices r.module.netlist x) (put_indices r.module.netlist x)) }
-    ensures nets { IfOk result (λ r. AreNetsOf r.module.netlist ir.now plan.now (F.shapes form.now) r.nets.items) }
-    ensures apart { IfOk result (λ r. IsApart r.module.netlist ir.now plan.now (F.shapes form.now) r.nets.items) }
+    ensures circuit { IfOk result (λ r. IsModuleOf r.module.netlist ir.now plan.now (F.form form.now) r.nets.items) }
+    ensures arrays { IfOk result (λ r. r.module.netlist.arrays ≡ shapes_of (F.form form.now).shapes plan.now plan.now.system.stencils.images) }
+    ensures property { IfOk result (λ r. HasProperty r.module.netlist (F.form form.now).property) }
+    ensures apart { IfOk result (λ r. IsApart r.module.netlist ir.now plan.now (F.form form.now) r.nets.items) }
 {
     let mut b = begun(alloc, ir, options.enable)?;
     let mut nets = Vec::new(alloc);
@@ -122,12 +116,9 @@ pub fn build<F: BufferForm>(
     ensures ports { IfOk result (λ r. HasPorts r.module.netlist ir.now false) }
     ensures whole { IfOk result (λ r. IsWhole r.module.netlist r.module.netlist) }
     ensures runs { IfOk result (λ r. RunsOn r.module.netlist) }
-    ensures behaves { IfOk result (λ r. Behaves r.module.netlist ir.now plan.now (F.places form.now) r.nets.items) }
-    ensures bits { IfOk result (λ r. IsBufferBits r.module.netlist (bits_of plan.now)) }
-    ensures arrays { IfOk result (λ r. r.module.netlist.arrays ≡ shapes_of (F.shapes form.now) plan.now plan.now.system.stencils.images) }
-    ensures property { IfOk result (λ r. (x : ℕ) → x < length r.module.netlist.arrays
-        → F.property form.now (read_indices r.module.netlist x) (put_indices r.module.netlist x)) }
-    ensures nets { IfOk result (λ r. AreNetsOf r.module.netlist ir.now plan.now (F.shapes form.now) r.nets.items) }
+    ensures circuit { IfOk result (λ r. IsModuleOf r.module.netlist ir.now plan.now (F.form form.now) r.nets.items) }
+    ensures arrays { IfOk result (λ r. r.module.netlist.arrays ≡ shapes_of (F.form form.now).shapes plan.now plan.now.system.stencils.images) }
+    ensures property { IfOk result (λ r. HasProperty r.module.netlist (F.form form.now).property) }
 {
     let options = Options {
         enable: false,

@@ -41,9 +41,9 @@ fn dout_bits(alloc: Global, ir: &Program) -> Result<Vec<u8>, OutOfMemory>
 pub fn begun(alloc: Global, ir: &Program, enable: bool) -> Result<Builder, OutOfMemory>
     ensures ports { IfOk result (λ b. b ≡ ports_of ir.now enable) }
     ensures updated { IfOk result AllUpdated }
-    ensures still { IfOk result (λ b. StillBut b []) }
+    ensures still { IfOk result (λ b. StillBut b [] []) }
     ensures stops { IfOk result NeverStops }
-    ensures control { IfOk result IsControlled }
+    ensures control { IfOk result (λ b. IsControlled b []) }
 {
     ir.law();
     let dins = din_bits(alloc, ir)?;

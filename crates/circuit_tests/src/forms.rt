@@ -1,11 +1,14 @@
 // Circuits without options, in both forms of buffers, and the words that hold a pixel of some age.
 
-use crate::programs::IN_TURN;
 use buffer_plan::Plan;
-use circuit::{BufferForm, Chain, Ring, build};
+use circuit::{BlockChain, BufferForm, Chain, Ring, build};
 use dk_compile::planned;
 use std::alloc::Global;
 use std::test::Fail;
+
+// An image that is read five and two columns to the left, and one that is read one and three columns to the left.
+const IN_TURN: &str =
+    "size 8 1 input a:u8 let f=im(x,y) (a(x-5,y)+a(x-2,y)) as u8 end let g=im(x,y) (f(x-1,y)+f(x-3,y)) as u8 end output g";
 
 // The words and the width of each array of a program's circuit.
 fn arrays<F: BufferForm>(alloc: Global, text: &str, form: &F) -> Result<String, Fail> {
@@ -39,10 +42,14 @@ fn place<F: BufferForm>(
 }
 
 #[test]
-fn arrays_of_both_forms(rt: HostRuntime) -> Result<(), Fail> {
+fn arrays_of_each_form(rt: HostRuntime) -> Result<(), Fail> {
     let alloc = rt.alloc();
     assert_eq!(rt;
         arrays(alloc, IN_TURN, &Chain)?.as_str(),
+        "2x8 3x8 1x8 2x8 "
+    );
+    assert_eq!(rt;
+        arrays(alloc, IN_TURN, &BlockChain::new(2))?.as_str(),
         "2x8 3x8 1x8 2x8 "
     );
     assert_eq!(rt; arrays(alloc, IN_TURN, &Ring)?.as_str(), "5x8 3x8 ");
@@ -66,6 +73,7 @@ fn places_of_ages(rt: HostRuntime) -> Result<(), Fail> {
         (2, 1, None, None),
     ] {
         assert_eq!(rt; place(plan, &Chain, image, age, 10), chain);
+        assert_eq!(rt; place(plan, &BlockChain::new(3), image, age, 10), chain);
         assert_eq!(rt; place(plan, &Ring, image, age, 10), ring);
     }
     Ok(())

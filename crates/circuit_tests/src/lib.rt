@@ -1,13 +1,5 @@
-//! From the text of a program to its module: plans, arrays, and what the module shows clock by clock, worked out by hand.
+//! The arrays of a program's circuit in both forms of buffers, and the array and word of an age, worked out by hand.
 #![tactic(auto)]
 
 #[cfg(test)]
-mod clocked;
-#[cfg(test)]
 mod forms;
-#[cfg(test)]
-mod limits;
-#[cfg(test)]
-mod plans;
-#[cfg(test)]
-mod programs;

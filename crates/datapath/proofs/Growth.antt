@@ -1,5 +1,5 @@
 -- A netlist that grows keeps what it had.
-use Rattle.std.proofs.Common.{ℕ, ◌≡◌, ◌⊎◌, ◌<◌, ◌^◌, [], refl, subst, sym, ◌∙◌, inl, Result, Ok, Err, OnOk, OnErr, ◌+◌, ◌≤◌, length, ap, arith, inr}
+use Rattle.std.proofs.Common.{ℕ, List, ◌≡◌, ◌⊎◌, ◌<◌, ◌^◌, [], refl, subst, sym, ◌∙◌, inl, Result, Ok, Err, OnOk, OnErr, ◌+◌, ◌≤◌, length, ap, arith, inr}
 use Rattle.std.specs.Prelude.{All, Contains}
 use Rattle.std.proofs.lemmas.List.{length_push}
 use Rattle.std.proofs.lemmas.List.Elements.{All-nil, All-head, All-contains, Contains-append_left}
@@ -33,7 +33,7 @@ grows_on a b c p q = record {
   wires = record { regs = q.wires.regs ∙ p.wires.regs; arrays = q.wires.arrays ∙ p.wires.arrays; updates = q.wires.updates ∙ p.wires.updates };
   reads = reads_joined c b a _ q.includes q.reads p.reads;
   stops = λ h. q.stops (p.stops h);
-  control = λ h. q.control (p.control h);
+  control = λ copies h. q.control copies (p.control copies h);
 }
 
 pub grows_itself : (a : Netlist) → Grows a a
@@ -42,7 +42,7 @@ grows_itself a = record {
   wires = record { regs = refl; arrays = refl; updates = refl };
   reads = reads_none a a _ refl;
   stops = λ h. h;
-  control = λ h. h;
+  control = λ copies h. h;
 }
 
 pub each_more : (a b : Netlist) (P : Snapshot → Type 0) → IsPartOf a b → InEachFit a P → InEachFit b P
@@ -91,7 +91,7 @@ constant_of x w v r e k h =
 
 -- the builder after a call for a net that reads no array
 pub grown : {A E : Type 0} (old new : Netlist) (r : Right Net ℕ) (answer : Result A E) → right_accesses r ≡ [] → Includes new old → OnOk answer ((new ≡ old) ⊎ (new ≡ with_wire old r)) → OnErr answer (new ≡ old) → AddsWires new old →
-    (NeverStops old → All (StaysInside new) (right_accesses r) → NeverStops new) → (IsControlled old → IsControlled new) → Grows old new
+    (NeverStops old → All (StaysInside new) (right_accesses r) → NeverStops new) → ((copies : List ℕ) → IsControlled old copies → IsControlled new copies) → Grows old new
 grown old new r answer none includes ok err wires stops control = record {
   includes = includes;
   wires = wires;

@@ -17,3 +17,4 @@ pub mod LatePictures
 pub mod DrivePictures
 pub mod Rounds
 pub mod Printed
+pub mod Circuits

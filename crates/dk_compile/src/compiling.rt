@@ -1,9 +1,10 @@
 // From a text to the Verilog text of its circuit.
 
-ghost use Rattle.std.specs.Prelude.{◌≡◌, ◌≤◌, false, IfOk, IfErr};
+ghost use Rattle.std.specs.Prelude.{◌≡◌, ◌≤◌, false, None, IfOk, IfErr, IfSome};
 ghost use Rattle.dk_base.specs.declared.TheConstants.{MAX_AGE};
 ghost use Rattle.dk_types.specs.Typed.{Typing};
 ghost use Rattle.flow_dual.specs.Solutions.{IsSolution};
+ghost use Rattle.net_build.specs.Naming.{names_for};
 ghost use Rattle.buffer_plan.specs.Plans.{IsPlan};
 ghost use Rattle.buffer_plan.specs.Limits.{IsPlanFault};
 ghost use Rattle.circuit.specs.Behaviour.{IsPlanOf};
@@ -13,9 +14,10 @@ ghost use Rattle.dk_compile.specs.Compiled.{IsPlanned, IsCircuitOf, IsTextOf, Is
 
 use crate::accepted::Front;
 use crate::fault::SourceError;
+use crate::options::Options;
 use crate::reading::front;
 use buffer_plan::{Plan, PlanFault, plan};
-use circuit::{Built, Chain, Options, build_with, frame_drive_law};
+use circuit::{BlockChain, Built, Chain, build_with, frame_drive_law};
 use dk_base::{OutOfMemory, Stencils};
 use flow_dual::{Solution, solve};
 use netlist::Module;
@@ -102,6 +104,31 @@ pub fn planned(alloc: Global, text: &[u8], age: u8) -> Result<PlannedProgram, So
     })
 }
 
+// The module of a plan.
+fn built(alloc: Global, ir: &Program, plan: &Plan, options: Options) -> Result<Built, OutOfMemory>
+    requires plan { IsPlanOf ir.now plan.now (record { enable = options.enable; age = options.age }) }
+    requires block { IfSome options.block (λ least. 2 ≤ least) }
+    ensures circuit { IfOk result (λ r. IsCircuitOf ir.now plan.now options.enable options.block r.«module».netlist r.nets.items) }
+    ensures named { IfOk result (λ r. r.«module».names ≡ names_for r.«module».netlist) }
+{
+    ir.law();
+    frame_drive_law();
+    let asked = circuit::Options {
+        enable: options.enable,
+        age: options.age,
+    };
+    match options.block {
+        None => {
+            let made = build_with(alloc, ir, plan, &Chain, asked)?;
+            Ok(made)
+        }
+        Some(least) => {
+            let made = build_with(alloc, ir, plan, &BlockChain::new(least), asked)?;
+            Ok(made)
+        }
+    }
+}
+
 // The module of a plan, and its text.
 fn printed(
     alloc: Global,
@@ -109,23 +136,23 @@ fn printed(
     plan: &Plan,
     options: Options,
 ) -> Result<PrintedModule, OutOfMemory>
-    requires plan { IsPlanOf ir.now plan.now options }
-    ensures circuit { IfOk result (λ r. IsCircuitOf ir.now plan.now options.enable r.«module».netlist r.nets.items) }
+    requires plan { IsPlanOf ir.now plan.now (record { enable = options.enable; age = options.age }) }
+    requires block { IfSome options.block (λ least. 2 ≤ least) }
+    ensures circuit { IfOk result (λ r. IsCircuitOf ir.now plan.now options.enable options.block r.«module».netlist r.nets.items) }
     ensures text { IfOk result (λ r. IsTextOf r.«module» r.text.items) }
 {
-    ir.law();
     plan.law();
-    frame_drive_law();
-    let Built { module, nets } = build_with(alloc, ir, plan, &Chain, options)?;
+    let Built { module, nets } = built(alloc, ir, plan, options)?;
     let text = print(alloc, &module)?;
     Ok(PrintedModule { module, nets, text })
 }
 
-/// The Verilog text of the circuit of a program, with the port `en` if it is requested, at an age of at most 64 clocks; or the first fault of the text at this age. The Verilog text is in the language of IEEE Std 1364-2005.
+/// The Verilog text of the circuit of a program, with the port `en` if it is requested, at an age of at most 64 clocks, and with arrays of at least `block` words in the form of block memories; or the first fault of the text at this age. The Verilog text is in the language of IEEE Std 1364-2005.
 pub fn compile_with(alloc: Global, text: &[u8], options: Options) -> Result<Compiled, SourceError>
     requires age { options.age ≤ MAX_AGE }
+    requires block { IfSome options.block (λ least. 2 ≤ least) }
     ensures compiled { IfOk result (λ c. (p : Typing)
-        × IsCompiled text.now options.age options.enable p c.ir c.system c.solution c.plan c.«module» c.nets.items c.text.items) }
+        × IsCompiled text.now options.age options.enable options.block p c.ir c.system c.solution c.plan c.«module» c.nets.items c.text.items) }
     ensures fault { IfErr result (IsErrorBy (IsFaultAt text.now options.age)) }
 {
     let PlannedProgram {
@@ -152,12 +179,14 @@ pub fn compile_with(alloc: Global, text: &[u8], options: Options) -> Result<Comp
 
 /// The Verilog text of the circuit of a program, without the port `en`, at age 0.
 pub fn compile(alloc: Global, text: &[u8]) -> Result<Compiled, SourceError>
-    ensures compiled { IfOk result (λ c. (p : Typing) × IsCompiled text.now 0 false p c.ir c.system c.solution c.plan c.«module» c.nets.items c.text.items) }
+    ensures compiled { IfOk result (λ c. (p : Typing) × IsCompiled text.now 0 false None
+        p c.ir c.system c.solution c.plan c.«module» c.nets.items c.text.items) }
     ensures fault { IfErr result (IsErrorBy (IsFaultAt text.now 0)) }
 {
     let options = Options {
         enable: false,
         age: 0,
+        block: None,
     };
     compile_with(alloc, text, options)
 }

@@ -5,12 +5,13 @@ mod accepted;
 mod compiling;
 mod fault;
 mod laws;
+mod options;
 mod reading;
 
 pub use accepted::Front;
-pub use circuit::Options;
 pub use compiling::{Compiled, PlannedProgram, compile, compile_with, planned};
 pub use fault::SourceError;
 pub use laws::{drive_shows_law, one_at_age_law, one_source_law};
+pub use options::Options;
 pub use reading::{front, typed};
 pub use source_fault::SourceFault;

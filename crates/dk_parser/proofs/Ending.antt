@@ -1,5 +1,5 @@
 -- Where a program ends, and the faulty token from where the parser stops.
-use Rattle.std.proofs.Common.{◌≡◌, ◌≢◌, ◌≤◌, inl, inr, ℕ, suc, List, [], ◌∷◌, ◌++◌, length, Option, Some, None, Bool, true, false, if◌then◌else◌, Bor, refl, sym, ap, ◌∙◌, subst, arith}
+use Rattle.std.proofs.Common.{◌≡◌, ◌≢◌, ◌≤◌, inl, inr, ℕ, suc, List, [], ◌∷◌, ◌++◌, length, Some, None, Bool, true, false, Bor, refl, sym, ap, ◌∙◌, subst, arith}
 use Rattle.std.proofs.lemmas.Option.{same_Some}
 use Rattle.dk_base.specs.declared.span.Span.{Span}
 use Rattle.dk_lexer.specs.declared.token.Token.{Token}
@@ -14,7 +14,7 @@ use Rattle.dk_parser.specs.declared.items.Lead.{Lead}
 use Rattle.dk_parser.specs.declared.items.Lead.TheVariants as lead
 use Rattle.source_words.specs.declared.word.Keyword.TheVariants as word
 use Rattle.dk_parser.specs.declared.terminal.Terminal.{Terminal}
-use Rattle.dk_parser.specs.declared.terminal.Terminal.TheVariants.{Keyword, EndOfText}
+use Rattle.dk_parser.specs.declared.terminal.Terminal.TheVariants.{EndOfText}
 use Rattle.dk_parser.specs.declared.terminal.Mark.TheVariants as mark
 use Rattle.dk_parser.specs.declared.whole.ParseError.{ParseError}
 use Rattle.dk_parser.specs.declared.whole.ParseError.TheVariants.{Nest, Syntax, Depth, OutOfMemory}

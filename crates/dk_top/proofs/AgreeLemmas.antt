@@ -1,5 +1,5 @@
 -- The module of a compiled text, driven by `sim`, shows the file of the program's pictures.
-use Rattle.std.proofs.Common.{◌≡◌, ◌⊎◌, inl, inr, ℕ, ◌≤◌, ◌+◌, ◌*◌, Bool, List, length, map, refl, sym, ap, ◌∙◌, subst}
+use Rattle.std.proofs.Common.{◌≡◌, ◌⊎◌, inl, inr, ℕ, ◌≤◌, ◌+◌, ◌*◌, Bool, List, Option, length, map, refl, sym, ap, ◌∙◌, subst}
 use Rattle.std.proofs.lemmas.List.{length-map}
 use Rattle.dk_base.specs.declared.TheConstants.{MAX_PGM_BYTES, MAX_VERILOG_BYTES}
 use Rattle.dk_base.specs.Frames.{area}
@@ -69,7 +69,7 @@ plan_once laws source age p q a b s t x y plan other one two =
     let made : System → List ℕ → Plan = λ z d. record { system = z; delays = d } in
     one.plan_is ∙ (ap (λ z. made z x.delays) same ∙ (ap (made t) delays ∙ sym two.plan_is))
 
-module _ (laws : Laws) (source : List ℕ) (age : ℕ) (enable : Bool) (c : Compiled) (from : IsCompiledFrom source age enable c) (text file : List ℕ) (rounds : List (List Image)) (is_text : text ≡ c.text.items) (fits : FitsFile (ports from.program) file rounds) (power : PowerUp) where
+module _ (laws : Laws) (source : List ℕ) (age : ℕ) (enable : Bool) (block : Option ℕ) (c : Compiled) (from : IsCompiledFrom source age enable block c) (text file : List ℕ) (rounds : List (List Image)) (is_text : text ≡ c.text.items) (fits : FitsFile (ports from.program) file rounds) (power : PowerUp) where
   abbrev q : Typing
   q = from.program
 
@@ -84,9 +84,9 @@ module _ (laws : Laws) (source : List ℕ) (age : ℕ) (enable : Bool) (c : Comp
 
   bench : FitsBench (din_widths m) file q.size rounds
   bench =
-      let typed = is_typed source age enable q c.ir c.system c.solution c.plan c.«module» c.nets.items c.text.items from.is in
-      let given = form source age enable q c.ir c.system c.solution c.plan c.«module» c.nets.items c.text.items from.is in
-      let dins = din_widths_are source age enable q c.ir c.system c.solution c.plan c.«module» c.nets.items c.text.items from.is in
+      let typed = is_typed source age enable block q c.ir c.system c.solution c.plan c.«module» c.nets.items c.text.items from.is in
+      let given = form source age enable block q c.ir c.system c.solution c.plan c.«module» c.nets.items c.text.items from.is in
+      let dins = din_widths_are source age enable block q c.ir c.system c.solution c.plan c.«module» c.nets.items c.text.items from.is in
       let widths : map width_of (map (λ (i : TypedInput). i.ty) q.inputs) ≡ din_widths m = widths_same q c.ir given ∙ sym dins in
       record { frame = typed.frame; fits = subst (λ ws. FitsFile (ports_with q.size ws) file rounds) widths fits }
 
@@ -107,7 +107,7 @@ module _ (laws : Laws) (source : List ℕ) (age : ℕ) (enable : Bool) (c : Comp
           → (shots : List Snapshot) × (to : Contents) × Runs m begin given_clocks shots to
       by (inl run) = run
       by (inr (shots, x, i, stops)) =
-          absurd (no_stop source age enable q c.ir c.system c.solution c.plan c.«module» c.nets.items c.text.items from.is file rounds fits fill laws.picture laws.rasters clocks refl shots x i stops)
+          absurd (no_stop source age enable block q c.ir c.system c.solution c.plan c.«module» c.nets.items c.text.items from.is file rounds fits fill laws.picture laws.rasters clocks refl shots x i stops)
 
   shown : IsShown m (drive_from fill clocks) q.size (samples_of rounds) (output_file q rounds)
   shown =
@@ -115,8 +115,8 @@ module _ (laws : Laws) (source : List ℕ) (age : ℕ) (enable : Bool) (c : Comp
       record {
         shots = shots;
         run = record { to = to; runs = runs };
-        enough = shows_enough source age enable q c.ir c.system c.solution c.plan c.«module» c.nets.items c.text.items from.is file rounds fits fill laws.picture laws.rasters clocks refl shots (record { to = to; runs = runs });
-        file_is = sym (ap file_of (images_same source age enable q c.ir c.system c.solution c.plan c.«module» c.nets.items c.text.items from.is file rounds fits fill laws.picture laws.rasters clocks refl shots (record { to = to; runs = runs })));
+        enough = shows_enough source age enable block q c.ir c.system c.solution c.plan c.«module» c.nets.items c.text.items from.is file rounds fits fill laws.picture laws.rasters clocks refl shots (record { to = to; runs = runs });
+        file_is = sym (ap file_of (images_same source age enable block q c.ir c.system c.solution c.plan c.«module» c.nets.items c.text.items from.is file rounds fits fill laws.picture laws.rasters clocks refl shots (record { to = to; runs = runs })));
       }
 
   sim_file : length text ≤ MAX_VERILOG_BYTES → length file ≤ MAX_PGM_BYTES → IsSimulated (drive_from fill clocks) text file (output_file q rounds)
@@ -137,14 +137,14 @@ module _ (laws : Laws) (source : List ℕ) (age : ℕ) (enable : Bool) (c : Comp
       let first : IsShown m (drive_from fill clocks) other.size (samples_of other.images) pictures = subst (λ (n : NamedNetlist). IsShown n.netlist (drive_from fill clocks) other.size (samples_of other.images) pictures) same other.shown in
       let second : IsShown m (drive_from fill clocks) q.size (samples_of other.images) pictures = subst (λ z. IsShown m (drive_from fill clocks) z (samples_of other.images) pictures) both.0 first in
       let third : IsShown m (drive_from fill clocks) q.size (samples_of rounds) pictures = subst (λ z. IsShown m (drive_from fill clocks) q.size (samples_of z) pictures) both.1 second in
-      drive_file source age enable q c.ir c.system c.solution c.plan c.«module» c.nets.items c.text.items from.is file rounds fits fill laws.picture laws.rasters clocks refl pictures third
+      drive_file source age enable block q c.ir c.system c.solution c.plan c.«module» c.nets.items c.text.items from.is file rounds fits fill laws.picture laws.rasters clocks refl pictures third
 
 -- what `sim` shows of a text that is compiled, by any plan of its program
 module _ (laws : Laws) (given : CompiledInput) (power : PowerUp) where
   abbrev c : Compiled
   c = given.compiled.compiled
 
-  from : IsCompiledFrom given.source given.age given.enable c
+  from : IsCompiledFrom given.source given.age given.enable given.block c
   from = given.compiled.from
 
   same : from.program ≡ given.program
@@ -164,10 +164,10 @@ module _ (laws : Laws) (given : CompiledInput) (power : PowerUp) where
   sim_shows =
       subst (λ (z : Plan). IsSimulated (driven given.program z) given.text given.file (output_file given.program given.rounds)) same_plan
       (subst (λ (x : Typing). IsSimulated (driven x c.plan) given.text given.file (output_file x given.rounds)) same
-      (sim_file laws given.source given.age given.enable c from given.text given.file given.rounds given.compiled.is fits power given.short given.fits.within))
+      (sim_file laws given.source given.age given.enable given.block c from given.text given.file given.rounds given.compiled.is fits power given.short given.fits.within))
 
   pub sim_only : (pictures : List ℕ) → IsSimulated (whole_drive given power) given.text given.file pictures → pictures ≡ output_file given.program given.rounds
   sim_only pictures other =
       let back : IsSimulated (driven given.program c.plan) given.text given.file pictures = subst (λ (z : Plan). IsSimulated (driven given.program z) given.text given.file pictures) (sym same_plan) other in
       let mine : IsSimulated (driven from.program c.plan) given.text given.file pictures = subst (λ (x : Typing). IsSimulated (driven x c.plan) given.text given.file pictures) (sym same) back in
-      only_file laws given.source given.age given.enable c from given.text given.file given.rounds given.compiled.is fits power pictures mine ∙ ap (λ (x : Typing). output_file x given.rounds) same
+      only_file laws given.source given.age given.enable given.block c from given.text given.file given.rounds given.compiled.is fits power pictures mine ∙ ap (λ (x : Typing). output_file x given.rounds) same

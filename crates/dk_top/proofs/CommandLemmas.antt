@@ -45,7 +45,7 @@ read_pair (Some f) program image ir rounds Q read made = made (bytes_of f progra
 same_order : (c : Command) (f : Files) (mid new : Outside) → new.image ≡ mid.image → AsksInOrder c f mid → AsksInOrder c f new
 same_order (run p i o a) f mid new same h = λ asked. h (subst (λ (s : Input). s.stage ≢ Unasked) same asked)
 same_order (eval p i o) f mid new same h = λ asked. h (subst (λ (s : Input). s.stage ≢ Unasked) same asked)
-same_order (compile p o e a) f mid new same h = tt
+same_order (compile p o e a b) f mid new same h = tt
 same_order (trace v c i o) f mid new same h = λ asked. h (subst (λ (s : Input). s.stage ≢ Unasked) same asked)
 same_order (make n) f mid new same h = tt
 same_order (sim v c i o p k) f mid new same h = λ asked. h (subst (λ (s : Input). s.stage ≢ Unasked) same asked)
@@ -59,8 +59,8 @@ on_all (run p i o a) None P h = tt
 on_all (run p i o a) (Some f) P h = h f
 on_all (eval p i o) None P h = tt
 on_all (eval p i o) (Some f) P h = h f
-on_all (compile p o e a) None P h = tt
-on_all (compile p o e a) (Some f) P h = h f
+on_all (compile p o e a b) None P h = tt
+on_all (compile p o e a b) (Some f) P h = h f
 on_all (sim v c i o p h') None P h = tt
 on_all (sim v c i o p h') (Some f) P h = h f
 on_all (trace v c i o) None P h = tt
@@ -77,8 +77,8 @@ on_each (run p i o a) None P Q g h = tt
 on_each (run p i o a) (Some f) P Q g h = g f h
 on_each (eval p i o) None P Q g h = tt
 on_each (eval p i o) (Some f) P Q g h = g f h
-on_each (compile p o e a) None P Q g h = tt
-on_each (compile p o e a) (Some f) P Q g h = g f h
+on_each (compile p o e a b) None P Q g h = tt
+on_each (compile p o e a b) (Some f) P Q g h = g f h
 on_each (sim v c i o p h') None P Q g h = tt
 on_each (sim v c i o p h') (Some f) P Q g h = g f h
 on_each (trace v c i o) None P Q g h = tt
@@ -96,7 +96,7 @@ order_stays (Some c) files mid new same h = on_each c files (λ f. AsksInOrder c
 memory_verdict : (c : Command) (f : Files) → IsVerdict c f ending.Memory
 memory_verdict (run p i o a) f = tt
 memory_verdict (eval p i o) f = tt
-memory_verdict (compile p o e a) f = tt
+memory_verdict (compile p o e a b) f = tt
 memory_verdict (trace v c i o) f = tt
 memory_verdict (make n) f = tt
 memory_verdict (sim v c i o p h) f = tt
@@ -111,7 +111,7 @@ words_verdict (Some c) files e usage (inr is) = on_all c files (λ f. IsVerdict 
 unasked_order : (c : Command) (f : Files) (o : Outside) → o.image.stage ≡ Unasked → AsksInOrder c f o
 unasked_order (run p i out a) f o fresh = λ asked. absurd (asked fresh)
 unasked_order (eval p i out) f o fresh = λ asked. absurd (asked fresh)
-unasked_order (compile p out e a) f o fresh = tt
+unasked_order (compile p out e a b) f o fresh = tt
 unasked_order (trace v c i out) f o fresh = λ asked. absurd (asked fresh)
 unasked_order (make n) f o fresh = tt
 unasked_order (sim v c i out p h) f o fresh = λ asked. absurd (asked fresh)
@@ -125,7 +125,7 @@ words_order (Some c) files o fresh = on_all c files (λ f. AsksInOrder c f o) (�
 usage_report : (c : Command) (f : Files) (r : Option (List ℕ)) → IsReported ending.Usage c f r r
 usage_report (run p i o a) f r = refl
 usage_report (eval p i o) f r = refl
-usage_report (compile p o e a) f r = refl
+usage_report (compile p o e a b) f r = refl
 usage_report (trace v c i o) f r = refl
 usage_report (make n) f r = refl
 usage_report (sim v c i o p h) f r = refl
@@ -135,7 +135,7 @@ usage_report (check p t) f r = refl
 memory_report : (c : Command) (f : Files) (r : Option (List ℕ)) → IsReported ending.Memory c f r r
 memory_report (run p i o a) f r = refl
 memory_report (eval p i o) f r = refl
-memory_report (compile p o e a) f r = refl
+memory_report (compile p o e a b) f r = refl
 memory_report (trace v c i o) f r = refl
 memory_report (make n) f r = refl
 memory_report (sim v c i o p h) f r = refl
@@ -150,7 +150,7 @@ words_report (Some c) files e r (inr is) = on_all c files (λ f. IsReported e c 
 usage_notes : (c : Command) (f : Files) (n : Option (List (Bool × ℕ))) → IsNoted c ending.Usage f n n
 usage_notes (run p i o a) f n = tt
 usage_notes (eval p i o) f n = refl
-usage_notes (compile p o e a) f n = refl
+usage_notes (compile p o e a b) f n = refl
 usage_notes (trace v c i o) f n = refl
 usage_notes (make k) f n = tt
 usage_notes (sim v c i o p h) f n = tt
@@ -160,7 +160,7 @@ usage_notes (check p t) f n = refl
 memory_notes : (c : Command) (f : Files) (n : Option (List (Bool × ℕ))) → IsNoted c ending.Memory f n n
 memory_notes (run p i o a) f n = tt
 memory_notes (eval p i o) f n = refl
-memory_notes (compile p o e a) f n = refl
+memory_notes (compile p o e a b) f n = refl
 memory_notes (trace v c i o) f n = refl
 memory_notes (make k) f n = tt
 memory_notes (sim v c i o p h) f n = tt
@@ -175,7 +175,7 @@ words_notes (Some c) files e n (inr is) = on_all c files (λ f. IsNoted c e f n 
 usage_begun : (c : Command) (f : Files) (s : Stage) → CreatesBy c ending.Usage f s
 usage_begun (run p i o a) f s = tt
 usage_begun (eval p i o) f s = tt
-usage_begun (compile p o e a) f s = tt
+usage_begun (compile p o e a b) f s = tt
 usage_begun (trace v c i o) f s = tt
 usage_begun (make k) f s = tt
 usage_begun (sim v c i o p h) f s = tt
@@ -185,7 +185,7 @@ usage_begun (check p t) f s = tt
 memory_begun : (c : Command) (f : Files) (s : Stage) → CreatesBy c ending.Memory f s
 memory_begun (run p i o a) f s = tt
 memory_begun (eval p i o) f s = tt
-memory_begun (compile p o e a) f s = tt
+memory_begun (compile p o e a b) f s = tt
 memory_begun (trace v c i o) f s = tt
 memory_begun (make k) f s = tt
 memory_begun (sim v c i o p h) f s = tt
@@ -205,7 +205,7 @@ named_has (Some d) c e P h = let same : d ≡ c = cc in subst P (sym same) h
 usage_reads : (c : Command) (f : Files) (i : Input) (s : Stage) → ReadsBy c ending.Usage f i s
 usage_reads (run p i o a) f slot s = tt
 usage_reads (eval p i o) f slot s = tt
-usage_reads (compile p o e a) f slot s = tt
+usage_reads (compile p o e a b) f slot s = tt
 usage_reads (trace v c i o) f slot s = tt
 usage_reads (make k) f slot s = tt
 usage_reads (sim v c i o p h) f slot s = tt
@@ -215,7 +215,7 @@ usage_reads (check p t) f slot s = tt
 memory_reads : (c : Command) (f : Files) (i : Input) (s : Stage) → ReadsBy c ending.Memory f i s
 memory_reads (run p i o a) f slot s = tt
 memory_reads (eval p i o) f slot s = tt
-memory_reads (compile p o e a) f slot s = tt
+memory_reads (compile p o e a b) f slot s = tt
 memory_reads (trace v c i o) f slot s = tt
 memory_reads (make k) f slot s = tt
 memory_reads (sim v c i o p h) f slot s = tt

@@ -1,5 +1,6 @@
 -- What `compile` writes.
-use Rattle.std.proofs.Common.{ℕ, Bool, List, Option, None, Some, IfSome, refl}
+use Rattle.std.proofs.Common.{ℕ, ◌≤◌, Bool, List, Option, None, Some, IfSome, refl}
+use Rattle.dk_base.specs.declared.TheConstants.{MAX_BUFFER_BITS}
 use Rattle.dk_types.specs.Typed.{Typing}
 use Rattle.pointwise_ir.specs.Programs.{Program}
 use Rattle.raster_delay.specs.Systems.{System}
@@ -18,16 +19,21 @@ abbrev pub PlannedAccepted : Type 0
 PlannedAccepted = (text : List ℕ) (age : ℕ) (p : Typing) (ir : Program) (s : System) (x : Solution) (plan : Plan) → IsPlanned text age p ir s x plan → IsAcceptedAt text age p
 
 -- a text that is compiled is accepted
-pub compiled_accepted : PlannedAccepted → (source : List ℕ) (age : ℕ) (enable : Bool) (c : Compiled) → (from : IsCompiledFrom source age enable c) → IsAcceptedAt source age from.program
-compiled_accepted law source age enable c from = law source age from.program c.ir c.system c.solution c.plan from.is.planned
+pub compiled_accepted : PlannedAccepted → (source : List ℕ) (age : ℕ) (enable : Bool) (block : Option ℕ) (c : Compiled) → (from : IsCompiledFrom source age enable block c) → IsAcceptedAt source age from.program
+compiled_accepted law source age enable block c from = law source age from.program c.ir c.system c.solution c.plan from.is.planned
 
-pub text_told : (told : Option Files) (program : List ℕ) (age : ℕ) (enable : Bool) (c : Compiled) → IfSome told (λ f. IsCompiledFrom (bytes_of f program) age enable c) → IfSome told (λ f. IsCompiledText (bytes_of f program) age enable c.text.items)
-text_told None program age enable c from = tt
-text_told (Some f) program age enable c from = record { compiled = c; from = from; is = refl }
+pub text_told : (told : Option Files) (program : List ℕ) (age : ℕ) (enable : Bool) (block : Option ℕ) (c : Compiled) → IfSome told (λ f. IsCompiledFrom (bytes_of f program) age enable block c) → IfSome told (λ f. IsCompiledText (bytes_of f program) age enable block c.text.items)
+text_told None program age enable block c from = tt
+text_told (Some f) program age enable block c from = record { compiled = c; from = from; is = refl }
 
 -- what is written is the text, or is related to it as it is to what was made
-pub text_held : (told : Option Files) (program : List ℕ) (age : ℕ) (enable : Bool) (text : List ℕ) (bytes : Option (List ℕ)) (result : Ending) → IfSome told (λ f. IsCompiledText (bytes_of f program) age enable text)
-    → IfSome bytes (λ b. HoldsOutput result b text) → IfSome told (λ f. IfSome bytes (HoldsText (IsCompiledText (bytes_of f program) age enable) result))
-text_held None program age enable text bytes result is held = tt
-text_held (Some f) program age enable text None result is held = tt
-text_held (Some f) program age enable text (Some b) result is held = record { text = text; is_text = is; holds = held }
+pub text_held : (told : Option Files) (program : List ℕ) (age : ℕ) (enable : Bool) (block : Option ℕ) (text : List ℕ) (bytes : Option (List ℕ)) (result : Ending) → IfSome told (λ f. IsCompiledText (bytes_of f program) age enable block text)
+    → IfSome bytes (λ b. HoldsOutput result b text) → IfSome told (λ f. IfSome bytes (HoldsText (IsCompiledText (bytes_of f program) age enable block) result))
+text_held None program age enable block text bytes result is held = tt
+text_held (Some f) program age enable block text None result is held = tt
+text_held (Some f) program age enable block text (Some b) result is held = record { text = text; is_text = is; holds = held }
+
+-- the number of `--block` is at least 2
+pub block_low : (block : Option ℕ) → IfSome block (λ n. (2 ≤ n) × (n ≤ MAX_BUFFER_BITS)) → IfSome block (λ n. 2 ≤ n)
+block_low None within = tt
+block_low (Some n) within = within.0

@@ -1,5 +1,5 @@
 -- A compiled module that is driven with the rounds of a file shows the program's output file.
-use Rattle.std.proofs.Common.{◌≡◌, ℕ, zero, suc, ◌+◌, ◌-◌, ◌*◌, ◌^◌, ◌<◌, ◌≤◌, Bool, List, [], ◌∷◌, length, map, take, drop, get_or, Some, None, slice_get, slice_index, slice_index_or, refl, sym, ap, ◌∙◌, subst, arith, add-mul, suc-mul, zero-add, mul-pos, mul-le-mul_right}
+use Rattle.std.proofs.Common.{◌≡◌, ℕ, zero, suc, ◌+◌, ◌-◌, ◌*◌, ◌^◌, ◌<◌, ◌≤◌, Bool, List, [], ◌∷◌, length, map, take, drop, get_or, Option, Some, None, slice_get, slice_index, slice_index_or, refl, sym, ap, ◌∙◌, subst, arith, add-mul, suc-mul, zero-add, mul-pos, mul-le-mul_right}
 use Rattle.std.specs.List.{flat_map, All, range_with_len}
 use Rattle.std.proofs.lemmas.List.{length-map, length-append, length-replicate, length-take-le}
 use Rattle.std.proofs.lemmas.List.Elements.{All-map}
@@ -88,7 +88,7 @@ whole_within r n a lt =
     let more = suc-mul r a in
     omega (arith, fits, more)
 
-module _ (source : List ℕ) (age : ℕ) (enable : Bool) (p : Typing) (ir : Program) (system : System) (solution : Solution) (plan : Plan) (m : NamedNetlist) (nets : List Net) (verilog : List ℕ) (c : IsCompiled source age enable p ir system solution plan m nets verilog) where
+module _ (source : List ℕ) (age : ℕ) (enable : Bool) (block : Option ℕ) (p : Typing) (ir : Program) (system : System) (solution : Solution) (plan : Plan) (m : NamedNetlist) (nets : List Net) (verilog : List ℕ) (c : IsCompiled source age enable block p ir system solution plan m nets verilog) where
   front : IsFront source p ir system.stencils
   front = c.planned.has.front
 

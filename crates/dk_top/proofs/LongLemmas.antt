@@ -170,8 +170,8 @@ whole_where (Ok x) told name slot P h = tt
 whole_where (Err e) told name slot P h = λ _. no_images told name slot e h
 
 -- `run`, once its program is compiled
-ran_text : ((text : List ℕ) (age : ℕ) (p : Typing) (f : SourceFault) → IsAcceptedAt text age p → IsFaultAt text age f → ⊥) → PlannedAccepted → (text file : List ℕ) (age : ℕ) (c : Compiled) → IsCompiledFrom text age false c → (e : Ending) → IsRunAnswer age text file e → TellsNoText e
-ran_text apart law text file age c from (ending.Source f) h = other_source f (λ same. apart text age from.program source.TooLong (compiled_accepted law text age false c from) (subst (IsFaultAt text age) same h))
+ran_text : ((text : List ℕ) (age : ℕ) (p : Typing) (f : SourceFault) → IsAcceptedAt text age p → IsFaultAt text age f → ⊥) → PlannedAccepted → (text file : List ℕ) (age : ℕ) (c : Compiled) → IsCompiledFrom text age false None c → (e : Ending) → IsRunAnswer age text file e → TellsNoText e
+ran_text apart law text file age c from (ending.Source f) h = other_source f (λ same. apart text age from.program source.TooLong (compiled_accepted law text age false None c from) (subst (IsFaultAt text age) same h))
 ran_text apart law text file age c from (ending.Verilog f) h = absurd h
 ran_text apart law text file age c from ending.ReadFault h = λ t slot. tt
 ran_text apart law text file age c from ending.Memory h = λ t slot. tt
@@ -182,7 +182,7 @@ ran_text apart law text file age c from (ending.Image f) h = λ t slot. tt
 ran_text apart law text file age c from (ending.Stopped f) h = λ t slot. tt
 ran_text apart law text file age c from (ending.Rejected f) h = λ t slot. tt
 
-pub ran_left : ((text : List ℕ) (age : ℕ) (p : Typing) (f : SourceFault) → IsAcceptedAt text age p → IsFaultAt text age f → ⊥) → PlannedAccepted → (told : Option Files) (program images : List ℕ) (age : ℕ) (c : Compiled) (slot : Input) (e : Ending) → IfSome told (λ f. IsCompiledFrom (bytes_of f program) age false c)
+pub ran_left : ((text : List ℕ) (age : ℕ) (p : Typing) (f : SourceFault) → IsAcceptedAt text age p → IsFaultAt text age f → ⊥) → PlannedAccepted → (told : Option Files) (program images : List ℕ) (age : ℕ) (c : Compiled) (slot : Input) (e : Ending) → IfSome told (λ f. IsCompiledFrom (bytes_of f program) age false None c)
     → IfSome told (λ f. IsRunAnswer age (bytes_of f program) (bytes_of f images) e) → IfSome told (λ f. LeavesText e (bytes_of f program) slot)
 ran_left apart law None program images age c slot e from h = tt
 ran_left apart law (Some f) program images age c slot e from h = ran_text apart law (bytes_of f program) (bytes_of f images) age c from e h (bytes_of f program) slot
@@ -191,7 +191,7 @@ ran_left apart law (Some f) program images age c slot e from h = ran_text apart 
 usage_left : (c : Command) (f : Files) (i j : Input) → TakesNoMore c ending.Usage f i j
 usage_left (run p im o a) f i j = tt
 usage_left (eval p im o) f i j = (tt, tt)
-usage_left (compile p o e a) f i j = tt
+usage_left (compile p o e a b) f i j = tt
 usage_left (trace v c im o) f i j = (tt, tt)
 usage_left (make k) f i j = tt
 usage_left (sim v c im o p h) f i j = (tt, tt)
@@ -201,7 +201,7 @@ usage_left (check p t) f i j = (tt, tt)
 memory_left : (c : Command) (f : Files) (i j : Input) → TakesNoMore c ending.Memory f i j
 memory_left (run p im o a) f i j = tt
 memory_left (eval p im o) f i j = (tt, tt)
-memory_left (compile p o e a) f i j = tt
+memory_left (compile p o e a b) f i j = tt
 memory_left (trace v c im o) f i j = (tt, tt)
 memory_left (make k) f i j = tt
 memory_left (sim v c im o p h) f i j = (tt, tt)

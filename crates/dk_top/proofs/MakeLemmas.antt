@@ -60,7 +60,7 @@ all_places : {A B : Type 0} (Q : B → Type 0) (f : A → B) (xs : List A) → (
 all_places Q f [] h = tt
 all_places Q f (x ∷ xs) h = (h 0 x refl, all_places Q f xs (λ k y at. h (suc k) y at))
 
-module _ (source : List ℕ) (age : ℕ) (c : Compiled) (from : IsCompiledFrom source age false c) (values : Values c.ir) where
+module _ (source : List ℕ) (age : ℕ) (c : Compiled) (from : IsCompiledFrom source age false None c) (values : Values c.ir) where
   abbrev p : Typing
   p = from.program
 
@@ -73,7 +73,7 @@ module _ (source : List ℕ) (age : ℕ) (c : Compiled) (from : IsCompiledFrom s
       let out = output_at (types_of p) p.outputs typed.outputs k g at in
       let bits : width_of out.ty ≡ bits_of (types_of p) g = bits_are (types_of p) g out.ty out.image in
       let there : slice_get (P.types_of c.ir) g ≡ Some out.ty = subst (λ (ts : List Ty). slice_get ts g ≡ Some out.ty) (sym (from.is.planned.has.front).form.types) out.image in
-      let shown = meant source age false p c.ir c.system c.solution c.plan c.«module» c.nets.items c.text.items from.is given ok k g at in
+      let shown = meant source age false None p c.ir c.system c.solution c.plan c.«module» c.nets.items c.text.items from.is given ok k g at in
       let low = raster_bounded c.ir.size out.ty (picture_at (pictures c.ir (map (picture_of c.ir.size) given)) g) out.port (values (map (picture_of c.ir.size) given) ok g out.ty there).values in
       let some = port_some out.ty out.port in
       let small = greatest_small (width_of out.ty) (few_bits out.ty out.port) in
@@ -101,7 +101,7 @@ module _ (source : List ℕ) (age : ℕ) (c : Compiled) (from : IsCompiledFrom s
   all_rounds [] sampled = tt
   all_rounds (r ∷ rs) sampled =
       let given = map (λ (i : Image). i.samples) r in
-      let ok = is_round c.ir (types source age false p c.ir c.system c.solution c.plan c.«module» c.nets.items c.text.items from.is) given sampled.0 in
+      let ok = is_round c.ir (types source age false None p c.ir c.system c.solution c.plan c.«module» c.nets.items c.text.items from.is) given sampled.0 in
       all_append (IsSummed p.size) (outputs_of p r) (joined (map (outputs_of p) rs))
       (all_places (IsSummed p.size) (λ g. output_of p.size (bits_of (types_of p) g) (picture_at (meaning_on p given) g)) p.outputs (λ k g at. one_output given ok k g at))
       (all_rounds rs sampled.1)
@@ -141,12 +141,12 @@ module _ (source : List ℕ) (age : ℕ) (c : Compiled) (from : IsCompiledFrom s
       }
 
 -- what is clocked of a made program is its file and its notes
-module _ (law : PlannedAccepted) (n : ℕ) (c : Compiled) (from : IsCompiledFrom (program_of n) 0 false c) (rounds : List Rattle.pgm_rounds.specs.declared.round.Round.Round) (input : IsInputOf None c.ir (image_of n) rounds) where
+module _ (law : PlannedAccepted) (n : ℕ) (c : Compiled) (from : IsCompiledFrom (program_of n) 0 false None c) (rounds : List Rattle.pgm_rounds.specs.declared.round.Round.Round) (input : IsInputOf None c.ir (image_of n) rounds) where
   abbrev images : List (List Image)
   images = (input.some from.program (from.is.planned.has.front).form).0
 
   abbrev of_images : (Q : Typing → List (List Image) → Type 0) → OfPair (run_terms 0) (program_of n) (image_of n) Q → Q from.program images
-  of_images Q h = h from.program images (compiled_accepted law (program_of n) 0 false c from) (input.some from.program (from.is.planned.has.front).form).1
+  of_images Q h = h from.program images (compiled_accepted law (program_of n) 0 false None c from) (input.some from.program (from.is.planned.has.front).form).1
 
   pub made_file : (file : List ℕ) → OfPair (run_terms 0) (program_of n) (image_of n) (λ q rs. file ≡ output_file q rs) → IsMade n c images file
   made_file file h = record { from = from; fits = (input.some from.program (from.is.planned.has.front).form).1.holds; file_is = of_images (λ q rs. file ≡ output_file q rs) h }

@@ -55,7 +55,7 @@ judged_answer age source file e judged h = written_answer age source file e (λ 
 pub one_verdict : Laws → HasOneVerdict
 one_verdict l (run program image out age) files a b j k x y = alike_of a b (one_answer l.one_program l.apart_at l.fault_at l.file_apart l.one_file (run_terms age) (bytes_of files program) (bytes_of files image) a b j k (judged_answer age (bytes_of files program) (bytes_of files image) a j x) (judged_answer age (bytes_of files program) (bytes_of files image) b k y))
 one_verdict l (eval program image out) files a b j k x y = alike_of a b (one_answer l.one_program l.apart_at l.fault_at l.file_apart l.one_file eval_terms (bytes_of files program) (bytes_of files image) a b j k x y)
-one_verdict l (compile program out enable age) files a b j k x y = alike_of a b (program_answer l.apart_at l.fault_at age (bytes_of files program) a b j k x y)
+one_verdict l (compile program out enable age block) files a b j k x y = alike_of a b (program_answer l.apart_at l.fault_at age (bytes_of files program) a b j k x y)
 one_verdict l (sim verilog clocks image out fill hold) files a b j k x y =
     sim_answer l.one_module l.agree l.module_apart l.tokens l.tree l.rounds l.rounds_apart l.bench_fault l.one_stop l.shown_apart (drive_of clocks fill hold) (bytes_of files verilog) (bytes_of files image) a b j k x y
 one_verdict l (trace verilog clocks image vcd) files a b j k x y =
@@ -69,7 +69,7 @@ one_verdict l (make number) files a b j k x y = alike_of a b (program_answer l.a
 good_is_done : Laws → (command : Command) (files : Files) (result : Ending) → IsVerdict command files result → IsGood command files → (result ≡ ending.ReadFault → ⊥) → (result ≡ ending.WriteFault → ⊥) → IsOrMemory result ending.Done
 good_is_done l (run program image out age) files result = λ is good no_read no_write. good_answer l.one_program l.apart_at l.fault_at l.file_apart l.one_file (run_terms age) (bytes_of files program) (bytes_of files image) result (written_answer age (bytes_of files program) (bytes_of files image) result no_write is) good no_read no_write
 good_is_done l (eval program image out) files result = good_answer l.one_program l.apart_at l.fault_at l.file_apart l.one_file eval_terms (bytes_of files program) (bytes_of files image) result
-good_is_done l (compile program out enable age) files result = good_program l.apart_at l.fault_at age (bytes_of files program) result
+good_is_done l (compile program out enable age block) files result = good_program l.apart_at l.fault_at age (bytes_of files program) result
 good_is_done l (sim verilog clocks image out fill hold) files result =
     good_sim l.one_module l.agree l.module_apart l.tokens l.tree l.rounds l.rounds_apart l.bench_fault l.one_stop l.shown_apart (drive_of clocks fill hold) (bytes_of files verilog) (bytes_of files image) result
 good_is_done l (trace verilog clocks image vcd) files result =

@@ -12,16 +12,14 @@ use Rattle.dk_types.specs.Typed.{Typing}
 use Rattle.wiring.specs.Netlist.{Netlist}
 use Rattle.wiring.specs.Snapshot.{Contents}
 use Rattle.pgm_codec.specs.declared.header.Header.{Header}
-use Rattle.pgm_codec.specs.declared.raster.RasterFault.{RasterFault}
 use Rattle.pgm_codec.specs.Images.{Image, AreImages, IsRaster, sample_bytes}
 use Rattle.pgm_rounds.specs.declared.fault.FileFault.{FileFault}
 use Rattle.row_stream.specs.declared.faults.StreamFault.TheVariants.{Image as ImageFails, Read}
-use Rattle.row_stream.specs.declared.rows.RowsFault.TheVariants.{Raster, Read as RowsRead}
 use Rattle.row_stream.specs.Lines.{Kind, head}
 use Rattle.row_stream.specs.Heads.{FitsHeader, TakesHead}
 use Rattle.row_stream.specs.Images.{FitsImage, samples_of}
 use Rattle.row_stream.specs.Ends.{greatest}
-use Rattle.row_stream.specs.Whole.{Creates, LeavesBehind, LeavesInside, FailsInside, FailsBehind, FailsFirst, at_create, at_head, at_reset, LeavesAtFault as StreamsToFault, at_start, behind, inside, LeavesAtRead as StreamsToRead, read_at_start, read_behind, read_inside, LeavesAtWrite as StreamsToWrite, write_first, write_inside, write_behind}
+use Rattle.row_stream.specs.Whole.{Creates, LeavesBehind, LeavesInside, FailsInside, FailsBehind, FailsFirst, at_create, at_head, at_reset, LeavesEarly, at_start, behind, inside, LeavesAtWrite as StreamsToWrite, write_first, write_inside, write_behind}
 use Rattle.row_stream.proofs.FirstFault.{told_parts}
 use Rattle.row_stream.proofs.HeadEnds.{at_end}
 use Rattle.dk_top.specs.Streaming.{first_bits, output_kind, shown_by, LinesTaken, HoldsLines, LeavesAtFault, LeavesAtRead, LeavesAtWrite, of_header, of_line, of_rest}
@@ -142,7 +140,7 @@ module _ (p : Typing) (m : Netlist) (from : Contents) (late : ℕ) (law : ShowsL
         (shows_lines kind m from bits late (shown_by p) law long samples name old created e.half (images_small p.size bits e.taken.images e.taken.bytes e.taken.are e.taken.fit) creates e.taken.shows))
 
     -- a fault inside an image
-    fault_inside_held : (f : RasterFault) (created : Outside) → Creates name old created → (e : LeavesInside kind m bits (Raster f) (Some file) from created now) → IfSome now.file.bytes (LeavesAtFault p late file now.image.rest)
+    fault_inside_held : (f : FileFault) (created : Outside) → Creates name old created → (e : LeavesInside kind m bits (ImageFails f) (Some file) from created now) → IfSome now.file.bytes (LeavesAtFault p late file now.image.rest)
     fault_inside_held f created creates e =
         let same : now.file ≡ e.half.file = ap (λ (o : Outside). o.file) e.only in
         let s = e.taken in
@@ -152,10 +150,10 @@ module _ (p : Typing) (m : Netlist) (from : Contents) (late : ℕ) (law : ShowsL
         (some_then (HoldsLines p late samples) (LeavesAtFault p late file now.image.rest) e.half.file.bytes (λ bytes holds. record { samples = samples; reads = fault_inside_reads p m from laws file created now f e; holds = holds })
         (shows_lines kind m from bits late (shown_by p) law long samples name old created e.half small creates s.shows))
 
-    pub held_fault : (f : FileFault) → StreamsToFault kind m bits f name from old now → IfSome now.file.bytes (LeavesAtFault p late file now.image.rest)
+    pub held_fault : (f : FileFault) → LeavesEarly kind m bits (ImageFails f) name from old now → IfSome now.file.bytes (LeavesAtFault p late file now.image.rest)
     held_fault f (at_start h only) = absurd (closed (sym unasked ∙ (sym (ap (λ (o : Outside). o.file.stage) only) ∙ there)))
     held_fault f (behind created creates e) = fault_behind_held f created creates (subst (λ all. LeavesBehind kind m bits (ImageFails f) all from created now) told e)
-    held_fault f (inside created creates g e) = fault_inside_held g created creates (subst (λ all. LeavesInside kind m bits (Raster g) all from created now) told e)
+    held_fault f (inside created creates e) = fault_inside_held f created creates (subst (λ all. LeavesInside kind m bits (ImageFails f) all from created now) told e)
 
     -- a failed read after whole images
     read_behind_held : (created : Outside) → Creates name old created → (e : LeavesBehind kind m bits Read (Some file) from created now) → IfSome now.file.bytes (LeavesAtRead p late file now.image.rest)
@@ -168,7 +166,7 @@ module _ (p : Typing) (m : Netlist) (from : Contents) (late : ℕ) (law : ShowsL
         (shows_lines kind m from bits late (shown_by p) law long samples name old created e.half (images_small p.size bits e.taken.images e.taken.bytes e.taken.are e.taken.fit) creates e.taken.shows))
 
     -- a failed read inside an image
-    read_inside_held : (created : Outside) → Creates name old created → (e : LeavesInside kind m bits RowsRead (Some file) from created now) → IfSome now.file.bytes (LeavesAtRead p late file now.image.rest)
+    read_inside_held : (created : Outside) → Creates name old created → (e : LeavesInside kind m bits Read (Some file) from created now) → IfSome now.file.bytes (LeavesAtRead p late file now.image.rest)
     read_inside_held created creates e =
         let same : now.file ≡ e.half.file = ap (λ (o : Outside). o.file) e.only in
         let s = e.taken in
@@ -179,10 +177,10 @@ module _ (p : Typing) (m : Netlist) (from : Contents) (late : ℕ) (law : ShowsL
         (some_then (HoldsLines p late samples) (LeavesAtRead p late file now.image.rest) e.half.file.bytes (λ bytes holds. record { samples = samples; reads = r.0; begun = r.1; holds = holds })
         (shows_lines kind m from bits late (shown_by p) law long samples name old created e.half small creates s.shows))
 
-    pub held_read : StreamsToRead kind m bits name from old now → IfSome now.file.bytes (LeavesAtRead p late file now.image.rest)
-    held_read (read_at_start h only) = absurd (closed (sym unasked ∙ (sym (ap (λ (o : Outside). o.file.stage) only) ∙ there)))
-    held_read (read_behind created creates e) = read_behind_held created creates (subst (λ all. LeavesBehind kind m bits Read all from created now) told e)
-    held_read (read_inside created creates e) = read_inside_held created creates (subst (λ all. LeavesInside kind m bits RowsRead all from created now) told e)
+    pub held_read : LeavesEarly kind m bits Read name from old now → IfSome now.file.bytes (LeavesAtRead p late file now.image.rest)
+    held_read (at_start h only) = absurd (closed (sym unasked ∙ (sym (ap (λ (o : Outside). o.file.stage) only) ∙ there)))
+    held_read (behind created creates e) = read_behind_held created creates (subst (λ all. LeavesBehind kind m bits Read all from created now) told e)
+    held_read (inside created creates e) = read_inside_held created creates (subst (λ all. LeavesInside kind m bits Read all from created now) told e)
 
     -- a line that can't be written, with the line of the file that made it whole
     write_inside_held : (created : Outside) → Creates name old created → (e : FailsInside kind m bits (Some file) from created now) → IfSome now.file.bytes (LeavesAtWrite p late file now.image.rest)

@@ -1,5 +1,5 @@
 -- What a compiled module of one input and one output shows of a stream.
-use Rattle.std.proofs.Common.{◌≡◌, ℕ, zero, suc, ◌+◌, ◌-◌, ◌*◌, ◌^◌, ◌<◌, ◌≤◌, true, false, Bool, List, [], ◌∷◌, length, map, take, Some, slice_get, slice_index, slice_index_or, refl, sym, ap, ◌∙◌, subst, arith, append-nil}
+use Rattle.std.proofs.Common.{◌≡◌, ℕ, zero, suc, ◌+◌, ◌-◌, ◌*◌, ◌^◌, ◌<◌, ◌≤◌, true, false, Bool, List, [], ◌∷◌, length, map, take, Option, Some, slice_get, slice_index, slice_index_or, refl, sym, ap, ◌∙◌, subst, arith, append-nil}
 use Rattle.std.specs.Prelude.{All}
 use Rattle.std.specs.List.{flat_map, AllByRecursion}
 use Rattle.std.proofs.lemmas.List.{length-map}
@@ -65,28 +65,28 @@ only_item [] one = absurd (let e : ⊥ = omega (arith, one) in e)
 only_item (x ∷ []) one = (x, refl)
 only_item (x ∷ y ∷ xs) one = absurd (let e : ⊥ = omega (arith, one) in e)
 
-module _ (source : List ℕ) (age : ℕ) (enable : Bool) (p : Typing) (ir : Program) (system : System) (solution : Solution) (plan : Plan) (m : NamedNetlist) (nets : List Net) (verilog : List ℕ) (c : IsCompiled source age enable p ir system solution plan m nets verilog) (bits : ℕ) (inputs : (ports p).inputs ≡ bits ∷ []) (outputs : length p.outputs ≡ 1) where
+module _ (source : List ℕ) (age : ℕ) (enable : Bool) (block : Option ℕ) (p : Typing) (ir : Program) (system : System) (solution : Solution) (plan : Plan) (m : NamedNetlist) (nets : List Net) (verilog : List ℕ) (c : IsCompiled source age enable block p ir system solution plan m nets verilog) (bits : ℕ) (inputs : (ports p).inputs ≡ bits ∷ []) (outputs : length p.outputs ≡ 1) where
   -- the module has one din of this width
   pub one_width : input_widths ir ≡ bits ∷ []
-  one_width = sym (widths_same p ir (D.form source age enable p ir system solution plan m nets verilog c)) ∙ inputs
+  one_width = sym (widths_same p ir (D.form source age enable block p ir system solution plan m nets verilog c)) ∙ inputs
 
   pub one_input : length ir.inputs ≡ 1
   one_input = sym (length-map ir.inputs (λ (i : Input). width_of i.ty)) ∙ ap length one_width
 
   has_form : IsForm p ir
-  has_form = D.form source age enable p ir system solution plan m nets verilog c
+  has_form = D.form source age enable block p ir system solution plan m nets verilog c
 
   port_types : HasPortTypes ir
-  port_types = D.types source age enable p ir system solution plan m nets verilog c
+  port_types = D.types source age enable block p ir system solution plan m nets verilog c
 
   pub some : 0 < area p.size
-  some = D.some_area source age enable p ir system solution plan m nets verilog c
+  some = D.some_area source age enable block p ir system solution plan m nets verilog c
 
   same : area ir.size ≡ area p.size
-  same = D.same_area source age enable p ir system solution plan m nets verilog c
+  same = D.same_area source age enable block p ir system solution plan m nets verilog c
 
   late : latency_of plan 0 ≡ latency plan
-  late = latency_of_one plan (ap length (D.planned_outputs source age enable p ir system solution plan m nets verilog c) ∙ outputs)
+  late = latency_of_one plan (ap length (D.planned_outputs source age enable block p ir system solution plan m nets verilog c) ∙ outputs)
 
   -- rounds of one input
   in_form : (rounds : List (List (List ℕ))) → AreSampled p.size (bits ∷ []) rounds → AreSampled ir.size (input_widths ir) rounds
@@ -100,7 +100,7 @@ module _ (source : List ℕ) (age : ℕ) (enable : Bool) (p : Typing) (ir : Prog
       let first : output_at ir 0 ≡ g = ap (λ (gs : List ℕ). slice_index gs 0) has_form.outputs ∙ read_at p.outputs 0 g 0 at in
       let sampled = in_form ((frame ∷ []) ∷ []) ((is, tt), tt) in
       ap (λ h. rastered ir h (frame ∷ [])) first
-      ∙ D.meant source age enable p ir system solution plan m nets verilog c (frame ∷ []) (is_round ir port_types (frame ∷ []) sampled.0) 0 g at
+      ∙ D.meant source age enable block p ir system solution plan m nets verilog c (frame ∷ []) (is_round ir port_types (frame ∷ []) sampled.0) 0 g at
       ∙ sym (append-nil (raster p.size (picture_at (meaning_on p (frame ∷ [])) g)))
       ∙ sym (ap (λ gs. flat_map (λ (image : Image). image.samples) (output_images p.size (types_of p) gs (meaning_on p (frame ∷ [])))) one)
 

@@ -11,7 +11,6 @@ use Rattle.dk_types.specs.Typed.{Typing}
 use Rattle.wiring.specs.Netlist.{Netlist}
 use Rattle.wiring.specs.Snapshot.{Contents}
 use Rattle.pgm_codec.specs.declared.header.Header.{Header}
-use Rattle.pgm_codec.specs.declared.raster.RasterFault.{RasterFault}
 use Rattle.pgm_codec.specs.Answers.{Undecided}
 use Rattle.pgm_codec.specs.Rasters.{row_length}
 use Rattle.pgm_codec.proofs.Unique.{reads_whole}
@@ -19,13 +18,12 @@ use Rattle.pgm_codec.proofs.Stays.{undecided_front}
 use Rattle.pgm_rounds.specs.declared.fault.FileFault.{FileFault}
 use Rattle.pgm_rounds.specs.Files.{IsHeaded}
 use Rattle.row_stream.specs.declared.faults.StreamFault.TheVariants.{Image as ImageFails, Read}
-use Rattle.row_stream.specs.declared.rows.RowsFault.TheVariants.{Raster, Read as RowsRead}
 use Rattle.row_stream.specs.Lines.{Kind}
 use Rattle.row_stream.specs.Heads.{FitsHeader, TakesHead}
 use Rattle.row_stream.specs.Images.{samples_of}
-use Rattle.row_stream.specs.Ends.{RefusesNext, refused, too_many, LosesNext, in_header, at_byte}
+use Rattle.row_stream.specs.Ends.{EndsNext, in_header, at_byte}
 use Rattle.row_stream.specs.Moving.{Gains, GainsBut}
-use Rattle.row_stream.specs.Whole.{Creates, LeavesAll, LeavesBehind, LeavesInside, LeavesAtFault as StreamsToFault, at_start, behind, inside, LeavesAtRead as StreamsToRead, read_at_start, read_behind, read_inside, LeavesAtWrite as StreamsToWrite, write_first, write_inside, write_behind}
+use Rattle.row_stream.specs.Whole.{Creates, LeavesAll, LeavesBehind, LeavesInside, LeavesEarly, at_start, behind, inside, LeavesAtWrite as StreamsToWrite, write_first, write_inside, write_behind}
 use Rattle.row_stream.specs.Most.{EndsLines}
 use Rattle.row_stream.proofs.FirstFault.{told_parts}
 use Rattle.row_stream.proofs.HeadEnds.{at_end}
@@ -35,9 +33,9 @@ use Rattle.dk_top.proofs.StreamTaken.{headed_images, headed_taken, most_of, most
 -- the laws of row_stream on the lines that were left
 pub record MostLaws : Type 0 where
   pub fault_behind : (kind : Kind) (m : Netlist) (bits : ℕ) (from : Contents) (created now : Outside) (fault : FileFault) (file : List ℕ) → (e : LeavesBehind kind m bits (ImageFails fault) (Some file) from created now) → e.count < MAX_FILE_IMAGES → EndsLines kind.size bits file (e.count * kind.size.height)
-  pub fault_inside : (kind : Kind) (m : Netlist) (bits : ℕ) (from : Contents) (created now : Outside) (fault : RasterFault) (file : List ℕ) → (e : LeavesInside kind m bits (Raster fault) (Some file) from created now) → EndsLines kind.size bits file (e.count * kind.size.height + e.rows)
+  pub fault_inside : (kind : Kind) (m : Netlist) (bits : ℕ) (from : Contents) (created now : Outside) (fault : FileFault) (file : List ℕ) → (e : LeavesInside kind m bits (ImageFails fault) (Some file) from created now) → EndsLines kind.size bits file (e.count * kind.size.height + e.rows)
   pub read_behind : (kind : Kind) (m : Netlist) (bits : ℕ) (from : Contents) (created now : Outside) (all : Option (List ℕ)) → (e : LeavesBehind kind m bits Read all from created now) → e.count < MAX_FILE_IMAGES → (read : List ℕ) × (all ≡ prepend_known read now.image.rest) × EndsLines kind.size bits read (e.count * kind.size.height)
-  pub read_inside : (kind : Kind) (m : Netlist) (bits : ℕ) (from : Contents) (created now : Outside) (all : Option (List ℕ)) → (e : LeavesInside kind m bits RowsRead all from created now) → (read : List ℕ) × (all ≡ prepend_known read now.image.rest) × EndsLines kind.size bits read (e.count * kind.size.height + e.rows)
+  pub read_inside : (kind : Kind) (m : Netlist) (bits : ℕ) (from : Contents) (created now : Outside) (all : Option (List ℕ)) → (e : LeavesInside kind m bits Read all from created now) → (read : List ℕ) × (all ≡ prepend_known read now.image.rest) × EndsLines kind.size bits read (e.count * kind.size.height + e.rows)
 
 -- what was read is one list
 same_read : (file : List ℕ) (left : Option (List ℕ)) (a b rest : List ℕ) → Some file ≡ prepend_known a left → left ≡ Some rest → file ≡ b ++ rest → (P : List ℕ → Type 0) → P a → P b
@@ -92,8 +90,8 @@ module _ (p : Typing) (m : Netlist) (from : Contents) where
     pub fault_behind_reads : (f : FileFault) → (e : LeavesBehind kind m bits (ImageFails f) (Some file) from created now) → ReadsToFault p file now.image.rest (samples_of e.taken.images)
     fault_behind_reads f e = by e.why
       where
-        by : RefusesNext p.size bits e.count (length e.taken.bytes) f e.half.image now.image → ReadsToFault p file now.image.rest (samples_of e.taken.images)
-        by (refused few h) =
+        by : EndsNext p.size bits e.count (length e.taken.bytes) (ImageFails f) e.half.image now.image → ReadsToFault p file now.image.rest (samples_of e.taken.images)
+        by (in_header few h) =
             let t = takes_images kind m bits e.count file from created e.half e.taken (omega (arith, few)) in
             let (after, left, inner) = told_parts h.read now.image.rest t.rest (sym h.given ∙ t.left) in
             record {
@@ -106,9 +104,10 @@ module _ (p : Typing) (m : Netlist) (from : Contents) where
               next = to_fault (let same = e.taken.count_is in omega (arith, same, few)) (record { none = h.none after left; before = h.before; shown = λ u. at_end now.image.rest after (h.shown u) left });
               is_left = left;
             }
-        by (too_many full is byte given) =
+        by (at_byte full w) =
+            let byte = w.0 in
             let t = takes_images kind m bits e.count file from created e.half e.taken (omega (arith, full)) in
-            let (after, left, inner) = told_parts (byte ∷ []) now.image.rest t.rest (sym given ∙ t.left) in
+            let (after, left, inner) = told_parts (byte ∷ []) now.image.rest t.rest (sym w.2 ∙ t.left) in
             record {
               rows = e.count * p.size.height;
               front = e.taken.bytes;
@@ -121,10 +120,10 @@ module _ (p : Typing) (m : Netlist) (from : Contents) where
             }
 
     -- a fault inside an image
-    pub fault_inside_reads : (f : RasterFault) → (e : LeavesInside kind m bits (Raster f) (Some file) from created now) → ReadsToFault p file now.image.rest (samples_of e.taken.images ++ e.taken.samples)
+    pub fault_inside_reads : (f : FileFault) → (e : LeavesInside kind m bits (ImageFails f) (Some file) from created now) → ReadsToFault p file now.image.rest (samples_of e.taken.images ++ e.taken.samples)
     fault_inside_reads f e =
         let s = e.taken in
-        let w = e.why in
+        let w = e.why.1 in
         let within : e.rows ≤ e.header.height = (let i = e.inside in omega (arith, i)) in
         let t = takes_lines kind m bits e.count e.header e.rows file from created e.half s e.few e.fits within in
         let (after, left, inner) = told_parts w.read now.image.rest t.rest (sym w.given ∙ t.left) in
@@ -146,7 +145,7 @@ module _ (p : Typing) (m : Netlist) (from : Contents) where
         begun : (more : List ℕ) → IsBegun p (e.taken.bytes ++ more)
         begun more = headed_images p.size bits e.taken.images e.taken.bytes more e.taken.are e.taken.fit (let a = e.some in let b = e.taken.count_is in omega (arith, a, b))
 
-        by : LosesNext e.count e.half.image now.image → (r : ReadsToFailure p file now.image.rest (samples_of e.taken.images)) × IsBegun p r.read
+        by : EndsNext p.size bits e.count (length e.taken.bytes) Read e.half.image now.image → (r : ReadsToFailure p file now.image.rest (samples_of e.taken.images)) × IsBegun p r.read
         by (in_header few loses) =
             let t = takes_images kind m bits e.count file from created e.half e.taken (omega (arith, few)) in
             let (rest, left, inner) = told_parts loses.read now.image.rest t.rest (sym loses.given ∙ t.left) in
@@ -184,7 +183,7 @@ module _ (p : Typing) (m : Netlist) (from : Contents) where
             )
 
     -- a failed read inside an image
-    pub read_inside_reads : (e : LeavesInside kind m bits RowsRead (Some file) from created now) → (r : ReadsToFailure p file now.image.rest (samples_of e.taken.images ++ e.taken.samples)) × IsBegun p r.read
+    pub read_inside_reads : (e : LeavesInside kind m bits Read (Some file) from created now) → (r : ReadsToFailure p file now.image.rest (samples_of e.taken.images ++ e.taken.samples)) × IsBegun p r.read
     read_inside_reads e =
         let s = e.taken in
         let within : e.rows ≤ e.header.height = (let i = e.inside in omega (arith, i)) in
@@ -221,7 +220,7 @@ module _ (p : Typing) (m : Netlist) (from : Contents) where
   not_both opens shut = let e : Open ≡ Refused = sym opens ∙ shut in cc
 
   module _ (laws : MostLaws) (file name : List ℕ) (old now : Outside) (told : old.image.rest ≡ Some file) where
-    pub fault_reads : (f : FileFault) → StreamsToFault kind m bits f name from old now → (samples : List ℕ) × ReadsToFault p file now.image.rest samples
+    pub fault_reads : (f : FileFault) → LeavesEarly kind m bits (ImageFails f) name from old now → (samples : List ℕ) × ReadsToFault p file now.image.rest samples
     fault_reads f (at_start h only) =
         let (after, left, inner) = told_parts h.read now.image.rest file (sym h.given ∙ told) in (
           [],
@@ -237,10 +236,10 @@ module _ (p : Typing) (m : Netlist) (from : Contents) where
           },
         )
     fault_reads f (behind created creates e) = let e' = subst (λ all. LeavesBehind kind m bits (ImageFails f) all from created now) told e in (samples_of e'.taken.images, fault_behind_reads laws file created now f e')
-    fault_reads f (inside created creates g e) = let e' = subst (λ all. LeavesInside kind m bits (Raster g) all from created now) told e in (samples_of e'.taken.images ++ e'.taken.samples, fault_inside_reads laws file created now g e')
+    fault_reads f (inside created creates e) = let e' = subst (λ all. LeavesInside kind m bits (ImageFails f) all from created now) told e in (samples_of e'.taken.images ++ e'.taken.samples, fault_inside_reads laws file created now f e')
 
-    pub failure_reads : old.file.stage ≡ Unasked → StreamsToRead kind m bits name from old now → CreatesAtFailure p file now.image.rest now.file.stage
-    failure_reads closed (read_at_start h only) =
+    pub failure_reads : old.file.stage ≡ Unasked → LeavesEarly kind m bits Read name from old now → CreatesAtFailure p file now.image.rest now.file.stage
+    failure_reads closed (at_start h only) =
         let (rest, left, inner) = told_parts h.read now.image.rest file (sym h.given ∙ told) in
         record {
           samples = [];
@@ -259,7 +258,7 @@ module _ (p : Typing) (m : Netlist) (from : Contents) where
           begun = λ is. absurd (undecided_headless p.size bits h.read h.inside is.0 is.1);
           before = λ none. ap (λ (o : Outside). o.file.stage) only ∙ closed;
         }
-    failure_reads closed (read_behind created creates e) =
+    failure_reads closed (behind created creates e) =
         let r = read_behind_reads laws file created now (subst (λ all. LeavesBehind kind m bits Read all from created now) told e) in
         record {
           samples = _;
@@ -267,8 +266,8 @@ module _ (p : Typing) (m : Netlist) (from : Contents) where
           begun = λ is. ap (λ (o : Outside). o.file.stage) e.only ∙ created_stage name old created e.half _ _ creates e.taken.shows.gained;
           before = λ none. absurd (none r.1);
         }
-    failure_reads closed (read_inside created creates e) =
-        let r = read_inside_reads laws file created now (subst (λ all. LeavesInside kind m bits RowsRead all from created now) told e) in
+    failure_reads closed (inside created creates e) =
+        let r = read_inside_reads laws file created now (subst (λ all. LeavesInside kind m bits Read all from created now) told e) in
         record {
           samples = _;
           reads = r.0;

@@ -17,10 +17,9 @@ use Rattle.pgm_rounds.specs.Ports.{Ports}
 use Rattle.pgm_rounds.specs.Files.{FitsFile, IsFault, IsHeaded}
 use Rattle.row_stream.specs.declared.faults.StreamFault.{StreamFault}
 use Rattle.row_stream.specs.declared.faults.StreamFault.TheVariants.{Image as ImageFails, Read}
-use Rattle.row_stream.specs.declared.rows.RowsFault.TheVariants.{Raster, Read as RowsRead}
 use Rattle.row_stream.specs.Lines.{Kind, head}
 use Rattle.row_stream.specs.Moving.{Gains, GainsBut}
-use Rattle.row_stream.specs.Whole.{Creates, LeavesAll, LeavesBehind, LeavesInside, FailsFirst, at_create, at_head, at_reset, LeavesAtFault as StreamsToFault, at_start, behind, inside, LeavesAtRead as StreamsToRead, read_at_start, read_behind, read_inside, LeavesAtWrite as StreamsToWrite, write_first, write_inside, write_behind, StopsAtFault}
+use Rattle.row_stream.specs.Whole.{Creates, LeavesAll, LeavesBehind, LeavesInside, FailsFirst, at_create, at_head, at_reset, LeavesEarly, at_start, behind, inside, LeavesAtWrite as StreamsToWrite, write_first, write_inside, write_behind, StopsAtFault}
 use Rattle.row_stream.proofs.FirstFault.{told_parts}
 use Rattle.row_stream.proofs.Leaving.{creates_from}
 use Rattle.dk_compile.specs.declared.compiling.Compiled.{Compiled}
@@ -200,18 +199,10 @@ module _ (name : List ℕ) (opened : Outside) (unasked : opened.file.stage ≡ U
   pub left_all : (kind : Kind) (m : Netlist) (bits late : ℕ) (from : Rattle.wiring.specs.Snapshot.Contents) (now : Outside) → LeavesAll kind m bits late name from opened now → (now.file.stage ≡ Open) × Leaves_so name opened now
   left_all kind m bits late from now e = left_done e.created now _ _ e.creates e.shows.gained
 
-  pub left_fault : (kind : Kind) (m : Netlist) (bits : ℕ) (f : FileFault) (from : Rattle.wiring.specs.Snapshot.Contents) (now : Outside) → StreamsToFault kind m bits f name from opened now → Leaves_so name opened now
-  left_fault kind m bits f from now (at_start h only) = left_nothing now (only ∙ refl_failures only)
-    where
-      refl_failures : now ≡ record opened { image = record opened.image { rest = now.image.rest } } → record opened { image = record opened.image { rest = now.image.rest } } ≡ record opened { image = record opened.image { rest = now.image.rest }; input_failures = now.input_failures }
-      refl_failures e = ap (λ n. record opened { image = record opened.image { rest = now.image.rest }; input_failures = n }) (sym (ap (λ (o : Outside). o.input_failures) e))
-  left_fault kind m bits f from now (behind created creates e) = (left_half created e.half now _ _ creates e.taken.shows.gained e.only).1
-  left_fault kind m bits f from now (inside created creates g e) = (left_half created e.half now _ _ creates e.taken.shows.gained e.only).1
-
-  pub left_read : (kind : Kind) (m : Netlist) (bits : ℕ) (from : Rattle.wiring.specs.Snapshot.Contents) (now : Outside) → StreamsToRead kind m bits name from opened now → Leaves_so name opened now
-  left_read kind m bits from now (read_at_start h only) = left_nothing now only
-  left_read kind m bits from now (read_behind created creates e) = (left_half created e.half now _ _ creates e.taken.shows.gained e.only).1
-  left_read kind m bits from now (read_inside created creates e) = (left_half created e.half now _ _ creates e.taken.shows.gained e.only).1
+  pub left_early : (kind : Kind) (m : Netlist) (bits : ℕ) (f : StreamFault) (from : Rattle.wiring.specs.Snapshot.Contents) (now : Outside) → LeavesEarly kind m bits f name from opened now → Leaves_so name opened now
+  left_early kind m bits f from now (at_start h only) = left_nothing now only
+  left_early kind m bits f from now (behind created creates e) = (left_half created e.half now _ _ creates e.taken.shows.gained e.only).1
+  left_early kind m bits f from now (inside created creates e) = (left_half created e.half now _ _ creates e.taken.shows.gained e.only).1
 
   -- where File can't be begun, from the outside after the first header
   left_first : (kind : Kind) (m : Netlist) (from : Rattle.wiring.specs.Snapshot.Contents) (before now : Outside) → before ≡ record opened { image = record opened.image { rest = before.image.rest } } → now.image ≡ before.image → FailsFirst kind m name from before now → Leaves_so name opened now
@@ -242,7 +233,7 @@ module _ (name : List ℕ) (opened : Outside) (unasked : opened.file.stage ≡ U
 
 -- what is said of this program holds of any that the text is accepted as
 module _ (one_program : OneProgram) (one_rounds : (ports : Ports) → 0 < length ports.inputs → (bytes : List ℕ) → (a b : List (List Image)) → FitsFile ports bytes a → FitsFile ports bytes b → a ≡ b)
-    (source : List ℕ) (age : ℕ) (c : Compiled) (from : IsCompiledFrom source age false c) where
+    (source : List ℕ) (age : ℕ) (c : Compiled) (from : IsCompiledFrom source age false None c) where
   same_program : (p : Typing) → IsAcceptedAt source age p → from.program ≡ p
   same_program p accepted = one_program source from.program p from.is.planned.has.front.program accepted.accepted.program
 
@@ -254,7 +245,7 @@ module _ (one_program : OneProgram) (one_rounds : (ports : Ports) → 0 < length
 
 -- the cause of a failure does not come from what did not fail
 module _ (law : PlannedAccepted) (one_program : OneProgram) (one_rounds : (ports : Ports) → 0 < length ports.inputs → (bytes : List ℕ) → (a b : List (List Image)) → FitsFile ports bytes a → FitsFile ports bytes b → a ≡ b)
-    (picture_law : PictureLaw) (raster_law : RasterLaw) (laws : MostLaws) (source : List ℕ) (age : ℕ) (c : Compiled) (from : IsCompiledFrom source age false c) (one : IsOnePort from.program) (image out : List ℕ)
+    (picture_law : PictureLaw) (raster_law : RasterLaw) (laws : MostLaws) (source : List ℕ) (age : ℕ) (c : Compiled) (from : IsCompiledFrom source age false None c) (one : IsOnePort from.program) (image out : List ℕ)
     (old opened : Outside) (opens : OpensImages image old opened) (image_unasked : old.image.stage ≡ Unasked) (unasked : old.file.stage ≡ Unasked) where
   abbrev q : Typing
   q = from.program
@@ -275,20 +266,20 @@ module _ (law : PlannedAccepted) (one_program : OneProgram) (one_rounds : (ports
   zeros = filled_contents Zeros m
 
   accepted : IsAcceptedAt source age q
-  accepted = compiled_accepted law source age false c from
+  accepted = compiled_accepted law source age false None c from
 
   wide : 0 < q.size.width
-  wide = (D.is_typed source age false q c.ir c.system c.solution c.plan c.«module» c.nets.items c.text.items from.is).frame.some_columns
+  wide = (D.is_typed source age false None q c.ir c.system c.solution c.plan c.«module» c.nets.items c.text.items from.is).frame.some_columns
 
   tall : 0 < q.size.height
-  tall = (D.is_typed source age false q c.ir c.system c.solution c.plan c.«module» c.nets.items c.text.items from.is).frame.some_rows
+  tall = (D.is_typed source age false None q c.ir c.system c.solution c.plan c.«module» c.nets.items c.text.items from.is).frame.some_rows
 
   shows_law : ShowsLaw m zeros bits late (shown_by q)
   shows_law samples whole small small_whole same few shots to runs =
-      S.stream_shown source age false q c.ir c.system c.solution c.plan c.«module» c.nets.items c.text.items from.is bits (inputs source age c from one) one.output picture_law raster_law samples whole small small_whole same few zeros to shots (power_up_fits m) runs
+      S.stream_shown source age false None q c.ir c.system c.solution c.plan c.«module» c.nets.items c.text.items from.is bits (inputs source age c from one) one.output picture_law raster_law samples whole small small_whole same few zeros to shots (power_up_fits m) runs
 
   long : (whole : List ℕ) → length whole ≤ length (shown_by q whole)
-  long whole = S.shown_long source age false q c.ir c.system c.solution c.plan c.«module» c.nets.items c.text.items from.is bits (inputs source age c from one) one.output whole
+  long whole = S.shown_long source age false None q c.ir c.system c.solution c.plan c.«module» c.nets.items c.text.items from.is bits (inputs source age c from one) one.output whole
 
   some_inputs : 0 < length (ports q).inputs
   some_inputs = let e = ap length (inputs source age c from one) in omega (arith, e)
@@ -337,7 +328,7 @@ module _ (law : PlannedAccepted) (one_program : OneProgram) (one_rounds : (ports
       let h = headed_images q.size bits e.taken.images e.taken.bytes t.0 e.taken.are e.taken.fit (let a = e.some in let b = e.taken.count_is in omega (arith, a, b)) in
       (h.0, subst (λ x. IsHeaded q.size bits x h.0) (sym t.2) h.1)
 
-  begun_inside : (f : Rattle.row_stream.specs.declared.rows.RowsFault.RowsFault) (created now : Outside) (file : List ℕ) → LeavesInside kind m bits f (Some file) zeros created now → IsBegun q file
+  begun_inside : (f : StreamFault) (created now : Outside) (file : List ℕ) → LeavesInside kind m bits f (Some file) zeros created now → IsBegun q file
   begun_inside f created now file e =
       let s = e.taken in
       let t = told_parts (s.bytes ++ (s.head ++ s.raster)) e.half.image.rest file (sym s.given) in
@@ -351,7 +342,7 @@ module _ (law : PlannedAccepted) (one_program : OneProgram) (one_rounds : (ports
   on_stream : (is : Typing → Type 0) → is q → OnStream source age is
   on_stream is h p a one_p = subst is (same_program one_program one_rounds source age c from p a) h
 
-  created_by_fault : (f : FileFault) (now : Outside) (file : List ℕ) → opened.image.rest ≡ Some file → StreamsToFault kind m bits f out zeros opened now → CreatesRun age source file (ending.Image (File f)) now.file.stage
+  created_by_fault : (f : FileFault) (now : Outside) (file : List ℕ) → opened.image.rest ≡ Some file → LeavesEarly kind m bits (ImageFails f) out zeros opened now → CreatesRun age source file (ending.Image (File f)) now.file.stage
   created_by_fault f now file told (at_start h only) =
       let stage : now.file.stage ≡ Unasked = ap (λ (o : Outside). o.file.stage) only ∙ closed in
       let t = told_parts h.read now.image.rest file (sym h.given ∙ told) in
@@ -365,18 +356,18 @@ module _ (law : PlannedAccepted) (one_program : OneProgram) (one_rounds : (ports
   created_by_fault f now file told (behind created creates e) =
       let stage = (left_half out opened closed created e.half now _ _ creates e.taken.shows.gained e.only).0 in
       record { streamed = λ p a is. stage; whole = λ p a is. absurd (is (is_streamed p a file (begun_behind (ImageFails f) created now file (subst (λ all. LeavesBehind kind m bits (ImageFails f) all zeros created now) told e)))) }
-  created_by_fault f now file told (inside created creates g e) =
+  created_by_fault f now file told (inside created creates e) =
       let stage = (left_half out opened closed created e.half now _ _ creates e.taken.shows.gained e.only).0 in
-      record { streamed = λ p a is. stage; whole = λ p a is. absurd (is (is_streamed p a file (begun_inside (Raster g) created now file (subst (λ all. LeavesInside kind m bits (Raster g) all zeros created now) told e)))) }
+      record { streamed = λ p a is. stage; whole = λ p a is. absurd (is (is_streamed p a file (begun_inside (ImageFails f) created now file (subst (λ all. LeavesInside kind m bits (ImageFails f) all zeros created now) told e)))) }
 
-  created_by_read : (now : Outside) (file : List ℕ) → opened.image.rest ≡ Some file → StreamsToRead kind m bits out zeros opened now → CreatesRun age source file ending.ReadFault now.file.stage
-  created_by_read now file told (read_at_start h only) = λ asked. absurd (asked (ap (λ (o : Outside). o.file.stage) only ∙ closed))
-  created_by_read now file told (read_behind created creates e) = λ asked. (q, accepted, (one, begun_behind Read created now file (subst (λ all. LeavesBehind kind m bits Read all zeros created now) told e)))
-  created_by_read now file told (read_inside created creates e) = λ asked. (q, accepted, (one, begun_inside RowsRead created now file (subst (λ all. LeavesInside kind m bits RowsRead all zeros created now) told e)))
+  created_by_read : (now : Outside) (file : List ℕ) → opened.image.rest ≡ Some file → LeavesEarly kind m bits Read out zeros opened now → CreatesRun age source file ending.ReadFault now.file.stage
+  created_by_read now file told (at_start h only) = λ asked. absurd (asked (ap (λ (o : Outside). o.file.stage) only ∙ closed))
+  created_by_read now file told (behind created creates e) = λ asked. (q, accepted, (one, begun_behind Read created now file (subst (λ all. LeavesBehind kind m bits Read all zeros created now) told e)))
+  created_by_read now file told (inside created creates e) = λ asked. (q, accepted, (one, begun_inside Read created now file (subst (λ all. LeavesInside kind m bits Read all zeros created now) told e)))
 
-  reads_by_read : (now : Outside) (file : List ℕ) → opened.image.rest ≡ Some file → StreamsToRead kind m bits out zeros opened now → ReadsRun ending.ReadFault age source file now.image now.file.stage
+  reads_by_read : (now : Outside) (file : List ℕ) → opened.image.rest ≡ Some file → LeavesEarly kind m bits Read out zeros opened now → ReadsRun ending.ReadFault age source file now.image now.file.stage
   reads_by_read now file told e = record {
-    unopened = λ shut. absurd (shut ((left_read out opened closed kind m bits zeros now e).image.0 ∙ opens.stage));
+    unopened = λ shut. absurd (shut ((left_early out opened closed kind m bits Read zeros now e).image.0 ∙ opens.stage));
     several = λ p a no. absurd (no (subst IsOnePort (same_program one_program one_rounds source age c from p a) one));
     streamed = λ there. on_stream (λ p. CreatesAtFailure p file now.image.rest now.file.stage) (failure_reads q m zeros laws file out opened now told closed e);
   }
@@ -421,16 +412,16 @@ module _ (law : PlannedAccepted) (one_program : OneProgram) (one_rounds : (ports
   runs_fault : (f : FileFault) (now : Outside) → StopsAtFault kind m bits f out zeros opened now → HasCauseIn (ending.Image (File f) ≡ ending.ReadFault) old.input_failures now.input_failures
       → HasCauseIn (ending.Image (File f) ≡ ending.WriteFault) old.output_failures now.output_failures → RunsOn source age image out (ending.Image (File f)) old now
   runs_fault f now e read write =
-      built now (ending.Image (File f)) (left_fault out opened closed kind m bits f zeros now e.leaves) (λ x. absurd (let g : ⊥ = cc in g))
+      built now (ending.Image (File f)) (left_early out opened closed kind m bits (ImageFails f) zeros now e.leaves) (λ x. absurd (let g : ⊥ = cc in g))
       (λ file told. record { program = q; accepted = accepted; unfit = (tt, subst (λ (x : Ports). IsFault x file f) (sym (ports_one source age c from one)) (e.first file told)) })
       (λ program x. absurd x) (λ file told. created_by_fault f now file told e.leaves)
       (λ file told. on_stream (λ p. (samples : List ℕ) × ReadsToFault p file now.image.rest samples) (fault_reads q m zeros laws file out opened now told f e.leaves)) (λ x. absurd (let g : ⊥ = cc in g))
       (λ there file told. held_by (LeavesAtFault q late file now.image.rest) (IsHeldRun (ending.Image (File f)) age source file now.image.rest) now.file.bytes (λ bytes h. of_stream (λ p l. LeavesAtFault p l file now.image.rest bytes) h)
       (held_fault q m zeros late shows_law long wide laws file out opened now told closed there f e.leaves)) (λ file told. tt) read write
 
-  runs_read : (now : Outside) → StreamsToRead kind m bits out zeros opened now → HasCauseIn (ending.ReadFault ≡ ending.ReadFault) old.input_failures now.input_failures → HasCauseIn (ending.ReadFault ≡ ending.WriteFault) old.output_failures now.output_failures → RunsOn source age image out ending.ReadFault old now
+  runs_read : (now : Outside) → LeavesEarly kind m bits Read out zeros opened now → HasCauseIn (ending.ReadFault ≡ ending.ReadFault) old.input_failures now.input_failures → HasCauseIn (ending.ReadFault ≡ ending.WriteFault) old.output_failures now.output_failures → RunsOn source age image out ending.ReadFault old now
   runs_read now e read write =
-      built now ending.ReadFault (left_read out opened closed kind m bits zeros now e) (λ x. absurd (let g : ⊥ = cc in g)) (λ file told. tt) (λ program x. absurd x) (λ file told. created_by_read now file told e) (λ file told. reads_by_read now file told e) (λ x. absurd (let g : ⊥ = cc in g))
+      built now ending.ReadFault (left_early out opened closed kind m bits Read zeros now e) (λ x. absurd (let g : ⊥ = cc in g)) (λ file told. tt) (λ program x. absurd x) (λ file told. created_by_read now file told e) (λ file told. reads_by_read now file told e) (λ x. absurd (let g : ⊥ = cc in g))
       (λ there file told. held_by (LeavesAtRead q late file now.image.rest) (IsHeldRun ending.ReadFault age source file now.image.rest) now.file.bytes (λ bytes h. of_stream (λ p l. LeavesAtRead p l file now.image.rest bytes) h)
       (held_read q m zeros late shows_law long wide laws file out opened now told closed there e)) (λ file told. tt) read write
 

@@ -1,5 +1,5 @@
 -- `compile` and then `sim`: a Verilog text that a program is compiled to, and the images that its module is driven with.
-use Rattle.std.specs.Prelude.{ℕ, ◌+◌, ◌*◌, ◌≤◌, Bool, List, length, None, Some}
+use Rattle.std.specs.Prelude.{ℕ, ◌+◌, ◌*◌, ◌≤◌, Bool, List, length, Option, None, Some}
 use Rattle.dk_base.specs.declared.TheConstants.{MAX_PGM_BYTES, MAX_VERILOG_BYTES}
 use Rattle.dk_base.specs.Frames.{area}
 use Rattle.dk_types.specs.Typed.{Typing}
@@ -28,13 +28,14 @@ pub record CompiledInput : Type 0 where
   pub source : List ℕ
   pub age : ℕ
   pub enable : Bool
+  pub block : Option ℕ
   pub program : Typing
   pub plan : Plan
   pub text : List ℕ
   pub file : List ℕ
   pub rounds : List (List Image)
   pub has_plan : HasPlan source age program plan
-  pub compiled : IsCompiledText source age enable text
+  pub compiled : IsCompiledText source age enable block text
   pub short : length text ≤ MAX_VERILOG_BYTES
   pub fits : Fits (Some MAX_PGM_BYTES) program file rounds
 

@@ -14,14 +14,14 @@ use Rattle.dk_compile.specs.declared.compiling.Compiled.{Compiled}
 use Rattle.dk_compile.specs.Compiled.{IsCompiled}
 
 -- This is what the text is compiled to at an age, with the port `en` or without it.
-pub record IsCompiledFrom (source : List ℕ) (age : ℕ) (enable : Bool) (c : Compiled) : Type 0 where
+pub record IsCompiledFrom (source : List ℕ) (age : ℕ) (enable : Bool) (block : Option ℕ) (c : Compiled) : Type 0 where
   pub program : Typing
-  pub is : IsCompiled source age enable program c.ir c.system c.solution c.plan c.«module» c.nets.items c.text.items
+  pub is : IsCompiled source age enable block program c.ir c.system c.solution c.plan c.«module» c.nets.items c.text.items
 
 -- a Verilog text of the program's circuit
-pub record IsCompiledText (source : List ℕ) (age : ℕ) (enable : Bool) (text : List ℕ) : Type 0 where
+pub record IsCompiledText (source : List ℕ) (age : ℕ) (enable : Bool) (block : Option ℕ) (text : List ℕ) : Type 0 where
   pub compiled : Compiled
-  pub from : IsCompiledFrom source age enable compiled
+  pub from : IsCompiledFrom source age enable block compiled
   pub is : text ≡ compiled.text.items
 
 -- how a module is driven with this many rounds of frames: from zeros, with a clock for each pixel, and then those of the latency
@@ -31,7 +31,7 @@ frame_drive size latency rounds = record { clocks = rounds * area size + latency
 -- The notes have gained those of the run of a module of the program's text, driven with these rounds.
 pub record NotesRun (source : List ℕ) (age : ℕ) (p : Typing) (rounds : List (List Image)) (old new : Option (List (Bool × ℕ))) : Type 0 where
   pub compiled : Compiled
-  pub from : IsCompiledFrom source age false compiled
+  pub from : IsCompiledFrom source age false None compiled
   pub gained : List (Bool × ℕ)
   pub run : AreNotes compiled.«module».netlist (frame_drive p.size (latency compiled.plan) (length rounds)) (samples_of rounds) gained
   pub told : IsIfTold new (option_map (λ notes. notes ++ gained) old)

@@ -1,5 +1,5 @@
 -- What is reported of a made program: it is compiled, and clocked on its image.
-use Rattle.std.specs.Prelude.{◌≡◌, ℕ, ◌-◌, Bool, false, List, length, map, Option}
+use Rattle.std.specs.Prelude.{◌≡◌, ℕ, ◌-◌, Bool, false, List, length, map, Option, None}
 use Rattle.std.specs.List.{sum}
 use Rattle.dk_base.specs.Stencils.{Stencils}
 use Rattle.dk_types.specs.Typed.{Typing}
@@ -16,7 +16,7 @@ use Rattle.dk_top.specs.Compiling.{IsCompiledFrom, NotesRun}
 
 -- The program of a number was compiled to this, its image is that of these rounds, and this is the file of the outputs.
 pub record IsMade (n : ℕ) (compiled : Compiled) (rounds : List (List Image)) (file : List ℕ) : Type 0 where
-  pub from : IsCompiledFrom (program_of n) 0 false compiled
+  pub from : IsCompiledFrom (program_of n) 0 false None compiled
   pub fits : FitsFile (ports from.program) (image_of n) rounds
   pub file_is : file ≡ output_file from.program rounds
 
@@ -31,7 +31,7 @@ output_sum p rounds = sum (all_samples (map (outputs_of p) rounds))
 -- The line of a number: kept images without the inputs, live reads, bits and latency of its plan, and the sum of the samples of the outputs.
 pub record IsMadeLine (n : ℕ) (line : List ℕ) : Type 0 where
   pub compiled : Compiled
-  pub from : IsCompiledFrom (program_of n) 0 false compiled
+  pub from : IsCompiledFrom (program_of n) 0 false None compiled
   pub rounds : List (List Image)
   pub fits : FitsFile (ports from.program) (image_of n) rounds
   pub line_is : line ≡ summary n (body_count compiled.system.stencils) (length compiled.system.stencils.reads)

@@ -1,5 +1,5 @@
 -- What `run` leaves of a program with one input and one output: its images are read, clocked and written line by line.
-use Rattle.std.specs.Prelude.{◌≡◌, ◌≢◌, ℕ, ◌+◌, ◌-◌, ◌*◌, ◌/◌, ◌^◌, ◌<◌, ◌≤◌, List, [], ◌∷◌, ◌++◌, false, length, map, take, drop, replicate, slice_index_or, Option, Some, ⊤}
+use Rattle.std.specs.Prelude.{◌≡◌, ◌≢◌, ℕ, ◌+◌, ◌-◌, ◌*◌, ◌/◌, ◌^◌, ◌<◌, ◌≤◌, List, [], ◌∷◌, ◌++◌, false, length, map, take, drop, replicate, slice_index_or, Option, None, Some, ⊤}
 use Rattle.std.specs.List.{flat_map, range_with_len, AllByRecursion}
 use Rattle.dk_base.specs.declared.TheConstants.{MAX_FILE_IMAGES}
 use Rattle.dk_base.specs.Frames.{Size, area}
@@ -207,7 +207,7 @@ pub data LeavesAtWrite (p : Typing) (latency : ℕ) (file : List ℕ) (left : Op
 -- What is said of a program that is accepted at an age and takes one image and gives one, and of its latency there.
 pub record OfStream (source : List ℕ) (age : ℕ) (is : Typing → (latency : ℕ) → Type 0) : Type 0 where
   pub compiled : Compiled
-  pub from : IsCompiledFrom source age false compiled
+  pub from : IsCompiledFrom source age false None compiled
   pub one : IsOnePort from.program
   pub holds : is from.program (latency compiled.plan)
 

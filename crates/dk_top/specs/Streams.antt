@@ -118,8 +118,8 @@ pub record PerformsRun (program image out : List ℕ) (age : ℕ) (result : Endi
 
 -- what holds of each text and age that this is compiled from
 abbrev pub OfCompiled : Compiled → (List ℕ → ℕ → Type 0) → Type 0
-OfCompiled c P = (source : List ℕ) (age : ℕ) → IsCompiledFrom source age false c → P source age
+OfCompiled c P = (source : List ℕ) (age : ℕ) → IsCompiledFrom source age false None c → P source age
 
 -- what holds of each text, file and age from which this is compiled and these rounds are read
 abbrev pub OfRun : Compiled → List Round → (List ℕ → List ℕ → ℕ → Type 0) → Type 0
-OfRun c rounds P = (source file : List ℕ) (age : ℕ) → IsCompiledFrom source age false c → IsInputOf None c.ir file rounds → P source file age
+OfRun c rounds P = (source file : List ℕ) (age : ℕ) → IsCompiledFrom source age false None c → IsInputOf None c.ir file rounds → P source file age

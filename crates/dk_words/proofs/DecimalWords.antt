@@ -1,12 +1,12 @@
 -- What commands with numbers read, where the numbers are decimals after zeros, in their ranges.
 use Rattle.std.proofs.Common.{◌≡◌, ℕ, ◌≤◌, true, false, [], ◌∷◌, Some, None, codes, arith}
-use Rattle.dk_base.specs.declared.TheConstants.{MAX_CLOCKS, MAX_HOLD, MAX_AGE, MAX_MADE}
+use Rattle.dk_base.specs.declared.TheConstants.{MAX_CLOCKS, MAX_HOLD, MAX_AGE, MAX_BUFFER_BITS, MAX_MADE}
 use Rattle.clap.specs.Walk.{Text}
 use Rattle.dk_words.specs.Words.{is_like_option}
 use Rattle.dk_words.specs.Numbers.{padded_decimal}
-use Rattle.dk_words.specs.Command.{age_number, clocks_of, command_of, compile, hold_number, made_number, make, plan, run, sim, trace}
+use Rattle.dk_words.specs.Command.{age_number, block_number, clocks_of, command_of, compile, hold_number, made_number, make, plan, run, sim, trace}
 use Rattle.dk_words.specs.declared.command.PowerUp.TheVariants.{Zeros, Ones}
-use Rattle.dk_words.proofs.FileWords.{age_first_reads, age_last_reads, both_first_reads, both_last_reads, both_reads, compile_age_first_reads, compile_age_last_reads, hold_reads, make_reads, make_reads_after, ones_reads, run_age_first_reads, run_age_last_reads, sim_reads, sim_reads_after, trace_reads, trace_reads_after}
+use Rattle.dk_words.proofs.FileWords.{age_first_reads, age_last_reads, block_first_reads, block_last_reads, both_first_reads, both_last_reads, both_reads, compile_age_first_reads, compile_age_last_reads, hold_reads, make_reads, make_reads_after, ones_reads, run_age_first_reads, run_age_last_reads, sim_reads, sim_reads_after, trace_reads, trace_reads_after}
 use Rattle.dk_words.proofs.NumberLemmas.{plain-padded, within-padded}
 
 -- ---- the ranges
@@ -19,6 +19,9 @@ hold_padded z n l h = within-padded 1 MAX_HOLD z n l h (omega arith)
 
 age_padded : (z n : ℕ) → n ≤ MAX_AGE → age_number (padded_decimal z n) ≡ Some n
 age_padded z n h = within-padded 0 MAX_AGE z n (omega arith) h (omega arith)
+
+block_padded : (z n : ℕ) → 2 ≤ n → n ≤ MAX_BUFFER_BITS → block_number (padded_decimal z n) ≡ Some n
+block_padded z n l h = within-padded 2 MAX_BUFFER_BITS z n l h (omega arith)
 
 made_padded : (z n : ℕ) → n ≤ MAX_MADE → made_number (padded_decimal z n) ≡ Some n
 made_padded z n h = within-padded 0 MAX_MADE z n (omega arith) h (omega arith)
@@ -62,16 +65,16 @@ module _ (name p i o : Text) (z age : ℕ) (low : age ≤ MAX_AGE) (ep : is_like
   run_age_last = run_age_last_reads p i o ep ei eo (padded_decimal z age) (plain z age (omega arith)) name age (age_padded z age low)
 
 module _ (name p o : Text) (z age : ℕ) (low : age ≤ MAX_AGE) (ep : is_like_option p ≡ false) (eo : is_like_option o ≡ false) where
-  pub compile_age_first : command_of (name ∷ codes "compile" ∷ codes "--age" ∷ padded_decimal z age ∷ p ∷ o ∷ []) ≡ Some (compile p o false age)
+  pub compile_age_first : command_of (name ∷ codes "compile" ∷ codes "--age" ∷ padded_decimal z age ∷ p ∷ o ∷ []) ≡ Some (compile p o false age None)
   compile_age_first = compile_age_first_reads p o ep eo (padded_decimal z age) (plain z age (omega arith)) name age (age_padded z age low)
 
-  pub compile_age_last : command_of (name ∷ codes "compile" ∷ p ∷ o ∷ codes "--age" ∷ padded_decimal z age ∷ []) ≡ Some (compile p o false age)
+  pub compile_age_last : command_of (name ∷ codes "compile" ∷ p ∷ o ∷ codes "--age" ∷ padded_decimal z age ∷ []) ≡ Some (compile p o false age None)
   compile_age_last = compile_age_last_reads p o ep eo (padded_decimal z age) (plain z age (omega arith)) name age (age_padded z age low)
 
-  pub compile_both_first : command_of (name ∷ codes "compile" ∷ codes "--enable" ∷ codes "--age" ∷ padded_decimal z age ∷ p ∷ o ∷ []) ≡ Some (compile p o true age)
+  pub compile_both_first : command_of (name ∷ codes "compile" ∷ codes "--enable" ∷ codes "--age" ∷ padded_decimal z age ∷ p ∷ o ∷ []) ≡ Some (compile p o true age None)
   compile_both_first = both_first_reads p o ep eo (padded_decimal z age) (plain z age (omega arith)) name age (age_padded z age low)
 
-  pub compile_both_last : command_of (name ∷ codes "compile" ∷ p ∷ o ∷ codes "--enable" ∷ codes "--age" ∷ padded_decimal z age ∷ []) ≡ Some (compile p o true age)
+  pub compile_both_last : command_of (name ∷ codes "compile" ∷ p ∷ o ∷ codes "--enable" ∷ codes "--age" ∷ padded_decimal z age ∷ []) ≡ Some (compile p o true age None)
   compile_both_last = both_last_reads p o ep eo (padded_decimal z age) (plain z age (omega arith)) name age (age_padded z age low)
 
 pub make_alone : (name : Text) (z n : ℕ) → n ≤ MAX_MADE → command_of (name ∷ codes "make" ∷ padded_decimal z n ∷ []) ≡ Some (make n)
@@ -86,3 +89,10 @@ module _ (name v i o : Text) (z n : ℕ) (few : n ≤ MAX_CLOCKS) where
 
   pub trace_after : command_of (name ∷ codes "trace" ∷ codes "--" ∷ v ∷ padded_decimal z n ∷ i ∷ o ∷ []) ≡ Some (trace v n i o)
   trace_after = trace_reads_after name v (padded_decimal z n) i o n (clocks_padded z n few)
+
+module _ (name p o : Text) (z block : ℕ) (low : 2 ≤ block) (high : block ≤ MAX_BUFFER_BITS) (ep : is_like_option p ≡ false) (eo : is_like_option o ≡ false) where
+  pub compile_block_first : command_of (name ∷ codes "compile" ∷ codes "--block" ∷ padded_decimal z block ∷ p ∷ o ∷ []) ≡ Some (compile p o false 0 (Some block))
+  compile_block_first = block_first_reads p o ep eo (padded_decimal z block) (plain z block (omega (arith, high))) name block (block_padded z block low high)
+
+  pub compile_block_last : command_of (name ∷ codes "compile" ∷ p ∷ o ∷ codes "--block" ∷ padded_decimal z block ∷ []) ≡ Some (compile p o false 0 (Some block))
+  compile_block_last = block_last_reads p o ep eo (padded_decimal z block) (plain z block (omega (arith, high))) name block (block_padded z block low high)

@@ -4,11 +4,11 @@ use Rattle.std.specs.List.{list_all}
 use Rattle.std.specs.Str.{bytes_eq}
 use Rattle.clap.specs.Lexer.{long_of, long_of_rest, short_of, short_of_rest, strip_byte}
 use Rattle.clap.specs.Takes as pass
-use Rattle.clap.specs.Takes.{takes, walk_passes}
+use Rattle.clap.specs.Takes.{walk_passes}
 use Rattle.clap.specs.Walk.{Held, Row, Rule, Text, Walk, after_step, arg_by_index, finished, idle, nothing_held, option, plain_word, rows_after, settled, to_positional, value, walk_from, walked, walked_from, word_met}
 use Rattle.clap.specs.Simple.{Shape}
 use Rattle.dk_words.specs.Words.{is_like_option}
-use Rattle.dk_words.specs.Command.{Command, age_number, check, check_of_rows, clocks_of, command_of, compile, compile_of_rows, compile_on, eval, eval_of_rows, hold_number, made_number, make, make_of_rows, make_on, plan, plan_of_rows, plan_on, run, run_of_rows, run_on, sim, sim_of_rows, sim_on, trace, trace_of_rows, trace_on}
+use Rattle.dk_words.specs.Command.{Command, age_number, block_number, check, check_of_rows, clocks_of, command_of, compile, compile_of_rows, compile_on, eval, eval_of_rows, hold_number, made_number, make, make_of_rows, make_on, plan, plan_of_rows, plan_on, run, run_of_rows, run_on, sim, sim_of_rows, sim_on, trace, trace_of_rows, trace_on}
 use Rattle.dk_words.specs.declared.command.PowerUp.TheVariants.{Zeros, Ones}
 use Rattle.dk_words.proofs.Joined.{both}
 use Rattle.dk_words.specs.Words.{run_command, eval_command, compile_command, sim_command, trace_command, plan_command, check_command, make_command}
@@ -275,7 +275,7 @@ module _ (p o : Text) (ep : is_like_option p ≡ false) (eo : is_like_option o �
   two_go : (rest : List Text) (to : Walk) → Goes compile_shape two rest to → Goes compile_shape (walk_from nothing_held) (p ∷ o ∷ rest) to
   two_go rest to goes = two_from nothing_held rest to refl refl goes
 
-  pub compile_reads : (name : Text) → command_of (name ∷ codes "compile" ∷ p ∷ o ∷ []) ≡ Some (compile p o false 0)
+  pub compile_reads : (name : Text) → command_of (name ∷ codes "compile" ∷ p ∷ o ∷ []) ≡ Some (compile p o false 0 None)
   unfolding walked walk_passes
   compile_reads name =
       let goes = two_go [] two (goes_nowhere compile_shape two) in
@@ -291,7 +291,7 @@ module _ (p o : Text) (ep : is_like_option p ≡ false) (eo : is_like_option o �
       goes_by compile_shape (walk_from nothing_held) (enabled (walk_from nothing_held)) _ enable_word _ refl refl
       (two_from (enabled (walk_from nothing_held)).held [] enable_then_two refl refl (goes_nowhere compile_shape enable_then_two))
 
-  pub enable_first_reads : (name : Text) → command_of (name ∷ codes "compile" ∷ enable_word ∷ p ∷ o ∷ []) ≡ Some (compile p o true 0)
+  pub enable_first_reads : (name : Text) → command_of (name ∷ codes "compile" ∷ enable_word ∷ p ∷ o ∷ []) ≡ Some (compile p o true 0 None)
   unfolding walked walk_passes
   enable_first_reads name =
       named _ _ _ (both _ _ (level compile_shape (enable_word ∷ p ∷ o ∷ []) enable_then_two enable_first_go refl) refl)
@@ -302,7 +302,7 @@ module _ (p o : Text) (ep : is_like_option p ≡ false) (eo : is_like_option o �
   unfolding walked
   two_enable_go rest to goes = two_go (enable_word ∷ rest) to (goes_by compile_shape two (enabled two) to enable_word rest refl refl goes)
 
-  pub enable_last_reads : (name : Text) → command_of (name ∷ codes "compile" ∷ p ∷ o ∷ enable_word ∷ []) ≡ Some (compile p o true 0)
+  pub enable_last_reads : (name : Text) → command_of (name ∷ codes "compile" ∷ p ∷ o ∷ enable_word ∷ []) ≡ Some (compile p o true 0 None)
   unfolding walked walk_passes
   enable_last_reads name =
       let goes = two_enable_go [] (enabled two) (goes_nowhere compile_shape (enabled two)) in
@@ -341,31 +341,64 @@ module _ (p o : Text) (ep : is_like_option p ≡ false) (eo : is_like_option o �
     both_last_go = two_enable_go (age_word ∷ k ∷ []) _ (goes_by_option compile_shape (codes "age") age_word (enabled two) _ k [] refl refl ek (goes_nowhere compile_shape _))
 
     module _ (name : Text) (age : ℕ) (is : age_number k ≡ Some age) where
-      pub compile_age_first_reads : command_of (name ∷ codes "compile" ∷ age_word ∷ k ∷ p ∷ o ∷ []) ≡ Some (compile p o false age)
+      pub compile_age_first_reads : command_of (name ∷ codes "compile" ∷ age_word ∷ k ∷ p ∷ o ∷ []) ≡ Some (compile p o false age None)
       unfolding walked walk_passes
       compile_age_first_reads =
           named _ _ _ (both _ _ (level compile_shape (age_word ∷ k ∷ p ∷ o ∷ []) age_then_two compile_age_first_go refl) refl)
-          (reads compile_shape (age_word ∷ k ∷ p ∷ o ∷ []) age_then_two compile_of_rows _ compile_age_first_go (ap (compile_on (Some p) (Some o) false) is))
+          (reads compile_shape (age_word ∷ k ∷ p ∷ o ∷ []) age_then_two compile_of_rows _ compile_age_first_go (ap (λ a. compile_on (Some p) (Some o) false a (Some None)) is))
 
-      pub compile_age_last_reads : command_of (name ∷ codes "compile" ∷ p ∷ o ∷ age_word ∷ k ∷ []) ≡ Some (compile p o false age)
+      pub compile_age_last_reads : command_of (name ∷ codes "compile" ∷ p ∷ o ∷ age_word ∷ k ∷ []) ≡ Some (compile p o false age None)
       unfolding walked walk_passes
       compile_age_last_reads =
           named _ _ _ (both _ _ (level compile_shape (p ∷ o ∷ age_word ∷ k ∷ []) (aged compile_shape two k) compile_age_last_go refl) refl)
-          (reads compile_shape (p ∷ o ∷ age_word ∷ k ∷ []) (aged compile_shape two k) compile_of_rows _ compile_age_last_go (ap (compile_on (Some p) (Some o) false) is))
+          (reads compile_shape (p ∷ o ∷ age_word ∷ k ∷ []) (aged compile_shape two k) compile_of_rows _ compile_age_last_go (ap (λ a. compile_on (Some p) (Some o) false a (Some None)) is))
 
-      pub both_first_reads : command_of (name ∷ codes "compile" ∷ enable_word ∷ age_word ∷ k ∷ p ∷ o ∷ []) ≡ Some (compile p o true age)
+      pub both_first_reads : command_of (name ∷ codes "compile" ∷ enable_word ∷ age_word ∷ k ∷ p ∷ o ∷ []) ≡ Some (compile p o true age None)
       unfolding walked walk_passes
       both_first_reads =
           named _ _ _ (both _ _ (level compile_shape (enable_word ∷ age_word ∷ k ∷ p ∷ o ∷ []) both_then_two both_first_go refl) refl)
-          (reads compile_shape (enable_word ∷ age_word ∷ k ∷ p ∷ o ∷ []) both_then_two compile_of_rows _ both_first_go (ap (compile_on (Some p) (Some o) true) is))
+          (reads compile_shape (enable_word ∷ age_word ∷ k ∷ p ∷ o ∷ []) both_then_two compile_of_rows _ both_first_go (ap (λ a. compile_on (Some p) (Some o) true a (Some None)) is))
 
-      pub both_last_reads : command_of (name ∷ codes "compile" ∷ p ∷ o ∷ enable_word ∷ age_word ∷ k ∷ []) ≡ Some (compile p o true age)
+      pub both_last_reads : command_of (name ∷ codes "compile" ∷ p ∷ o ∷ enable_word ∷ age_word ∷ k ∷ []) ≡ Some (compile p o true age None)
       unfolding walked walk_passes
       both_last_reads =
           named _ _ _ (both _ _ (level compile_shape (p ∷ o ∷ enable_word ∷ age_word ∷ k ∷ []) (aged compile_shape (enabled two) k) both_last_go refl) refl)
-          (reads compile_shape (p ∷ o ∷ enable_word ∷ age_word ∷ k ∷ []) (aged compile_shape (enabled two) k) compile_of_rows _ both_last_go (ap (compile_on (Some p) (Some o) true) is))
+          (reads compile_shape (p ∷ o ∷ enable_word ∷ age_word ∷ k ∷ []) (aged compile_shape (enabled two) k) compile_of_rows _ both_last_go (ap (λ a. compile_on (Some p) (Some o) true a (Some None)) is))
 
-pub compile_reads_after : (name p o : Text) → command_of (name ∷ codes "compile" ∷ codes "--" ∷ p ∷ o ∷ []) ≡ Some (compile p o false 0)
+  -- `--block`
+  module _ (k : Text) (ek : is_like_option k ≡ false) where
+    abbrev blocked : Walk → Walk
+    blocked w = given_option compile_shape (codes "block") w k
+
+    -- in front
+    abbrev block_then_two : Walk
+    block_then_two = two_after (blocked (walk_from nothing_held))
+
+    block_first_go : Goes compile_shape (walk_from nothing_held) (codes "--block" ∷ k ∷ p ∷ o ∷ []) block_then_two
+    unfolding walked
+    block_first_go =
+        goes_by_option compile_shape (codes "block") (codes "--block") (walk_from nothing_held) _ k _ refl refl ek
+        (two_from (blocked (walk_from nothing_held)).held [] block_then_two refl refl (goes_nowhere compile_shape block_then_two))
+
+    -- and after
+    block_last_go : Goes compile_shape (walk_from nothing_held) (p ∷ o ∷ codes "--block" ∷ k ∷ []) (blocked two)
+    unfolding walked
+    block_last_go = two_go (codes "--block" ∷ k ∷ []) _ (goes_by_option compile_shape (codes "block") (codes "--block") two _ k [] refl refl ek (goes_nowhere compile_shape _))
+
+    module _ (name : Text) (block : ℕ) (is : block_number k ≡ Some block) where
+      pub block_first_reads : command_of (name ∷ codes "compile" ∷ codes "--block" ∷ k ∷ p ∷ o ∷ []) ≡ Some (compile p o false 0 (Some block))
+      unfolding walked walk_passes
+      block_first_reads =
+          named _ _ _ (both _ _ (level compile_shape (codes "--block" ∷ k ∷ p ∷ o ∷ []) block_then_two block_first_go refl) refl)
+          (reads compile_shape (codes "--block" ∷ k ∷ p ∷ o ∷ []) block_then_two compile_of_rows _ block_first_go (ap (λ n. compile_on (Some p) (Some o) false (Some 0) (option_map (λ x. Some x) n)) is))
+
+      pub block_last_reads : command_of (name ∷ codes "compile" ∷ p ∷ o ∷ codes "--block" ∷ k ∷ []) ≡ Some (compile p o false 0 (Some block))
+      unfolding walked walk_passes
+      block_last_reads =
+          named _ _ _ (both _ _ (level compile_shape (p ∷ o ∷ codes "--block" ∷ k ∷ []) (blocked two) block_last_go refl) refl)
+          (reads compile_shape (p ∷ o ∷ codes "--block" ∷ k ∷ []) (blocked two) compile_of_rows _ block_last_go (ap (λ n. compile_on (Some p) (Some o) false (Some 0) (option_map (λ x. Some x) n)) is))
+
+pub compile_reads_after : (name p o : Text) → command_of (name ∷ codes "compile" ∷ codes "--" ∷ p ∷ o ∷ []) ≡ Some (compile p o false 0 None)
 unfolding walked walk_passes
 compile_reads_after name p o = refl
 

@@ -2,13 +2,13 @@
 use Rattle.std.proofs.Common.{◌≡◌, ℕ, ◌≤◌, ◌&&◌, refl, Bool, true, false, cond, List, Option, None, Some, IfSome, Result, Ok, Err, IfOk, option_and_then, option_map, subst, arith, nat_le, codes}
 use Rattle.std.proofs.lemmas.Bool.Decides.{nat_tests}
 use Rattle.std.specs.Str.{bytes_eq}
-use Rattle.dk_base.specs.declared.TheConstants.{MAX_CLOCKS, MAX_HOLD, MAX_AGE, MAX_MADE}
+use Rattle.dk_base.specs.declared.TheConstants.{MAX_CLOCKS, MAX_HOLD, MAX_AGE, MAX_BUFFER_BITS, MAX_MADE}
 use Rattle.clap.specs.Walk.{Row, Text, first_of}
 use Rattle.clap.specs.Simple.{subcommand_of}
 use Rattle.clap.specs.Takes.{takes}
 use Rattle.dk_words.specs.Words.{program}
 use Rattle.dk_words.specs.Numbers.{number_of, number_within, within}
-use Rattle.dk_words.specs.Command.{Command, IsInRange, age_number, age_of, check_of_rows, check_on, clocks_of, command_asked, command_from, command_of, compile_of_rows, compile_on, enable_of, eval_of_rows, eval_on, fill_of, hold_number, hold_of, made_number, make_of_rows, make_on, plan_of_rows, plan_on, run_of_rows, run_on, sim_of_rows, sim_on, trace_of_rows, trace_on}
+use Rattle.dk_words.specs.Command.{Command, IsInRange, age_number, age_of, block_number, block_of, check_of_rows, check_on, clocks_of, command_asked, command_from, command_of, compile_of_rows, compile_on, enable_of, eval_of_rows, eval_on, fill_of, hold_number, hold_of, made_number, make_of_rows, make_on, plan_of_rows, plan_on, run_of_rows, run_on, sim_of_rows, sim_on, trace_of_rows, trace_on}
 use Rattle.dk_words.specs.declared.NoCommand.{NoCommand}
 use Rattle.dk_words.specs.declared.command.Asked.{Asked}
 use Rattle.dk_words.specs.declared.command.PowerUp.{PowerUp}
@@ -54,6 +54,15 @@ age_in (Some word) = read (age_number word) (number_in 0 MAX_AGE word)
     read None e = tt
     read (Some n) e = e.1
 
+-- `--block`
+block_in : (o : Option Text) → IfSome (block_of o) (λ h. IfSome h (λ n. (2 ≤ n) × (n ≤ MAX_BUFFER_BITS)))
+block_in None = tt
+block_in (Some word) = read (block_number word) (number_in 2 MAX_BUFFER_BITS word)
+  where
+    read : (n : Option ℕ) → IfSome n (λ k. (2 ≤ k) × (k ≤ MAX_BUFFER_BITS)) → IfSome (option_map (λ k. Some k) n) (λ h. IfSome h (λ k. (2 ≤ k) × (k ≤ MAX_BUFFER_BITS)))
+    read None e = tt
+    read (Some n) e = e
+
 -- N
 number_made_in : (o : Option Text) → IfSome (option_and_then made_number o) (λ n. n ≤ MAX_MADE)
 number_made_in None = tt
@@ -78,11 +87,12 @@ eval_in (Some p) None o = tt
 eval_in (Some p) (Some i) None = tt
 eval_in (Some p) (Some i) (Some o) = tt
 
-compile_in : (p o : Option Text) (enable : Bool) (a : Option ℕ) → IfSome a (λ m. m ≤ MAX_AGE) → IfSome (compile_on p o enable a) IsInRange
-compile_in None o enable a low = tt
-compile_in (Some p) None enable a low = tt
-compile_in (Some p) (Some o) enable None low = tt
-compile_in (Some p) (Some o) enable (Some a) low = low
+compile_in : (p o : Option Text) (enable : Bool) (a : Option ℕ) (b : Option (Option ℕ)) → IfSome a (λ m. m ≤ MAX_AGE) → IfSome b (λ h. IfSome h (λ n. (2 ≤ n) × (n ≤ MAX_BUFFER_BITS))) → IfSome (compile_on p o enable a b) IsInRange
+compile_in None o enable a b low within = tt
+compile_in (Some p) None enable a b low within = tt
+compile_in (Some p) (Some o) enable None b low within = tt
+compile_in (Some p) (Some o) enable (Some a) None low within = tt
+compile_in (Some p) (Some o) enable (Some a) (Some b) low within = (low, within)
 
 trace_in : (v : Option Text) (n : Option ℕ) (i o : Option Text) → IfSome n (λ m. m ≤ MAX_CLOCKS) → IfSome (trace_on v n i o) IsInRange
 trace_in None n i o few = tt
@@ -127,7 +137,7 @@ from_in (Some p) =
     (run_in (first_of (codes "PROG") p.1) (first_of (codes "IN") p.1) (first_of (codes "OUT") p.1) (age_of (first_of (codes "age") p.1)) (age_in (first_of (codes "age") p.1)))
     (one_in (bytes_eq p.0 (codes "eval")) (eval_of_rows p.1) _ (eval_in (first_of (codes "PROG") p.1) (first_of (codes "IN") p.1) (first_of (codes "OUT") p.1))
     (one_in (bytes_eq p.0 (codes "compile")) (compile_of_rows p.1) _
-    (compile_in (first_of (codes "PROG") p.1) (first_of (codes "OUT") p.1) (enable_of (first_of (codes "enable") p.1)) (age_of (first_of (codes "age") p.1)) (age_in (first_of (codes "age") p.1)))
+    (compile_in (first_of (codes "PROG") p.1) (first_of (codes "OUT") p.1) (enable_of (first_of (codes "enable") p.1)) (age_of (first_of (codes "age") p.1)) (block_of (first_of (codes "block") p.1)) (age_in (first_of (codes "age") p.1)) (block_in (first_of (codes "block") p.1)))
     (one_in (bytes_eq p.0 (codes "sim")) (sim_of_rows p.1) _
     (sim_in (first_of (codes "VERILOG") p.1) (option_and_then clocks_of (first_of (codes "CLOCKS") p.1)) (first_of (codes "IN") p.1) (first_of (codes "OUT") p.1) (fill_of (first_of (codes "fill") p.1)) (hold_of (first_of (codes "hold") p.1))
     (clocks_in (first_of (codes "CLOCKS") p.1)) (hold_in (first_of (codes "hold") p.1)))

@@ -6,7 +6,7 @@ ghost use Rattle.dk_words.specs.Command as command;
 
 use crate::numbers::number_within;
 use clap::ArgMatches;
-use dk_base::{MAX_AGE, MAX_CLOCKS, MAX_HOLD, MAX_MADE};
+use dk_base::{MAX_AGE, MAX_BUFFER_BITS, MAX_CLOCKS, MAX_HOLD, MAX_MADE};
 
 /// The words of `run`.
 #[derive(Clone, Copy, Debug, PartialEq, Eq)]
@@ -35,6 +35,8 @@ pub struct CompileWords<'a> {
     pub enable: bool,
     /// The least age of each live read, 0 to `MAX_AGE`.
     pub age: u8,
+    /// The fewest words of an array that is read one clock ahead, 2 to `MAX_BUFFER_BITS`; None where no array is.
+    pub block: Option<u32>,
 }
 
 /// What registers and arrays hold at power-up.
@@ -148,6 +150,16 @@ fn read_age(matches: &ArgMatches) -> Option<u8>
     }
 }
 
+// The fewest words of an array that is read one clock ahead, if any is.
+fn read_block(matches: &ArgMatches) -> Option<Option<u32>>
+    ensures { result ≡ command.block_of (first_of (codes "block") (rows_of (found_of matches.now))) }
+{
+    match given(matches, "block") {
+        None => Some(None),
+        Some(word) => Some(Some(number_within(word, 2, MAX_BUFFER_BITS as u32)?)),
+    }
+}
+
 // Whether the module has a clock enable.
 fn read_enable(matches: &ArgMatches) -> bool
     ensures { result ≡ command.enable_of (first_of (codes "enable") (rows_of (found_of matches.now))) }
@@ -197,17 +209,20 @@ fn read_eval<'a>(matches: &ArgMatches<'a>) -> Option<FileNames<'a>>
 
 // The words of `compile`, where each has a value.
 fn read_compile<'a>(matches: &ArgMatches<'a>) -> Option<CompileWords<'a>>
-    ensures { option_map (λ k. command.compile k.program.now k.out.now k.enable k.age) result ≡ command.compile_of_rows (rows_of (found_of matches.now)) }
+    ensures { option_map (λ k. command.compile k.program.now k.out.now k.enable k.age k.block) result
+        ≡ command.compile_of_rows (rows_of (found_of matches.now)) }
 {
     let program = given(matches, "PROG")?;
     let out = given(matches, "OUT")?;
     let enable = read_enable(matches);
     let age = read_age(matches)?;
+    let block = read_block(matches)?;
     Some(CompileWords {
         program,
         out,
         enable,
         age,
+        block,
     })
 }
 

@@ -56,15 +56,25 @@ fn run_command<'a>(alloc: Global) -> Result<Command<'a>, AllocError>
     Ok(command)
 }
 
-// `compile [--enable] [--age K] PROG OUT`.
-fn compile_command<'a>(alloc: Global) -> Result<Command<'a>, AllocError>
-    ensures shape { IfOk result (λ c. shape_of c ≡ words.compile_command) }
+// The words of `compile PROG OUT`.
+fn compile_words<'a>(alloc: Global) -> Result<Command<'a>, AllocError>
+    ensures shape { IfOk result (λ c. shape_of c ≡ words.compile_with [] []) }
     ensures local { IfOk result (λ c. (fields_of c).has_globals ≡ false) }
 {
     let command = Command::new(alloc, "compile");
     let command = command.arg(word(alloc, "PROG"))?;
     let command = command.arg(word(alloc, "OUT"))?;
+    Ok(command)
+}
+
+// `compile [--enable] [--age K] [--block N] PROG OUT`.
+fn compile_command<'a>(alloc: Global) -> Result<Command<'a>, AllocError>
+    ensures shape { IfOk result (λ c. shape_of c ≡ words.compile_command) }
+    ensures local { IfOk result (λ c. (fields_of c).has_globals ≡ false) }
+{
+    let command = compile_words(alloc)?;
     let command = command.arg(option(alloc, "age"))?;
+    let command = command.arg(option(alloc, "block"))?;
     let command = command.arg(flag(alloc, "enable"))?;
     Ok(command)
 }

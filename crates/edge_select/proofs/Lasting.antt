@@ -1,5 +1,5 @@
 -- What lasts as a netlist grows.
-use Rattle.std.proofs.Common.{◌≡◌, ℕ, ◌+◌, length}
+use Rattle.std.proofs.Common.{◌≡◌, ℕ, ◌+◌, [], length}
 use Rattle.std.specs.Prelude.{IsTrue}
 use Rattle.wiring.specs.Netlist.{Netlist}
 use Rattle.wiring.specs.History.{was_reset, counted}
@@ -14,6 +14,6 @@ pub follows_more : (b a : Netlist) (delay : ℕ) (p : Pixel) → Includes b a �
 follows_more b a delay p f is = record {
   pixel = InEachRun-more (λ m before c s. IsTrue (was_reset before) → (k : ℕ) → k + delay ≡ length (counted m before) → IsPixel p k s) b a f is.pixel;
   on_frame = InEachRun-more (λ m before c s. IsTrue (was_reset before) → IsOnFrame p s) b a f is.on_frame;
-  column_still = still_more b a (OfNet p.column) f is.column_still;
-  row_still = still_more b a (OfNet p.row) f is.row_still;
+  column_still = still_more b a [] (OfNet p.column) f is.column_still;
+  row_still = still_more b a [] (OfNet p.row) f is.row_still;
 }

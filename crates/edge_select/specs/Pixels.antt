@@ -1,20 +1,23 @@
 -- The pixel at which an image is, by the nets of its column and row.
-use Rattle.std.specs.Prelude.{◌≡◌, ◌⊎◌, ℕ, ℤ, suc, ◌+◌, ◌-◌, ◌<◌, IsTrue, Bool, List, [], ◌∷◌, ◌++◌, length}
+use Rattle.std.specs.Prelude.{◌≡◌, ◌⊎◌, ℕ, ℤ, suc, ◌+◌, ◌-◌, ◌<◌, IsTrue, Bool, List, [], ◌∷◌, ◌++◌, length, All, Contains}
 use Rattle.dk_base.specs.Frames.{column, row}
 use Rattle.dk_base.specs.FrameSizes.{size_of}
 use Rattle.dk_base.specs.Numbers.{bit_count}
 use Rattle.wiring.specs.declared.right.Atom.{Atom}
 use Rattle.wiring.specs.declared.netlist.Net.{Net}
+use Rattle.wiring.specs.declared.netlist.Net.TheVariants.{Reg}
 use Rattle.wiring.specs.declared.netlist.Holder.{Holder}
 use Rattle.wiring.specs.declared.netlist.Holder.TheVariants.{OfNet}
 use Rattle.wiring.specs.declared.netlist.Update.TheVariants.{Set}
 use Rattle.wiring.specs.Netlist.{Netlist, net_width}
 use Rattle.wiring.specs.Snapshot.{Snapshot, net_value}
 use Rattle.wiring.specs.History.{was_reset, counted}
+use Rattle.wiring.specs.BufferBits.{atom_reads}
 use Rattle.net_build.specs.Includes.{InEach}
 use Rattle.net_build.specs.Draft.{IsNet}
 use Rattle.net_build.specs.Runs.{InEachRun, IsStill}
-use Rattle.net_build.specs.Control.{IsMadeOf, TakesControl, AddsNoReads}
+use Rattle.net_build.specs.Control.{IsMadeOf, AddsNoReads}
+use Rattle.net_build.specs.Counters.{control_nets}
 use Rattle.edge_select.specs.declared.pixel.Pixel.{Pixel}
 use Rattle.edge_select.specs.declared.step.Step.{Step}
 use Rattle.edge_select.specs.Steps.{LeadBy}
@@ -36,22 +39,26 @@ pub record IsPixel (p : Pixel) (k : ℕ) (s : Snapshot) : Type 0 where
   pub column : net_value s p.column ≡ column (size_of p.size) k
   pub row : net_value s p.row ≡ row (size_of p.size) k
 
--- In each run of every module that includes the netlist, in each clock after a reset clock, held ones included: with t the number of counted clocks since the reset, the nets are column and row of pixel t - delay, once t is at least the delay. They are those of some pixel before, and in held clocks they do not change.
+-- In each run of every module that includes the netlist, in each clock after a reset clock, held ones included: with t the number of counted clocks since the reset, the nets are column and row of pixel t - delay, once t is at least the delay. Before, they are those of some pixel. In held clocks they do not change.
 pub record Follows (b : Netlist) (delay : ℕ) (p : Pixel) : Type 0 where
   pub pixel : InEachRun b (λ m before c s. IsTrue (was_reset before) → (k : ℕ) → k + delay ≡ length (counted m before) → IsPixel p k s)
   pub on_frame : InEachRun b (λ m before c s. IsTrue (was_reset before) → IsOnFrame p s)
-  pub column_still : IsStill b (OfNet p.column)
-  pub row_still : IsStill b (OfNet p.row)
+  pub column_still : IsStill b [] (OfNet p.column)
+  pub row_still : IsStill b [] (OfNet p.row)
 
--- the new netlist has two more registers, of these widths, each set once and by what is made of no din and no array, and else only wires, which read no array
+-- made only of rst, of en and of the registers of this number and the next
+abbrev pub IsMadeOfBoth : Netlist → (first : ℕ) → Holder → Type 0
+IsMadeOfBoth b first h = (base : Holder → Bool) → ((n : Net) → Contains (control_nets b.enable ++ Reg first ∷ (Reg (suc first) ∷ [])) n → IsTrue (base (OfNet n))) → IsMadeOf b base h
+
+-- Two registers of these widths are added, each set once, by what is made only of rst, en and both. Else only wires are added, which read no array.
 pub record AddsCounters (new old : Netlist) (first second : ℕ) : Type 0 where
   pub arrays : new.arrays ≡ old.arrays
   pub regs : new.regs ≡ old.regs ++ first ∷ (second ∷ [])
   pub one : Atom Net
   pub two : Atom Net
   pub updates : new.updates ≡ old.updates ++ Set (length old.regs) one ∷ (Set (suc (length old.regs)) two ∷ [])
-  pub one_control : TakesControl new (Set (length old.regs) one)
-  pub two_control : TakesControl new (Set (suc (length old.regs)) two)
+  pub one_control : All (IsMadeOfBoth new (length old.regs)) (atom_reads one)
+  pub two_control : All (IsMadeOfBoth new (length old.regs)) (atom_reads two)
   pub reads : AddsNoReads new old
 
 -- a bit that is 1 where P holds, and else 0

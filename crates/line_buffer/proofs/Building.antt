@@ -1,5 +1,5 @@
 -- A ring that is built.
-use Rattle.std.proofs.Common.{◌≡◌, ℕ, ◌+◌, ◌-◌, ◌^◌, ◌<◌, ◌≤◌, Bool, List, [], ◌∷◌, length, get_or, Some, refl, sym, ap, subst, ◌∙◌, arith, lit≤}
+use Rattle.std.proofs.Common.{◌≡◌, ℕ, ◌+◌, ◌-◌, ◌^◌, ◌<◌, ◌≤◌, Bool, true, List, [], ◌∷◌, length, get_or, Some, refl, sym, ap, subst, ◌∙◌, arith, lit≤}
 use Rattle.std.specs.Prelude.{slice_get, All, if◌then◌else◌}
 use Rattle.std.specs.List.Sorted.{IsStrictlyIncreasing}
 use Rattle.std.proofs.lemmas.Option.{slice_get-get_or, slice_get_within}
@@ -35,7 +35,7 @@ count_wide v n low is = (is.some, is.least 64 (lit≤ tt) low)
 pub ages_deep : (ages : List ℕ) (words : ℕ) → IsStrictlyIncreasing ages → words ≡ depth_of ages → All (λ age. age ≤ words) ages
 ages_deep ages words up e k d l = subst (λ (w : ℕ). get_or ages k d ≤ w) (sym e) (age_within ages up k (get_or ages k d) (slice_get-get_or ages k d l))
 
-module _ (b0 b1 : Netlist) (width words bits : ℕ) (value : Net) (line : DelayLine) (adds : AddsBuffer b1 b0 ((record { width = width; depth = words }) ∷ [])) (array : line.array ≡ length b0.arrays) (turning : IsDelayLine b1 (length b0.arrays) words value line.word) (word : IsNet b1 line.word) (word_wide : net_width b1 line.word ≡ width)
+module _ (b0 b1 : Netlist) (width words bits : ℕ) (value : Net) (line : DelayLine) (adds : AddsBuffer b1 b0 ((record { width = width; depth = words }) ∷ []) []) (array : line.array ≡ length b0.arrays) (turning : IsDelayLine b1 (length b0.arrays) words value line.word) (word : IsNet b1 line.word) (word_wide : net_width b1 line.word ≡ width)
     (index : IsIndex b1 words line.index) (index_net : IsNet b1 line.index) (index_wide : net_width b1 line.index ≡ bits) (control : IsControl b1 (OfNet line.index)) (made : IsMadeOf b1 (is_buffer b1.enable (length b0.arrays) (length b0.arrays + 1)) (OfNet line.word)) (wide : IsWidth width) (net : IsNet b0 value) (value_wide : net_width b0 value ≡ width)
     (some : 0 < words) (low : words - 1 < 2 ^ 64) (counted : IsBitCount (words - 1) bits) where
   value_here : net_width b1 value ≡ width
@@ -65,8 +65,8 @@ module _ (b0 b1 : Netlist) (width words bits : ℕ) (value : Net) (line : DelayL
         ap (λ (d : ℕ). (record { width = width; depth = d }) ∷ []) deep
         ∙ sym (ap (λ (h : Bool). if h then [] else (record { width = width; depth = depth_of ages }) ∷ []) (no_eq (depth_of ages) 0 (λ e. omega (arith, e, deep, some))))
 
-    pub built_adds : AddsBuffer b2 b0 (ring_shapes width ages)
-    built_adds = subst (AddsBuffer b2 b0) shapes (taps_buffer b2 b1 b0 ((record { width = width; depth = words }) ∷ []) line.array more adds (omega (arith, array)))
+    pub built_adds : AddsBuffer b2 b0 (ring_shapes width ages) []
+    built_adds = subst (λ (l : List Shape). AddsBuffer b2 b0 l []) shapes (taps_buffer b2 b1 b0 ((record { width = width; depth = words }) ∷ []) line.array more adds (omega (arith, array)))
 
     here : AreRingTaps b2 (length b0.arrays) (depth_of ages) line.index value ages taps
     here = subst (λ (w : ℕ). AreRingTaps b2 (length b0.arrays) w line.index value ages taps) deep (subst (λ (i : ℕ). AreRingTaps b2 i words line.index value ages taps) array are)
@@ -83,12 +83,12 @@ module _ (b0 b1 : Netlist) (width words bits : ℕ) (value : Net) (line : DelayL
     positive : 0 < depth_of ages
     positive = omega (arith, some, deep)
 
-    pub built_buffer : IsBuffer b2 (ring_place (length b0.arrays) ages) ages taps value
+    pub built_buffer : IsBuffer b2 [] (ring_place (length b0.arrays) ages) ages taps value
     built_buffer = ring_is b2 ages (length b0.arrays) line.index value line.word taps up positive line_here counter_here one_each here (λ k tap et. (tap_at k tap et).net) (λ k tap et. (tap_at k tap et).width)
 
-    pub built_fills : AreFilled b2 (length b0.arrays) (length b0.arrays + length (ring_shapes width ages)) value
-    built_fills = fills_more b2 b1 (length b0.arrays) (length b0.arrays + length (ring_shapes width ages)) value more.includes
-        (fills_one b1 (length b0.arrays) (length b0.arrays + length (ring_shapes width ages)) value (ap (λ (n : ℕ). length b0.arrays + n) (sym (ap length shapes))) (line_takes_net b1 (length b0.arrays) words value line.word turning))
+    pub built_fills : AreFilled b2 (λ x. true) [] (length b0.arrays) (length b0.arrays + length (ring_shapes width ages)) value
+    built_fills = fills_more b2 b1 (λ x. true) [] (length b0.arrays) (length b0.arrays + length (ring_shapes width ages)) value more.includes
+        (fills_one b1 (λ x. true) [] (length b0.arrays) (length b0.arrays + length (ring_shapes width ages)) value (ap (λ (n : ℕ). length b0.arrays + n) (sym (ap length shapes))) (line_takes_net b1 (λ x. true) (length b0.arrays) words value line.word refl turning))
 
     pub built_made : AreMadeOfBuffer b2 (length b0.arrays) (length b0.arrays + length (ring_shapes width ages)) ages taps
     built_made = subst (λ (n : ℕ). AreMadeOfBuffer b2 (length b0.arrays) (length b0.arrays + n) ages taps) (ap length shapes)
@@ -102,13 +102,13 @@ pub depth_most : (ages : List ℕ) (m : ℕ) → All (λ age. age ≤ m) ages �
 depth_most ages m all = depth_from 0 m ages (omega arith) all
 
 -- with no age above 0
-pub still_adds : (b : Netlist) (width : ℕ) (ages : List ℕ) → depth_of ages ≡ 0 → AddsBuffer b b (ring_shapes width ages)
-still_adds b width ages none = subst (AddsBuffer b b) (sym (ap (λ (h : Bool). if h then [] else (record { width = width; depth = depth_of ages }) ∷ []) (yes_eq (depth_of ages) 0 none))) (adds_none b)
+pub still_adds : (b : Netlist) (width : ℕ) (ages : List ℕ) → depth_of ages ≡ 0 → AddsBuffer b b (ring_shapes width ages) []
+still_adds b width ages none = subst (λ (l : List Shape). AddsBuffer b b l []) (sym (ap (λ (h : Bool). if h then [] else (record { width = width; depth = depth_of ages }) ∷ []) (yes_eq (depth_of ages) 0 none))) (adds_none b)
 
-pub still_fills : (b : Netlist) (first width : ℕ) (ages : List ℕ) (value : Net) → depth_of ages ≡ 0 → AreFilled b first (first + length (ring_shapes width ages)) value
+pub still_fills : (b : Netlist) (first width : ℕ) (ages : List ℕ) (value : Net) → depth_of ages ≡ 0 → AreFilled b (λ x. true) [] first (first + length (ring_shapes width ages)) value
 still_fills b first width ages value none =
     let empty : length (ring_shapes width ages) ≡ 0 = ap (λ (ss : List Shape). length ss) (ap (λ (h : Bool). if h then [] else (record { width = width; depth = depth_of ages }) ∷ []) (yes_eq (depth_of ages) 0 none)) in
-    fills_none b first (first + length (ring_shapes width ages)) value (omega (arith, empty))
+    fills_none b (λ x. true) [] first (first + length (ring_shapes width ages)) value (omega (arith, empty))
 
 pub still_made : (b : Netlist) (first end : ℕ) (ages : List ℕ) (taps : List Net) → IsStrictlyIncreasing ages → depth_of ages ≡ 0 → AreMadeOfBuffer b first end ages taps
 still_made b first end ages taps up none k age tap ea some et = absurd (omega (arith, none, some, age_within ages up k age ea))

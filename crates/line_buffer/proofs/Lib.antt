@@ -5,6 +5,8 @@ pub mod Adding
 pub mod States
 pub mod Turning
 pub mod LineMade
+pub mod Blocking
+pub mod BlockMade
 pub mod Ages
 pub mod Ringed
 pub mod Segments

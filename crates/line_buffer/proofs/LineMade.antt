@@ -1,4 +1,4 @@
--- What a turning is made by.
+-- How a delay line is made.
 use Rattle.std.proofs.Common.{◌≡◌, ◌⊎◌, ℕ, ◌+◌, ◌<◌, Bool, true, false, List, [], ◌∷◌, ◌++◌, length, Some, refl, sym, ap, subst, ◌∙◌, arith, append-nil}
 use Rattle.std.specs.Prelude.{IsTrue, All, Contains, ◌&&◌, nat_le, nat_lt, slice_get, slice_set, slice_index_or}
 use Rattle.std.proofs.lemmas.List.Elements.{All-nil, All-cons, Contains-append_right}
@@ -29,7 +29,8 @@ use Rattle.line_buffer.specs.Fills.{IsWordAt, IsUnlessHeld}
 use Rattle.line_buffer.specs.Buffers.{AddsBuffer, ReadsInside, is_new, is_buffer}
 use Rattle.line_buffer.proofs.More.{added_weaker, added_joined, inside_more, none_inside, op_inside_in}
 use Rattle.line_buffer.proofs.Filling.{index_control_more, right_more, unless_held_more}
-use Rattle.line_buffer.proofs.Adding.{adds_joined, le_is}
+use Rattle.line_buffer.proofs.Adding.{adds_joined}
+use Rattle.line_buffer.proofs.More.{le_is}
 use Rattle.line_buffer.proofs.States.{adds_array}
 use Rattle.line_buffer.proofs.Turning.{index_more, line_inside, line_still}
 
@@ -48,7 +49,7 @@ own_array enable first x e = both (nat_le first x) (nat_lt x (first + 1)) (le_is
     both true false p q = q
     both false q p r = p
 
-module _ (b0 b1 b2 b3 b4 b5 : Netlist) (width words x : ℕ) (index value word stored : Net) (counted : AddsBuffer b1 b0 []) (counter : IsIndex b1 words index) (index_control : IsControl b1 (OfNet index)) (some : 0 < words)
+module _ (b0 b1 b2 b3 b4 b5 : Netlist) (width words x : ℕ) (index value word stored : Net) (counted : AddsBuffer b1 b0 [] []) (counter : IsIndex b1 words index) (index_control : IsControl b1 (OfNet index)) (some : 0 < words)
     (made : b2 ≡ with_array b1 (record { width = width; depth = words })) (numbered : x ≡ length b1.arrays) (there : slice_get b2.arrays x ≡ Some (record { width = width; depth = words })) (f21 : Includes b2 b1) (f32 : Includes b3 b2) (read : (b3 ≡ b2) ⊎ (b3 ≡ with_wire b2 (Word x (atom.Net index)))) (wired : AddsWires b3 b2)
     (word_is : InEach b3 (λ m s. net_value s word ≡ word_value s x (net_value s index))) (logic : AddsLogic b4 b3) (stored_is : Computes b4 b3 (control_nets b3.enable ++ word ∷ (value ∷ [])) width (λ s. unless_held b3.enable (net_value s word) (net_value s value) s) stored)
     (f54 : Includes b5 b4) (put : b5 ≡ with_update b4 (Put x (atom.Net index) (atom.Net stored))) (edge : AtEachEdge b5 (λ s next. slice_get next.arrays x ≡ Some (slice_set (slice_index_or s.contents.arrays x []) (net_value s index) (net_value s stored))))
@@ -104,9 +105,9 @@ module _ (b0 b1 b2 b3 b4 b5 : Netlist) (width words x : ℕ) (index value word s
       (added_weaker (ReadsInside b4) (ReadsInside b5) b4.assigns b3.assigns (λ a. inside_more b5 b4 f54 (right_accesses a.right)) (none_inside b4 b3 logic.reads))
       (op_inside_in b5 b3 b2 (Word x (atom.Net index)) read read_inside)
 
-  pub line_adds : AddsBuffer b5 b0 (shape ∷ [])
+  pub line_adds : AddsBuffer b5 b0 (shape ∷ []) []
   line_adds =
-      adds_joined b5 b1 b0 (shape ∷ []) [] (adds_array b1 b2 b4 b5 shape x index stored made (Includes-trans b4 b3 b2 logic.includes f32) (wires_joined b4 b3 b2 logic.wires wired) reads_are put numbered reads_inside (inside_is b5 f52) (line_still b5 x words value word here_is)) counted
+      adds_joined b5 b1 b0 (shape ∷ []) [] [] [] (adds_array b1 b2 b4 b5 shape x index stored made (Includes-trans b4 b3 b2 logic.includes f32) (wires_joined b4 b3 b2 logic.wires wired) reads_are put numbered reads_inside (inside_is b5 f52) (line_still b5 x words value word here_is)) counted
 
   -- what the word is made of
   pub word_made : ((base : Holder → Bool) → All (IsMadeOf b3 base) (right_reads (Word x (atom.Net index))) → IsMadeOf b3 base (OfNet word)) → IsMadeOf b5 (is_buffer b5.enable (length b0.arrays) (length b0.arrays + 1)) (OfNet word)

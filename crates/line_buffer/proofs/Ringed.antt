@@ -1,5 +1,5 @@
 -- A ring is a buffer.
-use Rattle.std.proofs.Common.{◌≡◌, ℕ, suc, ◌+◌, ◌-◌, ◌%◌, ◌<◌, ◌≤◌, false, List, length, Some, refl, sym, ap, subst, ◌∙◌, arith}
+use Rattle.std.proofs.Common.{◌≡◌, ℕ, suc, ◌+◌, ◌-◌, ◌%◌, ◌<◌, ◌≤◌, false, List, [], length, Some, refl, sym, ap, subst, ◌∙◌, arith}
 use Rattle.std.specs.Prelude.{IsTrue, slice_get, slice_set, slice_index}
 use Rattle.std.specs.List.Sorted.{IsStrictlyIncreasing}
 use Rattle.std.proofs.Math.ListN.{length-set}
@@ -54,7 +54,7 @@ module _ (b : Netlist) (ages : List ℕ) (first : ℕ) (index value oldest : Net
         let long_after : length (words_of next first) ≡ depth_of ages = ap length stored ∙ length-set words (t % length words) (net_value s value) ∙ long in
         as_buffer pixel count delay (suc t) (words_of next first) long_after (subst (HoldsPixels pixel count delay (suc t)) (sym stored) held_on)
 
-  pub ring_is : IsBuffer b (ring_place first ages) ages taps value
+  pub ring_is : IsBuffer b [] (ring_place first ages) ages taps value
   ring_is = record {
     one_each = one_each;
     net = nets;
@@ -62,14 +62,14 @@ module _ (b : Netlist) (ages : List ℕ) (first : ℕ) (index value oldest : Net
     now = λ k tap ea et. (are k 0 tap ea et).now refl;
     word = λ k age tap ea positive et m from before c s is since off passed. tap_here m from before c s is since off k age tap ea positive et passed;
     goes_on = λ pixel count delay m from before c s is since off going next goes held came. turns m from before c s is since off pixel count delay going next goes held came;
-    waits = λ m from before c s is held next goes age t positive deep. ap (λ (ws : List ℕ). slice_index ws ((t - age) % depth_of ages)) (line_waits b first (depth_of ages) value oldest turning m from before c s is held next goes);
+    waits = λ m from before c s is ready held next goes age t positive deep. ap (λ (ws : List ℕ). slice_index ws ((t - age) % depth_of ages)) (line_waits b first (depth_of ages) value oldest turning m from before c s is held next goes);
   }
 
   pub ring_made : AreMadeOfBuffer b first (first + 1) ages taps
   ring_made k age tap ea positive et = (are k age tap ea et).made positive
 
 -- with no age above 0 there is nothing to hold
-pub still_is : (b : Netlist) (place : (age t : ℕ) → Place) (ages : List ℕ) (value : Net) (taps : List Net) → IsNet b value → IsStrictlyIncreasing ages → depth_of ages ≡ 0 → length taps ≡ length ages → ((k : ℕ) (tap : Net) → slice_get taps k ≡ Some tap → tap ≡ value) → IsBuffer b place ages taps value
+pub still_is : (b : Netlist) (place : (age t : ℕ) → Place) (ages : List ℕ) (value : Net) (taps : List Net) → IsNet b value → IsStrictlyIncreasing ages → depth_of ages ≡ 0 → length taps ≡ length ages → ((k : ℕ) (tap : Net) → slice_get taps k ≡ Some tap → tap ≡ value) → IsBuffer b [] place ages taps value
 still_is b place ages value taps net up none one_each same = record {
   one_each = one_each;
   net = λ k tap et. subst (IsNet b) (sym (same k tap et)) net;
@@ -77,5 +77,5 @@ still_is b place ages value taps net up none one_each same = record {
   now = λ k tap ea et. same k tap et;
   word = λ k age tap ea positive et m from before c s is since off passed. absurd (omega (arith, none, positive, age_within ages up k age ea));
   goes_on = λ pixel count delay m from before c s is since off going next goes held came age q positive deep e lt. absurd (omega (arith, none, positive, deep));
-  waits = λ m from before c s is held next goes age t positive deep. absurd (omega (arith, none, positive, deep));
+  waits = λ m from before c s is ready held next goes age t positive deep. absurd (omega (arith, none, positive, deep));
 }

@@ -24,7 +24,7 @@ use Rattle.net_build.specs.Includes.{Includes, InEach}
 use Rattle.net_build.specs.Draft.{IsNet, AddsWires, with_wire}
 use Rattle.net_build.specs.Runs.{IsClockOf, StaysInside}
 use Rattle.net_build.proofs.Runs.{clock_more}
-use Rattle.net_build.specs.Control.{IsMadeOf, by_itself, is_control, IsControl, TakesControl}
+use Rattle.net_build.specs.Control.{IsMadeOf, by_itself, is_control, IsControl}
 use Rattle.std.specs.Option.{option_map}
 use Rattle.line_buffer.proofs.LineMade.{control_buffer, own_array}
 use Rattle.wiring.specs.History.{was_reset}
@@ -39,12 +39,12 @@ use Rattle.net_build.proofs.Updating.{wires_none, wires_joined, but_wires}
 use Rattle.net_build.specs.Logic.{AddsLogic, Computes, IsGate}
 use Rattle.line_buffer.specs.Rings.{behind, AddsTaps, IsRingTap, AreRingTaps, place_worth, IsRing}
 use Rattle.line_buffer.specs.Lines.{IsIndex, IsDelayLine}
-use Rattle.line_buffer.specs.Buffers.{AddsBuffer, ReadsInside, PutsInside, is_new, is_buffer}
-use Rattle.line_buffer.proofs.More.{added_same, added_as, added_weaker, added_joined, takes_more, inside_more, none_inside, op_inside_in}
+use Rattle.line_buffer.specs.Buffers.{AddsBuffer, ReadsInside, PutsInside, is_new, is_added, TakesAdded, IsAdded, is_buffer}
+use Rattle.line_buffer.proofs.More.{added_same, added_as, added_weaker, added_joined, takes_wider, inside_more, none_inside, op_inside_in}
 use Rattle.line_buffer.specs.declared.lines.DelayLine.{DelayLine}
 use Rattle.net_build.proofs.Logic.{Source, net_source, given_source, number_source, source_more, computes_as, binary_computes, choose_computes, first_in}
 use Rattle.net_build.proofs.Counting.{by_bit}
-use Rattle.line_buffer.proofs.Adding.{le_is}
+use Rattle.line_buffer.proofs.More.{le_is}
 use Rattle.line_buffer.proofs.Turns.{yes_lt, no_lt, yes_eq, no_eq, behind_below}
 use Rattle.line_buffer.proofs.Turning.{index_more, index_below}
 
@@ -63,21 +63,25 @@ taps_joined c b a x g f = record {
 }
 
 -- taps of an array that was added before them
-module _ (c b a : Netlist) (shapes : List Shape) (x : ℕ) (g : AddsTaps c b x) (f : AddsBuffer b a shapes) (later : length a.arrays ≤ x) where
+module _ (c b a : Netlist) (shapes : List Shape) (x : ℕ) (g : AddsTaps c b x) (f : AddsBuffer b a shapes []) (later : length a.arrays ≤ x) where
   wider : (y : ℕ) → IsTrue (y == x) → IsTrue (is_new a y)
   wider y h = le_is (length a.arrays) y (omega (arith, later, eq_is y x h))
     where
       eq_is : (p q : ℕ) → IsTrue (p == q) → p ≡ q
       eq_is p q h = grind arith
 
-  pub taps_buffer : AddsBuffer c a shapes
+  same_control : (u : Update) → TakesAdded b a [] u → TakesAdded c a [] u
+  same_control u is = takes_wider c b (is_added b.enable (length a.regs) (length b.regs) []) (is_added c.enable (length a.regs) (length c.regs) []) [] [] g.includes (λ h t. subst (λ (e : Bool). IsTrue (is_added e (length a.regs) (length c.regs) [] h)) (sym g.includes.enable) (subst (λ (l : List ℕ). IsTrue (is_added b.enable (length a.regs) (length l) [] h)) (sym g.wires.regs) t)) (λ r c. c) u is
+
+  pub taps_buffer : AddsBuffer c a shapes []
   taps_buffer = record {
     includes = Includes-trans c b a g.includes f.includes;
     arrays = g.wires.arrays ∙ f.arrays;
+    added = All-nil (IsAdded c a);
     updated = λ free but. but_wires c b free g.wires (f.updated free but);
     only = λ k u low at state. f.only k u low (subst (λ (us : List Update). slice_get us k ≡ Some u) g.wires.updates at) state;
-    still = λ free is. still_wires c b free g.includes g.wires (f.still free is);
-    control = added_as (TakesControl c) b.updates c.updates a.updates g.wires.updates (added_weaker (TakesControl b) (TakesControl c) b.updates a.updates (takes_more c b g.includes) f.control);
+    still = λ others free is. still_wires c b (others ++ []) free g.includes g.wires (f.still others free is);
+    control = added_as (TakesAdded c a []) b.updates c.updates a.updates g.wires.updates (added_weaker (TakesAdded b a []) (TakesAdded c a []) b.updates a.updates same_control f.control);
     reads_inside = added_joined (ReadsInside c) c.assigns b.assigns a.assigns g.includes.assigns g.reads_inside (added_weaker (ReadsInside b) (ReadsInside c) b.assigns a.assigns (λ y. inside_more c b g.includes (right_accesses y.right)) f.reads_inside);
     puts_inside = added_as (PutsInside c) b.updates c.updates a.updates g.wires.updates (added_weaker (PutsInside b) (PutsInside c) b.updates a.updates (λ u. inside_more c b g.includes (update_accesses u)) f.puts_inside);
     reads = reads_joined c b a (is_new a) g.includes (reads_weaker c b (λ y. y == x) (is_new a) wider g.reads) f.reads;

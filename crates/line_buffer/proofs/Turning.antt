@@ -1,6 +1,6 @@
 -- Arrays of which a word is read and then written in each clock.
 use Rattle.std.proofs.Common.{◌≡◌, ℕ, zero, suc, ◌%◌, ◌<◌, Bool, true, false, List, [], ◌∷◌, length, Some, refl, sym, ap, subst, ◌∙◌, inl, inr, arith}
-use Rattle.std.specs.Prelude.{◌-◌, ◌++◌, ◌==◌, Contains, if◌then◌else◌, IsTrue, slice_get, slice_set, slice_index, slice_index_or, unwrap_or}
+use Rattle.std.specs.Prelude.{◌-◌, ◌==◌, Contains, if◌then◌else◌, IsTrue, slice_get, slice_set, slice_index, slice_index_or, unwrap_or}
 use Rattle.std.specs.Option.{option_map}
 use Rattle.std.proofs.lemmas.List.{set-get_or}
 use Rattle.std.proofs.lemmas.Nat.{mod_below}
@@ -15,17 +15,18 @@ use Rattle.wiring.specs.Snapshot.{Contents, Snapshot, FitsContents, IsNext, net_
 use Rattle.wiring.specs.Clock.{Clock, bit}
 use Rattle.wiring.specs.History.{was_reset, is_held, counted}
 use Rattle.net_build.specs.Includes.{Includes}
-use Rattle.net_build.specs.Runs.{IsClockOf, IsStill, IsKept, StaysBelow, StaysInside}
+use Rattle.net_build.specs.Runs.{IsClockOf, IsReady, IsStill, IsKept, StaysBelow, StaysInside}
 use Rattle.net_build.proofs.Parts.{at_Begins, InEach-more}
 use Rattle.net_build.proofs.Stops.{inside_below}
 use Rattle.net_build.proofs.Fitting.{array_long}
-use Rattle.net_build.proofs.Runs.{AtEachEdge-more, InEachRun-more, clock_contents, reset_shown}
-use Rattle.net_build.specs.Counters.{unless_held, Counts, IsBehindReset, clock_number, control_nets}
+use Rattle.net_build.proofs.Runs.{AtEachEdge-more, InEachRun-more, clock_more, clock_contents, reset_shown}
+use Rattle.net_build.specs.Counters.{unless_held, Counts, IsMadeOfRegister, IsBehindReset, clock_number}
 use Rattle.net_build.specs.Control.{is_control, IsControl}
 use Rattle.wiring.specs.declared.right.Right.TheVariants.{Word}
 use Rattle.wiring.specs.declared.netlist.Update.TheVariants.{Put}
-use Rattle.line_buffer.specs.Lines.{IsIndex, IsDelayLine}
-use Rattle.line_buffer.proofs.Filling.{contains_more, index_control_more, right_more, unless_held_more}
+use Rattle.line_buffer.specs.Lines.{IsIndex, IsDelayLine, Delays}
+use Rattle.line_buffer.proofs.Filling.{contains_more, index_control_more, right_more, unless_held_more, word_more, takes_net_more, line_takes_net, line_word}
+use Rattle.net_build.proofs.Control.{in_control}
 use Rattle.net_build.proofs.Clocks.{now_on, not_reset, number_off, taken_here, by_clock}
 
 -- what an array takes in a clock that is no reset clock
@@ -49,17 +50,11 @@ index_below b n index some is = record { below = λ m from before c s clock sinc
 pub index_counts : (b : Netlist) (last words : ℕ) (index : Net) → 0 < words → last ≡ words - 1 → Counts b (λ t. t % suc last) index → IsIndex b words index
 index_counts b last words index some e is = subst (λ (n : ℕ). Counts b (λ t. t % n) index) (let f : suc last ≡ words = omega (arith, some, e) in f) is
 
-in_control : (e : Bool) (k : ℕ) (n : Net) → Contains (control_nets e ++ Reg k ∷ []) n → IsTrue (is_control e (OfNet n))
-in_control true k n (zero, l, e) = subst (λ (x : Net). IsTrue (is_control true (OfNet x))) e refl
-in_control true k n (suc zero, l, e) = subst (λ (x : Net). IsTrue (is_control true (OfNet x))) e refl
-in_control true k n (suc (suc zero), l, e) = subst (λ (x : Net). IsTrue (is_control true (OfNet x))) e refl
-in_control true k n (suc (suc (suc j)), l, e) = absurd (omega (arith, l))
-in_control false k n (zero, l, e) = subst (λ (x : Net). IsTrue (is_control false (OfNet x))) e refl
-in_control false k n (suc zero, l, e) = subst (λ (x : Net). IsTrue (is_control false (OfNet x))) e refl
-in_control false k n (suc (suc j), l, e) = absurd (omega (arith, l))
+pub register_control : (b : Netlist) (k : ℕ) (n : Net) → IsMadeOfRegister b k (OfNet n) → IsControl b (OfNet n)
+register_control b k n is = is (is_control b.enable) (λ m c. in_control b.enable k m c)
 
 pub index_control : (b : Netlist) (k : ℕ) (n : Net) → IsBehindReset b k n → IsControl b (OfNet n)
-index_control b k n is = is.made_of (is_control b.enable) (λ m c. in_control b.enable k m c)
+index_control b k n is = register_control b k n is.made_of
 
 abbrev pub words_of : Contents → ℕ → List ℕ
 words_of c x = slice_index_or c.arrays x []
@@ -136,5 +131,34 @@ module _ (b : Netlist) (x n : ℕ) (from to : Net) (is : IsDelayLine b x n from 
         | inr past ↦ absurd (omega (arith, past.0, slice_get_within next.arrays x _ at, goes.arrays))
       ]
 
-pub line_still : (b : Netlist) (x n : ℕ) (from to : Net) → IsDelayLine b x n from to → IsStill b (OfArray x)
-line_still b x n from to is = record { kept = λ m start before c s clock held next goes. line_kept b x n from to is m start before c s clock held next goes }
+pub line_still : (b : Netlist) (x n : ℕ) (from to : Net) → IsDelayLine b x n from to → IsStill b [] (OfArray x)
+line_still b x n from to is = record { kept = λ m start before c s clock ready held next goes. line_kept b x n from to is m start before c s clock held next goes }
+
+-- it does what a delay line does, in each clock
+pub line_delays : (b : Netlist) (direct : ℕ → Bool) (x n : ℕ) (from to : Net) → IsTrue (direct x) → IsDelayLine b x n from to → Delays b direct [] x n from to
+line_delays b direct x n from to is_direct is = record {
+  shape = is.shape;
+  there = is.there;
+  deep = is.deep;
+  gives = λ m start before c s clock since off. line_gives b x n from to is m start before c s clock since off;
+  takes = λ m start before c s clock since off going next goes. line_takes b x n from to is m start before c s clock since off going next goes;
+  waits = λ m start before c s clock ready held next goes. line_waits b x n from to is m start before c s clock held next goes;
+  word = line_word b direct x n from to is_direct is;
+  filled = line_takes_net b direct x n from to is_direct is;
+}
+
+-- as the netlist grows, and with more copies
+pub delays_more : (b a : Netlist) (direct wider : ℕ → Bool) (copies more : List ℕ) (x n : ℕ) (from to : Net) → Includes b a → (x < length a.arrays → IsTrue (direct x) → IsTrue (wider x)) → ((before : List Clock) → IsReady more before → IsReady copies before) → ((r : ℕ) → Contains copies r → Contains more r) → Delays a direct copies x n from to → Delays b wider more x n from to
+delays_more b a direct wider copies more x n from to f wide ready among is = record {
+  shape = is.shape;
+  there = at_Begins a.arrays b.arrays x is.shape f.arrays is.there;
+  deep = is.deep;
+  gives = λ m start before c s clock. is.gives m start before c s (clock_more b a m start before c s f clock);
+  takes = λ m start before c s clock. is.takes m start before c s (clock_more b a m start before c s f clock);
+  waits = λ m start before c s clock since. is.waits m start before c s (clock_more b a m start before c s f clock) (ready before since);
+  word = word_more b a direct wider copies more x to f (wide (slice_get_within a.arrays x is.shape is.there)) among is.word;
+  filled = takes_net_more b a direct wider copies more x from f (wide (slice_get_within a.arrays x is.shape is.there)) among is.filled;
+}
+
+pub delays_long : (b : Netlist) (direct : ℕ → Bool) (copies : List ℕ) (x n : ℕ) (from to : Net) → Delays b direct copies x n from to → (m : Netlist) (start : Contents) (before : List Clock) (c : Clock) (s : Snapshot) → IsClockOf b m start before c s → length (words_of s.contents x) ≡ n
+delays_long b direct copies x n from to is m start before c s clock = array_long m s.contents x is.shape (clock_contents b m start before c s clock) (at_Begins b.arrays m.arrays x is.shape clock.whole.includes.arrays is.there) ∙ is.deep

@@ -1,24 +1,28 @@
--- What the buffer of one image must ensure, in whatever form.
-use Rattle.std.specs.Prelude.{◌≡◌, ℕ, suc, ◌+◌, ◌<◌, ◌≤◌, Bool, false, ◌&&◌, nat_le, nat_lt, IsTrue, List, [], ◌∷◌, ◌++◌, length, slice_get, Some, All}
+-- What the buffer of one image must ensure, in each form.
+use Rattle.std.specs.Prelude.{◌≡◌, ◌==◌, ◌⊎◌, ℕ, suc, ◌+◌, ◌<◌, ◌≤◌, Bool, false, not, ◌&&◌, nat_le, nat_lt, IsTrue, if◌then◌else◌, List, [], ◌∷◌, ◌++◌, length, slice_get, Some, All, Contains}
+use Rattle.std.specs.List.{list_any}
 use Rattle.wiring.specs.declared.netlist.Net.{Net}
+use Rattle.wiring.specs.declared.netlist.Net.TheVariants.{Input, Output, Wire, Reg}
 use Rattle.wiring.specs.declared.netlist.Holder.{Holder}
 use Rattle.wiring.specs.declared.netlist.Holder.TheVariants.{OfNet, OfArray}
 use Rattle.wiring.specs.declared.netlist.Shape.{Shape}
 use Rattle.wiring.specs.declared.netlist.Assign.{Assign}
 use Rattle.wiring.specs.declared.netlist.Update.{Update}
+use Rattle.wiring.specs.declared.netlist.Update.TheVariants.{Set, Put}
 use Rattle.wiring.specs.Netlist.{Netlist, net_width, IsState, update_target}
+use Rattle.wiring.specs.BufferBits.{atom_reads}
 use Rattle.wiring.specs.Snapshot.{Contents, Snapshot, IsNext, net_value, right_accesses, update_accesses}
 use Rattle.wiring.specs.Clock.{Clock}
 use Rattle.wiring.specs.History.{was_reset, is_held, counted}
 use Rattle.net_build.specs.Includes.{Includes}
 use Rattle.net_build.specs.Draft.{IsNet, UpdatedBut}
-use Rattle.net_build.specs.Runs.{IsClockOf, InEachRun, StaysInside, StillBut}
-use Rattle.net_build.specs.Control.{IsMadeOf, is_control, TakesControl, AddsReads}
+use Rattle.net_build.specs.Runs.{IsClockOf, InEachRun, StaysInside, IsReady, StillBut}
+use Rattle.net_build.specs.Control.{IsMadeOf, is_control, AddsReads}
 use Rattle.line_buffer.specs.Added.{EachAdded}
 use Rattle.line_buffer.specs.Streams.{IsPixel, BufferIsRight}
 use Rattle.line_buffer.specs.Places.{Place, word_at, depth_of}
 
--- an array that the old netlist has not
+-- an array that the old netlist does not have
 abbrev pub is_new : Netlist → ℕ → Bool
 is_new old x = nat_le (length old.arrays) x
 
@@ -29,20 +33,43 @@ ReadsInside b a = All (StaysInside b) (right_accesses a.right)
 abbrev pub PutsInside : Netlist → Update → Type 0
 PutsInside b u = All (StaysInside b) (update_accesses u)
 
--- The new netlist has the old one, and arrays of these shapes. What else it has more are wires and registers. The wires read none but these arrays. Each register takes what is made of rst, en and registers alone, so neither the image's net nor a din goes into one. Each access that is added is inside its array. Each register and array that it has more is updated, and keeps what it contains in held clocks; no other has an update more.
-pub record AddsBuffer (new old : Netlist) (shapes : List Shape) : Type 0 where
+-- rst, en, and the registers from `first` to before `end` that are not among the copies
+abbrev pub is_added : (enable : Bool) (first end : ℕ) (copies : List ℕ) → Holder → Bool
+is_added enable first end copies (OfNet (Input k)) = nat_lt k (if enable then 2 else 1)
+is_added enable first end copies (OfNet (Output k)) = false
+is_added enable first end copies (OfNet (Wire k)) = false
+is_added enable first end copies (OfNet (Reg k)) = (nat_le first k && nat_lt k end) && not (list_any (λ (r : ℕ). r == k) copies)
+is_added enable first end copies (OfArray x) = false
+
+-- a register is one of these, or takes what is made only of the base
+abbrev pub TakesMade : Netlist → (base : Holder → Bool) → (copies : List ℕ) → Update → Type 0
+TakesMade b base copies (Set r a) = Contains copies r ⊎ All (IsMadeOf b base) (atom_reads a)
+TakesMade b base copies (Put x i a) = Unit {0}
+
+-- a register is one of the copies, or takes what is made of rst, en and added registers that are none
+abbrev pub TakesAdded : (new old : Netlist) → (copies : List ℕ) → Update → Type 0
+TakesAdded new old copies u = TakesMade new (is_added new.enable (length old.regs) (length new.regs) copies) copies u
+
+-- a register that the old netlist does not have
+pub record IsAdded (new old : Netlist) (r : ℕ) : Type 0 where
+  pub beyond : length old.regs ≤ r
+  pub there : r < length new.regs
+
+-- Arrays of these shapes are added, and wires and registers. The wires read only these arrays. Each added register takes what is made of rst, en and added registers, except the copies: so neither the image's net nor a din goes into another one. Each added access is inside its array. Each added register and array is updated, and keeps its contents in held clocks, after a reset if there are copies. No other register or array gets an update.
+pub record AddsBuffer (new old : Netlist) (shapes : List Shape) (copies : List ℕ) : Type 0 where
   pub includes : Includes new old
   pub arrays : new.arrays ≡ old.arrays ++ shapes
+  pub added : All (IsAdded new old) copies
   pub updated : (free : List Holder) → UpdatedBut old free → UpdatedBut new free
   pub only : (k : ℕ) (u : Update) → length old.updates ≤ k → slice_get new.updates k ≡ Some u → IsState old (update_target u) → ⊥
-  pub still : (free : List Holder) → StillBut old free → StillBut new free
-  pub control : EachAdded (TakesControl new) new.updates old.updates
+  pub still : (others : List ℕ) (free : List Holder) → StillBut old others free → StillBut new (others ++ copies) free
+  pub control : EachAdded (TakesAdded new old copies) new.updates old.updates
   pub reads_inside : EachAdded (ReadsInside new) new.assigns old.assigns
   pub puts_inside : EachAdded (PutsInside new) new.updates old.updates
   pub reads : AddsReads new old (is_new old)
 
--- Of an image whose net is `value`, in each run of every module that includes the netlist: in each clock after a reset clock, t being its number, the tap of each age above 0 is the word at its place, once t is at least the age. In a counted clock the words go on being right, of whatever stream whose pixel the net is; in a held clock they stay.
-pub record IsBuffer (b : Netlist) (place : (age t : ℕ) → Place) (ages : List ℕ) (taps : List Net) (value : Net) : Type 0 where
+-- Of an image whose net is `value`, in each run of every module that includes the netlist: in each clock after a reset clock, t being its number, the tap of each age above 0 is the word at its place, once t is at least the age. In a counted clock the words go on being right, of any stream whose pixel the net is. In a held clock they stay, after a reset if some registers are copies of words.
+pub record IsBuffer (b : Netlist) (copies : List ℕ) (place : (age t : ℕ) → Place) (ages : List ℕ) (taps : List Net) (value : Net) : Type 0 where
   pub one_each : length taps ≡ length ages
   pub net : (k : ℕ) (tap : Net) → slice_get taps k ≡ Some tap → IsNet b tap
   pub width : (k : ℕ) (tap : Net) → slice_get taps k ≡ Some tap → net_width b tap ≡ net_width b value
@@ -53,14 +80,14 @@ pub record IsBuffer (b : Netlist) (place : (age t : ℕ) → Place) (ages : List
       InEachRun b (λ m before c s. IsTrue (was_reset before) → c.reset ≡ false → is_held m c ≡ false → (next : Contents) → IsNext m s next →
       BufferIsRight (λ age t. word_at s.contents (place age t)) pixel count delay (depth_of ages) (length (counted m before)) → IsPixel pixel count delay (length (counted m before)) (net_value s value) →
       BufferIsRight (λ age t. word_at next (place age t)) pixel count delay (depth_of ages) (suc (length (counted m before))))
-  pub waits : InEachRun b (λ m before c s. IsTrue (is_held m c) → (next : Contents) → IsNext m s next → (age t : ℕ) → 0 < age → age ≤ depth_of ages → word_at next (place age t) ≡ word_at s.contents (place age t))
+  pub waits : InEachRun b (λ m before c s. IsReady copies before → IsTrue (is_held m c) → (next : Contents) → IsNext m s next → (age t : ℕ) → 0 < age → age ≤ depth_of ages → word_at next (place age t) ≡ word_at s.contents (place age t))
 
 -- rst, en, the registers, and the arrays from `first` to before `end`
 abbrev pub is_buffer : (enable : Bool) (first end : ℕ) → Holder → Bool
 is_buffer enable first end (OfNet n) = is_control enable (OfNet n)
 is_buffer enable first end (OfArray x) = nat_le first x && nat_lt x end
 
--- the taps of ages above 0 are made only of the buffer's own arrays, rst, en and registers
+-- the taps of ages above 0 are made only of the buffer's own arrays, and of rst, en and registers
 abbrev pub AreMadeOfBuffer : Netlist → (first end : ℕ) → (ages : List ℕ) → (taps : List Net) → Type 0
 AreMadeOfBuffer b first end ages taps = (k age : ℕ) (tap : Net) → slice_get ages k ≡ Some age → 0 < age → slice_get taps k ≡ Some tap → IsMadeOf b (is_buffer b.enable first end) (OfNet tap)
 

@@ -1,4 +1,4 @@
--- How a ring is read, an age after another.
+-- How a ring is read, one age after another.
 use Rattle.std.specs.Prelude.{◌≡◌, ◌==◌, ℕ, ◌+◌, ◌-◌, ◌%◌, ◌^◌, ◌<◌, nat_lt, nat_eq, IsTrue, if◌then◌else◌, List, ◌∷◌, slice_get, Some}
 use Rattle.wiring.specs.declared.netlist.Net.{Net}
 use Rattle.wiring.specs.declared.netlist.Holder.TheVariants.{OfNet}
@@ -24,7 +24,7 @@ behind n age index = if nat_eq age n then index else if nat_lt index age then in
 abbrev pub place_worth : (words age bits index : ℕ) → ℕ
 place_worth words age bits index = if nat_lt index age then (index + (words - age)) % 2 ^ bits else (index + 2 ^ bits - age) % 2 ^ bits
 
--- The tap of an age in a ring of n words, in array `first`: the image's net itself at age 0, and else the word this many after the index.
+-- The tap of an age in a ring of n words, in array `first`: the image's net itself at age 0, and else the word that many places before the index.
 pub record IsRingTap (b : Netlist) (first n : ℕ) (index value : Net) (age : ℕ) (tap : Net) : Type 0 where
   pub net : IsNet b tap
   pub width : net_width b tap ≡ net_width b value
@@ -35,14 +35,14 @@ pub record IsRingTap (b : Netlist) (first n : ℕ) (index value : Net) (age : �
 abbrev pub AreRingTaps : Netlist → (first n : ℕ) → (index value : Net) → (ages : List ℕ) → List Net → Type 0
 AreRingTaps b first n index value ages taps = (k age : ℕ) (tap : Net) → slice_get ages k ≡ Some age → slice_get taps k ≡ Some tap → IsRingTap b first n index value age tap
 
--- the new netlist has more wires, which read only array x, and nothing else
+-- only wires are added, and they read only array x
 pub record AddsTaps (new old : Netlist) (x : ℕ) : Type 0 where
   pub includes : Includes new old
   pub wires : AddsWires new old
   pub reads : AddsReads new old (λ y. y == x)
   pub reads_inside : EachAdded (ReadsInside new) new.assigns old.assigns
 
--- a delay line of this many words for an image's net, with an index of this many bits
+-- a delay line of n words for an image's net, with an index of this many bits
 pub record IsRing (b : Netlist) (line : DelayLine) (value : Net) (bits words : ℕ) : Type 0 where
   pub shape : Shape
   pub there : slice_get b.arrays line.array ≡ Some shape

@@ -1,18 +1,19 @@
-// Chains: an array for each two neighbouring ages, of which one word is read and then written in each clock.
+// Chains: an array for each two neighbouring ages, of which one word is read and then written in each clock, or read one clock ahead.
 
-ghost use Rattle.std.specs.Prelude.{◌≡◌, ◌+◌, ◌<◌, ◌≤◌, length, All, IfOk, OnOk};
+ghost use Rattle.std.specs.Prelude.{◌≡◌, ℕ, ◌+◌, ◌<◌, ◌≤◌, [], length, Bool, true, false, Some, All, IfOk, OnOk};
 ghost use Rattle.std.specs.List.Sorted.{IsStrictlyIncreasing};
 ghost use Rattle.dk_base.specs.declared.TheConstants.{MAX_BUFFER_BITS};
 ghost use Rattle.wiring.specs.Netlist.{net_width};
-ghost use Rattle.wiring.specs.Sizes.{IsWidth};
+ghost use Rattle.wiring.specs.Sizes.{IsWidth, IsDepth};
 ghost use Rattle.net_build.specs.Includes.{Includes};
 ghost use Rattle.net_build.specs.Draft.{IsNet};
 ghost use Rattle.line_buffer.specs.Places.{chain_shapes, chain_place};
 ghost use Rattle.line_buffer.specs.Fills.{AreFilled};
 ghost use Rattle.line_buffer.specs.Buffers.{AddsBuffer, IsBuffer, IsDelay, AreMadeOfBuffer};
-ghost use Rattle.line_buffer.specs.Indices.{AreReadOnce};
-ghost use Rattle.line_buffer.specs.Chains.{IsSegment, IsStep};
+ghost use Rattle.line_buffer.specs.Indices.{is_long, AreReadOnce};
+ghost use Rattle.line_buffer.specs.Chains.{IsSegment, IsStep, IsChain};
 
+use crate::blocks::{block_line, turning_indices};
 use crate::lines::delay_line;
 use dk_base::OutOfMemory;
 use net_build::Builder;
@@ -26,43 +27,129 @@ pub struct Tap {
     pub net: Net,
 }
 
-// The net of a greater age, which comes out of a segment.
-fn segment(b: &mut Builder, width: u8, from: Tap, age: u64) -> Result<Net, OutOfMemory>
+// Whether an array of this many words is long.
+fn is_long(words: u32, least: Option<u32>) -> bool
+    ensures { result ≡ is_long least words }
+{
+    match least {
+        Some(fewest) => fewest <= words,
+        None => false,
+    }
+}
+
+// A segment whose word is read at the index of its write.
+fn line_segment(b: &mut Builder, width: u8, words: u32, from: Net) -> Result<Net, OutOfMemory>
     requires bits { IsWidth width }
-    requires beyond { from.age < age }
-    requires most { age ≤ MAX_BUFFER_BITS }
-    requires net { IsNet b.old from.net }
-    requires wide { net_width b.old from.net ≡ width }
+    requires words { IsDepth words }
+    requires net { IsNet b.old from }
+    requires wide { net_width b.old from ≡ width }
     ensures includes { Includes b.new b.old }
-    ensures segment { IfOk result (IsSegment b.new b.old width from age) }
+    ensures segment { IfOk result (λ n. (long : ℕ → Bool) → long words ≡ false → IsSegment b.new b.old width words long from n) }
     ensures net { IfOk result (IsNet b.new) }
     ensures wide { IfOk result (λ n. net_width b.new n ≡ width) }
 {
-    let words = (age - from.age) as u32;
-    let line = delay_line(b, width, words, from.net)?;
+    let line = delay_line(b, width, words, from)?;
     Ok(line.word)
 }
 
+// A segment whose word is read one clock ahead, into a register.
+fn block_segment(b: &mut Builder, width: u8, words: u32, from: Net) -> Result<Net, OutOfMemory>
+    requires bits { IsWidth width }
+    requires words { IsDepth words }
+    requires some { 2 ≤ words }
+    requires net { IsNet b.old from }
+    requires wide { net_width b.old from ≡ width }
+    ensures includes { Includes b.new b.old }
+    ensures segment { IfOk result (λ n. (long : ℕ → Bool) → long words ≡ true → IsSegment b.new b.old width words long from n) }
+    ensures net { IfOk result (IsNet b.new) }
+    ensures wide { IfOk result (λ n. net_width b.new n ≡ width) }
+{
+    let at = turning_indices(b, words)?;
+    let net = block_line(b, width, words, from, at)?;
+    Ok(net)
+}
+
+// The net of n clocks later, which comes out of a segment.
+fn segment(
+    b: &mut Builder,
+    width: u8,
+    words: u32,
+    from: Net,
+    least: Option<u32>,
+) -> Result<Net, OutOfMemory>
+    requires bits { IsWidth width }
+    requires words { IsDepth words }
+    requires two { (n : ℕ) → least ≡ Some n → 2 ≤ n }
+    requires net { IsNet b.old from }
+    requires wide { net_width b.old from ≡ width }
+    ensures includes { Includes b.new b.old }
+    ensures segment { IfOk result (IsSegment b.new b.old width words (is_long least) from) }
+    ensures net { IfOk result (IsNet b.new) }
+    ensures wide { IfOk result (λ n. net_width b.new n ≡ width) }
+{
+    if is_long(words, least) {
+        let net = block_segment(b, width, words, from)?;
+        return Ok(net);
+    }
+    let net = line_segment(b, width, words, from)?;
+    Ok(net)
+}
+
 // The net of an age that is no less.
-fn next_tap(b: &mut Builder, width: u8, from: Tap, age: u64) -> Result<Tap, OutOfMemory>
+fn next_tap(
+    b: &mut Builder,
+    width: u8,
+    from: Tap,
+    age: u64,
+    least: Option<u32>,
+) -> Result<Tap, OutOfMemory>
     requires bits { IsWidth width }
     requires up { from.age ≤ age }
     requires most { age ≤ MAX_BUFFER_BITS }
+    requires two { (n : ℕ) → least ≡ Some n → 2 ≤ n }
     requires net { IsNet b.old from.net }
     requires wide { net_width b.old from.net ≡ width }
     ensures includes { Includes b.new b.old }
-    ensures step { IfOk result (IsStep b.new b.old width from age) }
+    ensures step { IfOk result (IsStep b.new b.old width (is_long least) from age) }
 {
     if age == from.age {
         return Ok(from);
     }
-    let net = segment(b, width, from, age)?;
+    let words = (age - from.age) as u32;
+    let net = segment(b, width, words, from.net, least)?;
     Ok(Tap { age, net })
 }
 
-/// The buffer of an image, as a chain: for each of these ages a net, the image's net `value` of this many counted clocks before.
+// A net for each age, from the segments of a chain.
+fn chained(
+    alloc: Global,
+    b: &mut Builder,
+    width: u8,
+    ages: &[u64],
+    value: Net,
+    least: Option<u32>,
+) -> Result<Vec<Net>, OutOfMemory>
+    requires ascending { IsStrictlyIncreasing ages.now }
+    requires most { All (λ age. age ≤ MAX_BUFFER_BITS) ages.now }
+    requires bits { IsWidth width }
+    requires two { (n : ℕ) → least ≡ Some n → 2 ≤ n }
+    requires net { IsNet b.old value }
+    requires wide { net_width b.old value ≡ width }
+    ensures includes { Includes b.new b.old }
+    ensures chain { IfOk result (λ taps. IsChain b.new b.old width (is_long least) value ages.now taps.items) }
+{
+    let mut nets = Vec::new(alloc);
+    let mut last = Tap { age: 0, net: value };
+    for age in ages {
+        last = next_tap(b, width, last, *age, least)?;
+        nets.push(last.net)?;
+    }
+    Ok(nets)
+}
+
+/// The buffer of an image, as a chain: for each of these ages a net, the image's net `value` of that many counted clocks before.
 ///
-/// The ages ascend. `width` is the net's, in bits, and that of each array's words. There is one array for each age above 0, of as many words as lie between this age and the one before. Fails only if out of memory; what the builder had is then still there.
+/// The ages ascend. `width` is the net's, in bits, and that of each array's words. There is one array for each age above 0, of as many words as lie between this age and the one before. Fails only if out of memory; the builder then still has what it had.
 pub fn chain(
     alloc: Global,
     b: &mut Builder,
@@ -76,18 +163,36 @@ pub fn chain(
     requires net { IsNet b.old value }
     requires wide { net_width b.old value ≡ width }
     ensures includes { Includes b.new b.old }
-    ensures adds { OnOk result (AddsBuffer b.new b.old (chain_shapes width ages.now)) }
+    ensures adds { OnOk result (AddsBuffer b.new b.old (chain_shapes width ages.now) []) }
     ensures once { OnOk result (AreReadOnce b.new b.old) }
-    ensures buffer { IfOk result (λ taps. IsBuffer b.new (chain_place (length b.old.arrays) ages.now) ages.now taps.items value) }
+    ensures buffer { IfOk result (λ taps. IsBuffer b.new [] (chain_place (length b.old.arrays) ages.now) ages.now taps.items value) }
     ensures delay { IfOk result (λ taps. IsDelay b.new (chain_place (length b.old.arrays) ages.now) ages.now taps.items value) }
-    ensures made { IfOk result (λ taps. AreMadeOfBuffer b.new (length b.old.arrays) (length b.old.arrays + length (chain_shapes width ages.now)) ages.now taps.items) }
-    ensures fills { OnOk result (AreFilled b.new (length b.old.arrays) (length b.old.arrays + length (chain_shapes width ages.now)) value) }
+    ensures made { IfOk result (λ taps. AreMadeOfBuffer b.new (length b.old.arrays)
+        (length b.old.arrays + length (chain_shapes width ages.now)) ages.now taps.items) }
+    ensures fills { OnOk result (AreFilled b.new (λ x. true) [] (length b.old.arrays) (length b.old.arrays + length (chain_shapes width ages.now)) value) }
 {
-    let mut nets = Vec::new(alloc);
-    let mut last = Tap { age: 0, net: value };
-    for age in ages {
-        last = next_tap(b, width, last, *age)?;
-        nets.push(last.net)?;
-    }
+    let nets = chained(alloc, b, width, ages, value, None)?;
+    Ok(nets)
+}
+
+/// The buffer of an image, as a chain in which each array of at least `least` words can be a block memory: it is read one clock ahead, into a register that copies its word. The arrays and their words are those of `chain`.
+pub fn block_chain(
+    alloc: Global,
+    b: &mut Builder,
+    width: u8,
+    ages: &[u64],
+    value: Net,
+    least: u32,
+) -> Result<Vec<Net>, OutOfMemory>
+    requires ascending { IsStrictlyIncreasing ages.now }
+    requires most { All (λ age. age ≤ MAX_BUFFER_BITS) ages.now }
+    requires bits { IsWidth width }
+    requires two { 2 ≤ least }
+    requires net { IsNet b.old value }
+    requires wide { net_width b.old value ≡ width }
+    ensures includes { Includes b.new b.old }
+    ensures chain { IfOk result (λ taps. IsChain b.new b.old width (is_long (Some least)) value ages.now taps.items) }
+{
+    let nets = chained(alloc, b, width, ages, value, Some(least))?;
     Ok(nets)
 }

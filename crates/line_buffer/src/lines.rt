@@ -32,7 +32,7 @@ pub struct DelayLine {
 fn turning_index(b: &mut Builder, words: u32) -> Result<Net, OutOfMemory>
     requires { IsDepth words }
     ensures includes { Includes b.new b.old }
-    ensures adds { OnOk result (AddsBuffer b.new b.old []) }
+    ensures adds { OnOk result (AddsBuffer b.new b.old [] []) }
     ensures net { IfOk result (IsNet b.new) }
     ensures width { IfOk result (λ n. net_width b.new n ≡ bit_count (words - 1)) }
     ensures index { IfOk result (IsIndex b.new words) }
@@ -44,14 +44,15 @@ fn turning_index(b: &mut Builder, words: u32) -> Result<Net, OutOfMemory>
 }
 
 // What an array takes: in a held clock the word that is there, and else the net.
-fn stored_net(b: &mut Builder, now: Net, next: Net, bits: u8) -> Result<Net, OutOfMemory>
+pub fn stored_net(b: &mut Builder, now: Net, next: Net, bits: u8) -> Result<Net, OutOfMemory>
     requires now { IsNet b.old now }
     requires next { IsNet b.old next }
     requires now_width { net_width b.old now ≡ bits }
     requires next_width { net_width b.old next ≡ bits }
     requires bits { IsWidth bits }
     ensures logic { AddsLogic b.new b.old }
-    ensures net { IfOk result (Computes b.new b.old (control_nets b.old.enable ++ now ∷ (next ∷ [])) bits (λ s. unless_held b.old.enable (net_value s now) (net_value s next) s)) }
+    ensures net { IfOk result (Computes b.new b.old (control_nets b.old.enable ++ now ∷ (next ∷ []))
+        bits (λ s. unless_held b.old.enable (net_value s now) (net_value s next) s)) }
     ensures right { IfOk result (IsUnlessHeld b.new now next) }
 {
     if b.has_en() {
@@ -62,7 +63,7 @@ fn stored_net(b: &mut Builder, now: Net, next: Net, bits: u8) -> Result<Net, Out
     Ok(next)
 }
 
-// An array of this many words, at least one: `value`, of `width` bits, goes in at its index, and comes out there this many counted clocks later. The index is 0 in a reset clock and is in a held one. Fails only if out of memory.
+// An array of n words, at least one: `value`, of `width` bits, goes in at its index, and comes out there n counted clocks later. The index is 0 in a reset clock and does not change in a held one. Fails only if out of memory.
 pub fn delay_line(
     b: &mut Builder,
     width: u8,
@@ -74,7 +75,7 @@ pub fn delay_line(
     requires value { IsNet b.old value }
     requires width { net_width b.old value ≡ width }
     ensures includes { Includes b.new b.old }
-    ensures adds { OnOk result (AddsBuffer b.new b.old ((record { width = width; depth = words }) ∷ [])) }
+    ensures adds { OnOk result (AddsBuffer b.new b.old ((record { width = width; depth = words }) ∷ []) []) }
     ensures array { IfOk result (λ l. l.array ≡ length b.old.arrays) }
     ensures line { IfOk result (λ l. IsDelayLine b.new (length b.old.arrays) words value l.word) }
     ensures once { OnOk result (AreReadOnce b.new b.old) }

@@ -1,6 +1,6 @@
 // Rings: one array for an image, of which a word is read for each age.
 
-ghost use Rattle.std.specs.Prelude.{◌≡◌, ℕ, ◌+◌, ◌-◌, ◌<◌, ◌≤◌, ◌^◌, [], ◌∷◌, length, slice_get, Some, All, IfOk, OnOk};
+ghost use Rattle.std.specs.Prelude.{◌≡◌, ℕ, ◌+◌, ◌-◌, ◌<◌, ◌≤◌, ◌^◌, [], ◌∷◌, length, true, slice_get, Some, All, IfOk, OnOk};
 ghost use Rattle.std.specs.List.Sorted.{IsStrictlyIncreasing};
 ghost use Rattle.dk_base.specs.Numbers.{bit_count};
 ghost use Rattle.dk_base.specs.declared.TheConstants.{MAX_BUFFER_BITS};
@@ -79,7 +79,7 @@ fn word_behind(
     Ok(word)
 }
 
-// The net of one age: the image's own, the oldest word, or one after the index.
+// The net of one age: the image's own, the oldest word, or one before the index.
 fn ring_tap(
     b: &mut Builder,
     line: DelayLine,
@@ -103,7 +103,7 @@ fn ring_tap(
     Ok(tap)
 }
 
-// One net for each age.
+// A net for each age.
 fn ring_taps(
     alloc: Global,
     b: &mut Builder,
@@ -140,7 +140,7 @@ fn greatest(ages: &[u64]) -> u64
     last
 }
 
-// The image's own net for each age, where none is above 0.
+// The image's own net for each age, if none is above 0.
 fn still_taps(alloc: Global, value: Net, ages: &[u64]) -> Result<Vec<Net>, OutOfMemory>
     ensures one_each { IfOk result (λ taps. length taps.items ≡ length ages.now) }
     ensures same { IfOk result (λ taps. (k : ℕ) (tap : Net) → slice_get taps.items k ≡ Some tap → tap ≡ value) }
@@ -168,10 +168,11 @@ fn ring_array(
     requires net { IsNet b.old value }
     requires wide { net_width b.old value ≡ width }
     ensures includes { Includes b.new b.old }
-    ensures adds { OnOk result (AddsBuffer b.new b.old (ring_shapes width ages.now)) }
-    ensures buffer { IfOk result (λ taps. IsBuffer b.new (ring_place (length b.old.arrays) ages.now) ages.now taps.items value) }
-    ensures made { IfOk result (λ taps. AreMadeOfBuffer b.new (length b.old.arrays) (length b.old.arrays + length (ring_shapes width ages.now)) ages.now taps.items) }
-    ensures fills { OnOk result (AreFilled b.new (length b.old.arrays) (length b.old.arrays + length (ring_shapes width ages.now)) value) }
+    ensures adds { OnOk result (AddsBuffer b.new b.old (ring_shapes width ages.now) []) }
+    ensures buffer { IfOk result (λ taps. IsBuffer b.new [] (ring_place (length b.old.arrays) ages.now) ages.now taps.items value) }
+    ensures made { IfOk result (λ taps. AreMadeOfBuffer b.new (length b.old.arrays)
+        (length b.old.arrays + length (ring_shapes width ages.now)) ages.now taps.items) }
+    ensures fills { OnOk result (AreFilled b.new (λ x. true) [] (length b.old.arrays) (length b.old.arrays + length (ring_shapes width ages.now)) value) }
 {
     let line = delay_line(b, width, words, value)?;
     let count = u64::from(words);
@@ -180,9 +181,9 @@ fn ring_array(
     Ok(taps)
 }
 
-/// The buffer of an image, as a ring: for each of these ages a net, the image's net `value` of this many counted clocks before.
+/// The buffer of an image, as a ring: for each of these ages a net, the image's net `value` of that many counted clocks before.
 ///
-/// The ages ascend. `width` is the net's, in bits, and that of the array's words. There is one array of as many words as the greatest age, and none where that is 0. Fails only if out of memory; what the builder had is then still there.
+/// The ages ascend. `width` is the net's, in bits, and that of the array's words. There is one array of as many words as the greatest age, and none if that is 0. Fails only if out of memory; the builder then still has what it had.
 pub fn ring(
     alloc: Global,
     b: &mut Builder,
@@ -196,11 +197,12 @@ pub fn ring(
     requires net { IsNet b.old value }
     requires wide { net_width b.old value ≡ width }
     ensures includes { Includes b.new b.old }
-    ensures adds { OnOk result (AddsBuffer b.new b.old (ring_shapes width ages.now)) }
-    ensures buffer { IfOk result (λ taps. IsBuffer b.new (ring_place (length b.old.arrays) ages.now) ages.now taps.items value) }
+    ensures adds { OnOk result (AddsBuffer b.new b.old (ring_shapes width ages.now) []) }
+    ensures buffer { IfOk result (λ taps. IsBuffer b.new [] (ring_place (length b.old.arrays) ages.now) ages.now taps.items value) }
     ensures delay { IfOk result (λ taps. IsDelay b.new (ring_place (length b.old.arrays) ages.now) ages.now taps.items value) }
-    ensures made { IfOk result (λ taps. AreMadeOfBuffer b.new (length b.old.arrays) (length b.old.arrays + length (ring_shapes width ages.now)) ages.now taps.items) }
-    ensures fills { OnOk result (AreFilled b.new (length b.old.arrays) (length b.old.arrays + length (ring_shapes width ages.now)) value) }
+    ensures made { IfOk result (λ taps. AreMadeOfBuffer b.new (length b.old.arrays)
+        (length b.old.arrays + length (ring_shapes width ages.now)) ages.now taps.items) }
+    ensures fills { OnOk result (AreFilled b.new (λ x. true) [] (length b.old.arrays) (length b.old.arrays + length (ring_shapes width ages.now)) value) }
 {
     let depth = greatest(ages);
     if depth == 0 {

@@ -92,11 +92,11 @@ module _ (b : Netlist) (k : ℕ) (at step : ℕ → ℕ) (begins : at 0 ≡ 0) (
   pub index_counts : Counts b at index
   index_counts = record { counts = λ m from before c s is since. counts m from before c s is since }
 
-  pub register_still : IsStill b (OfNet (Reg k))
-  register_still = record { kept = λ m from before c s is held to goes. kept m from before c s is held to goes }
+  pub register_still : IsStill b [] (OfNet (Reg k))
+  register_still = record { kept = λ m from before c s is ready held to goes. kept m from before c s is held to goes }
 
 -- one clock more
-around : (last k : ℕ) → (if nat_lt (k % suc last) last then k % suc last + 1 else 0) ≡ suc k % suc last
+pub around : (last k : ℕ) → (if nat_lt (k % suc last) last then k % suc last + 1 else 0) ≡ suc k % suc last
 around last k =
     let n : ℕ = suc last in
     let some : 0 < n = omega arith in

@@ -1,11 +1,16 @@
 -- A net that is 1 from some clock on.
 use Rattle.std.proofs.Common.{◌≡◌, ℕ, ◌-◌, ◌^◌, ◌<◌, ◌==◌, nat_le, Bool, true, false, length, refl, sym, ap, subst, ◌∙◌, inl, inr, arith}
-use Rattle.std.specs.Prelude.{if◌then◌else◌, min}
+use Rattle.std.specs.Prelude.{if◌then◌else◌, min, [], All}
+use Rattle.std.proofs.lemmas.List.Elements.{All-nil, All-cons}
 use Rattle.std.proofs.lemmas.Bool.{cases_lt}
 use Rattle.wiring.specs.declared.right.Atom.{Atom}
 use Rattle.wiring.specs.declared.right.Atom.TheVariants as atom
 use Rattle.wiring.specs.declared.right.Operator.TheVariants.{Equal}
+use Rattle.wiring.specs.declared.right.Right.{Right}
 use Rattle.wiring.specs.declared.right.Right.TheVariants.{Binary, Not}
+use Rattle.wiring.specs.declared.netlist.Holder.{Holder}
+use Rattle.wiring.specs.declared.netlist.Holder.TheVariants.{OfNet}
+use Rattle.wiring.specs.BufferBits.{right_reads}
 use Rattle.wiring.specs.declared.netlist.Net.{Net}
 use Rattle.wiring.specs.Rights.{atom_value}
 use Rattle.wiring.specs.Netlist.{Netlist, net_width, reset_net}
@@ -15,7 +20,9 @@ use Rattle.wiring.specs.History.{counted}
 use Rattle.net_build.specs.Includes.{Includes}
 use Rattle.net_build.specs.Draft.{IsNet}
 use Rattle.net_build.specs.Logic.{AddsLogic, IsGate}
-use Rattle.net_build.specs.Counters.{Counts, AddsRegister, AddsControl, Starts}
+use Rattle.net_build.specs.Control.{IsMadeOf, IsControl, is_control}
+use Rattle.net_build.specs.Counters.{Counts, AddsRegister, AddsControl, IsBehindReset, Starts}
+use Rattle.net_build.proofs.Control.{made_more, control_own, in_control}
 use Rattle.net_build.proofs.Parts.{Includes-trans}
 use Rattle.net_build.proofs.Grown.{width_more}
 use Rattle.net_build.proofs.Runs.{reset_shown, clock_more}
@@ -32,7 +39,7 @@ logic_adds new old is = record {
   arrays = is.wires.arrays;
   reads = is.reads;
   updated = λ free but. but_wires new old free is.wires but;
-  still = λ free but. still_wires new old free is.includes is.wires but;
+  still = λ copies free but. still_wires new old copies free is.includes is.wires but;
   stops = is.stops;
   control = is.control;
 }
@@ -43,9 +50,9 @@ control_on a b c f g = record {
   arrays = g.arrays ∙ f.arrays;
   reads = reads_joined c b a (λ x. false) g.includes g.reads f.reads;
   updated = λ free but. g.updated free (f.updated free but);
-  still = λ free but. g.still free (f.still free but);
+  still = λ copies free but. g.still copies free (f.still copies free but);
   stops = λ h. g.stops (f.stops h);
-  control = λ h. g.control (f.control h);
+  control = λ copies h. g.control copies (f.control copies h);
 }
 
 -- at once
@@ -62,6 +69,20 @@ starts_now b0 b1 reset n reset_is is wide grows g = record {
     by : (r : Bool) (t : ℕ) → 2 ^ 1 - 1 - bit r ≡ (if r then 0 else bit (nat_le 0 t))
     by true t = refl
     by false t = ap bit (let e : true ≡ nat_le 0 t = grind arith in e)
+
+-- it is made of rst, en and registers
+pub now_control : (b1 b0 : Netlist) (reset n : Net) → reset ≡ reset_net → IsGate b1 b0 (Not (atom.Net reset)) n → IsControl b1 (OfNet n)
+now_control b1 b0 reset n e g =
+    let base : Holder → Bool = is_control b1.enable in
+    g.made_of base (All-cons (IsMadeOf b1 base) (OfNet reset) [] (control_own b1 b1.enable reset (0, omega arith, sym e)) (All-nil (IsMadeOf b1 base)))
+
+pub later_control : (b2 b1 : Netlist) (register : ℕ) (count n : Net) (a : Atom Net) (bits last : ℕ) → a ≡ atom.Constant (record { width = bits; value = last }) → Includes b2 b1 → IsBehindReset b1 register count → IsGate b2 b1 (Binary Equal (atom.Net count) a) n → IsControl b2 (OfNet n)
+later_control b2 b1 register count n a bits last a_is grows behind g =
+    let base : Holder → Bool = is_control b2.enable in
+    let of_count : IsMadeOf b2 base (OfNet count) = subst (λ (e : Bool). IsMadeOf b2 (is_control e) (OfNet count)) (sym grows.enable) (made_more b2 b1 (is_control b1.enable) grows (behind.made_of (is_control b1.enable) (λ m c. in_control b1.enable register m c))) in
+    g.made_of base
+    (subst (λ (x : Atom Net). All (IsMadeOf b2 base) (right_reads (let r : Right Net ℕ = Binary Equal (atom.Net count) x in r))) (sym a_is)
+    (All-cons (IsMadeOf b2 base) (OfNet count) [] of_count (All-nil (IsMadeOf b2 base))))
 
 -- where a count has come to its end
 at_end : (t last : ℕ) → (if min t last == last then 1 else 0) ≡ bit (nat_le last t)

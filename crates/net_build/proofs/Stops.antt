@@ -25,7 +25,7 @@ use Rattle.netlist.proofs.RunLaws.{run_some}
 use Rattle.wiring.proofs.Lists.{All-at, All-left, All-right}
 use Rattle.net_build.specs.Includes.{Includes}
 use Rattle.net_build.specs.Draft.{IsNet, ValuesFit, with_wire, with_reg, with_array, with_update, output_assigns, with_outputs}
-use Rattle.net_build.specs.Runs.{IsWhole, FitsPorts, IsClockOf, StaysBelow, StaysInside, NeverStops, BeginsWithReset, RunsOn, IsKept, IsStill}
+use Rattle.net_build.specs.Runs.{IsWhole, FitsPorts, IsClockOf, StaysBelow, StaysInside, NeverStops, BeginsWithReset, RunsOn, IsKept, IsReady, IsStill}
 use Rattle.net_build.proofs.Grown.{depth_more, width_more}
 use Rattle.net_build.proofs.Drafts.{includes_wire, includes_reg, includes_array, includes_update}
 use Rattle.net_build.proofs.Runs.{InEachRun-more, clock_contents, clock_inputs}
@@ -36,8 +36,8 @@ stays_more b a access f h = record { inside = InEachRun-more (λ m before c s. I
 pub below_more : (b a : Netlist) (n : ℕ) (net : Net) → Includes b a → StaysBelow a n net → StaysBelow b n net
 below_more b a n net f h = record { below = InEachRun-more (λ m before c s. IsTrue (was_reset (c ∷ before)) → net_value s net < n) b a f h.below }
 
-pub still_more : (b a : Netlist) (h : Holder) → Includes b a → IsStill a h → IsStill b h
-still_more b a h f is = record { kept = InEachRun-more (λ m before c s. IsTrue (is_held m c) → (next : Contents) → IsNext m s next → IsKept s next h) b a f is.kept }
+pub still_more : (b a : Netlist) (copies : List ℕ) (h : Holder) → Includes b a → IsStill a copies h → IsStill b copies h
+still_more b a copies h f is = record { kept = InEachRun-more (λ m before c s. IsReady copies before → IsTrue (is_held m c) → (next : Contents) → IsNext m s next → IsKept s next h) b a f is.kept }
 
 all_more : (b a : Netlist) (xs : List (ℕ × Atom Net)) → Includes b a → All (StaysInside a) xs → All (StaysInside b) xs
 all_more b a xs f h = All-weaker (StaysInside a) (StaysInside b) (λ x. stays_more b a x f) xs h

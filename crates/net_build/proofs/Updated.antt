@@ -1,5 +1,6 @@
 -- Updates of registers and arrays.
-use Rattle.std.proofs.Common.{◌≡◌, ℕ, ◌+◌, ◌<◌, List, [], ◌∷◌, ◌++◌, length, sym, ap, subst, ◌∙◌}
+use Rattle.std.proofs.Common.{◌≡◌, ◌⊎◌, inl, inr, ℕ, ◌+◌, ◌<◌, List, [], ◌∷◌, ◌++◌, length, sym, ap, subst, ◌∙◌}
+use Rattle.std.specs.Prelude.{Contains}
 use Rattle.std.proofs.lemmas.List.Elements.{All-cons, All-nil}
 use Rattle.wiring.specs.declared.netlist.Net.{Net}
 use Rattle.wiring.specs.declared.netlist.Holder.TheVariants.{OfNet, OfArray}
@@ -14,7 +15,7 @@ use Rattle.wiring.specs.Snapshot.{TakesPlace}
 use Rattle.net_build.specs.Includes.{Includes, AtEachEdge}
 use Rattle.net_build.specs.Draft.{IsDraft, IsNet, IsRegister, IsFree, number, with_update}
 use Rattle.net_build.specs.Runs.{StaysInside, NeverStops}
-use Rattle.net_build.specs.Control.{IsControl, IsControlled}
+use Rattle.net_build.specs.Control.{IsControlBut, TakesControl, IsControlled}
 use Rattle.net_build.proofs.Stops.{update_stops}
 use Rattle.net_build.proofs.Control.{update_control}
 use Rattle.net_build.proofs.Drafts.{draft_update, includes_update, last_update}
@@ -23,7 +24,7 @@ use Rattle.net_build.proofs.Room.{has_room}
 net_sound : (b : Netlist) (n : Net) → IsNet b n → AtomIsSound b (atom.Net n)
 net_sound b n h = record { nets = All-cons (IsDeclared b) n [] h.declared (All-nil (IsDeclared b)); constants = All-nil IsConstant }
 
--- what an update that is added must ensure
+-- what an update must meet to be added
 pub record CanAdd (b : Netlist) (u : Update) : Type 0 where
   pub draft : IsDraft (with_update b u)
   pub room : length b.updates < length b.regs + length b.arrays
@@ -41,7 +42,7 @@ pub can_put : (b : Netlist) (array : ℕ) (index value : Net) → IsDraft b → 
 can_put b array index value draft within at net same free =
     can_add b (Put array (atom.Net index) (atom.Net value)) draft (within, net_sound b index at, net_sound b value net, same) free
 
--- the same, where the conditions are on the builder's value
+-- with the conditions on the builder's value
 pub set_at : (b self : Netlist) (reg value : Net) → b ≡ self → IsDraft b → IsRegister self reg → IsNet self value → net_width self value ≡ net_width self reg → IsFree self (OfNet reg) → CanAdd b (Set (number reg) (atom.Net value))
 set_at b self reg value e draft register net same free =
     can_set b reg value draft
@@ -81,11 +82,16 @@ stops_put b self us x i a same e never inside =
     let there : StaysInside n (x, i) = subst (λ (l : List Update). StaysInside (updated b l) (x, i)) e inside in
     subst (λ (l : List Update). NeverStops (updated b l)) (sym e) (update_stops b (Put x i a) (subst NeverStops (sym same) never) (All-cons (StaysInside n) (x, i) [] there (All-nil (StaysInside n))))
 
-pub control_set : (b self : Netlist) (us : List Update) (r : ℕ) (value : Net) → b ≡ self → us ≡ b.updates ++ Set r (atom.Net value) ∷ [] → IsControlled self → IsControl (updated b us) (OfNet value) → IsControlled (updated b us)
-control_set b self us r value same e is takes =
+pub control_set : (b self : Netlist) (us : List Update) (r : ℕ) (value : Net) (copies : List ℕ) → b ≡ self → us ≡ b.updates ++ Set r (atom.Net value) ∷ [] → IsControlled self copies → Contains copies r ⊎ IsControlBut (updated b us) copies (OfNet value) → IsControlled (updated b us) copies
+control_set b self us r value copies same e is takes =
     let n : Netlist = with_update b (Set r (atom.Net value)) in
-    let here : IsControl n (OfNet value) = subst (λ (l : List Update). IsControl (updated b l) (OfNet value)) e takes in
-    subst (λ (l : List Update). IsControlled (updated b l)) (sym e) (update_control b (Set r (atom.Net value)) (subst IsControlled (sym same) is) (All-cons (IsControl n) (OfNet value) [] here (All-nil (IsControl n))))
+    subst (λ (l : List Update). IsControlled (updated b l) copies) (sym e) (update_control b (Set r (atom.Net value)) copies (subst (λ (x : Netlist). IsControlled x copies) (sym same) is) (by takes))
+  where
+    by : Contains copies r ⊎ IsControlBut (updated b us) copies (OfNet value) → TakesControl (with_update b (Set r (atom.Net value))) copies (Set r (atom.Net value))
+    by (inl c) = inl c
+    by (inr is) =
+        let n : Netlist = with_update b (Set r (atom.Net value)) in
+        inr (All-cons (IsControlBut n copies) (OfNet value) [] (subst (λ (l : List Update). IsControlBut (updated b l) copies (OfNet value)) e is) (All-nil (IsControlBut n copies)))
 
-pub control_put : (b self : Netlist) (us : List Update) (x : ℕ) (i a : Atom Net) → b ≡ self → us ≡ b.updates ++ Put x i a ∷ [] → IsControlled self → IsControlled (updated b us)
-control_put b self us x i a same e is = subst (λ (l : List Update). IsControlled (updated b l)) (sym e) (update_control b (Put x i a) (subst IsControlled (sym same) is) tt)
+pub control_put : (b self : Netlist) (us : List Update) (x : ℕ) (i a : Atom Net) (copies : List ℕ) → b ≡ self → us ≡ b.updates ++ Put x i a ∷ [] → IsControlled self copies → IsControlled (updated b us) copies
+control_put b self us x i a copies same e is = subst (λ (l : List Update). IsControlled (updated b l) copies) (sym e) (update_control b (Put x i a) copies (subst (λ (n : Netlist). IsControlled n copies) (sym same) is) tt)

@@ -1,6 +1,6 @@
 // Counters of clocks.
 
-ghost use Rattle.std.specs.Prelude.{ℕ, suc, ◌≡◌, ◌%◌, min, ◌<◌, ◌==◌, ◌^◌, nat_lt, if◌then◌else◌, [], ◌∷◌, ◌++◌, length, IfOk, OnOk};
+ghost use Rattle.std.specs.Prelude.{ℕ, suc, ◌≡◌, ◌%◌, min, ◌<◌, ◌==◌, ◌^◌, nat_lt, true, if◌then◌else◌, [], ◌∷◌, ◌++◌, length, IfOk, OnOk};
 ghost use Rattle.dk_base.specs.Numbers.{bit_count};
 ghost use Rattle.wiring.specs.declared.right.Atom.TheVariants as atom;
 ghost use Rattle.wiring.specs.Netlist.{net_width, reset_net};
@@ -9,12 +9,14 @@ ghost use Rattle.wiring.specs.Snapshot.{net_value};
 ghost use Rattle.wiring.specs.Clock.{bit};
 ghost use Rattle.net_build.specs.Includes.{Includes};
 ghost use Rattle.net_build.specs.Draft.{IsNet};
+ghost use Rattle.wiring.specs.declared.netlist.Holder.TheVariants.{OfNet};
 ghost use Rattle.net_build.specs.Runs.{StaysBelow};
+ghost use Rattle.net_build.specs.Control.{IsControl};
 ghost use Rattle.net_build.specs.Logic.{AddsLogic, Computes};
-ghost use Rattle.net_build.specs.Counters.{after, reached, control_nets, unless_held, taken, Counts, IsBehindReset, AddsRegister, AddsControl, Starts};
+ghost use Rattle.net_build.specs.Counters.{after, reached, control_nets, unless_held, taken, loaded, IsLoaded, Counts, IsBehindReset, AddsRegister, AddsControl, Starts, IsIndexNet, Cycles};
 
 use crate::builder::Builder;
-use crate::gates::{gate, number};
+use crate::gates::{driven, gate, number};
 use dk_base::{OutOfMemory, bits_for};
 use wiring::{Atom, Net, Operator, Right};
 
@@ -75,7 +77,8 @@ pub fn unless_held(b: &mut Builder, now: Net, next: Net, bits: u8) -> Result<Net
     requires next_width { net_width b.old next ≡ bits }
     requires bits { IsWidth bits }
     ensures logic { AddsLogic b.new b.old }
-    ensures net { IfOk result (Computes b.new b.old (control_nets b.old.enable ++ now ∷ (next ∷ [])) bits (λ s. unless_held b.old.enable (net_value s now) (net_value s next) s)) }
+    ensures net { IfOk result (Computes b.new b.old (control_nets b.old.enable ++ now ∷ (next ∷ []))
+        bits (λ s. unless_held b.old.enable (net_value s now) (net_value s next) s)) }
 {
     if b.has_en() {
         let en = b.en();
@@ -88,7 +91,35 @@ pub fn unless_held(b: &mut Builder, now: Net, next: Net, bits: u8) -> Result<Net
     Ok(next)
 }
 
-/// What a register takes that begins at `first` after a reset and does not change in held clocks: in a reset clock `first`, in a held clock `now`, and else `next`.
+/// What is next, or in a held clock what is now. In a reset clock it is what is next, with `en` 0 too.
+pub fn loaded(b: &mut Builder, now: Net, next: Net, bits: u8) -> Result<Net, OutOfMemory>
+    requires now { IsNet b.old now }
+    requires next { IsNet b.old next }
+    requires now_width { net_width b.old now ≡ bits }
+    requires next_width { net_width b.old next ≡ bits }
+    requires bits { IsWidth bits }
+    ensures logic { AddsLogic b.new b.old }
+    ensures net { IfOk result (Computes b.new b.old (control_nets b.old.enable ++ now ∷ (next ∷ []))
+        bits (λ s. loaded b.old.enable (net_value s now) (net_value s next) s)) }
+    ensures right { IfOk result (IsLoaded b.new now next) }
+{
+    if b.has_en() {
+        let reset = b.rst();
+        let en = b.en();
+        let going = driven(
+            b,
+            Right::Binary(Operator::Or, Atom::Net(reset), Atom::Net(en)),
+        )?;
+        let net = driven(
+            b,
+            Right::Choose(Atom::Net(going), Atom::Net(next), Atom::Net(now)),
+        )?;
+        return Ok(net);
+    }
+    Ok(next)
+}
+
+/// What a register takes that begins at `first` after a reset and is still in held clocks: in a reset clock `first`, in a held clock `now`, and else `next`.
 pub fn register_value(
     b: &mut Builder,
     now: Net,
@@ -103,7 +134,8 @@ pub fn register_value(
     requires bits { IsWidth bits }
     requires first { first < 2 ^ bits }
     ensures logic { AddsLogic b.new b.old }
-    ensures net { IfOk result (Computes b.new b.old (control_nets b.old.enable ++ now ∷ (next ∷ [])) bits (λ s. taken b.old.enable first (net_value s now) (net_value s next) s)) }
+    ensures net { IfOk result (Computes b.new b.old (control_nets b.old.enable ++ now ∷ (next ∷ []))
+        bits (λ s. taken b.old.enable first (net_value s now) (net_value s next) s)) }
 {
     let going = unless_held(b, now, next, bits)?;
     let reset = b.rst();
@@ -134,8 +166,10 @@ fn registered(
     requires bits { IsWidth bits }
     requires last { last < 2 ^ bits }
     ensures logic { AddsLogic b.new b.old }
-    ensures index { IfOk result (λ c. Computes b.new b.old (control_nets b.old.enable ++ register ∷ []) bits (λ s. if net_value s reset_net == 1 then 0 else net_value s register) c.index) }
-    ensures next { IfOk result (λ c. Computes b.new b.old (control_nets b.old.enable ++ register ∷ []) bits (λ s. taken b.old.enable 0 (net_value s c.index) (after wraps last (net_value s c.index)) s) c.next) }
+    ensures index { IfOk result (λ c. Computes b.new b.old (control_nets b.old.enable ++ register ∷ [])
+        bits (λ s. if net_value s reset_net == 1 then 0 else net_value s register) c.index) }
+    ensures next { IfOk result (λ c. Computes b.new b.old (control_nets b.old.enable ++ register ∷ []) bits
+        (λ s. taken b.old.enable 0 (net_value s c.index) (after wraps last (net_value s c.index)) s) c.next) }
 {
     let reset = b.rst();
     let index = gate(
@@ -163,7 +197,7 @@ fn counter_of(b: &mut Builder, last: u64, wraps: bool) -> Result<Net, OutOfMemor
     Ok(values.index)
 }
 
-/// A net that counts clocks from 0 to `last`, and then from 0 again: the number of the counted clocks since a reset, modulo `last` and one. It is 0 in a reset clock, and does not change in held clocks. It has a register after it.
+/// A net that counts clocks from 0 to `last`, and then from 0 again: the number of the counted clocks since a reset, modulo `last` and one. It is 0 in a reset clock, and does not change in held clocks. It has one register.
 pub fn counter(b: &mut Builder, last: u64) -> Result<Net, OutOfMemory>
     ensures includes { Includes b.new b.old }
     ensures adds { OnOk result (AddsRegister b.new b.old (bit_count last)) }
@@ -176,7 +210,7 @@ pub fn counter(b: &mut Builder, last: u64) -> Result<Net, OutOfMemory>
     Ok(net)
 }
 
-/// The same, but that it stays at `last`.
+/// A net that counts clocks from 0 to `last`, and stays there. Else it is as `counter`.
 pub fn counter_up_to(b: &mut Builder, last: u64) -> Result<Net, OutOfMemory>
     ensures includes { Includes b.new b.old }
     ensures adds { OnOk result (AddsRegister b.new b.old (bit_count last)) }
@@ -189,12 +223,73 @@ pub fn counter_up_to(b: &mut Builder, last: u64) -> Result<Net, OutOfMemory>
     Ok(net)
 }
 
-/// A net that says whether `last` clocks were counted since a reset. It is 0 in a reset clock. At 0 it takes no register.
+// Indices from a register, and what it takes.
+#[derive(Clone, Copy)]
+struct CycleValues {
+    now: Net,
+    next: Net,
+    taken: Net,
+}
+
+// The indices 0 to `last` from a register, which begins a cycle after a reset: in a reset clock `now` is `last`, and 0 follows.
+fn cycled(b: &mut Builder, register: Net, bits: u8, last: u64) -> Result<CycleValues, OutOfMemory>
+    requires register { IsNet b.old register }
+    requires width { net_width b.old register ≡ bits }
+    requires bits { IsWidth bits }
+    requires last { last < 2 ^ bits }
+    ensures logic { AddsLogic b.new b.old }
+    ensures now { IfOk result (λ c. Computes b.new b.old (control_nets b.old.enable ++ register ∷ [])
+        bits (λ s. if net_value s reset_net == 1 then last else net_value s register) c.now) }
+    ensures next { IfOk result (λ c. Computes b.new b.old (control_nets b.old.enable ++ register ∷ []) bits (λ s. after true last (net_value s c.now)) c.next) }
+    ensures taken { IfOk result (λ c. Computes b.new b.old (control_nets b.old.enable ++ register ∷ [])
+        bits (λ s. loaded b.old.enable (net_value s register) (net_value s c.next) s) c.taken) }
+{
+    let reset = b.rst();
+    let now = gate(
+        b,
+        Right::Choose(Atom::Net(reset), number(bits, last), Atom::Net(register)),
+    )?;
+    let more = count(b, now, bits, last, true)?;
+    let taken = loaded(b, register, more.next, bits)?;
+    Ok(CycleValues {
+        now,
+        next: more.next,
+        taken,
+    })
+}
+
+/// Two indices into an array: that of this clock's write, and that of the next counted clock.
+#[derive(Clone, Copy)]
+pub struct Indices {
+    pub now: Net,
+    pub next: Net,
+}
+
+/// The indices 0 to `last` in a cycle, a step in each counted clock. In a reset clock `now` is `last` and `next` is 0, so the two differ in each clock if `last` is above 0. It has one register, which is still in held clocks.
+pub fn cycle(b: &mut Builder, last: u64) -> Result<Indices, OutOfMemory>
+    ensures includes { Includes b.new b.old }
+    ensures adds { OnOk result (AddsRegister b.new b.old (bit_count last)) }
+    ensures now { IfOk result (λ c. IsIndexNet b.new (length b.old.regs) (bit_count last) last c.now) }
+    ensures next { IfOk result (λ c. IsIndexNet b.new (length b.old.regs) (bit_count last) last c.next) }
+    ensures cycles { IfOk result (λ c. Cycles b.new last c.now c.next) }
+{
+    let bits = bits_for(last);
+    let register = b.reg(bits)?;
+    let values = cycled(b, register, bits, last)?;
+    b.set(register, values.taken);
+    Ok(Indices {
+        now: values.now,
+        next: values.next,
+    })
+}
+
+/// A net that is whether `last` clocks were counted since a reset. It is 0 in a reset clock. At 0 it uses no register.
 pub fn started(b: &mut Builder, last: u64) -> Result<Net, OutOfMemory>
     ensures adds { OnOk result (AddsControl b.new b.old) }
     ensures net { IfOk result (IsNet b.new) }
     ensures width { IfOk result (λ n. net_width b.new n ≡ 1) }
     ensures starts { IfOk result (Starts b.new last) }
+    ensures control { IfOk result (λ n. IsControl b.new (OfNet n)) }
 {
     if last == 0 {
         let reset = b.rst();

@@ -1,6 +1,6 @@
 // Wires over nets and constants.
 
-ghost use Rattle.std.specs.Prelude.{◌≡◌, ◌<◌, ◌^◌, [], IfOk};
+ghost use Rattle.std.specs.Prelude.{◌≡◌, ◌<◌, ◌^◌, [], Contains, IfOk};
 ghost use Rattle.wiring.specs.declared.right.Atom.TheVariants as atom;
 ghost use Rattle.wiring.specs.Sizes.{IsWidth};
 ghost use Rattle.wiring.specs.Snapshot.{right_accesses};
@@ -26,6 +26,18 @@ pub fn gate(b: &mut Builder, right: Right<Net, usize>) -> Result<Net, OutOfMemor
     requires no_array { right_accesses right ≡ [] }
     ensures logic { AddsLogic b.new b.old }
     ensures gate { IfOk result (IsGate b.new b.old right) }
+{
+    let net = b.op(right)?;
+    Ok(net)
+}
+
+// The net of a right side that reads no array, with the assign that drives it.
+pub fn driven(b: &mut Builder, right: Right<Net, usize>) -> Result<Net, OutOfMemory>
+    requires operation { IsOperation b.old right }
+    requires no_array { right_accesses right ≡ [] }
+    ensures logic { AddsLogic b.new b.old }
+    ensures gate { IfOk result (IsGate b.new b.old right) }
+    ensures made { IfOk result (λ n. Contains b.new.assigns (record { target = n; right = right })) }
 {
     let net = b.op(right)?;
     Ok(net)

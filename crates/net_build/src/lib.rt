@@ -12,7 +12,10 @@ mod ports;
 mod size;
 
 pub use builder::Builder;
-pub use counters::{Counted, count, counter, counter_up_to, register_value, started, unless_held};
+pub use counters::{
+    Counted, Indices, count, counter, counter_up_to, cycle, loaded, register_value, started,
+    unless_held,
+};
 pub use gates::{gate, number};
 pub use laws::{
     held_law, indices_last_law, outputs_shown_law, parts_grow_law, ports_shown_law, reads_grow_law,

@@ -1,5 +1,5 @@
 -- What a ring of three words gives.
-use Rattle.std.proofs.Common.{◌≡◌, ℕ, suc, ◌+◌, ◌%◌, ◌<◌, ◌≤◌, Bool, true, false, List, [], ◌∷◌, length, sym, ap, subst, ◌∙◌, inl, inr, arith}
+use Rattle.std.proofs.Common.{◌≡◌, ℕ, suc, ◌+◌, ◌%◌, ◌<◌, ◌≤◌, Bool, false, List, [], ◌∷◌, length, sym, ap, subst, ◌∙◌, inl, inr, arith}
 use Rattle.std.specs.Prelude.{if◌then◌else◌, IsTrue, slice_get, slice_set, slice_index, slice_index_or, Some, map, unwrap_or}
 use Rattle.std.specs.Option.{option_map}
 use Rattle.wiring.specs.declared.right.Atom.TheVariants as atom

@@ -1,3 +1,2 @@
 pub mod Finished
 pub mod Counted
-pub mod Buffered

@@ -53,7 +53,8 @@ pub fn write_outputs(
 ) -> Result<(), OutOfMemory>
     requires { AreFrames ir.now round.now.frames.items }
     ensures { OnOk result (file.new.items
-        ≡ file.old.items ++ file_of (output_images ir.now.size (types_of ir.now) ir.now.outputs (pictures ir.now (round_of ir.now.size round.now.frames.items)))) }
+        ≡ file.old.items ++ file_of (output_images ir.now.size (types_of ir.now) ir.now.outputs
+        (pictures ir.now (round_of ir.now.size round.now.frames.items)))) }
 {
     ir.law();
     meaning_law(ir);

@@ -10,19 +10,19 @@ use Rattle.wiring.specs.Snapshot.{Contents}
 use Rattle.pgm_codec.specs.declared.header.Header.{Header}
 use Rattle.pgm_codec.specs.declared.raster.RasterFault.{RasterFault}
 use Rattle.pgm_codec.specs.declared.raster.RasterFault.TheVariants.{SampleTooGreat}
-use Rattle.pgm_codec.specs.Rasters.{JudgesRow, JudgesRaster, row_length}
+use Rattle.pgm_codec.specs.Rasters.{JudgesRow, row_length}
 use Rattle.pgm_codec.proofs.Stays.{reads_more}
 use Rattle.pgm_rounds.specs.declared.fault.FileFault.{FileFault}
-use Rattle.pgm_rounds.specs.Files.{IsFault, IsHeaded, Refused}
+use Rattle.pgm_rounds.specs.Files.{IsFault, IsHeaded}
 use Rattle.row_stream.specs.declared.line.Line.{Line}
 use Rattle.row_stream.specs.declared.rows.RowsFault.TheVariants.{Raster}
 use Rattle.row_stream.specs.declared.faults.StreamFault.{StreamFault}
-use Rattle.row_stream.specs.declared.faults.StreamFault.TheVariants.{Image, Read, Write}
+use Rattle.row_stream.specs.declared.faults.StreamFault.TheVariants.{Image}
 use Rattle.row_stream.specs.Lines.{Kind}
 use Rattle.row_stream.specs.Heads.{TakesHead, FitsHeader}
 use Rattle.row_stream.specs.RowReading.{Streams, EndsReading}
-use Rattle.row_stream.specs.ImageReading.{Images, EndsImage, Stands, StreamsAll, EndsBehind, EndsInside, found_behind, found_inside, EndsAtFault, lost_behind, lost_inside, EndsImages, unread}
-use Rattle.row_stream.specs.Ends.{one_port, greatest, RefusesNext, refused, too_many, EndsNext}
+use Rattle.row_stream.specs.ImageReading.{Images, EndsImage, Stands, StreamsAll, EndsBehind, EndsInside, EndsImages, found_behind, found_inside, unread}
+use Rattle.row_stream.specs.Ends.{one_port, greatest, EndsNext, in_header, at_byte}
 use Rattle.row_stream.proofs.Clocks.{goes_none}
 use Rattle.row_stream.proofs.RowLemmas.{read_only}
 use Rattle.row_stream.proofs.Rasters.{times}
@@ -102,26 +102,24 @@ module _ (kind : Kind) (m : Netlist) (bits count offset : ℕ) (header : Header)
 
 -- what was refused after images is the file's first fault
 module _ (kind : Kind) (m : Netlist) (bits : ℕ) (f : FileFault) (all : Option (List ℕ)) (from : Contents) (old : Line) (before now : Outside) where
-  first_behind : (e : EndsBehind kind m bits (Image f) all from old before now) → RefusesNext kind.size bits e.count (length e.images.bytes) f e.half.image now.image → (file : List ℕ) → all ≡ Some file → IsFault (one_port kind.size bits) file f
-  first_behind e (refused few r) file told =
+  first_behind : (e : EndsBehind kind m bits (Image f) all from old before now) → EndsNext kind.size bits e.count (length e.images.bytes) (Image f) e.half.image now.image → (file : List ℕ) → all ≡ Some file → IsFault (one_port kind.size bits) file f
+  first_behind e (in_header few r) file told =
       let p = told_parts e.images.bytes e.half.image.rest file (sym e.images.given ∙ told) in
       let q = told_parts r.read now.image.rest p.0 (sym r.given ∙ p.1) in
       first_refused kind.size bits e.count e.images.images e.images.bytes (r.read ++ q.0) file f (p.2 ∙ ap (λ z. e.images.bytes ++ z) q.2) e.images.are e.images.fit e.images.count_is few
       (λ _. let l : 0 < length r.read = r.some refl in omega (arith, l, length-append r.read q.0)) (r.refused e.count q.0 q.1)
-  first_behind e (too_many full is byte given) file told =
+  first_behind e (at_byte full w) file told =
+      let byte = w.0 in
       let p = told_parts e.images.bytes e.half.image.rest file (sym e.images.given ∙ told) in
-      let q = told_parts (byte ∷ []) now.image.rest p.0 (sym given ∙ p.1) in
-      subst (λ z. IsFault (one_port kind.size bits) file z) (sym is)
+      let q = told_parts (byte ∷ []) now.image.rest p.0 (sym w.2 ∙ p.1) in
+      subst (λ z. IsFault (one_port kind.size bits) file z) (sym w.1)
       (first_too_many kind.size bits e.images.images e.images.bytes (byte ∷ q.0) file (p.2 ∙ ap (λ z. e.images.bytes ++ z) q.2) e.images.are e.images.fit (e.images.count_is ∙ full) (omega arith))
 
-  pub fault_behind : EndsBehind kind m bits (Image f) all from old before now → EndsAtFault kind m bits f all from old before now
-  fault_behind e = record { found = found_behind e; first = first_behind e e.why }
-
-  first_inside : (g : RasterFault) → (e : EndsInside kind m bits (Raster g) all from old before now) → ((offset : ℕ) (bytes : List ℕ) → IsHeaded kind.size bits bytes e.header → JudgesRaster bytes e.header (Err g) → Refused kind.size bits e.count offset bytes f)
-      → (file : List ℕ) → all ≡ Some file → IsFault (one_port kind.size bits) file f
-  first_inside g e is file told =
+  first_inside : EndsInside kind m bits (Image f) all from old before now → (file : List ℕ) → all ≡ Some file → IsFault (one_port kind.size bits) file f
+  first_inside e file told =
       let at = e.at in
-      let w = e.why in
+      let g = e.why.0 in
+      let w = e.why.1 in
       let p = told_parts at.images.bytes at.half.image.rest file (sym at.images.given ∙ told) in
       let q = told_parts at.head e.half.image.rest p.0 (sym at.given ∙ p.1) in
       let r = told_parts w.streams.raster w.half.image.rest q.0 (sym w.streams.given ∙ q.1) in
@@ -131,22 +129,13 @@ module _ (kind : Kind) (m : Netlist) (bits : ℕ) (f : FileFault) (all : Option 
       let headed : IsHeaded kind.size bits rest e.header = record { reads = reads_more at.head (w.streams.raster ++ (w.fault.read ++ s.0)) e.header at.reads; sized = e.fits.sized; maxval = e.fits.maxval } in
       first_refused kind.size bits e.count at.images.images at.images.bytes rest file f parts at.images.are at.images.fit at.images.count_is e.few
       (λ _. let l : 0 < length at.head = reads_some at.head e.header at.reads in omega (arith, l, length-append at.head (w.streams.raster ++ (w.fault.read ++ s.0))))
-      (is (length at.images.bytes) rest headed (judged_raster e.header w.rows w.streams.raster w.streams.are w.inside at.head w.fault.read s.0 g at.exact w.fault.within (λ l. at_end now.image.rest s.0 (w.fault.end l) s.1) w.fault.judged))
+      (e.why.2 (length at.images.bytes) rest headed (judged_raster e.header w.rows w.streams.raster w.streams.are w.inside at.head w.fault.read s.0 g at.exact w.fault.within (λ l. at_end now.image.rest s.0 (w.fault.end l) s.1) w.fault.judged))
 
-  pub fault_inside : (g : RasterFault) → (e : EndsInside kind m bits (Raster g) all from old before now) → ((offset : ℕ) (bytes : List ℕ) → IsHeaded kind.size bits bytes e.header → JudgesRaster bytes e.header (Err g) → Refused kind.size bits e.count offset bytes f)
-      → EndsAtFault kind m bits f all from old before now
-  fault_inside g e is = record { found = found_inside g e; first = first_inside g e is }
-
-pub ends_further : (kind : Kind) (m : Netlist) (bits : ℕ) (f : StreamFault) (all : Option (List ℕ)) (from : Contents) (old : Line) (before now : Outside) → EndsBehind kind m bits f all from old before now → EndsImages kind m bits f all from old before now
-ends_further kind m bits (Image f) all from old before now e = fault_behind kind m bits f all from old before now e
-ends_further kind m bits Read all from old before now e = lost_behind e
-ends_further kind m bits Write all from old before now e = absurd e.why
+  pub first_fault : EndsImages kind m bits (Image f) all from old before now → (file : List ℕ) → all ≡ Some file → IsFault (one_port kind.size bits) file f
+  first_fault (found_behind e) = first_behind e e.why
+  first_fault (found_inside e) = first_inside e
 
 pub ends_image : (kind : Kind) (m : Netlist) (bits count offset : ℕ) (f : StreamFault) (header : Header) (all : Option (List ℕ)) (from mid : Contents) (old between : Line) (before half now : Outside) → FitsHeader kind.size bits header → count < MAX_FILE_IMAGES
     → Stands kind m bits count offset header all from mid old between before half → EndsImage kind m header bits count f mid between half now → EndsImages kind m bits f all from old before now
-ends_image kind m bits count offset (Image f) header all from mid old between before half now fits few s e =
-    fault_inside kind m bits f all from old before now e.0 (record { count = count; few = few; header = header; fits = fits; to = mid; new = between; half = half; at = s.at; why = e.1 }) e.2
-ends_image kind m bits count offset Read header all from mid old between before half now fits few s e =
-    lost_inside (record { count = count; few = few; header = header; fits = fits; to = mid; new = between; half = half; at = s.at; why = e })
-ends_image kind m bits count offset Write header all from mid old between before half now fits few s e =
-    record { count = count; few = few; header = header; fits = fits; to = mid; new = between; half = half; at = s.at; why = e }
+ends_image kind m bits count offset f header all from mid old between before half now fits few s e =
+    found_inside (record { count = count; few = few; header = header; fits = fits; to = mid; new = between; half = half; at = s.at; why = e })

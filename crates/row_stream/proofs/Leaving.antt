@@ -1,5 +1,5 @@
 -- What a stream leaves, of what was clocked since File was created.
-use Rattle.std.proofs.Common.{◌≡◌, ℕ, zero, suc, ◌+◌, ◌*◌, ◌<◌, ◌≤◌, Bool, false, List, [], ◌∷◌, ◌++◌, take, drop, map, replicate, Option, Some, None, Err, Result, inl, inr, ◌⊎◌, refl, ap, sym, subst, ◌∙◌, arith, append-nil}
+use Rattle.std.proofs.Common.{◌≡◌, ◌≢◌, ℕ, zero, suc, ◌+◌, ◌*◌, ◌<◌, ◌≤◌, Bool, false, List, [], ◌∷◌, ◌++◌, length, take, drop, map, replicate, Option, Some, None, Err, Result, inl, inr, ◌⊎◌, refl, ap, sym, subst, ◌∙◌, arith, append-nil}
 use Rattle.dk_base.specs.declared.TheConstants.{MAX_FILE_IMAGES}
 use Rattle.std.specs.Option.{option_map}
 use Rattle.std.specs.List.{range_with_len}
@@ -20,26 +20,27 @@ use Rattle.pgm_codec.specs.Images.{IsRaster, raster_of}
 use Rattle.pgm_rounds.specs.declared.fault.FileFault.{FileFault}
 use Rattle.row_stream.specs.declared.line.Line.{Line}
 use Rattle.row_stream.specs.declared.rows.RowsFault.{RowsFault}
-use Rattle.row_stream.specs.declared.rows.RowsFault.TheVariants.{Raster, Read as RowsRead, Write as RowsWrite}
+use Rattle.row_stream.specs.declared.rows.RowsFault.TheVariants.{Raster, Read as RowsRead}
 use Rattle.row_stream.specs.declared.faults.StreamFault.{StreamFault}
 use Rattle.row_stream.specs.declared.faults.StreamFault.TheVariants.{Image, Read, Write}
 use Rattle.row_stream.specs.Lines.{Kind, head, lines, line_at}
 use Rattle.row_stream.specs.Moving.{Gains, GainsBut}
 use Rattle.row_stream.specs.Standing.{note_of, pixel_clock, reset_clock, Starts, Lasts}
 use Rattle.row_stream.specs.Progress.{Writes, FailsInLine, Goes, Fails, pixel_clocks}
-use Rattle.row_stream.specs.Heads.{FitsHeader}
-use Rattle.row_stream.specs.HeadReading.{EndsHeading}
+use Rattle.row_stream.specs.Heads.{EndsHeading}
 use Rattle.row_stream.specs.RowReading.{AreRows, Streams, EndsReading, samples_in}
 use Rattle.row_stream.specs.Images.{samples_of}
-use Rattle.row_stream.specs.ImageReading.{AtHead, EndsBehind, EndsInside, FindsFault, found_behind, found_inside, EndsAtRead, lost_behind, lost_inside, EndsImages, StreamsAll, unread}
-use Rattle.row_stream.specs.Ends.{greatest}
-use Rattle.row_stream.specs.Whole.{IsFresh, Creates, drive, Shows, FailsShowing, ShowsLines, LeavesAll, LeavesBehind, LeavesInside, FailsInside, LeavesAtFault, at_start, behind, inside, LeavesAtRead, read_at_start, read_behind, read_inside, write_inside, write_behind, Leaves}
+use Rattle.row_stream.specs.Rows.{IsLineFault}
+use Rattle.row_stream.specs.ImageReading.{AtHead, EndsBehind, EndsInside, EndsImages, found_behind, found_inside, StreamsAll, unread}
+use Rattle.row_stream.specs.Ends.{greatest, EndsNext, in_header, at_byte}
+use Rattle.row_stream.specs.Whole.{IsFresh, Creates, drive, Shows, FailsShowing, ShowsLines, LeavesAll, LeavesBehind, LeavesInside, FailsInside, LeavesEarly, at_start, behind, inside, write_inside, write_behind, Leaves}
 use Rattle.row_stream.proofs.Clocks.{goes_join, goes_none, runs_join, shown_join, notes_join}
-use Rattle.row_stream.proofs.RowLemmas.{goes_read, gains_read, read_only}
+use Rattle.row_stream.proofs.RowLemmas.{goes_read, gains_read}
 use Rattle.row_stream.proofs.Adds.{by_sample, times_turned}
 use Rattle.row_stream.proofs.Taken.{samples, is_raster, sample_is}
 use Rattle.row_stream.proofs.FirstFault.{first_refused, told_parts, fits_file}
 use Rattle.row_stream.proofs.HeadEnds.{at_end}
+use Rattle.row_stream.proofs.ImageEnds.{first_fault}
 
 -- ---- bytes and notes after the header
 
@@ -192,6 +193,17 @@ zeros : (n a : ℕ) → map (λ (k : ℕ). pixel_clock 0) (range_with_len a n) �
 zeros zero a = refl
 zeros (suc n) a = ap (λ z. pixel_clock 0 ∷ z) (zeros n (a + 1))
 
+apart : (f : FileFault) → ◌≡◌ {A = StreamFault} (Image f) Read → ⊥
+apart f e = cc
+
+-- a count that is greater only after a failed read
+pub unless_read : (f : StreamFault) (before now : ℕ) → before ≤ now → (before < now → f ≡ Read) → f ≢ Read → now ≡ before
+unless_read f before now later always other = by (cases_lt before now)
+  where
+    by : (before < now) ⊎ (now ≤ before) → now ≡ before
+    by (inl l) = absurd (other (always l))
+    by (inr l) = omega (arith, l, later)
+
 -- ---- the images, after the reset clock
 
 module _ (kind : Kind) (m : Netlist) (bits latency : ℕ) (name : List ℕ) (from first : Contents) (line next : Line) (old before created begun reset : Outside) (fresh : IsFresh line) (some : 0 < kind.size.width)
@@ -256,22 +268,21 @@ module _ (kind : Kind) (m : Netlist) (bits latency : ℕ) (name : List ℕ) (fro
       shows = shows_of kind m from line created begun fresh some header (drive seen) to new now lines_driven;
     }
 
-  leaves_inside : (f : RowsFault) (now : Outside) (count : ℕ) (h : Header) (mid : Contents) (between : Line) (half : Outside) → count < MAX_FILE_IMAGES → FitsHeader kind.size bits h → AtHead kind m (greatest bits) count h all first mid next between start half → EndsReading kind m h f mid between half now
-      → LeavesInside kind m bits f all from created now
-  leaves_inside f now count h mid between half few fits at e = record {
-    count = count;
-    few = few;
-    header = h;
-    fits = fits;
-    rows = e.rows;
-    inside = e.inside;
-    half = e.half;
-    taken = shows_lines count h e.rows mid e.to between e.new half e.half at e.streams;
-    why = e.fault;
-    only = e.only;
+  leaves_inside : (f : StreamFault) (g : RowsFault) (now : Outside) → (e : EndsInside kind m bits f all first next start now) → (r : EndsReading kind m e.header g e.to e.new e.half now) → IsLineFault e.header r.rows f r.half.image now.image → LeavesInside kind m bits f all from created now
+  leaves_inside f g now e r why = record {
+    count = e.count;
+    few = e.few;
+    header = e.header;
+    fits = e.fits;
+    rows = r.rows;
+    inside = r.inside;
+    half = r.half;
+    taken = shows_lines e.count e.header r.rows e.to r.to e.new r.new e.half r.half e.at r.streams;
+    why = why;
+    only = r.only;
   }
 
-  fails_inside : (now : Outside) → EndsInside kind m bits RowsWrite all first next start now → FailsInside kind m bits all from created now
+  fails_inside : (now : Outside) → EndsInside kind m bits Write all first next start now → FailsInside kind m bits all from created now
   fails_inside now e =
       let w = e.why in
       record {
@@ -294,18 +305,20 @@ module _ (kind : Kind) (m : Netlist) (bits latency : ℕ) (name : List ℕ) (fro
             (subst (λ n. Fails kind m (pixel_clocks (samples_in e.header.maxval w.row) n) w.mid w.between w.read now) (let d : e.header.width ≡ 1 * e.header.width = omega arith in d) w.fails)));
       }
 
-  found : (f : FileFault) (now : Outside) → FindsFault kind m bits f all first next start now → LeavesAtFault kind m bits f name from old now
-  found f now (found_behind e) = behind created made (leaves_behind (Image f) now e)
-  found f now (found_inside g e) = inside created made g (leaves_inside (Raster g) now e.count e.header e.to e.new e.half e.few e.fits e.at e.why)
+  no_next : (images offset : ℕ) (half now : Input) → EndsNext kind.size bits images offset Write half now → ⊥
+  no_next images offset half now (in_header few e) = e
+  no_next images offset half now (at_byte full e) = e
 
-  lost : (now : Outside) → EndsAtRead kind m bits all first next start now → LeavesAtRead kind m bits name from old now
-  lost now (lost_behind e) = read_behind created made (leaves_behind Read now e)
-  lost now (lost_inside e) = read_inside created made (leaves_inside RowsRead now e.count e.header e.to e.new e.half e.few e.fits e.at e.why)
-
-  pub leaves_images : (f : StreamFault) (now : Outside) → EndsImages kind m bits f all first next start now → Leaves kind m bits latency f name from old now
-  leaves_images (Image f) now e = record { leaves = found f now e.found; first = e.first }
-  leaves_images Read now e = lost now e
-  leaves_images Write now e = write_inside created made (fails_inside now e)
+  pub leaves_images : (f : StreamFault) (now : Outside) → EndsImages kind m bits f all first next start now → (f ≢ Read → now.input_failures ≡ old.input_failures) → Leaves kind m bits latency f name from old now
+  leaves_images (Image f) now e same = record { leaves = early e; first = first_fault kind m bits f all first next start now e; no_failure = same (apart f) }
+    where
+      early : EndsImages kind m bits (Image f) all first next start now → LeavesEarly kind m bits (Image f) name from old now
+      early (found_behind e) = behind created made (leaves_behind (Image f) now e)
+      early (found_inside e) = inside created made (leaves_inside (Image f) (Raster e.why.0) now e e.why.1 (e.why.0, e.why.1.fault))
+  leaves_images Read now (found_behind e) same = behind created made (leaves_behind Read now e)
+  leaves_images Read now (found_inside e) same = inside created made (leaves_inside Read RowsRead now e e.why e.why.fault)
+  leaves_images Write now (found_behind e) same = absurd (no_next e.count (length e.images.bytes) e.half.image now.image e.why)
+  leaves_images Write now (found_inside e) same = write_inside created made (fails_inside now e)
 
   pub leaves_all : (mid to : Contents) (between new : Line) (half now : Outside) → StreamsAll kind m bits all first mid next between start half → Goes kind m (pixel_clocks (λ k. 0) latency) mid to between new half now → now.image ≡ half.image → LeavesAll kind m bits latency name from old now
   leaves_all mid to between new half now a g idle = record {
@@ -343,23 +356,17 @@ module _ (kind : Kind) (m : Netlist) (bits latency : ℕ) (name : List ℕ) (fro
 
 -- ---- the first header
 
-apart : (f : FileFault) → ◌≡◌ {A = StreamFault} (Image f) Read → ⊥
-apart f e = cc
-
 pub leaves_first : (kind : Kind) (m : Netlist) (bits latency : ℕ) (name : List ℕ) (from : Contents) (old now : Outside) (f : StreamFault) → EndsHeading kind.size bits 0 false f old.image now.image → ReadsOnly ImageSlot old now
     → old.input_failures ≤ now.input_failures → (old.input_failures < now.input_failures → f ≡ Read) → Leaves kind m bits latency f name from old now
 leaves_first kind m bits latency name from old now (Image f) h only later always = record {
-  leaves = at_start h (read_only old now only (same (cases_lt old.input_failures now.input_failures)));
+  leaves = at_start h only;
+  no_failure = unless_read (Image f) old.input_failures now.input_failures later always (apart f);
   first = λ file told.
       let p = told_parts h.read now.image.rest file (sym h.given ∙ told) in
       first_refused kind.size bits 0 [] [] (h.read ++ p.0) file f p.2 refl tt refl (omega arith) (λ l. absurd (omega (arith, l))) (h.refused 0 p.0 p.1);
 }
-  where
-    same : (old.input_failures < now.input_failures) ⊎ (now.input_failures ≤ old.input_failures) → now.input_failures ≡ old.input_failures
-    same (inl l) = absurd (apart f (always l))
-    same (inr l) = omega (arith, l, later)
-leaves_first kind m bits latency name from old now Read h only later always = read_at_start h only
+leaves_first kind m bits latency name from old now Read h only later always = at_start h only
 leaves_first kind m bits latency name from old now Write h only later always = absurd h
 
-pub taken_out : (f : StreamFault) → ◌≡◌ {A = Result (Option Header) StreamFault} (Err f) (Err Read) → f ≡ Read
+pub taken_out : {T : Type 0} (f : StreamFault) → ◌≡◌ {A = Result T StreamFault} (Err f) (Err Read) → f ≡ Read
 taken_out f e = cc

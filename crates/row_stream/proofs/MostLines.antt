@@ -21,12 +21,11 @@ use Rattle.pgm_codec.proofs.Judged.{raster_holds}
 use Rattle.pgm_rounds.proofs.Readings.{OneImage}
 use Rattle.pgm_rounds.specs.Files.{IsHeaded}
 use Rattle.row_stream.specs.Heads.{FitsHeader}
-use Rattle.row_stream.specs.declared.rows.RowsFault.TheVariants.{Raster, Read as RowsRead}
 use Rattle.row_stream.specs.declared.faults.StreamFault.TheVariants.{Image as ImageFails, Read}
 use Rattle.row_stream.specs.Lines.{Kind}
 use Rattle.row_stream.specs.Whole.{LeavesBehind, LeavesInside}
 use Rattle.row_stream.specs.Images.{FitsImage}
-use Rattle.row_stream.specs.Ends.{greatest, refused, too_many, in_header, at_byte, RefusesNext, LosesNext}
+use Rattle.row_stream.specs.Ends.{greatest, EndsNext, in_header, at_byte}
 use Rattle.row_stream.specs.Most.{BeginsLines, nothing, lines, image, EndsLines}
 use Rattle.row_stream.proofs.Rasters.{placed_front, placed_back, times, row_bytes}
 use Rattle.row_stream.proofs.HeadLemmas.{nothing as none_behind, first_nothing}
@@ -188,27 +187,27 @@ module _ (one : OneImage) (kind : Kind) (m : Netlist) (bits : ℕ) (from : Conte
   pub fault_behind : (f : FileFault) (file : List ℕ) → (e : LeavesBehind kind m bits (ImageFails f) (Some file) from created now) → e.count < MAX_FILE_IMAGES → EndsLines kind.size bits file (e.count * kind.size.height)
   fault_behind f file e few = by e.why
     where
-      by : RefusesNext kind.size bits e.count (length e.taken.bytes) f e.half.image now.image → EndsLines kind.size bits file (e.count * kind.size.height)
-      by (too_many full is byte given) = absurd (omega (arith, full, few))
-      by (refused l r) =
+      by : EndsNext kind.size bits e.count (length e.taken.bytes) (ImageFails f) e.half.image now.image → EndsLines kind.size bits file (e.count * kind.size.height)
+      by (at_byte full w) = absurd (omega (arith, full, few))
+      by (in_header l r) =
           let p = told_parts e.taken.bytes e.half.image.rest file (sym e.taken.given) in
           let q = told_parts r.read now.image.rest p.0 (sym r.given ∙ p.1) in
           ends_behind one kind.size bits e.count e.taken.images e.taken.bytes p.0 file e.taken.are e.taken.fit e.taken.count_is p.2 (λ h i. r.none q.0 q.1 h (subst (λ z. IsHeaded kind.size bits z h) q.2 i))
 
-  pub fault_inside : (f : RasterFault) (file : List ℕ) → (e : LeavesInside kind m bits (Raster f) (Some file) from created now) → EndsLines kind.size bits file (e.count * kind.size.height + e.rows)
+  pub fault_inside : (f : FileFault) (file : List ℕ) → (e : LeavesInside kind m bits (ImageFails f) (Some file) from created now) → EndsLines kind.size bits file (e.count * kind.size.height + e.rows)
   fault_inside f file e =
       let t = e.taken in
-      let w = e.why in
+      let w = e.why.1 in
       let p = told_parts (t.bytes ++ (t.head ++ t.raster)) e.half.image.rest file (sym t.given) in
       let q = told_parts w.read now.image.rest p.0 (sym w.given ∙ p.1) in
       ends_inside one kind.size bits e.count t.images t.bytes t.head t.raster t.samples (w.read ++ q.0) file e.header e.rows t.are t.fit t.count_is e.fits t.reads t.exact e.inside t.is_raster
       (p.2 ∙ ap (λ z. (t.bytes ++ (t.head ++ t.raster)) ++ z) q.2 ∙ regrouped t.bytes t.head t.raster (w.read ++ q.0))
-      (obstacle_of e.header e.rows t.raster t.samples w.read q.0 f t.is_raster w.within (λ l. at_end now.image.rest q.0 (w.end l) q.1) w.judged)
+      (obstacle_of e.header e.rows t.raster t.samples w.read q.0 e.why.0 t.is_raster w.within (λ l. at_end now.image.rest q.0 (w.end l) q.1) w.judged)
 
   pub read_behind : (all : Option (List ℕ)) → (e : LeavesBehind kind m bits Read all from created now) → e.count < MAX_FILE_IMAGES → (read : List ℕ) × (all ≡ prepend_known read now.image.rest) × EndsLines kind.size bits read (e.count * kind.size.height)
   read_behind all e few = by e.why
     where
-      by : LosesNext e.count e.half.image now.image → (read : List ℕ) × (all ≡ prepend_known read now.image.rest) × EndsLines kind.size bits read (e.count * kind.size.height)
+      by : EndsNext kind.size bits e.count (length e.taken.bytes) Read e.half.image now.image → (read : List ℕ) × (all ≡ prepend_known read now.image.rest) × EndsLines kind.size bits read (e.count * kind.size.height)
       by (at_byte full given) = absurd (omega (arith, full, few))
       by (in_header l r) = (
         e.taken.bytes ++ r.read,
@@ -216,7 +215,7 @@ module _ (one : OneImage) (kind : Kind) (m : Netlist) (bits : ℕ) (from : Conte
         ends_behind one kind.size bits e.count e.taken.images e.taken.bytes r.read (e.taken.bytes ++ r.read) e.taken.are e.taken.fit e.taken.count_is refl (λ h i. open_header r.read h i.reads r.inside),
       )
 
-  pub read_inside : (all : Option (List ℕ)) → (e : LeavesInside kind m bits RowsRead all from created now) → (read : List ℕ) × (all ≡ prepend_known read now.image.rest) × EndsLines kind.size bits read (e.count * kind.size.height + e.rows)
+  pub read_inside : (all : Option (List ℕ)) → (e : LeavesInside kind m bits Read all from created now) → (read : List ℕ) × (all ≡ prepend_known read now.image.rest) × EndsLines kind.size bits read (e.count * kind.size.height + e.rows)
   read_inside all e =
       let t = e.taken in
       let lost = e.why.0 in

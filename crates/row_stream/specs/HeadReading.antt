@@ -1,6 +1,6 @@
 -- Used by private functions only.
 -- The header that comes next, byte by byte.
-use Rattle.std.specs.Prelude.{◌≡◌, ℕ, ◌<◌, ◌-◌, Bool, true, List, length}
+use Rattle.std.specs.Prelude.{◌≡◌, ℕ, ◌<◌, Bool, true, List, length}
 use Rattle.std.specs.Io.KnownBytes.{prepend_known, IsAtEnd}
 use Rattle.dk_desk.specs.Outside.{Input}
 use Rattle.pgm_codec.specs.declared.header.HeaderFault.{HeaderFault}
@@ -10,10 +10,7 @@ use Rattle.pgm_codec.specs.declared.scan.HeaderScan.{HeaderScan}
 use Rattle.pgm_codec.specs.Scans.{Scanned}
 use Rattle.row_stream.specs.declared.heads.HeadFault.{HeadFault}
 use Rattle.row_stream.specs.declared.heads.HeadFault.TheVariants.{Head, Read}
-use Rattle.row_stream.specs.declared.faults.StreamFault.{StreamFault}
-use Rattle.row_stream.specs.declared.faults.StreamFault.TheVariants.{Image, Read as ReadFails, Write}
-use Rattle.dk_base.specs.Frames.{Size}
-use Rattle.row_stream.specs.Heads.{IsUndecidedBefore, LosesHead, RefusesHead}
+use Rattle.row_stream.specs.Heads.{IsUndecidedBefore, LosesHead}
 
 -- the bytes that were read begin no header, whatever comes, or end inside one
 pub data IsNoHead (read : List ℕ) (fault : HeaderFault) (new : Input) : Type 0 where
@@ -42,9 +39,3 @@ pub record IsScanning (scan : HeaderScan) (count : ℕ) (old new : Input) : Type
   pub count_is : length read ≡ count
   pub given : old.rest ≡ prepend_known read new.rest
   pub scanned : Scanned scan read
-
--- why there is no header of an image that fits
-abbrev pub EndsHeading : Size → (bits offset : ℕ) → (may_end : Bool) → StreamFault → (old new : Input) → Type 0
-EndsHeading size bits offset may_end (Image fault) old new = RefusesHead size bits offset may_end fault old new
-EndsHeading size bits offset may_end ReadFails old new = LosesHead old new
-EndsHeading size bits offset may_end Write old new = ⊥

@@ -9,6 +9,8 @@ use Rattle.dk_base.specs.Frames.{Size}
 use Rattle.dk_base.specs.declared.TheConstants.{MAX_HEADER_BYTES}
 use Rattle.pgm_rounds.specs.declared.fault.FileFault.{FileFault}
 use Rattle.pgm_rounds.specs.Files.{IsHeaded, HasSize, Refused}
+use Rattle.row_stream.specs.declared.faults.StreamFault.{StreamFault}
+use Rattle.row_stream.specs.declared.faults.StreamFault.TheVariants.{Image, Read, Write}
 
 -- Each shorter prefix of the bytes begins a header and holds none whole: no byte was taken after the one that decides.
 abbrev pub IsUndecidedBefore : List ℕ → Type 0
@@ -42,3 +44,9 @@ pub record RefusesHead (size : Size) (bits offset : ℕ) (may_end : Bool) (fault
   pub given : old.rest ≡ prepend_known read new.rest
   pub refused : (number : ℕ) (more : List ℕ) → new.rest ≡ Some more → Refused size bits number offset (read ++ more) fault
   pub none : (more : List ℕ) → new.rest ≡ Some more → (header : Header) → IsHeaded size bits (read ++ more) header → ⊥
+
+-- why there is no header of an image that fits
+abbrev pub EndsHeading : Size → (bits offset : ℕ) → (may_end : Bool) → StreamFault → (old new : Input) → Type 0
+EndsHeading size bits offset may_end (Image fault) old new = RefusesHead size bits offset may_end fault old new
+EndsHeading size bits offset may_end Read old new = LosesHead old new
+EndsHeading size bits offset may_end Write old new = ⊥

@@ -1,6 +1,6 @@
 -- Used by private functions only.
 -- The images that were read and clocked, and why the next one was not.
-use Rattle.std.specs.Prelude.{◌≡◌, ℕ, List, length, map, Option, ◌-◌, ◌<◌, ◌≤◌, Some}
+use Rattle.std.specs.Prelude.{◌≡◌, ℕ, List, length, map, Option, ◌<◌, ◌≤◌, Err}
 use Rattle.std.specs.List.{AllByRecursion}
 use Rattle.std.specs.Io.KnownBytes.{prepend_known, IsAtEnd}
 use Rattle.dk_desk.specs.Outside.{Outside, Input}
@@ -17,15 +17,13 @@ use Rattle.row_stream.specs.Images.{FitsImage, samples_of}
 use Rattle.dk_base.specs.declared.TheConstants.{MAX_FILE_IMAGES}
 use Rattle.pgm_codec.specs.declared.raster.RasterFault.{RasterFault}
 use Rattle.pgm_codec.specs.Rasters.{JudgesRaster}
-use Rattle.pgm_rounds.specs.declared.fault.FileFault.{FileFault}
-use Rattle.pgm_rounds.specs.Files.{IsFault, IsHeaded, Refused}
-use Rattle.row_stream.specs.declared.rows.RowsFault.{RowsFault}
+use Rattle.pgm_rounds.specs.Files.{IsHeaded, Refused}
 use Rattle.row_stream.specs.declared.rows.RowsFault.TheVariants.{Raster, Read as RowsRead, Write as RowsWrite}
 use Rattle.row_stream.specs.declared.faults.StreamFault.{StreamFault}
 use Rattle.row_stream.specs.declared.faults.StreamFault.TheVariants.{Image as ImageFails, Read, Write}
 use Rattle.row_stream.specs.Heads.{FitsHeader}
 use Rattle.row_stream.specs.RowReading.{EndsRows}
-use Rattle.row_stream.specs.Ends.{EndsNext, greatest, one_port}
+use Rattle.row_stream.specs.Ends.{EndsNext, greatest}
 
 -- These images were read and clocked. All that there was begins with their bytes.
 pub record Images (kind : Kind) (m : Netlist) (most count : ℕ) (all : Option (List ℕ)) (from to : Contents) (old new : Line) (before now : Outside) : Type 0 where
@@ -51,7 +49,7 @@ pub record AtHead (kind : Kind) (m : Netlist) (most count : ℕ) (header : Heade
 abbrev pub EndsImage : Kind → Netlist → Header → (bits images : ℕ) → StreamFault → Contents → Line → (before now : Outside) → Type 0
 EndsImage kind m header bits images (ImageFails fault) from old before now =
     (f : RasterFault) × EndsRows kind m header (Raster f) from old before now
-    × ((offset : ℕ) (bytes : List ℕ) → IsHeaded kind.size bits bytes header → JudgesRaster bytes header (Rattle.std.specs.Prelude.Err f) → Refused kind.size bits images offset bytes fault)
+    × ((offset : ℕ) (bytes : List ℕ) → IsHeaded kind.size bits bytes header → JudgesRaster bytes header (Err f) → Refused kind.size bits images offset bytes fault)
 EndsImage kind m header bits images Read from old before now = EndsRows kind m header RowsRead from old before now
 EndsImage kind m header bits images Write from old before now = EndsRows kind m header RowsWrite from old before now
 
@@ -80,7 +78,7 @@ pub record EndsBehind (kind : Kind) (m : Netlist) (bits : ℕ) (fault : StreamFa
   pub only : now ≡ record half { image = record half.image { rest = now.image.rest }; input_failures = now.input_failures }
 
 -- Images were streamed, a header of one more was read, and its lines were not all streamed.
-pub record EndsInside (kind : Kind) (m : Netlist) (bits : ℕ) (fault : RowsFault) (all : Option (List ℕ)) (from : Contents) (old : Line) (before now : Outside) : Type 0 where
+pub record EndsInside (kind : Kind) (m : Netlist) (bits : ℕ) (fault : StreamFault) (all : Option (List ℕ)) (from : Contents) (old : Line) (before now : Outside) : Type 0 where
   pub count : ℕ
   pub few : count < MAX_FILE_IMAGES
   pub header : Header
@@ -89,28 +87,12 @@ pub record EndsInside (kind : Kind) (m : Netlist) (bits : ℕ) (fault : RowsFaul
   pub new : Line
   pub half : Outside
   pub at : AtHead kind m (greatest bits) count header all from to old new before half
-  pub why : EndsRows kind m header fault to new half now
+  pub why : EndsImage kind m header bits count fault to new half now
 
--- where the first fault of a file was found
-pub data FindsFault (kind : Kind) (m : Netlist) (bits : ℕ) (fault : FileFault) (all : Option (List ℕ)) (from : Contents) (old : Line) (before now : Outside) : Type 0 where
-  found_behind : EndsBehind kind m bits (ImageFails fault) all from old before now → FindsFault kind m bits fault all from old before now
-  found_inside : (f : RasterFault) → EndsInside kind m bits (Raster f) all from old before now → FindsFault kind m bits fault all from old before now
-
--- It is the first fault of the file, and all lines before it were streamed.
-pub record EndsAtFault (kind : Kind) (m : Netlist) (bits : ℕ) (fault : FileFault) (all : Option (List ℕ)) (from : Contents) (old : Line) (before now : Outside) : Type 0 where
-  pub found : FindsFault kind m bits fault all from old before now
-  pub first : (file : List ℕ) → all ≡ Some file → IsFault (one_port kind.size bits) file fault
-
--- A read failed, and all lines that were whole before it were streamed.
-pub data EndsAtRead (kind : Kind) (m : Netlist) (bits : ℕ) (all : Option (List ℕ)) (from : Contents) (old : Line) (before now : Outside) : Type 0 where
-  lost_behind : EndsBehind kind m bits Read all from old before now → EndsAtRead kind m bits all from old before now
-  lost_inside : EndsInside kind m bits RowsRead all from old before now → EndsAtRead kind m bits all from old before now
-
--- how the images of a file end before their end
-abbrev pub EndsImages : Kind → Netlist → (bits : ℕ) → StreamFault → (all : Option (List ℕ)) → Contents → Line → (before now : Outside) → Type 0
-EndsImages kind m bits (ImageFails fault) all from old before now = EndsAtFault kind m bits fault all from old before now
-EndsImages kind m bits Read all from old before now = EndsAtRead kind m bits all from old before now
-EndsImages kind m bits Write all from old before now = EndsInside kind m bits RowsWrite all from old before now
+-- How the images of a file end before their end. All lines that were whole before were streamed.
+pub data EndsImages (kind : Kind) (m : Netlist) (bits : ℕ) (fault : StreamFault) (all : Option (List ℕ)) (from : Contents) (old : Line) (before now : Outside) : Type 0 where
+  found_behind : EndsBehind kind m bits fault all from old before now → EndsImages kind m bits fault all from old before now
+  found_inside : EndsInside kind m bits fault all from old before now → EndsImages kind m bits fault all from old before now
 
 -- the outside with what was left before a header was taken
 abbrev pub unread : Input → Outside → Outside

@@ -1,6 +1,6 @@
 -- Used by private functions only.
 -- What was clocked, noted and written so far.
-use Rattle.std.specs.Prelude.{◌≡◌, ℕ, ◌+◌, ◌-◌, ◌*◌, ◌<◌, ◌≤◌, Bool, List, [], ◌∷◌, ◌++◌, length, take, drop, map, if◌then◌else◌}
+use Rattle.std.specs.Prelude.{◌≡◌, ℕ, ◌+◌, ◌*◌, ◌<◌, ◌≤◌, Bool, List, [], ◌∷◌, ◌++◌, length, take, drop, map, if◌then◌else◌}
 use Rattle.wiring.specs.Netlist.{Netlist}
 use Rattle.std.specs.List.{range_with_len}
 use Rattle.wiring.specs.Snapshot.{Contents, Snapshot}

@@ -12,23 +12,20 @@ use Rattle.wiring.specs.Snapshot.{Contents, Snapshot}
 use Rattle.wiring.specs.Clock.{Clock}
 use Rattle.wiring.specs.Runs.{Runs, picture}
 use Rattle.pgm_codec.specs.declared.header.Header.{Header}
-use Rattle.pgm_codec.specs.declared.raster.RasterFault.{RasterFault}
 use Rattle.pgm_codec.specs.Answers.{Reads}
 use Rattle.pgm_codec.specs.Images.{Image, AreImages, IsRaster}
 use Rattle.pgm_rounds.specs.declared.fault.FileFault.{FileFault}
 use Rattle.pgm_rounds.specs.Files.{FitsFile, IsFault}
 use Rattle.row_stream.specs.declared.line.Line.{Line}
 use Rattle.row_stream.specs.declared.streaming.Room.{Room}
-use Rattle.row_stream.specs.declared.rows.RowsFault.{RowsFault}
-use Rattle.row_stream.specs.declared.rows.RowsFault.TheVariants.{Raster, Read as RowsRead}
 use Rattle.row_stream.specs.declared.faults.StreamFault.{StreamFault}
 use Rattle.row_stream.specs.declared.faults.StreamFault.TheVariants.{Image as ImageFails, Read, Write}
 use Rattle.row_stream.specs.Lines.{Kind, head, line_at, lines}
 use Rattle.row_stream.specs.Moving.{Gains, GainsBut}
 use Rattle.row_stream.specs.Standing.{HasRoom, note_of, pixel_clock, reset_clock}
 use Rattle.row_stream.specs.Blocks.{HasBlock}
-use Rattle.row_stream.specs.Heads.{FitsHeader, RefusesHead, LosesHead, TakesHead}
-use Rattle.row_stream.specs.Rows.{IsRowFault}
+use Rattle.row_stream.specs.Heads.{FitsHeader, TakesHead, EndsHeading}
+use Rattle.row_stream.specs.Rows.{IsLineFault}
 use Rattle.row_stream.specs.Images.{FitsImage, samples_of}
 use Rattle.row_stream.specs.Ends.{one_port, greatest, EndsNext}
 
@@ -132,7 +129,7 @@ pub record LeavesBehind (kind : Kind) (m : Netlist) (bits : ℕ) (fault : Stream
   pub only : now ≡ record half { image = record half.image { rest = now.image.rest }; input_failures = now.input_failures }
 
 -- The next line of an image was not read, or is not in order.
-pub record LeavesInside (kind : Kind) (m : Netlist) (bits : ℕ) (fault : RowsFault) (all : Option (List ℕ)) (from : Contents) (created now : Outside) : Type 0 where
+pub record LeavesInside (kind : Kind) (m : Netlist) (bits : ℕ) (fault : StreamFault) (all : Option (List ℕ)) (from : Contents) (created now : Outside) : Type 0 where
   pub count : ℕ
   pub few : count < MAX_FILE_IMAGES
   pub header : Header
@@ -141,7 +138,7 @@ pub record LeavesInside (kind : Kind) (m : Netlist) (bits : ℕ) (fault : RowsFa
   pub inside : rows < header.height
   pub half : Outside
   pub taken : ShowsLines kind m bits count header rows all from created half
-  pub why : IsRowFault header rows fault half.image now.image
+  pub why : IsLineFault header rows fault half.image now.image
   pub only : now ≡ record half { image = record half.image { rest = now.image.rest }; input_failures = now.input_failures }
 
 -- The next line of an image was read and is in order, and in its clocks a line is whole that can't be written.
@@ -172,19 +169,12 @@ pub record FailsBehind (kind : Kind) (m : Netlist) (bits latency : ℕ) (all : O
   pub end : IsAtEnd now.image.rest
   pub fails : FailsShowing kind m from (drive (samples_of images)) (map (λ s. pixel_clock s) (replicate latency 0)) created now
 
--- how far a file was streamed before its first fault
-pub data LeavesAtFault (kind : Kind) (m : Netlist) (bits : ℕ) (fault : FileFault) (name : List ℕ) (from : Contents) (old now : Outside) : Type 0 where
-  -- the first header is refused, and nothing was created
-  at_start : RefusesHead kind.size bits 0 false fault old.image now.image → now ≡ record old { image = record old.image { rest = now.image.rest } } → LeavesAtFault kind m bits fault name from old now
-  behind : (created : Outside) → Creates name old created → LeavesBehind kind m bits (ImageFails fault) old.image.rest from created now → LeavesAtFault kind m bits fault name from old now
-  inside : (created : Outside) → Creates name old created → (f : RasterFault) → LeavesInside kind m bits (Raster f) old.image.rest from created now → LeavesAtFault kind m bits fault name from old now
-
--- how far a file was streamed when a read failed
-pub data LeavesAtRead (kind : Kind) (m : Netlist) (bits : ℕ) (name : List ℕ) (from : Contents) (old now : Outside) : Type 0 where
+-- How far a file was streamed before its first fault, or before a read that failed.
+pub data LeavesEarly (kind : Kind) (m : Netlist) (bits : ℕ) (fault : StreamFault) (name : List ℕ) (from : Contents) (old now : Outside) : Type 0 where
   -- in the first header, and nothing was created
-  read_at_start : LosesHead old.image now.image → now ≡ record old { image = record old.image { rest = now.image.rest }; input_failures = now.input_failures } → LeavesAtRead kind m bits name from old now
-  read_behind : (created : Outside) → Creates name old created → LeavesBehind kind m bits Read old.image.rest from created now → LeavesAtRead kind m bits name from old now
-  read_inside : (created : Outside) → Creates name old created → LeavesInside kind m bits RowsRead old.image.rest from created now → LeavesAtRead kind m bits name from old now
+  at_start : EndsHeading kind.size bits 0 false fault old.image now.image → now ≡ record old { image = record old.image { rest = now.image.rest }; input_failures = now.input_failures } → LeavesEarly kind m bits fault name from old now
+  behind : (created : Outside) → Creates name old created → LeavesBehind kind m bits fault old.image.rest from created now → LeavesEarly kind m bits fault name from old now
+  inside : (created : Outside) → Creates name old created → LeavesInside kind m bits fault old.image.rest from created now → LeavesEarly kind m bits fault name from old now
 
 -- why File can't be begun, after the first header of Image
 pub data FailsFirst (kind : Kind) (m : Netlist) (name : List ℕ) (from : Contents) (before now : Outside) : Type 0 where
@@ -199,13 +189,14 @@ pub data LeavesAtWrite (kind : Kind) (m : Netlist) (bits latency : ℕ) (name : 
   write_inside : (created : Outside) → Creates name old created → FailsInside kind m bits old.image.rest from created now → LeavesAtWrite kind m bits latency name from old now
   write_behind : (created : Outside) → Creates name old created → FailsBehind kind m bits latency old.image.rest from created now → LeavesAtWrite kind m bits latency name from old now
 
--- It is the first fault of the file, and all lines before it were streamed.
+-- It is the first fault of the file, all lines before it were streamed, and no read failed.
 pub record StopsAtFault (kind : Kind) (m : Netlist) (bits : ℕ) (fault : FileFault) (name : List ℕ) (from : Contents) (old now : Outside) : Type 0 where
-  pub leaves : LeavesAtFault kind m bits fault name from old now
+  pub leaves : LeavesEarly kind m bits (ImageFails fault) name from old now
+  pub no_failure : now.input_failures ≡ old.input_failures
   pub first : (file : List ℕ) → old.image.rest ≡ Some file → IsFault (one_port kind.size bits) file fault
 
 -- the state after a stream that ended early
 abbrev pub Leaves : Kind → Netlist → (bits latency : ℕ) → StreamFault → (name : List ℕ) → Contents → (old now : Outside) → Type 0
 Leaves kind m bits latency (ImageFails fault) name from old now = StopsAtFault kind m bits fault name from old now
-Leaves kind m bits latency Read name from old now = LeavesAtRead kind m bits name from old now
+Leaves kind m bits latency Read name from old now = LeavesEarly kind m bits Read name from old now
 Leaves kind m bits latency Write name from old now = LeavesAtWrite kind m bits latency name from old now

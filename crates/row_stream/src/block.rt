@@ -50,7 +50,8 @@ pub(crate) fn step(sim: &mut Blocks, reset: bool, din: u64) -> Result<Out, Index
     ensures ok { IfOk result (λ out. (s : Snapshot)
         × Steps sim.old.netlist sim.old.contents (given sim.old.netlist (record { reset = reset; enable = true; dins = din ∷ [] })) s sim.new.contents
         × IsShown s 0 out) }
-    ensures stops { IfErr result (λ r. Stops sim.old.netlist sim.old.contents (given sim.old.netlist (record { reset = reset; enable = true; dins = din ∷ [] })) r.array r.index) }
+    ensures stops { IfErr result (λ r. Stops sim.old.netlist sim.old.contents
+        (given sim.old.netlist (record { reset = reset; enable = true; dins = din ∷ [] })) r.array r.index) }
 {
     let mut outs = [Out {
         valid: false,

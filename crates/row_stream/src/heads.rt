@@ -6,8 +6,8 @@ ghost use Rattle.dk_desk.specs.Outside.{Outside, Input};
 ghost use Rattle.dk_desk.specs.Calls.{HasCauseIn, ReadsOnly};
 ghost use Rattle.dk_base.specs.declared.TheConstants.{MAX_PORT_WIDTH};
 ghost use Rattle.dk_base.specs.FrameSizes.{size_of};
-ghost use Rattle.row_stream.specs.Heads.{TakesHead, FitsHeader};
-ghost use Rattle.row_stream.specs.HeadReading.{EndsHead, EndsHeading};
+ghost use Rattle.row_stream.specs.Heads.{TakesHead, FitsHeader, EndsHeading};
+ghost use Rattle.row_stream.specs.HeadReading.{EndsHead};
 
 use crate::faults::{StreamFault, check_header, header_fault};
 use dk_base::{FrameSize, MAX_HEADER_BYTES};

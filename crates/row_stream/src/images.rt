@@ -83,9 +83,11 @@ fn stream_image<D: Desk>(
     ensures lasts { OnOk result (Lasts sim.new.netlist sim.new.contents) }
     ensures room { OnOk result (HasRoom form.size.width line.new) }
     ensures few { OnOk result (line.new.rows ≤ line.old.rows + MAX_SIDE * MAX_SIDE) }
-    ensures ok { OnOk result (Streams (kind_of form) sim.old.netlist header.now header.now.height sim.old.contents sim.new.contents line.old line.new (D.outside desk.old) (D.outside desk.new)) }
+    ensures ok { OnOk result (Streams (kind_of form) sim.old.netlist header.now header.now.height
+        sim.old.contents sim.new.contents line.old line.new (D.outside desk.old) (D.outside desk.new)) }
     ensures err { (bits : ℕ)
-        → IfErr result (λ f. EndsImage (kind_of form) sim.old.netlist header.now bits images f sim.old.contents line.old (D.outside desk.old) (D.outside desk.new)) }
+        → IfErr result (λ f. EndsImage (kind_of form) sim.old.netlist header.now bits images
+        f sim.old.contents line.old (D.outside desk.old) (D.outside desk.new)) }
     ensures read { HasCauseIn (result ≡ Err StreamFault.Read) (D.outside desk.old).input_failures (D.outside desk.new).input_failures }
     ensures write { HasCauseIn (result ≡ Err StreamFault.Write) (D.outside desk.old).output_failures (D.outside desk.new).output_failures }
 {
@@ -161,7 +163,8 @@ pub(crate) fn stream_images<D: Desk>(
     ensures room { OnOk result (HasRoom form.size.width line.new) }
     ensures few { OnOk result (line.new.rows < 2 ^ 60) }
     ensures ok { OnOk result ((before : Input) → TakesHead first before (D.outside desk.old).image
-        → StreamsAll (kind_of form) sim.old.netlist bits before.rest sim.old.contents sim.new.contents line.old line.new (unread before (D.outside desk.old)) (D.outside desk.new)) }
+        → StreamsAll (kind_of form) sim.old.netlist bits before.rest sim.old.contents sim.new.contents
+        line.old line.new (unread before (D.outside desk.old)) (D.outside desk.new)) }
     ensures err { IfErr result (λ f. (before : Input) → TakesHead first before (D.outside desk.old).image
         → EndsImages (kind_of form) sim.old.netlist bits f before.rest sim.old.contents line.old (unread before (D.outside desk.old)) (D.outside desk.new)) }
     ensures read { HasCauseIn (result ≡ Err StreamFault.Read) (D.outside desk.old).input_failures (D.outside desk.new).input_failures }

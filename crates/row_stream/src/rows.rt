@@ -90,8 +90,10 @@ fn stream_row<D: Desk>(
     ensures lasts { OnOk result (Lasts sim.new.netlist sim.new.contents) }
     ensures room { OnOk result (HasRoom form.size.width line.new) }
     ensures few { OnOk result (line.new.rows ≤ line.old.rows + form.size.width) }
-    ensures ok { OnOk result (Streams (kind_of form) sim.old.netlist header.now 1 sim.old.contents sim.new.contents line.old line.new (D.outside desk.old) (D.outside desk.new)) }
-    ensures err { IfErr result (λ e. EndsRow (kind_of form) sim.old.netlist header.now row e sim.old.contents line.old (D.outside desk.old) (D.outside desk.new)) }
+    ensures ok { OnOk result (Streams (kind_of form) sim.old.netlist header.now 1 sim.old.contents
+        sim.new.contents line.old line.new (D.outside desk.old) (D.outside desk.new)) }
+    ensures err { IfErr result (λ e. EndsRow (kind_of form) sim.old.netlist header.now
+        row e sim.old.contents line.old (D.outside desk.old) (D.outside desk.new)) }
     ensures read { HasCauseIn (result ≡ Err RowsFault.Read) (D.outside desk.old).input_failures (D.outside desk.new).input_failures }
     ensures write { HasCauseIn (result ≡ Err RowsFault.Write) (D.outside desk.old).output_failures (D.outside desk.new).output_failures }
 {
@@ -134,7 +136,8 @@ pub(crate) fn stream_rows<D: Desk>(
     ensures room { OnOk result (HasRoom form.size.width line.new) }
     ensures to { length to.new ≡ length to.old }
     ensures few { OnOk result (line.new.rows ≤ line.old.rows + MAX_SIDE * MAX_SIDE) }
-    ensures ok { OnOk result (Streams (kind_of form) sim.old.netlist header.now header.now.height sim.old.contents sim.new.contents line.old line.new (D.outside desk.old) (D.outside desk.new)) }
+    ensures ok { OnOk result (Streams (kind_of form) sim.old.netlist header.now header.now.height
+        sim.old.contents sim.new.contents line.old line.new (D.outside desk.old) (D.outside desk.new)) }
     ensures err { IfErr result (λ e. EndsRows (kind_of form) sim.old.netlist header.now e sim.old.contents line.old (D.outside desk.old) (D.outside desk.new)) }
     ensures read { HasCauseIn (result ≡ Err RowsFault.Read) (D.outside desk.old).input_failures (D.outside desk.new).input_failures }
     ensures write { HasCauseIn (result ≡ Err RowsFault.Write) (D.outside desk.old).output_failures (D.outside desk.new).output_failures }

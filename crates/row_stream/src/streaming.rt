@@ -67,7 +67,8 @@ fn begin<D: Desk>(
     ensures room { OnOk result (HasRoom form.size.width line.new) }
     ensures few { OnOk result (line.new.rows ≤ 1) }
     ensures lasts { OnOk result (Lasts sim.new.netlist sim.new.contents) }
-    ensures ok { OnOk result (Begins (kind_of form) sim.old.netlist name.now sim.old.contents sim.new.contents line.old line.new (D.outside desk.old) (D.outside desk.new)) }
+    ensures ok { OnOk result (Begins (kind_of form) sim.old.netlist name.now sim.old.contents
+        sim.new.contents line.old line.new (D.outside desk.old) (D.outside desk.new)) }
     ensures err { OnErr result (FailsFirst (kind_of form) sim.old.netlist name.now sim.old.contents (D.outside desk.old) (D.outside desk.new)) }
     ensures idle { (D.outside desk.new).image ≡ (D.outside desk.old).image }
     ensures no_read { (D.outside desk.new).input_failures ≡ (D.outside desk.old).input_failures }

@@ -1,13 +1,13 @@
 -- One clock of a bench.
-use Rattle.std.proofs.Common.{◌≡◌, ℕ, suc, ◌+◌, ◌*◌, ◌^◌, ◌<◌, ◌≤◌, Bool, List, [], ◌∷◌, ◌++◌, length, map, refl, ap, sym, subst, ◌∙◌, arith, append-nil, Some, Option, zero, get_or, rules, take, drop, true, false}
-use Rattle.std.specs.Prelude.{◌==◌, ◌/◌, if◌then◌else◌, slice_get, slice_index, vec_capacity}
+use Rattle.std.proofs.Common.{◌≡◌, ℕ, suc, ◌+◌, ◌*◌, ◌^◌, ◌<◌, ◌≤◌, Bool, List, [], ◌∷◌, ◌++◌, length, map, refl, ap, sym, subst, ◌∙◌, arith, append-nil, Some, Option, zero, get_or, rules, take}
+use Rattle.std.specs.Prelude.{◌==◌, ◌/◌, slice_get, slice_index, vec_capacity}
 use Rattle.std.specs.List.{All, range_with_len}
 use Rattle.std.proofs.lemmas.Option.{slice_get_within, slice_get-get_or}
 use Rattle.std.proofs.Math.Pow.{pow_mono}
 use Rattle.wiring.specs.declared.netlist.Net.TheVariants.{Output}
 use Rattle.wiring.specs.Netlist.{Netlist, net_width, valid_net, dout_net}
 use Rattle.wiring.specs.Order.{IsEvaluationOrder}
-use Rattle.wiring.specs.Rules.{KeepsRules, IsPortCount, IsPortWidth, ArePorts, with_valids}
+use Rattle.wiring.specs.Rules.{KeepsRules, IsPortWidth, with_valids}
 use Rattle.wiring.specs.Snapshot.{Contents, Snapshot, net_value, FitsContents, Fit, IsSettled}
 use Rattle.wiring.specs.Clock.{Clock, given, Steps}
 use Rattle.wiring.specs.Runs.{picture}

@@ -1,6 +1,6 @@
 -- Used by private functions only.
 -- What the clocks of a block show.
-use Rattle.std.specs.Prelude.{◌≡◌, ℕ, List, slice_get, Some, ◌+◌, ◌-◌, Bool, [], ◌∷◌, ◌++◌, length, map, Option, if◌then◌else◌}
+use Rattle.std.specs.Prelude.{◌≡◌, ℕ, List, slice_get, Some, ◌+◌, Bool, [], ◌∷◌, ◌++◌, length, map, Option, if◌then◌else◌}
 use Rattle.wiring.specs.Snapshot.{Snapshot, Contents}
 use Rattle.cycle_sim.specs.declared.ports.Out.{Out}
 use Rattle.cycle_sim.specs.Ports.{AreShown}
@@ -8,7 +8,7 @@ use Rattle.block_sim.specs.Called.{of_clock}
 use Rattle.std.specs.List.{All}
 use Rattle.wiring.specs.Netlist.{Netlist}
 use Rattle.wiring.specs.Clock.{Clock}
-use Rattle.wiring.specs.Runs.{Runs, RunStops, picture}
+use Rattle.wiring.specs.Runs.{Runs, RunStops}
 use Rattle.test_bench.specs.declared.picture.Shown.{Shown}
 use Rattle.block_sim.specs.declared.blocks.Stop.{Stop as BlockStop}
 use Rattle.stimulus.specs.Showing.{notes_of}

@@ -1,6 +1,6 @@
 -- Used by private functions only.
 -- Pictures of which only some may be whole.
-use Rattle.std.specs.Prelude.{◌≡◌, ℕ, ◌+◌, ◌*◌, ◌-◌, ◌≤◌, List, length, slice_get, slice_index, Some}
+use Rattle.std.specs.Prelude.{◌≡◌, ℕ, ◌+◌, ◌*◌, ◌≤◌, List, length, slice_get, slice_index, Some}
 use Rattle.dk_base.specs.Frames.{Size, area}
 use Rattle.test_bench.specs.declared.picture.Shown.{Shown}
 use Rattle.stimulus.specs.declared.stop.Stop.TheVariants.{Index, Count}

@@ -84,7 +84,8 @@ fn push_pixel_clock(block: &mut Block, feed: &Feed, rounds: &[Round], number: u6
     requires dins { length block.old.dins.items + length feed.now.held.items ≤ vec_capacity block.old.dins }
     requires whole { length block.old.dins.items ≡ length block.old.enables.items * length feed.now.held.items }
     ensures clocks { clocks_with (length feed.now.held.items) block.new.enables.items block.new.dins.items
-        ≡ clocks_with (length feed.now.held.items) block.old.enables.items block.old.dins.items ++ pixel_clock (length feed.now.held.items) (rounds_of rounds.now) number ∷ [] }
+        ≡ clocks_with (length feed.now.held.items) block.old.enables.items block.old.dins.items
+        ++ pixel_clock (length feed.now.held.items) (rounds_of rounds.now) number ∷ [] }
     ensures count { length block.new.enables.items ≡ length block.old.enables.items + 1 }
     ensures whole { length block.new.dins.items ≡ length block.new.enables.items * length feed.now.held.items }
     ensures enables { vec_capacity block.new.enables ≡ vec_capacity block.old.enables }
@@ -101,7 +102,8 @@ fn push_held_clock(block: &mut Block, comes: bool, held: &[u64])
     requires dins { length block.old.dins.items + length held.now ≤ vec_capacity block.old.dins }
     requires whole { length block.old.dins.items ≡ length block.old.enables.items * length held.now }
     ensures clocks { clocks_with (length held.now) block.new.enables.items block.new.dins.items
-        ≡ clocks_with (length held.now) block.old.enables.items block.old.dins.items ++ (if comes then record { reset = false; enable = false; dins = held.now } ∷ [] else []) }
+        ≡ clocks_with (length held.now) block.old.enables.items block.old.dins.items
+        ++ (if comes then record { reset = false; enable = false; dins = held.now } ∷ [] else []) }
     ensures count { length block.new.enables.items ≤ length block.old.enables.items + 1 }
     ensures whole { length block.new.dins.items ≡ length block.new.enables.items * length held.now }
     ensures enables { vec_capacity block.new.enables ≡ vec_capacity block.old.enables }
@@ -123,7 +125,8 @@ fn push_clocks(block: &mut Block, feed: &Feed, rounds: &[Round], number: u64)
     requires whole { length block.old.dins.items ≡ length block.old.enables.items * length feed.now.held.items }
     ensures clocks { (m : Netlist) (size : Size) → IsFed m size feed.now rounds.now
         → clocks_with (length feed.now.held.items) block.new.enables.items block.new.dins.items
-        ≡ clocks_with (length feed.now.held.items) block.old.enables.items block.old.dins.items ++ clocks_at feed.now.hold (din_widths m) (rounds_of rounds.now) number }
+        ≡ clocks_with (length feed.now.held.items) block.old.enables.items block.old.dins.items
+        ++ clocks_at feed.now.hold (din_widths m) (rounds_of rounds.now) number }
     ensures count { length block.new.enables.items ≤ length block.old.enables.items + 2 }
     ensures whole { length block.new.dins.items ≡ length block.new.enables.items * length feed.now.held.items }
     ensures enables { vec_capacity block.new.enables ≡ vec_capacity block.old.enables }

@@ -69,7 +69,8 @@ fn step(
     ensures ok { OnOk result ((s : Snapshot)
         × Steps sim.old.netlist sim.old.contents (given sim.old.netlist (record { reset = reset; enable = enable; dins = dins.now })) s sim.new.contents
         × AreShown s outs.new.items) }
-    ensures stops { IfErr result (λ r. Stops sim.old.netlist sim.old.contents (given sim.old.netlist (record { reset = reset; enable = enable; dins = dins.now })) r.array r.index) }
+    ensures stops { IfErr result (λ r. Stops sim.old.netlist sim.old.contents
+        (given sim.old.netlist (record { reset = reset; enable = enable; dins = dins.now })) r.array r.index) }
 {
     sim.step_all(reset, enable, dins, outs)
 }
@@ -111,8 +112,10 @@ pub fn clock<D: Desk>(
     requires dins { Fit (din_widths bench.old.sim.netlist) dins.now }
     requires few { bench.old.made < 2 ^ 62 }
     ensures only { D.outside desk.new ≡ record (D.outside desk.old) { notes = (D.outside desk.new).notes } }
-    ensures ok { OnOk result (Clocked bench.old.sim.netlist (record { reset = reset; enable = enable; dins = dins.now } ∷ []) bench.old bench.new (D.outside desk.old).notes (D.outside desk.new).notes) }
-    ensures stop { IfErr result (StopsIn bench.old.sim.netlist bench.old.sim.contents bench.old.made (record { reset = reset; enable = enable; dins = dins.now } ∷ [])) }
+    ensures ok { OnOk result (Clocked bench.old.sim.netlist (record { reset = reset; enable = enable; dins = dins.now } ∷ [])
+        bench.old bench.new (D.outside desk.old).notes (D.outside desk.new).notes) }
+    ensures stop { IfErr result (StopsIn bench.old.sim.netlist bench.old.sim.contents
+        bench.old.made (record { reset = reset; enable = enable; dins = dins.now } ∷ [])) }
 {
     bench.sim.law();
     netlist::values_fit_law();
@@ -190,7 +193,8 @@ fn clock_all<D: Desk>(
     ensures count { OnOk result (length pictures.new.items ≡ length pictures.old.items) }
     ensures room { OnOk result (All (λ shown. most ≤ vec_capacity shown.samples) pictures.new.items) }
     ensures only { D.outside desk.new ≡ record (D.outside desk.old) { notes = (D.outside desk.new).notes } }
-    ensures ok { OnOk result (ShowsBlock sim.old.netlist (block_clocks sim.old.netlist enables.now dins.now) sim.old.contents sim.new.contents most pictures.old.items pictures.new.items (D.outside desk.old).notes (D.outside desk.new).notes) }
+    ensures ok { OnOk result (ShowsBlock sim.old.netlist (block_clocks sim.old.netlist enables.now dins.now) sim.old.contents
+        sim.new.contents most pictures.old.items pictures.new.items (D.outside desk.old).notes (D.outside desk.new).notes) }
     ensures stop { IfErr result (StopsBlock sim.old.netlist (block_clocks sim.old.netlist enables.now dins.now) sim.old.contents) }
 {
     sim.law();
@@ -233,7 +237,8 @@ fn clock_front<D: Desk>(
     ensures count { OnOk result (length pictures.new.items ≡ length pictures.old.items) }
     ensures room { OnOk result (All (λ shown. most ≤ vec_capacity shown.samples) pictures.new.items) }
     ensures only { D.outside desk.new ≡ record (D.outside desk.old) { notes = (D.outside desk.new).notes } }
-    ensures ok { OnOk result (ShowsBlock sim.old.netlist (block_clocks sim.old.netlist enables.now dins.now) sim.old.contents sim.new.contents most pictures.old.items pictures.new.items (D.outside desk.old).notes (D.outside desk.new).notes) }
+    ensures ok { OnOk result (ShowsBlock sim.old.netlist (block_clocks sim.old.netlist enables.now dins.now) sim.old.contents
+        sim.new.contents most pictures.old.items pictures.new.items (D.outside desk.old).notes (D.outside desk.new).notes) }
     ensures stop { IfErr result (StopsBlock sim.old.netlist (block_clocks sim.old.netlist enables.now dins.now) sim.old.contents) }
 {
     clock_all(
@@ -270,7 +275,8 @@ fn clock_filled<D: Desk>(
     ensures count { OnOk result (length pictures.new.items ≡ length pictures.old.items) }
     ensures room { OnOk result (All (λ shown. most ≤ vec_capacity shown.samples) pictures.new.items) }
     ensures only { D.outside desk.new ≡ record (D.outside desk.old) { notes = (D.outside desk.new).notes } }
-    ensures ok { OnOk result (ShowsBlock sim.old.netlist (block_clocks sim.old.netlist block.old.enables.items block.old.dins.items) sim.old.contents sim.new.contents most pictures.old.items pictures.new.items (D.outside desk.old).notes (D.outside desk.new).notes) }
+    ensures ok { OnOk result (ShowsBlock sim.old.netlist (block_clocks sim.old.netlist block.old.enables.items block.old.dins.items)
+        sim.old.contents sim.new.contents most pictures.old.items pictures.new.items (D.outside desk.old).notes (D.outside desk.new).notes) }
     ensures stop { IfErr result (StopsBlock sim.old.netlist (block_clocks sim.old.netlist block.old.enables.items block.old.dins.items) sim.old.contents) }
 {
     let places = block.enables.len() * pictures.len();
@@ -289,13 +295,17 @@ fn clock_filled<D: Desk>(
 // The clocks of the bench's block. After a Stop the pictures are those before the block.
 fn clock_block<D: Desk>(desk: &mut D, bench: &mut Bench) -> Result<(), Stop>
     requires bench { IsBench bench.old }
-    requires fit { All (λ (c : Clock). Fit (din_widths bench.old.sim.netlist) c.dins) (block_clocks bench.old.sim.netlist bench.old.block.enables.items bench.old.block.dins.items) }
+    requires fit { All (λ (c : Clock). Fit (din_widths bench.old.sim.netlist) c.dins)
+        (block_clocks bench.old.sim.netlist bench.old.block.enables.items bench.old.block.dins.items) }
     requires dins { length bench.old.block.dins.items ≡ length bench.old.block.enables.items * length (din_widths bench.old.sim.netlist) }
     requires outs { length bench.old.block.enables.items ≤ 2 * BLOCK_PIXELS }
     requires few { bench.old.made < 2 ^ 62 }
     ensures only { D.outside desk.new ≡ record (D.outside desk.old) { notes = (D.outside desk.new).notes } }
-    ensures ok { OnOk result (Clocked bench.old.sim.netlist (block_clocks bench.old.sim.netlist bench.old.block.enables.items bench.old.block.dins.items) bench.old bench.new (D.outside desk.old).notes (D.outside desk.new).notes) }
-    ensures stop { IfErr result (StopsIn bench.old.sim.netlist bench.old.sim.contents bench.old.made (block_clocks bench.old.sim.netlist bench.old.block.enables.items bench.old.block.dins.items)) }
+    ensures ok { OnOk result (Clocked bench.old.sim.netlist
+        (block_clocks bench.old.sim.netlist bench.old.block.enables.items bench.old.block.dins.items)
+        bench.old bench.new (D.outside desk.old).notes (D.outside desk.new).notes) }
+    ensures stop { IfErr result (StopsIn bench.old.sim.netlist bench.old.sim.contents bench.old.made
+        (block_clocks bench.old.sim.netlist bench.old.block.enables.items bench.old.block.dins.items)) }
 {
     let count = bench.block.enables.len();
     match clock_filled(
@@ -329,8 +339,11 @@ fn some_pixel_clocks<D: Desk>(
     requires count { count ≤ BLOCK_PIXELS }
     ensures few { OnOk result (bench.new.made ≤ bench.old.made + 2 * count) }
     ensures only { D.outside desk.new ≡ record (D.outside desk.old) { notes = (D.outside desk.new).notes } }
-    ensures ok { OnOk result (Clocked bench.old.sim.netlist (flat_map (clocks_at feed.now.hold (din_widths bench.old.sim.netlist) (rounds_of rounds.now)) (range_with_len start count)) bench.old bench.new (D.outside desk.old).notes (D.outside desk.new).notes) }
-    ensures stop { IfErr result (StopsIn bench.old.sim.netlist bench.old.sim.contents bench.old.made (flat_map (clocks_at feed.now.hold (din_widths bench.old.sim.netlist) (rounds_of rounds.now)) (range_with_len start count))) }
+    ensures ok { OnOk result (Clocked bench.old.sim.netlist
+        (flat_map (clocks_at feed.now.hold (din_widths bench.old.sim.netlist) (rounds_of rounds.now)) (range_with_len start count))
+        bench.old bench.new (D.outside desk.old).notes (D.outside desk.new).notes) }
+    ensures stop { IfErr result (StopsIn bench.old.sim.netlist bench.old.sim.contents bench.old.made
+        (flat_map (clocks_at feed.now.hold (din_widths bench.old.sim.netlist) (rounds_of rounds.now)) (range_with_len start count))) }
 {
     fill_block(&mut bench.block, feed, rounds, start, count);
     clock_block(desk, bench)
@@ -350,8 +363,11 @@ fn whole_blocks<D: Desk>(
     requires blocks { blocks * BLOCK_PIXELS < 2 ^ 60 }
     ensures few { OnOk result (bench.new.made ≤ bench.old.made + 2 * (blocks * BLOCK_PIXELS)) }
     ensures only { D.outside desk.new ≡ record (D.outside desk.old) { notes = (D.outside desk.new).notes } }
-    ensures ok { OnOk result (Clocked bench.old.sim.netlist (flat_map (clocks_at feed.now.hold (din_widths bench.old.sim.netlist) (rounds_of rounds.now)) (range_with_len 0 (blocks * BLOCK_PIXELS))) bench.old bench.new (D.outside desk.old).notes (D.outside desk.new).notes) }
-    ensures stop { IfErr result (StopsIn bench.old.sim.netlist bench.old.sim.contents bench.old.made (flat_map (clocks_at feed.now.hold (din_widths bench.old.sim.netlist) (rounds_of rounds.now)) (range_with_len 0 (blocks * BLOCK_PIXELS)))) }
+    ensures ok { OnOk result (Clocked bench.old.sim.netlist
+        (flat_map (clocks_at feed.now.hold (din_widths bench.old.sim.netlist) (rounds_of rounds.now)) (range_with_len 0 (blocks * BLOCK_PIXELS)))
+        bench.old bench.new (D.outside desk.old).notes (D.outside desk.new).notes) }
+    ensures stop { IfErr result (StopsIn bench.old.sim.netlist bench.old.sim.contents bench.old.made
+        (flat_map (clocks_at feed.now.hold (din_widths bench.old.sim.netlist) (rounds_of rounds.now)) (range_with_len 0 (blocks * BLOCK_PIXELS)))) }
 {
     for block in 0..blocks {
         some_pixel_clocks(
@@ -380,8 +396,11 @@ fn all_pixel_clocks<D: Desk>(
     requires clocks { clocks < 2 ^ 60 }
     ensures few { OnOk result (bench.new.made ≤ bench.old.made + 2 * clocks) }
     ensures only { D.outside desk.new ≡ record (D.outside desk.old) { notes = (D.outside desk.new).notes } }
-    ensures ok { OnOk result (Clocked bench.old.sim.netlist (flat_map (clocks_at feed.now.hold (din_widths bench.old.sim.netlist) (rounds_of rounds.now)) (range_with_len 0 clocks)) bench.old bench.new (D.outside desk.old).notes (D.outside desk.new).notes) }
-    ensures stop { IfErr result (StopsIn bench.old.sim.netlist bench.old.sim.contents bench.old.made (flat_map (clocks_at feed.now.hold (din_widths bench.old.sim.netlist) (rounds_of rounds.now)) (range_with_len 0 clocks))) }
+    ensures ok { OnOk result (Clocked bench.old.sim.netlist
+        (flat_map (clocks_at feed.now.hold (din_widths bench.old.sim.netlist) (rounds_of rounds.now)) (range_with_len 0 clocks))
+        bench.old bench.new (D.outside desk.old).notes (D.outside desk.new).notes) }
+    ensures stop { IfErr result (StopsIn bench.old.sim.netlist bench.old.sim.contents bench.old.made
+        (flat_map (clocks_at feed.now.hold (din_widths bench.old.sim.netlist) (rounds_of rounds.now)) (range_with_len 0 clocks))) }
 {
     let blocks = clocks / BLOCK_PIXELS;
     whole_blocks(desk, bench, feed, rounds, blocks)?;
@@ -406,8 +425,13 @@ pub fn all_clocks<D: Desk>(
     requires clocks { clocks < 2 ^ 60 }
     ensures few { OnOk result (bench.new.made < 2 ^ 62) }
     ensures only { D.outside desk.new ≡ record (D.outside desk.old) { notes = (D.outside desk.new).notes } }
-    ensures ok { OnOk result (Clocked bench.old.sim.netlist (reset_clock (length (din_widths bench.old.sim.netlist)) ∷ flat_map (clocks_at feed.now.hold (din_widths bench.old.sim.netlist) (rounds_of rounds.now)) (range_with_len 0 clocks)) bench.old bench.new (D.outside desk.old).notes (D.outside desk.new).notes) }
-    ensures stop { IfErr result (StopsIn bench.old.sim.netlist bench.old.sim.contents bench.old.made (reset_clock (length (din_widths bench.old.sim.netlist)) ∷ flat_map (clocks_at feed.now.hold (din_widths bench.old.sim.netlist) (rounds_of rounds.now)) (range_with_len 0 clocks))) }
+    ensures ok { OnOk result (Clocked bench.old.sim.netlist
+        (reset_clock (length (din_widths bench.old.sim.netlist))
+        ∷ flat_map (clocks_at feed.now.hold (din_widths bench.old.sim.netlist) (rounds_of rounds.now)) (range_with_len 0 clocks))
+        bench.old bench.new (D.outside desk.old).notes (D.outside desk.new).notes) }
+    ensures stop { IfErr result (StopsIn bench.old.sim.netlist bench.old.sim.contents bench.old.made
+        (reset_clock (length (din_widths bench.old.sim.netlist))
+        ∷ flat_map (clocks_at feed.now.hold (din_widths bench.old.sim.netlist) (rounds_of rounds.now)) (range_with_len 0 clocks))) }
 {
     clock(desk, bench, true, true, dins)?;
     all_pixel_clocks(desk, bench, feed, rounds, clocks)?;

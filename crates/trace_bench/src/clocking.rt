@@ -33,7 +33,8 @@ fn step(sim: &mut Sim, reset: bool, dins: &[u64], values: &mut Vec<u64>) -> Resu
     ensures ok { OnOk result ((s : Snapshot)
         × Steps sim.old.netlist sim.old.contents (given sim.old.netlist (record { reset = reset; enable = true; dins = dins.now })) s sim.new.contents
         × (values.new.items ≡ all_values s)) }
-    ensures stops { IfErr result (λ r. Stops sim.old.netlist sim.old.contents (given sim.old.netlist (record { reset = reset; enable = true; dins = dins.now })) r.array r.index) }
+    ensures stops { IfErr result (λ r. Stops sim.old.netlist sim.old.contents
+        (given sim.old.netlist (record { reset = reset; enable = true; dins = dins.now })) r.array r.index) }
 {
     sim.step_seen(reset, true, dins, values)
 }
@@ -81,8 +82,10 @@ pub(crate) fn clock<D: Desk>(desk: &mut D, tracer: &mut Tracer, reset: bool) -> 
     ensures netlist { tracer.new.sim.netlist ≡ tracer.old.sim.netlist }
     ensures tracing { OnOk result (IsTracing tracer.new) }
     ensures made { OnOk result (tracer.new.made ≡ tracer.old.made + 1) }
-    ensures ok { OnOk result (Goes tracer.old.sim.netlist (record { reset = reset; enable = true; dins = tracer.old.dins.items } ∷ []) tracer.old.sim.contents tracer.new.sim.contents tracer.old.trace tracer.new.trace (D.outside desk.old) (D.outside desk.new)) }
-    ensures end { IfErr result (λ e. EndsIn tracer.old.sim.netlist (record { reset = reset; enable = true; dins = tracer.old.dins.items } ∷ []) tracer.old.sim.contents tracer.old.trace e (D.outside desk.old) (D.outside desk.new)) }
+    ensures ok { OnOk result (Goes tracer.old.sim.netlist (record { reset = reset; enable = true; dins = tracer.old.dins.items } ∷ [])
+        tracer.old.sim.contents tracer.new.sim.contents tracer.old.trace tracer.new.trace (D.outside desk.old) (D.outside desk.new)) }
+    ensures end { IfErr result (λ e. EndsIn tracer.old.sim.netlist (record { reset = reset; enable = true; dins = tracer.old.dins.items } ∷ [])
+        tracer.old.sim.contents tracer.old.trace e (D.outside desk.old) (D.outside desk.new)) }
     ensures cause { HasCauseIn (result ≡ Err TraceEnd.Write) (D.outside desk.old).output_failures (D.outside desk.new).output_failures }
 {
     tracer.sim.law();
@@ -120,8 +123,10 @@ fn pixel_clock<D: Desk>(
     ensures netlist { tracer.new.sim.netlist ≡ tracer.old.sim.netlist }
     ensures tracing { OnOk result (IsTracing tracer.new) }
     ensures made { OnOk result (tracer.new.made ≡ tracer.old.made + 1) }
-    ensures ok { OnOk result (Goes tracer.old.sim.netlist (clocks_at None (din_widths tracer.old.sim.netlist) (rounds_of rounds.now) number) tracer.old.sim.contents tracer.new.sim.contents tracer.old.trace tracer.new.trace (D.outside desk.old) (D.outside desk.new)) }
-    ensures end { IfErr result (λ e. EndsIn tracer.old.sim.netlist (clocks_at None (din_widths tracer.old.sim.netlist) (rounds_of rounds.now) number) tracer.old.sim.contents tracer.old.trace e (D.outside desk.old) (D.outside desk.new)) }
+    ensures ok { OnOk result (Goes tracer.old.sim.netlist (clocks_at None (din_widths tracer.old.sim.netlist) (rounds_of rounds.now) number)
+        tracer.old.sim.contents tracer.new.sim.contents tracer.old.trace tracer.new.trace (D.outside desk.old) (D.outside desk.new)) }
+    ensures end { IfErr result (λ e. EndsIn tracer.old.sim.netlist (clocks_at None (din_widths tracer.old.sim.netlist) (rounds_of rounds.now) number)
+        tracer.old.sim.contents tracer.old.trace e (D.outside desk.old) (D.outside desk.new)) }
     ensures cause { HasCauseIn (result ≡ Err TraceEnd.Write) (D.outside desk.old).output_failures (D.outside desk.new).output_failures }
 {
     fill_dins(rounds, area, number, &mut tracer.dins);
@@ -144,8 +149,12 @@ pub(crate) fn pixel_clocks<D: Desk>(
     requires frames { (size : Size) × AreBenchFrames (din_widths tracer.old.sim.netlist) size rounds.now × (area ≡ area_of size) }
     ensures netlist { tracer.new.sim.netlist ≡ tracer.old.sim.netlist }
     ensures tracing { OnOk result (IsTracing tracer.new) }
-    ensures ok { OnOk result (Goes tracer.old.sim.netlist (flat_map (clocks_at None (din_widths tracer.old.sim.netlist) (rounds_of rounds.now)) (range_with_len 0 clocks)) tracer.old.sim.contents tracer.new.sim.contents tracer.old.trace tracer.new.trace (D.outside desk.old) (D.outside desk.new)) }
-    ensures end { IfErr result (λ e. EndsIn tracer.old.sim.netlist (flat_map (clocks_at None (din_widths tracer.old.sim.netlist) (rounds_of rounds.now)) (range_with_len 0 clocks)) tracer.old.sim.contents tracer.old.trace e (D.outside desk.old) (D.outside desk.new)) }
+    ensures ok { OnOk result (Goes tracer.old.sim.netlist
+        (flat_map (clocks_at None (din_widths tracer.old.sim.netlist) (rounds_of rounds.now)) (range_with_len 0 clocks))
+        tracer.old.sim.contents tracer.new.sim.contents tracer.old.trace tracer.new.trace (D.outside desk.old) (D.outside desk.new)) }
+    ensures end { IfErr result (λ e. EndsIn tracer.old.sim.netlist
+        (flat_map (clocks_at None (din_widths tracer.old.sim.netlist) (rounds_of rounds.now)) (range_with_len 0 clocks))
+        tracer.old.sim.contents tracer.old.trace e (D.outside desk.old) (D.outside desk.new)) }
     ensures cause { HasCauseIn (result ≡ Err TraceEnd.Write) (D.outside desk.old).output_failures (D.outside desk.new).output_failures }
 {
     for number in 0..clocks {

@@ -25,7 +25,7 @@ use Rattle.verilog_parse.specs.declared.kind.Target.TheVariants as targets
 use Rattle.verilog_parse.specs.declared.kind.RangedName.{RangedName}
 use Rattle.dk_grammar.specs.Reading.{One, last as last', another, end, link}
 use Rattle.verilog_text.specs.Grammar as grammar
-use Rattle.verilog_text.specs.Grammar.{named, counted, directed, Bits, bits, Ranged, one_bit, wide, Port, plain, wire as wire_port, last, more, Declares, wire, reg, array, Update, set, put, Each, none, more as further}
+use Rattle.verilog_text.specs.Grammar.{named, directed, Bits, bits, Ranged, one_bit, wide, Port, plain, wire as wire_port, last, more, Declares, wire, reg, array, Update, set, put, Each, none, more as further}
 use Rattle.verilog_parse.specs.Forms.{Gives}
 use Rattle.verilog_parse.specs.Sections.{comma_or_close, heading, leading, tailing, arrowing, targeting, ABits, AfterHead, ARanged, AfterLead, APort, Ports, AWire, AfterReg, AReg, AfterArrow, AnUpdate, UpdatesFrom, Updates}
 use Rattle.verilog_parse.proofs.Means.{HeadMeans, LeadMeans, TailMeans, ArrowMeans, TargetMeans, head_means, lead_means, comma_means, tail_means, arrow_means, target_means, head_name, lead_name, target_name}

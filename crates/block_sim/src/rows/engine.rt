@@ -18,8 +18,9 @@ pub struct Engine {
     // The register of each update, and the array that each assign reads, if there is one.
     pub registers: Vec<Option<usize>>,
     pub arrays: Vec<Option<usize>>,
-    // The instruction that makes what each array is given, if there is one.
+    // The instruction that makes what each array is given, if there is one, and that which makes what each register is given.
     pub makers: Vec<Option<usize>>,
+    pub next_makers: Vec<Option<usize>>,
     // Whether there is the port en, and how many dins there are.
     pub has_enable: bool,
     pub ports: usize,
@@ -78,6 +79,16 @@ fn makers_of_slots(alloc: Global, code: &BlockCode) -> Result<Vec<Option<usize>>
     let mut makers = vec![in alloc; None; code.widths.len()]?;
     for number in 0..code.instructions.len() {
         note_maker(&mut makers, code.instructions[number].target, number);
+    }
+    Ok(makers)
+}
+
+// The instruction that makes what each register is given.
+pub fn next_makers_of(alloc: Global, code: &BlockCode) -> Result<Vec<Option<usize>>, AllocError> {
+    let slots = makers_of_slots(alloc, code)?;
+    let mut makers = Vec::new(alloc);
+    for next in &code.nexts {
+        makers.push(maker_of(&slots, next))?;
     }
     Ok(makers)
 }

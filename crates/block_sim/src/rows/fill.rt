@@ -155,6 +155,41 @@ fn fill_held(
     }
 }
 
+// What is read of words that are written clock by clock: a value where a bit is 1, else what was read when the bit was 1 last,
+// at first `held`.
+fn fill_copied(
+    to: &mut [u64],
+    read: Worth<'_>,
+    index: Worth<'_>,
+    bit: Worth<'_>,
+    value: Worth<'_>,
+    words: &mut [u64],
+    held: u64,
+) {
+    let mut copy = held;
+    for t in 0..to.len() {
+        let word = word_at(words, worth_at(read, t));
+        to[t] = word;
+        if worth_at(bit, t) == 1 {
+            put_word(words, worth_at(index, t), worth_at(value, t));
+            copy = word;
+        } else {
+            put_word(words, worth_at(index, t), copy);
+        }
+    }
+}
+
+// What is held, and then what a row has one clock later where a bit is 1, else the number before.
+fn fill_load(to: &mut [u64], bit: Worth<'_>, value: Worth<'_>, held: u64) {
+    let mut holds = held;
+    for t in 0..to.len() {
+        to[t] = holds;
+        if worth_at(bit, t) == 1 {
+            holds = worth_at(value, t);
+        }
+    }
+}
+
 // The places of a row, as far as there is room.
 fn copy_places(to: &mut [u64], row: &[u64]) {
     for t in 0..to.len().min(row.len()) {
@@ -232,6 +267,42 @@ pub fn propose_choice(
 {
     if let Right::Choose(bit, value, _) = choice {
         fill_held(&mut table.room, &table.rows, index, bit, value, words);
+    }
+}
+
+// The spare row becomes what is read of words that are given the choice of this right side, clock by clock; the choice is a value,
+// or else a register that takes what is read, and holds this number.
+pub fn propose_copied(
+    table: &mut Table,
+    read: &Atom<usize>,
+    index: &Atom<usize>,
+    choice: &Right<usize, usize>,
+    words: &mut [u64],
+    held: u64,
+)
+    ensures { IsRefilled table.old table.new }
+{
+    if let Right::Choose(bit, value, _) = choice {
+        let rows = &table.rows;
+        let read = worth_of(rows, read);
+        let index = worth_of(rows, index);
+        let bit = worth_of(rows, bit);
+        let value = worth_of(rows, value);
+        fill_copied(&mut table.room, read, index, bit, value, words, held);
+    }
+}
+
+// The spare row becomes that of a register that takes the first value of this choice, or else keeps its own.
+pub fn propose_load(table: &mut Table, choice: &Right<usize, usize>, held: u64)
+    ensures { IsRefilled table.old table.new }
+{
+    if let Right::Choose(bit, value, _) = choice {
+        fill_load(
+            &mut table.room,
+            worth_of(&table.rows, bit),
+            worth_of(&table.rows, value),
+            held,
+        );
     }
 }
 

@@ -10,7 +10,7 @@ ghost use Rattle.block_sim.specs.Engine.{IsEngineOf, AreRowsOf, HasRun};
 use crate::judge::arrays::ArrayRoom;
 use crate::pieces::MOST_CLOCKS;
 use crate::rows::Rows;
-use crate::rows::engine::{Engine, arrays_of, makers_of, registers_of};
+use crate::rows::engine::{Engine, arrays_of, makers_of, next_makers_of, registers_of};
 use crate::rows::steps::Hints;
 use crate::rows::table::Table;
 use crate::rows::uses::first_uses;
@@ -138,6 +138,7 @@ fn engine_of(
     let registers = registers_of(alloc, wiring)?;
     let arrays = arrays_of(alloc, wiring)?;
     let makers = makers_of(alloc, &code)?;
+    let next_makers = next_makers_of(alloc, &code)?;
     Ok(Engine {
         code,
         plan,
@@ -145,6 +146,7 @@ fn engine_of(
         registers,
         arrays,
         makers,
+        next_makers,
         has_enable: wiring.enable,
         ports,
     })

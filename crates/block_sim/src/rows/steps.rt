@@ -8,14 +8,14 @@ use crate::held::Held;
 use crate::judge::arrays::are_same;
 use crate::rows::engine::Engine;
 use crate::rows::fill::{
-    ENABLE, Line, Worth, atom_value, propose_choice, propose_line, propose_read, propose_shift,
-    propose_small, row_of, slot_value, worth_at, worth_of,
+    ENABLE, Line, Worth, atom_value, propose_choice, propose_copied, propose_line, propose_load,
+    propose_read, propose_shift, propose_small, row_of, slot_value, worth_at, worth_of,
 };
 use crate::rows::table::{Table, offer, run_upto};
 use block_code::WordRead;
 use block_plan::Step;
 use block_rows::Instruction;
-use wiring::Atom;
+use wiring::{Atom, Right};
 
 // The most rounds in which the rows of a cycle are guessed.
 const ROUNDS: usize = 6;
@@ -99,6 +99,33 @@ fn shift(engine: &Engine, table: &mut Table, held: &Held, done: usize, update: u
     offer_row(engine, table, done, slot)
 }
 
+// The instruction that makes what a register is given.
+fn next_maker_at(engine: &Engine, register: usize) -> Option<&Instruction> {
+    match engine.next_makers.get(register) {
+        Some(Some(maker)) => engine.code.instructions.get(*maker),
+        _ => None,
+    }
+}
+
+// The row of a register that takes what is read of an array, or keeps its value.
+#[tactic(auto, using(crate::proofs::Tables::table_refilled))]
+fn load(engine: &Engine, table: &mut Table, held: &Held, done: usize, update: usize) -> bool
+    requires engine { IsEngine engine.now }
+    requires table { HasRun engine.now (length table.old.room.items) table.old done }
+    ensures room { length table.new.room.items ≡ length table.old.room.items }
+    ensures table { HasRun engine.now (length table.old.room.items) table.new done }
+{
+    let Some(register) = register_at(engine, update) else {
+        return false;
+    };
+    let Some(maker) = next_maker_at(engine, register) else {
+        return false;
+    };
+    propose_load(table, &maker.right, number_in(&held.regs, register));
+    let slot = engine.code.first_reg.saturating_add(register);
+    offer_row(engine, table, done, slot)
+}
+
 // Offers the spare row to a slot.
 pub fn offer_row(engine: &Engine, table: &mut Table, done: usize, slot: usize) -> bool
     requires engine { IsEngine engine.now }
@@ -151,11 +178,23 @@ fn maker_at(engine: &Engine, array: usize) -> Option<&Instruction> {
     }
 }
 
-// How an array is written: by its put, or by a choice between what is read and a value.
+// How an array is written: by its put, by a choice between a value and what is read, or by one between a value and the register
+// that takes what is read.
 #[derive(Clone, Copy)]
 enum Written {
     Put,
     Choice,
+    Copy,
+}
+
+// What the register holds that a choice keeps.
+fn kept_number(engine: &Engine, held: &Held, choice: &Right<usize, usize>) -> u64 {
+    match choice {
+        Right::Choose(_, _, Atom::Net(slot)) => {
+            number_in(&held.regs, slot.saturating_sub(engine.code.first_reg))
+        }
+        _ => 0,
+    }
 }
 
 // The spare row becomes what is read of an array that is written clock by clock.
@@ -163,6 +202,7 @@ fn propose_written(
     engine: &Engine,
     table: &mut Table,
     array: usize,
+    held: &Held,
     read: &WordRead,
     words: &mut [u64],
     written: Written,
@@ -181,6 +221,16 @@ fn propose_written(
                 return false;
             };
             propose_choice(table, &read.index, &maker.right, words);
+        }
+        Written::Copy => {
+            let Some(maker) = maker_at(engine, array) else {
+                return false;
+            };
+            let Some(put) = engine.code.puts.get(array) else {
+                return false;
+            };
+            let kept = kept_number(engine, held, &maker.right);
+            propose_copied(table, &read.index, &put.index, &maker.right, words, kept);
         }
     }
     true
@@ -215,7 +265,7 @@ fn read_written(
         return false;
     };
     copy_words(copy, words);
-    if !propose_written(engine, table, array, read, copy, written) {
+    if !propose_written(engine, table, array, held, read, copy, written) {
         return false;
     }
     offer_row(engine, table, done, read.target)
@@ -494,6 +544,7 @@ pub fn take_step(
         Step::Run { upto } => Some(run(engine, table, done, upto)),
         Step::Shift { update } => when(shift(engine, table, held, done, update), done),
         Step::Read { assign } => when(read(engine, table, held, done, assign), done),
+        Step::Load { update } => when(load(engine, table, held, done, update), done),
         Step::Small { assign } => {
             let put = Written::Put;
             when(
@@ -505,6 +556,13 @@ pub fn take_step(
             let choice = Written::Choice;
             when(
                 read_written(engine, table, held, hints, done, assign, choice),
+                done,
+            )
+        }
+        Step::Copied { assign } => {
+            let copy = Written::Copy;
+            when(
+                read_written(engine, table, held, hints, done, assign, copy),
                 done,
             )
         }

@@ -1,6 +1,6 @@
 //! `compile`: the Verilog text of a program.
 
-ghost use Rattle.std.specs.Prelude.{◌≡◌, ◌≢◌, ◌≤◌, ℕ, List, Some, Err, IfOk, IfErr, OnOk};
+ghost use Rattle.std.specs.Prelude.{◌≡◌, ◌≢◌, ◌≤◌, ℕ, List, Some, Err, IfOk, IfErr, IfSome, OnOk};
 ghost use Rattle.dk_base.specs.declared.TheConstants.{MAX_AGE};
 ghost use Rattle.dk_desk.specs.Calls.{HasCauseIn, IsIfTold, OpensOnly};
 ghost use Rattle.dk_top.specs.Command.{compile as compile_command};
@@ -22,7 +22,8 @@ use std::alloc::Global;
 // What a text is compiled to.
 pub fn compiled(alloc: Global, text: &[u8], options: Options) -> Result<Compiled, Ending>
     requires age { options.age ≤ MAX_AGE }
-    ensures compiled { IfOk result (IsCompiledFrom text.now options.age options.enable) }
+    requires block { IfSome options.block (λ n. 2 ≤ n) }
+    ensures compiled { IfOk result (IsCompiledFrom text.now options.age options.enable options.block) }
     ensures good { OnOk result (CanBeCompiled text.now options.age) }
     ensures fault { IfErr result (IsSourceEnding (IsFaultAt text.now options.age)) }
     ensures stops { IfErr result Stops }
@@ -45,8 +46,9 @@ pub fn read_compiled<D: Desk>(
     requires fresh { (D.outside desk.old).program.stage ≡ Stage.Unasked }
     requires before_create { (D.outside desk.old).file.stage ≡ Stage.Unasked }
     requires age { options.age ≤ MAX_AGE }
-    ensures compiled { IfOk result (λ c. OfFile (D.outside desk.old) name.now (λ source. IsCompiledFrom source options.age options.enable c)) }
-    ensures some { IfOk result (λ c. (source : List ℕ) × IsCompiledFrom source options.age options.enable c) }
+    requires block { IfSome options.block (λ n. 2 ≤ n) }
+    ensures compiled { IfOk result (λ c. OfFile (D.outside desk.old) name.now (λ source. IsCompiledFrom source options.age options.enable options.block c)) }
+    ensures some { IfOk result (λ c. (source : List ℕ) × IsCompiledFrom source options.age options.enable options.block c) }
     ensures good { OnOk result (OfFile (D.outside desk.old) name.now (λ source. CanBeCompiled source options.age)) }
     ensures fault { IfErr result (λ e. OfFile (D.outside desk.old) name.now (λ source. IsSourceEnding (IsFaultAt source options.age) e)) }
     ensures stops { IfErr result Stops }
@@ -72,7 +74,8 @@ fn verilog_of<D: Desk>(
     requires fresh { (D.outside desk.old).program.stage ≡ Stage.Unasked }
     requires before_create { (D.outside desk.old).file.stage ≡ Stage.Unasked }
     requires age { options.age ≤ MAX_AGE }
-    ensures text { IfOk result (λ text. OfFile (D.outside desk.old) name.now (λ source. IsCompiledText source options.age options.enable text.items)) }
+    requires block { IfSome options.block (λ n. 2 ≤ n) }
+    ensures text { IfOk result (λ text. OfFile (D.outside desk.old) name.now (λ source. IsCompiledText source options.age options.enable options.block text.items)) }
     ensures good { OnOk result (OfFile (D.outside desk.old) name.now (λ source. CanBeCompiled source options.age)) }
     ensures fault { IfErr result (λ e. OfFile (D.outside desk.old) name.now (λ source. IsSourceEnding (IsFaultAt source options.age) e)) }
     ensures stops { IfErr result Stops }
@@ -89,12 +92,13 @@ fn verilog_of<D: Desk>(
 
 /// Compiles the program, and writes its Verilog text once the text is whole.
 impl Work for CompileWords<'_> {
-    ghost command = { λ words. compile_command words.program.now words.out.now words.enable words.age };
+    ghost command = { λ words. compile_command words.program.now words.out.now words.enable words.age words.block };
 
     fn perform<D: Desk>(&self, alloc: Global, desk: &mut D) -> Ending {
         let options = Options {
             enable: self.enable,
             age: self.age,
+            block: self.block,
         };
         let text = match verilog_of(alloc, desk, self.program, options) {
             Ok(text) => text,

@@ -38,7 +38,7 @@ struct Ready {
 
 // The program of a number, compiled, and the frames of its image.
 fn made_ready(alloc: Global, n: u32) -> Result<Ready, Ending>
-    ensures compiled { IfOk result (λ r. IsCompiledFrom (program_of n) 0 false r.compiled) }
+    ensures compiled { IfOk result (λ r. IsCompiledFrom (program_of n) 0 false None r.compiled) }
     ensures again { IfOk result (λ r. r.«module» ≡ r.compiled.«module») }
     ensures input { IfOk result (λ r. IsInputOf None r.compiled.ir (image_of n) r.rounds.items) }
     ensures read { IfOk result (λ r. AreRead r.compiled.ir r.rounds.items) }
@@ -53,6 +53,7 @@ fn made_ready(alloc: Global, n: u32) -> Result<Ready, Ending>
     let options = Options {
         enable: false,
         age: 0,
+        block: None,
     };
     let compiled = match compiled(alloc, &made.program, options) {
         Ok(compiled) => compiled,

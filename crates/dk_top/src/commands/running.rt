@@ -36,7 +36,7 @@ use test_bench::run_bench;
 
 // The module that the Verilog text of a program denotes.
 pub fn read_again(alloc: Global, compiled: &Compiled) -> Result<Module, OutOfMemory>
-    requires { (source : List ℕ) × (age : ℕ) × IsCompiledFrom source age false compiled.now }
+    requires { (source : List ℕ) × (age : ℕ) × IsCompiledFrom source age false None compiled.now }
     ensures { IfOk result (λ m. m ≡ compiled.now.«module») }
 {
     match verilog_read::read(alloc, &compiled.text) {
@@ -70,7 +70,7 @@ pub fn clocked<D: Desk>(
     module: &Module,
     rounds: &[Round],
 ) -> Result<Vec<u8>, OutOfMemory>
-    requires compiled { (source : List ℕ) × (age : ℕ) × IsCompiledFrom source age false compiled.now }
+    requires compiled { (source : List ℕ) × (age : ℕ) × IsCompiledFrom source age false None compiled.now }
     requires again { «module».now ≡ compiled.now.«module» }
     requires read { AreRead compiled.now.ir rounds.now }
     ensures only { D.outside desk.new ≡ record (D.outside desk.old) { notes = (D.outside desk.new).notes } }
@@ -109,8 +109,8 @@ fn read_machine<D: Desk>(
     requires fresh { (D.outside desk.old).program.stage ≡ Stage.Unasked }
     requires before_create { (D.outside desk.old).file.stage ≡ Stage.Unasked }
     requires age { age ≤ MAX_AGE }
-    ensures compiled { IfOk result (λ m. OfFile (D.outside desk.old) program.now (λ source. IsCompiledFrom source age false m.compiled)) }
-    ensures some { IfOk result (λ m. (source : List ℕ) × IsCompiledFrom source age false m.compiled) }
+    ensures compiled { IfOk result (λ m. OfFile (D.outside desk.old) program.now (λ source. IsCompiledFrom source age false None m.compiled)) }
+    ensures some { IfOk result (λ m. (source : List ℕ) × IsCompiledFrom source age false None m.compiled) }
     ensures again { IfOk result (λ m. m.«module» ≡ m.compiled.«module») }
     ensures fault { IfErr result (λ e. OfFile (D.outside desk.old) program.now (λ source. IsSourceEnding (IsFaultAt source age) e)) }
     ensures stops { IfErr result Stops }
@@ -119,7 +119,11 @@ fn read_machine<D: Desk>(
     ensures only { OpensOnly InSlot.Program (D.outside desk.old) (D.outside desk.new) }
     ensures cause { HasCauseIn (result ≡ Err Ending.ReadFault) (D.outside desk.old).input_failures (D.outside desk.new).input_failures }
 {
-    let options = Options { enable: false, age };
+    let options = Options {
+        enable: false,
+        age,
+        block: None,
+    };
     let compiled = match read_compiled(alloc, desk, program, options) {
         Ok(compiled) => compiled,
         Err(ending) => return Err(ending),
@@ -138,7 +142,7 @@ fn ran<D: Desk>(
     module: &Module,
     image: &str,
 ) -> Result<Vec<u8>, Ending>
-    requires compiled { (source : List ℕ) × (age : ℕ) × IsCompiledFrom source age false compiled.now }
+    requires compiled { (source : List ℕ) × (age : ℕ) × IsCompiledFrom source age false None compiled.now }
     requires again { «module».now ≡ compiled.now.«module» }
     requires image { (D.outside desk.old).image.stage ≡ Stage.Unasked }
     requires file { (D.outside desk.old).file.stage ≡ Stage.Unasked }
@@ -175,7 +179,7 @@ fn run_rounds<D: Desk>(
     image: &str,
     out: &str,
 ) -> Ending
-    requires compiled { (source : List ℕ) × (age : ℕ) × IsCompiledFrom source age false compiled.now }
+    requires compiled { (source : List ℕ) × (age : ℕ) × IsCompiledFrom source age false None compiled.now }
     requires again { «module».now ≡ compiled.now.«module» }
     requires several { (p : Typing) → IsForm p compiled.now.ir → IsOnePort p → ⊥ }
     requires image { (D.outside desk.old).image.stage ≡ Stage.Unasked }

@@ -1,6 +1,6 @@
 //! `run` of a program with one input and one output: its images are read, clocked and written line by line.
 
-ghost use Rattle.std.specs.Prelude.{◌≡◌, ◌≢◌, ℕ, ◌≤◌, ◌-◌, ◌^◌, ◌∷◌, [], List, false, Err, IsTrue, length, slice_index};
+ghost use Rattle.std.specs.Prelude.{◌≡◌, ◌≢◌, ℕ, ◌≤◌, ◌-◌, ◌^◌, ◌∷◌, [], List, false, None, Err, IsTrue, length, slice_index};
 ghost use Rattle.dk_base.specs.declared.TheConstants.{MAX_LATENCY, MAX_PORT_WIDTH};
 ghost use Rattle.cycle_sim.specs.Ports.{din_widths};
 ghost use Rattle.dk_compile.specs.Fronts.{IsForm};
@@ -107,13 +107,13 @@ fn run_lines<D: Desk>(
     image: &str,
     out: &str,
 ) -> Ending
-    requires compiled { (source : List ℕ) × (age : ℕ) × IsCompiledFrom source age false compiled.now }
+    requires compiled { (source : List ℕ) × (age : ℕ) × IsCompiledFrom source age false None compiled.now }
     requires again { «module».now ≡ compiled.now.«module» }
     requires one { (p : Typing) → IsForm p compiled.now.ir → IsOnePort p }
     requires image { (D.outside desk.old).image.stage ≡ Stage.Unasked }
     requires file { (D.outside desk.old).file.stage ≡ Stage.Unasked }
     ensures memory { result ≡ Ending.Memory → D.outside desk.new ≡ D.outside desk.old }
-    ensures runs { result ≢ Ending.Memory → (source : List ℕ) (age : ℕ) → (from : IsCompiledFrom source age false compiled.now)
+    ensures runs { result ≢ Ending.Memory → (source : List ℕ) (age : ℕ) → (from : IsCompiledFrom source age false None compiled.now)
         → StreamsFrom from.program compiled.now.plan «module».now.netlist image.now out.now (D.outside desk.old) (D.outside desk.new) result }
     ensures read { HasCauseIn (result ≡ Ending.ReadFault) (D.outside desk.old).input_failures (D.outside desk.new).input_failures }
     ensures write { HasCauseIn (result ≡ Ending.WriteFault) (D.outside desk.old).output_failures (D.outside desk.new).output_failures }
@@ -153,7 +153,7 @@ pub fn run_streamed<D: Desk>(
     image: &str,
     out: &str,
 ) -> Ending
-    requires compiled { (source : List ℕ) × (age : ℕ) × IsCompiledFrom source age false compiled.now }
+    requires compiled { (source : List ℕ) × (age : ℕ) × IsCompiledFrom source age false None compiled.now }
     requires again { «module».now ≡ compiled.now.«module» }
     requires one { (p : Typing) → IsForm p compiled.now.ir → IsOnePort p }
     requires image { (D.outside desk.old).image.stage ≡ Stage.Unasked }

@@ -26,6 +26,7 @@ returns c = record {
     whole = c.in_ok-module.ensures.whole;
     runs = c.in_ok-module.ensures.runs;
     bits = c.in_ok-module.ensures.bits;
+    fed = c.in_ok-module.ensures.fed;
     still = c.in_ok-module.ensures.still;
   };
   named = subst (λ (m : NamedNetlist). m.names ≡ names_for m.netlist) (sym c.in_ok-module.ensures.made) refl;

@@ -1,45 +1,35 @@
 use Rattle.std.proofs.Common.{subst, sym}
 use Rattle.circuit.specs.Ends.{CanEnd, IsClosed}
-use Rattle.circuit.proofs.Behaving.{can_end, behaves, whole, bits, arrays, properties, apart, nets_of_images}
+use Rattle.circuit.proofs.Behaving.{can_end, module_is, whole, arrays, properties, apart}
 use Rattle.circuit.proofs.finishing.finished.Goals as goal
 
 pub closed-requires : goal.closed-requires
 closed-requires g c = record {
   ends = subst (CanEnd c.args.b c.args.plan.now) (sym c.deref.ensures.value)
-      (can_end c.args.b c.args.ir.now c.args.plan.now (g.F.BufferForm.shapes c.args.form.now) (g.F.BufferForm.places c.args.form.now) (g.F.BufferForm.property c.args.form.now) c.args.nets.items c.args.taps.now c.law.ensures c.requires.stencils c.requires.built);
+      (can_end c.args.b c.args.ir.now c.args.plan.now (g.F.BufferForm.form c.args.form.now) c.args.nets.items c.args.taps.now c.law.ensures c.requires.stencils c.requires.built);
 }
 
 pub returns-clause-whole : goal.returns-clause-whole
 returns-clause-whole g c =
-    whole c.in_ok-module.module.netlist c.args.b c.args.ir.now c.args.plan.now (g.F.BufferForm.shapes c.args.form.now) (g.F.BufferForm.places c.args.form.now) (g.F.BufferForm.property c.args.form.now) c.args.nets.items c.args.taps.now c.law.ensures c.requires.stencils c.requires.built
+    whole c.in_ok-module.module.netlist c.args.b c.args.ir.now c.args.plan.now (g.F.BufferForm.form c.args.form.now) c.args.nets.items c.args.taps.now c.law.ensures c.requires.stencils c.requires.built
     (subst (IsClosed c.in_ok-module.module.netlist c.args.b c.args.plan.now) c.deref.ensures.value c.in_ok-module.ensures.closed)
 
-pub returns-clause-behaves : goal.returns-clause-behaves
-returns-clause-behaves g c =
-    behaves c.in_ok-module.module.netlist c.args.b c.args.ir.now c.args.plan.now (g.F.BufferForm.shapes c.args.form.now) (g.F.BufferForm.places c.args.form.now) (g.F.BufferForm.property c.args.form.now) c.args.nets.items c.args.taps.now c.law.ensures c.requires.stencils c.requires.built
-    (subst (IsClosed c.in_ok-module.module.netlist c.args.b c.args.plan.now) c.deref.ensures.value c.in_ok-module.ensures.closed)
-
-pub returns-clause-bits : goal.returns-clause-bits
-returns-clause-bits g c =
-    bits c.in_ok-module.module.netlist c.args.b c.args.ir.now c.args.plan.now (g.F.BufferForm.shapes c.args.form.now) (g.F.BufferForm.places c.args.form.now) (g.F.BufferForm.property c.args.form.now) c.args.nets.items c.args.taps.now c.law.ensures c.requires.stencils c.requires.built
+pub returns-clause-circuit : goal.returns-clause-circuit
+returns-clause-circuit g c =
+    module_is c.in_ok-module.module.netlist c.args.b c.args.ir.now c.args.plan.now (g.F.BufferForm.form c.args.form.now) c.args.nets.items c.args.taps.now c.law.ensures c.requires.stencils c.requires.built
     (subst (IsClosed c.in_ok-module.module.netlist c.args.b c.args.plan.now) c.deref.ensures.value c.in_ok-module.ensures.closed)
 
 pub returns-clause-arrays : goal.returns-clause-arrays
 returns-clause-arrays g c =
-    arrays c.in_ok-module.module.netlist c.args.b c.args.ir.now c.args.plan.now (g.F.BufferForm.shapes c.args.form.now) (g.F.BufferForm.places c.args.form.now) (g.F.BufferForm.property c.args.form.now) c.args.nets.items c.args.taps.now c.law.ensures c.requires.stencils c.requires.built
+    arrays c.in_ok-module.module.netlist c.args.b c.args.ir.now c.args.plan.now (g.F.BufferForm.form c.args.form.now) c.args.nets.items c.args.taps.now c.law.ensures c.requires.stencils c.requires.built
     (subst (IsClosed c.in_ok-module.module.netlist c.args.b c.args.plan.now) c.deref.ensures.value c.in_ok-module.ensures.closed)
 
 pub returns-clause-property : goal.returns-clause-property
 returns-clause-property g c =
-    properties c.in_ok-module.module.netlist c.args.b c.args.ir.now c.args.plan.now (g.F.BufferForm.shapes c.args.form.now) (g.F.BufferForm.places c.args.form.now) (g.F.BufferForm.property c.args.form.now) c.args.nets.items c.args.taps.now c.law.ensures c.requires.stencils c.requires.built
+    properties c.in_ok-module.module.netlist c.args.b c.args.ir.now c.args.plan.now (g.F.BufferForm.form c.args.form.now) c.args.nets.items c.args.taps.now c.law.ensures c.requires.stencils c.requires.built
     (subst (IsClosed c.in_ok-module.module.netlist c.args.b c.args.plan.now) c.deref.ensures.value c.in_ok-module.ensures.closed)
 
 pub returns-clause-apart : goal.returns-clause-apart
 returns-clause-apart g c =
-    apart c.in_ok-module.module.netlist c.args.b c.args.ir.now c.args.plan.now (g.F.BufferForm.shapes c.args.form.now) (g.F.BufferForm.places c.args.form.now) (g.F.BufferForm.property c.args.form.now) c.args.nets.items c.args.taps.now c.law.ensures c.requires.stencils c.requires.built
-    (subst (IsClosed c.in_ok-module.module.netlist c.args.b c.args.plan.now) c.deref.ensures.value c.in_ok-module.ensures.closed)
-
-pub returns-clause-nets : goal.returns-clause-nets
-returns-clause-nets g c =
-    nets_of_images c.in_ok-module.module.netlist c.args.b c.args.ir.now c.args.plan.now (g.F.BufferForm.shapes c.args.form.now) (g.F.BufferForm.places c.args.form.now) (g.F.BufferForm.property c.args.form.now) c.args.nets.items c.args.taps.now c.law.ensures c.requires.stencils c.requires.built
+    apart c.in_ok-module.module.netlist c.args.b c.args.ir.now c.args.plan.now (g.F.BufferForm.form c.args.form.now) c.args.nets.items c.args.taps.now c.law.ensures c.requires.stencils c.requires.built
     (subst (IsClosed c.in_ok-module.module.netlist c.args.b c.args.plan.now) c.deref.ensures.value c.in_ok-module.ensures.closed)

@@ -2,4 +2,4 @@ use Rattle.circuit.proofs.Driven.{drives}
 use Rattle.circuit.proofs.laws.frame_drive_law.Goals as goal
 
 pub returns : goal.returns
-returns c m p plan places nets enable program ports whole runs behaves = drives m p plan places nets enable program ports whole runs behaves
+returns c m p plan places copies nets enable program ports whole runs behaves = drives m p plan places copies nets enable program ports whole runs behaves

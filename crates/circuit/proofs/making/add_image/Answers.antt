@@ -16,21 +16,21 @@ image_net-requires-clause-reading g c =
     let i = slice_index_or c.images.result.now c.args.k none in
     let form = c.args.form.now in
     subst (λ (ts : List (List Net)). IsReading c.args.b.now c.args.ir.now plan ts i.number) (sym c.deref.ensures.value)
-    (next_reading c.args.b.now c.args.ir.now plan (g.F.BufferForm.shapes form) (g.F.BufferForm.places form) (g.F.BufferForm.property form) c.args.k c.args.nets.now.items c.args.taps.now.items i c.law.ensures c.requires.stencils (image_at plan.system.stencils.images c.images.result.now c.args.k none c.images.ensures c.requires.within) c.requires.built)
+    (next_reading c.args.b.now c.args.ir.now plan (g.F.BufferForm.form form) c.args.k c.args.nets.now.items c.args.taps.now.items i c.law.ensures c.requires.stencils (image_at plan.system.stencils.images c.images.result.now c.args.k none c.images.ensures c.requires.within) c.requires.built)
 
 pub add-requires-clause-kept : goal.add-requires-clause-kept
 add-requires-clause-kept g c =
     let plan = c.args.plan.now in
     let i = slice_index_or c.images.result.now c.args.k none in
     let form = c.args.form.now in
-    next_kept c.args.b.now c.args.ir.now plan (g.F.BufferForm.shapes form) (g.F.BufferForm.places form) (g.F.BufferForm.property form) c.args.k c.args.nets.now.items c.args.taps.now.items i c.law.ensures c.requires.stencils (image_at plan.system.stencils.images c.images.result.now c.args.k none c.images.ensures c.requires.within) c.requires.built
+    next_kept c.args.b.now c.args.ir.now plan (g.F.BufferForm.form form) c.args.k c.args.nets.now.items c.args.taps.now.items i c.law.ensures c.requires.stencils (image_at plan.system.stencils.images c.images.result.now c.args.k none c.images.ensures c.requires.within) c.requires.built
 
 pub add-requires-clause-arrays : goal.add-requires-clause-arrays
 add-requires-clause-arrays g c =
     let plan = c.args.plan.now in
     let i = slice_index_or c.images.result.now c.args.k none in
     let form = c.args.form.now in
-    next_arrays c.args.b.now c.args.ir.now plan (g.F.BufferForm.shapes form) (g.F.BufferForm.places form) (g.F.BufferForm.property form) c.args.k c.args.nets.now.items c.args.taps.now.items i c.law.ensures c.requires.stencils (image_at plan.system.stencils.images c.images.result.now c.args.k none c.images.ensures c.requires.within) c.requires.built
+    next_arrays c.args.b.now c.args.ir.now plan (g.F.BufferForm.form form) c.args.k c.args.nets.now.items c.args.taps.now.items i c.law.ensures c.requires.stencils (image_at plan.system.stencils.images c.images.result.now c.args.k none c.images.ensures c.requires.within) c.requires.built
     c.image_net.new.b c.in_ok-net.ensures.adds
 
 pub returns-clause-built : goal.returns-clause-built
@@ -38,10 +38,10 @@ returns-clause-built g c =
     let plan = c.args.plan.now in
     let i = slice_index_or c.images.result.now c.args.k none in
     let form = c.args.form.now in
-    let built = next_built c.args.b.now c.args.ir.now plan (g.F.BufferForm.shapes form) (g.F.BufferForm.places form) (g.F.BufferForm.property form) c.args.k c.args.nets.now.items c.args.taps.now.items i c.law.ensures c.requires.stencils (image_at plan.system.stencils.images c.images.result.now c.args.k none c.images.ensures c.requires.within) c.requires.built
+    let built = next_built c.args.b.now c.args.ir.now plan (g.F.BufferForm.form form) c.args.k c.args.nets.now.items c.args.taps.now.items i c.law.ensures c.requires.stencils (image_at plan.system.stencils.images c.images.result.now c.args.k none c.images.ensures c.requires.within) c.requires.built
     c.add.new.b c.image_net.new.b c.in_ok-net.net c.in_ok-own.own c.in_ok-net.ensures.adds
     (subst (λ (ts : List (List Net)). IsImageNet c.image_net.new.b c.args.b.now c.args.ir.now plan ts i.number c.in_ok-net.net) c.deref.ensures.value c.in_ok-net.ensures.net)
-    c.in_ok-own.ensures.buffered c.law-2.ensures.draft
+    c.in_ok-own.ensures.buffered c.law-2.ensures.draft c.law-3.ensures.draft
     in
-    subst (λ (ns : List Net). AreBuilt c.add.new.b c.args.ir.now plan (g.F.BufferForm.shapes form) (g.F.BufferForm.places form) (g.F.BufferForm.property form) (suc c.args.k) ns c.push-2.new.self.items) (sym c.in_ok-push.ensures.items)
-    (subst (λ (ts : List (List Net)). AreBuilt c.add.new.b c.args.ir.now plan (g.F.BufferForm.shapes form) (g.F.BufferForm.places form) (g.F.BufferForm.property form) (suc c.args.k) (c.args.nets.now.items ++ c.in_ok-net.net ∷ []) ts) (sym c.in_ok-push-2.ensures.items) built)
+    subst (λ (ns : List Net). AreBuilt c.add.new.b c.args.ir.now plan (g.F.BufferForm.form form) (suc c.args.k) ns c.push-2.new.self.items) (sym c.in_ok-push.ensures.items)
+    (subst (λ (ts : List (List Net)). AreBuilt c.add.new.b c.args.ir.now plan (g.F.BufferForm.form form) (suc c.args.k) (c.args.nets.now.items ++ c.in_ok-net.net ∷ []) ts) (sym c.in_ok-push-2.ensures.items) built)

@@ -5,5 +5,5 @@ use Rattle.circuit.proofs.making.add_images.Given as goal
 abbrev pub invariant-loop-k : goal.invariant-loop-k
 invariant-loop-k g l = record {
   enable : l.b.enable ≡ l.fn.b.enable;
-  built : AreBuilt l.b l.ir l.plan (g.F.BufferForm.shapes l.form) (g.F.BufferForm.places l.form) (g.F.BufferForm.property l.form) l.k l.nets.items l.taps.items;
+  built : AreBuilt l.b l.ir l.plan (g.F.BufferForm.form l.form) l.k l.nets.items l.taps.items;
 }

@@ -9,7 +9,7 @@ returns-then-has_en-clause-adds c = control_on c.args.b.now c.started.new.b c.ga
 pub returns-then-has_en-clause-valid : goal.returns-then-has_en-clause-valid
 returns-then-has_en-clause-valid c =
     started_enabled c.gate.new.b c.started.new.b c.args.latency c.en-en.result c.in_ok-begun.begun c.in_ok-net.net (c.gate.ensures.logic.includes.enable ∙ sym c.has_en.ensures ∙ c.if-has_en.true) c.en-en.ensures.enable c.gate.ensures.logic.includes
-    c.in_ok-begun.ensures.starts c.in_ok-net.ensures.gate
+    c.in_ok-begun.ensures.starts c.in_ok-begun.ensures.control c.in_ok-net.ensures.gate
 
 pub returns-clause-valid : goal.returns-clause-valid
-returns-clause-valid c = started_free c.started.new.b c.args.latency c.in_ok-begun.begun (sym c.has_en.ensures ∙ c.if-has_en.false) c.in_ok-begun.ensures.starts
+returns-clause-valid c = started_free c.started.new.b c.args.latency c.in_ok-begun.begun (sym c.has_en.ensures ∙ c.if-has_en.false) c.in_ok-begun.ensures.starts c.in_ok-begun.ensures.control

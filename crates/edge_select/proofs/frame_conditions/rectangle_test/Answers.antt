@@ -1,6 +1,7 @@
-use Rattle.std.proofs.Common.{[], ◌∷◌}
+use Rattle.std.proofs.Common.{[], ◌∷◌, ◌∙◌}
 use Rattle.wiring.specs.Snapshot.{net_value}
 use Rattle.net_build.proofs.Parts.{includes_on}
+use Rattle.net_build.proofs.Grown.{net_more, width_more}
 use Rattle.edge_select.specs.Logic.{is_within}
 use Rattle.net_build.proofs.Logic.{logic_on, first_in, second_in, none_in, more_in}
 use Rattle.edge_select.proofs.Combining.{tests_bit, bit_more, tests_more, tests_since, tests_from, both_tests, test_computes}
@@ -41,3 +42,9 @@ returns-clause-test c =
     test_computes c.test_net.new.b three old from _ c.in_ok-test.test c.in_ok-net.net c.test_net.ensures.logic.includes (includes_on _ _ _ f1 (includes_on _ _ _ f2 f3))
     (both_tests three two old from (λ s. is_within p.size.width r.across.first r.across.last (net_value s p.column)) (λ s. is_within p.size.height r.down.first r.down.last (net_value s p.row)) c.in_ok-across.across c.in_ok-down.down c.in_ok-test.test f3 across down c.in_ok-test.ensures.test)
     c.in_ok-net.ensures.net
+
+pub within-requires-2-clause-x : goal.within-requires-2-clause-x
+within-requires-2-clause-x c = net_more _ _ c.within.ensures.logic.includes c.args.pixel.now.row c.requires.pixel.row
+
+pub within-requires-2-clause-width : goal.within-requires-2-clause-width
+within-requires-2-clause-width c = width_more _ _ c.within.ensures.logic.includes c.args.pixel.now.row c.requires.pixel.row.declared ∙ c.requires.pixel.row_width

@@ -28,7 +28,7 @@ pub returns-clause-inside : goal.returns-clause-inside
 returns-clause-inside c b a access f is = stays_more b a access f is
 
 pub returns-clause-still : goal.returns-clause-still
-returns-clause-still c b a h f is = still_more b a h f is
+returns-clause-still c b a copies h f is = still_more b a copies h f is
 
 pub returns-clause-words : goal.returns-clause-words
 returns-clause-words c part m from before d s x shape is there = array_long m s.contents x shape (clock_contents part m from before d s is) (at_Begins part.arrays m.arrays x shape is.whole.includes.arrays there)

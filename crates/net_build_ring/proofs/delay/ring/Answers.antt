@@ -95,3 +95,6 @@ returns-clause-reads c =
   where
     own_is : (y x : ℕ) → y ≡ x → IsTrue (y == x)
     own_is y x e = grind arith
+
+pub returns-clause-control : goal.returns-clause-control
+returns-clause-control c copies is = c.op.ensures.control copies (c.put.ensures.control copies (c.array.ensures.control copies (c.in_ok-index.ensures.adds.control copies is)))

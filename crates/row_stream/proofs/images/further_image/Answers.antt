@@ -1,10 +1,13 @@
 use Rattle.std.proofs.Common.{◌≡◌, arith, refl, subst}
 use Rattle.std.specs.Prelude.{option_to_list}
 use Rattle.std.specs.Io.KnownBytes.{prepend_known}
-use Rattle.row_stream.specs.Ends.{too_many}
+use Rattle.row_stream.specs.Ends.{at_byte}
 use Rattle.row_stream.proofs.images.further_image.Goals as goal
 
 pub returns-in-Ok-Some-clause-err : goal.returns-in-Ok-Some-clause-err
 returns-in-Ok-Some-clause-err g c =
-    too_many (omega (arith, c.requires.images, c.if-images-lt-MAX_FILE_IMAGES.false)) refl c.in-Ok-Some.field-0-0
-    (subst (λ z. (g.D.Desk.outside c.args.desk.now).image.rest ≡ prepend_known (option_to_list z) (g.D.Desk.outside c.next_byte.new.desk).image.rest) c.in-Ok-Some.field-0-is c.in-Ok-Some.ensures.given)
+    at_byte (omega (arith, c.requires.images, c.if-images-lt-MAX_FILE_IMAGES.false)) (
+      c.in-Ok-Some.field-0-0,
+      refl,
+      subst (λ z. (g.D.Desk.outside c.args.desk.now).image.rest ≡ prepend_known (option_to_list z) (g.D.Desk.outside c.next_byte.new.desk).image.rest) c.in-Ok-Some.field-0-is c.in-Ok-Some.ensures.given,
+    )

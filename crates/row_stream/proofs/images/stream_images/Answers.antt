@@ -5,8 +5,8 @@ use Rattle.row_stream.specs.Forms.{kind_of}
 use Rattle.row_stream.specs.Standing.{Lasts}
 use Rattle.row_stream.specs.Heads.{TakesHead, FitsHeader}
 use Rattle.row_stream.specs.RowReading.{Streams}
-use Rattle.row_stream.specs.ImageReading.{EndsImage, unread}
-use Rattle.row_stream.proofs.ImageEnds.{stands_none, stands_more, ends_behind, ends_further, ends_image, streams_all}
+use Rattle.row_stream.specs.ImageReading.{EndsImage, found_behind, unread}
+use Rattle.row_stream.proofs.ImageEnds.{stands_none, stands_more, ends_behind, ends_image, streams_all}
 use Rattle.row_stream.proofs.images.stream_images.Goals as goal
 
 pub loop-images-init : goal.loop-images-init
@@ -43,7 +43,7 @@ returns-in-Err-further_image-clause-err g c before t =
     let start = unread before (g.D.Desk.outside c.args.desk.now) in
     let header = c.loop-images.header in
     let here = subst (λ z. Streams kind z header header.height c.loop-images.sim.contents c.stream_image.new.sim.contents c.loop-images.line c.stream_image.new.line (g.D.Desk.outside c.loop-images.desk) (g.D.Desk.outside c.stream_image.new.desk)) inv.netlist c.in-Ok.ensures.ok in
-    ends_further kind m c.args.bits c.in-Err-further_image.fault before.rest c.args.sim.now.contents c.args.line.now start (g.D.Desk.outside c.further_image.new.desk)
+    found_behind
     (ends_behind kind m c.args.bits c.loop-images.images c.loop-images.offset header before.rest c.args.sim.now.contents c.loop-images.sim.contents c.args.line.now c.loop-images.line start (g.D.Desk.outside c.loop-images.desk) (g.D.Desk.outside c.stream_image.new.desk)
     inv.fits (inv.stands before t) c.stream_image.new.sim.contents c.stream_image.new.line here (c.loop-images.offset + c.image_bytes-offset.result) (ap (λ z. c.loop-images.offset + z) c.image_bytes-offset.ensures.is)
     c.in-Err-further_image.fault (g.D.Desk.outside c.further_image.new.desk) c.in-Err-further_image.ensures.only c.in-Err-further_image.ensures.err)

@@ -3,7 +3,7 @@ use Rattle.dk_desk.specs.declared.OutSlot.TheVariants.{File}
 use Rattle.dk_desk.specs.Calls.{AddsToFile, WritesFront}
 use Rattle.row_stream.specs.Lines.{header_before}
 use Rattle.row_stream.specs.Forms.{kind_of}
-use Rattle.row_stream.proofs.Adding.{still_pending, failed_line, written_line}
+use Rattle.row_stream.proofs.Adding.{failed_line, written_line}
 use Rattle.row_stream.proofs.Adding as A
 use Rattle.row_stream.proofs.line.add.Goals as goal
 

@@ -7,7 +7,7 @@ use Rattle.row_stream.specs.Heads.{TakesHead, FitsHeader}
 use Rattle.row_stream.specs.ImageReading.{EndsImages, StreamsAll, unread}
 use Rattle.row_stream.specs.Whole.{write_first}
 use Rattle.row_stream.proofs.RowLemmas.{read_only}
-use Rattle.row_stream.proofs.Leaving.{leaves_first, leaves_images, leaves_all, fails_behind, taken_out}
+use Rattle.row_stream.proofs.Leaving.{leaves_first, leaves_images, leaves_all, fails_behind, taken_out, unless_read}
 use Rattle.row_stream.proofs.streaming.stream.Goals as goal
 
 pub returns-in-Err-clause-err : goal.returns-in-Err-clause-err
@@ -35,9 +35,11 @@ returns-in-Err-stream_images-clause-err g c =
     let takes : TakesHead c.in-Ok-Some.header old.image before.image = subst (λ z. IfSome z (λ h. TakesHead h old.image before.image)) c.in-Ok-Some.field-0-is c.in-Ok-Some.ensures.ok in
     let there : TakesHead c.in-Ok-Some.header old.image reset.image = subst (λ (z : Input). TakesHead c.in-Ok-Some.header old.image z) (sym c.in-Ok.ensures.idle) takes in
     let b = c.in-Ok.ensures.ok in
+    let read = c.in-Err-stream_images.ensures.read in
     let here = subst (λ z. EndsImages kind z c.args.bits c.in-Err-stream_images.fault old.image.rest c.begin.new.sim.contents c.begin.new.line (unread old.image reset) now) c.in-Ok.ensures.netlist (c.in-Err-stream_images.ensures.err old.image there) in
     leaves_images kind m c.args.bits c.args.latency c.args.name.now c.args.sim.now.contents c.begin.new.sim.contents c.args.room.line c.begin.new.line old before b.created b.begun reset c.requires.room.fresh (omega (arith, c.requires.room.line.below))
     (read_only old before c.in-Ok-Some.ensures.only same) b.creates b.header b.goes c.in-Err-stream_images.fault now here
+    (λ other. unless_read c.in-Err-stream_images.fault reset.input_failures now.input_failures read.later (λ l. taken_out c.in-Err-stream_images.fault (read.always l)) other ∙ (c.in-Ok.ensures.no_read ∙ same))
 
 pub returns-in-Err-flush-clause-err : goal.returns-in-Err-flush-clause-err
 returns-in-Err-flush-clause-err g c =

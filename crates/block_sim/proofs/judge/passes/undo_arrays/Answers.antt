@@ -3,7 +3,7 @@ use Rattle.std.specs.Prelude.{slice_get, slice_index_or}
 use Rattle.std.proofs.lemmas.Option.{slice_get_read}
 use Rattle.cycle_sim.specs.Slots.{words_of}
 use Rattle.block_rows.specs.Rights.{items_of}
-use Rattle.block_sim.specs.Arrays.{PutsInside, ArePut, AreInsideAll}
+use Rattle.block_sim.specs.Arrays.{PutsInside, ArePut}
 use Rattle.block_sim.proofs.Vectors.{vec_get, length-items}
 use Rattle.block_sim.proofs.AllPasses.{put_back, all_back, length-put}
 use Rattle.block_sim.proofs.judge.passes.undo_arrays.Goals as goal

@@ -14,5 +14,5 @@ chain-requires-clause-bits c = plan_wide c.args.plan.now c.args.image c.width.re
 
 pub returns-clause-buffered : goal.returns-clause-buffered
 returns-clause-buffered c =
-    form_buffered chain_shapes chain_place IsReadOnce c.chain.new.b c.args.b.now c.args.plan.now c.args.image c.width.result c.ages.result.now c.args.value c.in_ok-nets.nets.items c.new.result c.ages.ensures.ages c.width.ensures c.new.ensures c.requires.arrays
+    form_buffered chain_shapes chain_place (λ words. IsReadOnce) c.chain.new.b c.args.b.now c.args.plan.now c.args.image c.width.result c.ages.result.now c.args.value c.in_ok-nets.nets.items c.new.result c.ages.ensures.ages c.width.ensures c.new.ensures c.requires.arrays
     (chain_bits (width_of c.args.plan.now c.args.image) (ages_of c.args.plan.now c.args.image) (are_ages c.args.plan.now c.args.image).ascending) c.in_ok-nets.ensures.adds c.in_ok-nets.ensures.buffer c.in_ok-nets.ensures.made c.in_ok-nets.ensures.fills c.in_ok-nets.ensures.once

@@ -13,5 +13,5 @@ ring-requires-clause-bits c = plan_wide c.args.plan.now c.args.image c.width.res
 
 pub returns-clause-buffered : goal.returns-clause-buffered
 returns-clause-buffered c =
-    form_buffered ring_shapes ring_place (λ reads puts. ⊤) c.ring.new.b c.args.b.now c.args.plan.now c.args.image c.width.result c.ages.result.now c.args.value c.in_ok-nets.nets.items c.new.result c.ages.ensures.ages c.width.ensures c.new.ensures c.requires.arrays
+    form_buffered ring_shapes ring_place (λ words reads puts. ⊤) c.ring.new.b c.args.b.now c.args.plan.now c.args.image c.width.result c.ages.result.now c.args.value c.in_ok-nets.nets.items c.new.result c.ages.ensures.ages c.width.ensures c.new.ensures c.requires.arrays
     (ring_bits (width_of c.args.plan.now c.args.image) (ages_of c.args.plan.now c.args.image)) c.in_ok-nets.ensures.adds c.in_ok-nets.ensures.buffer c.in_ok-nets.ensures.made c.in_ok-nets.ensures.fills (λ x low high. tt)

@@ -2,4 +2,4 @@ use Rattle.dk_top.proofs.CompileLemmas.{text_told}
 use Rattle.dk_top.proofs.commands.compiling.verilog_of.Goals as goal
 
 pub returns-in-Ok-clause-text : goal.returns-in-Ok-clause-text
-returns-in-Ok-clause-text g c = text_told _ c.args.name.now c.args.options.age c.args.options.enable c.in-Ok.compiled c.in-Ok.ensures.compiled
+returns-in-Ok-clause-text g c = text_told _ c.args.name.now c.args.options.age c.args.options.enable c.args.options.block c.in-Ok.compiled c.in-Ok.ensures.compiled

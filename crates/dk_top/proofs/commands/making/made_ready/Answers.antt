@@ -6,7 +6,7 @@ use Rattle.dk_top.proofs.commands.making.made_ready.Goals as goal
 
 pub returns-in-Ok-read_frames-clause-compiled : goal.returns-in-Ok-read_frames-clause-compiled
 returns-in-Ok-read_frames-clause-compiled c =
-    subst (λ (t : List ℕ). IsCompiledFrom t 0 false c.in-Ok-compiled.compiled) (c.deref.ensures.value ∙ c.in-Ok.ensures.program) c.in-Ok-compiled.ensures.compiled
+    subst (λ (t : List ℕ). IsCompiledFrom t 0 false None c.in-Ok-compiled.compiled) (c.deref.ensures.value ∙ c.in-Ok.ensures.program) c.in-Ok-compiled.ensures.compiled
 
 pub returns-in-Ok-read_frames-clause-good : goal.returns-in-Ok-read_frames-clause-good
 returns-in-Ok-read_frames-clause-good c =

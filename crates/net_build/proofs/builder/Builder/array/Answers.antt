@@ -54,7 +54,7 @@ returns-clause-shape c =
     (last ∙ ap (λ (w : ℕ). Some (let s : Shape = record { width = w; depth = c.new-2.result } in s)) c.new.ensures ∙ ap (λ (d : ℕ). Some (let s : Shape = record { width = c.args.width; depth = d } in s)) c.new-2.ensures))
 
 pub returns-in_err-x-clause-control : goal.returns-in_err-x-clause-control
-returns-in_err-x-clause-control c is = subst IsControlled (sym c.in_err-x.ensures.err) (subst IsControlled (sym c.self.view_is) is)
+returns-in_err-x-clause-control c copies is = subst (λ (b : Netlist). IsControlled b copies) (sym c.in_err-x.ensures.err) (subst (λ (b : Netlist). IsControlled b copies) (sym c.self.view_is) is)
 
 pub returns-clause-control : goal.returns-clause-control
-returns-clause-control c is = subst IsControlled (sym c.in_ok-x.ensures.ok) (array_control (netlist_of c.self.inside.wiring) (record { width = c.new.result; depth = c.new-2.result }) (subst IsControlled (sym c.self.view_is) is))
+returns-clause-control c copies is = subst (λ (b : Netlist). IsControlled b copies) (sym c.in_ok-x.ensures.ok) (array_control (netlist_of c.self.inside.wiring) (record { width = c.new.result; depth = c.new-2.result }) copies (subst (λ (b : Netlist). IsControlled b copies) (sym c.self.view_is) is))

@@ -47,10 +47,10 @@ pub returns-clause-wires : goal.returns-clause-wires
 returns-clause-wires c = subst (AddsWires (netlist_of c.wire_of.new.wiring)) c.self.view_is (wires_op (netlist_of c.self.inside.wiring) (netlist_of c.wire_of.new.wiring) c.args.operation c.in_ok-k.ensures.ok)
 
 pub returns-in_err-k-clause-control : goal.returns-in_err-k-clause-control
-returns-in_err-k-clause-control c is = subst IsControlled (sym c.in_err-k.ensures.err) (subst IsControlled (sym c.self.view_is) is)
+returns-in_err-k-clause-control c copies is = subst (λ (b : Netlist). IsControlled b copies) (sym c.in_err-k.ensures.err) (subst (λ (b : Netlist). IsControlled b copies) (sym c.self.view_is) is)
 
 pub returns-clause-control : goal.returns-clause-control
-returns-clause-control c is = op_control (netlist_of c.self.inside.wiring) (netlist_of c.wire_of.new.wiring) c.args.operation c.in_ok-k.ensures.ok (subst IsControlled (sym c.self.view_is) is)
+returns-clause-control c copies is = op_control (netlist_of c.self.inside.wiring) (netlist_of c.wire_of.new.wiring) c.args.operation copies c.in_ok-k.ensures.ok (subst (λ (b : Netlist). IsControlled b copies) (sym c.self.view_is) is)
 
 pub returns-clause-made_of : goal.returns-clause-made_of
 returns-clause-made_of c base all =

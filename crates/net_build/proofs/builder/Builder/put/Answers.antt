@@ -27,4 +27,4 @@ pub returns-clause-stops : goal.returns-clause-stops
 returns-clause-stops c never inside = stops_put (netlist_of c.self.inside.wiring) c.args.self.now c.add_put.new.updates.items c.args.array (atom.Net c.args.index) (atom.Net c.args.value) c.self.view_is c.add_put.ensures.items never inside
 
 pub returns-clause-control : goal.returns-clause-control
-returns-clause-control c is = control_put (netlist_of c.self.inside.wiring) c.args.self.now c.add_put.new.updates.items c.args.array (atom.Net c.args.index) (atom.Net c.args.value) c.self.view_is c.add_put.ensures.items is
+returns-clause-control c copies is = control_put (netlist_of c.self.inside.wiring) c.args.self.now c.add_put.new.updates.items c.args.array (atom.Net c.args.index) (atom.Net c.args.value) copies c.self.view_is c.add_put.ensures.items is

@@ -1,16 +1,16 @@
-use Rattle.std.proofs.Common.{map, refl, sym, subst, ap, ◌∙◌}
+use Rattle.std.proofs.Common.{ℕ, [], ◌∷◌, ◌++◌, length, map, refl, sym, subst, ap, ◌∙◌}
 use Rattle.wiring.specs.declared.netlist.Assign.{Assign}
 use Rattle.wiring.specs.declared.netlist.Net.TheVariants.{Reg}
 use Rattle.wiring.specs.Sizes.{IsWidth}
 use Rattle.wiring.specs.Netlist.{Netlist, netlist_of}
 use Rattle.net_build.specs.Includes.{Includes}
-use Rattle.net_build.specs.Draft.{IsDraft}
+use Rattle.net_build.specs.Draft.{IsDraft, with_reg}
 use Rattle.net_build.proofs.Drafts.{draft_reg, includes_reg, includes_same}
 use Rattle.net_build.specs.Runs.{NeverStops}
 use Rattle.net_build.proofs.Stops.{reg_stops}
 use Rattle.net_build.proofs.Updating.{fresh}
 use Rattle.net_build.specs.Control.{IsControlled}
-use Rattle.net_build.proofs.Control.{reg_control}
+use Rattle.net_build.proofs.Control.{reg_control, reg_copy}
 use Rattle.net_build.proofs.builder.Builder.reg.Goals as goal
 
 pub invariant_of-self-2 : goal.invariant_of-self-2
@@ -45,7 +45,13 @@ pub returns-clause-width : goal.returns-clause-width
 returns-clause-width c = (fresh (netlist_of c.self.inside.wiring) (netlist_of c.add_reg.new.wiring) (Reg c.in_ok-k.k) c.in_ok-k.k c.new.result c.self.invariant.0 c.in_ok-k.ensures.ok refl c.in_ok-k.ensures.number).width_is ∙ c.new.ensures
 
 pub returns-in_err-k-clause-control : goal.returns-in_err-k-clause-control
-returns-in_err-k-clause-control c is = subst IsControlled (sym c.in_err-k.ensures.err) (subst IsControlled (sym c.self.view_is) is)
+returns-in_err-k-clause-control c copies is = subst (λ (b : Netlist). IsControlled b copies) (sym c.in_err-k.ensures.err) (subst (λ (b : Netlist). IsControlled b copies) (sym c.self.view_is) is)
 
 pub returns-clause-control : goal.returns-clause-control
-returns-clause-control c is = subst IsControlled (sym c.in_ok-k.ensures.ok) (reg_control (netlist_of c.self.inside.wiring) c.new.result (subst IsControlled (sym c.self.view_is) is))
+returns-clause-control c copies is = subst (λ (b : Netlist). IsControlled b copies) (sym c.in_ok-k.ensures.ok) (reg_control (netlist_of c.self.inside.wiring) c.new.result copies (subst (λ (b : Netlist). IsControlled b copies) (sym c.self.view_is) is))
+
+pub returns-clause-copy : goal.returns-clause-copy
+returns-clause-copy c copies is =
+    let b : Netlist = netlist_of c.self.inside.wiring in
+    let here : IsControlled (with_reg b c.new.result) (copies ++ length b.regs ∷ []) = reg_copy b c.new.result copies c.self.invariant.0 (subst (λ (n : Netlist). IsControlled n copies) (sym c.self.view_is) is) in
+    subst (λ (n : Netlist). IsControlled n (copies ++ c.in_ok-k.k ∷ [])) (sym c.in_ok-k.ensures.ok) (subst (λ (k : ℕ). IsControlled (with_reg b c.new.result) (copies ++ k ∷ [])) (sym c.in_ok-k.ensures.number) here)

@@ -28,4 +28,4 @@ pub returns-clause-stops : goal.returns-clause-stops
 returns-clause-stops c never = stops_set (netlist_of c.self.inside.wiring) c.args.self.now c.add_set.new.updates.items (number c.args.reg) (atom.Net c.args.value) c.self.view_is c.add_set.ensures.items never
 
 pub returns-clause-control : goal.returns-clause-control
-returns-clause-control c is takes = control_set (netlist_of c.self.inside.wiring) c.args.self.now c.add_set.new.updates.items (number c.args.reg) c.args.value c.self.view_is c.add_set.ensures.items is takes
+returns-clause-control c copies is takes = control_set (netlist_of c.self.inside.wiring) c.args.self.now c.add_set.new.updates.items (number c.args.reg) c.args.value copies c.self.view_is c.add_set.ensures.items is takes

@@ -1,0 +1,53 @@
+-- The module of a program as the circuit of a text, in both forms of its buffers.
+use Rattle.std.proofs.Common.{◌≡◌, ℕ, Bool, List, [], None, Some, refl}
+use Rattle.wiring.specs.declared.netlist.Net.{Net}
+use Rattle.wiring.specs.Netlist.{Netlist}
+use Rattle.net_build.specs.Runs.{IsWhole, RunsOn}
+use Rattle.pointwise_ir.specs.Programs.{Program}
+use Rattle.buffer_plan.specs.Plans.{Plan}
+use Rattle.line_buffer.proofs.Chaining.{no_copies}
+use Rattle.circuit.specs.Forms.{HasProperty, chain_form, block_form, shapes_of}
+use Rattle.circuit.specs.Behaviour.{HasPorts}
+use Rattle.circuit.specs.Nets.{IsApart}
+use Rattle.circuit.specs.Modules.{IsModuleOf}
+use Rattle.circuit.specs.Driven.{Drives}
+use Rattle.dk_compile.specs.Compiled.{IsCircuitOf}
+
+module _ (m : Netlist) (p : Program) (plan : Plan) (enable : Bool) where
+  pub chain_circuit : (nets : List Net) → HasPorts m p enable → IsWhole m m → RunsOn m → IsModuleOf m p plan chain_form nets → m.arrays ≡ shapes_of chain_form.shapes plan plan.system.stencils.images → HasProperty m chain_form.property → IsApart m p plan chain_form nets → Drives m p plan →
+      IsCircuitOf p plan enable None m nets
+  chain_circuit nets ports whole runs is arrays once apart drives = record {
+    ports = ports;
+    whole = whole;
+    runs = runs;
+    drives = drives;
+    copies = is.copies;
+    copied = is.copied;
+    none = λ e. no_copies m is.copies m.arrays is.copied.widths;
+    behaves = is.behaves;
+    bits = is.bits;
+    arrays = arrays;
+    once = λ x lt. (let one = once x lt in record { read_at = one.index; put_at = one.index; read = one.read; put = one.put; one = λ same. refl });
+    nets_are = is.nets_are;
+    direct = is.direct;
+    apart = apart;
+  }
+
+  pub block_circuit : (least : ℕ) (nets : List Net) → HasPorts m p enable → IsWhole m m → RunsOn m → IsModuleOf m p plan (block_form least) nets → m.arrays ≡ shapes_of (block_form least).shapes plan plan.system.stencils.images → HasProperty m (block_form least).property → IsApart m p plan (block_form least) nets → Drives m p plan →
+      IsCircuitOf p plan enable (Some least) m nets
+  block_circuit least nets ports whole runs is arrays once apart drives = record {
+    ports = ports;
+    whole = whole;
+    runs = runs;
+    drives = drives;
+    copies = is.copies;
+    copied = is.copied;
+    none = λ e. absurd (let f : ⊥ = cc in f);
+    behaves = is.behaves;
+    bits = is.bits;
+    arrays = arrays;
+    once = once;
+    nets_are = is.nets_are;
+    direct = is.direct;
+    apart = apart;
+  }

@@ -1,0 +1,8 @@
+//! Whether two programs show the same pictures, where the second may have images that only it has: definitions that name a part of a body.
+#![tactic(auto)]
+
+mod matching;
+mod operands;
+mod pairing;
+
+pub use pairing::have_same_pictures;

@@ -1,0 +1,159 @@
+// Whether an expression of the new program has the value of one of the old program.
+
+ghost use Rattle.std.specs.Prelude.{◌≡◌, ℕ, List, Some, slice_get, IsTrue, IfSome};
+ghost use Rattle.pointwise_ir.specs.Trees.{tree_of};
+ghost use Rattle.pointwise_ir.specs.Programs.{IsBody};
+ghost use Rattle.same_pictures.specs.Matching.{IsReadHere, HaveSameValue, StandsFor, ArePairs, HaveSameInputs};
+
+use crate::operands::{
+    binary_operands, converted_operand, is_constant, read_image, scaled_operand, select_operands,
+    shifted_body, unary_operand,
+};
+use pointwise_ir::{Expr, Program, meaning_law};
+
+// The body of an image, by its number; none if it is an input.
+pub fn body_of(program: &Program, image: u32) -> Option<&Expr>
+    ensures { IfSome result (λ b. IsBody program.now image (tree_of b.now)) }
+{
+    let inputs = program.inputs().len();
+    let place = image as usize;
+    if place < inputs {
+        return None;
+    }
+    let images = program.images();
+    if place - inputs < images.len() {
+        Some(&images[place - inputs].body)
+    } else {
+        None
+    }
+}
+
+// The image that the expression reads at the point itself.
+fn read_here(e: &Expr) -> Option<u32>
+    ensures { IfSome result (λ g. IsReadHere (tree_of e.now) g) }
+{
+    match e {
+        Expr::Read(edge, _, _, _) => {
+            let image = read_image(e, *edge, 0, 0)?;
+            Some(image)
+        }
+        _ => None,
+    }
+}
+
+// The body of the image that is read at the point itself, unless it is an input.
+fn defining<'a>(program: &'a Program, e: &Expr) -> Option<&'a Expr>
+    ensures { IfSome result (λ b. StandsFor program.now (tree_of e.now) (tree_of b.now)) }
+{
+    let image = read_here(e)?;
+    meaning_law(program);
+    let body = body_of(program, image)?;
+    Some(body)
+}
+
+// The expression without reads of definitions at the point itself.
+fn unfolded<'a>(program: &'a Program, e: &'a Expr) -> &'a Expr
+    ensures { StandsFor program.now (tree_of e.now) (tree_of result.now) }
+{
+    let mut now = e;
+    for _ in 0..program.images().len() {
+        match defining(program, now) {
+            Some(body) => now = body,
+            None => return now,
+        }
+    }
+    now
+}
+
+// Whether this is the image of the new program that stands for an image of the old one.
+pub fn is_pair(pairs: &[Option<u32>], image: u32, other: u32) -> bool
+    ensures { IsTrue result → slice_get pairs.now image ≡ Some (Some other) }
+{
+    match pairs.get(image as usize) {
+        Some(found) => *found == Some(other),
+        None => false,
+    }
+}
+
+// Whether a read of the new program, or what it stands for, is a read by the same offset of the image that stands for the one that is read in the old program.
+fn reads_pair(old: &Program, new: &Program, pairs: &[Option<u32>], a: &Expr, b: &Expr) -> bool
+    requires inputs { HaveSameInputs old.now new.now }
+    requires pairs { ArePairs old.now new.now pairs.now }
+    ensures { IsTrue result → HaveSameValue old.now new.now (tree_of a.now) (tree_of b.now) }
+{
+    let Expr::Read(edge, image, dx, dy) = a else {
+        return false;
+    };
+    let mut now = b;
+    for _ in 0..=new.images().len() {
+        if let Some(other) = read_image(now, *edge, *dx, *dy) {
+            if is_pair(pairs, *image, other) {
+                return true;
+            }
+        }
+        match defining(new, now) {
+            Some(body) => now = body,
+            None => return false,
+        }
+    }
+    false
+}
+
+// Whether an expression of the new program has the value of one of the old program.
+pub fn has_same_value(
+    old: &Program,
+    new: &Program,
+    pairs: &[Option<u32>],
+    a: &Expr,
+    b: &Expr,
+) -> bool
+    requires inputs { HaveSameInputs old.now new.now }
+    requires pairs { ArePairs old.now new.now pairs.now }
+    ensures { IsTrue result → HaveSameValue old.now new.now (tree_of a.now) (tree_of b.now) }
+{
+    let e = unfolded(new, b);
+    match a {
+        Expr::Constant(value, ty) => is_constant(e, *value, *ty),
+        Expr::Read(_, _, _, _) => reads_pair(old, new, pairs, a, b),
+        Expr::Shifted(edge, dx, dy, body) => match shifted_body(e, *edge, *dx, *dy) {
+            Some(other) => {
+                old.law();
+                has_same_value(old, new, pairs, body, other)
+            }
+            None => false,
+        },
+        Expr::Unary(op, operand) => match unary_operand(e, *op) {
+            Some(other) => has_same_value(old, new, pairs, operand, other),
+            None => false,
+        },
+        Expr::Binary(op, left, right) => match binary_operands(e, *op) {
+            Some((l, r)) => {
+                if !has_same_value(old, new, pairs, left, l) {
+                    return false;
+                }
+                has_same_value(old, new, pairs, right, r)
+            }
+            None => false,
+        },
+        Expr::Select(condition, left, right) => match select_operands(e) {
+            Some((c, l, r)) => {
+                if !has_same_value(old, new, pairs, condition, c) {
+                    return false;
+                }
+                if !has_same_value(old, new, pairs, left, l) {
+                    return false;
+                }
+                has_same_value(old, new, pairs, right, r)
+            }
+            None => false,
+        },
+        Expr::Convert(how, operand, ty) => match converted_operand(e, *how, *ty) {
+            Some(other) => has_same_value(old, new, pairs, operand, other),
+            None => false,
+        },
+        Expr::Scale(op, operand, by) => match scaled_operand(e, *op, *by) {
+            Some(other) => has_same_value(old, new, pairs, operand, other),
+            None => false,
+        },
+    }
+}

@@ -1,0 +1,208 @@
+// The check of two programs.
+
+ghost use Rattle.std.specs.Prelude.{◌≡◌, ◌<◌, ℕ, length, Some, slice_get, slice_index, IsTrue, IfOk, IfSome};
+ghost use Rattle.pointwise_ir.specs.Programs.{names_of, types_of};
+ghost use Rattle.same_pictures.specs.Same.{HaveSamePicture, HaveSamePictures};
+ghost use Rattle.same_pictures.specs.Matching.{ArePairs, HaveSameInputs};
+
+use crate::matching::{body_of, has_same_value, is_pair};
+use dk_base::OutOfMemory;
+use pointwise_ir::{Input, Program, meaning_law};
+use std::alloc::Global;
+
+// Whether two lists of inputs have the same names and types.
+fn are_same_inputs(old: &[Input], new: &[Input]) -> bool
+    ensures { IsTrue result → new.now ≡ old.now }
+{
+    if old.len() != new.len() {
+        return false;
+    }
+    for k in 0..old.len() {
+        if !is_same_input(&old[k], &new[k]) {
+            return false;
+        }
+    }
+    true
+}
+
+fn is_same_input(old: &Input, new: &Input) -> bool
+    ensures { IsTrue result → new.now ≡ old.now }
+{
+    if new.name.as_bytes() != old.name.as_bytes() {
+        return false;
+    }
+    new.ty == old.ty
+}
+
+// The name of an image, by its number.
+fn name_of(program: &Program, image: u32) -> &[u8]
+    requires there { image < length (types_of program.now) }
+    ensures { slice_get (names_of program.now) image ≡ Some result.now }
+{
+    let inputs = program.inputs();
+    let place = image as usize;
+    if place < inputs.len() {
+        inputs[place].name.as_bytes()
+    } else {
+        program.images()[place - inputs.len()].name.as_bytes()
+    }
+}
+
+// How many inputs there are.
+fn input_count(program: &Program) -> u32
+    ensures { result ≡ length program.now.inputs }
+{
+    program.law();
+    program.inputs().len() as u32
+}
+
+// How many images there are, with the inputs.
+fn image_count(program: &Program) -> u32
+    ensures { result ≡ length (types_of program.now) }
+{
+    program.law();
+    (program.inputs().len() + program.images().len()) as u32
+}
+
+// Whether image h of the new program has the name of image g of the old one, and a body with the same value.
+fn is_counterpart(old: &Program, new: &Program, pairs: &[Option<u32>], g: u32, h: u32) -> bool
+    requires inputs { HaveSameInputs old.now new.now }
+    requires pairs { ArePairs old.now new.now pairs.now }
+    requires old { g < length (types_of old.now) }
+    requires new { h < length (types_of new.now) }
+    ensures { IsTrue result → HaveSamePicture old.now new.now g h }
+{
+    if name_of(new, h) != name_of(old, g) {
+        return false;
+    }
+    match body_of(old, g) {
+        Some(a) => match body_of(new, h) {
+            Some(b) => {
+                meaning_law(old);
+                meaning_law(new);
+                has_same_value(old, new, pairs, a, b)
+            }
+            None => false,
+        },
+        None => false,
+    }
+}
+
+// The image of the new program, if there is one, that has the name of image g of the old one and the same picture.
+fn pair_of(old: &Program, new: &Program, pairs: &[Option<u32>], g: u32) -> Option<u32>
+    requires inputs { HaveSameInputs old.now new.now }
+    requires pairs { ArePairs old.now new.now pairs.now }
+    requires there { g < length (types_of old.now) }
+    ensures { IfSome result (λ h. HaveSamePicture old.now new.now g h) }
+{
+    for h in 0..image_count(new) {
+        if is_counterpart(old, new, pairs, g, h) {
+            return Some(h);
+        }
+    }
+    None
+}
+
+// The inputs stand for themselves.
+fn input_pairs(alloc: Global, old: &Program, new: &Program) -> Result<Vec<Option<u32>>, OutOfMemory>
+    requires inputs { HaveSameInputs old.now new.now }
+    ensures count { IfOk result (λ pairs. length pairs.items ≡ length old.now.inputs) }
+    ensures pairs { IfOk result (λ pairs. ArePairs old.now new.now pairs.items) }
+{
+    meaning_law(old);
+    meaning_law(new);
+    let mut pairs = Vec::new(alloc);
+    for k in 0..old.inputs().len() {
+        pairs.push(u32::try_from(k).ok())?;
+    }
+    Ok(pairs)
+}
+
+// For each image of the old program, by number, the image of the new one that stands for it.
+fn all_pairs(alloc: Global, old: &Program, new: &Program) -> Result<Vec<Option<u32>>, OutOfMemory>
+    requires inputs { HaveSameInputs old.now new.now }
+    ensures { IfOk result (λ pairs. ArePairs old.now new.now pairs.items) }
+{
+    let mut pairs = input_pairs(alloc, old, new)?;
+    for g in input_count(old)..image_count(old) {
+        let other = pair_of(old, new, &pairs, g);
+        pairs.push(other)?;
+    }
+    Ok(pairs)
+}
+
+// An output's image, by its number.
+fn output_of(program: &Program, k: usize) -> u32
+    requires there { k < length program.now.outputs }
+    ensures is { result ≡ slice_index program.now.outputs k }
+    ensures there { result < length (types_of program.now) }
+{
+    program.law();
+    program.outputs()[k]
+}
+
+// Whether an output has the name and the type of an output.
+fn is_same_output(old: &Program, g: u32, new: &Program, h: u32) -> bool
+    requires old { g < length (types_of old.now) }
+    requires new { h < length (types_of new.now) }
+    ensures name { IsTrue result → slice_get (names_of new.now) h ≡ slice_get (names_of old.now) g }
+    ensures ty { IsTrue result → slice_get (types_of new.now) h ≡ slice_get (types_of old.now) g }
+{
+    if name_of(new, h) != name_of(old, g) {
+        return false;
+    }
+    new.type_of(h) == old.type_of(g)
+}
+
+// Whether the outputs have the same names and types, in order.
+fn are_same_outputs(old: &Program, new: &Program) -> bool
+    ensures count { IsTrue result → length new.now.outputs ≡ length old.now.outputs }
+    ensures names { IsTrue result → (k : ℕ) → k < length old.now.outputs
+        → slice_get (names_of new.now) (slice_index new.now.outputs k) ≡ slice_get (names_of old.now) (slice_index old.now.outputs k) }
+    ensures types { IsTrue result → (k : ℕ) → k < length old.now.outputs
+        → slice_get (types_of new.now) (slice_index new.now.outputs k) ≡ slice_get (types_of old.now) (slice_index old.now.outputs k) }
+{
+    if old.outputs().len() != new.outputs().len() {
+        return false;
+    }
+    for k in 0..old.outputs().len() {
+        if !is_same_output(old, output_of(old, k), new, output_of(new, k)) {
+            return false;
+        }
+    }
+    true
+}
+
+// Whether each output of the new program is the image that stands for the old one.
+fn are_pairs(pairs: &[Option<u32>], old: &[u32], new: &[u32]) -> bool
+    ensures { IsTrue result → (k : ℕ) → k < length old.now → slice_get pairs.now (slice_index old.now k) ≡ Some (Some (slice_index new.now k)) }
+{
+    if old.len() != new.len() {
+        return false;
+    }
+    for k in 0..old.len() {
+        if !is_pair(pairs, old[k], new[k]) {
+            return false;
+        }
+    }
+    true
+}
+
+/// Whether the new program has the old one's size, inputs and outputs, and shows the same picture of each output on all frames.
+///
+/// It says yes only if each output's body is that of the old program, node by node, where a read of a definition at the point itself counts as the definition's body. So definitions may name parts of a body. Fails only if out of memory.
+pub fn have_same_pictures(alloc: Global, old: &Program, new: &Program) -> Result<bool, OutOfMemory>
+    ensures { IfOk result (λ same. IsTrue same → HaveSamePictures old.now new.now) }
+{
+    if old.size() != new.size() {
+        return Ok(false);
+    }
+    if !are_same_inputs(old.inputs(), new.inputs()) {
+        return Ok(false);
+    }
+    if !are_same_outputs(old, new) {
+        return Ok(false);
+    }
+    let pairs = all_pairs(alloc, old, new)?;
+    Ok(are_pairs(&pairs, old.outputs(), new.outputs()))
+}
