@@ -10,7 +10,7 @@ trap 'rm -rf "$work"' EXIT
 cd "$work" || exit 2
 . "$top/tools/explain.sh"
 failed=0
-usage='usage: run [--age K] PROG IN OUT | compile [--enable] [--age K] [--block N] PROG OUT | plan [--age K] PROG | sim VERILOG CLOCKS IN OUT [--fill FILL] [--hold K] | eval PROG IN OUT | make N | check PROG REPORT | trace VERILOG CLOCKS IN VCD'
+usage='usage: run [--age K] PROG IN OUT | compile [--enable] [--age K] [--block N] PROG OUT | plan [--age K] PROG | sim VERILOG CLOCKS IN OUT [--fill FILL] [--hold K] | eval PROG IN OUT | make N | check PROG REPORT | trace VERILOG CLOCKS IN VCD | cut N PROG OUT'
 
 wrong_case() {
     printf 'explain: %s\n' "$1" >&2
@@ -275,7 +275,7 @@ usage_fault <<'end'
 The command is missing. `./dk --help` shows the commands and options.
 end
 usage_fault ru p.dk i.pgm o.pgm <<'end'
-There is no command `ru`. The commands are: run compile plan sim eval make check trace. `./dk --help` shows the commands and options.
+There is no command `ru`. The commands are: run compile plan sim eval make check trace cut. `./dk --help` shows the commands and options.
 end
 usage_fault -- run p.dk i.pgm o.pgm <<'end'
 The command comes first, but `--` begins with a hyphen. `./dk --help` shows the commands and options.
@@ -357,6 +357,7 @@ taken check p.dk p.dk
 taken sim v.v 4 i.pgm 4 --hold=1000000 --fill ones
 taken plan -- --age
 taken make 0000000000000000000000000000000000000000000000000000004194303
+taken cut 064 p.dk o.dk
 
 # The help page has a line for each command and option, of 80 columns at most.
 help_page >page

@@ -1,5 +1,6 @@
 #!/bin/sh
-# Compares `make N`, for numbers chosen by a seed, with `eval` and `run` on the same program and image, which made.py makes a second time.
+# Compares `make N`, for numbers chosen by a seed, with `eval` and `run` on the same program and image, which made.py makes a second time,
+# and with `eval` and `run --age 1` of the program whose bodies are cut at 1, 2 and 4 levels.
 # It says nothing where the sums and the statuses agree, and else names each number where they do not.
 # usage: tests/made.sh PROGRAM COUNT [SEED]
 program=$(cd "$(dirname "$1")" && pwd)/$(basename "$1")
@@ -24,6 +25,20 @@ for number in $(python3 "$tests/made.py" numbers "$2" "${3-1}"); do
             echo "made: the sum of $command is not that of '$line'" >&2
             failed=1
         fi
+    done
+    [ $status = 0 ] || continue
+    mv out.pgm wanted.pgm
+    for levels in 1 2 4; do
+        "$program" cut $levels made.dk cut.dk >stdout 2>stderr || { echo "made: $number is not cut at $levels: $(cat stderr)" >&2; failed=1; }
+        for command in eval 'run --age 1'; do
+            rm -f out.pgm
+            # shellcheck disable=SC2086
+            "$program" $command cut.dk made.pgm out.pgm 2>stderr
+            if ! cmp -s out.pgm wanted.pgm; then
+                echo "made: $command of $number, cut at $levels, shows another picture: '$(cat stderr)'" >&2
+                failed=1
+            fi
+        done
     done
 done
 exit $failed

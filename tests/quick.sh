@@ -14,7 +14,7 @@ cp "$examples"/sim/*.v . || exit 2
 ulimit -S -s 4096 || exit 2
 cases=0
 failed=0
-usage='usage: run [--age K] PROG IN OUT | compile [--enable] [--age K] [--block N] PROG OUT | plan [--age K] PROG | sim VERILOG CLOCKS IN OUT [--fill FILL] [--hold K] | eval PROG IN OUT | make N | check PROG REPORT | trace VERILOG CLOCKS IN VCD'
+usage='usage: run [--age K] PROG IN OUT | compile [--enable] [--age K] [--block N] PROG OUT | plan [--age K] PROG | sim VERILOG CLOCKS IN OUT [--fill FILL] [--hold K] | eval PROG IN OUT | make N | check PROG REPORT | trace VERILOG CLOCKS IN VCD | cut N PROG OUT'
 
 wrong() {
     echo "quick: $*" >&2
@@ -122,6 +122,80 @@ while IFS=$tab read -r left p right q expression value <&3; do
     done
 done 3<"$tests/calls/values.txt"
 
+# cuts NAME LINE LEVELS PROGRAM: the program is cut into out.dk, and this line is printed
+cuts() {
+    cases=$((cases + 1))
+    rm -f out.dk
+    "$program" cut "$3" "$4" out.dk >stdout 2>stderr
+    got=$?
+    if [ "$got" != 0 ] || [ -s stderr ] || [ "$(cat stdout)" != "$2" ]; then
+        wrong "$1, cut at $3: status $got, '$(cat stdout)', '$(cat stderr)', expected '$2'"
+    fi
+}
+
+# Each line of calls/cuts.txt is what it shows, a number of levels, the line that `cut` prints, the program and the text that is wanted, with bytes as printf reads them.
+while IFS=$tab read -r name levels line text wanted <&3; do
+    printf '%b' "$text" >text.dk
+    printf '%b' "$wanted" >wanted.dk
+    cuts "$name" "$line" "$levels" text.dk
+    is "$name: the cut text is '$(cat out.dk)'" cmp -s out.dk wanted.dk
+done 3<"$tests/calls/cuts.txt"
+
+# The examples show the same pictures where their bodies are cut. No body has more levels than asked, or the two of one operator.
+# Majority keeps three: it reads an inline image of three levels, not clamped, at an offset.
+while read -r name input <&3; do
+    for levels in 1 2 4; do
+        cases=$((cases + 1))
+        "$program" cut $levels "$name.dk" cut.dk >stdout 2>stderr || wrong "$name is not cut at $levels: $(cat stderr)"
+        set -- $(cat stdout)
+        is "$name, cut at $levels: '$*'" [ "$1 $2 $4" = 'cut: definitions levels' ]
+        is "$name, cut at $levels, has not $3 definitions" [ "$(grep -c 'let ' cut.dk)" = "$3" ]
+        least=2
+        [ "$name" != majority ] || least=3
+        is "$name, cut at $levels, has $5 levels" [ "$5" -le $((levels < least ? least : levels)) ]
+        ends 0 '' eval cut.dk "$input.pgm" out.pgm
+        holds "$name.pgm" "cut at $levels"
+        ends 0 '' run --age 1 cut.dk "$input.pgm" out.pgm
+        holds "$name.pgm" "cut at $levels, at age 1"
+    done
+done 3<"$examples/programs/pictures.txt"
+
+# shares NAME WORD..: in the text that `compile` writes with these words, arrays of one number of words are read at one net, and those of one word at a constant 0
+shares() {
+    name=$1
+    shift
+    "$program" compile "$@" "$name.dk" text.v >/dev/null 2>&1
+    sed -n 's/^  reg .*\(m[0-9]*\) \[0:\([0-9]*\)\];$/\1 \2/p' text.v | sort >depths
+    sed -n 's/^  assign n[0-9]* = \(m[0-9]*\)\[\(n[0-9]*\)\];$/\1 \2/p' text.v | sort >indices
+    join depths indices | cut -d ' ' -f 2- | sort -u >pairs
+    is "$name $*: an array is not read" [ "$(wc -l <depths)" = "$(wc -l <indices)" ]
+    is "$name $*: arrays of one number of words do not share a counter" [ "$(cut -d ' ' -f 1 pairs | sort -u | wc -l)" = "$(wc -l <pairs)" ]
+    for net in $(sed -n 's/^0 //p' pairs); do
+        is "$name $*: an array of one word has a counter" grep -q "^  assign $net = 1'd0;$" text.v
+    done
+}
+while read -r name input <&3; do
+    shares "$name"
+    shares "$name" --enable --block 32
+done 3<"$examples/programs/pictures.txt"
+
+# 255 definitions of one level and one of three: there is room for one piece more, so the deepest body stays whole where it needs two.
+{
+    printf 'size 4 1\ninput a : u8\n'
+    k=1
+    while [ $k -le 254 ]; do
+        printf 'let c%d = im(x,y) a(x,y) + a(x-1,y) end\n' $k
+        k=$((k + 1))
+    done
+    printf 'let f = im(x,y) a(x,y) + a(x-1,y) + a(x-2,y) + a(x-3,y) end\noutput f\n'
+} >many.dk
+cuts 'room for a piece' 'cut: definitions 256 levels 2' 2 many.dk
+cuts 'no room for two pieces' 'cut: definitions 255 levels 3' 1 many.dk
+is 'a program that cannot be cut was changed' cmp -s many.dk out.dk
+ends 2 "$usage" cut 0 many.dk out.dk
+ends 2 "$usage" cut 65 many.dk out.dk
+ends 2 "$usage" cut 1 many.dk many.dk
+
 # Each line of calls/programs.txt is what `compile` says of a program, a tab, and the program.
 while IFS=$tab read -r line text <&3; do
     printf '%s' "$text" >text.dk
@@ -129,6 +203,8 @@ while IFS=$tab read -r line text <&3; do
         ends 0 '' compile text.dk out.pgm
     else
         ends 3 "$line" compile text.dk out.pgm
+        none
+        ends 3 "$line" cut 1 text.dk out.pgm
         none
     fi
 done 3<"$tests/calls/programs.txt"

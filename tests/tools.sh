@@ -7,7 +7,7 @@
 #   With `--block 32` it must make at least one block memory of each array of 512 words and more, in each of five families (tools/memories.py).
 # - trace.py must write the trace that `trace` writes.
 # - The design of examples/design must show the pictures of `eval`.
-# It says nothing else where all is as it should be. It takes about 30 minutes, most of them in Verilator's builds; COUNT 0 takes 10 to 15.
+# It says nothing else where all is as it should be. COUNT 0 takes about ten minutes, without COUNT it takes about 30.
 # usage: tests/tools.sh PROGRAM [COUNT]
 program=$(cd "$(dirname "$1")" && pwd)/$(basename "$1")
 tests=$(cd "$(dirname "$0")" && pwd)
@@ -33,7 +33,7 @@ for tool in iverilog verilator yosys; do
 done
 
 # warnings: what Verilator says of dk.v beside what the subset's form makes, which is
-# - UNSIGNED: an array of one word has a counter whose place is compared with the last one, 0;
+# - UNSIGNED: the row or the column of a frame with only one is compared with the last one, 0;
 # - UNUSEDSIGNAL of some bits: each operator has operands of one width, so a sum is made whole and then cut;
 # - UNUSEDSIGNAL of clk or a din: a module without state has the one, and a program that never reads an input has the other.
 warnings() {
@@ -70,13 +70,13 @@ icarus() {
     shows iverilog "$@"
 }
 
-# verilated SEED WHAT: the same; the runtime is built once, in obj
+# verilated SEED WHAT: the same; the runtime is built once, in obj. A build takes longer than its few clocks, so it is not optimized.
 verilated() {
     seed=$1
     shift
     rm -f seen.txt
     python3 "$tests/bench.py" write dk.v "$input" "$clocks" "$seed"
-    verilator --binary --timing -Wno-fatal -Wno-lint -Wno-style --x-initial unique --x-assign unique --top-module bench --Mdir obj -o bench dk.v bench.v >said.txt 2>&1 &&
+    verilator --binary --timing -Wno-fatal -Wno-lint -Wno-style --x-initial unique --x-assign unique --top-module bench --Mdir obj -MAKEFLAGS OPT_FAST=-O0 -o bench dk.v bench.v >said.txt 2>&1 &&
         obj/bench "+verilator+seed+$seed" +verilator+rand+reset+2 >said.txt 2>&1 || wrong "verilator on $*: $(tail -n 3 said.txt)"
     shows verilator "$@"
 }

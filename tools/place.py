@@ -1,41 +1,72 @@
 #!/usr/bin/env python3
-"""Places and routes the Verilog of the examples, by Yosys and nextpnr, and prints the table of docs/GALLERY.md.
+"""Places and routes the Verilog of programs, by Yosys and nextpnr, and prints a table of cells and clock rates for each frame size.
 
-usage: tools/place.py PROGRAM [--size W H]... [--options "WORD.."]... [--seeds N] [NAME..]
+usage: tools/place.py [--write] [--jobs N] [--device NAME] [--size W H]... [--options "WORD.."]... [--cut N]... [--seeds N]
+                      [--path] [--keep FILE] PROGRAM [NAME..]
 
-Each example (or each NAME) is compiled at each size with each list of options of `compile`. Its ports go behind registers, so that
-the clock rate is that of the module alone. The table has a line for each device: iCE40 HX8K, and ECP5-85 where nextpnr-ecp5 is installed.
-Clock rates are the least and the greatest of the seeds, in MHz. A text that needs more cells than the device has is not placed.
+A NAME is an example, or the path of a program's file. Without names all examples are placed. The line `size` is set to each SIZE; without
+sizes these are 640 480 and 1920 1080. A table has a column for each list of options of `compile`; without lists these are none, `--age 1`,
+`--block 32` and both. `--cut N` adds a column: the program that `PROGRAM cut N` writes, compiled with `--age 1 --block 32`.
+
+Each port of the module but the clock passes a register, so that the clock rate is that of the module only. A rate is the least and the
+greatest of N seeds, in MHz; without `--seeds` of three. A text that needs more cells than the device has is not placed. If its array bits
+need more, it is not synthesized either. A synthesis is ended after ten minutes of processor time, and a seed after three, since the
+router of nextpnr 0.4 does not end on some texts. The table reports the number of seeds that have a rate if others have none.
+
+`--write` puts the tables in docs/GALLERY.md, with the date and the versions. N texts are tried at a time; without `--jobs` two. The device
+is HX8K without `--device`; ECP5-85 needs nextpnr-ecp5. `--path` reports the slowest seed's critical path of each text on standard error.
+With `--keep` results are kept in FILE, and a text that has a result there is not placed again.
 """
 import argparse
+import concurrent.futures
 import json
 import os
 import re
+import resource
+import signal
 import subprocess
 import sys
 import tempfile
+import time
 
-EXAMPLES = os.path.join(os.path.dirname(os.path.abspath(__file__)), "..", "examples", "programs")
+sys.dont_write_bytecode = True
+import section
 
+TOP = os.path.dirname(os.path.dirname(os.path.abspath(__file__)))
+EXAMPLES = os.path.join(TOP, "examples", "programs")
+MINUTES, SEED_MINUTES = 10, 3
+BOTH = ["--age", "1", "--block", "32"]
+
+# each device: its synthesis, its placer, its cells by kind (LUTs, flip-flops, block memories, multipliers), and the bits of a block memory
 DEVICES = {
     "HX8K": {
         "synth": "synth_ice40 -top top -json top.json",
         "place": ["nextpnr-ice40", "--hx8k", "--package", "ct256", "--pcf-allow-unconstrained"],
         "cells": {"SB_LUT4": 7680, "SB_DFF": 7680, "SB_RAM40_4K": 32, "SB_MAC16": 0},
+        "bits": 4096,
+        "lut_ram": False,
     },
     "ECP5-85": {
         "synth": "synth_ecp5 -top top -json top.json",
         "place": ["nextpnr-ecp5", "--85k", "--package", "CABGA756", "--lpf-allow-unconstrained"],
         "cells": {"LUT4": 83640, "TRELLIS_FF": 83640, "DP16KD": 208, "MULT18X18D": 156},
+        "bits": 18432,
+        "lut_ram": True,
     },
 }
+SHORT = ["LUT", "FF", "BRAM", "MUL"]
 
 
-def run(*words, check=True):
-    said = subprocess.run(words, stdout=subprocess.PIPE, stderr=subprocess.PIPE, text=True)
+def run(*words, work, check=True, limit=None):
+    said = subprocess.run(words, cwd=work, preexec_fn=limit, stdout=subprocess.PIPE, stderr=subprocess.PIPE, text=True)
     if check and said.returncode:
-        sys.exit(f"place: {' '.join(words)}\n{said.stderr[-2000:]}")
+        raise SystemExit(f"place: {' '.join(words)}\n{said.stderr[-2000:]}")
     return said
+
+
+def limited(minutes):
+    """A limit of a process's processor time."""
+    return lambda: resource.setrlimit(resource.RLIMIT_CPU, (60 * minutes, 60 * minutes + 5))
 
 
 def wrapped(text):
@@ -58,53 +89,139 @@ def cells(kinds, name):
     return sum(count for kind, count in kinds.items() if kind.startswith(name))
 
 
-def placed(device, seeds):
+def crowded(text, device, least):
+    """Why the arrays alone do not fit, or nothing. Those of at least `least` words go to block memory."""
+    arrays = [(int(last) + 1, int(high or 0) + 1) for high, last in re.findall(r"(?m)^  reg (?:\[(\d+):0\] )?\w+ \[0:(\d+)\];$", text)]
+    long = sum(words * bits for words, bits in arrays if least and words >= least)
+    short = sum(words * bits for words, bits in arrays) - long
+    flops, blocks = [most for cell, most in device["cells"].items()][1:3]
+    if long > blocks * device["bits"]:
+        return f"{long:,} bits in BRAM"
+    return f"{short:,} bits in FF" if short > flops and not device["lut_ram"] else ""
+
+
+def path_of(log):
+    """The critical path of nextpnr's last report: each cell with its delay, and its nets in between."""
+    report = log[log.rindex("Critical path report for clock"):] if "Critical path report for clock" in log else ""
+    kept = re.findall(r"Info: +(?:curr total|[\d.]+ +[\d.]+ +(?:Source|Sink|Net|Setup|Routing|Logic).*|[\d.]+ ns logic.*)", report.split("Critical path report for cross-domain")[0])
+    return "\n".join(kept)
+
+
+def placed(device, seeds, shows_path, what, work):
     """The least and the greatest clock rate of these seeds, in MHz, or why there is none."""
-    rates = []
+    rates, slowest = [], ""
     for seed in range(1, seeds + 1):
-        said = run(*device["place"], "--json", "top.json", "--seed", str(seed), "--report", "report.json", check=False)
+        said = run(*device["place"], "--json", "top.json", "--seed", str(seed), "--timing-allow-fail", "--report", "report.json", work=work, check=False, limit=limited(SEED_MINUTES))
+        if said.returncode == -signal.SIGXCPU:
+            continue
         if said.returncode:
-            last = [line for line in said.stderr.splitlines() if line.startswith("ERROR")]
-            return last[-1][7:60] if last else "not placed"
-        with open("report.json") as file:
-            rates += [clock["achieved"] for clock in json.load(file)["fmax"].values()]
-    return f"{min(rates):.0f} to {max(rates):.0f}" if rates else "no path"
+            print(f"place: {what}: {''.join(line for line in said.stderr.splitlines(True) if line.startswith('ERROR'))}", file=sys.stderr)
+            return "not placed"
+        with open(f"{work}/report.json") as file:
+            rate = min([clock["achieved"] for clock in json.load(file)["fmax"].values()], default=None)
+        if rate is None:
+            return "no path"
+        if rate == min([*rates, rate]):
+            slowest = said.stderr
+        rates.append(rate)
+    if not rates:
+        return "not routed"
+    if shows_path:
+        print(f"{what}: {' '.join(f'{rate:.1f}' for rate in rates)} MHz\n{path_of(slowest)}", file=sys.stderr)
+    least, most = f"{min(rates):.0f}", f"{max(rates):.0f}"
+    return (least if least == most else f"{least} to {most}") + " MHz" + (f" of {len(rates)} seeds" if len(rates) < seeds else "")
+
+
+def figures(text, device, what, given, work):
+    """The cells and the clock rate of a text."""
+    with open(f"{work}/top.v", "w") as file:
+        file.write(wrapped(text))
+    said = run("yosys", "-q", "-p", f"read_verilog top.v; {device['synth']}; tee -q -o cells.json stat -json", work=work, check=False, limit=limited(MINUTES))
+    if said.returncode:
+        return "not synthesized"
+    with open(f"{work}/cells.json") as file:
+        kinds = json.load(file)["design"]["num_cells_by_type"]
+    counts = [cells(kinds, cell) for cell in device["cells"]]
+    fits = all(count <= most for count, most in zip(counts, device["cells"].values()))
+    rate = placed(device, given.seeds, given.path, what, work) if fits else "does not fit"
+    return ", ".join(f"{count:,} {short}" for count, short, most in zip(counts, SHORT, device["cells"].values()) if most or count) + f": {rate}"
+
+
+def tried(program, device, name, size, column, given, kept):
+    """A cell of a table."""
+    title, options, cut = column
+    path = name if name.endswith(".dk") else os.path.join(EXAMPLES, name + ".dk")
+    with tempfile.TemporaryDirectory() as work:
+        with open(path) as file:
+            text = re.sub(r"(?m)^size \d+ \d+", f"size {size[0]} {size[1]}", file.read())
+        with open(f"{work}/text.dk", "w") as file:
+            file.write(text)
+        if cut is not None:
+            run(program, "cut", str(cut), "text.dk", "cut.dk", work=work)
+        run(program, "compile", *options, "text.dk" if cut is None else "cut.dk", "dk.v", work=work)
+        with open(f"{work}/dk.v") as file:
+            text = file.read()
+        reason = crowded(text, device, int(options[options.index("--block") + 1]) if "--block" in options else 0)
+        what = f"{os.path.basename(name)} {size[0]} by {size[1]}, {title}"
+        texts = [text, given.device, str(given.seeds), section.version("yosys", "-V"), section.version(device["place"][0], "--version")]
+        found = f"does not fit: {reason}" if reason else kept.result(texts, lambda: figures(text, device, what, given, work))
+    print(f"place: {what}: {found}", file=sys.stderr, flush=True)
+    return found
+
+
+def tables(program, given, columns):
+    """The lines of the tables, one table for each size."""
+    device, sizes = DEVICES[given.device], given.size or [(640, 480), (1920, 1080)]
+    names = given.names or sorted(name[:-3] for name in os.listdir(EXAMPLES) if name.endswith(".dk"))
+    wanted = [(name, tuple(size), k) for size in sizes for name in names for k in range(len(columns))]
+    kept = section.Kept(given.keep)
+    with concurrent.futures.ThreadPoolExecutor(given.jobs) as pool:
+        found = dict(zip(wanted, pool.map(lambda row: tried(program, device, row[0], row[1], columns[row[2]], given, kept), wanted)))
+    lines = []
+    for size in map(tuple, sizes):
+        heads = [f"{size[0]} by {size[1]}", *(title for title, _, _ in columns)]
+        lines += ["", "| " + " | ".join(heads) + " |", "|" + "---|" * len(heads)]
+        for name in names:
+            title = re.sub(r"\.dk$", "", os.path.basename(name))
+            lines.append("| " + " | ".join([title, *(found[name, size, k] for k in range(len(columns)))]) + " |")
+    return lines[1:]
 
 
 def main():
-    read = argparse.ArgumentParser(add_help=False)
+    read = argparse.ArgumentParser(usage=__doc__.split("usage: ")[1].split("\n\n")[0])
     read.add_argument("program")
     read.add_argument("names", nargs="*")
     read.add_argument("--size", nargs=2, type=int, action="append")
     read.add_argument("--options", action="append")
+    read.add_argument("--cut", type=int, action="append", default=[])
     read.add_argument("--seeds", type=int, default=3)
-    told = read.parse_intermixed_args()
-    program = os.path.abspath(told.program)
-    names = told.names or sorted(name[:-3] for name in os.listdir(EXAMPLES) if name.endswith(".dk"))
-    os.chdir(tempfile.mkdtemp())
-    print("| Program | Size | Options | Device | LUTs | Flip-flops | Block memories | Multipliers | MHz |\n|---|---|---|---|---|---|---|---|---|")
-    for name in names:
-        for width, height in told.size or [(640, 480), (1920, 1080)]:
-            with open(os.path.join(EXAMPLES, name + ".dk")) as file:
-                text = re.sub(r"(?m)^size \d+ \d+", f"size {width} {height}", file.read())
-            with open("text.dk", "w") as file:
-                file.write(text)
-            for options in told.options or ["", "--age 1", "--block 32", "--age 1 --block 32"]:
-                run(program, "compile", *options.split(), "text.dk", "dk.v")
-                with open("dk.v") as file:
-                    top = wrapped(file.read())
-                with open("top.v", "w") as file:
-                    file.write(top)
-                for kind, device in DEVICES.items():
-                    if run("sh", "-c", f"command -v {device['place'][0]}", check=False).returncode:
-                        continue
-                    run("yosys", "-q", "-p", f"read_verilog top.v; {device['synth']}; tee -q -o cells.json stat -json")
-                    with open("cells.json") as file:
-                        kinds = json.load(file)["design"]["num_cells_by_type"]
-                    counts = {cell: cells(kinds, cell) for cell in device["cells"]}
-                    fits = all(counts[cell] <= most for cell, most in device["cells"].items())
-                    rate = placed(device, told.seeds) if fits else "does not fit"
-                    print("|", " | ".join([name, f"{width} by {height}", options or "none", kind, *(f"{count:,}" for count in counts.values()), rate]), "|", flush=True)
+    read.add_argument("--jobs", type=int, default=2)
+    read.add_argument("--device", choices=DEVICES, default="HX8K")
+    read.add_argument("--path", action="store_true")
+    read.add_argument("--write", action="store_true")
+    read.add_argument("--keep")
+    given = read.parse_intermixed_args()
+    program = os.path.abspath(given.program)
+    given.names = [os.path.abspath(name) if name.endswith(".dk") else name for name in given.names]
+    columns = [(f"`{words}`" if words else "no options", words.split(), None) for words in given.options or ["", "--age 1", "--block 32", "--age 1 --block 32"]]
+    columns += [(f"cut {cut}", BOTH, cut) for cut in given.cut]
+    begun = time.time()
+    lines = tables(program, given, columns)
+    took = "" if given.keep else f", in {round((time.time() - begun) / 60)} minutes with `--jobs {given.jobs}`"
+    if not given.write:
+        print("\n".join(lines))
+        return
+    placer = DEVICES[given.device]["place"][0]
+    kept = sys.argv.index("--keep") if given.keep else len(sys.argv)
+    words = ["python3", *(os.path.relpath(word, TOP) if os.path.exists(word) else word for word in sys.argv[:kept] + sys.argv[kept + 2:])]
+    section.write(section.GALLERY, "place", [
+        f"The device is {given.device}. Made on {section.today()} with Yosys {section.version('yosys', '-V')} and {placer} "
+        f"{section.version(placer, '--version')}, {given.seeds} seeds{took}, by",
+        "",
+        "    " + " ".join(f'"{word}"' if " " in word else word for word in words),
+        "",
+        *lines,
+    ])
 
 
 main()

@@ -1,6 +1,6 @@
 # The words of a call of dk, for tools/explain.sh: what each is, and which is wrong; and the help page.
 
-commands='run compile plan sim eval make check trace'
+commands='run compile plan sim eval make check trace cut'
 see_help='`./dk --help` shows the commands and options.'
 
 # read_words COMMAND WORD..: sets a variable for each word that is not an option; `wrong` is a sentence on the first wrong word.
@@ -45,6 +45,7 @@ find_command() {
     make) names='N' ;;
     check) names='PROG REPORT' ;;
     trace) names='VERILOG CLOCKS IN VCD' ;;
+    cut) names='N PROG OUT' ;;
     '') note_wrong "The command is missing. $see_help" && return 1 ;;
     -*) note_wrong "The command comes first, but $(quoted "$command") begins with a hyphen. $see_help" && return 1 ;;
     *) note_wrong "There is no command $(quoted "$command"). The commands are: $commands. $see_help" && return 1 ;;
@@ -97,6 +98,7 @@ take_word() {
     OUT | VCD) out=$1 ;;
     CLOCKS*) is_within "$1" 0 100000000 || note_wrong "CLOCKS is a number from 0 to 100,000,000, but is $(quoted "$1")." ;;
     N) is_within "$1" 0 4194303 || note_wrong "N is a number from 0 to 4,194,303, but is $(quoted "$1")." ;;
+    N*) is_within "$1" 1 64 || note_wrong "N is a number from 1 to 64, but is $(quoted "$1")." ;;
     '') note_wrong "$(quoted "$1") is one word too many. $command expects $expected." ;;
     esac
     case $names in
@@ -146,6 +148,7 @@ usage: ./dk COMMAND [OPTION..] WORD..
   check PROG REPORT            check what plan printed
   sim VERILOG CLOCKS IN OUT    clock a Verilog text over images
   trace VERILOG CLOCKS IN VCD  clock a Verilog text, write a value change dump
+  cut N PROG OUT               divide bodies of more than N levels of operators
   make N                       make a program from a number, and run it
   help                         print this page (also --help, -h)
 
@@ -157,6 +160,7 @@ usage: ./dk COMMAND [OPTION..] WORD..
   --           ends the options; a later word may begin with a hyphen
 
 PROG is a program (docs/LANGUAGE.md), IN a file of PGM images (docs/PGM.md).
-CLOCKS is 0 to 100,000,000, and N is 0 to 4,194,303. More: docs/COMMANDS.md.
+CLOCKS is 0 to 100,000,000. N of make is 0 to 4,194,303, N of cut 1 to 64.
+More: docs/COMMANDS.md.
 end
 }

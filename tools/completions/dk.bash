@@ -15,7 +15,7 @@ _dk() {
     local current=${COMP_WORDS[COMP_CWORD]} command=${COMP_WORDS[1]} options words given='' at=0 k option value
     COMPREPLY=()
     if [ "$COMP_CWORD" = 1 ]; then
-        mapfile -t COMPREPLY < <(compgen -W 'run compile plan sim eval make check trace' -- "$current")
+        mapfile -t COMPREPLY < <(compgen -W 'run compile plan sim eval make check trace cut' -- "$current")
         return
     fi
     case $command in
@@ -27,6 +27,7 @@ _dk() {
     make) words=(number) ;;
     check) words=(.dk any) ;;
     trace) words=(.v number .pgm any) ;;
+    cut) words=(number .dk any) ;;
     *) return ;;
     esac
     # bash makes three words of --age=1.

@@ -15,7 +15,7 @@ use Rattle.buffer_plan.specs.Plans.{Plan, IsPlan, place_in, ages_of, width_of, d
 use Rattle.buffer_plan.proofs.Aged.{are_ages}
 use Rattle.line_buffer.specs.Places as L
 use Rattle.line_buffer.specs.Places.{Ascend, later, segment_shapes}
-use Rattle.line_buffer.proofs.Turns.{yes_eq, no_eq}
+use Rattle.line_buffer.proofs.Rotations.{yes_eq, no_eq}
 use Rattle.line_buffer.proofs.Ages.{later_ascends, later_depth}
 use Rattle.circuit.specs.Taps.{Keeps}
 use Rattle.circuit.specs.Forms.{Shapes, shapes_of, chain_shapes_of, ring_shapes_of}

@@ -1,10 +1,11 @@
 // Forms of buffers.
 
-ghost use Rattle.std.specs.Prelude.{◌≡◌, ◌<◌, ◌≤◌, IfOk};
+ghost use Rattle.std.specs.Prelude.{◌≡◌, ◌<◌, ◌≤◌, IfOk, OnOk};
 ghost use Rattle.wiring.specs.Netlist.{net_width};
 ghost use Rattle.net_build.specs.Includes.{Includes};
 ghost use Rattle.net_build.specs.Draft.{IsNet};
 ghost use Rattle.buffer_plan.specs.Plans.{width_of, depth_of};
+ghost use Rattle.line_buffer.specs.SharedCounters.{AreTurns};
 ghost use Rattle.circuit.specs.Taps.{Keeps};
 ghost use Rattle.circuit.specs.Forms.{Form, IsBuffered, shapes_before, chain_form, block_form, ring_form};
 
@@ -12,7 +13,7 @@ use crate::slots::{Slot, chain_slot, ring_slot};
 use crate::taps::Taps;
 use buffer_plan::Plan;
 use dk_base::OutOfMemory;
-use line_buffer::{block_chain, chain, ring};
+use line_buffer::{Turns, block_chain, chain, ring};
 use net_build::Builder;
 use std::alloc::Global;
 use std::marker::Model;
@@ -31,7 +32,7 @@ pub trait BufferForm {
         ensures array { result.array ≡ ((form self.now).places plan.now image age clock).array }
         ensures word { result.word ≡ ((form self.now).places plan.now image age clock).word };
 
-    /// Adds the buffer of a kept image whose net is `value`, after those of the kept images before it.
+    /// Adds the buffer of a kept image whose net is `value`, after those of the kept images before it. Arrays of the same number of words share a counter, among those in `turns` and new ones.
     fn add(
         &self,
         alloc: Global,
@@ -39,12 +40,15 @@ pub trait BufferForm {
         image: u32,
         value: Net,
         b: &mut Builder,
+        turns: &mut Turns,
     ) -> Result<Taps, OutOfMemory>
         requires kept { Keeps plan.now image }
         requires net { IsNet b.old value }
         requires width { net_width b.old value ≡ width_of plan.now image }
         requires arrays { b.old.arrays ≡ shapes_before (form self.now).shapes plan.now image }
+        requires turns { AreTurns b.old turns.old }
         ensures includes { Includes b.new b.old }
+        ensures turns { OnOk result (AreTurns b.new turns.new) }
         ensures buffered { IfOk result (IsBuffered b.new b.old plan.now image (form self.now) value) };
 }
 
@@ -98,9 +102,10 @@ impl BufferForm for Ring {
         image: u32,
         value: Net,
         b: &mut Builder,
+        turns: &mut Turns,
     ) -> Result<Taps, OutOfMemory> {
         plan.law();
-        let nets = ring(alloc, b, plan.width(image), plan.ages(image), value)?;
+        let nets = ring(alloc, b, turns, plan.width(image), plan.ages(image), value)?;
         Ok(Taps::new(nets))
     }
 }
@@ -119,9 +124,10 @@ impl BufferForm for Chain {
         image: u32,
         value: Net,
         b: &mut Builder,
+        turns: &mut Turns,
     ) -> Result<Taps, OutOfMemory> {
         plan.law();
-        let nets = chain(alloc, b, plan.width(image), plan.ages(image), value)?;
+        let nets = chain(alloc, b, turns, plan.width(image), plan.ages(image), value)?;
         Ok(Taps::new(nets))
     }
 }
@@ -140,11 +146,13 @@ impl BufferForm for BlockChain {
         image: u32,
         value: Net,
         b: &mut Builder,
+        turns: &mut Turns,
     ) -> Result<Taps, OutOfMemory> {
         plan.law();
         let nets = block_chain(
             alloc,
             b,
+            turns,
             plan.width(image),
             plan.ages(image),
             value,

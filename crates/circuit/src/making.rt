@@ -4,6 +4,7 @@ ghost use Rattle.std.specs.Prelude.{◌≡◌, ◌<◌, suc, false, IfOk, length
 ghost use Rattle.net_build.specs.Naming.{names_for};
 ghost use Rattle.net_build.specs.Runs.{IsWhole, RunsOn};
 ghost use Rattle.pointwise_ir.specs.Stencils.{AreStencilsOf};
+ghost use Rattle.line_buffer.specs.SharedCounters.{AreTurns};
 ghost use Rattle.circuit.specs.Forms.{shapes_of, HasProperty};
 ghost use Rattle.circuit.specs.Images.{AreBuilt};
 ghost use Rattle.circuit.specs.Behaviour.{IsPlanOf, HasPorts};
@@ -19,6 +20,7 @@ use crate::reader::Reader;
 use crate::taps::Taps;
 use buffer_plan::Plan;
 use dk_base::OutOfMemory;
+use line_buffer::Turns;
 use net_build::Builder;
 use pointwise_ir::Program;
 use std::alloc::Global;
@@ -31,14 +33,17 @@ fn add_image<F: BufferForm>(
     ir: &Program,
     plan: &Plan,
     form: &F,
+    turns: &mut Turns,
     k: usize,
     nets: &mut Vec<Net>,
     taps: &mut Vec<Taps>,
 ) -> Result<(), OutOfMemory>
     requires stencils { AreStencilsOf ir.now plan.now.system.stencils }
     requires within { k < length plan.now.system.stencils.images }
+    requires turns { AreTurns b.old turns.old }
     requires built { AreBuilt b.old ir.now plan.now (F.form form.now) k nets.old.items taps.old.items }
     ensures enable { OnOk result (b.new.enable ≡ b.old.enable) }
+    ensures turns { OnOk result (AreTurns b.new turns.new) }
     ensures built { OnOk result (AreBuilt b.new ir.now plan.now (F.form form.now) (suc k) nets.new.items taps.new.items) }
 {
     plan.law();
@@ -51,7 +56,7 @@ fn add_image<F: BufferForm>(
     };
     let net = image_net(alloc, b, &reader)?;
     b.law();
-    let own = form.add(alloc, plan, image, net, b)?;
+    let own = form.add(alloc, plan, image, net, b, turns)?;
     b.law();
     nets.push(net)?;
     taps.push(own)?;
@@ -65,16 +70,18 @@ fn add_images<F: BufferForm>(
     ir: &Program,
     plan: &Plan,
     form: &F,
+    turns: &mut Turns,
     nets: &mut Vec<Net>,
     taps: &mut Vec<Taps>,
 ) -> Result<(), OutOfMemory>
     requires stencils { AreStencilsOf ir.now plan.now.system.stencils }
+    requires turns { AreTurns b.old turns.old }
     requires built { AreBuilt b.old ir.now plan.now (F.form form.now) 0 nets.old.items taps.old.items }
     ensures enable { OnOk result (b.new.enable ≡ b.old.enable) }
     ensures built { OnOk result (AreBuilt b.new ir.now plan.now (F.form form.now) (length plan.now.system.stencils.images) nets.new.items taps.new.items) }
 {
     for k in 0..plan.images().len() {
-        add_image(alloc, b, ir, plan, form, k, nets, taps)?;
+        add_image(alloc, b, ir, plan, form, turns, k, nets, taps)?;
     }
     Ok(())
 }
@@ -100,7 +107,10 @@ pub fn build_with<F: BufferForm>(
     let mut b = begun(alloc, ir, options.enable)?;
     let mut nets = Vec::new(alloc);
     let mut taps = Vec::new(alloc);
-    add_images(alloc, &mut b, ir, plan, form, &mut nets, &mut taps)?;
+    let mut turns = Turns::new(alloc);
+    add_images(
+        alloc, &mut b, ir, plan, form, &mut turns, &mut nets, &mut taps,
+    )?;
     let built = finished(alloc, b, ir, plan, form, nets, &taps)?;
     Ok(built)
 }

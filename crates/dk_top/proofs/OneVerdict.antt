@@ -2,7 +2,7 @@
 use Rattle.std.proofs.Common.{◌≡◌, ℕ, List, Option, None, Some, IfSome, refl, subst}
 use Rattle.dk_endings.specs.declared.ending.Ending.{Ending}
 use Rattle.dk_endings.specs.declared.ending.Ending.TheVariants as ending
-use Rattle.dk_top.specs.Command.{Command, run, eval, compile, sim, trace, plan, check, make}
+use Rattle.dk_top.specs.Command.{Command, run, eval, compile, sim, trace, plan, check, make, cut}
 use Rattle.made_program.specs.Programs.{program_of}
 use Rattle.dk_top.specs.Simulation.{drive_of}
 use Rattle.dk_top.proofs.CommandLemmas.{on_each}
@@ -64,6 +64,7 @@ one_verdict l (plan program age) files a b j k x y = alike_of a b (program_answe
 one_verdict l (check program report) files a b j k x y =
     alike_of a b (check_answer l.front_accepted l.text_apart l.one_text l.wrong_apart l.one_line (bytes_of files program) (bytes_of files report) a b j k x y)
 one_verdict l (make number) files a b j k x y = alike_of a b (program_answer l.apart_at l.fault_at 0 (program_of number) a b j k x y)
+one_verdict l (cut levels program out) files a b j k x y = alike_of a b (program_answer l.apart_at l.fault_at 0 (bytes_of files program) a b j k x y)
 
 -- what is good is done where nothing outside fails and there is memory
 good_is_done : Laws → (command : Command) (files : Files) (result : Ending) → IsVerdict command files result → IsGood command files → (result ≡ ending.ReadFault → ⊥) → (result ≡ ending.WriteFault → ⊥) → IsOrMemory result ending.Done
@@ -78,6 +79,7 @@ good_is_done l (plan program age) files result = good_program l.apart_at l.fault
 good_is_done l (check program report) files result =
     good_check l.front_accepted l.text_apart l.one_text l.wrong_apart l.one_line (bytes_of files program) (bytes_of files report) result
 good_is_done l (make number) files result = good_program l.apart_at l.fault_at 0 (program_of number) result
+good_is_done l (cut levels program out) files result = good_program l.apart_at l.fault_at 0 (bytes_of files program) result
 
 -- the same of what is specified
 pub complete_of : Laws → (command : Option Command) (files : Option Files) (result : Ending) (Read Write : Type 0) → IfSome command (λ c. OnFiles c files (λ f. IsVerdict c f result)) → (result ≡ ending.ReadFault → Read) → (result ≡ ending.WriteFault → Write)

@@ -21,7 +21,7 @@ use Rattle.dk_desk.specs.declared.transfer.ReadAll.{ReadAll}
 use Rattle.dk_desk.specs.declared.transfer.ReadAll.TheVariants as unread
 use Rattle.dk_desk.specs.Outside.{Outside, Input}
 use Rattle.dk_top.specs.Verdict.{Terms, bytes_of, IsGoodPair}
-use Rattle.dk_top.specs.State.{LeavesText, LeavesImages, LeavesBoth}
+use Rattle.dk_top.specs.State.{LeavesText, LeavesImages, LeavesBoth, ReportsFront}
 
 -- what holds of the bytes of the file of this name, if the desk specifies its files
 abbrev pub OfFile : Outside → (name : List ℕ) → (List ℕ → Type 0) → Type 0
@@ -42,6 +42,15 @@ ReadsAndNotes old new = new ≡ record old { image = new.image; notes = new.note
 -- Report was written, and nothing else was changed
 abbrev pub WritesReport : (old new : Outside) → Type 0
 WritesReport old new = new ≡ record old { report = new.report; output_failures = new.output_failures }
+
+-- File was created and written, then Report, and nothing else was changed
+abbrev pub WritesBoth : (old new : Outside) → Type 0
+WritesBoth old new = new ≡ record old { files = new.files; file = new.file; report = new.report; output_failures = new.output_failures }
+
+-- File holds the whole text, and Report has gained a prefix of the line
+pub record EndsInLine (text line : List ℕ) (old new : Outside) : Type 0 where
+  pub whole : IfSome new.file.bytes (λ written. written ≡ text)
+  pub front : ReportsFront line old.report new.report
 
 -- Fault was written, and nothing else was changed
 abbrev pub WritesFault : (old new : Outside) → Type 0

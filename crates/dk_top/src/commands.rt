@@ -2,6 +2,7 @@
 
 mod checking;
 mod compiling;
+mod cutting;
 mod evaluating;
 mod making;
 mod planning;

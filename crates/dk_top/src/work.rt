@@ -37,7 +37,7 @@ pub trait Work {
         ensures files_stay { (D.outside desk.new).file.stage ≢ Stage.Open → (D.outside desk.new).files ≡ (D.outside desk.old).files }
         ensures report_stays { WritesNothing (Some (command self.now)) result → (D.outside desk.new).report ≡ (D.outside desk.old).report }
         ensures report { OnFiles (command self.now) (D.outside desk.old).files (λ files.
-            IsReported result (command self.now) files (D.outside desk.old).report (D.outside desk.new).report) }
+            IsReported result (command self.now) files (D.outside desk.new).file.bytes (D.outside desk.old).report (D.outside desk.new).report) }
         ensures notes { OnFiles (command self.now) (D.outside desk.old).files (λ files.
             IsNoted (command self.now) result files (D.outside desk.old).notes (D.outside desk.new).notes) }
         ensures notes_stay { NotesNothing (Some (command self.now)) → (D.outside desk.new).notes ≡ (D.outside desk.old).notes }

@@ -4,6 +4,7 @@ ghost use Rattle.std.specs.Prelude.{◌≡◌, Option, None, Some, option_map, o
 ghost use Rattle.clap.specs.Words.{first_of, rows_of, found_of, subcommand_rows_of};
 ghost use Rattle.dk_words.specs.Command as command;
 
+use crate::MAX_LEVELS;
 use crate::numbers::number_within;
 use clap::ArgMatches;
 use dk_base::{MAX_AGE, MAX_BUFFER_BITS, MAX_CLOCKS, MAX_HOLD, MAX_MADE};
@@ -91,6 +92,15 @@ pub struct MakeWords {
     pub number: u32,
 }
 
+/// The words of `cut`.
+#[derive(Clone, Copy, Debug, PartialEq, Eq)]
+pub struct CutWords<'a> {
+    /// The most levels of operators of a body, 1 to `MAX_LEVELS`.
+    pub levels: u8,
+    pub program: &'a str,
+    pub out: &'a str,
+}
+
 /// A command, with its words.
 #[derive(Clone, Copy, Debug, PartialEq, Eq)]
 pub enum Asked<'a> {
@@ -102,6 +112,7 @@ pub enum Asked<'a> {
     Plan(PlanWords<'a>),
     Check(CheckWords<'a>),
     Make(MakeWords),
+    Cut(CutWords<'a>),
 }
 
 // The value of this word.
@@ -175,6 +186,13 @@ fn read_number(matches: &ArgMatches) -> Option<u32>
     ensures { result ≡ option_and_then command.made_number (first_of (codes "N") (rows_of (found_of matches.now))) }
 {
     number_within(given(matches, "N")?, 0, MAX_MADE)
+}
+
+// The most levels of operators of a body.
+fn read_levels(matches: &ArgMatches) -> Option<u8>
+    ensures { result ≡ option_and_then command.levels_number (first_of (codes "N") (rows_of (found_of matches.now))) }
+{
+    Some(number_within(given(matches, "N")?, 1, MAX_LEVELS as u32)? as u8)
 }
 
 // The words of `run`, where each has a value.
@@ -283,6 +301,20 @@ fn read_make(matches: &ArgMatches) -> Option<MakeWords>
     Some(MakeWords { number })
 }
 
+// The words of `cut`, where each has a value.
+fn read_cut<'a>(matches: &ArgMatches<'a>) -> Option<CutWords<'a>>
+    ensures { option_map (λ k. command.cut k.levels k.program.now k.out.now) result ≡ command.cut_of_rows (rows_of (found_of matches.now)) }
+{
+    let levels = read_levels(matches)?;
+    let program = given(matches, "PROG")?;
+    let out = given(matches, "OUT")?;
+    Some(CutWords {
+        levels,
+        program,
+        out,
+    })
+}
+
 // The command of the matches.
 pub fn read_matches<'a>(matches: &ArgMatches<'a>) -> Option<Asked<'a>>
     ensures { option_map command.command_asked result ≡ command.command_from (subcommand_rows_of matches.now) }
@@ -297,6 +329,7 @@ pub fn read_matches<'a>(matches: &ArgMatches<'a>) -> Option<Asked<'a>>
         "plan" => Some(Asked::Plan(read_plan(inner)?)),
         "check" => Some(Asked::Check(read_check(inner)?)),
         "make" => Some(Asked::Make(read_make(inner)?)),
+        "cut" => Some(Asked::Cut(read_cut(inner)?)),
         _ => None,
     }
 }

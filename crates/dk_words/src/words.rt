@@ -148,6 +148,18 @@ fn make_command<'a>(alloc: Global) -> Result<Command<'a>, AllocError>
     Ok(command)
 }
 
+// `cut N PROG OUT`.
+fn cut_command<'a>(alloc: Global) -> Result<Command<'a>, AllocError>
+    ensures shape { IfOk result (λ c. shape_of c ≡ words.cut_command) }
+    ensures local { IfOk result (λ c. (fields_of c).has_globals ≡ false) }
+{
+    let command = Command::new(alloc, "cut");
+    let command = command.arg(word(alloc, "N"))?;
+    let command = command.arg(word(alloc, "PROG"))?;
+    let command = command.arg(word(alloc, "OUT"))?;
+    Ok(command)
+}
+
 // The program, with the commands `run` and `eval`.
 fn picture_commands<'a>(alloc: Global) -> Result<Command<'a>, AllocError>
     ensures { IfOk result (λ c. app_of c ≡ words.program_with words.picture_commands) }
@@ -181,6 +193,7 @@ fn program_command<'a>(alloc: Global) -> Result<Command<'a>, AllocError>
     let command = command.subcommand(plan_command(alloc)?)?;
     let command = command.subcommand(check_command(alloc)?)?;
     let command = command.subcommand(make_command(alloc)?)?;
+    let command = command.subcommand(cut_command(alloc)?)?;
     Ok(command)
 }
 

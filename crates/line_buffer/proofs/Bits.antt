@@ -5,7 +5,7 @@ use Rattle.std.specs.List.Sorted.{IsStrictlyIncreasing}
 use Rattle.wiring.specs.BufferBits.{array_bits}
 use Rattle.line_buffer.specs.Places.{last_of, later, depth_of, Ascend, segment_shapes, ring_shapes, chain_shapes}
 use Rattle.line_buffer.proofs.Ages.{later_ascends, later_depth}
-use Rattle.line_buffer.proofs.Turns.{no_eq}
+use Rattle.line_buffer.proofs.Rotations.{no_eq}
 
 pub ring_bits : (width : ℕ) (ages : List ℕ) → array_bits (ring_shapes width ages) ≡ width * depth_of ages
 ring_bits width ages = by (depth_of ages)

@@ -1,5 +1,5 @@
 -- Arrays that are read one clock ahead, into a register that copies their word.
-use Rattle.std.proofs.Common.{◌≡◌, ◌≢◌, ◌⊎◌, ℕ, zero, suc, ◌+◌, ◌-◌, ◌*◌, ◌%◌, ◌≤◌, Bool, true, false, List, [], ◌∷◌, length, Some, refl, sym, ap, subst, ◌∙◌, inl, inr, arith}
+use Rattle.std.proofs.Common.{◌≡◌, ◌≢◌, ◌⊎◌, ℕ, suc, ◌+◌, ◌-◌, ◌*◌, ◌%◌, ◌≤◌, Bool, true, false, List, [], ◌∷◌, length, Some, refl, sym, ap, subst, ◌∙◌, inl, inr, arith}
 use Rattle.std.specs.Prelude.{if◌then◌else◌, IsTrue, slice_get, slice_set, slice_index}
 use Rattle.std.proofs.lemmas.List.{set-get_or, get_or-set_other}
 use Rattle.std.proofs.lemmas.Nat.{mod-mul-add}
@@ -16,7 +16,7 @@ use Rattle.net_build.proofs.Runs.{clock_before}
 use Rattle.net_build.proofs.Clocks.{bool_cases, never, was_off, now_on, not_reset, count_of}
 use Rattle.net_build.proofs.Cycling.{loaded_here}
 use Rattle.line_buffer.specs.Lines.{IsBlockLine, Delays}
-use Rattle.line_buffer.proofs.Turns.{other_place}
+use Rattle.line_buffer.proofs.Rotations.{other_place}
 use Rattle.line_buffer.proofs.Turning.{words_of, unless_here}
 use Rattle.line_buffer.proofs.Filling.{block_takes_net, block_word}
 

@@ -23,7 +23,7 @@ use Rattle.line_buffer.specs.Buffers.{AddsBuffer, IsBuffer, AreMadeOfBuffer, is_
 use Rattle.line_buffer.specs.Fills.{AreFilled}
 use Rattle.line_buffer.proofs.Filling.{fills_more, fills_none, fills_one, line_takes_net}
 use Rattle.line_buffer.proofs.Ages.{age_within}
-use Rattle.line_buffer.proofs.Turns.{yes_eq, no_eq}
+use Rattle.line_buffer.proofs.Rotations.{yes_eq, no_eq}
 use Rattle.line_buffer.proofs.Turning.{index_more, line_more}
 use Rattle.line_buffer.proofs.Tapping.{oldest_is, taps_buffer}
 use Rattle.line_buffer.proofs.Ringed.{ring_is, ring_made}

@@ -1,4 +1,4 @@
-pub mod Turns
+pub mod Rotations
 pub mod More
 pub mod Filling
 pub mod Adding
@@ -17,3 +17,4 @@ pub mod Tapping
 pub mod Building
 pub mod Bits
 pub mod Lasting
+pub mod Shared

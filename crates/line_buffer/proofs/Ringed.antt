@@ -16,7 +16,7 @@ use Rattle.line_buffer.specs.Rings.{behind, AreRingTaps}
 use Rattle.line_buffer.specs.Streams.{IsPixel, BufferIsRight, HoldsPixels}
 use Rattle.line_buffer.specs.Places.{depth_of, ring_place, word_at}
 use Rattle.line_buffer.specs.Buffers.{IsBuffer, AreMadeOfBuffer}
-use Rattle.line_buffer.proofs.Turns.{ring_goes_on, behind_is}
+use Rattle.line_buffer.proofs.Rotations.{ring_goes_on, behind_is}
 use Rattle.net_build.proofs.Clocks.{now_on, number_off}
 use Rattle.line_buffer.proofs.Ages.{age_within}
 use Rattle.line_buffer.proofs.Turning.{words_of, line_long, line_takes, line_waits}

@@ -18,7 +18,7 @@ use Rattle.line_buffer.specs.Places.{last_of, later, depth_of, Ascend, segment_p
 use Rattle.line_buffer.specs.Lines.{Delays}
 use Rattle.line_buffer.specs.Buffers.{IsBuffer}
 use Rattle.line_buffer.specs.Chains.{AreSegments, last_net, later_taps}
-use Rattle.line_buffer.proofs.Turns.{ring_goes_on, whole_turn}
+use Rattle.line_buffer.proofs.Rotations.{ring_goes_on, whole_turn}
 use Rattle.line_buffer.proofs.Ages.{later_ascends, later_depth, at_least, above_low}
 use Rattle.line_buffer.proofs.Turning.{words_of, delays_more, delays_long}
 

@@ -45,7 +45,7 @@ use Rattle.line_buffer.specs.declared.lines.DelayLine.{DelayLine}
 use Rattle.net_build.proofs.Logic.{Source, net_source, given_source, number_source, source_more, computes_as, binary_computes, choose_computes, first_in}
 use Rattle.net_build.proofs.Counting.{by_bit}
 use Rattle.line_buffer.proofs.More.{le_is}
-use Rattle.line_buffer.proofs.Turns.{yes_lt, no_lt, yes_eq, no_eq, behind_below}
+use Rattle.line_buffer.proofs.Rotations.{yes_lt, no_lt, yes_eq, no_eq, behind_below}
 use Rattle.line_buffer.proofs.Turning.{index_more, index_below}
 
 pub taps_none : (b : Netlist) (x : ℕ) → AddsTaps b b x

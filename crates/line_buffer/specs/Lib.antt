@@ -5,5 +5,6 @@ pub mod Added
 pub mod Fills
 pub mod Buffers
 pub mod Lines
+pub mod SharedCounters
 pub mod Chains
 pub mod Rings

@@ -12,9 +12,11 @@ ghost use Rattle.line_buffer.specs.Fills.{AreFilled};
 ghost use Rattle.line_buffer.specs.Buffers.{AddsBuffer, IsBuffer, IsDelay, AreMadeOfBuffer};
 ghost use Rattle.line_buffer.specs.Indices.{is_long, AreReadOnce};
 ghost use Rattle.line_buffer.specs.Chains.{IsSegment, IsStep, IsChain};
+ghost use Rattle.line_buffer.specs.SharedCounters.{AreTurns};
 
-use crate::blocks::{block_line, turning_indices};
+use crate::blocks::block_line;
 use crate::lines::delay_line;
+use crate::sharing::{Turns, turning_indices};
 use dk_base::OutOfMemory;
 use net_build::Builder;
 use std::alloc::Global;
@@ -38,33 +40,49 @@ fn is_long(words: u32, least: Option<u32>) -> bool
 }
 
 // A segment whose word is read at the index of its write.
-fn line_segment(b: &mut Builder, width: u8, words: u32, from: Net) -> Result<Net, OutOfMemory>
+fn line_segment(
+    b: &mut Builder,
+    turns: &mut Turns,
+    width: u8,
+    words: u32,
+    from: Net,
+) -> Result<Net, OutOfMemory>
     requires bits { IsWidth width }
     requires words { IsDepth words }
     requires net { IsNet b.old from }
     requires wide { net_width b.old from ≡ width }
+    requires turns { AreTurns b.old turns.old }
     ensures includes { Includes b.new b.old }
+    ensures turns { OnOk result (AreTurns b.new turns.new) }
     ensures segment { IfOk result (λ n. (long : ℕ → Bool) → long words ≡ false → IsSegment b.new b.old width words long from n) }
     ensures net { IfOk result (IsNet b.new) }
     ensures wide { IfOk result (λ n. net_width b.new n ≡ width) }
 {
-    let line = delay_line(b, width, words, from)?;
+    let line = delay_line(b, turns, width, words, from)?;
     Ok(line.word)
 }
 
 // A segment whose word is read one clock ahead, into a register.
-fn block_segment(b: &mut Builder, width: u8, words: u32, from: Net) -> Result<Net, OutOfMemory>
+fn block_segment(
+    b: &mut Builder,
+    turns: &mut Turns,
+    width: u8,
+    words: u32,
+    from: Net,
+) -> Result<Net, OutOfMemory>
     requires bits { IsWidth width }
     requires words { IsDepth words }
     requires some { 2 ≤ words }
     requires net { IsNet b.old from }
     requires wide { net_width b.old from ≡ width }
+    requires turns { AreTurns b.old turns.old }
     ensures includes { Includes b.new b.old }
+    ensures turns { OnOk result (AreTurns b.new turns.new) }
     ensures segment { IfOk result (λ n. (long : ℕ → Bool) → long words ≡ true → IsSegment b.new b.old width words long from n) }
     ensures net { IfOk result (IsNet b.new) }
     ensures wide { IfOk result (λ n. net_width b.new n ≡ width) }
 {
-    let at = turning_indices(b, words)?;
+    let at = turning_indices(b, turns, words)?;
     let net = block_line(b, width, words, from, at)?;
     Ok(net)
 }
@@ -72,6 +90,7 @@ fn block_segment(b: &mut Builder, width: u8, words: u32, from: Net) -> Result<Ne
 // The net of n clocks later, which comes out of a segment.
 fn segment(
     b: &mut Builder,
+    turns: &mut Turns,
     width: u8,
     words: u32,
     from: Net,
@@ -82,22 +101,25 @@ fn segment(
     requires two { (n : ℕ) → least ≡ Some n → 2 ≤ n }
     requires net { IsNet b.old from }
     requires wide { net_width b.old from ≡ width }
+    requires turns { AreTurns b.old turns.old }
     ensures includes { Includes b.new b.old }
+    ensures turns { OnOk result (AreTurns b.new turns.new) }
     ensures segment { IfOk result (IsSegment b.new b.old width words (is_long least) from) }
     ensures net { IfOk result (IsNet b.new) }
     ensures wide { IfOk result (λ n. net_width b.new n ≡ width) }
 {
     if is_long(words, least) {
-        let net = block_segment(b, width, words, from)?;
+        let net = block_segment(b, turns, width, words, from)?;
         return Ok(net);
     }
-    let net = line_segment(b, width, words, from)?;
+    let net = line_segment(b, turns, width, words, from)?;
     Ok(net)
 }
 
 // The net of an age that is no less.
 fn next_tap(
     b: &mut Builder,
+    turns: &mut Turns,
     width: u8,
     from: Tap,
     age: u64,
@@ -109,14 +131,16 @@ fn next_tap(
     requires two { (n : ℕ) → least ≡ Some n → 2 ≤ n }
     requires net { IsNet b.old from.net }
     requires wide { net_width b.old from.net ≡ width }
+    requires turns { AreTurns b.old turns.old }
     ensures includes { Includes b.new b.old }
+    ensures turns { OnOk result (AreTurns b.new turns.new) }
     ensures step { IfOk result (IsStep b.new b.old width (is_long least) from age) }
 {
     if age == from.age {
         return Ok(from);
     }
     let words = (age - from.age) as u32;
-    let net = segment(b, width, words, from.net, least)?;
+    let net = segment(b, turns, width, words, from.net, least)?;
     Ok(Tap { age, net })
 }
 
@@ -124,6 +148,7 @@ fn next_tap(
 fn chained(
     alloc: Global,
     b: &mut Builder,
+    turns: &mut Turns,
     width: u8,
     ages: &[u64],
     value: Net,
@@ -135,13 +160,15 @@ fn chained(
     requires two { (n : ℕ) → least ≡ Some n → 2 ≤ n }
     requires net { IsNet b.old value }
     requires wide { net_width b.old value ≡ width }
+    requires turns { AreTurns b.old turns.old }
     ensures includes { Includes b.new b.old }
+    ensures turns { OnOk result (AreTurns b.new turns.new) }
     ensures chain { IfOk result (λ taps. IsChain b.new b.old width (is_long least) value ages.now taps.items) }
 {
     let mut nets = Vec::new(alloc);
     let mut last = Tap { age: 0, net: value };
     for age in ages {
-        last = next_tap(b, width, last, *age, least)?;
+        last = next_tap(b, turns, width, last, *age, least)?;
         nets.push(last.net)?;
     }
     Ok(nets)
@@ -153,6 +180,7 @@ fn chained(
 pub fn chain(
     alloc: Global,
     b: &mut Builder,
+    turns: &mut Turns,
     width: u8,
     ages: &[u64],
     value: Net,
@@ -162,7 +190,9 @@ pub fn chain(
     requires bits { IsWidth width }
     requires net { IsNet b.old value }
     requires wide { net_width b.old value ≡ width }
+    requires turns { AreTurns b.old turns.old }
     ensures includes { Includes b.new b.old }
+    ensures turns { OnOk result (AreTurns b.new turns.new) }
     ensures adds { OnOk result (AddsBuffer b.new b.old (chain_shapes width ages.now) []) }
     ensures once { OnOk result (AreReadOnce b.new b.old) }
     ensures buffer { IfOk result (λ taps. IsBuffer b.new [] (chain_place (length b.old.arrays) ages.now) ages.now taps.items value) }
@@ -171,7 +201,7 @@ pub fn chain(
         (length b.old.arrays + length (chain_shapes width ages.now)) ages.now taps.items) }
     ensures fills { OnOk result (AreFilled b.new (λ x. true) [] (length b.old.arrays) (length b.old.arrays + length (chain_shapes width ages.now)) value) }
 {
-    let nets = chained(alloc, b, width, ages, value, None)?;
+    let nets = chained(alloc, b, turns, width, ages, value, None)?;
     Ok(nets)
 }
 
@@ -179,6 +209,7 @@ pub fn chain(
 pub fn block_chain(
     alloc: Global,
     b: &mut Builder,
+    turns: &mut Turns,
     width: u8,
     ages: &[u64],
     value: Net,
@@ -190,9 +221,11 @@ pub fn block_chain(
     requires two { 2 ≤ least }
     requires net { IsNet b.old value }
     requires wide { net_width b.old value ≡ width }
+    requires turns { AreTurns b.old turns.old }
     ensures includes { Includes b.new b.old }
+    ensures turns { OnOk result (AreTurns b.new turns.new) }
     ensures chain { IfOk result (λ taps. IsChain b.new b.old width (is_long (Some least)) value ages.now taps.items) }
 {
-    let nets = chained(alloc, b, width, ages, value, Some(least))?;
+    let nets = chained(alloc, b, turns, width, ages, value, Some(least))?;
     Ok(nets)
 }

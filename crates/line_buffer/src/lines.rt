@@ -15,9 +15,11 @@ ghost use Rattle.line_buffer.specs.Buffers.{AddsBuffer, is_buffer};
 ghost use Rattle.line_buffer.specs.Indices.{AreReadOnce};
 ghost use Rattle.line_buffer.specs.Fills.{IsUnlessHeld};
 ghost use Rattle.line_buffer.specs.Lines.{IsIndex, IsDelayLine};
+ghost use Rattle.line_buffer.specs.SharedCounters.{AreTurns};
 
+use crate::sharing::{Turns, turning_index};
 use dk_base::OutOfMemory;
-use net_build::{Builder, counter};
+use net_build::Builder;
 use wiring::{Atom, Net, Right};
 
 // An array, its index, and the word that is read there before it is written.
@@ -26,21 +28,6 @@ pub struct DelayLine {
     pub array: usize,
     pub index: Net,
     pub word: Net,
-}
-
-// An index that goes through this many words, a word in each counted clock, from the first on after a reset.
-fn turning_index(b: &mut Builder, words: u32) -> Result<Net, OutOfMemory>
-    requires { IsDepth words }
-    ensures includes { Includes b.new b.old }
-    ensures adds { OnOk result (AddsBuffer b.new b.old [] []) }
-    ensures net { IfOk result (IsNet b.new) }
-    ensures width { IfOk result (λ n. net_width b.new n ≡ bit_count (words - 1)) }
-    ensures index { IfOk result (IsIndex b.new words) }
-    ensures control { IfOk result (λ n. IsControl b.new (OfNet n)) }
-{
-    let last = u64::from(words) - 1;
-    let index = counter(b, last)?;
-    Ok(index)
 }
 
 // What an array takes: in a held clock the word that is there, and else the net.
@@ -63,9 +50,10 @@ pub fn stored_net(b: &mut Builder, now: Net, next: Net, bits: u8) -> Result<Net,
     Ok(next)
 }
 
-// An array of n words, at least one: `value`, of `width` bits, goes in at its index, and comes out there n counted clocks later. The index is 0 in a reset clock and does not change in a held one. Fails only if out of memory.
+// An array of n words, at least one: `value`, of `width` bits, goes in at its index, and comes out there n counted clocks later. The index is 0 in a reset clock and does not change in a held one. Arrays of as many words share it. Fails only if out of memory.
 pub fn delay_line(
     b: &mut Builder,
+    turns: &mut Turns,
     width: u8,
     words: u32,
     value: Net,
@@ -74,7 +62,9 @@ pub fn delay_line(
     requires words { IsDepth words }
     requires value { IsNet b.old value }
     requires width { net_width b.old value ≡ width }
+    requires turns { AreTurns b.old turns.old }
     ensures includes { Includes b.new b.old }
+    ensures turns { OnOk result (AreTurns b.new turns.new) }
     ensures adds { OnOk result (AddsBuffer b.new b.old ((record { width = width; depth = words }) ∷ []) []) }
     ensures array { IfOk result (λ l. l.array ≡ length b.old.arrays) }
     ensures line { IfOk result (λ l. IsDelayLine b.new (length b.old.arrays) words value l.word) }
@@ -87,7 +77,7 @@ pub fn delay_line(
     ensures index_control { IfOk result (λ l. IsControl b.new (OfNet l.index)) }
     ensures made { IfOk result (λ l. IsMadeOf b.new (is_buffer b.new.enable (length b.old.arrays) (length b.old.arrays + 1)) (OfNet l.word)) }
 {
-    let index = turning_index(b, words)?;
+    let index = turning_index(b, turns, words)?;
     b.law();
     let array = b.array(width, words)?;
     let word = b.op(Right::Word(array, Atom::Net(index)))?;

@@ -2,7 +2,6 @@
 
 ghost use Rattle.std.specs.Prelude.{◌≡◌, ℕ, ◌+◌, ◌-◌, ◌<◌, ◌≤◌, ◌^◌, [], ◌∷◌, length, true, slice_get, Some, All, IfOk, OnOk};
 ghost use Rattle.std.specs.List.Sorted.{IsStrictlyIncreasing};
-ghost use Rattle.dk_base.specs.Numbers.{bit_count};
 ghost use Rattle.dk_base.specs.declared.TheConstants.{MAX_BUFFER_BITS};
 ghost use Rattle.wiring.specs.declared.netlist.Net.{Net};
 ghost use Rattle.wiring.specs.Netlist.{net_width};
@@ -10,14 +9,15 @@ ghost use Rattle.wiring.specs.Snapshot.{net_value};
 ghost use Rattle.wiring.specs.Sizes.{IsWidth, IsDepth};
 ghost use Rattle.net_build.specs.Includes.{Includes};
 ghost use Rattle.net_build.specs.Draft.{IsNet};
-ghost use Rattle.net_build.specs.Control.{IsControl};
 ghost use Rattle.net_build.specs.Logic.{AddsLogic, Computes};
 ghost use Rattle.line_buffer.specs.Places.{depth_of, ring_shapes, ring_place};
 ghost use Rattle.line_buffer.specs.Rings.{place_worth, IsRing, AddsTaps, IsRingTap, AreRingTaps};
 ghost use Rattle.line_buffer.specs.Fills.{AreFilled};
+ghost use Rattle.line_buffer.specs.SharedCounters.{AreTurns};
 ghost use Rattle.line_buffer.specs.Buffers.{AddsBuffer, IsBuffer, IsDelay, AreMadeOfBuffer};
 
 use crate::lines::{DelayLine, delay_line};
+use crate::sharing::Turns;
 use dk_base::{OutOfMemory, bits_for};
 use net_build::{Builder, gate, number};
 use std::alloc::Global;
@@ -156,6 +156,7 @@ fn still_taps(alloc: Global, value: Net, ages: &[u64]) -> Result<Vec<Net>, OutOf
 fn ring_array(
     alloc: Global,
     b: &mut Builder,
+    turns: &mut Turns,
     width: u8,
     words: u32,
     ages: &[u64],
@@ -167,14 +168,16 @@ fn ring_array(
     requires bits { IsWidth width }
     requires net { IsNet b.old value }
     requires wide { net_width b.old value ≡ width }
+    requires turns { AreTurns b.old turns.old }
     ensures includes { Includes b.new b.old }
+    ensures turns { OnOk result (AreTurns b.new turns.new) }
     ensures adds { OnOk result (AddsBuffer b.new b.old (ring_shapes width ages.now) []) }
     ensures buffer { IfOk result (λ taps. IsBuffer b.new [] (ring_place (length b.old.arrays) ages.now) ages.now taps.items value) }
     ensures made { IfOk result (λ taps. AreMadeOfBuffer b.new (length b.old.arrays)
         (length b.old.arrays + length (ring_shapes width ages.now)) ages.now taps.items) }
     ensures fills { OnOk result (AreFilled b.new (λ x. true) [] (length b.old.arrays) (length b.old.arrays + length (ring_shapes width ages.now)) value) }
 {
-    let line = delay_line(b, width, words, value)?;
+    let line = delay_line(b, turns, width, words, value)?;
     let count = u64::from(words);
     let bits = bits_for(count - 1);
     let taps = ring_taps(alloc, b, line, value, bits, count, ages)?;
@@ -187,6 +190,7 @@ fn ring_array(
 pub fn ring(
     alloc: Global,
     b: &mut Builder,
+    turns: &mut Turns,
     width: u8,
     ages: &[u64],
     value: Net,
@@ -196,7 +200,9 @@ pub fn ring(
     requires bits { IsWidth width }
     requires net { IsNet b.old value }
     requires wide { net_width b.old value ≡ width }
+    requires turns { AreTurns b.old turns.old }
     ensures includes { Includes b.new b.old }
+    ensures turns { OnOk result (AreTurns b.new turns.new) }
     ensures adds { OnOk result (AddsBuffer b.new b.old (ring_shapes width ages.now) []) }
     ensures buffer { IfOk result (λ taps. IsBuffer b.new [] (ring_place (length b.old.arrays) ages.now) ages.now taps.items value) }
     ensures delay { IfOk result (λ taps. IsDelay b.new (ring_place (length b.old.arrays) ages.now) ages.now taps.items value) }
@@ -209,6 +215,6 @@ pub fn ring(
         let still = still_taps(alloc, value, ages)?;
         return Ok(still);
     }
-    let taps = ring_array(alloc, b, width, depth as u32, ages, value)?;
+    let taps = ring_array(alloc, b, turns, width, depth as u32, ages, value)?;
     Ok(taps)
 }

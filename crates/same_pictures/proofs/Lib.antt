@@ -1,2 +1,3 @@
 pub mod Values
 mod Lists
+pub mod Moved

@@ -3,17 +3,11 @@ use Rattle.std.proofs.Common.{◌≡◌, ℕ, ◌-◌, ◌<◌, ◌≤◌, min, 
 use Rattle.std.specs.Prelude.{IsTrue}
 use Rattle.std.proofs.lemmas.Bool.Decides.{nat_tests}
 use Rattle.std.proofs.lemmas.Int.{ints}
-use Rattle.dk_base.specs.declared.ty.Ty.{Ty}
-use Rattle.dk_base.specs.declared.operator.Unary.{Unary}
-use Rattle.dk_base.specs.declared.operator.Binary.{Binary}
-use Rattle.dk_base.specs.declared.operator.Scaling.{Scaling}
-use Rattle.dk_base.specs.declared.operator.Conversion.{Conversion}
 use Rattle.dk_base.specs.Frames.{Size, IsFrame, Picture, is_below, in_frame, clamped, framed, picture_at}
-use Rattle.dk_base.specs.Operators.{unary_value, binary_value, scaling_value, conversion_value, select_value}
 use Rattle.pointwise_ir.specs.declared.program.Input.{Input}
 use Rattle.pointwise_ir.specs.declared.expr.Edge.{Edge}
 use Rattle.pointwise_ir.specs.declared.expr.Edge.TheVariants.{Zero, Clamp}
-use Rattle.pointwise_ir.specs.Trees.{Tree, constant, read, shifted, unary, binary, select, convert, scale}
+use Rattle.pointwise_ir.specs.Trees.{Tree, read, shifted}
 use Rattle.pointwise_ir.specs.Programs.{Program, IsProgram}
 use Rattle.pointwise_ir.specs.Meaning.{edged, value, pictures, IsPicture, IsRound}
 use Rattle.dk_base.proofs.Rasters.{below_is, inside_is}
@@ -42,7 +36,7 @@ pub standing_on : (p : Program) (a b c : Tree) → StandsFor p a b → StandsFor
 standing_on p a b c one other round is x y inside = one round is x y inside ∙ other round is x y inside
 
 -- a coordinate inside is its own nearest one
-clamped_same : (limit : ℕ) (x : ℤ) → IsTrue (is_below x limit) → clamped limit x ≡ x
+pub clamped_same : (limit : ℕ) (x : ℤ) → IsTrue (is_below x limit) → clamped limit x ≡ x
 clamped_same limit x below =
     let (n, is, lt) = below_is x limit below in
     ap (clamped limit) is ∙ ap pos (let e : min n (limit - 1) ≡ n = omega (arith, lt) in e) ∙ sym is
@@ -51,12 +45,12 @@ clamped_below : (limit : ℕ) (x : ℤ) → 1 ≤ limit → is_below (clamped li
 clamped_below limit (pos n) some = let lt : min n (limit - 1) < limit = omega (arith, some) in grind (arith, nat_tests, lt)
 clamped_below limit (negsuc n) some = grind (arith, nat_tests, some)
 
-clamped_inside : (size : Size) (x y : ℤ) → IsFrame size.width size.height → in_frame size (clamped size.width x) (clamped size.height y) ≡ true
+pub clamped_inside : (size : Size) (x y : ℤ) → IsFrame size.width size.height → in_frame size (clamped size.width x) (clamped size.height y) ≡ true
 clamped_inside size x y frame =
     ap (λ b. b && is_below (clamped size.height y) size.height) (clamped_below size.width x frame.some_columns) ∙ clamped_below size.height y frame.some_rows
 
 -- at a point of the frame an edge shows the picture
-edged_here : (size : Size) (edge : Edge) (p : Picture) (x y : ℤ) → IsTrue (in_frame size x y) → edged size edge p (x +ℤ pos 0) (y +ℤ pos 0) ≡ p x y
+pub edged_here : (size : Size) (edge : Edge) (p : Picture) (x y : ℤ) → IsTrue (in_frame size x y) → edged size edge p (x +ℤ pos 0) (y +ℤ pos 0) ≡ p x y
 edged_here size edge p x y inside =
     let across : x +ℤ pos 0 ≡ x = omega (arith, ints) in
     let down : y +ℤ pos 0 ≡ y = omega (arith, ints) in
@@ -93,9 +87,6 @@ same_picture old new same g h a b one other has round is x y =
     by true inside = ap (λ t. if t then value old.size (pictures old round) a x y else pos 0) inside ∙ has round is x y inside ∙ sym (ap (λ t. if t then value new.size (pictures new round) b x y else pos 0) inside)
     by false outside = ap (λ t. if t then value old.size (pictures old round) a x y else pos 0) outside ∙ sym (ap (λ t. if t then value new.size (pictures new round) b x y else pos 0) outside)
 
-pub same_constant : (old new : Program) (v : ℤ) (t : Ty) → HaveSameValue old new (constant v t) (constant v t)
-same_constant old new v t round is x y inside = refl
-
 pub same_read : (old new : Program) → HaveSameInputs old new → (edge : Edge) (g h : ℕ) (dx dy : ℤ) → HaveSamePicture old new g h → HaveSameValue old new (read edge g dx dy) (read edge h dx dy)
 same_read old new same edge g h dx dy has round is x y inside =
     edged_agrees old.size edge (picture_at (pictures old round) g) (picture_at (pictures new round) h) (has round is) (x +ℤ dx) (y +ℤ dy)
@@ -105,23 +96,3 @@ pub same_shifted : (old new : Program) → HaveSameInputs old new → IsProgram 
 same_shifted old new same program edge dx dy a b has round is x y inside =
     edged_same old.size program.frame edge (value old.size (pictures old round) a) (value new.size (pictures new round) b) (has round is) (x +ℤ dx) (y +ℤ dy)
     ∙ ap (λ (s : Size). edged s edge (value new.size (pictures new round) b) (x +ℤ dx) (y +ℤ dy)) (sym same.size)
-
-pub same_unary : (old new : Program) (op : Unary) (a b : Tree) → HaveSameValue old new a b → HaveSameValue old new (unary op a) (unary op b)
-same_unary old new op a b has round is x y inside = ap (unary_value op) (has round is x y inside)
-
-pub same_binary : (old new : Program) (op : Binary) (a b c d : Tree) → HaveSameValue old new a b → HaveSameValue old new c d → HaveSameValue old new (binary op a c) (binary op b d)
-same_binary old new op a b c d left right round is x y inside =
-    ap (λ v. binary_value op v (value old.size (pictures old round) c x y)) (left round is x y inside)
-    ∙ ap (binary_value op (value new.size (pictures new round) b x y)) (right round is x y inside)
-
-pub same_select : (old new : Program) (a b c d e f : Tree) → HaveSameValue old new a b → HaveSameValue old new c d → HaveSameValue old new e f → HaveSameValue old new (select a c e) (select b d f)
-same_select old new a b c d e f when left right round is x y inside =
-    ap (λ v. select_value v (value old.size (pictures old round) c x y) (value old.size (pictures old round) e x y)) (when round is x y inside)
-    ∙ ap (λ v. select_value (value new.size (pictures new round) b x y) v (value old.size (pictures old round) e x y)) (left round is x y inside)
-    ∙ ap (select_value (value new.size (pictures new round) b x y) (value new.size (pictures new round) d x y)) (right round is x y inside)
-
-pub same_convert : (old new : Program) (how : Conversion) (t : Ty) (a b : Tree) → HaveSameValue old new a b → HaveSameValue old new (convert how a t) (convert how b t)
-same_convert old new how t a b has round is x y inside = ap (conversion_value how t) (has round is x y inside)
-
-pub same_scale : (old new : Program) (op : Scaling) (k : ℕ) (a b : Tree) → HaveSameValue old new a b → HaveSameValue old new (scale op a k) (scale op b k)
-same_scale old new op k a b has round is x y inside = ap (λ v. scaling_value op v k) (has round is x y inside)

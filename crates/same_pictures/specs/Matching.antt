@@ -1,10 +1,11 @@
 -- What the private functions say of expressions and of images by number.
-use Rattle.std.specs.Prelude.{◌≡◌, ℕ, IsTrue, ℤ, pos, List, Option, Some, slice_get}
-use Rattle.dk_base.specs.Frames.{in_frame, Picture}
+use Rattle.std.specs.Prelude.{◌≡◌, ◌⊎◌, ℕ, IsTrue, ℤ, pos, ◌+ℤ◌, ◌≤ℤ◌, List, Option, Some, slice_get}
+use Rattle.dk_base.specs.Frames.{Size, IsFrame, in_frame, Picture}
 use Rattle.pointwise_ir.specs.declared.expr.Edge.{Edge}
-use Rattle.pointwise_ir.specs.Trees.{Tree, read}
+use Rattle.pointwise_ir.specs.declared.expr.Edge.TheVariants.{Clamp}
+use Rattle.pointwise_ir.specs.Trees.{Tree, read, shifted}
 use Rattle.pointwise_ir.specs.Programs.{Program}
-use Rattle.pointwise_ir.specs.Meaning.{value, pictures, IsRound}
+use Rattle.pointwise_ir.specs.Meaning.{edged, value, pictures, IsRound}
 use Rattle.same_pictures.specs.Same.{HaveSamePicture}
 
 -- the expression is a read of image g at the point itself
@@ -29,3 +30,16 @@ ArePairs old new pairs = (g h : ℕ) → slice_get pairs g ≡ Some (Some h) →
 pub record HaveSameInputs (old new : Program) : Type 0 where
   pub size : new.size ≡ old.size
   pub inputs : new.inputs ≡ old.inputs
+
+-- The same where the old program's expression is taken at a moved point, which is brought to the frame's edge.
+abbrev pub HaveSameMoved : (old new : Program) → (dx dy : ℤ) → (a b : Tree) → Type 0
+HaveSameMoved old new dx dy a b = HaveSameValue old new (shifted Clamp dx dy a) b
+
+-- Two moves to one side of a line are one move by their sum, also with clamped points.
+abbrev pub IsJoined : (d e sum : ℤ) → Type 0
+IsJoined d e sum = (sum ≡ d +ℤ e) × (((pos 0 ≤ℤ d) × (pos 0 ≤ℤ e)) ⊎ ((d ≤ℤ pos 0) × (e ≤ℤ pos 0)))
+
+-- On a picture a read by (ex, ey) from the clamped point at (dx, dy) is a read by (fx, fy) from the point itself.
+abbrev pub IsPushed : (dx dy : ℤ) → (edge : Edge) → (ex ey : ℤ) → (to : Edge) → (fx fy : ℤ) → Type 0
+IsPushed dx dy edge ex ey to fx fy = (size : Size) → IsFrame size.width size.height → (picture : Picture) → (x y : ℤ) → IsTrue (in_frame size x y) →
+    edged size Clamp (λ u v. edged size edge picture (u +ℤ ex) (v +ℤ ey)) (x +ℤ dx) (y +ℤ dy) ≡ edged size to picture (x +ℤ fx) (y +ℤ fy)

@@ -2,6 +2,7 @@
 #![tactic(auto)]
 
 mod matching;
+mod moves;
 mod operands;
 mod pairing;
 

@@ -1,10 +1,11 @@
 // Whether an expression of the new program has the value of one of the old program.
 
 ghost use Rattle.std.specs.Prelude.{◌≡◌, ℕ, List, Some, slice_get, IsTrue, IfSome};
-ghost use Rattle.pointwise_ir.specs.Trees.{tree_of};
+ghost use Rattle.pointwise_ir.specs.Trees.{tree_of, read};
 ghost use Rattle.pointwise_ir.specs.Programs.{IsBody};
-ghost use Rattle.same_pictures.specs.Matching.{IsReadHere, HaveSameValue, StandsFor, ArePairs, HaveSameInputs};
+ghost use Rattle.same_pictures.specs.Matching.{IsReadHere, HaveSameValue, HaveSameMoved, StandsFor, ArePairs, HaveSameInputs};
 
+use crate::moves::{HERE, Offset, Step, pushed, pushed_shift};
 use crate::operands::{
     binary_operands, converted_operand, is_constant, read_image, scaled_operand, select_operands,
     shifted_body, unary_operand,
@@ -65,7 +66,7 @@ fn unfolded<'a>(program: &'a Program, e: &'a Expr) -> &'a Expr
     now
 }
 
-// Whether this is the image of the new program that stands for an image of the old one.
+// Whether this is the image of the new program that is the counterpart of an image of the old one.
 pub fn is_pair(pairs: &[Option<u32>], image: u32, other: u32) -> bool
     ensures { IsTrue result → slice_get pairs.now image ≡ Some (Some other) }
 {
@@ -75,19 +76,23 @@ pub fn is_pair(pairs: &[Option<u32>], image: u32, other: u32) -> bool
     }
 }
 
-// Whether a read of the new program, or what it stands for, is a read by the same offset of the image that stands for the one that is read in the old program.
-fn reads_pair(old: &Program, new: &Program, pairs: &[Option<u32>], a: &Expr, b: &Expr) -> bool
+// Whether a read of the new program, or the body that it reads at the point itself, is a read by this step of the counterpart of an image of the old program.
+fn reads_pair(
+    old: &Program,
+    new: &Program,
+    pairs: &[Option<u32>],
+    image: u32,
+    step: Step,
+    b: &Expr,
+) -> bool
     requires inputs { HaveSameInputs old.now new.now }
     requires pairs { ArePairs old.now new.now pairs.now }
-    ensures { IsTrue result → HaveSameValue old.now new.now (tree_of a.now) (tree_of b.now) }
+    ensures { IsTrue result → HaveSameValue old.now new.now (read step.edge image step.dx step.dy) (tree_of b.now) }
 {
-    let Expr::Read(edge, image, dx, dy) = a else {
-        return false;
-    };
     let mut now = b;
     for _ in 0..=new.images().len() {
-        if let Some(other) = read_image(now, *edge, *dx, *dy) {
-            if is_pair(pairs, *image, other) {
+        if let Some(other) = read_image(now, step.edge, step.dx, step.dy) {
+            if is_pair(pairs, image, other) {
                 return true;
             }
         }
@@ -97,6 +102,73 @@ fn reads_pair(old: &Program, new: &Program, pairs: &[Option<u32>], a: &Expr, b: 
         }
     }
     false
+}
+
+// Whether an expression of the new program has, at each point, the value that one of the old program has at the moved point.
+fn has_same_moved(
+    old: &Program,
+    new: &Program,
+    pairs: &[Option<u32>],
+    at: Offset,
+    a: &Expr,
+    b: &Expr,
+) -> bool
+    requires inputs { HaveSameInputs old.now new.now }
+    requires pairs { ArePairs old.now new.now pairs.now }
+    ensures { IsTrue result → HaveSameMoved old.now new.now at.dx at.dy (tree_of a.now) (tree_of b.now) }
+{
+    old.law();
+    let e = unfolded(new, b);
+    match a {
+        Expr::Constant(value, ty) => is_constant(e, *value, *ty),
+        Expr::Read(edge, image, dx, dy) => match pushed(at, Step::new(*edge, *dx, *dy)) {
+            Some(step) => reads_pair(old, new, pairs, *image, step, b),
+            None => false,
+        },
+        Expr::Shifted(edge, dx, dy, body) => match pushed(at, Step::new(*edge, *dx, *dy)) {
+            Some(step) => match shifted_body(e, step.edge, step.dx, step.dy) {
+                Some(other) => has_same_moved(old, new, pairs, HERE, body, other),
+                None => match pushed_shift(at, Step::new(*edge, *dx, *dy)) {
+                    Some(to) => has_same_moved(old, new, pairs, to, body, b),
+                    None => false,
+                },
+            },
+            None => false,
+        },
+        Expr::Unary(op, operand) => match unary_operand(e, *op) {
+            Some(other) => has_same_moved(old, new, pairs, at, operand, other),
+            None => false,
+        },
+        Expr::Binary(op, left, right) => match binary_operands(e, *op) {
+            Some((l, r)) => {
+                if !has_same_moved(old, new, pairs, at, left, l) {
+                    return false;
+                }
+                has_same_moved(old, new, pairs, at, right, r)
+            }
+            None => false,
+        },
+        Expr::Select(condition, left, right) => match select_operands(e) {
+            Some((c, l, r)) => {
+                if !has_same_moved(old, new, pairs, at, condition, c) {
+                    return false;
+                }
+                if !has_same_moved(old, new, pairs, at, left, l) {
+                    return false;
+                }
+                has_same_moved(old, new, pairs, at, right, r)
+            }
+            None => false,
+        },
+        Expr::Convert(how, operand, ty) => match converted_operand(e, *how, *ty) {
+            Some(other) => has_same_moved(old, new, pairs, at, operand, other),
+            None => false,
+        },
+        Expr::Scale(op, operand, by) => match scaled_operand(e, *op, *by) {
+            Some(other) => has_same_moved(old, new, pairs, at, operand, other),
+            None => false,
+        },
+    }
 }
 
 // Whether an expression of the new program has the value of one of the old program.
@@ -111,49 +183,5 @@ pub fn has_same_value(
     requires pairs { ArePairs old.now new.now pairs.now }
     ensures { IsTrue result → HaveSameValue old.now new.now (tree_of a.now) (tree_of b.now) }
 {
-    let e = unfolded(new, b);
-    match a {
-        Expr::Constant(value, ty) => is_constant(e, *value, *ty),
-        Expr::Read(_, _, _, _) => reads_pair(old, new, pairs, a, b),
-        Expr::Shifted(edge, dx, dy, body) => match shifted_body(e, *edge, *dx, *dy) {
-            Some(other) => {
-                old.law();
-                has_same_value(old, new, pairs, body, other)
-            }
-            None => false,
-        },
-        Expr::Unary(op, operand) => match unary_operand(e, *op) {
-            Some(other) => has_same_value(old, new, pairs, operand, other),
-            None => false,
-        },
-        Expr::Binary(op, left, right) => match binary_operands(e, *op) {
-            Some((l, r)) => {
-                if !has_same_value(old, new, pairs, left, l) {
-                    return false;
-                }
-                has_same_value(old, new, pairs, right, r)
-            }
-            None => false,
-        },
-        Expr::Select(condition, left, right) => match select_operands(e) {
-            Some((c, l, r)) => {
-                if !has_same_value(old, new, pairs, condition, c) {
-                    return false;
-                }
-                if !has_same_value(old, new, pairs, left, l) {
-                    return false;
-                }
-                has_same_value(old, new, pairs, right, r)
-            }
-            None => false,
-        },
-        Expr::Convert(how, operand, ty) => match converted_operand(e, *how, *ty) {
-            Some(other) => has_same_value(old, new, pairs, operand, other),
-            None => false,
-        },
-        Expr::Scale(op, operand, by) => match scaled_operand(e, *op, *by) {
-            Some(other) => has_same_value(old, new, pairs, operand, other),
-            None => false,
-        },
-    }
+    has_same_moved(old, new, pairs, HERE, a, b)
 }

@@ -103,7 +103,7 @@ fn pair_of(old: &Program, new: &Program, pairs: &[Option<u32>], g: u32) -> Optio
     None
 }
 
-// The inputs stand for themselves.
+// Each input is its own counterpart.
 fn input_pairs(alloc: Global, old: &Program, new: &Program) -> Result<Vec<Option<u32>>, OutOfMemory>
     requires inputs { HaveSameInputs old.now new.now }
     ensures count { IfOk result (λ pairs. length pairs.items ≡ length old.now.inputs) }
@@ -118,7 +118,7 @@ fn input_pairs(alloc: Global, old: &Program, new: &Program) -> Result<Vec<Option
     Ok(pairs)
 }
 
-// For each image of the old program, by number, the image of the new one that stands for it.
+// For each image of the old program, by number, its counterpart in the new one.
 fn all_pairs(alloc: Global, old: &Program, new: &Program) -> Result<Vec<Option<u32>>, OutOfMemory>
     requires inputs { HaveSameInputs old.now new.now }
     ensures { IfOk result (λ pairs. ArePairs old.now new.now pairs.items) }
@@ -173,7 +173,7 @@ fn are_same_outputs(old: &Program, new: &Program) -> bool
     true
 }
 
-// Whether each output of the new program is the image that stands for the old one.
+// Whether each output of the new program is the counterpart of the old one.
 fn are_pairs(pairs: &[Option<u32>], old: &[u32], new: &[u32]) -> bool
     ensures { IsTrue result → (k : ℕ) → k < length old.now → slice_get pairs.now (slice_index old.now k) ≡ Some (Some (slice_index new.now k)) }
 {

@@ -2,6 +2,7 @@ use Rattle.std.proofs.Common.{[], ◌∷◌, ◌++◌, List, suc, sym, subst}
 use Rattle.std.specs.Prelude.{slice_index_or}
 use Rattle.dk_base.specs.declared.stencils.Image.{Image}
 use Rattle.wiring.specs.declared.netlist.Net.{Net}
+use Rattle.line_buffer.proofs.Shared.{turns_more}
 use Rattle.circuit.specs.Taps.{IsReading}
 use Rattle.circuit.specs.Images.{AreBuilt, IsImageNet}
 use Rattle.circuit.proofs.Adding.{image_at, next_reading, next_kept, next_arrays, next_built}
@@ -45,3 +46,6 @@ returns-clause-built g c =
     in
     subst (λ (ns : List Net). AreBuilt c.add.new.b c.args.ir.now plan (g.F.BufferForm.form form) (suc c.args.k) ns c.push-2.new.self.items) (sym c.in_ok-push.ensures.items)
     (subst (λ (ts : List (List Net)). AreBuilt c.add.new.b c.args.ir.now plan (g.F.BufferForm.form form) (suc c.args.k) (c.args.nets.now.items ++ c.in_ok-net.net ∷ []) ts) (sym c.in_ok-push-2.ensures.items) built)
+
+pub add-requires-clause-turns : goal.add-requires-clause-turns
+add-requires-clause-turns g c = turns_more c.image_net.new.b c.args.b.now c.args.turns.now c.in_ok-net.ensures.adds.includes c.requires.turns

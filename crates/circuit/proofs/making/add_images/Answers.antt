@@ -7,5 +7,6 @@ loop-k-preserved g c =
     let next : suc c.loop-k.k ≡ c.loop-k.k + 1 = omega arith in
     record {
       enable = c.in_ok-add_image.ensures.enable ∙ c.loop-k.invariant.enable;
+      turns = c.in_ok-add_image.ensures.turns;
       built = subst (λ (n : ℕ). AreBuilt c.add_image.new.b c.args.ir.now c.args.plan.now (g.F.BufferForm.form c.args.form.now) n c.add_image.new.nets.items c.add_image.new.taps.items) next c.in_ok-add_image.ensures.built;
     }

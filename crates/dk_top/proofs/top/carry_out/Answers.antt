@@ -20,7 +20,7 @@ pub returns-in-Err-clause-reads : goal.returns-in-Err-clause-reads
 returns-in-Err-clause-reads g c = words_reads _ _ c.in-Err.ending _ _ c.in-Err.ensures.other
 
 pub returns-in-Err-clause-report : goal.returns-in-Err-clause-report
-returns-in-Err-clause-report g c = words_report _ _ c.in-Err.ending _ c.in-Err.ensures.other
+returns-in-Err-clause-report g c = words_report _ _ c.in-Err.ending _ _ c.in-Err.ensures.other
 
 pub returns-in-Err-clause-notes : goal.returns-in-Err-clause-notes
 returns-in-Err-clause-notes g c = words_notes _ _ c.in-Err.ending _ c.in-Err.ensures.other
@@ -33,7 +33,7 @@ returns-in-Ok-Make-clause-verdict g c =
 pub returns-in-Ok-Make-clause-report : goal.returns-in-Ok-Make-clause-report
 returns-in-Ok-Make-clause-report g c =
     let named = c.in-Ok-Make.ensures.ok ∙ ap (λ (a : Asked). Some (command_asked a)) c.in-Ok-Make.field-0-is in
-    named_has _ (make c.in-Ok-Make.words.number) named (λ (k : Command). OnFiles k (g.D.Desk.outside c.args.desk.now).files (λ files. IsReported c.perform-in-Ok-Make.result k files (g.D.Desk.outside c.args.desk.now).report (g.D.Desk.outside c.perform-in-Ok-Make.new.desk).report)) c.perform-in-Ok-Make.ensures.report
+    named_has _ (make c.in-Ok-Make.words.number) named (λ (k : Command). OnFiles k (g.D.Desk.outside c.args.desk.now).files (λ files. IsReported c.perform-in-Ok-Make.result k files (g.D.Desk.outside c.perform-in-Ok-Make.new.desk).file.bytes (g.D.Desk.outside c.args.desk.now).report (g.D.Desk.outside c.perform-in-Ok-Make.new.desk).report)) c.perform-in-Ok-Make.ensures.report
 
 pub returns-in-Err-clause-too_long : goal.returns-in-Err-clause-too_long
 returns-in-Err-clause-too_long g c = words_left _ _ c.in-Err.ending _ _ c.in-Err.ensures.other

@@ -11,6 +11,7 @@ use Rattle.line_buffer.proofs.chains.chained.Goals as goal
 pub loop-age-init : goal.loop-age-init
 loop-age-init c = record {
   includes = Includes-refl c.args.b.now;
+  turns = c.requires.turns;
   chained = subst (λ taps. IsChained c.args.b.now c.args.b.now c.args.width (is_long c.args.least) c.args.value [] taps (record { age = 0; net = c.args.value })) (sym c.new-nets.ensures.items)
       (chained_none c.args.b.now c.args.width (is_long c.args.least) c.args.value (record { age = 0; net = c.args.value }) c.requires.net c.requires.wide refl refl);
 }
@@ -25,6 +26,7 @@ loop-age-preserved c =
     let more : c.push.new.self.items ≡ c.loop-age.nets.items ++ c.in_ok-last.last.net ∷ [] = search rules in
     record {
       includes = includes_on _ _ _ c.loop-age.invariant.includes c.next_tap.ensures.includes;
+      turns = c.in_ok-last.ensures.turns;
       chained =
           subst (λ ages. IsChained c.next_tap.new.b c.args.b.now c.args.width (is_long c.args.least) c.args.value ages c.push.new.self.items c.in_ok-last.last) (sym (take_more c.args.ages.now i 0 c.loop-age-test.true))
           (subst (λ taps. IsChained c.next_tap.new.b c.args.b.now c.args.width (is_long c.args.least) c.args.value (take i c.args.ages.now ++ age ∷ []) taps c.in_ok-last.last) (sym more)

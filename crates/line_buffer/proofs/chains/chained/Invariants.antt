@@ -1,11 +1,13 @@
 use Rattle.std.proofs.Common.{take}
 use Rattle.net_build.specs.Includes.{Includes}
 use Rattle.line_buffer.specs.Indices.{is_long}
+use Rattle.line_buffer.specs.SharedCounters.{AreTurns}
 use Rattle.line_buffer.specs.Chains.{IsChained}
 use Rattle.line_buffer.proofs.chains.chained.Given as goal
 
 abbrev pub invariant-loop-age : goal.invariant-loop-age
 invariant-loop-age l = record {
   includes : Includes l.b l.fn.b;
+  turns : AreTurns l.b l.turns;
   chained : IsChained l.b l.fn.b l.width (is_long l.least) l.fn.value (take l.age-index l.ages) l.nets.items l.last;
 }

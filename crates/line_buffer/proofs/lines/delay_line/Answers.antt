@@ -11,6 +11,7 @@ use Rattle.net_build.proofs.Grown.{net_more, width_more}
 use Rattle.net_build.proofs.Operands.{net_operand, operand_more, word_operation}
 use Rattle.net_build.proofs.Control.{made_more}
 use Rattle.line_buffer.proofs.Turning.{index_more}
+use Rattle.line_buffer.proofs.Shared.{turns_more}
 use Rattle.line_buffer.proofs.Indexed.{line_once}
 use Rattle.line_buffer.proofs.LineMade.{line_is, first_is, line_adds, word_made}
 use Rattle.line_buffer.proofs.lines.delay_line.Goals as goal
@@ -83,3 +84,6 @@ pub returns-clause-once : goal.returns-clause-once
 returns-clause-once c =
     line_once c.args.b.now c.turning_index.new.b c.array.new.self c.op.new.self c.stored_net.new.b c.put.new.self (record { width = c.args.width; depth = c.args.words }) c.in_ok-array.array c.in_ok-index.index c.in_ok-stored.stored c.in_ok-word.word c.in_ok-index.ensures.adds c.law.ensures.draft
     c.in_ok-array.ensures.number c.in_ok-array.ensures.ok c.in_ok-array.ensures.free c.in_ok-word.ensures.made c.in_ok-word.ensures.ok c.op.ensures.wires c.stored_net.ensures.logic c.put.ensures.update
+
+pub returns-clause-turns : goal.returns-clause-turns
+returns-clause-turns c = turns_more c.put.new.self c.turning_index.new.b c.turning_index.new.turns (includes_on _ _ _ c.array.ensures.includes (includes_on _ _ _ c.op.ensures.includes (includes_on _ _ _ c.stored_net.ensures.logic.includes c.put.ensures.includes))) c.in_ok-index.ensures.turns

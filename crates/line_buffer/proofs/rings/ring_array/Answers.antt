@@ -1,6 +1,7 @@
 use Rattle.std.proofs.Common.{◌∙◌, ◌-◌, ℕ, ap, sym, subst, arith}
 use Rattle.dk_base.specs.Numbers.{bit_count, IsBitCount}
 use Rattle.line_buffer.specs.Rings.{IsRing, AreRingTaps}
+use Rattle.line_buffer.proofs.Shared.{turns_more}
 use Rattle.line_buffer.proofs.Building.{ring_built, ages_deep, built_adds, built_buffer, built_made, built_fills}
 use Rattle.line_buffer.proofs.rings.ring_array.Goals as goal
 
@@ -39,3 +40,6 @@ returns-clause-fills c =
     (c.in_ok-line.ensures.index_width ∙ ap (λ (w : ℕ). bit_count (w - 1)) (sym c.from-count.ensures) ∙ sym c.bits_for-bits.ensures.value) c.in_ok-line.ensures.index_control c.in_ok-line.ensures.made c.requires.bits c.requires.net c.requires.wide c.requires.words.0 (omega (arith, c.requires.words.1)) (subst (λ (w : ℕ). IsBitCount (w - 1) c.bits_for-bits.result) c.from-count.ensures c.bits_for-bits.ensures.least)
     c.ring_taps.new.b c.args.ages.now c.in_ok-taps.taps.items c.requires.ascending c.requires.depth c.ring_taps.ensures.taps c.in_ok-taps.ensures.one_each
     (subst (λ (w : ℕ). AreRingTaps c.ring_taps.new.b c.in_ok-line.line.array w c.in_ok-line.line.index c.args.value c.args.ages.now c.in_ok-taps.taps.items) c.from-count.ensures c.in_ok-taps.ensures.are)
+
+pub returns-clause-turns : goal.returns-clause-turns
+returns-clause-turns c = turns_more c.ring_taps.new.b c.delay_line.new.b c.delay_line.new.turns c.ring_taps.ensures.taps.includes c.in_ok-line.ensures.turns

@@ -1,4 +1,4 @@
-use Rattle.std.proofs.Common.{ℕ, ◌-◌, length, map, slice_get, arith, sym, ap, ◌∙◌}
+use Rattle.std.proofs.Common.{◌-◌, length, map, slice_get, arith, sym, ap, ◌∙◌}
 use Rattle.std.specs.Option.{option_map}
 use Rattle.std.proofs.lemmas.Option.{slice_get-map, slice_get-get_or}
 use Rattle.pointwise_ir.specs.declared.program.Definition.{Definition}

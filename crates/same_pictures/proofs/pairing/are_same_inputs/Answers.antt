@@ -1,4 +1,4 @@
-use Rattle.std.proofs.Common.{ℕ, arith, sym}
+use Rattle.std.proofs.Common.{arith, sym}
 use Rattle.same_pictures.proofs.Lists.{equal_lists}
 use Rattle.same_pictures.proofs.pairing.are_same_inputs.Goals as goal
 

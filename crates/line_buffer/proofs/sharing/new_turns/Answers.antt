@@ -1,7 +1,7 @@
-use Rattle.std.proofs.Common.{◌-◌, ℕ, suc, ap, arith}
+use Rattle.std.proofs.Common.{◌-◌, ℕ, ap}
 use Rattle.line_buffer.proofs.States.{adds_register}
 use Rattle.line_buffer.proofs.BlockMade.{made_indices}
-use Rattle.line_buffer.proofs.blocks.turning_indices.Goals as goal
+use Rattle.line_buffer.proofs.sharing.new_turns.Goals as goal
 
 pub returns-clause-adds : goal.returns-clause-adds
 returns-clause-adds c = adds_register c.cycle.new.b c.args.b.now _ c.in_ok-indices.ensures.adds

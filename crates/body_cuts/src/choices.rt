@@ -1,0 +1,72 @@
+// Which bodies are cut.
+
+ghost use Rattle.std.specs.Prelude.{◌<◌, IfSome, length};
+
+use crate::images::definition_number;
+use dk_base::OutOfMemory;
+use dk_types::TypedProgram;
+use std::alloc::Global;
+
+// What is known of a definition, and whether its body is cut.
+#[derive(Clone, Copy)]
+pub(crate) struct Choice {
+    // Whether it is inline and no output, so that its body is never cut.
+    stays_whole: bool,
+    // The levels of its body, not cut.
+    depth: u32,
+    pub(crate) is_cut: bool,
+}
+
+// Notes that the images that are outputs may be cut.
+fn free_outputs(program: &TypedProgram, choices: &mut [Choice]) {
+    for output in program.outputs() {
+        if let Some(number) = definition_number(program, *output) {
+            if number < choices.len() {
+                choices[number].stays_whole = false;
+            }
+        }
+    }
+}
+
+// A choice for each definition: no body is cut.
+pub(crate) fn no_cuts(alloc: Global, program: &TypedProgram) -> Result<Vec<Choice>, OutOfMemory> {
+    let mut choices = Vec::new(alloc);
+    for definition in program.definitions() {
+        choices.push(Choice {
+            stays_whole: definition.inline,
+            depth: 0,
+            is_cut: false,
+        })?;
+    }
+    free_outputs(program, &mut choices);
+    Ok(choices)
+}
+
+// Cuts all bodies that may be cut, or none.
+pub(crate) fn cut_each(choices: &mut [Choice], is_cut: bool) {
+    for choice in choices.iter_mut() {
+        choice.is_cut = is_cut && !choice.stays_whole;
+    }
+}
+
+// Notes the levels of the bodies, not cut.
+pub(crate) fn note_depths(choices: &mut [Choice], levels: &[u32]) {
+    for (choice, depth) in choices.iter_mut().zip(levels) {
+        choice.depth = *depth;
+    }
+}
+
+// The deepest body that may be cut, is not, and has at least this many levels.
+pub(crate) fn deepest(choices: &[Choice], least: u32) -> Option<usize>
+    ensures { IfSome result (λ number. number < length choices.now) }
+{
+    let mut found = None;
+    let mut floor = least;
+    for (number, choice) in choices.iter().enumerate() {
+        if !choice.is_cut && !choice.stays_whole && floor <= choice.depth {
+            found = Some(number);
+            floor = choice.depth.saturating_add(1);
+        }
+    }
+    found
+}

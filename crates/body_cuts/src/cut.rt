@@ -1,0 +1,60 @@
+// Whole programs.
+
+use crate::choices::{Choice, cut_each, deepest, no_cuts, note_depths};
+use crate::draft::{Draft, make_draft};
+use crate::expanded::{Expanded, expanded_bodies};
+use dk_base::{MAX_DEFINITIONS, OutOfMemory};
+use dk_types::TypedProgram;
+use std::alloc::Global;
+
+// The program with its deepest bodies cut, as many as the limit on definitions allows. No body is cut yet.
+fn deepest_first(
+    alloc: Global,
+    program: &TypedProgram,
+    expanded: &[Expanded],
+    choices: &mut [Choice],
+    most: u32,
+) -> Result<Draft, OutOfMemory> {
+    let mut best = make_draft(alloc, program, expanded, choices, most)?;
+    note_depths(choices, &best.levels);
+    for _ in 0..MAX_DEFINITIONS {
+        let Some(number) = deepest(choices, most) else {
+            break;
+        };
+        choices[number].is_cut = true;
+        let next = make_draft(alloc, program, expanded, choices, most)?;
+        if MAX_DEFINITIONS < next.definitions {
+            break;
+        }
+        best = next;
+    }
+    Ok(best)
+}
+
+// The program with each body cut, if the limit on definitions allows it.
+fn best_draft(alloc: Global, program: &TypedProgram, most: u32) -> Result<Draft, OutOfMemory> {
+    let expanded = expanded_bodies(alloc, program)?;
+    let mut choices = no_cuts(alloc, program)?;
+    cut_each(&mut choices, true);
+    let all = make_draft(alloc, program, &expanded, &choices, most)?;
+    if all.definitions <= MAX_DEFINITIONS {
+        return Ok(all);
+    }
+    cut_each(&mut choices, false);
+    deepest_first(alloc, program, &expanded, &mut choices, most)
+}
+
+/// The program as a text of bodies with at most this many levels of operators, after `head`. 0 levels count as 1. An operator of more levels, as `abs`, is alone in its body. If there would be too many definitions, only the deepest bodies are cut.
+///
+/// No contract states what the text shows.
+pub fn cut_text(
+    alloc: Global,
+    head: &[u8],
+    program: &TypedProgram,
+    levels: u32,
+) -> Result<Vec<u8>, OutOfMemory> {
+    let best = best_draft(alloc, program, levels.max(1))?;
+    let mut text = Vec::from_slice(alloc, head)?;
+    text.extend_from_slice(&best.text)?;
+    Ok(text)
+}

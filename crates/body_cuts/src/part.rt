@@ -1,0 +1,288 @@
+// Parts of a body as text, put together by operators.
+
+use crate::words::{push_number, push_read, push_type};
+use dk_base::{Binary, Conversion, OutOfMemory, Scaling, Ty, Unary};
+use std::alloc::Global;
+
+// The levels of precedence, from the highest.
+#[derive(Clone, Copy, PartialEq, Eq, PartialOrd, Ord)]
+pub(crate) enum Binding {
+    Primary,
+    Prefix,
+    Cast,
+    Product,
+    Sum,
+    Shift,
+    And,
+    Xor,
+    Or,
+    Comparison,
+}
+
+// A part of a body.
+#[derive(Drop)]
+pub(crate) struct Part {
+    pub(crate) text: Vec<u8>,
+    pub(crate) binding: Binding,
+    // The levels of operators. None if it has no read.
+    pub(crate) levels: Option<u32>,
+}
+
+// An operator of two operands that is written between them.
+#[derive(Clone, Copy)]
+struct Infix {
+    word: &'static str,
+    binding: Binding,
+    left: Binding,
+    right: Binding,
+}
+
+// How an operator of two operands is written.
+#[derive(Clone, Copy)]
+enum Form {
+    Function(&'static str),
+    Between(Infix),
+}
+
+// The most of two levels.
+fn most_levels(one: Option<u32>, other: Option<u32>) -> Option<u32> {
+    match (one, other) {
+        (Some(one), Some(other)) => Some(one.max(other)),
+        (Some(one), None) => Some(one),
+        (None, other) => other,
+    }
+}
+
+// The text of an operand, in brackets if it binds less tightly than `loosest`.
+fn operand(alloc: Global, part: Part, loosest: Binding) -> Result<Vec<u8>, OutOfMemory> {
+    if part.binding <= loosest {
+        return Ok(part.text);
+    }
+    let mut text = Vec::new(alloc);
+    text.push(b'(')?;
+    text.extend_from_slice(&part.text)?;
+    text.push(b')')?;
+    Ok(text)
+}
+
+pub(crate) fn number(alloc: Global, value: u64) -> Result<Part, OutOfMemory> {
+    let mut text = Vec::new(alloc);
+    push_number(&mut text, value)?;
+    Ok(Part {
+        text,
+        binding: Binding::Primary,
+        levels: None,
+    })
+}
+
+// The read of a piece of the body.
+pub(crate) fn piece_read(alloc: Global, name: &[u8]) -> Result<Part, OutOfMemory> {
+    let mut text = Vec::new(alloc);
+    push_read(&mut text, name, 0, 0)?;
+    Ok(Part {
+        text,
+        binding: Binding::Primary,
+        levels: Some(0),
+    })
+}
+
+// A function of one operand.
+fn call(alloc: Global, word: &str, a: Part) -> Result<Part, OutOfMemory> {
+    let mut text = Vec::new(alloc);
+    text.extend_from_slice(word.as_bytes())?;
+    text.push(b'(')?;
+    text.extend_from_slice(&a.text)?;
+    text.push(b')')?;
+    Ok(Part {
+        text,
+        binding: Binding::Primary,
+        levels: a.levels,
+    })
+}
+
+fn prefixed(alloc: Global, sign: u8, a: Part) -> Result<Part, OutOfMemory> {
+    let levels = a.levels;
+    let inner = operand(alloc, a, Binding::Primary)?;
+    let mut text = Vec::new(alloc);
+    text.push(sign)?;
+    text.extend_from_slice(&inner)?;
+    Ok(Part {
+        text,
+        binding: Binding::Prefix,
+        levels,
+    })
+}
+
+pub(crate) fn unary(alloc: Global, operator: Unary, a: Part) -> Result<Part, OutOfMemory> {
+    match operator {
+        Unary::Negate => prefixed(alloc, b'-', a),
+        Unary::Not => prefixed(alloc, b'!', a),
+        Unary::Abs => call(alloc, "abs", a),
+    }
+}
+
+// A function of two operands.
+fn pair(alloc: Global, word: &str, a: Part, b: Part) -> Result<Part, OutOfMemory> {
+    let mut text = Vec::new(alloc);
+    text.extend_from_slice(word.as_bytes())?;
+    text.push(b'(')?;
+    text.extend_from_slice(&a.text)?;
+    text.extend_from_slice(b", ")?;
+    text.extend_from_slice(&b.text)?;
+    text.push(b')')?;
+    Ok(Part {
+        text,
+        binding: Binding::Primary,
+        levels: most_levels(a.levels, b.levels),
+    })
+}
+
+// An operator whose operands group to the left.
+fn grouping(word: &'static str, binding: Binding, right: Binding) -> Form {
+    Form::Between(Infix {
+        word,
+        binding,
+        left: binding,
+        right,
+    })
+}
+
+// A comparison does not group.
+fn comparing(word: &'static str) -> Form {
+    Form::Between(Infix {
+        word,
+        binding: Binding::Comparison,
+        left: Binding::Or,
+        right: Binding::Or,
+    })
+}
+
+fn form_of(operator: Binary) -> Form {
+    match operator {
+        Binary::Add => grouping(" + ", Binding::Sum, Binding::Product),
+        Binary::Subtract => grouping(" - ", Binding::Sum, Binding::Product),
+        Binary::Multiply => grouping(" * ", Binding::Product, Binding::Cast),
+        Binary::Less => comparing(" < "),
+        Binary::LessOrEqual => comparing(" <= "),
+        Binary::Greater => comparing(" > "),
+        Binary::GreaterOrEqual => comparing(" >= "),
+        Binary::Equal => comparing(" == "),
+        Binary::NotEqual => comparing(" != "),
+        Binary::And => grouping(" & ", Binding::And, Binding::Shift),
+        Binary::Or => grouping(" | ", Binding::Or, Binding::Xor),
+        Binary::Xor => grouping(" ^ ", Binding::Xor, Binding::And),
+        Binary::Min => Form::Function("min"),
+        Binary::Max => Form::Function("max"),
+    }
+}
+
+fn between(alloc: Global, infix: Infix, a: Part, b: Part) -> Result<Part, OutOfMemory> {
+    let levels = most_levels(a.levels, b.levels);
+    let mut text = operand(alloc, a, infix.left)?;
+    let right = operand(alloc, b, infix.right)?;
+    text.extend_from_slice(infix.word.as_bytes())?;
+    text.extend_from_slice(&right)?;
+    Ok(Part {
+        text,
+        binding: infix.binding,
+        levels,
+    })
+}
+
+pub(crate) fn binary(
+    alloc: Global,
+    operator: Binary,
+    a: Part,
+    b: Part,
+) -> Result<Part, OutOfMemory> {
+    match form_of(operator) {
+        Form::Function(word) => pair(alloc, word, a, b),
+        Form::Between(infix) => between(alloc, infix, a, b),
+    }
+}
+
+// An operator and its number after an operand.
+fn suffixed(
+    alloc: Global,
+    word: &str,
+    binding: Binding,
+    a: Part,
+    by: u64,
+) -> Result<Part, OutOfMemory> {
+    let levels = a.levels;
+    let mut text = operand(alloc, a, binding)?;
+    text.extend_from_slice(word.as_bytes())?;
+    push_number(&mut text, by)?;
+    Ok(Part {
+        text,
+        binding,
+        levels,
+    })
+}
+
+pub(crate) fn scaled(
+    alloc: Global,
+    operator: Scaling,
+    a: Part,
+    by: u64,
+) -> Result<Part, OutOfMemory> {
+    match operator {
+        Scaling::Divide => suffixed(alloc, " / ", Binding::Product, a, by),
+        Scaling::ShiftLeft => suffixed(alloc, " << ", Binding::Shift, a, by),
+        Scaling::ShiftRight => suffixed(alloc, " >> ", Binding::Shift, a, by),
+    }
+}
+
+fn cast(alloc: Global, a: Part, ty: Ty) -> Result<Part, OutOfMemory> {
+    let levels = a.levels;
+    let mut text = operand(alloc, a, Binding::Cast)?;
+    text.extend_from_slice(b" as ")?;
+    push_type(&mut text, ty)?;
+    Ok(Part {
+        text,
+        binding: Binding::Cast,
+        levels,
+    })
+}
+
+fn saturated(alloc: Global, a: Part, ty: Ty) -> Result<Part, OutOfMemory> {
+    let mut text = Vec::new(alloc);
+    text.extend_from_slice(b"sat(")?;
+    text.extend_from_slice(&a.text)?;
+    text.extend_from_slice(b", ")?;
+    push_type(&mut text, ty)?;
+    text.push(b')')?;
+    Ok(Part {
+        text,
+        binding: Binding::Primary,
+        levels: a.levels,
+    })
+}
+
+pub(crate) fn converted(
+    alloc: Global,
+    how: Conversion,
+    a: Part,
+    ty: Ty,
+) -> Result<Part, OutOfMemory> {
+    match how {
+        Conversion::Cast => cast(alloc, a, ty),
+        Conversion::Saturate => saturated(alloc, a, ty),
+    }
+}
+
+pub(crate) fn selected(alloc: Global, c: Part, a: Part, b: Part) -> Result<Part, OutOfMemory> {
+    let mut text = Vec::new(alloc);
+    text.extend_from_slice(b"select(")?;
+    text.extend_from_slice(&c.text)?;
+    text.extend_from_slice(b", ")?;
+    text.extend_from_slice(&a.text)?;
+    text.extend_from_slice(b", ")?;
+    text.extend_from_slice(&b.text)?;
+    text.push(b')')?;
+    Ok(Part {
+        text,
+        binding: Binding::Primary,
+        levels: most_levels(c.levels, most_levels(a.levels, b.levels)),
+    })
+}

@@ -1,0 +1,139 @@
+// The pieces that a body is cut into.
+
+use crate::images::is_taken;
+use crate::part::{Part, piece_read};
+use crate::words::push_number;
+use dk_base::{MAX_DEFINITIONS, MAX_NAME_BYTES, OutOfMemory};
+use dk_types::TypedProgram;
+use std::alloc::Global;
+
+// One more than the greatest number in a piece's name. A program has fewer names and pieces than this.
+const END_OF_NUMBERS: u32 = 1_000;
+
+// A definition that is made of a part of a body.
+#[derive(Drop)]
+pub(crate) struct Piece {
+    pub(crate) name: Vec<u8>,
+    pub(crate) text: Vec<u8>,
+}
+
+// What an expression has above it.
+#[derive(Clone, Copy)]
+pub(crate) enum Above {
+    // Nothing that adds levels.
+    Nothing,
+    // An operator of this many levels.
+    Operator(u32),
+}
+
+// The pieces of one body so far.
+#[derive(Drop)]
+pub(crate) struct Pieces {
+    limit: u32,
+    // The name of the definition.
+    stem: Vec<u8>,
+    // The first number that was not tried in a name.
+    next: u32,
+    pub(crate) items: Vec<Piece>,
+    // Whether a piece has no name.
+    pub(crate) has_unnamed: bool,
+}
+
+impl Pieces {
+    // None yet.
+    pub(crate) fn new(alloc: Global, limit: u32, stem: &[u8]) -> Result<Pieces, OutOfMemory> {
+        let stem = Vec::from_slice(alloc, stem)?;
+        Ok(Pieces {
+            limit,
+            stem,
+            next: 1,
+            items: Vec::new(alloc),
+            has_unnamed: false,
+        })
+    }
+}
+
+// Whether a part of these levels must be a piece.
+fn passes(limit: u32, above: Above, levels: Option<u32>) -> bool {
+    let Some(levels) = levels else {
+        return false;
+    };
+    match above {
+        Above::Nothing => false,
+        Above::Operator(own) => 0 < levels && limit < levels.saturating_add(own),
+    }
+}
+
+fn numbered(alloc: Global, stem: &[u8], number: u32) -> Result<Vec<u8>, OutOfMemory> {
+    let mut name = Vec::from_slice(alloc, stem)?;
+    name.push(b'_')?;
+    push_number(&mut name, u64::from(number))?;
+    Ok(name)
+}
+
+// The next name of a piece. None if there is none, or it would be too long.
+fn next_name(
+    alloc: Global,
+    program: &TypedProgram,
+    pieces: &mut Pieces,
+) -> Result<Option<Vec<u8>>, OutOfMemory> {
+    for number in pieces.next..END_OF_NUMBERS {
+        pieces.next = number + 1;
+        let name = numbered(alloc, &pieces.stem, number)?;
+        if MAX_NAME_BYTES < name.len() {
+            return Ok(None);
+        }
+        if !is_taken(program, &name) {
+            return Ok(Some(name));
+        }
+    }
+    Ok(None)
+}
+
+// The read of the piece of this text, if there is one.
+fn known_read(alloc: Global, items: &[Piece], text: &[u8]) -> Result<Option<Part>, OutOfMemory> {
+    for piece in items {
+        if piece.text.as_slice() == text {
+            let read = piece_read(alloc, &piece.name)?;
+            return Ok(Some(read));
+        }
+    }
+    Ok(None)
+}
+
+// Makes a part a piece, and returns the read of it.
+fn make_piece(
+    alloc: Global,
+    program: &TypedProgram,
+    pieces: &mut Pieces,
+    part: Part,
+) -> Result<Part, OutOfMemory> {
+    let Some(name) = next_name(alloc, program, pieces)? else {
+        pieces.has_unnamed = true;
+        return Ok(part);
+    };
+    let read = piece_read(alloc, &name)?;
+    let text = part.text;
+    pieces.items.push(Piece { name, text })?;
+    Ok(read)
+}
+
+// The part, or the read of its piece if it must be one. A body gets no more pieces after too many, since it is then not used.
+pub(crate) fn cut(
+    alloc: Global,
+    program: &TypedProgram,
+    pieces: &mut Pieces,
+    above: Above,
+    part: Part,
+) -> Result<Part, OutOfMemory> {
+    if !passes(pieces.limit, above, part.levels) {
+        return Ok(part);
+    }
+    if let Some(read) = known_read(alloc, &pieces.items, &part.text)? {
+        return Ok(read);
+    }
+    if MAX_DEFINITIONS <= pieces.items.len() {
+        return Ok(part);
+    }
+    make_piece(alloc, program, pieces, part)
+}

@@ -1,0 +1,9 @@
+use Rattle.std.proofs.Common.{ap}
+use Rattle.dk_desk.specs.Outside.{Outside}
+use Rattle.dk_top.proofs.CutLemmas.{stays_prefix}
+use Rattle.dk_top.proofs.commands.cutting.write_both.Goals as goal
+
+pub returns-clause-prefix : goal.returns-clause-prefix
+returns-clause-prefix g c =
+    let outside = g.D.Desk.outside in
+    stays_prefix c.write_report.result _ c.args.text.now (outside c.write_file.new.desk) (outside c.write_report.new.desk) (ap (λ (o : Outside). o.file) c.write_report.ensures.only) c.in_ok-write_file.ensures.whole
