@@ -33,7 +33,7 @@ for tool in iverilog verilator yosys; do
 done
 
 # warnings: what Verilator says of dk.v beside what the subset's form makes, which is
-# - UNSIGNED: the row or the column of a frame with only one is compared with the last one, 0;
+# - UNSIGNED: a comparison of the program has only one result;
 # - UNUSEDSIGNAL of some bits: each operator has operands of one width, so a sum is made whole and then cut;
 # - UNUSEDSIGNAL of clk or a din: a module without state has the one, and a program that never reads an input has the other.
 warnings() {

@@ -1,11 +1,11 @@
 -- Tests of a pixel, combined.
-use Rattle.std.proofs.Common.{◌≡◌, ℕ, zero, suc, ◌+◌, ◌-◌, ◌^◌, ◌<◌, ◌≤◌, nat_lt, nat_le, Bool, true, false, List, [], ◌∷◌, Option, Some, None, refl, sym, ap, subst, ◌∙◌, inl, inr, arith}
-use Rattle.std.specs.Prelude.{if◌then◌else◌, ◌&&◌, IsTrue, bit_and}
-use Rattle.std.proofs.lemmas.Bool.{cases_lt}
+use Rattle.std.proofs.Common.{◌≡◌, ℕ, zero, suc, ◌+◌, ◌-◌, ◌^◌, ◌<◌, ◌≤◌, ◌==◌, ◌≢◌, nat_lt, nat_le, Bool, true, false, List, [], ◌∷◌, Option, Some, None, refl, sym, ap, subst, ◌∙◌, inl, inr, arith, lit≤}
+use Rattle.std.specs.Prelude.{if◌then◌else◌, ◌&&◌, not, IsTrue, bit_and}
+use Rattle.std.proofs.lemmas.Bool.{cases_lt, cases_eq, eq-eqb, ne_eqb, eqb-true}
 use Rattle.wiring.specs.declared.right.Atom.{Atom}
 use Rattle.wiring.specs.declared.right.Atom.TheVariants as atom
-use Rattle.wiring.specs.declared.right.Operator.TheVariants.{Less, And}
-use Rattle.wiring.specs.declared.right.Right.TheVariants.{Binary}
+use Rattle.wiring.specs.declared.right.Operator.TheVariants.{Less, Equal, And}
+use Rattle.wiring.specs.declared.right.Right.TheVariants.{Binary, Choose}
 use Rattle.wiring.specs.declared.netlist.Net.{Net}
 use Rattle.wiring.specs.declared.netlist.Holder.{Holder}
 use Rattle.wiring.specs.declared.netlist.Holder.TheVariants.{OfNet}
@@ -23,11 +23,11 @@ use Rattle.frame_paths.specs.Moves.{IsIn}
 use Rattle.edge_select.specs.declared.paths.Rectangle.{Rectangle}
 use Rattle.edge_select.specs.declared.pixel.Pixel.{Pixel}
 use Rattle.net_build.specs.Logic.{AreMadeOf, Computes, IsGate}
-use Rattle.edge_select.specs.Logic.{Tests, IsBit, IsBoth, IsTestNet, is_up_to, is_within}
+use Rattle.edge_select.specs.Logic.{Tests, IsBit, IsBoth, IsTestNet, is_up_to, is_from, is_within}
 use Rattle.edge_select.specs.Passes.{Passes}
 use Rattle.edge_select.specs.Pixels.{IsBitOf, IsTest}
-use Rattle.net_build.proofs.Logic.{given_source, number_source, computes_more, computes_as, computes_from, computes_since, computes_through, binary_computes, AreIn, first_in, second_in, none_in}
-use Rattle.net_build.proofs.Counting.{yes_lt, no_lt}
+use Rattle.net_build.proofs.Logic.{given_source, number_source, net_source, choose_computes, computes_more, computes_as, computes_from, computes_since, computes_through, binary_computes, AreIn, first_in, second_in, none_in}
+use Rattle.net_build.proofs.Counting.{yes_lt, no_lt, one_wide}
 
 yes_le : (a b : ℕ) → a ≤ b → nat_le a b ≡ true
 yes_le a b h = grind arith
@@ -50,13 +50,101 @@ at_least_is b0 b1 x n bits first a f is width wide fits some e g =
     (binary_computes b1 b0 b0 from f bits Less (λ s. first - 1) (λ s. net_value s x) a (atom.Net x) n (number_source b0 b0 from bits (first - 1) a e (record { width = wide; fits = fits })) (given_source b0 b0 from bits x (Includes-refl b0) is width (first_in x [])) g)
     (λ s. ap bit (before_is first (net_value s x) some))
 
-up_to_is : (side last end x : ℕ) → end ≡ last + 1 → end < side → nat_lt x end ≡ is_up_to side last x
-up_to_is side last end x e lt = ap (nat_lt x) e ∙ sym (ap (λ (t : Bool). if t then nat_lt x (last + 1) else true) (yes_lt (last + 1) side (omega (arith, e, lt))))
+-- where the side has more coordinates than this
+abbrev below_end : (side last x : ℕ) → Bool
+below_end side last x = if last + 2 == side then not (x == last + 1) else nat_lt x (last + 1)
+
+up_to_is : (side last end x : ℕ) → end ≡ last + 1 → end + 1 < side → nat_lt x end ≡ is_up_to side last x
+up_to_is side last end x e lt =
+    ap (nat_lt x) e
+    ∙ sym (ap (λ (t : Bool). if t then not (x == last + 1) else nat_lt x (last + 1)) (ne_eqb (last + 2) side (λ i. omega (arith, i, e, lt))))
+    ∙ sym (ap (λ (t : Bool). if t then below_end side last x else true) (yes_lt (last + 1) side (omega (arith, e, lt))))
+
+up_to_apart : (side last end x : ℕ) → end ≡ last + 1 → end + 1 ≡ side → not (x == end) ≡ is_up_to side last x
+up_to_apart side last end x e whole =
+    ap (λ (n : ℕ). not (x == n)) e
+    ∙ sym (ap (λ (t : Bool). if t then not (x == last + 1) else nat_lt x (last + 1)) (eq-eqb (last + 2) side (omega (arith, e, whole))))
+    ∙ sym (ap (λ (t : Bool). if t then below_end side last x else true) (yes_lt (last + 1) side (omega (arith, e, whole))))
 
 pub up_to_all : (side last end x : ℕ) → end ≡ last + 1 → side ≤ end → is_up_to side last x ≡ true
-up_to_all side last end x e ge = ap (λ (t : Bool). if t then nat_lt x (last + 1) else true) (no_lt (last + 1) side (omega (arith, e, ge)))
+up_to_all side last end x e ge = ap (λ (t : Bool). if t then below_end side last x else true) (no_lt (last + 1) side (omega (arith, e, ge)))
 
-pub at_most_is : (b0 b1 : Netlist) (x n : Net) (bits side last end : ℕ) (a : Atom Net) → Includes b1 b0 → IsNet b0 x → net_width b0 x ≡ bits → IsWidth bits → end < 2 ^ bits → end ≡ last + 1 → end < side → a ≡ atom.Constant (record { width = bits; value = end }) → IsGate b1 b0 (Binary Less (atom.Net x) a) n →
+by_not : (t : Bool) → (if bit t == 1 then 0 else 1) ≡ bit (not t)
+by_not true = refl
+by_not false = refl
+
+-- the test that a coordinate is not this one
+pub apart_is : (b0 b1 b2 : Netlist) (x same n : Net) (bits value : ℕ) (a none one : Atom Net) → Includes b1 b0 → Includes b2 b1 → IsNet b0 x → net_width b0 x ≡ bits → IsWidth bits → value < 2 ^ bits → a ≡ atom.Constant (record { width = bits; value = value }) →
+    none ≡ atom.Constant (record { width = 1; value = 0 }) → one ≡ atom.Constant (record { width = 1; value = 1 }) → IsGate b1 b0 (Binary Equal (atom.Net x) a) same → IsGate b2 b1 (Choose (atom.Net same) none one) n →
+    Computes b2 b0 (x ∷ []) 1 (λ s. bit (not (net_value s x == value))) n
+apart_is b0 b1 b2 x same n bits value a none one f1 f2 is width wide fits e e0 e1 g1 g2 =
+    let from : List Net = x ∷ [] in
+    let test = binary_computes b1 b0 b0 from f1 bits Equal (λ s. net_value s x) (λ s. value) (atom.Net x) a same (given_source b0 b0 from bits x (Includes-refl b0) is width (first_in x [])) (number_source b0 b0 from bits value a e (record { width = wide; fits = fits })) g1 in
+    computes_as b2 b0 from 1 1 (λ s. if bit (net_value s x == value) == 1 then 0 else 1) (λ s. bit (not (net_value s x == value))) n refl
+    (choose_computes b2 b1 b0 from f2 1 (λ s. bit (net_value s x == value)) (λ s. 0) (λ s. 1) (atom.Net same) none one n (net_source b1 b0 from 1 (λ s. bit (net_value s x == value)) same test)
+    (number_source b1 b0 from 1 0 none e0 (record { width = one_wide; fits = lit≤ tt })) (number_source b1 b0 from 1 1 one e1 (record { width = one_wide; fits = lit≤ tt })) g2)
+    (λ s. by_not (net_value s x == value))
+
+some_is : (x : ℕ) → not (x == 0) ≡ nat_le 1 x
+some_is x =
+    elim (cases_eq x 0) as (λ _. not (x == 0) ≡ nat_le 1 x) [
+      | inl e ↦ ap not (eq-eqb x 0 e) ∙ sym (no_le 1 x (omega (arith, e)))
+      | inr ne ↦ ap not (ne_eqb x 0 ne) ∙ sym (yes_le 1 x (omega (arith, ne)))
+    ]
+
+-- the test that a coordinate is this one
+pub equal_is : (b0 b1 : Netlist) (x n : Net) (bits value : ℕ) (a : Atom Net) → Includes b1 b0 → IsNet b0 x → net_width b0 x ≡ bits → IsWidth bits → value < 2 ^ bits → a ≡ atom.Constant (record { width = bits; value = value }) → IsGate b1 b0 (Binary Equal (atom.Net x) a) n →
+    Computes b1 b0 (x ∷ []) 1 (λ s. bit (net_value s x == value)) n
+equal_is b0 b1 x n bits value a f is width wide fits e g =
+    binary_computes b1 b0 b0 (x ∷ []) f bits Equal (λ s. net_value s x) (λ s. value) (atom.Net x) a n (given_source b0 b0 (x ∷ []) bits x (Includes-refl b0) is width (first_in x [])) (number_source b0 b0 (x ∷ []) bits value a e (record { width = wide; fits = fits })) g
+
+-- where the coordinate must be at least one that is not the last
+abbrev from_any : (side first x : ℕ) → Bool
+from_any side first x = if first + 1 == side then x == first else nat_le first x
+
+pub from_none : (side first x : ℕ) → first ≡ 0 → is_from side first x ≡ true
+from_none side first x e = ap (λ (t : Bool). if t then true else from_any side first x) (eq-eqb first 0 e)
+
+from_some : (side first x : ℕ) → 0 < first → is_from side first x ≡ from_any side first x
+from_some side first x some = ap (λ (t : Bool). if t then true else from_any side first x) (ne_eqb first 0 (λ i. omega (arith, i, some)))
+
+from_end : (side first x : ℕ) → 0 < first → first + 1 ≡ side → (x == first) ≡ is_from side first x
+from_end side first x some whole = sym (from_some side first x some ∙ ap (λ (t : Bool). if t then x == first else nat_le first x) (eq-eqb (first + 1) side whole))
+
+from_other : (side first x : ℕ) → 0 < first → first + 1 ≢ side → nat_le first x ≡ is_from side first x
+from_other side first x some other = sym (from_some side first x some ∙ ap (λ (t : Bool). if t then x == first else nat_le first x) (ne_eqb (first + 1) side other))
+
+pub is_from_end : (new old : Netlist) (x n : Net) (side first : ℕ) → 0 < first → first + 1 ≡ side → Computes new old (x ∷ []) 1 (λ s. bit (net_value s x == first)) n → Computes new old (x ∷ []) 1 (λ s. bit (is_from side first (net_value s x))) n
+is_from_end new old x n side first some whole is =
+    computes_as new old (x ∷ []) 1 1 (λ s. bit (net_value s x == first)) (λ s. bit (is_from side first (net_value s x))) n refl is (λ s. ap bit (from_end side first (net_value s x) some whole))
+
+pub is_from_other : (new old : Netlist) (x n : Net) (side first : ℕ) → 0 < first → first + 1 ≢ side → Computes new old (x ∷ []) 1 (λ s. bit (nat_le first (net_value s x))) n → Computes new old (x ∷ []) 1 (λ s. bit (is_from side first (net_value s x))) n
+is_from_other new old x n side first some other is =
+    computes_as new old (x ∷ []) 1 1 (λ s. bit (nat_le first (net_value s x))) (λ s. bit (is_from side first (net_value s x))) n refl is (λ s. ap bit (from_other side first (net_value s x) some other))
+
+none_is : (x : ℕ) → (x == 0) ≡ nat_lt x 1
+none_is x =
+    elim (cases_eq x 0) as (λ _. (x == 0) ≡ nat_lt x 1) [
+      | inl e ↦ eq-eqb x 0 e ∙ sym (yes_lt x 1 (omega (arith, e)))
+      | inr ne ↦ ne_eqb x 0 ne ∙ sym (no_lt x 1 (omega (arith, ne)))
+    ]
+
+-- a coordinate that is 0 is below 1
+pub to_first : (new old : Netlist) (x n : Net) (side last : ℕ) → last ≡ 0 → last + 2 < side → Computes new old (x ∷ []) 1 (λ s. bit (net_value s x == 0)) n → Computes new old (x ∷ []) 1 (λ s. bit (is_up_to side last (net_value s x))) n
+to_first new old x n side last e lt is =
+    computes_as new old (x ∷ []) 1 1 (λ s. bit (net_value s x == 0)) (λ s. bit (is_up_to side last (net_value s x))) n refl is
+    (λ s. ap bit (none_is (net_value s x) ∙ up_to_is side last 1 (net_value s x) (let i : 1 ≡ last + 1 = omega (arith, e) in i) (omega (arith, e, lt))))
+
+-- a coordinate that is not 0 is at least 1
+pub from_one : (new old : Netlist) (x n : Net) → Computes new old (x ∷ []) 1 (λ s. bit (not (net_value s x == 0))) n → Computes new old (x ∷ []) 1 (λ s. bit (nat_le 1 (net_value s x))) n
+from_one new old x n is = computes_as new old (x ∷ []) 1 1 (λ s. bit (not (net_value s x == 0))) (λ s. bit (nat_le 1 (net_value s x))) n refl is (λ s. ap bit (some_is (net_value s x)))
+
+-- one that is not the last is at most the one before
+pub to_last : (new old : Netlist) (x n : Net) (side last end : ℕ) → end ≡ last + 1 → end + 1 ≡ side → Computes new old (x ∷ []) 1 (λ s. bit (not (net_value s x == end))) n → Computes new old (x ∷ []) 1 (λ s. bit (is_up_to side last (net_value s x))) n
+to_last new old x n side last end e whole is =
+    computes_as new old (x ∷ []) 1 1 (λ s. bit (not (net_value s x == end))) (λ s. bit (is_up_to side last (net_value s x))) n refl is (λ s. ap bit (up_to_apart side last end (net_value s x) e whole))
+
+pub at_most_is : (b0 b1 : Netlist) (x n : Net) (bits side last end : ℕ) (a : Atom Net) → Includes b1 b0 → IsNet b0 x → net_width b0 x ≡ bits → IsWidth bits → end < 2 ^ bits → end ≡ last + 1 → end + 1 < side → a ≡ atom.Constant (record { width = bits; value = end }) → IsGate b1 b0 (Binary Less (atom.Net x) a) n →
     Computes b1 b0 (x ∷ []) 1 (λ s. bit (is_up_to side last (net_value s x))) n
 at_most_is b0 b1 x n bits side last end a f is width wide fits end_is lt e g =
     let from : List Net = x ∷ [] in
@@ -158,27 +246,69 @@ and_parts : (a b : Bool) → IsTrue (a && b) → IsTrue a × IsTrue b
 and_parts true b h = (refl, h)
 and_parts false b h = cc
 
+not_both : (b : Bool) → b ≡ true → IsTrue (not b) → ⊥
+not_both true e h = cc
+not_both false e h = cc
+
 up_to_in : (side last x : ℕ) → x < side → IsTrue (is_up_to side last x) → x ≤ last
 up_to_in side last x low h =
     elim (cases_lt (last + 1) side) as (λ _. x ≤ last) [
       | inl lt ↦
-          let t : IsTrue (nat_lt x (last + 1)) = subst (λ (b : Bool). IsTrue (if b then nat_lt x (last + 1) else true)) (yes_lt (last + 1) side lt) h in
-          omega (arith, true_lt x (last + 1) t)
+          let t : IsTrue (below_end side last x) = subst (λ (b : Bool). IsTrue (if b then below_end side last x else true)) (yes_lt (last + 1) side lt) h in
+          elim (cases_eq (last + 2) side) as (λ _. x ≤ last) [
+            | inl e ↦
+                let u : IsTrue (not (x == last + 1)) = subst (λ (b : Bool). IsTrue (if b then not (x == last + 1) else nat_lt x (last + 1))) (eq-eqb (last + 2) side e) t in
+                let apart : x ≢ last + 1 = λ i. not_both (x == last + 1) (eq-eqb x (last + 1) i) u in
+                omega (arith, e, low, apart)
+            | inr ne ↦
+                let u : IsTrue (nat_lt x (last + 1)) = subst (λ (b : Bool). IsTrue (if b then not (x == last + 1) else nat_lt x (last + 1))) (ne_eqb (last + 2) side ne) t in
+                omega (arith, true_lt x (last + 1) u)
+          ]
       | inr ge ↦ omega (arith, ge, low)
     ]
 
 in_up_to : (side last x : ℕ) → x ≤ last → IsTrue (is_up_to side last x)
 in_up_to side last x high =
     elim (cases_lt (last + 1) side) as (λ _. IsTrue (is_up_to side last x)) [
-      | inl lt ↦ subst (λ (b : Bool). IsTrue (if b then nat_lt x (last + 1) else true)) (sym (yes_lt (last + 1) side lt)) (yes_lt x (last + 1) (omega (arith, high)))
+      | inl lt ↦
+          let t : IsTrue (below_end side last x) =
+          elim (cases_eq (last + 2) side) as (λ _. IsTrue (below_end side last x)) [
+            | inl e ↦ subst (λ (b : Bool). IsTrue (if b then not (x == last + 1) else nat_lt x (last + 1))) (sym (eq-eqb (last + 2) side e)) (ap not (ne_eqb x (last + 1) (λ i. omega (arith, i, high))))
+            | inr ne ↦ subst (λ (b : Bool). IsTrue (if b then not (x == last + 1) else nat_lt x (last + 1))) (sym (ne_eqb (last + 2) side ne)) (yes_lt x (last + 1) (omega (arith, high)))
+          ] in
+          subst (λ (b : Bool). IsTrue (if b then below_end side last x else true)) (sym (yes_lt (last + 1) side lt)) t
       | inr ge ↦ up_to_all side last (last + 1) x refl ge
     ]
 
-within_in : (side : ℕ) (i : Interval) (x : ℕ) → x < side → IsTrue (is_within side i.first i.last x) → IsIn i x
-within_in side i x low h = let p = and_parts (nat_le i.first x) (is_up_to side i.last x) h in record { first = true_le i.first x p.0; last = up_to_in side i.last x low p.1 }
+from_in : (side first x : ℕ) → IsTrue (is_from side first x) → first ≤ x
+from_in side first x h =
+    elim (cases_eq first 0) as (λ _. first ≤ x) [
+      | inl e ↦ omega (arith, e)
+      | inr ne ↦
+          let some : 0 < first = omega (arith, ne) in
+          elim (cases_eq (first + 1) side) as (λ _. first ≤ x) [
+            | inl whole ↦ let e : x ≡ first = eqb-true x first (from_end side first x some whole ∙ h) in omega (arith, e)
+            | inr other ↦ true_le first x (from_other side first x some other ∙ h)
+          ]
+    ]
 
-in_within : (side : ℕ) (i : Interval) (x : ℕ) → IsIn i x → IsTrue (is_within side i.first i.last x)
-in_within side i x is = and_true (nat_le i.first x) (is_up_to side i.last x) (yes_le i.first x is.first) (in_up_to side i.last x is.last)
+in_from : (side first x : ℕ) → x < side → first ≤ x → IsTrue (is_from side first x)
+in_from side first x low high =
+    elim (cases_eq first 0) as (λ _. IsTrue (is_from side first x)) [
+      | inl e ↦ from_none side first x e
+      | inr ne ↦
+          let some : 0 < first = omega (arith, ne) in
+          elim (cases_eq (first + 1) side) as (λ _. IsTrue (is_from side first x)) [
+            | inl whole ↦ sym (from_end side first x some whole) ∙ eq-eqb x first (omega (arith, whole, low, high))
+            | inr other ↦ sym (from_other side first x some other) ∙ yes_le first x high
+          ]
+    ]
+
+within_in : (side : ℕ) (i : Interval) (x : ℕ) → x < side → IsTrue (is_within side i.first i.last x) → IsIn i x
+within_in side i x low h = let p = and_parts (is_from side i.first x) (is_up_to side i.last x) h in record { first = from_in side i.first x p.0; last = up_to_in side i.last x low p.1 }
+
+in_within : (side : ℕ) (i : Interval) (x : ℕ) → x < side → IsIn i x → IsTrue (is_within side i.first i.last x)
+in_within side i x low is = and_true (is_from side i.first x) (is_up_to side i.last x) (in_from side i.first x low is.first) (in_up_to side i.last x is.last)
 
 -- a pixel is in the rectangle
 abbrev pub in_rectangle : (width height : ℕ) → Rectangle → (x y : ℕ) → Bool
@@ -190,7 +320,7 @@ rectangle_bit width height r x y P low high f g =
     let down : Bool = is_within height r.down.first r.down.last y in
     bit_of P (across && down)
     (λ h. let p = and_parts across down h in f (record { across = within_in width r.across x low p.0; down = within_in height r.down y high p.1 }))
-    (λ h. let is = g h in and_true across down (in_within width r.across x is.across) (in_within height r.down y is.down))
+    (λ h. let is = g h in and_true across down (in_within width r.across x low is.across) (in_within height r.down y high is.down))
 
 pub test_is : (new old : Netlist) (p : Pixel) (passes : (x y : ℕ) → Type 0) (test : (x y : ℕ) → Bool) (n : Net) → Computes new old (p.column ∷ (p.row ∷ [])) 1 (λ s. bit (test (net_value s p.column) (net_value s p.row))) n →
     ((x y : ℕ) → x < p.size.width → y < p.size.height → IsBitOf (passes x y) (bit (test x y))) → IsTest new old p passes n

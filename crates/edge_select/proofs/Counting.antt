@@ -1,5 +1,5 @@
 -- What the wires of a count compute.
-use Rattle.std.proofs.Common.{◌≡◌, ℕ, zero, suc, ◌-◌, ◌==◌, nat_lt, Bool, true, List, [], ◌∷◌, ◌++◌, sym, ap, subst, ◌∙◌, inl, inr, arith}
+use Rattle.std.proofs.Common.{◌≡◌, ℕ, zero, suc, ◌-◌, ◌==◌, Bool, true, List, [], ◌∷◌, ◌++◌, sym, ap, subst, ◌∙◌, inl, inr, arith}
 use Rattle.std.specs.Prelude.{if◌then◌else◌, Contains}
 use Rattle.std.proofs.lemmas.List.Elements.{Contains-append_right, Contains-append_left, Contains-append_cases}
 use Rattle.wiring.specs.declared.right.Atom.TheVariants as atom
@@ -30,24 +30,24 @@ column_is b0 b1 b3 from via bits other_bits last other_last at n e f grows among
     (computes_as b3 b0 via bits other_bits (λ s. after true last (net_value s at)) (λ s. after true other_last (net_value s at)) n e
     (computes_more b3 b1 b0 via bits (λ s. after true last (net_value s at)) n grows is) (λ s. ap (λ (l : ℕ). after true l (net_value s at)) f))
 
-pub row_is : (b0 b1 b2 b3 : Netlist) (p : Pixel) (bits last_column last_row : ℕ) (going next n : Net) → HasPixel b0 p → bits ≡ bit_count (p.size.height - 1) → last_column ≡ p.size.width - 1 → last_row ≡ p.size.height - 1 → Includes b1 b0 → Includes b2 b1 → Includes b3 b2 →
-    Computes b1 b0 (p.column ∷ []) 1 (λ s. bit (nat_lt (net_value s p.column) last_column)) going → Computes b2 b1 (p.row ∷ []) bits (λ s. after true last_row (net_value s p.row)) next → IsGate b3 b2 (Choose (atom.Net going) (atom.Net p.row) (atom.Net next)) n →
+pub row_is : (b0 b1 b2 b3 : Netlist) (p : Pixel) (bits last_column last_row : ℕ) (ending next n : Net) → HasPixel b0 p → bits ≡ bit_count (p.size.height - 1) → last_column ≡ p.size.width - 1 → last_row ≡ p.size.height - 1 → Includes b1 b0 → Includes b2 b1 → Includes b3 b2 →
+    Computes b1 b0 (p.column ∷ []) 1 (λ s. bit (net_value s p.column == last_column)) ending → Computes b2 b1 (p.row ∷ []) bits (λ s. after true last_row (net_value s p.row)) next → IsGate b3 b2 (Choose (atom.Net ending) (atom.Net next) (atom.Net p.row)) n →
     Computes b3 b0 (p.column ∷ (p.row ∷ [])) (bit_count (p.size.height - 1)) (λ s. row_after (size_of p.size) (net_value s p.column) (net_value s p.row)) n
-row_is b0 b1 b2 b3 p bits last_column last_row going next n has e ec er f1 f2 f3 c1 c2 g =
+row_is b0 b1 b2 b3 p bits last_column last_row ending next n has e ec er f1 f2 f3 c1 c2 g =
     let from : List Net = p.column ∷ (p.row ∷ []) in
     let f20 : Includes b2 b0 = Includes-trans b2 b1 b0 f2 f1 in
-    let test : Snapshot → ℕ = λ s. bit (nat_lt (net_value s p.column) last_column) in
+    let test : Snapshot → ℕ = λ s. bit (net_value s p.column == last_column) in
     let down : Snapshot → ℕ = λ s. after true last_row (net_value s p.row) in
-    let s1 : Source b2 b0 from 1 test (atom.Net going) =
-    net_source b2 b0 from 1 test going (computes_more b2 b1 b0 from 1 test going f2 (computes_from b1 b0 from (p.column ∷ []) 1 test going (more_in from p.column [] (first_in p.column (p.row ∷ [])) (none_in from)) c1)) in
+    let s1 : Source b2 b0 from 1 test (atom.Net ending) =
+    net_source b2 b0 from 1 test ending (computes_more b2 b1 b0 from 1 test ending f2 (computes_from b1 b0 from (p.column ∷ []) 1 test ending (more_in from p.column [] (first_in p.column (p.row ∷ [])) (none_in from)) c1)) in
     let s2 : Source b2 b0 from bits (λ s. net_value s p.row) (atom.Net p.row) = given_source b2 b0 from bits p.row f20 has.row (has.row_width ∙ sym e) (second_in p.column p.row []) in
     let s3 : Source b2 b0 from bits down (atom.Net next) =
     net_source b2 b0 from bits down next (computes_from b2 b0 from (p.row ∷ []) bits down next (more_in from p.row [] (second_in p.column p.row []) (none_in from)) (computes_since b2 b1 b0 (p.row ∷ []) bits down next f1 c2)) in
-    computes_as b3 b0 from bits (bit_count (p.size.height - 1)) (λ s. if test s == 1 then net_value s p.row else down s) (λ s. row_after (size_of p.size) (net_value s p.column) (net_value s p.row)) n e
-    (choose_computes b3 b2 b0 from f3 bits test (λ s. net_value s p.row) down (atom.Net going) (atom.Net p.row) (atom.Net next) n s1 s2 s3 g)
-    (λ s. by_bit (nat_lt (net_value s p.column) last_column) (net_value s p.row) (down s)
-    ∙ ap (λ (l : ℕ). if nat_lt (net_value s p.column) l then net_value s p.row else down s) ec
-    ∙ ap (λ (l : ℕ). if nat_lt (net_value s p.column) (p.size.width - 1) then net_value s p.row else after true l (net_value s p.row)) er)
+    computes_as b3 b0 from bits (bit_count (p.size.height - 1)) (λ s. if test s == 1 then down s else net_value s p.row) (λ s. row_after (size_of p.size) (net_value s p.column) (net_value s p.row)) n e
+    (choose_computes b3 b2 b0 from f3 bits test down (λ s. net_value s p.row) (atom.Net ending) (atom.Net next) (atom.Net p.row) n s1 s3 s2 g)
+    (λ s. by_bit (net_value s p.column == last_column) (down s) (net_value s p.row)
+    ∙ ap (λ (l : ℕ). if net_value s p.column == l then down s else net_value s p.row) ec
+    ∙ ap (λ (l : ℕ). if net_value s p.column == p.size.width - 1 then after true l (net_value s p.row) else net_value s p.row) er)
 
 -- what a register takes, by only the pixel's nets
 pub advances : (new mid one old : Netlist) (p : Pixel) (now next n : Net) (bits next_bits first : ℕ) (worth : Snapshot → ℕ) → Includes new mid → Includes mid one → Includes one old → Contains (p.column ∷ (p.row ∷ [])) now → Computes one old (p.column ∷ (p.row ∷ [])) next_bits worth next →

@@ -1,5 +1,5 @@
 -- What the counters of column and row take.
-use Rattle.std.specs.Prelude.{ℕ, ◌-◌, ◌%◌, nat_lt, Bool, true, if◌then◌else◌, List, [], ◌∷◌, ◌++◌}
+use Rattle.std.specs.Prelude.{ℕ, ◌-◌, ◌%◌, ◌==◌, Bool, true, if◌then◌else◌, List, [], ◌∷◌, ◌++◌}
 use Rattle.dk_base.specs.Frames.{Size, column, row}
 use Rattle.dk_base.specs.FrameSizes.{size_of}
 use Rattle.dk_base.specs.Numbers.{bit_count}
@@ -12,7 +12,7 @@ use Rattle.edge_select.specs.declared.pixel.Pixel.{Pixel}
 
 -- the row that follows, which is another one only at the last column
 abbrev pub row_after : Size → (x y : ℕ) → ℕ
-row_after size x y = if nat_lt x (size.width - 1) then y else after true (size.height - 1) y
+row_after size x y = if x == size.width - 1 then after true (size.height - 1) y else y
 
 -- the column and the row of the pixel that follows the one of a snapshot
 abbrev pub next_column : Pixel → Snapshot → ℕ

@@ -1,8 +1,8 @@
 // Tests of where a pixel's neighbours are.
 
-ghost use Rattle.std.specs.Prelude.{ℕ, ◌≡◌, ◌+◌, ◌-◌, ◌<◌, ◌≤◌, ◌^◌, ◌↔◌, ◌&&◌, nat_le, ℤ, pos, ◌+ℤ◌, IsTrue, true, [], ◌∷◌, Some, IfOk, IfSome};
+ghost use Rattle.std.specs.Prelude.{◌≡◌, ◌+◌, ◌-◌, ◌<◌, ◌≤◌, ◌^◌, ◌==◌, not, ℤ, pos, ◌+ℤ◌, IsTrue, true, [], ◌∷◌, Some, IfOk, IfSome};
 ghost use Rattle.dk_base.specs.declared.TheConstants.{MAX_SIDE};
-ghost use Rattle.dk_base.specs.Frames.{IsFrame, in_frame};
+ghost use Rattle.dk_base.specs.Frames.{in_frame};
 ghost use Rattle.dk_base.specs.FrameSizes.{size_of};
 ghost use Rattle.dk_base.specs.Numbers.{bit_count};
 ghost use Rattle.wiring.specs.Netlist.{net_width};
@@ -14,7 +14,7 @@ ghost use Rattle.edge_select.specs.Steps.{LeadBy, LeadOn};
 ghost use Rattle.frame_paths.specs.Moves.{IsInterval};
 ghost use Rattle.edge_select.specs.Passes.{IsRectangle, PassesOn, is_in_rectangle};
 ghost use Rattle.net_build.specs.Logic.{AddsLogic, Computes};
-ghost use Rattle.edge_select.specs.Logic.{Tests, IsBit, IsBoth, IsTestNet, is_up_to, is_within};
+ghost use Rattle.edge_select.specs.Logic.{Tests, IsBit, IsBoth, IsTestNet, is_up_to, is_from, is_within};
 ghost use Rattle.edge_select.specs.Pixels.{HasPixel, IsTest};
 
 use crate::paths::{Rectangle, leading_pixels, passing_pixels};
@@ -26,17 +26,58 @@ use net_build::{Builder, gate, number};
 use pointwise_ir::Edge;
 use wiring::{Atom, Net, Operator, Right};
 
+// The test that a coordinate is not this one. Equality has no carry, so such a test is faster than an order.
+fn apart_from(b: &mut Builder, x: Net, bits: u8, value: u32) -> Result<Net, OutOfMemory>
+    requires x { IsNet b.old x }
+    requires width { net_width b.old x ≡ bits }
+    requires bits { IsWidth bits }
+    requires fits { value < 2 ^ bits }
+    ensures logic { AddsLogic b.new b.old }
+    ensures test { IfOk result (Computes b.new b.old (x ∷ []) 1 (λ s. bit (not (net_value s x == value)))) }
+{
+    let same = gate(
+        b,
+        Right::Binary(
+            Operator::Equal,
+            Atom::Net(x),
+            number(bits, u64::from(value)),
+        ),
+    )?;
+    let net = gate(
+        b,
+        Right::Choose(Atom::Net(same), number(1, 0), number(1, 1)),
+    )?;
+    Ok(net)
+}
+
 // The test that a coordinate is at least `first`, or None where each is.
-fn at_least(b: &mut Builder, x: Net, bits: u8, first: u32) -> Result<Option<Net>, OutOfMemory>
+fn at_least(
+    b: &mut Builder,
+    x: Net,
+    bits: u8,
+    first: u32,
+    side: u32,
+) -> Result<Option<Net>, OutOfMemory>
     requires x { IsNet b.old x }
     requires width { net_width b.old x ≡ bits }
     requires bits { IsWidth bits }
     requires first { first ≤ 2 ^ bits }
+    requires some { 1 ≤ side }
+    requires side { side - 1 < 2 ^ bits }
     ensures logic { AddsLogic b.new b.old }
-    ensures test { IfOk result (Tests b.new b.old (x ∷ []) (λ s. nat_le first (net_value s x))) }
+    ensures test { IfOk result (Tests b.new b.old (x ∷ []) (λ s. is_from side first (net_value s x))) }
 {
     if first == 0 {
         return Ok(None);
+    }
+    if first == side - 1 {
+        let last = number(bits, u64::from(first));
+        let net = gate(b, Right::Binary(Operator::Equal, Atom::Net(x), last))?;
+        return Ok(Some(net));
+    }
+    if first == 1 {
+        let net = apart_from(b, x, bits, 0)?;
+        return Ok(Some(net));
     }
     let before = number(bits, u64::from(first) - 1);
     let net = gate(b, Right::Binary(Operator::Less, before, Atom::Net(x)))?;
@@ -62,6 +103,15 @@ fn at_most(
     let end = last + 1;
     if end >= side {
         return Ok(None);
+    }
+    if end + 1 == side {
+        let net = apart_from(b, x, bits, end)?;
+        return Ok(Some(net));
+    }
+    if end == 1 {
+        let zero = number(bits, 0);
+        let net = gate(b, Right::Binary(Operator::Equal, Atom::Net(x), zero))?;
+        return Ok(Some(net));
     }
     let net = gate(
         b,
@@ -108,7 +158,7 @@ fn within(
     ensures test { IfOk result (Tests b.new b.old (x ∷ []) (λ s. is_within side interval.first interval.last (net_value s x))) }
 {
     let bits = width_for(side);
-    let low = at_least(b, x, bits, interval.first)?;
+    let low = at_least(b, x, bits, interval.first, side)?;
     let high = at_most(b, x, bits, interval.last, side)?;
     let test = both(b, low, high)?;
     Ok(test)

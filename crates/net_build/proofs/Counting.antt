@@ -1,13 +1,14 @@
 -- What the wires of a count compute.
 use Rattle.std.proofs.Common.{◌≡◌, ℕ, ◌+◌, ◌%◌, ◌^◌, ◌<◌, ◌≤◌, ◌==◌, nat_lt, Bool, true, false, List, [], ◌∷◌, ◌++◌, refl, sym, ap, subst, ◌∙◌, inl, inr, arith, lit≤}
 use Rattle.std.specs.Prelude.{if◌then◌else◌, Contains}
-use Rattle.std.proofs.lemmas.Bool.{cases_lt}
+use Rattle.std.proofs.lemmas.Bool.{cases_lt, ne_eqb}
 use Rattle.std.proofs.Math.Nat.{mod-eq_of_lt}
 use Rattle.std.proofs.Math.Pow.{pow_mono, pow_pos}
 use Rattle.std.proofs.lemmas.List.Elements.{Contains-append_right}
+use Rattle.dk_base.specs.Numbers.{bit_count}
 use Rattle.wiring.specs.declared.right.Atom.{Atom}
 use Rattle.wiring.specs.declared.right.Atom.TheVariants as atom
-use Rattle.wiring.specs.declared.right.Operator.TheVariants.{Add, Less}
+use Rattle.wiring.specs.declared.right.Operator.TheVariants.{Add, Equal}
 use Rattle.wiring.specs.declared.right.Right.TheVariants.{Binary, Choose}
 use Rattle.wiring.specs.declared.netlist.Net.{Net}
 use Rattle.wiring.specs.Sizes.{IsWidth}
@@ -39,13 +40,17 @@ pub by_bit : (b : Bool) (x y : ℕ) → (if bit b == 1 then x else y) ≡ (if b 
 by_bit true x y = refl
 by_bit false x y = refl
 
--- one more does not wrap before the last
-pub after_is : (x last bits over : ℕ) → last < 2 ^ bits → (if bit (nat_lt x last) == 1 then (x + 1) % 2 ^ bits else over) ≡ (if nat_lt x last then x + 1 else over)
-after_is x last bits over fits =
-    by_bit (nat_lt x last) ((x + 1) % 2 ^ bits) over
-    ∙ (elim (cases_lt x last) as (λ _. (if nat_lt x last then (x + 1) % 2 ^ bits else over) ≡ (if nat_lt x last then x + 1 else over)) [
-      | inl lt ↦ ap (λ (v : ℕ). if nat_lt x last then v else over) (mod-eq_of_lt (omega (arith, lt, fits)))
-      | inr ge ↦ (let no : nat_lt x last ≡ false = no_lt x last ge in subst (λ (t : Bool). (if t then (x + 1) % 2 ^ bits else over) ≡ (if t then x + 1 else over)) (sym no) refl)
+-- a test for the last number, and what follows
+pub after_is : (x last bits over : ℕ) → last < 2 ^ bits → bits ≡ bit_count last → (if bit (x == last) == 1 then over else (x + 1) % 2 ^ bits) ≡ (if nat_lt x last then x + 1 else if x == last then over else (x + 1) % 2 ^ bit_count last)
+after_is x last bits over fits needed =
+    let on : ℕ = (x + 1) % 2 ^ bit_count last in
+    by_bit (x == last) over ((x + 1) % 2 ^ bits)
+    ∙ ap (λ (n : ℕ). if x == last then over else (x + 1) % 2 ^ n) needed
+    ∙ (elim (cases_lt x last) as (λ _. (if x == last then over else on) ≡ (if nat_lt x last then x + 1 else if x == last then over else on)) [
+      | inl lt ↦
+          let small : on ≡ x + 1 = mod-eq_of_lt (let f : x + 1 < 2 ^ bit_count last = subst (λ (n : ℕ). x + 1 < 2 ^ n) needed (omega (arith, lt, fits)) in f) in
+          ap (λ (t : Bool). if t then over else on) (ne_eqb x last (λ e. omega (arith, e, lt))) ∙ small ∙ sym (ap (λ (t : Bool). if t then x + 1 else if x == last then over else on) (yes_lt x last lt))
+      | inr ge ↦ sym (ap (λ (t : Bool). if t then x + 1 else if x == last then over else on) (no_lt x last ge))
     ])
 
 -- a number as an operand
@@ -64,16 +69,16 @@ over_operand b false bits at a e wide is = subst (λ (x : Atom Net). IsOperand b
 pub old_operand : (b a : Netlist) (n : Net) (bits : ℕ) → Includes b a → IsNet a n → net_width a n ≡ bits → IsOperand b (atom.Net n) bits
 old_operand b a n bits f is e = operand_more b a (atom.Net n) bits f (net_operand a n bits is e)
 
-module _ (b0 b1 b2 b3 : Netlist) (at : Net) (bits last : ℕ) (wraps : Bool) (low one over : Atom Net) (going more next : Net) (f1 : Includes b1 b0) (f2 : Includes b2 b1) (f3 : Includes b3 b2) (is : IsNet b0 at) (width : net_width b0 at ≡ bits) (wide : IsWidth bits) (fits : last < 2 ^ bits)
-    (low_is : low ≡ atom.Constant (record { width = bits; value = last })) (one_is : one ≡ atom.Constant (record { width = bits; value = 1 })) (over_is : over ≡ over_atom wraps bits at) where
+module _ (b0 b1 b2 b3 : Netlist) (at : Net) (bits last : ℕ) (wraps : Bool) (low one over : Atom Net) (ending more next : Net) (f1 : Includes b1 b0) (f2 : Includes b2 b1) (f3 : Includes b3 b2) (is : IsNet b0 at) (width : net_width b0 at ≡ bits) (wide : IsWidth bits) (fits : last < 2 ^ bits)
+    (needed : bits ≡ bit_count last) (low_is : low ≡ atom.Constant (record { width = bits; value = last })) (one_is : one ≡ atom.Constant (record { width = bits; value = 1 })) (over_is : over ≡ over_atom wraps bits at) where
   abbrev from : List Net
   from = at ∷ []
 
   at_in : (b : Netlist) → Includes b b0 → Source b b0 from bits (λ s. net_value s at) (atom.Net at)
   at_in b f = given_source b b0 from bits at f is width (first_in at [])
 
-  going_is : IsGate b1 b0 (Binary Less (atom.Net at) low) going → Computes b1 b0 from 1 (λ s. bit (nat_lt (net_value s at) last)) going
-  going_is g = binary_computes b1 b0 b0 from f1 bits Less (λ s. net_value s at) (λ s. last) (atom.Net at) low going (at_in b0 (Includes-refl b0)) (number_source b0 b0 from bits last low low_is (record { width = wide; fits = fits })) g
+  ending_is : IsGate b1 b0 (Binary Equal (atom.Net at) low) ending → Computes b1 b0 from 1 (λ s. bit (net_value s at == last)) ending
+  ending_is g = binary_computes b1 b0 b0 from f1 bits Equal (λ s. net_value s at) (λ s. last) (atom.Net at) low ending (at_in b0 (Includes-refl b0)) (number_source b0 b0 from bits last low low_is (record { width = wide; fits = fits })) g
 
   more_is : IsGate b2 b1 (Binary Add (atom.Net at) one) more → Computes b2 b0 from bits (λ s. (net_value s at + 1) % 2 ^ bits) more
   more_is g = binary_computes b2 b1 b0 from f2 bits Add (λ s. net_value s at) (λ s. 1) (atom.Net at) one more (at_in b1 f1) (number_source b1 b0 from bits 1 one one_is (record { width = wide; fits = one_fits bits wide.0 })) g
@@ -85,20 +90,20 @@ module _ (b0 b1 b2 b3 : Netlist) (at : Net) (bits last : ℕ) (wraps : Bool) (lo
       by true e = number_source b2 b0 from bits 0 over e (record { width = wide; fits = pow_pos bits })
       by false e = subst (λ (a : Atom Net). Source b2 b0 from bits (λ s. net_value s at) a) (sym e) (at_in b2 (Includes-trans b2 b1 b0 f2 f1))
 
-  module _ (g1 : IsGate b1 b0 (Binary Less (atom.Net at) low) going) (g2 : IsGate b2 b1 (Binary Add (atom.Net at) one) more) where
-    going_in : Source b2 b0 from 1 (λ s. bit (nat_lt (net_value s at) last)) (atom.Net going)
-    going_in = source_more b2 b1 b0 from 1 (λ s. bit (nat_lt (net_value s at) last)) (atom.Net going) f2 (net_source b1 b0 from 1 (λ s. bit (nat_lt (net_value s at) last)) going (going_is g1))
+  module _ (g1 : IsGate b1 b0 (Binary Equal (atom.Net at) low) ending) (g2 : IsGate b2 b1 (Binary Add (atom.Net at) one) more) where
+    ending_in : Source b2 b0 from 1 (λ s. bit (net_value s at == last)) (atom.Net ending)
+    ending_in = source_more b2 b1 b0 from 1 (λ s. bit (net_value s at == last)) (atom.Net ending) f2 (net_source b1 b0 from 1 (λ s. bit (net_value s at == last)) ending (ending_is g1))
 
     more_source : Source b2 b0 from bits (λ s. (net_value s at + 1) % 2 ^ bits) (atom.Net more)
     more_source = net_source b2 b0 from bits (λ s. (net_value s at + 1) % 2 ^ bits) more (more_is g2)
 
-    pub going_computes : Computes b3 b0 from 1 (λ s. bit (nat_lt (net_value s at) last)) going
-    going_computes = computes_more b3 b1 b0 from 1 (λ s. bit (nat_lt (net_value s at) last)) going (Includes-trans b3 b2 b1 f3 f2) (going_is g1)
+    pub ending_computes : Computes b3 b0 from 1 (λ s. bit (net_value s at == last)) ending
+    ending_computes = computes_more b3 b1 b0 from 1 (λ s. bit (net_value s at == last)) ending (Includes-trans b3 b2 b1 f3 f2) (ending_is g1)
 
-    pub next_computes : IsGate b3 b2 (Choose (atom.Net going) (atom.Net more) over) next → Computes b3 b0 from bits (λ s. after wraps last (net_value s at)) next
-    next_computes g = computes_as b3 b0 from bits bits (λ s. if bit (nat_lt (net_value s at) last) == 1 then (net_value s at + 1) % 2 ^ bits else if wraps then 0 else net_value s at) (λ s. after wraps last (net_value s at)) next refl
-        (choose_computes b3 b2 b0 from f3 bits (λ s. bit (nat_lt (net_value s at) last)) (λ s. (net_value s at + 1) % 2 ^ bits) (λ s. if wraps then 0 else net_value s at) (atom.Net going) (atom.Net more) over next going_in more_source over_in2 g)
-        (λ s. after_is (net_value s at) last bits (if wraps then 0 else net_value s at) fits)
+    pub next_computes : IsGate b3 b2 (Choose (atom.Net ending) over (atom.Net more)) next → Computes b3 b0 from bits (λ s. after wraps last (net_value s at)) next
+    next_computes g = computes_as b3 b0 from bits bits (λ s. if bit (net_value s at == last) == 1 then (if wraps then 0 else net_value s at) else (net_value s at + 1) % 2 ^ bits) (λ s. after wraps last (net_value s at)) next refl
+        (choose_computes b3 b2 b0 from f3 bits (λ s. bit (net_value s at == last)) (λ s. if wraps then 0 else net_value s at) (λ s. (net_value s at + 1) % 2 ^ bits) (atom.Net ending) over (atom.Net more) next ending_in over_in2 more_source g)
+        (λ s. after_is (net_value s at) last bits (if wraps then 0 else net_value s at) fits needed)
 
 -- an input as an operand
 pub input_source : (b old : Netlist) (sources : List Net) (bits : ℕ) (n : Net) → Includes b old → IsNet b n → net_width b n ≡ bits → Contains sources n → Source b old sources bits (λ s. net_value s n) (atom.Net n)

@@ -1,7 +1,9 @@
 -- Indices in a cycle, from a register that is still in held clocks only.
 use Rattle.std.proofs.Common.{◌≡◌, ◌⊎◌, ℕ, suc, ◌+◌, ◌%◌, ◌<◌, ◌==◌, Bool, true, false, List, [], ◌∷◌, ◌++◌, length, Some, refl, sym, ap, subst, ◌∙◌, inl, inr, arith}
-use Rattle.std.specs.Prelude.{if◌then◌else◌, ◌&&◌, not, bit_or, IsTrue, Contains, slice_get}
+use Rattle.std.specs.Prelude.{◌^◌, if◌then◌else◌, ◌&&◌, not, bit_or, IsTrue, Contains, slice_get}
+use Rattle.std.proofs.lemmas.Bool.{eq-eqb}
 use Rattle.std.proofs.lemmas.Nat.{mod_below}
+use Rattle.dk_base.specs.Numbers.{bit_count}
 use Rattle.std.proofs.lemmas.Option.{get_or_from_slice_get, slice_get_within, slice_get_cases}
 use Rattle.std.proofs.lemmas.List.Elements.{Contains-append_left, Contains-append_right, Contains-append_cases}
 use Rattle.wiring.specs.declared.right.Atom.TheVariants as atom
@@ -108,7 +110,9 @@ loaded_here b m from before c s is now next =
 
 -- after the last comes 0
 turned_over : (last : ℕ) → after true last last ≡ 0
-turned_over last = ap (λ (t : Bool). if t then last + 1 else if true then 0 else last) (no_lt last last (omega arith))
+turned_over last =
+    let on : ℕ = (last + 1) % 2 ^ bit_count last in
+    ap (λ (t : Bool). if t then last + 1 else if last == last then 0 else on) (no_lt last last (omega arith)) ∙ ap (λ (t : Bool). if t then 0 else on) (eq-eqb last last refl)
 
 module _ (b : Netlist) (k last : ℕ) (now next taken : Net) (now_is : InEach b (λ m s. net_value s now ≡ (if net_value s reset_net == 1 then last else net_value s (Reg k)))) (next_is : InEach b (λ m s. net_value s next ≡ after true last (net_value s now)))
     (taken_is : InEach b (λ m s. net_value s taken ≡ loaded b.enable (net_value s (Reg k)) (net_value s next) s)) (edge : AtEachEdge b (λ s t. slice_get t.regs k ≡ Some (net_value s taken))) where

@@ -1,7 +1,8 @@
 -- A register that goes on with each counted clock, whatever it counts.
 use Rattle.std.proofs.Common.{◌≡◌, ℕ, suc, ◌+◌, ◌*◌, ◌/◌, ◌%◌, ◌<◌, ◌≤◌, ◌==◌, nat_lt, Bool, true, false, List, [], ◌∷◌, length, Some, refl, sym, ap, subst, ◌∙◌, inl, inr, arith}
-use Rattle.std.specs.Prelude.{if◌then◌else◌, IsTrue, slice_get, min}
-use Rattle.std.proofs.lemmas.Bool.{cases_lt}
+use Rattle.std.specs.Prelude.{◌^◌, if◌then◌else◌, IsTrue, slice_get, min}
+use Rattle.std.proofs.lemmas.Bool.{cases_lt, eq-eqb}
+use Rattle.dk_base.specs.Numbers.{bit_count}
 use Rattle.std.proofs.lemmas.Nat.{div-add-mod', mod_below, mod-mul-add}
 use Rattle.std.proofs.lemmas.Option.{get_or_from_slice_get, slice_get_within, slice_get_cases}
 use Rattle.wiring.specs.declared.netlist.Net.{Net}
@@ -96,27 +97,32 @@ module _ (b : Netlist) (k : ℕ) (at step : ℕ → ℕ) (begins : at 0 ≡ 0) (
   register_still = record { kept = λ m from before c s is ready held to goes. kept m from before c s is held to goes }
 
 -- one clock more
-pub around : (last k : ℕ) → (if nat_lt (k % suc last) last then k % suc last + 1 else 0) ≡ suc k % suc last
+around : (last k : ℕ) → after true last (k % suc last) ≡ suc k % suc last
 around last k =
     let n : ℕ = suc last in
     let some : 0 < n = omega arith in
     let low = mod_below k n some in
     let whole = div-add-mod' k n in
-    elim (cases_lt (k % n) last) as (λ _. (if nat_lt (k % n) last then k % n + 1 else 0) ≡ suc k % n) [
+    let on : ℕ = (k % n + 1) % 2 ^ bit_count last in
+    let rest : ℕ = if k % n == last then 0 else on in
+    elim (cases_lt (k % n) last) as (λ _. (if nat_lt (k % n) last then k % n + 1 else rest) ≡ suc k % n) [
       | inl lt ↦
           let e : suc k ≡ k / n * n + (k % n + 1) = omega (arith, whole) in
-          ap (λ (t : Bool). if t then k % n + 1 else 0) (yes_lt (k % n) last lt) ∙ sym (ap (λ j. j % n) e ∙ mod-mul-add (k / n) n (k % n + 1) (omega (arith, lt)))
-      | inr ge ↦ ap (λ (t : Bool). if t then k % n + 1 else 0) (no_lt (k % n) last ge) ∙ sym (ap (λ j. j % n) (let e : suc k ≡ suc (k / n) * n + 0 = turn (k / n) (k % n) (sym whole) low ge in e) ∙ mod-mul-add (suc (k / n)) n 0 some)
+          ap (λ (t : Bool). if t then k % n + 1 else rest) (yes_lt (k % n) last lt) ∙ sym (ap (λ j. j % n) e ∙ mod-mul-add (k / n) n (k % n + 1) (omega (arith, lt)))
+      | inr ge ↦ ap (λ (t : Bool). if t then k % n + 1 else rest) (no_lt (k % n) last ge) ∙ ap (λ (t : Bool). if t then 0 else on) (eq-eqb (k % n) last (omega (arith, low, ge))) ∙ sym (ap (λ j. j % n) (let e : suc k ≡ suc (k / n) * n + 0 = turn (k / n) (k % n) (sym whole) low ge in e) ∙ mod-mul-add (suc (k / n)) n 0 some)
     ]
   where
     turn : (q r : ℕ) → k ≡ q * suc last + r → r < suc last → last ≤ r → suc k ≡ suc q * suc last + 0
     turn q r e low ge = omega (arith, e, low, ge)
 
-up_to : (last k : ℕ) → (if nat_lt (min k last) last then min k last + 1 else min k last) ≡ min (suc k) last
-up_to last k = elim (cases_lt (min k last) last) as (λ _. (if nat_lt (min k last) last then min k last + 1 else min k last) ≡ min (suc k) last) [
-  | inl lt ↦ ap (λ (t : Bool). if t then min k last + 1 else min k last) (yes_lt (min k last) last lt) ∙ omega (arith, lt)
-  | inr ge ↦ ap (λ (t : Bool). if t then min k last + 1 else min k last) (no_lt (min k last) last ge) ∙ omega (arith, ge)
-]
+up_to : (last k : ℕ) → after false last (min k last) ≡ min (suc k) last
+up_to last k =
+    let on : ℕ = (min k last + 1) % 2 ^ bit_count last in
+    let rest : ℕ = if min k last == last then min k last else on in
+    elim (cases_lt (min k last) last) as (λ _. (if nat_lt (min k last) last then min k last + 1 else rest) ≡ min (suc k) last) [
+      | inl lt ↦ ap (λ (t : Bool). if t then min k last + 1 else rest) (yes_lt (min k last) last lt) ∙ omega (arith, lt)
+      | inr ge ↦ ap (λ (t : Bool). if t then min k last + 1 else rest) (no_lt (min k last) last ge) ∙ ap (λ (t : Bool). if t then min k last else on) (eq-eqb (min k last) last (omega (arith, ge))) ∙ omega (arith, ge)
+    ]
 
 pub goes_on : (wraps : Bool) (last k : ℕ) → after wraps last (reached wraps last k) ≡ reached wraps last (suc k)
 goes_on true last k = around last k

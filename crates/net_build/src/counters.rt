@@ -1,6 +1,6 @@
 // Counters of clocks.
 
-ghost use Rattle.std.specs.Prelude.{ℕ, suc, ◌≡◌, ◌%◌, min, ◌<◌, ◌==◌, ◌^◌, nat_lt, true, if◌then◌else◌, [], ◌∷◌, ◌++◌, length, IfOk, OnOk};
+ghost use Rattle.std.specs.Prelude.{suc, ◌≡◌, ◌%◌, min, ◌<◌, ◌==◌, ◌^◌, true, if◌then◌else◌, [], ◌∷◌, ◌++◌, length, IfOk, OnOk};
 ghost use Rattle.dk_base.specs.Numbers.{bit_count};
 ghost use Rattle.wiring.specs.declared.right.Atom.TheVariants as atom;
 ghost use Rattle.wiring.specs.Netlist.{net_width, reset_net};
@@ -31,14 +31,14 @@ fn over(at: Net, bits: u8, wraps: bool) -> Atom<Net>
     Atom::Net(at)
 }
 
-/// Whether a count is before its last number, and what follows.
+/// Whether a count is at its last number, and what follows.
 #[derive(Clone, Copy)]
 pub struct Counted {
-    pub going: Net,
+    pub ending: Net,
     pub next: Net,
 }
 
-/// A count up to `last`, which is followed by 0 or by itself.
+/// A count up to `last`, which is followed by 0 or by itself. The test is one of equality, which has no carry.
 pub fn count(
     b: &mut Builder,
     at: Net,
@@ -50,13 +50,14 @@ pub fn count(
     requires width { net_width b.old at ≡ bits }
     requires bits { IsWidth bits }
     requires last { last < 2 ^ bits }
+    requires needed { bits ≡ bit_count last }
     ensures logic { AddsLogic b.new b.old }
-    ensures going { IfOk result (λ c. Computes b.new b.old (at ∷ []) 1 (λ s. bit (nat_lt (net_value s at) last)) c.going) }
+    ensures ending { IfOk result (λ c. Computes b.new b.old (at ∷ []) 1 (λ s. bit (net_value s at == last)) c.ending) }
     ensures next { IfOk result (λ c. Computes b.new b.old (at ∷ []) bits (λ s. after wraps last (net_value s at)) c.next) }
 {
-    let going = gate(
+    let ending = gate(
         b,
-        Right::Binary(Operator::Less, Atom::Net(at), number(bits, last)),
+        Right::Binary(Operator::Equal, Atom::Net(at), number(bits, last)),
     )?;
     let more = gate(
         b,
@@ -64,9 +65,9 @@ pub fn count(
     )?;
     let next = gate(
         b,
-        Right::Choose(Atom::Net(going), Atom::Net(more), over(at, bits, wraps)),
+        Right::Choose(Atom::Net(ending), over(at, bits, wraps), Atom::Net(more)),
     )?;
-    Ok(Counted { going, next })
+    Ok(Counted { ending, next })
 }
 
 /// What is next, or in a held clock what is now.
@@ -165,6 +166,7 @@ fn registered(
     requires width { net_width b.old register ≡ bits }
     requires bits { IsWidth bits }
     requires last { last < 2 ^ bits }
+    requires needed { bits ≡ bit_count last }
     ensures logic { AddsLogic b.new b.old }
     ensures index { IfOk result (λ c. Computes b.new b.old (control_nets b.old.enable ++ register ∷ [])
         bits (λ s. if net_value s reset_net == 1 then 0 else net_value s register) c.index) }
@@ -237,6 +239,7 @@ fn cycled(b: &mut Builder, register: Net, bits: u8, last: u64) -> Result<CycleVa
     requires width { net_width b.old register ≡ bits }
     requires bits { IsWidth bits }
     requires last { last < 2 ^ bits }
+    requires needed { bits ≡ bit_count last }
     ensures logic { AddsLogic b.new b.old }
     ensures now { IfOk result (λ c. Computes b.new b.old (control_nets b.old.enable ++ register ∷ [])
         bits (λ s. if net_value s reset_net == 1 then last else net_value s register) c.now) }

@@ -1,6 +1,6 @@
-use Rattle.std.proofs.Common.{nat_le, [], ◌∷◌}
+use Rattle.std.proofs.Common.{[], ◌∷◌}
 use Rattle.wiring.specs.Snapshot.{net_value}
-use Rattle.edge_select.specs.Logic.{is_up_to}
+use Rattle.edge_select.specs.Logic.{is_up_to, is_from}
 use Rattle.net_build.proofs.Logic.{logic_on}
 use Rattle.edge_select.proofs.Combining.{tests_bit, bit_more, tests_more, tests_since, both_tests}
 use Rattle.edge_select.proofs.frame_conditions.within.Goals as goal
@@ -26,5 +26,5 @@ returns-clause-test c =
     let one = c.at_least.new.b in
     let two = c.at_most.new.b in
     let from = c.args.x ∷ [] in
-    both_tests c.both.new.b two old from (λ s. nat_le c.args.interval.first (net_value s c.args.x)) (λ s. is_up_to c.args.side c.args.interval.last (net_value s c.args.x)) c.in_ok-low.low c.in_ok-high.high c.in_ok-test.test c.both.ensures.logic.includes
+    both_tests c.both.new.b two old from (λ s. is_from c.args.side c.args.interval.first (net_value s c.args.x)) (λ s. is_up_to c.args.side c.args.interval.last (net_value s c.args.x)) c.in_ok-low.low c.in_ok-high.high c.in_ok-test.test c.both.ensures.logic.includes
     (tests_more two one old from _ c.in_ok-low.low c.at_most.ensures.logic.includes c.in_ok-low.ensures.test) (tests_since two one old from _ c.in_ok-high.high c.at_least.ensures.logic.includes c.in_ok-high.ensures.test) c.in_ok-test.ensures.test
