@@ -1,12 +1,14 @@
 #!/usr/bin/env python3
 """`run` beside Verilator and Icarus Verilog on the text that `compile` prints, with one picture and in one run of this script.
 
-usage: python3 bench/run.py DK [WIDTH HEIGHT [NAME]]
+usage: python3 bench/run.py DK [WIDTH HEIGHT [NAME]] [--block N] [--enable] [--hold K] [--other DK] [--no-icarus]
 
-It takes the 3 by 3 Gaussian of the examples at 640 by 480 pixels, or another example of one input of 8 bits at another size,
-prints the processor time of each (Verilator's compiling aside; the least of seven runs, but for Icarus), and stops where two pictures differ. A tool that is not there
-is passed over.
+It takes the 3 by 3 Gaussian of the examples at 640 by 480 pixels, or another example of one input of 8 bits at another size.
+With --block or --enable the text is compiled so, and `sim` clocks it in place of `run`, with --hold K held clocks among the
+others. --other is a further program, as an earlier build. It prints the processor time of each, the least of seven runs in turn
+(Icarus runs once; compile times do not count), and stops where two pictures differ. A tool that is not there is passed over.
 """
+import argparse
 import os
 import re
 import shutil
@@ -27,13 +29,22 @@ int main() {
     fclose(f);
     for (auto &bytes : out) bytes.reserve(2 * in.size());
     Vm m;
-    for (long k = -1; k < %(clocks)dL; k++) {
+    auto clock = [&](bool rst, bool en, int din) {
         m.clk = 0;
-        m.rst = k < 0;
-        m.din = k >= 0 && k < (long)in.size() ? in[k] : 0;
+        m.rst = rst;
+        %(enable)s;
+        m.din = din;
         m.eval();
 %(shown)s        m.clk = 1;
         m.eval();
+    };
+    clock(true, true, 0);
+    for (long k = 0, run = 0; k < %(clocks)dL; k++) {
+        clock(false, true, k < (long)in.size() ? in[k] : 0);
+        if (++run == %(hold)d) {
+            clock(false, false, 255);
+            run = 0;
+        }
     }
     f = fopen("verilated", "wb");
     for (auto &bytes : out) fwrite(bytes.data(), 1, bytes.size(), f);
@@ -64,9 +75,14 @@ def rasters(file):
 RUNS = 7
 
 
-def least(*words):
-    """The least user and system time of some runs of a command."""
-    return min(timed(*words) for _ in range(RUNS))
+def least(commands):
+    """The least user and system time of some runs of each command, all in turn."""
+    best = [None] * len(commands)
+    for _ in range(RUNS):
+        for k, words in enumerate(commands):
+            time = timed(*words)
+            best[k] = time if best[k] is None else min(best[k], time)
+    return best
 
 
 def timed(*words, **how):
@@ -78,42 +94,79 @@ def timed(*words, **how):
     return used.ru_utime + used.ru_stime
 
 
+def verilate(clocks, pixels, hold, enable):
+    """Builds Verilator's model of g.v, as obj_dir/Vm."""
+    text = open("g.v", encoding="utf-8").read()
+    outputs = [int(bits or 0) + 1 for bits in re.findall(r"output (?:\[(\d+):0\] )?dout\d?", text)]
+    lines = "".join(shown(k, bits, pixels) for k, bits in enumerate(outputs))
+    told = {"pixels": pixels, "clocks": clocks, "outputs": len(outputs), "shown": lines, "hold": hold}
+    open("m.cpp", "w", encoding="utf-8").write(HARNESS % {**told, "enable": "m.en = en" if enable else "(void)en"})
+    name = re.search(r"module (\w+)", text)[1]
+    words = ["verilator", "-O3", "--x-assign", "0", "--x-initial", "0", "--noassert", "-Wno-fatal", "--cc", "--exe", "--build"]
+    words += ["-CFLAGS", "-O3", "--prefix", "Vm", "--top-module", name, "g.v", "m.cpp"]
+    subprocess.run(words, check=True, stdout=subprocess.DEVNULL, stderr=subprocess.DEVNULL)
+
+
+def icarus(clocks, own):
+    """Runs Icarus Verilog once, and compares its picture."""
+    bench = [sys.executable, f"{HERE}/../tests/bench.py"]
+    subprocess.run([*bench, "write", "g.v", "g.pgm", str(clocks), "1"], check=True)
+    subprocess.run(["iverilog", "-g2005", "-o", "bench.vvp", "bench.v", "g.v"], check=True)
+    other = timed("vvp", "-n", "bench.vvp", stdout=subprocess.DEVNULL)
+    subprocess.run([*bench, "picture", "g.v", "g.pgm", "seen.txt", "seen.pgm"], check=True)
+    if open("seen.pgm", "rb").read() != open("own.pgm", "rb").read():
+        sys.exit("the picture of Icarus is another one")
+    print(f"Icarus Verilog: {other:.3f} s; dk takes {other / own:.0f} times less")
+
+
+def arguments():
+    """The words of the call."""
+    words = argparse.ArgumentParser(description=__doc__, formatter_class=argparse.RawDescriptionHelpFormatter)
+    words.add_argument("dk")
+    words.add_argument("size", nargs="*")
+    words.add_argument("--block")
+    words.add_argument("--enable", action="store_true")
+    words.add_argument("--hold", type=int, default=0)
+    words.add_argument("--other")
+    words.add_argument("--no-icarus", action="store_true")
+    return words.parse_args()
+
+
 def main():
-    dk = os.path.abspath(sys.argv[1])
-    width, height = map(int, sys.argv[2:4]) if len(sys.argv) > 2 else (640, 480)
-    example = sys.argv[4] if len(sys.argv) > 4 else "gaussian3"
+    given = arguments()
+    dk = os.path.abspath(given.dk)
+    width, height = map(int, given.size[:2] or (640, 480))
+    example = given.size[2] if len(given.size) > 2 else "gaussian3"
     text = open(f"{HERE}/../examples/programs/{example}.dk", encoding="utf-8").read()
     pixels = width * height
+    flags = ["--block", given.block] * bool(given.block) + ["--enable"] * given.enable
+    held = ["--hold", str(given.hold)] * bool(given.hold)
+    programs = [dk] + [os.path.abspath(given.other)] * bool(given.other)
     with tempfile.TemporaryDirectory() as room:
         os.chdir(room)
         open("g.dk", "w", encoding="utf-8").write(re.sub(r"^size .*", f"size {width} {height}", text, flags=re.M))
         raster = os.urandom(pixels)
         open("raster", "wb").write(raster)
         open("g.pgm", "wb").write(b"P5\n%d %d\n255\n" % (width, height) + raster)
-        subprocess.run([dk, "compile", "g.dk", "g.v"], check=True)
+        subprocess.run([dk, "compile", *flags, "g.dk", "g.v"], check=True)
         plan = subprocess.run([dk, "plan", "g.dk"], check=True, capture_output=True, text=True).stdout
         clocks = int(re.search(r"^clocks (\d+)$", plan, re.M)[1])
-        own = least(dk, "run", "g.dk", "g.pgm", "own.pgm")
-        print(f"dk run: {own:.3f} s, {1e9 * own / clocks:.0f} ns a clock")
-        wanted = rasters(open("own.pgm", "rb").read())
-        outputs = [int(bits or 0) + 1 for bits in re.findall(r"output (?:\[(\d+):0\] )?dout\d?", open("g.v", encoding="utf-8").read())]
-        if shutil.which("verilator"):
-            open("m.cpp", "w", encoding="utf-8").write(HARNESS % {"pixels": pixels, "clocks": clocks, "outputs": len(outputs), "shown": "".join(shown(k, bits, pixels) for k, bits in enumerate(outputs))})
-            name = re.search(r"module (\w+)", open("g.v", encoding="utf-8").read())[1]
-            build = ["verilator", "-O3", "--x-assign", "0", "--x-initial", "0", "--noassert", "-Wno-fatal", "--cc", "--exe", "--build", "-CFLAGS", "-O3", "--prefix", "Vm", "--top-module", name, "g.v", "m.cpp"]
-            subprocess.run(build, check=True, stdout=subprocess.DEVNULL, stderr=subprocess.DEVNULL)
-            other = least("obj_dir/Vm")
-            if open("verilated", "rb").read() != wanted:
+        call = ["sim", "g.v", str(clocks), "g.pgm", "own.pgm", *held] if flags else ["run", "g.dk", "g.pgm", "own.pgm"]
+        commands = [[it, *call] for it in programs]
+        with_verilator = shutil.which("verilator") is not None
+        if with_verilator:
+            verilate(clocks, pixels, given.hold, given.enable)
+            commands.append(["obj_dir/Vm"])
+        own, *others = least(commands)
+        print(f"dk {call[0]}: {own:.3f} s, {1e9 * own / clocks:.0f} ns a clock")
+        if given.other:
+            print(f"the other program: {others[0]:.3f} s")
+        if with_verilator:
+            if open("verilated", "rb").read() != rasters(open("own.pgm", "rb").read()):
                 sys.exit("Verilator's picture is another one")
-            print(f"Verilator -O3: {other:.3f} s; dk run takes {own / other:.1f} times as long")
-        if shutil.which("iverilog") and pixels <= 640 * 480:
-            subprocess.run([sys.executable, f"{HERE}/../tests/bench.py", "write", "g.v", "g.pgm", str(clocks), "1"], check=True)
-            subprocess.run(["iverilog", "-g2005", "-o", "bench.vvp", "bench.v", "g.v"], check=True)
-            other = timed("vvp", "-n", "bench.vvp", stdout=subprocess.DEVNULL)
-            subprocess.run([sys.executable, f"{HERE}/../tests/bench.py", "picture", "g.v", "g.pgm", "seen.txt", "seen.pgm"], check=True)
-            if open("seen.pgm", "rb").read() != open("own.pgm", "rb").read():
-                sys.exit("the picture of Icarus is another one")
-            print(f"Icarus Verilog: {other:.3f} s; dk run takes {other / own:.0f} times less")
+            print(f"Verilator -O3: {others[-1]:.3f} s; dk takes {own / others[-1]:.2f} times as long")
+        if shutil.which("iverilog") and pixels <= 640 * 480 and not flags and not given.no_icarus:
+            icarus(clocks, own)
 
 
 main()

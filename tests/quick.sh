@@ -615,6 +615,17 @@ done 3<"$examples/programs/pictures.txt"
 ends 0 '' compile mean3.dk text.v
 ends 0 '' compile --block 2 mean3.dk out.pgm
 is 'compile --block changed a text without long arrays' cmp -s text.v out.pgm
+# Equal reads of one body share their choice: a sum of 1,024 clamped reads, of two kinds in turn, is compiled in less than a second of processor time, although there are 3,072 live reads to choose from.
+sum='(g(x,y)+h(x,y))'
+for _ in 1 2 3 4 5 6 7 8 9; do
+    sum="($sum+$sum)"
+done
+echo "size 64 64 input a : u8
+inline let g = im(x,y) a(x+63,y+31) edge clamp end
+inline let h = im(x,y) a(x+31,y+63) edge clamp end
+let f = im(x,y) $sum as u8 end
+output f" >shared.dk
+is 'equal reads do not share their choice' sh -c 'ulimit -t 1 && exec "$0" compile shared.dk text.v' "$program"
 cp mean3.dk text.dk
 ends 2 "$usage" compile mean3.dk
 ends 2 "$usage" compile mean3.dk mean3.dk

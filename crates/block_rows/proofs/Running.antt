@@ -1,9 +1,7 @@
 -- Instructions over rows, one after another.
-use Rattle.std.proofs.Common.{◌≡◌, ◌≢◌, ℕ, ◌+◌, ◌^◌, ◌<◌, ◌≤◌, ◌⊎◌, inl, inr, List, [], ◌++◌, length, Vec, Some, ap, sym, subst, refl, ◌∙◌, arith, lit<}
-use Rattle.std.specs.Prelude.{Contains, slice_get, slice_set, slice_index, slice_index_or}
-use Rattle.std.specs.declared.alloc.Global.{Global}
-use Rattle.std.proofs.lemmas.List.{map-set, length-map, get_or-set_same, get_or-set_other}
-use Rattle.std.proofs.lemmas.List.Elements.{Contains-append_left, Contains-append_right}
+use Rattle.std.proofs.Common.{◌≡◌, ◌≢◌, ℕ, ◌+◌, ◌^◌, ◌<◌, ◌≤◌, ◌⊎◌, inl, inr, List, [], ◌++◌, length, map, Some, ap, sym, subst, refl, ◌∙◌, arith, lit<}
+use Rattle.std.specs.Prelude.{Contains, slice_get, slice_index, slice_index_or}
+use Rattle.std.proofs.lemmas.List.Elements.{All-contains, Contains-append_left, Contains-append_right}
 use Rattle.std.proofs.lemmas.Option.{same_Some}
 use Rattle.std.proofs.lemmas.Bool.{cases_order, cases_lt}
 use Rattle.std.proofs.Math.Pow.{pow_mono}
@@ -11,20 +9,21 @@ use Rattle.wiring.specs.declared.right.Atom.{Atom}
 use Rattle.wiring.specs.declared.right.Atom.TheVariants as atom
 use Rattle.wiring.specs.declared.right.Right.{Right}
 use Rattle.wiring.specs.declared.right.Right.TheVariants.{Copy, Not, Binary, Choose, Join, Repeat, Bit, Slice, Word}
-use Rattle.wiring.specs.Rights.{atom_nets, nets_of, right_value}
+use Rattle.wiring.specs.Rights.{atom_nets, nets_of, atom_constants, constants_of, atom_width, right_value}
+use Rattle.wiring.specs.Sizes.{SizedNumber, IsConstant}
 use Rattle.wiring.proofs.Fits.{right_lt}
 use Rattle.wiring.proofs.Local.{right_local}
 use Rattle.block_rows.specs.declared.code.Instruction.{Instruction}
-use Rattle.block_rows.specs.Rights.{items_of, value_at, HasRow, HaveRows}
+use Rattle.block_rows.specs.Rights.{value_at, HasRow, IsOperand, AreOperands}
+use Rattle.block_rows.specs.LaneSizes.{IsSized, InLanes}
+use Rattle.block_rows.specs.Values.{row_bits}
+use Rattle.block_rows.specs.declared.row.Row.{Row}
 use Rattle.block_rows.specs.Code.{AreRows, IsSound, IsOrdered, HoldsAt, AllHold}
 
-pub row_here : (rows : List (Vec ℕ Global)) (n : ℕ) (v : Vec ℕ Global) → n < length rows → slice_index_or (items_of (slice_set rows n v)) n [] ≡ v.items
-row_here rows n v l =
-    let long : length (items_of rows) ≡ length rows = length-map rows (λ (w : Vec ℕ Global). w.items) in
-    ap (λ ls. slice_index_or ls n []) (map-set (λ (w : Vec ℕ Global). w.items) rows n v) ∙ get_or-set_same (items_of rows) n v.items [] (omega (arith, l, long))
-
-pub row_other : (rows : List (Vec ℕ Global)) (n k : ℕ) (v : Vec ℕ Global) → k ≢ n → slice_index_or (items_of (slice_set rows n v)) k [] ≡ slice_index_or (items_of rows) k []
-row_other rows n k v apart = ap (λ ls. slice_index_or ls k []) (map-set (λ (w : Vec ℕ Global). w.items) rows n v) ∙ get_or-set_other (items_of rows) n k v.items [] apart
+below : (x w bits : ℕ) → x < 2 ^ w → w ≤ bits → x < 2 ^ bits
+below x w bits l narrow =
+    let most : 2 ^ w ≤ 2 ^ bits = pow_mono narrow in
+    omega (arith, l, most)
 
 module _ (widths : List ℕ) (count : ℕ) (rows : List (List ℕ)) (are : AreRows widths count rows) where
   slot_row : (n : ℕ) → n < length widths → HasRow rows count (atom.Net n)
@@ -32,24 +31,59 @@ module _ (widths : List ℕ) (count : ℕ) (rows : List (List ℕ)) (are : AreRo
       let inside : n < length rows = omega (arith, l, are.slots) in
       (inside, (let long : length (slice_index_or rows n []) ≡ count = are.long n inside in omega (arith, long)))
 
-  atom_row : (a : Atom ℕ) → ((n : ℕ) → Contains (atom_nets a) n → n < length widths) → HasRow rows count a
-  atom_row (atom.Net n) h = slot_row n (h n (0, lit< tt, refl))
-  atom_row (atom.Constant c) h = tt
+  -- an instruction's slots and constants have no more bits than a lane
+  module _ (bits : ℕ) where
+    abbrev IsNarrow : ℕ → Type 0
+    IsNarrow n = (n < length widths) × (slice_index widths n ≤ bits)
 
-  pub have_rows : (r : Right ℕ ℕ) → ((n : ℕ) → Contains (nets_of r) n → n < length widths) → HaveRows rows count r
-  have_rows (Copy a) h = atom_row a h
-  have_rows (Not a) h = atom_row a h
-  have_rows (Binary o a b) h = (atom_row a (λ n c. h n (Contains-append_left (atom_nets a) (atom_nets b) n c)), atom_row b (λ n c. h n (Contains-append_right (atom_nets a) (atom_nets b) n c)))
-  have_rows (Choose c a b) h = (
-    atom_row c (λ n d. h n (Contains-append_left (atom_nets c ++ atom_nets a) (atom_nets b) n (Contains-append_left (atom_nets c) (atom_nets a) n d))),
-    atom_row a (λ n d. h n (Contains-append_left (atom_nets c ++ atom_nets a) (atom_nets b) n (Contains-append_right (atom_nets c) (atom_nets a) n d))),
-    atom_row b (λ n d. h n (Contains-append_right (atom_nets c ++ atom_nets a) (atom_nets b) n d)),
-  )
-  have_rows (Join a b) h = (atom_row a (λ n c. h n (Contains-append_left (atom_nets a) (atom_nets b) n c)), atom_row b (λ n c. h n (Contains-append_right (atom_nets a) (atom_nets b) n c)))
-  have_rows (Repeat k a) h = atom_row a h
-  have_rows (Bit v k) h = slot_row v (h v (0, lit< tt, refl))
-  have_rows (Slice v m l) h = slot_row v (h v (0, lit< tt, refl))
-  have_rows (Word m i) h = atom_row i h
+    abbrev IsSmall : SizedNumber → Type 0
+    IsSmall c = (c.value < 2 ^ c.width) × (c.width ≤ bits)
+
+    slot_operand : (n : ℕ) → IsNarrow n → IsOperand bits rows count (atom.Net n)
+    slot_operand n h = (slot_row n h.0, λ t l. below (value_at rows t n) (slice_index widths n) bits (are.fit n t (let inside : n < length rows = omega (arith, h.0, are.slots) in inside) l) h.1)
+
+    atom_operand : (a : Atom ℕ) → ((n : ℕ) → Contains (atom_nets a) n → IsNarrow n) → ((c : SizedNumber) → Contains (atom_constants a) c → IsSmall c) → IsOperand bits rows count a
+    atom_operand (atom.Net n) h k = slot_operand n (h n (0, lit< tt, refl))
+    atom_operand (atom.Constant c) h k = let s = k c (0, lit< tt, refl) in below c.value c.width bits s.0 s.1
+
+    atom_narrow : (a : Atom ℕ) → ((n : ℕ) → Contains (atom_nets a) n → IsNarrow n) → ((c : SizedNumber) → Contains (atom_constants a) c → IsSmall c) → atom_width (λ n. slice_index widths n) a ≤ bits
+    atom_narrow (atom.Net n) h k = (h n (0, lit< tt, refl)).1
+    atom_narrow (atom.Constant c) h k = (k c (0, lit< tt, refl)).1
+
+    operands_of : (r : Right ℕ ℕ) → ((n : ℕ) → Contains (nets_of r) n → IsNarrow n) → ((c : SizedNumber) → Contains (constants_of r) c → IsSmall c) → AreOperands bits widths rows count r
+    operands_of (Copy a) h k = atom_operand a h k
+    operands_of (Not a) h k = (atom_operand a h k, atom_narrow a h k)
+    operands_of (Binary o a b) h k =
+        let ha : (n : ℕ) → Contains (atom_nets a) n → IsNarrow n = λ n c. h n (Contains-append_left (atom_nets a) (atom_nets b) n c) in
+        let ka : (x : SizedNumber) → Contains (atom_constants a) x → IsSmall x = λ x c. k x (Contains-append_left (atom_constants a) (atom_constants b) x c) in (
+          atom_operand a ha ka,
+          atom_operand b (λ n c. h n (Contains-append_right (atom_nets a) (atom_nets b) n c)) (λ x c. k x (Contains-append_right (atom_constants a) (atom_constants b) x c)),
+          atom_narrow a ha ka,
+        )
+    operands_of (Choose c a b) h k = (
+      atom_operand c (λ n d. h n (Contains-append_left (atom_nets c ++ atom_nets a) (atom_nets b) n (Contains-append_left (atom_nets c) (atom_nets a) n d)))
+          (λ x d. k x (Contains-append_left (atom_constants c ++ atom_constants a) (atom_constants b) x (Contains-append_left (atom_constants c) (atom_constants a) x d))),
+      atom_operand a (λ n d. h n (Contains-append_left (atom_nets c ++ atom_nets a) (atom_nets b) n (Contains-append_right (atom_nets c) (atom_nets a) n d)))
+          (λ x d. k x (Contains-append_left (atom_constants c ++ atom_constants a) (atom_constants b) x (Contains-append_right (atom_constants c) (atom_constants a) x d))),
+      atom_operand b (λ n d. h n (Contains-append_right (atom_nets c ++ atom_nets a) (atom_nets b) n d))
+          (λ x d. k x (Contains-append_right (atom_constants c ++ atom_constants a) (atom_constants b) x d)),
+    )
+    operands_of (Join a b) h k =
+        let hb : (n : ℕ) → Contains (atom_nets b) n → IsNarrow n = λ n c. h n (Contains-append_right (atom_nets a) (atom_nets b) n c) in
+        let kb : (x : SizedNumber) → Contains (atom_constants b) x → IsSmall x = λ x c. k x (Contains-append_right (atom_constants a) (atom_constants b) x c) in (
+          atom_operand a (λ n c. h n (Contains-append_left (atom_nets a) (atom_nets b) n c)) (λ x c. k x (Contains-append_left (atom_constants a) (atom_constants b) x c)),
+          atom_operand b hb kb,
+          atom_narrow b hb kb,
+        )
+    operands_of (Repeat m a) h k = atom_operand a h k
+    operands_of (Bit v m) h k = (slot_operand v (h v (0, lit< tt, refl)), (h v (0, lit< tt, refl)).1)
+    operands_of (Slice v m l) h k = (slot_operand v (h v (0, lit< tt, refl)), (h v (0, lit< tt, refl)).1)
+    operands_of (Word m i) h k = atom_operand i h k
+
+    pub have_operands : (i : Instruction) → IsSound widths i → IsSized widths bits i → AreOperands bits widths rows count i.right
+    have_operands i sound sized = operands_of i.right
+        (λ n c. (sound.slots n c, sized.slots n c))
+        (λ x c. ((All-contains IsConstant (constants_of i.right) x sound.constants c).fits, All-contains (λ (y : SizedNumber). y.width ≤ bits) (constants_of i.right) x sized.constants c))
 
   -- what an instruction takes fits its slot
   pub value_fits : (i : Instruction) → IsSound widths i → (t : ℕ) → t < count → right_value (λ n. slice_index widths n) (λ _ _. 0) (value_at rows t) i.right < 2 ^ slice_index widths i.target
@@ -57,11 +91,9 @@ module _ (widths : List ℕ) (count : ℕ) (rows : List (List ℕ)) (are : AreRo
       subst (λ (w : ℕ). right_value (λ n. slice_index widths n) (λ _ _. 0) (value_at rows t) i.right < 2 ^ w) sound.width
       (right_lt (λ n. slice_index widths n) (λ _. 0) (λ _ _. 0) (value_at rows t) (λ m k. lit< tt) i.right (λ n c. are.fit n t (let inside : n < length rows = omega (arith, sound.slots n c, are.slots) in inside) l) sound.constants sound.agree)
 
-  pub value_narrow : (i : Instruction) → IsSound widths i → (t : ℕ) → t < count → right_value (λ n. slice_index widths n) (λ _ _. 0) (value_at rows t) i.right < 2 ^ 64
-  value_narrow i sound t l =
-      let fits = value_fits i sound t l in
-      let most : 2 ^ slice_index widths i.target ≤ 2 ^ 64 = pow_mono sound.narrow in
-      omega (arith, fits, most)
+  -- and a lane of no fewer bits
+  pub value_narrow : (bits : ℕ) (i : Instruction) → IsSound widths i → slice_index widths i.target ≤ bits → (t : ℕ) → t < count → right_value (λ n. slice_index widths n) (λ _ _. 0) (value_at rows t) i.right < 2 ^ bits
+  value_narrow bits i sound narrow t l = below (right_value (λ n. slice_index widths n) (λ _ _. 0) (value_at rows t) i.right) (slice_index widths i.target) bits (value_fits i sound t l) narrow
 
   module _ (new : List (List ℕ)) (i : Instruction) (sound : IsSound widths i) (size : length new ≡ length rows) (row : List ℕ) (long : length row ≡ count)
       (here : slice_index_or new i.target [] ≡ row) (others : (n : ℕ) → n ≢ i.target → slice_index_or new n [] ≡ slice_index_or rows n [])
@@ -109,3 +141,7 @@ module _ (widths : List ℕ) (count : ℕ) (rows : List (List ℕ)) (are : AreRo
             let it : i ≡ j = same_Some i j (sym at ∙ ap (λ n. slice_get code n) (sym same) ∙ there) in
             subst (λ (x : Instruction). value_at new t x.target ≡ right_value (λ n. slice_index widths n) (λ _ _. 0) (value_at rows t) x.right) it (value_here t l)
             ∙ sym (right_local (value_at new t) (value_at rows t) (λ n. slice_index widths n) (λ _ _. 0) j.right (λ n c. value_other t n (reads_none (omega (arith, same)) n c)))
+
+-- rows that stay in their lanes
+pub lanes_on : (widths : List ℕ) (old new : List Row) → length new ≡ length old → map row_bits new ≡ map row_bits old → InLanes widths old → InLanes widths new
+lanes_on widths old new size same lanes n l = subst (λ (bits : List ℕ). slice_index widths n ≤ slice_index bits n) (sym same) (lanes n (omega (arith, l, size)))

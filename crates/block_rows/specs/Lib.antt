@@ -2,3 +2,5 @@ pub mod Code
 pub mod Rights
 pub mod Rows
 pub mod Seen
+pub mod LaneSizes
+pub mod Values

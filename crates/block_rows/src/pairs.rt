@@ -1,25 +1,26 @@
 // Rows from two rows, clock by clock.
 
-ghost use Rattle.std.specs.Prelude.{◌≡◌, ℕ, ◌+◌, ◌-◌, ◌*◌, ◌/◌, ◌%◌, ◌^◌, ◌<◌, ◌≤◌, length, slice_index, bit_and, bit_or, bit_xor, if◌then◌else◌, ◌==◌, nat_lt, IfSome};
+ghost use Rattle.std.specs.Prelude.{◌≡◌, ℕ, ◌+◌, ◌-◌, ◌*◌, ◌/◌, ◌%◌, ◌^◌, ◌<◌, ◌≤◌, length, map, slice_index, bit_and, bit_or, bit_xor, if◌then◌else◌, ◌==◌, nat_lt, IfSome};
 ghost use Rattle.wiring.specs.Rights.{operator_value};
 ghost use Rattle.block_rows.specs.Rows.{IsPairRow, IsSingleRow};
 
-use crate::singles::{Single, Whole, chosen, single_row};
-use wiring::{Operator, limit};
+use crate::lanes::Lane;
+use crate::singles::{Single, Whole, chosen, mask_of, single_row};
+use wiring::Operator;
 
 // What is made of two numbers in a clock.
-trait Pair {
+trait Pair<L: Lane> {
     ghost value: { Self → ℕ → ℕ → ℕ };
 
-    fn of(&self, a: u64, b: u64) -> u64
-        ensures { result ≡ value self.now a b };
+    fn of(&self, a: L, b: L) -> L
+        ensures { L.value result ≡ value self.now (L.value a) (L.value b) };
 }
 
-fn pair_row<P: Pair>(pair: &P, to: &mut [u64], a: &[u64], b: &[u64])
+fn pair_row<L: Lane, P: Pair<L>>(pair: &P, to: &mut [L], a: &[L], b: &[L])
     requires a { length a.now ≡ length to.old }
     requires b { length b.now ≡ length to.old }
     ensures count { length to.new ≡ length to.old }
-    ensures each { IsPairRow (P.value pair.now) to.new a.now b.now }
+    ensures each { IsPairRow (P.value pair.now) (map L.value to.new) (map L.value a.now) (map L.value b.now) }
 {
     for t in 0..to.len() {
         to[t] = pair.of(a[t], b[t]);
@@ -27,111 +28,111 @@ fn pair_row<P: Pair>(pair: &P, to: &mut [u64], a: &[u64], b: &[u64])
 }
 
 #[derive(Clone, Copy)]
-struct Sum {
-    mask: u64,
+struct Sum<L> {
+    mask: L,
 }
 
-impl Pair for Sum {
-    ghost value = { λ s a b. bit_and ((a + b) % 2 ^ 64) s.mask };
+impl<L: Lane> Pair<L> for Sum<L> {
+    ghost value = { λ s a b. bit_and ((a + b) % 2 ^ L.bits) (L.value s.mask) };
 
-    fn of(&self, a: u64, b: u64) -> u64 {
-        a.wrapping_add(b) & self.mask
+    fn of(&self, a: L, b: L) -> L {
+        a.sum(b).both(self.mask)
     }
 }
 
 #[derive(Clone, Copy)]
-struct Difference {
-    mask: u64,
+struct Difference<L> {
+    mask: L,
 }
 
-impl Pair for Difference {
-    ghost value = { λ s a b. if nat_lt s.mask (b - a) then 0 else bit_and ((a + 2 ^ 64 - b) % 2 ^ 64) s.mask };
+impl<L: Lane> Pair<L> for Difference<L> {
+    ghost value = { λ s a b. if nat_lt (L.value s.mask) (b - a) then 0 else bit_and ((a + 2 ^ L.bits - b) % 2 ^ L.bits) (L.value s.mask) };
 
-    fn of(&self, a: u64, b: u64) -> u64 {
-        if b.saturating_sub(a) > self.mask {
-            0
+    fn of(&self, a: L, b: L) -> L {
+        if self.mask.is_below(b.excess(a)) {
+            L::bit(false)
         } else {
-            a.wrapping_sub(b) & self.mask
+            a.difference(b).both(self.mask)
         }
     }
 }
 
 #[derive(Clone, Copy)]
-struct Product {
-    mask: u64,
+struct Product<L> {
+    mask: L,
 }
 
-impl Pair for Product {
-    ghost value = { λ s a b. bit_and (a * b % 2 ^ 64) s.mask };
+impl<L: Lane> Pair<L> for Product<L> {
+    ghost value = { λ s a b. bit_and (a * b % 2 ^ L.bits) (L.value s.mask) };
 
-    fn of(&self, a: u64, b: u64) -> u64 {
-        a.wrapping_mul(b) & self.mask
+    fn of(&self, a: L, b: L) -> L {
+        a.product(b).both(self.mask)
     }
 }
 
 #[derive(Clone, Copy)]
 struct Quotient;
 
-impl Pair for Quotient {
+impl<L: Lane> Pair<L> for Quotient {
     ghost value = { λ _ a b. a / b };
 
-    fn of(&self, a: u64, b: u64) -> u64 {
-        if b == 0 { 0 } else { a / b }
+    fn of(&self, a: L, b: L) -> L {
+        a.quotient(b)
     }
 }
 
 #[derive(Clone, Copy)]
 struct Below;
 
-impl Pair for Below {
+impl<L: Lane> Pair<L> for Below {
     ghost value = { λ _ a b. if nat_lt a b then 1 else 0 };
 
-    fn of(&self, a: u64, b: u64) -> u64 {
-        u64::from(a < b)
+    fn of(&self, a: L, b: L) -> L {
+        L::bit(a.is_below(b))
     }
 }
 
 #[derive(Clone, Copy)]
 struct Same;
 
-impl Pair for Same {
+impl<L: Lane> Pair<L> for Same {
     ghost value = { λ _ a b. if a == b then 1 else 0 };
 
-    fn of(&self, a: u64, b: u64) -> u64 {
-        u64::from(a == b)
+    fn of(&self, a: L, b: L) -> L {
+        L::bit(a.is_same(b))
     }
 }
 
 #[derive(Clone, Copy)]
 struct Both;
 
-impl Pair for Both {
+impl<L: Lane> Pair<L> for Both {
     ghost value = { λ _ a b. bit_and a b };
 
-    fn of(&self, a: u64, b: u64) -> u64 {
-        a & b
+    fn of(&self, a: L, b: L) -> L {
+        a.both(b)
     }
 }
 
 #[derive(Clone, Copy)]
 struct Either;
 
-impl Pair for Either {
+impl<L: Lane> Pair<L> for Either {
     ghost value = { λ _ a b. bit_or a b };
 
-    fn of(&self, a: u64, b: u64) -> u64 {
-        a | b
+    fn of(&self, a: L, b: L) -> L {
+        a.either(b)
     }
 }
 
 #[derive(Clone, Copy)]
 struct Apart;
 
-impl Pair for Apart {
+impl<L: Lane> Pair<L> for Apart {
     ghost value = { λ _ a b. bit_xor a b };
 
-    fn of(&self, a: u64, b: u64) -> u64 {
-        a ^ b
+    fn of(&self, a: L, b: L) -> L {
+        a.apart(b)
     }
 }
 
@@ -140,123 +141,123 @@ struct Above {
     width: u8,
 }
 
-impl Pair for Above {
-    ghost value = { λ s a b. (a * 2 ^ (s.width % 64) % 2 ^ 64 + b) % 2 ^ 64 };
+impl<L: Lane> Pair<L> for Above {
+    ghost value = { λ s a b. (a * 2 ^ (s.width % L.bits) % 2 ^ L.bits + b) % 2 ^ L.bits };
 
-    fn of(&self, a: u64, b: u64) -> u64 {
-        (a << (self.width % 64)).wrapping_add(b)
+    fn of(&self, a: L, b: L) -> L {
+        a.up(self.width).sum(b)
     }
 }
 
 #[derive(Clone, Copy)]
 struct Second;
 
-// A number above one of some bits, fewer than 64.
-#[derive(Clone, Copy)]
-struct Under {
-    number: u64,
-    width: u8,
-}
+impl<L: Lane> Pair<L> for Second {
+    ghost value = { λ _ _ b. b };
 
-impl Single for Under {
-    ghost value = { λ s b. (s.number * 2 ^ (s.width % 64) % 2 ^ 64 + b) % 2 ^ 64 };
-
-    fn of(&self, b: u64) -> u64 {
-        (self.number << (self.width % 64)).wrapping_add(b)
+    fn of(&self, _a: L, b: L) -> L {
+        b
     }
 }
 
-impl Pair for Second {
-    ghost value = { λ _ _ b. b };
+// A number above one of some bits, fewer than a lane has.
+#[derive(Clone, Copy)]
+struct Under<L> {
+    number: L,
+    width: u8,
+}
 
-    fn of(&self, _a: u64, b: u64) -> u64 {
-        b
+impl<L: Lane> Single<L> for Under<L> {
+    ghost value = { λ s b. (L.value s.number * 2 ^ (s.width % L.bits) % 2 ^ L.bits + b) % 2 ^ L.bits };
+
+    fn of(&self, b: L) -> L {
+        self.number.up(self.width).sum(b)
     }
 }
 
 // A pair whose second number is the same in all clocks.
 #[derive(Clone, Copy)]
-struct With<P> {
+struct With<P, L> {
     pair: P,
-    second: u64,
+    second: L,
 }
 
-impl<P: Pair + Copy> Single for With<P> {
-    ghost value = { λ s a. P.value s.pair a s.second };
+impl<L: Lane, P: Pair<L> + Copy> Single<L> for With<P, L> {
+    ghost value = { λ s a. P.value s.pair a (L.value s.second) };
 
-    fn of(&self, a: u64) -> u64 {
+    fn of(&self, a: L) -> L {
         self.pair.of(a, self.second)
     }
 }
 
 // A row with a number, clock by clock.
-fn with_number<P: Pair + Copy>(pair: P, second: u64, to: &mut [u64], a: &[u64])
+fn with_number<L: Lane, P: Pair<L> + Copy>(pair: P, second: L, to: &mut [L], a: &[L])
     requires a { length a.now ≡ length to.old }
     ensures count { length to.new ≡ length to.old }
-    ensures each { IsSingleRow (λ x. P.value pair x second) to.new a.now }
+    ensures each { IsSingleRow (λ x. P.value pair x (L.value second)) (map L.value to.new) (map L.value a.now) }
 {
     single_row(&With { pair, second }, to, a);
 }
 
 // By the first number, a bit: the same number where it is 1, else the second one.
 #[derive(Clone, Copy)]
-struct On {
-    number: u64,
+struct On<L> {
+    number: L,
 }
 
-impl Pair for On {
-    ghost value = { λ s bit off. if bit == 1 then s.number else off };
+impl<L: Lane> Pair<L> for On<L> {
+    ghost value = { λ s bit off. if bit == 1 then L.value s.number else off };
 
-    fn of(&self, bit: u64, off: u64) -> u64 {
+    fn of(&self, bit: L, off: L) -> L {
         chosen(bit, self.number, off)
     }
 }
 
 // The second number where the first one, a bit, is 1, else the same number.
 #[derive(Clone, Copy)]
-struct Off {
-    number: u64,
+struct Off<L> {
+    number: L,
 }
 
-impl Pair for Off {
-    ghost value = { λ s bit on. if bit == 1 then on else s.number };
+impl<L: Lane> Pair<L> for Off<L> {
+    ghost value = { λ s bit on. if bit == 1 then on else L.value s.number };
 
-    fn of(&self, bit: u64, on: u64) -> u64 {
+    fn of(&self, bit: L, on: L) -> L {
         chosen(bit, on, self.number)
     }
 }
 
 // By a bit the same number, or else that of a row.
-pub(crate) fn choose_number_row(to: &mut [u64], bit: &[u64], number: u64, off: &[u64])
+pub(crate) fn choose_number_row<L: Lane>(to: &mut [L], bit: &[L], number: L, off: &[L])
     requires bit { length bit.now ≡ length to.old }
     requires off { length off.now ≡ length to.old }
     ensures count { length to.new ≡ length to.old }
-    ensures each { (t : ℕ) → t < length to.new → slice_index to.new t ≡ (if slice_index bit.now t == 1 then number else slice_index off.now t) }
+    ensures each { (t : ℕ) → t < length to.new → slice_index (map L.value to.new) t ≡ (if slice_index (map L.value bit.now) t == 1 then L.value number else slice_index (map L.value off.now) t) }
 {
     pair_row(&On { number }, to, bit, off);
 }
 
 // By a bit the number of a row, or else the same one.
-pub(crate) fn choose_or_number_row(to: &mut [u64], bit: &[u64], on: &[u64], number: u64)
+pub(crate) fn choose_or_number_row<L: Lane>(to: &mut [L], bit: &[L], on: &[L], number: L)
     requires bit { length bit.now ≡ length to.old }
     requires on { length on.now ≡ length to.old }
     ensures count { length to.new ≡ length to.old }
-    ensures each { (t : ℕ) → t < length to.new → slice_index to.new t ≡ (if slice_index bit.now t == 1 then slice_index on.now t else number) }
+    ensures each { (t : ℕ) → t < length to.new → slice_index (map L.value to.new) t ≡ (if slice_index (map L.value bit.now) t == 1 then slice_index (map L.value on.now) t else L.value number) }
 {
     pair_row(&Off { number }, to, bit, on);
 }
 
 // A row above another one of some bits.
 #[tactic(auto, using(crate::proofs::Masks::above_is, crate::proofs::Masks::alone_is))]
-pub fn join_row(width: u8, to: &mut [u64], a: &[u64], b: &[u64])
-    requires narrow { width ≤ 64 }
+pub fn join_row<L: Lane>(width: u8, to: &mut [L], a: &[L], b: &[L])
+    requires narrow { width ≤ L.bits }
     requires a { length a.now ≡ length to.old }
     requires b { length b.now ≡ length to.old }
-    requires fits { (t : ℕ) → t < length to.old → slice_index a.now t * 2 ^ width + slice_index b.now t < 2 ^ 64 }
+    requires fits { (t : ℕ) → t < length to.old → slice_index (map L.value a.now) t * 2 ^ width + slice_index (map L.value b.now) t < 2 ^ L.bits }
     ensures count { length to.new ≡ length to.old }
-    ensures each { (t : ℕ) → t < length to.new → slice_index to.new t ≡ slice_index a.now t * 2 ^ width + slice_index b.now t }
+    ensures each { (t : ℕ) → t < length to.new → slice_index (map L.value to.new) t ≡ slice_index (map L.value a.now) t * 2 ^ width + slice_index (map L.value b.now) t }
 {
-    if width < 64 {
+    if width < L::bits() {
         pair_row(&Above { width }, to, a, b);
     } else {
         pair_row(&Second, to, a, b);
@@ -265,14 +266,14 @@ pub fn join_row(width: u8, to: &mut [u64], a: &[u64], b: &[u64])
 
 // A number above each one of a row of some bits.
 #[tactic(auto, using(crate::proofs::Masks::above_is, crate::proofs::Masks::alone_is))]
-pub(crate) fn join_number_row(width: u8, to: &mut [u64], number: u64, b: &[u64])
-    requires narrow { width ≤ 64 }
+pub(crate) fn join_number_row<L: Lane>(width: u8, to: &mut [L], number: L, b: &[L])
+    requires narrow { width ≤ L.bits }
     requires b { length b.now ≡ length to.old }
-    requires fits { (t : ℕ) → t < length to.old → number * 2 ^ width + slice_index b.now t < 2 ^ 64 }
+    requires fits { (t : ℕ) → t < length to.old → L.value number * 2 ^ width + slice_index (map L.value b.now) t < 2 ^ L.bits }
     ensures count { length to.new ≡ length to.old }
-    ensures each { (t : ℕ) → t < length to.new → slice_index to.new t ≡ number * 2 ^ width + slice_index b.now t }
+    ensures each { (t : ℕ) → t < length to.new → slice_index (map L.value to.new) t ≡ L.value number * 2 ^ width + slice_index (map L.value b.now) t }
 {
-    if width < 64 {
+    if width < L::bits() {
         single_row(&Under { number, width }, to, b);
     } else {
         single_row(&Whole, to, b);
@@ -282,20 +283,20 @@ pub(crate) fn join_number_row(width: u8, to: &mut [u64], number: u64, b: &[u64])
 // A quotient by a power of two, as a shift, of which LLVM makes vector code, as it does not of a division.
 #[derive(Clone, Copy)]
 struct Shifted {
-    by: u32,
+    by: u8,
 }
 
-impl Single for Shifted {
-    ghost value = { λ s a. a / 2 ^ (s.by % 64) };
+impl<L: Lane> Single<L> for Shifted {
+    ghost value = { λ s a. a / 2 ^ (s.by % L.bits) };
 
-    fn of(&self, a: u64) -> u64 {
-        a >> (self.by % 64)
+    fn of(&self, a: L) -> L {
+        a.down(self.by)
     }
 }
 
 // The power of two that a number is, if it is one.
 #[tactic(auto, using(crate::proofs::Masks::one_shifted))]
-fn power_of(number: u64) -> Option<u32>
+fn power_of(number: u64) -> Option<u8>
     ensures { IfSome result (λ k. (k < 64) × (number ≡ 2 ^ k)) }
 {
     let power = number.trailing_zeros();
@@ -303,7 +304,7 @@ fn power_of(number: u64) -> Option<u32>
         return None;
     }
     if 1 << power == number {
-        Some(power)
+        Some(power as u8)
     } else {
         None
     }
@@ -311,25 +312,31 @@ fn power_of(number: u64) -> Option<u32>
 
 // A row divided by a number.
 #[tactic(auto, using(crate::proofs::Masks::shifted_quotient))]
-fn divide_row(to: &mut [u64], a: &[u64], divisor: u64)
+fn divide_row<L: Lane>(to: &mut [L], a: &[L], divisor: L)
     requires a { length a.now ≡ length to.old }
     ensures count { length to.new ≡ length to.old }
-    ensures each { IsSingleRow (λ x. x / divisor) to.new a.now }
+    ensures each { IsSingleRow (λ x. x / L.value divisor) (map L.value to.new) (map L.value a.now) }
 {
-    match power_of(divisor) {
+    match power_of(divisor.word()) {
         Some(by) => single_row(&Shifted { by }, to, a),
         None => with_number(Quotient, divisor, to, a),
     }
 }
 
 // A row under an operator with a number.
-pub(crate) fn operator_number_row(op: Operator, width: u8, to: &mut [u64], a: &[u64], second: u64)
-    requires narrow { width ≤ 64 }
+pub(crate) fn operator_number_row<L: Lane>(
+    op: Operator,
+    width: u8,
+    to: &mut [L],
+    a: &[L],
+    second: L,
+)
+    requires narrow { width ≤ L.bits }
     requires a { length a.now ≡ length to.old }
     ensures count { length to.new ≡ length to.old }
-    ensures each { IsSingleRow (λ x. operator_value op width x second) to.new a.now }
+    ensures each { IsSingleRow (λ x. operator_value op width x (L.value second)) (map L.value to.new) (map L.value a.now) }
 {
-    let mask = (limit(width) - 1) as u64;
+    let mask = mask_of(width);
     match op {
         Operator::Add => with_number(Sum { mask }, second, to, a),
         Operator::Subtract => with_number(Difference { mask }, second, to, a),
@@ -344,14 +351,14 @@ pub(crate) fn operator_number_row(op: Operator, width: u8, to: &mut [u64], a: &[
 }
 
 /// A row from two rows under an operator.
-pub fn operator_row(op: Operator, width: u8, to: &mut [u64], a: &[u64], b: &[u64])
-    requires narrow { width ≤ 64 }
+pub fn operator_row<L: Lane>(op: Operator, width: u8, to: &mut [L], a: &[L], b: &[L])
+    requires narrow { width ≤ L.bits }
     requires a { length a.now ≡ length to.old }
     requires b { length b.now ≡ length to.old }
     ensures count { length to.new ≡ length to.old }
-    ensures each { IsPairRow (operator_value op width) to.new a.now b.now }
+    ensures each { IsPairRow (operator_value op width) (map L.value to.new) (map L.value a.now) (map L.value b.now) }
 {
-    let mask = (limit(width) - 1) as u64;
+    let mask = mask_of(width);
     match op {
         Operator::Add => pair_row(&Sum { mask }, to, a, b),
         Operator::Subtract => pair_row(&Difference { mask }, to, a, b),

@@ -1,35 +1,40 @@
 // The rows of right sides over slots.
 
-ghost use Rattle.std.specs.Prelude.{◌≡◌, ℕ, ◌+◌, ◌-◌, ◌*◌, ◌/◌, ◌%◌, ◌^◌, ◌<◌, ◌≤◌, [], None, length, IfOk, slice_index, slice_index_or, if◌then◌else◌, ◌==◌};
+ghost use Rattle.std.specs.Prelude.{◌≡◌, ℕ, ◌+◌, ◌-◌, ◌*◌, ◌/◌, ◌%◌, ◌^◌, ◌<◌, ◌≤◌, [], None, length, map, IfOk, IfSome, IfNone, slice_index, slice_index_or, if◌then◌else◌, ◌==◌};
 ghost use Rattle.wiring.specs.Rights.{array_of, atom_width, atom_value, operator_value, repeated, right_value};
 ghost use Rattle.wiring.specs.Rules.{WidthsAgree};
 ghost use Rattle.wiring.specs.declared.right.Atom.TheVariants as AtomVariants;
-ghost use Rattle.block_rows.specs.Rights.{items_of, value_at, HasRow, HaveRows, StandsFor, IsAtomRow, IsRightRow, HaveRoom};
+ghost use Rattle.block_rows.specs.Rights.{value_at, HasRow, IsOperand, AreOperands, IsAtomRow, IsRightRow, HaveRoom};
+ghost use Rattle.block_rows.specs.Values.{numbers_in, row_values, values_of};
 
+use crate::lanes::Lane;
 use crate::pairs::{
     choose_number_row, choose_or_number_row, join_number_row, join_row, operator_number_row,
     operator_row,
 };
-use crate::singles::{Part, Turned, Whole, choose_row, constant_row, repeat_row, single_row};
+use crate::row::{Numbers, Row, copy_words, first_numbers, first_of, widen_row};
+use crate::singles::{
+    Part, Turned, Whole, choose_row, constant_row, lane_of, mask_of, repeat_row, single_row,
+};
 use std::alloc::{AllocError, Global};
-use wiring::{Atom, Operator, Right, Width, limit};
+use wiring::{Atom, Operator, Right, Width};
 
-/// Room for the rows of the constants of a right side.
+/// Room for the rows of the operands of a right side that are in no row of this lane: constants, and slots of other lanes.
 #[derive(Debug, Drop)]
-pub struct Spares {
-    pub(crate) first: Vec<u64>,
-    pub(crate) second: Vec<u64>,
-    pub(crate) third: Vec<u64>,
+pub struct Spares<L> {
+    pub(crate) first: Vec<L>,
+    pub(crate) second: Vec<L>,
+    pub(crate) third: Vec<L>,
 }
 
-impl Spares {
+impl<L: Lane> Spares<L> {
     /// Room for rows of this many clocks.
-    pub fn new(alloc: Global, count: usize) -> Result<Spares, AllocError>
+    pub fn new(alloc: Global, count: usize) -> Result<Spares<L>, AllocError>
         ensures { IfOk result (λ s. HaveRoom s count) }
     {
-        let first = vec![in alloc; 0; count]?;
-        let second = vec![in alloc; 0; count]?;
-        let third = vec![in alloc; 0; count]?;
+        let first = vec![in alloc; L::cut(0); count]?;
+        let second = vec![in alloc; L::cut(0); count]?;
+        let third = vec![in alloc; L::cut(0); count]?;
         Ok(Spares {
             first,
             second,
@@ -38,7 +43,7 @@ impl Spares {
     }
 }
 
-fn slot_width(widths: &[Width], slot: usize) -> u8
+pub(crate) fn slot_width(widths: &[Width], slot: usize) -> u8
     ensures width { result ≡ slice_index widths.now slot }
     ensures narrow { result ≤ 64 }
 {
@@ -48,7 +53,7 @@ fn slot_width(widths: &[Width], slot: usize) -> u8
     }
 }
 
-fn width_of(widths: &[Width], a: &Atom<usize>) -> u8
+pub(crate) fn width_of(widths: &[Width], a: &Atom<usize>) -> u8
     ensures width { result ≡ atom_width (λ n. slice_index widths.now n) a.now }
     ensures narrow { result ≤ 64 }
 {
@@ -58,207 +63,326 @@ fn width_of(widths: &[Width], a: &Atom<usize>) -> u8
     }
 }
 
-/// Fills a spare row for an atom, if it is a constant.
-pub fn note_constant(spare: &mut [u64], a: &Atom<usize>)
-    ensures count { length spare.new ≡ length spare.old }
-    ensures each { (t : ℕ) → t < length spare.new → StandsFor a.now (slice_index spare.new t) }
-{
-    match a {
-        Atom::Net(_) => {}
-        Atom::Constant(c) => constant_row(spare, c.value()),
-    }
-}
-
-fn first_of(row: &[u64], count: usize) -> &[u64]
-    requires { count ≤ length row.now }
-    ensures count { length result.now ≡ count }
-    ensures each { (t : ℕ) → t < count → slice_index result.now t ≡ slice_index row.now t }
-{
-    &row[..count]
-}
-
-fn row_at(rows: &[Vec<u64>], slot: usize) -> &[u64]
+fn row_at(rows: &[Row], slot: usize) -> &Row
     requires { slot < length rows.now }
-    ensures { result.now ≡ slice_index_or (items_of rows.now) slot [] }
+    ensures { row_values result.now ≡ slice_index_or (values_of rows.now) slot [] }
 {
     &rows[slot]
 }
 
-/// The row of an atom: that of its slot, or that of its constant.
-pub fn atom_row<'a>(
-    rows: &'a [Vec<u64>],
-    spare: &'a [u64],
-    a: &Atom<usize>,
-    count: usize,
-) -> &'a [u64]
-    requires long { HasRow (items_of rows.now) count a.now }
-    requires room { count ≤ length spare.now }
-    requires spare { (t : ℕ) → t < length spare.now → StandsFor a.now (slice_index spare.now t) }
-    ensures count { length result.now ≡ count }
-    ensures row { IsAtomRow (items_of rows.now) a.now count result.now }
+// The row of an atom, if it is one in this lane.
+fn own_row<'a, L: Lane>(rows: &'a [Row], a: &Atom<usize>, count: usize) -> Option<&'a [L]>
+    requires a { IsOperand L.bits (values_of rows.now) count a.now }
+    ensures count { IfSome result (λ r. length r.now ≡ count) }
+    ensures row { IfSome result (λ r. IsAtomRow (values_of rows.now) a.now count (map L.value r.now)) }
 {
     match a {
-        Atom::Net(n) => first_of(row_at(rows, *n), count),
-        Atom::Constant(_) => first_of(spare, count),
+        Atom::Net(n) => match L::of_row(row_at(rows, *n)) {
+            Some(row) => Some(first_of(row, count)),
+            None => None,
+        },
+        Atom::Constant(_) => None,
     }
 }
 
-fn copy_row(rows: &[Vec<u64>], spare: &mut [u64], a: &Atom<usize>, to: &mut [u64])
-    requires long { HasRow (items_of rows.now) (length to.old) a.now }
+// A row becomes that of an atom.
+fn fill_atom<L: Lane>(rows: &[Row], to: &mut [L], a: &Atom<usize>)
+    requires a { IsOperand L.bits (values_of rows.now) (length to.old) a.now }
+    ensures count { length to.new ≡ length to.old }
+    ensures row { IsAtomRow (values_of rows.now) a.now (length to.old) (map L.value to.new) }
+{
+    match a {
+        Atom::Net(n) => widen_row(to, row_at(rows, *n)),
+        Atom::Constant(c) => constant_row(to, L::cut(c.value())),
+    }
+}
+
+// A row of words becomes that of an atom.
+fn fill_words(rows: &[Row], to: &mut [u64], a: &Atom<usize>)
+    requires a { HasRow (values_of rows.now) (length to.old) a.now }
+    ensures count { length to.new ≡ length to.old }
+    ensures row { IsAtomRow (values_of rows.now) a.now (length to.old) to.new }
+{
+    match a {
+        Atom::Net(n) => copy_words(to, row_at(rows, *n)),
+        Atom::Constant(c) => constant_words(to, c.value()),
+    }
+}
+
+fn constant_words(to: &mut [u64], number: u64)
+    ensures count { length to.new ≡ length to.old }
+    ensures each { (t : ℕ) → t < length to.old → slice_index to.new t ≡ number }
+{
+    for t in 0..to.len() {
+        to[t] = number;
+    }
+}
+
+/// The first words of a row become those of an atom.
+pub fn atom_words(rows: &[Row], to: &mut [u64], a: &Atom<usize>, count: usize)
+    requires a { HasRow (values_of rows.now) count a.now }
+    requires room { count ≤ length to.old }
+    ensures count { length to.new ≡ length to.old }
+    ensures row { IsAtomRow (values_of rows.now) a.now count to.new }
+{
+    fill_words(rows, to.split_at_mut(count).0, a);
+}
+
+/// The slot whose own row serves as that of an atom, if it is to; where there is none, the first words of a spare row become those
+/// of the atom.
+pub fn note_words(
+    rows: &[Row],
+    spare: &mut Vec<u64>,
+    a: &Atom<usize>,
+    own: bool,
+    count: usize,
+) -> Option<usize>
+    requires a { HasRow (values_of rows.now) count a.now }
+    requires room { count ≤ length spare.old.items }
+    ensures spare { length spare.new.items ≡ length spare.old.items }
+    ensures own { IfSome result (λ n. a.now ≡ AtomVariants.Net n) }
+    ensures filled { IfNone result (IsAtomRow (values_of rows.now) a.now count spare.new.items) }
+{
+    if own {
+        if let Atom::Net(n) = a {
+            return Some(*n);
+        }
+    }
+    atom_words(rows, spare, a, count);
+    None
+}
+
+/// The numbers of an atom: those of its own row, or a spare row's.
+pub fn atom_numbers<'a>(
+    rows: &'a [Row],
+    own: Option<usize>,
+    spare: &'a [u64],
+    a: &Atom<usize>,
+    count: usize,
+) -> Numbers<'a>
+    requires a { HasRow (values_of rows.now) count a.now }
+    requires room { count ≤ length spare.now }
+    requires own { IfSome own (λ n. a.now ≡ AtomVariants.Net n) }
+    requires filled { IfNone own (IsAtomRow (values_of rows.now) a.now count spare.now) }
+    ensures count { length (numbers_in result) ≡ count }
+    ensures row { IsAtomRow (values_of rows.now) a.now count (numbers_in result) }
+{
+    let _atom = a;
+    match own {
+        Some(slot) => first_numbers(row_at(rows, slot), count),
+        None => Numbers::Wide(first_of(spare, count)),
+    }
+}
+
+/// Where an atom has no row in this lane, a spare row becomes its row.
+#[tactic(auto, using(crate::proofs::LaneRows::first_part))]
+pub fn note_atom<'a, L: Lane>(
+    rows: &'a [Row],
+    spare: &mut [L],
+    a: &Atom<usize>,
+    count: usize,
+) -> Option<&'a [L]>
+    requires a { IsOperand L.bits (values_of rows.now) count a.now }
+    requires room { count ≤ length spare.old }
+    ensures spare { length spare.new ≡ length spare.old }
+    ensures count { IfSome result (λ r. length r.now ≡ count) }
+    ensures own { IfSome result (λ r. IsAtomRow (values_of rows.now) a.now count (map L.value r.now)) }
+    ensures filled { IfNone result (IsAtomRow (values_of rows.now) a.now count (map L.value spare.new)) }
+{
+    match own_row(rows, a, count) {
+        Some(row) => Some(row),
+        None => {
+            fill_atom(rows, spare.split_at_mut(count).0, a);
+            None
+        }
+    }
+}
+
+/// The row of an atom: its own one, or the spare row.
+pub fn atom_row<'a, L: Lane>(
+    rows: &'a [Row],
+    own: Option<&'a [L]>,
+    spare: &'a [L],
+    a: &Atom<usize>,
+    count: usize,
+) -> &'a [L]
+    requires room { count ≤ length spare.now }
+    requires count { IfSome own (λ r. length r.now ≡ count) }
+    requires own { IfSome own (λ r. IsAtomRow (values_of rows.now) a.now count (map L.value r.now)) }
+    requires filled { IfNone own (IsAtomRow (values_of rows.now) a.now count (map L.value spare.now)) }
+    ensures count { length result.now ≡ count }
+    ensures row { IsAtomRow (values_of rows.now) a.now count (map L.value result.now) }
+{
+    let _rows = rows;
+    let _atom = a;
+    match own {
+        Some(row) => row,
+        None => first_of(spare, count),
+    }
+}
+
+fn copy_row<L: Lane>(rows: &[Row], spare: &mut [L], a: &Atom<usize>, to: &mut [L])
+    requires a { IsOperand L.bits (values_of rows.now) (length to.old) a.now }
     requires room { length to.old ≤ length spare.old }
     ensures spare { length spare.new ≡ length spare.old }
     ensures count { length to.new ≡ length to.old }
-    ensures row { IsAtomRow (items_of rows.now) a.now (length to.new) to.new }
+    ensures row { IsAtomRow (values_of rows.now) a.now (length to.new) (map L.value to.new) }
 {
     let count = to.len();
-    note_constant(spare, a);
-    let a = atom_row(rows, spare, a, count);
+    let own = note_atom(rows, spare, a, count);
+    let a = atom_row(rows, own, spare, a, count);
     single_row(&Whole, to, a);
 }
 
-fn not_row(widths: &[Width], rows: &[Vec<u64>], spare: &mut [u64], a: &Atom<usize>, to: &mut [u64])
-    requires long { HasRow (items_of rows.now) (length to.old) a.now }
+fn not_row<L: Lane>(widths: &[Width], rows: &[Row], spare: &mut [L], a: &Atom<usize>, to: &mut [L])
+    requires a { IsOperand L.bits (values_of rows.now) (length to.old) a.now }
+    requires narrow { atom_width (λ n. slice_index widths.now n) a.now ≤ L.bits }
     requires room { length to.old ≤ length spare.old }
     ensures spare { length spare.new ≡ length spare.old }
     ensures count { length to.new ≡ length to.old }
     ensures row { (t : ℕ) → t < length to.new
-        → slice_index to.new t ≡ 2 ^ atom_width (λ n. slice_index widths.now n) a.now - 1 - atom_value (value_at (items_of rows.now) t) a.now }
+        → slice_index (map L.value to.new) t ≡ 2 ^ atom_width (λ n. slice_index widths.now n) a.now - 1 - atom_value (value_at (values_of rows.now) t) a.now }
 {
     let count = to.len();
-    let mask = (limit(width_of(widths, a)) - 1) as u64;
-    note_constant(spare, a);
-    let a = atom_row(rows, spare, a, count);
+    let mask = mask_of(width_of(widths, a));
+    let own = note_atom(rows, spare, a, count);
+    let a = atom_row(rows, own, spare, a, count);
     single_row(&Turned { mask }, to, a);
 }
 
 // The row of an atom under an operator with a number.
-fn binary_number_row(
+fn binary_number_row<L: Lane>(
     widths: &[Width],
-    rows: &[Vec<u64>],
-    spare: &mut [u64],
+    rows: &[Row],
+    spare: &mut [L],
     op: Operator,
     a: &Atom<usize>,
     number: u64,
-    to: &mut [u64],
+    to: &mut [L],
 )
-    requires long { HasRow (items_of rows.now) (length to.old) a.now }
+    requires a { IsOperand L.bits (values_of rows.now) (length to.old) a.now }
+    requires narrow { atom_width (λ n. slice_index widths.now n) a.now ≤ L.bits }
+    requires number { number < 2 ^ L.bits }
     requires room { length to.old ≤ length spare.old }
     ensures spare { length spare.new ≡ length spare.old }
     ensures count { length to.new ≡ length to.old }
     ensures row { (t : ℕ) → t < length to.new
-        → slice_index to.new t
-        ≡ operator_value op (atom_width (λ n. slice_index widths.now n) a.now) (atom_value (value_at (items_of rows.now) t) a.now) number }
+        → slice_index (map L.value to.new) t
+        ≡ operator_value op (atom_width (λ n. slice_index widths.now n) a.now) (atom_value (value_at (values_of rows.now) t) a.now) number }
 {
     let count = to.len();
     let width = width_of(widths, a);
-    note_constant(spare, a);
-    let a = atom_row(rows, spare, a, count);
-    operator_number_row(op, width, to, a, number);
+    let own = note_atom(rows, spare, a, count);
+    let a = atom_row(rows, own, spare, a, count);
+    operator_number_row(op, width, to, a, lane_of(number));
 }
 
 // The row of two atoms under an operator. A constant that is second needs no row.
-fn binary_row(
+fn binary_row<L: Lane>(
     widths: &[Width],
-    rows: &[Vec<u64>],
-    spares: &mut Spares,
+    rows: &[Row],
+    spares: &mut Spares<L>,
     op: Operator,
     a: &Atom<usize>,
     b: &Atom<usize>,
-    to: &mut [u64],
+    to: &mut [L],
 )
-    requires a { HasRow (items_of rows.now) (length to.old) a.now }
-    requires b { HasRow (items_of rows.now) (length to.old) b.now }
+    requires a { IsOperand L.bits (values_of rows.now) (length to.old) a.now }
+    requires b { IsOperand L.bits (values_of rows.now) (length to.old) b.now }
+    requires narrow { atom_width (λ n. slice_index widths.now n) a.now ≤ L.bits }
     requires room { HaveRoom spares.old (length to.old) }
     ensures spares { HaveRoom spares.new (length to.old) }
     ensures count { length to.new ≡ length to.old }
     ensures row { (t : ℕ) → t < length to.new
-        → slice_index to.new t
+        → slice_index (map L.value to.new) t
         ≡ operator_value op (atom_width (λ n. slice_index widths.now n) a.now)
-        (atom_value (value_at (items_of rows.now) t) a.now) (atom_value (value_at (items_of rows.now) t) b.now) }
+        (atom_value (value_at (values_of rows.now) t) a.now) (atom_value (value_at (values_of rows.now) t) b.now) }
 {
     if let Atom::Constant(c) = b {
         return binary_number_row(widths, rows, &mut spares.first, op, a, c.value(), to);
     }
     let count = to.len();
     let width = width_of(widths, a);
-    note_constant(&mut spares.first, a);
-    note_constant(&mut spares.second, b);
-    let left = atom_row(rows, &spares.first, a, count);
-    let right = atom_row(rows, &spares.second, b, count);
+    let own_a = note_atom(rows, &mut spares.first, a, count);
+    let own_b = note_atom(rows, &mut spares.second, b, count);
+    let left = atom_row(rows, own_a, &spares.first, a, count);
+    let right = atom_row(rows, own_b, &spares.second, b, count);
     operator_row(op, width, to, left, right);
 }
 
 // At each clock a number, or else an atom, by another one.
-fn number_or_row(
-    rows: &[Vec<u64>],
-    spares: &mut Spares,
+fn number_or_row<L: Lane>(
+    rows: &[Row],
+    spares: &mut Spares<L>,
     c: &Atom<usize>,
     number: u64,
     b: &Atom<usize>,
-    to: &mut [u64],
+    to: &mut [L],
 )
-    requires c { HasRow (items_of rows.now) (length to.old) c.now }
-    requires b { HasRow (items_of rows.now) (length to.old) b.now }
+    requires c { IsOperand L.bits (values_of rows.now) (length to.old) c.now }
+    requires b { IsOperand L.bits (values_of rows.now) (length to.old) b.now }
+    requires number { number < 2 ^ L.bits }
     requires room { HaveRoom spares.old (length to.old) }
     ensures spares { HaveRoom spares.new (length to.old) }
     ensures count { length to.new ≡ length to.old }
     ensures row { (t : ℕ) → t < length to.new
-        → slice_index to.new t
-        ≡ (if atom_value (value_at (items_of rows.now) t) c.now == 1 then number else atom_value (value_at (items_of rows.now) t) b.now) }
+        → slice_index (map L.value to.new) t
+        ≡ (if atom_value (value_at (values_of rows.now) t) c.now == 1 then number else atom_value (value_at (values_of rows.now) t) b.now) }
 {
     let count = to.len();
-    note_constant(&mut spares.second, b);
-    note_constant(&mut spares.third, c);
-    let off = atom_row(rows, &spares.second, b, count);
-    let bit = atom_row(rows, &spares.third, c, count);
-    choose_number_row(to, bit, number, off);
+    let own_b = note_atom(rows, &mut spares.second, b, count);
+    let own_c = note_atom(rows, &mut spares.third, c, count);
+    let off = atom_row(rows, own_b, &spares.second, b, count);
+    let bit = atom_row(rows, own_c, &spares.third, c, count);
+    choose_number_row(to, bit, lane_of(number), off);
 }
 
 // At each clock an atom, or else a number, by another one.
-fn row_or_number(
-    rows: &[Vec<u64>],
-    spares: &mut Spares,
+fn row_or_number<L: Lane>(
+    rows: &[Row],
+    spares: &mut Spares<L>,
     c: &Atom<usize>,
     a: &Atom<usize>,
     number: u64,
-    to: &mut [u64],
+    to: &mut [L],
 )
-    requires c { HasRow (items_of rows.now) (length to.old) c.now }
-    requires a { HasRow (items_of rows.now) (length to.old) a.now }
+    requires c { IsOperand L.bits (values_of rows.now) (length to.old) c.now }
+    requires a { IsOperand L.bits (values_of rows.now) (length to.old) a.now }
+    requires number { number < 2 ^ L.bits }
     requires room { HaveRoom spares.old (length to.old) }
     ensures spares { HaveRoom spares.new (length to.old) }
     ensures count { length to.new ≡ length to.old }
     ensures row { (t : ℕ) → t < length to.new
-        → slice_index to.new t
-        ≡ (if atom_value (value_at (items_of rows.now) t) c.now == 1 then atom_value (value_at (items_of rows.now) t) a.now else number) }
+        → slice_index (map L.value to.new) t
+        ≡ (if atom_value (value_at (values_of rows.now) t) c.now == 1 then atom_value (value_at (values_of rows.now) t) a.now else number) }
 {
     let count = to.len();
-    note_constant(&mut spares.first, a);
-    note_constant(&mut spares.third, c);
-    let on = atom_row(rows, &spares.first, a, count);
-    let bit = atom_row(rows, &spares.third, c, count);
-    choose_or_number_row(to, bit, on, number);
+    let own_a = note_atom(rows, &mut spares.first, a, count);
+    let own_c = note_atom(rows, &mut spares.third, c, count);
+    let on = atom_row(rows, own_a, &spares.first, a, count);
+    let bit = atom_row(rows, own_c, &spares.third, c, count);
+    choose_or_number_row(to, bit, on, lane_of(number));
 }
 
 // At each clock one of two atoms, by a third. A constant among the two needs no row.
-fn chosen_row(
-    rows: &[Vec<u64>],
-    spares: &mut Spares,
+fn chosen_row<L: Lane>(
+    rows: &[Row],
+    spares: &mut Spares<L>,
     c: &Atom<usize>,
     a: &Atom<usize>,
     b: &Atom<usize>,
-    to: &mut [u64],
+    to: &mut [L],
 )
-    requires c { HasRow (items_of rows.now) (length to.old) c.now }
-    requires a { HasRow (items_of rows.now) (length to.old) a.now }
-    requires b { HasRow (items_of rows.now) (length to.old) b.now }
+    requires c { IsOperand L.bits (values_of rows.now) (length to.old) c.now }
+    requires a { IsOperand L.bits (values_of rows.now) (length to.old) a.now }
+    requires b { IsOperand L.bits (values_of rows.now) (length to.old) b.now }
     requires room { HaveRoom spares.old (length to.old) }
     ensures spares { HaveRoom spares.new (length to.old) }
     ensures count { length to.new ≡ length to.old }
     ensures row { (t : ℕ) → t < length to.new
-        → slice_index to.new t
-        ≡ (if atom_value (value_at (items_of rows.now) t) c.now == 1 then atom_value (value_at (items_of rows.now) t) a.now
-        else atom_value (value_at (items_of rows.now) t) b.now) }
+        → slice_index (map L.value to.new) t
+        ≡ (if atom_value (value_at (values_of rows.now) t) c.now == 1 then atom_value (value_at (values_of rows.now) t) a.now
+        else atom_value (value_at (values_of rows.now) t) b.now) }
 {
     if let Atom::Constant(number) = a {
         return number_or_row(rows, spares, c, number.value(), b, to);
@@ -267,153 +391,181 @@ fn chosen_row(
         return row_or_number(rows, spares, c, a, number.value(), to);
     }
     let count = to.len();
-    note_constant(&mut spares.first, a);
-    note_constant(&mut spares.second, b);
-    note_constant(&mut spares.third, c);
-    let left = atom_row(rows, &spares.first, a, count);
-    let right = atom_row(rows, &spares.second, b, count);
-    let bit = atom_row(rows, &spares.third, c, count);
+    let own_a = note_atom(rows, &mut spares.first, a, count);
+    let own_b = note_atom(rows, &mut spares.second, b, count);
+    let own_c = note_atom(rows, &mut spares.third, c, count);
+    let left = atom_row(rows, own_a, &spares.first, a, count);
+    let right = atom_row(rows, own_b, &spares.second, b, count);
+    let bit = atom_row(rows, own_c, &spares.third, c, count);
     choose_row(to, bit, left, right);
 }
 
 // This many bits of a slot, from a place on.
 #[tactic(auto, using(crate::proofs::Masks::part_is))]
-fn part_row(rows: &[Vec<u64>], slot: usize, from: u8, width: u8, to: &mut [u64])
-    requires row { HasRow (items_of rows.now) (length to.old) (AtomVariants.Net slot) }
-    requires from { from < 64 }
-    requires narrow { width ≤ 64 }
+fn part_row<L: Lane>(rows: &[Row], spare: &mut [L], slot: usize, from: u8, width: u8, to: &mut [L])
+    requires row { IsOperand L.bits (values_of rows.now) (length to.old) (AtomVariants.Net slot) }
+    requires room { length to.old ≤ length spare.old }
+    requires from { from < L.bits }
+    requires narrow { width ≤ L.bits }
+    ensures spare { length spare.new ≡ length spare.old }
     ensures count { length to.new ≡ length to.old }
-    ensures row { (t : ℕ) → t < length to.new → slice_index to.new t ≡ value_at (items_of rows.now) t slot / 2 ^ from % 2 ^ width }
+    ensures row { (t : ℕ) → t < length to.new → slice_index (map L.value to.new) t ≡ value_at (values_of rows.now) t slot / 2 ^ from % 2 ^ width }
 {
     let count = to.len();
-    let mask = (limit(width) - 1) as u64;
-    let row = first_of(row_at(rows, slot), count);
+    let mask = mask_of(width);
+    let net = Atom::Net(slot);
+    let own = note_atom(rows, spare, &net, count);
+    let row = atom_row(rows, own, spare, &net, count);
     single_row(&Part { from, mask }, to, row);
 }
 
 // A number above an atom.
-fn number_above_row(
+fn number_above_row<L: Lane>(
     widths: &[Width],
-    rows: &[Vec<u64>],
-    spare: &mut [u64],
+    rows: &[Row],
+    spare: &mut [L],
     number: u64,
     b: &Atom<usize>,
-    to: &mut [u64],
+    to: &mut [L],
 )
-    requires b { HasRow (items_of rows.now) (length to.old) b.now }
+    requires b { IsOperand L.bits (values_of rows.now) (length to.old) b.now }
+    requires narrow { atom_width (λ n. slice_index widths.now n) b.now ≤ L.bits }
+    requires number { number < 2 ^ L.bits }
     requires room { length to.old ≤ length spare.old }
     requires fits { (t : ℕ) → t < length to.old
-        → number * 2 ^ atom_width (λ n. slice_index widths.now n) b.now + atom_value (value_at (items_of rows.now) t) b.now < 2 ^ 64 }
+        → number * 2 ^ atom_width (λ n. slice_index widths.now n) b.now + atom_value (value_at (values_of rows.now) t) b.now < 2 ^ L.bits }
     ensures spare { length spare.new ≡ length spare.old }
     ensures count { length to.new ≡ length to.old }
     ensures row { (t : ℕ) → t < length to.new
-        → slice_index to.new t ≡ number * 2 ^ atom_width (λ n. slice_index widths.now n) b.now + atom_value (value_at (items_of rows.now) t) b.now }
+        → slice_index (map L.value to.new) t ≡ number * 2 ^ atom_width (λ n. slice_index widths.now n) b.now + atom_value (value_at (values_of rows.now) t) b.now }
 {
     let count = to.len();
     let width = width_of(widths, b);
-    note_constant(spare, b);
-    let below = atom_row(rows, spare, b, count);
-    join_number_row(width, to, number, below);
+    let own = note_atom(rows, spare, b, count);
+    let below = atom_row(rows, own, spare, b, count);
+    join_number_row(width, to, lane_of(number), below);
 }
 
 // An atom above another one. A constant that is above needs no row.
-fn joined_row(
+fn joined_row<L: Lane>(
     widths: &[Width],
-    rows: &[Vec<u64>],
-    spares: &mut Spares,
+    rows: &[Row],
+    spares: &mut Spares<L>,
     a: &Atom<usize>,
     b: &Atom<usize>,
-    to: &mut [u64],
+    to: &mut [L],
 )
-    requires a { HasRow (items_of rows.now) (length to.old) a.now }
-    requires b { HasRow (items_of rows.now) (length to.old) b.now }
+    requires a { IsOperand L.bits (values_of rows.now) (length to.old) a.now }
+    requires b { IsOperand L.bits (values_of rows.now) (length to.old) b.now }
+    requires narrow { atom_width (λ n. slice_index widths.now n) b.now ≤ L.bits }
     requires room { HaveRoom spares.old (length to.old) }
     requires fits { (t : ℕ) → t < length to.old
-        → atom_value (value_at (items_of rows.now) t) a.now * 2 ^ atom_width
-        (λ n. slice_index widths.now n) b.now + atom_value (value_at (items_of rows.now) t) b.now < 2 ^ 64 }
+        → atom_value (value_at (values_of rows.now) t) a.now * 2 ^ atom_width
+        (λ n. slice_index widths.now n) b.now + atom_value (value_at (values_of rows.now) t) b.now < 2 ^ L.bits }
     ensures spares { HaveRoom spares.new (length to.old) }
     ensures count { length to.new ≡ length to.old }
     ensures row { (t : ℕ) → t < length to.new
-        → slice_index to.new t
-        ≡ atom_value (value_at (items_of rows.now) t) a.now
-        * 2 ^ atom_width (λ n. slice_index widths.now n) b.now + atom_value (value_at (items_of rows.now) t) b.now }
+        → slice_index (map L.value to.new) t
+        ≡ atom_value (value_at (values_of rows.now) t) a.now
+        * 2 ^ atom_width (λ n. slice_index widths.now n) b.now + atom_value (value_at (values_of rows.now) t) b.now }
 {
     if let Atom::Constant(number) = a {
         return number_above_row(widths, rows, &mut spares.second, number.value(), b, to);
     }
     let count = to.len();
     let width = width_of(widths, b);
-    note_constant(&mut spares.first, a);
-    note_constant(&mut spares.second, b);
-    let above = atom_row(rows, &spares.first, a, count);
-    let below = atom_row(rows, &spares.second, b, count);
+    let own_a = note_atom(rows, &mut spares.first, a, count);
+    let own_b = note_atom(rows, &mut spares.second, b, count);
+    let above = atom_row(rows, own_a, &spares.first, a, count);
+    let below = atom_row(rows, own_b, &spares.second, b, count);
     join_row(width, to, above, below);
 }
 
 // Copies of an atom, one above the other.
-fn repeated_row(
+fn repeated_row<L: Lane>(
     widths: &[Width],
-    rows: &[Vec<u64>],
-    spare: &mut [u64],
+    rows: &[Row],
+    spare: &mut [L],
     copies: u8,
     a: &Atom<usize>,
-    to: &mut [u64],
+    to: &mut [L],
 )
-    requires long { HasRow (items_of rows.now) (length to.old) a.now }
+    requires a { IsOperand L.bits (values_of rows.now) (length to.old) a.now }
     requires room { length to.old ≤ length spare.old }
     requires fits { (t : ℕ) → t < length to.old
-        → repeated copies (atom_width (λ n. slice_index widths.now n) a.now) (atom_value (value_at (items_of rows.now) t) a.now) < 2 ^ 64 }
+        → repeated copies (atom_width (λ n. slice_index widths.now n) a.now) (atom_value (value_at (values_of rows.now) t) a.now) < 2 ^ L.bits }
     ensures spare { length spare.new ≡ length spare.old }
     ensures count { length to.new ≡ length to.old }
     ensures row { (t : ℕ) → t < length to.new
-        → slice_index to.new t ≡ repeated copies (atom_width (λ n. slice_index widths.now n) a.now) (atom_value (value_at (items_of rows.now) t) a.now) }
+        → slice_index (map L.value to.new) t ≡ repeated copies (atom_width (λ n. slice_index widths.now n) a.now) (atom_value (value_at (values_of rows.now) t) a.now) }
 {
     let count = to.len();
     let width = width_of(widths, a);
-    note_constant(spare, a);
-    let a = atom_row(rows, spare, a, count);
+    let own = note_atom(rows, spare, a, count);
+    let a = atom_row(rows, own, spare, a, count);
     repeat_row(copies, width, to, a);
 }
 
 // A bit of a slot.
-fn bit_row(widths: &[Width], rows: &[Vec<u64>], slot: usize, place: u64, to: &mut [u64])
-    requires row { HasRow (items_of rows.now) (length to.old) (AtomVariants.Net slot) }
+fn bit_row<L: Lane>(
+    widths: &[Width],
+    rows: &[Row],
+    spare: &mut [L],
+    slot: usize,
+    place: u64,
+    to: &mut [L],
+)
+    requires row { IsOperand L.bits (values_of rows.now) (length to.old) (AtomVariants.Net slot) }
+    requires narrow { slice_index widths.now slot ≤ L.bits }
+    requires room { length to.old ≤ length spare.old }
     requires place { place < slice_index widths.now slot }
+    ensures spare { length spare.new ≡ length spare.old }
     ensures count { length to.new ≡ length to.old }
-    ensures row { (t : ℕ) → t < length to.new → slice_index to.new t ≡ value_at (items_of rows.now) t slot / 2 ^ place % 2 }
+    ensures row { (t : ℕ) → t < length to.new → slice_index (map L.value to.new) t ≡ value_at (values_of rows.now) t slot / 2 ^ place % 2 }
 {
     let _most = slot_width(widths, slot);
-    part_row(rows, slot, place as u8, 1, to);
+    part_row(rows, spare, slot, place as u8, 1, to);
 }
 
 // Bits of a slot, from a place up to a higher one.
-fn slice_row(widths: &[Width], rows: &[Vec<u64>], slot: usize, high: u64, low: u64, to: &mut [u64])
-    requires row { HasRow (items_of rows.now) (length to.old) (AtomVariants.Net slot) }
+fn slice_row<L: Lane>(
+    widths: &[Width],
+    rows: &[Row],
+    spare: &mut [L],
+    slot: usize,
+    high: u64,
+    low: u64,
+    to: &mut [L],
+)
+    requires row { IsOperand L.bits (values_of rows.now) (length to.old) (AtomVariants.Net slot) }
+    requires narrow { slice_index widths.now slot ≤ L.bits }
+    requires room { length to.old ≤ length spare.old }
     requires order { low ≤ high }
     requires place { high < slice_index widths.now slot }
+    ensures spare { length spare.new ≡ length spare.old }
     ensures count { length to.new ≡ length to.old }
-    ensures row { (t : ℕ) → t < length to.new → slice_index to.new t ≡ value_at (items_of rows.now) t slot / 2 ^ low % 2 ^ (high - low + 1) }
+    ensures row { (t : ℕ) → t < length to.new → slice_index (map L.value to.new) t ≡ value_at (values_of rows.now) t slot / 2 ^ low % 2 ^ (high - low + 1) }
 {
     let _most = slot_width(widths, slot);
-    part_row(rows, slot, low as u8, (high - low + 1) as u8, to);
+    part_row(rows, spare, slot, low as u8, (high - low + 1) as u8, to);
 }
 
 /// The row of a right side that reads no array, from the rows of its slots.
-pub fn right_row(
+pub fn right_row<L: Lane>(
     widths: &[Width],
-    rows: &[Vec<u64>],
-    spares: &mut Spares,
+    rows: &[Row],
+    spares: &mut Spares<L>,
     right: &Right<usize, usize>,
-    to: &mut [u64],
+    to: &mut [L],
 )
-    requires rows { HaveRows (items_of rows.now) (length to.old) right.now }
+    requires rows { AreOperands L.bits widths.now (values_of rows.now) (length to.old) right.now }
     requires agree { WidthsAgree (λ n. slice_index widths.now n) (λ _. 0) right.now }
     requires plain { array_of right.now ≡ None }
-    requires fits { (t : ℕ) → t < length to.old → right_value (λ n. slice_index widths.now n) (λ _ _. 0) (value_at (items_of rows.now) t) right.now < 2 ^ 64 }
+    requires fits { (t : ℕ) → t < length to.old → right_value (λ n. slice_index widths.now n) (λ _ _. 0) (value_at (values_of rows.now) t) right.now < 2 ^ L.bits }
     requires room { HaveRoom spares.old (length to.old) }
     ensures spares { HaveRoom spares.new (length to.old) }
     ensures count { length to.new ≡ length to.old }
-    ensures row { IsRightRow widths.now (items_of rows.now) right.now to.new }
+    ensures row { IsRightRow widths.now (values_of rows.now) right.now (map L.value to.new) }
 {
     match right {
         Right::Copy(a) => copy_row(rows, &mut spares.first, a, to),
@@ -424,8 +576,8 @@ pub fn right_row(
         Right::Repeat(copies, a) => {
             repeated_row(widths, rows, &mut spares.first, *copies, a, to);
         }
-        Right::Bit(v, k) => bit_row(widths, rows, *v, *k, to),
-        Right::Slice(v, m, l) => slice_row(widths, rows, *v, *m, *l, to),
+        Right::Bit(v, k) => bit_row(widths, rows, &mut spares.first, *v, *k, to),
+        Right::Slice(v, m, l) => slice_row(widths, rows, &mut spares.first, *v, *m, *l, to),
         Right::Word(_, _) => unreachable!(),
     }
 }

@@ -1,21 +1,24 @@
 // Rows from one row, and from three, clock by clock.
 
-ghost use Rattle.std.specs.Prelude.{◌≡◌, ℕ, ◌+◌, ◌-◌, ◌*◌, ◌/◌, ◌%◌, ◌^◌, ◌<◌, ◌≤◌, length, slice_index, bit_and, if◌then◌else◌, ◌==◌};
+ghost use Rattle.std.specs.Prelude.{◌≡◌, ℕ, ◌+◌, ◌-◌, ◌*◌, ◌/◌, ◌%◌, ◌^◌, ◌<◌, ◌≤◌, length, map, slice_index, bit_and, if◌then◌else◌, ◌==◌};
 ghost use Rattle.wiring.specs.Rights.{repeated};
 ghost use Rattle.block_rows.specs.Rows.{IsSingleRow, IsChosenRow};
 
+use crate::lanes::Lane;
+use wiring::limit;
+
 // What is made of one number in a clock.
-pub(crate) trait Single {
+pub(crate) trait Single<L: Lane> {
     ghost value: { Self → ℕ → ℕ };
 
-    fn of(&self, a: u64) -> u64
-        ensures { result ≡ value self.now a };
+    fn of(&self, a: L) -> L
+        ensures { L.value result ≡ value self.now (L.value a) };
 }
 
-pub(crate) fn single_row<S: Single>(single: &S, to: &mut [u64], a: &[u64])
+pub(crate) fn single_row<L: Lane, S: Single<L>>(single: &S, to: &mut [L], a: &[L])
     requires a { length a.now ≡ length to.old }
     ensures count { length to.new ≡ length to.old }
-    ensures each { IsSingleRow (S.value single.now) to.new a.now }
+    ensures each { IsSingleRow (S.value single.now) (map L.value to.new) (map L.value a.now) }
 {
     for t in 0..to.len() {
         to[t] = single.of(a[t]);
@@ -26,55 +29,75 @@ pub(crate) fn single_row<S: Single>(single: &S, to: &mut [u64], a: &[u64])
 #[derive(Clone, Copy)]
 pub(crate) struct Whole;
 
-impl Single for Whole {
+impl<L: Lane> Single<L> for Whole {
     ghost value = { λ _ a. a };
 
-    fn of(&self, a: u64) -> u64 {
+    fn of(&self, a: L) -> L {
         a
     }
 }
 
 // All bits of a mask turned.
 #[derive(Clone, Copy)]
-pub(crate) struct Turned {
-    pub(crate) mask: u64,
+pub(crate) struct Turned<L> {
+    pub(crate) mask: L,
 }
 
-impl Single for Turned {
-    ghost value = { λ s a. s.mask - a };
+impl<L: Lane> Single<L> for Turned<L> {
+    ghost value = { λ s a. L.value s.mask - a };
 
-    fn of(&self, a: u64) -> u64 {
-        self.mask.saturating_sub(a)
+    fn of(&self, a: L) -> L {
+        self.mask.excess(a)
     }
 }
 
 // The bits of a mask, from a place on.
 #[derive(Clone, Copy)]
-pub(crate) struct Part {
+pub(crate) struct Part<L> {
     pub(crate) from: u8,
-    pub(crate) mask: u64,
+    pub(crate) mask: L,
 }
 
-impl Single for Part {
-    ghost value = { λ s a. bit_and (a / 2 ^ (s.from % 64)) s.mask };
+impl<L: Lane> Single<L> for Part<L> {
+    ghost value = { λ s a. bit_and (a / 2 ^ (s.from % L.bits)) (L.value s.mask) };
 
-    fn of(&self, a: u64) -> u64 {
-        (a >> (self.from % 64)) & self.mask
+    fn of(&self, a: L) -> L {
+        a.down(self.from).both(self.mask)
     }
 }
 
 // This many times a number.
 #[derive(Clone, Copy)]
-pub(crate) struct Times {
-    pub(crate) factor: u64,
+pub(crate) struct Times<L> {
+    pub(crate) factor: L,
 }
 
-impl Single for Times {
-    ghost value = { λ s a. a * s.factor % 2 ^ 64 };
+impl<L: Lane> Single<L> for Times<L> {
+    ghost value = { λ s a. a * L.value s.factor % 2 ^ L.bits };
 
-    fn of(&self, a: u64) -> u64 {
-        a.wrapping_mul(self.factor)
+    fn of(&self, a: L) -> L {
+        a.product(self.factor)
     }
+}
+
+// A number that has room in a lane.
+#[tactic(auto, using(crate::proofs::Masks::whole_is))]
+pub(crate) fn lane_of<L: Lane>(number: u64) -> L
+    requires fits { number < 2 ^ L.bits }
+    ensures { L.value result ≡ number }
+{
+    L::cut(number)
+}
+
+// All bits of a width.
+#[tactic(auto, using(crate::proofs::Masks::mask_fits))]
+pub(crate) fn mask_of<L: Lane>(width: u8) -> L
+    requires narrow { width ≤ L.bits }
+    ensures { L.value result ≡ 2 ^ width - 1 }
+{
+    let _bits = L::bits();
+    let mask = (limit(width) - 1) as u64;
+    lane_of(mask)
 }
 
 // One number above the other, as often as there are copies.
@@ -104,40 +127,34 @@ fn one_above(all: u64, width: u8) -> u64
 
 // Copies of a row of some bits, one above the other.
 #[tactic(auto, using(crate::proofs::Masks::copies_are))]
-pub(crate) fn repeat_row(copies: u8, width: u8, to: &mut [u64], a: &[u64])
+pub(crate) fn repeat_row<L: Lane>(copies: u8, width: u8, to: &mut [L], a: &[L])
     requires narrow { width ≤ 64 }
     requires a { length a.now ≡ length to.old }
-    requires fits { (t : ℕ) → t < length to.old → repeated copies width (slice_index a.now t) < 2 ^ 64 }
+    requires fits { (t : ℕ) → t < length to.old → repeated copies width (slice_index (map L.value a.now) t) < 2 ^ L.bits }
     ensures count { length to.new ≡ length to.old }
-    ensures each { (t : ℕ) → t < length to.new → slice_index to.new t ≡ repeated copies width (slice_index a.now t) }
+    ensures each { (t : ℕ) → t < length to.new → slice_index (map L.value to.new) t ≡ repeated copies width (slice_index (map L.value a.now) t) }
 {
-    let factor = factor(copies, width);
+    let _bits = L::bits();
+    let factor = L::cut(factor(copies, width));
     single_row(&Times { factor }, to, a);
 }
 
-// All bits, or none.
-fn mask_of(bit: u64) -> u64
-    ensures { result ≡ (if bit == 1 then 2 ^ 64 - 1 else 0) }
-{
-    if bit == 1 { u64::MAX } else { 0 }
-}
-
-// One of two numbers, by a bit. By a mask, of which LLVM makes vector code, as it does not of two branches.
+// One of two numbers, by a bit. By masks, of which LLVM makes vector code, as it does not of two branches.
 #[tactic(auto, using(crate::proofs::Masks::chosen_is))]
-pub(crate) fn chosen(bit: u64, on: u64, off: u64) -> u64
-    ensures { result ≡ (if bit == 1 then on else off) }
+pub(crate) fn chosen<L: Lane>(bit: L, on: L, off: L) -> L
+    ensures { L.value result ≡ (if L.value bit == 1 then L.value on else L.value off) }
 {
-    let mask = mask_of(bit);
-    (on & mask) | (off & !mask)
+    let is = bit.is_same(L::bit(true));
+    on.both(L::mask(is)).either(off.both(L::mask(!is)))
 }
 
 // At each clock one of two rows, by a bit.
-pub(crate) fn choose_row(to: &mut [u64], bit: &[u64], a: &[u64], b: &[u64])
+pub(crate) fn choose_row<L: Lane>(to: &mut [L], bit: &[L], a: &[L], b: &[L])
     requires bit { length bit.now ≡ length to.old }
     requires a { length a.now ≡ length to.old }
     requires b { length b.now ≡ length to.old }
     ensures count { length to.new ≡ length to.old }
-    ensures each { IsChosenRow to.new bit.now a.now b.now }
+    ensures each { IsChosenRow (map L.value to.new) (map L.value bit.now) (map L.value a.now) (map L.value b.now) }
 {
     for t in 0..to.len() {
         to[t] = chosen(bit[t], a[t], b[t]);
@@ -145,9 +162,9 @@ pub(crate) fn choose_row(to: &mut [u64], bit: &[u64], a: &[u64], b: &[u64])
 }
 
 // At each clock the same number.
-pub(crate) fn constant_row(to: &mut [u64], number: u64)
+pub(crate) fn constant_row<L: Lane>(to: &mut [L], number: L)
     ensures count { length to.new ≡ length to.old }
-    ensures each { (t : ℕ) → t < length to.new → slice_index to.new t ≡ number }
+    ensures each { (t : ℕ) → t < length to.new → slice_index (map L.value to.new) t ≡ L.value number }
 {
     for t in 0..to.len() {
         to[t] = number;

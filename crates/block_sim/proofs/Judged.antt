@@ -163,4 +163,4 @@ some_clocks m None are = tt
 some_clocks m (Some r) are = are.some
 
 pub engine_of : (m : Netlist) (e : Engine) → IsEngineOf m e → IsEngine e
-engine_of m e is = record { sound = is.code.runnable.sound; ordered = is.code.runnable.ordered; uses = is.uses }
+engine_of m e is = record { sound = is.code.runnable.sound; ordered = is.code.runnable.ordered; uses = is.uses; sized = is.sized }

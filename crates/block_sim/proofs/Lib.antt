@@ -6,6 +6,7 @@ pub mod FirstUses
 pub mod Judged
 pub mod Made
 pub mod OnePass
+pub mod Outputs
 pub mod Rowwise
 pub mod Tables
 pub mod Vectors

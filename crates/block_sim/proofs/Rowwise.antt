@@ -5,7 +5,6 @@ use Rattle.std.proofs.lemmas.Option.{slice_get_within, same_Some, slice_get-get_
 use Rattle.std.proofs.lemmas.Slice.{take-put_mid_below, drop-put_mid}
 use Rattle.std.proofs.Math.Nat.{suc-mul}
 use Rattle.std.proofs.lemmas.List.{length-drop, length-take-le}
-use Rattle.std.proofs.lemmas.Bool.{cases_lt}
 use borrow.Rule.Slice.PartMut.{put_mid}
 use Rattle.wiring.specs.Netlist.{Netlist}
 use Rattle.wiring.specs.Snapshot.{Contents, Snapshot, Fit, net_value}
@@ -21,7 +20,7 @@ use Rattle.block_sim.specs.Checked.{input_of, AreInputRows}
 use Rattle.block_sim.specs.declared.inputs.Piece.{Piece}
 use Rattle.block_sim.specs.Pieces.{clocks_in}
 use Rattle.block_sim.specs.Shown.{row_out, AreRowOuts}
-use Rattle.block_sim.proofs.Clockwise.{drop_more, same_place, put_here, clock_at, clocks_count, take_whole, place_size, half_is}
+use Rattle.block_sim.proofs.Clockwise.{drop_more, same_place, put_here, clock_at, clocks_count, take_whole, half_is}
 
 -- ---- lists
 
@@ -170,18 +169,6 @@ module _ (m : Netlist) (clocks : List Clock) (from mid to : Contents) (old outs 
           ∙ drop-put_mid (k * count) (size * count) outs part ((k + size) * count) (let f : (k + size) * count ≡ k * count + size * count = mul_more k size count in omega (arith, f)) (omega (arith, room)) here
           ∙ ap (λ n. drop ((k + size) * n) outs) is
           ∙ past outs ∙ ap (λ l. drop (size * count) l) came.later ∙ sym (past old)
-
--- the outputs of a clock are put in their place
-pub shown_on : (rows : List (List ℕ)) (first count k : ℕ) (outs part : List Out) → k * count + count ≤ length outs → length part ≡ count → ((t : ℕ) → t < k → AreRowOuts rows first t count (of_clock count t outs)) → AreRowOuts rows first k count part →
-    (t : ℕ) → t < k + 1 → AreRowOuts rows first t count (of_clock count t (put_mid (k * count) ((k + 1) * count - k * count) outs part))
-shown_on rows first count k outs part room size before here t l =
-    subst (λ (n : ℕ). AreRowOuts rows first t count (of_clock count t (put_mid (k * count) n outs part))) (sym (place_size k count)) (at_t (cases_lt t k))
-  where
-    at_t : (t < k) ⊎ (k ≤ t) → AreRowOuts rows first t count (of_clock count t (put_mid (k * count) count outs part))
-    at_t (inl m) = subst (AreRowOuts rows first t count) (sym (same_place count t k (put_mid (k * count) count outs part) outs m (take-put_mid_below (k * count) count outs part (k * count) (omega arith) (omega (arith, room))))) (before t m)
-    at_t (inr m) =
-        let e : k ≡ t = omega (arith, l, m) in
-        subst (λ (n : ℕ). AreRowOuts rows first n count (of_clock count n (put_mid (k * count) count outs part))) e (subst (AreRowOuts rows first k count) (sym (put_here (k * count) count outs part room size)) here)
 
 mul_over : (a b n : ℕ) → (a + b) * n ≡ a * n + b * n
 mul_over zero b n = let z : 0 + b ≡ b = omega arith in let w : b * n ≡ 0 * n + b * n = omega arith in ap (λ x. x * n) z ∙ w

@@ -6,7 +6,7 @@ use Rattle.std.proofs.lemmas.List.{length-map, get_or-map, length-set}
 use Rattle.std.proofs.lemmas.Bool.{cases_order}
 use Rattle.std.proofs.lemmas.Option.{slice_get_within, same_Some}
 use Rattle.block_rows.specs.Rights.{items_of}
-use Rattle.block_rows.proofs.Running.{row_here, row_other}
+use Rattle.block_rows.proofs.LaneRows.{placed, placed_other}
 use Rattle.block_sim.specs.Arrays.{HaveLong}
 
 pub length-items : (vs : List (Vec ℕ Global)) → length (items_of vs) ≡ length vs
@@ -36,18 +36,18 @@ module _ (vs : List (Vec ℕ Global)) (k : ℕ) (new d : Vec ℕ Global) (l : k 
       at_x : (x ≡ k) ⊎ ((x < k) ⊎ (k < x)) → count ≤ length (slice_index_or (items_of (slice_set vs k new)) x [])
       at_x (inl e) =
           let long' : length (slice_index_or (items_of (slice_set vs k new)) x []) ≡ length (slice_index_or (items_of vs) k []) =
-          ap (λ n. length (slice_index_or (items_of (slice_set vs k new)) n [])) e ∙ ap (λ (ws : List ℕ). length ws) (row_here vs k new l) ∙ same ∙ ap (λ (ws : List ℕ). length ws) (vec_at vs k d l) in
+          ap (λ n. length (slice_index_or (items_of (slice_set vs k new)) n [])) e ∙ ap (λ (ws : List ℕ). length ws) (placed (λ (v : Vec ℕ Global). v.items) vs k new l) ∙ same ∙ ap (λ (ws : List ℕ). length ws) (vec_at vs k d l) in
           omega (arith, long', long k (omega (arith, l, length-items vs)))
       at_x (inr h) =
-          let long' : length (slice_index_or (items_of (slice_set vs k new)) x []) ≡ length (slice_index_or (items_of vs) x []) = ap (λ (ws : List ℕ). length ws) (row_other vs k x new (apart_of x h)) in
+          let long' : length (slice_index_or (items_of (slice_set vs k new)) x []) ≡ length (slice_index_or (items_of vs) x []) = ap (λ (ws : List ℕ). length ws) (placed_other (λ (v : Vec ℕ Global). v.items) vs k x new (apart_of x h)) in
           omega (arith, long', long x (omega (arith, within, length-items vs, length-items (slice_set vs k new), length-set vs k new)))
 
   pub same_on : new.items ≡ (slice_index_or vs k d).items → (x : ℕ) → slice_index_or (items_of (slice_set vs k new)) x [] ≡ slice_index_or (items_of vs) x []
   same_on same x = at_x (cases_order x k)
     where
       at_x : (x ≡ k) ⊎ ((x < k) ⊎ (k < x)) → slice_index_or (items_of (slice_set vs k new)) x [] ≡ slice_index_or (items_of vs) x []
-      at_x (inl e) = subst (λ (n : ℕ). slice_index_or (items_of (slice_set vs k new)) n [] ≡ slice_index_or (items_of vs) n []) (sym e) (row_here vs k new l ∙ same ∙ vec_at vs k d l)
-      at_x (inr h) = row_other vs k x new (apart_of x h)
+      at_x (inl e) = subst (λ (n : ℕ). slice_index_or (items_of (slice_set vs k new)) n [] ≡ slice_index_or (items_of vs) n []) (sym e) (placed (λ (v : Vec ℕ Global). v.items) vs k new l ∙ same ∙ vec_at vs k d l)
+      at_x (inr h) = placed_other (λ (v : Vec ℕ Global). v.items) vs k x new (apart_of x h)
 
 -- one more of them is long
 pub long_more : (vs : List (Vec ℕ Global)) (k count : ℕ) (v : Vec ℕ Global) → slice_get vs k ≡ Some v → count ≤ length v.items → ((x : ℕ) → x < k → count ≤ length (slice_index_or (items_of vs) x [])) → (x : ℕ) → x < k + 1 → count ≤ length (slice_index_or (items_of vs) x [])

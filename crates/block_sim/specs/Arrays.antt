@@ -1,10 +1,15 @@
 -- The arrays over the clocks of a block.
-use Rattle.std.specs.Prelude.{◌≡◌, ℕ, ◌<◌, ◌≤◌, List, [], length, slice_index, slice_index_or, slice_get, Some, Vec}
+use Rattle.std.specs.Prelude.{◌≡◌, ℕ, ◌<◌, ◌≤◌, List, [], length, slice_index, slice_index_or, slice_get, Option, Some, IfSome, IfNone, Vec}
 use Rattle.std.specs.declared.alloc.Global.{Global}
 use Rattle.cycle_sim.specs.Slots.{words_of}
-use Rattle.block_rows.specs.Rights.{HasRow}
+use Rattle.wiring.specs.declared.right.Atom.{Atom}
+use Rattle.wiring.specs.declared.right.Atom.TheVariants as atom
+use Rattle.block_rows.specs.Rights.{HasRow, IsAtomRow}
+use Rattle.block_rows.specs.Values.{numbers_in}
 use Rattle.block_rows.specs.Rows.{words_after, IsReadUpTo, AreInside}
 use Rattle.block_code.specs.declared.code.WordRead.{WordRead}
+use Rattle.block_sim.specs.declared.judge.arrays.AccessNumbers.{AccessNumbers}
+use Rattle.block_sim.specs.declared.judge.arrays.AccessSlots.{AccessSlots}
 use Rattle.block_sim.specs.declared.judge.arrays.ArrayRoom.{ArrayRoom}
 use Rattle.block_code.specs.declared.code.WordPut.{WordPut}
 use Rattle.block_code.specs.Rows.{atom_at, words_put, KeepsArray}
@@ -62,6 +67,32 @@ pub record IsArrayRoom (r : ArrayRoom) (count : ℕ) : Type 0 where
   pub read : count ≤ length r.read.items
   pub index : count ≤ length r.index.items
   pub value : count ≤ length r.value.items
+  pub target : count ≤ length r.target.items
+
+-- the numbers over which an array is judged are of this many clocks
+pub record HaveCount (a : AccessNumbers) (count : ℕ) : Type 0 where
+  pub read : length (numbers_in a.read) ≡ count
+  pub index : length (numbers_in a.index) ≡ count
+  pub value : length (numbers_in a.value) ≡ count
+  pub target : length (numbers_in a.target) ≡ count
+
+-- they are those of its indexes, its value and its target
+pub record AreAccessNumbers (rows : List (List ℕ)) (count : ℕ) (r : WordRead) (p : WordPut) (a : AccessNumbers) : Type 0 where
+  pub read : IsAtomRow rows r.index count (numbers_in a.read)
+  pub index : IsAtomRow rows p.index count (numbers_in a.index)
+  pub value : IsAtomRow rows p.value count (numbers_in a.value)
+  pub target : IsAtomRow rows (atom.Net r.target) count (numbers_in a.target)
+
+-- an atom is this slot, or a spare row is its row
+abbrev pub IsNoted : List (List ℕ) → ℕ → Atom ℕ → List ℕ → Option ℕ → Type 0
+IsNoted rows count a spare own = IfSome own (λ n. a ≡ atom.Net n) × IfNone own (IsAtomRow rows a count spare)
+
+-- so it is with the atoms of an array
+pub record AreNoted (rows : List (List ℕ)) (count : ℕ) (r : WordRead) (p : WordPut) (room : ArrayRoom) (s : AccessSlots) : Type 0 where
+  pub read : IsNoted rows count r.index room.read.items s.read
+  pub index : IsNoted rows count p.index room.index.items s.index
+  pub value : IsNoted rows count p.value room.value.items s.value
+  pub target : IsNoted rows count (atom.Net r.target) room.target.items s.target
 
 -- the rows of all arrays' indexes, values and targets have this many clocks
 abbrev pub AreAccessRows : List (List ℕ) → ℕ → List WordRead → List WordPut → Type 0

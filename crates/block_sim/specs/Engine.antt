@@ -9,7 +9,9 @@ use Rattle.block_code.specs.Code.{IsBlockCode}
 use Rattle.block_sim.specs.declared.rows.engine.Engine.{Engine}
 use Rattle.block_sim.specs.Called.{din_count}
 use Rattle.cycle_sim.specs.Slots.{words_of}
-use Rattle.block_rows.specs.Rights.{items_of, value_at}
+use Rattle.block_rows.specs.Rights.{value_at}
+use Rattle.block_rows.specs.Values.{values_of}
+use Rattle.block_rows.specs.LaneSizes.{AreSized}
 use Rattle.block_code.specs.Rows.{RowsRan}
 use Rattle.block_sim.specs.Pieces.{clocks_in}
 use Rattle.block_sim.specs.declared.held.Held.{Held}
@@ -25,6 +27,7 @@ pub record IsEngine (e : Engine) : Type 0 where
   pub sound : AreSound e.code.widths.items e.code.instructions.items
   pub ordered : IsOrdered e.code.instructions.items
   pub uses : AreFirstUses e.code.instructions.items e.uses.items
+  pub sized : AreSized e.code.widths.items e.code.instructions.items e.sizes.items
 
 -- the first n instructions were run over a table whose rows have this many places
 abbrev pub HasRun : Engine → (long : ℕ) → Table → (done : ℕ) → Type 0
@@ -34,6 +37,7 @@ HasRun e long t done = IsTable e.code.widths.items e.code.instructions.items lon
 pub record IsEngineOf (m : Netlist) (e : Engine) : Type 0 where
   pub code : IsBlockCode m e.code
   pub uses : AreFirstUses e.code.instructions.items e.uses.items
+  pub sized : AreSized e.code.widths.items e.code.instructions.items e.sizes.items
   pub enable : e.has_enable ≡ m.enable
   pub ports : e.ports ≡ din_count m
 
@@ -64,7 +68,7 @@ pub record IsJudged (e : Engine) (rows : List (List ℕ)) (p : Piece) (old new :
 
 -- the rows are those of a run over the clocks of a piece
 abbrev pub RanOver : Netlist → Piece → (old new : Held) → Rows → Type 0
-RanOver m p old new r = RowsRan m (clocks_in m p) (contents_in old) (contents_in new) (items_of r.table.rows.items)
+RanOver m p old new r = RowsRan m (clocks_in m p) (contents_in old) (contents_in new) (values_of r.table.rows.items)
 
 -- what a simulator of blocks is made of
 pub record AreBlocks (m : Netlist) (held : Held) (count : ℕ) (rows : Option Rows) : Type 0 where

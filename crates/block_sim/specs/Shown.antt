@@ -1,7 +1,11 @@
 -- What outputs show, by the rows of their slots.
-use Rattle.std.specs.Prelude.{◌≡◌, ℕ, ◌+◌, ◌*◌, ◌<◌, ◌==◌, List, length, slice_get, Some}
+use Rattle.std.specs.Prelude.{◌≡◌, ℕ, ◌+◌, ◌*◌, ◌<◌, ◌==◌, List, length, slice_get, slice_index, Some}
 use Rattle.cycle_sim.specs.declared.ports.Out.{Out}
 use Rattle.block_rows.specs.Rights.{value_at}
+
+-- an output whose bit and number have these rows, at a clock
+abbrev pub shown_at : (valid dout : List ℕ) → ℕ → Out
+shown_at valid dout t = record { valid = slice_index valid t == 1; dout = slice_index dout t }
 
 -- an output whose slots are among those from the first one on, at a clock
 abbrev pub row_out : List (List ℕ) → ℕ → ℕ → ℕ → Out

@@ -6,7 +6,8 @@ use Rattle.wiring.specs.declared.right.Right.{Right}
 use Rattle.wiring.specs.declared.right.Right.TheVariants.{Copy, Not, Binary, Choose, Join, Repeat, Bit, Slice, Word}
 use Rattle.wiring.specs.Rights.{nets_of}
 use Rattle.block_rows.specs.declared.code.Instruction.{Instruction}
-use Rattle.block_rows.specs.Rights.{items_of, HaveRoom}
+use Rattle.block_rows.specs.Values.{values_of}
+use Rattle.block_rows.specs.LaneSizes.{InLanes, HaveRooms}
 use Rattle.block_rows.specs.Code.{AreRows, AllHold}
 use Rattle.block_sim.specs.declared.rows.table.Table.{Table}
 
@@ -38,15 +39,24 @@ pub record AreFirstUsesOf (count : ℕ) (code : List Instruction) (uses : List �
 abbrev pub AreFirstUses : List Instruction → List ℕ → Type 0
 AreFirstUses code uses = AreFirstUsesOf (length code) code uses
 
+-- each spare row has this many places
+pub record HaveSpares (t : Table) (long : ℕ) : Type 0 where
+  pub wide : length t.room.items ≡ long
+  pub narrow : length t.narrow.items ≡ long
+  pub middle : length t.middle.items ≡ long
+
 -- a table has a row of this many places for each slot, all values fit, and the equations of the first n instructions hold
 pub record IsTable (widths : List ℕ) (code : List Instruction) (long : ℕ) (t : Table) (done : ℕ) : Type 0 where
-  pub rows : AreRows widths long (items_of t.rows.items)
-  pub hold : AllHold widths long (items_of t.rows.items) done code
-  pub room : length t.room.items ≡ long
-  pub spares : HaveRoom t.spares long
+  pub rows : AreRows widths long (values_of t.rows.items)
+  pub lanes : InLanes widths t.rows.items
+  pub hold : AllHold widths long (values_of t.rows.items) done code
+  pub spares : HaveSpares t long
+  pub rooms : HaveRooms t.rooms long
 
--- only the spare row is another one, of as many places
+-- only the spare rows are others, of as many places
 pub record IsRefilled (old new : Table) : Type 0 where
   pub rows : new.rows ≡ old.rows
-  pub spares : new.spares ≡ old.spares
+  pub rooms : new.rooms ≡ old.rooms
   pub room : length new.room.items ≡ length old.room.items
+  pub narrow : length new.narrow.items ≡ length old.narrow.items
+  pub middle : length new.middle.items ≡ length old.middle.items

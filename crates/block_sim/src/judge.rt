@@ -1,6 +1,7 @@
 // Whether rows keep the equations of their code.
 
 ghost use Rattle.std.specs.Prelude.{◌≡◌, ◌≤◌, length, IsTrue, IsFalse};
+ghost use Rattle.block_rows.specs.Values.{row_values, values_of};
 ghost use Rattle.block_rows.specs.Rights.{items_of};
 ghost use Rattle.block_sim.specs.Arrays.{IsArrayRoom, HaveLong};
 ghost use Rattle.block_sim.specs.Checked.{AreInputRows, AreRegisterRows};
@@ -20,22 +21,24 @@ use crate::judge::given::are_given;
 use crate::judge::passes::pass_arrays;
 use crate::judge::registers::{are_kept, take_registers};
 use crate::rows::engine::Engine;
+use block_rows::Row;
 
 // Whether the inputs and the registers of rows are right over the clocks of a piece.
 fn are_right(
     engine: &Engine,
-    rows: &[Vec<u64>],
-    spare: &mut [u64],
+    rows: &[Row],
+    spare: &mut Vec<u64>,
     regs: &[u64],
     piece: &Piece<'_>,
 ) -> bool
-    requires wide { AreWide engine.now (items_of rows.now) piece.now.count }
-    requires slots { length (items_of rows.now) ≡ length rows.now }
-    requires spare { piece.now.count ≤ length spare.old }
+    requires wide { AreWide engine.now (values_of rows.now) piece.now.count }
+    requires slots { length (values_of rows.now) ≡ length rows.now }
+    requires spare { piece.now.count ≤ length spare.old.items }
     requires regs { length regs.now ≡ length engine.now.code.nexts.items }
     requires dins { HasDins engine.now.ports piece.now }
-    ensures given { IsTrue result → AreInputRows engine.now.has_enable engine.now.ports piece.now engine.now.code.first_output (items_of rows.now) }
-    ensures kept { IsTrue result → AreRegisterRows (items_of rows.now) piece.now.count engine.now.code.first_reg regs.now engine.now.code.nexts.items }
+    ensures spare { length spare.new.items ≡ length spare.old.items }
+    ensures given { IsTrue result → AreInputRows engine.now.has_enable engine.now.ports piece.now engine.now.code.first_output (values_of rows.now) }
+    ensures kept { IsTrue result → AreRegisterRows (values_of rows.now) piece.now.count engine.now.code.first_reg regs.now engine.now.code.nexts.items }
 {
     let code = &engine.code;
     if !are_given(
@@ -54,25 +57,26 @@ fn are_right(
 // clocks, else what they did.
 pub fn judge(
     engine: &Engine,
-    rows: &[Vec<u64>],
+    rows: &[Row],
     room: &mut ArrayRoom,
-    to: &mut [u64],
+    to: &mut Vec<u64>,
     lost: &mut [Vec<u64>],
     held: &mut Held,
     piece: &Piece<'_>,
 ) -> bool
-    requires wide { AreWide engine.now (items_of rows.now) piece.now.count }
-    requires slots { length (items_of rows.now) ≡ length rows.now }
+    requires wide { AreWide engine.now (values_of rows.now) piece.now.count }
+    requires slots { length (values_of rows.now) ≡ length rows.now }
     requires room { IsArrayRoom room.old piece.now.count }
-    requires to { piece.now.count ≤ length to.old }
+    requires to { piece.now.count ≤ length to.old.items }
     requires losts { length lost.old ≡ length held.old.arrays.items }
     requires lost { HaveLong (items_of lost.old) piece.now.count }
     requires regs { length held.old.regs.items ≡ length engine.now.code.nexts.items }
     requires reads { length engine.now.code.reads.items ≡ length held.old.arrays.items }
     requires puts { length engine.now.code.puts.items ≡ length held.old.arrays.items }
     requires dins { HasDins engine.now.ports piece.now }
-    ensures yes { IsTrue result → IsJudged engine.now (items_of rows.now) piece.now held.old held.new }
+    ensures yes { IsTrue result → IsJudged engine.now (values_of rows.now) piece.now held.old held.new }
     ensures back { IsFalse result → contents_in held.new ≡ contents_in held.old }
+    ensures to { length to.new.items ≡ length to.old.items }
 {
     if !are_right(engine, rows, to, &held.regs, piece) {
         return false;

@@ -16,7 +16,7 @@ use crate::rows::{Rows, rows_block};
 use cycle_sim::{Out, Sim};
 
 // The greatest number of clocks that are made over whole rows.
-pub const MOST_CLOCKS: usize = 128;
+pub const MOST_CLOCKS: usize = 342;
 
 // Pieces of fewer clocks are made one by one.
 const LEAST: usize = 24;

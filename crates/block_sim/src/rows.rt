@@ -3,6 +3,7 @@
 ghost use Rattle.std.specs.Prelude.{◌≡◌, ℕ, ◌≤◌, [], length, IsTrue, IsFalse};
 ghost use Rattle.wiring.specs.Rules.{KeepsRules};
 ghost use Rattle.wiring.specs.Snapshot.{FitsContents};
+ghost use Rattle.block_rows.specs.Values.{row_values, values_of};
 ghost use Rattle.block_rows.specs.Rights.{items_of};
 ghost use Rattle.block_sim.specs.Arrays.{IsArrayRoom, HaveLong};
 ghost use Rattle.block_sim.specs.Held.{contents_in};
@@ -12,17 +13,19 @@ ghost use Rattle.block_sim.specs.Pieces.{IsPieceOf, HasDins, HavePlaces, PieceRa
 pub mod engine;
 pub mod fill;
 pub mod make;
+pub mod proposals;
 pub mod shown;
 pub mod steps;
 pub mod table;
 pub mod uses;
+pub mod worth;
 
 use crate::held::Held;
 use crate::inputs::Piece;
 use crate::judge::arrays::ArrayRoom;
 use crate::judge::judge;
 use crate::rows::engine::Engine;
-use crate::rows::fill::propose_input;
+use crate::rows::proposals::propose_input;
 use crate::rows::shown::show_rows;
 use crate::rows::steps::{Hints, offer_row, take_steps};
 use crate::rows::table::Table;
@@ -83,8 +86,8 @@ fn judge_held(
     held: &mut Held,
     piece: &Piece<'_>,
 ) -> bool
-    requires wide { AreWide engine.now (items_of table.now.rows.items) piece.now.count }
-    requires slots { length (items_of table.now.rows.items) ≡ length table.now.rows.items }
+    requires wide { AreWide engine.now (values_of table.now.rows.items) piece.now.count }
+    requires slots { length (values_of table.now.rows.items) ≡ length table.now.rows.items }
     requires room { IsArrayRoom room.old piece.now.count }
     requires to { piece.now.count ≤ length to.old.items }
     requires losts { length lost.old.items ≡ length held.old.arrays.items }
@@ -93,7 +96,7 @@ fn judge_held(
     requires reads { length engine.now.code.reads.items ≡ length held.old.arrays.items }
     requires puts { length engine.now.code.puts.items ≡ length held.old.arrays.items }
     requires dins { HasDins engine.now.ports piece.now }
-    ensures yes { IsTrue result → IsJudged engine.now (items_of table.now.rows.items) piece.now held.old held.new }
+    ensures yes { IsTrue result → IsJudged engine.now (values_of table.now.rows.items) piece.now held.old held.new }
     ensures back { IsFalse result → contents_in held.new ≡ contents_in held.old }
     ensures to { length to.new.items ≡ length to.old.items }
     ensures losts { length lost.new.items ≡ length lost.old.items }
@@ -131,6 +134,9 @@ fn has_room(rows: &Rows, arrays: usize, count: usize) -> bool
         return false;
     }
     if rows.room.value.len() < count {
+        return false;
+    }
+    if rows.room.target.len() < count {
         return false;
     }
     if rows.to.len() < count {

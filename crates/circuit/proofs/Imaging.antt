@@ -23,12 +23,13 @@ use Rattle.pointwise_ir.specs.Programs.{Program, IsProgram, IsBody, types_of, al
 use Rattle.pointwise_ir.proofs.Defined.{types_are}
 use Rattle.pointwise_ir.proofs.Pictured.{mapped_entry, picture_of_body, values_in}
 use Rattle.edge_select.specs.declared.step.Step.{Step}
-use Rattle.datapath.specs.declared.lowering.Leaves.{Leaves}
 use Rattle.datapath.specs.Expressions.{AreLeaves, HasLeaves, IsLowered, IsMadeOfLeaves, IsTyped, types_in, type_of}
 use Rattle.datapath.specs.declared.operand.Signal.TheVariants as signal
 use Rattle.datapath.proofs.Leaved.{typed_as}
 use Rattle.buffer_plan.specs.Plans.{Plan, IsPlan}
 use Rattle.circuit.specs.Rounds.{type_at}
+use Rattle.circuit.specs.declared.known.BodyLeaves.{BodyLeaves}
+use Rattle.circuit.specs.Known.{ArePlaced}
 use Rattle.circuit.specs.Leaves.{LeafRead, with_step, reads_of, bits_of, ReadsBefore}
 use Rattle.circuit.specs.Taps.{HasControl, IsReading}
 use Rattle.circuit.specs.Reads.{AreLeafNets, AddsLeaves}
@@ -148,17 +149,20 @@ module _ (mid old : Netlist) (p : Program) (plan : Plan) (taps : List (List Net)
       }
 
 -- the leaves that are added to none, at the end of no steps
-pub first_leaves : (new old : Netlist) (p : Program) (plan : Plan) (taps : List (List Net)) (f : ℕ) (e : Tree) (steps : List Step) (now before : Leaves) → steps ≡ [] → before.reads.items ≡ [] → before.bits.items ≡ [] → AddsLeaves new old p plan taps f (reads_of e steps) (bits_of e steps) now before →
-    AreLeafNets new old p plan taps f (reads_of e []) (bits_of e []) now.reads.items now.bits.items
-first_leaves new old p plan taps f e steps now before none reads bits adds =
-    subst (λ (s : List Step). AreLeafNets new old p plan taps f (reads_of e s) (bits_of e s) now.reads.items now.bits.items) none
+pub first_leaves : (new old : Netlist) (p : Program) (plan : Plan) (taps : List (List Net)) (f : ℕ) (e : Tree) (steps : List Step) (now before : BodyLeaves) → steps ≡ [] → before.nets.reads.items ≡ [] → before.nets.bits.items ≡ [] → before.known ≡ [] → AddsLeaves new old p plan taps f (reads_of e steps) (bits_of e steps) now before →
+    AreLeafNets new old p plan taps f (reads_of e []) (bits_of e []) now.nets.reads.items now.nets.bits.items
+first_leaves new old p plan taps f e steps now before none reads bits known adds =
+    subst (λ (s : List Step). AreLeafNets new old p plan taps f (reads_of e s) (bits_of e s) now.nets.reads.items now.nets.bits.items) none
     (adds.added old [] [] (Includes-refl old) (record {
-      reads_are = ap length reads;
-      bits_are = ap length bits;
-      ty = λ i leaf n at on. absurd (let e : ⊥ = cc in e);
-      read = λ i leaf n at on. absurd (let e : ⊥ = cc in e);
-      bit = λ i steps n at on. absurd (let e : ⊥ = cc in e);
-    }))
+      nets = record {
+        reads_are = ap length reads;
+        bits_are = ap length bits;
+        ty = λ i leaf n at on. absurd (let e : ⊥ = cc in e);
+        read = λ i leaf n at on. absurd (let e : ⊥ = cc in e);
+        bit = λ i steps n at on. absurd (let e : ⊥ = cc in e);
+      };
+      placed = subst (ArePlaced []) (sym known) (λ r (k, lt, e). absurd (let f : ⊥ = omega (arith, lt) in f));
+    })).nets
 
 -- the body of an image
 pub body_at : (p : Program) (inputs : List Input) (images : List Definition) → inputs ≡ p.inputs → images ≡ p.images → (f : ℕ) (d : Definition) → length inputs ≤ f → f < length (types_of p) → IsBody p f (tree_of (slice_index_or images (f - length inputs) d).body)

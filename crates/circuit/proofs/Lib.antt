@@ -10,6 +10,7 @@ pub mod Lasting
 pub mod Choosing
 pub mod Sourced
 pub mod Building
+pub mod Knowing
 pub mod Leafing
 pub mod Typing
 pub mod Placing

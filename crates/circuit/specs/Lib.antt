@@ -1,6 +1,7 @@
 pub mod Runs
 pub mod Rounds
 pub mod Leaves
+pub mod Known
 pub mod Taps
 pub mod Reads
 pub mod Forms

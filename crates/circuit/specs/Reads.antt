@@ -14,7 +14,7 @@ use Rattle.wiring.specs.declared.netlist.Holder.TheVariants.{OfNet}
 use Rattle.wiring.specs.Netlist.{Netlist, net_width}
 use Rattle.wiring.specs.Snapshot.{Snapshot, net_value}
 use Rattle.net_build.specs.Includes.{Includes}
-use Rattle.datapath.specs.declared.lowering.Leaves.{Leaves}
+use Rattle.circuit.specs.declared.known.BodyLeaves.{BodyLeaves}
 use Rattle.net_build.specs.Draft.{IsNet}
 use Rattle.net_build.specs.Control.{IsMadeOf}
 use Rattle.net_build.specs.Logic.{Computes}
@@ -27,6 +27,7 @@ use Rattle.buffer_plan.specs.Plans.{Plan, delay_of, reads_by}
 use Rattle.circuit.specs.Runs.{AtEachPixel}
 use Rattle.circuit.specs.Rounds.{type_at}
 use Rattle.circuit.specs.Leaves.{LeafRead}
+use Rattle.circuit.specs.Known.{ArePlaced}
 use Rattle.circuit.specs.Taps.{size_in, IsTapOf, HasControl}
 
 -- the live reads by image f
@@ -126,6 +127,11 @@ pub record IsNetOf (b old : Netlist) (bits : ℕ) (choice : Option Net) (net : N
   pub there : IfSome choice (λ n. n ≡ net)
   pub zero : IfNone choice (Computes b old [] bits (λ s. 0) net)
 
+-- the leaves have these nets, and what is known of the reads is so
+pub record HaveNets (b first : Netlist) (p : Program) (plan : Plan) (taps : List (List Net)) (f : ℕ) (leaves : List LeafRead) (parts : List (List Step)) (all : BodyLeaves) : Type 0 where
+  pub nets : AreLeafNets b first p plan taps f leaves parts all.nets.reads.items all.nets.bits.items
+  pub placed : ArePlaced leaves all.known
+
 -- after the leaves that are there these are added, with their nets
-pub record AddsLeaves (b old : Netlist) (p : Program) (plan : Plan) (taps : List (List Net)) (f : ℕ) (leaves : List LeafRead) (parts : List (List Step)) (now before : Leaves) : Type 0 where
-  pub added : (first : Netlist) (ls : List LeafRead) (ps : List (List Step)) → Includes old first → AreLeafNets old first p plan taps f ls ps before.reads.items before.bits.items → AreLeafNets b first p plan taps f (ls ++ leaves) (ps ++ parts) now.reads.items now.bits.items
+pub record AddsLeaves (b old : Netlist) (p : Program) (plan : Plan) (taps : List (List Net)) (f : ℕ) (leaves : List LeafRead) (parts : List (List Step)) (now before : BodyLeaves) : Type 0 where
+  pub added : (first : Netlist) (ls : List LeafRead) (ps : List (List Step)) → Includes old first → HaveNets old first p plan taps f ls ps before → HaveNets b first p plan taps f (ls ++ leaves) (ps ++ parts) now

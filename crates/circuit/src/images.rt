@@ -8,9 +8,10 @@ ghost use Rattle.net_build.specs.Counters.{AddsControl};
 ghost use Rattle.circuit.specs.Taps.{IsReading};
 ghost use Rattle.circuit.specs.Images.{IsImageNet, ports_of};
 
+use crate::known::BodyLeaves;
 use crate::leaves::push_leaves;
 use crate::reader::Reader;
-use datapath::{Leaves, lower};
+use datapath::lower;
 use dk_base::OutOfMemory;
 use net_build::Builder;
 use pointwise_ir::Expr;
@@ -33,12 +34,9 @@ fn body_net(
     reader.plan.law();
     let mut made = None;
     let mut steps = Vec::new(alloc);
-    let mut leaves = Leaves {
-        reads: Vec::new(alloc),
-        bits: Vec::new(alloc),
-    };
+    let mut leaves = BodyLeaves::new(alloc);
     push_leaves(body, b, reader, &mut made, &mut steps, &mut leaves)?;
-    let net = lower(body, b, &leaves)?;
+    let net = lower(body, b, &leaves.nets)?;
     Ok(net)
 }
 

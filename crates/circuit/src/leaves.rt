@@ -3,23 +3,88 @@
 ghost use Rattle.std.specs.Prelude.{◌≡◌, ◌++◌, ◌∷◌, [], ◌<◌, IfSome, OnOk};
 ghost use Rattle.pointwise_ir.specs.Trees.{tree_of};
 ghost use Rattle.net_build.specs.Counters.{AddsControl};
-ghost use Rattle.circuit.specs.Leaves.{reads_of, bits_of, own_bit, ReadsBefore};
+ghost use Rattle.circuit.specs.Leaves.{leaf_at, reads_of, bits_of, own_bit, ReadsBefore};
+ghost use Rattle.circuit.specs.Known.{leaf_of, IsKnownNet};
 ghost use Rattle.circuit.specs.Taps.{IsReading};
 ghost use Rattle.circuit.specs.Reads.{HasPosition, AddsLeaves};
 
 use crate::choices::read_net;
+use crate::known::{BodyLeaves, ReadKey};
 use crate::positions::test_on;
 use crate::reader::Reader;
-use datapath::Leaves;
-use dk_base::OutOfMemory;
+use dk_base::{OutOfMemory, Ty};
 use edge_select::{Pixel, Step};
 use net_build::Builder;
 use pointwise_ir::{Edge, Expr};
+use wiring::Net;
 
 fn step_by(edge: Edge, dx: i32, dy: i32) -> Step
     ensures { result ≡ record { edge = edge; dx = dx; dy = dy } }
 {
     Step { edge, dx, dy }
+}
+
+// The net of a read that is known.
+fn known_net(leaves: &BodyLeaves, key: &ReadKey) -> Option<(Ty, Net)>
+    ensures { IfSome result (IsKnownNet leaves.now.nets.reads.items leaves.now.known (leaf_of key.now)) }
+{
+    let place = leaves.known.find(key)?;
+    leaves.nets.reads.get(place).copied()
+}
+
+// A read that is not known, with a net of its own.
+fn push_new(
+    b: &mut Builder,
+    reader: &Reader,
+    made: &mut Option<Pixel>,
+    steps: &[Step],
+    g: u32,
+    key: ReadKey,
+    leaves: &mut BodyLeaves,
+) -> Result<(), OutOfMemory>
+    requires reading { IsReading b.old reader.now.ir.now reader.now.plan.now reader.now.taps.now reader.now.image }
+    requires made { IfSome made.old (HasPosition b.old reader.now.plan.now reader.now.image) }
+    requires earlier { g < reader.now.image }
+    requires key { leaf_of key ≡ leaf_at g steps.now }
+    ensures adds { OnOk result (AddsControl b.new b.old) }
+    ensures made { OnOk result (IfSome made.new (HasPosition b.new reader.now.plan.now reader.now.image)) }
+    ensures leaves { OnOk result (AddsLeaves b.new b.old reader.now.ir.now reader.now.plan.now reader.now.taps.now reader.now.image
+        (leaf_at g steps.now ∷ []) [] leaves.new leaves.old) }
+{
+    let net = read_net(b, reader, made, steps, g)?;
+    leaves.known.add(key, leaves.nets.reads.len())?;
+    leaves.nets.reads.push(net)?;
+    Ok(())
+}
+
+// A read that is at the end of these steps. Equal reads share their net.
+fn push_net(
+    b: &mut Builder,
+    reader: &Reader,
+    made: &mut Option<Pixel>,
+    steps: &[Step],
+    g: u32,
+    leaves: &mut BodyLeaves,
+) -> Result<(), OutOfMemory>
+    requires reading { IsReading b.old reader.now.ir.now reader.now.plan.now reader.now.taps.now reader.now.image }
+    requires made { IfSome made.old (HasPosition b.old reader.now.plan.now reader.now.image) }
+    requires earlier { g < reader.now.image }
+    ensures adds { OnOk result (AddsControl b.new b.old) }
+    ensures made { OnOk result (IfSome made.new (HasPosition b.new reader.now.plan.now reader.now.image)) }
+    ensures leaves { OnOk result (AddsLeaves b.new b.old reader.now.ir.now reader.now.plan.now reader.now.taps.now reader.now.image
+        (leaf_at g steps.now ∷ []) [] leaves.new leaves.old) }
+{
+    let key = leaves.known.key(g, steps)?;
+    match known_net(leaves, &key) {
+        Some(net) => {
+            leaves.nets.reads.push(net)?;
+            Ok(())
+        }
+        None => {
+            push_new(b, reader, made, steps, g, key, leaves)?;
+            Ok(())
+        }
+    }
 }
 
 // A read that is at the end of these steps, with its own step.
@@ -30,7 +95,7 @@ fn push_read(
     steps: &mut Vec<Step>,
     step: Step,
     g: u32,
-    leaves: &mut Leaves,
+    leaves: &mut BodyLeaves,
 ) -> Result<(), OutOfMemory>
     requires reading { IsReading b.old reader.now.ir.now reader.now.plan.now reader.now.taps.now reader.now.image }
     requires made { IfSome made.old (HasPosition b.old reader.now.plan.now reader.now.image) }
@@ -42,8 +107,7 @@ fn push_read(
         ((record { image = g; steps = steps.old.items ++ step ∷ [] }) ∷ []) [] leaves.new leaves.old) }
 {
     steps.push(step)?;
-    let net = read_net(b, reader, made, steps, g)?;
-    leaves.reads.push(net)?;
+    push_net(b, reader, made, steps, g, leaves)?;
     steps.pop();
     Ok(())
 }
@@ -55,7 +119,7 @@ fn push_test(
     made: &mut Option<Pixel>,
     steps: &[Step],
     edge: Edge,
-    leaves: &mut Leaves,
+    leaves: &mut BodyLeaves,
 ) -> Result<(), OutOfMemory>
     requires reading { IsReading b.old reader.now.ir.now reader.now.plan.now reader.now.taps.now reader.now.image }
     requires made { IfSome made.old (HasPosition b.old reader.now.plan.now reader.now.image) }
@@ -67,7 +131,7 @@ fn push_test(
     match edge {
         Edge::Zero => {
             let net = test_on(b, reader.plan, reader.image, made, steps)?;
-            leaves.bits.push(net)?;
+            leaves.nets.bits.push(net)?;
             Ok(())
         }
         Edge::Clamp => Ok(()),
@@ -87,7 +151,7 @@ pub fn push_leaves(
     reader: &Reader,
     made: &mut Option<Pixel>,
     steps: &mut Vec<Step>,
-    leaves: &mut Leaves,
+    leaves: &mut BodyLeaves,
 ) -> Result<(), OutOfMemory>
     requires reading { IsReading b.old reader.now.ir.now reader.now.plan.now reader.now.taps.now reader.now.image }
     requires made { IfSome made.old (HasPosition b.old reader.now.plan.now reader.now.image) }

@@ -5,6 +5,7 @@ mod choices;
 mod finishing;
 mod forms;
 mod images;
+mod known;
 mod laws;
 mod leaves;
 mod making;

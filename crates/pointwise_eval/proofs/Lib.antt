@@ -6,3 +6,6 @@ pub mod Outputs
 pub mod Fits
 pub mod Narrows
 pub mod Pixels
+pub mod Spans
+pub mod Ranged
+pub mod Sides

@@ -1,28 +1,27 @@
--- Expressions whose parts have values of 64 bits.
+-- Expressions whose parts have values of a type, and those whose parts have types of 64 bits.
 use Rattle.std.specs.Prelude.{ℤ, List}
 use Rattle.dk_base.specs.declared.ty.Ty.{Ty}
 use Rattle.dk_base.specs.declared.ty.Ty.TheVariants.{Signed}
 use Rattle.dk_base.specs.Types.{IsIn, IsWithin}
-use Rattle.dk_base.specs.Frames.{Size, Picture}
+use Rattle.dk_base.specs.Frames.{Size, Picture, picture_at}
 use Rattle.pointwise_ir.specs.Trees.{Tree, constant, read, shifted, unary, binary, select, convert, scale}
 use Rattle.pointwise_ir.specs.Typing.{HasType}
 use Rattle.pointwise_ir.specs.Meaning.{value}
-use Rattle.value_rows.specs.Rows.{IsNarrow}
 
--- each value is one of 64 bits
-abbrev pub HasNarrow : Size → List Picture → Tree → Type 0
-HasNarrow size known e = (x y : ℤ) → IsNarrow (value size known e x y)
+-- each value is a number of the type
+abbrev pub AreAllIn : Size → List Picture → Tree → Ty → Type 0
+AreAllIn size known e t = (x y : ℤ) → IsIn t (value size known e x y)
 
--- so is each part's
-abbrev pub AreNarrow : Size → List Picture → Tree → Type 0
-AreNarrow size known (constant v t) = HasNarrow size known (constant v t)
-AreNarrow size known (read edge g dx dy) = HasNarrow size known (read edge g dx dy)
-AreNarrow size known (shifted edge dx dy a) = HasNarrow size known (shifted edge dx dy a) × AreNarrow size known a
-AreNarrow size known (unary op a) = HasNarrow size known (unary op a) × AreNarrow size known a
-AreNarrow size known (binary op a b) = HasNarrow size known (binary op a b) × AreNarrow size known a × AreNarrow size known b
-AreNarrow size known (select c a b) = HasNarrow size known (select c a b) × AreNarrow size known c × AreNarrow size known a × AreNarrow size known b
-AreNarrow size known (convert how a t) = HasNarrow size known (convert how a t) × AreNarrow size known a
-AreNarrow size known (scale op a k) = HasNarrow size known (scale op a k) × AreNarrow size known a
+-- so is each part's, and each value of an image that is read
+abbrev pub ArePartsIn : Ty → Size → List Picture → Tree → Type 0
+ArePartsIn s size known (constant v t) = AreAllIn size known (constant v t) s
+ArePartsIn s size known (read edge g dx dy) = (x y : ℤ) → IsIn s (picture_at known g x y)
+ArePartsIn s size known (shifted edge dx dy a) = AreAllIn size known (shifted edge dx dy a) s × ArePartsIn s size known a
+ArePartsIn s size known (unary op a) = AreAllIn size known (unary op a) s × ArePartsIn s size known a
+ArePartsIn s size known (binary op a b) = AreAllIn size known (binary op a b) s × ArePartsIn s size known a × ArePartsIn s size known b
+ArePartsIn s size known (select c a b) = AreAllIn size known (select c a b) s × ArePartsIn s size known c × ArePartsIn s size known a × ArePartsIn s size known b
+ArePartsIn s size known (convert how a t) = AreAllIn size known (convert how a t) s × ArePartsIn s size known a
+ArePartsIn s size known (scale op a k) = AreAllIn size known (scale op a k) s × ArePartsIn s size known a
 
 -- the expression has a type of numbers of 64 bits, where the images have these types
 abbrev pub HasNarrowType : List Ty → Tree → Type 0
@@ -38,7 +37,3 @@ AreOfNarrowTypes types (binary op a b) = HasNarrowType types (binary op a b) × 
 AreOfNarrowTypes types (select c a b) = HasNarrowType types (select c a b) × AreOfNarrowTypes types c × AreOfNarrowTypes types a × AreOfNarrowTypes types b
 AreOfNarrowTypes types (convert how a t) = HasNarrowType types (convert how a t) × AreOfNarrowTypes types a
 AreOfNarrowTypes types (scale op a k) = HasNarrowType types (scale op a k) × AreOfNarrowTypes types a
-
--- each value is a number of the type
-abbrev pub AreAllIn : Size → List Picture → Tree → Ty → Type 0
-AreAllIn size known e t = (x y : ℤ) → IsIn t (value size known e x y)

@@ -25,7 +25,7 @@ values_of (Unsigned32 elements) = map pos elements.items
 values_of (Signed8 elements) = map (λ v. v) elements.items
 values_of (Signed16 elements) = map (λ v. v) elements.items
 values_of (Signed32 elements) = map (λ v. v) elements.items
-values_of (Signed64 values) = values.items
+values_of (Signed64 elements) = map (λ v. v) elements.items
 values_of (Wide values) = values.items
 values_of Gone = []
 
@@ -36,7 +36,7 @@ entries_of (U32 elements) = map pos elements.now
 entries_of (I8 elements) = map (λ v. v) elements.now
 entries_of (I16 elements) = map (λ v. v) elements.now
 entries_of (I32 elements) = map (λ v. v) elements.now
-entries_of (I64 values) = values.now
+entries_of (I64 elements) = map (λ v. v) elements.now
 
 -- a plane of values of 64 bits
 abbrev pub IsByRows : Plane → Type 0

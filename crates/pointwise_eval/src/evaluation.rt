@@ -155,18 +155,6 @@ fn sample_of<T: Element>(element: T) -> u16
     element.widen() as u16
 }
 
-// Values that are samples.
-fn narrow_samples(alloc: Global, values: &[i64]) -> Result<Samples, OutOfMemory>
-    requires { All (λ v. (pos 0 ≤ℤ v) × (v <ℤ pos 65536)) values.now }
-    ensures { IfOk result (λ s. s ≡ map unsigned_abs values.now) }
-{
-    let mut samples = Vec::new(alloc);
-    for value in values {
-        samples.push(*value as u16)?;
-    }
-    Ok(Samples::new(samples))
-}
-
 // Elements that are samples.
 fn element_samples<T: Element>(alloc: Global, elements: &[T]) -> Result<Samples, OutOfMemory>
     requires { All (λ v. (pos 0 ≤ℤ v) × (v <ℤ pos 65536)) (map T.worth elements.now) }
@@ -222,7 +210,7 @@ fn samples_of(alloc: Global, plane: Plane<'_>) -> Result<Samples, OutOfMemory>
         Plane::Signed8(elements) => element_samples(alloc, &elements),
         Plane::Signed16(elements) => element_samples(alloc, &elements),
         Plane::Signed32(elements) => element_samples(alloc, &elements),
-        Plane::Signed64(values) => narrow_samples(alloc, &values),
+        Plane::Signed64(elements) => element_samples(alloc, &elements),
         Plane::Wide(values) => wide_samples(alloc, &values),
         Plane::Gone => Ok(Samples::new(Vec::new(alloc))),
     }

@@ -10,19 +10,20 @@ ghost use Rattle.dk_base.specs.FrameSizes.{size_of};
 ghost use Rattle.pointwise_ir.specs.Trees.{tree_of, depth_of, EachImage};
 ghost use Rattle.pointwise_ir.specs.Programs.{all_types};
 ghost use Rattle.pointwise_ir.specs.Meaning.{value};
-ghost use Rattle.pointwise_eval.specs.Narrow.{AreNarrow, AreAllIn};
+ghost use Rattle.pointwise_eval.specs.Narrow.{ArePartsIn, AreAllIn};
 ghost use Rattle.pointwise_eval.specs.Planes.{values_of, shown, all_shown, HasRows, AreValues, CanEvaluate};
 ghost use Rattle.pointwise_eval.specs.Held.{HoldsAll};
 
 use crate::narrow::{narrow_type, reads_rows};
 use crate::plane::Plane;
+use crate::ranges::fits;
 use crate::value::render_points;
 use crate::walk::value_row;
 use dk_base::{FrameSize, OutOfMemory, Ty};
 use pointwise_ir::{Definition, Expr, Input};
 use std::alloc::Global;
 use std::cmp::max;
-use value_rows::{Element, narrow_row};
+use value_rows::{Element, copy_row};
 
 // The depth of an expression.
 fn depth(e: &Expr) -> usize
@@ -42,45 +43,19 @@ fn depth(e: &Expr) -> usize
     }
 }
 
-// The values, by a row and the rows that a row needs.
-fn rows_of(
-    alloc: Global,
-    size: FrameSize,
-    planes: &[Plane<'_>],
-    e: &Expr,
-    row: &mut [i64],
-    scratch: &mut [i64],
-) -> Result<Vec<i64>, OutOfMemory>
-    requires can { CanEvaluate (size_of size) planes.now (tree_of e.now) }
-    requires rows { EachImage (HasRows planes.now) (tree_of e.now) }
-    requires narrow { AreNarrow (size_of size) (all_shown (size_of size) planes.now) (tree_of e.now) }
-    requires row { length row.old ≡ size.width }
-    requires room { depth_of (tree_of e.now) * (size.width + size.width) ≤ length scratch.old }
-    ensures whole { IfOk result (λ v. length v.items ≡ area (size_of size)) }
-    ensures value { IfOk result (λ v. shown (size_of size) v.items
-        ≡ framed (size_of size) (value (size_of size) (all_shown (size_of size) planes.now) (tree_of e.now))) }
-{
-    let mut values = Vec::with_capacity(alloc, size.width as usize * size.height as usize)?;
-    for y in 0..size.height {
-        value_row(size, planes, e, y, row, scratch);
-        values.extend_from_slice(row)?;
-    }
-    Ok(values)
-}
-
 // Row y as elements.
-fn element_row<T: Element>(
+fn element_row<L: Element, T: Element>(
     size: FrameSize,
     planes: &[Plane<'_>],
     e: &Expr,
     y: u32,
-    row: &mut [i64],
-    scratch: &mut [i64],
+    row: &mut [L],
+    scratch: &mut [L],
     to: &mut [T],
 )
     requires can { CanEvaluate (size_of size) planes.now (tree_of e.now) }
     requires rows { EachImage (HasRows planes.now) (tree_of e.now) }
-    requires narrow { AreNarrow (size_of size) (all_shown (size_of size) planes.now) (tree_of e.now) }
+    requires parts { ArePartsIn L.ty (size_of size) (all_shown (size_of size) planes.now) (tree_of e.now) }
     requires typed { AreAllIn (size_of size) (all_shown (size_of size) planes.now) (tree_of e.now) T.ty }
     requires down { y < size.height }
     requires row { length row.old ≡ size.width }
@@ -89,22 +64,22 @@ fn element_row<T: Element>(
     ensures { IsRow (size_of size) (value (size_of size) (all_shown (size_of size) planes.now) (tree_of e.now)) (pos y) (map T.worth to.new) }
 {
     value_row(size, planes, e, y, row, scratch);
-    narrow_row(row, to);
+    copy_row(row, to);
 }
 
 // The elements, by a row and the rows that a row needs.
-fn elements_of_rows<T: Element>(
+fn elements_of_rows<L: Element, T: Element>(
     alloc: Global,
     size: FrameSize,
     planes: &[Plane<'_>],
     e: &Expr,
-    row: &mut [i64],
-    scratch: &mut [i64],
+    row: &mut [L],
+    scratch: &mut [L],
     part: &mut [T],
 ) -> Result<Vec<T>, OutOfMemory>
     requires can { CanEvaluate (size_of size) planes.now (tree_of e.now) }
     requires rows { EachImage (HasRows planes.now) (tree_of e.now) }
-    requires narrow { AreNarrow (size_of size) (all_shown (size_of size) planes.now) (tree_of e.now) }
+    requires parts { ArePartsIn L.ty (size_of size) (all_shown (size_of size) planes.now) (tree_of e.now) }
     requires typed { AreAllIn (size_of size) (all_shown (size_of size) planes.now) (tree_of e.now) T.ty }
     requires row { length row.old ≡ size.width }
     requires room { depth_of (tree_of e.now) * (size.width + size.width) ≤ length scratch.old }
@@ -122,7 +97,7 @@ fn elements_of_rows<T: Element>(
 }
 
 // The values as elements, by rows.
-fn render_elements<T: Element>(
+fn render_elements<L: Element, T: Element>(
     alloc: Global,
     size: FrameSize,
     planes: &[Plane<'_>],
@@ -130,7 +105,7 @@ fn render_elements<T: Element>(
 ) -> Result<Vec<T>, OutOfMemory>
     requires can { CanEvaluate (size_of size) planes.now (tree_of e.now) }
     requires rows { EachImage (HasRows planes.now) (tree_of e.now) }
-    requires narrow { AreNarrow (size_of size) (all_shown (size_of size) planes.now) (tree_of e.now) }
+    requires parts { ArePartsIn L.ty (size_of size) (all_shown (size_of size) planes.now) (tree_of e.now) }
     requires typed { AreAllIn (size_of size) (all_shown (size_of size) planes.now) (tree_of e.now) T.ty }
     requires depth { depth_of (tree_of e.now) ≤ MAX_INLINED_DEPTH }
     ensures whole { IfOk result (λ v. length (map T.worth v.items) ≡ area (size_of size)) }
@@ -138,33 +113,11 @@ fn render_elements<T: Element>(
         ≡ framed (size_of size) (value (size_of size) (all_shown (size_of size) planes.now) (tree_of e.now))) }
 {
     let width = size.width as usize;
-    let mut row = vec![in alloc; 0i64; width]?;
+    let mut row = vec![in alloc; L::default(); width]?;
     let mut part = vec![in alloc; T::default(); width]?;
-    let mut scratch = vec![in alloc; 0i64; depth(e) * (width + width)]?;
+    let mut scratch = vec![in alloc; L::default(); depth(e) * (width + width)]?;
     let elements = elements_of_rows(alloc, size, planes, e, &mut row, &mut scratch, &mut part)?;
     Ok(elements)
-}
-
-// The values in 64 bits, by rows.
-fn render_values(
-    alloc: Global,
-    size: FrameSize,
-    planes: &[Plane<'_>],
-    e: &Expr,
-) -> Result<Vec<i64>, OutOfMemory>
-    requires can { CanEvaluate (size_of size) planes.now (tree_of e.now) }
-    requires rows { EachImage (HasRows planes.now) (tree_of e.now) }
-    requires narrow { AreNarrow (size_of size) (all_shown (size_of size) planes.now) (tree_of e.now) }
-    requires depth { depth_of (tree_of e.now) ≤ MAX_INLINED_DEPTH }
-    ensures whole { IfOk result (λ v. length v.items ≡ area (size_of size)) }
-    ensures value { IfOk result (λ v. shown (size_of size) v.items
-        ≡ framed (size_of size) (value (size_of size) (all_shown (size_of size) planes.now) (tree_of e.now))) }
-{
-    let width = size.width as usize;
-    let mut row = vec![in alloc; 0i64; width]?;
-    let mut scratch = vec![in alloc; 0i64; depth(e) * (width + width)]?;
-    let values = rows_of(alloc, size, planes, e, &mut row, &mut scratch)?;
-    Ok(values)
 }
 
 // The elements that an image is held as.
@@ -201,7 +154,7 @@ fn held_as(ty: Ty) -> Held
 }
 
 // The plane of an image of this type, by rows.
-fn render_rows<'a>(
+fn render_rows<'a, L: Element>(
     alloc: Global,
     size: FrameSize,
     planes: &[Plane<'_>],
@@ -210,25 +163,27 @@ fn render_rows<'a>(
 ) -> Result<Plane<'a>, OutOfMemory>
     requires can { CanEvaluate (size_of size) planes.now (tree_of e.now) }
     requires rows { EachImage (HasRows planes.now) (tree_of e.now) }
-    requires narrow { AreNarrow (size_of size) (all_shown (size_of size) planes.now) (tree_of e.now) }
+    requires parts { ArePartsIn L.ty (size_of size) (all_shown (size_of size) planes.now) (tree_of e.now) }
     requires typed { AreAllIn (size_of size) (all_shown (size_of size) planes.now) (tree_of e.now) ty }
     requires depth { depth_of (tree_of e.now) ≤ MAX_INLINED_DEPTH }
     ensures whole { IfOk result (λ p. length (values_of p) ≡ area (size_of size)) }
     ensures value { IfOk result (λ p. shown (size_of size) (values_of p)
         ≡ framed (size_of size) (value (size_of size) (all_shown (size_of size) planes.now) (tree_of e.now))) }
 {
+    let _held = L::held();
     match held_as(ty) {
-        Held::Unsigned8 => Ok(Plane::Unsigned8(render_elements(alloc, size, planes, e)?)),
-        Held::Unsigned16 => Ok(Plane::Unsigned16(render_elements(alloc, size, planes, e)?)),
-        Held::Unsigned32 => Ok(Plane::Unsigned32(render_elements(alloc, size, planes, e)?)),
-        Held::Signed8 => Ok(Plane::Signed8(render_elements(alloc, size, planes, e)?)),
-        Held::Signed16 => Ok(Plane::Signed16(render_elements(alloc, size, planes, e)?)),
-        Held::Signed32 => Ok(Plane::Signed32(render_elements(alloc, size, planes, e)?)),
-        Held::Signed64 => Ok(Plane::Signed64(render_values(alloc, size, planes, e)?)),
+        Held::Unsigned8 => Ok(Plane::Unsigned8(render_elements::<L, _>(alloc, size, planes, e)?)),
+        Held::Unsigned16 => Ok(Plane::Unsigned16(render_elements::<L, _>(alloc, size, planes, e)?)),
+        Held::Unsigned32 => Ok(Plane::Unsigned32(render_elements::<L, _>(alloc, size, planes, e)?)),
+        Held::Signed8 => Ok(Plane::Signed8(render_elements::<L, _>(alloc, size, planes, e)?)),
+        Held::Signed16 => Ok(Plane::Signed16(render_elements::<L, _>(alloc, size, planes, e)?)),
+        Held::Signed32 => Ok(Plane::Signed32(render_elements::<L, _>(alloc, size, planes, e)?)),
+        Held::Signed64 => Ok(Plane::Signed64(render_elements::<L, _>(alloc, size, planes, e)?)),
     }
 }
 
-// The values of an expression over these images at all pixels: by rows where all its parts have values of 64 bits and it reads such planes, else each by itself.
+// The values of an expression over these images at all pixels: by rows where all its parts have values of 64 bits and it reads such planes, in the lane of fewest bits that holds them; else each by itself.
+#[tactic(auto, using(crate::proofs::Narrows::planes_narrow))]
 pub fn render<'a>(
     alloc: Global,
     size: FrameSize,
@@ -251,5 +206,11 @@ pub fn render<'a>(
     let Some(ty) = narrow_type(e, inputs, images) else {
         return render_points(alloc, size, planes, e);
     };
-    render_rows(alloc, size, planes, e, ty)
+    if fits::<i16>(e, inputs, images) {
+        return render_rows::<i16>(alloc, size, planes, e, ty);
+    }
+    if fits::<i32>(e, inputs, images) {
+        return render_rows::<i32>(alloc, size, planes, e, ty);
+    }
+    render_rows::<i64>(alloc, size, planes, e, ty)
 }

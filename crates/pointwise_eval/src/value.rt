@@ -38,7 +38,7 @@ fn value_of(plane: &Plane<'_>, place: usize) -> i128
         Plane::Signed8(elements) => element_at(elements, place),
         Plane::Signed16(elements) => element_at(elements, place),
         Plane::Signed32(elements) => element_at(elements, place),
-        Plane::Signed64(values) => i128::from(values[place]),
+        Plane::Signed64(elements) => element_at(elements, place),
         Plane::Wide(values) => values[place],
         Plane::Gone => 0,
     }

@@ -8,15 +8,15 @@ ghost use Rattle.pointwise_ir.specs.Meaning.{value};
 ghost use Rattle.value_rows.specs.Rows.{entry, beside, IsRow, IsNarrow};
 ghost use Rattle.pointwise_eval.specs.Planes.{values_of, entries_of, IsByRows, all_shown, IsWhole, HasRows, CanEvaluate};
 ghost use Rattle.pointwise_eval.specs.Steps.{LeadsNowhere, LeadsToRow};
-ghost use Rattle.pointwise_eval.specs.Narrow.{AreNarrow};
+ghost use Rattle.dk_base.specs.Types.{IsIn};
+ghost use Rattle.pointwise_eval.specs.Narrow.{ArePartsIn};
 
 use crate::plane::{Plane, Row};
 use crate::point::{brought, moved};
 use dk_base::FrameSize;
 use pointwise_ir::{Edge, Expr};
 use value_rows::{
-    Element, binary_row, convert_row, fill_part, scale_row, select_row, shift_elements, shift_row,
-    unary_row,
+    Element, binary_row, convert_row, fill_part, scale_row, select_row, shift_row, unary_row,
 };
 
 // The row to which a step leads, or None where it leads out of the frame.
@@ -74,15 +74,6 @@ fn elements_part<T: Element>(elements: &[T], start: usize, count: usize) -> &[T]
     elements.split_at(start).1.split_at(count).0
 }
 
-// This many values from a place on.
-fn values_part(values: &[i64], start: usize, count: usize) -> &[i64]
-    requires { start + count ≤ length values.now }
-    ensures whole { length result.now ≡ count }
-    ensures values { (k : ℕ) → k < count → entry result.now k ≡ entry values.now (start + k) }
-{
-    values.split_at(start).1.split_at(count).0
-}
-
 // This many values of a row from a place on.
 fn part<'a>(row: Row<'a>, start: usize, count: usize) -> Row<'a>
     requires { start + count ≤ length (entries_of row) }
@@ -96,25 +87,27 @@ fn part<'a>(row: Row<'a>, start: usize, count: usize) -> Row<'a>
         Row::I8(elements) => Row::I8(elements_part(elements, start, count)),
         Row::I16(elements) => Row::I16(elements_part(elements, start, count)),
         Row::I32(elements) => Row::I32(elements_part(elements, start, count)),
-        Row::I64(values) => Row::I64(values_part(values, start, count)),
+        Row::I64(elements) => Row::I64(elements_part(elements, start, count)),
     }
 }
 
 // A row of elements, read `by` columns to the right.
 #[tactic(auto, using(crate::proofs::Pixels::same_length))]
-fn read_elements<T: Element>(edge: Edge, by: i32, elements: &[T], to: &mut [i64])
+fn read_elements<T: Element, L: Element>(edge: Edge, by: i32, elements: &[T], to: &mut [L])
     requires same { length (map T.worth elements.now) ≡ length to.old }
     requires some { 0 < length to.old }
-    ensures { (x : ℕ) → x < length to.old → entry to.new x ≡ beside edge (map T.worth elements.now) (pos x +ℤ by) }
+    requires fits { (k : ℕ) → k < length to.old → IsIn L.ty (entry (map T.worth elements.now) k) }
+    ensures { (x : ℕ) → x < length to.old → entry (map L.worth to.new) x ≡ beside edge (map T.worth elements.now) (pos x +ℤ by) }
 {
-    shift_elements(edge, by, elements, to)
+    shift_row(edge, by, elements, to)
 }
 
 // The row, read `by` columns to the right.
-fn read_row(edge: Edge, by: i32, row: Row<'_>, to: &mut [i64])
+fn read_row<L: Element>(edge: Edge, by: i32, row: Row<'_>, to: &mut [L])
     requires same { length (entries_of row) ≡ length to.old }
     requires some { 0 < length to.old }
-    ensures { (x : ℕ) → x < length to.old → entry to.new x ≡ beside edge (entries_of row.entry) (pos x +ℤ by) }
+    requires fits { (k : ℕ) → k < length to.old → IsIn L.ty (entry (entries_of row) k) }
+    ensures { (x : ℕ) → x < length to.old → entry (map L.worth to.new) x ≡ beside edge (entries_of row.entry) (pos x +ℤ by) }
 {
     match row {
         Row::U8(elements) => read_elements(edge, by, elements, to),
@@ -123,7 +116,7 @@ fn read_row(edge: Edge, by: i32, row: Row<'_>, to: &mut [i64])
         Row::I8(elements) => read_elements(edge, by, elements, to),
         Row::I16(elements) => read_elements(edge, by, elements, to),
         Row::I32(elements) => read_elements(edge, by, elements, to),
-        Row::I64(values) => shift_row(edge, by, values, to),
+        Row::I64(elements) => read_elements(edge, by, elements, to),
     }
 }
 
@@ -142,29 +135,46 @@ fn row_of<'a>(size: FrameSize, planes: &'a [Plane<'_>], image: u32, y: u32) -> R
     )
 }
 
+// Writes a value at all places.
+fn constant_row<L: Element>(value: i128, to: &mut [L])
+    requires { IsIn L.ty value }
+    ensures { (x : ℕ) → x < length to.old → entry (map L.worth to.new) x ≡ value }
+{
+    let _held = L::held();
+    fill_part(to, 0, to.len(), narrow(value));
+}
+
+// Writes 0 at all places.
+#[tactic(auto, using(pointwise_ir::proofs::Typed::zero_in))]
+fn zero_row<L: Element>(to: &mut [L])
+    ensures { (x : ℕ) → x < length to.old → entry (map L.worth to.new) x ≡ pos 0 }
+{
+    fill_part(to, 0, to.len(), 0);
+}
+
 // Writes the values of an expression along row y. `scratch` has two rows for each level of the expression.
-pub fn value_row(
+pub fn value_row<L: Element>(
     size: FrameSize,
     planes: &[Plane<'_>],
     e: &Expr,
     y: u32,
-    to: &mut [i64],
-    scratch: &mut [i64],
+    to: &mut [L],
+    scratch: &mut [L],
 )
     requires can { CanEvaluate (size_of size) planes.now (tree_of e.now) }
     requires rows { EachImage (HasRows planes.now) (tree_of e.now) }
-    requires narrow { AreNarrow (size_of size) (all_shown (size_of size) planes.now) (tree_of e.now) }
+    requires parts { ArePartsIn L.ty (size_of size) (all_shown (size_of size) planes.now) (tree_of e.now) }
     requires down { y < size.height }
     requires row { length to.old ≡ size.width }
     requires room { depth_of (tree_of e.now) * (size.width + size.width) ≤ length scratch.old }
-    ensures { IsRow (size_of size) (value (size_of size) (all_shown (size_of size) planes.now) (tree_of e.now)) (pos y) to.new }
+    ensures { IsRow (size_of size) (value (size_of size) (all_shown (size_of size) planes.now) (tree_of e.now)) (pos y) (map L.worth to.new) }
 {
     let width = to.len();
     match e {
-        Expr::Constant(value, _) => fill_part(to, 0, width, narrow(*value)),
+        Expr::Constant(value, _) => constant_row(*value, to),
         Expr::Read(edge, image, dx, dy) => match row_at(*edge, y, *dy, size.height) {
             Some(there) => read_row(*edge, *dx, row_of(size, planes, *image, there), to),
-            None => fill_part(to, 0, width, 0),
+            None => zero_row(to),
         },
         Expr::Shifted(edge, dx, dy, body) => match row_at(*edge, y, *dy, size.height) {
             Some(there) => {
@@ -172,7 +182,7 @@ pub fn value_row(
                 value_row(size, planes, body, there, row, rest);
                 shift_row(*edge, *dx, row, to);
             }
-            None => fill_part(to, 0, width, 0),
+            None => zero_row(to),
         },
         Expr::Unary(op, body) => {
             value_row(size, planes, body, y, to, scratch);

@@ -1,6 +1,6 @@
 // What the dins are given.
 
-ghost use Rattle.std.specs.Prelude.{◌≡◌, ℕ, ◌-◌, ◌^◌, ◌<◌, ◌≤◌, List, length, replicate, slice_index, IfOk};
+ghost use Rattle.std.specs.Prelude.{◌≡◌, ℕ, ◌-◌, ◌^◌, ◌<◌, ◌≤◌, List, length, replicate, slice_index, IfOk, ◌/◌, ◌%◌};
 ghost use Rattle.std.specs.List.{All};
 ghost use Rattle.dk_base.specs.declared.TheConstants.{MAX_PORT_WIDTH};
 ghost use Rattle.dk_base.specs.Frames.{Size, area as area_of};
@@ -24,6 +24,22 @@ fn sample(samples: &Samples, place: usize) -> u64
     u64::from(samples.sample(place))
 }
 
+// The round of a pixel. Most are in the first one, where nothing has to be divided.
+fn round_at(place: usize, area: usize) -> usize
+    requires { 0 < area }
+    ensures { result ≡ place / area }
+{
+    if place < area { 0 } else { place / area }
+}
+
+// The place of a pixel in its frame.
+fn place_at(place: usize, area: usize) -> usize
+    requires { 0 < area }
+    ensures { result ≡ place % area }
+{
+    if place < area { place } else { place % area }
+}
+
 /// A pixel of an input, counted over all rounds, or 0 after the last one. A frame has `area` pixels.
 pub fn pixel(rounds: &[Round], area: usize, input: usize, number: u64) -> u64
     requires area { 0 < area }
@@ -31,12 +47,12 @@ pub fn pixel(rounds: &[Round], area: usize, input: usize, number: u64) -> u64
     ensures { result ≡ slice_index (stream (rounds_of rounds.now) input) number }
 {
     let place = number as usize;
-    let round = place / area;
+    let round = round_at(place, area);
     if rounds.len() <= round {
         return 0;
     }
     let frame = &rounds[round].frames[input];
-    sample(&frame.samples, place % area)
+    sample(&frame.samples, place_at(place, area))
 }
 
 /// Gives each din its pixel of this number, counted over all rounds; 0 after the last one. A frame has `area` pixels.

@@ -1,9 +1,8 @@
 -- What is beside a row.
-use Rattle.std.proofs.Common.{map, slice_set, ◌≡◌, ◌∙◌, sym, ℕ, suc, ◌+◌, ◌-◌, ◌<◌, ◌≤◌, List, length, get_or, ℤ, pos, negsuc, ◌+ℤ◌, ◌≤ℤ◌, ◌<ℤ◌, unsigned_abs, arith, refl, inl, inr, ap}
+use Rattle.std.proofs.Common.{map, ◌≡◌, ◌∙◌, sym, ℕ, suc, ◌+◌, ◌-◌, ◌<◌, ◌≤◌, List, length, get_or, ℤ, pos, negsuc, ◌+ℤ◌, ◌≤ℤ◌, ◌<ℤ◌, unsigned_abs, arith, refl, inl, inr, ap}
 use Rattle.std.proofs.lemmas.Bool.{cases_lt}
 use Rattle.std.proofs.lemmas.Int.{ints}
-use Rattle.std.proofs.lemmas.List.{length-map, get_or-map, map-set, get_or-set_other}
-use Rattle.std.proofs.lemmas.Grind.{get_or-set_at}
+use Rattle.std.proofs.lemmas.List.{length-map, get_or-map}
 use Rattle.pointwise_ir.specs.declared.expr.Edge.{Edge}
 use Rattle.pointwise_ir.specs.declared.expr.Edge.TheVariants.{Zero, Clamp}
 use Rattle.value_rows.specs.Rows.{entry, end_of, beside}
@@ -24,7 +23,7 @@ beside_left Zero row n = refl
 beside_left Clamp row n = refl
 
 -- a row that is read to the right
-pub right_row : (edge : Edge) (from new : List ℤ) (z : ℤ) (columns : ℕ) → pos 0 ≤ℤ z → (unsigned_abs z ≤ length from → columns ≡ unsigned_abs z) → (length from ≤ unsigned_abs z → columns ≡ length from) →
+right_row : (edge : Edge) (from new : List ℤ) (z : ℤ) (columns : ℕ) → pos 0 ≤ℤ z → (unsigned_abs z ≤ length from → columns ≡ unsigned_abs z) → (length from ≤ unsigned_abs z → columns ≡ length from) →
     ((x : ℕ) → x + columns < length from → entry new x ≡ entry from (x + columns)) →
     ((x last : ℕ) → last + 1 ≡ length from → x < length from → length from ≤ x + columns → entry new x ≡ end_of edge (entry from last)) →
     (x : ℕ) → x < length from → entry new x ≡ beside edge from (pos x +ℤ z)
@@ -43,7 +42,7 @@ right_row edge from new (pos n) columns ge near far inside outside x lt = elim (
 ]
 
 -- a row that is read to the left
-pub left_row : (edge : Edge) (from new : List ℤ) (z : ℤ) (columns : ℕ) → z <ℤ pos 0 → (unsigned_abs z ≤ length from → columns ≡ unsigned_abs z) → (length from ≤ unsigned_abs z → columns ≡ length from) →
+left_row : (edge : Edge) (from new : List ℤ) (z : ℤ) (columns : ℕ) → z <ℤ pos 0 → (unsigned_abs z ≤ length from → columns ≡ unsigned_abs z) → (length from ≤ unsigned_abs z → columns ≡ length from) →
     ((x : ℕ) → x + columns < length from → entry new (x + columns) ≡ entry from x) →
     ((x : ℕ) → x < columns → entry new x ≡ end_of edge (entry from 0)) →
     (x : ℕ) → x < length from → entry new x ≡ beside edge from (pos x +ℤ z)
@@ -66,38 +65,18 @@ left_row edge from new (negsuc n) columns lt near far inside outside x within = 
 ]
 
 -- the same of elements
-pub right_elements : {A : Type 0} (worth : A → ℤ) (edge : Edge) (from : List A) (new : List ℤ) (z : ℤ) (columns : ℕ) → pos 0 ≤ℤ z → (unsigned_abs z ≤ length from → columns ≡ unsigned_abs z) → (length from ≤ unsigned_abs z → columns ≡ length from) →
-    ((x : ℕ) → x + columns < length from → entry new x ≡ entry (map worth from) (x + columns)) →
-    ((x last : ℕ) → last + 1 ≡ length from → x < length from → length from ≤ x + columns → entry new x ≡ end_of edge (entry (map worth from) last)) →
-    (x : ℕ) → x < length from → entry new x ≡ beside edge (map worth from) (pos x +ℤ z)
-right_elements worth edge from new z columns = rw (length-map from worth) at (right_row edge (map worth from) new z columns)
+pub right_elements : {A B : Type 0} (worth : A → ℤ) (value : B → ℤ) (edge : Edge) (from : List A) (new : List B) (z : ℤ) (columns : ℕ) → pos 0 ≤ℤ z → (unsigned_abs z ≤ length from → columns ≡ unsigned_abs z) → (length from ≤ unsigned_abs z → columns ≡ length from) →
+    ((x : ℕ) → x + columns < length from → entry (map value new) x ≡ entry (map worth from) (x + columns)) →
+    ((x last : ℕ) → last + 1 ≡ length from → x < length from → length from ≤ x + columns → entry (map value new) x ≡ end_of edge (entry (map worth from) last)) →
+    (x : ℕ) → x < length from → entry (map value new) x ≡ beside edge (map worth from) (pos x +ℤ z)
+right_elements worth value edge from new z columns = rw (length-map from worth) at (right_row edge (map worth from) (map value new) z columns)
 
-pub left_elements : {A : Type 0} (worth : A → ℤ) (edge : Edge) (from : List A) (new : List ℤ) (z : ℤ) (columns : ℕ) → z <ℤ pos 0 → (unsigned_abs z ≤ length from → columns ≡ unsigned_abs z) → (length from ≤ unsigned_abs z → columns ≡ length from) →
-    ((x : ℕ) → x + columns < length from → entry new (x + columns) ≡ entry (map worth from) x) →
-    ((x : ℕ) → x < columns → entry new x ≡ end_of edge (entry (map worth from) 0)) →
-    (x : ℕ) → x < length from → entry new x ≡ beside edge (map worth from) (pos x +ℤ z)
-left_elements worth edge from new z columns = rw (length-map from worth) at (left_row edge (map worth from) new z columns)
+pub left_elements : {A B : Type 0} (worth : A → ℤ) (value : B → ℤ) (edge : Edge) (from : List A) (new : List B) (z : ℤ) (columns : ℕ) → z <ℤ pos 0 → (unsigned_abs z ≤ length from → columns ≡ unsigned_abs z) → (length from ≤ unsigned_abs z → columns ≡ length from) →
+    ((x : ℕ) → x + columns < length from → entry (map value new) (x + columns) ≡ entry (map worth from) x) →
+    ((x : ℕ) → x < columns → entry (map value new) x ≡ end_of edge (entry (map worth from) 0)) →
+    (x : ℕ) → x < length from → entry (map value new) x ≡ beside edge (map worth from) (pos x +ℤ z)
+left_elements worth value edge from new z columns = rw (length-map from worth) at (left_row edge (map worth from) (map value new) z columns)
 
 -- an element as a value
 pub element_entry : {A : Type 0} (worth : A → ℤ) (s : List A) (i : ℕ) (d : A) → i < length s → worth (get_or s i d) ≡ entry (map worth s) i
 element_entry worth s i d lt = sym (get_or-map worth s i d (pos 0) lt)
-
--- an element more is narrowed
-pub narrowed_more : {A : Type 0} (worth : A → ℤ) (to : List A) (values : List ℤ) (k : ℕ) (r : A) → k < length to → worth r ≡ entry values k → ((j : ℕ) → j < k → entry (map worth to) j ≡ entry values j) →
-    (j : ℕ) → j < k + 1 → entry (map worth (slice_set to k r)) j ≡ entry values j
-narrowed_more worth to values k r lt is before j below = ap (λ l. entry l j) (map-set worth to k r) ∙ elim (cases_lt j k) [
-  | inl low ↦ get_or-set_other (map worth to) k j (worth r) (pos 0) (λ e. omega (arith, low, e)) ∙ before j low
-  | inr high ↦
-      let here : j ≡ k = omega (arith, high, below) in
-      get_or-set_at (map worth to) k j (worth r) (pos 0) here (rw (length-map to worth) lt) ∙ is ∙ ap (entry values) (sym here)
-]
-
--- an element more is widened
-pub widened_more : {A : Type 0} (worth : A → ℤ) (to : List ℤ) (elements : List A) (start from k : ℕ) (w : ℤ) → start + k < length to → w ≡ entry (map worth elements) (from + k) → ((j : ℕ) → j < k → entry to (start + j) ≡ entry (map worth elements) (from + j)) →
-    (j : ℕ) → j < k + 1 → entry (slice_set to (start + k) w) (start + j) ≡ entry (map worth elements) (from + j)
-widened_more worth to elements start from k w lt is before j below = elim (cases_lt j k) [
-  | inl low ↦ get_or-set_other to (start + k) (start + j) w (pos 0) (λ e. omega (arith, low, e)) ∙ before j low
-  | inr high ↦
-      let here : j ≡ k = omega (arith, high, below) in
-      get_or-set_at to (start + k) (start + j) w (pos 0) (ap (λ n. start + n) here) lt ∙ is ∙ ap (λ n. entry (map worth elements) (from + n)) (sym here)
-]

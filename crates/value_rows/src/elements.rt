@@ -1,10 +1,13 @@
-// Rows of numbers in fewer bytes than 8.
+// Numbers in 1, 2, 4 or 8 bytes, of which rows are made.
 
-ghost use Rattle.std.specs.Prelude.{◌≡◌, ℕ, ◌+◌, ◌<◌, ◌≤◌, length, ℤ, pos, map};
+ghost use Rattle.std.specs.Prelude.{◌≡◌, ◌<◌, ℤ, pos};
 ghost use Rattle.dk_base.specs.declared.ty.Ty.{Ty};
 ghost use Rattle.dk_base.specs.declared.ty.Ty.TheVariants.{Unsigned, Signed};
-ghost use Rattle.dk_base.specs.Types.{IsIn};
-ghost use Rattle.value_rows.specs.Rows.{entry};
+ghost use Rattle.dk_base.specs.Types.{IsType, IsIn, IsWithin, width_of};
+ghost use Rattle.dk_base.specs.Operators.{scaling_value as scaling_worth};
+ghost use Rattle.dk_base.specs.declared.operator.Scaling.TheVariants.{ShiftRight};
+
+use dk_base::Ty;
 
 /// A number in as many bytes as a type needs: `ty` is the type whose numbers it holds, and `worth` the number that it is.
 pub trait Element: Copy + Default + Drop {
@@ -12,20 +15,36 @@ pub trait Element: Copy + Default + Drop {
 
     ghost worth: { Self → ℤ };
 
+    /// The type whose numbers it holds.
+    fn held() -> Ty
+        ensures held { result ≡ ty }
+        ensures typed { IsType ty }
+        ensures narrow { IsWithin ty (Signed 64) };
+
     /// The number in 64 bits.
     fn widen(self) -> i64
-        ensures { result ≡ worth self };
+        ensures value { result ≡ worth self }
+        ensures fits { IsIn ty (worth self) };
 
     /// The element of a number of its type.
     fn narrow(value: i64) -> Self
         requires { IsIn ty value }
         ensures { worth result ≡ value };
+
+    /// The quotient by 2 to the power `by`, rounded down.
+    fn down(self, by: u8) -> Self
+        requires { by < width_of ty }
+        ensures { worth result ≡ scaling_worth ShiftRight (worth self) by };
 }
 
 impl Element for u8 {
     ghost ty = { Unsigned 8 };
 
     ghost worth = { pos };
+
+    fn held() -> Ty {
+        Ty::Unsigned(8)
+    }
 
     fn widen(self) -> i64 {
         i64::from(self)
@@ -34,12 +53,20 @@ impl Element for u8 {
     fn narrow(value: i64) -> u8 {
         value as u8
     }
+
+    fn down(self, by: u8) -> u8 {
+        self >> by
+    }
 }
 
 impl Element for u16 {
     ghost ty = { Unsigned 16 };
 
     ghost worth = { pos };
+
+    fn held() -> Ty {
+        Ty::Unsigned(16)
+    }
 
     fn widen(self) -> i64 {
         i64::from(self)
@@ -48,12 +75,20 @@ impl Element for u16 {
     fn narrow(value: i64) -> u16 {
         value as u16
     }
+
+    fn down(self, by: u8) -> u16 {
+        self >> by
+    }
 }
 
 impl Element for u32 {
     ghost ty = { Unsigned 32 };
 
     ghost worth = { pos };
+
+    fn held() -> Ty {
+        Ty::Unsigned(32)
+    }
 
     fn widen(self) -> i64 {
         i64::from(self)
@@ -62,12 +97,20 @@ impl Element for u32 {
     fn narrow(value: i64) -> u32 {
         value as u32
     }
+
+    fn down(self, by: u8) -> u32 {
+        self >> by
+    }
 }
 
 impl Element for i8 {
     ghost ty = { Signed 8 };
 
     ghost worth = { λ v. v };
+
+    fn held() -> Ty {
+        Ty::Signed(8)
+    }
 
     fn widen(self) -> i64 {
         i64::from(self)
@@ -76,12 +119,20 @@ impl Element for i8 {
     fn narrow(value: i64) -> i8 {
         value as i8
     }
+
+    fn down(self, by: u8) -> i8 {
+        self >> by
+    }
 }
 
 impl Element for i16 {
     ghost ty = { Signed 16 };
 
     ghost worth = { λ v. v };
+
+    fn held() -> Ty {
+        Ty::Signed(16)
+    }
 
     fn widen(self) -> i64 {
         i64::from(self)
@@ -90,12 +141,20 @@ impl Element for i16 {
     fn narrow(value: i64) -> i16 {
         value as i16
     }
+
+    fn down(self, by: u8) -> i16 {
+        self >> by
+    }
 }
 
 impl Element for i32 {
     ghost ty = { Signed 32 };
 
     ghost worth = { λ v. v };
+
+    fn held() -> Ty {
+        Ty::Signed(32)
+    }
 
     fn widen(self) -> i64 {
         i64::from(self)
@@ -104,35 +163,30 @@ impl Element for i32 {
     fn narrow(value: i64) -> i32 {
         value as i32
     }
-}
 
-/// Writes this many elements, from the place `from` on, at the places from `start` on.
-#[tactic(auto, using(crate::proofs::Besides::element_entry))]
-pub fn widen_part<T: Element>(
-    to: &mut [i64],
-    start: usize,
-    elements: &[T],
-    from: usize,
-    count: usize,
-)
-    requires within { start + count ≤ length to.old }
-    requires there { from + count ≤ length elements.now }
-    ensures copied { (k : ℕ) → k < count → entry to.new (start + k) ≡ entry (map T.worth elements.now) (from + k) }
-    ensures before { (k : ℕ) → k < start → entry to.new k ≡ entry to.old k }
-    ensures behind { (k : ℕ) → start + count ≤ k → entry to.new k ≡ entry to.old k }
-{
-    for k in 0..count {
-        to[start + k] = elements[from + k].widen();
+    fn down(self, by: u8) -> i32 {
+        self >> by
     }
 }
 
-/// Puts values of the elements' type in their places.
-pub fn narrow_row<T: Element>(values: &[i64], to: &mut [T])
-    requires same { length values.now ≡ length to.old }
-    requires typed { (k : ℕ) → k < length to.old → IsIn T.ty (entry values.now k) }
-    ensures { (k : ℕ) → k < length to.old → entry (map T.worth to.new) k ≡ entry values.now k }
-{
-    for k in 0..to.len() {
-        to[k] = T::narrow(values[k]);
+impl Element for i64 {
+    ghost ty = { Signed 64 };
+
+    ghost worth = { λ v. v };
+
+    fn held() -> Ty {
+        Ty::Signed(64)
+    }
+
+    fn widen(self) -> i64 {
+        self
+    }
+
+    fn narrow(value: i64) -> i64 {
+        value
+    }
+
+    fn down(self, by: u8) -> i64 {
+        self >> by
     }
 }

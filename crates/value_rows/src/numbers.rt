@@ -1,15 +1,10 @@
-// Values of 64 bits brought into the range of a type, and divided by powers of two.
+// Values in 64 bits: low bits, quotients by powers of two, ends of ranges.
 
-ghost use Rattle.std.specs.Prelude.{◌≡◌, ◌^◌, ◌≤◌, ◌<◌, ◌≤ℤ◌, ◌<ℤ◌, ◌+ℤ◌, ◌-ℤ◌, ◌-◌, pos, unsigned_abs, IfSome};
-ghost use Rattle.std.specs.Int.{int_min};
+ghost use Rattle.std.specs.Prelude.{◌≡◌, ℕ, ◌^◌, ◌≤◌, ◌<◌, ◌<ℤ◌, ◌≤ℤ◌, ◌+ℤ◌, ◌-ℤ◌, ◌*ℤ◌, ◌+◌, ◌-◌, pos, IfSome, bit_and, if◌then◌else◌};
 ghost use Rattle.dk_base.specs.declared.ty.Ty.TheVariants.{Unsigned, Signed};
-ghost use Rattle.dk_base.specs.Types.{IsType, least_of, greatest_of};
-ghost use Rattle.dk_base.specs.Numbers.{code, number, wrap as wrapped_worth, saturate as saturated_worth};
-ghost use Rattle.dk_base.specs.Operators.{scaling_value as scaling_worth};
-ghost use Rattle.dk_base.specs.declared.operator.Scaling.TheVariants.{Divide, ShiftRight};
+ghost use Rattle.dk_base.specs.Numbers.{code, wrap as wrapped_worth};
+ghost use Rattle.dk_base.specs.Operators.{select_value as select_worth};
 ghost use Rattle.value_rows.specs.Rows.{IsNarrow};
-
-use dk_base::{Ty, wrap};
 
 // The value in 64 bits.
 pub fn narrow(value: i128) -> i64
@@ -21,7 +16,7 @@ pub fn narrow(value: i128) -> i64
 
 // 2 to the power `exponent`.
 #[tactic(auto, using(std::proofs::lemmas::Nat::one_shl, std::proofs::lemmas::Nat::pow_below))]
-fn power(exponent: u8) -> i64
+pub fn power(exponent: u8) -> i64
     requires { exponent ≤ 62 }
     ensures { result ≡ pos (2 ^ exponent) }
 {
@@ -31,35 +26,28 @@ fn power(exponent: u8) -> i64
 
 // This many bits, all of them 1.
 #[tactic(auto, using(std::proofs::lemmas::Nat::one_shl, std::proofs::lemmas::Nat::pow_below))]
-fn mask(width: u8) -> u64
+pub fn mask(width: u8) -> i64
     requires { width ≤ 63 }
-    ensures { result ≡ 2 ^ width - 1 }
+    ensures { result ≡ pos (2 ^ width - 1) }
 {
     let above: u64 = 1 << width;
-    above - 1
+    (above - 1) as i64
 }
 
-// This many low bits of a value in two's complement.
-#[tactic(auto, using(crate::proofs::Bits::low_bits_are))]
-fn low_bits(value: i64, width: u8) -> u64
-    requires { width ≤ 63 }
-    ensures { result ≡ code width value }
+// The product of two values.
+pub fn product(left: i64, right: i64) -> i128
+    ensures { result ≡ left *ℤ right }
 {
-    value.cast_unsigned() & mask(width)
+    i128::from(left) * i128::from(right)
 }
 
-// What this many bits are worth in a signed type.
-fn signed_number(bits: i64, width: u8) -> i64
-    requires some { 1 ≤ width }
-    requires most { width ≤ 62 }
-    requires least { pos 0 ≤ℤ bits }
-    ensures { result ≡ number (Signed width) (unsigned_abs bits) }
+// A number from 0 on as bits.
+fn bits_of(number: i64) -> u64
+    requires { pos 0 ≤ℤ number }
+    ensures value { pos result ≡ number }
+    ensures below { result < 9223372036854775808 }
 {
-    if bits < power(width - 1) {
-        bits
-    } else {
-        bits - power(width)
-    }
+    number as u64
 }
 
 // Fewer than 64 bits as a number.
@@ -70,68 +58,45 @@ fn number_of(bits: u64) -> i64
     bits as i64
 }
 
-// A value cut to an unsigned type of fewer than 64 bits.
-#[tactic(auto, using(crate::proofs::Bits::unsigned_bits, crate::proofs::Bits::code_small))]
-fn wrapped_unsigned(value: i64, width: u8) -> i64
-    requires { width ≤ 63 }
-    ensures { result ≡ wrapped_worth (Unsigned width) value }
+// The bits of a mask in a value in two's complement.
+#[tactic(auto, using(crate::proofs::Bits::masked_is, crate::proofs::Bits::masked_below))]
+fn low_bits(value: i64, mask: u64) -> u64
+    requires { mask < 9223372036854775808 }
+    ensures low { (w : ℕ) → w ≤ 63 → mask ≡ 2 ^ w - 1 → result ≡ code w value }
+    ensures below { result < 9223372036854775808 }
 {
-    number_of(low_bits(value, width))
+    value.cast_unsigned() & mask
 }
 
-// A value cut to a signed type of fewer than 63 bits.
-#[tactic(auto, using(crate::proofs::Bits::code_small))]
-fn wrapped_signed(value: i64, width: u8) -> i64
-    requires some { 1 ≤ width }
-    requires most { width ≤ 62 }
-    ensures { result ≡ wrapped_worth (Signed width) value }
+// A value cut to an unsigned type of fewer than 64 bits, by its mask.
+pub fn cut_unsigned(value: i64, mask: i64) -> i64
+    requires { pos 0 ≤ℤ mask }
+    ensures { (w : ℕ) → w ≤ 63 → mask ≡ pos (2 ^ w - 1) → result ≡ wrapped_worth (Unsigned w) value }
 {
-    signed_number(number_of(low_bits(value, width)), width)
+    number_of(low_bits(value, bits_of(mask)))
 }
 
-// The number of the range of `ty` that is equal to `value` modulo 2 to the power of its width.
-pub fn wrapped(value: i64, ty: Ty) -> i64
-    requires typed { IsType ty }
-    requires narrow { IsNarrow (wrapped_worth ty value) }
-    ensures { result ≡ wrapped_worth ty value }
+// Low bits, turned by half of their range and back: they are worth what the signed type says, and no branch is needed.
+#[tactic(auto, using(crate::proofs::Bits::masked_below))]
+fn turned(low: u64, mask: u64, half: u64) -> i64
+    requires low { low < 9223372036854775808 }
+    requires mask { mask < 9223372036854775808 }
+    requires half { half < 9223372036854775808 }
+    ensures { result ≡ pos (bit_and (low + half) mask) -ℤ pos half }
 {
-    match ty {
-        Ty::Unsigned(width) if width < 64 => wrapped_unsigned(value, width),
-        Ty::Signed(width) if width < 63 => wrapped_signed(value, width),
-        _ => narrow(wrap(i128::from(value), ty)),
-    }
+    let bits = (low + half) & mask;
+    number_of(bits) - number_of(half)
 }
 
-// The least number of a type.
-fn least(ty: Ty) -> i64
-    requires { IsType ty }
-    ensures { result ≡ least_of ty }
+// A value cut to a signed type of fewer than 64 bits, by its mask and half its range.
+pub fn cut_signed(value: i64, mask: i64, half: i64) -> i64
+    requires mask { pos 0 ≤ℤ mask }
+    requires half { pos 0 ≤ℤ half }
+    ensures { (w : ℕ) → 1 ≤ w → w ≤ 63 → mask ≡ pos (2 ^ w - 1) → half ≡ pos (2 ^ (w - 1)) → result ≡ wrapped_worth (Signed w) value }
 {
-    narrow(ty.least())
-}
-
-// The greatest number of a type, as far as it has 64 bits.
-fn greatest(ty: Ty) -> i64
-    requires { IsType ty }
-    ensures { result ≡ int_min (greatest_of ty) (pos 9223372036854775807) }
-{
-    narrow(ty.greatest().min(i128::from(i64::MAX)))
-}
-
-// The number of the range of `ty` that is nearest to `value`.
-pub fn saturated(value: i64, ty: Ty) -> i64
-    requires { IsType ty }
-    ensures { result ≡ saturated_worth ty value }
-{
-    let least = least(ty);
-    let greatest = greatest(ty);
-    if value < least {
-        least
-    } else if greatest < value {
-        greatest
-    } else {
-        value
-    }
+    let mask = bits_of(mask);
+    let low = low_bits(value, mask);
+    turned(low, mask, bits_of(half))
 }
 
 // The exponent of a power of two below 2 ^ 63, where the number is one.
@@ -146,31 +111,35 @@ pub fn exponent_of(number: u64) -> Option<u8>
     None
 }
 
-// The quotient by 2 to the power `by`, rounded down.
-pub fn shifted(value: i64, by: u64) -> i64
-    requires { by ≤ 63 }
-    ensures { result ≡ scaling_worth ShiftRight value by }
-{
-    value >> by
-}
-
-// A value that is rounded down as it should be rounded toward 0: below 0 it is raised.
-fn raised(value: i64, exponent: u8) -> i64
-    requires { exponent ≤ 62 }
-    ensures below { value <ℤ pos 0 → result ≡ value +ℤ (pos (2 ^ exponent) -ℤ pos 1) }
+// A value that is rounded down as it should be rounded toward 0: below 0 the mask is added.
+pub fn raised(value: i64, mask: i64) -> i64
+    requires { pos 0 ≤ℤ mask }
+    ensures below { value <ℤ pos 0 → result ≡ value +ℤ mask }
     ensures above { pos 0 ≤ℤ value → result ≡ value }
 {
-    if value < 0 {
-        value + (power(exponent) - 1)
-    } else {
-        value
-    }
+    if value < 0 { value + mask } else { value }
 }
 
-// The quotient by 2 to the power `exponent`, rounded toward 0.
-pub fn halved(value: i64, exponent: u8) -> i64
-    requires { exponent ≤ 62 }
-    ensures { result ≡ scaling_worth Divide value (2 ^ exponent) }
+// All bits, or none.
+fn all_bits(is: bool) -> u64
+    ensures { result ≡ (if is then 2 ^ 64 - 1 else 0) }
 {
-    shifted(raised(value, exponent), u64::from(exponent))
+    if is { u64::MAX } else { 0 }
+}
+
+// One of two words. By masks, of which vector code is made, as it is not of two branches.
+#[tactic(auto, using(crate::proofs::Bits::one_of_two))]
+fn chosen_bits(is: bool, left: u64, right: u64) -> u64
+    ensures { result ≡ (if is then left else right) }
+{
+    (left & all_bits(is)) | (right & all_bits(!is))
+}
+
+// One of two values: the left one where the condition is above 0.
+pub fn chosen(condition: i64, left: i64, right: i64) -> i64
+    ensures { result ≡ select_worth condition left right }
+{
+    let is = condition > 0;
+    let bits = chosen_bits(is, left.cast_unsigned(), right.cast_unsigned());
+    bits.cast_signed()
 }

@@ -1,16 +1,18 @@
 // The rows of the inputs.
 
-ghost use Rattle.std.specs.Prelude.{◌≡◌, ℕ, ◌+◌, ◌*◌, ◌<◌, ◌≤◌, length, slice_index, IsTrue, [], slice_index_or, if◌then◌else◌};
-ghost use Rattle.block_rows.specs.Rights.{items_of, value_at};
+ghost use Rattle.std.specs.Prelude.{◌≡◌, ℕ, ◌+◌, ◌*◌, ◌<◌, ◌≤◌, length, map, slice_index, IsTrue, [], slice_index_or, if◌then◌else◌};
+ghost use Rattle.block_rows.specs.Values.{row_values, values_of};
+ghost use Rattle.block_rows.specs.Rights.{value_at};
 ghost use Rattle.block_sim.specs.Checked.{input_of, IsInputRow, AreInputRows};
 ghost use Rattle.block_sim.specs.Pieces.{HasDins};
 
 use crate::inputs::Piece;
+use block_rows::{Lane, Row, number_at};
 
 // The row of a slot.
-pub fn row_at(rows: &[Vec<u64>], slot: usize) -> &[u64]
+pub fn row_at(rows: &[Row], slot: usize) -> &Row
     requires { slot < length rows.now }
-    ensures { result.now ≡ slice_index_or (items_of rows.now) slot [] }
+    ensures { row_values result.now ≡ slice_index_or (values_of rows.now) slot [] }
 {
     &rows[slot]
 }
@@ -40,27 +42,48 @@ fn input_at(
     dins[clock * ports + (input - head)]
 }
 
-// Whether a row is what an input is given.
-fn is_given(row: &[u64], has_enable: bool, ports: usize, piece: &Piece<'_>, input: usize) -> bool
+// Whether numbers are what an input is given.
+fn is_given<L: Lane>(
+    row: &[L],
+    has_enable: bool,
+    ports: usize,
+    piece: &Piece<'_>,
+    input: usize,
+) -> bool
     requires dins { HasDins ports piece.now }
     requires input { input < (if has_enable then 2 else 1) + ports }
     requires room { piece.now.count ≤ length row.now }
-    ensures { IsTrue result → IsInputRow has_enable ports piece.now input row.now }
+    ensures { IsTrue result → IsInputRow has_enable ports piece.now input (map L.value row.now) }
 {
     let enables = piece.inputs.enables;
     let dins = piece.inputs.dins;
     let first = piece.first;
+    let mut given = true;
     for t in 0..piece.count {
-        if row[t] != input_at(has_enable, ports, enables, dins, first + t, input) {
-            return false;
+        if number_at(row, t) != input_at(has_enable, ports, enables, dins, first + t, input) {
+            given = false;
         }
     }
-    true
+    given
+}
+
+// The same of a row in any lane.
+fn is_row_given(row: &Row, has_enable: bool, ports: usize, piece: &Piece<'_>, input: usize) -> bool
+    requires dins { HasDins ports piece.now }
+    requires input { input < (if has_enable then 2 else 1) + ports }
+    requires room { piece.now.count ≤ length (row_values row.now) }
+    ensures { IsTrue result → IsInputRow has_enable ports piece.now input (row_values row.now) }
+{
+    match row {
+        Row::Narrow(row) => is_given(row, has_enable, ports, piece, input),
+        Row::Middle(row) => is_given(row, has_enable, ports, piece, input),
+        Row::Wide(row) => is_given(row, has_enable, ports, piece, input),
+    }
 }
 
 // Whether the rows of all inputs are what the ports are given in the clocks of a piece.
 pub fn are_given(
-    rows: &[Vec<u64>],
+    rows: &[Row],
     inputs: usize,
     has_enable: bool,
     ports: usize,
@@ -69,12 +92,12 @@ pub fn are_given(
     requires dins { HasDins ports piece.now }
     requires inputs { inputs ≡ (if has_enable then 2 else 1) + ports }
     requires slots { inputs ≤ length rows.now }
-    requires long { (n : ℕ) → n < length rows.now → piece.now.count ≤ length (slice_index_or (items_of rows.now) n []) }
-    ensures { IsTrue result → AreInputRows has_enable ports piece.now inputs (items_of rows.now) }
+    requires long { (n : ℕ) → n < length rows.now → piece.now.count ≤ length (slice_index_or (values_of rows.now) n []) }
+    ensures { IsTrue result → AreInputRows has_enable ports piece.now inputs (values_of rows.now) }
 {
     for input in 0..inputs {
         let row = row_at(rows, input);
-        if !is_given(row, has_enable, ports, piece, input) {
+        if !is_row_given(row, has_enable, ports, piece, input) {
             return false;
         }
     }

@@ -2,31 +2,33 @@
 
 ghost use Rattle.std.specs.Prelude.{◌≡◌, ◌≢◌, ℕ, ◌<◌, ◌≤◌, length, IsTrue, IsFalse};
 ghost use Rattle.cycle_sim.specs.Slots.{words_of};
+ghost use Rattle.block_rows.specs.Values.{row_values, values_of};
 ghost use Rattle.block_rows.specs.Rights.{items_of, HasRow};
 ghost use Rattle.block_code.specs.Rows.{words_put, KeepsArray};
 ghost use Rattle.block_sim.specs.Arrays.{words_at, IsArrayRoom, WasLost, PutsInside, HaveAccessRows, AreAccessRows, HavePutRows, HaveLong, ArePut, AreKept, AreInsideAll, TakesBack, AllTakenBack};
 
 use crate::judge::arrays::{Access, Accesses, ArrayRoom, pass_first, undo_array};
 use block_code::WordPut;
+use block_rows::Row;
 
 // One array in its vector.
 fn pass_vec(
-    rows: &[Vec<u64>],
+    rows: &[Row],
     room: &mut ArrayRoom,
     access: &Access<'_>,
     words: &mut Vec<u64>,
     to: &mut [u64],
     lost: &mut Vec<u64>,
 ) -> bool
-    requires rows { HaveAccessRows (items_of rows.now) access.now.count access.now.read.now access.now.put.now }
+    requires rows { HaveAccessRows (values_of rows.now) access.now.count access.now.read.now access.now.put.now }
     requires room { IsArrayRoom room.old access.now.count }
     requires to { access.now.count ≤ length to.old }
     requires lost { access.now.count ≤ length lost.old.items }
     ensures room { IsArrayRoom room.new access.now.count }
     ensures long { length lost.new.items ≡ length lost.old.items }
-    ensures kept { IsTrue result → KeepsArray (items_of rows.now) access.now.count words.old.items access.now.read.now access.now.put.now }
-    ensures words { IsTrue result → words.new.items ≡ words_put (items_of rows.now) access.now.put.now words.old.items access.now.count }
-    ensures lost { IsTrue result → WasLost (items_of rows.now) access.now.put.now words.old.items lost.new.items access.now.count }
+    ensures kept { IsTrue result → KeepsArray (values_of rows.now) access.now.count words.old.items access.now.read.now access.now.put.now }
+    ensures words { IsTrue result → words.new.items ≡ words_put (values_of rows.now) access.now.put.now words.old.items access.now.count }
+    ensures lost { IsTrue result → WasLost (values_of rows.now) access.now.put.now words.old.items lost.new.items access.now.count }
     ensures back { IsFalse result → words.new.items ≡ words.old.items }
 {
     pass_first(rows, room, access, words, to, lost)
@@ -34,7 +36,7 @@ fn pass_vec(
 
 // One array among all.
 fn pass_at(
-    rows: &[Vec<u64>],
+    rows: &[Row],
     room: &mut ArrayRoom,
     access: &Access<'_>,
     arrays: &mut [Vec<u64>],
@@ -44,15 +46,15 @@ fn pass_at(
 ) -> bool
     requires array { array < length arrays.old }
     requires place { array < length lost.old }
-    requires rows { HaveAccessRows (items_of rows.now) access.now.count access.now.read.now access.now.put.now }
+    requires rows { HaveAccessRows (values_of rows.now) access.now.count access.now.read.now access.now.put.now }
     requires room { IsArrayRoom room.old access.now.count }
     requires to { access.now.count ≤ length to.old }
     requires lost { HaveLong (items_of lost.old) access.now.count }
     ensures room { IsArrayRoom room.new access.now.count }
     ensures long { HaveLong (items_of lost.new) access.now.count }
-    ensures kept { IsTrue result → KeepsArray (items_of rows.now) access.now.count (words_at arrays.old array) access.now.read.now access.now.put.now }
-    ensures words { IsTrue result → words_at arrays.new array ≡ words_put (items_of rows.now) access.now.put.now (words_at arrays.old array) access.now.count }
-    ensures lost { IsTrue result → WasLost (items_of rows.now) access.now.put.now (words_at arrays.old array) (words_at lost.new array) access.now.count }
+    ensures kept { IsTrue result → KeepsArray (values_of rows.now) access.now.count (words_at arrays.old array) access.now.read.now access.now.put.now }
+    ensures words { IsTrue result → words_at arrays.new array ≡ words_put (values_of rows.now) access.now.put.now (words_at arrays.old array) access.now.count }
+    ensures lost { IsTrue result → WasLost (values_of rows.now) access.now.put.now (words_at arrays.old array) (words_at lost.new array) access.now.count }
     ensures others { (x : ℕ) → x ≢ array → words_at arrays.new x ≡ words_at arrays.old x }
     ensures other_lost { (x : ℕ) → x ≢ array → words_at lost.new x ≡ words_at lost.old x }
     ensures back { IsFalse result → (x : ℕ) → words_at arrays.new x ≡ words_at arrays.old x }
@@ -61,28 +63,28 @@ fn pass_at(
 }
 
 fn undo_vec(
-    rows: &[Vec<u64>],
+    rows: &[Row],
     room: &mut ArrayRoom,
     put: &WordPut,
     words: &mut Vec<u64>,
     lost: &[u64],
     count: usize,
 )
-    requires index { HasRow (items_of rows.now) count put.now.index }
-    requires value { HasRow (items_of rows.now) count put.now.value }
+    requires index { HasRow (values_of rows.now) count put.now.index }
+    requires value { HasRow (values_of rows.now) count put.now.value }
     requires room { IsArrayRoom room.old count }
     requires lost { count ≤ length lost.now }
-    requires inside { PutsInside (items_of rows.now) put.now count (length words.old.items) }
+    requires inside { PutsInside (values_of rows.now) put.now count (length words.old.items) }
     ensures room { IsArrayRoom room.new count }
     ensures long { length words.new.items ≡ length words.old.items }
-    ensures back { TakesBack (items_of rows.now) put.now count lost.now words.old.items words.new.items }
+    ensures back { TakesBack (values_of rows.now) put.now count lost.now words.old.items words.new.items }
 {
     undo_array(rows, room, put, words, lost, count);
 }
 
 // Takes back one array among all.
 fn undo_at(
-    rows: &[Vec<u64>],
+    rows: &[Row],
     room: &mut ArrayRoom,
     put: &WordPut,
     arrays: &mut [Vec<u64>],
@@ -91,14 +93,14 @@ fn undo_at(
     array: usize,
 )
     requires array { array < length arrays.old }
-    requires index { HasRow (items_of rows.now) count put.now.index }
-    requires value { HasRow (items_of rows.now) count put.now.value }
+    requires index { HasRow (values_of rows.now) count put.now.index }
+    requires value { HasRow (values_of rows.now) count put.now.value }
     requires room { IsArrayRoom room.old count }
     requires lost { count ≤ length lost.now }
-    requires inside { PutsInside (items_of rows.now) put.now count (length (words_at arrays.old array)) }
+    requires inside { PutsInside (values_of rows.now) put.now count (length (words_at arrays.old array)) }
     ensures room { IsArrayRoom room.new count }
     ensures long { length (words_at arrays.new array) ≡ length (words_at arrays.old array) }
-    ensures back { TakesBack (items_of rows.now) put.now count lost.now (words_at arrays.old array) (words_at arrays.new array) }
+    ensures back { TakesBack (values_of rows.now) put.now count lost.now (words_at arrays.old array) (words_at arrays.new array) }
     ensures others { (x : ℕ) → x ≢ array → words_at arrays.new x ≡ words_at arrays.old x }
 {
     undo_vec(rows, room, put, &mut arrays[array], lost, count);
@@ -106,7 +108,7 @@ fn undo_at(
 
 // Takes back the first n arrays, the last one first.
 fn undo_arrays(
-    rows: &[Vec<u64>],
+    rows: &[Row],
     room: &mut ArrayRoom,
     puts: &[WordPut],
     arrays: &mut [Vec<u64>],
@@ -117,12 +119,12 @@ fn undo_arrays(
     requires done { done ≤ length arrays.old }
     requires puts { done ≤ length puts.now }
     requires lost { done ≤ length lost.now }
-    requires atoms { HavePutRows (items_of rows.now) count puts.now }
+    requires atoms { HavePutRows (values_of rows.now) count puts.now }
     requires room { IsArrayRoom room.old count }
     requires long { HaveLong (items_of lost.now) count }
-    requires inside { AreInsideAll (items_of rows.now) puts.now count (words_of arrays.old) done }
+    requires inside { AreInsideAll (values_of rows.now) puts.now count (words_of arrays.old) done }
     ensures room { IsArrayRoom room.new count }
-    ensures back { AllTakenBack (items_of rows.now) puts.now count (items_of lost.now) (words_of arrays.old) (words_of arrays.new) done }
+    ensures back { AllTakenBack (values_of rows.now) puts.now count (items_of lost.now) (words_of arrays.old) (words_of arrays.new) done }
 {
     for back in 0..done {
         let array = done - 1 - back;
@@ -133,7 +135,7 @@ fn undo_arrays(
 // All arrays over this many clocks: true if the equations of each are kept, and their words are then those after them; else all
 // words are as before.
 pub fn pass_arrays(
-    rows: &[Vec<u64>],
+    rows: &[Row],
     room: &mut ArrayRoom,
     all: &Accesses<'_>,
     arrays: &mut [Vec<u64>],
@@ -143,14 +145,14 @@ pub fn pass_arrays(
     requires reads { length all.now.reads.now ≡ length arrays.old }
     requires puts { length all.now.puts.now ≡ length arrays.old }
     requires losts { length lost.old ≡ length arrays.old }
-    requires rows { AreAccessRows (items_of rows.now) all.now.count all.now.reads.now all.now.puts.now }
+    requires rows { AreAccessRows (values_of rows.now) all.now.count all.now.reads.now all.now.puts.now }
     requires room { IsArrayRoom room.old all.now.count }
     requires to { all.now.count ≤ length to.old }
     requires lost { HaveLong (items_of lost.old) all.now.count }
     ensures room { IsArrayRoom room.new all.now.count }
     ensures long { HaveLong (items_of lost.new) all.now.count }
-    ensures kept { IsTrue result → AreKept (items_of rows.now) all.now.reads.now all.now.puts.now all.now.count (words_of arrays.old) (length arrays.old) }
-    ensures put { IsTrue result → ArePut (items_of rows.now) all.now.puts.now all.now.count (words_of arrays.old) (words_of arrays.new) (length arrays.old) }
+    ensures kept { IsTrue result → AreKept (values_of rows.now) all.now.reads.now all.now.puts.now all.now.count (words_of arrays.old) (length arrays.old) }
+    ensures put { IsTrue result → ArePut (values_of rows.now) all.now.puts.now all.now.count (words_of arrays.old) (words_of arrays.new) (length arrays.old) }
     ensures back { IsFalse result → words_of arrays.new ≡ words_of arrays.old }
 {
     let reads = all.reads;

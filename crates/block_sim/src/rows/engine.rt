@@ -4,6 +4,7 @@ ghost use Rattle.std.specs.Prelude.{◌≡◌, length};
 
 use block_code::BlockCode;
 use block_plan::Plan;
+use block_rows::Size;
 use netlist::{Netlist, Right, Update};
 use std::alloc::{AllocError, Global};
 use wiring::Atom;
@@ -15,6 +16,8 @@ pub struct Engine {
     pub plan: Plan,
     // For each slot the first instruction that uses it.
     pub uses: Vec<usize>,
+    // The lane in which each instruction is run.
+    pub sizes: Vec<Size>,
     // The register of each update, and the array that each assign reads, if there is one.
     pub registers: Vec<Option<usize>>,
     pub arrays: Vec<Option<usize>>,

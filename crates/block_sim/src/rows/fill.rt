@@ -1,59 +1,8 @@
-// Proposals for the rows of free slots. They claim nothing.
+// Rows of a lane, filled with proposals. They claim nothing. Each loop takes its rows as slices: a match on the lane in each clock
+// would keep LLVM from making vector code.
 
-ghost use Rattle.std.specs.Prelude.{◌≡◌, length};
-ghost use Rattle.block_sim.specs.Table.{IsRefilled};
-
-use crate::inputs::Piece;
-use crate::rows::engine::Engine;
-use crate::rows::table::Table;
-use wiring::{Atom, Right};
-
-// The slot of the port en, where there is one.
-pub const ENABLE: usize = 1;
-
-// What is in a row at a clock.
-fn place_in(row: &[u64], t: usize) -> u64 {
-    if t < row.len() { row[t] } else { 0 }
-}
-
-// What a slot is worth at a clock.
-pub fn slot_value(rows: &[Vec<u64>], slot: usize, t: usize) -> u64 {
-    match rows.get(slot) {
-        Some(row) => place_in(row, t),
-        None => 0,
-    }
-}
-
-// What an atom is worth: what a row has at each clock, or at all clocks the same.
-#[derive(Clone, Copy)]
-pub enum Worth<'a> {
-    Row(&'a [u64]),
-    Same(u64),
-}
-
-// What an atom is worth over rows.
-pub fn worth_of<'a>(rows: &'a [Vec<u64>], a: &Atom<usize>) -> Worth<'a> {
-    match a {
-        Atom::Net(slot) => Worth::Row(row_of(rows, *slot)),
-        Atom::Constant(c) => Worth::Same(c.value()),
-    }
-}
-
-// That at a clock.
-pub fn worth_at(worth: Worth<'_>, t: usize) -> u64 {
-    match worth {
-        Worth::Row(row) => place_in(row, t),
-        Worth::Same(value) => value,
-    }
-}
-
-// What an atom is worth at a clock.
-pub fn atom_value(rows: &[Vec<u64>], a: &Atom<usize>, t: usize) -> u64 {
-    match a {
-        Atom::Net(slot) => slot_value(rows, *slot, t),
-        Atom::Constant(c) => c.value(),
-    }
-}
+use crate::rows::worth::{Worth, numbers_in, worth_at};
+use block_rows::{Lane, Row};
 
 // Numbers from a first one on, each by a step after the one before.
 #[derive(Clone, Copy)]
@@ -64,30 +13,42 @@ pub struct Line {
     pub stands: bool,
 }
 
-// What is held, and then another row, one clock later.
-fn shift_in(to: &mut [u64], row: &[u64], held: u64) {
-    let mut holds = held;
-    for t in 0..to.len().min(row.len()) {
-        to[t] = holds;
-        holds = row[t];
+// At each clock the same number.
+pub fn fill_same<L: Lane>(to: &mut [L], number: u64) {
+    let number = L::cut(number);
+    for t in 0..to.len() {
+        to[t] = number;
     }
 }
 
-// A first number, and then the same one.
-fn fill_behind(to: &mut [u64], first: u64, number: u64) {
-    let mut now = first;
-    for t in 0..to.len() {
-        to[t] = now;
-        now = number;
+// The first numbers of a row of any lane. LLVM makes a plain copy of it where the lanes are the same.
+fn fill_numbers<A: Lane, L: Lane>(to: &mut [L], numbers: &[A]) {
+    for t in 0..to.len().min(numbers.len()) {
+        to[t] = L::cut(numbers[t].word());
+    }
+}
+
+fn fill_row<L: Lane>(to: &mut [L], row: &Row) {
+    match row {
+        Row::Narrow(numbers) => fill_numbers(to, numbers),
+        Row::Middle(numbers) => fill_numbers(to, numbers),
+        Row::Wide(numbers) => fill_numbers(to, numbers),
+    }
+}
+
+// What an atom is worth.
+fn fill_worth<L: Lane>(to: &mut [L], worth: Worth<'_>) {
+    match worth {
+        Worth::Slot(row) => fill_row(to, row),
+        Worth::Same(value) => fill_same(to, value),
     }
 }
 
 // What is held, and then what an atom is worth, one clock later.
-fn fill_shift(to: &mut [u64], worth: Worth<'_>, held: u64) {
-    match worth {
-        Worth::Row(row) => shift_in(to, row, held),
-        Worth::Same(value) => fill_behind(to, held, value),
-    }
+pub fn fill_shift<L: Lane>(to: &mut [L], worth: Worth<'_>, held: u64) {
+    let (first, later) = to.split_at_mut(to.len().min(1));
+    fill_same(first, held);
+    fill_worth(later, worth);
 }
 
 // The word at an index, 0 outside.
@@ -99,279 +60,324 @@ fn word_at(words: &[u64], index: u64) -> u64 {
     }
 }
 
-// What is read of words that stay as they are.
-fn fill_read(to: &mut [u64], rows: &[Vec<u64>], index: &Atom<usize>, words: &[u64]) {
-    let index = worth_of(rows, index);
-    for t in 0..to.len() {
-        to[t] = word_at(words, worth_at(index, t));
-    }
-}
-
 fn put_word(words: &mut [u64], index: u64, value: u64) {
     if index < words.len() as u64 {
         words[index as usize] = value;
     }
 }
 
-// What is read of words that are written clock by clock. A single word is a register.
-fn fill_small(
-    to: &mut [u64],
-    rows: &[Vec<u64>],
-    read: &Atom<usize>,
-    index: &Atom<usize>,
-    value: &Atom<usize>,
+fn read_at<I: Lane, L: Lane>(to: &mut [L], index: &[I], words: &[u64]) {
+    for t in 0..to.len().min(index.len()) {
+        to[t] = L::cut(word_at(words, index[t].word()));
+    }
+}
+
+fn read_row<L: Lane>(to: &mut [L], index: &Row, words: &[u64]) {
+    match index {
+        Row::Narrow(index) => read_at(to, index, words),
+        Row::Middle(index) => read_at(to, index, words),
+        Row::Wide(index) => read_at(to, index, words),
+    }
+}
+
+// What is read of words that stay as they are.
+pub fn fill_read<L: Lane>(to: &mut [L], index: Worth<'_>, words: &[u64]) {
+    match index {
+        Worth::Slot(index) => read_row(to, index, words),
+        Worth::Same(index) => fill_same(to, word_at(words, index)),
+    }
+}
+
+// In the lanes of nearly all designs. `small_of` serves the others.
+fn small_in<L: Lane>(to: &mut [L], read: &[u16], index: &[u16], value: &[L], words: &mut [u64]) {
+    let count = to.len().min(read.len()).min(index.len()).min(value.len());
+    for t in 0..count {
+        to[t] = L::cut(word_at(words, read[t].word()));
+        put_word(words, index[t].word(), value[t].word());
+    }
+}
+
+fn small_of<L: Lane>(
+    to: &mut [L],
+    read: Worth<'_>,
+    index: Worth<'_>,
+    value: Worth<'_>,
     words: &mut [u64],
 ) {
-    let read = worth_of(rows, read);
-    let index = worth_of(rows, index);
-    let value = worth_of(rows, value);
-    if words.len() == 1 {
-        return fill_shift(to, value, words[0]);
-    }
     for t in 0..to.len() {
-        to[t] = word_at(words, worth_at(read, t));
+        to[t] = L::cut(word_at(words, worth_at(read, t)));
         put_word(words, worth_at(index, t), worth_at(value, t));
     }
 }
 
-// What is read of words of which one, at the index of the read, takes another value where a bit is 1.
-fn fill_held(
-    to: &mut [u64],
-    rows: &[Vec<u64>],
-    index: &Atom<usize>,
-    bit: &Atom<usize>,
-    value: &Atom<usize>,
+// What is read of words that are written clock by clock. A single word is a register.
+pub fn fill_small<L: Lane>(
+    to: &mut [L],
+    read: Worth<'_>,
+    index: Worth<'_>,
+    value: Worth<'_>,
     words: &mut [u64],
 ) {
-    let index = worth_of(rows, index);
-    let bit = worth_of(rows, bit);
-    let value = worth_of(rows, value);
+    if words.len() == 1 {
+        return fill_shift(to, value, words[0]);
+    }
+    match (numbers_in(read), numbers_in(index), numbers_in(value)) {
+        (Some(read), Some(index), Some(value)) => small_in(to, read, index, value, words),
+        _ => small_of(to, read, index, value, words),
+    }
+}
+
+fn held_in<L: Lane>(to: &mut [L], index: &[u16], bit: &[u16], value: &[L], words: &mut [u64]) {
+    let count = to.len().min(index.len()).min(bit.len()).min(value.len());
+    for t in 0..count {
+        let place = index[t].word();
+        to[t] = L::cut(word_at(words, place));
+        if bit[t] == 1 {
+            put_word(words, place, value[t].word());
+        }
+    }
+}
+
+fn held_of<L: Lane>(
+    to: &mut [L],
+    index: Worth<'_>,
+    bit: Worth<'_>,
+    value: Worth<'_>,
+    words: &mut [u64],
+) {
     for t in 0..to.len() {
-        let i = worth_at(index, t);
-        to[t] = word_at(words, i);
+        let place = worth_at(index, t);
+        to[t] = L::cut(word_at(words, place));
         if worth_at(bit, t) == 1 {
-            put_word(words, i, worth_at(value, t));
+            put_word(words, place, worth_at(value, t));
+        }
+    }
+}
+
+// What is read of words of which one, at the index of the read, takes another value where a bit is 1. A single word is a register.
+pub fn fill_held<L: Lane>(
+    to: &mut [L],
+    index: Worth<'_>,
+    bit: Worth<'_>,
+    value: Worth<'_>,
+    words: &mut [u64],
+) {
+    if words.len() == 1 {
+        return fill_load(to, bit, value, words[0]);
+    }
+    match (numbers_in(index), numbers_in(bit), numbers_in(value)) {
+        (Some(index), Some(bit), Some(value)) => held_in(to, index, bit, value, words),
+        _ => held_of(to, index, bit, value, words),
+    }
+}
+
+// How a copied array is read and written: a value where a bit is 1, else a copy.
+#[derive(Clone, Copy)]
+pub struct Copied<'a> {
+    pub read: Worth<'a>,
+    pub index: Worth<'a>,
+    pub bit: Worth<'a>,
+    pub value: Worth<'a>,
+    // What is put before the bit was 1 first.
+    pub held: u64,
+}
+
+fn copied_in<L: Lane>(
+    to: &mut [L],
+    read: &[u16],
+    index: &[u16],
+    bit: &[u16],
+    value: &[L],
+    words: &mut [u64],
+    held: u64,
+) {
+    let mut copy = held;
+    let count = to.len().min(read.len()).min(index.len()).min(bit.len());
+    for t in 0..count.min(value.len()) {
+        let word = word_at(words, read[t].word());
+        to[t] = L::cut(word);
+        if bit[t] == 1 {
+            put_word(words, index[t].word(), value[t].word());
+            copy = word;
+        } else {
+            put_word(words, index[t].word(), copy);
+        }
+    }
+}
+
+fn copied_of<L: Lane>(to: &mut [L], copied: Copied<'_>, words: &mut [u64]) {
+    let mut copy = copied.held;
+    for t in 0..to.len() {
+        let word = word_at(words, worth_at(copied.read, t));
+        to[t] = L::cut(word);
+        if worth_at(copied.bit, t) == 1 {
+            put_word(words, worth_at(copied.index, t), worth_at(copied.value, t));
+            copy = word;
+        } else {
+            put_word(words, worth_at(copied.index, t), copy);
         }
     }
 }
 
 // What is read of words that are written clock by clock: a value where a bit is 1, else what was read when the bit was 1 last,
-// at first `held`.
-fn fill_copied(
-    to: &mut [u64],
-    read: Worth<'_>,
-    index: Worth<'_>,
-    bit: Worth<'_>,
-    value: Worth<'_>,
-    words: &mut [u64],
-    held: u64,
-) {
-    let mut copy = held;
-    for t in 0..to.len() {
-        let word = word_at(words, worth_at(read, t));
-        to[t] = word;
-        if worth_at(bit, t) == 1 {
-            put_word(words, worth_at(index, t), worth_at(value, t));
-            copy = word;
-        } else {
-            put_word(words, worth_at(index, t), copy);
+// at first what is held.
+pub fn fill_copied<L: Lane>(to: &mut [L], copied: Copied<'_>, words: &mut [u64]) {
+    match (
+        numbers_in(copied.read),
+        numbers_in(copied.index),
+        numbers_in(copied.bit),
+        numbers_in(copied.value),
+    ) {
+        (Some(read), Some(index), Some(bit), Some(value)) => {
+            copied_in(to, read, index, bit, value, words, copied.held)
+        }
+        _ => copied_of(to, copied, words),
+    }
+}
+
+fn load_in<L: Lane>(to: &mut [L], bit: &[u16], value: &[L], held: u64) {
+    let mut holds = L::cut(held);
+    for t in 0..to.len().min(bit.len()).min(value.len()) {
+        to[t] = holds;
+        if bit[t] == 1 {
+            holds = value[t];
         }
     }
 }
 
-// What is held, and then what a row has one clock later where a bit is 1, else the number before.
-fn fill_load(to: &mut [u64], bit: Worth<'_>, value: Worth<'_>, held: u64) {
+fn load_of<L: Lane>(to: &mut [L], bit: Worth<'_>, value: Worth<'_>, held: u64) {
     let mut holds = held;
     for t in 0..to.len() {
-        to[t] = holds;
+        to[t] = L::cut(holds);
         if worth_at(bit, t) == 1 {
             holds = worth_at(value, t);
         }
     }
 }
 
-// The places of a row, as far as there is room.
-fn copy_places(to: &mut [u64], row: &[u64]) {
-    for t in 0..to.len().min(row.len()) {
-        to[t] = row[t];
+// What is held, and then what a row has one clock later where a bit is 1, else the number before.
+pub fn fill_load<L: Lane>(to: &mut [L], bit: Worth<'_>, value: Worth<'_>, held: u64) {
+    match (numbers_in(bit), numbers_in(value)) {
+        (Some(bit), Some(value)) => load_in(to, bit, value, held),
+        _ => load_of(to, bit, value, held),
     }
 }
 
 // A line that takes a step in each clock.
-fn line_on(to: &mut [u64], line: Line) {
-    let mut next = line.value;
+fn line_on<L: Lane>(to: &mut [L], line: Line) {
+    let step = L::cut(line.step);
+    let mut next = L::cut(line.value);
     for t in 0..to.len() {
         to[t] = next;
-        next = next.wrapping_add(line.step);
+        next = next.sum(step);
     }
 }
 
-// A line that takes a step where a bit is 1.
-fn line_where(to: &mut [u64], line: Line, bits: &[u64]) {
-    let mut next = line.value;
+// A line that takes a step where a bit is 1. A product has no branch.
+fn line_where<L: Lane>(to: &mut [L], line: Line, bits: &[u16]) {
+    let step = L::cut(line.step);
+    let mut next = L::cut(line.value);
     for t in 0..to.len().min(bits.len()) {
         to[t] = next;
-        if bits[t] == 1 {
-            next = next.wrapping_add(line.step);
-        }
+        next = next.sum(step.product(L::cut(bits[t].word())));
     }
 }
 
-// The first this many places of a row, and then a line.
-fn fill_line(to: &mut [u64], row: &[u64], first: usize, line: Line, goes: Worth<'_>) {
+// The first this many places of a row, and then a line, which takes its steps where a bit is 1, if there is one.
+pub fn fill_line<L: Lane>(
+    to: &mut [L],
+    row: Worth<'_>,
+    first: usize,
+    line: Line,
+    bits: Option<&[u16]>,
+) {
     let first = first.min(to.len());
     let (front, rest) = to.split_at_mut(first);
-    copy_places(front, row);
-    match goes {
-        Worth::Row(bits) => line_where(rest, line, &bits[first.min(bits.len())..]),
-        Worth::Same(_) => line_on(rest, line),
+    fill_worth(front, row);
+    match bits {
+        Some(bits) => line_where(rest, line, bits.split_at(first.min(bits.len())).1),
+        None => line_on(rest, line),
     }
 }
 
-// The spare row becomes that of a register whose next value's row is there.
-pub fn propose_shift(table: &mut Table, next: &Atom<usize>, held: u64)
-    ensures { IsRefilled table.old table.new }
-{
-    fill_shift(&mut table.room, worth_of(&table.rows, next), held);
-}
-
-// The spare row becomes what is read at the indexes of an atom, of words that stay as they are.
-pub fn propose_read(table: &mut Table, index: &Atom<usize>, words: &[u64])
-    ensures { IsRefilled table.old table.new }
-{
-    fill_read(&mut table.room, &table.rows, index, words);
-}
-
-// The spare row becomes what is read of words that are written clock by clock.
-pub fn propose_small(
-    table: &mut Table,
-    read: &Atom<usize>,
-    index: &Atom<usize>,
-    value: &Atom<usize>,
-    words: &mut [u64],
-)
-    ensures { IsRefilled table.old table.new }
-{
-    fill_small(&mut table.room, &table.rows, read, index, value, words);
-}
-
-// The spare row becomes what is read of words of which one, at the index of the read, is given the choice of this right side;
-// the choice is what is read where its bit is 0.
-pub fn propose_choice(
-    table: &mut Table,
-    index: &Atom<usize>,
-    choice: &Right<usize, usize>,
-    words: &mut [u64],
-)
-    ensures { IsRefilled table.old table.new }
-{
-    if let Right::Choose(bit, value, _) = choice {
-        fill_held(&mut table.room, &table.rows, index, bit, value, words);
+// The port en in the clocks from a first one on.
+pub fn fill_enable<L: Lane>(to: &mut [L], enables: &[bool], first: usize) {
+    let (_, enables) = enables.split_at(first.min(enables.len()));
+    for t in 0..to.len().min(enables.len()) {
+        to[t] = L::bit(enables[t]);
     }
 }
 
-// The spare row becomes what is read of words that are given the choice of this right side, clock by clock; the choice is a value,
-// or else a register that takes what is read, and holds this number.
-pub fn propose_copied(
-    table: &mut Table,
-    read: &Atom<usize>,
-    index: &Atom<usize>,
-    choice: &Right<usize, usize>,
-    words: &mut [u64],
-    held: u64,
-)
-    ensures { IsRefilled table.old table.new }
-{
-    if let Right::Choose(bit, value, _) = choice {
-        let rows = &table.rows;
-        let read = worth_of(rows, read);
-        let index = worth_of(rows, index);
-        let bit = worth_of(rows, bit);
-        let value = worth_of(rows, value);
-        fill_copied(&mut table.room, read, index, bit, value, words, held);
-    }
-}
-
-// The spare row becomes that of a register that takes the first value of this choice, or else keeps its own.
-pub fn propose_load(table: &mut Table, choice: &Right<usize, usize>, held: u64)
-    ensures { IsRefilled table.old table.new }
-{
-    if let Right::Choose(bit, value, _) = choice {
-        fill_load(
-            &mut table.room,
-            worth_of(&table.rows, bit),
-            worth_of(&table.rows, value),
-            held,
-        );
-    }
-}
-
-// The bit of the port en in this many clocks from this one on.
-fn fill_enable(to: &mut [u64], enables: &[bool], first: usize) {
+// Each number at a stride, from the first one on.
+fn fill_strides<L: Lane>(to: &mut [L], numbers: &[u64], stride: usize) {
+    let mut place: usize = 0;
     for t in 0..to.len() {
-        let clock = first.saturating_add(t);
-        to[t] = u64::from(clock < enables.len() && enables[clock]);
-    }
-}
-
-// Every this many numbers one, from this place on.
-fn fill_strides(to: &mut [u64], numbers: &[u64], first: usize, stride: usize) {
-    let mut place = first;
-    for t in 0..to.len() {
-        to[t] = place_in(numbers, place);
+        to[t] = L::cut(word_at(numbers, place as u64));
         place = place.saturating_add(stride);
     }
 }
 
-// What an input is given in the clocks of a piece.
-fn fill_input(to: &mut [u64], engine: &Engine, piece: &Piece<'_>, input: usize) {
-    if input == 0 {
-        return fill_behind(to, 0, 0);
-    }
-    if engine.has_enable && input == ENABLE {
-        return fill_enable(to, piece.inputs.enables, piece.first);
-    }
-    let head = if engine.has_enable { 2 } else { 1 };
-    let place = piece
-        .first
-        .saturating_mul(engine.ports)
-        .saturating_add(input.saturating_sub(head));
-    fill_strides(to, piece.inputs.dins, place, engine.ports);
-}
-
-// The spare row becomes what an input is given in the clocks of a piece.
-pub fn propose_input(table: &mut Table, engine: &Engine, piece: &Piece<'_>, input: usize)
-    ensures { IsRefilled table.old table.new }
-{
-    fill_input(&mut table.room, engine, piece, input);
-}
-
-// The row of a slot, if it is there.
-pub fn row_of(rows: &[Vec<u64>], slot: usize) -> &[u64] {
-    match rows.get(slot) {
-        Some(row) => row,
-        None => &[],
-    }
-}
-
-// Where a line goes on.
-fn goes_on<'a>(rows: &'a [Vec<u64>], has_enable: bool, line: Line) -> Worth<'a> {
-    if has_enable && line.stands {
-        Worth::Row(row_of(rows, ENABLE))
+// Each number at a stride, from a place on.
+pub fn fill_dins<L: Lane>(to: &mut [L], numbers: &[u64], first: usize, stride: usize) {
+    let (_, numbers) = numbers.split_at(first.min(numbers.len()));
+    if stride == 1 {
+        fill_numbers(to, numbers);
     } else {
-        Worth::Same(1)
+        fill_strides(to, numbers, stride);
     }
 }
 
-// The spare row becomes the first n places of a slot's row, and then a line.
-pub fn propose_line(table: &mut Table, has_enable: bool, slot: usize, first: usize, line: Line)
-    ensures { IsRefilled table.old table.new }
-{
-    fill_line(
-        &mut table.room,
-        row_of(&table.rows, slot),
-        first,
-        line,
-        goes_on(&table.rows, has_enable, line),
-    );
+// Whether the first numbers of two rows differ anywhere. Without an early return, so that LLVM makes vector code of it.
+fn differ<L: Lane>(a: &[L], b: &[L]) -> bool {
+    let mut apart = L::cut(0);
+    for t in 0..a.len().min(b.len()) {
+        apart = apart.either(a[t].apart(b[t]));
+    }
+    apart.word() != 0
+}
+
+fn first_unlike<L: Lane>(a: &[L], b: &[L], count: usize) -> usize {
+    for t in 0..a.len().min(b.len()) {
+        if !a[t].is_same(b[t]) {
+            return t;
+        }
+    }
+    count
+}
+
+// The first of `count` clocks at which a row is not another one of its lane, one clock later.
+fn apart_in<L: Lane>(row: &[L], next: &[L], count: usize) -> usize {
+    let (_, later) = row.split_at(row.len().min(1));
+    let (next, _) = next.split_at(next.len().min(count));
+    if differ(later, next) {
+        first_unlike(later, next, count)
+    } else {
+        count
+    }
+}
+
+fn apart_of(row: Worth<'_>, next: Worth<'_>, count: usize) -> usize {
+    for t in 0..count {
+        if worth_at(row, t.saturating_add(1)) != worth_at(next, t) {
+            return t;
+        }
+    }
+    count
+}
+
+// In the row's own lane where the other one has it too, else number by number.
+fn apart_from<L: Lane>(row: &[L], whole: &Row, next: Worth<'_>, count: usize) -> usize {
+    match numbers_in(next) {
+        Some(next) => apart_in(row, next, count),
+        None => apart_of(Worth::Slot(whole), next, count),
+    }
+}
+
+// The first of `count` clocks at which a row is not what an atom is worth, one clock later.
+pub fn first_apart(row: &Row, next: Worth<'_>, count: usize) -> usize {
+    match row {
+        Row::Narrow(numbers) => apart_from(numbers, row, next, count),
+        Row::Middle(numbers) => apart_from(numbers, row, next, count),
+        Row::Wide(numbers) => apart_from(numbers, row, next, count),
+    }
 }

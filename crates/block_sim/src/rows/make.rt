@@ -3,6 +3,8 @@
 ghost use Rattle.std.specs.Prelude.{◌≡◌, ◌<◌, ◌≤◌, length, replicate, IfOk, IfSome};
 ghost use Rattle.wiring.specs.Netlist.{netlist_of};
 ghost use Rattle.block_rows.specs.Rights.{items_of};
+ghost use Rattle.block_rows.specs.Values.{values_of};
+ghost use Rattle.block_rows.specs.LaneSizes.{InLanes};
 ghost use Rattle.block_code.specs.Code.{IsBlockCode};
 ghost use Rattle.block_sim.specs.Called.{din_count};
 ghost use Rattle.block_sim.specs.Engine.{IsEngineOf, AreRowsOf, HasRun};
@@ -16,9 +18,9 @@ use crate::rows::table::Table;
 use crate::rows::uses::first_uses;
 use block_code::BlockCode;
 use block_plan::{Plan, make_plan};
-use block_rows::Spares;
+use block_rows::{Rooms, Row, sizes_of, zero_row};
 use dk_base::OutOfMemory;
-use netlist::{Module, Netlist};
+use netlist::{Module, Netlist, Width};
 use std::alloc::{AllocError, Global};
 
 // The most words that rows take.
@@ -39,15 +41,35 @@ fn zero_rows(alloc: Global, slots: usize, long: usize) -> Result<Vec<Vec<u64>>, 
     Ok(rows)
 }
 
+// A row of zeros for each width.
+fn slot_rows(alloc: Global, widths: &[Width], long: usize) -> Result<Vec<Row>, AllocError>
+    ensures values { IfOk result (λ v. values_of v.items ≡ replicate (length widths.now) (replicate long 0)) }
+    ensures lanes { IfOk result (λ v. InLanes widths.now v.items) }
+{
+    let mut rows = Vec::new(alloc);
+    for slot in 0..widths.len() {
+        rows.push(zero_row(alloc, widths[slot].bits(), long)?)?;
+    }
+    Ok(rows)
+}
+
 #[tactic(auto, using(crate::proofs::Made::zero_table))]
 fn table_of(alloc: Global, engine: &Engine, long: usize) -> Result<Table, AllocError>
     ensures table { IfOk result (λ t. HasRun engine.now (length t.room.items) t 0) }
     ensures long { IfOk result (λ t. length t.room.items ≡ long) }
 {
-    let rows = zero_rows(alloc, engine.code.widths.len(), long)?;
+    let rows = slot_rows(alloc, &engine.code.widths, long)?;
     let room = vec![in alloc; 0; long]?;
-    let spares = Spares::new(alloc, long)?;
-    let table = Table { rows, room, spares };
+    let narrow = vec![in alloc; 0; long]?;
+    let middle = vec![in alloc; 0; long]?;
+    let rooms = Rooms::new(alloc, long)?;
+    let table = Table {
+        rows,
+        room,
+        narrow,
+        middle,
+        rooms,
+    };
     Ok(table)
 }
 
@@ -55,7 +77,13 @@ fn room_of(alloc: Global, size: usize) -> Result<ArrayRoom, AllocError> {
     let read = vec![in alloc; 0; size]?;
     let index = vec![in alloc; 0; size]?;
     let value = vec![in alloc; 0; size]?;
-    Ok(ArrayRoom { read, index, value })
+    let target = vec![in alloc; 0; size]?;
+    Ok(ArrayRoom {
+        read,
+        index,
+        value,
+        target,
+    })
 }
 
 // Room for the words of small arrays.
@@ -135,6 +163,7 @@ fn engine_of(
     ensures { IfOk result (IsEngineOf (netlist_of wiring.now)) }
 {
     let uses = first_uses(alloc, code.widths.len(), &code.instructions)?;
+    let sizes = sizes_of(alloc, &code.widths, &code.instructions)?;
     let registers = registers_of(alloc, wiring)?;
     let arrays = arrays_of(alloc, wiring)?;
     let makers = makers_of(alloc, &code)?;
@@ -143,6 +172,7 @@ fn engine_of(
         code,
         plan,
         uses,
+        sizes,
         registers,
         arrays,
         makers,

@@ -2,23 +2,19 @@
 
 ghost use Rattle.std.specs.Prelude.{◌≡◌, ◌≤◌, length, IfSome, IsTrue};
 ghost use Rattle.block_sim.specs.Engine.{IsEngine, HasRun};
-ghost use Rattle.block_sim.specs.Table.{IsRefilled};
 
 use crate::held::Held;
-use crate::judge::arrays::are_same;
 use crate::rows::engine::Engine;
-use crate::rows::fill::{
-    ENABLE, Line, Worth, atom_value, propose_choice, propose_copied, propose_line, propose_load,
-    propose_read, propose_shift, propose_small, row_of, slot_value, worth_at, worth_of,
-};
+use crate::rows::fill::{Line, first_apart};
+use crate::rows::proposals::{Access, ENABLE, Proposal, propose_read, propose_row};
 use crate::rows::table::{Table, offer, run_upto};
-use block_code::WordRead;
+use crate::rows::worth::{atom_value, slot_value, worth_of};
 use block_plan::Step;
 use block_rows::Instruction;
 use wiring::{Atom, Right};
 
 // The most rounds in which the rows of a cycle are guessed.
-const ROUNDS: usize = 6;
+const ROUNDS: usize = 16;
 
 // What the steps work with: copies of the words of small arrays, and for each register its step and whether it keeps its value
 // in held clocks.
@@ -94,8 +90,9 @@ fn shift(engine: &Engine, table: &mut Table, held: &Held, done: usize, update: u
     let Some(next) = engine.code.nexts.get(register) else {
         return false;
     };
-    propose_shift(table, next, number_in(&held.regs, register));
     let slot = engine.code.first_reg.saturating_add(register);
+    let held = number_in(&held.regs, register);
+    propose_row(table, slot, &Proposal::Shift { next: *next, held });
     offer_row(engine, table, done, slot)
 }
 
@@ -121,8 +118,10 @@ fn load(engine: &Engine, table: &mut Table, held: &Held, done: usize, update: us
     let Some(maker) = next_maker_at(engine, register) else {
         return false;
     };
-    propose_load(table, &maker.right, number_in(&held.regs, register));
     let slot = engine.code.first_reg.saturating_add(register);
+    let choice = maker.right;
+    let held = number_in(&held.regs, register);
+    propose_row(table, slot, &Proposal::Load { choice, held });
     offer_row(engine, table, done, slot)
 }
 
@@ -159,14 +158,15 @@ fn read(engine: &Engine, table: &mut Table, held: &Held, done: usize, assign: us
     let Some(words) = held.arrays.get(array) else {
         return false;
     };
-    propose_read(table, &read.index, words);
+    let index = read.index;
+    propose_row(table, read.target, &Proposal::Read { index, words });
     offer_row(engine, table, done, read.target)
 }
 
 // A copy of words, as far as there is room.
 fn copy_words(to: &mut [u64], words: &[u64]) {
-    for i in 0..to.len() {
-        to[i] = number_in(words, i);
+    for i in 0..to.len().min(words.len()) {
+        to[i] = words[i];
     }
 }
 
@@ -197,43 +197,24 @@ fn kept_number(engine: &Engine, held: &Held, choice: &Right<usize, usize>) -> u6
     }
 }
 
-// The spare row becomes what is read of an array that is written clock by clock.
-fn propose_written(
-    engine: &Engine,
-    table: &mut Table,
-    array: usize,
-    held: &Held,
-    read: &WordRead,
-    words: &mut [u64],
-    written: Written,
-) -> bool
-    ensures { IsRefilled table.old table.new }
-{
+// The access of an array that is written clock by clock.
+fn access_of(engine: &Engine, held: &Held, array: usize, written: Written) -> Option<Access> {
     match written {
-        Written::Put => {
-            let Some(put) = engine.code.puts.get(array) else {
-                return false;
-            };
-            propose_small(table, &read.index, &put.index, &put.value, words);
-        }
-        Written::Choice => {
-            let Some(maker) = maker_at(engine, array) else {
-                return false;
-            };
-            propose_choice(table, &read.index, &maker.right, words);
-        }
+        Written::Put => Some(Access::Put {
+            put: *engine.code.puts.get(array)?,
+        }),
+        Written::Choice => Some(Access::Choice {
+            choice: maker_at(engine, array)?.right,
+        }),
         Written::Copy => {
-            let Some(maker) = maker_at(engine, array) else {
-                return false;
-            };
-            let Some(put) = engine.code.puts.get(array) else {
-                return false;
-            };
-            let kept = kept_number(engine, held, &maker.right);
-            propose_copied(table, &read.index, &put.index, &maker.right, words, kept);
+            let choice = maker_at(engine, array)?.right;
+            Some(Access::Copy {
+                put: *engine.code.puts.get(array)?,
+                choice,
+                held: kept_number(engine, held, &choice),
+            })
         }
     }
-    true
 }
 
 // The row of a read of an array that is written. It works on a copy of the array's words.
@@ -261,13 +242,14 @@ fn read_written(
     let Some(words) = held.arrays.get(array) else {
         return false;
     };
+    let Some(access) = access_of(engine, held, array, written) else {
+        return false;
+    };
     let Some(copy) = hints.words.get_mut(array) else {
         return false;
     };
     copy_words(copy, words);
-    if !propose_written(engine, table, array, held, read, copy, written) {
-        return false;
-    }
+    propose_read(table, read.target, read, &access, copy);
     offer_row(engine, table, done, read.target)
 }
 
@@ -287,7 +269,14 @@ fn go_on(
     ensures table { HasRun engine.now (length table.old.room.items) table.new done }
 {
     let slot = engine.code.first_reg.saturating_add(register);
-    propose_line(table, engine.has_enable, slot, first, line);
+    let has_enable = engine.has_enable;
+    let proposal = Proposal::Line {
+        has_enable,
+        slot,
+        first,
+        line,
+    };
+    propose_row(table, slot, &proposal);
     offer_row(engine, table, done, slot)
 }
 
@@ -338,32 +327,6 @@ fn guess_all(
     true
 }
 
-// Whether two rows agree in their first `count` places. The pass does not end early, which is faster if they do.
-fn agrees(row: &[u64], worth: Worth<'_>, count: usize) -> bool {
-    match worth {
-        Worth::Row(next) if count <= row.len() && count <= next.len() => {
-            are_same(&row[..count], next)
-        }
-        _ => false,
-    }
-}
-
-// The first of `count` clocks at which a row is not this, one clock later.
-fn first_apart(row: &[u64], worth: Worth<'_>, count: usize) -> usize {
-    let Some((_, later)) = row.split_first() else {
-        return 0;
-    };
-    if agrees(later, worth, count) {
-        return count;
-    }
-    for t in 0..count.min(later.len()) {
-        if later[t] != worth_at(worth, t) {
-            return t;
-        }
-    }
-    count
-}
-
 // The first of `count` clocks at which a register's row is not its next value's row, one clock later.
 fn wrong_one(engine: &Engine, table: &Table, update: usize, count: usize) -> usize {
     let Some(register) = register_at(engine, update) else {
@@ -373,11 +336,10 @@ fn wrong_one(engine: &Engine, table: &Table, update: usize, count: usize) -> usi
         return 0;
     };
     let slot = engine.code.first_reg.saturating_add(register);
-    first_apart(
-        row_of(&table.rows, slot),
-        worth_of(&table.rows, next),
-        count,
-    )
+    let Some(row) = table.rows.get(slot) else {
+        return 0;
+    };
+    first_apart(row, worth_of(&table.rows, next), count)
 }
 
 fn wrong_first(engine: &Engine, table: &Table, cycle: Cycle, count: usize) -> usize {
@@ -477,6 +439,7 @@ fn run(engine: &Engine, table: &mut Table, done: usize, upto: usize) -> usize
     run_upto(
         &engine.code.widths,
         &engine.code.instructions,
+        &engine.sizes,
         table,
         done,
         upto,

@@ -1,19 +1,23 @@
 // The rows of all slots of a code.
 
-ghost use Rattle.std.specs.Prelude.{◌≡◌, ◌≢◌, ℕ, ◌^◌, ◌<◌, ◌≤◌, [], length, slice_index, slice_index_or, IsTrue};
-ghost use Rattle.block_rows.specs.Rights.{items_of, value_at};
+ghost use Rattle.std.specs.Prelude.{◌≡◌, ◌≢◌, ℕ, ◌^◌, ◌<◌, ◌≤◌, [], length, map, slice_index, slice_index_or, IsTrue};
+ghost use Rattle.block_rows.specs.Rights.{value_at};
+ghost use Rattle.block_rows.specs.Values.{row_bits, values_of};
+ghost use Rattle.block_rows.specs.LaneSizes.{AreSized, InLanes};
 ghost use Rattle.block_rows.specs.Code.{AreSound, IsOrdered};
-ghost use Rattle.block_sim.specs.Table.{AreFirstUses, IsTable};
+ghost use Rattle.block_sim.specs.Table.{AreFirstUses, HaveSpares, IsTable};
 
-use block_rows::{Instruction, Spares, run_code};
+use block_rows::{Instruction, Lane, Rooms, Row, Size, put_row, run_code, trim_row};
 use wiring::{Width, limit};
 
-// The rows of all slots, a spare row, and room for the rows of constants.
+// The rows of all slots, a spare row in each lane, and room for the instructions.
 #[derive(Debug, Drop)]
 pub struct Table {
-    pub rows: Vec<Vec<u64>>,
+    pub rows: Vec<Row>,
     pub room: Vec<u64>,
-    pub spares: Spares,
+    pub narrow: Vec<u16>,
+    pub middle: Vec<u32>,
+    pub rooms: Rooms,
 }
 
 // The greatest number of a slot.
@@ -26,38 +30,51 @@ fn mask_of(widths: &[Width], slot: usize) -> u64
     }
 }
 
-// Cuts numbers to the bits of a mask.
-fn mask_row(row: &mut [u64], mask: u64)
-    ensures { (t : ℕ) → t < length row.new → slice_index row.new t ≤ mask }
+// Puts a spare row into a slot, without the bits above its width. What the slot had becomes the spare row.
+#[tactic(auto, using(crate::proofs::Tables::trimmed_fits))]
+fn put_spare<L: Lane>(widths: &[Width], rows: &mut [Row], slot: usize, spare: &mut Vec<L>)
+    requires slot { slot < length rows.old }
+    requires lanes { InLanes widths.now rows.old }
+    requires long { length spare.old.items ≡ length (slice_index_or (values_of rows.old) slot []) }
+    ensures spare { length spare.new.items ≡ length spare.old.items }
+    ensures bits { map row_bits rows.new ≡ map row_bits rows.old }
+    ensures count { length rows.new ≡ length rows.old }
+    ensures long { length (slice_index_or (values_of rows.new) slot []) ≡ length (slice_index_or (values_of rows.old) slot []) }
+    ensures fit { (t : ℕ) → t < length (slice_index_or (values_of rows.old) slot []) → value_at (values_of rows.new) t slot < 2 ^ slice_index widths.now slot }
+    ensures others { (n : ℕ) → n ≢ slot → slice_index_or (values_of rows.new) n [] ≡ slice_index_or (values_of rows.old) n [] }
 {
-    for t in 0..row.len() {
-        row[t] &= mask;
+    trim_row(spare, mask_of(widths, slot));
+    put_row(rows, slot, spare);
+}
+
+// The lane of a slot's row.
+pub fn lane_in(rows: &[Row], slot: usize) -> Size {
+    match rows.get(slot) {
+        Some(Row::Narrow(_)) => Size::Narrow,
+        Some(Row::Middle(_)) => Size::Middle,
+        _ => Size::Wide,
     }
 }
 
-// Puts a row into a slot, and gives back that which was there.
-fn put_row(rows: &mut [Vec<u64>], slot: usize, row: &mut Vec<u64>)
-    requires { slot < length rows.old }
-    ensures count { length rows.new ≡ length rows.old }
-    ensures here { slice_index_or (items_of rows.new) slot [] ≡ row.old.items }
-    ensures others { (n : ℕ) → n ≢ slot → slice_index_or (items_of rows.new) n [] ≡ slice_index_or (items_of rows.old) n [] }
-    ensures back { row.new.items ≡ slice_index_or (items_of rows.old) slot [] }
-{
-    std::mem::swap(&mut rows[slot], row);
-}
-
-// Puts the spare row into a slot that no instruction that is run uses, cut to its width.
+// Puts the spare row of its lane into a slot that no instruction that is run uses.
 fn put_free(widths: &[Width], table: &mut Table, slot: usize)
     requires slot { slot < length table.old.rows.items }
-    ensures spares { table.new.spares ≡ table.old.spares }
-    ensures count { length (items_of table.new.rows.items) ≡ length (items_of table.old.rows.items) }
-    ensures long { length (slice_index_or (items_of table.new.rows.items) slot []) ≡ length table.old.room.items }
-    ensures fit { (t : ℕ) → t < length table.old.room.items → value_at (items_of table.new.rows.items) t slot < 2 ^ slice_index widths.now slot }
-    ensures others { (n : ℕ) → n ≢ slot → slice_index_or (items_of table.new.rows.items) n [] ≡ slice_index_or (items_of table.old.rows.items) n [] }
-    ensures room { table.new.room.items ≡ slice_index_or (items_of table.old.rows.items) slot [] }
+    requires lanes { InLanes widths.now table.old.rows.items }
+    requires long { length (slice_index_or (values_of table.old.rows.items) slot []) ≡ length table.old.room.items }
+    requires spares { HaveSpares table.old (length table.old.room.items) }
+    ensures spares { HaveSpares table.new (length table.old.room.items) }
+    ensures rooms { table.new.rooms ≡ table.old.rooms }
+    ensures bits { map row_bits table.new.rows.items ≡ map row_bits table.old.rows.items }
+    ensures count { length table.new.rows.items ≡ length table.old.rows.items }
+    ensures long { length (slice_index_or (values_of table.new.rows.items) slot []) ≡ length (slice_index_or (values_of table.old.rows.items) slot []) }
+    ensures fit { (t : ℕ) → t < length (slice_index_or (values_of table.old.rows.items) slot []) → value_at (values_of table.new.rows.items) t slot < 2 ^ slice_index widths.now slot }
+    ensures others { (n : ℕ) → n ≢ slot → slice_index_or (values_of table.new.rows.items) n [] ≡ slice_index_or (values_of table.old.rows.items) n [] }
 {
-    mask_row(&mut table.room, mask_of(widths, slot));
-    put_row(&mut table.rows, slot, &mut table.room);
+    match lane_in(&table.rows, slot) {
+        Size::Narrow => put_spare(widths, &mut table.rows, slot, &mut table.narrow),
+        Size::Middle => put_spare(widths, &mut table.rows, slot, &mut table.middle),
+        Size::Wide => put_spare(widths, &mut table.rows, slot, &mut table.room),
+    }
 }
 
 // Whether no one of the first n instructions uses a slot.
@@ -96,8 +113,16 @@ pub fn offer(
 }
 
 // The instructions from one place up to another.
-fn run_between(widths: &[Width], code: &[Instruction], table: &mut Table, done: usize, upto: usize)
+fn run_between(
+    widths: &[Width],
+    code: &[Instruction],
+    sizes: &[Size],
+    table: &mut Table,
+    done: usize,
+    upto: usize,
+)
     requires sound { AreSound widths.now code.now }
+    requires sized { AreSized widths.now code.now sizes.now }
     requires ordered { IsOrdered code.now }
     requires places { done ≤ upto }
     requires within { upto ≤ length code.now }
@@ -105,14 +130,16 @@ fn run_between(widths: &[Width], code: &[Instruction], table: &mut Table, done: 
     ensures room { length table.new.room.items ≡ length table.old.room.items }
     ensures table { IsTable widths.now code.now (length table.old.room.items) table.new upto }
 {
+    let count = table.room.len();
     run_code(
         widths,
         &mut table.rows,
-        &mut table.spares,
-        &mut table.room,
+        &mut table.rooms,
         code,
+        sizes,
         done,
         upto,
+        count,
     );
 }
 
@@ -120,11 +147,13 @@ fn run_between(widths: &[Width], code: &[Instruction], table: &mut Table, done: 
 pub fn run_upto(
     widths: &[Width],
     code: &[Instruction],
+    sizes: &[Size],
     table: &mut Table,
     done: usize,
     upto: usize,
 ) -> usize
     requires sound { AreSound widths.now code.now }
+    requires sized { AreSized widths.now code.now sizes.now }
     requires ordered { IsOrdered code.now }
     requires table { IsTable widths.now code.now (length table.old.room.items) table.old done }
     ensures room { length table.new.room.items ≡ length table.old.room.items }
@@ -132,7 +161,7 @@ pub fn run_upto(
     ensures more { done ≤ result }
 {
     if done <= upto && upto <= code.len() {
-        run_between(widths, code, table, done, upto);
+        run_between(widths, code, sizes, table, done, upto);
         upto
     } else {
         done

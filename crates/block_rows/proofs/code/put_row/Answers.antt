@@ -1,10 +1,17 @@
-use Rattle.std.proofs.Common.{◌∙◌, ℕ, Vec, ap, rules}
-use Rattle.std.specs.declared.alloc.Global.{Global}
-use Rattle.block_rows.proofs.Running.{row_here, row_other}
+use Rattle.std.proofs.Common.{◌∙◌, ap, sym, ℕ, List, length}
+use Rattle.std.specs.Prelude.{slice_index}
+use Rattle.block_rows.specs.Values.{row_bits, row_values}
+use Rattle.block_rows.proofs.LaneRows.{placed, placed_other, placed_same}
 use Rattle.block_rows.proofs.code.put_row.Goals as goal
 
-pub returns-clause-here : goal.returns-clause-here
-returns-clause-here c = row_here c.args.rows.now c.args.slot c.swap.new.x (search rules) ∙ ap (λ (v : Vec ℕ Global). v.items) {y = c.args.row.now} c.swap.ensures.x_after
+pub returns-clause-bits : goal.returns-clause-bits
+returns-clause-bits g c = placed_same row_bits c.args.rows.now c.args.slot c.take_row.new.row c.index-rows-slot.result c.requires.slot c.index-rows-slot.is (c.take_row.ensures.bits ∙ ap row_bits (sym c.index-rows-slot.is))
+
+pub returns-clause-long : goal.returns-clause-long
+returns-clause-long g c = ap (λ (r : List ℕ). length r) (placed row_values c.args.rows.now c.args.slot c.take_row.new.row c.requires.slot) ∙ c.take_row.ensures.count
+
+pub returns-clause-each : goal.returns-clause-each
+returns-clause-each g c = λ t l. ap (λ (r : List ℕ). slice_index r t) (placed row_values c.args.rows.now c.args.slot c.take_row.new.row c.requires.slot) ∙ c.take_row.ensures.each t l
 
 pub returns-clause-others : goal.returns-clause-others
-returns-clause-others c = λ n apart. row_other c.args.rows.now c.args.slot n c.swap.new.x apart
+returns-clause-others g c = λ n apart. placed_other row_values c.args.rows.now c.args.slot n c.take_row.new.row apart

@@ -11,14 +11,14 @@ push_leaves-requires-clause-earlier c =
 pub lower-requires-clause-nets : goal.lower-requires-clause-nets
 lower-requires-clause-nets c =
     let r = c.args.reader.now in
-    are_leaves c.push_leaves.new.b c.args.b.now r.ir.now r.plan.now r.taps.now r.image (tree_of c.args.body.now) c.push_leaves.new.leaves.reads.items c.push_leaves.new.leaves.bits.items c.law.ensures c.law-2.ensures c.requires.reading c.requires.body
-    (first_leaves c.push_leaves.new.b c.args.b.now r.ir.now r.plan.now r.taps.now r.image (tree_of c.args.body.now) c.new-steps.result.items c.push_leaves.new.leaves (record { reads = c.new.result; bits = c.new-2.result }) c.new-steps.ensures.items c.new.ensures.items c.new-2.ensures.items c.in_ok-push_leaves.ensures.leaves)
+    are_leaves c.push_leaves.new.b c.args.b.now r.ir.now r.plan.now r.taps.now r.image (tree_of c.args.body.now) c.push_leaves.new.leaves.nets.reads.items c.push_leaves.new.leaves.nets.bits.items c.law.ensures c.law-2.ensures c.requires.reading c.requires.body
+    (first_leaves c.push_leaves.new.b c.args.b.now r.ir.now r.plan.now r.taps.now r.image (tree_of c.args.body.now) c.new-steps.result.items c.push_leaves.new.leaves c.new-leaves.result c.new-steps.ensures.items c.new-leaves.ensures.reads c.new-leaves.ensures.bits c.new-leaves.ensures.known c.in_ok-push_leaves.ensures.leaves)
 
 pub lower-requires-clause-leaves : goal.lower-requires-clause-leaves
 lower-requires-clause-leaves c =
     let r = c.args.reader.now in
-    has_leaves c.push_leaves.new.b c.args.b.now r.ir.now r.plan.now r.taps.now r.image (tree_of c.args.body.now) c.push_leaves.new.leaves.reads.items c.push_leaves.new.leaves.bits.items c.law.ensures c.law-2.ensures c.requires.reading c.requires.body
-    (first_leaves c.push_leaves.new.b c.args.b.now r.ir.now r.plan.now r.taps.now r.image (tree_of c.args.body.now) c.new-steps.result.items c.push_leaves.new.leaves (record { reads = c.new.result; bits = c.new-2.result }) c.new-steps.ensures.items c.new.ensures.items c.new-2.ensures.items c.in_ok-push_leaves.ensures.leaves)
+    has_leaves c.push_leaves.new.b c.args.b.now r.ir.now r.plan.now r.taps.now r.image (tree_of c.args.body.now) c.push_leaves.new.leaves.nets.reads.items c.push_leaves.new.leaves.nets.bits.items c.law.ensures c.law-2.ensures c.requires.reading c.requires.body
+    (first_leaves c.push_leaves.new.b c.args.b.now r.ir.now r.plan.now r.taps.now r.image (tree_of c.args.body.now) c.new-steps.result.items c.push_leaves.new.leaves c.new-leaves.result c.new-steps.ensures.items c.new-leaves.ensures.reads c.new-leaves.ensures.bits c.new-leaves.ensures.known c.in_ok-push_leaves.ensures.leaves)
 
 pub returns-clause-adds : goal.returns-clause-adds
 returns-clause-adds c = control_logic c.lower.new.b c.push_leaves.new.b c.args.b.now c.in_ok-push_leaves.ensures.adds c.lower.ensures.grows
@@ -26,5 +26,5 @@ returns-clause-adds c = control_logic c.lower.new.b c.push_leaves.new.b c.args.b
 pub returns-clause-net : goal.returns-clause-net
 returns-clause-net c =
     let r = c.args.reader.now in
-    image_net_is c.push_leaves.new.b c.args.b.now r.ir.now r.plan.now r.taps.now r.image (tree_of c.args.body.now) c.push_leaves.new.leaves.reads.items c.push_leaves.new.leaves.bits.items c.law.ensures c.law-2.ensures c.requires.reading c.requires.body
-    (first_leaves c.push_leaves.new.b c.args.b.now r.ir.now r.plan.now r.taps.now r.image (tree_of c.args.body.now) c.new-steps.result.items c.push_leaves.new.leaves (record { reads = c.new.result; bits = c.new-2.result }) c.new-steps.ensures.items c.new.ensures.items c.new-2.ensures.items c.in_ok-push_leaves.ensures.leaves) c.lower.new.b c.in_ok-net.net c.lower.ensures.grows.includes c.in_ok-push_leaves.ensures.adds.includes c.in_ok-net.ensures.value c.in_ok-net.ensures.made
+    image_net_is c.push_leaves.new.b c.args.b.now r.ir.now r.plan.now r.taps.now r.image (tree_of c.args.body.now) c.push_leaves.new.leaves.nets.reads.items c.push_leaves.new.leaves.nets.bits.items c.law.ensures c.law-2.ensures c.requires.reading c.requires.body
+    (first_leaves c.push_leaves.new.b c.args.b.now r.ir.now r.plan.now r.taps.now r.image (tree_of c.args.body.now) c.new-steps.result.items c.push_leaves.new.leaves c.new-leaves.result c.new-steps.ensures.items c.new-leaves.ensures.reads c.new-leaves.ensures.bits c.new-leaves.ensures.known c.in_ok-push_leaves.ensures.leaves) c.lower.new.b c.in_ok-net.net c.lower.ensures.grows.includes c.in_ok-push_leaves.ensures.adds.includes c.in_ok-net.ensures.value c.in_ok-net.ensures.made

@@ -1,6 +1,6 @@
 use Rattle.std.proofs.Common.{[], refl, sym, subst}
 use Rattle.pointwise_ir.specs.declared.expr.Edge.{Edge}
-use Rattle.datapath.specs.declared.lowering.Leaves.{Leaves}
+use Rattle.circuit.specs.declared.known.BodyLeaves.{BodyLeaves}
 use Rattle.circuit.specs.Leaves.{own_bit}
 use Rattle.circuit.specs.Reads.{AddsLeaves}
 use Rattle.circuit.proofs.Leafing.{leaves_bit}
@@ -15,6 +15,6 @@ returns-in_ok-push-in-Zero-clause-leaves c =
     let r = c.args.reader.now in
     let b = c.test_on.new.b in
     let steps = c.args.steps.now in
-    let now : Leaves = record { reads = c.args.leaves.now.reads; bits = c.push.new.self } in
+    let now : BodyLeaves = record { nets = record { reads = c.args.leaves.now.nets.reads; bits = c.push.new.self }; known = c.args.leaves.now.known } in
     subst (λ (e : Edge). AddsLeaves b c.args.b.now r.ir.now r.plan.now r.taps.now r.image [] (own_bit e steps) now c.args.leaves.now) (sym c.in-Zero.is)
-    (leaves_bit r.ir.now r.plan.now r.taps.now r.image b c.args.b.now now c.args.leaves.now steps c.in_ok-net-in-Zero.net c.in_ok-net-in-Zero.ensures.adds.includes refl c.in_ok-push-in-Zero.ensures.items c.in_ok-net-in-Zero.ensures.test)
+    (leaves_bit r.ir.now r.plan.now r.taps.now r.image b c.args.b.now now c.args.leaves.now steps c.in_ok-net-in-Zero.net c.in_ok-net-in-Zero.ensures.adds.includes refl c.in_ok-push-in-Zero.ensures.items refl c.in_ok-net-in-Zero.ensures.test)

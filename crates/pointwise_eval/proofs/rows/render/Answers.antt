@@ -1,14 +1,17 @@
-use Rattle.std.proofs.Common.{rules}
 use Rattle.dk_base.specs.FrameSizes.{size_of}
 use Rattle.pointwise_ir.specs.Trees.{tree_of}
 use Rattle.pointwise_ir.specs.Programs.{all_types}
-use Rattle.pointwise_eval.proofs.Narrows.{planes_narrow, planes_in}
+use Rattle.pointwise_eval.proofs.Narrows.{planes_in}
 use Rattle.pointwise_eval.proofs.rows.render.Goals as goal
-
-pub render_rows-requires-clause-narrow : goal.render_rows-requires-clause-narrow
-render_rows-requires-clause-narrow c =
-    planes_narrow (size_of c.args.size) (all_types c.args.inputs.now c.args.images.now) c.args.planes.now c.requires.types c.requires.values (tree_of c.args.e.now) (search rules)
 
 pub render_rows-requires-clause-typed : goal.render_rows-requires-clause-typed
 render_rows-requires-clause-typed c =
+    planes_in (size_of c.args.size) (all_types c.args.inputs.now c.args.images.now) c.args.planes.now c.requires.types c.requires.values (tree_of c.args.e.now) c.in-Some.ty c.in-Some.ensures.found
+
+pub render_rows-requires-then-fits-2-clause-typed : goal.render_rows-requires-then-fits-2-clause-typed
+render_rows-requires-then-fits-2-clause-typed c =
+    planes_in (size_of c.args.size) (all_types c.args.inputs.now c.args.images.now) c.args.planes.now c.requires.types c.requires.values (tree_of c.args.e.now) c.in-Some.ty c.in-Some.ensures.found
+
+pub render_rows-requires-2-clause-typed : goal.render_rows-requires-2-clause-typed
+render_rows-requires-2-clause-typed c =
     planes_in (size_of c.args.size) (all_types c.args.inputs.now c.args.images.now) c.args.planes.now c.requires.types c.requires.values (tree_of c.args.e.now) c.in-Some.ty c.in-Some.ensures.found

@@ -4,8 +4,12 @@ use Rattle.dk_base.specs.Frames.{area}
 use Rattle.dk_base.specs.FrameSizes.{size_of}
 use Rattle.stimulus.specs.Given.{rounds_of}
 use Rattle.stimulus.specs.Showing.{asked, notes_of}
-use Rattle.test_bench.specs.Clocking.{AreKept}
-use Rattle.test_bench.proofs.Ends.{ended, rounds_length, filled_end, file_end, short_end}
+use Rattle.wiring.specs.Netlist.{Netlist}
+use Rattle.wiring.specs.Snapshot.{Contents}
+use Rattle.cycle_sim.specs.Ports.{din_widths}
+use Rattle.stimulus.specs.Stimulus.{stimulus}
+use Rattle.test_bench.specs.Clocking.{AreKept, StopsIn}
+use Rattle.test_bench.proofs.Ends.{ended, rounds_length, filled_end, file_end, short_end, is_stop}
 use Rattle.test_bench.proofs.bench.run_bench.Goals as goal
 
 pub finish-requires-clause-filled : goal.finish-requires-clause-filled
@@ -68,3 +72,20 @@ returns-clause-notes g c =
     let none = subst (λ n. AreKept n [] old.pictures.items) (sym set.most) set.kept in
     let end = ended m c.args.drive size (rounds_of rounds) old new before now set.netlist set.contents most none c.in-Ok.ensures.ok c.in-Ok.ensures.few in
     (notes_of m end.shots, record { shots = end.shots; run = end.run; notes_are = refl }, end.told)
+
+pub returns-in_err-held-clause-stop : goal.returns-in_err-held-clause-stop
+returns-in_err-held-clause-stop g c =
+    let p = err_from_is_err_and c.from_residual-in_err-held.result c.from_residual-in_err-held.ensures.1 in
+    rw (p.1, p.2) tt
+
+pub returns-in-Err-clause-stop : goal.returns-in-Err-clause-stop
+returns-in-Err-clause-stop g c =
+    let m = c.args.module.now.netlist in
+    let drive = c.args.drive in
+    let rounds = rounds_of c.args.rounds.now in
+    let old = c.in_ok-bench.bench in
+    let set = c.in_ok-bench.ensures in
+    let stop = c.in-Err.stop in
+    is_stop m drive (size_of c.args.size) rounds old.made stop set.made
+    (subst (λ (from : Contents). StopsIn m from old.made (stimulus drive (din_widths m) rounds) stop) set.contents
+    (subst (λ (z : Netlist). StopsIn z old.sim.contents old.made (stimulus drive (din_widths z) rounds) stop) set.netlist c.in-Err.ensures.stop))

@@ -1,10 +1,10 @@
-use Rattle.std.proofs.Common.{◌≡◌, ◌∙◌, ◌+◌, ◌-◌, ◌<◌, length, ap, arith}
+use Rattle.std.proofs.Common.{map, ◌≡◌, ◌∙◌, ◌+◌, ◌-◌, ◌<◌, length, ap, arith}
 use Rattle.value_rows.specs.Rows.{entry}
 use Rattle.value_rows.proofs.shift.read_left.Goals as goal
 
 pub returns-clause-inside : goal.returns-clause-inside
-returns-clause-inside c x lt =
+returns-clause-inside g c x lt =
     let e : x + c.args.by ≡ c.args.by + x = omega arith in
     let z : 0 + x ≡ x = omega arith in
     let within : x < length c.args.from.now - c.args.by = omega (arith, lt) in
-    ap (entry c.copy_part.new.to) e ∙ c.copy_part.ensures.copied x within ∙ ap (entry c.args.from.now) z
+    ap (entry (map g.L.Element.worth c.copy_part.new.to)) e ∙ c.copy_part.ensures.copied x within ∙ ap (entry (map g.T.Element.worth c.args.from.now)) z

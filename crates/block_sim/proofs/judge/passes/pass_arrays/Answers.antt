@@ -2,6 +2,7 @@ use Rattle.std.proofs.Common.{◌∙◌, length, refl, sym, arith}
 use Rattle.std.proofs.lemmas.Option.{slice_get_read, slice_get_within}
 use Rattle.cycle_sim.specs.Slots.{words_of}
 use Rattle.block_rows.specs.Rights.{items_of}
+use Rattle.block_rows.specs.Values.{values_of}
 use Rattle.block_sim.proofs.Vectors.{some_at, length-items}
 use Rattle.block_sim.proofs.AllPasses.{put_on, lost_on, kept_on, same_put, same_lost, all_inside}
 use Rattle.block_sim.proofs.judge.passes.pass_arrays.Goals as goal
@@ -21,14 +22,14 @@ undo_arrays-requires-clause-atoms c = λ x p at.
 
 pub undo_arrays-requires-clause-inside : goal.undo_arrays-requires-clause-inside
 undo_arrays-requires-clause-inside c =
-    let rows = items_of c.args.rows.now in
+    let rows = values_of c.args.rows.now in
     let size = length-items c.pass_at.new.arrays ∙ c.pass_at.auto.arrays ∙ sym (length-items c.loop-array.arrays) in
     let put = same_put rows c.args.all.now.reads.now c.args.all.now.puts.now c.args.all.now.count (words_of c.args.arrays.now) (words_of c.loop-array.arrays) (words_of c.pass_at.new.arrays) c.loop-array.array size (c.pass_at.ensures.back c.if-not-pass_at.true) c.loop-array.invariant.put in
     all_inside rows c.args.all.now.reads.now c.args.all.now.puts.now c.args.all.now.count (words_of c.args.arrays.now) (items_of c.loop-array.lost) (words_of c.pass_at.new.arrays) c.loop-array.array put c.loop-array.invariant.lost
 
 pub returns-then-not-pass_at-clause-back : goal.returns-then-not-pass_at-clause-back
 returns-then-not-pass_at-clause-back c = λ _.
-    let rows = items_of c.args.rows.now in
+    let rows = values_of c.args.rows.now in
     let size = length-items c.pass_at.new.arrays ∙ c.pass_at.auto.arrays ∙ sym (length-items c.loop-array.arrays) in
     let put = same_put rows c.args.all.now.reads.now c.args.all.now.puts.now c.args.all.now.count (words_of c.args.arrays.now) (words_of c.loop-array.arrays) (words_of c.pass_at.new.arrays) c.loop-array.array size (c.pass_at.ensures.back c.if-not-pass_at.true) c.loop-array.invariant.put in
     let lost = same_lost rows c.args.all.now.reads.now c.args.all.now.puts.now c.args.all.now.count (words_of c.args.arrays.now) (items_of c.loop-array.lost) (items_of c.pass_at.new.lost) c.loop-array.array c.pass_at.ensures.other_lost c.loop-array.invariant.lost in
@@ -36,7 +37,7 @@ returns-then-not-pass_at-clause-back c = λ _.
 
 pub loop-array-preserved : goal.loop-array-preserved
 loop-array-preserved c =
-    let rows = items_of c.args.rows.now in
+    let rows = values_of c.args.rows.now in
     let reads = c.args.all.now.reads.now in
     let puts = c.args.all.now.puts.now in
     let count = c.args.all.now.count in

@@ -2,7 +2,7 @@ use Rattle.std.proofs.Common.{◌≡◌, ◌∙◌, ◌+◌, ◌-◌, ◌<◌, �
 use Rattle.std.specs.Prelude.{slice_get, slice_index_or}
 use Rattle.std.proofs.lemmas.Option.{slice_get_read}
 use Rattle.cycle_sim.specs.Slots.{words_of}
-use Rattle.block_rows.specs.Rights.{items_of}
+use Rattle.block_rows.specs.Values.{values_of}
 use Rattle.block_sim.specs.Arrays.{PutsInside, ArePut}
 use Rattle.block_sim.proofs.Vectors.{vec_get, length-items}
 use Rattle.block_sim.proofs.AllPasses.{put_back, all_back, length-put}
@@ -24,7 +24,7 @@ undo_at-requires-clause-inside c =
 
 pub loop-back-preserved : goal.loop-back-preserved
 loop-back-preserved c =
-    let rows = items_of c.args.rows.now in
+    let rows = values_of c.args.rows.now in
     let puts = c.args.puts.now in
     let count = c.args.count in
     let k : ℕ = c.args.done - 1 - c.loop-back.back in
@@ -53,4 +53,4 @@ loop-back-preserved c =
 pub returns-clause-back : goal.returns-clause-back
 returns-clause-back c = λ before put lost.
     let none : c.args.done - c.loop-back.back ≡ 0 = omega (arith, c.loop-back-test.false) in
-    all_back (items_of c.args.rows.now) [] c.args.puts.now c.args.count before (words_of c.loop-back.arrays) (subst (λ (n : ℕ). ArePut (items_of c.args.rows.now) c.args.puts.now c.args.count before (words_of c.loop-back.arrays) n) none (c.loop-back.invariant.back before put lost))
+    all_back (values_of c.args.rows.now) [] c.args.puts.now c.args.count before (words_of c.loop-back.arrays) (subst (λ (n : ℕ). ArePut (values_of c.args.rows.now) c.args.puts.now c.args.count before (words_of c.loop-back.arrays) n) none (c.loop-back.invariant.back before put lost))

@@ -1,12 +1,13 @@
 use Rattle.std.proofs.Common.{ℕ, ◌-◌, List}
 use Rattle.cycle_sim.specs.Slots.{words_of}
 use Rattle.block_rows.specs.Rights.{items_of}
+use Rattle.block_rows.specs.Values.{values_of}
 use Rattle.block_sim.specs.Arrays.{IsArrayRoom, ArePut, AreInsideAll, AreLost}
 use Rattle.block_sim.proofs.judge.passes.undo_arrays.Given as goal
 
 abbrev pub invariant-loop-back : goal.invariant-loop-back
 invariant-loop-back l = record {
   room : IsArrayRoom l.room l.count;
-  inside : AreInsideAll (items_of l.rows) l.puts l.count (words_of l.arrays) (l.done - l.back);
-  back : (before : List (List ℕ)) → ArePut (items_of l.rows) l.puts l.count before (words_of l.fn.arrays) l.done → AreLost (items_of l.rows) l.puts l.count before (items_of l.lost) l.done → ArePut (items_of l.rows) l.puts l.count before (words_of l.arrays) (l.done - l.back);
+  inside : AreInsideAll (values_of l.rows) l.puts l.count (words_of l.arrays) (l.done - l.back);
+  back : (before : List (List ℕ)) → ArePut (values_of l.rows) l.puts l.count before (words_of l.fn.arrays) l.done → AreLost (values_of l.rows) l.puts l.count before (items_of l.lost) l.done → ArePut (values_of l.rows) l.puts l.count before (words_of l.arrays) (l.done - l.back);
 }

@@ -1,16 +1,17 @@
-use Rattle.std.proofs.Common.{◌∙◌, ℕ, length, subst}
-use Rattle.block_rows.specs.Rights.{items_of}
-use Rattle.block_sim.specs.Shown.{AreRowOuts}
-use Rattle.block_sim.proofs.Clockwise.{place_inside, code_size}
-use Rattle.block_sim.proofs.Rowwise.{shown_on}
+use Rattle.std.proofs.Common.{◌≡◌, ◌∙◌, arith}
+use Rattle.block_rows.specs.Values.{row_values, values_of}
+use Rattle.block_sim.proofs.Outputs.{output_more, all_shown}
 use Rattle.block_sim.proofs.rows.shown.show_rows.Goals as goal
 
-pub loop-clock-preserved : goal.loop-clock-preserved
-loop-clock-preserved c =
-    let count = c.args.count in
-    let k = c.loop-clock.clock in
-    let outs = c.loop-clock.outs in
-    let room = place_inside k c.args.clocks count (length outs) c.loop-clock-test.true (c.loop-clock.auto.outs ∙ c.requires.outs) in
-    let size = code_size count k outs room in
-    let here = subst (λ (n : ℕ). AreRowOuts (items_of c.args.rows.now) c.args.first k n c.show_clock.new.outs) size c.show_clock.ensures in
-    shown_on (items_of c.args.rows.now) c.args.first count k outs c.show_clock.new.outs room here.long c.loop-clock.invariant here
+pub loop-output-preserved : goal.loop-output-preserved
+loop-output-preserved c = record {
+  long = c.show_output.ensures.outs ∙ c.loop-output.invariant.long;
+  shown = output_more (values_of c.args.rows.now) c.args.first c.args.count c.args.clocks c.loop-output.output (row_values c.row_at-valid.result.now) (row_values c.row_at-dout.result.now) c.loop-output.outs c.show_output.new.outs c.loop-output-test.true
+      c.row_at-valid.ensures c.row_at-dout.ensures c.show_output.ensures.here c.show_output.ensures.others c.loop-output.invariant.shown;
+}
+
+pub returns : goal.returns
+returns c =
+    let end : c.loop-output.output ≡ c.args.count = omega (arith, c.loop-output-test.false, c.loop-output.auto.output-end) in
+    all_shown (values_of c.args.rows.now) c.args.first c.args.count c.args.clocks c.loop-output.outs (c.loop-output.invariant.long ∙ c.requires.outs)
+    (λ t k l below. c.loop-output.invariant.shown t k l (omega (arith, below, end)))

@@ -1,8 +1,11 @@
-use Rattle.std.proofs.Common.{ℕ, ◌<◌}
-use Rattle.block_rows.specs.Rights.{items_of}
-use Rattle.block_sim.specs.Called.{of_clock}
-use Rattle.block_sim.specs.Shown.{AreRowOuts}
+use Rattle.std.proofs.Common.{◌≡◌, ◌+◌, ◌*◌, ◌<◌, ℕ, length, Some}
+use Rattle.std.specs.Prelude.{slice_get}
+use Rattle.block_rows.specs.Values.{values_of}
+use Rattle.block_sim.specs.Shown.{row_out}
 use Rattle.block_sim.proofs.rows.shown.show_rows.Given as goal
 
-abbrev pub invariant-loop-clock : goal.invariant-loop-clock
-invariant-loop-clock l = (t : ℕ) → t < l.clock → AreRowOuts (items_of l.rows) l.first t l.count (of_clock l.count t l.outs)
+abbrev pub invariant-loop-output : goal.invariant-loop-output
+invariant-loop-output l = record {
+  long : length l.outs ≡ length l.initial.outs;
+  shown : (t k : ℕ) → t < l.clocks → k < l.output → slice_get l.outs (t * l.count + k) ≡ Some (row_out (values_of l.rows) l.first k t);
+}

@@ -1,7 +1,7 @@
 use Rattle.std.proofs.Common.{ap, ◌∙◌}
 use Rattle.dk_base.specs.FrameSizes.{size_of}
 use Rattle.row_stream.specs.Forms.{kind_of}
-use Rattle.dk_top.proofs.StreamStarts.{inputs_two, outputs_two, dout_small, kind_is, one_as, fit_as, starts_as, runs_as}
+use Rattle.dk_top.proofs.StreamStarts.{inputs_two, outputs_two, dout_small, kind_is, one_as, fit_as, starts_as, runs_as, no_memory}
 use Rattle.dk_top.proofs.commands.streaming.run_lines.Goals as goal
 
 pub dout_bits-requires : goal.dout_bits-requires
@@ -46,3 +46,7 @@ returns-clause-runs g c = λ other source age from.
     (g.D.Desk.outside c.stream_file.new.desk) c.stream_file.result
     (kind_is source age c.args.compiled.now from one c.args.«module».now c.requires.again (kind_of c.form_of-form.result) c.dout_bits.result (ap size_of c.form_of-form.ensures.size ∙ c.size-size.ensures) c.form_of-form.ensures.maxval c.dout_bits.ensures)
     c.in-Ok.ensures.netlist c.din_bits.ensures c.latency-latency.ensures c.in-Ok.ensures.contents c.stream_file.ensures.runs
+
+pub returns-clause-memory : goal.returns-clause-memory
+returns-clause-memory g c = λ e.
+    absurd (no_memory (kind_of c.form_of-form.result) c.in-Ok.sim.netlist c.din_bits.result c.latency-latency.result c.args.image.now c.args.out.now c.in-Ok.sim.contents (g.D.Desk.outside c.args.desk.now) (g.D.Desk.outside c.stream_file.new.desk) c.stream_file.result c.stream_file.ensures.runs e)

@@ -1,0 +1,18 @@
+use Rattle.std.proofs.Common.{refl, subst}
+use Rattle.circuit.specs.declared.known.BodyLeaves.{BodyLeaves}
+use Rattle.circuit.specs.Leaves.{LeafRead, leaf_at}
+use Rattle.circuit.specs.Known.{IsKnownNet}
+use Rattle.circuit.proofs.Leafing.{leaves_known}
+use Rattle.circuit.proofs.Placing.{control_none}
+use Rattle.circuit.proofs.leaves.push_net.Goals as goal
+
+pub returns-in_ok-push-in-Some-clause-adds : goal.returns-in_ok-push-in-Some-clause-adds
+returns-in_ok-push-in-Some-clause-adds c = control_none c.args.b.now
+
+pub returns-in_ok-push-in-Some-clause-leaves : goal.returns-in_ok-push-in-Some-clause-leaves
+returns-in_ok-push-in-Some-clause-leaves c =
+    let r = c.args.reader.now in
+    let before = c.args.leaves.now in
+    let now : BodyLeaves = record { nets = record { reads = c.push.new.self; bits = before.nets.bits }; known = before.known } in
+    let is = subst (λ (l : LeafRead). IsKnownNet before.nets.reads.items before.known l c.in-Some.net) c.in_ok-key.ensures c.in-Some.ensures in
+    leaves_known r.ir.now r.plan.now r.taps.now r.image c.args.b.now now before (leaf_at c.args.g c.args.steps.now) c.in-Some.net c.in_ok-push-in-Some.ensures.items refl refl is

@@ -1,9 +1,0 @@
-use Rattle.std.proofs.Common.{◌≡◌, ℕ, ◌<◌, length, map}
-use Rattle.value_rows.specs.Rows.{entry}
-use Rattle.value_rows.proofs.elements.narrow_row.Given as goal
-
-abbrev pub invariant-loop-k : goal.invariant-loop-k
-invariant-loop-k g l = record {
-  long : length l.to ≡ length l.fn.to;
-  done : (j : ℕ) → j < l.k → entry (map g.T.Element.worth l.to) j ≡ entry l.values j;
-}
