@@ -1,17 +1,19 @@
 #!/usr/bin/env python3
 """`run` beside Verilator and Icarus Verilog on the text that `compile` prints, with one picture and in one run of this script.
 
-usage: python3 bench/run.py DK [WIDTH HEIGHT [NAME]] [--block N] [--enable] [--hold K] [--other DK] [--no-icarus]
+usage: python3 bench/run.py DK [WIDTH HEIGHT [NAME]] [--block N] [--enable] [--hold K] [--other DK] [--no-icarus] [--runs N]
 
 It takes the 3 by 3 Gaussian of the examples at 640 by 480 pixels, or another example of one input of 8 bits at another size.
 With --block or --enable the text is compiled so, and `sim` clocks it in place of `run`, with --hold K held clocks among the
 others. --other is a further program, as an earlier build. It prints the processor time of each, the least of seven runs in turn
-(Icarus runs once; compile times do not count), and stops where two pictures differ. A tool that is not there is passed over.
+(Icarus runs once; compile times do not count), and the median of the ratios of the runs in turn, which a slow moment of the
+machine does not shift. It stops where two pictures differ. A tool that is not there is passed over.
 """
 import argparse
 import os
 import re
 import shutil
+import statistics
 import subprocess
 import sys
 import tempfile
@@ -72,17 +74,16 @@ def rasters(file):
     return found
 
 
-RUNS = 7
+def times_of(commands, runs):
+    """The user and system times of some runs of each command, all in turn."""
+    rounds = [[timed(*words) for words in commands] for _ in range(runs)]
+    return list(zip(*rounds))
 
 
-def least(commands):
-    """The least user and system time of some runs of each command, all in turn."""
-    best = [None] * len(commands)
-    for _ in range(RUNS):
-        for k, words in enumerate(commands):
-            time = timed(*words)
-            best[k] = time if best[k] is None else min(best[k], time)
-    return best
+def told(name, own, other):
+    """The least of the times of another program, and how long dk takes beside it."""
+    ratio = statistics.median(a / b for a, b in zip(own, other))
+    return f"{name}: {min(other):.3f} s; dk takes {min(own) / min(other):.2f} times as long, by the median of ratios {ratio:.2f}"
 
 
 def timed(*words, **how):
@@ -129,6 +130,7 @@ def arguments():
     words.add_argument("--hold", type=int, default=0)
     words.add_argument("--other")
     words.add_argument("--no-icarus", action="store_true")
+    words.add_argument("--runs", type=int, default=7)
     return words.parse_args()
 
 
@@ -157,16 +159,16 @@ def main():
         if with_verilator:
             verilate(clocks, pixels, given.hold, given.enable)
             commands.append(["obj_dir/Vm"])
-        own, *others = least(commands)
-        print(f"dk {call[0]}: {own:.3f} s, {1e9 * own / clocks:.0f} ns a clock")
+        own, *others = times_of(commands, given.runs)
+        print(f"dk {call[0]}: {min(own):.3f} s, {1e9 * min(own) / clocks:.0f} ns a clock")
         if given.other:
-            print(f"the other program: {others[0]:.3f} s")
+            print(told("the other program", own, others[0]))
         if with_verilator:
             if open("verilated", "rb").read() != rasters(open("own.pgm", "rb").read()):
                 sys.exit("Verilator's picture is another one")
-            print(f"Verilator -O3: {others[-1]:.3f} s; dk takes {own / others[-1]:.2f} times as long")
+            print(told("Verilator -O3", own, others[-1]))
         if shutil.which("iverilog") and pixels <= 640 * 480 and not flags and not given.no_icarus:
-            icarus(clocks, own)
+            icarus(clocks, min(own))
 
 
 main()

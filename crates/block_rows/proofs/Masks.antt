@@ -38,7 +38,7 @@ turned a b w bits narrow l =
     let sum : a + 2 ^ bits - b ≡ (a + 2 ^ w - b) + p * 2 ^ w = omega (arith, whole, product, l) in
     ap (λ n. n % 2 ^ w) sum ∙ add-mul-mod_self_right (a + 2 ^ w - b) p (2 ^ w)
 
--- what the operators make in a lane of so many bits, with a mask
+-- what the operators make in a lane of this many bits, with a mask
 abbrev pub masked_sum : (bits mask : ℕ) → ℕ → ℕ → ℕ
 masked_sum bits mask a b = bit_and ((a + b) % 2 ^ bits) mask
 

@@ -33,7 +33,7 @@ HaveRows rows count (Bit v k) = HasRow rows count (atom.Net v)
 HaveRows rows count (Slice v m l) = HasRow rows count (atom.Net v)
 HaveRows rows count (Word m i) = HasRow rows count i
 
--- an atom has a row of this many clocks whose values fit a lane of so many bits, or is a constant that does
+-- an atom has a row of this many clocks whose values fit a lane of this many bits, or is a constant that does
 abbrev pub IsOperand : ℕ → List (List ℕ) → ℕ → Atom ℕ → Type 0
 IsOperand bits rows count (atom.Net n) = HasRow rows count (atom.Net n) × ((t : ℕ) → t < count → value_at rows t n < 2 ^ bits)
 IsOperand bits rows count (atom.Constant c) = c.value < 2 ^ bits

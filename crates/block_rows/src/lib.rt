@@ -1,6 +1,7 @@
 //! Assigns evaluated over whole rows of clocks.
 #![tactic(auto)]
 
+mod choices;
 mod code;
 mod lanes;
 mod ordered;

@@ -5,7 +5,7 @@ ghost use Rattle.wiring.specs.Rights.{operator_value};
 ghost use Rattle.block_rows.specs.Rows.{IsPairRow, IsSingleRow};
 
 use crate::lanes::Lane;
-use crate::singles::{Single, Whole, chosen, mask_of, single_row};
+use crate::singles::{Single, Whole, mask_of, single_row};
 use wiring::Operator;
 
 // What is made of two numbers in a clock.
@@ -197,54 +197,6 @@ fn with_number<L: Lane, P: Pair<L> + Copy>(pair: P, second: L, to: &mut [L], a: 
     ensures each { IsSingleRow (λ x. P.value pair x (L.value second)) (map L.value to.new) (map L.value a.now) }
 {
     single_row(&With { pair, second }, to, a);
-}
-
-// By the first number, a bit: the same number where it is 1, else the second one.
-#[derive(Clone, Copy)]
-struct On<L> {
-    number: L,
-}
-
-impl<L: Lane> Pair<L> for On<L> {
-    ghost value = { λ s bit off. if bit == 1 then L.value s.number else off };
-
-    fn of(&self, bit: L, off: L) -> L {
-        chosen(bit, self.number, off)
-    }
-}
-
-// The second number where the first one, a bit, is 1, else the same number.
-#[derive(Clone, Copy)]
-struct Off<L> {
-    number: L,
-}
-
-impl<L: Lane> Pair<L> for Off<L> {
-    ghost value = { λ s bit on. if bit == 1 then on else L.value s.number };
-
-    fn of(&self, bit: L, on: L) -> L {
-        chosen(bit, on, self.number)
-    }
-}
-
-// By a bit the same number, or else that of a row.
-pub(crate) fn choose_number_row<L: Lane>(to: &mut [L], bit: &[L], number: L, off: &[L])
-    requires bit { length bit.now ≡ length to.old }
-    requires off { length off.now ≡ length to.old }
-    ensures count { length to.new ≡ length to.old }
-    ensures each { (t : ℕ) → t < length to.new → slice_index (map L.value to.new) t ≡ (if slice_index (map L.value bit.now) t == 1 then L.value number else slice_index (map L.value off.now) t) }
-{
-    pair_row(&On { number }, to, bit, off);
-}
-
-// By a bit the number of a row, or else the same one.
-pub(crate) fn choose_or_number_row<L: Lane>(to: &mut [L], bit: &[L], on: &[L], number: L)
-    requires bit { length bit.now ≡ length to.old }
-    requires on { length on.now ≡ length to.old }
-    ensures count { length to.new ≡ length to.old }
-    ensures each { (t : ℕ) → t < length to.new → slice_index (map L.value to.new) t ≡ (if slice_index (map L.value bit.now) t == 1 then slice_index (map L.value on.now) t else L.value number) }
-{
-    pair_row(&Off { number }, to, bit, on);
 }
 
 // A row above another one of some bits.

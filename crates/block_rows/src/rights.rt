@@ -7,15 +7,11 @@ ghost use Rattle.wiring.specs.declared.right.Atom.TheVariants as AtomVariants;
 ghost use Rattle.block_rows.specs.Rights.{value_at, HasRow, IsOperand, AreOperands, IsAtomRow, IsRightRow, HaveRoom};
 ghost use Rattle.block_rows.specs.Values.{numbers_in, row_values, values_of};
 
+use crate::choices::{choose_number_row, choose_or_number_row, choose_row};
 use crate::lanes::Lane;
-use crate::pairs::{
-    choose_number_row, choose_or_number_row, join_number_row, join_row, operator_number_row,
-    operator_row,
-};
+use crate::pairs::{join_number_row, join_row, operator_number_row, operator_row};
 use crate::row::{Numbers, Row, copy_words, first_numbers, first_of, widen_row};
-use crate::singles::{
-    Part, Turned, Whole, choose_row, constant_row, lane_of, mask_of, repeat_row, single_row,
-};
+use crate::singles::{Part, Turned, Whole, constant_row, lane_of, mask_of, repeat_row, single_row};
 use std::alloc::{AllocError, Global};
 use wiring::{Atom, Operator, Right, Width};
 
@@ -72,7 +68,7 @@ fn row_at(rows: &[Row], slot: usize) -> &Row
 
 // The row of an atom, if it is one in this lane.
 fn own_row<'a, L: Lane>(rows: &'a [Row], a: &Atom<usize>, count: usize) -> Option<&'a [L]>
-    requires a { IsOperand L.bits (values_of rows.now) count a.now }
+    requires a { HasRow (values_of rows.now) count a.now }
     ensures count { IfSome result (λ r. length r.now ≡ count) }
     ensures row { IfSome result (λ r. IsAtomRow (values_of rows.now) a.now count (map L.value r.now)) }
 {
@@ -310,61 +306,103 @@ fn binary_row<L: Lane>(
     operator_row(op, width, to, left, right);
 }
 
-// At each clock a number, or else an atom, by another one.
-fn number_or_row<L: Lane>(
+// At each clock a number, or else an atom, by a row of bits.
+fn number_or_row<L: Lane, B: Lane>(
     rows: &[Row],
-    spares: &mut Spares<L>,
-    c: &Atom<usize>,
+    spare: &mut [L],
+    bit: &[B],
     number: u64,
     b: &Atom<usize>,
     to: &mut [L],
 )
-    requires c { IsOperand L.bits (values_of rows.now) (length to.old) c.now }
+    requires bit { length bit.now ≡ length to.old }
     requires b { IsOperand L.bits (values_of rows.now) (length to.old) b.now }
     requires number { number < 2 ^ L.bits }
-    requires room { HaveRoom spares.old (length to.old) }
-    ensures spares { HaveRoom spares.new (length to.old) }
+    requires room { length to.old ≤ length spare.old }
+    ensures spare { length spare.new ≡ length spare.old }
     ensures count { length to.new ≡ length to.old }
     ensures row { (t : ℕ) → t < length to.new
         → slice_index (map L.value to.new) t
-        ≡ (if atom_value (value_at (values_of rows.now) t) c.now == 1 then number else atom_value (value_at (values_of rows.now) t) b.now) }
+        ≡ (if slice_index (map B.value bit.now) t == 1 then number else atom_value (value_at (values_of rows.now) t) b.now) }
 {
     let count = to.len();
-    let own_b = note_atom(rows, &mut spares.second, b, count);
-    let own_c = note_atom(rows, &mut spares.third, c, count);
-    let off = atom_row(rows, own_b, &spares.second, b, count);
-    let bit = atom_row(rows, own_c, &spares.third, c, count);
+    let own = note_atom(rows, spare, b, count);
+    let off = atom_row(rows, own, spare, b, count);
     choose_number_row(to, bit, lane_of(number), off);
 }
 
-// At each clock an atom, or else a number, by another one.
-fn row_or_number<L: Lane>(
+// At each clock an atom, or else a number, by a row of bits.
+fn row_or_number<L: Lane, B: Lane>(
     rows: &[Row],
-    spares: &mut Spares<L>,
-    c: &Atom<usize>,
+    spare: &mut [L],
+    bit: &[B],
     a: &Atom<usize>,
     number: u64,
     to: &mut [L],
 )
-    requires c { IsOperand L.bits (values_of rows.now) (length to.old) c.now }
+    requires bit { length bit.now ≡ length to.old }
     requires a { IsOperand L.bits (values_of rows.now) (length to.old) a.now }
     requires number { number < 2 ^ L.bits }
-    requires room { HaveRoom spares.old (length to.old) }
-    ensures spares { HaveRoom spares.new (length to.old) }
+    requires room { length to.old ≤ length spare.old }
+    ensures spare { length spare.new ≡ length spare.old }
     ensures count { length to.new ≡ length to.old }
     ensures row { (t : ℕ) → t < length to.new
         → slice_index (map L.value to.new) t
-        ≡ (if atom_value (value_at (values_of rows.now) t) c.now == 1 then atom_value (value_at (values_of rows.now) t) a.now else number) }
+        ≡ (if slice_index (map B.value bit.now) t == 1 then atom_value (value_at (values_of rows.now) t) a.now else number) }
 {
     let count = to.len();
-    let own_a = note_atom(rows, &mut spares.first, a, count);
-    let own_c = note_atom(rows, &mut spares.third, c, count);
-    let on = atom_row(rows, own_a, &spares.first, a, count);
-    let bit = atom_row(rows, own_c, &spares.third, c, count);
+    let own = note_atom(rows, spare, a, count);
+    let on = atom_row(rows, own, spare, a, count);
     choose_or_number_row(to, bit, on, lane_of(number));
 }
 
-// At each clock one of two atoms, by a third. A constant among the two needs no row.
+// At each clock one of two atoms, by a row of bits. A constant among the two needs no row.
+fn chosen_by<L: Lane, B: Lane>(
+    rows: &[Row],
+    first: &mut [L],
+    second: &mut [L],
+    bit: &[B],
+    a: &Atom<usize>,
+    b: &Atom<usize>,
+    to: &mut [L],
+)
+    requires bit { length bit.now ≡ length to.old }
+    requires a { IsOperand L.bits (values_of rows.now) (length to.old) a.now }
+    requires b { IsOperand L.bits (values_of rows.now) (length to.old) b.now }
+    requires first { length to.old ≤ length first.old }
+    requires second { length to.old ≤ length second.old }
+    ensures first { length first.new ≡ length first.old }
+    ensures second { length second.new ≡ length second.old }
+    ensures count { length to.new ≡ length to.old }
+    ensures row { (t : ℕ) → t < length to.new
+        → slice_index (map L.value to.new) t
+        ≡ (if slice_index (map B.value bit.now) t == 1 then atom_value (value_at (values_of rows.now) t) a.now
+        else atom_value (value_at (values_of rows.now) t) b.now) }
+{
+    if let Atom::Constant(number) = a {
+        return number_or_row(rows, second, bit, number.value(), b, to);
+    }
+    if let Atom::Constant(number) = b {
+        return row_or_number(rows, first, bit, a, number.value(), to);
+    }
+    let count = to.len();
+    let own_a = note_atom(rows, first, a, count);
+    let own_b = note_atom(rows, second, b, count);
+    let on = atom_row(rows, own_a, first, a, count);
+    let off = atom_row(rows, own_b, second, b, count);
+    choose_row(to, bit, on, off);
+}
+
+// The row of an atom in the narrow lane, where nearly all bits are.
+fn narrow_row<'a>(rows: &'a [Row], a: &Atom<usize>, count: usize) -> Option<&'a [u16]>
+    requires a { HasRow (values_of rows.now) count a.now }
+    ensures count { IfSome result (λ r. length r.now ≡ count) }
+    ensures row { IfSome result (λ r. IsAtomRow (values_of rows.now) a.now count r.now) }
+{
+    own_row(rows, a, count)
+}
+
+// At each clock one of two atoms, by a third, whose row is read in its own lane where that is the narrow one.
 fn chosen_row<L: Lane>(
     rows: &[Row],
     spares: &mut Spares<L>,
@@ -384,20 +422,13 @@ fn chosen_row<L: Lane>(
         ≡ (if atom_value (value_at (values_of rows.now) t) c.now == 1 then atom_value (value_at (values_of rows.now) t) a.now
         else atom_value (value_at (values_of rows.now) t) b.now) }
 {
-    if let Atom::Constant(number) = a {
-        return number_or_row(rows, spares, c, number.value(), b, to);
-    }
-    if let Atom::Constant(number) = b {
-        return row_or_number(rows, spares, c, a, number.value(), to);
-    }
     let count = to.len();
-    let own_a = note_atom(rows, &mut spares.first, a, count);
-    let own_b = note_atom(rows, &mut spares.second, b, count);
-    let own_c = note_atom(rows, &mut spares.third, c, count);
-    let left = atom_row(rows, own_a, &spares.first, a, count);
-    let right = atom_row(rows, own_b, &spares.second, b, count);
-    let bit = atom_row(rows, own_c, &spares.third, c, count);
-    choose_row(to, bit, left, right);
+    if let Some(bit) = narrow_row(rows, c, count) {
+        return chosen_by(rows, &mut spares.first, &mut spares.second, bit, a, b, to);
+    }
+    let own = note_atom(rows, &mut spares.third, c, count);
+    let bit = atom_row(rows, own, &spares.third, c, count);
+    chosen_by(rows, &mut spares.first, &mut spares.second, bit, a, b, to);
 }
 
 // This many bits of a slot, from a place on.

@@ -139,28 +139,6 @@ pub(crate) fn repeat_row<L: Lane>(copies: u8, width: u8, to: &mut [L], a: &[L])
     single_row(&Times { factor }, to, a);
 }
 
-// One of two numbers, by a bit. By masks, of which LLVM makes vector code, as it does not of two branches.
-#[tactic(auto, using(crate::proofs::Masks::chosen_is))]
-pub(crate) fn chosen<L: Lane>(bit: L, on: L, off: L) -> L
-    ensures { L.value result ≡ (if L.value bit == 1 then L.value on else L.value off) }
-{
-    let is = bit.is_same(L::bit(true));
-    on.both(L::mask(is)).either(off.both(L::mask(!is)))
-}
-
-// At each clock one of two rows, by a bit.
-pub(crate) fn choose_row<L: Lane>(to: &mut [L], bit: &[L], a: &[L], b: &[L])
-    requires bit { length bit.now ≡ length to.old }
-    requires a { length a.now ≡ length to.old }
-    requires b { length b.now ≡ length to.old }
-    ensures count { length to.new ≡ length to.old }
-    ensures each { IsChosenRow (map L.value to.new) (map L.value bit.now) (map L.value a.now) (map L.value b.now) }
-{
-    for t in 0..to.len() {
-        to[t] = chosen(bit[t], a[t], b[t]);
-    }
-}
-
 // At each clock the same number.
 pub(crate) fn constant_row<L: Lane>(to: &mut [L], number: L)
     ensures count { length to.new ≡ length to.old }

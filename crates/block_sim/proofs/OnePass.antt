@@ -1,17 +1,17 @@
 -- Passes over the rows of an array.
 use Rattle.std.proofs.Common.{◌≡◌, ℕ, zero, suc, ◌<◌, List, [], ◌∷◌, length, take, refl, ap, sym, subst, ◌∙◌, arith}
-use Rattle.std.specs.Prelude.{slice_index, slice_index_or, slice_set}
+use Rattle.std.specs.Prelude.{◌≢◌, slice_index, slice_index_or, slice_set}
 use Rattle.std.proofs.lemmas.List.{get_or-take, length-set}
 use Rattle.wiring.specs.declared.right.Atom.{Atom}
 use Rattle.block_rows.specs.Rights.{IsAtomRow}
 use Rattle.block_rows.specs.Rows.{words_after, IsReadUpTo, AreInside}
 use Rattle.block_code.specs.declared.code.WordRead.{WordRead}
 use Rattle.block_code.specs.declared.code.WordPut.{WordPut}
-use Rattle.block_code.specs.Rows.{words_put, KeepsArray}
+use Rattle.block_code.specs.Rows.{atom_at, words_put, KeepsArray}
 use Rattle.block_code.proofs.Arrays.{words_same, array_is_kept}
 use Rattle.block_rows.specs.Values.{numbers_in}
 use Rattle.block_sim.specs.declared.judge.arrays.AccessNumbers.{AccessNumbers}
-use Rattle.block_sim.specs.Arrays.{AreAccessNumbers, IsPassed, WasLost, PutsInside}
+use Rattle.block_sim.specs.Arrays.{AreAccessNumbers, IsPassed, WasLost, TakesBack, PutsInside}
 
 module _ (rows : List (List ℕ)) (r : WordRead) (p : WordPut) (count : ℕ) (old new lost reads indexes values target : List ℕ) (passed : IsPassed old new lost reads indexes values target count)
     (index : IsAtomRow rows p.index count indexes) (value : IsAtomRow rows p.value count values) where
@@ -22,25 +22,25 @@ module _ (rows : List (List ℕ)) (r : WordRead) (p : WordPut) (count : ℕ) (ol
   passed_words = passed.words ∙ words_same rows p count old indexes values index value count (omega arith)
 
   pub passed_lost : WasLost rows p old lost count
-  passed_lost t l = passed.lost_row t l ∙ ap (λ (ws : List ℕ). slice_index ws (slice_index indexes t)) (words_same rows p count old indexes values index value t (omega (arith, l))) ∙ ap (λ i. slice_index (words_put rows p old t) i) (index t l)
+  passed_lost t l first = passed.lost_row t l first ∙ ap (λ (ws : List ℕ). slice_index ws (slice_index indexes t)) (words_same rows p count old indexes values index value t (omega (arith, l))) ∙ ap (λ i. slice_index (words_put rows p old t) i) (index t l)
 
 -- what take_back asks, from the rows
 pub lost_read : (rows : List (List ℕ)) (p : WordPut) (count : ℕ) (before lost front indexes values : List ℕ) → IsAtomRow rows p.index count indexes → IsAtomRow rows p.value count values → ((t : ℕ) → t < count → slice_index front t ≡ slice_index lost t) →
-    WasLost rows p before lost count → IsReadUpTo count before front indexes indexes values
-lost_read rows p count before lost front indexes values index value same was t l =
-    same t l ∙ was t l ∙ sym (ap (λ (ws : List ℕ). slice_index ws (slice_index indexes t)) (words_same rows p count before indexes values index value t (omega (arith, l))) ∙ ap (λ i. slice_index (words_put rows p before t) i) (index t l))
+    length before ≢ 1 → WasLost rows p before lost count → IsReadUpTo count before front indexes indexes values
+lost_read rows p count before lost front indexes values index value same several was t l =
+    same t l ∙ was t l (λ one. absurd (several one)) ∙ sym (ap (λ (ws : List ℕ). slice_index ws (slice_index indexes t)) (words_same rows p count before indexes values index value t (omega (arith, l))) ∙ ap (λ i. slice_index (words_put rows p before t) i) (index t l))
 
 pub puts_inside : (rows : List (List ℕ)) (p : WordPut) (count depth : ℕ) (indexes : List ℕ) → IsAtomRow rows p.index count indexes → PutsInside rows p count depth → AreInside count indexes depth
 puts_inside rows p count depth indexes index inside t l = subst (λ (i : ℕ). i < depth) (sym (index t l)) (inside t l)
 
-pub undone : (rows : List (List ℕ)) (p : WordPut) (count : ℕ) (before words new lost indexes values : List ℕ) → IsAtomRow rows p.index count indexes → IsAtomRow rows p.value count values → length indexes ≡ count →
+pub undone : (rows : List (List ℕ)) (p : WordPut) (count : ℕ) (before words new lost indexes values : List ℕ) → IsAtomRow rows p.index count indexes → IsAtomRow rows p.value count values → length indexes ≡ count → length words ≢ 1 →
     words ≡ words_put rows p before count → length words ≡ length before → WasLost rows p before lost count → PutsInside rows p count (length words) →
     ((b v : List ℕ) → words ≡ words_after b indexes v (length indexes) → AreInside (length indexes) indexes (length b) → IsReadUpTo (length indexes) b (take count lost) indexes indexes v → new ≡ b) → new ≡ before
-undone rows p count before words new lost indexes values index value long put same was inside taken =
+undone rows p count before words new lost indexes values index value long several put same was inside taken =
     taken before values
     (put ∙ sym (words_same rows p count before indexes values index value count (omega arith)) ∙ ap (λ n. words_after before indexes values n) (sym long))
     (λ t l. subst (λ (n : ℕ). slice_index indexes t < n) same (puts_inside rows p count (length words) indexes index inside t (omega (arith, l, long))))
-    (λ t l. lost_read rows p count before lost (take count lost) indexes values index value (λ s m. get_or-take count lost s 0 m) was t (omega (arith, l, long)))
+    (λ t l. lost_read rows p count before lost (take count lost) indexes values index value (λ s m. get_or-take count lost s 0 m) (λ one. several (same ∙ one)) was t (omega (arith, l, long)))
 
 -- what is shown of an array that was passed over its numbers
 module _ (rows : List (List ℕ)) (r : WordRead) (p : WordPut) (count : ℕ) (a : AccessNumbers) (are : AreAccessNumbers rows count r p a) (old new lost : List ℕ) (reads : List ℕ)
@@ -83,16 +83,23 @@ module _ (words value target : List ℕ) (count : ℕ) (one : length words ≡ 1
       let at : slice_index index (suc t) ≡ 0 = (let h = inside (suc t) l in omega (arith, h)) in
       later t l ∙ sym (ap (λ (ws : List ℕ). slice_index ws (slice_index index (suc t))) (single_last words index value t one (λ s m. inside s (omega (arith, l, m)))) ∙ ap (λ i. slice_index (slice_index value t ∷ []) i) at)
 
-  pub single_passed : (new lost : List ℕ) (last : ℕ) → count ≡ suc last → ((t : ℕ) → t < count → slice_index lost t ≡ slice_index target t) → new ≡ slice_set words 0 (slice_index value last) →
+  -- only the first write takes away what was there before all of them
+  single_lost : (lost : List ℕ) → slice_index lost 0 ≡ slice_index words 0 → (index : List ℕ) → AreInside count index 1 → (t : ℕ) → t < count → t ≡ 0 → slice_index lost t ≡ slice_index (words_after words index value t) (slice_index index t)
+  single_lost lost was index inside zero l e =
+      let at : slice_index index 0 ≡ 0 = (let h = inside 0 l in omega (arith, h)) in
+      was ∙ ap (λ i. slice_index words i) (sym at)
+  single_lost lost was index inside (suc t) l e = absurd (omega (arith, e))
+
+  pub single_passed : (new lost : List ℕ) (last : ℕ) → count ≡ suc last → slice_index lost 0 ≡ slice_index words 0 → new ≡ slice_set words 0 (slice_index value last) →
       (index : List ℕ) → AreInside count index 1 → IsPassed words new lost index index value target count
-  single_passed new lost last e same is index inside = record {
+  single_passed new lost last e was is index inside = record {
     reads = λ t l. subst (λ (n : ℕ). slice_index index t < n) (sym one) (inside t l);
     writes = λ t l. subst (λ (n : ℕ). slice_index index t < n) (sym one) (inside t l);
     to = target;
     row = single_read index inside;
     same = λ t l. refl;
     words = is ∙ one_set words 0 (slice_index value last) one (omega arith) ∙ sym (single_last words index value last one (λ t l. inside t (omega (arith, e, l)))) ∙ ap (λ n. words_after words index value n) (sym e);
-    lost_row = λ t l. same t l ∙ single_read index inside t l;
+    lost_row = λ t l only. single_lost lost was index inside t l (only one);
   }
 
 -- no clock leaves what it finds
@@ -104,5 +111,20 @@ none_passed words lost value target count e index inside = record {
   row = λ t l. absurd (omega (arith, e, l));
   same = λ t l. refl;
   words = ap (λ n. words_after words index value n) (sym e);
-  lost_row = λ t l. absurd (omega (arith, e, l));
+  lost_row = λ t l only. absurd (omega (arith, e, l));
 }
+
+-- a single word is taken back by what the first put took away
+one_is : (ws : List ℕ) → length ws ≡ 1 → slice_index ws 0 ∷ [] ≡ ws
+one_is [] one = absurd (omega (arith, one))
+one_is (w ∷ []) one = refl
+one_is (w ∷ (u ∷ ws)) one = absurd (omega (arith, one))
+
+pub single_undone : (rows : List (List ℕ)) (p : WordPut) (count : ℕ) (lost old new : List ℕ) → length old ≡ 1 → PutsInside rows p count (length old) → (count ≡ 0 → new ≡ old) → (0 < count → new ≡ slice_set old 0 (slice_index lost 0)) → TakesBack rows p count lost old new
+single_undone rows p zero lost old new one inside none some before put same was = none refl ∙ put
+single_undone rows p (suc n) lost old new one inside none some before put same was =
+    let first : atom_at rows 0 p.index ≡ 0 = (let h = inside 0 (omega arith) in omega (arith, h, one)) in
+    some (omega arith)
+    ∙ one_set old 0 (slice_index lost 0) one (omega arith)
+    ∙ ap (λ x. x ∷ []) (was 0 (omega arith) (λ _. refl) ∙ ap (λ i. slice_index before i) first)
+    ∙ one_is before (sym same ∙ one)

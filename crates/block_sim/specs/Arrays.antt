@@ -18,6 +18,11 @@ use Rattle.block_code.specs.Rows.{atom_at, words_put, KeepsArray}
 abbrev pub words_at : List (Vec ℕ Global) → ℕ → List ℕ
 words_at arrays x = slice_index_or (words_of arrays) x []
 
+-- what each write of this many clocks took away; of a single word only what the first one did, which is all that it held
+abbrev pub IsLost : ℕ → (old lost index value : List ℕ) → Type 0
+IsLost count old lost index value =
+    (t : ℕ) → t < count → (length old ≡ 1 → t ≡ 0) → slice_index lost t ≡ slice_index (words_after old index value t) (slice_index index t)
+
 -- an array was read and written over this many clocks, and what was read is the target's row
 pub record IsPassed (old new lost read index value target : List ℕ) (count : ℕ) : Type 0 where
   pub reads : AreInside count read (length old)
@@ -26,16 +31,16 @@ pub record IsPassed (old new lost read index value target : List ℕ) (count : �
   pub row : IsReadUpTo count old to read index value
   pub same : (t : ℕ) → t < count → slice_index target t ≡ slice_index to t
   pub words : new ≡ words_after old index value count
-  pub lost_row : IsReadUpTo count old lost index index value
+  pub lost_row : IsLost count old lost index value
 
 -- each put of this many clocks is inside
 abbrev pub PutsInside : List (List ℕ) → WordPut → ℕ → ℕ → Type 0
 PutsInside rows p count depth = (t : ℕ) → t < count → atom_at rows t p.index < depth
 
--- what each put took away
+-- what each put took away; of a single word only what the first one did, which is all that it held
 abbrev pub WasLost : List (List ℕ) → WordPut → List ℕ → List ℕ → ℕ → Type 0
 WasLost rows p words lost count =
-    (t : ℕ) → t < count → slice_index lost t ≡ slice_index (words_put rows p words t) (atom_at rows t p.index)
+    (t : ℕ) → t < count → (length words ≡ 1 → t ≡ 0) → slice_index lost t ≡ slice_index (words_put rows p words t) (atom_at rows t p.index)
 
 -- the rows of an array's indexes, value and target have this many clocks
 pub record HaveAccessRows (rows : List (List ℕ)) (count : ℕ) (r : WordRead) (p : WordPut) : Type 0 where

@@ -4,4 +4,5 @@ pub mod Streams
 pub mod Stimuli
 pub mod Ranges
 pub mod Benches
+pub mod Countdown
 pub mod Takings

@@ -34,6 +34,11 @@ abbrev pub is_held_after : Option ℕ → ℕ → Bool
 is_held_after None k = false
 is_held_after (Some count) k = nat_eq ((k + 1) % count) 0
 
+-- how many clocks, clock k the first, end with the next one that a held clock follows: 0 if there are no held clocks
+abbrev pub clocks_left : Option ℕ → ℕ → ℕ
+clocks_left None k = 0
+clocks_left (Some count) k = count - k % count
+
 -- clock k, and the held one after it
 abbrev pub clocks_at : Option ℕ → List ℕ → Rounds → ℕ → List Clock
 clocks_at hold widths rounds k = pixel_clock (length widths) rounds k ∷ (if is_held_after hold k then held_clock widths ∷ [] else [])

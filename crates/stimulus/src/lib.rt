@@ -7,7 +7,7 @@ mod laws;
 mod pixels;
 mod stop;
 
-pub use drive::{Drive, is_held_after};
+pub use drive::{Drive, clocks_left, is_last, next_left};
 pub use input::{BenchInput, read_input};
 pub use laws::{one_bench_law, one_input_law};
 pub use pixels::{fill_dins, greatest_of, pixel, zeros};

@@ -7,7 +7,7 @@ ghost use Rattle.wiring.specs.Netlist.{Netlist};
 ghost use Rattle.cycle_sim.specs.Ports.{din_widths};
 ghost use Rattle.block_sim.specs.Called.{clocks_with};
 ghost use Rattle.test_bench.specs.declared.block.TheConstants.{BLOCK_PIXELS};
-ghost use Rattle.stimulus.specs.Stimulus.{dins_at, pixel_clock, clocks_at};
+ghost use Rattle.stimulus.specs.Stimulus.{dins_at, pixel_clock, is_held_after, clocks_at};
 ghost use Rattle.stimulus.specs.Given.{rounds_of, AreBenchFrames};
 ghost use Rattle.test_bench.specs.Clocking.{IsFed};
 ghost use Rattle.test_bench.specs.Blocks.{HasBlock};
@@ -17,10 +17,11 @@ use cycle_sim::Out;
 use dk_base::OutOfMemory;
 use pgm_rounds::Round;
 use std::alloc::Global;
-use stimulus::{is_held_after, pixel};
+use stimulus::{clocks_left, is_last, next_left, pixel};
 
-/// How many pixels of an input are clocked in one call at most.
-pub const BLOCK_PIXELS: u64 = 1024;
+/// How many pixels of an input are clocked in one call at most. It is six times the clocks that block_sim makes over whole rows, so
+/// that without held clocks no row is made for a few clocks alone.
+pub const BLOCK_PIXELS: u64 = 2106;
 
 // The clocks of a block: the port `en` and the dins of each, and room for what the outputs show in them.
 #[derive(Drop)]
@@ -117,9 +118,9 @@ fn push_held_clock(block: &mut Block, comes: bool, held: &[u64])
 }
 
 // Adds the clock of this number and the held one after it, if one follows.
-fn push_clocks(block: &mut Block, feed: &Feed, rounds: &[Round], number: u64)
+fn push_clocks(block: &mut Block, feed: &Feed, rounds: &[Round], number: u64, follows: bool)
     requires fed { (m : Netlist) × (size : Size) × IsFed m size feed.now rounds.now }
-    requires number { number + 1 < 2 ^ 64 }
+    requires follows { follows ≡ is_held_after feed.now.hold number }
     requires enables { length block.old.enables.items + 2 ≤ vec_capacity block.old.enables }
     requires dins { length block.old.dins.items + 2 * length feed.now.held.items ≤ vec_capacity block.old.dins }
     requires whole { length block.old.dins.items ≡ length block.old.enables.items * length feed.now.held.items }
@@ -134,8 +135,7 @@ fn push_clocks(block: &mut Block, feed: &Feed, rounds: &[Round], number: u64)
     ensures outs { block.new.outs.items ≡ block.old.outs.items }
 {
     push_pixel_clock(block, feed, rounds, number);
-    let comes = is_held_after(feed.hold, number);
-    push_held_clock(block, comes, &feed.held);
+    push_held_clock(block, follows, &feed.held);
 }
 
 // Leaves no clock.
@@ -167,7 +167,10 @@ pub(crate) fn fill_block(block: &mut Block, feed: &Feed, rounds: &[Round], start
     ensures outs { block.new.outs.items ≡ block.old.outs.items }
 {
     clear(block);
+    let mut left = clocks_left(feed.hold, start);
     for number in 0..count {
-        push_clocks(block, feed, rounds, start + number);
+        let follows = is_last(feed.hold, left);
+        push_clocks(block, feed, rounds, start + number, follows);
+        left = next_left(feed.hold, left);
     }
 }

@@ -1,6 +1,6 @@
 // The arrays over the clocks of a block.
 
-ghost use Rattle.std.specs.Prelude.{◌≡◌, ℕ, ◌<◌, ◌≤◌, List, [], length, map, slice_index, slice_index_or, slice_get, Some, IsTrue, IsFalse};
+ghost use Rattle.std.specs.Prelude.{◌≡◌, ℕ, ◌≢◌, ◌<◌, ◌≤◌, List, [], length, map, slice_index, slice_index_or, slice_get, slice_set, Some, IsTrue, IsFalse};
 ghost use Rattle.cycle_sim.specs.Slots.{words_of};
 ghost use Rattle.block_rows.specs.Values.{numbers_in, row_values, values_of};
 ghost use Rattle.block_rows.specs.Rights.{value_at, HasRow, HaveRoom, IsAtomRow};
@@ -12,7 +12,7 @@ use crate::judge::registers::follows;
 use block_code::{WordPut, WordRead};
 use block_rows::{
     Lane, Numbers, Row, all_inside, atom_numbers, atom_words, change_row, first_of, note_words,
-    number_at, take_back, word_row, words_of_row,
+    number_at, take_back, word_row,
 };
 use wiring::Atom;
 
@@ -90,6 +90,16 @@ fn pass_words<I: Lane, V: Lane>(
     }
 }
 
+// What the first put of a single word takes away.
+fn keep_first(lost: &mut [u64], words: &[u64])
+    requires some { 0 < length lost.old }
+    requires one { 0 < length words.now }
+    ensures count { length lost.new ≡ length lost.old }
+    ensures first { slice_index lost.new 0 ≡ slice_index words.now 0 }
+{
+    lost[0] = words[0];
+}
+
 // An array of one word is a register: what is read is what it holds, and then what it is given, a clock later.
 fn pass_one<V: Lane>(words: &mut [u64], lost: &mut [u64], value: &[V], target: &[V]) -> bool
     requires one { length words.old ≡ 1 }
@@ -106,7 +116,7 @@ fn pass_one<V: Lane>(words: &mut [u64], lost: &mut [u64], value: &[V], target: &
     if !follows(target, first_of(value, count - 1), words[0]) {
         return false;
     }
-    words_of_row(lost, target);
+    keep_first(lost, words);
     words[0] = number_at(value, count - 1);
     true
 }
@@ -387,8 +397,45 @@ pub fn pass_first(
     pass_rows(rows, room, access.read, access.put, words, to, lost)
 }
 
-// Takes back what an array was given in this many clocks.
+// A single word holds again what the first put took away.
+fn undo_one(words: &mut [u64], lost: &[u64], count: usize)
+    requires one { length words.old ≡ 1 }
+    requires lost { count ≤ length lost.now }
+    ensures none { count ≡ 0 → words.new ≡ words.old }
+    ensures some { 0 < count → words.new ≡ slice_set words.old 0 (slice_index lost.now 0) }
+{
+    if count > 0 {
+        words[0] = lost[0];
+    }
+}
+
+// Several words hold again what they held before this many clocks.
 #[tactic(auto, using(crate::proofs::OnePass::puts_inside))]
+fn undo_words(
+    rows: &[Row],
+    room: &mut ArrayRoom,
+    put: &WordPut,
+    words: &mut [u64],
+    lost: &[u64],
+    count: usize,
+)
+    requires several { length words.old ≢ 1 }
+    requires index { HasRow (values_of rows.now) count put.now.index }
+    requires value { HasRow (values_of rows.now) count put.now.value }
+    requires room { IsArrayRoom room.old count }
+    requires lost { count ≤ length lost.now }
+    requires inside { PutsInside (values_of rows.now) put.now count (length words.old) }
+    ensures room { IsArrayRoom room.new count }
+    ensures back { TakesBack (values_of rows.now) put.now count lost.now words.old words.new }
+{
+    atom_words(rows, &mut room.index, &put.index, count);
+    atom_words(rows, &mut room.value, &put.value, count);
+    let indexes = &room.index[..count];
+    take_back(words, &lost[..count], indexes);
+}
+
+// Takes back what an array was given in this many clocks.
+#[tactic(auto, using(crate::proofs::OnePass::single_undone))]
 pub fn undo_array(
     rows: &[Row],
     room: &mut ArrayRoom,
@@ -405,8 +452,9 @@ pub fn undo_array(
     ensures room { IsArrayRoom room.new count }
     ensures back { TakesBack (values_of rows.now) put.now count lost.now words.old words.new }
 {
-    atom_words(rows, &mut room.index, &put.index, count);
-    atom_words(rows, &mut room.value, &put.value, count);
-    let indexes = &room.index[..count];
-    take_back(words, &lost[..count], indexes);
+    if words.len() == 1 {
+        undo_one(words, lost, count);
+    } else {
+        undo_words(rows, room, put, words, lost, count);
+    }
 }

@@ -235,14 +235,21 @@ pub fn fill_copied<L: Lane>(to: &mut [L], copied: Copied<'_>, words: &mut [u64])
     }
 }
 
-fn load_in<L: Lane>(to: &mut [L], bit: &[u16], value: &[L], held: u64) {
-    let mut holds = L::cut(held);
-    for t in 0..to.len().min(bit.len()).min(value.len()) {
-        to[t] = holds;
-        if bit[t] == 1 {
-            holds = value[t];
+// After each clock in which a bit is not 1, the number before again.
+fn keep_where<L: Lane>(to: &mut [L], bit: &[u16]) {
+    for t in 0..to.len().saturating_sub(1).min(bit.len()) {
+        if bit[t] != 1 {
+            to[t + 1] = to[t];
         }
     }
+}
+
+// All numbers are copied first, as vectors: most bits are 1.
+fn load_in<L: Lane>(to: &mut [L], bit: &[u16], value: &[L], held: u64) {
+    let (first, later) = to.split_at_mut(to.len().min(1));
+    fill_same(first, held);
+    fill_numbers(later, value);
+    keep_where(to, bit);
 }
 
 fn load_of<L: Lane>(to: &mut [L], bit: Worth<'_>, value: Worth<'_>, held: u64) {
@@ -273,29 +280,47 @@ fn line_on<L: Lane>(to: &mut [L], line: Line) {
     }
 }
 
-// A line that takes a step where a bit is 1. A product has no branch.
-fn line_where<L: Lane>(to: &mut [L], line: Line, bits: &[u16]) {
+// A line that has taken as many steps before each clock as a row counts. No number depends on the one before, so that LLVM makes
+// vector code of it.
+fn line_where<L: Lane>(to: &mut [L], line: Line, steps: &[u16]) {
     let step = L::cut(line.step);
-    let mut next = L::cut(line.value);
-    for t in 0..to.len().min(bits.len()) {
-        to[t] = next;
-        next = next.sum(step.product(L::cut(bits[t].word())));
+    let before = L::cut(number_or_zero(steps));
+    let value = L::cut(line.value).difference(step.product(before));
+    for t in 0..to.len().min(steps.len()) {
+        to[t] = value.sum(step.product(L::cut(steps[t].word())));
     }
 }
 
-// The first this many places of a row, and then a line, which takes its steps where a bit is 1, if there is one.
+fn number_or_zero(numbers: &[u16]) -> u64 {
+    if numbers.is_empty() {
+        0
+    } else {
+        numbers[0].word()
+    }
+}
+
+// How often a bit was 1 before each clock.
+pub fn count_steps(to: &mut [u16], bits: &[u16]) {
+    let mut steps = u16::cut(0);
+    for t in 0..to.len().min(bits.len()) {
+        to[t] = steps;
+        steps = steps.sum(bits[t]);
+    }
+}
+
+// The first this many places of a row, and then a line, of which a row counts the steps, if it does not take one in each clock.
 pub fn fill_line<L: Lane>(
     to: &mut [L],
     row: Worth<'_>,
     first: usize,
     line: Line,
-    bits: Option<&[u16]>,
+    steps: Option<&[u16]>,
 ) {
     let first = first.min(to.len());
     let (front, rest) = to.split_at_mut(first);
     fill_worth(front, row);
-    match bits {
-        Some(bits) => line_where(rest, line, bits.split_at(first.min(bits.len())).1),
+    match steps {
+        Some(steps) => line_where(rest, line, steps.split_at(first.min(steps.len())).1),
         None => line_on(rest, line),
     }
 }
@@ -336,8 +361,23 @@ fn differ<L: Lane>(a: &[L], b: &[L]) -> bool {
     apart.word() != 0
 }
 
+// How many numbers `alike` compares as vectors at a time.
+const FEW: usize = 32;
+
+// How many of the first numbers of two rows are the same: a multiple of `FEW`.
+fn alike<L: Lane>(a: &[L], b: &[L]) -> usize {
+    let many = a.len().min(b.len()) / FEW;
+    for few in 0..many {
+        let first = few * FEW;
+        if differ(&a[first..first + FEW], &b[first..first + FEW]) {
+            return first;
+        }
+    }
+    many * FEW
+}
+
 fn first_unlike<L: Lane>(a: &[L], b: &[L], count: usize) -> usize {
-    for t in 0..a.len().min(b.len()) {
+    for t in alike(a, b)..a.len().min(b.len()) {
         if !a[t].is_same(b[t]) {
             return t;
         }

@@ -97,14 +97,16 @@ fn copies_of(alloc: Global, wiring: &Netlist) -> Result<Vec<Vec<u64>>, AllocErro
     Ok(copies)
 }
 
-fn hints_of(alloc: Global, wiring: &Netlist) -> Result<Hints, AllocError> {
+fn hints_of(alloc: Global, wiring: &Netlist, long: usize) -> Result<Hints, AllocError> {
     let words = copies_of(alloc, wiring)?;
     let steps = vec![in alloc; 1; wiring.regs.len()]?;
     let stands = vec![in alloc; true; wiring.regs.len()]?;
+    let clocks = vec![in alloc; 0; long]?;
     Ok(Hints {
         words,
         steps,
         stands,
+        clocks,
     })
 }
 
@@ -135,7 +137,7 @@ fn rows_of_engine(
     ensures { IfOk result (AreRowsOf (netlist_of wiring.now)) }
 {
     let table = table_of(alloc, &engine, size + 1)?;
-    let hints = hints_of(alloc, wiring)?;
+    let hints = hints_of(alloc, wiring, size + 1)?;
     let room = room_of(alloc, size)?;
     let to = vec![in alloc; 0; size]?;
     let lost = zero_rows(alloc, wiring.arrays.len(), size)?;

@@ -10,7 +10,7 @@ use crate::rows::fill::{
     fill_same, fill_shift, fill_small,
 };
 use crate::rows::table::{Table, lane_in};
-use crate::rows::worth::{numbers_in, worth_of, worth_of_slot};
+use crate::rows::worth::{worth_of, worth_of_slot};
 use block_code::{WordPut, WordRead};
 use block_rows::{Lane, Row, Size};
 use wiring::{Atom, Right};
@@ -36,12 +36,13 @@ pub enum Proposal<'a> {
         choice: Right<usize, usize>,
         held: u64,
     },
-    // The first places of a slot's row, and then a line.
+    // The first places of a slot's row, and then a line, of which these numbers count the steps, if it does not take one in each
+    // clock.
     Line {
-        has_enable: bool,
         slot: usize,
         first: usize,
         line: Line,
+        steps: Option<&'a [u16]>,
     },
 }
 
@@ -51,29 +52,17 @@ fn fill_choice<L: Lane>(to: &mut [L], rows: &[Row], choice: &Right<usize, usize>
     }
 }
 
-// The bits of the port en, where a line takes its steps by them.
-fn steps_of(rows: &[Row], has_enable: bool, line: Line) -> Option<&[u16]> {
-    if has_enable && line.stands {
-        numbers_in(worth_of_slot(rows, ENABLE))
-    } else {
-        None
-    }
-}
-
 fn fill<L: Lane>(to: &mut [L], rows: &[Row], proposal: &Proposal<'_>) {
     match proposal {
         Proposal::Shift { next, held } => fill_shift(to, worth_of(rows, next), *held),
         Proposal::Read { index, words } => fill_read(to, worth_of(rows, index), words),
         Proposal::Load { choice, held } => fill_choice(to, rows, choice, *held),
         Proposal::Line {
-            has_enable,
             slot,
             first,
             line,
-        } => {
-            let steps = steps_of(rows, *has_enable, *line);
-            fill_line(to, worth_of_slot(rows, *slot), *first, *line, steps)
-        }
+            steps,
+        } => fill_line(to, worth_of_slot(rows, *slot), *first, *line, *steps),
     }
 }
 

@@ -5,10 +5,10 @@ ghost use Rattle.block_sim.specs.Engine.{IsEngine, HasRun};
 
 use crate::held::Held;
 use crate::rows::engine::Engine;
-use crate::rows::fill::{Line, first_apart};
+use crate::rows::fill::{Line, count_steps, first_apart};
 use crate::rows::proposals::{Access, ENABLE, Proposal, propose_read, propose_row};
 use crate::rows::table::{Table, offer, run_upto};
-use crate::rows::worth::{atom_value, slot_value, worth_of};
+use crate::rows::worth::{atom_value, numbers_in, slot_value, worth_of, worth_of_slot};
 use block_plan::Step;
 use block_rows::Instruction;
 use wiring::{Atom, Right};
@@ -16,13 +16,14 @@ use wiring::{Atom, Right};
 // The most rounds in which the rows of a cycle are guessed.
 const ROUNDS: usize = 16;
 
-// What the steps work with: copies of the words of small arrays, and for each register its step and whether it keeps its value
-// in held clocks.
+// What the steps work with: copies of the words of small arrays, for each register its step and whether it keeps its value in held
+// clocks, and how many clocks before each one of a piece were no held ones.
 #[derive(Debug, Drop)]
 pub struct Hints {
     pub words: Vec<Vec<u64>>,
     pub steps: Vec<u64>,
     pub stands: Vec<bool>,
+    pub clocks: Vec<u16>,
 }
 
 // The updates of a cycle of registers, by their first place in the plan's list and that after their last, and the instructions up to
@@ -253,11 +254,30 @@ fn read_written(
     offer_row(engine, table, done, read.target)
 }
 
+// What counts the steps of a line, where it takes none in held clocks.
+fn steps_of<'a>(engine: &Engine, hints: &'a Hints, line: Line) -> Option<&'a [u16]> {
+    if engine.has_enable && line.stands {
+        Some(&hints.clocks)
+    } else {
+        None
+    }
+}
+
+// The clocks of a piece that are no held ones are counted.
+fn count_clocks(engine: &Engine, table: &Table, hints: &mut Hints) {
+    if engine.has_enable {
+        if let Some(enables) = numbers_in(worth_of_slot(&table.rows, ENABLE)) {
+            count_steps(&mut hints.clocks, enables);
+        }
+    }
+}
+
 // A register's row as it is up to a place, and a line from there.
 #[tactic(auto, using(crate::proofs::Tables::table_refilled))]
 fn go_on(
     engine: &Engine,
     table: &mut Table,
+    hints: &Hints,
     done: usize,
     register: usize,
     first: usize,
@@ -269,12 +289,12 @@ fn go_on(
     ensures table { HasRun engine.now (length table.old.room.items) table.new done }
 {
     let slot = engine.code.first_reg.saturating_add(register);
-    let has_enable = engine.has_enable;
+    let steps = steps_of(engine, hints, line);
     let proposal = Proposal::Line {
-        has_enable,
         slot,
         first,
         line,
+        steps,
     };
     propose_row(table, slot, &proposal);
     offer_row(engine, table, done, slot)
@@ -302,7 +322,7 @@ fn guess_one(
         step: number_in(&hints.steps, register),
         stands: flag_in(&hints.stands, register),
     };
-    go_on(engine, table, done, register, 0, line)
+    go_on(engine, table, hints, done, register, 0, line)
 }
 
 // The registers of these updates, each by its first guess.
@@ -404,7 +424,15 @@ fn mend_one(
         return false;
     };
     let line = mended(engine, table, hints, register, next, wrong);
-    go_on(engine, table, done, register, wrong.saturating_add(1), line)
+    go_on(
+        engine,
+        table,
+        hints,
+        done,
+        register,
+        wrong.saturating_add(1),
+        line,
+    )
 }
 
 fn mend_all(
@@ -551,6 +579,7 @@ pub fn take_steps(
     ensures table { IsTrue result → HasRun engine.now (length table.old.room.items) table.new (length engine.now.code.instructions.items) }
     ensures least { HasRun engine.now (length table.old.room.items) table.new 0 }
 {
+    count_clocks(engine, table, hints);
     let mut done = 0;
     for k in 0..engine.plan.steps.len() {
         match take_step(

@@ -1,6 +1,6 @@
-use Rattle.std.proofs.Common.{◌∙◌, ◌+◌, ◌++◌, ap, sym, arith}
+use Rattle.std.proofs.Common.{◌≡◌, ◌∙◌, ◌+◌, ◌++◌, ap, sym, arith}
 use Rattle.cycle_sim.specs.Ports.{din_widths}
-use Rattle.stimulus.specs.Stimulus.{clocks_at}
+use Rattle.stimulus.specs.Stimulus.{clocks_left, clocks_at}
 use Rattle.stimulus.specs.Given.{rounds_of}
 use Rattle.stimulus.proofs.Ranges.{flat_more}
 use Rattle.test_bench.proofs.block.fill_block.Goals as goal
@@ -18,4 +18,7 @@ loop-number-preserved c =
       enables = c.push_clocks.ensures.enables ∙ inv.enables;
       dins = c.push_clocks.ensures.dins ∙ inv.dins;
       outs = c.push_clocks.ensures.outs ∙ inv.outs;
+      left =
+          let on : c.args.start + k + 1 ≡ c.args.start + (k + 1) = omega arith in
+          c.next_left-left.ensures (c.args.start + k) inv.left ∙ ap (clocks_left c.args.feed.now.hold) on;
     }

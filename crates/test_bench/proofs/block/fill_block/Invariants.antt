@@ -1,11 +1,11 @@
-use Rattle.std.proofs.Common.{◌≡◌, ◌*◌, ◌≤◌, length}
+use Rattle.std.proofs.Common.{◌≡◌, ◌+◌, ◌*◌, ◌≤◌, length}
 use Rattle.std.specs.Prelude.{vec_capacity}
 use Rattle.std.specs.List.{flat_map, range_with_len}
 use Rattle.dk_base.specs.Frames.{Size}
 use Rattle.wiring.specs.Netlist.{Netlist}
 use Rattle.cycle_sim.specs.Ports.{din_widths}
 use Rattle.block_sim.specs.Called.{clocks_with}
-use Rattle.stimulus.specs.Stimulus.{clocks_at}
+use Rattle.stimulus.specs.Stimulus.{clocks_left, clocks_at}
 use Rattle.stimulus.specs.Given.{rounds_of}
 use Rattle.test_bench.specs.Clocking.{IsFed}
 use Rattle.test_bench.proofs.block.fill_block.Given as goal
@@ -18,4 +18,5 @@ invariant-loop-number l = record {
   enables : vec_capacity l.block.enables ≡ vec_capacity l.fn.block.enables;
   dins : vec_capacity l.block.dins ≡ vec_capacity l.fn.block.dins;
   outs : l.block.outs.items ≡ l.fn.block.outs.items;
+  left : l.left ≡ clocks_left l.feed.hold (l.start + l.number);
 }

@@ -13,4 +13,4 @@ returns-clause-passed g c = λ _ index inside.
     let first : slice_index target 0 ≡ slice_index words 0 = c.if-not-follows.ensures.first refl in
     let long : length c.first_of.result.now ≡ count - 1 = c.first_of.ensures.count in
     let later : (t : ℕ) → suc t < count → slice_index target (suc t) ≡ slice_index value t = λ t l. c.if-not-follows.ensures.later refl t (omega (arith, l, long)) ∙ c.first_of.ensures.each t (omega (arith, l)) in
-    single_passed words value target count c.requires.one first later (slice_set words 0 c.number_at.result) c.words_of_row.new.to (count - 1) (omega (arith, some)) c.words_of_row.ensures.each (ap (λ v. slice_set words 0 v) c.number_at.ensures) index inside
+    single_passed words value target count c.requires.one first later (slice_set words 0 c.number_at.result) c.keep_first.new.lost (count - 1) (omega (arith, some)) c.keep_first.ensures.first (ap (λ v. slice_set words 0 v) c.number_at.ensures) index inside

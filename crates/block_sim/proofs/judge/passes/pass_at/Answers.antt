@@ -17,10 +17,11 @@ pub returns-clause-words : goal.returns-clause-words
 returns-clause-words c = λ yes. placed (λ (v : Vec ℕ Global). v.items) c.args.arrays.now c.args.array c.pass_vec.new.words c.requires.array ∙ c.pass_vec.ensures.words yes ∙ ap (λ (ws : List ℕ). words_put (values_of c.args.rows.now) c.args.access.now.put.now ws c.args.access.now.count) (vec_at c.args.arrays.now c.args.array c.index-arrays-array.result c.requires.array)
 
 pub returns-clause-lost : goal.returns-clause-lost
-returns-clause-lost c = λ yes t l.
+returns-clause-lost c = λ yes t l only.
+    let at = vec_at c.args.arrays.now c.args.array c.index-arrays-array.result c.requires.array in
     ap (λ (r : List ℕ). slice_index r t) (placed (λ (v : Vec ℕ Global). v.items) c.args.lost.now c.args.array c.pass_vec.new.lost c.requires.place)
-    ∙ c.pass_vec.ensures.lost yes t l
-    ∙ ap (λ (ws : List ℕ). slice_index (words_put (values_of c.args.rows.now) c.args.access.now.put.now ws t) (atom_at (values_of c.args.rows.now) t c.args.access.now.put.now.index)) (vec_at c.args.arrays.now c.args.array c.index-arrays-array.result c.requires.array)
+    ∙ c.pass_vec.ensures.lost yes t l (λ one. only (ap (λ (ws : List ℕ). length ws) (sym at) ∙ one))
+    ∙ ap (λ (ws : List ℕ). slice_index (words_put (values_of c.args.rows.now) c.args.access.now.put.now ws t) (atom_at (values_of c.args.rows.now) t c.args.access.now.put.now.index)) at
 
 pub returns-clause-others : goal.returns-clause-others
 returns-clause-others c = λ x apart. placed_other (λ (v : Vec ℕ Global). v.items) c.args.arrays.now c.args.array x c.pass_vec.new.words apart

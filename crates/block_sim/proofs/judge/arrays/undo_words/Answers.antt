@@ -7,7 +7,7 @@ use Rattle.block_rows.specs.Values.{values_of}
 use Rattle.block_rows.proofs.LaneRows.{map_same}
 use Rattle.block_sim.proofs.OnePass.{undone}
 use Rattle.block_sim.proofs.Tables.{in_place}
-use Rattle.block_sim.proofs.judge.arrays.undo_array.Goals as goal
+use Rattle.block_sim.proofs.judge.arrays.undo_words.Goals as goal
 
 pub returns-clause-back : goal.returns-clause-back
 returns-clause-back c = λ before put same was.
@@ -26,5 +26,5 @@ returns-clause-back c = λ before put same was.
     let index : IsAtomRow rows c.args.put.now.index count cut = λ t l. get_or-take count whole t 0 l ∙ ap (λ (r : List ℕ). slice_index r t) is ∙ c.atom_words.ensures.row t l in
     let inside : count ≤ length whole = omega (arith, ap (λ (l : List ℕ). length l) is, size, c.requires.room.index) in
     let long : length cut ≡ count = length-take-le count whole inside in
-    undone rows c.args.put.now count before words new c.args.lost.now cut c.atom_words-2.new.to index c.atom_words-2.ensures.row long put same was c.requires.inside
+    undone rows c.args.put.now count before words new c.args.lost.now cut c.atom_words-2.new.to index c.atom_words-2.ensures.row long c.requires.several put same was c.requires.inside
     (subst (λ (m : List ℕ). (b v : List ℕ) → words ≡ words_after b m v (length cut) → AreInside (length cut) m (length b) → IsReadUpTo (length cut) b front m m v → new ≡ b) (map_same cut) c.take_back.ensures.words)
