@@ -100,8 +100,8 @@ def verilate(clocks, pixels, hold, enable):
     text = open("g.v", encoding="utf-8").read()
     outputs = [int(bits or 0) + 1 for bits in re.findall(r"output (?:\[(\d+):0\] )?dout\d?", text)]
     lines = "".join(shown(k, bits, pixels) for k, bits in enumerate(outputs))
-    told = {"pixels": pixels, "clocks": clocks, "outputs": len(outputs), "shown": lines, "hold": hold}
-    open("m.cpp", "w", encoding="utf-8").write(HARNESS % {**told, "enable": "m.en = en" if enable else "(void)en"})
+    parts = {"pixels": pixels, "clocks": clocks, "outputs": len(outputs), "shown": lines, "hold": hold}
+    open("m.cpp", "w", encoding="utf-8").write(HARNESS % {**parts, "enable": "m.en = en" if enable else "(void)en"})
     name = re.search(r"module (\w+)", text)[1]
     words = ["verilator", "-O3", "--x-assign", "0", "--x-initial", "0", "--noassert", "-Wno-fatal", "--cc", "--exe", "--build"]
     words += ["-CFLAGS", "-O3", "--prefix", "Vm", "--top-module", name, "g.v", "m.cpp"]
