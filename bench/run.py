@@ -143,7 +143,7 @@ def main():
     pixels = width * height
     flags = ["--block", given.block] * bool(given.block) + ["--enable"] * given.enable
     held = ["--hold", str(given.hold)] * bool(given.hold)
-    programs = [dk] + [os.path.abspath(given.other)] * bool(given.other)
+    programs = [dk] + ([os.path.abspath(given.other)] if given.other else [])
     with tempfile.TemporaryDirectory() as room:
         os.chdir(room)
         open("g.dk", "w", encoding="utf-8").write(re.sub(r"^size .*", f"size {width} {height}", text, flags=re.M))
