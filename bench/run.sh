@@ -5,9 +5,9 @@
 # The copy has what is committed, and is made anew each time. A crate that was proved on this machine is not proved again.
 # usage: bench/run.sh NAME [COPY]
 name=$1
-here=$(cd "$(dirname "$0")" && pwd)
+here=$(CDPATH='' cd -- "$(dirname -- "$0")" && pwd)
 [ -f "$here/$name/below.txt" ] || {
-    echo "bench: no bench $name; there are: $(cd "$here" && ls -d */ | tr -d / | tr '\n' ' ')" >&2
+    echo "bench: no bench $name; there are: $(CDPATH='' cd -- "$here" && ls -d */ | tr -d / | tr '\n' ' ')" >&2
     exit 2
 }
 copy=${2-$(mktemp -d)}/dk
@@ -15,11 +15,11 @@ crate=${name}_speed
 git clone -q "$here/.." "$copy" || exit 2
 find "$here/$name" -name '*.txt' ! -name below.txt | while read -r file; do
     to=$copy/crates/$crate/${file#"$here/$name/"}
-    mkdir -p "$(dirname "$to")"
+    mkdir -p "$(dirname -- "$to")"
     cp "$file" "${to%.txt}"
 done
 echo "$crate: $(cat "$here/$name/below.txt")" >>"$copy/crates.txt"
-cd "$copy/crates/$crate" || exit 2
+CDPATH='' cd -- "$copy/crates/$crate" || exit 2
 rt run </dev/null >/dev/null || exit 1
 if [ -f "$here/$name/measure.sh" ]; then
     exec sh "$here/$name/measure.sh" "$copy/crates/$crate/out/$crate"

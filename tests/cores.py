@@ -1,9 +1,11 @@
 #!/usr/bin/env python3
 """Runs the target `sim` of a core file that tools/axis wrote, as FuseSoC would: it collects the files of the core and of the cores that
 it depends on, copies them into a new folder, builds the toplevel there and runs it with the defaults of the parameters.
+With `lint` it runs the target `lint` of a core file of a block, which must pass without a warning.
 It reads only the keys that these core files have. It needs PyYAML.
 
 usage: cores.py BENCH.core TOOL    TOOL: icarus or verilator
+       cores.py BLOCK.core lint
 """
 import glob
 import os
@@ -36,17 +38,20 @@ def main(path, tool):
     path = os.path.abspath(path)
     cores = {read(other)["name"]: other for other in glob.glob(os.path.join(os.path.dirname(path), "*.core"))}
     core = read(path)
-    target = core["targets"]["sim"]
-    options = target["tools"][tool]
-    plusargs = [f"+{name}={core['parameters'][name]['default']}" for name in target["parameters"] if core["parameters"][name]["paramtype"] == "plusarg"]
+    lint = tool == "lint"
+    target = core["targets"]["lint" if lint else "sim"]
+    options = target["tools"][target["default_tool"] if lint else tool]
+    plusargs = [f"+{name}={core['parameters'][name]['default']}" for name in target.get("parameters", []) if core["parameters"][name]["paramtype"] == "plusarg"]
     with tempfile.TemporaryDirectory() as work:
         sources = []
-        for source, place, kind in files_of(core, "sim", cores):
+        for source, place, kind in files_of(core, "lint" if lint else "sim", cores):
             os.makedirs(os.path.dirname(os.path.join(work, place)), exist_ok=True)
             shutil.copy(source, os.path.join(work, place))
             sources += [place] if kind == "verilogSource" else []
         top = target["toplevel"]
-        if tool == "icarus":
+        if lint:
+            steps = [["verilator", f"--{options['mode']}", *sources, "--top-module", top]]
+        elif tool == "icarus":
             steps = [["iverilog", f"-s{top}", "-obench", *options["iverilog_options"], *sources], ["vvp", "-n", "bench", *plusargs]]
         else:
             steps = [["verilator", "--Mdir", ".", f"--{options['mode']}", *options["verilator_options"], *sources, "--top-module", top],
@@ -55,7 +60,7 @@ def main(path, tool):
             said = subprocess.run(step, cwd=work, stdout=subprocess.PIPE, stderr=subprocess.STDOUT, text=True)
             if said.returncode:
                 sys.exit(f"cores: {' '.join(step)}: {said.stdout[-1000:]}")
-    if "passed in" not in said.stdout or "FAILED" in said.stdout:
+    if lint and said.stdout or not lint and "passed in" not in said.stdout or "FAILED" in said.stdout:
         sys.exit(f"cores: {os.path.basename(path)} under {tool}: {said.stdout[-1000:]}")
 
 

@@ -2,12 +2,13 @@
 # Compares what tools/explain.sh says of worked faults with texts written by hand. Says nothing where all is right, and else names each case.
 # With PROGRAM it also checks that the program ends with the status and the line of each case.
 # usage: tests/explain.sh [PROGRAM]
-top=$(cd "$(dirname "$0")/.." && pwd) || exit 2
+top=$(CDPATH='' cd -- "$(dirname -- "$0")/.." && pwd) || exit 2
 program=
-[ $# = 0 ] || program=$(cd "$(dirname "$1")" && pwd)/$(basename "$1")
+[ $# = 0 ] || program=$(CDPATH='' cd -- "$(dirname -- "$1")" && pwd)/$(basename "$1")
 work=$(mktemp -d) || exit 2
 trap 'rm -rf "$work"' EXIT
-cd "$work" || exit 2
+trap 'exit 130' INT TERM HUP
+CDPATH='' cd -- "$work" || exit 2
 . "$top/tools/explain.sh"
 failed=0
 usage='usage: run [--age K] PROG IN OUT | compile [--enable] [--age K] [--block N] PROG OUT | plan [--age K] PROG | sim VERILOG CLOCKS IN OUT [--fill FILL] [--hold K] | eval PROG IN OUT | make N | check PROG REPORT | trace VERILOG CLOCKS IN VCD | cut N PROG OUT'
@@ -148,6 +149,21 @@ v.v:1:21
                         ^^^^^^
 A constant is written as `8'd255`: its size is 1 to 64 bits, and its number fits the size.
 end
+# Each character that reorders a line or is not visible is one `?`: C1 controls, U+00AD, U+061C, U+180E, U+200B to U+200F, U+202A to U+202E,
+# U+2060 to U+206F, U+FEFF, U+FFF9 to U+FFFB, U+E0000 to U+E007F. The characters next to these ranges are shown.
+verilog_fault '59-65: BadConstant' '/* \0302\0200\0302\0237\0302\0255\0330\0234\0341\0240\0216\0342\0200\0213\0342\0200\0217\0342\0200\0252\0342\0200\0256\0342\0201\0240\0342\0201\0251\0342\0201\0252\0342\0201\0257\0357\0273\0277\0357\0277\0271\0357\0277\0273\0363\0240\0200\0200\0363\0240\0201\0277 */ 8'"'"'d256\n' <<'end'
+v.v:1:26
+    /* ?????????????????? */ 8'd256
+                             ^^^^^^
+A constant is written as `8'd255`: its size is 1 to 64 bits, and its number fits the size.
+end
+shown=$(printf '\302\240\302\256\330\233\342\200\212\342\200\220\342\201\237\342\201\260\357\277\274\363\241\200\200')
+verilog_fault '32-38: BadConstant' "/* $shown */ 8'd256\n" <<end
+v.v:1:17
+    /* $shown */ 8'd256
+                    ^^^^^^
+A constant is written as \`8'd255\`: its size is 1 to 64 bits, and its number fits the size.
+end
 verilog_fault '0-1: BadByte' '/* open' <<'end'
 v.v:1:1
     /* open
@@ -185,6 +201,10 @@ image_fault 'Size 2 1' 'P5\n2 1\n255\nab' <<'end'
 end
 image_fault 'Magic 14' 'P5\n3 1\n255\nabcd' <<'end'
 `j.pgm`: An image must begin at byte 14 (counted from 0), but there is no `P5`: it is another format, or bytes follow the last image.
+end
+printf 'size 3 1\ninput a : u8\ninput b : u8\noutput a\n' >two.dk
+ends 4 'image: Round 1 2' eval two.dk i.pgm o.pgm <<'end'
+`i.pgm`: The last round has 1 of 2 images; a round has one for each input in turn.
 end
 image_fault 'Maxval 256' 'P5\n3 1\n256\nababab' <<'end'
 `j.pgm`: The maxval of the image is 256, which is above the greatest number of its input's type.
@@ -390,12 +410,97 @@ while read -r fault; do
     [ -n "$(meaning "${fault%.*}" "${fault#*.}" 1 2 3 4 5)" ] || wrong_case "no sentence on $fault"
 done <listed
 
-# Under a terminal the script dk shows both the line and the explanation; without one the line only.
-if [ -n "$program" ] && script -q -e -c true /dev/null </dev/null >/dev/null 2>&1; then
-    printf '%s\n' 'cannot read' 'PROG, `none.dk`, cannot be read: there is no such file.' 7 >wanted
-    script -q -e -c "timeout 20 '$top/dk' plan none.dk" /dev/null </dev/null >shown
+# terminal STATUS COMMAND: runs this command of the shell under a terminal; it ends so, and what is shown is standard input
+terminal() {
+    sed 's/$/\r/' >wanted
+    script -q -e -c "$2" /dev/null </dev/null >shown
+    got=$?
+    [ "$got" = "$1" ] && cmp -s shown wanted || wrong_case "under a terminal, $2: status $got, $(cat shown)"
+}
+
+# ended SIGNAL STATUS COMMAND: this signal ends the script dk and the program, which waits for images in a named pipe
+ended() {
+    rm -f pipe pid
+    mkfifo pipe
+    {
+        exec 4>pipe
+        # (the program is waiting now; the script may still be about to wait for it)
+        sleep 0.3
+        kill -s "$1" "$(cat pid)"
+        sleep 1
+        (trap '' PIPE && echo >&4) 2>/dev/null && echo 'it reads' >left
+        exec 4>&-
+    } &
+    sh -c "$3" </dev/null >shown 2>&1
+    got=$?
+    wait
+    [ "$got" = "$2" ] && [ ! -e left ] || wrong_case "SIG$1 to $3: status $got, $(cat shown left 2>/dev/null)"
+    rm -f left
+}
+
+# The script dk adds nothing, and passes on its status and signals.
+if [ -n "$program" ]; then
+    quiet="echo \$\$ >pid; exec '$top/dk' run copy.dk pipe o.pgm 2>quiet"
+    for signal in 'TERM 143' 'INT 130' 'HUP 129' 'USR1 138'; do
+        ended "${signal% *}" "${signal#* }" "$quiet"
+    done
+    "$top/dk" plan none.dk >shown 2>&1
     echo $? >>shown
-    tr -d '\r' <shown | cmp -s - wanted || wrong_case "under a terminal dk shows: $(cat shown)"
-    timeout 20 "$top/dk" plan none.dk 2>&1 | cmp -s - wanted && wrong_case 'without a terminal dk explains'
+    printf '%s\n' 'cannot read' 7 | cmp -s - shown || wrong_case "without a terminal dk shows: $(cat shown)"
+fi
+
+# Under a terminal it shows the line and the explanation, where the program can be asked again; and nothing else is changed.
+if [ -n "$program" ] && script -q -e -c true /dev/null </dev/null >/dev/null 2>&1; then
+    terminal 7 "'$top/dk' plan none.dk" <<'end'
+cannot read
+PROG, `none.dk`, cannot be read: there is no such file.
+end
+    printf 'size 1 1\ninput a : u8\nlet f = im(x,y) b(x,y) end\noutput f\n' >p.dk
+    cat >place <<'end'
+program 38-39: UnknownImage
+p.dk:3:17
+    let f = im(x,y) b(x,y) end
+                    ^
+No input and no earlier definition has this name; an image cannot read itself or a later one.
+end
+    for words in 'plan p.dk' 'run --age 1 p.dk none.pgm o.pgm' 'eval p.dk - o.pgm' 'compile --enable --block 2 p.dk o.v' 'cut 1 p.dk o.dk' 'check p.dk none.txt'; do
+        terminal 3 "'$top/dk' $words" <place
+    done
+    terminal 3 "cat i.pgm | '$top/dk' run p.dk /dev/stdin o.pgm" <place
+    terminal 3 "cat p.dk | '$top/dk' plan /dev/stdin" <<'end'
+program 38-39: UnknownImage
+docs/COMMANDS.md ("What to do about a fault") has the kinds of faults.
+end
+    printf 'P5\n3 1\n255\nab' >j.pgm
+    for command in run eval; do
+        terminal 4 "'$top/dk' $command copy.dk j.pgm o.pgm" <<'end'
+image: Short 2 3
+`j.pgm`: The file ends inside a raster: it has 2 of the 3 bytes of its last image.
+end
+    done
+    printf 'module m(input clk, input rst, input en, input [1:0] din, output valid, output [1:0] dout);\n  assign valid = ~rst;\n  assign dout = din;\nendmodule\n' >enabled.v
+    terminal 6 "'$top/dk' sim enabled.v 3 four.pgm o.pgm --fill zeros --hold 1" <<'end'
+stopped: count 6 of 4
+`enabled.v`: `valid` was 1 in 6 clocks, but the images have 4 pixels; take CLOCKS from the line `clocks` of the program's plan.
+end
+    terminal 10 "'$top/dk' check copy.dk report.txt" <<'end'
+report: line 1
+report.txt:1
+    plan 4
+`report.txt`: Line 1 is the first wrong line of the report, in its form or in what it states (docs/REPORT.md).
+end
+    # what goes to standard error and to other descriptors
+    "$program" compile copy.dk copy.v
+    terminal 0 "'$top/dk' compile copy.dk /dev/stderr" <copy.v
+    for descriptor in 3 9; do
+        terminal 0 "'$top/dk' compile copy.dk /dev/fd/$descriptor $descriptor>o.v" </dev/null
+        cmp -s o.v copy.v || wrong_case "under a terminal the descriptor $descriptor is lost"
+    done
+    terminal 0 "cat copy.dk | '$top/dk' compile /dev/stdin o.v" </dev/null
+    cmp -s o.v copy.v || wrong_case 'under a terminal standard input is lost'
+    for signal in 'TERM 143' 'INT 130' 'QUIT 131' 'HUP 129' 'USR1 138'; do
+        ended "${signal% *}" "${signal#* }" "script -q -e -c \"sh -c 'echo \\\$\\\$ >pid; exec \\\"$top/dk\\\" run copy.dk pipe o.pgm'\" /dev/null"
+        [ ! -s shown ] || wrong_case "SIG${signal% *} under a terminal shows $(cat shown)"
+    done
 fi
 exit "$failed"

@@ -4,10 +4,11 @@
 # creates something after a refusal, or in which two commands that have to agree do not; and ends with how many calls had which status.
 # Each call has 4 MiB of stack, 4 GB of memory and 20 seconds.
 # usage: tests/hostile.sh PROGRAM [SECONDS] [SEED]      SECONDS of changed bytes, 60 by default
-program=$(cd "$(dirname "$1")" && pwd)/$(basename "$1")
-tests=$(cd "$(dirname "$0")" && pwd)
+program=$(CDPATH='' cd -- "$(dirname -- "$1")" && pwd)/$(basename "$1")
+tests=$(CDPATH='' cd -- "$(dirname -- "$0")" && pwd)
 examples=$tests/../examples
 work=$(mktemp -d) || exit 2
 trap 'rm -rf "$work"' EXIT
+trap 'exit 130' INT TERM HUP
 ulimit -S -s 4096 && ulimit -S -v "${DK_MEMORY-4000000}" || exit 2
-cd "$work" && python3 "$tests/hostile.py" "$program" "${2-60}" "${3-1}"
+CDPATH='' cd -- "$work" && python3 "$tests/hostile.py" "$program" "${2-60}" "${3-1}"

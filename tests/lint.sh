@@ -2,7 +2,7 @@
 # Shows the Verilog texts of this folder to Icarus Verilog and to Verilator, as far as they are installed, and says which it passed over.
 # The texts are those of the law worked_layouts of crates/verilog_layout, which is checked here by their bytes.
 # usage: tests/lint.sh
-tests=$(cd "$(dirname "$0")" && pwd)
+tests=$(CDPATH='' cd -- "$(dirname -- "$0")" && pwd)
 examples=$tests/../examples
 worked=$tests/../crates/verilog_layout/src/worked.rt
 failed=0

@@ -3,12 +3,13 @@
 # and with `eval` and `run --age 1` of the program whose bodies are cut at 1, 2 and 4 levels.
 # It says nothing where the sums and the statuses agree, and else names each number where they do not.
 # usage: tests/made.sh PROGRAM COUNT [SEED]
-program=$(cd "$(dirname "$1")" && pwd)/$(basename "$1")
-tests=$(cd "$(dirname "$0")" && pwd)
+program=$(CDPATH='' cd -- "$(dirname -- "$1")" && pwd)/$(basename "$1")
+tests=$(CDPATH='' cd -- "$(dirname -- "$0")" && pwd)
 examples=$tests/../examples
 work=$(mktemp -d) || exit 2
 trap 'rm -rf "$work"' EXIT
-cd "$work" || exit 2
+trap 'exit 130' INT TERM HUP
+CDPATH='' cd -- "$work" || exit 2
 failed=0
 for number in $(python3 "$tests/made.py" numbers "$2" "${3-1}"); do
     python3 "$tests/made.py" write "$number" || exit 2

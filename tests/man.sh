@@ -3,7 +3,7 @@
 # The completions of bash and zsh must name each command and option too.
 # Says nothing where all is right.
 # usage: tests/man.sh
-cd "$(dirname "$0")/.." || exit 2
+CDPATH='' cd -- "$(dirname -- "$0")/.." || exit 2
 failed=0
 
 wrong() {

@@ -4,8 +4,8 @@
 # without a refusal. The requests are counted and refused by a few lines of C that are loaded before the C library.
 # It says how many requests each call makes, and nothing else where all is as it should be.
 # usage: tests/memory.sh PROGRAM
-program=$(cd "$(dirname "$1")" && pwd)/$(basename "$1")
-tests=$(cd "$(dirname "$0")" && pwd)
+program=$(CDPATH='' cd -- "$(dirname -- "$1")" && pwd)/$(basename "$1")
+tests=$(CDPATH='' cd -- "$(dirname -- "$0")" && pwd)
 examples=$tests/../examples
 command -v gcc >/dev/null || {
     echo "memory: gcc is not installed"
@@ -13,7 +13,8 @@ command -v gcc >/dev/null || {
 }
 work=$(mktemp -d) || exit 2
 trap 'rm -rf "$work"' EXIT
-cd "$work" || exit 2
+trap 'exit 130' INT TERM HUP
+CDPATH='' cd -- "$work" || exit 2
 cat >refuse.c <<'END'
 #define _GNU_SOURCE
 #include <dlfcn.h>

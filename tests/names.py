@@ -5,6 +5,9 @@ usage: tests/names.py
 
 A name is one identifier, or a path of identifiers with `::` or `.`. It is found where the sources declare or import it, where it is the name of a file, a
 folder or a crate, where a rule below takes it for a word of a program or a Verilog text, or where tests/names.txt has it. Blocks of code are passed over.
+
+In the tables of docs/PROMISES.md with the heads `Clause` and `Call, Clauses and laws` each clause must be one of `dk_main`, or of the calls of its row: in
+the crate that the row names, or of a law that it names.
 """
 
 import os
@@ -72,6 +75,52 @@ def named(doc):
                     yield number, text
 
 
+def clauses(crate):
+    """The names of the clauses of each function of a crate, and of its laws."""
+    found = {}
+    for path in (TOP / "crates" / crate / "src").rglob("*.rt"):
+        function = None
+        for line in path.read_text().splitlines():
+            head = re.search(rf"\bfn ({WORD})", line)
+            if head:
+                function = head[1]
+                found.setdefault(function, set())
+            clause = re.match(rf"\s*ensures ({WORD}) \{{", line)
+            if clause and function:
+                found[function].add(clause[1])
+    return found
+
+
+def missing_clauses(crates, calls, named):
+    """Those of the names that are no law and no clause of the calls, or of a law that is named."""
+    functions = {}
+    for crate in crates:
+        for function, own in clauses(crate).items():
+            functions.setdefault(function, set()).update(own)
+    laws = {name for name in named if name in functions}
+    there = set().union(*(functions.get(call.split("::")[-1], set()) for call in calls), *(functions[law] for law in laws))
+    if not calls:
+        there = set().union(*functions.values())
+    return [name for name in named if name not in laws and name not in there]
+
+
+def table_faults(doc):
+    """Rows of the tables of clauses with a name that is no clause there: line and name."""
+    head = ""
+    for number, line in enumerate(doc.read_text().splitlines(), 1):
+        cells = [cell.strip() for cell in line.strip("|").split(" | ")] if line.startswith("|") else []
+        if not cells:
+            head = ""
+        elif not head:
+            head = line
+        elif head.startswith("| Clause |") and not line.startswith("|--"):
+            yield from ((number, name) for name in missing_clauses(["dk_top"], ["dk_main"], re.findall(r"`([^`]+)`", cells[0])))
+        elif head.startswith("| Call | Clauses and laws |") and not line.startswith("|--"):
+            crates = [word for word in re.findall(WORD, re.sub(r"`[^`]*`", "", cells[0])) if (TOP / "crates" / word).is_dir()]
+            calls = re.findall(r"`([^`]+)`", cells[0])
+            yield from ((number, name) for name in missing_clauses(crates, calls, re.findall(r"`([^`]+)`", cells[1])))
+
+
 def main():
     files, names = sources()
     every = set().union(*files)
@@ -85,6 +134,9 @@ def main():
             if not is_found(name, files, names, every):
                 print(f"{doc.relative_to(TOP)}:{number}: {name} is not in the sources")
                 status = 1
+    for number, name in table_faults(TOP / "docs/PROMISES.md"):
+        print(f"docs/PROMISES.md:{number}: {name} is no clause of its call")
+        status = 1
     return status
 
 

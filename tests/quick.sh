@@ -2,12 +2,13 @@
 # The quick tests: runs a built program on the examples, from a folder of its own, and compares pictures, lines and statuses.
 # It names each case that is not as it should be. The last line is `N passed, M failed`.
 # usage: tests/quick.sh PROGRAM
-program=$(cd "$(dirname "$1")" && pwd)/$(basename "$1")
-tests=$(cd "$(dirname "$0")" && pwd)
+program=$(CDPATH='' cd -- "$(dirname -- "$1")" && pwd)/$(basename "$1")
+tests=$(CDPATH='' cd -- "$(dirname -- "$0")" && pwd)
 examples=$tests/../examples
 work=$(mktemp -d) || exit 2
 trap 'rm -rf "$work"' EXIT
-cd "$work" || exit 2
+trap 'exit 130' INT TERM HUP
+CDPATH='' cd -- "$work" || exit 2
 cp "$examples"/programs/*.dk "$examples"/programs/*.pgm "$tests"/reports/*.dk "$tests"/reports/*.txt . || exit 2
 cp "$examples"/sim/*.v . || exit 2
 # Every call here has 4 MiB of stack: the deepest accepted programs need between 1 and 2.
@@ -174,9 +175,13 @@ shares() {
         is "$name $*: an array of one word has a counter" grep -q "^  assign $net = 1'd0;$" text.v
     done
 }
+# With `--block 32` an array of at least 32 words is followed by one of one word, and none has 2 to 8 words.
 while read -r name input <&3; do
     shares "$name"
     shares "$name" --enable --block 32
+    sed -n 's/^  reg .*m[0-9]* \[0:\([0-9]*\)\];$/\1/p' text.v >depths
+    is "$name --block 32: a block memory without a register after it" awk '$1 > 0 && long { bad = 1 } { long = $1 > 30 } END { exit bad || long }' depths
+    is "$name --block 32: an array of 2 to 8 words" awk '$1 > 0 && $1 < 8 { bad = 1 } END { exit bad }' depths
 done 3<"$examples/programs/pictures.txt"
 
 # 255 definitions of one level and one of three: there is room for one piece more, so the deepest body stays whole where it needs two.

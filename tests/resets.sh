@@ -4,8 +4,8 @@
 # and each of these with `--block 2`.
 # The next 12 valid pixels must be the picture's, which was worked out by hand. It says nothing where they are.
 # usage: tests/resets.sh PROGRAM
-program=$(cd "$(dirname "$1")" && pwd)/$(basename "$1")
-tests=$(cd "$(dirname "$0")" && pwd)
+program=$(CDPATH='' cd -- "$(dirname -- "$1")" && pwd)/$(basename "$1")
+tests=$(CDPATH='' cd -- "$(dirname -- "$0")" && pwd)
 examples=$tests/../examples
 command -v iverilog >/dev/null || {
     echo "resets: iverilog is not installed"
@@ -13,7 +13,8 @@ command -v iverilog >/dev/null || {
 }
 work=$(mktemp -d) || exit 2
 trap 'rm -rf "$work"' EXIT
-cd "$work" || exit 2
+trap 'exit 130' INT TERM HUP
+CDPATH='' cd -- "$work" || exit 2
 failed=0
 printf 'P5\n4 3\n255\n\001\002\003\004\005\006\007\010\011\012\013\014' >in.pgm
 printf 'P5\n4 3\n65535\n\0\012\0\016\0\024\0\034\0\031\0\044\0\061\0\100\0\121\0\144\0\171\0\220' >wanted.pgm

@@ -9,13 +9,14 @@
 # - The design of examples/design must show the pictures of `eval`.
 # It says nothing else where all is as it should be. COUNT 0 takes about ten minutes, without COUNT it takes about 30.
 # usage: tests/tools.sh PROGRAM [COUNT]
-program=$(cd "$(dirname "$1")" && pwd)/$(basename "$1")
-tests=$(cd "$(dirname "$0")" && pwd)
+program=$(CDPATH='' cd -- "$(dirname -- "$1")" && pwd)/$(basename "$1")
+tests=$(CDPATH='' cd -- "$(dirname -- "$0")" && pwd)
 examples=$tests/../examples
 count=${2-200}
 work=$(mktemp -d) || exit 2
 trap 'rm -rf "$work"' EXIT
-cd "$work" || exit 2
+trap 'exit 130' INT TERM HUP
+CDPATH='' cd -- "$work" || exit 2
 cp "$examples"/programs/*.dk "$examples"/programs/*.pgm . || exit 2
 failed=0
 

@@ -3,12 +3,13 @@
 # (then with held clocks at random), and with `--block 2` at ages 0 and 1. No dout may be x in a clock in which it is valid, no valid may be x, and the picture must be the one that `run` writes.
 # It says nothing else where all is as it should be. It takes two to four minutes.
 # usage: tests/unknown.sh PROGRAM
-program=$(cd "$(dirname "$1")" && pwd)/$(basename "$1")
-tests=$(cd "$(dirname "$0")" && pwd)
+program=$(CDPATH='' cd -- "$(dirname -- "$1")" && pwd)/$(basename "$1")
+tests=$(CDPATH='' cd -- "$(dirname -- "$0")" && pwd)
 examples=$tests/../examples
 work=$(mktemp -d) || exit 2
 trap 'rm -rf "$work"' EXIT
-cd "$work" || exit 2
+trap 'exit 130' INT TERM HUP
+CDPATH='' cd -- "$work" || exit 2
 cp "$examples"/programs/*.dk "$examples"/programs/*.pgm . || exit 2
 command -v iverilog >/dev/null || { echo 'unknown: iverilog is not installed' >&2; exit 1; }
 failed=0

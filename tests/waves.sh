@@ -3,10 +3,11 @@
 # GTKWave (under xvfb-run, without a screen) and its converters vcd2fst and fst2vcd. The value of each variable at each time must be the one that waves.py reads.
 # It says nothing else where they agree.
 # usage: tests/waves.sh [VCD..]
-tests=$(cd "$(dirname "$0")" && pwd)
+tests=$(CDPATH='' cd -- "$(dirname -- "$0")" && pwd)
 examples=$tests/../examples
 work=$(mktemp -d) || exit 2
 trap 'rm -rf "$work"' EXIT
+trap 'exit 130' INT TERM HUP
 failed=0
 [ $# -gt 0 ] || set -- "$tests"/waves/*.vcd
 

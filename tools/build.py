@@ -29,12 +29,15 @@ def shell(command, folder):
 
 
 def copied(names, work):
-    """Copies what determines the program into the folder."""
-    with open(f"{TOP}/crates.txt") as listed, open(f"{work}/crates.txt", "w") as kept:
-        kept.writelines(line for line in listed if re.match(r"\w*", line)[0] in names)
+    """Copies what determines the program into the folder, with the lines of crates.txt that name these crates; returns the whole text of it."""
+    with open(f"{TOP}/crates.txt") as listed:
+        lines = listed.readlines()
+    with open(f"{work}/crates.txt", "w") as kept:
+        kept.writelines(line for line in lines if re.match(r"\w*", line)[0] in names)
     shutil.copy(f"{TOP}/HANDLES", work)
     for name in names:
         shutil.copytree(f"{TOP}/crates/{name}", f"{work}/crates/{name}", ignore=shutil.ignore_patterns("out", "must-fail"))
+    return "".join(lines)
 
 
 def proved(process, count):
@@ -61,12 +64,14 @@ def main():
     say(f"{len(names)} crates are proved and built; from nothing this takes nearly three hours of processor time")
     work, process = tempfile.mkdtemp(prefix="dk-build-"), None
     try:
-        copied(names, work)
+        crates = copied(names, work)
         process = subprocess.Popen(["rt", "ci"], cwd=work, stdout=subprocess.PIPE, stderr=subprocess.STDOUT, text=True, start_new_session=True)
         if not proved(process, len(names)):
             say("the program was not built")
             return 1
-        # (the sums are those of the copy, should a source change meanwhile)
+        # (the sums are those of the copy and of the whole crates.txt, should a source change meanwhile)
+        with open(f"{work}/crates.txt", "w") as text:
+            text.write(crates)
         with open(f"{work}/dk.txt", "w") as text:
             text.writelines(f"{line}\n" for line in shell("program_lines crates/dk/out/dk", work))
         os.makedirs(f"{TOP}/build", exist_ok=True)

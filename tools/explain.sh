@@ -1,7 +1,8 @@
 # Explains the faults of dk to a reader at a terminal. The script dk sources this file after a fault; `top` is its folder.
 # It uses the shell and coreutils only, so that it works wherever the program does. No loop goes over the bytes of a file.
 #
-# explain STATUS LINE WORD..    writes what helps next, to standard error; LINE is the fault line, the words are those of the call
+# explain STATUS LINE WORD..    writes what helps next, to standard error; LINE is the fault line, or empty where it is not known, and the
+#                               words are those of the call
 # help_page                     writes the commands and options to standard output (tools/words.sh)
 
 . "${top:?}/tools/words.sh"
@@ -103,6 +104,10 @@ why_not_written() {
 
 # The line is `TEXT START-STOP: FAULT`, or `TEXT: FAULT` with numbers after the fault's name.
 explain_fault() {
+    [ -n "$line" ] || {
+        put 'docs/COMMANDS.md ("What to do about a fault") has the kinds of faults.'
+        return
+    }
     text=${line%%[ :]*}
     span=${line%%:*}
     span=${span#"$text"}
@@ -190,7 +195,7 @@ is_utf8() {
 }
 
 # Standard input as a terminal can show it: without ends of lines, and with `?` for each other control character but tab,
-# for each byte that is not part of a character of UTF-8, and for characters that reorder a line or have no width.
+# for each byte that is not part of a character of UTF-8, and for characters that reorder a line or are not visible.
 shown() {
     held=
     held_bytes=
@@ -207,7 +212,15 @@ shown() {
 take_byte() {
     case $held$1 in
     012 | 015) ;;
-    3022[0-3]? | 34220021[3-7] | 34220025[0-6] | 3422012[45]? | 357273277) clean="$clean?" held= held_bytes= ;;
+    # These are C1 controls, U+00AD, U+034F, U+061C; fillers of Hangul and vowels of Khmer without a form; selectors of Mongolian; U+200B to
+    # U+200F, U+2028 to U+202E, U+2060 to U+206F; a filler, variation selectors, U+FEFF, a filler, U+FFF0 to U+FFFB; formats of shorthand
+    # and of music; tags and more selectors, U+E0000 to U+E0FFF.
+    3022[0-3]? | 302255 | 315217 | 330234 | 341205237 | 341205240 | 34123626[45] | 34124021[3-7] | \
+        34220021[3-7] | 34220025[0-6] | 3422012[45]? | \
+        343205244 | 3572702[01]? | 357273277 | 357276240 | 35727726? | 35727727[0-3] | \
+        36023326224[0-3] | 36023520526[3-7] | 36023520527[0-2] | 3632402??2??)
+        clean="$clean?" held= held_bytes=
+        ;;
     011 | 0[4-7]? | 1[0-6]? | 17[0-6] | 3022[4-7]? | 30[3-7]2?? | 3[1-3]?2?? | 3[45]?2??2?? | 36?2??2??2??)
         clean="$clean$held_bytes\\0$1" held= held_bytes=
         ;;

@@ -40,7 +40,7 @@ meaning() {
     image.SampleTooGreat) put "Sample $3 (counted from 0 over the whole file) is above the maxval of its image." ;;
     image.Short) put "The file ends inside a raster: it has $3 of the $4 bytes of its last image." ;;
     image.Count) put "The file has more than $3 images; split it." ;;
-    image.Round) put "The last round has $3 images, and a round has $4: one for each input in turn." ;;
+    image.Round) put "The last round has $3 of $4 images; a round has one for each input in turn." ;;
     verilog.TooLong) put "The text has more than $3 bytes." ;;
     verilog.BadByte) put 'No token of the subset begins with this byte, or a comment does not end.' ;;
     verilog.BadConstant) put 'A constant is written as `8'\''d255`: its size is 1 to 64 bits, and its number fits the size.' ;;

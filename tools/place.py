@@ -14,7 +14,8 @@ need more, it is not synthesized either. A synthesis is ended after ten minutes 
 router of nextpnr 0.4 does not end on some texts. The table reports the number of seeds that have a rate if others have none.
 
 `--write` puts the tables in docs/GALLERY.md, with the date and the versions. N texts are tried at a time; without `--jobs` two. The device
-is HX8K without `--device`; ECP5-85 needs nextpnr-ecp5. `--path` reports the slowest seed's critical path of each text on standard error.
+is HX8K without `--device`; ECP5-85 needs nextpnr-ecp5. Its look-up tables are the COMB that nextpnr reports, with those of carries and LUT RAM;
+of a text that is not placed they are Yosys's LUT4. `--path` reports the slowest seed's critical path of each text on standard error.
 With `--keep` results are kept in FILE, and a text that has a result there is not placed again.
 """
 import argparse
@@ -37,7 +38,8 @@ EXAMPLES = os.path.join(TOP, "examples", "programs")
 MINUTES, SEED_MINUTES = 10, 3
 BOTH = ["--age", "1", "--block", "32"]
 
-# each device: its synthesis, its placer, its cells by kind (LUTs, flip-flops, block memories, multipliers), and the bits of a block memory
+# each device: its synthesis, its placer, its cells by kind (LUTs, flip-flops, block memories, multipliers), the bits of a block memory,
+# whether LUTs can be memories, and the kind that nextpnr makes of all LUTs, carries and LUT RAM
 DEVICES = {
     "HX8K": {
         "synth": "synth_ice40 -top top -json top.json",
@@ -45,6 +47,7 @@ DEVICES = {
         "cells": {"SB_LUT4": 7680, "SB_DFF": 7680, "SB_RAM40_4K": 32, "SB_MAC16": 0},
         "bits": 4096,
         "lut_ram": False,
+        "packed": None,
     },
     "ECP5-85": {
         "synth": "synth_ecp5 -top top -json top.json",
@@ -52,6 +55,7 @@ DEVICES = {
         "cells": {"LUT4": 83640, "TRELLIS_FF": 83640, "DP16KD": 208, "MULT18X18D": 156},
         "bits": 18432,
         "lut_ram": True,
+        "packed": "TRELLIS_COMB",
     },
 }
 SHORT = ["LUT", "FF", "BRAM", "MUL"]
@@ -144,7 +148,11 @@ def figures(text, device, what, given, work):
     counts = [cells(kinds, cell) for cell in device["cells"]]
     fits = all(count <= most for count, most in zip(counts, device["cells"].values()))
     rate = placed(device, given.seeds, given.path, what, work) if fits else "does not fit"
-    return ", ".join(f"{count:,} {short}" for count, short, most in zip(counts, SHORT, device["cells"].values()) if most or count) + f": {rate}"
+    shorts = list(SHORT)
+    if device["packed"] and os.path.exists(f"{work}/report.json"):
+        with open(f"{work}/report.json") as file:
+            counts[0], shorts[0] = json.load(file)["utilization"][device["packed"]]["used"], "COMB"
+    return ", ".join(f"{count:,} {short}" for count, short, most in zip(counts, shorts, device["cells"].values()) if most or count) + f": {rate}"
 
 
 def tried(program, device, name, size, column, given, kept):
@@ -224,4 +232,5 @@ def main():
     ])
 
 
-main()
+if __name__ == "__main__":
+    main()

@@ -6,22 +6,30 @@ greatest one that the header allows is white.
 
 usage: tools/png.py PGM PNG [COLUMNS]      COLUMNS is 1 by default
 """
+import re
 import struct
 import sys
 import zlib
 
 GAP = 2
 BETWEEN = 255
+# a header, by the rules of docs/PGM.md: a gap begins with white space, and one white space byte ends the header
+SPACE = rb"[ \t\r\n](?:[ \t\r\n]|#[^\r\n]*[\r\n])*"
+HEADER = re.compile(rb"P5" + SPACE + rb"([0-9]+)" + SPACE + rb"([0-9]+)" + SPACE + rb"([0-9]+)[ \t\r\n]")
 
 
 def images(content):
-    """The images of a PGM file whose headers are three lines: lines of samples of 8 bits."""
+    """The images of a PGM file: lines of samples of 8 bits."""
     while content:
-        _, size, greatest, rest = content.split(b"\n", 3)
-        width, height = map(int, size.split())
-        greatest = int(greatest)
+        header = HEADER.match(content)
+        if not header:
+            sys.exit("png: not a PGM file of docs/PGM.md")
+        width, height, greatest = map(int, header.groups())
         bytes_each = 1 if greatest < 256 else 2
         length = width * height * bytes_each
+        rest = content[header.end():]
+        if len(rest) < length or greatest == 0:
+            sys.exit("png: not a PGM file of docs/PGM.md")
         samples = [int.from_bytes(rest[k:k + bytes_each], "big") * 255 // greatest
                    for k in range(0, length, bytes_each)]
         content = rest[length:]

@@ -24,23 +24,39 @@ crates_of_dk() {
     done <crates.txt
 }
 
-# The SHA-256 of each file of these crates, a line each as sha256sum prints it, in the order of the C locale.
+# unsummed CRATE..: what sums_of would pass over: what is not a regular file, and what is deeper than its patterns reach. Names that begin
+# with a dot are not part of a crate.
+unsummed() {
+    for crate; do
+        shift
+        set -- "$@" "crates/$crate/src" "crates/$crate/specs" "crates/$crate/proofs"
+    done
+    find -L "$@" -name '.*' -prune -o ! -type f ! -type d -print -o -path '*/*/*/*/*/*/*/*/*/*' -print 2>/dev/null
+}
+
+# The SHA-256 of each file of these crates, a line each as sha256sum prints it, in the order of the C locale. It fails where a file would be
+# passed over.
 sums_of() (
     export LC_ALL=C
+    [ $# -gt 0 ] && [ -z "$(unsummed "$@")" ] || exit 1
     for crate; do
         at=crates/$crate
         shift
-        set -- "$@" $at/src/* $at/src/*/* $at/specs/* $at/specs/*/* $at/proofs/* $at/proofs/*/* $at/proofs/*/*/* $at/proofs/*/*/*/* $at/proofs/*/*/*/*/*
+        set -- "$@" "$at"/src/* "$at"/src/*/* "$at"/src/*/*/* "$at"/src/*/*/*/* "$at"/src/*/*/*/*/* "$at"/src/*/*/*/*/*/* \
+            "$at"/specs/* "$at"/specs/*/* "$at"/specs/*/*/* "$at"/specs/*/*/*/* "$at"/specs/*/*/*/*/* "$at"/specs/*/*/*/*/*/* \
+            "$at"/proofs/* "$at"/proofs/*/* "$at"/proofs/*/*/* "$at"/proofs/*/*/*/* "$at"/proofs/*/*/*/*/* "$at"/proofs/*/*/*/*/*/*
     done
     # Folders, and patterns that no file matches, have no sum.
-    sha256sum "$@" 2>/dev/null
+    sha256sum "$@" 2>/dev/null || :
 )
 
+# The sum of all sources; it fails where a file would be passed over.
 sum_of_all() {
     # shellcheck disable=SC2046
+    sums=$(sums_of $(crates_of_dk)) || return
     {
         sha256sum crates.txt
-        sums_of $(crates_of_dk)
+        printf '%s\n' "$sums"
     } | sha256sum | cut -d ' ' -f 1
 }
 
@@ -71,8 +87,8 @@ compiler_of_kit() {
 
 # is_of_sources FILE: the program that the text FILE.txt describes is FILE, and was built from exactly these sources
 is_of_sources() {
-    [ -x "$1" ] && [ -f "$1.txt" ] &&
-        [ "$(value_of sources "$1.txt")" = "$(sum_of_all)" ] &&
+    sources=$(sum_of_all) && [ -x "$1" ] && [ -f "$1.txt" ] &&
+        [ "$(value_of sources "$1.txt")" = "$sources" ] &&
         [ "$(value_of program "$1.txt")" = "$(sha256sum "$1" | cut -d ' ' -f 1)" ]
 }
 

@@ -3,9 +3,9 @@
 commands='run compile plan sim eval make check trace cut'
 see_help='`./dk --help` shows the commands and options.'
 
-# read_words COMMAND WORD..: sets a variable for each word that is not an option; `wrong` is a sentence on the first wrong word.
+# read_words COMMAND WORD..: sets a variable for each word but --enable and --block; `wrong` is a sentence on the first wrong word.
 read_words() {
-    unset program verilog images report out
+    unset program verilog images report out clocks count age hold fill
     wrong=
     given=
     command=${1-}
@@ -81,6 +81,11 @@ take_option() {
     esac
     given="$given $1"
     case $1 in
+    --age) age=$2 ;;
+    --hold) hold=$2 ;;
+    --fill) fill=$2 ;;
+    esac
+    case $1 in
     --age) is_within "$2" 0 64 || note_wrong "The value of --age is a number from 0 to 64, but is $(quoted "$2")." ;;
     --block) is_within "$2" 2 67108864 || note_wrong "The value of --block is a number from 2 to 67,108,864, but is $(quoted "$2")." ;;
     --hold) is_within "$2" 1 1000000 || note_wrong "The value of --hold is a number from 1 to 1,000,000, but is $(quoted "$2")." ;;
@@ -96,6 +101,10 @@ take_word() {
     IN*) images=$1 ;;
     REPORT) report=$1 ;;
     OUT | VCD) out=$1 ;;
+    CLOCKS*) clocks=$1 ;;
+    N*) count=$1 ;;
+    esac
+    case $names in
     CLOCKS*) is_within "$1" 0 100000000 || note_wrong "CLOCKS is a number from 0 to 100,000,000, but is $(quoted "$1")." ;;
     N) is_within "$1" 0 4194303 || note_wrong "N is a number from 0 to 4,194,303, but is $(quoted "$1")." ;;
     N*) is_within "$1" 1 64 || note_wrong "N is a number from 1 to 64, but is $(quoted "$1")." ;;

@@ -24,20 +24,22 @@ use Rattle.net_build.specs.Draft.{IsDraft, AllUpdated}
 use Rattle.net_build.specs.Runs.{StillBut, NeverStops}
 use Rattle.net_build.specs.Control.{IsControlled}
 use Rattle.net_build.proofs.Parts.{Includes-refl}
-use Rattle.net_build.specs.Counters.{AddsControl}
+use Rattle.edge_select.specs.declared.frame_tests.FrameTests.{FrameTests}
+use Rattle.edge_select.specs.FrameTests.{AddsTests, AreFrameTests, IsApart}
 use Rattle.wiring.specs.Rules.{IsPortWidth}
 use Rattle.pointwise_ir.specs.Programs.{Program, IsProgram, IsOutput, types_of}
 use Rattle.pointwise_ir.specs.Stencils.{AreStencilsOf}
 use Rattle.buffer_plan.specs.Plans.{Plan, IsPlan, place_in, read_age}
 use Rattle.buffer_plan.proofs.Aged.{placed_in}
 use Rattle.circuit.specs.Rounds.{type_at}
-use Rattle.circuit.specs.Taps.{Keeps, IsReading}
+use Rattle.circuit.specs.Taps.{Keeps, IsReading, size_in}
 use Rattle.circuit.specs.Reads.{reads_in}
 use Rattle.circuit.specs.Forms.{Form, IsBuffered, shapes_of, shapes_before}
-use Rattle.circuit.specs.Images.{IsImageNet, IsLine, AreBuilt, ports_of}
+use Rattle.circuit.specs.Images.{IsImageNet, IsLine, AreBuilt, ports_of, AreBuiltWith}
 use Rattle.circuit.proofs.Typing.{entry_or}
 use Rattle.circuit.proofs.BodyNets.{read_of, read_is_between}
-use Rattle.circuit.proofs.Building.{built_more, entry_kept, place_of_entry}
+use Rattle.circuit.proofs.Building.{built_with, entry_kept, place_of_entry}
+use Rattle.circuit.proofs.Keeping.{adds_for, apart_now}
 
 -- The image i, at place k among the kept ones.
 module _ (b0 : Netlist) (p : Program) (plan : Plan) (form : Form) (k : ℕ) (nets : List Net) (taps : List (List Net)) (i : Image)
@@ -89,11 +91,12 @@ module _ (b0 : Netlist) (p : Program) (plan : Plan) (form : Form) (k : ℕ) (net
   next_kept = kept
 
   -- the arrays before its own
-  pub next_arrays : (b1 : Netlist) → AddsControl b1 b0 → b1.arrays ≡ shapes_before form.shapes plan i.number
-  next_arrays b1 adds = adds.arrays ∙ built.arrays ∙ ap (λ (n : ℕ). shapes_of form.shapes plan (take n images)) (sym here)
+  pub next_arrays : (b1 : Netlist) → b1.arrays ≡ b0.arrays → b1.arrays ≡ shapes_before form.shapes plan i.number
+  next_arrays b1 same = same ∙ built.arrays ∙ ap (λ (n : ℕ). shapes_of form.shapes plan (take n images)) (sym here)
 
-  pub next_built : (b2 b1 : Netlist) (net : Net) (own : List Net) → AddsControl b1 b0 → IsImageNet b1 b0 p plan taps i.number net → IsBuffered b2 b1 plan i.number form net own → IsDraft b1 → IsDraft b2 → AreBuilt b2 p plan form (suc k) (nets ++ net ∷ []) (taps ++ own ∷ [])
-  next_built b2 b1 net own adds image buffered drafted draft = built_more b2 b1 b0 p plan form k nets taps i net own is_plan at low reader aged built adds image buffered drafted draft
+  pub next_built : (b2 b1 : Netlist) (net : Net) (own : List Net) (now before : FrameTests) → AddsTests b1 b0 now before → IsApart built.copies before → AreFrameTests b1 (size_in plan) now → IsImageNet b1 b0 p plan taps i.number net → IsBuffered b2 b1 plan i.number form net own → IsDraft b1 → IsDraft b2 → AreBuiltWith b2 p plan form (suc k) (nets ++ net ∷ []) (taps ++ own ∷ []) now
+  next_built b2 b1 net own now before adds apart are image buffered drafted draft =
+      built_with b2 b1 b0 p plan form k nets taps i net own is_plan at low reader aged built (adds_for b1 b0 now before built.copies adds built.control apart) image buffered drafted draft now (apart_now b1 b0 now before built.copies adds built.control apart) are
 
 -- an image by its place
 pub image_at : (images xs : List Image) (k : ℕ) (d : Image) → xs ≡ images → k < length images → slice_get images k ≡ Some (slice_index_or xs k d)

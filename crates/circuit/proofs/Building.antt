@@ -40,11 +40,15 @@ use Rattle.line_buffer.proofs.More.{is_le, buffer_stops, buffer_control}
 use Rattle.line_buffer.proofs.Filling.{fills_wider}
 use Rattle.line_buffer.proofs.Lasting.{buffer_more, buffer_ready}
 use Rattle.line_buffer.proofs.Chaining.{copies_joined}
-use Rattle.circuit.specs.Taps.{Keeps, taps_at, IsTapOf}
+use Rattle.circuit.specs.Taps.{Keeps, taps_at, IsTapOf, size_in}
 use Rattle.circuit.specs.Reads.{reads_in}
 use Rattle.circuit.specs.Forms.{Shapes, Form, IsBuffered, shapes_of, first_array, end_array}
-use Rattle.circuit.specs.Images.{IsBodyNet, IsImageNet, IsLine, AreBuilt, words_in, reads_directly, tap_source_of, source_of, direct_source, ports_of}
+use Rattle.circuit.specs.Images.{IsBodyNet, IsImageNet, IsLine, AreBuilt, words_in, reads_directly, tap_source_of, source_of, direct_source, ports_of, AreBuiltWith}
 use Rattle.circuit.proofs.Lasting.{running_more}
+use Rattle.edge_select.specs.declared.frame_tests.FrameTests.{FrameTests}
+use Rattle.edge_select.specs.FrameTests.{AreFrameTests, IsApart}
+use Rattle.edge_select.proofs.Framed.{tests_more}
+use Rattle.circuit.proofs.Keeping.{AddsFor, apart_more}
 use Rattle.circuit.proofs.Sourced.{words_are, direct_is, short_tap, control_source, tap_in_source, control_direct, tap_in_direct, copies_last}
 
 -- entries of a list with one more
@@ -153,7 +157,7 @@ ends_within shapes plan (x ∷ images) (suc j) (suc k) i at lt =
 module _ (b2 b1 b0 : Netlist) (p : Program) (plan : Plan) (form : Form) (k : ℕ) (nets : List Net) (taps : List (List Net)) (i : Image) (net : Net) (own : List Net)
     (is_plan : IsPlan plan) (at : slice_get plan.system.stencils.images k ≡ Some i) (low : (h : ℕ) → h < i.number → Keeps plan h → place_in plan h < k) (reader : (r : LiveRead) → Contains (reads_in plan i.number) r → Keeps plan r.g × (r.g < i.number))
     (aged : (r : LiveRead) → Contains (reads_in plan i.number) r → pos plan.system.age ≤ℤ read_age plan r)
-    (built : AreBuilt b0 p plan form k nets taps) (adds : AddsControl b1 b0) (image : IsImageNet b1 b0 p plan taps i.number net) (buffered : IsBuffered b2 b1 plan i.number form net own) (drafted : IsDraft b1) (draft : IsDraft b2) where
+    (built : AreBuilt b0 p plan form k nets taps) (adds : AddsFor b1 b0 built.copies) (image : IsImageNet b1 b0 p plan taps i.number net) (buffered : IsBuffered b2 b1 plan i.number form net own) (drafted : IsDraft b1) (draft : IsDraft b2) where
   abbrev g : ℕ
   g = i.number
 
@@ -306,7 +310,7 @@ module _ (b2 b1 b0 : Netlist) (p : Program) (plan : Plan) (form : Form) (k : ℕ
     updated = buffered.adds.updated [] (adds.updated [] built.updated);
     still = buffered.adds.still built.copies [] (adds.still built.copies [] built.still);
     stops = buffer_stops b2 b1 (form.shapes plan g) buffered.copies buffered.adds (adds.stops built.stops);
-    control = buffer_control b2 b1 (form.shapes plan g) buffered.copies built.copies drafted buffered.adds (adds.control built.copies built.control);
+    control = buffer_control b2 b1 (form.shapes plan g) buffered.copies built.copies drafted buffered.adds adds.control;
     line = λ j o lt on. elim (cases_lt j k) [
       | inl less ↦ old_line j o less on
       | inr most ↦
@@ -321,6 +325,15 @@ module _ (b2 b1 b0 : Netlist) (p : Program) (plan : Plan) (form : Form) (k : ℕ
           let same : i ≡ o = same_Some i o (sym at ∙ there) in
           subst (λ (x : Image). IsLine b2 p plan form copies' taps' x.number (slice_index_or (nets ++ net ∷ []) j (Input 0))) same
           (subst (IsLine b2 p plan form copies' taps' g) (sym (at_last nets net (Input 0) j (built.net_count ∙ sym e))) line_new)
+
+  -- and the frame tests
+  pub built_with : (tests : FrameTests) → IsApart built.copies tests → AreFrameTests b1 (size_in plan) tests → AreBuiltWith b2 p plan form (suc k) (nets ++ net ∷ []) taps' tests
+  unfolding built_more
+  built_with tests apart are = record {
+    built = built_more;
+    apart = apart_more b2 b1 (size_in plan) built.copies buffered.copies buffered.adds.added tests are apart;
+    tests_are = tests_more b2 b1 (size_in plan) tests buffered.adds.includes are;
+  }
 
 -- all that is built lasts where what controls it is added
 pub built_lasts : (new old : Netlist) (p : Program) (plan : Plan) (form : Form) (k : ℕ) (nets : List Net) (taps : List (List Net)) → IsPlan plan → k ≤ length plan.system.stencils.images → AddsControl new old → IsDraft new →

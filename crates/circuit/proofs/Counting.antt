@@ -18,7 +18,9 @@ use Rattle.line_buffer.specs.Places.{Ascend, later, segment_shapes}
 use Rattle.line_buffer.proofs.Rotations.{yes_eq, no_eq}
 use Rattle.line_buffer.proofs.Ages.{later_ascends, later_depth}
 use Rattle.circuit.specs.Taps.{Keeps}
-use Rattle.circuit.specs.Forms.{Shapes, shapes_of, chain_shapes_of, ring_shapes_of}
+use Rattle.circuit.specs.Splits.{split_ages}
+use Rattle.circuit.specs.Forms.{Shapes, shapes_of, chain_shapes_of, block_shapes_of, ring_shapes_of}
+use Rattle.circuit.proofs.Splitting.{split_finer}
 use Rattle.circuit.proofs.Building.{place_of_entry, entry_kept, shapes_push}
 use Rattle.circuit.proofs.Forming.{plan_depth, plan_wide}
 use Rattle.circuit.proofs.Typing.{entry_or}
@@ -69,6 +71,17 @@ chain_few plan g =
     let long = segments_long (width_of plan g) 0 (later (ages_of plan g)) in
     let least = ascend_long 0 (later (ages_of plan g)) (later_ascends (ages_of plan g) (are_ages plan g).ascending) in
     omega (arith, long, least, later_depth (ages_of plan g), plan_depth plan g)
+
+pub block_count : (proposed : List (List ℕ)) (plan : Plan) (g n : ℕ) → n ≡ length (later (split_ages proposed plan g)) → n ≡ length (block_shapes_of proposed plan g)
+block_count proposed plan g n e = e ∙ sym (segments_long (width_of plan g) 0 (later (split_ages proposed plan g)))
+
+pub block_few : (proposed : List (List ℕ)) (plan : Plan) (g : ℕ) → length (block_shapes_of proposed plan g) ≤ depth_of plan g
+block_few proposed plan g =
+    let split : List ℕ = split_ages proposed plan g in
+    let finer = split_finer proposed plan g in
+    let long = segments_long (width_of plan g) 0 (later split) in
+    let least = ascend_long 0 (later split) (later_ascends split finer.ascending) in
+    omega (arith, long, least, later_depth split, finer.last, plan_depth plan g)
 
 pub ring_long : (plan : Plan) (g : ℕ) → length (ring_shapes_of plan g) ≡ (if nat_eq (depth_of plan g) 0 then 0 else 1)
 ring_long plan g = by (nat_eq (L.depth_of (ages_of plan g)) 0) ∙ ap (λ (d : ℕ). if nat_eq d 0 then 0 else 1) (plan_depth plan g)

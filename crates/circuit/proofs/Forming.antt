@@ -13,6 +13,7 @@ use Rattle.wiring.specs.declared.netlist.Holder.TheVariants.{OfNet, OfArray}
 use Rattle.wiring.specs.Netlist.{Netlist, depth}
 use Rattle.wiring.specs.Sizes.{IsWidth}
 use Rattle.wiring.specs.BufferBits.{array_bits}
+use Rattle.net_build.specs.Draft.{IsNet}
 use Rattle.net_build.specs.Indices.{read_indices, put_indices}
 use Rattle.net_build.proofs.Control.{made_wider}
 use Rattle.buffer_plan.specs.Plans.{Plan, IsPlan, ages_of, width_of, depth_of, last_of}
@@ -26,7 +27,9 @@ use Rattle.line_buffer.proofs.Building.{ages_deep}
 use Rattle.line_buffer.proofs.Bits.{chain_bits}
 use Rattle.line_buffer.proofs.More.{and_both}
 use Rattle.circuit.specs.Taps.{Keeps}
+use Rattle.circuit.specs.Splits.{split_ages, IsFiner, AreTapsAmong}
 use Rattle.circuit.specs.Forms.{Shapes, Places, Property, Form, IsBuffered, shapes_before, first_array, block_form}
+use Rattle.circuit.proofs.Splitting.{split_finer, finer_of, finer_buffer, finer_made}
 
 -- the greatest age of an image is its depth
 last_same : (low : ℕ) (xs : List ℕ) → L.last_of low xs ≡ last_of low xs
@@ -99,25 +102,40 @@ module _ (shapes_by : (width : ℕ) → List ℕ → List Shape) (place_by : (fi
       each = each;
     }
 
--- a chain of which the long arrays have at least this number of words
-module _ (least : ℕ) (b old : Netlist) (plan : Plan) (g : ℕ) (value : Net) where
+-- a chain over the ages of a split, of which the long arrays have at least this number of words
+module _ (least : ℕ) (proposed : List (List ℕ)) (b old : Netlist) (plan : Plan) (g : ℕ) (value : Net) where
+  abbrev split : List ℕ
+  split = split_ages proposed plan g
+
   abbrev Chained : (width : ℕ) → List ℕ → List Net → Type 0
-  Chained width ages taps = IsChain b old width (block_form least).long value ages taps
+  Chained width ages nets = IsChain b old width (block_form least proposed).long value ages nets
 
-  chain_buffered : (taps : List Net) → old.arrays ≡ shapes_before (block_form least).shapes plan g → Chained (width_of plan g) (ages_of plan g) taps → IsBuffered b old plan g (block_form least) value taps
-  chain_buffered taps arrays is = record {
-    copies = is.copies;
-    buffer = subst (λ (n : ℕ). IsBuffer b is.copies (L.chain_place n (ages_of plan g)) (ages_of plan g) taps value) (ap length arrays) is.buffer;
-    adds = is.adds;
-    copied = is.copied;
-    bits = chain_bits (width_of plan g) (ages_of plan g) (are_ages plan g).ascending ∙ ap (λ (d : ℕ). width_of plan g * d) (plan_depth plan g);
-    made = is.made;
-    fills = is.fills;
-    each = is.once;
-  }
+  chain_buffered : (nets taps : List Net) → IsNet b value → old.arrays ≡ shapes_before (block_form least proposed).shapes plan g → Chained (width_of plan g) split nets → AreTapsAmong (ages_of plan g) split nets value taps → IsBuffered b old plan g (block_form least proposed) value taps
+  chain_buffered nets taps own arrays is among =
+      let finer : IsFiner (ages_of plan g) split = split_finer proposed plan g in
+      record {
+        copies = is.copies;
+        buffer = finer_buffer b is.copies ((block_form least proposed).places plan g) (ages_of plan g) split nets taps value finer among own
+            (subst (λ (n : ℕ). IsBuffer b is.copies (L.chain_place n split) split nets value) (ap length arrays) is.buffer);
+        adds = is.adds;
+        copied = is.copied;
+        bits = chain_bits (width_of plan g) split finer.ascending ∙ ap (λ (d : ℕ). width_of plan g * d) (finer.last ∙ plan_depth plan g);
+        made = finer_made b is.copies ((block_form least proposed).places plan g) (ages_of plan g) split nets taps value finer among (block_form least proposed).long (length old.arrays) (length old.arrays + length ((block_form least proposed).shapes plan g)) is.made;
+        fills = is.fills;
+        each = is.once;
+      }
 
-  pub block_buffered : (width : ℕ) (ages : List ℕ) (nets taps : List Net) → ages ≡ ages_of plan g → width ≡ width_of plan g → taps ≡ nets → old.arrays ≡ shapes_before (block_form least).shapes plan g → Chained width ages nets → IsBuffered b old plan g (block_form least) value taps
-  block_buffered width ages nets taps aged wide same arrays is =
-      chain_buffered taps arrays
-      (subst (λ (ns : List Net). Chained (width_of plan g) (ages_of plan g) ns) (sym same)
-      (subst (λ (w : ℕ). Chained w (ages_of plan g) nets) wide (subst (λ (list : List ℕ). Chained width list nets) aged is)))
+  pub block_buffered : (width : ℕ) (ages given : List ℕ) (nets taps : List Net) → IsNet b value → ages ≡ ages_of plan g → given ≡ split → width ≡ width_of plan g → old.arrays ≡ shapes_before (block_form least proposed).shapes plan g → Chained width given nets → AreTapsAmong ages given nets value taps → IsBuffered b old plan g (block_form least proposed) value taps
+  block_buffered width ages given nets taps own aged same wide arrays is among =
+      chain_buffered nets taps own arrays
+      (subst (λ (w : ℕ). Chained w split nets) wide (subst (λ (list : List ℕ). Chained width list nets) same is))
+      (subst (λ (list : List ℕ). AreTapsAmong list split nets value taps) aged (subst (λ (list : List ℕ). AreTapsAmong ages list nets value taps) same among))
+
+-- the ages of a split are within the limit
+pub split_most : (proposed : List (List ℕ)) (plan : Plan) (g : ℕ) (split : List ℕ) → IsPlan plan → Keeps plan g → split ≡ split_ages proposed plan g → All (λ age. age ≤ MAX_BUFFER_BITS) split
+split_most proposed plan g split is kept e k d l =
+    let finer : IsFiner (ages_of plan g) split = finer_of proposed plan g split e in
+    let deep = ages_deep split (L.depth_of split) finer.ascending refl k d l in
+    let most = depth_most plan is g kept in
+    let depth = finer.last ∙ plan_depth plan g in
+    omega (arith, deep, most, depth)

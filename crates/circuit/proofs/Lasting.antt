@@ -15,15 +15,13 @@ use Rattle.net_build.proofs.Grown.{net_more, width_more}
 use Rattle.net_build.proofs.Control.{made_more}
 use Rattle.net_build.proofs.Runs.{clock_more}
 use Rattle.pointwise_ir.specs.Programs.{Program}
-use Rattle.edge_select.specs.declared.pixel.Pixel.{Pixel}
 use Rattle.edge_select.specs.declared.step.Step.{Step}
 use Rattle.edge_select.specs.Pixels.{IsBitOf}
-use Rattle.edge_select.proofs.Lasting.{follows_more}
 use Rattle.buffer_plan.specs.Plans.{Plan, delay_of}
 use Rattle.circuit.specs.Runs.{IsRunning, AtEachPixel}
 use Rattle.circuit.specs.Leaves.{LeafRead}
 use Rattle.circuit.specs.Taps.{size_in, HasTaps, HasControl, IsReading}
-use Rattle.circuit.specs.Reads.{HasPosition, IsChosen, worth_of, IsChoice, IsReadNet, IsPixelTest, IsMadeOfTaps, AreLeafNets, reads_in}
+use Rattle.circuit.specs.Reads.{IsChosen, worth_of, IsChoice, IsReadNet, IsPixelTest, IsMadeOfTaps, AreLeafNets, reads_in}
 
 if_some : {X : Type 0} (P Q : X → Type 0) (o : Option X) → ((x : X) → P x → Q x) → IfSome o P → IfSome o Q
 if_some P Q None f h = h
@@ -38,23 +36,6 @@ module _ (c b : Netlist) (f : Includes c b) where
 
   pub width_is : (n : Net) (w : ℕ) → IsNet b n → net_width b n ≡ w → net_width c n ≡ w
   width_is n w is e = width_more c b f n is.declared ∙ e
-
-  pub position_more : (plan : Plan) (g : ℕ) (pixel : Pixel) → HasPosition b plan g pixel → HasPosition c plan g pixel
-  position_more plan g pixel is = record {
-    size = is.size;
-    nets = record {
-      column = net_more c b f pixel.column is.nets.column;
-      row = net_more c b f pixel.row is.nets.row;
-      column_width = width_is pixel.column _ is.nets.column is.nets.column_width;
-      row_width = width_is pixel.row _ is.nets.row is.nets.row_width;
-    };
-    follows = follows_more c b (delay_of plan g) pixel f is.follows;
-    column = is.column;
-    row = is.row;
-  }
-
-  pub positions_more : (plan : Plan) (g : ℕ) (o : Option Pixel) → IfSome o (HasPosition b plan g) → IfSome o (HasPosition c plan g)
-  positions_more plan g o h = if_some (HasPosition b plan g) (HasPosition c plan g) o (position_more plan g) h
 
   pub test_more : (plan : Plan) (g : ℕ) (passes : (x y : ℕ) → Type 0) (n : Net) → IsPixelTest b plan g passes n → IsPixelTest c plan g passes n
   test_more plan g passes n is = record {

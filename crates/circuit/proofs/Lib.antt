@@ -19,6 +19,7 @@ pub mod Searching
 pub mod Taking
 pub mod Imaging
 pub mod Validity
+pub mod Splitting
 pub mod Forming
 pub mod Leaving
 pub mod Netted
@@ -26,3 +27,4 @@ pub mod Behaving
 pub mod Counting
 pub mod Adding
 pub mod Driven
+pub mod Keeping

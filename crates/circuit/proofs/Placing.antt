@@ -1,30 +1,27 @@
 -- Tests of the pixels of an image, by its registers or by constants.
-use Rattle.std.proofs.Common.{◌≡◌, ℕ, ◌<◌, Bool, true, false, List, [], refl, sym, ap, subst, ◌∙◌, inl, inr, arith}
+use Rattle.std.proofs.Common.{◌≡◌, ℕ, ◌<◌, Bool, true, false, [], sym, subst, inl, inr, arith}
 use Rattle.std.specs.Prelude.{Contains}
 use Rattle.dk_base.specs.Frames.{Size, column, row}
 use Rattle.dk_base.specs.FrameSizes.{size_of}
 use Rattle.wiring.specs.declared.netlist.Net.{Net}
-use Rattle.wiring.specs.declared.netlist.Net.TheVariants.{Reg}
 use Rattle.wiring.specs.declared.netlist.Holder.{Holder}
 use Rattle.wiring.specs.declared.netlist.Holder.TheVariants.{OfNet}
 use Rattle.wiring.specs.Netlist.{Netlist}
-use Rattle.wiring.specs.Snapshot.{net_value}
 use Rattle.wiring.specs.Clock.{bit}
-use Rattle.net_build.specs.Includes.{Includes}
-use Rattle.net_build.specs.Draft.{UpdatedBut}
-use Rattle.net_build.specs.Runs.{NeverStops, StillBut}
-use Rattle.net_build.specs.Control.{IsMadeOf, IsControlled}
+use Rattle.net_build.specs.Control.{IsMadeOf, is_control}
 use Rattle.net_build.specs.Logic.{AddsLogic, Computes}
 use Rattle.net_build.specs.Counters.{AddsControl}
 use Rattle.net_build.proofs.Logic.{logic_none}
-use Rattle.net_build.proofs.Runs.{clock_more}
+use Rattle.net_build.proofs.Control.{made_wider}
 use Rattle.net_build.proofs.Starting.{logic_adds, control_on}
-use Rattle.edge_select.specs.declared.pixel.Pixel.{Pixel}
-use Rattle.edge_select.specs.Pixels.{IsTest, IsBitOf, IsPixel, IsOnFrame, AllPass, NonePass, AddsCounters}
+use Rattle.edge_select.specs.declared.frame_tests.FrameTests.{FrameTests}
+use Rattle.edge_select.specs.Pixels.{AllPass, NonePass}
+use Rattle.edge_select.specs.FrameTests.{AddsTests, AreFrameTests, IsFrameTest}
+use Rattle.edge_select.proofs.Beside.{beside_none, beside_logic, beside_on}
 use Rattle.edge_select.proofs.Raster.{place}
-use Rattle.buffer_plan.specs.Plans.{Plan, IsPlan}
-use Rattle.circuit.specs.Taps.{size_in, HasControl}
-use Rattle.circuit.specs.Reads.{HasPosition, IsPixelTest}
+use Rattle.buffer_plan.specs.Plans.{Plan, IsPlan, delay_of}
+use Rattle.circuit.specs.Taps.{size_in}
+use Rattle.circuit.specs.Reads.{IsPixelTest}
 
 -- nothing more
 pub control_none : (b : Netlist) → AddsControl b b
@@ -34,9 +31,22 @@ control_none b = logic_adds b b (logic_none b)
 pub control_logic : (new mid old : Netlist) → AddsControl mid old → AddsLogic new mid → AddsControl new old
 control_logic new mid old f g = control_on old mid new f (logic_adds new mid g)
 
--- the counters of a position are control
-pub counters_control : (new old : Netlist) (first second : ℕ) → Includes new old → AddsCounters new old first second → ((free : List Holder) → UpdatedBut old free → UpdatedBut new free) → ((copies : List ℕ) (free : List Holder) → StillBut old copies free → StillBut new copies free) → (NeverStops old → NeverStops new) → ((copies : List ℕ) → IsControlled old copies → IsControlled new copies) → AddsControl new old
-counters_control new old first second grows is updated still stops control = record { includes = grows; arrays = is.arrays; reads = is.reads; updated = updated; still = still; stops = stops; control = control }
+-- the same with frame tests
+pub tests_none : (b : Netlist) (t : FrameTests) → AddsTests b b t t
+tests_none b t = beside_none b t.counters
+
+pub tests_logic : (new mid old : Netlist) (now before : FrameTests) → AddsTests mid old now before → AddsLogic new mid → AddsTests new old now before
+tests_logic new mid old now before f g = beside_on old mid new before.counters now.counters now.counters f (beside_logic new mid now.counters g)
+
+pub tests_on : (a b c : Netlist) (i j k : FrameTests) → AddsTests b a j i → AddsTests c b k j → AddsTests c a k i
+tests_on a b c i j k f g = beside_on a b c i.counters j.counters k.counters f g
+
+-- the tests are of frames of the plan's size
+pub own_tests : (b : Netlist) (size : Size) (t : FrameTests) → AreFrameTests b size t → AreFrameTests b (size_of t.size) t
+own_tests b size t is = subst (λ (z : Size). AreFrameTests b z t) (sym is.size_is) is
+
+pub their_tests : (new old : Netlist) (size : Size) (now before : FrameTests) → AreFrameTests old size before → AreFrameTests new (size_of before.size) now → AreFrameTests new size now
+their_tests new old size now before was is = subst (λ (z : Size). AreFrameTests new z now) was.size_is is
 
 -- columns and rows of pixels are in the frame
 pub columns_below : (plan : Plan) → IsPlan plan → (q : ℕ) → column (size_in plan) q < plan.system.stencils.width
@@ -45,28 +55,17 @@ columns_below plan is q = (place (size_in plan) q is.system.stencils.frame.some_
 pub rows_below : (plan : Plan) → IsPlan plan → (q : ℕ) → row (size_in plan) q < plan.system.stencils.height
 rows_below plan is q = (place (size_in plan) q is.system.stencils.frame.some_columns is.system.stencils.frame.some_rows).row_below
 
-control_reg : (b : Netlist) (base : Holder → Bool) (n : Net) (k : ℕ) → HasControl b.enable base → n ≡ Reg k → IsMadeOf b base (OfNet n)
-control_reg b base n k has e = subst (λ (x : Net). IsMadeOf b base (OfNet x)) (sym e) (IsMadeOf.by_itself (has (OfNet (Reg k)) refl))
-
--- a test by the registers
-pub pixel_test : (new mid : Netlist) (plan : Plan) (f : ℕ) (pixel : Pixel) (P : Size → (x y : ℕ) → Type 0) (n : Net) → Includes new mid → HasPosition mid plan f pixel → IsTest new mid pixel (P (size_of pixel.size)) n → IsPixelTest new plan f (P (size_in plan)) n
-pixel_test new mid plan f pixel P n grows is test = record {
-  there = test.net;
-  width = test.width;
-  value = λ m from before c s run q e.
-      let clock = clock_more new mid m from before c s grows run.clock in
-      let here : IsPixel pixel q s = is.follows.pixel m from before c s clock run.since q e in
-      let frame : IsOnFrame pixel s = is.follows.on_frame m from before c s clock run.since in
-      let tested = test.value m s run.clock.whole.includes run.clock.at.snapshot.settled frame in
-      let across : net_value s pixel.column ≡ column (size_in plan) q = here.column ∙ ap (λ (z : Size). column z q) is.size in
-      let down : net_value s pixel.row ≡ row (size_in plan) q = here.row ∙ ap (λ (z : Size). row z q) is.size in
-      subst (λ (z : Size). IsBitOf (P z (column (size_in plan) q) (row (size_in plan) q)) (net_value s n)) is.size
-      (subst (λ (y : ℕ). IsBitOf (P (size_of pixel.size) (column (size_in plan) q) y) (net_value s n)) down
-      (subst (λ (x : ℕ). IsBitOf (P (size_of pixel.size) x (net_value s pixel.row)) (net_value s n)) across tested));
-  made = λ base has.
-      let control : HasControl mid.enable base = subst (λ (e : Bool). HasControl e base) grows.enable has in
-      test.made_of base (control_reg mid base pixel.column is.column.0 control is.column.1) (control_reg mid base pixel.row is.row.0 control is.row.1);
-}
+-- a test by the frame tests
+pub pixel_test : (b old : Netlist) (plan : Plan) (f delay : ℕ) (t : FrameTests) (P : Size → (x y : ℕ) → Type 0) (n : Net) → delay ≡ delay_of plan f → AreFrameTests old (size_in plan) t → IsFrameTest b (size_of t.size) delay (P (size_of t.size)) n → IsPixelTest b plan f (P (size_in plan)) n
+pixel_test b old plan f delay t P n e was is =
+    let own : IsFrameTest b (size_in plan) delay (P (size_in plan)) n = subst (λ (z : Size). IsFrameTest b z delay (P z) n) was.size_is is in
+    let here : IsFrameTest b (size_in plan) (delay_of plan f) (P (size_in plan)) n = subst (λ (d : ℕ). IsFrameTest b (size_in plan) d (P (size_in plan)) n) e own in
+    record {
+      there = here.there;
+      width = here.width;
+      value = λ m from before c s run q sum. here.value m from before c s run.clock run.since q sum;
+      made = λ base has. made_wider b (is_control b.enable) base has here.made;
+    }
 
 -- a test that all pixels pass, and one that none does
 none_made : (b : Netlist) (base : Holder → Bool) (n : Net) → Contains [] n → IsMadeOf b base (OfNet n)

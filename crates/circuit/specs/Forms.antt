@@ -14,6 +14,7 @@ use Rattle.line_buffer.specs.Fills.{AreFilled}
 use Rattle.line_buffer.specs.Indices.{IsReadOnce, IsReadAndPut, is_long, is_direct}
 use Rattle.line_buffer.specs.Buffers.{IsBuffer, AddsBuffer}
 use Rattle.line_buffer.specs.Chains.{AreCopies, AreMadeOfShort}
+use Rattle.circuit.specs.Splits.{split_ages}
 
 -- the arrays of a form, by a plan and an image; and where it holds an age of an image at a clock
 abbrev pub Shapes : Type 0
@@ -75,9 +76,16 @@ chain_places plan g age t = chain_place (first_array chain_shapes_of plan g) (ag
 abbrev pub chain_form : Form
 chain_form = record { shapes = chain_shapes_of; places = chain_places; long = λ words. false; property = λ words. IsReadOnce }
 
--- The arrays of a chain. Those of at least this number of words are long: each is read once, one clock ahead, and put once.
-abbrev pub block_form : (least : ℕ) → Form
-block_form least = record { shapes = chain_shapes_of; places = chain_places; long = is_long (Some least); property = λ words. IsReadAndPut (not (is_long (Some least) words)) }
+-- a chain for each image over the ages of its split, which may be more than are read
+abbrev pub block_shapes_of : (proposed : List (List ℕ)) → Shapes
+block_shapes_of proposed plan g = chain_shapes (width_of plan g) (split_ages proposed plan g)
+
+abbrev pub block_places : (proposed : List (List ℕ)) → Places
+block_places proposed plan g age t = chain_place (first_array (block_shapes_of proposed) plan g) (split_ages proposed plan g) age t
+
+-- The arrays of such chains. Those of at least this number of words are long: each is read once, one clock ahead, and put once.
+abbrev pub block_form : (least : ℕ) → (proposed : List (List ℕ)) → Form
+block_form least proposed = record { shapes = block_shapes_of proposed; places = block_places proposed; long = is_long (Some least); property = λ words. IsReadAndPut (not (is_long (Some least) words)) }
 
 -- a ring for each image of depth above 0
 abbrev pub ring_shapes_of : Shapes

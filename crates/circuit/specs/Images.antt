@@ -28,7 +28,9 @@ use Rattle.line_buffer.specs.Buffers.{IsBuffer}
 use Rattle.line_buffer.specs.Chains.{AreCopies}
 use Rattle.circuit.specs.Runs.{IsRunning}
 use Rattle.circuit.specs.Rounds.{Rounds, AreRounds, type_at, pixel_count, pixel_bits}
-use Rattle.circuit.specs.Taps.{Keeps, taps_at, TapsAreRight}
+use Rattle.edge_select.specs.declared.frame_tests.FrameTests.{FrameTests}
+use Rattle.edge_select.specs.FrameTests.{AreFrameTests, IsApart}
+use Rattle.circuit.specs.Taps.{Keeps, size_in, taps_at, TapsAreRight}
 use Rattle.circuit.specs.Reads.{reads_in, IsMadeOfTaps}
 use Rattle.circuit.specs.Forms.{Shapes, Form, shapes_of, first_array, end_array}
 
@@ -107,3 +109,9 @@ pub record AreBuilt (b : Netlist) (p : Program) (plan : Plan) (form : Form) (n :
   pub stops : NeverStops b
   pub control : IsControlled b copies
   pub line : (k : ℕ) (i : Image) → k < n → slice_get plan.system.stencils.images k ≡ Some i → IsLine b p plan form copies taps i.number (slice_index_or nets k (Input 0))
+
+-- And the module has these frame tests, whose counters are none of the copies.
+pub record AreBuiltWith (b : Netlist) (p : Program) (plan : Plan) (form : Form) (n : ℕ) (nets : List Net) (taps : List (List Net)) (tests : FrameTests) : Type 0 where
+  pub built : AreBuilt b p plan form n nets taps
+  pub apart : IsApart built.copies tests
+  pub tests_are : AreFrameTests b (size_in plan) tests

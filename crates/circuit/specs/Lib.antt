@@ -4,6 +4,7 @@ pub mod Leaves
 pub mod Known
 pub mod Taps
 pub mod Reads
+pub mod Splits
 pub mod Forms
 pub mod Images
 pub mod Behaviour

@@ -4,11 +4,9 @@ use Rattle.dk_base.specs.declared.stencils.LiveRead.{LiveRead}
 use Rattle.dk_base.specs.declared.ty.Ty.{Ty}
 use Rattle.dk_base.specs.Types.{width_of as bits_of_type}
 use Rattle.dk_base.specs.Frames.{Size}
-use Rattle.dk_base.specs.FrameSizes.{size_of}
 use Rattle.wiring.specs.declared.right.Atom.{Atom}
 use Rattle.wiring.specs.declared.right.Atom.TheVariants as atom
 use Rattle.wiring.specs.declared.netlist.Net.{Net}
-use Rattle.wiring.specs.declared.netlist.Net.TheVariants.{Reg}
 use Rattle.wiring.specs.declared.netlist.Holder.{Holder}
 use Rattle.wiring.specs.declared.netlist.Holder.TheVariants.{OfNet}
 use Rattle.wiring.specs.Netlist.{Netlist, net_width}
@@ -20,9 +18,8 @@ use Rattle.net_build.specs.Control.{IsMadeOf}
 use Rattle.net_build.specs.Logic.{Computes}
 use Rattle.pointwise_ir.specs.Programs.{Program}
 use Rattle.edge_select.specs.declared.step.Step.{Step}
-use Rattle.edge_select.specs.declared.pixel.Pixel.{Pixel}
 use Rattle.edge_select.specs.Steps.{LeadBy, LeadOn}
-use Rattle.edge_select.specs.Pixels.{HasPixel, Follows, IsBitOf}
+use Rattle.edge_select.specs.Pixels.{IsBitOf}
 use Rattle.buffer_plan.specs.Plans.{Plan, delay_of, reads_by}
 use Rattle.circuit.specs.Runs.{AtEachPixel}
 use Rattle.circuit.specs.Rounds.{type_at}
@@ -33,14 +30,6 @@ use Rattle.circuit.specs.Taps.{size_in, IsTapOf, HasControl}
 -- the live reads by image f
 abbrev pub reads_in : Plan → (f : ℕ) → List LiveRead
 reads_in plan f = reads_by f plan.system.stencils.reads
-
--- registers that follow the pixels of image f
-pub record HasPosition (b : Netlist) (plan : Plan) (f : ℕ) (pixel : Pixel) : Type 0 where
-  pub size : size_of pixel.size ≡ size_in plan
-  pub nets : HasPixel b pixel
-  pub follows : Follows b (delay_of plan f) pixel
-  pub column : (k : ℕ) × (pixel.column ≡ Reg k)
-  pub row : (k : ℕ) × (pixel.row ≡ Reg k)
 
 -- one of these reads of the leaf's image leads from the pixel by its offset, and the number is its tap's
 pub record IsLedTo (size : Size) (plan : Plan) (taps : List (List Net)) (reads : List LiveRead) (leaf : LeafRead) (x y : ℕ) (s : Snapshot) (value : ℕ) : Type 0 where

@@ -10,17 +10,17 @@ ghost use Rattle.wiring.specs.Sizes.{IsWidth};
 ghost use Rattle.net_build.specs.Includes.{Includes};
 ghost use Rattle.net_build.specs.Draft.{IsNet};
 ghost use Rattle.net_build.specs.Logic.{AddsLogic, Computes};
-ghost use Rattle.net_build.specs.Counters.{AddsControl};
+ghost use Rattle.edge_select.specs.FrameTests.{AddsTests, AreFrameTests};
 ghost use Rattle.edge_select.specs.Steps.{LeadBy};
 ghost use Rattle.circuit.specs.Rounds.{type_at};
 ghost use Rattle.circuit.specs.Leaves.{leaf_at};
-ghost use Rattle.circuit.specs.Taps.{IsReading};
-ghost use Rattle.circuit.specs.Reads.{HasPosition, ChoosesAlso, Chooses, IsReadNet, IsNetOf, reads_in, atom_of_choice, choice_nets, chosen_by};
+ghost use Rattle.circuit.specs.Taps.{IsReading, size_in};
+ghost use Rattle.circuit.specs.Reads.{ChoosesAlso, Chooses, IsReadNet, IsNetOf, reads_in, atom_of_choice, choice_nets, chosen_by};
 
 use crate::positions::test_at;
 use crate::reader::{Reader, tap_of};
 use dk_base::{LiveRead, OutOfMemory, Ty};
-use edge_select::{Extent, Pixel, Step, passing};
+use edge_select::{Extent, FrameTests, Step, passing};
 use net_build::{Builder, gate, number};
 use pointwise_ir::Edge;
 use wiring::{Atom, Net, Right};
@@ -63,18 +63,18 @@ fn chosen_by(
 fn with_tap(
     b: &mut Builder,
     reader: &Reader,
-    made: &mut Option<Pixel>,
+    tests: &mut FrameTests,
     steps: &[Step],
     read: LiveRead,
     before: Option<Net>,
 ) -> Result<Option<Net>, OutOfMemory>
     requires reading { IsReading b.old reader.now.ir.now reader.now.plan.now reader.now.taps.now reader.now.image }
-    requires made { IfSome made.old (HasPosition b.old reader.now.plan.now reader.now.image) }
+    requires tests { AreFrameTests b.old (size_in reader.now.plan.now) tests.old }
     requires read { Contains (reads_in reader.now.plan.now reader.now.image) read }
     requires before { IfSome before (IsNet b.old) }
     requires before_width { IfSome before (λ n. net_width b.old n ≡ width_of (type_at reader.now.ir.now read.g)) }
-    ensures adds { OnOk result (AddsControl b.new b.old) }
-    ensures made { OnOk result (IfSome made.new (HasPosition b.new reader.now.plan.now reader.now.image)) }
+    ensures adds { OnOk result (AddsTests b.new b.old tests.new tests.old) }
+    ensures tests { OnOk result (AreFrameTests b.new (size_in reader.now.plan.now) tests.new) }
     ensures choice { IfOk result (ChoosesAlso b.new b.old reader.now.ir.now reader.now.plan.now reader.now.taps.now reader.now.image
         (leaf_at read.g steps.now) read before) }
 {
@@ -85,7 +85,7 @@ fn with_tap(
         Extent::Never => Ok(before),
         Extent::Always => Ok(Some(tap)),
         Extent::Sometimes => {
-            let test = test_at(b, plan, reader.image, made, steps, read.dx, read.dy)?;
+            let test = test_at(b, plan, reader.image, tests, steps, read.dx, read.dy)?;
             let net = chosen_by(b, test, tap, before, plan.width(read.g))?;
             Ok(Some(net))
         }
@@ -119,19 +119,19 @@ fn misses(steps: &[Step], read: LiveRead) -> bool
 fn with_read(
     b: &mut Builder,
     reader: &Reader,
-    made: &mut Option<Pixel>,
+    tests: &mut FrameTests,
     steps: &[Step],
     g: u32,
     read: LiveRead,
     before: Option<Net>,
 ) -> Result<Option<Net>, OutOfMemory>
     requires reading { IsReading b.old reader.now.ir.now reader.now.plan.now reader.now.taps.now reader.now.image }
-    requires made { IfSome made.old (HasPosition b.old reader.now.plan.now reader.now.image) }
+    requires tests { AreFrameTests b.old (size_in reader.now.plan.now) tests.old }
     requires read { Contains (reads_in reader.now.plan.now reader.now.image) read }
     requires before { IfSome before (IsNet b.old) }
     requires before_width { IfSome before (λ n. net_width b.old n ≡ width_of (type_at reader.now.ir.now g)) }
-    ensures adds { OnOk result (AddsControl b.new b.old) }
-    ensures made { OnOk result (IfSome made.new (HasPosition b.new reader.now.plan.now reader.now.image)) }
+    ensures adds { OnOk result (AddsTests b.new b.old tests.new tests.old) }
+    ensures tests { OnOk result (AreFrameTests b.new (size_in reader.now.plan.now) tests.new) }
     ensures choice { IfOk result (ChoosesAlso b.new b.old reader.now.ir.now reader.now.plan.now reader.now.taps.now reader.now.image
         (leaf_at g steps.now) read before) }
 {
@@ -142,7 +142,7 @@ fn with_read(
     if misses(steps, read) {
         return Ok(before);
     }
-    let choice = with_tap(b, reader, made, steps, read, before)?;
+    let choice = with_tap(b, reader, tests, steps, read, before)?;
     Ok(choice)
 }
 
@@ -150,19 +150,19 @@ fn with_read(
 fn choice_of(
     b: &mut Builder,
     reader: &Reader,
-    made: &mut Option<Pixel>,
+    tests: &mut FrameTests,
     steps: &[Step],
     g: u32,
 ) -> Result<Option<Net>, OutOfMemory>
     requires reading { IsReading b.old reader.now.ir.now reader.now.plan.now reader.now.taps.now reader.now.image }
-    requires made { IfSome made.old (HasPosition b.old reader.now.plan.now reader.now.image) }
-    ensures adds { OnOk result (AddsControl b.new b.old) }
-    ensures made { OnOk result (IfSome made.new (HasPosition b.new reader.now.plan.now reader.now.image)) }
+    requires tests { AreFrameTests b.old (size_in reader.now.plan.now) tests.old }
+    ensures adds { OnOk result (AddsTests b.new b.old tests.new tests.old) }
+    ensures tests { OnOk result (AreFrameTests b.new (size_in reader.now.plan.now) tests.new) }
     ensures choice { IfOk result (Chooses b.new b.old reader.now.ir.now reader.now.plan.now reader.now.taps.now reader.now.image (leaf_at g steps.now)) }
 {
     let mut choice = None;
     for read in reader.plan.reads(reader.image) {
-        choice = with_read(b, reader, made, steps, g, *read, choice)?;
+        choice = with_read(b, reader, tests, steps, g, *read, choice)?;
     }
     Ok(choice)
 }
@@ -186,22 +186,22 @@ fn net_of(b: &mut Builder, bits: u8, choice: Option<Net>) -> Result<Net, OutOfMe
 pub fn read_net(
     b: &mut Builder,
     reader: &Reader,
-    made: &mut Option<Pixel>,
+    tests: &mut FrameTests,
     steps: &[Step],
     g: u32,
 ) -> Result<(Ty, Net), OutOfMemory>
     requires reading { IsReading b.old reader.now.ir.now reader.now.plan.now reader.now.taps.now reader.now.image }
-    requires made { IfSome made.old (HasPosition b.old reader.now.plan.now reader.now.image) }
+    requires tests { AreFrameTests b.old (size_in reader.now.plan.now) tests.old }
     requires earlier { g < reader.now.image }
-    ensures adds { OnOk result (AddsControl b.new b.old) }
-    ensures made { OnOk result (IfSome made.new (HasPosition b.new reader.now.plan.now reader.now.image)) }
+    ensures adds { OnOk result (AddsTests b.new b.old tests.new tests.old) }
+    ensures tests { OnOk result (AreFrameTests b.new (size_in reader.now.plan.now) tests.new) }
     ensures ty { IfOk result (λ n. n.0 ≡ type_at reader.now.ir.now g) }
     ensures net { IfOk result (λ n. (first : Netlist) → Includes b.old first
         → IsReadNet b.new first reader.now.plan.now reader.now.taps.now reader.now.image (leaf_at g steps.now) (width_of n.0) n.1) }
 {
     reader.ir.law();
     let ty = reader.ir.type_of(g);
-    let choice = choice_of(b, reader, made, steps, g)?;
+    let choice = choice_of(b, reader, tests, steps, g)?;
     let net = net_of(b, ty.width(), choice)?;
     Ok((ty, net))
 }

@@ -9,7 +9,8 @@ ghost use Rattle.line_buffer.specs.SharedCounters.{AreTurns};
 ghost use Rattle.circuit.specs.Taps.{Keeps};
 ghost use Rattle.circuit.specs.Forms.{Form, IsBuffered, shapes_before, chain_form, block_form, ring_form};
 
-use crate::slots::{Slot, chain_slot, ring_slot};
+use crate::finer::{split_of, taps_among};
+use crate::slots::{Slot, block_slot, chain_slot, ring_slot};
 use crate::taps::Taps;
 use buffer_plan::Plan;
 use dk_base::OutOfMemory;
@@ -60,31 +61,33 @@ pub struct Ring;
 #[derive(Clone, Copy, Debug)]
 pub struct Chain;
 
-/// A chain for each image, in which each array of at least `least` words can be a block memory: it is read one clock ahead, into a register that copies its word. The number is at least 2.
-#[derive(Clone, Copy, Debug)]
+/// A chain for each image, over the ages that are read or over more with the same greatest one, in which each array of at least `least` words can be a block memory: it is read one clock ahead, into a register that copies its word. The number is at least 2.
+#[derive(Debug, Drop)]
 pub struct BlockChain {
     least: u32,
+    proposed: Vec<Vec<u64>>,
 }
 
 impl Model for BlockChain {
-    ghost use Rattle.std.specs.Prelude.{ℕ, ◌≤◌};
+    ghost use Rattle.std.specs.Prelude.{◌≤◌};
+    ghost use Rattle.circuit.specs.Splits.{Splits, lists_of};
 
-    ghost Value = { ℕ };
+    ghost Value = { Splits };
 
-    ghost view = { λ form. form.least };
+    ghost view = { λ form. record { least = form.least; proposed = lists_of form.proposed.items } };
 
     ghost invariant = { λ form. 2 ≤ form.least };
-
-    ghost inverse = { λ least. record { least = least } };
 }
 
 impl BlockChain {
-    /// Arrays of at least this number of words are long.
-    pub fn new(least: u32) -> BlockChain
+    ghost use Rattle.circuit.specs.Splits.{lists_of};
+
+    /// Arrays of at least `least` words are long. The chain of each kept image is over the ages proposed for it, in order, where they are more than are read or the same: they ascend from above 0, each age above 0 that is read is among them, and the greatest is the same. Else it is over the ages that are read.
+    pub fn new(least: u32, proposed: Vec<Vec<u64>>) -> BlockChain
         requires { 2 ≤ least }
-        ensures { result ≡ least }
+        ensures { result ≡ record { least = least; proposed = lists_of proposed.items } }
     {
-        BlockChain { least }
+        BlockChain { least, proposed }
     }
 }
 
@@ -133,10 +136,10 @@ impl BufferForm for Chain {
 }
 
 impl BufferForm for BlockChain {
-    ghost form = { block_form };
+    ghost form = { λ chain. block_form chain.least chain.proposed };
 
     fn place(&self, plan: &Plan, image: u32, age: u64, clock: u64) -> Slot {
-        chain_slot(plan, image, age, clock)
+        block_slot(plan, &self.proposed, image, age, clock)
     }
 
     fn add(
@@ -149,15 +152,10 @@ impl BufferForm for BlockChain {
         turns: &mut Turns,
     ) -> Result<Taps, OutOfMemory> {
         plan.law();
-        let nets = block_chain(
-            alloc,
-            b,
-            turns,
-            plan.width(image),
-            plan.ages(image),
-            value,
-            self.least,
-        )?;
-        Ok(Taps::new(nets))
+        let split = split_of(plan, &self.proposed, image);
+        let width = plan.width(image);
+        let nets = block_chain(alloc, b, turns, width, split, value, self.least)?;
+        let taps = taps_among(alloc, plan.ages(image), split, &nets, value)?;
+        Ok(Taps::new(taps))
     }
 }

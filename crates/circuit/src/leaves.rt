@@ -2,18 +2,18 @@
 
 ghost use Rattle.std.specs.Prelude.{◌≡◌, ◌++◌, ◌∷◌, [], ◌<◌, IfSome, OnOk};
 ghost use Rattle.pointwise_ir.specs.Trees.{tree_of};
-ghost use Rattle.net_build.specs.Counters.{AddsControl};
+ghost use Rattle.edge_select.specs.FrameTests.{AddsTests, AreFrameTests};
 ghost use Rattle.circuit.specs.Leaves.{leaf_at, reads_of, bits_of, own_bit, ReadsBefore};
 ghost use Rattle.circuit.specs.Known.{leaf_of, IsKnownNet};
-ghost use Rattle.circuit.specs.Taps.{IsReading};
-ghost use Rattle.circuit.specs.Reads.{HasPosition, AddsLeaves};
+ghost use Rattle.circuit.specs.Taps.{IsReading, size_in};
+ghost use Rattle.circuit.specs.Reads.{AddsLeaves};
 
 use crate::choices::read_net;
 use crate::known::{BodyLeaves, ReadKey};
 use crate::positions::test_on;
 use crate::reader::Reader;
 use dk_base::{OutOfMemory, Ty};
-use edge_select::{Pixel, Step};
+use edge_select::{FrameTests, Step};
 use net_build::Builder;
 use pointwise_ir::{Edge, Expr};
 use wiring::Net;
@@ -36,22 +36,22 @@ fn known_net(leaves: &BodyLeaves, key: &ReadKey) -> Option<(Ty, Net)>
 fn push_new(
     b: &mut Builder,
     reader: &Reader,
-    made: &mut Option<Pixel>,
+    tests: &mut FrameTests,
     steps: &[Step],
     g: u32,
     key: ReadKey,
     leaves: &mut BodyLeaves,
 ) -> Result<(), OutOfMemory>
     requires reading { IsReading b.old reader.now.ir.now reader.now.plan.now reader.now.taps.now reader.now.image }
-    requires made { IfSome made.old (HasPosition b.old reader.now.plan.now reader.now.image) }
+    requires tests { AreFrameTests b.old (size_in reader.now.plan.now) tests.old }
     requires earlier { g < reader.now.image }
     requires key { leaf_of key ≡ leaf_at g steps.now }
-    ensures adds { OnOk result (AddsControl b.new b.old) }
-    ensures made { OnOk result (IfSome made.new (HasPosition b.new reader.now.plan.now reader.now.image)) }
+    ensures adds { OnOk result (AddsTests b.new b.old tests.new tests.old) }
+    ensures tests { OnOk result (AreFrameTests b.new (size_in reader.now.plan.now) tests.new) }
     ensures leaves { OnOk result (AddsLeaves b.new b.old reader.now.ir.now reader.now.plan.now reader.now.taps.now reader.now.image
         (leaf_at g steps.now ∷ []) [] leaves.new leaves.old) }
 {
-    let net = read_net(b, reader, made, steps, g)?;
+    let net = read_net(b, reader, tests, steps, g)?;
     leaves.known.add(key, leaves.nets.reads.len())?;
     leaves.nets.reads.push(net)?;
     Ok(())
@@ -61,16 +61,16 @@ fn push_new(
 fn push_net(
     b: &mut Builder,
     reader: &Reader,
-    made: &mut Option<Pixel>,
+    tests: &mut FrameTests,
     steps: &[Step],
     g: u32,
     leaves: &mut BodyLeaves,
 ) -> Result<(), OutOfMemory>
     requires reading { IsReading b.old reader.now.ir.now reader.now.plan.now reader.now.taps.now reader.now.image }
-    requires made { IfSome made.old (HasPosition b.old reader.now.plan.now reader.now.image) }
+    requires tests { AreFrameTests b.old (size_in reader.now.plan.now) tests.old }
     requires earlier { g < reader.now.image }
-    ensures adds { OnOk result (AddsControl b.new b.old) }
-    ensures made { OnOk result (IfSome made.new (HasPosition b.new reader.now.plan.now reader.now.image)) }
+    ensures adds { OnOk result (AddsTests b.new b.old tests.new tests.old) }
+    ensures tests { OnOk result (AreFrameTests b.new (size_in reader.now.plan.now) tests.new) }
     ensures leaves { OnOk result (AddsLeaves b.new b.old reader.now.ir.now reader.now.plan.now reader.now.taps.now reader.now.image
         (leaf_at g steps.now ∷ []) [] leaves.new leaves.old) }
 {
@@ -81,7 +81,7 @@ fn push_net(
             Ok(())
         }
         None => {
-            push_new(b, reader, made, steps, g, key, leaves)?;
+            push_new(b, reader, tests, steps, g, key, leaves)?;
             Ok(())
         }
     }
@@ -91,23 +91,23 @@ fn push_net(
 fn push_read(
     b: &mut Builder,
     reader: &Reader,
-    made: &mut Option<Pixel>,
+    tests: &mut FrameTests,
     steps: &mut Vec<Step>,
     step: Step,
     g: u32,
     leaves: &mut BodyLeaves,
 ) -> Result<(), OutOfMemory>
     requires reading { IsReading b.old reader.now.ir.now reader.now.plan.now reader.now.taps.now reader.now.image }
-    requires made { IfSome made.old (HasPosition b.old reader.now.plan.now reader.now.image) }
+    requires tests { AreFrameTests b.old (size_in reader.now.plan.now) tests.old }
     requires earlier { g < reader.now.image }
-    ensures adds { OnOk result (AddsControl b.new b.old) }
-    ensures made { OnOk result (IfSome made.new (HasPosition b.new reader.now.plan.now reader.now.image)) }
+    ensures adds { OnOk result (AddsTests b.new b.old tests.new tests.old) }
+    ensures tests { OnOk result (AreFrameTests b.new (size_in reader.now.plan.now) tests.new) }
     ensures steps { OnOk result (steps.new.items ≡ steps.old.items) }
     ensures leaves { OnOk result (AddsLeaves b.new b.old reader.now.ir.now reader.now.plan.now reader.now.taps.now reader.now.image
         ((record { image = g; steps = steps.old.items ++ step ∷ [] }) ∷ []) [] leaves.new leaves.old) }
 {
     steps.push(step)?;
-    push_net(b, reader, made, steps, g, leaves)?;
+    push_net(b, reader, tests, steps, g, leaves)?;
     steps.pop();
     Ok(())
 }
@@ -116,21 +116,21 @@ fn push_read(
 fn push_test(
     b: &mut Builder,
     reader: &Reader,
-    made: &mut Option<Pixel>,
+    tests: &mut FrameTests,
     steps: &[Step],
     edge: Edge,
     leaves: &mut BodyLeaves,
 ) -> Result<(), OutOfMemory>
     requires reading { IsReading b.old reader.now.ir.now reader.now.plan.now reader.now.taps.now reader.now.image }
-    requires made { IfSome made.old (HasPosition b.old reader.now.plan.now reader.now.image) }
-    ensures adds { OnOk result (AddsControl b.new b.old) }
-    ensures made { OnOk result (IfSome made.new (HasPosition b.new reader.now.plan.now reader.now.image)) }
+    requires tests { AreFrameTests b.old (size_in reader.now.plan.now) tests.old }
+    ensures adds { OnOk result (AddsTests b.new b.old tests.new tests.old) }
+    ensures tests { OnOk result (AreFrameTests b.new (size_in reader.now.plan.now) tests.new) }
     ensures leaves { OnOk result (AddsLeaves b.new b.old reader.now.ir.now reader.now.plan.now reader.now.taps.now reader.now.image
         [] (own_bit edge steps.now) leaves.new leaves.old) }
 {
     match edge {
         Edge::Zero => {
-            let net = test_on(b, reader.plan, reader.image, made, steps)?;
+            let net = test_on(b, reader.plan, reader.image, tests, steps)?;
             leaves.nets.bits.push(net)?;
             Ok(())
         }
@@ -149,15 +149,15 @@ pub fn push_leaves(
     e: &Expr,
     b: &mut Builder,
     reader: &Reader,
-    made: &mut Option<Pixel>,
+    tests: &mut FrameTests,
     steps: &mut Vec<Step>,
     leaves: &mut BodyLeaves,
 ) -> Result<(), OutOfMemory>
     requires reading { IsReading b.old reader.now.ir.now reader.now.plan.now reader.now.taps.now reader.now.image }
-    requires made { IfSome made.old (HasPosition b.old reader.now.plan.now reader.now.image) }
+    requires tests { AreFrameTests b.old (size_in reader.now.plan.now) tests.old }
     requires earlier { ReadsBefore reader.now.image (tree_of e.now) }
-    ensures adds { OnOk result (AddsControl b.new b.old) }
-    ensures made { OnOk result (IfSome made.new (HasPosition b.new reader.now.plan.now reader.now.image)) }
+    ensures adds { OnOk result (AddsTests b.new b.old tests.new tests.old) }
+    ensures tests { OnOk result (AreFrameTests b.new (size_in reader.now.plan.now) tests.new) }
     ensures steps { OnOk result (steps.new.items ≡ steps.old.items) }
     ensures leaves { OnOk result (AddsLeaves b.new b.old reader.now.ir.now reader.now.plan.now reader.now.taps.now reader.now.image
         (reads_of (tree_of e.now) steps.old.items) (bits_of (tree_of e.now) steps.old.items) leaves.new leaves.old) }
@@ -166,32 +166,32 @@ pub fn push_leaves(
         Expr::Constant(_, _) => Ok(()),
         Expr::Read(edge, g, dx, dy) => {
             let step = step_by(*edge, *dx, *dy);
-            push_read(b, reader, made, steps, step, *g, leaves)
+            push_read(b, reader, tests, steps, step, *g, leaves)
         }
         Expr::Shifted(edge, dx, dy, body) => {
             steps.push(step_by(*edge, *dx, *dy))?;
-            push_test(b, reader, made, steps, *edge, leaves)?;
+            push_test(b, reader, tests, steps, *edge, leaves)?;
             still_law(b, reader);
-            push_leaves(body, b, reader, made, steps, leaves)?;
+            push_leaves(body, b, reader, tests, steps, leaves)?;
             steps.pop();
             Ok(())
         }
-        Expr::Unary(_, body) => push_leaves(body, b, reader, made, steps, leaves),
+        Expr::Unary(_, body) => push_leaves(body, b, reader, tests, steps, leaves),
         Expr::Binary(_, left, right) => {
-            push_leaves(left, b, reader, made, steps, leaves)?;
+            push_leaves(left, b, reader, tests, steps, leaves)?;
             still_law(b, reader);
-            push_leaves(right, b, reader, made, steps, leaves)?;
+            push_leaves(right, b, reader, tests, steps, leaves)?;
             Ok(())
         }
         Expr::Select(condition, first, second) => {
-            push_leaves(condition, b, reader, made, steps, leaves)?;
+            push_leaves(condition, b, reader, tests, steps, leaves)?;
             still_law(b, reader);
-            push_leaves(first, b, reader, made, steps, leaves)?;
+            push_leaves(first, b, reader, tests, steps, leaves)?;
             still_law(b, reader);
-            push_leaves(second, b, reader, made, steps, leaves)?;
+            push_leaves(second, b, reader, tests, steps, leaves)?;
             Ok(())
         }
-        Expr::Convert(_, body, _) => push_leaves(body, b, reader, made, steps, leaves),
-        Expr::Scale(_, body, _) => push_leaves(body, b, reader, made, steps, leaves),
+        Expr::Convert(_, body, _) => push_leaves(body, b, reader, tests, steps, leaves),
+        Expr::Scale(_, body, _) => push_leaves(body, b, reader, tests, steps, leaves),
     }
 }

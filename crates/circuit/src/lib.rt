@@ -2,6 +2,7 @@
 #![tactic(auto)]
 
 mod choices;
+mod finer;
 mod finishing;
 mod forms;
 mod images;
@@ -15,6 +16,7 @@ mod ports;
 mod positions;
 mod reader;
 mod slots;
+mod splits;
 mod taps;
 mod valid;
 
@@ -24,4 +26,5 @@ pub use laws::frame_drive_law;
 pub use making::{build, build_with};
 pub use options::Options;
 pub use slots::Slot;
+pub use splits::{MAX_REGISTERS, finer_ages};
 pub use taps::Taps;

@@ -6,7 +6,7 @@ ghost use Rattle.net_build.specs.Runs.{IsWhole, RunsOn};
 ghost use Rattle.pointwise_ir.specs.Stencils.{AreStencilsOf};
 ghost use Rattle.line_buffer.specs.SharedCounters.{AreTurns};
 ghost use Rattle.circuit.specs.Forms.{shapes_of, HasProperty};
-ghost use Rattle.circuit.specs.Images.{AreBuilt};
+ghost use Rattle.circuit.specs.Images.{AreBuilt, AreBuiltWith};
 ghost use Rattle.circuit.specs.Behaviour.{IsPlanOf, HasPorts};
 ghost use Rattle.circuit.specs.Nets.{IsApart};
 ghost use Rattle.circuit.specs.Modules.{IsModuleOf};
@@ -16,10 +16,12 @@ use crate::forms::BufferForm;
 use crate::images::image_net;
 use crate::options::Options;
 use crate::ports::begun;
+use crate::positions::no_tests;
 use crate::reader::Reader;
 use crate::taps::Taps;
 use buffer_plan::Plan;
 use dk_base::OutOfMemory;
+use edge_select::FrameTests;
 use line_buffer::Turns;
 use net_build::Builder;
 use pointwise_ir::Program;
@@ -34,6 +36,7 @@ fn add_image<F: BufferForm>(
     plan: &Plan,
     form: &F,
     turns: &mut Turns,
+    tests: &mut FrameTests,
     k: usize,
     nets: &mut Vec<Net>,
     taps: &mut Vec<Taps>,
@@ -41,10 +44,10 @@ fn add_image<F: BufferForm>(
     requires stencils { AreStencilsOf ir.now plan.now.system.stencils }
     requires within { k < length plan.now.system.stencils.images }
     requires turns { AreTurns b.old turns.old }
-    requires built { AreBuilt b.old ir.now plan.now (F.form form.now) k nets.old.items taps.old.items }
+    requires built { AreBuiltWith b.old ir.now plan.now (F.form form.now) k nets.old.items taps.old.items tests.old }
     ensures enable { OnOk result (b.new.enable ≡ b.old.enable) }
     ensures turns { OnOk result (AreTurns b.new turns.new) }
-    ensures built { OnOk result (AreBuilt b.new ir.now plan.now (F.form form.now) (suc k) nets.new.items taps.new.items) }
+    ensures built { OnOk result (AreBuiltWith b.new ir.now plan.now (F.form form.now) (suc k) nets.new.items taps.new.items tests.new) }
 {
     plan.law();
     let image = plan.images()[k].number;
@@ -54,7 +57,7 @@ fn add_image<F: BufferForm>(
         taps,
         image,
     };
-    let net = image_net(alloc, b, &reader)?;
+    let net = image_net(alloc, b, &reader, tests)?;
     b.law();
     let own = form.add(alloc, plan, image, net, b, turns)?;
     b.law();
@@ -71,17 +74,18 @@ fn add_images<F: BufferForm>(
     plan: &Plan,
     form: &F,
     turns: &mut Turns,
+    tests: &mut FrameTests,
     nets: &mut Vec<Net>,
     taps: &mut Vec<Taps>,
 ) -> Result<(), OutOfMemory>
     requires stencils { AreStencilsOf ir.now plan.now.system.stencils }
     requires turns { AreTurns b.old turns.old }
-    requires built { AreBuilt b.old ir.now plan.now (F.form form.now) 0 nets.old.items taps.old.items }
+    requires built { AreBuiltWith b.old ir.now plan.now (F.form form.now) 0 nets.old.items taps.old.items tests.old }
     ensures enable { OnOk result (b.new.enable ≡ b.old.enable) }
     ensures built { OnOk result (AreBuilt b.new ir.now plan.now (F.form form.now) (length plan.now.system.stencils.images) nets.new.items taps.new.items) }
 {
     for k in 0..plan.images().len() {
-        add_image(alloc, b, ir, plan, form, turns, k, nets, taps)?;
+        add_image(alloc, b, ir, plan, form, turns, tests, k, nets, taps)?;
     }
     Ok(())
 }
@@ -108,8 +112,9 @@ pub fn build_with<F: BufferForm>(
     let mut nets = Vec::new(alloc);
     let mut taps = Vec::new(alloc);
     let mut turns = Turns::new(alloc);
+    let mut tests = no_tests(alloc, plan);
     add_images(
-        alloc, &mut b, ir, plan, form, &mut turns, &mut nets, &mut taps,
+        alloc, &mut b, ir, plan, form, &mut turns, &mut tests, &mut nets, &mut taps,
     )?;
     let built = finished(alloc, b, ir, plan, form, nets, &taps)?;
     Ok(built)

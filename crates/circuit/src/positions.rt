@@ -1,37 +1,31 @@
-// The registers that follow an image's pixels, and tests of these.
+// Tests of the pixels of images, by the module's frame tests.
 
-ghost use Rattle.std.specs.Prelude.{◌≡◌, IfOk, IfSome, OnOk};
-ghost use Rattle.net_build.specs.Counters.{AddsControl};
+ghost use Rattle.std.specs.Prelude.{ℕ, List, IfOk, OnOk};
+ghost use Rattle.wiring.specs.Netlist.{Netlist};
+ghost use Rattle.buffer_plan.specs.Plans.{IsPlan};
+ghost use Rattle.edge_select.specs.FrameTests.{AddsTests, AreFrameTests, IsApart};
 ghost use Rattle.edge_select.specs.Steps.{LeadBy, LeadOn};
 ghost use Rattle.circuit.specs.Taps.{Keeps, size_in};
-ghost use Rattle.circuit.specs.Reads.{HasPosition, IsPixelTest};
+ghost use Rattle.circuit.specs.Reads.{IsPixelTest};
 
 use buffer_plan::Plan;
-use dk_base::OutOfMemory;
-use edge_select::{Extent, Pixel, Step, at, constant_test, leading, leads, position};
+use dk_base::{FrameSize, OutOfMemory};
+use edge_select::{Extent, FrameTests, Step, constant_test, leading};
 use net_build::Builder;
+use std::alloc::Global;
 use wiring::Net;
 
-// The registers of image f, which are made where they are first needed.
-fn pixel_of(
-    b: &mut Builder,
-    plan: &Plan,
-    f: u32,
-    made: &mut Option<Pixel>,
-) -> Result<Pixel, OutOfMemory>
-    requires kept { Keeps plan.now f }
-    requires made { IfSome made.old (HasPosition b.old plan.now f) }
-    ensures adds { OnOk result (AddsControl b.new b.old) }
-    ensures made { OnOk result (IfSome made.new (HasPosition b.new plan.now f)) }
-    ensures pixel { IfOk result (HasPosition b.new plan.now f) }
+// No frame tests, for the frames of a plan.
+pub fn no_tests(alloc: Global, plan: &Plan) -> FrameTests
+    ensures tests { (b : Netlist) → AreFrameTests b (size_in plan.now) result }
+    ensures apart { (copies : List ℕ) → IsApart copies result }
 {
-    if let Some(pixel) = made {
-        return Ok(*pixel);
-    }
     plan.law();
-    let pixel = position(b, plan.delay(f), plan.columns(), plan.rows())?;
-    *made = Some(pixel);
-    Ok(pixel)
+    let size = FrameSize {
+        width: plan.columns(),
+        height: plan.rows(),
+    };
+    FrameTests::new(alloc, size)
 }
 
 // The test that a pixel of image f passes where the steps lead from it to the point that is `dx` columns to the right and `dy` rows down.
@@ -39,19 +33,19 @@ pub fn test_at(
     b: &mut Builder,
     plan: &Plan,
     f: u32,
-    made: &mut Option<Pixel>,
+    tests: &mut FrameTests,
     steps: &[Step],
     dx: i32,
     dy: i32,
 ) -> Result<Net, OutOfMemory>
     requires kept { Keeps plan.now f }
-    requires made { IfSome made.old (HasPosition b.old plan.now f) }
-    ensures adds { OnOk result (AddsControl b.new b.old) }
-    ensures made { OnOk result (IfSome made.new (HasPosition b.new plan.now f)) }
+    requires tests { AreFrameTests b.old (size_in plan.now) tests.old }
+    ensures adds { OnOk result (AddsTests b.new b.old tests.new tests.old) }
+    ensures tests { OnOk result (AreFrameTests b.new (size_in plan.now) tests.new) }
     ensures test { IfOk result (IsPixelTest b.new plan.now f (LeadBy (size_in plan.now) steps.now dx dy)) }
 {
-    let pixel = pixel_of(b, plan, f, made)?;
-    let net = at(b, &pixel, steps, dx, dy)?;
+    let delay = plan.delay(f);
+    let net = tests.at(b, delay, steps, dx, dy)?;
     Ok(net)
 }
 
@@ -60,17 +54,17 @@ fn test_leads(
     b: &mut Builder,
     plan: &Plan,
     f: u32,
-    made: &mut Option<Pixel>,
+    tests: &mut FrameTests,
     steps: &[Step],
 ) -> Result<Net, OutOfMemory>
     requires kept { Keeps plan.now f }
-    requires made { IfSome made.old (HasPosition b.old plan.now f) }
-    ensures adds { OnOk result (AddsControl b.new b.old) }
-    ensures made { OnOk result (IfSome made.new (HasPosition b.new plan.now f)) }
+    requires tests { AreFrameTests b.old (size_in plan.now) tests.old }
+    ensures adds { OnOk result (AddsTests b.new b.old tests.new tests.old) }
+    ensures tests { OnOk result (AreFrameTests b.new (size_in plan.now) tests.new) }
     ensures test { IfOk result (IsPixelTest b.new plan.now f (LeadOn (size_in plan.now) steps.now)) }
 {
-    let pixel = pixel_of(b, plan, f, made)?;
-    let net = leads(b, &pixel, steps)?;
+    let delay = plan.delay(f);
+    let net = tests.leads(b, delay, steps)?;
     Ok(net)
 }
 
@@ -79,13 +73,13 @@ pub fn test_on(
     b: &mut Builder,
     plan: &Plan,
     f: u32,
-    made: &mut Option<Pixel>,
+    tests: &mut FrameTests,
     steps: &[Step],
 ) -> Result<Net, OutOfMemory>
     requires kept { Keeps plan.now f }
-    requires made { IfSome made.old (HasPosition b.old plan.now f) }
-    ensures adds { OnOk result (AddsControl b.new b.old) }
-    ensures made { OnOk result (IfSome made.new (HasPosition b.new plan.now f)) }
+    requires tests { AreFrameTests b.old (size_in plan.now) tests.old }
+    ensures adds { OnOk result (AddsTests b.new b.old tests.new tests.old) }
+    ensures tests { OnOk result (AreFrameTests b.new (size_in plan.now) tests.new) }
     ensures test { IfOk result (IsPixelTest b.new plan.now f (LeadOn (size_in plan.now) steps.now)) }
 {
     plan.law();
@@ -99,7 +93,7 @@ pub fn test_on(
             Ok(net)
         }
         Extent::Sometimes => {
-            let net = test_leads(b, plan, f, made, steps)?;
+            let net = test_leads(b, plan, f, tests, steps)?;
             Ok(net)
         }
     }

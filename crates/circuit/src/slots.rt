@@ -5,8 +5,10 @@ ghost use Rattle.dk_base.specs.declared.TheConstants.{MAX_BUFFER_BITS};
 ghost use Rattle.line_buffer.specs.Places.{Ascend, later, segment_place};
 ghost use Rattle.circuit.specs.Taps.{Keeps};
 ghost use Rattle.buffer_plan.specs.Plans.{depth_of};
-ghost use Rattle.circuit.specs.Forms.{first_array, chain_shapes_of, chain_places, ring_shapes_of, ring_places};
+ghost use Rattle.circuit.specs.Splits.{lists_of};
+ghost use Rattle.circuit.specs.Forms.{first_array, chain_shapes_of, chain_places, block_shapes_of, block_places, ring_shapes_of, ring_places};
 
+use crate::finer::split_of;
 use buffer_plan::Plan;
 
 /// A word of an array of the module, both by their numbers.
@@ -39,6 +41,14 @@ fn chain_arrays(plan: &Plan, image: u32) -> usize
     later_ages(plan.ages(image)).len()
 }
 
+// The same of its chain over proposed ages.
+fn block_arrays(plan: &Plan, proposed: &[Vec<u64>], image: u32) -> usize
+    requires { Keeps plan.now image }
+    ensures { result ≡ length (block_shapes_of (lists_of proposed.now) plan.now image) }
+{
+    later_ages(split_of(plan, proposed, image)).len()
+}
+
 // How many arrays a ring of a kept image has.
 fn ring_arrays(plan: &Plan, image: u32) -> usize
     requires { Keeps plan.now image }
@@ -60,6 +70,20 @@ fn first_of_chain(plan: &Plan, image: u32) -> usize
     let mut first = 0;
     for k in 0..plan.place(image) {
         first += chain_arrays(plan, plan.images()[k].number);
+    }
+    first
+}
+
+// The same of its chain over proposed ages.
+fn first_of_block(plan: &Plan, proposed: &[Vec<u64>], image: u32) -> usize
+    requires { Keeps plan.now image }
+    ensures first { result ≡ first_array (block_shapes_of (lists_of proposed.now)) plan.now image }
+    ensures few { result ≤ MAX_BUFFER_BITS }
+{
+    plan.law();
+    let mut first = 0;
+    for k in 0..plan.place(image) {
+        first += block_arrays(plan, proposed, plan.images()[k].number);
     }
     first
 }
@@ -112,6 +136,23 @@ pub fn chain_slot(plan: &Plan, image: u32, age: u64, clock: u64) -> Slot
     plan.law();
     let first = first_of_chain(plan, image);
     segment_slot(first, 0, later_ages(plan.ages(image)), age, clock)
+}
+
+// The word of an age of an image in its chain over proposed ages.
+pub fn block_slot(plan: &Plan, proposed: &[Vec<u64>], image: u32, age: u64, clock: u64) -> Slot
+    requires { Keeps plan.now image }
+    ensures array { result.array ≡ (block_places (lists_of proposed.now) plan.now image age clock).array }
+    ensures word { result.word ≡ (block_places (lists_of proposed.now) plan.now image age clock).word }
+{
+    plan.law();
+    let first = first_of_block(plan, proposed, image);
+    segment_slot(
+        first,
+        0,
+        later_ages(split_of(plan, proposed, image)),
+        age,
+        clock,
+    )
 }
 
 // The word of an age of an image in its ring.

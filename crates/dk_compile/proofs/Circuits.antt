@@ -24,6 +24,7 @@ module _ (m : Netlist) (p : Program) (plan : Plan) (enable : Bool) where
     copies = is.copies;
     copied = is.copied;
     none = λ e. no_copies m is.copies m.arrays is.copied.widths;
+    splits = [];
     behaves = is.behaves;
     bits = is.bits;
     arrays = arrays;
@@ -33,9 +34,9 @@ module _ (m : Netlist) (p : Program) (plan : Plan) (enable : Bool) where
     apart = apart;
   }
 
-  pub block_circuit : (least : ℕ) (nets : List Net) → HasPorts m p enable → IsWhole m m → RunsOn m → IsModuleOf m p plan (block_form least) nets → m.arrays ≡ shapes_of (block_form least).shapes plan plan.system.stencils.images → HasProperty m (block_form least).property → IsApart m p plan (block_form least) nets → Drives m p plan →
+  pub block_circuit : (least : ℕ) (splits : List (List ℕ)) (nets : List Net) → HasPorts m p enable → IsWhole m m → RunsOn m → IsModuleOf m p plan (block_form least splits) nets → m.arrays ≡ shapes_of (block_form least splits).shapes plan plan.system.stencils.images → HasProperty m (block_form least splits).property → IsApart m p plan (block_form least splits) nets → Drives m p plan →
       IsCircuitOf p plan enable (Some least) m nets
-  block_circuit least nets ports whole runs is arrays once apart drives = record {
+  block_circuit least splits nets ports whole runs is arrays once apart drives = record {
     ports = ports;
     whole = whole;
     runs = runs;
@@ -43,6 +44,7 @@ module _ (m : Netlist) (p : Program) (plan : Plan) (enable : Bool) where
     copies = is.copies;
     copied = is.copied;
     none = λ e. absurd (let f : ⊥ = cc in f);
+    splits = splits;
     behaves = is.behaves;
     bits = is.bits;
     arrays = arrays;

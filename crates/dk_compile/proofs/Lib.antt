@@ -18,3 +18,4 @@ pub mod DrivePictures
 pub mod Rounds
 pub mod Printed
 pub mod Circuits
+pub mod Same

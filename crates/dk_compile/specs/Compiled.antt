@@ -13,7 +13,7 @@ use Rattle.flow_dual.specs.declared.solution.Solution.{Solution}
 use Rattle.flow_dual.specs.Solutions.{IsSolution}
 use Rattle.buffer_plan.specs.Plans.{Plan, IsPlan, bits_of}
 use Rattle.line_buffer.specs.Indices.{IsReadAndPut, is_long, is_direct}
-use Rattle.circuit.specs.Forms.{Form, chain_shapes_of, chain_places, chain_form, block_form, shapes_of}
+use Rattle.circuit.specs.Forms.{Form, chain_form, block_form, shapes_of}
 use Rattle.circuit.specs.Behaviour.{HasPorts, Behaves}
 use Rattle.circuit.specs.Nets.{AreNetsOf, IsApart}
 use Rattle.circuit.specs.Modules.{CopyLongArrays, HasBits, ReadsDirectly}
@@ -29,12 +29,12 @@ pub record IsPlanned (text : List ℕ) (age : ℕ) (p : Typing) (ir : Program) (
   pub plan_is : plan ≡ record { system = system; delays = solution.delays }
   pub within : IsPlan plan
 
--- The form of the buffers: a chain of segments for each buffered image. With a number, the arrays of at least this number of words are long.
-abbrev pub form_with : (block : Option ℕ) → Form
-form_with None = chain_form
-form_with (Some least) = block_form least
+-- The form of the buffers: a chain of segments for each buffered image. With a number, the arrays of at least this number of words are long, and a chain is over the ages that are proposed for it where they make a finer one.
+abbrev pub form_with : (block : Option ℕ) → (splits : List (List ℕ)) → Form
+form_with None splits = chain_form
+form_with (Some least) splits = block_form least splits
 
--- The module of a program under a plan, with a chain of segments for each buffered image. With a number, each array of at least this number of words is read one clock ahead, into a register that copies its word.
+-- The module of a program under a plan, with a chain of segments for each buffered image. With a number, each array of at least this number of words is read one clock ahead, into a register that copies its word, and the segments may be divided further.
 pub record IsCircuitOf (p : Program) (plan : Plan) (enable : Bool) (block : Option ℕ) (m : Netlist) (nets : List Net) : Type 0 where
   pub ports : HasPorts m p enable
   pub whole : IsWhole m m
@@ -46,19 +46,21 @@ pub record IsCircuitOf (p : Program) (plan : Plan) (enable : Bool) (block : Opti
   pub copies : List ℕ
   pub copied : CopyLongArrays m (is_long block) copies
   pub none : block ≡ None → copies ≡ []
+  -- the ages that are proposed for the chain of each kept image, with a number
+  pub splits : List (List ℕ)
   -- and what it does over any clocks, with resets and held clocks at any place
-  pub behaves : Behaves m p plan chain_places copies nets
+  pub behaves : Behaves m p plan (form_with block splits).places copies nets
   -- the arrays have the plan's bits; besides them only copies hold what came in
   pub bits : HasBits m (bits_of plan) copies
-  pub arrays : m.arrays ≡ shapes_of chain_shapes_of plan plan.system.stencils.images
+  pub arrays : m.arrays ≡ shapes_of (form_with block splits).shapes plan plan.system.stencils.images
   -- each array is read once and put once, at one index unless it has a copy
   pub once : (x : ℕ) → x < length m.arrays → IsReadAndPut (is_direct (is_long block) m x) (read_indices m x) (put_indices m x)
   -- the nets are the module's: what the douts show, and what goes into the chains' arrays
-  pub nets_are : AreNetsOf m p plan (form_with block) copies nets
+  pub nets_are : AreNetsOf m p plan (form_with block splits) copies nets
   -- no path of gates leads from an array that has a copy to anything but its copy
-  pub direct : ReadsDirectly m p plan (form_with block) copies nets
+  pub direct : ReadsDirectly m p plan (form_with block splits) copies nets
   -- at an age of at least 1 no path of gates passes through two images
-  pub apart : IsApart m p plan (form_with block) nets
+  pub apart : IsApart m p plan (form_with block splits) nets
 
 -- The names of the module are fixed by its netlist: `dk`, and n0, r0 and m0 on for wires, registers and arrays in order. The text is the layout of the module, and denotes it and no other.
 pub record IsTextOf (m : NamedNetlist) (text : List ℕ) : Type 0 where

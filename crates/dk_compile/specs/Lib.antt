@@ -3,3 +3,5 @@ pub mod Sources
 pub mod Fronts
 pub mod Limits
 pub mod Compiled
+pub mod Cuts
+pub mod Judged

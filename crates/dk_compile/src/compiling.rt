@@ -17,7 +17,7 @@ use crate::fault::SourceError;
 use crate::options::Options;
 use crate::reading::front;
 use buffer_plan::{Plan, PlanFault, plan};
-use circuit::{BlockChain, Built, Chain, build_with, frame_drive_law};
+use circuit::{BlockChain, Built, Chain, build_with, finer_ages, frame_drive_law};
 use dk_base::{OutOfMemory, Stencils};
 use flow_dual::{Solution, solve};
 use netlist::Module;
@@ -123,7 +123,9 @@ fn built(alloc: Global, ir: &Program, plan: &Plan, options: Options) -> Result<B
             Ok(made)
         }
         Some(least) => {
-            let made = build_with(alloc, ir, plan, &BlockChain::new(least), asked)?;
+            let splits = finer_ages(alloc, plan, least)?;
+            let form = BlockChain::new(least, splits);
+            let made = build_with(alloc, ir, plan, &form, asked)?;
             Ok(made)
         }
     }

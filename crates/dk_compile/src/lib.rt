@@ -3,6 +3,7 @@
 
 mod accepted;
 mod compiling;
+mod cutting;
 mod fault;
 mod laws;
 mod options;
@@ -10,6 +11,7 @@ mod reading;
 
 pub use accepted::Front;
 pub use compiling::{Compiled, PlannedProgram, compile, compile_with, planned};
+pub use cutting::{CutText, cut};
 pub use fault::SourceError;
 pub use laws::{drive_shows_law, one_at_age_law, one_source_law};
 pub use options::Options;

@@ -3,7 +3,7 @@ use Rattle.std.proofs.Common.{◌≡◌, ◌⊎◌, inl, inr, ℕ, List, Option,
 use Rattle.std.proofs.Math.Seq.{take-length}
 use Rattle.dk_desk.specs.Outside.{Outside, Created}
 use Rattle.dk_desk.specs.Calls.{IsIfTold, grown}
-use Rattle.program_cuts.specs.Cuts.{IsCutOf, HasMeasures}
+use Rattle.dk_compile.specs.Cuts.{IsCutOf, HasMeasures}
 use Rattle.dk_endings.specs.declared.ending.Ending.TheVariants as ending
 use Rattle.dk_top.specs.Cutting.{cut_line, IsLineOfHeld}
 use Rattle.dk_top.specs.Verdict.{Files, bytes_of}

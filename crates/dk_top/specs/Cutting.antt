@@ -1,7 +1,7 @@
 -- The line that `cut` writes to Report, of the text that File holds.
 use Rattle.std.specs.Prelude.{◌≡◌, ℕ, List, ◌++◌, Option, Some, codes, decimal}
 use Rattle.dk_desk.specs.Calls.{IsIfTold}
-use Rattle.program_cuts.specs.Cuts.{IsCutOf, HasMeasures}
+use Rattle.dk_compile.specs.Cuts.{IsCutOf, HasMeasures}
 
 -- the line of a text that was cut: its definitions, and the most levels of operators of a body
 abbrev pub cut_line : (definitions levels : ℕ) → List ℕ

@@ -304,10 +304,10 @@ in_from side first x low high =
           ]
     ]
 
-within_in : (side : ℕ) (i : Interval) (x : ℕ) → x < side → IsTrue (is_within side i.first i.last x) → IsIn i x
+pub within_in : (side : ℕ) (i : Interval) (x : ℕ) → x < side → IsTrue (is_within side i.first i.last x) → IsIn i x
 within_in side i x low h = let p = and_parts (is_from side i.first x) (is_up_to side i.last x) h in record { first = from_in side i.first x p.0; last = up_to_in side i.last x low p.1 }
 
-in_within : (side : ℕ) (i : Interval) (x : ℕ) → x < side → IsIn i x → IsTrue (is_within side i.first i.last x)
+pub in_within : (side : ℕ) (i : Interval) (x : ℕ) → x < side → IsIn i x → IsTrue (is_within side i.first i.last x)
 in_within side i x low is = and_true (is_from side i.first x) (is_up_to side i.last x) (in_from side i.first x low is.first) (in_up_to side i.last x is.last)
 
 -- a pixel is in the rectangle

@@ -6,3 +6,10 @@ pub mod Following
 pub mod Registering
 pub mod Combining
 pub mod Stepping
+pub mod Shifts
+pub mod Moving
+pub mod Testing
+pub mod Beside
+pub mod Framed
+pub mod Inverting
+pub mod Made

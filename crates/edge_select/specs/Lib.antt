@@ -2,4 +2,6 @@ pub mod Steps
 pub mod Logic
 pub mod Passes
 pub mod Pixels
+pub mod Bands
 pub mod Counters
+pub mod FrameTests

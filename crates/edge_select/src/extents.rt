@@ -23,7 +23,7 @@ pub enum Extent {
 }
 
 // Whether the interval has all coordinates of a side.
-fn is_whole(interval: Interval, side: u32) -> bool
+pub fn is_whole(interval: Interval, side: u32) -> bool
     requires { IsInterval side interval }
     ensures { IsTrue result ↔ (interval.first ≡ 0) × (side ≤ interval.last + 1) }
 {

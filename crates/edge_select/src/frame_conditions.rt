@@ -121,7 +121,11 @@ fn at_most(
 }
 
 // The test that passes where both do.
-fn both(b: &mut Builder, one: Option<Net>, other: Option<Net>) -> Result<Option<Net>, OutOfMemory>
+pub fn both(
+    b: &mut Builder,
+    one: Option<Net>,
+    other: Option<Net>,
+) -> Result<Option<Net>, OutOfMemory>
     requires one { IsBit b.old one }
     requires other { IsBit b.old other }
     ensures logic { AddsLogic b.new b.old }
@@ -143,7 +147,7 @@ fn both(b: &mut Builder, one: Option<Net>, other: Option<Net>) -> Result<Option<
 }
 
 // The test that a coordinate is in the interval, or None where each of the side is.
-fn within(
+pub fn within(
     b: &mut Builder,
     x: Net,
     side: u32,
@@ -174,7 +178,7 @@ pub fn constant_test(b: &mut Builder, passes: bool) -> Result<Net, OutOfMemory>
 }
 
 // The net of a test.
-fn test_net(b: &mut Builder, test: Option<Net>) -> Result<Net, OutOfMemory>
+pub fn test_net(b: &mut Builder, test: Option<Net>) -> Result<Net, OutOfMemory>
     ensures logic { AddsLogic b.new b.old }
     ensures net { IfOk result (IsTestNet b.new b.old test) }
 {

@@ -3,8 +3,8 @@
 ghost use Rattle.dk_base.specs.Frames.{IsFrame};
 
 use crate::digits::digits;
-use dk_base::OutOfMemory;
-use edge_select::{Extent, Step, at, inside, leading, passing, position};
+use dk_base::{FrameSize, OutOfMemory};
+use edge_select::{Extent, FrameTests, Step, at, inside, leading, passing, position};
 use net_build::Builder;
 use netlist::Module;
 use pointwise_ir::Edge;
@@ -51,6 +51,21 @@ fn steps_at(alloc: Global, steps: &[Step], dx: i32, dy: i32) -> Result<Module, O
     Ok(module)
 }
 
+// The test that a step leads somewhere from the pixel of `delay` clocks before, in frames of 3 by 2.
+fn step_leads(alloc: Global, delay: u64, step: Step) -> Result<Module, OutOfMemory> {
+    let mut b = Builder::with_enable(alloc, 1, 1)?;
+    let size = FrameSize {
+        width: 3,
+        height: 2,
+    };
+    let mut tests = FrameTests::new(alloc, size);
+    let steps = [step];
+    let test = tests.leads(&mut b, delay, &steps)?;
+    let valid = b.rst();
+    let module = b.finish(valid, test)?;
+    Ok(module)
+}
+
 fn column_digits(alloc: Global, delay: u64, clocks: &[u8]) -> Result<u64, OutOfMemory> {
     let module = columns(alloc, delay)?;
     let all = digits(alloc, &module, clocks)?;
@@ -87,6 +102,12 @@ fn at_digits(
     let steps = [first, second];
     let module = steps_at(alloc, &steps, dx, dy)?;
     let all = digits(alloc, &module, b"......")?;
+    Ok(all)
+}
+
+fn leads_digits(alloc: Global, delay: u64, step: Step, clocks: &[u8]) -> Result<u64, OutOfMemory> {
+    let module = step_leads(alloc, delay, step)?;
+    let all = digits(alloc, &module, clocks)?;
     Ok(all)
 }
 
@@ -151,4 +172,33 @@ fn how_many_pixels_steps_lead(rt: HostRuntime) {
     assert_eq!(rt; leading(3, 1, &[clamped(3, 0)]), Extent::Always);
     assert_eq!(rt; leading(3, 1, &[unclamped(2, 0)]), Extent::Sometimes);
     assert_eq!(rt; leading(3, 1, &[unclamped(3, 0)]), Extent::Never);
+}
+
+#[test]
+fn tests_follow_delays(rt: HostRuntime) -> Result<(), Fail> {
+    let alloc = rt.alloc();
+    let right = unclamped(1, 0);
+    let down = unclamped(0, 1);
+    // columns 0, 1, 2, .. pass, pass, fail; the digits before the delay are of no pixel
+    assert_eq!(rt;
+        leads_digits(alloc, 0, right, b".......")? % 10_000_000,
+        1_101_101
+    );
+    assert_eq!(rt;
+        leads_digits(alloc, 1, right, b".......")? % 1_000_000,
+        110_110
+    );
+    assert_eq!(rt; leads_digits(alloc, 4, right, b".......")? % 1_000, 110);
+    // row 0 passes, row 1 fails
+    assert_eq!(rt;
+        leads_digits(alloc, 4, down, b"..........")? % 1_000_000,
+        111_000
+    );
+    assert_eq!(rt;
+        leads_digits(alloc, 7, down, b".............")? % 1_000_000,
+        111_000
+    );
+    // a reset clock after two clocks, and a held clock after one
+    assert_eq!(rt; leads_digits(alloc, 1, right, b"..r.h...")? % 10_000, 1_110);
+    Ok(())
 }

@@ -2,7 +2,7 @@
 
 ghost use Rattle.std.specs.Prelude.{◌≡◌, ◌≢◌, ◌⊎◌, ◌+◌, ◌≤◌, ◌++◌, Some, Err, IfOk, IfErr, IfSome, OnOk, OnErr, IsErr, length, decimal};
 ghost use Rattle.dk_desk.specs.Calls.{HasCauseIn, IsIfTold, OpensOnly, grown};
-ghost use Rattle.program_cuts.specs.Cuts.{IsCutOf, HasMeasures};
+ghost use Rattle.dk_compile.specs.Cuts.{IsCutOf, HasMeasures};
 ghost use Rattle.dk_compile.specs.Limits.{IsFaultAt};
 ghost use Rattle.dk_top.specs.Command.{cut as cut_command};
 ghost use Rattle.dk_top.specs.Program.{CanBeCompiled};
@@ -13,11 +13,11 @@ ghost use Rattle.dk_top.specs.State.{LeavesText, IsPrefix, OthersStay};
 use crate::files::{write_file, write_report};
 use crate::reading::{ending_of, read_text};
 use crate::work::Work;
+use dk_compile::{CutText, cut};
 use dk_desk::{Desk, Failed, InSlot, Stage};
 use dk_endings::{Ending, Line};
 use dk_words::CutWords;
 use itoa::Buffer;
-use program_cuts::{CutText, cut};
 use std::alloc::Global;
 
 // What a text is cut to.

@@ -3,27 +3,26 @@ use Rattle.std.proofs.lemmas.List.{take_more, take_all}
 use Rattle.dk_base.specs.declared.stencils.LiveRead.{LiveRead}
 use Rattle.dk_base.specs.Types.{width_of}
 use Rattle.net_build.proofs.Parts.{Includes-refl, includes_on}
-use Rattle.net_build.proofs.Starting.{control_on}
 use Rattle.circuit.specs.Rounds.{type_at}
 use Rattle.circuit.specs.Leaves.{leaf_at}
 use Rattle.circuit.specs.Reads.{IsChoice}
 use Rattle.circuit.proofs.Lasting.{reading_more}
-use Rattle.circuit.proofs.Placing.{control_none}
+use Rattle.circuit.proofs.Placing.{tests_none, tests_on}
 use Rattle.circuit.proofs.Choosing.{choice_none}
 use Rattle.circuit.proofs.choices.choice_of.Goals as goal
 
 pub loop-read-init : goal.loop-read-init
 loop-read-init c =
     let r = c.args.reader.now in
-    record { adds = control_none c.args.b.now; made = c.requires.made; choice = λ first inc. choice_none c.args.b.now first r.plan.now r.taps.now r.image (leaf_at c.args.g c.args.steps.now) (width_of (type_at r.ir.now c.args.g)) }
+    record { adds = tests_none c.args.b.now c.args.tests.now; tests = c.requires.tests; choice = λ first inc. choice_none c.args.b.now first r.plan.now r.taps.now r.image (leaf_at c.args.g c.args.steps.now) (width_of (type_at r.ir.now c.args.g)) }
 
 pub with_read-requires-clause-reading : goal.with_read-requires-clause-reading
 with_read-requires-clause-reading c =
     let r = c.args.reader.now in
     reading_more c.loop-read.b c.args.b.now c.loop-read.invariant.adds.includes r.ir.now r.plan.now r.taps.now r.image c.requires.reading
 
-pub with_read-requires-clause-made : goal.with_read-requires-clause-made
-with_read-requires-clause-made c = c.loop-read.invariant.made
+pub with_read-requires-clause-tests : goal.with_read-requires-clause-tests
+with_read-requires-clause-tests c = c.loop-read.invariant.tests
 
 pub with_read-requires-clause-before : goal.with_read-requires-clause-before
 with_read-requires-clause-before c = (c.loop-read.invariant.choice c.args.b.now (Includes-refl c.args.b.now)).there
@@ -37,8 +36,8 @@ loop-read-preserved c =
     let items = c.reads-read-items.result.now in
     let i = c.loop-read.read-index in
     record {
-      adds = control_on c.args.b.now c.loop-read.b c.with_read.new.b c.loop-read.invariant.adds c.in_ok-choice.ensures.adds;
-      made = c.in_ok-choice.ensures.made;
+      adds = tests_on c.args.b.now c.loop-read.b c.with_read.new.b c.args.tests.now c.loop-read.tests c.with_read.new.tests c.loop-read.invariant.adds c.in_ok-choice.ensures.adds;
+      tests = c.in_ok-choice.ensures.tests;
       choice = λ first inc.
           subst (λ (rs : List LiveRead). IsChoice c.with_read.new.b first r.plan.now r.taps.now r.image rs (leaf_at c.args.g c.args.steps.now) (width_of (type_at r.ir.now c.args.g)) c.in_ok-choice.choice) (sym (take_more items i _ c.loop-read-test.true))
           (c.in_ok-choice.ensures.choice first (take i items) (includes_on first c.args.b.now c.loop-read.b inc c.loop-read.invariant.adds.includes) (c.loop-read.invariant.choice first inc));
@@ -47,8 +46,8 @@ loop-read-preserved c =
 pub returns-clause-adds : goal.returns-clause-adds
 returns-clause-adds c = c.loop-read.invariant.adds
 
-pub returns-clause-made : goal.returns-clause-made
-returns-clause-made c = c.loop-read.invariant.made
+pub returns-clause-tests : goal.returns-clause-tests
+returns-clause-tests c = c.loop-read.invariant.tests
 
 pub returns-clause-choice : goal.returns-clause-choice
 returns-clause-choice c first inc =

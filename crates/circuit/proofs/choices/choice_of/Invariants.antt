@@ -1,17 +1,17 @@
 use Rattle.std.proofs.Common.{take}
-use Rattle.std.specs.Prelude.{IfSome}
 use Rattle.dk_base.specs.Types.{width_of}
 use Rattle.wiring.specs.Netlist.{Netlist}
 use Rattle.net_build.specs.Includes.{Includes}
-use Rattle.net_build.specs.Counters.{AddsControl}
+use Rattle.edge_select.specs.FrameTests.{AddsTests, AreFrameTests}
 use Rattle.circuit.specs.Rounds.{type_at}
 use Rattle.circuit.specs.Leaves.{leaf_at}
-use Rattle.circuit.specs.Reads.{HasPosition, IsChoice}
+use Rattle.circuit.specs.Taps.{size_in}
+use Rattle.circuit.specs.Reads.{IsChoice}
 use Rattle.circuit.proofs.choices.choice_of.Given as goal
 
 abbrev pub invariant-loop-read : goal.invariant-loop-read
 invariant-loop-read l = record {
-  adds : AddsControl l.b l.fn.b;
-  made : IfSome l.made (HasPosition l.b l.reader.plan.now l.reader.image);
+  adds : AddsTests l.b l.fn.b l.tests l.fn.tests;
+  tests : AreFrameTests l.b (size_in l.reader.plan.now) l.tests;
   choice : (first : Netlist) → Includes l.fn.b first → IsChoice l.b first l.reader.plan.now l.reader.taps.now l.reader.image (take l.read-index l.read-items) (leaf_at l.g l.steps) (width_of (type_at l.reader.ir.now l.g)) l.choice;
 }

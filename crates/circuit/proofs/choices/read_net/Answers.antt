@@ -6,8 +6,9 @@ use Rattle.wiring.specs.Sizes.{IsWidth}
 use Rattle.circuit.specs.Rounds.{type_at}
 use Rattle.circuit.specs.Leaves.{leaf_at}
 use Rattle.circuit.specs.Reads.{IsNetOf, IsReadNet}
-use Rattle.circuit.proofs.Placing.{control_logic}
-use Rattle.circuit.proofs.Lasting.{positions_more}
+use Rattle.circuit.proofs.Placing.{tests_logic}
+use Rattle.edge_select.proofs.Framed.{tests_more}
+use Rattle.circuit.specs.Taps.{size_in}
 use Rattle.circuit.proofs.Taking.{chosen_is_read, type_wide}
 use Rattle.circuit.proofs.Typing.{type_is}
 use Rattle.circuit.proofs.choices.read_net.Goals as goal
@@ -19,10 +20,10 @@ net_of-requires c =
     record { bits = subst IsWidth (sym (c.width.ensures ∙ ap width_of (type_is r.ir.now c.args.g c.type_of-ty.result c.type_of-ty.ensures))) (type_wide r.ir.now c.law.ensures c.args.g there) }
 
 pub returns-clause-adds : goal.returns-clause-adds
-returns-clause-adds c = control_logic c.net_of.new.b c.choice_of.new.b c.args.b.now c.in_ok-choice.ensures.adds c.in_ok-net.ensures.logic
+returns-clause-adds c = tests_logic c.net_of.new.b c.choice_of.new.b c.args.b.now c.choice_of.new.tests c.args.tests.now c.in_ok-choice.ensures.adds c.in_ok-net.ensures.logic
 
-pub returns-clause-made : goal.returns-clause-made
-returns-clause-made c = positions_more c.net_of.new.b c.choice_of.new.b c.in_ok-net.ensures.logic.includes c.args.reader.now.plan.now c.args.reader.now.image c.choice_of.new.made c.in_ok-choice.ensures.made
+pub returns-clause-tests : goal.returns-clause-tests
+returns-clause-tests c = tests_more c.net_of.new.b c.choice_of.new.b (size_in c.args.reader.now.plan.now) c.choice_of.new.tests c.in_ok-net.ensures.logic.includes c.in_ok-choice.ensures.tests
 
 pub returns-clause-ty : goal.returns-clause-ty
 returns-clause-ty c = type_is c.args.reader.now.ir.now c.args.g c.type_of-ty.result c.type_of-ty.ensures

@@ -2,12 +2,12 @@ use Rattle.std.proofs.Common.{ℕ, subst}
 use Rattle.circuit.specs.Leaves.{leaf_at}
 use Rattle.circuit.specs.Reads.{ChoosesAlso}
 use Rattle.circuit.specs.Taps.{size_in}
-use Rattle.circuit.proofs.Placing.{control_none, columns_below, rows_below}
+use Rattle.circuit.proofs.Placing.{tests_none, columns_below, rows_below}
 use Rattle.circuit.proofs.Choosing.{choice_kept, choice_other}
 use Rattle.circuit.proofs.choices.with_read.Goals as goal
 
 pub returns-then-read-g-clause-adds : goal.returns-then-read-g-clause-adds
-returns-then-read-g-clause-adds c = control_none c.args.b.now
+returns-then-read-g-clause-adds c = tests_none c.args.b.now c.args.tests.now
 
 pub returns-then-read-g-clause-choice : goal.returns-then-read-g-clause-choice
 returns-then-read-g-clause-choice c first reads inc before =
@@ -15,7 +15,7 @@ returns-then-read-g-clause-choice c first reads inc before =
     choice_other c.args.b.now first r.plan.now r.taps.now r.image reads c.args.read (leaf_at c.args.g c.args.steps.now) _ c.args.before c.if-read-g.true before
 
 pub returns-then-misses-clause-adds : goal.returns-then-misses-clause-adds
-returns-then-misses-clause-adds c = control_none c.args.b.now
+returns-then-misses-clause-adds c = tests_none c.args.b.now c.args.tests.now
 
 pub returns-then-misses-clause-choice : goal.returns-then-misses-clause-choice
 returns-then-misses-clause-choice c first reads inc before =

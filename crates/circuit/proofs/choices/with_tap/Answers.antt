@@ -10,8 +10,8 @@ use Rattle.net_build.proofs.Grown.{net_more, width_more}
 use Rattle.circuit.specs.Taps.{size_in}
 use Rattle.circuit.specs.Reads.{IsPixelTest, chosen_by, choice_nets}
 use Rattle.circuit.specs.Leaves.{leaf_at}
-use Rattle.circuit.proofs.Lasting.{positions_more}
-use Rattle.circuit.proofs.Placing.{control_none, control_logic, columns_below, rows_below}
+use Rattle.edge_select.proofs.Framed.{tests_more}
+use Rattle.circuit.proofs.Placing.{tests_none, tests_logic, columns_below, rows_below}
 use Rattle.circuit.proofs.Choosing.{choice_kept, choice_taken, choice_tested}
 use Rattle.circuit.proofs.Taking.{own_read, chosen_net_more, chosen_width_more}
 use Rattle.circuit.proofs.choices.with_tap.Goals as goal
@@ -71,7 +71,7 @@ chosen_by-requires-clause-before_width c =
     (chosen_width_more c.test_at.new.b c.args.b.now c.args.before _ c.in_ok-test-in-Sometimes.ensures.adds.includes c.requires.before c.requires.before_width)
 
 pub returns-in-Never-clause-adds : goal.returns-in-Never-clause-adds
-returns-in-Never-clause-adds c = control_none c.args.b.now
+returns-in-Never-clause-adds c = tests_none c.args.b.now c.args.tests.now
 
 pub returns-in-Never-clause-choice : goal.returns-in-Never-clause-choice
 returns-in-Never-clause-choice c first reads inc before =
@@ -86,7 +86,7 @@ returns-in-Never-clause-choice c first reads inc before =
     choice_kept c.args.b.now first plan r.taps.now r.image reads c.args.read (leaf_at c.args.read.g c.args.steps.now) _ c.args.before (λ x y wide high same. here x y wide high) (columns_below plan c.law.ensures) (rows_below plan c.law.ensures) before
 
 pub returns-in-Always-clause-adds : goal.returns-in-Always-clause-adds
-returns-in-Always-clause-adds c = control_none c.args.b.now
+returns-in-Always-clause-adds c = tests_none c.args.b.now c.args.tests.now
 
 pub returns-in-Always-clause-choice : goal.returns-in-Always-clause-choice
 returns-in-Always-clause-choice c first reads inc before =
@@ -103,10 +103,10 @@ returns-in-Always-clause-choice c first reads inc before =
     (own.net c.tap_of-tap.result c.tap_of-tap.ensures) (own.width c.tap_of-tap.result c.tap_of-tap.ensures) inc
 
 pub returns-in_ok-net-in-Sometimes-clause-adds : goal.returns-in_ok-net-in-Sometimes-clause-adds
-returns-in_ok-net-in-Sometimes-clause-adds c = control_logic c.chosen_by.new.b c.test_at.new.b c.args.b.now c.in_ok-test-in-Sometimes.ensures.adds c.in_ok-net-in-Sometimes.ensures.logic
+returns-in_ok-net-in-Sometimes-clause-adds c = tests_logic c.chosen_by.new.b c.test_at.new.b c.args.b.now c.test_at.new.tests c.args.tests.now c.in_ok-test-in-Sometimes.ensures.adds c.in_ok-net-in-Sometimes.ensures.logic
 
-pub returns-in_ok-net-in-Sometimes-clause-made : goal.returns-in_ok-net-in-Sometimes-clause-made
-returns-in_ok-net-in-Sometimes-clause-made c = positions_more c.chosen_by.new.b c.test_at.new.b c.in_ok-net-in-Sometimes.ensures.logic.includes c.args.reader.now.plan.now c.args.reader.now.image c.test_at.new.made c.in_ok-test-in-Sometimes.ensures.made
+pub returns-in_ok-net-in-Sometimes-clause-tests : goal.returns-in_ok-net-in-Sometimes-clause-tests
+returns-in_ok-net-in-Sometimes-clause-tests c = tests_more c.chosen_by.new.b c.test_at.new.b (size_in c.args.reader.now.plan.now) c.test_at.new.tests c.in_ok-net-in-Sometimes.ensures.logic.includes c.in_ok-test-in-Sometimes.ensures.tests
 
 pub returns-in_ok-net-in-Sometimes-clause-choice : goal.returns-in_ok-net-in-Sometimes-clause-choice
 returns-in_ok-net-in-Sometimes-clause-choice c first reads inc before =

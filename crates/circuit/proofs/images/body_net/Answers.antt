@@ -1,5 +1,7 @@
 use Rattle.pointwise_ir.specs.Trees.{tree_of}
-use Rattle.circuit.proofs.Placing.{control_logic}
+use Rattle.edge_select.proofs.Framed.{tests_more}
+use Rattle.circuit.specs.Taps.{size_in}
+use Rattle.circuit.proofs.Placing.{tests_logic}
 use Rattle.circuit.proofs.Imaging.{body_before, are_leaves, has_leaves, image_net_is, first_leaves}
 use Rattle.circuit.proofs.images.body_net.Goals as goal
 
@@ -21,10 +23,13 @@ lower-requires-clause-leaves c =
     (first_leaves c.push_leaves.new.b c.args.b.now r.ir.now r.plan.now r.taps.now r.image (tree_of c.args.body.now) c.new-steps.result.items c.push_leaves.new.leaves c.new-leaves.result c.new-steps.ensures.items c.new-leaves.ensures.reads c.new-leaves.ensures.bits c.new-leaves.ensures.known c.in_ok-push_leaves.ensures.leaves)
 
 pub returns-clause-adds : goal.returns-clause-adds
-returns-clause-adds c = control_logic c.lower.new.b c.push_leaves.new.b c.args.b.now c.in_ok-push_leaves.ensures.adds c.lower.ensures.grows
+returns-clause-adds c = tests_logic c.lower.new.b c.push_leaves.new.b c.args.b.now c.push_leaves.new.tests c.args.tests.now c.in_ok-push_leaves.ensures.adds c.lower.ensures.grows
 
 pub returns-clause-net : goal.returns-clause-net
 returns-clause-net c =
     let r = c.args.reader.now in
     image_net_is c.push_leaves.new.b c.args.b.now r.ir.now r.plan.now r.taps.now r.image (tree_of c.args.body.now) c.push_leaves.new.leaves.nets.reads.items c.push_leaves.new.leaves.nets.bits.items c.law.ensures c.law-2.ensures c.requires.reading c.requires.body
     (first_leaves c.push_leaves.new.b c.args.b.now r.ir.now r.plan.now r.taps.now r.image (tree_of c.args.body.now) c.new-steps.result.items c.push_leaves.new.leaves c.new-leaves.result c.new-steps.ensures.items c.new-leaves.ensures.reads c.new-leaves.ensures.bits c.new-leaves.ensures.known c.in_ok-push_leaves.ensures.leaves) c.lower.new.b c.in_ok-net.net c.lower.ensures.grows.includes c.in_ok-push_leaves.ensures.adds.includes c.in_ok-net.ensures.value c.in_ok-net.ensures.made
+
+pub returns-clause-tests : goal.returns-clause-tests
+returns-clause-tests c = tests_more c.lower.new.b c.push_leaves.new.b (size_in c.args.reader.now.plan.now) c.push_leaves.new.tests c.lower.ensures.grows.includes c.in_ok-push_leaves.ensures.tests

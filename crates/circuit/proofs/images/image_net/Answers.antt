@@ -1,10 +1,10 @@
 use Rattle.std.proofs.Common.{◌<◌, length, ap, arith}
-use Rattle.circuit.proofs.Placing.{control_none}
+use Rattle.circuit.proofs.Placing.{tests_none}
 use Rattle.circuit.proofs.Imaging.{input_net_is, body_at}
 use Rattle.circuit.proofs.images.image_net.Goals as goal
 
 pub returns-then-place-inputs-clause-adds : goal.returns-then-place-inputs-clause-adds
-returns-then-place-inputs-clause-adds c = control_none c.args.b.now
+returns-then-place-inputs-clause-adds c = tests_none c.args.b.now c.args.tests.now
 
 pub returns-then-place-inputs-clause-net : goal.returns-then-place-inputs-clause-net
 returns-then-place-inputs-clause-net c =

@@ -5,12 +5,11 @@ use Rattle.pointwise_ir.specs.declared.expr.Edge.{Edge}
 use Rattle.pointwise_ir.specs.Trees.{Tree, tree_of, shifted, binary, select}
 use Rattle.edge_select.specs.declared.step.Step.{Step}
 use Rattle.net_build.proofs.Parts.{Includes-trans}
-use Rattle.net_build.proofs.Starting.{control_on}
 use Rattle.circuit.specs.Leaves.{reads_of, bits_of, own_bit, with_step}
 use Rattle.circuit.specs.Reads.{AddsLeaves}
 use Rattle.circuit.proofs.Lasting.{reading_more}
 use Rattle.circuit.proofs.Leafing.{leaves_on}
-use Rattle.circuit.proofs.Placing.{control_none}
+use Rattle.circuit.proofs.Placing.{tests_none, tests_on}
 use Rattle.circuit.proofs.leaves.«+push_leaves».Goals as goal
 
 -- a step whose offsets are stored and read back
@@ -39,11 +38,11 @@ still_law-requires-in-Select-2 t c =
     (reading_more c.push_leaves-in-Select.new.b c.args.b.now c.in_ok-push_leaves-in-Select.ensures.adds.includes r.ir.now r.plan.now r.taps.now r.image c.requires.reading)
 
 pub returns-in-Constant-clause-adds : goal.returns-in-Constant-clause-adds
-returns-in-Constant-clause-adds t c = control_none c.args.b.now
+returns-in-Constant-clause-adds t c = tests_none c.args.b.now c.args.tests.now
 
 pub returns-in_ok-push_leaves-in-Shifted-clause-adds :
     goal.returns-in_ok-push_leaves-in-Shifted-clause-adds
-returns-in_ok-push_leaves-in-Shifted-clause-adds t c = control_on c.args.b.now c.push_test.new.b c.push_leaves.new.b c.in_ok-push_test-in-Shifted.ensures.adds c.in_ok-push_leaves-in-Shifted.ensures.adds
+returns-in_ok-push_leaves-in-Shifted-clause-adds t c = tests_on c.args.b.now c.push_test.new.b c.push_leaves.new.b c.args.tests.now c.push_test.new.tests c.push_leaves.new.tests c.in_ok-push_test-in-Shifted.ensures.adds c.in_ok-push_leaves-in-Shifted.ensures.adds
 
 pub returns-in_ok-push_leaves-in-Shifted-clause-leaves :
     goal.returns-in_ok-push_leaves-in-Shifted-clause-leaves
@@ -74,7 +73,7 @@ returns-in_ok-push_leaves-in-Shifted-clause-leaves t c =
 
 pub returns-in_ok-push_leaves-in-Binary-2-clause-adds :
     goal.returns-in_ok-push_leaves-in-Binary-2-clause-adds
-returns-in_ok-push_leaves-in-Binary-2-clause-adds t c = control_on c.args.b.now c.push_leaves-in-Binary.new.b c.push_leaves-in-Binary-2.new.b c.in_ok-push_leaves-in-Binary.ensures.adds c.in_ok-push_leaves-in-Binary-2.ensures.adds
+returns-in_ok-push_leaves-in-Binary-2-clause-adds t c = tests_on c.args.b.now c.push_leaves-in-Binary.new.b c.push_leaves-in-Binary-2.new.b c.args.tests.now c.push_leaves-in-Binary.new.tests c.push_leaves-in-Binary-2.new.tests c.in_ok-push_leaves-in-Binary.ensures.adds c.in_ok-push_leaves-in-Binary-2.ensures.adds
 
 pub returns-in_ok-push_leaves-in-Binary-2-clause-leaves :
     goal.returns-in_ok-push_leaves-in-Binary-2-clause-leaves
@@ -102,8 +101,8 @@ returns-in_ok-push_leaves-in-Binary-2-clause-leaves t c =
 pub returns-in_ok-push_leaves-in-Select-3-clause-adds :
     goal.returns-in_ok-push_leaves-in-Select-3-clause-adds
 returns-in_ok-push_leaves-in-Select-3-clause-adds t c =
-    control_on c.args.b.now c.push_leaves-in-Select-2.new.b c.push_leaves-in-Select-3.new.b
-    (control_on c.args.b.now c.push_leaves-in-Select.new.b c.push_leaves-in-Select-2.new.b c.in_ok-push_leaves-in-Select.ensures.adds c.in_ok-push_leaves-in-Select-2.ensures.adds) c.in_ok-push_leaves-in-Select-3.ensures.adds
+    tests_on c.args.b.now c.push_leaves-in-Select-2.new.b c.push_leaves-in-Select-3.new.b c.args.tests.now c.push_leaves-in-Select-2.new.tests c.push_leaves-in-Select-3.new.tests
+    (tests_on c.args.b.now c.push_leaves-in-Select.new.b c.push_leaves-in-Select-2.new.b c.args.tests.now c.push_leaves-in-Select.new.tests c.push_leaves-in-Select-2.new.tests c.in_ok-push_leaves-in-Select.ensures.adds c.in_ok-push_leaves-in-Select-2.ensures.adds) c.in_ok-push_leaves-in-Select-3.ensures.adds
 
 pub returns-in_ok-push_leaves-in-Select-3-clause-leaves :
     goal.returns-in_ok-push_leaves-in-Select-3-clause-leaves

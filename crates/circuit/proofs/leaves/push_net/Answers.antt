@@ -3,11 +3,11 @@ use Rattle.circuit.specs.declared.known.BodyLeaves.{BodyLeaves}
 use Rattle.circuit.specs.Leaves.{LeafRead, leaf_at}
 use Rattle.circuit.specs.Known.{IsKnownNet}
 use Rattle.circuit.proofs.Leafing.{leaves_known}
-use Rattle.circuit.proofs.Placing.{control_none}
+use Rattle.circuit.proofs.Placing.{tests_none}
 use Rattle.circuit.proofs.leaves.push_net.Goals as goal
 
 pub returns-in_ok-push-in-Some-clause-adds : goal.returns-in_ok-push-in-Some-clause-adds
-returns-in_ok-push-in-Some-clause-adds c = control_none c.args.b.now
+returns-in_ok-push-in-Some-clause-adds c = tests_none c.args.b.now c.args.tests.now
 
 pub returns-in_ok-push-in-Some-clause-leaves : goal.returns-in_ok-push-in-Some-clause-leaves
 returns-in_ok-push-in-Some-clause-leaves c =

@@ -4,11 +4,11 @@ use Rattle.circuit.specs.declared.known.BodyLeaves.{BodyLeaves}
 use Rattle.circuit.specs.Leaves.{own_bit}
 use Rattle.circuit.specs.Reads.{AddsLeaves}
 use Rattle.circuit.proofs.Leafing.{leaves_bit}
-use Rattle.circuit.proofs.Placing.{control_none}
+use Rattle.circuit.proofs.Placing.{tests_none}
 use Rattle.circuit.proofs.leaves.push_test.Goals as goal
 
 pub returns-in-Clamp-clause-adds : goal.returns-in-Clamp-clause-adds
-returns-in-Clamp-clause-adds c = control_none c.args.b.now
+returns-in-Clamp-clause-adds c = tests_none c.args.b.now c.args.tests.now
 
 pub returns-in_ok-push-in-Zero-clause-leaves : goal.returns-in_ok-push-in-Zero-clause-leaves
 returns-in_ok-push-in-Zero-clause-leaves c =

@@ -1,11 +1,11 @@
 use Rattle.std.proofs.Common.{◌≡◌}
 use Rattle.line_buffer.specs.SharedCounters.{AreTurns}
-use Rattle.circuit.specs.Images.{AreBuilt}
+use Rattle.circuit.specs.Images.{AreBuiltWith}
 use Rattle.circuit.proofs.making.add_images.Given as goal
 
 abbrev pub invariant-loop-k : goal.invariant-loop-k
 invariant-loop-k g l = record {
   enable : l.b.enable ≡ l.fn.b.enable;
   turns : AreTurns l.b l.turns;
-  built : AreBuilt l.b l.ir l.plan (g.F.BufferForm.form l.form) l.k l.nets.items l.taps.items;
+  built : AreBuiltWith l.b l.ir l.plan (g.F.BufferForm.form l.form) l.k l.nets.items l.taps.items l.tests;
 }

@@ -2,16 +2,17 @@ use Rattle.std.proofs.Common.{subst}
 use Rattle.std.specs.Prelude.{ℕ}
 use Rattle.edge_select.specs.Steps.{LeadOn}
 use Rattle.edge_select.specs.Pixels.{AllPass, NonePass}
-use Rattle.net_build.proofs.Starting.{logic_adds}
-use Rattle.circuit.proofs.Lasting.{positions_more}
+use Rattle.edge_select.proofs.Beside.{beside_logic}
+use Rattle.edge_select.proofs.Framed.{tests_more}
+use Rattle.circuit.specs.Taps.{size_in}
 use Rattle.circuit.proofs.Placing.{always_test, never_test}
 use Rattle.circuit.proofs.positions.test_on.Goals as goal
 
 pub returns-in_ok-net-in-Always-clause-adds : goal.returns-in_ok-net-in-Always-clause-adds
-returns-in_ok-net-in-Always-clause-adds c = logic_adds c.constant_test.new.b c.args.b.now c.in_ok-net-in-Always.ensures.logic
+returns-in_ok-net-in-Always-clause-adds c = beside_logic c.constant_test.new.b c.args.b.now c.args.tests.now.counters c.in_ok-net-in-Always.ensures.logic
 
-pub returns-in_ok-net-in-Always-clause-made : goal.returns-in_ok-net-in-Always-clause-made
-returns-in_ok-net-in-Always-clause-made c = positions_more c.constant_test.new.b c.args.b.now c.in_ok-net-in-Always.ensures.logic.includes c.args.plan.now c.args.f c.args.made.now c.requires.made
+pub returns-in_ok-net-in-Always-clause-tests : goal.returns-in_ok-net-in-Always-clause-tests
+returns-in_ok-net-in-Always-clause-tests c = tests_more c.constant_test.new.b c.args.b.now (size_in c.args.plan.now) c.args.tests.now c.in_ok-net-in-Always.ensures.logic.includes c.requires.tests
 
 pub returns-in_ok-net-in-Always-clause-test : goal.returns-in_ok-net-in-Always-clause-test
 returns-in_ok-net-in-Always-clause-test c =
@@ -23,10 +24,10 @@ returns-in_ok-net-in-Always-clause-test c =
     always_test c.constant_test.new.b c.args.b.now plan c.args.f _ c.in_ok-net-in-Always.net c.law.ensures c.in_ok-net-in-Always.ensures.test here
 
 pub returns-in_ok-net-in-Never-clause-adds : goal.returns-in_ok-net-in-Never-clause-adds
-returns-in_ok-net-in-Never-clause-adds c = logic_adds c.constant_test-in-Never.new.b c.args.b.now c.in_ok-net-in-Never.ensures.logic
+returns-in_ok-net-in-Never-clause-adds c = beside_logic c.constant_test-in-Never.new.b c.args.b.now c.args.tests.now.counters c.in_ok-net-in-Never.ensures.logic
 
-pub returns-in_ok-net-in-Never-clause-made : goal.returns-in_ok-net-in-Never-clause-made
-returns-in_ok-net-in-Never-clause-made c = positions_more c.constant_test-in-Never.new.b c.args.b.now c.in_ok-net-in-Never.ensures.logic.includes c.args.plan.now c.args.f c.args.made.now c.requires.made
+pub returns-in_ok-net-in-Never-clause-tests : goal.returns-in_ok-net-in-Never-clause-tests
+returns-in_ok-net-in-Never-clause-tests c = tests_more c.constant_test-in-Never.new.b c.args.b.now (size_in c.args.plan.now) c.args.tests.now c.in_ok-net-in-Never.ensures.logic.includes c.requires.tests
 
 pub returns-in_ok-net-in-Never-clause-test : goal.returns-in_ok-net-in-Never-clause-test
 returns-in_ok-net-in-Never-clause-test c =

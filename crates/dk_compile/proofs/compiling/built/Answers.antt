@@ -1,11 +1,12 @@
-use Rattle.std.proofs.Common.{ℕ, Some, Option, sym, subst}
+use Rattle.std.proofs.Common.{ℕ, Some, Option, sym, ap, subst}
 use Rattle.std.specs.Prelude.{◌≤◌, IfSome}
+use Rattle.circuit.specs.Splits.{Splits}
 use Rattle.dk_compile.specs.Compiled.{IsCircuitOf}
 use Rattle.dk_compile.proofs.Circuits.{chain_circuit, block_circuit}
 use Rattle.dk_compile.proofs.compiling.built.Goals as goal
 
-pub new-requires : goal.new-requires
-new-requires c = subst (λ (block : Option ℕ). IfSome block (λ least. 2 ≤ least)) c.in-Some.is c.requires.block
+pub new-form-requires : goal.new-form-requires
+new-form-requires c = subst (λ (block : Option ℕ). IfSome block (λ least. 2 ≤ least)) c.in-Some.is c.requires.block
 
 pub returns-in_ok-made-in-None-clause-circuit : goal.returns-in_ok-made-in-None-clause-circuit
 returns-in_ok-made-in-None-clause-circuit c =
@@ -20,6 +21,6 @@ returns-in_ok-made-in-Some-clause-circuit c =
     let made = c.in_ok-made-in-Some.made in
     let is = c.in_ok-made-in-Some.ensures in
     subst (λ (block : Option ℕ). IsCircuitOf c.args.ir.now c.args.plan.now c.args.options.enable block made.module.netlist made.nets.items) (sym c.in-Some.is)
-    (subst (λ (least : ℕ). IsCircuitOf c.args.ir.now c.args.plan.now c.args.options.enable (Some least) made.module.netlist made.nets.items) c.new.ensures
-    (block_circuit made.module.netlist c.args.ir.now c.args.plan.now c.args.options.enable c.new.result made.nets.items is.ports is.whole is.runs is.circuit is.arrays is.property is.apart
+    (subst (λ (least : ℕ). IsCircuitOf c.args.ir.now c.args.plan.now c.args.options.enable (Some least) made.module.netlist made.nets.items) (ap (λ (form : Splits). form.least) c.new-form.ensures)
+    (block_circuit made.module.netlist c.args.ir.now c.args.plan.now c.args.options.enable c.new-form.result.least c.new-form.result.proposed made.nets.items is.ports is.whole is.runs is.circuit is.arrays is.property is.apart
     (c.frame_drive_law.ensures made.module.netlist c.args.ir.now c.args.plan.now _ _ made.nets.items c.args.options.enable c.law.ensures is.ports is.whole is.runs is.circuit.behaves)))

@@ -1,0 +1,9 @@
+use Rattle.std.proofs.Common.{ℕ, ◌∙◌, ap}
+use Rattle.wiring.specs.declared.right.Atom.TheVariants as atom
+use Rattle.edge_select.proofs.Combining.{equal_is}
+use Rattle.edge_select.proofs.bands.equal_to.Goals as goal
+
+pub returns-clause-test : goal.returns-clause-test
+returns-clause-test c =
+    equal_is c.args.b.now c.gate.new.b c.args.x c.in_ok-net.net c.args.bits c.args.value c.number-same.result c.gate.ensures.logic.includes c.requires.x c.requires.width c.requires.bits c.requires.fits
+    (c.number-same.ensures ∙ ap (λ (v : ℕ). atom.Constant (record { width = c.args.bits; value = v })) c.from.ensures) c.in_ok-net.ensures.gate

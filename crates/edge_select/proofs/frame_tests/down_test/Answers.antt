@@ -1,0 +1,24 @@
+use Rattle.std.proofs.Common.{ℕ, ◌%◌, ◌/◌, ap, subst, ◌∙◌}
+use Rattle.dk_base.specs.FrameSizes.{size_of}
+use Rattle.edge_select.specs.declared.bands.Band.{Band}
+use Rattle.edge_select.specs.FrameTests.{IsRowTest}
+use Rattle.edge_select.proofs.Beside.{beside_none, beside_logic, beside_on}
+use Rattle.edge_select.proofs.Framed.{tests_more, row_frame_test}
+use Rattle.edge_select.proofs.frame_tests.down_test.Goals as goal
+
+pub returns-then-is_whole-clause-adds : goal.returns-then-is_whole-clause-adds
+returns-then-is_whole-clause-adds c = beside_none c.args.b.now c.args.tests.now.counters
+
+pub returns-clause-adds : goal.returns-clause-adds
+returns-clause-adds c = beside_on c.args.b.now c.row_test.new.b c.turned.new.b _ _ _ c.in_ok-test.ensures.adds (beside_logic _ _ _ c.turned.ensures.logic)
+
+pub returns-clause-tests : goal.returns-clause-tests
+returns-clause-tests c = tests_more c.turned.new.b c.row_test.new.b (size_of c.args.tests.now.size) c.row_test.new.tests c.turned.ensures.logic.includes c.in_ok-test.ensures.tests
+
+pub returns-clause-test : goal.returns-clause-test
+returns-clause-test c =
+    let size = size_of c.args.tests.now.size in
+    let register = c.in_ok-test.test in
+    let is = subst (λ (z : Band). IsRowTest c.row_test.new.b size (record { start = c.args.delay % c.from-width.result; band = z; net = register })) c.interval_of.ensures c.in_ok-test.ensures.test in
+    row_frame_test c.row_test.new.b size c.args.delay c.args.tests.now.size.sides.some_columns c.args.tests.now.size.sides.some_rows c.turned.new.b (c.args.delay % c.from-width.result) c.moved-band.result register c.in_ok-net.net c.args.interval _ c.turned.ensures.logic.includes (ap (λ (w : ℕ). c.args.delay % w) c.from-width.ensures)
+    (ap (λ (w : ℕ). c.args.delay / w % c.from.result) c.from-width.ensures ∙ ap (λ (h : ℕ). c.args.delay / c.args.tests.now.size.width % h) c.from.ensures) c.moved-band.ensures.moved is c.in_ok-net.ensures.test

@@ -1,0 +1,35 @@
+use Rattle.std.proofs.Common.{subst}
+use Rattle.dk_base.specs.Frames.{Size}
+use Rattle.dk_base.specs.FrameSizes.{size_of}
+use Rattle.frame_paths.specs.Moves.{IsIn}
+use Rattle.net_build.proofs.Parts.{includes_on}
+use Rattle.net_build.proofs.Logic.{logic_on}
+use Rattle.edge_select.specs.FrameTests.{AreFrameTests, IsPartTest}
+use Rattle.edge_select.proofs.Beside.{beside_logic, beside_on}
+use Rattle.edge_select.proofs.Framed.{part_bit, part_test_more, tests_more, rectangle_frame_test}
+use Rattle.edge_select.proofs.frame_tests.rectangle_of.Goals as goal
+
+pub both-requires-clause-one : goal.both-requires-clause-one
+both-requires-clause-one c =
+    let size = size_of c.args.tests.now.size in
+    part_bit c.down_test.new.b size c.args.delay (λ x y. IsIn c.args.rectangle.across x) c.in_ok-across.across
+    (part_test_more c.down_test.new.b c.across_test.new.b size c.args.delay (λ x y. IsIn c.args.rectangle.across x) c.in_ok-across.across c.in_ok-down.ensures.adds.includes c.in_ok-across.ensures.test)
+
+pub returns-clause-adds : goal.returns-clause-adds
+returns-clause-adds c =
+    beside_on c.args.b.now c.down_test.new.b c.test_net.new.b _ _ _ (beside_on _ _ _ _ _ _ c.in_ok-across.ensures.adds c.in_ok-down.ensures.adds) (beside_logic _ _ _ (logic_on _ _ _ c.both.ensures.logic c.test_net.ensures.logic))
+
+pub returns-clause-tests : goal.returns-clause-tests
+returns-clause-tests c =
+    let same = c.in_ok-across.ensures.tests.size_is in
+    tests_more c.test_net.new.b c.down_test.new.b (size_of c.args.tests.now.size) c.down_test.new.tests (includes_on _ _ _ c.both.ensures.logic.includes c.test_net.ensures.logic.includes)
+    (subst (λ (z : Size). AreFrameTests c.down_test.new.b z c.down_test.new.tests) same c.in_ok-down.ensures.tests)
+
+pub returns-clause-test : goal.returns-clause-test
+returns-clause-test c =
+    let size = size_of c.args.tests.now.size in
+    let same = c.in_ok-across.ensures.tests.size_is in
+    let r = c.args.rectangle in
+    rectangle_frame_test c.test_net.new.b c.both.new.b c.down_test.new.b size c.args.delay c.args.tests.now.size.sides.some_columns c.args.tests.now.size.sides.some_rows r c.in_ok-across.across c.in_ok-down.down c.in_ok-test.test c.in_ok-net.net c.both.ensures.logic.includes c.test_net.ensures.logic.includes
+    (part_test_more c.down_test.new.b c.across_test.new.b size c.args.delay (λ x y. IsIn c.args.rectangle.across x) c.in_ok-across.across c.in_ok-down.ensures.adds.includes c.in_ok-across.ensures.test)
+    (subst (λ (z : Size). IsPartTest c.down_test.new.b z c.args.delay (λ x y. IsIn c.args.rectangle.down y) c.in_ok-down.down) same c.in_ok-down.ensures.test) c.in_ok-test.ensures.test c.in_ok-net.ensures.net

@@ -1,0 +1,18 @@
+use Rattle.std.proofs.Common.{Option, sym, subst}
+use Rattle.dk_base.specs.FrameSizes.{size_of}
+use Rattle.edge_select.specs.declared.paths.Rectangle.{Rectangle}
+use Rattle.edge_select.specs.Passes.{PassesOn}
+use Rattle.edge_select.specs.FrameTests.{IsFrameTest}
+use Rattle.edge_select.proofs.Beside.{beside_logic}
+use Rattle.edge_select.proofs.Framed.{tests_more}
+use Rattle.edge_select.proofs.frame_tests.test_of.Goals as goal
+
+pub returns-in_ok-net-in-Some-clause-test : goal.returns-in_ok-net-in-Some-clause-test
+returns-in_ok-net-in-Some-clause-test c =
+    subst (λ (o : Option Rectangle). IsFrameTest c.rectangle_of.new.b (size_of c.args.tests.now.size) c.args.delay (PassesOn o) c.in_ok-net-in-Some.net) (sym c.in-Some.is) c.in_ok-net-in-Some.ensures.test
+
+pub returns-in_ok-net-in-None-clause-adds : goal.returns-in_ok-net-in-None-clause-adds
+returns-in_ok-net-in-None-clause-adds c = beside_logic c.constant_test.new.b c.args.b.now c.args.tests.now.counters c.constant_test.ensures.logic
+
+pub returns-in_ok-net-in-None-clause-tests : goal.returns-in_ok-net-in-None-clause-tests
+returns-in_ok-net-in-None-clause-tests c = tests_more c.constant_test.new.b c.args.b.now (size_of c.args.tests.now.size) c.args.tests.now c.constant_test.ensures.logic.includes c.requires.tests

@@ -1,0 +1,123 @@
+-- The frame tests of a module: one pair of counters, and registers of one bit that test its columns and rows.
+use Rattle.std.specs.Prelude.{◌≡◌, ℕ, ◌+◌, ◌<◌, ◌==◌, if◌then◌else◌, IsTrue, List, [], ◌∷◌, length, slice_get, Option, None, Some, IfSome, All, Contains}
+use Rattle.dk_base.specs.Frames.{Size, column, row}
+use Rattle.dk_base.specs.FrameSizes.{size_of}
+use Rattle.wiring.specs.declared.netlist.Net.{Net}
+use Rattle.wiring.specs.declared.netlist.Net.TheVariants.{Reg}
+use Rattle.wiring.specs.declared.netlist.Holder.{Holder}
+use Rattle.wiring.specs.declared.netlist.Holder.TheVariants.{OfNet}
+use Rattle.wiring.specs.Netlist.{Netlist, net_width}
+use Rattle.wiring.specs.Snapshot.{Snapshot, net_value}
+use Rattle.wiring.specs.Clock.{bit}
+use Rattle.wiring.specs.History.{was_reset, counted}
+use Rattle.net_build.specs.Includes.{Includes, InEach, AtEachEdge}
+use Rattle.net_build.specs.Draft.{IsNet, UpdatedBut}
+use Rattle.net_build.specs.Runs.{InEachRun, NeverStops, StillBut}
+use Rattle.net_build.specs.Control.{IsControl, IsControlBut, IsControlled, AddsNoReads}
+use Rattle.net_build.specs.Counters.{loaded}
+use Rattle.edge_select.specs.declared.counters.Counters.{Counters}
+use Rattle.edge_select.specs.declared.frame_tests.Test.{Test}
+use Rattle.edge_select.specs.declared.frame_tests.FrameTests.{FrameTests}
+use Rattle.edge_select.specs.Bands.{in_band}
+use Rattle.edge_select.specs.Pixels.{HasPixel, Follows, IsBitOf}
+use Rattle.edge_select.specs.Counters.{TakesNext}
+
+-- In each run of every module that includes the netlist, in each clock after a reset clock, held ones included: with t the number of counted clocks since the reset, once t is at least the delay, the net is 1 where pixel t - delay passes, and else 0. It is made of rst, en and registers.
+pub record IsFrameTest (b : Netlist) (size : Size) (delay : ℕ) (passes : (x y : ℕ) → Type 0) (n : Net) : Type 0 where
+  pub there : IsNet b n
+  pub width : net_width b n ≡ 1
+  pub value : InEachRun b (λ m before c s. IsTrue (was_reset before) → (k : ℕ) → k + delay ≡ length (counted m before) → IsBitOf (passes (column size k) (row size k)) (net_value s n))
+  pub made : IsControl b (OfNet n)
+
+-- the test is a net's, or each pixel of the frame passes
+abbrev pub IsPartTest : Netlist → Size → (delay : ℕ) → (passes : (x y : ℕ) → Type 0) → Option Net → Type 0
+IsPartTest b size delay passes None = (x y : ℕ) → x < size.width → y < size.height → passes x y
+IsPartTest b size delay passes (Some n) = IsFrameTest b size delay passes n
+
+-- what a register takes that is loaded where `load` is 1, or always
+abbrev pub takes : Option Net → (test register : Net) → Snapshot → ℕ
+takes None test register s = net_value s test
+takes (Some l) test register s = if net_value s l == 1 then net_value s test else net_value s register
+
+abbrev pub sources : Option Net → (test register : Net) → List Net
+sources None test register = test ∷ []
+sources (Some l) test register = l ∷ (test ∷ (register ∷ []))
+
+-- at each clock edge the register of this number takes the test where `load` is 1, or always; in a held clock, and where `load` is 0, it takes what it has
+pub record TakesTest (b : Netlist) (load : Option Net) (test register : Net) : Type 0 where
+  pub number : ℕ
+  pub at : register ≡ Reg number
+  pub value : Net
+  pub edge : AtEachEdge b (λ s next. slice_get next.regs number ≡ Some (net_value s value))
+  pub value_is : InEach b (λ m s. net_value s value ≡ loaded b.enable (net_value s register) (takes load test register s) s)
+
+-- A register of one bit is added. At each clock edge that is not of a held clock it takes the test where `load` is 1, or always, and else it keeps its contents. Besides it only wires are added, which read no array.
+pub record AddsRegisterOf (new old : Netlist) (load : Option Net) (test register : Net) : Type 0 where
+  pub includes : Includes new old
+  pub net : IsNet new register
+  pub width : net_width new register ≡ 1
+  pub arrays : new.arrays ≡ old.arrays
+  pub reads : AddsNoReads new old
+  pub takes_test : TakesTest new load test register
+  pub updated : (free : List Holder) → UpdatedBut old free → UpdatedBut new free
+  pub still : (copies : List ℕ) (free : List Holder) → StillBut old copies free → StillBut new copies free
+  pub stops : NeverStops old → NeverStops new
+  pub control : (copies : List ℕ) → IsControlled old copies → IsControlBut old copies (OfNet test) → IfSome load (λ l. IsControlBut old copies (OfNet l)) → IsControlled new copies
+
+-- one pair of counters, which follows the pixels without a delay, and the nets that it takes
+pub record AreCounters (b : Netlist) (size : Size) (k : Counters) : Type 0 where
+  pub size_is : size_of k.pixel.size ≡ size
+  pub pixel : HasPixel b k.pixel
+  pub follows : Follows b 0 k.pixel
+  pub first : ℕ
+  pub next : TakesNext b first k
+
+-- In each clock after a reset clock, held ones included, the register is the bit of the column of pixel t, with t the number of counted clocks since the reset: whether it is in the band.
+pub record IsColumnTest (b : Netlist) (size : Size) (t : Test) : Type 0 where
+  pub there : IsNet b t.net
+  pub width : net_width b t.net ≡ 1
+  pub value : InEachRun b (λ m before c s. IsTrue (was_reset before) → net_value s t.net ≡ bit (in_band size.width t.band (column size (length (counted m before)))))
+  pub made : IsControl b (OfNet t.net)
+
+-- The same of the row of pixel t - start, once t is at least the start.
+pub record IsRowTest (b : Netlist) (size : Size) (t : Test) : Type 0 where
+  pub there : IsNet b t.net
+  pub width : net_width b t.net ≡ 1
+  pub value : InEachRun b (λ m before c s. IsTrue (was_reset before) → (k : ℕ) → k + t.start ≡ length (counted m before) → net_value s t.net ≡ bit (in_band size.height t.band (row size k)))
+  pub made : IsControl b (OfNet t.net)
+
+-- the counters are those of the frame's pixels, and each test is one of its columns or rows
+pub record AreFrameTests (b : Netlist) (size : Size) (tests : FrameTests) : Type 0 where
+  pub size_is : size_of tests.size ≡ size
+  pub counters : IfSome tests.counters (AreCounters b size)
+  pub columns : All (IsColumnTest b size) tests.columns.items
+  pub rows : All (IsRowTest b size) tests.rows.items
+
+-- the counters' registers are none of the copies
+pub record ArePlainly (copies : List ℕ) (k : Counters) : Type 0 where
+  pub column : (r : ℕ) → k.pixel.column ≡ Reg r → Contains copies r → ⊥
+  pub row : (r : ℕ) → k.pixel.row ≡ Reg r → Contains copies r → ⊥
+
+abbrev pub AreApart : (copies : List ℕ) → Option Counters → Type 0
+AreApart copies k = IfSome k (ArePlainly copies)
+
+abbrev pub IsApart : (copies : List ℕ) → FrameTests → Type 0
+IsApart copies tests = AreApart copies tests.counters
+
+-- Registers are controlled, except the copies, and the counters are none of the copies.
+pub record IsControlledBeside (b : Netlist) (copies : List ℕ) (k : Option Counters) : Type 0 where
+  pub controlled : IsControlled b copies
+  pub apart : AreApart copies k
+
+-- No array is added. Each added register keeps its contents in held clocks, and is set by what is made of rst, en and registers: those added and the counters.
+pub record AddsBeside (new old : Netlist) (now before : Option Counters) : Type 0 where
+  pub includes : Includes new old
+  pub arrays : new.arrays ≡ old.arrays
+  pub reads : AddsNoReads new old
+  pub updated : (free : List Holder) → UpdatedBut old free → UpdatedBut new free
+  pub still : (copies : List ℕ) (free : List Holder) → StillBut old copies free → StillBut new copies free
+  pub stops : NeverStops old → NeverStops new
+  pub control : (copies : List ℕ) → IsControlledBeside old copies before → IsControlledBeside new copies now
+
+abbrev pub AddsTests : (new old : Netlist) (now before : FrameTests) → Type 0
+AddsTests new old now before = AddsBeside new old now.counters before.counters

@@ -1,0 +1,367 @@
+// Tests of the pixels of a module, for each delay: one pair of counters, and registers of one bit.
+
+ghost use Rattle.std.specs.Prelude.{ℕ, ◌≡◌, ◌<◌, ◌==◌, List, [], ◌∷◌, ◌++◌, Contains, Some, IfOk, IfSome, OnOk};
+ghost use Rattle.dk_base.specs.FrameSizes.{size_of};
+ghost use Rattle.wiring.specs.Netlist.{Netlist, net_width};
+ghost use Rattle.wiring.specs.Snapshot.{net_value};
+ghost use Rattle.wiring.specs.Clock.{bit};
+ghost use Rattle.net_build.specs.Draft.{IsNet};
+ghost use Rattle.net_build.specs.Logic.{AddsLogic, Computes};
+ghost use Rattle.net_build.specs.Counters.{control_nets, loaded};
+ghost use Rattle.frame_paths.specs.Moves.{IsIn, IsInterval};
+ghost use Rattle.edge_select.specs.Steps.{LeadBy, LeadOn};
+ghost use Rattle.edge_select.specs.Bands.{IsBand, in_band};
+ghost use Rattle.edge_select.specs.Logic.{IsBit};
+ghost use Rattle.edge_select.specs.Passes.{IsRectangle, Passes, PassesOn};
+ghost use Rattle.edge_select.specs.FrameTests.{AddsRegisterOf, takes, AddsBeside, AddsTests, AreCounters, IsColumnTest, IsRowTest, AreFrameTests, IsFrameTest, IsPartTest, IsApart, sources};
+
+use crate::bands::{Band, band_test, equal_to, interval_of, moved, same_band, turned};
+use crate::counters::{Counters, counted};
+use crate::extents::is_whole;
+use crate::frame_conditions::{both, constant_test, test_net};
+use crate::paths::{Rectangle, leading_pixels, passing_pixels};
+use crate::pixel::width_for;
+use crate::step::Step;
+use dk_base::{FrameSize, OutOfMemory};
+use frame_paths::Interval;
+use net_build::{Builder, gate, loaded};
+use std::alloc::Global;
+use wiring::{Atom, Net, Right};
+
+// A register that tests columns or rows. One of rows is loaded where the next column is `start`.
+#[derive(Clone, Copy)]
+pub struct Test {
+    pub start: u32,
+    pub band: Band,
+    pub net: Net,
+}
+
+/// The frame tests of a module: one pair of counters, which is made where it is first needed, and a register of one bit for each distinct test of columns or of rows.
+#[derive(Drop)]
+pub struct FrameTests {
+    pub size: FrameSize,
+    counters: Option<Counters>,
+    columns: Vec<Test>,
+    rows: Vec<Test>,
+}
+
+// What a register takes that is loaded where `load` is 1, or always.
+fn choice_of(
+    b: &mut Builder,
+    load: Option<Net>,
+    test: Net,
+    register: Net,
+) -> Result<Net, OutOfMemory>
+    requires load { IsBit b.old load }
+    requires test { IsNet b.old test }
+    requires test_width { net_width b.old test ≡ 1 }
+    requires register { IsNet b.old register }
+    requires register_width { net_width b.old register ≡ 1 }
+    ensures logic { AddsLogic b.new b.old }
+    ensures net { IfOk result (Computes b.new b.old (sources load test register) 1 (takes load test register)) }
+{
+    match load {
+        None => Ok(test),
+        Some(load) => {
+            let net = gate(
+                b,
+                Right::Choose(Atom::Net(load), Atom::Net(test), Atom::Net(register)),
+            )?;
+            Ok(net)
+        }
+    }
+}
+
+// What a register takes so that it is still in held clocks.
+fn still_value(b: &mut Builder, register: Net, next: Net) -> Result<Net, OutOfMemory>
+    requires register { IsNet b.old register }
+    requires next { IsNet b.old next }
+    requires register_width { net_width b.old register ≡ 1 }
+    requires next_width { net_width b.old next ≡ 1 }
+    ensures logic { AddsLogic b.new b.old }
+    ensures net { IfOk result (Computes b.new b.old (control_nets b.old.enable ++ register ∷ (next ∷ []))
+        1 (λ s. loaded b.old.enable (net_value s register) (net_value s next) s)) }
+{
+    let value = loaded(b, register, next, 1)?;
+    Ok(value)
+}
+
+// A register of one bit that takes a test where `load` is 1, or always, and is still in held clocks.
+fn register_of(b: &mut Builder, load: Option<Net>, test: Net) -> Result<Net, OutOfMemory>
+    requires load { IsBit b.old load }
+    requires test { IsNet b.old test }
+    requires width { net_width b.old test ≡ 1 }
+    ensures adds { IfOk result (AddsRegisterOf b.new b.old load test) }
+{
+    let register = b.reg(1)?;
+    let next = choice_of(b, load, test, register)?;
+    let value = still_value(b, register, next)?;
+    b.set(register, value);
+    Ok(register)
+}
+
+// The test of the next column. A register that takes it tests the column of its own clock.
+fn next_column_test(b: &mut Builder, k: &Counters, band: Band) -> Result<Net, OutOfMemory>
+    requires counters { AreCounters b.old (size_of k.now.pixel.size) k.now }
+    requires band { IsBand k.now.pixel.size.width band }
+    ensures logic { AddsLogic b.new b.old }
+    ensures test { IfOk result (Computes b.new b.old (k.now.next.column ∷ []) 1 (λ s. bit (in_band k.now.pixel.size.width band (net_value s k.now.next.column)))) }
+{
+    let net = band_test(b, k.next.column, k.pixel.size.width, band)?;
+    Ok(net)
+}
+
+// The test that the next column is `start`.
+fn starts(b: &mut Builder, k: &Counters, start: u32) -> Result<Net, OutOfMemory>
+    requires counters { AreCounters b.old (size_of k.now.pixel.size) k.now }
+    requires start { start < k.now.pixel.size.width }
+    ensures logic { AddsLogic b.new b.old }
+    ensures test { IfOk result (Computes b.new b.old (k.now.next.column ∷ []) 1 (λ s. bit (net_value s k.now.next.column == start))) }
+{
+    let bits = width_for(k.pixel.size.width);
+    let net = equal_to(b, k.next.column, bits, start)?;
+    Ok(net)
+}
+
+// A register that tests the column.
+fn column_register(b: &mut Builder, k: &Counters, band: Band) -> Result<Net, OutOfMemory>
+    requires counters { AreCounters b.old (size_of k.now.pixel.size) k.now }
+    requires band { IsBand k.now.pixel.size.width band }
+    ensures adds { OnOk result (AddsBeside b.new b.old (Some k.now) (Some k.now)) }
+    ensures test { IfOk result (λ n. IsColumnTest b.new (size_of k.now.pixel.size) (record { start = 0; band = band; net = n })) }
+{
+    let test = next_column_test(b, k, band)?;
+    let net = register_of(b, None, test)?;
+    Ok(net)
+}
+
+// A register that tests the row, of the pixel that came this many columns ago.
+fn row_register(b: &mut Builder, k: &Counters, start: u32, band: Band) -> Result<Net, OutOfMemory>
+    requires counters { AreCounters b.old (size_of k.now.pixel.size) k.now }
+    requires start { start < k.now.pixel.size.width }
+    requires band { IsBand k.now.pixel.size.height band }
+    ensures adds { OnOk result (AddsBeside b.new b.old (Some k.now) (Some k.now)) }
+    ensures test { IfOk result (λ n. IsRowTest b.new (size_of k.now.pixel.size) (record { start = start; band = band; net = n })) }
+{
+    let begins = starts(b, k, start)?;
+    let test = band_test(b, k.next.row, k.pixel.size.height, band)?;
+    let net = register_of(b, Some(begins), test)?;
+    Ok(net)
+}
+
+// The register of a test that is there.
+fn test_in(tests: &[Test], start: u32, band: Band) -> Option<Net>
+    ensures found { IfSome result (λ n. Contains tests.now (record { start = start; band = band; net = n })) }
+{
+    for k in 0..tests.len() {
+        let test = tests[k];
+        if test.start == start {
+            if same_band(test.band, band) {
+                return Some(test.net);
+            }
+        }
+    }
+    None
+}
+
+// The counters, which are made where they are first needed.
+fn counters_of(b: &mut Builder, tests: &mut FrameTests) -> Result<Counters, OutOfMemory>
+    requires tests { AreFrameTests b.old (size_of tests.old.size) tests.old }
+    ensures adds { OnOk result (AddsTests b.new b.old tests.new tests.old) }
+    ensures tests { OnOk result (AreFrameTests b.new (size_of tests.old.size) tests.new) }
+    ensures counters { IfOk result (λ k. tests.new.counters ≡ Some k) }
+{
+    if let Some(counters) = tests.counters {
+        return Ok(counters);
+    }
+    let size = tests.size;
+    let counters = counted(b, 0, size.width, size.height)?;
+    tests.counters = Some(counters);
+    Ok(counters)
+}
+
+// The register that tests the column.
+fn column_test(b: &mut Builder, tests: &mut FrameTests, band: Band) -> Result<Net, OutOfMemory>
+    requires tests { AreFrameTests b.old (size_of tests.old.size) tests.old }
+    requires band { IsBand tests.old.size.width band }
+    ensures adds { OnOk result (AddsTests b.new b.old tests.new tests.old) }
+    ensures tests { OnOk result (AreFrameTests b.new (size_of tests.old.size) tests.new) }
+    ensures test { IfOk result (λ n. IsColumnTest b.new (size_of tests.old.size) (record { start = 0; band = band; net = n })) }
+{
+    if let Some(net) = test_in(&tests.columns, 0, band) {
+        return Ok(net);
+    }
+    let counters = counters_of(b, tests)?;
+    let net = column_register(b, &counters, band)?;
+    tests.columns.push(Test {
+        start: 0,
+        band,
+        net,
+    })?;
+    Ok(net)
+}
+
+// The register that tests the row of the pixel that came this many columns ago.
+fn row_test(
+    b: &mut Builder,
+    tests: &mut FrameTests,
+    start: u32,
+    band: Band,
+) -> Result<Net, OutOfMemory>
+    requires tests { AreFrameTests b.old (size_of tests.old.size) tests.old }
+    requires start { start < tests.old.size.width }
+    requires band { IsBand tests.old.size.height band }
+    ensures adds { OnOk result (AddsTests b.new b.old tests.new tests.old) }
+    ensures tests { OnOk result (AreFrameTests b.new (size_of tests.old.size) tests.new) }
+    ensures test { IfOk result (λ n. IsRowTest b.new (size_of tests.old.size) (record { start = start; band = band; net = n })) }
+{
+    if let Some(net) = test_in(&tests.rows, start, band) {
+        return Ok(net);
+    }
+    let counters = counters_of(b, tests)?;
+    let net = row_register(b, &counters, start, band)?;
+    tests.rows.push(Test { start, band, net })?;
+    Ok(net)
+}
+
+// The test that the column is in the interval, or None where each is.
+fn across_test(
+    b: &mut Builder,
+    tests: &mut FrameTests,
+    delay: u64,
+    interval: Interval,
+) -> Result<Option<Net>, OutOfMemory>
+    requires tests { AreFrameTests b.old (size_of tests.old.size) tests.old }
+    requires interval { IsInterval tests.old.size.width interval }
+    ensures adds { OnOk result (AddsTests b.new b.old tests.new tests.old) }
+    ensures tests { OnOk result (AreFrameTests b.new (size_of tests.old.size) tests.new) }
+    ensures test { IfOk result (IsPartTest b.new (size_of tests.old.size) delay (λ x y. IsIn interval x)) }
+{
+    let side = tests.size.width;
+    if is_whole(interval, side) {
+        return Ok(None);
+    }
+    let shift = (delay % u64::from(side)) as u32;
+    let band = moved(interval, shift, side);
+    let test = column_test(b, tests, interval_of(band))?;
+    let net = turned(b, test, band.outside)?;
+    Ok(Some(net))
+}
+
+// The test that the row is in the interval, or None where each is.
+fn down_test(
+    b: &mut Builder,
+    tests: &mut FrameTests,
+    delay: u64,
+    interval: Interval,
+) -> Result<Option<Net>, OutOfMemory>
+    requires tests { AreFrameTests b.old (size_of tests.old.size) tests.old }
+    requires interval { IsInterval tests.old.size.height interval }
+    ensures adds { OnOk result (AddsTests b.new b.old tests.new tests.old) }
+    ensures tests { OnOk result (AreFrameTests b.new (size_of tests.old.size) tests.new) }
+    ensures test { IfOk result (IsPartTest b.new (size_of tests.old.size) delay (λ x y. IsIn interval y)) }
+{
+    let size = tests.size;
+    if is_whole(interval, size.height) {
+        return Ok(None);
+    }
+    let width = u64::from(size.width);
+    let start = (delay % width) as u32;
+    let shift = (delay / width % u64::from(size.height)) as u32;
+    let band = moved(interval, shift, size.height);
+    let test = row_test(b, tests, start, interval_of(band))?;
+    let net = turned(b, test, band.outside)?;
+    Ok(Some(net))
+}
+
+// The test that the pixel is in one of these columns and in one of these rows.
+fn rectangle_of(
+    b: &mut Builder,
+    tests: &mut FrameTests,
+    delay: u64,
+    rectangle: Rectangle,
+) -> Result<Net, OutOfMemory>
+    requires tests { AreFrameTests b.old (size_of tests.old.size) tests.old }
+    requires rectangle { IsRectangle (size_of tests.old.size) rectangle }
+    ensures adds { OnOk result (AddsTests b.new b.old tests.new tests.old) }
+    ensures tests { OnOk result (AreFrameTests b.new (size_of tests.old.size) tests.new) }
+    ensures test { IfOk result (IsFrameTest b.new (size_of tests.old.size) delay (Passes rectangle)) }
+{
+    let across = across_test(b, tests, delay, rectangle.across)?;
+    let down = down_test(b, tests, delay, rectangle.down)?;
+    let test = both(b, across, down)?;
+    let net = test_net(b, test)?;
+    Ok(net)
+}
+
+// The test of such pixels, or the one that none passes.
+fn test_of(
+    b: &mut Builder,
+    tests: &mut FrameTests,
+    delay: u64,
+    rectangle: Option<Rectangle>,
+) -> Result<Net, OutOfMemory>
+    requires tests { AreFrameTests b.old (size_of tests.old.size) tests.old }
+    requires rectangle { IfSome rectangle (λ r. IsRectangle (size_of tests.old.size) r) }
+    ensures adds { OnOk result (AddsTests b.new b.old tests.new tests.old) }
+    ensures tests { OnOk result (AreFrameTests b.new (size_of tests.old.size) tests.new) }
+    ensures test { IfOk result (IsFrameTest b.new (size_of tests.old.size) delay (PassesOn rectangle)) }
+{
+    match rectangle {
+        Some(rectangle) => {
+            let net = rectangle_of(b, tests, delay, rectangle)?;
+            Ok(net)
+        }
+        None => {
+            let net = constant_test(b, false)?;
+            Ok(net)
+        }
+    }
+}
+
+impl FrameTests {
+    /// No counters and no tests, for frames of this size.
+    pub fn new(alloc: Global, size: FrameSize) -> FrameTests
+        ensures tests { (b : Netlist) → AreFrameTests b (size_of size) result }
+        ensures apart { (copies : List ℕ) → IsApart copies result }
+        ensures size { result.size ≡ size }
+    {
+        FrameTests {
+            size,
+            counters: None,
+            columns: Vec::new(alloc),
+            rows: Vec::new(alloc),
+        }
+    }
+
+    /// The test that the pixel that came `delay` counted clocks ago passes exactly where the steps lead from it to the point that is `dx` columns to the right and `dy` rows down.
+    pub fn at(
+        &mut self,
+        b: &mut Builder,
+        delay: u64,
+        steps: &[Step],
+        dx: i32,
+        dy: i32,
+    ) -> Result<Net, OutOfMemory>
+        requires tests { AreFrameTests b.old (size_of self.old.size) self.old }
+        ensures adds { OnOk result (AddsTests b.new b.old self.new self.old) }
+        ensures tests { OnOk result (AreFrameTests b.new (size_of self.old.size) self.new) }
+        ensures test { IfOk result (IsFrameTest b.new (size_of self.old.size) delay (LeadBy (size_of self.old.size) steps.now dx dy)) }
+    {
+        let rectangle = passing_pixels(steps, self.size, dx, dy);
+        let net = test_of(b, self, delay, rectangle)?;
+        Ok(net)
+    }
+
+    /// The test that the pixel that came `delay` counted clocks ago passes exactly where the steps lead from it somewhere, each step that is not clamped to a point in the frame.
+    pub fn leads(&mut self, b: &mut Builder, delay: u64, steps: &[Step]) -> Result<Net, OutOfMemory>
+        requires tests { AreFrameTests b.old (size_of self.old.size) self.old }
+        ensures adds { OnOk result (AddsTests b.new b.old self.new self.old) }
+        ensures tests { OnOk result (AreFrameTests b.new (size_of self.old.size) self.new) }
+        ensures test { IfOk result (IsFrameTest b.new (size_of self.old.size) delay (LeadOn (size_of self.old.size) steps.now)) }
+    {
+        let rectangle = leading_pixels(steps, self.size);
+        let net = test_of(b, self, delay, rectangle)?;
+        Ok(net)
+    }
+}

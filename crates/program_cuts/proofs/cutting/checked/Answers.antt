@@ -1,9 +1,0 @@
-use Rattle.std.proofs.Common.{ℕ, List, subst}
-use Rattle.program_cuts.specs.Cuts.{IsCutOf}
-use Rattle.program_cuts.proofs.Same.{cut_of}
-use Rattle.program_cuts.proofs.cutting.checked.Goals as goal
-
-pub returns-then-branch : goal.returns-then-branch
-returns-then-branch c =
-    subst (λ (text : List ℕ). IsCutOf c.args.source.now text) c.deref.ensures.value
-    (cut_of c.args.source.now c.deref.result.now c.args.old.now c.requires.form (c.in_ok-shows_same.ensures c.if-branch.true))

@@ -1,0 +1,152 @@
+#!/usr/bin/env python3
+"""The rules of AXI4-Stream video, proved of blocks of tools/axis by tools that were not written here. Yosys reads a block together with the
+rules of tests/formal/streams.sv and writes them as an AIGER circuit. `pdr` of yosys-abc proves the rules for any number of clocks.
+
+There are three blocks with frames of 3 by 2: one input and one output, two outputs of different latencies, with a consumer for each or one
+that joins them, and two inputs. So that the proof is not of nothing, some cases must be reachable. Wrong wrappers must be refuted.
+
+usage: tests/axis_formal.py [-v] [NAME..]    -v: prints each name with its answer and its time
+    NAME: a part of the name of a proof, of a case or of a wrong wrapper; without it all are tried
+It needs Yosys with yosys-abc. The last line is `N passed, M failed`.
+"""
+import concurrent.futures
+import os
+import re
+import shutil
+import subprocess
+import sys
+import tempfile
+import time
+
+TESTS = os.path.dirname(os.path.realpath(__file__))
+RULES = f"{TESTS}/formal/streams.sv"
+# The blocks with their ages.
+BLOCKS = {"one": 2, "outputs": 1, "inputs": 1}
+# The seconds that a proof, or the search for a counterexample, may take.
+LONGEST = 1800
+
+# A name, the block, what streams.sv is compiled with, and the parts of the rules that are proved one by one.
+PROOFS = [
+    ("one input and one output", "one", [], [0, 1]),
+    ("two outputs", "outputs", ["OUTPUTS"], [0, 1, 2]),
+    ("two outputs and a joining consumer", "outputs", ["OUTPUTS", "JOINED"], [0, 1, 2]),
+    ("two inputs", "inputs", ["INPUTS"], [0, 1]),
+]
+PARTS = ["the inputs", "the first output", "the second output"]
+CASES = ["two frames come out without a cut", "a cut frame and the next one come out", "a block comes to rest after a cut", "a source waits after a cut"]
+
+# A name, the proof that it must break, the file, and the change.
+WRONG = [
+    ("tlast one column early", 0, "axis", "{user_2, last_2,", "{user_2, column_2 == 2'd1,"),
+    ("tuser at each line", 0, "axis", "column_2 == 2'd0 & line_2 == 1'd0", "column_2 == 2'd0"),
+    ("a word that changes while it waits", 0, "pair", "if (take) q <=", "q <="),
+    ("a word lost at a full FIFO", 0, "pair", "assign room = ~full;", "assign room = 1'b1;"),
+    ("a flush one clock short", 0, "axis", "room & count == 3'd1", "room & count == 3'd0"),
+    ("a restart without a flush", 0, "axis", "state <= FLUSH", "state <= RESET"),
+    ("a cut that is not seen", 0, "axis", "run & ~first & some_begin", "1'b0"),
+    ("a cut frame filled one pixel short", 0, "axis", "ends = step & count == 3'd5", "ends = step & count == (fill ? 3'd4 : 3'd5)"),
+    ("a cut frame filled with the next one", 0, "axis", " & {1{~fill}}", ""),
+    ("the frame that cuts is shown", 0, "axis", "skip0 <= 1'b1", "skip0 <= 1'b0"),
+    ("cut frames shown unequally", 1, "axis", "put0 = valid0 &", "put0 = valid0 & ~fill &"),
+    ("a FIFO that repeats a word", 1, "fifo", "if (take) head <= next_head;", "if (take & ~full) head <= next_head;"),
+    ("a FIFO of one word before a joining consumer", 2, "fifo", "assign room = ~full;", "assign room = ~(some | valid);"),
+    ("inputs that are not in step", 3, "axis", "all_go_on = go_on0 & go_on1", "all_go_on = go_on0"),
+    ("only one input drops the frame that cuts", 3, "axis", "if (cut) skip1", "if (cut & 1'b0) skip1"),
+]
+# Those that only the rules of the inputs refute, after many clocks of waiting: a circuit of these rules alone is searched faster.
+WAITING = ["a cut that is not seen"]
+
+
+def texts_of(work, block):
+    """The Verilog of a block by the parts of its files' names. Each FIFO has the rule that nothing is put into it without room."""
+    folder = f"{work}/{block}"
+    subprocess.run([f"{TESTS}/../tools/axis", f"{TESTS}/formal/{block}.dk", folder, "--age", str(BLOCKS[block])], check=True, stdout=subprocess.DEVNULL)
+    texts = {}
+    for file in os.listdir(folder):
+        if file.endswith(".v"):
+            part = file[len(block) + 1:-2]
+            with open(f"{folder}/{file}") as opened:
+                texts[part] = opened.read()
+            if part in ("fifo", "pair"):
+                texts[part] = texts[part].replace("endmodule", "  always @* if (resetn) assert (~put | room);\nendmodule")
+    return texts
+
+
+def circuit(folder, texts, defined):
+    """The block and its rules as an AIGER circuit with one output, which is 1 where a rule is broken, and constraints."""
+    os.mkdir(folder)
+    for part, text in texts.items():
+        with open(f"{folder}/{part}.v", "w") as file:
+            file.write(text)
+    defines = " ".join(f"-D{word}" for word in defined)
+    files = " ".join(f"{folder}/{part}.v" for part in texts)
+    steps = [f"read_verilog -formal -sv {defines} {RULES}", f"read_verilog -formal -sv {files}", "hierarchy -check -top streams", "proc", "flatten", "opt -full",
+             "memory_nordff", "memory_map", "opt -full", "async2sync", "opt -full", "dffunmap", "setundef -anyseq", "opt_clean", "simplemap", "techmap", "opt -fast",
+             "dffunmap", "abc -g AND -fast", "opt_clean", f"write_aiger -I -B -zinit -no-startoffset {folder}/rules.aig"]
+    said = subprocess.run(["yosys", "-q", "-p", "; ".join(steps)], stdout=subprocess.PIPE, stderr=subprocess.STDOUT, text=True)
+    if said.returncode:
+        raise RuntimeError(said.stdout[-500:])
+    return f"{folder}/rules.aig"
+
+
+def answer(path, engine):
+    """proved or refuted, or what yosys-abc says."""
+    script = f"read_aiger {path}; fold; strash; dc2; scorr; {engine} -T {LONGEST}"
+    said = subprocess.run(["yosys-abc", "-c", script], stdout=subprocess.PIPE, stderr=subprocess.STDOUT, text=True).stdout
+    if "Property proved" in said:
+        return "proved"
+    if re.search(r"was asserted in frame \d+", said):
+        return "refuted"
+    return f"no answer: {said[-300:]}"
+
+
+def tasks(texts):
+    """A name, the answer that is required, the texts, what is defined, and the engine."""
+    for name, block, defined, parts in PROOFS:
+        for number in parts:
+            yield f"{name}: {PARTS[number]}", "proved", texts[block], [*defined, f"PART={number}"], "pdr"
+        for number, case in enumerate(CASES, 1):
+            yield f"{name}: {case}", "refuted", texts[block], [*defined, f"COVER={number}"], "bmc3 -F 100"
+    for name, proof, part, old, new in WRONG:
+        _, block, defined, _ = PROOFS[proof]
+        if name in WAITING:
+            defined = [*defined, "PART=0"]
+        if texts[block][part].count(old) < 1:
+            raise RuntimeError(f"{block}_{part}.v has no '{old}'")
+        yield name, "refuted", {**texts[block], part: texts[block][part].replace(old, new, 1)}, defined, "bmc3 -F 100"
+
+
+def tried(work, number, task):
+    """The line of a task, and whether it passed."""
+    name, required, texts, defined, engine = task
+    begin = time.time()
+    try:
+        got = answer(circuit(f"{work}/{number}", texts, defined), engine)
+    except RuntimeError as fault:
+        got = str(fault)
+    return f"{name}: {got}, {time.time() - begin:.0f} s", got == required
+
+
+def main():
+    names = sys.argv[1:]
+    loud = names[:1] == ["-v"]
+    names = names[loud:]
+    for tool in ("yosys", "yosys-abc"):
+        if not shutil.which(tool):
+            sys.exit(f"axis_formal: {tool} is not installed")
+    passed = failed = 0
+    with tempfile.TemporaryDirectory() as work:
+        texts = {block: texts_of(work, block) for block in BLOCKS}
+        chosen = [task for task in tasks(texts) if not names or any(name in task[0] for name in names)]
+        with concurrent.futures.ThreadPoolExecutor(2) as pool:
+            for line, good in pool.map(lambda item: tried(work, *item), enumerate(chosen)):
+                passed, failed = passed + good, failed + (not good)
+                if not good:
+                    print(f"axis_formal: {line}", file=sys.stderr, flush=True)
+                elif loud:
+                    print(line, flush=True)
+    print(f"{passed} passed, {failed} failed")
+    sys.exit(failed > 0)
+
+
+main()

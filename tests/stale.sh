@@ -1,0 +1,278 @@
+#!/bin/sh
+# Checks that ./dk never runs a program of other sources, in small checkouts with the scripts of this one, whose programs print a word.
+# Says nothing where all is right, and else names each case.
+# usage: tests/stale.sh
+top=$(CDPATH='' cd -- "$(dirname -- "$0")/.." && pwd) || exit 2
+work=$(mktemp -d) || exit 2
+trap 'rm -rf "$work"' EXIT
+trap 'exit 130' INT TERM HUP
+CDPATH='' cd -- "$work" || exit 2
+failed=0
+
+wrong() {
+    printf 'stale: %s\n' "$1" >&2
+    failed=1
+}
+
+# program FILE WORD: a program that prints the word, with the text that describes it as built from the sources of its checkout
+program() {
+    printf '#!/bin/sh\necho %s\n' "$2" >"$1"
+    chmod +x "$1"
+    (
+        CDPATH='' cd -- "${1%/*}/.." && . tools/sources.sh || exit 2
+        echo "program $(sha256sum "${1##*/checkout/}" | cut -d ' ' -f 1)"
+        source_lines
+    ) >"$1.txt"
+}
+
+# runs CHECKOUT WORD TEXT: ./dk runs the program that prints the word; TEXT is the case
+runs() {
+    got=$(timeout 100 "$1/checkout/dk" plan 2>stderr)
+    [ "$got" = "$2" ] || wrong "$3: '$got $(cat stderr)' where '$2' was expected"
+}
+
+# refuses CHECKOUT TEXT: ./dk runs nothing and builds nothing, says which crate differs and what builds, and ends with status 1
+refuses() {
+    got=$(timeout 100 "$1/checkout/dk" plan 2>stderr)
+    status=$?
+    [ "$status" = 1 ] && [ -z "$got" ] && grep -q 'tools/build.py' stderr || wrong "$2: status $status, '$got $(cat stderr)'"
+    [ ! -e built ] || wrong "$2: a build was begun"
+}
+
+# names CRATE TEXT: the last message names this crate and no other
+names() {
+    grep -q "in: $1\$" stderr || wrong "$2: $(cat stderr)"
+}
+
+# edit CHECKOUT: changes a source of the crate `low`
+edit() {
+    echo 'changed' >>"$1/checkout/crates/low/src/lib.rt"
+}
+
+# The commands that a build would use only leave a mark. While there is a folder calls/, sha256sum counts its calls there, and sources
+# calls/beforeN and calls/afterN at the N-th.
+mkdir stubs
+for name in python3 rt; do
+    printf '#!/bin/sh\n: >"%s/built"\n' "$work" >"stubs/$name"
+done
+cat >stubs/sha256sum <<END
+#!/bin/sh
+[ -d "$work/calls" ] || exec "$(command -v sha256sum)" "\$@"
+number=1
+while ! mkdir "$work/calls/\$number" 2>/dev/null; do
+    number=\$((number + 1))
+done
+[ ! -e "$work/calls/before\$number" ] || . "$work/calls/before\$number"
+"$(command -v sha256sum)" "\$@"
+status=\$?
+[ ! -e "$work/calls/after\$number" ] || . "$work/calls/after\$number"
+exit "\$status"
+END
+chmod +x stubs/*
+plain=$PATH
+PATH=$work/stubs:$PATH
+
+for folder in bin crates/dk/src crates/other/src crates/low/src crates/low/specs crates/low/proofs/a/b; do
+    mkdir -p first/checkout/$folder
+done
+cp -r "$top/dk" "$top/tools" first/checkout || exit 2
+printf '# crates\nlow:\nother:\ndk: low\n' >first/checkout/crates.txt
+echo 'main' >first/checkout/crates/dk/src/main.rt
+echo 'lib' >first/checkout/crates/low/src/lib.rt
+echo 'proof' >first/checkout/crates/low/proofs/a/b/Proof.antt
+echo 'other' >first/checkout/crates/other/src/lib.rt
+program first/checkout/bin/dk shipped
+
+# What is noted is only what did not change for two seconds, so all checkouts whose first call is to be noted are made before.
+for name in rest removed moved added edited aged linked link_file bin bin_other text hook crossing racing; do
+    cp -r first "$name"
+done
+steps='before1 after1 before2 after2 before3 after3 before4 after4 before5 after5 before6 after6'
+for name in $steps; do
+    cp -r first "$name"
+done
+mv linked/checkout/crates/low/src linked/low && ln -s ../../../low linked/checkout/crates/low/src
+mv link_file/checkout/crates/low/src/lib.rt link_file && ln -s ../../../../lib.rt link_file/checkout/crates/low/src/lib.rt
+cp -r first build
+edit build
+mkdir build/checkout/build
+program build/checkout/build/dk built
+# (the time of a call is known in whole seconds)
+sleep 3.2
+for name in rest removed moved added edited aged linked link_file bin bin_other text racing; do
+    runs $name shipped "$name, first call"
+    [ -s $name/checkout/build/known ] || wrong "$name: nothing was noted"
+done
+runs build built 'a program that was built'
+
+# At rest one sum is taken, that of the list of files; where the list is new, more.
+mkdir calls
+runs rest shipped 'a second call'
+[ ! -e calls/2 ] || wrong 'a call at rest sums the sources'
+rm -r calls
+cp -r first fresh
+runs fresh shipped 'a fresh checkout'
+[ ! -e fresh/checkout/build/known ] || wrong 'what has just changed is noted'
+
+# A crate that is gone, a file more, an edit
+rm -r removed/checkout/crates/low
+refuses removed 'a crate that was removed'
+names low 'a crate that was removed'
+mv moved/checkout/crates/low/src moved/src
+refuses moved 'a folder src that was moved away'
+mv moved/src moved/checkout/crates/low/src
+runs moved shipped 'a folder src that was moved back'
+echo 'more' >added/checkout/crates/low/proofs/a/More.antt
+refuses added 'a file more'
+names low 'a file more'
+edit edited
+refuses edited 'an edit'
+names low 'an edit'
+touch -d '2020-01-01' aged/checkout/crates/low/src/lib.rt
+edit aged
+touch -d '2020-01-01' aged/checkout/crates/low/src/lib.rt
+touch aged/checkout/build/known
+refuses aged 'an edit with an old time'
+
+# Copies of an edited checkout, whose times are all new, or all kept
+for option in -r -a; do
+    cp $option edited "copied$option"
+    refuses "copied$option" "cp $option of an edited checkout"
+done
+cp -r rest copied
+edit copied
+touch copied/checkout/build/known
+refuses copied 'a copy, edited, with a new build/known'
+
+# Behind links
+echo 'changed' >>linked/low/lib.rt
+refuses linked 'an edit behind a link to a folder'
+echo 'changed' >>link_file/lib.rt
+refuses link_file 'an edit behind a link to a file'
+
+# Programs that are not those that were noted, of equal size and time
+cp -p bin/checkout/bin/dk was
+printf '#!/bin/sh\necho another\n' >bin/checkout/bin/dk
+touch -r was bin/checkout/bin/dk
+refuses bin 'another bin/dk'
+sed 's/shipped/another/' bin_other/checkout/bin/dk >other
+chmod +x other
+touch -r bin_other/checkout/bin/dk other
+mv other bin_other/checkout/bin/dk
+refuses bin_other 'another file moved to bin/dk'
+cp -p build/checkout/build/dk was
+printf '#!/bin/sh\necho wrong\n' >build/checkout/build/dk
+touch -r was build/checkout/build/dk
+refuses build 'another build/dk'
+names low 'another build/dk'
+rm text/checkout/bin/dk.txt
+refuses text 'a program without its text'
+
+# A source that changes before or after each sum that is taken, and a second call in the middle, which notes what it found
+for name in $steps; do
+    mkdir calls
+    printf 'rm "%s"\necho changed >>"%s"\n' "$work/calls/$name" "$work/$name/checkout/crates/low/src/lib.rt" >"calls/$name"
+    "$name/checkout/dk" plan >/dev/null 2>&1
+    [ ! -e "calls/$name" ] || wrong "there is no sum $name"
+    rm -r calls
+    refuses "$name" "an edit at the sum $name"
+done
+for name in hook crossing; do
+    call="PATH='$plain'; $work/$name/checkout/dk plan"
+    change="echo changed >>$work/$name/checkout/crates/low/src/lib.rt"
+    mkdir calls
+    case $name in
+    hook) printf '%s\n' "$call" "$change" >calls/after4 ;;
+    crossing) printf '%s\n' "$change" "$call" >calls/after4 ;;
+    esac
+    $name/checkout/dk plan >/dev/null 2>&1
+    rm -r calls
+    refuses $name "an edit and a second call in the middle of the first, $name"
+done
+
+# Two callers at once, while a source changes
+(while [ ! -e end ]; do racing/checkout/dk plan >/dev/null 2>&1; done) &
+(while [ ! -e end ]; do racing/checkout/dk plan >/dev/null 2>&1; done) &
+for _ in 1 2; do
+    edit racing
+    refuses racing 'an edit beside two callers'
+    echo 'lib' >racing/checkout/crates/low/src/lib.rt
+    runs racing shipped 'an edit taken back beside two callers'
+done
+: >end
+wait
+
+# What tools/build.py builds is the program of the sources as they were when it began.
+cat >stubs/rt <<'END'
+#!/bin/sh
+case $1 in
+ci)
+    mkdir -p crates/dk/out
+    printf '#!/bin/sh\necho %s\n' "$(tail -n 1 crates/low/src/lib.rt)" >crates/dk/out/dk
+    chmod +x crates/dk/out/dk
+    [ -z "$DURING" ] || echo 'during' >>"$DURING"
+    printf 'rt: low proved\nrt: dk proved\n2 passed, 0 failed\n'
+    ;;
+version) echo 'kit' ;;
+doc) echo "$0" ;;
+esac
+END
+if PATH=$plain command -v python3 >/dev/null; then
+    cp -r edited builds
+    echo 'none' >builds/checkout/HANDLES
+    for during in '' "$work/builds/checkout/crates/low/src/lib.rt"; do
+        DURING=$during PATH=$work/stubs:$plain "$(PATH=$plain command -v python3)" builds/checkout/tools/build.py 2>said || wrong "tools/build.py: $(cat said)"
+        if [ -z "$during" ]; then
+            runs builds changed 'a program of tools/build.py'
+        else
+            refuses builds 'an edit while tools/build.py built'
+        fi
+    done
+fi
+
+# What has no sum: a file that is deeper than the patterns, and one that is not a regular file
+cp -r first deep
+mkdir -p deep/checkout/crates/low/proofs/1/2/3/4/5/6
+echo 'deep' >deep/checkout/crates/low/proofs/1/2/3/4/5/Proof.antt
+program deep/checkout/bin/dk shipped
+runs deep shipped 'a deep file'
+echo 'deep' >deep/checkout/crates/low/proofs/1/2/3/4/5/6/Proof.antt
+program deep/checkout/bin/dk shipped
+refuses deep 'a file that is too deep'
+cp -r first pipe
+mkfifo pipe/checkout/crates/low/src/pipe.rt
+refuses pipe 'a named pipe among the sources'
+names low 'a named pipe among the sources'
+
+# The help needs no program and no sources.
+cp -r edited help
+rm -r help/checkout/bin help/checkout/crates
+for word in help --help -h; do
+    got=$(help/checkout/dk $word 2>&1) && [ "${got%% *}" = 'usage:' ] || wrong "./dk $word: $got"
+done
+[ ! -e built ] || wrong 'the help began a build'
+
+# Folders of CDPATH are not looked at.
+mkdir -p cdpath/rest/checkout/tools cdpath/checkout/tools
+echo 'echo ../../wrong' | tee cdpath/rest/checkout/tools/choose.sh cdpath/checkout/tools/choose.sh >/dev/null
+printf '#!/bin/sh\necho wrong\n' >wrong
+chmod +x wrong
+edit rest
+CDPATH=$work/cdpath
+export CDPATH
+for call in rest/checkout/dk ./rest/checkout/dk; do
+    got=$($call plan 2>/dev/null)
+    [ "$? $got" = '1 ' ] || wrong "with CDPATH $call: $got"
+done
+got=$(CDPATH='' cd -- rest && checkout/dk plan 2>/dev/null)
+[ "$? $got" = '1 ' ] || wrong "with CDPATH checkout/dk: $got"
+unset CDPATH
+grep -nE '(^|[^-.[:alnum:]])cd [^|]' "$top/dk" "$top/check" "$top"/tools/*.sh "$top"/tests/*.sh | grep -v "CDPATH='' cd -- \|'(^|" >found && wrong "a cd that looks at CDPATH: $(cat found)"
+
+# Without a tool that it needs, ./check says so and tries nothing.
+cp "$top/check" rest/checkout
+mkdir empty
+shell=$(command -v sh)
+got=$(PATH=$work/empty "$shell" rest/checkout/check 2>&1)
+[ "${got%% awk *cmp *grep *}" = 'check: missing tools:' ] || wrong "check without tools: $got"
+exit "$failed"

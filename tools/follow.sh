@@ -1,0 +1,71 @@
+# Sourced by ./dk at a terminal: runs the program `built` of the folder `top` with the words of the call, explains its fault, and ends as it
+# did. The program has the descriptors of the call, and a signal to this script ends it too.
+exec 9<&0
+status=
+signal=
+child=
+
+# pass_on SIGNAL: ends the child. A child in the background ignores SIGINT and SIGQUIT. The program catches no signal, so SIGKILL does what any
+# of them would do.
+pass_on() {
+    signal=$1
+    [ -z "$child" ] || kill -s KILL "$child" 2>/dev/null
+}
+for name in HUP INT QUIT PIPE ALRM TERM USR1 USR2; do
+    # shellcheck disable=SC2064
+    trap "pass_on $name" "$name"
+done
+
+# follow WORD..: runs this command as a child and waits for its end, and sets `status`
+follow() {
+    { exec "$@"; } <&9 9<&- &
+    child=$!
+    [ -z "$signal" ] || pass_on "$signal"
+    # (the shell would write how a signal ended the child)
+    wait "$child" 2>/dev/null
+    status=$?
+    [ -z "$signal" ] || wait "$child" 2>/dev/null
+    child=
+}
+
+# ask_again WORD..: sets `line` to the fault line of this call. The program runs once more, on regular files only and with /dev/null as its
+# output, for five seconds of processor time at most. The line is empty where that is not possible, or ends otherwise.
+ask_again() {
+    line=
+    ended=$status
+    read_words "$@"
+    case $status in
+    3 | 5)
+        # Nothing was read but the program or the Verilog text.
+        [ -z "${images+set}" ] || images=/dev/null
+        [ -z "${report+set}" ] || report=/dev/null
+        ;;
+    4 | 6 | 10) ;;
+    *) return ;;
+    esac
+    for file in ${program+"$program"} ${verilog+"$verilog"} ${images+"$images"} ${report+"$report"}; do
+        [ -f "$file" ] || [ "$file" = /dev/null ] || return
+    done
+    set -- "$command" ${age+--age "$age"} ${hold+--hold "$hold"} ${fill+--fill "$fill"} -- ${count+"$count"} ${program+"$program"} \
+        ${verilog+"$verilog"} ${clocks+"$clocks"} ${images+"$images"} ${report+"$report"} ${out+/dev/./null}
+    said=$(mktemp 2>/dev/null) || return
+    # shellcheck disable=SC2016
+    follow sh -c 'ulimit -t 5 && exec "$0" "$@"' "$built" "$@" >/dev/null 2>"$said"
+    [ "$status" != "$ended" ] || read -r line <"$said"
+    rm -f "$said"
+    status=$ended
+}
+
+follow "$built" "$@"
+if [ -z "$signal" ] && [ "$status" != 0 ]; then
+    . "$top/tools/explain.sh"
+    ask_again "$@"
+    [ -n "$signal" ] || explain "$status" "$line" "$@"
+fi
+[ -n "$signal" ] || [ "$status" -le 128 ] || signal=$(kill -l "$status")
+[ -z "$signal" ] || {
+    ulimit -c 0
+    trap - "$signal"
+    kill -s "$signal" "$$"
+}
+exit "$status"
