@@ -499,7 +499,7 @@ end
     terminal 0 "cat copy.dk | '$top/dk' compile /dev/stdin o.v" </dev/null
     cmp -s o.v copy.v || wrong_case 'under a terminal standard input is lost'
     for signal in 'TERM 143' 'INT 130' 'QUIT 131' 'HUP 129' 'USR1 138'; do
-        ended "${signal% *}" "${signal#* }" "script -q -e -c \"sh -c 'echo \\\$\\\$ >pid; exec \\\"$top/dk\\\" run copy.dk pipe o.pgm'\" /dev/null"
+        ended "${signal% *}" "${signal#* }" "script -q -e -c \"exec sh -c 'echo \\\$\\\$ >pid; exec \\\"$top/dk\\\" run copy.dk pipe o.pgm'\" /dev/null"
         [ ! -s shown ] || wrong_case "SIG${signal% *} under a terminal shows $(cat shown)"
     done
 fi
