@@ -18,7 +18,7 @@ use Rattle.net_build.specs.Draft.{IsNet, UpdatedBut, number, with_reg, with_upda
 use Rattle.net_build.specs.Runs.{NeverStops, IsStill, StillBut}
 use Rattle.net_build.specs.Control.{IsMadeOf, by_itself, is_control, is_control_but, IsControl, IsControlBut, IsControlled, AddsNoReads}
 use Rattle.net_build.specs.Logic.{AddsLogic, AreMadeOf, Computes, IsGate}
-use Rattle.net_build.specs.Counters.{control_nets, loaded}
+use Rattle.net_build.specs.Counters.{control_nets, taken}
 use Rattle.net_build.proofs.Parts.{Includes-refl, Includes-trans}
 use Rattle.net_build.proofs.Grown.{net_more, width_more}
 use Rattle.net_build.proofs.Drafts.{includes_update, includes_reg}
@@ -48,9 +48,9 @@ load_is b0 b1 load l test register n e grows bit is wide has long g =
     subst (λ (o : Option Net). Computes b1 b0 (sources o test register) 1 (takes o test register) n) (sym e) c
 
 -- a register that is made, and takes a test
-module _ (b0 b1 b2 b3 b4 : Netlist) (load : Option Net) (test register next value : Net) (made : b1 ≡ with_reg b0 1) (at : register ≡ Reg (length b0.regs)) (l2 : AddsLogic b2 b1) (l3 : AddsLogic b3 b2)
+module _ (b0 b1 b2 b3 b4 : Netlist) (load : Option Net) (first : ℕ) (test register next value : Net) (made : b1 ≡ with_reg b0 1) (at : register ≡ Reg (length b0.regs)) (l2 : AddsLogic b2 b1) (l3 : AddsLogic b3 b2)
     (put : b4 ≡ with_update b3 (Set (number register) (atom.Net value))) (c2 : Computes b2 b1 (sources load test register) 1 (takes load test register) next)
-    (c3 : Computes b3 b2 (control_nets b2.enable ++ register ∷ (next ∷ [])) 1 (λ s. loaded b2.enable (net_value s register) (net_value s next) s) value) where
+    (c3 : Computes b3 b2 (control_nets b2.enable ++ register ∷ (next ∷ [])) 1 (λ s. taken b2.enable first (net_value s register) (net_value s next) s) value) where
   k : ℕ
   k = length b0.regs
 
@@ -75,13 +75,13 @@ module _ (b0 b1 b2 b3 b4 : Netlist) (load : Option Net) (test register next valu
   numbered : number register ≡ length b0.regs
   numbered = ap number at
 
-  value_here : InEach b4 (λ m s. net_value s value ≡ loaded b4.enable (net_value s register) (takes load test register s) s)
+  value_here : InEach b4 (λ m s. net_value s value ≡ taken b4.enable first (net_value s register) (takes load test register s) s)
   value_here m s part settled =
       c3.value m s (Includes-trans m b4 b3 part f43) settled
-      ∙ ap (λ (v : ℕ). loaded b2.enable (net_value s register) v s) (c2.value m s (Includes-trans m b4 b2 part f42) settled)
-      ∙ ap (λ (e : Bool). loaded e (net_value s register) (takes load test register s) s) (sym f42.enable)
+      ∙ ap (λ (v : ℕ). taken b2.enable first (net_value s register) v s) (c2.value m s (Includes-trans m b4 b2 part f42) settled)
+      ∙ ap (λ (e : Bool). taken e first (net_value s register) (takes load test register s) s) (sym f42.enable)
 
-  pub takes_here : AtEachEdge b4 (λ s t. slice_get t.regs (number register) ≡ Some (net_value s value)) → TakesTest b4 load test register
+  pub takes_here : AtEachEdge b4 (λ s t. slice_get t.regs (number register) ≡ Some (net_value s value)) → TakesTest b4 load first test register
   takes_here edge = record {
     number = length b0.regs;
     at = at;
@@ -155,7 +155,7 @@ module _ (b0 b1 b2 b3 b4 : Netlist) (load : Option Net) (test register next valu
       from_sources (Some x) own of n (suc (suc (suc i)), l, e) = absurd (omega (arith, l))
 
   pub register_adds : IsNet b1 register → net_width b1 register ≡ 1 → AtEachEdge b4 (λ s t. slice_get t.regs (number register) ≡ Some (net_value s value)) → (NeverStops b0 → NeverStops b4) →
-      ((copies : List ℕ) → IsControlled b0 copies → IsControlBut b4 copies (OfNet value) → IsControlled b4 copies) → AddsRegisterOf b4 b0 load test register
+      ((copies : List ℕ) → IsControlled b0 copies → IsControlBut b4 copies (OfNet value) → IsControlled b4 copies) → AddsRegisterOf b4 b0 load first test register
   unfolding takes_here
   register_adds net width edge stops control = record {
     includes = f40;
@@ -165,36 +165,24 @@ module _ (b0 b1 b2 b3 b4 : Netlist) (load : Option Net) (test register next valu
     reads = none_read;
     takes_test = takes_here edge;
     updated = all_updated;
-    still = all_still (test_still b4 load test register (takes_here edge));
+    still = all_still (test_still b4 load first test register (takes_here edge));
     stops = stops;
     control = λ copies is of_test of_load. control copies is (value_control copies is of_test of_load);
   }
 
--- what the counters take is made of no copy where they are none
+-- the counters' registers are no copies
 module _ (b : Netlist) (first : ℕ) (k : Counters) (is : TakesNext b first k) (copies : List ℕ) (plain : ArePlainly copies k) where
-  register_free : (j : ℕ) → (Contains copies j → ⊥) → IsTrue (is_control_but b.enable copies (OfNet (Reg j)))
-  register_free j none = elim (copy_cases copies j) as (λ _. IsTrue (not (list_any (λ (r : ℕ). r == j) copies))) [ inl c ↦ absurd (none c) | inr free ↦ free ]
+  register_free : (e : Bool) (j : ℕ) → (Contains copies j → ⊥) → IsTrue (is_control_but e copies (OfNet (Reg j)))
+  register_free e j none = elim (copy_cases copies j) as (λ _. IsTrue (not (list_any (λ (r : ℕ). r == j) copies))) [ inl c ↦ absurd (none c) | inr free ↦ free ]
 
-  ports : (e : Bool) (n : Net) → Contains (control_nets e) n → IsTrue (is_control_but e copies (OfNet n))
-  ports true n (zero, l, e) = subst (λ (x : Net). IsTrue (is_control_but true copies (OfNet x))) e refl
-  ports false n (zero, l, e) = subst (λ (x : Net). IsTrue (is_control_but false copies (OfNet x))) e refl
-  ports true n (suc zero, l, e) = subst (λ (x : Net). IsTrue (is_control_but true copies (OfNet x))) e refl
-  ports true n (suc (suc i), l, e) = absurd (omega (arith, l))
-  ports false n (suc i, l, e) = absurd (omega (arith, l))
+  register_control : (n : Net) (j : ℕ) → n ≡ Reg j → (Contains copies j → ⊥) → IsControlBut b copies (OfNet n)
+  register_control n j e none = subst (λ (x : Net). IsControlBut b copies (OfNet x)) (sym e) (by_itself (register_free b.enable j none))
 
-  owns : (n : Net) → Contains (Reg first ∷ (Reg (suc first) ∷ [])) n → IsTrue (is_control_but b.enable copies (OfNet n))
-  owns n (zero, l, e) = subst (λ (x : Net). IsTrue (is_control_but b.enable copies (OfNet x))) e (register_free first (plain.column first is.column_at))
-  owns n (suc zero, l, e) = subst (λ (x : Net). IsTrue (is_control_but b.enable copies (OfNet x))) e (register_free (suc first) (plain.row (suc first) is.row_at))
-  owns n (suc (suc i), l, e) = absurd (omega (arith, l))
+  pub column_control : IsControlBut b copies (OfNet k.pixel.column)
+  column_control = register_control k.pixel.column first is.column_at (plain.column first is.column_at)
 
-  base : (n : Net) → Contains (control_nets b.enable ++ Reg first ∷ (Reg (suc first) ∷ [])) n → IsTrue (is_control_but b.enable copies (OfNet n))
-  base n c = elim (Contains-append_cases (control_nets b.enable) (Reg first ∷ (Reg (suc first) ∷ [])) n c) as (λ _. IsTrue (is_control_but b.enable copies (OfNet n))) [ inl h ↦ ports b.enable n h | inr h ↦ owns n h ]
-
-  pub column_control : IsControlBut b copies (OfNet k.next.column)
-  column_control = is.column_made (is_control_but b.enable copies) base
-
-  pub row_control : IsControlBut b copies (OfNet k.next.row)
-  row_control = is.row_made (is_control_but b.enable copies) base
+  pub row_control : IsControlBut b copies (OfNet k.pixel.row)
+  row_control = register_control k.pixel.row (suc first) is.row_at (plain.row (suc first) is.row_at)
 
 -- and so are tests of it
 pub test_control : (new old : Netlist) (copies : List ℕ) (x n : Net) (bits : ℕ) (worth : Snapshot → ℕ) → Includes new old → Computes new old (x ∷ []) bits worth n → IsControlBut old copies (OfNet x) → IsControlBut new copies (OfNet n)
@@ -245,9 +233,9 @@ beside_on a b c i j k f g = record {
   control = λ copies h. g.control copies (f.control copies h);
 }
 
-pub beside_register : (new old : Netlist) (load : Option Net) (test register : Net) (k : Counters) → AddsRegisterOf new old load test register →
+pub beside_register : (new old : Netlist) (load : Option Net) (first : ℕ) (test register : Net) (k : Counters) → AddsRegisterOf new old load first test register →
     ((copies : List ℕ) → ArePlainly copies k → IsControlBut old copies (OfNet test) × IfSome load (λ l. IsControlBut old copies (OfNet l))) → AddsBeside new old (Some k) (Some k)
-beside_register new old load test register k is of = record {
+beside_register new old load first test register k is of = record {
   includes = is.includes;
   arrays = is.arrays;
   reads = is.reads;

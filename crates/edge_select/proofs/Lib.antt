@@ -8,6 +8,7 @@ pub mod Combining
 pub mod Stepping
 pub mod Shifts
 pub mod Moving
+pub mod Earlier
 pub mod Testing
 pub mod Beside
 pub mod Framed

@@ -16,7 +16,7 @@ pub record Between (first last x : ℕ) : Type 0 where
   pub low : first ≤ x
   pub high : x ≤ last
 
-interval_in : (side first last x : ℕ) → x < side → IsTrue (in_interval side first last x) → Between first last x
+pub interval_in : (side first last x : ℕ) → x < side → IsTrue (in_interval side first last x) → Between first last x
 interval_in side first last x low h =
     elim (cases_eq first last) as (λ _. Between first last x) [
       | inl e ↦
@@ -29,7 +29,7 @@ interval_in side first last x low h =
           record { low = is.first; high = is.last }
     ]
 
-in_the_interval : (side first last x : ℕ) → x < side → Between first last x → IsTrue (in_interval side first last x)
+pub in_the_interval : (side first last x : ℕ) → x < side → Between first last x → IsTrue (in_interval side first last x)
 in_the_interval side first last x low is =
     elim (cases_eq first last) as (λ _. IsTrue (in_interval side first last x)) [
       | inl e ↦ subst (λ (b : Bool). IsTrue (if b then x == first else is_within side first last x)) (sym (eq-eqb first last e)) (eq-eqb x first (omega (arith, e, is.low, is.high)))

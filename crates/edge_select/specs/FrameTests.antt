@@ -1,5 +1,5 @@
 -- The frame tests of a module: one pair of counters, and registers of one bit that test its columns and rows.
-use Rattle.std.specs.Prelude.{◌≡◌, ℕ, ◌+◌, ◌<◌, ◌==◌, if◌then◌else◌, IsTrue, List, [], ◌∷◌, length, slice_get, Option, None, Some, IfSome, All, Contains}
+use Rattle.std.specs.Prelude.{◌≡◌, ℕ, ◌+◌, ◌<◌, ◌==◌, Bool, if◌then◌else◌, IsTrue, List, [], ◌∷◌, length, slice_get, Option, None, Some, IfSome, All, Contains}
 use Rattle.dk_base.specs.Frames.{Size, column, row}
 use Rattle.dk_base.specs.FrameSizes.{size_of}
 use Rattle.wiring.specs.declared.netlist.Net.{Net}
@@ -14,7 +14,8 @@ use Rattle.net_build.specs.Includes.{Includes, InEach, AtEachEdge}
 use Rattle.net_build.specs.Draft.{IsNet, UpdatedBut}
 use Rattle.net_build.specs.Runs.{InEachRun, NeverStops, StillBut}
 use Rattle.net_build.specs.Control.{IsControl, IsControlBut, IsControlled, AddsNoReads}
-use Rattle.net_build.specs.Counters.{loaded}
+use Rattle.net_build.specs.Logic.{Computes}
+use Rattle.net_build.specs.Counters.{taken}
 use Rattle.edge_select.specs.declared.counters.Counters.{Counters}
 use Rattle.edge_select.specs.declared.frame_tests.Test.{Test}
 use Rattle.edge_select.specs.declared.frame_tests.FrameTests.{FrameTests}
@@ -43,22 +44,28 @@ abbrev pub sources : Option Net → (test register : Net) → List Net
 sources None test register = test ∷ []
 sources (Some l) test register = l ∷ (test ∷ (register ∷ []))
 
--- at each clock edge the register of this number takes the test where `load` is 1, or always; in a held clock, and where `load` is 0, it takes what it has
-pub record TakesTest (b : Netlist) (load : Option Net) (test register : Net) : Type 0 where
+-- the net is a test of a net of one of the side's coordinates: the bit of those that pass
+pub record IsTestOf (new old : Netlist) (side : ℕ) (passes : ℕ → Bool) (x n : Net) : Type 0 where
+  pub test : ℕ → Bool
+  pub computes : Computes new old (x ∷ []) 1 (λ s. bit (test (net_value s x))) n
+  pub right : (v : ℕ) → v < side → test v ≡ passes v
+
+-- at each clock edge the register of this number takes `first` in a reset clock, and else the test where `load` is 1, or always; in a held clock, and where `load` is 0, it takes what it has
+pub record TakesTest (b : Netlist) (load : Option Net) (first : ℕ) (test register : Net) : Type 0 where
   pub number : ℕ
   pub at : register ≡ Reg number
   pub value : Net
   pub edge : AtEachEdge b (λ s next. slice_get next.regs number ≡ Some (net_value s value))
-  pub value_is : InEach b (λ m s. net_value s value ≡ loaded b.enable (net_value s register) (takes load test register s) s)
+  pub value_is : InEach b (λ m s. net_value s value ≡ taken b.enable first (net_value s register) (takes load test register s) s)
 
--- A register of one bit is added. At each clock edge that is not of a held clock it takes the test where `load` is 1, or always, and else it keeps its contents. Besides it only wires are added, which read no array.
-pub record AddsRegisterOf (new old : Netlist) (load : Option Net) (test register : Net) : Type 0 where
+-- A register of one bit is added. At the edge of a reset clock it takes `first`, at that of a held clock it keeps its contents, and at each other edge it takes the test where `load` is 1, or always. Besides it only wires are added, which read no array.
+pub record AddsRegisterOf (new old : Netlist) (load : Option Net) (first : ℕ) (test register : Net) : Type 0 where
   pub includes : Includes new old
   pub net : IsNet new register
   pub width : net_width new register ≡ 1
   pub arrays : new.arrays ≡ old.arrays
   pub reads : AddsNoReads new old
-  pub takes_test : TakesTest new load test register
+  pub takes_test : TakesTest new load first test register
   pub updated : (free : List Holder) → UpdatedBut old free → UpdatedBut new free
   pub still : (copies : List ℕ) (free : List Holder) → StillBut old copies free → StillBut new copies free
   pub stops : NeverStops old → NeverStops new

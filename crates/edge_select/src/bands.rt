@@ -1,6 +1,6 @@
 // Intervals of columns or rows, moved on around the end of a side, and their tests.
 
-ghost use Rattle.std.specs.Prelude.{◌≡◌, ◌+◌, ◌-◌, ◌%◌, ◌<◌, ◌≤◌, ◌^◌, ◌==◌, not, ℕ, false, if◌then◌else◌, IsTrue, [], ◌∷◌, IfOk};
+ghost use Rattle.std.specs.Prelude.{◌≡◌, ◌+◌, ◌-◌, ◌%◌, ◌<◌, ◌≤◌, ◌^◌, ◌==◌, not, ℕ, true, false, if◌then◌else◌, IsTrue, [], ◌∷◌, IfOk};
 ghost use Rattle.dk_base.specs.declared.TheConstants.{MAX_SIDE};
 ghost use Rattle.dk_base.specs.Numbers.{bit_count};
 ghost use Rattle.wiring.specs.Netlist.{net_width};
@@ -9,6 +9,7 @@ ghost use Rattle.wiring.specs.Snapshot.{net_value};
 ghost use Rattle.wiring.specs.Clock.{bit};
 ghost use Rattle.net_build.specs.Draft.{IsNet};
 ghost use Rattle.net_build.specs.Logic.{AddsLogic, Computes};
+ghost use Rattle.net_build.specs.Counters.{after};
 ghost use Rattle.frame_paths.specs.Moves.{IsIn, IsInterval};
 ghost use Rattle.edge_select.specs.Pixels.{IsBitOf};
 ghost use Rattle.edge_select.specs.Bands.{IsBand, in_interval, in_band};
@@ -65,6 +66,59 @@ pub fn moved(interval: Interval, shift: u32, side: u32) -> Band
         last: first - 1,
         outside: true,
     }
+}
+
+// The band that is one coordinate before this one: a coordinate is in it exactly where the next coordinate is in this band. After the last coordinate of the side comes the first.
+pub fn before(band: Band, side: u32) -> Band
+    requires band { IsBand side band }
+    requires most { side ≤ MAX_SIDE }
+    ensures band { IsBand side result }
+    ensures before { (x : ℕ) → x < side → in_band side result x ≡ in_band side band (after true (side - 1) x) }
+{
+    if band.first > 0 {
+        return Band {
+            first: band.first - 1,
+            last: band.last - 1,
+            outside: band.outside,
+        };
+    }
+    if band.last + 1 == side {
+        return band;
+    }
+    Band {
+        first: band.last,
+        last: side - 2,
+        outside: !band.outside,
+    }
+}
+
+// The coordinate before this one. Before the first coordinate of the side is the last.
+pub fn one_before(x: u32, side: u32) -> u32
+    requires x { x < side }
+    ensures low { result < side }
+    ensures next { after true (side - 1) result ≡ x }
+{
+    if x == 0 {
+        return side - 1;
+    }
+    x - 1
+}
+
+// 1 if the first coordinate is in the band, and else 0.
+pub fn first_bit(band: Band) -> u64
+    ensures low { result < 2 ^ 1 }
+    ensures bit { (side : ℕ) → IsBand side band → result ≡ bit (in_band side band 0) }
+{
+    if band.first == 0 {
+        if band.outside {
+            return 0;
+        }
+        return 1;
+    }
+    if band.outside {
+        return 1;
+    }
+    0
 }
 
 // The test that a coordinate is this one.

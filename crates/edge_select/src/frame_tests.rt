@@ -1,21 +1,21 @@
 // Tests of the pixels of a module, for each delay: one pair of counters, and registers of one bit.
 
-ghost use Rattle.std.specs.Prelude.{ℕ, ◌≡◌, ◌<◌, ◌==◌, List, [], ◌∷◌, ◌++◌, Contains, Some, IfOk, IfSome, OnOk};
+ghost use Rattle.std.specs.Prelude.{ℕ, ◌≡◌, ◌<◌, ◌-◌, ◌^◌, ◌==◌, true, if◌then◌else◌, List, [], ◌∷◌, ◌++◌, Contains, Some, IfOk, IfSome, OnOk};
 ghost use Rattle.dk_base.specs.FrameSizes.{size_of};
 ghost use Rattle.wiring.specs.Netlist.{Netlist, net_width};
 ghost use Rattle.wiring.specs.Snapshot.{net_value};
 ghost use Rattle.wiring.specs.Clock.{bit};
 ghost use Rattle.net_build.specs.Draft.{IsNet};
 ghost use Rattle.net_build.specs.Logic.{AddsLogic, Computes};
-ghost use Rattle.net_build.specs.Counters.{control_nets, loaded};
+ghost use Rattle.net_build.specs.Counters.{after, control_nets, taken};
 ghost use Rattle.frame_paths.specs.Moves.{IsIn, IsInterval};
 ghost use Rattle.edge_select.specs.Steps.{LeadBy, LeadOn};
 ghost use Rattle.edge_select.specs.Bands.{IsBand, in_band};
 ghost use Rattle.edge_select.specs.Logic.{IsBit};
 ghost use Rattle.edge_select.specs.Passes.{IsRectangle, Passes, PassesOn};
-ghost use Rattle.edge_select.specs.FrameTests.{AddsRegisterOf, takes, AddsBeside, AddsTests, AreCounters, IsColumnTest, IsRowTest, AreFrameTests, IsFrameTest, IsPartTest, IsApart, sources};
+ghost use Rattle.edge_select.specs.FrameTests.{AddsRegisterOf, takes, AddsBeside, AddsTests, AreCounters, IsColumnTest, IsRowTest, AreFrameTests, IsFrameTest, IsPartTest, IsApart, IsTestOf, sources};
 
-use crate::bands::{Band, band_test, equal_to, interval_of, moved, same_band, turned};
+use crate::bands::{Band, band_test, before, equal_to, first_bit, interval_of, moved, one_before, same_band, turned};
 use crate::counters::{Counters, counted};
 use crate::extents::is_whole;
 use crate::frame_conditions::{both, constant_test, test_net};
@@ -24,7 +24,7 @@ use crate::pixel::width_for;
 use crate::step::Step;
 use dk_base::{FrameSize, OutOfMemory};
 use frame_paths::Interval;
-use net_build::{Builder, gate, loaded};
+use net_build::{Builder, gate, register_value};
 use std::alloc::Global;
 use wiring::{Atom, Net, Right};
 
@@ -72,54 +72,84 @@ fn choice_of(
     }
 }
 
-// What a register takes so that it is still in held clocks.
-fn still_value(b: &mut Builder, register: Net, next: Net) -> Result<Net, OutOfMemory>
+// What a register takes so that it is `first` after a reset and still in held clocks.
+fn still_value(
+    b: &mut Builder,
+    register: Net,
+    next: Net,
+    first: u64,
+) -> Result<Net, OutOfMemory>
     requires register { IsNet b.old register }
     requires next { IsNet b.old next }
     requires register_width { net_width b.old register ≡ 1 }
     requires next_width { net_width b.old next ≡ 1 }
+    requires first { first < 2 ^ 1 }
     ensures logic { AddsLogic b.new b.old }
     ensures net { IfOk result (Computes b.new b.old (control_nets b.old.enable ++ register ∷ (next ∷ []))
-        1 (λ s. loaded b.old.enable (net_value s register) (net_value s next) s)) }
+        1 (λ s. taken b.old.enable first (net_value s register) (net_value s next) s)) }
 {
-    let value = loaded(b, register, next, 1)?;
+    let value = register_value(b, register, next, 1, first)?;
     Ok(value)
 }
 
-// A register of one bit that takes a test where `load` is 1, or always, and is still in held clocks.
-fn register_of(b: &mut Builder, load: Option<Net>, test: Net) -> Result<Net, OutOfMemory>
+// A register of one bit that is `first` after a reset, takes a test where `load` is 1, or always, and is still in held clocks.
+fn register_of(
+    b: &mut Builder,
+    load: Option<Net>,
+    first: u64,
+    test: Net,
+) -> Result<Net, OutOfMemory>
     requires load { IsBit b.old load }
+    requires first { first < 2 ^ 1 }
     requires test { IsNet b.old test }
     requires width { net_width b.old test ≡ 1 }
-    ensures adds { IfOk result (AddsRegisterOf b.new b.old load test) }
+    ensures adds { IfOk result (AddsRegisterOf b.new b.old load first test) }
 {
     let register = b.reg(1)?;
     let next = choice_of(b, load, test, register)?;
-    let value = still_value(b, register, next)?;
+    let value = still_value(b, register, next, first)?;
     b.set(register, value);
     Ok(register)
 }
 
-// The test of the next column. A register that takes it tests the column of its own clock.
+// The test of the next column, by the present one. A register that takes it tests the column of its own clock.
 fn next_column_test(b: &mut Builder, k: &Counters, band: Band) -> Result<Net, OutOfMemory>
     requires counters { AreCounters b.old (size_of k.now.pixel.size) k.now }
     requires band { IsBand k.now.pixel.size.width band }
     ensures logic { AddsLogic b.new b.old }
-    ensures test { IfOk result (Computes b.new b.old (k.now.next.column ∷ []) 1 (λ s. bit (in_band k.now.pixel.size.width band (net_value s k.now.next.column)))) }
+    ensures test { IfOk result (IsTestOf b.new b.old k.now.pixel.size.width (λ x. in_band k.now.pixel.size.width band (after true (k.now.pixel.size.width - 1) x)) k.now.pixel.column) }
 {
-    let net = band_test(b, k.next.column, k.pixel.size.width, band)?;
+    let earlier = before(band, k.pixel.size.width);
+    let net = band_test(b, k.pixel.column, k.pixel.size.width, earlier)?;
     Ok(net)
 }
 
-// The test that the next column is `start`.
+// The test that the next column is `start`, by the present one.
 fn starts(b: &mut Builder, k: &Counters, start: u32) -> Result<Net, OutOfMemory>
     requires counters { AreCounters b.old (size_of k.now.pixel.size) k.now }
     requires start { start < k.now.pixel.size.width }
     ensures logic { AddsLogic b.new b.old }
-    ensures test { IfOk result (Computes b.new b.old (k.now.next.column ∷ []) 1 (λ s. bit (net_value s k.now.next.column == start))) }
+    ensures test { IfOk result (IsTestOf b.new b.old k.now.pixel.size.width (λ x. after true (k.now.pixel.size.width - 1) x == start) k.now.pixel.column) }
 {
     let bits = width_for(k.pixel.size.width);
-    let net = equal_to(b, k.next.column, bits, start)?;
+    let earlier = one_before(start, k.pixel.size.width);
+    let net = equal_to(b, k.pixel.column, bits, earlier)?;
+    Ok(net)
+}
+
+// The test of the next row where the next column is `start`, by the present row. The row changes where the next column is the first.
+fn next_row_test(b: &mut Builder, k: &Counters, start: u32, band: Band) -> Result<Net, OutOfMemory>
+    requires counters { AreCounters b.old (size_of k.now.pixel.size) k.now }
+    requires band { IsBand k.now.pixel.size.height band }
+    ensures logic { AddsLogic b.new b.old }
+    ensures test { IfOk result (IsTestOf b.new b.old k.now.pixel.size.height (λ y. in_band k.now.pixel.size.height band (if start == 0 then after true (k.now.pixel.size.height - 1) y else y)) k.now.pixel.row) }
+{
+    if start == 0 {
+        let earlier = before(band, k.pixel.size.height);
+        let net = band_test(b, k.pixel.row, k.pixel.size.height, earlier)?;
+        return Ok(net);
+    }
+    let net = band_test(b, k.pixel.row, k.pixel.size.height, band)?;
     Ok(net)
 }
 
@@ -131,7 +161,7 @@ fn column_register(b: &mut Builder, k: &Counters, band: Band) -> Result<Net, Out
     ensures test { IfOk result (λ n. IsColumnTest b.new (size_of k.now.pixel.size) (record { start = 0; band = band; net = n })) }
 {
     let test = next_column_test(b, k, band)?;
-    let net = register_of(b, None, test)?;
+    let net = register_of(b, None, first_bit(band), test)?;
     Ok(net)
 }
 
@@ -144,8 +174,8 @@ fn row_register(b: &mut Builder, k: &Counters, start: u32, band: Band) -> Result
     ensures test { IfOk result (λ n. IsRowTest b.new (size_of k.now.pixel.size) (record { start = start; band = band; net = n })) }
 {
     let begins = starts(b, k, start)?;
-    let test = band_test(b, k.next.row, k.pixel.size.height, band)?;
-    let net = register_of(b, Some(begins), test)?;
+    let test = next_row_test(b, k, start, band)?;
+    let net = register_of(b, Some(begins), first_bit(band), test)?;
     Ok(net)
 }
 

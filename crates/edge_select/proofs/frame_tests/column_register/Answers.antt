@@ -4,9 +4,9 @@ use Rattle.edge_select.proofs.frame_tests.column_register.Goals as goal
 
 pub returns-clause-adds : goal.returns-clause-adds
 returns-clause-adds c =
-    column_adds c.register_of.new.b c.next_column_test.new.b c.args.b.now (size_of c.args.k.now.pixel.size) c.args.k.now c.args.band c.in_ok-test.test c.in_ok-net.net c.requires.counters c.next_column_test.ensures.logic c.in_ok-test.ensures.test c.in_ok-net.ensures.adds
+    column_adds c.register_of.new.b c.next_column_test.new.b c.args.b.now (size_of c.args.k.now.pixel.size) c.args.k.now c.args.band c.first_bit.result c.in_ok-test.test c.in_ok-net.net c.requires.counters c.next_column_test.ensures.logic c.in_ok-test.ensures.test c.in_ok-net.ensures.adds
 
 pub returns-clause-test : goal.returns-clause-test
 returns-clause-test c =
-    column_is_test c.register_of.new.b c.next_column_test.new.b c.args.b.now (size_of c.args.k.now.pixel.size) c.args.k.now c.args.band c.in_ok-test.test c.in_ok-net.net c.requires.counters c.args.k.now.pixel.size.sides.some_columns c.args.k.now.pixel.size.sides.some_rows c.next_column_test.ensures.logic c.in_ok-test.ensures.test
+    column_is_test c.register_of.new.b c.next_column_test.new.b c.args.b.now (size_of c.args.k.now.pixel.size) c.args.k.now c.args.band c.first_bit.result c.in_ok-test.test c.in_ok-net.net c.requires.counters c.args.k.now.pixel.size.sides.some_columns c.args.k.now.pixel.size.sides.some_rows (c.first_bit.ensures.bit c.args.k.now.pixel.size.width c.requires.band) c.next_column_test.ensures.logic c.in_ok-test.ensures.test
     c.in_ok-net.ensures.adds
