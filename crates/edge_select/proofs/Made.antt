@@ -1,14 +1,14 @@
 -- Registers of tests that are added beside the counters.
-use Rattle.std.proofs.Common.{◌≡◌, ℕ, ◌-◌, ◌<◌, ◌≤◌, ◌==◌, Bool, true, List, [], ◌∷◌, None, Some, ap, ◌∙◌}
+use Rattle.std.proofs.Common.{◌≡◌, ℕ, ◌-◌, ◌<◌, ◌≤◌, ◌==◌, Bool, true, None, Some, ap, ◌∙◌}
 use Rattle.std.specs.Prelude.{if◌then◌else◌}
 use Rattle.dk_base.specs.Frames.{Size}
 use Rattle.wiring.specs.declared.netlist.Net.{Net}
 use Rattle.wiring.specs.declared.netlist.Holder.TheVariants.{OfNet}
 use Rattle.wiring.specs.Netlist.{Netlist}
-use Rattle.wiring.specs.Snapshot.{Snapshot, net_value}
+use Rattle.wiring.specs.Snapshot.{net_value}
 use Rattle.wiring.specs.Clock.{bit}
 use Rattle.net_build.specs.Includes.{Includes, InEach}
-use Rattle.net_build.specs.Logic.{AddsLogic, Computes}
+use Rattle.net_build.specs.Logic.{AddsLogic}
 use Rattle.net_build.specs.Counters.{after}
 use Rattle.net_build.proofs.Parts.{Includes-trans}
 use Rattle.net_build.proofs.Logic.{logic_on}

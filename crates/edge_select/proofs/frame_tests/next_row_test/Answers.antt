@@ -1,4 +1,4 @@
-use Rattle.std.proofs.Common.{ℕ, Bool, true, ◌-◌, ◌==◌, ◌∙◌, ap, sym, arith, refl}
+use Rattle.std.proofs.Common.{Bool, true, ◌-◌, ◌∙◌, ap, sym, arith}
 use Rattle.std.specs.Prelude.{if◌then◌else◌}
 use Rattle.std.proofs.lemmas.Bool.{eq-eqb, ne_eqb}
 use Rattle.net_build.specs.Counters.{after}

@@ -1,4 +1,4 @@
-use Rattle.std.proofs.Common.{◌==◌, ◌∙◌}
+use Rattle.std.proofs.Common.{◌==◌}
 use Rattle.edge_select.proofs.Earlier.{after_is}
 use Rattle.edge_select.proofs.frame_tests.starts.Goals as goal
 
