@@ -11,7 +11,7 @@ use Rattle.circuit.specs.Behaviour.{HasPorts}
 use Rattle.circuit.specs.Nets.{IsApart}
 use Rattle.circuit.specs.Modules.{IsModuleOf}
 use Rattle.circuit.specs.Driven.{Drives}
-use Rattle.dk_compile.specs.Compiled.{IsCircuitOf}
+use Rattle.dk_compile.specs.Circuits.{IsCircuitOf}
 
 module _ (m : Netlist) (p : Program) (plan : Plan) (enable : Bool) where
   pub chain_circuit : (nets : List Net) → HasPorts m p enable → IsWhole m m → RunsOn m → IsModuleOf m p plan chain_form nets → m.arrays ≡ shapes_of chain_form.shapes plan plan.system.stencils.images → HasProperty m chain_form.property → IsApart m p plan chain_form nets → Drives m p plan →

@@ -19,3 +19,4 @@ pub mod Rounds
 pub mod Printed
 pub mod Circuits
 pub mod Same
+pub mod Packing

@@ -2,6 +2,8 @@ pub mod Faults
 pub mod Sources
 pub mod Fronts
 pub mod Limits
+pub mod Circuits
+pub mod Packed
 pub mod Compiled
 pub mod Cuts
 pub mod Judged

@@ -4,13 +4,17 @@ ghost use Rattle.std.specs.Prelude.{◌≡◌, ◌≤◌, false, None, IfOk, IfE
 ghost use Rattle.dk_base.specs.declared.TheConstants.{MAX_AGE};
 ghost use Rattle.dk_types.specs.Typed.{Typing};
 ghost use Rattle.flow_dual.specs.Solutions.{IsSolution};
+ghost use Rattle.wiring.specs.BufferBits.{array_bits};
 ghost use Rattle.net_build.specs.Naming.{names_for};
-ghost use Rattle.buffer_plan.specs.Plans.{IsPlan};
+ghost use Rattle.pointwise_ir.specs.Programs.{IsProgram};
+ghost use Rattle.buffer_plan.specs.Plans.{IsPlan, bits_of};
 ghost use Rattle.buffer_plan.specs.Limits.{IsPlanFault};
 ghost use Rattle.circuit.specs.Behaviour.{IsPlanOf};
 ghost use Rattle.dk_compile.specs.Sources.{IsErrorBy};
 ghost use Rattle.dk_compile.specs.Limits.{IsFaultAt};
-ghost use Rattle.dk_compile.specs.Compiled.{IsPlanned, IsCircuitOf, IsTextOf, IsCompiled};
+ghost use Rattle.dk_compile.specs.Circuits.{IsCircuitOf};
+ghost use Rattle.dk_compile.specs.Packed.{IsPackedCircuitOf};
+ghost use Rattle.dk_compile.specs.Compiled.{IsPlanned, IsTextOf, IsCompiled};
 
 use crate::accepted::Front;
 use crate::fault::SourceError;
@@ -20,6 +24,7 @@ use buffer_plan::{Plan, PlanFault, plan};
 use circuit::{BlockChain, Built, Chain, build_with, finer_ages, frame_drive_law};
 use dk_base::{OutOfMemory, Stencils};
 use flow_dual::{Solution, solve};
+use module_pass::pack;
 use netlist::Module;
 use pointwise_ir::Program;
 use raster_delay::System;
@@ -36,7 +41,7 @@ pub struct PlannedProgram {
     pub plan: Plan,
 }
 
-/// A program that is compiled: its plan with what that rests on, its module with the net of each kept image in order, and the Verilog text of the module.
+/// A program that is compiled: its plan with what that rests on, its module with the net of each kept image in order, and the Verilog text of the module. With `block` the module's arrays are packed.
 #[derive(Drop)]
 pub struct Compiled {
     pub ir: Program,
@@ -131,6 +136,32 @@ fn built(alloc: Global, ir: &Program, plan: &Plan, options: Options) -> Result<B
     }
 }
 
+// The module of a circuit: with a number its arrays of at least so many words are packed.
+fn packed(
+    alloc: Global,
+    ir: &Program,
+    plan: &Plan,
+    circuit: Built,
+    options: Options,
+) -> Result<Built, OutOfMemory>
+    requires circuit { IsCircuitOf ir.now plan.now options.enable options.block circuit.«module».netlist circuit.nets.items }
+    requires named { circuit.«module».names ≡ names_for circuit.«module».netlist }
+    ensures packed { IfOk result (λ r. IsPackedCircuitOf ir.now plan.now options.enable options.block r.«module».netlist r.nets.items) }
+    ensures named { IfOk result (λ r. r.«module».names ≡ names_for r.«module».netlist) }
+    ensures bits { IfOk result (λ r. array_bits r.«module».netlist.arrays ≡ bits_of plan.now) }
+{
+    ir.law();
+    let Some(least) = options.block else {
+        return Ok(circuit);
+    };
+    let Built { module, nets } = circuit;
+    let packed = pack(alloc, module, least)?;
+    let module = packed.module;
+    let _wiring = module.wiring();
+    let _order = module.order();
+    Ok(Built { module, nets })
+}
+
 // The module of a plan, and its text.
 fn printed(
     alloc: Global,
@@ -140,16 +171,17 @@ fn printed(
 ) -> Result<PrintedModule, OutOfMemory>
     requires plan { IsPlanOf ir.now plan.now (record { enable = options.enable; age = options.age }) }
     requires block { IfSome options.block (λ least. 2 ≤ least) }
-    ensures circuit { IfOk result (λ r. IsCircuitOf ir.now plan.now options.enable options.block r.«module».netlist r.nets.items) }
+    ensures circuit { IfOk result (λ r. IsPackedCircuitOf ir.now plan.now options.enable options.block r.«module».netlist r.nets.items) }
     ensures text { IfOk result (λ r. IsTextOf r.«module» r.text.items) }
 {
     plan.law();
-    let Built { module, nets } = built(alloc, ir, plan, options)?;
+    let circuit = built(alloc, ir, plan, options)?;
+    let Built { module, nets } = packed(alloc, ir, plan, circuit, options)?;
     let text = print(alloc, &module)?;
     Ok(PrintedModule { module, nets, text })
 }
 
-/// The Verilog text of the circuit of a program, with the port `en` if it is requested, at an age of at most 64 clocks, and with arrays of at least `block` words in the form of block memories; or the first fault of the text at this age. The Verilog text is in the language of IEEE Std 1364-2005.
+/// The Verilog text of the circuit of a program, with the port `en` if it is requested, at an age of at most 64 clocks, and with arrays of at least `block` words in the form of block memories and packed; or the first fault of the text at this age. The Verilog text is in the language of IEEE Std 1364-2005.
 pub fn compile_with(alloc: Global, text: &[u8], options: Options) -> Result<Compiled, SourceError>
     requires age { options.age ≤ MAX_AGE }
     requires block { IfSome options.block (λ least. 2 ≤ least) }

@@ -1,7 +1,7 @@
 use Rattle.std.proofs.Common.{ℕ, Some, Option, sym, ap, subst}
 use Rattle.std.specs.Prelude.{◌≤◌, IfSome}
 use Rattle.circuit.specs.Splits.{Splits}
-use Rattle.dk_compile.specs.Compiled.{IsCircuitOf}
+use Rattle.dk_compile.specs.Circuits.{IsCircuitOf}
 use Rattle.dk_compile.proofs.Circuits.{chain_circuit, block_circuit}
 use Rattle.dk_compile.proofs.compiling.built.Goals as goal
 

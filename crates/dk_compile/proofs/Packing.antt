@@ -1,0 +1,167 @@
+-- A module that simulates a circuit does in its own runs what the circuit does.
+use Rattle.std.proofs.Common.{◌≡◌, ℕ, ◌+◌, ◌<◌, ◌==◌, Bool, true, List, [], ◌∷◌, length, map, refl, sym, ap, subst, ◌∙◌, Option, Some, None}
+use Rattle.std.specs.Prelude.{IsTrue, nat_lt, nat_le, not, ◌&&◌, if◌then◌else◌, slice_get, slice_index, replicate, All}
+use Rattle.std.proofs.lemmas.List.Elements.{All-nil, All-cons, All-head, All-tail}
+use Rattle.core.proofs.iter.runs.Lists.{slice_get-map}
+use Rattle.std.specs.Prelude.{option_map}
+use Rattle.wiring.specs.declared.netlist.Net.{Net}
+use Rattle.wiring.specs.Netlist.{Netlist, valid_net, dout_net}
+use Rattle.wiring.specs.Snapshot.{Contents, Snapshot, Fit, FitsContents, IsNext, net_value}
+use Rattle.wiring.specs.Clock.{Clock, bit, given}
+use Rattle.wiring.specs.History.{was_reset, is_held, counted, fed}
+use Rattle.wiring.specs.Runs.{Runs}
+use Rattle.wiring.specs.Order.{IsEvaluationOrder}
+use Rattle.wiring.specs.Rules.{KeepsRules}
+use Rattle.netlist.proofs.FitLaws.{contents_fit}
+use Rattle.net_build.specs.Runs.{IsWhole, FitsPorts, IsClockOf, RunsOn, IsReady}
+use Rattle.net_build.proofs.Parts.{Includes-refl}
+use Rattle.net_build.proofs.Runs.{clock_contents, clock_inputs}
+use Rattle.module_pass.specs.declared.slots.Slot.{Slot}
+use Rattle.module_pass.specs.Simulation.{View, seen, Simulates}
+use Rattle.module_pass.specs.Packing.{IsPacking, packed, whole_slots}
+use Rattle.module_pass.proofs.Following.{at_followed, run_followed, stop_followed}
+use Rattle.module_pass.proofs.Simulated.{packed_simulates}
+use Rattle.module_pass.proofs.Seen.{contents_seen}
+use Rattle.module_pass.proofs.Whole.{whole_packing}
+use Rattle.pointwise_ir.specs.Programs.{Program, IsProgram}
+use Rattle.buffer_plan.specs.Plans.{Plan, delay_of, depth_of, latency_of}
+use Rattle.line_buffer.specs.Streams.{IsPixel, BufferIsRight}
+use Rattle.line_buffer.specs.Places.{word_at}
+use Rattle.circuit.specs.Runs.{IsRunning}
+use Rattle.circuit.specs.Rounds.{Rounds, AreRounds, Feeds, pixel_count, pixel_bits}
+use Rattle.circuit.specs.Forms.{Places}
+use Rattle.circuit.specs.Behaviour.{HasPorts, Behaves, is_valid}
+use Rattle.circuit.specs.Driven.{Drives, input_widths, driven}
+use Rattle.circuit.proofs.Driven.{zeros_fit, given_fits, fed_fit}
+use Rattle.dk_compile.specs.Circuits.{IsCircuitOf, form_with}
+use Rattle.dk_compile.specs.Packed.{BehavesAs, IsPackedCircuitOf}
+
+-- contents that are seen alike are equal, if they fit
+abbrev pub IsExact : Netlist → View → Type 0
+IsExact m v = (c d : Contents) → FitsContents m c → FitsContents m d → v.contents c ≡ v.contents d → c ≡ d
+
+module _ (m old : Netlist) (v : View) (sim : Simulates m old v) (whole : IsWhole m m) (old_whole : IsWhole old old) where
+  held_alike : (c : Clock) → is_held m c ≡ is_held old c
+  held_alike c = ap (λ (e : Bool). (e && not c.reset) && not c.enable) sim.enable
+
+  counted_alike : (before : List Clock) → counted m before ≡ counted old before
+  counted_alike [] = refl
+  counted_alike (c ∷ before) =
+      ap (λ (h : Bool). if c.reset then [] else if h then counted m before else c ∷ counted m before) (held_alike c)
+      ∙ ap (λ (l : List Clock). if c.reset then [] else if is_held old c then l else c ∷ l) (counted_alike before)
+
+  ports_alike : (c : Clock) → FitsPorts m c → FitsPorts old c
+  ports_alike c fit =
+      subst (λ (ws : List ℕ). Fit ws (given old c)) sim.inputs
+      (subst (λ (e : Bool). Fit m.inputs (bit c.reset ∷ (if e then bit c.enable ∷ c.dins else c.dins))) sim.enable fit)
+
+  all_alike : (clocks : List Clock) → All (FitsPorts m) clocks → All (FitsPorts old) clocks
+  all_alike [] fit = All-nil (FitsPorts old)
+  all_alike (c ∷ clocks) fit = All-cons (FitsPorts old) c clocks (ports_alike c (All-head (FitsPorts m) c clocks fit)) (all_alike clocks (All-tail (FitsPorts m) c clocks fit))
+
+  clock_alike : (from : Contents) (before : List Clock) (c : Clock) (s : Snapshot) → IsClockOf m m from before c s → IsClockOf old old (v.contents from) before c (seen v s)
+  clock_alike from before c s is = record {
+    whole = old_whole;
+    start = sim.fits from is.start;
+    fit = all_alike (c ∷ before) is.fit;
+    at = at_followed m old v sim whole.rules whole.order whole.ordered from before c s is.start is.fit is.at;
+  }
+
+  running_alike : (from : Contents) (before : List Clock) (c : Clock) (s : Snapshot) → IsRunning m m from before c s → IsRunning old old (v.contents from) before c (seen v s)
+  running_alike from before c s is = record { clock = clock_alike from before c s is.clock; since = is.since; off = is.off; going = sym (held_alike c) ∙ is.going }
+
+  feeds_alike : (p : Program) (rounds : Rounds) (history : List Clock) → Feeds m p rounds history → Feeds old p rounds history
+  feeds_alike p rounds history feeds k q j input at low =
+      ap (λ (cs : List Clock). slice_index (map (λ (d : Clock). slice_index d.dins k) cs) j) (sym (counted_alike history))
+      ∙ feeds k q j input (at ∙ ap length (sym (counted_alike history))) low
+
+  next_fits : (from : Contents) (before : List Clock) (c : Clock) (s : Snapshot) → IsClockOf m m from before c s → (next : Contents) → IsNext m s next → FitsContents m next
+  next_fits from before c s is next is_next =
+      contents_fit m whole.rules whole.order whole.ordered s is.at.snapshot.settled (clock_contents m m from before c s is) (clock_inputs m m from before c s is) next is_next
+
+  next_alike : (from : Contents) (before : List Clock) (c : Clock) (s : Snapshot) → IsClockOf m m from before c s → (next : Contents) → IsNext m s next → IsNext old (seen v s) (v.contents next)
+  next_alike from before c s is next is_next =
+      sim.next s next (record { settled = is.at.snapshot.settled; contents = clock_contents m m from before c s is; inputs = clock_inputs m m from before c s is }) is_next
+
+  pub behaves_alike : (p : Program) (plan : Plan) (places : Places) (copies : List ℕ) (nets : List Net) → IsExact m v → Behaves old p plan places copies nets → BehavesAs m v p plan places copies
+  behaves_alike p plan places copies nets exact b = record {
+    dout = λ k g at from before c s is rounds are feeds.
+        subst (λ (cs : List Clock). IsPixel (pixel_bits p rounds g) (pixel_count p rounds) (latency_of plan k) (length cs) (net_value s (dout_net k))) (sym (counted_alike before))
+        (b.dout k g at old (v.contents from) before c (seen v s) (running_alike from before c s is) rounds are (feeds_alike p rounds (c ∷ before) feeds));
+    valid = λ k low from before c s is since.
+        b.valid k low old (v.contents from) before c (seen v s) (clock_alike from before c s is) since
+        ∙ ap (λ (h : Bool). bit ((not c.reset && not h) && nat_le (latency_of plan k) (length (counted old before)))) (sym (held_alike c))
+        ∙ ap (λ (cs : List Clock). bit ((not c.reset && not (is_held m c)) && nat_le (latency_of plan k) (length cs))) (sym (counted_alike before));
+    horizon = λ from before c s is since rounds are feeds g keeps.
+        subst (λ (cs : List Clock). BufferIsRight (λ age t. word_at (v.contents s.contents) (places plan g age t)) (pixel_bits p rounds g) (pixel_count p rounds) (delay_of plan g) (depth_of plan g) (length cs)) (sym (counted_alike before))
+        (b.horizon old (v.contents from) before c (seen v s) (clock_alike from before c s is) since rounds are (feeds_alike p rounds before feeds) g keeps);
+    held = λ from before c s is ready held next is_next.
+        exact next s.contents (next_fits from before c s is next is_next) (clock_contents m m from before c s is)
+        (b.held old (v.contents from) before c (seen v s) (clock_alike from before c s is) refl ready (subst IsTrue (held_alike c) held) (v.contents next) (next_alike from before c s is next is_next));
+  }
+
+  pub ports_of : (p : Program) (enable : Bool) → HasPorts old p enable → HasPorts m p enable
+  ports_of p enable ports = record { enable_is = sim.enable ∙ ports.enable_is; inputs = sim.inputs ∙ ports.inputs; outputs = sim.outputs ∙ ports.outputs }
+
+  pub runs_alike : RunsOn old → RunsOn m
+  runs_alike runs = record {
+    no_stop = λ from clocks shots array index start fit begins stops.
+        (let old_stops = stop_followed m old v sim whole.rules whole.order whole.ordered from clocks shots array index start fit stops in
+        runs.no_stop (v.contents from) clocks (map (seen v) shots) old_stops.0 old_stops.1 (sim.fits from start) (all_alike clocks fit) begins old_stops.2);
+  }
+
+  seen_at : (shots : List Snapshot) (c : ℕ) (s : Snapshot) → slice_get shots c ≡ Some s → slice_get (map (seen v) shots) c ≡ Some (seen v s)
+  seen_at shots c s at = slice_get-map (seen v) shots c ∙ ap (option_map (seen v)) at
+
+  pub drives_alike : (p : Program) (plan : Plan) → IsProgram p → (enable : Bool) → HasPorts old p enable → Drives old p plan → Drives m p plan
+  drives_alike p plan program enable ports d = record {
+    ports = let own = ports_of p enable ports in record { enable_is = refl; inputs = subst (λ (e : Bool). m.inputs ≡ 1 ∷ (if e then 1 ∷ input_widths p else input_widths p)) (sym own.enable_is) own.inputs; outputs = own.outputs };
+    never = λ from dins shots array index start fit stops.
+        (let old_stops = stop_followed m old v sim whole.rules whole.order whole.ordered from (driven (length p.inputs) dins) shots array index start (driven_fit dins fit) stops in
+        d.never (v.contents from) dins (map (seen v) shots) old_stops.0 old_stops.1 (sim.fits from start) fit old_stops.2);
+    valid = λ from to dins shots start fit run k c s low at.
+        d.valid (v.contents from) (v.contents to) dins (map (seen v) shots) (sim.fits from start) fit (followed from to dins shots start fit run) k c (seen v s) low (seen_at shots c s at);
+    dout = λ from to dins shots start fit run rounds are agree k q s low at within.
+        d.dout (v.contents from) (v.contents to) dins (map (seen v) shots) (sim.fits from start) fit (followed from to dins shots start fit run) rounds are agree k q (seen v s) low (seen_at shots (q + latency_of plan k + 1) s at) within;
+  }
+    where
+      own : HasPorts m p enable
+      own = ports_of p enable ports
+
+      driven_fit : (dins : List (List ℕ)) → All (Fit (input_widths p)) dins → All (FitsPorts m) (driven (length p.inputs) dins)
+      driven_fit dins fit =
+          let first : Clock = record { reset = true; enable = true; dins = replicate (length p.inputs) 0 } in
+          All-cons (FitsPorts m) first _ (given_fits m p enable own first (zeros_fit p.inputs program.inputs)) (fed_fit m p enable own dins fit)
+
+      followed : (from to : Contents) (dins : List (List ℕ)) (shots : List Snapshot) → FitsContents m from → All (Fit (input_widths p)) dins → Runs m from (driven (length p.inputs) dins) shots to → Runs old (v.contents from) (driven (length p.inputs) dins) (map (seen v) shots) (v.contents to)
+      followed from to dins shots start fit run = run_followed m old v sim whole.rules whole.order whole.ordered from to (driven (length p.inputs) dins) shots start (driven_fit dins fit) run
+
+-- The module into which a circuit is packed.
+pub packed_circuit : (p : Program) (plan : Plan) (enable : Bool) (block : Option ℕ) (m old : Netlist) (slots : List Slot) (nets : List Net) (order : List ℕ) → IsProgram p → KeepsRules m → IsEvaluationOrder m.assigns order → IsCircuitOf p plan enable block old nets → IsPacking m old slots → (block ≡ None → m ≡ old) →
+    IsPackedCircuitOf p plan enable block m nets
+packed_circuit p plan enable block m old slots nets order program rules ordered circuit packing none = record {
+  ports = ports_of m old v sim whole circuit.whole p enable circuit.ports;
+  whole = whole;
+  runs = runs_alike m old v sim whole circuit.whole circuit.runs;
+  drives = drives_alike m old v sim whole circuit.whole p plan program enable circuit.ports circuit.drives;
+  unpacked = old;
+  circuit = circuit;
+  slots = slots;
+  packing = packing;
+  none = none;
+  behaves = behaves_alike m old v sim whole circuit.whole p plan (form_with block circuit.splits).places circuit.copies nets (λ c d fits other same. contents_seen m old slots packing.filled c d fits other same) circuit.behaves;
+}
+  where
+    v : View
+    v = packed old slots
+
+    sim : Simulates m old v
+    sim = packed_simulates m old slots packing.packed circuit.whole.rules rules order ordered
+
+    whole : IsWhole m m
+    whole = record { includes = Includes-refl m; rules = rules; order = order; ordered = ordered }
+
+-- Without packing the module is the circuit.
+pub plain_circuit : (p : Program) (plan : Plan) (enable : Bool) (block : Option ℕ) (m : Netlist) (nets : List Net) → IsProgram p → IsCircuitOf p plan enable block m nets → IsPackedCircuitOf p plan enable block m nets
+plain_circuit p plan enable block m nets program circuit =
+    packed_circuit p plan enable block m m (whole_slots 0 m.arrays) nets circuit.whole.order program circuit.whole.rules circuit.whole.ordered circuit (whole_packing m circuit.whole.rules) (λ e. refl)

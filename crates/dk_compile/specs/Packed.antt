@@ -1,0 +1,54 @@
+-- The module of a text: the circuit of its plan, with a number with its arrays packed.
+use Rattle.std.specs.Prelude.{◌≡◌, ℕ, ◌<◌, IsTrue, Bool, Option, None, List, ◌∷◌, length, slice_get, Some}
+use Rattle.wiring.specs.declared.netlist.Net.{Net}
+use Rattle.wiring.specs.Netlist.{Netlist, valid_net, dout_net}
+use Rattle.wiring.specs.Snapshot.{Contents, Snapshot, IsNext, net_value}
+use Rattle.wiring.specs.Clock.{Clock, bit}
+use Rattle.wiring.specs.History.{was_reset, is_held, counted}
+use Rattle.net_build.specs.Runs.{IsClockOf, IsWhole, RunsOn, IsReady}
+use Rattle.module_pass.specs.declared.slots.Slot.{Slot}
+use Rattle.module_pass.specs.Simulation.{View}
+use Rattle.module_pass.specs.Packing.{IsPacking, packed}
+use Rattle.pointwise_ir.specs.Programs.{Program}
+use Rattle.buffer_plan.specs.Plans.{Plan, delay_of, depth_of, latency_of}
+use Rattle.line_buffer.specs.Streams.{IsPixel, BufferIsRight}
+use Rattle.line_buffer.specs.Places.{word_at}
+use Rattle.circuit.specs.Runs.{IsRunning}
+use Rattle.circuit.specs.Rounds.{Rounds, AreRounds, Feeds, pixel_count, pixel_bits}
+use Rattle.circuit.specs.Taps.{Keeps}
+use Rattle.circuit.specs.Forms.{Places}
+use Rattle.circuit.specs.Behaviour.{HasPorts, is_valid}
+use Rattle.circuit.specs.Driven.{Drives}
+use Rattle.dk_compile.specs.Circuits.{IsCircuitOf, form_with}
+
+-- What a module does in its own runs, over any clocks, with resets and held clocks at any place. The view shows what the arrays of the circuit would hold, where `places` says which word holds which pixel.
+pub record BehavesAs (m : Netlist) (view : View) (p : Program) (plan : Plan) (places : Places) (copies : List ℕ) : Type 0 where
+  -- at counted clock t an output's dout is its pixel t - latency, for all rounds that agree with what came in
+  pub dout : (k g : ℕ) → slice_get p.outputs k ≡ Some g → (from : Contents) (before : List Clock) (c : Clock) (s : Snapshot) → IsRunning m m from before c s → (rounds : Rounds) → AreRounds p rounds → Feeds m p rounds (c ∷ before) →
+      IsPixel (pixel_bits p rounds g) (pixel_count p rounds) (latency_of plan k) (length (counted m before)) (net_value s (dout_net k))
+  -- valid is 0 in each reset clock, each held clock and each counted clock below the latency, and 1 in each later one
+  pub valid : (k : ℕ) → k < length p.outputs → (from : Contents) (before : List Clock) (c : Clock) (s : Snapshot) → IsClockOf m m from before c s → IsTrue (was_reset (c ∷ before)) → net_value s (valid_net k) ≡ bit (is_valid m (latency_of plan k) before c)
+  -- the horizon, at every clock after a reset: before the edge each word that is still to be read holds its pixel
+  pub horizon : (from : Contents) (before : List Clock) (c : Clock) (s : Snapshot) → IsClockOf m m from before c s → IsTrue (was_reset before) → (rounds : Rounds) → AreRounds p rounds → Feeds m p rounds before → (g : ℕ) → Keeps plan g →
+      BufferIsRight (λ age t. word_at (view.contents s.contents) (places plan g age t)) (pixel_bits p rounds g) (pixel_count p rounds) (delay_of plan g) (depth_of plan g) (length (counted m before))
+  -- no state changes in a held clock: in none at all if there are no copies, and else in none after a reset
+  pub held : (from : Contents) (before : List Clock) (c : Clock) (s : Snapshot) → IsClockOf m m from before c s → IsReady copies before → IsTrue (is_held m c) → (next : Contents) → IsNext m s next → next ≡ s.contents
+
+-- The module of a program under a plan. There is a circuit of which everything is claimed, and the module is this circuit with its arrays packed. What the module does in its runs is claimed of the module itself.
+pub record IsPackedCircuitOf (p : Program) (plan : Plan) (enable : Bool) (block : Option ℕ) (m : Netlist) (nets : List Net) : Type 0 where
+  pub ports : HasPorts m p enable
+  pub whole : IsWhole m m
+  -- no run that begins with a reset clock stops
+  pub runs : RunsOn m
+  -- over a reset clock and frames one after another it shows the program's pictures
+  pub drives : Drives m p plan
+  -- the circuit, whose nets have the same numbers in the module
+  pub unpacked : Netlist
+  pub circuit : IsCircuitOf p plan enable block unpacked nets
+  -- where each array of the circuit is in the module
+  pub slots : List Slot
+  pub packing : IsPacking m unpacked slots
+  -- without a number the module is the circuit
+  pub none : block ≡ None → m ≡ unpacked
+  -- and what it does over any clocks
+  pub behaves : BehavesAs m (packed unpacked slots) p plan (form_with block circuit.splits).places circuit.copies
