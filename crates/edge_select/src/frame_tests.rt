@@ -15,7 +15,9 @@ ghost use Rattle.edge_select.specs.Logic.{IsBit};
 ghost use Rattle.edge_select.specs.Passes.{IsRectangle, Passes, PassesOn};
 ghost use Rattle.edge_select.specs.FrameTests.{AddsRegisterOf, takes, AddsBeside, AddsTests, AreCounters, IsColumnTest, IsRowTest, AreFrameTests, IsFrameTest, IsPartTest, IsApart, IsTestOf, sources};
 
-use crate::bands::{Band, band_test, before, equal_to, first_bit, interval_of, moved, one_before, same_band, turned};
+use crate::bands::{
+    Band, band_test, before, equal_to, first_bit, interval_of, moved, one_before, same_band, turned,
+};
 use crate::counters::{Counters, counted};
 use crate::extents::is_whole;
 use crate::frame_conditions::{both, constant_test, test_net};
@@ -73,12 +75,7 @@ fn choice_of(
 }
 
 // What a register takes so that it is `first` after a reset and still in held clocks.
-fn still_value(
-    b: &mut Builder,
-    register: Net,
-    next: Net,
-    first: u64,
-) -> Result<Net, OutOfMemory>
+fn still_value(b: &mut Builder, register: Net, next: Net, first: u64) -> Result<Net, OutOfMemory>
     requires register { IsNet b.old register }
     requires next { IsNet b.old next }
     requires register_width { net_width b.old register ≡ 1 }
