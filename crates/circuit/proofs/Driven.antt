@@ -50,11 +50,11 @@ bit_fits : (b : Bool) → bit b < 2 ^ 1
 bit_fits true = omega arith
 bit_fits false = omega arith
 
-zeros_fit : (inputs : List Input) → All (λ (i : Input). IsPort i.ty) inputs → Fit (map (λ (i : Input). width_of i.ty) inputs) (replicate (length inputs) 0)
+pub zeros_fit : (inputs : List Input) → All (λ (i : Input). IsPort i.ty) inputs → Fit (map (λ (i : Input). width_of i.ty) inputs) (replicate (length inputs) 0)
 zeros_fit [] ok = tt
 zeros_fit (i ∷ inputs) ok = (pow_pos (width_of i.ty), zeros_fit inputs (All-tail (λ (j : Input). IsPort j.ty) i inputs ok))
 
-given_fits : (m : Netlist) (p : Program) (enable : Bool) → HasPorts m p enable → (c : Clock) → Fit (input_widths p) c.dins → FitsPorts m c
+pub given_fits : (m : Netlist) (p : Program) (enable : Bool) → HasPorts m p enable → (c : Clock) → Fit (input_widths p) c.dins → FitsPorts m c
 given_fits m p enable ports c fit =
     subst (λ (widths : List ℕ). Fit widths (given m c)) (sym ports.inputs)
     (subst (λ (e : Bool). Fit (1 ∷ (if enable then 1 ∷ input_widths p else input_widths p)) (bit c.reset ∷ (if e then bit c.enable ∷ c.dins else c.dins))) (sym ports.enable_is) (by enable))
@@ -63,7 +63,7 @@ given_fits m p enable ports c fit =
     by true = (bit_fits c.reset, (bit_fits c.enable, fit))
     by false = (bit_fits c.reset, fit)
 
-fed_fit : (m : Netlist) (p : Program) (enable : Bool) → HasPorts m p enable → (dins : List (List ℕ)) → All (Fit (input_widths p)) dins → All (FitsPorts m) (map fed_clock dins)
+pub fed_fit : (m : Netlist) (p : Program) (enable : Bool) → HasPorts m p enable → (dins : List (List ℕ)) → All (Fit (input_widths p)) dins → All (FitsPorts m) (map fed_clock dins)
 fed_fit m p enable ports [] fit = All-nil (FitsPorts m)
 fed_fit m p enable ports (x ∷ dins) fit =
     All-cons (FitsPorts m) (fed_clock x) (map fed_clock dins) (given_fits m p enable ports (fed_clock x) (All-head (Fit (input_widths p)) x dins fit)) (fed_fit m p enable ports dins (All-tail (Fit (input_widths p)) x dins fit))
