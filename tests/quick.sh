@@ -143,7 +143,6 @@ while IFS=$tab read -r name levels line text wanted <&3; do
 done 3<"$tests/calls/cuts.txt"
 
 # The examples show the same pictures where their bodies are cut. No body has more levels than asked, or the two of one operator.
-# Majority keeps three: it reads an inline image of three levels, not clamped, at an offset.
 while read -r name input <&3; do
     for levels in 1 2 4; do
         cases=$((cases + 1))
@@ -151,9 +150,7 @@ while read -r name input <&3; do
         set -- $(cat stdout)
         is "$name, cut at $levels: '$*'" [ "$1 $2 $4" = 'cut: definitions levels' ]
         is "$name, cut at $levels, has not $3 definitions" [ "$(grep -c 'let ' cut.dk)" = "$3" ]
-        least=2
-        [ "$name" != majority ] || least=3
-        is "$name, cut at $levels, has $5 levels" [ "$5" -le $((levels < least ? least : levels)) ]
+        is "$name, cut at $levels, has $5 levels" [ "$5" -le $((levels < 2 ? 2 : levels)) ]
         ends 0 '' eval cut.dk "$input.pgm" out.pgm
         holds "$name.pgm" "cut at $levels"
         ends 0 '' run --age 1 cut.dk "$input.pgm" out.pgm

@@ -1,7 +1,7 @@
 #!/usr/bin/env python3
 """Compares filters written by hand in Verilog with the ones that dk compiles from the examples: first the pixels, then the cells.
 
-usage: bench/hand/compare.py [--border zero|clamp]... [--cells] [--family ice40|ecp5] [--size W H] [--enable] [--seeds N] [--chroot DIR]
+usage: bench/hand/compare.py [--border zero|clamp]... [--cells] [--family ice40|ecp5] [--size W H] [--enable] [--all] [--seeds N] [--chroot DIR]
                              [--dk PROGRAM] [NAME..]
        bench/hand/compare.py --self-test [--dk PROGRAM]
 
@@ -12,8 +12,10 @@ Without --cells every output pixel of both texts is compared with `dk eval`, by 
 with clock enable, for both borders unless --border names one. The contents at power-up are random. A frame and a part of the next one
 come first, then a reset, then two frames and most of a third. With clock enable about half the clocks are held, with other pixels.
 
-With --cells it prints the cells and the clock rates of both at the size of --size, else 640 by 480, with a border of zero unless --border
-names another. The tools run in the folder of --chroot, if given. --self-test checks that wrong hand-written filters are caught.
+With --cells it prints the cells and the clock rates of both at the size of --size, else 640 by 480. It has rows for each --border, else
+for a border of zero, and for the modules with clock enable if --enable is given, else for those without. --all has rows for both borders,
+without and with clock enable. The tools run in the folder of --chroot, if given. --self-test checks that wrong hand-written filters are
+caught.
 """
 import argparse
 import itertools
@@ -235,6 +237,18 @@ def counted(text, device, what, given, base):
     return [*counts, sum(ends) / len(ends) if ends else None], rates.replace(" MHz", "")
 
 
+def row_of(given, name, border, enable, device, base):
+    """Prints the rows of a filter with these options: the hand-written one, dk's, and the ratios."""
+    found, title = [], ", ".join([name, *(["clamped"] if border == "clamp" else []), *(["clock enable"] if enable else [])])
+    with tempfile.TemporaryDirectory() as work:
+        for side, text in (("hand", hand(name, border, given.size, enable)), ("dk", compiled(given, name, border, given.size, enable, work))):
+            values, rates = counted(text, device, f"{title}, {side}", given, base)
+            found.append(values)
+            print(f"| {title} | {side} | " + " | ".join("" if value is None else f"{value:,}" for value in values[:4]) + f" | {rates} |", flush=True)
+    ratios = [f"{after / before:.2f}" if before and after else "" for before, after in zip(*found)]
+    print(f"| {title} | ratio | " + " | ".join(ratios) + " |", flush=True)
+
+
 def figures(given):
     """Prints the cells and clock rates."""
     device, base = place.DEVICES[FAMILIES[given.family]], None
@@ -243,22 +257,15 @@ def figures(given):
         outside = place.run
         place.run = lambda *words, work, **more: outside(*inside(given.chroot, "/" + os.path.relpath(work, given.chroot)), *words, work=work, **more)
     enter = inside(given.chroot, "/") if given.chroot else []
-    border = (given.border or ["zero"])[0]
     given.path = False
-    print(f"{FAMILIES[given.family]}, {given.size[0]} by {given.size[1]}, border {border}, {'with' if given.enable else 'without'} clock enable. "
+    print(f"{FAMILIES[given.family]}, {given.size[0]} by {given.size[1]}. The border is zero and there is no clock enable where the name does not say otherwise. "
           f"Yosys {place.section.version(*enter, 'yosys', '-V')}, {device['place'][0]} {place.section.version(*enter, device['place'][0], '--version')}.")
     print(f"LUT: {'LUTs with those of carries and LUT RAM, by nextpnr' if given.family == 'ecp5' else 'SB_LUT4, by Yosys'}. FF, BRAM, MUL: {', '.join(list(device['cells'])[1:])}, by Yosys. They "
           f"include a register at each port but clk.\nMHz: the least and the greatest of {given.seeds} seeds; the ratio is that of the middles. Ratios are dk's by the hand-written.\n")
     print("| Filter | | LUT | FF | BRAM | MUL | MHz |\n|---|---|---|---|---|---|---|")
-    for name in given.names:
-        found = []
-        with tempfile.TemporaryDirectory() as work:
-            for side, text in (("hand", hand(name, border, given.size, given.enable)), ("dk", compiled(given, name, border, given.size, given.enable, work))):
-                values, rates = counted(text, device, f"{name}, {side}", given, base)
-                found.append(values)
-                print(f"| {name} | {side} | " + " | ".join("" if value is None else f"{value:,}" for value in values[:4]) + f" | {rates} |", flush=True)
-        ratios = [f"{after / before:.2f}" if before and after else "" for before, after in zip(*found)]
-        print(f"| {name} | ratio | " + " | ".join(ratios) + " |", flush=True)
+    borders = ["zero", "clamp"] if given.all else given.border or ["zero"]
+    for name, border, enable in itertools.product(given.names, borders, [False, True] if given.all else [given.enable]):
+        row_of(given, name, border, enable, device, base)
 
 
 def main():
@@ -269,6 +276,7 @@ def main():
     read.add_argument("--family", choices=FAMILIES, default="ice40")
     read.add_argument("--size", nargs=2, type=int, default=[640, 480])
     read.add_argument("--enable", action="store_true")
+    read.add_argument("--all", action="store_true")
     read.add_argument("--seeds", type=int, default=3)
     read.add_argument("--chroot")
     read.add_argument("--icarus", action="store_true")
