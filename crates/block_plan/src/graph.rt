@@ -104,6 +104,17 @@ fn depth_of(wiring: &Netlist, array: usize) -> usize {
     }
 }
 
+// The number of words of the array that an assign reads, 0 where it reads none.
+pub(crate) fn words_read(wiring: &Netlist, number: usize) -> usize {
+    match wiring.assigns.get(number) {
+        Some(assign) => match assign.right {
+            Right::Word(array, _) => depth_of(wiring, array),
+            _ => 0,
+        },
+        None => 0,
+    }
+}
+
 // How the words of an array that an assign reads come about over a block of clocks.
 #[derive(Clone, Copy)]
 pub(crate) enum Access {
@@ -206,7 +217,23 @@ fn held_needs(
     }
 }
 
-// The bit by which a register takes what is read of an array, and that net; where the bit is 0 it keeps its value.
+fn is_word_net(wiring: &Netlist, drivers: &[Option<usize>], net: Net) -> bool {
+    matches!(
+        right_of(wiring, drivers, &Atom::Net(net)),
+        Some(Right::Word(_, _))
+    )
+}
+
+// Whether an atom is what is read of an array, or bits of it.
+fn is_read(wiring: &Netlist, drivers: &[Option<usize>], a: &Atom<Net>) -> bool {
+    match right_of(wiring, drivers, a) {
+        Some(Right::Word(_, _)) => true,
+        Some(Right::Bit(net, _) | Right::Slice(net, _, _)) => is_word_net(wiring, drivers, *net),
+        _ => false,
+    }
+}
+
+// The bit by which a register takes what is read of an array or bits of it, and that net; where the bit is 0 it keeps its value.
 fn loaded<'a>(
     wiring: &'a Netlist,
     drivers: &[Option<usize>],
@@ -217,9 +244,10 @@ fn loaded<'a>(
     };
     match right_of(wiring, drivers, next) {
         Some(Right::Choose(bit, read, kept)) if is_net(kept, Net::Reg(*register)) => {
-            match right_of(wiring, drivers, read) {
-                Some(Right::Word(_, _)) => Some((bit, read)),
-                _ => None,
+            if is_read(wiring, drivers, read) {
+                Some((bit, read))
+            } else {
+                None
             }
         }
         _ => None,

@@ -2,7 +2,7 @@
 //
 // It is for speed and claims nothing: who runs it checks all that it rests on.
 
-use crate::graph::{Access, Graph, Needs, arrays_are_single, graph_of};
+use crate::graph::{Access, Graph, Needs, arrays_are_single, graph_of, words_read};
 use crate::groups::{Groups, groups_of};
 use crate::search::components_of;
 use dk_base::OutOfMemory;
@@ -63,6 +63,8 @@ pub struct Plan {
     pub steps: Vec<Step>,
     /// The updates of the registers on cycles.
     pub looped: Vec<usize>,
+    /// The most clocks of a block.
+    pub size: usize,
 }
 
 // A plan that is made, and how many of its assigns its steps evaluate.
@@ -198,40 +200,85 @@ fn needs_itself(needs: &[Needs], node: usize) -> bool {
     }
 }
 
-// All groups; None where one of them has no step.
+// What comes of all groups: a plan, or a cycle with arrays, and then the most clocks of shorter blocks in which the cycle has
+// fewer arrays to which a block comes back. It is 0 where it has none.
+#[derive(Drop)]
+enum Drawn {
+    Plan(Plan),
+    Cycle(usize),
+}
+
+// The most words of an array that one of these nodes reads, of those with at most so many words as a block has clocks.
+fn deepest(wiring: &Netlist, nodes: &[usize], size: usize) -> usize {
+    let mut most = 0;
+    for node in nodes {
+        let words = words_read(wiring, *node);
+        if words <= size {
+            most = words.max(most);
+        }
+    }
+    most
+}
+
+fn empty_draft(alloc: Global, size: usize) -> Draft {
+    Draft {
+        plan: Plan {
+            order: Vec::new(alloc),
+            steps: Vec::new(alloc),
+            looped: Vec::new(alloc),
+            size,
+        },
+        done: 0,
+    }
+}
+
 fn add_groups(
     alloc: Global,
     wiring: &Netlist,
     graph: &Graph,
     groups: &Groups,
-) -> Result<Option<Plan>, AllocError> {
-    let mut draft = Draft {
-        plan: Plan {
-            order: Vec::new(alloc),
-            steps: Vec::new(alloc),
-            looped: Vec::new(alloc),
-        },
-        done: 0,
-    };
+    size: usize,
+) -> Result<Drawn, AllocError> {
+    let mut draft = empty_draft(alloc, size);
     for number in 0..groups.count() {
-        if !add_group(&mut draft, wiring, graph, groups.nodes(number))? {
-            return Ok(None);
+        let nodes = groups.nodes(number);
+        if !add_group(&mut draft, wiring, graph, nodes)? {
+            let words = deepest(wiring, nodes, size);
+            return Ok(Drawn::Cycle(words.saturating_sub(1)));
         }
     }
     flush(&mut draft)?;
-    Ok(Some(draft.plan))
+    Ok(Drawn::Plan(draft.plan))
 }
 
-/// The plan of a module for blocks of this many clocks; None where there is none: an array that is not read by one assign and put
-/// once, or one on a cycle. Time and memory are linear in the module.
-pub fn make_plan(alloc: Global, module: &Module, size: usize) -> Result<Option<Plan>, OutOfMemory> {
+// What comes of a module for blocks of this many clocks.
+fn draw(alloc: Global, module: &Module, size: usize) -> Result<Drawn, AllocError> {
     let wiring = module.wiring();
-    if !arrays_are_single(alloc, wiring)? {
-        return Ok(None);
-    }
     let graph = graph_of(alloc, wiring, size)?;
     let found = components_of(alloc, &graph.needs)?;
     let groups = groups_of(alloc, wiring.assigns.len(), module.order(), &found)?;
-    let plan = add_groups(alloc, wiring, &graph, &groups)?;
-    Ok(plan)
+    add_groups(alloc, wiring, &graph, &groups, size)
+}
+
+// How many sizes of blocks are tried.
+const TRIES: usize = 16;
+
+/// The plan of a module for blocks of at most this many clocks, or of fewer where an array is else on a cycle: what is put into
+/// it depends on what is read of it, and a block comes back to its words. None where there is no plan: an array that is not read
+/// by one assign and put once, or one on a cycle in shorter blocks too. Time and memory are linear in the module.
+pub fn make_plan(alloc: Global, module: &Module, most: usize) -> Result<Option<Plan>, OutOfMemory> {
+    if !arrays_are_single(alloc, module.wiring())? {
+        return Ok(None);
+    }
+    let mut size = most;
+    for _try in 0..TRIES {
+        match draw(alloc, module, size)? {
+            Drawn::Plan(plan) => return Ok(Some(plan)),
+            Drawn::Cycle(fewer) => size = fewer,
+        }
+        if size == 0 {
+            return Ok(None);
+        }
+    }
+    Ok(None)
 }

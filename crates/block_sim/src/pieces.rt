@@ -20,7 +20,7 @@ use cycle_sim::{Out, Sim};
 pub const MOST_CLOCKS: usize = 351;
 
 // Pieces of fewer clocks are made one by one.
-const LEAST: usize = 24;
+pub const LEAST: usize = 24;
 
 // The clocks of a piece over rows, if there are rows and they do.
 fn by_rows(

@@ -10,7 +10,7 @@ ghost use Rattle.block_sim.specs.Called.{din_count};
 ghost use Rattle.block_sim.specs.Engine.{IsEngineOf, AreRowsOf, HasRun};
 
 use crate::judge::arrays::ArrayRoom;
-use crate::pieces::MOST_CLOCKS;
+use crate::pieces::{LEAST, MOST_CLOCKS};
 use crate::rows::Rows;
 use crate::rows::engine::{Engine, arrays_of, makers_of, next_makers_of, registers_of};
 use crate::rows::steps::Hints;
@@ -25,6 +25,9 @@ use std::alloc::{AllocError, Global};
 
 // The most words that rows take.
 const MOST_WORDS: usize = 8 * 1024 * 1024;
+
+// How many numbers the loops over rows take at a time.
+const VECTOR: usize = 8;
 
 // Arrays of fewer words are copied for a piece.
 const SMALL: usize = MOST_CLOCKS + 1;
@@ -111,9 +114,7 @@ fn hints_of(alloc: Global, wiring: &Netlist, long: usize) -> Result<Hints, Alloc
 }
 
 // The most clocks of a piece for which rows of this many slots and arrays have room: 0 where there is none.
-fn size_of(slots: usize) -> usize
-    ensures { result ≤ 1024 }
-{
+fn room_for(slots: usize) -> usize {
     let most = MOST_WORDS / slots.saturating_add(1);
     if most > MOST_CLOCKS {
         MOST_CLOCKS
@@ -122,6 +123,15 @@ fn size_of(slots: usize) -> usize
     } else {
         0
     }
+}
+
+// The most clocks of a piece that are at most those of a plan and have room. A row, which has one place more, is then a whole
+// number of vectors.
+fn size_of(planned: usize, slots: usize) -> usize
+    ensures { result ≤ 1024 }
+{
+    let most = planned.min(room_for(slots)).min(MOST_CLOCKS);
+    most.saturating_sub((most + 1) % VECTOR)
 }
 
 // The rows of an engine.
@@ -189,15 +199,19 @@ pub fn rows_of(alloc: Global, module: &Module, ports: usize) -> Result<Option<Ro
     requires ports { ports ≡ din_count «module».now.netlist }
     ensures { IfOk result (λ o. IfSome o (AreRowsOf «module».now.netlist)) }
 {
+    let wiring = module.wiring();
+    if room_for(wiring.assigns.len()) == 0 {
+        return Ok(None);
+    }
     let Some(plan) = make_plan(alloc, module, MOST_CLOCKS)? else {
         return Ok(None);
     };
     let Some(code) = BlockCode::of(alloc, module, &plan.order)? else {
         return Ok(None);
     };
-    let wiring = module.wiring();
-    let size = size_of(code.widths.len().saturating_add(wiring.arrays.len()));
-    if size == 0 {
+    let slots = code.widths.len().saturating_add(wiring.arrays.len());
+    let size = size_of(plan.size, slots);
+    if size < LEAST {
         return Ok(None);
     }
     let engine = engine_of(alloc, code, plan, wiring, ports)?;
