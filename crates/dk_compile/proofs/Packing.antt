@@ -20,7 +20,7 @@ use Rattle.module_pass.specs.declared.slots.Slot.{Slot}
 use Rattle.module_pass.specs.Simulation.{View, seen, Simulates}
 use Rattle.module_pass.specs.Packing.{IsPacking, packed, whole_slots}
 use Rattle.module_pass.proofs.Following.{at_followed, run_followed, stop_followed}
-use Rattle.module_pass.proofs.Simulated.{packed_simulates}
+use Rattle.module_pass.proofs.Simulating.{packed_simulates}
 use Rattle.module_pass.proofs.Seen.{contents_seen}
 use Rattle.module_pass.proofs.Whole.{whole_packing}
 use Rattle.pointwise_ir.specs.Programs.{Program, IsProgram}
