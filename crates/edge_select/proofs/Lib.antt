@@ -14,3 +14,4 @@ pub mod Beside
 pub mod Framed
 pub mod Inverting
 pub mod Made
+pub mod Beginning

@@ -1,5 +1,5 @@
 -- The frame tests of a module: one pair of counters, and registers of one bit that test its columns and rows.
-use Rattle.std.specs.Prelude.{◌≡◌, ℕ, ◌+◌, ◌<◌, ◌==◌, Bool, if◌then◌else◌, IsTrue, List, [], ◌∷◌, length, slice_get, Option, None, Some, IfSome, All, Contains}
+use Rattle.std.specs.Prelude.{◌≡◌, ℕ, ◌+◌, ◌<◌, ◌==◌, nat_le, Bool, if◌then◌else◌, IsTrue, List, [], ◌∷◌, length, slice_get, Option, None, Some, IfSome, All, Contains}
 use Rattle.dk_base.specs.Frames.{Size, column, row}
 use Rattle.dk_base.specs.FrameSizes.{size_of}
 use Rattle.wiring.specs.declared.netlist.Net.{Net}
@@ -86,12 +86,19 @@ pub record IsColumnTest (b : Netlist) (size : Size) (t : Test) : Type 0 where
   pub value : InEachRun b (λ m before c s. IsTrue (was_reset before) → net_value s t.net ≡ bit (in_band size.width t.band (column size (length (counted m before)))))
   pub made : IsControl b (OfNet t.net)
 
--- The same of the row of pixel t - start, once t is at least the start.
+-- In each clock after a reset clock, held ones included, the register is the bit of the row of pixel t - start, once t is at least the start, with t the number of counted clocks since the reset: whether it is in the band.
 pub record IsRowTest (b : Netlist) (size : Size) (t : Test) : Type 0 where
   pub there : IsNet b t.net
   pub width : net_width b t.net ≡ 1
   pub value : InEachRun b (λ m before c s. IsTrue (was_reset before) → (k : ℕ) → k + t.start ≡ length (counted m before) → net_value s t.net ≡ bit (in_band size.height t.band (row size k)))
   pub made : IsControl b (OfNet t.net)
+
+-- In each clock after a reset clock, held ones included, the register is 1 where at least `last` clocks were counted since the reset, and else 0.
+pub record IsStartTest (b : Netlist) (last : ℕ) (register : Net) : Type 0 where
+  pub there : IsNet b register
+  pub width : net_width b register ≡ 1
+  pub value : InEachRun b (λ m before c s. IsTrue (was_reset before) → net_value s register ≡ bit (nat_le last (length (counted m before))))
+  pub made : IsControl b (OfNet register)
 
 -- the counters are those of the frame's pixels, and each test is one of its columns or rows
 pub record AreFrameTests (b : Netlist) (size : Size) (tests : FrameTests) : Type 0 where

@@ -5,9 +5,11 @@ ghost use Rattle.dk_base.specs.FrameSizes.{size_of};
 ghost use Rattle.wiring.specs.Netlist.{Netlist, net_width};
 ghost use Rattle.wiring.specs.Snapshot.{net_value};
 ghost use Rattle.wiring.specs.Clock.{bit};
+ghost use Rattle.wiring.specs.declared.netlist.Holder.TheVariants.{OfNet};
 ghost use Rattle.net_build.specs.Draft.{IsNet};
-ghost use Rattle.net_build.specs.Logic.{AddsLogic, Computes};
-ghost use Rattle.net_build.specs.Counters.{after, control_nets, taken};
+ghost use Rattle.net_build.specs.Control.{IsControl};
+ghost use Rattle.net_build.specs.Logic.{AddsLogic};
+ghost use Rattle.net_build.specs.Counters.{after, Starts};
 ghost use Rattle.frame_paths.specs.Moves.{IsIn, IsInterval};
 ghost use Rattle.edge_select.specs.Steps.{LeadBy, LeadOn};
 ghost use Rattle.edge_select.specs.Bands.{IsBand, in_band};
@@ -15,18 +17,22 @@ ghost use Rattle.edge_select.specs.Logic.{IsBit};
 ghost use Rattle.edge_select.specs.Passes.{IsRectangle, Passes, PassesOn};
 ghost use Rattle.edge_select.specs.FrameTests.{AddsRegisterOf, takes, AddsBeside, AddsTests, AreCounters, IsColumnTest, IsRowTest, AreFrameTests, IsFrameTest, IsPartTest, IsApart, IsTestOf, sources};
 
-use crate::bands::{Band, band_test, before, equal_to, first_bit, interval_of, moved, one_before, same_band, turned};
+use crate::bands::{
+    Band, band_test, before, equal_to, first_bit, interval_of, moved, one_before, same_band, turned,
+};
 use crate::counters::{Counters, counted};
 use crate::extents::is_whole;
 use crate::frame_conditions::{both, constant_test, test_net};
 use crate::paths::{Rectangle, leading_pixels, passing_pixels};
 use crate::pixel::width_for;
+use crate::registers::register_of;
+use crate::starts::started_by;
 use crate::step::Step;
 use dk_base::{FrameSize, OutOfMemory};
 use frame_paths::Interval;
-use net_build::{Builder, gate, register_value};
+use net_build::{Builder, started};
 use std::alloc::Global;
-use wiring::{Atom, Net, Right};
+use wiring::Net;
 
 // A register that tests columns or rows. One of rows is loaded where the next column is `start`.
 #[derive(Clone, Copy)]
@@ -43,73 +49,6 @@ pub struct FrameTests {
     counters: Option<Counters>,
     columns: Vec<Test>,
     rows: Vec<Test>,
-}
-
-// What a register takes that is loaded where `load` is 1, or always.
-fn choice_of(
-    b: &mut Builder,
-    load: Option<Net>,
-    test: Net,
-    register: Net,
-) -> Result<Net, OutOfMemory>
-    requires load { IsBit b.old load }
-    requires test { IsNet b.old test }
-    requires test_width { net_width b.old test ≡ 1 }
-    requires register { IsNet b.old register }
-    requires register_width { net_width b.old register ≡ 1 }
-    ensures logic { AddsLogic b.new b.old }
-    ensures net { IfOk result (Computes b.new b.old (sources load test register) 1 (takes load test register)) }
-{
-    match load {
-        None => Ok(test),
-        Some(load) => {
-            let net = gate(
-                b,
-                Right::Choose(Atom::Net(load), Atom::Net(test), Atom::Net(register)),
-            )?;
-            Ok(net)
-        }
-    }
-}
-
-// What a register takes so that it is `first` after a reset and still in held clocks.
-fn still_value(
-    b: &mut Builder,
-    register: Net,
-    next: Net,
-    first: u64,
-) -> Result<Net, OutOfMemory>
-    requires register { IsNet b.old register }
-    requires next { IsNet b.old next }
-    requires register_width { net_width b.old register ≡ 1 }
-    requires next_width { net_width b.old next ≡ 1 }
-    requires first { first < 2 ^ 1 }
-    ensures logic { AddsLogic b.new b.old }
-    ensures net { IfOk result (Computes b.new b.old (control_nets b.old.enable ++ register ∷ (next ∷ []))
-        1 (λ s. taken b.old.enable first (net_value s register) (net_value s next) s)) }
-{
-    let value = register_value(b, register, next, 1, first)?;
-    Ok(value)
-}
-
-// A register of one bit that is `first` after a reset, takes a test where `load` is 1, or always, and is still in held clocks.
-fn register_of(
-    b: &mut Builder,
-    load: Option<Net>,
-    first: u64,
-    test: Net,
-) -> Result<Net, OutOfMemory>
-    requires load { IsBit b.old load }
-    requires first { first < 2 ^ 1 }
-    requires test { IsNet b.old test }
-    requires width { net_width b.old test ≡ 1 }
-    ensures adds { IfOk result (AddsRegisterOf b.new b.old load first test) }
-{
-    let register = b.reg(1)?;
-    let next = choice_of(b, load, test, register)?;
-    let value = still_value(b, register, next, first)?;
-    b.set(register, value);
-    Ok(register)
 }
 
 // The test of the next column, by the present one. A register that takes it tests the column of its own clock.
@@ -393,5 +332,27 @@ impl FrameTests {
         let rectangle = leading_pixels(steps, self.size);
         let net = test_of(b, self, delay, rectangle)?;
         Ok(net)
+    }
+
+    /// A net that is whether `last` clocks were counted since a reset. It is 0 in a reset clock. Where there are counters, and the first frame has that many pixels, it uses one register of one bit. Else it is `net_build::started`.
+    pub fn started(&self, b: &mut Builder, last: u64) -> Result<Net, OutOfMemory>
+        requires tests { AreFrameTests b.old (size_of self.now.size) self.now }
+        ensures adds { OnOk result (AddsTests b.new b.old self.now self.now) }
+        ensures tests { OnOk result (AreFrameTests b.new (size_of self.now.size) self.now) }
+        ensures net { IfOk result (IsNet b.new) }
+        ensures width { IfOk result (λ n. net_width b.new n ≡ 1) }
+        ensures starts { IfOk result (Starts b.new last) }
+        ensures control { IfOk result (λ n. IsControl b.new (OfNet n)) }
+    {
+        match self.counters {
+            Some(counters) => {
+                let net = started_by(b, &counters, last)?;
+                Ok(net)
+            }
+            None => {
+                let net = started(b, last)?;
+                Ok(net)
+            }
+        }
     }
 }

@@ -9,6 +9,8 @@ mod frame_tests;
 mod laws;
 mod paths;
 mod pixel;
+mod registers;
+mod starts;
 mod step;
 
 pub use counters::position;

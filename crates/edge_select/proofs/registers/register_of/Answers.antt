@@ -1,6 +1,6 @@
 use Rattle.std.proofs.Common.{inr}
 use Rattle.edge_select.proofs.Beside.{register_adds}
-use Rattle.edge_select.proofs.frame_tests.register_of.Goals as goal
+use Rattle.edge_select.proofs.registers.register_of.Goals as goal
 
 pub returns : goal.returns
 returns c = record {

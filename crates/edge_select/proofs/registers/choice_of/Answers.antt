@@ -1,6 +1,6 @@
 use Rattle.net_build.proofs.Logic.{logic_none}
 use Rattle.edge_select.proofs.Beside.{load_is}
-use Rattle.edge_select.proofs.frame_tests.choice_of.Goals as goal
+use Rattle.edge_select.proofs.registers.choice_of.Goals as goal
 
 pub returns-in-None-clause-logic : goal.returns-in-None-clause-logic
 returns-in-None-clause-logic c = logic_none c.args.b.now
