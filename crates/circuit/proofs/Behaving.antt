@@ -53,7 +53,9 @@ use Rattle.circuit.specs.Taps.{Keeps, taps_at}
 use Rattle.line_buffer.specs.Fills.{HasRight, AreFilled}
 use Rattle.line_buffer.proofs.Filling.{fills_more, index_control_more}
 use Rattle.circuit.specs.Forms.{Shapes, Form, HasProperty, shapes_of, first_array, end_array}
-use Rattle.circuit.specs.Images.{IsLine, AreBuilt, words_in, reads_directly, source_of, direct_source}
+use Rattle.edge_select.specs.declared.frame_tests.FrameTests.{FrameTests}
+use Rattle.circuit.specs.Images.{IsLine, AreBuilt, AreBuiltWith, words_in, reads_directly, source_of, direct_source}
+use Rattle.circuit.proofs.Keeping.{adds_for}
 use Rattle.circuit.specs.Behaviour.{net_of, is_valid, ShowsPixels, Behaves, HasPorts}
 use Rattle.circuit.specs.Nets.{AreNetsOf, IsApart, kept_source_of}
 use Rattle.circuit.specs.Modules.{CopyLongArrays, AddsCopies, HasBits, ReadsOnly, IsModuleOf}
@@ -140,8 +142,11 @@ can_end b p plan form nets taps is stencils built = record {
         let within : k < length p.outputs = omega (arith, lt, ap length stencils.outputs) in
         ap (λ (os : List ℕ). bits_of_type (type_at p (slice_index os k))) stencils.outputs ∙ sym (get_or-map (λ (g : ℕ). bits_of_type (type_at p g)) p.outputs k 0 0 within)
 
-module _ (m b : Netlist) (p : Program) (plan : Plan) (form : Form) (nets : List Net) (taps : List (List Net))
-    (is : IsPlan plan) (stencils : AreStencilsOf p plan.system.stencils) (built : AreBuilt b p plan form (length plan.system.stencils.images) nets taps) (closed : IsClosed m b plan nets) where
+module _ (m b : Netlist) (p : Program) (plan : Plan) (form : Form) (nets : List Net) (taps : List (List Net)) (tests : FrameTests)
+    (is : IsPlan plan) (stencils : AreStencilsOf p plan.system.stencils) (has : AreBuiltWith b p plan form (length plan.system.stencils.images) nets taps tests) (closed : IsClosed m b plan nets tests) where
+  abbrev built : AreBuilt b p plan form (length plan.system.stencils.images) nets taps
+  built = has.built
+
   abbrev images : List Image
   images = plan.system.stencils.images
 
@@ -149,7 +154,7 @@ module _ (m b : Netlist) (p : Program) (plan : Plan) (form : Form) (nets : List 
   last = closed.last
 
   all_built : AreBuilt last p plan form (length images) nets taps
-  all_built = built_lasts last b p plan form (length images) nets taps is (omega arith) closed.adds closed.draft built
+  all_built = built_lasts last b p plan form (length images) nets taps is (omega arith) closed.draft built (adds_for last b tests tests built.copies closed.adds built.control has.apart)
 
   grows : Includes m last
   grows = closed.whole.includes

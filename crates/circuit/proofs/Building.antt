@@ -21,7 +21,6 @@ use Rattle.wiring.specs.Clock.{Clock}
 use Rattle.net_build.specs.Draft.{IsDraft, UpdatesDiffer, UpdatedBut}
 use Rattle.net_build.specs.Runs.{IsReady}
 use Rattle.net_build.specs.Control.{IsMadeOf, by_itself, AddsReads}
-use Rattle.net_build.specs.Counters.{AddsControl}
 use Rattle.net_build.specs.Indices.{read_indices, put_indices}
 use Rattle.net_build.proofs.Parts.{Includes-refl, Includes-trans}
 use Rattle.net_build.proofs.Grown.{net_more, width_more}
@@ -336,9 +335,9 @@ module _ (b2 b1 b0 : Netlist) (p : Program) (plan : Plan) (form : Form) (k : ℕ
   }
 
 -- all that is built lasts where what controls it is added
-pub built_lasts : (new old : Netlist) (p : Program) (plan : Plan) (form : Form) (k : ℕ) (nets : List Net) (taps : List (List Net)) → IsPlan plan → k ≤ length plan.system.stencils.images → AddsControl new old → IsDraft new →
-    AreBuilt old p plan form k nets taps → AreBuilt new p plan form k nets taps
-built_lasts new old p plan form k nets taps is_plan few adds draft built = record {
+pub built_lasts : (new old : Netlist) (p : Program) (plan : Plan) (form : Form) (k : ℕ) (nets : List Net) (taps : List (List Net)) → IsPlan plan → k ≤ length plan.system.stencils.images → IsDraft new →
+    (built : AreBuilt old p plan form k nets taps) → AddsFor new old built.copies → AreBuilt new p plan form k nets taps
+built_lasts new old p plan form k nets taps is_plan few draft built adds = record {
   ports = subst (λ (e : Bool). Includes new (ports_of p e)) (sym adds.includes.enable) (Includes-trans new old (ports_of p old.enable) adds.includes built.ports);
   net_count = built.net_count;
   tap_count = built.tap_count;
@@ -348,7 +347,7 @@ built_lasts new old p plan form k nets taps is_plan few adds draft built = recor
   updated = adds.updated [] built.updated;
   still = adds.still built.copies [] built.still;
   stops = adds.stops built.stops;
-  control = adds.control built.copies built.control;
+  control = adds.control;
   line = λ j o lt on.
       let images = plan.system.stencils.images in
       let there : place_in plan o.number ≡ j = place_of_entry images j o is_plan.system.stencils.images.ascending on in

@@ -8,7 +8,8 @@ use Rattle.wiring.specs.Rules.{with_valids}
 use Rattle.wiring.proofs.Search.{at_push}
 use Rattle.net_build.specs.Includes.{Includes}
 use Rattle.net_build.specs.Draft.{IsNet, AreSources, AllUpdated, flat}
-use Rattle.net_build.specs.Counters.{AddsControl}
+use Rattle.edge_select.specs.declared.frame_tests.FrameTests.{FrameTests}
+use Rattle.edge_select.specs.FrameTests.{AddsTests}
 use Rattle.net_build.proofs.Grown.{net_more, width_more}
 use Rattle.net_build.proofs.Runs.{clock_more}
 use Rattle.net_build.proofs.Updating.{all_updated}
@@ -127,8 +128,8 @@ flat_each b (o ∷ outs) (w ∷ ws) long each (suc zero) n at =
 flat_each b (o ∷ outs) (w ∷ ws) long each (suc (suc k)) n at = flat_each b outs ws (omega (arith, long)) (λ j p on. each (suc j) p on) k n at
 
 -- the outputs can take them
-pub can_take : (last b : Netlist) (plan : Plan) (nets : List Net) (outs : List (Net × Net)) → CanEnd b plan nets → AddsControl last b → AreOuts last plan nets (length plan.system.stencils.outputs) outs → AreSources last (flat outs)
-can_take last b plan nets outs can adds are = record {
+pub can_take : (last b : Netlist) (plan : Plan) (nets : List Net) (tests : FrameTests) (outs : List (Net × Net)) → CanEnd b plan nets → AddsTests last b tests tests → AreOuts last plan nets (length plan.system.stencils.outputs) outs → AreSources last (flat outs)
+can_take last b plan nets tests outs can adds are = record {
   one_each = flat_long outs ∙ ap (λ (n : ℕ). 2 * n) long ∙ sym (valids_long can.widths) ∙ sym (ap length outputs);
   each = λ k n at. (let is = flat_each last outs can.widths long pair k n at in record { net = is.0; width_is = is.1 ∙ sym (ap (λ (ws : List ℕ). slice_index ws k) outputs) });
 }
@@ -151,5 +152,5 @@ can_take last b plan nets outs can adds are = record {
           wide = ap (net_width last) (sym same) ∙ width_more last b adds.includes (net_of plan nets (output_in plan j)) net.declared ∙ can.width j within;
         }
 
-pub can_update : (last b : Netlist) (plan : Plan) (nets : List Net) → CanEnd b plan nets → AddsControl last b → AllUpdated last
-can_update last b plan nets can adds = all_updated last (adds.updated [] can.updated)
+pub can_update : (last b : Netlist) (plan : Plan) (nets : List Net) (tests : FrameTests) → CanEnd b plan nets → AddsTests last b tests tests → AllUpdated last
+can_update last b plan nets tests can adds = all_updated last (adds.updated [] can.updated)

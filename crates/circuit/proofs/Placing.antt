@@ -10,10 +10,7 @@ use Rattle.wiring.specs.Netlist.{Netlist}
 use Rattle.wiring.specs.Clock.{bit}
 use Rattle.net_build.specs.Control.{IsMadeOf, is_control}
 use Rattle.net_build.specs.Logic.{AddsLogic, Computes}
-use Rattle.net_build.specs.Counters.{AddsControl}
-use Rattle.net_build.proofs.Logic.{logic_none}
 use Rattle.net_build.proofs.Control.{made_wider}
-use Rattle.net_build.proofs.Starting.{logic_adds, control_on}
 use Rattle.edge_select.specs.declared.frame_tests.FrameTests.{FrameTests}
 use Rattle.edge_select.specs.Pixels.{AllPass, NonePass}
 use Rattle.edge_select.specs.FrameTests.{AddsTests, AreFrameTests, IsFrameTest}
@@ -23,15 +20,7 @@ use Rattle.buffer_plan.specs.Plans.{Plan, IsPlan, delay_of}
 use Rattle.circuit.specs.Taps.{size_in}
 use Rattle.circuit.specs.Reads.{IsPixelTest}
 
--- nothing more
-pub control_none : (b : Netlist) → AddsControl b b
-control_none b = logic_adds b b (logic_none b)
-
--- control, and then wires
-pub control_logic : (new mid old : Netlist) → AddsControl mid old → AddsLogic new mid → AddsControl new old
-control_logic new mid old f g = control_on old mid new f (logic_adds new mid g)
-
--- the same with frame tests
+-- what frame tests add: nothing, wires, and more
 pub tests_none : (b : Netlist) (t : FrameTests) → AddsTests b b t t
 tests_none b t = beside_none b t.counters
 

@@ -11,7 +11,8 @@ use Rattle.wiring.specs.History.{was_reset}
 use Rattle.net_build.specs.Draft.{IsNet, IsDraft, UpdatedBut, flat, with_outputs}
 use Rattle.net_build.specs.Runs.{IsWhole, NeverStops, StillBut, RunsOn, InEachRun}
 use Rattle.net_build.specs.Control.{IsControl, IsControlled, FedOnly}
-use Rattle.net_build.specs.Counters.{AddsControl}
+use Rattle.edge_select.specs.declared.frame_tests.FrameTests.{FrameTests}
+use Rattle.edge_select.specs.FrameTests.{AddsTests}
 use Rattle.buffer_plan.specs.Plans.{Plan, latency_of}
 use Rattle.circuit.specs.Behaviour.{net_of, is_valid}
 
@@ -65,10 +66,10 @@ pub record CanEnd (b : Netlist) (plan : Plan) (nets : List Net) : Type 0 where
   pub width : (k : ℕ) → k < length plan.system.stencils.outputs → net_width b (net_of plan nets (output_in plan k)) ≡ slice_index widths k
   pub updated : UpdatedBut b []
 
--- The module of a netlist with control for its outputs, which take their valids and the nets of their images.
-pub record IsClosed (m b : Netlist) (plan : Plan) (nets : List Net) : Type 0 where
+-- The module of a netlist with these frame tests and with control for its outputs, which take their valids and the nets of their images.
+pub record IsClosed (m b : Netlist) (plan : Plan) (nets : List Net) (tests : FrameTests) : Type 0 where
   pub last : Netlist
-  pub adds : AddsControl last b
+  pub adds : AddsTests last b tests tests
   pub draft : IsDraft last
   pub outs : List (Net × Net)
   pub are_outs : AreOuts last plan nets (length plan.system.stencils.outputs) outs

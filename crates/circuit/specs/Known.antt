@@ -1,5 +1,5 @@
 -- The reads of a body that are known by their places among all its reads.
-use Rattle.std.specs.Prelude.{◌≡◌, ◌⊎◌, ℕ, Bool, true, false, if◌then◌else◌, List, ◌++◌, map, slice_get, Some, All, Contains}
+use Rattle.std.specs.Prelude.{◌≡◌, ◌⊎◌, ℕ, if◌then◌else◌, List, map, slice_get, Some, Contains}
 use Rattle.dk_base.specs.declared.ty.Ty.{Ty}
 use Rattle.wiring.specs.declared.netlist.Net.{Net}
 use Rattle.pointwise_ir.specs.declared.expr.Edge.TheVariants.{Zero, Clamp}

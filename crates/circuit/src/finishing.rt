@@ -4,8 +4,10 @@ ghost use Rattle.std.specs.Prelude.{◌≡◌, IfOk, length};
 ghost use Rattle.net_build.specs.Naming.{names_for};
 ghost use Rattle.net_build.specs.Runs.{IsWhole, RunsOn};
 ghost use Rattle.pointwise_ir.specs.Stencils.{AreStencilsOf};
+ghost use Rattle.dk_base.specs.FrameSizes.{size_of};
+ghost use Rattle.edge_select.specs.FrameTests.{AreFrameTests};
 ghost use Rattle.circuit.specs.Forms.{shapes_of, HasProperty};
-ghost use Rattle.circuit.specs.Images.{AreBuilt};
+ghost use Rattle.circuit.specs.Images.{AreBuiltWith};
 ghost use Rattle.circuit.specs.Behaviour.{HasPorts};
 ghost use Rattle.circuit.specs.Nets.{IsApart};
 ghost use Rattle.circuit.specs.Modules.{IsModuleOf};
@@ -16,6 +18,8 @@ use crate::outs::all_outs;
 use crate::taps::Taps;
 use buffer_plan::Plan;
 use dk_base::OutOfMemory;
+use edge_select::FrameTests;
+use line_buffer::Turns;
 use net_build::Builder;
 use netlist::Module;
 use pointwise_ir::Program;
@@ -29,13 +33,30 @@ pub struct Built {
     pub nets: Vec<Net>,
 }
 
+// What is built of a plan's images: for each kept image its net and its taps, in order, with the turns of their arrays and the frame tests of the module.
+#[derive(Drop)]
+pub struct BuiltImages {
+    pub alloc: Global,
+    pub nets: Vec<Net>,
+    pub taps: Vec<Taps>,
+    pub turns: Turns,
+    pub tests: FrameTests,
+}
+
 // The module of a builder that can end.
-fn closed(alloc: Global, mut b: Builder, plan: &Plan, nets: &[Net]) -> Result<Module, OutOfMemory>
+fn closed(
+    alloc: Global,
+    mut b: Builder,
+    plan: &Plan,
+    nets: &[Net],
+    tests: &FrameTests,
+) -> Result<Module, OutOfMemory>
     requires ends { CanEnd b plan.now nets.now }
-    ensures closed { IfOk result (λ m. IsClosed m.netlist b plan.now nets.now) }
+    requires tests { AreFrameTests b (size_of tests.now.size) tests.now }
+    ensures closed { IfOk result (λ m. IsClosed m.netlist b plan.now nets.now tests.now) }
     ensures named { IfOk result (λ m. m.names ≡ names_for m.netlist) }
 {
-    let outs = all_outs(alloc, &mut b, plan, nets)?;
+    let outs = all_outs(alloc, &mut b, plan, nets, tests)?;
     b.law();
     let module = b.finish_all(&outs)?;
     Ok(module)
@@ -43,16 +64,14 @@ fn closed(alloc: Global, mut b: Builder, plan: &Plan, nets: &[Net]) -> Result<Mo
 
 // The module of a builder in which all kept images are built: its outputs are driven.
 pub fn finished<F: BufferForm>(
-    alloc: Global,
     b: Builder,
     ir: &Program,
     plan: &Plan,
     form: &F,
-    nets: Vec<Net>,
-    taps: &[Taps],
+    images: BuiltImages,
 ) -> Result<Built, OutOfMemory>
     requires stencils { AreStencilsOf ir.now plan.now.system.stencils }
-    requires built { AreBuilt b ir.now plan.now (F.form form.now) (length plan.now.system.stencils.images) nets.items taps.now }
+    requires built { AreBuiltWith b ir.now plan.now (F.form form.now) (length plan.now.system.stencils.images) images.nets.items images.taps.items images.tests }
     ensures ports { IfOk result (λ r. HasPorts r.module.netlist ir.now b.enable) }
     ensures named { IfOk result (λ r. r.module.names ≡ names_for r.module.netlist) }
     ensures whole { IfOk result (λ r. IsWhole r.module.netlist r.module.netlist) }
@@ -63,6 +82,9 @@ pub fn finished<F: BufferForm>(
     ensures apart { IfOk result (λ r. IsApart r.module.netlist ir.now plan.now (F.form form.now) r.nets.items) }
 {
     plan.law();
-    let module = closed(alloc, b, plan, &nets)?;
-    Ok(Built { module, nets })
+    let module = closed(images.alloc, b, plan, &images.nets, &images.tests)?;
+    Ok(Built {
+        module,
+        nets: images.nets,
+    })
 }

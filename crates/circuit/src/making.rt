@@ -6,86 +6,75 @@ ghost use Rattle.net_build.specs.Runs.{IsWhole, RunsOn};
 ghost use Rattle.pointwise_ir.specs.Stencils.{AreStencilsOf};
 ghost use Rattle.line_buffer.specs.SharedCounters.{AreTurns};
 ghost use Rattle.circuit.specs.Forms.{shapes_of, HasProperty};
-ghost use Rattle.circuit.specs.Images.{AreBuilt, AreBuiltWith};
+ghost use Rattle.circuit.specs.Images.{AreBuiltWith};
 ghost use Rattle.circuit.specs.Behaviour.{IsPlanOf, HasPorts};
 ghost use Rattle.circuit.specs.Nets.{IsApart};
 ghost use Rattle.circuit.specs.Modules.{IsModuleOf};
 
-use crate::finishing::{Built, finished};
+use crate::finishing::{Built, BuiltImages, finished};
 use crate::forms::BufferForm;
 use crate::images::image_net;
 use crate::options::Options;
 use crate::ports::begun;
 use crate::positions::no_tests;
 use crate::reader::Reader;
-use crate::taps::Taps;
 use buffer_plan::Plan;
 use dk_base::OutOfMemory;
-use edge_select::FrameTests;
 use line_buffer::Turns;
 use net_build::Builder;
 use pointwise_ir::Program;
 use std::alloc::Global;
-use wiring::Net;
 
 // One image more: its net, and then its buffer.
 fn add_image<F: BufferForm>(
-    alloc: Global,
     b: &mut Builder,
     ir: &Program,
     plan: &Plan,
     form: &F,
-    turns: &mut Turns,
-    tests: &mut FrameTests,
+    images: &mut BuiltImages,
     k: usize,
-    nets: &mut Vec<Net>,
-    taps: &mut Vec<Taps>,
 ) -> Result<(), OutOfMemory>
     requires stencils { AreStencilsOf ir.now plan.now.system.stencils }
     requires within { k < length plan.now.system.stencils.images }
-    requires turns { AreTurns b.old turns.old }
-    requires built { AreBuiltWith b.old ir.now plan.now (F.form form.now) k nets.old.items taps.old.items tests.old }
+    requires turns { AreTurns b.old images.old.turns }
+    requires built { AreBuiltWith b.old ir.now plan.now (F.form form.now) k images.old.nets.items images.old.taps.items images.old.tests }
     ensures enable { OnOk result (b.new.enable ≡ b.old.enable) }
-    ensures turns { OnOk result (AreTurns b.new turns.new) }
-    ensures built { OnOk result (AreBuiltWith b.new ir.now plan.now (F.form form.now) (suc k) nets.new.items taps.new.items tests.new) }
+    ensures turns { OnOk result (AreTurns b.new images.new.turns) }
+    ensures built { OnOk result (AreBuiltWith b.new ir.now plan.now (F.form form.now) (suc k) images.new.nets.items images.new.taps.items images.new.tests) }
 {
     plan.law();
     let image = plan.images()[k].number;
     let reader = Reader {
         ir,
         plan,
-        taps,
+        taps: &images.taps,
         image,
     };
-    let net = image_net(alloc, b, &reader, tests)?;
+    let net = image_net(images.alloc, b, &reader, &mut images.tests)?;
     b.law();
-    let own = form.add(alloc, plan, image, net, b, turns)?;
+    let own = form.add(images.alloc, plan, image, net, b, &mut images.turns)?;
     b.law();
-    nets.push(net)?;
-    taps.push(own)?;
+    images.nets.push(net)?;
+    images.taps.push(own)?;
     Ok(())
 }
 
 // All images, one after another.
 fn add_images<F: BufferForm>(
-    alloc: Global,
     b: &mut Builder,
     ir: &Program,
     plan: &Plan,
     form: &F,
-    turns: &mut Turns,
-    tests: &mut FrameTests,
-    nets: &mut Vec<Net>,
-    taps: &mut Vec<Taps>,
+    images: &mut BuiltImages,
 ) -> Result<(), OutOfMemory>
     requires stencils { AreStencilsOf ir.now plan.now.system.stencils }
-    requires turns { AreTurns b.old turns.old }
-    requires built { AreBuiltWith b.old ir.now plan.now (F.form form.now) 0 nets.old.items taps.old.items tests.old }
+    requires turns { AreTurns b.old images.old.turns }
+    requires built { AreBuiltWith b.old ir.now plan.now (F.form form.now) 0 images.old.nets.items images.old.taps.items images.old.tests }
     ensures enable { OnOk result (b.new.enable ≡ b.old.enable) }
-    ensures built { OnOk result (AreBuilt b.new ir.now plan.now (F.form form.now) (length plan.now.system.stencils.images) nets.new.items taps.new.items) }
+    ensures built { OnOk result (AreBuiltWith b.new ir.now plan.now (F.form form.now) (length plan.now.system.stencils.images) images.new.nets.items images.new.taps.items images.new.tests) }
 {
     for k in 0..plan.images().len() {
-        add_image(alloc, b, ir, plan, form, turns, tests, k, nets, taps)?;
+        add_image(b, ir, plan, form, images, k)?;
     }
     Ok(())
 }
@@ -109,14 +98,19 @@ pub fn build_with<F: BufferForm>(
     ensures apart { IfOk result (λ r. IsApart r.module.netlist ir.now plan.now (F.form form.now) r.nets.items) }
 {
     let mut b = begun(alloc, ir, options.enable)?;
-    let mut nets = Vec::new(alloc);
-    let mut taps = Vec::new(alloc);
-    let mut turns = Turns::new(alloc);
-    let mut tests = no_tests(alloc, plan);
-    add_images(
-        alloc, &mut b, ir, plan, form, &mut turns, &mut tests, &mut nets, &mut taps,
-    )?;
-    let built = finished(alloc, b, ir, plan, form, nets, &taps)?;
+    let nets = Vec::new(alloc);
+    let taps = Vec::new(alloc);
+    let turns = Turns::new(alloc);
+    let tests = no_tests(alloc, plan);
+    let mut images = BuiltImages {
+        alloc,
+        nets,
+        taps,
+        turns,
+        tests,
+    };
+    add_images(&mut b, ir, plan, form, &mut images)?;
+    let built = finished(b, ir, plan, form, images)?;
     Ok(built)
 }
 

@@ -1,7 +1,8 @@
 // The outputs of a circuit: for each when it is valid, and what it shows.
 
 ghost use Rattle.std.specs.Prelude.{◌≡◌, ℕ, ◌<◌, IfOk, OnOk, IfSome, IfNone, length};
-ghost use Rattle.net_build.specs.Counters.{AddsControl};
+ghost use Rattle.dk_base.specs.FrameSizes.{size_of};
+ghost use Rattle.edge_select.specs.FrameTests.{AddsTests, AreFrameTests};
 ghost use Rattle.buffer_plan.specs.Plans.{latency_of};
 ghost use Rattle.circuit.specs.Behaviour.{net_of};
 ghost use Rattle.circuit.specs.Ends.{AreOuts, output_in, AreValids, IsValidOf, IsOut, IsSharedBy, AreShared};
@@ -9,6 +10,7 @@ ghost use Rattle.circuit.specs.Ends.{AreOuts, output_in, AreValids, IsValidOf, I
 use crate::valid::valid_from;
 use buffer_plan::Plan;
 use dk_base::OutOfMemory;
+use edge_select::FrameTests;
 use net_build::Builder;
 use std::alloc::Global;
 use wiring::Net;
@@ -30,18 +32,24 @@ fn same_latency(plan: &Plan, k: usize) -> Option<usize>
 }
 
 // The valid of the output after these: that of one of them, or a new one.
-fn valid_behind(b: &mut Builder, plan: &Plan, outs: &[(Net, Net)]) -> Result<Net, OutOfMemory>
+fn valid_behind(
+    b: &mut Builder,
+    plan: &Plan,
+    tests: &FrameTests,
+    outs: &[(Net, Net)],
+) -> Result<Net, OutOfMemory>
+    requires tests { AreFrameTests b.old (size_of tests.now.size) tests.now }
     requires within { length outs.now < length plan.now.system.stencils.outputs }
     requires valids { AreValids b.old plan.now outs.now }
     requires share { AreShared plan.now outs.now }
-    ensures adds { OnOk result (AddsControl b.new b.old) }
+    ensures adds { OnOk result (AddsTests b.new b.old tests.now tests.now) }
     ensures valid { IfOk result (IsValidOf b.new plan.now (length outs.now)) }
     ensures shared { IfOk result (IsSharedBy plan.now outs.now (length outs.now)) }
 {
     match same_latency(plan, outs.len()) {
         Some(j) => Ok(outs[j].0),
         None => {
-            let net = valid_from(b, plan.latency_of(outs.len()))?;
+            let net = valid_from(b, tests, plan.latency_of(outs.len()))?;
             Ok(net)
         }
     }
@@ -63,17 +71,19 @@ fn out_behind(
     b: &mut Builder,
     plan: &Plan,
     nets: &[Net],
+    tests: &FrameTests,
     outs: &[(Net, Net)],
 ) -> Result<(Net, Net), OutOfMemory>
+    requires tests { AreFrameTests b.old (size_of tests.now.size) tests.now }
     requires count { length nets.now ≡ length plan.now.system.stencils.images }
     requires within { length outs.now < length plan.now.system.stencils.outputs }
     requires outs { AreOuts b.old plan.now nets.now (length outs.now) outs.now }
     requires share { AreShared plan.now outs.now }
-    ensures adds { OnOk result (AddsControl b.new b.old) }
+    ensures adds { OnOk result (AddsTests b.new b.old tests.now tests.now) }
     ensures out { IfOk result (IsOut b.new plan.now nets.now (length outs.now)) }
     ensures shared { IfOk result (λ out. IsSharedBy plan.now outs.now (length outs.now) out.0) }
 {
-    let valid = valid_behind(b, plan, outs)?;
+    let valid = valid_behind(b, plan, tests, outs)?;
     let dout = dout_at(plan, nets, outs.len());
     Ok((valid, dout))
 }
@@ -84,15 +94,17 @@ pub fn all_outs(
     b: &mut Builder,
     plan: &Plan,
     nets: &[Net],
+    tests: &FrameTests,
 ) -> Result<Vec<(Net, Net)>, OutOfMemory>
+    requires tests { AreFrameTests b.old (size_of tests.now.size) tests.now }
     requires count { length nets.now ≡ length plan.now.system.stencils.images }
-    ensures adds { OnOk result (AddsControl b.new b.old) }
+    ensures adds { OnOk result (AddsTests b.new b.old tests.now tests.now) }
     ensures outs { IfOk result (λ outs. AreOuts b.new plan.now nets.now (length plan.now.system.stencils.outputs) outs.items) }
     ensures share { IfOk result (λ outs. AreShared plan.now outs.items) }
 {
     let mut outs = Vec::new(alloc);
     for _ in plan.outputs() {
-        let out = out_behind(b, plan, nets, &outs)?;
+        let out = out_behind(b, plan, nets, tests, &outs)?;
         outs.push(out)?;
     }
     Ok(outs)

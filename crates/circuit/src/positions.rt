@@ -49,7 +49,7 @@ pub fn test_at(
     Ok(net)
 }
 
-// The same where the steps lead somewhere, by the registers.
+// The test that a pixel of image f passes where the steps lead from it somewhere, by the registers of the frame tests.
 fn test_leads(
     b: &mut Builder,
     plan: &Plan,

@@ -9,10 +9,10 @@ use Rattle.circuit.proofs.finishing.closed.Goals as goal
 pub finish_all-requires-clause-outs : goal.finish_all-requires-clause-outs
 finish_all-requires-clause-outs c =
     subst (λ (outs : List (Net × Net)). AreSources c.all_outs.new.b (flat outs)) (sym c.deref.ensures.value)
-    (can_take c.all_outs.new.b c.args.b c.args.plan.now c.args.nets.now c.in_ok-outs.outs.items c.requires.ends c.in_ok-outs.ensures.adds c.in_ok-outs.ensures.outs)
+    (can_take c.all_outs.new.b c.args.b c.args.plan.now c.args.nets.now c.args.tests.now c.in_ok-outs.outs.items c.requires.ends c.in_ok-outs.ensures.adds c.in_ok-outs.ensures.outs)
 
 pub finish_all-requires-clause-updated : goal.finish_all-requires-clause-updated
-finish_all-requires-clause-updated c = can_update c.all_outs.new.b c.args.b c.args.plan.now c.args.nets.now c.requires.ends c.in_ok-outs.ensures.adds
+finish_all-requires-clause-updated c = can_update c.all_outs.new.b c.args.b c.args.plan.now c.args.nets.now c.args.tests.now c.requires.ends c.in_ok-outs.ensures.adds
 
 pub returns : goal.returns
 returns c = record {

@@ -17,21 +17,21 @@ image_net-requires-clause-reading g c =
     let i = slice_index_or c.images.result.now c.args.k none in
     let form = c.args.form.now in
     subst (λ (ts : List (List Net)). IsReading c.args.b.now c.args.ir.now plan ts i.number) (sym c.deref.ensures.value)
-    (next_reading c.args.b.now c.args.ir.now plan (g.F.BufferForm.form form) c.args.k c.args.nets.now.items c.args.taps.now.items i c.law.ensures c.requires.stencils (image_at plan.system.stencils.images c.images.result.now c.args.k none c.images.ensures c.requires.within) c.requires.built.built)
+    (next_reading c.args.b.now c.args.ir.now plan (g.F.BufferForm.form form) c.args.k c.args.images.now.nets.items c.args.images.now.taps.items i c.law.ensures c.requires.stencils (image_at plan.system.stencils.images c.images.result.now c.args.k none c.images.ensures c.requires.within) c.requires.built.built)
 
 pub add-requires-clause-kept : goal.add-requires-clause-kept
 add-requires-clause-kept g c =
     let plan = c.args.plan.now in
     let i = slice_index_or c.images.result.now c.args.k none in
     let form = c.args.form.now in
-    next_kept c.args.b.now c.args.ir.now plan (g.F.BufferForm.form form) c.args.k c.args.nets.now.items c.args.taps.now.items i c.law.ensures c.requires.stencils (image_at plan.system.stencils.images c.images.result.now c.args.k none c.images.ensures c.requires.within) c.requires.built.built
+    next_kept c.args.b.now c.args.ir.now plan (g.F.BufferForm.form form) c.args.k c.args.images.now.nets.items c.args.images.now.taps.items i c.law.ensures c.requires.stencils (image_at plan.system.stencils.images c.images.result.now c.args.k none c.images.ensures c.requires.within) c.requires.built.built
 
 pub add-requires-clause-arrays : goal.add-requires-clause-arrays
 add-requires-clause-arrays g c =
     let plan = c.args.plan.now in
     let i = slice_index_or c.images.result.now c.args.k none in
     let form = c.args.form.now in
-    next_arrays c.args.b.now c.args.ir.now plan (g.F.BufferForm.form form) c.args.k c.args.nets.now.items c.args.taps.now.items i c.law.ensures c.requires.stencils (image_at plan.system.stencils.images c.images.result.now c.args.k none c.images.ensures c.requires.within) c.requires.built.built
+    next_arrays c.args.b.now c.args.ir.now plan (g.F.BufferForm.form form) c.args.k c.args.images.now.nets.items c.args.images.now.taps.items i c.law.ensures c.requires.stencils (image_at plan.system.stencils.images c.images.result.now c.args.k none c.images.ensures c.requires.within) c.requires.built.built
     c.image_net.new.b c.in_ok-net.ensures.adds.arrays
 
 pub returns-clause-built : goal.returns-clause-built
@@ -39,13 +39,13 @@ returns-clause-built g c =
     let plan = c.args.plan.now in
     let i = slice_index_or c.images.result.now c.args.k none in
     let form = c.args.form.now in
-    let built = next_built c.args.b.now c.args.ir.now plan (g.F.BufferForm.form form) c.args.k c.args.nets.now.items c.args.taps.now.items i c.law.ensures c.requires.stencils (image_at plan.system.stencils.images c.images.result.now c.args.k none c.images.ensures c.requires.within) c.requires.built.built
-    c.add.new.b c.image_net.new.b c.in_ok-net.net c.in_ok-own.own c.image_net.new.tests c.args.tests.now c.in_ok-net.ensures.adds c.requires.built.apart c.in_ok-net.ensures.tests
+    let built = next_built c.args.b.now c.args.ir.now plan (g.F.BufferForm.form form) c.args.k c.args.images.now.nets.items c.args.images.now.taps.items i c.law.ensures c.requires.stencils (image_at plan.system.stencils.images c.images.result.now c.args.k none c.images.ensures c.requires.within) c.requires.built.built
+    c.add.new.b c.image_net.new.b c.in_ok-net.net c.in_ok-own.own c.image_net.new.tests c.args.images.now.tests c.in_ok-net.ensures.adds c.requires.built.apart c.in_ok-net.ensures.tests
     (subst (λ (ts : List (List Net)). IsImageNet c.image_net.new.b c.args.b.now c.args.ir.now plan ts i.number c.in_ok-net.net) c.deref.ensures.value c.in_ok-net.ensures.net)
     c.in_ok-own.ensures.buffered c.law-2.ensures.draft c.law-3.ensures.draft
     in
     subst (λ (ns : List Net). AreBuiltWith c.add.new.b c.args.ir.now plan (g.F.BufferForm.form form) (suc c.args.k) ns c.push-2.new.self.items c.image_net.new.tests) (sym c.in_ok-push.ensures.items)
-    (subst (λ (ts : List (List Net)). AreBuiltWith c.add.new.b c.args.ir.now plan (g.F.BufferForm.form form) (suc c.args.k) (c.args.nets.now.items ++ c.in_ok-net.net ∷ []) ts c.image_net.new.tests) (sym c.in_ok-push-2.ensures.items) built)
+    (subst (λ (ts : List (List Net)). AreBuiltWith c.add.new.b c.args.ir.now plan (g.F.BufferForm.form form) (suc c.args.k) (c.args.images.now.nets.items ++ c.in_ok-net.net ∷ []) ts c.image_net.new.tests) (sym c.in_ok-push-2.ensures.items) built)
 
 pub add-requires-clause-turns : goal.add-requires-clause-turns
-add-requires-clause-turns g c = turns_more c.image_net.new.b c.args.b.now c.args.turns.now c.in_ok-net.ensures.adds.includes c.requires.turns
+add-requires-clause-turns g c = turns_more c.image_net.new.b c.args.b.now c.args.images.now.turns c.in_ok-net.ensures.adds.includes c.requires.turns

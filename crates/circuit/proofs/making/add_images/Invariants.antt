@@ -6,6 +6,6 @@ use Rattle.circuit.proofs.making.add_images.Given as goal
 abbrev pub invariant-loop-k : goal.invariant-loop-k
 invariant-loop-k g l = record {
   enable : l.b.enable ≡ l.fn.b.enable;
-  turns : AreTurns l.b l.turns;
-  built : AreBuiltWith l.b l.ir l.plan (g.F.BufferForm.form l.form) l.k l.nets.items l.taps.items l.tests;
+  turns : AreTurns l.b l.images.turns;
+  built : AreBuiltWith l.b l.ir l.plan (g.F.BufferForm.form l.form) l.k l.images.nets.items l.images.taps.items l.images.tests;
 }

@@ -1,12 +1,12 @@
 use Rattle.std.proofs.Common.{◌∙◌, sym}
 use Rattle.std.proofs.lemmas.Option.{slice_get-get_or}
 use Rattle.wiring.specs.declared.netlist.Net.TheVariants.{Input}
-use Rattle.circuit.proofs.Placing.{control_none}
+use Rattle.circuit.proofs.Placing.{tests_none}
 use Rattle.circuit.proofs.Leaving.{valid_shared}
 use Rattle.circuit.proofs.outs.valid_behind.Goals as goal
 
 pub returns-in-Some-clause-adds : goal.returns-in-Some-clause-adds
-returns-in-Some-clause-adds c = control_none c.args.b.now
+returns-in-Some-clause-adds c = tests_none c.args.b.now c.args.tests.now
 
 pub returns-in-Some-clause-valid : goal.returns-in-Some-clause-valid
 returns-in-Some-clause-valid c =

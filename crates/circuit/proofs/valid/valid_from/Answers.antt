@@ -1,10 +1,10 @@
 use Rattle.std.proofs.Common.{◌∙◌, sym}
-use Rattle.net_build.proofs.Starting.{logic_adds, control_on}
+use Rattle.circuit.proofs.Placing.{tests_logic}
 use Rattle.circuit.proofs.Validity.{started_free, started_enabled}
 use Rattle.circuit.proofs.valid.valid_from.Goals as goal
 
 pub returns-then-has_en-clause-adds : goal.returns-then-has_en-clause-adds
-returns-then-has_en-clause-adds c = control_on c.args.b.now c.started.new.b c.gate.new.b c.in_ok-begun.ensures.adds (logic_adds c.gate.new.b c.started.new.b c.gate.ensures.logic)
+returns-then-has_en-clause-adds c = tests_logic c.gate.new.b c.started.new.b c.args.b.now c.args.tests.now c.args.tests.now c.in_ok-begun.ensures.adds c.gate.ensures.logic
 
 pub returns-then-has_en-clause-valid : goal.returns-then-has_en-clause-valid
 returns-then-has_en-clause-valid c =
