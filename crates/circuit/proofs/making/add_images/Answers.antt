@@ -1,4 +1,4 @@
-use Rattle.std.proofs.Common.{◌≡◌, ℕ, suc, ◌+◌, subst, ◌∙◌, arith}
+use Rattle.std.proofs.Common.{◌≡◌, ℕ, suc, ◌+◌, length, ap, subst, ◌∙◌, arith}
 use Rattle.circuit.specs.Images.{AreBuiltWith}
 use Rattle.circuit.proofs.making.add_images.Goals as goal
 
@@ -10,3 +10,8 @@ loop-k-preserved g c =
       turns = c.in_ok-add_image.ensures.turns;
       built = subst (λ (n : ℕ). AreBuiltWith c.add_image.new.b c.args.ir.now c.args.plan.now (g.F.BufferForm.form c.args.form.now) n c.add_image.new.images.nets.items c.add_image.new.images.taps.items c.add_image.new.images.tests) next c.in_ok-add_image.ensures.built;
     }
+
+pub returns-clause-built : goal.returns-clause-built
+returns-clause-built g c =
+    let all : c.loop-k.k ≡ length c.args.plan.now.system.stencils.images = omega (arith, c.loop-k-test.false, c.loop-k.auto.k-end, ap length c.images-k-end.ensures) in
+    subst (λ (n : ℕ). AreBuiltWith c.loop-k.b c.args.ir.now c.args.plan.now (g.F.BufferForm.form c.args.form.now) n c.loop-k.images.nets.items c.loop-k.images.taps.items c.loop-k.images.tests) all c.loop-k.invariant.built
