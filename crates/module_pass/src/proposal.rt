@@ -1,0 +1,255 @@
+// A netlist with packed arrays. Nothing is claimed of it: it is tested.
+
+use crate::check::Hints;
+use crate::groups::{Column, Plan, plan_of, put_of, read_index};
+use crate::slots::Slot;
+use dk_base::OutOfMemory;
+use std::alloc::Global;
+use wiring::{Assign, Atom, Net, Netlist, Right, Shape, Update, Width};
+
+// A packed netlist, with what its test needs.
+#[derive(Debug, Drop)]
+pub(crate) struct Proposal {
+    pub netlist: Netlist,
+    pub slots: Vec<Slot>,
+    pub hints: Hints,
+}
+
+// The value that is put into a column so far, and its width.
+#[derive(Clone, Copy, Debug)]
+struct Joined {
+    value: Atom<Net>,
+    bits: u8,
+}
+
+impl Plan {
+    fn column(&self, array: usize) -> Option<Column> {
+        let slot = self.slots.get(array)?;
+        self.columns.get(slot.array).copied()
+    }
+
+    // The index at which a column is read, with the place of the assign that reads its first part.
+    fn read_index(&self, old: &Netlist, column: Column) -> Option<(Atom<Net>, usize)> {
+        let used = self.uses.get(column.first)?;
+        Some((read_index(old, used.read)?, used.read))
+    }
+
+    // The index at which a column is put, with the place of the update that puts its first part.
+    fn put_index(&self, old: &Netlist, column: Column) -> Option<(Atom<Net>, usize)> {
+        let used = self.uses.get(column.first)?;
+        let (index, _) = put_of(old, used.put)?;
+        Some((index, used.put))
+    }
+
+    // The value that is put into an array.
+    fn put_value(&self, old: &Netlist, array: usize) -> Option<Atom<Net>> {
+        let used = self.uses.get(array)?;
+        let (_, value) = put_of(old, used.put)?;
+        Some(value)
+    }
+
+    // The right side with words of packed arrays as slices.
+    fn packed_right(&self, right: &Right<Net, usize>) -> Right<Net, usize> {
+        let Right::Word(array, index) = right else {
+            return *right;
+        };
+        let (Some(slot), Some(column)) = (self.slots.get(*array), self.column(*array)) else {
+            return *right;
+        };
+        if column.parts > 1 {
+            let above = slot.low.saturating_add(slot.width as u64);
+            Right::Slice(Net::Wire(column.wire), above.saturating_sub(1), slot.low)
+        } else {
+            Right::Word(slot.array, *index)
+        }
+    }
+}
+
+impl Proposal {
+    // Adds a wire with the assign that drives it.
+    fn add_wire(
+        &mut self,
+        bits: u8,
+        right: Right<Net, usize>,
+        source: usize,
+    ) -> Result<Net, OutOfMemory> {
+        let target = Net::Wire(self.netlist.wires.len());
+        if let Some(width) = Width::checked(bits) {
+            self.netlist.wires.push(width)?;
+            self.netlist.assigns.push(Assign { target, right })?;
+            self.hints.reads.push(source)?;
+        }
+        Ok(target)
+    }
+
+    fn add_arrays(&mut self, columns: &[Column]) -> Result<(), OutOfMemory> {
+        for column in columns {
+            if let Some(width) = Width::checked(column.bits) {
+                let depth = column.depth;
+                self.netlist.arrays.push(Shape { width, depth })?;
+            }
+        }
+        Ok(())
+    }
+
+    // The assigns of the old netlist, in their order.
+    fn add_assigns(&mut self, old: &Netlist, plan: &Plan) -> Result<(), OutOfMemory> {
+        for (place, assign) in old.assigns.iter().enumerate() {
+            let target = assign.target;
+            let right = plan.packed_right(&assign.right);
+            self.netlist.assigns.push(Assign { target, right })?;
+            self.hints.reads.push(place)?;
+        }
+        Ok(())
+    }
+
+    // A wire for the word of each column of several parts.
+    fn add_words(&mut self, old: &Netlist, plan: &Plan) -> Result<(), OutOfMemory> {
+        for (number, column) in plan.columns.iter().enumerate() {
+            if column.parts > 1 {
+                if let Some((index, source)) = plan.read_index(old, *column) {
+                    let _ = self.add_wire(column.bits, Right::Word(number, index), source)?;
+                }
+            }
+        }
+        Ok(())
+    }
+
+    // The updates of registers, in their order, and where each old update is among the new ones: after them come the puts, one for each column.
+    fn add_sets(&mut self, old: &Netlist) -> Result<(), OutOfMemory> {
+        for (place, update) in old.updates.iter().enumerate() {
+            if let Update::Set(_, _) = update {
+                self.netlist.updates.push(*update)?;
+                self.hints.puts.push(place)?;
+            }
+        }
+        Ok(())
+    }
+
+    fn add_hints(&mut self, old: &Netlist, plan: &Plan) -> Result<(), OutOfMemory> {
+        let sets = self.netlist.updates.len();
+        let mut set: usize = 0;
+        for update in old.updates.iter() {
+            let place = match update {
+                Update::Set(_, _) => {
+                    set = set.saturating_add(1);
+                    set.saturating_sub(1)
+                }
+                Update::Put(array, _, _) => {
+                    let column = plan.slots.get(*array).map(|slot| slot.array).unwrap_or(0);
+                    sets.saturating_add(column)
+                }
+            };
+            self.hints.updates.push(place)?;
+        }
+        Ok(())
+    }
+
+    // The value with one more above what is joined already.
+    fn join(
+        &mut self,
+        below: Option<Joined>,
+        value: Atom<Net>,
+        width: u8,
+    ) -> Result<Joined, OutOfMemory> {
+        let Some(low) = below else {
+            return Ok(Joined { value, bits: width });
+        };
+        let bits = low.bits.saturating_add(width);
+        let wire = self.add_wire(bits, Right::Join(value, low.value), 0)?;
+        Ok(Joined {
+            value: Atom::Net(wire),
+            bits,
+        })
+    }
+
+    // The value that is put into each column.
+    fn join_values(
+        &mut self,
+        alloc: Global,
+        old: &Netlist,
+        plan: &Plan,
+    ) -> Result<Vec<Option<Joined>>, OutOfMemory> {
+        let mut joined = vec![in alloc; None; plan.columns.len()]?;
+        for (array, slot) in plan.slots.iter().enumerate() {
+            if let Some(value) = plan.put_value(old, array) {
+                let below = joined.get(slot.array).copied().flatten();
+                let whole = self.join(below, value, slot.width)?;
+                if let Some(place) = joined.get_mut(slot.array) {
+                    *place = Some(whole);
+                }
+            }
+        }
+        Ok(joined)
+    }
+
+    // The put of each column.
+    fn add_puts(
+        &mut self,
+        old: &Netlist,
+        plan: &Plan,
+        values: &[Option<Joined>],
+    ) -> Result<(), OutOfMemory> {
+        for (number, column) in plan.columns.iter().enumerate() {
+            let value = values.get(number).copied().flatten();
+            if let (Some((index, source)), Some(whole)) = (plan.put_index(old, *column), value) {
+                let put = Update::Put(number, index, whole.value);
+                self.netlist.updates.push(put)?;
+                self.hints.puts.push(source)?;
+            }
+        }
+        Ok(())
+    }
+}
+
+fn copied(alloc: Global, widths: &[Width]) -> Result<Vec<Width>, OutOfMemory> {
+    let mut copy = Vec::new(alloc);
+    for width in widths {
+        copy.push(*width)?;
+    }
+    Ok(copy)
+}
+
+// The nets of the netlist, with no arrays and nothing that drives them.
+fn begun(alloc: Global, old: &Netlist) -> Result<Proposal, OutOfMemory> {
+    Ok(Proposal {
+        netlist: Netlist {
+            enable: old.enable,
+            inputs: copied(alloc, &old.inputs)?,
+            outputs: copied(alloc, &old.outputs)?,
+            wires: copied(alloc, &old.wires)?,
+            regs: copied(alloc, &old.regs)?,
+            arrays: Vec::new(alloc),
+            assigns: Vec::new(alloc),
+            updates: Vec::new(alloc),
+        },
+        slots: Vec::new(alloc),
+        hints: Hints {
+            updates: Vec::new(alloc),
+            reads: Vec::new(alloc),
+            puts: Vec::new(alloc),
+        },
+    })
+}
+
+// The netlist with its arrays of at least `least` words packed, or None where no two go together. Wires are added in the order of the assigns that drive them.
+pub(crate) fn propose(
+    alloc: Global,
+    old: &Netlist,
+    least: u32,
+) -> Result<Option<Proposal>, OutOfMemory> {
+    let plan = plan_of(alloc, old, least)?;
+    if plan.columns.len() == old.arrays.len() {
+        return Ok(None);
+    }
+    let mut made = begun(alloc, old)?;
+    made.add_arrays(&plan.columns)?;
+    made.add_assigns(old, &plan)?;
+    made.add_words(old, &plan)?;
+    made.add_sets(old)?;
+    made.add_hints(old, &plan)?;
+    let values = made.join_values(alloc, old, &plan)?;
+    made.add_puts(old, &plan, &values)?;
+    made.slots = plan.slots;
+    Ok(Some(made))
+}
