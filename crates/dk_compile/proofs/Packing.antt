@@ -1,26 +1,24 @@
 -- A module that simulates a circuit does in its own runs what the circuit does.
-use Rattle.std.proofs.Common.{◌≡◌, ℕ, ◌+◌, ◌<◌, ◌==◌, Bool, true, List, [], ◌∷◌, length, map, refl, sym, ap, subst, ◌∙◌, Option, Some, None}
-use Rattle.std.specs.Prelude.{IsTrue, nat_lt, nat_le, not, ◌&&◌, if◌then◌else◌, slice_get, slice_index, replicate, All}
+use Rattle.std.proofs.Common.{◌≡◌, ℕ, ◌+◌, Bool, true, List, [], ◌∷◌, length, map, refl, sym, ap, subst, ◌∙◌, Option, None}
+use Rattle.std.specs.Prelude.{IsTrue, nat_le, not, ◌&&◌, if◌then◌else◌, slice_index, replicate, All}
 use Rattle.std.proofs.lemmas.List.Elements.{All-nil, All-cons, All-head, All-tail}
-use Rattle.core.proofs.iter.runs.Lists.{slice_get-map}
-use Rattle.std.specs.Prelude.{option_map}
 use Rattle.wiring.specs.declared.netlist.Net.{Net}
-use Rattle.wiring.specs.Netlist.{Netlist, valid_net, dout_net}
+use Rattle.wiring.specs.Netlist.{Netlist, dout_net}
 use Rattle.wiring.specs.Snapshot.{Contents, Snapshot, Fit, FitsContents, IsNext, net_value}
 use Rattle.wiring.specs.Clock.{Clock, bit, given}
-use Rattle.wiring.specs.History.{was_reset, is_held, counted, fed}
+use Rattle.wiring.specs.History.{is_held, counted}
 use Rattle.wiring.specs.Runs.{Runs}
 use Rattle.wiring.specs.Order.{IsEvaluationOrder}
 use Rattle.wiring.specs.Rules.{KeepsRules}
 use Rattle.netlist.proofs.FitLaws.{contents_fit}
-use Rattle.net_build.specs.Runs.{IsWhole, FitsPorts, IsClockOf, RunsOn, IsReady}
+use Rattle.net_build.specs.Runs.{IsWhole, FitsPorts, IsClockOf, RunsOn}
 use Rattle.net_build.proofs.Parts.{Includes-refl}
 use Rattle.net_build.proofs.Runs.{clock_contents, clock_inputs}
 use Rattle.module_pass.specs.declared.slots.Slot.{Slot}
 use Rattle.module_pass.specs.Simulation.{View, seen, Simulates}
 use Rattle.module_pass.specs.Packing.{IsPacking, packed, whole_slots}
 use Rattle.module_pass.proofs.Following.{at_followed, run_followed, stop_followed}
-use Rattle.module_pass.proofs.Simulating.{packed_simulates}
+use Rattle.module_pass.proofs.Simulating.{at_map, packed_simulates}
 use Rattle.module_pass.proofs.Seen.{contents_seen}
 use Rattle.module_pass.proofs.Whole.{whole_packing}
 use Rattle.pointwise_ir.specs.Programs.{Program, IsProgram}
@@ -28,9 +26,9 @@ use Rattle.buffer_plan.specs.Plans.{Plan, delay_of, depth_of, latency_of}
 use Rattle.line_buffer.specs.Streams.{IsPixel, BufferIsRight}
 use Rattle.line_buffer.specs.Places.{word_at}
 use Rattle.circuit.specs.Runs.{IsRunning}
-use Rattle.circuit.specs.Rounds.{Rounds, AreRounds, Feeds, pixel_count, pixel_bits}
+use Rattle.circuit.specs.Rounds.{Rounds, Feeds, pixel_count, pixel_bits}
 use Rattle.circuit.specs.Forms.{Places}
-use Rattle.circuit.specs.Behaviour.{HasPorts, Behaves, is_valid}
+use Rattle.circuit.specs.Behaviour.{HasPorts, Behaves}
 use Rattle.circuit.specs.Driven.{Drives, input_widths, driven}
 use Rattle.circuit.proofs.Driven.{zeros_fit, given_fits, fed_fit}
 use Rattle.dk_compile.specs.Circuits.{IsCircuitOf, form_with}
@@ -110,9 +108,6 @@ module _ (m old : Netlist) (v : View) (sim : Simulates m old v) (whole : IsWhole
         runs.no_stop (v.contents from) clocks (map (seen v) shots) old_stops.0 old_stops.1 (sim.fits from start) (all_alike clocks fit) begins old_stops.2);
   }
 
-  seen_at : (shots : List Snapshot) (c : ℕ) (s : Snapshot) → slice_get shots c ≡ Some s → slice_get (map (seen v) shots) c ≡ Some (seen v s)
-  seen_at shots c s at = slice_get-map (seen v) shots c ∙ ap (option_map (seen v)) at
-
   pub drives_alike : (p : Program) (plan : Plan) → IsProgram p → (enable : Bool) → HasPorts old p enable → Drives old p plan → Drives m p plan
   drives_alike p plan program enable ports d = record {
     ports = let own = ports_of p enable ports in record { enable_is = refl; inputs = subst (λ (e : Bool). m.inputs ≡ 1 ∷ (if e then 1 ∷ input_widths p else input_widths p)) (sym own.enable_is) own.inputs; outputs = own.outputs };
@@ -120,9 +115,9 @@ module _ (m old : Netlist) (v : View) (sim : Simulates m old v) (whole : IsWhole
         (let old_stops = stop_followed m old v sim whole.rules whole.order whole.ordered from (driven (length p.inputs) dins) shots array index start (driven_fit dins fit) stops in
         d.never (v.contents from) dins (map (seen v) shots) old_stops.0 old_stops.1 (sim.fits from start) fit old_stops.2);
     valid = λ from to dins shots start fit run k c s low at.
-        d.valid (v.contents from) (v.contents to) dins (map (seen v) shots) (sim.fits from start) fit (followed from to dins shots start fit run) k c (seen v s) low (seen_at shots c s at);
+        d.valid (v.contents from) (v.contents to) dins (map (seen v) shots) (sim.fits from start) fit (followed from to dins shots start fit run) k c (seen v s) low (at_map (seen v) shots c s at);
     dout = λ from to dins shots start fit run rounds are agree k q s low at within.
-        d.dout (v.contents from) (v.contents to) dins (map (seen v) shots) (sim.fits from start) fit (followed from to dins shots start fit run) rounds are agree k q (seen v s) low (seen_at shots (q + latency_of plan k + 1) s at) within;
+        d.dout (v.contents from) (v.contents to) dins (map (seen v) shots) (sim.fits from start) fit (followed from to dins shots start fit run) rounds are agree k q (seen v s) low (at_map (seen v) shots (q + latency_of plan k + 1) s at) within;
   }
     where
       own : HasPorts m p enable
