@@ -3,10 +3,13 @@
 
 usage: tools/memories.py [--write] [--jobs N] [--minutes M] [--keep FILE] PROGRAM [EXAMPLE..]
                                            prints a table of the cells at 1920 by 1080, with and without `--block 32`
+       tools/memories.py --packing [--write] PROGRAM [EXAMPLE..]
+                                           prints a table of the block memories at 1920 by 1080, with and without packing
        tools/memories.py --check PROGRAM   says which family makes no block memory of an array of 512 words and more
 
 Without names the examples are gaussian3, sobel, median and harris. `--write` puts the table in docs/GALLERY.md, with the date and
-Yosys's version. N syntheses run at a time; without `--jobs` two. A synthesis is ended after M minutes of processor time, without
+Yosys's version; that of `--packing` in docs/HARDWARE.md. `--packing` synthesizes as far as block memories are made, and the text without
+packing is that of tools/unpack.py. N syntheses run at a time; without `--jobs` two. A synthesis is ended after M minutes of processor time, without
 `--minutes` ten, or at 6 GB, and then has no figures. A text whose arrays need more flip-flops than the greatest device of a family has is
 not synthesized. With `--keep` results are kept in FILE, and a text that has a result there is not synthesized again.
 """
@@ -24,8 +27,10 @@ import time
 
 sys.dont_write_bytecode = True
 import section
+import unpack
 
 EXAMPLES = os.path.join(os.path.dirname(os.path.abspath(__file__)), "..", "examples", "programs")
+HARDWARE = os.path.join(os.path.dirname(os.path.abspath(__file__)), "..", "docs", "HARDWARE.md")
 BYTES, BLOCK = 6 << 30, 32
 SIZE = "1920 1080"
 SHOWN = ["gaussian3", "sobel", "median", "harris"]
@@ -39,6 +44,8 @@ FAMILIES = {
     "Gowin": ("synth_gowin", ["LUT[1-4]", r"DFF\w*", r"RAM16S\w*", r"(SDP|DP|SP)(X9)?B?"], None),
     "Cyclone V": ("synth_intel_alm -family cyclonev", [r"MISTRAL_(ALUT\w+|NOT)", "MISTRAL_FF", "MISTRAL_MLAB", "MISTRAL_M10K"], None),
 }
+# the bits of a block memory, and how many of them a cell of another kind is
+BLOCKS = {"ECP5": (18432, {}), "Xilinx 7": (18432, {"RAMB36E1": 2}), "iCE40": (4096, {}), "Gowin": (18432, {}), "Cyclone V": (10240, {})}
 # The example, its frame and its options
 CHECKED = [(name, "640 48", option) for name in ("gaussian3", "unsharp", "median") for option in ([], ["--enable"])]
 
@@ -86,6 +93,42 @@ def check(program):
     return failed
 
 
+def blocks(family, text):
+    """The block memories of a text."""
+    command, kinds, _ = FAMILIES[family]
+    size, weights = BLOCKS[family]
+    with tempfile.TemporaryDirectory() as work:
+        with open(f"{work}/dk.v", "w") as file:
+            file.write(text)
+        script = f"read_verilog dk.v; {command} -top dk -run begin:map_ffram; tee -q -o cells.json stat -json"
+        subprocess.run(["yosys", "-q", "-p", script], cwd=work, check=True, stdout=subprocess.DEVNULL)
+        with open(f"{work}/cells.json") as file:
+            found = json.load(file)["design"]["num_cells_by_type"]
+    return sum(count * weights.get(cell, 1) for cell, count in found.items() if re.fullmatch(kinds[3], cell))
+
+
+def packing(program, names, jobs):
+    """The lines of the table of `--packing`."""
+    rows = [(name, family) for name in names for family in FAMILIES]
+    texts, bits = {}, {}
+    with tempfile.TemporaryDirectory() as work:
+        for name in names:
+            bits[name] = sum(words * width for words, width in compiled(program, name, SIZE, ["--age", "1", "--block", str(BLOCK)], work) if words >= BLOCK)
+            with open(f"{work}/dk.v") as file:
+                texts[name] = file.read()
+
+    def row(wanted):
+        name, family = wanted
+        found = [blocks(family, text) for text in (unpack.unpacked(texts[name]), texts[name])]
+        least = bits[name] / BLOCKS[family][0]
+        print("memories:", name, family, *found, file=sys.stderr, flush=True)
+        return f"| {name} | {family} | {bits[name]:,} | {least:.1f} | {found[0]} | {found[1]} | {found[1] / least:.2f} |"
+
+    with concurrent.futures.ThreadPoolExecutor(jobs) as pool:
+        lines = list(pool.map(row, rows))
+    return ["| Program | Family | bits of its long arrays | these, in blocks | blocks without packing | packed | packed, by the bits |", "|" + "---|" * 7, *lines]
+
+
 def counted(program, name, family, block, minutes, kept):
     """The four columns of an example, with or without `--block`."""
     most = FAMILIES[family][2]
@@ -116,6 +159,7 @@ def table(program, names, jobs, minutes, kept):
 def main():
     words = argparse.ArgumentParser(usage=__doc__.split("usage: ")[1].split("\n\n")[0])
     words.add_argument("--check", action="store_true")
+    words.add_argument("--packing", action="store_true")
     words.add_argument("--write", action="store_true")
     words.add_argument("--jobs", type=int, default=2)
     words.add_argument("--minutes", type=int, default=10)
@@ -126,6 +170,13 @@ def main():
     program = os.path.abspath(given.program)
     if given.check:
         return check(program)
+    if given.packing:
+        lines = packing(program, given.names or SHOWN, given.jobs)
+        if not given.write:
+            print("\n".join(lines))
+            return 0
+        section.write(HARDWARE, "packing", [f"Made on {section.today()} with Yosys {section.version('yosys', '-V')}:", "", *lines])
+        return 0
     begun = time.time()
     lines = table(program, given.names or SHOWN, given.jobs, given.minutes, section.Kept(given.keep))
     took = "" if given.keep else f", in {round((time.time() - begun) / 60)} minutes with `--jobs {given.jobs}`"
