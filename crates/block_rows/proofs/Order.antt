@@ -46,22 +46,11 @@ right_keeps old new keeps (Bit v k) h = keeps v h
 right_keeps old new keeps (Slice v m l) h = keeps v h
 right_keeps old new keeps (Word m i) h = atom_keeps old new keeps i h
 
-pub right_kept : (old new : List Bool) (r : Right ℕ ℕ) → Keeps old new → RightSeen old r → RightSeen new r
-right_kept old new r keeps h = right_keeps old new keeps r h
-
 pub not_seen : (old mid : List Bool) (n : ℕ) → Keeps old mid → slice_index_or mid n false ≡ false → IsSeen old n → ⊥
 not_seen old mid n keeps none h = let e : slice_index_or mid n false ≡ true = keeps n h in let f : ⊥ = cc in f
 
 pub not_read : (mid : List Bool) (r : Right ℕ ℕ) (n : ℕ) → RightSeen mid r → slice_index_or mid n false ≡ false → Contains (nets_of r) n → ⊥
 not_read mid r n h none c = let e : slice_index_or mid n false ≡ true = read_seen mid r n h c in let f : ⊥ = cc in f
-
-pub ordered_none : (seen : List Bool) (code : List Instruction) → IsOrderedUpTo seen 0 code
-ordered_none seen code = record {
-  read = λ p i l at. absurd (omega (arith, l));
-  written = λ p i l at. absurd (omega (arith, l));
-  reads = λ p q i j l m at there. absurd (omega (arith, m));
-  writes = λ p q i j l m at there. absurd (omega (arith, m));
-}
 
 module _ (old new : List Bool) (k : ℕ) (code : List Instruction) (before : IsOrderedUpTo old k code) (i : Instruction) (at : slice_get code k ≡ Some i)
     (keeps : Keeps old new) (right : RightSeen new i.right) (target : IsSeen new i.target) (fresh : IsSeen old i.target → ⊥) (apart : Contains (nets_of i.right) i.target → ⊥) where

@@ -21,18 +21,6 @@ abbrev pub HasRow : List (List ℕ) → ℕ → Atom ℕ → Type 0
 HasRow rows count (atom.Net n) = (n < length rows) × (count ≤ length (slice_index_or rows n []))
 HasRow rows count (atom.Constant c) = Unit {0}
 
--- and those of all operands of a right side
-abbrev pub HaveRows : List (List ℕ) → ℕ → Right ℕ ℕ → Type 0
-HaveRows rows count (Copy a) = HasRow rows count a
-HaveRows rows count (Not a) = HasRow rows count a
-HaveRows rows count (Binary o a b) = HasRow rows count a × HasRow rows count b
-HaveRows rows count (Choose c a b) = HasRow rows count c × HasRow rows count a × HasRow rows count b
-HaveRows rows count (Join a b) = HasRow rows count a × HasRow rows count b
-HaveRows rows count (Repeat n a) = HasRow rows count a
-HaveRows rows count (Bit v k) = HasRow rows count (atom.Net v)
-HaveRows rows count (Slice v m l) = HasRow rows count (atom.Net v)
-HaveRows rows count (Word m i) = HasRow rows count i
-
 -- an atom has a row of this many clocks whose values fit a lane of this many bits, or is a constant that does
 abbrev pub IsOperand : ℕ → List (List ℕ) → ℕ → Atom ℕ → Type 0
 IsOperand bits rows count (atom.Net n) = HasRow rows count (atom.Net n) × ((t : ℕ) → t < count → value_at rows t n < 2 ^ bits)

@@ -126,9 +126,6 @@ module _ (m : Netlist) where
 
 -- ---- a block so far
 
-pub came_none : (m : Netlist) (clocks : List Clock) (from : Contents) (outs : List Out) → Came m clocks from from outs outs 0
-came_none m clocks from outs = record { shots = []; count = refl; run = refl; shown = λ k s at. absurd (omega (arith, slice_get_within [] k s at)); later = refl }
-
 module _ (m : Netlist) (clocks : List Clock) (from mid : Contents) (old outs : List Out) (k : ℕ) (came : Came m clocks from mid old outs k) (c : Clock) (at : slice_get clocks k ≡ Some c) where
   came_clock : (to : Contents) (new : List Out) (s : Snapshot) → Steps m mid (given m c) s to → AreShown s (of_clock (output_count m) k new) → take (k * output_count m) new ≡ take (k * output_count m) outs → drop ((k + 1) * output_count m) new ≡ drop ((k + 1) * output_count m) outs → Came m clocks from to old new (k + 1)
   came_clock to new s step shown front back =

@@ -107,10 +107,6 @@ table_refilled widths code long done old new same t = record {
   rooms = subst (λ (s : Rooms). HaveRooms s long) (sym same.rooms) t.rooms;
 }
 
--- a table whose spare row has another name of its length
-pub table_as : (widths : List ℕ) (code : List Instruction) (long other : ℕ) (t : Table) (done : ℕ) → other ≡ long → IsTable widths code long t done → IsTable widths code other t done
-table_as widths code long other t done e h = subst (λ (n : ℕ). IsTable widths code n t done) (sym e) h
-
 -- a list in the place of another one of as many members
 pub in_place : {A : Type 0} (n : ℕ) (xs ws : List A) → n ≡ length xs → length ws ≡ length xs → take n (ws ++ drop (length ws) xs) ≡ ws
 in_place n xs ws is same = ap (λ m. take m (ws ++ drop (length ws) xs)) (is ∙ sym same) ∙ take-append_seam ws (drop (length ws) xs)

@@ -1,11 +1,9 @@
 -- Ages that make a finer chain, and the taps of the ages that are read among its nets.
 use Rattle.std.proofs.Common.{◌≡◌, ℕ, zero, suc, ◌+◌, ◌<◌, ◌≤◌, Bool, true, false, List, [], ◌∷◌, ◌++◌, length, drop, Some, refl, sym, ap, subst, ◌∙◌, inl, inr, arith}
-use Rattle.std.specs.Prelude.{◌==◌, ◌&&◌, ◌||◌, not, nat_lt, IsTrue, Vec, Contains, slice_get, slice_index, slice_index_or, if◌then◌else◌}
+use Rattle.std.specs.Prelude.{◌==◌, ◌&&◌, ◌||◌, not, nat_lt, IsTrue, Contains, slice_get, slice_index, slice_index_or, if◌then◌else◌}
 use Rattle.std.specs.List.{list_all, list_any}
 use Rattle.std.specs.List.Sorted.{IsStrictlyIncreasing}
-use Rattle.std.specs.declared.alloc.Global.{Global}
 use Rattle.std.proofs.lemmas.Bool.{eqb-true}
-use Rattle.std.proofs.lemmas.List.{get_or-map}
 use Rattle.std.proofs.lemmas.Option.{slice_get_within, slice_get-get_or, same_Some}
 use Rattle.wiring.specs.declared.netlist.Net.{Net}
 use Rattle.wiring.specs.Netlist.{Netlist, net_width}
@@ -24,7 +22,7 @@ use Rattle.line_buffer.specs.Streams.{IsPixel, BufferIsRight}
 use Rattle.line_buffer.specs.Buffers.{IsBuffer}
 use Rattle.line_buffer.specs.Chains.{AreMadeOfShort}
 use Rattle.line_buffer.proofs.More.{and_left, and_right, is_lt, lt_is}
-use Rattle.circuit.specs.Splits.{lists_of, ascends, has_age, is_finer, split_ages, IsFiner, IsTapAmong, AreTapsAmong}
+use Rattle.circuit.specs.Splits.{ascends, has_age, is_finer, split_ages, IsFiner, IsTapAmong, AreTapsAmong}
 
 -- ages that ascend, one after another
 not_lt : (a b : ℕ) → b ≤ a → nat_lt a b ≡ false
@@ -88,9 +86,6 @@ age_there (x ∷ ages) (suc k) d l = age_there ages k d (omega (arith, l))
 not_zero : (age : ℕ) → (age ≡ 0 → ⊥) → (age == 0) ≡ false
 not_zero zero none = absurd (none refl)
 not_zero (suc age) none = grind arith
-
-pub has_zero : (split : List ℕ) (age : ℕ) → age ≡ 0 → true ≡ has_age split age
-has_zero split age e = sym (ap (λ (a : ℕ). a == 0 || list_any (λ (x : ℕ). x == age) split) e)
 
 pub has_yes : (split : List ℕ) (age k : ℕ) → (age ≡ 0 → ⊥) → slice_get split k ≡ Some age → true ≡ has_age split age
 has_yes split age k some e = sym (ap (λ (t : Bool). t || list_any (λ (x : ℕ). x == age) split) (not_zero age some) ∙ among_yes split age (at_in split k age e))
@@ -167,15 +162,6 @@ split_no proposed plan g ages split aged at is =
 
 pub finer_of : (proposed : List (List ℕ)) (plan : Plan) (g : ℕ) (split : List ℕ) → split ≡ split_ages proposed plan g → IsFiner (ages_of plan g) split
 finer_of proposed plan g split e = subst (IsFiner (ages_of plan g)) (sym e) (split_finer proposed plan g)
-
--- a vector among vectors
-pub list_at : (lists : List (Vec ℕ Global)) (k : ℕ) (v : Vec ℕ Global) → k < length lists → (slice_index_or lists k v).items ≡ slice_index_or (lists_of lists) k []
-list_at lists k v l = sym (get_or-map (λ (w : Vec ℕ Global). w.items) lists k v [] l)
-
-pub list_past : (lists : List (Vec ℕ Global)) (k : ℕ) → length lists ≤ k → [] ≡ slice_index_or (lists_of lists) k []
-list_past [] k l = refl
-list_past (v ∷ lists) zero l = absurd (omega (arith, l))
-list_past (v ∷ lists) (suc k) l = list_past lists k (omega (arith, l))
 
 -- one tap more
 pub taps_push : (ages split : List ℕ) (nets : List Net) (value : Net) (taps : List Net) (age : ℕ) (tap : Net) → slice_get ages (length taps) ≡ Some age → ((k a : ℕ) (t : Net) → slice_get ages k ≡ Some a → slice_get taps k ≡ Some t → IsTapAmong split nets value a t) → IsTapAmong split nets value age tap →

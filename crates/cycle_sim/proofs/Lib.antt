@@ -5,7 +5,6 @@ pub mod Runs
 pub mod Edges
 pub mod Ranges
 pub mod NextReady
-pub mod Lengths
 pub mod Pieces
 pub mod Simulates
 pub mod Built

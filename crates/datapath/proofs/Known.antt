@@ -7,19 +7,18 @@ use Rattle.std.proofs.lemmas.List.Elements.{All-nil, All-cons, All-head}
 use Rattle.wiring.specs.declared.netlist.Net.{Net}
 use Rattle.wiring.specs.declared.right.Atom.TheVariants as atom
 use Rattle.wiring.specs.declared.right.Operator.{Operator}
-use Rattle.wiring.specs.declared.right.Operator.TheVariants.{Divide}
 use Rattle.wiring.specs.declared.right.Right.{Right}
 use Rattle.wiring.specs.declared.right.Right.TheVariants.{Binary, Join, Repeat}
 use Rattle.wiring.specs.Netlist.{Netlist}
 use Rattle.wiring.specs.Rights.{constants_of, nets_of, operator_width, operator_value, right_value, right_width, repeated}
-use Rattle.wiring.specs.Rules.{DividesByDivisor, WidthsAgree}
+use Rattle.wiring.specs.Rules.{WidthsAgree}
 use Rattle.wiring.specs.Sizes.{IsWidth, IsConstant, SizedNumber}
 use Rattle.wiring.specs.Snapshot.{Snapshot}
 use Rattle.wiring.proofs.Fits.{right_lt}
 use Rattle.datapath.specs.declared.operand.Signal.{Signal}
 use Rattle.datapath.specs.declared.operand.Signal.TheVariants as signal
 use Rattle.datapath.proofs.Resized.{copies_zero, copies_one}
-use Rattle.datapath.specs.Nets.{HasWidth, IsWord, IsKnown, bits_of, atom_of, known_value}
+use Rattle.datapath.specs.Nets.{HasWidth, IsWord, bits_of, known_value}
 
 -- what a known signal is
 pub bits_known : (x : Signal) (v : ℕ) (s : Snapshot) → known_value x ≡ Some v → bits_of s x ≡ v
@@ -39,12 +38,6 @@ known_fits b x w v h e = (sized b x w v h e).fits
 
 pub known_wide : (b : Netlist) (x : Signal) (w v : ℕ) → HasWidth b x w → known_value x ≡ Some v → IsWidth w
 known_wide b x w v h e = (sized b x w v h e).width
-
-pub divisor_known : (o : Operator) (y : Signal) (v : ℕ) → known_value y ≡ Some v → DividesByDivisor o (atom_of y) → o ≡ Divide → 0 < v
-divisor_known o (signal.Net n) v e h is = absurd (let f : ⊥ = cc in f)
-divisor_known o (signal.Constant w k) v e h is =
-    let g : DividesByDivisor Divide (atom_of (signal.Constant w k)) = subst (λ (p : Operator). DividesByDivisor p (atom_of (signal.Constant w k))) is h in
-    subst (λ (n : ℕ). 0 < n) (same_Some k v e) g
 
 -- the value of a right side over constants fits
 module _ (r : Right Net ℕ) where
@@ -100,22 +93,9 @@ all_copies count bit ones e all = let p = copies_one count in (let q : ones ≡ 
 pub result_fits : (b : Netlist) (o : Operator) (x y : Signal) (w left right u v : ℕ) → HasWidth b x w → HasWidth b y w → known_value x ≡ Some left → known_value y ≡ Some right → u ≡ operator_width o w → v ≡ operator_value o w left right → v < 2 ^ u
 result_fits b o x y w left right u v hx hy ex ey e f = subst (λ n. v < 2 ^ n) (sym e) (subst (λ n. n < 2 ^ operator_width o w) (sym f) (operator_fits b o x y w left right hx hy ex ey))
 
--- what is known, and what is not
-pub known_some : (x : Signal) → IsKnown x → known_value x ≡ None → ⊥
-known_some (signal.Net n) is e = is
-known_some (signal.Constant w v) is e = let f : ⊥ = cc in f
-
-pub some_known : (x : Signal) (r : Option ℕ) → r ≡ known_value x → IsKnown x → IsSome r
-some_known (signal.Net n) r e is = absurd is
-some_known (signal.Constant w v) r e is = subst (λ (o : Option ℕ). IsSome o) (sym e) refl
-
 pub not_none : {X : Type 0} (o : Option X) → o ≡ None → IsSome o → ⊥
 not_none {X} None e h = let f : ⊥ = cc in f
 not_none {X} (Some x) e h = let f : ⊥ = cc in f
-
--- a choice whose bit is known
-pub chosen_word : (b : Netlist) (c x y : Signal) (w bit : ℕ) → known_value c ≡ Some bit → bit ≡ 1 → HasWidth b x w → IsWord b x w (λ s. if nat_eq (bits_of s c) 1 then bits_of s x else bits_of s y)
-chosen_word b c x y w bit e one h = record { width = h; value = λ m s more is. sym (ap (λ v. if nat_eq v 1 then bits_of s x else bits_of s y) (bits_known c bit s e ∙ one)) }
 
 pub other_word : (b : Netlist) (c x y : Signal) (w bit : ℕ) → known_value c ≡ Some bit → nat_eq bit 1 ≡ false → HasWidth b y w → IsWord b y w (λ s. if nat_eq (bits_of s c) 1 then bits_of s x else bits_of s y)
 other_word b c x y w bit e off h = record {

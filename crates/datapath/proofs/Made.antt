@@ -42,9 +42,6 @@ bits_are : (s : Snapshot) (x : Signal) → atom_value (net_value s) (atom_of x) 
 bits_are s (signal.Net n) = refl
 bits_are s (signal.Constant w v) = refl
 
-pub constants_are : (b : Netlist) (x : Signal) (w : ℕ) → HasWidth b x w → All IsConstant (atom_constants (atom_of x))
-constants_are b x w h = h.operand.constants
-
 -- right sides over operands may go in
 module _ (b : Netlist) where
   pub binary_operation : (o : Operator) (x y : Signal) (p q : Atom Net) (w : ℕ) → p ≡ atom_of x → q ≡ atom_of y → IsWidth (operator_width o w) → HasWidth b x w → HasWidth b y w → DividesByDivisor o q → IsOperation b (Binary o p q)

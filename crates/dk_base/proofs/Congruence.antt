@@ -41,13 +41,6 @@ congruent_subtract m v w a b h p q =
     let f = q.is in
     record { up = p.up + q.down + 1; down = p.down + q.up; is = omega (arith, ints, u, d, e, f, one) }
 
-pub congruent_mod : (m : ℕ) (v : ℤ) (a : ℕ) → 0 < m → IsCongruent m v a → IsCongruent m v (a % m)
-congruent_mod m v a some p =
-    let d : a / m * m + a % m ≡ a = div-add-mod' a m in
-    let s = times_sum (a / m) p.down m in
-    let e = p.is in
-    record { up = p.up; down = a / m + p.down; is = omega (arith, ints, d, s, e) }
-
 -- the bits are the remainder of any congruent natural number
 pub code_is : (w : ℕ) (v : ℤ) (n : ℕ) → IsCongruent (2 ^ w) v n → code w v ≡ n % 2 ^ w
 unfolding code

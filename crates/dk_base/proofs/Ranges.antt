@@ -1,5 +1,5 @@
 -- The operators' values are in the range of their types.
-use Rattle.std.proofs.Common.{◌≡◌, ℕ, ◌+◌, ◌-◌, ◌*◌, ◌^◌, ◌<◌, ◌≤◌, max, ℤ, pos, negsuc, ◌+ℤ◌, ◌-ℤ◌, ◌*ℤ◌, ◌≤ℤ◌, unsigned_abs, sym, ◌∙◌, ap, arith, subst}
+use Rattle.std.proofs.Common.{◌≡◌, ℕ, ◌+◌, ◌-◌, ◌*◌, ◌^◌, ◌<◌, ◌≤◌, max, ℤ, pos, negsuc, ◌+ℤ◌, ◌-ℤ◌, ◌*ℤ◌, ◌≤ℤ◌, unsigned_abs, sym, ◌∙◌, ap, arith}
 use Rattle.std.proofs.Math.Pow.{pow_mono}
 use Rattle.std.proofs.lemmas.Int.{ints, unsigned_abs-mul}
 use Rattle.std.proofs.lemmas.Nat.{pow_pos, pow_below, pow-add, mul-lt, mul-le}
@@ -171,6 +171,3 @@ common_turned (Unsigned n) (Unsigned m) = ap Unsigned (let e : max n m ≡ max m
 common_turned (Unsigned n) (Signed m) = ap Signed (let e : max (n + 1) m ≡ max m (n + 1) = omega arith in e)
 common_turned (Signed n) (Unsigned m) = ap Signed (let e : max n (m + 1) ≡ max (m + 1) n = omega arith in e)
 common_turned (Signed n) (Signed m) = ap Signed (let e : max n m ≡ max m n = omega arith in e)
-
-pub common_turned_type : (a b : Ty) → IsType (common_type a b) → IsType (common_type b a)
-common_turned_type a b h = let P : Ty → Type 0 = λ t. IsType t in subst P (common_turned a b) h

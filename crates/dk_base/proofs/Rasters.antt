@@ -103,22 +103,6 @@ raster_by_number size picture =
 pub length-raster : (size : Size) (picture : Picture) → length (raster size picture) ≡ area size
 length-raster size picture = ap length (raster_by_number size picture) ∙ length-map-range_with_len (λ k. unsigned_abs (picture (pos (k % size.width)) (pos (k / size.width)))) 0 (area size)
 
--- its k-th entry
-pub raster_entry : (size : Size) (picture : Picture) (k : ℕ) → k < area size → slice_index (raster size picture) k ≡ unsigned_abs (picture (pos (k % size.width)) (pos (k / size.width)))
-raster_entry size picture k h =
-    ap (λ xs. slice_index xs k) (raster_by_number size picture) ∙
-    get_or-map-range_with_len (λ n. unsigned_abs (picture (pos (n % size.width)) (pos (n / size.width)))) 0 (area size) k k 0 h (zero-add k)
-
--- its entry for a point of the frame
-pub raster_point : (size : Size) (picture : Picture) (x y : ℕ) → x < size.width → y < size.height → slice_index (raster size picture) (raster_number size x y) ≡ unsigned_abs (picture (pos x) (pos y))
-raster_point size picture x y p q =
-    raster_entry size picture (raster_number size x y) (raster_number_below size x y p q) ∙
-    ap (λ c. unsigned_abs (picture (pos c) (pos (raster_number size x y / size.width)))) (mod-mul-add y size.width x p) ∙
-    ap (λ r. unsigned_abs (picture (pos x) (pos r))) (div-mul-add y size.width x p)
-
 -- samples are the raster of the picture that they make
 pub picture_at : (size : Size) (samples : List ℕ) (x y : ℕ) → x < size.width → y < size.height → picture_of size samples (pos x) (pos y) ≡ pos (slice_index samples (raster_number size x y))
 picture_at size samples x y p q = ap (λ b. if b then pos (slice_index samples (raster_number size x y)) else pos 0) (inside size x y p q)
-
-pub raster_of_picture : (size : Size) (samples : List ℕ) → length samples ≡ area size → raster size (picture_of size samples) ≡ samples
-raster_of_picture size samples whole = raster_is size (picture_of size samples) samples whole (λ x y p q. ap unsigned_abs (picture_at size samples x y p q))

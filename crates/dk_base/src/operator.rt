@@ -87,8 +87,12 @@ impl Binary {
         ensures { result ≡ is_bitwise self }
     {
         match self {
+            Binary::Add | Binary::Subtract | Binary::Multiply => false,
+            Binary::Less | Binary::LessOrEqual => false,
+            Binary::Greater | Binary::GreaterOrEqual => false,
+            Binary::Equal | Binary::NotEqual => false,
             Binary::And | Binary::Or | Binary::Xor => true,
-            _ => false,
+            Binary::Min | Binary::Max => false,
         }
     }
 
@@ -102,9 +106,11 @@ impl Binary {
             Binary::Add => left.sum(right),
             Binary::Subtract => left.difference(right),
             Binary::Multiply => left.product(right),
+            Binary::Less | Binary::LessOrEqual => Ty::Unsigned(1),
+            Binary::Greater | Binary::GreaterOrEqual => Ty::Unsigned(1),
+            Binary::Equal | Binary::NotEqual => Ty::Unsigned(1),
             Binary::And | Binary::Or | Binary::Xor => left.common(right),
             Binary::Min | Binary::Max => left.common(right),
-            _ => Ty::Unsigned(1),
         }
     }
 
@@ -135,7 +141,7 @@ impl Scaling {
         match self {
             Scaling::Divide if by == 0 => None,
             Scaling::Divide => Some(operand),
-            _ if MAX_SHIFT < by => None,
+            Scaling::ShiftLeft | Scaling::ShiftRight if MAX_SHIFT < by => None,
             Scaling::ShiftLeft => limited(operand.shifted(by as u8)),
             Scaling::ShiftRight => Some(operand),
         }

@@ -11,7 +11,6 @@ use Rattle.buffer_plan.specs.declared.fault.PlanFault.TheVariants as plan
 use Rattle.buffer_plan.specs.Limits.{IsWithinLimits, KeepsLimits, IsPlanFault}
 use Rattle.source_fault.specs.declared.fault.SourceFault.{SourceFault}
 use Rattle.source_fault.specs.declared.fault.SourceFault.TheVariants.{TooLong, Lex, Nest, Syntax, Depth, Types, Nodes, InlineDepth, Reads, Bits, Latency}
-use Rattle.dk_compile.specs.declared.fault.SourceError.{SourceError}
 use Rattle.dk_compile.specs.declared.fault.SourceError.TheVariants.{Fault, OutOfMemory}
 use Rattle.dk_compile.specs.Sources.{IsAccepted, IsSourceFault, IsErrorBy}
 use Rattle.dk_compile.specs.Fronts.{IsFront}
@@ -40,10 +39,6 @@ own_fault text age (InlineDepth x) h = h
 own_fault text age (Reads x) h = h
 own_fault text age (Bits n) h = absurd h
 own_fault text age (Latency n) h = absurd h
-
-pub own_error : (text : List ℕ) (age : ℕ) (e : SourceError) → IsErrorBy (IsSourceFault text) e → IsErrorBy (IsFaultAt text age) e
-own_error text age (Fault f) h = own_fault text age f h
-own_error text age OutOfMemory h = tt
 
 -- a limit that is passed is a fault
 pub limit_fault : (text : List ℕ) (age : ℕ) (p : Typing) (ir : Program) (s : System) (f : PlanFault) → HasSystem text age p ir s → IsPlanFault s f → IsErrorBy (IsFaultAt text age) (of_plan f)

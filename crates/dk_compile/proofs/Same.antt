@@ -1,5 +1,5 @@
 -- Programs whose forms show the same pictures show the same pictures.
-use Rattle.std.proofs.Common.{◌≡◌, ℕ, ℤ, ◌<◌, List, length, map, take, slice_get, refl, sym, ap, subst, ◌∙◌, Some}
+use Rattle.std.proofs.Common.{◌≡◌, ℕ, ℤ, ◌<◌, List, length, map, take, slice_get, sym, ap, subst, ◌∙◌, Some}
 use Rattle.std.specs.Prelude.{Contains, slice_index, option_map}
 use Rattle.std.proofs.lemmas.List.{length-map}
 use Rattle.std.proofs.Math.Seq.{take-append_seam}
@@ -95,18 +95,6 @@ same_of_forms old new a b of_old of_new same =
           ∙ sym (same.pictures k (here k lt) round of_a x y)
           ∙ by_form old a of_old round of_a k lt x y;
     }
-
--- a program shows its own pictures
-pub same_as_itself : (p : Typing) → ShowSamePictures p p
-same_as_itself p = record {
-  size = refl;
-  input_types = refl;
-  input_names = refl;
-  count = refl;
-  names = λ k lt. refl;
-  types = λ k lt. refl;
-  pictures = λ round is k lt x y. refl;
-}
 
 -- a text whose program has a form that shows the pictures of the source's form
 pub cut_of : (source text : List ℕ) (old : Program) → HasForm source old → ShowsFormOf old text → IsCutOf source text

@@ -96,10 +96,6 @@ reached_stuck {T = T} {P = P} {f = f} {at = at} d s = record {
 pub reached_whole : {T U V : Type 0} {P : Phrases T V} {Q : Phrases T U} {f : U → V} {ts rest after : List T} {u : U} → Reached P Q f ts rest → Q rest u after → P ts (f u) after
 reached_whole {P = P} {f = f} {after = after} {u = u} d q = subst (λ x. P x (f u) after) (sym d.whole) (d.into q)
 
--- at the start of a list, and after an element and a mark that says that another one follows
-pub listed_start : {T V : Type 0} {P : Phrases T V} {f : T → Option Bool} (ts : List T) → Reached (Listed P f) (Listed P f) (λ vs. [] ++ vs) ts ts
-listed_start ts = record { own = []; whole = refl; into = λ q. q; out = λ {v = v} p. (v, p, refl) }
-
 listed_out : {T V : Type 0} {P : Phrases T V} {f : T → Option Bool} (o w r : List T) (v : V) {vs : List V} (t : T) → Clear P → P (o ++ t ∷ w) v (t ∷ w) → f t ≡ Some true
     → Listed P f (o ++ t ∷ w) vs r → (us : List V) × Listed P f w us r × (vs ≡ v ∷ us)
 listed_out {f = f} o w r v t c h k (last {t = t'} p e k') =

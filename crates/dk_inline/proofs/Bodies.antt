@@ -114,7 +114,3 @@ only_number p ds k t same lt found d is = let some : Some (definition_of t) ≡ 
 pub stays_body : (p : Typing) (k : ℕ) (c d : Definition) (e : Tree) → c ≡ d → stays p k d ≡ true → e ≡ inlined_body (substitutes p) c → e ≡ body_of p k d
 stays_body p k c d e same stay is =
     is ∙ ap (inlined_body (substitutes p)) same ∙ sym (ap (λ b. if b then inlined_body (substitutes p) d else constant (pos 0) (image_type d)) stay)
-
-pub empty_body : (p : Typing) (k : ℕ) (c d : Definition) → c ≡ d → stays p k d ≡ false → constant (pos 0) (image_type c) ≡ body_of p k d
-empty_body p k c d same stay =
-    ap (λ x. constant (pos 0) (image_type x)) same ∙ sym (ap (λ b. if b then inlined_body (substitutes p) d else constant (pos 0) (image_type d)) stay)

@@ -18,10 +18,6 @@ use Rattle.dk_inline.proofs.Substituted.{body_same, input, definition, well_at, 
 use Rattle.dk_inline.proofs.ListPlaces.{entry, past_end, none_left, length-taken}
 use Rattle.dk_inline.proofs.Bodies.{entry_as}
 
--- numbers
-pub saturated_sum : (a b : ℕ) → saturated (saturated a + b) ≡ saturated (a + b)
-saturated_sum a b = omega arith
-
 below_saturated : (n : ℕ) → 1024 < n → 1024 < saturated n
 below_saturated n h = omega (arith, h)
 

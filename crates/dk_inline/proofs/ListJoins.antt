@@ -3,7 +3,7 @@ use Rattle.std.proofs.Common.{◌≡◌, ℕ, zero, suc, ◌+◌, ◌≤◌, Lis
 use Rattle.std.proofs.lemmas.List.{map-append}
 use Rattle.dk_types.specs.Typed.{Definition, Typing}
 use Rattle.pointwise_ir.specs.Trees.{Tree}
-use Rattle.dk_inline.specs.Inlined.{body_of, bodies_from, bodies}
+use Rattle.dk_inline.specs.Inlined.{body_of, bodies_from}
 
 take_more : {A : Type 0} (xs : List A) (k : ℕ) (x : A) → slice_get xs k ≡ Some x → take (k + 1) xs ≡ take k xs ++ x ∷ []
 take_more xs k x is = ap (λ n. take n xs) (let e : k + 1 ≡ suc k = omega arith in e) ∙ by xs k x is
@@ -46,6 +46,3 @@ bodies_more f p done next y k d before pushed is same =
     let n : suc k ≡ k + 1 = omega arith in
     ap (map f) pushed ∙ map-append f done (y ∷ []) ∙ ap (λ zs. zs ++ f y ∷ []) before ∙ ap (λ z. bodies_from p 0 (take k p.definitions) ++ z ∷ []) (same ∙ ap (λ i. body_of p i d) (sym m))
     ∙ sym (bodies_step p p.definitions 0 k d is) ∙ ap (λ i. bodies_from p 0 (take i p.definitions)) n
-
-pub bodies_whole : {A : Type 0} (f : A → Tree) (p : Typing) (done : List A) (k : ℕ) → map f done ≡ bodies_from p 0 (take k p.definitions) → length p.definitions ≤ k → map f done ≡ bodies p
-bodies_whole f p done k all past = all ∙ ap (bodies_from p 0) (take_whole p.definitions k past)

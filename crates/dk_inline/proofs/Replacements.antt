@@ -298,11 +298,6 @@ not_closed e folded not closed = not (folded e (itself e) closed)
     itself (convert how a t) = inl refl
     itself (scale op a k) = inl refl
 
--- forms of operands with folded parts
-pub shifted_folds : (edge : Edge) (dx dy : ℤ) (a : Tree) → HasFoldedParts a → HasFoldedParts (shifted edge dx dy a)
-shifted_folds edge dx dy a folded part is closed = elim is [
-  | inl e ↦ whole part (shifted edge dx dy a) (λ h. h) e closed
-  | inr below ↦ folded part below closed
 ]
 
 pub unary_folds : (op : Unary) (a : Tree) → HasFoldedParts a → (IsConstant a → ⊥) → HasFoldedParts (unary op a)

@@ -76,9 +76,6 @@ cast_is x x' e t a c =
 pub absolute_is : (x x' : Expr) (e : Tree) (at : Span) → tree_of x ≡ e → x' ≡ x → unary at Unary.Abs (tree_of x') ≡ unary at Unary.Abs e
 absolute_is x x' e at a c = rw (ap tree_of c, a) refl
 
-pub sat_is : (x x' : Expr) (e : Tree) (at : Span) (t : TypeWord) → tree_of x ≡ e → x' ≡ x → sat at (tree_of x') t ≡ sat at e t
-sat_is x x' e at t a c = rw (ap tree_of c, a) refl
-
 pub second_deep : (c l r : Tree) (s : Span) → depth c ≤ 512 → too_deep l ≡ Some s → (at : Span) → below (select at c l r) ≡ Some s
 second_deep c l r s h k at = rw (none_below c (omega arith), not_here c h, k) refl
 

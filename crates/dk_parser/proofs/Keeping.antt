@@ -6,7 +6,7 @@ use Rattle.dk_lexer.specs.declared.token.Symbol.TheVariants.{Open, Close, Comma,
 use Rattle.dk_grammar.specs.Reading.{One, IsClass, Clear, Stuck, end, link}
 use Rattle.dk_grammar.proofs.Clears.{append_nil, clear_one, clear_then, clear_done, extend}
 use Rattle.dk_grammar.proofs.Stucks.{Reached, stuck_one, reached_whole, reached_stuck}
-use Rattle.dk_grammar.proofs.Chains.{chain_start, chain_next, chain_element, chain_mark, clear_chain}
+use Rattle.dk_grammar.proofs.Chains.{chain_next, chain_element, chain_mark, clear_chain}
 use Rattle.dk_parser.specs.declared.items.Draft.{Draft}
 use Rattle.dk_parser.specs.declared.items.Lead.{Lead}
 use Rattle.dk_parser.specs.declared.items.Lead.TheVariants as lead
@@ -170,9 +170,6 @@ deep_last : (ds : List Definition) (d : Definition) (s : Span) → AreShallow ds
 deep_last [] d s a e = rw e refl
 deep_last (b ∷ ds) d s a e = rw (shallow b.body a.0) (deep_last ds d s a.1 e)
 
-pub no_items : (p : Parts) → p.inputs.items ≡ [] → p.definitions.items ≡ [] → p.outputs.items ≡ [] → p.deep ≡ None → Holds p []
-no_items p a b c d = record { inputs = a; definitions = rw (b, d) (refl, tt); outputs = c }
-
 pub more_input : (p q : Parts) (vs : List Item) (i : Input) → Holds p vs → q.inputs.items ≡ p.inputs.items ++ (i ∷ []) → q.definitions.items ≡ p.definitions.items → q.outputs.items ≡ p.outputs.items → q.deep ≡ p.deep
     → Holds q (vs ++ (input i ∷ []))
 more_input p q vs i h a b c d = record {
@@ -228,9 +225,6 @@ pub record Going (ts : Tokens) (l : Lead) (parts : Parts) (rest : Tokens) : Type
   pub items : List Item
   pub holds : Holds parts items
   pub reached : Reached (Items lead.Input) (Items l) (λ us. items ++ us) ts rest
-
-pub going_start : (ts : Tokens) (parts : Parts) → Holds parts [] → Going ts lead.Input parts ts
-going_start ts parts h = record { other = λ e. cc (e); items = []; holds = h; reached = chain_start lead.Input ts }
 
 pub going_next : {ts rest mid after : Tokens} {l n : Lead} {parts new : Parts} (g : Going ts l parts rest) (v : Item) → AnItem l rest v mid → One (λ t n. next l t ≡ Some n) mid n after
     → Holds new (g.items ++ (v ∷ [])) → n ≢ lead.End → Going ts n new after

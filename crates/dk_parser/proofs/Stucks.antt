@@ -22,8 +22,7 @@ use Rattle.dk_parser.specs.declared.tree.Step.{Step}
 use Rattle.dk_parser.specs.declared.tree.Binding.{Binding}
 use Rattle.dk_parser.specs.declared.tree.Binding.TheVariants.{Operator, Stops}
 use Rattle.dk_parser.specs.declared.tree.Start.TheVariants.{Prefix}
-use Rattle.dk_parser.specs.declared.tree.Node.{Node}
-use Rattle.dk_parser.specs.Tree.{Tree, number, unary, binary, scale, cast, span_of, at_span, tree_at}
+use Rattle.dk_parser.specs.Tree.{Tree, number, unary, binary, scale, cast, span_of}
 use Rattle.dk_parser.specs.Marks.{mark_terminal}
 use Rattle.dk_parser.specs.Terminals.{terminal}
 use Rattle.dk_parser.specs.Words.{over}
@@ -359,17 +358,6 @@ plain_whole ts rest e p = record { phrase = plain p.phrase; ends = p.ends; fewer
 pub prefixed_whole : (ts after rest : Tokens) (e : Tree) (tok : Token) (o : Unary) → ts ≡ tok ∷ after → start (terminal tok) ≡ Prefix o → Parsed primary after e rest
     → Parsed (level 0) ts (unary (over tok.span (span_of e)) o e) rest
 prefixed_whole ts after rest e tok o w s p = record { phrase = rw w (prefixed s p.phrase); ends = p.ends; fewer = omega (arith, p.fewer, ap (λ x. length x) w) }
-
--- A tree at another span.
-pub respanned : (s t : Span) (n : Node) → at_span t (tree_at s n) ≡ tree_at t n
-respanned s t (Node.Number v) = refl
-respanned s t (Node.Read r) = refl
-respanned s t (Node.Unary' o p u a) = refl
-respanned s t (Node.Binary' o p u a q v b) = refl
-respanned s t (Node.Scale' o p u a k) = refl
-respanned s t (Node.Cast' p u a k) = refl
-respanned s t (Node.Sat' p u a k) = refl
-respanned s t (Node.Select' p u a q v b r w c) = refl
 
 pub with_suc : (x : Binding) (n : ℕ) (s : Step) → x ≡ Operator (n + 1) s → x ≡ Operator (suc n) s
 with_suc x n s h = rw add-one at h

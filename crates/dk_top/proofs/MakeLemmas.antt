@@ -47,9 +47,6 @@ Values ir = (round : List Picture) → IsRound ir round → (g : ℕ) (t : Ty) �
 abbrev pub OneFile : Type 0
 OneFile = (bytes : List ℕ) (ps qs : List Image) → IsFile bytes ps → IsFile bytes qs → ps ≡ qs
 
-abbrev pub MadeFile : Type 0
-MadeFile = (n : ℕ) → IsFile (image_of n) (made_picture n ∷ [])
-
 output_at : (types : List Ty) (gs : List ℕ) → AreOutputsOf types gs → (k g : ℕ) → slice_get gs k ≡ Some g → IsOutputOf types g
 output_at types [] are k g at = absurd (let e : ⊥ = cc in e)
 output_at types (h ∷ gs) are zero g at = let same : h ≡ g = cc in subst (IsOutputOf types) same are.0

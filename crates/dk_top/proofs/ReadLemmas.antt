@@ -14,10 +14,9 @@ use Rattle.source_fault.specs.declared.fault.SourceFault.{SourceFault}
 use Rattle.dk_compile.specs.Compiled.{IsPlanned}
 use Rattle.pgm_codec.specs.Images.{Image}
 use Rattle.pgm_rounds.specs.declared.round.Round.{Round}
-use Rattle.pgm_rounds.specs.declared.fault.FileFault.{FileFault}
 use Rattle.pgm_rounds.specs.Ports.{Ports}
 use Rattle.program_images.specs.Ports.{ports_from, ports_of}
-use Rattle.pgm_rounds.specs.Files.{FitsFile, IsFault, frame_of, frames_of}
+use Rattle.pgm_rounds.specs.Files.{FitsFile, frame_of, frames_of}
 use Rattle.dk_endings.specs.declared.ending.Ending.{Ending}
 use Rattle.dk_endings.specs.declared.ending.Ending.TheVariants as ending
 use Rattle.dk_endings.specs.declared.ending.ImageFault.TheVariants as image
@@ -49,10 +48,6 @@ input_read one ir file rounds is (found, fits, frames) most within = record {
       let there : FitsFile (ports_of ir) file images = subst (λ (q : Ports). FitsFile q file images) (sym (ports_same p ir form)) other.holds in
       frames ∙ ap (map (map frame_of)) (one (ports_of ir) (some_inputs ir is) file found images fits there);
 }
-
--- the fault of a file that is within its limit
-pub file_ending : (ir : Program) (file : List ℕ) (f : FileFault) → IsFault (ports_of ir) file f → (most : Option ℕ) → IfSome most (λ n. length file ≤ n) → (p : Typing) → IsForm p ir → IsImageEnding most p file (ending.Image (image.File f))
-file_ending ir file f is most within p form = (within, subst (λ (q : Ports). IsFault q file f) (ports_same p ir form) is)
 
 -- a text that is accepted and a file that does not fit
 pub misfit_answer : (terms : Terms) (source file : List ℕ) (p : Typing) → IsAcceptedAt source terms.age p → (e : Ending) → IsImageEnding terms.most p file e → IsAnswer terms source file e
@@ -136,11 +131,6 @@ misfit_told (Some f) between terms program image text ir e same is (p, has, form
     let Fault : Option Files → Type 0 = λ o. IfSome o (λ f. (p : Typing) → IsForm p ir → IsImageEnding terms.most p (bytes_of f image) e) in
     let Whole : List ℕ → Type 0 = λ source. IsAnswer terms source (bytes_of f image) e in
     subst Whole is (misfit_answer terms text (bytes_of f image) p has e ((subst Fault same fault) p form))
-
--- the program is not accepted
-pub source_told : (told : Option Files) (terms : Terms) (program image : List ℕ) (e : Ending) → IfSome told (λ f. IsSourceEnding (IsFaultAt (bytes_of f program) terms.age) e) → IfSome told (λ f. IsAnswer terms (bytes_of f program) (bytes_of f image) e)
-source_told None terms program image e h = tt
-source_told (Some f) terms program image e h = source_answer terms (bytes_of f program) (bytes_of f image) e h
 
 -- what holds at each limit that a file is within holds at this one
 pub ok_within : {A E : Type 0} (r : Result A E) (most : Option ℕ) (n : ℕ) (Q : Option ℕ → A → Type 0) → IfSome most (λ m. n ≤ m) → IfOk r (λ a. (m : Option ℕ) → IfSome m (λ k. n ≤ k) → Q m a) → IfOk r (Q most)

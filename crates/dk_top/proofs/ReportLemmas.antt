@@ -10,47 +10,12 @@ use Rattle.dk_endings.specs.declared.ending.Ending.TheVariants as ending
 use Rattle.dk_endings.specs.Lines.{holds_line}
 use Rattle.dk_top.specs.Plans.{IsPlanOf}
 use Rattle.dk_top.specs.Reports.{IsChecked}
-use Rattle.dk_compile.specs.Sources.{IsAccepted, IsSourceFault}
-use Rattle.dk_compile.specs.Limits.{IsFaultAt}
-use Rattle.dk_top.specs.Verdict.{Files, bytes_of, IsProgramAnswer, IsCheckAnswer, CanBeChecked}
+use Rattle.dk_compile.specs.Sources.{IsAccepted}
+use Rattle.dk_top.specs.Verdict.{Files, bytes_of, IsCheckAnswer}
 use Rattle.dk_desk.specs.Outside.{Outside}
 use Rattle.dk_top.specs.State.{AsksWhere, GainsText, IsClaimLine, ReportsFront}
-use Rattle.dk_top.specs.Reading.{IsSourceEnding, Stops}
+use Rattle.dk_top.specs.Reading.{Stops}
 use Rattle.dk_top.specs.Reporting.{HasFront, IsReportEnding}
-
--- the text is not accepted at this age
-program_ended : (age : ℕ) (source : List ℕ) (e : Ending) → IsSourceEnding (IsFaultAt source age) e → IsProgramAnswer age source e
-program_ended age source ending.Done h = absurd h
-program_ended age source ending.Usage h = absurd h
-program_ended age source ending.WriteFault h = absurd h
-program_ended age source (ending.Source f) h = h
-program_ended age source (ending.Image f) h = absurd h
-program_ended age source (ending.Verilog f) h = absurd h
-program_ended age source (ending.Stopped f) h = absurd h
-program_ended age source (ending.Rejected f) h = absurd h
-program_ended age source ending.ReadFault h = tt
-program_ended age source ending.Memory h = tt
-
-pub program_told : (told : Option Files) (name : List ℕ) (age : ℕ) (e : Ending) → IfSome told (λ f. IsSourceEnding (IsFaultAt (bytes_of f name) age) e) → IfSome told (λ f. IsProgramAnswer age (bytes_of f name) e)
-program_told None name age e h = tt
-program_told (Some f) name age e h = program_ended age (bytes_of f name) e h
-
--- the text is not accepted
-source_ended : (source report : List ℕ) (e : Ending) → IsSourceEnding (IsSourceFault source) e → IsCheckAnswer source report e
-source_ended source report ending.Done h = absurd h
-source_ended source report ending.Usage h = absurd h
-source_ended source report ending.WriteFault h = absurd h
-source_ended source report (ending.Source f) h = h
-source_ended source report (ending.Image f) h = absurd h
-source_ended source report (ending.Verilog f) h = absurd h
-source_ended source report (ending.Stopped f) h = absurd h
-source_ended source report (ending.Rejected f) h = absurd h
-source_ended source report ending.ReadFault h = tt
-source_ended source report ending.Memory h = tt
-
-pub unaccepted_told : (told : Option Files) (program report : List ℕ) (e : Ending) → IfSome told (λ f. IsSourceEnding (IsSourceFault (bytes_of f program)) e) → IfSome told (λ f. IsCheckAnswer (bytes_of f program) (bytes_of f report) e)
-unaccepted_told None program report e h = tt
-unaccepted_told (Some f) program report e h = source_ended (bytes_of f program) (bytes_of f report) e h
 
 -- the report does not hold
 report_ended : (source report : List ℕ) (ir : Program) (s : Stencils) (e : Ending) → HasFront source ir s → Stops e → IsReportEnding source report e → IsCheckAnswer source report e
@@ -110,10 +75,6 @@ pub plan_whole : (told : Option Files) (name : List ℕ) (age : ℕ) (text : Lis
 plan_whole None name age text old new of written = tt
 plan_whole (Some f) name age text old new of written = whole (IsPlanOf (bytes_of f name) age) text old new of written
 
-pub plan_front : (told : Option Files) (name : List ℕ) (age : ℕ) (text : List ℕ) (old new : Option (List ℕ)) → IfSome told (λ f. IsPlanOf (bytes_of f name) age text) → ReportsFront text old new → IfSome told (λ f. GainsText (IsPlanOf (bytes_of f name) age) old new ending.WriteFault)
-plan_front None name age text old new of written = tt
-plan_front (Some f) name age text old new of written = front (IsPlanOf (bytes_of f name) age) text old new of written
-
 pub claim_whole : (told : Option Files) (program report : List ℕ) (claim : Claim) (text : List ℕ) (old new : Option (List ℕ)) → IfSome told (λ f. IsChecked (bytes_of f program) (bytes_of f report) claim) → text ≡ holds_line claim.bits claim.latency → IsIfTold new (grown old text)
     → IfSome told (λ f. GainsText (IsClaimLine (bytes_of f program) (bytes_of f report)) old new ending.Done)
 claim_whole None program report claim text old new of is written = tt
@@ -123,10 +84,6 @@ pub claim_front : (told : Option Files) (program report : List ℕ) (claim : Cla
     → IfSome told (λ f. GainsText (IsClaimLine (bytes_of f program) (bytes_of f report)) old new ending.WriteFault)
 claim_front None program report claim text old new of is written = tt
 claim_front (Some f) program report claim text old new of is written = front (IsClaimLine (bytes_of f program) (bytes_of f report)) text old new (claim, of, is) written
-
-pub checked_told : (told : Option Files) (program report : List ℕ) (claim : Claim) → IfSome told (λ f. IsChecked (bytes_of f program) (bytes_of f report) claim) → IfSome told (λ f. CanBeChecked (bytes_of f program) (bytes_of f report))
-checked_told None program report claim h = tt
-checked_told (Some f) program report claim h = (claim, h)
 
 -- an ending of a report, whatever the program
 pub any_front : (told : Option Files) (name : List ℕ) (ir : Program) (s : Stencils) (e : Ending) → IfSome told (λ f. (source : List ℕ) → IsReportEnding source (bytes_of f name) e) → IfSome told (λ f. (source : List ℕ) → HasFront source ir s → IsReportEnding source (bytes_of f name) e)

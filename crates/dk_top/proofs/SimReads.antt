@@ -34,7 +34,7 @@ use Rattle.dk_top.specs.Verdict.{Files, bytes_of, IsSimAnswer}
 use Rattle.dk_top.specs.State.{NotesSim}
 use Rattle.dk_top.specs.Reading.{IsUnread, Stops}
 use Rattle.dk_top.specs.Tracing.{trace_drive, IsTraceAnswer}
-use Rattle.dk_top.specs.Simulating.{IsModuleEnding, IsFileEnding, IsInput, IsInputEnding, IsSimInput}
+use Rattle.dk_top.specs.Simulating.{IsModuleEnding, IsFileEnding, IsInputEnding, IsSimInput}
 use Rattle.dk_top.proofs.SimLemmas.{OneModule, OneRounds, fits_some}
 
 -- what is specified of a text's fault is a fault of the text
@@ -67,28 +67,6 @@ unread_ending m file (ending.Verilog f) h = absurd h
 unread_ending m file (ending.Stopped f) h = absurd h
 unread_ending m file (ending.Rejected f) h = absurd h
 
-pub unread_for : (told : Option Files) (name : List ℕ) (m : NamedNetlist) (e : Ending) → IfSome told (λ f. IsUnread (Some MAX_PGM_BYTES) (bytes_of f name) e) → IfSome told (λ f. IsFileEnding m (bytes_of f name) e)
-unread_for None name m e h = tt
-unread_for (Some f) name m e h = unread_ending m (bytes_of f name) e h
-
--- the text is not in order
-module_answer : (clocks : ℕ) (power : PowerUp) (hold : Option ℕ) (t file : List ℕ) (e : Ending) → Stops e → IsModuleEnding hold t e → IsInputEnding (drive_of clocks power hold) t file e
-module_answer clocks power hold t file (ending.Verilog f) stops h = h
-module_answer clocks power hold t file ending.ReadFault stops h = tt
-module_answer clocks power hold t file ending.Memory stops h = tt
-module_answer clocks power hold t file ending.Done stops h = absurd stops
-module_answer clocks power hold t file ending.Usage stops h = absurd stops
-module_answer clocks power hold t file ending.WriteFault stops h = absurd stops
-module_answer clocks power hold t file (ending.Source f) stops h = absurd h
-module_answer clocks power hold t file (ending.Image f) stops h = absurd h
-module_answer clocks power hold t file (ending.Stopped f) stops h = absurd h
-module_answer clocks power hold t file (ending.Rejected f) stops h = absurd h
-
-pub module_told : (told : Option Files) (verilog image : List ℕ) (hold : Option ℕ) (e : Ending) → Stops e → IfSome told (λ f. IsModuleEnding hold (bytes_of f verilog) e)
-    → IfSome told (λ f. (clocks : ℕ) (power : PowerUp) → IsInputEnding (drive_of clocks power hold) (bytes_of f verilog) (bytes_of f image) e)
-module_told None verilog image hold e stops h = tt
-module_told (Some f) verilog image hold e stops h = λ clocks power. module_answer clocks power hold (bytes_of f verilog) (bytes_of f image) e stops h
-
 -- the file does not fit
 file_answer : (clocks : ℕ) (power : PowerUp) (hold : Option ℕ) (t file : List ℕ) (m : NamedNetlist) (e : Ending) → IsModuleOf hold t m → Stops e → IsFileEnding m file e → IsInputEnding (drive_of clocks power hold) t file e
 file_answer clocks power hold t file m (ending.Image f) made stops h = record { m = m; made = made; unfit = h }
@@ -108,14 +86,6 @@ file_told None between verilog image hold m e same made stops h = tt
 file_told (Some f) between verilog image hold m e same made stops h = λ clocks power.
     let Fault : Option Files → Type 0 = λ o. IfSome o (λ g. IsFileEnding m (bytes_of g image) e) in
     file_answer clocks power hold (bytes_of f verilog) (bytes_of f image) m e made stops (subst Fault same h)
-
--- both are in order
-pub input_told : (told between : Option Files) (verilog image : List ℕ) (hold : Option ℕ) (m : NamedNetlist) (size : Size) (rounds : List Round) → between ≡ told → IfSome told (λ f. IsModuleOf hold (bytes_of f verilog) m) → IfSome between (λ f. IsInput m (bytes_of f image) size rounds)
-    → IfSome told (λ f. IsSimInput hold (bytes_of f verilog) (bytes_of f image) m size rounds)
-input_told None between verilog image hold m size rounds same made h = tt
-input_told (Some f) between verilog image hold m size rounds same made h =
-    let Given : Option Files → Type 0 = λ o. IfSome o (λ g. IsInput m (bytes_of g image) size rounds) in
-    record { made = made; input = subst Given same h }
 
 -- the samples of the frames are those of the images
 frame_samples : (images : List Image) → map (λ (f : Frame). f.samples) (map frame_of images) ≡ map (λ (i : Image). i.samples) images

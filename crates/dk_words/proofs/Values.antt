@@ -35,11 +35,6 @@ first_append : (xs ys : List Text) → has_first xs ≡ true → has_first (xs +
 first_append [] ys e = absurd (cc)
 first_append (x ∷ xs) ys e = refl
 
--- values that end with a word
-first_before : (xs : List Text) (x : Text) → has_first (xs ++ x ∷ []) ≡ true
-first_before [] x = refl
-first_before (y ∷ ys) x = refl
-
 -- rows with more after them
 valued_append : (xs ys : List Row) → are_valued xs ≡ true → are_valued ys ≡ true → are_valued (xs ++ ys) ≡ true
 valued_append [] ys x y = y

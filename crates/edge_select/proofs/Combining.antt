@@ -135,10 +135,6 @@ to_first new old x n side last e lt is =
     computes_as new old (x ∷ []) 1 1 (λ s. bit (net_value s x == 0)) (λ s. bit (is_up_to side last (net_value s x))) n refl is
     (λ s. ap bit (none_is (net_value s x) ∙ up_to_is side last 1 (net_value s x) (let i : 1 ≡ last + 1 = omega (arith, e) in i) (omega (arith, e, lt))))
 
--- a coordinate that is not 0 is at least 1
-pub from_one : (new old : Netlist) (x n : Net) → Computes new old (x ∷ []) 1 (λ s. bit (not (net_value s x == 0))) n → Computes new old (x ∷ []) 1 (λ s. bit (nat_le 1 (net_value s x))) n
-from_one new old x n is = computes_as new old (x ∷ []) 1 1 (λ s. bit (not (net_value s x == 0))) (λ s. bit (nat_le 1 (net_value s x))) n refl is (λ s. ap bit (some_is (net_value s x)))
-
 -- one that is not the last is at most the one before
 pub to_last : (new old : Netlist) (x n : Net) (side last end : ℕ) → end ≡ last + 1 → end + 1 ≡ side → Computes new old (x ∷ []) 1 (λ s. bit (not (net_value s x == end))) n → Computes new old (x ∷ []) 1 (λ s. bit (is_up_to side last (net_value s x))) n
 to_last new old x n side last end e whole is =

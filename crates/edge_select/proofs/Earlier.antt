@@ -3,7 +3,6 @@ use Rattle.std.proofs.Common.{◌≡◌, ◌⊎◌, ℕ, suc, ◌+◌, ◌-◌, 
 use Rattle.std.specs.Prelude.{if◌then◌else◌, not, IsTrue}
 use Rattle.std.proofs.lemmas.Bool.{cases_lt, cases_eq, eq-eqb, ne_eqb}
 use Rattle.dk_base.specs.Frames.{Size, column, row}
-use Rattle.wiring.specs.Clock.{bit}
 use Rattle.net_build.specs.Counters.{after}
 use Rattle.net_build.proofs.Clocks.{never}
 use Rattle.edge_select.specs.declared.bands.Band.{Band}
@@ -21,9 +20,6 @@ after_cases side x low =
       | inl lt ↦ inl (omega (arith, lt), goes_to (side - 1) x lt)
       | inr ge ↦ inr (omega (arith, ge, low), turns_over (side - 1) x (omega (arith, ge, low)))
     ]
-
-pub after_last : (side : ℕ) → 0 < side → after true (side - 1) (side - 1) ≡ 0
-after_last side some = turns_over (side - 1) (side - 1) refl
 
 pub after_one : (side x : ℕ) → 0 < x → x < side → after true (side - 1) (x - 1) ≡ x
 after_one side x more low = goes_to (side - 1) (x - 1) (omega (arith, more, low)) ∙ omega (arith, more)
@@ -133,9 +129,6 @@ first_in side band is =
       | inl more ↦ same_passed (in_interval side band.first band.last 0) (band.first == 0) (λ h. absurd (let g = interval_in side band.first band.last 0 low h in omega (arith, g.low, more))) (λ h. absurd (never (sym (ne_eqb band.first 0 (λ e. omega (arith, e, more))) ∙ h)))
       | inr none ↦ same_passed (in_interval side band.first band.last 0) (band.first == 0) (λ h. eq-eqb band.first 0 (omega (arith, none))) (λ h. in_the_interval side band.first band.last 0 low (record { low = none; high = omega arith }))
     ])
-
-pub first_bit_is : (side : ℕ) (band : Band) (z o : Bool) → IsBand side band → (band.first == 0) ≡ z → band.outside ≡ o → bit (if o then not z else z) ≡ bit (in_band side band 0)
-first_bit_is side band z o is ez eo = sym (ap bit (first_in side band is ∙ ap (λ (t : Bool). if band.outside then not t else t) ez ∙ ap (λ (t : Bool). if t then not z else z) eo))
 
 -- the row of the next pixel, where its column is known
 pub row_on : (size : Size) (some : 1 ≤ size.width) (tall : 1 ≤ size.height) (start n : ℕ) → after true (size.width - 1) (column size n) ≡ start → (if start == 0 then after true (size.height - 1) (row size n) else row size n) ≡ row size (suc n)

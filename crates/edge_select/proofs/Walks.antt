@@ -1,5 +1,5 @@
 -- Steps as a path, and the pixels that it leads by some way.
-use Rattle.std.proofs.Common.{◌≡◌, ℕ, ◌+◌, ◌-◌, ◌<◌, ◌≤◌, ℤ, pos, ◌+ℤ◌, List, [], ◌∷◌, refl, sym, subst, arith}
+use Rattle.std.proofs.Common.{◌≡◌, ℕ, ◌+◌, ◌<◌, ◌≤◌, ℤ, pos, ◌+ℤ◌, List, [], ◌∷◌, refl, sym, subst}
 use Rattle.std.specs.Prelude.{IsTrue, Option}
 use Rattle.std.proofs.lemmas.Bool.{lt-ltb}
 use Rattle.dk_base.specs.Frames.{Size, is_below, in_frame}
@@ -14,8 +14,8 @@ use Rattle.edge_select.specs.declared.step.Step.{Step}
 use Rattle.edge_select.specs.declared.paths.Rectangle.{Rectangle}
 use Rattle.edge_select.specs.Steps.{Lead, LeadBy}
 use Rattle.edge_select.specs.declared.extents.Extent.{Extent}
-use Rattle.edge_select.specs.declared.extents.Extent.TheVariants.{Never, Sometimes, Always}
-use Rattle.edge_select.specs.Passes.{LeadsThenOn, Passes, PassesOn, IsRectangle}
+use Rattle.edge_select.specs.declared.extents.Extent.TheVariants.{Never, Always}
+use Rattle.edge_select.specs.Passes.{LeadsThenOn, PassesOn}
 use Rattle.edge_select.specs.Pixels.{AllPass, NonePass}
 
 abbrev pub Same : Type 0 → Type 0 → Type 0
@@ -73,20 +73,6 @@ one_from size dx dy x y h = (pos x +ℤ dx, pos y +ℤ dy, ends_here size (pos x
 abbrev pub IsWhole : Interval → ℕ → Type 0
 IsWhole i side = (i.first ≡ 0) × (side ≤ i.last + 1)
 
-pub whole_passes : (width height : ℕ) (r : Rectangle) (L : (x y : ℕ) → Type 0) → IsWhole r.across width → IsWhole r.down height → ((x y : ℕ) → x < width → y < height → Same (Passes r x y) (L x y)) → AllPass width height L
-whole_passes width height r L a d same x y low high = (same x y low high).0 (record {
-  across = record { first = omega (arith, a.0); last = omega (arith, a.1, low) };
-  down = record { first = omega (arith, d.0); last = omega (arith, d.1, high) };
-})
-
-pub passes_whole : (width height : ℕ) (r : Rectangle) (L : (x y : ℕ) → Type 0) → 1 ≤ width → 1 ≤ height → AllPass width height L → ((x y : ℕ) → x < width → y < height → Same (Passes r x y) (L x y)) → IsWhole r.across width × IsWhole r.down height
-passes_whole width height r L some tall all same =
-    let low : width - 1 < width = omega (arith, some) in
-    let high : height - 1 < height = omega (arith, tall) in
-    let first = (same 0 0 some tall).1 (all 0 0 some tall) in
-    let last = (same (width - 1) (height - 1) low high).1 (all (width - 1) (height - 1) low high) in
-    ((omega (arith, first.across.first), omega (arith, last.across.last, some)), (omega (arith, first.down.first), omega (arith, last.down.last, tall)))
-
 -- how many pixels of a frame pass: none, some and not all, or all
 abbrev pub IsExtent : (width height : ℕ) → ((x y : ℕ) → Type 0) → Extent → Type 0
 IsExtent width height L e = Same (e ≡ Always) (AllPass width height L) × Same (e ≡ Never) (NonePass width height L)
@@ -96,25 +82,6 @@ extent_none width height L some tall none = (
   ((λ e. absurd (let f : ⊥ = cc in f)), (λ all. absurd (none 0 0 some tall (all 0 0 some tall)))),
   ((λ e. none), (λ h. refl)),
 )
-
-pub extent_all : (width height : ℕ) (L : (x y : ℕ) → Type 0) → 1 ≤ width → 1 ≤ height → AllPass width height L → IsExtent width height L Always
-extent_all width height L some tall all = (
-  ((λ e. all), (λ h. refl)),
-  ((λ e. absurd (let f : ⊥ = cc in f)), (λ none. absurd (none 0 0 some tall (all 0 0 some tall)))),
-)
-
-pub whole_extent : (width height : ℕ) (r : Rectangle) → 1 ≤ width → 1 ≤ height → IsWhole r.across width → IsWhole r.down height → IsExtent width height (Passes r) Always
-whole_extent width height r some tall across down =
-    extent_all width height (Passes r) some tall (whole_passes width height r (Passes r) across down (λ x y low high. ((λ h. h), (λ h. h))))
-
-pub part_extent : (size : Size) (r : Rectangle) → 1 ≤ size.width → 1 ≤ size.height → IsRectangle size r → (IsWhole r.across size.width × IsWhole r.down size.height → ⊥) → IsExtent size.width size.height (Passes r) Sometimes
-part_extent size r some tall is part =
-    let first : Passes r r.across.first r.down.first = record { across = record { first = omega arith; last = is.across.some }; down = record { first = omega arith; last = is.down.some } } in
-    let low : r.across.first < size.width = omega (arith, is.across.some, is.across.last) in
-    let high : r.down.first < size.height = omega (arith, is.down.some, is.down.last) in (
-      ((λ e. absurd (let f : ⊥ = cc in f)), (λ all. absurd (part (passes_whole size.width size.height r (Passes r) some tall all (λ x y low high. ((λ h. h), (λ h. h))))))),
-      ((λ e. absurd (let f : ⊥ = cc in f)), (λ none. absurd (none r.across.first r.down.first low high first))),
-    )
 
 pub extent_same : (width height : ℕ) (L M : (x y : ℕ) → Type 0) (e : Extent) → ((x y : ℕ) → x < width → y < height → Same (L x y) (M x y)) → IsExtent width height L e → IsExtent width height M e
 extent_same width height L M e same is = (

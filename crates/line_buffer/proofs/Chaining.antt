@@ -1,5 +1,5 @@
 -- A chain that is built, one age after another.
-use Rattle.std.proofs.Common.{◌≡◌, ◌≢◌, ℕ, zero, suc, ◌+◌, ◌-◌, ◌<◌, ◌≤◌, Bool, true, false, List, [], ◌∷◌, ◌++◌, length, take, Some, None, refl, sym, ap, subst, ◌∙◌, inl, inr, arith, length-append, append-nil, map}
+use Rattle.std.proofs.Common.{◌≡◌, ℕ, zero, suc, ◌+◌, ◌-◌, ◌<◌, ◌≤◌, Bool, true, false, List, [], ◌∷◌, ◌++◌, length, take, Some, None, refl, sym, ap, subst, ◌∙◌, inl, inr, arith, length-append, append-nil, map}
 use Rattle.std.specs.Prelude.{IsTrue, All, Contains, Option, cond, filter, not, slice_get, slice_index, unwrap_or, nat_le, nat_lt, ◌&&◌}
 use Rattle.std.specs.Option.{option_map}
 use Rattle.std.specs.List.Sorted.{IsStrictlyIncreasing}
@@ -320,15 +320,6 @@ chained_chain b old width long value ages taps newest up wide done =
 -- the same age
 pub step_none : (b : Netlist) (width : ℕ) (long : (words : ℕ) → Bool) (from : Tap) (age : ℕ) → age ≡ from.age → IsNet b from.net → net_width b from.net ≡ width → IsStep b b width long from age from
 step_none b width long from age e net wide = record { age_is = sym e; net = net; wide = wide; stays = λ same. (adds_none b, refl); goes = λ beyond. absurd (omega (arith, beyond, e)) }
-
-pub step_beyond : (c b : Netlist) (width words : ℕ) (long : (words : ℕ) → Bool) (from to : Tap) (age : ℕ) → to.age ≡ age → words ≡ age - from.age → age ≢ from.age → IsNet c to.net → net_width c to.net ≡ width → IsSegment c b width words long from.net to.net → IsStep c b width long from age to
-step_beyond c b width words long from to age ea many other net wide is = record {
-  age_is = ea;
-  net = net;
-  wide = wide;
-  stays = λ same. absurd (other same);
-  goes = λ beyond. subst (λ (n : ℕ). IsSegment c b width n long from.net to.net) many is;
-}
 
 -- a segment that is read at the index of its write
 pub line_is_segment : (c b : Netlist) (width words : ℕ) (long : (words : ℕ) → Bool) (from net : Net) → long words ≡ false → AddsBuffer c b ((record { width = width; depth = words }) ∷ []) [] → IsDelayLine c (length b.arrays) words from net → AreReadOnce c b →

@@ -64,9 +64,6 @@ module _ (b0 b1 b2 b3 b4 b5 : Netlist) (shape : Shape) (x : ℕ) (index stored w
   pub line_once : AreReadOnce b5 b0
   line_once y low high = subst (λ (z : ℕ). IsReadOnce (read_indices b5 z) (put_indices b5 z)) (let e : x ≡ y = omega (arith, numbered, arrays_before, arrays_after, low, high) in e) here
 
-pub once_none : (c b : Netlist) → AddsBuffer c b [] [] → AreReadOnce c b
-once_none c b adds x low high = absurd (omega (arith, low, high, ap length (adds.arrays ∙ append-nil b.arrays)))
-
 -- what is added later neither reads nor puts it
 same_reads : (c b : Netlist) (shapes : List Shape) (copies : List ℕ) (x : ℕ) → AddsBuffer c b shapes copies → x < length b.arrays → read_indices c x ≡ read_indices b x
 same_reads c b shapes copies x adds there = reads_last c b (is_new b) x adds.includes adds.reads (no_le (length b.arrays) x there)

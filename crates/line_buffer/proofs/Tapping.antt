@@ -180,10 +180,6 @@ module _ (b0 b1 b2 : Netlist) (x words age bits width : ℕ) (index place tap va
       one P n (zero, l, e) p = subst P e p
       one P n (suc k, l, e) p = absurd (omega (arith, l))
 
--- the image's own net at age 0, and the turning's word at the depth
-pub tap_now : (b : Netlist) (x words : ℕ) (index value : Net) (age : ℕ) → age ≡ 0 → IsNet b value → IsRingTap b x words index value age value
-tap_now b x words index value age zero_age net = record { net = net; width = refl; now = λ e. refl; word = λ positive. absurd (omega (arith, positive, zero_age)); made = λ positive. absurd (omega (arith, positive, zero_age)) }
-
 pub ring_tap_more : (c b : Netlist) (x words : ℕ) (index value : Net) (age : ℕ) (tap : Net) → Includes c b → IsNet b value → IsRingTap b x words index value age tap → IsRingTap c x words index value age tap
 ring_tap_more c b x words index value age tap f net is = record {
   net = net_more c b f tap is.net;

@@ -10,9 +10,6 @@ use Rattle.module_pass.specs.declared.slots.Slot.{Slot}
 use Rattle.module_pass.specs.Packing.{HasSlot, HaveSlotsTo}
 use Rattle.module_pass.proofs.Simulating.{zip_from}
 
-pub no_slots : (m : Netlist) (slots : List Slot) (arrays : List Shape) → HaveSlotsTo m slots arrays 0
-no_slots m slots arrays x k s l = absurd (omega (arith, l))
-
 pub one_more : (m : Netlist) (slots : List Slot) (arrays : List Shape) (n : ℕ) → ((k : Slot) (s : Shape) → slice_get slots n ≡ Some k → slice_get arrays n ≡ Some s → HasSlot m k s) → HaveSlotsTo m slots arrays n →
     HaveSlotsTo m slots arrays (n + 1)
 one_more m slots arrays n here before x k s l at_k at_s =

@@ -11,7 +11,7 @@ use Rattle.wiring.specs.History.{After, At}
 use Rattle.wiring.specs.Runs.{Runs}
 use Rattle.wiring.proofs.Lists.{All-at}
 use Rattle.netlist.proofs.FitLaws.{contents_fit}
-use Rattle.net_build.specs.Includes.{Includes, InEach, AtEachEdge}
+use Rattle.net_build.specs.Includes.{Includes, AtEachEdge}
 use Rattle.net_build.specs.Runs.{IsWhole, FitsPorts, IsClockOf, InEachRun}
 use Rattle.net_build.proofs.Parts.{Includes-trans}
 
@@ -24,13 +24,6 @@ clock_more b a m from before c s f is = record { whole = whole_more m b a f is.w
 
 pub InEachRun-more : (P : Netlist → List Clock → Clock → Snapshot → Type 0) (b a : Netlist) → Includes b a → InEachRun a P → InEachRun b P
 InEachRun-more P b a f h m from before c s is = h m from before c s (clock_more b a m from before c s f is)
-
--- what holds in each valuation, and at each edge, holds in each run
-pub each_in_runs : (P : Netlist → Snapshot → Type 0) (b : Netlist) → InEach b P → InEachRun b (λ m before c s. P m s)
-each_in_runs P b h m from before c s is = h m s is.whole.includes is.at.snapshot.settled
-
-pub edge_in_runs : (P : Snapshot → Contents → Type 0) (b : Netlist) → AtEachEdge b P → InEachRun b (λ m before c s. (next : Contents) → IsNext m s next → P s next)
-edge_in_runs P b h m from before c s is next goes = h m s next is.whole.includes goes
 
 pub AtEachEdge-more : (P : Snapshot → Contents → Type 0) (b a : Netlist) → Includes b a → AtEachEdge a P → AtEachEdge b P
 AtEachEdge-more P b a f h m s next g goes = h m s next (Includes-trans m b a g f) goes

@@ -14,9 +14,7 @@ use Rattle.wiring.specs.declared.netlist.Update.TheVariants.{Set, Put}
 use Rattle.wiring.specs.Netlist.{Netlist, net_width, IsState, update_target}
 use Rattle.wiring.specs.Rules.{UpdateIsSound}
 use Rattle.wiring.proofs.Lists.{All-at, slice_get-append}
-use Rattle.net_build.specs.Includes.{Includes}
 use Rattle.net_build.specs.Draft.{IsNet, IsRegister, IsDraft, IsFree, HasUpdate, UpdatedBut, AllUpdated, AddsWires, with_wire, with_reg, with_array, with_update}
-use Rattle.net_build.proofs.Grown.{length_begins}
 use Rattle.net_build.proofs.Drafts.{last_push}
 
 abbrev Waits : Netlist → List Holder → Holder → Type 0
@@ -158,9 +156,6 @@ last_width b w = get_or_push b.regs w 0 (length b.regs) refl
 
 pub last_shape : (b : Netlist) (s : Shape) → slice_get (with_array b s).arrays (length b.arrays) ≡ Some s
 last_shape b s = last_push b.arrays s
-
-pub register_more : (b a : Netlist) (n : Net) → Includes b a → IsRegister a n → IsRegister b n
-register_more b a n f is = (is.0, omega (arith, is.1, length_begins a.regs b.regs f.regs))
 
 -- what a fresh register or array is
 pub record IsFresh (b : Netlist) (n : Net) (w : ℕ) : Type 0 where

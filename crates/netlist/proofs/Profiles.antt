@@ -84,15 +84,6 @@ module _ (ports rest more : List Port) (v d : Port) (n : ℕ) (first : ports ≡
         rest_are = record { count = c; few = omega (arith, few); fit = subst (λ (z : ℕ). AllZip FitsRule more (output_rules z c)) (let e : suc n ≡ n + 1 = omega arith in e) fit.1.1 };
       }
 
--- a single output is none
-pub outputs_pair : (ports rest : List Port) (v : Port) (n : ℕ) → ports ≡ v ∷ rest → length rest ≡ 0 → AreOutputs ports n → ⊥
-outputs_pair ports rest v n first none are = by rest none are.count (subst (λ (l : List Port). AllZip FitsRule l (output_rules n are.count)) first are.fit)
-  where
-    by : (rest : List Port) → length rest ≡ 0 → (c : ℕ) → AllZip FitsRule (v ∷ rest) (output_rules n c) → ⊥
-    by rest e zero fit = fit
-    by [] e (suc c) fit = fit.1
-    by (x ∷ rest) e (suc c) fit = omega (arith, e)
-
 module _ (ports rest : List Port) (q : Port) (n : ℕ) (first : ports ≡ q ∷ rest) where
   pub dins_yes : FitsRule q (din_rule n) → AreFromDins rest (n + 1) → AreFromDins ports n
   dins_yes fq are = record {
@@ -132,13 +123,3 @@ module _ (ports rest : List Port) (q : Port) (n : ℕ) (first : ports ≡ q ∷ 
       by : (c : ℕ) → 0 + c ≤ 8 → AllZip FitsRule (q ∷ rest) (output_rules 0 c) → AllZip FitsRule ports (output_rules 0 c) → AreFromDins ports n
       by zero l fit whole = absurd fit
       by (suc c) l fit whole = record { dins = 0; douts = suc c; din_count = (omega (arith, some), omega (arith, few)); dout_count = (omega arith, omega (arith, l)); fit = whole }
-
--- no list of ports is empty
-pub from_dins_some : (ports : List Port) (n : ℕ) → length ports ≡ 0 → AreFromDins ports n → ⊥
-from_dins_some [] n e are = by are.dins are.douts are.dout_count are.fit
-  where
-    by : (c o : ℕ) → IsPortCount o → AllZip FitsRule [] (din_rules n c ++ output_rules 0 o) → ⊥
-    by zero zero count fit = let a = count.0 in omega (arith, a)
-    by zero (suc o) count fit = fit
-    by (suc c) o count fit = fit
-from_dins_some (q ∷ ports) n e are = omega (arith, e)

@@ -15,7 +15,7 @@ use Rattle.wiring.specs.declared.netlist.Update.{Update}
 use Rattle.wiring.specs.declared.netlist.Update.TheVariants.{Set, Put}
 use Rattle.wiring.specs.Rights.{nets_of, atom_nets}
 use Rattle.wiring.proofs.Lists.{All-from_at, at_one}
-use Rattle.wiring.proofs.Tabled.{take_step, take_whole}
+use Rattle.wiring.proofs.Tabled.{take_step}
 use Rattle.netlist.specs.declared.parts.NamedAssign.{NamedAssign}
 use Rattle.netlist.specs.declared.parts.NamedUpdate.{NamedUpdate}
 use Rattle.netlist.specs.declared.parts.NamedUpdate.TheVariants.{Set as NamedSet, Put as NamedPut}
@@ -124,9 +124,6 @@ collected-append f (z ∷ xs) x = ap (λ l. option_to_list (f z) ++ l) (collecte
 pub collected_step : {X Y : Type 0} (f : X → Option Y) (xs : List X) (k : ℕ) (x : X) (old new : List Y) → slice_get xs k ≡ Some x → old ≡ collected f (take k xs) → new ≡ old ++ option_to_list (f x) → new ≡ collected f (take (k + 1) xs)
 collected_step f xs k x old new at is more =
     more ∙ ap (λ l. l ++ option_to_list (f x)) is ∙ sym (ap (λ l. collected f l) (take_step xs k x at) ∙ collected-append f (take k xs) x)
-
-pub collected_end : {X Y : Type 0} (f : X → Option Y) (xs : List X) (k : ℕ) (old : List Y) → length xs ≤ k → old ≡ collected f (take k xs) → old ≡ collected f xs
-collected_end f xs k old l is = is ∙ ap (λ l. collected f l) (take_whole xs k l)
 
 -- what holds of each before k
 abbrev pub Before : {X : Type 0} → (X → Type 0) → List X → ℕ → Type 0

@@ -1,10 +1,9 @@
 -- Samples of two bytes that are read, and samples that are written.
-use Rattle.std.proofs.Common.{◌≡◌, ◌∙◌, sym, ap, refl, subst, [], ◌∷◌, ◌++◌, List, ℕ, zero, suc, ◌+◌, ◌*◌, ◌/◌, ◌%◌, ◌<◌, ◌≤◌, true, false, arith, length, map, take, drop, get_or, append_assoc, length-take}
+use Rattle.std.proofs.Common.{◌≡◌, ◌∙◌, sym, ap, refl, subst, [], ◌∷◌, List, ℕ, zero, suc, ◌+◌, ◌*◌, ◌%◌, ◌<◌, ◌≤◌, true, false, arith, length, map, take, drop, get_or, length-take}
 use Rattle.std.specs.Simd.{first_chunks}
 use Rattle.std.specs.Int.{w16, from_be_bytes}
 use Rattle.std.specs.List.{All, flat_map}
-use Rattle.std.proofs.lemmas.List.{get_or-take, take_more}
-use Rattle.std.proofs.lemmas.Grind.{flat_map-append}
+use Rattle.std.proofs.lemmas.List.{get_or-take}
 use Rattle.std.proofs.lemmas.List.Elements.{All-head, All-tail}
 use Rattle.pgm_codec.specs.Images.{spelled, raster_of}
 use Rattle.pgm_rounds.specs.Standing.{AreSamples}
@@ -60,18 +59,3 @@ each_byte (s ∷ samples) = ap (λ x. s ∷ x) (each_byte samples)
 -- bytes are the raster of the samples that they are
 pub bytes_raster : (maxval : ℕ) (samples : List ℕ) → maxval < 256 → samples ≡ raster_of maxval samples
 bytes_raster maxval samples below = each_byte samples ∙ ap (λ b. flat_map (spelled b) samples) (sym (narrow maxval below))
-
-spelled_byte : (s : ℕ) → s < 256 → 0 ∷ s ∷ [] ≡ spelled false s
-spelled_byte s below =
-    let high : 0 ≡ s / 256 = omega (arith, below) in
-    let low : s ≡ s % 256 = omega (arith, below) in
-    ap (λ x. x ∷ s ∷ []) high ∙ ap (λ x. s / 256 ∷ x ∷ []) low
-
--- a byte more, after a zero byte
-pub byte_more : (old file samples : List ℕ) (i s : ℕ) → i < length samples → s < 256 → s ≡ get_or samples i s → file ≡ old ++ flat_map (spelled false) (take i samples) → (file ++ 0 ∷ []) ++ s ∷ [] ≡ old ++ flat_map (spelled false) (take (i + 1) samples)
-byte_more old file samples i s lt below is done =
-    append_assoc file (0 ∷ []) (s ∷ []) ∙ ap (λ x. x ++ 0 ∷ s ∷ []) done ∙ append_assoc old (flat_map (spelled false) (take i samples)) (0 ∷ s ∷ [])
-    ∙ ap (λ x. old ++ (flat_map (spelled false) (take i samples) ++ x)) (spelled_byte s below)
-    ∙ ap (λ x. old ++ x) (sym (flat_map-append (spelled false) (take i samples) (s ∷ [])))
-    ∙ ap (λ x. old ++ flat_map (spelled false) (take i samples ++ x ∷ [])) is
-    ∙ ap (λ x. old ++ flat_map (spelled false) x) (sym (take_more samples i s lt))

@@ -1,9 +1,7 @@
 -- One flow line more.
-use Rattle.std.proofs.Common.{◌≡◌, ◌<◌, ◌+◌, ◌*◌, ℕ, ℤ, pos, negsuc, List, ◌∷◌, map, refl, arith, cond, eqb}
-use Rattle.std.specs.Prelude.{Contains, ◌*ℤ◌, ◌≤ℤ◌, neg_ℤ, unsigned_abs}
+use Rattle.std.proofs.Common.{◌≡◌, ◌<◌, ◌+◌, ℕ, List, ◌∷◌, map, arith, cond, eqb}
+use Rattle.std.specs.Prelude.{Contains}
 use Rattle.std.specs.List.{zip}
-use Rattle.std.proofs.Math.IntN.{pos-*ℤ-pos, negsuc-*ℤ-pos}
-use Rattle.std.proofs.lemmas.Int.{ints}
 use Rattle.std.proofs.lemmas.List.Sums.{sum_by-cons}
 use Rattle.std.proofs.lemmas.List.Elements.{All-contains}
 use Rattle.raster_delay.specs.Network.{inflow, outflow}
@@ -34,12 +32,3 @@ module _ (s : System) (is : IsSystem s) (r : PlacedRead) (in_it : Contains (plac
   source_kept =
       let earlier : r.g < r.f = All-contains (λ r. r.g < r.f) (placed_reads s) r (system_form s is).reads_are.earlier in_it in
       omega (arith, earlier, reader_kept)
-
--- a product by its size and its sign
-pub price_up : (cost : ℤ) (n : ℕ) → pos 0 ≤ℤ cost → pos (unsigned_abs cost * n) ≡ cost *ℤ pos n
-price_up (pos a) n h = rw pos-*ℤ-pos refl
-price_up (negsuc a) n h = absurd (omega (arith, ints))
-
-pub price_down : (cost : ℤ) (n : ℕ) → cost ≤ℤ negsuc 0 → neg_ℤ (pos (unsigned_abs cost * n)) ≡ cost *ℤ pos n
-price_down (pos a) n h = absurd (omega (arith, ints))
-price_down (negsuc a) n h = rw negsuc-*ℤ-pos refl

@@ -8,8 +8,7 @@ use Rattle.std.specs.List.{All}
 use Rattle.std.proofs.lemmas.Option.{slice_get_within, get_or_from_slice_get}
 use Rattle.dk_base.specs.declared.ty.Ty.TheVariants.{Unsigned, Signed}
 use Rattle.dk_base.specs.Types.{IsWithin}
-use Rattle.dk_base.specs.Frames.{Size, Picture}
-use Rattle.value_rows.specs.Rows.{entry, IsRow}
+use Rattle.value_rows.specs.Rows.{entry}
 
 pub all_within : {A : Type 0} (worth : A → ℤ) (s : List A) (start count : ℕ) → start + count ≤ length (map worth s) → start + count ≤ length s
 all_within worth s start count h = rw (length-map s worth) at h
@@ -33,15 +32,6 @@ pub part_entry : {A : Type 0} (worth : A → ℤ) (s : List A) (start count k : 
 part_entry worth s start count k h lt =
     ap (λ l. entry l k) (sym (take-map worth count (drop start s)) ∙ ap (take count) (sym (drop-map worth start s)))
     ∙ get_or-take count (drop start (map worth s)) k (pos 0) lt ∙ get_or-drop start (map worth s) k (pos 0)
-
--- a row of elements
-pub elements_row : {A : Type 0} (worth : A → ℤ) (size : Size) (picture : Picture) (y : ℤ) (row : List ℤ) (s : List A) → IsRow size picture y row → length s ≡ size.width → ((k : ℕ) → k < length s → entry (map worth s) k ≡ entry row k) → IsRow size picture y (map worth s)
-elements_row worth size picture y row s is whole same = record {
-  whole = length-map s worth ∙ whole;
-  values = λ x lt.
-      let within : x < length s = rw whole lt in
-      same x within ∙ is.values x lt;
-}
 
 -- what each element's value has
 pub element_all : {A : Type 0} (worth : A → ℤ) (P : ℤ → Type 0) (s : List A) (k : ℕ) (x : A) → All P (map worth s) → slice_get s k ≡ Some x → P (worth x)

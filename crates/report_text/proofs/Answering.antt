@@ -1,14 +1,13 @@
 -- What the reader's functions answer, from what they call.
-use Rattle.std.proofs.Common.{◌≡◌, ◌≢◌, ◌<◌, ◌≤◌, ◌+◌, ◌^◌, ℕ, List, [], ◌∷◌, ◌++◌, length, take, drop, eqb, refl, ap, sym, arith, Bool, true, false}
-use Rattle.std.specs.Prelude.{Option, Some, None, MatchOption, nat_eq, nat_lt}
+use Rattle.std.proofs.Common.{◌≡◌, ◌≢◌, ◌+◌, ℕ, List, [], ◌∷◌, ◌++◌, length, take, drop, eqb, refl, Bool, true, false}
+use Rattle.std.specs.Prelude.{Option, Some, None, MatchOption, nat_eq}
 use Rattle.std.specs.Cmp.Lexicographic.{pointwise}
-use Rattle.std.proofs.lemmas.Bool.{eqb-true, lt-ltb, false_from_ne_true, ltb-true}
+use Rattle.std.proofs.lemmas.Bool.{eqb-true}
 use Rattle.std.proofs.lemmas.Bool.Decides.{Decides-eqb}
 use Rattle.std.proofs.lemmas.Slice.Eq.{strip_prefix_is}
 use denote.Ref.{Bor}
 use Rattle.report_text.proofs.Fields.{strip_again}
-use Rattle.dk_base.specs.Ascii.{value_of}
-use Rattle.report_text.specs.Reading.{strip, numeral, is_canonical}
+use Rattle.report_text.specs.Reading.{strip}
 
 -- words
 strip_none : (word bytes : List ℕ) → ((rest : List ℕ) → bytes ≢ word ++ rest) → strip word bytes ≡ None
@@ -26,8 +25,3 @@ strip_answer word bytes r a = by r (strip_prefix_is Decides-eqb bytes word r a)
     by : (r : Option (Bor (List ℕ))) → MatchOption r ((rest : List ℕ) → bytes ≢ word ++ rest) (λ x. bytes ≡ word ++ x.now) → MatchOption r (strip word bytes ≡ None) (λ x. strip word bytes ≡ Some x.now)
     by None none = strip_none word bytes none
     by (Some x) e = rw e (strip_again word x.now)
-
--- numbers
-pub numeral_answer : (ds : List ℕ) (r : Option ℕ) → is_canonical ds ≡ true → MatchOption r (2 ^ 64 ≤ value_of ds) (λ v. v ≡ value_of ds) → ((v : ℕ) → r ≡ Some v → v < 2 ^ 64) → MatchOption r (numeral ds ≡ None) (λ n. numeral ds ≡ Some n)
-numeral_answer ds None c big small = rw (c, false_from_ne_true (nat_lt (value_of ds) (2 ^ 64)) (λ t. let f = ltb-true _ _ t in omega (arith, f, big))) refl
-numeral_answer ds (Some v) c is small = let l : value_of ds < 2 ^ 64 = omega (arith, small v refl, is) in rw (c, lt-ltb _ _ l) (ap (λ x. Some x) (sym is))

@@ -1,5 +1,5 @@
 -- Pixel clocks that follow one another.
-use Rattle.std.proofs.Common.{◌≡◌, ℕ, zero, suc, ◌+◌, ◌-◌, ◌<◌, [], ◌∷◌, ◌++◌, map, refl, ap, sym, subst, ◌∙◌, arith}
+use Rattle.std.proofs.Common.{◌≡◌, ℕ, zero, suc, ◌+◌, ◌<◌, [], ◌∷◌, ◌++◌, map, refl, ap, sym, subst, ◌∙◌, arith}
 use Rattle.std.specs.List.{AllByRecursion, range_with_len}
 use Rattle.std.proofs.lemmas.List.FromFn.{map-range_with_len_more}
 use Rattle.dk_desk.specs.Outside.{Outside}
@@ -9,19 +9,13 @@ use Rattle.wiring.specs.Clock.{Clock}
 use Rattle.cycle_sim.specs.Ports.{din_widths}
 use Rattle.row_stream.specs.declared.line.Line.{Line}
 use Rattle.row_stream.specs.Lines.{Kind}
-use Rattle.row_stream.specs.Standing.{GoesOn, IsPixelClock, pixel_clock, Lasts}
-use Rattle.row_stream.specs.Progress.{Goes, Fails, pixel_clocks}
-use Rattle.row_stream.proofs.Clocks.{goes_join, fails_after, fails_more}
+use Rattle.row_stream.specs.Standing.{IsPixelClock, pixel_clock}
+use Rattle.row_stream.specs.Progress.{Goes, pixel_clocks}
+use Rattle.row_stream.proofs.Clocks.{goes_join}
 
 pub all_pixels : (m : Netlist) (f : ℕ → ℕ) (a n : ℕ) → ((k : ℕ) → k < a + n → Fit (din_widths m) (f k ∷ [])) → AllByRecursion (IsPixelClock m) (map (λ k. pixel_clock (f k)) (range_with_len a n))
 all_pixels m f a zero h = tt
 all_pixels m f a (suc n) h = ((refl, h a (omega arith)), all_pixels m f (a + 1) n (λ k l. h k (omega (arith, l))))
-
--- the next clock does not stop
-pub next_goes : (kind : Kind) (m : Netlist) (f : ℕ → ℕ) (k : ℕ) (from to : Contents) (old new : Line) (before now : Outside) → Lasts m from → Goes kind m (pixel_clocks f k) from to old new before now →
-    ((j : ℕ) → j < k → Fit (din_widths m) (f j ∷ [])) → Fit (din_widths m) (f k ∷ []) → GoesOn m to (pixel_clock (f k))
-next_goes kind m f k from to old new before now lasts goes fit here =
-    lasts.on (pixel_clocks f k) goes.shots to (all_pixels m f 0 k (λ j l. fit j (omega (arith, l)))) goes.runs (pixel_clock (f k)) (refl, here)
 
 one_more : (f : ℕ → ℕ) (k : ℕ) → pixel_clocks f (k + 1) ≡ pixel_clocks f k ++ pixel_clock (f k) ∷ []
 one_more f k = map-range_with_len_more (λ j. pixel_clock (f j)) 0 k k (omega arith)
@@ -36,15 +30,3 @@ cut f a zero y = ap (λ n. map f (range_with_len a n)) (let e : 0 + y ≡ y = om
 cut f a (suc x) y =
     ap (λ n. map f (range_with_len a n)) (let e : suc x + y ≡ suc (x + y) = omega arith in e)
     ∙ ap (λ z. f a ∷ z) (cut f (a + 1) x y ∙ ap (λ n. map f (range_with_len (a + 1) x) ++ map f (range_with_len n y)) (let e : a + 1 + x ≡ a + suc x = omega arith in e))
-
--- a clock that fails, within all of them
-pub fails_within : (kind : Kind) (m : Netlist) (f : ℕ → ℕ) (k n : ℕ) (from mid : Contents) (old between : Line) (before half now : Outside) → k < n → Goes kind m (pixel_clocks f k) from mid old between before half →
-    Fails kind m (pixel_clock (f k) ∷ []) mid between half now → Fails kind m (pixel_clocks f n) from old before now
-fails_within kind m f k n from mid old between before half now l h g =
-    let rest = n - (k + 1) in
-    let parts : pixel_clocks f n ≡ (pixel_clocks f k ++ pixel_clock (f k) ∷ []) ++ map (λ j. pixel_clock (f j)) (range_with_len (0 + (k + 1)) rest) =
-    ap (λ z. pixel_clocks f z) (let e : n ≡ (k + 1) + (n - (k + 1)) = omega (arith, l) in e) ∙ cut (λ j. pixel_clock (f j)) 0 (k + 1) rest
-    ∙ ap (λ z. z ++ map (λ j. pixel_clock (f j)) (range_with_len (0 + (k + 1)) rest)) (one_more f k) in
-    subst (λ z. Fails kind m z from old before now) (sym parts)
-    (fails_more kind m (pixel_clocks f k ++ pixel_clock (f k) ∷ []) (map (λ j. pixel_clock (f j)) (range_with_len (0 + (k + 1)) rest)) from old before now
-    (fails_after kind m (pixel_clocks f k) (pixel_clock (f k) ∷ []) from mid old between before half now h g))

@@ -4,20 +4,15 @@ use Rattle.std.specs.Prelude.{IsTrue, ◌≤ℤ◌}
 use Rattle.std.proofs.lemmas.Bool.{cases_lt}
 use Rattle.std.proofs.lemmas.Int.{ints, to_z-of_z}
 use Rattle.dk_base.specs.declared.ty.Ty.{Ty}
-use Rattle.dk_base.specs.declared.operator.Unary.{Unary}
-use Rattle.dk_base.specs.declared.operator.Binary.{Binary}
-use Rattle.dk_base.specs.declared.operator.Scaling.{Scaling}
-use Rattle.dk_base.specs.declared.operator.Conversion.{Conversion}
 use Rattle.dk_base.specs.Frames.{is_below, clamped, picture_at}
-use Rattle.dk_base.specs.Operators.{unary_value, binary_value, scaling_value, conversion_value, select_value}
 use Rattle.pointwise_ir.specs.declared.expr.Edge.{Edge}
-use Rattle.pointwise_ir.specs.declared.expr.Edge.TheVariants.{Zero, Clamp}
-use Rattle.pointwise_ir.specs.Trees.{Tree, constant, read, shifted, unary, binary, select, convert, scale}
+use Rattle.pointwise_ir.specs.declared.expr.Edge.TheVariants.{Clamp}
+use Rattle.pointwise_ir.specs.Trees.{Tree, constant, read, shifted}
 use Rattle.pointwise_ir.specs.Programs.{Program, IsProgram}
-use Rattle.pointwise_ir.specs.Meaning.{edged, value, pictures}
+use Rattle.pointwise_ir.specs.Meaning.{value, pictures}
 use Rattle.dk_base.proofs.Rasters.{below_is, inside_is}
 use Rattle.same_pictures.specs.Matching.{HaveSameValue, HaveSameMoved, HaveSameInputs, IsJoined, IsPushed}
-use Rattle.same_pictures.proofs.Values.{clamped_same, clamped_inside, edged_here, same_shifted}
+use Rattle.same_pictures.proofs.Values.{edged_here, same_shifted}
 
 -- the nearest number of 0 to last: below, above or inside
 abbrev Nearest : (last v r : ℤ) → Type 0
@@ -40,30 +35,12 @@ joined_moves limit x d e f some below (sum, side) =
     let both = nearest limit (x +ℤ f) some in
     omega (arith, ints, is, lt, sum, side, one, two, both)
 
--- a read that is not moved
-pub pushed_still : (edge : Edge) (ex ey : ℤ) → IsPushed (pos 0) (pos 0) edge ex ey edge ex ey
-pushed_still edge ex ey size frame p x y inside =
-    let parts = inside_is size x y inside in
-    let across : clamped size.width (x +ℤ pos 0) ≡ x = ap (clamped size.width) (let e : x +ℤ pos 0 ≡ x = omega (arith, ints) in e) ∙ clamped_same size.width x parts.0 in
-    let down : clamped size.height (y +ℤ pos 0) ≡ y = ap (clamped size.height) (let e : y +ℤ pos 0 ≡ y = omega (arith, ints) in e) ∙ clamped_same size.height y parts.1 in
-    ap (λ (u : ℤ). edged size edge p (u +ℤ ex) (clamped size.height (y +ℤ pos 0) +ℤ ey)) across ∙ ap (λ (v : ℤ). edged size edge p (x +ℤ ex) (v +ℤ ey)) down
-
--- a read at the moved point itself
-pub pushed_here : (dx dy : ℤ) (edge : Edge) → IsPushed dx dy edge (pos 0) (pos 0) Clamp dx dy
-pushed_here dx dy edge size frame p x y inside =
-    edged_here size edge p (clamped size.width (x +ℤ dx)) (clamped size.height (y +ℤ dy)) (clamped_inside size (x +ℤ dx) (y +ℤ dy) frame)
-
 -- a clamped read to the same sides
 pub pushed_joined : (dx dy ex ey fx fy : ℤ) → IsJoined dx ex fx → IsJoined dy ey fy → IsPushed dx dy Clamp ex ey Clamp fx fy
 pushed_joined dx dy ex ey fx fy across down size frame p x y inside =
     let parts = inside_is size x y inside in
     ap (λ (u : ℤ). p u (clamped size.height (clamped size.height (y +ℤ dy) +ℤ ey))) (joined_moves size.width x dx ex fx frame.some_columns parts.0 across)
     ∙ ap (p (clamped size.width (x +ℤ fx))) (joined_moves size.height y dy ey fy frame.some_rows parts.1 down)
-
--- an unclamped read at the point itself is a clamped one
-pub pushed_clamp : (dx dy : ℤ) (edge : Edge) (ex ey : ℤ) → IsPushed dx dy edge ex ey Zero (pos 0) (pos 0) → IsPushed dx dy edge ex ey Clamp (pos 0) (pos 0)
-pushed_clamp dx dy edge ex ey pushed size frame p x y inside =
-    pushed size frame p x y inside ∙ edged_here size Zero p x y inside ∙ sym (edged_here size Clamp p x y inside)
 
 -- a move by nothing
 pub from_here : (old new : Program) (a b : Tree) → HaveSameMoved old new (pos 0) (pos 0) a b → HaveSameValue old new a b
@@ -89,26 +66,6 @@ pub moved_apart : (old new : Program) → IsProgram old → (dx dy : ℤ) (edge 
     HaveSameMoved old new fx fy a b → HaveSameMoved old new dx dy (shifted edge ex ey a) b
 moved_apart old new program dx dy edge ex ey fx fy a b pushed has round is x y inside =
     pushed old.size program.frame (value old.size (pictures old round) a) x y inside ∙ has round is x y inside
-
-pub moved_unary : (old new : Program) (dx dy : ℤ) (op : Unary) (a b : Tree) → HaveSameMoved old new dx dy a b → HaveSameMoved old new dx dy (unary op a) (unary op b)
-moved_unary old new dx dy op a b has round is x y inside = ap (unary_value op) (has round is x y inside)
-
-pub moved_binary : (old new : Program) (dx dy : ℤ) (op : Binary) (a b c d : Tree) → HaveSameMoved old new dx dy a b → HaveSameMoved old new dx dy c d → HaveSameMoved old new dx dy (binary op a c) (binary op b d)
-moved_binary old new dx dy op a b c d left right round is x y inside =
-    ap (λ v. binary_value op v (value old.size (pictures old round) (shifted Clamp dx dy c) x y)) (left round is x y inside)
-    ∙ ap (binary_value op (value new.size (pictures new round) b x y)) (right round is x y inside)
-
-pub moved_select : (old new : Program) (dx dy : ℤ) (a b c d e f : Tree) → HaveSameMoved old new dx dy a b → HaveSameMoved old new dx dy c d → HaveSameMoved old new dx dy e f → HaveSameMoved old new dx dy (select a c e) (select b d f)
-moved_select old new dx dy a b c d e f when left right round is x y inside =
-    ap (λ v. select_value v (value old.size (pictures old round) (shifted Clamp dx dy c) x y) (value old.size (pictures old round) (shifted Clamp dx dy e) x y)) (when round is x y inside)
-    ∙ ap (λ v. select_value (value new.size (pictures new round) b x y) v (value old.size (pictures old round) (shifted Clamp dx dy e) x y)) (left round is x y inside)
-    ∙ ap (select_value (value new.size (pictures new round) b x y) (value new.size (pictures new round) d x y)) (right round is x y inside)
-
-pub moved_convert : (old new : Program) (dx dy : ℤ) (how : Conversion) (t : Ty) (a b : Tree) → HaveSameMoved old new dx dy a b → HaveSameMoved old new dx dy (convert how a t) (convert how b t)
-moved_convert old new dx dy how t a b has round is x y inside = ap (conversion_value how t) (has round is x y inside)
-
-pub moved_scale : (old new : Program) (dx dy : ℤ) (op : Scaling) (k : ℕ) (a b : Tree) → HaveSameMoved old new dx dy a b → HaveSameMoved old new dx dy (scale op a k) (scale op b k)
-moved_scale old new dx dy op k a b has round is x y inside = ap (λ v. scaling_value op v k) (has round is x y inside)
 
 -- a number of 32 bits with a sign, and the word that holds it
 pub from_word : (P : ℤ → Type 0) (z : ℤ) → FitsSigned w32 z → P (to_z w32 (of_z w32 z)) → P z

@@ -29,12 +29,6 @@ pub by_standing : (old new : Program) → HaveSameInputs old new → (a b c : Tr
 by_standing old new same a b c stands has round is x y inside =
     has round is x y inside ∙ sym (stands round (round_too old new same round is) x y (subst (λ (s : Size). IsTrue (in_frame s x y)) (sym same.size) inside))
 
-pub standing_itself : (p : Program) (a : Tree) → StandsFor p a a
-standing_itself p a round is x y inside = refl
-
-pub standing_on : (p : Program) (a b c : Tree) → StandsFor p a b → StandsFor p b c → StandsFor p a c
-standing_on p a b c one other round is x y inside = one round is x y inside ∙ other round is x y inside
-
 -- a coordinate inside is its own nearest one
 pub clamped_same : (limit : ℕ) (x : ℤ) → IsTrue (is_below x limit) → clamped limit x ≡ x
 clamped_same limit x below =

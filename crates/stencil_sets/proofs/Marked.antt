@@ -6,7 +6,7 @@ use Rattle.pointwise_ir.specs.Trees.{Tree, tree_of, constant, read, shifted, una
 use Rattle.std.proofs.lemmas.List.{length-append}
 use Rattle.pointwise_ir.specs.declared.program.Definition.{Definition}
 use Rattle.pointwise_ir.specs.declared.program.Input.{Input}
-use Rattle.pointwise_ir.specs.Programs.{Program, IsProgram, IsDefined, IsOutput, all_types, types_of, bodies_of}
+use Rattle.pointwise_ir.specs.Programs.{Program, IsProgram, IsOutput, types_of, bodies_of}
 use Rattle.pointwise_ir.specs.Reads.{Reads, IsLive, Kept, input, output, reached}
 use Rattle.pointwise_ir.proofs.Pictured.{reads_earlier}
 use Rattle.stencil_sets.specs.Paths.{ReadsAt, IsIn, Covered}
@@ -232,9 +232,6 @@ mapped_at : {A B : Type 0} (f : A → B) (xs : List A) (k : ℕ) (d : A) → k <
 mapped_at f [] k d h = absurd (omega (arith, h))
 mapped_at f (x ∷ xs) zero d h = refl
 mapped_at f (x ∷ xs) (suc k) d h = mapped_at f xs k d (omega (arith, h))
-
-pub body_defined : (p : Program) → IsProgram p → (images : List Definition) → images ≡ p.images → (k : ℕ) (d : Definition) → k < length p.images → IsDefined (all_types p.inputs (take k p.images)) (slice_index_or images k d)
-body_defined p is images e k d h = is.images k (slice_index_or images k d) (subst (λ xs. slice_get p.images k ≡ Some (slice_index_or xs k d)) (sym e) (entry_at p.images k d h))
 
 pub body_there : (p : Program) (images : List Definition) → images ≡ p.images → (k : ℕ) (d : Definition) → k < length p.images → slice_get (bodies_of p) k ≡ Some (tree_of (slice_index_or images k d).body)
 body_there p images e k d h = subst (λ xs. slice_get (bodies_of p) k ≡ Some (tree_of (slice_index_or xs k d).body)) (sym e) (mapped_at (λ x. tree_of x.body) p.images k d h)

@@ -67,17 +67,6 @@ pub record ImagesSoFar (p : Program) (kept : List Bool) (images : List Image) (k
   pub first : (j : ℕ) → j < k → j < length p.inputs → slice_index (numbers images) j ≡ j
   pub full : (n : ℕ) → n ≤ k → n ≤ length p.inputs → n ≤ length images
 
-pub images_start : (p : Program) (kept : List Bool) → ImagesSoFar p kept [] 0
-images_start p kept = record {
-  short = omega arith;
-  ascending = λ i j d h l. absurd (omega (arith, l));
-  below = λ j d l. absurd (omega (arith, l));
-  sound = λ j d l. absurd (omega (arith, l));
-  complete = λ g h. absurd (omega (arith, h));
-  first = λ j h. absurd (omega (arith, h));
-  full = λ n h l. omega (arith, h);
-}
-
 split_last : {A : Type 0} (xs : List A) (r : A) (j : ℕ) → j < length (xs ++ r ∷ []) → (j < length xs) ⊎ (j ≡ length xs)
 split_last xs r j h = which (cases_lt j (length xs))
   where

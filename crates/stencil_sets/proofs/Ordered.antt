@@ -103,13 +103,6 @@ contains_same (x ∷ xs) r q (inl h) = first (one_of x xs q h) (λ c. contains_s
 the_are : (f f' g g' : ℕ) (dx dx' dy dy' : ℤ) → f' ≡ f → g' ≡ g → dx' ≡ dx → dy' ≡ dy → the f g dx dy ≡ the f' g' dx' dy'
 the_are f f' g g' dx dx' dy dy' a b c d = rw (a, b, c, d) refl
 
-pub run_start : (xs : List LiveRead) (a b : ℕ) (row from : ℤ) → AreInOrder xs → AllBefore xs (the a b from row) → RunSoFar xs xs a b row from from
-run_start xs a b row from o k = record { order = o; gains = λ f g dx dy. (inl, λ h. kept f g dx dy h); before = k }
-  where
-    kept : (f g : ℕ) (dx dy : ℤ) → Contains xs (the f g dx dy) ⊎ IsRun a b row from from f g dx dy → Contains xs (the f g dx dy)
-    kept f g dx dy (inl h) = h
-    kept f g dx dy (inr r) = let l = r.low in let h = r.high in absurd (omega (arith, ints, l, h))
-
 run_split : (a b : ℕ) (row from col : ℤ) (f g : ℕ) (dx dy : ℤ) → (dx ≡ col) ⊎ (dx <ℤ col) → IsRun a b row from (col +ℤ pos 1) f g dx dy → IsRun a b row from col f g dx dy ⊎ (the a b col row ≡ the f g dx dy)
 run_split a b row from col f g dx dy (inl e) r = inr (the_are a f b g col dx row dy r.reader r.source e r.down)
 run_split a b row from col f g dx dy (inr l) r = inl (record { reader = r.reader; source = r.source; down = r.down; low = r.low; high = l })
@@ -171,9 +164,6 @@ run_more old new next a b row from col to k e t s = rw (e, t) (record {
   );
   before = row_more new a b col row s.before;
 })
-
-pub the_same : (f g : ℕ) (dx dx' dy dy' : ℤ) → dx' ≡ dx → dy' ≡ dy → the f g dx' dy' ≡ the f g dx dy
-the_same f g dx dx' dy dy' a b = rw (a, b) refl
 
 pub run_done : (old new : List LiveRead) (a b : ℕ) (row row' from from' col end : ℤ) → row ≡ row' → from ≡ from' → col ≡ end → RunSoFar old new a b row from col → RunSoFar old new a b row' from' end
 run_done old new a b row row' from from' col end r f e s = subst (λ x. RunSoFar old new a b row' x end) f (subst (λ x. RunSoFar old new a b x from end) r (subst (λ x. RunSoFar old new a b row from x) e s))

@@ -14,7 +14,7 @@ use Rattle.pointwise_ir.proofs.ReadLists.{none_in}
 use Rattle.stencil_sets.specs.Found.{AllBefore, Gains, Within}
 use Rattle.stencil_sets.specs.Live.{AreSome}
 use Rattle.stencil_sets.proofs.Ordered.{all_before_later}
-use Rattle.stencil_sets.proofs.Rows.{IsOnTheWay, way_start, way_end, way_within, way_more}
+use Rattle.stencil_sets.proofs.Rows.{IsOnTheWay, way_end, way_within, way_more}
 use Rattle.stencil_sets.proofs.Marked.{live_of, same_body, mapped_short, read_below}
 
 -- the reads of one image's rectangles are those of its body
@@ -77,9 +77,6 @@ pub record ReadersSoFar (p : Program) (new : List LiveRead) (k : ℕ) : Type 0 w
   pub order : AreInOrder new
   pub before : AllBefore new (the (length p.inputs + k) 0 (neg_ℤ (pos 8192)) (neg_ℤ (pos 8192)))
   pub way : IsOnTheWay [] new (λ f g dx dy. IsLeftAfter p 0 f g dx dy) (λ f g dx dy. IsLeftAfter p k f g dx dy)
-
-pub readers_start : (p : Program) (xs : List LiveRead) → xs ≡ [] → ReadersSoFar p xs 0
-readers_start p xs none = subst (λ l. ReadersSoFar p l 0) (sym none) (record { order = λ i j d h l. absurd (omega (arith, l)); before = tt; way = way_start [] (λ f g dx dy. IsLeftAfter p 0 f g dx dy) })
 
 pub readers_more : (p : Program) (new after : List LiveRead) (k a : ℕ) (e : Tree) → slice_get (bodies_of p) k ≡ Some e → Kept p (length p.inputs + k) → a ≡ length p.inputs + k → ReadersSoFar p new k → AreInOrder after
     → Gains new after (λ f g dx dy. IsReadOf p.size e a f g dx dy) → ((g : ℕ) × (d : ℤ) × (x : ℤ) × AllBefore after (the a g d x)) → ReadersSoFar p after (k + 1)

@@ -104,13 +104,6 @@ pub record ChosenSoFar (rects rest chosen : List Rect) (g : ℕ) : Type 0 where
   pub there : (dy dx : ℤ) → InRows chosen dy dx ⊎ Covered rest g dx dy → Covered rects g dx dy
   pub back : (dy dx : ℤ) → Covered rects g dx dy → InRows chosen dy dx ⊎ Covered rest g dx dy
 
-pub chosen_start : (rects : List Rect) (g : ℕ) → AreSorted rects → ChosenSoFar rects rects [] g
-chosen_start rects g s = record { near = All-from_recursion IsNearRect [] tt; sorted = s; there = λ dy dx h. only dy dx h; back = λ dy dx c. inr c }
-  where
-    only : (dy dx : ℤ) → InRows [] dy dx ⊎ Covered rects g dx dy → Covered rects g dx dy
-    only dy dx (inl n) = absurd n
-    only dy dx (inr c) = c
-
 rows_more : (xs : List Rect) (r : Rect) (dy dx : ℤ) → InRows (xs ++ r ∷ []) dy dx → InRows xs dy dx ⊎ InRow r dy dx
 rows_more [] r dy dx (inl i) = inr i
 rows_more [] r dy dx (inr n) = absurd n
@@ -175,17 +168,6 @@ pub record IsChosen (rects chosen : List Rect) (g : ℕ) : Type 0 where
 append_none : {T : Type 0} (xs : List T) → xs ++ [] ≡ xs
 append_none [] = refl
 append_none (x ∷ xs) = ap (λ z. x ∷ z) (append_none xs)
-
-pub chosen_done : (rects rest chosen : List Rect) (g : ℕ) → rest ≡ [] → ChosenSoFar rects rest chosen g → IsChosen rects chosen g
-chosen_done rects rest chosen g e s = record {
-  near = s.near;
-  sorted = subst AreSorted (append_none chosen) (subst (λ x. AreSorted (chosen ++ x)) e s.sorted);
-  exact = λ dy dx. ((λ h. s.there dy dx (inl h)), (λ c. only dy dx (subst (λ x. InRows chosen dy dx ⊎ Covered x g dx dy) e (s.back dy dx c))));
-}
-  where
-    only : (dy dx : ℤ) → InRows chosen dy dx ⊎ Covered [] g dx dy → InRows chosen dy dx
-    only dy dx (inl h) = h
-    only dy dx (inr n) = absurd n
 
 -- the reads of the chosen rectangles are those of the image
 pub by_reader : (rects chosen : List Rect) (a b : ℕ) → ((dy dx : ℤ) → (InRows chosen dy dx → Covered rects b dx dy) × (Covered rects b dx dy → InRows chosen dy dx))

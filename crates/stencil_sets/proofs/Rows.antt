@@ -78,9 +78,6 @@ behind_run rect row next from end l h s e = record {
   covered = λ dx n k m. record { down = record { least = l; greatest = h }; across = record { least = k; greatest = omega (arith, ints, clamps, s, e, n, k, m) } };
 }
 
-pub behind_none : (rect : Rect) (row next : ℤ) → IsBehind rect row next next
-behind_none rect row next = record { later = omega (arith, ints); covered = λ dx n k m. absurd (omega (arith, ints, n, m)) }
-
 -- what is left of the rectangles once the first is done
 from_first : (least : ℤ) (rs : List Rect) (row dx : ℤ) → AllFrom least rs → InRows rs row dx → least ≤ℤ dx
 from_first least [] row dx a n = absurd n
@@ -170,9 +167,6 @@ pub record RowSoFar (old new : List LiveRead) (a b : ℕ) (row : ℤ) (rects res
   pub before : AllBefore new (the a b next row)
   pub way : IsOnTheWay old new (λ f g dx dy. IsLeft rects a b row (neg_ℤ (pos 8192)) f g dx dy) (λ f g dx dy. IsLeft rest a b row next f g dx dy)
   pub sorted : AreSorted rest
-
-pub row_start : (xs : List LiveRead) (a b : ℕ) (row : ℤ) (rects : List Rect) → AreInOrder xs → AllBefore xs (the a b (neg_ℤ (pos 8192)) row) → AreSorted rects → RowSoFar xs xs a b row rects rects (neg_ℤ (pos 8192))
-row_start xs a b row rects o k s = record { order = o; before = k; way = way_start xs (λ f g dx dy. IsLeft rects a b row (neg_ℤ (pos 8192)) f g dx dy); sorted = s }
 
 pub row_more : (old new after : List LiveRead) (a b : ℕ) (row : ℤ) (rects rest more : List Rect) (rect : Rect) (next end : ℤ) → rest ≡ rect ∷ more → RowSoFar old new a b row rects rest next
     → AreInOrder after → AllBefore after (the a b end row) → Gains new after (λ f g dx dy. IsLeft (rect ∷ []) a b row next f g dx dy) → IsBehind rect row next end → RowSoFar old after a b row rects more end

@@ -8,7 +8,7 @@ use Rattle.stencil_sets.specs.Paths.{Covered, IsByReader, IsOfReader}
 use Rattle.pointwise_ir.specs.Stencils.{the}
 use Rattle.stencil_sets.specs.Found.{AllBefore, Gains, Within}
 use Rattle.stencil_sets.proofs.Ordered.{all_before_later}
-use Rattle.stencil_sets.proofs.Rows.{IsOnTheWay, way_start, way_end, way_within, way_more}
+use Rattle.stencil_sets.proofs.Rows.{IsOnTheWay, way_end, way_within, way_more}
 
 -- what is left from image b on
 pub record IsLeftFrom (rects : List Rect) (a b : ℕ) (f g : ℕ) (dx dy : ℤ) : Type 0 where
@@ -34,9 +34,6 @@ pub record SourcesSoFar (old new : List LiveRead) (rects : List Rect) (a b : ℕ
   pub order : AreInOrder new
   pub before : AllBefore new (the a b (neg_ℤ (pos 8192)) (neg_ℤ (pos 8192)))
   pub way : IsOnTheWay old new (λ f g dx dy. IsLeftFrom rects a 0 f g dx dy) (λ f g dx dy. IsLeftFrom rects a b f g dx dy)
-
-pub sources_start : (xs : List LiveRead) (rects : List Rect) (a : ℕ) → AreInOrder xs → AllBefore xs (the a 0 (neg_ℤ (pos 8192)) (neg_ℤ (pos 8192))) → SourcesSoFar xs xs rects a 0
-sources_start xs rects a o k = record { order = o; before = k; way = way_start xs (λ f g dx dy. IsLeftFrom rects a 0 f g dx dy) }
 
 pub sources_more : (old new after : List LiveRead) (rects : List Rect) (a b to : ℕ) → b < a → to ≡ b + 1 → SourcesSoFar old new rects a b → AreInOrder after
     → Gains new after (λ f g dx dy. IsByReader rects a b f g dx dy) → ((d : ℤ) × (e : ℤ) × AllBefore after (the a b d e)) → SourcesSoFar old after rects a to

@@ -114,10 +114,6 @@ counted p reads count a few many none = which (cases_lt 65536 (length reads)) (c
     which (inl m) (inl l) = let e = many m in (omega (arith, e), inr (record { reads = reads; some = some_of_all p reads a; many = m; count_is = e }))
     which (inr f) (inl l) = let e = few f in (omega (arith, e, l), inl (record { reads = reads; exact = a; count_is = e; few = omega (arith, e, f) }))
 
--- more than are counted
-pub full_counted : (p : Program) (reads : List LiveRead) → AreSome p reads → length reads ≡ 65537 → (4096 < 65537) × HasCount p 65537
-full_counted p reads s e = (omega arith, inr (record { reads = reads; some = s; many = omega (arith, e); count_is = refl }))
-
 pub too_many : (p : Program) → IsProgram p → (images : List Image) (reads : List LiveRead) → AreImages p images → AreKeptImages (length p.inputs) images → AreReads p reads
     → (size : Size) (inputs : ℕ) (outputs : List ℕ) → size ≡ p.size → inputs ≡ length p.inputs → outputs ≡ p.outputs
     → (IsStencils (record { width = size.width; height = size.height; inputs = inputs; outputs = outputs; images = images; reads = reads }) → ⊥) → length reads ≤ 4096 → ⊥

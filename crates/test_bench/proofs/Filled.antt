@@ -1,5 +1,5 @@
 -- Clocks that are added to a block.
-use Rattle.std.proofs.Common.{◌≡◌, ℕ, zero, suc, ◌+◌, ◌*◌, ◌≤◌, Bool, true, false, List, [], ◌∷◌, ◌++◌, length, take, drop, refl, ap, sym, ◌∙◌, arith, append_assoc, append-nil, length-append}
+use Rattle.std.proofs.Common.{◌≡◌, ℕ, zero, suc, ◌+◌, ◌*◌, ◌≤◌, Bool, true, false, List, [], ◌∷◌, ◌++◌, length, take, drop, refl, ap, sym, ◌∙◌, arith, append_assoc, length-append}
 use Rattle.std.specs.Prelude.{if◌then◌else◌, slice_index}
 use Rattle.std.proofs.lemmas.List.FromFn.{map-range_with_len_more}
 use Rattle.std.specs.List.{range_with_len}
@@ -78,10 +78,6 @@ pub held_more : (n : ℕ) (enables new : List Bool) (dins next xs : List ℕ) (c
 held_more n enables new dins next xs comes c f g total size =
     clock_more n enables new false dins next xs f g total size
     ∙ ap (λ (b : Bool). clocks_with n enables dins ++ (if b then (record { reset = false; enable = false; dins = xs }) ∷ [] else [])) (sym c)
-
-pub held_none : (n : ℕ) (enables : List Bool) (dins xs : List ℕ) (comes : Bool) → comes ≡ false → clocks_with n enables dins ≡ clocks_with n enables dins ++ (if comes then (record { reset = false; enable = false; dins = xs }) ∷ [] else [])
-held_none n enables dins xs comes c =
-    sym (append-nil (clocks_with n enables dins)) ∙ ap (λ (b : Bool). clocks_with n enables dins ++ (if b then (record { reset = false; enable = false; dins = xs }) ∷ [] else [])) (sym c)
 
 pub dins_more : (rounds : Rounds) (number k : ℕ) → dins_at (k + 1) rounds number ≡ dins_at k rounds number ++ slice_index (stream rounds k) number ∷ []
 dins_more rounds number k = map-range_with_len_more (λ input. slice_index (stream rounds input) number) 0 k k (omega arith)

@@ -1,6 +1,6 @@
 -- The samples that are kept of a picture.
 use Rattle.std.proofs.Common.{◌≡◌, ℕ, ◌+◌, ◌-◌, ◌^◌, ◌<◌, ◌≤◌, List, [], ◌∷◌, ◌++◌, length, take, ap, sym, subst, ◌∙◌, arith, append-nil, length-append, min}
-use Rattle.std.proofs.lemmas.List.{take-append-le, take_all, length-take}
+use Rattle.std.proofs.lemmas.List.{take_all, length-take}
 use Rattle.test_bench.specs.declared.picture.Shown.{Shown}
 use Rattle.test_bench.specs.Clocking.{IsKept}
 
@@ -22,15 +22,6 @@ kept_more most whole x old new h l e c =
     let short : length whole < most = shorter most whole (subst (λ z. length z < most) h.samples l) in
     record {
       samples = e ∙ ap (λ z. z ++ x ∷ []) (h.samples ∙ take_all most whole (omega (arith, short))) ∙ sym (take_all most (whole ++ x ∷ []) (omega (arith, short, length-append whole (x ∷ []))));
-      count = counted whole x old.count new.count h.count c;
-    }
-
--- and there is none
-pub kept_full : (most : ℕ) (whole : List ℕ) (x : ℕ) (old new : Shown) → IsKept most whole old → most ≤ length old.samples.items → new.samples.items ≡ old.samples.items → new.count ≡ min (old.count + 1) (2 ^ 64 - 1) → IsKept most (whole ++ x ∷ []) new
-kept_full most whole x old new h l e c =
-    let long : most ≤ length whole = full most whole (subst (λ z. most ≤ length z) h.samples l) in
-    record {
-      samples = e ∙ h.samples ∙ sym (take-append-le most whole (x ∷ []) long);
       count = counted whole x old.count new.count h.count c;
     }
 

@@ -1,5 +1,5 @@
 -- What the clocks of a block show.
-use Rattle.std.proofs.Common.{◌≡◌, ℕ, zero, suc, ◌+◌, ◌*◌, ◌^◌, ◌<◌, ◌≤◌, Bool, List, [], ◌∷◌, ◌++◌, length, take, drop, refl, ap, sym, subst, ◌∙◌, arith, append_assoc, append-nil, Some, Option, pos, ◌-ℤ◌}
+use Rattle.std.proofs.Common.{◌≡◌, ℕ, zero, suc, ◌+◌, ◌*◌, ◌^◌, ◌<◌, ◌≤◌, Bool, List, [], ◌∷◌, ◌++◌, length, take, drop, refl, ap, sym, subst, ◌∙◌, arith, append_assoc, Some, Option, pos, ◌-ℤ◌}
 use Rattle.std.specs.Prelude.{slice_get, vec_capacity}
 use Rattle.std.specs.List.{All}
 use Rattle.std.proofs.Math.Nat.{suc-mul}
@@ -48,9 +48,6 @@ shown_more most ports k outs part shots all old new is l shown a b each h =
     let here : AreShown s.0 part = subst (λ z. AreShown s.0 z) (sym is) (shown k s.0 s.1) in
     subst (λ z. AreKept most z new) (append_assoc all (take k shots) (s.0 ∷ []) ∙ ap (λ z. all ++ z) (sym (took_one shots k s.0 s.1)))
     (kept_one most s.0 part old new here a b each (all ++ take k shots) h)
-
-pub kept_none : (most : ℕ) (shots all : List Snapshot) (pictures : List Shown) → AreKept most all pictures → AreKept most (all ++ take 0 shots) pictures
-kept_none most shots all pictures h = subst (λ z. AreKept most z pictures) (sym (append-nil all)) h
 
 -- ---- the outputs, clock by clock
 

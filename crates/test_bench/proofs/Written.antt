@@ -1,13 +1,10 @@
 -- Images, one after another.
 use Rattle.std.proofs.Common.{◌≡◌, ℕ, suc, ◌+◌, ◌*◌, ◌-◌, ◌^◌, ◌<◌, ◌≤◌, List, [], ◌∷◌, ◌++◌, length, map, ap, sym, subst, ◌∙◌, arith, append_assoc, append-nil, Some, get_or, inl, inr}
-use Rattle.std.specs.Prelude.{◌⊎◌, slice_get, slice_index, vec_capacity}
+use Rattle.std.specs.Prelude.{◌⊎◌, slice_get, slice_index}
 use Rattle.std.proofs.lemmas.Option.{slice_get-get_or, get_or_from_slice_get}
 use Rattle.std.proofs.Math.Pow.{pow_mono}
-use Rattle.wiring.proofs.Lists.{All-at, All-from_at}
-use Rattle.wiring.proofs.Search.{at_push}
 use Rattle.stimulus.specs.Showing.{IsEnough}
-use Rattle.test_bench.specs.Clocking.{IsKept, AreKept}
-use Rattle.std.specs.List.{flat_map, range_with_len, All}
+use Rattle.std.specs.List.{flat_map, range_with_len}
 use Rattle.std.proofs.lemmas.Grind.{flat_map-append}
 use Rattle.std.proofs.Math.Nat.{mul-le-mul_right, suc-mul}
 use Rattle.std.proofs.lemmas.List.FromFn.{map-range_with_len_more}
@@ -61,21 +58,6 @@ enough_more pictures asked k d h l e j less =
 
 pub some_maxval : (m w : ℕ) → m ≡ 2 ^ w - 1 → 1 ≤ w → 0 < m
 some_maxval m w e l = let one : 2 ^ 1 ≤ 2 ^ w = pow_mono l in omega (arith, one, e)
-
--- a picture more that shows nothing
-pub kept_push : (most : ℕ) (pictures : List Shown) (shown : Shown) → AreKept most [] pictures → IsKept most [] shown → AreKept most [] (pictures ++ shown ∷ [])
-kept_push most pictures shown h e k kept at =
-    elim (at_push pictures shown kept k at) as (λ _. IsKept most [] kept) [
-      | inl before ↦ h k kept before
-      | inr last ↦ subst (λ z. IsKept most [] z) last.1 e
-    ]
-
-pub room_push : (most : ℕ) (pictures : List Shown) (shown : Shown) → All (λ (s : Shown). most ≤ vec_capacity s.samples) pictures → most ≤ vec_capacity shown.samples → All (λ (s : Shown). most ≤ vec_capacity s.samples) (pictures ++ shown ∷ [])
-room_push most pictures shown h e = All-from_at (λ (s : Shown). most ≤ vec_capacity s.samples) (pictures ++ shown ∷ []) (λ k kept at.
-    elim (at_push pictures shown kept k at) as (λ _. most ≤ vec_capacity kept.samples) [
-      | inl before ↦ All-at (λ (s : Shown). most ≤ vec_capacity s.samples) pictures k kept h before
-      | inr last ↦ subst (λ (z : Shown). most ≤ vec_capacity z.samples) last.1 e
-    ])
 
 pub width_at : (size : Size) (ports : List ℕ) (rounds : ℕ) (pictures : List Shown) → AreWhole size ports rounds pictures → (k : ℕ) → k < length pictures → IsPortWidth (slice_index ports (2 * k + 1))
 width_at size ports rounds pictures w k l = let x = there pictures k l in (w.each k x.0 x.1).width

@@ -101,9 +101,6 @@ whole_front m shots =
     ∙ ap (λ z. (header_text m ++ text_of z) ++ text_of (time_line (length clocks) ∷ [])) (sym (front_is ws clocks))
     ∙ ap (λ n. trace_front m shots ++ text_of (time_line n ∷ [])) (values_count shots)
 
-pub front_none : (m : NamedNetlist) → trace_front m [] ≡ header_text m
-front_none m = append-nil (header_text m)
-
 -- one clock more
 pub front_more : (m : NamedNetlist) (shots : List Snapshot) (last : Snapshot) → (lines : List (List ℕ)) × (trace_front m (shots ++ last ∷ []) ≡ trace_front m shots ++ text_of (time_line (length shots) ∷ lines))
 front_more m shots last =

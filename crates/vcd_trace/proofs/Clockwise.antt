@@ -35,9 +35,6 @@ no_later k ws new clocks w i v more e =
     let begins = later_begin k ws new clocks in
     no_time (nat_eq w 1) k i v (10 ∷ text_of begins.0) (10 ∷ more) (sym (ap text_of begins.1) ∙ e ∙ line_form (value_line w i v) more)
 
-abbrev front_by : Bool → List ℕ → List (List ℕ) → List (List ℕ)
-front_by b line more = (if b then [] else line ∷ []) ++ more
-
 -- a variable before these is not among their lines
 pub not_told : (first : Bool) (i : ℕ) (ws old new : List ℕ) → AreValues ws new → (w j v : ℕ) → j < i → v < 2 ^ w → (k : ℕ) (all next : List ℕ) (clocks : List (List ℕ)) (more : List ℕ)
     → text_of (told_lines first i ws old new ++ later_lines k all next clocks) ≡ (value_line w j v ++ 10 ∷ []) ++ more → ⊥

@@ -113,13 +113,6 @@ behind_header m text rest e = record {
 pub no_header : (m : NamedNetlist) (text : List ℕ) → ((more : List ℕ) → text ≡ header_text m ++ more → ⊥) → IsFaultyLine m text (common_lines 1 (header_text m) text)
 no_header m text none = header_fault m text [] [] (header_text m) text 1 (record { whole = refl; lines = inl refl; number_is = refl }) tt refl none
 
--- the bytes at a place
-pub common_step : (n k x y : ℕ) (xs ys : List ℕ) → k < length xs → k < length ys → x ≡ get_or xs k 0 → y ≡ get_or ys k 0 → x ≡ y → common_lines n (drop k xs) (drop k ys) ≡ common_lines (if nat_eq x 10 then n + 1 else n) (drop (k + 1) xs) (drop (k + 1) ys)
-common_step n k x y xs ys h g ex ey same =
-    ap (λ z. common_lines n z (drop k ys)) (Rattle.std.proofs.lemmas.List.drop_more xs k 0 h ∙ ap (λ z. z ∷ drop (k + 1) xs) (sym ex))
-    ∙ ap (λ z. common_lines n (x ∷ drop (k + 1) xs) z) (Rattle.std.proofs.lemmas.List.drop_more ys k 0 g ∙ ap (λ z. z ∷ drop (k + 1) ys) (sym ey ∙ sym same))
-    ∙ ap (λ b. if b then common_lines (if nat_eq x 10 then n + 1 else n) (drop (k + 1) xs) (drop (k + 1) ys) else n) (let e : nat_eq x x ≡ true = grind arith in e)
-
 pub common_stop : (n k total : ℕ) (xs ys : List ℕ) → common_lines n (drop k xs) (drop k ys) ≡ total → k < length xs → length ys ≤ k → n ≡ total
 common_stop n k total xs ys e h g =
     sym (ap (λ z. common_lines n z (drop k ys)) (Rattle.std.proofs.lemmas.List.drop_more xs k 0 h) ∙ ap (λ z. common_lines n (get_or xs k 0 ∷ drop (k + 1) xs) z) (drop_all ys k g)) ∙ e

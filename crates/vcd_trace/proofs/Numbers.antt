@@ -47,13 +47,6 @@ id_last (suc n) h =
 pub binary_step : (n : ℕ) → 2 ≤ n → binary n ≡ binary (n / 2) ++ (48 + n % 2) ∷ []
 binary_step n h = binary_is n (omega (arith, h)) ∙ bits_more n (omega (arith, h)) ∙ ap (λ z. z ++ (48 + n % 2) ∷ []) (sym (binary_is (n / 2) (omega (arith, h))))
 
-pub binary_last : (n : ℕ) → n < 2 → binary n ≡ (48 + n) ∷ []
-binary_last zero h = refl
-binary_last (suc n) h =
-    let none : suc n / 2 ≡ 0 = omega (arith, h) in
-    let same : suc n % 2 ≡ suc n = omega (arith, h) in
-    bits_more (suc n) (omega arith) ∙ ap (λ k. bits k ++ (48 + suc n % 2) ∷ []) none ∙ ap (λ k. (48 + k) ∷ []) same
-
 -- what is added a byte at a time
 pub id_joined : (old mid new : List ℕ) (n : ℕ) → 94 ≤ n → mid ≡ old ++ (33 + n % 94) ∷ [] → new ≡ mid ++ id_of (n / 94) → new ≡ old ++ id_of n
 id_joined old mid new n h first rest =
@@ -71,9 +64,6 @@ id_one n h = ap length (id_last n h)
 
 pub binary_one_more : (n : ℕ) → 2 ≤ n → length (binary n) ≡ length (binary (n / 2)) + 1
 binary_one_more n h = ap length (binary_step n h) ∙ length-append (binary (n / 2)) ((48 + n % 2) ∷ [])
-
-pub binary_one : (n : ℕ) → n < 2 → length (binary n) ≡ 1
-binary_one n h = ap length (binary_last n h)
 
 pub length-shifted : (k : ℕ) (xs : List ℕ) → length (map (λ d. k + d) xs) ≡ length xs
 length-shifted k [] = refl

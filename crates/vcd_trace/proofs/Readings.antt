@@ -41,10 +41,6 @@ bits_grow a (b ∷ bytes) = by (nat_eq b 48) (nat_eq b 49) (bits_grow (2 * a) by
     by false true h k = omega (arith, k)
     by false false h k = omega arith
 
--- the line of a variable in front of other bytes
-pub bit_line : (w i v : ℕ) (rest bytes : List ℕ) → w ≡ 1 → bytes ≡ (value_line w i v ++ 10 ∷ []) ++ rest → bytes ≡ (48 + v) ∷ ((id_of i ++ 10 ∷ []) ++ rest)
-bit_line w i v rest bytes one e = e ∙ ap (λ k. (value_line k i v ++ 10 ∷ []) ++ rest) one
-
 pub wide_line : (w i v : ℕ) (rest bytes : List ℕ) → (w ≡ 1 → ⊥) → bytes ≡ (value_line w i v ++ 10 ∷ []) ++ rest → bytes ≡ 98 ∷ (binary v ++ 32 ∷ ((id_of i ++ 10 ∷ []) ++ rest))
 wide_line w i v rest bytes several e =
     e ∙ ap (λ b. (line_by b i v ++ 10 ∷ []) ++ rest) (ne_eqb w 1 several)

@@ -15,9 +15,6 @@ binary_short : (w v : ℕ) → v < 2 ^ w → length (binary v) ≤ max w 1
 binary_short w zero h = omega arith
 binary_short w (suc v) h = let few : length (digits_of 2 (suc v)) ≤ w = length-digits_of-le 2 w (suc v) (omega arith) h in omega (arith, few, length-shifted 48 (digits_of 2 (suc v)))
 
-room_by : Bool → ℕ → ℕ → ℕ
-room_by one w i = if one then 2 + length (id_of i) else max w 1 + 3 + length (id_of i)
-
 by_fits : (b : Bool) (w i v : ℕ) → v < 2 ^ w → length (line_by b i v) + 1 ≤ (if b then 2 + length (id_of i) else max w 1 + 3 + length (id_of i))
 by_fits true w i v h = omega arith
 by_fits false w i v h = omega (arith, binary_short w v h, length-append (binary v) (32 ∷ id_of i))

@@ -13,7 +13,7 @@ use Rattle.verilog_parse.specs.declared.kind.Section.{Section}
 use Rattle.dk_grammar.specs.Reading.{One, last, end, Stuck}
 use Rattle.dk_grammar.proofs.Clears.{append_nil}
 use Rattle.dk_grammar.proofs.Stucks.{Reached, reached_stuck, reached_whole, listed_next, listed_fewer}
-use Rattle.dk_grammar.proofs.Chains.{chain_start, chain_next, chain_element, chain_mark}
+use Rattle.dk_grammar.proofs.Chains.{chain_next, chain_element, chain_mark}
 use Rattle.verilog_text.specs.declared.written.Written.{Written}
 use Rattle.verilog_text.specs.Grammar.{Source, source_of}
 use Rattle.verilog_parse.specs.Forms.{Is, Gives}
@@ -43,9 +43,6 @@ pub record UpdatesBegun (first target : Target) (old now : List WrittenUpdate) (
   pub reached : Reached (UpdatesFrom first) (UpdatesFrom target) (λ ws. us ++ ws) ts rest
   pub items : now ≡ old ++ us
 
-pub updates_start : (first : Target) (old : List WrittenUpdate) (ts : List Token) → UpdatesBegun first first old old ts ts
-updates_start first old ts = record { us = []; reached = chain_start first ts; items = sym (append_nil old) }
-
 pub updates_next : {first target next : Target} {old now new : List WrittenUpdate} {ts rest behind after : List Token} {n : Span} {u : WrittenUpdate} → UpdatesBegun first target old now ts rest → target ≡ targets.Name n
     → AnUpdate n rest u behind → One (Gives targeting) behind next after → new ≡ now ++ u ∷ [] → UpdatesBegun first next old new ts after
 updates_next {first = first} {next = next} {old = old} {ts = ts} {rest = rest} {n = n} {u = u} b e q m w = record {
@@ -73,10 +70,6 @@ updates_mark {first = first} {ts = ts} {rest = rest} {n = n} b e q at k =
 pub update_fewer : {n : Span} {next : Target} {rest behind after : List Token} {u : WrittenUpdate} → AnUpdate n rest u behind → One (Gives targeting) behind next after → length after < length rest
 update_fewer {n = n} q m = listed_fewer m.0 (C.an_update n) q m.1
 
--- sections
-gather_nil : {X : Type 0} (f : Piece → List X) (p : Piece) → gather f (p ∷ []) ≡ f p
-gather_nil f p = append_nil (f p)
-
 gather_more : {X : Type 0} (f : Piece → List X) (ps qs : List Piece) → gather f (ps ++ qs) ≡ gather f ps ++ gather f qs
 gather_more f [] qs = refl
 gather_more f (p ∷ ps) qs = ap (λ x. f p ++ x) (gather_more f ps qs) ∙ sym (append_assoc (f p) (gather f ps) (gather f qs))
@@ -100,9 +93,6 @@ pub record SectionsBegun (first next : Section) (old now : Written) (ts rest : L
   pub pieces : List Piece
   pub reached : Reached (SectionsFrom first) (SectionsFrom next) (λ ws. pieces ++ ws) ts rest
   pub adds : Adds pieces old now
-
-pub sections_start : (first : Section) (old : Written) (ts : List Token) → SectionsBegun first first old old ts ts
-sections_start first old ts = record { pieces = []; reached = chain_start first ts; adds = adds_none old }
 
 pub sections_next : {first m next : Section} {old now new : Written} {ts rest behind after : List Token} (p : Piece) → SectionsBegun first m old now ts rest → is_last m ≡ false
     → AfterSection m rest p behind → One (Gives (λ k s. section_after m k)) behind next after → Adds (p ∷ []) now new → SectionsBegun first next old new ts after

@@ -7,14 +7,13 @@ use Rattle.netlist.specs.Names.{NamedNetlist}
 use Rattle.netlist.specs.Faults.{IsModuleOf, IsFault as IsNetFault}
 use Rattle.dk_base.specs.declared.span.Span.{Span}
 use Rattle.verilog_text.specs.declared.fault.TextFault.{TextFault}
-use Rattle.verilog_text.specs.declared.fault.TextFault.TheVariants.{Lex, Syntax, NotInSubset, Limit, Net}
+use Rattle.verilog_text.specs.declared.fault.TextFault.TheVariants.{Net}
 use Rattle.verilog_text.specs.declared.fault.TextError.{TextError}
 use Rattle.verilog_text.specs.declared.fault.TextError.TheVariants.{Fault, OutOfMemory}
 use Rattle.verilog_text.specs.Grammar.{Source}
 use Rattle.verilog_text.specs.Limits.{limit_fault}
 use Rattle.verilog_text.specs.Stands.{IsWritten, ArePartsOf, StandsFor}
 use Rattle.verilog_text.specs.Faults.{fault_span, IsFault, IsErrorBy, Agrees}
-use Rattle.verilog_parse.specs.Fault.{IsParseFault}
 
 pub stands : (text : List ℕ) (s : Source) (p : Parts) (m : NamedNetlist) → IsWritten text s → limit_fault s ≡ None → ArePartsOf text s p → IsModuleOf p m → StandsFor text m
 stands text s p m w l a h = record { parts = p; has_parts = record { source = s; written = w; limits = l; parts = a }; is_module = h }
@@ -27,13 +26,6 @@ net_is text s p f g w l a h some spanned = by (fault_span s f) refl some
     by : (o : Option Span) → fault_span s f ≡ o → IsSome o → IsFault text g
     by (Some span) e there = rw (spanned span e) (record { source = s; written = w; limits = l; parts = p; are_parts = a; fault = h; spanned = e })
     by None e there = absurd (cc)
-
-pub parse_is : (text : List ℕ) (f : TextFault) → IsParseFault text f → IsFault text f
-parse_is text (Lex f) h = h
-parse_is text (Syntax s) h = h
-parse_is text (NotInSubset s) h = h
-parse_is text (Limit f) h = absurd h
-parse_is text (Net s f) h = absurd h
 
 -- what verilog_text says: a text denotes one module, or has one fault
 pub record OneModule : Type 0 where

@@ -11,8 +11,8 @@ use Rattle.verilog_text.specs.declared.written.WrittenDeclaration.{WrittenDeclar
 use Rattle.verilog_text.specs.declared.written.WrittenRight.{WrittenRight}
 use Rattle.verilog_text.specs.declared.written.WrittenAssign.{WrittenAssign}
 use Rattle.verilog_text.specs.declared.written.WrittenUpdate.{WrittenUpdate}
-use Rattle.verilog_text.specs.Grammar.{Tokens, named, atomic, counted, Bits, bits, Ranged, one_bit, wide, Port, plain, wire as wire_port, Right, copy, complement, two, choose, join, repeat, bit, slice, word, Assign, assign, Update, set, put, Declares, wire, reg, array}
-use Rattle.verilog_text.proofs.PartReaders.{code, bits_of, ranged_of, port_of, right_of, assign_of, update_of, declaration_of}
+use Rattle.verilog_text.specs.Grammar.{Tokens, named, atomic, counted, bits, Ranged, one_bit, wide, Port, plain, wire as wire_port, Right, copy, complement, two, choose, join, repeat, bit, slice, word, Assign, assign, Update, set, put, Declares, wire, reg, array}
+use Rattle.verilog_text.proofs.PartReaders.{code, ranged_of, port_of, right_of, assign_of, update_of, declaration_of}
 
 -- a name is an atom, and neither is a number
 name_is_atom : (k : TokenKind) (s n : Span) → named k s ≡ Some n → atomic k s ≡ Some (atom.Net n)
@@ -44,9 +44,6 @@ name_no_code (kind.Plain v) s n e = absurd (cc)
 name_no_code (kind.Sized c) s n e = absurd (cc)
 name_no_code (kind.Symbol x) s n e = absurd (cc)
 name_no_code kind.End s n e = absurd (cc)
-
-pub bits_is : {ts rest : Tokens} {r : Range} → Bits ts r rest → bits_of ts ≡ Some (r, rest)
-bits_is (bits o a c b e) = rw (o, a, c, b, e) refl
 
 pub ranged_is : {ts rest : Tokens} {r : Option Range} {n : Span} → Ranged ts r n rest → ranged_of ts ≡ Some ((r, n), rest)
 ranged_is (one_bit n) = rw n refl

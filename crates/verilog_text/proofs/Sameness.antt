@@ -1,5 +1,5 @@
 -- Parts with the same lists have the same module and the same faults.
-use Rattle.std.proofs.Common.{◌≡◌, ℕ, List, sym, ap, ◌∙◌, subst}
+use Rattle.std.proofs.Common.{◌≡◌, ℕ, List, ap, ◌∙◌, subst}
 use Rattle.std.specs.Prelude.{◌++◌}
 use Rattle.std.specs.Option.{option_map}
 use Rattle.wiring.specs.declared.netlist.Shape.{Shape}
@@ -10,9 +10,9 @@ use Rattle.netlist.specs.declared.parts.Declaration.{Declaration}
 use Rattle.netlist.specs.declared.parts.NamedAssign.{NamedAssign}
 use Rattle.netlist.specs.declared.parts.NamedUpdate.{NamedUpdate}
 use Rattle.netlist.specs.declared.fault.NetFault.{NetFault}
-use Rattle.netlist.specs.Names.{NamedNetlist, ModuleNames}
+use Rattle.netlist.specs.Names.{ModuleNames}
 use Rattle.netlist.specs.Scopes.{Entry, all_ports, declared_entries, scope_of, assign_named, update_named, netlist_of_parts, module_of, has_enable, collected, taken, given, past_clock, wire_width, reg_width, array_shape, names_of_parts}
-use Rattle.netlist.specs.Faults.{Rule, Keeps, Breaks, rules_of, net_rules, IsFault, IsModuleOf}
+use Rattle.netlist.specs.Faults.{Rule, Breaks, rules_of, net_rules, IsFault}
 
 -- the same name and lists
 pub record SameParts (p q : Parts) : Type 0 where
@@ -21,9 +21,6 @@ pub record SameParts (p q : Parts) : Type 0 where
   pub declarations : p.declarations.items ≡ q.declarations.items
   pub assigns : p.assigns.items ≡ q.assigns.items
   pub updates : p.updates.items ≡ q.updates.items
-
-pub same_backwards : (p q : Parts) → SameParts p q → SameParts q p
-same_backwards p q e = record { name = sym e.name; ports = sym e.ports; declarations = sym e.declarations; assigns = sym e.assigns; updates = sym e.updates }
 
 same_scope : (p q : Parts) → SameParts p q → scope_of p ≡ scope_of q
 same_scope p q e =
@@ -79,6 +76,3 @@ same_rules p q e P h =
 
 pub same_fault : (p q : Parts) → SameParts p q → (f : NetFault) → IsFault p f → IsFault q f
 same_fault p q e f h = same_rules p q e (λ rules. Breaks rules f) h
-
-pub same_module_of : (p q : Parts) (m : NamedNetlist) → SameParts p q → IsModuleOf p m → IsModuleOf q m
-same_module_of p q m e h = record { keeps = same_rules p q e Keeps h.keeps; is = h.is ∙ same_module p q e }

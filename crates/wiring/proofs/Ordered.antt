@@ -1,7 +1,6 @@
 -- The search begins and ends well.
-use Rattle.std.proofs.Common.{◌≡◌, ◌≢◌, ℕ, zero, suc, ◌<◌, List, [], length, get_or, replicate, ap, subst, sym, ◌∙◌, inl, inr, arith, Some, None}
+use Rattle.std.proofs.Common.{◌≡◌, ◌≢◌, ℕ, suc, ◌<◌, List, [], length, get_or, ap, subst, sym, ◌∙◌, inl, inr, arith, Some}
 use Rattle.std.specs.Prelude.{slice_get}
-use Rattle.std.proofs.lemmas.List.{length-replicate}
 use Rattle.std.proofs.lemmas.Option.{same_Some, slice_get_within, slice_get-get_or}
 use Rattle.wiring.specs.declared.netlist.Assign.{Assign}
 use Rattle.wiring.specs.declared.order.Mark.{Mark}
@@ -12,38 +11,6 @@ use Rattle.wiring.specs.Moves.{IsSearch, Enters, KeepsMarks}
 use Rattle.wiring.specs.declared.order.Search.{Search}
 use Rattle.std.proofs.lemmas.Bool.{cases_eq}
 use Rattle.wiring.proofs.Search.{enter_keeps, get_set_same, get_set_other}
-
-all_new : (n k : ℕ) (x : Mark) → slice_get (replicate n New) k ≡ Some x → New ≡ x
-all_new zero k x e = cc
-all_new (suc n) zero x e = same_Some New x e
-all_new (suc n) (suc k) x e = all_new n k x e
-
--- before the first move
-pub search_begins : (assigns : List Assign) → IsSearch assigns (replicate (length assigns) New) [] []
-search_begins assigns = record {
-  size = length-replicate (length assigns) New;
-  path_open = λ i v at. cc;
-  path_once = λ i j v w at_i at_j e. cc;
-  open_path = λ k at. absurd (let e : New ≡ Open = all_new (length assigns) k Open at in differ e);
-  chain = λ i v w at_i at_j. absurd (let e : None ≡ Some v = at_i in none e);
-  looked = λ i v j place at lt feeds. cc;
-  order_done = λ p k at. cc;
-  done_order = λ k at. absurd (let e : New ≡ Done = all_new (length assigns) k Done at in differ_done e);
-  order_once = λ p q k at_p at_q. cc;
-  behind = λ p j k at feeds. absurd (let e : None ≡ Some k = at in none_k e);
-}
-  where
-    differ : New ≡ Open → ⊥
-    differ e = cc
-
-    differ_done : New ≡ Done → ⊥
-    differ_done e = cc
-
-    none : {v : Visit} → None ≡ Some v → ⊥
-    none e = cc
-
-    none_k : {k : ℕ} → None ≡ Some k → ⊥
-    none_k e = cc
 
 -- what the first assign of a path leaves
 pub record Begins (assigns : List Assign) (old new : Search) (start : ℕ) : Type 0 where
