@@ -49,10 +49,10 @@ docs/COMMANDS.md
 docs/BUILDING.md
 docs/PROMISES.md
 crates/base_tests/README.md
-crates/block_code/README.md
-crates/block_plan/README.md
-crates/block_rows/README.md
-crates/block_sim/README.md
+crates/batch_code/README.md
+crates/batch_plan/README.md
+crates/batch_rows/README.md
+crates/batch_sim/README.md
 crates/buffer_plan/README.md
 crates/circuit_tests/README.md
 crates/cycle_sim/README.md

@@ -39,7 +39,7 @@ struct Infix {
 
 // How an operator of two operands is written.
 #[derive(Clone, Copy)]
-enum Form {
+enum Spelling {
     Function(&'static str),
     Between(Infix),
 }
@@ -138,8 +138,8 @@ fn pair(alloc: Global, word: &str, a: Part, b: Part) -> Result<Part, OutOfMemory
 }
 
 // An operator whose operands group to the left.
-fn grouping(word: &'static str, binding: Binding, right: Binding) -> Form {
-    Form::Between(Infix {
+fn grouping(word: &'static str, binding: Binding, right: Binding) -> Spelling {
+    Spelling::Between(Infix {
         word,
         binding,
         left: binding,
@@ -148,8 +148,8 @@ fn grouping(word: &'static str, binding: Binding, right: Binding) -> Form {
 }
 
 // A comparison does not group.
-fn comparing(word: &'static str) -> Form {
-    Form::Between(Infix {
+fn comparing(word: &'static str) -> Spelling {
+    Spelling::Between(Infix {
         word,
         binding: Binding::Comparison,
         left: Binding::Or,
@@ -157,7 +157,7 @@ fn comparing(word: &'static str) -> Form {
     })
 }
 
-fn form_of(operator: Binary) -> Form {
+fn spelling_of(operator: Binary) -> Spelling {
     match operator {
         Binary::Add => grouping(" + ", Binding::Sum, Binding::Product),
         Binary::Subtract => grouping(" - ", Binding::Sum, Binding::Product),
@@ -171,8 +171,8 @@ fn form_of(operator: Binary) -> Form {
         Binary::And => grouping(" & ", Binding::And, Binding::Shift),
         Binary::Or => grouping(" | ", Binding::Or, Binding::Xor),
         Binary::Xor => grouping(" ^ ", Binding::Xor, Binding::And),
-        Binary::Min => Form::Function("min"),
-        Binary::Max => Form::Function("max"),
+        Binary::Min => Spelling::Function("min"),
+        Binary::Max => Spelling::Function("max"),
     }
 }
 
@@ -195,9 +195,9 @@ pub(crate) fn binary(
     a: Part,
     b: Part,
 ) -> Result<Part, OutOfMemory> {
-    match form_of(operator) {
-        Form::Function(word) => pair(alloc, word, a, b),
-        Form::Between(infix) => between(alloc, infix, a, b),
+    match spelling_of(operator) {
+        Spelling::Function(word) => pair(alloc, word, a, b),
+        Spelling::Between(infix) => between(alloc, infix, a, b),
     }
 }
 

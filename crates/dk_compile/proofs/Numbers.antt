@@ -28,7 +28,7 @@ use Rattle.dk_parser.specs.Terminals.{terminal, terminal_of, word_terminal}
 use Rattle.source_words.specs.Words.{keyword_of, type_of_word}
 use Rattle.dk_parser.specs.Words.{over}
 use Rattle.dk_parser.specs.Reads.{plain as unclamped', clamped}
-use Rattle.dk_parser.specs.Grammar.{Tokens, Form, steps, Phrase, single, compared, prefixed, plain, chain, done, operand, suffixed, suffix, scaled, converted, closed, reading, constant, bracket, pair, absolute, saturate, choice, start}
+use Rattle.dk_parser.specs.Grammar.{Tokens, Nonterminal, steps, Phrase, single, compared, prefixed, plain, chain, done, operand, suffixed, suffix, scaled, converted, closed, reading, constant, bracket, pair, absolute, saturate, choice, start}
 use Rattle.dk_parser.specs.Programs.{Source, Definition, ADefinition}
 use Rattle.dk_parser.specs.Rules.{InputRule, DefinitionRule, plain as plain', inlined}
 use Rattle.dk_parser.specs.Judged.{Derives}
@@ -98,7 +98,7 @@ behind (t ∷ own) rest s = behind own rest s.1
 rest_small : {V : Type 0} {P : Phrases Token V} {ts rest : Tokens} {v : V} → Clear P → P ts v rest → AreSmall ts → AreSmall rest
 rest_small {rest = rest} c p s = let o = c.own p in behind o.0 rest (subst AreSmall o.1 s)
 
-phrase_rest : {f : Form} {ts rest : Tokens} {e : Tree} → Phrase f ts e rest → AreSmall ts → AreSmall rest
+phrase_rest : {f : Nonterminal} {ts rest : Tokens} {e : Tree} → Phrase f ts e rest → AreSmall ts → AreSmall rest
 phrase_rest {rest = rest} p s = let i = local p in behind i.own rest (subst AreSmall i.whole s)
 
 -- Numbers of expressions.
@@ -139,11 +139,11 @@ suffix_numbers l m Step.Type t e h = by (terminal t) e
     by _ e = absurd (let other : ⊥ = cc in other)
 
 -- what an expression's first operand has
-abbrev FirstHas : Form → Type 0
+abbrev FirstHas : Nonterminal → Type 0
 FirstHas (steps n l) = HasNumbers l
 FirstHas _ = Unit {0}
 
-numbers : {f : Form} {ts rest : Tokens} {e : Tree} → Phrase f ts e rest → AreSmall ts → FirstHas f → HasNumbers e
+numbers : {f : Nonterminal} {ts rest : Tokens} {e : Tree} → Phrase f ts e rest → AreSmall ts → FirstHas f → HasNumbers e
 numbers (single p) s h = numbers p s tt
 numbers (compared p b q) s h = (numbers p s tt, numbers q (phrase_rest p s).1 tt)
 numbers (prefixed b p) s h = numbers p s.1 tt

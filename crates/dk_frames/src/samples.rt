@@ -7,7 +7,7 @@ use std::marker::Model;
 
 // The memory that samples are held in.
 #[derive(Debug, Drop)]
-enum Held {
+enum Store {
     U8(Vec<u8>),
     U16(Vec<u16>),
 }
@@ -36,16 +36,16 @@ impl SampleSlice<'_> {
 /// Samples in raster order: rows from top to bottom, each from left to right. They are held in one byte each, or in two.
 #[derive(Debug, Drop)]
 pub struct Samples {
-    held: Held,
+    store: Store,
 }
 
 impl Model for Samples {
     ghost use Rattle.std.specs.Prelude.{List, ℕ};
-    ghost use Rattle.dk_frames.specs.Held.{samples_held};
+    ghost use Rattle.dk_frames.specs.Store.{samples_in};
 
     ghost Value = { List ℕ };
 
-    ghost view = { λ s. samples_held s.held };
+    ghost view = { λ s. samples_in s.store };
 }
 
 impl Samples {
@@ -54,7 +54,7 @@ impl Samples {
         ensures { result ≡ samples.items }
     {
         Samples {
-            held: Held::U16(samples),
+            store: Store::U16(samples),
         }
     }
 
@@ -63,7 +63,7 @@ impl Samples {
         ensures { result ≡ samples.items }
     {
         Samples {
-            held: Held::U8(samples),
+            store: Store::U8(samples),
         }
     }
 
@@ -71,9 +71,9 @@ impl Samples {
     pub fn as_slice(&self) -> SampleSlice<'_>
         ensures { samples_of result ≡ self.now }
     {
-        match &self.held {
-            Held::U8(samples) => SampleSlice::U8(samples),
-            Held::U16(samples) => SampleSlice::U16(samples),
+        match &self.store {
+            Store::U8(samples) => SampleSlice::U8(samples),
+            Store::U16(samples) => SampleSlice::U16(samples),
         }
     }
 
@@ -82,9 +82,9 @@ impl Samples {
         requires { place < length self.now }
         ensures { result ≡ slice_index self.now place }
     {
-        match &self.held {
-            Held::U8(samples) => u16::from(samples[place]),
-            Held::U16(samples) => samples[place],
+        match &self.store {
+            Store::U8(samples) => u16::from(samples[place]),
+            Store::U16(samples) => samples[place],
         }
     }
 }

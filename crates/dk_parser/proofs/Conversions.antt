@@ -17,7 +17,7 @@ use Rattle.dk_parser.specs.Tree.{Tree, number, read, unary, binary, scale, cast,
 use Rattle.dk_parser.specs.Terminals.{terminal, terminal_of}
 use Rattle.dk_parser.specs.Words.{over, type_at, type_word}
 use Rattle.dk_parser.specs.Reads.{plain as unclamped', clamped}
-use Rattle.dk_parser.specs.Grammar.{Tokens, Form, steps, Phrase, single, compared, prefixed, plain, chain, done, operand, suffixed, suffix, scaled, converted, closed, reading, constant, bracket, pair, absolute, saturate, choice}
+use Rattle.dk_parser.specs.Grammar.{Tokens, Nonterminal, steps, Phrase, single, compared, prefixed, plain, chain, done, operand, suffixed, suffix, scaled, converted, closed, reading, constant, bracket, pair, absolute, saturate, choice}
 use Rattle.dk_parser.specs.Programs.{Source, Definition, ADefinition, AllConvertToTypes}
 use Rattle.dk_parser.specs.Rules.{DefinitionRule, plain as plain', inlined}
 use Rattle.dk_parser.specs.Judged.{Derives}
@@ -66,11 +66,11 @@ suffix_types l m Step.Type t e h = by (terminal t) refl e
     by _ is e = absurd (let other : ⊥ = cc in other)
 
 -- what an expression's first operand has
-abbrev FirstHas : Form → Type 0
+abbrev FirstHas : Nonterminal → Type 0
 FirstHas (steps n l) = ConvertsToTypes l
 FirstHas _ = Unit {0}
 
-types : {f : Form} {ts rest : Tokens} {e : Tree} → Phrase f ts e rest → FirstHas f → ConvertsToTypes e
+types : {f : Nonterminal} {ts rest : Tokens} {e : Tree} → Phrase f ts e rest → FirstHas f → ConvertsToTypes e
 types (single p) h = types p tt
 types (compared p b q) h = (types p tt, types q tt)
 types (prefixed b p) h = types p tt

@@ -9,7 +9,7 @@ use Rattle.dk_parser.specs.declared.tree.Start.TheVariants.{Nothing}
 use Rattle.dk_parser.specs.declared.tree.Binding.TheVariants.{Operator, Stops}
 use Rattle.dk_parser.specs.Tree.{Tree}
 use Rattle.dk_parser.specs.Terminals.{terminal}
-use Rattle.dk_parser.specs.Grammar.{Tokens, Closed, Form, Phrase, single, compared, prefixed, plain, chain, done, operand, suffixed, suffix, closed, reading, constant, bracket, pair, absolute, saturate, choice, binding, start}
+use Rattle.dk_parser.specs.Grammar.{Tokens, Closed, Nonterminal, Phrase, single, compared, prefixed, plain, chain, done, operand, suffixed, suffix, closed, reading, constant, bracket, pair, absolute, saturate, choice, binding, start}
 use Rattle.dk_parser.proofs.Laws.{joined, tail_is}
 use Rattle.dk_base.specs.declared.span.Span.{Span}
 use Rattle.dk_lexer.specs.declared.token.Symbol.TheVariants.{Open, Close, Comma}
@@ -134,7 +134,7 @@ free_reads (plain' p) = free_unclamped.free p
 free_reads {r = r} (clamped {edge = a} {clamp = b} p f g) = both _ _ _ (free_unclamped.free p) (one a _ r (λ e. cc (e, f)) (one b r r (λ e. cc (e, g)) (nothing r)))
 
 -- the end of the text is in no phrase
-front : {f : Form} {ts rest : Tokens} {e : Tree} → Phrase f ts e rest → Front ts rest
+front : {f : Nonterminal} {ts rest : Tokens} {e : Tree} → Phrase f ts e rest → Front ts rest
 front (single p) = front p
 front (compared {mid = m} {tok = t} p s q) = both _ _ _ (front p) (one t m _ (operator_free t _ _ s) (front q))
 front (prefixed {tok = t} u p) = one t _ _ (start_free t _ u (λ k. cc)) (front p)

@@ -14,10 +14,10 @@ use Rattle.dk_parser.specs.Front.{rank, bound}
 use Rattle.dk_parser.specs.Reads.{Reads}
 use Rattle.dk_parser.specs.Faults.{Opens}
 use Rattle.dk_parser.proofs.ReadLaws.{reads_own, reads_one, reads_first}
-use Rattle.dk_parser.specs.Grammar.{Tokens, Form, steps, primary, enclosed, Phrase, single, compared, prefixed, plain, chain, done, operand, suffixed, suffix, closed, reading, constant, bracket, pair, absolute, saturate, choice, binding, start}
+use Rattle.dk_parser.specs.Grammar.{Tokens, Nonterminal, steps, primary, enclosed, Phrase, single, compared, prefixed, plain, chain, done, operand, suffixed, suffix, closed, reading, constant, bracket, pair, absolute, saturate, choice, binding, start}
 
 -- A phrase is its own tokens, whatever follows.
-pub record Local (f : Form) (ts : Tokens) (e : Tree) (rest : Tokens) : Type 0 where
+pub record Local (f : Nonterminal) (ts : Tokens) (e : Tree) (rest : Tokens) : Type 0 where
   pub own : Tokens
   pub whole : ts ≡ own ++ rest
   pub again : (w : Tokens) → Phrase f (own ++ w) e w
@@ -26,7 +26,7 @@ pub record Local (f : Form) (ts : Tokens) (e : Tree) (rest : Tokens) : Type 0 wh
 pub joined : (a b c p q : Tokens) → a ≡ p ++ b → b ≡ q ++ c → a ≡ (p ++ q) ++ c
 joined a b c p q g h = g ∙ ap (λ x. p ++ x) h ∙ sym (append_assoc p q c)
 
-pub local : {f : Form} {ts rest : Tokens} {e : Tree} → Phrase f ts e rest → Local f ts e rest
+pub local : {f : Nonterminal} {ts rest : Tokens} {e : Tree} → Phrase f ts e rest → Local f ts e rest
 local (single p) = let i = local p in record { own = i.own; whole = i.whole; again = λ w. single (i.again w) }
 local (compared {tok = k} p s q) =
     let i = local p in
@@ -110,7 +110,7 @@ steps_first (suffixed s m q) h = rw s (omega arith)
 abbrev pub Same : Tree → Tokens → Tree → Tokens → Type 0
 Same e r e' r' = (e ≡ e') × (r ≡ r')
 
-abbrev pub moved : {f f' : Form} {ts ts' r : Tokens} {e : Tree} → f ≡ f' → ts ≡ ts' → Phrase f ts e r → Phrase f' ts' e r
+abbrev pub moved : {f f' : Nonterminal} {ts ts' r : Tokens} {e : Tree} → f ≡ f' → ts ≡ ts' → Phrase f ts e r → Phrase f' ts' e r
 moved {f = f} {ts' = v} {r = r} {e = e} a b p = subst (λ x. Phrase x v e r) a (subst (λ x. Phrase f x e r) b p)
 
 pub head_is : (a b : Token) (x y : Tokens) → a ∷ x ≡ b ∷ y → a ≡ b
@@ -153,7 +153,7 @@ not_prefixed {ts = ts} {tok = t} {o = o} u (reading p) = let f = reads_first p i
 pub not_read : {ts r r' : Tokens} {e e' : Tree} → Phrase enclosed ts e r → Reads ts e' r' → ⊥
 not_read p q = let f = enclosed_first p in let g = reads_first q in opens_here f.0 f.1 _ Image g.0 g.1 f.2 f.3 g.2 g.3
 
-pub unique : {f : Form} {ts r : Tokens} {e : Tree} → Phrase f ts e r → bound f < rank r
+pub unique : {f : Nonterminal} {ts r : Tokens} {e : Tree} → Phrase f ts e r → bound f < rank r
     → (e' : Tree) (r' : Tokens) → Phrase f ts e' r' → bound f < rank r' → Same e r e' r'
 unique (single p) h e' r' (single q) k = unique p (omega arith) e' r' q (omega arith)
 unique (single p) h e' r' (compared {mid = m} {l = l} {tok = t} q s u) k =

@@ -26,7 +26,7 @@ use Rattle.dk_parser.specs.Tree.{Tree, number, unary, binary, scale, cast, span_
 use Rattle.dk_parser.specs.Marks.{mark_terminal}
 use Rattle.dk_parser.specs.Terminals.{terminal}
 use Rattle.dk_parser.specs.Words.{over}
-use Rattle.dk_parser.specs.Grammar.{Tokens, Closed, Form, comparison, level, steps, primary, enclosed, Phrase, single, compared, prefixed, plain, chain, done, operand, suffixed, suffix, closed, constant, binding, start, scaled, converted}
+use Rattle.dk_parser.specs.Grammar.{Tokens, Closed, Nonterminal, comparison, level, steps, primary, enclosed, Phrase, single, compared, prefixed, plain, chain, done, operand, suffixed, suffix, closed, constant, binding, start, scaled, converted}
 use Rattle.dk_parser.specs.Front.{rank, bound}
 use Rattle.dk_parser.specs.Ahead.{IsAhead}
 use Rattle.dk_parser.specs.Faults.{Halts, Ends, Parsed, Suffix}
@@ -52,14 +52,14 @@ live_level zero w = let p = live_enclosed w in (p.0, p.1, plain (closed p.2))
 live_level (suc n) w = let p = live_level n w in (p.0, p.1, chain p.2 done)
 
 -- A phrase with nothing after it, with more after it.
-extend : {f : Form} {ts : Tokens} {e : Tree} → Phrase f ts e [] → (w : Tokens) → Phrase f (ts ++ w) e w
+extend : {f : Nonterminal} {ts : Tokens} {e : Tree} → Phrase f ts e [] → (w : Tokens) → Phrase f (ts ++ w) e w
 extend {f = f} {ts = ts} {e = e} p w =
     let i = local p in
     let h : ts ≡ i.own = i.whole ∙ append_nil i.own in
     subst (λ x. Phrase f (x ++ w) e w) (sym h) (i.again w)
 
 -- Where a phrase ends, whatever follows it.
-pub ends_there : {f : Form} {ts w r : Tokens} {e e' : Tree} → Phrase f ts e w → bound f < rank w → Phrase f ts e' r → bound f < rank r → w ≡ r
+pub ends_there : {f : Nonterminal} {ts w r : Tokens} {e e' : Tree} → Phrase f ts e w → bound f < rank w → Phrase f ts e' r → bound f < rank r → w ≡ r
 ends_there {r = r} {e' = e'} p h q k = (unique p h e' r q k).1
 
 mark_rank : (m : Mark) (t : Token) (r : Tokens) → binding (mark_terminal m) ≡ Stops → terminal t ≡ mark_terminal m → rank (t ∷ r) ≡ 10

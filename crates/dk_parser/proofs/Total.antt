@@ -29,7 +29,7 @@ use Rattle.dk_parser.specs.Marks.{mark_terminal}
 use Rattle.dk_parser.specs.Terminals.{terminal}
 use Rattle.dk_parser.specs.Words.{over, Sign}
 use Rattle.dk_parser.specs.Reads.{Unclamped, plain as unclamped'}
-use Rattle.dk_parser.specs.Grammar.{Tokens, Closed, Form, comparison, level, steps, primary, Phrase, done, operand, suffixed, suffix, closed, reading, binding, start}
+use Rattle.dk_parser.specs.Grammar.{Tokens, Closed, Nonterminal, comparison, level, steps, primary, Phrase, done, operand, suffixed, suffix, closed, reading, binding, start}
 use Rattle.dk_parser.specs.Front.{rank}
 use Rattle.dk_parser.specs.Faults.{Ends, Parsed, Inside, Opens}
 use Rattle.dk_parser.specs.Depth.{depth, too_deep, below, here, first}
@@ -47,14 +47,14 @@ use Rattle.dk_parser.proofs.LexedEnd.{ended_as}
 use Rattle.dk_parser.proofs.Readers.{Read, Reader, Decides, no_longer, then_reader, done_reader, mark_reader, front, name_reader, literal_reader, type_reader, is_open, is_close, is_comma, is_size, is_input, is_let, is_end_word, is_edge, is_clamp, unclamped, an_input, declared, header}
 
 -- a phrase of the form that nothing continues, or where the tokens are stuck
-abbrev Parse : Form → Tokens → Type 0
+abbrev Parse : Nonterminal → Tokens → Type 0
 Parse f ts = ((e : Tree) × (rest : Tokens) × Parsed f ts e rest) ⊎ ((at : Tokens) × Stuck (Ends f) ts at)
 
 -- the form is parsed in each list of fewer than n tokens
-abbrev Parses : Form → ℕ → Type 0
+abbrev Parses : Nonterminal → ℕ → Type 0
 Parses f n = (ts : Tokens) → length ts < n → Parse f ts
 
-shorter : {f : Form} {ts rest : Tokens} {e : Tree} → Phrase f ts e rest → length rest ≤ length ts
+shorter : {f : Nonterminal} {ts rest : Tokens} {e : Tree} → Phrase f ts e rest → length rest ≤ length ts
 shorter {rest = rest} p =
     let i = local p in
     let long : length (i.own ++ rest) ≡ length i.own + length rest = length-append i.own rest in

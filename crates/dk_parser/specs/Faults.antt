@@ -14,7 +14,7 @@ use Rattle.dk_parser.specs.declared.tree.Start.{Start}
 use Rattle.dk_parser.specs.declared.tree.Start.TheVariants.{Constant, Bracket, Pair, Absolute, Saturate, Choice}
 use Rattle.dk_parser.specs.Tree.{Tree, number, unary, binary, sat, select, at_span}
 use Rattle.dk_parser.specs.Words.{over, Sign, AType}
-use Rattle.dk_parser.specs.Grammar.{Tokens, Form, Phrase, Closed, suffix}
+use Rattle.dk_parser.specs.Grammar.{Tokens, Nonterminal, Phrase, Closed, suffix}
 use Rattle.dk_parser.specs.Front.{rank, bound}
 
 abbrev pub Halts : {V : Type 0} → Phrases Token V → Tokens → Halt → Type 0
@@ -22,10 +22,10 @@ Halts P ts (Faulty at) = Stuck P ts at.now
 Halts P ts OutOfMemory = Unit {0}
 
 -- a phrase of the form that what follows does not continue
-abbrev pub Ends : Form → Phrases Token Tree
+abbrev pub Ends : Nonterminal → Phrases Token Tree
 Ends f ts e rest = Phrase f ts e rest × (bound f < rank rest)
 
-pub record Parsed (f : Form) (ts : Tokens) (e : Tree) (rest : Tokens) : Type 0 where
+pub record Parsed (f : Nonterminal) (ts : Tokens) (e : Tree) (rest : Tokens) : Type 0 where
   pub phrase : Phrase f ts e rest
   pub ends : bound f < rank rest
   pub fewer : length rest ≤ length ts

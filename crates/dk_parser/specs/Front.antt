@@ -9,7 +9,7 @@ use Rattle.dk_parser.specs.declared.terminal.Terminal.TheVariants.{Keyword}
 use Rattle.dk_parser.specs.declared.tree.Binding.{Binding}
 use Rattle.dk_parser.specs.declared.tree.Binding.TheVariants.{Operator, Clamps, Stops}
 use Rattle.dk_parser.specs.Terminals.{terminal}
-use Rattle.dk_parser.specs.Grammar.{Tokens, Form, comparison, level, steps, primary, enclosed, binding, start}
+use Rattle.dk_parser.specs.Grammar.{Tokens, Nonterminal, comparison, level, steps, primary, enclosed, binding, start}
 
 pub record IsFront (ts : Tokens) (tok : Token) (kind : Terminal) (after : Tokens) : Type 0 where
   pub whole : ts ≡ tok ∷ after
@@ -27,7 +27,7 @@ rank [] = 10
 rank (t ∷ ts) = precedence (binding (terminal t))
 
 -- the tokens that continue a phrase of a form are of this level at most
-abbrev pub bound : Form → ℕ
+abbrev pub bound : Nonterminal → ℕ
 bound comparison = 9
 bound (level n) = suc n
 bound (steps n l) = suc (suc n)

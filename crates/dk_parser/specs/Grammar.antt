@@ -74,17 +74,17 @@ suffix l (Step.Operand o) word = None
 suffix l (Step.Number o) word = scaled l o word.span (terminal word)
 suffix l Step.Type word = converted l word.span (terminal word)
 
-pub data Form : Type 0 where
-  comparison : Form
-  level : ℕ → Form
-  steps : ℕ → Tree → Form
-  primary : Form
-  enclosed : Form
+pub data Nonterminal : Type 0 where
+  comparison : Nonterminal
+  level : ℕ → Nonterminal
+  steps : ℕ → Tree → Nonterminal
+  primary : Nonterminal
+  enclosed : Nonterminal
 
--- Phrase f ts e rest: the tokens ts begin with a phrase of the form f, its tree is e, and rest comes after it.
+-- Phrase f ts e rest: the tokens ts begin with a phrase of the nonterminal f, its tree is e, and rest comes after it.
 -- Level 0 has the unary operators, level n the operators of precedence n. Steps are what follows a first operand.
 -- Enclosed is a primary expression that is no read.
-pub data Phrase : Form → Tokens → Tree → Tokens → Type 0 where
+pub data Phrase : Nonterminal → Tokens → Tree → Tokens → Type 0 where
   single : {ts rest : Tokens} {e : Tree} → Phrase (level 7) ts e rest → Phrase comparison ts e rest
   compared : {ts mid rest : Tokens} {l r : Tree} {tok : Token} {o : Binary}
       → Phrase (level 7) ts l (tok ∷ mid) → binding (terminal tok) ≡ Operator 8 (Step.Operand o) → Phrase (level 7) mid r rest

@@ -9,7 +9,7 @@ use Rattle.dk_parser.specs.declared.built.Built.{Built}
 use Rattle.dk_parser.specs.declared.built.Built.TheVariants.{Whole, Deep}
 use Rattle.dk_parser.specs.declared.terminal.Mark.{Mark}
 use Rattle.dk_parser.specs.Tree.{Tree, tree_of}
-use Rattle.dk_parser.specs.Grammar.{Tokens, Form, Closed}
+use Rattle.dk_parser.specs.Grammar.{Tokens, Nonterminal, Closed}
 use Rattle.dk_parser.specs.Depth.{depth, below}
 use Rattle.dk_parser.specs.Faults.{Parsed}
 
@@ -18,7 +18,7 @@ abbrev pub Stands : Built → Tree → Type 0
 Stands (Whole x d) e = (tree_of x ≡ e) × (depth e ≡ d) × (d ≤ suc MAX_SOURCE_DEPTH)
 Stands (Deep s) e = below e ≡ Some s
 
-pub record Grown (f : Form) (ts : Tokens) (built : Built) (rest : Tokens) : Type 0 where
+pub record Grown (f : Nonterminal) (ts : Tokens) (built : Built) (rest : Tokens) : Type 0 where
   pub tree : Tree
   pub parsed : Parsed f ts tree rest
   pub stands : Stands built tree

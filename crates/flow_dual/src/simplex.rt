@@ -8,7 +8,7 @@ use raster_delay::{Constraint, System};
 use std::alloc::Global;
 
 // How many constraints are looked at before the one of them that is violated most enters the tree.
-const BLOCK: usize = 64;
+const PIVOT_GROUP: usize = 64;
 
 // How many exchanges are made at most: some twenty times as many as were ever seen. Without a bound it ends too, since no tree
 // comes twice, but nothing proved says so.
@@ -120,10 +120,10 @@ fn most_violated(
     found
 }
 
-// The constraint to enter the tree, of the first block with a violated one from a number on. The number is moved on.
+// The constraint to enter the tree, of the first group with a violated one from a number on. The number is moved on.
 fn entering(constraints: &[Constraint], potentials: &[i64], from: &mut usize) -> Option<usize> {
-    for _ in 0..constraints.len() / BLOCK + 2 {
-        let to = from.saturating_add(BLOCK).min(constraints.len());
+    for _ in 0..constraints.len() / PIVOT_GROUP + 2 {
+        let to = from.saturating_add(PIVOT_GROUP).min(constraints.len());
         let found = most_violated(constraints, potentials, *from, to);
         *from = if to < constraints.len() { to } else { 0 };
         if found.is_some() {

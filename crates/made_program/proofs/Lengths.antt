@@ -5,8 +5,8 @@ use Rattle.std.specs.List.{flat_map, range_with_len}
 use Rattle.std.proofs.lemmas.Fmt.{length-decimal-le}
 use Rattle.std.proofs.lemmas.Grind.{common_steps}
 use Rattle.std.proofs.lemmas.Nat.{mod_below}
-use Rattle.made_program.specs.declared.draws.Form.{Form}
-use Rattle.made_program.specs.declared.draws.Form.TheVariants.{Mean, Greater, Difference, Weighted}
+use Rattle.made_program.specs.declared.draws.BodyKind.{BodyKind}
+use Rattle.made_program.specs.declared.draws.BodyKind.TheVariants.{Mean, Greater, Difference, Weighted}
 use Rattle.made_program.specs.declared.draws.Offset.{Offset}
 use Rattle.made_program.specs.Draws.{next, drawn, made_even, after, draws_of}
 use Rattle.made_program.specs.Programs.{width_of, height_of, count_of, seed_of, step, name, read, body, opening, is_inline, definition_at, definitions, head_lines, output_line, program_of}
@@ -35,7 +35,7 @@ spelled a b c g h k = grind (arith, common_steps)
 read_length : (image : ℕ) (offset : Offset) → image < 100 → length (read image offset) ≤ 12
 read_length image offset l = spelled (name image) (step offset.dx) (step offset.dy) (name_length image l) (step_length offset.dx) (step_length offset.dy)
 
-body_length : (form : Form) (a b : List ℕ) → length a ≤ 12 → length b ≤ 12 → length (body form a b) ≤ 85
+body_length : (kind : BodyKind) (a b : List ℕ) → length a ≤ 12 → length b ≤ 12 → length (body kind a b) ≤ 85
 body_length Mean a b h k = grind (arith, common_steps)
 body_length Greater a b h k = grind (arith, common_steps)
 body_length Difference a b h k = grind (arith, common_steps)
@@ -55,9 +55,9 @@ source_below k s l = omega (arith, mod_below (next s / 8) k l)
 definition_length : (last s k : ℕ) → 0 < k → k < 100 → length (definition_at last s k) ≤ 115
 definition_length last s k l h =
     let d = draws_of k (after (7 * (k - 1)) s) in
-    defined (opening (is_inline k last d)) (name k) (body d.form (read (k - 1) d.reads.first) (read d.reads.source d.reads.second))
+    defined (opening (is_inline k last d)) (name k) (body d.kind (read (k - 1) d.reads.first) (read d.reads.source d.reads.second))
     (opening_length (is_inline k last d)) (name_length k h)
-    (body_length d.form (read (k - 1) d.reads.first) (read d.reads.source d.reads.second) (read_length (k - 1) d.reads.first (omega (arith, h)))
+    (body_length d.kind (read (k - 1) d.reads.first) (read d.reads.source d.reads.second) (read_length (k - 1) d.reads.first (omega (arith, h)))
     (read_length d.reads.source d.reads.second (omega (arith, source_below k (after 3 (after (7 * (k - 1)) s)) l, h))))
 
 definitions_length : (last s n a : ℕ) → 0 < a → a + n < 100 → length (flat_map (definition_at last s) (range_with_len a n)) ≤ 115 * n

@@ -1,7 +1,7 @@
 -- The numbers that are drawn, one after another.
 use Rattle.std.specs.Prelude.{ℕ, Bool, zero, suc, ◌+◌, ◌-◌, ◌*◌, ◌/◌, ◌%◌, ◌&&◌, nat_eq, if◌then◌else◌}
-use Rattle.made_program.specs.declared.draws.Form.{Form}
-use Rattle.made_program.specs.declared.draws.Form.TheVariants.{Mean, Greater, Difference, Weighted}
+use Rattle.made_program.specs.declared.draws.BodyKind.{BodyKind}
+use Rattle.made_program.specs.declared.draws.BodyKind.TheVariants.{Mean, Greater, Difference, Weighted}
 use Rattle.made_program.specs.declared.draws.Draws.{Draws}
 use Rattle.made_program.specs.declared.draws.Offset.{Offset}
 use Rattle.made_program.specs.declared.draws.Reads.{Reads}
@@ -23,9 +23,9 @@ after (suc count) state = after count (next state)
 abbrev pub made_even : ℕ → ℕ
 made_even number = number - number % 2
 
--- the form of a draw below 4
-abbrev pub form_of : ℕ → Form
-form_of number = if nat_eq number 0 then Mean else (if nat_eq number 1 then Greater else (if nat_eq number 2 then Difference else Weighted))
+-- the kind of a draw below 4
+abbrev pub kind_of : ℕ → BodyKind
+kind_of number = if nat_eq number 0 then Mean else (if nat_eq number 1 then Greater else (if nat_eq number 2 then Difference else Weighted))
 
 -- an offset, each part drawn 2 above itself
 abbrev pub offset_of : ℕ → Offset
@@ -39,6 +39,6 @@ reads_of k state = record { first = offset_of state; source = made_even (drawn k
 abbrev pub is_inlinable : (k mark : ℕ) → Bool
 is_inlinable k mark = nat_eq (k % 2) 1 && nat_eq mark 0
 
--- the draws of image k, seven whatever the image uses: one for the form, five for the reads, one for the mark
+-- the draws of image k, seven whatever the image uses: one for the kind, five for the reads, one for the mark
 abbrev pub draws_of : (k state : ℕ) → Draws
-draws_of k state = record { form = form_of (drawn 4 state); reads = reads_of k (after 1 state); inlinable = is_inlinable k (drawn 4 (after 6 state)) }
+draws_of k state = record { kind = kind_of (drawn 4 state); reads = reads_of k (after 1 state); inlinable = is_inlinable k (drawn 4 (after 6 state)) }

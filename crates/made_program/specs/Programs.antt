@@ -2,8 +2,8 @@
 use Rattle.std.specs.Prelude.{ℕ, Bool, zero, suc, ◌+◌, ◌-◌, ◌*◌, ◌/◌, ◌%◌, ◌&&◌, nat_eq, nat_lt, if◌then◌else◌, List, [], ◌++◌, codes}
 use Rattle.std.specs.List.{flat_map, range_with_len}
 use Rattle.std.specs.Fmt.{decimal}
-use Rattle.made_program.specs.declared.draws.Form.{Form}
-use Rattle.made_program.specs.declared.draws.Form.TheVariants.{Mean, Greater, Difference, Weighted}
+use Rattle.made_program.specs.declared.draws.BodyKind.{BodyKind}
+use Rattle.made_program.specs.declared.draws.BodyKind.TheVariants.{Mean, Greater, Difference, Weighted}
 use Rattle.made_program.specs.declared.draws.Draws.{Draws}
 use Rattle.made_program.specs.declared.draws.Offset.{Offset}
 use Rattle.made_program.specs.Draws.{draws_of, after}
@@ -37,8 +37,8 @@ name (suc k) = codes "i" ++ decimal (suc k)
 abbrev pub read : (image : ℕ) → Offset → List ℕ
 read image offset = name image ++ (codes "(x" ++ (step offset.dx ++ (codes ",y" ++ (step offset.dy ++ codes ")"))))
 
--- the body of a form over two reads
-abbrev pub body : Form → (first second : List ℕ) → List ℕ
+-- the body of a kind over two reads
+abbrev pub body : BodyKind → (first second : List ℕ) → List ℕ
 body Mean first second = codes "((" ++ (first ++ (codes "+" ++ (second ++ codes ")/2) as u8")))
 body Greater first second = codes "max(" ++ (first ++ (codes "," ++ (second ++ codes ")")))
 body Difference first second = codes "abs(" ++ (first ++ (codes "-" ++ (second ++ codes ") as u8")))
@@ -55,7 +55,7 @@ opening inline = if inline then codes "inline let " else codes "let "
 -- the definition of image k with these draws: it reads the image before it, and the source
 abbrev pub definition : (k last : ℕ) → Draws → List ℕ
 definition k last d =
-    opening (is_inline k last d) ++ (name k ++ (codes " = im(x,y) " ++ (body d.form (read (k - 1) d.reads.first) (read d.reads.source d.reads.second) ++ codes " end\n")))
+    opening (is_inline k last d) ++ (name k ++ (codes " = im(x,y) " ++ (body d.kind (read (k - 1) d.reads.first) (read d.reads.source d.reads.second) ++ codes " end\n")))
 
 -- the definition of image k of a program: seven numbers were drawn for each image before it
 abbrev pub definition_at : (last state k : ℕ) → List ℕ

@@ -43,7 +43,7 @@ fn push_definition(
     push_opening(to, tells_inline(k, last, draws))?;
     push_name(to, k)?;
     to.extend_from_slice(b" = im(x,y) ")?;
-    push_body(to, draws.form, &first, &second)?;
+    push_body(to, draws.kind, &first, &second)?;
     to.extend_from_slice(b" end\n")?;
     Ok(())
 }

@@ -1,11 +1,11 @@
 // The numbers that are drawn.
 
 ghost use Rattle.std.specs.Prelude.{◌≡◌, ◌<◌};
-ghost use Rattle.made_program.specs.Draws.{next, drawn, after, made_even, form_of, offset_of, reads_of, is_inlinable, draws_of};
+ghost use Rattle.made_program.specs.Draws.{next, drawn, after, made_even, kind_of, offset_of, reads_of, is_inlinable, draws_of};
 
 // What a definition makes of its two reads.
 #[derive(Clone, Copy)]
-pub(crate) enum Form {
+pub(crate) enum BodyKind {
     // Half their sum.
     Mean,
     // The greater one.
@@ -36,7 +36,7 @@ pub(crate) struct Reads {
 // What is drawn for an image.
 #[derive(Clone, Copy)]
 pub(crate) struct Draws {
-    pub(crate) form: Form,
+    pub(crate) kind: BodyKind,
     pub(crate) reads: Reads,
     // The image may be inline.
     pub(crate) inlinable: bool,
@@ -54,16 +54,16 @@ pub(crate) fn draw(state: &mut u16, most: u32) -> u32
     next / 8 % most
 }
 
-// Draws a form.
-fn draw_form(state: &mut u16) -> Form
-    ensures form { result ≡ form_of (drawn 4 state.old) }
+// Draws a kind.
+fn draw_kind(state: &mut u16) -> BodyKind
+    ensures kind { result ≡ kind_of (drawn 4 state.old) }
     ensures state { state.new ≡ next state.old }
 {
     match draw(state, 4) {
-        0 => Form::Mean,
-        1 => Form::Greater,
-        2 => Form::Difference,
-        _ => Form::Weighted,
+        0 => BodyKind::Mean,
+        1 => BodyKind::Greater,
+        2 => BodyKind::Difference,
+        _ => BodyKind::Weighted,
     }
 }
 
@@ -121,11 +121,11 @@ pub(crate) fn draw_image(state: &mut u16, k: u32) -> Draws
     ensures before { result.reads.source < k }
     ensures state { state.new ≡ after 7 state.old }
 {
-    let form = draw_form(state);
+    let kind = draw_kind(state);
     let reads = draw_reads(state, k);
     let inlinable = draw_mark(state, k);
     Draws {
-        form,
+        kind,
         reads,
         inlinable,
     }

@@ -1,10 +1,10 @@
 // The parts of a definition: numbers, names, reads and bodies.
 
 ghost use Rattle.std.specs.Prelude.{◌≡◌, ◌++◌, OnOk, IfOk, decimal, codes};
-ghost use Rattle.made_program.specs.declared.draws.Form.TheVariants as form;
+ghost use Rattle.made_program.specs.declared.draws.BodyKind.TheVariants as kind;
 ghost use Rattle.made_program.specs.Programs.{step, name, read, body};
 
-use crate::draws::{Form, Offset};
+use crate::draws::{BodyKind, Offset};
 use dk_base::OutOfMemory;
 use itoa::Buffer;
 use std::alloc::Global;
@@ -58,7 +58,7 @@ pub(crate) fn read(alloc: Global, image: u32, offset: Offset) -> Result<Vec<u8>,
 }
 
 fn push_mean(to: &mut Vec<u8>, first: &[u8], second: &[u8]) -> Result<(), OutOfMemory>
-    ensures { OnOk result (to.new.items ≡ to.old.items ++ body form.Mean first.now second.now) }
+    ensures { OnOk result (to.new.items ≡ to.old.items ++ body kind.Mean first.now second.now) }
 {
     to.extend_from_slice(b"((")?;
     to.extend_from_slice(first)?;
@@ -69,7 +69,7 @@ fn push_mean(to: &mut Vec<u8>, first: &[u8], second: &[u8]) -> Result<(), OutOfM
 }
 
 fn push_greater(to: &mut Vec<u8>, first: &[u8], second: &[u8]) -> Result<(), OutOfMemory>
-    ensures { OnOk result (to.new.items ≡ to.old.items ++ body form.Greater first.now second.now) }
+    ensures { OnOk result (to.new.items ≡ to.old.items ++ body kind.Greater first.now second.now) }
 {
     to.extend_from_slice(b"max(")?;
     to.extend_from_slice(first)?;
@@ -80,7 +80,7 @@ fn push_greater(to: &mut Vec<u8>, first: &[u8], second: &[u8]) -> Result<(), Out
 }
 
 fn push_difference(to: &mut Vec<u8>, first: &[u8], second: &[u8]) -> Result<(), OutOfMemory>
-    ensures { OnOk result (to.new.items ≡ to.old.items ++ body form.Difference first.now second.now) }
+    ensures { OnOk result (to.new.items ≡ to.old.items ++ body kind.Difference first.now second.now) }
 {
     to.extend_from_slice(b"abs(")?;
     to.extend_from_slice(first)?;
@@ -116,26 +116,26 @@ fn push_quarter(to: &mut Vec<u8>, first: &[u8], second: &[u8]) -> Result<(), Out
 }
 
 fn push_weighted(to: &mut Vec<u8>, first: &[u8], second: &[u8]) -> Result<(), OutOfMemory>
-    ensures { OnOk result (to.new.items ≡ to.old.items ++ body form.Weighted first.now second.now) }
+    ensures { OnOk result (to.new.items ≡ to.old.items ++ body kind.Weighted first.now second.now) }
 {
     push_choice(to, first, second)?;
     push_quarter(to, first, second)?;
     Ok(())
 }
 
-// Adds the body of a form over two reads.
+// Adds the body of a kind over two reads.
 pub(crate) fn push_body(
     to: &mut Vec<u8>,
-    form: Form,
+    kind: BodyKind,
     first: &[u8],
     second: &[u8],
 ) -> Result<(), OutOfMemory>
-    ensures { OnOk result (to.new.items ≡ to.old.items ++ body form first.now second.now) }
+    ensures { OnOk result (to.new.items ≡ to.old.items ++ body kind first.now second.now) }
 {
-    match form {
-        Form::Mean => push_mean(to, first, second),
-        Form::Greater => push_greater(to, first, second),
-        Form::Difference => push_difference(to, first, second),
-        Form::Weighted => push_weighted(to, first, second),
+    match kind {
+        BodyKind::Mean => push_mean(to, first, second),
+        BodyKind::Greater => push_greater(to, first, second),
+        BodyKind::Difference => push_difference(to, first, second),
+        BodyKind::Weighted => push_weighted(to, first, second),
     }
 }

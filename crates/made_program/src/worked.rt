@@ -28,7 +28,7 @@ pub fn made_of_three()
     ensures line { summary 3 1 1 8 0 0 ≡ codes "make 3: size 4 1 images 1 reads 1 bits 8 latency 0 sum 0\n" }
 {}
 
-/// A law: the program and the image file of a number with six definitions, which have each form, and one of which is inline.
+/// A law: the program and the image file of a number with six definitions, which have each kind, and one of which is inline.
 pub fn made_of_six_definitions()
     ensures program { program_of 327686
         ≡ codes "size 7 1\ninput a : u8\nlet i1 = im(x,y) abs(a(x+2,y+2)-a(x-2,y+2)) as u8 end\nlet i2 = im(x,y) select(i1(x-2,y-2)<a(x+2,y-1),i1(x-2,y-2),(i1(x-2,y-2)*3+a(x+2,y-1))>>2) as u8 end\nlet i3 = im(x,y) max(i2(x,y+2),i2(x-1,y-1)) end\nlet i4 = im(x,y) max(i3(x+2,y-2),i2(x,y-2)) end\ninline let i5 = im(x,y) max(i4(x-2,y),i4(x-2,y+1)) end\nlet i6 = im(x,y) ((i5(x+2,y-2)+a(x,y-1))/2) as u8 end\noutput i6\n" }

@@ -9,7 +9,7 @@ use Rattle.pgm_codec.specs.declared.reading.Reading.{Reading}
 use Rattle.dk_base.specs.Ascii.{is_white, is_digit, value_of}
 use Rattle.pgm_codec.specs.Headers.{is_line_end, IsInLine, Filling, none, white, comment, AreDigits, IsNumeral, Field, Fields, last, field, HeaderText}
 use Rattle.pgm_codec.specs.Scans.{reading}
-use Rattle.pgm_codec.specs.Machine.{start, step, run, digit_after, finished}
+use Rattle.pgm_codec.specs.Automaton.{start, step, run, digit_after, finished}
 use Rattle.pgm_codec.proofs.ByteTests.{is_hash, is_letter, is_five}
 
 -- the numbers after this one

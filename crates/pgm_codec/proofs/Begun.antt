@@ -1,4 +1,4 @@
--- What begins a header is what the machine has not given up.
+-- What begins a header is what the automaton has not given up.
 use Rattle.std.proofs.Common.{◌≡◌, ◌∙◌, sym, ap, refl, subst, [], ◌∷◌, ◌++◌, List, ℕ, ◌+◌, ◌-◌, Bool, true, false, arith, length}
 use Rattle.std.specs.Prelude.{nat_eq, if◌then◌else◌}
 use Rattle.pgm_codec.specs.declared.reading.Stage.{Stage}
@@ -9,7 +9,7 @@ use Rattle.pgm_codec.specs.declared.reading.Reading.{Reading}
 use Rattle.dk_base.specs.Ascii.{is_white, is_digit}
 use Rattle.pgm_codec.specs.Headers.{is_line_end}
 use Rattle.pgm_codec.specs.Scans.{reading}
-use Rattle.pgm_codec.specs.Machine.{start, step, step_at, run, digit_after, finished}
+use Rattle.pgm_codec.specs.Automaton.{start, step, step_at, run, digit_after, finished}
 use Rattle.pgm_codec.specs.Answers.{Whole as IsWhole, Begins, Inside}
 use Rattle.pgm_codec.proofs.Forward.{whole, run_append}
 use Rattle.pgm_codec.proofs.Backward.{text_of}

@@ -4,7 +4,7 @@ use Rattle.std.proofs.lemmas.Bool.Decides.{nat_tests}
 use Rattle.std.specs.Prelude.{nat_eq}
 use Rattle.dk_base.specs.Ascii.{is_white, is_digit}
 use Rattle.pgm_codec.specs.Headers.{capped}
-use Rattle.pgm_codec.specs.Machine.{digit_after}
+use Rattle.pgm_codec.specs.Automaton.{digit_after}
 
 pub digit_not_white : (b : ℕ) → is_digit b ≡ true → is_white b ≡ false
 digit_not_white b d = grind (arith, nat_tests)

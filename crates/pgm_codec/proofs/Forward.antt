@@ -8,7 +8,7 @@ use Rattle.pgm_codec.specs.declared.reading.Reading.{Reading}
 use Rattle.dk_base.specs.Ascii.{is_white, value_after, value_of}
 use Rattle.pgm_codec.specs.Headers.{IsInLine, Filling, none, white, comment, IsGap, AreDigits, IsNumeral, Field, Fields, last, field, HeaderText, capped}
 use Rattle.pgm_codec.specs.Scans.{reading}
-use Rattle.pgm_codec.specs.Machine.{start, step, run, digit_after}
+use Rattle.pgm_codec.specs.Automaton.{start, step, run, digit_after}
 use Rattle.pgm_codec.proofs.ByteTests.{capped_digit, digit_capped}
 use Rattle.pgm_codec.proofs.Steps.{in_line, line_ends, still_filled, gap_begins, number_begins, digit_more, number_ends}
 
@@ -49,7 +49,7 @@ through_filling (comment e line {more = rest} {bytes = bytes} i is f parts) more
     ∙ through_filling f more k w h v p (n + 1 + length line + 1)
     ∙ at_count Filled k w h v p (n + 1 + length line + 1 + length rest) (n + suc (length bytes)) more (comment_count n e bytes line rest parts)
 
--- the machine's number of digits
+-- the automaton's number of digits
 abbrev pub digits_on : ℕ → List ℕ → ℕ
 digits_on v [] = v
 digits_on v (d ∷ ds) = digits_on (digit_after v d) ds

@@ -1,4 +1,4 @@
--- Where in a header bytes end is where the machine is after them.
+-- Where in a header bytes end is where the automaton is after them.
 use Rattle.std.proofs.Common.{◌≡◌, ◌∙◌, sym, ap, refl, subst, [], ◌∷◌, ◌++◌, List, ℕ, suc, ◌+◌, ◌*◌, ◌-◌, ◌<◌, Bool, true, false, arith, length, append_assoc, length-append, append-nil}
 use Rattle.std.specs.Prelude.{nat_eq, nat_lt, ◌||◌, if◌then◌else◌}
 use Rattle.dk_base.specs.declared.TheConstants.{MAX_MAXVAL}
@@ -13,13 +13,13 @@ use Rattle.pgm_codec.specs.declared.scan.Scan.TheVariants.{More, Done, Fault}
 use Rattle.dk_base.specs.Ascii.{is_white, is_digit, value_after, value_of}
 use Rattle.pgm_codec.specs.Headers.{is_line_end, IsInLine, Filling, none, white, comment, IsGap, AreDigits, IsNumeral, Field, capped}
 use Rattle.pgm_codec.specs.Scans.{IsFront, reading, after_numbers, in_number, IsPlace, nothing, letter, magic, in_gap, in_comment, in_digits}
-use Rattle.pgm_codec.specs.Machine.{start, step, run, finished, digit_after, verdict_at}
+use Rattle.pgm_codec.specs.Automaton.{start, step, run, finished, digit_after, verdict_at}
 use Rattle.pgm_codec.proofs.ByteTests.{capped_digit, digit_capped, is_hash, is_letter, is_five}
 use Rattle.pgm_codec.proofs.Steps.{gap_begins}
 use Rattle.pgm_codec.proofs.Forward.{run_append, through_comment, through_filling, from_gap, opened, behind_width, behind_height}
 use Rattle.pgm_codec.proofs.Begun.{Live}
 
--- ---- the machine after a front
+-- ---- the automaton after a front
 
 -- after the last digit of these numbers, or after `P5`
 abbrev state : List Field → ℕ → Reading

@@ -7,7 +7,7 @@ use Rattle.pgm_codec.specs.declared.header.HeaderFault.{HeaderFault}
 use Rattle.pgm_codec.specs.declared.scan.HeaderScan.{HeaderScan}
 use Rattle.pgm_codec.specs.declared.scan.Scan.{Scan}
 use Rattle.pgm_codec.specs.declared.scan.Scan.TheVariants.{More, Done, Fault}
-use Rattle.pgm_codec.specs.Machine.{start, step, run, verdict, fault_at}
+use Rattle.pgm_codec.specs.Automaton.{start, step, run, verdict, fault_at}
 use Rattle.pgm_codec.specs.Answers.{Answers, Refuses}
 use Rattle.pgm_codec.specs.Scans.{IsPlace, Scanned, told}
 use Rattle.pgm_codec.proofs.Verdicts.{verdict_answers, ends_here}

@@ -5,7 +5,7 @@ use Rattle.pgm_codec.specs.declared.reading.Number.{Number}
 use Rattle.dk_base.specs.Ascii.{is_white, is_digit}
 use Rattle.pgm_codec.specs.Headers.{is_line_end}
 use Rattle.pgm_codec.specs.Scans.{reading}
-use Rattle.pgm_codec.specs.Machine.{step, digit_after, finished}
+use Rattle.pgm_codec.specs.Automaton.{step, digit_after, finished}
 use Rattle.pgm_codec.proofs.ByteTests.{digit_not_white, digit_not_hash, white_not_digit}
 
 pub in_line : (k : Number) (w h v p n b : ℕ) → is_line_end b ≡ false → step (reading Comment k w h v p n) b ≡ reading Comment k w h v p (n + 1)

@@ -10,7 +10,7 @@ use Rattle.pgm_codec.specs.declared.header.HeaderFault.{HeaderFault}
 use Rattle.pgm_codec.specs.declared.header.HeaderFault.TheVariants.{Magic, LongHeader, Number, Range}
 use Rattle.pgm_codec.specs.Headers.{IsHeader, capped}
 use Rattle.pgm_codec.specs.Scans.{reading}
-use Rattle.pgm_codec.specs.Machine.{start, run}
+use Rattle.pgm_codec.specs.Automaton.{start, run}
 use Rattle.pgm_codec.specs.Answers.{Whole, Begins, Inside, HasMagic, Reads, OutOfRange, TooLong, StopsAt, Refuses, Judges}
 use Rattle.pgm_codec.proofs.Forward.{whole}
 use Rattle.pgm_codec.proofs.Begun.{stage_of, whole_stage, begins_not_lost, whole_then_lost}

@@ -1,4 +1,4 @@
--- What the machine answers is what the definition says.
+-- What the automaton answers is what the definition says.
 use Rattle.std.proofs.Common.{◌≡◌, ◌∙◌, sym, ap, refl, subst, [], ◌∷◌, ◌++◌, List, ℕ, ◌+◌, ◌<◌, ◌≤◌, Bool, true, false, arith, length, length-append, append-nil, ◌⊎◌, inl, inr}
 use Rattle.std.specs.Prelude.{nat_eq, nat_lt, ◌||◌, if◌then◌else◌}
 use Rattle.std.proofs.Math.Seq.{take-append_seam}
@@ -9,7 +9,7 @@ use Rattle.pgm_codec.specs.declared.reading.Stage.TheVariants as stages
 use Rattle.pgm_codec.specs.declared.header.HeaderFault.TheVariants.{Magic, LongHeader, Number, Range}
 use Rattle.pgm_codec.specs.declared.scan.Scan.TheVariants.{More, Done, Fault}
 use Rattle.pgm_codec.specs.Headers.{Field, HeaderText, capped}
-use Rattle.pgm_codec.specs.Machine.{start, step, run, verdict, verdict_at, going, ranged, fault_at}
+use Rattle.pgm_codec.specs.Automaton.{start, step, run, verdict, verdict_at, going, ranged, fault_at}
 use Rattle.pgm_codec.specs.Answers.{Whole, Begins, Inside, HasMagic, Reads, OutOfRange, TooLong, StopsAt, Refuses, Undecided, Answers}
 use Rattle.pgm_codec.proofs.Forward.{whole, run_append}
 use Rattle.pgm_codec.proofs.Backward.{text_of}

@@ -2,6 +2,6 @@ pub mod Headers
 pub mod Images
 pub mod Answers
 pub mod Scans
-pub mod Machine
+pub mod Automaton
 pub mod Rasters
 pub mod Rounds

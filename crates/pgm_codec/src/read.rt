@@ -6,7 +6,7 @@ ghost use Rattle.pgm_codec.specs.declared.header.Header.{Header as TheHeader};
 ghost use Rattle.pgm_codec.specs.declared.header.HeaderFault.{HeaderFault as TheFault};
 ghost use Rattle.pgm_codec.specs.Answers.{Answers, Judges, Refuses};
 ghost use Rattle.pgm_codec.specs.Scans.{Scanned, told};
-ghost use Rattle.pgm_codec.specs.Machine.{verdict, ranged as ranged_of, fault_at as fault_of};
+ghost use Rattle.pgm_codec.specs.Automaton.{verdict, ranged as ranged_of, fault_at as fault_of};
 
 use crate::header::{Header, HeaderFault};
 use crate::reading::{Reading, Stage};

@@ -4,7 +4,7 @@ ghost use Rattle.std.specs.Prelude.{◌≡◌, ◌<◌, IsTrue, if◌then◌else
 ghost use Rattle.dk_base.specs.declared.TheConstants.{MAX_HEADER_BYTES};
 ghost use Rattle.dk_base.specs.Ascii.{is_white as white, is_digit as digit};
 ghost use Rattle.pgm_codec.specs.Headers.{is_line_end as line_end};
-ghost use Rattle.pgm_codec.specs.Machine.{start, lost as lost_of, moved as moved_to, finished as finished_at, in_filling as filling_step, in_digits as digits_step, step as step_of};
+ghost use Rattle.pgm_codec.specs.Automaton.{start, lost as lost_of, moved as moved_to, finished as finished_at, in_filling as filling_step, in_digits as digits_step, step as step_of};
 
 use dk_base::{is_digit, is_white};
 
@@ -62,7 +62,7 @@ fn is_line_end(byte: u8) -> bool
 #[tactic(auto, unfolding(crate::specs::Headers::capped))]
 fn digit_after(value: u32, byte: u8) -> u32
     requires { IsTrue (digit byte) }
-    ensures { result ≡ Rattle.pgm_codec.specs.Machine.digit_after value byte }
+    ensures { result ≡ Rattle.pgm_codec.specs.Automaton.digit_after value byte }
 {
     value
         .saturating_mul(10)

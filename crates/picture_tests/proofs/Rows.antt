@@ -4,7 +4,7 @@ use Rattle.pgm_codec.specs.declared.header.Header.{Header}
 use Rattle.pgm_codec.specs.declared.header.HeaderFault.{HeaderFault}
 use Rattle.pgm_codec.specs.declared.scan.Scan.TheVariants.{Done, Fault}
 use Rattle.pgm_codec.specs.Answers.{Answers, Reads, Refuses, Undecided}
-use Rattle.pgm_codec.specs.Machine.{start, run, step, verdict, fault_at}
+use Rattle.pgm_codec.specs.Automaton.{start, run, step, verdict, fault_at}
 use Rattle.pgm_codec.proofs.Begun.{Live, stage_of, live_inside}
 use Rattle.pgm_codec.proofs.Verdicts.{verdict_answers, ends_here}
 use Rattle.pgm_codec.proofs.Stays.{reads_more, stays}

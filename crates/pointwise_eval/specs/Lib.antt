@@ -3,5 +3,5 @@ pub mod Rounds
 pub mod Needs
 pub mod Narrow
 pub mod Steps
-pub mod Held
+pub mod ElementKinds
 pub mod Ranges

@@ -302,7 +302,7 @@ pub fn fits<L: Element>(e: &Expr, inputs: &[Input], images: &[Definition]) -> bo
     requires { All IsType (all_types inputs.now images.now) }
     ensures { IsTrue result → ArePartsOf (all_types inputs.now images.now) (tree_of e.now) L.ty }
 {
-    match range_of(e, inputs, images, L::held()) {
+    match range_of(e, inputs, images, L::element_type()) {
         Some(_) => true,
         None => false,
     }

@@ -12,7 +12,7 @@ ghost use Rattle.pointwise_ir.specs.Programs.{all_types};
 ghost use Rattle.pointwise_ir.specs.Meaning.{value};
 ghost use Rattle.pointwise_eval.specs.Narrow.{ArePartsIn, AreAllIn};
 ghost use Rattle.pointwise_eval.specs.Planes.{values_of, shown, all_shown, HasRows, AreValues, CanEvaluate};
-ghost use Rattle.pointwise_eval.specs.Held.{HoldsAll};
+ghost use Rattle.pointwise_eval.specs.ElementKinds.{HoldsAll};
 
 use crate::narrow::{narrow_type, reads_rows};
 use crate::plane::Plane;
@@ -120,9 +120,9 @@ fn render_elements<L: Element, T: Element>(
     Ok(elements)
 }
 
-// The elements that an image is held as.
+// The kind of the elements that an image is stored as.
 #[derive(Clone, Copy)]
-enum Held {
+enum ElementKind {
     Unsigned8,
     Unsigned16,
     Unsigned32,
@@ -134,21 +134,21 @@ enum Held {
 
 // The elements of fewest bytes that hold the type's numbers.
 #[tactic(auto, using(crate::proofs::Pixels::unsigned_within, crate::proofs::Pixels::signed_within))]
-fn held_as(ty: Ty) -> Held
+fn kind_of(ty: Ty) -> ElementKind
     ensures { HoldsAll result ty }
 {
     match ty {
         Ty::Unsigned(width) => match width {
-            0..=8 => Held::Unsigned8,
-            9..=16 => Held::Unsigned16,
-            17..=32 => Held::Unsigned32,
-            _ => Held::Signed64,
+            0..=8 => ElementKind::Unsigned8,
+            9..=16 => ElementKind::Unsigned16,
+            17..=32 => ElementKind::Unsigned32,
+            _ => ElementKind::Signed64,
         },
         Ty::Signed(width) => match width {
-            0..=8 => Held::Signed8,
-            9..=16 => Held::Signed16,
-            17..=32 => Held::Signed32,
-            _ => Held::Signed64,
+            0..=8 => ElementKind::Signed8,
+            9..=16 => ElementKind::Signed16,
+            17..=32 => ElementKind::Signed32,
+            _ => ElementKind::Signed64,
         },
     }
 }
@@ -170,15 +170,15 @@ fn render_rows<'a, L: Element>(
     ensures value { IfOk result (λ p. shown (size_of size) (values_of p)
         ≡ framed (size_of size) (value (size_of size) (all_shown (size_of size) planes.now) (tree_of e.now))) }
 {
-    let _held = L::held();
-    match held_as(ty) {
-        Held::Unsigned8 => Ok(Plane::Unsigned8(render_elements::<L, _>(alloc, size, planes, e)?)),
-        Held::Unsigned16 => Ok(Plane::Unsigned16(render_elements::<L, _>(alloc, size, planes, e)?)),
-        Held::Unsigned32 => Ok(Plane::Unsigned32(render_elements::<L, _>(alloc, size, planes, e)?)),
-        Held::Signed8 => Ok(Plane::Signed8(render_elements::<L, _>(alloc, size, planes, e)?)),
-        Held::Signed16 => Ok(Plane::Signed16(render_elements::<L, _>(alloc, size, planes, e)?)),
-        Held::Signed32 => Ok(Plane::Signed32(render_elements::<L, _>(alloc, size, planes, e)?)),
-        Held::Signed64 => Ok(Plane::Signed64(render_elements::<L, _>(alloc, size, planes, e)?)),
+    let _type = L::element_type();
+    match kind_of(ty) {
+        ElementKind::Unsigned8 => Ok(Plane::Unsigned8(render_elements::<L, _>(alloc, size, planes, e)?)),
+        ElementKind::Unsigned16 => Ok(Plane::Unsigned16(render_elements::<L, _>(alloc, size, planes, e)?)),
+        ElementKind::Unsigned32 => Ok(Plane::Unsigned32(render_elements::<L, _>(alloc, size, planes, e)?)),
+        ElementKind::Signed8 => Ok(Plane::Signed8(render_elements::<L, _>(alloc, size, planes, e)?)),
+        ElementKind::Signed16 => Ok(Plane::Signed16(render_elements::<L, _>(alloc, size, planes, e)?)),
+        ElementKind::Signed32 => Ok(Plane::Signed32(render_elements::<L, _>(alloc, size, planes, e)?)),
+        ElementKind::Signed64 => Ok(Plane::Signed64(render_elements::<L, _>(alloc, size, planes, e)?)),
     }
 }
 

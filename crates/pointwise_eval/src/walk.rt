@@ -140,7 +140,7 @@ fn constant_row<L: Element>(value: i128, to: &mut [L])
     requires { IsIn L.ty value }
     ensures { (x : ℕ) → x < length to.old → entry (map L.worth to.new) x ≡ value }
 {
-    let _held = L::held();
+    let _type = L::element_type();
     fill_part(to, 0, to.len(), narrow(value));
 }
 

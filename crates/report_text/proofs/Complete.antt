@@ -18,7 +18,7 @@ use Rattle.report_text.proofs.ImageLines.{is_within, image_again}
 use Rattle.report_text.proofs.Orders.{Decides-line}
 use Rattle.report_text.proofs.FlowLines.{flow_again}
 use Rattle.report_text.proofs.Words.{some_image, same_not}
-use Rattle.report_text.proofs.Machine.{ending, from_flow, from_reads, from_clocks, from_latencies, from_images, from_size, IsLater}
+use Rattle.report_text.proofs.Automaton.{ending, from_flow, from_reads, from_clocks, from_latencies, from_images, from_size, IsLater}
 
 -- whatever their first number is, these lines and the end of the text are read as the report
 abbrev pub AreRead : Stage → Report → List (List ℕ) → Report → Type 0

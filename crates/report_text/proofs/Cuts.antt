@@ -18,7 +18,7 @@ use Rattle.report_text.proofs.Fields.{Passes, decimal_passes}
 use Rattle.report_text.proofs.Offsets.{pos_small, neg_small}
 use Rattle.report_text.proofs.Words.{all_pass, name_passes}
 use Rattle.report_text.proofs.FlowLines.{named}
-use Rattle.report_text.proofs.Machine.{from_flow, from_clocks, from_latencies, from_images, from_size}
+use Rattle.report_text.proofs.Automaton.{from_flow, from_clocks, from_latencies, from_images, from_size}
 
 -- bytes other than LF
 abbrev pub is_plain : ℕ → Bool

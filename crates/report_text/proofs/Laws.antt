@@ -14,7 +14,7 @@ use Rattle.report_text.specs.Layout.{lines, joined, layout}
 use Rattle.report_text.specs.Texts.{StandsFor, IsReportText, IsFaultyLine}
 use Rattle.report_text.specs.Reading.{next, is_final, is_empty, nothing, reading_on, reading}
 use Rattle.report_text.proofs.Chains.{joined_append}
-use Rattle.report_text.proofs.Machine.{upto, finished, live, bits_whole, first_split, end_split}
+use Rattle.report_text.proofs.Automaton.{upto, finished, live, bits_whole, first_split, end_split}
 use Rattle.report_text.proofs.Steps.{Begun, steps}
 use Rattle.report_text.proofs.Complete.{complete}
 use Rattle.report_text.proofs.Cuts.{IsPlain, lines_are, cut_joined, joined_cut, AreCut, are_cut, line_not_plain, line_in}

@@ -6,7 +6,7 @@ pub mod Offsets
 pub mod Words
 pub mod ImageLines
 pub mod FlowLines
-pub mod Machine
+pub mod Automaton
 pub mod Values
 pub mod Steps
 pub mod Complete

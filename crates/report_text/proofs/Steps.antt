@@ -17,7 +17,7 @@ use Rattle.report_text.proofs.Fields.{line_takes, pair_takes}
 use Rattle.report_text.proofs.ImageLines.{within_is, image_takes}
 use Rattle.report_text.proofs.FlowLines.{flow_takes}
 use Rattle.report_text.proofs.Words.{same_is}
-use Rattle.report_text.proofs.Machine.{upto_images, upto_latencies, upto_bits, upto_reads, upto_flow, upto, with_latency, with_size, finished, NoLatencies, NoImages, IsLater, Ready, later_head}
+use Rattle.report_text.proofs.Automaton.{upto_images, upto_latencies, upto_bits, upto_reads, upto_flow, upto, with_latency, with_size, finished, NoLatencies, NoImages, IsLater, Ready, later_head}
 use Rattle.report_text.proofs.Values.{plan_meets, limits_meets, age_meets, sized_meets, imaged_meets, delayed_meets, clocks_meets, bits_meets, reads_meets, flow_meets}
 
 -- the lines taken so far begin a report

@@ -13,7 +13,7 @@ use Rattle.report_text.specs.Reports.{Report, Meets, IsBare, IsImageLine, IsFlow
 use Rattle.report_text.specs.Reading.{follows, place_of}
 use Rattle.report_text.proofs.Orders.{Decides-line}
 use Rattle.report_text.proofs.Words.{some_image, same_self}
-use Rattle.report_text.proofs.Machine.{with_latency, with_image, with_size, IsLater}
+use Rattle.report_text.proofs.Automaton.{with_latency, with_image, with_size, IsLater}
 
 -- lists with one item more
 pub all_push : {A : Type 0} (P : A → Type 0) (xs : List A) (x : A) → AllByRecursion P xs → P x → AllByRecursion P (xs ++ x ∷ [])

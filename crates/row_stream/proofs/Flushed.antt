@@ -1,4 +1,4 @@
--- The clocks of a block, and clocks with 0 at the din.
+-- The clocks of a batch, and clocks with 0 at the din.
 use Rattle.std.proofs.Common.{◌≡◌, ℕ, zero, suc, ◌+◌, ◌-◌, ◌*◌, ◌<◌, ◌≤◌, List, ◌∷◌, ◌++◌, take, map, refl, ap, sym, subst, ◌∙◌, arith, Some}
 use Rattle.std.specs.Prelude.{All, slice_get, ◌/◌, ◌%◌}
 use Rattle.std.specs.List.{range_with_len}

@@ -3,7 +3,7 @@ pub mod Writes
 pub mod Adding
 pub mod Clocks
 pub mod Telling
-pub mod Blocks
+pub mod Batches
 pub mod Pixels
 pub mod Flushed
 pub mod RowLemmas

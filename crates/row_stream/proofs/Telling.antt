@@ -16,7 +16,7 @@ use Rattle.wiring.specs.Runs.{Runs, picture}
 use Rattle.cycle_sim.specs.declared.ports.Out.{Out}
 use Rattle.cycle_sim.specs.Ports.{IsShown, AreShown}
 use Rattle.cycle_sim.proofs.RunsJoin.{picture_one}
-use Rattle.block_sim.specs.Called.{output_count, AllShown}
+use Rattle.batch_sim.specs.Called.{output_count, AllShown}
 use Rattle.row_stream.specs.declared.line.Line.{Line}
 use Rattle.row_stream.specs.Lines.{Kind}
 use Rattle.row_stream.specs.Standing.{note_of}
@@ -175,7 +175,7 @@ module _ (kind : Kind) (m : Netlist) (cs : List Clock) (from to : Contents) (old
             (subst (λ z. FailsInLine kind start (samples ++ flat_map sample_of (take h.made outs)) (notes ++ z) now) (sym (shown_notes (take h.made shots) (take h.made outs) part)) (h.fails start samples notes w));
       }
 
--- ---- the outputs of a block
+-- ---- the outputs of a batch
 
 -- the output of each clock in its place
 placed : {X : Type 0} (outs : List X) (k : ℕ) (o : X) → slice_get outs k ≡ Some o → slice_get (take 1 (drop k outs)) 0 ≡ Some o
@@ -189,8 +189,8 @@ zipped [] (o ∷ outs) n h = absurd (omega (arith, n))
 zipped (s ∷ shots) [] n h = absurd (omega (arith, n))
 zipped (s ∷ shots) (o ∷ outs) n h = (h 0 s o refl refl, zipped shots outs (omega (arith, n)) (λ k t p a b. h (suc k) t p a b))
 
-pub block_shown : (m : Netlist) (shots : List Snapshot) (outs : List Out) → length m.outputs ≡ 2 → length outs ≡ length shots → AllShown m shots outs → Shown shots outs
-block_shown m shots outs two n h =
+pub batch_shown : (m : Netlist) (shots : List Snapshot) (outs : List Out) → length m.outputs ≡ 2 → length outs ≡ length shots → AllShown m shots outs → Shown shots outs
+batch_shown m shots outs two n h =
     let one : output_count m ≡ 1 = ap (λ z. z / 2) two in
     zipped shots outs n (λ k s o at here.
     (subst (λ z. AreShown s (take z (drop (k * z) outs))) one (h k s at)).each 0 o (placed outs (k * 1) o (ap (λ z. slice_get outs z) (let e : k * 1 ≡ k = omega arith in e) ∙ here)))

@@ -3,7 +3,7 @@ pub mod Forms
 pub mod Moving
 pub mod Standing
 pub mod Progress
-pub mod Blocks
+pub mod Batches
 pub mod Telling
 pub mod Rows
 pub mod RowReading

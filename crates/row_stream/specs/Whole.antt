@@ -23,7 +23,7 @@ use Rattle.row_stream.specs.declared.faults.StreamFault.TheVariants.{Image as Im
 use Rattle.row_stream.specs.Lines.{Kind, head, line_at, lines}
 use Rattle.row_stream.specs.Moving.{Gains, GainsBut}
 use Rattle.row_stream.specs.Standing.{HasRoom, note_of, pixel_clock, reset_clock}
-use Rattle.row_stream.specs.Blocks.{HasBlock}
+use Rattle.row_stream.specs.Batches.{HasBatch}
 use Rattle.row_stream.specs.Heads.{FitsHeader, TakesHead, EndsHeading}
 use Rattle.row_stream.specs.Rows.{IsLineFault}
 use Rattle.row_stream.specs.Images.{FitsImage, samples_of}
@@ -40,7 +40,7 @@ pub record IsRoom (width : ℕ) (room : Room) : Type 0 where
   pub fresh : IsFresh room.line
   pub line : HasRoom width room.line
   pub row : length room.row.items ≡ 2 * width
-  pub block : HasBlock width room.block
+  pub batch : HasBatch width room.batch
 
 -- File was created under this name, empty. Of Image only what is left has changed, and nothing else.
 pub record Creates (name : List ℕ) (old created : Outside) : Type 0 where

@@ -11,18 +11,18 @@ ghost use Rattle.cycle_sim.specs.Ports.{din_widths};
 ghost use Rattle.pgm_codec.specs.Rasters.{row_length};
 ghost use Rattle.row_stream.specs.Forms.{kind_of};
 ghost use Rattle.row_stream.specs.Standing.{HasRoom, IsOneToOne, Lasts};
-ghost use Rattle.row_stream.specs.Blocks.{HasBlock};
+ghost use Rattle.row_stream.specs.Batches.{HasBatch};
 ghost use Rattle.row_stream.specs.RowReading.{Streams};
 ghost use Rattle.row_stream.specs.Heads.{TakesHead, FitsHeader};
 ghost use Rattle.row_stream.specs.Ends.{EndsNext};
 ghost use Rattle.row_stream.specs.ImageReading.{EndsImage, EndsImages, StreamsAll, unread};
 
-use crate::block::Block;
+use crate::batch::Batch;
 use crate::faults::{StreamFault, raster_fault};
 use crate::heads::{next_byte, next_image};
 use crate::line::{Form, Line};
 use crate::rows::{RowsFault, stream_rows};
-use block_sim::Blocks;
+use batch_sim::Batches;
 use dk_base::{FrameSize, MAX_FILE_IMAGES};
 use dk_desk::{Desk, InSlot, Stage};
 use pgm_codec::Header;
@@ -55,13 +55,13 @@ fn image_bytes(header: &Header) -> usize
 // Streams the lines of an image after `images` others.
 fn stream_image<D: Desk>(
     desk: &mut D,
-    sim: &mut Blocks,
+    sim: &mut Batches,
     line: &mut Line,
     form: Form,
     images: u64,
     header: &Header,
     row: &mut [u8],
-    block: &mut Block,
+    batch: &mut Batch,
 ) -> Result<(), StreamFault>
     requires opened { (D.outside desk.old).image.stage ≡ Stage.Open }
     requires created { (D.outside desk.old).file.stage ≡ Stage.Open }
@@ -72,11 +72,11 @@ fn stream_image<D: Desk>(
     requires width { header.now.width ≡ form.size.width }
     requires height { header.now.height ≡ form.size.height }
     requires row { length row.old ≡ 2 * form.size.width }
-    requires block { HasBlock form.size.width block.old }
+    requires batch { HasBatch form.size.width batch.old }
     requires fit { (s : ℕ) → s ≤ header.now.maxval → Fit (din_widths sim.old.netlist) (s ∷ []) }
     requires lasts { Lasts sim.old.netlist sim.old.contents }
     ensures netlist { sim.new.netlist ≡ sim.old.netlist }
-    ensures block { HasBlock form.size.width block.new }
+    ensures batch { HasBatch form.size.width batch.new }
     ensures row { length row.new ≡ length row.old }
     ensures opened { (D.outside desk.new).image.stage ≡ Stage.Open }
     ensures created { OnOk result ((D.outside desk.new).file.stage ≡ Stage.Open) }
@@ -92,7 +92,7 @@ fn stream_image<D: Desk>(
     ensures write { HasCauseIn (result ≡ Err StreamFault.Write) (D.outside desk.old).output_failures (D.outside desk.new).output_failures }
 {
     let count = row_bytes(header);
-    match stream_rows(desk, sim, line, form, header, &mut row[..count], block) {
+    match stream_rows(desk, sim, line, form, header, &mut row[..count], batch) {
         Ok(()) => Ok(()),
         Err(RowsFault::Raster(fault)) => {
             Err(StreamFault::Image(raster_fault(fault, form.size, images)))
@@ -136,13 +136,13 @@ fn further_image<D: Desk>(
 // Streams the images of a file whose first header was taken, to the end of the input.
 pub(crate) fn stream_images<D: Desk>(
     desk: &mut D,
-    sim: &mut Blocks,
+    sim: &mut Batches,
     line: &mut Line,
     form: Form,
     bits: u8,
     first: Header,
     row: &mut [u8],
-    block: &mut Block,
+    batch: &mut Batch,
 ) -> Result<(), StreamFault>
     requires opened { (D.outside desk.old).image.stage ≡ Stage.Open }
     requires created { (D.outside desk.old).file.stage ≡ Stage.Open }
@@ -152,11 +152,11 @@ pub(crate) fn stream_images<D: Desk>(
     requires one { IsOneToOne (kind_of form) sim.old.netlist }
     requires first { FitsHeader (size_of form.size) bits first }
     requires row { length row.old ≡ 2 * form.size.width }
-    requires block { HasBlock form.size.width block.old }
+    requires batch { HasBatch form.size.width batch.old }
     requires fit { (s : ℕ) → s ≤ 2 ^ bits - 1 → Fit (din_widths sim.old.netlist) (s ∷ []) }
     requires lasts { Lasts sim.old.netlist sim.old.contents }
     ensures netlist { sim.new.netlist ≡ sim.old.netlist }
-    ensures block { HasBlock form.size.width block.new }
+    ensures batch { HasBatch form.size.width batch.new }
     ensures opened { (D.outside desk.new).image.stage ≡ Stage.Open }
     ensures created { OnOk result ((D.outside desk.new).file.stage ≡ Stage.Open) }
     ensures lasts { OnOk result (Lasts sim.new.netlist sim.new.contents) }
@@ -173,7 +173,7 @@ pub(crate) fn stream_images<D: Desk>(
     let mut header = first;
     let mut offset = 0;
     for images in 0..MAX_FILE_IMAGES {
-        match stream_image(desk, sim, line, form, images, &header, row, block) {
+        match stream_image(desk, sim, line, form, images, &header, row, batch) {
             Err(fault) => return Err(fault),
             Ok(()) => {}
         }

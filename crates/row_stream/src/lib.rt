@@ -3,7 +3,7 @@
 //! The form of an image is that of the Netpbm manual page "pgm", as pgm_codec narrows it.
 #![tactic(auto)]
 
-mod block;
+mod batch;
 mod clocking;
 mod faults;
 mod heads;

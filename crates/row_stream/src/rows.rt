@@ -10,14 +10,14 @@ ghost use Rattle.dk_desk.specs.Calls.{HasCauseIn, ReadsOnly};
 ghost use Rattle.pgm_codec.specs.Rasters.{JudgesRow, row_length};
 ghost use Rattle.row_stream.specs.Forms.{kind_of};
 ghost use Rattle.row_stream.specs.Standing.{HasRoom, IsOneToOne, Lasts};
-ghost use Rattle.row_stream.specs.Blocks.{HasBlock};
+ghost use Rattle.row_stream.specs.Batches.{HasBatch};
 ghost use Rattle.row_stream.specs.Rows.{IsRowFault};
 ghost use Rattle.row_stream.specs.RowReading.{AreRows, Streams, EndsRow, EndsRows};
 
-use crate::block::Block;
+use crate::batch::Batch;
 use crate::clocking::clock_row;
 use crate::line::{Form, Line};
-use block_sim::Blocks;
+use batch_sim::Batches;
 use dk_desk::transfer::read_full;
 use dk_desk::{Desk, InSlot, Stage};
 use pgm_codec::{Header, RasterFault, check_row};
@@ -63,13 +63,13 @@ fn read_row<D: Desk>(
 // Reads, judges and clocks a line.
 fn stream_row<D: Desk>(
     desk: &mut D,
-    sim: &mut Blocks,
+    sim: &mut Batches,
     line: &mut Line,
     form: Form,
     header: &Header,
     row: u32,
     to: &mut [u8],
-    block: &mut Block,
+    batch: &mut Batch,
 ) -> Result<(), RowsFault>
     requires opened { (D.outside desk.old).image.stage ≡ Stage.Open }
     requires created { (D.outside desk.old).file.stage ≡ Stage.Open }
@@ -79,11 +79,11 @@ fn stream_row<D: Desk>(
     requires width { header.now.width ≡ form.size.width }
     requires to { length to.old ≡ row_length header.now }
     requires row { row < header.now.height }
-    requires block { HasBlock form.size.width block.old }
+    requires batch { HasBatch form.size.width batch.old }
     requires fit { (s : ℕ) → s ≤ header.now.maxval → Fit (din_widths sim.old.netlist) (s ∷ []) }
     requires lasts { Lasts sim.old.netlist sim.old.contents }
     ensures netlist { sim.new.netlist ≡ sim.old.netlist }
-    ensures block { HasBlock form.size.width block.new }
+    ensures batch { HasBatch form.size.width batch.new }
     ensures to { length to.new ≡ row_length header.now }
     ensures created { OnOk result ((D.outside desk.new).file.stage ≡ Stage.Open) }
     ensures opened { (D.outside desk.new).image.stage ≡ Stage.Open }
@@ -101,7 +101,7 @@ fn stream_row<D: Desk>(
         Err(fault) => return Err(fault),
         Ok(()) => {}
     }
-    match clock_row(desk, sim, line, form, header.maxval, to, block) {
+    match clock_row(desk, sim, line, form, header.maxval, to, batch) {
         Err(_) => Err(RowsFault::Write),
         Ok(()) => Ok(()),
     }
@@ -110,12 +110,12 @@ fn stream_row<D: Desk>(
 // Reads, judges and clocks the lines of an image whose header was read.
 pub(crate) fn stream_rows<D: Desk>(
     desk: &mut D,
-    sim: &mut Blocks,
+    sim: &mut Batches,
     line: &mut Line,
     form: Form,
     header: &Header,
     to: &mut [u8],
-    block: &mut Block,
+    batch: &mut Batch,
 ) -> Result<(), RowsFault>
     requires opened { (D.outside desk.old).image.stage ≡ Stage.Open }
     requires created { (D.outside desk.old).file.stage ≡ Stage.Open }
@@ -125,11 +125,11 @@ pub(crate) fn stream_rows<D: Desk>(
     requires width { header.now.width ≡ form.size.width }
     requires height { header.now.height ≡ form.size.height }
     requires to { length to.old ≡ row_length header.now }
-    requires block { HasBlock form.size.width block.old }
+    requires batch { HasBatch form.size.width batch.old }
     requires fit { (s : ℕ) → s ≤ header.now.maxval → Fit (din_widths sim.old.netlist) (s ∷ []) }
     requires lasts { Lasts sim.old.netlist sim.old.contents }
     ensures netlist { sim.new.netlist ≡ sim.old.netlist }
-    ensures block { HasBlock form.size.width block.new }
+    ensures batch { HasBatch form.size.width batch.new }
     ensures opened { (D.outside desk.new).image.stage ≡ Stage.Open }
     ensures created { OnOk result ((D.outside desk.new).file.stage ≡ Stage.Open) }
     ensures lasts { OnOk result (Lasts sim.new.netlist sim.new.contents) }
@@ -143,7 +143,7 @@ pub(crate) fn stream_rows<D: Desk>(
     ensures write { HasCauseIn (result ≡ Err RowsFault.Write) (D.outside desk.old).output_failures (D.outside desk.new).output_failures }
 {
     for row in 0..header.height {
-        match stream_row(desk, sim, line, form, header, row, to, block) {
+        match stream_row(desk, sim, line, form, header, row, to, batch) {
             Err(fault) => return Err(fault),
             Ok(()) => {}
         }

@@ -11,13 +11,13 @@ ghost use Rattle.row_stream.specs.Standing.{HasRoom, IsOneToOne, Lasts, Starts};
 ghost use Rattle.row_stream.specs.Whole.{IsFresh, IsRoom, FailsFirst, LeavesAll, Leaves};
 ghost use Rattle.row_stream.specs.Beginning.{Begins};
 
-use crate::block::Block;
+use crate::batch::Batch;
 use crate::clocking::{clock, flush};
 use crate::faults::StreamFault;
 use crate::heads::next_image;
 use crate::images::stream_images;
 use crate::line::{Form, Line, write_head};
-use block_sim::Blocks;
+use batch_sim::Batches;
 use dk_base::{FrameSize, OutOfMemory};
 use dk_desk::{Desk, Failed, Stage};
 use std::alloc::Global;
@@ -27,7 +27,7 @@ use std::alloc::Global;
 pub struct Room {
     pub(crate) line: Line,
     pub(crate) row: Vec<u8>,
-    pub(crate) block: Block,
+    pub(crate) batch: Batch,
 }
 
 impl Room {
@@ -38,20 +38,20 @@ impl Room {
         let count = 2 * size.width as usize;
         let bytes = Vec::with_capacity(alloc, count)?;
         let row = vec![in alloc; 0; count]?;
-        let block = Block::new(alloc, size.width as usize)?;
+        let batch = Batch::new(alloc, size.width as usize)?;
         let line = Line {
             bytes,
             count: 0,
             rows: 0,
         };
-        Ok(Room { line, row, block })
+        Ok(Room { line, row, batch })
     }
 }
 
 // Creates File, writes its first header, and makes the reset clock.
 fn begin<D: Desk>(
     desk: &mut D,
-    sim: &mut Blocks,
+    sim: &mut Batches,
     line: &mut Line,
     form: Form,
     name: &str,
@@ -93,7 +93,7 @@ fn begin<D: Desk>(
 /// `Image` is the first fault of the file, `Read` and `Write` a call of the desk that failed. All lines that came before are then written.
 pub fn stream<D: Desk>(
     desk: &mut D,
-    sim: &mut Blocks,
+    sim: &mut Batches,
     mut room: Room,
     form: Form,
     bits: u8,
@@ -131,7 +131,7 @@ pub fn stream<D: Desk>(
         bits,
         first,
         &mut room.row,
-        &mut room.block,
+        &mut room.batch,
     ) {
         Err(fault) => return Err(fault),
         Ok(()) => {}
@@ -141,7 +141,7 @@ pub fn stream<D: Desk>(
         sim,
         &mut room.line,
         form,
-        &mut room.block,
+        &mut room.batch,
         latency as usize,
     ) {
         Err(_) => Err(StreamFault::Write),

@@ -20,8 +20,8 @@ use Rattle.test_bench.specs.declared.picture.Shown.{Shown}
 use Rattle.test_bench.specs.declared.clocking.Bench.{Bench}
 use Rattle.stimulus.specs.Showing.{output_count, notes_at, notes_of}
 use Rattle.test_bench.specs.Clocking.{IsKept, AreKept, GoOn, DoutsFit, IsBench, Clocked}
-use Rattle.test_bench.specs.BlockClocks.{Extends, sample_of, pairs_of}
-use Rattle.test_bench.specs.Blocks.{HasBlock}
+use Rattle.test_bench.specs.BatchClocks.{Extends, sample_of, pairs_of}
+use Rattle.test_bench.specs.Batches.{HasBatch}
 use Rattle.stimulus.proofs.Runs.{picture_join}
 use Rattle.test_bench.proofs.Runs.{go_on}
 use Rattle.stimulus.proofs.Ranges.{map_more}
@@ -103,11 +103,11 @@ one P x p = All-from_at P (x ∷ []) (placed P x p)
 
 -- the bench after a clock
 pub clocked_one : (c : Clock) (old new : Bench) (before now : Option (List (Bool × ℕ))) (s : Snapshot) → IsBench old → new.sim.netlist ≡ old.sim.netlist → new.most ≡ old.most → new.made ≡ old.made + 1 →
-    length new.outs.items ≡ length old.outs.items → new.block ≡ old.block → length new.pictures.items ≡ length new.outs.items → All (λ shown. old.most ≤ vec_capacity shown.samples) new.pictures.items →
+    length new.outs.items ≡ length old.outs.items → new.batch ≡ old.batch → length new.pictures.items ≡ length new.outs.items → All (λ shown. old.most ≤ vec_capacity shown.samples) new.pictures.items →
     Steps old.sim.netlist old.sim.contents (given old.sim.netlist c) s new.sim.contents → AreShown s new.outs.items → DoutsFit old.sim.netlist s → GoOn before (pairs_of new.outs.items) now →
     ((k : ℕ) (a b : Shown) (out : Out) → slice_get old.pictures.items k ≡ Some a → slice_get new.pictures.items k ≡ Some b → slice_get new.outs.items k ≡ Some out → Extends old.most a b (sample_of out)) →
     Clocked old.sim.netlist (c ∷ []) old new before now
-clocked_one c old new before now s bench netlist most made outs block pictures room step shown fit told kept =
+clocked_one c old new before now s bench netlist most made outs batch pictures room step shown fit told kept =
     let count : length old.sim.netlist.outputs ≡ 2 * length new.outs.items = bench.outs ∙ ap (λ n. 2 * n) (sym outs) in
     record {
       bench = record {
@@ -117,7 +117,7 @@ clocked_one c old new before now s bench netlist most made outs block pictures r
         outs = ap (λ z. length z.outputs) netlist ∙ count;
         pictures = pictures;
         room = subst (λ n. All (λ shown. n ≤ vec_capacity shown.samples) new.pictures.items) (sym most) room;
-        block = subst (λ (z : Netlist). HasBlock (length (din_widths z)) (length new.outs.items) new.block) (sym netlist) (subst (λ n. HasBlock (length (din_widths old.sim.netlist)) n new.block) (sym outs) (subst (λ z. HasBlock (length (din_widths old.sim.netlist)) (length old.outs.items) z) (sym block) bench.block));
+        batch = subst (λ (z : Netlist). HasBatch (length (din_widths z)) (length new.outs.items) new.batch) (sym netlist) (subst (λ n. HasBatch (length (din_widths old.sim.netlist)) n new.batch) (sym outs) (subst (λ z. HasBatch (length (din_widths old.sim.netlist)) (length old.outs.items) z) (sym batch) bench.batch));
       };
       netlist = netlist;
       most = most;

@@ -1,4 +1,4 @@
--- Clocks that are added to a block.
+-- Clocks that are added to a batch.
 use Rattle.std.proofs.Common.{◌≡◌, ℕ, zero, suc, ◌+◌, ◌*◌, ◌≤◌, Bool, true, false, List, [], ◌∷◌, ◌++◌, length, take, drop, refl, ap, sym, ◌∙◌, arith, append_assoc, length-append}
 use Rattle.std.specs.Prelude.{if◌then◌else◌, slice_index}
 use Rattle.std.proofs.lemmas.List.FromFn.{map-range_with_len_more}
@@ -10,7 +10,7 @@ use Rattle.pgm_rounds.specs.declared.round.Round.{Round}
 use Rattle.wiring.specs.Netlist.{Netlist}
 use Rattle.wiring.specs.Clock.{Clock}
 use Rattle.cycle_sim.specs.Ports.{din_widths}
-use Rattle.block_sim.specs.Called.{clocks_with}
+use Rattle.batch_sim.specs.Called.{clocks_with}
 use Rattle.test_bench.specs.declared.clocking.Feed.{Feed}
 use Rattle.stimulus.specs.Stimulus.{Rounds, stream, dins_at, pixel_clock, is_held_after, clocks_at}
 use Rattle.stimulus.specs.Given.{rounds_of}

@@ -1,4 +1,4 @@
--- Blocks of a stimulus, one after another.
+-- Batches of a stimulus, one after another.
 use Rattle.std.proofs.Common.{◌≡◌, ℕ, zero, suc, ◌+◌, ◌-◌, ◌*◌, ◌/◌, ◌%◌, ◌<◌, ◌≤◌, Bool, true, false, List, [], ◌∷◌, ◌++◌, length, ap, sym, subst, ◌∙◌, arith, append_assoc, Option}
 use Rattle.std.specs.Prelude.{if◌then◌else◌}
 use Rattle.std.specs.List.{All, flat_map, range_with_len}
@@ -9,14 +9,14 @@ use Rattle.wiring.specs.Netlist.{Netlist}
 use Rattle.wiring.specs.Snapshot.{Contents, Fit}
 use Rattle.wiring.specs.Clock.{Clock}
 use Rattle.cycle_sim.specs.Ports.{din_widths}
-use Rattle.block_sim.specs.Called.{clocks_with, block_clocks}
-use Rattle.test_bench.specs.declared.block.Block.{Block}
+use Rattle.batch_sim.specs.Called.{clocks_with, batch_clocks}
+use Rattle.test_bench.specs.declared.batch.Batch.{Batch}
 use Rattle.test_bench.specs.declared.clocking.Bench.{Bench}
 use Rattle.test_bench.specs.declared.clocking.Feed.{Feed}
 use Rattle.stimulus.specs.declared.stop.Stop.{Stop}
 use Rattle.stimulus.specs.Stimulus.{held_clock, pixel_clock, is_held_after, clocks_at}
 use Rattle.stimulus.specs.Given.{rounds_of}
-use Rattle.test_bench.specs.Blocks.{HasBlock}
+use Rattle.test_bench.specs.Batches.{HasBatch}
 use Rattle.test_bench.specs.Clocking.{IsBench, IsFed, Clocked, StopsIn}
 use Rattle.test_bench.proofs.Clocks.{one}
 use Rattle.stimulus.proofs.Stimuli.{fit_dins, fit_greatest}
@@ -37,17 +37,17 @@ module _ (m : Netlist) (size : Size) (feed : Feed) (rounds : List Round) (fed : 
   clocks_fit a zero = All-nil (λ (c : Clock). Fit (din_widths m) c.dins)
   clocks_fit a (suc n) = All-append (λ (c : Clock). Fit (din_widths m) c.dins) (clocks_at feed.hold (din_widths m) (rounds_of rounds) a) (flat_map (clocks_at feed.hold (din_widths m) (rounds_of rounds)) (range_with_len (a + 1) n)) (clocks_fit_at a) (clocks_fit (a + 1) n)
 
-  pub block_is : (enables : List Bool) (dins : List ℕ) (a n : ℕ) → clocks_with (length feed.held.items) enables dins ≡ flat_map (clocks_at feed.hold (din_widths m) (rounds_of rounds)) (range_with_len a n) → block_clocks m enables dins ≡ flat_map (clocks_at feed.hold (din_widths m) (rounds_of rounds)) (range_with_len a n)
-  block_is enables dins a n h = ap (λ k. clocks_with k enables dins) (sym (inputs_are m size feed rounds fed)) ∙ h
+  pub batch_is : (enables : List Bool) (dins : List ℕ) (a n : ℕ) → clocks_with (length feed.held.items) enables dins ≡ flat_map (clocks_at feed.hold (din_widths m) (rounds_of rounds)) (range_with_len a n) → batch_clocks m enables dins ≡ flat_map (clocks_at feed.hold (din_widths m) (rounds_of rounds)) (range_with_len a n)
+  batch_is enables dins a n h = ap (λ k. clocks_with k enables dins) (sym (inputs_are m size feed rounds fed)) ∙ h
 
-  pub block_fit : (enables : List Bool) (dins : List ℕ) (a n : ℕ) → clocks_with (length feed.held.items) enables dins ≡ flat_map (clocks_at feed.hold (din_widths m) (rounds_of rounds)) (range_with_len a n) → All (λ (c : Clock). Fit (din_widths m) c.dins) (block_clocks m enables dins)
-  block_fit enables dins a n h = subst (λ z. All (λ (c : Clock). Fit (din_widths m) c.dins) z) (sym (block_is enables dins a n h)) (clocks_fit a n)
+  pub batch_fit : (enables : List Bool) (dins : List ℕ) (a n : ℕ) → clocks_with (length feed.held.items) enables dins ≡ flat_map (clocks_at feed.hold (din_widths m) (rounds_of rounds)) (range_with_len a n) → All (λ (c : Clock). Fit (din_widths m) c.dins) (batch_clocks m enables dins)
+  batch_fit enables dins a n h = subst (λ z. All (λ (c : Clock). Fit (din_widths m) c.dins) z) (sym (batch_is enables dins a n h)) (clocks_fit a n)
 
-pub unblocked : (m : Netlist) (clocks : List Clock) (old new : Bench) (block : Block) (before now : Option (List (Bool × ℕ))) → Clocked m clocks (record old { block = block }) new before now → Clocked m clocks old new before now
-unblocked m clocks old new block before now h = record { bench = h.bench; netlist = h.netlist; most = h.most; made = h.made; shots = h.shots; runs = h.runs; kept = h.kept; fit = h.fit; told = h.told }
+pub unbatched : (m : Netlist) (clocks : List Clock) (old new : Bench) (batch : Batch) (before now : Option (List (Bool × ℕ))) → Clocked m clocks (record old { batch = batch }) new before now → Clocked m clocks old new before now
+unbatched m clocks old new batch before now h = record { bench = h.bench; netlist = h.netlist; most = h.most; made = h.made; shots = h.shots; runs = h.runs; kept = h.kept; fit = h.fit; told = h.told }
 
-pub with_block : (old : Bench) (block : Block) → IsBench old → HasBlock (length (din_widths old.sim.netlist)) (length old.outs.items) block → IsBench (record old { block = block })
-with_block old block h b = record { rules = h.rules; order = h.order; ordered = h.ordered; outs = h.outs; pictures = h.pictures; room = h.room; block = b }
+pub with_batch : (old : Bench) (batch : Batch) → IsBench old → HasBatch (length (din_widths old.sim.netlist)) (length old.outs.items) batch → IsBench (record old { batch = batch })
+with_batch old batch h b = record { rules = h.rules; order = h.order; ordered = h.ordered; outs = h.outs; pictures = h.pictures; room = h.room; batch = b }
 
 flat_join : {X : Type 0} (f : ℕ → List X) (a x y : ℕ) → flat_map f (range_with_len a (x + y)) ≡ flat_map f (range_with_len a x) ++ flat_map f (range_with_len (a + x) y)
 flat_join f a zero y = ap (λ n. flat_map f (range_with_len a n)) (let e : 0 + y ≡ y = omega arith in e) ∙ ap (λ n. flat_map f (range_with_len n y)) (let e : a ≡ a + 0 = omega arith in e)
@@ -75,11 +75,11 @@ module _ (m : Netlist) (f : ℕ → List Clock) where
       stops_all (x + y) n old.sim.contents old.made stop l
       (subst (λ z. StopsIn m old.sim.contents old.made z stop) (sym (joined x y)) (stops_later m (flat_map f (range_with_len 0 x)) (flat_map f (range_with_len x y)) old mid before between stop h s))
 
-pub next_block : (k size : ℕ) → (k + 1) * size ≡ k * size + size
-next_block k size = grind arith
+pub next_batch : (k size : ℕ) → (k + 1) * size ≡ k * size + size
+next_batch k size = grind arith
 
-pub block_within : (k n size : ℕ) → k < n → k * size + size ≤ n * size
-block_within k n size l = Rattle.block_sim.proofs.Clockwise.place_within k n size l
+pub batch_within : (k n size : ℕ) → k < n → k * size + size ≤ n * size
+batch_within k n size l = Rattle.batch_sim.proofs.Clockwise.place_within k n size l
 
 pub parts_of : (n size : ℕ) → n ≡ n / size * size + n % size
 parts_of n size = sym (Rattle.std.proofs.Math.Nat.div-add-mod n size) ∙ ap (λ z. z + n % size) (turned size (n / size))

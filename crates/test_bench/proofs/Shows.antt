@@ -1,4 +1,4 @@
--- What the clocks of a block show.
+-- What the clocks of a batch show.
 use Rattle.std.proofs.Common.{◌≡◌, ℕ, zero, suc, ◌+◌, ◌*◌, ◌^◌, ◌<◌, ◌≤◌, Bool, List, [], ◌∷◌, ◌++◌, length, take, drop, refl, ap, sym, subst, ◌∙◌, arith, append_assoc, Some, Option, pos, ◌-ℤ◌}
 use Rattle.std.specs.Prelude.{slice_get, vec_capacity}
 use Rattle.std.specs.List.{All}
@@ -18,15 +18,15 @@ use Rattle.wiring.proofs.Lists.{All-at, All-from_at}
 use Rattle.cycle_sim.specs.declared.ports.Out.{Out}
 use Rattle.cycle_sim.specs.Ports.{din_widths, AreShown}
 use Rattle.cycle_sim.proofs.Given.{given_fit}
-use Rattle.block_sim.specs.declared.blocks.Stop.{Stop as BlockStop}
-use Rattle.block_sim.specs.Called.{of_clock, block_clocks, BlockRan, BlockStops}
-use Rattle.block_sim.proofs.Clockwise.{clocks_count, place_within, half_is}
+use Rattle.batch_sim.specs.declared.batches.Stop.{Stop as BatchStop}
+use Rattle.batch_sim.specs.Called.{of_clock, batch_clocks, BatchRan, BatchStops}
+use Rattle.batch_sim.proofs.Clockwise.{clocks_count, place_within, half_is}
 use Rattle.test_bench.specs.declared.picture.Shown.{Shown}
 use Rattle.test_bench.specs.declared.clocking.Bench.{Bench}
 use Rattle.stimulus.specs.declared.stop.Stop.TheVariants.{Index}
 use Rattle.stimulus.specs.Showing.{notes_of}
-use Rattle.test_bench.specs.Blocks.{HasBlock}
-use Rattle.test_bench.specs.BlockClocks.{AreShownIn, ShowsBlock, StopsBlock, Extends, sample_of, pairs_of}
+use Rattle.test_bench.specs.Batches.{HasBatch}
+use Rattle.test_bench.specs.BatchClocks.{AreShownIn, ShowsBatch, StopsBatch, Extends, sample_of, pairs_of}
 use Rattle.test_bench.specs.Clocking.{AreKept, GoOn, DoutsFit, IsBench, Clocked, StopsIn}
 use Rattle.test_bench.proofs.Clocks.{douts_fit, outs_small, pairs_are, there, kept_one, one}
 use Rattle.stimulus.proofs.Runs.{notes_join, runs_length}
@@ -75,12 +75,12 @@ by_clock w (s ∷ shots) outs h n =
           subst (λ z. AreShown t (take w z)) (ap (λ i. drop i outs) turn ∙ drop_more w (k * w) outs) (h (suc k) t at)) (omega (arith, n, next, length-drop w outs)),
     )
 
-block_notes : (m : Netlist) (w : ℕ) (shots : List Snapshot) (outs : List Out) → length m.outputs ≡ 2 * w → ShownBy w shots outs → pairs_of outs ≡ notes_of m shots
-block_notes m w [] outs two h = ap (λ z. pairs_of z) h
-block_notes m w (s ∷ shots) outs two h =
+batch_notes : (m : Netlist) (w : ℕ) (shots : List Snapshot) (outs : List Out) → length m.outputs ≡ 2 * w → ShownBy w shots outs → pairs_of outs ≡ notes_of m shots
+batch_notes m w [] outs two h = ap (λ z. pairs_of z) h
+batch_notes m w (s ∷ shots) outs two h =
     ap (λ z. pairs_of z) (sym (take-append-drop w outs)) ∙ map-append (λ (out : Out). (out.valid, out.dout)) (take w outs) (drop w outs)
     ∙ ap (λ z. z ++ pairs_of (drop w outs)) (pairs_are m s (take w outs) h.1 (two ∙ ap (λ n. 2 * n) (sym h.0)))
-    ∙ ap (λ z. notes_of m (s ∷ []) ++ z) (block_notes m w shots (drop w outs) two h.2) ∙ sym (notes_join m (s ∷ []) shots)
+    ∙ ap (λ z. notes_of m (s ∷ []) ++ z) (batch_notes m w shots (drop w outs) two h.2) ∙ sym (notes_join m (s ∷ []) shots)
 
 both_all : {X : Type 0} (P : X → Type 0) (x : X) (xs : List X) → P x → All P xs → All P (x ∷ xs)
 both_all P x xs p h = All-append P (x ∷ []) xs (one P x p) h
@@ -91,12 +91,12 @@ first_all P x xs h = All-at P (x ∷ xs) 0 x h refl
 rest_all : {X : Type 0} (P : X → Type 0) (x : X) (xs : List X) → All P (x ∷ xs) → All P xs
 rest_all P x xs h = All-from_at P xs (λ k y at. All-at P (x ∷ xs) (suc k) y h at)
 
-block_small : (m : Netlist) → KeepsRules m → (w : ℕ) (shots : List Snapshot) (outs : List Out) → length m.outputs ≡ 2 * w → All (DoutsFit m) shots → ShownBy w shots outs → All (λ out. out.dout < 2 ^ 16) outs
-block_small m rules w [] outs two fit h = subst (λ z. All (λ (out : Out). out.dout < 2 ^ 16) z) (sym h) (All-nil (λ (out : Out). out.dout < 2 ^ 16))
-block_small m rules w (s ∷ shots) outs two fit h =
+batch_small : (m : Netlist) → KeepsRules m → (w : ℕ) (shots : List Snapshot) (outs : List Out) → length m.outputs ≡ 2 * w → All (DoutsFit m) shots → ShownBy w shots outs → All (λ out. out.dout < 2 ^ 16) outs
+batch_small m rules w [] outs two fit h = subst (λ z. All (λ (out : Out). out.dout < 2 ^ 16) z) (sym h) (All-nil (λ (out : Out). out.dout < 2 ^ 16))
+batch_small m rules w (s ∷ shots) outs two fit h =
     subst (λ z. All (λ (out : Out). out.dout < 2 ^ 16) z) (take-append-drop w outs)
     (All-append (λ (out : Out). out.dout < 2 ^ 16) (take w outs) (drop w outs) (outs_small m rules s (take w outs) (first_all (DoutsFit m) s shots fit) h.1 (two ∙ ap (λ n. 2 * n) (sym h.0)))
-    (block_small m rules w shots (drop w outs) two (rest_all (DoutsFit m) s shots fit) h.2))
+    (batch_small m rules w shots (drop w outs) two (rest_all (DoutsFit m) s shots fit) h.2))
 
 -- ---- what is shown fits
 
@@ -120,9 +120,9 @@ module _ (nets : NetsFit) (next : NextFits) (m : Netlist) (order : List ℕ) (ru
       (all_fit cs h.0 to shots (next m order rules ordered s step.snapshot.settled contents inputs h.0 step.next) (rest_all (λ (c : Clock). Fit (din_widths m) c.dins) c cs dins) h.2)
 
   module _ (enables : List Bool) (dins : List ℕ) (from to : Contents) (outs : List Out) (w : ℕ) (two : length m.outputs ≡ 2 * w) (count : length outs ≡ length enables * w) (fits : FitsContents m from)
-      (fit : All (λ (c : Clock). Fit (din_widths m) c.dins) (block_clocks m enables dins)) (r : BlockRan m (block_clocks m enables dins) from to outs) where
+      (fit : All (λ (c : Clock). Fit (din_widths m) c.dins) (batch_clocks m enables dins)) (r : BatchRan m (batch_clocks m enables dins) from to outs) where
     pub shots_count : length r.shots ≡ length enables
-    shots_count = sym (runs_length m (block_clocks m enables dins) from to r.shots r.run) ∙ clocks_count (length (din_widths m)) enables dins
+    shots_count = sym (runs_length m (batch_clocks m enables dins) from to r.shots r.run) ∙ clocks_count (length (din_widths m)) enables dins
 
     pub shown_in : AreShownIn w r.shots outs
     shown_in k s at = subst (λ z. AreShown s (of_clock z k outs)) (sym (half_is (length m.outputs) w two)) (r.shown k s at)
@@ -131,18 +131,18 @@ module _ (nets : NetsFit) (next : NextFits) (m : Netlist) (order : List ℕ) (ru
     by = by_clock w r.shots outs shown_in (count ∙ ap (λ n. n * w) (sym shots_count))
 
     pub fit_all : All (DoutsFit m) r.shots
-    fit_all = all_fit (block_clocks m enables dins) from to r.shots fits fit r.run
+    fit_all = all_fit (batch_clocks m enables dins) from to r.shots fits fit r.run
 
     pub small_all : All (λ out. out.dout < 2 ^ 16) outs
-    small_all = block_small m rules w r.shots outs two fit_all by
+    small_all = batch_small m rules w r.shots outs two fit_all by
 
-    pub shows_block : (most : ℕ) (old new : List Shown) (before now : Option (List (Bool × ℕ))) → ((all : List Snapshot) → AreKept most all old → AreKept most (all ++ r.shots) new) → GoOn before (pairs_of outs) now → ShowsBlock m (block_clocks m enables dins) from to most old new before now
-    shows_block most old new before now kept told = record {
+    pub shows_batch : (most : ℕ) (old new : List Shown) (before now : Option (List (Bool × ℕ))) → ((all : List Snapshot) → AreKept most all old → AreKept most (all ++ r.shots) new) → GoOn before (pairs_of outs) now → ShowsBatch m (batch_clocks m enables dins) from to most old new before now
+    shows_batch most old new before now kept told = record {
       shots = r.shots;
       runs = r.run;
       kept = kept;
       fit = fit_all;
-      told = subst (λ z. GoOn before z now) (block_notes m w r.shots outs two by) told;
+      told = subst (λ z. GoOn before z now) (batch_notes m w r.shots outs two by) told;
     }
 
 -- ---- a stop
@@ -152,29 +152,29 @@ stop_within m [] from shots x i h = absurd h
 stop_within m (c ∷ cs) from [] x i h = omega arith
 stop_within m (c ∷ cs) from (s ∷ shots) x i h = let l : length shots < length cs = stop_within m cs h.0 shots x i h.2 in omega (arith, l)
 
-pub stop_places : (m : Netlist) (enables : List Bool) (dins : List ℕ) (from to : Contents) (old outs : List Out) (stop : BlockStop) (w : ℕ) → BlockStops m (block_clocks m enables dins) from to old outs stop → length outs ≡ length enables * w → stop.done * w ≤ length outs
+pub stop_places : (m : Netlist) (enables : List Bool) (dins : List ℕ) (from to : Contents) (old outs : List Out) (stop : BatchStop) (w : ℕ) → BatchStops m (batch_clocks m enables dins) from to old outs stop → length outs ≡ length enables * w → stop.done * w ≤ length outs
 stop_places m enables dins from to old outs stop w h n =
-    let l : stop.done < length enables = subst (λ k. k < length enables) h.done (subst (λ k. length h.shots < k) (clocks_count (length (din_widths m)) enables dins) (stop_within m (block_clocks m enables dins) from h.shots stop.range.array stop.range.index h.stops)) in
+    let l : stop.done < length enables = subst (λ k. k < length enables) h.done (subst (λ k. length h.shots < k) (clocks_count (length (din_widths m)) enables dins) (stop_within m (batch_clocks m enables dins) from h.shots stop.range.array stop.range.index h.stops)) in
     let p : stop.done * w + w ≤ length enables * w = place_within stop.done (length enables) w l in
     omega (arith, p, n)
 
-pub stops_block : (m : Netlist) (clocks : List Clock) (from to : Contents) (old outs : List Out) (stop : BlockStop) → BlockStops m clocks from to old outs stop → StopsBlock m clocks from stop
-stops_block m clocks from to old outs stop h = record { shots = h.shots; done = h.done; stops = h.stops }
+pub stops_batch : (m : Netlist) (clocks : List Clock) (from to : Contents) (old outs : List Out) (stop : BatchStop) → BatchStops m clocks from to old outs stop → StopsBatch m clocks from stop
+stops_batch m clocks from to old outs stop h = record { shots = h.shots; done = h.done; stops = h.stops }
 
-pub done_within : (m : Netlist) (enables : List Bool) (dins : List ℕ) (from : Contents) (stop : BlockStop) → StopsBlock m (block_clocks m enables dins) from stop → stop.done < length enables
+pub done_within : (m : Netlist) (enables : List Bool) (dins : List ℕ) (from : Contents) (stop : BatchStop) → StopsBatch m (batch_clocks m enables dins) from stop → stop.done < length enables
 done_within m enables dins from stop h =
-    subst (λ k. k < length enables) h.done (subst (λ k. length h.shots < k) (clocks_count (length (din_widths m)) enables dins) (stop_within m (block_clocks m enables dins) from h.shots stop.range.array stop.range.index h.stops))
+    subst (λ k. k < length enables) h.done (subst (λ k. length h.shots < k) (clocks_count (length (din_widths m)) enables dins) (stop_within m (batch_clocks m enables dins) from h.shots stop.range.array stop.range.index h.stops))
 
-pub stops_in : (m : Netlist) (clocks : List Clock) (from : Contents) (first : ℕ) (stop : BlockStop) → StopsBlock m clocks from stop → StopsIn m from first clocks (Index (pos (first + stop.done) -ℤ pos 1) stop.range.array stop.range.index)
+pub stops_in : (m : Netlist) (clocks : List Clock) (from : Contents) (first : ℕ) (stop : BatchStop) → StopsBatch m clocks from stop → StopsIn m from first clocks (Index (pos (first + stop.done) -ℤ pos 1) stop.range.array stop.range.index)
 stops_in m clocks from first stop h = record { shots = h.shots; stops = h.stops; clock_is = ap (λ n. pos (first + n) -ℤ pos 1) (sym h.done) }
 
--- ---- the bench after a block
+-- ---- the bench after a batch
 
-pub clocked_block : (enables : List Bool) (dins : List ℕ) (old new : Bench) (before now : Option (List (Bool × ℕ))) → IsBench old → new.sim.netlist ≡ old.sim.netlist → new.most ≡ old.most → new.made ≡ old.made + length enables → new.outs.items ≡ old.outs.items →
-    length new.pictures.items ≡ length old.pictures.items → All (λ shown. old.most ≤ vec_capacity shown.samples) new.pictures.items → HasBlock (length (din_widths old.sim.netlist)) (length old.outs.items) new.block →
-    ShowsBlock old.sim.netlist (block_clocks old.sim.netlist enables dins) old.sim.contents new.sim.contents old.most old.pictures.items new.pictures.items before now →
-    Clocked old.sim.netlist (block_clocks old.sim.netlist enables dins) old new before now
-clocked_block enables dins old new before now bench netlist most made outs pictures room block shows = record {
+pub clocked_batch : (enables : List Bool) (dins : List ℕ) (old new : Bench) (before now : Option (List (Bool × ℕ))) → IsBench old → new.sim.netlist ≡ old.sim.netlist → new.most ≡ old.most → new.made ≡ old.made + length enables → new.outs.items ≡ old.outs.items →
+    length new.pictures.items ≡ length old.pictures.items → All (λ shown. old.most ≤ vec_capacity shown.samples) new.pictures.items → HasBatch (length (din_widths old.sim.netlist)) (length old.outs.items) new.batch →
+    ShowsBatch old.sim.netlist (batch_clocks old.sim.netlist enables dins) old.sim.contents new.sim.contents old.most old.pictures.items new.pictures.items before now →
+    Clocked old.sim.netlist (batch_clocks old.sim.netlist enables dins) old new before now
+clocked_batch enables dins old new before now bench netlist most made outs pictures room batch shows = record {
   bench = record {
     rules = subst (λ z. KeepsRules z) (sym netlist) bench.rules;
     order = bench.order;
@@ -182,7 +182,7 @@ clocked_block enables dins old new before now bench netlist most made outs pictu
     outs = ap (λ (z : Netlist). length z.outputs) netlist ∙ bench.outs ∙ ap (λ (z : List Out). 2 * length z) (sym outs);
     pictures = pictures ∙ bench.pictures ∙ ap (λ (z : List Out). length z) (sym outs);
     room = subst (λ n. All (λ shown. n ≤ vec_capacity shown.samples) new.pictures.items) (sym most) room;
-    block = subst (λ (z : Netlist). HasBlock (length (din_widths z)) (length new.outs.items) new.block) (sym netlist) (subst (λ (z : List Out). HasBlock (length (din_widths old.sim.netlist)) (length z) new.block) (sym outs) block);
+    batch = subst (λ (z : Netlist). HasBatch (length (din_widths z)) (length new.outs.items) new.batch) (sym netlist) (subst (λ (z : List Out). HasBatch (length (din_widths old.sim.netlist)) (length z) new.batch) (sym outs) batch);
   };
   netlist = netlist;
   most = most;

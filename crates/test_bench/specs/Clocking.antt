@@ -20,7 +20,7 @@ use Rattle.stimulus.specs.declared.stop.Stop.TheVariants.{Index, Count}
 use Rattle.stimulus.specs.Stimulus.{greatest_dins}
 use Rattle.stimulus.specs.Given.{AreBenchFrames}
 use Rattle.stimulus.specs.Showing.{output_count, notes_of}
-use Rattle.test_bench.specs.Blocks.{HasBlock}
+use Rattle.test_bench.specs.Batches.{HasBatch}
 
 -- of this picture the first `most` samples are kept, and their number
 pub record IsKept (most : ℕ) (whole : List ℕ) (kept : Shown) : Type 0 where
@@ -39,7 +39,7 @@ GoOn before more now = IsIfTold now (option_map (λ notes. notes ++ more) before
 abbrev pub DoutsFit : Netlist → Snapshot → Type 0
 DoutsFit m s = (k : ℕ) → k < output_count m → net_value s (dout_net k) < 2 ^ net_width m (dout_net k)
 
--- a picture and a place for each output, and room for the samples and for a block of clocks
+-- a picture and a place for each output, and room for the samples and for a batch of clocks
 pub record IsBench (b : Bench) : Type 0 where
   pub rules : KeepsRules b.sim.netlist
   pub order : List ℕ
@@ -47,7 +47,7 @@ pub record IsBench (b : Bench) : Type 0 where
   pub outs : length b.sim.netlist.outputs ≡ 2 * length b.outs.items
   pub pictures : length b.pictures.items ≡ length b.outs.items
   pub room : All (λ shown. b.most ≤ vec_capacity shown.samples) b.pictures.items
-  pub block : HasBlock (length (din_widths b.sim.netlist)) (length b.outs.items) b.block
+  pub batch : HasBatch (length (din_widths b.sim.netlist)) (length b.outs.items) b.batch
 
 -- the bench goes through these clocks
 pub record Clocked (m : Netlist) (clocks : List Clock) (old new : Bench) (before now : Option (List (Bool × ℕ))) : Type 0 where

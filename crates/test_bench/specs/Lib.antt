@@ -1,5 +1,5 @@
-pub mod Blocks
+pub mod Batches
 pub mod Clocking
-pub mod BlockClocks
+pub mod BatchClocks
 pub mod Writing
 pub mod Filling

@@ -19,11 +19,11 @@ ghost use Rattle.test_bench.specs.Clocking.{IsBench, AreKept};
 ghost use Rattle.test_bench.specs.Writing.{HasEnough, round_kept};
 ghost use Rattle.test_bench.specs.Filling.{AreFilled, IsShort};
 
-use crate::block::Block;
+use crate::batch::Batch;
 use crate::clocking::{Bench, Feed, all_clocks};
 use crate::picture::Shown;
 use crate::writing::{area, first_short, write_rounds};
-use block_sim::Blocks;
+use batch_sim::Batches;
 use cycle_sim::{Fill, Out, dins_of};
 use dk_base::{FrameSize, OutOfMemory};
 use dk_desk::Desk;
@@ -69,15 +69,15 @@ pub fn set_up(alloc: Global, module: &Module, fill: Fill, most: usize) -> Result
 {
     let _wiring = module.wiring();
     let _order = module.order();
-    let sim = Blocks::new(alloc, module, fill)?;
+    let sim = Batches::new(alloc, module, fill)?;
     let count = sim.outputs();
     let outs = no_outs(alloc, count)?;
-    let block = Block::new(alloc, dins_of(module).len(), count)?;
+    let batch = Batch::new(alloc, dins_of(module).len(), count)?;
     let pictures = no_pictures(alloc, count, most)?;
     Ok(Bench {
         sim,
         outs,
-        block,
+        batch,
         pictures,
         most,
         made: 0,

@@ -8,9 +8,9 @@ ghost use Rattle.wiring.specs.Snapshot.{Snapshot, Fit};
 ghost use Rattle.wiring.specs.Clock.{Clock, given, Steps, Stops};
 ghost use Rattle.wiring.specs.Order.{IsEvaluationOrder};
 ghost use Rattle.wiring.specs.Rules.{KeepsRules};
-ghost use Rattle.block_sim.specs.Called.{block_clocks};
-ghost use Rattle.test_bench.specs.declared.block.TheConstants.{BLOCK_PIXELS};
-ghost use Rattle.test_bench.specs.BlockClocks.{AreShownIn, Extends, ShowsBlock, StopsBlock, sample_of, pairs_of};
+ghost use Rattle.batch_sim.specs.Called.{batch_clocks};
+ghost use Rattle.test_bench.specs.declared.batch.TheConstants.{BATCH_PIXELS};
+ghost use Rattle.test_bench.specs.BatchClocks.{AreShownIn, Extends, ShowsBatch, StopsBatch, sample_of, pairs_of};
 ghost use Rattle.cycle_sim.specs.declared.ports.Out.{Out as Ports};
 ghost use Rattle.cycle_sim.specs.Ports.{din_widths, AreShown};
 ghost use Rattle.test_bench.specs.declared.picture.Shown.{Shown as Picture};
@@ -18,9 +18,9 @@ ghost use Rattle.stimulus.specs.Stimulus.{reset_clock, clocks_at};
 ghost use Rattle.stimulus.specs.Given.{rounds_of};
 ghost use Rattle.test_bench.specs.Clocking.{AreKept, GoOn, IsBench, Clocked, StopsIn, IsFed};
 
-use crate::block::{BLOCK_PIXELS, Block, fill_block};
+use crate::batch::{BATCH_PIXELS, Batch, fill_batch};
 use crate::picture::Shown;
-use block_sim::{Blocks, Stop as BlockStop};
+use batch_sim::{Batches, Stop as BatchStop};
 use cycle_sim::{IndexRange, Out};
 use dk_desk::Desk;
 use pgm_rounds::Round;
@@ -30,11 +30,11 @@ use stimulus::Stop;
 #[derive(Drop)]
 pub struct Bench {
     /// The module, after the latest clock.
-    pub sim: Blocks,
+    pub sim: Batches,
     /// Room for what each output shows in a clock.
     pub outs: Vec<Out>,
-    // Room for a block of clocks.
-    pub(crate) block: Block,
+    // Room for a batch of clocks.
+    pub(crate) batch: Batch,
     /// The picture of each output so far.
     pub pictures: Vec<Shown>,
     /// How many samples of each picture are kept.
@@ -56,7 +56,7 @@ pub struct Feed {
 
 // One clock of the simulator.
 fn step(
-    sim: &mut Blocks,
+    sim: &mut Batches,
     reset: bool,
     enable: bool,
     dins: &[u64],
@@ -171,19 +171,19 @@ fn stopped(made: u64, range: IndexRange) -> Stop
     }
 }
 
-// The clocks of a block in one call. Then each clock is noted, and what each output shows in it is added to its picture. At a stop the clocks before it are noted.
+// The clocks of a batch in one call. Then each clock is noted, and what each output shows in it is added to its picture. At a stop the clocks before it are noted.
 fn clock_all<D: Desk>(
     desk: &mut D,
-    sim: &mut Blocks,
+    sim: &mut Batches,
     pictures: &mut Vec<Shown>,
     most: usize,
     enables: &[bool],
     dins: &[u64],
     outs: &mut [Out],
-) -> Result<(), BlockStop>
+) -> Result<(), BatchStop>
     requires order { (order : List ℕ) × IsEvaluationOrder sim.old.netlist.assigns order }
     requires rules { KeepsRules sim.old.netlist }
-    requires fit { All (λ (c : Clock). Fit (din_widths sim.old.netlist) c.dins) (block_clocks sim.old.netlist enables.now dins.now) }
+    requires fit { All (λ (c : Clock). Fit (din_widths sim.old.netlist) c.dins) (batch_clocks sim.old.netlist enables.now dins.now) }
     requires all { length dins.now ≡ length enables.now * length (din_widths sim.old.netlist) }
     requires outs { length outs.old ≡ length enables.now * length pictures.old.items }
     requires pictures { length sim.old.netlist.outputs ≡ 2 * length pictures.old.items }
@@ -193,14 +193,14 @@ fn clock_all<D: Desk>(
     ensures count { OnOk result (length pictures.new.items ≡ length pictures.old.items) }
     ensures room { OnOk result (All (λ shown. most ≤ vec_capacity shown.samples) pictures.new.items) }
     ensures only { D.outside desk.new ≡ record (D.outside desk.old) { notes = (D.outside desk.new).notes } }
-    ensures ok { OnOk result (ShowsBlock sim.old.netlist (block_clocks sim.old.netlist enables.now dins.now) sim.old.contents
+    ensures ok { OnOk result (ShowsBatch sim.old.netlist (batch_clocks sim.old.netlist enables.now dins.now) sim.old.contents
         sim.new.contents most pictures.old.items pictures.new.items (D.outside desk.old).notes (D.outside desk.new).notes) }
-    ensures stop { IfErr result (StopsBlock sim.old.netlist (block_clocks sim.old.netlist enables.now dins.now) sim.old.contents) }
+    ensures stop { IfErr result (StopsBatch sim.old.netlist (batch_clocks sim.old.netlist enables.now dins.now) sim.old.contents) }
 {
     sim.law();
     netlist::values_fit_law();
     let ports = pictures.len();
-    match sim.step_block(enables, dins, outs) {
+    match sim.step_batch(enables, dins, outs) {
         Err(stop) => {
             tell(desk, outs_before(outs, stop.done, ports));
             Err(stop)
@@ -216,17 +216,17 @@ fn clock_all<D: Desk>(
 // `clock_all` with room for more outputs than these.
 fn clock_front<D: Desk>(
     desk: &mut D,
-    sim: &mut Blocks,
+    sim: &mut Batches,
     pictures: &mut Vec<Shown>,
     most: usize,
     enables: &[bool],
     dins: &[u64],
     outs: &mut [Out],
     places: usize,
-) -> Result<(), BlockStop>
+) -> Result<(), BatchStop>
     requires order { (order : List ℕ) × IsEvaluationOrder sim.old.netlist.assigns order }
     requires rules { KeepsRules sim.old.netlist }
-    requires fit { All (λ (c : Clock). Fit (din_widths sim.old.netlist) c.dins) (block_clocks sim.old.netlist enables.now dins.now) }
+    requires fit { All (λ (c : Clock). Fit (din_widths sim.old.netlist) c.dins) (batch_clocks sim.old.netlist enables.now dins.now) }
     requires all { length dins.now ≡ length enables.now * length (din_widths sim.old.netlist) }
     requires outs { places ≤ length outs.old }
     requires places { places ≡ length enables.now * length pictures.old.items }
@@ -237,9 +237,9 @@ fn clock_front<D: Desk>(
     ensures count { OnOk result (length pictures.new.items ≡ length pictures.old.items) }
     ensures room { OnOk result (All (λ shown. most ≤ vec_capacity shown.samples) pictures.new.items) }
     ensures only { D.outside desk.new ≡ record (D.outside desk.old) { notes = (D.outside desk.new).notes } }
-    ensures ok { OnOk result (ShowsBlock sim.old.netlist (block_clocks sim.old.netlist enables.now dins.now) sim.old.contents
+    ensures ok { OnOk result (ShowsBatch sim.old.netlist (batch_clocks sim.old.netlist enables.now dins.now) sim.old.contents
         sim.new.contents most pictures.old.items pictures.new.items (D.outside desk.old).notes (D.outside desk.new).notes) }
-    ensures stop { IfErr result (StopsBlock sim.old.netlist (block_clocks sim.old.netlist enables.now dins.now) sim.old.contents) }
+    ensures stop { IfErr result (StopsBatch sim.old.netlist (batch_clocks sim.old.netlist enables.now dins.now) sim.old.contents) }
 {
     clock_all(
         desk,
@@ -252,68 +252,68 @@ fn clock_front<D: Desk>(
     )
 }
 
-// The same, for the clocks that a block has.
+// The same, for the clocks that a batch has.
 fn clock_filled<D: Desk>(
     desk: &mut D,
-    sim: &mut Blocks,
+    sim: &mut Batches,
     pictures: &mut Vec<Shown>,
     most: usize,
-    block: &mut Block,
-) -> Result<(), BlockStop>
+    batch: &mut Batch,
+) -> Result<(), BatchStop>
     requires order { (order : List ℕ) × IsEvaluationOrder sim.old.netlist.assigns order }
     requires rules { KeepsRules sim.old.netlist }
-    requires fit { All (λ (c : Clock). Fit (din_widths sim.old.netlist) c.dins) (block_clocks sim.old.netlist block.old.enables.items block.old.dins.items) }
-    requires all { length block.old.dins.items ≡ length block.old.enables.items * length (din_widths sim.old.netlist) }
-    requires few { length block.old.enables.items ≤ 2 * BLOCK_PIXELS }
-    requires outs { length block.old.outs.items ≡ 2 * BLOCK_PIXELS * length pictures.old.items }
+    requires fit { All (λ (c : Clock). Fit (din_widths sim.old.netlist) c.dins) (batch_clocks sim.old.netlist batch.old.enables.items batch.old.dins.items) }
+    requires all { length batch.old.dins.items ≡ length batch.old.enables.items * length (din_widths sim.old.netlist) }
+    requires few { length batch.old.enables.items ≤ 2 * BATCH_PIXELS }
+    requires outs { length batch.old.outs.items ≡ 2 * BATCH_PIXELS * length pictures.old.items }
     requires pictures { length sim.old.netlist.outputs ≡ 2 * length pictures.old.items }
     requires room { All (λ shown. most ≤ vec_capacity shown.samples) pictures.old.items }
     ensures netlist { sim.new.netlist ≡ sim.old.netlist }
-    ensures enables { vec_capacity block.new.enables ≡ vec_capacity block.old.enables }
-    ensures dins { vec_capacity block.new.dins ≡ vec_capacity block.old.dins }
-    ensures outs { length block.new.outs.items ≡ length block.old.outs.items }
+    ensures enables { vec_capacity batch.new.enables ≡ vec_capacity batch.old.enables }
+    ensures dins { vec_capacity batch.new.dins ≡ vec_capacity batch.old.dins }
+    ensures outs { length batch.new.outs.items ≡ length batch.old.outs.items }
     ensures count { OnOk result (length pictures.new.items ≡ length pictures.old.items) }
     ensures room { OnOk result (All (λ shown. most ≤ vec_capacity shown.samples) pictures.new.items) }
     ensures only { D.outside desk.new ≡ record (D.outside desk.old) { notes = (D.outside desk.new).notes } }
-    ensures ok { OnOk result (ShowsBlock sim.old.netlist (block_clocks sim.old.netlist block.old.enables.items block.old.dins.items)
+    ensures ok { OnOk result (ShowsBatch sim.old.netlist (batch_clocks sim.old.netlist batch.old.enables.items batch.old.dins.items)
         sim.old.contents sim.new.contents most pictures.old.items pictures.new.items (D.outside desk.old).notes (D.outside desk.new).notes) }
-    ensures stop { IfErr result (StopsBlock sim.old.netlist (block_clocks sim.old.netlist block.old.enables.items block.old.dins.items) sim.old.contents) }
+    ensures stop { IfErr result (StopsBatch sim.old.netlist (batch_clocks sim.old.netlist batch.old.enables.items batch.old.dins.items) sim.old.contents) }
 {
-    let places = block.enables.len() * pictures.len();
+    let places = batch.enables.len() * pictures.len();
     clock_front(
         desk,
         sim,
         pictures,
         most,
-        &block.enables,
-        &block.dins,
-        &mut block.outs,
+        &batch.enables,
+        &batch.dins,
+        &mut batch.outs,
         places,
     )
 }
 
-// The clocks of the bench's block. After a Stop the pictures are those before the block.
-fn clock_block<D: Desk>(desk: &mut D, bench: &mut Bench) -> Result<(), Stop>
+// The clocks of the bench's batch. After a Stop the pictures are those before the batch.
+fn clock_batch<D: Desk>(desk: &mut D, bench: &mut Bench) -> Result<(), Stop>
     requires bench { IsBench bench.old }
     requires fit { All (λ (c : Clock). Fit (din_widths bench.old.sim.netlist) c.dins)
-        (block_clocks bench.old.sim.netlist bench.old.block.enables.items bench.old.block.dins.items) }
-    requires dins { length bench.old.block.dins.items ≡ length bench.old.block.enables.items * length (din_widths bench.old.sim.netlist) }
-    requires outs { length bench.old.block.enables.items ≤ 2 * BLOCK_PIXELS }
+        (batch_clocks bench.old.sim.netlist bench.old.batch.enables.items bench.old.batch.dins.items) }
+    requires dins { length bench.old.batch.dins.items ≡ length bench.old.batch.enables.items * length (din_widths bench.old.sim.netlist) }
+    requires outs { length bench.old.batch.enables.items ≤ 2 * BATCH_PIXELS }
     requires few { bench.old.made < 2 ^ 62 }
     ensures only { D.outside desk.new ≡ record (D.outside desk.old) { notes = (D.outside desk.new).notes } }
     ensures ok { OnOk result (Clocked bench.old.sim.netlist
-        (block_clocks bench.old.sim.netlist bench.old.block.enables.items bench.old.block.dins.items)
+        (batch_clocks bench.old.sim.netlist bench.old.batch.enables.items bench.old.batch.dins.items)
         bench.old bench.new (D.outside desk.old).notes (D.outside desk.new).notes) }
     ensures stop { IfErr result (StopsIn bench.old.sim.netlist bench.old.sim.contents bench.old.made
-        (block_clocks bench.old.sim.netlist bench.old.block.enables.items bench.old.block.dins.items)) }
+        (batch_clocks bench.old.sim.netlist bench.old.batch.enables.items bench.old.batch.dins.items)) }
 {
-    let count = bench.block.enables.len();
+    let count = bench.batch.enables.len();
     match clock_filled(
         desk,
         &mut bench.sim,
         &mut bench.pictures,
         bench.most,
-        &mut bench.block,
+        &mut bench.batch,
     ) {
         Err(stop) => Err(stopped(bench.made + stop.done as u64, stop.range)),
         Ok(()) => {
@@ -336,7 +336,7 @@ fn some_pixel_clocks<D: Desk>(
     requires fed { (size : Size) × IsFed bench.old.sim.netlist size feed.now rounds.now }
     requires few { bench.old.made < 2 ^ 62 }
     requires start { start < 2 ^ 60 }
-    requires count { count ≤ BLOCK_PIXELS }
+    requires count { count ≤ BATCH_PIXELS }
     ensures few { OnOk result (bench.new.made ≤ bench.old.made + 2 * count) }
     ensures only { D.outside desk.new ≡ record (D.outside desk.old) { notes = (D.outside desk.new).notes } }
     ensures ok { OnOk result (Clocked bench.old.sim.netlist
@@ -345,38 +345,38 @@ fn some_pixel_clocks<D: Desk>(
     ensures stop { IfErr result (StopsIn bench.old.sim.netlist bench.old.sim.contents bench.old.made
         (flat_map (clocks_at feed.now.hold (din_widths bench.old.sim.netlist) (rounds_of rounds.now)) (range_with_len start count))) }
 {
-    fill_block(&mut bench.block, feed, rounds, start, count);
-    clock_block(desk, bench)
+    fill_batch(&mut bench.batch, feed, rounds, start, count);
+    clock_batch(desk, bench)
 }
 
-// Whole blocks of pixels, with the held clocks between them.
-fn whole_blocks<D: Desk>(
+// Whole batches of pixels, with the held clocks between them.
+fn whole_batches<D: Desk>(
     desk: &mut D,
     bench: &mut Bench,
     feed: &Feed,
     rounds: &[Round],
-    blocks: u64,
+    batches: u64,
 ) -> Result<(), Stop>
     requires bench { IsBench bench.old }
     requires fed { (size : Size) × IsFed bench.old.sim.netlist size feed.now rounds.now }
     requires made { bench.old.made ≤ 1 }
-    requires blocks { blocks * BLOCK_PIXELS < 2 ^ 60 }
-    ensures few { OnOk result (bench.new.made ≤ bench.old.made + 2 * (blocks * BLOCK_PIXELS)) }
+    requires batches { batches * BATCH_PIXELS < 2 ^ 60 }
+    ensures few { OnOk result (bench.new.made ≤ bench.old.made + 2 * (batches * BATCH_PIXELS)) }
     ensures only { D.outside desk.new ≡ record (D.outside desk.old) { notes = (D.outside desk.new).notes } }
     ensures ok { OnOk result (Clocked bench.old.sim.netlist
-        (flat_map (clocks_at feed.now.hold (din_widths bench.old.sim.netlist) (rounds_of rounds.now)) (range_with_len 0 (blocks * BLOCK_PIXELS)))
+        (flat_map (clocks_at feed.now.hold (din_widths bench.old.sim.netlist) (rounds_of rounds.now)) (range_with_len 0 (batches * BATCH_PIXELS)))
         bench.old bench.new (D.outside desk.old).notes (D.outside desk.new).notes) }
     ensures stop { IfErr result (StopsIn bench.old.sim.netlist bench.old.sim.contents bench.old.made
-        (flat_map (clocks_at feed.now.hold (din_widths bench.old.sim.netlist) (rounds_of rounds.now)) (range_with_len 0 (blocks * BLOCK_PIXELS)))) }
+        (flat_map (clocks_at feed.now.hold (din_widths bench.old.sim.netlist) (rounds_of rounds.now)) (range_with_len 0 (batches * BATCH_PIXELS)))) }
 {
-    for block in 0..blocks {
+    for batch in 0..batches {
         some_pixel_clocks(
             desk,
             bench,
             feed,
             rounds,
-            block * BLOCK_PIXELS,
-            BLOCK_PIXELS,
+            batch * BATCH_PIXELS,
+            BATCH_PIXELS,
         )?;
     }
     Ok(())
@@ -402,10 +402,10 @@ fn all_pixel_clocks<D: Desk>(
     ensures stop { IfErr result (StopsIn bench.old.sim.netlist bench.old.sim.contents bench.old.made
         (flat_map (clocks_at feed.now.hold (din_widths bench.old.sim.netlist) (rounds_of rounds.now)) (range_with_len 0 clocks))) }
 {
-    let blocks = clocks / BLOCK_PIXELS;
-    whole_blocks(desk, bench, feed, rounds, blocks)?;
-    let start = blocks * BLOCK_PIXELS;
-    some_pixel_clocks(desk, bench, feed, rounds, start, clocks % BLOCK_PIXELS)?;
+    let batches = clocks / BATCH_PIXELS;
+    whole_batches(desk, bench, feed, rounds, batches)?;
+    let start = batches * BATCH_PIXELS;
+    some_pixel_clocks(desk, bench, feed, rounds, start, clocks % BATCH_PIXELS)?;
     Ok(())
 }
 

@@ -2,13 +2,13 @@
 #![tactic(auto)]
 
 mod bench;
-mod block;
+mod batch;
 mod clocking;
 mod picture;
 mod writing;
 
 pub use bench::{run_bench, set_up};
-pub use block::BLOCK_PIXELS;
+pub use batch::BATCH_PIXELS;
 pub use clocking::{Bench, Feed, all_clocks, clock};
 pub use picture::Shown;
 pub use writing::{first_short, write_rounds};

@@ -16,8 +16,8 @@ pub trait Element: Copy + Default + Drop {
     ghost worth: { Self → ℤ };
 
     /// The type whose numbers it holds.
-    fn held() -> Ty
-        ensures held { result ≡ ty }
+    fn element_type() -> Ty
+        ensures is { result ≡ ty }
         ensures typed { IsType ty }
         ensures narrow { IsWithin ty (Signed 64) };
 
@@ -42,7 +42,7 @@ impl Element for u8 {
 
     ghost worth = { pos };
 
-    fn held() -> Ty {
+    fn element_type() -> Ty {
         Ty::Unsigned(8)
     }
 
@@ -64,7 +64,7 @@ impl Element for u16 {
 
     ghost worth = { pos };
 
-    fn held() -> Ty {
+    fn element_type() -> Ty {
         Ty::Unsigned(16)
     }
 
@@ -86,7 +86,7 @@ impl Element for u32 {
 
     ghost worth = { pos };
 
-    fn held() -> Ty {
+    fn element_type() -> Ty {
         Ty::Unsigned(32)
     }
 
@@ -108,7 +108,7 @@ impl Element for i8 {
 
     ghost worth = { λ v. v };
 
-    fn held() -> Ty {
+    fn element_type() -> Ty {
         Ty::Signed(8)
     }
 
@@ -130,7 +130,7 @@ impl Element for i16 {
 
     ghost worth = { λ v. v };
 
-    fn held() -> Ty {
+    fn element_type() -> Ty {
         Ty::Signed(16)
     }
 
@@ -152,7 +152,7 @@ impl Element for i32 {
 
     ghost worth = { λ v. v };
 
-    fn held() -> Ty {
+    fn element_type() -> Ty {
         Ty::Signed(32)
     }
 
@@ -174,7 +174,7 @@ impl Element for i64 {
 
     ghost worth = { λ v. v };
 
-    fn held() -> Ty {
+    fn element_type() -> Ty {
         Ty::Signed(64)
     }
 

@@ -42,7 +42,7 @@ pub(crate) fn element_of<L: Element>(value: i128) -> L
     requires { IsIn L.ty value }
     ensures { L.worth result ≡ value }
 {
-    let _held = L::held();
+    let _type = L::element_type();
     L::narrow(narrow(value))
 }
 
@@ -150,7 +150,7 @@ impl<L: Element> Single<L> for Scaled {
     ghost value = { λ s v. scaling_worth s.op v s.by };
 
     fn of(&self, operand: L) -> L {
-        let _held = L::held();
+        let _type = L::element_type();
         L::narrow(narrow_scaling(self.op, operand.widen(), self.by))
     }
 }

@@ -14,7 +14,7 @@ ghost use Rattle.dk_top.specs.Compiling.{IsCompiledFrom};
 ghost use Rattle.dk_top.specs.Streaming.{IsOnePort};
 ghost use Rattle.dk_top.specs.Streams.{StreamsFrom, OfCompiled, RunsStream, RunsOn};
 
-use block_sim::Blocks;
+use batch_sim::Batches;
 use cycle_sim::Fill;
 use dk_base::FrameSize;
 use dk_compile::{Compiled, drive_shows_law, one_at_age_law, one_source_law};
@@ -65,7 +65,7 @@ fn form_of(size: FrameSize, bits: u8) -> Form
 // Opens the images and streams them.
 fn stream_file<D: Desk>(
     desk: &mut D,
-    sim: &mut Blocks,
+    sim: &mut Batches,
     room: Room,
     form: Form,
     bits: u8,
@@ -122,7 +122,7 @@ fn run_lines<D: Desk>(
     compiled.ir.law();
     compiled.plan.law();
     let size = compiled.ir.size();
-    let mut sim = match Blocks::new(alloc, module, Fill::Zeros) {
+    let mut sim = match Batches::new(alloc, module, Fill::Zeros) {
         Ok(sim) => sim,
         Err(_) => return Ending::Memory,
     };

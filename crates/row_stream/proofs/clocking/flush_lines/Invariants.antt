@@ -3,7 +3,7 @@ use Rattle.dk_desk.specs.declared.Stage.TheVariants.{Open}
 use Rattle.row_stream.specs.Forms.{kind_of}
 use Rattle.row_stream.specs.Standing.{HasRoom, Lasts}
 use Rattle.row_stream.specs.Progress.{Goes, pixel_clocks}
-use Rattle.row_stream.specs.Blocks.{HasBlock}
+use Rattle.row_stream.specs.Batches.{HasBatch}
 use Rattle.row_stream.proofs.clocking.flush_lines.Given as goal
 
 abbrev pub invariant-loop-number : goal.invariant-loop-number
@@ -13,8 +13,8 @@ invariant-loop-number g l =
       netlist : l.sim.netlist ≡ l.fn.sim.netlist;
       opened : (outside l.desk).file.stage ≡ Open;
       room : HasRoom l.form.size.width l.line;
-      block : HasBlock l.form.size.width l.block;
-      dins : l.block.dins.items ≡ l.fn.block.dins.items;
+      batch : HasBatch l.form.size.width l.batch;
+      dins : l.batch.dins.items ≡ l.fn.batch.dins.items;
       few : l.line.rows ≤ l.fn.line.rows + l.number * l.form.size.width;
       lasts : Lasts l.fn.sim.netlist l.sim.contents;
       idle : (outside l.desk).image ≡ (outside l.fn.desk).image;

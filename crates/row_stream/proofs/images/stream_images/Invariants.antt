@@ -5,7 +5,7 @@ use Rattle.dk_desk.specs.Outside.{Input}
 use Rattle.dk_desk.specs.declared.Stage.TheVariants.{Open}
 use Rattle.row_stream.specs.Forms.{kind_of}
 use Rattle.row_stream.specs.Standing.{HasRoom, Lasts}
-use Rattle.row_stream.specs.Blocks.{HasBlock}
+use Rattle.row_stream.specs.Batches.{HasBatch}
 use Rattle.row_stream.specs.Heads.{FitsHeader, TakesHead}
 use Rattle.row_stream.specs.ImageReading.{Stands, unread}
 use Rattle.row_stream.proofs.images.stream_images.Given as goal
@@ -19,7 +19,7 @@ invariant-loop-images g l =
       created : (outside l.desk).file.stage ≡ Open;
       row : length l.row ≡ 2 * l.form.size.width;
       room : HasRoom l.form.size.width l.line;
-      block : HasBlock l.form.size.width l.block;
+      batch : HasBatch l.form.size.width l.batch;
       few : l.line.rows ≤ 1 + l.images * (MAX_SIDE * MAX_SIDE);
       inside : l.images < MAX_FILE_IMAGES;
       fits : FitsHeader (size_of l.form.size) l.bits l.header;

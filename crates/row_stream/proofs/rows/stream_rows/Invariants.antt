@@ -4,7 +4,7 @@ use Rattle.dk_base.specs.declared.TheConstants.{MAX_SIDE}
 use Rattle.pgm_codec.specs.Rasters.{row_length}
 use Rattle.row_stream.specs.Forms.{kind_of}
 use Rattle.row_stream.specs.Standing.{HasRoom, Lasts}
-use Rattle.row_stream.specs.Blocks.{HasBlock}
+use Rattle.row_stream.specs.Batches.{HasBatch}
 use Rattle.row_stream.specs.RowReading.{Streams}
 use Rattle.row_stream.proofs.rows.stream_rows.Given as goal
 
@@ -17,7 +17,7 @@ invariant-loop-row g l =
       created : (outside l.desk).file.stage ≡ Open;
       to : length l.to ≡ row_length l.header;
       room : HasRoom l.form.size.width l.line;
-      block : HasBlock l.form.size.width l.block;
+      batch : HasBatch l.form.size.width l.batch;
       few : l.line.rows ≤ l.fn.line.rows + l.row * MAX_SIDE;
       lasts : Lasts l.fn.sim.netlist l.sim.contents;
       no_read : (outside l.desk).input_failures ≡ (outside l.fn.desk).input_failures;

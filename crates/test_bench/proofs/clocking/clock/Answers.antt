@@ -3,7 +3,7 @@ use Rattle.std.specs.Prelude.{slice_get}
 use Rattle.std.specs.List.{All}
 use Rattle.wiring.specs.Clock.{Clock}
 use Rattle.test_bench.specs.Clocking.{GoOn}
-use Rattle.test_bench.specs.BlockClocks.{pairs_of}
+use Rattle.test_bench.specs.BatchClocks.{pairs_of}
 use Rattle.test_bench.proofs.Clocks.{douts_fit, outs_small, clocked_one}
 use Rattle.test_bench.proofs.clocking.clock.Goals as goal
 

@@ -3,7 +3,7 @@ use Rattle.std.specs.Prelude.{slice_get, vec_capacity}
 use Rattle.std.specs.List.{All}
 use Rattle.cycle_sim.specs.declared.ports.Out.{Out}
 use Rattle.test_bench.specs.declared.picture.Shown.{Shown}
-use Rattle.test_bench.specs.BlockClocks.{Extends, sample_of}
+use Rattle.test_bench.specs.BatchClocks.{Extends, sample_of}
 use Rattle.test_bench.proofs.clocking.show.Given as goal
 
 abbrev pub invariant-loop-k : goal.invariant-loop-k

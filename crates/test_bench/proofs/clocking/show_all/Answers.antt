@@ -1,7 +1,7 @@
 use Rattle.std.proofs.Common.{◌≡◌, ◌+◌, ◌-◌, ◌*◌, ◌<◌, ◌++◌, length, take, drop, ap, sym, subst, ◌∙◌, arith}
 use Rattle.std.proofs.lemmas.List.{take_all}
-use Rattle.block_sim.specs.Called.{of_clock}
-use Rattle.block_sim.proofs.Clockwise.{place_size, place_inside, code_size}
+use Rattle.batch_sim.specs.Called.{of_clock}
+use Rattle.batch_sim.proofs.Clockwise.{place_size, place_inside, code_size}
 use Rattle.test_bench.specs.Clocking.{AreKept}
 use Rattle.test_bench.proofs.Shows.{shown_more}
 use Rattle.test_bench.proofs.clocking.show_all.Goals as goal

@@ -3,7 +3,7 @@ use Rattle.std.specs.Prelude.{vec_capacity}
 use Rattle.std.specs.List.{All}
 use Rattle.wiring.specs.Snapshot.{Snapshot}
 use Rattle.test_bench.specs.Clocking.{AreKept}
-use Rattle.test_bench.specs.BlockClocks.{AreShownIn}
+use Rattle.test_bench.specs.BatchClocks.{AreShownIn}
 use Rattle.test_bench.proofs.clocking.show_all.Given as goal
 
 abbrev pub invariant-loop-number : goal.invariant-loop-number

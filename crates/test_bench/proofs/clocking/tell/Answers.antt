@@ -1,6 +1,6 @@
 use Rattle.std.proofs.Common.{rules, subst, arith}
 use Rattle.test_bench.specs.Clocking.{GoOn}
-use Rattle.test_bench.specs.BlockClocks.{pairs_of}
+use Rattle.test_bench.specs.BatchClocks.{pairs_of}
 use Rattle.std.proofs.lemmas.Option.{slice_get-get_or}
 use Rattle.test_bench.proofs.Clocks.{told_more}
 use Rattle.std.proofs.lemmas.List.{take_all}

@@ -1,6 +1,6 @@
 use Rattle.std.proofs.Common.{◌≡◌, take}
 use Rattle.test_bench.specs.Clocking.{GoOn}
-use Rattle.test_bench.specs.BlockClocks.{pairs_of}
+use Rattle.test_bench.specs.BatchClocks.{pairs_of}
 use Rattle.test_bench.proofs.clocking.tell.Given as goal
 
 abbrev pub invariant-loop-out : goal.invariant-loop-out

@@ -1,0 +1,11 @@
+-- A batch's equations make a run.
+use Rattle.std.proofs.Common.{ℕ, suc, List, [], ◌∷◌, length, refl}
+use Rattle.wiring.specs.Netlist.{Netlist}
+use Rattle.wiring.specs.Snapshot.{Contents, Snapshot}
+use Rattle.wiring.specs.Clock.{Clock}
+use Rattle.wiring.specs.Runs.{Runs}
+use Rattle.batch_code.specs.Batch.{IsBatch, firsts}
+
+pub runs_of : (m : Netlist) (clocks : List Clock) (shot : ℕ → Snapshot) (held : ℕ → Contents) → IsBatch m clocks shot held → Runs m (held 0) clocks (firsts shot (length clocks)) (held (length clocks))
+runs_of m [] shot held batch = refl
+runs_of m (c ∷ clocks) shot held batch = (held 1, batch 0 c refl, runs_of m clocks (λ t. shot (suc t)) (λ t. held (suc t)) (λ t d at. batch (suc t) d at))

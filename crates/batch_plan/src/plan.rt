@@ -1,0 +1,284 @@
+// A plan for a batch of clocks.
+//
+// It is for speed and claims nothing: who runs it checks all that it rests on.
+
+use crate::graph::{Access, Graph, Needs, arrays_are_single, graph_of, words_read};
+use crate::groups::{Groups, groups_of};
+use crate::search::components_of;
+use dk_base::OutOfMemory;
+use netlist::{Module, Netlist};
+use std::alloc::{AllocError, Global};
+use wiring::Update;
+
+/// What is done next to the rows of a batch.
+#[derive(Clone, Copy, Debug, PartialEq, Eq)]
+pub enum Step {
+    /// The assigns of the order up to this place, exclusive, are evaluated over the whole batch.
+    Run {
+        upto: usize,
+    },
+    /// The register of this update is on no cycle: its row is its next value's, one clock later.
+    Shift {
+        update: usize,
+    },
+    /// The reads of this assign are taken from the words of its array as they are before the batch.
+    Read {
+        assign: usize,
+    },
+    /// An array with so few words that a batch comes back to them: reads and puts, clock by clock, over a copy of its words. Its
+    /// indexes and the value put are known.
+    Small {
+        assign: usize,
+    },
+    /// The same where what is put is chosen: by a bit a value, or else what this assign reads, which is there already. The
+    /// indexes, the bit and the value are known, and the choice is evaluated after this step.
+    Held {
+        assign: usize,
+    },
+    /// The register of this update takes what is read of an array where a bit is 1, and else keeps its value: its row is made from
+    /// those of the bit and of the read, and the choice is evaluated after this step.
+    Load {
+        update: usize,
+    },
+    /// As `Small`, where what is put is chosen: by a bit a value, or else the register that takes what this assign reads. The
+    /// indexes, the bit and the value are known, and the register's row and the choice are made after this step.
+    Copied {
+        assign: usize,
+    },
+    /// The registers of the updates `looped[first..last]` are on a cycle: their rows are guessed, the assigns of the order up to
+    /// `upto` are evaluated, and what was guessed is compared and mended.
+    Guess {
+        first: usize,
+        last: usize,
+        upto: usize,
+    },
+}
+
+/// The assigns that read no array, each after all that it reads but for cycles through registers, and the steps that evaluate
+/// them.
+#[derive(Debug, Drop)]
+pub struct Plan {
+    /// The numbers of these assigns.
+    pub order: Vec<usize>,
+    pub steps: Vec<Step>,
+    /// The updates of the registers on cycles.
+    pub looped: Vec<usize>,
+    /// The most clocks of a batch.
+    pub size: usize,
+}
+
+// A plan that is made, and how many of its assigns its steps evaluate.
+#[derive(Drop)]
+struct Draft {
+    plan: Plan,
+    done: usize,
+}
+
+// Evaluates what was gathered.
+fn flush(draft: &mut Draft) -> Result<(), AllocError> {
+    let upto = draft.plan.order.len();
+    if upto > draft.done {
+        draft.plan.steps.push(Step::Run { upto })?;
+        draft.done = upto;
+    }
+    Ok(())
+}
+
+fn add_step(draft: &mut Draft, step: Step) -> Result<(), AllocError> {
+    flush(draft)?;
+    draft.plan.steps.push(step)?;
+    Ok(())
+}
+
+// How an assign reads an array, if it does.
+fn access_at(graph: &Graph, assign: usize) -> Option<Access> {
+    match graph.accesses.get(assign) {
+        Some(access) => *access,
+        None => None,
+    }
+}
+
+// An assign on no cycle.
+fn add_assign(draft: &mut Draft, graph: &Graph, assign: usize) -> Result<(), AllocError> {
+    match access_at(graph, assign) {
+        None => {
+            draft.plan.order.push(assign)?;
+            Ok(())
+        }
+        Some(Access::Long) => add_step(draft, Step::Read { assign }),
+        Some(Access::Small) => add_step(draft, Step::Small { assign }),
+        Some(Access::Held) => add_step(draft, Step::Held { assign }),
+        Some(Access::Copied) => add_step(draft, Step::Copied { assign }),
+    }
+}
+
+fn is_load(graph: &Graph, update: usize) -> bool {
+    match graph.loads.get(update) {
+        Some(load) => *load,
+        None => false,
+    }
+}
+
+fn sets_register(wiring: &Netlist, update: usize) -> bool {
+    match wiring.updates.get(update) {
+        Some(Update::Set(_, _)) => true,
+        _ => false,
+    }
+}
+
+// The one node of a group, on no cycle.
+fn add_single(
+    draft: &mut Draft,
+    wiring: &Netlist,
+    graph: &Graph,
+    node: usize,
+) -> Result<(), AllocError> {
+    let assigns = wiring.assigns.len();
+    if node < assigns {
+        return add_assign(draft, graph, node);
+    }
+    let update = node - assigns;
+    if is_load(graph, update) {
+        return add_step(draft, Step::Load { update });
+    }
+    if sets_register(wiring, update) {
+        return add_step(draft, Step::Shift { update });
+    }
+    Ok(())
+}
+
+// The nodes of a group on a cycle; false where one of them reads an array.
+fn add_cycle(
+    draft: &mut Draft,
+    wiring: &Netlist,
+    graph: &Graph,
+    nodes: &[usize],
+) -> Result<bool, AllocError> {
+    flush(draft)?;
+    let first = draft.plan.looped.len();
+    let assigns = wiring.assigns.len();
+    for node in nodes {
+        if *node >= assigns {
+            draft.plan.looped.push(*node - assigns)?;
+        } else if access_at(graph, *node).is_none() {
+            draft.plan.order.push(*node)?;
+        } else {
+            return Ok(false);
+        }
+    }
+    let last = draft.plan.looped.len();
+    let upto = draft.plan.order.len();
+    draft.plan.steps.push(Step::Guess { first, last, upto })?;
+    draft.done = upto;
+    Ok(true)
+}
+
+fn add_group(
+    draft: &mut Draft,
+    wiring: &Netlist,
+    graph: &Graph,
+    nodes: &[usize],
+) -> Result<bool, AllocError> {
+    match nodes.first() {
+        None => Ok(true),
+        Some(node) => {
+            if nodes.len() > 1 || needs_itself(&graph.needs, *node) {
+                return add_cycle(draft, wiring, graph, nodes);
+            }
+            add_single(draft, wiring, graph, *node)?;
+            Ok(true)
+        }
+    }
+}
+
+fn needs_itself(needs: &[Needs], node: usize) -> bool {
+    match needs.get(node) {
+        None => false,
+        Some(need) => {
+            need.first == Some(node) || need.second == Some(node) || need.third == Some(node)
+        }
+    }
+}
+
+// What comes of all groups: a plan, or a cycle with arrays, and then the most clocks of shorter batches in which the cycle has
+// fewer arrays to which a batch comes back. It is 0 where it has none.
+#[derive(Drop)]
+enum Drawn {
+    Plan(Plan),
+    Cycle(usize),
+}
+
+// The most words of an array that one of these nodes reads, of those with at most so many words as a batch has clocks.
+fn deepest(wiring: &Netlist, nodes: &[usize], size: usize) -> usize {
+    let mut most = 0;
+    for node in nodes {
+        let words = words_read(wiring, *node);
+        if words <= size {
+            most = words.max(most);
+        }
+    }
+    most
+}
+
+fn empty_draft(alloc: Global, size: usize) -> Draft {
+    Draft {
+        plan: Plan {
+            order: Vec::new(alloc),
+            steps: Vec::new(alloc),
+            looped: Vec::new(alloc),
+            size,
+        },
+        done: 0,
+    }
+}
+
+fn add_groups(
+    alloc: Global,
+    wiring: &Netlist,
+    graph: &Graph,
+    groups: &Groups,
+    size: usize,
+) -> Result<Drawn, AllocError> {
+    let mut draft = empty_draft(alloc, size);
+    for number in 0..groups.count() {
+        let nodes = groups.nodes(number);
+        if !add_group(&mut draft, wiring, graph, nodes)? {
+            let words = deepest(wiring, nodes, size);
+            return Ok(Drawn::Cycle(words.saturating_sub(1)));
+        }
+    }
+    flush(&mut draft)?;
+    Ok(Drawn::Plan(draft.plan))
+}
+
+// What comes of a module for batches of this many clocks.
+fn draw(alloc: Global, module: &Module, size: usize) -> Result<Drawn, AllocError> {
+    let wiring = module.wiring();
+    let graph = graph_of(alloc, wiring, size)?;
+    let found = components_of(alloc, &graph.needs)?;
+    let groups = groups_of(alloc, wiring.assigns.len(), module.order(), &found)?;
+    add_groups(alloc, wiring, &graph, &groups, size)
+}
+
+// How many sizes of batches are tried.
+const TRIES: usize = 16;
+
+/// The plan of a module for batches of at most this many clocks, or of fewer where an array is else on a cycle: what is put into
+/// it depends on what is read of it, and a batch comes back to its words. None where there is no plan: an array that is not read
+/// by one assign and put once, or one on a cycle in shorter batches too. Time and memory are linear in the module.
+pub fn make_plan(alloc: Global, module: &Module, most: usize) -> Result<Option<Plan>, OutOfMemory> {
+    if !arrays_are_single(alloc, module.wiring())? {
+        return Ok(None);
+    }
+    let mut size = most;
+    for _try in 0..TRIES {
+        match draw(alloc, module, size)? {
+            Drawn::Plan(plan) => return Ok(Some(plan)),
+            Drawn::Cycle(fewer) => size = fewer,
+        }
+        if size == 0 {
+            return Ok(None);
+        }
+    }
+    Ok(None)
+}

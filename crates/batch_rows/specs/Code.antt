@@ -1,0 +1,43 @@
+-- Instructions over rows.
+use Rattle.std.specs.Prelude.{◌≡◌, ◌≢◌, ℕ, ◌^◌, ◌<◌, ◌≤◌, List, [], length, slice_index, slice_index_or, slice_get, Some, None, All, Contains}
+use Rattle.wiring.specs.Sizes.{IsConstant}
+use Rattle.wiring.specs.Rights.{array_of, nets_of, constants_of, right_value, right_width}
+use Rattle.wiring.specs.Rules.{WidthsAgree}
+use Rattle.batch_rows.specs.declared.code.Instruction.{Instruction}
+use Rattle.batch_rows.specs.Rights.{value_at}
+
+-- as many rows as widths, each of this many values that fit
+pub record AreRows (widths : List ℕ) (count : ℕ) (rows : List (List ℕ)) : Type 0 where
+  pub slots : length rows ≡ length widths
+  pub long : (n : ℕ) → n < length rows → length (slice_index_or rows n []) ≡ count
+  pub fit : (n t : ℕ) → n < length rows → t < count → value_at rows t n < 2 ^ slice_index widths n
+
+-- an instruction reads and writes slots that there are, its widths agree, and it reads no array
+pub record IsSound (widths : List ℕ) (i : Instruction) : Type 0 where
+  pub target : i.target < length widths
+  pub slots : (n : ℕ) → Contains (nets_of i.right) n → n < length widths
+  pub constants : All IsConstant (constants_of i.right)
+  pub agree : WidthsAgree (λ n. slice_index widths n) (λ _. 0) i.right
+  pub plain : array_of i.right ≡ None
+  pub narrow : slice_index widths i.target ≤ 64
+  pub width : right_width (λ n. slice_index widths n) (λ _. 0) i.right ≡ slice_index widths i.target
+
+abbrev pub AreSound : List ℕ → List Instruction → Type 0
+AreSound widths code = All (IsSound widths) code
+
+-- no instruction writes a slot that one before it, or itself, reads or has written
+pub record IsOrdered (code : List Instruction) : Type 0 where
+  pub reads : (p q : ℕ) (i j : Instruction) → p ≤ q → slice_get code p ≡ Some i → slice_get code q ≡ Some j → Contains (nets_of i.right) j.target → ⊥
+  pub writes : (p q : ℕ) (i j : Instruction) → p < q → slice_get code p ≡ Some i → slice_get code q ≡ Some j → i.target ≡ j.target → ⊥
+
+-- the equation of an instruction at a clock
+abbrev pub HoldsAt : List ℕ → List (List ℕ) → ℕ → Instruction → Type 0
+HoldsAt widths rows t i = value_at rows t i.target ≡ right_value (λ n. slice_index widths n) (λ _ _. 0) (value_at rows t) i.right
+
+-- those of the first n instructions, at each of this many clocks
+abbrev pub AllHold : List ℕ → ℕ → List (List ℕ) → ℕ → List Instruction → Type 0
+AllHold widths count rows k code = (p t : ℕ) (i : Instruction) → p < k → t < count → slice_get code p ≡ Some i → HoldsAt widths rows t i
+
+-- no instruction writes this slot
+abbrev pub IsNoTarget : List Instruction → ℕ → Type 0
+IsNoTarget code n = (k : ℕ) (i : Instruction) → slice_get code k ≡ Some i → n ≢ i.target

@@ -1,0 +1,63 @@
+-- Lanes in which rows are held and instructions are run.
+use Rattle.std.specs.Prelude.{◌≡◌, ℕ, ◌<◌, ◌≤◌, List, length, map, slice_index, slice_get, Some, All, Contains}
+use Rattle.wiring.specs.Sizes.{SizedNumber}
+use Rattle.wiring.specs.declared.right.Atom.{Atom}
+use Rattle.wiring.specs.declared.right.Atom.TheVariants as atom
+use Rattle.wiring.specs.declared.right.Right.{Right}
+use Rattle.wiring.specs.declared.right.Right.TheVariants.{Copy, Not, Binary, Choose, Join, Repeat, Bit, Slice, Word}
+use Rattle.wiring.specs.Rights.{nets_of, constants_of}
+use Rattle.batch_rows.specs.declared.code.Instruction.{Instruction}
+use Rattle.batch_rows.specs.declared.code.Size.{Size}
+use Rattle.batch_rows.specs.declared.code.Size.TheVariants.{Narrow, Middle, Wide}
+use Rattle.batch_rows.specs.declared.code.Bench.{Bench}
+use Rattle.batch_rows.specs.declared.code.Rooms.{Rooms}
+use Rattle.batch_rows.specs.declared.row.Row.{Row}
+use Rattle.batch_rows.specs.Rights.{HaveRoom}
+use Rattle.batch_rows.specs.Values.{row_bits}
+
+-- each row is in a lane of no fewer bits than its slot
+abbrev pub InLanes : List ℕ → List Row → Type 0
+InLanes widths rows = (n : ℕ) → n < length rows → slice_index widths n ≤ slice_index (map row_bits rows) n
+
+abbrev pub bits_of : Size → ℕ
+bits_of Narrow = 16
+bits_of Middle = 32
+bits_of Wide = 64
+
+-- the slots and the constants of an instruction have no more bits than this
+pub record IsSized (widths : List ℕ) (bits : ℕ) (i : Instruction) : Type 0 where
+  pub slots : (n : ℕ) → Contains (nets_of i.right) n → slice_index widths n ≤ bits
+  pub constants : All (λ (c : SizedNumber). c.width ≤ bits) (constants_of i.right)
+  pub target : slice_index widths i.target ≤ bits
+
+-- each instruction is run in a lane that holds its slots and constants
+pub record AreSized (widths : List ℕ) (code : List Instruction) (sizes : List Size) : Type 0 where
+  pub count : length sizes ≡ length code
+  pub each : (k : ℕ) (i : Instruction) (s : Size) → slice_get code k ≡ Some i → slice_get sizes k ≡ Some s → IsSized widths (bits_of s) i
+
+-- room of a lane for this many clocks
+abbrev pub HasBench : {T : Type 0} → Bench T → ℕ → Type 0
+HasBench b count = (length b.to.items ≡ count) × HaveRoom b.spares count
+
+-- room of all lanes
+pub record HaveRooms (r : Rooms) (count : ℕ) : Type 0 where
+  pub narrow : HasBench r.narrow count
+  pub middle : HasBench r.middle count
+  pub wide : HasBench r.wide count
+
+-- an atom has no more bits than this
+abbrev pub AtomIsIn : List ℕ → ℕ → Atom ℕ → Type 0
+AtomIsIn widths bits (atom.Net n) = slice_index widths n ≤ bits
+AtomIsIn widths bits (atom.Constant c) = c.width ≤ bits
+
+-- nor has any operand of a right side
+abbrev pub RightIsIn : List ℕ → ℕ → Right ℕ ℕ → Type 0
+RightIsIn widths bits (Copy a) = AtomIsIn widths bits a
+RightIsIn widths bits (Not a) = AtomIsIn widths bits a
+RightIsIn widths bits (Binary o a b) = AtomIsIn widths bits a × AtomIsIn widths bits b
+RightIsIn widths bits (Choose c a b) = AtomIsIn widths bits c × AtomIsIn widths bits a × AtomIsIn widths bits b
+RightIsIn widths bits (Join a b) = AtomIsIn widths bits a × AtomIsIn widths bits b
+RightIsIn widths bits (Repeat n a) = AtomIsIn widths bits a
+RightIsIn widths bits (Bit v k) = slice_index widths v ≤ bits
+RightIsIn widths bits (Slice v m l) = slice_index widths v ≤ bits
+RightIsIn widths bits (Word m i) = AtomIsIn widths bits i

@@ -1,0 +1,35 @@
+use Rattle.std.proofs.Common.{◌∙◌, ℕ, List, Vec, length, ap, sym, subst}
+use Rattle.std.specs.declared.alloc.Global.{Global}
+use Rattle.cycle_sim.specs.Slots.{words_of}
+use Rattle.batch_rows.specs.Values.{values_of}
+use Rattle.batch_code.specs.declared.code.WordRead.{WordRead}
+use Rattle.batch_code.specs.declared.code.WordPut.{WordPut}
+use Rattle.batch_sim.specs.Arrays.{AreAccessRows, AreKept, ArePut}
+use Rattle.batch_sim.specs.Checked.{AreRegisterRows}
+use Rattle.batch_sim.proofs.Judged.{judged_by}
+use Rattle.batch_sim.proofs.judge.judge.Goals as goal
+
+pub pass_arrays-requires-clause-rows : goal.pass_arrays-requires-clause-rows
+pass_arrays-requires-clause-rows c =
+    subst (λ (rs : List WordRead). AreAccessRows (values_of c.args.rows.now) c.args.piece.now.count rs c.deref-3.result.now) (sym c.deref-2.ensures.value)
+    (subst (λ (ps : List WordPut). AreAccessRows (values_of c.args.rows.now) c.args.piece.now.count c.args.engine.now.code.reads.items ps) (sym c.deref-3.ensures.value) c.requires.wide.arrays)
+
+pub returns-clause-yes : goal.returns-clause-yes
+returns-clause-yes c = λ _.
+    let code = c.args.engine.now.code in
+    let rows = values_of c.args.rows.now in
+    let count = c.args.piece.now.count in
+    let right = c.if-not-are_right.false in
+    let passed = c.if-not-pass_arrays.false in
+    let arrays = c.deref_mut.ensures.value in
+    judged_by c.args.engine.now rows c.args.piece.now c.args.held.now c.take_registers.new.regs c.pass_arrays.new.arrays
+    (c.take_registers.auto.regs ∙ ap (λ (h : List ℕ). length h) c.deref_mut-3.ensures.value)
+    (c.pass_arrays.auto.arrays ∙ ap (λ (a : List (Vec ℕ Global)). length a) arrays)
+    (c.are_right.ensures.given right)
+    (subst (λ (h : List ℕ). AreRegisterRows rows count code.first_reg h code.nexts.items) c.deref.ensures.value (c.are_right.ensures.kept right))
+    (subst (λ (a : List (Vec ℕ Global)). AreKept rows code.reads.items code.puts.items count (words_of a) (length a)) arrays
+    (subst (λ (ps : List WordPut). AreKept rows code.reads.items ps count (words_of c.deref_mut.result.now) (length c.deref_mut.result.now)) c.deref-3.ensures.value
+    (subst (λ (rs : List WordRead). AreKept rows rs c.deref-3.result.now count (words_of c.deref_mut.result.now) (length c.deref_mut.result.now)) c.deref-2.ensures.value (c.pass_arrays.ensures.kept passed))))
+    (subst (λ (a : List (Vec ℕ Global)). ArePut rows code.puts.items count (words_of a) (words_of c.pass_arrays.new.arrays) (length a)) arrays
+    (subst (λ (ps : List WordPut). ArePut rows ps count (words_of c.deref_mut.result.now) (words_of c.pass_arrays.new.arrays) (length c.deref_mut.result.now)) c.deref-3.ensures.value (c.pass_arrays.ensures.put passed)))
+    c.take_registers.ensures

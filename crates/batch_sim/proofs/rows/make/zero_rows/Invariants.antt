@@ -1,0 +1,6 @@
+use Rattle.std.proofs.Common.{◌≡◌, replicate}
+use Rattle.batch_rows.specs.Rights.{items_of}
+use Rattle.batch_sim.proofs.rows.make.zero_rows.Given as goal
+
+abbrev pub invariant-loop-slot : goal.invariant-loop-slot
+invariant-loop-slot l = items_of l.rows.items ≡ replicate l._slot (replicate l.long 0)

@@ -1,0 +1,52 @@
+-- Clocks of a batch, by what the ports are given.
+use Rattle.std.specs.Prelude.{◌≡◌, ℕ, ◌+◌, ◌*◌, ◌≤◌, List, length, All}
+use Rattle.wiring.specs.Netlist.{Netlist}
+use Rattle.wiring.specs.Snapshot.{Contents, Fit}
+use Rattle.wiring.specs.Clock.{Clock}
+use Rattle.cycle_sim.specs.declared.ports.Out.{Out}
+use Rattle.cycle_sim.specs.Ports.{din_widths}
+use Rattle.batch_sim.specs.declared.batches.Stop.{Stop}
+use Rattle.batch_sim.specs.declared.inputs.Inputs.{Inputs}
+use Rattle.batch_sim.specs.declared.inputs.Piece.{Piece}
+use Rattle.batch_sim.specs.Called.{din_count, output_count, batch_clocks, piece_of, Came, BatchStops}
+
+-- the clocks of a batch
+abbrev pub clocks_of : Netlist → Inputs → List Clock
+clocks_of m i = batch_clocks m i.enables.now i.dins.now
+
+-- the clocks of a piece
+abbrev pub clocks_in : Netlist → Piece → List Clock
+clocks_in m p = piece_of m p.inputs.enables.now p.inputs.dins.now p.first p.count
+
+-- each clock has all dins, and they fit their ports
+pub record AreInputsOf (m : Netlist) (i : Inputs) : Type 0 where
+  pub fit : All (λ (c : Clock). Fit (din_widths m) c.dins) (clocks_of m i)
+  pub all : length i.dins.now ≡ length i.enables.now * din_count m
+
+-- these are clocks of a batch for a netlist
+pub record IsPieceOf (m : Netlist) (p : Piece) : Type 0 where
+  pub inputs : AreInputsOf m p.inputs
+  pub within : p.first + p.count ≤ length p.inputs.enables.now
+
+-- these are clocks of a batch with this many dins in each
+pub record HasDins (ports : ℕ) (p : Piece) : Type 0 where
+  pub all : length p.inputs.dins.now ≡ length p.inputs.enables.now * ports
+  pub within : p.first + p.count ≤ length p.inputs.enables.now
+
+-- each clock has places for its outputs
+abbrev pub HavePlaces : Netlist → Inputs → List Out → Type 0
+HavePlaces m i outs = length outs ≡ length i.enables.now * output_count m
+
+-- the clocks of a piece take place after any run over the clocks before them
+abbrev pub PieceRan : Netlist → Piece → (mid to : Contents) → (old new : List Out) → Type 0
+PieceRan m p mid to old new = (from : Contents) (before : List Out) →
+    Came m (clocks_of m p.inputs) from mid before old p.first → Came m (clocks_of m p.inputs) from to before new (p.first + p.count)
+
+-- a clock of a piece stops after any run over the clocks before the piece
+abbrev pub PieceStops : Netlist → Piece → (mid to : Contents) → (old new : List Out) → Stop → Type 0
+PieceStops m p mid to old new stop = (from : Contents) (before : List Out) →
+    Came m (clocks_of m p.inputs) from mid before old p.first → BatchStops m (clocks_of m p.inputs) from to before new stop
+
+-- a clock of a batch stops
+abbrev pub InputsStop : Netlist → Inputs → (from to : Contents) → (old new : List Out) → Stop → Type 0
+InputsStop m i from to old new stop = BatchStops m (clocks_of m i) from to old new stop

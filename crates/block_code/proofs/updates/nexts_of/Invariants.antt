@@ -1,6 +1,0 @@
-use Rattle.wiring.specs.Netlist.{netlist_of}
-use Rattle.block_code.specs.Parts.{AreNexts}
-use Rattle.block_code.proofs.updates.nexts_of.Given as goal
-
-abbrev pub invariant-loop-number : goal.invariant-loop-number
-invariant-loop-number l = AreNexts (netlist_of l.wiring) l.number l.nexts.items

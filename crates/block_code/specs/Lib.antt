@@ -1,5 +1,0 @@
-pub mod Block
-pub mod Code
-pub mod Parts
-pub mod Rows
-pub mod Streams

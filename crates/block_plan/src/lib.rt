@@ -1,9 +1,0 @@
-//! The order in which the nets of a module are evaluated over a block of clocks.
-#![tactic(auto)]
-
-mod graph;
-mod groups;
-mod plan;
-mod search;
-
-pub use plan::{Plan, Step, make_plan};

@@ -1,5 +1,0 @@
-use Rattle.block_rows.specs.Seen.{IsOrderedUpTo}
-use Rattle.block_rows.proofs.ordered.orders.Given as goal
-
-abbrev pub invariant-loop-k : goal.invariant-loop-k
-invariant-loop-k l = IsOrderedUpTo l.seen l.k l.code

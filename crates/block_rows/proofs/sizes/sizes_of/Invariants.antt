@@ -1,9 +1,0 @@
-use Rattle.std.proofs.Common.{◌≡◌, ℕ, length, Some}
-use Rattle.std.specs.Prelude.{slice_get}
-use Rattle.block_rows.specs.declared.code.Instruction.{Instruction}
-use Rattle.block_rows.specs.declared.code.Size.{Size}
-use Rattle.block_rows.specs.LaneSizes.{IsSized, bits_of}
-use Rattle.block_rows.proofs.sizes.sizes_of.Given as goal
-
-abbrev pub invariant-loop-k : goal.invariant-loop-k
-invariant-loop-k l = (length l.sizes.items ≡ l.k) × ((j : ℕ) (i : Instruction) (s : Size) → slice_get l.code j ≡ Some i → slice_get l.sizes.items j ≡ Some s → IsSized l.widths (bits_of s) i)

@@ -1,7 +1,0 @@
-use Rattle.std.proofs.Common.{◌≤◌, ◌<◌, ℕ, [], length}
-use Rattle.std.specs.Prelude.{slice_index_or}
-use Rattle.block_rows.specs.Rights.{items_of}
-use Rattle.block_sim.proofs.rows.are_long.Given as goal
-
-abbrev pub invariant-loop-x : goal.invariant-loop-x
-invariant-loop-x l = (x : ℕ) → x < l.x → l.count ≤ length (slice_index_or (items_of l.lists) x [])

@@ -1,0 +1,9 @@
+use Rattle.std.proofs.Common.{◌≡◌, ℕ, ◌<◌, length}
+use Rattle.std.specs.Prelude.{slice_index}
+use Rattle.row_stream.proofs.batch.fill_zeros.Given as goal
+
+abbrev pub invariant-loop-column : goal.invariant-loop-column
+invariant-loop-column l = record {
+  count : length l.dins.items ≡ length l.fn.dins.items;
+  done : (k : ℕ) → k < l.column → slice_index l.dins.items k ≡ 0;
+}

@@ -1,0 +1,45 @@
+-- Used by private functions only.
+-- What the clocks of a batch show.
+use Rattle.std.specs.Prelude.{◌≡◌, ℕ, List, slice_get, Some, ◌+◌, Bool, [], ◌∷◌, ◌++◌, length, map, Option, if◌then◌else◌}
+use Rattle.wiring.specs.Snapshot.{Snapshot, Contents}
+use Rattle.cycle_sim.specs.declared.ports.Out.{Out}
+use Rattle.cycle_sim.specs.Ports.{AreShown}
+use Rattle.batch_sim.specs.Called.{of_clock}
+use Rattle.std.specs.List.{All}
+use Rattle.wiring.specs.Netlist.{Netlist}
+use Rattle.wiring.specs.Clock.{Clock}
+use Rattle.wiring.specs.Runs.{Runs, RunStops}
+use Rattle.test_bench.specs.declared.picture.Shown.{Shown}
+use Rattle.batch_sim.specs.declared.batches.Stop.{Stop as BatchStop}
+use Rattle.stimulus.specs.Showing.{notes_of}
+use Rattle.test_bench.specs.Clocking.{AreKept, DoutsFit, GoOn, IsKept}
+
+-- the outputs of each clock show its snapshot; those of a clock follow those of the clock before
+abbrev pub AreShownIn : (outputs : ℕ) → List Snapshot → List Out → Type 0
+AreShownIn outputs shots outs = (k : ℕ) (s : Snapshot) → slice_get shots k ≡ Some s → AreShown s (of_clock outputs k outs)
+
+-- what an output adds to its picture
+abbrev pub sample_of : Out → List ℕ
+sample_of out = if out.valid then out.dout ∷ [] else []
+
+-- a picture has more samples at its end
+abbrev pub Extends : ℕ → (old new : Shown) → List ℕ → Type 0
+Extends most old new samples = (whole : List ℕ) → IsKept most whole old → IsKept most (whole ++ samples) new
+
+-- the pair of each output
+abbrev pub pairs_of : List Out → List (Bool × ℕ)
+pairs_of outs = map (λ out. (out.valid, out.dout)) outs
+
+-- The module goes through the clocks of a batch, the pictures have what is shown in them, and the notes go on.
+pub record ShowsBatch (m : Netlist) (clocks : List Clock) (from to : Contents) (most : ℕ) (old new : List Shown) (before now : Option (List (Bool × ℕ))) : Type 0 where
+  pub shots : List Snapshot
+  pub runs : Runs m from clocks shots to
+  pub kept : (all : List Snapshot) → AreKept most all old → AreKept most (all ++ shots) new
+  pub fit : All (DoutsFit m) shots
+  pub told : GoOn before (notes_of m shots) now
+
+-- the first clocks of a batch took place, and the next one stops
+pub record StopsBatch (m : Netlist) (clocks : List Clock) (from : Contents) (stop : BatchStop) : Type 0 where
+  pub shots : List Snapshot
+  pub done : length shots ≡ stop.done
+  pub stops : RunStops m from clocks shots stop.range.array stop.range.index

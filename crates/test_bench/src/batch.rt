@@ -1,0 +1,176 @@
+// Batches of clocks.
+
+ghost use Rattle.std.specs.Prelude.{◌≡◌, ℕ, ◌+◌, ◌*◌, ◌^◌, ◌<◌, ◌≤◌, ◌++◌, ◌∷◌, [], List, false, length, IfOk, vec_capacity, if◌then◌else◌};
+ghost use Rattle.std.specs.List.{flat_map, range_with_len};
+ghost use Rattle.dk_base.specs.Frames.{Size, area as area_of};
+ghost use Rattle.wiring.specs.Netlist.{Netlist};
+ghost use Rattle.cycle_sim.specs.Ports.{din_widths};
+ghost use Rattle.batch_sim.specs.Called.{clocks_with};
+ghost use Rattle.test_bench.specs.declared.batch.TheConstants.{BATCH_PIXELS};
+ghost use Rattle.stimulus.specs.Stimulus.{dins_at, pixel_clock, is_held_after, clocks_at};
+ghost use Rattle.stimulus.specs.Given.{rounds_of, AreBenchFrames};
+ghost use Rattle.test_bench.specs.Clocking.{IsFed};
+ghost use Rattle.test_bench.specs.Batches.{HasBatch};
+
+use crate::clocking::Feed;
+use cycle_sim::Out;
+use dk_base::OutOfMemory;
+use pgm_rounds::Round;
+use std::alloc::Global;
+use stimulus::{clocks_left, is_last, next_left, pixel};
+
+/// How many pixels of an input are clocked in one call at most. It is six times the clocks that batch_sim makes over whole rows, so
+/// that without held clocks no row is made for a few clocks alone.
+pub const BATCH_PIXELS: u64 = 2106;
+
+// The clocks of a batch: the port `en` and the dins of each, and room for what the outputs show in them.
+#[derive(Drop)]
+pub(crate) struct Batch {
+    pub(crate) enables: Vec<bool>,
+    pub(crate) dins: Vec<u64>,
+    pub(crate) outs: Vec<Out>,
+}
+
+impl Batch {
+    // Room for the clocks of a batch, held ones too, each with this many dins and outputs.
+    pub(crate) fn new(alloc: Global, dins: usize, outputs: usize) -> Result<Batch, OutOfMemory>
+        requires dins { dins < 2 ^ 32 }
+        requires outputs { outputs < 2 ^ 32 }
+        ensures { IfOk result (HasBatch dins outputs) }
+    {
+        let clocks = 2 * BATCH_PIXELS as usize;
+        let out = Out {
+            valid: false,
+            dout: 0,
+        };
+        let enables = Vec::with_capacity(alloc, clocks)?;
+        let numbers = Vec::with_capacity(alloc, clocks * dins)?;
+        let outs = vec![in alloc; out; clocks * outputs]?;
+        Ok(Batch {
+            enables,
+            dins: numbers,
+            outs,
+        })
+    }
+}
+
+// Adds the pixel of this number of each input.
+fn push_pixels(rounds: &[Round], area: usize, number: u64, inputs: usize, dins: &mut Vec<u64>)
+    requires area { 0 < area }
+    requires frames { (widths : List ℕ) × (size : Size) × AreBenchFrames widths size rounds.now × (inputs ≡ length widths) × (area ≡ area_of size) }
+    requires room { length dins.old.items + inputs ≤ vec_capacity dins.old }
+    ensures is { dins.new.items ≡ dins.old.items ++ dins_at inputs (rounds_of rounds.now) number }
+    ensures room { vec_capacity dins.new ≡ vec_capacity dins.old }
+{
+    for input in 0..inputs {
+        dins.push_reserved(pixel(rounds, area, input, number));
+    }
+}
+
+// Adds these numbers.
+fn push_all(numbers: &[u64], dins: &mut Vec<u64>)
+    requires room { length dins.old.items + length numbers.now ≤ vec_capacity dins.old }
+    ensures is { dins.new.items ≡ dins.old.items ++ numbers.now }
+    ensures room { vec_capacity dins.new ≡ vec_capacity dins.old }
+{
+    for number in numbers {
+        dins.push_reserved(*number);
+    }
+}
+
+// Adds the clock of this number, in which each din has its pixel of that number.
+fn push_pixel_clock(batch: &mut Batch, feed: &Feed, rounds: &[Round], number: u64)
+    requires fed { (m : Netlist) × (size : Size) × IsFed m size feed.now rounds.now }
+    requires enables { length batch.old.enables.items + 1 ≤ vec_capacity batch.old.enables }
+    requires dins { length batch.old.dins.items + length feed.now.held.items ≤ vec_capacity batch.old.dins }
+    requires whole { length batch.old.dins.items ≡ length batch.old.enables.items * length feed.now.held.items }
+    ensures clocks { clocks_with (length feed.now.held.items) batch.new.enables.items batch.new.dins.items
+        ≡ clocks_with (length feed.now.held.items) batch.old.enables.items batch.old.dins.items
+        ++ pixel_clock (length feed.now.held.items) (rounds_of rounds.now) number ∷ [] }
+    ensures count { length batch.new.enables.items ≡ length batch.old.enables.items + 1 }
+    ensures whole { length batch.new.dins.items ≡ length batch.new.enables.items * length feed.now.held.items }
+    ensures enables { vec_capacity batch.new.enables ≡ vec_capacity batch.old.enables }
+    ensures dins { vec_capacity batch.new.dins ≡ vec_capacity batch.old.dins }
+    ensures outs { batch.new.outs.items ≡ batch.old.outs.items }
+{
+    batch.enables.push_reserved(true);
+    push_pixels(rounds, feed.area, number, feed.held.len(), &mut batch.dins);
+}
+
+// Adds a held clock, where one comes now.
+fn push_held_clock(batch: &mut Batch, comes: bool, held: &[u64])
+    requires enables { length batch.old.enables.items + 1 ≤ vec_capacity batch.old.enables }
+    requires dins { length batch.old.dins.items + length held.now ≤ vec_capacity batch.old.dins }
+    requires whole { length batch.old.dins.items ≡ length batch.old.enables.items * length held.now }
+    ensures clocks { clocks_with (length held.now) batch.new.enables.items batch.new.dins.items
+        ≡ clocks_with (length held.now) batch.old.enables.items batch.old.dins.items
+        ++ (if comes then record { reset = false; enable = false; dins = held.now } ∷ [] else []) }
+    ensures count { length batch.new.enables.items ≤ length batch.old.enables.items + 1 }
+    ensures whole { length batch.new.dins.items ≡ length batch.new.enables.items * length held.now }
+    ensures enables { vec_capacity batch.new.enables ≡ vec_capacity batch.old.enables }
+    ensures dins { vec_capacity batch.new.dins ≡ vec_capacity batch.old.dins }
+    ensures outs { batch.new.outs.items ≡ batch.old.outs.items }
+{
+    if comes {
+        batch.enables.push_reserved(false);
+        push_all(held, &mut batch.dins);
+    }
+}
+
+// Adds the clock of this number and the held one after it, if one follows.
+fn push_clocks(batch: &mut Batch, feed: &Feed, rounds: &[Round], number: u64, follows: bool)
+    requires fed { (m : Netlist) × (size : Size) × IsFed m size feed.now rounds.now }
+    requires follows { follows ≡ is_held_after feed.now.hold number }
+    requires enables { length batch.old.enables.items + 2 ≤ vec_capacity batch.old.enables }
+    requires dins { length batch.old.dins.items + 2 * length feed.now.held.items ≤ vec_capacity batch.old.dins }
+    requires whole { length batch.old.dins.items ≡ length batch.old.enables.items * length feed.now.held.items }
+    ensures clocks { (m : Netlist) (size : Size) → IsFed m size feed.now rounds.now
+        → clocks_with (length feed.now.held.items) batch.new.enables.items batch.new.dins.items
+        ≡ clocks_with (length feed.now.held.items) batch.old.enables.items batch.old.dins.items
+        ++ clocks_at feed.now.hold (din_widths m) (rounds_of rounds.now) number }
+    ensures count { length batch.new.enables.items ≤ length batch.old.enables.items + 2 }
+    ensures whole { length batch.new.dins.items ≡ length batch.new.enables.items * length feed.now.held.items }
+    ensures enables { vec_capacity batch.new.enables ≡ vec_capacity batch.old.enables }
+    ensures dins { vec_capacity batch.new.dins ≡ vec_capacity batch.old.dins }
+    ensures outs { batch.new.outs.items ≡ batch.old.outs.items }
+{
+    push_pixel_clock(batch, feed, rounds, number);
+    push_held_clock(batch, follows, &feed.held);
+}
+
+// Leaves no clock.
+fn clear(batch: &mut Batch)
+    ensures enables { batch.new.enables.items ≡ [] }
+    ensures dins { batch.new.dins.items ≡ [] }
+    ensures enables_room { vec_capacity batch.new.enables ≡ vec_capacity batch.old.enables }
+    ensures dins_room { vec_capacity batch.new.dins ≡ vec_capacity batch.old.dins }
+    ensures outs { batch.new.outs.items ≡ batch.old.outs.items }
+{
+    batch.enables.clear();
+    batch.dins.clear();
+}
+
+// Makes a batch of this many clocks, counted from this one, with the held ones between them.
+pub(crate) fn fill_batch(batch: &mut Batch, feed: &Feed, rounds: &[Round], start: u64, count: u64)
+    requires fed { (m : Netlist) × (size : Size) × IsFed m size feed.now rounds.now }
+    requires start { start < 2 ^ 60 }
+    requires count { count ≤ BATCH_PIXELS }
+    requires enables { 2 * BATCH_PIXELS ≤ vec_capacity batch.old.enables }
+    requires dins { 2 * BATCH_PIXELS * length feed.now.held.items ≤ vec_capacity batch.old.dins }
+    ensures clocks { (m : Netlist) (size : Size) → IsFed m size feed.now rounds.now
+        → clocks_with (length feed.now.held.items) batch.new.enables.items batch.new.dins.items
+        ≡ flat_map (clocks_at feed.now.hold (din_widths m) (rounds_of rounds.now)) (range_with_len start count) }
+    ensures count { length batch.new.enables.items ≤ 2 * count }
+    ensures whole { length batch.new.dins.items ≡ length batch.new.enables.items * length feed.now.held.items }
+    ensures enables { vec_capacity batch.new.enables ≡ vec_capacity batch.old.enables }
+    ensures dins { vec_capacity batch.new.dins ≡ vec_capacity batch.old.dins }
+    ensures outs { batch.new.outs.items ≡ batch.old.outs.items }
+{
+    clear(batch);
+    let mut left = clocks_left(feed.hold, start);
+    for number in 0..count {
+        let follows = is_last(feed.hold, left);
+        push_clocks(batch, feed, rounds, start + number, follows);
+        left = next_left(feed.hold, left);
+    }
+}
