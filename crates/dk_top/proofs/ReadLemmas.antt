@@ -62,19 +62,6 @@ misfit_answer terms source file p accepted (ending.Rejected f) is = absurd is
 misfit_answer terms source file p accepted ending.ReadFault is = tt
 misfit_answer terms source file p accepted ending.Memory is = tt
 
--- a text that is not accepted
-pub source_answer : (terms : Terms) (source file : List ℕ) (e : Ending) → IsSourceEnding (IsFaultAt source terms.age) e → IsAnswer terms source file e
-source_answer terms source file ending.Done is = absurd is
-source_answer terms source file ending.Usage is = absurd is
-source_answer terms source file ending.WriteFault is = absurd is
-source_answer terms source file (ending.Source f) is = is
-source_answer terms source file (ending.Image f) is = absurd is
-source_answer terms source file (ending.Verilog f) is = absurd is
-source_answer terms source file (ending.Stopped f) is = absurd is
-source_answer terms source file (ending.Rejected f) is = absurd is
-source_answer terms source file ending.ReadFault is = tt
-source_answer terms source file ending.Memory is = tt
-
 -- the form of a planned text is that of whatever program the text is of
 pub every_form : ((text : List ℕ) (p q : Typing) → IsText text p → IsText text q → p ≡ q) → (text : List ℕ) (age : ℕ) (found : Typing) (ir : Program) (s : System) (x : Solution) (plan : Plan) → IsPlanned text age found ir s x plan → (p : Typing) → IsAcceptedAt text age p → IsForm p ir
 every_form one text age found ir s x plan is p accepted = subst (λ (q : Typing). IsForm q ir) (one text found p is.has.front.program accepted.accepted.program) is.has.front.form

@@ -131,8 +131,8 @@ module _ (p : Typing) (m : Netlist) (from : Contents) (late : ℕ) (law : ShowsL
 
   module _ (file name : List ℕ) (old now : Outside) (told : old.image.rest ≡ Some file) (unasked : old.file.stage ≡ Unasked) (there : now.file.stage ≡ Open) where
     -- a fault after whole images
-    fault_behind_held : (f : FileFault) (created : Outside) → Creates name old created → (e : LeavesBehind kind m bits (ImageFails f) (Some file) from created now) → IfSome now.file.bytes (LeavesAtFault p late file now.image.rest)
-    fault_behind_held f created creates e =
+    fault_behind_stored : (f : FileFault) (created : Outside) → Creates name old created → (e : LeavesBehind kind m bits (ImageFails f) (Some file) from created now) → IfSome now.file.bytes (LeavesAtFault p late file now.image.rest)
+    fault_behind_stored f created creates e =
         let same : now.file ≡ e.half.file = ap (λ (o : Outside). o.file) e.only in
         let samples = samples_of e.taken.images in
         subst (λ (c : Created). IfSome c.bytes (LeavesAtFault p late file now.image.rest)) (sym same)
@@ -140,8 +140,8 @@ module _ (p : Typing) (m : Netlist) (from : Contents) (late : ℕ) (law : ShowsL
         (shows_lines kind m from bits late (shown_by p) law long samples name old created e.half (images_small p.size bits e.taken.images e.taken.bytes e.taken.are e.taken.fit) creates e.taken.shows))
 
     -- a fault inside an image
-    fault_inside_held : (f : FileFault) (created : Outside) → Creates name old created → (e : LeavesInside kind m bits (ImageFails f) (Some file) from created now) → IfSome now.file.bytes (LeavesAtFault p late file now.image.rest)
-    fault_inside_held f created creates e =
+    fault_inside_stored : (f : FileFault) (created : Outside) → Creates name old created → (e : LeavesInside kind m bits (ImageFails f) (Some file) from created now) → IfSome now.file.bytes (LeavesAtFault p late file now.image.rest)
+    fault_inside_stored f created creates e =
         let same : now.file ≡ e.half.file = ap (λ (o : Outside). o.file) e.only in
         let s = e.taken in
         let samples = samples_of s.images ++ s.samples in
@@ -150,14 +150,14 @@ module _ (p : Typing) (m : Netlist) (from : Contents) (late : ℕ) (law : ShowsL
         (some_then (HoldsLines p late samples) (LeavesAtFault p late file now.image.rest) e.half.file.bytes (λ bytes holds. record { samples = samples; reads = fault_inside_reads p m from laws file created now f e; holds = holds })
         (shows_lines kind m from bits late (shown_by p) law long samples name old created e.half small creates s.shows))
 
-    pub held_fault : (f : FileFault) → LeavesEarly kind m bits (ImageFails f) name from old now → IfSome now.file.bytes (LeavesAtFault p late file now.image.rest)
-    held_fault f (at_start h only) = absurd (closed (sym unasked ∙ (sym (ap (λ (o : Outside). o.file.stage) only) ∙ there)))
-    held_fault f (behind created creates e) = fault_behind_held f created creates (subst (λ all. LeavesBehind kind m bits (ImageFails f) all from created now) told e)
-    held_fault f (inside created creates e) = fault_inside_held f created creates (subst (λ all. LeavesInside kind m bits (ImageFails f) all from created now) told e)
+    pub stored_fault : (f : FileFault) → LeavesEarly kind m bits (ImageFails f) name from old now → IfSome now.file.bytes (LeavesAtFault p late file now.image.rest)
+    stored_fault f (at_start h only) = absurd (closed (sym unasked ∙ (sym (ap (λ (o : Outside). o.file.stage) only) ∙ there)))
+    stored_fault f (behind created creates e) = fault_behind_stored f created creates (subst (λ all. LeavesBehind kind m bits (ImageFails f) all from created now) told e)
+    stored_fault f (inside created creates e) = fault_inside_stored f created creates (subst (λ all. LeavesInside kind m bits (ImageFails f) all from created now) told e)
 
     -- a failed read after whole images
-    read_behind_held : (created : Outside) → Creates name old created → (e : LeavesBehind kind m bits Read (Some file) from created now) → IfSome now.file.bytes (LeavesAtRead p late file now.image.rest)
-    read_behind_held created creates e =
+    read_behind_stored : (created : Outside) → Creates name old created → (e : LeavesBehind kind m bits Read (Some file) from created now) → IfSome now.file.bytes (LeavesAtRead p late file now.image.rest)
+    read_behind_stored created creates e =
         let same : now.file ≡ e.half.file = ap (λ (o : Outside). o.file) e.only in
         let samples = samples_of e.taken.images in
         let r = read_behind_reads p m from laws file created now e in
@@ -166,8 +166,8 @@ module _ (p : Typing) (m : Netlist) (from : Contents) (late : ℕ) (law : ShowsL
         (shows_lines kind m from bits late (shown_by p) law long samples name old created e.half (images_small p.size bits e.taken.images e.taken.bytes e.taken.are e.taken.fit) creates e.taken.shows))
 
     -- a failed read inside an image
-    read_inside_held : (created : Outside) → Creates name old created → (e : LeavesInside kind m bits Read (Some file) from created now) → IfSome now.file.bytes (LeavesAtRead p late file now.image.rest)
-    read_inside_held created creates e =
+    read_inside_stored : (created : Outside) → Creates name old created → (e : LeavesInside kind m bits Read (Some file) from created now) → IfSome now.file.bytes (LeavesAtRead p late file now.image.rest)
+    read_inside_stored created creates e =
         let same : now.file ≡ e.half.file = ap (λ (o : Outside). o.file) e.only in
         let s = e.taken in
         let samples = samples_of s.images ++ s.samples in
@@ -177,14 +177,14 @@ module _ (p : Typing) (m : Netlist) (from : Contents) (late : ℕ) (law : ShowsL
         (some_then (HoldsLines p late samples) (LeavesAtRead p late file now.image.rest) e.half.file.bytes (λ bytes holds. record { samples = samples; reads = r.0; begun = r.1; holds = holds })
         (shows_lines kind m from bits late (shown_by p) law long samples name old created e.half small creates s.shows))
 
-    pub held_read : LeavesEarly kind m bits Read name from old now → IfSome now.file.bytes (LeavesAtRead p late file now.image.rest)
-    held_read (at_start h only) = absurd (closed (sym unasked ∙ (sym (ap (λ (o : Outside). o.file.stage) only) ∙ there)))
-    held_read (behind created creates e) = read_behind_held created creates (subst (λ all. LeavesBehind kind m bits Read all from created now) told e)
-    held_read (inside created creates e) = read_inside_held created creates (subst (λ all. LeavesInside kind m bits Read all from created now) told e)
+    pub stored_read : LeavesEarly kind m bits Read name from old now → IfSome now.file.bytes (LeavesAtRead p late file now.image.rest)
+    stored_read (at_start h only) = absurd (closed (sym unasked ∙ (sym (ap (λ (o : Outside). o.file.stage) only) ∙ there)))
+    stored_read (behind created creates e) = read_behind_stored created creates (subst (λ all. LeavesBehind kind m bits Read all from created now) told e)
+    stored_read (inside created creates e) = read_inside_stored created creates (subst (λ all. LeavesInside kind m bits Read all from created now) told e)
 
     -- a line that can't be written, with the line of the file that made it whole
-    write_inside_held : (created : Outside) → Creates name old created → (e : FailsInside kind m bits (Some file) from created now) → IfSome now.file.bytes (LeavesAtWrite p late file now.image.rest)
-    write_inside_held created creates e =
+    write_inside_stored : (created : Outside) → Creates name old created → (e : FailsInside kind m bits (Some file) from created now) → IfSome now.file.bytes (LeavesAtWrite p late file now.image.rest)
+    write_inside_stored created creates e =
         let s = e.taken in
         let xs = samples_of s.images ++ s.samples in
         let ys = s.samples ++ e.samples in
@@ -218,8 +218,8 @@ module _ (p : Typing) (m : Netlist) (from : Contents) (late : ℕ) (law : ShowsL
         (record { count = h.count; inside = h.inside; holds = h.holds })) f.told
 
     -- a line that can't be written, after all images
-    write_behind_held : (created : Outside) → Creates name old created → (e : FailsBehind kind m bits late (Some file) from created now) → IfSome now.file.bytes (LeavesAtWrite p late file now.image.rest)
-    write_behind_held created creates e =
+    write_behind_stored : (created : Outside) → Creates name old created → (e : FailsBehind kind m bits late (Some file) from created now) → IfSome now.file.bytes (LeavesAtWrite p late file now.image.rest)
+    write_behind_stored created creates e =
         let xs = samples_of e.images in
         let zs = replicate late 0 in
         let small = images_small p.size bits e.images e.bytes e.are e.fit in
@@ -238,14 +238,14 @@ module _ (p : Typing) (m : Netlist) (from : Contents) (late : ℕ) (law : ShowsL
         of_rest f.y (n * p.size.height) xs taken (left ∙ ap Some none) nums.0 nums.1 (record { count = h.count; inside = h.inside; holds = h.holds })) f.told
 
     -- the first header, or the reset clock
-    write_first_held : (header : Header) (before : Outside) → TakesHead header old.image before.image → FitsHeader p.size bits header → before ≡ record old { image = record old.image { rest = before.image.rest } } → now.image ≡ before.image
+    write_first_stored : (header : Header) (before : Outside) → TakesHead header old.image before.image → FitsHeader p.size bits header → before ≡ record old { image = record old.image { rest = before.image.rest } } → now.image ≡ before.image
         → FailsFirst kind m name from before now → IfSome now.file.bytes (LeavesAtWrite p late file now.image.rest)
-    write_first_held header before takes fits only same (at_create stage named files h) = absurd (not_refused (sym stage ∙ there))
-    write_first_held header before takes fits only same (at_reset created creates h) = absurd (not_at_reset kind m from bits late (shown_by p) law long wide created now h)
-    write_first_held header before takes fits only same (at_head created creates w) =
+    write_first_stored header before takes fits only same (at_create stage named files h) = absurd (not_refused (sym stage ∙ there))
+    write_first_stored header before takes fits only same (at_reset created creates h) = absurd (not_at_reset kind m from bits late (shown_by p) law long wide created now h)
+    write_first_stored header before takes fits only same (at_head created creates w) =
         some_then (λ bytes. bytes ≡ take w.count (head kind)) (LeavesAtWrite p late file now.image.rest) now.file.bytes (λ bytes h. of_header (first_reads p m from laws file name old now told header before takes fits same) w.count w.within h) (fails_head kind name before created now creates w)
 
-    pub held_write : StreamsToWrite kind m bits late name from old now → IfSome now.file.bytes (LeavesAtWrite p late file now.image.rest)
-    held_write (write_first header before takes fits only same h) = write_first_held header before takes fits only same h
-    held_write (write_inside created creates e) = write_inside_held created creates (subst (λ all. FailsInside kind m bits all from created now) told e)
-    held_write (write_behind created creates e) = write_behind_held created creates (subst (λ all. FailsBehind kind m bits late all from created now) told e)
+    pub stored_write : StreamsToWrite kind m bits late name from old now → IfSome now.file.bytes (LeavesAtWrite p late file now.image.rest)
+    stored_write (write_first header before takes fits only same h) = write_first_stored header before takes fits only same h
+    stored_write (write_inside created creates e) = write_inside_stored created creates (subst (λ all. FailsInside kind m bits all from created now) told e)
+    stored_write (write_behind created creates e) = write_behind_stored created creates (subst (λ all. FailsBehind kind m bits late all from created now) told e)
