@@ -7,7 +7,7 @@ program=
 [ $# = 0 ] || program=$(whole "$1")
 in_folder
 . "$top/tools/explain.sh"
-usage='usage: run [--age K] PROG IN OUT | compile [--enable] [--age K] [--block N] PROG OUT | plan [--age K] PROG | sim VERILOG CLOCKS IN OUT [--fill FILL] [--hold K] | eval PROG IN OUT | make N | check PROG REPORT | trace VERILOG CLOCKS IN VCD | cut N PROG OUT'
+usage=$(usage_line)
 
 # says STATUS LINE WORD..: the explanation is that of standard input
 says() {

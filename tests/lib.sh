@@ -35,6 +35,11 @@ is() {
     "$@" || wrong "$said"
 }
 
+# usage_line: the line of words that name no command, as docs/COMMANDS.md has it
+usage_line() {
+    grep -m 1 '^usage: ' "$top/docs/COMMANDS.md"
+}
+
 # finish: the line that a test ends with, and its status
 finish() {
     echo "$((cases - failed)) passed, $failed failed"

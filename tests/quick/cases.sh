@@ -6,7 +6,7 @@ cp "$examples"/programs/*.dk "$examples"/programs/*.pgm "$tests"/reports/*.dk "$
 # Every call here has 4 MiB of stack: the deepest accepted programs need between 1 and 2.
 ulimit -S -s 4096 || exit 2
 tab=$(printf '\t')
-usage='usage: run [--age K] PROG IN OUT | compile [--enable] [--age K] [--block N] PROG OUT | plan [--age K] PROG | sim VERILOG CLOCKS IN OUT [--fill FILL] [--hold K] | eval PROG IN OUT | make N | check PROG REPORT | trace VERILOG CLOCKS IN VCD | cut N PROG OUT'
+usage=$(usage_line)
 
 # ends STATUS LINE WORD..: the program with these words ends with this status, prints nothing, and says this line on standard error
 ends() {
