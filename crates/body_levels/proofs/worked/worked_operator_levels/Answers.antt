@@ -1,6 +1,6 @@
 use Rattle.std.proofs.Common.{refl}
 use lib.Count
-use Rattle.body_levels.proofs.worked.worked_levels.Goals as goal
+use Rattle.body_levels.proofs.worked.worked_operator_levels.Goals as goal
 
 pub returns-clause-double : goal.returns-clause-double
 unfolding lib.Count.ones
