@@ -169,6 +169,9 @@ module _ (source : List ℕ) (age : ℕ) (c : Compiled) (from : IsCompiledFrom s
     pub din_is : (w : ℕ) → w ≡ slice_index again.netlist.inputs 1 → w ≡ bits
     din_is w is = is ∙ (ap (λ (x : NamedNetlist). slice_index x.netlist.inputs 1) same ∙ ap (λ ws. slice_index ws 1) inputs_are)
 
+    pub bits_as : (w : ℕ) → w ≡ slice_index again.netlist.inputs 1 → w ≤ MAX_PORT_WIDTH
+    bits_as w is = subst (λ n. n ≤ MAX_PORT_WIDTH) (sym (din_is w is)) few_bits
+
     pub kind_is : (k : Kind) (w : ℕ) → k.size ≡ c.ir.size → k.maxval ≡ 2 ^ w - 1 → w ≡ slice_index again.netlist.outputs 1 → k ≡ output_kind q
     kind_is k w size maxval is =
         ap (λ s. record k { size = s }) (size ∙ (from.is.planned.has.front).form.size)

@@ -69,14 +69,14 @@ module _ (kind : Kind) (samples : List ℕ) (sample : ℕ) (line : Line) (bytes 
   longer : length (samples ++ sample ∷ []) ≡ at + (line.count + 1)
   longer = omega (arith, length-append samples (sample ∷ []), pending.count)
 
-  held : bytes.items ≡ raster_of kind.maxval (drop at (samples ++ sample ∷ []))
-  held = added ∙ ap (λ z. z ++ sample_bytes kind.maxval sample) pending.bytes ∙ sym (bytes_more kind.maxval at samples sample (omega (arith, pending.count)))
+  now_bytes : bytes.items ≡ raster_of kind.maxval (drop at (samples ++ sample ∷ []))
+  now_bytes = added ∙ ap (λ z. z ++ sample_bytes kind.maxval sample) pending.bytes ∙ sym (bytes_more kind.maxval at samples sample (omega (arith, pending.count)))
 
   same_lines : lines kind samples line.rows ≡ lines kind (samples ++ sample ∷ []) line.rows
   same_lines = sym (lines_same kind samples (sample ∷ []) line.rows (omega (arith, pending.count)))
 
   pub still_pending : line.count + 1 < kind.size.width → IsPending kind (samples ++ sample ∷ []) (record { bytes = bytes; count = line.count + 1; rows = line.rows })
-  still_pending below = record { count = longer; below = below; bytes = held }
+  still_pending below = record { count = longer; below = below; bytes = now_bytes }
 
   module _ (full : line.count + 1 ≡ kind.size.width) where
     whole : length (samples ++ sample ∷ []) ≡ (line.rows + 1) * kind.size.width
@@ -85,7 +85,7 @@ module _ (kind : Kind) (samples : List ℕ) (sample : ℕ) (line : Line) (bytes 
     one_line : header_before kind line.rows ++ bytes.items ≡ line_at kind (samples ++ sample ∷ []) line.rows
     one_line =
         let n : length (drop at (samples ++ sample ∷ [])) ≤ kind.size.width = subst (λ z. z ≤ kind.size.width) (sym (length-drop at (samples ++ sample ∷ []))) (omega (arith, longer, full)) in
-        ap (λ z. header_before kind line.rows ++ z) held ∙ ap (λ z. header_before kind line.rows ++ raster_of kind.maxval z) (sym (take_all kind.size.width (drop at (samples ++ sample ∷ [])) n))
+        ap (λ z. header_before kind line.rows ++ z) now_bytes ∙ ap (λ z. header_before kind line.rows ++ raster_of kind.maxval z) (sym (take_all kind.size.width (drop at (samples ++ sample ∷ [])) n))
 
     pub failed_line : (start now next : Outside) (notes : List (Bool × ℕ)) → Gains start (lines kind samples line.rows) notes now → WritesFront File now (header_before kind line.rows ++ bytes.items) next → FailsInLine kind start (samples ++ sample ∷ []) notes next
     failed_line start now next notes g h = record {

@@ -1,7 +1,8 @@
 -- The clocks of a line in one call.
-use Rattle.std.proofs.Common.{◌≡◌, ℕ, zero, suc, ◌+◌, ◌*◌, ◌^◌, ◌<◌, ◌≤◌, Bool, true, List, [], ◌∷◌, length, take, map, replicate, refl, ap, sym, subst, ◌∙◌, arith, Some}
+use Rattle.std.proofs.Common.{◌≡◌, ℕ, zero, suc, ◌+◌, ◌*◌, ◌^◌, ◌<◌, ◌≤◌, Bool, true, List, [], ◌∷◌, ◌++◌, length, take, drop, map, replicate, refl, ap, sym, subst, ◌∙◌, arith, Some}
 use Rattle.std.specs.Prelude.{All, ◌/◌, slice_get, slice_index}
-use Rattle.std.proofs.lemmas.List.{length-map, length-replicate}
+use Rattle.std.proofs.lemmas.List.{length-map, length-replicate, length-take-le}
+use Rattle.std.proofs.Math.Seq.{take-append_seam}
 use Rattle.std.specs.List.{AllByRecursion, range_with_len}
 use Rattle.wiring.specs.declared.netlist.Net.{Net}
 use Rattle.wiring.specs.Netlist.{Netlist, net_width, dout_net, IsDeclared}
@@ -142,3 +143,11 @@ ones_first (suc n) (suc count) l = ap (λ z. true ∷ z) (ones_first n count (om
 
 pub enables_first : (front all : List Bool) (width n count : ℕ) → front ≡ take n all → all ≡ replicate width true → n ≤ width → count ≡ n → front ≡ replicate count true
 enables_first front all width n count f e l c = f ∙ ap (λ z. take n z) e ∙ ones_first n width l ∙ ap (λ k. replicate k true) (sym c)
+
+-- the first of these are as many
+pub took_count : {X : Type 0} (n : ℕ) (xs ys : List X) → ys ≡ take n xs → n ≤ length xs → length ys ≡ n
+took_count n xs ys is l = ap (λ (z : List X). length z) is ∙ length-take-le n xs l
+
+-- what was written into the first places of a list
+pub in_front : {X : Type 0} (n : ℕ) (xs ws : List X) → length ws ≡ n → take n (ws ++ drop n xs) ≡ ws
+in_front n xs ws is = ap (λ m. take m (ws ++ drop n xs)) (sym is) ∙ take-append_seam ws (drop n xs)

@@ -126,8 +126,8 @@ columns width column s n some a b = by (side column width)
     by (inl l) = l
     by (inr p) = absurd (over p.0 p.1)
 
-held_all : (n c s a b d i : ℕ) → a ≡ n * s → (c + 1) * s ≤ b → i ≡ n + c → (i + 1) * s ≤ a + (b + d)
-held_all n c s a b d i e l f = let g : (i + 1) * s ≡ n * s + (c + 1) * s = ap (λ z. (z + 1) * s) f ∙ spread n c s in omega (arith, e, l, g)
+whole_all : (n c s a b d i : ℕ) → a ≡ n * s → (c + 1) * s ≤ b → i ≡ n + c → (i + 1) * s ≤ a + (b + d)
+whole_all n c s a b d i e l f = let g : (i + 1) * s ≡ n * s + (c + 1) * s = ap (λ z. (z + 1) * s) f ∙ spread n c s in omega (arith, e, l, g)
   where
     spread : (n c s : ℕ) → (n + c + 1) * s ≡ n * s + (c + 1) * s
     spread n c s = grind arith
@@ -156,7 +156,7 @@ module _ (header : Header) (row : ℕ) (raster : List ℕ) (are : AreRows header
   pub first_great : (read more : List ℕ) (index : ℕ) → JudgesRow read header row (Err (SampleTooGreat index)) → FirstGreat header.maxval (raster ++ (read ++ more)) index
   first_great read more index j = record {
     held = subst (λ z. (index + 1) * sample_size header.maxval ≤ z) (sym (length-append raster (read ++ more) ∙ ap (λ z. length raster + z) (length-append read more)))
-        (held_all (row * header.width) j.0 (sample_size header.maxval) (length raster) (length read) (length more) index count j.1.held j.2);
+        (whole_all (row * header.width) j.0 (sample_size header.maxval) (length raster) (length read) (length more) index count j.1.held j.2);
     great = subst (λ z. header.maxval < z) (sym (ap (λ z. sample_at header.maxval (raster ++ (read ++ more)) z) j.2 ∙ placed read more j.0 j.1.held)) j.1.great;
     before = λ k l. before_it k (subst (λ z. k < z) j.2 l) (side k (row * header.width));
   }

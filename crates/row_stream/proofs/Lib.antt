@@ -8,6 +8,7 @@ pub mod Pixels
 pub mod Flushed
 pub mod RowLemmas
 pub mod Rasters
+pub mod Keeping
 pub mod HeadLemmas
 pub mod HeadEnds
 pub mod Taken

@@ -41,12 +41,12 @@ abbrev AreMost : Size → ℕ → List ℕ → ℕ → Type 0
 AreMost size bits bytes rows = (more : ℕ) → BeginsLines size bits bytes more → more ≤ rows
 
 -- this many lines in order at the front of bytes
-record Held (header : Header) (rows : ℕ) (bytes : List ℕ) : Type 0 where
+record HasRows (header : Header) (rows : ℕ) (bytes : List ℕ) : Type 0 where
   enough : rows * header.width * sample_size header.maxval ≤ length bytes
   fit : (k : ℕ) → k < rows * header.width → sample_at header.maxval bytes k ≤ header.maxval
 
-raster_held : (header : Header) (rows : ℕ) (raster rest samples : List ℕ) → IsRaster raster header.width rows header.maxval samples → Held header rows (raster ++ rest)
-raster_held header rows raster rest samples is =
+raster_has : (header : Header) (rows : ℕ) (raster rest samples : List ℕ) → IsRaster raster header.width rows header.maxval samples → HasRows header rows (raster ++ rest)
+raster_has header rows raster rest samples is =
     let h = raster_holds (is_narrow header.maxval) raster rest header.width rows header.maxval samples refl is in
     let e : rows * header.width ≡ header.width * rows = times_turned header.width rows in
     record {
@@ -66,7 +66,7 @@ pub data Obstacle (header : Header) (rows : ℕ) (bytes : List ℕ) : Type 0 whe
 above : (a b : ℕ) → a ≤ b → b < a → ⊥
 above a b l g = omega (arith, l, g)
 
-no_more : (header : Header) (rows more : ℕ) (bytes : List ℕ) → Obstacle header rows bytes → Held header more bytes → more ≤ rows
+no_more : (header : Header) (rows more : ℕ) (bytes : List ℕ) → Obstacle header rows bytes → HasRows header more bytes → more ≤ rows
 no_more header rows more bytes o h = by (cases_lt rows more) o
   where
     by : (rows < more) ⊎ (more ≤ rows) → Obstacle header rows bytes → more ≤ rows
@@ -93,15 +93,15 @@ most_inside size bits header head bytes rows reads exact below o more (lines oth
     let same : other ≡ header = one_header (head ++ bytes) other header (subst (λ z. Reads z other) (sym e) (reads_more front (raster ++ rest) other others)) (reads_more head bytes header reads) in
     let behind : raster ++ rest ≡ bytes =
     sym (behind_is other front (raster ++ rest) length_is) ∙ ap (λ z. drop other.length z) (sym e) ∙ ap (λ z. drop z.length (head ++ bytes)) same ∙ behind_is header head bytes exact in
-    no_more header rows more bytes o (subst (λ z. Held header more z) behind (subst (λ z. Held z more (raster ++ rest)) same (raster_held other more raster rest samples are)))
+    no_more header rows more bytes o (subst (λ z. HasRows header more z) behind (subst (λ z. HasRows z more (raster ++ rest)) same (raster_has other more raster rest samples are)))
 most_inside size bits header head bytes rows reads exact below o more (image p first rest k pic fit e b f) =
     let other : Header = record { width = p.width; height = p.height; maxval = p.maxval; length = length pic.header } in
     let same : other ≡ header = one_header (head ++ bytes) other header (subst (λ z. Reads z other) (sym e) (picture_reads first rest p pic)) (reads_more head bytes header reads) in
     let behind : pic.raster ++ rest ≡ bytes =
     sym (behind_is other pic.header (pic.raster ++ rest) refl) ∙ ap (λ z. drop (length pic.header) z) (sym (append_assoc pic.header pic.raster rest) ∙ ap (λ x. x ++ rest) (sym pic.parts) ∙ sym e)
     ∙ ap (λ z. drop z.length (head ++ bytes)) same ∙ behind_is header head bytes exact in
-    let held : Held header header.height bytes = subst (λ z. Held header header.height z) behind (subst (λ z. Held z z.height (pic.raster ++ rest)) same (raster_held other p.height pic.raster rest p.samples pic.holds)) in
-    absurd (above header.height rows (no_more header rows header.height bytes o held) below)
+    let has : HasRows header header.height bytes = subst (λ z. HasRows header header.height z) behind (subst (λ z. HasRows z z.height (pic.raster ++ rest)) same (raster_has other p.height pic.raster rest p.samples pic.holds)) in
+    absurd (above header.height rows (no_more header rows header.height bytes o has) below)
 
 -- no header of an image that fits is there
 most_behind : (size : Size) (bits : ℕ) (bytes : List ℕ) → ((h : Header) → IsHeaded size bits bytes h → ⊥) → AreMost size bits bytes 0

@@ -137,7 +137,7 @@ streams_none kind m header at line o = record {
     nothing Rattle.std.specs.Prelude.None = refl
     nothing (Rattle.std.specs.Prelude.Some x) = refl
 
-both : (m : Netlist) (cs ds : List Clock) → AllByRecursion (IsPixelClock m) cs → AllByRecursion (IsPixelClock m) ds → AllByRecursion (IsPixelClock m) (cs ++ ds)
+pub both : (m : Netlist) (cs ds : List Clock) → AllByRecursion (IsPixelClock m) cs → AllByRecursion (IsPixelClock m) ds → AllByRecursion (IsPixelClock m) (cs ++ ds)
 both m [] ds h g = g
 both m (c ∷ cs) ds h g = (h.0, both m cs ds h.1 g)
 

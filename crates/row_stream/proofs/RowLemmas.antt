@@ -18,6 +18,7 @@ use Rattle.row_stream.specs.Progress.{Goes, Fails, pixel_clocks}
 use Rattle.row_stream.specs.declared.rows.RowsFault.{RowsFault}
 use Rattle.row_stream.specs.declared.rows.RowsFault.TheVariants.{Raster, Read, Write}
 use Rattle.pgm_codec.specs.Images.{sample_size}
+use Rattle.row_stream.specs.Rows.{IsRowFault}
 use Rattle.row_stream.specs.RowReading.{AreRows, Streams, FailsRow, EndsRow, EndsRows, samples_in}
 
 -- a read that did not fail
@@ -69,6 +70,12 @@ module _ (kind : Kind) (m : Netlist) (header : Header) (row width : ℕ) (raster
     only = read_only before mid only same;
     fails = subst (λ n. Fails kind m (pixel_clocks (samples_in header.maxval raster) n) from old mid now) (sym wide) h;
   }
+
+-- a line that was not read
+pub misses_row : (kind : Kind) (m : Netlist) (header : Header) (row : ℕ) (f : RowsFault) (from : Contents) (old : Line) (before now : Outside) → IsRowFault header row f before.image now.image → ReadsOnly Image before now → EndsRow kind m header row f from old before now
+misses_row kind m header row (Raster f) from old before now fault only = record { fault = fault; only = only }
+misses_row kind m header row Read from old before now fault only = record { fault = fault; only = only }
+misses_row kind m header row Write from old before now fault only = absurd fault
 
 -- how the lines of an image end
 pub ends_rows : (kind : Kind) (m : Netlist) (header : Header) (rows : ℕ) (f : RowsFault) (from mid : Contents) (old between : Line) (before half now : Outside) → rows < header.height → Streams kind m header rows from mid old between before half →

@@ -1,9 +1,25 @@
--- Room for the clocks of a line.
-use Rattle.std.specs.Prelude.{◌≡◌, ℕ, true, length, replicate}
+-- The clocks of a line.
+use Rattle.std.specs.Prelude.{◌≡◌, ℕ, ◌≤◌, true, List, All, length, map, replicate}
+use Rattle.std.specs.List.{AllZip}
+use Rattle.wiring.specs.Netlist.{Netlist}
+use Rattle.wiring.specs.Snapshot.{Contents, Snapshot}
+use Rattle.wiring.specs.Runs.{Runs}
+use Rattle.cycle_sim.specs.declared.ports.Out.{Out}
+use Rattle.cycle_sim.specs.Ports.{IsShown}
 use Rattle.row_stream.specs.declared.batch.Batch.{Batch}
+use Rattle.row_stream.specs.Lines.{Kind}
+use Rattle.row_stream.specs.Standing.{IsOneToOne, Lasts, pixel_clock}
 
 -- room for `count` clocks, with the port en at 1 in each
 pub record HasBatch (count : ℕ) (batch : Batch) : Type 0 where
   pub enables : batch.enables.items ≡ replicate count true
   pub dins : length batch.dins.items ≡ count
   pub outs : length batch.outs.items ≡ count
+
+-- The module went through a clock for each of these numbers at the din, and the output shows this in them. No later clock stops.
+pub record Ran (m : Netlist) (dins : List ℕ) (from to : Contents) (outs : List Out) : Type 0 where
+  pub shots : List Snapshot
+  pub runs : Runs m from (map pixel_clock dins) shots to
+  pub shown : AllZip (λ s out. IsShown s 0 out) shots outs
+  pub small : (kind : Kind) → IsOneToOne kind m → All (λ out. out.dout ≤ kind.maxval) outs
+  pub lasts : Lasts m to

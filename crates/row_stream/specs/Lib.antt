@@ -1,12 +1,14 @@
 pub mod Lines
-pub mod Forms
+pub mod Formats
 pub mod Moving
 pub mod Standing
 pub mod Progress
 pub mod Batches
 pub mod Telling
+pub mod Calls
 pub mod Rows
 pub mod RowReading
+pub mod States
 pub mod Heads
 pub mod HeadReading
 pub mod Images

@@ -56,3 +56,11 @@ pub record Fails (kind : Kind) (m : Netlist) (clocks : List Clock) (from : Conte
 -- `count` clocks, with these numbers at the din
 abbrev pub pixel_clocks : (ℕ → ℕ) → ℕ → List Clock
 pixel_clocks f count = map (λ k. pixel_clock (f k)) (range_with_len 0 count)
+
+-- These samples are added to those before, and the lines that are whole then are written.
+abbrev pub AddsSamples : Kind → (more : List ℕ) → (old new : Line) → (before now : Outside) → Type 0
+AddsSamples kind more old new before now = (start : Outside) (samples : List ℕ) (notes : List (Bool × ℕ)) → Writes kind start samples notes old before → Writes kind start (samples ++ more) notes new now
+
+-- These samples are added to those before, and the write of the line failed that is whole with the last of them.
+abbrev pub FailsAdding : Kind → (more : List ℕ) → Line → (before now : Outside) → Type 0
+FailsAdding kind more old before now = (start : Outside) (samples : List ℕ) (notes : List (Bool × ℕ)) → Writes kind start samples notes old before → FailsInLine kind start (samples ++ more) notes now

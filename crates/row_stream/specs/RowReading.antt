@@ -1,12 +1,12 @@
 -- Used by private functions only.
 -- The lines that were read and clocked, and why the next one was not.
-use Rattle.std.specs.Prelude.{◌≡◌, ℕ, ◌*◌, ◌<◌, List, length, slice_index}
+use Rattle.std.specs.Prelude.{◌≡◌, ℕ, ◌*◌, ◌<◌, List, length, slice_index, Ok}
 use Rattle.std.specs.Io.KnownBytes.{prepend_known}
-use Rattle.dk_desk.specs.Outside.{Outside}
+use Rattle.dk_desk.specs.Outside.{Outside, Input}
 use Rattle.wiring.specs.Netlist.{Netlist}
 use Rattle.wiring.specs.Snapshot.{Contents}
 use Rattle.pgm_codec.specs.declared.header.Header.{Header}
-use Rattle.pgm_codec.specs.Rasters.{AllFit, sample_at, row_length}
+use Rattle.pgm_codec.specs.Rasters.{AllFit, JudgesRow, sample_at, row_length}
 use Rattle.row_stream.specs.declared.line.Line.{Line}
 use Rattle.row_stream.specs.declared.rows.RowsFault.{RowsFault}
 use Rattle.row_stream.specs.declared.rows.RowsFault.TheVariants.{Raster, Read, Write}
@@ -17,6 +17,12 @@ use Rattle.row_stream.specs.Rows.{IsRowFault}
 -- the numbers at the din for a raster
 abbrev pub samples_in : (maxval : ℕ) → List ℕ → ℕ → ℕ
 samples_in maxval raster k = sample_at maxval raster k
+
+-- A line was read whole, and is in order.
+pub record TakesRow (header : Header) (row : ℕ) (read : List ℕ) (old new : Input) : Type 0 where
+  pub given : old.rest ≡ prepend_known read new.rest
+  pub judged : JudgesRow read header row (Ok tt)
+  pub bytes : (k : ℕ) → slice_index read k < 256
 
 -- `rows` whole lines of an image were read and are in order.
 pub record AreRows (header : Header) (rows : ℕ) (raster : List ℕ) : Type 0 where

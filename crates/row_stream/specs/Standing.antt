@@ -14,7 +14,7 @@ use Rattle.row_stream.specs.Lines.{Kind}
 -- there is room for a line
 pub record HasRoom (width : ℕ) (line : Line) : Type 0 where
   pub room : 2 * width ≤ vec_capacity line.bytes
-  pub held : length line.bytes.items ≤ 2 * line.count
+  pub bytes : length line.bytes.items ≤ 2 * line.count
   pub below : line.count < width
 
 -- what is noted of a clock

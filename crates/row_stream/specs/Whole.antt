@@ -17,13 +17,17 @@ use Rattle.pgm_codec.specs.Images.{Image, AreImages, IsRaster}
 use Rattle.pgm_rounds.specs.declared.fault.FileFault.{FileFault}
 use Rattle.pgm_rounds.specs.Files.{FitsFile, IsFault}
 use Rattle.row_stream.specs.declared.line.Line.{Line}
-use Rattle.row_stream.specs.declared.streaming.Room.{Room}
+use Rattle.row_stream.specs.declared.line.OutputFormat.{OutputFormat}
+use Rattle.row_stream.specs.declared.state.Stream.{Stream}
+use Rattle.cycle_sim.specs.declared.fill.Fill.TheVariants.{Zeros}
+use Rattle.cycle_sim.specs.Filled.{filled_contents}
 use Rattle.row_stream.specs.declared.faults.StreamFault.{StreamFault}
 use Rattle.row_stream.specs.declared.faults.StreamFault.TheVariants.{Image as ImageFails, Read, Write}
 use Rattle.row_stream.specs.Lines.{Kind, head, line_at, lines}
 use Rattle.row_stream.specs.Moving.{Gains, GainsBut}
-use Rattle.row_stream.specs.Standing.{HasRoom, note_of, pixel_clock, reset_clock}
+use Rattle.row_stream.specs.Standing.{HasRoom, Starts, note_of, pixel_clock, reset_clock}
 use Rattle.row_stream.specs.Batches.{HasBatch}
+use Rattle.row_stream.specs.States.{IsStream}
 use Rattle.row_stream.specs.Heads.{FitsHeader, TakesHead, EndsHeading}
 use Rattle.row_stream.specs.Rows.{IsLineFault}
 use Rattle.row_stream.specs.Images.{FitsImage, samples_of}
@@ -35,12 +39,22 @@ pub record IsFresh (line : Line) : Type 0 where
   pub count : line.count ≡ 0
   pub rows : line.rows ≡ 0
 
--- room for a line that is read, its clocks and one that is made, before the first one
-pub record IsRoom (width : ℕ) (room : Room) : Type 0 where
-  pub fresh : IsFresh room.line
-  pub line : HasRoom width room.line
-  pub row : length room.row.items ≡ 2 * width
-  pub batch : HasBatch width room.batch
+-- A stream of this module as it is made: its registers and memories are zero, and nothing was read or made. There is room for a line that is read, its clocks and one that is made.
+pub record IsMade (m : Netlist) (format : OutputFormat) (bits : ℕ) (s : Stream) : Type 0 where
+  pub format_is : s.format ≡ format
+  pub bits_is : s.bits ≡ bits
+  pub netlist : s.sim.netlist ≡ m
+  pub contents : s.sim.contents ≡ filled_contents Zeros m
+  pub fresh : IsFresh s.line
+  pub room : HasRoom s.format.size.width s.line
+  pub row : length s.row.items ≡ 2 * s.format.size.width
+  pub batch : HasBatch s.format.size.width s.batch
+
+-- A stream before its first clock. A reset clock does not stop, and after it no clock stops.
+pub record IsStart (s : Stream) : Type 0 where
+  pub stream : IsStream s
+  pub fresh : IsFresh s.line
+  pub starts : Starts s.sim.netlist s.sim.contents
 
 -- File was created under this name, empty. Of Image only what is left has changed, and nothing else.
 pub record Creates (name : List ℕ) (old created : Outside) : Type 0 where

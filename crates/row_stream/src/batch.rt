@@ -1,13 +1,14 @@
 //! The clocks of a line, and what the output shows in each of them.
 
-ghost use Rattle.std.specs.Prelude.{◌≡◌, ◌+◌, ◌*◌, ◌≤◌, [], ◌∷◌, true, length, IfOk, IfErr, map};
+ghost use Rattle.std.specs.Prelude.{◌≡◌, ℕ, ◌+◌, ◌*◌, ◌≤◌, [], ◌∷◌, true, length, All, IfOk, IfErr, map, replicate, take};
 ghost use Rattle.std.specs.List.{range_with_len};
 ghost use Rattle.wiring.specs.Snapshot.{Snapshot, Fit};
 ghost use Rattle.wiring.specs.Clock.{given, Steps, Stops};
 ghost use Rattle.cycle_sim.specs.Ports.{din_widths, IsShown};
 ghost use Rattle.pgm_codec.specs.Images.{sample_size};
 ghost use Rattle.pgm_codec.specs.Rasters.{sample_at};
-ghost use Rattle.row_stream.specs.Batches.{HasBatch};
+ghost use Rattle.row_stream.specs.Standing.{Lasts};
+ghost use Rattle.row_stream.specs.Batches.{HasBatch, Ran};
 
 use batch_sim::Batches;
 use cycle_sim::{IndexRange, Out};
@@ -40,6 +41,67 @@ impl Batch {
             outs,
         })
     }
+
+    // The first `count` clocks, in one call.
+    pub(crate) fn step(&mut self, sim: &mut Batches, count: usize)
+        requires room { (width : ℕ) × HasBatch width self.old × (count ≤ width) }
+        requires outputs { length sim.old.netlist.outputs ≡ 2 }
+        requires one_din { length (din_widths sim.old.netlist) ≡ 1 }
+        requires fit { All (λ d. Fit (din_widths sim.old.netlist) (d ∷ [])) self.old.dins.items }
+        requires lasts { Lasts sim.old.netlist sim.old.contents }
+        ensures netlist { sim.new.netlist ≡ sim.old.netlist }
+        ensures batch { (width : ℕ) → HasBatch width self.old → HasBatch width self.new }
+        ensures dins { self.new.dins.items ≡ self.old.dins.items }
+        ensures ran { Ran sim.old.netlist (take count self.old.dins.items) sim.old.contents sim.new.contents (take count self.new.outs.items) }
+    {
+        let enables = self.enables.split_at(count).0;
+        let dins = self.dins.split_at(count).0;
+        step_front(sim, enables, dins, &mut self.outs);
+    }
+
+    // What the output shows in the first `count` clocks.
+    pub(crate) fn shown(&self, count: usize) -> &[Out]
+        requires { count ≤ length self.now.outs.items }
+        ensures { result.now ≡ take count self.now.outs.items }
+    {
+        self.outs.split_at(count).0
+    }
+}
+
+// A clock for each of these numbers at the din, in one call.
+fn step_exact(sim: &mut Batches, enables: &[bool], dins: &[u64], outs: &mut [Out])
+    requires outputs { length sim.old.netlist.outputs ≡ 2 }
+    requires one_din { length (din_widths sim.old.netlist) ≡ 1 }
+    requires enables { enables.now ≡ replicate (length dins.now) true }
+    requires outs { length outs.old ≡ length dins.now }
+    requires fit { All (λ d. Fit (din_widths sim.old.netlist) (d ∷ [])) dins.now }
+    requires lasts { Lasts sim.old.netlist sim.old.contents }
+    ensures netlist { sim.new.netlist ≡ sim.old.netlist }
+    ensures outs { length outs.new ≡ length outs.old }
+    ensures ran { Ran sim.old.netlist dins.now sim.old.contents sim.new.contents outs.new }
+{
+    sim.law();
+    netlist::values_fit_law();
+    match sim.step_batch(enables, dins, outs) {
+        Err(_) => unreachable!(),
+        Ok(()) => {}
+    }
+}
+
+// `step_exact` with room for more outputs.
+fn step_front(sim: &mut Batches, enables: &[bool], dins: &[u64], outs: &mut Vec<Out>)
+    requires outputs { length sim.old.netlist.outputs ≡ 2 }
+    requires one_din { length (din_widths sim.old.netlist) ≡ 1 }
+    requires enables { enables.now ≡ replicate (length dins.now) true }
+    requires outs { length dins.now ≤ length outs.old.items }
+    requires fit { All (λ d. Fit (din_widths sim.old.netlist) (d ∷ [])) dins.now }
+    requires lasts { Lasts sim.old.netlist sim.old.contents }
+    ensures netlist { sim.new.netlist ≡ sim.old.netlist }
+    ensures outs { length outs.new.items ≡ length outs.old.items }
+    ensures ran { Ran sim.old.netlist dins.now sim.old.contents sim.new.contents (take (length dins.now) outs.new.items) }
+{
+    let count = dins.len();
+    step_exact(sim, enables, dins, &mut outs[..count]);
 }
 
 // One clock, and what the output shows in it.

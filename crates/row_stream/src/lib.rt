@@ -11,10 +11,11 @@ mod images;
 mod laws;
 mod line;
 mod rows;
+mod state;
 mod streaming;
 
 pub use faults::StreamFault;
 pub use laws::streams_most;
-pub use line::Form;
+pub use line::OutputFormat;
 pub use rows::RowsFault;
-pub use streaming::{Room, stream};
+pub use state::Stream;

@@ -1,23 +1,19 @@
 //! The lines of an image, read, judged and clocked.
 
-ghost use Rattle.std.specs.Prelude.{◌≡◌, ◌≢◌, ℕ, ◌+◌, ◌*◌, ◌^◌, ◌<◌, ◌≤◌, ◌∷◌, [], List, Ok, Err, OnOk, OnErr, IfErr, length, slice_index};
+ghost use Rattle.std.specs.Prelude.{◌≡◌, ℕ, ◌*◌, ◌^◌, ◌<◌, ◌≤◌, Ok, Err, OnOk, IfErr, length, slice_index, take};
 ghost use Rattle.std.specs.Io.KnownBytes.{prepend_known};
-ghost use Rattle.wiring.specs.Snapshot.{Fit};
-ghost use Rattle.cycle_sim.specs.Ports.{din_widths};
 ghost use Rattle.dk_base.specs.declared.TheConstants.{MAX_SIDE};
-ghost use Rattle.dk_desk.specs.Outside.{Outside};
+ghost use Rattle.dk_base.specs.FrameSizes.{size_of};
 ghost use Rattle.dk_desk.specs.Calls.{HasCauseIn, ReadsOnly};
 ghost use Rattle.pgm_codec.specs.Rasters.{JudgesRow, row_length};
-ghost use Rattle.row_stream.specs.Forms.{kind_of};
-ghost use Rattle.row_stream.specs.Standing.{HasRoom, IsOneToOne, Lasts};
-ghost use Rattle.row_stream.specs.Batches.{HasBatch};
+ghost use Rattle.row_stream.specs.Formats.{kind_of};
+ghost use Rattle.row_stream.specs.Heads.{FitsHeader};
 ghost use Rattle.row_stream.specs.Rows.{IsRowFault};
-ghost use Rattle.row_stream.specs.RowReading.{AreRows, Streams, EndsRow, EndsRows};
+ghost use Rattle.row_stream.specs.RowReading.{TakesRow, Streams, EndsRow, EndsRows};
+ghost use Rattle.row_stream.specs.Calls.{ReadsAndWrites};
+ghost use Rattle.row_stream.specs.States.{IsReady, Keeps, CanGoOn};
 
-use crate::batch::Batch;
-use crate::clocking::clock_row;
-use crate::line::{Form, Line};
-use batch_sim::Batches;
+use crate::state::Stream;
 use dk_desk::transfer::read_full;
 use dk_desk::{Desk, InSlot, Stage};
 use pgm_codec::{Header, RasterFault, check_row};
@@ -60,93 +56,89 @@ fn read_row<D: Desk>(
     }
 }
 
-// Reads, judges and clocks a line.
-fn stream_row<D: Desk>(
-    desk: &mut D,
-    sim: &mut Batches,
-    line: &mut Line,
-    form: Form,
-    header: &Header,
-    row: u32,
-    to: &mut [u8],
-    batch: &mut Batch,
-) -> Result<(), RowsFault>
-    requires opened { (D.outside desk.old).image.stage ≡ Stage.Open }
-    requires created { (D.outside desk.old).file.stage ≡ Stage.Open }
-    requires room { HasRoom form.size.width line.old }
-    requires few { line.old.rows < 2 ^ 61 }
-    requires one { IsOneToOne (kind_of form) sim.old.netlist }
-    requires width { header.now.width ≡ form.size.width }
-    requires to { length to.old ≡ row_length header.now }
-    requires row { row < header.now.height }
-    requires batch { HasBatch form.size.width batch.old }
-    requires fit { (s : ℕ) → s ≤ header.now.maxval → Fit (din_widths sim.old.netlist) (s ∷ []) }
-    requires lasts { Lasts sim.old.netlist sim.old.contents }
-    ensures netlist { sim.new.netlist ≡ sim.old.netlist }
-    ensures batch { HasBatch form.size.width batch.new }
-    ensures to { length to.new ≡ row_length header.now }
-    ensures created { OnOk result ((D.outside desk.new).file.stage ≡ Stage.Open) }
-    ensures opened { (D.outside desk.new).image.stage ≡ Stage.Open }
-    ensures lasts { OnOk result (Lasts sim.new.netlist sim.new.contents) }
-    ensures room { OnOk result (HasRoom form.size.width line.new) }
-    ensures few { OnOk result (line.new.rows ≤ line.old.rows + form.size.width) }
-    ensures ok { OnOk result (Streams (kind_of form) sim.old.netlist header.now 1 sim.old.contents
-        sim.new.contents line.old line.new (D.outside desk.old) (D.outside desk.new)) }
-    ensures err { IfErr result (λ e. EndsRow (kind_of form) sim.old.netlist header.now
-        row e sim.old.contents line.old (D.outside desk.old) (D.outside desk.new)) }
-    ensures read { HasCauseIn (result ≡ Err RowsFault.Read) (D.outside desk.old).input_failures (D.outside desk.new).input_failures }
-    ensures write { HasCauseIn (result ≡ Err RowsFault.Write) (D.outside desk.old).output_failures (D.outside desk.new).output_failures }
+// The number of bytes of a row.
+pub(crate) fn row_bytes(header: &Header) -> usize
+    requires { header.now.width ≤ MAX_SIDE }
+    ensures is { result ≡ row_length header.now }
+    ensures most { result ≤ 2 * header.now.width }
 {
-    match read_row(desk, header, row, to) {
-        Err(fault) => return Err(fault),
-        Ok(()) => {}
-    }
-    match clock_row(desk, sim, line, form, header.maxval, to, batch) {
-        Err(_) => Err(RowsFault::Write),
-        Ok(()) => Ok(()),
+    if header.maxval < 256 {
+        header.width as usize
+    } else {
+        2 * header.width as usize
     }
 }
 
-// Reads, judges and clocks the lines of an image whose header was read.
-pub(crate) fn stream_rows<D: Desk>(
+// `read_row` with room for more bytes.
+fn read_front<D: Desk>(
     desk: &mut D,
-    sim: &mut Batches,
-    line: &mut Line,
-    form: Form,
     header: &Header,
-    to: &mut [u8],
-    batch: &mut Batch,
+    row: u32,
+    to: &mut Vec<u8>,
 ) -> Result<(), RowsFault>
     requires opened { (D.outside desk.old).image.stage ≡ Stage.Open }
-    requires created { (D.outside desk.old).file.stage ≡ Stage.Open }
-    requires room { HasRoom form.size.width line.old }
-    requires few { line.old.rows < 2 ^ 60 }
-    requires one { IsOneToOne (kind_of form) sim.old.netlist }
-    requires width { header.now.width ≡ form.size.width }
-    requires height { header.now.height ≡ form.size.height }
-    requires to { length to.old ≡ row_length header.now }
-    requires batch { HasBatch form.size.width batch.old }
-    requires fit { (s : ℕ) → s ≤ header.now.maxval → Fit (din_widths sim.old.netlist) (s ∷ []) }
-    requires lasts { Lasts sim.old.netlist sim.old.contents }
-    ensures netlist { sim.new.netlist ≡ sim.old.netlist }
-    ensures batch { HasBatch form.size.width batch.new }
-    ensures opened { (D.outside desk.new).image.stage ≡ Stage.Open }
-    ensures created { OnOk result ((D.outside desk.new).file.stage ≡ Stage.Open) }
-    ensures lasts { OnOk result (Lasts sim.new.netlist sim.new.contents) }
-    ensures room { OnOk result (HasRoom form.size.width line.new) }
-    ensures to { length to.new ≡ length to.old }
-    ensures few { OnOk result (line.new.rows ≤ line.old.rows + MAX_SIDE * MAX_SIDE) }
-    ensures ok { OnOk result (Streams (kind_of form) sim.old.netlist header.now header.now.height
-        sim.old.contents sim.new.contents line.old line.new (D.outside desk.old) (D.outside desk.new)) }
-    ensures err { IfErr result (λ e. EndsRows (kind_of form) sim.old.netlist header.now e sim.old.contents line.old (D.outside desk.old) (D.outside desk.new)) }
-    ensures read { HasCauseIn (result ≡ Err RowsFault.Read) (D.outside desk.old).input_failures (D.outside desk.new).input_failures }
-    ensures write { HasCauseIn (result ≡ Err RowsFault.Write) (D.outside desk.old).output_failures (D.outside desk.new).output_failures }
+    requires width { header.now.width ≤ MAX_SIDE }
+    requires row { row < header.now.height }
+    requires room { 2 * header.now.width ≤ length to.old.items }
+    ensures room { length to.new.items ≡ length to.old.items }
+    ensures ok { OnOk result (TakesRow header.now row (take (row_length header.now) to.new.items) (D.outside desk.old).image (D.outside desk.new).image) }
+    ensures fault { IfErr result (λ e. IsRowFault header.now row e (D.outside desk.old).image (D.outside desk.new).image) }
+    ensures only { ReadsOnly InSlot.Image (D.outside desk.old) (D.outside desk.new) }
+    ensures cause { HasCauseIn (result ≡ Err RowsFault.Read) (D.outside desk.old).input_failures (D.outside desk.new).input_failures }
 {
-    for row in 0..header.height {
-        match stream_row(desk, sim, line, form, header, row, to, batch) {
-            Err(fault) => return Err(fault),
-            Ok(()) => {}
+    let count = row_bytes(header);
+    read_row(desk, header, row, &mut to[..count])
+}
+
+impl Stream {
+    // Reads, judges and clocks the line of this number.
+    fn stream_row<D: Desk>(
+        &mut self,
+        desk: &mut D,
+        header: &Header,
+        row: u32,
+    ) -> Result<(), RowsFault>
+        requires opened { (D.outside desk.old).image.stage ≡ Stage.Open }
+        requires ready { IsReady self.old (D.outside desk.old) }
+        requires few { self.old.line.rows < 2 ^ 61 }
+        requires header { FitsHeader (size_of self.old.format.size) self.old.bits header.now }
+        requires row { row < header.now.height }
+        ensures keeps { Keeps self.old self.new }
+        ensures more { OnOk result (CanGoOn self.old.format.size.width self.old self.new (D.outside desk.new)) }
+        ensures ok { OnOk result (Streams (kind_of self.old.format) self.old.sim.netlist header.now 1
+            self.old.sim.contents self.new.sim.contents self.old.line self.new.line (D.outside desk.old) (D.outside desk.new)) }
+        ensures err { IfErr result (λ e. EndsRow (kind_of self.old.format) self.old.sim.netlist header.now row e
+            self.old.sim.contents self.old.line (D.outside desk.old) (D.outside desk.new)) }
+        ensures desk { ReadsAndWrites (result ≡ Err RowsFault.Read) (result ≡ Err RowsFault.Write) (D.outside desk.old) (D.outside desk.new) }
+    {
+        read_front(desk, header, row, &mut self.row)?;
+        match self.clock_row(desk, header) {
+            Err(_) => Err(RowsFault::Write),
+            Ok(()) => Ok(()),
         }
     }
-    Ok(())
+
+    // Reads, judges and clocks the lines of an image whose header was read.
+    pub(crate) fn stream_rows<D: Desk>(
+        &mut self,
+        desk: &mut D,
+        header: &Header,
+    ) -> Result<(), RowsFault>
+        requires opened { (D.outside desk.old).image.stage ≡ Stage.Open }
+        requires ready { IsReady self.old (D.outside desk.old) }
+        requires few { self.old.line.rows < 2 ^ 60 }
+        requires header { FitsHeader (size_of self.old.format.size) self.old.bits header.now }
+        ensures keeps { Keeps self.old self.new }
+        ensures more { OnOk result (CanGoOn (MAX_SIDE * MAX_SIDE) self.old self.new (D.outside desk.new)) }
+        ensures ok { OnOk result (Streams (kind_of self.old.format) self.old.sim.netlist header.now header.now.height
+            self.old.sim.contents self.new.sim.contents self.old.line self.new.line (D.outside desk.old) (D.outside desk.new)) }
+        ensures err { IfErr result (λ e. EndsRows (kind_of self.old.format) self.old.sim.netlist header.now e
+            self.old.sim.contents self.old.line (D.outside desk.old) (D.outside desk.new)) }
+        ensures desk { ReadsAndWrites (result ≡ Err RowsFault.Read) (result ≡ Err RowsFault.Write) (D.outside desk.old) (D.outside desk.new) }
+    {
+        for row in 0..header.height {
+            self.stream_row(desk, header, row)?;
+        }
+        Ok(())
+    }
 }

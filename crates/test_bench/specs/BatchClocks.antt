@@ -1,14 +1,16 @@
 -- Used by private functions only.
 -- What the clocks of a batch show.
-use Rattle.std.specs.Prelude.{◌≡◌, ℕ, List, slice_get, Some, ◌+◌, Bool, [], ◌∷◌, ◌++◌, length, map, Option, if◌then◌else◌}
-use Rattle.wiring.specs.Snapshot.{Snapshot, Contents}
+use Rattle.std.specs.Prelude.{◌≡◌, ◌*◌, ◌≤◌, ℕ, List, slice_get, Some, ◌+◌, Bool, [], ◌∷◌, ◌++◌, length, map, Option, if◌then◌else◌}
+use Rattle.wiring.specs.Snapshot.{Snapshot, Contents, Fit}
 use Rattle.cycle_sim.specs.declared.ports.Out.{Out}
-use Rattle.cycle_sim.specs.Ports.{AreShown}
-use Rattle.batch_sim.specs.Called.{of_clock}
+use Rattle.cycle_sim.specs.Ports.{AreShown, din_widths}
+use Rattle.batch_sim.specs.Called.{batch_clocks, of_clock}
 use Rattle.std.specs.List.{All}
 use Rattle.wiring.specs.Netlist.{Netlist}
 use Rattle.wiring.specs.Clock.{Clock}
 use Rattle.wiring.specs.Runs.{Runs, RunStops}
+use Rattle.test_bench.specs.declared.batch.TheConstants.{BATCH_PIXELS}
+use Rattle.test_bench.specs.declared.batch.Batch.{Batch}
 use Rattle.test_bench.specs.declared.picture.Shown.{Shown}
 use Rattle.batch_sim.specs.declared.batches.Stop.{Stop as BatchStop}
 use Rattle.stimulus.specs.Showing.{notes_of}
@@ -43,3 +45,19 @@ pub record StopsBatch (m : Netlist) (clocks : List Clock) (from : Contents) (sto
   pub shots : List Snapshot
   pub done : length shots ≡ stop.done
   pub stops : RunStops m from clocks shots stop.range.array stop.range.index
+
+-- the clocks of a batch
+abbrev pub clocks_of : Netlist → Batch → List Clock
+clocks_of m batch = batch_clocks m batch.enables.items batch.dins.items
+
+-- The clocks of a batch fit the module, and there are no more than there is room for.
+pub record HasClocks (m : Netlist) (batch : Batch) : Type 0 where
+  pub fit : All (λ (c : Clock). Fit (din_widths m) c.dins) (clocks_of m batch)
+  pub whole : length batch.dins.items ≡ length batch.enables.items * length (din_widths m)
+  pub few : length batch.enables.items ≤ 2 * BATCH_PIXELS
+
+-- The clocks of a batch are as they were, and there is room for as many.
+pub record KeepsClocks (old new : Batch) : Type 0 where
+  pub enables : new.enables ≡ old.enables
+  pub dins : new.dins ≡ old.dins
+  pub outs : length new.outs.items ≡ length old.outs.items

@@ -1,18 +1,22 @@
 // Batches of clocks.
 
-ghost use Rattle.std.specs.Prelude.{◌≡◌, ℕ, ◌+◌, ◌*◌, ◌^◌, ◌<◌, ◌≤◌, ◌++◌, ◌∷◌, [], List, false, length, IfOk, vec_capacity, if◌then◌else◌};
-ghost use Rattle.std.specs.List.{flat_map, range_with_len};
+ghost use Rattle.std.specs.Prelude.{◌≡◌, ℕ, ◌+◌, ◌*◌, ◌^◌, ◌<◌, ◌≤◌, ◌++◌, ◌∷◌, [], List, false, length, take, IfOk, IfErr, OnOk, vec_capacity, if◌then◌else◌};
+ghost use Rattle.std.specs.List.{All, flat_map, range_with_len};
 ghost use Rattle.dk_base.specs.Frames.{Size, area as area_of};
 ghost use Rattle.wiring.specs.Netlist.{Netlist};
 ghost use Rattle.cycle_sim.specs.Ports.{din_widths};
-ghost use Rattle.batch_sim.specs.Called.{clocks_with};
+ghost use Rattle.wiring.specs.Snapshot.{Fit};
+ghost use Rattle.wiring.specs.Clock.{Clock};
+ghost use Rattle.batch_sim.specs.Called.{BatchRan, batch_clocks, clocks_with, output_count};
 ghost use Rattle.test_bench.specs.declared.batch.TheConstants.{BATCH_PIXELS};
 ghost use Rattle.stimulus.specs.Stimulus.{dins_at, pixel_clock, is_held_after, clocks_at};
 ghost use Rattle.stimulus.specs.Given.{rounds_of, AreBenchFrames};
 ghost use Rattle.test_bench.specs.Clocking.{IsFed};
-ghost use Rattle.test_bench.specs.Batches.{HasBatch};
+ghost use Rattle.test_bench.specs.Batches.{HasBatch, KeepsRoom};
+ghost use Rattle.test_bench.specs.BatchClocks.{HasClocks, KeepsClocks, StopsBatch, clocks_of};
 
 use crate::clocking::Feed;
+use batch_sim::{Batches, Stop};
 use cycle_sim::Out;
 use dk_base::OutOfMemory;
 use pgm_rounds::Round;
@@ -52,6 +56,50 @@ impl Batch {
             outs,
         })
     }
+
+    // The clocks of the batch in one call, of a module with this many outputs. What they show is in the first places.
+    pub(crate) fn step(&mut self, sim: &mut Batches, ports: usize) -> Result<(), Stop>
+        requires clocks { HasClocks sim.old.netlist self.old }
+        requires ports { length sim.old.netlist.outputs ≡ 2 * ports }
+        requires room { length self.old.outs.items ≡ 2 * BATCH_PIXELS * ports }
+        ensures netlist { sim.new.netlist ≡ sim.old.netlist }
+        ensures keeps { KeepsClocks self.old self.new }
+        ensures ok { OnOk result (BatchRan sim.old.netlist (clocks_of sim.old.netlist self.old)
+            sim.old.contents sim.new.contents (take (length self.old.enables.items * ports) self.new.outs.items)) }
+        ensures stop { IfErr result (StopsBatch sim.old.netlist (clocks_of sim.old.netlist self.old) sim.old.contents) }
+    {
+        let places = self.enables.len() * ports;
+        step_front(sim, &self.enables, &self.dins, &mut self.outs, places)
+    }
+
+    // What the outputs show in the first `count` clocks, of a module with this many outputs.
+    pub(crate) fn shown(&self, count: usize, ports: usize) -> &[Out]
+        requires { count * ports ≤ length self.now.outs.items }
+        ensures { result.now ≡ take (count * ports) self.now.outs.items }
+    {
+        self.outs.split_at(count * ports).0
+    }
+}
+
+// Clocks in one call, in which the outputs show what is in the first `places` places.
+fn step_front(
+    sim: &mut Batches,
+    enables: &[bool],
+    dins: &[u64],
+    outs: &mut Vec<Out>,
+    places: usize,
+) -> Result<(), Stop>
+    requires fit { All (λ (c : Clock). Fit (din_widths sim.old.netlist) c.dins) (batch_clocks sim.old.netlist enables.now dins.now) }
+    requires all { length dins.now ≡ length enables.now * length (din_widths sim.old.netlist) }
+    requires places { places ≡ length enables.now * output_count sim.old.netlist }
+    requires room { places ≤ length outs.old.items }
+    ensures netlist { sim.new.netlist ≡ sim.old.netlist }
+    ensures outs { length outs.new.items ≡ length outs.old.items }
+    ensures ok { OnOk result (BatchRan sim.old.netlist (batch_clocks sim.old.netlist enables.now dins.now)
+        sim.old.contents sim.new.contents (take places outs.new.items)) }
+    ensures stop { IfErr result (StopsBatch sim.old.netlist (batch_clocks sim.old.netlist enables.now dins.now) sim.old.contents) }
+{
+    sim.step_batch(enables, dins, &mut outs[..places])
 }
 
 // Adds the pixel of this number of each input.
@@ -89,9 +137,7 @@ fn push_pixel_clock(batch: &mut Batch, feed: &Feed, rounds: &[Round], number: u6
         ++ pixel_clock (length feed.now.held.items) (rounds_of rounds.now) number ∷ [] }
     ensures count { length batch.new.enables.items ≡ length batch.old.enables.items + 1 }
     ensures whole { length batch.new.dins.items ≡ length batch.new.enables.items * length feed.now.held.items }
-    ensures enables { vec_capacity batch.new.enables ≡ vec_capacity batch.old.enables }
-    ensures dins { vec_capacity batch.new.dins ≡ vec_capacity batch.old.dins }
-    ensures outs { batch.new.outs.items ≡ batch.old.outs.items }
+    ensures room { KeepsRoom batch.old batch.new }
 {
     batch.enables.push_reserved(true);
     push_pixels(rounds, feed.area, number, feed.held.len(), &mut batch.dins);
@@ -107,9 +153,7 @@ fn push_held_clock(batch: &mut Batch, comes: bool, held: &[u64])
         ++ (if comes then record { reset = false; enable = false; dins = held.now } ∷ [] else []) }
     ensures count { length batch.new.enables.items ≤ length batch.old.enables.items + 1 }
     ensures whole { length batch.new.dins.items ≡ length batch.new.enables.items * length held.now }
-    ensures enables { vec_capacity batch.new.enables ≡ vec_capacity batch.old.enables }
-    ensures dins { vec_capacity batch.new.dins ≡ vec_capacity batch.old.dins }
-    ensures outs { batch.new.outs.items ≡ batch.old.outs.items }
+    ensures room { KeepsRoom batch.old batch.new }
 {
     if comes {
         batch.enables.push_reserved(false);
@@ -130,9 +174,7 @@ fn push_clocks(batch: &mut Batch, feed: &Feed, rounds: &[Round], number: u64, fo
         ++ clocks_at feed.now.hold (din_widths m) (rounds_of rounds.now) number }
     ensures count { length batch.new.enables.items ≤ length batch.old.enables.items + 2 }
     ensures whole { length batch.new.dins.items ≡ length batch.new.enables.items * length feed.now.held.items }
-    ensures enables { vec_capacity batch.new.enables ≡ vec_capacity batch.old.enables }
-    ensures dins { vec_capacity batch.new.dins ≡ vec_capacity batch.old.dins }
-    ensures outs { batch.new.outs.items ≡ batch.old.outs.items }
+    ensures room { KeepsRoom batch.old batch.new }
 {
     push_pixel_clock(batch, feed, rounds, number);
     push_held_clock(batch, follows, &feed.held);
@@ -142,9 +184,7 @@ fn push_clocks(batch: &mut Batch, feed: &Feed, rounds: &[Round], number: u64, fo
 fn clear(batch: &mut Batch)
     ensures enables { batch.new.enables.items ≡ [] }
     ensures dins { batch.new.dins.items ≡ [] }
-    ensures enables_room { vec_capacity batch.new.enables ≡ vec_capacity batch.old.enables }
-    ensures dins_room { vec_capacity batch.new.dins ≡ vec_capacity batch.old.dins }
-    ensures outs { batch.new.outs.items ≡ batch.old.outs.items }
+    ensures room { KeepsRoom batch.old batch.new }
 {
     batch.enables.clear();
     batch.dins.clear();
@@ -162,9 +202,7 @@ pub(crate) fn fill_batch(batch: &mut Batch, feed: &Feed, rounds: &[Round], start
         ≡ flat_map (clocks_at feed.now.hold (din_widths m) (rounds_of rounds.now)) (range_with_len start count) }
     ensures count { length batch.new.enables.items ≤ 2 * count }
     ensures whole { length batch.new.dins.items ≡ length batch.new.enables.items * length feed.now.held.items }
-    ensures enables { vec_capacity batch.new.enables ≡ vec_capacity batch.old.enables }
-    ensures dins { vec_capacity batch.new.dins ≡ vec_capacity batch.old.dins }
-    ensures outs { batch.new.outs.items ≡ batch.old.outs.items }
+    ensures room { KeepsRoom batch.old batch.new }
 {
     clear(batch);
     let mut left = clocks_left(feed.hold, start);

@@ -6,11 +6,8 @@ ghost use Rattle.dk_base.specs.declared.TheConstants.{MAX_PORT_WIDTH};
 ghost use Rattle.dk_base.specs.Frames.{Size};
 ghost use Rattle.wiring.specs.Snapshot.{Snapshot, Fit};
 ghost use Rattle.wiring.specs.Clock.{Clock, given, Steps, Stops};
-ghost use Rattle.wiring.specs.Order.{IsEvaluationOrder};
-ghost use Rattle.wiring.specs.Rules.{KeepsRules};
-ghost use Rattle.batch_sim.specs.Called.{batch_clocks};
 ghost use Rattle.test_bench.specs.declared.batch.TheConstants.{BATCH_PIXELS};
-ghost use Rattle.test_bench.specs.BatchClocks.{AreShownIn, Extends, ShowsBatch, StopsBatch, sample_of, pairs_of};
+ghost use Rattle.test_bench.specs.BatchClocks.{AreShownIn, Extends, HasClocks, clocks_of, sample_of, pairs_of};
 ghost use Rattle.cycle_sim.specs.declared.ports.Out.{Out as Ports};
 ghost use Rattle.cycle_sim.specs.Ports.{din_widths, AreShown};
 ghost use Rattle.test_bench.specs.declared.picture.Shown.{Shown as Picture};
@@ -20,7 +17,7 @@ ghost use Rattle.test_bench.specs.Clocking.{AreKept, GoOn, IsBench, Clocked, Sto
 
 use crate::batch::{BATCH_PIXELS, Batch, fill_batch};
 use crate::picture::Shown;
-use batch_sim::{Batches, Stop as BatchStop};
+use batch_sim::Batches;
 use cycle_sim::{IndexRange, Out};
 use dk_desk::Desk;
 use pgm_rounds::Round;
@@ -151,14 +148,6 @@ fn show_all(pictures: &mut Vec<Shown>, most: usize, outs: &[Out], count: usize)
     }
 }
 
-// The outputs of the first clocks.
-fn outs_before(outs: &[Out], count: usize, ports: usize) -> &[Out]
-    requires { count * ports ≤ length outs.now }
-    ensures { result.now ≡ take (count * ports) outs.now }
-{
-    outs.split_at(count * ports).0
-}
-
 // The stop in the clock after these.
 fn stopped(made: u64, range: IndexRange) -> Stop
     requires { made < 2 ^ 63 }
@@ -171,152 +160,31 @@ fn stopped(made: u64, range: IndexRange) -> Stop
     }
 }
 
-// The clocks of a batch in one call. Then each clock is noted, and what each output shows in it is added to its picture. At a stop the clocks before it are noted.
-fn clock_all<D: Desk>(
-    desk: &mut D,
-    sim: &mut Batches,
-    pictures: &mut Vec<Shown>,
-    most: usize,
-    enables: &[bool],
-    dins: &[u64],
-    outs: &mut [Out],
-) -> Result<(), BatchStop>
-    requires order { (order : List ℕ) × IsEvaluationOrder sim.old.netlist.assigns order }
-    requires rules { KeepsRules sim.old.netlist }
-    requires fit { All (λ (c : Clock). Fit (din_widths sim.old.netlist) c.dins) (batch_clocks sim.old.netlist enables.now dins.now) }
-    requires all { length dins.now ≡ length enables.now * length (din_widths sim.old.netlist) }
-    requires outs { length outs.old ≡ length enables.now * length pictures.old.items }
-    requires pictures { length sim.old.netlist.outputs ≡ 2 * length pictures.old.items }
-    requires room { All (λ shown. most ≤ vec_capacity shown.samples) pictures.old.items }
-    ensures netlist { sim.new.netlist ≡ sim.old.netlist }
-    ensures outs { length outs.new ≡ length outs.old }
-    ensures count { OnOk result (length pictures.new.items ≡ length pictures.old.items) }
-    ensures room { OnOk result (All (λ shown. most ≤ vec_capacity shown.samples) pictures.new.items) }
-    ensures only { D.outside desk.new ≡ record (D.outside desk.old) { notes = (D.outside desk.new).notes } }
-    ensures ok { OnOk result (ShowsBatch sim.old.netlist (batch_clocks sim.old.netlist enables.now dins.now) sim.old.contents
-        sim.new.contents most pictures.old.items pictures.new.items (D.outside desk.old).notes (D.outside desk.new).notes) }
-    ensures stop { IfErr result (StopsBatch sim.old.netlist (batch_clocks sim.old.netlist enables.now dins.now) sim.old.contents) }
-{
-    sim.law();
-    netlist::values_fit_law();
-    let ports = pictures.len();
-    match sim.step_batch(enables, dins, outs) {
-        Err(stop) => {
-            tell(desk, outs_before(outs, stop.done, ports));
-            Err(stop)
-        }
-        Ok(()) => {
-            tell(desk, outs);
-            show_all(pictures, most, outs, enables.len());
-            Ok(())
-        }
-    }
-}
-
-// `clock_all` with room for more outputs than these.
-fn clock_front<D: Desk>(
-    desk: &mut D,
-    sim: &mut Batches,
-    pictures: &mut Vec<Shown>,
-    most: usize,
-    enables: &[bool],
-    dins: &[u64],
-    outs: &mut [Out],
-    places: usize,
-) -> Result<(), BatchStop>
-    requires order { (order : List ℕ) × IsEvaluationOrder sim.old.netlist.assigns order }
-    requires rules { KeepsRules sim.old.netlist }
-    requires fit { All (λ (c : Clock). Fit (din_widths sim.old.netlist) c.dins) (batch_clocks sim.old.netlist enables.now dins.now) }
-    requires all { length dins.now ≡ length enables.now * length (din_widths sim.old.netlist) }
-    requires outs { places ≤ length outs.old }
-    requires places { places ≡ length enables.now * length pictures.old.items }
-    requires pictures { length sim.old.netlist.outputs ≡ 2 * length pictures.old.items }
-    requires room { All (λ shown. most ≤ vec_capacity shown.samples) pictures.old.items }
-    ensures netlist { sim.new.netlist ≡ sim.old.netlist }
-    ensures outs { length outs.new ≡ length outs.old }
-    ensures count { OnOk result (length pictures.new.items ≡ length pictures.old.items) }
-    ensures room { OnOk result (All (λ shown. most ≤ vec_capacity shown.samples) pictures.new.items) }
-    ensures only { D.outside desk.new ≡ record (D.outside desk.old) { notes = (D.outside desk.new).notes } }
-    ensures ok { OnOk result (ShowsBatch sim.old.netlist (batch_clocks sim.old.netlist enables.now dins.now) sim.old.contents
-        sim.new.contents most pictures.old.items pictures.new.items (D.outside desk.old).notes (D.outside desk.new).notes) }
-    ensures stop { IfErr result (StopsBatch sim.old.netlist (batch_clocks sim.old.netlist enables.now dins.now) sim.old.contents) }
-{
-    clock_all(
-        desk,
-        sim,
-        pictures,
-        most,
-        enables,
-        dins,
-        &mut outs[..places],
-    )
-}
-
-// The same, for the clocks that a batch has.
-fn clock_filled<D: Desk>(
-    desk: &mut D,
-    sim: &mut Batches,
-    pictures: &mut Vec<Shown>,
-    most: usize,
-    batch: &mut Batch,
-) -> Result<(), BatchStop>
-    requires order { (order : List ℕ) × IsEvaluationOrder sim.old.netlist.assigns order }
-    requires rules { KeepsRules sim.old.netlist }
-    requires fit { All (λ (c : Clock). Fit (din_widths sim.old.netlist) c.dins) (batch_clocks sim.old.netlist batch.old.enables.items batch.old.dins.items) }
-    requires all { length batch.old.dins.items ≡ length batch.old.enables.items * length (din_widths sim.old.netlist) }
-    requires few { length batch.old.enables.items ≤ 2 * BATCH_PIXELS }
-    requires outs { length batch.old.outs.items ≡ 2 * BATCH_PIXELS * length pictures.old.items }
-    requires pictures { length sim.old.netlist.outputs ≡ 2 * length pictures.old.items }
-    requires room { All (λ shown. most ≤ vec_capacity shown.samples) pictures.old.items }
-    ensures netlist { sim.new.netlist ≡ sim.old.netlist }
-    ensures enables { vec_capacity batch.new.enables ≡ vec_capacity batch.old.enables }
-    ensures dins { vec_capacity batch.new.dins ≡ vec_capacity batch.old.dins }
-    ensures outs { length batch.new.outs.items ≡ length batch.old.outs.items }
-    ensures count { OnOk result (length pictures.new.items ≡ length pictures.old.items) }
-    ensures room { OnOk result (All (λ shown. most ≤ vec_capacity shown.samples) pictures.new.items) }
-    ensures only { D.outside desk.new ≡ record (D.outside desk.old) { notes = (D.outside desk.new).notes } }
-    ensures ok { OnOk result (ShowsBatch sim.old.netlist (batch_clocks sim.old.netlist batch.old.enables.items batch.old.dins.items)
-        sim.old.contents sim.new.contents most pictures.old.items pictures.new.items (D.outside desk.old).notes (D.outside desk.new).notes) }
-    ensures stop { IfErr result (StopsBatch sim.old.netlist (batch_clocks sim.old.netlist batch.old.enables.items batch.old.dins.items) sim.old.contents) }
-{
-    let places = batch.enables.len() * pictures.len();
-    clock_front(
-        desk,
-        sim,
-        pictures,
-        most,
-        &batch.enables,
-        &batch.dins,
-        &mut batch.outs,
-        places,
-    )
-}
-
-// The clocks of the bench's batch. After a Stop the pictures are those before the batch.
+// The clocks of the bench's batch in one call. Then each clock is noted, and what each output shows in it is added to its picture. At a stop
+// the clocks before it are noted, and the pictures are those before the batch.
 fn clock_batch<D: Desk>(desk: &mut D, bench: &mut Bench) -> Result<(), Stop>
     requires bench { IsBench bench.old }
-    requires fit { All (λ (c : Clock). Fit (din_widths bench.old.sim.netlist) c.dins)
-        (batch_clocks bench.old.sim.netlist bench.old.batch.enables.items bench.old.batch.dins.items) }
-    requires dins { length bench.old.batch.dins.items ≡ length bench.old.batch.enables.items * length (din_widths bench.old.sim.netlist) }
-    requires outs { length bench.old.batch.enables.items ≤ 2 * BATCH_PIXELS }
+    requires clocks { HasClocks bench.old.sim.netlist bench.old.batch }
     requires few { bench.old.made < 2 ^ 62 }
     ensures only { D.outside desk.new ≡ record (D.outside desk.old) { notes = (D.outside desk.new).notes } }
-    ensures ok { OnOk result (Clocked bench.old.sim.netlist
-        (batch_clocks bench.old.sim.netlist bench.old.batch.enables.items bench.old.batch.dins.items)
+    ensures ok { OnOk result (Clocked bench.old.sim.netlist (clocks_of bench.old.sim.netlist bench.old.batch)
         bench.old bench.new (D.outside desk.old).notes (D.outside desk.new).notes) }
     ensures stop { IfErr result (StopsIn bench.old.sim.netlist bench.old.sim.contents bench.old.made
-        (batch_clocks bench.old.sim.netlist bench.old.batch.enables.items bench.old.batch.dins.items)) }
+        (clocks_of bench.old.sim.netlist bench.old.batch)) }
 {
+    bench.sim.law();
+    netlist::values_fit_law();
     let count = bench.batch.enables.len();
-    match clock_filled(
-        desk,
-        &mut bench.sim,
-        &mut bench.pictures,
-        bench.most,
-        &mut bench.batch,
-    ) {
-        Err(stop) => Err(stopped(bench.made + stop.done as u64, stop.range)),
+    let ports = bench.pictures.len();
+    match bench.batch.step(&mut bench.sim, ports) {
+        Err(stop) => {
+            tell(desk, bench.batch.shown(stop.done, ports));
+            Err(stopped(bench.made + stop.done as u64, stop.range))
+        }
         Ok(()) => {
+            let outs = bench.batch.shown(count, ports);
+            tell(desk, outs);
+            show_all(&mut bench.pictures, bench.most, outs, count);
             bench.made += count as u64;
             Ok(())
         }

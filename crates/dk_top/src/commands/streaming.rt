@@ -2,20 +2,15 @@
 
 ghost use Rattle.std.specs.Prelude.{◌≡◌, ◌≢◌, ℕ, ◌≤◌, ◌-◌, ◌^◌, ◌∷◌, [], List, false, None, Err, IsTrue, length, slice_index};
 ghost use Rattle.dk_base.specs.declared.TheConstants.{MAX_LATENCY, MAX_PORT_WIDTH};
-ghost use Rattle.cycle_sim.specs.Ports.{din_widths};
 ghost use Rattle.dk_compile.specs.Fronts.{IsForm};
 ghost use Rattle.dk_desk.specs.Calls.{HasCauseIn};
 ghost use Rattle.dk_types.specs.Typed.{Typing};
-ghost use Rattle.row_stream.specs.Forms.{kind_of};
-ghost use Rattle.row_stream.specs.Standing.{IsOneToOne, Starts};
-ghost use Rattle.row_stream.specs.Whole.{IsRoom};
-ghost use Rattle.wiring.specs.Snapshot.{Fit};
+ghost use Rattle.row_stream.specs.Formats.{kind_of};
+ghost use Rattle.row_stream.specs.Whole.{IsStart};
 ghost use Rattle.dk_top.specs.Compiling.{IsCompiledFrom};
 ghost use Rattle.dk_top.specs.Streaming.{IsOnePort};
 ghost use Rattle.dk_top.specs.Streams.{StreamsFrom, OfCompiled, RunsStream, RunsOn};
 
-use batch_sim::Batches;
-use cycle_sim::Fill;
 use dk_base::FrameSize;
 use dk_compile::{Compiled, drive_shows_law, one_at_age_law, one_source_law};
 use dk_desk::{Desk, InSlot, Stage};
@@ -23,7 +18,7 @@ use dk_endings::{Ending, ImageFault};
 use netlist::Module;
 use pgm_rounds::one_file_law;
 use pointwise_ir::Program;
-use row_stream::{Form, Room, StreamFault, stream, streams_most};
+use row_stream::{OutputFormat, Stream, StreamFault, streams_most};
 use std::alloc::Global;
 
 // Whether the program has one input and one output.
@@ -51,12 +46,12 @@ fn dout_bits(module: &Module) -> u8
 }
 
 // The images that a module with a dout of this width writes.
-fn form_of(size: FrameSize, bits: u8) -> Form
+fn format_of(size: FrameSize, bits: u8) -> OutputFormat
     requires { bits ≤ MAX_PORT_WIDTH }
     ensures size { result.size ≡ size }
     ensures maxval { result.maxval ≡ 2 ^ bits - 1 }
 {
-    Form {
+    OutputFormat {
         size,
         maxval: ((1u32 << bits) - 1) as u16,
     }
@@ -65,23 +60,17 @@ fn form_of(size: FrameSize, bits: u8) -> Form
 // Opens the images and streams them.
 fn stream_file<D: Desk>(
     desk: &mut D,
-    sim: &mut Batches,
-    room: Room,
-    form: Form,
-    bits: u8,
+    stream: &mut Stream,
     latency: u64,
     image: &str,
     out: &str,
 ) -> Ending
     requires image { (D.outside desk.old).image.stage ≡ Stage.Unasked }
     requires file { (D.outside desk.old).file.stage ≡ Stage.Unasked }
-    requires bits { bits ≤ MAX_PORT_WIDTH }
     requires latency { latency ≤ MAX_LATENCY }
-    requires room { IsRoom form.size.width room }
-    requires one { IsOneToOne (kind_of form) sim.old.netlist }
-    requires fit { (s : ℕ) → s ≤ 2 ^ bits - 1 → Fit (din_widths sim.old.netlist) (s ∷ []) }
-    requires starts { Starts sim.old.netlist sim.old.contents }
-    ensures runs { RunsStream (kind_of form) sim.old.netlist bits latency image.now out.now sim.old.contents (D.outside desk.old) (D.outside desk.new) result }
+    requires start { IsStart stream.old }
+    ensures runs { RunsStream (kind_of stream.old.format) stream.old.sim.netlist stream.old.bits latency image.now out.now
+        stream.old.sim.contents (D.outside desk.old) (D.outside desk.new) result }
     ensures read { HasCauseIn (result ≡ Ending.ReadFault) (D.outside desk.old).input_failures (D.outside desk.new).input_failures }
     ensures write { HasCauseIn (result ≡ Ending.WriteFault) (D.outside desk.old).output_failures (D.outside desk.new).output_failures }
 {
@@ -89,7 +78,7 @@ fn stream_file<D: Desk>(
         Err(_) => return Ending::ReadFault,
         Ok(()) => {}
     }
-    match stream(desk, sim, room, form, bits, latency, out) {
+    match stream.run(desk, latency, out) {
         Ok(()) => Ending::Done,
         Err(StreamFault::Image(fault)) => Ending::Image(ImageFault::File(fault)),
         Err(StreamFault::Read) => Ending::ReadFault,
@@ -121,27 +110,13 @@ fn run_lines<D: Desk>(
     one_source_law();
     compiled.ir.law();
     compiled.plan.law();
-    let size = compiled.ir.size();
-    let mut sim = match Batches::new(alloc, module, Fill::Zeros) {
-        Ok(sim) => sim,
+    let format = format_of(compiled.ir.size(), dout_bits(module));
+    let mut stream = match Stream::new(alloc, module, format, din_bits(module)) {
+        Ok(stream) => stream,
         Err(_) => return Ending::Memory,
     };
-    let room = match Room::new(alloc, size) {
-        Ok(room) => room,
-        Err(_) => return Ending::Memory,
-    };
-    let form = form_of(size, dout_bits(module));
     let latency = compiled.plan.latency();
-    stream_file(
-        desk,
-        &mut sim,
-        room,
-        form,
-        din_bits(module),
-        latency,
-        image,
-        out,
-    )
+    stream_file(desk, &mut stream, latency, image, out)
 }
 
 // Clocks and writes as run_lines does, stated of the program's text.

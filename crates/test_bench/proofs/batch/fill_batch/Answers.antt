@@ -15,9 +15,7 @@ loop-number-preserved c =
           c.push_clocks.ensures.clocks m size fed ∙ ap (λ z. z ++ f (c.args.start + k)) (inv.clocks m size fed) ∙ sym (flat_more f c.args.start k);
       count = omega (arith, inv.count, c.push_clocks.ensures.count);
       whole = c.push_clocks.ensures.whole;
-      enables = c.push_clocks.ensures.enables ∙ inv.enables;
-      dins = c.push_clocks.ensures.dins ∙ inv.dins;
-      outs = c.push_clocks.ensures.outs ∙ inv.outs;
+      room = (let r = c.push_clocks.ensures.room in record { enables = r.enables ∙ inv.room.enables; dins = r.dins ∙ inv.room.dins; outs = r.outs ∙ inv.room.outs });
       left =
           let on : c.args.start + k + 1 ≡ c.args.start + (k + 1) = omega arith in
           c.next_left-left.ensures (c.args.start + k) inv.left ∙ ap (clocks_left c.args.feed.now.hold) on;

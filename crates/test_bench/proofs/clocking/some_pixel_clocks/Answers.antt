@@ -19,22 +19,21 @@ pub clock_batch-requires-clause-bench : goal.clock_batch-requires-clause-bench
 clock_batch-requires-clause-bench g c =
     let old = c.args.bench.now in
     with_batch old c.fill_batch.new.batch c.requires.bench (record {
-      enables = subst (λ n. 2 * BATCH_PIXELS ≤ n) (sym c.fill_batch.ensures.enables) c.requires.bench.batch.enables;
-      dins = subst (λ n. 2 * BATCH_PIXELS * length (din_widths old.sim.netlist) ≤ n) (sym c.fill_batch.ensures.dins) c.requires.bench.batch.dins;
-      outs = ap length c.fill_batch.ensures.outs ∙ c.requires.bench.batch.outs;
+      enables = subst (λ n. 2 * BATCH_PIXELS ≤ n) (sym c.fill_batch.ensures.room.enables) c.requires.bench.batch.enables;
+      dins = subst (λ n. 2 * BATCH_PIXELS * length (din_widths old.sim.netlist) ≤ n) (sym c.fill_batch.ensures.room.dins) c.requires.bench.batch.dins;
+      outs = ap length c.fill_batch.ensures.room.outs ∙ c.requires.bench.batch.outs;
     })
 
-pub clock_batch-requires-clause-fit : goal.clock_batch-requires-clause-fit
-clock_batch-requires-clause-fit g c =
+pub clock_batch-requires-clause-clocks : goal.clock_batch-requires-clause-clocks
+clock_batch-requires-clause-clocks g c =
     let m = c.args.bench.now.sim.netlist in
     let fed = c.requires.fed in
     let new = c.fill_batch.new.batch in
-    batch_fit m fed.0 c.args.feed.now c.args.rounds.now fed.1 new.enables.items new.dins.items c.args.start c.args.count (c.fill_batch.ensures.clocks m fed.0 fed.1)
-
-pub clock_batch-requires-clause-dins : goal.clock_batch-requires-clause-dins
-clock_batch-requires-clause-dins g c =
-    let fed = c.requires.fed in
-    c.fill_batch.ensures.whole ∙ ap (λ n. length c.fill_batch.new.batch.enables.items * n) (inputs_are c.args.bench.now.sim.netlist fed.0 c.args.feed.now c.args.rounds.now fed.1)
+    record {
+      fit = batch_fit m fed.0 c.args.feed.now c.args.rounds.now fed.1 new.enables.items new.dins.items c.args.start c.args.count (c.fill_batch.ensures.clocks m fed.0 fed.1);
+      whole = c.fill_batch.ensures.whole ∙ ap (λ n. length new.enables.items * n) (inputs_are m fed.0 c.args.feed.now c.args.rounds.now fed.1);
+      few = omega (arith, c.fill_batch.ensures.count, c.requires.count);
+    }
 
 pub returns-clause-few : goal.returns-clause-few
 returns-clause-few g c =

@@ -1,0 +1,83 @@
+-- The state of a stream between two calls.
+use Rattle.std.specs.Prelude.{◌≡◌, ℕ, ◌+◌, ◌-◌, ◌*◌, ◌^◌, ◌<◌, ◌≤◌, List, [], ◌∷◌, length, take}
+use Rattle.dk_base.specs.declared.TheConstants.{MAX_PORT_WIDTH}
+use Rattle.dk_desk.specs.declared.Stage.TheVariants.{Open}
+use Rattle.dk_desk.specs.Outside.{Outside}
+use Rattle.wiring.specs.Netlist.{Netlist}
+use Rattle.wiring.specs.Snapshot.{Fit}
+use Rattle.wiring.specs.Clock.{Clock}
+use Rattle.cycle_sim.specs.Ports.{din_widths}
+use Rattle.pgm_codec.specs.declared.header.Header.{Header}
+use Rattle.pgm_codec.specs.Rasters.{row_length}
+use Rattle.row_stream.specs.declared.line.Line.{Line}
+use Rattle.row_stream.specs.declared.line.OutputFormat.{OutputFormat}
+use Rattle.row_stream.specs.declared.state.Stream.{Stream}
+use Rattle.row_stream.specs.Lines.{Kind}
+use Rattle.row_stream.specs.Formats.{kind_of}
+use Rattle.row_stream.specs.Standing.{HasRoom, IsOneToOne, Lasts}
+use Rattle.row_stream.specs.Batches.{HasBatch}
+use Rattle.row_stream.specs.Progress.{Goes, Fails, pixel_clocks}
+use Rattle.row_stream.specs.RowReading.{samples_in}
+
+-- Samples can be added: File is open, and there is room for the rest of the line that is begun.
+pub record CanAdd (format : OutputFormat) (line : Line) (o : Outside) : Type 0 where
+  pub created : o.file.stage ≡ Open
+  pub room : HasRoom format.size.width line
+  pub some : 0 < format.maxval
+
+-- More samples can be added. At most `most` lines were made since `old`.
+pub record CanAddMore (most : ℕ) (format : OutputFormat) (old new : Line) (now : Outside) : Type 0 where
+  pub created : now.file.stage ≡ Open
+  pub room : HasRoom format.size.width new
+  pub few : new.rows ≤ old.rows + most
+
+-- What no call of a stream changes: the images that are written, the module, and the width of its din.
+pub record Setting : Type 0 where
+  pub kind : Kind
+  pub netlist : Netlist
+  pub bits : ℕ
+
+abbrev pub setting_of : Stream → Setting
+setting_of s = record { kind = kind_of s.format; netlist = s.sim.netlist; bits = s.bits }
+
+-- The module has one din and one output, and each sample of the input fits the din. There is room for a line that is read, its clocks and one that is made.
+pub record IsStream (s : Stream) : Type 0 where
+  pub bits : s.bits ≤ MAX_PORT_WIDTH
+  pub one : IsOneToOne (kind_of s.format) s.sim.netlist
+  pub fit : (x : ℕ) → x ≤ 2 ^ s.bits - 1 → Fit (din_widths s.sim.netlist) (x ∷ [])
+  pub room : HasRoom s.format.size.width s.line
+  pub row : length s.row.items ≡ 2 * s.format.size.width
+  pub batch : HasBatch s.format.size.width s.batch
+
+-- Clocks can be made: File is open, and no clock stops.
+pub record IsReady (s : Stream) (o : Outside) : Type 0 where
+  pub stream : IsStream s
+  pub created : o.file.stage ≡ Open
+  pub lasts : Lasts s.sim.netlist s.sim.contents
+
+-- What every call keeps, also one that fails.
+pub record Keeps (old new : Stream) : Type 0 where
+  pub setting : setting_of new ≡ setting_of old
+  pub row : length new.row.items ≡ length old.row.items
+  pub batch : HasBatch old.format.size.width new.batch
+
+-- The next clocks can be made. At most `most` lines were made since `old`.
+pub record CanGoOn (most : ℕ) (old new : Stream) (now : Outside) : Type 0 where
+  pub ready : IsReady new now
+  pub few : new.line.rows ≤ old.line.rows + most
+
+-- The module of the stream goes through these clocks, and what it shows is noted and written.
+abbrev pub GoesThrough : List Clock → (old new : Stream) → (before now : Outside) → Type 0
+GoesThrough clocks old new before now = Goes (kind_of old.format) old.sim.netlist clocks old.sim.contents new.sim.contents old.line new.line before now
+
+-- In one of these clocks a line is whole that can't be written.
+abbrev pub FailsWithin : List Clock → Stream → (before now : Outside) → Type 0
+FailsWithin clocks old before now = Fails (kind_of old.format) old.sim.netlist clocks old.sim.contents old.line before now
+
+-- the line that was read, as an image with this header has it
+abbrev pub row_of : Header → Stream → List ℕ
+row_of header s = take (row_length header) s.row.items
+
+-- a clock for each sample of that line
+abbrev pub row_clocks : Header → Stream → List Clock
+row_clocks header s = pixel_clocks (samples_in header.maxval (row_of header s)) s.format.size.width
