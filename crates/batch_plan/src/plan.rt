@@ -10,6 +10,18 @@ use netlist::{Module, Netlist};
 use std::alloc::{AllocError, Global};
 use wiring::Update;
 
+/// How the words of an array to which a batch comes back are written, clock by clock.
+#[derive(Clone, Copy, Debug, PartialEq, Eq)]
+pub enum Written {
+    /// By its put.
+    Put,
+    /// By a choice: a value where a bit is 1, else what is read, at the index of the read. The choice is evaluated after the read.
+    Choice,
+    /// By a choice: a value where a bit is 1, else the register that takes what is read. The register's row and the choice are made
+    /// after the read.
+    Copy,
+}
+
 /// What is done next to the rows of a batch.
 #[derive(Clone, Copy, Debug, PartialEq, Eq)]
 pub enum Step {
@@ -25,25 +37,17 @@ pub enum Step {
     Read {
         assign: usize,
     },
-    /// An array with so few words that a batch comes back to them: reads and puts, clock by clock, over a copy of its words. Its
-    /// indexes and the value put are known.
-    Small {
+    /// The reads of this assign from an array that has no more words than the batch has clocks, so that the batch comes back to
+    /// them: reads and writes, clock by clock, over a copy of the words. The indexes are known, and the value put, or the bit and
+    /// the value of the choice.
+    ReadWritten {
         assign: usize,
-    },
-    /// The same where what is put is chosen: by a bit a value, or else what this assign reads, which is there already. The
-    /// indexes, the bit and the value are known, and the choice is evaluated after this step.
-    Held {
-        assign: usize,
+        written: Written,
     },
     /// The register of this update takes what is read of an array where a bit is 1, and else keeps its value: its row is made from
     /// those of the bit and of the read, and the choice is evaluated after this step.
     Load {
         update: usize,
-    },
-    /// As `Small`, where what is put is chosen: by a bit a value, or else the register that takes what this assign reads. The
-    /// indexes, the bit and the value are known, and the register's row and the choice are made after this step.
-    Copied {
-        assign: usize,
     },
     /// The registers of the updates `looped[first..last]` are on a cycle: their rows are guessed, the assigns of the order up to
     /// `upto` are evaluated, and what was guessed is compared and mended.
@@ -105,10 +109,8 @@ fn add_assign(draft: &mut Draft, graph: &Graph, assign: usize) -> Result<(), All
             draft.plan.order.push(assign)?;
             Ok(())
         }
-        Some(Access::Long) => add_step(draft, Step::Read { assign }),
-        Some(Access::Small) => add_step(draft, Step::Small { assign }),
-        Some(Access::Held) => add_step(draft, Step::Held { assign }),
-        Some(Access::Copied) => add_step(draft, Step::Copied { assign }),
+        Some(Access::Before) => add_step(draft, Step::Read { assign }),
+        Some(Access::Written(written)) => add_step(draft, Step::ReadWritten { assign, written }),
     }
 }
 
@@ -122,7 +124,7 @@ fn is_load(graph: &Graph, update: usize) -> bool {
 fn sets_register(wiring: &Netlist, update: usize) -> bool {
     match wiring.updates.get(update) {
         Some(Update::Set(_, _)) => true,
-        _ => false,
+        Some(Update::Put(_, _, _)) | None => false,
     }
 }
 
@@ -208,7 +210,7 @@ enum Drawn {
     Cycle(usize),
 }
 
-// The most words of an array that one of these nodes reads, of those with at most so many words as a batch has clocks.
+// The most words of an array that one of these nodes reads, of the arrays with no more words than a batch has clocks.
 fn deepest(wiring: &Netlist, nodes: &[usize], size: usize) -> usize {
     let mut most = 0;
     for node in nodes {

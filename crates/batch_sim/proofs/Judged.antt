@@ -15,7 +15,8 @@ use Rattle.wiring.specs.Clock.{Clock}
 use Rattle.wiring.proofs.Lists.{All-at}
 use Rattle.cycle_sim.specs.Ports.{din_widths}
 use Rattle.cycle_sim.specs.Slots.{slot, words_of}
-use Rattle.batch_rows.specs.Rights.{value_at, HasRow}
+use Rattle.lane_rows.specs.Values.{value_at}
+use Rattle.batch_rows.specs.Rights.{HasRow}
 use Rattle.batch_rows.specs.Code.{AreRows, AllHold}
 use Rattle.batch_code.specs.Code.{IsWithin, ReadIsWithin, PutIsWithin}
 use Rattle.batch_code.specs.Rows.{KeepsRegister, KeepsArray, KeepEquations, AreLeft, RowsRan, words_put}

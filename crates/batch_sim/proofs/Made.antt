@@ -5,12 +5,11 @@ use Rattle.std.proofs.Math.Pow.{pow_pos}
 use Rattle.std.proofs.lemmas.List.{length-replicate, length-map, length-append, get_or-replicate, get_or_append_left, map-append}
 use Rattle.std.proofs.lemmas.Bool.{cases_lt}
 use Rattle.std.proofs.Math.Seq.{get_or-append_seam}
-use Rattle.batch_rows.specs.declared.row.Row.{Row}
+use Rattle.lane_rows.specs.declared.row.Row.{Row}
 use Rattle.std.specs.declared.alloc.Global.{Global}
 use Rattle.batch_rows.specs.declared.code.Instruction.{Instruction}
-use Rattle.batch_rows.specs.Rights.{items_of}
-use Rattle.batch_rows.specs.Values.{row_bits, row_values, values_of}
-use Rattle.batch_rows.specs.LaneSizes.{InLanes, HaveRooms}
+use Rattle.lane_rows.specs.Values.{items_of, row_bits, row_values, values_of, InLanes}
+use Rattle.batch_rows.specs.LaneSizes.{HaveRooms}
 use Rattle.batch_rows.specs.Code.{AreRows}
 use Rattle.batch_sim.specs.declared.rows.table.Table.{Table}
 use Rattle.batch_sim.specs.Table.{HaveSpares, IsTable}

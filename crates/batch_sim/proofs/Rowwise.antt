@@ -13,7 +13,7 @@ use Rattle.wiring.specs.Runs.{Runs}
 use Rattle.wiring.proofs.Lists.{All-at, All-from_at}
 use Rattle.cycle_sim.specs.declared.ports.Out.{Out}
 use Rattle.cycle_sim.specs.Ports.{din_widths, IsShown, AreShown}
-use Rattle.batch_rows.specs.Rights.{value_at}
+use Rattle.lane_rows.specs.Values.{value_at}
 use Rattle.batch_code.specs.Rows.{RowsRan}
 use Rattle.batch_sim.specs.Called.{din_count, output_count, of_clock, batch_clocks, Came}
 use Rattle.batch_sim.specs.Checked.{input_of, AreInputRows}

@@ -7,18 +7,18 @@ use Rattle.std.proofs.Math.Seq.{take-append_seam}
 use Rattle.std.specs.declared.alloc.Global.{Global}
 use Rattle.std.proofs.Math.Pow.{pow_mono}
 use Rattle.batch_rows.specs.declared.code.Rooms.{Rooms}
-use Rattle.batch_rows.specs.declared.row.Row.{Row}
+use Rattle.lane_rows.specs.declared.row.Row.{Row}
 use Rattle.std.proofs.lemmas.Bool.{cases_order}
 use Rattle.wiring.specs.Rights.{nets_of}
 use Rattle.wiring.proofs.Local.{right_local}
 use Rattle.batch_rows.specs.declared.code.Instruction.{Instruction}
-use Rattle.batch_rows.specs.Rights.{value_at}
-use Rattle.batch_rows.specs.Values.{row_bits, row_values, values_of}
-use Rattle.batch_rows.specs.LaneSizes.{InLanes, HaveRooms}
+use Rattle.lane_rows.specs.Values.{value_at, row_bits, row_values, values_of, InLanes}
+use Rattle.batch_rows.specs.LaneSizes.{HaveRooms}
 use Rattle.batch_rows.proofs.Running.{lanes_on}
 use Rattle.batch_rows.specs.Code.{AreRows, AllHold}
 use Rattle.batch_sim.specs.declared.rows.table.Table.{Table}
-use Rattle.batch_sim.specs.Table.{AreFirstUses, HaveSpares, IsTable, IsRefilled}
+use Rattle.batch_rows.specs.Uses.{AreFirstUses}
+use Rattle.batch_sim.specs.Table.{HaveSpares, IsTable, IsRefilled}
 
 module _ (widths : List ℕ) (code : List Instruction) (uses : List ℕ) (first : AreFirstUses code uses) (long done slot : ℕ) (free : done ≤ slice_index uses slot)
     (old new : List (List ℕ)) (size : length new ≡ length old) (inside : slot < length old)

@@ -5,13 +5,13 @@ use Rattle.cycle_sim.specs.Slots.{words_of}
 use Rattle.wiring.specs.declared.right.Atom.{Atom}
 use Rattle.wiring.specs.declared.right.Atom.TheVariants as atom
 use Rattle.batch_rows.specs.Rights.{HasRow, IsAtomRow}
-use Rattle.batch_rows.specs.Values.{numbers_in}
-use Rattle.batch_rows.specs.Rows.{words_after, IsReadUpTo, AreInside}
-use Rattle.batch_code.specs.declared.code.WordRead.{WordRead}
+use Rattle.lane_rows.specs.Values.{numbers_in}
+use Rattle.lane_rows.specs.Words.{words_after, IsReadUpTo, AreInside}
+use Rattle.batch_rows.specs.declared.module_code.WordRead.{WordRead}
 use Rattle.batch_sim.specs.declared.judge.arrays.AccessNumbers.{AccessNumbers}
 use Rattle.batch_sim.specs.declared.judge.arrays.AccessSlots.{AccessSlots}
 use Rattle.batch_sim.specs.declared.judge.arrays.ArrayRoom.{ArrayRoom}
-use Rattle.batch_code.specs.declared.code.WordPut.{WordPut}
+use Rattle.batch_rows.specs.declared.module_code.WordPut.{WordPut}
 use Rattle.batch_code.specs.Rows.{atom_at, words_put, KeepsArray}
 
 -- the words of one of some arrays

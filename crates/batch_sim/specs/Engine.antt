@@ -9,8 +9,7 @@ use Rattle.batch_code.specs.Code.{IsBatchCode}
 use Rattle.batch_sim.specs.declared.rows.engine.Engine.{Engine}
 use Rattle.batch_sim.specs.Called.{din_count}
 use Rattle.cycle_sim.specs.Slots.{words_of}
-use Rattle.batch_rows.specs.Rights.{value_at}
-use Rattle.batch_rows.specs.Values.{values_of}
+use Rattle.lane_rows.specs.Values.{value_at, values_of}
 use Rattle.batch_rows.specs.LaneSizes.{AreSized}
 use Rattle.batch_code.specs.Rows.{RowsRan}
 use Rattle.batch_sim.specs.Pieces.{clocks_in}
@@ -20,7 +19,8 @@ use Rattle.batch_sim.specs.declared.rows.table.Table.{Table}
 use Rattle.batch_sim.specs.declared.inputs.Piece.{Piece}
 use Rattle.batch_sim.specs.Arrays.{AreAccessRows, ArePut, AreKept}
 use Rattle.batch_sim.specs.Checked.{HaveAtomRows, AreInputRows, AreRegisterRows}
-use Rattle.batch_sim.specs.Table.{AreFirstUses, IsTable}
+use Rattle.batch_rows.specs.Uses.{AreFirstUses}
+use Rattle.batch_sim.specs.Table.{IsTable}
 
 -- its instructions can be run, and the first uses of its slots are theirs
 pub record IsEngine (e : Engine) : Type 0 where

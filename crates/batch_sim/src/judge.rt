@@ -1,8 +1,7 @@
 // Whether rows keep the equations of their code.
 
 ghost use Rattle.std.specs.Prelude.{◌≡◌, ◌≤◌, length, IsTrue, IsFalse};
-ghost use Rattle.batch_rows.specs.Values.{row_values, values_of};
-ghost use Rattle.batch_rows.specs.Rights.{items_of};
+ghost use Rattle.lane_rows.specs.Values.{row_values, values_of, items_of};
 ghost use Rattle.batch_sim.specs.Arrays.{IsArrayRoom, HaveLong};
 ghost use Rattle.batch_sim.specs.Checked.{AreInputRows, AreRegisterRows};
 ghost use Rattle.batch_sim.specs.Engine.{AreWide, IsJudged};

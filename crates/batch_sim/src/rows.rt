@@ -3,8 +3,7 @@
 ghost use Rattle.std.specs.Prelude.{◌≡◌, ℕ, ◌≤◌, [], length, IsTrue, IsFalse};
 ghost use Rattle.wiring.specs.Rules.{KeepsRules};
 ghost use Rattle.wiring.specs.Snapshot.{FitsContents};
-ghost use Rattle.batch_rows.specs.Values.{row_values, values_of};
-ghost use Rattle.batch_rows.specs.Rights.{items_of};
+ghost use Rattle.lane_rows.specs.Values.{row_values, values_of, items_of};
 ghost use Rattle.batch_sim.specs.Arrays.{IsArrayRoom, HaveLong};
 ghost use Rattle.batch_sim.specs.Held.{contents_in};
 ghost use Rattle.batch_sim.specs.Engine.{IsEngine, HasRun, AreWide, AreRowsOf, IsJudged, RanOver};

@@ -1,8 +1,7 @@
 // The rows of the inputs.
 
 ghost use Rattle.std.specs.Prelude.{◌≡◌, ℕ, ◌+◌, ◌*◌, ◌<◌, ◌≤◌, length, map, slice_index, IsTrue, [], slice_index_or, if◌then◌else◌};
-ghost use Rattle.batch_rows.specs.Values.{row_values, values_of};
-ghost use Rattle.batch_rows.specs.Rights.{value_at};
+ghost use Rattle.lane_rows.specs.Values.{row_values, values_of, value_at};
 ghost use Rattle.batch_sim.specs.Checked.{input_of, IsInputRow, AreInputRows};
 ghost use Rattle.batch_sim.specs.Pieces.{HasDins};
 

@@ -2,8 +2,8 @@
 
 ghost use Rattle.std.specs.Prelude.{◌≡◌, ◌≢◌, ℕ, ◌<◌, ◌≤◌, length, IsTrue, IsFalse};
 ghost use Rattle.cycle_sim.specs.Slots.{words_of};
-ghost use Rattle.batch_rows.specs.Values.{row_values, values_of};
-ghost use Rattle.batch_rows.specs.Rights.{items_of, HasRow};
+ghost use Rattle.lane_rows.specs.Values.{row_values, values_of, items_of};
+ghost use Rattle.batch_rows.specs.Rights.{HasRow};
 ghost use Rattle.batch_code.specs.Rows.{words_put, KeepsArray};
 ghost use Rattle.batch_sim.specs.Arrays.{words_at, IsArrayRoom, WasLost, PutsInside, HaveAccessRows, AreAccessRows, HavePutRows, HaveLong, ArePut, AreKept, AreInsideAll, TakesBack, AllTakenBack};
 

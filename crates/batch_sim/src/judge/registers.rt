@@ -2,8 +2,8 @@
 
 ghost use Rattle.std.specs.Prelude.{◌≡◌, ℕ, suc, ◌+◌, ◌<◌, ◌≤◌, List, length, map, slice_index, slice_index_or, slice_get, Some, All, IsTrue, []};
 ghost use Rattle.wiring.specs.declared.right.Atom.{Atom};
-ghost use Rattle.batch_rows.specs.Values.{numbers_in, row_values, values_of};
-ghost use Rattle.batch_rows.specs.Rights.{value_at, HasRow};
+ghost use Rattle.lane_rows.specs.Values.{numbers_in, row_values, values_of, value_at};
+ghost use Rattle.batch_rows.specs.Rights.{HasRow};
 ghost use Rattle.batch_code.specs.Rows.{KeepsRegister};
 ghost use Rattle.batch_sim.specs.Checked.{AreRegisterRows, HaveAtomRows};
 

@@ -2,9 +2,7 @@
 
 ghost use Rattle.std.specs.Prelude.{◌≡◌, ◌<◌, ◌≤◌, length, replicate, IfOk, IfSome};
 ghost use Rattle.wiring.specs.Netlist.{netlist_of};
-ghost use Rattle.batch_rows.specs.Rights.{items_of};
-ghost use Rattle.batch_rows.specs.Values.{values_of};
-ghost use Rattle.batch_rows.specs.LaneSizes.{InLanes};
+ghost use Rattle.lane_rows.specs.Values.{items_of, values_of, InLanes};
 ghost use Rattle.batch_code.specs.Code.{IsBatchCode};
 ghost use Rattle.batch_sim.specs.Called.{din_count};
 ghost use Rattle.batch_sim.specs.Engine.{IsEngineOf, AreRowsOf, HasRun};

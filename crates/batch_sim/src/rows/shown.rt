@@ -1,7 +1,7 @@
 // What the outputs show in the clocks of a batch.
 
 ghost use Rattle.std.specs.Prelude.{◌≡◌, ◌≢◌, ℕ, ◌+◌, ◌*◌, ◌<◌, ◌≤◌, ◌==◌, length, map, [], slice_get, Some, slice_index_or};
-ghost use Rattle.batch_rows.specs.Values.{row_values, values_of};
+ghost use Rattle.lane_rows.specs.Values.{row_values, values_of};
 ghost use Rattle.batch_sim.specs.Called.{of_clock};
 ghost use Rattle.batch_sim.specs.Shown.{shown_at, AreRowOuts};
 

@@ -1,11 +1,11 @@
 // The rows of all slots of a code.
 
 ghost use Rattle.std.specs.Prelude.{◌≡◌, ◌≢◌, ℕ, ◌^◌, ◌<◌, ◌≤◌, [], length, map, slice_index, slice_index_or, IsTrue};
-ghost use Rattle.batch_rows.specs.Rights.{value_at};
-ghost use Rattle.batch_rows.specs.Values.{row_bits, values_of};
-ghost use Rattle.batch_rows.specs.LaneSizes.{AreSized, InLanes};
+ghost use Rattle.lane_rows.specs.Values.{value_at, row_bits, values_of, InLanes};
+ghost use Rattle.batch_rows.specs.LaneSizes.{AreSized};
 ghost use Rattle.batch_rows.specs.Code.{AreSound, IsOrdered};
-ghost use Rattle.batch_sim.specs.Table.{AreFirstUses, HaveSpares, IsTable};
+ghost use Rattle.batch_rows.specs.Uses.{AreFirstUses};
+ghost use Rattle.batch_sim.specs.Table.{HaveSpares, IsTable};
 
 use batch_rows::{Instruction, Lane, Rooms, Row, Size, put_row, run_code, trim_row};
 use wiring::{Width, limit};

@@ -1,9 +1,9 @@
 use Rattle.std.proofs.Common.{◌∙◌, ℕ, List, Vec, length, ap, sym, subst}
 use Rattle.std.specs.declared.alloc.Global.{Global}
 use Rattle.cycle_sim.specs.Slots.{words_of}
-use Rattle.batch_rows.specs.Values.{values_of}
-use Rattle.batch_code.specs.declared.code.WordRead.{WordRead}
-use Rattle.batch_code.specs.declared.code.WordPut.{WordPut}
+use Rattle.lane_rows.specs.Values.{values_of}
+use Rattle.batch_rows.specs.declared.module_code.WordRead.{WordRead}
+use Rattle.batch_rows.specs.declared.module_code.WordPut.{WordPut}
 use Rattle.batch_sim.specs.Arrays.{AreAccessRows, AreKept, ArePut}
 use Rattle.batch_sim.specs.Checked.{AreRegisterRows}
 use Rattle.batch_sim.proofs.Judged.{judged_by}

@@ -1,6 +1,6 @@
 use Rattle.std.proofs.Common.{List, subst}
-use Rattle.batch_rows.specs.declared.row.Row.{Row}
-use Rattle.batch_rows.specs.Values.{values_of}
+use Rattle.lane_rows.specs.declared.row.Row.{Row}
+use Rattle.lane_rows.specs.Values.{values_of}
 use Rattle.batch_sim.specs.Engine.{IsJudged}
 use Rattle.batch_sim.proofs.rows.judge_held.Goals as goal
 

@@ -1,6 +1,6 @@
 use Rattle.std.proofs.Common.{length, arith, sym, subst}
 use Rattle.wiring.specs.Snapshot.{Contents, FitsContents}
-use Rattle.batch_rows.specs.Values.{values_of}
+use Rattle.lane_rows.specs.Values.{values_of}
 use Rattle.batch_sim.specs.Held.{contents_in}
 use Rattle.batch_sim.proofs.Judged.{counts_of, dins_for, ran_of, fits_of, fits_either}
 use Rattle.batch_sim.proofs.rows.judge_rows.Goals as goal

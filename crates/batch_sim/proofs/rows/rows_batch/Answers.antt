@@ -1,6 +1,6 @@
 use Rattle.std.proofs.Common.{ℕ, ◌<◌, List, length, subst}
-use Rattle.batch_rows.specs.declared.row.Row.{Row}
-use Rattle.batch_rows.specs.Values.{values_of}
+use Rattle.lane_rows.specs.declared.row.Row.{Row}
+use Rattle.lane_rows.specs.Values.{values_of}
 use Rattle.batch_sim.specs.Called.{batch_clocks, of_clock}
 use Rattle.batch_sim.specs.Held.{contents_in}
 use Rattle.batch_sim.specs.Shown.{AreRowOuts}

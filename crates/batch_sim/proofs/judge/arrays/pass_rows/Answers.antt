@@ -1,5 +1,5 @@
 use Rattle.std.proofs.Common.{ℕ, length, subst, rules}
-use Rattle.batch_rows.specs.Values.{numbers_in, values_of}
+use Rattle.lane_rows.specs.Values.{numbers_in, values_of}
 use Rattle.batch_sim.specs.Arrays.{IsPassed}
 use Rattle.batch_sim.proofs.OnePass.{numbers_words, numbers_lost, read_there}
 use Rattle.batch_sim.proofs.judge.arrays.pass_rows.Goals as goal

@@ -2,9 +2,9 @@ use Rattle.std.proofs.Common.{◌≡◌, ◌≤◌, ◌∙◌, ℕ, List, length
 use Rattle.std.specs.Prelude.{slice_index}
 use Rattle.std.proofs.lemmas.List.{get_or-take, length-take-le}
 use Rattle.batch_rows.specs.Rights.{IsAtomRow}
-use Rattle.batch_rows.specs.Rows.{words_after, IsReadUpTo, AreInside}
-use Rattle.batch_rows.specs.Values.{values_of}
-use Rattle.batch_rows.proofs.LaneRows.{map_same}
+use Rattle.lane_rows.specs.Words.{words_after, IsReadUpTo, AreInside}
+use Rattle.lane_rows.specs.Values.{values_of}
+use Rattle.lane_rows.proofs.LaneRows.{map_same}
 use Rattle.batch_sim.proofs.OnePass.{undone}
 use Rattle.batch_sim.proofs.Tables.{in_place}
 use Rattle.batch_sim.proofs.judge.arrays.undo_words.Goals as goal

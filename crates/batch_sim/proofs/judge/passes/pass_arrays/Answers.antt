@@ -1,8 +1,7 @@
 use Rattle.std.proofs.Common.{◌∙◌, length, refl, sym, arith}
 use Rattle.std.proofs.lemmas.Option.{slice_get_read, slice_get_within}
 use Rattle.cycle_sim.specs.Slots.{words_of}
-use Rattle.batch_rows.specs.Rights.{items_of}
-use Rattle.batch_rows.specs.Values.{values_of}
+use Rattle.lane_rows.specs.Values.{items_of, values_of}
 use Rattle.batch_sim.proofs.Vectors.{some_at, length-items}
 use Rattle.batch_sim.proofs.AllPasses.{put_on, lost_on, kept_on, same_put, same_lost, all_inside}
 use Rattle.batch_sim.proofs.judge.passes.pass_arrays.Goals as goal

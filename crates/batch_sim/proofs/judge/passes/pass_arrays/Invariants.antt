@@ -1,6 +1,5 @@
 use Rattle.cycle_sim.specs.Slots.{words_of}
-use Rattle.batch_rows.specs.Rights.{items_of}
-use Rattle.batch_rows.specs.Values.{values_of}
+use Rattle.lane_rows.specs.Values.{items_of, values_of}
 use Rattle.batch_sim.specs.Arrays.{IsArrayRoom, HaveLong, ArePut, AreLost, AreKept}
 use Rattle.batch_sim.proofs.judge.passes.pass_arrays.Given as goal
 

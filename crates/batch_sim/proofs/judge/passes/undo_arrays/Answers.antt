@@ -2,7 +2,7 @@ use Rattle.std.proofs.Common.{◌≡◌, ◌∙◌, ◌+◌, ◌-◌, ◌<◌, �
 use Rattle.std.specs.Prelude.{slice_get, slice_index_or}
 use Rattle.std.proofs.lemmas.Option.{slice_get_read}
 use Rattle.cycle_sim.specs.Slots.{words_of}
-use Rattle.batch_rows.specs.Values.{values_of}
+use Rattle.lane_rows.specs.Values.{values_of}
 use Rattle.batch_sim.specs.Arrays.{PutsInside, ArePut}
 use Rattle.batch_sim.proofs.Vectors.{vec_get, length-items}
 use Rattle.batch_sim.proofs.AllPasses.{put_back, all_back, length-put}

@@ -1,7 +1,6 @@
 use Rattle.std.proofs.Common.{ℕ, ◌-◌, List}
 use Rattle.cycle_sim.specs.Slots.{words_of}
-use Rattle.batch_rows.specs.Rights.{items_of}
-use Rattle.batch_rows.specs.Values.{values_of}
+use Rattle.lane_rows.specs.Values.{items_of, values_of}
 use Rattle.batch_sim.specs.Arrays.{IsArrayRoom, ArePut, AreInsideAll, AreLost}
 use Rattle.batch_sim.proofs.judge.passes.undo_arrays.Given as goal
 

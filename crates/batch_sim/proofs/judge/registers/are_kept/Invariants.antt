@@ -1,7 +1,7 @@
 use Rattle.std.proofs.Common.{◌≡◌, ℕ, ◌+◌, ◌<◌, Some, length}
 use Rattle.std.specs.Prelude.{slice_get, slice_index}
 use Rattle.wiring.specs.declared.right.Atom.{Atom}
-use Rattle.batch_rows.specs.Values.{values_of}
+use Rattle.lane_rows.specs.Values.{values_of}
 use Rattle.batch_code.specs.Rows.{KeepsRegister}
 use Rattle.batch_sim.proofs.judge.registers.are_kept.Given as goal
 

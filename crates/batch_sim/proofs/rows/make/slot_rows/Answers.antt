@@ -2,9 +2,8 @@ use Rattle.std.proofs.Common.{◌≡◌, ◌≤◌, ◌+◌, ℕ, List, [], ◌�
 use Rattle.std.specs.Prelude.{slice_index}
 use Rattle.std.proofs.lemmas.List.{length-append}
 use Rattle.std.proofs.lemmas.Grind.{get_or_default_zero}
-use Rattle.batch_rows.specs.declared.row.Row.{Row}
-use Rattle.batch_rows.specs.Values.{row_bits, row_values, values_of}
-use Rattle.batch_rows.specs.LaneSizes.{InLanes}
+use Rattle.lane_rows.specs.declared.row.Row.{Row}
+use Rattle.lane_rows.specs.Values.{row_bits, row_values, values_of, InLanes}
 use Rattle.batch_sim.proofs.Made.{values_more, more_in_lanes}
 use Rattle.batch_sim.proofs.rows.make.slot_rows.Goals as goal
 

@@ -1,6 +1,5 @@
 use Rattle.std.proofs.Common.{◌≡◌, length, replicate}
-use Rattle.batch_rows.specs.Values.{values_of}
-use Rattle.batch_rows.specs.LaneSizes.{InLanes}
+use Rattle.lane_rows.specs.Values.{values_of, InLanes}
 use Rattle.batch_sim.proofs.rows.make.slot_rows.Given as goal
 
 abbrev pub invariant-loop-slot : goal.invariant-loop-slot

@@ -1,6 +1,6 @@
 use Rattle.std.proofs.Common.{◌≡◌, ◌∙◌, ap, subst, List, replicate, length, refl, arith}
 use Rattle.wiring.specs.declared.size.Width.{Width}
-use Rattle.batch_rows.specs.LaneSizes.{InLanes}
+use Rattle.lane_rows.specs.Values.{InLanes}
 use Rattle.batch_sim.proofs.Made.{zero_table}
 use Rattle.batch_sim.proofs.rows.make.table_of.Goals as goal
 

@@ -1,7 +1,7 @@
 use Rattle.std.proofs.Common.{◌≡◌, ◌<◌, ◌∙◌, [], length, arith}
 use Rattle.std.specs.Prelude.{slice_index_or}
 use Rattle.std.proofs.lemmas.List.{length-map}
-use Rattle.batch_rows.specs.Values.{row_values, values_of}
+use Rattle.lane_rows.specs.Values.{row_values, values_of}
 use Rattle.batch_sim.proofs.Tables.{table_free}
 use Rattle.batch_sim.proofs.rows.table.offer.Goals as goal
 

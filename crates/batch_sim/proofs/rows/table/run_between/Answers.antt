@@ -1,7 +1,7 @@
 use Rattle.std.proofs.Common.{List, ℕ, ◌≡◌, ◌∙◌, length, ap, subst, refl, rules}
-use Rattle.batch_rows.specs.declared.row.Row.{Row}
+use Rattle.lane_rows.specs.declared.row.Row.{Row}
 use Rattle.batch_rows.specs.LaneSizes.{HaveRooms}
-use Rattle.batch_rows.specs.Values.{values_of}
+use Rattle.lane_rows.specs.Values.{values_of}
 use Rattle.batch_rows.specs.Code.{AreRows, AllHold}
 use Rattle.batch_sim.proofs.Tables.{in_place, table_with}
 use Rattle.batch_sim.proofs.rows.table.run_between.Goals as goal
