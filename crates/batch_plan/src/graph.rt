@@ -111,13 +111,13 @@ pub(crate) fn words_read(wiring: &Netlist, number: usize) -> usize {
     }
 }
 
-// How the words of an array that an assign reads come about over a batch of clocks.
+// An array that an assign reads.
 #[derive(Clone, Copy)]
-pub(crate) enum Access {
-    // There are more words than clocks: what is read was there before the batch.
-    Before,
-    // A batch comes back to its words.
-    Written(Written),
+pub(crate) struct Access {
+    pub(crate) array: usize,
+    // How its words are written clock by clock, if a batch comes back to them. Else it has more words than the batch has clocks, and
+    // what is read was there before the batch.
+    pub(crate) written: Option<Written>,
 }
 
 // How many assigns read each array.
@@ -315,15 +315,17 @@ impl<'a> Drivers<'a> {
 
     // What the read of an array needs: where a batch comes back to its words also what is put.
     fn word_needs(&self, target: Net, array: usize, index: &Atom<Net>) -> (Needs, Access) {
-        let mut found = (NONE, Access::Before);
+        let mut needs = NONE;
+        let mut written = None;
         if depth_of(self.wiring, array) <= self.size {
             if let Some(update) = self.wiring.updates.get(number_at(&self.puts, array)) {
-                let (needs, written) = self.written_needs(update, target, index);
-                found = (needs, Access::Written(written));
+                let found = self.written_needs(update, target, index);
+                needs = found.0;
+                written = Some(found.1);
             }
         }
-        found.0.first = self.of(index);
-        found
+        needs.first = self.of(index);
+        (needs, Access { array, written })
     }
 
     // What an assign that reads no array needs.

@@ -29,27 +29,27 @@ pub enum Step {
     Run {
         upto: usize,
     },
-    /// The register of this update is on no cycle: its row is its next value's, one clock later.
+    /// This register is on no cycle: its row is its next value's, one clock later.
     Shift {
-        update: usize,
+        register: usize,
     },
-    /// The reads of this assign are taken from the words of its array as they are before the batch.
+    /// The reads of this array are taken from its words as they are before the batch.
     Read {
-        assign: usize,
+        array: usize,
     },
-    /// The reads of this assign from an array that has no more words than the batch has clocks, so that the batch comes back to
-    /// them: reads and writes, clock by clock, over a copy of the words. The indexes are known, and the value put, or the bit and
-    /// the value of the choice.
+    /// The reads of this array, which has no more words than the batch has clocks, so that the batch comes back to them: reads and
+    /// writes, clock by clock, over a copy of the words. The indexes are known, and the value put, or the bit and the value of the
+    /// choice.
     ReadWritten {
-        assign: usize,
+        array: usize,
         written: Written,
     },
-    /// The register of this update takes what is read of an array where a bit is 1, and else keeps its value: its row is made from
-    /// those of the bit and of the read, and the choice is evaluated after this step.
+    /// This register takes what is read of an array where a bit is 1, and else keeps its value: its row is made from those of the
+    /// bit and of the read, and the choice is evaluated after this step.
     Load {
-        update: usize,
+        register: usize,
     },
-    /// The registers of the updates `looped[first..last]` are on a cycle: their rows are guessed, the assigns of the order up to
+    /// The registers `looped[first..last]` are on a cycle: their rows are guessed, the assigns of the order up to
     /// `upto` are evaluated, and what was guessed is compared and mended.
     Guess {
         first: usize,
@@ -65,7 +65,7 @@ pub struct Plan {
     /// The numbers of these assigns.
     pub order: Vec<usize>,
     pub steps: Vec<Step>,
-    /// The updates of the registers on cycles.
+    /// The registers on cycles.
     pub looped: Vec<usize>,
     /// The most clocks of a batch.
     pub size: usize,
@@ -109,8 +109,10 @@ fn add_assign(draft: &mut Draft, graph: &Graph, assign: usize) -> Result<(), All
             draft.plan.order.push(assign)?;
             Ok(())
         }
-        Some(Access::Before) => add_step(draft, Step::Read { assign }),
-        Some(Access::Written(written)) => add_step(draft, Step::ReadWritten { assign, written }),
+        Some(Access { array, written: None }) => add_step(draft, Step::Read { array }),
+        Some(Access { array, written: Some(written) }) => {
+            add_step(draft, Step::ReadWritten { array, written })
+        }
     }
 }
 
@@ -121,10 +123,11 @@ fn is_load(graph: &Graph, update: usize) -> bool {
     }
 }
 
-fn sets_register(wiring: &Netlist, update: usize) -> bool {
+// The register that an update sets, if it sets one.
+fn register_of(wiring: &Netlist, update: usize) -> Option<usize> {
     match wiring.updates.get(update) {
-        Some(Update::Set(_, _)) => true,
-        Some(Update::Put(_, _, _)) | None => false,
+        Some(Update::Set(register, _)) => Some(*register),
+        Some(Update::Put(_, _, _)) | None => None,
     }
 }
 
@@ -140,13 +143,11 @@ fn add_single(
         return add_assign(draft, graph, node);
     }
     let update = node - assigns;
-    if is_load(graph, update) {
-        return add_step(draft, Step::Load { update });
+    match register_of(wiring, update) {
+        Some(register) if is_load(graph, update) => add_step(draft, Step::Load { register }),
+        Some(register) => add_step(draft, Step::Shift { register }),
+        None => Ok(()),
     }
-    if sets_register(wiring, update) {
-        return add_step(draft, Step::Shift { update });
-    }
-    Ok(())
 }
 
 // The nodes of a group on a cycle; false where one of them reads an array.
@@ -161,7 +162,9 @@ fn add_cycle(
     let assigns = wiring.assigns.len();
     for node in nodes {
         if *node >= assigns {
-            draft.plan.looped.push(*node - assigns)?;
+            if let Some(register) = register_of(wiring, *node - assigns) {
+                draft.plan.looped.push(register)?;
+            }
         } else if access_at(graph, *node).is_none() {
             draft.plan.order.push(*node)?;
         } else {

@@ -6,8 +6,8 @@ ghost use Rattle.batch_sim.specs.Called.{of_clock};
 ghost use Rattle.batch_sim.specs.Shown.{shown_at, AreRowOuts};
 
 use crate::judge::given::row_at;
-use batch_rows::{Lane, Row};
 use cycle_sim::Out;
+use lane_rows::{Lane, Row};
 
 // An output at a clock.
 fn out_at<V: Lane, D: Lane>(valid: &[V], dout: &[D], clock: usize) -> Out

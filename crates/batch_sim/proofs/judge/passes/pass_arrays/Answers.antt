@@ -58,3 +58,6 @@ loop-array-preserved c =
       lost = lost_on rows reads puts count before now new k c.loop-array.invariant.put p there size c.pass_at.ensures.others (items_of c.loop-array.lost) (items_of c.pass_at.new.lost) c.loop-array.invariant.lost kept.put_inside (c.pass_at.ensures.lost yes) c.pass_at.ensures.other_lost;
       kept = kept_on rows reads puts count before now new k c.loop-array.invariant.put p there size c.pass_at.ensures.others r at c.loop-array.invariant.kept kept;
     }
+
+pub returns-then-not-pass_at-clause-room : goal.returns-then-not-pass_at-clause-room
+returns-then-not-pass_at-clause-room c = record { spares = c.undo_arrays.ensures.room; to = c.pass_at.ensures.room.to }
