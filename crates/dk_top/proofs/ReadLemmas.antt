@@ -8,7 +8,7 @@ use Rattle.pointwise_ir.specs.Programs.{Program, IsProgram}
 use Rattle.raster_delay.specs.Systems.{System}
 use Rattle.flow_dual.specs.declared.solution.Solution.{Solution}
 use Rattle.buffer_plan.specs.Plans.{Plan}
-use Rattle.dk_compile.specs.Sources.{IsText}
+use Rattle.dk_compile.specs.Sources.{IsText, IsSourceFault}
 use Rattle.dk_compile.specs.Fronts.{IsForm}
 use Rattle.source_fault.specs.declared.fault.SourceFault.{SourceFault}
 use Rattle.dk_compile.specs.Compiled.{IsPlanned}
@@ -21,7 +21,6 @@ use Rattle.dk_endings.specs.declared.ending.Ending.{Ending}
 use Rattle.dk_endings.specs.declared.ending.Ending.TheVariants as ending
 use Rattle.dk_endings.specs.declared.ending.ImageFault.TheVariants as image
 use Rattle.source_fault.specs.declared.fault.SourceFault.TheVariants as source
-use Rattle.dk_compile.specs.Sources.{IsSourceFault}
 use Rattle.dk_compile.specs.Limits.{IsAcceptedAt, IsFaultAt}
 use Rattle.dk_top.specs.Program.{ports}
 use Rattle.dk_top.specs.Verdict.{Terms, Files, bytes_of, IsGoodPair, IsAnswer}
