@@ -9,8 +9,6 @@ ghost use Rattle.wiring.specs.Clock.{Clock};
 ghost use Rattle.wiring.specs.Runs.{Runs, RunStops, picture};
 ghost use Rattle.wiring.specs.History.{At};
 ghost use Rattle.module_pass.specs.Simulation.{View, seen, Simulates, FitsPorts, ShowsRun, itself, through};
-ghost use Rattle.module_pass.specs.declared.slots.Slot.{Slot};
-ghost use Rattle.module_pass.specs.Packing.{IsPacked, AreFilled, packed};
 
 /// A law: from contents that fit, over clocks whose inputs fit, each run of the new netlist shows a run of the old one, clock by clock, with the same pictures; and it stops only where that one stops.
 pub fn runs_follow_law()
@@ -33,16 +31,4 @@ pub fn runs_follow_law()
 pub fn passes_chain_law()
     ensures none { (m : Netlist) → Simulates m m itself }
     ensures two { (a b c : Netlist) (v w : View) → Simulates a b v → Simulates b c w → Simulates a c (through v w) }
-{}
-
-/// A law: a netlist with packed arrays simulates the one whose arrays are packed.
-pub fn packing_law()
-    ensures { (new old : Netlist) (slots : List Slot) (order : List ℕ) → IsPacked new old slots → KeepsRules old → KeepsRules new → IsEvaluationOrder new.assigns order
-        → Simulates new old (packed old slots) }
-{}
-
-/// A law: where no bit of a packed word is unused, contents that fit are one if they show the same contents of the old netlist.
-pub fn contents_seen_law()
-    ensures { (new old : Netlist) (slots : List Slot) → AreFilled new slots → (c d : Contents) → FitsContents new c → FitsContents new d
-        → (packed old slots).contents c ≡ (packed old slots).contents d → c ≡ d }
 {}
