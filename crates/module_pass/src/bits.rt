@@ -48,11 +48,7 @@ pub fn same_array_bits(new: &Module, old: &Module) -> bool
 }
 
 /// Whether both modules have the same number of buffer bits.
-pub fn same_buffer_bits(
-    alloc: Global,
-    new: &Module,
-    old: &Module,
-) -> Result<bool, OutOfMemory>
+pub fn same_buffer_bits(alloc: Global, new: &Module, old: &Module) -> Result<bool, OutOfMemory>
     ensures { IfOk result (λ is. IsTrue is → (k : ℕ) → IsBufferBits old.now.netlist k → IsBufferBits new.now.netlist k) }
 {
     let before = netlist::buffer_bits(alloc, old)?;

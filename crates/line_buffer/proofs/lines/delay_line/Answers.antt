@@ -44,17 +44,17 @@ returns-clause-line c =
     let grown : Includes c.put.new.self c.turning_index.new.b = includes_on _ _ _ c.array.ensures.includes (includes_on _ _ _ c.op.ensures.includes (includes_on _ _ _ c.stored_net.ensures.logic.includes c.put.ensures.includes)) in
     record {
       adds = line_adds c.args.b.now c.turning_index.new.b c.array.new.self c.op.new.self c.stored_net.new.b c.put.new.self c.args.width c.args.words c.in_ok-array.array c.in_ok-index.index c.args.value c.in_ok-word.word c.in_ok-stored.stored c.in_ok-index.ensures.adds c.in_ok-index.ensures.turn.counter c.in_ok-index.ensures.turn.control c.requires.words.0
-      c.in_ok-array.ensures.ok c.in_ok-array.ensures.number c.in_ok-array.ensures.shape c.array.ensures.includes c.op.ensures.includes c.in_ok-word.ensures.ok c.op.ensures.wires c.in_ok-word.ensures.value c.stored_net.ensures.logic c.in_ok-stored.ensures.net c.put.ensures.includes c.put.ensures.update c.put.ensures.edge c.in_ok-word.ensures.made c.in_ok-stored.ensures.right;
+          c.in_ok-array.ensures.ok c.in_ok-array.ensures.number c.in_ok-array.ensures.shape c.array.ensures.includes c.op.ensures.includes c.in_ok-word.ensures.ok c.op.ensures.wires c.in_ok-word.ensures.value c.stored_net.ensures.logic c.in_ok-stored.ensures.net c.put.ensures.includes c.put.ensures.update c.put.ensures.edge c.in_ok-word.ensures.made c.in_ok-stored.ensures.right;
       array = first_is c.args.b.now c.turning_index.new.b c.array.new.self c.op.new.self c.stored_net.new.b c.put.new.self c.args.width c.args.words c.in_ok-array.array c.in_ok-index.index c.args.value c.in_ok-word.word c.in_ok-stored.stored c.in_ok-index.ensures.adds c.in_ok-index.ensures.turn.counter c.in_ok-index.ensures.turn.control c.requires.words.0
-      c.in_ok-array.ensures.ok c.in_ok-array.ensures.number c.in_ok-array.ensures.shape c.array.ensures.includes c.op.ensures.includes c.in_ok-word.ensures.ok c.op.ensures.wires c.in_ok-word.ensures.value c.stored_net.ensures.logic c.in_ok-stored.ensures.net c.put.ensures.includes c.put.ensures.update c.put.ensures.edge c.in_ok-word.ensures.made c.in_ok-stored.ensures.right;
+          c.in_ok-array.ensures.ok c.in_ok-array.ensures.number c.in_ok-array.ensures.shape c.array.ensures.includes c.op.ensures.includes c.in_ok-word.ensures.ok c.op.ensures.wires c.in_ok-word.ensures.value c.stored_net.ensures.logic c.in_ok-stored.ensures.net c.put.ensures.includes c.put.ensures.update c.put.ensures.edge c.in_ok-word.ensures.made c.in_ok-stored.ensures.right;
       line = line_is c.args.b.now c.turning_index.new.b c.array.new.self c.op.new.self c.stored_net.new.b c.put.new.self c.args.width c.args.words c.in_ok-array.array c.in_ok-index.index c.args.value c.in_ok-word.word c.in_ok-stored.stored c.in_ok-index.ensures.adds c.in_ok-index.ensures.turn.counter c.in_ok-index.ensures.turn.control c.requires.words.0
-      c.in_ok-array.ensures.ok c.in_ok-array.ensures.number c.in_ok-array.ensures.shape c.array.ensures.includes c.op.ensures.includes c.in_ok-word.ensures.ok c.op.ensures.wires c.in_ok-word.ensures.value c.stored_net.ensures.logic c.in_ok-stored.ensures.net c.put.ensures.includes c.put.ensures.update c.put.ensures.edge c.in_ok-word.ensures.made c.in_ok-stored.ensures.right;
+          c.in_ok-array.ensures.ok c.in_ok-array.ensures.number c.in_ok-array.ensures.shape c.array.ensures.includes c.op.ensures.includes c.in_ok-word.ensures.ok c.op.ensures.wires c.in_ok-word.ensures.value c.stored_net.ensures.logic c.in_ok-stored.ensures.net c.put.ensures.includes c.put.ensures.update c.put.ensures.edge c.in_ok-word.ensures.made c.in_ok-stored.ensures.right;
       once = line_once c.args.b.now c.turning_index.new.b c.array.new.self c.op.new.self c.stored_net.new.b c.put.new.self (record { width = c.args.width; depth = c.args.words }) c.in_ok-array.array c.in_ok-index.index c.in_ok-stored.stored c.in_ok-word.word c.in_ok-index.ensures.adds c.law.ensures.draft
-      c.in_ok-array.ensures.number c.in_ok-array.ensures.ok c.in_ok-array.ensures.free c.in_ok-word.ensures.made c.in_ok-word.ensures.ok c.op.ensures.wires c.stored_net.ensures.logic c.put.ensures.update;
+          c.in_ok-array.ensures.number c.in_ok-array.ensures.ok c.in_ok-array.ensures.free c.in_ok-word.ensures.made c.in_ok-word.ensures.ok c.op.ensures.wires c.stored_net.ensures.logic c.put.ensures.update;
       word = net_more c.put.new.self c.op.new.self (includes_on _ _ _ c.stored_net.ensures.logic.includes c.put.ensures.includes) c.in_ok-word.word c.in_ok-word.ensures.net;
       word_width = width_more c.put.new.self c.op.new.self (includes_on _ _ _ c.stored_net.ensures.logic.includes c.put.ensures.includes) c.in_ok-word.word c.in_ok-word.ensures.net.declared
-      ∙ c.in_ok-word.ensures.width
-      ∙ ap (λ o. unwrap_or (option_map (λ (s : Shape). s.width) o) 0) c.in_ok-array.ensures.shape;
+          ∙ c.in_ok-word.ensures.width
+          ∙ ap (λ o. unwrap_or (option_map (λ (s : Shape). s.width) o) 0) c.in_ok-array.ensures.shape;
       index = record {
         there = net_more c.put.new.self c.turning_index.new.b grown c.in_ok-index.index c.in_ok-index.ensures.turn.there;
         width = width_more c.put.new.self c.turning_index.new.b grown c.in_ok-index.index c.in_ok-index.ensures.turn.there.declared ∙ c.in_ok-index.ensures.turn.width;
@@ -62,6 +62,6 @@ returns-clause-line c =
         control = subst (λ e. IsMadeOf c.put.new.self (is_control e) (OfNet c.in_ok-index.index)) (sym grown.enable) (made_more c.put.new.self c.turning_index.new.b (is_control c.turning_index.new.b.enable) grown c.in_ok-index.ensures.turn.control);
       };
       made = word_made c.args.b.now c.turning_index.new.b c.array.new.self c.op.new.self c.stored_net.new.b c.put.new.self c.args.width c.args.words c.in_ok-array.array c.in_ok-index.index c.args.value c.in_ok-word.word c.in_ok-stored.stored c.in_ok-index.ensures.adds c.in_ok-index.ensures.turn.counter c.in_ok-index.ensures.turn.control c.requires.words.0
-      c.in_ok-array.ensures.ok c.in_ok-array.ensures.number c.in_ok-array.ensures.shape c.array.ensures.includes c.op.ensures.includes c.in_ok-word.ensures.ok c.op.ensures.wires c.in_ok-word.ensures.value c.stored_net.ensures.logic c.in_ok-stored.ensures.net c.put.ensures.includes c.put.ensures.update c.put.ensures.edge c.in_ok-word.ensures.made c.in_ok-stored.ensures.right
-      c.in_ok-word.ensures.made_of;
+          c.in_ok-array.ensures.ok c.in_ok-array.ensures.number c.in_ok-array.ensures.shape c.array.ensures.includes c.op.ensures.includes c.in_ok-word.ensures.ok c.op.ensures.wires c.in_ok-word.ensures.value c.stored_net.ensures.logic c.in_ok-stored.ensures.net c.put.ensures.includes c.put.ensures.update c.put.ensures.edge c.in_ok-word.ensures.made c.in_ok-stored.ensures.right
+          c.in_ok-word.ensures.made_of;
     }
