@@ -61,7 +61,7 @@ fn index_behind(
 
 // A delay line for the net of an image, with the number of bits of its index and its number of words.
 #[derive(Clone, Copy)]
-struct Ring {
+struct RingLine {
     line: DelayLine,
     value: Net,
     bits: u8,
@@ -69,7 +69,7 @@ struct Ring {
 }
 
 // The word that was written `age` clocks before the one at the index.
-fn word_behind(b: &mut Builder, ring: Ring, age: u64) -> Result<Net, OutOfMemory>
+fn word_behind(b: &mut Builder, ring: RingLine, age: u64) -> Result<Net, OutOfMemory>
     requires ring { IsRing b.old ring.line ring.value ring.bits ring.words }
     requires some { 0 < age }
     requires short { age < ring.words }
@@ -82,7 +82,7 @@ fn word_behind(b: &mut Builder, ring: Ring, age: u64) -> Result<Net, OutOfMemory
 }
 
 // The net of one age: the image's own, the oldest word, or one before the index.
-fn ring_tap(b: &mut Builder, ring: Ring, age: u64) -> Result<Net, OutOfMemory>
+fn ring_tap(b: &mut Builder, ring: RingLine, age: u64) -> Result<Net, OutOfMemory>
     requires ring { IsRing b.old ring.line ring.value ring.bits ring.words }
     requires deep { age ≤ ring.words }
     ensures taps { AddsTaps b.new b.old ring.line.array }
@@ -102,7 +102,7 @@ fn ring_tap(b: &mut Builder, ring: Ring, age: u64) -> Result<Net, OutOfMemory>
 fn ring_taps(
     alloc: Global,
     b: &mut Builder,
-    ring: Ring,
+    ring: RingLine,
     ages: &[u64],
 ) -> Result<Vec<Net>, OutOfMemory>
     requires ring { IsRing b.old ring.line ring.value ring.bits ring.words }
@@ -168,7 +168,7 @@ fn ring_array(
     let line = delay_line(b, turns, image.width, words, image.net)?;
     let count = u64::from(words);
     let bits = bits_for(count - 1);
-    let ring = Ring {
+    let ring = RingLine {
         line,
         value: image.net,
         bits,
