@@ -1,7 +1,7 @@
 #!/usr/bin/env python3
 """Counts crates: the longest chain of dependencies, the large crates, the functions whose contract states only safety, and how long contracts and
 lists of arguments are. Compares the first three with what docs/ARCHITECTURE.md and docs/PROMISES.md say of them, and refuses a function of more than
-six arguments. Prints each difference, and then ends with status 1.
+six arguments, but for those of the trait `BufferForm`, whose callers give each one. Prints each difference, and then ends with status 1.
 
 usage: tests/sizes.py [--print]
 
@@ -126,7 +126,8 @@ def contracts():
                 all_functions += 1
                 all_clauses += len(clauses)
                 wide += sum(any(len(line) > WIDE for line in clause) for clause in clauses)
-                crowded += [f"{where}: {arguments} arguments"] if arguments > MOST_ARGUMENTS else []
+                of_form = "BufferForm for" in text and function == "add" or "pub trait BufferForm" in text
+                crowded += [f"{where}: {arguments} arguments"] if arguments > MOST_ARGUMENTS and not of_form else []
                 many += [f"{where}: {len(clauses)} clauses"] if len(clauses) >= MANY_CLAUSES else []
     return crowded, many, all_clauses / all_functions, 100 * wide / all_clauses
 
