@@ -113,7 +113,12 @@ impl Engine {
     }
 
     // How an array is read and written clock by clock.
-    pub(crate) fn access_at(&self, stored: &Stored, array: usize, written: Written) -> Option<Access> {
+    pub(crate) fn access_at(
+        &self,
+        stored: &Stored,
+        array: usize,
+        written: Written,
+    ) -> Option<Access> {
         let read = self.code.reads.get(array)?.index;
         let put = *self.code.puts.get(array)?;
         let mut access = Access {

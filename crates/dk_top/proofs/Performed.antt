@@ -1,5 +1,5 @@
 -- What a call does, put together.
-use Rattle.std.proofs.Common.{◌≡◌, ◌≢◌, ◌⊎◌, inl, inr, ⊥, absurd, ℕ, Option, None, Some, IfSome, refl, sym, ap, ◌∙◌, subst, arith}
+use Rattle.std.proofs.Common.{◌≡◌, ◌⊎◌, inl, inr, ℕ, Option, None, Some, refl, sym, ap, ◌∙◌, subst, arith}
 use Rattle.dk_desk.specs.Outside.{Outside}
 use Rattle.dk_desk.specs.Calls.{HasCauseIn}
 use Rattle.dk_endings.specs.declared.ending.Ending.{Ending}
@@ -22,7 +22,7 @@ same_files o (Some f) = λ name other. refl
 
 -- no failure, and no count rose
 no_cause : (failure : Type 0) (n : ℕ) → (failure → ⊥) → HasCauseIn failure n n
-no_cause failure n no = record { later = omega arith; only = λ h. absurd (no h); always = λ h. absurd (omega (arith, h)) }
+no_cause failure n never = record { later = omega arith; only = λ h. absurd (never h); always = λ h. absurd (omega (arith, h)) }
 
 neither : (e other : Ending) → (ending.Usage ≡ other → ⊥) → (ending.Memory ≡ other → ⊥) → (e ≡ ending.Usage) ⊎ (e ≡ ending.Memory) → e ≡ other → ⊥
 neither e other usage memory (inl is) same = usage (sym is ∙ same)

@@ -33,4 +33,3 @@ returns-in-Ok-Make-clause-performs g c = as_named _ _ _ _ _ (c.in-Ok-Make.ensure
 
 pub returns-in-Ok-Cut-clause-performs : goal.returns-in-Ok-Cut-clause-performs
 returns-in-Ok-Cut-clause-performs g c = as_named _ _ _ _ _ (c.in-Ok-Cut.ensures.ok ∙ ap (λ (a : Asked). Some (command_asked a)) c.in-Ok-Cut.field-0-is) c.performed-in-Ok-Cut.ensures.performs
-

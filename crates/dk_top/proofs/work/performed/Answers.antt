@@ -1,4 +1,3 @@
-use Rattle.std.proofs.Common.{⊥, absurd}
 use Rattle.dk_top.proofs.work.performed.Goals as goal
 
 pub returns-clause-performs : goal.returns-clause-performs
