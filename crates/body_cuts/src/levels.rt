@@ -1,6 +1,9 @@
 // How many levels of operators a form adds to those of its operands.
 
-use dk_base::{Binary, Conversion, Scaling, Unary};
+use body_levels::{
+    binary_levels, conversion_levels, scaling_levels, select_levels, unary_levels,
+};
+use dk_base::{Binary, Conversion, Scaling};
 use dk_types::{TypedExpr, TypedNode};
 
 // Whether the expression is a number that is a power of two.
@@ -11,43 +14,9 @@ fn is_power(e: &TypedExpr) -> bool {
     }
 }
 
-fn unary_levels(operator: Unary) -> u32 {
-    match operator {
-        Unary::Negate | Unary::Not => 1,
-        Unary::Abs => 2,
-    }
-}
-
-fn product_levels(left: &TypedExpr, right: &TypedExpr) -> u32 {
-    if is_power(left) || is_power(right) {
-        0
-    } else {
-        1
-    }
-}
-
-fn binary_levels(operator: Binary, left: &TypedExpr, right: &TypedExpr) -> u32 {
-    match operator {
-        Binary::Multiply => product_levels(left, right),
-        Binary::Min | Binary::Max => 2,
-        _ => 1,
-    }
-}
-
-// A division by a power of two is a choice of bits.
-fn scaling_levels(operator: Scaling, by: u64) -> u32 {
-    match operator {
-        Scaling::Divide if by.is_power_of_two() => 0,
-        Scaling::Divide => 2,
-        Scaling::ShiftLeft | Scaling::ShiftRight => 0,
-    }
-}
-
-fn conversion_levels(how: Conversion) -> u32 {
-    match how {
-        Conversion::Cast => 0,
-        Conversion::Saturate => 1,
-    }
+// Whether an operand is a number that is a power of two.
+fn has_power(left: &TypedExpr, right: &TypedExpr) -> bool {
+    is_power(left) || is_power(right)
 }
 
 // The levels that the outermost form of the expression adds.
@@ -55,19 +24,48 @@ pub(crate) fn own_levels(e: &TypedExpr) -> u32 {
     match &e.node {
         TypedNode::Number(_) | TypedNode::Read(_) => 0,
         TypedNode::Unary(operator, _) => unary_levels(*operator),
-        TypedNode::Binary(operator, a, b) => binary_levels(*operator, a, b),
+        TypedNode::Binary(operator, a, b) => binary_levels(*operator, has_power(a, b)),
         TypedNode::Scale(operator, _, by) => scaling_levels(*operator, *by),
         TypedNode::Convert(how, _) => conversion_levels(*how),
-        TypedNode::Select(_, _, _) => 1,
+        TypedNode::Select(_, _, _) => select_levels(),
+    }
+}
+
+// Whether the operator adds no level, and no operand has more bits than what it gives.
+fn binary_widens(operator: Binary, has_power: bool) -> bool {
+    match operator {
+        Binary::Multiply => has_power,
+        Binary::Add | Binary::Subtract => false,
+        Binary::Less | Binary::LessOrEqual => false,
+        Binary::Greater | Binary::GreaterOrEqual => false,
+        Binary::Equal | Binary::NotEqual => false,
+        Binary::And | Binary::Or | Binary::Xor => false,
+        Binary::Min | Binary::Max => false,
+    }
+}
+
+fn scaling_widens(operator: Scaling) -> bool {
+    match operator {
+        Scaling::ShiftLeft => true,
+        Scaling::Divide | Scaling::ShiftRight => false,
+    }
+}
+
+// The same of a conversion, by the widths of its operand and of what it gives.
+fn conversion_widens(how: Conversion, from: u8, to: u8) -> bool {
+    match how {
+        Conversion::Cast => from <= to,
+        Conversion::Saturate => false,
     }
 }
 
 // Whether the outermost form adds no level, and its type has no fewer bits than that of its operand.
 pub(crate) fn only_widens(e: &TypedExpr) -> bool {
     match &e.node {
-        TypedNode::Binary(Binary::Multiply, a, b) => product_levels(a, b) == 0,
-        TypedNode::Scale(Scaling::ShiftLeft, _, _) => true,
-        TypedNode::Convert(Conversion::Cast, a) => a.ty.width() <= e.ty.width(),
-        _ => false,
+        TypedNode::Binary(operator, a, b) => binary_widens(*operator, has_power(a, b)),
+        TypedNode::Scale(operator, _, _) => scaling_widens(*operator),
+        TypedNode::Convert(how, a) => conversion_widens(*how, a.ty.width(), e.ty.width()),
+        TypedNode::Number(_) | TypedNode::Read(_) => false,
+        TypedNode::Unary(_, _) | TypedNode::Select(_, _, _) => false,
     }
 }
