@@ -2,27 +2,18 @@
 # Compares what tools/explain.sh says of worked faults with texts written by hand. Says nothing where all is right, and else names each case.
 # With PROGRAM it also checks that the program ends with the status and the line of each case.
 # usage: tests/explain.sh [PROGRAM]
-top=$(CDPATH='' cd -- "$(dirname -- "$0")/.." && pwd) || exit 2
+. "$(dirname -- "$0")/lib.sh" || exit 2
 program=
-[ $# = 0 ] || program=$(CDPATH='' cd -- "$(dirname -- "$1")" && pwd)/$(basename "$1")
-work=$(mktemp -d) || exit 2
-trap 'rm -rf "$work"' EXIT
-trap 'exit 130' INT TERM HUP
-CDPATH='' cd -- "$work" || exit 2
+[ $# = 0 ] || program=$(whole "$1")
+in_folder
 . "$top/tools/explain.sh"
-failed=0
-usage='usage: run [--age K] PROG IN OUT | compile [--enable] [--age K] [--block N] PROG OUT | plan [--age K] PROG | sim VERILOG CLOCKS IN OUT [--fill FILL] [--hold K] | eval PROG IN OUT | make N | check PROG REPORT | trace VERILOG CLOCKS IN VCD | cut N PROG OUT'
-
-wrong_case() {
-    printf 'explain: %s\n' "$1" >&2
-    failed=1
-}
+usage=$(usage_line)
 
 # says STATUS LINE WORD..: the explanation is that of standard input
 says() {
     wanted=$(cat)
     got=$(explain "$@" 2>&1 </dev/null)
-    [ "$got" = "$wanted" ] || wrong_case "dk $*: got
+    [ "$got" = "$wanted" ] || wrong "dk $*: got
 $got
 wanted
 $wanted"
@@ -37,7 +28,7 @@ ends() {
     shift 2
     "$program" "$@" >stdout 2>stderr </dev/null
     got=$?
-    [ "$got" = "$status" ] && [ "$(cat stderr)" = "$line" ] || wrong_case "dk $*: status $got, '$(cat stderr)' where $status, '$line' was expected"
+    [ "$got" = "$status" ] && [ "$(cat stderr)" = "$line" ] || wrong "dk $*: status $got, '$(cat stderr)' where $status, '$line' was expected"
 }
 
 # source_fault SPAN-AND-FAULT TEXT: writes the program p.dk, and compares as `ends` does
@@ -382,9 +373,9 @@ taken cut 064 p.dk o.dk
 # The help page has a line for each command and option, of 80 columns at most.
 help_page >page
 for word in $commands --age --enable --fill --hold --; do
-    [ "$(grep -c -- "^  $word " page)" = 1 ] || wrong_case "the help page has no line on $word"
+    [ "$(grep -c -- "^  $word " page)" = 1 ] || wrong "the help page has no line on $word"
 done
-[ -z "$(cut -c 81- page | tr -d '\n')" ] || wrong_case 'the help page has more than 80 columns'
+[ -z "$(cut -c 81- page | tr -d '\n')" ] || wrong 'the help page has more than 80 columns'
 
 # The table has the faults of docs/COMMANDS.md and no others.
 awk -F '|' '
@@ -405,9 +396,9 @@ awk -F '|' '
     /^- The kinds of a Verilog fault are/ { sub(/ They are judged.*/, ""); add("verilog", $0) }
 ' "$top/docs/COMMANDS.md" | sort -u >listed
 sed -n 's/^    \([a-z]*\.[A-Za-z]*\)) .*/\1/p' "$top/tools/faults.sh" | sort >explained
-diff listed explained >difference || wrong_case "docs/COMMANDS.md (<) and tools/faults.sh (>) have other faults: $(cat difference)"
+diff listed explained >difference || wrong "docs/COMMANDS.md (<) and tools/faults.sh (>) have other faults: $(cat difference)"
 while read -r fault; do
-    [ -n "$(meaning "${fault%.*}" "${fault#*.}" 1 2 3 4 5)" ] || wrong_case "no sentence on $fault"
+    [ -n "$(meaning "${fault%.*}" "${fault#*.}" 1 2 3 4 5)" ] || wrong "no sentence on $fault"
 done <listed
 
 # terminal STATUS COMMAND: runs this command of the shell under a terminal; it ends so, and what is shown is standard input
@@ -415,7 +406,7 @@ terminal() {
     sed 's/$/\r/' >wanted
     script -q -e -c "$2" /dev/null </dev/null >shown
     got=$?
-    [ "$got" = "$1" ] && cmp -s shown wanted || wrong_case "under a terminal, $2: status $got, $(cat shown)"
+    [ "$got" = "$1" ] && cmp -s shown wanted || wrong "under a terminal, $2: status $got, $(cat shown)"
 }
 
 # ended SIGNAL STATUS COMMAND: this signal ends the script dk and the program, which waits for images in a named pipe
@@ -434,7 +425,7 @@ ended() {
     sh -c "$3" </dev/null >shown 2>&1
     got=$?
     wait
-    [ "$got" = "$2" ] && [ ! -e left ] || wrong_case "SIG$1 to $3: status $got, $(cat shown left 2>/dev/null)"
+    [ "$got" = "$2" ] && [ ! -e left ] || wrong "SIG$1 to $3: status $got, $(cat shown left 2>/dev/null)"
     rm -f left
 }
 
@@ -446,7 +437,7 @@ if [ -n "$program" ]; then
     done
     "$top/dk" plan none.dk >shown 2>&1
     echo $? >>shown
-    printf '%s\n' 'cannot read' 7 | cmp -s - shown || wrong_case "without a terminal dk shows: $(cat shown)"
+    printf '%s\n' 'cannot read' 7 | cmp -s - shown || wrong "without a terminal dk shows: $(cat shown)"
 fi
 
 # Under a terminal it shows the line and the explanation, where the program can be asked again; and nothing else is changed.
@@ -494,13 +485,13 @@ end
     terminal 0 "'$top/dk' compile copy.dk /dev/stderr" <copy.v
     for descriptor in 3 9; do
         terminal 0 "'$top/dk' compile copy.dk /dev/fd/$descriptor $descriptor>o.v" </dev/null
-        cmp -s o.v copy.v || wrong_case "under a terminal the descriptor $descriptor is lost"
+        cmp -s o.v copy.v || wrong "under a terminal the descriptor $descriptor is lost"
     done
     terminal 0 "cat copy.dk | '$top/dk' compile /dev/stdin o.v" </dev/null
-    cmp -s o.v copy.v || wrong_case 'under a terminal standard input is lost'
+    cmp -s o.v copy.v || wrong 'under a terminal standard input is lost'
     for signal in 'TERM 143' 'INT 130' 'QUIT 131' 'HUP 129' 'USR1 138'; do
         ended "${signal% *}" "${signal#* }" "script -q -e -c \"exec sh -c 'echo \\\$\\\$ >pid; exec \\\"$top/dk\\\" run copy.dk pipe o.pgm'\" /dev/null"
-        [ ! -s shown ] || wrong_case "SIG${signal% *} under a terminal shows $(cat shown)"
+        [ ! -s shown ] || wrong "SIG${signal% *} under a terminal shows $(cat shown)"
     done
 fi
-exit "$failed"
+[ "$failed" = 0 ]

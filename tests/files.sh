@@ -1,23 +1,8 @@
 #!/bin/sh
 # Files and descriptors: OUT is never a descriptor or an input of the program itself, and standard descriptors that are closed are replaced.
 # usage: tests/files.sh PROGRAM
-program=$(CDPATH='' cd -- "$(dirname -- "$1")" && pwd)/$(basename "$1")
-work=$(mktemp -d) || exit 2
-trap 'rm -rf "$work"' EXIT
-CDPATH='' cd -- "$work" || exit 2
-cases=0
-failed=0
-
-# is TEXT WORD..: a case, which holds where the command WORD.. succeeds; TEXT says what is wrong where it does not
-is() {
-    said=$1
-    shift
-    cases=$((cases + 1))
-    "$@" || {
-        echo "files: $said" >&2
-        failed=$((failed + 1))
-    }
-}
+. "$(dirname -- "$0")/lib.sh" && program=$(whole "$1") || exit 2
+in_folder
 
 printf 'size 4 1\ninput a : u8\nlet f = im(x,y) a(x,y) end\noutput f\n' >copy.dk
 printf 'P5\n4 1\n255\nabcd' >in.pgm
@@ -75,5 +60,4 @@ if command -v strace >/dev/null; then
     done
 fi
 
-echo "$((cases - failed)) passed, $failed failed"
-[ "$failed" = 0 ]
+finish

@@ -4,11 +4,7 @@
 # creates something after a refusal, or in which two commands that have to agree do not; and ends with how many calls had which status.
 # Each call has 4 MiB of stack, 4 GB of memory and 20 seconds.
 # usage: tests/hostile.sh PROGRAM [SECONDS] [SEED]      SECONDS of changed bytes, 60 by default
-program=$(CDPATH='' cd -- "$(dirname -- "$1")" && pwd)/$(basename "$1")
-tests=$(CDPATH='' cd -- "$(dirname -- "$0")" && pwd)
-examples=$tests/../examples
-work=$(mktemp -d) || exit 2
-trap 'rm -rf "$work"' EXIT
-trap 'exit 130' INT TERM HUP
+. "$(dirname -- "$0")/lib.sh" && program=$(whole "$1") || exit 2
+in_folder
 ulimit -S -s 4096 && ulimit -S -v "${DK_MEMORY-4000000}" || exit 2
-CDPATH='' cd -- "$work" && python3 "$tests/hostile.py" "$program" "${2-60}" "${3-1}"
+python3 "$tests/hostile.py" "$program" "${2-60}" "${3-1}"

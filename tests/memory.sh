@@ -4,17 +4,12 @@
 # without a refusal. The requests are counted and refused by a few lines of C that are loaded before the C library.
 # It says how many requests each call makes, and nothing else where all is as it should be.
 # usage: tests/memory.sh PROGRAM
-program=$(CDPATH='' cd -- "$(dirname -- "$1")" && pwd)/$(basename "$1")
-tests=$(CDPATH='' cd -- "$(dirname -- "$0")" && pwd)
-examples=$tests/../examples
+. "$(dirname -- "$0")/lib.sh" && program=$(whole "$1") || exit 2
 command -v gcc >/dev/null || {
     echo "memory: gcc is not installed"
     exit 0
 }
-work=$(mktemp -d) || exit 2
-trap 'rm -rf "$work"' EXIT
-trap 'exit 130' INT TERM HUP
-CDPATH='' cd -- "$work" || exit 2
+in_folder
 cat >refuse.c <<'END'
 #define _GNU_SOURCE
 #include <dlfcn.h>
@@ -87,7 +82,6 @@ END
 gcc -O1 -shared -fPIC -o refuse.so refuse.c -ldl || exit 2
 cp "$examples"/programs/*.dk "$examples"/programs/*.pgm "$tests"/reports/*.dk "$examples"/sim/*.v . || exit 2
 printf 'P5\n4 3\n255\n\001\002\003\004\005\006\007\010\011\012\013\014' >square.pgm
-failed=0
 
 # refuses WHAT OUT WORD..: each request of a call, of which OUT is the file that it creates, if it does
 refuses() {
@@ -108,8 +102,7 @@ refuses() {
         elif [ $got = $wanted ] && cmp -s stdout wanted.out && cmp -s stderr wanted.err && { [ ! -e "$out" ] || cmp -s "$out" wanted.file; }; then
             :
         else
-            echo "memory: $what: request $number of $asked: status $got, '$(head -c 80 stderr)'" >&2
-            failed=1
+            wrong "$what: request $number of $asked: status $got, '$(head -c 80 stderr)'"
         fi
         number=$((number + 1))
     done
@@ -127,4 +120,4 @@ refuses 'plan of the Sobel filter' out.none plan sobel.dk
 refuses 'sim of a line buffer' out.pgm sim line_buffer.v 3072 scene.pgm out.pgm
 refuses 'trace of a line buffer' out.vcd trace line_buffer.v 200 scene.pgm out.vcd
 refuses 'make 7' out.none make 7
-exit $failed
+[ "$failed" = 0 ]

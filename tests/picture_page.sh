@@ -3,15 +3,11 @@
 # A line whose tools are not all installed is passed over, and so is a later line that fails; the tools that are missing are named.
 # The line over several machines is run if HOSTS names them, for example HOSTS=one,two. The last line is `N passed, M failed`.
 # usage: tests/picture_page.sh PROGRAM
-program=$(CDPATH='' cd -- "$(dirname -- "$1")" && pwd)/$(basename "$1")
-top=$(CDPATH='' cd -- "$(dirname -- "$0")/.." && pwd)
-work=$(mktemp -d) || exit 2
-trap 'rm -rf "$work"' EXIT
-CDPATH='' cd -- "$work" || exit 2
+. "$(dirname -- "$0")/lib.sh" && program=$(whole "$1") || exit 2
+in_folder
 PATH=/usr/bin:$PATH # other programs are called `convert` too
 tools='convert mogrify jpegtopnm pamscale ppmtopgm pnmtopng pngtopnm ppmtorgb3 pnmsplit rgb3toppm pamarith pamsumm pamchannel pamtopnm pamdepth pnmtile python3 parallel rsync'
 passed=0
-failed=0
 missing=
 
 # lacks LINE: a tool of the line is not installed

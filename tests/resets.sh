@@ -4,18 +4,12 @@
 # and each of these with `--block 2`.
 # The next 12 valid pixels must be the picture's, which was worked out by hand. It says nothing where they are.
 # usage: tests/resets.sh PROGRAM
-program=$(CDPATH='' cd -- "$(dirname -- "$1")" && pwd)/$(basename "$1")
-tests=$(CDPATH='' cd -- "$(dirname -- "$0")" && pwd)
-examples=$tests/../examples
+. "$(dirname -- "$0")/lib.sh" && program=$(whole "$1") || exit 2
 command -v iverilog >/dev/null || {
     echo "resets: iverilog is not installed"
     exit 0
 }
-work=$(mktemp -d) || exit 2
-trap 'rm -rf "$work"' EXIT
-trap 'exit 130' INT TERM HUP
-CDPATH='' cd -- "$work" || exit 2
-failed=0
+in_folder
 printf 'P5\n4 3\n255\n\001\002\003\004\005\006\007\010\011\012\013\014' >in.pgm
 printf 'P5\n4 3\n65535\n\0\012\0\016\0\024\0\034\0\031\0\044\0\061\0\100\0\121\0\144\0\171\0\220' >wanted.pgm
 for option in '' '--age 1' --enable '--enable --age 1' '--block 2' '--block 2 --age 1' '--block 2 --enable' '--block 2 --enable --age 1'; do
@@ -31,11 +25,10 @@ for option in '' '--age 1' --enable '--enable --age 1' '--block 2' '--block 2 --
             rm -f seen.txt seen.pgm
             said=$(vvp -n bench.vvp +early=$early 2>&1 && python3 "$tests/bench.py" picture dk.v in.pgm seen.txt seen.pgm 2>&1)
             cmp -s seen.pgm wanted.pgm || {
-                echo "resets: $option from $contents, $early clocks before the second reset: another picture $said" >&2
-                failed=1
+                wrong "$option from $contents, $early clocks before the second reset: another picture $said"
             }
             early=$((early + 1))
         done
     done
 done
-exit $failed
+[ "$failed" = 0 ]

@@ -1,11 +1,13 @@
 #!/usr/bin/env python3
-"""Counts crates: the longest chain of dependencies, the large crates, and the functions whose contract states only safety. Compares the counts with
-what docs/ARCHITECTURE.md and docs/PROMISES.md say of them. Prints each difference, and then ends with status 1.
+"""Counts crates: the longest chain of dependencies, the large crates, the functions whose contract states only safety, and how long contracts and
+lists of arguments are. Compares the first three with what docs/ARCHITECTURE.md and docs/PROMISES.md say of them, and refuses a function of more than
+six arguments, but for those of the trait `BufferForm`, whose callers give each one. Prints each difference, and then ends with status 1.
 
 usage: tests/sizes.py [--print]
 
 --print prints the counts instead. Lines of code are those of src/ that are not empty, no comment and no line of a contract. A function states only
 safety if it has no clause `ensures`. A method of an impl of a trait has the clauses of its trait.
+A clause is a `requires` or an `ensures` with the lines after it; it is wide if one of them has more than 100 columns.
 """
 
 import re
@@ -13,7 +15,8 @@ import sys
 from pathlib import Path
 
 TOP = Path(__file__).resolve().parent.parent
-MOST_CHAIN, MOST_LINES, MOST_FUNCTIONS = 8, 1500, 110
+MOST_CHAIN, MOST_LINES, MOST_FUNCTIONS, MOST_ARGUMENTS = 8, 1500, 110, 6
+MANY_CLAUSES, WIDE = 15, 100
 FUNCTION = re.compile(r"^\s*(?:pub(?:\([a-z]+\))?\s+)?(?:const\s+)?(?:unsafe\s+)?fn \w+.*")
 TRAIT = re.compile(r"^impl\b.*\bfor\b")
 
@@ -52,31 +55,93 @@ def functions(text):
             yield of_trait or any(re.match(r"\s*ensures\b", part) for part in head)
 
 
+def without_generics(text):
+    """A list of arguments as it is written, without what stands in brackets of any kind."""
+    while True:
+        shorter = re.sub(r"\([^()]*\)|\[[^][]*\]|\{[^{}]*\}|<[^<>]*>", "", text.replace("->", ""))
+        if shorter == text:
+            return text
+        text = shorter
+
+
+def heads(text):
+    """For each function of a source file its name, its number of arguments and its clauses, each with all its lines."""
+    for match in re.finditer(r"^[ \t]*(?:pub(?:\([a-z]+\))? )?(?:const )?(?:unsafe )?fn (\w+)", text, re.M):
+        rest = text[match.end():]
+        if rest.startswith("<"):
+            depth = end = 0
+            while end == 0 or depth:
+                depth += {"<": 1, ">": -1}.get(rest[end], 0) if rest[end - 1:end + 1] != "->" else 0
+                end += 1
+            rest = rest[end:]
+        depth = end = 0
+        while end == 0 or depth:
+            depth += {"(": 1, ")": -1}.get(rest[end], 0)
+            end += 1
+        arguments = [part for part in without_generics(rest[1:end - 1]).split(",") if part.strip()]
+        clauses = []
+        for line in rest[end:].split("\n")[1:]:
+            if re.match(r"\s*(requires|ensures)\b", line):
+                clauses.append([line])
+            elif clauses and re.match(r"\s*(→|×|⊎|≡|∧|\(|[A-Za-z∷+∙])", line) and not re.match(r"\s*(//|\{|\})", line):
+                clauses[-1].append(line)
+            elif not re.match(r"\s*(//|$)", line) or not line.strip() and not clauses:
+                break
+            if clauses and line.rstrip().endswith(";"):
+                break
+        yield match[1], len(arguments), clauses
+
+
 def lines_of(text):
     return sum(1 for line in text.splitlines() if line.strip() and not re.match(r"\s*(//|ghost use|requires|ensures|× |\()", line))
+
+
+def sources(below):
+    """For each crate but those of tests the paths and the texts of its code."""
+    for name in below:
+        if not name.endswith("_tests"):
+            paths = [path for path in sorted((TOP / "crates" / name / "src").rglob("*.rt")) if not is_test(path)]
+            yield name, [(path, path.read_text()) for path in paths]
 
 
 def counts():
     below = dependencies()
     large, all_functions, plain = [], 0, 0
-    for name in below:
-        if name.endswith("_tests"):
-            continue
-        texts = [path.read_text() for path in sorted((TOP / "crates" / name / "src").rglob("*.rt")) if not is_test(path)]
-        states = [state for text in texts for state in functions(text)]
+    for name, files in sources(below):
+        states = [state for _, text in files for state in functions(text)]
         all_functions += len(states)
         plain += states.count(False)
-        if sum(map(lines_of, texts)) > MOST_LINES or len(states) > MOST_FUNCTIONS:
+        if sum(lines_of(text) for _, text in files) > MOST_LINES or len(states) > MOST_FUNCTIONS:
             large.append(name)
     return longest_chain(below), large, all_functions, plain
 
 
+def contracts():
+    """The functions of too many arguments, those of many clauses, and the clauses: how many a function has, and which part of them is wide."""
+    crowded, many, all_clauses, wide, all_functions = [], [], 0, 0, 0
+    for name, files in sources(dependencies()):
+        for path, text in files:
+            for function, arguments, clauses in heads(text):
+                where = f"{path.relative_to(TOP)} {function}"
+                all_functions += 1
+                all_clauses += len(clauses)
+                wide += sum(any(len(line) > WIDE for line in clause) for clause in clauses)
+                of_form = "BufferForm for" in text and function == "add" or "pub trait BufferForm" in text
+                crowded += [f"{where}: {arguments} arguments"] if arguments > MOST_ARGUMENTS and not of_form else []
+                many += [f"{where}: {len(clauses)} clauses"] if len(clauses) >= MANY_CLAUSES else []
+    return crowded, many, all_clauses / all_functions, 100 * wide / all_clauses
+
+
 def main():
     chain, large, all_functions, plain = counts()
+    crowded, many, each, wide = contracts()
     if sys.argv[1:] == ["--print"]:
         print(f"chain of {len(chain)}: {', '.join(chain)}\nlarge: {', '.join(large) or 'none'}\n{plain} of {all_functions} functions state only safety")
+        print(f"{len(crowded)} functions of more than {MOST_ARGUMENTS} arguments", *crowded, sep="\n  ")
+        print(f"{len(many)} functions of {MANY_CLAUSES} clauses and more", *many, sep="\n  ")
+        print(f"{each:.2f} clauses a function; {wide:.0f} in 100 clauses have a line of more than {WIDE} columns")
         return 0
-    wrong = []
+    wrong = list(crowded)
     if len(chain) > MOST_CHAIN:
         wrong.append(f"a chain of {len(chain)} crates: {', '.join(chain)}")
     said = re.search(r"The crates above that size now are ([a-z_, ]+?)(?: and ([a-z_]+))?\.", (TOP / "docs/ARCHITECTURE.md").read_text())

@@ -2,17 +2,8 @@
 # Checks that ./dk never runs a program of other sources, in small checkouts with the scripts of this one, whose programs print a word.
 # Says nothing where all is right, and else names each case.
 # usage: tests/stale.sh
-top=$(CDPATH='' cd -- "$(dirname -- "$0")/.." && pwd) || exit 2
-work=$(mktemp -d) || exit 2
-trap 'rm -rf "$work"' EXIT
-trap 'exit 130' INT TERM HUP
-CDPATH='' cd -- "$work" || exit 2
-failed=0
-
-wrong() {
-    printf 'stale: %s\n' "$1" >&2
-    failed=1
-}
+. "$(dirname -- "$0")/lib.sh" || exit 2
+in_folder
 
 # program FILE WORD: a program that prints the word, with the text that describes it as built from the sources of its checkout
 program() {
@@ -275,4 +266,4 @@ mkdir empty
 shell=$(command -v sh)
 got=$(PATH=$work/empty "$shell" rest/checkout/check 2>&1)
 [ "${got%% awk *cmp *grep *}" = 'check: missing tools:' ] || wrong "check without tools: $got"
-exit "$failed"
+[ "$failed" = 0 ]

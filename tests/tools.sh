@@ -9,21 +9,10 @@
 # - The design of examples/design must show the pictures of `eval`.
 # It says nothing else where all is as it should be. COUNT 0 takes about ten minutes, without COUNT it takes about 30.
 # usage: tests/tools.sh PROGRAM [COUNT]
-program=$(CDPATH='' cd -- "$(dirname -- "$1")" && pwd)/$(basename "$1")
-tests=$(CDPATH='' cd -- "$(dirname -- "$0")" && pwd)
-examples=$tests/../examples
+. "$(dirname -- "$0")/lib.sh" && program=$(whole "$1") || exit 2
 count=${2-200}
-work=$(mktemp -d) || exit 2
-trap 'rm -rf "$work"' EXIT
-trap 'exit 130' INT TERM HUP
-CDPATH='' cd -- "$work" || exit 2
+in_folder
 cp "$examples"/programs/*.dk "$examples"/programs/*.pgm . || exit 2
-failed=0
-
-wrong() {
-    echo "tools: $*" >&2
-    failed=1
-}
 
 has() {
     command -v "$1" >/dev/null
@@ -154,5 +143,5 @@ if has verilator; then
     mkdir -p examples && cp -r "$examples/design" examples || exit 2
     make -s -C examples/design DK="$program" PROGRAMS="$examples/programs" test >said.txt 2>&1 || wrong "examples/design: $(tail -n 3 said.txt)"
 fi
-! has yosys || python3 "$tests/../tools/memories.py" --check "$program" || failed=1
-exit $failed
+! has yosys || python3 "$tests/../tools/memories.py" --check "$program" || wrong "memories.py"
+[ "$failed" = 0 ]

@@ -3,22 +3,11 @@
 # (then with held clocks at random), and with `--block 2` at ages 0 and 1. No dout may be x in a clock in which it is valid, no valid may be x, and the picture must be the one that `run` writes.
 # It says nothing else where all is as it should be. It takes two to four minutes.
 # usage: tests/unknown.sh PROGRAM
-program=$(CDPATH='' cd -- "$(dirname -- "$1")" && pwd)/$(basename "$1")
-tests=$(CDPATH='' cd -- "$(dirname -- "$0")" && pwd)
-examples=$tests/../examples
-work=$(mktemp -d) || exit 2
-trap 'rm -rf "$work"' EXIT
-trap 'exit 130' INT TERM HUP
-CDPATH='' cd -- "$work" || exit 2
+. "$(dirname -- "$0")/lib.sh" && program=$(whole "$1") || exit 2
+in_folder
 cp "$examples"/programs/*.dk "$examples"/programs/*.pgm . || exit 2
 command -v iverilog >/dev/null || { echo 'unknown: iverilog is not installed' >&2; exit 1; }
-failed=0
 tried=0
-
-wrong() {
-    echo "unknown: $*" >&2
-    failed=1
-}
 
 # shown NAME IN OPTION..: one text, with x everywhere at power-up
 shown() {
@@ -53,4 +42,4 @@ while read -r name source <&3; do
     done
 done 3<"$examples/programs/pictures.txt"
 [ "$tried" -gt 0 ] || wrong 'no text was tried'
-exit $failed
+[ "$failed" = 0 ]

@@ -35,7 +35,7 @@ class Chapter(NamedTuple):
 CHAPTERS = [
     Chapter("run-and-compile", "What `run` and `compile` promise",
             "Which program and image file fit together, which pictures the program means, which module it is compiled to, and which pixels that module shows at which clock.",
-            ["IsGoodPair", "IsHeldRun", "NotedRun", "IsCompiledText"]),
+            ["IsGoodPair", "IsStoredRun", "NotedRun", "IsCompiledText"]),
     Chapter("run-faults", "When `run` ends otherwise, and what it leaves",
             "Which fault ends `run`, and which lines of the picture the output file then holds.",
             ["IsRunAnswer", "CreatesRun", "HoldsAtWrite", "LeavesAtFault", "LeavesAtRead", "IsFaultAt", "IsImageFault"]),
@@ -56,19 +56,19 @@ CHAPTERS = [
             ["StandsFor", "verilog_layout.Layout.layout", "names_for", "verilog_text.Faults.IsFault"]),
     Chapter("files", "The frame of the outside",
             "Which files a command asks for, creates and leaves unchanged, and what it writes to standard error.",
-            ["OnCommand", "OnFiles", "UnlessFailed", "HasCauseIn", "Rose", "IsFresh", "AsksOnly", "AsksWhere", "CreatesNothing", "CreatesOut", "FilesStay", "GainsLine", "WritesNothing", "IsOrMemory"]),
+            ["Performs", "OnCommand", "OnFiles", "UnlessFailed", "HasCauseIn", "Rose", "IsFresh", "AsksOnly", "AsksWhere", "CreatesNothing", "CreatesOut", "FilesStay", "GainsLine", "WritesNothing", "IsOrMemory"]),
     Chapter("eval-compile-make", "`eval`, `compile`, `make` and `cut`",
             "How these four commands end, and what they write.",
-            ["IsAnswer", "IsHeldOf", "IsProgramAnswer", "HoldsText", "IsMadeLine", "NotesMade", "IsCutOf", "ReportsCut"]),
+            ["IsAnswer", "IsStoredOf", "IsProgramAnswer", "HoldsText", "IsMadeLine", "NotesMade", "IsCutOf", "ReportsCut"]),
     Chapter("plan-and-check", "`plan` and `check`",
             "Which report belongs to a program, and which line of a report is its first wrong one.",
             ["IsCheckAnswer", "IsPlanOf", "IsClaimLine"]),
     Chapter("sim-and-trace", "`sim` and `trace`",
             "Which pictures and which value change dump a module's run shows, and which index stops it.",
-            ["IsSimAnswer", "IsHeldSim", "NotesSim", "IsTraceAnswer", "IsHeldTrace"]),
+            ["IsSimAnswer", "IsStoredSim", "NotesSim", "IsTraceAnswer", "IsStoredTrace"]),
     Chapter("words-and-endings", "Words, endings, and the table of all commands",
             "Which command the words name, which line each fault writes, and the tables that choose a definition for each command.",
-            ["command_of", "fault_line", "IsVerdict", "IsHeld", "IsNoted", "IsReported", "IsGood", "HasOneVerdict"]),
+            ["command_of", "fault_line", "IsVerdict", "IsStored", "IsNoted", "IsReported", "IsGood", "HasOneVerdict"]),
 ]
 REST = Chapter("rest", "What else the clauses name", "Definitions that the clauses name and no other chapter shows.", [])
 
@@ -333,6 +333,8 @@ def index(modules, types, main, chapters, places):
         roots = items[: len(each.roots)] if each.roots else items
         out.append(f"{number}. {each.sentence} It begins with {links(roots, places, None)}.")
     out += ["", "## The clauses", "", f"`dk_main`, [{main.module.path}](../{main.module.path}):", "", "```", main.text, "```", "", f"Names: {links(named(modules, types, main), places, None)}."]
+    facts = next(item for _, items in chapters for item in items if item.name == "Performs")
+    out += ["", f"The facts of `performs`, [{facts.module.path}](../{facts.module.path}):", "", "```", facts.text, "```", "", f"Names: {links(named(modules, types, facts), places, None)}."]
     return "\n".join(out) + "\n"
 
 

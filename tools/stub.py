@@ -61,6 +61,12 @@ def items(s):
             break
         out.append((start, e, s[start:e], head)); i = e
     return out
+# the derives that the types above need: keys of maps keep their comparisons and hashes
+def kept_derives(m):
+    derived = [d.strip() for d in m.group(1).split(",")]
+    kept = ["Clone", "Copy", "Drop"] + (["PartialEq", "Eq", "Hash"] if "Hash" in derived else [])
+    derived = [d for d in derived if d in kept]
+    return "#[derive(" + ", ".join(derived) + ")]" if derived else ""
 def strip(s):
     res = []
     for a, b, text, head in items(s):
@@ -71,7 +77,7 @@ def strip(s):
             continue
         if re.match(r"(pub\s+)?use\b", head) or re.match(r"ghost use\b", head) or re.match(r"pub\(crate\) use", head):
             res.append(text); continue
-        text = re.sub(r"#\[derive\(([^)]*)\)\]", lambda m: "#[derive(" + ", ".join([d for d in [x.strip() for x in m.group(1).split(",")] if d in ("Clone","Copy","Drop")]) + ")]" if [d for d in [x.strip() for x in m.group(1).split(",")] if d in ("Clone","Copy","Drop")] else "", text)
+        text = re.sub(r"#\[derive\(([^)]*)\)\]", kept_derives, text)
         text = re.sub(r"\s*#\[error\((?:[^()]|\([^()]*\))*\)\]", "", text)
         text = re.sub(r"\s*#\[(from|source)\]", "", text)
         res.append(text)

@@ -2,26 +2,15 @@
 use Rattle.std.specs.Prelude.{ℕ, ◌+◌, max, ℤ, pos, negsuc, Bool, false, ◌&&◌, ◌||◌, ◌==◌, unsigned_abs, if◌then◌else◌, List, fold, Option, Some, None, unwrap_or}
 use Rattle.std.specs.Option.{option_map}
 use Rattle.std.specs.Int.{is_power_of_two}
-use Rattle.dk_base.specs.declared.operator.Unary.{Unary}
-use Rattle.dk_base.specs.declared.operator.Unary.TheVariants.{Abs}
-use Rattle.dk_base.specs.declared.operator.Binary.{Binary}
-use Rattle.dk_base.specs.declared.operator.Binary.TheVariants.{Multiply, Min, Max}
-use Rattle.dk_base.specs.declared.operator.Scaling.{Scaling}
-use Rattle.dk_base.specs.declared.operator.Scaling.TheVariants.{Divide, ShiftLeft, ShiftRight}
-use Rattle.dk_base.specs.declared.operator.Conversion.{Conversion}
-use Rattle.dk_base.specs.declared.operator.Conversion.TheVariants.{Cast, Saturate}
 use Rattle.pointwise_ir.specs.declared.expr.Edge.{Edge}
 use Rattle.pointwise_ir.specs.declared.expr.Edge.TheVariants.{Zero, Clamp}
 use Rattle.pointwise_ir.specs.Trees.{Tree, constant, read, shifted, unary, binary, select, convert, scale}
+use Rattle.body_levels.specs.Operators.{unary_levels, binary_levels, scaling_levels, conversion_levels, select_levels}
 
 -- a clamped read with an offset chooses among the taps of its image
 abbrev pub choice : Edge → (dx dy : ℤ) → ℕ
 choice Zero dx dy = 0
 choice Clamp dx dy = if (unsigned_abs dx == 0) && (unsigned_abs dy == 0) then 0 else 1
-
-abbrev pub unary_levels : Unary → ℕ
-unary_levels Abs = 2
-unary_levels _ = 1
 
 abbrev pub is_power : ℤ → Bool
 is_power (pos v) = is_power_of_two v
@@ -38,26 +27,9 @@ is_constant_power (select c a b) = false
 is_constant_power (convert how a t) = false
 is_constant_power (scale op a k) = false
 
--- A product by a power of two is a shift of wires.
-abbrev pub product_levels : (a b : Tree) → ℕ
-product_levels a b = if is_constant_power a || is_constant_power b then 0 else 1
-
-abbrev pub binary_levels : Binary → (a b : Tree) → ℕ
-binary_levels Multiply a b = product_levels a b
-binary_levels Min a b = 2
-binary_levels Max a b = 2
-binary_levels _ a b = 1
-
--- So is a division by a power of two, and each shift.
-abbrev pub scaling_levels : Scaling → (by : ℕ) → ℕ
-scaling_levels Divide by = if is_power_of_two by then 0 else 2
-scaling_levels ShiftLeft by = 0
-scaling_levels ShiftRight by = 0
-
--- a cast takes bits away or repeats one; a saturation compares
-abbrev pub conversion_levels : Conversion → ℕ
-conversion_levels Cast = 0
-conversion_levels Saturate = 1
+-- an operand is a power of two that the program writes
+abbrev pub has_power : (a b : Tree) → Bool
+has_power a b = is_constant_power a || is_constant_power b
 
 -- this many levels more, unless there is no read
 abbrev pub above : ℕ → Option ℕ → Option ℕ
@@ -75,8 +47,8 @@ level (constant v t) = None
 level (read edge g dx dy) = Some (choice edge dx dy)
 level (shifted edge dx dy a) = Some (choice edge dx dy + unwrap_or (level a) 0)
 level (unary op a) = above (unary_levels op) (level a)
-level (binary op a b) = above (binary_levels op a b) (deeper (level a) (level b))
-level (select c a b) = above 1 (deeper (level c) (deeper (level a) (level b)))
+level (binary op a b) = above (binary_levels op (has_power a b)) (deeper (level a) (level b))
+level (select c a b) = above select_levels (deeper (level c) (deeper (level a) (level b)))
 level (convert how a t) = above (conversion_levels how) (level a)
 level (scale op a k) = above (scaling_levels op k) (level a)
 

@@ -1,2 +1,3 @@
+pub mod Operators
 pub mod Levels
 pub mod Worked

@@ -6,7 +6,9 @@ ghost use Rattle.pointwise_ir.specs.Programs.{bodies_of};
 ghost use Rattle.dk_base.specs.declared.TheConstants.{MAX_INLINED_DEPTH};
 ghost use Rattle.body_levels.specs.Levels as levels;
 
-use dk_base::{Binary, Conversion, Scaling, Unary};
+use crate::operators::{
+    binary_levels, conversion_levels, scaling_levels, select_levels, unary_levels,
+};
 use pointwise_ir::{Edge, Expr, Program};
 
 // A clamped read with an offset chooses among the taps of its image.
@@ -17,17 +19,6 @@ fn choice(edge: Edge, dx: i32, dy: i32) -> u32
     match edge {
         Edge::Zero => 0,
         Edge::Clamp => { if dx == 0 && dy == 0 { 0 } else { 1 } }
-    }
-}
-
-fn unary_levels(op: Unary) -> u32
-    ensures is { result ≡ levels.unary_levels op }
-    ensures most { result ≤ 2 }
-{
-    match op {
-        Unary::Negate => 1,
-        Unary::Not => 1,
-        Unary::Abs => 2,
     }
 }
 
@@ -51,48 +42,11 @@ fn is_constant_power(e: &Expr) -> bool
     }
 }
 
-fn product_levels(left: &Expr, right: &Expr) -> u32
-    ensures is { result ≡ levels.product_levels (tree_of left.now) (tree_of right.now) }
-    ensures most { result ≤ 2 }
+// Whether an operand is a power of two that the program writes.
+fn has_power(left: &Expr, right: &Expr) -> bool
+    ensures { result ≡ levels.has_power (tree_of left.now) (tree_of right.now) }
 {
-    if is_constant_power(left) || is_constant_power(right) {
-        0
-    } else {
-        1
-    }
-}
-
-fn binary_levels(op: Binary, left: &Expr, right: &Expr) -> u32
-    ensures is { result ≡ levels.binary_levels op (tree_of left.now) (tree_of right.now) }
-    ensures most { result ≤ 2 }
-{
-    match op {
-        Binary::Multiply => product_levels(left, right),
-        Binary::Min => 2,
-        Binary::Max => 2,
-        _ => 1,
-    }
-}
-
-fn scaling_levels(op: Scaling, by: u64) -> u32
-    ensures is { result ≡ levels.scaling_levels op by }
-    ensures most { result ≤ 2 }
-{
-    match op {
-        Scaling::Divide => { if by.is_power_of_two() { 0 } else { 2 } }
-        Scaling::ShiftLeft => 0,
-        Scaling::ShiftRight => 0,
-    }
-}
-
-fn conversion_levels(how: Conversion) -> u32
-    ensures is { result ≡ levels.conversion_levels how }
-    ensures most { result ≤ 2 }
-{
-    match how {
-        Conversion::Cast => 0,
-        Conversion::Saturate => 1,
-    }
+    is_constant_power(left) || is_constant_power(right)
 }
 
 // This many levels more, unless there is no read.
@@ -144,11 +98,11 @@ fn level(e: &Expr) -> Option<u32>
         Expr::Shifted(edge, dx, dy, body) => moved(*edge, *dx, *dy, level(body)),
         Expr::Unary(op, operand) => above(unary_levels(*op), level(operand)),
         Expr::Binary(op, left, right) => above(
-            binary_levels(*op, left, right),
+            binary_levels(*op, has_power(left, right)),
             deeper(level(left), level(right)),
         ),
         Expr::Select(condition, left, right) => above(
-            1,
+            select_levels(),
             deeper(level(condition), deeper(level(left), level(right))),
         ),
         Expr::Convert(how, operand, _) => above(conversion_levels(*how), level(operand)),

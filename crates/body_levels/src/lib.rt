@@ -2,7 +2,11 @@
 #![tactic(auto)]
 
 mod level;
+mod operators;
 mod worked;
 
 pub use level::greatest_level;
-pub use worked::worked_levels;
+pub use operators::{
+    binary_levels, conversion_levels, scaling_levels, select_levels, unary_levels,
+};
+pub use worked::{worked_levels, worked_operator_levels};

@@ -11,11 +11,8 @@ ghost use Rattle.pointwise_ir.specs.Trees.{shifted, unary, binary, select, conve
 ghost use Rattle.body_levels.specs.Levels.{level, greatest_level};
 ghost use Rattle.body_levels.specs.Worked.{number, left, clamped_left};
 
-/// A law: the levels of some expressions.
-pub fn worked_levels()
-    ensures constant { level (binary Add (number 2) (number 3)) ≡ None }
-    ensures read { level left ≡ Some 0 }
-    ensures clamped_read { level clamped_left ≡ Some 1 }
+/// A law: the levels of expressions with an operator.
+pub fn worked_operator_levels()
     ensures sum { level (binary Add left (binary Add left (number 1))) ≡ Some 2 }
     ensures double { level (binary Multiply (number 2) left) ≡ Some 0 }
     ensures triple { level (binary Multiply (number 3) left) ≡ Some 1 }
@@ -27,6 +24,13 @@ pub fn worked_levels()
     ensures choice { level (select (binary Less left (number 9)) left clamped_left) ≡ Some 2 }
     ensures cast { level (convert Cast (binary Add left left) (Unsigned 8)) ≡ Some 1 }
     ensures saturation { level (convert Saturate (binary Add left left) (Unsigned 8)) ≡ Some 2 }
+{}
+
+/// A law: the levels of constants, of reads and of moved expressions, and the most levels of some bodies.
+pub fn worked_levels()
+    ensures constant { level (binary Add (number 2) (number 3)) ≡ None }
+    ensures read { level left ≡ Some 0 }
+    ensures clamped_read { level clamped_left ≡ Some 1 }
     ensures moved { level (shifted Clamp (pos 0) (pos 1) (binary Add left left)) ≡ Some 2 }
     ensures moved_constant { level (shifted Clamp (pos 0) (pos 1) (number 7)) ≡ Some 1 }
     ensures greatest { greatest_level (left ∷ binary Add left left ∷ number 7 ∷ []) ≡ 1 }

@@ -14,13 +14,13 @@ use Rattle.netlist.proofs.FitLaws.{contents_fit}
 use Rattle.net_build.specs.Runs.{IsWhole, FitsPorts, IsClockOf, RunsOn}
 use Rattle.net_build.proofs.Parts.{Includes-refl}
 use Rattle.net_build.proofs.Runs.{clock_contents, clock_inputs}
-use Rattle.module_pass.specs.declared.slots.Slot.{Slot}
+use Rattle.array_packing.specs.declared.slots.Slot.{Slot}
 use Rattle.module_pass.specs.Simulation.{View, seen, Simulates}
-use Rattle.module_pass.specs.Packing.{IsPacking, packed, whole_slots}
+use Rattle.array_packing.specs.Packing.{IsPacking, packed, whole_slots}
 use Rattle.module_pass.proofs.Following.{at_followed, run_followed, stop_followed}
-use Rattle.module_pass.proofs.Simulating.{at_map, packed_simulates}
-use Rattle.module_pass.proofs.Seen.{contents_seen}
-use Rattle.module_pass.proofs.Whole.{whole_packing}
+use Rattle.array_packing.proofs.Simulating.{at_map, packed_simulates}
+use Rattle.array_packing.proofs.Seen.{contents_seen}
+use Rattle.array_packing.proofs.Whole.{whole_packing}
 use Rattle.pointwise_ir.specs.Programs.{Program, IsProgram}
 use Rattle.buffer_plan.specs.Plans.{Plan, delay_of, depth_of, latency_of}
 use Rattle.line_buffer.specs.Streams.{IsPixel, BufferIsRight}

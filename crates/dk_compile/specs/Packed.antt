@@ -6,9 +6,9 @@ use Rattle.wiring.specs.Snapshot.{Contents, Snapshot, IsNext, net_value}
 use Rattle.wiring.specs.Clock.{Clock, bit}
 use Rattle.wiring.specs.History.{was_reset, is_held, counted}
 use Rattle.net_build.specs.Runs.{IsClockOf, IsWhole, RunsOn, IsReady}
-use Rattle.module_pass.specs.declared.slots.Slot.{Slot}
+use Rattle.array_packing.specs.declared.slots.Slot.{Slot}
 use Rattle.module_pass.specs.Simulation.{View}
-use Rattle.module_pass.specs.Packing.{IsPacking, packed}
+use Rattle.array_packing.specs.Packing.{IsPacking, packed}
 use Rattle.pointwise_ir.specs.Programs.{Program}
 use Rattle.buffer_plan.specs.Plans.{Plan, delay_of, depth_of, latency_of}
 use Rattle.line_buffer.specs.Streams.{IsPixel, BufferIsRight}

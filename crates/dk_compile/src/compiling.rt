@@ -20,11 +20,11 @@ use crate::accepted::Front;
 use crate::fault::SourceError;
 use crate::options::Options;
 use crate::reading::front;
+use array_packing::pack;
 use buffer_plan::{Plan, PlanFault, plan};
 use circuit::{BlockChain, Built, Chain, build_with, finer_ages, frame_drive_law};
 use dk_base::{OutOfMemory, Stencils};
 use flow_dual::{Solution, solve};
-use module_pass::pack;
 use netlist::Module;
 use pointwise_ir::Program;
 use raster_delay::System;
@@ -136,7 +136,7 @@ fn built(alloc: Global, ir: &Program, plan: &Plan, options: Options) -> Result<B
     }
 }
 
-// The module of a circuit: with a number its arrays of at least so many words are packed.
+// The module of a circuit: with a number, its arrays of at least that many words are packed.
 fn packed(
     alloc: Global,
     ir: &Program,

@@ -29,11 +29,11 @@ evaluated_pair ir rounds output program all is source file read = λ p images ac
     is ∙ evaluated_is source p ir accepted.accepted.program form program rounds images (read.input.frames p form images fits) all.each
 
 -- what is written is the output file, or has the same relation to it as to what was made
-pub held_told : (told : Option Files) (terms : Terms) (program image : List ℕ) (bytes : Option (List ℕ)) (output : List ℕ) (R : List ℕ → List ℕ → Type 0) → IfSome told (λ f. OfPair terms (bytes_of f program) (bytes_of f image) (λ p images. output ≡ output_file p images))
+pub stored_told : (told : Option Files) (terms : Terms) (program image : List ℕ) (bytes : Option (List ℕ)) (output : List ℕ) (R : List ℕ → List ℕ → Type 0) → IfSome told (λ f. OfPair terms (bytes_of f program) (bytes_of f image) (λ p images. output ≡ output_file p images))
     → IfSome bytes (λ written. R written output) → IfSome told (λ f. IfSome bytes (λ written. OfPair terms (bytes_of f program) (bytes_of f image) (λ p images. R written (output_file p images))))
-held_told None terms program image bytes output R made written = tt
-held_told (Some f) terms program image None output R made written = tt
-held_told (Some f) terms program image (Some b) output R made written = λ p images accepted fits. subst (R b) (made p images accepted fits) written
+stored_told None terms program image bytes output R made written = tt
+stored_told (Some f) terms program image None output R made written = tt
+stored_told (Some f) terms program image (Some b) output R made written = λ p images accepted fits. subst (R b) (made p images accepted fits) written
 
 -- what is made of the files that were read, as far as the desk specifies them
 pub read_pair : (told : Option Files) (program image : List ℕ) (ir : Program) (rounds : List Round) (Q : List ℕ → List ℕ → Type 0) → IfSome told (λ f. IsRead eval_terms (bytes_of f program) (bytes_of f image) ir rounds)
@@ -129,32 +129,32 @@ pub words_order : (command : Option Command) (files : Option Files) (o : Outside
 words_order None files o fresh = tt
 words_order (Some c) files o fresh = on_all c files (λ f. AsksInOrder c f o) (λ f. unasked_order c f o fresh)
 
-usage_report : (c : Command) (f : Files) (held r : Option (List ℕ)) → IsReported ending.Usage c f held r r
-usage_report (run p i o a) f held r = refl
-usage_report (eval p i o) f held r = refl
-usage_report (compile p o e a b) f held r = refl
-usage_report (cut n p o) f held r = refl
-usage_report (trace v c i o) f held r = refl
-usage_report (make n) f held r = refl
-usage_report (sim v c i o p h) f held r = refl
-usage_report (plan p a) f held r = refl
-usage_report (check p t) f held r = refl
+usage_report : (c : Command) (f : Files) (stored r : Option (List ℕ)) → IsReported ending.Usage c f stored r r
+usage_report (run p i o a) f stored r = refl
+usage_report (eval p i o) f stored r = refl
+usage_report (compile p o e a b) f stored r = refl
+usage_report (cut n p o) f stored r = refl
+usage_report (trace v c i o) f stored r = refl
+usage_report (make n) f stored r = refl
+usage_report (sim v c i o p h) f stored r = refl
+usage_report (plan p a) f stored r = refl
+usage_report (check p t) f stored r = refl
 
-memory_report : (c : Command) (f : Files) (held r : Option (List ℕ)) → IsReported ending.Memory c f held r r
-memory_report (run p i o a) f held r = refl
-memory_report (eval p i o) f held r = refl
-memory_report (compile p o e a b) f held r = refl
-memory_report (cut n p o) f held r = refl
-memory_report (trace v c i o) f held r = refl
-memory_report (make n) f held r = refl
-memory_report (sim v c i o p h) f held r = refl
-memory_report (plan p a) f held r = refl
-memory_report (check p t) f held r = refl
+memory_report : (c : Command) (f : Files) (stored r : Option (List ℕ)) → IsReported ending.Memory c f stored r r
+memory_report (run p i o a) f stored r = refl
+memory_report (eval p i o) f stored r = refl
+memory_report (compile p o e a b) f stored r = refl
+memory_report (cut n p o) f stored r = refl
+memory_report (trace v c i o) f stored r = refl
+memory_report (make n) f stored r = refl
+memory_report (sim v c i o p h) f stored r = refl
+memory_report (plan p a) f stored r = refl
+memory_report (check p t) f stored r = refl
 
-pub words_report : (command : Option Command) (files : Option Files) (e : Ending) (held r : Option (List ℕ)) → (e ≡ ending.Usage) ⊎ (e ≡ ending.Memory) → IfSome command (λ c. OnFiles c files (λ f. IsReported e c f held r r))
-words_report None files e held r either = tt
-words_report (Some c) files e held r (inl is) = on_all c files (λ f. IsReported e c f held r r) (λ f. subst (λ x. IsReported x c f held r r) (sym is) (usage_report c f held r))
-words_report (Some c) files e held r (inr is) = on_all c files (λ f. IsReported e c f held r r) (λ f. subst (λ x. IsReported x c f held r r) (sym is) (memory_report c f held r))
+pub words_report : (command : Option Command) (files : Option Files) (e : Ending) (stored r : Option (List ℕ)) → (e ≡ ending.Usage) ⊎ (e ≡ ending.Memory) → IfSome command (λ c. OnFiles c files (λ f. IsReported e c f stored r r))
+words_report None files e stored r either = tt
+words_report (Some c) files e stored r (inl is) = on_all c files (λ f. IsReported e c f stored r r) (λ f. subst (λ x. IsReported x c f stored r r) (sym is) (usage_report c f stored r))
+words_report (Some c) files e stored r (inr is) = on_all c files (λ f. IsReported e c f stored r r) (λ f. subst (λ x. IsReported x c f stored r r) (sym is) (memory_report c f stored r))
 
 usage_notes : (c : Command) (f : Files) (n : Option (List (Bool × ℕ))) → IsNoted c ending.Usage f n n
 usage_notes (run p i o a) f n = tt
@@ -209,11 +209,6 @@ pub words_begun : (command : Option Command) (files : Option Files) (e : Ending)
 words_begun None files e s either = tt
 words_begun (Some c) files e s (inl is) = on_all c files (λ f. CreatesBy c e f s) (λ f. subst (λ x. CreatesBy c x f s) (sym is) (usage_begun c f s))
 words_begun (Some c) files e s (inr is) = on_all c files (λ f. CreatesBy c e f s) (λ f. subst (λ x. CreatesBy c x f s) (sym is) (memory_begun c f s))
-
--- what holds of the command that is named
-pub named_has : (o : Option Command) (c : Command) → o ≡ Some c → (P : Command → Type 0) → P c → IfSome o P
-named_has None c e P h = absurd (let f : ⊥ = cc in f)
-named_has (Some d) c e P h = let same : d ≡ c = cc in subst P (sym same) h
 
 usage_reads : (c : Command) (f : Files) (i : Input) (s : Stage) → ReadsBy c ending.Usage f i s
 usage_reads (run p i o a) f slot s = tt

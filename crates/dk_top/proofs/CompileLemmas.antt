@@ -27,11 +27,11 @@ text_told None program age enable block c from = tt
 text_told (Some f) program age enable block c from = record { compiled = c; from = from; is = refl }
 
 -- what is written is the text, or is related to it as it is to what was made
-pub text_held : (told : Option Files) (program : List ℕ) (age : ℕ) (enable : Bool) (block : Option ℕ) (text : List ℕ) (bytes : Option (List ℕ)) (result : Ending) → IfSome told (λ f. IsCompiledText (bytes_of f program) age enable block text)
+pub text_stored : (told : Option Files) (program : List ℕ) (age : ℕ) (enable : Bool) (block : Option ℕ) (text : List ℕ) (bytes : Option (List ℕ)) (result : Ending) → IfSome told (λ f. IsCompiledText (bytes_of f program) age enable block text)
     → IfSome bytes (λ b. HoldsOutput result b text) → IfSome told (λ f. IfSome bytes (HoldsText (IsCompiledText (bytes_of f program) age enable block) result))
-text_held None program age enable block text bytes result is held = tt
-text_held (Some f) program age enable block text None result is held = tt
-text_held (Some f) program age enable block text (Some b) result is held = record { text = text; is_text = is; holds = held }
+text_stored None program age enable block text bytes result is stored = tt
+text_stored (Some f) program age enable block text None result is stored = tt
+text_stored (Some f) program age enable block text (Some b) result is stored = record { text = text; is_text = is; holds = stored }
 
 -- the number of `--block` is at least 2
 pub block_low : (block : Option ℕ) → IfSome block (λ n. (2 ≤ n) × (n ≤ MAX_BUFFER_BITS)) → IfSome block (λ n. 2 ≤ n)

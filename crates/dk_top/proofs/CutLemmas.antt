@@ -5,7 +5,7 @@ use Rattle.dk_desk.specs.Outside.{Outside, Created}
 use Rattle.dk_desk.specs.Calls.{IsIfTold, grown}
 use Rattle.dk_compile.specs.Cuts.{IsCutOf, HasMeasures}
 use Rattle.dk_endings.specs.declared.ending.Ending.TheVariants as ending
-use Rattle.dk_top.specs.Cutting.{cut_line, IsLineOfHeld}
+use Rattle.dk_top.specs.Cutting.{cut_line, IsLineOfStored}
 use Rattle.dk_top.specs.Verdict.{Files, bytes_of}
 use Rattle.dk_top.specs.State.{IsPrefix, ReportsCut, ReportsFront}
 use Rattle.dk_top.specs.Reading.{EndsInLine}
@@ -22,9 +22,9 @@ stays_prefix (Ok x) A text mid new same is = tt
 stays_prefix (Err e) A text mid new same is = λ _. whole_prefix new.file.bytes text (subst (λ (f : Created). IfSome f.bytes (λ b. b ≡ text)) (sym same) is)
 
 -- the line of a text that File holds
-line_of_held : (source text : List ℕ) (held : Option (List ℕ)) (definitions levels : ℕ) → IsCutOf source text → HasMeasures text definitions levels → IfSome held (λ b. b ≡ text) → IsLineOfHeld source held (cut_line definitions levels)
-line_of_held source text None definitions levels is measured same = record { text = text; is_cut = is; told = tt; is_line = record { definitions = definitions; levels = levels; measured = measured; line_is = refl } }
-line_of_held source text (Some b) definitions levels is measured same = record {
+line_of_stored : (source text : List ℕ) (stored : Option (List ℕ)) (definitions levels : ℕ) → IsCutOf source text → HasMeasures text definitions levels → IfSome stored (λ b. b ≡ text) → IsLineOfStored source stored (cut_line definitions levels)
+line_of_stored source text None definitions levels is measured same = record { text = text; is_cut = is; told = tt; is_line = record { definitions = definitions; levels = levels; measured = measured; line_is = refl } }
+line_of_stored source text (Some b) definitions levels is measured same = record {
   text = text;
   is_cut = is;
   told = let back : text ≡ b = cc in ap Some back;
@@ -36,7 +36,7 @@ pub cut_whole : (told : Option Files) (program text : List ℕ) (definitions lev
     → IfSome new.file.bytes (λ b. b ≡ text) → IsIfTold new.report (grown mid.report (cut_line definitions levels)) → IfSome told (λ f. ReportsCut ending.Done (bytes_of f program) new.file.bytes old new.report)
 cut_whole None program text definitions levels mid new old before is measured same written = tt
 cut_whole (Some f) program text definitions levels mid new old before is measured same written =
-    whole (IsLineOfHeld (bytes_of f program) new.file.bytes) (cut_line definitions levels) old new.report (line_of_held (bytes_of f program) text new.file.bytes definitions levels is measured same)
+    whole (IsLineOfStored (bytes_of f program) new.file.bytes) (cut_line definitions levels) old new.report (line_of_stored (bytes_of f program) text new.file.bytes definitions levels is measured same)
     (subst (λ r. IsIfTold new.report (grown r (cut_line definitions levels))) before written)
 
 -- nothing of it, or a prefix
@@ -45,5 +45,5 @@ pub cut_front : (told : Option Files) (program text : List ℕ) (definitions lev
 cut_front None program text definitions levels mid new old before is measured either = tt
 cut_front (Some f) program text definitions levels mid new old before is measured (inl same) = inl (same ∙ before)
 cut_front (Some f) program text definitions levels mid new old before is measured (inr ends) =
-    inr (front (IsLineOfHeld (bytes_of f program) new.file.bytes) (cut_line definitions levels) old new.report (line_of_held (bytes_of f program) text new.file.bytes definitions levels is measured ends.whole)
+    inr (front (IsLineOfStored (bytes_of f program) new.file.bytes) (cut_line definitions levels) old new.report (line_of_stored (bytes_of f program) text new.file.bytes definitions levels is measured ends.whole)
     (subst (λ r. ReportsFront (cut_line definitions levels) r new.report) before ends.front))

@@ -1,6 +1,6 @@
 -- A compiled module that is driven with the rounds of a file shows the program's output file.
 use Rattle.std.proofs.Common.{◌≡◌, ℕ, zero, suc, ◌+◌, ◌-◌, ◌*◌, ◌^◌, ◌<◌, ◌≤◌, Bool, List, [], ◌∷◌, length, map, take, drop, get_or, Option, Some, None, slice_get, slice_index, slice_index_or, refl, sym, ap, ◌∙◌, subst, arith, add-mul, suc-mul, zero-add, mul-pos, mul-le-mul_right}
-use Rattle.std.specs.List.{flat_map, All, range_with_len}
+use Rattle.std.specs.List.{flat_map, All, range_with_len, AllZip}
 use Rattle.std.proofs.lemmas.List.{length-map, length-append, length-replicate, length-take-le}
 use Rattle.std.proofs.lemmas.List.Elements.{All-map}
 use Rattle.std.proofs.lemmas.List.FromFn.{get_or-map-range_with_len, length-map-range_with_len}
@@ -55,7 +55,6 @@ use Rattle.dk_top.proofs.DriveRounds.{IsSampled, AreSampled, HasPortTypes, pictu
 use Rattle.dk_top.proofs.DriveShown.{PictureLaw, RasterLaw, rastered, picture_shown, pieces_at, places_at, pieces_length, piece_within}
 use Rattle.dk_top.proofs.DrivePorts.{widths_are, count_is, dout_width, has_port_types, widths_same, filled_fits, latency_bounds, latency_of_one}
 use Rattle.dk_top.proofs.DriveFrames.{file_sampled, frames_fit, samples_read}
-use Rattle.std.specs.List.{AllZip}
 
 -- a drive of this many clocks from these contents, without held clocks
 abbrev pub drive_from : Fill → ℕ → Drive

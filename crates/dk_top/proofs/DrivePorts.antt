@@ -90,7 +90,7 @@ widths_same p ir form = ap (map width_of) (sym form.inputs) ∙ fused ir.inputs
     fused [] = refl
     fused (x ∷ xs) = ap (λ ws. width_of x.ty ∷ ws) (fused xs)
 
--- what is held at power-up fits
+-- what is stored at power-up fits
 fill_fits : (fill : Fill) (w : ℕ) → fill_value fill w < 2 ^ w
 fill_fits Zeros w = pow_pos w
 fill_fits Ones w = let some : 0 < 2 ^ w = pow_pos w in omega (arith, some)

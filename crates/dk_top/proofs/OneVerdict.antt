@@ -1,5 +1,5 @@
 -- The words and the files decide one ending.
-use Rattle.std.proofs.Common.{◌≡◌, ℕ, List, Option, None, Some, IfSome, refl, subst}
+use Rattle.std.proofs.Common.{◌≡◌, inl, inr, ℕ, List, Option, None, Some, IfSome, refl, sym, subst}
 use Rattle.dk_endings.specs.declared.ending.Ending.{Ending}
 use Rattle.dk_endings.specs.declared.ending.Ending.TheVariants as ending
 use Rattle.dk_top.specs.Command.{Command, run, eval, compile, sim, trace, plan, check, make, cut}
@@ -7,10 +7,10 @@ use Rattle.made_program.specs.Programs.{program_of}
 use Rattle.dk_top.specs.Simulation.{drive_of}
 use Rattle.dk_top.proofs.CommandLemmas.{on_each}
 use Rattle.dk_top.specs.Tracing.{trace_drive}
-use Rattle.dk_top.specs.Verdict.{Files, bytes_of, eval_terms, run_terms, OnFiles, IsAnswer, IsRunAnswer, IsJudged, IsVerdict, HasOneVerdict, IsGood, IsOrMemory}
-use Rattle.dk_top.proofs.VerdictLemmas.{OneProgram, TextApart, OneTextFault, ApartAt, OneFaultAt, FileApart, OneFileFault, one_answer, good_answer}
-use Rattle.dk_top.proofs.SimLemmas.{OneModule, OneAgreed, ModuleApart, OneTokens, OneTree, OneRounds, RoundsApart, OneBenchFault, OneStop, ShownApart, RunApart, alike_of, sim_answer, good_sim, trace_answer, good_trace}
-use Rattle.dk_top.proofs.PlanLemmas.{FrontAccepted, WrongApart, OneLine, program_answer, good_program, check_answer, good_check}
+use Rattle.dk_top.specs.Verdict.{Files, bytes_of, eval_terms, run_terms, OnFiles, IsAnswer, IsRunAnswer, IsJudged, IsVerdict, AreAlike, HasOneVerdict, IsGood, IsOrMemory}
+use Rattle.dk_top.proofs.VerdictLemmas.{OneProgram, TextApart, OneTextFault, ApartAt, OneFaultAt, FileApart, OneFileFault, one_answer}
+use Rattle.dk_top.proofs.SimLemmas.{OneModule, OneAgreed, ModuleApart, OneTokens, OneTree, OneRounds, RoundsApart, OneBenchFault, OneStop, ShownApart, RunApart, alike_of, sim_answer, trace_answer}
+use Rattle.dk_top.proofs.PlanLemmas.{FrontAccepted, WrongApart, OneLine, program_answer, check_answer}
 
 -- the laws of the crates below
 pub record Laws : Type 0 where
@@ -66,25 +66,51 @@ one_verdict l (check program report) files a b j k x y =
 one_verdict l (make number) files a b j k x y = alike_of a b (program_answer l.apart_at l.fault_at 0 (program_of number) a b j k x y)
 one_verdict l (cut levels program out) files a b j k x y = alike_of a b (program_answer l.apart_at l.fault_at 0 (bytes_of files program) a b j k x y)
 
+-- what is good can be done
+good_verdict : (command : Command) (files : Files) → IsGood command files → IsVerdict command files ending.Done
+good_verdict (run program image out age) files good = good
+good_verdict (eval program image out) files good = good
+good_verdict (compile program out enable age block) files good = good
+good_verdict (sim verilog clocks image out fill hold) files good = good
+good_verdict (trace verilog clocks image vcd) files good = good
+good_verdict (plan program age) files good = good
+good_verdict (check program report) files good = good
+good_verdict (make number) files good = good
+good_verdict (cut levels program out) files good = good
+
+-- no command ends as if its words were refused
+no_usage : (command : Command) (files : Files) → IsVerdict command files ending.Usage → ⊥
+no_usage (run program image out age) files is = is
+no_usage (eval program image out) files is = is
+no_usage (compile program out enable age block) files is = is
+no_usage (sim verilog clocks image out fill hold) files is = is
+no_usage (trace verilog clocks image vcd) files is = is
+no_usage (plan program age) files is = is
+no_usage (check program report) files is = is
+no_usage (make number) files is = is
+no_usage (cut levels program out) files is = is
+
 -- what is good is done where nothing outside fails and there is memory
-good_is_done : Laws → (command : Command) (files : Files) (result : Ending) → IsVerdict command files result → IsGood command files → (result ≡ ending.ReadFault → ⊥) → (result ≡ ending.WriteFault → ⊥) → IsOrMemory result ending.Done
-good_is_done l (run program image out age) files result = λ is good no_read no_write. good_answer l.one_program l.apart_at l.fault_at l.file_apart l.one_file (run_terms age) (bytes_of files program) (bytes_of files image) result (written_answer age (bytes_of files program) (bytes_of files image) result no_write is) good no_read no_write
-good_is_done l (eval program image out) files result = good_answer l.one_program l.apart_at l.fault_at l.file_apart l.one_file eval_terms (bytes_of files program) (bytes_of files image) result
-good_is_done l (compile program out enable age block) files result = good_program l.apart_at l.fault_at age (bytes_of files program) result
-good_is_done l (sim verilog clocks image out fill hold) files result =
-    good_sim l.one_module l.agree l.module_apart l.tokens l.tree l.rounds l.rounds_apart l.bench_fault l.one_stop l.shown_apart (drive_of clocks fill hold) (bytes_of files verilog) (bytes_of files image) result
-good_is_done l (trace verilog clocks image vcd) files result =
-    good_trace l.one_module l.agree l.module_apart l.tokens l.tree l.rounds l.rounds_apart l.bench_fault l.one_stop l.shown_apart (trace_drive clocks) (bytes_of files verilog) (bytes_of files image) l.run_apart result
-good_is_done l (plan program age) files result = good_program l.apart_at l.fault_at age (bytes_of files program) result
-good_is_done l (check program report) files result =
-    good_check l.front_accepted l.text_apart l.one_text l.wrong_apart l.one_line (bytes_of files program) (bytes_of files report) result
-good_is_done l (make number) files result = good_program l.apart_at l.fault_at 0 (program_of number) result
-good_is_done l (cut levels program out) files result = good_program l.apart_at l.fault_at 0 (bytes_of files program) result
+module _ (one : HasOneVerdict) (command : Command) (files : Files) (good : IsGood command files) where
+  done_or : (e : Ending) → IsJudged e → IsVerdict command files e → AreAlike ending.Done e
+  done_or e judged is = one command files ending.Done e tt judged (good_verdict command files good) is
+
+  good_is_done : (e : Ending) → IsVerdict command files e → (e ≡ ending.ReadFault → ⊥) → (e ≡ ending.WriteFault → ⊥) → IsOrMemory e ending.Done
+  good_is_done ending.Done is no_read no_write = inl refl
+  good_is_done ending.Memory is no_read no_write = inr refl
+  good_is_done ending.ReadFault is no_read no_write = absurd (no_read refl)
+  good_is_done ending.WriteFault is no_read no_write = absurd (no_write refl)
+  good_is_done ending.Usage is no_read no_write = absurd (no_usage command files is)
+  good_is_done (ending.Source x) is no_read no_write = inl (sym (done_or (ending.Source x) tt is))
+  good_is_done (ending.Image x) is no_read no_write = inl (sym (done_or (ending.Image x) tt is))
+  good_is_done (ending.Verilog x) is no_read no_write = inl (sym (done_or (ending.Verilog x) tt is))
+  good_is_done (ending.Stopped x) is no_read no_write = inl (sym (done_or (ending.Stopped x) tt is))
+  good_is_done (ending.Rejected x) is no_read no_write = inl (sym (done_or (ending.Rejected x) tt is))
 
 -- the same of what is specified
-pub complete_of : Laws → (command : Option Command) (files : Option Files) (result : Ending) (Read Write : Type 0) → IfSome command (λ c. OnFiles c files (λ f. IsVerdict c f result)) → (result ≡ ending.ReadFault → Read) → (result ≡ ending.WriteFault → Write)
-    → IfSome command (λ c. OnFiles c files (λ f. IsGood c f → ¬ Read → ¬ Write → IsOrMemory result ending.Done))
-complete_of l None files result Read Write verdict read write = tt
-complete_of l (Some c) files result Read Write verdict read write =
-    on_each c files (λ f. IsVerdict c f result) (λ f. IsGood c f → ¬ Read → ¬ Write → IsOrMemory result ending.Done)
-    (λ f is good no_read no_write. good_is_done l c f result is good (λ e. no_read (read e)) (λ e. no_write (write e))) verdict
+pub complete_of : HasOneVerdict → (command : Option Command) (files : Option Files) (e : Ending) (Read Write : Type 0) → IfSome command (λ c. OnFiles c files (λ f. IsVerdict c f e)) → (e ≡ ending.ReadFault → Read) → (e ≡ ending.WriteFault → Write)
+    → IfSome command (λ c. OnFiles c files (λ f. IsGood c f → ¬ Read → ¬ Write → IsOrMemory e ending.Done))
+complete_of one None files e Read Write verdict read write = tt
+complete_of one (Some c) files e Read Write verdict read write =
+    on_each c files (λ f. IsVerdict c f e) (λ f. IsGood c f → ¬ Read → ¬ Write → IsOrMemory e ending.Done)
+    (λ f is good no_read no_write. good_is_done one c f good e is (λ h. no_read (read h)) (λ h. no_write (write h))) verdict

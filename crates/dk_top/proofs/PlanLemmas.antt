@@ -1,5 +1,5 @@
 -- A program's text decides one ending at an age, and with a report one of `check`.
-use Rattle.std.proofs.Common.{◌≡◌, inl, inr, ℕ, List, refl, ap, arith}
+use Rattle.std.proofs.Common.{◌≡◌, ℕ, List, refl, ap, arith}
 use Rattle.dk_types.specs.Typed.{Typing}
 use Rattle.dk_plan.specs.declared.judging.Claim.{Claim}
 use Rattle.dk_endings.specs.declared.ending.Ending.{Ending}
@@ -11,10 +11,9 @@ use Rattle.dk_base.specs.Stencils.{Stencils}
 use Rattle.pointwise_ir.specs.Programs.{Program}
 use Rattle.dk_compile.specs.Fronts.{IsFront}
 use Rattle.dk_compile.specs.Sources.{IsAccepted, IsSourceFault}
-use Rattle.dk_top.specs.Program.{CanBeCompiled}
 use Rattle.dk_top.specs.Plans.{IsConfirmed, IsWrongLine}
 use Rattle.dk_top.specs.Reports.{IsChecked, IsReportFault}
-use Rattle.dk_top.specs.Verdict.{IsJudged, IsOrMemory, IsProgramAnswer, CanBeChecked, IsCheckAnswer}
+use Rattle.dk_top.specs.Verdict.{IsJudged, IsProgramAnswer, IsCheckAnswer}
 use Rattle.dk_top.proofs.VerdictLemmas.{TextApart, OneTextFault, ApartAt, OneFaultAt}
 use Rattle.dk_top.proofs.PlanFaults.{accepted_of}
 
@@ -47,18 +46,6 @@ module _ (apart_at : ApartAt) (one_fault_at : OneFaultAt) where
   program_answer age text _ ending.ReadFault _ j x y = absurd j
   program_answer age text _ ending.WriteFault _ j x y = absurd j
   program_answer age text _ ending.Memory _ j x y = absurd j
-
-  pub good_program : (age : ℕ) (text : List ℕ) (result : Ending) → IsProgramAnswer age text result → CanBeCompiled text age → (result ≡ ending.ReadFault → ⊥) → (result ≡ ending.WriteFault → ⊥) → IsOrMemory result ending.Done
-  good_program age text ending.Done answer good no_read no_write = inl refl
-  good_program age text ending.Memory answer good no_read no_write = inr refl
-  good_program age text ending.ReadFault answer good no_read no_write = absurd (no_read refl)
-  good_program age text ending.WriteFault answer good no_read no_write = absurd (no_write refl)
-  good_program age text ending.Usage answer good no_read no_write = absurd answer
-  good_program age text (ending.Source f) answer good no_read no_write = absurd (apart_at text age f good answer)
-  good_program age text (ending.Image f) answer good no_read no_write = absurd answer
-  good_program age text (ending.Verilog f) answer good no_read no_write = absurd answer
-  good_program age text (ending.Stopped f) answer good no_read no_write = absurd answer
-  good_program age text (ending.Rejected f) answer good no_read no_write = absurd answer
 
 -- a text with a form and live reads is accepted
 abbrev pub FrontAccepted : Type 0
@@ -106,15 +93,3 @@ module _ (front_accepted : FrontAccepted) (text_apart : TextApart) (one_text : O
   check_answer text bytes _ ending.ReadFault _ j x y = absurd j
   check_answer text bytes _ ending.WriteFault _ j x y = absurd j
   check_answer text bytes _ ending.Memory _ j x y = absurd j
-
-  pub good_check : (text bytes : List ℕ) (result : Ending) → IsCheckAnswer text bytes result → CanBeChecked text bytes → (result ≡ ending.ReadFault → ⊥) → (result ≡ ending.WriteFault → ⊥) → IsOrMemory result ending.Done
-  good_check text bytes ending.Done answer good no_read no_write = inl refl
-  good_check text bytes ending.Memory answer good no_read no_write = inr refl
-  good_check text bytes ending.ReadFault answer good no_read no_write = absurd (no_read refl)
-  good_check text bytes ending.WriteFault answer good no_read no_write = absurd (no_write refl)
-  good_check text bytes ending.Usage answer good no_read no_write = absurd answer
-  good_check text bytes (ending.Source f) answer good no_read no_write = absurd (no_source text f (checked_accepted text bytes good.0 good.1) answer)
-  good_check text bytes (ending.Rejected f) answer good no_read no_write = absurd (checked_no_fault text bytes good.0 f good.1 answer.fault_is)
-  good_check text bytes (ending.Image f) answer good no_read no_write = absurd answer
-  good_check text bytes (ending.Verilog f) answer good no_read no_write = absurd answer
-  good_check text bytes (ending.Stopped f) answer good no_read no_write = absurd answer

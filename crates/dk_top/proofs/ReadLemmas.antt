@@ -8,7 +8,7 @@ use Rattle.pointwise_ir.specs.Programs.{Program, IsProgram}
 use Rattle.raster_delay.specs.Systems.{System}
 use Rattle.flow_dual.specs.declared.solution.Solution.{Solution}
 use Rattle.buffer_plan.specs.Plans.{Plan}
-use Rattle.dk_compile.specs.Sources.{IsText}
+use Rattle.dk_compile.specs.Sources.{IsText, IsSourceFault}
 use Rattle.dk_compile.specs.Fronts.{IsForm}
 use Rattle.source_fault.specs.declared.fault.SourceFault.{SourceFault}
 use Rattle.dk_compile.specs.Compiled.{IsPlanned}
@@ -21,7 +21,6 @@ use Rattle.dk_endings.specs.declared.ending.Ending.{Ending}
 use Rattle.dk_endings.specs.declared.ending.Ending.TheVariants as ending
 use Rattle.dk_endings.specs.declared.ending.ImageFault.TheVariants as image
 use Rattle.source_fault.specs.declared.fault.SourceFault.TheVariants as source
-use Rattle.dk_compile.specs.Sources.{IsSourceFault}
 use Rattle.dk_compile.specs.Limits.{IsAcceptedAt, IsFaultAt}
 use Rattle.dk_top.specs.Program.{ports}
 use Rattle.dk_top.specs.Verdict.{Terms, Files, bytes_of, IsGoodPair, IsAnswer}
@@ -61,19 +60,6 @@ misfit_answer terms source file p accepted (ending.Stopped f) is = absurd is
 misfit_answer terms source file p accepted (ending.Rejected f) is = absurd is
 misfit_answer terms source file p accepted ending.ReadFault is = tt
 misfit_answer terms source file p accepted ending.Memory is = tt
-
--- a text that is not accepted
-pub source_answer : (terms : Terms) (source file : List ℕ) (e : Ending) → IsSourceEnding (IsFaultAt source terms.age) e → IsAnswer terms source file e
-source_answer terms source file ending.Done is = absurd is
-source_answer terms source file ending.Usage is = absurd is
-source_answer terms source file ending.WriteFault is = absurd is
-source_answer terms source file (ending.Source f) is = is
-source_answer terms source file (ending.Image f) is = absurd is
-source_answer terms source file (ending.Verilog f) is = absurd is
-source_answer terms source file (ending.Stopped f) is = absurd is
-source_answer terms source file (ending.Rejected f) is = absurd is
-source_answer terms source file ending.ReadFault is = tt
-source_answer terms source file ending.Memory is = tt
 
 -- the form of a planned text is that of whatever program the text is of
 pub every_form : ((text : List ℕ) (p q : Typing) → IsText text p → IsText text q → p ≡ q) → (text : List ℕ) (age : ℕ) (found : Typing) (ir : Program) (s : System) (x : Solution) (plan : Plan) → IsPlanned text age found ir s x plan → (p : Typing) → IsAcceptedAt text age p → IsForm p ir

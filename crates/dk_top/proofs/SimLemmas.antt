@@ -36,7 +36,7 @@ use Rattle.dk_endings.specs.declared.verilog.VerilogKind.TheVariants as kind
 use Rattle.dk_endings.specs.Verilog.{fault_told}
 use Rattle.dk_top.specs.Simulation.{of_text, of_ports, IsModuleOf, LacksEnable, IsTextFault, IsVerilogFault, FitsModule, IsFileFault, IsSimulated, IsUnfit, IsStopped}
 use Rattle.dk_top.specs.Tracing.{CanBeTraced, IsTraceAnswer}
-use Rattle.dk_top.specs.Verdict.{AreAlike, CanBeSimulated, IsSimAnswer, IsJudged, IsOrMemory}
+use Rattle.dk_top.specs.Verdict.{AreAlike, IsSimAnswer, IsJudged}
 
 -- the laws of Verilog texts, of files for a bench and of what a bench gives
 abbrev pub OneModule : Type 0
@@ -231,19 +231,6 @@ module _ (one : OneModule) (agree : OneAgreed) (text_apart : ModuleApart) (token
     sim_answer _ ending.WriteFault _ j x y = absurd j
     sim_answer _ ending.Memory _ j x y = absurd j
 
-    -- where a module shows pictures the call is done, if nothing outside fails and there is memory
-    pub good_sim : (result : Ending) → IsSimAnswer drive t file result → CanBeSimulated drive t file → (result ≡ ending.ReadFault → ⊥) → (result ≡ ending.WriteFault → ⊥) → IsOrMemory result ending.Done
-    good_sim ending.Done answer good no_read no_write = inl refl
-    good_sim ending.Memory answer good no_read no_write = inr refl
-    good_sim ending.ReadFault answer good no_read no_write = absurd (no_read refl)
-    good_sim ending.WriteFault answer good no_read no_write = absurd (no_write refl)
-    good_sim ending.Usage answer good no_read no_write = absurd answer
-    good_sim (ending.Source f) answer good no_read no_write = absurd answer
-    good_sim (ending.Rejected f) answer good no_read no_write = absurd answer
-    good_sim (ending.Verilog f) answer good no_read no_write = absurd (module_no_fault drive.hold t good.1.m f good.1.made answer)
-    good_sim (ending.Image f) answer good no_read no_write = absurd (unfit_apart good.1.m good.1.size good.1.images f good.1.made good.1.fits answer)
-    good_sim (ending.Stopped s) answer good no_read no_write = absurd (simulated_apart good.0 s good.1 answer)
-
     -- a run that goes to its end does not stop
     traced_apart : RunApart → (clock : ℤ) (array index : ℕ) → CanBeTraced drive t file → IsStopped drive t file (Index clock array index) → ⊥
     traced_apart run_apart clock array index (n, shots, x) y =
@@ -305,16 +292,3 @@ module _ (one : OneModule) (agree : OneAgreed) (text_apart : ModuleApart) (token
 
     pub trace_answer : RunApart → (a b : Ending) → IsJudged a → IsJudged b → IsTraceAnswer drive t file a → IsTraceAnswer drive t file b → AreAlike a b
     trace_answer run_apart a b j k x y = answer_by run_apart a b j k (done_or a) (done_or b) x y
-
-    -- where there is a trace the call is done, if nothing outside fails and there is memory
-    pub good_trace : RunApart → (result : Ending) → IsTraceAnswer drive t file result → CanBeTraced drive t file → (result ≡ ending.ReadFault → ⊥) → (result ≡ ending.WriteFault → ⊥) → IsOrMemory result ending.Done
-    good_trace run_apart ending.Done answer good no_read no_write = inl refl
-    good_trace run_apart ending.Memory answer good no_read no_write = inr refl
-    good_trace run_apart ending.ReadFault answer good no_read no_write = absurd (no_read refl)
-    good_trace run_apart ending.WriteFault answer good no_read no_write = absurd (no_write refl)
-    good_trace run_apart ending.Usage answer good no_read no_write = absurd answer
-    good_trace run_apart (ending.Source f) answer good no_read no_write = absurd answer
-    good_trace run_apart (ending.Rejected f) answer good no_read no_write = absurd answer
-    good_trace run_apart (ending.Verilog f) answer good no_read no_write = absurd (not_traced run_apart (ending.Verilog f) tt good (λ e. let x : ⊥ = cc in x) answer)
-    good_trace run_apart (ending.Image f) answer good no_read no_write = absurd (not_traced run_apart (ending.Image f) tt good (λ e. let x : ⊥ = cc in x) answer)
-    good_trace run_apart (ending.Stopped s) answer good no_read no_write = absurd (not_traced run_apart (ending.Stopped s) tt good (λ e. let x : ⊥ = cc in x) answer)

@@ -193,11 +193,11 @@ of_input (Some f) verilog image d drive m size rounds P e given h =
     subst (λ x. P x (bytes_of f verilog) (bytes_of f image)) e (h (bytes_of f verilog) (bytes_of f image) (subst (λ (x : Drive). IsSimInput x.hold (bytes_of f verilog) (bytes_of f image) m size rounds) (sym e) given))
 
 -- what is written is related to the pictures as it is to what was made
-pub held_sim : (told : Option Files) (verilog image : List ℕ) (d drive : Drive) (m : NamedNetlist) (size : Size) (rounds : List Round) (bytes : Option (List ℕ)) (file : List ℕ) (R : List ℕ → List ℕ → Type 0) → d ≡ drive → IfSome told (λ f. IsSimInput drive.hold (bytes_of f verilog) (bytes_of f image) m size rounds)
+pub stored_sim : (told : Option Files) (verilog image : List ℕ) (d drive : Drive) (m : NamedNetlist) (size : Size) (rounds : List Round) (bytes : Option (List ℕ)) (file : List ℕ) (R : List ℕ → List ℕ → Type 0) → d ≡ drive → IfSome told (λ f. IsSimInput drive.hold (bytes_of f verilog) (bytes_of f image) m size rounds)
     → ((t i : List ℕ) → IsSimInput d.hold t i m size rounds → (pictures : List ℕ) → IsSimulated d t i pictures → pictures ≡ file) → IfSome bytes (λ written. R written file)
     → IfSome told (λ f. IfSome bytes (λ written. (pictures : List ℕ) → IsSimulated drive (bytes_of f verilog) (bytes_of f image) pictures → R written pictures))
-held_sim None verilog image d drive m size rounds bytes file R e given only written = tt
-held_sim (Some f) verilog image d drive m size rounds None file R e given only written = tt
-held_sim (Some f) verilog image d drive m size rounds (Some b) file R e given only written = λ pictures is.
+stored_sim None verilog image d drive m size rounds bytes file R e given only written = tt
+stored_sim (Some f) verilog image d drive m size rounds None file R e given only written = tt
+stored_sim (Some f) verilog image d drive m size rounds (Some b) file R e given only written = λ pictures is.
     let same : pictures ≡ file = only (bytes_of f verilog) (bytes_of f image) (subst (λ (x : Drive). IsSimInput x.hold (bytes_of f verilog) (bytes_of f image) m size rounds) (sym e) given) pictures (subst (λ x. IsSimulated x (bytes_of f verilog) (bytes_of f image) pictures) (sym e) is) in
     subst (R b) (sym same) written

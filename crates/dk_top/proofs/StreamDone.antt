@@ -37,7 +37,7 @@ use Rattle.dk_top.proofs.DriveLemmas as D
 use Rattle.dk_top.proofs.StreamLemmas.{singles, only_item, clocks_are}
 use Rattle.dk_top.proofs.StreamLines.{lines_are_images}
 use Rattle.dk_top.proofs.StreamFile.{told_file, told_as, rows_of}
-use Rattle.dk_top.proofs.StreamHeld.{zeros_are, images_long}
+use Rattle.dk_top.proofs.StreamStored.{zeros_are, images_long}
 
 -- a round for each image
 abbrev pub rounds_of_images : List Image → List (List Image)

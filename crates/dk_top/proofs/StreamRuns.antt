@@ -33,7 +33,7 @@ use Rattle.dk_top.specs.Compiling.{IsCompiledFrom, NotesRun}
 use Rattle.dk_top.specs.Streaming.{IsOnePort, first_bits, IsBegun, output_kind, shown_by, OfStream, ReadsToFault, ReadsFirst, CreatesAtFailure, OnStream, ReadsRun, LeavesAtFault, LeavesAtRead, LeavesAtWrite}
 use Rattle.dk_top.specs.Verdict.{Files, bytes_of, run_terms, OfPair, IsRunAnswer}
 use Rattle.dk_top.specs.Command.{run}
-use Rattle.dk_top.specs.State.{OthersStay, CreatesNothing, CreatesRun, IsStreamed, IsHeldRun, by_lines, NotedRun}
+use Rattle.dk_top.specs.State.{OthersStay, CreatesNothing, CreatesRun, IsStreamed, IsStoredRun, by_lines, NotedRun}
 use Rattle.dk_top.specs.Streams.{StreamEnds, OpensImages, RunsOn}
 use Rattle.dk_top.proofs.VerdictLemmas.{OneProgram}
 use Rattle.dk_top.proofs.CompileLemmas.{PlannedAccepted, compiled_accepted}
@@ -44,7 +44,7 @@ use Rattle.dk_top.proofs.StreamLemmas as S
 use Rattle.dk_top.proofs.StreamFile.{ShowsLaw}
 use Rattle.dk_top.proofs.StreamTaken.{headed_images, headed_line, headed_taken}
 use Rattle.dk_top.proofs.StreamReads.{MostLaws, fault_reads, failure_reads, write_reads, done_reads}
-use Rattle.dk_top.proofs.StreamHeld.{held_fault, held_read, held_write}
+use Rattle.dk_top.proofs.StreamStored.{stored_fault, stored_read, stored_write}
 use Rattle.dk_top.proofs.StreamDone.{rounds_of_images, inputs, ports_one, whole_fits, file_done, notes_done}
 
 -- what is specified of the files
@@ -300,7 +300,7 @@ module _ (law : PlannedAccepted) (one_program : OneProgram) (one_rounds : (ports
   -- all that is the same at each end
   module _ (now : Outside) (result : Ending) (left : Leaves_so out opened now) where
     built : result ≢ ending.Usage → ((file : List ℕ) → opened.image.rest ≡ Some file → IsRunAnswer age source file result) → ((program : List ℕ) → CreatesNothing (Some (run program image out age)) result → now.file.stage ≡ Unasked) → ((file : List ℕ) → opened.image.rest ≡ Some file → CreatesRun age source file result now.file.stage)
-        → ((file : List ℕ) → opened.image.rest ≡ Some file → ReadsRun result age source file now.image now.file.stage) → (result ≡ ending.Done → now.file.stage ≡ Open) → (now.file.stage ≡ Open → (file : List ℕ) → opened.image.rest ≡ Some file → IfSome now.file.bytes (IsHeldRun result age source file now.image.rest))
+        → ((file : List ℕ) → opened.image.rest ≡ Some file → ReadsRun result age source file now.image now.file.stage) → (result ≡ ending.Done → now.file.stage ≡ Open) → (now.file.stage ≡ Open → (file : List ℕ) → opened.image.rest ≡ Some file → IfSome now.file.bytes (IsStoredRun result age source file now.image.rest))
         → ((file : List ℕ) → opened.image.rest ≡ Some file → NotedRun result age source file old.notes now.notes)
         → HasCauseIn (result ≡ ending.ReadFault) old.input_failures now.input_failures → HasCauseIn (result ≡ ending.WriteFault) old.output_failures now.output_failures → RunsOn source age image out result old now
     built taken verdict created begun reads written output notes read write = record {
@@ -312,7 +312,7 @@ module _ (law : PlannedAccepted) (one_program : OneProgram) (one_rounds : (ports
       begun = of_told (λ file. CreatesRun age source file result now.file.stage) begun;
       reads = of_told (λ file. ReadsRun result age source file now.image now.file.stage) reads;
       written = written;
-      output = λ there. of_told (λ file. IfSome now.file.bytes (IsHeldRun result age source file now.image.rest)) (output there);
+      output = λ there. of_told (λ file. IfSome now.file.bytes (IsStoredRun result age source file now.image.rest)) (output there);
       notes = of_told (λ file. NotedRun result age source file old.notes now.notes) notes;
       files = subst (λ fs. OthersStay out fs now.files) opened_files left.others;
       files_stay = λ shut. left.stay shut ∙ opened_files;
@@ -390,9 +390,9 @@ module _ (law : PlannedAccepted) (one_program : OneProgram) (one_rounds : (ports
   of_stream : (is : Typing → ℕ → Type 0) → is q late → OfStream source age is
   of_stream is h = record { compiled = c; from = from; one = one; holds = h }
 
-  held_by : (P Q : List ℕ → Type 0) (b : Option (List ℕ)) → ((x : List ℕ) → P x → Q x) → IfSome b P → IfSome b Q
-  held_by P Q None f h = tt
-  held_by P Q (Some x) f h = f x h
+  stored_by : (P Q : List ℕ → Type 0) (b : Option (List ℕ)) → ((x : List ℕ) → P x → Q x) → IfSome b P → IfSome b Q
+  stored_by P Q None f h = tt
+  stored_by P Q (Some x) f h = f x h
 
   runs_done : (now : Outside) → LeavesAll kind m bits late out zeros opened now → HasCauseIn (ending.Done ≡ ending.ReadFault) old.input_failures now.input_failures → HasCauseIn (ending.Done ≡ ending.WriteFault) old.output_failures now.output_failures → RunsOn source age image out ending.Done old now
   runs_done now e read write =
@@ -401,7 +401,7 @@ module _ (law : PlannedAccepted) (one_program : OneProgram) (one_rounds : (ports
       built now ending.Done l.1 (λ x. absurd (let f : ⊥ = cc in f))
       (λ file told. record { program = q; rounds = rounds_of_images e.images; accepted = accepted; fits = record { within = tt; holds = fits file told } })
       (λ program x. absurd x) (λ file told. tt) (λ file told. on_stream (λ p. now.image.rest ≡ Some []) (done_reads q m zeros laws file out opened now told late e)) (λ x. l.0)
-      (λ there file told. held_by (λ bytes. bytes ≡ output_file q (rounds_of_images e.images)) (IsHeldRun ending.Done age source file now.image.rest) now.file.bytes
+      (λ there file told. stored_by (λ bytes. bytes ≡ output_file q (rounds_of_images e.images)) (IsStoredRun ending.Done age source file now.image.rest) now.file.bytes
       (λ bytes h. of_pair one_program one_rounds source age c from file (rounds_of_images e.images) (fits file told) some_inputs (λ p rounds. bytes ≡ output_file p rounds) h) (file_done source age c from one picture_law raster_law file out opened now told e tall wide))
       (λ file told. of_pair one_program one_rounds source age c from file (rounds_of_images e.images) (fits file told) some_inputs (λ p rounds. NotesRun source age p rounds old.notes now.notes)
       (subst (λ (b : Option (List (Bool × ℕ))). NotesRun source age q (rounds_of_images e.images) b now.notes) notes_same (notes_done source age c from one picture_law raster_law file out opened now told e tall wide))) read write
@@ -416,21 +416,21 @@ module _ (law : PlannedAccepted) (one_program : OneProgram) (one_rounds : (ports
       (λ file told. record { program = q; accepted = accepted; unfit = (tt, subst (λ (x : Ports). IsFault x file f) (sym (ports_one source age c from one)) (e.first file told)) })
       (λ program x. absurd x) (λ file told. created_by_fault f now file told e.leaves)
       (λ file told. on_stream (λ p. (samples : List ℕ) × ReadsToFault p file now.image.rest samples) (fault_reads q m zeros laws file out opened now told f e.leaves)) (λ x. absurd (let g : ⊥ = cc in g))
-      (λ there file told. held_by (LeavesAtFault q late file now.image.rest) (IsHeldRun (ending.Image (File f)) age source file now.image.rest) now.file.bytes (λ bytes h. of_stream (λ p l. LeavesAtFault p l file now.image.rest bytes) h)
-      (held_fault q m zeros late shows_law long wide laws file out opened now told closed there f e.leaves)) (λ file told. tt) read write
+      (λ there file told. stored_by (LeavesAtFault q late file now.image.rest) (IsStoredRun (ending.Image (File f)) age source file now.image.rest) now.file.bytes (λ bytes h. of_stream (λ p l. LeavesAtFault p l file now.image.rest bytes) h)
+      (stored_fault q m zeros late shows_law long wide laws file out opened now told closed there f e.leaves)) (λ file told. tt) read write
 
   runs_read : (now : Outside) → LeavesEarly kind m bits Read out zeros opened now → HasCauseIn (ending.ReadFault ≡ ending.ReadFault) old.input_failures now.input_failures → HasCauseIn (ending.ReadFault ≡ ending.WriteFault) old.output_failures now.output_failures → RunsOn source age image out ending.ReadFault old now
   runs_read now e read write =
       built now ending.ReadFault (left_early out opened closed kind m bits Read zeros now e) (λ x. absurd (let g : ⊥ = cc in g)) (λ file told. tt) (λ program x. absurd x) (λ file told. created_by_read now file told e) (λ file told. reads_by_read now file told e) (λ x. absurd (let g : ⊥ = cc in g))
-      (λ there file told. held_by (LeavesAtRead q late file now.image.rest) (IsHeldRun ending.ReadFault age source file now.image.rest) now.file.bytes (λ bytes h. of_stream (λ p l. LeavesAtRead p l file now.image.rest bytes) h)
-      (held_read q m zeros late shows_law long wide laws file out opened now told closed there e)) (λ file told. tt) read write
+      (λ there file told. stored_by (LeavesAtRead q late file now.image.rest) (IsStoredRun ending.ReadFault age source file now.image.rest) now.file.bytes (λ bytes h. of_stream (λ p l. LeavesAtRead p l file now.image.rest bytes) h)
+      (stored_read q m zeros late shows_law long wide laws file out opened now told closed there e)) (λ file told. tt) read write
 
   runs_write : (now : Outside) → StreamsToWrite kind m bits late out zeros opened now → HasCauseIn (ending.WriteFault ≡ ending.ReadFault) old.input_failures now.input_failures → HasCauseIn (ending.WriteFault ≡ ending.WriteFault) old.output_failures now.output_failures → RunsOn source age image out ending.WriteFault old now
   runs_write now e read write =
       built now ending.WriteFault (left_write out opened closed kind m bits late zeros now e) (λ x. absurd (let g : ⊥ = cc in g))
       (λ file told. record { program = q; accepted = accepted; begun = λ is. begun_by_write now file told e; whole = λ is. absurd (is one) }) (λ program x. absurd x) (λ file told. tt) (λ file told. λ stage. on_stream (λ p. ReadsFirst p file now.image.rest) (write_reads q m zeros laws file out opened now told late e stage)) (λ x. absurd (let g : ⊥ = cc in g))
-      (λ there file told. held_by (LeavesAtWrite q late file now.image.rest) (IsHeldRun ending.WriteFault age source file now.image.rest) now.file.bytes (λ bytes h. by_lines (of_stream (λ p l. LeavesAtWrite p l file now.image.rest bytes) h))
-      (held_write q m zeros late shows_law long wide laws file out opened now told closed there e)) (λ file told. tt) read write
+      (λ there file told. stored_by (LeavesAtWrite q late file now.image.rest) (IsStoredRun ending.WriteFault age source file now.image.rest) now.file.bytes (λ bytes h. by_lines (of_stream (λ p l. LeavesAtWrite p l file now.image.rest bytes) h))
+      (stored_write q m zeros late shows_law long wide laws file out opened now told closed there e)) (λ file told. tt) read write
 
   pub runs_opened : (now : Outside) (result : Ending) → StreamEnds kind m bits late out zeros opened now result → HasCauseIn (result ≡ ending.ReadFault) old.input_failures now.input_failures → HasCauseIn (result ≡ ending.WriteFault) old.output_failures now.output_failures → RunsOn source age image out result old now
   runs_opened now ending.Done e read write = runs_done now e read write

@@ -183,19 +183,19 @@ module _ (source : List ℕ) (age : ℕ) (c : Compiled) (from : IsCompiledFrom s
     pub fit_as : (w : ℕ) (n : Netlist) → w ≡ slice_index again.netlist.inputs 1 → n ≡ again.netlist → (s : ℕ) → s ≤ 2 ^ w - 1 → Fit (din_widths n) (s ∷ [])
     fit_as w n is nets s low = subst (λ (x : Netlist). Fit (din_widths x) (s ∷ [])) (sym (nets ∙ ap (λ (x : NamedNetlist). x.netlist) same)) (fit s (subst (λ b. s ≤ 2 ^ b - 1) (din_is w is) low))
 
-    pub starts_as : (n : Netlist) (held : Contents) → n ≡ again.netlist → held ≡ filled_contents Zeros again.netlist → Starts n held
-    starts_as n held nets holds =
+    pub starts_as : (n : Netlist) (stored : Contents) → n ≡ again.netlist → stored ≡ filled_contents Zeros again.netlist → Starts n stored
+    starts_as n stored nets holds =
         subst (λ (x : Contents). Starts n x) (sym (holds ∙ ap (λ (x : NamedNetlist). filled_contents Zeros x.netlist) same)) (subst (λ (x : Netlist). Starts x (filled_contents Zeros m)) (sym (nets ∙ ap (λ (x : NamedNetlist). x.netlist) same)) starts)
 
     -- what is said of the stream is said of it in words of the program
-    pub runs_as : (k : Kind) (n : Netlist) (w l : ℕ) (held : Contents) (image out : List ℕ) (old new : Outside) (result : Ending) → k ≡ output_kind q → n ≡ again.netlist → w ≡ slice_index again.netlist.inputs 1 → l ≡ latency c.plan → held ≡ filled_contents Zeros again.netlist
-        → RunsStream k n w l image out held old new result → RunsStream (output_kind q) again.netlist bits (latency c.plan) image out (filled_contents Zeros again.netlist) old new result
-    runs_as k n w l held image out old new result kinds nets is late holds h =
+    pub runs_as : (k : Kind) (n : Netlist) (w l : ℕ) (stored : Contents) (image out : List ℕ) (old new : Outside) (result : Ending) → k ≡ output_kind q → n ≡ again.netlist → w ≡ slice_index again.netlist.inputs 1 → l ≡ latency c.plan → stored ≡ filled_contents Zeros again.netlist
+        → RunsStream k n w l image out stored old new result → RunsStream (output_kind q) again.netlist bits (latency c.plan) image out (filled_contents Zeros again.netlist) old new result
+    runs_as k n w l stored image out old new result kinds nets is late holds h =
         subst (λ (x : Contents). RunsStream (output_kind q) again.netlist bits (latency c.plan) image out x old new result) holds
-        (subst (λ x. RunsStream (output_kind q) again.netlist bits x image out held old new result) late
-        (subst (λ x. RunsStream (output_kind q) again.netlist x l image out held old new result) (din_is w is)
-        (subst (λ (x : Netlist). RunsStream (output_kind q) x w l image out held old new result) nets
-        (subst (λ (x : Kind). RunsStream x n w l image out held old new result) kinds h))))
+        (subst (λ x. RunsStream (output_kind q) again.netlist bits x image out stored old new result) late
+        (subst (λ x. RunsStream (output_kind q) again.netlist x l image out stored old new result) (din_is w is)
+        (subst (λ (x : Netlist). RunsStream (output_kind q) x w l image out stored old new result) nets
+        (subst (λ (x : Kind). RunsStream x n w l image out stored old new result) kinds h))))
 
 -- a stream never ends out of memory: all was allocated before it
 pub no_memory : (kind : Kind) (m : Netlist) (bits late : ℕ) (image out : List ℕ) (from : Contents) (old now : Outside) (result : Ending) → RunsStream kind m bits late image out from old now result → result ≡ ends.Memory → ⊥

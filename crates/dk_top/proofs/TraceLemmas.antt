@@ -24,7 +24,7 @@ use Rattle.trace_bench.specs.declared.ending.TraceEnd.TheVariants.{Stopped}
 use Rattle.trace_bench.specs.Traces.{in_header as fails_in_header, in_clock as fails_in_clock, at_end as fails_at_end, values_of, trace_front, TracesRun, FailsTracing, FailsBehind, EndsTrace}
 use Rattle.dk_endings.specs.declared.ending.Ending.{Ending}
 use Rattle.dk_endings.specs.declared.ending.Ending.TheVariants as ending
-use Rattle.dk_top.specs.Tracing.{in_header, in_clock, at_end, IsInOrder, AreInOrder, CanBeTraced, IsTraced, HoldsTrace, HoldsToStop, HoldsCut, IsCutBehind, IsCutTrace, IsTraceAnswer, IsHeldTrace}
+use Rattle.dk_top.specs.Tracing.{in_header, in_clock, at_end, IsInOrder, AreInOrder, CanBeTraced, IsTraced, HoldsTrace, HoldsToStop, HoldsCut, IsCutBehind, IsCutTrace, IsTraceAnswer, IsStoredTrace}
 use Rattle.dk_top.specs.Verdict.{Files, bytes_of}
 use Rattle.dk_words.specs.declared.command.PowerUp.{PowerUp}
 use Rattle.dk_words.specs.declared.command.PowerUp.TheVariants.{Zeros}
@@ -37,10 +37,10 @@ use Rattle.dk_top.proofs.SimReads.{samples_same, stopped_of}
 -- what a file that was empty holds after bytes were added
 pub holds_added : (mid new : Option (List ℕ)) (bytes : List ℕ) (R : List ℕ → Type 0) → IsIfTold mid (Some []) → IsIfTold new (grown mid bytes) → R bytes → IfSome new R
 holds_added mid None bytes R empty grows h = tt
-holds_added None (Some held) bytes R empty grows h = absurd (let f : ⊥ = cc in f)
-holds_added (Some before) (Some held) bytes R empty grows h =
+holds_added None (Some stored) bytes R empty grows h = absurd (let f : ⊥ = cc in f)
+holds_added (Some before) (Some stored) bytes R empty grows h =
     let none_before : before ≡ [] = cc in
-    let is : bytes ≡ held = cc (ap (λ b. b ++ bytes) none_before) in
+    let is : bytes ≡ stored = cc (ap (λ b. b ++ bytes) none_before) in
     subst R is h
 
 module _ (drive : Drive) (m : NamedNetlist) (size : Size) (rounds : List Round) (valuation : HasOneSnapshot m.netlist) (next : HasOneNext m.netlist) (t file : List ℕ) (given : IsSimInput drive.hold t file m size rounds) where
@@ -90,35 +90,35 @@ cut_behind : (front text : List ℕ) (old new : Outside) (f : FailsBehind front 
 cut_behind front text old new f = record { count = f.write.count; behind = f.behind; within = f.write.within; holds = refl }
 
 module _ (drive : Drive) (m : NamedNetlist) (size : Size) (rounds : List Round) (valuation : HasOneSnapshot m.netlist) (next : HasOneNext m.netlist) (old new : Outside) (empty : IsIfTold old.file.bytes (Some [])) where
-  pub held_run : TracesRun m drive (rounds_of rounds) old new → IfSome new.file.bytes (λ b. (t i : List ℕ) → IsSimInput drive.hold t i m size rounds → HoldsTrace drive t i b)
-  held_run r = holds_added old.file.bytes new.file.bytes (trace_text m (values_of r.shots)) (λ b. (t i : List ℕ) → IsSimInput drive.hold t i m size rounds → HoldsTrace drive t i b) empty r.gained.grows
+  pub stored_run : TracesRun m drive (rounds_of rounds) old new → IfSome new.file.bytes (λ b. (t i : List ℕ) → IsSimInput drive.hold t i m size rounds → HoldsTrace drive t i b)
+  stored_run r = holds_added old.file.bytes new.file.bytes (trace_text m (values_of r.shots)) (λ b. (t i : List ℕ) → IsSimInput drive.hold t i m size rounds → HoldsTrace drive t i b) empty r.gained.grows
       (λ t i given. whole_trace drive m size rounds valuation next t i given old new r)
 
-  cut_held : (bytes : List ℕ) → IsIfTold new.file.bytes (grown old.file.bytes bytes) → IsCutTrace m drive (rounds_of rounds) bytes → IfSome new.file.bytes (λ b. (t i : List ℕ) → IsSimInput drive.hold t i m size rounds → HoldsCut drive t i b)
-  cut_held bytes grows h = holds_added old.file.bytes new.file.bytes bytes (λ b. (t i : List ℕ) → IsSimInput drive.hold t i m size rounds → HoldsCut drive t i b) empty grows
+  cut_stored : (bytes : List ℕ) → IsIfTold new.file.bytes (grown old.file.bytes bytes) → IsCutTrace m drive (rounds_of rounds) bytes → IfSome new.file.bytes (λ b. (t i : List ℕ) → IsSimInput drive.hold t i m size rounds → HoldsCut drive t i b)
+  cut_stored bytes grows h = holds_added old.file.bytes new.file.bytes bytes (λ b. (t i : List ℕ) → IsSimInput drive.hold t i m size rounds → HoldsCut drive t i b) empty grows
       (λ t i given. cut_of drive m size rounds valuation next t i given bytes h)
 
-  pub held_cut : FailsTracing m drive (rounds_of rounds) old new → IfSome new.file.bytes (λ b. (t i : List ℕ) → IsSimInput drive.hold t i m size rounds → HoldsCut drive t i b)
-  held_cut (fails_in_header w) = cut_held (take w.count (header_text m)) w.adds.grows (in_header (record { count = w.count; behind = omega arith; within = w.within; holds = refl }))
-  held_cut (fails_in_clock f) =
+  pub stored_cut : FailsTracing m drive (rounds_of rounds) old new → IfSome new.file.bytes (λ b. (t i : List ℕ) → IsSimInput drive.hold t i m size rounds → HoldsCut drive t i b)
+  stored_cut (fails_in_header w) = cut_stored (take w.count (header_text m)) w.adds.grows (in_header (record { count = w.count; behind = omega arith; within = w.within; holds = refl }))
+  stored_cut (fails_in_clock f) =
       let text = trace_front m (f.shots ++ f.last ∷ []) in
-      cut_held (take f.fails.write.count text) f.fails.write.adds.grows (in_clock (record { shots = f.shots; last = f.last; to = f.to; runs = f.runs; cut = cut_behind (trace_front m f.shots) text old new f.fails }))
-  held_cut (fails_at_end f) =
+      cut_stored (take f.fails.write.count text) f.fails.write.adds.grows (in_clock (record { shots = f.shots; last = f.last; to = f.to; runs = f.runs; cut = cut_behind (trace_front m f.shots) text old new f.fails }))
+  stored_cut (fails_at_end f) =
       let text = trace_text m (values_of f.shots) in
-      cut_held (take f.fails.write.count text) f.fails.write.adds.grows (at_end (record { shots = f.shots; run = f.run; cut = cut_behind (trace_front m f.shots) text old new f.fails }))
+      cut_stored (take f.fails.write.count text) f.fails.write.adds.grows (at_end (record { shots = f.shots; run = f.run; cut = cut_behind (trace_front m f.shots) text old new f.fails }))
 
-  pub held_stop : (stop : Stop) → EndsTrace m drive (rounds_of rounds) (Stopped stop) old new → IfSome new.file.bytes (λ b. (t i : List ℕ) → IsSimInput drive.hold t i m size rounds → IsHeldTrace (ending.Stopped stop) drive t i b)
-  held_stop (Index clock array index) ends = holds_added old.file.bytes new.file.bytes (trace_front m ends.stop.shots) (λ b. (t i : List ℕ) → IsSimInput drive.hold t i m size rounds → HoldsToStop drive t i clock array index b) empty ends.gained.grows
+  pub stored_stop : (stop : Stop) → EndsTrace m drive (rounds_of rounds) (Stopped stop) old new → IfSome new.file.bytes (λ b. (t i : List ℕ) → IsSimInput drive.hold t i m size rounds → IsStoredTrace (ending.Stopped stop) drive t i b)
+  stored_stop (Index clock array index) ends = holds_added old.file.bytes new.file.bytes (trace_front m ends.stop.shots) (λ b. (t i : List ℕ) → IsSimInput drive.hold t i m size rounds → HoldsToStop drive t i clock array index b) empty ends.gained.grows
       (λ t i given. stopped_trace drive m size rounds valuation next t i given clock array index ends.stop)
-  held_stop (Count shown wanted) ends = absurd ends
+  stored_stop (Count shown wanted) ends = absurd ends
 
--- what is held of any input of the drive's is held of the files
-pub held_trace : (told : Option Files) (verilog image : List ℕ) (d drive : Drive) (m : NamedNetlist) (size : Size) (rounds : List Round) (bytes : Option (List ℕ)) (result : Ending) → d ≡ drive → IfSome told (λ f. IsSimInput drive.hold (bytes_of f verilog) (bytes_of f image) m size rounds)
-    → IfSome bytes (λ b. (t i : List ℕ) → IsSimInput d.hold t i m size rounds → IsHeldTrace result d t i b) → IfSome told (λ f. IfSome bytes (λ b. IsHeldTrace result drive (bytes_of f verilog) (bytes_of f image) b))
-held_trace None verilog image d drive m size rounds bytes result e given h = tt
-held_trace (Some f) verilog image d drive m size rounds None result e given h = tt
-held_trace (Some f) verilog image d drive m size rounds (Some b) result e given h =
-    subst (λ x. IsHeldTrace result x (bytes_of f verilog) (bytes_of f image) b) e (h (bytes_of f verilog) (bytes_of f image) (subst (λ (x : Drive). IsSimInput x.hold (bytes_of f verilog) (bytes_of f image) m size rounds) (sym e) given))
+-- what is stored of any input of the drive's is stored of the files
+pub stored_trace : (told : Option Files) (verilog image : List ℕ) (d drive : Drive) (m : NamedNetlist) (size : Size) (rounds : List Round) (bytes : Option (List ℕ)) (result : Ending) → d ≡ drive → IfSome told (λ f. IsSimInput drive.hold (bytes_of f verilog) (bytes_of f image) m size rounds)
+    → IfSome bytes (λ b. (t i : List ℕ) → IsSimInput d.hold t i m size rounds → IsStoredTrace result d t i b) → IfSome told (λ f. IfSome bytes (λ b. IsStoredTrace result drive (bytes_of f verilog) (bytes_of f image) b))
+stored_trace None verilog image d drive m size rounds bytes result e given h = tt
+stored_trace (Some f) verilog image d drive m size rounds None result e given h = tt
+stored_trace (Some f) verilog image d drive m size rounds (Some b) result e given h =
+    subst (λ x. IsStoredTrace result x (bytes_of f verilog) (bytes_of f image) b) e (h (bytes_of f verilog) (bytes_of f image) (subst (λ (x : Drive). IsSimInput x.hold (bytes_of f verilog) (bytes_of f image) m size rounds) (sym e) given))
 
 -- the files but the created one are those before the inputs were read
 pub stay_others : (created : List ℕ) (old mid new : Option Files) → mid ≡ old → OthersStay created mid new → IfSome new (λ after. IfSome old (λ before. (name : List ℕ) → ¬ (Some created ≡ Some name) → after name ≡ before name))

@@ -15,8 +15,8 @@ pub record IsCutLine (text line : List ℕ) : Type 0 where
   pub line_is : line ≡ cut_line definitions levels
 
 -- The line is that of a text that the source was cut to. If the desk specifies File, it is the text that File holds.
-pub record IsLineOfHeld (source : List ℕ) (held : Option (List ℕ)) (line : List ℕ) : Type 0 where
+pub record IsLineOfStored (source : List ℕ) (stored : Option (List ℕ)) (line : List ℕ) : Type 0 where
   pub text : List ℕ
   pub is_cut : IsCutOf source text
-  pub told : IsIfTold held (Some text)
+  pub told : IsIfTold stored (Some text)
   pub is_line : IsCutLine text line

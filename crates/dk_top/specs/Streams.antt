@@ -24,7 +24,7 @@ use Rattle.dk_top.specs.Compiling.{IsCompiledFrom}
 use Rattle.dk_top.specs.Reading.{IsInputOf}
 use Rattle.dk_top.specs.Command.{run}
 use Rattle.dk_compile.specs.Limits.{IsAcceptedAt}
-use Rattle.dk_top.specs.State.{AsksOnly, AsksWhere, CreatesNothing, CreatesOut, OthersStay, CreatesRun, IsHeldRun, NotedRun}
+use Rattle.dk_top.specs.State.{AsksOnly, AsksWhere, CreatesNothing, CreatesOut, OthersStay, CreatesRun, IsStoredRun, NotedRun}
 
 -- what the stream leaves, by the ending
 abbrev pub StreamEnds : Kind → Netlist → (bits latency : ℕ) → (name : List ℕ) → Contents → (opened now : Outside) → Ending → Type 0
@@ -89,7 +89,7 @@ pub record RunsOn (source : List ℕ) (age : ℕ) (image out : List ℕ) (result
   pub begun : IfSome old.files (λ files. CreatesRun age source (bytes_of files image) result new.file.stage)
   pub reads : IfSome old.files (λ files. ReadsRun result age source (bytes_of files image) new.image new.file.stage)
   pub written : result ≡ ending.Done → new.file.stage ≡ Open
-  pub output : new.file.stage ≡ Open → IfSome old.files (λ files. IfSome new.file.bytes (IsHeldRun result age source (bytes_of files image) new.image.rest))
+  pub output : new.file.stage ≡ Open → IfSome old.files (λ files. IfSome new.file.bytes (IsStoredRun result age source (bytes_of files image) new.image.rest))
   pub notes : IfSome old.files (λ files. NotedRun result age source (bytes_of files image) old.notes new.notes)
   pub files : OthersStay out old.files new.files
   pub files_stay : new.file.stage ≢ Open → new.files ≡ old.files
@@ -108,7 +108,7 @@ pub record PerformsRun (program image out : List ℕ) (age : ℕ) (result : Endi
   pub reads : IfSome old.files (λ files. ReadsRun result age (bytes_of files program) (bytes_of files image) new.image new.file.stage)
   pub written : result ≡ ending.Done → CreatesOut (Some (run program image out age)) new
   pub output : new.file.stage ≡ Open
-      → IfSome old.files (λ files. IfSome new.file.bytes (IsHeldRun result age (bytes_of files program) (bytes_of files image) new.image.rest))
+      → IfSome old.files (λ files. IfSome new.file.bytes (IsStoredRun result age (bytes_of files program) (bytes_of files image) new.image.rest))
   pub notes : IfSome old.files (λ files. NotedRun result age (bytes_of files program) (bytes_of files image) old.notes new.notes)
   pub files : OthersStay out old.files new.files
   pub files_stay : new.file.stage ≢ Open → new.files ≡ old.files

@@ -110,8 +110,8 @@ pub record HoldsCut (drive : Drive) (text file bytes : List ℕ) : Type 0 where
   pub cut : IsCutTrace m drive (samples_of images) bytes
 
 -- what File holds, where it was created
-abbrev pub IsHeldTrace : Ending → Drive → (text file bytes : List ℕ) → Type 0
-IsHeldTrace ending.Done drive text file bytes = HoldsTrace drive text file bytes
-IsHeldTrace (ending.Stopped (Index clock array index)) drive text file bytes = HoldsToStop drive text file clock array index bytes
-IsHeldTrace ending.WriteFault drive text file bytes = HoldsCut drive text file bytes
-IsHeldTrace _ drive text file bytes = ⊤
+abbrev pub IsStoredTrace : Ending → Drive → (text file bytes : List ℕ) → Type 0
+IsStoredTrace ending.Done drive text file bytes = HoldsTrace drive text file bytes
+IsStoredTrace (ending.Stopped (Index clock array index)) drive text file bytes = HoldsToStop drive text file clock array index bytes
+IsStoredTrace ending.WriteFault drive text file bytes = HoldsCut drive text file bytes
+IsStoredTrace _ drive text file bytes = ⊤

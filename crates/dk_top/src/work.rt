@@ -1,16 +1,15 @@
 //! What a command does.
 
-ghost use Rattle.std.specs.Prelude.{◌≡◌, ◌≢◌, Some, IfSome};
-ghost use Rattle.dk_desk.specs.Calls.{HasCauseIn};
+ghost use Rattle.std.specs.Prelude.{◌≡◌, ◌≢◌, Some};
 ghost use Rattle.dk_top.specs.Command.{Command, IsInRange};
-ghost use Rattle.dk_top.specs.Verdict.{OnFiles, IsVerdict};
-ghost use Rattle.dk_top.specs.State.{IsFresh, AsksOnly, AsksInOrder, CreatesNothing, CreatesBy, ReadsBy, CreatesOut, FilesStay, IsHeld, IsNoted, IsReported, WritesNothing, NotesNothing, TakesNoMore};
+ghost use Rattle.dk_top.specs.State.{IsFresh, AsksOnly, FilesStay};
+ghost use Rattle.dk_top.specs.Performing.{Performs, EndsRight, ReportsRead, ReportsWrite, AsksAfter, LeavesRestOf, CreatesLast, HasCreated, HasRead, HasWritten, HasStored, AllStay, HasReported, ReportStays, HasNoted, NotesStay};
 
-use dk_desk::{Desk, Stage};
+use dk_desk::Desk;
 use dk_endings::Ending;
 use std::alloc::Global;
 
-// A command with its words. What a command does is stated here once for all of them.
+// A command with its words. Each does what `Performs` states of a command, fact by fact, and leaves Fault.
 pub trait Work {
     // The command, with its words.
     ghost command: { Self → Command };
@@ -20,29 +19,34 @@ pub trait Work {
         requires ranges { IsInRange (command self.now) }
         requires fresh { IsFresh (D.outside desk.old) }
         ensures taken { result ≢ Ending.Usage }
-        ensures verdict { OnFiles (command self.now) (D.outside desk.old).files (λ files. IsVerdict (command self.now) files result) }
+        ensures verdict { EndsRight (Some (command self.now)) result (D.outside desk.old) }
         ensures asked { AsksOnly (Some (command self.now)) (D.outside desk.new) }
-        ensures order { OnFiles (command self.now) (D.outside desk.old).files (λ files. AsksInOrder (command self.now) files (D.outside desk.new)) }
-        ensures too_long { OnFiles (command self.now) (D.outside desk.old).files (λ files.
-            TakesNoMore (command self.now) result files (D.outside desk.new).program (D.outside desk.new).image) }
-        ensures created { CreatesNothing (Some (command self.now)) result → (D.outside desk.new).file.stage ≡ Stage.Unasked }
-        ensures begun { OnFiles (command self.now) (D.outside desk.old).files (λ files.
-            CreatesBy (command self.now) result files (D.outside desk.new).file.stage) }
-        ensures reads { OnFiles (command self.now) (D.outside desk.old).files (λ files.
-            ReadsBy (command self.now) result files (D.outside desk.new).image (D.outside desk.new).file.stage) }
-        ensures written { result ≡ Ending.Done → CreatesOut (Some (command self.now)) (D.outside desk.new) }
-        ensures output { (D.outside desk.new).file.stage ≡ Stage.Open → OnFiles (command self.now) (D.outside desk.old).files (λ files.
-            IfSome (D.outside desk.new).file.bytes (IsHeld result (command self.now) files (D.outside desk.new).image.rest)) }
+        ensures order { AsksAfter (Some (command self.now)) (D.outside desk.old) (D.outside desk.new) }
+        ensures too_long { LeavesRestOf (Some (command self.now)) result (D.outside desk.old) (D.outside desk.new) }
+        ensures created { CreatesLast (Some (command self.now)) result (D.outside desk.new) }
+        ensures begun { HasCreated (Some (command self.now)) result (D.outside desk.old) (D.outside desk.new) }
+        ensures reads { HasRead (Some (command self.now)) result (D.outside desk.old) (D.outside desk.new) }
+        ensures written { HasWritten (Some (command self.now)) result (D.outside desk.new) }
+        ensures output { HasStored (Some (command self.now)) result (D.outside desk.old) (D.outside desk.new) }
         ensures files { FilesStay (Some (command self.now)) (D.outside desk.old).files (D.outside desk.new).files }
-        ensures files_stay { (D.outside desk.new).file.stage ≢ Stage.Open → (D.outside desk.new).files ≡ (D.outside desk.old).files }
-        ensures report_stays { WritesNothing (Some (command self.now)) result → (D.outside desk.new).report ≡ (D.outside desk.old).report }
-        ensures report { OnFiles (command self.now) (D.outside desk.old).files (λ files.
-            IsReported result (command self.now) files (D.outside desk.new).file.bytes (D.outside desk.old).report (D.outside desk.new).report) }
-        ensures notes { OnFiles (command self.now) (D.outside desk.old).files (λ files.
-            IsNoted (command self.now) result files (D.outside desk.old).notes (D.outside desk.new).notes) }
-        ensures notes_stay { NotesNothing (Some (command self.now)) → (D.outside desk.new).notes ≡ (D.outside desk.old).notes }
+        ensures files_stay { AllStay (D.outside desk.old) (D.outside desk.new) }
+        ensures report { HasReported (Some (command self.now)) result (D.outside desk.old) (D.outside desk.new) }
+        ensures report_stays { ReportStays (Some (command self.now)) result (D.outside desk.old) (D.outside desk.new) }
+        ensures notes { HasNoted (Some (command self.now)) result (D.outside desk.old) (D.outside desk.new) }
+        ensures notes_stay { NotesStay (Some (command self.now)) (D.outside desk.old) (D.outside desk.new) }
         ensures fault { (D.outside desk.new).fault ≡ (D.outside desk.old).fault }
         ensures fault_count { (D.outside desk.new).fault_failures ≡ (D.outside desk.old).fault_failures }
-        ensures read_fault { HasCauseIn (result ≡ Ending.ReadFault) (D.outside desk.old).input_failures (D.outside desk.new).input_failures }
-        ensures write_fault { HasCauseIn (result ≡ Ending.WriteFault) (D.outside desk.old).output_failures (D.outside desk.new).output_failures };
+        ensures read_fault { ReportsRead result (D.outside desk.old) (D.outside desk.new) }
+        ensures write_fault { ReportsWrite result (D.outside desk.old) (D.outside desk.new) };
+}
+
+// Does what the words of a command request, and leaves Fault.
+pub fn performed<W: Work, D: Desk>(words: &W, alloc: Global, desk: &mut D) -> Ending
+    requires ranges { IsInRange (W.command words.now) }
+    requires fresh { IsFresh (D.outside desk.old) }
+    ensures performs { Performs (Some (W.command words.now)) result (D.outside desk.old) (D.outside desk.new) }
+    ensures fault { (D.outside desk.new).fault ≡ (D.outside desk.old).fault }
+    ensures fault_count { (D.outside desk.new).fault_failures ≡ (D.outside desk.old).fault_failures }
+{
+    words.perform(alloc, desk)
 }

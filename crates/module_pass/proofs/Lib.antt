@@ -1,10 +1,3 @@
 pub mod Following
 pub mod Chained
-pub mod Parts
-pub mod Simulating
-pub mod Inner
-pub mod Whole
-pub mod Seen
-pub mod Reached
 pub mod MadeNames
-pub mod Places

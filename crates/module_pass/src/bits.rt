@@ -38,8 +38,8 @@ fn bits_of(module: &Module) -> u128
     array_bits(&module.wiring().arrays)
 }
 
-// Whether the arrays of both have the same number of bits.
-pub(crate) fn same_array_bits(new: &Module, old: &Module) -> bool
+/// Whether the arrays of both modules have the same number of bits.
+pub fn same_array_bits(new: &Module, old: &Module) -> bool
     ensures { IsTrue result → array_bits_of new.now.netlist.arrays ≡ array_bits_of old.now.netlist.arrays }
 {
     let before = bits_of(old);
@@ -47,12 +47,8 @@ pub(crate) fn same_array_bits(new: &Module, old: &Module) -> bool
     same_number(after, before)
 }
 
-// Whether both have the same number of buffer bits.
-pub(crate) fn same_buffer_bits(
-    alloc: Global,
-    new: &Module,
-    old: &Module,
-) -> Result<bool, OutOfMemory>
+/// Whether both modules have the same number of buffer bits.
+pub fn same_buffer_bits(alloc: Global, new: &Module, old: &Module) -> Result<bool, OutOfMemory>
     ensures { IfOk result (λ is. IsTrue is → (k : ℕ) → IsBufferBits old.now.netlist k → IsBufferBits new.now.netlist k) }
 {
     let before = netlist::buffer_bits(alloc, old)?;

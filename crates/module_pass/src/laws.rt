@@ -2,47 +2,32 @@
 
 ghost use Rattle.std.specs.Prelude.{◌≡◌, ℕ, List, ◌∷◌, map, All};
 ghost use Rattle.wiring.specs.Netlist.{Netlist};
-ghost use Rattle.wiring.specs.Order.{IsEvaluationOrder};
-ghost use Rattle.wiring.specs.Rules.{KeepsRules};
 ghost use Rattle.wiring.specs.Snapshot.{Contents, Snapshot, FitsContents, HasOneSnapshot, HasOneNext};
 ghost use Rattle.wiring.specs.Clock.{Clock};
 ghost use Rattle.wiring.specs.Runs.{Runs, RunStops, picture};
 ghost use Rattle.wiring.specs.History.{At};
-ghost use Rattle.module_pass.specs.Simulation.{View, seen, Simulates, FitsPorts, ShowsRun, itself, through};
-ghost use Rattle.module_pass.specs.declared.slots.Slot.{Slot};
-ghost use Rattle.module_pass.specs.Packing.{IsPacked, AreFilled, packed};
+ghost use Rattle.module_pass.specs.Simulation.{View, seen, Simulates, Follows, FitsPorts, ShowsRun, itself, through};
 
 /// A law: from contents that fit, over clocks whose inputs fit, each run of the new netlist shows a run of the old one, clock by clock, with the same pictures; and it stops only where that one stops.
 pub fn runs_follow_law()
-    ensures runs { (new old : Netlist) (v : View) (order : List ℕ) → Simulates new old v → KeepsRules new → IsEvaluationOrder new.assigns order
-        → (from to : Contents) (clocks : List Clock) (shots : List Snapshot) → FitsContents new from → All (FitsPorts new) clocks → Runs new from clocks shots to
+    ensures runs { (new old : Netlist) (v : View) → Follows new old v → (from to : Contents) (clocks : List Clock)
+        → (shots : List Snapshot) → FitsContents new from → All (FitsPorts new) clocks → Runs new from clocks shots to
         → Runs old (v.contents from) clocks (map (seen v) shots) (v.contents to) }
-    ensures stops { (new old : Netlist) (v : View) (order : List ℕ) → Simulates new old v → KeepsRules new → IsEvaluationOrder new.assigns order
-        → (from : Contents) (clocks : List Clock) (shots : List Snapshot) (x i : ℕ) → FitsContents new from → All (FitsPorts new) clocks → RunStops new from clocks shots x i
+    ensures stops { (new old : Netlist) (v : View) → Follows new old v → (from : Contents) (clocks : List Clock)
+        → (shots : List Snapshot) (x i : ℕ) → FitsContents new from → All (FitsPorts new) clocks → RunStops new from clocks shots x i
         → (y : ℕ) × (j : ℕ) × RunStops old (v.contents from) clocks (map (seen v) shots) y j }
-    ensures clock { (new old : Netlist) (v : View) (order : List ℕ) → Simulates new old v → KeepsRules new → IsEvaluationOrder new.assigns order
-        → (from : Contents) (before : List Clock) (c : Clock) (t : Snapshot) → FitsContents new from → All (FitsPorts new) (c ∷ before) → At new from before c t
+    ensures clock { (new old : Netlist) (v : View) → Follows new old v → (from : Contents) (before : List Clock) (c : Clock)
+        → (t : Snapshot) → FitsContents new from → All (FitsPorts new) (c ∷ before) → At new from before c t
         → At old (v.contents from) before c (seen v t) }
     ensures pictures { (v : View) (k : ℕ) (shots : List Snapshot) → picture k (map (seen v) shots) ≡ picture k shots }
-    ensures shown { (new old : Netlist) (v : View) (order : List ℕ) → Simulates new old v → KeepsRules new → IsEvaluationOrder new.assigns order
-        → HasOneSnapshot new → HasOneNext new → HasOneSnapshot old → HasOneNext old → (from to : Contents) (clocks : List Clock) (shots : List Snapshot)
-        → FitsContents new from → All (FitsPorts new) clocks → Runs old (v.contents from) clocks shots to → ShowsRun new v from clocks shots to }
+    ensures shown { (new old : Netlist) (v : View) → Follows new old v
+        → HasOneSnapshot new → HasOneNext new → HasOneSnapshot old → HasOneNext old → (from to : Contents) (clocks : List Clock)
+        → (shots : List Snapshot) → FitsContents new from → All (FitsPorts new) clocks → Runs old (v.contents from) clocks shots to
+        → ShowsRun new v from clocks shots to }
 {}
 
 /// A law: a netlist simulates itself, and what simulates one that simulates a third simulates the third.
 pub fn passes_chain_law()
     ensures none { (m : Netlist) → Simulates m m itself }
     ensures two { (a b c : Netlist) (v w : View) → Simulates a b v → Simulates b c w → Simulates a c (through v w) }
-{}
-
-/// A law: a netlist with packed arrays simulates the one whose arrays are packed.
-pub fn packing_law()
-    ensures { (new old : Netlist) (slots : List Slot) (order : List ℕ) → IsPacked new old slots → KeepsRules old → KeepsRules new → IsEvaluationOrder new.assigns order
-        → Simulates new old (packed old slots) }
-{}
-
-/// A law: where no bit of a packed word is unused, contents that fit are one if they show the same contents of the old netlist.
-pub fn contents_seen_law()
-    ensures { (new old : Netlist) (slots : List Slot) → AreFilled new slots → (c d : Contents) → FitsContents new c → FitsContents new d
-        → (packed old slots).contents c ≡ (packed old slots).contents d → c ≡ d }
 {}

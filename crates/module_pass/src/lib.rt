@@ -1,17 +1,12 @@
-//! Passes over modules: what a pass keeps, and a pass that packs arrays.
+//! Passes over modules: what a pass keeps, and what passes share.
 #![tactic(auto)]
 
 mod bits;
-mod check;
-mod filled;
-mod groups;
 mod laws;
+mod making;
 mod naming;
-mod nets;
-mod packing;
-mod proposal;
-mod slots;
+mod parts;
 
-pub use laws::{contents_seen_law, packing_law, passes_chain_law, runs_follow_law};
-pub use packing::{Packed, pack};
-pub use slots::Slot;
+pub use bits::{same_array_bits, same_buffer_bits};
+pub use laws::{passes_chain_law, runs_follow_law};
+pub use making::made_module;

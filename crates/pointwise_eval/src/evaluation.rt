@@ -16,10 +16,10 @@ ghost use Rattle.pointwise_eval.specs.Rounds.{AreFrames, round_of, frame_of, out
 
 use crate::need::{is_needed, needs};
 use crate::plane::Plane;
-use crate::rows::render;
+use crate::rows::{Sources, render};
 use dk_base::{FrameSize, OutOfMemory};
 use dk_frames::{Frame, SampleSlice, Samples};
-use pointwise_ir::{Definition, Expr, Input, Program};
+use pointwise_ir::{Definition, Expr, Program};
 use std::alloc::Global;
 use std::mem;
 use value_rows::Element;
@@ -48,21 +48,18 @@ fn input_planes<'a>(alloc: Global, frames: &'a [Frame]) -> Result<Vec<Plane<'a>>
 // The plane of an image that is not an input, which is empty if it is not needed.
 fn next_plane<'a>(
     alloc: Global,
-    size: FrameSize,
-    planes: &[Plane<'_>],
-    inputs: &[Input],
-    images: &[Definition],
+    sources: &Sources<'_>,
     body: &Expr,
     wanted: bool,
 ) -> Result<Plane<'a>, OutOfMemory>
-    requires can { IsTrue wanted → CanEvaluate (size_of size) planes.now (tree_of body.now) }
-    requires types { All IsType (all_types inputs.now images.now) }
-    requires values { AreValues (size_of size) (all_types inputs.now images.now) planes.now }
+    requires can { IsTrue wanted → CanEvaluate (size_of sources.now.size) sources.now.planes.now (tree_of body.now) }
+    requires types { All IsType (all_types sources.now.inputs.now sources.now.images.now) }
+    requires values { AreValues (size_of sources.now.size) (all_types sources.now.inputs.now sources.now.images.now) sources.now.planes.now }
     requires depth { depth_of (tree_of body.now) ≤ MAX_INLINED_DEPTH }
-    ensures { IfOk result (λ p. IsPlaneOf (size_of size) planes.now (tree_of body.now) wanted p) }
+    ensures { IfOk result (λ p. IsPlaneOf (size_of sources.now.size) sources.now.planes.now (tree_of body.now) wanted p) }
 {
     if wanted {
-        render(alloc, size, planes, inputs, images, body)
+        render(alloc, sources, body)
     } else {
         Ok(Plane::Gone)
     }
@@ -131,15 +128,13 @@ fn all_planes<'a>(
         let before = earlier(images, k);
         let number = inputs.len() + k;
         let wanted = is_needed(until, number);
-        let plane = next_plane(
-            alloc,
+        let sources = Sources {
             size,
-            &planes,
+            planes: planes.as_slice(),
             inputs,
-            before,
-            &images[k].body,
-            wanted,
-        )?;
+            images: before,
+        };
+        let plane = next_plane(alloc, &sources, &images[k].body, wanted)?;
         planes.push(plane)?;
         drop_unneeded(&mut planes, until, number + 1);
     }

@@ -43,54 +43,51 @@ fn depth(e: &Expr) -> usize
     }
 }
 
-// Row y as elements.
+// Row y as elements. `scratch` has a row, and two rows for each level of the expression.
 fn element_row<L: Element, T: Element>(
     size: FrameSize,
     planes: &[Plane<'_>],
     e: &Expr,
     y: u32,
-    row: &mut [L],
-    scratch: &mut [L],
     to: &mut [T],
+    scratch: &mut [L],
 )
     requires can { CanEvaluate (size_of size) planes.now (tree_of e.now) }
     requires rows { EachImage (HasRows planes.now) (tree_of e.now) }
     requires parts { ArePartsIn L.ty (size_of size) (all_shown (size_of size) planes.now) (tree_of e.now) }
     requires typed { AreAllIn (size_of size) (all_shown (size_of size) planes.now) (tree_of e.now) T.ty }
     requires down { y < size.height }
-    requires row { length row.old ≡ size.width }
-    requires room { depth_of (tree_of e.now) * (size.width + size.width) ≤ length scratch.old }
     requires elements { length to.old ≡ size.width }
+    requires room { size.width + depth_of (tree_of e.now) * (size.width + size.width) ≤ length scratch.old }
     ensures { IsRow (size_of size) (value (size_of size) (all_shown (size_of size) planes.now) (tree_of e.now)) (pos y) (map T.worth to.new) }
 {
-    value_row(size, planes, e, y, row, scratch);
+    let (row, rest) = scratch.split_at_mut(to.len());
+    value_row(size, planes, e, y, row, rest);
     copy_row(row, to);
 }
 
-// The elements, by a row and the rows that a row needs.
+// The elements, by a row of them and the rows that it needs.
 fn elements_of_rows<L: Element, T: Element>(
     alloc: Global,
     size: FrameSize,
     planes: &[Plane<'_>],
     e: &Expr,
-    row: &mut [L],
-    scratch: &mut [L],
     part: &mut [T],
+    scratch: &mut [L],
 ) -> Result<Vec<T>, OutOfMemory>
     requires can { CanEvaluate (size_of size) planes.now (tree_of e.now) }
     requires rows { EachImage (HasRows planes.now) (tree_of e.now) }
     requires parts { ArePartsIn L.ty (size_of size) (all_shown (size_of size) planes.now) (tree_of e.now) }
     requires typed { AreAllIn (size_of size) (all_shown (size_of size) planes.now) (tree_of e.now) T.ty }
-    requires row { length row.old ≡ size.width }
-    requires room { depth_of (tree_of e.now) * (size.width + size.width) ≤ length scratch.old }
     requires part { length part.old ≡ size.width }
+    requires room { size.width + depth_of (tree_of e.now) * (size.width + size.width) ≤ length scratch.old }
     ensures whole { IfOk result (λ v. length (map T.worth v.items) ≡ area (size_of size)) }
     ensures value { IfOk result (λ v. shown (size_of size) (map T.worth v.items)
         ≡ framed (size_of size) (value (size_of size) (all_shown (size_of size) planes.now) (tree_of e.now))) }
 {
     let mut elements = Vec::with_capacity(alloc, size.width as usize * size.height as usize)?;
     for y in 0..size.height {
-        element_row(size, planes, e, y, row, scratch, part);
+        element_row(size, planes, e, y, part, scratch);
         elements.extend_from_slice(part)?;
     }
     Ok(elements)
@@ -113,10 +110,9 @@ fn render_elements<L: Element, T: Element>(
         ≡ framed (size_of size) (value (size_of size) (all_shown (size_of size) planes.now) (tree_of e.now))) }
 {
     let width = size.width as usize;
-    let mut row = vec![in alloc; L::default(); width]?;
     let mut part = vec![in alloc; T::default(); width]?;
-    let mut scratch = vec![in alloc; L::default(); depth(e) * (width + width)]?;
-    let elements = elements_of_rows(alloc, size, planes, e, &mut row, &mut scratch, &mut part)?;
+    let mut scratch = vec![in alloc; L::default(); width + depth(e) * (width + width)]?;
+    let elements = elements_of_rows(alloc, size, planes, e, &mut part, &mut scratch)?;
     Ok(elements)
 }
 
@@ -172,34 +168,54 @@ fn render_rows<'a, L: Element>(
 {
     let _type = L::element_type();
     match kind_of(ty) {
-        ElementKind::Unsigned8 => Ok(Plane::Unsigned8(render_elements::<L, _>(alloc, size, planes, e)?)),
-        ElementKind::Unsigned16 => Ok(Plane::Unsigned16(render_elements::<L, _>(alloc, size, planes, e)?)),
-        ElementKind::Unsigned32 => Ok(Plane::Unsigned32(render_elements::<L, _>(alloc, size, planes, e)?)),
-        ElementKind::Signed8 => Ok(Plane::Signed8(render_elements::<L, _>(alloc, size, planes, e)?)),
-        ElementKind::Signed16 => Ok(Plane::Signed16(render_elements::<L, _>(alloc, size, planes, e)?)),
-        ElementKind::Signed32 => Ok(Plane::Signed32(render_elements::<L, _>(alloc, size, planes, e)?)),
-        ElementKind::Signed64 => Ok(Plane::Signed64(render_elements::<L, _>(alloc, size, planes, e)?)),
+        ElementKind::Unsigned8 => Ok(Plane::Unsigned8(render_elements::<L, _>(
+            alloc, size, planes, e,
+        )?)),
+        ElementKind::Unsigned16 => Ok(Plane::Unsigned16(render_elements::<L, _>(
+            alloc, size, planes, e,
+        )?)),
+        ElementKind::Unsigned32 => Ok(Plane::Unsigned32(render_elements::<L, _>(
+            alloc, size, planes, e,
+        )?)),
+        ElementKind::Signed8 => Ok(Plane::Signed8(render_elements::<L, _>(
+            alloc, size, planes, e,
+        )?)),
+        ElementKind::Signed16 => Ok(Plane::Signed16(render_elements::<L, _>(
+            alloc, size, planes, e,
+        )?)),
+        ElementKind::Signed32 => Ok(Plane::Signed32(render_elements::<L, _>(
+            alloc, size, planes, e,
+        )?)),
+        ElementKind::Signed64 => Ok(Plane::Signed64(render_elements::<L, _>(
+            alloc, size, planes, e,
+        )?)),
     }
+}
+
+// The images that a body may read: the size of the frame, their planes, and the inputs and definitions that they are.
+#[derive(Clone, Copy)]
+pub struct Sources<'a> {
+    pub size: FrameSize,
+    pub planes: &'a [Plane<'a>],
+    pub inputs: &'a [Input],
+    pub images: &'a [Definition],
 }
 
 // The values of an expression over these images at all pixels: by rows where all its parts have values of 64 bits and it reads such planes, in the lane of fewest bits that holds them; else each by itself.
 #[tactic(auto, using(crate::proofs::Narrows::planes_narrow))]
-pub fn render<'a>(
-    alloc: Global,
-    size: FrameSize,
-    planes: &[Plane<'_>],
-    inputs: &[Input],
-    images: &[Definition],
-    e: &Expr,
-) -> Result<Plane<'a>, OutOfMemory>
-    requires can { CanEvaluate (size_of size) planes.now (tree_of e.now) }
-    requires types { All IsType (all_types inputs.now images.now) }
-    requires values { AreValues (size_of size) (all_types inputs.now images.now) planes.now }
+pub fn render<'a>(alloc: Global, sources: &Sources<'_>, e: &Expr) -> Result<Plane<'a>, OutOfMemory>
+    requires can { CanEvaluate (size_of sources.now.size) sources.now.planes.now (tree_of e.now) }
+    requires types { All IsType (all_types sources.now.inputs.now sources.now.images.now) }
+    requires values { AreValues (size_of sources.now.size) (all_types sources.now.inputs.now sources.now.images.now) sources.now.planes.now }
     requires depth { depth_of (tree_of e.now) ≤ MAX_INLINED_DEPTH }
-    ensures whole { IfOk result (λ p. length (values_of p) ≡ area (size_of size)) }
-    ensures value { IfOk result (λ p. shown (size_of size) (values_of p)
-        ≡ framed (size_of size) (value (size_of size) (all_shown (size_of size) planes.now) (tree_of e.now))) }
+    ensures whole { IfOk result (λ p. length (values_of p) ≡ area (size_of sources.now.size)) }
+    ensures value { IfOk result (λ p. shown (size_of sources.now.size) (values_of p)
+        ≡ framed (size_of sources.now.size) (value (size_of sources.now.size) (all_shown (size_of sources.now.size) sources.now.planes.now) (tree_of e.now))) }
 {
+    let size = sources.size;
+    let planes = sources.planes;
+    let inputs = sources.inputs;
+    let images = sources.images;
     if !reads_rows(planes, e) {
         return render_points(alloc, size, planes, e);
     }

@@ -13,7 +13,7 @@ use Rattle.wiring.specs.Snapshot.{Contents}
 use Rattle.pgm_codec.specs.declared.header.Header.{Header}
 use Rattle.pgm_codec.specs.declared.raster.RasterFault.{RasterFault}
 use Rattle.pgm_codec.specs.declared.raster.RasterFault.TheVariants.{SampleTooGreat, Short}
-use Rattle.pgm_codec.specs.Answers.{Reads, Undecided}
+use Rattle.pgm_codec.specs.Answers.{Reads, Undecided, Whole}
 use Rattle.pgm_codec.specs.Images.{Image, IsImageOf, IsRaster, AreImages, sample_size, is_narrow}
 use Rattle.pgm_codec.specs.Rasters.{JudgesRow, sample_at, row_length}
 use Rattle.pgm_codec.proofs.Stays.{reads_more}
@@ -31,7 +31,6 @@ use Rattle.row_stream.proofs.Rasters.{placed_front, placed_back, times, row_byte
 use Rattle.row_stream.proofs.HeadLemmas.{nothing as none_behind, first_nothing}
 use Rattle.pgm_codec.proofs.Decoding.{length_spelled}
 use Rattle.pgm_codec.proofs.Unique.{one_front, reads_whole}
-use Rattle.pgm_codec.specs.Answers.{Whole}
 use Rattle.pgm_rounds.specs.declared.fault.FileFault.{FileFault}
 use Rattle.row_stream.proofs.Adds.{times_turned}
 use Rattle.row_stream.proofs.HeadEnds.{one_header, at_end}

@@ -133,7 +133,9 @@ fn narrow_scaling(op: Scaling, value: i64, by: u64) -> i64
 {
     match op {
         Scaling::Divide => quotient(value, by),
-        _ => narrow(scaling_value(op, i128::from(value), by)),
+        Scaling::ShiftLeft | Scaling::ShiftRight => {
+            narrow(scaling_value(op, i128::from(value), by))
+        }
     }
 }
 

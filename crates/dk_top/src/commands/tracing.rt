@@ -7,7 +7,7 @@ ghost use Rattle.cycle_sim.specs.Ports.{din_widths};
 ghost use Rattle.stimulus.specs.Given.{AreBenchFrames};
 ghost use Rattle.trace_bench.specs.Tracers.{IsTracer};
 ghost use Rattle.dk_top.specs.Command.{trace as trace_command};
-ghost use Rattle.dk_top.specs.Tracing.{IsTraceAnswer, IsHeldTrace};
+ghost use Rattle.dk_top.specs.Tracing.{IsTraceAnswer, IsStoredTrace};
 ghost use Rattle.dk_top.specs.State.{CreatesNothing, CreatesTrace, OthersStay};
 ghost use Rattle.dk_top.specs.Simulating.{OfInput};
 ghost use Rattle.dk_top.specs.Reading.{TellsNoText, TellsNoImages};
@@ -36,7 +36,7 @@ fn write_trace<D: Desk>(
     requires frames { AreBenchFrames (din_widths given.now.«module».netlist) (size_of given.now.input.size) given.now.input.rounds.items }
     ensures verdict { OfInput drive.hold given.now (λ text images. IsTraceAnswer drive text images result) }
     ensures output { (D.outside desk.new).file.stage ≡ Stage.Open → IfSome (D.outside desk.new).file.bytes
-        (λ bytes. OfInput drive.hold given.now (λ text images. IsHeldTrace result drive text images bytes)) }
+        (λ bytes. OfInput drive.hold given.now (λ text images. IsStoredTrace result drive text images bytes)) }
     ensures taken { result ≢ Ending.Usage }
     ensures judged { result ≢ Ending.ReadFault }
     ensures no_text { TellsNoText result }
@@ -85,7 +85,7 @@ fn traced<D: Desk>(
     requires frames { AreBenchFrames (din_widths given.now.«module».netlist) (size_of given.now.input.size) given.now.input.rounds.items }
     ensures verdict { OfInput drive.hold given.now (λ text images. IsTraceAnswer drive text images result) }
     ensures output { (D.outside desk.new).file.stage ≡ Stage.Open → IfSome (D.outside desk.new).file.bytes
-        (λ bytes. OfInput drive.hold given.now (λ text images. IsHeldTrace result drive text images bytes)) }
+        (λ bytes. OfInput drive.hold given.now (λ text images. IsStoredTrace result drive text images bytes)) }
     ensures taken { result ≢ Ending.Usage }
     ensures judged { result ≢ Ending.ReadFault }
     ensures no_text { TellsNoText result }

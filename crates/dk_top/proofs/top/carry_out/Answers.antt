@@ -1,69 +1,35 @@
-use Rattle.std.proofs.Common.{ap, Err, Some, IfSome, ◌∙◌}
+use Rattle.std.proofs.Common.{ap, Err, Some, ◌∙◌}
 use Rattle.dk_words.specs.declared.command.Asked.{Asked}
-use Rattle.dk_top.specs.Command.{Command, make, command_asked}
-use Rattle.dk_top.specs.Verdict.{OnFiles, IsVerdict}
-use Rattle.dk_top.specs.State.{IsReported, AsksInOrder, TakesNoMore, CreatesBy, ReadsBy, IsHeld}
-use Rattle.dk_top.proofs.CommandLemmas.{words_verdict, words_order, words_report, words_notes, words_begun, words_reads, named_has}
-use Rattle.dk_top.proofs.LongLemmas.{words_left}
+use Rattle.dk_top.specs.Command.{command_asked}
+use Rattle.dk_top.proofs.Performed.{as_named, refused}
 use Rattle.dk_top.proofs.top.carry_out.Goals as goal
 
-pub returns-in-Err-clause-verdict : goal.returns-in-Err-clause-verdict
-returns-in-Err-clause-verdict g c = words_verdict _ _ c.in-Err.ending (λ e. c.in-Err.ensures.usage (ap Err e)) c.in-Err.ensures.other
+pub returns-in-Err-clause-performs : goal.returns-in-Err-clause-performs
+returns-in-Err-clause-performs g c = refused _ c.in-Err.ending (g.D.Desk.outside c.args.desk.now) c.requires (λ e. c.in-Err.ensures.usage (ap Err e)) c.in-Err.ensures.other
 
-pub returns-in-Err-clause-order : goal.returns-in-Err-clause-order
-returns-in-Err-clause-order g c = words_order _ _ _ c.requires.image
+pub returns-in-Ok-Run-clause-performs : goal.returns-in-Ok-Run-clause-performs
+returns-in-Ok-Run-clause-performs g c = as_named _ _ _ _ _ (c.in-Ok-Run.ensures.ok ∙ ap (λ (a : Asked). Some (command_asked a)) c.in-Ok-Run.field-0-is) c.performed-in-Ok-Run.ensures.performs
 
-pub returns-in-Err-clause-begun : goal.returns-in-Err-clause-begun
-returns-in-Err-clause-begun g c = words_begun _ _ c.in-Err.ending _ c.in-Err.ensures.other
+pub returns-in-Ok-Eval-clause-performs : goal.returns-in-Ok-Eval-clause-performs
+returns-in-Ok-Eval-clause-performs g c = as_named _ _ _ _ _ (c.in-Ok-Eval.ensures.ok ∙ ap (λ (a : Asked). Some (command_asked a)) c.in-Ok-Eval.field-0-is) c.performed-in-Ok-Eval.ensures.performs
 
-pub returns-in-Err-clause-reads : goal.returns-in-Err-clause-reads
-returns-in-Err-clause-reads g c = words_reads _ _ c.in-Err.ending _ _ c.in-Err.ensures.other
+pub returns-in-Ok-Compile-clause-performs : goal.returns-in-Ok-Compile-clause-performs
+returns-in-Ok-Compile-clause-performs g c = as_named _ _ _ _ _ (c.in-Ok-Compile.ensures.ok ∙ ap (λ (a : Asked). Some (command_asked a)) c.in-Ok-Compile.field-0-is) c.performed-in-Ok-Compile.ensures.performs
 
-pub returns-in-Err-clause-report : goal.returns-in-Err-clause-report
-returns-in-Err-clause-report g c = words_report _ _ c.in-Err.ending _ _ c.in-Err.ensures.other
+pub returns-in-Ok-Sim-clause-performs : goal.returns-in-Ok-Sim-clause-performs
+returns-in-Ok-Sim-clause-performs g c = as_named _ _ _ _ _ (c.in-Ok-Sim.ensures.ok ∙ ap (λ (a : Asked). Some (command_asked a)) c.in-Ok-Sim.field-0-is) c.performed-in-Ok-Sim.ensures.performs
 
-pub returns-in-Err-clause-notes : goal.returns-in-Err-clause-notes
-returns-in-Err-clause-notes g c = words_notes _ _ c.in-Err.ending _ c.in-Err.ensures.other
+pub returns-in-Ok-Plan-clause-performs : goal.returns-in-Ok-Plan-clause-performs
+returns-in-Ok-Plan-clause-performs g c = as_named _ _ _ _ _ (c.in-Ok-Plan.ensures.ok ∙ ap (λ (a : Asked). Some (command_asked a)) c.in-Ok-Plan.field-0-is) c.performed-in-Ok-Plan.ensures.performs
 
-pub returns-in-Ok-Make-clause-verdict : goal.returns-in-Ok-Make-clause-verdict
-returns-in-Ok-Make-clause-verdict g c =
-    let named = c.in-Ok-Make.ensures.ok ∙ ap (λ (a : Asked). Some (command_asked a)) c.in-Ok-Make.field-0-is in
-    named_has _ (make c.in-Ok-Make.words.number) named (λ (k : Command). OnFiles k (g.D.Desk.outside c.args.desk.now).files (λ files. IsVerdict k files c.perform-in-Ok-Make.result)) c.perform-in-Ok-Make.ensures.verdict
+pub returns-in-Ok-Check-clause-performs : goal.returns-in-Ok-Check-clause-performs
+returns-in-Ok-Check-clause-performs g c = as_named _ _ _ _ _ (c.in-Ok-Check.ensures.ok ∙ ap (λ (a : Asked). Some (command_asked a)) c.in-Ok-Check.field-0-is) c.performed-in-Ok-Check.ensures.performs
 
-pub returns-in-Ok-Make-clause-report : goal.returns-in-Ok-Make-clause-report
-returns-in-Ok-Make-clause-report g c =
-    let named = c.in-Ok-Make.ensures.ok ∙ ap (λ (a : Asked). Some (command_asked a)) c.in-Ok-Make.field-0-is in
-    named_has _ (make c.in-Ok-Make.words.number) named (λ (k : Command). OnFiles k (g.D.Desk.outside c.args.desk.now).files (λ files. IsReported c.perform-in-Ok-Make.result k files (g.D.Desk.outside c.perform-in-Ok-Make.new.desk).file.bytes (g.D.Desk.outside c.args.desk.now).report (g.D.Desk.outside c.perform-in-Ok-Make.new.desk).report)) c.perform-in-Ok-Make.ensures.report
+pub returns-in-Ok-Trace-clause-performs : goal.returns-in-Ok-Trace-clause-performs
+returns-in-Ok-Trace-clause-performs g c = as_named _ _ _ _ _ (c.in-Ok-Trace.ensures.ok ∙ ap (λ (a : Asked). Some (command_asked a)) c.in-Ok-Trace.field-0-is) c.performed-in-Ok-Trace.ensures.performs
 
-pub returns-in-Err-clause-too_long : goal.returns-in-Err-clause-too_long
-returns-in-Err-clause-too_long g c = words_left _ _ c.in-Err.ending _ _ c.in-Err.ensures.other
+pub returns-in-Ok-Make-clause-performs : goal.returns-in-Ok-Make-clause-performs
+returns-in-Ok-Make-clause-performs g c = as_named _ _ _ _ _ (c.in-Ok-Make.ensures.ok ∙ ap (λ (a : Asked). Some (command_asked a)) c.in-Ok-Make.field-0-is) c.performed-in-Ok-Make.ensures.performs
 
-pub returns-in-Ok-Make-clause-order : goal.returns-in-Ok-Make-clause-order
-returns-in-Ok-Make-clause-order g c =
-    let named = c.in-Ok-Make.ensures.ok ∙ ap (λ (a : Asked). Some (command_asked a)) c.in-Ok-Make.field-0-is in
-    let new = g.D.Desk.outside c.perform-in-Ok-Make.new.desk in
-    named_has _ (make c.in-Ok-Make.words.number) named (λ (k : Command). OnFiles k (g.D.Desk.outside c.args.desk.now).files (λ files. AsksInOrder k files new)) c.perform-in-Ok-Make.ensures.order
-
-pub returns-in-Ok-Make-clause-too_long : goal.returns-in-Ok-Make-clause-too_long
-returns-in-Ok-Make-clause-too_long g c =
-    let named = c.in-Ok-Make.ensures.ok ∙ ap (λ (a : Asked). Some (command_asked a)) c.in-Ok-Make.field-0-is in
-    let new = g.D.Desk.outside c.perform-in-Ok-Make.new.desk in
-    named_has _ (make c.in-Ok-Make.words.number) named (λ (k : Command). OnFiles k (g.D.Desk.outside c.args.desk.now).files (λ files. TakesNoMore k c.perform-in-Ok-Make.result files new.program new.image)) c.perform-in-Ok-Make.ensures.too_long
-
-pub returns-in-Ok-Make-clause-begun : goal.returns-in-Ok-Make-clause-begun
-returns-in-Ok-Make-clause-begun g c =
-    let named = c.in-Ok-Make.ensures.ok ∙ ap (λ (a : Asked). Some (command_asked a)) c.in-Ok-Make.field-0-is in
-    let new = g.D.Desk.outside c.perform-in-Ok-Make.new.desk in
-    named_has _ (make c.in-Ok-Make.words.number) named (λ (k : Command). OnFiles k (g.D.Desk.outside c.args.desk.now).files (λ files. CreatesBy k c.perform-in-Ok-Make.result files new.file.stage)) c.perform-in-Ok-Make.ensures.begun
-
-pub returns-in-Ok-Make-clause-reads : goal.returns-in-Ok-Make-clause-reads
-returns-in-Ok-Make-clause-reads g c =
-    let named = c.in-Ok-Make.ensures.ok ∙ ap (λ (a : Asked). Some (command_asked a)) c.in-Ok-Make.field-0-is in
-    let new = g.D.Desk.outside c.perform-in-Ok-Make.new.desk in
-    named_has _ (make c.in-Ok-Make.words.number) named (λ (k : Command). OnFiles k (g.D.Desk.outside c.args.desk.now).files (λ files. ReadsBy k c.perform-in-Ok-Make.result files new.image new.file.stage)) c.perform-in-Ok-Make.ensures.reads
-
-pub returns-in-Ok-Make-clause-output : goal.returns-in-Ok-Make-clause-output
-returns-in-Ok-Make-clause-output g c = λ opened.
-    let named = c.in-Ok-Make.ensures.ok ∙ ap (λ (a : Asked). Some (command_asked a)) c.in-Ok-Make.field-0-is in
-    let new = g.D.Desk.outside c.perform-in-Ok-Make.new.desk in
-    named_has _ (make c.in-Ok-Make.words.number) named (λ (k : Command). OnFiles k (g.D.Desk.outside c.args.desk.now).files (λ files. IfSome new.file.bytes (IsHeld c.perform-in-Ok-Make.result k files new.image.rest))) (c.perform-in-Ok-Make.ensures.output opened)
+pub returns-in-Ok-Cut-clause-performs : goal.returns-in-Ok-Cut-clause-performs
+returns-in-Ok-Cut-clause-performs g c = as_named _ _ _ _ _ (c.in-Ok-Cut.ensures.ok ∙ ap (λ (a : Asked). Some (command_asked a)) c.in-Ok-Cut.field-0-is) c.performed-in-Ok-Cut.ensures.performs

@@ -33,7 +33,7 @@ next_plane-requires-clause-can c = λ wanted.
     let lt : c.loop-k.k < length p.images = rw c.images-images.ensures at c.loop-k-test.true in
     let there = slice_get-get_or p.images c.loop-k.k c.index-images-k.result lt in
     let wants = rw c.inputs-inputs.ensures at (c.is_needed-wanted.ensures.yes wanted) in
-    rw (c.size-size.ensures, c.deref.ensures.value, c.images-images.ensures)
+    rw (c.size-size.ensures, c.as_slice.ensures.value, c.images-images.ensures)
     (can_be p _ c.args.until.now c.loop-k.planes.items c.loop-k.k d c.law.ensures c.requires.needs there c.loop-k.invariant wants)
 
 pub loop-k-preserved : goal.loop-k-preserved
@@ -47,7 +47,7 @@ loop-k-preserved c =
     let round = round_of p.size c.args.frames.now in
     let types = all_types p.inputs (take (k + 1) p.images) in
     let one_each = (round_is p c.args.frames.now c.law.ensures c.requires.frames).one_each in
-    let plane = rw (c.size-size.ensures, c.deref.ensures.value, c.images-images.ensures) at c.in_ok-plane.ensures in
+    let plane = rw (c.size-size.ensures, c.as_slice.ensures.value, c.images-images.ensures) at c.in_ok-plane.ensures in
     let count : length c.inputs-inputs.result.now ≡ length p.inputs = ap length c.inputs-inputs.ensures in
     let does : IsTrue c.is_needed-wanted.result → IsNeeded until (length p.inputs + k + 1) (length p.inputs + k) = λ wanted. subst (λ n. IsNeeded until (n + k + 1) (n + k)) count (c.is_needed-wanted.ensures.yes wanted) in
     let has : IsNeeded until (length p.inputs + k + 1) (length p.inputs + k) → IsTrue c.is_needed-wanted.result = λ wants. c.is_needed-wanted.ensures.no (subst (λ n. IsNeeded until (n + k + 1) (n + k)) (sym count) wants) in

@@ -14,12 +14,11 @@ loop-y-preserved g c =
     let grown : c.extend_from_slice.new.self.items ≡ c.loop-y.elements.items ++ c.element_row.new.to = search rules in
     let more : map g.T.Element.worth c.extend_from_slice.new.self.items ≡ map g.T.Element.worth c.loop-y.elements.items ++ map g.T.Element.worth c.element_row.new.to = ap (map g.T.Element.worth) grown ∙ map-append g.T.Element.worth c.loop-y.elements.items c.element_row.new.to in
     let row : length (map g.T.Element.worth c.element_row.new.to) ≡ c.args.size.width = c.element_row.ensures.whole in
-    let before : length (map g.T.Element.worth c.loop-y.elements.items) ≡ c.loop-y.y * c.args.size.width = c.loop-y.invariant.so_many in
+    let before : length (map g.T.Element.worth c.loop-y.elements.items) ≡ c.loop-y.y * c.args.size.width = c.loop-y.invariant.count in
     record {
-      row = search rules;
       scratch = search rules;
       part = search rules;
-      so_many = ap length more ∙ longer (map g.T.Element.worth c.loop-y.elements.items) (map g.T.Element.worth c.element_row.new.to) c.loop-y.y c.args.size.width before row;
+      count = ap length more ∙ longer (map g.T.Element.worth c.loop-y.elements.items) (map g.T.Element.worth c.element_row.new.to) c.loop-y.y c.args.size.width before row;
       samples = rw more (row_more size (value size (all_shown size c.args.planes.now) (tree_of c.args.e.now)) (map g.T.Element.worth c.loop-y.elements.items) (map g.T.Element.worth c.element_row.new.to) c.loop-y.y before c.element_row.ensures c.loop-y.invariant.samples);
     }
 
@@ -27,5 +26,5 @@ pub returns-clause-value : goal.returns-clause-value
 returns-clause-value g c =
     let size = size_of c.args.size in
     let rows : c.loop-y.y ≡ c.args.size.height = omega (arith, c.loop-y.auto.y-end, c.loop-y-test.false) in
-    let whole : length (map g.T.Element.worth c.loop-y.elements.items) ≡ area size = c.loop-y.invariant.so_many ∙ ap (λ n. n * c.args.size.width) rows ∙ mul_comm c.args.size.height c.args.size.width in
+    let whole : length (map g.T.Element.worth c.loop-y.elements.items) ≡ area size = c.loop-y.invariant.count ∙ ap (λ n. n * c.args.size.width) rows ∙ mul_comm c.args.size.height c.args.size.width in
     shown_is size (value size (all_shown size c.args.planes.now) (tree_of c.args.e.now)) (map g.T.Element.worth c.loop-y.elements.items) whole c.loop-y.invariant.samples

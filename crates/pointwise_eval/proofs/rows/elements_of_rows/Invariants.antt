@@ -8,9 +8,8 @@ use Rattle.pointwise_eval.proofs.rows.elements_of_rows.Given as goal
 
 abbrev pub invariant-loop-y : goal.invariant-loop-y
 invariant-loop-y g l = record {
-  row : length l.row ≡ length l.fn.row;
   scratch : length l.scratch ≡ length l.fn.scratch;
   part : length l.part ≡ length l.fn.part;
-  so_many : length (map g.T.Element.worth l.elements.items) ≡ l.y * l.size.width;
+  count : length (map g.T.Element.worth l.elements.items) ≡ l.y * l.size.width;
   samples : AreSamples (size_of l.size) (value (size_of l.size) (all_shown (size_of l.size) l.planes) (tree_of l.e)) (map g.T.Element.worth l.elements.items);
 }

@@ -3,7 +3,7 @@ use Rattle.dk_base.specs.FrameSizes.{size_of}
 use Rattle.pgm_rounds.specs.declared.round.Round.{Round}
 use Rattle.stimulus.specs.Given.{rounds_of}
 use Rattle.trace_bench.specs.Traces.{TracesRun, EndsTrace}
-use Rattle.dk_top.proofs.TraceLemmas.{can_be_traced, trace_stops, held_run, held_stop, held_cut}
+use Rattle.dk_top.proofs.TraceLemmas.{can_be_traced, trace_stops, stored_run, stored_stop, stored_cut}
 use Rattle.dk_top.proofs.commands.tracing.write_trace.Goals as goal
 
 pub returns-in-Ok-run_trace-clause-verdict : goal.returns-in-Ok-run_trace-clause-verdict
@@ -21,7 +21,7 @@ returns-in-Ok-run_trace-clause-output g c = λ opened.
     let input = c.args.given.now.input in
     let mid = g.D.Desk.outside c.create.new.self in
     let new = g.D.Desk.outside c.run_trace.new.desk in
-    held_run c.args.drive m (size_of input.size) input.rounds.items c.law.ensures.one_valuation c.law.ensures.one_next mid new c.in-Ok.ensures.empty
+    stored_run c.args.drive m (size_of input.size) input.rounds.items c.law.ensures.one_valuation c.law.ensures.one_next mid new c.in-Ok.ensures.empty
     (subst (λ (rs : List Round). TracesRun m c.args.drive (rounds_of rs) mid new) c.deref.ensures.value c.in-Ok-run_trace.ensures.ok)
 
 pub returns-in-Err-Stopped-clause-verdict : goal.returns-in-Err-Stopped-clause-verdict
@@ -40,7 +40,7 @@ returns-in-Err-Stopped-clause-output g c = λ opened.
     let input = c.args.given.now.input in
     let mid = g.D.Desk.outside c.create.new.self in
     let new = g.D.Desk.outside c.run_trace.new.desk in
-    held_stop c.args.drive m (size_of input.size) input.rounds.items c.law.ensures.one_valuation c.law.ensures.one_next mid new c.in-Ok.ensures.empty c.in-Err-Stopped.stop
+    stored_stop c.args.drive m (size_of input.size) input.rounds.items c.law.ensures.one_valuation c.law.ensures.one_next mid new c.in-Ok.ensures.empty c.in-Err-Stopped.stop
     (subst (λ e. EndsTrace m c.args.drive (rounds_of input.rounds.items) e mid new) c.in-Err-Stopped.field-0-is
     (subst (λ (rs : List Round). EndsTrace m c.args.drive (rounds_of rs) c.in-Err-Stopped.field-0 mid new) c.deref.ensures.value c.in-Err-Stopped.ensures.end))
 
@@ -50,6 +50,6 @@ returns-in-Err-Write-clause-output g c = λ opened.
     let input = c.args.given.now.input in
     let mid = g.D.Desk.outside c.create.new.self in
     let new = g.D.Desk.outside c.run_trace.new.desk in
-    held_cut c.args.drive m (size_of input.size) input.rounds.items c.law.ensures.one_valuation c.law.ensures.one_next mid new c.in-Ok.ensures.empty
+    stored_cut c.args.drive m (size_of input.size) input.rounds.items c.law.ensures.one_valuation c.law.ensures.one_next mid new c.in-Ok.ensures.empty
     (subst (λ e. EndsTrace m c.args.drive (rounds_of input.rounds.items) e mid new) c.in-Err-Write.field-0-is
     (subst (λ (rs : List Round). EndsTrace m c.args.drive (rounds_of rs) c.in-Err-Write.field-0 mid new) c.deref.ensures.value c.in-Err-Write.ensures.end))

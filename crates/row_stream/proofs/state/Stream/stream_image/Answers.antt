@@ -23,8 +23,7 @@ returns-in-Err-Raster-clause-err g c =
     let kind = kind_of old.format in
     let header = c.args.header.now in
     let before = g.D.Desk.outside c.args.desk.now in
-    let now = g.D.Desk.outside c.stream_rows.new.desk in
-    (
+    let now = g.D.Desk.outside c.stream_rows.new.desk in (
       c.in-Err-Raster.fault,
       subst (λ z. EndsRows kind old.sim.netlist header z old.sim.contents old.line before now) c.in-Err-Raster.field-0-is c.in-Err-Raster.ensures.err,
       λ offset bytes h j. c.raster_fault.ensures old.bits offset bytes header h j,

@@ -6,7 +6,7 @@ use Rattle.dk_endings.specs.declared.ending.Ending.TheVariants as ending
 use Rattle.dk_top.specs.Simulation.{drive_of}
 use Rattle.dk_top.specs.Verdict.{IsSimAnswer, bytes_of}
 use Rattle.dk_top.specs.State.{IsPrefix, NotesSim, AsksWhereModule}
-use Rattle.dk_top.proofs.SimReads.{for_clocks, of_input, held_sim}
+use Rattle.dk_top.proofs.SimReads.{for_clocks, of_input, stored_sim}
 use Rattle.dk_top.proofs.LongLemmas.{no_text, no_images, both_left}
 use Rattle.dk_top.proofs.commands.simulating.SimWordsWork.perform.Goals as goal
 
@@ -36,7 +36,7 @@ returns-in-Ok-write_file-clause-output g c = λ opened.
     let given = c.in-Ok.given in
     let d : Drive = c.drive_for-drive.result in
     let same : d ≡ drive_of w.clocks w.fill w.hold = c.drive_for-drive.ensures.is in
-    held_sim _ w.verilog.now w.image.now d (drive_of w.clocks w.fill w.hold) given.module (size_of given.input.size) given.input.rounds.items _ c.in-Ok-pictures.output.items (λ written whole. written ≡ whole) same c.in-Ok.ensures.input c.in-Ok-pictures.ensures.only_file
+    stored_sim _ w.verilog.now w.image.now d (drive_of w.clocks w.fill w.hold) given.module (size_of given.input.size) given.input.rounds.items _ c.in-Ok-pictures.output.items (λ written whole. written ≡ whole) same c.in-Ok.ensures.input c.in-Ok-pictures.ensures.only_file
     (subst (λ bytes. IfSome (g.D.Desk.outside c.write_file.new.desk).file.bytes (λ written. written ≡ bytes)) c.deref.ensures.value c.in-Ok-write_file.ensures.whole)
 
 pub returns-in-Ok-write_file-clause-notes : goal.returns-in-Ok-write_file-clause-notes
@@ -76,7 +76,7 @@ returns-clause-output g c = λ opened.
     let given = c.in-Ok.given in
     let d : Drive = c.drive_for-drive.result in
     let same : d ≡ drive_of w.clocks w.fill w.hold = c.drive_for-drive.ensures.is in
-    held_sim _ w.verilog.now w.image.now d (drive_of w.clocks w.fill w.hold) given.module (size_of given.input.size) given.input.rounds.items _ c.in-Ok-pictures.output.items IsPrefix same c.in-Ok.ensures.input c.in-Ok-pictures.ensures.only_file
+    stored_sim _ w.verilog.now w.image.now d (drive_of w.clocks w.fill w.hold) given.module (size_of given.input.size) given.input.rounds.items _ c.in-Ok-pictures.output.items IsPrefix same c.in-Ok.ensures.input c.in-Ok-pictures.ensures.only_file
     (subst (λ bytes. IfSome (g.D.Desk.outside c.write_file.new.desk).file.bytes (λ written. IsPrefix written bytes)) c.deref.ensures.value (c.in-Err-write_file.ensures.prefix opened))
 
 pub returns-in-Err-pictures-clause-too_long : goal.returns-in-Err-pictures-clause-too_long

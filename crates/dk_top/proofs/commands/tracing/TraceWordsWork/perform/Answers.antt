@@ -6,7 +6,7 @@ use Rattle.dk_desk.specs.Calls.{IsIfTold}
 use Rattle.stimulus.specs.declared.drive.Drive.{Drive}
 use Rattle.dk_top.specs.Tracing.{trace_drive, IsTraceAnswer}
 use Rattle.dk_top.proofs.SimReads.{for_trace, of_input}
-use Rattle.dk_top.proofs.TraceLemmas.{held_trace, stay_others, unread_begun, driven_begun}
+use Rattle.dk_top.proofs.TraceLemmas.{stored_trace, stay_others, unread_begun, driven_begun}
 use Rattle.dk_top.proofs.LongLemmas.{no_text, no_images, both_left}
 use Rattle.dk_top.proofs.commands.tracing.TraceWordsWork.perform.Goals as goal
 
@@ -39,7 +39,7 @@ returns-clause-output g c = λ opened.
     let given = c.in-Ok.given in
     let d : Drive = c.drive_for-drive.result in
     let same : d ≡ trace_drive w.clocks = c.drive_for-drive.ensures.is in
-    held_trace _ w.verilog.now w.image.now d (trace_drive w.clocks) given.module (size_of given.input.size) given.input.rounds.items _ c.traced.result same c.in-Ok.ensures.input (c.traced.ensures.output opened)
+    stored_trace _ w.verilog.now w.image.now d (trace_drive w.clocks) given.module (size_of given.input.size) given.input.rounds.items _ c.traced.result same c.in-Ok.ensures.input (c.traced.ensures.output opened)
 
 pub returns-clause-files : goal.returns-clause-files
 returns-clause-files g c = stay_others c.args.self.now.vcd.now _ _ _ (ap (λ (o : Outside). o.files) c.in-Ok.ensures.only) c.traced.ensures.files

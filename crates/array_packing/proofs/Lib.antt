@@ -1,0 +1,7 @@
+pub mod Parts
+pub mod Simulating
+pub mod Inner
+pub mod Whole
+pub mod Seen
+pub mod Reached
+pub mod Places

@@ -1,9 +1,0 @@
-use Rattle.std.proofs.Common.{take}
-use Rattle.std.specs.Prelude.{All}
-use Rattle.wiring.specs.declared.netlist.Assign.{Assign}
-use Rattle.wiring.specs.Netlist.{netlist_of}
-use Rattle.module_pass.specs.Packing.{IsAssigned}
-use Rattle.module_pass.proofs.check.are_assigned.Given as goal
-
-abbrev pub invariant-loop-place : goal.invariant-loop-place
-invariant-loop-place l = All (λ (a : Assign). IsAssigned (netlist_of l.m) l.slots a.target a.right) (take l.place l.assigns)

@@ -1,6 +1,0 @@
-use Rattle.std.proofs.Common.{rules}
-use Rattle.module_pass.specs.Packing.{as_slice}
-use Rattle.module_pass.proofs.check.is_slice.Goals as goal
-
-pub returns : goal.returns
-returns c h = as_slice c.in-Slice.word c.in-Slice.top (search rules) (search rules) (search rules) (search rules)

@@ -1,6 +1,0 @@
-use Rattle.std.proofs.Common.{sym, ◌∙◌}
-use Rattle.wiring.proofs.Same.{same_right}
-use Rattle.module_pass.proofs.check.same_right.Goals as goal
-
-pub returns : goal.returns
-returns c h = same_right c.args.a.now c.args.b.now (sym c.eq.ensures ∙ h)

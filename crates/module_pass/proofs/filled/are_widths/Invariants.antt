@@ -1,6 +1,0 @@
-use Rattle.std.proofs.Common.{◌≡◌, take}
-use Rattle.module_pass.specs.Packing.{widths_of}
-use Rattle.module_pass.proofs.filled.are_widths.Given as goal
-
-abbrev pub invariant-loop-k : goal.invariant-loop-k
-invariant-loop-k l = take l.k l.reached ≡ widths_of (take l.k l.arrays)

@@ -1,5 +1,0 @@
-use Rattle.module_pass.proofs.Seen.{contents_seen}
-use Rattle.module_pass.proofs.laws.contents_seen_law.Goals as goal
-
-pub returns : goal.returns
-returns c new old slots filled x y fit_x fit_y same = contents_seen new old slots filled x y fit_x fit_y same

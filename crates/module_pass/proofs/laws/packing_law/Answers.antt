@@ -1,5 +1,0 @@
-use Rattle.module_pass.proofs.Simulating.{packed_simulates}
-use Rattle.module_pass.proofs.laws.packing_law.Goals as goal
-
-pub returns : goal.returns
-returns c new old slots order is old_rules rules ordered = packed_simulates new old slots is old_rules rules order ordered
