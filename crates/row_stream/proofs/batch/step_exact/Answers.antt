@@ -1,4 +1,4 @@
-use Rattle.std.proofs.Common.{◌∙◌, map}
+use Rattle.std.proofs.Common.{◌∙◌, length, map}
 use Rattle.row_stream.specs.Standing.{pixel_clock}
 use Rattle.row_stream.proofs.Batches.{batch_fits, dins_total, outs_total, ran_runs, ran_shown, no_stop, each_fits, douts_fit, all_small}
 use Rattle.row_stream.proofs.Keeping.{lasts_through}
