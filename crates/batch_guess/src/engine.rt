@@ -32,6 +32,8 @@ pub struct Engine {
 #[derive(Clone, Copy)]
 pub(crate) struct Access {
     pub(crate) written: Written,
+    // The slot of what is read, and the index.
+    pub(crate) target: usize,
     pub(crate) read: Atom<usize>,
     pub(crate) put: WordPut,
     // The choice by which it is written, if it is.
@@ -90,7 +92,7 @@ impl Engine {
     }
 
     // The right side by which an atom is made.
-    pub(crate) fn right_of(&self, a: &Atom<usize>) -> Option<Right<usize, usize>> {
+    fn right_of(&self, a: &Atom<usize>) -> Option<Right<usize, usize>> {
         match a {
             Atom::Net(slot) => match self.makers.get(*slot) {
                 Some(Some(maker)) => match self.code.instructions.get(*maker) {
@@ -101,6 +103,12 @@ impl Engine {
             },
             Atom::Constant(_) => None,
         }
+    }
+
+    // The right side by which the next value of a register is made.
+    pub(crate) fn next_right(&self, register: usize) -> Option<Right<usize, usize>> {
+        let next = self.code.nexts.get(register)?;
+        self.right_of(next)
     }
 
     // The contents of the register that a choice keeps.
@@ -119,11 +127,12 @@ impl Engine {
         array: usize,
         written: Written,
     ) -> Option<Access> {
-        let read = self.code.reads.get(array)?.index;
+        let read = self.code.reads.get(array)?;
         let put = *self.code.puts.get(array)?;
         let mut access = Access {
             written,
-            read,
+            target: read.target,
+            read: read.index,
             put,
             choice: None,
             copy: 0,

@@ -169,6 +169,7 @@ fn fill_choice<L: Lane>(to: &mut [L], writes: &Writes<'_>, words: &mut [u64]) {
 }
 
 // The numbers of an array that is written by a copying register, in the lanes of nearly all designs.
+#[derive(Drop)]
 struct CopyRows<'a, L> {
     read: &'a [u16],
     index: &'a [u16],

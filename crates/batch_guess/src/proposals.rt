@@ -123,11 +123,11 @@ fn fill_access<L: Lane>(to: &mut [L], rows: &[Row], access: &Access, words: &mut
     fill_written(to, &writes, words);
 }
 
-// The spare row in the lane of a slot becomes what is read of words that are written clock by clock.
-pub(crate) fn propose_access(table: &mut Table, slot: usize, access: &Access, words: &mut [u64])
+// The spare row in the lane of what is read becomes that of words that are written clock by clock.
+pub(crate) fn propose_access(table: &mut Table, access: &Access, words: &mut [u64])
     ensures { IsRefilled table.old table.new }
 {
-    match lane_in(&table.rows, slot) {
+    match lane_in(&table.rows, access.target) {
         Size::Narrow => fill_access(&mut table.narrow, &table.rows, access, words),
         Size::Middle => fill_access(&mut table.middle, &table.rows, access, words),
         Size::Wide => fill_access(&mut table.room, &table.rows, access, words),

@@ -72,10 +72,7 @@ impl RowGuess {
     fn load(&mut self, stored: &Stored, register: usize) -> bool
         ensures { KeepsCode self.old self.new }
     {
-        let Some(next) = self.engine.code.nexts.get(register) else {
-            return false;
-        };
-        let Some(choice) = self.engine.right_of(next) else {
+        let Some(choice) = self.engine.next_right(register) else {
             return false;
         };
         let slot = self.engine.slot_of(register);
@@ -103,9 +100,6 @@ impl RowGuess {
     fn read_written(&mut self, stored: &Stored, array: usize, written: Written) -> bool
         ensures { KeepsCode self.old self.new }
     {
-        let Some(read) = self.engine.code.reads.get(array) else {
-            return false;
-        };
         let Some(access) = self.engine.access_at(stored, array, written) else {
             return false;
         };
@@ -115,10 +109,9 @@ impl RowGuess {
         let Some(copy) = self.hints.words.get_mut(array) else {
             return false;
         };
-        let slot = read.target;
         copy_words(copy, words);
-        propose_access(&mut self.table, slot, &access, copy);
-        self.offer(slot)
+        propose_access(&mut self.table, &access, copy);
+        self.offer(access.target)
     }
 
     // The clocks of a piece that are no held ones are counted.

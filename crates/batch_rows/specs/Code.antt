@@ -53,7 +53,7 @@ pub record CanRun (widths : List ℕ) (code : List Instruction) (sizes : List Si
 
 -- the first k instructions were run over rows of this many places: their equations hold, each row is in a lane that holds its slot, and
 -- all values fit
-pub record HaveRun (widths : List ℕ) (code : List Instruction) (count : ℕ) (rows : List Row) (k : ℕ) : Type 0 where
-  pub rows : AreRows widths count (values_of rows)
-  pub lanes : InLanes widths rows
-  pub hold : AllHold widths count (values_of rows) k code
+pub record HaveRun (widths : List ℕ) (code : List Instruction) (count : ℕ) (made : List Row) (k : ℕ) : Type 0 where
+  pub rows : AreRows widths count (values_of made)
+  pub lanes : InLanes widths made
+  pub hold : AllHold widths count (values_of made) k code

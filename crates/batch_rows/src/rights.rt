@@ -177,7 +177,7 @@ pub fn atom_numbers<'a>(
 }
 
 /// Where an atom has no row in this lane, a spare row becomes its row.
-#[tactic(auto, using(crate::proofs::LaneRows::first_part))]
+#[tactic(auto, using(lane_rows::proofs::LaneRows::first_part))]
 pub fn note_atom<'a, L: Lane>(
     rows: &'a [Row],
     spare: &mut [L],

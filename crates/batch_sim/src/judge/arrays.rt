@@ -62,6 +62,7 @@ pub fn are_same<V: Lane>(a: &[u64], b: &[V]) -> bool
 }
 
 // The numbers over which an array is judged, where those of its indexes are in one lane, and those of its value and target.
+#[derive(Drop)]
 struct LaneNumbers<'a, I, V> {
     read: &'a [I],
     index: &'a [I],

@@ -1,7 +1,7 @@
 use Rattle.std.proofs.Common.{◌≡◌, ◌≤◌, length}
 use Rattle.batch_sim.specs.Called.{Came}
 use Rattle.batch_sim.specs.Pieces.{clocks_of}
-use Rattle.batch_sim.proofs.pieces.Batches.step_pieces.Given as goal
+use Rattle.batch_sim.proofs.batches.Batches.step_pieces.Given as goal
 
 abbrev pub invariant-loop-piece : goal.invariant-loop-piece
 invariant-loop-piece l = record {

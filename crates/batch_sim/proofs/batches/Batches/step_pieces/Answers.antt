@@ -1,5 +1,5 @@
 use Rattle.batch_sim.proofs.Clockwise.{came_rest}
-use Rattle.batch_sim.proofs.pieces.Batches.step_pieces.Goals as goal
+use Rattle.batch_sim.proofs.batches.Batches.step_pieces.Goals as goal
 
 pub returns-clause-ok : goal.returns-clause-ok
 returns-clause-ok c =

@@ -1,5 +1,5 @@
 use Rattle.batch_guess.specs.Guess.{KeepsCode}
-use Rattle.batch_guess.proofs.steps.RowGuess.mend_all.Given as goal
+use Rattle.batch_guess.proofs.guess.RowGuess.guess_all.Given as goal
 
 abbrev pub invariant-loop-place : goal.invariant-loop-place
 invariant-loop-place l = KeepsCode l.fn.self l.self
