@@ -1,8 +1,6 @@
 // How many levels of operators a form adds to those of its operands.
 
-use body_levels::{
-    binary_levels, conversion_levels, scaling_levels, select_levels, unary_levels,
-};
+use body_levels::{binary_levels, conversion_levels, scaling_levels, select_levels, unary_levels};
 use dk_base::{Binary, Conversion, Scaling};
 use dk_types::{TypedExpr, TypedNode};
 

@@ -152,14 +152,6 @@ creates_from name old before created e h = record {
   files = subst (λ z. IsIfTold created.files (with_created z created.file)) (ap (λ (o : Outside). o.files) e) h.files;
 }
 
-pub lasts_after : (kind : Kind) (m : Netlist) (from to : Contents) (old new : Line) (before now : Outside) → Starts m from → Goes kind m (reset_clock ∷ []) from to old new before now → Lasts m to
-lasts_after kind m from to old new before now s g = by g.shots g.runs
-  where
-    by : (shots : List Snapshot) → Runs m from (reset_clock ∷ []) shots to → Lasts m to
-    by [] r = absurd r
-    by (t ∷ []) r = subst (λ (z : Contents). Lasts m z) r.2 (s.lasts t r.0 r.1)
-    by (t ∷ u ∷ shots) r = absurd r.2
-
 -- ---- the lines of an image as samples
 
 abbrev rows_are : (header : Header) (rows : ℕ) (raster : List ℕ) → AreRows header rows raster → AreRows (record header { height = rows }) rows raster

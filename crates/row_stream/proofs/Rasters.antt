@@ -140,10 +140,3 @@ streams_none kind m header at line o = record {
 pub both : (m : Netlist) (cs ds : List Clock) → AllByRecursion (IsPixelClock m) cs → AllByRecursion (IsPixelClock m) ds → AllByRecursion (IsPixelClock m) (cs ++ ds)
 both m [] ds h g = g
 both m (c ∷ cs) ds h g = (h.0, both m cs ds h.1 g)
-
--- still no clock stops
-pub still_lasts : (kind : Kind) (m : Netlist) (f : ℕ → ℕ) (n : ℕ) (from to : Contents) (old new : Line) (before now : Outside) → ((k : ℕ) → k < n → Fit (din_widths m) (f k ∷ [])) → Lasts m from → Goes kind m (pixel_clocks f n) from to old new before now → Lasts m to
-still_lasts kind m f n from to old new before now fit h g = record {
-  on = λ clocks shots end all runs c pixel.
-      h.on (pixel_clocks f n ++ clocks) (g.shots ++ shots) end (both m (pixel_clocks f n) clocks (all_pixels m f 0 n (λ k l. fit k (omega (arith, l)))) all) (runs_join m (pixel_clocks f n) clocks from to end g.shots shots g.runs runs) c pixel;
-}

@@ -152,15 +152,6 @@ stop_within m [] from shots x i h = absurd h
 stop_within m (c ∷ cs) from [] x i h = omega arith
 stop_within m (c ∷ cs) from (s ∷ shots) x i h = let l : length shots < length cs = stop_within m cs h.0 shots x i h.2 in omega (arith, l)
 
-pub stop_places : (m : Netlist) (enables : List Bool) (dins : List ℕ) (from to : Contents) (old outs : List Out) (stop : BatchStop) (w : ℕ) → BatchStops m (batch_clocks m enables dins) from to old outs stop → length outs ≡ length enables * w → stop.done * w ≤ length outs
-stop_places m enables dins from to old outs stop w h n =
-    let l : stop.done < length enables = subst (λ k. k < length enables) h.done (subst (λ k. length h.shots < k) (clocks_count (length (din_widths m)) enables dins) (stop_within m (batch_clocks m enables dins) from h.shots stop.range.array stop.range.index h.stops)) in
-    let p : stop.done * w + w ≤ length enables * w = place_within stop.done (length enables) w l in
-    omega (arith, p, n)
-
-pub stops_batch : (m : Netlist) (clocks : List Clock) (from to : Contents) (old outs : List Out) (stop : BatchStop) → BatchStops m clocks from to old outs stop → StopsBatch m clocks from stop
-stops_batch m clocks from to old outs stop h = record { shots = h.shots; done = h.done; stops = h.stops }
-
 pub done_within : (m : Netlist) (enables : List Bool) (dins : List ℕ) (from : Contents) (stop : BatchStop) → StopsBatch m (batch_clocks m enables dins) from stop → stop.done < length enables
 done_within m enables dins from stop h =
     subst (λ k. k < length enables) h.done (subst (λ k. length h.shots < k) (clocks_count (length (din_widths m)) enables dins) (stop_within m (batch_clocks m enables dins) from h.shots stop.range.array stop.range.index h.stops))
