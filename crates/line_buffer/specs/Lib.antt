@@ -6,6 +6,5 @@ pub mod Fills
 pub mod Buffers
 pub mod Lines
 pub mod SharedCounters
-pub mod AddedLines
 pub mod Chains
 pub mod Rings
