@@ -1,7 +1,8 @@
 #!/usr/bin/env python3
 """Counts crates: the longest chain of dependencies, the large crates, the functions whose contract states only safety, and how long contracts and
-lists of arguments are. Compares the first three with what docs/ARCHITECTURE.md and docs/PROMISES.md say of them, and refuses a function of more than
-six arguments, but for those of the trait `BufferForm`, whose callers give each one. Prints each difference, and then ends with status 1.
+lists of arguments are. Compares the first three, and the number of functions of more than six arguments, with what docs/ARCHITECTURE.md and
+docs/PROMISES.md say of them. The methods of the trait `BufferForm` are left out of that number: their callers give each argument. Prints each
+difference, and then ends with status 1.
 
 usage: tests/sizes.py [--print]
 
@@ -141,7 +142,10 @@ def main():
         print(f"{len(many)} functions of {MANY_CLAUSES} clauses and more", *many, sep="\n  ")
         print(f"{each:.2f} clauses a function; {wide:.0f} in 100 clauses have a line of more than {WIDE} columns")
         return 0
-    wrong = list(crowded)
+    wrong = []
+    more = f"{len(crowded)} functions have more than six arguments"
+    if more not in (TOP / "docs/ARCHITECTURE.md").read_text():
+        wrong.append(f"docs/ARCHITECTURE.md: {more}")
     if len(chain) > MOST_CHAIN:
         wrong.append(f"a chain of {len(chain)} crates: {', '.join(chain)}")
     said = re.search(r"The crates above that size now are ([a-z_, ]+?)(?: and ([a-z_]+))?\.", (TOP / "docs/ARCHITECTURE.md").read_text())

@@ -2,6 +2,7 @@ pub mod Arrays
 pub mod Called
 pub mod Checked
 pub mod Engine
+pub mod Held
 pub mod Pieces
 pub mod Shown
-pub mod Stored
+pub mod Table

@@ -3,10 +3,11 @@
 
 mod batches;
 mod each;
+mod held;
+mod inputs;
 mod judge;
 mod pause;
 mod pieces;
 mod rows;
-mod stored;
 
 pub use batches::{Batches, Stop};

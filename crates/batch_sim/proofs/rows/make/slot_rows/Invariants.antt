@@ -1,0 +1,11 @@
+use Rattle.std.proofs.Common.{◌≡◌, length, replicate}
+use Rattle.batch_rows.specs.Values.{values_of}
+use Rattle.batch_rows.specs.LaneSizes.{InLanes}
+use Rattle.batch_sim.proofs.rows.make.slot_rows.Given as goal
+
+abbrev pub invariant-loop-slot : goal.invariant-loop-slot
+invariant-loop-slot l = record {
+  count : length l.rows.items ≡ l.slot;
+  values : values_of l.rows.items ≡ replicate l.slot (replicate l.long 0);
+  lanes : InLanes l.widths l.rows.items;
+}

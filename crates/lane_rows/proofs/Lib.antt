@@ -1,2 +1,0 @@
-pub mod LaneRows
-pub mod TakenBack
