@@ -50,7 +50,6 @@ docs/BUILDING.md
 docs/PROMISES.md
 crates/base_tests/README.md
 crates/batch_code/README.md
-crates/batch_guess/README.md
 crates/batch_plan/README.md
 crates/batch_rows/README.md
 crates/batch_sim/README.md
@@ -82,7 +81,6 @@ crates/front_tests/README.md
 crates/latency_report/README.md
 crates/made_program/README.md
 crates/circuit/README.md
-crates/lane_rows/README.md
 crates/line_buffer/README.md
 crates/net_build/README.md
 crates/net_build_ring/README.md
