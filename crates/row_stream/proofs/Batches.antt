@@ -1,8 +1,7 @@
 -- The clocks of a line in one call.
-use Rattle.std.proofs.Common.{◌≡◌, ℕ, zero, suc, ◌+◌, ◌*◌, ◌^◌, ◌<◌, ◌≤◌, Bool, true, List, [], ◌∷◌, ◌++◌, length, take, drop, map, replicate, refl, ap, sym, subst, ◌∙◌, arith, Some}
+use Rattle.std.proofs.Common.{◌≡◌, ℕ, zero, suc, ◌+◌, ◌*◌, ◌^◌, ◌<◌, ◌≤◌, Bool, true, List, [], ◌∷◌, ◌++◌, length, take, map, replicate, refl, ap, sym, subst, ◌∙◌, arith, Some}
 use Rattle.std.specs.Prelude.{All, ◌/◌, slice_get, slice_index}
 use Rattle.std.proofs.lemmas.List.{length-map, length-replicate, length-take-le}
-use Rattle.std.proofs.Math.Seq.{take-append_seam}
 use Rattle.std.specs.List.{AllByRecursion, range_with_len}
 use Rattle.wiring.specs.declared.netlist.Net.{Net}
 use Rattle.wiring.specs.Netlist.{Netlist, net_width, dout_net, IsDeclared}
@@ -146,8 +145,13 @@ enables_first front all width n count f e l c = f ∙ ap (λ z. take n z) e ∙ 
 
 -- the first of these are as many
 pub took_count : {X : Type 0} (n : ℕ) (xs ys : List X) → ys ≡ take n xs → n ≤ length xs → length ys ≡ n
-took_count n xs ys is l = ap (λ (z : List X). length z) is ∙ length-take-le n xs l
+took_count {X = X} n xs ys is l = ap (λ (z : List X). length z) is ∙ length-take-le n xs l
 
 -- what was written into the first places of a list
-pub in_front : {X : Type 0} (n : ℕ) (xs ws : List X) → length ws ≡ n → take n (ws ++ drop n xs) ≡ ws
-in_front n xs ws is = ap (λ m. take m (ws ++ drop n xs)) (sym is) ∙ take-append_seam ws (drop n xs)
+first_places : {X : Type 0} (ws more : List X) (len : ℕ) → length ws ≤ len → take (length ws) (take len (ws ++ more)) ≡ ws
+first_places [] more len l = refl
+first_places (w ∷ ws) more zero l = absurd (omega (arith, l))
+first_places (w ∷ ws) more (suc len) l = ap (λ z. w ∷ z) (first_places ws more len (omega (arith, l)))
+
+pub in_front : {X : Type 0} (n len : ℕ) (ws more : List X) → length ws ≡ n → n ≤ len → take n (take len (ws ++ more)) ≡ ws
+in_front {X = X} n len ws more is = subst (λ k. k ≤ len → take k (take len (ws ++ more)) ≡ ws) is (first_places ws more len)

@@ -3,7 +3,7 @@ use Rattle.std.proofs.Common.{◌≡◌, ℕ, zero, suc, ◌+◌, ◌*◌, ◌^�
 use Rattle.std.specs.Prelude.{slice_get, vec_capacity}
 use Rattle.std.specs.List.{All}
 use Rattle.std.proofs.Math.Nat.{suc-mul}
-use Rattle.std.proofs.Math.Seq.{drop-nil, take-append_seam}
+use Rattle.std.proofs.Math.Seq.{drop-nil}
 use Rattle.std.proofs.lemmas.List.{map-append, take-append-drop, length-drop, length-take-le}
 use Rattle.std.proofs.lemmas.List.Elements.{All-append, All-nil}
 use Rattle.std.proofs.lemmas.Option.{slice_get_within, same_Some}
@@ -202,5 +202,10 @@ places_within (suc a) zero w l = absurd (omega (arith, l))
 places_within (suc a) (suc b) w l = let h : a * w ≤ b * w = places_within a b w (omega (arith, l)) in omega (arith, h)
 
 -- what was written into the first places of a list
-pub in_front : {X : Type 0} (n : ℕ) (xs ws : List X) → length ws ≡ n → take n (ws ++ drop n xs) ≡ ws
-in_front n xs ws is = ap (λ m. take m (ws ++ drop n xs)) (sym is) ∙ take-append_seam ws (drop n xs)
+first_places : {X : Type 0} (ws more : List X) (len : ℕ) → length ws ≤ len → take (length ws) (take len (ws ++ more)) ≡ ws
+first_places [] more len l = refl
+first_places (w ∷ ws) more zero l = absurd (omega (arith, l))
+first_places (w ∷ ws) more (suc len) l = ap (λ z. w ∷ z) (first_places ws more len (omega (arith, l)))
+
+pub in_front : {X : Type 0} (n len : ℕ) (ws more : List X) → length ws ≡ n → n ≤ len → take n (take len (ws ++ more)) ≡ ws
+in_front {X = X} n len ws more is = subst (λ k. k ≤ len → take k (take len (ws ++ more)) ≡ ws) is (first_places ws more len)
