@@ -1,7 +1,8 @@
 -- The clocks of a line in one call.
-use Rattle.std.proofs.Common.{◌≡◌, ℕ, zero, suc, ◌+◌, ◌*◌, ◌^◌, ◌<◌, ◌≤◌, Bool, true, List, [], ◌∷◌, ◌++◌, length, take, map, replicate, refl, ap, sym, subst, ◌∙◌, arith, Some}
+use Rattle.std.proofs.Common.{◌≡◌, ℕ, zero, suc, ◌+◌, ◌*◌, ◌^◌, ◌<◌, ◌≤◌, Bool, true, List, [], ◌∷◌, ◌++◌, length, take, drop, map, replicate, refl, ap, sym, subst, ◌∙◌, arith, Some}
 use Rattle.std.specs.Prelude.{All, ◌/◌, slice_get, slice_index}
 use Rattle.std.proofs.lemmas.List.{length-map, length-replicate, length-take-le}
+use Rattle.std.proofs.Math.Seq.{take-append_seam}
 use Rattle.std.specs.List.{AllByRecursion, range_with_len}
 use Rattle.wiring.specs.declared.netlist.Net.{Net}
 use Rattle.wiring.specs.Netlist.{Netlist, net_width, dout_net, IsDeclared}
@@ -148,10 +149,9 @@ pub took_count : {X : Type 0} (n : ℕ) (xs ys : List X) → ys ≡ take n xs �
 took_count {X = X} n xs ys is l = ap (λ (z : List X). length z) is ∙ length-take-le n xs l
 
 -- what was written into the first places of a list
-first_places : {X : Type 0} (ws more : List X) (len : ℕ) → length ws ≤ len → take (length ws) (take len (ws ++ more)) ≡ ws
-first_places [] more len l = refl
-first_places (w ∷ ws) more zero l = absurd (omega (arith, l))
-first_places (w ∷ ws) more (suc len) l = ap (λ z. w ∷ z) (first_places ws more len (omega (arith, l)))
+pub in_front : {X : Type 0} (n : ℕ) (ws more : List X) → length ws ≡ n → take n (ws ++ more) ≡ ws
+in_front n ws more is = ap (λ m. take m (ws ++ more)) (sym is) ∙ take-append_seam ws more
 
-pub in_front : {X : Type 0} (n len : ℕ) (ws more : List X) → length ws ≡ n → n ≤ len → take n (take len (ws ++ more)) ≡ ws
-in_front {X = X} n len ws more is = subst (λ k. k ≤ len → take k (take len (ws ++ more)) ≡ ws) is (first_places ws more len)
+-- what was written into all places of a vector
+pub in_place : {X : Type 0} (n : ℕ) (xs ws : List X) → n ≡ length xs → length ws ≡ length xs → take n (ws ++ drop (length ws) xs) ≡ ws
+in_place n xs ws is same = in_front n ws (drop (length ws) xs) (same ∙ sym is)

@@ -3,7 +3,7 @@ use Rattle.std.proofs.Common.{◌≡◌, ℕ, zero, suc, ◌+◌, ◌*◌, ◌^�
 use Rattle.std.specs.Prelude.{slice_get, vec_capacity}
 use Rattle.std.specs.List.{All}
 use Rattle.std.proofs.Math.Nat.{suc-mul}
-use Rattle.std.proofs.Math.Seq.{drop-nil}
+use Rattle.std.proofs.Math.Seq.{drop-nil, take-append_seam}
 use Rattle.std.proofs.lemmas.List.{map-append, take-append-drop, length-drop, length-take-le}
 use Rattle.std.proofs.lemmas.List.Elements.{All-append, All-nil}
 use Rattle.std.proofs.lemmas.Option.{slice_get_within, same_Some}
@@ -202,10 +202,9 @@ places_within (suc a) zero w l = absurd (omega (arith, l))
 places_within (suc a) (suc b) w l = let h : a * w ≤ b * w = places_within a b w (omega (arith, l)) in omega (arith, h)
 
 -- what was written into the first places of a list
-first_places : {X : Type 0} (ws more : List X) (len : ℕ) → length ws ≤ len → take (length ws) (take len (ws ++ more)) ≡ ws
-first_places [] more len l = refl
-first_places (w ∷ ws) more zero l = absurd (omega (arith, l))
-first_places (w ∷ ws) more (suc len) l = ap (λ z. w ∷ z) (first_places ws more len (omega (arith, l)))
+pub in_front : {X : Type 0} (n : ℕ) (ws more : List X) → length ws ≡ n → take n (ws ++ more) ≡ ws
+in_front n ws more is = ap (λ m. take m (ws ++ more)) (sym is) ∙ take-append_seam ws more
 
-pub in_front : {X : Type 0} (n len : ℕ) (ws more : List X) → length ws ≡ n → n ≤ len → take n (take len (ws ++ more)) ≡ ws
-in_front {X = X} n len ws more is = subst (λ k. k ≤ len → take k (take len (ws ++ more)) ≡ ws) is (first_places ws more len)
+-- what was written into all places of a vector
+pub in_place : {X : Type 0} (n : ℕ) (xs ws : List X) → n ≡ length xs → length ws ≡ length xs → take n (ws ++ drop (length ws) xs) ≡ ws
+in_place n xs ws is same = in_front n ws (drop (length ws) xs) (same ∙ sym is)
