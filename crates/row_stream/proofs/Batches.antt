@@ -146,8 +146,12 @@ enables_first front all width n count f e l c = f ∙ ap (λ z. take n z) e ∙ 
 
 -- the first of these are as many
 pub took_count : {X : Type 0} (n : ℕ) (xs ys : List X) → ys ≡ take n xs → n ≤ length xs → length ys ≡ n
-took_count n xs ys is l = ap (λ (z : List X). length z) is ∙ length-take-le n xs l
+took_count {X = X} n xs ys is l = ap (λ (z : List X). length z) is ∙ length-take-le n xs l
 
 -- what was written into the first places of a list
-pub in_front : {X : Type 0} (n : ℕ) (xs ws : List X) → length ws ≡ n → take n (ws ++ drop n xs) ≡ ws
-in_front n xs ws is = ap (λ m. take m (ws ++ drop n xs)) (sym is) ∙ take-append_seam ws (drop n xs)
+pub in_front : {X : Type 0} (n : ℕ) (ws more : List X) → length ws ≡ n → take n (ws ++ more) ≡ ws
+in_front n ws more is = ap (λ m. take m (ws ++ more)) (sym is) ∙ take-append_seam ws more
+
+-- what was written into all places of a vector
+pub in_place : {X : Type 0} (n : ℕ) (xs ws : List X) → n ≡ length xs → length ws ≡ length xs → take n (ws ++ drop (length ws) xs) ≡ ws
+in_place n xs ws is same = in_front n ws (drop (length ws) xs) (same ∙ sym is)

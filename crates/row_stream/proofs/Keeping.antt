@@ -18,9 +18,9 @@ use Rattle.row_stream.proofs.Rasters.{both}
 
 -- ---- an error that a `?` passes on
 
-pub passed : {T E P : Type 0} {Q : E → Type 0} (r : Result T E) → IsErrAnd r Q → P → OnErr r P
-passed (Ok x) is h = tt
-passed (Err y) is h = h
+pub passed : {T E P : Type 0} (r : Result T E) (e : E) → IsErrAnd r (λ y. y ≡ e) → P → OnErr r P
+passed (Ok x) e is h = tt
+passed (Err y) e is h = h
 
 pub if_err : {T E : Type 0} (P : E → Type 0) (r : Result T E) (e : E) → IsErrAnd r (λ y. y ≡ e) → P e → IfErr r P
 if_err P (Ok x) e is h = tt

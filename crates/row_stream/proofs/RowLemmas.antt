@@ -1,8 +1,9 @@
 -- A line that is read, and then clocked.
-use Rattle.std.proofs.Common.{◌≡◌, ℕ, ◌+◌, ◌*◌, ◌<◌, ◌≤◌, List, Bool, ap, sym, subst, ◌∙◌, ◌++◌, arith, Ok}
+use Rattle.std.proofs.Common.{◌≡◌, ℕ, ◌+◌, ◌*◌, ◌<◌, ◌≤◌, List, Bool, ap, sym, subst, ◌∙◌, ◌++◌, arith, Result, Ok, Err}
+use Rattle.std.specs.Result.{OnOk}
 use Rattle.std.specs.Io.KnownBytes.{prepend_known}
 use Rattle.dk_desk.specs.declared.InSlot.TheVariants.{Image}
-use Rattle.dk_desk.specs.Outside.{Outside}
+use Rattle.dk_desk.specs.Outside.{Outside, Input}
 use Rattle.dk_desk.specs.Calls.{ReadsOnly, IsIfTold, grown, grow_created}
 use Rattle.std.specs.Option.{option_map}
 use Rattle.std.specs.Prelude.{slice_index}
@@ -19,7 +20,7 @@ use Rattle.row_stream.specs.declared.rows.RowsFault.{RowsFault}
 use Rattle.row_stream.specs.declared.rows.RowsFault.TheVariants.{Raster, Read, Write}
 use Rattle.pgm_codec.specs.Images.{sample_size}
 use Rattle.row_stream.specs.Rows.{IsRowFault}
-use Rattle.row_stream.specs.RowReading.{AreRows, Streams, FailsRow, EndsRow, EndsRows, samples_in}
+use Rattle.row_stream.specs.RowReading.{AreRows, TakesRow, Streams, FailsRow, EndsRow, EndsRows, samples_in}
 
 -- a read that did not fail
 pub read_only : (before mid : Outside) → ReadsOnly Image before mid → mid.input_failures ≡ before.input_failures → mid ≡ record before { image = record before.image { rest = mid.image.rest } }
@@ -76,6 +77,11 @@ pub misses_row : (kind : Kind) (m : Netlist) (header : Header) (row : ℕ) (f : 
 misses_row kind m header row (Raster f) from old before now fault only = record { fault = fault; only = only }
 misses_row kind m header row Read from old before now fault only = record { fault = fault; only = only }
 misses_row kind m header row Write from old before now fault only = absurd fault
+
+-- a line that was read whole
+pub takes_row : {E : Type 0} (header : Header) (row : ℕ) (read : List ℕ) (old new : Input) (r : Result Unit E) → OnOk r (old.rest ≡ prepend_known read new.rest) → OnOk r (JudgesRow read header row (Ok tt)) → ((k : ℕ) → slice_index read k < 256) → OnOk r (TakesRow header row read old new)
+takes_row header row read old new (Ok u) given judged bytes = record { given = given; judged = judged; bytes = bytes }
+takes_row header row read old new (Err e) given judged bytes = tt
 
 -- how the lines of an image end
 pub ends_rows : (kind : Kind) (m : Netlist) (header : Header) (rows : ℕ) (f : RowsFault) (from mid : Contents) (old between : Line) (before half now : Outside) → rows < header.height → Streams kind m header rows from mid old between before half →

@@ -89,6 +89,22 @@ fn step_exact(sim: &mut Batches, enables: &[bool], dins: &[u64], outs: &mut [Out
 }
 
 // `step_exact` with room for more outputs.
+fn step_within(sim: &mut Batches, enables: &[bool], dins: &[u64], outs: &mut [Out])
+    requires outputs { length sim.old.netlist.outputs ≡ 2 }
+    requires one_din { length (din_widths sim.old.netlist) ≡ 1 }
+    requires enables { enables.now ≡ replicate (length dins.now) true }
+    requires outs { length dins.now ≤ length outs.old }
+    requires fit { All (λ d. Fit (din_widths sim.old.netlist) (d ∷ [])) dins.now }
+    requires lasts { Lasts sim.old.netlist sim.old.contents }
+    ensures netlist { sim.new.netlist ≡ sim.old.netlist }
+    ensures outs { length outs.new ≡ length outs.old }
+    ensures ran { Ran sim.old.netlist dins.now sim.old.contents sim.new.contents (take (length dins.now) outs.new) }
+{
+    let count = dins.len();
+    step_exact(sim, enables, dins, &mut outs[..count]);
+}
+
+// The same for a vector.
 fn step_front(sim: &mut Batches, enables: &[bool], dins: &[u64], outs: &mut Vec<Out>)
     requires outputs { length sim.old.netlist.outputs ≡ 2 }
     requires one_din { length (din_widths sim.old.netlist) ≡ 1 }
@@ -100,8 +116,7 @@ fn step_front(sim: &mut Batches, enables: &[bool], dins: &[u64], outs: &mut Vec<
     ensures outs { length outs.new.items ≡ length outs.old.items }
     ensures ran { Ran sim.old.netlist dins.now sim.old.contents sim.new.contents (take (length dins.now) outs.new.items) }
 {
-    let count = dins.len();
-    step_exact(sim, enables, dins, &mut outs[..count]);
+    step_within(sim, enables, dins, outs);
 }
 
 // One clock, and what the output shows in it.

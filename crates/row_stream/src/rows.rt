@@ -70,6 +70,27 @@ pub(crate) fn row_bytes(header: &Header) -> usize
 }
 
 // `read_row` with room for more bytes.
+fn read_within<D: Desk>(
+    desk: &mut D,
+    header: &Header,
+    row: u32,
+    to: &mut [u8],
+) -> Result<(), RowsFault>
+    requires opened { (D.outside desk.old).image.stage ≡ Stage.Open }
+    requires width { header.now.width ≤ MAX_SIDE }
+    requires row { row < header.now.height }
+    requires room { 2 * header.now.width ≤ length to.old }
+    ensures room { length to.new ≡ length to.old }
+    ensures ok { OnOk result (TakesRow header.now row (take (row_length header.now) to.new) (D.outside desk.old).image (D.outside desk.new).image) }
+    ensures fault { IfErr result (λ e. IsRowFault header.now row e (D.outside desk.old).image (D.outside desk.new).image) }
+    ensures only { ReadsOnly InSlot.Image (D.outside desk.old) (D.outside desk.new) }
+    ensures cause { HasCauseIn (result ≡ Err RowsFault.Read) (D.outside desk.old).input_failures (D.outside desk.new).input_failures }
+{
+    let count = row_bytes(header);
+    read_row(desk, header, row, &mut to[..count])
+}
+
+// The same into a vector.
 fn read_front<D: Desk>(
     desk: &mut D,
     header: &Header,
@@ -86,8 +107,7 @@ fn read_front<D: Desk>(
     ensures only { ReadsOnly InSlot.Image (D.outside desk.old) (D.outside desk.new) }
     ensures cause { HasCauseIn (result ≡ Err RowsFault.Read) (D.outside desk.old).input_failures (D.outside desk.new).input_failures }
 {
-    let count = row_bytes(header);
-    read_row(desk, header, row, &mut to[..count])
+    read_within(desk, header, row, to)
 }
 
 impl Stream {

@@ -193,5 +193,9 @@ places_within (suc a) zero w l = absurd (omega (arith, l))
 places_within (suc a) (suc b) w l = let h : a * w ≤ b * w = places_within a b w (omega (arith, l)) in omega (arith, h)
 
 -- what was written into the first places of a list
-pub in_front : {X : Type 0} (n : ℕ) (xs ws : List X) → length ws ≡ n → take n (ws ++ drop n xs) ≡ ws
-in_front n xs ws is = ap (λ m. take m (ws ++ drop n xs)) (sym is) ∙ take-append_seam ws (drop n xs)
+pub in_front : {X : Type 0} (n : ℕ) (ws more : List X) → length ws ≡ n → take n (ws ++ more) ≡ ws
+in_front n ws more is = ap (λ m. take m (ws ++ more)) (sym is) ∙ take-append_seam ws more
+
+-- what was written into all places of a vector
+pub in_place : {X : Type 0} (n : ℕ) (xs ws : List X) → n ≡ length xs → length ws ≡ length xs → take n (ws ++ drop (length ws) xs) ≡ ws
+in_place n xs ws is same = in_front n ws (drop (length ws) xs) (same ∙ sym is)

@@ -82,6 +82,27 @@ impl Batch {
 }
 
 // Clocks in one call, in which the outputs show what is in the first `places` places.
+fn step_within(
+    sim: &mut Batches,
+    enables: &[bool],
+    dins: &[u64],
+    outs: &mut [Out],
+    places: usize,
+) -> Result<(), Stop>
+    requires fit { All (λ (c : Clock). Fit (din_widths sim.old.netlist) c.dins) (batch_clocks sim.old.netlist enables.now dins.now) }
+    requires all { length dins.now ≡ length enables.now * length (din_widths sim.old.netlist) }
+    requires places { places ≡ length enables.now * output_count sim.old.netlist }
+    requires room { places ≤ length outs.old }
+    ensures netlist { sim.new.netlist ≡ sim.old.netlist }
+    ensures outs { length outs.new ≡ length outs.old }
+    ensures ok { OnOk result (BatchRan sim.old.netlist (batch_clocks sim.old.netlist enables.now dins.now)
+        sim.old.contents sim.new.contents (take places outs.new)) }
+    ensures stop { IfErr result (StopsBatch sim.old.netlist (batch_clocks sim.old.netlist enables.now dins.now) sim.old.contents) }
+{
+    sim.step_batch(enables, dins, &mut outs[..places])
+}
+
+// The same for a vector of outputs.
 fn step_front(
     sim: &mut Batches,
     enables: &[bool],
@@ -99,7 +120,7 @@ fn step_front(
         sim.old.contents sim.new.contents (take places outs.new.items)) }
     ensures stop { IfErr result (StopsBatch sim.old.netlist (batch_clocks sim.old.netlist enables.now dins.now) sim.old.contents) }
 {
-    sim.step_batch(enables, dins, &mut outs[..places])
+    step_within(sim, enables, dins, outs, places)
 }
 
 // Adds the pixel of this number of each input.

@@ -19,7 +19,7 @@ loop-out-init g c = record {
 pub returns-in_err-tell-clause-err : goal.returns-in_err-tell-clause-err
 returns-in_err-tell-clause-err g c =
     let outside = g.D.Desk.outside in
-    passed c.from_residual.result c.from_residual.ensures.1
+    passed c.from_residual.result c.in_err-tell.field-0.0 c.from_residual.ensures.1
     (fails_next (kind_of c.args.format) c.args.outs.now c.loop-out.out-index _ c.args.line.now c.loop-out.line (outside c.args.desk.now) (outside c.loop-out.desk) (outside c.tell.new.desk) (slice_get-get_or _ _ _ c.loop-out-test.true) c.loop-out.invariant.tells c.in_err-tell.ensures.err)
 
 pub loop-out-preserved : goal.loop-out-preserved

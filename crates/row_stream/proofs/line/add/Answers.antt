@@ -12,7 +12,7 @@ pub returns-then-line-format-clause-ok : goal.returns-then-line-format-clause-ok
 returns-then-line-format-clause-ok g c start samples notes h = A.goes_on (kind_of c.args.format) samples c.args.sample c.args.line.now c.push_sample.new.bytes h c.push_sample.ensures.bytes c.if-line-format.true
 
 pub returns-in_err-write_bytes-clause-err : goal.returns-in_err-write_bytes-clause-err
-returns-in_err-write_bytes-clause-err g c = passed c.from_residual.result c.from_residual.ensures.1 (λ start samples notes h.
+returns-in_err-write_bytes-clause-err g c = passed c.from_residual.result c.in_err-write_bytes.field-0.0 c.from_residual.ensures.1 (λ start samples notes h.
     let full : c.args.line.now.count + 1 ≡ c.args.format.size.width = omega (arith, c.if-line-format.false, c.requires.can.room.below) in
     failed_line (kind_of c.args.format) samples c.args.sample c.args.line.now c.push_sample.new.bytes h.pending c.push_sample.ensures.bytes full start (g.D.Desk.outside c.args.desk.now) (g.D.Desk.outside c.write_bytes.new.desk) notes h.gained
     (subst (λ z. WritesFront File (g.D.Desk.outside c.args.desk.now) (header_before (kind_of c.args.format) c.args.line.now.rows ++ z) (g.D.Desk.outside c.write_bytes.new.desk)) c.deref.ensures.value c.in_err-write_bytes.ensures.err))

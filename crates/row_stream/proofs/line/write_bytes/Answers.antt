@@ -6,7 +6,7 @@ use Rattle.row_stream.proofs.Writes.{front_first, front_second}
 use Rattle.row_stream.proofs.line.write_bytes.Goals as goal
 
 pub returns-in_err-write_head_before-clause-err : goal.returns-in_err-write_head_before-clause-err
-returns-in_err-write_head_before-clause-err g c = passed c.from_residual.result c.from_residual.ensures.1 (front_first _ _ _ c.args.bytes.now c.in_err-write_head_before.ensures.err)
+returns-in_err-write_head_before-clause-err g c = passed c.from_residual.result c.in_err-write_head_before.field-0.0 c.from_residual.ensures.1 (front_first _ _ _ c.args.bytes.now c.in_err-write_head_before.ensures.err)
 
 pub returns-clause-ok : goal.returns-clause-ok
 returns-clause-ok g c = on_ok_weaker c.write_all.result (λ h. Adds-more File _ _ _ _ _ c.in_ok-write_head_before.ensures.ok h) c.write_all.ensures.ok

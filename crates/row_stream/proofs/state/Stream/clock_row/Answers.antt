@@ -1,4 +1,4 @@
-use Rattle.std.proofs.Common.{◌∙◌, ◌∷◌, ◌≡◌, ◌≤◌, ℕ, List, [], ap, subst, sym, arith, map, length, take, All}
+use Rattle.std.proofs.Common.{◌*◌, ◌∙◌, ◌∷◌, ◌≡◌, ◌≤◌, ℕ, List, [], ap, subst, sym, arith, map, length, take, All}
 use Rattle.std.specs.List.{range_with_len}
 use Rattle.std.proofs.lemmas.Result.{on_ok_weaker, on_err_weaker}
 use Rattle.wiring.specs.Snapshot.{Fit}

@@ -33,7 +33,7 @@ returns-in_err-flush_lines-clause-err g c =
     let outside = g.D.Desk.outside in
     let old = c.args.self.now in
     let width : ℕ = old.format.size.width in
-    passed c.from_residual.result c.from_residual.ensures.1
+    passed c.from_residual.result c.in_err-flush_lines.field-0.0 c.from_residual.ensures.1
     (fails_all (kind_of old.format) old.sim.netlist (c.args.count / width * width) c.args.count old.sim.contents old.line (outside c.args.desk.now) (outside c.flush_lines.new.desk) (part_within c.args.count width) c.in_err-flush_lines.ensures.err)
 
 pub clock_batch-requires-clause-count : goal.clock_batch-requires-clause-count
@@ -55,7 +55,9 @@ clock_batch-requires-clause-fit g c =
     subst (λ z. All (λ d. Fit (din_widths mid.sim.netlist) (d ∷ [])) z) (sym zeros) (all_made (λ d. Fit (din_widths mid.sim.netlist) (d ∷ [])) (λ k. 0) c.args.self.now.format.size.width (λ k l. first.more.ready.stream.fit 0 (omega arith)))
 
 pub returns-clause-keeps : goal.returns-clause-keeps
-returns-clause-keeps g c = keeps_then c.args.self.now c.flush_lines.new.self c.clock_batch.new.self c.in_ok-flush_lines.ensures.keeps c.clock_batch.ensures.keeps
+returns-clause-keeps g c =
+    let k = c.in_ok-flush_lines.ensures.keeps in
+    keeps_then c.args.self.now c.flush_lines.new.self c.clock_batch.new.self (record { setting = k.setting; row = k.row; batch = k.batch }) c.clock_batch.ensures.keeps
 
 pub returns-clause-ok : goal.returns-clause-ok
 returns-clause-ok g c =

@@ -53,7 +53,7 @@ returns-in_err-clock_batch-clause-err g c =
     let there = outside c.clock_batch.new.desk in
     let here = subst (λ z. Fails kind m z mid.sim.contents mid.line (outside c.loop-number.desk) there) clocks
     (subst (λ (z : Setting). Fails z.kind z.netlist (map pixel_clock (take width mid.batch.dins.items)) mid.sim.contents mid.line (outside c.loop-number.desk) there) inv.keeps.setting c.in_err-clock_batch.ensures.err) in
-    passed c.from_residual.result c.from_residual.ensures.1 (fails_zeros kind m (k * width) width old.sim.contents mid.sim.contents old.line mid.line (outside c.args.desk.now) (outside c.loop-number.desk) there inv.goes (c.args.count * width) (lines_within k c.args.count width c.loop-number-test.true) here)
+    passed c.from_residual.result c.in_err-clock_batch.field-0.0 c.from_residual.ensures.1 (fails_zeros kind m (k * width) width old.sim.contents mid.sim.contents old.line mid.line (outside c.args.desk.now) (outside c.loop-number.desk) there inv.goes (c.args.count * width) (lines_within k c.args.count width c.loop-number-test.true) here)
 
 pub returns-in_err-clock_batch-clause-keeps : goal.returns-in_err-clock_batch-clause-keeps
 returns-in_err-clock_batch-clause-keeps g c = keeps_then c.args.self.now c.loop-number.self c.clock_batch.new.self c.loop-number.invariant.keeps c.in_err-clock_batch.ensures.keeps

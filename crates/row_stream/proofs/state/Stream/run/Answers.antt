@@ -1,4 +1,4 @@
-use Rattle.std.proofs.Common.{rules, ◌≡◌, ◌<◌, sym, subst, ap, ◌∙◌, arith, IfSome}
+use Rattle.std.proofs.Common.{rules, ◌≡◌, ◌<◌, sym, subst, ◌∙◌, arith, IfSome}
 use Rattle.dk_desk.specs.Outside.{Input}
 use Rattle.dk_base.specs.FrameSizes.{size_of}
 use Rattle.row_stream.specs.Formats.{kind_of}
@@ -27,24 +27,6 @@ returns-in_err-next_image-clause-err g c =
     if_err (λ f. Leaves kind m s.bits c.args.latency f name from old before) c.from_residual.result f c.from_residual.ensures.1
     (leaves_first kind m s.bits c.args.latency name from old before f e.err e.only e.cause.later (λ l. taken_out f (e.cause.always l)))
 
-pub stream_images-requires-clause-first : goal.stream_images-requires-clause-first
-stream_images-requires-clause-first g c =
-    let outside = g.D.Desk.outside in
-    let s = c.args.self.now in
-    let kind = kind_of s.format in
-    let m = s.sim.netlist in
-    let from = s.sim.contents in
-    let name = c.args.name.now in
-    let old = outside c.args.desk.now in
-    let before = outside c.next_image.new.desk in
-    let header = c.in-Some.header in
-    let next = c.in_ok-next_image.ensures in
-    let same : before.input_failures ≡ old.input_failures = search rules in
-    let takes : TakesHead header old.image before.image = subst (λ z. IfSome z (λ h. TakesHead h old.image before.image)) c.in-Some.is next.ok in
-    let fits : FitsHeader (size_of s.format.size) s.bits header = subst (λ z. IfSome z (FitsHeader (size_of s.format.size) s.bits)) c.in-Some.is next.fits in
-    let read = read_only old before next.only same in
-    subst (λ (z : Setting). FitsHeader z.kind.size z.bits header) (sym c.in-Ok.ensures.keeps.setting) fits
-
 pub returns-in-Err-clause-err : goal.returns-in-Err-clause-err
 returns-in-Err-clause-err g c =
     let outside = g.D.Desk.outside in
@@ -62,12 +44,6 @@ returns-in-Err-clause-err g c =
     let fits : FitsHeader (size_of s.format.size) s.bits header = subst (λ z. IfSome z (FitsHeader (size_of s.format.size) s.bits)) c.in-Some.is next.fits in
     let read = read_only old before next.only same in
     write_first header before takes fits read c.in-Err.ensures.desk.idle c.in-Err.ensures.err
-
-pub returns-in-Err-clause-netlist : goal.returns-in-Err-clause-netlist
-returns-in-Err-clause-netlist g c = ap (λ (z : Setting). z.netlist) c.in-Err.ensures.keeps.setting
-
-pub returns-in_err-stream_images-clause-netlist : goal.returns-in_err-stream_images-clause-netlist
-returns-in_err-stream_images-clause-netlist g c = ap (λ (z : Setting). z.netlist) (c.in_err-stream_images.ensures.keeps.setting ∙ c.in-Ok.ensures.keeps.setting)
 
 pub returns-in_err-stream_images-clause-err : goal.returns-in_err-stream_images-clause-err
 returns-in_err-stream_images-clause-err g c =
@@ -98,9 +74,6 @@ returns-in_err-stream_images-clause-err g c =
     if_err (λ f. Leaves kind m s.bits c.args.latency f name from old now) c.from_residual-in_err-stream_images.result f c.from_residual-in_err-stream_images.ensures.1
     (leaves_images kind m s.bits c.args.latency name from new.sim.contents s.line new.line old before b.created b.begun reset c.requires.start.fresh some read b.creates b.header b.goes f now here
     (λ other. unless_read f reset.input_failures now.input_failures e.desk.read.later (λ l. taken_out f (e.desk.read.always l)) other ∙ (begun.desk.no_read ∙ same)))
-
-pub returns-in-Err-flush-clause-netlist : goal.returns-in-Err-flush-clause-netlist
-returns-in-Err-flush-clause-netlist g c = ap (λ (z : Setting). z.netlist) (c.in-Err-flush.ensures.keeps.setting ∙ c.in_ok-stream_images.ensures.keeps.setting ∙ c.in-Ok.ensures.keeps.setting)
 
 pub returns-in-Err-flush-clause-err : goal.returns-in-Err-flush-clause-err
 returns-in-Err-flush-clause-err g c =
@@ -133,11 +106,8 @@ returns-in-Err-flush-clause-err g c =
     let late = subst (λ (z : Setting). Fails z.kind z.netlist (pixel_clocks (λ k. 0) c.args.latency) last.sim.contents last.line half now) (images.keeps.setting ∙ begun.keeps.setting) e.err in
     fails_behind kind m s.bits c.args.latency name from new.sim.contents s.line new.line old before b.created b.begun reset c.requires.start.fresh some read b.creates b.header b.goes last.sim.contents last.line half now all late e.desk.idle
 
-pub returns-clause-netlist : goal.returns-clause-netlist
-returns-clause-netlist g c = ap (λ (z : Setting). z.netlist) (c.in-Ok-flush.ensures.keeps.setting ∙ c.in_ok-stream_images.ensures.keeps.setting ∙ c.in-Ok.ensures.keeps.setting)
-
-pub returns-clause-ok : goal.returns-clause-ok
-returns-clause-ok g c =
+pub returns-in-Ok-flush-clause-ok : goal.returns-in-Ok-flush-clause-ok
+returns-in-Ok-flush-clause-ok g c =
     let outside = g.D.Desk.outside in
     let s = c.args.self.now in
     let kind = kind_of s.format in

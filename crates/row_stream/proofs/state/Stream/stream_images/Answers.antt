@@ -91,7 +91,7 @@ returns-in-None-clause-ok g c before t =
     let here = subst (λ (z : Setting). Streams z.kind z.netlist header header.height mid.sim.contents new.sim.contents mid.line new.line half now) inv.keeps.setting c.in_ok-stream_image.ensures.ok in
     streams_all kind m old.bits c.loop-images.images c.loop-images.offset header before.rest old.sim.contents mid.sim.contents old.line mid.line (unread before (g.D.Desk.outside c.args.desk.now)) half
     now inv.fits (inv.stands before t) new.sim.contents new.line here inv.inside (g.D.Desk.outside c.further_image.new.desk)
-    (c.in-None.ensures.same (ap (λ z. Ok z) c.in-None.field-0-is)) (c.in-None.ensures.whole (ap (λ z. Ok z) c.in-None.field-0-is))
+    (c.in_ok-further_image.ensures.same (ap (λ z. Ok z) c.in-None.is)) (c.in_ok-further_image.ensures.whole (ap (λ z. Ok z) c.in-None.is))
 
 pub loop-images-preserved : goal.loop-images-preserved
 loop-images-preserved g c =

@@ -69,9 +69,3 @@ loop-row-preserved g c =
       no_failure = search rules;
       streams = streams_more kind old.sim.netlist header c.loop-row.row old.sim.contents mid.sim.contents new.sim.contents old.line mid.line new.line start half now inv.streams here;
     }
-
-pub returns-clause-more : goal.returns-clause-more
-returns-clause-more g c =
-    let inv = c.loop-row.invariant in
-    let high = subst (λ z. z ≤ MAX_SIDE) (sym c.requires.header.sized.height) c.args.self.now.format.size.sides.most_rows in
-    record { ready = inv.more.ready; few = omega (arith, inv.more.few, high, c.loop-row.invariant.in_range) }
