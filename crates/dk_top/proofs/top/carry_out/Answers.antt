@@ -8,7 +8,7 @@ pub returns-in-Err-clause-performs : goal.returns-in-Err-clause-performs
 returns-in-Err-clause-performs g c = refused _ c.in-Err.ending (g.D.Desk.outside c.args.desk.now) c.requires (λ e. c.in-Err.ensures.usage (ap Err e)) c.in-Err.ensures.other
 
 pub returns-in-Ok-Run-clause-performs : goal.returns-in-Ok-Run-clause-performs
-returns-in-Ok-Run-clause-performs g c = as_named _ _ _ _ _ (c.in-Ok-Run.ensures.ok ∙ ap (λ (a : Asked). Some (command_asked a)) c.in-Ok-Run.field-0-is) c.performed-in-Ok-Run.ensures.performs
+returns-in-Ok-Run-clause-performs g c = as_named _ _ _ _ _ (c.in-Ok-Run.ensures.ok ∙ ap (λ (a : Asked). Some (command_asked a)) c.in-Ok-Run.field-0-is) c.performed.ensures.performs
 
 pub returns-in-Ok-Eval-clause-performs : goal.returns-in-Ok-Eval-clause-performs
 returns-in-Ok-Eval-clause-performs g c = as_named _ _ _ _ _ (c.in-Ok-Eval.ensures.ok ∙ ap (λ (a : Asked). Some (command_asked a)) c.in-Ok-Eval.field-0-is) c.performed-in-Ok-Eval.ensures.performs
