@@ -298,8 +298,7 @@ not_closed e folded not closed = not (folded e (itself e) closed)
     itself (convert how a t) = inl refl
     itself (scale op a k) = inl refl
 
-]
-
+-- forms of operands with folded parts
 pub unary_folds : (op : Unary) (a : Tree) → HasFoldedParts a → (IsConstant a → ⊥) → HasFoldedParts (unary op a)
 unary_folds op a folded not part is closed = elim is [
   | inl e ↦ whole part (unary op a) (λ h. not_closed a folded not h) e closed
