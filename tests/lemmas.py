@@ -32,7 +32,7 @@ def declarations(text):
         if head:
             name = head[1]
             found.setdefault(name, []).append(line)
-        elif name and (line.startswith((" ", "}", ")")) or line.split(" ")[0] == name):
+        elif name and (line.startswith((" ", "}", ")", "]")) or line.split(" ")[0] == name):
             found[name].append(line)
         elif not line.startswith("--"):
             name = None if line else name
