@@ -78,7 +78,7 @@ while read -r name input <&3; do
         done
     done
 done 3<"$examples/programs/pictures.txt"
-# Without an array of so many words the text is that without the option.
+# Without an array of that many words the text is that without the option.
 ends 0 '' compile mean3.dk text.v
 ends 0 '' compile --block 2 mean3.dk out.pgm
 is 'compile --block changed a text without long arrays' cmp -s text.v out.pgm
