@@ -1,10 +1,11 @@
 -- A pass over the rows of an array's indexes and of the value put.
 use Rattle.std.proofs.Common.{◌≡◌, ℕ, zero, suc, ◌<◌, ◌≤◌, List, length, refl, ap, subst, ◌∙◌, arith}
 use Rattle.std.specs.Prelude.{slice_index, slice_set}
-use Rattle.batch_rows.specs.Rights.{IsAtomRow, value_at}
-use Rattle.batch_rows.specs.Rows.{words_after, IsReadUpTo, AreInside}
-use Rattle.batch_code.specs.declared.code.WordRead.{WordRead}
-use Rattle.batch_code.specs.declared.code.WordPut.{WordPut}
+use Rattle.batch_rows.specs.Rights.{IsAtomRow}
+use Rattle.lane_rows.specs.Values.{value_at}
+use Rattle.lane_rows.specs.Words.{words_after, IsReadUpTo, AreInside}
+use Rattle.batch_rows.specs.declared.module_code.WordRead.{WordRead}
+use Rattle.batch_rows.specs.declared.module_code.WordPut.{WordPut}
 use Rattle.batch_code.specs.Rows.{atom_at, words_put, KeepsArray}
 
 module _ (rows : List (List ℕ)) (p : WordPut) (count : ℕ) (words index value : List ℕ) (indexes : IsAtomRow rows p.index count index) (values : IsAtomRow rows p.value count value) where

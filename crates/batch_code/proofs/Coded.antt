@@ -24,7 +24,7 @@ use Rattle.cycle_sim.proofs.Flat.{flat_width_at, length-all_widths}
 use Rattle.cycle_sim.proofs.Renamed.{agree_renamed, constants_renamed}
 use Rattle.batch_rows.specs.declared.code.Instruction.{Instruction}
 use Rattle.batch_rows.specs.Code.{IsSound, IsOrdered}
-use Rattle.batch_code.specs.declared.code.BatchCode.{BatchCode}
+use Rattle.batch_rows.specs.declared.module_code.BatchCode.{BatchCode}
 use Rattle.batch_code.specs.Code.{IsBatchCode, IsWithin, ReadIsWithin, PutIsWithin, IsPlain, instruction}
 use Rattle.batch_code.specs.Parts.{HasInstructions, HasReads, AreNexts, ArePuts}
 use Rattle.batch_code.proofs.Left.{declared_within}

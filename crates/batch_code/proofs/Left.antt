@@ -22,10 +22,10 @@ use Rattle.wiring.proofs.Lists.{All-at}
 use Rattle.cycle_sim.specs.Slots.{slot, rename_atom, all_widths}
 use Rattle.cycle_sim.proofs.Flat.{flat_width_at, length-all_widths}
 use Rattle.cycle_sim.proofs.Pieces.{fit_from}
-use Rattle.batch_rows.specs.Rights.{value_at}
+use Rattle.lane_rows.specs.Values.{value_at}
 use Rattle.batch_rows.specs.Code.{AreRows}
-use Rattle.batch_code.specs.declared.code.WordPut.{WordPut}
-use Rattle.batch_code.specs.declared.code.BatchCode.{BatchCode}
+use Rattle.batch_rows.specs.declared.module_code.WordPut.{WordPut}
+use Rattle.batch_rows.specs.declared.module_code.BatchCode.{BatchCode}
 use Rattle.batch_code.specs.Code.{IsBatchCode, put_of}
 use Rattle.batch_code.specs.Rows.{atom_at, words_put, AreLeft}
 

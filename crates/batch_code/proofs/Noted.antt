@@ -20,8 +20,8 @@ use Rattle.wiring.specs.Rules.{KeepsRules, UpdateIsSound, AssignIsSound}
 use Rattle.wiring.proofs.Lists.{All-at, at_one}
 use Rattle.wiring.proofs.Nets.{driven_declared}
 use Rattle.cycle_sim.specs.Slots.{slot, rename_atom, all_widths}
-use Rattle.batch_code.specs.declared.code.WordRead.{WordRead}
-use Rattle.batch_code.specs.declared.code.WordPut.{WordPut}
+use Rattle.batch_rows.specs.declared.module_code.WordRead.{WordRead}
+use Rattle.batch_rows.specs.declared.module_code.WordPut.{WordPut}
 use Rattle.batch_code.specs.Code.{IsWithin, ReadIsWithin, PutIsWithin, IsRead, read_of, put_of}
 use Rattle.batch_code.specs.Parts.{AreNexts, ArePuts, AreReads, AreReadWhereMarked, HasReads}
 use Rattle.batch_code.proofs.Left.{declared_within}

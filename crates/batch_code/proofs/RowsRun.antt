@@ -28,10 +28,10 @@ use Rattle.cycle_sim.proofs.Flat.{flat_width_at}
 use Rattle.cycle_sim.proofs.Given.{given_fit}
 use Rattle.cycle_sim.proofs.Pieces.{length_fit}
 use Rattle.cycle_sim.proofs.Renamed.{right_renamed}
-use Rattle.batch_rows.specs.Rights.{value_at}
-use Rattle.batch_code.specs.declared.code.WordRead.{WordRead}
-use Rattle.batch_code.specs.declared.code.WordPut.{WordPut}
-use Rattle.batch_code.specs.declared.code.BatchCode.{BatchCode}
+use Rattle.lane_rows.specs.Values.{value_at}
+use Rattle.batch_rows.specs.declared.module_code.WordRead.{WordRead}
+use Rattle.batch_rows.specs.declared.module_code.WordPut.{WordPut}
+use Rattle.batch_rows.specs.declared.module_code.BatchCode.{BatchCode}
 use Rattle.batch_code.specs.Batch.{firsts}
 use Rattle.batch_code.specs.Streams.{Streams, AreStreams, AssignHolds, UpdateHolds, contents_at, shot_at}
 use Rattle.batch_code.specs.Code.{IsBatchCode, instruction, read_of, put_of}
@@ -221,16 +221,16 @@ module _ (m : Netlist) (c : BatchCode) (rules : KeepsRules m) (is : IsBatchCode 
   from_is =
       let regs = firsts_are (λ i. streams.value 0 (Reg i)) from.regs (length m.regs) 0 (length_fit m.regs from.regs fitting.regs) regs_first in
       let arrays = firsts_are (streams.words 0) from.arrays (length m.arrays) [] (array_count m.arrays from.arrays fitting.arrays) (λ x l. words_first rows (slice_get c.puts.items x) (slice_index_or from.arrays x [])) in
-      ap (λ (rs : List ℕ). let held : Contents = record { regs = rs; arrays = firsts (streams.words 0) (length m.arrays) } in held) regs
-      ∙ ap (λ (ws : List (List ℕ)). let held : Contents = record { regs = from.regs; arrays = ws } in held) arrays
+      ap (λ (rs : List ℕ). let stored : Contents = record { regs = rs; arrays = firsts (streams.words 0) (length m.arrays) } in stored) regs
+      ∙ ap (λ (ws : List (List ℕ)). let stored : Contents = record { regs = from.regs; arrays = ws } in stored) arrays
 
   to_is : contents_at m streams (length clocks) ≡ to
   to_is =
       let regs = firsts_are (λ i. streams.value (length clocks) (Reg i)) to.regs (length m.regs) 0 left.reg_count (λ r l. sym (left.regs r l)) in
       let arrays = firsts_are (streams.words (length clocks)) to.arrays (length m.arrays) [] left.array_count
       (λ x l. let p = put_at x l in words_are (length clocks) x p.0 p.1 ∙ sym (left.arrays x p.0 p.1)) in
-      ap (λ (rs : List ℕ). let held : Contents = record { regs = rs; arrays = firsts (streams.words (length clocks)) (length m.arrays) } in held) regs
-      ∙ ap (λ (ws : List (List ℕ)). let held : Contents = record { regs = to.regs; arrays = ws } in held) arrays
+      ap (λ (rs : List ℕ). let stored : Contents = record { regs = rs; arrays = firsts (streams.words (length clocks)) (length m.arrays) } in stored) regs
+      ∙ ap (λ (ws : List (List ℕ)). let stored : Contents = record { regs = to.regs; arrays = ws } in stored) arrays
 
   shot_is : (t : ℕ) (s : Snapshot) → slice_get (firsts (shot_at m streams) (length clocks)) t ≡ Some s → shot_at m streams t ≡ s
   shot_is t s at =

@@ -4,9 +4,9 @@ use Rattle.wiring.specs.Netlist.{Netlist}
 use Rattle.wiring.specs.Snapshot.{Contents, Snapshot}
 use Rattle.wiring.specs.Clock.{Clock, given, Steps}
 
--- each clock of the batch goes from what is held before it to what is held after it
+-- each clock of the batch goes from the contents before it to those after it
 abbrev pub IsBatch : Netlist → List Clock → (ℕ → Snapshot) → (ℕ → Contents) → Type 0
-IsBatch m clocks shot held = (t : ℕ) (c : Clock) → slice_get clocks t ≡ Some c → Steps m (held t) (given m c) (shot t) (held (suc t))
+IsBatch m clocks shot stored = (t : ℕ) (c : Clock) → slice_get clocks t ≡ Some c → Steps m (stored t) (given m c) (shot t) (stored (suc t))
 
 -- the first n of a sequence
 abbrev pub firsts : {X : Type 0} → (ℕ → X) → ℕ → List X

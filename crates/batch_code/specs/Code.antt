@@ -11,9 +11,9 @@ use Rattle.wiring.specs.Netlist.{Netlist}
 use Rattle.cycle_sim.specs.Slots.{slot, rename, rename_atom, all_widths}
 use Rattle.batch_rows.specs.declared.code.Instruction.{Instruction}
 use Rattle.batch_rows.specs.Code.{AreSound, IsOrdered, IsNoTarget}
-use Rattle.batch_code.specs.declared.code.WordRead.{WordRead}
-use Rattle.batch_code.specs.declared.code.WordPut.{WordPut}
-use Rattle.batch_code.specs.declared.code.BatchCode.{BatchCode}
+use Rattle.batch_rows.specs.declared.module_code.WordRead.{WordRead}
+use Rattle.batch_rows.specs.declared.module_code.WordPut.{WordPut}
+use Rattle.batch_rows.specs.declared.module_code.BatchCode.{BatchCode}
 
 -- an atom is a constant, or one of this many slots
 abbrev pub IsWithin : ℕ → Atom ℕ → Type 0

@@ -9,8 +9,8 @@ use Rattle.wiring.specs.Rights.{array_of}
 use Rattle.wiring.specs.Netlist.{Netlist}
 use Rattle.cycle_sim.specs.Slots.{slot, rename_atom, all_widths}
 use Rattle.batch_rows.specs.declared.code.Instruction.{Instruction}
-use Rattle.batch_code.specs.declared.code.WordRead.{WordRead}
-use Rattle.batch_code.specs.declared.code.WordPut.{WordPut}
+use Rattle.batch_rows.specs.declared.module_code.WordRead.{WordRead}
+use Rattle.batch_rows.specs.declared.module_code.WordPut.{WordPut}
 use Rattle.batch_code.specs.Code.{IsWithin, ReadIsWithin, PutIsWithin, IsPlain, IsRead, instruction, read_of, put_of}
 
 -- an instruction is that of the assign of this number

@@ -9,13 +9,13 @@ use Rattle.wiring.specs.Snapshot.{Contents, Snapshot, net_value}
 use Rattle.wiring.specs.Clock.{Clock, given}
 use Rattle.wiring.specs.Runs.{Runs}
 use Rattle.cycle_sim.specs.Slots.{slot}
-use Rattle.batch_rows.specs.Rights.{value_at}
+use Rattle.lane_rows.specs.Values.{value_at}
 use Rattle.batch_rows.specs.Code.{AllHold}
-use Rattle.batch_code.specs.declared.code.WordRead.{WordRead}
-use Rattle.batch_code.specs.declared.code.WordPut.{WordPut}
-use Rattle.batch_code.specs.declared.code.BatchCode.{BatchCode}
+use Rattle.batch_rows.specs.declared.module_code.WordRead.{WordRead}
+use Rattle.batch_rows.specs.declared.module_code.WordPut.{WordPut}
+use Rattle.batch_rows.specs.declared.module_code.BatchCode.{BatchCode}
 
--- what an atom is worth at a clock
+-- the value of an atom at a clock
 abbrev pub atom_at : List (List ℕ) → ℕ → Atom ℕ → ℕ
 atom_at rows t a = atom_value (value_at rows t) a
 
@@ -30,9 +30,9 @@ pub record KeepsArray (rows : List (List ℕ)) (count : ℕ) (words : List ℕ) 
   pub put_inside : (t : ℕ) → t < count → atom_at rows t p.index < length words
   pub row : (t : ℕ) → t < count → value_at rows t r.target ≡ slice_index (words_put rows p words t) (atom_at rows t r.index)
 
--- a register's row begins with what it holds, and is its next value's row one clock later
-pub record KeepsRegister (rows : List (List ℕ)) (count held reg : ℕ) (next : Atom ℕ) : Type 0 where
-  pub first : value_at rows 0 reg ≡ held
+-- a register's row begins with its contents, and is its next value's row one clock later
+pub record KeepsRegister (rows : List (List ℕ)) (count stored reg : ℕ) (next : Atom ℕ) : Type 0 where
+  pub first : value_at rows 0 reg ≡ stored
   pub later : (t : ℕ) → t < count → value_at rows (suc t) reg ≡ atom_at rows t next
 
 -- rows of which this many places are a batch's: they keep every equation of the code, from these contents

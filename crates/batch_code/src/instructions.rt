@@ -20,7 +20,8 @@ fn reads_no_array(right: &Right<Net, usize>) -> bool
 {
     match right {
         Right::Word(_, _) => false,
-        _ => true,
+        Right::Copy(_) | Right::Not(_) | Right::Binary(_, _, _) | Right::Choose(_, _, _) => true,
+        Right::Join(_, _) | Right::Repeat(_, _) | Right::Bit(_, _) | Right::Slice(_, _, _) => true,
     }
 }
 

@@ -7,12 +7,13 @@ ghost use Rattle.wiring.specs.Snapshot.{Contents, Snapshot, Fit, FitsContents};
 ghost use Rattle.wiring.specs.Clock.{Clock};
 ghost use Rattle.wiring.specs.Runs.{Runs};
 ghost use Rattle.cycle_sim.specs.Ports.{din_widths};
-ghost use Rattle.batch_rows.specs.Rights.{IsAtomRow, value_at};
-ghost use Rattle.batch_rows.specs.Rows.{words_after, IsReadUpTo, AreInside};
+ghost use Rattle.batch_rows.specs.Rights.{IsAtomRow};
+ghost use Rattle.lane_rows.specs.Values.{value_at};
+ghost use Rattle.lane_rows.specs.Words.{words_after, IsReadUpTo, AreInside};
 ghost use Rattle.batch_rows.specs.Code.{AreRows};
-ghost use Rattle.batch_code.specs.declared.code.WordRead.{WordRead};
-ghost use Rattle.batch_code.specs.declared.code.WordPut.{WordPut};
-ghost use Rattle.batch_code.specs.declared.code.BatchCode.{BatchCode};
+ghost use Rattle.batch_rows.specs.declared.module_code.WordRead.{WordRead};
+ghost use Rattle.batch_rows.specs.declared.module_code.WordPut.{WordPut};
+ghost use Rattle.batch_rows.specs.declared.module_code.BatchCode.{BatchCode};
 ghost use Rattle.batch_code.specs.Batch.{IsBatch, firsts};
 ghost use Rattle.batch_code.specs.Streams.{Streams, AreStreams, shot_at, contents_at};
 ghost use Rattle.batch_code.specs.Code.{IsBatchCode};
@@ -21,8 +22,8 @@ ghost use Rattle.batch_code.specs.Rows.{words_put, KeepsArray, KeepEquations, Ar
 /// A law: steps from clock to clock are a run.
 #[tactic(auto, using(crate::proofs::BatchRuns::runs_of))]
 pub fn batch_runs_law()
-    ensures { (m : Netlist) (clocks : List Clock) (shot : ℕ → Snapshot) (held : ℕ → Contents) → IsBatch m clocks shot held
-        → Runs m (held 0) clocks (firsts shot (length clocks)) (held (length clocks)) }
+    ensures { (m : Netlist) (clocks : List Clock) (shot : ℕ → Snapshot) (stored : ℕ → Contents) → IsBatch m clocks shot stored
+        → Runs m (stored 0) clocks (firsts shot (length clocks)) (stored (length clocks)) }
 {}
 
 /// A law: streams that keep every equation at every clock of a batch are its run.

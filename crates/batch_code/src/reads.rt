@@ -7,8 +7,8 @@ ghost use Rattle.wiring.specs.declared.right.Atom.TheVariants as atom;
 ghost use Rattle.cycle_sim.specs.Simulated.{IsLayout};
 ghost use Rattle.batch_code.specs.Parts.{AreReads, AreReadWhereMarked, HasReads};
 
-use crate::code::WordRead;
 use crate::instructions::bare_marks;
+use batch_rows::WordRead;
 use cycle_sim::{Layout, atom_of, slot_of};
 use netlist::{Atom, Netlist, Right};
 use std::alloc::{AllocError, Global};

@@ -6,7 +6,7 @@ ghost use Rattle.wiring.specs.Rules.{KeepsRules};
 ghost use Rattle.cycle_sim.specs.Simulated.{IsLayout};
 ghost use Rattle.batch_code.specs.Parts.{AreNexts, ArePuts};
 
-use crate::code::WordPut;
+use batch_rows::WordPut;
 use cycle_sim::{Layout, atom_of};
 use netlist::{Atom, Netlist, Update};
 use std::alloc::{AllocError, Global};

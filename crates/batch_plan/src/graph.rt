@@ -1,5 +1,6 @@
 // What each assign and each update needs. The nodes are the assigns, and then the updates.
 
+use crate::plan::Written;
 use netlist::Netlist;
 use std::alloc::{AllocError, Global};
 use wiring::{Assign, Atom, Net, Right, Update};
@@ -53,47 +54,33 @@ fn place_of(wiring: &Netlist, net: Net) -> Option<usize> {
     }
 }
 
-fn note_assigns(wiring: &Netlist, drivers: &mut [Option<usize>]) {
+fn note_assigns(wiring: &Netlist, nodes: &mut [Option<usize>]) {
     for number in 0..wiring.assigns.len() {
         let target = wiring.assigns[number].target;
         if let Some(place) = place_of(wiring, target) {
-            put_node(drivers, place, number);
+            put_node(nodes, place, number);
         }
     }
 }
 
-fn note_updates(wiring: &Netlist, drivers: &mut [Option<usize>]) {
+fn note_updates(wiring: &Netlist, nodes: &mut [Option<usize>]) {
     let first = wiring.assigns.len();
     for number in 0..wiring.updates.len() {
         if let Update::Set(reg, _) = wiring.updates[number] {
             if let Some(place) = place_of(wiring, Net::Reg(reg)) {
-                put_node(drivers, place, first.saturating_add(number));
+                put_node(nodes, place, first.saturating_add(number));
             }
         }
     }
 }
 
 // The node that drives each net.
-fn drivers_of(alloc: Global, wiring: &Netlist) -> Result<Vec<Option<usize>>, AllocError> {
+fn nodes_of(alloc: Global, wiring: &Netlist) -> Result<Vec<Option<usize>>, AllocError> {
     let wires = wiring.outputs.len().saturating_add(wiring.wires.len());
-    let mut drivers = vec![in alloc; None; wires.saturating_add(wiring.regs.len())]?;
-    note_assigns(wiring, &mut drivers);
-    note_updates(wiring, &mut drivers);
-    Ok(drivers)
-}
-
-fn driver_of_net(wiring: &Netlist, drivers: &[Option<usize>], net: Net) -> Option<usize> {
-    match place_of(wiring, net) {
-        Some(place) => node_at(drivers, place),
-        None => None,
-    }
-}
-
-fn driver_of(wiring: &Netlist, drivers: &[Option<usize>], a: &Atom<Net>) -> Option<usize> {
-    match a {
-        Atom::Net(net) => driver_of_net(wiring, drivers, *net),
-        Atom::Constant(_) => None,
-    }
+    let mut nodes = vec![in alloc; None; wires.saturating_add(wiring.regs.len())]?;
+    note_assigns(wiring, &mut nodes);
+    note_updates(wiring, &mut nodes);
+    Ok(nodes)
 }
 
 // The number of words of an array.
@@ -104,28 +91,33 @@ fn depth_of(wiring: &Netlist, array: usize) -> usize {
     }
 }
 
+// The array that a right side reads, if it reads one.
+fn array_of(right: &Right<Net, usize>) -> Option<usize> {
+    match right {
+        Right::Word(array, _) => Some(*array),
+        Right::Copy(_) | Right::Not(_) | Right::Binary(_, _, _) | Right::Choose(_, _, _) => None,
+        Right::Join(_, _) | Right::Repeat(_, _) | Right::Bit(_, _) | Right::Slice(_, _, _) => None,
+    }
+}
+
 // The number of words of the array that an assign reads, 0 where it reads none.
 pub(crate) fn words_read(wiring: &Netlist, number: usize) -> usize {
     match wiring.assigns.get(number) {
-        Some(assign) => match assign.right {
-            Right::Word(array, _) => depth_of(wiring, array),
-            _ => 0,
+        Some(assign) => match array_of(&assign.right) {
+            Some(array) => depth_of(wiring, array),
+            None => 0,
         },
         None => 0,
     }
 }
 
-// How the words of an array that an assign reads come about over a batch of clocks.
+// An array that an assign reads.
 #[derive(Clone, Copy)]
-pub(crate) enum Access {
-    // There are more words than clocks: they are those before the batch.
-    Long,
-    // A batch comes back to its words.
-    Small,
-    // The same, and what is put is what is read, or else a value chosen by a bit, at the index of the read.
-    Held,
-    // A batch comes back to its words, and what is put is a value chosen by a bit, or else the register that takes what is read.
-    Copied,
+pub(crate) struct Access {
+    pub(crate) array: usize,
+    // How its words are written clock by clock, if a batch comes back to them. Else it has more words than the batch has clocks, and
+    // what is read was there before the batch.
+    pub(crate) written: Option<Written>,
 }
 
 // How many assigns read each array.
@@ -138,15 +130,25 @@ fn count_reads(wiring: &Netlist, counts: &mut [usize]) {
     }
 }
 
-// The update that puts into each array, counted from 1, and how many there are.
-fn note_puts(wiring: &Netlist, puts: &mut [usize], counts: &mut [usize]) {
-    for number in 0..wiring.updates.len() {
-        if let Update::Put(array, _, _) = wiring.updates[number] {
-            let count = number_at(counts, array);
-            put(counts, array, count.saturating_add(1));
-            put(puts, array, number);
+// How many updates put into each array.
+fn count_puts(wiring: &Netlist, counts: &mut [usize]) {
+    for update in &wiring.updates {
+        if let Update::Put(array, _, _) = update {
+            let count = number_at(counts, *array);
+            put(counts, *array, count.saturating_add(1));
         }
     }
+}
+
+// The update that puts into each array.
+fn puts_of(alloc: Global, wiring: &Netlist) -> Result<Vec<usize>, AllocError> {
+    let mut puts = vec![in alloc; 0usize; wiring.arrays.len()]?;
+    for number in 0..wiring.updates.len() {
+        if let Update::Put(array, _, _) = wiring.updates[number] {
+            put(&mut puts, array, number);
+        }
+    }
+    Ok(puts)
 }
 
 fn are_one(counts: &[usize]) -> bool {
@@ -160,28 +162,11 @@ fn are_one(counts: &[usize]) -> bool {
 
 // Whether each array is read by one assign and put once.
 pub(crate) fn arrays_are_single(alloc: Global, wiring: &Netlist) -> Result<bool, AllocError> {
-    let arrays = wiring.arrays.len();
-    let mut reads = vec![in alloc; 0usize; arrays]?;
+    let mut reads = vec![in alloc; 0usize; wiring.arrays.len()]?;
     count_reads(wiring, &mut reads);
-    let mut counts = vec![in alloc; 0usize; arrays]?;
-    let mut puts = vec![in alloc; 0usize; arrays]?;
-    note_puts(wiring, &mut puts, &mut counts);
-    Ok(are_one(&reads) && are_one(&counts))
-}
-
-// The right side of the assign that drives an atom.
-fn right_of<'a>(
-    wiring: &'a Netlist,
-    drivers: &[Option<usize>],
-    a: &Atom<Net>,
-) -> Option<&'a Right<Net, usize>> {
-    match driver_of(wiring, drivers, a) {
-        Some(node) => match wiring.assigns.get(node) {
-            Some(assign) => Some(&assign.right),
-            None => None,
-        },
-        None => None,
-    }
+    let mut puts = vec![in alloc; 0usize; wiring.arrays.len()]?;
+    count_puts(wiring, &mut puts);
+    Ok(are_one(&reads) && are_one(&puts))
 }
 
 fn is_net(a: &Atom<Net>, net: Net) -> bool {
@@ -199,177 +184,192 @@ fn are_one_net(a: &Atom<Net>, b: &Atom<Net>) -> bool {
     }
 }
 
-// What is put by a choice at an index, or else this net there.
-fn held_needs(
-    wiring: &Netlist,
-    drivers: &[Option<usize>],
-    value: &Atom<Net>,
-    target: Net,
-) -> Option<Needs> {
-    match right_of(wiring, drivers, value) {
-        Some(Right::Choose(bit, put, kept)) if is_net(kept, target) => {
-            let mut needs = NONE;
-            needs.second = driver_of(wiring, drivers, bit);
-            needs.third = driver_of(wiring, drivers, put);
-            Some(needs)
-        }
-        _ => None,
-    }
-}
-
-fn is_word_net(wiring: &Netlist, drivers: &[Option<usize>], net: Net) -> bool {
-    matches!(
-        right_of(wiring, drivers, &Atom::Net(net)),
-        Some(Right::Word(_, _))
-    )
-}
-
-// Whether an atom is what is read of an array, or bits of it.
-fn is_read(wiring: &Netlist, drivers: &[Option<usize>], a: &Atom<Net>) -> bool {
-    match right_of(wiring, drivers, a) {
-        Some(Right::Word(_, _)) => true,
-        Some(Right::Bit(net, _) | Right::Slice(net, _, _)) => is_word_net(wiring, drivers, *net),
-        _ => false,
-    }
-}
-
-// The bit by which a register takes what is read of an array or bits of it, and that net; where the bit is 0 it keeps its value.
-fn loaded<'a>(
+// A module's wiring with what drives its nets, for batches of some clocks.
+#[derive(Drop)]
+struct Drivers<'a> {
     wiring: &'a Netlist,
-    drivers: &[Option<usize>],
-    update: &Update,
-) -> Option<(&'a Atom<Net>, &'a Atom<Net>)> {
-    let Update::Set(register, next) = update else {
-        return None;
-    };
-    match right_of(wiring, drivers, next) {
-        Some(Right::Choose(bit, read, kept)) if is_net(kept, Net::Reg(*register)) => {
-            if is_read(wiring, drivers, read) {
-                Some((bit, read))
-            } else {
-                None
-            }
-        }
-        _ => None,
-    }
-}
-
-// The update that sets the register of an atom.
-fn setting<'a>(
-    wiring: &'a Netlist,
-    drivers: &[Option<usize>],
-    a: &Atom<Net>,
-) -> Option<&'a Update> {
-    let node = driver_of(wiring, drivers, a)?;
-    let update = node.checked_sub(wiring.assigns.len())?;
-    wiring.updates.get(update)
-}
-
-// Whether an atom is a register that takes this net, which is read of an array, or keeps its value.
-fn is_copy(wiring: &Netlist, drivers: &[Option<usize>], a: &Atom<Net>, target: Net) -> bool {
-    match setting(wiring, drivers, a) {
-        Some(update) => match loaded(wiring, drivers, update) {
-            Some((_, read)) => is_net(read, target),
-            None => false,
-        },
-        None => false,
-    }
-}
-
-// What is put by a choice, or else the register that takes this net.
-fn copied_needs(
-    wiring: &Netlist,
-    drivers: &[Option<usize>],
-    value: &Atom<Net>,
-    target: Net,
-) -> Option<Needs> {
-    match right_of(wiring, drivers, value) {
-        Some(Right::Choose(bit, put, kept)) if is_copy(wiring, drivers, kept, target) => {
-            let mut needs = NONE;
-            needs.second = driver_of(wiring, drivers, bit);
-            needs.third = driver_of(wiring, drivers, put);
-            Some(needs)
-        }
-        _ => None,
-    }
-}
-
-// What the read of an array with few words needs beside its index: what is put, or what it is chosen from.
-fn small_needs(
-    wiring: &Netlist,
-    drivers: &[Option<usize>],
-    update: &Update,
-    target: Net,
-    index: &Atom<Net>,
-) -> (Needs, Access) {
-    let mut needs = NONE;
-    if let Update::Put(_, place, value) = update {
-        if are_one_net(place, index) {
-            if let Some(held) = held_needs(wiring, drivers, value, target) {
-                return (held, Access::Held);
-            }
-        }
-        if let Some(copied) = copied_needs(wiring, drivers, value, target) {
-            return (copied, Access::Copied);
-        }
-        needs.second = driver_of(wiring, drivers, place);
-        needs.third = driver_of(wiring, drivers, value);
-    }
-    (needs, Access::Small)
-}
-
-// What the read of an array needs: where a batch comes back to its words also what is put.
-fn word_needs(
-    wiring: &Netlist,
-    drivers: &[Option<usize>],
-    puts: &[usize],
+    // the node that drives each net
+    nodes: Vec<Option<usize>>,
+    // the update that puts into each array
+    puts: Vec<usize>,
+    // the clocks of a batch
     size: usize,
-    target: Net,
-    array: usize,
-    index: &Atom<Net>,
-) -> (Needs, Access) {
-    let mut found = (NONE, Access::Long);
-    if depth_of(wiring, array) <= size {
-        if let Some(update) = wiring.updates.get(number_at(puts, array)) {
-            found = small_needs(wiring, drivers, update, target, index);
-        }
-    }
-    found.0.first = driver_of(wiring, drivers, index);
-    found
 }
 
-// What an assign that reads no array needs.
-fn right_needs(wiring: &Netlist, drivers: &[Option<usize>], right: &Right<Net, usize>) -> Needs {
-    let mut needs = NONE;
-    match right {
-        Right::Copy(a) | Right::Not(a) | Right::Repeat(_, a) | Right::Word(_, a) => {
-            needs.first = driver_of(wiring, drivers, a);
-        }
-        Right::Binary(_, a, b) | Right::Join(a, b) => {
-            needs.first = driver_of(wiring, drivers, a);
-            needs.second = driver_of(wiring, drivers, b);
-        }
-        Right::Choose(c, a, b) => {
-            needs.first = driver_of(wiring, drivers, c);
-            needs.second = driver_of(wiring, drivers, a);
-            needs.third = driver_of(wiring, drivers, b);
-        }
-        Right::Bit(net, _) | Right::Slice(net, _, _) => {
-            needs.first = driver_of_net(wiring, drivers, *net);
+impl<'a> Drivers<'a> {
+    // The node that drives a net.
+    fn of_net(&self, net: Net) -> Option<usize> {
+        match place_of(self.wiring, net) {
+            Some(place) => node_at(&self.nodes, place),
+            None => None,
         }
     }
-    needs
-}
 
-fn update_needs(wiring: &Netlist, drivers: &[Option<usize>], update: &Update) -> Needs {
-    let mut needs = NONE;
-    if let Some((bit, read)) = loaded(wiring, drivers, update) {
-        needs.first = driver_of(wiring, drivers, bit);
-        needs.second = driver_of(wiring, drivers, read);
-    } else if let Update::Set(_, value) = update {
-        needs.first = driver_of(wiring, drivers, value);
+    fn of(&self, a: &Atom<Net>) -> Option<usize> {
+        match a {
+            Atom::Net(net) => self.of_net(*net),
+            Atom::Constant(_) => None,
+        }
     }
-    needs
+
+    // The right side of the assign that drives an atom.
+    fn right_of(&self, a: &Atom<Net>) -> Option<&'a Right<Net, usize>> {
+        let node = self.of(a)?;
+        let assign = self.wiring.assigns.get(node)?;
+        Some(&assign.right)
+    }
+
+    fn is_word(&self, net: Net) -> bool {
+        matches!(self.right_of(&Atom::Net(net)), Some(Right::Word(_, _)))
+    }
+
+    // Whether an atom is what is read of an array, or bits of it.
+    fn is_read(&self, a: &Atom<Net>) -> bool {
+        match self.right_of(a) {
+            Some(Right::Word(_, _)) => true,
+            Some(Right::Bit(net, _) | Right::Slice(net, _, _)) => self.is_word(*net),
+            _ => false,
+        }
+    }
+
+    // The bit by which a register takes what is read of an array or bits of it, and that net; where the bit is 0 it keeps its value.
+    fn loaded(&self, update: &Update) -> Option<(&'a Atom<Net>, &'a Atom<Net>)> {
+        let Update::Set(register, next) = update else {
+            return None;
+        };
+        match self.right_of(next) {
+            Some(Right::Choose(bit, read, kept)) if is_net(kept, Net::Reg(*register)) => {
+                if self.is_read(read) {
+                    Some((bit, read))
+                } else {
+                    None
+                }
+            }
+            _ => None,
+        }
+    }
+
+    // The update that sets the register of an atom.
+    fn setting(&self, a: &Atom<Net>) -> Option<&'a Update> {
+        let node = self.of(a)?;
+        let update = node.checked_sub(self.wiring.assigns.len())?;
+        self.wiring.updates.get(update)
+    }
+
+    // Whether an atom is a register that takes this net, which is read of an array, or keeps its value.
+    fn is_copy(&self, a: &Atom<Net>, target: Net) -> bool {
+        match self.setting(a) {
+            Some(update) => match self.loaded(update) {
+                Some((_, read)) => is_net(read, target),
+                None => false,
+            },
+            None => false,
+        }
+    }
+
+    // What the bit and the value of a choice need.
+    fn choice_needs(&self, bit: &Atom<Net>, value: &Atom<Net>) -> Needs {
+        let mut needs = NONE;
+        needs.second = self.of(bit);
+        needs.third = self.of(value);
+        needs
+    }
+
+    // What is put by a choice at an index, or else this net there.
+    fn kept_needs(&self, value: &Atom<Net>, target: Net) -> Option<Needs> {
+        match self.right_of(value) {
+            Some(Right::Choose(bit, put, kept)) if is_net(kept, target) => {
+                Some(self.choice_needs(bit, put))
+            }
+            _ => None,
+        }
+    }
+
+    // What is put by a choice, or else the register that takes this net.
+    fn copied_needs(&self, value: &Atom<Net>, target: Net) -> Option<Needs> {
+        match self.right_of(value) {
+            Some(Right::Choose(bit, put, kept)) if self.is_copy(kept, target) => {
+                Some(self.choice_needs(bit, put))
+            }
+            _ => None,
+        }
+    }
+
+    // What the read of an array to whose words a batch comes back needs beside its index: what is put, or what it is chosen from.
+    fn written_needs(&self, update: &Update, target: Net, index: &Atom<Net>) -> (Needs, Written) {
+        let mut needs = NONE;
+        if let Update::Put(_, place, value) = update {
+            if are_one_net(place, index) {
+                if let Some(kept) = self.kept_needs(value, target) {
+                    return (kept, Written::Choice);
+                }
+            }
+            if let Some(copied) = self.copied_needs(value, target) {
+                return (copied, Written::Copy);
+            }
+            needs.second = self.of(place);
+            needs.third = self.of(value);
+        }
+        (needs, Written::Put)
+    }
+
+    // What the read of an array needs: where a batch comes back to its words also what is put.
+    fn word_needs(&self, target: Net, array: usize, index: &Atom<Net>) -> (Needs, Access) {
+        let mut needs = NONE;
+        let mut written = None;
+        if depth_of(self.wiring, array) <= self.size {
+            if let Some(update) = self.wiring.updates.get(number_at(&self.puts, array)) {
+                let found = self.written_needs(update, target, index);
+                needs = found.0;
+                written = Some(found.1);
+            }
+        }
+        needs.first = self.of(index);
+        (needs, Access { array, written })
+    }
+
+    // What an assign that reads no array needs.
+    fn right_needs(&self, right: &Right<Net, usize>) -> Needs {
+        let mut needs = NONE;
+        match right {
+            Right::Copy(a) | Right::Not(a) | Right::Repeat(_, a) | Right::Word(_, a) => {
+                needs.first = self.of(a);
+            }
+            Right::Binary(_, a, b) | Right::Join(a, b) => {
+                needs.first = self.of(a);
+                needs.second = self.of(b);
+            }
+            Right::Choose(c, a, b) => {
+                needs.first = self.of(c);
+                needs.second = self.of(a);
+                needs.third = self.of(b);
+            }
+            Right::Bit(net, _) | Right::Slice(net, _, _) => {
+                needs.first = self.of_net(*net);
+            }
+        }
+        needs
+    }
+
+    fn assign_needs(&self, assign: &Assign) -> (Needs, Option<Access>) {
+        if let Right::Word(array, index) = &assign.right {
+            let (needs, access) = self.word_needs(assign.target, *array, index);
+            (needs, Some(access))
+        } else {
+            (self.right_needs(&assign.right), None)
+        }
+    }
+
+    fn update_needs(&self, update: &Update) -> Needs {
+        let mut needs = NONE;
+        if let Some((bit, read)) = self.loaded(update) {
+            needs.first = self.of(bit);
+            needs.second = self.of(read);
+        } else if let Update::Set(_, value) = update {
+            needs.first = self.of(value);
+        }
+        needs
+    }
 }
 
 // What each node needs, how each assign that reads an array does so, and which updates are of registers that take what is read
@@ -381,45 +381,39 @@ pub(crate) struct Graph {
     pub(crate) loads: Vec<bool>,
 }
 
-fn add_assign(
-    graph: &mut Graph,
-    wiring: &Netlist,
-    drivers: &[Option<usize>],
-    puts: &[usize],
-    size: usize,
-    assign: &Assign,
-) -> Result<(), AllocError> {
-    if let Right::Word(array, index) = &assign.right {
-        let (needs, access) = word_needs(wiring, drivers, puts, size, assign.target, *array, index);
+fn add_assigns(graph: &mut Graph, drivers: &Drivers<'_>) -> Result<(), AllocError> {
+    for assign in &drivers.wiring.assigns {
+        let (needs, access) = drivers.assign_needs(assign);
         graph.needs.push(needs)?;
-        graph.accesses.push(Some(access))?;
-    } else {
-        let needs = right_needs(wiring, drivers, &assign.right);
-        graph.needs.push(needs)?;
-        graph.accesses.push(None)?;
+        graph.accesses.push(access)?;
+    }
+    Ok(())
+}
+
+fn add_updates(graph: &mut Graph, drivers: &Drivers<'_>) -> Result<(), AllocError> {
+    for update in &drivers.wiring.updates {
+        graph.needs.push(drivers.update_needs(update))?;
+        graph.loads.push(drivers.loaded(update).is_some())?;
     }
     Ok(())
 }
 
 // The graph of a module, for batches of this many clocks.
 pub(crate) fn graph_of(alloc: Global, wiring: &Netlist, size: usize) -> Result<Graph, AllocError> {
-    let drivers = drivers_of(alloc, wiring)?;
-    let mut counts = vec![in alloc; 0usize; wiring.arrays.len()]?;
-    let mut puts = vec![in alloc; 0usize; wiring.arrays.len()]?;
-    note_puts(wiring, &mut puts, &mut counts);
+    let nodes = nodes_of(alloc, wiring)?;
+    let puts = puts_of(alloc, wiring)?;
+    let drivers = Drivers {
+        wiring,
+        nodes,
+        puts,
+        size,
+    };
     let mut graph = Graph {
         needs: Vec::new(alloc),
         accesses: Vec::new(alloc),
         loads: Vec::new(alloc),
     };
-    for assign in &wiring.assigns {
-        add_assign(&mut graph, wiring, &drivers, &puts, size, assign)?;
-    }
-    for update in &wiring.updates {
-        graph.needs.push(update_needs(wiring, &drivers, update))?;
-        graph
-            .loads
-            .push(loaded(wiring, &drivers, update).is_some())?;
-    }
+    add_assigns(&mut graph, &drivers)?;
+    add_updates(&mut graph, &drivers)?;
     Ok(graph)
 }

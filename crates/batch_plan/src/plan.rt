@@ -10,6 +10,18 @@ use netlist::{Module, Netlist};
 use std::alloc::{AllocError, Global};
 use wiring::Update;
 
+/// How the words of an array to which a batch comes back are written, clock by clock.
+#[derive(Clone, Copy, Debug, PartialEq, Eq)]
+pub enum Written {
+    /// By its put.
+    Put,
+    /// By a choice: a value where a bit is 1, else what is read, at the index of the read. The choice is evaluated after the read.
+    Choice,
+    /// By a choice: a value where a bit is 1, else the register that takes what is read. The register's row and the choice are made
+    /// after the read.
+    Copy,
+}
+
 /// What is done next to the rows of a batch.
 #[derive(Clone, Copy, Debug, PartialEq, Eq)]
 pub enum Step {
@@ -17,35 +29,27 @@ pub enum Step {
     Run {
         upto: usize,
     },
-    /// The register of this update is on no cycle: its row is its next value's, one clock later.
+    /// This register is on no cycle: its row is its next value's, one clock later.
     Shift {
-        update: usize,
+        register: usize,
     },
-    /// The reads of this assign are taken from the words of its array as they are before the batch.
+    /// The reads of this array are taken from its words as they are before the batch.
     Read {
-        assign: usize,
+        array: usize,
     },
-    /// An array with so few words that a batch comes back to them: reads and puts, clock by clock, over a copy of its words. Its
-    /// indexes and the value put are known.
-    Small {
-        assign: usize,
+    /// The reads of this array, which has no more words than the batch has clocks, so that the batch comes back to them: reads and
+    /// writes, clock by clock, over a copy of the words. The indexes are known, and the value put, or the bit and the value of the
+    /// choice.
+    ReadWritten {
+        array: usize,
+        written: Written,
     },
-    /// The same where what is put is chosen: by a bit a value, or else what this assign reads, which is there already. The
-    /// indexes, the bit and the value are known, and the choice is evaluated after this step.
-    Held {
-        assign: usize,
-    },
-    /// The register of this update takes what is read of an array where a bit is 1, and else keeps its value: its row is made from
-    /// those of the bit and of the read, and the choice is evaluated after this step.
+    /// This register takes what is read of an array where a bit is 1, and else keeps its value: its row is made from those of the
+    /// bit and of the read, and the choice is evaluated after this step.
     Load {
-        update: usize,
+        register: usize,
     },
-    /// As `Small`, where what is put is chosen: by a bit a value, or else the register that takes what this assign reads. The
-    /// indexes, the bit and the value are known, and the register's row and the choice are made after this step.
-    Copied {
-        assign: usize,
-    },
-    /// The registers of the updates `looped[first..last]` are on a cycle: their rows are guessed, the assigns of the order up to
+    /// The registers `looped[first..last]` are on a cycle: their rows are guessed, the assigns of the order up to
     /// `upto` are evaluated, and what was guessed is compared and mended.
     Guess {
         first: usize,
@@ -61,7 +65,7 @@ pub struct Plan {
     /// The numbers of these assigns.
     pub order: Vec<usize>,
     pub steps: Vec<Step>,
-    /// The updates of the registers on cycles.
+    /// The registers on cycles.
     pub looped: Vec<usize>,
     /// The most clocks of a batch.
     pub size: usize,
@@ -105,10 +109,10 @@ fn add_assign(draft: &mut Draft, graph: &Graph, assign: usize) -> Result<(), All
             draft.plan.order.push(assign)?;
             Ok(())
         }
-        Some(Access::Long) => add_step(draft, Step::Read { assign }),
-        Some(Access::Small) => add_step(draft, Step::Small { assign }),
-        Some(Access::Held) => add_step(draft, Step::Held { assign }),
-        Some(Access::Copied) => add_step(draft, Step::Copied { assign }),
+        Some(Access { array, written: None }) => add_step(draft, Step::Read { array }),
+        Some(Access { array, written: Some(written) }) => {
+            add_step(draft, Step::ReadWritten { array, written })
+        }
     }
 }
 
@@ -119,10 +123,11 @@ fn is_load(graph: &Graph, update: usize) -> bool {
     }
 }
 
-fn sets_register(wiring: &Netlist, update: usize) -> bool {
+// The register that an update sets, if it sets one.
+fn register_of(wiring: &Netlist, update: usize) -> Option<usize> {
     match wiring.updates.get(update) {
-        Some(Update::Set(_, _)) => true,
-        _ => false,
+        Some(Update::Set(register, _)) => Some(*register),
+        Some(Update::Put(_, _, _)) | None => None,
     }
 }
 
@@ -138,13 +143,11 @@ fn add_single(
         return add_assign(draft, graph, node);
     }
     let update = node - assigns;
-    if is_load(graph, update) {
-        return add_step(draft, Step::Load { update });
+    match register_of(wiring, update) {
+        Some(register) if is_load(graph, update) => add_step(draft, Step::Load { register }),
+        Some(register) => add_step(draft, Step::Shift { register }),
+        None => Ok(()),
     }
-    if sets_register(wiring, update) {
-        return add_step(draft, Step::Shift { update });
-    }
-    Ok(())
 }
 
 // The nodes of a group on a cycle; false where one of them reads an array.
@@ -159,7 +162,9 @@ fn add_cycle(
     let assigns = wiring.assigns.len();
     for node in nodes {
         if *node >= assigns {
-            draft.plan.looped.push(*node - assigns)?;
+            if let Some(register) = register_of(wiring, *node - assigns) {
+                draft.plan.looped.push(register)?;
+            }
         } else if access_at(graph, *node).is_none() {
             draft.plan.order.push(*node)?;
         } else {
@@ -208,7 +213,7 @@ enum Drawn {
     Cycle(usize),
 }
 
-// The most words of an array that one of these nodes reads, of those with at most so many words as a batch has clocks.
+// The most words of an array that one of these nodes reads, of the arrays with no more words than a batch has clocks.
 fn deepest(wiring: &Netlist, nodes: &[usize], size: usize) -> usize {
     let mut most = 0;
     for node in nodes {

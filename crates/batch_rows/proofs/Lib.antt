@@ -1,6 +1,5 @@
-pub mod LaneRows
+pub mod FirstUses
 pub mod Masks
 pub mod Order
 pub mod Running
 pub mod Sized
-pub mod TakenBack

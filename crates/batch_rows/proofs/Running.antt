@@ -14,10 +14,10 @@ use Rattle.wiring.specs.Sizes.{SizedNumber, IsConstant}
 use Rattle.wiring.proofs.Fits.{right_lt}
 use Rattle.wiring.proofs.Local.{right_local}
 use Rattle.batch_rows.specs.declared.code.Instruction.{Instruction}
-use Rattle.batch_rows.specs.Rights.{value_at, HasRow, IsOperand, AreOperands}
-use Rattle.batch_rows.specs.LaneSizes.{IsSized, InLanes}
-use Rattle.batch_rows.specs.Values.{row_bits}
-use Rattle.batch_rows.specs.declared.row.Row.{Row}
+use Rattle.lane_rows.specs.Values.{value_at, InLanes, row_bits}
+use Rattle.batch_rows.specs.Rights.{HasRow, IsOperand, AreOperands}
+use Rattle.batch_rows.specs.LaneSizes.{IsSized}
+use Rattle.lane_rows.specs.declared.row.Row.{Row}
 use Rattle.batch_rows.specs.Code.{AreRows, IsSound, IsOrdered, HoldsAt, AllHold}
 
 below : (x w bits : ℕ) → x < 2 ^ w → w ≤ bits → x < 2 ^ bits

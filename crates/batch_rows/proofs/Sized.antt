@@ -14,8 +14,9 @@ use Rattle.wiring.specs.declared.right.Right.{Right}
 use Rattle.wiring.specs.declared.right.Right.TheVariants.{Copy, Not, Binary, Choose, Join, Repeat, Bit, Slice, Word}
 use Rattle.wiring.specs.Rights.{atom_nets, nets_of, atom_constants, constants_of}
 use Rattle.batch_rows.specs.declared.code.Instruction.{Instruction}
-use Rattle.batch_rows.specs.LaneSizes.{AtomIsIn, RightIsIn, IsSized, bits_of}
-use Rattle.batch_rows.specs.declared.code.Size.{Size}
+use Rattle.batch_rows.specs.LaneSizes.{AtomIsIn, RightIsIn, IsSized}
+use Rattle.lane_rows.specs.Values.{bits_of}
+use Rattle.lane_rows.specs.declared.row.Size.{Size}
 
 module _ (widths : List ℕ) (bits : ℕ) where
   abbrev HasNet : ℕ → Type 0

@@ -4,7 +4,10 @@ use Rattle.wiring.specs.Sizes.{IsConstant}
 use Rattle.wiring.specs.Rights.{array_of, nets_of, constants_of, right_value, right_width}
 use Rattle.wiring.specs.Rules.{WidthsAgree}
 use Rattle.batch_rows.specs.declared.code.Instruction.{Instruction}
-use Rattle.batch_rows.specs.Rights.{value_at}
+use Rattle.batch_rows.specs.LaneSizes.{AreSized}
+use Rattle.lane_rows.specs.declared.row.Row.{Row}
+use Rattle.lane_rows.specs.declared.row.Size.{Size}
+use Rattle.lane_rows.specs.Values.{InLanes, value_at, values_of}
 
 -- as many rows as widths, each of this many values that fit
 pub record AreRows (widths : List ℕ) (count : ℕ) (rows : List (List ℕ)) : Type 0 where
@@ -41,3 +44,16 @@ AllHold widths count rows k code = (p t : ℕ) (i : Instruction) → p < k → t
 -- no instruction writes this slot
 abbrev pub IsNoTarget : List Instruction → ℕ → Type 0
 IsNoTarget code n = (k : ℕ) (i : Instruction) → slice_get code k ≡ Some i → n ≢ i.target
+
+-- instructions that can be run one after another, each in a lane that holds its slots and constants
+pub record CanRun (widths : List ℕ) (code : List Instruction) (sizes : List Size) : Type 0 where
+  pub sound : AreSound widths code
+  pub sized : AreSized widths code sizes
+  pub ordered : IsOrdered code
+
+-- the first k instructions were run over rows of this many places: their equations hold, each row is in a lane that holds its slot, and
+-- all values fit
+pub record HaveRun (widths : List ℕ) (code : List Instruction) (count : ℕ) (made : List Row) (k : ℕ) : Type 0 where
+  pub rows : AreRows widths count (values_of made)
+  pub lanes : InLanes widths made
+  pub hold : AllHold widths count (values_of made) k code

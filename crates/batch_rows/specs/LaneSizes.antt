@@ -1,5 +1,5 @@
--- Lanes in which rows are held and instructions are run.
-use Rattle.std.specs.Prelude.{◌≡◌, ℕ, ◌<◌, ◌≤◌, List, length, map, slice_index, slice_get, Some, All, Contains}
+-- Lanes in which instructions are run.
+use Rattle.std.specs.Prelude.{◌≡◌, ℕ, ◌≤◌, List, length, slice_index, slice_get, Some, All, Contains}
 use Rattle.wiring.specs.Sizes.{SizedNumber}
 use Rattle.wiring.specs.declared.right.Atom.{Atom}
 use Rattle.wiring.specs.declared.right.Atom.TheVariants as atom
@@ -7,22 +7,11 @@ use Rattle.wiring.specs.declared.right.Right.{Right}
 use Rattle.wiring.specs.declared.right.Right.TheVariants.{Copy, Not, Binary, Choose, Join, Repeat, Bit, Slice, Word}
 use Rattle.wiring.specs.Rights.{nets_of, constants_of}
 use Rattle.batch_rows.specs.declared.code.Instruction.{Instruction}
-use Rattle.batch_rows.specs.declared.code.Size.{Size}
-use Rattle.batch_rows.specs.declared.code.Size.TheVariants.{Narrow, Middle, Wide}
-use Rattle.batch_rows.specs.declared.code.Bench.{Bench}
+use Rattle.lane_rows.specs.declared.row.Size.{Size}
+use Rattle.batch_rows.specs.declared.code.Scratch.{Scratch}
 use Rattle.batch_rows.specs.declared.code.Rooms.{Rooms}
-use Rattle.batch_rows.specs.declared.row.Row.{Row}
 use Rattle.batch_rows.specs.Rights.{HaveRoom}
-use Rattle.batch_rows.specs.Values.{row_bits}
-
--- each row is in a lane of no fewer bits than its slot
-abbrev pub InLanes : List ℕ → List Row → Type 0
-InLanes widths rows = (n : ℕ) → n < length rows → slice_index widths n ≤ slice_index (map row_bits rows) n
-
-abbrev pub bits_of : Size → ℕ
-bits_of Narrow = 16
-bits_of Middle = 32
-bits_of Wide = 64
+use Rattle.lane_rows.specs.Values.{bits_of}
 
 -- the slots and the constants of an instruction have no more bits than this
 pub record IsSized (widths : List ℕ) (bits : ℕ) (i : Instruction) : Type 0 where
@@ -35,15 +24,15 @@ pub record AreSized (widths : List ℕ) (code : List Instruction) (sizes : List 
   pub count : length sizes ≡ length code
   pub each : (k : ℕ) (i : Instruction) (s : Size) → slice_get code k ≡ Some i → slice_get sizes k ≡ Some s → IsSized widths (bits_of s) i
 
--- room of a lane for this many clocks
-abbrev pub HasBench : {T : Type 0} → Bench T → ℕ → Type 0
-HasBench b count = (length b.to.items ≡ count) × HaveRoom b.spares count
+-- room in a lane for instructions over this many clocks
+abbrev pub HasScratch : {T : Type 0} → Scratch T → ℕ → Type 0
+HasScratch b count = (length b.to.items ≡ count) × HaveRoom b.spares count
 
 -- room of all lanes
 pub record HaveRooms (r : Rooms) (count : ℕ) : Type 0 where
-  pub narrow : HasBench r.narrow count
-  pub middle : HasBench r.middle count
-  pub wide : HasBench r.wide count
+  pub narrow : HasScratch r.narrow count
+  pub middle : HasScratch r.middle count
+  pub wide : HasScratch r.wide count
 
 -- an atom has no more bits than this
 abbrev pub AtomIsIn : List ℕ → ℕ → Atom ℕ → Type 0

@@ -3,4 +3,4 @@ pub mod Rights
 pub mod Rows
 pub mod Seen
 pub mod LaneSizes
-pub mod Values
+pub mod Uses

@@ -1,20 +1,12 @@
 -- Rows of right sides over slots.
-use Rattle.std.specs.Prelude.{◌≡◌, ℕ, ◌^◌, ◌<◌, ◌≤◌, List, [], length, slice_index, slice_index_or, map, Vec}
-use Rattle.std.specs.declared.alloc.Global.{Global}
+use Rattle.std.specs.Prelude.{◌≡◌, ℕ, ◌^◌, ◌<◌, ◌≤◌, List, [], length, slice_index, slice_index_or}
 use Rattle.wiring.specs.declared.right.Atom.{Atom}
 use Rattle.wiring.specs.declared.right.Atom.TheVariants as atom
 use Rattle.wiring.specs.declared.right.Right.{Right}
 use Rattle.wiring.specs.declared.right.Right.TheVariants.{Copy, Not, Binary, Choose, Join, Repeat, Bit, Slice, Word}
 use Rattle.wiring.specs.Rights.{atom_width, atom_value, right_value}
 use Rattle.batch_rows.specs.declared.rights.Spares.{Spares}
-
--- the values of vectors
-abbrev pub items_of : List (Vec ℕ Global) → List (List ℕ)
-items_of rows = map (λ (v : Vec ℕ Global). v.items) rows
-
--- the value of a slot at a clock
-abbrev pub value_at : List (List ℕ) → ℕ → ℕ → ℕ
-value_at rows t n = slice_index (slice_index_or rows n []) t
+use Rattle.lane_rows.specs.Values.{value_at}
 
 -- the row of an atom has this many clocks
 abbrev pub HasRow : List (List ℕ) → ℕ → Atom ℕ → Type 0

@@ -3,7 +3,7 @@
 ghost use Rattle.std.specs.Prelude.{◌≡◌, ℕ, ◌<◌, length, map, slice_index, if◌then◌else◌, ◌==◌};
 ghost use Rattle.batch_rows.specs.Rows.{IsChosenRow};
 
-use crate::lanes::Lane;
+use lane_rows::Lane;
 
 // One of two numbers, by a bit. By masks, of which LLVM makes vector code, as it does not of two branches.
 #[tactic(auto, using(crate::proofs::Masks::chosen_is))]

@@ -1,15 +1,13 @@
 // Instructions over rows.
 
-ghost use Rattle.std.specs.Prelude.{◌≡◌, ◌≢◌, ℕ, ◌^◌, ◌<◌, ◌≤◌, [], length, map, slice_get, slice_index, slice_index_or, Some, IfOk};
-ghost use Rattle.batch_rows.specs.declared.row.Row.{Row};
-ghost use Rattle.batch_rows.specs.Rights.{AreOperands, IsRightRow, HaveRoom};
-ghost use Rattle.batch_rows.specs.Values.{row_bits, row_values, values_of};
-ghost use Rattle.batch_rows.specs.Code.{AreRows, IsSound, AreSound, IsOrdered, IsNoTarget, AllHold};
-ghost use Rattle.batch_rows.specs.LaneSizes.{InLanes, IsSized, AreSized, bits_of, HasBench, HaveRooms};
+ghost use Rattle.std.specs.Prelude.{◌≡◌, ◌≢◌, ℕ, ◌<◌, ◌≤◌, [], length, map, slice_index_or, IfOk};
+ghost use Rattle.lane_rows.specs.Values.{InLanes, bits_of, row_bits, values_of};
+ghost use Rattle.batch_rows.specs.Rights.{IsRightRow, HaveRoom};
+ghost use Rattle.batch_rows.specs.Code.{AreRows, IsSound, IsNoTarget, CanRun, HaveRun};
+ghost use Rattle.batch_rows.specs.LaneSizes.{IsSized, HasScratch, HaveRooms};
 
-use crate::lanes::Lane;
-use crate::rights::{Spares, right_row};
-use crate::row::{Row, convert_row};
+use crate::rights::{Slots, Spares, right_row};
+use lane_rows::{Lane, Row, Size, put_row};
 use std::alloc::{AllocError, Global};
 use wiring::{Right, Width};
 
@@ -20,38 +18,30 @@ pub struct Instruction {
     pub right: Right<usize, usize>,
 }
 
-/// In which lane an instruction is run.
-#[derive(Clone, Copy, Debug, PartialEq, Eq)]
-pub enum Size {
-    Narrow,
-    Middle,
-    Wide,
-}
-
-/// Room for instructions of a lane: a spare row, and spare rows of operands.
+/// Room for the instructions that are run in a lane: a row for what one makes, and spare rows for its operands.
 #[derive(Debug, Drop)]
-pub struct Bench<L> {
+pub struct Scratch<L> {
     pub(crate) to: Vec<L>,
     pub(crate) spares: Spares<L>,
 }
 
-impl<L: Lane> Bench<L> {
+impl<L: Lane> Scratch<L> {
     /// Room for rows of this many clocks.
-    pub fn new(alloc: Global, count: usize) -> Result<Bench<L>, AllocError>
-        ensures { IfOk result (λ b. HasBench b count) }
+    pub fn new(alloc: Global, count: usize) -> Result<Scratch<L>, AllocError>
+        ensures { IfOk result (λ b. HasScratch b count) }
     {
         let to = vec![in alloc; L::cut(0); count]?;
         let spares = Spares::new(alloc, count)?;
-        Ok(Bench { to, spares })
+        Ok(Scratch { to, spares })
     }
 }
 
-/// Room for instructions of all lanes.
+/// That of all lanes.
 #[derive(Debug, Drop)]
 pub struct Rooms {
-    pub(crate) narrow: Bench<u16>,
-    pub(crate) middle: Bench<u32>,
-    pub(crate) wide: Bench<u64>,
+    pub(crate) narrow: Scratch<u16>,
+    pub(crate) middle: Scratch<u32>,
+    pub(crate) wide: Scratch<u64>,
 }
 
 impl Rooms {
@@ -59,9 +49,9 @@ impl Rooms {
     pub fn new(alloc: Global, count: usize) -> Result<Rooms, AllocError>
         ensures { IfOk result (λ r. HaveRooms r count) }
     {
-        let narrow = Bench::new(alloc, count)?;
-        let middle = Bench::new(alloc, count)?;
-        let wide = Bench::new(alloc, count)?;
+        let narrow = Scratch::new(alloc, count)?;
+        let middle = Scratch::new(alloc, count)?;
+        let wide = Scratch::new(alloc, count)?;
         Ok(Rooms {
             narrow,
             middle,
@@ -70,72 +60,27 @@ impl Rooms {
     }
 }
 
-// Numbers of a lane become those of a row of another one.
-fn fill_row<L: Lane>(row: &mut Row, numbers: &[L])
-    requires long { length (row_values row.old) ≡ length numbers.now }
-    requires fits { (t : ℕ) → t < length numbers.now → slice_index (map L.value numbers.now) t < 2 ^ row_bits row.old }
-    ensures bits { row_bits row.new ≡ row_bits row.old }
-    ensures count { length (row_values row.new) ≡ length numbers.now }
-    ensures each { (t : ℕ) → t < length numbers.now → slice_index (row_values row.new) t ≡ slice_index (map L.value numbers.now) t }
-{
-    match row {
-        Row::Narrow(to) => convert_row(to, numbers),
-        Row::Middle(to) => convert_row(to, numbers),
-        Row::Wide(to) => convert_row(to, numbers),
-    }
-}
-
-// A row takes numbers of a lane: as they are if it is in this lane.
-fn take_row<L: Lane>(row: &mut Row, numbers: &mut Vec<L>)
-    requires long { length (row_values row.old) ≡ length numbers.old.items }
-    requires fits { (t : ℕ) → t < length numbers.old.items → slice_index (map L.value numbers.old.items) t < 2 ^ row_bits row.old }
-    ensures bits { row_bits row.new ≡ row_bits row.old }
-    ensures room { length numbers.new.items ≡ length numbers.old.items }
-    ensures count { length (row_values row.new) ≡ length numbers.old.items }
-    ensures each { (t : ℕ) → t < length numbers.old.items → slice_index (row_values row.new) t ≡ slice_index (map L.value numbers.old.items) t }
-{
-    if !L::swap(row, numbers) {
-        fill_row(row, numbers);
-    }
-}
-
-/// Puts a row into a slot; the row that was there becomes the spare one, if it is in this lane.
-pub fn put_row<L: Lane>(rows: &mut [Row], slot: usize, numbers: &mut Vec<L>)
-    requires slot { slot < length rows.old }
-    requires long { length (slice_index_or (values_of rows.old) slot []) ≡ length numbers.old.items }
-    requires fits { (t : ℕ) → t < length numbers.old.items → slice_index (map L.value numbers.old.items) t < 2 ^ slice_index (map row_bits rows.old) slot }
-    ensures bits { map row_bits rows.new ≡ map row_bits rows.old }
-    ensures room { length numbers.new.items ≡ length numbers.old.items }
-    ensures count { length rows.new ≡ length rows.old }
-    ensures long { length (slice_index_or (values_of rows.new) slot []) ≡ length numbers.old.items }
-    ensures each { (t : ℕ) → t < length numbers.old.items
-        → slice_index (slice_index_or (values_of rows.new) slot []) t ≡ slice_index (map L.value numbers.old.items) t }
-    ensures others { (n : ℕ) → n ≢ slot → slice_index_or (values_of rows.new) n [] ≡ slice_index_or (values_of rows.old) n [] }
-{
-    take_row(&mut rows[slot], numbers);
-}
-
 // The row of an instruction, in a lane.
 fn make_row<L: Lane>(
     widths: &[Width],
     rows: &[Row],
-    bench: &mut Bench<L>,
+    scratch: &mut Scratch<L>,
     instruction: &Instruction,
 )
     requires sound { IsSound widths.now instruction.now }
     requires sized { IsSized widths.now L.bits instruction.now }
-    requires rows { AreRows widths.now (length bench.old.to.items) (values_of rows.now) }
-    requires spares { HaveRoom bench.old.spares (length bench.old.to.items) }
-    ensures spares { HaveRoom bench.new.spares (length bench.old.to.items) }
-    ensures room { length bench.new.to.items ≡ length bench.old.to.items }
-    ensures row { IsRightRow widths.now (values_of rows.now) instruction.now.right (map L.value bench.new.to.items) }
+    requires rows { AreRows widths.now (length scratch.old.to.items) (values_of rows.now) }
+    requires spares { HaveRoom scratch.old.spares (length scratch.old.to.items) }
+    ensures spares { HaveRoom scratch.new.spares (length scratch.old.to.items) }
+    ensures room { length scratch.new.to.items ≡ length scratch.old.to.items }
+    ensures row { IsRightRow widths.now (values_of rows.now) instruction.now.right (map L.value scratch.new.to.items) }
 {
+    let slots = Slots { widths, rows };
     right_row(
-        widths,
-        rows,
-        &mut bench.spares,
+        &slots,
+        &mut scratch.spares,
         &instruction.right,
-        &mut bench.to,
+        &mut scratch.to,
     );
 }
 
@@ -143,24 +88,24 @@ fn make_row<L: Lane>(
 fn run_in<L: Lane>(
     widths: &[Width],
     rows: &mut [Row],
-    bench: &mut Bench<L>,
+    scratch: &mut Scratch<L>,
     instruction: &Instruction,
 )
     requires sound { IsSound widths.now instruction.now }
     requires sized { IsSized widths.now L.bits instruction.now }
-    requires rows { AreRows widths.now (length bench.old.to.items) (values_of rows.old) }
+    requires rows { AreRows widths.now (length scratch.old.to.items) (values_of rows.old) }
     requires lanes { InLanes widths.now rows.old }
-    requires spares { HaveRoom bench.old.spares (length bench.old.to.items) }
-    ensures spares { HaveRoom bench.new.spares (length bench.old.to.items) }
-    ensures room { length bench.new.to.items ≡ length bench.old.to.items }
+    requires spares { HaveRoom scratch.old.spares (length scratch.old.to.items) }
+    ensures spares { HaveRoom scratch.new.spares (length scratch.old.to.items) }
+    ensures room { length scratch.new.to.items ≡ length scratch.old.to.items }
     ensures bits { map row_bits rows.new ≡ map row_bits rows.old }
     ensures count { length rows.new ≡ length rows.old }
-    ensures long { length (slice_index_or (values_of rows.new) instruction.now.target []) ≡ length bench.old.to.items }
+    ensures long { length (slice_index_or (values_of rows.new) instruction.now.target []) ≡ length scratch.old.to.items }
     ensures row { IsRightRow widths.now (values_of rows.old) instruction.now.right (slice_index_or (values_of rows.new) instruction.now.target []) }
     ensures others { (n : ℕ) → n ≢ instruction.now.target → slice_index_or (values_of rows.new) n [] ≡ slice_index_or (values_of rows.old) n [] }
 {
-    make_row(widths, rows, bench, instruction);
-    put_row(rows, instruction.target, &mut bench.to);
+    make_row(widths, rows, scratch, instruction);
+    put_row(rows, instruction.target, &mut scratch.to);
 }
 
 // One instruction in the lane of this size.
@@ -191,36 +136,40 @@ fn run_instruction(
     }
 }
 
+/// Instructions over slots of these widths, and the lane in which each is run.
+#[derive(Clone, Copy)]
+pub struct Code<'a> {
+    pub widths: &'a [Width],
+    pub instructions: &'a [Instruction],
+    pub sizes: &'a [Size],
+}
+
 /// The instructions from one place up to another, after those that hold already: each slot that is a target of theirs gets its
-/// row, and the others stay.
+/// row. No other row changes.
 pub fn run_code(
-    widths: &[Width],
+    code: &Code<'_>,
     rows: &mut [Row],
     rooms: &mut Rooms,
-    code: &[Instruction],
-    sizes: &[Size],
     first: usize,
     last: usize,
     count: usize,
 )
     requires places { first ≤ last }
-    requires within { last ≤ length code.now }
-    requires sound { AreSound widths.now code.now }
-    requires sized { AreSized widths.now code.now sizes.now }
-    requires ordered { IsOrdered code.now }
-    requires rows { AreRows widths.now count (values_of rows.old) }
-    requires lanes { InLanes widths.now rows.old }
-    requires before { AllHold widths.now count (values_of rows.old) first code.now }
+    requires within { last ≤ length code.now.instructions.now }
+    requires code { CanRun code.now.widths.now code.now.instructions.now code.now.sizes.now }
+    requires ran { HaveRun code.now.widths.now code.now.instructions.now count rows.old first }
     requires rooms { HaveRooms rooms.old count }
     ensures rooms { HaveRooms rooms.new count }
     ensures bits { map row_bits rows.new ≡ map row_bits rows.old }
     ensures count { length rows.new ≡ length rows.old }
-    ensures lanes { InLanes widths.now rows.new }
-    ensures rows { AreRows widths.now count (values_of rows.new) }
-    ensures hold { AllHold widths.now count (values_of rows.new) last code.now }
-    ensures others { (n : ℕ) → IsNoTarget code.now n → slice_index_or (values_of rows.new) n [] ≡ slice_index_or (values_of rows.old) n [] }
+    ensures ran { HaveRun code.now.widths.now code.now.instructions.now count rows.new last }
+    ensures others { (n : ℕ) → IsNoTarget code.now.instructions.now n
+        → slice_index_or (values_of rows.new) n [] ≡ slice_index_or (values_of rows.old) n [] }
 {
+    let widths = code.widths;
+    let instructions = code.instructions;
+    let sizes = code.sizes;
     for k in first..last {
-        run_instruction(widths, rows, rooms, &code[k], sizes[k], count);
+        run_instruction(widths, rows, rooms, &instructions[k], sizes[k], count);
     }
 }

@@ -4,8 +4,8 @@ ghost use Rattle.std.specs.Prelude.{◌≡◌, ℕ, ◌+◌, ◌-◌, ◌*◌, �
 ghost use Rattle.wiring.specs.Rights.{operator_value};
 ghost use Rattle.batch_rows.specs.Rows.{IsPairRow, IsSingleRow};
 
-use crate::lanes::Lane;
 use crate::singles::{Single, Whole, mask_of, single_row};
+use lane_rows::Lane;
 use wiring::Operator;
 
 // What is made of two numbers in a clock.

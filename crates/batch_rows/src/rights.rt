@@ -4,16 +4,22 @@ ghost use Rattle.std.specs.Prelude.{◌≡◌, ℕ, ◌+◌, ◌-◌, ◌*◌, �
 ghost use Rattle.wiring.specs.Rights.{array_of, atom_width, atom_value, operator_value, repeated, right_value};
 ghost use Rattle.wiring.specs.Rules.{WidthsAgree};
 ghost use Rattle.wiring.specs.declared.right.Atom.TheVariants as AtomVariants;
-ghost use Rattle.batch_rows.specs.Rights.{value_at, HasRow, IsOperand, AreOperands, IsAtomRow, IsRightRow, HaveRoom};
-ghost use Rattle.batch_rows.specs.Values.{numbers_in, row_values, values_of};
+ghost use Rattle.lane_rows.specs.Values.{value_at, numbers_in, row_values, values_of};
+ghost use Rattle.batch_rows.specs.Rights.{HasRow, IsOperand, AreOperands, IsAtomRow, IsRightRow, HaveRoom};
 
 use crate::choices::{choose_number_row, choose_or_number_row, choose_row};
-use crate::lanes::Lane;
 use crate::pairs::{join_number_row, join_row, operator_number_row, operator_row};
-use crate::row::{Numbers, Row, copy_words, first_numbers, first_of, widen_row};
 use crate::singles::{Part, Turned, Whole, constant_row, lane_of, mask_of, repeat_row, single_row};
+use lane_rows::{Lane, Numbers, Row, copy_words, first_numbers, first_of, widen_row};
 use std::alloc::{AllocError, Global};
 use wiring::{Atom, Operator, Right, Width};
+
+/// The width and the row of each slot.
+#[derive(Clone, Copy)]
+pub struct Slots<'a> {
+    pub widths: &'a [Width],
+    pub rows: &'a [Row],
+}
 
 /// Room for the rows of the operands of a right side that are in no row of this lane: constants, and slots of other lanes.
 #[derive(Debug, Drop)]
@@ -171,7 +177,7 @@ pub fn atom_numbers<'a>(
 }
 
 /// Where an atom has no row in this lane, a spare row becomes its row.
-#[tactic(auto, using(crate::proofs::LaneRows::first_part))]
+#[tactic(auto, using(lane_rows::proofs::LaneRows::first_part))]
 pub fn note_atom<'a, L: Lane>(
     rows: &'a [Row],
     spare: &mut [L],
@@ -230,79 +236,77 @@ fn copy_row<L: Lane>(rows: &[Row], spare: &mut [L], a: &Atom<usize>, to: &mut [L
     single_row(&Whole, to, a);
 }
 
-fn not_row<L: Lane>(widths: &[Width], rows: &[Row], spare: &mut [L], a: &Atom<usize>, to: &mut [L])
-    requires a { IsOperand L.bits (values_of rows.now) (length to.old) a.now }
-    requires narrow { atom_width (λ n. slice_index widths.now n) a.now ≤ L.bits }
+fn not_row<L: Lane>(slots: &Slots<'_>, spare: &mut [L], a: &Atom<usize>, to: &mut [L])
+    requires a { IsOperand L.bits (values_of slots.now.rows.now) (length to.old) a.now }
+    requires narrow { atom_width (λ n. slice_index slots.now.widths.now n) a.now ≤ L.bits }
     requires room { length to.old ≤ length spare.old }
     ensures spare { length spare.new ≡ length spare.old }
     ensures count { length to.new ≡ length to.old }
     ensures row { (t : ℕ) → t < length to.new
-        → slice_index (map L.value to.new) t ≡ 2 ^ atom_width (λ n. slice_index widths.now n) a.now - 1 - atom_value (value_at (values_of rows.now) t) a.now }
+        → slice_index (map L.value to.new) t ≡ 2 ^ atom_width (λ n. slice_index slots.now.widths.now n) a.now - 1 - atom_value (value_at (values_of slots.now.rows.now) t) a.now }
 {
     let count = to.len();
-    let mask = mask_of(width_of(widths, a));
-    let own = note_atom(rows, spare, a, count);
-    let a = atom_row(rows, own, spare, a, count);
+    let mask = mask_of(width_of(slots.widths, a));
+    let own = note_atom(slots.rows, spare, a, count);
+    let a = atom_row(slots.rows, own, spare, a, count);
     single_row(&Turned { mask }, to, a);
 }
 
 // The row of an atom under an operator with a number.
 fn binary_number_row<L: Lane>(
-    widths: &[Width],
-    rows: &[Row],
+    slots: &Slots<'_>,
     spare: &mut [L],
     op: Operator,
     a: &Atom<usize>,
     number: u64,
     to: &mut [L],
 )
-    requires a { IsOperand L.bits (values_of rows.now) (length to.old) a.now }
-    requires narrow { atom_width (λ n. slice_index widths.now n) a.now ≤ L.bits }
+    requires a { IsOperand L.bits (values_of slots.now.rows.now) (length to.old) a.now }
+    requires narrow { atom_width (λ n. slice_index slots.now.widths.now n) a.now ≤ L.bits }
     requires number { number < 2 ^ L.bits }
     requires room { length to.old ≤ length spare.old }
     ensures spare { length spare.new ≡ length spare.old }
     ensures count { length to.new ≡ length to.old }
     ensures row { (t : ℕ) → t < length to.new
         → slice_index (map L.value to.new) t
-        ≡ operator_value op (atom_width (λ n. slice_index widths.now n) a.now) (atom_value (value_at (values_of rows.now) t) a.now) number }
+        ≡ operator_value op (atom_width (λ n. slice_index slots.now.widths.now n) a.now) (atom_value (value_at (values_of slots.now.rows.now) t) a.now) number }
 {
     let count = to.len();
-    let width = width_of(widths, a);
-    let own = note_atom(rows, spare, a, count);
-    let a = atom_row(rows, own, spare, a, count);
+    let width = width_of(slots.widths, a);
+    let own = note_atom(slots.rows, spare, a, count);
+    let a = atom_row(slots.rows, own, spare, a, count);
     operator_number_row(op, width, to, a, lane_of(number));
 }
 
 // The row of two atoms under an operator. A constant that is second needs no row.
 fn binary_row<L: Lane>(
-    widths: &[Width],
-    rows: &[Row],
+    slots: &Slots<'_>,
     spares: &mut Spares<L>,
     op: Operator,
     a: &Atom<usize>,
     b: &Atom<usize>,
     to: &mut [L],
 )
-    requires a { IsOperand L.bits (values_of rows.now) (length to.old) a.now }
-    requires b { IsOperand L.bits (values_of rows.now) (length to.old) b.now }
-    requires narrow { atom_width (λ n. slice_index widths.now n) a.now ≤ L.bits }
+    requires a { IsOperand L.bits (values_of slots.now.rows.now) (length to.old) a.now }
+    requires b { IsOperand L.bits (values_of slots.now.rows.now) (length to.old) b.now }
+    requires narrow { atom_width (λ n. slice_index slots.now.widths.now n) a.now ≤ L.bits }
     requires room { HaveRoom spares.old (length to.old) }
     ensures spares { HaveRoom spares.new (length to.old) }
     ensures count { length to.new ≡ length to.old }
     ensures row { (t : ℕ) → t < length to.new
         → slice_index (map L.value to.new) t
-        ≡ operator_value op (atom_width (λ n. slice_index widths.now n) a.now)
-        (atom_value (value_at (values_of rows.now) t) a.now) (atom_value (value_at (values_of rows.now) t) b.now) }
+        ≡ operator_value op (atom_width (λ n. slice_index slots.now.widths.now n) a.now)
+        (atom_value (value_at (values_of slots.now.rows.now) t) a.now) (atom_value (value_at (values_of slots.now.rows.now) t) b.now) }
 {
     if let Atom::Constant(c) = b {
-        return binary_number_row(widths, rows, &mut spares.first, op, a, c.value(), to);
+        return binary_number_row(slots, &mut spares.first, op, a, c.value(), to);
     }
     let count = to.len();
-    let width = width_of(widths, a);
-    let own_a = note_atom(rows, &mut spares.first, a, count);
-    let own_b = note_atom(rows, &mut spares.second, b, count);
-    let left = atom_row(rows, own_a, &spares.first, a, count);
-    let right = atom_row(rows, own_b, &spares.second, b, count);
+    let width = width_of(slots.widths, a);
+    let own_a = note_atom(slots.rows, &mut spares.first, a, count);
+    let own_b = note_atom(slots.rows, &mut spares.second, b, count);
+    let left = atom_row(slots.rows, own_a, &spares.first, a, count);
+    let right = atom_row(slots.rows, own_b, &spares.second, b, count);
     operator_row(op, width, to, left, right);
 }
 
@@ -356,19 +360,25 @@ fn row_or_number<L: Lane, B: Lane>(
     choose_or_number_row(to, bit, on, lane_of(number));
 }
 
+// The two atoms of a choice: that where its bit is 1, and that where it is not.
+#[derive(Clone, Copy)]
+struct Branches<'a> {
+    on: &'a Atom<usize>,
+    off: &'a Atom<usize>,
+}
+
 // At each clock one of two atoms, by a row of bits. A constant among the two needs no row.
 fn chosen_by<L: Lane, B: Lane>(
     rows: &[Row],
     first: &mut [L],
     second: &mut [L],
     bit: &[B],
-    a: &Atom<usize>,
-    b: &Atom<usize>,
+    branches: &Branches<'_>,
     to: &mut [L],
 )
     requires bit { length bit.now ≡ length to.old }
-    requires a { IsOperand L.bits (values_of rows.now) (length to.old) a.now }
-    requires b { IsOperand L.bits (values_of rows.now) (length to.old) b.now }
+    requires a { IsOperand L.bits (values_of rows.now) (length to.old) branches.now.on.now }
+    requires b { IsOperand L.bits (values_of rows.now) (length to.old) branches.now.off.now }
     requires first { length to.old ≤ length first.old }
     requires second { length to.old ≤ length second.old }
     ensures first { length first.new ≡ length first.old }
@@ -376,9 +386,11 @@ fn chosen_by<L: Lane, B: Lane>(
     ensures count { length to.new ≡ length to.old }
     ensures row { (t : ℕ) → t < length to.new
         → slice_index (map L.value to.new) t
-        ≡ (if slice_index (map B.value bit.now) t == 1 then atom_value (value_at (values_of rows.now) t) a.now
-        else atom_value (value_at (values_of rows.now) t) b.now) }
+        ≡ (if slice_index (map B.value bit.now) t == 1 then atom_value (value_at (values_of rows.now) t) branches.now.on.now
+        else atom_value (value_at (values_of rows.now) t) branches.now.off.now) }
 {
+    let a = branches.on;
+    let b = branches.off;
     if let Atom::Constant(number) = a {
         return number_or_row(rows, second, bit, number.value(), b, to);
     }
@@ -423,12 +435,27 @@ fn chosen_row<L: Lane>(
         else atom_value (value_at (values_of rows.now) t) b.now) }
 {
     let count = to.len();
+    let branches = Branches { on: a, off: b };
     if let Some(bit) = narrow_row(rows, c, count) {
-        return chosen_by(rows, &mut spares.first, &mut spares.second, bit, a, b, to);
+        return chosen_by(
+            rows,
+            &mut spares.first,
+            &mut spares.second,
+            bit,
+            &branches,
+            to,
+        );
     }
     let own = note_atom(rows, &mut spares.third, c, count);
     let bit = atom_row(rows, own, &spares.third, c, count);
-    chosen_by(rows, &mut spares.first, &mut spares.second, bit, a, b, to);
+    chosen_by(
+        rows,
+        &mut spares.first,
+        &mut spares.second,
+        bit,
+        &branches,
+        to,
+    );
 }
 
 // This many bits of a slot, from a place on.
@@ -452,163 +479,158 @@ fn part_row<L: Lane>(rows: &[Row], spare: &mut [L], slot: usize, from: u8, width
 
 // A number above an atom.
 fn number_above_row<L: Lane>(
-    widths: &[Width],
-    rows: &[Row],
+    slots: &Slots<'_>,
     spare: &mut [L],
     number: u64,
     b: &Atom<usize>,
     to: &mut [L],
 )
-    requires b { IsOperand L.bits (values_of rows.now) (length to.old) b.now }
-    requires narrow { atom_width (λ n. slice_index widths.now n) b.now ≤ L.bits }
+    requires b { IsOperand L.bits (values_of slots.now.rows.now) (length to.old) b.now }
+    requires narrow { atom_width (λ n. slice_index slots.now.widths.now n) b.now ≤ L.bits }
     requires number { number < 2 ^ L.bits }
     requires room { length to.old ≤ length spare.old }
     requires fits { (t : ℕ) → t < length to.old
-        → number * 2 ^ atom_width (λ n. slice_index widths.now n) b.now + atom_value (value_at (values_of rows.now) t) b.now < 2 ^ L.bits }
+        → number * 2 ^ atom_width (λ n. slice_index slots.now.widths.now n) b.now + atom_value (value_at (values_of slots.now.rows.now) t) b.now < 2 ^ L.bits }
     ensures spare { length spare.new ≡ length spare.old }
     ensures count { length to.new ≡ length to.old }
     ensures row { (t : ℕ) → t < length to.new
-        → slice_index (map L.value to.new) t ≡ number * 2 ^ atom_width (λ n. slice_index widths.now n) b.now + atom_value (value_at (values_of rows.now) t) b.now }
+        → slice_index (map L.value to.new) t ≡ number * 2 ^ atom_width (λ n. slice_index slots.now.widths.now n) b.now + atom_value (value_at (values_of slots.now.rows.now) t) b.now }
 {
     let count = to.len();
-    let width = width_of(widths, b);
-    let own = note_atom(rows, spare, b, count);
-    let below = atom_row(rows, own, spare, b, count);
+    let width = width_of(slots.widths, b);
+    let own = note_atom(slots.rows, spare, b, count);
+    let below = atom_row(slots.rows, own, spare, b, count);
     join_number_row(width, to, lane_of(number), below);
 }
 
 // An atom above another one. A constant that is above needs no row.
 fn joined_row<L: Lane>(
-    widths: &[Width],
-    rows: &[Row],
+    slots: &Slots<'_>,
     spares: &mut Spares<L>,
     a: &Atom<usize>,
     b: &Atom<usize>,
     to: &mut [L],
 )
-    requires a { IsOperand L.bits (values_of rows.now) (length to.old) a.now }
-    requires b { IsOperand L.bits (values_of rows.now) (length to.old) b.now }
-    requires narrow { atom_width (λ n. slice_index widths.now n) b.now ≤ L.bits }
+    requires a { IsOperand L.bits (values_of slots.now.rows.now) (length to.old) a.now }
+    requires b { IsOperand L.bits (values_of slots.now.rows.now) (length to.old) b.now }
+    requires narrow { atom_width (λ n. slice_index slots.now.widths.now n) b.now ≤ L.bits }
     requires room { HaveRoom spares.old (length to.old) }
     requires fits { (t : ℕ) → t < length to.old
-        → atom_value (value_at (values_of rows.now) t) a.now * 2 ^ atom_width
-        (λ n. slice_index widths.now n) b.now + atom_value (value_at (values_of rows.now) t) b.now < 2 ^ L.bits }
+        → atom_value (value_at (values_of slots.now.rows.now) t) a.now * 2 ^ atom_width
+        (λ n. slice_index slots.now.widths.now n) b.now + atom_value (value_at (values_of slots.now.rows.now) t) b.now < 2 ^ L.bits }
     ensures spares { HaveRoom spares.new (length to.old) }
     ensures count { length to.new ≡ length to.old }
     ensures row { (t : ℕ) → t < length to.new
         → slice_index (map L.value to.new) t
-        ≡ atom_value (value_at (values_of rows.now) t) a.now
-        * 2 ^ atom_width (λ n. slice_index widths.now n) b.now + atom_value (value_at (values_of rows.now) t) b.now }
+        ≡ atom_value (value_at (values_of slots.now.rows.now) t) a.now
+        * 2 ^ atom_width (λ n. slice_index slots.now.widths.now n) b.now + atom_value (value_at (values_of slots.now.rows.now) t) b.now }
 {
     if let Atom::Constant(number) = a {
-        return number_above_row(widths, rows, &mut spares.second, number.value(), b, to);
+        return number_above_row(slots, &mut spares.second, number.value(), b, to);
     }
     let count = to.len();
-    let width = width_of(widths, b);
-    let own_a = note_atom(rows, &mut spares.first, a, count);
-    let own_b = note_atom(rows, &mut spares.second, b, count);
-    let above = atom_row(rows, own_a, &spares.first, a, count);
-    let below = atom_row(rows, own_b, &spares.second, b, count);
+    let width = width_of(slots.widths, b);
+    let own_a = note_atom(slots.rows, &mut spares.first, a, count);
+    let own_b = note_atom(slots.rows, &mut spares.second, b, count);
+    let above = atom_row(slots.rows, own_a, &spares.first, a, count);
+    let below = atom_row(slots.rows, own_b, &spares.second, b, count);
     join_row(width, to, above, below);
 }
 
 // Copies of an atom, one above the other.
 fn repeated_row<L: Lane>(
-    widths: &[Width],
-    rows: &[Row],
+    slots: &Slots<'_>,
     spare: &mut [L],
     copies: u8,
     a: &Atom<usize>,
     to: &mut [L],
 )
-    requires a { IsOperand L.bits (values_of rows.now) (length to.old) a.now }
+    requires a { IsOperand L.bits (values_of slots.now.rows.now) (length to.old) a.now }
     requires room { length to.old ≤ length spare.old }
     requires fits { (t : ℕ) → t < length to.old
-        → repeated copies (atom_width (λ n. slice_index widths.now n) a.now) (atom_value (value_at (values_of rows.now) t) a.now) < 2 ^ L.bits }
+        → repeated copies (atom_width (λ n. slice_index slots.now.widths.now n) a.now) (atom_value (value_at (values_of slots.now.rows.now) t) a.now) < 2 ^ L.bits }
     ensures spare { length spare.new ≡ length spare.old }
     ensures count { length to.new ≡ length to.old }
     ensures row { (t : ℕ) → t < length to.new
-        → slice_index (map L.value to.new) t ≡ repeated copies (atom_width (λ n. slice_index widths.now n) a.now) (atom_value (value_at (values_of rows.now) t) a.now) }
+        → slice_index (map L.value to.new) t ≡ repeated copies (atom_width (λ n. slice_index slots.now.widths.now n) a.now) (atom_value (value_at (values_of slots.now.rows.now) t) a.now) }
 {
     let count = to.len();
-    let width = width_of(widths, a);
-    let own = note_atom(rows, spare, a, count);
-    let a = atom_row(rows, own, spare, a, count);
+    let width = width_of(slots.widths, a);
+    let own = note_atom(slots.rows, spare, a, count);
+    let a = atom_row(slots.rows, own, spare, a, count);
     repeat_row(copies, width, to, a);
 }
 
 // A bit of a slot.
-fn bit_row<L: Lane>(
-    widths: &[Width],
-    rows: &[Row],
-    spare: &mut [L],
-    slot: usize,
-    place: u64,
-    to: &mut [L],
-)
-    requires row { IsOperand L.bits (values_of rows.now) (length to.old) (AtomVariants.Net slot) }
-    requires narrow { slice_index widths.now slot ≤ L.bits }
+fn bit_row<L: Lane>(slots: &Slots<'_>, spare: &mut [L], slot: usize, place: u64, to: &mut [L])
+    requires row { IsOperand L.bits (values_of slots.now.rows.now) (length to.old) (AtomVariants.Net slot) }
+    requires narrow { slice_index slots.now.widths.now slot ≤ L.bits }
     requires room { length to.old ≤ length spare.old }
-    requires place { place < slice_index widths.now slot }
+    requires place { place < slice_index slots.now.widths.now slot }
     ensures spare { length spare.new ≡ length spare.old }
     ensures count { length to.new ≡ length to.old }
-    ensures row { (t : ℕ) → t < length to.new → slice_index (map L.value to.new) t ≡ value_at (values_of rows.now) t slot / 2 ^ place % 2 }
+    ensures row { (t : ℕ) → t < length to.new → slice_index (map L.value to.new) t ≡ value_at (values_of slots.now.rows.now) t slot / 2 ^ place % 2 }
 {
-    let _most = slot_width(widths, slot);
-    part_row(rows, spare, slot, place as u8, 1, to);
+    let _most = slot_width(slots.widths, slot);
+    part_row(slots.rows, spare, slot, place as u8, 1, to);
 }
 
 // Bits of a slot, from a place up to a higher one.
 fn slice_row<L: Lane>(
-    widths: &[Width],
-    rows: &[Row],
+    slots: &Slots<'_>,
     spare: &mut [L],
     slot: usize,
     high: u64,
     low: u64,
     to: &mut [L],
 )
-    requires row { IsOperand L.bits (values_of rows.now) (length to.old) (AtomVariants.Net slot) }
-    requires narrow { slice_index widths.now slot ≤ L.bits }
+    requires row { IsOperand L.bits (values_of slots.now.rows.now) (length to.old) (AtomVariants.Net slot) }
+    requires narrow { slice_index slots.now.widths.now slot ≤ L.bits }
     requires room { length to.old ≤ length spare.old }
     requires order { low ≤ high }
-    requires place { high < slice_index widths.now slot }
+    requires place { high < slice_index slots.now.widths.now slot }
     ensures spare { length spare.new ≡ length spare.old }
     ensures count { length to.new ≡ length to.old }
-    ensures row { (t : ℕ) → t < length to.new → slice_index (map L.value to.new) t ≡ value_at (values_of rows.now) t slot / 2 ^ low % 2 ^ (high - low + 1) }
+    ensures row { (t : ℕ) → t < length to.new → slice_index (map L.value to.new) t ≡ value_at (values_of slots.now.rows.now) t slot / 2 ^ low % 2 ^ (high - low + 1) }
 {
-    let _most = slot_width(widths, slot);
-    part_row(rows, spare, slot, low as u8, (high - low + 1) as u8, to);
+    let _most = slot_width(slots.widths, slot);
+    part_row(
+        slots.rows,
+        spare,
+        slot,
+        low as u8,
+        (high - low + 1) as u8,
+        to,
+    );
 }
 
 /// The row of a right side that reads no array, from the rows of its slots.
 pub fn right_row<L: Lane>(
-    widths: &[Width],
-    rows: &[Row],
+    slots: &Slots<'_>,
     spares: &mut Spares<L>,
     right: &Right<usize, usize>,
     to: &mut [L],
 )
-    requires rows { AreOperands L.bits widths.now (values_of rows.now) (length to.old) right.now }
-    requires agree { WidthsAgree (λ n. slice_index widths.now n) (λ _. 0) right.now }
+    requires rows { AreOperands L.bits slots.now.widths.now (values_of slots.now.rows.now) (length to.old) right.now }
+    requires agree { WidthsAgree (λ n. slice_index slots.now.widths.now n) (λ _. 0) right.now }
     requires plain { array_of right.now ≡ None }
-    requires fits { (t : ℕ) → t < length to.old → right_value (λ n. slice_index widths.now n) (λ _ _. 0) (value_at (values_of rows.now) t) right.now < 2 ^ L.bits }
+    requires fits { (t : ℕ) → t < length to.old → right_value (λ n. slice_index slots.now.widths.now n) (λ _ _. 0) (value_at (values_of slots.now.rows.now) t) right.now < 2 ^ L.bits }
     requires room { HaveRoom spares.old (length to.old) }
     ensures spares { HaveRoom spares.new (length to.old) }
     ensures count { length to.new ≡ length to.old }
-    ensures row { IsRightRow widths.now (values_of rows.now) right.now (map L.value to.new) }
+    ensures row { IsRightRow slots.now.widths.now (values_of slots.now.rows.now) right.now (map L.value to.new) }
 {
     match right {
-        Right::Copy(a) => copy_row(rows, &mut spares.first, a, to),
-        Right::Not(a) => not_row(widths, rows, &mut spares.first, a, to),
-        Right::Binary(op, a, b) => binary_row(widths, rows, spares, *op, a, b, to),
-        Right::Choose(c, a, b) => chosen_row(rows, spares, c, a, b, to),
-        Right::Join(a, b) => joined_row(widths, rows, spares, a, b, to),
+        Right::Copy(a) => copy_row(slots.rows, &mut spares.first, a, to),
+        Right::Not(a) => not_row(slots, &mut spares.first, a, to),
+        Right::Binary(op, a, b) => binary_row(slots, spares, *op, a, b, to),
+        Right::Choose(c, a, b) => chosen_row(slots.rows, spares, c, a, b, to),
+        Right::Join(a, b) => joined_row(slots, spares, a, b, to),
         Right::Repeat(copies, a) => {
-            repeated_row(widths, rows, &mut spares.first, *copies, a, to);
+            repeated_row(slots, &mut spares.first, *copies, a, to);
         }
-        Right::Bit(v, k) => bit_row(widths, rows, &mut spares.first, *v, *k, to),
-        Right::Slice(v, m, l) => slice_row(widths, rows, &mut spares.first, *v, *m, *l, to),
+        Right::Bit(v, k) => bit_row(slots, &mut spares.first, *v, *k, to),
+        Right::Slice(v, m, l) => slice_row(slots, &mut spares.first, *v, *m, *l, to),
         Right::Word(_, _) => unreachable!(),
     }
 }

@@ -4,7 +4,7 @@ ghost use Rattle.std.specs.Prelude.{◌≡◌, ℕ, ◌+◌, ◌-◌, ◌*◌, �
 ghost use Rattle.wiring.specs.Rights.{repeated};
 ghost use Rattle.batch_rows.specs.Rows.{IsSingleRow, IsChosenRow};
 
-use crate::lanes::Lane;
+use lane_rows::Lane;
 use wiring::limit;
 
 // What is made of one number in a clock.

@@ -1,41 +1,14 @@
 // Lanes for slots and for instructions.
 
 ghost use Rattle.std.specs.Prelude.{◌≡◌, ℕ, ◌+◌, ◌<◌, ◌≤◌, length, replicate, slice_index, IfOk};
-ghost use Rattle.batch_rows.specs.LaneSizes.{AtomIsIn, RightIsIn, IsSized, AreSized, bits_of};
-ghost use Rattle.batch_rows.specs.Values.{row_bits, row_values};
+ghost use Rattle.batch_rows.specs.LaneSizes.{AtomIsIn, RightIsIn, IsSized, AreSized};
+ghost use Rattle.lane_rows.specs.Values.{bits_of, row_bits, row_values};
 
-use crate::code::{Instruction, Size};
+use crate::code::Instruction;
 use crate::rights::{slot_width, width_of};
-use crate::row::Row;
+use lane_rows::{Size, size_of_width};
 use std::alloc::{AllocError, Global};
 use wiring::{Atom, Right, Width};
-
-// The lane of a width.
-fn size_of_width(width: u8) -> Size
-    requires { width ≤ 64 }
-    ensures { width ≤ bits_of result }
-{
-    if width <= 16 {
-        Size::Narrow
-    } else if width <= 32 {
-        Size::Middle
-    } else {
-        Size::Wide
-    }
-}
-
-/// A row of zeros for a slot of this width.
-pub fn zero_row(alloc: Global, width: u8, count: usize) -> Result<Row, AllocError>
-    requires { width ≤ 64 }
-    ensures bits { IfOk result (λ r. width ≤ row_bits r) }
-    ensures zeros { IfOk result (λ r. row_values r ≡ replicate count 0) }
-{
-    match size_of_width(width) {
-        Size::Narrow => Ok(Row::Narrow(vec![in alloc; 0; count]?)),
-        Size::Middle => Ok(Row::Middle(vec![in alloc; 0; count]?)),
-        Size::Wide => Ok(Row::Wide(vec![in alloc; 0; count]?)),
-    }
-}
 
 // The wider one of a width and an atom.
 fn wider(widths: &[Width], a: &Atom<usize>, width: u8) -> u8

@@ -15,21 +15,23 @@ use Rattle.wiring.specs.Clock.{Clock}
 use Rattle.wiring.proofs.Lists.{All-at}
 use Rattle.cycle_sim.specs.Ports.{din_widths}
 use Rattle.cycle_sim.specs.Slots.{slot, words_of}
-use Rattle.batch_rows.specs.Rights.{value_at, HasRow}
+use Rattle.lane_rows.specs.Values.{value_at}
+use Rattle.batch_rows.specs.Rights.{HasRow}
 use Rattle.batch_rows.specs.Code.{AreRows, AllHold}
 use Rattle.batch_code.specs.Code.{IsWithin, ReadIsWithin, PutIsWithin}
 use Rattle.batch_code.specs.Rows.{KeepsRegister, KeepsArray, KeepEquations, AreLeft, RowsRan, words_put}
 use Rattle.batch_code.proofs.RowsRun.{rows_ran}
 use Rattle.batch_code.proofs.Left.{left_fits}
-use Rattle.batch_sim.specs.declared.rows.engine.Engine.{Engine}
-use Rattle.batch_sim.specs.declared.held.Held.{Held}
+use Rattle.batch_guess.specs.declared.engine.Engine.{Engine}
+use Rattle.batch_guess.specs.Guess.{KeepsCode}
+use Rattle.batch_guess.specs.declared.stored.Stored.{Stored}
 use Rattle.batch_sim.specs.Arrays.{AreKept, ArePut}
 use Rattle.batch_sim.specs.Checked.{AreInputRows, AreRegisterRows}
 use Rattle.batch_sim.specs.declared.rows.Rows.{Rows}
-use Rattle.batch_sim.specs.declared.inputs.Piece.{Piece}
+use Rattle.batch_guess.specs.declared.inputs.Piece.{Piece}
 use Rattle.batch_sim.specs.Pieces.{clocks_of, clocks_in, IsPieceOf, HasDins}
-use Rattle.batch_sim.specs.Engine.{IsEngine, IsEngineOf, HasRun, AreWide, AreRowsOf, IsJudged}
-use Rattle.batch_sim.specs.Held.{contents_in}
+use Rattle.batch_sim.specs.Engine.{IsEngineOf, AreWide, AreRowsOf, IsJudged}
+use Rattle.batch_sim.specs.Stored.{contents_in}
 use Rattle.batch_sim.proofs.Fitting.{have_places}
 use Rattle.batch_sim.proofs.Rowwise.{piece_given, piece_fits, piece_long}
 use Rattle.batch_sim.proofs.Vectors.{length-items}
@@ -73,7 +75,7 @@ module _ (m : Netlist) (rules : KeepsRules m) (e : Engine) (is : IsEngineOf m e)
   }
 
 module _ (m : Netlist) (rules : KeepsRules m) (e : Engine) (is : IsEngineOf m e) (rows : List (List ℕ)) (long : ℕ) (p : Piece) (are : AreRows e.code.widths.items long rows) (room : p.count < long)
-    (within : p.first + p.count ≤ length p.inputs.enables.now) (old new : Held) (fits : FitsContents m (contents_in old)) (all : All (λ (c : Clock). Fit (din_widths m) c.dins) (clocks_of m p.inputs))
+    (within : p.first + p.count ≤ length p.inputs.enables.now) (old new : Stored) (fits : FitsContents m (contents_in old)) (all : All (λ (c : Clock). Fit (din_widths m) c.dins) (clocks_of m p.inputs))
     (hold : AllHold e.code.widths.items long rows (length e.code.instructions.items) e.code.instructions.items) (judged : IsJudged e rows p old new) where
   abbrev count : ℕ
   count = p.count
@@ -114,7 +116,7 @@ module _ (m : Netlist) (rules : KeepsRules m) (e : Engine) (is : IsEngineOf m e)
   fits_of = left_fits m e.code rules is.code (contents_in old) (contents_in new) rows long (length clocks) (omega (arith, size, room)) fits are left
 
 -- registers and arrays that were written in their vectors
-pub judged_by : (e : Engine) (rows : List (List ℕ)) (p : Piece) (old : Held) (regs : List ℕ) (arrays : List (Vec ℕ Global)) → length regs ≡ length old.regs.items → length arrays ≡ length old.arrays.items →
+pub judged_by : (e : Engine) (rows : List (List ℕ)) (p : Piece) (old : Stored) (regs : List ℕ) (arrays : List (Vec ℕ Global)) → length regs ≡ length old.regs.items → length arrays ≡ length old.arrays.items →
     AreInputRows e.has_enable e.ports p e.code.first_output rows → AreRegisterRows rows p.count e.code.first_reg old.regs.items e.code.nexts.items →
     AreKept rows e.code.reads.items e.code.puts.items p.count (words_of old.arrays.items) (length old.arrays.items) → ArePut rows e.code.puts.items p.count (words_of old.arrays.items) (words_of arrays) (length old.arrays.items) →
     ((r : ℕ) → r < length regs → slice_index regs r ≡ value_at rows p.count (e.code.first_reg + r)) →
@@ -131,11 +133,15 @@ judged_by e rows p old regs arrays reg_count array_count given registers kept pu
       taken = subst (λ (h : List ℕ). (r : ℕ) → r < length h → slice_index h r ≡ value_at rows p.count (e.code.first_reg + r)) (sym is_regs) taken;
     }
 
--- the counts of a code's reads and puts
-pub counts_of : (m : Netlist) (e : Engine) → IsEngineOf m e → (h : Held) → FitsContents m (contents_in h) → (length e.code.reads.items ≡ length h.arrays.items) × (length e.code.puts.items ≡ length h.arrays.items)
-counts_of m e is h fits =
-    let arrays = (have_places m (contents_in h) fits).arrays in
-    (omega (arith, is.code.runnable.read_count, arrays, length-items h.arrays.items), omega (arith, is.code.runnable.put_count, arrays, length-items h.arrays.items))
+-- the counts of a code's registers, reads and puts
+pub counts_of : (m : Netlist) (e : Engine) → IsEngineOf m e → (s : Stored) → FitsContents m (contents_in s) →
+    (length s.regs.items ≡ length e.code.nexts.items) × (length e.code.reads.items ≡ length s.arrays.items) × (length e.code.puts.items ≡ length s.arrays.items)
+counts_of m e is s fits =
+    let places = have_places m (contents_in s) fits in (
+      omega (arith, is.code.runnable.next_count, places.regs),
+      omega (arith, is.code.runnable.read_count, places.arrays, length-items s.arrays.items),
+      omega (arith, is.code.runnable.put_count, places.arrays, length-items s.arrays.items),
+    )
 
 -- each clock has the dins that an engine expects
 pub dins_for : (m : Netlist) (e : Engine) → IsEngineOf m e → (p : Piece) → IsPieceOf m p → HasDins e.ports p
@@ -149,18 +155,14 @@ fits_either m true h then_fits else_fits = then_fits refl
 fits_either m false h then_fits else_fits = else_fits refl
 
 -- rows with other values
-pub rows_as : (m : Netlist) (r s : Rows) (long : ℕ) → AreRowsOf m r → s.engine ≡ r.engine → s.size ≡ r.size → long ≡ length r.table.room.items → length s.table.room.items ≡ long → HasRun r.engine long s.table 0 → AreRowsOf m s
-rows_as m r s long are engine size before after t = record {
-  engine = subst (λ (e : Engine). IsEngineOf m e) (sym engine) are.engine;
-  table = subst (λ (e : Engine). HasRun e (length s.table.room.items) s.table 0) (sym engine) (subst (λ (n : ℕ). HasRun r.engine n s.table 0) (sym after) t);
+pub rows_as : (m : Netlist) (r s : Rows) → AreRowsOf m r → KeepsCode r.guess s.guess → s.size ≡ r.size → AreRowsOf m s
+rows_as m r s are keeps size = record {
+  engine = subst (λ (e : Engine). IsEngineOf m e) (sym keeps.0) are.engine;
   some = omega (arith, are.some, size);
-  wide = omega (arith, are.wide, size, before, after);
+  wide = omega (arith, are.wide, size, keeps.1);
 }
 
 -- rows have a clock at least
 pub some_clocks : (m : Netlist) (rows : Option Rows) → IfSome rows (AreRowsOf m) → IfSome rows (λ (r : Rows). 1 ≤ r.size)
 some_clocks m None are = tt
 some_clocks m (Some r) are = are.some
-
-pub engine_of : (m : Netlist) (e : Engine) → IsEngineOf m e → IsEngine e
-engine_of m e is = record { sound = is.code.runnable.sound; ordered = is.code.runnable.ordered; uses = is.uses; sized = is.sized }

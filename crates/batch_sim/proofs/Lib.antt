@@ -2,11 +2,8 @@ pub mod AllPasses
 pub mod Checks
 pub mod Clockwise
 pub mod Fitting
-pub mod FirstUses
 pub mod Judged
-pub mod Made
 pub mod OnePass
 pub mod Outputs
 pub mod Rowwise
-pub mod Tables
 pub mod Vectors

@@ -4,12 +4,12 @@ use Rattle.std.specs.Prelude.{◌≢◌, slice_index, slice_index_or, slice_set}
 use Rattle.std.proofs.lemmas.List.{get_or-take, length-set}
 use Rattle.wiring.specs.declared.right.Atom.{Atom}
 use Rattle.batch_rows.specs.Rights.{IsAtomRow}
-use Rattle.batch_rows.specs.Rows.{words_after, IsReadUpTo, AreInside}
-use Rattle.batch_code.specs.declared.code.WordRead.{WordRead}
-use Rattle.batch_code.specs.declared.code.WordPut.{WordPut}
+use Rattle.lane_rows.specs.Words.{words_after, IsReadUpTo, AreInside}
+use Rattle.batch_rows.specs.declared.module_code.WordRead.{WordRead}
+use Rattle.batch_rows.specs.declared.module_code.WordPut.{WordPut}
 use Rattle.batch_code.specs.Rows.{atom_at, words_put, KeepsArray}
 use Rattle.batch_code.proofs.Arrays.{words_same, array_is_kept}
-use Rattle.batch_rows.specs.Values.{numbers_in}
+use Rattle.lane_rows.specs.Values.{numbers_in}
 use Rattle.batch_sim.specs.declared.judge.arrays.AccessNumbers.{AccessNumbers}
 use Rattle.batch_sim.specs.Arrays.{AreAccessNumbers, IsPassed, WasLost, TakesBack, PutsInside}
 

@@ -13,11 +13,11 @@ use Rattle.wiring.specs.Runs.{Runs}
 use Rattle.wiring.proofs.Lists.{All-at, All-from_at}
 use Rattle.cycle_sim.specs.declared.ports.Out.{Out}
 use Rattle.cycle_sim.specs.Ports.{din_widths, IsShown, AreShown}
-use Rattle.batch_rows.specs.Rights.{value_at}
+use Rattle.lane_rows.specs.Values.{value_at}
 use Rattle.batch_code.specs.Rows.{RowsRan}
 use Rattle.batch_sim.specs.Called.{din_count, output_count, of_clock, batch_clocks, Came}
 use Rattle.batch_sim.specs.Checked.{input_of, AreInputRows}
-use Rattle.batch_sim.specs.declared.inputs.Piece.{Piece}
+use Rattle.batch_guess.specs.declared.inputs.Piece.{Piece}
 use Rattle.batch_sim.specs.Pieces.{clocks_in}
 use Rattle.batch_sim.specs.Shown.{row_out, AreRowOuts}
 use Rattle.batch_sim.proofs.Clockwise.{drop_more, same_place, put_here, clock_at, clocks_count, take_whole, half_is}

@@ -5,8 +5,8 @@ use Rattle.std.specs.declared.alloc.Global.{Global}
 use Rattle.std.proofs.lemmas.List.{length-map, get_or-map, length-set}
 use Rattle.std.proofs.lemmas.Bool.{cases_order}
 use Rattle.std.proofs.lemmas.Option.{slice_get_within, same_Some}
-use Rattle.batch_rows.specs.Rights.{items_of}
-use Rattle.batch_rows.proofs.LaneRows.{placed, placed_other}
+use Rattle.lane_rows.specs.Values.{items_of}
+use Rattle.lane_rows.proofs.LaneRows.{placed, placed_other}
 use Rattle.batch_sim.specs.Arrays.{HaveLong}
 
 pub length-items : (vs : List (Vec ℕ Global)) → length (items_of vs) ≡ length vs

@@ -5,20 +5,21 @@ use Rattle.cycle_sim.specs.Slots.{words_of}
 use Rattle.wiring.specs.declared.right.Atom.{Atom}
 use Rattle.wiring.specs.declared.right.Atom.TheVariants as atom
 use Rattle.batch_rows.specs.Rights.{HasRow, IsAtomRow}
-use Rattle.batch_rows.specs.Values.{numbers_in}
-use Rattle.batch_rows.specs.Rows.{words_after, IsReadUpTo, AreInside}
-use Rattle.batch_code.specs.declared.code.WordRead.{WordRead}
+use Rattle.lane_rows.specs.Values.{numbers_in}
+use Rattle.lane_rows.specs.Words.{words_after, IsReadUpTo, AreInside}
+use Rattle.batch_rows.specs.declared.module_code.WordRead.{WordRead}
 use Rattle.batch_sim.specs.declared.judge.arrays.AccessNumbers.{AccessNumbers}
 use Rattle.batch_sim.specs.declared.judge.arrays.AccessSlots.{AccessSlots}
 use Rattle.batch_sim.specs.declared.judge.arrays.ArrayRoom.{ArrayRoom}
-use Rattle.batch_code.specs.declared.code.WordPut.{WordPut}
+use Rattle.batch_sim.specs.declared.judge.arrays.PassRoom.{PassRoom}
+use Rattle.batch_rows.specs.declared.module_code.WordPut.{WordPut}
 use Rattle.batch_code.specs.Rows.{atom_at, words_put, KeepsArray}
 
 -- the words of one of some arrays
 abbrev pub words_at : List (Vec ℕ Global) → ℕ → List ℕ
 words_at arrays x = slice_index_or (words_of arrays) x []
 
--- what each write of this many clocks took away; of a single word only what the first one did, which is all that it held
+-- what each write of this many clocks took away; of a single word only what the first one did, which is all its contents
 abbrev pub IsLost : ℕ → (old lost index value : List ℕ) → Type 0
 IsLost count old lost index value =
     (t : ℕ) → t < count → (length old ≡ 1 → t ≡ 0) → slice_index lost t ≡ slice_index (words_after old index value t) (slice_index index t)
@@ -37,7 +38,7 @@ pub record IsPassed (old new lost read index value target : List ℕ) (count : �
 abbrev pub PutsInside : List (List ℕ) → WordPut → ℕ → ℕ → Type 0
 PutsInside rows p count depth = (t : ℕ) → t < count → atom_at rows t p.index < depth
 
--- what each put took away; of a single word only what the first one did, which is all that it held
+-- what each put took away; of a single word only what the first one did, which is all its contents
 abbrev pub WasLost : List (List ℕ) → WordPut → List ℕ → List ℕ → ℕ → Type 0
 WasLost rows p words lost count =
     (t : ℕ) → t < count → (length words ≡ 1 → t ≡ 0) → slice_index lost t ≡ slice_index (words_put rows p words t) (atom_at rows t p.index)
@@ -50,7 +51,7 @@ pub record HaveAccessRows (rows : List (List ℕ)) (count : ℕ) (r : WordRead) 
   pub index : HasRow rows count p.index
   pub value : HasRow rows count p.value
 
--- the first n arrays hold their words after the batch, and the others those before it
+-- the first n arrays have their words after the batch, and the others those before it
 pub record ArePut (rows : List (List ℕ)) (puts : List WordPut) (count : ℕ) (before now : List (List ℕ)) (done : ℕ) : Type 0 where
   pub same : length now ≡ length before
   pub put : (x : ℕ) (p : WordPut) → x < done → slice_get puts x ≡ Some p →
@@ -73,6 +74,11 @@ pub record IsArrayRoom (r : ArrayRoom) (count : ℕ) : Type 0 where
   pub index : count ≤ length r.index.items
   pub value : count ≤ length r.value.items
   pub target : count ≤ length r.target.items
+
+-- and for what is read in them
+pub record IsPassRoom (r : PassRoom) (count : ℕ) : Type 0 where
+  pub spares : IsArrayRoom r.spares count
+  pub to : count ≤ length r.to.items
 
 -- the numbers over which an array is judged are of this many clocks
 pub record HaveCount (a : AccessNumbers) (count : ℕ) : Type 0 where

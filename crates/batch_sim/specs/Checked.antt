@@ -4,7 +4,7 @@ use Rattle.wiring.specs.declared.right.Atom.{Atom}
 use Rattle.cycle_sim.specs.OneClock.{port_values}
 use Rattle.batch_rows.specs.Rights.{HasRow}
 use Rattle.batch_code.specs.Rows.{KeepsRegister}
-use Rattle.batch_sim.specs.declared.inputs.Piece.{Piece}
+use Rattle.batch_guess.specs.declared.inputs.Piece.{Piece}
 use Rattle.batch_sim.specs.Called.{of_clock}
 
 -- what an input is given in a clock of a batch that is no reset
@@ -28,5 +28,5 @@ HaveAtomRows rows count atoms = (k : ℕ) (a : Atom ℕ) → slice_get atoms k �
 
 -- each register's row is what it holds, and then its next value, a clock later
 abbrev pub AreRegisterRows : List (List ℕ) → ℕ → ℕ → List ℕ → List (Atom ℕ) → Type 0
-AreRegisterRows rows count first held nexts =
-    (r : ℕ) (next : Atom ℕ) → slice_get nexts r ≡ Some next → KeepsRegister rows count (slice_index held r) (first + r) next
+AreRegisterRows rows count first stored nexts =
+    (r : ℕ) (next : Atom ℕ) → slice_get nexts r ≡ Some next → KeepsRegister rows count (slice_index stored r) (first + r) next

@@ -3,41 +3,23 @@ use Rattle.std.specs.Prelude.{◌≡◌, ℕ, ◌+◌, ◌<◌, ◌≤◌, Optio
 use Rattle.wiring.specs.Netlist.{Netlist}
 use Rattle.wiring.specs.Rules.{KeepsRules}
 use Rattle.wiring.specs.Snapshot.{FitsContents}
-use Rattle.batch_sim.specs.Held.{contents_in}
-use Rattle.batch_rows.specs.Code.{AreSound, IsOrdered}
+use Rattle.batch_sim.specs.Stored.{contents_in}
 use Rattle.batch_code.specs.Code.{IsBatchCode}
-use Rattle.batch_sim.specs.declared.rows.engine.Engine.{Engine}
+use Rattle.batch_guess.specs.declared.engine.Engine.{Engine}
 use Rattle.batch_sim.specs.Called.{din_count}
 use Rattle.cycle_sim.specs.Slots.{words_of}
-use Rattle.batch_rows.specs.Rights.{value_at}
-use Rattle.batch_rows.specs.Values.{values_of}
-use Rattle.batch_rows.specs.LaneSizes.{AreSized}
+use Rattle.lane_rows.specs.Values.{value_at, values_of}
 use Rattle.batch_code.specs.Rows.{RowsRan}
 use Rattle.batch_sim.specs.Pieces.{clocks_in}
-use Rattle.batch_sim.specs.declared.held.Held.{Held}
+use Rattle.batch_guess.specs.declared.stored.Stored.{Stored}
 use Rattle.batch_sim.specs.declared.rows.Rows.{Rows}
-use Rattle.batch_sim.specs.declared.rows.table.Table.{Table}
-use Rattle.batch_sim.specs.declared.inputs.Piece.{Piece}
+use Rattle.batch_guess.specs.declared.inputs.Piece.{Piece}
 use Rattle.batch_sim.specs.Arrays.{AreAccessRows, ArePut, AreKept}
 use Rattle.batch_sim.specs.Checked.{HaveAtomRows, AreInputRows, AreRegisterRows}
-use Rattle.batch_sim.specs.Table.{AreFirstUses, IsTable}
 
--- its instructions can be run, and the first uses of its slots are theirs
-pub record IsEngine (e : Engine) : Type 0 where
-  pub sound : AreSound e.code.widths.items e.code.instructions.items
-  pub ordered : IsOrdered e.code.instructions.items
-  pub uses : AreFirstUses e.code.instructions.items e.uses.items
-  pub sized : AreSized e.code.widths.items e.code.instructions.items e.sizes.items
-
--- the first n instructions were run over a table whose rows have this many places
-abbrev pub HasRun : Engine → (long : ℕ) → Table → (done : ℕ) → Type 0
-HasRun e long t done = IsTable e.code.widths.items e.code.instructions.items long t done
-
--- it is a netlist's
+-- an engine is a netlist's
 pub record IsEngineOf (m : Netlist) (e : Engine) : Type 0 where
   pub code : IsBatchCode m e.code
-  pub uses : AreFirstUses e.code.instructions.items e.uses.items
-  pub sized : AreSized e.code.widths.items e.code.instructions.items e.sizes.items
   pub enable : e.has_enable ≡ m.enable
   pub ports : e.ports ≡ din_count m
 
@@ -50,15 +32,14 @@ pub record AreWide (e : Engine) (rows : List (List ℕ)) (count : ℕ) : Type 0 
   pub nexts : HaveAtomRows rows count e.code.nexts.items
   pub arrays : AreAccessRows rows count e.code.reads.items e.code.puts.items
 
--- rows for a netlist
+-- rows for a netlist, of one place more than a piece has clocks
 pub record AreRowsOf (m : Netlist) (r : Rows) : Type 0 where
-  pub engine : IsEngineOf m r.engine
-  pub table : HasRun r.engine (length r.table.room.items) r.table 0
+  pub engine : IsEngineOf m r.guess.engine
   pub some : 1 ≤ r.size
-  pub wide : r.size < length r.table.room.items
+  pub wide : r.size < r.guess.long
 
--- the rows keep the equations of the code over the clocks of a piece, and what is held is what it was and what they leave
-pub record IsJudged (e : Engine) (rows : List (List ℕ)) (p : Piece) (old new : Held) : Type 0 where
+-- the rows keep the equations of the code over the clocks of a piece, and the contents are what they were and what the rows leave
+pub record IsJudged (e : Engine) (rows : List (List ℕ)) (p : Piece) (old new : Stored) : Type 0 where
   pub given : AreInputRows e.has_enable e.ports p e.code.first_output rows
   pub registers : AreRegisterRows rows p.count e.code.first_reg old.regs.items e.code.nexts.items
   pub kept : AreKept rows e.code.reads.items e.code.puts.items p.count (words_of old.arrays.items) (length old.arrays.items)
@@ -67,12 +48,12 @@ pub record IsJudged (e : Engine) (rows : List (List ℕ)) (p : Piece) (old new :
   pub taken : (r : ℕ) → r < length new.regs.items → slice_index new.regs.items r ≡ value_at rows p.count (e.code.first_reg + r)
 
 -- the rows are those of a run over the clocks of a piece
-abbrev pub RanOver : Netlist → Piece → (old new : Held) → Rows → Type 0
-RanOver m p old new r = RowsRan m (clocks_in m p) (contents_in old) (contents_in new) (values_of r.table.rows.items)
+abbrev pub RanOver : Netlist → Piece → (old new : Stored) → Rows → Type 0
+RanOver m p old new r = RowsRan m (clocks_in m p) (contents_in old) (contents_in new) (values_of r.guess.rows)
 
 -- what a simulator of batches is made of
-pub record AreBatches (m : Netlist) (held : Held) (count : ℕ) (rows : Option Rows) : Type 0 where
+pub record AreBatches (m : Netlist) (stored : Stored) (count : ℕ) (rows : Option Rows) : Type 0 where
   pub rules : KeepsRules m
   pub ports : count ≡ din_count m
-  pub fits : FitsContents m (contents_in held)
+  pub fits : FitsContents m (contents_in stored)
   pub wide : IfSome rows (AreRowsOf m)

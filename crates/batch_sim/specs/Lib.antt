@@ -2,7 +2,6 @@ pub mod Arrays
 pub mod Called
 pub mod Checked
 pub mod Engine
-pub mod Held
 pub mod Pieces
 pub mod Shown
-pub mod Table
+pub mod Stored

@@ -6,8 +6,8 @@ use Rattle.wiring.specs.Clock.{Clock}
 use Rattle.cycle_sim.specs.declared.ports.Out.{Out}
 use Rattle.cycle_sim.specs.Ports.{din_widths}
 use Rattle.batch_sim.specs.declared.batches.Stop.{Stop}
-use Rattle.batch_sim.specs.declared.inputs.Inputs.{Inputs}
-use Rattle.batch_sim.specs.declared.inputs.Piece.{Piece}
+use Rattle.batch_guess.specs.declared.inputs.Inputs.{Inputs}
+use Rattle.batch_guess.specs.declared.inputs.Piece.{Piece}
 use Rattle.batch_sim.specs.Called.{din_count, output_count, batch_clocks, piece_of, Came, BatchStops}
 
 -- the clocks of a batch

@@ -1,7 +1,7 @@
 -- What outputs show, by the rows of their slots.
 use Rattle.std.specs.Prelude.{◌≡◌, ℕ, ◌+◌, ◌*◌, ◌<◌, ◌==◌, List, length, slice_get, slice_index, Some}
 use Rattle.cycle_sim.specs.declared.ports.Out.{Out}
-use Rattle.batch_rows.specs.Rights.{value_at}
+use Rattle.lane_rows.specs.Values.{value_at}
 
 -- an output whose bit and number have these rows, at a clock
 abbrev pub shown_at : (valid dout : List ℕ) → ℕ → Out

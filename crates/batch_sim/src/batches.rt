@@ -8,39 +8,38 @@ ghost use Rattle.cycle_sim.specs.Filled.{filled_contents};
 ghost use Rattle.cycle_sim.specs.Simulated.{GoesOn, StopsIn, clock};
 ghost use Rattle.batch_sim.specs.Called.{din_count, output_count, batch_clocks, BatchRan, MachineStops, IsStopOfRun};
 
-use crate::held::{Held, step_held, zeros};
-use crate::inputs::Inputs;
 use crate::pause::Pause;
-use crate::pieces::step_pieces;
 use crate::rows::Rows;
 use crate::rows::make::rows_of;
+use crate::stored::{step_stored, zeros};
+use batch_guess::{Inputs, Stored};
 use cycle_sim::{Fill, IndexRange, Out, Sim, dins_of};
 use dk_base::OutOfMemory;
 use netlist::{Module, one_run_law};
 use std::alloc::Global;
 use std::marker::Model;
 
-/// A netlist with what its registers and arrays hold, clocked many clocks at a time.
+/// A netlist with the contents of its registers and arrays, clocked many clocks at a time.
 #[derive(Debug, Drop)]
 pub struct Batches {
-    // what it holds means nothing between the calls
-    sim: Sim,
-    held: Held,
-    dins: usize,
-    rows: Option<Rows>,
-    pause: Pause,
+    // its contents mean nothing between the calls
+    pub(crate) sim: Sim,
+    pub(crate) stored: Stored,
+    pub(crate) dins: usize,
+    pub(crate) rows: Option<Rows>,
+    pub(crate) pause: Pause,
 }
 
 impl Model for Batches {
     ghost use Rattle.cycle_sim.specs.Simulated.{Machine};
-    ghost use Rattle.batch_sim.specs.Held.{contents_in};
+    ghost use Rattle.batch_sim.specs.Stored.{contents_in};
     ghost use Rattle.batch_sim.specs.Engine.{AreBatches};
 
     ghost Value = { Machine };
 
-    ghost view = { λ b. record { netlist = b.sim.netlist; contents = contents_in b.held } };
+    ghost view = { λ b. record { netlist = b.sim.netlist; contents = contents_in b.stored } };
 
-    ghost invariant = { λ b. AreBatches b.sim.netlist b.held b.dins b.rows };
+    ghost invariant = { λ b. AreBatches b.sim.netlist b.stored b.dins b.rows };
 }
 
 /// Where a batch stops: `done` clocks took place, and in the next one this index is outside its array.
@@ -65,13 +64,13 @@ impl Batches {
     {
         let dins = count_dins(module);
         let rows = rows_of(alloc, module, dins)?;
-        let mut held = zeros(alloc, module.wiring())?;
+        let mut stored = zeros(alloc, module.wiring())?;
         let mut sim = Sim::new(alloc, module, fill)?;
         sim.law();
-        sim.exchange(&mut held.regs, &mut held.arrays);
+        sim.exchange(&mut stored.regs, &mut stored.arrays);
         let batches = Batches {
             sim,
-            held,
+            stored,
             dins,
             rows,
             pause: Pause::new(),
@@ -79,7 +78,7 @@ impl Batches {
         Ok(batches)
     }
 
-    /// A law: there is one valuation for each contents and inputs and one next contents, and what registers and arrays hold fits them.
+    /// A law: there is one valuation for each contents and inputs and one next contents, and the contents fit the netlist.
     pub fn law(&self)
         ensures one_valuation { HasOneSnapshot self.now.netlist }
         ensures one_next { HasOneNext self.now.netlist }
@@ -113,7 +112,7 @@ impl Batches {
         ensures err { OnErr result (self.new ≡ self.old) }
         ensures outs { OnErr result (outs.new ≡ outs.old) }
     {
-        step_held(&mut self.sim, &mut self.held, reset, enable, dins, outs)
+        step_stored(&mut self.sim, &mut self.stored, reset, enable, dins, outs)
     }
 
     /// As many clocks as `enables` has, none of them a reset. The dins of each clock, in their order and each fitting its port,
@@ -133,17 +132,9 @@ impl Batches {
         ensures stops { IfErr result (MachineStops self.old self.new (batch_clocks self.old.netlist enables.now dins.now) outs.old outs.new) }
         ensures only { IsStopOfRun self.old.netlist (batch_clocks self.old.netlist enables.now dins.now) self.old.contents result }
     {
-        self.sim.law();
+        self.law();
         one_run_law();
         let inputs = Inputs { enables, dins };
-        step_pieces(
-            &mut self.sim,
-            &mut self.rows,
-            &mut self.pause,
-            &mut self.held,
-            self.dins,
-            &inputs,
-            outs,
-        )
+        self.step_pieces(&inputs, outs)
     }
 }

@@ -5,7 +5,7 @@ ghost use Rattle.batch_sim.specs.Called.{din_count};
 ghost use Rattle.batch_sim.specs.Pieces.{IsPieceOf, HavePlaces, PieceRan, PieceStops};
 
 use crate::batches::Stop;
-use crate::inputs::Piece;
+use batch_guess::Piece;
 use cycle_sim::{Out, Sim};
 
 // The clocks of a piece, one after another, each with this many dins.

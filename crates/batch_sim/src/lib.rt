@@ -3,11 +3,10 @@
 
 mod batches;
 mod each;
-mod held;
-mod inputs;
 mod judge;
 mod pause;
 mod pieces;
 mod rows;
+mod stored;
 
 pub use batches::{Batches, Stop};

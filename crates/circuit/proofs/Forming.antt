@@ -10,7 +10,7 @@ use Rattle.wiring.specs.declared.netlist.Net.{Net}
 use Rattle.wiring.specs.declared.netlist.Shape.{Shape}
 use Rattle.wiring.specs.declared.netlist.Holder.{Holder}
 use Rattle.wiring.specs.declared.netlist.Holder.TheVariants.{OfNet, OfArray}
-use Rattle.wiring.specs.Netlist.{Netlist, depth}
+use Rattle.wiring.specs.Netlist.{Netlist, net_width, depth}
 use Rattle.wiring.specs.Sizes.{IsWidth}
 use Rattle.wiring.specs.BufferBits.{array_bits}
 use Rattle.net_build.specs.Draft.{IsNet}
@@ -21,7 +21,7 @@ use Rattle.buffer_plan.proofs.Aged.{are_ages, last_age, depth_most}
 use Rattle.line_buffer.specs.Places as L
 use Rattle.line_buffer.specs.Places.{Place}
 use Rattle.line_buffer.specs.Fills.{AreFilled}
-use Rattle.line_buffer.specs.Buffers.{IsBuffer, AddsBuffer, AreMadeOfBuffer, is_buffer}
+use Rattle.line_buffer.specs.Buffers.{CanBeBuffered, IsBuffer, AddsBuffer, AreMadeOfBuffer, is_buffer}
 use Rattle.line_buffer.specs.Chains.{AreCopies, is_short, AreMadeOfShort, IsChain}
 use Rattle.line_buffer.proofs.Building.{ages_deep}
 use Rattle.line_buffer.proofs.Bits.{chain_bits}
@@ -57,6 +57,16 @@ plan_wide plan g width is kept e =
     let here : width_of plan g ≡ (slice_index_or images (place images g) none).width = get_or-map (λ (j : Image). j.width) images (place images g) none 0 kept in
     let has : HasWidth (slice_index_or images (place images g) none) = is.system.stencils.images.widths (place images g) none kept in
     subst IsWidth (sym (e ∙ here)) (has.some, has.most)
+
+-- a kept image can have a buffer over the ages at which it is read
+pub image_buffered : (b : Netlist) (plan : Plan) (g : ℕ) (value : Net) (width : ℕ) (ages : List ℕ) → IsPlan plan → Keeps plan g → IsNet b value → net_width b value ≡ width_of plan g → width ≡ width_of plan g → ages ≡ ages_of plan g → CanBeBuffered b value width ages
+image_buffered b plan g value width ages is kept there wide own aged = record {
+  ascending = ages_ascend plan g ages aged;
+  most = ages_most plan g ages is kept aged;
+  bits = plan_wide plan g width is kept own;
+  there = there;
+  wide = wide ∙ sym own;
+}
 
 -- where no array is long, the taps are made of any array of the buffer
 none_long : (b : Netlist) (first end : ℕ) (h : Holder) → IsTrue (is_buffer b.enable first end h) → IsTrue (is_short (λ words. false) b first end h)

@@ -18,7 +18,7 @@ ghost use Rattle.circuit.specs.Taps.{IsReading, size_in};
 ghost use Rattle.circuit.specs.Reads.{ChoosesAlso, Chooses, IsReadNet, IsNetOf, reads_in, atom_of_choice, choice_nets, chosen_by};
 
 use crate::positions::test_at;
-use crate::reader::{Reader, tap_of};
+use crate::reader::{Leaf, Reader, tap_of};
 use dk_base::{LiveRead, OutOfMemory, Ty};
 use edge_select::{Extent, FrameTests, Step, passing};
 use net_build::{Builder, gate, number};
@@ -85,7 +85,7 @@ fn with_tap(
         Extent::Never => Ok(before),
         Extent::Always => Ok(Some(tap)),
         Extent::Sometimes => {
-            let test = test_at(b, plan, reader.image, tests, steps, read.dx, read.dy)?;
+            let test = test_at(b, reader, tests, steps, read)?;
             let net = chosen_by(b, test, tap, before, plan.width(read.g))?;
             Ok(Some(net))
         }
@@ -115,13 +115,12 @@ fn misses(steps: &[Step], read: LiveRead) -> bool
     }
 }
 
-// The choice with one more read, be it of the image or not.
+// The choice with one more read, be it of the leaf's image or not.
 fn with_read(
     b: &mut Builder,
     reader: &Reader,
     tests: &mut FrameTests,
-    steps: &[Step],
-    g: u32,
+    leaf: Leaf,
     read: LiveRead,
     before: Option<Net>,
 ) -> Result<Option<Net>, OutOfMemory>
@@ -129,40 +128,39 @@ fn with_read(
     requires tests { AreFrameTests b.old (size_in reader.now.plan.now) tests.old }
     requires read { Contains (reads_in reader.now.plan.now reader.now.image) read }
     requires before { IfSome before (IsNet b.old) }
-    requires before_width { IfSome before (λ n. net_width b.old n ≡ width_of (type_at reader.now.ir.now g)) }
+    requires before_width { IfSome before (λ n. net_width b.old n ≡ width_of (type_at reader.now.ir.now leaf.image)) }
     ensures adds { OnOk result (AddsTests b.new b.old tests.new tests.old) }
     ensures tests { OnOk result (AreFrameTests b.new (size_in reader.now.plan.now) tests.new) }
     ensures choice { IfOk result (ChoosesAlso b.new b.old reader.now.ir.now reader.now.plan.now reader.now.taps.now reader.now.image
-        (leaf_at g steps.now) read before) }
+        (leaf_at leaf.entry.image leaf.entry.steps.now) read before) }
 {
-    if read.g != g {
+    if read.g != leaf.image {
         return Ok(before);
     }
     reader.plan.law();
-    if misses(steps, read) {
+    if misses(leaf.steps, read) {
         return Ok(before);
     }
-    let choice = with_tap(b, reader, tests, steps, read, before)?;
+    let choice = with_tap(b, reader, tests, leaf.steps, read, before)?;
     Ok(choice)
 }
 
-// The choice among all live reads of image g.
+// The choice among all live reads of the leaf's image.
 fn choice_of(
     b: &mut Builder,
     reader: &Reader,
     tests: &mut FrameTests,
-    steps: &[Step],
-    g: u32,
+    leaf: Leaf,
 ) -> Result<Option<Net>, OutOfMemory>
     requires reading { IsReading b.old reader.now.ir.now reader.now.plan.now reader.now.taps.now reader.now.image }
     requires tests { AreFrameTests b.old (size_in reader.now.plan.now) tests.old }
     ensures adds { OnOk result (AddsTests b.new b.old tests.new tests.old) }
     ensures tests { OnOk result (AreFrameTests b.new (size_in reader.now.plan.now) tests.new) }
-    ensures choice { IfOk result (Chooses b.new b.old reader.now.ir.now reader.now.plan.now reader.now.taps.now reader.now.image (leaf_at g steps.now)) }
+    ensures choice { IfOk result (Chooses b.new b.old reader.now.ir.now reader.now.plan.now reader.now.taps.now reader.now.image (leaf_at leaf.entry.image leaf.entry.steps.now)) }
 {
     let mut choice = None;
     for read in reader.plan.reads(reader.image) {
-        choice = with_read(b, reader, tests, steps, g, *read, choice)?;
+        choice = with_read(b, reader, tests, leaf, *read, choice)?;
     }
     Ok(choice)
 }
@@ -182,26 +180,25 @@ fn net_of(b: &mut Builder, bits: u8, choice: Option<Net>) -> Result<Net, OutOfMe
     }
 }
 
-// The net of a read of image g by the reader, at the end of these steps. It has the type of image g.
+// The net of a leaf of the reader's body. It has the type of the leaf's image.
 pub fn read_net(
     b: &mut Builder,
     reader: &Reader,
     tests: &mut FrameTests,
-    steps: &[Step],
-    g: u32,
+    leaf: Leaf,
 ) -> Result<(Ty, Net), OutOfMemory>
     requires reading { IsReading b.old reader.now.ir.now reader.now.plan.now reader.now.taps.now reader.now.image }
     requires tests { AreFrameTests b.old (size_in reader.now.plan.now) tests.old }
-    requires earlier { g < reader.now.image }
+    requires earlier { leaf.image < reader.now.image }
     ensures adds { OnOk result (AddsTests b.new b.old tests.new tests.old) }
     ensures tests { OnOk result (AreFrameTests b.new (size_in reader.now.plan.now) tests.new) }
-    ensures ty { IfOk result (λ n. n.0 ≡ type_at reader.now.ir.now g) }
+    ensures ty { IfOk result (λ n. n.0 ≡ type_at reader.now.ir.now leaf.entry.image) }
     ensures net { IfOk result (λ n. (first : Netlist) → Includes b.old first
-        → IsReadNet b.new first reader.now.plan.now reader.now.taps.now reader.now.image (leaf_at g steps.now) (width_of n.0) n.1) }
+        → IsReadNet b.new first reader.now.plan.now reader.now.taps.now reader.now.image (leaf_at leaf.entry.image leaf.entry.steps.now) (width_of n.0) n.1) }
 {
     reader.ir.law();
-    let ty = reader.ir.type_of(g);
-    let choice = choice_of(b, reader, tests, steps, g)?;
+    let ty = reader.ir.type_of(leaf.image);
+    let choice = choice_of(b, reader, tests, leaf)?;
     let net = net_of(b, ty.width(), choice)?;
     Ok((ty, net))
 }

@@ -14,7 +14,7 @@ use crate::slots::{Slot, block_slot, chain_slot, ring_slot};
 use crate::taps::Taps;
 use buffer_plan::Plan;
 use dk_base::OutOfMemory;
-use line_buffer::{Turns, block_chain, chain, ring};
+use line_buffer::{BufferedImage, Turns, block_chain, chain, ring};
 use net_build::Builder;
 use std::alloc::Global;
 use std::marker::Model;
@@ -108,7 +108,12 @@ impl BufferForm for Ring {
         turns: &mut Turns,
     ) -> Result<Taps, OutOfMemory> {
         plan.law();
-        let nets = ring(alloc, b, turns, plan.width(image), plan.ages(image), value)?;
+        let own = BufferedImage {
+            net: value,
+            width: plan.width(image),
+            ages: plan.ages(image),
+        };
+        let nets = ring(alloc, b, turns, own)?;
         Ok(Taps::new(nets))
     }
 }
@@ -130,7 +135,12 @@ impl BufferForm for Chain {
         turns: &mut Turns,
     ) -> Result<Taps, OutOfMemory> {
         plan.law();
-        let nets = chain(alloc, b, turns, plan.width(image), plan.ages(image), value)?;
+        let own = BufferedImage {
+            net: value,
+            width: plan.width(image),
+            ages: plan.ages(image),
+        };
+        let nets = chain(alloc, b, turns, own)?;
         Ok(Taps::new(nets))
     }
 }
@@ -153,8 +163,12 @@ impl BufferForm for BlockChain {
     ) -> Result<Taps, OutOfMemory> {
         plan.law();
         let split = split_of(plan, &self.proposed, image);
-        let width = plan.width(image);
-        let nets = block_chain(alloc, b, turns, width, split, value, self.least)?;
+        let own = BufferedImage {
+            net: value,
+            width: plan.width(image),
+            ages: split,
+        };
+        let nets = block_chain(alloc, b, turns, own, self.least)?;
         let taps = taps_among(alloc, plan.ages(image), split, &nets, value)?;
         Ok(Taps::new(taps))
     }

@@ -11,12 +11,19 @@ ghost use Rattle.circuit.specs.Reads.{AddsLeaves};
 use crate::choices::read_net;
 use crate::known::{BodyLeaves, ReadKey};
 use crate::positions::test_on;
-use crate::reader::Reader;
+use crate::reader::{Leaf, Reader};
 use dk_base::{OutOfMemory, Ty};
 use edge_select::{FrameTests, Step};
 use net_build::Builder;
 use pointwise_ir::{Edge, Expr};
 use wiring::Net;
+
+// A read of an image by one step.
+#[derive(Clone, Copy)]
+struct StepRead {
+    image: u32,
+    step: Step,
+}
 
 fn step_by(edge: Edge, dx: i32, dy: i32) -> Step
     ensures { result ≡ record { edge = edge; dx = dx; dy = dy } }
@@ -37,77 +44,78 @@ fn push_new(
     b: &mut Builder,
     reader: &Reader,
     tests: &mut FrameTests,
-    steps: &[Step],
-    g: u32,
+    leaf: Leaf,
     key: ReadKey,
     leaves: &mut BodyLeaves,
 ) -> Result<(), OutOfMemory>
     requires reading { IsReading b.old reader.now.ir.now reader.now.plan.now reader.now.taps.now reader.now.image }
     requires tests { AreFrameTests b.old (size_in reader.now.plan.now) tests.old }
-    requires earlier { g < reader.now.image }
-    requires key { leaf_of key ≡ leaf_at g steps.now }
+    requires earlier { leaf.image < reader.now.image }
+    requires key { leaf_of key ≡ leaf_at leaf.image leaf.steps.now }
     ensures adds { OnOk result (AddsTests b.new b.old tests.new tests.old) }
     ensures tests { OnOk result (AreFrameTests b.new (size_in reader.now.plan.now) tests.new) }
     ensures leaves { OnOk result (AddsLeaves b.new b.old reader.now.ir.now reader.now.plan.now reader.now.taps.now reader.now.image
-        (leaf_at g steps.now ∷ []) [] leaves.new leaves.old) }
+        (leaf_at leaf.entry.image leaf.entry.steps.now ∷ []) [] leaves.new leaves.old) }
 {
-    let net = read_net(b, reader, tests, steps, g)?;
+    let net = read_net(b, reader, tests, leaf)?;
     leaves.known.add(key, leaves.nets.reads.len())?;
     leaves.nets.reads.push(net)?;
     Ok(())
 }
 
-// A read that is at the end of these steps. Equal reads share their net.
+// The net of a leaf. Equal reads share their net.
 fn push_net(
     b: &mut Builder,
     reader: &Reader,
     tests: &mut FrameTests,
-    steps: &[Step],
-    g: u32,
+    leaf: Leaf,
     leaves: &mut BodyLeaves,
 ) -> Result<(), OutOfMemory>
     requires reading { IsReading b.old reader.now.ir.now reader.now.plan.now reader.now.taps.now reader.now.image }
     requires tests { AreFrameTests b.old (size_in reader.now.plan.now) tests.old }
-    requires earlier { g < reader.now.image }
+    requires earlier { leaf.image < reader.now.image }
     ensures adds { OnOk result (AddsTests b.new b.old tests.new tests.old) }
     ensures tests { OnOk result (AreFrameTests b.new (size_in reader.now.plan.now) tests.new) }
     ensures leaves { OnOk result (AddsLeaves b.new b.old reader.now.ir.now reader.now.plan.now reader.now.taps.now reader.now.image
-        (leaf_at g steps.now ∷ []) [] leaves.new leaves.old) }
+        (leaf_at leaf.entry.image leaf.entry.steps.now ∷ []) [] leaves.new leaves.old) }
 {
-    let key = leaves.known.key(g, steps)?;
+    let key = leaves.known.key(leaf.image, leaf.steps)?;
     match known_net(leaves, &key) {
         Some(net) => {
             leaves.nets.reads.push(net)?;
             Ok(())
         }
         None => {
-            push_new(b, reader, tests, steps, g, key, leaves)?;
+            push_new(b, reader, tests, leaf, key, leaves)?;
             Ok(())
         }
     }
 }
 
-// A read that is at the end of these steps, with its own step.
+// The net of a read that is at the end of these steps, with its own step.
 fn push_read(
     b: &mut Builder,
     reader: &Reader,
     tests: &mut FrameTests,
     steps: &mut Vec<Step>,
-    step: Step,
-    g: u32,
+    read: StepRead,
     leaves: &mut BodyLeaves,
 ) -> Result<(), OutOfMemory>
     requires reading { IsReading b.old reader.now.ir.now reader.now.plan.now reader.now.taps.now reader.now.image }
     requires tests { AreFrameTests b.old (size_in reader.now.plan.now) tests.old }
-    requires earlier { g < reader.now.image }
+    requires earlier { read.image < reader.now.image }
     ensures adds { OnOk result (AddsTests b.new b.old tests.new tests.old) }
     ensures tests { OnOk result (AreFrameTests b.new (size_in reader.now.plan.now) tests.new) }
     ensures steps { OnOk result (steps.new.items ≡ steps.old.items) }
     ensures leaves { OnOk result (AddsLeaves b.new b.old reader.now.ir.now reader.now.plan.now reader.now.taps.now reader.now.image
-        ((record { image = g; steps = steps.old.items ++ step ∷ [] }) ∷ []) [] leaves.new leaves.old) }
+        ((record { image = read.image; steps = steps.old.items ++ read.step ∷ [] }) ∷ []) [] leaves.new leaves.old) }
 {
-    steps.push(step)?;
-    push_net(b, reader, tests, steps, g, leaves)?;
+    steps.push(read.step)?;
+    let leaf = Leaf {
+        image: read.image,
+        steps,
+    };
+    push_net(b, reader, tests, leaf, leaves)?;
     steps.pop();
     Ok(())
 }
@@ -166,7 +174,8 @@ pub fn push_leaves(
         Expr::Constant(_, _) => Ok(()),
         Expr::Read(edge, g, dx, dy) => {
             let step = step_by(*edge, *dx, *dy);
-            push_read(b, reader, tests, steps, step, *g, leaves)
+            let read = StepRead { image: *g, step };
+            push_read(b, reader, tests, steps, read, leaves)
         }
         Expr::Shifted(edge, dx, dy, body) => {
             steps.push(step_by(*edge, *dx, *dy))?;

@@ -8,8 +8,9 @@ ghost use Rattle.edge_select.specs.Steps.{LeadBy, LeadOn};
 ghost use Rattle.circuit.specs.Taps.{Keeps, size_in};
 ghost use Rattle.circuit.specs.Reads.{IsPixelTest};
 
+use crate::reader::Reader;
 use buffer_plan::Plan;
-use dk_base::{FrameSize, OutOfMemory};
+use dk_base::{FrameSize, LiveRead, OutOfMemory};
 use edge_select::{Extent, FrameTests, Step, constant_test, leading};
 use net_build::Builder;
 use std::alloc::Global;
@@ -28,24 +29,22 @@ pub fn no_tests(alloc: Global, plan: &Plan) -> FrameTests
     FrameTests::new(alloc, size)
 }
 
-// The test that a pixel of image f passes where the steps lead from it to the point that is `dx` columns to the right and `dy` rows down.
+// The test that a pixel of the reader passes where the steps lead from it to the point that this live read takes.
 pub fn test_at(
     b: &mut Builder,
-    plan: &Plan,
-    f: u32,
+    reader: &Reader,
     tests: &mut FrameTests,
     steps: &[Step],
-    dx: i32,
-    dy: i32,
+    read: LiveRead,
 ) -> Result<Net, OutOfMemory>
-    requires kept { Keeps plan.now f }
-    requires tests { AreFrameTests b.old (size_in plan.now) tests.old }
+    requires kept { Keeps reader.now.plan.now reader.now.image }
+    requires tests { AreFrameTests b.old (size_in reader.now.plan.now) tests.old }
     ensures adds { OnOk result (AddsTests b.new b.old tests.new tests.old) }
-    ensures tests { OnOk result (AreFrameTests b.new (size_in plan.now) tests.new) }
-    ensures test { IfOk result (IsPixelTest b.new plan.now f (LeadBy (size_in plan.now) steps.now dx dy)) }
+    ensures tests { OnOk result (AreFrameTests b.new (size_in reader.now.plan.now) tests.new) }
+    ensures test { IfOk result (IsPixelTest b.new reader.now.plan.now reader.now.image (LeadBy (size_in reader.now.plan.now) steps.now read.dx read.dy)) }
 {
-    let delay = plan.delay(f);
-    let net = tests.at(b, delay, steps, dx, dy)?;
+    let delay = reader.plan.delay(reader.image);
+    let net = tests.at(b, delay, steps, read.dx, read.dy)?;
     Ok(net)
 }
 

@@ -1,4 +1,4 @@
-// An image that reads others.
+// An image that reads others, and what it reads.
 
 ghost use Rattle.std.specs.Prelude.{◌≡◌, ◌<◌, Some, Contains, length, slice_get, slice_index, slice_index_or, []};
 ghost use Rattle.std.specs.List.Sorted.{IsStrictlyIncreasing};
@@ -8,6 +8,7 @@ ghost use Rattle.circuit.specs.Taps.{taps_at, IsTapOf};
 use crate::taps::Taps;
 use buffer_plan::Plan;
 use dk_base::LiveRead;
+use edge_select::Step;
 use pointwise_ir::Program;
 use wiring::Net;
 
@@ -18,6 +19,13 @@ pub struct Reader<'a> {
     pub plan: &'a Plan,
     pub taps: &'a [Taps],
     pub image: u32,
+}
+
+// A read of an image at the end of these steps.
+#[derive(Clone, Copy)]
+pub struct Leaf<'a> {
+    pub image: u32,
+    pub steps: &'a [Step],
 }
 
 // The place of an age among the ages of an image.

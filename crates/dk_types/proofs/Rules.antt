@@ -1,5 +1,5 @@
 -- From what the code finds to the rules on types and faults of expressions.
-use Rattle.std.proofs.Common.{◌≡◌, ℕ, ◌<◌, ◌≤◌, Bool, true, false, nat_eq, nat_lt, nat_le, Option, Some, None, if◌then◌else◌, refl, sym, ap, ◌∙◌, subst, arith, Fits, w64, w32, List, ℤ, zero, suc}
+use Rattle.std.proofs.Common.{◌≡◌, ◌⊎◌, inl, inr, ℕ, ◌<◌, ◌≤◌, Bool, true, false, nat_eq, nat_lt, nat_le, Option, Some, None, if◌then◌else◌, refl, sym, ap, ◌∙◌, subst, arith, Fits, w64, w32, List, ℤ, zero, suc}
 use Rattle.std.proofs.Common.{SFits, to_z, of_z}
 use Rattle.std.proofs.lemmas.Int.{to_z-of_z}
 use Rattle.dk_base.specs.declared.span.Span.{Span}
@@ -75,6 +75,10 @@ unary_refused scope s Unary.Abs a e h n = absurd (let e : ⊥ = cc in e)
 pub not_bit : (o : Unary) (s p : Span) → o ≡ Unary.Not → unary_fault o s p ≡ at p NotOneBit
 not_bit o s p e = ap (λ x. unary_fault x s p) e
 
+pub other_than_not : (o : Unary) → (o ≡ Unary.Negate) ⊎ (o ≡ Unary.Abs) → o ≡ Unary.Not → ⊥
+other_than_not o (inl e) n = absurd (let d : Unary.Negate ≡ Unary.Not = sym e ∙ n in cc)
+other_than_not o (inr e) n = absurd (let d : Unary.Abs ≡ Unary.Not = sym e ∙ n in cc)
+
 pub not_not : (o : Unary) (s p : Span) → (o ≡ Unary.Not → ⊥) → unary_fault o s p ≡ at s WidthTooGreat
 not_not Unary.Negate s p n = refl
 not_not Unary.Not s p n = absurd (n refl)
@@ -148,6 +152,10 @@ scale_refused scope s Scaling.ShiftLeft a k e h n = by (nat_le k.value 63) refl
 
 pub divided : (o : Scaling) (s : Span) (k : Literal) → o ≡ Scaling.Divide → scale_fault o s k ≡ at k.span ZeroDivisor
 divided o s k e = ap (λ x. scale_fault x s k) e
+
+pub is_shift : (o : Scaling) → (o ≡ Scaling.ShiftLeft) ⊎ (o ≡ Scaling.ShiftRight) → o ≡ Scaling.Divide → ⊥
+is_shift o (inl e) n = left_is_none (sym e ∙ n)
+is_shift o (inr e) n = right_is_none (sym e ∙ n)
 
 pub shifted_far : (o : Scaling) (s : Span) (k : Literal) → (o ≡ Scaling.Divide → ⊥) → 63 < k.value → scale_fault o s k ≡ at k.span ShiftRange
 shifted_far Scaling.ShiftLeft s k n h = let q : nat_lt 63 k.value ≡ true = grind arith in rw q refl

@@ -4,8 +4,9 @@ use Rattle.dk_base.specs.declared.TheConstants.{MAX_OFFSET}
 use Rattle.dk_base.specs.declared.span.Span.{Span}
 use Rattle.dk_base.specs.Types.{IsType}
 use Rattle.dk_parser.specs.declared.tree.Offset.{Offset}
-use Rattle.dk_parser.specs.Tree.{Tree}
+use Rattle.dk_parser.specs.Tree.{Tree, span_of}
 use Rattle.dk_types.specs.declared.typed.TypedExpr.{TypedExpr}
+use Rattle.dk_types.specs.declared.expression.Operand.{Operand}
 use Rattle.dk_types.specs.declared.fault.TypeError.{TypeError}
 use Rattle.dk_types.specs.Scopes.{Scope}
 use Rattle.dk_types.specs.Typed.{typed_of}
@@ -16,6 +17,11 @@ use Rattle.dk_types.specs.Faults.{Faulty, Stops}
 pub record IsTypedAs (scope : Scope) (e : Tree) (t : TypedExpr) : Type 0 where
   pub has : HasType scope e (typed_of t)
   pub is_type : IsType t.ty
+
+-- an operand: the expression is typed so, and stands there
+pub record IsOperand (scope : Scope) (e : Tree) (o : Operand) : Type 0 where
+  pub typed : IsTypedAs scope e o.typed
+  pub stands : span_of e ≡ o.span
 
 -- the expression's typed form, or its first fault
 abbrev pub Judged : Scope → Tree → Result TypedExpr TypeError → Type 0

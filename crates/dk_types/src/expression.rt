@@ -7,7 +7,7 @@ ghost use Rattle.dk_parser.specs.Tree.{tree_of, ConvertsToTypes};
 ghost use Rattle.dk_parser.specs.Tree as T;
 ghost use Rattle.dk_types.specs.Scopes.{Scope as Names};
 ghost use Rattle.dk_types.specs.Offsets.{offset_of, amount_of};
-ghost use Rattle.dk_types.specs.Found.{Judged, IsTypedAs, IsFarAt};
+ghost use Rattle.dk_types.specs.Found.{Judged, IsTypedAs, IsOperand, IsFarAt};
 
 use crate::fault::{TypeError, TypeFaultKind, fault};
 use crate::operators;
@@ -68,18 +68,35 @@ fn number(span: Span, value: u64) -> TypedExpr
     }
 }
 
+// An operand: where it stands, and its typed form.
+#[derive(Drop)]
+struct Operand {
+    span: Span,
+    typed: TypedExpr,
+}
+
+fn operand_of(source: &Expr, typed: TypedExpr) -> Operand
+    requires { IsType typed.ty }
+    ensures is_type { IsType result.typed.ty }
+    ensures is { (scope : Names) → IsTypedAs scope (tree_of source.now) typed → IsOperand scope (tree_of source.now) result }
+{
+    Operand {
+        span: source.span,
+        typed,
+    }
+}
+
 fn unary(
     alloc: Global,
     span: Span,
     operator: Unary,
-    a: &Expr,
-    operand: TypedExpr,
+    operand: Operand,
 ) -> Result<TypedExpr, TypeError>
-    requires { IsType operand.ty }
-    ensures { (scope : Names) → IsTypedAs scope (tree_of a.now) operand → Judged scope (T.unary span operator (tree_of a.now)) result }
+    requires { IsType operand.typed.ty }
+    ensures { (scope : Names) (a : T.Tree) → IsOperand scope a operand → Judged scope (T.unary span operator a) result }
 {
-    let ty = operators::unary_type(span, operator, a.span, operand.ty)?;
-    let node = TypedNode::Unary(operator, Box::new(alloc, operand)?);
+    let ty = operators::unary_type(span, operator, operand.span, operand.typed.ty)?;
+    let node = TypedNode::Unary(operator, Box::new(alloc, operand.typed)?);
     Ok(TypedExpr { ty, node })
 }
 
@@ -87,19 +104,23 @@ fn binary(
     alloc: Global,
     span: Span,
     operator: Binary,
-    a: &Expr,
-    left: TypedExpr,
-    b: &Expr,
-    right: TypedExpr,
+    left: Operand,
+    right: Operand,
 ) -> Result<TypedExpr, TypeError>
-    requires left { IsType left.ty }
-    requires right { IsType right.ty }
-    ensures { (scope : Names) → IsTypedAs scope (tree_of a.now) left → IsTypedAs scope (tree_of b.now) right
-        → Judged scope (T.binary span operator (tree_of a.now) (tree_of b.now)) result }
+    requires left { IsType left.typed.ty }
+    requires right { IsType right.typed.ty }
+    ensures { (scope : Names) (a b : T.Tree) → IsOperand scope a left → IsOperand scope b right → Judged scope (T.binary span operator a b) result }
 {
-    let ty = operators::binary_type(span, operator, a.span, left.ty, b.span, right.ty)?;
-    let left = Box::new(alloc, left)?;
-    let right = Box::new(alloc, right)?;
+    let ty = operators::binary_type(
+        span,
+        operator,
+        left.span,
+        left.typed.ty,
+        right.span,
+        right.typed.ty,
+    )?;
+    let left = Box::new(alloc, left.typed)?;
+    let right = Box::new(alloc, right.typed)?;
     let node = TypedNode::Binary(operator, left, right);
     Ok(TypedExpr { ty, node })
 }
@@ -108,12 +129,11 @@ fn scale(
     alloc: Global,
     span: Span,
     operator: Scaling,
-    a: &Expr,
     operand: TypedExpr,
     by: Literal,
 ) -> Result<TypedExpr, TypeError>
     requires { IsType operand.ty }
-    ensures { (scope : Names) → IsTypedAs scope (tree_of a.now) operand → Judged scope (T.scale span operator (tree_of a.now) by) result }
+    ensures { (scope : Names) (a : T.Tree) → IsTypedAs scope a operand → Judged scope (T.scale span operator a by) result }
 {
     let ty = operators::scale_type(span, operator, operand.ty, by)?;
     let operand = Box::new(alloc, operand)?;
@@ -121,15 +141,9 @@ fn scale(
     Ok(TypedExpr { ty, node })
 }
 
-fn cast(
-    alloc: Global,
-    span: Span,
-    a: &Expr,
-    operand: TypedExpr,
-    to: TypeWord,
-) -> Result<TypedExpr, TypeError>
+fn cast(alloc: Global, span: Span, operand: TypedExpr, to: TypeWord) -> Result<TypedExpr, TypeError>
     requires { IsType to.ty }
-    ensures { (scope : Names) → IsTypedAs scope (tree_of a.now) operand → Judged scope (T.cast span (tree_of a.now) to) result }
+    ensures { (scope : Names) (a : T.Tree) → IsTypedAs scope a operand → Judged scope (T.cast span a to) result }
 {
     let node = TypedNode::Convert(Conversion::Cast, Box::new(alloc, operand)?);
     Ok(TypedExpr { ty: to.ty, node })
@@ -138,12 +152,11 @@ fn cast(
 fn saturate(
     alloc: Global,
     span: Span,
-    a: &Expr,
     operand: TypedExpr,
     to: TypeWord,
 ) -> Result<TypedExpr, TypeError>
     requires { IsType to.ty }
-    ensures { (scope : Names) → IsTypedAs scope (tree_of a.now) operand → Judged scope (T.sat span (tree_of a.now) to) result }
+    ensures { (scope : Names) (a : T.Tree) → IsTypedAs scope a operand → Judged scope (T.sat span a to) result }
 {
     let node = TypedNode::Convert(Conversion::Saturate, Box::new(alloc, operand)?);
     Ok(TypedExpr { ty: to.ty, node })
@@ -152,20 +165,17 @@ fn saturate(
 fn select(
     alloc: Global,
     span: Span,
-    c: &Expr,
-    condition: TypedExpr,
-    a: &Expr,
+    condition: Operand,
     left: TypedExpr,
-    b: &Expr,
     right: TypedExpr,
 ) -> Result<TypedExpr, TypeError>
     requires left { IsType left.ty }
     requires right { IsType right.ty }
-    ensures { (scope : Names) → IsTypedAs scope (tree_of c.now) condition → IsTypedAs scope (tree_of a.now) left → IsTypedAs scope (tree_of b.now) right
-        → Judged scope (T.select span (tree_of c.now) (tree_of a.now) (tree_of b.now)) result }
+    ensures { (scope : Names) (c a b : T.Tree) → IsOperand scope c condition → IsTypedAs scope a left → IsTypedAs scope b right
+        → Judged scope (T.select span c a b) result }
 {
-    let ty = operators::select_type(span, c.span, condition.ty, left.ty, right.ty)?;
-    let condition = Box::new(alloc, condition)?;
+    let ty = operators::select_type(span, condition.span, condition.typed.ty, left.ty, right.ty)?;
+    let condition = Box::new(alloc, condition.typed)?;
     let left = Box::new(alloc, left)?;
     let right = Box::new(alloc, right)?;
     let node = TypedNode::Select(condition, left, right);
@@ -182,30 +192,36 @@ pub(crate) fn expression(alloc: Global, scope: &Scope, e: &Expr) -> Result<Typed
         Node::Read(image_read) => read(scope, e.span, image_read),
         Node::Unary(operator, a) => {
             let operand = expression(alloc, scope, a)?;
-            unary(alloc, e.span, *operator, a, operand)
+            unary(alloc, e.span, *operator, operand_of(a, operand))
         }
         Node::Binary(operator, a, b) => {
             let left = expression(alloc, scope, a)?;
             let right = expression(alloc, scope, b)?;
-            binary(alloc, e.span, *operator, a, left, b, right)
+            binary(
+                alloc,
+                e.span,
+                *operator,
+                operand_of(a, left),
+                operand_of(b, right),
+            )
         }
         Node::Scale(operator, a, by) => {
             let operand = expression(alloc, scope, a)?;
-            scale(alloc, e.span, *operator, a, operand, *by)
+            scale(alloc, e.span, *operator, operand, *by)
         }
         Node::Cast(a, to) => {
             let operand = expression(alloc, scope, a)?;
-            cast(alloc, e.span, a, operand, *to)
+            cast(alloc, e.span, operand, *to)
         }
         Node::Sat(a, to) => {
             let operand = expression(alloc, scope, a)?;
-            saturate(alloc, e.span, a, operand, *to)
+            saturate(alloc, e.span, operand, *to)
         }
         Node::Select(c, a, b) => {
             let condition = expression(alloc, scope, c)?;
             let left = expression(alloc, scope, a)?;
             let right = expression(alloc, scope, b)?;
-            select(alloc, e.span, c, condition, a, left, b, right)
+            select(alloc, e.span, operand_of(c, condition), left, right)
         }
     }
 }

@@ -13,4 +13,4 @@ mod worked;
 pub use fault::{TypeError, TypeFault, TypeFaultKind};
 pub use typed::{TypedDefinition, TypedExpr, TypedInput, TypedNode, TypedProgram, TypedRead};
 pub use whole::{check, one_typing_law, values_in_types_law};
-pub use worked::worked_types;
+pub use worked::{worked_choices_and_shifts, worked_types};

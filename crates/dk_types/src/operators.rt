@@ -33,7 +33,7 @@ pub(crate) fn unary_type(
         Some(ty) => Ok(ty),
         None => match operator {
             Unary::Not => Err(fault(first, TypeFaultKind::NotOneBit)),
-            _ => Err(fault(span, TypeFaultKind::WidthTooGreat)),
+            Unary::Negate | Unary::Abs => Err(fault(span, TypeFaultKind::WidthTooGreat)),
         },
     }
 }
@@ -105,8 +105,12 @@ pub(crate) fn scale_type(
         Some(ty) => Ok(ty),
         None => match operator {
             Scaling::Divide => Err(fault(by.span, TypeFaultKind::ZeroDivisor)),
-            _ if MAX_SHIFT < by.value => Err(fault(by.span, TypeFaultKind::ShiftRange)),
-            _ => Err(fault(span, TypeFaultKind::WidthTooGreat)),
+            Scaling::ShiftLeft | Scaling::ShiftRight if MAX_SHIFT < by.value => {
+                Err(fault(by.span, TypeFaultKind::ShiftRange))
+            }
+            Scaling::ShiftLeft | Scaling::ShiftRight => {
+                Err(fault(span, TypeFaultKind::WidthTooGreat))
+            }
         },
     }
 }

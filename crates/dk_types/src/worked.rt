@@ -8,7 +8,7 @@ ghost use Rattle.dk_base.specs.declared.operator.Scaling.TheVariants.{Divide, Sh
 ghost use Rattle.dk_base.specs.Types.{converts};
 ghost use Rattle.dk_base.specs.Operators.{literal_type, unary_type, binary_type, scaling_type, select_type};
 
-/// A law: the types that operators give, at the ends of what they take.
+/// A law: the types that operators of one and of two operands give, at the ends of what they take.
 pub fn worked_types()
     ensures literals { (literal_type 0 ≡ Unsigned 1) × (literal_type 5 ≡ Unsigned 3) × (literal_type 18446744073709551615 ≡ Unsigned 64) }
     ensures sums { (binary_type Add (Unsigned 1) (Unsigned 1) ≡ Some (Unsigned 2)) × (binary_type Add (Signed 1) (Signed 1) ≡ Some (Signed 2)) }
@@ -27,6 +27,10 @@ pub fn worked_types()
     ensures signed_bits { (binary_type And (Signed 8) (Unsigned 1) ≡ None) × (binary_type Or (Unsigned 1) (Signed 8) ≡ None)
         × (binary_type And (Unsigned 64) (Signed 64) ≡ None) }
     ensures extremes { (binary_type Min (Unsigned 8) (Signed 8) ≡ Some (Signed 9)) × (binary_type Min (Unsigned 64) (Signed 1) ≡ None) }
+{}
+
+/// A law: the types of choices, quotients and shifts, at the ends of what they take, and which types convert to which.
+pub fn worked_choices_and_shifts()
     ensures choices { (select_type (Unsigned 1) (Unsigned 2) (Signed 2) ≡ Some (Signed 3)) × (select_type (Unsigned 1) (Unsigned 64) (Signed 1) ≡ None)
         × (select_type (Unsigned 2) (Unsigned 1) (Unsigned 1) ≡ None) }
     ensures quotients { (scaling_type Divide (Unsigned 8) 300 ≡ Some (Unsigned 8)) × (scaling_type Divide (Unsigned 8) 0 ≡ None) }

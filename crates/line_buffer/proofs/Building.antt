@@ -15,6 +15,7 @@ use Rattle.net_build.proofs.Drafts.{last_push}
 use Rattle.net_build.proofs.Grown.{net_more, width_more}
 use Rattle.line_buffer.specs.declared.lines.DelayLine.{DelayLine}
 use Rattle.line_buffer.specs.Lines.{IsIndex, IsDelayLine}
+use Rattle.line_buffer.specs.AddedLines.{AddsLine}
 use Rattle.line_buffer.specs.Places.{last_of, depth_of, ring_shapes, ring_place}
 use Rattle.std.proofs.lemmas.List.Elements.{All-head, All-tail}
 use Rattle.line_buffer.proofs.Adding.{adds_none}
@@ -35,27 +36,26 @@ count_wide v n low is = (is.some, is.least 64 (lit≤ tt) low)
 pub ages_deep : (ages : List ℕ) (words : ℕ) → IsStrictlyIncreasing ages → words ≡ depth_of ages → All (λ age. age ≤ words) ages
 ages_deep ages words up e k d l = subst (λ (w : ℕ). get_or ages k d ≤ w) (sym e) (age_within ages up k (get_or ages k d) (slice_get-get_or ages k d l))
 
-module _ (b0 b1 : Netlist) (width words bits : ℕ) (value : Net) (line : DelayLine) (adds : AddsBuffer b1 b0 ((record { width = width; depth = words }) ∷ []) []) (array : line.array ≡ length b0.arrays) (turning : IsDelayLine b1 (length b0.arrays) words value line.word) (word : IsNet b1 line.word) (word_wide : net_width b1 line.word ≡ width)
-    (index : IsIndex b1 words line.index) (index_net : IsNet b1 line.index) (index_wide : net_width b1 line.index ≡ bits) (control : IsControl b1 (OfNet line.index)) (made : IsMadeOf b1 (is_buffer b1.enable (length b0.arrays) (length b0.arrays + 1)) (OfNet line.word)) (wide : IsWidth width) (net : IsNet b0 value) (value_wide : net_width b0 value ≡ width)
-    (some : 0 < words) (low : words - 1 < 2 ^ 64) (counted : IsBitCount (words - 1) bits) where
+module _ (b0 b1 : Netlist) (width words bits : ℕ) (value : Net) (line : DelayLine) (added : AddsLine b1 b0 width words value line) (index_wide : net_width b1 line.index ≡ bits)
+    (wide : IsWidth width) (net : IsNet b0 value) (value_wide : net_width b0 value ≡ width) (some : 0 < words) (low : words - 1 < 2 ^ 64) (counted : IsBitCount (words - 1) bits) where
   value_here : net_width b1 value ≡ width
-  value_here = width_more b1 b0 adds.includes value net.declared ∙ value_wide
+  value_here = width_more b1 b0 added.adds.includes value net.declared ∙ value_wide
 
   pub ring_built : IsRing b1 line value bits words
   ring_built = record {
     shape = record { width = width; depth = words };
-    there = subst (λ (i : ℕ). slice_get b1.arrays i ≡ Some (record { width = width; depth = words })) (sym array) (subst (λ (l : List Shape). slice_get l (length b0.arrays) ≡ Some (record { width = width; depth = words })) (sym adds.arrays) (last_push b0.arrays (record { width = width; depth = words })));
+    there = subst (λ (i : ℕ). slice_get b1.arrays i ≡ Some (record { width = width; depth = words })) (sym added.array) (subst (λ (l : List Shape). slice_get l (length b0.arrays) ≡ Some (record { width = width; depth = words })) (sym added.adds.arrays) (last_push b0.arrays (record { width = width; depth = words })));
     deep = refl;
     wide = wide;
-    value_net = net_more b1 b0 adds.includes value net;
+    value_net = net_more b1 b0 added.adds.includes value net;
     value_wide = value_here;
-    index_net = index_net;
+    index_net = added.index.there;
     index_wide = index_wide;
     bits_wide = count_wide (words - 1) bits low counted;
     fits = counted.holds;
-    counter = index;
-    control = control;
-    oldest = subst (λ (i : ℕ). IsRingTap b1 i words line.index value words line.word) (sym array) (oldest_is b1 (length b0.arrays) words line.index value line.word word (word_wide ∙ sym value_here) turning index some made);
+    counter = added.index.counter;
+    control = added.index.control;
+    oldest = subst (λ (i : ℕ). IsRingTap b1 i words line.index value words line.word) (sym added.array) (oldest_is b1 (length b0.arrays) words line.index value line.word added.word (added.word_width ∙ sym value_here) added.delays added.index.counter some added.made);
   }
 
   -- with its taps
@@ -66,19 +66,19 @@ module _ (b0 b1 : Netlist) (width words bits : ℕ) (value : Net) (line : DelayL
         ∙ sym (ap (λ (h : Bool). if h then [] else (record { width = width; depth = depth_of ages }) ∷ []) (no_eq (depth_of ages) 0 (λ e. omega (arith, e, deep, some))))
 
     pub built_adds : AddsBuffer b2 b0 (ring_shapes width ages) []
-    built_adds = subst (λ (l : List Shape). AddsBuffer b2 b0 l []) shapes (taps_buffer b2 b1 b0 ((record { width = width; depth = words }) ∷ []) line.array more adds (omega (arith, array)))
+    built_adds = subst (λ (l : List Shape). AddsBuffer b2 b0 l []) shapes (taps_buffer b2 b1 b0 ((record { width = width; depth = words }) ∷ []) line.array more added.adds (omega (arith, added.array)))
 
     here : AreRingTaps b2 (length b0.arrays) (depth_of ages) line.index value ages taps
-    here = subst (λ (w : ℕ). AreRingTaps b2 (length b0.arrays) w line.index value ages taps) deep (subst (λ (i : ℕ). AreRingTaps b2 i words line.index value ages taps) array are)
+    here = subst (λ (w : ℕ). AreRingTaps b2 (length b0.arrays) w line.index value ages taps) deep (subst (λ (i : ℕ). AreRingTaps b2 i words line.index value ages taps) added.array are)
 
     tap_at : (k : ℕ) (tap : Net) → slice_get taps k ≡ Some tap → IsRingTap b2 (length b0.arrays) (depth_of ages) line.index value (get_or ages k 0) tap
     tap_at k tap et = here k (get_or ages k 0) tap (slice_get-get_or ages k 0 (omega (arith, slice_get_within taps k tap et, one_each))) et
 
     line_here : IsDelayLine b2 (length b0.arrays) (depth_of ages) value line.word
-    line_here = subst (λ (w : ℕ). IsDelayLine b2 (length b0.arrays) w value line.word) deep (line_more b2 b1 (length b0.arrays) words value line.word more.includes turning)
+    line_here = subst (λ (w : ℕ). IsDelayLine b2 (length b0.arrays) w value line.word) deep (line_more b2 b1 (length b0.arrays) words value line.word more.includes added.delays)
 
     counter_here : IsIndex b2 (depth_of ages) line.index
-    counter_here = subst (λ (w : ℕ). IsIndex b2 w line.index) deep (index_more b2 b1 words line.index more.includes index)
+    counter_here = subst (λ (w : ℕ). IsIndex b2 w line.index) deep (index_more b2 b1 words line.index more.includes added.index.counter)
 
     positive : 0 < depth_of ages
     positive = omega (arith, some, deep)
@@ -88,7 +88,7 @@ module _ (b0 b1 : Netlist) (width words bits : ℕ) (value : Net) (line : DelayL
 
     pub built_fills : AreFilled b2 (λ x. true) [] (length b0.arrays) (length b0.arrays + length (ring_shapes width ages)) value
     built_fills = fills_more b2 b1 (λ x. true) [] (length b0.arrays) (length b0.arrays + length (ring_shapes width ages)) value more.includes
-        (fills_one b1 (λ x. true) [] (length b0.arrays) (length b0.arrays + length (ring_shapes width ages)) value (ap (λ (n : ℕ). length b0.arrays + n) (sym (ap length shapes))) (line_takes_net b1 (λ x. true) (length b0.arrays) words value line.word refl turning))
+        (fills_one b1 (λ x. true) [] (length b0.arrays) (length b0.arrays + length (ring_shapes width ages)) value (ap (λ (n : ℕ). length b0.arrays + n) (sym (ap length shapes))) (line_takes_net b1 (λ x. true) (length b0.arrays) words value line.word refl added.delays))
 
     pub built_made : AreMadeOfBuffer b2 (length b0.arrays) (length b0.arrays + length (ring_shapes width ages)) ages taps
     built_made = subst (λ (n : ℕ). AreMadeOfBuffer b2 (length b0.arrays) (length b0.arrays + n) ages taps) (ap length shapes)

@@ -1,6 +1,8 @@
 -- What the buffer of one image must ensure, in each form.
 use Rattle.std.specs.Prelude.{◌≡◌, ◌==◌, ◌⊎◌, ℕ, suc, ◌+◌, ◌<◌, ◌≤◌, Bool, false, not, ◌&&◌, nat_le, nat_lt, IsTrue, if◌then◌else◌, List, [], ◌∷◌, ◌++◌, length, slice_get, Some, All, Contains}
 use Rattle.std.specs.List.{list_any}
+use Rattle.std.specs.List.Sorted.{IsStrictlyIncreasing}
+use Rattle.dk_base.specs.declared.TheConstants.{MAX_BUFFER_BITS}
 use Rattle.wiring.specs.declared.netlist.Net.{Net}
 use Rattle.wiring.specs.declared.netlist.Net.TheVariants.{Input, Output, Wire, Reg}
 use Rattle.wiring.specs.declared.netlist.Holder.{Holder}
@@ -11,6 +13,7 @@ use Rattle.wiring.specs.declared.netlist.Update.{Update}
 use Rattle.wiring.specs.declared.netlist.Update.TheVariants.{Set, Put}
 use Rattle.wiring.specs.Netlist.{Netlist, net_width, IsState, update_target}
 use Rattle.wiring.specs.BufferBits.{atom_reads}
+use Rattle.wiring.specs.Sizes.{IsWidth}
 use Rattle.wiring.specs.Snapshot.{Contents, Snapshot, IsNext, net_value, right_accesses, update_accesses}
 use Rattle.wiring.specs.Clock.{Clock}
 use Rattle.wiring.specs.History.{was_reset, is_held, counted}
@@ -21,6 +24,14 @@ use Rattle.net_build.specs.Control.{IsMadeOf, is_control, AddsReads}
 use Rattle.line_buffer.specs.Added.{EachAdded}
 use Rattle.line_buffer.specs.Streams.{IsPixel, BufferIsRight}
 use Rattle.line_buffer.specs.Places.{Place, word_at, depth_of}
+
+-- An image can have a buffer: its net is there and has this width, and the ages at which it is read ascend, up to the limit.
+pub record CanBeBuffered (b : Netlist) (net : Net) (width : ℕ) (ages : List ℕ) : Type 0 where
+  pub ascending : IsStrictlyIncreasing ages
+  pub most : All (λ age. age ≤ MAX_BUFFER_BITS) ages
+  pub bits : IsWidth width
+  pub there : IsNet b net
+  pub wide : net_width b net ≡ width
 
 -- an array that the old netlist does not have
 abbrev pub is_new : Netlist → ℕ → Bool

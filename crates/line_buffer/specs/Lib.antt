@@ -6,5 +6,6 @@ pub mod Fills
 pub mod Buffers
 pub mod Lines
 pub mod SharedCounters
+pub mod AddedLines
 pub mod Chains
 pub mod Rings

@@ -1,7 +1,6 @@
 // Chains: an array for each two neighbouring ages, of which one word is read and then written in each clock, or read one clock ahead.
 
-ghost use Rattle.std.specs.Prelude.{◌≡◌, ℕ, ◌+◌, ◌<◌, ◌≤◌, [], length, Bool, true, false, Some, All, IfOk, OnOk};
-ghost use Rattle.std.specs.List.Sorted.{IsStrictlyIncreasing};
+ghost use Rattle.std.specs.Prelude.{◌≡◌, ℕ, ◌+◌, ◌<◌, ◌≤◌, [], length, Bool, true, false, Some, IfOk, OnOk};
 ghost use Rattle.dk_base.specs.declared.TheConstants.{MAX_BUFFER_BITS};
 ghost use Rattle.wiring.specs.Netlist.{net_width};
 ghost use Rattle.wiring.specs.Sizes.{IsWidth, IsDepth};
@@ -9,12 +8,13 @@ ghost use Rattle.net_build.specs.Includes.{Includes};
 ghost use Rattle.net_build.specs.Draft.{IsNet};
 ghost use Rattle.line_buffer.specs.Places.{chain_shapes, chain_place};
 ghost use Rattle.line_buffer.specs.Fills.{AreFilled};
-ghost use Rattle.line_buffer.specs.Buffers.{AddsBuffer, IsBuffer, IsDelay, AreMadeOfBuffer};
+ghost use Rattle.line_buffer.specs.Buffers.{CanBeBuffered, AddsBuffer, IsBuffer, IsDelay, AreMadeOfBuffer};
 ghost use Rattle.line_buffer.specs.Indices.{is_long, AreReadOnce};
 ghost use Rattle.line_buffer.specs.Chains.{IsSegment, IsStep, IsChain};
 ghost use Rattle.line_buffer.specs.SharedCounters.{AreTurns};
 
 use crate::blocks::block_line;
+use crate::images::BufferedImage;
 use crate::lines::delay_line;
 use crate::sharing::{Turns, turning_indices};
 use dk_base::OutOfMemory;
@@ -149,59 +149,51 @@ fn chained(
     alloc: Global,
     b: &mut Builder,
     turns: &mut Turns,
-    width: u8,
-    ages: &[u64],
-    value: Net,
+    image: BufferedImage,
     least: Option<u32>,
 ) -> Result<Vec<Net>, OutOfMemory>
-    requires ascending { IsStrictlyIncreasing ages.now }
-    requires most { All (λ age. age ≤ MAX_BUFFER_BITS) ages.now }
-    requires bits { IsWidth width }
+    requires image { CanBeBuffered b.old image.net image.width image.ages.now }
     requires two { (n : ℕ) → least ≡ Some n → 2 ≤ n }
-    requires net { IsNet b.old value }
-    requires wide { net_width b.old value ≡ width }
     requires turns { AreTurns b.old turns.old }
     ensures includes { Includes b.new b.old }
     ensures turns { OnOk result (AreTurns b.new turns.new) }
-    ensures chain { IfOk result (λ taps. IsChain b.new b.old width (is_long least) value ages.now taps.items) }
+    ensures chain { IfOk result (λ taps. IsChain b.new b.old image.entry.width (is_long least) image.entry.net image.entry.ages.now taps.items) }
 {
     let mut nets = Vec::new(alloc);
-    let mut last = Tap { age: 0, net: value };
-    for age in ages {
-        last = next_tap(b, turns, width, last, *age, least)?;
+    let mut last = Tap {
+        age: 0,
+        net: image.net,
+    };
+    for age in image.ages {
+        last = next_tap(b, turns, image.width, last, *age, least)?;
         nets.push(last.net)?;
     }
     Ok(nets)
 }
 
-/// The buffer of an image, as a chain: for each of these ages a net, the image's net `value` of that many counted clocks before.
+/// The buffer of an image, as a chain: for each of its ages a net, the image's net of that many counted clocks before.
 ///
-/// The ages ascend. `width` is the net's, in bits, and that of each array's words. There is one array for each age above 0, of as many words as lie between this age and the one before. Fails only if out of memory; the builder then still has what it had.
+/// The ages ascend. There is one array for each age above 0, of as many words as lie between this age and the one before. Fails only if out of memory; the builder then still has what it had.
 pub fn chain(
     alloc: Global,
     b: &mut Builder,
     turns: &mut Turns,
-    width: u8,
-    ages: &[u64],
-    value: Net,
+    image: BufferedImage,
 ) -> Result<Vec<Net>, OutOfMemory>
-    requires ascending { IsStrictlyIncreasing ages.now }
-    requires most { All (λ age. age ≤ MAX_BUFFER_BITS) ages.now }
-    requires bits { IsWidth width }
-    requires net { IsNet b.old value }
-    requires wide { net_width b.old value ≡ width }
+    requires image { CanBeBuffered b.old image.net image.width image.ages.now }
     requires turns { AreTurns b.old turns.old }
     ensures includes { Includes b.new b.old }
     ensures turns { OnOk result (AreTurns b.new turns.new) }
-    ensures adds { OnOk result (AddsBuffer b.new b.old (chain_shapes width ages.now) []) }
+    ensures adds { OnOk result (AddsBuffer b.new b.old (chain_shapes image.entry.width image.entry.ages.now) []) }
     ensures once { OnOk result (AreReadOnce b.new b.old) }
-    ensures buffer { IfOk result (λ taps. IsBuffer b.new [] (chain_place (length b.old.arrays) ages.now) ages.now taps.items value) }
-    ensures delay { IfOk result (λ taps. IsDelay b.new (chain_place (length b.old.arrays) ages.now) ages.now taps.items value) }
+    ensures buffer { IfOk result (λ taps. IsBuffer b.new [] (chain_place (length b.old.arrays) image.entry.ages.now) image.entry.ages.now taps.items image.entry.net) }
+    ensures delay { IfOk result (λ taps. IsDelay b.new (chain_place (length b.old.arrays) image.entry.ages.now) image.entry.ages.now taps.items image.entry.net) }
     ensures made { IfOk result (λ taps. AreMadeOfBuffer b.new (length b.old.arrays)
-        (length b.old.arrays + length (chain_shapes width ages.now)) ages.now taps.items) }
-    ensures fills { OnOk result (AreFilled b.new (λ x. true) [] (length b.old.arrays) (length b.old.arrays + length (chain_shapes width ages.now)) value) }
+        (length b.old.arrays + length (chain_shapes image.entry.width image.entry.ages.now)) image.entry.ages.now taps.items) }
+    ensures fills { OnOk result (AreFilled b.new (λ x. true) [] (length b.old.arrays)
+        (length b.old.arrays + length (chain_shapes image.entry.width image.entry.ages.now)) image.entry.net) }
 {
-    let nets = chained(alloc, b, turns, width, ages, value, None)?;
+    let nets = chained(alloc, b, turns, image, None)?;
     Ok(nets)
 }
 
@@ -210,22 +202,16 @@ pub fn block_chain(
     alloc: Global,
     b: &mut Builder,
     turns: &mut Turns,
-    width: u8,
-    ages: &[u64],
-    value: Net,
+    image: BufferedImage,
     least: u32,
 ) -> Result<Vec<Net>, OutOfMemory>
-    requires ascending { IsStrictlyIncreasing ages.now }
-    requires most { All (λ age. age ≤ MAX_BUFFER_BITS) ages.now }
-    requires bits { IsWidth width }
+    requires image { CanBeBuffered b.old image.net image.width image.ages.now }
     requires two { 2 ≤ least }
-    requires net { IsNet b.old value }
-    requires wide { net_width b.old value ≡ width }
     requires turns { AreTurns b.old turns.old }
     ensures includes { Includes b.new b.old }
     ensures turns { OnOk result (AreTurns b.new turns.new) }
-    ensures chain { IfOk result (λ taps. IsChain b.new b.old width (is_long (Some least)) value ages.now taps.items) }
+    ensures chain { IfOk result (λ taps. IsChain b.new b.old image.entry.width (is_long (Some least)) image.entry.net image.entry.ages.now taps.items) }
 {
-    let nets = chained(alloc, b, turns, width, ages, value, Some(least))?;
+    let nets = chained(alloc, b, turns, image, Some(least))?;
     Ok(nets)
 }

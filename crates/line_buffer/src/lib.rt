@@ -3,12 +3,14 @@
 
 mod blocks;
 mod chains;
+mod images;
 mod laws;
 mod lines;
 mod rings;
 mod sharing;
 
 pub use chains::{block_chain, chain};
+pub use images::BufferedImage;
 pub use laws::{buffers_join_law, buffers_last_law, exact_bits_law};
 pub use rings::ring;
 pub use sharing::Turns;

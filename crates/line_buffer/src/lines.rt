@@ -1,20 +1,15 @@
 // Delay lines: arrays of which a word is read and then written in each clock.
 
-ghost use Rattle.std.specs.Prelude.{◌≡◌, ◌+◌, ◌-◌, [], ◌∷◌, ◌++◌, length, IfOk, OnOk};
-ghost use Rattle.dk_base.specs.Numbers.{bit_count};
-ghost use Rattle.wiring.specs.declared.netlist.Holder.TheVariants.{OfNet};
+ghost use Rattle.std.specs.Prelude.{◌≡◌, [], ◌∷◌, ◌++◌, IfOk, OnOk};
 ghost use Rattle.wiring.specs.Netlist.{net_width};
 ghost use Rattle.wiring.specs.Sizes.{IsWidth, IsDepth};
 ghost use Rattle.net_build.specs.Includes.{Includes};
 ghost use Rattle.net_build.specs.Draft.{IsNet};
-ghost use Rattle.net_build.specs.Control.{IsMadeOf, IsControl};
 ghost use Rattle.net_build.specs.Logic.{AddsLogic, Computes};
 ghost use Rattle.net_build.specs.Counters.{control_nets, unless_held};
 ghost use Rattle.wiring.specs.Snapshot.{net_value};
-ghost use Rattle.line_buffer.specs.Buffers.{AddsBuffer, is_buffer};
-ghost use Rattle.line_buffer.specs.Indices.{AreReadOnce};
 ghost use Rattle.line_buffer.specs.Fills.{IsUnlessHeld};
-ghost use Rattle.line_buffer.specs.Lines.{IsIndex, IsDelayLine};
+ghost use Rattle.line_buffer.specs.AddedLines.{AddsLine};
 ghost use Rattle.line_buffer.specs.SharedCounters.{AreTurns};
 
 use crate::sharing::{Turns, turning_index};
@@ -65,17 +60,7 @@ pub fn delay_line(
     requires turns { AreTurns b.old turns.old }
     ensures includes { Includes b.new b.old }
     ensures turns { OnOk result (AreTurns b.new turns.new) }
-    ensures adds { OnOk result (AddsBuffer b.new b.old ((record { width = width; depth = words }) ∷ []) []) }
-    ensures array { IfOk result (λ l. l.array ≡ length b.old.arrays) }
-    ensures line { IfOk result (λ l. IsDelayLine b.new (length b.old.arrays) words value l.word) }
-    ensures once { OnOk result (AreReadOnce b.new b.old) }
-    ensures word { IfOk result (λ l. IsNet b.new l.word) }
-    ensures word_width { IfOk result (λ l. net_width b.new l.word ≡ width) }
-    ensures index { IfOk result (λ l. IsIndex b.new words l.index) }
-    ensures index_net { IfOk result (λ l. IsNet b.new l.index) }
-    ensures index_width { IfOk result (λ l. net_width b.new l.index ≡ bit_count (words - 1)) }
-    ensures index_control { IfOk result (λ l. IsControl b.new (OfNet l.index)) }
-    ensures made { IfOk result (λ l. IsMadeOf b.new (is_buffer b.new.enable (length b.old.arrays) (length b.old.arrays + 1)) (OfNet l.word)) }
+    ensures line { IfOk result (AddsLine b.new b.old width words value) }
 {
     let index = turning_index(b, turns, words)?;
     b.law();

@@ -1,7 +1,6 @@
 // Rings: one array for an image, of which a word is read for each age.
 
 ghost use Rattle.std.specs.Prelude.{◌≡◌, ℕ, ◌+◌, ◌-◌, ◌<◌, ◌≤◌, ◌^◌, [], ◌∷◌, length, true, slice_get, Some, All, IfOk, OnOk};
-ghost use Rattle.std.specs.List.Sorted.{IsStrictlyIncreasing};
 ghost use Rattle.dk_base.specs.declared.TheConstants.{MAX_BUFFER_BITS};
 ghost use Rattle.wiring.specs.declared.netlist.Net.{Net};
 ghost use Rattle.wiring.specs.Netlist.{net_width};
@@ -14,8 +13,9 @@ ghost use Rattle.line_buffer.specs.Places.{depth_of, ring_shapes, ring_place};
 ghost use Rattle.line_buffer.specs.Rings.{place_worth, IsRing, AddsTaps, IsRingTap, AreRingTaps};
 ghost use Rattle.line_buffer.specs.Fills.{AreFilled};
 ghost use Rattle.line_buffer.specs.SharedCounters.{AreTurns};
-ghost use Rattle.line_buffer.specs.Buffers.{AddsBuffer, IsBuffer, IsDelay, AreMadeOfBuffer};
+ghost use Rattle.line_buffer.specs.Buffers.{CanBeBuffered, AddsBuffer, IsBuffer, IsDelay, AreMadeOfBuffer};
 
+use crate::images::BufferedImage;
 use crate::lines::{DelayLine, delay_line};
 use crate::sharing::Turns;
 use dk_base::{OutOfMemory, bits_for};
@@ -59,47 +59,42 @@ fn index_behind(
     Ok(place)
 }
 
-// The word that was written `age` clocks before the one at the index.
-fn word_behind(
-    b: &mut Builder,
+// A delay line for the net of an image, with the number of bits of its index and its number of words.
+#[derive(Clone, Copy)]
+struct RingLine {
     line: DelayLine,
     value: Net,
     bits: u8,
     words: u64,
-    age: u64,
-) -> Result<Net, OutOfMemory>
-    requires ring { IsRing b.old line value bits words }
+}
+
+// The word that was written `age` clocks before the one at the index.
+fn word_behind(b: &mut Builder, ring: RingLine, age: u64) -> Result<Net, OutOfMemory>
+    requires ring { IsRing b.old ring.line ring.value ring.bits ring.words }
     requires some { 0 < age }
-    requires short { age < words }
-    ensures taps { AddsTaps b.new b.old line.array }
-    ensures tap { IfOk result (IsRingTap b.new line.array words line.index value age) }
+    requires short { age < ring.words }
+    ensures taps { AddsTaps b.new b.old ring.line.array }
+    ensures tap { IfOk result (IsRingTap b.new ring.line.array ring.words ring.line.index ring.value age) }
 {
-    let place = index_behind(b, line.index, bits, words, age)?;
-    let word = b.op(Right::Word(line.array, Atom::Net(place)))?;
+    let place = index_behind(b, ring.line.index, ring.bits, ring.words, age)?;
+    let word = b.op(Right::Word(ring.line.array, Atom::Net(place)))?;
     Ok(word)
 }
 
 // The net of one age: the image's own, the oldest word, or one before the index.
-fn ring_tap(
-    b: &mut Builder,
-    line: DelayLine,
-    value: Net,
-    bits: u8,
-    words: u64,
-    age: u64,
-) -> Result<Net, OutOfMemory>
-    requires ring { IsRing b.old line value bits words }
-    requires deep { age ≤ words }
-    ensures taps { AddsTaps b.new b.old line.array }
-    ensures tap { IfOk result (IsRingTap b.new line.array words line.index value age) }
+fn ring_tap(b: &mut Builder, ring: RingLine, age: u64) -> Result<Net, OutOfMemory>
+    requires ring { IsRing b.old ring.line ring.value ring.bits ring.words }
+    requires deep { age ≤ ring.words }
+    ensures taps { AddsTaps b.new b.old ring.line.array }
+    ensures tap { IfOk result (IsRingTap b.new ring.line.array ring.words ring.line.index ring.value age) }
 {
     if age == 0 {
-        return Ok(value);
+        return Ok(ring.value);
     }
-    if age == words {
-        return Ok(line.word);
+    if age == ring.words {
+        return Ok(ring.line.word);
     }
-    let tap = word_behind(b, line, value, bits, words, age)?;
+    let tap = word_behind(b, ring, age)?;
     Ok(tap)
 }
 
@@ -107,21 +102,18 @@ fn ring_tap(
 fn ring_taps(
     alloc: Global,
     b: &mut Builder,
-    line: DelayLine,
-    value: Net,
-    bits: u8,
-    words: u64,
+    ring: RingLine,
     ages: &[u64],
 ) -> Result<Vec<Net>, OutOfMemory>
-    requires ring { IsRing b.old line value bits words }
-    requires deep { All (λ age. age ≤ words) ages.now }
-    ensures taps { AddsTaps b.new b.old line.array }
+    requires ring { IsRing b.old ring.line ring.value ring.bits ring.words }
+    requires deep { All (λ age. age ≤ ring.words) ages.now }
+    ensures taps { AddsTaps b.new b.old ring.line.array }
     ensures one_each { IfOk result (λ taps. length taps.items ≡ length ages.now) }
-    ensures are { IfOk result (λ taps. AreRingTaps b.new line.array words line.index value ages.now taps.items) }
+    ensures are { IfOk result (λ taps. AreRingTaps b.new ring.line.array ring.words ring.line.index ring.value ages.now taps.items) }
 {
     let mut nets = Vec::new(alloc);
     for age in ages {
-        let tap = ring_tap(b, line, value, bits, words, *age)?;
+        let tap = ring_tap(b, ring, *age)?;
         nets.push(tap)?;
     }
     Ok(nets)
@@ -157,64 +149,61 @@ fn ring_array(
     alloc: Global,
     b: &mut Builder,
     turns: &mut Turns,
-    width: u8,
     words: u32,
-    ages: &[u64],
-    value: Net,
+    image: BufferedImage,
 ) -> Result<Vec<Net>, OutOfMemory>
-    requires ascending { IsStrictlyIncreasing ages.now }
     requires words { IsDepth words }
-    requires depth { words ≡ depth_of ages.now }
-    requires bits { IsWidth width }
-    requires net { IsNet b.old value }
-    requires wide { net_width b.old value ≡ width }
+    requires depth { words ≡ depth_of image.ages.now }
+    requires image { CanBeBuffered b.old image.net image.width image.ages.now }
     requires turns { AreTurns b.old turns.old }
     ensures includes { Includes b.new b.old }
     ensures turns { OnOk result (AreTurns b.new turns.new) }
-    ensures adds { OnOk result (AddsBuffer b.new b.old (ring_shapes width ages.now) []) }
-    ensures buffer { IfOk result (λ taps. IsBuffer b.new [] (ring_place (length b.old.arrays) ages.now) ages.now taps.items value) }
+    ensures adds { OnOk result (AddsBuffer b.new b.old (ring_shapes image.entry.width image.entry.ages.now) []) }
+    ensures buffer { IfOk result (λ taps. IsBuffer b.new [] (ring_place (length b.old.arrays) image.entry.ages.now) image.entry.ages.now taps.items image.entry.net) }
     ensures made { IfOk result (λ taps. AreMadeOfBuffer b.new (length b.old.arrays)
-        (length b.old.arrays + length (ring_shapes width ages.now)) ages.now taps.items) }
-    ensures fills { OnOk result (AreFilled b.new (λ x. true) [] (length b.old.arrays) (length b.old.arrays + length (ring_shapes width ages.now)) value) }
+        (length b.old.arrays + length (ring_shapes image.entry.width image.entry.ages.now)) image.entry.ages.now taps.items) }
+    ensures fills { OnOk result (AreFilled b.new (λ x. true) [] (length b.old.arrays)
+        (length b.old.arrays + length (ring_shapes image.entry.width image.entry.ages.now)) image.entry.net) }
 {
-    let line = delay_line(b, turns, width, words, value)?;
+    let line = delay_line(b, turns, image.width, words, image.net)?;
     let count = u64::from(words);
     let bits = bits_for(count - 1);
-    let taps = ring_taps(alloc, b, line, value, bits, count, ages)?;
+    let ring = RingLine {
+        line,
+        value: image.net,
+        bits,
+        words: count,
+    };
+    let taps = ring_taps(alloc, b, ring, image.ages)?;
     Ok(taps)
 }
 
-/// The buffer of an image, as a ring: for each of these ages a net, the image's net `value` of that many counted clocks before.
+/// The buffer of an image, as a ring: for each of its ages a net, the image's net of that many counted clocks before.
 ///
-/// The ages ascend. `width` is the net's, in bits, and that of the array's words. There is one array of as many words as the greatest age, and none if that is 0. Fails only if out of memory; the builder then still has what it had.
+/// The ages ascend. There is one array of as many words as the greatest age, and none if that is 0. Fails only if out of memory; the builder then still has what it had.
 pub fn ring(
     alloc: Global,
     b: &mut Builder,
     turns: &mut Turns,
-    width: u8,
-    ages: &[u64],
-    value: Net,
+    image: BufferedImage,
 ) -> Result<Vec<Net>, OutOfMemory>
-    requires ascending { IsStrictlyIncreasing ages.now }
-    requires most { All (λ age. age ≤ MAX_BUFFER_BITS) ages.now }
-    requires bits { IsWidth width }
-    requires net { IsNet b.old value }
-    requires wide { net_width b.old value ≡ width }
+    requires image { CanBeBuffered b.old image.net image.width image.ages.now }
     requires turns { AreTurns b.old turns.old }
     ensures includes { Includes b.new b.old }
     ensures turns { OnOk result (AreTurns b.new turns.new) }
-    ensures adds { OnOk result (AddsBuffer b.new b.old (ring_shapes width ages.now) []) }
-    ensures buffer { IfOk result (λ taps. IsBuffer b.new [] (ring_place (length b.old.arrays) ages.now) ages.now taps.items value) }
-    ensures delay { IfOk result (λ taps. IsDelay b.new (ring_place (length b.old.arrays) ages.now) ages.now taps.items value) }
+    ensures adds { OnOk result (AddsBuffer b.new b.old (ring_shapes image.entry.width image.entry.ages.now) []) }
+    ensures buffer { IfOk result (λ taps. IsBuffer b.new [] (ring_place (length b.old.arrays) image.entry.ages.now) image.entry.ages.now taps.items image.entry.net) }
+    ensures delay { IfOk result (λ taps. IsDelay b.new (ring_place (length b.old.arrays) image.entry.ages.now) image.entry.ages.now taps.items image.entry.net) }
     ensures made { IfOk result (λ taps. AreMadeOfBuffer b.new (length b.old.arrays)
-        (length b.old.arrays + length (ring_shapes width ages.now)) ages.now taps.items) }
-    ensures fills { OnOk result (AreFilled b.new (λ x. true) [] (length b.old.arrays) (length b.old.arrays + length (ring_shapes width ages.now)) value) }
+        (length b.old.arrays + length (ring_shapes image.entry.width image.entry.ages.now)) image.entry.ages.now taps.items) }
+    ensures fills { OnOk result (AreFilled b.new (λ x. true) [] (length b.old.arrays)
+        (length b.old.arrays + length (ring_shapes image.entry.width image.entry.ages.now)) image.entry.net) }
 {
-    let depth = greatest(ages);
+    let depth = greatest(image.ages);
     if depth == 0 {
-        let still = still_taps(alloc, value, ages)?;
+        let still = still_taps(alloc, image.net, image.ages)?;
         return Ok(still);
     }
-    let taps = ring_array(alloc, b, turns, width, depth as u32, ages, value)?;
+    let taps = ring_array(alloc, b, turns, depth as u32, image)?;
     Ok(taps)
 }

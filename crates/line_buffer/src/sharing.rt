@@ -1,15 +1,11 @@
 // The counters of arrays: arrays of the same number of words share one.
 
-ghost use Rattle.std.specs.Prelude.{◌≡◌, ◌-◌, [], IfOk, IfSome, OnOk};
-ghost use Rattle.dk_base.specs.Numbers.{bit_count};
-ghost use Rattle.wiring.specs.declared.netlist.Holder.TheVariants.{OfNet};
-ghost use Rattle.wiring.specs.Netlist.{Netlist, net_width};
+ghost use Rattle.std.specs.Prelude.{[], IfOk, IfSome, OnOk};
+ghost use Rattle.wiring.specs.Netlist.{Netlist};
 ghost use Rattle.wiring.specs.Sizes.{IsDepth};
 ghost use Rattle.net_build.specs.Includes.{Includes};
-ghost use Rattle.net_build.specs.Draft.{IsNet};
-ghost use Rattle.net_build.specs.Control.{IsControl};
 ghost use Rattle.line_buffer.specs.Buffers.{AddsBuffer};
-ghost use Rattle.line_buffer.specs.Lines.{IsIndex, AreIndices};
+ghost use Rattle.line_buffer.specs.Lines.{AreIndices};
 ghost use Rattle.line_buffer.specs.SharedCounters.{IsTurn, AreTurns};
 
 use dk_base::OutOfMemory;
@@ -94,10 +90,7 @@ pub fn turning_index(b: &mut Builder, turns: &mut Turns, words: u32) -> Result<N
     requires turns { AreTurns b.old turns.old }
     ensures includes { Includes b.new b.old }
     ensures adds { OnOk result (AddsBuffer b.new b.old [] []) }
-    ensures net { IfOk result (IsNet b.new) }
-    ensures width { IfOk result (λ n. net_width b.new n ≡ bit_count (words - 1)) }
-    ensures index { IfOk result (IsIndex b.new words) }
-    ensures control { IfOk result (λ n. IsControl b.new (OfNet n)) }
+    ensures turn { IfOk result (IsTurn b.new words) }
     ensures turns { OnOk result (AreTurns b.new turns.new) }
 {
     if let Some(net) = line_turn(turns, words) {

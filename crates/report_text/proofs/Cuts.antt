@@ -11,7 +11,7 @@ use Rattle.report_text.specs.declared.report.FlowLine.{FlowLine}
 use Rattle.report_text.specs.declared.report.FlowLine.TheVariants.{Hold, Start, Read, Keep}
 use Rattle.dk_base.specs.Ascii.{is_digit, is_word_byte}
 use Rattle.report_text.specs.Reports.{Report, Meets, IsImageLine, IsAmount, IsFlowLine}
-use Rattle.report_text.specs.Layout.{number_line, pair_line, plan_line, limits_line, age_line, image_line, latency_line, reads_line, name_at, held, carried, flow_line, end_line, head_lines, unless_first, lines, joined}
+use Rattle.report_text.specs.Layout.{number_line, pair_line, plan_line, limits_line, age_line, image_line, latency_line, reads_line, name_at, image_flow, read_flow, flow_line, end_line, head_lines, unless_first, lines, joined}
 use Rattle.dk_grammar.specs.Lines.{onto_first, cut}
 use Rattle.report_text.specs.Reading.{is_empty}
 use Rattle.report_text.proofs.Fields.{Passes, decimal_passes}
@@ -85,13 +85,13 @@ name_plain images g a h = passes_all is_word_byte is_plain word_plain (name_at i
 amount_is : (n : ℕ) → IsAmount n → IsLine (number_line (codes " ") n)
 amount_is n h = number_is (codes " ") n (all_pass is_plain (codes " ") refl) h.most
 
-held_is : (word : List ℕ) (images : List ImageLine) (g n : ℕ) → IsPlain word → AllByRecursion IsImageLine images → g < length images → IsAmount n → IsLine (held word images g n)
-held_is word images g n p a h m =
+image_flow_is : (word : List ℕ) (images : List ImageLine) (g n : ℕ) → IsPlain word → AllByRecursion IsImageLine images → g < length images → IsAmount n → IsLine (image_flow word images g n)
+image_flow_is word images g n p a h m =
     behind word (name_at images g ++ number_line (codes " ") n) p (behind (name_at images g) (number_line (codes " ") n) (name_plain images g a h) (amount_is n m))
 
-carried_is : (word : List ℕ) (images : List ImageLine) (f g : ℕ) (dx dy : ℤ) (n : ℕ) → IsPlain word → AllByRecursion IsImageLine images → f < length images → g < length images → IsOffset MAX_SIDE dx → IsOffset MAX_SIDE dy → IsAmount n
-    → IsLine (carried word images f g dx dy n)
-carried_is word images f g dx dy n p a h k x y m =
+read_flow_is : (word : List ℕ) (images : List ImageLine) (f g : ℕ) (dx dy : ℤ) (n : ℕ) → IsPlain word → AllByRecursion IsImageLine images → f < length images → g < length images → IsOffset MAX_SIDE dx → IsOffset MAX_SIDE dy → IsAmount n
+    → IsLine (read_flow word images f g dx dy n)
+read_flow_is word images f g dx dy n p a h k x y m =
     let down = signed_decimal dy ++ number_line (codes " ") n in
     let across = signed_decimal dx ++ (codes " " ++ down) in
     let source = name_at images g ++ (codes " " ++ across) in
@@ -101,10 +101,10 @@ carried_is word images f g dx dy n p a h k x y m =
     behind word (name_at images f ++ (codes " " ++ source)) p (behind (name_at images f) (codes " " ++ source) (name_plain images f a h) (spaced source first))
 
 flow_is : (images : List ImageLine) (x : FlowLine) → AllByRecursion IsImageLine images → IsFlowLine (length images) x → IsLine (flow_line images x)
-flow_is images (Hold g n) a h = held_is (codes "flow hold ") images g n (all_pass is_plain (codes "flow hold ") refl) a h.0 h.1
-flow_is images (Start f n) a h = held_is (codes "flow start ") images f n (all_pass is_plain (codes "flow start ") refl) a h.0 h.1
-flow_is images (Read f g dx dy n) a h = carried_is (codes "flow read ") images f g dx dy n (all_pass is_plain (codes "flow read ") refl) a h.0 h.1 h.2 h.3 h.4
-flow_is images (Keep f g dx dy n) a h = carried_is (codes "flow keep ") images f g dx dy n (all_pass is_plain (codes "flow keep ") refl) a h.0 h.1 h.2 h.3 h.4
+flow_is images (Hold g n) a h = image_flow_is (codes "flow hold ") images g n (all_pass is_plain (codes "flow hold ") refl) a h.0 h.1
+flow_is images (Start f n) a h = image_flow_is (codes "flow start ") images f n (all_pass is_plain (codes "flow start ") refl) a h.0 h.1
+flow_is images (Read f g dx dy n) a h = read_flow_is (codes "flow read ") images f g dx dy n (all_pass is_plain (codes "flow read ") refl) a h.0 h.1 h.2 h.3 h.4
+flow_is images (Keep f g dx dy n) a h = read_flow_is (codes "flow keep ") images f g dx dy n (all_pass is_plain (codes "flow keep ") refl) a h.0 h.1 h.2 h.3 h.4
 
 -- all lines of a report
 all_both : {A : Type 0} (P : A → Type 0) (xs ys : List A) → AllByRecursion P xs → AllByRecursion P ys → AllByRecursion P (xs ++ ys)

@@ -44,19 +44,19 @@ abbrev pub name_at : List ImageLine → ℕ → List ℕ
 name_at images k = slice_index_or (names_of images) k []
 
 -- a name, a blank, and a number
-abbrev pub held : List ℕ → List ImageLine → ℕ → ℕ → List ℕ
-held word images g n = word ++ (name_at images g ++ (codes " " ++ (decimal n ++ codes "\n")))
+abbrev pub image_flow : List ℕ → List ImageLine → ℕ → ℕ → List ℕ
+image_flow word images g n = word ++ (name_at images g ++ (codes " " ++ (decimal n ++ codes "\n")))
 
 -- a read, a blank, and a number
-abbrev pub carried : List ℕ → List ImageLine → (f g : ℕ) → (dx dy : ℤ) → ℕ → List ℕ
-carried word images f g dx dy n =
+abbrev pub read_flow : List ℕ → List ImageLine → (f g : ℕ) → (dx dy : ℤ) → ℕ → List ℕ
+read_flow word images f g dx dy n =
     word ++ (name_at images f ++ (codes " " ++ (name_at images g ++ (codes " " ++ (signed_decimal dx ++ (codes " " ++ (signed_decimal dy ++ (codes " " ++ (decimal n ++ codes "\n")))))))))
 
 abbrev pub flow_line : List ImageLine → FlowLine → List ℕ
-flow_line images (Hold g n) = held (codes "flow hold ") images g n
-flow_line images (Start f n) = held (codes "flow start ") images f n
-flow_line images (Read f g dx dy n) = carried (codes "flow read ") images f g dx dy n
-flow_line images (Keep f g dx dy n) = carried (codes "flow keep ") images f g dx dy n
+flow_line images (Hold g n) = image_flow (codes "flow hold ") images g n
+flow_line images (Start f n) = image_flow (codes "flow start ") images f n
+flow_line images (Read f g dx dy n) = read_flow (codes "flow read ") images f g dx dy n
+flow_line images (Keep f g dx dy n) = read_flow (codes "flow keep ") images f g dx dy n
 
 -- lines that version 1 lacks
 abbrev pub unless_first : (version : ℕ) → List (List ℕ) → List (List ℕ)

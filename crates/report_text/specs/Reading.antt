@@ -116,15 +116,15 @@ amount_at bytes = do
   if nat_lt 0 n then Some n else None
 
 -- after the words of a flow line: an image and a flow
-unfoldable pub held_at : (ℕ → ℕ → FlowLine) → List ImageLine → List ℕ → Option FlowLine
-held_at make images bytes = do
+unfoldable pub image_flow_at : (ℕ → ℕ → FlowLine) → List ImageLine → List ℕ → Option FlowLine
+image_flow_at make images bytes = do
   g ← find images (word_at bytes).0
   n ← amount_at (word_at bytes).1
   Some (make g n)
 
 -- after the words of a flow line: a read and a flow
-unfoldable pub carried_at : (ℕ → ℕ → ℤ → ℤ → ℕ → FlowLine) → List ImageLine → List ℕ → Option FlowLine
-carried_at make images bytes = do
+unfoldable pub read_flow_at : (ℕ → ℕ → ℤ → ℤ → ℕ → FlowLine) → List ImageLine → List ℕ → Option FlowLine
+read_flow_at make images bytes = do
   f ← find images (word_at bytes).0
   source ← strip (codes " ") (word_at bytes).1
   g ← find images (word_at source).0
@@ -137,9 +137,9 @@ carried_at make images bytes = do
 
 unfoldable pub flow_at : List ImageLine → List ℕ → Option FlowLine
 flow_at images line =
-    or_else (strip (codes "flow hold ") line >>= held_at Hold images)
-    (or_else (strip (codes "flow start ") line >>= held_at StartFlow images)
-    (or_else (strip (codes "flow read ") line >>= carried_at Read images) (strip (codes "flow keep ") line >>= carried_at Keep images)))
+    or_else (strip (codes "flow hold ") line >>= image_flow_at Hold images)
+    (or_else (strip (codes "flow start ") line >>= image_flow_at StartFlow images)
+    (or_else (strip (codes "flow read ") line >>= read_flow_at Read images) (strip (codes "flow keep ") line >>= read_flow_at Keep images)))
 
 -- the tests of the order of live reads and of flow lines
 abbrev pub is_read_before : LiveRead → LiveRead → Bool

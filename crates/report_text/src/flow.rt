@@ -3,7 +3,7 @@
 ghost use Rattle.std.specs.Prelude.{◌≡◌, ℕ, ℤ, Some, None, MatchOption, IsTrue};
 ghost use Rattle.report_text.specs.declared.report.FlowLine.{FlowLine};
 ghost use Rattle.report_text.specs.Reports.{kind, read_named, StandsBefore};
-ghost use Rattle.report_text.specs.Reading.{held_at, carried_at, flow_at, follows};
+ghost use Rattle.report_text.specs.Reading.{image_flow_at, read_flow_at, flow_at, follows};
 ghost use Rattle.report_text.specs.Steps.{behind_names};
 
 use crate::field::{amount, find, offset_at, strip, word_at};
@@ -11,10 +11,10 @@ use crate::report::{FlowLine, ImageLine};
 use dk_base::is_before;
 
 // An image and a flow.
-#[tactic(auto, unfolding(crate::specs::Reading::held_at))]
-fn held(images: &[ImageLine], bytes: &[u8]) -> Option<(usize, u64)>
-    ensures { MatchOption result ((make : ℕ → ℕ → FlowLine) → held_at make images.now bytes.now ≡ None) (λ x. (make : ℕ → ℕ → FlowLine)
-        → held_at make images.now bytes.now ≡ Some (make x.0 x.1)) }
+#[tactic(auto, unfolding(crate::specs::Reading::image_flow_at))]
+fn image_flow(images: &[ImageLine], bytes: &[u8]) -> Option<(usize, u64)>
+    ensures { MatchOption result ((make : ℕ → ℕ → FlowLine) → image_flow_at make images.now bytes.now ≡ None) (λ x. (make : ℕ → ℕ → FlowLine)
+        → image_flow_at make images.now bytes.now ≡ Some (make x.0 x.1)) }
 {
     let (name, rest) = word_at(bytes);
     let place = find(images, name)?;
@@ -23,10 +23,10 @@ fn held(images: &[ImageLine], bytes: &[u8]) -> Option<(usize, u64)>
 }
 
 // The images of a read, and the bytes after their names.
-#[tactic(auto, unfolding(crate::specs::Reading::carried_at))]
+#[tactic(auto, unfolding(crate::specs::Reading::read_flow_at))]
 fn places<'a>(images: &[ImageLine], bytes: &'a [u8]) -> Option<(usize, usize, &'a [u8])>
-    ensures { MatchOption result ((make : ℕ → ℕ → ℤ → ℤ → ℕ → FlowLine) → carried_at make images.now bytes.now ≡ None) (λ x. (make : ℕ → ℕ → ℤ → ℤ → ℕ
-        → FlowLine) → carried_at make images.now bytes.now ≡ behind_names (make x.0 x.1) x.2.now) }
+    ensures { MatchOption result ((make : ℕ → ℕ → ℤ → ℤ → ℕ → FlowLine) → read_flow_at make images.now bytes.now ≡ None) (λ x. (make : ℕ → ℕ → ℤ → ℤ → ℕ
+        → FlowLine) → read_flow_at make images.now bytes.now ≡ behind_names (make x.0 x.1) x.2.now) }
 {
     let (reader, behind) = word_at(bytes);
     let reader = find(images, reader)?;
@@ -50,9 +50,9 @@ fn offset(bytes: &[u8]) -> Option<(i32, i32, u64)>
 }
 
 // The images of a read, its offset and a flow.
-fn carried(images: &[ImageLine], bytes: &[u8]) -> Option<(usize, usize, i32, i32, u64)>
-    ensures { MatchOption result ((make : ℕ → ℕ → ℤ → ℤ → ℕ → FlowLine) → carried_at make images.now bytes.now ≡ None) (λ x. (make : ℕ → ℕ → ℤ → ℤ → ℕ
-        → FlowLine) → carried_at make images.now bytes.now ≡ Some (make x.0 x.1 x.2 x.3 x.4)) }
+fn read_flow(images: &[ImageLine], bytes: &[u8]) -> Option<(usize, usize, i32, i32, u64)>
+    ensures { MatchOption result ((make : ℕ → ℕ → ℤ → ℤ → ℕ → FlowLine) → read_flow_at make images.now bytes.now ≡ None) (λ x. (make : ℕ → ℕ → ℤ → ℤ → ℕ
+        → FlowLine) → read_flow_at make images.now bytes.now ≡ Some (make x.0 x.1 x.2 x.3 x.4)) }
 {
     let (reader, source, rest) = places(images, bytes)?;
     let (dx, dy, flow) = offset(rest)?;
@@ -65,15 +65,15 @@ pub(crate) fn flow_line(images: &[ImageLine], line: &[u8]) -> Option<FlowLine>
     ensures { MatchOption result (flow_at images.now line.now ≡ None) (λ x. flow_at images.now line.now ≡ Some x) }
 {
     if let Some(rest) = strip(b"flow hold ", line) {
-        let (image, flow) = held(images, rest)?;
+        let (image, flow) = image_flow(images, rest)?;
         return Some(FlowLine::Hold { image, flow });
     }
     if let Some(rest) = strip(b"flow start ", line) {
-        let (image, flow) = held(images, rest)?;
+        let (image, flow) = image_flow(images, rest)?;
         return Some(FlowLine::Start { image, flow });
     }
     if let Some(rest) = strip(b"flow read ", line) {
-        let (reader, source, dx, dy, flow) = carried(images, rest)?;
+        let (reader, source, dx, dy, flow) = read_flow(images, rest)?;
         return Some(FlowLine::Read {
             reader,
             source,
@@ -83,7 +83,7 @@ pub(crate) fn flow_line(images: &[ImageLine], line: &[u8]) -> Option<FlowLine>
         });
     }
     let rest = strip(b"flow keep ", line)?;
-    let (reader, source, dx, dy, flow) = carried(images, rest)?;
+    let (reader, source, dx, dy, flow) = read_flow(images, rest)?;
     Some(FlowLine::Keep {
         reader,
         source,

@@ -3,7 +3,7 @@
 ghost use Rattle.std.specs.Prelude.{◌≡◌, ◌++◌, [], ◌∷◌, IfOk, OnOk, map, decimal, codes};
 ghost use Rattle.std.specs.Fmt.{signed_decimal};
 ghost use Rattle.report_text.specs.Reports.{parts_of};
-ghost use Rattle.report_text.specs.Layout.{name_at, number_line, pair_line, held, carried, image_line, latency_line, flow_line, size_line, clocks_line, bits_line, reads_line, end_line, head_lines, unless_first, joined, layout};
+ghost use Rattle.report_text.specs.Layout.{name_at, number_line, pair_line, image_flow, image_line, latency_line, flow_line, size_line, clocks_line, bits_line, reads_line, end_line, head_lines, unless_first, joined, layout};
 
 use crate::report::{FlowLine, ImageLine, Report};
 use dk_base::OutOfMemory;
@@ -98,14 +98,14 @@ fn push_name(out: &mut Vec<u8>, images: &[ImageLine], place: usize) -> Result<()
     }
 }
 
-fn push_held(
+fn push_image_flow(
     out: &mut Vec<u8>,
     word: &[u8],
     images: &[ImageLine],
     image: usize,
     flow: u64,
 ) -> Result<(), OutOfMemory>
-    ensures { OnOk result (out.new.items ≡ out.old.items ++ held word.now images.now image flow) }
+    ensures { OnOk result (out.new.items ≡ out.old.items ++ image_flow word.now images.now image flow) }
 {
     out.extend_from_slice(word)?;
     push_name(out, images, image)?;
@@ -143,43 +143,40 @@ fn push_names(
     Ok(())
 }
 
-fn push_carried(
-    out: &mut Vec<u8>,
-    word: &[u8],
-    images: &[ImageLine],
-    reader: usize,
-    source: usize,
-    dx: i32,
-    dy: i32,
-    flow: u64,
-) -> Result<(), OutOfMemory>
-    ensures { OnOk result (out.new.items ≡ out.old.items ++ carried word.now images.now reader source dx dy flow) }
-{
-    push_names(out, word, images, reader, source)?;
-    push_offset(out, dx, dy, flow)?;
-    Ok(())
-}
-
 fn push_flow(out: &mut Vec<u8>, images: &[ImageLine], line: FlowLine) -> Result<(), OutOfMemory>
     ensures { OnOk result (out.new.items ≡ out.old.items ++ flow_line images.now line) }
 {
     match line {
-        FlowLine::Hold { image, flow } => push_held(out, b"flow hold ", images, image, flow),
-        FlowLine::Start { image, flow } => push_held(out, b"flow start ", images, image, flow),
+        FlowLine::Hold { image, flow } => push_image_flow(out, b"flow hold ", images, image, flow),
+        FlowLine::Start { image, flow } => push_image_flow(
+            out,
+            b"flow start ",
+            images,
+            image,
+            flow,
+        ),
         FlowLine::Read {
             reader,
             source,
             dx,
             dy,
             flow,
-        } => push_carried(out, b"flow read ", images, reader, source, dx, dy, flow),
+        } => {
+            push_names(out, b"flow read ", images, reader, source)?;
+            push_offset(out, dx, dy, flow)?;
+            Ok(())
+        }
         FlowLine::Keep {
             reader,
             source,
             dx,
             dy,
             flow,
-        } => push_carried(out, b"flow keep ", images, reader, source, dx, dy, flow),
+        } => {
+            push_names(out, b"flow keep ", images, reader, source)?;
+            push_offset(out, dx, dy, flow)?;
+            Ok(())
+        }
     }
 }
 

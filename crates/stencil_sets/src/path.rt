@@ -33,24 +33,31 @@ fn rect_of(path: Path, size: FrameSize, image: u32) -> Rect
     }
 }
 
+// A read of an image at an offset.
+#[derive(Clone, Copy)]
+struct ImageRead {
+    edge: Edge,
+    image: u32,
+    dx: i32,
+    dy: i32,
+}
+
 // Adds what a read at the end of the path reads.
 fn add_read(
     all: &mut Vec<Rect>,
     size: FrameSize,
     path: Path,
-    edge: Edge,
-    image: u32,
-    dx: i32,
-    dy: i32,
+    image_read: ImageRead,
 ) -> Result<(), OutOfMemory>
     requires { IsPath (size_of size) path }
     ensures added { OnOk result ((g : ℕ) (x y : ℤ) → Covered all.new.items g x y
-        ↔ (Covered all.old.items g x y ⊎ ReadsFrom (size_of size) (read edge image dx dy) path g x y)) }
+        ↔ (Covered all.old.items g x y ⊎ ReadsFrom (size_of size)
+        (read image_read.edge image_read.image image_read.dx image_read.dy) path g x y)) }
     ensures near { All IsNearRect all.old.items → All IsNearRect all.new.items }
 {
-    match path.step(size, edge, dx, dy) {
+    match path.step(size, image_read.edge, image_read.dx, image_read.dy) {
         Some(end) => {
-            let rect = rect_of(end, size, image);
+            let rect = rect_of(end, size, image_read.image);
             all.push(rect)?;
             Ok(())
         }
@@ -72,7 +79,15 @@ pub fn add_reads(
 {
     match body {
         Expr::Constant(_, _) => Ok(()),
-        Expr::Read(edge, image, dx, dy) => { add_read(all, size, path, *edge, *image, *dx, *dy) }
+        Expr::Read(edge, image, dx, dy) => {
+            let image_read = ImageRead {
+                edge: *edge,
+                image: *image,
+                dx: *dx,
+                dy: *dy,
+            };
+            add_read(all, size, path, image_read)
+        }
         Expr::Shifted(edge, dx, dy, inner) => match path.step(size, *edge, *dx, *dy) {
             Some(end) => add_reads(all, size, inner, end),
             None => Ok(()),

@@ -10,7 +10,7 @@ ghost use Rattle.vcd_trace.specs.Answers.{ReadsAll, RefusesAll, ReadsText, Refus
 use crate::fault::VcdError;
 use crate::heading::header;
 use crate::reading::strip;
-use crate::steps::read_at;
+use crate::steps::{Variables, read_at};
 use crate::trace::widths_of;
 use dk_base::OutOfMemory;
 use netlist::{Module, Width};
@@ -56,16 +56,12 @@ fn read_clocks(
     let mut first = true;
     let mut time: u64 = 0;
     'clocks: loop {
-        match read_at(
-            alloc,
-            &mut line,
+        let variables = Variables {
             first,
-            time,
             widths,
-            &before,
-            rest,
-            line_number,
-        ) {
+            values: before.as_slice(),
+        };
+        match read_at(alloc, &mut line, &variables, time, rest, line_number) {
             Err(fault) => return Err(fault),
             Ok(None) => return Ok(rows),
             Ok(Some(clock)) => {

@@ -17,6 +17,22 @@ fn stays(first: bool, before: u64, value: u64) -> bool
     if first { false } else { before == value }
 }
 
+// A variable before a clock: its place among all, its width and its value.
+#[derive(Clone, Copy)]
+struct Variable {
+    place: usize,
+    width: Width,
+    value: u64,
+}
+
+// All variables before a clock: their widths, their values, and whether no clock was read yet.
+#[derive(Clone, Copy)]
+pub(crate) struct Variables<'a> {
+    pub first: bool,
+    pub widths: &'a [Width],
+    pub values: &'a [u64],
+}
+
 // A value, the bytes after its line, and their line's number.
 #[derive(Clone, Copy, Drop)]
 pub(crate) struct ReadValue<'a> {
@@ -29,34 +45,32 @@ pub(crate) struct ReadValue<'a> {
 fn read_value<'a>(
     line: &mut Vec<u8>,
     first: bool,
-    width: Width,
-    place: usize,
-    before: u64,
+    before: Variable,
     bytes: &'a [u8],
     number: u64,
 ) -> Result<ReadValue<'a>, VcdError>
-    requires before { before < 2 ^ width }
+    requires before { before.value < 2 ^ before.width }
     requires count { number + length bytes.now < 2 ^ 64 }
-    ensures value { MatchResult result (λ r. ReadsValue first place width before bytes.now number r.value r.rest.now r.number)
-        (λ e. RefusesValue first place width before bytes.now number e) }
-    ensures fits { IfOk result (λ r. r.value < 2 ^ width) }
+    ensures value { MatchResult result (λ r. ReadsValue first before.place before.width before.value bytes.now number r.value r.rest.now r.number)
+        (λ e. RefusesValue first before.place before.width before.value bytes.now number e) }
+    ensures fits { IfOk result (λ r. r.value < 2 ^ before.width) }
     ensures count { IfOk result (λ r. r.number + length r.rest.now ≤ number + length bytes.now) }
     ensures shorter { IfOk result (λ r. length r.rest.now ≤ length bytes.now) }
 {
-    match told(line, width, place, bytes) {
+    match told(line, before.width, before.place, bytes) {
         Err(_) => Err(VcdError::OutOfMemory),
         Ok(None) => {
             if first {
                 return Err(VcdError::Fault { line: number });
             }
             Ok(ReadValue {
-                value: before,
+                value: before.value,
                 rest: bytes,
                 number,
             })
         }
         Ok(Some((value, rest))) => {
-            if stays(first, before, value) {
+            if stays(first, before.value, value) {
                 return Err(VcdError::Fault { line: number });
             }
             Ok(ReadValue {
@@ -80,25 +94,29 @@ pub(crate) struct ReadClock<'a> {
 fn read_clock<'a>(
     alloc: Global,
     line: &mut Vec<u8>,
-    first: bool,
-    widths: &[Width],
-    before: &[u64],
+    before: &Variables<'_>,
     bytes: &'a [u8],
     number: u64,
 ) -> Result<ReadClock<'a>, VcdError>
-    requires before { AreValues widths.now before.now }
+    requires before { AreValues before.now.widths.now before.now.values.now }
     requires count { number + length bytes.now < 2 ^ 64 }
-    ensures clock { MatchResult result (λ r. ReadsClock first widths.now before.now bytes.now number r.values.items r.rest.now r.number)
-        (λ e. RefusesClock first widths.now before.now bytes.now number e) }
-    ensures fits { IfOk result (λ r. AreValues widths.now r.values.items) }
+    ensures clock { MatchResult result
+        (λ r. ReadsClock before.now.first before.now.widths.now before.now.values.now bytes.now number r.values.items r.rest.now r.number)
+        (λ e. RefusesClock before.now.first before.now.widths.now before.now.values.now bytes.now number e) }
+    ensures fits { IfOk result (λ r. AreValues before.now.widths.now r.values.items) }
     ensures count { IfOk result (λ r. r.number + length r.rest.now ≤ number + length bytes.now) }
     ensures shorter { IfOk result (λ r. length r.rest.now ≤ length bytes.now) }
 {
     let mut values = Vec::new(alloc);
     let mut rest = bytes;
     let mut line_number = number;
-    for (place, width) in widths.iter().enumerate() {
-        match read_value(line, first, *width, place, before[place], rest, line_number) {
+    for (place, width) in before.widths.iter().enumerate() {
+        let variable = Variable {
+            place,
+            width: *width,
+            value: before.values[place],
+        };
+        match read_value(line, before.first, variable, rest, line_number) {
             Err(fault) => return Err(fault),
             Ok(read) => {
                 if values.push(read.value).is_err() {
@@ -157,19 +175,18 @@ fn may_end(first: bool, number: u64) -> Result<(), VcdError>
 pub(crate) fn read_at<'a>(
     alloc: Global,
     line: &mut Vec<u8>,
-    first: bool,
+    before: &Variables<'_>,
     time: u64,
-    widths: &[Width],
-    before: &[u64],
     bytes: &'a [u8],
     number: u64,
 ) -> Result<Option<ReadClock<'a>>, VcdError>
-    requires before { AreValues widths.now before.now }
+    requires before { AreValues before.now.widths.now before.now.values.now }
     requires count { number + length bytes.now < 2 ^ 64 }
-    ensures clock { MatchResult result (λ o. MatchOption o (EndsAt first time widths.now before.now bytes.now number)
-        (λ r. GoesOnAt first time widths.now before.now bytes.now number r.values.items r.rest.now r.number))
-        (λ e. RefusesAt first time widths.now before.now bytes.now number e) }
-    ensures fits { IfOk result (λ o. IfSome o (λ r. AreValues widths.now r.values.items)) }
+    ensures clock { MatchResult result
+        (λ o. MatchOption o (EndsAt before.now.first time before.now.widths.now before.now.values.now bytes.now number)
+        (λ r. GoesOnAt before.now.first time before.now.widths.now before.now.values.now bytes.now number r.values.items r.rest.now r.number))
+        (λ e. RefusesAt before.now.first time before.now.widths.now before.now.values.now bytes.now number e) }
+    ensures fits { IfOk result (λ o. IfSome o (λ r. AreValues before.now.widths.now r.values.items)) }
     ensures count { IfOk result (λ o. IfSome o (λ r. r.number + length r.rest.now ≤ number + length bytes.now)) }
     ensures shorter { IfOk result (λ o. IfSome o (λ r. length r.rest.now < length bytes.now)) }
 {
@@ -178,12 +195,12 @@ pub(crate) fn read_at<'a>(
         Ok(after) => after,
     };
     if is_done(after) {
-        match may_end(first, number + 1) {
+        match may_end(before.first, number + 1) {
             Err(fault) => return Err(fault),
             Ok(()) => return Ok(None),
         }
     }
-    match read_clock(alloc, line, first, widths, before, after, number + 1) {
+    match read_clock(alloc, line, before, after, number + 1) {
         Err(fault) => Err(fault),
         Ok(clock) => Ok(Some(clock)),
     }

@@ -2,17 +2,16 @@
 
 ghost use Rattle.std.specs.Prelude.{◌≡◌, ℕ, ◌≢◌, ◌<◌, ◌≤◌, List, [], length, map, slice_index, slice_index_or, slice_get, slice_set, Some, IsTrue, IsFalse};
 ghost use Rattle.cycle_sim.specs.Slots.{words_of};
-ghost use Rattle.batch_rows.specs.Values.{numbers_in, row_values, values_of};
-ghost use Rattle.batch_rows.specs.Rights.{value_at, HasRow, HaveRoom, IsAtomRow};
-ghost use Rattle.batch_rows.specs.Rows.{words_after, IsReadUpTo, AreInside};
+ghost use Rattle.lane_rows.specs.Values.{numbers_in, row_values, values_of, value_at};
+ghost use Rattle.batch_rows.specs.Rights.{HasRow, HaveRoom, IsAtomRow};
+ghost use Rattle.lane_rows.specs.Words.{words_after, IsReadUpTo, AreInside};
 ghost use Rattle.batch_code.specs.Rows.{words_put, KeepsArray};
 ghost use Rattle.batch_sim.specs.Arrays.{HaveCount, AreNoted, AreAccessNumbers, IsPassed, IsArrayRoom, WasLost, PutsInside, HaveAccessRows, TakesBack};
 
 use crate::judge::registers::follows;
-use batch_code::{WordPut, WordRead};
-use batch_rows::{
-    Lane, Numbers, Row, all_inside, atom_numbers, atom_words, change_row, first_of, note_words,
-    number_at, take_back, word_row,
+use batch_rows::{WordPut, WordRead, atom_numbers, atom_words, note_words};
+use lane_rows::{
+    Lane, Numbers, Row, all_inside, change_row, first_of, number_at, take_back, word_row,
 };
 use wiring::Atom;
 
@@ -23,6 +22,13 @@ pub struct ArrayRoom {
     pub index: Vec<u64>,
     pub value: Vec<u64>,
     pub target: Vec<u64>,
+}
+
+// Room in which arrays are judged one after another: spare rows, and one for what is read.
+#[derive(Debug, Drop)]
+pub struct PassRoom {
+    pub spares: ArrayRoom,
+    pub to: Vec<u64>,
 }
 
 // The accesses of one array: at each of this many clocks it is read, and a word is put.
@@ -55,25 +61,34 @@ pub fn are_same<V: Lane>(a: &[u64], b: &[V]) -> bool
     same
 }
 
+// The numbers over which an array is judged, where those of its indexes are in one lane, and those of its value and target.
+#[derive(Drop)]
+struct LaneNumbers<'a, I, V> {
+    read: &'a [I],
+    index: &'a [I],
+    value: &'a [V],
+    target: &'a [V],
+}
+
 // Reads and writes an array over the clocks of a batch if all indexes are inside and what is read is the target's row; else the
 // words are as before.
 fn pass_words<I: Lane, V: Lane>(
     words: &mut [u64],
     to: &mut [u64],
     lost: &mut [u64],
-    read: &[I],
-    index: &[I],
-    value: &[V],
-    target: &[V],
+    all: &LaneNumbers<'_, I, V>,
 ) -> bool
     requires lost { length lost.old ≡ length to.old }
-    requires read { length read.now ≡ length to.old }
-    requires index { length index.now ≡ length to.old }
-    requires value { length value.now ≡ length to.old }
-    requires target { length target.now ≡ length to.old }
-    ensures passed { IsTrue result → IsPassed words.old words.new lost.new (map I.value read.now) (map I.value index.now) (map V.value value.now) (map V.value target.now) (length to.old) }
+    requires read { length all.now.read.now ≡ length to.old }
+    requires index { length all.now.index.now ≡ length to.old }
+    requires value { length all.now.value.now ≡ length to.old }
+    requires target { length all.now.target.now ≡ length to.old }
+    ensures passed { IsTrue result → IsPassed words.old words.new lost.new (map I.value all.now.read.now) (map I.value all.now.index.now)
+        (map V.value all.now.value.now) (map V.value all.now.target.now) (length to.old) }
     ensures back { IsFalse result → words.new ≡ words.old }
 {
+    let read = all.read;
+    let index = all.index;
     let depth = words.len() as u64;
     if !all_inside(read, depth) {
         return false;
@@ -81,8 +96,8 @@ fn pass_words<I: Lane, V: Lane>(
     if !all_inside(index, depth) {
         return false;
     }
-    word_row(words, to, lost, read, index, value);
-    if are_same(to, target) {
+    word_row(words, to, lost, read, index, all.value);
+    if are_same(to, all.target) {
         true
     } else {
         take_back(words, lost, index);
@@ -188,13 +203,31 @@ fn pass_values<I: Lane>(
 {
     match (all.value, all.target) {
         (Numbers::Narrow(value), Numbers::Narrow(target)) => {
-            pass_words(words, to, lost, read, index, value, target)
+            let all = LaneNumbers {
+                read,
+                index,
+                value,
+                target,
+            };
+            pass_words(words, to, lost, &all)
         }
         (Numbers::Middle(value), Numbers::Middle(target)) => {
-            pass_words(words, to, lost, read, index, value, target)
+            let all = LaneNumbers {
+                read,
+                index,
+                value,
+                target,
+            };
+            pass_words(words, to, lost, &all)
         }
         (Numbers::Wide(value), Numbers::Wide(target)) => {
-            pass_words(words, to, lost, read, index, value, target)
+            let all = LaneNumbers {
+                read,
+                index,
+                value,
+                target,
+            };
+            pass_words(words, to, lost, &all)
         }
         _ => false,
     }
@@ -349,22 +382,23 @@ fn numbers_of_access<'a>(
 fn pass_rows(
     rows: &[Row],
     room: &mut ArrayRoom,
-    read: &WordRead,
-    put: &WordPut,
+    access: &Access<'_>,
     words: &mut [u64],
     to: &mut [u64],
     lost: &mut [u64],
 ) -> bool
-    requires rows { HaveAccessRows (values_of rows.now) (length to.old) read.now put.now }
+    requires rows { HaveAccessRows (values_of rows.now) (length to.old) access.now.read.now access.now.put.now }
     requires room { IsArrayRoom room.old (length to.old) }
     requires lost { length lost.old ≡ length to.old }
     ensures room { IsArrayRoom room.new (length to.old) }
-    ensures kept { IsTrue result → KeepsArray (values_of rows.now) (length to.old) words.old read.now put.now }
-    ensures words { IsTrue result → words.new ≡ words_put (values_of rows.now) put.now words.old (length to.old) }
-    ensures lost { IsTrue result → WasLost (values_of rows.now) put.now words.old lost.new (length to.old) }
+    ensures kept { IsTrue result → KeepsArray (values_of rows.now) (length to.old) words.old access.now.read.now access.now.put.now }
+    ensures words { IsTrue result → words.new ≡ words_put (values_of rows.now) access.now.put.now words.old (length to.old) }
+    ensures lost { IsTrue result → WasLost (values_of rows.now) access.now.put.now words.old lost.new (length to.old) }
     ensures back { IsFalse result → words.new ≡ words.old }
 {
     let count = to.len();
+    let read = access.read;
+    let put = access.put;
     let slots = note_access(rows, room, read, put, count);
     let all = numbers_of_access(rows, room, slots, read, put, count);
     if is_one_slot(&read.index, &put.index) {
@@ -394,10 +428,18 @@ pub fn pass_first(
 {
     let to = to.split_at_mut(access.count).0;
     let lost = lost.split_at_mut(access.count).0;
-    pass_rows(rows, room, access.read, access.put, words, to, lost)
+    pass_rows(rows, room, access, words, to, lost)
 }
 
-// A single word holds again what the first put took away.
+// What an array was given: its put over this many clocks, and what each put took away.
+#[derive(Clone, Copy)]
+pub struct Undo<'a> {
+    pub put: &'a WordPut,
+    pub lost: &'a [u64],
+    pub count: usize,
+}
+
+// A single word is again what the first put took away.
 fn undo_one(words: &mut [u64], lost: &[u64], count: usize)
     requires one { length words.old ≡ 1 }
     requires lost { count ≤ length lost.now }
@@ -409,52 +451,41 @@ fn undo_one(words: &mut [u64], lost: &[u64], count: usize)
     }
 }
 
-// Several words hold again what they held before this many clocks.
+// Several words are again what they were before these clocks.
 #[tactic(auto, using(crate::proofs::OnePass::puts_inside))]
-fn undo_words(
-    rows: &[Row],
-    room: &mut ArrayRoom,
-    put: &WordPut,
-    words: &mut [u64],
-    lost: &[u64],
-    count: usize,
-)
+fn undo_words(rows: &[Row], room: &mut ArrayRoom, undo: &Undo<'_>, words: &mut [u64])
     requires several { length words.old ≢ 1 }
-    requires index { HasRow (values_of rows.now) count put.now.index }
-    requires value { HasRow (values_of rows.now) count put.now.value }
-    requires room { IsArrayRoom room.old count }
-    requires lost { count ≤ length lost.now }
-    requires inside { PutsInside (values_of rows.now) put.now count (length words.old) }
-    ensures room { IsArrayRoom room.new count }
-    ensures back { TakesBack (values_of rows.now) put.now count lost.now words.old words.new }
+    requires index { HasRow (values_of rows.now) undo.now.count undo.now.put.now.index }
+    requires value { HasRow (values_of rows.now) undo.now.count undo.now.put.now.value }
+    requires room { IsArrayRoom room.old undo.now.count }
+    requires lost { undo.now.count ≤ length undo.now.lost.now }
+    requires inside { PutsInside (values_of rows.now) undo.now.put.now undo.now.count (length words.old) }
+    ensures room { IsArrayRoom room.new undo.now.count }
+    ensures back { TakesBack (values_of rows.now) undo.now.put.now undo.now.count undo.now.lost.now words.old words.new }
 {
+    let put = undo.put;
+    let lost = undo.lost;
+    let count = undo.count;
     atom_words(rows, &mut room.index, &put.index, count);
     atom_words(rows, &mut room.value, &put.value, count);
     let indexes = &room.index[..count];
     take_back(words, &lost[..count], indexes);
 }
 
-// Takes back what an array was given in this many clocks.
+// Takes back what an array was given.
 #[tactic(auto, using(crate::proofs::OnePass::single_undone))]
-pub fn undo_array(
-    rows: &[Row],
-    room: &mut ArrayRoom,
-    put: &WordPut,
-    words: &mut [u64],
-    lost: &[u64],
-    count: usize,
-)
-    requires index { HasRow (values_of rows.now) count put.now.index }
-    requires value { HasRow (values_of rows.now) count put.now.value }
-    requires room { IsArrayRoom room.old count }
-    requires lost { count ≤ length lost.now }
-    requires inside { PutsInside (values_of rows.now) put.now count (length words.old) }
-    ensures room { IsArrayRoom room.new count }
-    ensures back { TakesBack (values_of rows.now) put.now count lost.now words.old words.new }
+pub fn undo_array(rows: &[Row], room: &mut ArrayRoom, undo: &Undo<'_>, words: &mut [u64])
+    requires index { HasRow (values_of rows.now) undo.now.count undo.now.put.now.index }
+    requires value { HasRow (values_of rows.now) undo.now.count undo.now.put.now.value }
+    requires room { IsArrayRoom room.old undo.now.count }
+    requires lost { undo.now.count ≤ length undo.now.lost.now }
+    requires inside { PutsInside (values_of rows.now) undo.now.put.now undo.now.count (length words.old) }
+    ensures room { IsArrayRoom room.new undo.now.count }
+    ensures back { TakesBack (values_of rows.now) undo.now.put.now undo.now.count undo.now.lost.now words.old words.new }
 {
     if words.len() == 1 {
-        undo_one(words, lost, count);
+        undo_one(words, undo.lost, undo.count);
     } else {
-        undo_words(rows, room, put, words, lost, count);
+        undo_words(rows, room, undo, words);
     }
 }

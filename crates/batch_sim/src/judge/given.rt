@@ -1,13 +1,12 @@
 // The rows of the inputs.
 
 ghost use Rattle.std.specs.Prelude.{◌≡◌, ℕ, ◌+◌, ◌*◌, ◌<◌, ◌≤◌, length, map, slice_index, IsTrue, [], slice_index_or, if◌then◌else◌};
-ghost use Rattle.batch_rows.specs.Values.{row_values, values_of};
-ghost use Rattle.batch_rows.specs.Rights.{value_at};
+ghost use Rattle.lane_rows.specs.Values.{row_values, values_of, value_at};
 ghost use Rattle.batch_sim.specs.Checked.{input_of, IsInputRow, AreInputRows};
 ghost use Rattle.batch_sim.specs.Pieces.{HasDins};
 
-use crate::inputs::Piece;
-use batch_rows::{Lane, Row, number_at};
+use batch_guess::Piece;
+use lane_rows::{Lane, Row, number_at};
 
 // The row of a slot.
 pub fn row_at(rows: &[Row], slot: usize) -> &Row

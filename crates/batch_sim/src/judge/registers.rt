@@ -2,22 +2,23 @@
 
 ghost use Rattle.std.specs.Prelude.{◌≡◌, ℕ, suc, ◌+◌, ◌<◌, ◌≤◌, List, length, map, slice_index, slice_index_or, slice_get, Some, All, IsTrue, []};
 ghost use Rattle.wiring.specs.declared.right.Atom.{Atom};
-ghost use Rattle.batch_rows.specs.Values.{numbers_in, row_values, values_of};
-ghost use Rattle.batch_rows.specs.Rights.{value_at, HasRow};
+ghost use Rattle.lane_rows.specs.Values.{numbers_in, row_values, values_of, value_at};
+ghost use Rattle.batch_rows.specs.Rights.{HasRow};
 ghost use Rattle.batch_code.specs.Rows.{KeepsRegister};
 ghost use Rattle.batch_sim.specs.Checked.{AreRegisterRows, HaveAtomRows};
 
 use crate::judge::given::row_at;
-use batch_rows::{Lane, Numbers, Row, atom_numbers, note_words, number_at, number_of};
+use batch_rows::{atom_numbers, note_words};
+use lane_rows::{Lane, Numbers, Row, number_at, number_of};
 use wiring::Atom;
 
-// Whether numbers begin with what is held, and are others, a clock later.
-pub fn follows<A: Lane, B: Lane>(row: &[A], next: &[B], held: u64) -> bool
+// Whether numbers begin with a register's contents, and are others, a clock later.
+pub fn follows<A: Lane, B: Lane>(row: &[A], next: &[B], stored: u64) -> bool
     requires { length next.now < length row.now }
-    ensures first { IsTrue result → slice_index (map A.value row.now) 0 ≡ held }
+    ensures first { IsTrue result → slice_index (map A.value row.now) 0 ≡ stored }
     ensures later { IsTrue result → (t : ℕ) → t < length next.now → slice_index (map A.value row.now) (suc t) ≡ slice_index (map B.value next.now) t }
 {
-    let mut same = number_at(row, 0) == held;
+    let mut same = number_at(row, 0) == stored;
     for t in 0..next.len() {
         if number_at(row, t + 1) != number_at(next, t) {
             same = false;
@@ -27,39 +28,39 @@ pub fn follows<A: Lane, B: Lane>(row: &[A], next: &[B], held: u64) -> bool
 }
 
 // The same of numbers in any lane.
-fn follows_numbers<A: Lane>(row: &[A], next: Numbers<'_>, held: u64) -> bool
+fn follows_numbers<A: Lane>(row: &[A], next: Numbers<'_>, stored: u64) -> bool
     requires { length (numbers_in next) < length row.now }
-    ensures first { IsTrue result → slice_index (map A.value row.now) 0 ≡ held }
+    ensures first { IsTrue result → slice_index (map A.value row.now) 0 ≡ stored }
     ensures later { IsTrue result → (t : ℕ) → t < length (numbers_in next.entry) → slice_index (map A.value row.now) (suc t) ≡ slice_index (numbers_in next.entry) t }
 {
     match next {
-        Numbers::Narrow(next) => follows(row, next, held),
-        Numbers::Middle(next) => follows(row, next, held),
-        Numbers::Wide(next) => follows(row, next, held),
+        Numbers::Narrow(next) => follows(row, next, stored),
+        Numbers::Middle(next) => follows(row, next, stored),
+        Numbers::Wide(next) => follows(row, next, stored),
     }
 }
 
 // The same of a row in any lane.
-fn follows_row(row: &Row, next: Numbers<'_>, held: u64) -> bool
+fn follows_row(row: &Row, next: Numbers<'_>, stored: u64) -> bool
     requires { length (numbers_in next) < length (row_values row.now) }
-    ensures first { IsTrue result → slice_index (row_values row.now) 0 ≡ held }
+    ensures first { IsTrue result → slice_index (row_values row.now) 0 ≡ stored }
     ensures later { IsTrue result → (t : ℕ) → t < length (numbers_in next.entry) → slice_index (row_values row.now) (suc t) ≡ slice_index (numbers_in next.entry) t }
 {
     match row {
-        Row::Narrow(row) => follows_numbers(row, next, held),
-        Row::Middle(row) => follows_numbers(row, next, held),
-        Row::Wide(row) => follows_numbers(row, next, held),
+        Row::Narrow(row) => follows_numbers(row, next, stored),
+        Row::Middle(row) => follows_numbers(row, next, stored),
+        Row::Wide(row) => follows_numbers(row, next, stored),
     }
 }
 
-// Whether a register's row begins with what it holds, and is that of its next value, a clock later, over this many clocks.
+// Whether a register's row begins with its contents, and is that of its next value, a clock later, over this many clocks.
 #[tactic(auto, using(crate::proofs::Checks::kept_register))]
 fn is_kept(
     rows: &[Row],
     spare: &mut Vec<u64>,
     slot: usize,
     next: &Atom<usize>,
-    held: u64,
+    stored: u64,
     count: usize,
 ) -> bool
     requires slot { slot < length rows.now }
@@ -67,11 +68,11 @@ fn is_kept(
     requires next { HasRow (values_of rows.now) count next.now }
     requires room { count ≤ length spare.old.items }
     ensures spare { length spare.new.items ≡ length spare.old.items }
-    ensures kept { IsTrue result → KeepsRegister (values_of rows.now) count held slot next.now }
+    ensures kept { IsTrue result → KeepsRegister (values_of rows.now) count stored slot next.now }
 {
     let own = note_words(rows, spare, next, true, count);
     let later = atom_numbers(rows, own, spare, next, count);
-    follows_row(row_at(rows, slot), later, held)
+    follows_row(row_at(rows, slot), later, stored)
 }
 
 // Whether this is so for all registers, whose slots begin with the first one.
@@ -80,19 +81,19 @@ pub fn are_kept(
     spare: &mut Vec<u64>,
     first: usize,
     nexts: &[Atom<usize>],
-    held: &[u64],
+    stored: &[u64],
     count: usize,
 ) -> bool
     requires slots { first + length nexts.now ≤ length rows.now }
-    requires held { length held.now ≡ length nexts.now }
+    requires stored { length stored.now ≡ length nexts.now }
     requires long { (n : ℕ) → n < length rows.now → count < length (slice_index_or (values_of rows.now) n []) }
     requires nexts { HaveAtomRows (values_of rows.now) count nexts.now }
     requires room { count ≤ length spare.old.items }
     ensures spare { length spare.new.items ≡ length spare.old.items }
-    ensures kept { IsTrue result → AreRegisterRows (values_of rows.now) count first held.now nexts.now }
+    ensures kept { IsTrue result → AreRegisterRows (values_of rows.now) count first stored.now nexts.now }
 {
     for r in 0..nexts.len() {
-        if !is_kept(rows, spare, first + r, &nexts[r], held[r], count) {
+        if !is_kept(rows, spare, first + r, &nexts[r], stored[r], count) {
             return false;
         }
     }

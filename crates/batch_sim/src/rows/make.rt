@@ -2,25 +2,21 @@
 
 ghost use Rattle.std.specs.Prelude.{◌≡◌, ◌<◌, ◌≤◌, length, replicate, IfOk, IfSome};
 ghost use Rattle.wiring.specs.Netlist.{netlist_of};
-ghost use Rattle.batch_rows.specs.Rights.{items_of};
-ghost use Rattle.batch_rows.specs.Values.{values_of};
-ghost use Rattle.batch_rows.specs.LaneSizes.{InLanes};
+ghost use Rattle.lane_rows.specs.Values.{items_of};
 ghost use Rattle.batch_code.specs.Code.{IsBatchCode};
+ghost use Rattle.batch_guess.specs.Engine.{IsEngine};
 ghost use Rattle.batch_sim.specs.Called.{din_count};
-ghost use Rattle.batch_sim.specs.Engine.{IsEngineOf, AreRowsOf, HasRun};
+ghost use Rattle.batch_sim.specs.Engine.{IsEngineOf, AreRowsOf};
 
-use crate::judge::arrays::ArrayRoom;
+use crate::judge::arrays::{ArrayRoom, PassRoom};
 use crate::pieces::{LEAST, MOST_CLOCKS};
 use crate::rows::Rows;
-use crate::rows::engine::{Engine, arrays_of, makers_of, next_makers_of, registers_of};
-use crate::rows::steps::Hints;
-use crate::rows::table::Table;
-use crate::rows::uses::first_uses;
-use batch_code::BatchCode;
+use batch_code::batch_code_of;
+use batch_guess::{Engine, RowGuess};
 use batch_plan::{Plan, make_plan};
-use batch_rows::{Rooms, Row, sizes_of, zero_row};
+use batch_rows::BatchCode;
 use dk_base::OutOfMemory;
-use netlist::{Module, Netlist, Width};
+use netlist::{Module, Netlist};
 use std::alloc::{AllocError, Global};
 
 // The most words that rows take.
@@ -29,11 +25,8 @@ const MOST_WORDS: usize = 8 * 1024 * 1024;
 // How many numbers the loops over rows take at a time.
 const VECTOR: usize = 8;
 
-// Arrays of fewer words are copied for a piece.
-const SMALL: usize = MOST_CLOCKS + 1;
-
 // This many rows of zeros.
-#[tactic(auto, using(crate::proofs::Made::rows_more))]
+#[tactic(auto, using(batch_guess::proofs::Made::rows_more))]
 fn zero_rows(alloc: Global, slots: usize, long: usize) -> Result<Vec<Vec<u64>>, AllocError>
     ensures { IfOk result (λ v. items_of v.items ≡ replicate slots (replicate long 0)) }
 {
@@ -44,73 +37,20 @@ fn zero_rows(alloc: Global, slots: usize, long: usize) -> Result<Vec<Vec<u64>>, 
     Ok(rows)
 }
 
-// A row of zeros for each width.
-fn slot_rows(alloc: Global, widths: &[Width], long: usize) -> Result<Vec<Row>, AllocError>
-    ensures values { IfOk result (λ v. values_of v.items ≡ replicate (length widths.now) (replicate long 0)) }
-    ensures lanes { IfOk result (λ v. InLanes widths.now v.items) }
-{
-    let mut rows = Vec::new(alloc);
-    for slot in 0..widths.len() {
-        rows.push(zero_row(alloc, widths[slot].bits(), long)?)?;
-    }
-    Ok(rows)
-}
-
-#[tactic(auto, using(crate::proofs::Made::zero_table))]
-fn table_of(alloc: Global, engine: &Engine, long: usize) -> Result<Table, AllocError>
-    ensures table { IfOk result (λ t. HasRun engine.now (length t.room.items) t 0) }
-    ensures long { IfOk result (λ t. length t.room.items ≡ long) }
-{
-    let rows = slot_rows(alloc, &engine.code.widths, long)?;
-    let room = vec![in alloc; 0; long]?;
-    let narrow = vec![in alloc; 0; long]?;
-    let middle = vec![in alloc; 0; long]?;
-    let rooms = Rooms::new(alloc, long)?;
-    let table = Table {
-        rows,
-        room,
-        narrow,
-        middle,
-        rooms,
-    };
-    Ok(table)
-}
-
-fn room_of(alloc: Global, size: usize) -> Result<ArrayRoom, AllocError> {
+// Room for this many clocks.
+fn room_of(alloc: Global, size: usize) -> Result<PassRoom, AllocError> {
     let read = vec![in alloc; 0; size]?;
     let index = vec![in alloc; 0; size]?;
     let value = vec![in alloc; 0; size]?;
     let target = vec![in alloc; 0; size]?;
-    Ok(ArrayRoom {
+    let spares = ArrayRoom {
         read,
         index,
         value,
         target,
-    })
-}
-
-// Room for the words of small arrays.
-fn copies_of(alloc: Global, wiring: &Netlist) -> Result<Vec<Vec<u64>>, AllocError> {
-    let mut copies = Vec::new(alloc);
-    for shape in &wiring.arrays {
-        let depth = shape.depth.words() as usize;
-        let words = if depth < SMALL { depth } else { 0 };
-        copies.push(vec![in alloc; 0; words]?)?;
-    }
-    Ok(copies)
-}
-
-fn hints_of(alloc: Global, wiring: &Netlist, long: usize) -> Result<Hints, AllocError> {
-    let words = copies_of(alloc, wiring)?;
-    let steps = vec![in alloc; 1; wiring.regs.len()]?;
-    let stands = vec![in alloc; true; wiring.regs.len()]?;
-    let clocks = vec![in alloc; 0; long]?;
-    Ok(Hints {
-        words,
-        steps,
-        stands,
-        clocks,
-    })
+    };
+    let to = vec![in alloc; 0; size]?;
+    Ok(PassRoom { spares, to })
 }
 
 // The most clocks of a piece for which rows of this many slots and arrays have room: 0 where there is none.
@@ -143,20 +83,16 @@ fn rows_of_engine(
 ) -> Result<Rows, AllocError>
     requires some { 1 ≤ size }
     requires size { size ≤ 1024 }
+    requires run { IsEngine engine }
     requires engine { IsEngineOf (netlist_of wiring.now) engine }
     ensures { IfOk result (AreRowsOf (netlist_of wiring.now)) }
 {
-    let table = table_of(alloc, &engine, size + 1)?;
-    let hints = hints_of(alloc, wiring, size + 1)?;
+    let guess = RowGuess::new(alloc, engine, wiring, size + 1)?;
     let room = room_of(alloc, size)?;
-    let to = vec![in alloc; 0; size]?;
     let lost = zero_rows(alloc, wiring.arrays.len(), size)?;
     Ok(Rows {
-        engine,
-        table,
-        hints,
+        guess,
         room,
-        to,
         lost,
         size,
     })
@@ -172,26 +108,11 @@ fn engine_of(
 ) -> Result<Engine, AllocError>
     requires code { IsBatchCode (netlist_of wiring.now) code }
     requires ports { ports ≡ din_count (netlist_of wiring.now) }
-    ensures { IfOk result (IsEngineOf (netlist_of wiring.now)) }
+    ensures run { IfOk result IsEngine }
+    ensures engine { IfOk result (IsEngineOf (netlist_of wiring.now)) }
 {
-    let uses = first_uses(alloc, code.widths.len(), &code.instructions)?;
-    let sizes = sizes_of(alloc, &code.widths, &code.instructions)?;
-    let registers = registers_of(alloc, wiring)?;
-    let arrays = arrays_of(alloc, wiring)?;
-    let makers = makers_of(alloc, &code)?;
-    let next_makers = next_makers_of(alloc, &code)?;
-    Ok(Engine {
-        code,
-        plan,
-        uses,
-        sizes,
-        registers,
-        arrays,
-        makers,
-        next_makers,
-        has_enable: wiring.enable,
-        ports,
-    })
+    let engine = Engine::new(alloc, code, plan, wiring, ports)?;
+    Ok(engine)
 }
 
 // Rows for a module, if there is a plan for it that does not need too much room.
@@ -206,7 +127,7 @@ pub fn rows_of(alloc: Global, module: &Module, ports: usize) -> Result<Option<Ro
     let Some(plan) = make_plan(alloc, module, MOST_CLOCKS)? else {
         return Ok(None);
     };
-    let Some(code) = BatchCode::of(alloc, module, &plan.order)? else {
+    let Some(code) = batch_code_of(alloc, module, &plan.order)? else {
         return Ok(None);
     };
     let slots = code.widths.len().saturating_add(wiring.arrays.len());

@@ -1,13 +1,13 @@
 // What the outputs show in the clocks of a batch.
 
 ghost use Rattle.std.specs.Prelude.{◌≡◌, ◌≢◌, ℕ, ◌+◌, ◌*◌, ◌<◌, ◌≤◌, ◌==◌, length, map, [], slice_get, Some, slice_index_or};
-ghost use Rattle.batch_rows.specs.Values.{row_values, values_of};
+ghost use Rattle.lane_rows.specs.Values.{row_values, values_of};
 ghost use Rattle.batch_sim.specs.Called.{of_clock};
 ghost use Rattle.batch_sim.specs.Shown.{shown_at, AreRowOuts};
 
 use crate::judge::given::row_at;
-use batch_rows::{Lane, Row};
 use cycle_sim::Out;
+use lane_rows::{Lane, Row};
 
 // An output at a clock.
 fn out_at<V: Lane, D: Lane>(valid: &[V], dout: &[D], clock: usize) -> Out

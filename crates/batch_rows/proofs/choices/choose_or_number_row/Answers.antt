@@ -1,6 +1,6 @@
 use Rattle.std.proofs.Common.{◌∙◌, ap, ◌<◌, ℕ, length, map, rules}
 use Rattle.std.specs.Prelude.{slice_index, if◌then◌else◌, ◌==◌}
-use Rattle.batch_rows.proofs.LaneRows.{one_more, read_is}
+use Rattle.lane_rows.proofs.LaneRows.{one_more, read_is}
 use Rattle.batch_rows.proofs.choices.choose_or_number_row.Goals as goal
 
 pub loop-t-preserved : goal.loop-t-preserved

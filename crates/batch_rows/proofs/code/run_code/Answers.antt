@@ -3,43 +3,46 @@ use Rattle.std.specs.Prelude.{slice_get, slice_index_or}
 use Rattle.std.proofs.lemmas.List.{length-map}
 use Rattle.std.proofs.lemmas.Option.{slice_get_read, slice_get-get_or}
 use Rattle.wiring.proofs.Lists.{All-at}
+use Rattle.lane_rows.specs.Values.{row_values, values_of}
+use Rattle.lane_rows.specs.declared.row.Size.TheVariants.{Narrow}
 use Rattle.batch_rows.specs.Code.{IsSound}
-use Rattle.batch_rows.specs.Values.{row_values, values_of}
-use Rattle.batch_rows.specs.declared.code.Size.TheVariants.{Narrow}
 use Rattle.batch_rows.proofs.Running.{rows_on, hold_on, lanes_on}
 use Rattle.batch_rows.proofs.code.run_code.Goals as goal
 
 pub run_instruction-requires-clause-sized : goal.run_instruction-requires-clause-sized
 run_instruction-requires-clause-sized c =
-    let code = c.args.code.now in
-    let sizes = c.args.sizes.now in
+    let code = c.args.code.now.instructions.now in
+    let sizes = c.args.code.now.sizes.now in
     let k = c.loop-k.k in
-    let i = c.index-code-k.result in
+    let i = c.index-instructions-k.result in
     let inside : k < length code = omega (arith, c.loop-k-test.true, c.requires.within) in
-    let at : slice_get code k ≡ Some i = slice_get_read code (length code) k i refl inside c.index-code-k.is in
-    c.requires.sized.each k i (slice_index_or sizes k Narrow) at (slice_get-get_or sizes k Narrow (omega (arith, inside, c.requires.sized.count)))
+    let at : slice_get code k ≡ Some i = slice_get_read code (length code) k i refl inside c.index-instructions-k.is in
+    c.requires.code.sized.each k i (slice_index_or sizes k Narrow) at (slice_get-get_or sizes k Narrow (omega (arith, inside, c.requires.code.sized.count)))
 
 pub loop-k-preserved : goal.loop-k-preserved
 loop-k-preserved c =
-    let widths = c.args.widths.now in
-    let code = c.args.code.now in
+    let widths = c.args.code.now.widths.now in
+    let code = c.args.code.now.instructions.now in
     let k = c.loop-k.k in
-    let i = c.index-code-k.result in
-    let at : slice_get code k ≡ Some i = slice_get_read code (length code) k i refl (omega (arith, c.loop-k-test.true, c.requires.within)) c.index-code-k.is in
-    let sound : IsSound widths i = All-at (IsSound widths) code k i c.requires.sound at in
+    let i = c.index-instructions-k.result in
+    let at : slice_get code k ≡ Some i = slice_get_read code (length code) k i refl (omega (arith, c.loop-k-test.true, c.requires.within)) c.index-instructions-k.is in
+    let sound : IsSound widths i = All-at (IsSound widths) code k i c.requires.code.sound at in
     let count = c.args.count in
     let before = c.loop-k.rows in
     let after = c.run_instruction.new.rows in
     let old = values_of before in
     let new = values_of after in
     let row = slice_index_or new i.target [] in
+    let ran = c.loop-k.invariant.ran in
     let size : length new ≡ length old = length-map after row_values ∙ c.run_instruction.ensures.count ∙ sym (length-map before row_values) in
     record {
       rooms = c.run_instruction.ensures.rooms;
       bits = c.run_instruction.ensures.bits ∙ c.loop-k.invariant.bits;
       count = c.run_instruction.ensures.count ∙ c.loop-k.invariant.count;
-      lanes = lanes_on widths before after c.run_instruction.ensures.count c.run_instruction.ensures.bits c.loop-k.invariant.lanes;
-      rows = rows_on widths count old c.loop-k.invariant.rows new i sound size row c.run_instruction.ensures.long refl c.run_instruction.ensures.others c.run_instruction.ensures.row;
-      hold = hold_on widths count old c.loop-k.invariant.rows new i sound size row c.run_instruction.ensures.long refl c.run_instruction.ensures.others c.run_instruction.ensures.row code k c.requires.ordered at c.loop-k.invariant.hold;
+      ran = record {
+        rows = rows_on widths count old ran.rows new i sound size row c.run_instruction.ensures.long refl c.run_instruction.ensures.others c.run_instruction.ensures.row;
+        lanes = lanes_on widths before after c.run_instruction.ensures.count c.run_instruction.ensures.bits ran.lanes;
+        hold = hold_on widths count old ran.rows new i sound size row c.run_instruction.ensures.long refl c.run_instruction.ensures.others c.run_instruction.ensures.row code k c.requires.code.ordered at ran.hold;
+      };
       others = λ n none. c.run_instruction.ensures.others n (none k i at) ∙ c.loop-k.invariant.others n none;
     }

@@ -1,8 +1,8 @@
 use Rattle.std.proofs.Common.{◌≡◌, ℕ, ◌<◌, ◌^◌, length, map, subst, sym, arith}
 use Rattle.std.specs.Prelude.{slice_index}
 use Rattle.std.proofs.lemmas.List.{length-map}
-use Rattle.batch_rows.specs.Values.{row_bits, row_values, values_of}
-use Rattle.batch_rows.proofs.LaneRows.{in_row}
+use Rattle.lane_rows.specs.Values.{row_bits, row_values, values_of}
+use Rattle.lane_rows.proofs.LaneRows.{in_row}
 use Rattle.batch_rows.proofs.Running.{value_narrow}
 use Rattle.batch_rows.proofs.code.run_in.Goals as goal
 
@@ -14,6 +14,6 @@ put_row-requires-clause-fits g c = λ t l.
     let slots : length (values_of rows) ≡ length widths = c.requires.rows.slots in
     let long : length (values_of rows) ≡ length rows = length-map rows row_values in
     let inside : i.target < length rows = omega (arith, c.requires.sound.target, slots, long) in
-    let same : length c.make_row.new.bench.to.items ≡ length c.args.bench.now.to.items = c.make_row.ensures.room in
-    subst (λ (n : ℕ). n < 2 ^ slice_index (map row_bits rows) i.target) (sym (c.make_row.ensures.row t (in_row g.L.Lane.value c.make_row.new.bench.to.items t l)))
-    (value_narrow widths (length c.args.bench.now.to.items) (values_of rows) c.requires.rows (slice_index (map row_bits rows) i.target) i c.requires.sound (c.requires.lanes i.target inside) t (omega (arith, l, same)))
+    let same : length c.make_row.new.scratch.to.items ≡ length c.args.scratch.now.to.items = c.make_row.ensures.room in
+    subst (λ (n : ℕ). n < 2 ^ slice_index (map row_bits rows) i.target) (sym (c.make_row.ensures.row t (in_row g.L.Lane.value c.make_row.new.scratch.to.items t l)))
+    (value_narrow widths (length c.args.scratch.now.to.items) (values_of rows) c.requires.rows (slice_index (map row_bits rows) i.target) i c.requires.sound (c.requires.lanes i.target inside) t (omega (arith, l, same)))

@@ -1,6 +1,6 @@
 use Rattle.std.proofs.Common.{◌≡◌, ◌≤◌, ◌∙◌, length, map, arith}
 use Rattle.std.specs.Prelude.{slice_index}
-use Rattle.batch_rows.proofs.LaneRows.{in_row}
+use Rattle.lane_rows.proofs.LaneRows.{in_row}
 use Rattle.batch_rows.proofs.Masks.{alone_is}
 use Rattle.batch_rows.proofs.pairs.join_number_row.Goals as goal
 

@@ -1,6 +1,6 @@
 use Rattle.std.proofs.Common.{◌∙◌, ap, ◌<◌, length, map, rules}
 use Rattle.std.specs.Prelude.{slice_index}
-use Rattle.batch_rows.proofs.LaneRows.{one_more, read_is}
+use Rattle.lane_rows.proofs.LaneRows.{one_more, read_is}
 use Rattle.batch_rows.proofs.pairs.pair_row.Goals as goal
 
 pub loop-t-preserved : goal.loop-t-preserved

@@ -1,6 +1,6 @@
 use Rattle.std.proofs.Common.{◌≡◌, ◌∙◌, ap, ◌/◌, ◌%◌, ◌^◌, length, map, arith}
 use Rattle.std.specs.Prelude.{slice_index}
-use Rattle.batch_rows.proofs.LaneRows.{in_row}
+use Rattle.lane_rows.proofs.LaneRows.{in_row}
 use Rattle.batch_rows.proofs.Masks.{part_is}
 use Rattle.batch_rows.proofs.rights.part_row.Goals as goal
 

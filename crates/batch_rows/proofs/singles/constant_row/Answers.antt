@@ -1,5 +1,5 @@
 use Rattle.std.proofs.Common.{◌<◌, length, refl, rules}
-use Rattle.batch_rows.proofs.LaneRows.{one_more}
+use Rattle.lane_rows.proofs.LaneRows.{one_more}
 use Rattle.batch_rows.proofs.singles.constant_row.Goals as goal
 
 pub loop-t-preserved : goal.loop-t-preserved

@@ -1,7 +1,7 @@
 use Rattle.std.proofs.Common.{◌≡◌, ◌∙◌, ap, sym, List, length, refl, Some, rules}
 use Rattle.std.specs.Prelude.{slice_get}
 use Rattle.std.proofs.lemmas.Option.{slice_get_read}
-use Rattle.batch_rows.specs.declared.code.Size.{Size}
+use Rattle.lane_rows.specs.declared.row.Size.{Size}
 use Rattle.batch_rows.proofs.Sized.{sized_more}
 use Rattle.batch_rows.proofs.sizes.sizes_of.Goals as goal
 

@@ -1,8 +1,9 @@
 use Rattle.std.proofs.Common.{◌≡◌, ℕ, length, Some}
 use Rattle.std.specs.Prelude.{slice_get}
 use Rattle.batch_rows.specs.declared.code.Instruction.{Instruction}
-use Rattle.batch_rows.specs.declared.code.Size.{Size}
-use Rattle.batch_rows.specs.LaneSizes.{IsSized, bits_of}
+use Rattle.lane_rows.specs.declared.row.Size.{Size}
+use Rattle.batch_rows.specs.LaneSizes.{IsSized}
+use Rattle.lane_rows.specs.Values.{bits_of}
 use Rattle.batch_rows.proofs.sizes.sizes_of.Given as goal
 
 abbrev pub invariant-loop-k : goal.invariant-loop-k

@@ -1,9 +1,9 @@
-use Rattle.std.proofs.Common.{◌∙◌, ℕ, List, Vec, length, ap, sym, subst}
+use Rattle.std.proofs.Common.{◌∙◌, ℕ, List, Vec, length, ap, sym, subst, arith}
 use Rattle.std.specs.declared.alloc.Global.{Global}
 use Rattle.cycle_sim.specs.Slots.{words_of}
-use Rattle.batch_rows.specs.Values.{values_of}
-use Rattle.batch_code.specs.declared.code.WordRead.{WordRead}
-use Rattle.batch_code.specs.declared.code.WordPut.{WordPut}
+use Rattle.lane_rows.specs.Values.{values_of}
+use Rattle.batch_rows.specs.declared.module_code.WordRead.{WordRead}
+use Rattle.batch_rows.specs.declared.module_code.WordPut.{WordPut}
 use Rattle.batch_sim.specs.Arrays.{AreAccessRows, AreKept, ArePut}
 use Rattle.batch_sim.specs.Checked.{AreRegisterRows}
 use Rattle.batch_sim.proofs.Judged.{judged_by}
@@ -22,7 +22,7 @@ returns-clause-yes c = λ _.
     let right = c.if-not-are_right.false in
     let passed = c.if-not-pass_arrays.false in
     let arrays = c.deref_mut.ensures.value in
-    judged_by c.args.engine.now rows c.args.piece.now c.args.held.now c.take_registers.new.regs c.pass_arrays.new.arrays
+    judged_by c.args.engine.now rows c.args.piece.now c.args.stored.now c.take_registers.new.regs c.pass_arrays.new.arrays
     (c.take_registers.auto.regs ∙ ap (λ (h : List ℕ). length h) c.deref_mut-3.ensures.value)
     (c.pass_arrays.auto.arrays ∙ ap (λ (a : List (Vec ℕ Global)). length a) arrays)
     (c.are_right.ensures.given right)
@@ -33,3 +33,9 @@ returns-clause-yes c = λ _.
     (subst (λ (a : List (Vec ℕ Global)). ArePut rows code.puts.items count (words_of a) (words_of c.pass_arrays.new.arrays) (length a)) arrays
     (subst (λ (ps : List WordPut). ArePut rows ps count (words_of c.deref_mut.result.now) (words_of c.pass_arrays.new.arrays) (length c.deref_mut.result.now)) c.deref-3.ensures.value (c.pass_arrays.ensures.put passed)))
     c.take_registers.ensures
+
+pub pass_arrays-requires-clause-room : goal.pass_arrays-requires-clause-room
+pass_arrays-requires-clause-room c = record {
+  spares = c.requires.room.spares;
+  to = omega (arith, c.are_right.ensures.spare, c.requires.room.to);
+}

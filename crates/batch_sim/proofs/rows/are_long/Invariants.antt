@@ -1,6 +1,6 @@
 use Rattle.std.proofs.Common.{◌≤◌, ◌<◌, ℕ, [], length}
 use Rattle.std.specs.Prelude.{slice_index_or}
-use Rattle.batch_rows.specs.Rights.{items_of}
+use Rattle.lane_rows.specs.Values.{items_of}
 use Rattle.batch_sim.proofs.rows.are_long.Given as goal
 
 abbrev pub invariant-loop-x : goal.invariant-loop-x

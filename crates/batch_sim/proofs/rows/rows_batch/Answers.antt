@@ -1,8 +1,8 @@
 use Rattle.std.proofs.Common.{ℕ, ◌<◌, List, length, subst}
-use Rattle.batch_rows.specs.declared.row.Row.{Row}
-use Rattle.batch_rows.specs.Values.{values_of}
+use Rattle.lane_rows.specs.declared.row.Row.{Row}
+use Rattle.lane_rows.specs.Values.{values_of}
 use Rattle.batch_sim.specs.Called.{batch_clocks, of_clock}
-use Rattle.batch_sim.specs.Held.{contents_in}
+use Rattle.batch_sim.specs.Stored.{contents_in}
 use Rattle.batch_sim.specs.Shown.{AreRowOuts}
 use Rattle.batch_sim.proofs.Rowwise.{piece_long, piece_shown}
 use Rattle.batch_sim.proofs.rows.rows_batch.Goals as goal
@@ -12,7 +12,5 @@ returns-clause-ran c = λ _ from old came.
     let m = c.args.sim.now.netlist in
     let r = c.run_piece.new.rows in
     let clocks = batch_clocks m c.args.piece.now.inputs.enables.now c.args.piece.now.inputs.dins.now in
-    let shown : (t : ℕ) → t < c.args.piece.now.count → AreRowOuts (values_of r.table.rows.items) r.engine.code.first_output t c.outputs-outputs.result (of_clock c.outputs-outputs.result t c.show_rows.new.outs) =
-    λ t l. subst (λ (rs : List Row). AreRowOuts (values_of rs) r.engine.code.first_output t c.outputs-outputs.result (of_clock c.outputs-outputs.result t c.show_rows.new.outs)) c.deref.ensures.value (c.show_rows.ensures t l) in
-    piece_shown m clocks from (contents_in c.args.held.now) (contents_in c.run_piece.new.held) old c.args.outs.now c.show_rows.new.outs c.args.piece.now.first c.args.piece.now.count c.outputs-outputs.result (length c.args.piece.now.inputs.enables.now) r.engine.code.first_output (values_of r.table.rows.items) c.run_piece.ensures.rows.engine.code.slots.first_output c.outputs-outputs.ensures
-    (c.run_piece.ensures.ran c.if-not-run_piece.false) (piece_long m c.args.piece.now.inputs.enables.now c.args.piece.now.inputs.dins.now c.args.piece.now.first c.args.piece.now.count c.requires.piece.within) c.requires.piece.within c.requires.outs c.show_rows.auto.outs shown came
+    piece_shown m clocks from (contents_in c.args.stored.now) (contents_in c.run_piece.new.stored) old c.args.outs.now c.show_guess.new.outs c.args.piece.now.first c.args.piece.now.count c.outputs-outputs.result (length c.args.piece.now.inputs.enables.now) r.guess.engine.code.first_output (values_of r.guess.rows) c.run_piece.ensures.rows.engine.code.slots.first_output c.outputs-outputs.ensures
+    (c.run_piece.ensures.ran c.if-not-run_piece.false) (piece_long m c.args.piece.now.inputs.enables.now c.args.piece.now.inputs.dins.now c.args.piece.now.first c.args.piece.now.count c.requires.piece.within) c.requires.piece.within c.requires.outs c.show_guess.auto.outs c.show_guess.ensures came

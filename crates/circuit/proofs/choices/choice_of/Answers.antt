@@ -14,7 +14,7 @@ use Rattle.circuit.proofs.choices.choice_of.Goals as goal
 pub loop-read-init : goal.loop-read-init
 loop-read-init c =
     let r = c.args.reader.now in
-    record { adds = tests_none c.args.b.now c.args.tests.now; tests = c.requires.tests; choice = λ first inc. choice_none c.args.b.now first r.plan.now r.taps.now r.image (leaf_at c.args.g c.args.steps.now) (width_of (type_at r.ir.now c.args.g)) }
+    record { adds = tests_none c.args.b.now c.args.tests.now; tests = c.requires.tests; choice = λ first inc. choice_none c.args.b.now first r.plan.now r.taps.now r.image (leaf_at c.args.leaf.image c.args.leaf.steps.now) (width_of (type_at r.ir.now c.args.leaf.image)) }
 
 pub with_read-requires-clause-reading : goal.with_read-requires-clause-reading
 with_read-requires-clause-reading c =
@@ -39,7 +39,7 @@ loop-read-preserved c =
       adds = tests_on c.args.b.now c.loop-read.b c.with_read.new.b c.args.tests.now c.loop-read.tests c.with_read.new.tests c.loop-read.invariant.adds c.in_ok-choice.ensures.adds;
       tests = c.in_ok-choice.ensures.tests;
       choice = λ first inc.
-          subst (λ (rs : List LiveRead). IsChoice c.with_read.new.b first r.plan.now r.taps.now r.image rs (leaf_at c.args.g c.args.steps.now) (width_of (type_at r.ir.now c.args.g)) c.in_ok-choice.choice) (sym (take_more items i _ c.loop-read-test.true))
+          subst (λ (rs : List LiveRead). IsChoice c.with_read.new.b first r.plan.now r.taps.now r.image rs (leaf_at c.args.leaf.image c.args.leaf.steps.now) (width_of (type_at r.ir.now c.args.leaf.image)) c.in_ok-choice.choice) (sym (take_more items i _ c.loop-read-test.true))
           (c.in_ok-choice.ensures.choice first (take i items) (includes_on first c.args.b.now c.loop-read.b inc c.loop-read.invariant.adds.includes) (c.loop-read.invariant.choice first inc));
     }
 
@@ -56,4 +56,4 @@ returns-clause-choice c first inc =
     let i = c.loop-read.read-index in
     let long : length items ≤ i = omega (arith, c.loop-read-test.false) in
     let whole = take_all i items long ∙ c.reads-read-items.ensures in
-    subst (λ (rs : List LiveRead). IsChoice c.loop-read.b first r.plan.now r.taps.now r.image rs (leaf_at c.args.g c.args.steps.now) (width_of (type_at r.ir.now c.args.g)) c.loop-read.choice) whole (c.loop-read.invariant.choice first inc)
+    subst (λ (rs : List LiveRead). IsChoice c.loop-read.b first r.plan.now r.taps.now r.image rs (leaf_at c.args.leaf.image c.args.leaf.steps.now) (width_of (type_at r.ir.now c.args.leaf.image)) c.loop-read.choice) whole (c.loop-read.invariant.choice first inc)

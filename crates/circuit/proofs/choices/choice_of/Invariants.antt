@@ -13,5 +13,5 @@ abbrev pub invariant-loop-read : goal.invariant-loop-read
 invariant-loop-read l = record {
   adds : AddsTests l.b l.fn.b l.tests l.fn.tests;
   tests : AreFrameTests l.b (size_in l.reader.plan.now) l.tests;
-  choice : (first : Netlist) → Includes l.fn.b first → IsChoice l.b first l.reader.plan.now l.reader.taps.now l.reader.image (take l.read-index l.read-items) (leaf_at l.g l.steps) (width_of (type_at l.reader.ir.now l.g)) l.choice;
+  choice : (first : Netlist) → Includes l.fn.b first → IsChoice l.b first l.reader.plan.now l.reader.taps.now l.reader.image (take l.read-index l.read-items) (leaf_at l.leaf.image l.leaf.steps.now) (width_of (type_at l.reader.ir.now l.leaf.image)) l.choice;
 }

@@ -8,7 +8,7 @@ use Rattle.edge_select.specs.Steps.{LeadBy}
 use Rattle.edge_select.specs.Pixels.{AllPass, NonePass}
 use Rattle.net_build.proofs.Grown.{net_more, width_more}
 use Rattle.circuit.specs.Taps.{size_in}
-use Rattle.circuit.specs.Reads.{IsPixelTest, chosen_by, choice_nets}
+use Rattle.circuit.specs.Reads.{chosen_by, choice_nets}
 use Rattle.circuit.specs.Leaves.{leaf_at}
 use Rattle.edge_select.proofs.Framed.{tests_more}
 use Rattle.circuit.proofs.Placing.{tests_none, tests_logic, columns_below, rows_below}
@@ -112,11 +112,9 @@ pub returns-in_ok-net-in-Sometimes-clause-choice : goal.returns-in_ok-net-in-Som
 returns-in_ok-net-in-Sometimes-clause-choice c first reads inc before =
     let r = c.args.reader.now in
     let own = own_read c.args.b.now r.ir.now r.plan.now r.taps.now r.image c.args.read c.law.ensures c.requires.reading c.requires.read in
-    let across : FitsSigned w32 c.args.read.dx = search rules in
-    let down : FitsSigned w32 c.args.read.dy = search rules in
     let tap = c.tap_of-tap.result in
     let test = c.in_ok-test-in-Sometimes.test in
     let net = c.in_ok-net-in-Sometimes.net in
     let one = subst (λ (w : ℕ). Computes c.chosen_by.new.b c.test_at.new.b (test ∷ (tap ∷ choice_nets c.args.before)) w (chosen_by test tap c.args.before) net) (c.width.ensures ∙ own.bits) c.in_ok-net-in-Sometimes.ensures.net in
     choice_tested c.chosen_by.new.b c.test_at.new.b c.args.b.now first r.plan.now r.taps.now r.image reads c.args.read (leaf_at c.args.read.g c.args.steps.now) _ c.args.before test tap net refl c.tap_of-tap.ensures
-    c.in_ok-net-in-Sometimes.ensures.logic.includes c.in_ok-test-in-Sometimes.ensures.adds.includes inc (told (λ (x y : ℤ). IsPixelTest c.test_at.new.b r.plan.now r.image (LeadBy (size_in r.plan.now) c.args.steps.now x y) test) c.args.read.dx c.args.read.dy across down c.in_ok-test-in-Sometimes.ensures.test) one before
+    c.in_ok-net-in-Sometimes.ensures.logic.includes c.in_ok-test-in-Sometimes.ensures.adds.includes inc c.in_ok-test-in-Sometimes.ensures.test one before

@@ -15,4 +15,4 @@ returns-in_ok-push-in-Some-clause-leaves c =
     let before = c.args.leaves.now in
     let now : BodyLeaves = record { nets = record { reads = c.push.new.self; bits = before.nets.bits }; known = before.known } in
     let is = subst (λ (l : LeafRead). IsKnownNet before.nets.reads.items before.known l c.in-Some.net) c.in_ok-key.ensures c.in-Some.ensures in
-    leaves_known r.ir.now r.plan.now r.taps.now r.image c.args.b.now now before (leaf_at c.args.g c.args.steps.now) c.in-Some.net c.in_ok-push-in-Some.ensures.items refl refl is
+    leaves_known r.ir.now r.plan.now r.taps.now r.image c.args.b.now now before (leaf_at c.args.leaf.image c.args.leaf.steps.now) c.in-Some.net c.in_ok-push-in-Some.ensures.items refl refl is

@@ -7,4 +7,4 @@ use Rattle.circuit.proofs.leaves.push_read.Goals as goal
 pub returns-clause-leaves : goal.returns-clause-leaves
 returns-clause-leaves c =
     let r = c.args.reader.now in
-    subst (λ (steps : List Step). AddsLeaves c.push_net.new.b c.args.b.now r.ir.now r.plan.now r.taps.now r.image (leaf_at c.args.g steps ∷ []) [] c.push_net.new.leaves c.args.leaves.now) (c.deref.ensures.value ∙ c.in_ok-push.ensures.items) c.in_ok-push_net.ensures.leaves
+    subst (λ (steps : List Step). AddsLeaves c.push_net.new.b c.args.b.now r.ir.now r.plan.now r.taps.now r.image (leaf_at c.args.read.image steps ∷ []) [] c.push_net.new.leaves c.args.leaves.now) (c.deref.ensures.value ∙ c.in_ok-push.ensures.items) c.in_ok-push_net.ensures.leaves

@@ -1,10 +1,9 @@
 use Rattle.std.proofs.Common.{refl}
-use Rattle.dk_parser.specs.Tree.{tree_of}
 use Rattle.dk_types.proofs.Rules as R
 use Rattle.dk_types.proofs.expression.cast.Goals as goal
 
 pub returns : goal.returns
-returns c = λ scope h. record {
-  has = R.cast_is scope c.args.span (tree_of c.args.a.now) c.args.to c.args.operand c.in_ok-new.field-0.value c.args.to.ty c.in_ok-new.ensures.ok refl c.requires h.has;
+returns c = λ scope a h. record {
+  has = R.cast_is scope c.args.span a c.args.to c.args.operand c.in_ok-new.field-0.value c.args.to.ty c.in_ok-new.ensures.ok refl c.requires h.has;
   is_type = c.requires;
 }

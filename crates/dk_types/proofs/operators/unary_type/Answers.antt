@@ -6,11 +6,11 @@ returns-in-Not-clause-faulty c = λ scope a e h te pe.
     R.told_unary scope c.args.span c.args.first c.args.operator a e c.args.operand c.result_type.result c.fault.result _ c.fault.ensures
     (R.not_bit c.args.operator c.args.span c.args.first c.in-Not.is) c.result_type.ensures.value c.in-None.is h te pe
 
-pub returns-in_default : goal.returns-in_default
-returns-in_default c = record {
+pub returns-in-Negate : goal.returns-in-Negate
+returns-in-Negate c = record {
   typed = tt;
   is_type = tt;
   faulty = λ scope a e h te pe.
-      R.told_unary scope c.args.span c.args.first c.args.operator a e c.args.operand c.result_type.result c.fault-in_default.result _ c.fault-in_default.ensures
-      (R.not_not c.args.operator c.args.span c.args.first c.in_default.not-Not) c.result_type.ensures.value c.in-None.is h te pe;
+      R.told_unary scope c.args.span c.args.first c.args.operator a e c.args.operand c.result_type.result c.fault-in-Negate.result _ c.fault-in-Negate.ensures
+      (R.not_not c.args.operator c.args.span c.args.first (R.other_than_not c.args.operator c.in-Negate.is)) c.result_type.ensures.value c.in-None.is h te pe;
 }

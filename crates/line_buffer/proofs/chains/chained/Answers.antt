@@ -12,29 +12,29 @@ pub loop-age-init : goal.loop-age-init
 loop-age-init c = record {
   includes = Includes-refl c.args.b.now;
   turns = c.requires.turns;
-  chained = subst (λ taps. IsChained c.args.b.now c.args.b.now c.args.width (is_long c.args.least) c.args.value [] taps (record { age = 0; net = c.args.value })) (sym c.new-nets.ensures.items)
-      (chained_none c.args.b.now c.args.width (is_long c.args.least) c.args.value (record { age = 0; net = c.args.value }) c.requires.net c.requires.wide refl refl);
+  chained = subst (λ taps. IsChained c.args.b.now c.args.b.now c.args.image.width (is_long c.args.least) c.args.image.net [] taps (record { age = 0; net = c.args.image.net })) (sym c.new-nets.ensures.items)
+      (chained_none c.args.b.now c.args.image.width (is_long c.args.least) c.args.image.net (record { age = 0; net = c.args.image.net }) c.requires.image.there c.requires.image.wide refl refl);
 }
 
 pub next_tap-requires-clause-up : goal.next_tap-requires-clause-up
-next_tap-requires-clause-up c = up_next c.args.ages.now c.loop-age.age-index c.loop-age.last.age c.requires.ascending c.loop-age-test.true c.loop-age.invariant.chained.age_is
+next_tap-requires-clause-up c = up_next c.args.image.ages.now c.loop-age.age-index c.loop-age.last.age c.requires.image.ascending c.loop-age-test.true c.loop-age.invariant.chained.age_is
 
 pub loop-age-preserved : goal.loop-age-preserved
 loop-age-preserved c =
     let i : ℕ = c.loop-age.age-index in
-    let age : ℕ = slice_index_or c.args.ages.now i 0 in
+    let age : ℕ = slice_index_or c.args.image.ages.now i 0 in
     let more : c.push.new.self.items ≡ c.loop-age.nets.items ++ c.in_ok-last.last.net ∷ [] = search rules in
     record {
       includes = includes_on _ _ _ c.loop-age.invariant.includes c.next_tap.ensures.includes;
       turns = c.in_ok-last.ensures.turns;
       chained =
-          subst (λ ages. IsChained c.next_tap.new.b c.args.b.now c.args.width (is_long c.args.least) c.args.value ages c.push.new.self.items c.in_ok-last.last) (sym (take_more c.args.ages.now i 0 c.loop-age-test.true))
-          (subst (λ taps. IsChained c.next_tap.new.b c.args.b.now c.args.width (is_long c.args.least) c.args.value (take i c.args.ages.now ++ age ∷ []) taps c.in_ok-last.last) (sym more)
-          (chained_more c.args.b.now c.loop-age.b c.next_tap.new.b c.args.width (is_long c.args.least) c.args.value (take i c.args.ages.now) c.loop-age.nets.items c.loop-age.last c.in_ok-last.last age c.loop-age.invariant.chained c.in_ok-last.ensures.step (below_next c.args.ages.now i c.requires.ascending c.loop-age-test.true)));
+          subst (λ ages. IsChained c.next_tap.new.b c.args.b.now c.args.image.width (is_long c.args.least) c.args.image.net ages c.push.new.self.items c.in_ok-last.last) (sym (take_more c.args.image.ages.now i 0 c.loop-age-test.true))
+          (subst (λ taps. IsChained c.next_tap.new.b c.args.b.now c.args.image.width (is_long c.args.least) c.args.image.net (take i c.args.image.ages.now ++ age ∷ []) taps c.in_ok-last.last) (sym more)
+          (chained_more c.args.b.now c.loop-age.b c.next_tap.new.b c.args.image.width (is_long c.args.least) c.args.image.net (take i c.args.image.ages.now) c.loop-age.nets.items c.loop-age.last c.in_ok-last.last age c.loop-age.invariant.chained c.in_ok-last.ensures.step (below_next c.args.image.ages.now i c.requires.image.ascending c.loop-age-test.true)));
     }
 
 pub returns-clause-chain : goal.returns-clause-chain
 returns-clause-chain c =
-    let all = take_all c.loop-age.age-index c.args.ages.now c.loop-age-test.false in
-    chained_chain c.loop-age.b c.args.b.now c.args.width (is_long c.args.least) c.args.value c.args.ages.now c.loop-age.nets.items c.loop-age.last c.requires.ascending (width_more c.loop-age.b c.args.b.now c.loop-age.invariant.includes c.args.value c.requires.net.declared ∙ c.requires.wide)
-    (subst (λ ages. IsChained c.loop-age.b c.args.b.now c.args.width (is_long c.args.least) c.args.value ages c.loop-age.nets.items c.loop-age.last) all c.loop-age.invariant.chained)
+    let all = take_all c.loop-age.age-index c.args.image.ages.now c.loop-age-test.false in
+    chained_chain c.loop-age.b c.args.b.now c.args.image.width (is_long c.args.least) c.args.image.net c.args.image.ages.now c.loop-age.nets.items c.loop-age.last c.requires.image.ascending (width_more c.loop-age.b c.args.b.now c.loop-age.invariant.includes c.args.image.net c.requires.image.there.declared ∙ c.requires.image.wide)
+    (subst (λ ages. IsChained c.loop-age.b c.args.b.now c.args.image.width (is_long c.args.least) c.args.image.net ages c.loop-age.nets.items c.loop-age.last) all c.loop-age.invariant.chained)

@@ -9,5 +9,5 @@ abbrev pub invariant-loop-age : goal.invariant-loop-age
 invariant-loop-age l = record {
   includes : Includes l.b l.fn.b;
   turns : AreTurns l.b l.turns;
-  chained : IsChained l.b l.fn.b l.width (is_long l.least) l.fn.value (take l.age-index l.ages) l.nets.items l.last;
+  chained : IsChained l.b l.fn.b l.image.width (is_long l.least) l.image.net (take l.age-index l.image.ages.now) l.nets.items l.last;
 }

@@ -19,7 +19,7 @@ use Rattle.line_buffer.proofs.lines.delay_line.Goals as goal
 pub op-requires : goal.op-requires
 op-requires c =
     word_operation c.array.new.self c.in_ok-array.array (atom.Net c.in_ok-index.index) _ (record { width = c.args.width; depth = c.args.words }) c.in_ok-array.ensures.shape c.requires.bits
-    (operand_more c.array.new.self c.turning_index.new.b (atom.Net c.in_ok-index.index) _ c.array.ensures.includes (net_operand c.turning_index.new.b c.in_ok-index.index _ c.in_ok-index.ensures.net c.in_ok-index.ensures.width))
+    (operand_more c.array.new.self c.turning_index.new.b (atom.Net c.in_ok-index.index) _ c.array.ensures.includes (net_operand c.turning_index.new.b c.in_ok-index.index _ c.in_ok-index.ensures.turn.there c.in_ok-index.ensures.turn.width))
 
 pub stored_net-requires-clause-next : goal.stored_net-requires-clause-next
 stored_net-requires-clause-next c = net_more c.op.new.self c.args.b.now (includes_on _ _ _ c.turning_index.ensures.includes (includes_on _ _ _ c.array.ensures.includes c.op.ensures.includes)) c.args.value c.requires.value
@@ -28,7 +28,7 @@ pub stored_net-requires-clause-next_width : goal.stored_net-requires-clause-next
 stored_net-requires-clause-next_width c = width_more c.op.new.self c.args.b.now (includes_on _ _ _ c.turning_index.ensures.includes (includes_on _ _ _ c.array.ensures.includes c.op.ensures.includes)) c.args.value c.requires.value.declared ∙ c.requires.width
 
 pub put-requires-clause-index : goal.put-requires-clause-index
-put-requires-clause-index c = net_more c.stored_net.new.b c.turning_index.new.b (includes_on _ _ _ c.array.ensures.includes (includes_on _ _ _ c.op.ensures.includes c.stored_net.ensures.logic.includes)) c.in_ok-index.index c.in_ok-index.ensures.net
+put-requires-clause-index c = net_more c.stored_net.new.b c.turning_index.new.b (includes_on _ _ _ c.array.ensures.includes (includes_on _ _ _ c.op.ensures.includes c.stored_net.ensures.logic.includes)) c.in_ok-index.index c.in_ok-index.ensures.turn.there
 
 pub returns-in_err-stored-clause-includes : goal.returns-in_err-stored-clause-includes
 returns-in_err-stored-clause-includes c = includes_on _ _ _ c.turning_index.ensures.includes (includes_on _ _ _ c.array.ensures.includes (includes_on _ _ _ c.op.ensures.includes c.stored_net.ensures.logic.includes))
@@ -36,54 +36,32 @@ returns-in_err-stored-clause-includes c = includes_on _ _ _ c.turning_index.ensu
 pub returns-clause-includes : goal.returns-clause-includes
 returns-clause-includes c = includes_on _ _ _ c.turning_index.ensures.includes (includes_on _ _ _ c.array.ensures.includes (includes_on _ _ _ c.op.ensures.includes (includes_on _ _ _ c.stored_net.ensures.logic.includes c.put.ensures.includes)))
 
-pub returns-clause-array : goal.returns-clause-array
-returns-clause-array c =
-    first_is c.args.b.now c.turning_index.new.b c.array.new.self c.op.new.self c.stored_net.new.b c.put.new.self c.args.width c.args.words c.in_ok-array.array c.in_ok-index.index c.args.value c.in_ok-word.word c.in_ok-stored.stored c.in_ok-index.ensures.adds c.in_ok-index.ensures.index c.in_ok-index.ensures.control c.requires.words.0
-    c.in_ok-array.ensures.ok c.in_ok-array.ensures.number c.in_ok-array.ensures.shape c.array.ensures.includes c.op.ensures.includes c.in_ok-word.ensures.ok c.op.ensures.wires c.in_ok-word.ensures.value c.stored_net.ensures.logic c.in_ok-stored.ensures.net c.put.ensures.includes c.put.ensures.update c.put.ensures.edge c.in_ok-word.ensures.made c.in_ok-stored.ensures.right
+pub returns-clause-turns : goal.returns-clause-turns
+returns-clause-turns c = turns_more c.put.new.self c.turning_index.new.b c.turning_index.new.turns (includes_on _ _ _ c.array.ensures.includes (includes_on _ _ _ c.op.ensures.includes (includes_on _ _ _ c.stored_net.ensures.logic.includes c.put.ensures.includes))) c.in_ok-index.ensures.turns
 
 pub returns-clause-line : goal.returns-clause-line
 returns-clause-line c =
-    line_is c.args.b.now c.turning_index.new.b c.array.new.self c.op.new.self c.stored_net.new.b c.put.new.self c.args.width c.args.words c.in_ok-array.array c.in_ok-index.index c.args.value c.in_ok-word.word c.in_ok-stored.stored c.in_ok-index.ensures.adds c.in_ok-index.ensures.index c.in_ok-index.ensures.control c.requires.words.0
-    c.in_ok-array.ensures.ok c.in_ok-array.ensures.number c.in_ok-array.ensures.shape c.array.ensures.includes c.op.ensures.includes c.in_ok-word.ensures.ok c.op.ensures.wires c.in_ok-word.ensures.value c.stored_net.ensures.logic c.in_ok-stored.ensures.net c.put.ensures.includes c.put.ensures.update c.put.ensures.edge c.in_ok-word.ensures.made c.in_ok-stored.ensures.right
-
-pub returns-clause-adds : goal.returns-clause-adds
-returns-clause-adds c =
-    line_adds c.args.b.now c.turning_index.new.b c.array.new.self c.op.new.self c.stored_net.new.b c.put.new.self c.args.width c.args.words c.in_ok-array.array c.in_ok-index.index c.args.value c.in_ok-word.word c.in_ok-stored.stored c.in_ok-index.ensures.adds c.in_ok-index.ensures.index c.in_ok-index.ensures.control c.requires.words.0
-    c.in_ok-array.ensures.ok c.in_ok-array.ensures.number c.in_ok-array.ensures.shape c.array.ensures.includes c.op.ensures.includes c.in_ok-word.ensures.ok c.op.ensures.wires c.in_ok-word.ensures.value c.stored_net.ensures.logic c.in_ok-stored.ensures.net c.put.ensures.includes c.put.ensures.update c.put.ensures.edge c.in_ok-word.ensures.made c.in_ok-stored.ensures.right
-
-pub returns-clause-made : goal.returns-clause-made
-returns-clause-made c =
-    word_made c.args.b.now c.turning_index.new.b c.array.new.self c.op.new.self c.stored_net.new.b c.put.new.self c.args.width c.args.words c.in_ok-array.array c.in_ok-index.index c.args.value c.in_ok-word.word c.in_ok-stored.stored c.in_ok-index.ensures.adds c.in_ok-index.ensures.index c.in_ok-index.ensures.control c.requires.words.0
-    c.in_ok-array.ensures.ok c.in_ok-array.ensures.number c.in_ok-array.ensures.shape c.array.ensures.includes c.op.ensures.includes c.in_ok-word.ensures.ok c.op.ensures.wires c.in_ok-word.ensures.value c.stored_net.ensures.logic c.in_ok-stored.ensures.net c.put.ensures.includes c.put.ensures.update c.put.ensures.edge c.in_ok-word.ensures.made c.in_ok-stored.ensures.right
-    c.in_ok-word.ensures.made_of
-
-pub returns-clause-word : goal.returns-clause-word
-returns-clause-word c = net_more c.put.new.self c.op.new.self (includes_on _ _ _ c.stored_net.ensures.logic.includes c.put.ensures.includes) c.in_ok-word.word c.in_ok-word.ensures.net
-
-pub returns-clause-word_width : goal.returns-clause-word_width
-returns-clause-word_width c =
-    width_more c.put.new.self c.op.new.self (includes_on _ _ _ c.stored_net.ensures.logic.includes c.put.ensures.includes) c.in_ok-word.word c.in_ok-word.ensures.net.declared
-    ∙ c.in_ok-word.ensures.width
-    ∙ ap (λ o. unwrap_or (option_map (λ (s : Shape). s.width) o) 0) c.in_ok-array.ensures.shape
-
-pub returns-clause-index : goal.returns-clause-index
-returns-clause-index c = index_more c.put.new.self c.turning_index.new.b c.args.words c.in_ok-index.index (includes_on _ _ _ c.array.ensures.includes (includes_on _ _ _ c.op.ensures.includes (includes_on _ _ _ c.stored_net.ensures.logic.includes c.put.ensures.includes))) c.in_ok-index.ensures.index
-
-pub returns-clause-index_net : goal.returns-clause-index_net
-returns-clause-index_net c = net_more c.put.new.self c.turning_index.new.b (includes_on _ _ _ c.array.ensures.includes (includes_on _ _ _ c.op.ensures.includes (includes_on _ _ _ c.stored_net.ensures.logic.includes c.put.ensures.includes))) c.in_ok-index.index c.in_ok-index.ensures.net
-
-pub returns-clause-index_width : goal.returns-clause-index_width
-returns-clause-index_width c = width_more c.put.new.self c.turning_index.new.b (includes_on _ _ _ c.array.ensures.includes (includes_on _ _ _ c.op.ensures.includes (includes_on _ _ _ c.stored_net.ensures.logic.includes c.put.ensures.includes))) c.in_ok-index.index c.in_ok-index.ensures.net.declared ∙ c.in_ok-index.ensures.width
-
-pub returns-clause-index_control : goal.returns-clause-index_control
-returns-clause-index_control c =
-    let f : Includes c.put.new.self c.turning_index.new.b = includes_on _ _ _ c.array.ensures.includes (includes_on _ _ _ c.op.ensures.includes (includes_on _ _ _ c.stored_net.ensures.logic.includes c.put.ensures.includes)) in
-    subst (λ e. IsMadeOf c.put.new.self (is_control e) (OfNet c.in_ok-index.index)) (sym f.enable) (made_more c.put.new.self c.turning_index.new.b (is_control c.turning_index.new.b.enable) f c.in_ok-index.ensures.control)
-
-pub returns-clause-once : goal.returns-clause-once
-returns-clause-once c =
-    line_once c.args.b.now c.turning_index.new.b c.array.new.self c.op.new.self c.stored_net.new.b c.put.new.self (record { width = c.args.width; depth = c.args.words }) c.in_ok-array.array c.in_ok-index.index c.in_ok-stored.stored c.in_ok-word.word c.in_ok-index.ensures.adds c.law.ensures.draft
-    c.in_ok-array.ensures.number c.in_ok-array.ensures.ok c.in_ok-array.ensures.free c.in_ok-word.ensures.made c.in_ok-word.ensures.ok c.op.ensures.wires c.stored_net.ensures.logic c.put.ensures.update
-
-pub returns-clause-turns : goal.returns-clause-turns
-returns-clause-turns c = turns_more c.put.new.self c.turning_index.new.b c.turning_index.new.turns (includes_on _ _ _ c.array.ensures.includes (includes_on _ _ _ c.op.ensures.includes (includes_on _ _ _ c.stored_net.ensures.logic.includes c.put.ensures.includes))) c.in_ok-index.ensures.turns
+    let grown : Includes c.put.new.self c.turning_index.new.b = includes_on _ _ _ c.array.ensures.includes (includes_on _ _ _ c.op.ensures.includes (includes_on _ _ _ c.stored_net.ensures.logic.includes c.put.ensures.includes)) in
+    record {
+      adds = line_adds c.args.b.now c.turning_index.new.b c.array.new.self c.op.new.self c.stored_net.new.b c.put.new.self c.args.width c.args.words c.in_ok-array.array c.in_ok-index.index c.args.value c.in_ok-word.word c.in_ok-stored.stored c.in_ok-index.ensures.adds c.in_ok-index.ensures.turn.counter c.in_ok-index.ensures.turn.control c.requires.words.0
+          c.in_ok-array.ensures.ok c.in_ok-array.ensures.number c.in_ok-array.ensures.shape c.array.ensures.includes c.op.ensures.includes c.in_ok-word.ensures.ok c.op.ensures.wires c.in_ok-word.ensures.value c.stored_net.ensures.logic c.in_ok-stored.ensures.net c.put.ensures.includes c.put.ensures.update c.put.ensures.edge c.in_ok-word.ensures.made c.in_ok-stored.ensures.right;
+      array = first_is c.args.b.now c.turning_index.new.b c.array.new.self c.op.new.self c.stored_net.new.b c.put.new.self c.args.width c.args.words c.in_ok-array.array c.in_ok-index.index c.args.value c.in_ok-word.word c.in_ok-stored.stored c.in_ok-index.ensures.adds c.in_ok-index.ensures.turn.counter c.in_ok-index.ensures.turn.control c.requires.words.0
+          c.in_ok-array.ensures.ok c.in_ok-array.ensures.number c.in_ok-array.ensures.shape c.array.ensures.includes c.op.ensures.includes c.in_ok-word.ensures.ok c.op.ensures.wires c.in_ok-word.ensures.value c.stored_net.ensures.logic c.in_ok-stored.ensures.net c.put.ensures.includes c.put.ensures.update c.put.ensures.edge c.in_ok-word.ensures.made c.in_ok-stored.ensures.right;
+      delays = line_is c.args.b.now c.turning_index.new.b c.array.new.self c.op.new.self c.stored_net.new.b c.put.new.self c.args.width c.args.words c.in_ok-array.array c.in_ok-index.index c.args.value c.in_ok-word.word c.in_ok-stored.stored c.in_ok-index.ensures.adds c.in_ok-index.ensures.turn.counter c.in_ok-index.ensures.turn.control c.requires.words.0
+          c.in_ok-array.ensures.ok c.in_ok-array.ensures.number c.in_ok-array.ensures.shape c.array.ensures.includes c.op.ensures.includes c.in_ok-word.ensures.ok c.op.ensures.wires c.in_ok-word.ensures.value c.stored_net.ensures.logic c.in_ok-stored.ensures.net c.put.ensures.includes c.put.ensures.update c.put.ensures.edge c.in_ok-word.ensures.made c.in_ok-stored.ensures.right;
+      once = line_once c.args.b.now c.turning_index.new.b c.array.new.self c.op.new.self c.stored_net.new.b c.put.new.self (record { width = c.args.width; depth = c.args.words }) c.in_ok-array.array c.in_ok-index.index c.in_ok-stored.stored c.in_ok-word.word c.in_ok-index.ensures.adds c.law.ensures.draft
+          c.in_ok-array.ensures.number c.in_ok-array.ensures.ok c.in_ok-array.ensures.free c.in_ok-word.ensures.made c.in_ok-word.ensures.ok c.op.ensures.wires c.stored_net.ensures.logic c.put.ensures.update;
+      word = net_more c.put.new.self c.op.new.self (includes_on _ _ _ c.stored_net.ensures.logic.includes c.put.ensures.includes) c.in_ok-word.word c.in_ok-word.ensures.net;
+      word_width = width_more c.put.new.self c.op.new.self (includes_on _ _ _ c.stored_net.ensures.logic.includes c.put.ensures.includes) c.in_ok-word.word c.in_ok-word.ensures.net.declared
+          ∙ c.in_ok-word.ensures.width
+          ∙ ap (λ o. unwrap_or (option_map (λ (s : Shape). s.width) o) 0) c.in_ok-array.ensures.shape;
+      index = record {
+        there = net_more c.put.new.self c.turning_index.new.b grown c.in_ok-index.index c.in_ok-index.ensures.turn.there;
+        width = width_more c.put.new.self c.turning_index.new.b grown c.in_ok-index.index c.in_ok-index.ensures.turn.there.declared ∙ c.in_ok-index.ensures.turn.width;
+        counter = index_more c.put.new.self c.turning_index.new.b c.args.words c.in_ok-index.index grown c.in_ok-index.ensures.turn.counter;
+        control = subst (λ e. IsMadeOf c.put.new.self (is_control e) (OfNet c.in_ok-index.index)) (sym grown.enable) (made_more c.put.new.self c.turning_index.new.b (is_control c.turning_index.new.b.enable) grown c.in_ok-index.ensures.turn.control);
+      };
+      made = word_made c.args.b.now c.turning_index.new.b c.array.new.self c.op.new.self c.stored_net.new.b c.put.new.self c.args.width c.args.words c.in_ok-array.array c.in_ok-index.index c.args.value c.in_ok-word.word c.in_ok-stored.stored c.in_ok-index.ensures.adds c.in_ok-index.ensures.turn.counter c.in_ok-index.ensures.turn.control c.requires.words.0
+          c.in_ok-array.ensures.ok c.in_ok-array.ensures.number c.in_ok-array.ensures.shape c.array.ensures.includes c.op.ensures.includes c.in_ok-word.ensures.ok c.op.ensures.wires c.in_ok-word.ensures.value c.stored_net.ensures.logic c.in_ok-stored.ensures.net c.put.ensures.includes c.put.ensures.update c.put.ensures.edge c.in_ok-word.ensures.made c.in_ok-stored.ensures.right
+          c.in_ok-word.ensures.made_of;
+    }

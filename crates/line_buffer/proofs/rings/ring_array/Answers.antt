@@ -6,40 +6,40 @@ use Rattle.line_buffer.proofs.Building.{ring_built, ages_deep, built_adds, built
 use Rattle.line_buffer.proofs.rings.ring_array.Goals as goal
 
 pub ring_taps-requires-clause-ring : goal.ring_taps-requires-clause-ring
-ring_taps-requires-clause-ring c = subst (λ (w : ℕ). IsRing c.delay_line.new.b c.in_ok-line.line c.args.value c.bits_for-bits.result w) (sym c.from-count.ensures)
-    (ring_built c.args.b.now c.delay_line.new.b c.args.width c.args.words c.bits_for-bits.result c.args.value c.in_ok-line.line c.in_ok-line.ensures.adds c.in_ok-line.ensures.array c.in_ok-line.ensures.line c.in_ok-line.ensures.word c.in_ok-line.ensures.word_width c.in_ok-line.ensures.index c.in_ok-line.ensures.index_net
-    (c.in_ok-line.ensures.index_width ∙ ap (λ (w : ℕ). bit_count (w - 1)) (sym c.from-count.ensures) ∙ sym c.bits_for-bits.ensures.value) c.in_ok-line.ensures.index_control c.in_ok-line.ensures.made c.requires.bits c.requires.net c.requires.wide c.requires.words.0 (omega (arith, c.requires.words.1)) (subst (λ (w : ℕ). IsBitCount (w - 1) c.bits_for-bits.result) c.from-count.ensures c.bits_for-bits.ensures.least))
+ring_taps-requires-clause-ring c = subst (λ (w : ℕ). IsRing c.delay_line.new.b c.in_ok-line.line c.args.image.net c.bits_for-bits.result w) (sym c.from-count.ensures)
+    (ring_built c.args.b.now c.delay_line.new.b c.args.image.width c.args.words c.bits_for-bits.result c.args.image.net c.in_ok-line.line c.in_ok-line.ensures.line
+    (c.in_ok-line.ensures.line.index.width ∙ ap (λ (w : ℕ). bit_count (w - 1)) (sym c.from-count.ensures) ∙ sym c.bits_for-bits.ensures.value) c.requires.image.bits c.requires.image.there c.requires.image.wide c.requires.words.0 (omega (arith, c.requires.words.1)) (subst (λ (w : ℕ). IsBitCount (w - 1) c.bits_for-bits.result) c.from-count.ensures c.bits_for-bits.ensures.least))
 
 pub ring_taps-requires-clause-deep : goal.ring_taps-requires-clause-deep
-ring_taps-requires-clause-deep c = ages_deep c.args.ages.now c.from-count.result c.requires.ascending (c.from-count.ensures ∙ c.requires.depth)
+ring_taps-requires-clause-deep c = ages_deep c.args.image.ages.now c.from-count.result c.requires.image.ascending (c.from-count.ensures ∙ c.requires.depth)
 
 pub returns-clause-adds : goal.returns-clause-adds
 returns-clause-adds c =
-    built_adds c.args.b.now c.delay_line.new.b c.args.width c.args.words c.bits_for-bits.result c.args.value c.in_ok-line.line c.in_ok-line.ensures.adds c.in_ok-line.ensures.array c.in_ok-line.ensures.line c.in_ok-line.ensures.word c.in_ok-line.ensures.word_width c.in_ok-line.ensures.index c.in_ok-line.ensures.index_net
-    (c.in_ok-line.ensures.index_width ∙ ap (λ (w : ℕ). bit_count (w - 1)) (sym c.from-count.ensures) ∙ sym c.bits_for-bits.ensures.value) c.in_ok-line.ensures.index_control c.in_ok-line.ensures.made c.requires.bits c.requires.net c.requires.wide c.requires.words.0 (omega (arith, c.requires.words.1)) (subst (λ (w : ℕ). IsBitCount (w - 1) c.bits_for-bits.result) c.from-count.ensures c.bits_for-bits.ensures.least)
-    c.ring_taps.new.b c.args.ages.now c.in_ok-taps.taps.items c.requires.ascending c.requires.depth c.ring_taps.ensures.taps c.in_ok-taps.ensures.one_each
-    (subst (λ (w : ℕ). AreRingTaps c.ring_taps.new.b c.in_ok-line.line.array w c.in_ok-line.line.index c.args.value c.args.ages.now c.in_ok-taps.taps.items) c.from-count.ensures c.in_ok-taps.ensures.are)
+    built_adds c.args.b.now c.delay_line.new.b c.args.image.width c.args.words c.bits_for-bits.result c.args.image.net c.in_ok-line.line c.in_ok-line.ensures.line
+    (c.in_ok-line.ensures.line.index.width ∙ ap (λ (w : ℕ). bit_count (w - 1)) (sym c.from-count.ensures) ∙ sym c.bits_for-bits.ensures.value) c.requires.image.bits c.requires.image.there c.requires.image.wide c.requires.words.0 (omega (arith, c.requires.words.1)) (subst (λ (w : ℕ). IsBitCount (w - 1) c.bits_for-bits.result) c.from-count.ensures c.bits_for-bits.ensures.least)
+    c.ring_taps.new.b c.args.image.ages.now c.in_ok-taps.taps.items c.requires.image.ascending c.requires.depth c.ring_taps.ensures.taps c.in_ok-taps.ensures.one_each
+    (subst (λ (w : ℕ). AreRingTaps c.ring_taps.new.b c.in_ok-line.line.array w c.in_ok-line.line.index c.args.image.net c.args.image.ages.now c.in_ok-taps.taps.items) c.from-count.ensures c.in_ok-taps.ensures.are)
 
 pub returns-clause-buffer : goal.returns-clause-buffer
 returns-clause-buffer c =
-    built_buffer c.args.b.now c.delay_line.new.b c.args.width c.args.words c.bits_for-bits.result c.args.value c.in_ok-line.line c.in_ok-line.ensures.adds c.in_ok-line.ensures.array c.in_ok-line.ensures.line c.in_ok-line.ensures.word c.in_ok-line.ensures.word_width c.in_ok-line.ensures.index c.in_ok-line.ensures.index_net
-    (c.in_ok-line.ensures.index_width ∙ ap (λ (w : ℕ). bit_count (w - 1)) (sym c.from-count.ensures) ∙ sym c.bits_for-bits.ensures.value) c.in_ok-line.ensures.index_control c.in_ok-line.ensures.made c.requires.bits c.requires.net c.requires.wide c.requires.words.0 (omega (arith, c.requires.words.1)) (subst (λ (w : ℕ). IsBitCount (w - 1) c.bits_for-bits.result) c.from-count.ensures c.bits_for-bits.ensures.least)
-    c.ring_taps.new.b c.args.ages.now c.in_ok-taps.taps.items c.requires.ascending c.requires.depth c.ring_taps.ensures.taps c.in_ok-taps.ensures.one_each
-    (subst (λ (w : ℕ). AreRingTaps c.ring_taps.new.b c.in_ok-line.line.array w c.in_ok-line.line.index c.args.value c.args.ages.now c.in_ok-taps.taps.items) c.from-count.ensures c.in_ok-taps.ensures.are)
+    built_buffer c.args.b.now c.delay_line.new.b c.args.image.width c.args.words c.bits_for-bits.result c.args.image.net c.in_ok-line.line c.in_ok-line.ensures.line
+    (c.in_ok-line.ensures.line.index.width ∙ ap (λ (w : ℕ). bit_count (w - 1)) (sym c.from-count.ensures) ∙ sym c.bits_for-bits.ensures.value) c.requires.image.bits c.requires.image.there c.requires.image.wide c.requires.words.0 (omega (arith, c.requires.words.1)) (subst (λ (w : ℕ). IsBitCount (w - 1) c.bits_for-bits.result) c.from-count.ensures c.bits_for-bits.ensures.least)
+    c.ring_taps.new.b c.args.image.ages.now c.in_ok-taps.taps.items c.requires.image.ascending c.requires.depth c.ring_taps.ensures.taps c.in_ok-taps.ensures.one_each
+    (subst (λ (w : ℕ). AreRingTaps c.ring_taps.new.b c.in_ok-line.line.array w c.in_ok-line.line.index c.args.image.net c.args.image.ages.now c.in_ok-taps.taps.items) c.from-count.ensures c.in_ok-taps.ensures.are)
 
 pub returns-clause-made : goal.returns-clause-made
 returns-clause-made c =
-    built_made c.args.b.now c.delay_line.new.b c.args.width c.args.words c.bits_for-bits.result c.args.value c.in_ok-line.line c.in_ok-line.ensures.adds c.in_ok-line.ensures.array c.in_ok-line.ensures.line c.in_ok-line.ensures.word c.in_ok-line.ensures.word_width c.in_ok-line.ensures.index c.in_ok-line.ensures.index_net
-    (c.in_ok-line.ensures.index_width ∙ ap (λ (w : ℕ). bit_count (w - 1)) (sym c.from-count.ensures) ∙ sym c.bits_for-bits.ensures.value) c.in_ok-line.ensures.index_control c.in_ok-line.ensures.made c.requires.bits c.requires.net c.requires.wide c.requires.words.0 (omega (arith, c.requires.words.1)) (subst (λ (w : ℕ). IsBitCount (w - 1) c.bits_for-bits.result) c.from-count.ensures c.bits_for-bits.ensures.least)
-    c.ring_taps.new.b c.args.ages.now c.in_ok-taps.taps.items c.requires.ascending c.requires.depth c.ring_taps.ensures.taps c.in_ok-taps.ensures.one_each
-    (subst (λ (w : ℕ). AreRingTaps c.ring_taps.new.b c.in_ok-line.line.array w c.in_ok-line.line.index c.args.value c.args.ages.now c.in_ok-taps.taps.items) c.from-count.ensures c.in_ok-taps.ensures.are)
+    built_made c.args.b.now c.delay_line.new.b c.args.image.width c.args.words c.bits_for-bits.result c.args.image.net c.in_ok-line.line c.in_ok-line.ensures.line
+    (c.in_ok-line.ensures.line.index.width ∙ ap (λ (w : ℕ). bit_count (w - 1)) (sym c.from-count.ensures) ∙ sym c.bits_for-bits.ensures.value) c.requires.image.bits c.requires.image.there c.requires.image.wide c.requires.words.0 (omega (arith, c.requires.words.1)) (subst (λ (w : ℕ). IsBitCount (w - 1) c.bits_for-bits.result) c.from-count.ensures c.bits_for-bits.ensures.least)
+    c.ring_taps.new.b c.args.image.ages.now c.in_ok-taps.taps.items c.requires.image.ascending c.requires.depth c.ring_taps.ensures.taps c.in_ok-taps.ensures.one_each
+    (subst (λ (w : ℕ). AreRingTaps c.ring_taps.new.b c.in_ok-line.line.array w c.in_ok-line.line.index c.args.image.net c.args.image.ages.now c.in_ok-taps.taps.items) c.from-count.ensures c.in_ok-taps.ensures.are)
 
 pub returns-clause-fills : goal.returns-clause-fills
 returns-clause-fills c =
-    built_fills c.args.b.now c.delay_line.new.b c.args.width c.args.words c.bits_for-bits.result c.args.value c.in_ok-line.line c.in_ok-line.ensures.adds c.in_ok-line.ensures.array c.in_ok-line.ensures.line c.in_ok-line.ensures.word c.in_ok-line.ensures.word_width c.in_ok-line.ensures.index c.in_ok-line.ensures.index_net
-    (c.in_ok-line.ensures.index_width ∙ ap (λ (w : ℕ). bit_count (w - 1)) (sym c.from-count.ensures) ∙ sym c.bits_for-bits.ensures.value) c.in_ok-line.ensures.index_control c.in_ok-line.ensures.made c.requires.bits c.requires.net c.requires.wide c.requires.words.0 (omega (arith, c.requires.words.1)) (subst (λ (w : ℕ). IsBitCount (w - 1) c.bits_for-bits.result) c.from-count.ensures c.bits_for-bits.ensures.least)
-    c.ring_taps.new.b c.args.ages.now c.in_ok-taps.taps.items c.requires.ascending c.requires.depth c.ring_taps.ensures.taps c.in_ok-taps.ensures.one_each
-    (subst (λ (w : ℕ). AreRingTaps c.ring_taps.new.b c.in_ok-line.line.array w c.in_ok-line.line.index c.args.value c.args.ages.now c.in_ok-taps.taps.items) c.from-count.ensures c.in_ok-taps.ensures.are)
+    built_fills c.args.b.now c.delay_line.new.b c.args.image.width c.args.words c.bits_for-bits.result c.args.image.net c.in_ok-line.line c.in_ok-line.ensures.line
+    (c.in_ok-line.ensures.line.index.width ∙ ap (λ (w : ℕ). bit_count (w - 1)) (sym c.from-count.ensures) ∙ sym c.bits_for-bits.ensures.value) c.requires.image.bits c.requires.image.there c.requires.image.wide c.requires.words.0 (omega (arith, c.requires.words.1)) (subst (λ (w : ℕ). IsBitCount (w - 1) c.bits_for-bits.result) c.from-count.ensures c.bits_for-bits.ensures.least)
+    c.ring_taps.new.b c.args.image.ages.now c.in_ok-taps.taps.items c.requires.image.ascending c.requires.depth c.ring_taps.ensures.taps c.in_ok-taps.ensures.one_each
+    (subst (λ (w : ℕ). AreRingTaps c.ring_taps.new.b c.in_ok-line.line.array w c.in_ok-line.line.index c.args.image.net c.args.image.ages.now c.in_ok-taps.taps.items) c.from-count.ensures c.in_ok-taps.ensures.are)
 
 pub returns-clause-turns : goal.returns-clause-turns
 returns-clause-turns c = turns_more c.ring_taps.new.b c.delay_line.new.b c.delay_line.new.turns c.ring_taps.ensures.taps.includes c.in_ok-line.ensures.turns

@@ -2,7 +2,7 @@ use Rattle.line_buffer.proofs.Tapping.{taps_none}
 use Rattle.line_buffer.proofs.rings.ring_tap.Goals as goal
 
 pub returns-then-age-eq0-clause-taps : goal.returns-then-age-eq0-clause-taps
-returns-then-age-eq0-clause-taps c = taps_none c.args.b.now c.args.line.array
+returns-then-age-eq0-clause-taps c = taps_none c.args.b.now c.args.ring.line.array
 
-pub returns-then-age-words-clause-taps : goal.returns-then-age-words-clause-taps
-returns-then-age-words-clause-taps c = taps_none c.args.b.now c.args.line.array
+pub returns-then-age-ring-clause-taps : goal.returns-then-age-ring-clause-taps
+returns-then-age-ring-clause-taps c = taps_none c.args.b.now c.args.ring.line.array

@@ -6,17 +6,8 @@ use Rattle.line_buffer.proofs.sharing.turning_index.Goals as goal
 pub returns-in-Some-clause-adds : goal.returns-in-Some-clause-adds
 returns-in-Some-clause-adds c = adds_none c.args.b.now
 
-pub returns-in-Some-clause-net : goal.returns-in-Some-clause-net
-returns-in-Some-clause-net c = (c.in-Some.ensures.found c.args.b.now c.requires.turns).there
-
-pub returns-in-Some-clause-width : goal.returns-in-Some-clause-width
-returns-in-Some-clause-width c = (c.in-Some.ensures.found c.args.b.now c.requires.turns).width
-
-pub returns-in-Some-clause-index : goal.returns-in-Some-clause-index
-returns-in-Some-clause-index c = (c.in-Some.ensures.found c.args.b.now c.requires.turns).counter
-
-pub returns-in-Some-clause-control : goal.returns-in-Some-clause-control
-returns-in-Some-clause-control c = (c.in-Some.ensures.found c.args.b.now c.requires.turns).control
+pub returns-in-Some-clause-turn : goal.returns-in-Some-clause-turn
+returns-in-Some-clause-turn c = c.in-Some.ensures.found c.args.b.now c.requires.turns
 
 pub returns-clause-turns : goal.returns-clause-turns
 returns-clause-turns c =

@@ -11,20 +11,20 @@ pub returns-in_ok-push-in-Some-clause-added : goal.returns-in_ok-push-in-Some-cl
 returns-in_ok-push-in-Some-clause-added c =
     let size = size_of c.args.size in
     let p = c.args.path in
-    let x = to_z-of_z w32 c.args.dx (search rules) in
-    let y = to_z-of_z w32 c.args.dy (search rules) in
-    let steps = steps_moved size p c.args.edge c.args.dx c.args.dy _ _ (Some c.in-Some.end) x y c.in-Some.ensures.leads in
-    adds_one c.args.all.now.items c.push.new.self.items (ReadsFrom size (read c.args.edge c.args.image c.args.dx c.args.dy) p) c.rect_of-rect.result c.in_ok-push-in-Some.ensures.items
-    (read_end size p c.in-Some.end c.args.edge c.args.image c.args.dx c.args.dy c.rect_of-rect.result steps c.rect_of-rect.ensures.leads)
+    let x = to_z-of_z w32 c.args.image_read.dx (search rules) in
+    let y = to_z-of_z w32 c.args.image_read.dy (search rules) in
+    let steps = steps_moved size p c.args.image_read.edge c.args.image_read.dx c.args.image_read.dy _ _ (Some c.in-Some.end) x y c.in-Some.ensures.leads in
+    adds_one c.args.all.now.items c.push.new.self.items (ReadsFrom size (read c.args.image_read.edge c.args.image_read.image c.args.image_read.dx c.args.image_read.dy) p) c.rect_of-rect.result c.in_ok-push-in-Some.ensures.items
+    (read_end size p c.in-Some.end c.args.image_read.edge c.args.image_read.image c.args.image_read.dx c.args.image_read.dy c.rect_of-rect.result steps c.rect_of-rect.ensures.leads)
 
 pub returns-in-None-clause-added : goal.returns-in-None-clause-added
 returns-in-None-clause-added c =
     let size = size_of c.args.size in
     let p = c.args.path in
-    let x = to_z-of_z w32 c.args.dx (search rules) in
-    let y = to_z-of_z w32 c.args.dy (search rules) in
-    let steps = steps_moved size p c.args.edge c.args.dx c.args.dy _ _ None x y c.in-None.ensures.leads in
-    adds_nothing c.args.all.now.items (ReadsFrom size (read c.args.edge c.args.image c.args.dx c.args.dy) p) (no_step size p c.args.edge c.args.image c.args.dx c.args.dy steps)
+    let x = to_z-of_z w32 c.args.image_read.dx (search rules) in
+    let y = to_z-of_z w32 c.args.image_read.dy (search rules) in
+    let steps = steps_moved size p c.args.image_read.edge c.args.image_read.dx c.args.image_read.dy _ _ None x y c.in-None.ensures.leads in
+    adds_nothing c.args.all.now.items (ReadsFrom size (read c.args.image_read.edge c.args.image_read.image c.args.image_read.dx c.args.image_read.dy) p) (no_step size p c.args.image_read.edge c.args.image_read.image c.args.image_read.dx c.args.image_read.dy steps)
 
 pub returns-in_ok-push-in-Some-clause-near : goal.returns-in_ok-push-in-Some-clause-near
 returns-in_ok-push-in-Some-clause-near c = λ h. subst (All IsNearRect) (sym c.in_ok-push-in-Some.ensures.items) (near_more c.args.all.now.items c.rect_of-rect.result h c.rect_of-rect.ensures.near)

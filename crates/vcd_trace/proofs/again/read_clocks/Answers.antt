@@ -19,14 +19,14 @@ clocks-init c = record {
 
 pub returns-in-Err-read_at : goal.returns-in-Err-read_at
 returns-in-Err-read_at c = λ m text same at.
-    fails_at c.clocks.first c.clocks.time c.args.widths.now c.deref.result.now c.clocks.before.items c.clocks.rest.now c.clocks.line_number c.in-Err-read_at.fault c.deref.ensures.value c.in-Err-read_at.ensures.clock
+    fails_at c.clocks.first c.clocks.time c.args.widths.now c.as_slice.result.now c.clocks.before.items c.clocks.rest.now c.clocks.line_number c.in-Err-read_at.fault c.as_slice.ensures.value c.in-Err-read_at.ensures.clock
     m text (words_of c.clocks.rows.items) same (c.clocks.invariant.reads m text same at)
 
 pub returns-in-Ok-None : goal.returns-in-Ok-None
 returns-in-Ok-None c = λ m text same at.
     let w = c.args.widths.now in
     let k = c.clocks.time in
-    let b = c.deref.result.now in
-    ends_at c.clocks.first k w b c.clocks.before.items c.clocks.rest.now c.clocks.line_number c.deref.ensures.value
+    let b = c.as_slice.result.now in
+    ends_at c.clocks.first k w b c.clocks.before.items c.clocks.rest.now c.clocks.line_number c.as_slice.ensures.value
     (none_of (EndsAt c.clocks.first k w b c.clocks.rest.now c.clocks.line_number) (λ (r : ReadClock). GoesOnAt c.clocks.first k w b c.clocks.rest.now c.clocks.line_number r.values.items r.rest.now r.number) c.in-Ok-None.field-0 c.in-Ok-None.field-0-is c.in-Ok-None.ensures.clock)
     m text (words_of c.clocks.rows.items) same (c.clocks.invariant.reads m text same at)

@@ -6,9 +6,9 @@ use Rattle.vcd_trace.proofs.steps.read_clock.Given as goal
 
 abbrev pub invariant-loop-place : goal.invariant-loop-place
 invariant-loop-place l = record {
-  clock : (m : NamedNetlist) (text : List ℕ) (k : ℕ) (done : List (List ℕ)) → InClock m text l.bytes l.number l.first k done 0 [] l.widths l.before
-      → InClock m text l.rest l.line_number l.first k done l.place l.values.items (drop l.place l.widths) (drop l.place l.before);
-  fits : AreValues (take l.place l.widths) l.values.items;
+  clock : (m : NamedNetlist) (text : List ℕ) (k : ℕ) (done : List (List ℕ)) → InClock m text l.bytes l.number l.before.first k done 0 [] l.before.widths.now l.before.values.now
+      → InClock m text l.rest l.line_number l.before.first k done l.place l.values.items (drop l.place l.before.widths.now) (drop l.place l.before.values.now);
+  fits : AreValues (take l.place l.before.widths.now) l.values.items;
   count : l.line_number + length l.rest ≤ l.number + length l.bytes;
   shorter : length l.rest ≤ length l.bytes;
 }

@@ -1,4 +1,4 @@
-use Rattle.batch_rows.specs.Values.{values_of}
+use Rattle.lane_rows.specs.Values.{values_of}
 use Rattle.batch_sim.specs.Checked.{AreInputRows}
 use Rattle.batch_sim.proofs.judge.given.are_given.Given as goal
 

@@ -1,8 +1,7 @@
 use Rattle.std.proofs.Common.{◌∙◌, length, refl, sym, arith}
 use Rattle.std.proofs.lemmas.Option.{slice_get_read, slice_get_within}
 use Rattle.cycle_sim.specs.Slots.{words_of}
-use Rattle.batch_rows.specs.Rights.{items_of}
-use Rattle.batch_rows.specs.Values.{values_of}
+use Rattle.lane_rows.specs.Values.{items_of, values_of}
 use Rattle.batch_sim.proofs.Vectors.{some_at, length-items}
 use Rattle.batch_sim.proofs.AllPasses.{put_on, lost_on, kept_on, same_put, same_lost, all_inside}
 use Rattle.batch_sim.proofs.judge.passes.pass_arrays.Goals as goal
@@ -59,3 +58,6 @@ loop-array-preserved c =
       lost = lost_on rows reads puts count before now new k c.loop-array.invariant.put p there size c.pass_at.ensures.others (items_of c.loop-array.lost) (items_of c.pass_at.new.lost) c.loop-array.invariant.lost kept.put_inside (c.pass_at.ensures.lost yes) c.pass_at.ensures.other_lost;
       kept = kept_on rows reads puts count before now new k c.loop-array.invariant.put p there size c.pass_at.ensures.others r at c.loop-array.invariant.kept kept;
     }
+
+pub returns-then-not-pass_at-clause-room : goal.returns-then-not-pass_at-clause-room
+returns-then-not-pass_at-clause-room c = record { spares = c.undo_arrays.ensures.room; to = c.pass_at.ensures.room.to }

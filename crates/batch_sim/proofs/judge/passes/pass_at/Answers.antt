@@ -1,8 +1,8 @@
 use Rattle.std.proofs.Common.{Vec, ◌≤◌, ◌∙◌, ℕ, List, length, ap, sym, subst, arith}
 use Rattle.std.specs.Prelude.{slice_index}
 use Rattle.std.specs.declared.alloc.Global.{Global}
-use Rattle.batch_rows.specs.Values.{values_of}
-use Rattle.batch_rows.proofs.LaneRows.{placed, placed_other}
+use Rattle.lane_rows.specs.Values.{values_of}
+use Rattle.lane_rows.proofs.LaneRows.{placed, placed_other}
 use Rattle.batch_code.specs.Rows.{atom_at, words_put}
 use Rattle.batch_sim.proofs.Vectors.{vec_at, length-items, long_on, same_on}
 use Rattle.batch_sim.proofs.judge.passes.pass_at.Goals as goal

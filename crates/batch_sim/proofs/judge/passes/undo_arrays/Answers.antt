@@ -2,7 +2,7 @@ use Rattle.std.proofs.Common.{◌≡◌, ◌∙◌, ◌+◌, ◌-◌, ◌<◌, �
 use Rattle.std.specs.Prelude.{slice_get, slice_index_or}
 use Rattle.std.proofs.lemmas.Option.{slice_get_read}
 use Rattle.cycle_sim.specs.Slots.{words_of}
-use Rattle.batch_rows.specs.Values.{values_of}
+use Rattle.lane_rows.specs.Values.{values_of}
 use Rattle.batch_sim.specs.Arrays.{PutsInside, ArePut}
 use Rattle.batch_sim.proofs.Vectors.{vec_get, length-items}
 use Rattle.batch_sim.proofs.AllPasses.{put_back, all_back, length-put}
@@ -13,20 +13,20 @@ undo_at-requires-clause-lost c =
     let k : ℕ = c.args.done - 1 - c.loop-back.back in
     let within : k < length c.args.lost.now = omega (arith, c.loop-back-test.true, c.requires.lost) in
     let at = slice_get_read c.args.lost.now (length c.args.lost.now) k c.index-lost-array.result refl within c.index-lost-array.is in
-    subst (λ (ws : List ℕ). c.args.count ≤ length ws) (vec_get c.args.lost.now k c.index-lost-array.result at ∙ sym c.deref.ensures.value) (c.requires.long k (omega (arith, within, length-items c.args.lost.now)))
+    subst (λ (ws : List ℕ). c.args.all.now.count ≤ length ws) (vec_get c.args.lost.now k c.index-lost-array.result at ∙ sym c.deref.ensures.value) (c.requires.long k (omega (arith, within, length-items c.args.lost.now)))
 
 pub undo_at-requires-clause-inside : goal.undo_at-requires-clause-inside
 undo_at-requires-clause-inside c =
     let k : ℕ = c.args.done - 1 - c.loop-back.back in
-    let within : k < length c.args.puts.now = omega (arith, c.loop-back-test.true, c.requires.puts) in
-    let at = slice_get_read c.args.puts.now (length c.args.puts.now) k c.index-puts-array.result refl within c.index-puts-array.is in
+    let within : k < length c.args.all.now.puts.now = omega (arith, c.loop-back-test.true, c.requires.puts) in
+    let at = slice_get_read c.args.all.now.puts.now (length c.args.all.now.puts.now) k c.index-puts-array.result refl within c.index-puts-array.is in
     c.loop-back.invariant.inside k c.index-puts-array.result (omega (arith, c.loop-back-test.true)) at
 
 pub loop-back-preserved : goal.loop-back-preserved
 loop-back-preserved c =
     let rows = values_of c.args.rows.now in
-    let puts = c.args.puts.now in
-    let count = c.args.count in
+    let puts = c.args.all.now.puts.now in
+    let count = c.args.all.now.count in
     let k : ℕ = c.args.done - 1 - c.loop-back.back in
     let p = c.index-puts-array.result in
     let now = words_of c.loop-back.arrays in
@@ -53,4 +53,4 @@ loop-back-preserved c =
 pub returns-clause-back : goal.returns-clause-back
 returns-clause-back c = λ before put lost.
     let none : c.args.done - c.loop-back.back ≡ 0 = omega (arith, c.loop-back-test.false) in
-    all_back (values_of c.args.rows.now) [] c.args.puts.now c.args.count before (words_of c.loop-back.arrays) (subst (λ (n : ℕ). ArePut (values_of c.args.rows.now) c.args.puts.now c.args.count before (words_of c.loop-back.arrays) n) none (c.loop-back.invariant.back before put lost))
+    all_back (values_of c.args.rows.now) [] c.args.all.now.puts.now c.args.all.now.count before (words_of c.loop-back.arrays) (subst (λ (n : ℕ). ArePut (values_of c.args.rows.now) c.args.all.now.puts.now c.args.all.now.count before (words_of c.loop-back.arrays) n) none (c.loop-back.invariant.back before put lost))

@@ -1,6 +1,6 @@
 use Rattle.std.proofs.Common.{Vec, ◌∙◌, ℕ, List, length, ap}
 use Rattle.std.specs.declared.alloc.Global.{Global}
-use Rattle.batch_rows.proofs.LaneRows.{placed, placed_other}
+use Rattle.lane_rows.proofs.LaneRows.{placed, placed_other}
 use Rattle.batch_sim.proofs.Vectors.{vec_at}
 use Rattle.batch_sim.proofs.judge.passes.undo_at.Goals as goal
 

@@ -1,7 +1,6 @@
 use Rattle.std.proofs.Common.{◌≡◌, ℕ, ◌+◌, ◌<◌}
 use Rattle.std.specs.Prelude.{slice_index}
-use Rattle.batch_rows.specs.Rights.{value_at}
-use Rattle.batch_rows.specs.Values.{values_of}
+use Rattle.lane_rows.specs.Values.{value_at, values_of}
 use Rattle.batch_sim.proofs.judge.registers.take_registers.Given as goal
 
 abbrev pub invariant-loop-r : goal.invariant-loop-r

@@ -1,7 +1,7 @@
 use Rattle.std.proofs.Common.{Some, sym, subst}
 use Rattle.std.specs.Prelude.{Option, IfSome}
 use Rattle.wiring.specs.Netlist.{Netlist}
-use Rattle.batch_code.specs.declared.code.BatchCode.{BatchCode}
+use Rattle.batch_rows.specs.declared.module_code.BatchCode.{BatchCode}
 use Rattle.batch_code.specs.Code.{IsBatchCode}
 use Rattle.batch_sim.proofs.rows.make.rows_of.Goals as goal
 

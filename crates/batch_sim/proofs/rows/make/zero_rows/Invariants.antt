@@ -1,5 +1,5 @@
 use Rattle.std.proofs.Common.{◌≡◌, replicate}
-use Rattle.batch_rows.specs.Rights.{items_of}
+use Rattle.lane_rows.specs.Values.{items_of}
 use Rattle.batch_sim.proofs.rows.make.zero_rows.Given as goal
 
 abbrev pub invariant-loop-slot : goal.invariant-loop-slot

@@ -1,5 +1,5 @@
 use Rattle.std.proofs.Common.{◌≡◌, ◌∙◌, arith}
-use Rattle.batch_rows.specs.Values.{row_values, values_of}
+use Rattle.lane_rows.specs.Values.{row_values, values_of}
 use Rattle.batch_sim.proofs.Outputs.{output_more, all_shown}
 use Rattle.batch_sim.proofs.rows.shown.show_rows.Goals as goal
 

@@ -1,6 +1,6 @@
 use Rattle.std.proofs.Common.{◌≡◌, ◌+◌, ◌*◌, ◌<◌, ℕ, length, Some}
 use Rattle.std.specs.Prelude.{slice_get}
-use Rattle.batch_rows.specs.Values.{values_of}
+use Rattle.lane_rows.specs.Values.{values_of}
 use Rattle.batch_sim.specs.Shown.{row_out}
 use Rattle.batch_sim.proofs.rows.shown.show_rows.Given as goal
 

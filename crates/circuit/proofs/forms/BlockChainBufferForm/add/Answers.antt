@@ -7,14 +7,14 @@ use Rattle.circuit.specs.Splits.{Splits, lists_of, split_ages, IsFiner, AreTapsA
 use Rattle.circuit.proofs.Forming.{plan_wide, split_most, block_buffered}
 use Rattle.circuit.proofs.forms.BlockChainBufferForm.add.Goals as goal
 
-pub block_chain-requires-clause-ascending : goal.block_chain-requires-clause-ascending
-block_chain-requires-clause-ascending c = c.split_of-split.ensures.finer.ascending
-
-pub block_chain-requires-clause-most : goal.block_chain-requires-clause-most
-block_chain-requires-clause-most c = split_most (lists_of c.deref.result.now) c.args.plan.now c.args.image c.split_of-split.result.now c.law.ensures c.requires.kept c.split_of-split.ensures.ages
-
-pub block_chain-requires-clause-bits : goal.block_chain-requires-clause-bits
-block_chain-requires-clause-bits c = plan_wide c.args.plan.now c.args.image c.width-width.result c.law.ensures c.requires.kept c.width-width.ensures
+pub block_chain-requires-clause-image : goal.block_chain-requires-clause-image
+block_chain-requires-clause-image c = record {
+  ascending = c.split_of-split.ensures.finer.ascending;
+  most = split_most (lists_of c.deref.result.now) c.args.plan.now c.args.image c.split_of-split.result.now c.law.ensures c.requires.kept c.split_of-split.ensures.ages;
+  bits = plan_wide c.args.plan.now c.args.image c.width.result c.law.ensures c.requires.kept c.width.ensures;
+  there = c.requires.net;
+  wide = c.requires.width ∙ sym c.width.ensures;
+}
 
 pub taps_among-requires-clause-finer : goal.taps_among-requires-clause-finer
 taps_among-requires-clause-finer c = subst (λ (ages : List ℕ). IsFiner ages c.split_of-split.result.now) (sym c.ages.ensures.ages) c.split_of-split.ensures.finer
@@ -30,7 +30,7 @@ returns-clause-buffered c =
     let own = net_more c.block_chain.new.b c.args.b.now c.in_ok-nets.ensures.includes c.args.value c.requires.net in
     let same : lists_of c.deref.result.now ≡ form.proposed = ap lists_of c.deref.ensures.value ∙ ap (λ (f : Splits). f.proposed) c.self.view_is in
     let given : split ≡ split_ages form.proposed c.args.plan.now c.args.image = c.split_of-split.ensures.ages ∙ ap (λ (proposed : List (List ℕ)). split_ages proposed c.args.plan.now c.args.image) same in
-    block_buffered form.least form.proposed c.block_chain.new.b c.args.b.now c.args.plan.now c.args.image c.args.value c.width-width.result c.ages.result.now split nets c.new.result own c.ages.ensures.ages given c.width-width.ensures c.requires.arrays
-    (subst (λ (least : ℕ). IsChain c.block_chain.new.b c.args.b.now c.width-width.result (is_long (Some least)) c.args.value split nets) (ap (λ (f : Splits). f.least) c.self.view_is) c.in_ok-nets.ensures.chain)
+    block_buffered form.least form.proposed c.block_chain.new.b c.args.b.now c.args.plan.now c.args.image c.args.value c.width.result c.ages.result.now split nets c.new.result own c.ages.ensures.ages given c.width.ensures c.requires.arrays
+    (subst (λ (least : ℕ). IsChain c.block_chain.new.b c.args.b.now c.width.result (is_long (Some least)) c.args.value split nets) (ap (λ (f : Splits). f.least) c.self.view_is) c.in_ok-nets.ensures.chain)
     (subst (λ (taps : List Net). AreTapsAmong c.ages.result.now split nets c.args.value taps) (sym c.new.ensures)
     (subst (λ (list : List Net). AreTapsAmong c.ages.result.now split list c.args.value c.in_ok-taps.taps.items) c.deref-2.ensures.value c.in_ok-taps.ensures))

@@ -3,14 +3,11 @@ use Rattle.line_buffer.specs.Indices.{IsReadOnce}
 use Rattle.line_buffer.proofs.Bits.{chain_bits}
 use Rattle.buffer_plan.specs.Plans.{ages_of, width_of}
 use Rattle.buffer_plan.proofs.Aged.{are_ages}
-use Rattle.circuit.proofs.Forming.{ages_most, plan_wide, form_buffered}
+use Rattle.circuit.proofs.Forming.{image_buffered, form_buffered}
 use Rattle.circuit.proofs.forms.ChainBufferForm.add.Goals as goal
 
-pub chain-requires-clause-most : goal.chain-requires-clause-most
-chain-requires-clause-most c = ages_most c.args.plan.now c.args.image c.ages.result.now c.law.ensures c.requires.kept c.ages.ensures.ages
-
-pub chain-requires-clause-bits : goal.chain-requires-clause-bits
-chain-requires-clause-bits c = plan_wide c.args.plan.now c.args.image c.width.result c.law.ensures c.requires.kept c.width.ensures
+pub chain-requires-clause-image : goal.chain-requires-clause-image
+chain-requires-clause-image c = image_buffered c.args.b.now c.args.plan.now c.args.image c.args.value c.width.result c.ages.result.now c.law.ensures c.requires.kept c.requires.net c.requires.width c.width.ensures c.ages.ensures.ages
 
 pub returns-clause-buffered : goal.returns-clause-buffered
 returns-clause-buffered c =

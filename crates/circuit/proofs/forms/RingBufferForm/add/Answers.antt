@@ -2,14 +2,11 @@ use Rattle.std.specs.Prelude.{⊤}
 use Rattle.line_buffer.specs.Places.{ring_shapes, ring_place}
 use Rattle.line_buffer.proofs.Bits.{ring_bits}
 use Rattle.buffer_plan.specs.Plans.{ages_of, width_of}
-use Rattle.circuit.proofs.Forming.{ages_most, plan_wide, form_buffered}
+use Rattle.circuit.proofs.Forming.{image_buffered, form_buffered}
 use Rattle.circuit.proofs.forms.RingBufferForm.add.Goals as goal
 
-pub ring-requires-clause-most : goal.ring-requires-clause-most
-ring-requires-clause-most c = ages_most c.args.plan.now c.args.image c.ages.result.now c.law.ensures c.requires.kept c.ages.ensures.ages
-
-pub ring-requires-clause-bits : goal.ring-requires-clause-bits
-ring-requires-clause-bits c = plan_wide c.args.plan.now c.args.image c.width.result c.law.ensures c.requires.kept c.width.ensures
+pub ring-requires-clause-image : goal.ring-requires-clause-image
+ring-requires-clause-image c = image_buffered c.args.b.now c.args.plan.now c.args.image c.args.value c.width.result c.ages.result.now c.law.ensures c.requires.kept c.requires.net c.requires.width c.width.ensures c.ages.ensures.ages
 
 pub returns-clause-buffered : goal.returns-clause-buffered
 returns-clause-buffered c =

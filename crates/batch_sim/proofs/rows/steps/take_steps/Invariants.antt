@@ -1,9 +1,0 @@
-use Rattle.std.proofs.Common.{◌≡◌, length}
-use Rattle.batch_sim.specs.Engine.{HasRun}
-use Rattle.batch_sim.proofs.rows.steps.take_steps.Given as goal
-
-abbrev pub invariant-loop-k : goal.invariant-loop-k
-invariant-loop-k l = record {
-  room : length l.table.room.items ≡ length l.fn.table.room.items;
-  table : HasRun l.engine (length l.fn.table.room.items) l.table l.done;
-}

@@ -1,0 +1,2 @@
+pub mod LaneRows
+pub mod TakenBack
