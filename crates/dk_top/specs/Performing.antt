@@ -14,7 +14,7 @@ use Rattle.dk_top.specs.State.{AsksOnly, AsksInOrder, CreatesNothing, CreatesBy,
 abbrev pub EndsRight : Option Command → Ending → (old : Outside) → Type 0
 EndsRight command e old = OnCommand command old (λ c files. IsVerdict c files e)
 
--- a failed read or write is reported exactly where one failed
+-- a failed read is reported only where the count of failed reads may have risen, and always where it is greater than before; a failed write likewise
 abbrev pub ReportsRead : Ending → (old new : Outside) → Type 0
 ReportsRead e old new = HasCauseIn (e ≡ ending.ReadFault) old.input_failures new.input_failures
 

@@ -25,4 +25,22 @@ written images out word names new f g n dx dy across down named ended =
 
 pub returns-in_ok-push_offset-in-Read : goal.returns-in_ok-push_offset-in-Read
 unfolding tail
-returns-in_ok-push_offset-in-Read c = ?
+returns-in_ok-push_offset-in-Read c =
+    let images = c.args.images.now in
+    let out = c.args.out.now.items in
+    let x = c.in-Read in
+    let across : FitsSigned w32 x.dx = search rules in
+    let down : FitsSigned w32 x.dy = search rules in
+    written images out (codes "flow read ") c.push_names.new.out.items c.push_offset.new.out.items x.reader x.source x.flow x.dx x.dy across down c.in_ok-push_names-in-Read.ensures c.in_ok-push_offset-in-Read.ensures
+    ∙ ap (λ l. out ++ flow_line images l) (sym x.is)
+
+pub returns-in_ok-push_offset-in-Keep : goal.returns-in_ok-push_offset-in-Keep
+unfolding tail
+returns-in_ok-push_offset-in-Keep c =
+    let images = c.args.images.now in
+    let out = c.args.out.now.items in
+    let x = c.in-Keep in
+    let across : FitsSigned w32 x.dx = search rules in
+    let down : FitsSigned w32 x.dy = search rules in
+    written images out (codes "flow keep ") c.push_names-in-Keep.new.out.items c.push_offset-in-Keep.new.out.items x.reader x.source x.flow x.dx x.dy across down c.in_ok-push_names-in-Keep.ensures c.in_ok-push_offset-in-Keep.ensures
+    ∙ ap (λ l. out ++ flow_line images l) (sym x.is)
