@@ -111,10 +111,11 @@ fn read_clock<'a>(
     let mut rest = bytes;
     let mut line_number = number;
     for (place, width) in before.widths.iter().enumerate() {
+        let value = before.values[place];
         let variable = Variable {
             place,
             width: *width,
-            value: before.values[place],
+            value,
         };
         match read_value(line, before.first, variable, rest, line_number) {
             Err(fault) => return Err(fault),
