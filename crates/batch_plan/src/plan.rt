@@ -109,10 +109,18 @@ fn add_assign(draft: &mut Draft, graph: &Graph, assign: usize) -> Result<(), All
             draft.plan.order.push(assign)?;
             Ok(())
         }
-        Some(Access { array, written: None }) => add_step(draft, Step::Read { array }),
-        Some(Access { array, written: Some(written) }) => {
-            add_step(draft, Step::ReadWritten { array, written })
-        }
+        Some(
+            Access {
+                array,
+                written: None,
+            },
+        ) => add_step(draft, Step::Read { array }),
+        Some(
+            Access {
+                array,
+                written: Some(written),
+            },
+        ) => { add_step(draft, Step::ReadWritten { array, written }) }
     }
 }
 

@@ -114,13 +114,7 @@ fn judge_rows(sim: &Sim, rows: &mut Rows, stored: &mut Stored, piece: &Piece<'_>
         return false;
     }
     rows.guess.law();
-    judge_guess(
-        &rows.guess,
-        &mut rows.room,
-        &mut rows.lost,
-        stored,
-        piece,
-    )
+    judge_guess(&rows.guess, &mut rows.room, &mut rows.lost, stored, piece)
 }
 
 // The clocks of a piece, over rows.
