@@ -50,6 +50,7 @@ docs/BUILDING.md
 docs/PROMISES.md
 crates/base_tests/README.md
 crates/batch_code/README.md
+crates/batch_guess/README.md
 crates/batch_plan/README.md
 crates/batch_rows/README.md
 crates/batch_sim/README.md

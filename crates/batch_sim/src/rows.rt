@@ -143,8 +143,8 @@ fn show_guess(guess: &RowGuess, count: usize, outs: &mut [Out], clocks: usize)
     requires long { (n : ℕ) → n < length guess.now.rows → clocks < length (slice_index_or (values_of guess.now.rows) n []) }
     ensures { (t : ℕ) → t < clocks → AreRowOuts (values_of guess.now.rows) guess.now.engine.code.first_output t count (of_clock count t outs.new) }
 {
-    let first = guess.engine().code.first_output;
-    show_rows(guess.rows(), first, count, outs, clocks);
+    let engine = guess.engine();
+    show_rows(guess.rows(), engine.code.first_output, count, outs, clocks);
 }
 
 // The clocks of a piece, over rows: true if they took place. The contents of registers and arrays and the outputs are then those of
