@@ -5,12 +5,10 @@ use Rattle.std.specs.List.Sorted.{IsStrictlyIncreasing}
 use Rattle.std.proofs.lemmas.Option.{slice_get-get_or, slice_get_within}
 use Rattle.dk_base.specs.Numbers.{IsBitCount}
 use Rattle.wiring.specs.declared.netlist.Net.{Net}
-use Rattle.wiring.specs.declared.netlist.Holder.TheVariants.{OfNet}
 use Rattle.wiring.specs.declared.netlist.Shape.{Shape}
 use Rattle.wiring.specs.Sizes.{IsWidth}
 use Rattle.wiring.specs.Netlist.{Netlist, net_width}
 use Rattle.net_build.specs.Draft.{IsNet}
-use Rattle.net_build.specs.Control.{IsMadeOf, IsControl}
 use Rattle.net_build.proofs.Drafts.{last_push}
 use Rattle.net_build.proofs.Grown.{net_more, width_more}
 use Rattle.line_buffer.specs.declared.lines.DelayLine.{DelayLine}
@@ -20,7 +18,7 @@ use Rattle.line_buffer.specs.Places.{last_of, depth_of, ring_shapes, ring_place}
 use Rattle.std.proofs.lemmas.List.Elements.{All-head, All-tail}
 use Rattle.line_buffer.proofs.Adding.{adds_none}
 use Rattle.line_buffer.specs.Rings.{IsRing, AddsTaps, IsRingTap, AreRingTaps}
-use Rattle.line_buffer.specs.Buffers.{AddsBuffer, IsBuffer, AreMadeOfBuffer, is_buffer}
+use Rattle.line_buffer.specs.Buffers.{AddsBuffer, IsBuffer, AreMadeOfBuffer}
 use Rattle.line_buffer.specs.Fills.{AreFilled}
 use Rattle.line_buffer.proofs.Filling.{fills_more, fills_none, fills_one, line_takes_net}
 use Rattle.line_buffer.proofs.Ages.{age_within}
