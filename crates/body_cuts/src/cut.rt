@@ -32,9 +32,14 @@ fn deepest_first(
 }
 
 // The program with each body cut, if the limit on definitions allows it.
-fn best_draft(alloc: Global, program: &TypedProgram, most: u32) -> Result<Draft, OutOfMemory> {
+fn best_draft(
+    alloc: Global,
+    program: &TypedProgram,
+    whole: &[u32],
+    most: u32,
+) -> Result<Draft, OutOfMemory> {
     let expanded = expanded_bodies(alloc, program)?;
-    let mut choices = no_cuts(alloc, program)?;
+    let mut choices = no_cuts(alloc, program, whole)?;
     cut_each(&mut choices, true);
     let all = make_draft(alloc, program, &expanded, &choices, most)?;
     if all.definitions <= MAX_DEFINITIONS {
@@ -44,7 +49,7 @@ fn best_draft(alloc: Global, program: &TypedProgram, most: u32) -> Result<Draft,
     deepest_first(alloc, program, &expanded, &mut choices, most)
 }
 
-/// The program as a text of bodies with at most this many levels of operators, after `head`. 0 levels count as 1. An operator of more levels, as `abs`, is alone in its body. If there would be too many definitions, only the deepest bodies are cut.
+/// The program as a text of bodies with at most this many levels of operators, after `head`. 0 levels count as 1. An operator of more levels, as `abs`, is alone in its body. If there would be too many definitions, only the deepest bodies are cut. The bodies of the images in `whole`, by their numbers, are not cut.
 ///
 /// No contract states what the text shows.
 pub fn cut_text(
@@ -52,8 +57,9 @@ pub fn cut_text(
     head: &[u8],
     program: &TypedProgram,
     levels: u32,
+    whole: &[u32],
 ) -> Result<Vec<u8>, OutOfMemory> {
-    let best = best_draft(alloc, program, levels.max(1))?;
+    let best = best_draft(alloc, program, whole, levels.max(1))?;
     let mut text = Vec::from_slice(alloc, head)?;
     text.extend_from_slice(&best.text)?;
     Ok(text)

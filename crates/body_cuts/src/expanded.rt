@@ -2,7 +2,8 @@
 
 use crate::copies::{CopyFault, Reads, copy};
 use crate::images::{definition_number, is_output};
-use crate::moved::moved_body;
+use crate::moved::{is_cut_off, moved_body};
+use crate::reached::reached;
 use dk_base::{Conversion, OutOfMemory, Ty};
 use dk_types::{TypedExpr, TypedNode, TypedProgram, TypedRead};
 use std::alloc::{AllocError, Global};
@@ -15,6 +16,8 @@ const MOST_NODES: usize = 262_144;
 pub(crate) struct Expanded {
     pub(crate) body: TypedExpr,
     nodes: usize,
+    // Whether it has no read.
+    is_constant: bool,
 }
 
 // Replaces reads of inline images.
@@ -25,6 +28,18 @@ struct Expander<'a> {
     before: &'a [Expanded],
     // The nodes that may still replace reads.
     room: usize,
+}
+
+fn has_read(e: &TypedExpr) -> bool {
+    match &e.node {
+        TypedNode::Number(_) => false,
+        TypedNode::Read(_) => true,
+        TypedNode::Unary(_, a) => has_read(a),
+        TypedNode::Binary(_, a, b) => has_read(a) || has_read(b),
+        TypedNode::Scale(_, a, _) => has_read(a),
+        TypedNode::Convert(_, a) => has_read(a),
+        TypedNode::Select(c, a, b) => has_read(c) || has_read(a) || has_read(b),
+    }
 }
 
 fn node_count(e: &TypedExpr) -> usize {
@@ -72,6 +87,13 @@ fn substitute<'a>(
 }
 
 impl<'a> Reads for Expander<'a> {
+    fn gives_constant(&self, read: TypedRead) -> bool {
+        match substitute(self.program, self.before, read.image) {
+            Some((expanded, _)) => expanded.is_constant && !is_cut_off(read),
+            None => false,
+        }
+    }
+
     fn replaced(&mut self, alloc: Global, read: TypedRead, ty: Ty) -> Result<TypedExpr, CopyFault> {
         let same = TypedExpr {
             ty,
@@ -111,18 +133,27 @@ fn expanded_body(
     }
 }
 
-// The expanded bodies of all definitions, in order.
+// The bodies of all definitions, in order: expanded, but those that are not reached are as they are written.
 pub(crate) fn expanded_bodies(
     alloc: Global,
     program: &TypedProgram,
 ) -> Result<Vec<Expanded>, OutOfMemory> {
     let mut all = Vec::new(alloc);
     let mut room = MOST_NODES;
-    for definition in program.definitions() {
-        let (body, left) = expanded_body(alloc, program, &all, room, &definition.body)?;
-        room = left;
+    let marks = reached(alloc, program)?;
+    for (definition, is_reached) in program.definitions().iter().zip(&marks) {
+        let given = if *is_reached { room } else { 0 };
+        let (body, left) = expanded_body(alloc, program, &all, given, &definition.body)?;
+        if *is_reached {
+            room = left;
+        }
         let nodes = node_count(&body);
-        all.push(Expanded { body, nodes })?;
+        let is_constant = !has_read(&body);
+        all.push(Expanded {
+            body,
+            nodes,
+            is_constant,
+        })?;
     }
     Ok(all)
 }

@@ -13,6 +13,7 @@ mod levels;
 mod moved;
 mod part;
 mod pieces;
+mod reached;
 mod words;
 
 pub use cut::cut_text;

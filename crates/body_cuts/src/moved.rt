@@ -22,12 +22,17 @@ fn is_still(read: TypedRead) -> bool {
     read.dx == 0 && read.dy == 0
 }
 
+// Whether the read is 0 where its point is outside the frame.
+pub(crate) fn is_cut_off(read: TypedRead) -> bool {
+    !read.clamped && !is_still(read)
+}
+
 // The read that shows what `inner` shows at the point of `outer`, which is in the frame. None if there is none.
 fn moved_read(outer: TypedRead, inner: TypedRead) -> Option<TypedRead> {
     if is_still(outer) {
         return Some(inner);
     }
-    if !inner.clamped && !is_still(inner) {
+    if is_cut_off(inner) {
         return None;
     }
     let dx = moved_offset(outer.dx, inner.dx)?;
@@ -47,6 +52,10 @@ struct Mover {
 }
 
 impl Reads for Mover {
+    fn gives_constant(&self, _read: TypedRead) -> bool {
+        false
+    }
+
     fn replaced(
         &mut self,
         _alloc: Global,
@@ -69,7 +78,7 @@ pub(crate) fn moved_body(
     read: TypedRead,
     body: &TypedExpr,
 ) -> Result<TypedExpr, CopyFault> {
-    if !read.clamped && !is_still(read) {
+    if is_cut_off(read) {
         return Err(CopyFault::NoRead);
     }
     copy(alloc, &mut Mover { outer: read }, body)
