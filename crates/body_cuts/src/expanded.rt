@@ -1,22 +1,24 @@
 // Bodies with the bodies of inline images in place of reads.
 
-use crate::copies::{CopyFault, Reads, copy};
+use crate::copies::{Reads, as_written, boxed, term_of};
 use crate::images::{definition_number, is_output};
-use crate::moved::{is_cut_off, moved_body};
+use crate::moved::{MoveFault, framed, is_cut_off, moved};
 use crate::reached::reached;
+use crate::term::{Term, TermNode, is_constant, node_count};
 use dk_base::{Conversion, OutOfMemory, Ty};
-use dk_types::{TypedExpr, TypedNode, TypedProgram, TypedRead};
+use dk_types::{TypedExpr, TypedProgram, TypedRead};
 use std::alloc::{AllocError, Global};
 
 // The most nodes that replace reads, over all definitions.
 const MOST_NODES: usize = 262_144;
 
-// A body in which each read of an inline image that can be replaced is replaced.
+// A body, and the same with each read of an inline image replaced that can be.
 #[derive(Drop)]
 pub(crate) struct Expanded {
-    pub(crate) body: TypedExpr,
+    // The body as it is written.
+    pub(crate) written: Term,
+    pub(crate) body: Term,
     nodes: usize,
-    // Whether it has no read.
     is_constant: bool,
 }
 
@@ -30,42 +32,12 @@ struct Expander<'a> {
     room: usize,
 }
 
-fn has_read(e: &TypedExpr) -> bool {
-    match &e.node {
-        TypedNode::Number(_) => false,
-        TypedNode::Read(_) => true,
-        TypedNode::Unary(_, a) => has_read(a),
-        TypedNode::Binary(_, a, b) => has_read(a) || has_read(b),
-        TypedNode::Scale(_, a, _) => has_read(a),
-        TypedNode::Convert(_, a) => has_read(a),
-        TypedNode::Select(c, a, b) => has_read(c) || has_read(a) || has_read(b),
-    }
-}
-
-fn node_count(e: &TypedExpr) -> usize {
-    let operands = match &e.node {
-        TypedNode::Number(_) | TypedNode::Read(_) => 0,
-        TypedNode::Unary(_, a) => node_count(a),
-        TypedNode::Binary(_, a, b) => node_count(a).saturating_add(node_count(b)),
-        TypedNode::Scale(_, a, _) => node_count(a),
-        TypedNode::Convert(_, a) => node_count(a),
-        TypedNode::Select(c, a, b) => node_count(c)
-            .saturating_add(node_count(a))
-            .saturating_add(node_count(b)),
-    };
-    operands.saturating_add(1)
-}
-
 // A body brought into the declared type of its image.
-fn typed_body(
-    alloc: Global,
-    declared: Option<Ty>,
-    body: TypedExpr,
-) -> Result<TypedExpr, OutOfMemory> {
+fn typed_body(alloc: Global, declared: Option<Ty>, body: Term) -> Result<Term, OutOfMemory> {
     match declared {
-        Some(ty) => Ok(TypedExpr {
+        Some(ty) => Ok(Term {
             ty,
-            node: TypedNode::Convert(Conversion::Cast, Box::new(alloc, body)?),
+            node: TermNode::Convert(Conversion::Cast, boxed(alloc, body)?),
         }),
         None => Ok(body),
     }
@@ -94,10 +66,10 @@ impl<'a> Reads for Expander<'a> {
         }
     }
 
-    fn replaced(&mut self, alloc: Global, read: TypedRead, ty: Ty) -> Result<TypedExpr, CopyFault> {
-        let same = TypedExpr {
+    fn replaced(&mut self, alloc: Global, read: TypedRead, ty: Ty) -> Result<Term, OutOfMemory> {
+        let same = Term {
             ty,
-            node: TypedNode::Read(read),
+            node: TermNode::Read(read),
         };
         let Some((expanded, declared)) = substitute(self.program, self.before, read.image) else {
             return Ok(same);
@@ -106,10 +78,13 @@ impl<'a> Reads for Expander<'a> {
             return Ok(same);
         };
         self.room = room;
-        match moved_body(alloc, read, &expanded.body) {
-            Ok(body) => Ok(typed_body(alloc, declared, body)?),
-            Err(CopyFault::NoRead) => Ok(same),
-            Err(CopyFault::OutOfMemory) => Err(CopyFault::OutOfMemory),
+        match moved(alloc, read, &expanded.body) {
+            Ok(body) => {
+                let body = typed_body(alloc, declared, body)?;
+                framed(alloc, read, body)
+            }
+            Err(MoveFault::NoRead) => Ok(same),
+            Err(MoveFault::OutOfMemory) => Err(AllocError),
         }
     }
 }
@@ -121,16 +96,14 @@ fn expanded_body(
     before: &[Expanded],
     room: usize,
     e: &TypedExpr,
-) -> Result<(TypedExpr, usize), OutOfMemory> {
+) -> Result<(Term, usize), OutOfMemory> {
     let mut expander = Expander {
         program,
         before,
         room,
     };
-    match copy(alloc, &mut expander, e) {
-        Ok(body) => Ok((body, expander.room)),
-        Err(_) => Err(AllocError),
-    }
+    let body = term_of(alloc, &mut expander, e)?;
+    Ok((body, expander.room))
 }
 
 // The bodies of all definitions, in order: expanded, but those that are not reached are as they are written.
@@ -147,12 +120,11 @@ pub(crate) fn expanded_bodies(
         if *is_reached {
             room = left;
         }
-        let nodes = node_count(&body);
-        let is_constant = !has_read(&body);
         all.push(Expanded {
+            nodes: node_count(&body),
+            is_constant: is_constant(&body),
+            written: as_written(alloc, &definition.body)?,
             body,
-            nodes,
-            is_constant,
         })?;
     }
     Ok(all)

@@ -14,6 +14,7 @@ mod moved;
 mod part;
 mod pieces;
 mod reached;
+mod term;
 mod words;
 
 pub use cut::cut_text;
