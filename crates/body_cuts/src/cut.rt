@@ -39,7 +39,7 @@ fn best_draft(
     whole: &[u32],
     most: u32,
 ) -> Result<Draft, OutOfMemory> {
-    let expanded = expanded_bodies(alloc, names.program)?;
+    let expanded = expanded_bodies(alloc, names.program, most)?;
     let mut choices = no_cuts(alloc, names.program, whole)?;
     cut_each(&mut choices, true);
     let all = make_draft(alloc, names, &expanded, &choices, most)?;

@@ -1,12 +1,13 @@
 // Bodies with the bodies of inline images in place of reads.
 
 use crate::copies::{Reads, as_written, boxed, term_of};
-use crate::images::{definition_number, is_output};
+use crate::images::{definition_number, is_output, read_levels};
+use crate::levels::levels_of;
 use crate::moved::{MoveFault, framed, is_cut_off, moved};
 use crate::reached::reached;
 use crate::term::{Term, TermNode, is_constant, node_count};
 use dk_base::{Conversion, OutOfMemory, Ty};
-use dk_types::{TypedExpr, TypedProgram, TypedRead};
+use dk_types::{TypedProgram, TypedRead};
 use std::alloc::{AllocError, Global};
 
 // The most nodes that replace reads, over all definitions.
@@ -28,6 +29,10 @@ struct Expander<'a> {
     program: &'a TypedProgram,
     // The bodies before.
     before: &'a [Expanded],
+    // The levels of the bodies before, as they are written.
+    levels: &'a [u32],
+    // The most levels that a body may have.
+    most: u32,
     // The nodes that may still replace reads.
     room: usize,
 }
@@ -58,6 +63,13 @@ fn substitute<'a>(
     Some((expanded, definition.declared))
 }
 
+impl<'a> Expander<'a> {
+    // Whether the read is better than a choice by the frame test: it is within the limit by itself.
+    fn stays(&self, read: TypedRead) -> bool {
+        is_cut_off(read) && read_levels(self.program, self.levels, read) <= self.most
+    }
+}
+
 impl<'a> Reads for Expander<'a> {
     fn gives_constant(&self, read: TypedRead) -> bool {
         match substitute(self.program, self.before, read.image) {
@@ -71,6 +83,9 @@ impl<'a> Reads for Expander<'a> {
             ty,
             node: TermNode::Read(read),
         };
+        if self.stays(read) {
+            return Ok(same);
+        }
         let Some((expanded, declared)) = substitute(self.program, self.before, read.image) else {
             return Ok(same);
         };
@@ -89,41 +104,34 @@ impl<'a> Reads for Expander<'a> {
     }
 }
 
-// The body of a definition with reads replaced, and the room that is left.
-fn expanded_body(
-    alloc: Global,
-    program: &TypedProgram,
-    before: &[Expanded],
-    room: usize,
-    e: &TypedExpr,
-) -> Result<(Term, usize), OutOfMemory> {
-    let mut expander = Expander {
-        program,
-        before,
-        room,
-    };
-    let body = term_of(alloc, &mut expander, e)?;
-    Ok((body, expander.room))
-}
-
-// The bodies of all definitions, in order: expanded, but those that are not reached are as they are written.
+// The bodies of all definitions, in order: expanded for bodies of at most `most` levels, but those that are not reached are as they are written.
 pub(crate) fn expanded_bodies(
     alloc: Global,
     program: &TypedProgram,
+    most: u32,
 ) -> Result<Vec<Expanded>, OutOfMemory> {
     let mut all = Vec::new(alloc);
+    let mut levels = Vec::new(alloc);
     let mut room = MOST_NODES;
     let marks = reached(alloc, program)?;
     for (definition, is_reached) in program.definitions().iter().zip(&marks) {
-        let given = if *is_reached { room } else { 0 };
-        let (body, left) = expanded_body(alloc, program, &all, given, &definition.body)?;
+        let mut expander = Expander {
+            program,
+            before: &all,
+            levels: &levels,
+            most,
+            room: if *is_reached { room } else { 0 },
+        };
+        let body = term_of(alloc, &mut expander, &definition.body)?;
         if *is_reached {
-            room = left;
+            room = expander.room;
         }
+        let written = as_written(alloc, &definition.body)?;
+        levels.push(levels_of(program, &levels, &written).unwrap_or(0))?;
         all.push(Expanded {
             nodes: node_count(&body),
             is_constant: is_constant(&body),
-            written: as_written(alloc, &definition.body)?,
+            written,
             body,
         })?;
     }

@@ -1,8 +1,10 @@
 // How many levels of operators a form adds to those of its operands.
 
+use crate::images::read_levels;
 use crate::term::{Term, TermNode};
 use body_levels::{binary_levels, conversion_levels, scaling_levels, select_levels, unary_levels};
 use dk_base::{Binary, Conversion, Scaling};
+use dk_types::TypedProgram;
 
 // Whether the expression is a number that is a power of two.
 fn is_power(e: &Term) -> bool {
@@ -27,6 +29,35 @@ pub(crate) fn own_levels(e: &Term) -> u32 {
         TermNode::Convert(how, _) => conversion_levels(*how),
         TermNode::Select(_, _, _) => select_levels(),
     }
+}
+
+// The most of two levels.
+pub(crate) fn most_levels(one: Option<u32>, other: Option<u32>) -> Option<u32> {
+    match (one, other) {
+        (Some(one), Some(other)) => Some(one.max(other)),
+        (Some(one), None) => Some(one),
+        (None, other) => other,
+    }
+}
+
+// The levels of an expression, with those of the bodies before. None if it has no read.
+pub(crate) fn levels_of(program: &TypedProgram, before: &[u32], e: &Term) -> Option<u32> {
+    let inner = match &e.node {
+        TermNode::Number(_) => None,
+        TermNode::Read(read) => Some(read_levels(program, before, *read)),
+        TermNode::InFrame(_, _) => Some(0),
+        TermNode::Unary(_, a) => levels_of(program, before, a),
+        TermNode::Binary(_, a, b) => {
+            most_levels(levels_of(program, before, a), levels_of(program, before, b))
+        }
+        TermNode::Scale(_, a, _) => levels_of(program, before, a),
+        TermNode::Convert(_, a) => levels_of(program, before, a),
+        TermNode::Select(c, a, b) => {
+            let arms = most_levels(levels_of(program, before, a), levels_of(program, before, b));
+            most_levels(levels_of(program, before, c), arms)
+        }
+    };
+    inner.map(|levels| levels.saturating_add(own_levels(e)))
 }
 
 // Whether the operator adds no level, and no operand has more bits than what it gives.
