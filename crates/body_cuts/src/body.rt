@@ -102,6 +102,10 @@ fn part(
     let inner = match &e.node {
         TermNode::Number(value) => number(alloc, *value)?,
         TermNode::Read(read) => read_part(alloc, names, levels, *read)?,
+        TermNode::InFrame(dx, dy) => {
+            pieces.tests_frame = true;
+            test_part(alloc, names, *dx, *dy)?
+        }
         TermNode::Unary(operator, a) => {
             let a = part(alloc, names, levels, pieces, below, a)?;
             unary(alloc, *operator, a)?
