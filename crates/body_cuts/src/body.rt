@@ -1,19 +1,20 @@
 // One body, cut into pieces.
 
 use crate::expanded::Expanded;
-use crate::images::{image_name, read_levels};
+use crate::images::{Names, image_name, read_levels};
 use crate::levels::{only_widens, own_levels};
 use crate::part::{Binding, Part, binary, converted, number, scaled, selected, unary};
-use crate::pieces::{Above, Piece, Pieces, cut};
+use crate::pieces::{Above, Pieces, cut};
+use crate::term::{Term, TermNode};
 use crate::words::push_read;
 use dk_base::OutOfMemory;
-use dk_types::{TypedDefinition, TypedExpr, TypedNode, TypedProgram, TypedRead};
+use dk_types::TypedRead;
 use std::alloc::Global;
 
 // A body and its pieces.
 #[derive(Drop)]
 pub(crate) struct Body {
-    pub(crate) pieces: Vec<Piece>,
+    pub(crate) pieces: Pieces,
     pub(crate) text: Vec<u8>,
     pub(crate) levels: u32,
 }
@@ -23,24 +24,40 @@ pub(crate) const NO_LIMIT: u32 = u32::MAX;
 
 fn read_part(
     alloc: Global,
-    program: &TypedProgram,
+    names: &Names<'_>,
     levels: &[u32],
     read: TypedRead,
 ) -> Result<Part, OutOfMemory> {
     let mut text = Vec::new(alloc);
-    push_read(&mut text, image_name(program, read.image), read.dx, read.dy)?;
+    push_read(
+        &mut text,
+        image_name(names.program, read.image),
+        read.dx,
+        read.dy,
+    )?;
     if read.clamped {
         text.extend_from_slice(b" edge clamp")?;
     }
     Ok(Part {
         text,
         binding: Binding::Primary,
-        levels: Some(read_levels(program, levels, read)),
+        levels: Some(read_levels(names.program, levels, read)),
+    })
+}
+
+// A read of the image that is 1.
+fn test_part(alloc: Global, names: &Names<'_>, dx: i32, dy: i32) -> Result<Part, OutOfMemory> {
+    let mut text = Vec::new(alloc);
+    push_read(&mut text, &names.frame, dx, dy)?;
+    Ok(Part {
+        text,
+        binding: Binding::Primary,
+        levels: Some(0),
     })
 }
 
 // What the operands of an expression have above them. A form that only widens is not cut, so that the narrower value is stored.
-fn above_operands(above: Above, e: &TypedExpr) -> Above {
+fn above_operands(above: Above, e: &Term) -> Above {
     if only_widens(e) {
         return above;
     }
@@ -53,10 +70,10 @@ fn above_operands(above: Above, e: &TypedExpr) -> Above {
 // A part with the levels of its outermost form added, or the read of its piece if it must be one.
 fn finished(
     alloc: Global,
-    program: &TypedProgram,
+    names: &Names<'_>,
     pieces: &mut Pieces,
     above: Above,
-    e: &TypedExpr,
+    e: &Term,
     inner: Part,
 ) -> Result<Part, OutOfMemory> {
     let part = Part {
@@ -69,102 +86,88 @@ fn finished(
     if only_widens(e) {
         return Ok(part);
     }
-    cut(alloc, program, pieces, above, part)
+    cut(alloc, names, pieces, above, part)
 }
 
 // An expression whose parts above the limit are cut off.
 fn part(
     alloc: Global,
-    program: &TypedProgram,
+    names: &Names<'_>,
     levels: &[u32],
     pieces: &mut Pieces,
     above: Above,
-    e: &TypedExpr,
+    e: &Term,
 ) -> Result<Part, OutOfMemory> {
     let below = above_operands(above, e);
     let inner = match &e.node {
-        TypedNode::Number(value) => number(alloc, *value)?,
-        TypedNode::Read(read) => read_part(alloc, program, levels, *read)?,
-        TypedNode::Unary(operator, a) => {
-            let a = part(alloc, program, levels, pieces, below, a)?;
+        TermNode::Number(value) => number(alloc, *value)?,
+        TermNode::Read(read) => read_part(alloc, names, levels, *read)?,
+        TermNode::InFrame(dx, dy) => {
+            pieces.tests_frame = true;
+            test_part(alloc, names, *dx, *dy)?
+        }
+        TermNode::Unary(operator, a) => {
+            let a = part(alloc, names, levels, pieces, below, a)?;
             unary(alloc, *operator, a)?
         }
-        TypedNode::Binary(operator, a, b) => {
-            let a = part(alloc, program, levels, pieces, below, a)?;
-            let b = part(alloc, program, levels, pieces, below, b)?;
+        TermNode::Binary(operator, a, b) => {
+            let a = part(alloc, names, levels, pieces, below, a)?;
+            let b = part(alloc, names, levels, pieces, below, b)?;
             binary(alloc, *operator, a, b)?
         }
-        TypedNode::Scale(operator, a, by) => {
-            let a = part(alloc, program, levels, pieces, below, a)?;
+        TermNode::Scale(operator, a, by) => {
+            let a = part(alloc, names, levels, pieces, below, a)?;
             scaled(alloc, *operator, a, *by)?
         }
-        TypedNode::Convert(how, a) => {
-            let a = part(alloc, program, levels, pieces, below, a)?;
+        TermNode::Convert(how, a) => {
+            let a = part(alloc, names, levels, pieces, below, a)?;
             converted(alloc, *how, a, e.ty)?
         }
-        TypedNode::Select(c, a, b) => {
-            let c = part(alloc, program, levels, pieces, below, c)?;
-            let a = part(alloc, program, levels, pieces, below, a)?;
-            let b = part(alloc, program, levels, pieces, below, b)?;
+        TermNode::Select(c, a, b) => {
+            let c = part(alloc, names, levels, pieces, below, c)?;
+            let a = part(alloc, names, levels, pieces, below, a)?;
+            let b = part(alloc, names, levels, pieces, below, b)?;
             selected(alloc, c, a, b)?
         }
     };
-    finished(alloc, program, pieces, above, e, inner)
+    finished(alloc, names, pieces, above, e, inner)
 }
 
-// The body as it is.
-fn whole(
+// A body that is cut at the limit of its pieces.
+fn made(
     alloc: Global,
-    program: &TypedProgram,
+    names: &Names<'_>,
     levels: &[u32],
-    e: &TypedExpr,
+    mut pieces: Pieces,
+    e: &Term,
 ) -> Result<Body, OutOfMemory> {
-    let mut pieces = Pieces::new(alloc, NO_LIMIT, b"")?;
-    let whole = part(alloc, program, levels, &mut pieces, Above::Nothing, e)?;
+    let whole = part(alloc, names, levels, &mut pieces, Above::Nothing, e)?;
     Ok(Body {
-        pieces: pieces.items,
+        pieces,
         text: whole.text,
         levels: whole.levels.unwrap_or(0),
     })
 }
 
-// The body, cut at the limit. None if a piece would have no name.
-fn tried(
-    alloc: Global,
-    program: &TypedProgram,
-    levels: &[u32],
-    stem: &[u8],
-    e: &TypedExpr,
-    limit: u32,
-) -> Result<Option<Body>, OutOfMemory> {
-    let mut pieces = Pieces::new(alloc, limit, stem)?;
-    let whole = part(alloc, program, levels, &mut pieces, Above::Nothing, e)?;
-    if pieces.has_unnamed {
-        return Ok(None);
-    }
-    Ok(Some(Body {
-        pieces: pieces.items,
-        text: whole.text,
-        levels: whole.levels.unwrap_or(0),
-    }))
-}
-
-// The body of a definition. If it passes the limit, its expanded body is cut. If a piece would have no name, it is whole. The levels are those of the bodies before.
+// The body of the definition with this name. If it passes the limit, its expanded body is cut. If a piece would have no name, it is whole. The levels are those of the bodies before.
 pub(crate) fn cut_body(
     alloc: Global,
-    program: &TypedProgram,
+    names: &Names<'_>,
     levels: &[u32],
-    definition: &TypedDefinition,
+    stem: &[u8],
     expanded: &Expanded,
     limit: u32,
 ) -> Result<Body, OutOfMemory> {
-    let whole = whole(alloc, program, levels, &definition.body)?;
+    let uncut = Pieces::new(alloc, NO_LIMIT, stem)?;
+    let whole = made(alloc, names, levels, uncut, &expanded.written)?;
     if whole.levels <= limit {
         return Ok(whole);
     }
-    let stem = definition.name.text.as_bytes();
-    match tried(alloc, program, levels, stem, &expanded.body, limit)? {
-        Some(body) => Ok(body),
-        None => Ok(whole),
+    let pieces = Pieces::new(alloc, limit, stem)?;
+    let cut = made(alloc, names, levels, pieces, &expanded.body)?;
+    if cut.pieces.has_unnamed {
+        Ok(whole)
+    } else {
+        Ok(cut)
     }
 }

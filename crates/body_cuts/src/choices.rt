@@ -10,7 +10,7 @@ use std::alloc::Global;
 // What is known of a definition, and whether its body is cut.
 #[derive(Clone, Copy)]
 pub(crate) struct Choice {
-    // Whether it is inline and no output, so that its body is never cut.
+    // Whether its body is never cut: it is inline and no output, or must stay whole.
     stays_whole: bool,
     // The levels of its body, not cut.
     depth: u32,
@@ -28,8 +28,23 @@ fn free_outputs(program: &TypedProgram, choices: &mut [Choice]) {
     }
 }
 
-// A choice for each definition: no body is cut.
-pub(crate) fn no_cuts(alloc: Global, program: &TypedProgram) -> Result<Vec<Choice>, OutOfMemory> {
+// Notes that these images must not be cut.
+fn keep_whole(program: &TypedProgram, whole: &[u32], choices: &mut [Choice]) {
+    for image in whole {
+        if let Some(number) = definition_number(program, *image) {
+            if number < choices.len() {
+                choices[number].stays_whole = true;
+            }
+        }
+    }
+}
+
+// A choice for each definition: no body is cut. The images of `whole` never are.
+pub(crate) fn no_cuts(
+    alloc: Global,
+    program: &TypedProgram,
+    whole: &[u32],
+) -> Result<Vec<Choice>, OutOfMemory> {
     let mut choices = Vec::new(alloc);
     for definition in program.definitions() {
         choices.push(Choice {
@@ -39,6 +54,7 @@ pub(crate) fn no_cuts(alloc: Global, program: &TypedProgram) -> Result<Vec<Choic
         })?;
     }
     free_outputs(program, &mut choices);
+    keep_whole(program, whole, &mut choices);
     Ok(choices)
 }
 

@@ -1,8 +1,9 @@
 // Whole programs.
 
 use crate::choices::{Choice, cut_each, deepest, no_cuts, note_depths};
-use crate::draft::{Draft, make_draft};
+use crate::draft::{Draft, make_draft, push_program};
 use crate::expanded::{Expanded, expanded_bodies};
+use crate::images::{Names, names_of};
 use dk_base::{MAX_DEFINITIONS, OutOfMemory};
 use dk_types::TypedProgram;
 use std::alloc::Global;
@@ -10,19 +11,19 @@ use std::alloc::Global;
 // The program with its deepest bodies cut, as many as the limit on definitions allows. No body is cut yet.
 fn deepest_first(
     alloc: Global,
-    program: &TypedProgram,
+    names: &Names<'_>,
     expanded: &[Expanded],
     choices: &mut [Choice],
     most: u32,
 ) -> Result<Draft, OutOfMemory> {
-    let mut best = make_draft(alloc, program, expanded, choices, most)?;
+    let mut best = make_draft(alloc, names, expanded, choices, most)?;
     note_depths(choices, &best.levels);
     for _ in 0..MAX_DEFINITIONS {
         let Some(number) = deepest(choices, most) else {
             break;
         };
         choices[number].is_cut = true;
-        let next = make_draft(alloc, program, expanded, choices, most)?;
+        let next = make_draft(alloc, names, expanded, choices, most)?;
         if MAX_DEFINITIONS < next.definitions {
             break;
         }
@@ -32,19 +33,24 @@ fn deepest_first(
 }
 
 // The program with each body cut, if the limit on definitions allows it.
-fn best_draft(alloc: Global, program: &TypedProgram, most: u32) -> Result<Draft, OutOfMemory> {
-    let expanded = expanded_bodies(alloc, program)?;
-    let mut choices = no_cuts(alloc, program)?;
+fn best_draft(
+    alloc: Global,
+    names: &Names<'_>,
+    whole: &[u32],
+    most: u32,
+) -> Result<Draft, OutOfMemory> {
+    let expanded = expanded_bodies(alloc, names.program, most)?;
+    let mut choices = no_cuts(alloc, names.program, whole)?;
     cut_each(&mut choices, true);
-    let all = make_draft(alloc, program, &expanded, &choices, most)?;
+    let all = make_draft(alloc, names, &expanded, &choices, most)?;
     if all.definitions <= MAX_DEFINITIONS {
         return Ok(all);
     }
     cut_each(&mut choices, false);
-    deepest_first(alloc, program, &expanded, &mut choices, most)
+    deepest_first(alloc, names, &expanded, &mut choices, most)
 }
 
-/// The program as a text of bodies with at most this many levels of operators, after `head`. 0 levels count as 1. An operator of more levels, as `abs`, is alone in its body. If there would be too many definitions, only the deepest bodies are cut.
+/// The program as a text of bodies with at most this many levels of operators, after `head`. 0 levels count as 1. An operator of more levels, as `abs`, is alone in its body. If there would be too many definitions, only the deepest bodies are cut. The bodies of the images in `whole`, by their numbers, are not cut.
 ///
 /// No contract states what the text shows.
 pub fn cut_text(
@@ -52,9 +58,11 @@ pub fn cut_text(
     head: &[u8],
     program: &TypedProgram,
     levels: u32,
+    whole: &[u32],
 ) -> Result<Vec<u8>, OutOfMemory> {
-    let best = best_draft(alloc, program, levels.max(1))?;
+    let names = names_of(alloc, program)?;
+    let best = best_draft(alloc, &names, whole, levels.max(1))?;
     let mut text = Vec::from_slice(alloc, head)?;
-    text.extend_from_slice(&best.text)?;
+    push_program(&mut text, &names, &best)?;
     Ok(text)
 }

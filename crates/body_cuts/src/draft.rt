@@ -3,21 +3,23 @@
 use crate::body::{NO_LIMIT, cut_body};
 use crate::choices::Choice;
 use crate::expanded::Expanded;
-use crate::images::image_name;
+use crate::images::{Names, image_name};
 use crate::pieces::Piece;
 use crate::words::{push_number, push_type};
 use dk_base::{FrameSize, MAX_DEFINITIONS, OutOfMemory, Ty};
 use dk_types::{TypedDefinition, TypedProgram};
 use std::alloc::Global;
 
-// A program's text, without the head.
+// The definitions of a program's text.
 #[derive(Drop)]
 pub(crate) struct Draft {
-    pub(crate) text: Vec<u8>,
-    // The number of definitions.
+    text: Vec<u8>,
+    // The number of definitions, with that of the image that is 1.
     pub(crate) definitions: usize,
     // The levels of each body that the source has.
     pub(crate) levels: Vec<u32>,
+    // Whether a body tests if a point is in the frame.
+    tests_frame: bool,
 }
 
 // The most levels of a body.
@@ -89,51 +91,39 @@ fn push_opening(to: &mut Vec<u8>, definition: &TypedDefinition) -> Result<(), Ou
     }
 }
 
+// Counts the definitions of a body, and that of the image that is 1 where it is the first that reads it.
+fn count_definitions(draft: &mut Draft, pieces: usize, tests_frame: bool) {
+    let mut added = pieces.saturating_add(1);
+    if tests_frame && !draft.tests_frame {
+        draft.tests_frame = true;
+        added = added.saturating_add(1);
+    }
+    draft.definitions = draft.definitions.saturating_add(added);
+}
+
 // Adds a definition after its pieces.
 fn push_definition(
     alloc: Global,
-    program: &TypedProgram,
+    names: &Names<'_>,
     draft: &mut Draft,
     definition: &TypedDefinition,
     expanded: &Expanded,
     limit: u32,
 ) -> Result<(), OutOfMemory> {
-    let body = cut_body(alloc, program, &draft.levels, definition, expanded, limit)?;
-    push_pieces(&mut draft.text, &body.pieces)?;
+    let stem = definition.name.text.as_bytes();
+    let body = cut_body(alloc, names, &draft.levels, stem, expanded, limit)?;
+    push_pieces(&mut draft.text, &body.pieces.items)?;
     push_opening(&mut draft.text, definition)?;
     push_body(&mut draft.text, &body.text)?;
     draft.levels.push(body.levels)?;
-    draft.definitions = draft
-        .definitions
-        .saturating_add(body.pieces.len())
-        .saturating_add(1);
+    count_definitions(draft, body.pieces.items.len(), body.pieces.tests_frame);
     Ok(())
 }
 
-// Adds the definitions. It stops after too many, since such a draft is not used.
-fn push_definitions(
-    alloc: Global,
-    program: &TypedProgram,
-    draft: &mut Draft,
-    expanded: &[Expanded],
-    choices: &[Choice],
-    most: u32,
-) -> Result<(), OutOfMemory> {
-    let bodies = program.definitions().iter().zip(expanded);
-    for ((definition, expanded), choice) in bodies.zip(choices) {
-        if MAX_DEFINITIONS < draft.definitions {
-            break;
-        }
-        let limit = limit(*choice, most);
-        push_definition(alloc, program, draft, definition, expanded, limit)?;
-    }
-    Ok(())
-}
-
-// The program with these bodies cut at `most` levels. If there are too many definitions, the text may lack the last ones.
+// The definitions with these bodies cut at `most` levels. If there are too many, the last ones may lack, since such a draft is not used.
 pub(crate) fn make_draft(
     alloc: Global,
-    program: &TypedProgram,
+    names: &Names<'_>,
     expanded: &[Expanded],
     choices: &[Choice],
     most: u32,
@@ -142,10 +132,37 @@ pub(crate) fn make_draft(
         text: Vec::new(alloc),
         definitions: 0,
         levels: Vec::new(alloc),
+        tests_frame: false,
     };
-    push_size(&mut draft.text, program.size())?;
-    push_inputs(&mut draft.text, program)?;
-    push_definitions(alloc, program, &mut draft, expanded, choices, most)?;
-    push_outputs(&mut draft.text, program)?;
+    let bodies = names.program.definitions().iter().zip(expanded);
+    for ((definition, expanded), choice) in bodies.zip(choices) {
+        if MAX_DEFINITIONS < draft.definitions {
+            break;
+        }
+        let limit = limit(*choice, most);
+        push_definition(alloc, names, &mut draft, definition, expanded, limit)?;
+    }
     Ok(draft)
+}
+
+// Adds the inline image that is 1.
+fn push_frame(to: &mut Vec<u8>, name: &[u8]) -> Result<(), OutOfMemory> {
+    to.extend_from_slice(b"inline let ")?;
+    to.extend_from_slice(name)?;
+    push_body(to, b"1")
+}
+
+// Adds the program with the definitions of a draft.
+pub(crate) fn push_program(
+    to: &mut Vec<u8>,
+    names: &Names<'_>,
+    draft: &Draft,
+) -> Result<(), OutOfMemory> {
+    push_size(to, names.program.size())?;
+    push_inputs(to, names.program)?;
+    if draft.tests_frame {
+        push_frame(to, &names.frame)?;
+    }
+    to.extend_from_slice(&draft.text)?;
+    push_outputs(to, names.program)
 }

@@ -1,20 +1,26 @@
 // Bodies with the bodies of inline images in place of reads.
 
-use crate::copies::{CopyFault, Reads, copy};
-use crate::images::{definition_number, is_output};
-use crate::moved::moved_body;
+use crate::copies::{Reads, as_written, boxed, term_of};
+use crate::images::{definition_number, is_output, read_levels};
+use crate::levels::levels_of;
+use crate::moved::{MoveFault, framed, is_cut_off, moved};
+use crate::reached::reached;
+use crate::term::{Term, TermNode, is_constant, node_count};
 use dk_base::{Conversion, OutOfMemory, Ty};
-use dk_types::{TypedExpr, TypedNode, TypedProgram, TypedRead};
+use dk_types::{TypedProgram, TypedRead};
 use std::alloc::{AllocError, Global};
 
 // The most nodes that replace reads, over all definitions.
 const MOST_NODES: usize = 262_144;
 
-// A body in which each read of an inline image that can be replaced is replaced.
+// A body, and the same with each read of an inline image replaced that can be.
 #[derive(Drop)]
 pub(crate) struct Expanded {
-    pub(crate) body: TypedExpr,
+    // The body as it is written.
+    pub(crate) written: Term,
+    pub(crate) body: Term,
     nodes: usize,
+    is_constant: bool,
 }
 
 // Replaces reads of inline images.
@@ -23,34 +29,20 @@ struct Expander<'a> {
     program: &'a TypedProgram,
     // The bodies before.
     before: &'a [Expanded],
+    // The levels of the bodies before, as they are written.
+    levels: &'a [u32],
+    // The most levels that a body may have.
+    most: u32,
     // The nodes that may still replace reads.
     room: usize,
 }
 
-fn node_count(e: &TypedExpr) -> usize {
-    let operands = match &e.node {
-        TypedNode::Number(_) | TypedNode::Read(_) => 0,
-        TypedNode::Unary(_, a) => node_count(a),
-        TypedNode::Binary(_, a, b) => node_count(a).saturating_add(node_count(b)),
-        TypedNode::Scale(_, a, _) => node_count(a),
-        TypedNode::Convert(_, a) => node_count(a),
-        TypedNode::Select(c, a, b) => node_count(c)
-            .saturating_add(node_count(a))
-            .saturating_add(node_count(b)),
-    };
-    operands.saturating_add(1)
-}
-
 // A body brought into the declared type of its image.
-fn typed_body(
-    alloc: Global,
-    declared: Option<Ty>,
-    body: TypedExpr,
-) -> Result<TypedExpr, OutOfMemory> {
+fn typed_body(alloc: Global, declared: Option<Ty>, body: Term) -> Result<Term, OutOfMemory> {
     match declared {
-        Some(ty) => Ok(TypedExpr {
+        Some(ty) => Ok(Term {
             ty,
-            node: TypedNode::Convert(Conversion::Cast, Box::new(alloc, body)?),
+            node: TermNode::Convert(Conversion::Cast, boxed(alloc, body)?),
         }),
         None => Ok(body),
     }
@@ -71,12 +63,29 @@ fn substitute<'a>(
     Some((expanded, definition.declared))
 }
 
+impl<'a> Expander<'a> {
+    // Whether the read is better than a choice by the frame test: it is within the limit by itself.
+    fn stays(&self, read: TypedRead) -> bool {
+        is_cut_off(read) && read_levels(self.program, self.levels, read) <= self.most
+    }
+}
+
 impl<'a> Reads for Expander<'a> {
-    fn replaced(&mut self, alloc: Global, read: TypedRead, ty: Ty) -> Result<TypedExpr, CopyFault> {
-        let same = TypedExpr {
+    fn gives_constant(&self, read: TypedRead) -> bool {
+        match substitute(self.program, self.before, read.image) {
+            Some((expanded, _)) => expanded.is_constant && !is_cut_off(read),
+            None => false,
+        }
+    }
+
+    fn replaced(&mut self, alloc: Global, read: TypedRead, ty: Ty) -> Result<Term, OutOfMemory> {
+        let same = Term {
             ty,
-            node: TypedNode::Read(read),
+            node: TermNode::Read(read),
         };
+        if self.stays(read) {
+            return Ok(same);
+        }
         let Some((expanded, declared)) = substitute(self.program, self.before, read.image) else {
             return Ok(same);
         };
@@ -84,45 +93,47 @@ impl<'a> Reads for Expander<'a> {
             return Ok(same);
         };
         self.room = room;
-        match moved_body(alloc, read, &expanded.body) {
-            Ok(body) => Ok(typed_body(alloc, declared, body)?),
-            Err(CopyFault::NoRead) => Ok(same),
-            Err(CopyFault::OutOfMemory) => Err(CopyFault::OutOfMemory),
+        match moved(alloc, read, &expanded.body) {
+            Ok(body) => {
+                let body = typed_body(alloc, declared, body)?;
+                framed(alloc, read, body)
+            }
+            Err(MoveFault::NoRead) => Ok(same),
+            Err(MoveFault::OutOfMemory) => Err(AllocError),
         }
     }
 }
 
-// The body of a definition with reads replaced, and the room that is left.
-fn expanded_body(
-    alloc: Global,
-    program: &TypedProgram,
-    before: &[Expanded],
-    room: usize,
-    e: &TypedExpr,
-) -> Result<(TypedExpr, usize), OutOfMemory> {
-    let mut expander = Expander {
-        program,
-        before,
-        room,
-    };
-    match copy(alloc, &mut expander, e) {
-        Ok(body) => Ok((body, expander.room)),
-        Err(_) => Err(AllocError),
-    }
-}
-
-// The expanded bodies of all definitions, in order.
+// The bodies of all definitions, in order: expanded for bodies of at most `most` levels, but those that are not reached are as they are written.
 pub(crate) fn expanded_bodies(
     alloc: Global,
     program: &TypedProgram,
+    most: u32,
 ) -> Result<Vec<Expanded>, OutOfMemory> {
     let mut all = Vec::new(alloc);
+    let mut levels = Vec::new(alloc);
     let mut room = MOST_NODES;
-    for definition in program.definitions() {
-        let (body, left) = expanded_body(alloc, program, &all, room, &definition.body)?;
-        room = left;
-        let nodes = node_count(&body);
-        all.push(Expanded { body, nodes })?;
+    let marks = reached(alloc, program)?;
+    for (definition, is_reached) in program.definitions().iter().zip(&marks) {
+        let mut expander = Expander {
+            program,
+            before: &all,
+            levels: &levels,
+            most,
+            room: if *is_reached { room } else { 0 },
+        };
+        let body = term_of(alloc, &mut expander, &definition.body)?;
+        if *is_reached {
+            room = expander.room;
+        }
+        let written = as_written(alloc, &definition.body)?;
+        levels.push(levels_of(program, &levels, &written).unwrap_or(0))?;
+        all.push(Expanded {
+            nodes: node_count(&body),
+            is_constant: is_constant(&body),
+            written,
+            body,
+        })?;
     }
     Ok(all)
 }

@@ -1,32 +1,63 @@
 // How many levels of operators a form adds to those of its operands.
 
+use crate::images::read_levels;
+use crate::term::{Term, TermNode};
 use body_levels::{binary_levels, conversion_levels, scaling_levels, select_levels, unary_levels};
 use dk_base::{Binary, Conversion, Scaling};
-use dk_types::{TypedExpr, TypedNode};
+use dk_types::TypedProgram;
 
 // Whether the expression is a number that is a power of two.
-fn is_power(e: &TypedExpr) -> bool {
+fn is_power(e: &Term) -> bool {
     match &e.node {
-        TypedNode::Number(value) => value.is_power_of_two(),
+        TermNode::Number(value) => value.is_power_of_two(),
         _ => false,
     }
 }
 
 // Whether an operand is a number that is a power of two.
-fn has_power(left: &TypedExpr, right: &TypedExpr) -> bool {
+fn has_power(left: &Term, right: &Term) -> bool {
     is_power(left) || is_power(right)
 }
 
 // The levels that the outermost form of the expression adds.
-pub(crate) fn own_levels(e: &TypedExpr) -> u32 {
+pub(crate) fn own_levels(e: &Term) -> u32 {
     match &e.node {
-        TypedNode::Number(_) | TypedNode::Read(_) => 0,
-        TypedNode::Unary(operator, _) => unary_levels(*operator),
-        TypedNode::Binary(operator, a, b) => binary_levels(*operator, has_power(a, b)),
-        TypedNode::Scale(operator, _, by) => scaling_levels(*operator, *by),
-        TypedNode::Convert(how, _) => conversion_levels(*how),
-        TypedNode::Select(_, _, _) => select_levels(),
+        TermNode::Number(_) | TermNode::Read(_) | TermNode::InFrame(_, _) => 0,
+        TermNode::Unary(operator, _) => unary_levels(*operator),
+        TermNode::Binary(operator, a, b) => binary_levels(*operator, has_power(a, b)),
+        TermNode::Scale(operator, _, by) => scaling_levels(*operator, *by),
+        TermNode::Convert(how, _) => conversion_levels(*how),
+        TermNode::Select(_, _, _) => select_levels(),
     }
+}
+
+// The most of two levels.
+pub(crate) fn most_levels(one: Option<u32>, other: Option<u32>) -> Option<u32> {
+    match (one, other) {
+        (Some(one), Some(other)) => Some(one.max(other)),
+        (Some(one), None) => Some(one),
+        (None, other) => other,
+    }
+}
+
+// The levels of an expression, with those of the bodies before. None if it has no read.
+pub(crate) fn levels_of(program: &TypedProgram, before: &[u32], e: &Term) -> Option<u32> {
+    let inner = match &e.node {
+        TermNode::Number(_) => None,
+        TermNode::Read(read) => Some(read_levels(program, before, *read)),
+        TermNode::InFrame(_, _) => Some(0),
+        TermNode::Unary(_, a) => levels_of(program, before, a),
+        TermNode::Binary(_, a, b) => {
+            most_levels(levels_of(program, before, a), levels_of(program, before, b))
+        }
+        TermNode::Scale(_, a, _) => levels_of(program, before, a),
+        TermNode::Convert(_, a) => levels_of(program, before, a),
+        TermNode::Select(c, a, b) => {
+            let arms = most_levels(levels_of(program, before, a), levels_of(program, before, b));
+            most_levels(levels_of(program, before, c), arms)
+        }
+    };
+    inner.map(|levels| levels.saturating_add(own_levels(e)))
 }
 
 // Whether the operator adds no level, and no operand has more bits than what it gives.
@@ -58,12 +89,12 @@ fn conversion_widens(how: Conversion, from: u8, to: u8) -> bool {
 }
 
 // Whether the outermost form adds no level, and its type has no fewer bits than that of its operand.
-pub(crate) fn only_widens(e: &TypedExpr) -> bool {
+pub(crate) fn only_widens(e: &Term) -> bool {
     match &e.node {
-        TypedNode::Binary(operator, a, b) => binary_widens(*operator, has_power(a, b)),
-        TypedNode::Scale(operator, _, _) => scaling_widens(*operator),
-        TypedNode::Convert(how, a) => conversion_widens(*how, a.ty.width(), e.ty.width()),
-        TypedNode::Number(_) | TypedNode::Read(_) => false,
-        TypedNode::Unary(_, _) | TypedNode::Select(_, _, _) => false,
+        TermNode::Binary(operator, a, b) => binary_widens(*operator, has_power(a, b)),
+        TermNode::Scale(operator, _, _) => scaling_widens(*operator),
+        TermNode::Convert(how, a) => conversion_widens(*how, a.ty.width(), e.ty.width()),
+        TermNode::Number(_) | TermNode::Read(_) | TermNode::InFrame(_, _) => false,
+        TermNode::Unary(_, _) | TermNode::Select(_, _, _) => false,
     }
 }

@@ -13,6 +13,8 @@ mod levels;
 mod moved;
 mod part;
 mod pieces;
+mod reached;
+mod term;
 mod words;
 
 pub use cut::cut_text;

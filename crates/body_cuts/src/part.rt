@@ -1,5 +1,6 @@
 // Parts of a body as text, put together by operators.
 
+use crate::levels::most_levels;
 use crate::words::{push_number, push_read, push_type};
 use dk_base::{Binary, Conversion, OutOfMemory, Scaling, Ty, Unary};
 use std::alloc::Global;
@@ -42,15 +43,6 @@ struct Infix {
 enum Spelling {
     Function(&'static str),
     Between(Infix),
-}
-
-// The most of two levels.
-fn most_levels(one: Option<u32>, other: Option<u32>) -> Option<u32> {
-    match (one, other) {
-        (Some(one), Some(other)) => Some(one.max(other)),
-        (Some(one), None) => Some(one),
-        (None, other) => other,
-    }
 }
 
 // The text of an operand, in brackets if it binds less tightly than `loosest`.

@@ -1,14 +1,10 @@
 // The pieces that a body is cut into.
 
-use crate::images::is_taken;
+use crate::images::{END_OF_NUMBERS, Names, is_taken};
 use crate::part::{Part, piece_read};
-use crate::words::push_number;
+use crate::words::numbered;
 use dk_base::{MAX_DEFINITIONS, MAX_NAME_BYTES, OutOfMemory};
-use dk_types::TypedProgram;
 use std::alloc::Global;
-
-// One more than the greatest number in a piece's name. A program has fewer names and pieces than this.
-const END_OF_NUMBERS: u32 = 1_000;
 
 // A definition that is made of a part of a body.
 #[derive(Drop)]
@@ -37,6 +33,8 @@ pub(crate) struct Pieces {
     pub(crate) items: Vec<Piece>,
     // Whether a piece has no name.
     pub(crate) has_unnamed: bool,
+    // Whether the body tests if a point is in the frame.
+    pub(crate) tests_frame: bool,
 }
 
 impl Pieces {
@@ -49,6 +47,7 @@ impl Pieces {
             next: 1,
             items: Vec::new(alloc),
             has_unnamed: false,
+            tests_frame: false,
         })
     }
 }
@@ -64,17 +63,10 @@ fn passes(limit: u32, above: Above, levels: Option<u32>) -> bool {
     }
 }
 
-fn numbered(alloc: Global, stem: &[u8], number: u32) -> Result<Vec<u8>, OutOfMemory> {
-    let mut name = Vec::from_slice(alloc, stem)?;
-    name.push(b'_')?;
-    push_number(&mut name, u64::from(number))?;
-    Ok(name)
-}
-
 // The next name of a piece. None if there is none, or it would be too long.
 fn next_name(
     alloc: Global,
-    program: &TypedProgram,
+    names: &Names<'_>,
     pieces: &mut Pieces,
 ) -> Result<Option<Vec<u8>>, OutOfMemory> {
     for number in pieces.next..END_OF_NUMBERS {
@@ -83,7 +75,7 @@ fn next_name(
         if MAX_NAME_BYTES < name.len() {
             return Ok(None);
         }
-        if !is_taken(program, &name) {
+        if !is_taken(names, &name) {
             return Ok(Some(name));
         }
     }
@@ -104,11 +96,11 @@ fn known_read(alloc: Global, items: &[Piece], text: &[u8]) -> Result<Option<Part
 // Makes a part a piece, and returns the read of it.
 fn make_piece(
     alloc: Global,
-    program: &TypedProgram,
+    names: &Names<'_>,
     pieces: &mut Pieces,
     part: Part,
 ) -> Result<Part, OutOfMemory> {
-    let Some(name) = next_name(alloc, program, pieces)? else {
+    let Some(name) = next_name(alloc, names, pieces)? else {
         pieces.has_unnamed = true;
         return Ok(part);
     };
@@ -121,7 +113,7 @@ fn make_piece(
 // The part, or the read of its piece if it must be one. A body gets no more pieces after too many, since it is then not used.
 pub(crate) fn cut(
     alloc: Global,
-    program: &TypedProgram,
+    names: &Names<'_>,
     pieces: &mut Pieces,
     above: Above,
     part: Part,
@@ -135,5 +127,5 @@ pub(crate) fn cut(
     if MAX_DEFINITIONS <= pieces.items.len() {
         return Ok(part);
     }
-    make_piece(alloc, program, pieces, part)
+    make_piece(alloc, names, pieces, part)
 }

@@ -2,6 +2,7 @@
 
 use dk_base::{OutOfMemory, Ty};
 use itoa::Buffer;
+use std::alloc::Global;
 
 // Adds a number in decimal.
 pub(crate) fn push_number(to: &mut Vec<u8>, number: u64) -> Result<(), OutOfMemory> {
@@ -41,4 +42,12 @@ pub(crate) fn push_read(
     push_offset(to, dy)?;
     to.extend_from_slice(b")")?;
     Ok(())
+}
+
+// A name with a number behind it.
+pub(crate) fn numbered(alloc: Global, stem: &[u8], number: u32) -> Result<Vec<u8>, OutOfMemory> {
+    let mut name = Vec::from_slice(alloc, stem)?;
+    name.push(b'_')?;
+    push_number(&mut name, u64::from(number))?;
+    Ok(name)
 }

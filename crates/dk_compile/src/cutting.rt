@@ -10,10 +10,10 @@ ghost use Rattle.dk_compile.specs.Judged.{HasForm, ShowsFormOf};
 use crate::{SourceError, front, one_at_age_law, planned, typed};
 use body_cuts::{cut_text, head_of};
 use body_levels::greatest_level;
-use dk_base::OutOfMemory;
+use dk_base::{MAX_DEFINITIONS, OutOfMemory};
 use dk_inline::inline;
 use pointwise_ir::Program;
-use same_pictures::have_same_pictures;
+use same_pictures::{first_other_image, have_same_pictures};
 use std::alloc::{AllocError, Global};
 
 /// The text of a program whose bodies are cut, with what it has: its definitions, and the most levels of operators of a body.
@@ -35,26 +35,56 @@ fn shows_same(alloc: Global, old: &Program, text: &[u8]) -> Result<bool, OutOfMe
     }
 }
 
-// The text of the cut program, which nothing is known of before its check.
-fn proposed(alloc: Global, source: &[u8], levels: u8) -> Result<Vec<u8>, OutOfMemory> {
-    match typed(alloc, source) {
-        Ok(program) => Ok(cut_text(alloc, head_of(source), &program, u32::from(levels))?),
-        Err(_) => Err(AllocError),
+// The first image of the source's program for which the check finds no image of the text. None if the text is no program within its limits.
+fn first_other(alloc: Global, old: &Program, text: &[u8]) -> Result<Option<u32>, OutOfMemory> {
+    match front(alloc, text) {
+        Ok(new) => Ok(first_other_image(alloc, old, &new.ir)?),
+        Err(SourceError::Fault(_)) => Ok(None),
+        Err(SourceError::OutOfMemory) => Err(AllocError),
     }
 }
 
-// The proposed text where it shows the pictures of the source's program; else the source as it is.
+// Adds the image whose cut body the check refuses to those that stay whole. Whether there is a new one.
+fn blamed(
+    alloc: Global,
+    old: &Program,
+    text: &[u8],
+    whole: &mut Vec<u32>,
+) -> Result<bool, OutOfMemory> {
+    match first_other(alloc, old, text)? {
+        Some(image) => {
+            if whole.contains(&image) {
+                return Ok(false);
+            }
+            whole.push(image)?;
+            Ok(true)
+        }
+        None => Ok(false),
+    }
+}
+
+// The text of the cut program where it shows the pictures of the source's program; else the source as it is. A body that the check refuses stays whole.
 fn checked(
     alloc: Global,
     source: &[u8],
     old: &Program,
-    text: Vec<u8>,
+    levels: u8,
 ) -> Result<Vec<u8>, OutOfMemory>
     requires form { HasForm source.now old.now }
     ensures { IfOk result (λ chosen. IsCutOf source.now chosen.items) }
 {
-    if shows_same(alloc, old, &text)? {
-        return Ok(text);
+    let Ok(program) = typed(alloc, source) else {
+        return Err(AllocError);
+    };
+    let mut whole = Vec::new(alloc);
+    for _ in 0..=MAX_DEFINITIONS {
+        let text = cut_text(alloc, head_of(source), &program, u32::from(levels), &whole)?;
+        if shows_same(alloc, old, &text)? {
+            return Ok(text);
+        }
+        if !blamed(alloc, old, &text, &mut whole)? {
+            break;
+        }
     }
     let same = Vec::from_slice(alloc, source)?;
     Ok(same)
@@ -90,8 +120,7 @@ pub fn cut(alloc: Global, source: &[u8], levels: u8) -> Result<CutText, SourceEr
 {
     one_at_age_law();
     let old = planned(alloc, source, 0)?;
-    let text = proposed(alloc, source, levels)?;
-    let chosen = checked(alloc, source, &old.ir, text)?;
+    let chosen = checked(alloc, source, &old.ir, levels)?;
     let cut = measured(alloc, chosen)?;
     Ok(cut)
 }

@@ -1,11 +1,13 @@
 -- What the private functions say of expressions and of images by number.
 use Rattle.std.specs.Prelude.{◌≡◌, ◌⊎◌, ℕ, IsTrue, ℤ, pos, ◌+ℤ◌, ◌≤ℤ◌, List, Option, Some, slice_get}
-use Rattle.dk_base.specs.Frames.{Size, IsFrame, in_frame, Picture}
+use Rattle.dk_base.specs.declared.ty.Ty.{Ty}
+use Rattle.dk_base.specs.Frames.{Size, IsFrame, in_frame, clamped, Picture}
 use Rattle.pointwise_ir.specs.declared.expr.Edge.{Edge}
-use Rattle.pointwise_ir.specs.declared.expr.Edge.TheVariants.{Clamp}
-use Rattle.pointwise_ir.specs.Trees.{Tree, read, shifted}
-use Rattle.pointwise_ir.specs.Programs.{Program}
+use Rattle.pointwise_ir.specs.declared.expr.Edge.TheVariants.{Zero, Clamp}
+use Rattle.pointwise_ir.specs.Trees.{Tree, constant, read, shifted, select}
+use Rattle.pointwise_ir.specs.Programs.{Program, IsProgram}
 use Rattle.pointwise_ir.specs.Meaning.{edged, value, pictures, IsRound}
+use Rattle.same_pictures.specs.declared.moves.Step.{Step}
 use Rattle.same_pictures.specs.Same.{HaveSamePicture}
 
 -- the expression is a read of image g at the point itself
@@ -31,15 +33,42 @@ pub record HaveSameInputs (old new : Program) : Type 0 where
   pub size : new.size ≡ old.size
   pub inputs : new.inputs ≡ old.inputs
 
--- The same where the old program's expression is taken at a moved point, which is brought to the frame's edge.
-abbrev pub HaveSameMoved : (old new : Program) → (dx dy : ℤ) → (a b : Tree) → Type 0
-HaveSameMoved old new dx dy a b = HaveSameValue old new (shifted Clamp dx dy a) b
+-- The point (u, v) of the frame that is seen from the point (x, y) by a move: the moved point, brought to the frame's edge (Clamp), or only where it is in the frame (Zero).
+abbrev pub IsSeen : Size → Edge → (dx dy : ℤ) → (x y u v : ℤ) → Type 0
+IsSeen size Clamp dx dy x y u v = (u ≡ clamped size.width (x +ℤ dx)) × (v ≡ clamped size.height (y +ℤ dy))
+IsSeen size Zero dx dy x y u v = (u ≡ x +ℤ dx) × (v ≡ y +ℤ dy) × IsTrue (in_frame size u v)
+
+-- On each round the expression b of the new program has, at each point of the frame, the value that the expression a of the old one has at the point that is seen from there, where one is.
+abbrev pub HaveSameMoved : (old new : Program) → Edge → (dx dy : ℤ) → (a b : Tree) → Type 0
+HaveSameMoved old new edge dx dy a b = (round : List Picture) → IsRound old round → (x y : ℤ) → IsTrue (in_frame old.size x y) → (u v : ℤ) → IsSeen old.size edge dx dy x y u v →
+    value old.size (pictures old round) a u v ≡ value new.size (pictures new round) b x y
 
 -- Two moves to one side of a line are one move by their sum, also with clamped points.
 abbrev pub IsJoined : (d e sum : ℤ) → Type 0
 IsJoined d e sum = (sum ≡ d +ℤ e) × (((pos 0 ≤ℤ d) × (pos 0 ≤ℤ e)) ⊎ ((d ≤ℤ pos 0) × (e ≤ℤ pos 0)))
 
--- On a picture a read by (ex, ey) from the clamped point at (dx, dy) is a read by (fx, fy) from the point itself.
-abbrev pub IsPushed : (dx dy : ℤ) → (edge : Edge) → (ex ey : ℤ) → (to : Edge) → (fx fy : ℤ) → Type 0
-IsPushed dx dy edge ex ey to fx fy = (size : Size) → IsFrame size.width size.height → (picture : Picture) → (x y : ℤ) → IsTrue (in_frame size x y) →
-    edged size Clamp (λ u v. edged size edge picture (u +ℤ ex) (v +ℤ ey)) (x +ℤ dx) (y +ℤ dy) ≡ edged size to picture (x +ℤ fx) (y +ℤ fy)
+-- On a picture a read by (ex, ey) from the point that is seen by the move (dx, dy) is a read by (fx, fy) from the point itself.
+abbrev pub IsPushed : (seen : Edge) → (dx dy : ℤ) → (edge : Edge) → (ex ey : ℤ) → (to : Edge) → (fx fy : ℤ) → Type 0
+IsPushed seen dx dy edge ex ey to fx fy = (size : Size) → IsFrame size.width size.height → (picture : Picture) → (x y : ℤ) → IsTrue (in_frame size x y) → (u v : ℤ) → IsSeen size seen dx dy x y u v →
+    edged size edge picture (u +ℤ ex) (v +ℤ ey) ≡ edged size to picture (x +ℤ fx) (y +ℤ fy)
+
+-- What is read by (ex, ey) from the point that is seen by the move (dx, dy) is what a picture shows at the point that is seen by the move (fx, fy).
+abbrev pub IsSeenBehind : (seen : Edge) → (dx dy : ℤ) → (edge : Edge) → (ex ey : ℤ) → (to : Edge) → (fx fy : ℤ) → Type 0
+IsSeenBehind seen dx dy edge ex ey to fx fy = (size : Size) → IsFrame size.width size.height → (picture : Picture) → (x y : ℤ) → IsTrue (in_frame size x y) → (u v : ℤ) → IsSeen size seen dx dy x y u v →
+    (r : ℤ) × (s : ℤ) × IsSeen size to fx fy x y r s × (edged size edge picture (u +ℤ ex) (v +ℤ ey) ≡ picture r s)
+
+-- Where a part of the new program has the value of an inline body at the point that is seen by the move `to`, b has the value that a read of this body by (ex, ey) has at the point that is seen by the move `at`.
+abbrev pub ShowsShifted : (new : Program) → (at : Step) → (edge : Edge) → (ex ey : ℤ) → (to : Step) → (part b : Tree) → Type 0
+ShowsShifted new at edge ex ey to part b = (old : Program) → IsProgram old → HaveSameInputs old new → (body : Tree) →
+    HaveSameMoved old new to.edge to.dx to.dy body part → HaveSameMoved old new at.edge at.dx at.dy (shifted edge ex ey body) b
+
+-- the expression is 1 at the points whose move by (dx, dy) is in the frame, and 0 at the others
+abbrev pub IsFrameTest : (p : Program) → (dx dy : ℤ) → Tree → Type 0
+IsFrameTest p dx dy e = (t : Ty) × StandsFor p e (shifted Zero dx dy (constant (pos 1) t))
+
+-- the expression has the value of the arm at these points, and is 0 at the others
+pub record IsFramed (p : Program) (dx dy : ℤ) (e arm : Tree) : Type 0 where
+  pub test : Tree
+  pub other : Ty
+  pub is : e ≡ select test arm (constant (pos 0) other)
+  pub tests : IsFrameTest p dx dy test

@@ -6,4 +6,4 @@ mod moves;
 mod operands;
 mod pairing;
 
-pub use pairing::have_same_pictures;
+pub use pairing::{first_other_image, have_same_pictures};

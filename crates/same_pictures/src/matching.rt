@@ -3,14 +3,14 @@
 ghost use Rattle.std.specs.Prelude.{◌≡◌, ℕ, List, Some, slice_get, IsTrue, IfSome};
 ghost use Rattle.pointwise_ir.specs.Trees.{tree_of, read};
 ghost use Rattle.pointwise_ir.specs.Programs.{IsBody};
-ghost use Rattle.same_pictures.specs.Matching.{IsReadHere, HaveSameValue, HaveSameMoved, StandsFor, ArePairs, HaveSameInputs};
+ghost use Rattle.same_pictures.specs.Matching.{IsReadHere, HaveSameValue, HaveSameMoved, StandsFor, ArePairs, HaveSameInputs, IsFrameTest, IsFramed, ShowsShifted};
 
-use crate::moves::{HERE, Offset, Step, pushed, pushed_shift};
+use crate::moves::{HERE, Step, pushed, pushed_shift};
 use crate::operands::{
-    binary_operands, converted_operand, is_constant, read_image, scaled_operand, select_operands,
-    shifted_body, unary_operand,
+    binary_operands, constant_type, converted_operand, is_constant, read_image, scaled_operand,
+    select_operands, shifted_body, unary_operand,
 };
-use pointwise_ir::{Expr, Program, meaning_law};
+use pointwise_ir::{Edge, Expr, Program, meaning_law};
 
 // The body of an image, by its number; none if it is an input.
 pub fn body_of(program: &Program, image: u32) -> Option<&Expr>
@@ -104,18 +104,78 @@ fn reads_pair(
     false
 }
 
-// Whether an expression of the new program has, at each point, the value that one of the old program has at the moved point.
+// Whether the expression is 1 at the points whose move is in the frame, and 0 at the others.
+fn is_frame_test(new: &Program, e: &Expr, dx: i32, dy: i32) -> bool
+    ensures { IsTrue result → IsFrameTest new.now dx dy (tree_of e.now) }
+{
+    match shifted_body(unfolded(new, e), Edge::Zero, dx, dy) {
+        Some(body) => match constant_type(body, 1) {
+            Some(_) => true,
+            None => false,
+        },
+        None => false,
+    }
+}
+
+// The arm of a choice that is taken where the moved point is in the frame, if the other arm is 0.
+fn framed_arm<'a>(new: &Program, e: &'a Expr, dx: i32, dy: i32) -> Option<&'a Expr>
+    ensures { IfSome result (λ arm. IsFramed new.now dx dy (tree_of e.now) (tree_of arm.now)) }
+{
+    let (condition, arm, other) = select_operands(e)?;
+    let _zero = constant_type(other, 0)?;
+    if is_frame_test(new, condition, dx, dy) {
+        Some(arm)
+    } else {
+        None
+    }
+}
+
+// A part of the new program, and where it is compared.
+#[derive(Clone, Copy)]
+struct Part<'a> {
+    to: Step,
+    body: &'a Expr,
+}
+
+// Where a read of an inline body that is 0 outside the frame is a choice by the frame test: the arm with the body.
+fn framed_part<'a>(new: &'a Program, at: Step, by: Step, b: &'a Expr) -> Option<Part<'a>>
+    ensures { IfSome result (λ p. ShowsShifted new.now at by.edge by.dx by.dy p.to (tree_of p.body.now) (tree_of b.now)) }
+{
+    let to = pushed(at, by)?;
+    match to.edge {
+        Edge::Clamp => None,
+        Edge::Zero => {
+            let body = framed_arm(new, unfolded(new, b), to.dx, to.dy)?;
+            Some(Part { to, body })
+        }
+    }
+}
+
+// The part that is compared with an inline body which is read by this step from a moved point.
+fn part_of<'a>(new: &'a Program, at: Step, by: Step, b: &'a Expr) -> Option<Part<'a>>
+    ensures { IfSome result (λ p. ShowsShifted new.now at by.edge by.dx by.dy p.to (tree_of p.body.now) (tree_of b.now)) }
+{
+    match pushed_shift(at, by) {
+        Some(to) => Some(Part { to, body: b }),
+        None => {
+            let part = framed_part(new, at, by, b)?;
+            Some(part)
+        }
+    }
+}
+
+// Whether an expression of the new program has, at each point, the value that one of the old program has at the moved point, where that is seen.
 fn has_same_moved(
     old: &Program,
     new: &Program,
     pairs: &[Option<u32>],
-    at: Offset,
+    at: Step,
     a: &Expr,
     b: &Expr,
 ) -> bool
     requires inputs { HaveSameInputs old.now new.now }
     requires pairs { ArePairs old.now new.now pairs.now }
-    ensures { IsTrue result → HaveSameMoved old.now new.now at.dx at.dy (tree_of a.now) (tree_of b.now) }
+    ensures { IsTrue result → HaveSameMoved old.now new.now at.edge at.dx at.dy (tree_of a.now) (tree_of b.now) }
 {
     old.law();
     let e = unfolded(new, b);
@@ -128,8 +188,8 @@ fn has_same_moved(
         Expr::Shifted(edge, dx, dy, body) => match pushed(at, Step::new(*edge, *dx, *dy)) {
             Some(step) => match shifted_body(e, step.edge, step.dx, step.dy) {
                 Some(other) => has_same_moved(old, new, pairs, HERE, body, other),
-                None => match pushed_shift(at, Step::new(*edge, *dx, *dy)) {
-                    Some(to) => has_same_moved(old, new, pairs, to, body, b),
+                None => match part_of(new, at, Step::new(*edge, *dx, *dy), b) {
+                    Some(part) => has_same_moved(old, new, pairs, part.to, body, part.body),
                     None => false,
                 },
             },

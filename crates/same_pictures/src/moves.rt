@@ -1,28 +1,25 @@
 // Reads and shifts from a moved point, as moves from the point itself.
 
 ghost use Rattle.std.specs.Prelude.{◌≡◌, IfSome};
-ghost use Rattle.pointwise_ir.specs.declared.expr.Edge.TheVariants.{Clamp};
-ghost use Rattle.same_pictures.specs.Matching.{IsJoined, IsPushed};
+ghost use Rattle.pointwise_ir.specs.declared.expr.Edge.TheVariants.{Zero, Clamp};
+ghost use Rattle.same_pictures.specs.Matching.{IsJoined, IsPushed, IsSeenBehind};
 
 use pointwise_ir::Edge;
 
-// How far a point is moved, to the right and down. It is brought to the frame's edge.
-#[derive(Clone, Copy)]
-pub struct Offset {
-    pub dx: i32,
-    pub dy: i32,
-}
-
-// No move.
-pub const HERE: Offset = Offset { dx: 0, dy: 0 };
-
-// An offset, and what is outside the frame.
+// A move to the right and down. Where the moved point is outside the frame, it is brought to the frame's edge (`Edge::Clamp`), or there is nothing to see (`Edge::Zero`).
 #[derive(Clone, Copy)]
 pub struct Step {
     pub edge: Edge,
     pub dx: i32,
     pub dy: i32,
 }
+
+// No move.
+pub const HERE: Step = Step {
+    edge: Edge::Clamp,
+    dx: 0,
+    dy: 0,
+};
 
 impl Step {
     pub fn new(edge: Edge, dx: i32, dy: i32) -> Step
@@ -47,9 +44,9 @@ fn joined(d: i32, e: i32) -> Option<i32>
     d.checked_add(e)
 }
 
-// A clamped step from a moved point.
-fn joined_step(at: Offset, dx: i32, dy: i32) -> Option<Step>
-    ensures { IfSome result (λ to. IsPushed at.dx at.dy Clamp dx dy to.edge to.dx to.dy) }
+// A clamped step from a point that was brought to the edge.
+fn joined_step(at: Step, dx: i32, dy: i32) -> Option<Step>
+    ensures { IfSome result (λ to. IsPushed Clamp at.dx at.dy Clamp dx dy to.edge to.dx to.dy) }
 {
     let dx = joined(at.dx, dx)?;
     let dy = joined(at.dy, dy)?;
@@ -60,42 +57,48 @@ fn joined_step(at: Offset, dx: i32, dy: i32) -> Option<Step>
     })
 }
 
+// A step from a moved point that is in the frame.
+fn added_step(at: Step, by: Step) -> Option<Step>
+    ensures { IfSome result (λ to. IsPushed Zero at.dx at.dy by.edge by.dx by.dy to.edge to.dx to.dy) }
+{
+    let dx = at.dx.checked_add(by.dx)?;
+    let dy = at.dy.checked_add(by.dy)?;
+    Some(Step {
+        edge: by.edge,
+        dx,
+        dy,
+    })
+}
+
 // A step from a moved point, as one from the point itself, if it is one on each picture.
-pub fn pushed(at: Offset, by: Step) -> Option<Step>
-    ensures { IfSome result (λ to. IsPushed at.dx at.dy by.edge by.dx by.dy to.edge to.dx to.dy) }
+pub fn pushed(at: Step, by: Step) -> Option<Step>
+    ensures { IfSome result (λ to. IsPushed at.edge at.dx at.dy by.edge by.dx by.dy to.edge to.dx to.dy) }
 {
     if at.dx == 0 && at.dy == 0 {
         return Some(by);
     }
     if by.dx == 0 && by.dy == 0 {
-        return Some(Step {
-            edge: Edge::Clamp,
-            dx: at.dx,
-            dy: at.dy,
-        });
+        return Some(at);
     }
-    match by.edge {
-        Edge::Zero => None,
-        Edge::Clamp => joined_step(at, by.dx, by.dy),
+    match at.edge {
+        Edge::Zero => added_step(at, by),
+        Edge::Clamp => match by.edge {
+            Edge::Zero => None,
+            Edge::Clamp => joined_step(at, by.dx, by.dy),
+        },
     }
 }
 
-// The same as a move of the point, which is clamped.
-pub fn pushed_shift(at: Offset, by: Step) -> Option<Offset>
-    ensures { IfSome result (λ to. IsPushed at.dx at.dy by.edge by.dx by.dy Clamp to.dx to.dy) }
+// The move to the point that a step from a moved point ends at, if it ends at one from each point.
+pub fn pushed_shift(at: Step, by: Step) -> Option<Step>
+    ensures { IfSome result (λ to. IsSeenBehind at.edge at.dx at.dy by.edge by.dx by.dy to.edge to.dx to.dy) }
 {
+    if by.dx == 0 && by.dy == 0 {
+        return Some(at);
+    }
     let to = pushed(at, by)?;
     match to.edge {
-        Edge::Clamp => Some(Offset {
-            dx: to.dx,
-            dy: to.dy,
-        }),
-        Edge::Zero => {
-            if to.dx == 0 && to.dy == 0 {
-                Some(HERE)
-            } else {
-                None
-            }
-        }
+        Edge::Clamp => Some(to),
+        Edge::Zero => None,
     }
 }

@@ -16,6 +16,16 @@ pub fn is_constant(e: &Expr, value: i128, ty: Ty) -> bool
     }
 }
 
+// The type of the constant that the expression is, if it has this value.
+pub fn constant_type(e: &Expr, value: i128) -> Option<Ty>
+    ensures { IfSome result (λ t. tree_of e.now ≡ constant value t) }
+{
+    match e {
+        Expr::Constant(other, ty) => { if *other == value { Some(*ty) } else { None } }
+        _ => None,
+    }
+}
+
 // The image that is read by this offset.
 pub fn read_image(e: &Expr, edge: Edge, dx: i32, dy: i32) -> Option<u32>
     ensures { IfSome result (λ g. tree_of e.now ≡ read edge g dx dy) }

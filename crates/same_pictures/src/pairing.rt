@@ -206,3 +206,27 @@ pub fn have_same_pictures(alloc: Global, old: &Program, new: &Program) -> Result
     let pairs = all_pairs(alloc, old, new)?;
     Ok(are_pairs(&pairs, old.outputs(), new.outputs()))
 }
+
+// The first image without a counterpart.
+fn first_unpaired(pairs: &[Option<u32>]) -> Option<u32> {
+    let place = pairs.iter().position(|pair| pair.is_none())?;
+    u32::try_from(place).ok()
+}
+
+/// The first image of the old program, by its number, for which the new one has no image that `have_same_pictures` would take for the same. None if there is none, or the inputs are not the same. Fails only if out of memory.
+///
+/// No contract states which image it is. It is for a caller that changes the new program and tries again.
+pub fn first_other_image(
+    alloc: Global,
+    old: &Program,
+    new: &Program,
+) -> Result<Option<u32>, OutOfMemory> {
+    if old.size() != new.size() {
+        return Ok(None);
+    }
+    if !are_same_inputs(old.inputs(), new.inputs()) {
+        return Ok(None);
+    }
+    let pairs = all_pairs(alloc, old, new)?;
+    Ok(first_unpaired(&pairs))
+}

@@ -19,6 +19,6 @@ returns c =
     let down = joined_of at.dy c.args.dy c.in_ok-dy.dy fy c.ranges.dy c.in_ok-dy.ensures in
     let sx : FitsSigned w32 c.in_ok-dx.dx = search rules in
     let sy : FitsSigned w32 c.in_ok-dy.dy = search rules in
-    to_word (λ u. IsPushed at.dx at.dy Clamp c.args.dx c.args.dy Clamp u (word c.in_ok-dy.dy)) c.in_ok-dx.dx sx
-    (to_word (λ v. IsPushed at.dx at.dy Clamp c.args.dx c.args.dy Clamp c.in_ok-dx.dx v) c.in_ok-dy.dy sy
+    to_word (λ u. IsPushed Clamp at.dx at.dy Clamp c.args.dx c.args.dy Clamp u (word c.in_ok-dy.dy)) c.in_ok-dx.dx sx
+    (to_word (λ v. IsPushed Clamp at.dx at.dy Clamp c.args.dx c.args.dy Clamp c.in_ok-dx.dx v) c.in_ok-dy.dy sy
     (pushed_joined at.dx at.dy c.args.dx c.args.dy c.in_ok-dx.dx c.in_ok-dy.dy across down))
