@@ -1,5 +1,5 @@
 -- What an image's frame tests add, where their counters are none of the copies.
-use Rattle.std.proofs.Common.{◌≡◌, ℕ, suc, ◌<◌, ◌≤◌, List, [], ◌∷◌, ◌++◌, length, Option, None, Some, sym, subst, inl, inr, arith}
+use Rattle.std.proofs.Common.{◌≡◌, ℕ, suc, ◌<◌, List, ◌++◌, length, Option, None, Some, subst, inl, inr, arith}
 use Rattle.std.specs.Prelude.{All, Contains, IfSome}
 use Rattle.std.proofs.lemmas.List.Elements.{All-contains, Contains-append_cases}
 use Rattle.dk_base.specs.Frames.{Size}
@@ -14,7 +14,7 @@ use Rattle.net_build.specs.Control.{IsControlled, AddsNoReads}
 use Rattle.line_buffer.specs.Buffers.{IsAdded}
 use Rattle.edge_select.specs.declared.counters.Counters.{Counters}
 use Rattle.edge_select.specs.declared.frame_tests.FrameTests.{FrameTests}
-use Rattle.edge_select.specs.FrameTests.{AreCounters, AreFrameTests, AddsTests, ArePlainly, AreApart, IsApart, IsControlledBeside}
+use Rattle.edge_select.specs.FrameTests.{AreCounters, AreFrameTests, AddsTests, ArePlainly, AreApart, IsApart}
 
 -- what holds of added control for these copies
 pub record AddsFor (new old : Netlist) (copies : List ℕ) : Type 0 where
