@@ -3,18 +3,17 @@ use Rattle.std.proofs.Common.{◌≡◌, ◌⊎◌, ℕ, ◌-◌, ◌<◌, ◌�
 use Rattle.std.specs.Prelude.{IsTrue, ◌≤ℤ◌}
 use Rattle.std.proofs.lemmas.Bool.{cases_lt}
 use Rattle.std.proofs.lemmas.Int.{ints, to_z-of_z}
-use Rattle.dk_base.specs.declared.ty.Ty.{Ty}
-use Rattle.dk_base.specs.Frames.{Size, IsFrame, Picture, in_frame, is_below, clamped, picture_at}
+use Rattle.dk_base.specs.Frames.{Size, IsFrame, Picture, in_frame, is_below, clamped}
 use Rattle.dk_base.specs.Operators.{select_value}
 use Rattle.pointwise_ir.specs.declared.expr.Edge.{Edge}
 use Rattle.pointwise_ir.specs.declared.expr.Edge.TheVariants.{Zero, Clamp}
-use Rattle.pointwise_ir.specs.Trees.{Tree, constant, read, shifted}
+use Rattle.pointwise_ir.specs.Trees.{Tree, shifted}
 use Rattle.pointwise_ir.specs.Programs.{Program, IsProgram}
 use Rattle.pointwise_ir.specs.Meaning.{edged, value, pictures, IsRound}
 use Rattle.dk_base.proofs.Rasters.{below_is, inside_is}
 use Rattle.same_pictures.specs.declared.moves.Step.{Step}
-use Rattle.same_pictures.specs.Matching.{HaveSameValue, HaveSameMoved, HaveSameInputs, StandsFor, IsSeen, IsJoined, IsPushed, IsSeenBehind, IsFrameTest, IsFramed, ShowsShifted}
-use Rattle.same_pictures.proofs.Values.{clamped_same, clamped_inside, edged_here, round_too, same_shifted}
+use Rattle.same_pictures.specs.Matching.{HaveSameValue, HaveSameMoved, HaveSameInputs, StandsFor, IsSeen, IsJoined, IsPushed, IsSeenBehind, IsFramed, ShowsShifted}
+use Rattle.same_pictures.proofs.Values.{clamped_same, clamped_inside, round_too, same_shifted}
 
 -- the nearest number of 0 to last: below, above or inside
 abbrev Nearest : (last v r : ℤ) → Type 0
@@ -62,15 +61,6 @@ shown size Zero p dx dy x y u v (across, down, there) =
     let inside : in_frame size (x +ℤ dx) (y +ℤ dy) ≡ true = sym (ap (λ r. in_frame size r v) across ∙ ap (in_frame size (x +ℤ dx)) down) ∙ there in
     ap (λ r. p r v) across ∙ ap (p (x +ℤ dx)) down ∙ sym (ap (λ b. if b then p (x +ℤ dx) (y +ℤ dy) else pos 0) inside)
 
-pub pushed_here : (seen edge : Edge) (ex ey : ℤ) → IsPushed seen (pos 0) (pos 0) edge ex ey edge ex ey
-pushed_here seen edge ex ey size frame p x y inside u v is =
-    let here = seen_here size seen x y u v inside is in
-    ap (λ r. edged size edge p (r +ℤ ex) (v +ℤ ey)) here.0 ∙ ap (λ s. edged size edge p (x +ℤ ex) (s +ℤ ey)) here.1
-
-pub pushed_still : (seen : Edge) (dx dy : ℤ) (edge : Edge) → IsPushed seen dx dy edge (pos 0) (pos 0) seen dx dy
-pushed_still seen dx dy edge size frame p x y inside u v is =
-    edged_here size edge p u v (seen_inside size frame seen dx dy x y u v is) ∙ shown size seen p dx dy x y u v is
-
 -- a clamped read to the same sides
 pub pushed_joined : (dx dy ex ey fx fy : ℤ) → IsJoined dx ex fx → IsJoined dy ey fy → IsPushed Clamp dx dy Clamp ex ey Clamp fx fy
 pushed_joined dx dy ex ey fx fy across down size frame p x y inside u v is =
@@ -87,9 +77,6 @@ pushed_added dx dy edge ex ey fx fy across down size frame p x y inside u v (one
     let s : v +ℤ ey ≡ y +ℤ fy = omega (arith, ints, two, down) in
     ap (λ t. edged size edge p t (v +ℤ ey)) r ∙ ap (edged size edge p (x +ℤ fx)) s
 
-pub behind_still : (seen : Edge) (dx dy : ℤ) (edge : Edge) → IsSeenBehind seen dx dy edge (pos 0) (pos 0) seen dx dy
-behind_still seen dx dy edge size frame p x y inside u v is = (u, v, is, edged_here size edge p u v (seen_inside size frame seen dx dy x y u v is))
-
 pub behind_clamped : (seen : Edge) (dx dy : ℤ) (edge : Edge) (ex ey fx fy : ℤ) → IsPushed seen dx dy edge ex ey Clamp fx fy → IsSeenBehind seen dx dy edge ex ey Clamp fx fy
 behind_clamped seen dx dy edge ex ey fx fy pushed size frame p x y inside u v is =
     (clamped size.width (x +ℤ fx), clamped size.height (y +ℤ fy), (refl, refl), pushed size frame p x y inside u v is)
@@ -103,14 +90,6 @@ pub moved_standing : (old new : Program) → HaveSameInputs old new → (edge : 
 moved_standing old new same edge dx dy a b c stands has round is x y inside u v seen =
     has round is x y inside u v seen ∙ sym (stands round (round_too old new same round is) x y (subst (λ (s : Size). IsTrue (in_frame s x y)) (sym same.size) inside))
 
-pub moved_constant : (old new : Program) (edge : Edge) (dx dy v : ℤ) (t : Ty) → HaveSameMoved old new edge dx dy (constant v t) (constant v t)
-moved_constant old new edge dx dy v t round is x y inside r s seen = refl
-
-pub moved_read : (old new : Program) (seen : Edge) (dx dy : ℤ) (edge to : Edge) (g : ℕ) (ex ey fx fy : ℤ) (b : Tree) → IsProgram old → IsPushed seen dx dy edge ex ey to fx fy → HaveSameValue old new (read to g fx fy) b →
-    HaveSameMoved old new seen dx dy (read edge g ex ey) b
-moved_read old new seen dx dy edge to g ex ey fx fy b program pushed has round is x y inside u v there =
-    pushed old.size program.frame (picture_at (pictures old round) g) x y inside u v there ∙ has round is x y inside
-
 -- an inline body that stays whole
 pub moved_shifted : (old new : Program) → HaveSameInputs old new → IsProgram old → (seen : Edge) (dx dy : ℤ) (edge to : Edge) (ex ey fx fy : ℤ) (a b : Tree) → IsPushed seen dx dy edge ex ey to fx fy →
     HaveSameMoved old new Clamp (pos 0) (pos 0) a b → HaveSameMoved old new seen dx dy (shifted edge ex ey a) (shifted to fx fy b)
@@ -123,9 +102,6 @@ pub shows_apart : (new : Program) (at : Step) (edge : Edge) (ex ey : ℤ) (to : 
 shows_apart new at edge ex ey to b behind old program same body has round is x y inside u v seen =
     let (r, s, there, equal) = behind old.size program.frame (value old.size (pictures old round) body) x y inside u v seen in
     equal ∙ has round is x y inside r s there
-
-pub frame_test : (p : Program) (dx dy : ℤ) (e e' b : Tree) (t : Ty) → StandsFor p e e' → e' ≡ shifted Zero dx dy b → b ≡ constant (pos 1) t → IsFrameTest p dx dy e
-frame_test p dx dy e e' b t stands is one = (t, subst (λ (k : Tree). StandsFor p e k) (is ∙ ap (shifted Zero dx dy) one) stands)
 
 -- an inline body under a frame test
 pub shows_framed : (new : Program) (at : Step) (edge : Edge) (ex ey : ℤ) (to : Step) (e arm b : Tree) → to.edge ≡ Zero → IsPushed at.edge at.dx at.dy edge ex ey to.edge to.dx to.dy → StandsFor new b e → IsFramed new to.dx to.dy e arm →

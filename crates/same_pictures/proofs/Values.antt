@@ -24,11 +24,6 @@ round_too old new same round is = record {
       subst (λ (s : Size). IsPicture s input.ty (picture_at round k)) (sym same.size) (is.pictures k input at);
 }
 
--- what stands for an expression of the new program serves as well
-pub by_standing : (old new : Program) → HaveSameInputs old new → (a b c : Tree) → StandsFor new b c → HaveSameValue old new a c → HaveSameValue old new a b
-by_standing old new same a b c stands has round is x y inside =
-    has round is x y inside ∙ sym (stands round (round_too old new same round is) x y (subst (λ (s : Size). IsTrue (in_frame s x y)) (sym same.size) inside))
-
 -- a coordinate inside is its own nearest one
 pub clamped_same : (limit : ℕ) (x : ℤ) → IsTrue (is_below x limit) → clamped limit x ≡ x
 clamped_same limit x below =
