@@ -1,6 +1,6 @@
 // Bodies with the bodies of inline images in place of reads.
 
-use crate::copies::{Reads, as_written, boxed, term_of};
+use crate::copies::{boxed, term_of};
 use crate::images::{definition_number, is_output, read_levels};
 use crate::levels::levels_of;
 use crate::moved::{MoveFault, framed, is_cut_off, moved};
@@ -25,7 +25,7 @@ pub(crate) struct Expanded {
 
 // Replaces reads of inline images.
 #[derive(Drop)]
-struct Expander<'a> {
+pub(crate) struct Expander<'a> {
     program: &'a TypedProgram,
     // The bodies before.
     before: &'a [Expanded],
@@ -68,17 +68,22 @@ impl<'a> Expander<'a> {
     fn stays(&self, read: TypedRead) -> bool {
         is_cut_off(read) && read_levels(self.program, self.levels, read) <= self.most
     }
-}
 
-impl<'a> Reads for Expander<'a> {
-    fn gives_constant(&self, read: TypedRead) -> bool {
+    // Whether the read is replaced by an expression of one value at all points.
+    pub(crate) fn gives_constant(&self, read: TypedRead) -> bool {
         match substitute(self.program, self.before, read.image) {
             Some((expanded, _)) => expanded.is_constant && !is_cut_off(read),
             None => false,
         }
     }
 
-    fn replaced(&mut self, alloc: Global, read: TypedRead, ty: Ty) -> Result<Term, OutOfMemory> {
+    // What replaces this read, whose type is `ty`.
+    pub(crate) fn replaced(
+        &mut self,
+        alloc: Global,
+        read: TypedRead,
+        ty: Ty,
+    ) -> Result<Term, OutOfMemory> {
         let same = Term {
             ty,
             node: TermNode::Read(read),
@@ -122,11 +127,11 @@ pub(crate) fn expanded_bodies(
             most,
             room: if *is_reached { room } else { 0 },
         };
-        let body = term_of(alloc, &mut expander, &definition.body)?;
+        let body = term_of(alloc, &mut expander, &definition.body, false)?;
         if *is_reached {
             room = expander.room;
         }
-        let written = as_written(alloc, &definition.body)?;
+        let written = term_of(alloc, &mut expander, &definition.body, true)?;
         levels.push(levels_of(program, &levels, &written).unwrap_or(0))?;
         all.push(Expanded {
             nodes: node_count(&body),

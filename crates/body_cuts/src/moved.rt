@@ -81,13 +81,6 @@ fn moved_read(outer: TypedRead, inner: TypedRead) -> Option<TypedRead> {
     }
 }
 
-fn read_node(outer: TypedRead, inner: TypedRead) -> Result<TermNode, MoveFault> {
-    match moved_read(outer, inner) {
-        Some(read) => Ok(TermNode::Read(read)),
-        None => Err(MoveFault::NoRead),
-    }
-}
-
 // The frame test at the point that `outer` reads. A clamped point has none.
 fn test_node(outer: TypedRead, dx: i32, dy: i32) -> Result<TermNode, MoveFault> {
     if is_still(outer) {
@@ -103,7 +96,10 @@ fn test_node(outer: TypedRead, dx: i32, dy: i32) -> Result<TermNode, MoveFault> 
 pub(crate) fn moved(alloc: Global, read: TypedRead, body: &Term) -> Result<Term, MoveFault> {
     let node = match &body.node {
         TermNode::Number(value) => TermNode::Number(*value),
-        TermNode::Read(inner) => read_node(read, *inner)?,
+        TermNode::Read(inner) => match moved_read(read, *inner) {
+            Some(seen) => TermNode::Read(seen),
+            None => return Err(MoveFault::NoRead),
+        },
         TermNode::InFrame(dx, dy) => test_node(read, *dx, *dy)?,
         TermNode::Unary(operator, a) => {
             let a = moved(alloc, read, a)?;
