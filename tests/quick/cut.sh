@@ -51,6 +51,19 @@ done 3<"$examples/programs/pictures.txt"
 cuts 'room for a piece' 'cut: definitions 256 levels 2' 2 many.dk
 cuts 'no room for two pieces' 'cut: definitions 255 levels 3' 1 many.dk
 is 'a program that cannot be cut was changed' cmp -s many.dk out.dk
+
+# Inline images that nothing reads can be deeper than any limit: 22 of 505 casts each.
+awk 'BEGIN {
+    print "size 4 1\ninput a : u8"
+    for (k = 1; k <= 22; k++) {
+        body = k == 1 ? "a(x,y)" : "d" k - 1 "(x,y)"
+        for (cast = 1; cast <= 505; cast++) body = body " as u8"
+        print "inline let d" k " = im(x,y) " body " end"
+    }
+    print "let f = im(x,y) a(x,y) + a(x-1,y) + a(x+1,y) end\noutput f"
+}' >deep.dk
+cuts 'inline images that nothing reads' 'cut: definitions 24 levels 1' 1 deep.dk
+
 ends 2 "$usage" cut 0 many.dk out.dk
 ends 2 "$usage" cut 65 many.dk out.dk
 ends 2 "$usage" cut 1 many.dk many.dk
