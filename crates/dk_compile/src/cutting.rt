@@ -64,12 +64,7 @@ fn blamed(
 }
 
 // The text of the cut program where it shows the pictures of the source's program; else the source as it is. A body that the check refuses stays whole.
-fn checked(
-    alloc: Global,
-    source: &[u8],
-    old: &Program,
-    levels: u8,
-) -> Result<Vec<u8>, OutOfMemory>
+fn checked(alloc: Global, source: &[u8], old: &Program, levels: u8) -> Result<Vec<u8>, OutOfMemory>
     requires form { HasForm source.now old.now }
     ensures { IfOk result (λ chosen. IsCutOf source.now chosen.items) }
 {
