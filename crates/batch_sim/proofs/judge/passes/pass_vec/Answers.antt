@@ -1,4 +1,4 @@
-use Rattle.std.proofs.Common.{◌≡◌, ◌≤◌, ◌∙◌, ℕ, List, length, sym, subst, arith, rules}
+use Rattle.std.proofs.Common.{◌≡◌, ◌≤◌, ℕ, List, length, sym, subst, arith, rules}
 use Rattle.batch_guess.proofs.Tables.{in_place}
 use Rattle.batch_sim.proofs.judge.passes.pass_vec.Goals as goal
 
