@@ -1,4 +1,4 @@
-use Rattle.std.proofs.Common.{ℕ, ◌<◌, length, arith, sym, subst}
+use Rattle.std.proofs.Common.{ℕ, arith, sym, subst}
 use Rattle.wiring.specs.Snapshot.{Contents, FitsContents}
 use Rattle.lane_rows.specs.Values.{values_of}
 use Rattle.batch_rows.specs.Code.{AllHold}

@@ -1,9 +1,7 @@
-use Rattle.std.proofs.Common.{ℕ, ◌<◌, List, length, subst}
-use Rattle.lane_rows.specs.declared.row.Row.{Row}
+use Rattle.std.proofs.Common.{length}
 use Rattle.lane_rows.specs.Values.{values_of}
-use Rattle.batch_sim.specs.Called.{batch_clocks, of_clock}
+use Rattle.batch_sim.specs.Called.{batch_clocks}
 use Rattle.batch_sim.specs.Stored.{contents_in}
-use Rattle.batch_sim.specs.Shown.{AreRowOuts}
 use Rattle.batch_sim.proofs.Rowwise.{piece_long, piece_shown}
 use Rattle.batch_sim.proofs.rows.rows_batch.Goals as goal
 

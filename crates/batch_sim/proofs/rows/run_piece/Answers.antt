@@ -1,4 +1,4 @@
-use Rattle.std.proofs.Common.{length, refl, ap, sym, subst, ◌∙◌}
+use Rattle.std.proofs.Common.{length, ap, sym, subst, ◌∙◌}
 use Rattle.batch_code.specs.Rows.{RowsRan}
 use Rattle.batch_guess.specs.declared.engine.Engine.{Engine}
 use Rattle.batch_guess.specs.Guess.{Guessed}
