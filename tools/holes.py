@@ -1,0 +1,104 @@
+#!/usr/bin/env python3
+"""Checks a crate before the crates below it are proved: `rattle check` of it, where each lower crate without a library is a copy in which the proof of
+each function is a hole. The prover takes such a function by its contract, so that the upper crate's own answers and searches are all checked.
+
+A function of the upper crate is done if each hole that it stands on is one of a copy. Trait methods of an impl and cycles of calls keep their proofs.
+
+usage: tools/holes.py CRATE [FLAG..]
+
+The flags go to `rattle check`, as `--only CRATE::module::function`. The copies, and what is kept of the last check, are in a folder for temporary files.
+"""
+
+import os
+import re
+import shutil
+import subprocess
+import sys
+import tempfile
+
+# the kit lies where `rt doc` says
+KIT = os.path.dirname(os.popen("rt doc").read())
+sys.path.insert(0, KIT + "/bin")
+import rtlib
+
+TOP = os.path.dirname(os.path.dirname(os.path.abspath(__file__)))
+HOLES = f"{tempfile.gettempdir()}/holes-of-{os.path.basename(TOP)}"
+FUNCTION = r"(?:pub(?:\([^)]*\))?\s+)?(?:const\s+)?fn\s+(\w+)"
+
+
+def dependencies():
+    """For each crate the names behind its colon in crates.txt."""
+    with open(f"{TOP}/crates.txt", encoding="utf-8") as file:
+        return {found[1]: found[2].split() for found in re.finditer(r"(?m)^(\w+)(?: staticlib)?:(.*)$", file.read())}
+
+
+def paths_in(text, module):
+    """The paths of the functions of a file, without those of an impl of a trait and those of tests."""
+    owner, before = None, ""
+    for line in text.split("\n"):
+        head = re.match(r"impl(?:<.*?>)?\s+(.*?)\s*\{", line)
+        if head:
+            owner = None if " for " in head[1] else re.sub(r"<.*", "", head[1])
+        elif line.startswith("}"):
+            owner = None
+        elif "cfg(test)" not in before:
+            free, method = re.match(FUNCTION, line), re.match("    " + FUNCTION, line)
+            if free:
+                yield [*module, free[1]]
+            elif method and owner:
+                yield [*module, owner, method[1]]
+        before = line
+
+
+def hole(crate, folder, path):
+    """The proof of a function as a hole."""
+    place = f"{folder}/proofs/{'/'.join(path)}"
+    if os.path.isdir(f"{os.path.dirname(place)}/+{path[-1]}"):
+        return
+    shutil.rmtree(place, ignore_errors=True)
+    os.makedirs(place)
+    with open(f"{place}/Proof.antt", "w", encoding="utf-8") as file:
+        file.write(f"use Rattle.{crate}.proofs.{'.'.join(path)}.Statement.{{statement}}\n\n")
+        file.write(f"pub {path[-1]}_spec : {{M : Type 1}} → statement M\n{path[-1]}_spec = ?\n")
+
+
+def copied(crate):
+    """A copy of the crate with holes; returns its first file."""
+    folder = f"{HOLES}/{crate}"
+    shutil.rmtree(folder, ignore_errors=True)
+    for part in ("src", "specs", "proofs"):
+        if os.path.isdir(f"{TOP}/crates/{crate}/{part}"):
+            shutil.copytree(f"{TOP}/crates/{crate}/{part}", f"{folder}/{part}")
+    for below, _, names in os.walk(f"{folder}/src"):
+        for name in (it for it in names if it.endswith(".rt")):
+            module = os.path.relpath(f"{below}/{name}", f"{folder}/src")[:-3].split("/")
+            with open(f"{below}/{name}", encoding="utf-8") as file:
+                for path in paths_in(file.read(), module[:-1] if module[-1] in ("lib", "mod") else module):
+                    hole(crate, folder, path)
+    return f"{folder}/src/lib.rt"
+
+
+def main():
+    crate, used = sys.argv[1], dependencies()
+    os.chdir(TOP)
+    here = {it.name: it for it in rtlib.crates_below(TOP)}
+    words = [f"{KIT}/bin/rattle", "check", "--crate-name", crate, "src/main.rt" if here[crate].is_program else "src/lib.rt"]
+    words += ["-L", f"dependency={KIT}/rlibs"]
+    for name in ["std", "core", *(it for it in used[crate] if it not in here)]:
+        words += ["--extern", f"{name}={KIT}/rlibs/{name}.rlib"]
+    real = set()
+    for low in here[crate].below():
+        if low.is_built() and all(it in real or it not in here for it in used[low.name]):
+            real.add(low.name)
+            words += ["-L", f"dependency={low.folder}/out/rlib"]
+            words += ["--extern", f"{low.name}={low.folder}/out/rlib/{low.name}.rlib"] if low.name in used[crate] else []
+        else:
+            words += ["--lib", f"{low.name}:{','.join(['core', 'std', *used[low.name]])}={copied(low.name)}"]
+    os.makedirs(f"{HOLES}/kept-{crate}", exist_ok=True)
+    words += ["--antt-project", f"{KIT}/rattle/logic/antt-project.json", "--logic-built", f"{KIT}/logic_built"]
+    words += ["--incremental", f"{HOLES}/kept-{crate}", "--allow-holes", "--progress", *sys.argv[2:]]
+    print("with libraries:", *sorted(real), flush=True)
+    return subprocess.call(words, cwd=f"{TOP}/crates/{crate}")
+
+
+sys.exit(main())
