@@ -3,7 +3,7 @@ use Rattle.std.proofs.Common.{◌≡◌, ◌⊎◌, ℕ, ◌-◌, ◌<◌, ◌�
 use Rattle.std.specs.Prelude.{IsTrue, ◌≤ℤ◌}
 use Rattle.std.proofs.lemmas.Bool.{cases_lt}
 use Rattle.std.proofs.lemmas.Int.{ints, to_z-of_z}
-use Rattle.dk_base.specs.Frames.{Size, IsFrame, Picture, in_frame, is_below, clamped}
+use Rattle.dk_base.specs.Frames.{Size, in_frame, is_below, clamped}
 use Rattle.dk_base.specs.Operators.{select_value}
 use Rattle.pointwise_ir.specs.declared.expr.Edge.{Edge}
 use Rattle.pointwise_ir.specs.declared.expr.Edge.TheVariants.{Zero, Clamp}
@@ -13,7 +13,7 @@ use Rattle.pointwise_ir.specs.Meaning.{edged, value, pictures, IsRound}
 use Rattle.dk_base.proofs.Rasters.{below_is, inside_is}
 use Rattle.same_pictures.specs.declared.moves.Step.{Step}
 use Rattle.same_pictures.specs.Matching.{HaveSameValue, HaveSameMoved, HaveSameInputs, StandsFor, IsSeen, IsJoined, IsPushed, IsSeenBehind, IsFramed, ShowsShifted}
-use Rattle.same_pictures.proofs.Values.{clamped_same, clamped_inside, round_too, same_shifted}
+use Rattle.same_pictures.proofs.Values.{clamped_same, round_too, same_shifted}
 
 -- the nearest number of 0 to last: below, above or inside
 abbrev Nearest : (last v r : ℤ) → Type 0
@@ -43,23 +43,6 @@ here_seen size x y inside =
     let across : x +ℤ pos 0 ≡ x = omega (arith, ints) in
     let down : y +ℤ pos 0 ≡ y = omega (arith, ints) in
     (sym (ap (clamped size.width) across ∙ clamped_same size.width x parts.0), sym (ap (clamped size.height) down ∙ clamped_same size.height y parts.1))
-
-seen_here : (size : Size) (edge : Edge) (x y u v : ℤ) → IsTrue (in_frame size x y) → IsSeen size edge (pos 0) (pos 0) x y u v → (u ≡ x) × (v ≡ y)
-seen_here size Zero x y u v inside (across, down, there) = (omega (arith, ints, across), omega (arith, ints, down))
-seen_here size Clamp x y u v inside (across, down) = let here = here_seen size x y inside in (across ∙ sym here.0, down ∙ sym here.1)
-
--- a point that is seen is in the frame
-seen_inside : (size : Size) → IsFrame size.width size.height → (edge : Edge) (dx dy x y u v : ℤ) → IsSeen size edge dx dy x y u v → IsTrue (in_frame size u v)
-seen_inside size frame Zero dx dy x y u v (across, down, there) = there
-seen_inside size frame Clamp dx dy x y u v (across, down) =
-    ap (λ r. in_frame size r v) across ∙ ap (in_frame size (clamped size.width (x +ℤ dx))) down ∙ clamped_inside size (x +ℤ dx) (y +ℤ dy) frame
-
--- a read by the move shows the point that is seen
-shown : (size : Size) (edge : Edge) (p : Picture) (dx dy x y u v : ℤ) → IsSeen size edge dx dy x y u v → p u v ≡ edged size edge p (x +ℤ dx) (y +ℤ dy)
-shown size Clamp p dx dy x y u v (across, down) = ap (λ r. p r v) across ∙ ap (p (clamped size.width (x +ℤ dx))) down
-shown size Zero p dx dy x y u v (across, down, there) =
-    let inside : in_frame size (x +ℤ dx) (y +ℤ dy) ≡ true = sym (ap (λ r. in_frame size r v) across ∙ ap (in_frame size (x +ℤ dx)) down) ∙ there in
-    ap (λ r. p r v) across ∙ ap (p (x +ℤ dx)) down ∙ sym (ap (λ b. if b then p (x +ℤ dx) (y +ℤ dy) else pos 0) inside)
 
 -- a clamped read to the same sides
 pub pushed_joined : (dx dy ex ey fx fy : ℤ) → IsJoined dx ex fx → IsJoined dy ey fy → IsPushed Clamp dx dy Clamp ex ey Clamp fx fy

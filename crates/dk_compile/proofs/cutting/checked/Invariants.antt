@@ -2,4 +2,4 @@ use Rattle.dk_compile.proofs.cutting.checked.Given as goal
 
 -- nothing but what holds before it
 abbrev pub invariant-loop : goal.invariant-loop
-invariant-loop g l = Unit {0}
+invariant-loop l = Unit {0}
