@@ -1,5 +1,5 @@
 -- Programs whose forms show the same pictures show the same pictures.
-use Rattle.std.proofs.Common.{◌≡◌, ℕ, ℤ, ◌<◌, List, length, map, take, slice_get, sym, ap, subst, ◌∙◌, Some}
+use Rattle.std.proofs.Common.{◌≡◌, refl, ℕ, ℤ, ◌<◌, List, length, map, take, slice_get, sym, ap, subst, ◌∙◌, Some}
 use Rattle.std.specs.Prelude.{Contains, slice_index, option_map}
 use Rattle.std.proofs.lemmas.List.{length-map}
 use Rattle.std.proofs.Math.Seq.{take-append_seam}
@@ -104,4 +104,22 @@ cut_of source text old has shows = record {
   from = has.accepted.program;
   accepted = shows.has.accepted;
   same = same_of_forms has.program shows.has.program old shows.new has.form shows.has.form shows.same;
+}
+
+-- a text that is accepted is one that its own program was cut to
+pub cut_of_itself : (source : List ℕ) (old : Program) → HasForm source old → IsCutOf source source
+cut_of_itself source old has = record {
+  old = has.program;
+  new = has.program;
+  from = has.accepted.program;
+  accepted = has.accepted;
+  same = record {
+    size = refl;
+    input_types = refl;
+    input_names = refl;
+    count = refl;
+    names = λ k lt. refl;
+    types = λ k lt. refl;
+    pictures = λ round is k lt x y. refl;
+  };
 }
