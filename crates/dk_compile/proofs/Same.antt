@@ -1,5 +1,5 @@
 -- Programs whose forms show the same pictures show the same pictures.
-use Rattle.std.proofs.Common.{◌≡◌, refl, ℕ, ℤ, ◌<◌, List, length, map, take, slice_get, sym, ap, subst, ◌∙◌, Some}
+use Rattle.std.proofs.Common.{◌≡◌, refl, absurd, arith, ℕ, ℤ, ◌<◌, ◌≤◌, List, length, map, take, slice_get, sym, ap, subst, ◌∙◌, Some}
 use Rattle.std.specs.Prelude.{Contains, slice_index, option_map}
 use Rattle.std.proofs.lemmas.List.{length-map}
 use Rattle.std.proofs.Math.Seq.{take-append_seam}
@@ -20,7 +20,7 @@ use Rattle.dk_inline.specs.Inlined.{Stays}
 use Rattle.pointwise_ir.proofs.Pictured.{mapped_entry}
 use Rattle.dk_compile.specs.Fronts.{IsForm}
 use Rattle.same_pictures.specs.Same.{HaveSamePictures}
-use Rattle.dk_compile.specs.Cuts.{IsRound, output_picture, ShowSamePictures, IsCutOf}
+use Rattle.dk_compile.specs.Cuts.{IsRound, output_picture, ShowSamePictures, KeepsPictures, HasMeasures, HasLevels, IsCutOf}
 use Rattle.dk_compile.specs.Judged.{HasForm, ShowsFormOf}
 
 long_inputs : (p : Typing) (ir : Program) → IsForm p ir → length ir.inputs ≡ length p.inputs
@@ -97,8 +97,8 @@ same_of_forms old new a b of_old of_new same =
     }
 
 -- a text whose program has a form that shows the pictures of the source's form
-pub cut_of : (source text : List ℕ) (old : Program) → HasForm source old → ShowsFormOf old text → IsCutOf source text
-cut_of source text old has shows = record {
+pub keeps_of : (source text : List ℕ) (old : Program) → HasForm source old → ShowsFormOf old text → KeepsPictures source text
+keeps_of source text old has shows = record {
   old = has.program;
   new = shows.has.program;
   from = has.accepted.program;
@@ -106,9 +106,9 @@ cut_of source text old has shows = record {
   same = same_of_forms has.program shows.has.program old shows.new has.form shows.has.form shows.same;
 }
 
--- a text that is accepted is one that its own program was cut to
-pub cut_of_itself : (source : List ℕ) (old : Program) → HasForm source old → IsCutOf source source
-cut_of_itself source old has = record {
+-- a text that is accepted keeps its own pictures
+pub keeps_itself : (source : List ℕ) (old : Program) → HasForm source old → KeepsPictures source source
+keeps_itself source old has = record {
   old = has.program;
   new = has.program;
   from = has.accepted.program;
@@ -122,4 +122,32 @@ cut_of_itself source old has = record {
     types = λ k lt. refl;
     pictures = λ round is k lt x y. refl;
   };
+}
+
+levels_of : (text : List ℕ) (definitions levels : ℕ) → HasMeasures text definitions levels → HasLevels text levels
+levels_of text definitions levels has = record { program = has.program; is_text = has.is_text; levels_are = has.levels_are }
+
+-- a source that is returned
+pub cut_itself : (source text : List ℕ) (old : Program) (most definitions levels : ℕ) → HasForm source old → text ≡ source → HasMeasures text definitions levels → IsCutOf source most text
+cut_itself source text old most definitions levels has same measures = record {
+  keeps = subst (λ (t : List ℕ). KeepsPictures source t) (sym same) (keeps_itself source old has);
+  before = levels;
+  after = levels;
+  was = subst (λ (t : List ℕ). HasLevels t levels) same (levels_of text definitions levels measures);
+  is = levels_of text definitions levels measures;
+  no_deeper = omega (arith);
+  stays = λ within. same;
+}
+
+-- a text that is returned in place of a source which has more levels than asked
+pub cut_below : (source same text : List ℕ) (most definitions levels more deepest : ℕ) → same ≡ source → HasMeasures same more deepest → KeepsPictures source text → HasMeasures text definitions levels → most < deepest → levels ≤ deepest →
+    IsCutOf source most text
+cut_below source same text most definitions levels more deepest is was keeps measures above below = record {
+  keeps = keeps;
+  before = deepest;
+  after = levels;
+  was = subst (λ (t : List ℕ). HasLevels t deepest) is (levels_of same more deepest was);
+  is = levels_of text definitions levels measures;
+  no_deeper = omega (arith, above, below);
+  stays = λ within. absurd (let no : ⊥ = omega (arith, above, within) in no);
 }

@@ -1,5 +1,5 @@
 -- Programs whose bodies are cut: what must stay, and what is measured.
-use Rattle.std.specs.Prelude.{◌≡◌, ℕ, ◌<◌, ℤ, List, length, map, slice_get, slice_index, Some}
+use Rattle.std.specs.Prelude.{◌≡◌, ℕ, ◌<◌, ◌≤◌, max, ℤ, List, length, map, slice_get, slice_index, Some}
 use Rattle.dk_base.specs.Frames.{Picture, picture_at}
 use Rattle.dk_types.specs.declared.typed.TypedInput.{TypedInput}
 use Rattle.dk_types.specs.Typed.{Typing, types_of}
@@ -30,7 +30,7 @@ pub record ShowSamePictures (old new : Typing) : Type 0 where
   pub pictures : (round : List Picture) → IsRound old round → (k : ℕ) → k < length old.outputs → (x y : ℤ) → output_picture new round k x y ≡ output_picture old round k x y
 
 -- The text is that of a program within its limits, bits and latency aside, which shows the pictures of the source's program.
-pub record IsCutOf (source text : List ℕ) : Type 0 where
+pub record KeepsPictures (source text : List ℕ) : Type 0 where
   pub old : Typing
   pub new : Typing
   pub from : IsText source old
@@ -43,3 +43,20 @@ pub record HasMeasures (text : List ℕ) (definitions levels : ℕ) : Type 0 whe
   pub is_text : IsText text program
   pub definitions_are : definitions ≡ length program.definitions
   pub levels_are : levels ≡ greatest_level (bodies program)
+
+-- the most levels of operators of a body of the text's program
+pub record HasLevels (text : List ℕ) (levels : ℕ) : Type 0 where
+  pub program : Typing
+  pub is_text : IsText text program
+  pub levels_are : levels ≡ greatest_level (bodies program)
+
+-- The text is what a source is cut to, where its bodies are to have at most `most` levels: it shows the same pictures, has no more levels than these or
+-- than the source has, and is the source where that has no more levels than these.
+pub record IsCutOf (source : List ℕ) (most : ℕ) (text : List ℕ) : Type 0 where
+  pub keeps : KeepsPictures source text
+  pub before : ℕ
+  pub after : ℕ
+  pub was : HasLevels source before
+  pub is : HasLevels text after
+  pub no_deeper : after ≤ max most before
+  pub stays : before ≤ most → text ≡ source

@@ -4,7 +4,7 @@ ghost use Rattle.std.specs.Prelude.{◌≡◌, IsTrue, IfOk, IfErr, OnOk};
 ghost use Rattle.dk_types.specs.Typed.{Typing};
 ghost use Rattle.dk_compile.specs.Sources.{IsErrorBy};
 ghost use Rattle.dk_compile.specs.Limits.{IsAcceptedAt, IsFaultAt};
-ghost use Rattle.dk_compile.specs.Cuts.{IsCutOf, HasMeasures};
+ghost use Rattle.dk_compile.specs.Cuts.{IsCutOf, KeepsPictures, HasMeasures};
 ghost use Rattle.dk_compile.specs.Judged.{HasForm, ShowsFormOf};
 
 use crate::{SourceError, front, one_at_age_law, planned, typed};
@@ -66,7 +66,7 @@ fn blamed(
 // The text of the cut program where it shows the pictures of the source's program; else the source as it is. A body that the check refuses stays whole.
 fn checked(alloc: Global, source: &[u8], old: &Program, levels: u8) -> Result<Vec<u8>, OutOfMemory>
     requires form { HasForm source.now old.now }
-    ensures { IfOk result (λ chosen. IsCutOf source.now chosen.items) }
+    ensures { IfOk result (λ chosen. KeepsPictures source.now chosen.items) }
 {
     let Ok(program) = typed(alloc, source) else {
         return Err(AllocError);
@@ -106,16 +106,24 @@ fn measured(alloc: Global, text: Vec<u8>) -> Result<CutText, OutOfMemory>
     })
 }
 
-/// A text whose program shows the pictures of the source's program, with bodies of at most `levels` levels of operators as far as they can be cut and the limits of a program allow; or the first fault of the source, as for `compile` at age 0. Where the cut program does not pass its check, it is the source as it is.
+/// A text whose program shows the pictures of the source's program, with bodies of at most `levels` levels of operators as far as they can be cut and the limits of a program allow; or the first fault of the source, as for `compile` at age 0. Its bodies have no more levels than `levels` or than those of the source. It is the source as it is where that has no more levels than `levels`, and where the cut program does not pass its check.
 pub fn cut(alloc: Global, source: &[u8], levels: u8) -> Result<CutText, SourceError>
-    ensures same { IfOk result (λ c. IsCutOf source.now c.text.items) }
+    ensures is_cut { IfOk result (λ c. IsCutOf source.now levels c.text.items) }
     ensures measured { IfOk result (λ c. HasMeasures c.text.items c.definitions c.levels) }
     ensures good { OnOk result ((p : Typing) × IsAcceptedAt source.now 0 p) }
     ensures fault { IfErr result (IsErrorBy (IsFaultAt source.now 0)) }
 {
     one_at_age_law();
     let old = planned(alloc, source, 0)?;
+    let same = Vec::from_slice(alloc, source)?;
+    let whole = measured(alloc, same)?;
+    if whole.levels <= u32::from(levels) {
+        return Ok(whole);
+    }
     let chosen = checked(alloc, source, &old.ir, levels)?;
     let cut = measured(alloc, chosen)?;
-    Ok(cut)
+    if cut.levels <= whole.levels {
+        return Ok(cut);
+    }
+    Ok(whole)
 }
