@@ -22,9 +22,9 @@ stays_prefix (Ok x) A text mid new same is = tt
 stays_prefix (Err e) A text mid new same is = λ _. whole_prefix new.file.bytes text (subst (λ (f : Created). IfSome f.bytes (λ b. b ≡ text)) (sym same) is)
 
 -- the line of a text that File holds
-line_of_stored : (source text : List ℕ) (stored : Option (List ℕ)) (definitions levels : ℕ) → IsCutOf source text → HasMeasures text definitions levels → IfSome stored (λ b. b ≡ text) → IsLineOfStored source stored (cut_line definitions levels)
-line_of_stored source text None definitions levels is measured same = record { text = text; is_cut = is; told = tt; is_line = record { definitions = definitions; levels = levels; measured = measured; line_is = refl } }
-line_of_stored source text (Some b) definitions levels is measured same = record {
+line_of_stored : (source : List ℕ) (most : ℕ) (text : List ℕ) (stored : Option (List ℕ)) (definitions levels : ℕ) → IsCutOf source most text → HasMeasures text definitions levels → IfSome stored (λ b. b ≡ text) → IsLineOfStored source most stored (cut_line definitions levels)
+line_of_stored source most text None definitions levels is measured same = record { text = text; is_cut = is; told = tt; is_line = record { definitions = definitions; levels = levels; measured = measured; line_is = refl } }
+line_of_stored source most text (Some b) definitions levels is measured same = record {
   text = text;
   is_cut = is;
   told = let back : text ≡ b = cc in ap Some back;
@@ -32,18 +32,18 @@ line_of_stored source text (Some b) definitions levels is measured same = record
 }
 
 -- all of the line is written
-pub cut_whole : (told : Option Files) (program text : List ℕ) (definitions levels : ℕ) (mid new : Outside) (old : Option (List ℕ)) → mid.report ≡ old → IfSome told (λ f. IsCutOf (bytes_of f program) text) → HasMeasures text definitions levels
-    → IfSome new.file.bytes (λ b. b ≡ text) → IsIfTold new.report (grown mid.report (cut_line definitions levels)) → IfSome told (λ f. ReportsCut ending.Done (bytes_of f program) new.file.bytes old new.report)
-cut_whole None program text definitions levels mid new old before is measured same written = tt
-cut_whole (Some f) program text definitions levels mid new old before is measured same written =
-    whole (IsLineOfStored (bytes_of f program) new.file.bytes) (cut_line definitions levels) old new.report (line_of_stored (bytes_of f program) text new.file.bytes definitions levels is measured same)
+pub cut_whole : (told : Option Files) (program : List ℕ) (most : ℕ) (text : List ℕ) (definitions levels : ℕ) (mid new : Outside) (old : Option (List ℕ)) → mid.report ≡ old → IfSome told (λ f. IsCutOf (bytes_of f program) most text) → HasMeasures text definitions levels
+    → IfSome new.file.bytes (λ b. b ≡ text) → IsIfTold new.report (grown mid.report (cut_line definitions levels)) → IfSome told (λ f. ReportsCut ending.Done (bytes_of f program) most new.file.bytes old new.report)
+cut_whole None program most text definitions levels mid new old before is measured same written = tt
+cut_whole (Some f) program most text definitions levels mid new old before is measured same written =
+    whole (IsLineOfStored (bytes_of f program) most new.file.bytes) (cut_line definitions levels) old new.report (line_of_stored (bytes_of f program) most text new.file.bytes definitions levels is measured same)
     (subst (λ r. IsIfTold new.report (grown r (cut_line definitions levels))) before written)
 
 -- nothing of it, or a prefix
-pub cut_front : (told : Option Files) (program text : List ℕ) (definitions levels : ℕ) (mid new : Outside) (old : Option (List ℕ)) → mid.report ≡ old → IfSome told (λ f. IsCutOf (bytes_of f program) text) → HasMeasures text definitions levels
-    → (new.report ≡ mid.report) ⊎ EndsInLine text (cut_line definitions levels) mid new → IfSome told (λ f. ReportsCut ending.WriteFault (bytes_of f program) new.file.bytes old new.report)
-cut_front None program text definitions levels mid new old before is measured either = tt
-cut_front (Some f) program text definitions levels mid new old before is measured (inl same) = inl (same ∙ before)
-cut_front (Some f) program text definitions levels mid new old before is measured (inr ends) =
-    inr (front (IsLineOfStored (bytes_of f program) new.file.bytes) (cut_line definitions levels) old new.report (line_of_stored (bytes_of f program) text new.file.bytes definitions levels is measured ends.whole)
+pub cut_front : (told : Option Files) (program : List ℕ) (most : ℕ) (text : List ℕ) (definitions levels : ℕ) (mid new : Outside) (old : Option (List ℕ)) → mid.report ≡ old → IfSome told (λ f. IsCutOf (bytes_of f program) most text) → HasMeasures text definitions levels
+    → (new.report ≡ mid.report) ⊎ EndsInLine text (cut_line definitions levels) mid new → IfSome told (λ f. ReportsCut ending.WriteFault (bytes_of f program) most new.file.bytes old new.report)
+cut_front None program most text definitions levels mid new old before is measured either = tt
+cut_front (Some f) program most text definitions levels mid new old before is measured (inl same) = inl (same ∙ before)
+cut_front (Some f) program most text definitions levels mid new old before is measured (inr ends) =
+    inr (front (IsLineOfStored (bytes_of f program) most new.file.bytes) (cut_line definitions levels) old new.report (line_of_stored (bytes_of f program) most text new.file.bytes definitions levels is measured ends.whole)
     (subst (λ r. ReportsFront (cut_line definitions levels) r new.report) before ends.front))

@@ -14,9 +14,9 @@ pub record IsCutLine (text line : List ℕ) : Type 0 where
   pub measured : HasMeasures text definitions levels
   pub line_is : line ≡ cut_line definitions levels
 
--- The line is that of a text that the source was cut to. If the desk specifies File, it is the text that File holds.
-pub record IsLineOfStored (source : List ℕ) (stored : Option (List ℕ)) (line : List ℕ) : Type 0 where
+-- The line is that of a text that the source was cut to, where `most` levels were requested. If the desk specifies File, it is the text that File holds.
+pub record IsLineOfStored (source : List ℕ) (most : ℕ) (stored : Option (List ℕ)) (line : List ℕ) : Type 0 where
   pub text : List ℕ
-  pub is_cut : IsCutOf source text
+  pub is_cut : IsCutOf source most text
   pub told : IsIfTold stored (Some text)
   pub is_line : IsCutLine text line

@@ -22,7 +22,7 @@ use std::alloc::Global;
 
 // What a text is cut to.
 fn cut_text(alloc: Global, text: &[u8], levels: u8) -> Result<CutText, Ending>
-    ensures is_cut { IfOk result (λ c. IsCutOf text.now c.text.items) }
+    ensures is_cut { IfOk result (λ c. IsCutOf text.now levels c.text.items) }
     ensures measured { IfOk result (λ c. HasMeasures c.text.items c.definitions c.levels) }
     ensures good { OnOk result (CanBeCompiled text.now 0) }
     ensures fault { IfErr result (IsSourceEnding (IsFaultAt text.now 0)) }
@@ -39,7 +39,7 @@ fn cut_text(alloc: Global, text: &[u8], levels: u8) -> Result<CutText, Ending>
 fn read_cut<D: Desk>(alloc: Global, desk: &mut D, name: &str, levels: u8) -> Result<CutText, Ending>
     requires fresh { (D.outside desk.old).program.stage ≡ Stage.Unasked }
     requires before_create { (D.outside desk.old).file.stage ≡ Stage.Unasked }
-    ensures is_cut { IfOk result (λ c. OfFile (D.outside desk.old) name.now (λ source. IsCutOf source c.text.items)) }
+    ensures is_cut { IfOk result (λ c. OfFile (D.outside desk.old) name.now (λ source. IsCutOf source levels c.text.items)) }
     ensures measured { IfOk result (λ c. HasMeasures c.text.items c.definitions c.levels) }
     ensures good { OnOk result (OfFile (D.outside desk.old) name.now (λ source. CanBeCompiled source 0)) }
     ensures fault { IfErr result (λ e. OfFile (D.outside desk.old) name.now (λ source. IsSourceEnding (IsFaultAt source 0) e)) }
