@@ -82,22 +82,26 @@ def main():
     crate, used = sys.argv[1], dependencies()
     os.chdir(TOP)
     here = {it.name: it for it in rtlib.crates_below(TOP)}
-    words = [f"{KIT}/bin/rattle", "check", "--crate-name", crate, "src/main.rt" if here[crate].is_program else "src/lib.rt"]
-    words += ["-L", f"dependency={KIT}/rlibs"]
-    for name in ["std", "core", *(it for it in used[crate] if it not in here)]:
-        words += ["--extern", f"{name}={KIT}/rlibs/{name}.rlib"]
+    lower = here[crate].below()
     real = set()
-    for low in here[crate].below():
+    for low in lower:
         if low.is_built() and all(it in real or it not in here for it in used[low.name]):
             real.add(low.name)
-            words += ["-L", f"dependency={low.folder}/out/rlib"]
-            words += ["--extern", f"{low.name}={low.folder}/out/rlib/{low.name}.rlib"] if low.name in used[crate] else []
-        else:
-            words += ["--lib", f"{low.name}:{','.join(['core', 'std', *used[low.name]])}={copied(low.name)}"]
+    holes = [low.name for low in lower if low.name not in real]
+    named = {it for name in [crate, *holes] for it in used[name]}
+    words = [f"{KIT}/bin/rattle", "check", "--crate-name", crate, "src/main.rt" if here[crate].is_program else "src/lib.rt"]
+    words += ["-L", f"dependency={KIT}/rlibs"]
+    for name in ["std", "core", *sorted(named - set(here))]:
+        words += ["--extern", f"{name}={KIT}/rlibs/{name}.rlib"]
+    for low in (it for it in lower if it.name in real):
+        words += ["-L", f"dependency={low.folder}/out/rlib"]
+        words += ["--extern", f"{low.name}={low.folder}/out/rlib/{low.name}.rlib"] if low.name in named else []
+    for name in holes:
+        words += ["--lib", f"{name}:{','.join(['core', 'std', *used[name]])}={copied(name)}"]
     os.makedirs(f"{HOLES}/kept-{crate}", exist_ok=True)
     words += ["--antt-project", f"{KIT}/rattle/logic/antt-project.json", "--logic-built", f"{KIT}/logic_built"]
     words += ["--incremental", f"{HOLES}/kept-{crate}", "--allow-holes", "--progress", *sys.argv[2:]]
-    print("with libraries:", *sorted(real), flush=True)
+    print("with holes:", *holes, flush=True)
     return subprocess.call(words, cwd=f"{TOP}/crates/{crate}")
 
 
