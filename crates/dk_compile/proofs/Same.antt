@@ -1,5 +1,5 @@
 -- Programs whose forms show the same pictures show the same pictures.
-use Rattle.std.proofs.Common.{◌≡◌, refl, absurd, arith, ℕ, ℤ, ◌<◌, ◌≤◌, List, length, map, take, slice_get, sym, ap, subst, ◌∙◌, Some}
+use Rattle.std.proofs.Common.{◌≡◌, refl, arith, ℕ, ℤ, ◌<◌, ◌≤◌, List, length, map, take, slice_get, sym, ap, subst, ◌∙◌, Some}
 use Rattle.std.specs.Prelude.{Contains, slice_index, option_map}
 use Rattle.std.proofs.lemmas.List.{length-map}
 use Rattle.std.proofs.Math.Seq.{take-append_seam}
