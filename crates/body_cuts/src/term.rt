@@ -16,7 +16,7 @@ pub(crate) struct Term {
 pub(crate) enum TermNode {
     Number(u64),
     Read(TypedRead),
-    // 1 where the point so many columns to the right and rows down is in the frame, else 0.
+    // 1 where the point that is moved by these columns and rows is in the frame, else 0.
     InFrame(i32, i32),
     Unary(Unary, Box<Term>),
     Binary(Binary, Box<Term>, Box<Term>),

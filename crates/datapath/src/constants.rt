@@ -63,7 +63,8 @@ fn evaluated_width(operator: Operator, width: u8) -> u8
 {
     match operator {
         Operator::Less | Operator::Equal => 1,
-        _ => width,
+        Operator::Add | Operator::Subtract | Operator::Multiply | Operator::Divide => width,
+        Operator::And | Operator::Or | Operator::Xor => width,
     }
 }
 

@@ -50,7 +50,8 @@ fn operator_bits(operator: Operator, bits: u8) -> u8
 {
     match operator {
         Operator::Less | Operator::Equal => 1,
-        _ => bits,
+        Operator::Add | Operator::Subtract | Operator::Multiply | Operator::Divide => bits,
+        Operator::And | Operator::Or | Operator::Xor => bits,
     }
 }
 
