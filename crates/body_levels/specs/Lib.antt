@@ -1,3 +1,4 @@
 pub mod Operators
 pub mod Levels
+pub mod Deep
 pub mod Worked

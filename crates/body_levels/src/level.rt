@@ -1,10 +1,12 @@
 // The levels of expressions.
 
-ghost use Rattle.std.specs.Prelude.{◌≡◌, ◌+◌, ◌*◌, ◌<◌, ◌≤◌, length, max, slice_index_or, Some, IfSome, unwrap_or};
+ghost use Rattle.std.specs.Prelude.{◌≡◌, ◌+◌, ◌*◌, ◌<◌, ◌≤◌, length, max, slice_get, slice_index_or, Some, IfSome, unwrap_or};
 ghost use Rattle.pointwise_ir.specs.Trees.{Tree, tree_of, depth_of};
 ghost use Rattle.pointwise_ir.specs.Programs.{bodies_of};
 ghost use Rattle.dk_base.specs.declared.TheConstants.{MAX_INLINED_DEPTH};
+ghost use Rattle.pointwise_ir.specs.declared.program.Definition.{Definition};
 ghost use Rattle.body_levels.specs.Levels as levels;
+ghost use Rattle.body_levels.specs.Deep.{image_levels};
 
 use crate::operators::{
     binary_levels, conversion_levels, scaling_levels, select_levels, unary_levels,
@@ -111,9 +113,10 @@ fn level(e: &Expr) -> Option<u32>
 }
 
 // The levels of the body of the k-th image that is no input.
-fn level_at(program: &Program, k: usize) -> u32
+pub fn level_at(program: &Program, k: usize) -> u32
     requires there { k < length program.now.images }
-    ensures { (d : Tree) → result ≡ levels.level_of (slice_index_or (bodies_of program.now) k d) }
+    ensures body { (d : Tree) → result ≡ levels.level_of (slice_index_or (bodies_of program.now) k d) }
+    ensures image { (d : Definition) → slice_get program.now.images k ≡ Some d → result ≡ image_levels d }
 {
     program.law();
     let image = &program.images()[k];

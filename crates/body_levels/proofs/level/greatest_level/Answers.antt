@@ -15,6 +15,6 @@ loop-k-preserved c =
       most =
           c.greater-most.ensures
           ∙ ap (λ (m : ℕ). max m c.level_at.result) c.loop-k.invariant.most
-          ∙ ap (λ (n : ℕ). max (greatest_level (take c.loop-k.k bodies)) n) (c.level_at.ensures none)
+          ∙ ap (λ (n : ℕ). max (greatest_level (take c.loop-k.k bodies)) n) (c.level_at.ensures.body none)
           ∙ sym (fold_more (λ (most : ℕ) (e : Tree). max most (level_of e)) 0 bodies c.loop-k.k none (subst (λ (n : ℕ). c.loop-k.k < n) (ap (λ ds. length ds) c.images-k-end.ensures ∙ sym (length-map c.args.program.now.images (λ d. tree_of d.body))) c.loop-k-test.true));
     }
