@@ -102,7 +102,19 @@ def main():
     words += ["--antt-project", f"{KIT}/rattle/logic/antt-project.json", "--logic-built", f"{KIT}/logic_built"]
     words += ["--incremental", f"{HOLES}/kept-{crate}", "--allow-holes", "--progress", *sys.argv[2:]]
     print("with holes:", *holes, flush=True)
-    return subprocess.call(words, cwd=f"{TOP}/crates/{crate}")
-
+    while True:
+        # a function that calls itself keeps its proof: its place is refused, and the next check goes without the hole
+        refused = []
+        with subprocess.Popen(words, cwd=f"{TOP}/crates/{crate}", stdout=subprocess.PIPE, stderr=subprocess.STDOUT, text=True) as run:
+            for line in run.stdout:
+                place = re.match(r"(\S+/Proof\.antt): error\[reserved-name\]", line)
+                if place:
+                    refused.append(place[1])
+                else:
+                    print(line, end="", flush=True)
+        if not refused:
+            return run.returncode
+        for path in refused:
+            os.remove(path)
 
 sys.exit(main())

@@ -4,7 +4,9 @@ use crate::expanded::Expanded;
 use crate::images::{Names, image_name, read_levels};
 use crate::levels::{only_widens, own_levels};
 use crate::part::{Binding, Part, binary, converted, number, scaled, selected, unary};
-use crate::pieces::{Above, Pieces, cut};
+use crate::pieces::{Above, Pieces, cut, share, shared_read};
+use crate::product::{Factor, divided, has_divided, is_divided};
+use crate::repeats::repeated;
 use crate::term::{Term, TermNode};
 use crate::words::push_read;
 use dk_base::OutOfMemory;
@@ -17,6 +19,8 @@ pub(crate) struct Body {
     pub(crate) pieces: Pieces,
     pub(crate) text: Vec<u8>,
     pub(crate) levels: u32,
+    // Whether it is whole because a piece has no name.
+    pub(crate) is_unnamed: bool,
 }
 
 // The limit that no body passes.
@@ -67,6 +71,15 @@ fn above_operands(above: Above, e: &Term) -> Above {
     }
 }
 
+// The same of the factors of a product. Where it is divided, what has levels is a piece, since it is read several times.
+fn above_factors(limit: u32, is_divided: bool, below: Above) -> Above {
+    if is_divided {
+        Above::Operator(limit)
+    } else {
+        below
+    }
+}
+
 // A part with the levels of its outermost form added, or the read of its piece if it must be one.
 fn finished(
     alloc: Global,
@@ -98,6 +111,9 @@ fn part(
     above: Above,
     e: &Term,
 ) -> Result<Part, OutOfMemory> {
+    if let Some(read) = shared_read(alloc, names, pieces, e)? {
+        return cut(alloc, names, pieces, above, read);
+    }
     let below = above_operands(above, e);
     let inner = match &e.node {
         TermNode::Number(value) => number(alloc, *value)?,
@@ -111,9 +127,16 @@ fn part(
             unary(alloc, *operator, a)?
         }
         TermNode::Binary(operator, a, b) => {
-            let a = part(alloc, names, levels, pieces, below, a)?;
-            let b = part(alloc, names, levels, pieces, below, b)?;
-            binary(alloc, *operator, a, b)?
+            let is_divided = is_divided(pieces.limit, e);
+            let below = above_factors(pieces.limit, is_divided, below);
+            let one = part(alloc, names, levels, pieces, below, a)?;
+            let other = part(alloc, names, levels, pieces, below, b)?;
+            if is_divided {
+                let factors = (Factor::new(one, a.ty), Factor::new(other, b.ty));
+                let product = divided(alloc, names, pieces, factors)?;
+                return cut(alloc, names, pieces, above, product);
+            }
+            binary(alloc, *operator, one, other)?
         }
         TermNode::Scale(operator, a, by) => {
             let a = part(alloc, names, levels, pieces, below, a)?;
@@ -133,6 +156,21 @@ fn part(
     finished(alloc, names, pieces, above, e, inner)
 }
 
+// Makes pieces of the parts that the body has at two columns.
+fn share_repeated(
+    alloc: Global,
+    names: &Names<'_>,
+    levels: &[u32],
+    pieces: &mut Pieces,
+    e: &Term,
+) -> Result<(), OutOfMemory> {
+    for same in repeated(alloc, names, e)? {
+        let piece = part(alloc, names, levels, pieces, Above::Nothing, &same)?;
+        share(alloc, names, pieces, same, piece)?;
+    }
+    Ok(())
+}
+
 // A body that is cut at the limit of its pieces.
 fn made(
     alloc: Global,
@@ -146,6 +184,7 @@ fn made(
         pieces,
         text: whole.text,
         levels: whole.levels.unwrap_or(0),
+        is_unnamed: false,
     })
 }
 
@@ -160,14 +199,17 @@ pub(crate) fn cut_body(
 ) -> Result<Body, OutOfMemory> {
     let uncut = Pieces::new(alloc, NO_LIMIT, stem)?;
     let whole = made(alloc, names, levels, uncut, &expanded.written)?;
-    if whole.levels <= limit {
+    if whole.levels <= limit && !has_divided(limit, &expanded.written) {
         return Ok(whole);
     }
-    let pieces = Pieces::new(alloc, limit, stem)?;
+    let mut pieces = Pieces::new(alloc, limit, stem)?;
+    share_repeated(alloc, names, levels, &mut pieces, &expanded.body)?;
     let cut = made(alloc, names, levels, pieces, &expanded.body)?;
     if cut.pieces.has_unnamed {
-        Ok(whole)
-    } else {
-        Ok(cut)
+        return Ok(Body {
+            is_unnamed: true,
+            ..whole
+        });
     }
+    Ok(cut)
 }

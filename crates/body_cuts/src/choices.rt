@@ -12,6 +12,8 @@ use std::alloc::Global;
 pub(crate) struct Choice {
     // Whether its body is never cut: it is inline and no output, or must stay whole.
     stays_whole: bool,
+    // Whether it must stay whole.
+    pub(crate) is_refused: bool,
     // The levels of its body, not cut.
     depth: u32,
     pub(crate) is_cut: bool,
@@ -34,6 +36,7 @@ fn keep_whole(program: &TypedProgram, whole: &[u32], choices: &mut [Choice]) {
         if let Some(number) = definition_number(program, *image) {
             if number < choices.len() {
                 choices[number].stays_whole = true;
+                choices[number].is_refused = true;
             }
         }
     }
@@ -49,6 +52,7 @@ pub(crate) fn no_cuts(
     for definition in program.definitions() {
         choices.push(Choice {
             stays_whole: definition.inline,
+            is_refused: false,
             depth: 0,
             is_cut: false,
         })?;

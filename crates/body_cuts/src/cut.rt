@@ -4,6 +4,7 @@ use crate::choices::{Choice, cut_each, deepest, no_cuts, note_depths};
 use crate::draft::{Draft, make_draft, push_program};
 use crate::expanded::{Expanded, expanded_bodies};
 use crate::images::{Names, names_of};
+use crate::uncut::UncutBody;
 use dk_base::{MAX_DEFINITIONS, OutOfMemory};
 use dk_types::TypedProgram;
 use std::alloc::Global;
@@ -50,19 +51,29 @@ fn best_draft(
     deepest_first(alloc, names, &expanded, &mut choices, most)
 }
 
+/// A program whose bodies are cut, as a text, and the definitions of more levels that were not cut.
+#[derive(Drop)]
+pub struct CutProgram {
+    pub text: Vec<u8>,
+    pub uncut: Vec<UncutBody>,
+}
+
 /// The program as a text of bodies with at most this many levels of operators, after `head`. 0 levels count as 1. An operator of more levels, as `abs`, is alone in its body. If there would be too many definitions, only the deepest bodies are cut. The bodies of the images in `whole`, by their numbers, are not cut.
 ///
 /// No contract states what the text shows.
-pub fn cut_text(
+pub fn cut_program(
     alloc: Global,
     head: &[u8],
     program: &TypedProgram,
     levels: u32,
     whole: &[u32],
-) -> Result<Vec<u8>, OutOfMemory> {
+) -> Result<CutProgram, OutOfMemory> {
     let names = names_of(alloc, program)?;
     let best = best_draft(alloc, &names, whole, levels.max(1))?;
     let mut text = Vec::from_slice(alloc, head)?;
     push_program(&mut text, &names, &best)?;
-    Ok(text)
+    Ok(CutProgram {
+        text,
+        uncut: best.uncut,
+    })
 }

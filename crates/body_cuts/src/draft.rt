@@ -5,6 +5,7 @@ use crate::choices::Choice;
 use crate::expanded::Expanded;
 use crate::images::{Names, image_name};
 use crate::pieces::Piece;
+use crate::uncut::{UncutBody, note_uncut};
 use crate::words::{push_number, push_type};
 use dk_base::{FrameSize, MAX_DEFINITIONS, OutOfMemory, Ty};
 use dk_types::{TypedDefinition, TypedProgram};
@@ -18,6 +19,10 @@ pub(crate) struct Draft {
     pub(crate) definitions: usize,
     // The levels of each body that the source has.
     pub(crate) levels: Vec<u32>,
+    // The most levels that were asked.
+    most: u32,
+    // The definitions whose bodies have more levels and were not cut.
+    pub(crate) uncut: Vec<UncutBody>,
     // Whether a body tests if a point is in the frame.
     tests_frame: bool,
 }
@@ -108,10 +113,14 @@ fn push_definition(
     draft: &mut Draft,
     definition: &TypedDefinition,
     expanded: &Expanded,
-    limit: u32,
+    choice: Choice,
 ) -> Result<(), OutOfMemory> {
     let stem = definition.name.text.as_bytes();
+    let limit = limit(choice, draft.most);
     let body = cut_body(alloc, names, &draft.levels, stem, expanded, limit)?;
+    if draft.most < body.levels {
+        note_uncut(alloc, &mut draft.uncut, stem, choice, body.is_unnamed)?;
+    }
     push_pieces(&mut draft.text, &body.pieces.items)?;
     push_opening(&mut draft.text, definition)?;
     push_body(&mut draft.text, &body.text)?;
@@ -132,6 +141,8 @@ pub(crate) fn make_draft(
         text: Vec::new(alloc),
         definitions: 0,
         levels: Vec::new(alloc),
+        most,
+        uncut: Vec::new(alloc),
         tests_frame: false,
     };
     let bodies = names.program.definitions().iter().zip(expanded);
@@ -139,8 +150,7 @@ pub(crate) fn make_draft(
         if MAX_DEFINITIONS < draft.definitions {
             break;
         }
-        let limit = limit(*choice, most);
-        push_definition(alloc, names, &mut draft, definition, expanded, limit)?;
+        push_definition(alloc, names, &mut draft, definition, expanded, *choice)?;
     }
     Ok(draft)
 }

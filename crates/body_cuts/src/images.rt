@@ -25,6 +25,14 @@ fn definition(program: &TypedProgram, image: u32) -> Option<&TypedDefinition> {
     program.definitions().get(number)
 }
 
+// Whether the image is inline.
+pub(crate) fn is_inline(program: &TypedProgram, image: u32) -> bool {
+    match definition(program, image) {
+        Some(definition) => definition.inline,
+        None => false,
+    }
+}
+
 pub(crate) fn is_output(program: &TypedProgram, image: u32) -> bool {
     program.outputs().contains(&image)
 }

@@ -13,9 +13,13 @@ mod levels;
 mod moved;
 mod part;
 mod pieces;
+mod product;
 mod reached;
+mod repeats;
 mod term;
+mod uncut;
 mod words;
 
-pub use cut::cut_text;
+pub use cut::{CutProgram, cut_program};
 pub use head::head_of;
+pub use uncut::{Reason, UncutBody};

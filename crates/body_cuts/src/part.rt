@@ -1,6 +1,7 @@
 // Parts of a body as text, put together by operators.
 
 use crate::levels::most_levels;
+use crate::repeats::Shift;
 use crate::words::{push_number, push_read, push_type};
 use dk_base::{Binary, Conversion, OutOfMemory, Scaling, Ty, Unary};
 use std::alloc::Global;
@@ -75,6 +76,20 @@ pub(crate) fn piece_read(alloc: Global, name: &[u8]) -> Result<Part, OutOfMemory
         text,
         binding: Binding::Primary,
         levels: Some(0),
+    })
+}
+
+// The read of a piece at a column. A clamped one chooses among taps.
+pub(crate) fn moved_read(alloc: Global, name: &[u8], shift: Shift) -> Result<Part, OutOfMemory> {
+    let mut text = Vec::new(alloc);
+    push_read(&mut text, name, shift.dx, 0)?;
+    if shift.clamped {
+        text.extend_from_slice(b" edge clamp")?;
+    }
+    Ok(Part {
+        text,
+        binding: Binding::Primary,
+        levels: Some(u32::from(shift.clamped)),
     })
 }
 

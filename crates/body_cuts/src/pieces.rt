@@ -1,7 +1,9 @@
 // The pieces that a body is cut into.
 
 use crate::images::{END_OF_NUMBERS, Names, is_taken};
-use crate::part::{Part, piece_read};
+use crate::part::{Part, moved_read, piece_read};
+use crate::repeats::{are_equal, shared_shift};
+use crate::term::Term;
 use crate::words::numbered;
 use dk_base::{MAX_DEFINITIONS, MAX_NAME_BYTES, OutOfMemory};
 use std::alloc::Global;
@@ -11,6 +13,13 @@ use std::alloc::Global;
 pub(crate) struct Piece {
     pub(crate) name: Vec<u8>,
     pub(crate) text: Vec<u8>,
+}
+
+// A piece that the body reads at several columns: its name, and what it is.
+#[derive(Drop)]
+struct Shared {
+    name: Vec<u8>,
+    same: Term,
 }
 
 // What an expression has above it.
@@ -25,12 +34,14 @@ pub(crate) enum Above {
 // The pieces of one body so far.
 #[derive(Drop)]
 pub(crate) struct Pieces {
-    limit: u32,
+    pub(crate) limit: u32,
     // The name of the definition.
     stem: Vec<u8>,
     // The first number that was not tried in a name.
     next: u32,
     pub(crate) items: Vec<Piece>,
+    // The pieces that the body reads at several columns.
+    shared: Vec<Shared>,
     // Whether a piece has no name.
     pub(crate) has_unnamed: bool,
     // Whether the body tests if a point is in the frame.
@@ -46,6 +57,7 @@ impl Pieces {
             stem,
             next: 1,
             items: Vec::new(alloc),
+            shared: Vec::new(alloc),
             has_unnamed: false,
             tests_frame: false,
         })
@@ -128,4 +140,41 @@ pub(crate) fn cut(
         return Ok(part);
     }
     make_piece(alloc, names, pieces, part)
+}
+
+// Makes a part a piece that the body reads at several columns. `same` is the part without its move.
+pub(crate) fn share(
+    alloc: Global,
+    names: &Names<'_>,
+    pieces: &mut Pieces,
+    same: Term,
+    part: Part,
+) -> Result<(), OutOfMemory> {
+    let Some(name) = next_name(alloc, names, pieces)? else {
+        pieces.has_unnamed = true;
+        return Ok(());
+    };
+    let own = Vec::from_slice(alloc, &name)?;
+    pieces.shared.push(Shared { name: own, same })?;
+    let text = part.text;
+    pieces.items.push(Piece { name, text })?;
+    Ok(())
+}
+
+// The read of the shared piece that the expression is but for its move, if there is one.
+pub(crate) fn shared_read(
+    alloc: Global,
+    names: &Names<'_>,
+    pieces: &Pieces,
+    e: &Term,
+) -> Result<Option<Part>, OutOfMemory> {
+    for piece in &pieces.shared {
+        if are_equal(&piece.same, e) {
+            if let Some(shift) = shared_shift(names, e) {
+                let read = moved_read(alloc, &piece.name, shift)?;
+                return Ok(Some(read));
+            }
+        }
+    }
+    Ok(None)
 }

@@ -133,3 +133,31 @@ pub fn greatest_level(program: &Program) -> u32
     }
     most
 }
+
+// Whether a moved part of the expression, with the choice of its move, has more than `most` levels.
+fn moves_deep(e: &Expr, most: u32) -> bool
+    requires shallow { depth_of (tree_of e.now) ≤ MAX_INLINED_DEPTH }
+{
+    match e {
+        Expr::Constant(_, _) | Expr::Read(_, _, _, _) => false,
+        Expr::Shifted(_, _, _, _) => match level(e) {
+            Some(levels) => most < levels,
+            None => false,
+        },
+        Expr::Unary(_, operand) => moves_deep(operand, most),
+        Expr::Binary(_, left, right) => moves_deep(left, most) || moves_deep(right, most),
+        Expr::Select(condition, left, right) => {
+            moves_deep(condition, most) || moves_deep(left, most) || moves_deep(right, most)
+        }
+        Expr::Convert(_, operand, _) => moves_deep(operand, most),
+        Expr::Scale(_, operand, _) => moves_deep(operand, most),
+    }
+}
+
+/// Whether the body of the k-th image that is no input has the body of an inline image, read at an offset or not, that has more than `most` levels by itself. It is for a report, and no contract states when it is so.
+pub fn has_deep_move(program: &Program, k: usize, most: u32) -> bool
+    requires there { k < length program.now.images }
+{
+    program.law();
+    moves_deep(&program.images()[k].body, most)
+}

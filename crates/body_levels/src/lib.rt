@@ -7,7 +7,7 @@ mod operators;
 mod worked;
 
 pub use deep::{is_deep, is_shallower};
-pub use level::greatest_level;
+pub use level::{greatest_level, has_deep_move};
 pub use operators::{
     binary_levels, conversion_levels, scaling_levels, select_levels, unary_levels,
 };

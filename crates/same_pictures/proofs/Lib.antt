@@ -1,3 +1,5 @@
 pub mod Values
 mod Lists
 pub mod Moved
+pub mod Numbers
+pub mod Seen

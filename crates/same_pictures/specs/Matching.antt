@@ -1,12 +1,15 @@
 -- What the private functions say of expressions and of images by number.
-use Rattle.std.specs.Prelude.{◌≡◌, ◌⊎◌, ℕ, IsTrue, ℤ, pos, ◌+ℤ◌, ◌≤ℤ◌, List, Option, Some, slice_get}
+use Rattle.std.specs.Prelude.{◌≡◌, ◌⊎◌, ℕ, ◌^◌, false, IsTrue, ℤ, pos, ◌+ℤ◌, ◌*ℤ◌, ◌≤ℤ◌, List, Option, Some, slice_get}
 use Rattle.dk_base.specs.declared.ty.Ty.{Ty}
+use Rattle.dk_base.specs.Types.{IsIn}
 use Rattle.dk_base.specs.Frames.{Size, IsFrame, in_frame, clamped, Picture}
 use Rattle.pointwise_ir.specs.declared.expr.Edge.{Edge}
 use Rattle.pointwise_ir.specs.declared.expr.Edge.TheVariants.{Zero, Clamp}
 use Rattle.pointwise_ir.specs.Trees.{Tree, constant, read, shifted, select}
 use Rattle.pointwise_ir.specs.Programs.{Program, IsProgram}
 use Rattle.pointwise_ir.specs.Meaning.{edged, value, pictures, IsRound}
+use Rattle.value_ranges.specs.declared.interval.Interval.{Interval}
+use Rattle.value_ranges.specs.Images.{AreRangesOf}
 use Rattle.same_pictures.specs.declared.moves.Step.{Step}
 use Rattle.same_pictures.specs.Same.{HaveSamePicture}
 
@@ -24,6 +27,15 @@ abbrev pub StandsFor : (p : Program) → (a b : Tree) → Type 0
 StandsFor p a b = (round : List Picture) → IsRound p round → (x y : ℤ) → IsTrue (in_frame p.size x y) →
     value p.size (pictures p round) a x y ≡ value p.size (pictures p round) b x y
 
+-- on each round the type holds each value of the expression
+abbrev pub HoldsValues : (p : Program) → Ty → Tree → Type 0
+HoldsValues p t e = (round : List Picture) → IsRound p round → (x y : ℤ) → IsIn t (value p.size (pictures p round) e x y)
+
+-- At each point of the frame the whole is the low part, and the high part times 2 ^ by: so it is divided into bits.
+abbrev pub AreHalves : (p : Program) → (by : ℕ) → (low high whole : Tree) → Type 0
+AreHalves p by low high whole = (round : List Picture) → IsRound p round → (x y : ℤ) → IsTrue (in_frame p.size x y) →
+    value p.size (pictures p round) whole x y ≡ value p.size (pictures p round) low x y +ℤ (value p.size (pictures p round) high x y *ℤ pos (2 ^ by))
+
 -- for images of the old program, by number, an image of the new one with the same picture, or none
 abbrev pub ArePairs : (old new : Program) → (pairs : List (Option ℕ)) → Type 0
 ArePairs old new pairs = (g h : ℕ) → slice_get pairs g ≡ Some (Some h) → HaveSamePicture old new g h
@@ -32,6 +44,12 @@ ArePairs old new pairs = (g h : ℕ) → slice_get pairs g ≡ Some (Some h) →
 pub record HaveSameInputs (old new : Program) : Type 0 where
   pub size : new.size ≡ old.size
   pub inputs : new.inputs ≡ old.inputs
+
+-- what a comparison of expressions builds on
+pub record CanCompare (old new : Program) (ranges : List Interval) (pairs : List (Option ℕ)) : Type 0 where
+  pub inputs : HaveSameInputs old new
+  pub ranged : AreRangesOf new ranges
+  pub paired : ArePairs old new pairs
 
 -- The point (u, v) of the frame that is seen from the point (x, y) by a move: the moved point, brought to the frame's edge (Clamp), or only where it is in the frame (Zero).
 abbrev pub IsSeen : Size → Edge → (dx dy : ℤ) → (x y u v : ℤ) → Type 0
@@ -42,6 +60,15 @@ IsSeen size Zero dx dy x y u v = (u ≡ x +ℤ dx) × (v ≡ y +ℤ dy) × IsTru
 abbrev pub HaveSameMoved : (old new : Program) → Edge → (dx dy : ℤ) → (a b : Tree) → Type 0
 HaveSameMoved old new edge dx dy a b = (round : List Picture) → IsRound old round → (x y : ℤ) → IsTrue (in_frame old.size x y) → (u v : ℤ) → IsSeen old.size edge dx dy x y u v →
     value old.size (pictures old round) a u v ≡ value new.size (pictures new round) b x y
+
+-- On each round the expression b of the new program has, at the point that is seen by the move from a point of the frame, the value that the expression a of the old one has at that point.
+abbrev pub HaveSameBehind : (old new : Program) → Edge → (dx dy : ℤ) → (a b : Tree) → Type 0
+HaveSameBehind old new edge dx dy a b = (round : List Picture) → IsRound old round → (x y : ℤ) → IsTrue (in_frame old.size x y) → (u v : ℤ) → IsSeen old.size edge dx dy x y u v →
+    value old.size (pictures old round) a x y ≡ value new.size (pictures new round) b u v
+
+-- the expression is 0 at each point whose move is outside the frame, whatever the pictures are
+abbrev pub VanishesOutside : (dx dy : ℤ) → Tree → Type 0
+VanishesOutside dx dy e = (size : Size) (known : List Picture) (x y : ℤ) → in_frame size (x +ℤ dx) (y +ℤ dy) ≡ false → value size known e x y ≡ pos 0
 
 -- Two moves to one side of a line are one move by their sum, also with clamped points.
 abbrev pub IsJoined : (d e sum : ℤ) → Type 0

@@ -1,15 +1,20 @@
 // Whether an expression of the new program has the value of one of the old program.
 
 ghost use Rattle.std.specs.Prelude.{◌≡◌, ℕ, List, Some, slice_get, IsTrue, IfSome};
-ghost use Rattle.pointwise_ir.specs.Trees.{tree_of, read};
+ghost use Rattle.pointwise_ir.specs.Trees.{tree_of, read, binary};
 ghost use Rattle.pointwise_ir.specs.Programs.{IsBody};
-ghost use Rattle.same_pictures.specs.Matching.{IsReadHere, HaveSameValue, HaveSameMoved, StandsFor, ArePairs, HaveSameInputs, IsFrameTest, IsFramed, ShowsShifted};
+ghost use Rattle.value_ranges.specs.Images.{AreRangesOf};
+ghost use Rattle.same_pictures.specs.Matching.{IsReadHere, HaveSameValue, HaveSameMoved, StandsFor, CanCompare, IsFrameTest, IsFramed, ShowsShifted};
 
-use crate::moves::{HERE, Step, pushed, pushed_shift};
+use crate::behind::reads_behind;
+use crate::moves::{HERE, Step, is_here, pushed, pushed_shift};
 use crate::operands::{
     binary_operands, constant_type, converted_operand, is_constant, read_image, scaled_operand,
     select_operands, shifted_body, unary_operand,
 };
+use crate::products::{Factors, divided_factors};
+use crate::unneeded::{Ranged, aligned};
+use dk_base::Binary;
 use pointwise_ir::{Edge, Expr, Program, meaning_law};
 
 // The body of an image, by its number; none if it is an input.
@@ -53,7 +58,7 @@ fn defining<'a>(program: &'a Program, e: &Expr) -> Option<&'a Expr>
 }
 
 // The expression without reads of definitions at the point itself.
-fn unfolded<'a>(program: &'a Program, e: &'a Expr) -> &'a Expr
+pub fn unfolded<'a>(program: &'a Program, e: &'a Expr) -> &'a Expr
     ensures { StandsFor program.now (tree_of e.now) (tree_of result.now) }
 {
     let mut now = e;
@@ -77,26 +82,18 @@ pub fn is_pair(pairs: &[Option<u32>], image: u32, other: u32) -> bool
 }
 
 // Whether a read of the new program, or the body that it reads at the point itself, is a read by this step of the counterpart of an image of the old program.
-fn reads_pair(
-    old: &Program,
-    new: &Program,
-    pairs: &[Option<u32>],
-    image: u32,
-    step: Step,
-    b: &Expr,
-) -> bool
-    requires inputs { HaveSameInputs old.now new.now }
-    requires pairs { ArePairs old.now new.now pairs.now }
-    ensures { IsTrue result → HaveSameValue old.now new.now (read step.edge image step.dx step.dy) (tree_of b.now) }
+fn reads_pair(on: &Compared<'_>, image: u32, step: Step, b: &Expr) -> bool
+    requires { CanCompare on.now.old.now on.now.new.program.now on.now.new.ranges.now on.now.pairs.now }
+    ensures { IsTrue result → HaveSameValue on.now.old.now on.now.new.program.now (read step.edge image step.dx step.dy) (tree_of b.now) }
 {
     let mut now = b;
-    for _ in 0..=new.images().len() {
+    for _ in 0..=on.new.program.images().len() {
         if let Some(other) = read_image(now, step.edge, step.dx, step.dy) {
-            if is_pair(pairs, image, other) {
+            if is_pair(on.pairs, image, other) {
                 return true;
             }
         }
-        match defining(new, now) {
+        match defining(on.new.program, now) {
             Some(body) => now = body,
             None => return false,
         }
@@ -164,84 +161,104 @@ fn part_of<'a>(new: &'a Program, at: Step, by: Step, b: &'a Expr) -> Option<Part
     }
 }
 
-// Whether an expression of the new program has, at each point, the value that one of the old program has at the moved point, where that is seen.
-fn has_same_moved(
-    old: &Program,
-    new: &Program,
-    pairs: &[Option<u32>],
-    at: Step,
-    a: &Expr,
-    b: &Expr,
-) -> bool
-    requires inputs { HaveSameInputs old.now new.now }
-    requires pairs { ArePairs old.now new.now pairs.now }
-    ensures { IsTrue result → HaveSameMoved old.now new.now at.edge at.dx at.dy (tree_of a.now) (tree_of b.now) }
+// Two programs that are compared: for images of the old one, by number, an image of the new one with the same picture, or none.
+#[derive(Clone, Copy)]
+pub struct Compared<'a> {
+    pub old: &'a Program,
+    pub new: Ranged<'a>,
+    pub pairs: &'a [Option<u32>],
+}
+
+// The factors of a product that is written otherwise than as a product.
+fn product_factors<'a>(on: &Ranged<'a>, op: Binary, e: &'a Expr) -> Option<Factors<'a>>
+    requires ranges { AreRangesOf on.now.program.now on.now.ranges.now }
+    ensures { IfSome result (λ f. StandsFor on.now.program.now (tree_of e.now) (binary op (tree_of f.left.now) (tree_of f.right.now))) }
 {
-    old.law();
-    let e = unfolded(new, b);
+    match op {
+        Binary::Multiply => {
+            let found = divided_factors(on, e)?;
+            Some(found)
+        }
+        Binary::Add | Binary::Subtract | Binary::And | Binary::Or | Binary::Xor => None,
+        Binary::Min | Binary::Max | Binary::Less | Binary::LessOrEqual => None,
+        Binary::Greater | Binary::GreaterOrEqual | Binary::Equal | Binary::NotEqual => None,
+    }
+}
+
+// Whether an expression of the new program has, at each point, the value that one of the old program has at the moved point, where that is seen.
+fn has_same_moved(on: &Compared<'_>, at: Step, a: &Expr, b: &Expr) -> bool
+    requires { CanCompare on.now.old.now on.now.new.program.now on.now.new.ranges.now on.now.pairs.now }
+    ensures { IsTrue result → HaveSameMoved on.now.old.now on.now.new.program.now at.edge at.dx at.dy (tree_of a.now) (tree_of b.now) }
+{
+    on.old.law();
+    if is_here(at) && reads_behind(on, a, b) {
+        return true;
+    }
+    let e = aligned(&on.new, a, b);
     match a {
         Expr::Constant(value, ty) => is_constant(e, *value, *ty),
         Expr::Read(edge, image, dx, dy) => match pushed(at, Step::new(*edge, *dx, *dy)) {
-            Some(step) => reads_pair(old, new, pairs, *image, step, b),
+            Some(step) => reads_pair(on, *image, step, b),
             None => false,
         },
         Expr::Shifted(edge, dx, dy, body) => match pushed(at, Step::new(*edge, *dx, *dy)) {
             Some(step) => match shifted_body(e, step.edge, step.dx, step.dy) {
-                Some(other) => has_same_moved(old, new, pairs, HERE, body, other),
-                None => match part_of(new, at, Step::new(*edge, *dx, *dy), b) {
-                    Some(part) => has_same_moved(old, new, pairs, part.to, body, part.body),
+                Some(other) => has_same_moved(on, HERE, body, other),
+                None => match part_of(on.new.program, at, Step::new(*edge, *dx, *dy), b) {
+                    Some(part) => has_same_moved(on, part.to, body, part.body),
                     None => false,
                 },
             },
             None => false,
         },
         Expr::Unary(op, operand) => match unary_operand(e, *op) {
-            Some(other) => has_same_moved(old, new, pairs, at, operand, other),
+            Some(other) => has_same_moved(on, at, operand, other),
             None => false,
         },
         Expr::Binary(op, left, right) => match binary_operands(e, *op) {
             Some((l, r)) => {
-                if !has_same_moved(old, new, pairs, at, left, l) {
+                if !has_same_moved(on, at, left, l) {
                     return false;
                 }
-                has_same_moved(old, new, pairs, at, right, r)
+                has_same_moved(on, at, right, r)
             }
-            None => false,
+            None => match product_factors(&on.new, *op, e) {
+                Some(factors) => {
+                    if !has_same_moved(on, at, left, factors.left) {
+                        return false;
+                    }
+                    has_same_moved(on, at, right, factors.right)
+                }
+                None => false,
+            },
         },
         Expr::Select(condition, left, right) => match select_operands(e) {
             Some((c, l, r)) => {
-                if !has_same_moved(old, new, pairs, at, condition, c) {
+                if !has_same_moved(on, at, condition, c) {
                     return false;
                 }
-                if !has_same_moved(old, new, pairs, at, left, l) {
+                if !has_same_moved(on, at, left, l) {
                     return false;
                 }
-                has_same_moved(old, new, pairs, at, right, r)
+                has_same_moved(on, at, right, r)
             }
             None => false,
         },
         Expr::Convert(how, operand, ty) => match converted_operand(e, *how, *ty) {
-            Some(other) => has_same_moved(old, new, pairs, at, operand, other),
+            Some(other) => has_same_moved(on, at, operand, other),
             None => false,
         },
         Expr::Scale(op, operand, by) => match scaled_operand(e, *op, *by) {
-            Some(other) => has_same_moved(old, new, pairs, at, operand, other),
+            Some(other) => has_same_moved(on, at, operand, other),
             None => false,
         },
     }
 }
 
 // Whether an expression of the new program has the value of one of the old program.
-pub fn has_same_value(
-    old: &Program,
-    new: &Program,
-    pairs: &[Option<u32>],
-    a: &Expr,
-    b: &Expr,
-) -> bool
-    requires inputs { HaveSameInputs old.now new.now }
-    requires pairs { ArePairs old.now new.now pairs.now }
-    ensures { IsTrue result → HaveSameValue old.now new.now (tree_of a.now) (tree_of b.now) }
+pub fn has_same_value(on: &Compared<'_>, a: &Expr, b: &Expr) -> bool
+    requires { CanCompare on.now.old.now on.now.new.program.now on.now.new.ranges.now on.now.pairs.now }
+    ensures { IsTrue result → HaveSameValue on.now.old.now on.now.new.program.now (tree_of a.now) (tree_of b.now) }
 {
-    has_same_moved(old, new, pairs, HERE, a, b)
+    has_same_moved(on, HERE, a, b)
 }

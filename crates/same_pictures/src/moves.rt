@@ -1,6 +1,6 @@
 // Reads and shifts from a moved point, as moves from the point itself.
 
-ghost use Rattle.std.specs.Prelude.{◌≡◌, IfSome};
+ghost use Rattle.std.specs.Prelude.{◌≡◌, pos, IsTrue, IfSome};
 ghost use Rattle.pointwise_ir.specs.declared.expr.Edge.TheVariants.{Zero, Clamp};
 ghost use Rattle.same_pictures.specs.Matching.{IsJoined, IsPushed, IsSeenBehind};
 
@@ -20,6 +20,32 @@ pub const HERE: Step = Step {
     dx: 0,
     dy: 0,
 };
+
+// Whether it is no move.
+pub fn is_here(at: Step) -> bool
+    ensures across { IsTrue result → at.dx ≡ pos 0 }
+    ensures down { IsTrue result → at.dy ≡ pos 0 }
+{
+    if at.dx != 0 {
+        return false;
+    }
+    at.dy == 0
+}
+
+// Whether they are the same.
+pub fn is_same_step(a: Step, b: Step) -> bool
+    ensures edge { IsTrue result → a.edge ≡ b.edge }
+    ensures across { IsTrue result → a.dx ≡ b.dx }
+    ensures down { IsTrue result → a.dy ≡ b.dy }
+{
+    if a.edge != b.edge {
+        return false;
+    }
+    if a.dx != b.dx {
+        return false;
+    }
+    a.dy == b.dy
+}
 
 impl Step {
     pub fn new(edge: Edge, dx: i32, dy: i32) -> Step

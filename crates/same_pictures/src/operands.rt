@@ -3,6 +3,7 @@
 ghost use Rattle.std.specs.Prelude.{◌≡◌, IsTrue, IfSome};
 ghost use Rattle.pointwise_ir.specs.Trees.{tree_of, constant, read, shifted, unary, binary, select, convert, scale};
 
+use crate::moves::Step;
 use dk_base::{Binary, Conversion, Scaling, Ty, Unary};
 use pointwise_ir::{Edge, Expr};
 
@@ -118,5 +119,80 @@ pub fn scaled_operand(e: &Expr, op: Scaling, by: u64) -> Option<&Expr>
             }
         }
         _ => None,
+    }
+}
+
+// A read: the image, and the step to the pixel.
+#[derive(Clone, Copy)]
+pub struct ReadParts {
+    pub image: u32,
+    pub step: Step,
+}
+
+// The parts of the read that the expression is.
+pub fn read_parts(e: &Expr) -> Option<ReadParts>
+    ensures { IfSome result (λ r. tree_of e.now ≡ read r.step.edge r.image r.step.dx r.step.dy) }
+{
+    match e {
+        Expr::Read(edge, image, dx, dy) => Some(ReadParts {
+            image: *image,
+            step: Step::new(*edge, *dx, *dy),
+        }),
+        _ => None,
+    }
+}
+
+// The number of bits by which the expression shifts to the left or right, or by which it divides.
+pub fn shift_of(e: &Expr) -> Option<u64> {
+    match e {
+        Expr::Scale(_, _, by) => Some(*by),
+        _ => None,
+    }
+}
+
+// Whether two expressions are the same.
+pub fn is_same(a: &Expr, b: &Expr) -> bool
+    ensures { IsTrue result → tree_of a.now ≡ tree_of b.now }
+{
+    match a {
+        Expr::Constant(value, ty) => is_constant(b, *value, *ty),
+        Expr::Read(edge, image, dx, dy) => read_image(b, *edge, *dx, *dy) == Some(*image),
+        Expr::Shifted(edge, dx, dy, body) => match shifted_body(b, *edge, *dx, *dy) {
+            Some(other) => is_same(body, other),
+            None => false,
+        },
+        Expr::Unary(op, operand) => match unary_operand(b, *op) {
+            Some(other) => is_same(operand, other),
+            None => false,
+        },
+        Expr::Binary(op, left, right) => match binary_operands(b, *op) {
+            Some((l, r)) => {
+                if !is_same(left, l) {
+                    return false;
+                }
+                is_same(right, r)
+            }
+            None => false,
+        },
+        Expr::Select(condition, left, right) => match select_operands(b) {
+            Some((c, l, r)) => {
+                if !is_same(condition, c) {
+                    return false;
+                }
+                if !is_same(left, l) {
+                    return false;
+                }
+                is_same(right, r)
+            }
+            None => false,
+        },
+        Expr::Convert(how, operand, ty) => match converted_operand(b, *how, *ty) {
+            Some(other) => is_same(operand, other),
+            None => false,
+        },
+        Expr::Scale(op, operand, by) => match scaled_operand(b, *op, *by) {
+            Some(other) => is_same(operand, other),
+            None => false,
+        },
     }
 }

@@ -3,12 +3,14 @@
 ghost use Rattle.std.specs.Prelude.{◌≡◌, ◌<◌, ℕ, length, Some, slice_get, slice_index, IsTrue, IfOk, IfSome};
 ghost use Rattle.pointwise_ir.specs.Programs.{names_of, types_of};
 ghost use Rattle.same_pictures.specs.Same.{HaveSamePicture, HaveSamePictures};
-ghost use Rattle.same_pictures.specs.Matching.{ArePairs, HaveSameInputs};
+ghost use Rattle.same_pictures.specs.Matching.{CanCompare, ArePairs, HaveSameInputs};
 
-use crate::matching::{body_of, has_same_value, is_pair};
+use crate::matching::{Compared, body_of, has_same_value, is_pair};
+use crate::unneeded::Ranged;
 use dk_base::OutOfMemory;
 use pointwise_ir::{Input, Program, meaning_law};
 use std::alloc::Global;
+use value_ranges::image_ranges;
 
 // Whether two lists of inputs have the same names and types.
 fn are_same_inputs(old: &[Input], new: &[Input]) -> bool
@@ -65,22 +67,21 @@ fn image_count(program: &Program) -> u32
 }
 
 // Whether image h of the new program has the name of image g of the old one, and a body with the same value.
-fn is_counterpart(old: &Program, new: &Program, pairs: &[Option<u32>], g: u32, h: u32) -> bool
-    requires inputs { HaveSameInputs old.now new.now }
-    requires pairs { ArePairs old.now new.now pairs.now }
-    requires old { g < length (types_of old.now) }
-    requires new { h < length (types_of new.now) }
-    ensures { IsTrue result → HaveSamePicture old.now new.now g h }
+fn is_counterpart(on: &Compared<'_>, g: u32, h: u32) -> bool
+    requires comparable { CanCompare on.now.old.now on.now.new.program.now on.now.new.ranges.now on.now.pairs.now }
+    requires old { g < length (types_of on.now.old.now) }
+    requires new { h < length (types_of on.now.new.program.now) }
+    ensures { IsTrue result → HaveSamePicture on.now.old.now on.now.new.program.now g h }
 {
-    if name_of(new, h) != name_of(old, g) {
+    if name_of(on.new.program, h) != name_of(on.old, g) {
         return false;
     }
-    match body_of(old, g) {
-        Some(a) => match body_of(new, h) {
+    match body_of(on.old, g) {
+        Some(a) => match body_of(on.new.program, h) {
             Some(b) => {
-                meaning_law(old);
-                meaning_law(new);
-                has_same_value(old, new, pairs, a, b)
+                meaning_law(on.old);
+                meaning_law(on.new.program);
+                has_same_value(on, a, b)
             }
             None => false,
         },
@@ -89,14 +90,13 @@ fn is_counterpart(old: &Program, new: &Program, pairs: &[Option<u32>], g: u32, h
 }
 
 // The image of the new program, if there is one, that has the name of image g of the old one and the same picture.
-fn pair_of(old: &Program, new: &Program, pairs: &[Option<u32>], g: u32) -> Option<u32>
-    requires inputs { HaveSameInputs old.now new.now }
-    requires pairs { ArePairs old.now new.now pairs.now }
-    requires there { g < length (types_of old.now) }
-    ensures { IfSome result (λ h. HaveSamePicture old.now new.now g h) }
+fn pair_of(on: &Compared<'_>, g: u32) -> Option<u32>
+    requires comparable { CanCompare on.now.old.now on.now.new.program.now on.now.new.ranges.now on.now.pairs.now }
+    requires there { g < length (types_of on.now.old.now) }
+    ensures { IfSome result (λ h. HaveSamePicture on.now.old.now on.now.new.program.now g h) }
 {
-    for h in 0..image_count(new) {
-        if is_counterpart(old, new, pairs, g, h) {
+    for h in 0..image_count(on.new.program) {
+        if is_counterpart(on, g, h) {
             return Some(h);
         }
     }
@@ -123,9 +123,18 @@ fn all_pairs(alloc: Global, old: &Program, new: &Program) -> Result<Vec<Option<u
     requires inputs { HaveSameInputs old.now new.now }
     ensures { IfOk result (λ pairs. ArePairs old.now new.now pairs.items) }
 {
+    let ranges = image_ranges(alloc, new)?;
     let mut pairs = input_pairs(alloc, old, new)?;
     for g in input_count(old)..image_count(old) {
-        let other = pair_of(old, new, &pairs, g);
+        let on = Compared {
+            old,
+            new: Ranged {
+                program: new,
+                ranges: &ranges,
+            },
+            pairs: &pairs,
+        };
+        let other = pair_of(&on, g);
         pairs.push(other)?;
     }
     Ok(pairs)

@@ -1,7 +1,5 @@
-use Rattle.std.proofs.Common.{rules, ◌≡◌, ◌≤◌, ◌∙◌, ap, sym, subst, ℕ, List, Some, slice_get, get_or}
+use Rattle.std.proofs.Common.{rules, ◌≡◌, ◌≤◌, ◌∙◌, ap, sym, subst, ℕ, Some, slice_get, get_or}
 use Rattle.std.proofs.lemmas.Option.{slice_get-get_or}
-use Rattle.pointwise_ir.specs.declared.program.Definition.{Definition}
-use Rattle.body_levels.specs.Deep.{image_levels}
 use Rattle.body_levels.proofs.deep.is_within.Goals as goal
 
 pub returns : goal.returns

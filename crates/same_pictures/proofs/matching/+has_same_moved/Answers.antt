@@ -11,8 +11,8 @@ word z = to_z w32 (of_z w32 z)
 
 pub returns-in-Some-shifted_body : goal.returns-in-Some-shifted_body
 returns-in-Some-shifted_body t c = λ yes.
-    let old = c.args.old.now in
-    let new = c.args.new.now in
+    let old = c.args.on.now.old.now in
+    let new = c.args.on.now.new.program.now in
     let at = c.args.at in
     let by = c.in-Shifted in
     let to = c.in-Some-pushed.step in
@@ -25,7 +25,7 @@ returns-in-Some-shifted_body t c = λ yes.
     let pushed = parts_of (λ e x y. IsPushed at.edge at.dx at.dy e x y to.edge to.dx to.dy) step.result by.edge by.dx by.dy fx fy step.ensures.edge step.ensures.across step.ensures.down c.in-Some-pushed.ensures in
     let inner = subst (λ (e : Expr). HaveSameMoved old new Clamp (pos 0) (pos 0) (tree_of e) other) c.deref.ensures (c.has_same_moved.ensures yes) in
     let whole = moved_shifted old new c.requires.inputs c.law.ensures at.edge at.dx at.dy by.edge to.edge by.dx by.dy to.dx to.dy (tree_of by.body.value) other pushed inner in
-    moved_standing old new c.requires.inputs at.edge at.dx at.dy (tree_of c.args.a.now) (tree_of c.args.b.now) (tree_of c.unfolded-e.result.now) c.unfolded-e.ensures
+    moved_standing old new c.requires.inputs at.edge at.dx at.dy (tree_of c.args.a.now) (tree_of c.args.b.now) (tree_of c.aligned-e.result.now) c.aligned-e.ensures
     (subst (λ (e : Tree). HaveSameMoved old new at.edge at.dx at.dy (tree_of c.args.a.now) e) (sym c.in-Some-shifted_body.ensures)
     (subst (λ (e : Tree). HaveSameMoved old new at.edge at.dx at.dy e (shifted to.edge (word to.dx) (word to.dy) other)) (sym (ap tree_of by.is))
     (to_word (λ u. HaveSameMoved old new at.edge at.dx at.dy (shifted by.edge by.dx by.dy (tree_of by.body.value)) (shifted to.edge u (word to.dy) other)) to.dx sx
@@ -33,8 +33,8 @@ returns-in-Some-shifted_body t c = λ yes.
 
 pub returns-in-Some-part_of : goal.returns-in-Some-part_of
 returns-in-Some-part_of t c = λ yes.
-    let old = c.args.old.now in
-    let new = c.args.new.now in
+    let old = c.args.on.now.old.now in
+    let new = c.args.on.now.new.program.now in
     let at = c.args.at in
     let by = c.in-Shifted in
     let to = c.in-Some-part_of.part.to in

@@ -4,5 +4,5 @@ use Rattle.same_pictures.proofs.matching.reads_pair.Given as goal
 
 abbrev pub invariant-loop : goal.invariant-loop
 invariant-loop l = record {
-  stands : StandsFor l.fn.new (tree_of l.fn.b) (tree_of l.now);
+  stands : StandsFor l.fn.on.new.program.now (tree_of l.fn.b) (tree_of l.now);
 }

@@ -1,0 +1,188 @@
+// Parts of a body that are equal but for a move along the line: one definition serves all of them.
+
+use crate::copies::boxed;
+use crate::images::{Names, is_inline};
+use crate::levels::own_levels;
+use crate::term::{Term, TermNode};
+use dk_base::{Binary, OutOfMemory, Scaling};
+use dk_types::TypedRead;
+use std::alloc::Global;
+
+// How the reads of a part are moved, all by the same columns.
+#[derive(Clone, Copy, PartialEq, Eq)]
+pub(crate) struct Shift {
+    pub(crate) dx: i32,
+    pub(crate) clamped: bool,
+}
+
+// A part of a body, and the move of its reads.
+#[derive(Clone, Copy)]
+struct Moved<'a> {
+    part: &'a Term,
+    shift: Shift,
+}
+
+// How a read is moved, if it is along the line.
+fn shift_of(names: &Names<'_>, read: TypedRead) -> Option<Shift> {
+    let is_held = read.clamped && read.dx == 0;
+    if read.dy != 0 || is_held || is_inline(names.program, read.image) {
+        return None;
+    }
+    Some(Shift {
+        dx: read.dx,
+        clamped: read.clamped,
+    })
+}
+
+// The move of two parts, if it is the same.
+fn common(one: Option<Shift>, other: Option<Shift>) -> Option<Shift> {
+    if one == other { one } else { None }
+}
+
+// How all reads of an operand of a product are moved, if it is by the same columns. Only forms that are 0 where a read outside the frame is 0 count.
+fn common_shift(names: &Names<'_>, e: &Term) -> Option<Shift> {
+    match &e.node {
+        TermNode::Read(read) => shift_of(names, *read),
+        TermNode::Binary(Binary::Multiply, a, b) => {
+            common(common_shift(names, a), common_shift(names, b))
+        }
+        TermNode::Scale(_, a, _) => common_shift(names, a),
+        TermNode::Convert(_, a) => common_shift(names, a),
+        TermNode::Number(_) | TermNode::InFrame(_, _) => None,
+        TermNode::Unary(_, _) | TermNode::Binary(_, _, _) => None,
+        TermNode::Select(_, _, _) => None,
+    }
+}
+
+// Whether the outermost form is an operator that is worth a definition: a product, or a division that is no shift.
+fn is_costly(e: &Term) -> bool {
+    match &e.node {
+        TermNode::Binary(Binary::Multiply, _, _) => 0 < own_levels(e),
+        TermNode::Scale(Scaling::Divide, _, _) => 0 < own_levels(e),
+        TermNode::Scale(_, _, _) => false,
+        TermNode::Number(_) | TermNode::Read(_) | TermNode::InFrame(_, _) => false,
+        TermNode::Unary(_, _) | TermNode::Binary(_, _, _) => false,
+        TermNode::Convert(_, _) | TermNode::Select(_, _, _) => false,
+    }
+}
+
+// The move of a part that may be shared.
+pub(crate) fn shared_shift(names: &Names<'_>, e: &Term) -> Option<Shift> {
+    if is_costly(e) {
+        common_shift(names, e)
+    } else {
+        None
+    }
+}
+
+// A part without its move.
+fn still(alloc: Global, e: &Term) -> Result<Term, OutOfMemory> {
+    let node = match &e.node {
+        TermNode::Number(value) => TermNode::Number(*value),
+        TermNode::Read(read) => TermNode::Read(TypedRead {
+            image: read.image,
+            dx: 0,
+            dy: read.dy,
+            clamped: false,
+        }),
+        TermNode::InFrame(dx, dy) => TermNode::InFrame(*dx, *dy),
+        TermNode::Unary(operator, a) => {
+            let a = still(alloc, a)?;
+            TermNode::Unary(*operator, boxed(alloc, a)?)
+        }
+        TermNode::Binary(operator, a, b) => {
+            let a = still(alloc, a)?;
+            let b = still(alloc, b)?;
+            TermNode::Binary(*operator, boxed(alloc, a)?, boxed(alloc, b)?)
+        }
+        TermNode::Scale(operator, a, by) => {
+            let a = still(alloc, a)?;
+            TermNode::Scale(*operator, boxed(alloc, a)?, *by)
+        }
+        TermNode::Convert(how, a) => {
+            let a = still(alloc, a)?;
+            TermNode::Convert(*how, boxed(alloc, a)?)
+        }
+        TermNode::Select(c, a, b) => {
+            let c = still(alloc, c)?;
+            let a = still(alloc, a)?;
+            let b = still(alloc, b)?;
+            TermNode::Select(boxed(alloc, c)?, boxed(alloc, a)?, boxed(alloc, b)?)
+        }
+    };
+    Ok(Term { ty: e.ty, node })
+}
+
+// Whether two parts are equal but for the moves of their reads.
+pub(crate) fn are_equal(a: &Term, b: &Term) -> bool {
+    if a.ty != b.ty {
+        return false;
+    }
+    match (&a.node, &b.node) {
+        (TermNode::Read(read), TermNode::Read(other)) => read.image == other.image,
+        (TermNode::Binary(op, a, b), TermNode::Binary(other, c, d)) => {
+            op == other && are_equal(a, c) && are_equal(b, d)
+        }
+        (TermNode::Scale(op, a, by), TermNode::Scale(other, b, number)) => {
+            op == other && by == number && are_equal(a, b)
+        }
+        (TermNode::Convert(how, a), TermNode::Convert(other, b)) => {
+            how == other && are_equal(a, b)
+        }
+        _ => false,
+    }
+}
+
+// Adds the parts of an expression that may be shared.
+fn note<'a>(names: &Names<'_>, e: &'a Term, items: &mut Vec<Moved<'a>>) -> Result<(), OutOfMemory> {
+    if let Some(shift) = shared_shift(names, e) {
+        items.push(Moved { part: e, shift })?;
+        return Ok(());
+    }
+    match &e.node {
+        TermNode::Number(_) | TermNode::Read(_) | TermNode::InFrame(_, _) => Ok(()),
+        TermNode::Unary(_, a) => note(names, a, items),
+        TermNode::Scale(_, a, _) => note(names, a, items),
+        TermNode::Convert(_, a) => note(names, a, items),
+        TermNode::Binary(_, a, b) => {
+            note(names, a, items)?;
+            note(names, b, items)
+        }
+        TermNode::Select(c, a, b) => {
+            note(names, c, items)?;
+            note(names, a, items)?;
+            note(names, b, items)
+        }
+    }
+}
+
+// Whether the part is read at two columns, and is the first of these.
+fn is_first_repeated(items: &[Moved<'_>], place: usize) -> bool {
+    let Some(one) = items.get(place) else {
+        return false;
+    };
+    let is_known = items
+        .iter()
+        .take(place)
+        .any(|it| are_equal(it.part, one.part));
+    let is_moved = items.iter().any(|it| it.shift.dx != one.shift.dx
+        && are_equal(it.part, one.part));
+    !is_known && is_moved
+}
+
+// The parts of a body that it has at two columns, each once and without its move.
+pub(crate) fn repeated(
+    alloc: Global,
+    names: &Names<'_>,
+    e: &Term,
+) -> Result<Vec<Term>, OutOfMemory> {
+    let mut items = Vec::new(alloc);
+    note(names, e, &mut items)?;
+    let mut found = Vec::new(alloc);
+    for place in 0..items.len() {
+        if is_first_repeated(&items, place) {
+            found.push(still(alloc, items[place].part)?)?;
+        }
+    }
+    Ok(found)
+}
