@@ -1,5 +1,5 @@
 -- The ends of intervals.
-use Rattle.std.proofs.Common.{◌≡◌, ℕ, suc, zero, ◌+◌, ◌-◌, ◌*◌, ◌/◌, ◌^◌, ◌<◌, ◌≤◌, Bool, true, false, ℤ, pos, negsuc, ◌+ℤ◌, ◌-ℤ◌, ◌*ℤ◌, ◌≤ℤ◌, ◌<ℤ◌, neg_ℤ, unsigned_abs, bit_and, arith, inl, inr, ◌⊎◌, refl, sym, ap, subst}
+use Rattle.std.proofs.Common.{◌≡◌, ℕ, suc, ◌*◌, ◌/◌, ◌<◌, ◌≤◌, Bool, true, false, ℤ, pos, negsuc, ◌-ℤ◌, ◌*ℤ◌, ◌≤ℤ◌, unsigned_abs, bit_and, arith, inl, inr, sym, subst}
 use Rattle.std.specs.Prelude.{int_div, ◌↔◌, bit_or, bit_xor}
 use Rattle.std.specs.Int.{int_min, int_max, int_div_euclid}
 use Rattle.std.proofs.lemmas.Int.{ints, clamps}
@@ -11,7 +11,6 @@ use Rattle.dk_base.specs.declared.ty.Ty.TheVariants.{Unsigned, Signed}
 use Rattle.dk_base.specs.Types.{IsType, IsIn, is_signed}
 use Rattle.dk_base.specs.Numbers.{saturate, wrap}
 use Rattle.dk_base.proofs.Codes.{number_code}
-use Rattle.dk_base.proofs.Compare.{int_lt_cases, saturate_low, saturate_high, saturate_inside, saturate_in}
 use Rattle.dk_base.proofs.Nearest.{saturate_placed}
 use Rattle.dk_base.specs.Operators.{truth}
 use Rattle.value_ranges.specs.declared.interval.Interval.{Interval}

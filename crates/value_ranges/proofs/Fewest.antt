@@ -1,16 +1,15 @@
 -- The types of fewest bits.
-use Rattle.std.proofs.Common.{◌≡◌, ℕ, suc, zero, ◌+◌, ◌-◌, ◌*◌, ◌^◌, ◌<◌, ◌≤◌, false, ℤ, pos, negsuc, ◌+ℤ◌, ◌-ℤ◌, ◌≤ℤ◌, ◌<ℤ◌, unsigned_abs, arith, refl, subst}
+use Rattle.std.proofs.Common.{◌≡◌, ℕ, ◌+◌, ◌-◌, ◌*◌, ◌^◌, ◌<◌, ◌≤◌, ℤ, pos, negsuc, ◌-ℤ◌, ◌≤ℤ◌, ◌<ℤ◌, arith, refl, subst}
 use Rattle.std.specs.Int.{int_max}
 use Rattle.std.proofs.lemmas.Int.{ints, clamps}
 use Rattle.std.proofs.Math.Pow.{pow_mono}
-use Rattle.std.proofs.lemmas.Nat.{pow_pos}
 use Rattle.dk_base.specs.declared.ty.Ty.{Ty}
 use Rattle.dk_base.specs.declared.ty.Ty.TheVariants.{Unsigned, Signed}
 use Rattle.dk_base.specs.Types.{IsType, IsIn, width_of}
 use Rattle.dk_base.specs.Numbers.{IsBitCount}
 use Rattle.dk_base.proofs.Codes.{half}
 use Rattle.value_ranges.specs.declared.interval.Interval.{Interval}
-use Rattle.value_ranges.specs.Intervals.{IsBetween, IsHeldBy, IsLeastType, HasNoType}
+use Rattle.value_ranges.specs.Intervals.{IsHeldBy, IsLeastType, HasNoType}
 
 -- an interval without values
 pub none_least : (r : Interval) → r.greatest <ℤ r.least → IsLeastType r (Unsigned 1)

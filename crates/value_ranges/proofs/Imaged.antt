@@ -1,6 +1,5 @@
 -- The intervals of images, one after another.
-use Rattle.std.proofs.Common.{◌≡◌, ℕ, zero, suc, ◌+◌, ◌<◌, ◌≤◌, ℤ, List, [], ◌∷◌, ◌++◌, length, map, Some, slice_get, refl, ap, sym, ◌∙◌, subst, arith, inl, inr}
-use Rattle.std.specs.List.{All}
+use Rattle.std.proofs.Common.{◌≡◌, ℕ, zero, suc, ◌+◌, ◌<◌, ℤ, List, [], ◌∷◌, ◌++◌, length, map, Some, slice_get, refl, ap, sym, ◌∙◌, subst, arith, inl, inr}
 use Rattle.std.specs.Option.{option_map}
 use Rattle.std.proofs.lemmas.Option.{slice_get-map, slice_get_within, get_or_from_slice_get}
 use Rattle.dk_base.specs.declared.ty.Ty.{Ty}
@@ -9,9 +8,9 @@ use Rattle.dk_base.specs.Types.{IsType, IsPort, IsIn}
 use Rattle.dk_base.specs.Frames.{Size, Picture, picture_at, framed}
 use Rattle.pointwise_ir.specs.declared.program.Input.{Input}
 use Rattle.pointwise_ir.specs.declared.program.Definition.{Definition}
-use Rattle.pointwise_ir.specs.Trees.{Tree, tree_of}
-use Rattle.pointwise_ir.specs.Programs.{Program, IsProgram, IsBody, all_types, types_of, bodies_of}
-use Rattle.pointwise_ir.specs.Meaning.{value, pictures, IsRound, IsPicture}
+use Rattle.pointwise_ir.specs.Trees.{tree_of}
+use Rattle.pointwise_ir.specs.Programs.{Program, IsProgram, all_types, bodies_of}
+use Rattle.pointwise_ir.specs.Meaning.{value, pictures}
 use Rattle.pointwise_ir.proofs.Defined.{last_entry, types_are}
 use Rattle.pointwise_ir.proofs.Pictured.{first_pictures, picture_of_body, values_in}
 use Rattle.value_ranges.specs.declared.interval.Interval.{Interval}

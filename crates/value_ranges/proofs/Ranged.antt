@@ -6,7 +6,7 @@ use Rattle.dk_base.specs.declared.operator.Binary.{Binary}
 use Rattle.dk_base.specs.declared.operator.Scaling.{Scaling}
 use Rattle.dk_base.specs.declared.operator.Conversion.{Conversion}
 use Rattle.dk_base.specs.Operators.{unary_value, binary_value, scaling_value, conversion_value, select_value}
-use Rattle.dk_base.specs.Frames.{Size, Picture, picture_at, in_frame, framed, clamped}
+use Rattle.dk_base.specs.Frames.{Size, Picture, picture_at, in_frame, framed}
 use Rattle.pointwise_ir.specs.declared.expr.Edge.{Edge}
 use Rattle.pointwise_ir.specs.Trees.{Tree, constant, read, shifted, unary, binary, select, convert, scale}
 use Rattle.pointwise_ir.specs.Meaning.{value, edged}

@@ -1,4 +1,4 @@
-use Rattle.std.proofs.Common.{refl, rules, ◌≡◌, ◌+◌, ◌<◌, ◌∷◌, [], length, ap, ◌∙◌, arith, length-append, slice_get, Some}
+use Rattle.std.proofs.Common.{refl, ◌∷◌, [], arith, length-append}
 use Rattle.std.proofs.lemmas.Option.{slice_get_read}
 use Rattle.value_ranges.proofs.Imaged.{inputs_between, image_type, images_more}
 use Rattle.value_ranges.proofs.images.image_ranges.Goals as goal

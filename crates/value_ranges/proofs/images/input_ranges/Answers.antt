@@ -1,6 +1,6 @@
-use Rattle.std.proofs.Common.{refl, rules, ◌∷◌, [], length, ap, ◌∙◌, arith, length-append}
+use Rattle.std.proofs.Common.{refl, ◌∷◌, [], arith, length-append}
 use Rattle.std.proofs.lemmas.Option.{slice_get_read}
-use Rattle.value_ranges.proofs.Imaged.{port_type, types_more}
+use Rattle.value_ranges.proofs.Imaged.{types_more}
 use Rattle.value_ranges.proofs.images.input_ranges.Goals as goal
 
 pub loop-input-preserved : goal.loop-input-preserved
