@@ -70,22 +70,6 @@ common_between a b r (pos n) (pos k) some more low high is also =
 common_between a b r (negsuc n) u some more low high is also = absurd (let l = is.least in omega (arith, ints, l, some))
 common_between a b r (pos n) (negsuc k) some more low high is also = absurd (let l = also.least in omega (arith, ints, l, more))
 
-pub same_magnitude : (a : Interval) (v : ℤ) → pos 0 ≤ℤ a.least → IsBetween a v → IsBetween a (pos (unsigned_abs v))
-same_magnitude a (pos n) some is = is
-same_magnitude a (negsuc n) some is = absurd (let l = is.least in omega (arith, ints, l, some))
-
-pub negated_magnitude : (a r : Interval) (v : ℤ) → a.greatest ≤ℤ pos 0 → IsBetween a v → IsBetween r (pos 0 -ℤ v) → IsBetween r (pos (unsigned_abs v))
-negated_magnitude a r (pos n) none is turned =
-    let g = is.greatest in let l = turned.least in let h = turned.greatest in
-    record { least = omega (arith, ints, g, none, l); greatest = omega (arith, ints, g, none, h) }
-negated_magnitude a r (negsuc n) none is turned =
-    let l = turned.least in let h = turned.greatest in
-    record { least = omega (arith, ints, l); greatest = omega (arith, ints, h) }
-
-pub either_magnitude : (a q r : Interval) (v : ℤ) → r.least ≡ pos 0 → r.greatest ≡ int_max a.greatest q.greatest → IsBetween a v → IsBetween q (pos 0 -ℤ v) → IsBetween r (pos (unsigned_abs v))
-either_magnitude a q r (pos n) low high is turned = let g = is.greatest in record { least = omega (arith, ints, low); greatest = omega (arith, ints, clamps, high, g) }
-either_magnitude a q r (negsuc n) low high is turned = let g = turned.greatest in record { least = omega (arith, ints, low); greatest = omega (arith, ints, clamps, high, g) }
-
 -- quotients keep the order
 divided : (n m k : ℕ) → 0 < k → n ≤ m → n / k ≤ m / k
 divided n m k some le = le-div (n / k) m k some (let d = div-mul-le_self n k in omega (arith, d, le))

@@ -27,14 +27,6 @@ below_power : (u : Ty) (g : ℕ) → IsType u → IsIn u (pos g) → g < 2 ^ wid
 below_power (Unsigned m) g ok is = let h = is.greatest in omega (arith, ints, h)
 below_power (Signed m) g ok is = let h = is.greatest in let p = half m ok.some in omega (arith, ints, h, p)
 
-unsigned_many : (u : Ty) (g : ℕ) → 2 ^ 64 ≤ g → IsType u → IsIn u (pos g) → ⊥
-unsigned_many u g many ok is = let b = below_power u g ok is in let p : 2 ^ width_of u ≤ 2 ^ 64 = pow_mono ok.most in omega (arith, many, b, p)
-
-pub unsigned_none : (r : Interval) (g : ℕ) → r.least ≤ℤ r.greatest → r.greatest ≡ pos g → 2 ^ 64 ≤ g → HasNoType r
-unsigned_none r g some e many u ok held =
-    let P : ℤ → Type 0 = λ v. IsIn u v in
-    unsigned_many u g many ok (subst P e (ends r u some held).1)
-
 pub unsigned_least : (r : Interval) (g n : ℕ) → r.least ≤ℤ r.greatest → pos 0 ≤ℤ r.least → r.greatest ≡ pos g → g < 2 ^ 64 → IsBitCount g n → IsLeastType r (Unsigned n)
 unsigned_least r g n some low e few is =
     let P : ℤ → Ty → Type 0 = λ v u. IsIn u v in
@@ -52,13 +44,6 @@ near (Signed m) r reach low e ok least greatest =
     let l = least.least in let g = greatest.greatest in let p = half m ok.some in
     let few : reach < 2 ^ (m - 1) = omega (arith, ints, clamps, e, l, g) in
     omega (arith, few, p)
-
-pub signed_none : (r : Interval) (reach : ℕ) → r.least ≤ℤ r.greatest → r.least <ℤ pos 0 → pos reach ≡ int_max r.greatest (negsuc 0 -ℤ r.least) → 2 ^ 63 ≤ reach → HasNoType r
-signed_none r reach some low e many u ok held =
-    let both = ends r u some held in
-    let n = near u r reach low e ok both.0 both.1 in
-    let p : 2 ^ width_of u ≤ 2 ^ 64 = pow_mono ok.most in
-    omega (arith, n, p, many)
 
 pub signed_least : (r : Interval) (reach n : ℕ) → r.least ≤ℤ r.greatest → r.least <ℤ pos 0 → pos reach ≡ int_max r.greatest (negsuc 0 -ℤ r.least) → reach < 2 ^ 63 → IsBitCount (2 * reach + 1) n → IsLeastType r (Signed n)
 signed_least r reach n some low e few is =
