@@ -106,6 +106,7 @@ crates/test_bench/README.md
 crates/top_tests/README.md
 crates/trace_bench/README.md
 crates/trace_tests/README.md
+crates/value_ranges/README.md
 crates/value_rows/README.md
 crates/vcd_trace/README.md
 crates/verilog_layout/README.md

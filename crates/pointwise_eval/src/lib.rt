@@ -7,7 +7,6 @@ mod narrow;
 mod need;
 mod plane;
 mod point;
-mod ranges;
 mod rows;
 mod value;
 mod walk;

@@ -1,0 +1,4 @@
+pub mod Ends
+pub mod Fewest
+pub mod Ranged
+pub mod Imaged

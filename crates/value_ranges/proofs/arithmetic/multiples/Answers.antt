@@ -1,0 +1,12 @@
+use Rattle.std.proofs.Common.{refl, rules, ◌≡◌, ◌*ℤ◌, to_z, of_z}
+use mir.Syntax.{w128}
+use Rattle.value_ranges.proofs.Ends.{right_product, moved}
+use Rattle.value_ranges.proofs.arithmetic.multiples.Goals as goal
+
+pub returns : goal.returns
+returns c = λ v is.
+    let one : to_z w128 (of_z w128 c.in_ok-one.one) ≡ c.args.factor *ℤ c.args.range.least = search rules in
+    let other : to_z w128 (of_z w128 c.in_ok-other.other) ≡ c.args.factor *ℤ c.args.range.greatest = search rules in
+    right_product c.join.result c.args.range.least c.args.range.greatest c.args.factor v is.least is.greatest
+    (moved _ _ _ one (c.join.ensures.this _ ((c.of_value.ensures _).1 refl)))
+    (moved _ _ _ other (c.join.ensures.other _ ((c.of_value-2.ensures _).1 refl)))

@@ -1,0 +1,3 @@
+pub mod Intervals
+pub mod Parts
+pub mod Images
