@@ -109,9 +109,14 @@ fn raised(part: Part) -> Part {
     }
 }
 
-// What an operator gives of these, in its own type.
+// The type of a product.
 fn product_type(a: Ty, b: Ty) -> Ty {
-    Binary::Multiply.result_type(a, b).unwrap_or(a)
+    let width = a.width().saturating_add(b.width());
+    if a.is_signed() || b.is_signed() {
+        Ty::Signed(width)
+    } else {
+        Ty::Unsigned(width)
+    }
 }
 
 fn multiplied(alloc: Global, a: Factor, b: Factor) -> Result<Part, OutOfMemory> {
