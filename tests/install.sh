@@ -12,7 +12,7 @@ bin="$work/root$prefix/bin"
 
 mkdir -p checkout/bin checkout/crates/dk/src && cp "$program" checkout/bin/dk && echo 'dk:' >checkout/crates.txt || exit 2
 echo 'main' >checkout/crates/dk/src/main.rt
-for name in CHANGELOG.md VERSION docs editors examples tools; do
+for name in CHANGELOG.md VERSION docs editors examples tests tools; do
     ln -s "$top/$name" checkout
 done
 (
@@ -106,7 +106,7 @@ dk --version >version
 kit a kit
 $(grep '^sources ' "$work/checkout/bin/dk.txt")" ] || wrong "dk --version shows $(cat version)"
 docs=$(printf '%s\n' "$help" | sed -n 's/^More: \(.*\)\/COMMANDS.md\.$/\1/p')
-[ "$docs" -ef "$work/root$prefix/share/doc/dk" ] || wrong "the help names the pages as $docs"
+[ "$docs" -ef "$work/root$prefix/share/doc/dk/docs" ] || wrong "the help names the pages as $docs"
 
 # Explanations
 ends 3 'program 38-39: UnknownImage' dk plan p.dk
@@ -152,6 +152,16 @@ if command -v fish >/dev/null; then
 trace
 zeros" ] || wrong "fish completes: $got"
 fi
+CDPATH='' cd -- doc/dk/docs || exit 2
+for page in *.md; do
+    grep -o ']([^)#]*' "$page" | sed 's/^..//' | while IFS= read -r link; do
+        case $link in
+        '' | http*) ;;
+        *) [ -e "$link" ] || echo "$page: $link" ;;
+        esac
+    done
+done >"$work/dangling"
+[ ! -s "$work/dangling" ] || wrong "links of the pages lead nowhere: $(cat "$work/dangling")"
 CDPATH='' cd -- "$work" || exit 2
 
 # A second time, over a file that is not in the list any more and beside a file of others; with the folder in DESTDIR

@@ -119,17 +119,25 @@ put_texts() {
     put 644 tools/completions/dk.bash share/bash-completion/completions/dk
     put 644 tools/completions/_dk share/zsh/site-functions/_dk
     put 644 tools/completions/dk.fish share/fish/vendor_completions.d/dk.fish
-    put 644 CHANGELOG.md share/doc/dk/CHANGELOG.md
-    for page in $pages; do
-        put 644 "docs/$page.md" "share/doc/dk/$page.md"
-    done
-    put_all share/doc/dk/gallery "$top"/docs/gallery/*
-    put_all share/doc/dk/examples/programs "$top"/examples/programs/*
     for kind in compiler ftdetect ftplugin syntax; do
         put 644 "editors/vim/$kind/dk.vim" "share/dk/editors/vim/$kind/dk.vim"
     done
     put_all share/dk/editors/vscode "$top"/editors/vscode/*.json
     put_all share/dk/editors/vscode/syntaxes "$top"/editors/vscode/syntaxes/*
+}
+
+# put_pages: pages, and all that they refer to by its place in the checkout
+put_pages() {
+    put 644 CHANGELOG.md share/doc/dk/CHANGELOG.md
+    for page in $pages; do
+        put 644 "docs/$page.md" "share/doc/dk/docs/$page.md"
+    done
+    put_all share/doc/dk/docs/gallery "$top"/docs/gallery/*
+    put_all share/doc/dk/examples "$top"/examples/README.md "$top"/examples/bench.v
+    for folder in programs sim verilog; do
+        put_all "share/doc/dk/examples/$folder" "$top/examples/$folder"/*
+    done
+    put_all share/doc/dk/tests/waves "$top"/tests/waves/*
 }
 
 read_options "$@"
@@ -161,6 +169,7 @@ trap '[ "$?" = 0 ] || remove "$made"' EXIT
 trap 'exit 130' INT TERM HUP
 put_program
 put_texts
+put_pages
 made="$made${newline}file $prefix/lib/dk/installed"
 printf '%s\n' "$made" >"$list" || fail "cannot write $list"
 echo "dk $(cat VERSION) is installed: $dest$prefix/bin/dk"

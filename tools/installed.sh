@@ -9,7 +9,7 @@ esac
 prefix=${self%/*}/..
 top=$prefix/lib/dk
 called=dk
-docs=$prefix/share/doc/dk
+docs=$prefix/share/doc/dk/docs
 page=$prefix/share/man/man1/dk.1
 
 # (a shell that cannot go on would end with status 2, which is Usage)
