@@ -1,5 +1,6 @@
 # Sourced by the script dk: answers the words for help and for the version, which the program does not have.
 # `top` is the folder of tools/ and VERSION, `called` is the script's name for its caller, `docs` has the pages, and `page` is the man page.
+# shellcheck shell=sh disable=SC2154,SC2167
 
 # answer_help WORD..: ends the script if the words ask for help: `help`, `--help` or `-h` first, or `--help` or `-h` after a command and
 # before `--`, where each of them is Usage for the program. A file may have the name `help`.

@@ -1,4 +1,5 @@
 # Writes the help of the script dk to standard output. tools/answer.sh sources this file for words that ask for help.
+# shellcheck shell=sh disable=SC1091,SC2154
 
 . "${top:?}/tools/explain.sh"
 

@@ -65,13 +65,13 @@ paths() {
 
 # remove LIST: the files, and then the folders that are empty, from the last to the first. A folder may have files of others.
 remove() {
-    paths file "$1" | {
+    paths file "$1" | (
         status=0
         while IFS= read -r path; do
             rm -f -- "$dest$path" || status=1
         done
         exit "$status"
-    }
+    )
     status=$?
     paths folder "$1" | tac | while IFS= read -r path; do
         rmdir -- "$dest$path" 2>/dev/null
