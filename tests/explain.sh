@@ -6,6 +6,8 @@
 program=
 [ $# = 0 ] || program=$(whole "$1")
 in_folder
+called=./dk
+docs=docs
 . "$top/tools/explain.sh"
 usage=$(usage_line)
 

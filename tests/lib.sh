@@ -7,6 +7,7 @@ tests=$top/tests
 examples=$top/examples
 cases=0
 failed=0
+unset DK_EXPLAIN
 
 # whole NAME: the name of a file that there is, from the root on
 whole() {

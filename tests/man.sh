@@ -1,6 +1,7 @@
 #!/bin/sh
 # Compares the man page with docs/COMMANDS.md: its synopsis is the usage line, and each command, option and status has an entry.
-# The completions of bash and zsh must name each command and option too.
+# The completions of bash, zsh and fish must name each command and option too. The script dk answers `help` and `--version`, which the usage
+# line does not have.
 # Says nothing where all is right.
 # usage: tests/man.sh
 CDPATH='' cd -- "$(dirname -- "$0")/.." || exit 2
@@ -13,8 +14,13 @@ wrong() {
 
 # The lines of the page without fonts.
 plain=$(sed 's/\\f[BIPR]//g; s/\\-/-/g; s/^\.BR* //' docs/dk.1)
+grep -q "^\.TH DK 1 .* \"dk $(cat VERSION)\" " docs/dk.1 || wrong 'docs/dk.1 is not of the version in VERSION'
 usage=$(sed -n 's/^usage: //p' docs/COMMANDS.md)
 synopsis=$(printf '%s\n' "$plain" | sed -n '/^\.SH SYNOPSIS/,/^\.SH DESCRIPTION/s/^dk //p')
+answered=$(printf '%s\n' "$synopsis" | tail -n 2)
+[ "$answered" = 'help [COMMAND]
+--version' ] || wrong 'the synopsis of docs/dk.1 does not end with help and --version'
+synopsis=$(printf '%s\n' "$synopsis" | head -n -2)
 [ "$(printf '%s\n' "$synopsis" | tr '\n' '|' | sed 's/|$//; s/|/ | /g')" = "$usage" ] ||
     wrong 'the synopsis of docs/dk.1 is not the usage line of docs/COMMANDS.md'
 
@@ -25,12 +31,19 @@ while IFS= read -r entry; do
     printf '%s\n' "$plain" | grep -A 1 -xF .TP | grep -qxF -e "$entry" || wrong "docs/dk.1 has no entry \`$entry\`"
 done <<END
 $commands
+help
 $options
+--version
+1
 $statuses
 END
-for file in tools/completions/dk.bash tools/completions/_dk; do
-    for word in $commands $(printf '%s\n' "$options" | cut -d ' ' -f 1); do
+for word in $commands $(printf '%s\n' "$options" | cut -d ' ' -f 1) help --help --version; do
+    for file in tools/completions/dk.bash tools/completions/_dk; do
         grep -qw -e "$word" "$file" || wrong "$file does not name $word"
     done
+    case $word in
+    --*) grep -qw -e "-l ${word#--}" tools/completions/dk.fish ;;
+    *) grep -qw -e "-a $word" tools/completions/dk.fish ;;
+    esac || wrong "tools/completions/dk.fish does not name $word"
 done
 exit "$failed"

@@ -134,7 +134,7 @@ def main():
     every = set().union(*files)
     for line in (TOP / "tests/names.txt").read_text().splitlines():
         names.update([] if line.startswith("#") else line.split())
-    docs = [TOP / "README.md", TOP / "examples/README.md", *sorted(TOP.glob("docs/*.md")), *sorted(TOP.glob("crates/*/README.md"))]
+    docs = [TOP / "README.md", TOP / "CHANGELOG.md", TOP / "examples/README.md", *sorted(TOP.glob("docs/*.md")), *sorted(TOP.glob("crates/*/README.md"))]
     docs.remove(TOP / "docs/LADDER.md")
     status = 0
     for doc in docs:

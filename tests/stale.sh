@@ -66,7 +66,7 @@ PATH=$work/stubs:$PATH
 for folder in bin crates/dk/src crates/other/src crates/low/src crates/low/specs crates/low/proofs/a/b; do
     mkdir -p first/checkout/$folder
 done
-cp -r "$top/dk" "$top/tools" first/checkout || exit 2
+cp -r "$top/dk" "$top/tools" "$top/VERSION" first/checkout || exit 2
 printf '# crates\nlow:\nother:\ndk: low\n' >first/checkout/crates.txt
 echo 'main' >first/checkout/crates/dk/src/main.rt
 echo 'lib' >first/checkout/crates/low/src/lib.rt
@@ -158,6 +158,11 @@ refuses build 'another build/dk'
 names low 'another build/dk'
 rm text/checkout/bin/dk.txt
 refuses text 'a program without its text'
+got=$(text/checkout/dk --version 2>/dev/null)
+[ "$? $got" = '1 ' ] || wrong "the version of no program: $got"
+got=$(fresh/checkout/dk --version 2>&1) || wrong "the version: $got"
+[ "$got" = "dk $(cat "$top/VERSION")
+$(grep '^sources ' fresh/checkout/bin/dk.txt)" ] || wrong "the version: $got"
 
 # A source that changes before or after each sum that is taken, and a second call in the middle, which notes what it found
 for name in $steps; do
@@ -238,8 +243,9 @@ names low 'a named pipe among the sources'
 # The help needs no program and no sources.
 cp -r edited help
 rm -r help/checkout/bin help/checkout/crates
-for word in help --help -h; do
-    got=$(help/checkout/dk $word 2>&1) && [ "${got%% *}" = 'usage:' ] || wrong "./dk $word: $got"
+for words in help --help -h 'help plan' 'plan --help'; do
+    # shellcheck disable=SC2086
+    got=$(help/checkout/dk $words 2>&1) && [ "${got%% *}" = 'usage:' ] || wrong "./dk $words: $got"
 done
 [ ! -e built ] || wrong 'the help began a build'
 

@@ -7,6 +7,7 @@
 #   With `--block 32` it must make at least one block memory of each array of 512 words and more, in each of five families (tools/memories.py).
 # - trace.py must write the trace that `trace` writes.
 # - The design of examples/design must show the pictures of `eval`.
+# - Vim must show the groups of tests/editors.py.
 # It says nothing else where all is as it should be. COUNT 0 takes about ten minutes, without COUNT it takes about 30.
 # usage: tests/tools.sh PROGRAM [COUNT]
 . "$(dirname -- "$0")/lib.sh" && program=$(whole "$1") || exit 2
@@ -18,7 +19,7 @@ has() {
     command -v "$1" >/dev/null
 }
 
-for tool in iverilog verilator yosys; do
+for tool in iverilog verilator yosys vim; do
     has $tool || echo "tools: $tool is not installed, and was passed over"
 done
 
@@ -144,4 +145,5 @@ if has verilator; then
     make -s -C examples/design DK="$program" PROGRAMS="$examples/programs" test >said.txt 2>&1 || wrong "examples/design: $(tail -n 3 said.txt)"
 fi
 ! has yosys || python3 "$tests/../tools/memories.py" --check "$program" || wrong "memories.py"
+! has vim || python3 "$tests/editors.py" --vim || wrong "editors.py"
 [ "$failed" = 0 ]

@@ -34,6 +34,8 @@ WORDS = [
 # The pages that have none of these words. The list grows.
 DONE = """
 README.md
+CHANGELOG.md
+docs/EDITORS.md
 docs/HARDWARE.md
 docs/LANGUAGE.md
 docs/PGM.md
@@ -121,7 +123,7 @@ crates/wiring/README.md
 
 
 def pages():
-    found = [*TOP.glob("docs/*.md"), TOP / "README.md", *TOP.glob("crates/*/README.md"), TOP / "tests/README.md", TOP / "examples/README.md"]
+    found = [*TOP.glob("docs/*.md"), TOP / "README.md", TOP / "CHANGELOG.md", *TOP.glob("crates/*/README.md"), TOP / "tests/README.md", TOP / "examples/README.md"]
     return sorted(page for page in found if page != TOP / "docs/LADDER.md")
 
 

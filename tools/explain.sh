@@ -1,4 +1,4 @@
-# Explains the faults of dk to a reader at a terminal. The script dk sources this file after a fault; `top` is its folder.
+# Explains the faults of dk to a reader. The script dk sources this file after a fault; `top`, `called` and `docs` are those of tools/answer.sh.
 # It uses the shell and coreutils only, so that it works wherever the program does. No loop goes over the bytes of a file.
 #
 # explain STATUS LINE WORD..    writes what helps next, to standard error; LINE is the fault line, or empty where it is not known, and the
@@ -105,7 +105,7 @@ why_not_written() {
 # The line is `TEXT START-STOP: FAULT`, or `TEXT: FAULT` with numbers after the fault's name.
 explain_fault() {
     [ -n "$line" ] || {
-        put 'docs/COMMANDS.md ("What to do about a fault") has the kinds of faults.'
+        put "$docs/COMMANDS.md (\"What to do about a fault\") has the kinds of faults."
         return
     }
     text=${line%%[ :]*}

@@ -46,14 +46,14 @@ meaning() {
     verilog.BadConstant) put 'A constant is written as `8'\''d255`: its size is 1 to 64 bits, and its number fits the size.' ;;
     verilog.NumberTooGreat) put 'The number is 2^64 or more.' ;;
     verilog.NameTooLong) put 'The name has more than 64 bytes.' ;;
-    verilog.Syntax) put 'The text cannot go on with this token, or ends too early: docs/VERILOG.md has the grammar of the subset.' ;;
-    verilog.NotInSubset) put 'This is outside the subset: it has one operator a right side, and one block `always @(posedge clk)` of `<=` (docs/VERILOG.md).' ;;
+    verilog.Syntax) put "The text cannot go on with this token, or ends too early: $docs/VERILOG.md has the grammar of the subset." ;;
+    verilog.NotInSubset) put "This is outside the subset: it has one operator a right side, and one block \`always @(posedge clk)\` of \`<=\` ($docs/VERILOG.md)." ;;
     verilog.Width) put 'At a number: a range is `[w-1:0]` with w from 1 to 64; at a name: widths differ, so widen as `{1'\''d0, a}`, or cut as `a[7:0]`.' ;;
     verilog.Words) put 'An array has 1 to 67,108,864 words.' ;;
     verilog.ArrayBits) put 'This array takes the bits of all arrays above 67,108,864.' ;;
     verilog.Repeat) put 'The count n of a repetition `{n{a}}` is 1 to 64.' ;;
     verilog.Duplicate) put 'The name is already declared.' ;;
-    verilog.Ports) put 'The ports must be `clk rst [en] din .. valid dout ..` (docs/VERILOG.md); `--hold` requires `en` (`compile --enable`).' ;;
+    verilog.Ports) put "The ports must be \`clk rst [en] din .. valid dout ..\` ($docs/VERILOG.md); \`--hold\` requires \`en\` (\`compile --enable\`)." ;;
     verilog.Unknown) put 'Nothing with this name is declared.' ;;
     verilog.WrongSort) put 'An array is used as a wire or register, or the other way round, or the name cannot be read or driven here.' ;;
     verilog.Divisor) put 'The divisor must be a constant above 0.' ;;
@@ -63,6 +63,6 @@ meaning() {
     stopped.clock) put "In clock $3 (-1 is the reset clock) array $5 of the text (counted from 0) is read or written at index $7, which is past its end." ;;
     stopped.count) put "\`valid\` was 1 in $3 clocks, but the images have $5 pixels; take CLOCKS from the line \`clocks\` of the program's plan." ;;
     report.TooLong) put "The report has more than $3 bytes." ;;
-    report.line) put "Line $3 is the first wrong line of the report, in its form or in what it states (docs/REPORT.md)." ;;
+    report.line) put "Line $3 is the first wrong line of the report, in its form or in what it states ($docs/REPORT.md)." ;;
     esac
 }

@@ -1,5 +1,21 @@
-# Sourced by ./dk at a terminal: runs the program `built` of the folder `top` with the words of the call, explains its fault, and ends as it
-# did. The program has the descriptors of the call, and a signal to this script ends it too.
+# Sourced by the script dk: runs the program `built` of the folder `top` with the words of the call, and ends as it did. If a fault is to be
+# explained, the program is a child, which has the descriptors of the call, and which a signal to this script ends too.
+
+# explains: a fault is to be explained, by DK_EXPLAIN or because standard error is a terminal, and can be. That takes the descriptor 9.
+explains() {
+    case ${DK_EXPLAIN-} in
+    '' | auto) [ -t 2 ] || return ;;
+    always) ;;
+    never) return 1 ;;
+    *)
+        echo 'dk: DK_EXPLAIN must be always, never or auto' >&2
+        exit 1
+        ;;
+    esac
+    { true 9<&0; } 2>/dev/null && ! { true <&9; } 2>/dev/null
+}
+
+explains || exec "$built" "$@"
 exec 9<&0
 status=
 signal=

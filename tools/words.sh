@@ -1,7 +1,11 @@
 # The words of a call of dk, for tools/explain.sh: what each is, and which is wrong; and the help page.
+# `called` is the script's name for its caller, and `docs` is the folder of the pages, as both are shown.
 
 commands='run compile plan sim eval make check trace cut'
-see_help='`./dk --help` shows the commands and options.'
+see_help="\`${called:?} --help\` shows the commands and options."
+case ${docs:?} in
+*/..*) docs=$(CDPATH='' cd -- "$docs" 2>/dev/null && pwd) || docs=docs ;;
+esac
 
 # read_words COMMAND WORD..: sets a variable for each word but --enable and --block; `wrong` is a sentence on the first wrong word.
 read_words() {
@@ -147,8 +151,8 @@ set_file() {
 
 # help_page: a line for each command and each option, to standard output.
 help_page() {
-    cat <<'end'
-usage: ./dk COMMAND [OPTION..] WORD..
+    cat <<end
+usage: $called COMMAND [OPTION..] WORD..
 
   compile PROG OUT             write the Verilog of a program
   run PROG IN OUT              clock that circuit over images
@@ -159,17 +163,21 @@ usage: ./dk COMMAND [OPTION..] WORD..
   trace VERILOG CLOCKS IN VCD  clock a Verilog text, write a value change dump
   cut N PROG OUT               divide bodies of more than N levels of operators
   make N                       make a program from a number, and run it
-  help                         print this page (also --help, -h)
+  help [COMMAND]               print this page, or the help of a command
+  --version                    print the version, the kit and the sources
 
   --age K      compile, run, plan: reads are at least K clocks old, 0 to 64
   --enable     compile: the module has a clock enable, the port en
   --block N    compile: arrays of N words or more fit block RAM, 2 to 67,108,864
   --fill FILL  sim: registers and memories start as zeros (default) or ones
   --hold K     sim: a held clock after every K clocks, 1 to 1,000,000
+  --help, -h   print the help of the command before it, or this page
   --           ends the options; a later word may begin with a hyphen
 
-PROG is a program (docs/LANGUAGE.md), IN a file of PGM images (docs/PGM.md).
+PROG is a program (LANGUAGE.md), IN a file of PGM images (PGM.md).
 CLOCKS is 0 to 100,000,000. N of make is 0 to 4,194,303, N of cut 1 to 64.
-More: docs/COMMANDS.md.
+DK_EXPLAIN in the environment is always, never or auto: whether a fault is
+explained below its line. auto: if standard error is a terminal.
+More: $docs/COMMANDS.md.
 end
 }

@@ -13,12 +13,17 @@ _dk_files() {
 
 _dk() {
     local current=${COMP_WORDS[COMP_CWORD]} command=${COMP_WORDS[1]} options words given='' at=0 k option value
+    local commands='run compile plan sim eval make check trace cut'
     COMPREPLY=()
     if [ "$COMP_CWORD" = 1 ]; then
-        mapfile -t COMPREPLY < <(compgen -W 'run compile plan sim eval make check trace cut' -- "$current")
+        mapfile -t COMPREPLY < <(compgen -W "$commands help --help --version" -- "$current")
         return
     fi
     case $command in
+    help)
+        [ "$COMP_CWORD" != 2 ] || mapfile -t COMPREPLY < <(compgen -W "$commands" -- "$current")
+        return
+        ;;
     run) words=(.dk .pgm any) options='--age' ;;
     compile) words=(.dk any) options='--enable --age --block' ;;
     plan) words=(.dk) options='--age' ;;

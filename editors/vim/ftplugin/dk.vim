@@ -1,0 +1,7 @@
+" Settings for programs of dk.
+if exists('b:did_ftplugin')
+    finish
+endif
+let b:did_ftplugin = 1
+setlocal comments=:-- commentstring=--\ %s formatoptions-=t formatoptions+=croql
+let b:undo_ftplugin = 'setlocal comments< commentstring< formatoptions<'
