@@ -15,10 +15,6 @@ use Rattle.pointwise_ir.specs.Typing.{HasType}
 use Rattle.pointwise_ir.proofs.Typed.{AreTypes, AreIn, framed_in, value_in}
 use Rattle.pointwise_eval.specs.declared.plane.Plane.{Plane}
 use Rattle.pointwise_eval.specs.Planes.{all_shown, AreValues}
-use Rattle.value_ranges.specs.declared.interval.Interval.{Interval}
-use Rattle.value_ranges.specs.Intervals.{IsBetween, IsHeldBy}
-use Rattle.value_ranges.specs.Parts.{AreBetween, IsRangeOfParts}
-use Rattle.value_ranges.proofs.Ranged.{parts_weaker}
 use Rattle.pointwise_eval.specs.Narrow.{AreAllIn, ArePartsIn, HasNarrowType, AreOfNarrowTypes}
 
 all_narrow : (size : Size) (types : List Ty) (known : List Picture) → AreTypes types → AreIn types known → (e : Tree) → HasNarrowType types e → AreAllIn size known e (Signed 64)
@@ -26,7 +22,7 @@ all_narrow size types known ok are e (t, has, within) x y = in_wider t (Signed 6
 
 pub parts_narrow : (size : Size) (types : List Ty) (known : List Picture) → AreTypes types → AreIn types known → (e : Tree) → AreOfNarrowTypes types e → ArePartsIn (Signed 64) size known e
 parts_narrow size types known ok are (constant v s) h = all_narrow size types known ok are (constant v s) h
-parts_narrow size types known ok are (read edge g dx dy) h = (all_narrow size types known ok are (read edge g dx dy) h, λ x y. let (t, has, within) = h in in_wider t (Signed 64) _ within (are g t has x y))
+parts_narrow size types known ok are (read edge g dx dy) (t, has, within) = λ x y. in_wider t (Signed 64) _ within (are g t has x y)
 parts_narrow size types known ok are (shifted edge dx dy a) (h, p) = (all_narrow size types known ok are (shifted edge dx dy a) h, parts_narrow size types known ok are a p)
 parts_narrow size types known ok are (unary op a) (h, p) = (all_narrow size types known ok are (unary op a) h, parts_narrow size types known ok are a p)
 parts_narrow size types known ok are (binary op a b) (h, p, q) = (all_narrow size types known ok are (binary op a b) h, parts_narrow size types known ok are a p, parts_narrow size types known ok are b q)
@@ -34,10 +30,15 @@ parts_narrow size types known ok are (select c a b) (h, o, p, q) = (all_narrow s
 parts_narrow size types known ok are (convert how a s) (h, p) = (all_narrow size types known ok are (convert how a s) h, parts_narrow size types known ok are a p)
 parts_narrow size types known ok are (scale op a k) (h, p) = (all_narrow size types known ok are (scale op a k) h, parts_narrow size types known ok are a p)
 
+-- a value at the side
+pub edged_in : (size : Size) (edge : Edge) (t : Ty) (p : Picture) → ((x y : ℤ) → IsIn t (p x y)) → (x y : ℤ) → IsIn t (edged size edge p x y)
+edged_in size Zero t p all x y = framed_in size t p all x y
+edged_in size Clamp t p all x y = all (clamped size.width x) (clamped size.height y)
+
 -- of the whole expression
 pub whole_in : (t : Ty) (size : Size) (known : List Picture) (e : Tree) → ArePartsIn t size known e → AreAllIn size known e t
 whole_in t size known (constant v s) h = h
-whole_in t size known (read edge g dx dy) h = h.0
+whole_in t size known (read edge g dx dy) h = λ x y. edged_in size edge t (picture_at known g) h (x +ℤ dx) (y +ℤ dy)
 whole_in t size known (shifted edge dx dy a) h = h.0
 whole_in t size known (unary op a) h = h.0
 whole_in t size known (binary op a b) h = h.0
@@ -57,7 +58,3 @@ planes_narrow size types planes all values e h = parts_narrow size types (all_sh
 -- and one of a type has values of it
 pub planes_in : (size : Size) (types : List Ty) (planes : List Plane) → All IsType types → AreValues size types planes → (e : Tree) (t : Ty) → HasType types e t → AreAllIn size (all_shown size planes) e t
 planes_in size types planes all values e t has x y = value_in size types (all_shown size planes) (types_all types all) values e t has x y
-
--- the parts of an expression are numbers of a type that has all numbers of their interval
-pub held_parts : (ranges : List Interval) (e : Tree) (r : Interval) (t : Ty) (size : Size) (known : List Picture) → AreBetween ranges known → IsRangeOfParts ranges e r → IsHeldBy r t → ArePartsIn t size known e
-held_parts ranges e r t size known are range held = parts_weaker (IsBetween r) (IsIn t) held size known e (range size known are)

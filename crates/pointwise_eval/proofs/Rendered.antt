@@ -99,7 +99,7 @@ frame_picture size t f port is = record {
     chosen true k = sample_in t (get_or f.samples k 0) port (below_any t f.samples is.values k)
     chosen false k = zero_in t
 
-pub there_is : {A : Type 0} (xs : List A) (k : ℕ) → k < length xs → (x : A) × (slice_get xs k ≡ Some x)
+there_is : {A : Type 0} (xs : List A) (k : ℕ) → k < length xs → (x : A) × (slice_get xs k ≡ Some x)
 there_is [] k lt = absurd (omega arith)
 there_is (x ∷ xs) zero lt = (x, refl)
 there_is (x ∷ xs) (suc k) lt = there_is xs k (omega (arith, lt))
@@ -306,12 +306,12 @@ shows_more p round until planes k d wanted q is needs one_each there does has pl
 gone_in : (size : Size) (t : Ty) (x y : ℤ) → IsIn t (shown size [] x y)
 gone_in size t x y = framed_in size t (λ _ _. pos 0) (λ _ _. zero_in t) x y
 
-pub entry_shown : (size : Size) (planes : List Plane) (g : ℕ) (q : Plane) → slice_get planes g ≡ Some q → picture_at (all_shown size planes) g ≡ shown size (values_of q)
+entry_shown : (size : Size) (planes : List Plane) (g : ℕ) (q : Plane) → slice_get planes g ≡ Some q → picture_at (all_shown size planes) g ≡ shown size (values_of q)
 entry_shown size [] g q is = absurd (let e : ⊥ = cc in e)
 entry_shown size (p ∷ planes) zero q is = let e : p ≡ q = cc in ap (λ (r : Plane). shown size (values_of r)) e
 entry_shown size (p ∷ planes) (suc g) q is = entry_shown size planes g q is
 
-pub same_shown : (size : Size) (old new : List Plane) (g : ℕ) → slice_get new g ≡ slice_get old g → picture_at (all_shown size new) g ≡ picture_at (all_shown size old) g
+same_shown : (size : Size) (old new : List Plane) (g : ℕ) → slice_get new g ≡ slice_get old g → picture_at (all_shown size new) g ≡ picture_at (all_shown size old) g
 same_shown size [] [] g same = refl
 same_shown size [] (q ∷ new) zero same = absurd (let e : ⊥ = cc in e)
 same_shown size [] (q ∷ new) (suc g) same = same_shown size [] new g same

@@ -4,3 +4,4 @@ pub mod Needs
 pub mod Narrow
 pub mod Steps
 pub mod ElementKinds
+pub mod Ranges

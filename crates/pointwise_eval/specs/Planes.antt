@@ -117,7 +117,3 @@ pub record IsOutputPlane (size : Size) (planes : List Plane) (g : ℕ) : Type 0 
   pub ty : Ty
   pub port : IsPort ty
   pub values : (x y : ℤ) → IsIn ty (picture_at (all_shown size planes) g x y)
-
--- each picture that the planes show is a known one, or 0 everywhere where the plane is gone or not there
-abbrev pub AreKnownOrGone : Size → List Picture → List Plane → Type 0
-AreKnownOrGone size known planes = (g : ℕ) → (picture_at (all_shown size planes) g ≡ picture_at known g) ⊎ ((x y : ℤ) → picture_at (all_shown size planes) g x y ≡ pos 0)

@@ -7,6 +7,7 @@ mod narrow;
 mod need;
 mod plane;
 mod point;
+mod ranges;
 mod rows;
 mod value;
 mod walk;

@@ -1,4 +1,4 @@
-// Whether the values of an expression and of its parts have 64 bits, or those of a lane.
+// Whether the values of an expression and of its parts have 64 bits.
 
 ghost use Rattle.std.specs.Prelude.{◌≡◌, IfSome, IsTrue, slice_get};
 ghost use Rattle.std.specs.List.{All};
@@ -7,15 +7,12 @@ ghost use Rattle.dk_base.specs.Types.{IsType, IsIn, IsWithin};
 ghost use Rattle.pointwise_ir.specs.Trees.{tree_of, EachImage};
 ghost use Rattle.pointwise_ir.specs.Typing.{HasType};
 ghost use Rattle.pointwise_ir.specs.Programs.{all_types};
-ghost use Rattle.value_ranges.specs.Intervals.{IsHeldBy};
 ghost use Rattle.pointwise_eval.specs.Planes.{HasRows};
 ghost use Rattle.pointwise_eval.specs.Narrow.{AreOfNarrowTypes};
 
 use crate::plane::Plane;
 use dk_base::{MAX_WIDTH, Ty, select_type};
 use pointwise_ir::{Definition, Expr, Input};
-use value_ranges::Interval;
-use value_rows::Element;
 
 // The type, where all its numbers have 64 bits.
 fn narrow(ty: Ty) -> Option<Ty>
@@ -29,7 +26,7 @@ fn narrow(ty: Ty) -> Option<Ty>
 }
 
 // The type of image `number`, where it is one of these.
-fn type_at(inputs: &[Input], images: &[Definition], number: u32) -> Option<Ty>
+pub fn type_at(inputs: &[Input], images: &[Definition], number: u32) -> Option<Ty>
     ensures { result ≡ slice_get (all_types inputs.now images.now) number }
 {
     let number = number as usize;
@@ -44,7 +41,7 @@ fn type_at(inputs: &[Input], images: &[Definition], number: u32) -> Option<Ty>
 }
 
 // The type, where it is a type of values.
-fn typed(ty: Ty) -> Option<Ty>
+pub fn typed(ty: Ty) -> Option<Ty>
     ensures { IfSome result (λ t. (t ≡ ty) × IsType ty) }
 {
     let width = ty.width();
@@ -133,11 +130,4 @@ pub fn reads_rows(planes: &[Plane<'_>], e: &Expr) -> bool
         Expr::Convert(_, body, _) => reads_rows(planes, body),
         Expr::Scale(_, body, _) => reads_rows(planes, body),
     }
-}
-
-// Whether the lane holds these values.
-pub fn fits<L: Element>(range: Interval) -> bool
-    ensures { IsTrue result → IsHeldBy range L.ty }
-{
-    range.is_within(L::element_type())
 }

@@ -10,20 +10,19 @@ ghost use Rattle.dk_base.specs.FrameSizes.{size_of};
 ghost use Rattle.pointwise_ir.specs.Trees.{tree_of, depth_of, EachImage};
 ghost use Rattle.pointwise_ir.specs.Programs.{all_types};
 ghost use Rattle.pointwise_ir.specs.Meaning.{value};
-ghost use Rattle.value_ranges.specs.Parts.{AreBetween};
 ghost use Rattle.pointwise_eval.specs.Narrow.{ArePartsIn, AreAllIn};
 ghost use Rattle.pointwise_eval.specs.Planes.{values_of, shown, all_shown, HasRows, AreValues, CanEvaluate};
 ghost use Rattle.pointwise_eval.specs.ElementKinds.{HoldsAll};
 
-use crate::narrow::{fits, narrow_type, reads_rows};
+use crate::narrow::{narrow_type, reads_rows};
 use crate::plane::Plane;
+use crate::ranges::fits;
 use crate::value::render_points;
 use crate::walk::value_row;
 use dk_base::{FrameSize, OutOfMemory, Ty};
 use pointwise_ir::{Definition, Expr, Input};
 use std::alloc::Global;
 use std::cmp::max;
-use value_ranges::{Interval, bounds_of};
 use value_rows::{Element, copy_row};
 
 // The depth of an expression.
@@ -193,12 +192,11 @@ fn render_rows<'a, L: Element>(
     }
 }
 
-// The images that a body may read: the size of the frame, their planes, the intervals of their values, and the inputs and definitions that they are.
+// The images that a body may read: the size of the frame, their planes, and the inputs and definitions that they are.
 #[derive(Clone, Copy)]
 pub struct Sources<'a> {
     pub size: FrameSize,
     pub planes: &'a [Plane<'a>],
-    pub ranges: &'a [Interval],
     pub inputs: &'a [Input],
     pub images: &'a [Definition],
 }
@@ -209,7 +207,6 @@ pub fn render<'a>(alloc: Global, sources: &Sources<'_>, e: &Expr) -> Result<Plan
     requires can { CanEvaluate (size_of sources.now.size) sources.now.planes.now (tree_of e.now) }
     requires types { All IsType (all_types sources.now.inputs.now sources.now.images.now) }
     requires values { AreValues (size_of sources.now.size) (all_types sources.now.inputs.now sources.now.images.now) sources.now.planes.now }
-    requires ranges { AreBetween sources.now.ranges.now (all_shown (size_of sources.now.size) sources.now.planes.now) }
     requires depth { depth_of (tree_of e.now) ≤ MAX_INLINED_DEPTH }
     ensures whole { IfOk result (λ p. length (values_of p) ≡ area (size_of sources.now.size)) }
     ensures value { IfOk result (λ p. shown (size_of sources.now.size) (values_of p)
@@ -225,13 +222,10 @@ pub fn render<'a>(alloc: Global, sources: &Sources<'_>, e: &Expr) -> Result<Plan
     let Some(ty) = narrow_type(e, inputs, images) else {
         return render_points(alloc, size, planes, e);
     };
-    let Some(bounds) = bounds_of(e, sources.ranges) else {
-        return render_rows::<i64>(alloc, size, planes, e, ty);
-    };
-    if fits::<i16>(bounds.parts) {
+    if fits::<i16>(e, inputs, images) {
         return render_rows::<i16>(alloc, size, planes, e, ty);
     }
-    if fits::<i32>(bounds.parts) {
+    if fits::<i32>(e, inputs, images) {
         return render_rows::<i32>(alloc, size, planes, e, ty);
     }
     render_rows::<i64>(alloc, size, planes, e, ty)
