@@ -3,12 +3,11 @@
 use crate::expanded::Expanded;
 use crate::images::{Names, image_name, read_levels};
 use crate::levels::{only_widens, own_levels};
-use crate::part::{Binding, Part, binary, converted, number, scaled, selected, unary};
 use crate::pieces::{Above, Pieces, cut, share, shared_read};
 use crate::product::{Factor, divided, has_divided, is_divided};
 use crate::repeats::repeated;
 use crate::term::{Term, TermNode};
-use crate::words::push_read;
+use body_text::{Binding, Part, binary, converted, number, push_read, scaled, selected, unary};
 use dk_base::OutOfMemory;
 use dk_types::TypedRead;
 use std::alloc::Global;

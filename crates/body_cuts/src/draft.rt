@@ -6,7 +6,7 @@ use crate::expanded::Expanded;
 use crate::images::{Names, image_name};
 use crate::pieces::Piece;
 use crate::uncut::{UncutBody, note_uncut};
-use crate::words::{push_number, push_type};
+use body_text::{push_number, push_type};
 use dk_base::{FrameSize, MAX_DEFINITIONS, OutOfMemory, Ty};
 use dk_types::{TypedDefinition, TypedProgram};
 use std::alloc::Global;

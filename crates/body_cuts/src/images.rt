@@ -1,6 +1,6 @@
 // The images that are read.
 
-use crate::words::numbered;
+use body_text::numbered;
 use dk_base::OutOfMemory;
 use dk_types::{TypedDefinition, TypedProgram, TypedRead};
 use std::alloc::Global;

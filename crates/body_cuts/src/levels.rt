@@ -3,6 +3,7 @@
 use crate::images::read_levels;
 use crate::term::{Term, TermNode};
 use body_levels::{binary_levels, conversion_levels, scaling_levels, select_levels, unary_levels};
+use body_text::most_levels;
 use dk_base::{Binary, Conversion, Scaling};
 use dk_types::TypedProgram;
 
@@ -28,15 +29,6 @@ pub(crate) fn own_levels(e: &Term) -> u32 {
         TermNode::Scale(operator, _, by) => scaling_levels(*operator, *by),
         TermNode::Convert(how, _) => conversion_levels(*how),
         TermNode::Select(_, _, _) => select_levels(),
-    }
-}
-
-// The most of two levels.
-pub(crate) fn most_levels(one: Option<u32>, other: Option<u32>) -> Option<u32> {
-    match (one, other) {
-        (Some(one), Some(other)) => Some(one.max(other)),
-        (Some(one), None) => Some(one),
-        (None, other) => other,
     }
 }
 

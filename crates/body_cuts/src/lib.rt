@@ -11,14 +11,12 @@ mod head;
 mod images;
 mod levels;
 mod moved;
-mod part;
 mod pieces;
 mod product;
 mod reached;
 mod repeats;
 mod term;
 mod uncut;
-mod words;
 
 pub use cut::{CutProgram, cut_program};
 pub use head::head_of;

@@ -1,10 +1,9 @@
 // The pieces that a body is cut into.
 
 use crate::images::{END_OF_NUMBERS, Names, is_taken};
-use crate::part::{Part, moved_read, piece_read};
-use crate::repeats::{are_equal, shared_shift};
+use crate::repeats::{Shift, are_equal, shared_shift};
 use crate::term::Term;
-use crate::words::numbered;
+use body_text::{Binding, Part, numbered, piece_read, push_read};
 use dk_base::{MAX_DEFINITIONS, MAX_NAME_BYTES, OutOfMemory};
 use std::alloc::Global;
 
@@ -140,6 +139,20 @@ pub(crate) fn cut(
         return Ok(part);
     }
     make_piece(alloc, names, pieces, part)
+}
+
+// The read of a piece at a column. A clamped one chooses among taps.
+fn moved_read(alloc: Global, name: &[u8], shift: Shift) -> Result<Part, OutOfMemory> {
+    let mut text = Vec::new(alloc);
+    push_read(&mut text, name, shift.dx, 0)?;
+    if shift.clamped {
+        text.extend_from_slice(b" edge clamp")?;
+    }
+    Ok(Part {
+        text,
+        binding: Binding::Primary,
+        levels: Some(u32::from(shift.clamped)),
+    })
 }
 
 // Makes a part a piece that the body reads at several columns. `same` is the part without its move.

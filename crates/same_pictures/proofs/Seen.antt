@@ -70,17 +70,3 @@ behind_read old new same program h Zero dx dy a e shows has none round is x y in
     by false outside =
         none refl old.size (pictures old round) x y outside
         ∙ sym (ap (λ t. if t then picture_at (pictures new round) h (x +ℤ dx) (y +ℤ dy) else pos 0) (inside_new false outside))
-
--- an expression with the same value is one with the same value after no move
-pub from_value : (old new : Program) (edge : Edge) (dx dy : ℤ) (a b : Tree) → dx ≡ pos 0 → dy ≡ pos 0 → HaveSameValue old new a b → HaveSameMoved old new edge dx dy a b
-from_value old new Zero dx dy a b across down has round is x y inside u v (one, two, there) =
-    let r : u ≡ x = omega (arith, ints, one, across) in
-    let s : v ≡ y = omega (arith, ints, two, down) in
-    ap (λ t. value old.size (pictures old round) a t v) r ∙ ap (value old.size (pictures old round) a x) s ∙ has round is x y inside
-from_value old new Clamp dx dy a b across down has round is x y inside u v (one, two) =
-    let parts = inside_is old.size x y inside in
-    let right : x +ℤ dx ≡ x = omega (arith, ints, across) in
-    let under : y +ℤ dy ≡ y = omega (arith, ints, down) in
-    let r : u ≡ x = one ∙ ap (clamped old.size.width) right ∙ clamped_same old.size.width x parts.0 in
-    let s : v ≡ y = two ∙ ap (clamped old.size.height) under ∙ clamped_same old.size.height y parts.1 in
-    ap (λ t. value old.size (pictures old round) a t v) r ∙ ap (value old.size (pictures old round) a x) s ∙ has round is x y inside

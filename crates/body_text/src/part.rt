@@ -1,14 +1,12 @@
 // Parts of a body as text, put together by operators.
 
-use crate::levels::most_levels;
-use crate::repeats::Shift;
 use crate::words::{push_number, push_read, push_type};
 use dk_base::{Binary, Conversion, OutOfMemory, Scaling, Ty, Unary};
 use std::alloc::Global;
 
-// The levels of precedence, from the highest.
+/// The levels of precedence, from the highest.
 #[derive(Clone, Copy, PartialEq, Eq, PartialOrd, Ord)]
-pub(crate) enum Binding {
+pub enum Binding {
     Primary,
     Prefix,
     Cast,
@@ -21,13 +19,13 @@ pub(crate) enum Binding {
     Comparison,
 }
 
-// A part of a body.
+/// A part of a body as text.
 #[derive(Drop)]
-pub(crate) struct Part {
-    pub(crate) text: Vec<u8>,
-    pub(crate) binding: Binding,
-    // The levels of operators. None if it has no read.
-    pub(crate) levels: Option<u32>,
+pub struct Part {
+    pub text: Vec<u8>,
+    pub binding: Binding,
+    /// The levels of operators. None if it has no read.
+    pub levels: Option<u32>,
 }
 
 // An operator of two operands that is written between them.
@@ -46,6 +44,15 @@ enum Spelling {
     Between(Infix),
 }
 
+/// The most of two levels.
+pub fn most_levels(one: Option<u32>, other: Option<u32>) -> Option<u32> {
+    match (one, other) {
+        (Some(one), Some(other)) => Some(one.max(other)),
+        (Some(one), None) => Some(one),
+        (None, other) => other,
+    }
+}
+
 // The text of an operand, in brackets if it binds less tightly than `loosest`.
 fn operand(alloc: Global, part: Part, loosest: Binding) -> Result<Vec<u8>, OutOfMemory> {
     if part.binding <= loosest {
@@ -58,7 +65,8 @@ fn operand(alloc: Global, part: Part, loosest: Binding) -> Result<Vec<u8>, OutOf
     Ok(text)
 }
 
-pub(crate) fn number(alloc: Global, value: u64) -> Result<Part, OutOfMemory> {
+/// A number.
+pub fn number(alloc: Global, value: u64) -> Result<Part, OutOfMemory> {
     let mut text = Vec::new(alloc);
     push_number(&mut text, value)?;
     Ok(Part {
@@ -68,28 +76,14 @@ pub(crate) fn number(alloc: Global, value: u64) -> Result<Part, OutOfMemory> {
     })
 }
 
-// The read of a piece of the body.
-pub(crate) fn piece_read(alloc: Global, name: &[u8]) -> Result<Part, OutOfMemory> {
+/// The read of a piece of the body.
+pub fn piece_read(alloc: Global, name: &[u8]) -> Result<Part, OutOfMemory> {
     let mut text = Vec::new(alloc);
     push_read(&mut text, name, 0, 0)?;
     Ok(Part {
         text,
         binding: Binding::Primary,
         levels: Some(0),
-    })
-}
-
-// The read of a piece at a column. A clamped one chooses among taps.
-pub(crate) fn moved_read(alloc: Global, name: &[u8], shift: Shift) -> Result<Part, OutOfMemory> {
-    let mut text = Vec::new(alloc);
-    push_read(&mut text, name, shift.dx, 0)?;
-    if shift.clamped {
-        text.extend_from_slice(b" edge clamp")?;
-    }
-    Ok(Part {
-        text,
-        binding: Binding::Primary,
-        levels: Some(u32::from(shift.clamped)),
     })
 }
 
@@ -120,7 +114,8 @@ fn prefixed(alloc: Global, sign: u8, a: Part) -> Result<Part, OutOfMemory> {
     })
 }
 
-pub(crate) fn unary(alloc: Global, operator: Unary, a: Part) -> Result<Part, OutOfMemory> {
+/// An operator and its operand. Only its form is added, and no level: the caller adds the levels of the operator, here and below.
+pub fn unary(alloc: Global, operator: Unary, a: Part) -> Result<Part, OutOfMemory> {
     match operator {
         Unary::Negate => prefixed(alloc, b'-', a),
         Unary::Not => prefixed(alloc, b'!', a),
@@ -196,12 +191,8 @@ fn between(alloc: Global, infix: Infix, a: Part, b: Part) -> Result<Part, OutOfM
     })
 }
 
-pub(crate) fn binary(
-    alloc: Global,
-    operator: Binary,
-    a: Part,
-    b: Part,
-) -> Result<Part, OutOfMemory> {
+/// An operator and its operands.
+pub fn binary(alloc: Global, operator: Binary, a: Part, b: Part) -> Result<Part, OutOfMemory> {
     match spelling_of(operator) {
         Spelling::Function(word) => pair(alloc, word, a, b),
         Spelling::Between(infix) => between(alloc, infix, a, b),
@@ -227,12 +218,8 @@ fn suffixed(
     })
 }
 
-pub(crate) fn scaled(
-    alloc: Global,
-    operator: Scaling,
-    a: Part,
-    by: u64,
-) -> Result<Part, OutOfMemory> {
+/// An operator, its operand and its number.
+pub fn scaled(alloc: Global, operator: Scaling, a: Part, by: u64) -> Result<Part, OutOfMemory> {
     match operator {
         Scaling::Divide => suffixed(alloc, " / ", Binding::Product, a, by),
         Scaling::ShiftLeft => suffixed(alloc, " << ", Binding::Shift, a, by),
@@ -266,19 +253,16 @@ fn saturated(alloc: Global, a: Part, ty: Ty) -> Result<Part, OutOfMemory> {
     })
 }
 
-pub(crate) fn converted(
-    alloc: Global,
-    how: Conversion,
-    a: Part,
-    ty: Ty,
-) -> Result<Part, OutOfMemory> {
+/// A conversion of an operand.
+pub fn converted(alloc: Global, how: Conversion, a: Part, ty: Ty) -> Result<Part, OutOfMemory> {
     match how {
         Conversion::Cast => cast(alloc, a, ty),
         Conversion::Saturate => saturated(alloc, a, ty),
     }
 }
 
-pub(crate) fn selected(alloc: Global, c: Part, a: Part, b: Part) -> Result<Part, OutOfMemory> {
+/// A choice.
+pub fn selected(alloc: Global, c: Part, a: Part, b: Part) -> Result<Part, OutOfMemory> {
     let mut text = Vec::new(alloc);
     text.extend_from_slice(b"select(")?;
     text.extend_from_slice(&c.text)?;
