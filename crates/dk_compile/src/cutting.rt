@@ -114,6 +114,7 @@ fn improves(old: &Program, new: &Program, most: u32) -> bool
 }
 
 // What the source is cut to: the cut text where that has fewer levels, else the source.
+#[tactic(auto, using(crate::proofs::Same::cut_below, crate::proofs::Same::cut_itself))]
 fn cut_to(alloc: Global, source: &[u8], old: &Program, levels: u8) -> Result<Chosen, OutOfMemory>
     requires form { HasForm source.now old.now }
     ensures is_cut { IfOk result (λ c. IsCutOf source.now levels c.text.items) }

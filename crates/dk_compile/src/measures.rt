@@ -1,9 +1,10 @@
 // What is counted of a text whose bodies are cut.
 
-ghost use Rattle.std.specs.Prelude.{◌≡◌, ◌<◌, IfOk, length, map};
+ghost use Rattle.std.specs.Prelude.{◌≡◌, ◌<◌, [], ◌∷◌, ◌++◌, IfOk, OnOk, Some, filter, length, map, slice_get};
 ghost use Rattle.pointwise_ir.specs.Programs.{bodies_of};
 ghost use Rattle.body_levels.specs.Levels.{greatest_level as greatest_of};
-ghost use Rattle.body_levels.specs.Deep.{deep_names};
+ghost use Rattle.pointwise_ir.specs.declared.program.Definition.{Definition};
+ghost use Rattle.body_levels.specs.Deep.{deep_names, is_deep as is_deep_body};
 ghost use Rattle.dk_compile.specs.Cuts.{IsInlinedText};
 
 use crate::typed;
@@ -57,6 +58,28 @@ fn reason_of(form: &Program, k: usize, most: u32, uncut: &[UncutBody]) -> Reason
     }
 }
 
+// Adds the k-th image if its body has more than `most` levels.
+fn note_deep(
+    alloc: Global,
+    form: &Program,
+    k: usize,
+    most: u32,
+    uncut: &[UncutBody],
+    deep: &mut Vec<DeepBody>,
+) -> Result<(), OutOfMemory>
+    requires there { k < length form.now.images }
+    ensures { OnOk result ((d : Definition) → slice_get form.now.images k ≡ Some d
+        → map (λ b. b.name) deep.new.items ≡ map (λ b. b.name) deep.old.items ++ map (λ i. i.name) (filter (is_deep_body most) (d ∷ []))) }
+{
+    if !is_deep(form, k, most) {
+        return Ok(());
+    }
+    let name = Text::new(Vec::from_slice(alloc, form.images()[k].name.as_bytes())?);
+    let reason = reason_of(form, k, most, uncut);
+    deep.push(DeepBody { name, reason })?;
+    Ok(())
+}
+
 // The images whose bodies have more than `most` levels, in order.
 fn deep_bodies(
     alloc: Global,
@@ -68,11 +91,7 @@ fn deep_bodies(
 {
     let mut deep = Vec::new(alloc);
     for k in 0..form.images().len() {
-        if is_deep(form, k, most) {
-            let name = Text::new(Vec::from_slice(alloc, form.images()[k].name.as_bytes())?);
-            let reason = reason_of(form, k, most, uncut);
-            deep.push(DeepBody { name, reason })?;
-        }
+        note_deep(alloc, form, k, most, uncut, &mut deep)?;
     }
     Ok(deep)
 }
