@@ -1,0 +1,5 @@
+mod Meant
+mod Columns
+mod Rounds
+mod PhaseReads
+mod Images
