@@ -1,5 +1,6 @@
+mod Words
 mod Meant
-mod Columns
+mod Arithmetic
 mod Rounds
 mod PhaseReads
-mod Images
+mod Played

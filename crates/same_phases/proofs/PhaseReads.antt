@@ -7,7 +7,7 @@ use Rattle.dk_base.specs.Operators.{select_value}
 use Rattle.dk_base.proofs.Rasters.{inside_is}
 use Rattle.same_phases.specs.Phases.{phase_of}
 use Rattle.same_phases.specs.Roles.{StaysInPhase, IsNearer}
-use Rattle.same_phases.proofs.Columns.{Lies, before, inside, after, lies, is_inside, is_before, is_after, bounds, clamped_inside, clamped_before, clamped_after, column, column_inside, column_before, column_after, below_same, clamped_same, column_moved, last_column}
+use Rattle.same_phases.proofs.Arithmetic.{Lies, before, inside, after, lies, is_inside, is_before, is_after, bounds, clamped_inside, clamped_before, clamped_after, column, column_inside, column_before, column_after, below_same, clamped_same, column_moved, last_column}
 
 -- The sizes of the frames: n phases, and of each the frame `new`.
 pub record AreSizes (n : ℕ) (old new : Size) : Type 0 where

@@ -1,10 +1,12 @@
 -- What the private functions say of images by number and of expressions.
-use Rattle.std.specs.Prelude.{◌≡◌, ◌⊎◌, ℕ, ◌≤◌, ◌<◌, ◌+◌, ◌*◌, ℤ, pos, negsuc, ◌+ℤ◌, ◌*ℤ◌, ◌<ℤ◌, IsTrue, false, List, length, slice_get, Some, if◌then◌else◌}
+use Rattle.std.specs.Prelude.{◌≡◌, ◌⊎◌, ℕ, ◌≤◌, ◌<◌, ◌+◌, ◌*◌, ℤ, pos, negsuc, ◌+ℤ◌, ◌*ℤ◌, ◌<ℤ◌, IsTrue, false, List, length, slice_get, slice_index, ◌/◌, ◌%◌, Some, if◌then◌else◌}
 use Rattle.dk_base.specs.Frames.{Size, Picture, in_frame, clamped, picture_at}
+use Rattle.dk_base.specs.declared.ty.Ty.{Ty}
 use Rattle.dk_types.specs.declared.typed.TypedRead.{TypedRead}
-use Rattle.dk_types.specs.Typed.{Typed, Definition, Typing}
+use Rattle.dk_types.specs.Typed.{Typed, fetch, chosen, Definition, Typing, types_of}
 use Rattle.dk_types.specs.Reads.{IsDefinitionOf}
 use Rattle.dk_types.specs.Meaning.{meaning, value, read_value}
+use Rattle.same_phases.specs.declared.columns.Choice.{Choice}
 use Rattle.same_phases.specs.declared.role.Role.{Role}
 use Rattle.same_phases.specs.declared.role.Role.TheVariants.{Phase, Column, Frame}
 use Rattle.same_phases.specs.Phases.{phase_of, phases_of}
@@ -86,3 +88,28 @@ StaysInPhase phases q r = (q ≡ pos 0) ⊎ ((q <ℤ pos 0) × (r ≡ 0)) ⊎ ((
 -- A read by q columns of the outermost phase e on one side, one column nearer than a read by q columns which leaves the frame on that side.
 abbrev pub IsNearer : (phases : ℕ) → (q near : ℤ) → (e : ℕ) → Type 0
 IsNearer phases q near e = ((q <ℤ pos 0) × (near ≡ q +ℤ pos 1) × (e ≡ 0)) ⊎ ((pos 0 <ℤ q) × (near ≡ q +ℤ negsuc 0) × (e + 1 ≡ phases))
+
+-- the expression chooses, by its first read, its second or its third one
+abbrev pub IsChoice : Choice → Typed → Type 0
+IsChoice c e = (t u v w : Ty) × (e ≡ chosen t (fetch u c.test) (fetch v c.inside) (fetch w c.edge))
+
+-- The first two reads are of the same point, in the row. The third one is of the row, and brought to the frame's edge.
+pub record IsOfRow (c : Choice) : Type 0 where
+  pub test : IsUnclamped c.test
+  pub inside : IsUnclamped c.inside
+  pub edge : IsBrought c.edge
+  pub point : c.inside.dx ≡ c.test.dx
+  pub test_row : c.test.dy ≡ pos 0
+  pub inside_row : c.inside.dy ≡ pos 0
+  pub edge_row : c.edge.dy ≡ pos 0
+
+-- the role is a column, which the expression shows
+abbrev pub IsColumnOf : (phases : ℕ) → (old new : Typing) → Role → Typed → Type 0
+IsColumnOf phases old new (Phase g p) e = ⊥
+IsColumnOf phases old new (Column g c) e = HasColumn phases old new g c e
+IsColumnOf phases old new Frame e = ⊥
+
+-- output j of the new program is a phase of an output of the old one, by its number, with its type
+pub record IsOutputPhase (phases : ℕ) (old new : Typing) (roles : List Role) (j : ℕ) : Type 0 where
+  pub role : slice_get roles (slice_index new.outputs j) ≡ Some (Phase (slice_index old.outputs (j / phases)) (j % phases))
+  pub type : slice_get (types_of new) (slice_index new.outputs j) ≡ slice_get (types_of old) (slice_index old.outputs (j / phases))

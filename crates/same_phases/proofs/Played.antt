@@ -13,7 +13,7 @@ use Rattle.dk_types.specs.Meaning.{meaning, value, read_value}
 use Rattle.same_phases.specs.Phases.{phase_of, phases_of}
 use Rattle.same_phases.specs.Roles.{IsSplit, HasOneEach, IsPhase, IsColumn, IsFrameTest, HasPhase, ReadsPhase, HasColumn, IsBodyOf, IsBrought, IsUnclamped, IsMovedColumn, StaysInPhase, IsNearer}
 use Rattle.same_phases.proofs.Meant.{input_picture, definition_picture}
-use Rattle.same_phases.proofs.Columns.{column}
+use Rattle.same_phases.proofs.Arithmetic.{column}
 use Rattle.same_phases.proofs.Rounds.{length-phases, phase_at}
 use Rattle.same_phases.proofs.PhaseReads.{AreSizes, frame_same, framed_same, unclamped_reads, clamped_reads, not_moved, column_reads, chosen_column}
 
