@@ -1,7 +1,8 @@
 -- Images of the new program, by their bodies.
-use Rattle.std.proofs.Common.{◌≡◌, ◌⊎◌, inl, inr, ℕ, ◌+◌, ◌-◌, ◌*◌, ◌<◌, ◌≤◌, Bool, true, false, List, length, ℤ, pos, ◌+ℤ◌, ◌*ℤ◌, Some, slice_get, refl, ap, sym, ◌∙◌, subst, arith, if◌then◌else◌}
+use Rattle.std.proofs.Common.{◌≡◌, ◌⊎◌, inl, inr, ℕ, ◌+◌, ◌-◌, ◌*◌, ◌<◌, ◌≤◌, Bool, true, false, List, length, ℤ, pos, ◌+ℤ◌, ◌*ℤ◌, Some, slice_get, refl, ap, sym, ◌∙◌, subst, arith, mul_comm, ◌/◌, ◌%◌, if◌then◌else◌}
 use Rattle.std.specs.Prelude.{IsTrue}
 use Rattle.std.proofs.lemmas.Int.{ints}
+use Rattle.std.proofs.lemmas.Nat.{div-add-mod', mod_below, div_below}
 use Rattle.dk_base.specs.Frames.{Size, Picture, in_frame, clamped, framed, picture_at}
 use Rattle.dk_base.specs.declared.ty.Ty.{Ty}
 use Rattle.dk_base.specs.Operators.{select_value}
@@ -10,8 +11,10 @@ use Rattle.dk_types.specs.declared.typed.TypedRead.{TypedRead}
 use Rattle.dk_types.specs.Typed.{Typed, constant, fetch, chosen, Definition, Typing}
 use Rattle.dk_types.specs.Kept.{IsTyped}
 use Rattle.dk_types.specs.Meaning.{meaning, value, read_value}
+use Rattle.same_phases.specs.declared.role.Role.{Role}
+use Rattle.same_phases.specs.declared.role.Role.TheVariants.{Phase, Column, Frame}
 use Rattle.same_phases.specs.Phases.{phase_of, phases_of}
-use Rattle.same_phases.specs.Roles.{IsSplit, HasOneEach, IsPhase, IsColumn, IsFrameTest, HasPhase, ReadsPhase, HasColumn, IsBodyOf, IsBrought, IsUnclamped, IsMovedColumn, StaysInPhase, IsNearer}
+use Rattle.same_phases.specs.Roles.{IsSplit, HasOneEach, IsPhase, IsColumn, IsFrameTest, HasPhase, ReadsPhase, HasColumn, IsColumnOf, Plays, IsBodyOf, IsBrought, IsUnclamped, IsMovedColumn, StaysInPhase, IsNearer}
 use Rattle.same_phases.proofs.Meant.{input_picture, definition_picture}
 use Rattle.same_phases.proofs.Arithmetic.{column}
 use Rattle.same_phases.proofs.Rounds.{length-phases, phase_at}
@@ -32,6 +35,14 @@ input_plays n old new split k p there below there_too = record {
           ∙ phase_at n round k p (omega (arith, there, each)) below)
       ∙ sym (ap (λ (q : Picture). phase_of n p q x y) (input_picture old round each k there));
 }
+
+pub input_at : (n : ℕ) (old new : Typing) → IsSplit n old new → (h : ℕ) → h < length new.inputs → IsPhase n old new (h / n) (h % n) h
+input_at n old new split h there =
+    let some : 0 < n = omega (arith, split.some) in
+    let whole : h / n * n + h % n ≡ h = div-add-mod' h n in
+    let rest : h % n < n = mod_below h n some in
+    let lt : h / n < length old.inputs = div_below h n (length old.inputs) some (let q = split.input_count in let turned = mul_comm n (length old.inputs) in omega (arith, there, q, turned)) in
+    subst (λ (k : ℕ). IsPhase n old new (h / n) (h % n) k) whole (input_plays n old new split (h / n) (h % n) lt rest (omega (arith, whole, there)))
 
 -- an image by its body
 picture_of_body : (p : Typing) → IsTyped p → (round : List Picture) → length round ≡ length p.inputs → (g : ℕ) (e : Typed) → IsBodyOf p g e → (x y : ℤ) →
@@ -58,6 +69,11 @@ inside_body n old new split typed h e of_new round each x y within =
 
 pub column_plays : (n : ℕ) (old new : Typing) → IsSplit n old new → IsTyped new → (g : ℕ) (c : ℤ) (h : ℕ) (e : Typed) → IsBodyOf new h e → HasColumn n old new g c e → IsColumn n old new g c h
 column_plays n old new split typed g c h e of_new has round each x y within = inside_body n old new split typed h e of_new round each x y within ∙ has round each x y within
+
+pub column_of_plays : (n : ℕ) (old new : Typing) → IsSplit n old new → IsTyped new → (role : Role) (h : ℕ) (e : Typed) → IsBodyOf new h e → IsColumnOf n old new role e → Plays n old new role h
+column_of_plays n old new split typed (Phase g p) h e of_new is = absurd is
+column_of_plays n old new split typed (Column g c) h e of_new has = column_plays n old new split typed g c h e of_new has
+column_of_plays n old new split typed Frame h e of_new is = absurd is
 
 pub frame_plays : (n : ℕ) (old new : Typing) → IsSplit n old new → IsTyped new → (h : ℕ) (e : Typed) → IsBodyOf new h e → (t : Ty) → e ≡ constant t 1 → IsFrameTest n old new h
 frame_plays n old new split typed h e of_new t is round each x y =

@@ -93,19 +93,34 @@ fn place_after(n: u32, phases: u32) -> (u32, Place)
     )
 }
 
-// The role of image h of the new program. `done` images before it are phases.
-fn role_at(
+// The number of the image after those of the table.
+fn next_image(roles: &[Role]) -> Option<u32>
+    ensures { IfSome result (λ h. h ≡ length roles.now) }
+{
+    u32::try_from(roles.len()).ok()
+}
+
+// How many images of the table are phases.
+fn phase_count(roles: &[Role]) -> u32 {
+    let mut count: u32 = 0;
+    for role in roles {
+        count = count.saturating_add(role.phase_count());
+    }
+    count
+}
+
+// The role of the image after those of the table.
+fn next_role(
     old: &TypedProgram,
     new: &TypedProgram,
     roles: &[Role],
     phases: u32,
-    done: u32,
-    h: u32,
 ) -> Option<Role>
     requires split { IsSplit phases (typing_of old.now) (typing_of new.now) }
     requires roles { ArePlayed phases (typing_of old.now) (typing_of new.now) roles.now }
-    ensures { IfSome result (λ role. Plays phases (typing_of old.now) (typing_of new.now) role h) }
+    ensures { IfSome result (λ role. Plays phases (typing_of old.now) (typing_of new.now) role (length roles.now)) }
 {
+    let h = next_image(roles)?;
     if let Some(column) = column_of(old, new, roles, phases, h) {
         return Some(column);
     }
@@ -114,7 +129,7 @@ fn role_at(
             return Some(Role::Frame);
         }
     }
-    let (image, at) = place_after(done, phases);
+    let (image, at) = place_after(phase_count(roles), phases);
     if is_phase(old, new, roles, at, image, h) {
         Some(Role::Phase(image, at.phase))
     } else {
@@ -153,13 +168,9 @@ pub fn all_roles(
     ensures { IfOk result (λ found. IfSome found (λ roles. ArePlayed phases (typing_of old.now) (typing_of new.now) roles.items)) }
 {
     let mut roles = input_roles(alloc, old, new, phases)?;
-    let mut done = roles.len() as u32;
     for _ in 0..new.definitions().len() {
-        match role_at(old, new, &roles, phases, done, roles.len() as u32) {
-            Some(role) => {
-                done = done.saturating_add(role.phase_count());
-                roles.push(role)?;
-            }
+        match next_role(old, new, &roles, phases) {
+            Some(role) => roles.push(role)?,
             None => return Ok(None),
         }
     }
