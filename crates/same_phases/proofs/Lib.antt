@@ -4,3 +4,5 @@ mod Arithmetic
 mod Rounds
 mod PhaseReads
 mod Played
+pub mod Types
+mod Whole

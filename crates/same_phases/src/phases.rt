@@ -1,14 +1,14 @@
 // The check of two programs.
 
 ghost use Rattle.std.specs.Prelude.{◌≡◌, ◌≤◌, ◌<◌, ◌+◌, ◌*◌, ◌/◌, ◌%◌, ℕ, length, slice_get, slice_index, Some, IsTrue, IfOk, IfSome};
-ghost use Rattle.dk_types.specs.Typed.{typing_of, input_types, types_of};
+ghost use Rattle.dk_types.specs.Typed.{typing_of, definition_of, image_type as image_type_of, input_types, types_of};
 ghost use Rattle.same_phases.specs.Phases.{SplitPictures};
 ghost use Rattle.same_phases.specs.Roles.{IsSplit, ArePlayed, IsOutputPhase};
 
 use crate::images::all_roles;
 use crate::role::{Role, role_of};
 use dk_base::{OutOfMemory, Ty};
-use dk_types::{TypedInput, TypedProgram};
+use dk_types::{TypedDefinition, TypedInput, TypedProgram};
 use std::alloc::Global;
 
 // Whether the frame and the number of the inputs are those of phases.
@@ -28,6 +28,15 @@ fn is_split(phases: u32, old: &TypedProgram, new: &TypedProgram) -> bool
     new.inputs().len() as u32 == phases * old.inputs().len() as u32
 }
 
+// Whether input j of the new program has the type of input k of the old one.
+fn has_input_type(old: &[TypedInput], k: usize, new: &[TypedInput], j: usize) -> bool
+    requires old { k < length old.now }
+    requires new { j < length new.now }
+    ensures { IsTrue result → slice_get (input_types new.now) j ≡ slice_get (input_types old.now) k }
+{
+    new[j].ty == old[k].ty
+}
+
 // Whether each phase of an input has its type.
 fn have_input_types(phases: usize, old: &[TypedInput], new: &[TypedInput]) -> bool
     requires some { 2 ≤ phases }
@@ -35,11 +44,22 @@ fn have_input_types(phases: usize, old: &[TypedInput], new: &[TypedInput]) -> bo
     ensures { IsTrue result → (j : ℕ) → j < length new.now → slice_get (input_types new.now) j ≡ slice_get (input_types old.now) (j / phases) }
 {
     for j in 0..new.len() {
-        if new[j].ty != old[j / phases].ty {
+        if !has_input_type(old, j / phases, new, j) {
             return false;
         }
     }
     true
+}
+
+// The type of a definition's image.
+#[tactic(auto, using(crate::proofs::Types::type_beside))]
+fn image_type(definition: &TypedDefinition) -> Ty
+    ensures { result ≡ image_type_of (definition_of definition.now) }
+{
+    match definition.declared {
+        Some(ty) => ty,
+        None => definition.body.ty,
+    }
 }
 
 // The type of an image, by its number.
@@ -51,10 +71,11 @@ fn type_of(program: &TypedProgram, image: u32) -> Option<Ty>
     if place < inputs.len() {
         return Some(inputs[place].ty);
     }
-    let definition = program.definitions().get(place - inputs.len())?;
-    match definition.declared {
-        Some(ty) => Some(ty),
-        None => Some(definition.body.ty),
+    let definitions = program.definitions();
+    if place - inputs.len() < definitions.len() {
+        Some(image_type(&definitions[place - inputs.len()]))
+    } else {
+        None
     }
 }
 
@@ -72,7 +93,7 @@ fn have_same_type(old: &TypedProgram, g: u32, new: &TypedProgram, h: u32) -> boo
 }
 
 // Whether this image of the new program is this phase of an image of the old one.
-fn is_phase_of(roles: &[Role], image: u32, phase: u32, other: u32) -> bool
+fn is_phase_of(roles: &[Role], image: u32, phase: usize, other: u32) -> bool
     ensures { IsTrue result → slice_get roles.now other ≡ Some (Role.Phase image phase) }
 {
     match role_of(roles, other) {
@@ -80,7 +101,7 @@ fn is_phase_of(roles: &[Role], image: u32, phase: u32, other: u32) -> bool
             if its != image {
                 return false;
             }
-            number == phase
+            number as usize == phase
         }
         Some(Role::Column(_, _)) => false,
         Some(Role::Frame) => false,
@@ -103,7 +124,7 @@ fn is_output_phase(
 {
     let image = old.outputs()[j / phases];
     let other = new.outputs()[j];
-    if !is_phase_of(roles, image, (j % phases) as u32, other) {
+    if !is_phase_of(roles, image, j % phases, other) {
         return false;
     }
     have_same_type(old, image, new, other)
