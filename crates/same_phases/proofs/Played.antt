@@ -32,7 +32,7 @@ input_plays n old new split k p there below there_too = record {
   below = below;
   shows = λ round each x y.
       ap (λ (q : Picture). q x y) (input_picture new (phases_of n round) (one_each_phase n old new split round each) (k * n + p) there_too
-          ∙ phase_at n round k p (omega (arith, there, each)) below)
+      ∙ phase_at n round k p (omega (arith, there, each)) below)
       ∙ sym (ap (λ (q : Picture). phase_of n p q x y) (input_picture old round each k there));
 }
 
@@ -98,8 +98,8 @@ brought_here r is across down size known x y within =
     unclamped_value size known r is x y
     ∙ ap (λ u. framed size p u (y +ℤ r.dy)) same_x ∙ ap (framed size p x) same_y ∙ ap (λ b. if b then p x y else pos 0) within
     ∙ sym (ap (λ z. p (clamped size.width (x +ℤ z)) (clamped size.height (y +ℤ r.dy))) across
-        ∙ ap (λ z. p (clamped size.width (x +ℤ pos 0)) (clamped size.height (y +ℤ z))) down
-        ∙ ap (λ u. p u (clamped size.height (y +ℤ pos 0))) (not_moved size.width x parts.0) ∙ ap (p x) (not_moved size.height y parts.1))
+    ∙ ap (λ z. p (clamped size.width (x +ℤ pos 0)) (clamped size.height (y +ℤ z))) down
+    ∙ ap (λ u. p u (clamped size.height (y +ℤ pos 0))) (not_moved size.width x parts.0) ∙ ap (p x) (not_moved size.height y parts.1))
 
 pub reads_unclamped : (n : ℕ) (old new : Typing) → IsSplit n old new → (p r : ℕ) (a b : TypedRead) → IsUnclamped a → IsUnclamped b → b.dy ≡ a.dy → IsMovedColumn n r b.dx p a.dx → IsPhase n old new a.image r b.image → ReadsPhase n old new p a b
 reads_unclamped n old new split p r a b one other down is phase round each x y within =
@@ -141,7 +141,7 @@ has_column n old new split g r e c t u v w f h i one other third same_x down_f d
     let s = new.size in
     ap (λ k. select_value k (read_value s known h x y) (read_value s known i x y)) (unclamped_value s known f one x y ∙ ap (λ d. framed s pf (x +ℤ f.dx) (y +ℤ d)) down_f)
     ∙ ap (λ k. select_value (framed s pf (x +ℤ f.dx) (y +ℤ pos 0)) k (read_value s known i x y))
-        (unclamped_value s known h other x y ∙ ap (λ d. framed s ph (x +ℤ d) (y +ℤ h.dy)) same_x ∙ ap (λ d. framed s ph (x +ℤ f.dx) (y +ℤ d)) down_h)
+    (unclamped_value s known h other x y ∙ ap (λ d. framed s ph (x +ℤ d) (y +ℤ h.dy)) same_x ∙ ap (λ d. framed s ph (x +ℤ f.dx) (y +ℤ d)) down_h)
     ∙ ap (select_value (framed s pf (x +ℤ f.dx) (y +ℤ pos 0)) (framed s ph (x +ℤ f.dx) (y +ℤ pos 0)))
-        (third s known x y within ∙ ap (λ d. pi (clamped s.width (x +ℤ i.dx)) (clamped s.height (y +ℤ d))) down_i)
+    (third s known x y within ∙ ap (λ d. pi (clamped s.width (x +ℤ i.dx)) (clamped s.height (y +ℤ d))) down_i)
     ∙ chosen_column n old.size s (sizes_of n old new split) r e shows.below ends.below f.dx i.dx c is nearer (picture_at (meaning old round) g) pf ph pi (tests round each) (shows.shows round each) (ends.shows round each) x y within

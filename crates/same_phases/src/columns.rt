@@ -92,7 +92,13 @@ fn is_frame(old: &TypedProgram, new: &TypedProgram, roles: &[Role], phases: u32,
 }
 
 // The image and the phase that an image of the new program is of.
-fn phase_of(old: &TypedProgram, new: &TypedProgram, roles: &[Role], phases: u32, image: u32) -> Option<(u32, u32)>
+fn phase_of(
+    old: &TypedProgram,
+    new: &TypedProgram,
+    roles: &[Role],
+    phases: u32,
+    image: u32,
+) -> Option<(u32, u32)>
     requires roles { ArePlayed phases (typing_of old.now) (typing_of new.now) roles.now }
     ensures { IfSome result (λ f. IsPhase phases (typing_of old.now) (typing_of new.now) f.0 f.1 image) }
 {

@@ -110,12 +110,7 @@ fn phase_count(roles: &[Role]) -> u32 {
 }
 
 // The role of the image after those of the table.
-fn next_role(
-    old: &TypedProgram,
-    new: &TypedProgram,
-    roles: &[Role],
-    phases: u32,
-) -> Option<Role>
+fn next_role(old: &TypedProgram, new: &TypedProgram, roles: &[Role], phases: u32) -> Option<Role>
     requires split { IsSplit phases (typing_of old.now) (typing_of new.now) }
     requires roles { ArePlayed phases (typing_of old.now) (typing_of new.now) roles.now }
     ensures { IfSome result (λ role. Plays phases (typing_of old.now) (typing_of new.now) role (length roles.now)) }

@@ -131,12 +131,7 @@ fn is_output_phase(
 }
 
 // Whether each output of the new program is the phase of an output of the old one, with its type.
-fn are_output_phases(
-    phases: usize,
-    old: &TypedProgram,
-    new: &TypedProgram,
-    roles: &[Role],
-) -> bool
+fn are_output_phases(phases: usize, old: &TypedProgram, new: &TypedProgram, roles: &[Role]) -> bool
     requires some { 2 ≤ phases }
     requires count { length new.now.outputs ≡ phases * length old.now.outputs }
     ensures { IsTrue result → (j : ℕ) → j < length new.now.outputs → IsOutputPhase phases (typing_of old.now) (typing_of new.now) roles.now j }

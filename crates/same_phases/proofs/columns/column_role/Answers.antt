@@ -32,4 +32,4 @@ returns c =
     to_word w64 (λ z. HasColumn n old new g z (typed_of c.args.e.now)) column fits
     (subst (λ (e : Typed). HasColumn n old new g column e) (sym is)
     (has_column n old new c.requires.split g phase end column t u v w f h i row.test row.inside row.edge row.point row.test_row row.inside_row row.edge_row whole nearer
-        (c.is_frame.ensures c.if-not-is_frame.false) c.in_ok-image.ensures ends))
+    (c.is_frame.ensures c.if-not-is_frame.false) c.in_ok-image.ensures ends))

@@ -16,7 +16,7 @@ returns-in-Some c = λ yes.
     let played = subst (λ f. IfSome f (λ found. ArePlayed n old new found.items)) c.in-Some.is c.in_ok-roles.ensures in
     let all = c.have_input_types.ensures c.if-not-have_input_types.false in
     let types = subst (λ (is : List TypedInput). (j : ℕ) → j < length new.inputs → slice_get (input_types new.inputs) j ≡ slice_get (input_types is) (j / n)) c.inputs.ensures
-        (subst (λ (is : List TypedInput). (j : ℕ) → j < length is → slice_get (input_types is) j ≡ slice_get (input_types c.inputs.result.now) (j / n)) c.inputs-2.ensures all) in
+    (subst (λ (is : List TypedInput). (j : ℕ) → j < length is → slice_get (input_types is) j ≡ slice_get (input_types c.inputs.result.now) (j / n)) c.inputs-2.ensures all) in
     let count : length new.outputs ≡ n * length old.outputs = search rules in
     let outputs = subst (λ (rs : List Role). (j : ℕ) → j < length new.outputs → IsOutputPhase n old new rs j) c.deref.ensures.value (c.are_output_phases.ensures yes) in
     split_pictures n old new roles (c.is_split.ensures c.if-not-is_split.false) played types count outputs
