@@ -38,11 +38,7 @@ fn add_columns(to: &mut Vec<Column>, phases: u32, read: TypedRead) -> Result<(),
 }
 
 // Adds those that the reads of a body need.
-fn add_of_reads(
-    to: &mut Vec<Column>,
-    phases: u32,
-    reads: &[TypedRead],
-) -> Result<(), OutOfMemory> {
+fn add_of_reads(to: &mut Vec<Column>, phases: u32, reads: &[TypedRead]) -> Result<(), OutOfMemory> {
     for read in reads {
         add_columns(to, phases, *read)?;
     }

@@ -23,12 +23,7 @@ pub(crate) struct Part {
 }
 
 // The part that begins at a place of the body from `start` on, where these reads are not passed yet: the next read, or a token.
-fn part_at(
-    tokens: &[Token],
-    start: usize,
-    place: usize,
-    read: Option<&TypedRead>,
-) -> Option<Part> {
+fn part_at(tokens: &[Token], start: usize, place: usize, read: Option<&TypedRead>) -> Option<Part> {
     let token = tokens.get(place)?;
     let kind = match read {
         Some(read) if begins_read(tokens, place) => Kind::Read(*read),

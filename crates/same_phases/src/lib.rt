@@ -8,5 +8,7 @@ mod operands;
 mod phases;
 mod reads;
 mod role;
+mod worked;
 
 pub use phases::have_phases;
+pub use worked::worked_phases;
