@@ -53,7 +53,11 @@ def paths_in(text, module):
 def hole(crate, folder, path):
     """The proof of a function as a hole."""
     place = f"{folder}/proofs/{'/'.join(path)}"
-    if os.path.isdir(f"{os.path.dirname(place)}/+{path[-1]}"):
+    around = os.path.dirname(place)
+    if os.path.isdir(f"{around}/+{path[-1]}"):
+        return
+    # a function without answers beside a cycle's may be of the cycle
+    if not os.path.isdir(place) and os.path.isdir(around) and any(it.startswith("+") for it in os.listdir(around)):
         return
     shutil.rmtree(place, ignore_errors=True)
     os.makedirs(place)
