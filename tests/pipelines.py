@@ -7,6 +7,7 @@ program's outputs.
 usage: tests/pipelines.py PROGRAM       compares eval, run, and eval of the program after cut 1, in frames of 640 by 480
        tests/pipelines.py --write       writes the small input and output files of examples/pipelines
        tests/pipelines.py --compare     compares the references with OpenCV and scikit-image, and prints a table
+       tests/pipelines.py --pictures PROGRAM [FOLDER]   writes pictures of 320 by 240, into docs/gallery by default
 The last line of the first is `N passed, M failed`. Without NumPy nothing is compared, and it says so.
 """
 import os
@@ -18,7 +19,8 @@ import tempfile
 TOP = os.path.join(os.path.dirname(os.path.abspath(__file__)), "..")
 FOLDER = os.path.join(TOP, "examples", "pipelines")
 sys.dont_write_bytecode = True
-sys.path.append(os.path.join(TOP, "tests"))
+sys.path += [os.path.join(TOP, "tests"), os.path.join(TOP, "tools")]
+import png  # noqa: E402
 try:
     import numpy as np
     import scenes
@@ -166,7 +168,7 @@ def flow(before, after):
     return [quotient(xy * yt - yy * xt), quotient(xy * xt - xx * yt), sure.astype(int)]
 
 
-SURE = 1024
+SURE = 256  # above the noise
 
 
 def block(apart):
@@ -193,8 +195,8 @@ def response(grey, size=5):
 
 
 def corners(grey):
-    strength = np.clip(response(grey) >> 26, 0, 65535)
-    peak = strength >= 1000
+    strength = np.clip(response(grey) >> 25, 0, 65535)
+    peak = strength >= 2000
     for dy in range(-2, 3):
         for dx in range(-2, 3):
             other = shifted(strength, dx, dy)
@@ -239,9 +241,7 @@ def compare_program(program, size=(640, 480)):
         for name, images in given.items():
             put(work, name + ".pgm", file_of(images))
         for name, source, wanted in results(given):
-            with open(os.path.join(FOLDER, name + ".dk"), encoding="ascii") as file:
-                text = re.sub(r"(?m)^size .*$", "size %d %d" % size, file.read())
-            put(work, name + ".dk", text.encode())
+            put(work, name + ".dk", sized(name, size))
             subprocess.run([program, "cut", "1", name + ".dk", "cut.dk"], cwd=work, check=True, capture_output=True)
             for command, tried in (("eval", name + ".dk"), ("run", name + ".dk"), ("eval", "cut.dk")):
                 done = subprocess.run([program, command, tried, source + ".pgm", "out.pgm"], cwd=work, check=False, capture_output=True, text=True)
@@ -254,12 +254,56 @@ def compare_program(program, size=(640, 480)):
     return failed != 0
 
 
+def show(folder, name, planes, columns, colour=False):
+    """A PNG of some images of 8 bits."""
+    lines = [plane.tolist() for plane in planes]
+    pictures = png.coloured(lines) if colour else lines
+    put(folder, f"pipeline-{name}.png", png.png(png.sheet(pictures, columns), 3 if colour else 1))
+
+
+def stretched(planes, greatest):
+    return [plane * 255 // most for plane, most in zip(planes, greatest)]
+
+
+def pictures(program, folder):
+    """What `run` writes of each pipeline, beside its input; each is compared with its reference."""
+    given = scenes.inputs(320, 240)
+    with tempfile.TemporaryDirectory() as work:
+        for (pipeline, source, greatest), (name, _, wanted) in zip(PIPELINES, results(given)):
+            if ran(program, work, name, source, given, (320, 240)) != wanted:
+                sys.exit(f"pipelines: run of {name} is not its reference")
+            seen = stretched(*zip(*given[source]))
+            made = stretched(pipeline(*(picture for picture, _ in given[source])), greatest)
+            if name == "isp":
+                show(folder, "isp-raw", seen[:1], 1)
+                show(folder, "isp", made, 1, True)
+            else:
+                show(folder, name, seen[:1] + made, len(made) + 1)
+
+
+def ran(program, work, name, source, given, size):
+    """The output file of a pipeline in frames of this size."""
+    put(work, source + ".pgm", file_of(given[source]))
+    put(work, name + ".dk", sized(name, size))
+    subprocess.run([program, "run", name + ".dk", source + ".pgm", name + ".pgm"], cwd=work, check=True)
+    with open(os.path.join(work, name + ".pgm"), "rb") as file:
+        return file.read()
+
+
+def sized(name, size):
+    """The text of a pipeline for frames of this size."""
+    with open(os.path.join(FOLDER, name + ".dk"), encoding="ascii") as file:
+        return re.sub(r"(?m)^size .*$", "size %d %d" % size, file.read()).encode()
+
+
 def main(words):
     if words == ["--write"]:
         return write()
     if words == ["--compare"]:
         import pipelines_compare
         return pipelines_compare.main()
+    if words[:1] == ["--pictures"] and len(words) in (2, 3):
+        return pictures(os.path.abspath(words[1]), words[2] if words[2:] else os.path.join(TOP, "docs", "gallery"))
     if len(words) != 1 or words[0].startswith("-"):
         sys.exit(__doc__)
     return compare_program(os.path.abspath(words[0]))

@@ -219,11 +219,20 @@ def mosaic(planes):
     return np.where(odd_x != odd_y, planes[:, :, 1], np.where(odd_x == 1, planes[:, :, 2], planes[:, :, 0]))
 
 
-def sensor(width, height):
-    """Raw samples of 10 bits with noise and dead pixels, and the two masks. A thin plate before the sensor softens the light."""
+def filtered(width, height):
+    """What the three filters see, 0 to about 1. A thin plate before the sensor softens the light."""
     light = soft(render(width, height)[0], (1, 2, 1))
-    seen = np.clip(light, 0, 1.2) @ np.linalg.inv(MATRIX).T / GAINS
-    level = mosaic(np.clip(seen, 0, None)) * 1023 * 0.98
+    return np.clip(np.clip(light, 0, 1.2) @ np.linalg.inv(MATRIX).T, 0, None)
+
+
+def seen_planes(width, height):
+    """The planes of 10 bits that a sensor with all filters at each pixel would see, after the white balance."""
+    return np.moveaxis(np.clip(filtered(width, height) * 1023 * 0.98, 0, 1023), 2, 0)
+
+
+def sensor(width, height):
+    """Raw samples of 10 bits with noise and dead pixels, and the two masks."""
+    level = mosaic(filtered(width, height) / GAINS) * 1023 * 0.98
     level = level + (1.5 + 0.12 * np.sqrt(np.maximum(level, 0))) * grain(level.shape, 1)
     raw = stored(BLACK + level, 1023)
     odd_x, odd_y = masks(width, height)
@@ -257,6 +266,15 @@ def moving(width, height, move=None):
     left = depth - move[2]
     motion = (scale * ((across * depth - move[0]) / left - across), scale * ((down * depth - move[1]) / left - down))
     return grey(before, 1.0, 4), grey(after, 1.0, 5), motion
+
+
+def near_step(depth):
+    """The pixels near a step of the depth, where a window sees two motions."""
+    step = np.zeros(depth.shape, bool)
+    for dy in range(-4, 5):
+        for dx in range(-4, 5):
+            step |= np.abs(np.roll(depth, (dy, dx), (0, 1)) - depth) > 0.1 * depth
+    return step
 
 
 def two_eyes(width, height, most=14.5):

@@ -68,7 +68,7 @@ let down = im(x,y) (xy(x,y)*xt(x,y) - xx(x,y)*yt(x,y)) as s49 end
 
 -- Structure in both directions: det/trace is from a half to the whole of the lesser eigenvalue of
 -- (xx xy; xy yy), which is 25*16 for a slope of 1 a pixel in that direction.
-let sure = im(x,y) det(x,y) > 1024*(xx(x,y) + yy(x,y)) end""")
+let sure = im(x,y) det(x,y) > 256*(xx(x,y) + yy(x,y)) end""")
 for axis in ("across", "down"):
     print(f"""
 -- The quotient of {axis} in 64ths: its size, at most 127, by restoring division.
