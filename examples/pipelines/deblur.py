@@ -18,7 +18,7 @@ print("""-- Deblurring: eight steps of Landweber's method against a blur of 5 by
 -- Each step blurs the estimate, and adds the blurred difference between that and what was seen.
 -- The difference counts only where the whole kernel is in the frame: nothing is known outside.
 -- Estimates have two bits of fraction, and are from 0 to 1020. An error is from -1020 to 1020.
--- Look at: letters and veins are sharper. The noise is stronger too: more steps would not help.
+-- Look at: letters and veins are sharper. Noise is stronger too.
 size 64 48
 input seen : u8
 
