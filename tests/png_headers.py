@@ -1,5 +1,5 @@
 #!/usr/bin/env python3
-"""Checks what tools/png.py reads of PGM files, by headers and samples written by hand after docs/PGM.md.
+"""Checks what tools/png.py reads of PGM files, by headers and samples written by hand after docs/PGM.md, and how it places images.
 
 usage: tests/png_headers.py      prints nothing, and ends with status 0, if nothing is wrong
 """
@@ -33,4 +33,18 @@ wrong += [f"png: {content!r} is not refused" for content in REFUSED if read(cont
 two = png.sheet(read(b"P5\n2 1\n255\n\x01\x02P5\n#\n2 1\n255\n\x03\x04"), 1)
 if two != [[1, 2], [255, 255], [255, 255], [3, 4]]:
     wrong.append(f"png: two images become {two}")
+uneven = png.sheet([[[1]], [[2]], [[3]]], 2)
+if uneven != [[1, 255, 255, 2], [255] * 4, [255] * 4, [3, 255, 255, 255]]:
+    wrong.append(f"png: three images in rows of two become {uneven}")
+# in colour: a pixel of each three samples, and the samples of a line one after another, with white between two pictures
+colour = png.sheet(png.coloured([[[1, 4]], [[2, 5]], [[3, 6]], [[7, 8]], [[7, 8]], [[7, 8]]]), 2)
+if png.flat(colour[0], 3) != [1, 2, 3, 4, 5, 6, *[255] * 6, 7, 7, 7, 8, 8, 8]:
+    wrong.append(f"png: six planes become {colour}")
+if png.png([[(9, 8, 7)]], 3)[16:29] != bytes([0, 0, 0, 1, 0, 0, 0, 1, 8, 2, 0, 0, 0]):
+    wrong.append("png: the header of a picture in colour is not that of PNG")
+try:
+    png.coloured([[[1]], [[2]]])
+    wrong.append("png: two planes are not refused")
+except SystemExit:
+    pass
 sys.exit("\n".join(wrong) or 0)

@@ -1,6 +1,6 @@
 #!/bin/sh
 # Shows the texts that `compile` writes to the tools of the field, as far as they are installed, and says which it passed over:
-# of all examples and of the programs of `make` from 0 to COUNT, as they are, with `--enable`, with `--age 1` and with both, and with `--block 2`, without and with `--enable`.
+# of all examples and pipelines, and of the programs of `make` from 0 to COUNT, as they are, with `--enable`, with `--age 1` and with both, and with `--block 2`, without and with `--enable`.
 # - Icarus Verilog (-g2005 -Wall) and Verilator (--lint-only -Wall) may warn of nothing but the forms that "warnings" below names.
 # - From random contents at power-up, both simulators must show the picture that `run` writes; with `--enable`, with clocks that are held at random.
 # - Yosys must find each array as one memory, with as many memory bits in all as `plan` says, and must synthesize the text.
@@ -126,6 +126,10 @@ while read -r name source <&3; do
     python3 "$tests/trace.py" dk.v 200 "$source.pgm" wanted.vcd
     cmp -s out.vcd wanted.vcd || wrong "the trace of $name.dk is not that of trace.py"
 done 3<"$examples/programs/pictures.txt"
+while read -r name source <&3; do
+    cp "$examples/pipelines/$name.dk" "pipeline_$name.dk" && cp "$examples/pipelines/$source.pgm" . || exit 2
+    tried "pipeline_$name.dk" "$source.pgm" 1
+done 3<"$examples/pipelines/pictures.txt"
 for name in copy double; do
     tried $name.dk gradient.pgm 1
     built $name.dk gradient.pgm 2
