@@ -124,8 +124,7 @@ crates/wiring/README.md
 
 
 def pages():
-    found = [*TOP.glob("docs/*.md"), TOP / "README.md", TOP / "CHANGELOG.md", *TOP.glob("crates/*/README.md"), TOP / "tests/README.md", TOP / "examples/README.md"]
-    found = [*TOP.glob("docs/*.md"), TOP / "README.md", *TOP.glob("crates/*/README.md"), TOP / "tests/README.md", TOP / "examples/README.md", TOP / "examples/pipelines/README.md"]
+    found = [*TOP.glob("docs/*.md"), TOP / "README.md", TOP / "CHANGELOG.md", *TOP.glob("crates/*/README.md"), TOP / "tests/README.md", TOP / "examples/README.md", TOP / "examples/pipelines/README.md"]
     return sorted(page for page in found if page != TOP / "docs/LADDER.md")
 
 
