@@ -1,5 +1,5 @@
 -- Images of the new program, by their bodies.
-use Rattle.std.proofs.Common.{◌≡◌, ◌⊎◌, inl, inr, ℕ, ◌+◌, ◌-◌, ◌*◌, ◌<◌, ◌≤◌, Bool, true, false, List, length, ℤ, pos, ◌+ℤ◌, ◌*ℤ◌, Some, slice_get, refl, ap, sym, ◌∙◌, subst, arith, mul_comm, ◌/◌, ◌%◌, if◌then◌else◌}
+use Rattle.std.proofs.Common.{◌≡◌, ℕ, ◌+◌, ◌*◌, ◌<◌, true, false, List, length, ℤ, pos, ◌+ℤ◌, ◌*ℤ◌, ap, sym, ◌∙◌, subst, arith, mul_comm, ◌/◌, ◌%◌, if◌then◌else◌}
 use Rattle.std.specs.Prelude.{IsTrue}
 use Rattle.std.proofs.lemmas.Int.{ints}
 use Rattle.std.proofs.lemmas.Nat.{div-add-mod', mod_below, div_below}
@@ -8,7 +8,7 @@ use Rattle.dk_base.specs.declared.ty.Ty.{Ty}
 use Rattle.dk_base.specs.Operators.{select_value}
 use Rattle.dk_base.proofs.Rasters.{inside_is}
 use Rattle.dk_types.specs.declared.typed.TypedRead.{TypedRead}
-use Rattle.dk_types.specs.Typed.{Typed, constant, fetch, chosen, Definition, Typing}
+use Rattle.dk_types.specs.Typed.{Typed, constant, fetch, chosen, Typing}
 use Rattle.dk_types.specs.Kept.{IsTyped}
 use Rattle.dk_types.specs.Meaning.{meaning, value, read_value}
 use Rattle.same_phases.specs.declared.role.Role.{Role}

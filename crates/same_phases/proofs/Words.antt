@@ -1,5 +1,5 @@
 -- Numbers with a sign, and the words that hold them.
-use Rattle.std.proofs.Common.{◌≡◌, Bool, true, false, ℤ, refl, sym, ap, ◌∙◌, subst, w32, w64, to_z, of_z, FitsSigned}
+use Rattle.std.proofs.Common.{◌≡◌, Bool, true, false, ℤ, refl, sym, ap, ◌∙◌, subst, to_z, of_z, FitsSigned}
 use Rattle.std.specs.Prelude.{not}
 use Rattle.std.specs.Int.{Width}
 use Rattle.std.proofs.lemmas.Int.{to_z-of_z}

@@ -1,4 +1,4 @@
-use Rattle.std.proofs.Common.{◌≡◌, ◌<◌, length, arith, sym, subst}
+use Rattle.std.proofs.Common.{◌<◌, length, arith, sym, subst}
 use Rattle.dk_types.specs.Typed.{typing_of}
 use Rattle.same_phases.specs.declared.role.Role.{Role}
 use Rattle.same_phases.specs.Roles.{Plays}

@@ -1,4 +1,4 @@
-use Rattle.std.proofs.Common.{◌++◌, length, map, Some, slice_get, ap, sym, ◌∙◌}
+use Rattle.std.proofs.Common.{◌++◌, map, Some, slice_get, ap, sym, ◌∙◌}
 use Rattle.dk_types.specs.Typed.{definition_of, definitions_as, image_type, input_types}
 use Rattle.same_phases.proofs.Types.{definition_type_at}
 use Rattle.same_phases.proofs.phases.type_of.Goals as goal

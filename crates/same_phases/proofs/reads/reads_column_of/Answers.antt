@@ -1,4 +1,4 @@
-use Rattle.std.proofs.Common.{rules, ◌≡◌, ◌∙◌, sym, ℤ, pos, ◌+ℤ◌, w32, w64, to_z, of_z, FitsSigned}
+use Rattle.std.proofs.Common.{rules, ◌≡◌, ◌∙◌, sym, pos, ◌+ℤ◌, w32, w64, FitsSigned}
 use Rattle.dk_types.specs.Typed.{typing_of}
 use Rattle.same_phases.proofs.Words.{from_word, same_word}
 use Rattle.same_phases.proofs.Played.{reads_column}
