@@ -56,9 +56,6 @@ def hole(crate, folder, path):
     around = os.path.dirname(place)
     if os.path.isdir(f"{around}/+{path[-1]}"):
         return
-    # a function without answers beside a cycle's may be of the cycle
-    if not os.path.isdir(place) and os.path.isdir(around) and any(it.startswith("+") for it in os.listdir(around)):
-        return
     shutil.rmtree(place, ignore_errors=True)
     os.makedirs(place)
     with open(f"{place}/Proof.antt", "w", encoding="utf-8") as file:

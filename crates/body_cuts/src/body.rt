@@ -1,15 +1,16 @@
 // One body, cut into pieces.
 
 use crate::expanded::Expanded;
-use crate::images::{Names, image_name, read_levels};
-use crate::levels::{only_widens, own_levels};
+use crate::images::{image_name, read_levels};
+use crate::names::Names;
 use crate::pieces::{Above, Pieces, cut, share, shared_read};
 use crate::product::{Factor, divided, has_divided, is_divided};
 use crate::repeats::repeated;
-use crate::term::{Term, TermNode};
-use body_text::{Binding, Part, binary, converted, number, push_read, scaled, selected, unary};
+use body_terms::{
+    Binding, Part, PixelRead, Term, TermNode, binary, converted, number, only_widens, own_levels,
+    push_read, scaled, selected, unary,
+};
 use dk_base::OutOfMemory;
-use dk_types::TypedRead;
 use std::alloc::Global;
 
 // A body and its pieces.
@@ -29,7 +30,7 @@ fn read_part(
     alloc: Global,
     names: &Names<'_>,
     levels: &[u32],
-    read: TypedRead,
+    read: PixelRead,
 ) -> Result<Part, OutOfMemory> {
     let mut text = Vec::new(alloc);
     push_read(

@@ -1,20 +1,26 @@
 // Bodies of a program as terms.
 
 use crate::expanded::Expander;
-use crate::term::{Term, TermNode};
+use body_terms::{PixelRead, Term, TermNode, boxed};
 use dk_base::OutOfMemory;
-use dk_types::{TypedExpr, TypedNode};
+use dk_types::{TypedExpr, TypedNode, TypedRead};
 use std::alloc::Global;
 
-pub(crate) fn boxed(alloc: Global, e: Term) -> Result<Box<Term>, OutOfMemory> {
-    Ok(Box::new(alloc, e)?)
+// The read of a program, for a term.
+fn read_of(read: TypedRead) -> PixelRead {
+    PixelRead {
+        image: read.image,
+        dx: read.dx,
+        dy: read.dy,
+        clamped: read.clamped,
+    }
 }
 
 // Whether the expanded expression has different values.
 fn varies(reads: &Expander<'_>, e: &TypedExpr) -> bool {
     match &e.node {
         TypedNode::Number(_) => false,
-        TypedNode::Read(read) => !reads.gives_constant(*read),
+        TypedNode::Read(read) => !reads.gives_constant(read_of(*read)),
         TypedNode::Unary(_, a) => varies(reads, a),
         TypedNode::Binary(_, a, b) => varies(reads, a) || varies(reads, b),
         TypedNode::Scale(_, a, _) => varies(reads, a),
@@ -35,9 +41,9 @@ pub(crate) fn term_of(
         TypedNode::Number(value) => TermNode::Number(*value),
         TypedNode::Read(read) => {
             if !stays {
-                return reads.replaced(alloc, *read, e.ty);
+                return reads.replaced(alloc, read_of(*read), e.ty);
             }
-            TermNode::Read(*read)
+            TermNode::Read(read_of(*read))
         }
         TypedNode::Unary(operator, a) => {
             let a = term_of(alloc, reads, a, as_written)?;

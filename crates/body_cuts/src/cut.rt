@@ -3,7 +3,7 @@
 use crate::choices::{Choice, cut_each, deepest, no_cuts, note_depths};
 use crate::draft::{Draft, make_draft, push_program};
 use crate::expanded::{Expanded, expanded_bodies};
-use crate::images::{Names, names_of};
+use crate::names::{Names, names_of};
 use crate::uncut::UncutBody;
 use dk_base::{MAX_DEFINITIONS, OutOfMemory};
 use dk_types::TypedProgram;

@@ -3,10 +3,11 @@
 use crate::body::{NO_LIMIT, cut_body};
 use crate::choices::Choice;
 use crate::expanded::Expanded;
-use crate::images::{Names, image_name};
+use crate::images::image_name;
+use crate::names::Names;
 use crate::pieces::Piece;
 use crate::uncut::{UncutBody, note_uncut};
-use body_text::{push_number, push_type};
+use body_terms::{push_number, push_type};
 use dk_base::{FrameSize, MAX_DEFINITIONS, OutOfMemory, Ty};
 use dk_types::{TypedDefinition, TypedProgram};
 use std::alloc::Global;

@@ -1,13 +1,14 @@
 // Bodies with the bodies of inline images in place of reads.
 
-use crate::copies::{boxed, term_of};
+use crate::copies::term_of;
 use crate::images::{definition_number, is_output, read_levels};
 use crate::levels::levels_of;
-use crate::moved::{MoveFault, framed, is_cut_off, moved};
 use crate::reached::reached;
-use crate::term::{Term, TermNode, is_constant, node_count};
+use body_terms::{
+    MoveFault, PixelRead, Term, TermNode, boxed, framed, is_constant, is_cut_off, moved, node_count,
+};
 use dk_base::{Conversion, OutOfMemory, Ty};
-use dk_types::{TypedProgram, TypedRead};
+use dk_types::TypedProgram;
 use std::alloc::{AllocError, Global};
 
 // The most nodes that replace reads, over all definitions.
@@ -65,12 +66,12 @@ fn substitute<'a>(
 
 impl<'a> Expander<'a> {
     // Whether the read is better than a choice by the frame test: it is within the limit by itself.
-    fn stays(&self, read: TypedRead) -> bool {
+    fn stays(&self, read: PixelRead) -> bool {
         is_cut_off(read) && read_levels(self.program, self.levels, read) <= self.most
     }
 
     // Whether the read is replaced by an expression of one value at all points.
-    pub(crate) fn gives_constant(&self, read: TypedRead) -> bool {
+    pub(crate) fn gives_constant(&self, read: PixelRead) -> bool {
         match substitute(self.program, self.before, read.image) {
             Some((expanded, _)) => expanded.is_constant && !is_cut_off(read),
             None => false,
@@ -81,7 +82,7 @@ impl<'a> Expander<'a> {
     pub(crate) fn replaced(
         &mut self,
         alloc: Global,
-        read: TypedRead,
+        read: PixelRead,
         ty: Ty,
     ) -> Result<Term, OutOfMemory> {
         let same = Term {

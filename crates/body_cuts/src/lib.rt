@@ -10,12 +10,11 @@ mod expanded;
 mod head;
 mod images;
 mod levels;
-mod moved;
+mod names;
 mod pieces;
 mod product;
 mod reached;
 mod repeats;
-mod term;
 mod uncut;
 
 pub use cut::{CutProgram, cut_program};

@@ -1,9 +1,8 @@
 // The pieces that a body is cut into.
 
-use crate::images::{END_OF_NUMBERS, Names, is_taken};
+use crate::names::{END_OF_NUMBERS, Names, is_taken};
 use crate::repeats::{Shift, are_equal, shared_shift};
-use crate::term::Term;
-use body_text::{Binding, Part, numbered, piece_read, push_read};
+use body_terms::{Binding, Part, Term, numbered, piece_read, push_read};
 use dk_base::{MAX_DEFINITIONS, MAX_NAME_BYTES, OutOfMemory};
 use std::alloc::Global;
 

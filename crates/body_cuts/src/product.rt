@@ -1,9 +1,8 @@
 // Products of wide factors, as sums of products of their halves.
 
-use crate::images::Names;
+use crate::names::Names;
 use crate::pieces::{Above, Pieces, cut};
-use crate::term::{Term, TermNode, is_constant};
-use body_text::{Part, binary, converted, scaled};
+use body_terms::{Part, Term, TermNode, binary, converted, is_constant, scaled};
 use dk_base::{Binary, Conversion, OutOfMemory, Scaling, Ty};
 use std::alloc::Global;
 

@@ -1,11 +1,9 @@
 // Parts of a body that are equal but for a move along the line: one definition serves all of them.
 
-use crate::copies::boxed;
-use crate::images::{Names, is_inline};
-use crate::levels::own_levels;
-use crate::term::{Term, TermNode};
+use crate::images::is_inline;
+use crate::names::Names;
+use body_terms::{PixelRead, Term, TermNode, boxed, own_levels};
 use dk_base::{Binary, OutOfMemory, Scaling};
-use dk_types::TypedRead;
 use std::alloc::Global;
 
 // How the reads of a part are moved, all by the same columns.
@@ -23,7 +21,7 @@ struct Moved<'a> {
 }
 
 // How a read is moved, if it is along the line.
-fn shift_of(names: &Names<'_>, read: TypedRead) -> Option<Shift> {
+fn shift_of(names: &Names<'_>, read: PixelRead) -> Option<Shift> {
     let is_held = read.clamped && read.dx == 0;
     if read.dy != 0 || is_held || is_inline(names.program, read.image) {
         return None;
@@ -79,7 +77,7 @@ pub(crate) fn shared_shift(names: &Names<'_>, e: &Term) -> Option<Shift> {
 fn still(alloc: Global, e: &Term) -> Result<Term, OutOfMemory> {
     let node = match &e.node {
         TermNode::Number(value) => TermNode::Number(*value),
-        TermNode::Read(read) => TermNode::Read(TypedRead {
+        TermNode::Read(read) => TermNode::Read(PixelRead {
             image: read.image,
             dx: 0,
             dy: read.dy,

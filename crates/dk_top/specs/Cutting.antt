@@ -1,5 +1,5 @@
 -- The lines that `cut` writes to Report, of the text that File holds.
-use Rattle.std.specs.Prelude.{◌≡◌, ℕ, List, [], ◌∷◌, ◌++◌, flat_map, Option, Some, codes, decimal}
+use Rattle.std.specs.Prelude.{◌≡◌, ℕ, ◌==◌, if◌then◌else◌, List, [], ◌++◌, length, flat_map, Option, Some, codes, decimal}
 use Rattle.dk_desk.specs.Calls.{IsIfTold}
 use Rattle.body_cuts.specs.declared.uncut.Reason.{Reason}
 use Rattle.body_cuts.specs.declared.uncut.Reason.TheVariants.{Operator, Limit, Name, Moved}
@@ -20,8 +20,7 @@ deep_words b = codes " " ++ b.name ++ codes " " ++ reason_word b.reason
 
 -- the line of the definitions of more levels than was asked; none if there are none
 abbrev pub over_line : (most : ℕ) → List DeepBody → List ℕ
-over_line most [] = []
-over_line most (b ∷ bs) = codes "cut: over " ++ decimal most ++ codes ":" ++ flat_map deep_words (b ∷ bs) ++ codes "\n"
+over_line most bs = if length bs == 0 then [] else codes "cut: over " ++ decimal most ++ codes ":" ++ flat_map deep_words bs ++ codes "\n"
 
 -- the lines of a text that was cut: its definitions and the most levels of operators of a body; and what has more levels than was asked
 abbrev pub cut_lines : (most : ℕ) → Measures → List ℕ

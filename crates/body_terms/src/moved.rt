@@ -1,14 +1,12 @@
 // The body of an image as a read sees it.
 
-use crate::copies::boxed;
-use crate::term::{Term, TermNode};
+use crate::term::{PixelRead, Term, TermNode, boxed};
 use dk_base::{MAX_OFFSET, OutOfMemory, Ty};
-use dk_types::TypedRead;
 use std::alloc::{AllocError, Global};
 
-// Why there is no body.
+/// Why there is no body.
 #[derive(Debug, Drop)]
-pub(crate) enum MoveFault {
+pub enum MoveFault {
     // Nothing can replace some read.
     NoRead,
     OutOfMemory,
@@ -38,21 +36,21 @@ fn clamped_sum(outer: i32, inner: i32) -> Option<i32> {
     sum(outer, inner)
 }
 
-fn is_still(read: TypedRead) -> bool {
+fn is_still(read: PixelRead) -> bool {
     read.dx == 0 && read.dy == 0
 }
 
-// Whether the read is 0 where its point is outside the frame.
-pub(crate) fn is_cut_off(read: TypedRead) -> bool {
+/// Whether the read is 0 where its point is outside the frame.
+pub fn is_cut_off(read: PixelRead) -> bool {
     !read.clamped && !is_still(read)
 }
 
 // The read that shows what `inner` shows at the clamped point of `outer`.
-fn clamped_read(outer: TypedRead, inner: TypedRead) -> Option<TypedRead> {
+fn clamped_read(outer: PixelRead, inner: PixelRead) -> Option<PixelRead> {
     if is_cut_off(inner) {
         return None;
     }
-    Some(TypedRead {
+    Some(PixelRead {
         image: inner.image,
         dx: clamped_sum(outer.dx, inner.dx)?,
         dy: clamped_sum(outer.dy, inner.dy)?,
@@ -61,8 +59,8 @@ fn clamped_read(outer: TypedRead, inner: TypedRead) -> Option<TypedRead> {
 }
 
 // The read that shows what `inner` shows at the point of `outer`, where that is in the frame.
-fn inside_read(outer: TypedRead, inner: TypedRead) -> Option<TypedRead> {
-    Some(TypedRead {
+fn inside_read(outer: PixelRead, inner: PixelRead) -> Option<PixelRead> {
+    Some(PixelRead {
         image: inner.image,
         dx: sum(outer.dx, inner.dx)?,
         dy: sum(outer.dy, inner.dy)?,
@@ -71,7 +69,7 @@ fn inside_read(outer: TypedRead, inner: TypedRead) -> Option<TypedRead> {
 }
 
 // The read that shows what `inner` shows at the point that `outer` reads. None if there is none.
-fn moved_read(outer: TypedRead, inner: TypedRead) -> Option<TypedRead> {
+fn moved_read(outer: PixelRead, inner: PixelRead) -> Option<PixelRead> {
     if is_still(outer) {
         Some(inner)
     } else if outer.clamped {
@@ -82,7 +80,7 @@ fn moved_read(outer: TypedRead, inner: TypedRead) -> Option<TypedRead> {
 }
 
 // The frame test at the point that `outer` reads. A clamped point has none.
-fn test_node(outer: TypedRead, dx: i32, dy: i32) -> Result<TermNode, MoveFault> {
+fn test_node(outer: PixelRead, dx: i32, dy: i32) -> Result<TermNode, MoveFault> {
     if is_still(outer) {
         return Ok(TermNode::InFrame(dx, dy));
     }
@@ -92,8 +90,8 @@ fn test_node(outer: TypedRead, dx: i32, dy: i32) -> Result<TermNode, MoveFault> 
     }
 }
 
-// An image's body at the point that the read sees, if that is in the frame.
-pub(crate) fn moved(alloc: Global, read: TypedRead, body: &Term) -> Result<Term, MoveFault> {
+/// An image's body at the point that the read sees, if that is in the frame.
+pub fn moved(alloc: Global, read: PixelRead, body: &Term) -> Result<Term, MoveFault> {
     let node = match &body.node {
         TermNode::Number(value) => TermNode::Number(*value),
         TermNode::Read(inner) => match moved_read(read, *inner) {
@@ -136,8 +134,8 @@ fn bit(node: TermNode) -> Term {
     }
 }
 
-// The body at the point that the read sees, and 0 where that is outside the frame and not clamped.
-pub(crate) fn framed(alloc: Global, read: TypedRead, body: Term) -> Result<Term, OutOfMemory> {
+/// The body at the point that the read sees, and 0 where that is outside the frame and not clamped.
+pub fn framed(alloc: Global, read: PixelRead, body: Term) -> Result<Term, OutOfMemory> {
     if !is_cut_off(read) {
         return Ok(body);
     }

@@ -1,22 +1,32 @@
 // Bodies as they are cut: those of a program, which may test whether a point is in the frame.
 
-use dk_base::{Binary, Conversion, Scaling, Ty, Unary};
-use dk_types::TypedRead;
+use dk_base::{Binary, Conversion, OutOfMemory, Scaling, Ty, Unary};
+use std::alloc::Global;
 
-// An expression and its type.
-#[derive(Drop)]
-#[cycle(term)]
-pub(crate) struct Term {
-    pub(crate) ty: Ty,
-    pub(crate) node: TermNode,
+/// A read of an image, by its number, at an offset. A clamped one brings the point to the frame's edge; any other is 0 outside the frame.
+#[derive(Clone, Copy)]
+pub struct PixelRead {
+    pub image: u32,
+    pub dx: i32,
+    pub dy: i32,
+    pub clamped: bool,
 }
 
+/// An expression and its type.
 #[derive(Drop)]
 #[cycle(term)]
-pub(crate) enum TermNode {
+pub struct Term {
+    pub ty: Ty,
+    pub node: TermNode,
+}
+
+/// The forms of an expression.
+#[derive(Drop)]
+#[cycle(term)]
+pub enum TermNode {
     Number(u64),
-    Read(TypedRead),
-    // 1 where the point that is moved by these columns and rows is in the frame, else 0.
+    Read(PixelRead),
+    /// 1 where the point that is moved by these columns and rows is in the frame, else 0.
     InFrame(i32, i32),
     Unary(Unary, Box<Term>),
     Binary(Binary, Box<Term>, Box<Term>),
@@ -25,8 +35,8 @@ pub(crate) enum TermNode {
     Select(Box<Term>, Box<Term>, Box<Term>),
 }
 
-// How many forms an expression has.
-pub(crate) fn node_count(e: &Term) -> usize {
+/// How many forms an expression has.
+pub fn node_count(e: &Term) -> usize {
     let operands = match &e.node {
         TermNode::Number(_) | TermNode::Read(_) | TermNode::InFrame(_, _) => 0,
         TermNode::Unary(_, a) => node_count(a),
@@ -40,8 +50,8 @@ pub(crate) fn node_count(e: &Term) -> usize {
     operands.saturating_add(1)
 }
 
-// Whether an expression has one value at all points.
-pub(crate) fn is_constant(e: &Term) -> bool {
+/// Whether an expression has one value at all points.
+pub fn is_constant(e: &Term) -> bool {
     match &e.node {
         TermNode::Number(_) => true,
         TermNode::Read(_) | TermNode::InFrame(_, _) => false,
@@ -51,4 +61,9 @@ pub(crate) fn is_constant(e: &Term) -> bool {
         TermNode::Convert(_, a) => is_constant(a),
         TermNode::Select(c, a, b) => is_constant(c) && is_constant(a) && is_constant(b),
     }
+}
+
+/// The expression in memory of its own.
+pub fn boxed(alloc: Global, e: Term) -> Result<Box<Term>, OutOfMemory> {
+    Ok(Box::new(alloc, e)?)
 }
