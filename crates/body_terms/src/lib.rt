@@ -2,13 +2,13 @@
 #![tactic(auto)]
 
 mod levels;
-mod moved;
+mod moves;
 mod part;
 mod term;
 mod words;
 
 pub use levels::{only_widens, own_levels};
-pub use moved::{MoveFault, framed, is_cut_off, moved};
+pub use moves::{MoveFault, framed, is_cut_off, moved};
 pub use part::{
     Binding, Part, binary, converted, most_levels, number, piece_read, scaled, selected, unary,
 };
