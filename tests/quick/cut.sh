@@ -3,18 +3,18 @@
 # usage: tests/quick/cut.sh PROGRAM
 . "$(dirname -- "$0")/cases.sh"
 
-# cuts NAME LINE LEVELS PROGRAM: the program is cut into out.dk, and this line is printed
+# cuts NAME LINES LEVELS PROGRAM: the program is cut into out.dk, and these lines are printed, with bytes as printf reads them
 cuts() {
     cases=$((cases + 1))
     rm -f out.dk
     "$program" cut "$3" "$4" out.dk >stdout 2>stderr
     got=$?
-    if [ "$got" != 0 ] || [ -s stderr ] || [ "$(cat stdout)" != "$2" ]; then
+    if [ "$got" != 0 ] || [ -s stderr ] || [ "$(cat stdout)" != "$(printf '%b' "$2")" ]; then
         wrong "$1, cut at $3: status $got, '$(cat stdout)', '$(cat stderr)', expected '$2'"
     fi
 }
 
-# Each line of calls/cuts.txt is what it shows, a number of levels, the line that `cut` prints, the program and the text that is wanted, with bytes as printf reads them.
+# Each line of calls/cuts.txt is what it shows, a number of levels, the lines that `cut` prints, the program and the text that is wanted, with bytes as printf reads them.
 while IFS=$tab read -r name levels line text wanted <&3; do
     printf '%b' "$text" >text.dk
     printf '%b' "$wanted" >wanted.dk
@@ -49,7 +49,7 @@ done 3<"$examples/programs/pictures.txt"
     printf 'let f = im(x,y) a(x,y) + a(x-1,y) + a(x-2,y) + a(x-3,y) end\noutput f\n'
 } >many.dk
 cuts 'room for a piece' 'cut: definitions 256 levels 2' 2 many.dk
-cuts 'no room for two pieces' 'cut: definitions 255 levels 3' 1 many.dk
+cuts 'no room for two pieces' 'cut: definitions 255 levels 3\ncut: over 1: f limit' 1 many.dk
 is 'a program that cannot be cut was changed' cmp -s many.dk out.dk
 
 # Inline images that nothing reads can be deeper than any limit: 22 of 505 casts each.

@@ -1,5 +1,5 @@
 -- Programs whose forms show the same pictures show the same pictures.
-use Rattle.std.proofs.Common.{◌≡◌, refl, arith, ℕ, ℤ, ◌<◌, ◌≤◌, List, length, map, take, slice_get, sym, ap, subst, ◌∙◌, Some}
+use Rattle.std.proofs.Common.{◌≡◌, refl, inl, inr, arith, ℕ, ℤ, ◌<◌, ◌≤◌, max, List, length, map, take, slice_get, sym, ap, subst, ◌∙◌, Some}
 use Rattle.std.specs.Prelude.{Contains, slice_index, option_map}
 use Rattle.std.proofs.lemmas.List.{length-map}
 use Rattle.std.proofs.Math.Seq.{take-append_seam}
@@ -12,7 +12,7 @@ use Rattle.dk_types.specs.Typed.{Typing, Definition, types_of}
 use Rattle.dk_types.specs.Meaning.{meaning}
 use Rattle.dk_types.specs.Reads.{output}
 use Rattle.pointwise_ir.specs.declared.program.Input.{Input}
-use Rattle.pointwise_ir.specs.Programs.{Program, names_of}
+use Rattle.pointwise_ir.specs.Programs.{Program, names_of, bodies_of}
 use Rattle.pointwise_ir.specs.Programs as P
 use Rattle.pointwise_ir.specs.Meaning.{IsPicture, pictures}
 use Rattle.pointwise_ir.specs.Meaning as R
@@ -20,7 +20,9 @@ use Rattle.dk_inline.specs.Inlined.{Stays}
 use Rattle.pointwise_ir.proofs.Pictured.{mapped_entry}
 use Rattle.dk_compile.specs.Fronts.{IsForm}
 use Rattle.same_pictures.specs.Same.{HaveSamePictures}
-use Rattle.dk_compile.specs.Cuts.{IsRound, output_picture, ShowSamePictures, KeepsPictures, HasMeasures, HasLevels, IsCutOf}
+use Rattle.body_levels.specs.Levels.{greatest_level}
+use Rattle.body_levels.specs.Deep.{IsShallower}
+use Rattle.dk_compile.specs.Cuts.{IsRound, output_picture, ShowSamePictures, KeepsPictures, IsInlinedText, IsCutOf}
 use Rattle.dk_compile.specs.Judged.{HasForm, ShowsFormOf}
 
 long_inputs : (p : Typing) (ir : Program) → IsForm p ir → length ir.inputs ≡ length p.inputs
@@ -124,30 +126,29 @@ keeps_itself source old has = record {
   };
 }
 
-levels_of : (text : List ℕ) (definitions levels : ℕ) → HasMeasures text definitions levels → HasLevels text levels
-levels_of text definitions levels has = record { program = has.program; is_text = has.is_text; levels_are = has.levels_are }
-
 -- a source that is returned
-pub cut_itself : (source text : List ℕ) (old : Program) (most definitions levels : ℕ) → HasForm source old → text ≡ source → HasMeasures text definitions levels → IsCutOf source most text
-cut_itself source text old most definitions levels has same measures = record {
+pub cut_itself : (source text : List ℕ) (old : Program) (most : ℕ) (form : Program) → HasForm source old → text ≡ source → IsInlinedText source form → IsCutOf source most text
+cut_itself source text old most form has same is = record {
   keeps = subst (λ (t : List ℕ). KeepsPictures source t) (sym same) (keeps_itself source old has);
-  before = levels;
-  after = levels;
-  was = subst (λ (t : List ℕ). HasLevels t levels) same (levels_of text definitions levels measures);
-  is = levels_of text definitions levels measures;
+  before = form;
+  after = form;
+  was = is;
+  is = subst (λ (t : List ℕ). IsInlinedText t form) (sym same) is;
   no_deeper = omega (arith);
   stays = λ within. same;
+  shallower = inl same;
 }
 
 -- a text that is returned in place of a source which has more levels than asked
-pub cut_below : (source same text : List ℕ) (most definitions levels more deepest : ℕ) → same ≡ source → HasMeasures same more deepest → KeepsPictures source text → HasMeasures text definitions levels → most < deepest → levels ≤ deepest →
-    IsCutOf source most text
-cut_below source same text most definitions levels more deepest is was keeps measures above below = record {
+pub cut_below : (source text : List ℕ) (most : ℕ) (before after : Program) → KeepsPictures source text → IsInlinedText source before → IsInlinedText text after → most < greatest_level (bodies_of before)
+    → greatest_level (bodies_of after) ≤ max most (greatest_level (bodies_of before)) → IsShallower most before after → IsCutOf source most text
+cut_below source text most before after keeps was is deep below fewer = record {
   keeps = keeps;
-  before = deepest;
-  after = levels;
-  was = subst (λ (t : List ℕ). HasLevels t deepest) is (levels_of same more deepest was);
-  is = levels_of text definitions levels measures;
-  no_deeper = omega (arith, above, below);
-  stays = λ within. absurd (let no : ⊥ = omega (arith, above, within) in no);
+  before = before;
+  after = after;
+  was = was;
+  is = is;
+  no_deeper = below;
+  stays = λ within. absurd (let no : ⊥ = omega (arith, deep, within) in no);
+  shallower = inr fewer;
 }

@@ -1,14 +1,17 @@
 -- Programs whose bodies are cut: what must stay, and what is measured.
-use Rattle.std.specs.Prelude.{◌≡◌, ℕ, ◌<◌, ◌≤◌, max, ℤ, List, length, map, slice_get, slice_index, Some}
+use Rattle.std.specs.Prelude.{◌≡◌, ◌⊎◌, ℕ, ◌<◌, ◌≤◌, max, ℤ, List, length, map, slice_get, slice_index, Some}
 use Rattle.dk_base.specs.Frames.{Picture, picture_at}
 use Rattle.dk_types.specs.declared.typed.TypedInput.{TypedInput}
 use Rattle.dk_types.specs.Typed.{Typing, types_of}
 use Rattle.dk_types.specs.Meaning.{meaning}
 use Rattle.pointwise_ir.specs.Meaning.{IsPicture}
-use Rattle.dk_inline.specs.Inlined.{bodies}
-use Rattle.dk_inline.specs.Answers.{image_names}
+use Rattle.pointwise_ir.specs.Programs.{Program, bodies_of}
+use Rattle.dk_inline.specs.Answers.{image_names, IsInlining}
 use Rattle.dk_compile.specs.Sources.{IsText, IsAccepted}
 use Rattle.body_levels.specs.Levels.{greatest_level}
+use Rattle.body_levels.specs.Deep.{deep_names, IsShallower}
+use Rattle.dk_compile.specs.declared.measures.Measures.{Measures}
+use Rattle.dk_compile.specs.declared.measures.DeepBody.{DeepBody}
 
 -- one frame for each input in order: its picture
 pub record IsRound (p : Typing) (round : List Picture) : Type 0 where
@@ -37,26 +40,27 @@ pub record KeepsPictures (source text : List ℕ) : Type 0 where
   pub accepted : IsAccepted text new
   pub same : ShowSamePictures old new
 
--- how many definitions the text's program has, and the most levels of operators of a body
-pub record HasMeasures (text : List ℕ) (definitions levels : ℕ) : Type 0 where
+-- the text's program with its inline images substituted, as its levels are counted
+pub record IsInlinedText (text : List ℕ) (form : Program) : Type 0 where
   pub program : Typing
   pub is_text : IsText text program
-  pub definitions_are : definitions ≡ length program.definitions
-  pub levels_are : levels ≡ greatest_level (bodies program)
+  pub inlined : IsInlining program form
 
--- the most levels of operators of a body of the text's program
-pub record HasLevels (text : List ℕ) (levels : ℕ) : Type 0 where
-  pub program : Typing
-  pub is_text : IsText text program
-  pub levels_are : levels ≡ greatest_level (bodies program)
+-- What is counted of a text: its definitions, the most levels of operators of a body, and by name, in order, the definitions of more than `most` levels.
+pub record HasMeasures (text : List ℕ) (most : ℕ) (m : Measures) : Type 0 where
+  pub form : Program
+  pub is_form : IsInlinedText text form
+  pub definitions : m.definitions ≡ length form.images
+  pub levels : m.levels ≡ greatest_level (bodies_of form)
+  pub deep : map (λ (b : DeepBody). b.name) m.deep.items ≡ deep_names most form
 
--- The text is what a source is cut to, where its bodies are to have at most `most` levels: it shows the same pictures, has no more levels than these or
--- than the source has, and is the source where that has no more levels than these.
+-- The text is what a source is cut to, where its bodies are to have at most `most` levels. It shows the same pictures, and has no more levels than these or than the source has. It is the source where that has no more levels than these, and where no body would have fewer.
 pub record IsCutOf (source : List ℕ) (most : ℕ) (text : List ℕ) : Type 0 where
   pub keeps : KeepsPictures source text
-  pub before : ℕ
-  pub after : ℕ
-  pub was : HasLevels source before
-  pub is : HasLevels text after
-  pub no_deeper : after ≤ max most before
-  pub stays : before ≤ most → text ≡ source
+  pub before : Program
+  pub after : Program
+  pub was : IsInlinedText source before
+  pub is : IsInlinedText text after
+  pub no_deeper : greatest_level (bodies_of after) ≤ max most (greatest_level (bodies_of before))
+  pub stays : greatest_level (bodies_of before) ≤ most → text ≡ source
+  pub shallower : (text ≡ source) ⊎ IsShallower most before after

@@ -6,14 +6,17 @@ mod compiling;
 mod cutting;
 mod fault;
 mod laws;
+mod measures;
 mod options;
 mod reading;
 
 pub use accepted::Front;
+pub use body_cuts::Reason;
 pub use compiling::{Compiled, PlannedProgram, compile, compile_with, planned};
 pub use cutting::{CutText, cut};
 pub use fault::SourceError;
 pub use laws::{drive_shows_law, one_at_age_law, one_source_law};
+pub use measures::{DeepBody, Measures};
 pub use options::Options;
 pub use reading::{front, typed};
 pub use source_fault::SourceFault;

@@ -1,22 +1,40 @@
--- The line that `cut` writes to Report, of the text that File holds.
-use Rattle.std.specs.Prelude.{◌≡◌, ℕ, List, ◌++◌, Option, Some, codes, decimal}
+-- The lines that `cut` writes to Report, of the text that File holds.
+use Rattle.std.specs.Prelude.{◌≡◌, ℕ, ◌==◌, if◌then◌else◌, List, [], ◌++◌, length, flat_map, Option, Some, codes, decimal}
 use Rattle.dk_desk.specs.Calls.{IsIfTold}
+use Rattle.body_cuts.specs.declared.uncut.Reason.{Reason}
+use Rattle.body_cuts.specs.declared.uncut.Reason.TheVariants.{Operator, Limit, Name, Moved}
+use Rattle.dk_compile.specs.declared.measures.DeepBody.{DeepBody}
+use Rattle.dk_compile.specs.declared.measures.Measures.{Measures}
 use Rattle.dk_compile.specs.Cuts.{IsCutOf, HasMeasures}
 
--- the line of a text that was cut: its definitions, and the most levels of operators of a body
-abbrev pub cut_line : (definitions levels : ℕ) → List ℕ
-cut_line definitions levels = codes "cut: definitions " ++ decimal definitions ++ codes " levels " ++ decimal levels ++ codes "\n"
+-- why a body has more levels than was asked
+abbrev pub reason_word : Reason → List ℕ
+reason_word Operator = codes "operator"
+reason_word Limit = codes "limit"
+reason_word Name = codes "name"
+reason_word Moved = codes "moved"
 
--- the line reports the measures of the text
-pub record IsCutLine (text line : List ℕ) : Type 0 where
-  pub definitions : ℕ
-  pub levels : ℕ
-  pub measured : HasMeasures text definitions levels
-  pub line_is : line ≡ cut_line definitions levels
+-- a definition's name and the reason
+abbrev pub deep_words : DeepBody → List ℕ
+deep_words b = codes " " ++ b.name ++ codes " " ++ reason_word b.reason
 
--- The line is that of a text that the source was cut to, where `most` levels were requested. If the desk specifies File, it is the text that File holds.
-pub record IsLineOfStored (source : List ℕ) (most : ℕ) (stored : Option (List ℕ)) (line : List ℕ) : Type 0 where
+-- the line of the definitions of more levels than was asked; none if there are none
+abbrev pub over_line : (most : ℕ) → List DeepBody → List ℕ
+over_line most bs = if length bs == 0 then [] else codes "cut: over " ++ decimal most ++ codes ":" ++ flat_map deep_words bs ++ codes "\n"
+
+-- the lines of a text that was cut: its definitions and the most levels of operators of a body; and what has more levels than was asked
+abbrev pub cut_lines : (most : ℕ) → Measures → List ℕ
+cut_lines most m = codes "cut: definitions " ++ decimal m.definitions ++ codes " levels " ++ decimal m.levels ++ codes "\n" ++ over_line most m.deep.items
+
+-- the lines report the measures of the text
+pub record AreCutLines (text : List ℕ) (most : ℕ) (lines : List ℕ) : Type 0 where
+  pub measures : Measures
+  pub measured : HasMeasures text most measures
+  pub lines_are : lines ≡ cut_lines most measures
+
+-- The lines are those of a text that the source was cut to, where `most` levels were asked. If the desk specifies File, it is the text that File holds.
+pub record AreLinesOfStored (source : List ℕ) (most : ℕ) (stored : Option (List ℕ)) (lines : List ℕ) : Type 0 where
   pub text : List ℕ
   pub is_cut : IsCutOf source most text
   pub told : IsIfTold stored (Some text)
-  pub is_line : IsCutLine text line
+  pub are_lines : AreCutLines text most lines
