@@ -67,7 +67,7 @@ class Calls:
     def levels(self, levels, name, out):
         """The levels that `cut` prints, or None if it fails."""
         said = self.call("cut", str(levels), name, out)
-        return None if said.returncode else int(said.stdout.split()[-1])
+        return None if said.returncode else int(said.stdout.split()[4])
 
     def text(self, name):
         with open(f"{self.folder}/{name}") as file:

@@ -288,7 +288,7 @@ usage_fault <<'end'
 The command is missing. `./dk --help` shows the commands and options.
 end
 usage_fault ru p.dk i.pgm o.pgm <<'end'
-There is no command `ru`. The commands are: run compile plan sim eval make check trace cut. `./dk --help` shows the commands and options.
+There is no command `ru`. The commands are: run compile plan sim eval make check trace cut narrow. `./dk --help` shows the commands and options.
 end
 usage_fault -- run p.dk i.pgm o.pgm <<'end'
 The command comes first, but `--` begins with a hyphen. `./dk --help` shows the commands and options.
@@ -371,6 +371,7 @@ taken sim v.v 4 i.pgm 4 --hold=1000000 --fill ones
 taken plan -- --age
 taken make 0000000000000000000000000000000000000000000000000000004194303
 taken cut 064 p.dk o.dk
+taken narrow p.dk o.dk
 
 # The help page has a line for each command and option, of 80 columns at most.
 help_page >page
@@ -456,7 +457,7 @@ p.dk:3:17
                     ^
 No input and no earlier definition has this name; an image cannot read itself or a later one.
 end
-    for words in 'plan p.dk' 'run --age 1 p.dk none.pgm o.pgm' 'eval p.dk - o.pgm' 'compile --enable --block 2 p.dk o.v' 'cut 1 p.dk o.dk' 'check p.dk none.txt'; do
+    for words in 'plan p.dk' 'run --age 1 p.dk none.pgm o.pgm' 'eval p.dk - o.pgm' 'compile --enable --block 2 p.dk o.v' 'cut 1 p.dk o.dk' 'narrow p.dk o.dk' 'check p.dk none.txt'; do
         terminal 3 "'$top/dk' $words" <place
     done
     terminal 3 "cat i.pgm | '$top/dk' run p.dk /dev/stdin o.pgm" <place

@@ -94,7 +94,7 @@ class Calls:
 
     def judge(self, words, files, answer):
         command, status = words[0], answer.status
-        writes = command in ("run", "eval", "compile", "cut", "sim", "trace")
+        writes = command in ("run", "eval", "compile", "cut", "narrow", "sim", "trace")
         if status not in LINES:
             return self.wrong(words, files, f"ends with status {status}: {answer.line[:200]}")
         if not re.fullmatch(LINES[status], answer.line):
@@ -126,13 +126,14 @@ class Calls:
         files = {"p.dk": text, "i.pgm": image}
         answer = self.agree(["eval", "p.dk", "i.pgm", "out"], ["run", "p.dk", "i.pgm", "out"], files)
         made = self.call(["compile", "p.dk", "out"], files)
-        cut = self.call(["cut", "1", "p.dk", "out"], files)
-        if cut and made and (cut.status, cut.line) != (made.status, made.line):
-            self.wrong(["cut", "1", "p.dk", "out"], files, "does not agree with compile")
-        if cut and cut.status == 0 and answer and answer.status == 0:
-            shown = self.call(["eval", "c.dk", "i.pgm", "out"], {"c.dk": cut.file, "i.pgm": image})
-            if shown and (shown.status, shown.file) != (0, answer.file):
-                self.wrong(["cut", "1", "p.dk", "out"], files, "shows another picture")
+        for words in (["cut", "1", "p.dk", "out"], ["narrow", "p.dk", "out"]):
+            other = self.call(words, files)
+            if other and made and (other.status, other.line) != (made.status, made.line):
+                self.wrong(words, files, "does not agree with compile")
+            if other and other.status == 0 and answer and answer.status == 0:
+                shown = self.call(["eval", "c.dk", "i.pgm", "out"], {"c.dk": other.file, "i.pgm": image})
+                if shown and (shown.status, shown.file) != (0, answer.file):
+                    self.wrong(words, files, "shows another picture")
         plan = self.call(["plan", "p.dk"], files)
         if answer and made and plan and (answer.status == 3) != (made.status == 3) or plan and made and plan[:2] != made[:2]:
             self.wrong(["plan", "p.dk"], files, "does not agree with compile or eval")

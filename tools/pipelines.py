@@ -93,9 +93,9 @@ def main(program, names):
                 with open(whole, "w", encoding="ascii") as file:
                     file.write(re.sub(r"(?m)^size .*$", f"size {width} {height}", text))
                 # the levels of a program are those that `cut 64` reports of it, unless some body has more
-                levels = run(program, "cut", "64", whole, cut).split()[-1]
+                levels = run(program, "cut", "64", whole, cut).split()[4]
                 rows = [Costs(program, whole, 0).row(name, levels)]
-                levels = run(program, "cut", "1", whole, cut).split()[-1]
+                levels = run(program, "cut", "1", whole, cut).split()[4]
                 rows.append(Costs(program, cut, 1).row(name + ", cut 1, age 1", levels))
                 for row in rows:
                     print("| " + " | ".join(map(str, row)) + " |", flush=True)

@@ -17,7 +17,7 @@ function __dk_words
     switch "$words[2]"
         case run eval
             set kinds .dk .pgm any
-        case compile check
+        case compile check narrow
             set kinds .dk any
         case plan
             set kinds .dk
@@ -66,10 +66,11 @@ complete -c dk -n __dk_command -a make -d 'test the tool on a program made from 
 complete -c dk -n __dk_command -a check -d 'judge a report'
 complete -c dk -n __dk_command -a trace -d 'write the value change dump of a Verilog text'
 complete -c dk -n __dk_command -a cut -d 'write a program with fewer levels of operators'
+complete -c dk -n __dk_command -a narrow -d 'write a program with narrower images'
 complete -c dk -n __dk_command -a help -d 'print the commands and options, or the help of a command'
 complete -c dk -n __dk_command -l version -d 'print the version, the kit and the sources'
 complete -c dk -n 'not contains -- -- (commandline -opc)' -s h -l help -d 'print help'
-complete -c dk -n '__dk_command help' -a 'run compile plan sim eval make check trace cut'
+complete -c dk -n '__dk_command help' -a 'run compile plan sim eval make check trace cut narrow'
 complete -c dk -n '__dk_command run compile plan' -x -l age -d 'least age of a live read, 0 to 64'
 complete -c dk -n '__dk_command compile' -l enable -d 'add a clock enable'
 complete -c dk -n '__dk_command compile' -x -l block -d 'fewest words of a block memory, 2 to 67108864'

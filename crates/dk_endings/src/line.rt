@@ -20,14 +20,14 @@ use stimulus::Stop;
 use verilog_text::{LexKind as TokenKind, LimitKind};
 
 /// The room for a line to Fault, in bytes.
-pub const LINE_BYTES: usize = 256;
+pub const LINE_BYTES: usize = 512;
 
 /// A line to Fault, in room of its own.
 pub type Line = ArrayString<LINE_BYTES>;
 
 // A line of one text.
 fn plain(text: &str) -> Line
-    requires { length text.now ≤ 256 }
+    requires { length text.now ≤ 512 }
     ensures { result.bytes ≡ text.now }
 {
     let mut line = Line::new();
@@ -37,7 +37,7 @@ fn plain(text: &str) -> Line
 
 // Adds a number, in decimal.
 fn push_number(line: &mut Line, number: u128)
-    requires { length line.old.bytes + 39 ≤ 256 }
+    requires { length line.old.bytes + 39 ≤ 512 }
     ensures number { line.new.bytes ≡ line.old.bytes ++ decimal number }
     ensures room { length line.new.bytes ≤ length line.old.bytes + 39 }
 {
@@ -214,7 +214,7 @@ fn verilog_line(fault: &VerilogFault) -> Line
 
 // Adds a number with its sign, in decimal.
 fn push_signed(line: &mut Line, number: i64)
-    requires { length line.old.bytes + 20 ≤ 256 }
+    requires { length line.old.bytes + 20 ≤ 512 }
     ensures number { line.new.bytes ≡ line.old.bytes ++ signed_decimal number }
     ensures room { length line.new.bytes ≤ length line.old.bytes + 20 }
 {
@@ -290,7 +290,7 @@ impl Ending {
         match self {
             Ending::Done => plain(""),
             Ending::Usage => plain(
-                "usage: run [--age K] PROG IN OUT | compile [--enable] [--age K] [--block N] PROG OUT | plan [--age K] PROG | sim VERILOG CLOCKS IN OUT [--fill FILL] [--hold K] | eval PROG IN OUT | make N | check PROG REPORT | trace VERILOG CLOCKS IN VCD | cut N PROG OUT\n",
+                "usage: run [--age K] PROG IN OUT | compile [--enable] [--age K] [--block N] PROG OUT | plan [--age K] PROG | sim VERILOG CLOCKS IN OUT [--fill FILL] [--hold K] | eval PROG IN OUT | make N | check PROG REPORT | trace VERILOG CLOCKS IN VCD | cut N PROG OUT | narrow PROG OUT\n",
             ),
             Ending::Source(fault) => source_line(fault),
             Ending::Image(ImageFault::TooLong) => {

@@ -14,7 +14,7 @@ use Rattle.dk_top.specs.Output.{output_file}
 use Rattle.dk_endings.specs.declared.ending.Ending.{Ending}
 use Rattle.dk_endings.specs.declared.ending.Ending.TheVariants as ending
 use Rattle.dk_top.specs.Verdict.{Terms, Files, bytes_of, eval_terms, OfPair, OnFiles, IsVerdict}
-use Rattle.dk_top.specs.Command.{Command, run, eval, compile, sim, trace, plan, check, make, cut}
+use Rattle.dk_top.specs.Command.{Command, run, eval, compile, sim, trace, plan, check, make, rewrite}
 use Rattle.dk_desk.specs.declared.Stage.{Stage}
 use Rattle.dk_top.specs.State.{AsksInOrder, CreatesBy, ReadsBy, IsNoted, IsReported}
 use Rattle.dk_top.specs.Reading.{AreRead, IsRead}
@@ -46,7 +46,7 @@ same_order : (c : Command) (f : Files) (mid new : Outside) → new.image ≡ mid
 same_order (run p i o a) f mid new same h = λ asked. h (subst (λ (s : Input). s.stage ≢ Unasked) same asked)
 same_order (eval p i o) f mid new same h = λ asked. h (subst (λ (s : Input). s.stage ≢ Unasked) same asked)
 same_order (compile p o e a b) f mid new same h = tt
-same_order (cut n p o) f mid new same h = tt
+same_order (rewrite how p o) f mid new same h = tt
 same_order (trace v c i o) f mid new same h = λ asked. h (subst (λ (s : Input). s.stage ≢ Unasked) same asked)
 same_order (make n) f mid new same h = tt
 same_order (sim v c i o p k) f mid new same h = λ asked. h (subst (λ (s : Input). s.stage ≢ Unasked) same asked)
@@ -62,8 +62,8 @@ on_all (eval p i o) None P h = tt
 on_all (eval p i o) (Some f) P h = h f
 on_all (compile p o e a b) None P h = tt
 on_all (compile p o e a b) (Some f) P h = h f
-on_all (cut n p o) None P h = tt
-on_all (cut n p o) (Some f) P h = h f
+on_all (rewrite how p o) None P h = tt
+on_all (rewrite how p o) (Some f) P h = h f
 on_all (sim v c i o p h') None P h = tt
 on_all (sim v c i o p h') (Some f) P h = h f
 on_all (trace v c i o) None P h = tt
@@ -82,8 +82,8 @@ on_each (eval p i o) None P Q g h = tt
 on_each (eval p i o) (Some f) P Q g h = g f h
 on_each (compile p o e a b) None P Q g h = tt
 on_each (compile p o e a b) (Some f) P Q g h = g f h
-on_each (cut n p o) None P Q g h = tt
-on_each (cut n p o) (Some f) P Q g h = g f h
+on_each (rewrite how p o) None P Q g h = tt
+on_each (rewrite how p o) (Some f) P Q g h = g f h
 on_each (sim v c i o p h') None P Q g h = tt
 on_each (sim v c i o p h') (Some f) P Q g h = g f h
 on_each (trace v c i o) None P Q g h = tt
@@ -102,7 +102,7 @@ memory_verdict : (c : Command) (f : Files) → IsVerdict c f ending.Memory
 memory_verdict (run p i o a) f = tt
 memory_verdict (eval p i o) f = tt
 memory_verdict (compile p o e a b) f = tt
-memory_verdict (cut n p o) f = tt
+memory_verdict (rewrite how p o) f = tt
 memory_verdict (trace v c i o) f = tt
 memory_verdict (make n) f = tt
 memory_verdict (sim v c i o p h) f = tt
@@ -118,7 +118,7 @@ unasked_order : (c : Command) (f : Files) (o : Outside) → o.image.stage ≡ Un
 unasked_order (run p i out a) f o fresh = λ asked. absurd (asked fresh)
 unasked_order (eval p i out) f o fresh = λ asked. absurd (asked fresh)
 unasked_order (compile p out e a b) f o fresh = tt
-unasked_order (cut n p out) f o fresh = tt
+unasked_order (rewrite how p out) f o fresh = tt
 unasked_order (trace v c i out) f o fresh = λ asked. absurd (asked fresh)
 unasked_order (make n) f o fresh = tt
 unasked_order (sim v c i out p h) f o fresh = λ asked. absurd (asked fresh)
@@ -133,7 +133,7 @@ usage_report : (c : Command) (f : Files) (stored r : Option (List ℕ)) → IsRe
 usage_report (run p i o a) f stored r = refl
 usage_report (eval p i o) f stored r = refl
 usage_report (compile p o e a b) f stored r = refl
-usage_report (cut n p o) f stored r = refl
+usage_report (rewrite how p o) f stored r = refl
 usage_report (trace v c i o) f stored r = refl
 usage_report (make n) f stored r = refl
 usage_report (sim v c i o p h) f stored r = refl
@@ -144,7 +144,7 @@ memory_report : (c : Command) (f : Files) (stored r : Option (List ℕ)) → IsR
 memory_report (run p i o a) f stored r = refl
 memory_report (eval p i o) f stored r = refl
 memory_report (compile p o e a b) f stored r = refl
-memory_report (cut n p o) f stored r = refl
+memory_report (rewrite how p o) f stored r = refl
 memory_report (trace v c i o) f stored r = refl
 memory_report (make n) f stored r = refl
 memory_report (sim v c i o p h) f stored r = refl
@@ -160,7 +160,7 @@ usage_notes : (c : Command) (f : Files) (n : Option (List (Bool × ℕ))) → Is
 usage_notes (run p i o a) f n = tt
 usage_notes (eval p i o) f n = refl
 usage_notes (compile p o e a b) f n = refl
-usage_notes (cut k p o) f n = refl
+usage_notes (rewrite how p o) f n = refl
 usage_notes (trace v c i o) f n = refl
 usage_notes (make k) f n = tt
 usage_notes (sim v c i o p h) f n = tt
@@ -171,7 +171,7 @@ memory_notes : (c : Command) (f : Files) (n : Option (List (Bool × ℕ))) → I
 memory_notes (run p i o a) f n = tt
 memory_notes (eval p i o) f n = refl
 memory_notes (compile p o e a b) f n = refl
-memory_notes (cut k p o) f n = refl
+memory_notes (rewrite how p o) f n = refl
 memory_notes (trace v c i o) f n = refl
 memory_notes (make k) f n = tt
 memory_notes (sim v c i o p h) f n = tt
@@ -187,7 +187,7 @@ usage_begun : (c : Command) (f : Files) (s : Stage) → CreatesBy c ending.Usage
 usage_begun (run p i o a) f s = tt
 usage_begun (eval p i o) f s = tt
 usage_begun (compile p o e a b) f s = tt
-usage_begun (cut n p o) f s = tt
+usage_begun (rewrite how p o) f s = tt
 usage_begun (trace v c i o) f s = tt
 usage_begun (make k) f s = tt
 usage_begun (sim v c i o p h) f s = tt
@@ -198,7 +198,7 @@ memory_begun : (c : Command) (f : Files) (s : Stage) → CreatesBy c ending.Memo
 memory_begun (run p i o a) f s = tt
 memory_begun (eval p i o) f s = tt
 memory_begun (compile p o e a b) f s = tt
-memory_begun (cut n p o) f s = tt
+memory_begun (rewrite how p o) f s = tt
 memory_begun (trace v c i o) f s = tt
 memory_begun (make k) f s = tt
 memory_begun (sim v c i o p h) f s = tt
@@ -214,7 +214,7 @@ usage_reads : (c : Command) (f : Files) (i : Input) (s : Stage) → ReadsBy c en
 usage_reads (run p i o a) f slot s = tt
 usage_reads (eval p i o) f slot s = tt
 usage_reads (compile p o e a b) f slot s = tt
-usage_reads (cut n p o) f slot s = tt
+usage_reads (rewrite how p o) f slot s = tt
 usage_reads (trace v c i o) f slot s = tt
 usage_reads (make k) f slot s = tt
 usage_reads (sim v c i o p h) f slot s = tt
@@ -225,7 +225,7 @@ memory_reads : (c : Command) (f : Files) (i : Input) (s : Stage) → ReadsBy c e
 memory_reads (run p i o a) f slot s = tt
 memory_reads (eval p i o) f slot s = tt
 memory_reads (compile p o e a b) f slot s = tt
-memory_reads (cut n p o) f slot s = tt
+memory_reads (rewrite how p o) f slot s = tt
 memory_reads (trace v c i o) f slot s = tt
 memory_reads (make k) f slot s = tt
 memory_reads (sim v c i o p h) f slot s = tt

@@ -18,7 +18,7 @@ use Rattle.dk_endings.specs.declared.verilog.VerilogFault.{VerilogFault}
 use Rattle.dk_endings.specs.declared.verilog.VerilogFault.TheVariants as verilog
 use Rattle.dk_top.specs.Compiling.{IsCompiledFrom}
 use Rattle.dk_top.specs.Verdict.{Files, bytes_of, OnFiles, IsRunAnswer}
-use Rattle.dk_top.specs.Command.{Command, run, eval, compile, sim, trace, plan, check, make, cut}
+use Rattle.dk_top.specs.Command.{Command, run, eval, compile, sim, trace, plan, check, make, rewrite}
 use Rattle.dk_top.specs.State.{LeavesRest, LeavesText, LeavesImages, LeavesBoth, TakesNoMore, AsksWhere, AsksWhereModule}
 use Rattle.dk_top.specs.Reading.{IsSourceEnding, IsUnread, TellsNoText, TellsNoImages}
 use Rattle.dk_top.specs.Simulating.{IsModuleEnding}
@@ -192,7 +192,7 @@ usage_left : (c : Command) (f : Files) (i j : Input) → TakesNoMore c ending.Us
 usage_left (run p im o a) f i j = tt
 usage_left (eval p im o) f i j = (tt, tt)
 usage_left (compile p o e a b) f i j = tt
-usage_left (cut n p o) f i j = tt
+usage_left (rewrite how p o) f i j = tt
 usage_left (trace v c im o) f i j = (tt, tt)
 usage_left (make k) f i j = tt
 usage_left (sim v c im o p h) f i j = (tt, tt)
@@ -203,7 +203,7 @@ memory_left : (c : Command) (f : Files) (i j : Input) → TakesNoMore c ending.M
 memory_left (run p im o a) f i j = tt
 memory_left (eval p im o) f i j = (tt, tt)
 memory_left (compile p o e a b) f i j = tt
-memory_left (cut n p o) f i j = tt
+memory_left (rewrite how p o) f i j = tt
 memory_left (trace v c im o) f i j = (tt, tt)
 memory_left (make k) f i j = tt
 memory_left (sim v c im o p h) f i j = (tt, tt)

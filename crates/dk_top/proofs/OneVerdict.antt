@@ -2,7 +2,7 @@
 use Rattle.std.proofs.Common.{◌≡◌, inl, inr, ℕ, List, Option, None, Some, IfSome, refl, sym, subst}
 use Rattle.dk_endings.specs.declared.ending.Ending.{Ending}
 use Rattle.dk_endings.specs.declared.ending.Ending.TheVariants as ending
-use Rattle.dk_top.specs.Command.{Command, run, eval, compile, sim, trace, plan, check, make, cut}
+use Rattle.dk_top.specs.Command.{Command, run, eval, compile, sim, trace, plan, check, make, rewrite}
 use Rattle.made_program.specs.Programs.{program_of}
 use Rattle.dk_top.specs.Simulation.{drive_of}
 use Rattle.dk_top.proofs.CommandLemmas.{on_each}
@@ -64,7 +64,7 @@ one_verdict l (plan program age) files a b j k x y = alike_of a b (program_answe
 one_verdict l (check program report) files a b j k x y =
     alike_of a b (check_answer l.front_accepted l.text_apart l.one_text l.wrong_apart l.one_line (bytes_of files program) (bytes_of files report) a b j k x y)
 one_verdict l (make number) files a b j k x y = alike_of a b (program_answer l.apart_at l.fault_at 0 (program_of number) a b j k x y)
-one_verdict l (cut levels program out) files a b j k x y = alike_of a b (program_answer l.apart_at l.fault_at 0 (bytes_of files program) a b j k x y)
+one_verdict l (rewrite how program out) files a b j k x y = alike_of a b (program_answer l.apart_at l.fault_at 0 (bytes_of files program) a b j k x y)
 
 -- what is good can be done
 good_verdict : (command : Command) (files : Files) → IsGood command files → IsVerdict command files ending.Done
@@ -76,7 +76,7 @@ good_verdict (trace verilog clocks image vcd) files good = good
 good_verdict (plan program age) files good = good
 good_verdict (check program report) files good = good
 good_verdict (make number) files good = good
-good_verdict (cut levels program out) files good = good
+good_verdict (rewrite how program out) files good = good
 
 -- no command ends as if its words were refused
 no_usage : (command : Command) (files : Files) → IsVerdict command files ending.Usage → ⊥
@@ -88,7 +88,7 @@ no_usage (trace verilog clocks image vcd) files is = is
 no_usage (plan program age) files is = is
 no_usage (check program report) files is = is
 no_usage (make number) files is = is
-no_usage (cut levels program out) files is = is
+no_usage (rewrite how program out) files is = is
 
 -- what is good is done where nothing outside fails and there is memory
 module _ (one : HasOneVerdict) (command : Command) (files : Files) (good : IsGood command files) where

@@ -1,11 +1,10 @@
--- The lines that `cut` writes to Report, of the text that File holds.
-use Rattle.std.specs.Prelude.{◌≡◌, ℕ, ◌==◌, if◌then◌else◌, List, [], ◌++◌, length, flat_map, Option, Some, codes, decimal}
-use Rattle.dk_desk.specs.Calls.{IsIfTold}
+-- The lines that `cut` writes to Report.
+use Rattle.std.specs.Prelude.{◌≡◌, ℕ, ◌==◌, if◌then◌else◌, List, [], ◌++◌, length, flat_map, codes, decimal}
 use Rattle.body_cuts.specs.declared.uncut.Reason.{Reason}
 use Rattle.body_cuts.specs.declared.uncut.Reason.TheVariants.{Operator, Limit, Name, Moved}
 use Rattle.dk_compile.specs.declared.measures.DeepBody.{DeepBody}
 use Rattle.dk_compile.specs.declared.measures.Measures.{Measures}
-use Rattle.dk_compile.specs.Cuts.{IsCutOf, HasMeasures}
+use Rattle.dk_compile.specs.Cuts.{HasMeasures}
 
 -- why a body has more levels than was asked
 abbrev pub reason_word : Reason → List ℕ
@@ -31,10 +30,3 @@ pub record AreCutLines (text : List ℕ) (most : ℕ) (lines : List ℕ) : Type 
   pub measures : Measures
   pub measured : HasMeasures text most measures
   pub lines_are : lines ≡ cut_lines most measures
-
--- The lines are those of a text that the source was cut to, where `most` levels were asked. If the desk specifies File, it is the text that File holds.
-pub record AreLinesOfStored (source : List ℕ) (most : ℕ) (stored : Option (List ℕ)) (lines : List ℕ) : Type 0 where
-  pub text : List ℕ
-  pub is_cut : IsCutOf source most text
-  pub told : IsIfTold stored (Some text)
-  pub are_lines : AreCutLines text most lines

@@ -5,7 +5,8 @@ use Rattle.dk_words.specs.declared.TheConstants.{MAX_LEVELS}
 use Rattle.clap.specs.Walk.{Text}
 use Rattle.dk_words.specs.Words.{is_like_option}
 use Rattle.dk_words.specs.Numbers.{padded_decimal}
-use Rattle.dk_words.specs.Command.{age_number, block_number, clocks_of, command_of, compile, cut, hold_number, levels_number, made_number, make, plan, run, sim, trace}
+use Rattle.dk_words.specs.Command.{age_number, block_number, clocks_of, command_of, compile, hold_number, levels_number, made_number, make, plan, rewrite, run, sim, trace}
+use Rattle.dk_words.specs.declared.command.Rewriting.TheVariants.{Cut}
 use Rattle.dk_words.specs.declared.command.PowerUp.TheVariants.{Zeros, Ones}
 use Rattle.dk_words.proofs.FileWords.{age_first_reads, age_last_reads, block_first_reads, block_last_reads, both_first_reads, both_last_reads, both_reads, compile_age_first_reads, compile_age_last_reads, cut_reads, cut_reads_after, hold_reads, make_reads, make_reads_after, ones_reads, run_age_first_reads, run_age_last_reads, sim_reads, sim_reads_after, trace_reads, trace_reads_after}
 use Rattle.dk_words.proofs.NumberLemmas.{plain-padded, within-padded}
@@ -82,10 +83,10 @@ module _ (name p o : Text) (z age : ℕ) (low : age ≤ MAX_AGE) (ep : is_like_o
   compile_both_last = both_last_reads p o ep eo (padded_decimal z age) (plain z age (omega arith)) name age (age_padded z age low)
 
 module _ (name p o : Text) (z n : ℕ) (low : 1 ≤ n) (high : n ≤ MAX_LEVELS) where
-  pub cut_alone : is_like_option p ≡ false → is_like_option o ≡ false → command_of (name ∷ codes "cut" ∷ padded_decimal z n ∷ p ∷ o ∷ []) ≡ Some (cut n p o)
+  pub cut_alone : is_like_option p ≡ false → is_like_option o ≡ false → command_of (name ∷ codes "cut" ∷ padded_decimal z n ∷ p ∷ o ∷ []) ≡ Some (rewrite (Cut n) p o)
   cut_alone ep eo = cut_reads name (padded_decimal z n) p o n (levels_padded z n low high) (plain z n (omega (arith, high))) ep eo
 
-  pub cut_after : command_of (name ∷ codes "cut" ∷ codes "--" ∷ padded_decimal z n ∷ p ∷ o ∷ []) ≡ Some (cut n p o)
+  pub cut_after : command_of (name ∷ codes "cut" ∷ codes "--" ∷ padded_decimal z n ∷ p ∷ o ∷ []) ≡ Some (rewrite (Cut n) p o)
   cut_after = cut_reads_after name (padded_decimal z n) p o n (levels_padded z n low high)
 
 pub make_alone : (name : Text) (z n : ℕ) → n ≤ MAX_MADE → command_of (name ∷ codes "make" ∷ padded_decimal z n ∷ []) ≡ Some (make n)

@@ -8,10 +8,11 @@ use Rattle.clap.specs.Takes.{walk_passes}
 use Rattle.clap.specs.Walk.{Held, Row, Rule, Text, Walk, after_step, arg_by_index, finished, idle, nothing_held, option, plain_word, rows_after, settled, to_positional, value, walk_from, walked, walked_from, word_met}
 use Rattle.clap.specs.Simple.{Shape}
 use Rattle.dk_words.specs.Words.{is_like_option}
-use Rattle.dk_words.specs.Command.{Command, age_number, block_number, check, check_of_rows, clocks_of, command_of, compile, compile_of_rows, compile_on, cut, cut_of_rows, cut_on, eval, eval_of_rows, hold_number, levels_number, made_number, make, make_of_rows, make_on, plan, plan_of_rows, plan_on, run, run_of_rows, run_on, sim, sim_of_rows, sim_on, trace, trace_of_rows, trace_on}
+use Rattle.dk_words.specs.Command.{Command, age_number, block_number, check, check_of_rows, clocks_of, command_of, compile, compile_of_rows, compile_on, cut_of_rows, cut_on, eval, eval_of_rows, hold_number, levels_number, made_number, make, make_of_rows, make_on, narrow_of_rows, plan, plan_of_rows, plan_on, rewrite, run, run_of_rows, run_on, sim, sim_of_rows, sim_on, trace, trace_of_rows, trace_on}
 use Rattle.dk_words.specs.declared.command.PowerUp.TheVariants.{Zeros, Ones}
+use Rattle.dk_words.specs.declared.command.Rewriting.TheVariants.{Cut, Narrow}
 use Rattle.dk_words.proofs.Joined.{both}
-use Rattle.dk_words.specs.Words.{run_command, eval_command, compile_command, sim_command, trace_command, plan_command, check_command, make_command, cut_command}
+use Rattle.dk_words.specs.Words.{run_command, eval_command, compile_command, sim_command, trace_command, plan_command, check_command, make_command, cut_command, narrow_command}
 use Rattle.dk_words.proofs.TakenLemmas.{in_program}
 
 -- ---- a word that is not like an option
@@ -428,16 +429,34 @@ cut_go : (n p o : Text) → is_like_option n ≡ false → is_like_option p ≡ 
 cut_go n p o en ep eo = goes_by_word cut_shape _ 1 _ n _ en refl (goes_by_word cut_shape _ 2 _ p _ ep refl (goes_by_word cut_shape _ 3 _ o _ eo refl (goes_nowhere cut_shape _)))
 
 module _ (name n p o : Text) (levels : ℕ) (is : levels_number n ≡ Some levels) where
-  pub cut_reads : is_like_option n ≡ false → is_like_option p ≡ false → is_like_option o ≡ false → command_of (name ∷ codes "cut" ∷ n ∷ p ∷ o ∷ []) ≡ Some (cut levels p o)
+  pub cut_reads : is_like_option n ≡ false → is_like_option p ≡ false → is_like_option o ≡ false → command_of (name ∷ codes "cut" ∷ n ∷ p ∷ o ∷ []) ≡ Some (rewrite (Cut levels) p o)
   unfolding walked walk_passes
   cut_reads en ep eo =
       let to = placed cut_shape (n ∷ p ∷ o ∷ []) in
       let goes = cut_go n p o en ep eo in
       named _ _ _ (both _ _ (level cut_shape (n ∷ p ∷ o ∷ []) to goes refl) refl) (reads cut_shape (n ∷ p ∷ o ∷ []) to cut_of_rows _ goes (ap (λ k. cut_on k (Some p) (Some o)) is))
 
-  pub cut_reads_after : command_of (name ∷ codes "cut" ∷ codes "--" ∷ n ∷ p ∷ o ∷ []) ≡ Some (cut levels p o)
+  pub cut_reads_after : command_of (name ∷ codes "cut" ∷ codes "--" ∷ n ∷ p ∷ o ∷ []) ≡ Some (rewrite (Cut levels) p o)
   unfolding walked walk_passes
   cut_reads_after = ap (λ k. cut_on k (Some p) (Some o)) is
+
+-- ---- `narrow`
+
+abbrev narrow_shape : Shape
+narrow_shape = in_program narrow_command
+
+narrow_go : (p o : Text) → is_like_option p ≡ false → is_like_option o ≡ false → Goes narrow_shape (walk_from nothing_held) (p ∷ o ∷ []) (placed narrow_shape (p ∷ o ∷ []))
+narrow_go p o ep eo = goes_by_word narrow_shape _ 1 _ p _ ep refl (goes_by_word narrow_shape _ 2 _ o _ eo refl (goes_nowhere narrow_shape _))
+
+pub narrow_reads : (name p o : Text) → is_like_option p ≡ false → is_like_option o ≡ false → command_of (name ∷ codes "narrow" ∷ p ∷ o ∷ []) ≡ Some (rewrite Narrow p o)
+unfolding walked walk_passes
+narrow_reads name p o ep eo =
+    named _ _ _ (both _ _ (level narrow_shape (p ∷ o ∷ []) (placed narrow_shape (p ∷ o ∷ [])) (narrow_go p o ep eo) refl) refl)
+    (reads narrow_shape (p ∷ o ∷ []) (placed narrow_shape (p ∷ o ∷ [])) narrow_of_rows _ (narrow_go p o ep eo) refl)
+
+pub narrow_reads_after : (name p o : Text) → command_of (name ∷ codes "narrow" ∷ codes "--" ∷ p ∷ o ∷ []) ≡ Some (rewrite Narrow p o)
+unfolding walked walk_passes
+narrow_reads_after name p o = refl
 
 -- ---- `trace`
 

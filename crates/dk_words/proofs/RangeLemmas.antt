@@ -9,7 +9,7 @@ use Rattle.clap.specs.Simple.{subcommand_of}
 use Rattle.clap.specs.Takes.{takes}
 use Rattle.dk_words.specs.Words.{program}
 use Rattle.dk_words.specs.Numbers.{number_of, number_within, within}
-use Rattle.dk_words.specs.Command.{Command, IsInRange, age_number, age_of, block_number, block_of, check_of_rows, check_on, clocks_of, command_asked, command_from, command_of, compile_of_rows, compile_on, cut_of_rows, cut_on, enable_of, eval_of_rows, eval_on, fill_of, hold_number, hold_of, levels_number, made_number, make_of_rows, make_on, plan_of_rows, plan_on, run_of_rows, run_on, sim_of_rows, sim_on, trace_of_rows, trace_on}
+use Rattle.dk_words.specs.Command.{Command, IsInRange, age_number, age_of, block_number, block_of, check_of_rows, check_on, clocks_of, command_asked, command_from, command_of, compile_of_rows, compile_on, cut_of_rows, cut_on, enable_of, eval_of_rows, eval_on, fill_of, hold_number, hold_of, levels_number, made_number, make_of_rows, make_on, narrow_of_rows, narrow_on, plan_of_rows, plan_on, run_of_rows, run_on, sim_of_rows, sim_on, trace_of_rows, trace_on}
 use Rattle.dk_words.specs.declared.NoCommand.{NoCommand}
 use Rattle.dk_words.specs.declared.command.Asked.{Asked}
 use Rattle.dk_words.specs.declared.command.PowerUp.{PowerUp}
@@ -117,6 +117,11 @@ cut_in (Some n) None o within = tt
 cut_in (Some n) (Some p) None within = tt
 cut_in (Some n) (Some p) (Some o) within = within
 
+narrow_in : (p o : Option Text) → IfSome (narrow_on p o) IsInRange
+narrow_in None o = tt
+narrow_in (Some p) None = tt
+narrow_in (Some p) (Some o) = tt
+
 sim_in : (v : Option Text) (n : Option ℕ) (i o : Option Text) (f : Option PowerUp) (h : Option (Option ℕ)) → IfSome n (λ m. m ≤ MAX_CLOCKS) → IfSome h (λ x. IfSome x (λ k. (1 ≤ k) × (k ≤ MAX_HOLD))) → IfSome (sim_on v n i o f h) IsInRange
 sim_in None n i o f h few held = tt
 sim_in (Some v) None i o f h few held = tt
@@ -158,8 +163,9 @@ from_in (Some p) =
     (one_in (bytes_eq p.0 (codes "plan")) (plan_of_rows p.1) _ (plan_in (first_of (codes "PROG") p.1) (age_of (first_of (codes "age") p.1)) (age_in (first_of (codes "age") p.1)))
     (one_in (bytes_eq p.0 (codes "check")) (check_of_rows p.1) _ (check_in (first_of (codes "PROG") p.1) (first_of (codes "REPORT") p.1))
     (one_in (bytes_eq p.0 (codes "make")) (make_of_rows p.1) _ (make_in (option_and_then made_number (first_of (codes "N") p.1)) (number_made_in (first_of (codes "N") p.1)))
-    (one_in (bytes_eq p.0 (codes "cut")) (cut_of_rows p.1) None
-    (cut_in (option_and_then levels_number (first_of (codes "N") p.1)) (first_of (codes "PROG") p.1) (first_of (codes "OUT") p.1) (levels_in (first_of (codes "N") p.1))) tt))))))))
+    (one_in (bytes_eq p.0 (codes "cut")) (cut_of_rows p.1) _
+    (cut_in (option_and_then levels_number (first_of (codes "N") p.1)) (first_of (codes "PROG") p.1) (first_of (codes "OUT") p.1) (levels_in (first_of (codes "N") p.1)))
+    (one_in (bytes_eq p.0 (codes "narrow")) (narrow_of_rows p.1) None (narrow_in (first_of (codes "PROG") p.1) (first_of (codes "OUT") p.1)) tt)))))))))
 
 -- the command that words name
 pub named_in : (ws : List Text) (command : Command) → command_of ws ≡ Some command → IsInRange command

@@ -92,11 +92,19 @@ pub struct MakeWords {
     pub number: u32,
 }
 
-/// The words of `cut`.
+/// How a program is rewritten.
 #[derive(Clone, Copy, Debug, PartialEq, Eq)]
-pub struct CutWords<'a> {
-    /// The most levels of operators of a body, 1 to `MAX_LEVELS`.
-    pub levels: u8,
+pub enum Rewriting {
+    /// `cut`, with the most levels of operators of a body, 1 to `MAX_LEVELS`.
+    Cut(u8),
+    /// `narrow`.
+    Narrow,
+}
+
+/// The words of `cut` and `narrow`.
+#[derive(Clone, Copy, Debug, PartialEq, Eq)]
+pub struct RewriteWords<'a> {
+    pub how: Rewriting,
     pub program: &'a str,
     pub out: &'a str,
 }
@@ -112,7 +120,7 @@ pub enum Asked<'a> {
     Plan(PlanWords<'a>),
     Check(CheckWords<'a>),
     Make(MakeWords),
-    Cut(CutWords<'a>),
+    Rewrite(RewriteWords<'a>),
 }
 
 // The value of this word.
@@ -302,17 +310,24 @@ fn read_make(matches: &ArgMatches) -> Option<MakeWords>
 }
 
 // The words of `cut`, where each has a value.
-fn read_cut<'a>(matches: &ArgMatches<'a>) -> Option<CutWords<'a>>
-    ensures { option_map (λ k. command.cut k.levels k.program.now k.out.now) result ≡ command.cut_of_rows (rows_of (found_of matches.now)) }
+fn read_cut<'a>(matches: &ArgMatches<'a>) -> Option<RewriteWords<'a>>
+    ensures { option_map (λ k. command.rewrite k.how k.program.now k.out.now) result ≡ command.cut_of_rows (rows_of (found_of matches.now)) }
 {
     let levels = read_levels(matches)?;
     let program = given(matches, "PROG")?;
     let out = given(matches, "OUT")?;
-    Some(CutWords {
-        levels,
-        program,
-        out,
-    })
+    let how = Rewriting::Cut(levels);
+    Some(RewriteWords { how, program, out })
+}
+
+// The words of `narrow`, where each has a value.
+fn read_narrow<'a>(matches: &ArgMatches<'a>) -> Option<RewriteWords<'a>>
+    ensures { option_map (λ k. command.rewrite k.how k.program.now k.out.now) result ≡ command.narrow_of_rows (rows_of (found_of matches.now)) }
+{
+    let program = given(matches, "PROG")?;
+    let out = given(matches, "OUT")?;
+    let how = Rewriting::Narrow;
+    Some(RewriteWords { how, program, out })
 }
 
 // The command of the matches.
@@ -329,7 +344,8 @@ pub fn read_matches<'a>(matches: &ArgMatches<'a>) -> Option<Asked<'a>>
         "plan" => Some(Asked::Plan(read_plan(inner)?)),
         "check" => Some(Asked::Check(read_check(inner)?)),
         "make" => Some(Asked::Make(read_make(inner)?)),
-        "cut" => Some(Asked::Cut(read_cut(inner)?)),
+        "cut" => Some(Asked::Rewrite(read_cut(inner)?)),
+        "narrow" => Some(Asked::Rewrite(read_narrow(inner)?)),
         _ => None,
     }
 }

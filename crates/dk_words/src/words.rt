@@ -185,15 +185,35 @@ fn verilog_commands<'a>(alloc: Global) -> Result<Command<'a>, AllocError>
     Ok(command)
 }
 
-// The program's commands.
-fn program_command<'a>(alloc: Global) -> Result<Command<'a>, AllocError>
-    ensures { IfOk result (λ c. app_of c ≡ words.program) }
+// `narrow PROG OUT`.
+fn narrow_command<'a>(alloc: Global) -> Result<Command<'a>, AllocError>
+    ensures shape { IfOk result (λ c. shape_of c ≡ words.narrow_command) }
+    ensures local { IfOk result (λ c. (fields_of c).has_globals ≡ false) }
+{
+    let command = Command::new(alloc, "narrow");
+    let command = command.arg(word(alloc, "PROG"))?;
+    let command = command.arg(word(alloc, "OUT"))?;
+    Ok(command)
+}
+
+// The program, with `plan`, `check` and `make` too.
+fn first_commands<'a>(alloc: Global) -> Result<Command<'a>, AllocError>
+    ensures { IfOk result (λ c. app_of c ≡ words.program_with words.first_commands) }
 {
     let command = verilog_commands(alloc)?;
     let command = command.subcommand(plan_command(alloc)?)?;
     let command = command.subcommand(check_command(alloc)?)?;
     let command = command.subcommand(make_command(alloc)?)?;
+    Ok(command)
+}
+
+// The program's commands.
+fn program_command<'a>(alloc: Global) -> Result<Command<'a>, AllocError>
+    ensures { IfOk result (λ c. app_of c ≡ words.program) }
+{
+    let command = first_commands(alloc)?;
     let command = command.subcommand(cut_command(alloc)?)?;
+    let command = command.subcommand(narrow_command(alloc)?)?;
     Ok(command)
 }
 

@@ -31,5 +31,5 @@ returns-in-Ok-Trace-clause-performs g c = as_named _ _ _ _ _ (c.in-Ok-Trace.ensu
 pub returns-in-Ok-Make-clause-performs : goal.returns-in-Ok-Make-clause-performs
 returns-in-Ok-Make-clause-performs g c = as_named _ _ _ _ _ (c.in-Ok-Make.ensures.ok ∙ ap (λ (a : Asked). Some (command_asked a)) c.in-Ok-Make.field-0-is) c.performed-in-Ok-Make.ensures.performs
 
-pub returns-in-Ok-Cut-clause-performs : goal.returns-in-Ok-Cut-clause-performs
-returns-in-Ok-Cut-clause-performs g c = as_named _ _ _ _ _ (c.in-Ok-Cut.ensures.ok ∙ ap (λ (a : Asked). Some (command_asked a)) c.in-Ok-Cut.field-0-is) c.performed-in-Ok-Cut.ensures.performs
+pub returns-in-Ok-Rewrite-clause-performs : goal.returns-in-Ok-Rewrite-clause-performs
+returns-in-Ok-Rewrite-clause-performs g c = as_named _ _ _ _ _ (c.in-Ok-Rewrite.ensures.ok ∙ ap (λ (a : Asked). Some (command_asked a)) c.in-Ok-Rewrite.field-0-is) c.performed-in-Ok-Rewrite.ensures.performs

@@ -5,8 +5,6 @@ use Rattle.dk_words.proofs.words.program_command.Goals as goal
 
 pub returns : goal.returns
 returns c =
-    let before = words.picture_commands ++ words.verilog_commands in
-    let plan = added before words.plan_command _ _ _ (c.in_ok-command-2.ensures.shape c.in_ok-plan_command.ensures.local) c.in_ok-command.ensures c.in_ok-plan_command.ensures.shape in
-    let check = added (before ++ words.plan_command ∷ []) words.check_command _ _ _ (c.in_ok-command-3.ensures.shape c.in_ok-check_command.ensures.local) plan c.in_ok-check_command.ensures.shape in
-    let make = added (before ++ words.plan_command ∷ words.check_command ∷ []) words.make_command _ _ _ (c.in_ok-command-4.ensures.shape c.in_ok-make_command.ensures.local) check c.in_ok-make_command.ensures.shape in
-    added (before ++ words.plan_command ∷ words.check_command ∷ words.make_command ∷ []) words.cut_command _ _ _ (c.in_ok-command-5.ensures.shape c.in_ok-cut_command.ensures.local) make c.in_ok-cut_command.ensures.shape
+    let before = words.first_commands in
+    let cut = added before words.cut_command _ _ _ (c.in_ok-command-2.ensures.shape c.in_ok-cut_command.ensures.local) c.in_ok-command.ensures c.in_ok-cut_command.ensures.shape in
+    added (before ++ words.cut_command ∷ []) words.narrow_command _ _ _ (c.in_ok-command-3.ensures.shape c.in_ok-narrow_command.ensures.local) cut c.in_ok-narrow_command.ensures.shape

@@ -4,16 +4,16 @@ use Rattle.dk_compile.specs.Limits.{IsFaultAt}
 use Rattle.dk_top.specs.Program.{CanBeCompiled}
 use Rattle.dk_top.proofs.LongLemmas.{short_text}
 use Rattle.dk_top.proofs.ReadLemmas.{unread_at, good_told, told_same}
-use Rattle.dk_top.proofs.commands.cutting.read_cut.Goals as goal
+use Rattle.dk_top.proofs.commands.rewriting.read_rewritten.Goals as goal
 
 pub returns-in-Err-clause-fault : goal.returns-in-Err-clause-fault
 returns-in-Err-clause-fault g c = unread_at _ c.args.name.now 0 c.in-Err.ending c.in-Err.ensures.fault
 
 pub returns-clause-good : goal.returns-clause-good
 returns-clause-good g c =
-    good_told c.cut_text.result _ c.deref.result.now c.args.name.now (λ source. CanBeCompiled source 0) (told_same _ c.deref.result.now _ c.args.name.now c.deref.ensures.value c.in-Ok.ensures.whole) c.cut_text.ensures.good
+    good_told c.rewrite_text.result _ c.deref.result.now c.args.name.now (λ source. CanBeCompiled source 0) (told_same _ c.deref.result.now _ c.args.name.now c.deref.ensures.value c.in-Ok.ensures.whole) c.rewrite_text.ensures.good
 
 pub returns-clause-left : goal.returns-clause-left
 returns-clause-left g c =
     let within : length c.deref.result.now ≤ MAX_SOURCE_BYTES = search rules in
-    short_text c.cut_text.result _ c.args.name.now _ (IsFaultAt c.deref.result.now 0) c.deref.result.now (λ h. h) within c.cut_text.ensures.fault
+    short_text c.rewrite_text.result _ c.args.name.now _ (IsFaultAt c.deref.result.now 0) c.deref.result.now (λ h. h) within c.rewrite_text.ensures.fault

@@ -1,7 +1,7 @@
 use Rattle.std.proofs.Common.{ap}
 use Rattle.dk_desk.specs.Outside.{Outside}
-use Rattle.dk_top.proofs.CutLemmas.{stays_prefix}
-use Rattle.dk_top.proofs.commands.cutting.write_both.Goals as goal
+use Rattle.dk_top.proofs.RewriteLemmas.{stays_prefix}
+use Rattle.dk_top.proofs.commands.rewriting.write_both.Goals as goal
 
 pub returns-clause-prefix : goal.returns-clause-prefix
 returns-clause-prefix g c =

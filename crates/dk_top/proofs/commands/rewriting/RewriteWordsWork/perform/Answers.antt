@@ -1,0 +1,16 @@
+use Rattle.std.proofs.Common.{ap}
+use Rattle.dk_desk.specs.Outside.{Outside}
+use Rattle.dk_top.proofs.RewriteLemmas.{lines_whole, lines_front}
+use Rattle.dk_top.proofs.commands.rewriting.RewriteWordsWork.perform.Goals as goal
+
+pub returns-in-Ok-write_both-clause-report : goal.returns-in-Ok-write_both-clause-report
+returns-in-Ok-write_both-clause-report g c =
+    let outside = g.D.Desk.outside in
+    lines_whole _ c.args.self.now.how c.args.self.now.program.now c.in-Ok.rewritten.text.items c.in-Ok.rewritten.lines.items (outside c.read_rewritten.new.desk) (outside c.write_both.new.desk) (outside c.args.desk.now).report
+    (ap (λ (o : Outside). o.report) c.in-Ok.ensures.only) c.in-Ok.ensures.is c.in-Ok.ensures.lines c.in-Ok-write_both.ensures.whole c.in-Ok-write_both.ensures.line
+
+pub returns-clause-report : goal.returns-clause-report
+returns-clause-report g c =
+    let outside = g.D.Desk.outside in
+    lines_front _ c.args.self.now.how c.args.self.now.program.now c.in-Ok.rewritten.text.items c.in-Ok.rewritten.lines.items (outside c.read_rewritten.new.desk) (outside c.write_both.new.desk) (outside c.args.desk.now).report
+    (ap (λ (o : Outside). o.report) c.in-Ok.ensures.only) c.in-Ok.ensures.is c.in-Ok.ensures.lines c.in-Err-write_both.ensures.front
