@@ -19,6 +19,8 @@ use Rattle.dk_endings.specs.declared.ending.Ending.{Ending}
 use Rattle.dk_endings.specs.declared.ending.Ending.TheVariants as ending
 use Rattle.source_fault.specs.declared.fault.SourceFault.{SourceFault}
 use Rattle.source_fault.specs.declared.fault.SourceFault.TheVariants as source
+use Rattle.source_fault.specs.declared.widen.WidenFault.{WidenFault}
+use Rattle.source_fault.specs.declared.widen.WidenFault.TheVariants as widen
 use Rattle.dk_endings.specs.declared.ending.ImageFault.{ImageFault}
 use Rattle.dk_endings.specs.declared.ending.ImageFault.TheVariants as image
 use Rattle.dk_endings.specs.declared.ending.ReportFault.{ReportFault}
@@ -141,16 +143,23 @@ abbrev pub report_line : ReportFault → List ℕ
 report_line report.TooLong = numbered (codes "report: TooLong ") MAX_REPORT_BYTES
 report_line (report.Line number) = numbered (codes "report: line ") number
 
+abbrev pub widen_fault_line : WidenFault → List ℕ
+widen_fault_line (widen.Width width) = numbered (codes "widen: Width ") width
+widen_fault_line (widen.Inputs count) = numbered (codes "widen: Inputs ") count
+widen_fault_line (widen.Outputs count) = numbered (codes "widen: Outputs ") count
+widen_fault_line widen.Limits = codes "widen: Limits\n"
+
 -- the line that an ending writes to Fault
 abbrev pub fault_line : Ending → List ℕ
 fault_line ending.Done = []
 fault_line ending.Usage =
-    codes "usage: run [--age K] PROG IN OUT | compile [--enable] [--age K] [--block N] PROG OUT | plan [--age K] PROG | sim VERILOG CLOCKS IN OUT [--fill FILL] [--hold K] | eval PROG IN OUT | make N | check PROG REPORT | trace VERILOG CLOCKS IN VCD | cut N PROG OUT | narrow PROG OUT\n"
+    codes "usage: run [--age K] PROG IN OUT | compile [--enable] [--age K] [--block N] PROG OUT | plan [--age K] PROG | sim VERILOG CLOCKS IN OUT [--fill FILL] [--hold K] | eval PROG IN OUT | make N | check PROG REPORT | trace VERILOG CLOCKS IN VCD | cut N PROG OUT | narrow PROG OUT | widen P PROG OUT\n"
 fault_line (ending.Source fault) = source_line fault
 fault_line (ending.Image fault) = image_line fault
 fault_line (ending.Verilog fault) = verilog_line fault
 fault_line (ending.Stopped stop) = stop_line stop
 fault_line (ending.Rejected fault) = report_line fault
+fault_line (ending.Unable fault) = widen_fault_line fault
 fault_line ending.ReadFault = codes "cannot read\n"
 fault_line ending.WriteFault = codes "cannot write\n"
 fault_line ending.Memory = codes "out of memory\n"
@@ -167,6 +176,7 @@ status_of ending.ReadFault = 7
 status_of ending.WriteFault = 8
 status_of ending.Memory = 9
 status_of (ending.Rejected _) = 10
+status_of (ending.Unable _) = 11
 
 -- the line that `check` writes of a report that holds
 abbrev pub holds_line : (bits latency : ℕ) → List ℕ

@@ -5,7 +5,7 @@ ghost use Rattle.dk_endings.specs.Lines.{status_of};
 
 use crate::verilog::VerilogFault;
 use pgm_rounds::FileFault;
-use source_fault::SourceFault;
+use source_fault::{SourceFault, WidenFault};
 use stimulus::Stop;
 
 /// Why a file of images is refused.
@@ -43,6 +43,8 @@ pub enum Ending {
     Stopped(Stop),
     /// A report does not hold.
     Rejected(ReportFault),
+    /// A program gets no phases.
+    Unable(WidenFault),
     /// An input could not be opened or read.
     ReadFault,
     /// The output could not be created or written.
@@ -67,6 +69,7 @@ impl Ending {
             Ending::WriteFault => 8,
             Ending::Memory => 9,
             Ending::Rejected(_) => 10,
+            Ending::Unable(_) => 11,
         }
     }
 }

@@ -2,7 +2,7 @@
 
 ghost use Rattle.std.specs.Prelude.{◌≡◌, ◌≤◌, ◌+◌, ◌<◌, ◌++◌, length, decimal};
 ghost use Rattle.std.specs.Fmt.{signed_decimal};
-ghost use Rattle.dk_endings.specs.Lines.{lexer_kind as lexer_word, types_kind as types_word, spanned as spanned_text, numbered as numbered_text, twice_numbered as twice_numbered_text, fault_line, source_line as line_of_source, file_line as line_of_file, token_kind as token_word, limit_kind as limit_word, verilog_kind as verilog_word, verilog_line as line_of_verilog, index_line as index_text, count_line as count_text, stop_line as line_of_stop, report_line as line_of_report, holds_line as holds_text};
+ghost use Rattle.dk_endings.specs.Lines.{lexer_kind as lexer_word, types_kind as types_word, spanned as spanned_text, numbered as numbered_text, twice_numbered as twice_numbered_text, fault_line, source_line as line_of_source, file_line as line_of_file, token_kind as token_word, limit_kind as limit_word, verilog_kind as verilog_word, verilog_line as line_of_verilog, index_line as index_text, count_line as count_text, stop_line as line_of_stop, report_line as line_of_report, widen_fault_line as line_of_widen, holds_line as holds_text};
 
 use crate::ending::{Ending, ImageFault, ReportFault};
 use crate::verilog::{VerilogFault, VerilogKind};
@@ -15,7 +15,7 @@ use dk_lexer::LexKind;
 use dk_types::TypeFaultKind;
 use itoa::Buffer;
 use pgm_rounds::FileFault;
-use source_fault::SourceFault;
+use source_fault::{SourceFault, WidenFault};
 use stimulus::Stop;
 use verilog_text::{LexKind as TokenKind, LimitKind};
 
@@ -270,6 +270,17 @@ fn report_line(fault: &ReportFault) -> Line
     }
 }
 
+fn widen_line(fault: &WidenFault) -> Line
+    ensures { result.bytes ≡ line_of_widen fault.now }
+{
+    match fault {
+        WidenFault::Width { width } => numbered("widen: Width ", u128::from(*width)),
+        WidenFault::Inputs { count } => numbered("widen: Inputs ", u128::from(*count)),
+        WidenFault::Outputs { count } => numbered("widen: Outputs ", u128::from(*count)),
+        WidenFault::Limits => plain("widen: Limits\n"),
+    }
+}
+
 /// The line of a report that holds, with its buffer bits and the latency of the first output in clocks. It allocates no memory.
 pub fn holds_line(bits: u64, latency: u64) -> Line
     ensures { result.bytes ≡ holds_text bits latency }
@@ -290,7 +301,7 @@ impl Ending {
         match self {
             Ending::Done => plain(""),
             Ending::Usage => plain(
-                "usage: run [--age K] PROG IN OUT | compile [--enable] [--age K] [--block N] PROG OUT | plan [--age K] PROG | sim VERILOG CLOCKS IN OUT [--fill FILL] [--hold K] | eval PROG IN OUT | make N | check PROG REPORT | trace VERILOG CLOCKS IN VCD | cut N PROG OUT | narrow PROG OUT\n",
+                "usage: run [--age K] PROG IN OUT | compile [--enable] [--age K] [--block N] PROG OUT | plan [--age K] PROG | sim VERILOG CLOCKS IN OUT [--fill FILL] [--hold K] | eval PROG IN OUT | make N | check PROG REPORT | trace VERILOG CLOCKS IN VCD | cut N PROG OUT | narrow PROG OUT | widen P PROG OUT\n",
             ),
             Ending::Source(fault) => source_line(fault),
             Ending::Image(ImageFault::TooLong) => {
@@ -300,6 +311,7 @@ impl Ending {
             Ending::Verilog(fault) => verilog_line(fault),
             Ending::Stopped(stop) => stop_line(stop),
             Ending::Rejected(fault) => report_line(fault),
+            Ending::Unable(fault) => widen_line(fault),
             Ending::ReadFault => plain("cannot read\n"),
             Ending::WriteFault => plain("cannot write\n"),
             Ending::Memory => plain("out of memory\n"),

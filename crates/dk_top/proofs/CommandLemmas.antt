@@ -19,6 +19,7 @@ use Rattle.dk_desk.specs.declared.Stage.{Stage}
 use Rattle.dk_top.specs.State.{AsksInOrder, CreatesBy, ReadsBy, IsNoted, IsReported}
 use Rattle.dk_top.specs.Reading.{AreRead, IsRead}
 use Rattle.dk_top.proofs.OutputLemmas.{evaluated_is}
+use Rattle.dk_top.proofs.WidenLemmas.{rewritten_memory}
 
 -- what is evaluated is the output file
 pub evaluated_pair : (ir : Program) (rounds : List Round) (output : List ℕ) → IsProgram ir → AreRead ir rounds
@@ -102,7 +103,7 @@ memory_verdict : (c : Command) (f : Files) → IsVerdict c f ending.Memory
 memory_verdict (run p i o a) f = tt
 memory_verdict (eval p i o) f = tt
 memory_verdict (compile p o e a b) f = tt
-memory_verdict (rewrite how p o) f = tt
+memory_verdict (rewrite how p o) f = rewritten_memory how (bytes_of f p)
 memory_verdict (trace v c i o) f = tt
 memory_verdict (make n) f = tt
 memory_verdict (sim v c i o p h) f = tt

@@ -18,9 +18,11 @@ use Rattle.dk_endings.specs.declared.verilog.VerilogFault.{VerilogFault}
 use Rattle.dk_endings.specs.declared.verilog.VerilogFault.TheVariants as verilog
 use Rattle.dk_top.specs.Compiling.{IsCompiledFrom}
 use Rattle.dk_top.specs.Verdict.{Files, bytes_of, OnFiles, IsRunAnswer}
+use Rattle.dk_words.specs.declared.command.Rewriting.{Rewriting}
+use Rattle.dk_words.specs.declared.command.Rewriting.TheVariants.{Cut, Narrow, Widen}
 use Rattle.dk_top.specs.Command.{Command, run, eval, compile, sim, trace, plan, check, make, rewrite}
 use Rattle.dk_top.specs.State.{LeavesRest, LeavesText, LeavesImages, LeavesBoth, TakesNoMore, AsksWhere, AsksWhereModule}
-use Rattle.dk_top.specs.Reading.{IsSourceEnding, IsUnread, TellsNoText, TellsNoImages}
+use Rattle.dk_top.specs.Reading.{IsSourceEnding, IsUnread, TellsNoText, TellsNoImages, IsRewriteEnding}
 use Rattle.dk_top.specs.Simulating.{IsModuleEnding}
 use Rattle.dk_top.proofs.CommandLemmas.{on_all}
 use Rattle.dk_top.proofs.CompileLemmas.{PlannedAccepted, compiled_accepted}
@@ -80,11 +82,32 @@ short_source is text (ending.Image f) long short h = absurd h
 short_source is text (ending.Verilog f) long short h = absurd h
 short_source is text (ending.Stopped f) long short h = absurd h
 short_source is text (ending.Rejected f) long short h = absurd h
+short_source is text (ending.Unable f) long short h = absurd h
 
 pub short_text : {A : Type 0} (result : Result A Ending) (told : Option Files) (name : List ℕ) (slot : Input) (is : SourceFault → Type 0) (text : List ℕ) → (is source.TooLong → MAX_SOURCE_BYTES < length text) → length text ≤ MAX_SOURCE_BYTES → IfErr result (IsSourceEnding is)
     → IfErr result (λ e. IfSome told (λ f. LeavesText e (bytes_of f name) slot))
 short_text (Ok x) told name slot is text long short h = tt
 short_text (Err e) told name slot is text long short h = no_text told name slot e (short_source is text e long short h)
+
+-- the ending of a program that is not rewritten
+rewrite_tells : (how : Rewriting) (text : List ℕ) (e : Ending) → length text ≤ MAX_SOURCE_BYTES → IsRewriteEnding how text e → TellsNoText e
+rewrite_tells (Cut levels) text e short h = short_source (IsFaultAt text 0) text e (λ long. long) short h
+rewrite_tells Narrow text e short h = short_source (IsFaultAt text 0) text e (λ long. long) short h
+rewrite_tells (Widen phases) text (ending.Unable f) short h = λ file slot. tt
+rewrite_tells (Widen phases) text (ending.Source f) short h = short_source (IsFaultAt text 0) text (ending.Source f) (λ long. long) short h
+rewrite_tells (Widen phases) text ending.ReadFault short h = λ file slot. tt
+rewrite_tells (Widen phases) text ending.Memory short h = λ file slot. tt
+rewrite_tells (Widen phases) text ending.Done short h = absurd h
+rewrite_tells (Widen phases) text ending.Usage short h = absurd h
+rewrite_tells (Widen phases) text ending.WriteFault short h = absurd h
+rewrite_tells (Widen phases) text (ending.Image f) short h = absurd h
+rewrite_tells (Widen phases) text (ending.Verilog f) short h = absurd h
+rewrite_tells (Widen phases) text (ending.Stopped f) short h = absurd h
+rewrite_tells (Widen phases) text (ending.Rejected f) short h = absurd h
+
+pub short_rewrite : {A : Type 0} (result : Result A Ending) (told : Option Files) (name : List ℕ) (slot : Input) (how : Rewriting) (text : List ℕ) → length text ≤ MAX_SOURCE_BYTES → IfErr result (IsRewriteEnding how text) → IfErr result (λ e. IfSome told (λ f. LeavesText e (bytes_of f name) slot))
+short_rewrite (Ok x) told name slot how text short h = tt
+short_rewrite (Err e) told name slot how text short h = no_text told name slot e (rewrite_tells how text e short h)
 
 -- the ending of a Verilog text that is not too long
 other_verilog : (hold : Option ℕ) (text : List ℕ) (f : VerilogFault) → length text ≤ MAX_VERILOG_BYTES → IsModuleEnding hold text (ending.Verilog f) → TellsNoText (ending.Verilog f)
@@ -102,6 +125,7 @@ short_module hold text (ending.Image f) short h = absurd h
 short_module hold text (ending.Source f) short h = absurd h
 short_module hold text (ending.Stopped f) short h = absurd h
 short_module hold text (ending.Rejected f) short h = absurd h
+short_module hold text (ending.Unable f) short h = absurd h
 
 pub short_verilog : {A : Type 0} (result : Result A Ending) (told : Option Files) (name : List ℕ) (slot : Input) (hold : Option ℕ) (text : List ℕ) → length text ≤ MAX_VERILOG_BYTES → IfErr result (IsModuleEnding hold text) → IfErr result (λ e. IfSome told (λ f. LeavesText e (bytes_of f name) slot))
 short_verilog (Ok x) told name slot hold text short h = tt
@@ -119,6 +143,7 @@ source_only is (ending.Image f) h = absurd h
 source_only is (ending.Verilog f) h = absurd h
 source_only is (ending.Stopped f) h = absurd h
 source_only is (ending.Rejected f) h = absurd h
+source_only is (ending.Unable f) h = absurd h
 
 pub source_tells : {A : Type 0} (result : Result A Ending) (is : SourceFault → Type 0) → IfErr result (IsSourceEnding is) → IfErr result TellsNoImages
 source_tells (Ok x) is h = tt
@@ -135,6 +160,7 @@ module_only hold text (ending.Image f) h = absurd h
 module_only hold text (ending.Source f) h = absurd h
 module_only hold text (ending.Stopped f) h = absurd h
 module_only hold text (ending.Rejected f) h = absurd h
+module_only hold text (ending.Unable f) h = absurd h
 
 pub module_tells : {A : Type 0} (result : Result A Ending) (hold : Option ℕ) (text : List ℕ) → IfErr result (IsModuleEnding hold text) → IfErr result TellsNoImages
 module_tells (Ok x) hold text h = tt
@@ -153,6 +179,7 @@ unread_images file slot (ending.Source f) h taken = absurd h
 unread_images file slot (ending.Verilog f) h taken = absurd h
 unread_images file slot (ending.Stopped f) h taken = absurd h
 unread_images file slot (ending.Rejected f) h taken = absurd h
+unread_images file slot (ending.Unable f) h taken = absurd h
 
 pub unread_left : (told : Option Files) (name : List ℕ) (most : Option ℕ) (slot : Input) (e : Ending) → most ≡ Some MAX_PGM_BYTES → IfSome told (λ f. IsUnread most (bytes_of f name) e)
     → (e ≡ ending.Image image.TooLong → IfSome told (λ f. IfSome most (λ n. LeavesRest n (bytes_of f name) slot))) → IfSome told (λ f. LeavesImages e (bytes_of f name) slot)
@@ -181,6 +208,7 @@ ran_text apart law text file age c from ending.WriteFault h = λ t slot. tt
 ran_text apart law text file age c from (ending.Image f) h = λ t slot. tt
 ran_text apart law text file age c from (ending.Stopped f) h = λ t slot. tt
 ran_text apart law text file age c from (ending.Rejected f) h = λ t slot. tt
+ran_text apart law text file age c from (ending.Unable f) h = λ t slot. tt
 
 pub ran_left : ((text : List ℕ) (age : ℕ) (p : Typing) (f : SourceFault) → IsAcceptedAt text age p → IsFaultAt text age f → ⊥) → PlannedAccepted → (told : Option Files) (program images : List ℕ) (age : ℕ) (c : Compiled) (slot : Input) (e : Ending) → IfSome told (λ f. IsCompiledFrom (bytes_of f program) age false None c)
     → IfSome told (λ f. IsRunAnswer age (bytes_of f program) (bytes_of f images) e) → IfSome told (λ f. LeavesText e (bytes_of f program) slot)

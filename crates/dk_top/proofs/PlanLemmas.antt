@@ -34,6 +34,7 @@ module _ (apart_at : ApartAt) (one_fault_at : OneFaultAt) where
   program_answer age text (ending.Verilog f) b _ _ x y = absurd x
   program_answer age text (ending.Stopped f) b _ _ x y = absurd x
   program_answer age text (ending.Rejected f) b _ _ x y = absurd x
+  program_answer age text (ending.Unable f) b _ _ x y = absurd x
   program_answer age text ending.Usage b j _ x y = absurd j
   program_answer age text ending.ReadFault b j _ x y = absurd j
   program_answer age text ending.WriteFault b j _ x y = absurd j
@@ -42,6 +43,7 @@ module _ (apart_at : ApartAt) (one_fault_at : OneFaultAt) where
   program_answer age text _ (ending.Verilog f) _ _ x y = absurd y
   program_answer age text _ (ending.Stopped f) _ _ x y = absurd y
   program_answer age text _ (ending.Rejected f) _ _ x y = absurd y
+  program_answer age text _ (ending.Unable f) _ _ x y = absurd y
   program_answer age text _ ending.Usage _ j x y = absurd j
   program_answer age text _ ending.ReadFault _ j x y = absurd j
   program_answer age text _ ending.WriteFault _ j x y = absurd j
@@ -82,6 +84,7 @@ module _ (front_accepted : FrontAccepted) (text_apart : TextApart) (one_text : O
   check_answer text bytes (ending.Image f) b _ _ x y = absurd x
   check_answer text bytes (ending.Verilog f) b _ _ x y = absurd x
   check_answer text bytes (ending.Stopped f) b _ _ x y = absurd x
+  check_answer text bytes (ending.Unable f) b _ _ x y = absurd x
   check_answer text bytes ending.Usage b j _ x y = absurd j
   check_answer text bytes ending.ReadFault b j _ x y = absurd j
   check_answer text bytes ending.WriteFault b j _ x y = absurd j
@@ -89,6 +92,7 @@ module _ (front_accepted : FrontAccepted) (text_apart : TextApart) (one_text : O
   check_answer text bytes _ (ending.Image f) _ _ x y = absurd y
   check_answer text bytes _ (ending.Verilog f) _ _ x y = absurd y
   check_answer text bytes _ (ending.Stopped f) _ _ x y = absurd y
+  check_answer text bytes _ (ending.Unable f) _ _ x y = absurd y
   check_answer text bytes _ ending.Usage _ j x y = absurd j
   check_answer text bytes _ ending.ReadFault _ j x y = absurd j
   check_answer text bytes _ ending.WriteFault _ j x y = absurd j

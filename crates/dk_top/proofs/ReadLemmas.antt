@@ -58,6 +58,7 @@ misfit_answer terms source file p accepted (ending.Image f) is = record { progra
 misfit_answer terms source file p accepted (ending.Verilog f) is = absurd is
 misfit_answer terms source file p accepted (ending.Stopped f) is = absurd is
 misfit_answer terms source file p accepted (ending.Rejected f) is = absurd is
+misfit_answer terms source file p accepted (ending.Unable f) is = absurd is
 misfit_answer terms source file p accepted ending.ReadFault is = tt
 misfit_answer terms source file p accepted ending.Memory is = tt
 
@@ -89,6 +90,7 @@ unread_ending most file p (ending.Source f) h = absurd h
 unread_ending most file p (ending.Verilog f) h = absurd h
 unread_ending most file p (ending.Stopped f) h = absurd h
 unread_ending most file p (ending.Rejected f) h = absurd h
+unread_ending most file p (ending.Unable f) h = absurd h
 
 pub unread_told : (told : Option Files) (most : Option ℕ) (image : List ℕ) (ir : Program) (e : Ending) → IfSome told (λ f. IsUnread most (bytes_of f image) e) → IfSome told (λ f. (p : Typing) → IsForm p ir → IsImageEnding most p (bytes_of f image) e)
 unread_told None most image ir e h = tt
@@ -139,6 +141,7 @@ unread_text is text (ending.Image f) long h = absurd h
 unread_text is text (ending.Verilog f) long h = absurd h
 unread_text is text (ending.Stopped f) long h = absurd h
 unread_text is text (ending.Rejected f) long h = absurd h
+unread_text is text (ending.Unable f) long h = absurd h
 unread_text is text (ending.Source (source.Lex x)) long h = absurd h
 unread_text is text (ending.Source (source.Nest x)) long h = absurd h
 unread_text is text (ending.Source (source.Syntax x)) long h = absurd h

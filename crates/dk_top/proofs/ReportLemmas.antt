@@ -27,6 +27,7 @@ report_ended source report ir s (ending.Image f) has stops h = absurd h
 report_ended source report ir s (ending.Verilog f) has stops h = absurd h
 report_ended source report ir s (ending.Stopped f) has stops h = absurd h
 report_ended source report ir s (ending.Rejected f) has stops h = record { program = has.program; accepted = has.accepted; fault_is = h }
+report_ended source report ir s (ending.Unable f) has stops h = absurd h
 report_ended source report ir s ending.ReadFault has stops h = tt
 report_ended source report ir s ending.Memory has stops h = tt
 

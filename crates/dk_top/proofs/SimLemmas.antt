@@ -108,6 +108,7 @@ alike_self (ending.Source f) = refl
 alike_self (ending.Image f) = refl
 alike_self (ending.Stopped f) = refl
 alike_self (ending.Rejected f) = refl
+alike_self (ending.Unable f) = refl
 alike_self ending.ReadFault = refl
 alike_self ending.WriteFault = refl
 alike_self ending.Memory = refl
@@ -220,12 +221,14 @@ module _ (one : OneModule) (agree : OneAgreed) (text_apart : ModuleApart) (token
     sim_answer (ending.Stopped s) (ending.Stopped r) _ _ x y = ap ending.Stopped (stops_once s r x y)
     sim_answer (ending.Source f) b _ _ x y = absurd x
     sim_answer (ending.Rejected f) b _ _ x y = absurd x
+    sim_answer (ending.Unable f) b _ _ x y = absurd x
     sim_answer ending.Usage b j _ x y = absurd j
     sim_answer ending.ReadFault b j _ x y = absurd j
     sim_answer ending.WriteFault b j _ x y = absurd j
     sim_answer ending.Memory b j _ x y = absurd j
     sim_answer _ (ending.Source f) _ _ x y = absurd y
     sim_answer _ (ending.Rejected f) _ _ x y = absurd y
+    sim_answer _ (ending.Unable f) _ _ x y = absurd y
     sim_answer _ ending.Usage _ j x y = absurd j
     sim_answer _ ending.ReadFault _ j x y = absurd j
     sim_answer _ ending.WriteFault _ j x y = absurd j
@@ -254,6 +257,7 @@ module _ (one : OneModule) (agree : OneAgreed) (text_apart : ModuleApart) (token
     stops_both (ending.Stopped (Count shown wanted)) _ other x = absurd x
     stops_both (ending.Source f) _ other x = absurd x
     stops_both (ending.Rejected f) _ other x = absurd x
+    stops_both (ending.Unable f) _ other x = absurd x
     stops_both ending.Usage j other x = absurd j
     stops_both ending.ReadFault j other x = absurd j
     stops_both ending.WriteFault j other x = absurd j
@@ -267,6 +271,7 @@ module _ (one : OneModule) (agree : OneAgreed) (text_apart : ModuleApart) (token
     not_traced run_apart (ending.Stopped s) _ good other x = traced_not_stopped run_apart s good x
     not_traced run_apart (ending.Source f) _ good other x = x
     not_traced run_apart (ending.Rejected f) _ good other x = x
+    not_traced run_apart (ending.Unable f) _ good other x = x
     not_traced run_apart ending.Usage j good other x = j
     not_traced run_apart ending.ReadFault j good other x = j
     not_traced run_apart ending.WriteFault j good other x = j
@@ -279,6 +284,7 @@ module _ (one : OneModule) (agree : OneAgreed) (text_apart : ModuleApart) (token
     done_or (ending.Stopped s) = inr (λ e. let x : ⊥ = cc in x)
     done_or (ending.Source f) = inr (λ e. let x : ⊥ = cc in x)
     done_or (ending.Rejected f) = inr (λ e. let x : ⊥ = cc in x)
+    done_or (ending.Unable f) = inr (λ e. let x : ⊥ = cc in x)
     done_or ending.Usage = inr (λ e. let x : ⊥ = cc in x)
     done_or ending.ReadFault = inr (λ e. let x : ⊥ = cc in x)
     done_or ending.WriteFault = inr (λ e. let x : ⊥ = cc in x)

@@ -66,6 +66,7 @@ unread_ending m file (ending.Source f) h = absurd h
 unread_ending m file (ending.Verilog f) h = absurd h
 unread_ending m file (ending.Stopped f) h = absurd h
 unread_ending m file (ending.Rejected f) h = absurd h
+unread_ending m file (ending.Unable f) h = absurd h
 
 -- the file does not fit
 file_answer : (clocks : ℕ) (power : PowerUp) (hold : Option ℕ) (t file : List ℕ) (m : NamedNetlist) (e : Ending) → IsModuleOf hold t m → Stops e → IsFileEnding m file e → IsInputEnding (drive_of clocks power hold) t file e
@@ -79,6 +80,7 @@ file_answer clocks power hold t file m (ending.Source f) made stops h = absurd h
 file_answer clocks power hold t file m (ending.Verilog f) made stops h = absurd h
 file_answer clocks power hold t file m (ending.Stopped f) made stops h = absurd h
 file_answer clocks power hold t file m (ending.Rejected f) made stops h = absurd h
+file_answer clocks power hold t file m (ending.Unable f) made stops h = absurd h
 
 pub file_told : (told between : Option Files) (verilog image : List ℕ) (hold : Option ℕ) (m : NamedNetlist) (e : Ending) → between ≡ told → IfSome told (λ f. IsModuleOf hold (bytes_of f verilog) m) → Stops e → IfSome between (λ f. IsFileEnding m (bytes_of f image) e)
     → IfSome told (λ f. (clocks : ℕ) (power : PowerUp) → IsInputEnding (drive_of clocks power hold) (bytes_of f verilog) (bytes_of f image) e)
@@ -160,6 +162,7 @@ sim_ends drive t file ending.WriteFault h = absurd h
 sim_ends drive t file (ending.Source f) h = absurd h
 sim_ends drive t file (ending.Stopped f) h = absurd h
 sim_ends drive t file (ending.Rejected f) h = absurd h
+sim_ends drive t file (ending.Unable f) h = absurd h
 
 pub trace_ends : (drive : Drive) (t file : List ℕ) (e : Ending) → IsInputEnding drive t file e → IsTraceAnswer drive t file e
 trace_ends drive t file (ending.Verilog f) h = h
@@ -173,6 +176,7 @@ trace_ends drive t file (ending.Source f) h = absurd h
 trace_ends drive t file (ending.Stopped (Index clock array index)) h = absurd h
 trace_ends drive t file (ending.Stopped (Count shown wanted)) h = absurd h
 trace_ends drive t file (ending.Rejected f) h = absurd h
+trace_ends drive t file (ending.Unable f) h = absurd h
 
 -- an ending whatever clocks are asked for is that of these
 pub for_clocks : (told : Option Files) (verilog image : List ℕ) (clocks : ℕ) (power : PowerUp) (hold : Option ℕ) (e : Ending) → IfSome told (λ f. (n : ℕ) (p : PowerUp) → IsInputEnding (drive_of n p hold) (bytes_of f verilog) (bytes_of f image) e)

@@ -443,4 +443,5 @@ module _ (law : PlannedAccepted) (one_program : OneProgram) (one_rounds : (ports
   runs_opened now (ending.Verilog f) e read write = absurd e
   runs_opened now (ending.Stopped f) e read write = absurd e
   runs_opened now (ending.Rejected f) e read write = absurd e
+  runs_opened now (ending.Unable f) e read write = absurd e
   runs_opened now ending.Memory e read write = absurd e

@@ -140,6 +140,7 @@ unread_creates drive t file stage (ending.Source f) h = tt
 unread_creates drive t file stage (ending.Verilog f) h = tt
 unread_creates drive t file stage (ending.Image f) h = tt
 unread_creates drive t file stage (ending.Rejected f) h = tt
+unread_creates drive t file stage (ending.Unable f) h = tt
 
 pub unread_begun : (told : Option Files) (verilog image vcd : List ℕ) (clocks : ℕ) (e : Ending) (stage : Stage) → IfSome told (λ f. (n : ℕ) (p : PowerUp) → IsInputEnding (drive_of n p None) (bytes_of f verilog) (bytes_of f image) e)
     → IfSome told (λ f. CreatesBy (trace verilog clocks image vcd) e f stage)

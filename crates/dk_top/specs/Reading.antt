@@ -15,12 +15,14 @@ use Rattle.dk_compile.specs.Fronts.{IsForm}
 use Rattle.source_fault.specs.declared.fault.SourceFault.{SourceFault}
 use Rattle.source_fault.specs.declared.fault.SourceFault.TheVariants as source
 use Rattle.dk_base.specs.declared.TheConstants.{MAX_SOURCE_BYTES}
-use Rattle.dk_compile.specs.Limits.{IsAcceptedAt}
+use Rattle.dk_compile.specs.Limits.{IsAcceptedAt, IsFaultAt}
+use Rattle.dk_words.specs.declared.command.Rewriting.{Rewriting}
+use Rattle.dk_words.specs.declared.command.Rewriting.TheVariants.{Widen}
 use Rattle.dk_top.specs.Output.{Fits, IsImageFault}
 use Rattle.dk_desk.specs.declared.transfer.ReadAll.{ReadAll}
 use Rattle.dk_desk.specs.declared.transfer.ReadAll.TheVariants as unread
 use Rattle.dk_desk.specs.Outside.{Outside, Input}
-use Rattle.dk_top.specs.Verdict.{Terms, bytes_of, IsGoodPair}
+use Rattle.dk_top.specs.Verdict.{Terms, bytes_of, IsGoodPair, IsUnable}
 use Rattle.dk_top.specs.State.{LeavesText, LeavesImages, LeavesBoth, ReportsFront}
 
 -- what holds of the bytes of the file of this name, if the desk specifies its files
@@ -81,6 +83,12 @@ IsSourceEnding is (ending.Source fault) = is fault
 IsSourceEnding is ending.ReadFault = ⊤
 IsSourceEnding is ending.Memory = ⊤
 IsSourceEnding is _ = ⊥
+
+-- how a call ends whose program is not rewritten: with its first fault, the reason that it gets no phases, or a failure
+abbrev pub IsRewriteEnding : Rewriting → (source : List ℕ) → Ending → Type 0
+IsRewriteEnding (Widen phases) source (ending.Unable fault) = IsUnable phases source fault
+IsRewriteEnding (Widen phases) source result = IsSourceEnding (IsFaultAt source 0) result
+IsRewriteEnding _ source result = IsSourceEnding (IsFaultAt source 0) result
 
 -- how a call ends that did not read a file whole; `too_long` is the ending for a file above its limit
 abbrev pub unread_by : ReadAll → (too_long : Ending) → Ending

@@ -56,6 +56,7 @@ IsTraceAnswer drive text file (ending.Stopped (Index clock array index)) = IsSto
 IsTraceAnswer drive text file (ending.Stopped (Count shown wanted)) = ⊥
 IsTraceAnswer drive text file (ending.Source fault) = ⊥
 IsTraceAnswer drive text file (ending.Rejected fault) = ⊥
+IsTraceAnswer drive text file (ending.Unable fault) = ⊥
 IsTraceAnswer drive text file ending.Usage = ⊥
 IsTraceAnswer drive text file ending.ReadFault = ⊤
 IsTraceAnswer drive text file ending.Memory = ⊤

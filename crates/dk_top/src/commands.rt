@@ -13,3 +13,4 @@ mod running;
 mod simulating;
 mod streaming;
 mod tracing;
+mod widening;

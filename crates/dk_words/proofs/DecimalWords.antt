@@ -1,14 +1,14 @@
 -- What commands with numbers read, where the numbers are decimals after zeros, in their ranges.
 use Rattle.std.proofs.Common.{◌≡◌, ℕ, ◌≤◌, true, false, [], ◌∷◌, Some, None, codes, arith}
 use Rattle.dk_base.specs.declared.TheConstants.{MAX_CLOCKS, MAX_HOLD, MAX_AGE, MAX_BUFFER_BITS, MAX_MADE}
-use Rattle.dk_words.specs.declared.TheConstants.{MAX_LEVELS}
+use Rattle.dk_words.specs.declared.TheConstants.{MAX_LEVELS, MAX_PHASES}
 use Rattle.clap.specs.Walk.{Text}
 use Rattle.dk_words.specs.Words.{is_like_option}
 use Rattle.dk_words.specs.Numbers.{padded_decimal}
-use Rattle.dk_words.specs.Command.{age_number, block_number, clocks_of, command_of, compile, hold_number, levels_number, made_number, make, plan, rewrite, run, sim, trace}
-use Rattle.dk_words.specs.declared.command.Rewriting.TheVariants.{Cut}
+use Rattle.dk_words.specs.Command.{age_number, block_number, clocks_of, command_of, compile, hold_number, levels_number, made_number, make, phases_number, plan, rewrite, run, sim, trace}
+use Rattle.dk_words.specs.declared.command.Rewriting.TheVariants.{Cut, Widen}
 use Rattle.dk_words.specs.declared.command.PowerUp.TheVariants.{Zeros, Ones}
-use Rattle.dk_words.proofs.FileWords.{age_first_reads, age_last_reads, block_first_reads, block_last_reads, both_first_reads, both_last_reads, both_reads, compile_age_first_reads, compile_age_last_reads, cut_reads, cut_reads_after, hold_reads, make_reads, make_reads_after, ones_reads, run_age_first_reads, run_age_last_reads, sim_reads, sim_reads_after, trace_reads, trace_reads_after}
+use Rattle.dk_words.proofs.FileWords.{age_first_reads, age_last_reads, block_first_reads, block_last_reads, both_first_reads, both_last_reads, both_reads, compile_age_first_reads, compile_age_last_reads, cut_reads, cut_reads_after, hold_reads, make_reads, make_reads_after, ones_reads, run_age_first_reads, run_age_last_reads, sim_reads, sim_reads_after, trace_reads, trace_reads_after, widen_reads, widen_reads_after}
 use Rattle.dk_words.proofs.NumberLemmas.{plain-padded, within-padded}
 
 -- ---- the ranges
@@ -30,6 +30,9 @@ made_padded z n h = within-padded 0 MAX_MADE z n (omega arith) h (omega arith)
 
 levels_padded : (z n : ℕ) → 1 ≤ n → n ≤ MAX_LEVELS → levels_number (padded_decimal z n) ≡ Some n
 levels_padded z n l h = within-padded 1 MAX_LEVELS z n l h (omega arith)
+
+phases_padded : (z n : ℕ) → 2 ≤ n → n ≤ MAX_PHASES → phases_number (padded_decimal z n) ≡ Some n
+phases_padded z n l h = within-padded 2 MAX_PHASES z n l h (omega arith)
 
 -- a number in a range is no option
 plain : (z n : ℕ) → n ≤ MAX_CLOCKS → is_like_option (padded_decimal z n) ≡ false
@@ -88,6 +91,13 @@ module _ (name p o : Text) (z n : ℕ) (low : 1 ≤ n) (high : n ≤ MAX_LEVELS)
 
   pub cut_after : command_of (name ∷ codes "cut" ∷ codes "--" ∷ padded_decimal z n ∷ p ∷ o ∷ []) ≡ Some (rewrite (Cut n) p o)
   cut_after = cut_reads_after name (padded_decimal z n) p o n (levels_padded z n low high)
+
+module _ (name p o : Text) (z n : ℕ) (low : 2 ≤ n) (high : n ≤ MAX_PHASES) where
+  pub widen_alone : is_like_option p ≡ false → is_like_option o ≡ false → command_of (name ∷ codes "widen" ∷ padded_decimal z n ∷ p ∷ o ∷ []) ≡ Some (rewrite (Widen n) p o)
+  widen_alone ep eo = widen_reads name (padded_decimal z n) p o n (phases_padded z n low high) (plain z n (omega (arith, high))) ep eo
+
+  pub widen_after : command_of (name ∷ codes "widen" ∷ codes "--" ∷ padded_decimal z n ∷ p ∷ o ∷ []) ≡ Some (rewrite (Widen n) p o)
+  widen_after = widen_reads_after name (padded_decimal z n) p o n (phases_padded z n low high)
 
 pub make_alone : (name : Text) (z n : ℕ) → n ≤ MAX_MADE → command_of (name ∷ codes "make" ∷ padded_decimal z n ∷ []) ≡ Some (make n)
 make_alone name z n low = make_reads name (padded_decimal z n) n (made_padded z n low) (plain z n (omega arith))

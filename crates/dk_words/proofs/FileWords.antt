@@ -8,11 +8,11 @@ use Rattle.clap.specs.Takes.{walk_passes}
 use Rattle.clap.specs.Walk.{Held, Row, Rule, Text, Walk, after_step, arg_by_index, finished, idle, nothing_held, option, plain_word, rows_after, settled, to_positional, value, walk_from, walked, walked_from, word_met}
 use Rattle.clap.specs.Simple.{Shape}
 use Rattle.dk_words.specs.Words.{is_like_option}
-use Rattle.dk_words.specs.Command.{Command, age_number, block_number, check, check_of_rows, clocks_of, command_of, compile, compile_of_rows, compile_on, cut_of_rows, cut_on, eval, eval_of_rows, hold_number, levels_number, made_number, make, make_of_rows, make_on, narrow_of_rows, plan, plan_of_rows, plan_on, rewrite, run, run_of_rows, run_on, sim, sim_of_rows, sim_on, trace, trace_of_rows, trace_on}
+use Rattle.dk_words.specs.Command.{Command, age_number, block_number, check, check_of_rows, clocks_of, command_of, compile, compile_of_rows, compile_on, cut_of_rows, cut_on, eval, eval_of_rows, hold_number, levels_number, made_number, make, make_of_rows, make_on, narrow_of_rows, phases_number, plan, plan_of_rows, plan_on, rewrite, run, run_of_rows, run_on, sim, sim_of_rows, sim_on, trace, trace_of_rows, trace_on, widen_of_rows, widen_on}
 use Rattle.dk_words.specs.declared.command.PowerUp.TheVariants.{Zeros, Ones}
-use Rattle.dk_words.specs.declared.command.Rewriting.TheVariants.{Cut, Narrow}
+use Rattle.dk_words.specs.declared.command.Rewriting.TheVariants.{Cut, Narrow, Widen}
 use Rattle.dk_words.proofs.Joined.{both}
-use Rattle.dk_words.specs.Words.{run_command, eval_command, compile_command, sim_command, trace_command, plan_command, check_command, make_command, cut_command, narrow_command}
+use Rattle.dk_words.specs.Words.{run_command, eval_command, compile_command, sim_command, trace_command, plan_command, check_command, make_command, cut_command, narrow_command, widen_command}
 use Rattle.dk_words.proofs.TakenLemmas.{in_program}
 
 -- ---- a word that is not like an option
@@ -457,6 +457,26 @@ narrow_reads name p o ep eo =
 pub narrow_reads_after : (name p o : Text) → command_of (name ∷ codes "narrow" ∷ codes "--" ∷ p ∷ o ∷ []) ≡ Some (rewrite Narrow p o)
 unfolding walked walk_passes
 narrow_reads_after name p o = refl
+
+-- ---- `widen`
+
+abbrev widen_shape : Shape
+widen_shape = in_program widen_command
+
+widen_go : (n p o : Text) → is_like_option n ≡ false → is_like_option p ≡ false → is_like_option o ≡ false → Goes widen_shape (walk_from nothing_held) (n ∷ p ∷ o ∷ []) (placed widen_shape (n ∷ p ∷ o ∷ []))
+widen_go n p o en ep eo = goes_by_word widen_shape _ 1 _ n _ en refl (goes_by_word widen_shape _ 2 _ p _ ep refl (goes_by_word widen_shape _ 3 _ o _ eo refl (goes_nowhere widen_shape _)))
+
+module _ (name n p o : Text) (phases : ℕ) (is : phases_number n ≡ Some phases) where
+  pub widen_reads : is_like_option n ≡ false → is_like_option p ≡ false → is_like_option o ≡ false → command_of (name ∷ codes "widen" ∷ n ∷ p ∷ o ∷ []) ≡ Some (rewrite (Widen phases) p o)
+  unfolding walked walk_passes
+  widen_reads en ep eo =
+      let to = placed widen_shape (n ∷ p ∷ o ∷ []) in
+      let goes = widen_go n p o en ep eo in
+      named _ _ _ (both _ _ (level widen_shape (n ∷ p ∷ o ∷ []) to goes refl) refl) (reads widen_shape (n ∷ p ∷ o ∷ []) to widen_of_rows _ goes (ap (λ k. widen_on k (Some p) (Some o)) is))
+
+  pub widen_reads_after : command_of (name ∷ codes "widen" ∷ codes "--" ∷ n ∷ p ∷ o ∷ []) ≡ Some (rewrite (Widen phases) p o)
+  unfolding walked walk_passes
+  widen_reads_after = ap (λ k. widen_on k (Some p) (Some o)) is
 
 -- ---- `trace`
 

@@ -3,13 +3,13 @@ use Rattle.std.proofs.Common.{◌≡◌, ℕ, ◌≤◌, ◌&&◌, refl, Bool, t
 use Rattle.std.proofs.lemmas.Bool.Decides.{nat_tests}
 use Rattle.std.specs.Str.{bytes_eq}
 use Rattle.dk_base.specs.declared.TheConstants.{MAX_CLOCKS, MAX_HOLD, MAX_AGE, MAX_BUFFER_BITS, MAX_MADE}
-use Rattle.dk_words.specs.declared.TheConstants.{MAX_LEVELS}
+use Rattle.dk_words.specs.declared.TheConstants.{MAX_LEVELS, MAX_PHASES}
 use Rattle.clap.specs.Walk.{Row, Text, first_of}
 use Rattle.clap.specs.Simple.{subcommand_of}
 use Rattle.clap.specs.Takes.{takes}
 use Rattle.dk_words.specs.Words.{program}
 use Rattle.dk_words.specs.Numbers.{number_of, number_within, within}
-use Rattle.dk_words.specs.Command.{Command, IsInRange, age_number, age_of, block_number, block_of, check_of_rows, check_on, clocks_of, command_asked, command_from, command_of, compile_of_rows, compile_on, cut_of_rows, cut_on, enable_of, eval_of_rows, eval_on, fill_of, hold_number, hold_of, levels_number, made_number, make_of_rows, make_on, narrow_of_rows, narrow_on, plan_of_rows, plan_on, run_of_rows, run_on, sim_of_rows, sim_on, trace_of_rows, trace_on}
+use Rattle.dk_words.specs.Command.{Command, IsInRange, age_number, age_of, block_number, block_of, check_of_rows, check_on, clocks_of, command_asked, command_from, command_of, compile_of_rows, compile_on, cut_of_rows, cut_on, enable_of, eval_of_rows, eval_on, fill_of, hold_number, hold_of, levels_number, made_number, make_of_rows, make_on, narrow_of_rows, narrow_on, phases_number, plan_of_rows, plan_on, run_of_rows, run_on, sim_of_rows, sim_on, trace_of_rows, trace_on, widen_of_rows, widen_on}
 use Rattle.dk_words.specs.declared.NoCommand.{NoCommand}
 use Rattle.dk_words.specs.declared.command.Asked.{Asked}
 use Rattle.dk_words.specs.declared.command.PowerUp.{PowerUp}
@@ -78,6 +78,11 @@ levels_in : (o : Option Text) → IfSome (option_and_then levels_number o) (λ n
 levels_in None = tt
 levels_in (Some word) = number_in 1 MAX_LEVELS word
 
+-- P of `widen`
+phases_in : (o : Option Text) → IfSome (option_and_then phases_number o) (λ n. (2 ≤ n) × (n ≤ MAX_PHASES))
+phases_in None = tt
+phases_in (Some word) = number_in 2 MAX_PHASES word
+
 -- ---- commands
 
 run_in : (p i o : Option Text) (a : Option ℕ) → IfSome a (λ m. m ≤ MAX_AGE) → IfSome (run_on p i o a) IsInRange
@@ -122,6 +127,12 @@ narrow_in None o = tt
 narrow_in (Some p) None = tt
 narrow_in (Some p) (Some o) = tt
 
+widen_in : (n : Option ℕ) (p o : Option Text) → IfSome n (λ m. (2 ≤ m) × (m ≤ MAX_PHASES)) → IfSome (widen_on n p o) IsInRange
+widen_in None p o within = tt
+widen_in (Some n) None o within = tt
+widen_in (Some n) (Some p) None within = tt
+widen_in (Some n) (Some p) (Some o) within = within
+
 sim_in : (v : Option Text) (n : Option ℕ) (i o : Option Text) (f : Option PowerUp) (h : Option (Option ℕ)) → IfSome n (λ m. m ≤ MAX_CLOCKS) → IfSome h (λ x. IfSome x (λ k. (1 ≤ k) × (k ≤ MAX_HOLD))) → IfSome (sim_on v n i o f h) IsInRange
 sim_in None n i o f h few held = tt
 sim_in (Some v) None i o f h few held = tt
@@ -165,7 +176,9 @@ from_in (Some p) =
     (one_in (bytes_eq p.0 (codes "make")) (make_of_rows p.1) _ (make_in (option_and_then made_number (first_of (codes "N") p.1)) (number_made_in (first_of (codes "N") p.1)))
     (one_in (bytes_eq p.0 (codes "cut")) (cut_of_rows p.1) _
     (cut_in (option_and_then levels_number (first_of (codes "N") p.1)) (first_of (codes "PROG") p.1) (first_of (codes "OUT") p.1) (levels_in (first_of (codes "N") p.1)))
-    (one_in (bytes_eq p.0 (codes "narrow")) (narrow_of_rows p.1) None (narrow_in (first_of (codes "PROG") p.1) (first_of (codes "OUT") p.1)) tt)))))))))
+    (one_in (bytes_eq p.0 (codes "narrow")) (narrow_of_rows p.1) _ (narrow_in (first_of (codes "PROG") p.1) (first_of (codes "OUT") p.1))
+    (one_in (bytes_eq p.0 (codes "widen")) (widen_of_rows p.1) None
+    (widen_in (option_and_then phases_number (first_of (codes "P") p.1)) (first_of (codes "PROG") p.1) (first_of (codes "OUT") p.1) (phases_in (first_of (codes "P") p.1))) tt))))))))))
 
 -- the command that words name
 pub named_in : (ws : List Text) (command : Command) → command_of ws ≡ Some command → IsInRange command

@@ -4,7 +4,7 @@ ghost use Rattle.std.specs.Prelude.{◌≡◌, Option, None, Some, option_map, o
 ghost use Rattle.clap.specs.Words.{first_of, rows_of, found_of, subcommand_rows_of};
 ghost use Rattle.dk_words.specs.Command as command;
 
-use crate::MAX_LEVELS;
+use crate::{MAX_LEVELS, MAX_PHASES};
 use crate::numbers::number_within;
 use clap::ArgMatches;
 use dk_base::{MAX_AGE, MAX_BUFFER_BITS, MAX_CLOCKS, MAX_HOLD, MAX_MADE};
@@ -99,9 +99,11 @@ pub enum Rewriting {
     Cut(u8),
     /// `narrow`.
     Narrow,
+    /// `widen`, with the pixels a clock, 2 to `MAX_PHASES`.
+    Widen(u8),
 }
 
-/// The words of `cut` and `narrow`.
+/// The words of `cut`, `narrow` and `widen`.
 #[derive(Clone, Copy, Debug, PartialEq, Eq)]
 pub struct RewriteWords<'a> {
     pub how: Rewriting,
@@ -201,6 +203,13 @@ fn read_levels(matches: &ArgMatches) -> Option<u8>
     ensures { result ≡ option_and_then command.levels_number (first_of (codes "N") (rows_of (found_of matches.now))) }
 {
     Some(number_within(given(matches, "N")?, 1, MAX_LEVELS as u32)? as u8)
+}
+
+// How many phases are written.
+fn read_phases(matches: &ArgMatches) -> Option<u8>
+    ensures { result ≡ option_and_then command.phases_number (first_of (codes "P") (rows_of (found_of matches.now))) }
+{
+    Some(number_within(given(matches, "P")?, 2, MAX_PHASES as u32)? as u8)
 }
 
 // The words of `run`, where each has a value.
@@ -330,6 +339,17 @@ fn read_narrow<'a>(matches: &ArgMatches<'a>) -> Option<RewriteWords<'a>>
     Some(RewriteWords { how, program, out })
 }
 
+// The words of `widen`, where each has a value.
+fn read_widen<'a>(matches: &ArgMatches<'a>) -> Option<RewriteWords<'a>>
+    ensures { option_map (λ k. command.rewrite k.how k.program.now k.out.now) result ≡ command.widen_of_rows (rows_of (found_of matches.now)) }
+{
+    let phases = read_phases(matches)?;
+    let program = given(matches, "PROG")?;
+    let out = given(matches, "OUT")?;
+    let how = Rewriting::Widen(phases);
+    Some(RewriteWords { how, program, out })
+}
+
 // The command of the matches.
 pub fn read_matches<'a>(matches: &ArgMatches<'a>) -> Option<Asked<'a>>
     ensures { option_map command.command_asked result ≡ command.command_from (subcommand_rows_of matches.now) }
@@ -346,6 +366,7 @@ pub fn read_matches<'a>(matches: &ArgMatches<'a>) -> Option<Asked<'a>>
         "make" => Some(Asked::Make(read_make(inner)?)),
         "cut" => Some(Asked::Rewrite(read_cut(inner)?)),
         "narrow" => Some(Asked::Rewrite(read_narrow(inner)?)),
+        "widen" => Some(Asked::Rewrite(read_widen(inner)?)),
         _ => None,
     }
 }

@@ -196,6 +196,18 @@ fn narrow_command<'a>(alloc: Global) -> Result<Command<'a>, AllocError>
     Ok(command)
 }
 
+// `widen P PROG OUT`.
+fn widen_command<'a>(alloc: Global) -> Result<Command<'a>, AllocError>
+    ensures shape { IfOk result (λ c. shape_of c ≡ words.widen_command) }
+    ensures local { IfOk result (λ c. (fields_of c).has_globals ≡ false) }
+{
+    let command = Command::new(alloc, "widen");
+    let command = command.arg(word(alloc, "P"))?;
+    let command = command.arg(word(alloc, "PROG"))?;
+    let command = command.arg(word(alloc, "OUT"))?;
+    Ok(command)
+}
+
 // The program, with `plan`, `check` and `make` too.
 fn first_commands<'a>(alloc: Global) -> Result<Command<'a>, AllocError>
     ensures { IfOk result (λ c. app_of c ≡ words.program_with words.first_commands) }
@@ -214,6 +226,7 @@ fn program_command<'a>(alloc: Global) -> Result<Command<'a>, AllocError>
     let command = first_commands(alloc)?;
     let command = command.subcommand(cut_command(alloc)?)?;
     let command = command.subcommand(narrow_command(alloc)?)?;
+    let command = command.subcommand(widen_command(alloc)?)?;
     Ok(command)
 }
 

@@ -2,5 +2,7 @@
 #![tactic(auto)]
 
 mod fault;
+mod widen;
 
 pub use fault::SourceFault;
+pub use widen::WidenFault;

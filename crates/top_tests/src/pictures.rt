@@ -96,7 +96,7 @@ fn runs_where_nothing_fails(rt: HostRuntime) -> Result<(), Fail> {
 fn words_and_failures_are_told(rt: HostRuntime) -> Result<(), Fail> {
     let alloc = rt.alloc();
     let usage =
-        b"usage: run [--age K] PROG IN OUT | compile [--enable] [--age K] [--block N] PROG OUT | plan [--age K] PROG | sim VERILOG CLOCKS IN OUT [--fill FILL] [--hold K] | eval PROG IN OUT | make N | check PROG REPORT | trace VERILOG CLOCKS IN VCD | cut N PROG OUT | narrow PROG OUT\n";
+        b"usage: run [--age K] PROG IN OUT | compile [--enable] [--age K] [--block N] PROG OUT | plan [--age K] PROG | sim VERILOG CLOCKS IN OUT [--fill FILL] [--hold K] | eval PROG IN OUT | make N | check PROG REPORT | trace VERILOG CLOCKS IN VCD | cut N PROG OUT | narrow PROG OUT | widen P PROG OUT\n";
     // The program is opened and read twice, the last time at its end, and then the image; the call 6 creates the output.
     let cases: [(&[&str], u64, u8, &[u8], Option<&[u8]>); 5] = [
         (

@@ -1,17 +1,17 @@
-//! `cut` and `narrow`: other programs with the same pictures.
+//! `cut`, `narrow` and `widen`: other programs with the same pictures.
 
 ghost use Rattle.std.specs.Prelude.{◌≡◌, ◌≢◌, ◌⊎◌, Some, Err, IfOk, IfErr, IfSome, OnOk, OnErr, IsErr};
 ghost use Rattle.dk_desk.specs.Calls.{HasCauseIn, IsIfTold, OpensOnly, grown};
-ghost use Rattle.dk_compile.specs.Limits.{IsFaultAt};
-ghost use Rattle.dk_top.specs.Command.{rewrite as rewrite_command};
-ghost use Rattle.dk_top.specs.Program.{CanBeCompiled};
+ghost use Rattle.dk_top.specs.Command.{rewrite as rewrite_command, IsRewriting};
+ghost use Rattle.dk_top.specs.Verdict.{CanBeRewritten};
 ghost use Rattle.dk_top.specs.Rewriting.{IsRewriteOf, AreRewriteLines};
-ghost use Rattle.dk_top.specs.Reading.{OfFile, Stops, IsSourceEnding, WritesBoth, EndsInLine};
+ghost use Rattle.dk_top.specs.Reading.{OfFile, Stops, IsRewriteEnding, WritesBoth, EndsInLine};
 ghost use Rattle.dk_top.specs.State.{LeavesText, IsPrefix, OthersStay};
 
 use super::cutting::cut_text;
 use super::narrowing::narrow_text;
 use super::reported::Rewritten;
+use super::widening::widen_text;
 use crate::files::{write_file, write_report};
 use crate::reading::read_text;
 use crate::work::Work;
@@ -22,16 +22,18 @@ use std::alloc::Global;
 
 // What a text is rewritten to.
 fn rewrite_text(alloc: Global, text: &[u8], how: Rewriting) -> Result<Rewritten, Ending>
+    requires ranges { IsRewriting how }
     ensures is { IfOk result (λ r. IsRewriteOf how text.now r.text.items) }
     ensures lines { IfOk result (λ r. AreRewriteLines how text.now r.text.items r.lines.items) }
-    ensures good { OnOk result (CanBeCompiled text.now 0) }
-    ensures fault { IfErr result (IsSourceEnding (IsFaultAt text.now 0)) }
+    ensures good { OnOk result (CanBeRewritten how text.now) }
+    ensures fault { IfErr result (IsRewriteEnding how text.now) }
     ensures stops { IfErr result Stops }
     ensures judged { result ≢ Err Ending.ReadFault }
 {
     match how {
         Rewriting::Cut(levels) => cut_text(alloc, text, levels),
         Rewriting::Narrow => narrow_text(alloc, text),
+        Rewriting::Widen(phases) => widen_text(alloc, text, phases),
     }
 }
 
@@ -42,12 +44,13 @@ fn read_rewritten<D: Desk>(
     name: &str,
     how: Rewriting,
 ) -> Result<Rewritten, Ending>
+    requires ranges { IsRewriting how }
     requires fresh { (D.outside desk.old).program.stage ≡ Stage.Unasked }
     requires before_create { (D.outside desk.old).file.stage ≡ Stage.Unasked }
     ensures is { IfOk result (λ r. OfFile (D.outside desk.old) name.now (λ source. IsRewriteOf how source r.text.items)) }
     ensures lines { IfOk result (λ r. OfFile (D.outside desk.old) name.now (λ source. AreRewriteLines how source r.text.items r.lines.items)) }
-    ensures good { OnOk result (OfFile (D.outside desk.old) name.now (λ source. CanBeCompiled source 0)) }
-    ensures fault { IfErr result (λ e. OfFile (D.outside desk.old) name.now (λ source. IsSourceEnding (IsFaultAt source 0) e)) }
+    ensures good { OnOk result (OfFile (D.outside desk.old) name.now (λ source. CanBeRewritten how source)) }
+    ensures fault { IfErr result (λ e. OfFile (D.outside desk.old) name.now (λ source. IsRewriteEnding how source e)) }
     ensures stops { IfErr result Stops }
     ensures left { IfErr result (λ e. OfFile (D.outside desk.old) name.now (λ source. LeavesText e source (D.outside desk.new).program)) }
     ensures name { IsIfTold (D.outside desk.new).program.name (Some name.now) }

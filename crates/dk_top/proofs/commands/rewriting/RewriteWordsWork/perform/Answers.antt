@@ -1,6 +1,7 @@
 use Rattle.std.proofs.Common.{ap}
 use Rattle.dk_desk.specs.Outside.{Outside}
 use Rattle.dk_top.proofs.RewriteLemmas.{lines_whole, lines_front}
+use Rattle.dk_top.proofs.WidenLemmas.{ended_told, done_told, write_told}
 use Rattle.dk_top.proofs.commands.rewriting.RewriteWordsWork.perform.Goals as goal
 
 pub returns-in-Ok-write_both-clause-report : goal.returns-in-Ok-write_both-clause-report
@@ -14,3 +15,12 @@ returns-clause-report g c =
     let outside = g.D.Desk.outside in
     lines_front _ c.args.self.now.how c.args.self.now.program.now c.in-Ok.rewritten.text.items c.in-Ok.rewritten.lines.items (outside c.read_rewritten.new.desk) (outside c.write_both.new.desk) (outside c.args.desk.now).report
     (ap (λ (o : Outside). o.report) c.in-Ok.ensures.only) c.in-Ok.ensures.is c.in-Ok.ensures.lines c.in-Err-write_both.ensures.front
+
+pub returns-in-Err-clause-verdict : goal.returns-in-Err-clause-verdict
+returns-in-Err-clause-verdict g c = ended_told _ c.args.self.now.how c.args.self.now.program.now c.in-Err.ending c.in-Err.ensures.fault
+
+pub returns-in-Ok-write_both-clause-verdict : goal.returns-in-Ok-write_both-clause-verdict
+returns-in-Ok-write_both-clause-verdict g c = done_told _ c.args.self.now.how c.args.self.now.program.now c.in-Ok.ensures.good
+
+pub returns-clause-verdict : goal.returns-clause-verdict
+returns-clause-verdict g c = write_told _ c.args.self.now.how c.args.self.now.program.now c.in-Ok.ensures.good
