@@ -288,7 +288,7 @@ usage_fault <<'end'
 The command is missing. `./dk --help` shows the commands and options.
 end
 usage_fault ru p.dk i.pgm o.pgm <<'end'
-There is no command `ru`. The commands are: run compile plan sim eval make check trace cut narrow. `./dk --help` shows the commands and options.
+There is no command `ru`. The commands are: run compile plan sim eval make check trace cut narrow widen. `./dk --help` shows the commands and options.
 end
 usage_fault -- run p.dk i.pgm o.pgm <<'end'
 The command comes first, but `--` begins with a hyphen. `./dk --help` shows the commands and options.
@@ -372,6 +372,7 @@ taken plan -- --age
 taken make 0000000000000000000000000000000000000000000000000000004194303
 taken cut 064 p.dk o.dk
 taken narrow p.dk o.dk
+taken widen 8 p.dk o.dk
 
 # The help page has a line for each command and option, of 80 columns at most.
 help_page >page
@@ -395,7 +396,7 @@ awk -F '|' '
     /^Of a file of images / { text = "image" }
     /^Of a Verilog text / { text = "verilog" }
     /^\| `/ && text != "" && !/^\| `stopped/ { add(text, $2) }
-    /^\|[^|]*\| `(program|image|verilog|stopped|report)( S-E)?: / && $2 !~ /:/ { match($3, /[a-z]+/); add(substr($3, RSTART, RLENGTH), $3) }
+    /^\|[^|]*\| `(program|image|verilog|stopped|report|widen)( S-E)?: / && $2 !~ /:/ { match($3, /[a-z]+/); add(substr($3, RSTART, RLENGTH), $3) }
     /^- The kinds of a Verilog fault are/ { sub(/ They are judged.*/, ""); add("verilog", $0) }
 ' "$top/docs/COMMANDS.md" | sort -u >listed
 sed -n 's/^    \([a-z]*\.[A-Za-z]*\)) .*/\1/p' "$top/tools/faults.sh" | sort >explained
@@ -457,7 +458,7 @@ p.dk:3:17
                     ^
 No input and no earlier definition has this name; an image cannot read itself or a later one.
 end
-    for words in 'plan p.dk' 'run --age 1 p.dk none.pgm o.pgm' 'eval p.dk - o.pgm' 'compile --enable --block 2 p.dk o.v' 'cut 1 p.dk o.dk' 'narrow p.dk o.dk' 'check p.dk none.txt'; do
+    for words in 'plan p.dk' 'run --age 1 p.dk none.pgm o.pgm' 'eval p.dk - o.pgm' 'compile --enable --block 2 p.dk o.v' 'cut 1 p.dk o.dk' 'narrow p.dk o.dk' 'widen 2 p.dk o.dk' 'check p.dk none.txt'; do
         terminal 3 "'$top/dk' $words" <place
     done
     terminal 3 "cat i.pgm | '$top/dk' run p.dk /dev/stdin o.pgm" <place

@@ -27,6 +27,7 @@ LINES = {
     8: r"cannot write\n",
     9: r"out of memory\n",
     10: r"report: (TooLong 4194304|line \d+)\n",
+    11: r"widen: (Limits|(Width|Inputs|Outputs) \d+)\n",
 }
 
 # Texts that are refused, and their lines.
@@ -94,7 +95,7 @@ class Calls:
 
     def judge(self, words, files, answer):
         command, status = words[0], answer.status
-        writes = command in ("run", "eval", "compile", "cut", "narrow", "sim", "trace")
+        writes = command in ("run", "eval", "compile", "cut", "narrow", "widen", "sim", "trace")
         if status not in LINES:
             return self.wrong(words, files, f"ends with status {status}: {answer.line[:200]}")
         if not re.fullmatch(LINES[status], answer.line):
@@ -134,6 +135,9 @@ class Calls:
                 shown = self.call(["eval", "c.dk", "i.pgm", "out"], {"c.dk": other.file, "i.pgm": image})
                 if shown and (shown.status, shown.file) != (0, answer.file):
                     self.wrong(words, files, "shows another picture")
+        wide = self.call(["widen", "2", "p.dk", "out"], files)
+        if wide and made and (wide.status == 3) != (made.status == 3):
+            self.wrong(["widen", "2", "p.dk", "out"], files, "does not agree with compile")
         plan = self.call(["plan", "p.dk"], files)
         if answer and made and plan and (answer.status == 3) != (made.status == 3) or plan and made and plan[:2] != made[:2]:
             self.wrong(["plan", "p.dk"], files, "does not agree with compile or eval")

@@ -82,7 +82,7 @@ for words in '--help' '-h' 'help help' '--help --version'; do
     # shellcheck disable=SC2086
     [ "$(dk $words)" = "$help" ] || wrong "dk $words is not dk help"
 done
-for command in run compile plan sim eval make check trace cut narrow; do
+for command in run compile plan sim eval make check trace cut narrow widen; do
     shows "usage: dk $command " dk help "$command"
     page=$(dk help "$command")
     for words in "$command --help" "$command -h" "--help $command" "$command a.dk --age 3 --help --"; do

@@ -117,6 +117,7 @@ refuses 'eval of the Gaussian' out.pgm eval gaussian3.dk scene.pgm out.pgm
 refuses 'compile of the Sobel filter' out.v compile sobel.dk out.v
 refuses 'cut of the Sobel filter' out.dk cut 2 sobel.dk out.dk
 refuses 'narrow of the Sobel filter' out.dk narrow sobel.dk out.dk
+refuses 'widen of the Sobel filter' out.dk widen 2 sobel.dk out.dk
 refuses 'plan of the Sobel filter' out.none plan sobel.dk
 refuses 'sim of a line buffer' out.pgm sim line_buffer.v 3072 scene.pgm out.pgm
 refuses 'trace of a line buffer' out.vcd trace line_buffer.v 200 scene.pgm out.vcd

@@ -20,7 +20,7 @@ explain() (
     read_words "$@"
     case $status in
     2) explain_usage "$@" ;;
-    3 | 4 | 5 | 6 | 10) explain_fault ;;
+    3 | 4 | 5 | 6 | 10 | 11) explain_fault ;;
     7) explain_read ;;
     8) explain_write ;;
     9) put 'The system refused memory, and nothing was written; raise the limit (`ulimit -v`), or use a smaller program or image file.' ;;
@@ -113,7 +113,7 @@ explain_fault() {
     span=${span#"$text"}
     fault=${line#*: }
     case $text in
-    program) set_file PROG ;;
+    program | widen) set_file PROG ;;
     verilog | stopped) set_file VERILOG ;;
     image) set_file IN ;;
     report) set_file REPORT ;;

@@ -62,6 +62,10 @@ meaning() {
     verilog.Cycle) put 'This assign depends on itself; put a register in between.' ;;
     stopped.clock) put "In clock $3 (-1 is the reset clock) array $5 of the text (counted from 0) is read or written at index $7, which is past its end." ;;
     stopped.count) put "\`valid\` was 1 in $3 clocks, but the images have $5 pixels; take CLOCKS from the line \`clocks\` of the program's plan." ;;
+    widen.Width) put "The frame is $3 columns wide, and P must divide its width; choose another P or another width." ;;
+    widen.Inputs) put "The program would have $3 inputs, and eight are allowed; choose a smaller P, or split the program." ;;
+    widen.Outputs) put "The program would have $3 outputs, and eight are allowed; choose a smaller P, or split the program." ;;
+    widen.Limits) put "The program of P pixels a clock is over a limit (definitions, nodes, live reads, buffer bits); choose a smaller P, or widen it before \`cut\`." ;;
     report.TooLong) put "The report has more than $3 bytes." ;;
     report.line) put "Line $3 is the first wrong line of the report, in its form or in what it states ($docs/REPORT.md)." ;;
     esac

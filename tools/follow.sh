@@ -51,7 +51,7 @@ ask_again() {
     ended=$status
     read_words "$@"
     case $status in
-    3 | 5)
+    3 | 5 | 11)
         # Nothing was read but the program or the Verilog text.
         [ -z "${images+set}" ] || images=/dev/null
         [ -z "${report+set}" ] || report=/dev/null

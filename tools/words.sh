@@ -1,7 +1,7 @@
 # The words of a call of dk, for tools/explain.sh: what each is, and which is wrong; and the help page.
 # `called` is the script's name for its caller, and `docs` is the folder of the pages, as both are shown.
 
-commands='run compile plan sim eval make check trace cut narrow'
+commands='run compile plan sim eval make check trace cut narrow widen'
 see_help="\`${called:?} --help\` shows the commands and options."
 case ${docs:?} in
 */..*) docs=$(CDPATH='' cd -- "$docs" 2>/dev/null && pwd) || docs=docs ;;
@@ -51,6 +51,7 @@ find_command() {
     trace) names='VERILOG CLOCKS IN VCD' ;;
     cut) names='N PROG OUT' ;;
     narrow) names='PROG OUT' ;;
+    widen) names='P PROG OUT' ;;
     '') note_wrong "The command is missing. $see_help" && return 1 ;;
     -*) note_wrong "The command comes first, but $(quoted "$command") begins with a hyphen. $see_help" && return 1 ;;
     *) note_wrong "There is no command $(quoted "$command"). The commands are: $commands. $see_help" && return 1 ;;
@@ -107,12 +108,13 @@ take_word() {
     REPORT) report=$1 ;;
     OUT | VCD) out=$1 ;;
     CLOCKS*) clocks=$1 ;;
-    N*) count=$1 ;;
+    N* | 'P '*) count=$1 ;;
     esac
     case $names in
     CLOCKS*) is_within "$1" 0 100000000 || note_wrong "CLOCKS is a number from 0 to 100,000,000, but is $(quoted "$1")." ;;
     N) is_within "$1" 0 4194303 || note_wrong "N is a number from 0 to 4,194,303, but is $(quoted "$1")." ;;
     N*) is_within "$1" 1 64 || note_wrong "N is a number from 1 to 64, but is $(quoted "$1")." ;;
+    'P '*) is_within "$1" 2 8 || note_wrong "P is a number from 2 to 8, but is $(quoted "$1")." ;;
     '') note_wrong "$(quoted "$1") is one word too many. $command expects $expected." ;;
     esac
     case $names in
@@ -164,6 +166,7 @@ usage: $called COMMAND [OPTION..] WORD..
   trace VERILOG CLOCKS IN VCD  clock a Verilog text, write a value change dump
   cut N PROG OUT               divide bodies of more than N levels of operators
   narrow PROG OUT              give images the bits that their values need
+  widen P PROG OUT             write a program of P pixels a clock
   make N                       make a program from a number, and run it
   help [COMMAND]               print this page, or the help of a command
   --version                    print the version, the kit and the sources
@@ -177,7 +180,8 @@ usage: $called COMMAND [OPTION..] WORD..
   --           ends the options; a later word may begin with a hyphen
 
 PROG is a program (LANGUAGE.md), IN a file of PGM images (PGM.md).
-CLOCKS is 0 to 100,000,000. N of make is 0 to 4,194,303, N of cut 1 to 64.
+CLOCKS is 0 to 100,000,000. N of make is 0 to 4,194,303, N of cut 1 to 64,
+P 2 to 8.
 DK_EXPLAIN in the environment is always, never or auto: whether a fault is
 explained below its line. auto: if standard error is a terminal.
 More: $docs/COMMANDS.md.

@@ -15,6 +15,8 @@ while IFS=$tab read -r line text <&3; do
         none
         ends 3 "$line" narrow text.dk out.pgm
         none
+        ends 3 "$line" widen 2 text.dk out.pgm
+        none
     fi
 done 3<"$tests/calls/programs.txt"
 

@@ -13,7 +13,7 @@ _dk_files() {
 
 _dk() {
     local current=${COMP_WORDS[COMP_CWORD]} command=${COMP_WORDS[1]} options words given='' at=0 k option value
-    local commands='run compile plan sim eval make check trace cut narrow'
+    local commands='run compile plan sim eval make check trace cut narrow widen'
     COMPREPLY=()
     if [ "$COMP_CWORD" = 1 ]; then
         mapfile -t COMPREPLY < <(compgen -W "$commands help --help --version" -- "$current")
@@ -32,7 +32,7 @@ _dk() {
     make) words=(number) ;;
     check) words=(.dk any) ;;
     trace) words=(.v number .pgm any) ;;
-    cut) words=(number .dk any) ;;
+    cut | widen) words=(number .dk any) ;;
     narrow) words=(.dk any) ;;
     *) return ;;
     esac

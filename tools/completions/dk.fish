@@ -25,7 +25,7 @@ function __dk_words
             set kinds .v number .pgm any
         case make
             set kinds number
-        case cut
+        case cut widen
             set kinds number .dk any
     end
     set -l at 1
@@ -67,10 +67,11 @@ complete -c dk -n __dk_command -a check -d 'judge a report'
 complete -c dk -n __dk_command -a trace -d 'write the value change dump of a Verilog text'
 complete -c dk -n __dk_command -a cut -d 'write a program with fewer levels of operators'
 complete -c dk -n __dk_command -a narrow -d 'write a program with narrower images'
+complete -c dk -n __dk_command -a widen -d 'write a program that takes several pixels a clock'
 complete -c dk -n __dk_command -a help -d 'print the commands and options, or the help of a command'
 complete -c dk -n __dk_command -l version -d 'print the version, the kit and the sources'
 complete -c dk -n 'not contains -- -- (commandline -opc)' -s h -l help -d 'print help'
-complete -c dk -n '__dk_command help' -a 'run compile plan sim eval make check trace cut narrow'
+complete -c dk -n '__dk_command help' -a 'run compile plan sim eval make check trace cut narrow widen'
 complete -c dk -n '__dk_command run compile plan' -x -l age -d 'least age of a live read, 0 to 64'
 complete -c dk -n '__dk_command compile' -l enable -d 'add a clock enable'
 complete -c dk -n '__dk_command compile' -x -l block -d 'fewest words of a block memory, 2 to 67108864'
