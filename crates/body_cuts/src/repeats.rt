@@ -3,7 +3,8 @@
 use crate::images::is_inline;
 use crate::names::Names;
 use body_terms::{PixelRead, Term, TermNode, boxed, own_levels};
-use dk_base::{Binary, OutOfMemory, Scaling};
+use dk_base::{Binary, OutOfMemory, Scaling, Ty};
+use indexmap::IndexMap;
 use std::alloc::Global;
 
 // How the reads of a part are moved, all by the same columns.
@@ -13,11 +14,20 @@ pub(crate) struct Shift {
     pub(crate) clamped: bool,
 }
 
-// A part of a body, and the move of its reads.
-#[derive(Clone, Copy)]
-struct Moved<'a> {
+// A part of a body with the columns of its reads, whether an equal part has reads at other columns, and the part before it with the same mark.
+#[derive(Drop)]
+struct Class<'a> {
     part: &'a Term,
-    shift: Shift,
+    dx: i32,
+    is_repeated: bool,
+    before: Option<usize>,
+}
+
+// Different parts of a body in order, and the last one of each mark.
+#[derive(Drop)]
+struct Classes<'a> {
+    parts: Vec<Class<'a>>,
+    last: IndexMap<u64, usize>,
 }
 
 // How a read is moved, if it is along the line.
@@ -131,41 +141,82 @@ pub(crate) fn are_equal(a: &Term, b: &Term) -> bool {
     }
 }
 
-// Adds the parts of an expression that may be shared.
-fn note<'a>(names: &Names<'_>, e: &'a Term, items: &mut Vec<Moved<'a>>) -> Result<(), OutOfMemory> {
-    if let Some(shift) = shared_shift(names, e) {
-        items.push(Moved { part: e, shift })?;
-        return Ok(());
-    }
+// A mark with one more number.
+fn mixed(mark: u64, number: u64) -> u64 {
+    (mark.rotate_left(5) ^ number).wrapping_mul(0x517c_c1b7_2722_0a95)
+}
+
+// A mark of a part, the same for all parts that are equal but for the moves of their reads.
+fn mark_of(e: &Term) -> u64 {
+    let bits = match e.ty {
+        Ty::Unsigned(bits) => u64::from(bits),
+        Ty::Signed(bits) => u64::from(bits) << 8,
+    };
     match &e.node {
-        TermNode::Number(_) | TermNode::Read(_) | TermNode::InFrame(_, _) => Ok(()),
-        TermNode::Unary(_, a) => note(names, a, items),
-        TermNode::Scale(_, a, _) => note(names, a, items),
-        TermNode::Convert(_, a) => note(names, a, items),
-        TermNode::Binary(_, a, b) => {
-            note(names, a, items)?;
-            note(names, b, items)
-        }
-        TermNode::Select(c, a, b) => {
-            note(names, c, items)?;
-            note(names, a, items)?;
-            note(names, b, items)
-        }
+        TermNode::Read(read) => mixed(bits, u64::from(read.image)),
+        TermNode::Binary(_, a, b) => mixed(mixed(bits, mark_of(a)), mark_of(b)),
+        TermNode::Scale(_, a, by) => mixed(mixed(bits, mark_of(a)), *by),
+        TermNode::Convert(_, a) => mixed(bits, mark_of(a)),
+        TermNode::Number(_) | TermNode::InFrame(_, _) => bits,
+        TermNode::Unary(_, _) | TermNode::Select(_, _, _) => bits,
     }
 }
 
-// Whether the part is read at two columns, and is the first of these.
-fn is_first_repeated(items: &[Moved<'_>], place: usize) -> bool {
-    let Some(one) = items.get(place) else {
-        return false;
-    };
-    let is_known = items
-        .iter()
-        .take(place)
-        .any(|it| are_equal(it.part, one.part));
-    let is_moved = items.iter().any(|it| it.shift.dx != one.shift.dx
-        && are_equal(it.part, one.part));
-    !is_known && is_moved
+impl<'a> Classes<'a> {
+    // The number of a part that is equal to this one of the same mark.
+    fn find(&self, mark: u64, part: &Term) -> Option<usize> {
+        let mut at = self.last.get(&mark).copied();
+        for _ in 0..self.parts.len() {
+            let place = at?;
+            let class = self.parts.get(place)?;
+            if are_equal(class.part, part) {
+                return Some(place);
+            }
+            at = class.before;
+        }
+        None
+    }
+
+    // Adds a part whose reads are moved by these columns.
+    fn add(&mut self, part: &'a Term, dx: i32) -> Result<(), OutOfMemory> {
+        let mark = mark_of(part);
+        if let Some(place) = self.find(mark, part) {
+            if let Some(class) = self.parts.get_mut(place) {
+                class.is_repeated = class.is_repeated || class.dx != dx;
+            }
+            return Ok(());
+        }
+        let before = self.last.insert(mark, self.parts.len())?;
+        self.parts.push(Class {
+            part,
+            dx,
+            is_repeated: false,
+            before,
+        })?;
+        Ok(())
+    }
+}
+
+// Adds the parts of an expression that may be shared.
+fn note<'a>(names: &Names<'_>, e: &'a Term, classes: &mut Classes<'a>) -> Result<(), OutOfMemory> {
+    if let Some(shift) = shared_shift(names, e) {
+        return classes.add(e, shift.dx);
+    }
+    match &e.node {
+        TermNode::Number(_) | TermNode::Read(_) | TermNode::InFrame(_, _) => Ok(()),
+        TermNode::Unary(_, a) => note(names, a, classes),
+        TermNode::Scale(_, a, _) => note(names, a, classes),
+        TermNode::Convert(_, a) => note(names, a, classes),
+        TermNode::Binary(_, a, b) => {
+            note(names, a, classes)?;
+            note(names, b, classes)
+        }
+        TermNode::Select(c, a, b) => {
+            note(names, c, classes)?;
+            note(names, a, classes)?;
+            note(names, b, classes)
+        }
+    }
 }
 
 // The parts of a body that it has at two columns, each once and without its move.
@@ -174,12 +225,15 @@ pub(crate) fn repeated(
     names: &Names<'_>,
     e: &Term,
 ) -> Result<Vec<Term>, OutOfMemory> {
-    let mut items = Vec::new(alloc);
-    note(names, e, &mut items)?;
+    let mut classes = Classes {
+        parts: Vec::new(alloc),
+        last: IndexMap::new(alloc),
+    };
+    note(names, e, &mut classes)?;
     let mut found = Vec::new(alloc);
-    for place in 0..items.len() {
-        if is_first_repeated(&items, place) {
-            found.push(still(alloc, items[place].part)?)?;
+    for class in &classes.parts {
+        if class.is_repeated {
+            found.push(still(alloc, class.part)?)?;
         }
     }
     Ok(found)

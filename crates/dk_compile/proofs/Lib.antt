@@ -10,6 +10,7 @@ pub mod Searches
 pub mod Sweeps
 pub mod Decided
 pub mod Listed
+pub mod Measured
 pub mod Stenciled
 pub mod AtAge
 pub mod Errors

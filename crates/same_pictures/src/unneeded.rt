@@ -67,7 +67,7 @@ fn are_same_conversions(a: &Expr, e: &Expr) -> bool {
     }
 }
 
-// What stands for the expression without what changes nothing; but where a conversion is that of `a`, it stays.
+// An expression of the same value, without reads of definitions at the point itself and without conversions that change nothing. A conversion that `a` begins with too is kept.
 pub fn aligned<'a>(on: &Ranged<'a>, a: &Expr, e: &'a Expr) -> &'a Expr
     requires ranges { AreRangesOf on.now.program.now on.now.ranges.now }
     ensures { StandsFor on.now.program.now (tree_of e.now) (tree_of result.now) }
@@ -85,7 +85,7 @@ pub fn aligned<'a>(on: &Ranged<'a>, a: &Expr, e: &'a Expr) -> &'a Expr
     now
 }
 
-// What stands for the expression without what changes nothing.
+// An expression of the same value, without reads of definitions at the point itself and without conversions that change nothing.
 pub fn bare<'a>(on: &Ranged<'a>, e: &'a Expr) -> &'a Expr
     requires ranges { AreRangesOf on.now.program.now on.now.ranges.now }
     ensures { StandsFor on.now.program.now (tree_of e.now) (tree_of result.now) }
