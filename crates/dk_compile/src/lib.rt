@@ -8,6 +8,7 @@ mod fault;
 mod laws;
 mod options;
 mod reading;
+mod widening;
 
 pub use accepted::Front;
 pub use compiling::{Compiled, PlannedProgram, compile, compile_with, planned};
@@ -17,3 +18,4 @@ pub use laws::{drive_shows_law, one_at_age_law, one_source_law};
 pub use options::Options;
 pub use reading::{front, typed};
 pub use source_fault::SourceFault;
+pub use widening::{WideMeasures, WideText, WidenError, WidenFault, widen};
