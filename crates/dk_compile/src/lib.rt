@@ -18,4 +18,4 @@ pub use laws::{drive_shows_law, one_at_age_law, one_source_law};
 pub use options::Options;
 pub use reading::{front, typed};
 pub use source_fault::SourceFault;
-pub use widening::{WideMeasures, WideText, WidenError, WidenFault, widen};
+pub use widening::{WideMeasures, WideText, WidenError, WidenFault, one_widening_law, widen};

@@ -1,6 +1,6 @@
 // A program that takes several pixels a clock.
 
-ghost use Rattle.std.specs.Prelude.{◌≡◌, ◌≤◌, ℕ, List, length, IfOk, IfErr, IfSome, OnOk};
+ghost use Rattle.std.specs.Prelude.{◌≡◌, ◌≤◌, ℕ, length, IfOk, IfErr, IfSome, OnOk};
 ghost use Rattle.dk_types.specs.Typed.{Typing, typing_of};
 ghost use Rattle.dk_compile.specs.Sources.{IsErrorBy};
 ghost use Rattle.dk_compile.specs.Limits.{IsAcceptedAt, IsFaultAt};
@@ -88,6 +88,12 @@ pub struct WideText {
     pub text: Vec<u8>,
     pub measures: WideMeasures,
 }
+
+/// A law: a program has at most one reason that there is no text with its phases. Where it has its phases, only the text is left to fail.
+pub fn one_widening_law()
+    ensures reason { (phases : ℕ) (p : Typing) (f g : WidenFault) → IsWidenFault phases p f → IsWidenFault phases p g → f ≡ g }
+    ensures able { (phases : ℕ) (p : Typing) (f : WidenFault) → IsAble phases p → IsWidenFault phases p f → f ≡ WidenFault.Limits }
+{}
 
 // The typed program of a text, and the buffer bits of its plan at age 0.
 #[derive(Drop)]
