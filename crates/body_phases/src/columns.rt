@@ -2,7 +2,7 @@
 
 use crate::place::{column_of, place_of, stays_in_phase};
 use crate::reads::reads_of;
-use dk_base::OutOfMemory;
+use dk_base::{MAX_DEFINITIONS, OutOfMemory};
 use dk_types::{TypedProgram, TypedRead};
 use std::alloc::Global;
 
@@ -25,11 +25,11 @@ pub(crate) fn needed_column(phases: u32, phase: u32, read: TypedRead) -> Option<
     })
 }
 
-// Adds the columns that a read needs in the bodies of all phases.
+// Adds the columns that a read needs in the bodies of all phases. Once there are more of them than a program has definitions, the text is over that limit, and no more are added.
 fn add_columns(to: &mut Vec<Column>, phases: u32, read: TypedRead) -> Result<(), OutOfMemory> {
     for phase in 0..phases {
         if let Some(column) = needed_column(phases, phase, read) {
-            if !to.contains(&column) {
+            if to.len() <= MAX_DEFINITIONS && !to.contains(&column) {
                 to.push(column)?;
             }
         }
