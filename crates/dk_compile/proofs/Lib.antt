@@ -21,3 +21,4 @@ pub mod Printed
 pub mod Circuits
 pub mod Same
 pub mod Packing
+pub mod Widened

@@ -9,6 +9,7 @@ mod laws;
 mod measures;
 mod options;
 mod reading;
+mod widening;
 
 pub use accepted::Front;
 pub use body_cuts::Reason;
@@ -20,3 +21,4 @@ pub use measures::{DeepBody, Measures};
 pub use options::Options;
 pub use reading::{front, typed};
 pub use source_fault::SourceFault;
+pub use widening::{WideMeasures, WideText, WidenError, WidenFault, one_widening_law, widen};

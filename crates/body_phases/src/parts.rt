@@ -1,0 +1,66 @@
+// A body as its tokens and its reads.
+
+use crate::reads::reads_of;
+use crate::tokens::{after_read, begins_read, has_gap, is_word_at};
+use dk_base::{OutOfMemory, Span};
+use dk_lexer::Token;
+use dk_types::{TypedExpr, TypedRead};
+use std::alloc::Global;
+
+// What a part of a body is.
+#[derive(Clone, Copy)]
+pub(crate) enum Kind {
+    // These bytes of the source.
+    Bytes(Span),
+    Read(TypedRead),
+}
+
+// A part of a body, and whether white space is before it.
+#[derive(Clone, Copy)]
+pub(crate) struct Part {
+    pub(crate) has_gap: bool,
+    pub(crate) kind: Kind,
+}
+
+// The part that begins at a place of the body from `start` on, where these reads are not passed yet: the next read, or a token.
+fn part_at(tokens: &[Token], start: usize, place: usize, read: Option<&TypedRead>) -> Option<Part> {
+    let token = tokens.get(place)?;
+    let kind = match read {
+        Some(read) if begins_read(tokens, place) => Kind::Read(*read),
+        Some(_) => Kind::Bytes(token.span),
+        None => Kind::Bytes(token.span),
+    };
+    Some(Part {
+        has_gap: start < place && has_gap(tokens, place),
+        kind,
+    })
+}
+
+// The parts of the body that begins at a place.
+pub(crate) fn parts_of(
+    alloc: Global,
+    tokens: &[Token],
+    start: usize,
+    body: &TypedExpr,
+) -> Result<Vec<Part>, OutOfMemory> {
+    let reads = reads_of(alloc, body)?;
+    let mut parts = Vec::new(alloc);
+    let mut passed: usize = 0;
+    let mut next = start;
+    for place in start..tokens.len() {
+        if is_word_at(tokens, place, b"end") {
+            break;
+        }
+        if place < next {
+            continue;
+        }
+        if let Some(part) = part_at(tokens, start, place, reads.get(passed)) {
+            if let Kind::Read(_) = part.kind {
+                passed = passed.saturating_add(1);
+                next = after_read(tokens, place);
+            }
+            parts.push(part)?;
+        }
+    }
+    Ok(parts)
+}
