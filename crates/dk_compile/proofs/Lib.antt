@@ -20,3 +20,4 @@ pub mod Printed
 pub mod Circuits
 pub mod Same
 pub mod Packing
+pub mod Narrowed

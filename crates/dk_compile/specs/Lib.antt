@@ -7,3 +7,4 @@ pub mod Packed
 pub mod Compiled
 pub mod Cuts
 pub mod Judged
+pub mod Narrowed

@@ -6,6 +6,7 @@ mod compiling;
 mod cutting;
 mod fault;
 mod laws;
+mod narrowing;
 mod options;
 mod reading;
 
@@ -14,6 +15,7 @@ pub use compiling::{Compiled, PlannedProgram, compile, compile_with, planned};
 pub use cutting::{CutText, cut};
 pub use fault::SourceError;
 pub use laws::{drive_shows_law, one_at_age_law, one_source_law};
+pub use narrowing::{NarrowText, narrow};
 pub use options::Options;
 pub use reading::{front, typed};
 pub use source_fault::SourceFault;
