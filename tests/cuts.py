@@ -104,4 +104,5 @@ def main():
     return 1 if wrong or 1000 * same > 5 * above else 0
 
 
-sys.exit(main())
+if __name__ == "__main__":
+    sys.exit(main())

@@ -22,3 +22,4 @@ pub mod Circuits
 pub mod Same
 pub mod Packing
 pub mod Widened
+pub mod Narrowed

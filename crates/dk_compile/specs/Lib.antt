@@ -8,3 +8,4 @@ pub mod Compiled
 pub mod Cuts
 pub mod Judged
 pub mod Widened
+pub mod Narrowed

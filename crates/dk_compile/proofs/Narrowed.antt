@@ -1,0 +1,69 @@
+-- Texts that a source is narrowed to.
+use Rattle.std.proofs.Common.{◌≡◌, refl, inl, inr, arith, ℕ, ◌≤◌, List, slice_get, Some, sym, subst, ◌∙◌}
+use Rattle.dk_base.specs.declared.ty.Ty.{Ty}
+use Rattle.dk_base.specs.Types.{width_of}
+use Rattle.dk_types.specs.Typed.{Typing, types_of}
+use Rattle.pointwise_ir.specs.Programs.{Program}
+use Rattle.pointwise_ir.specs.Programs as P
+use Rattle.raster_delay.specs.Systems.{System}
+use Rattle.flow_dual.specs.declared.solution.Solution.{Solution}
+use Rattle.buffer_plan.specs.Plans.{Plan, bits_of}
+use Rattle.dk_compile.specs.Limits.{IsAcceptedAt}
+use Rattle.dk_compile.specs.Compiled.{IsPlanned}
+use Rattle.dk_compile.specs.Judged.{HasForm}
+use Rattle.dk_compile.specs.Narrowed.{HasLeastBits, AreNoWider, IsOneNarrower, HasNoMoreBits, IsNarrowed, IsNarrowing, NarrowsForm}
+use Rattle.dk_compile.proofs.Same.{same_of_forms}
+
+-- of each image by its number
+pub no_wider_of : (old new : List Ty) → ((k : ℕ) (t : Ty) → slice_get old k ≡ Some t → HasNoMoreBits old new k) → AreNoWider old new
+no_wider_of old new each k t at =
+    let is = each k t at in
+    let one : Some is.before ≡ Some t = sym is.was ∙ at in
+    let same : is.before ≡ t = cc in
+    (is.after, is.is, subst (λ (s : Ty). width_of is.after ≤ width_of s) same is.no_more)
+
+-- a planned text has the form that is planned
+pub planned_form : (text : List ℕ) (p : Typing) (ir : Program) (s : System) (x : Solution) (plan : Plan) → IsAcceptedAt text 0 p → IsPlanned text 0 p ir s x plan → HasForm text ir
+planned_form text p ir s x plan at is = record { program = p; accepted = at.accepted; form = is.has.front.form }
+
+pub planned_bits : (text : List ℕ) (p : Typing) (ir : Program) (s : System) (x : Solution) (plan : Plan) → IsPlanned text 0 p ir s x plan → (bits : ℕ) → bits ≡ bits_of plan → HasLeastBits text bits
+planned_bits text p ir s x plan is bits are = record { program = p; ir = ir; system = s; solution = x; plan = plan; planned = is; bits_are = are }
+
+-- a text whose program has a form that narrows the source's form
+pub narrowed_of : (source text : List ℕ) (old : Program) → HasForm source old → NarrowsForm old text → IsNarrowed source text
+narrowed_of source text old has narrows =
+    let a = has.form.types in
+    let b = narrows.has.form.types in
+    record {
+      keeps = record {
+        old = has.program;
+        new = narrows.has.program;
+        from = has.accepted.program;
+        accepted = narrows.has.accepted;
+        same = same_of_forms has.program narrows.has.program old narrows.new has.form narrows.has.form narrows.narrowing.same;
+      };
+      no_wider = subst (λ (ts : List Ty). AreNoWider ts (types_of narrows.has.program)) a (subst (λ (us : List Ty). AreNoWider (P.types_of old) us) b narrows.narrowing.no_wider);
+      narrower = inr (subst (λ (ts : List Ty). IsOneNarrower ts (types_of narrows.has.program)) a (subst (λ (us : List Ty). IsOneNarrower (P.types_of old) us) b narrows.narrowing.narrower));
+    }
+
+-- a source that is returned
+pub narrowed_itself : (source : List ℕ) (old : Program) → HasForm source old → IsNarrowed source source
+narrowed_itself source old has = record {
+  keeps = record {
+    old = has.program;
+    new = has.program;
+    from = has.accepted.program;
+    accepted = has.accepted;
+    same = record {
+      size = refl;
+      input_types = refl;
+      input_names = refl;
+      count = refl;
+      names = λ k lt. refl;
+      types = λ k lt. refl;
+      pictures = λ round is k lt x y. refl;
+    };
+  };
+  no_wider = λ k t at. (t, at, (let same : width_of t ≤ width_of t = omega arith in same));
+  narrower = inl refl;
+}

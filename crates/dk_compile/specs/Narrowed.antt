@@ -1,0 +1,66 @@
+-- Programs whose images have fewer bits: what must stay, and what is gained.
+use Rattle.std.specs.Prelude.{◌≡◌, ◌⊎◌, ℕ, ◌<◌, ◌≤◌, List, slice_get, Some}
+use Rattle.dk_base.specs.declared.ty.Ty.{Ty}
+use Rattle.dk_base.specs.Types.{width_of}
+use Rattle.dk_types.specs.Typed.{Typing, types_of}
+use Rattle.pointwise_ir.specs.Programs.{Program}
+use Rattle.pointwise_ir.specs.Programs as P
+use Rattle.raster_delay.specs.Systems.{System}
+use Rattle.flow_dual.specs.declared.solution.Solution.{Solution}
+use Rattle.buffer_plan.specs.Plans.{Plan, bits_of}
+use Rattle.same_pictures.specs.Same.{HaveSamePictures}
+use Rattle.dk_compile.specs.Compiled.{IsPlanned}
+use Rattle.dk_compile.specs.Cuts.{KeepsPictures}
+use Rattle.dk_compile.specs.Judged.{HasForm}
+
+-- the least buffer bits of the text's program at age 0
+pub record HasLeastBits (text : List ℕ) (bits : ℕ) : Type 0 where
+  pub program : Typing
+  pub ir : Program
+  pub system : System
+  pub solution : Solution
+  pub plan : Plan
+  pub planned : IsPlanned text 0 program ir system solution plan
+  pub bits_are : bits ≡ bits_of plan
+
+-- each image is there in the new program, with no more bits than it had
+abbrev pub AreNoWider : (old new : List Ty) → Type 0
+AreNoWider old new = (k : ℕ) (t : Ty) → slice_get old k ≡ Some t → (u : Ty) × (slice_get new k ≡ Some u) × (width_of u ≤ width_of t)
+
+-- image k has fewer bits than it had
+pub record HasFewerBits (old new : List Ty) (k : ℕ) : Type 0 where
+  pub before : Ty
+  pub after : Ty
+  pub was : slice_get old k ≡ Some before
+  pub is : slice_get new k ≡ Some after
+  pub fewer : width_of after < width_of before
+
+-- some image has fewer bits than it had
+abbrev pub IsOneNarrower : (old new : List Ty) → Type 0
+IsOneNarrower old new = (k : ℕ) × HasFewerBits old new k
+
+-- The text is what a source is narrowed to: it shows the same pictures, and no image has more bits; and it is the source, or some image has fewer bits.
+pub record IsNarrowed (source text : List ℕ) : Type 0 where
+  pub keeps : KeepsPictures source text
+  pub no_wider : AreNoWider (types_of keeps.old) (types_of keeps.new)
+  pub narrower : (text ≡ source) ⊎ IsOneNarrower (types_of keeps.old) (types_of keeps.new)
+
+-- image k has at most the bits that it had
+pub record HasNoMoreBits (old new : List Ty) (k : ℕ) : Type 0 where
+  pub before : Ty
+  pub after : Ty
+  pub was : slice_get old k ≡ Some before
+  pub is : slice_get new k ≡ Some after
+  pub no_more : width_of after ≤ width_of before
+
+-- the new program shows the pictures of the old one, with no image of more bits, and some image of fewer
+pub record IsNarrowing (old new : Program) : Type 0 where
+  pub same : HaveSamePictures old new
+  pub no_wider : AreNoWider (P.types_of old) (P.types_of new)
+  pub narrower : IsOneNarrower (P.types_of old) (P.types_of new)
+
+-- the text is accepted, and its program has a form that shows the pictures of this one with fewer bits
+pub record NarrowsForm (old : Program) (text : List ℕ) : Type 0 where
+  pub new : Program
+  pub has : HasForm text new
+  pub narrowing : IsNarrowing old new

@@ -1,0 +1,170 @@
+// A program whose images have the bits that their values need.
+
+ghost use Rattle.std.specs.Prelude.{◌≡◌, ◌<◌, ◌≤◌, IsTrue, IfOk, IfErr, OnOk, IfSome, length};
+ghost use Rattle.dk_types.specs.Typed.{Typing};
+ghost use Rattle.pointwise_ir.specs.Programs.{types_of};
+ghost use Rattle.dk_compile.specs.Sources.{IsErrorBy};
+ghost use Rattle.dk_compile.specs.Limits.{IsAcceptedAt, IsFaultAt};
+ghost use Rattle.dk_compile.specs.Judged.{HasForm};
+ghost use Rattle.dk_compile.specs.Narrowed.{HasLeastBits, AreNoWider, HasNoMoreBits, HasFewerBits, IsOneNarrower, IsNarrowed, IsNarrowing, NarrowsForm};
+
+use crate::{SourceError, one_at_age_law, planned, typed};
+use dk_base::OutOfMemory;
+use narrow_types::narrowed_text;
+use pointwise_ir::Program;
+use same_pictures::have_same_pictures;
+use std::alloc::{AllocError, Global};
+
+/// A text whose images have the bits that their values need, with the least buffer bits of its program at age 0, and those of the source's program.
+#[derive(Drop)]
+pub struct NarrowText {
+    pub text: Vec<u8>,
+    pub bits: u64,
+    pub bits_before: u64,
+}
+
+// How many images there are, with the inputs.
+fn image_count(program: &Program) -> u32
+    ensures { result ≡ length (types_of program.now) }
+{
+    program.law();
+    (program.inputs().len() + program.images().len()) as u32
+}
+
+// Whether image k of the new program has at most the bits that it has in the old one.
+fn has_no_more_bits(old: &Program, new: &Program, k: u32) -> bool
+    requires old { k < length (types_of old.now) }
+    requires new { k < length (types_of new.now) }
+    ensures { IsTrue result → HasNoMoreBits (types_of old.now) (types_of new.now) k }
+{
+    let before = old.type_of(k);
+    let after = new.type_of(k);
+    after.width() <= before.width()
+}
+
+// Whether image k of the new program has fewer bits than it has in the old one.
+fn has_fewer_bits(old: &Program, new: &Program, k: u32) -> bool
+    requires old { k < length (types_of old.now) }
+    requires new { k < length (types_of new.now) }
+    ensures { IsTrue result → HasFewerBits (types_of old.now) (types_of new.now) k }
+{
+    let before = old.type_of(k);
+    let after = new.type_of(k);
+    after.width() < before.width()
+}
+
+// Whether no image of the new program has more bits than it has in the old one.
+fn are_no_wider(old: &Program, new: &Program) -> bool
+    ensures { IsTrue result → AreNoWider (types_of old.now) (types_of new.now) }
+{
+    let count = image_count(old);
+    if image_count(new) != count {
+        return false;
+    }
+    for k in 0..count {
+        if !has_no_more_bits(old, new, k) {
+            return false;
+        }
+    }
+    true
+}
+
+// Whether some image of the new program has fewer bits than it has in the old one.
+fn is_one_narrower(old: &Program, new: &Program) -> bool
+    ensures { IsTrue result → IsOneNarrower (types_of old.now) (types_of new.now) }
+{
+    let count = image_count(old);
+    if image_count(new) != count {
+        return false;
+    }
+    for k in 0..count {
+        if has_fewer_bits(old, new, k) {
+            return true;
+        }
+    }
+    false
+}
+
+// Whether the new program shows the pictures of the old one, with no image of more bits, and some image of fewer.
+fn narrows(alloc: Global, old: &Program, new: &Program) -> Result<bool, OutOfMemory>
+    ensures { IfOk result (λ does. IsTrue does → IsNarrowing old.now new.now) }
+{
+    if !are_no_wider(old, new) {
+        return Ok(false);
+    }
+    if !is_one_narrower(old, new) {
+        return Ok(false);
+    }
+    let same = have_same_pictures(alloc, old, new)?;
+    Ok(same)
+}
+
+// The least buffer bits of a text at age 0, if its program narrows this one.
+fn narrower_bits(alloc: Global, old: &Program, text: &[u8]) -> Result<Option<u64>, OutOfMemory>
+    ensures narrows { IfOk result (λ found. IfSome found (λ bits. NarrowsForm old.now text.now)) }
+    ensures bits { IfOk result (λ found. IfSome found (λ bits. HasLeastBits text.now bits)) }
+{
+    one_at_age_law();
+    match planned(alloc, text, 0) {
+        Ok(new) => {
+            if narrows(alloc, old, &new.ir)? {
+                Ok(Some(new.plan.bits()))
+            } else {
+                Ok(None)
+            }
+        }
+        Err(SourceError::Fault(_)) => Ok(None),
+        Err(SourceError::OutOfMemory) => Err(AllocError),
+    }
+}
+
+// The text of the program with the types that its values need, if the check confirms it and it has no more bits than the source, which has `before`; else the source as it is.
+fn checked(
+    alloc: Global,
+    source: &[u8],
+    old: &Program,
+    before: u64,
+) -> Result<NarrowText, OutOfMemory>
+    requires form { HasForm source.now old.now }
+    requires least { HasLeastBits source.now before }
+    ensures narrowed { IfOk result (λ n. IsNarrowed source.now n.text.items) }
+    ensures bits { IfOk result (λ n. HasLeastBits n.text.items n.bits) }
+    ensures before { IfOk result (λ n. n.bits_before ≡ before) }
+    ensures fewer { IfOk result (λ n. n.bits ≤ before) }
+{
+    let Ok(program) = typed(alloc, source) else {
+        return Err(AllocError);
+    };
+    let text = narrowed_text(alloc, source, &program)?;
+    if let Some(bits) = narrower_bits(alloc, old, &text)? {
+        if bits <= before {
+            return Ok(NarrowText {
+                text,
+                bits,
+                bits_before: before,
+            });
+        }
+    }
+    let same = Vec::from_slice(alloc, source)?;
+    Ok(NarrowText {
+        text: same,
+        bits: before,
+        bits_before: before,
+    })
+}
+
+/// A text whose program shows the pictures of the source's program, with no image of more bits, and with its least buffer bits at age 0 and those of the source; or the first fault of the source, as for `compile` at age 0. The bits are no more than those of the source. It is the source as it is if no image needs fewer bits, or if the check does not confirm the new text.
+pub fn narrow(alloc: Global, source: &[u8]) -> Result<NarrowText, SourceError>
+    ensures narrowed { IfOk result (λ n. IsNarrowed source.now n.text.items) }
+    ensures bits { IfOk result (λ n. HasLeastBits n.text.items n.bits) }
+    ensures before { IfOk result (λ n. HasLeastBits source.now n.bits_before) }
+    ensures fewer { IfOk result (λ n. n.bits ≤ n.bits_before) }
+    ensures good { OnOk result ((p : Typing) × IsAcceptedAt source.now 0 p) }
+    ensures fault { IfErr result (IsErrorBy (IsFaultAt source.now 0)) }
+{
+    one_at_age_law();
+    let old = planned(alloc, source, 0)?;
+    let before = old.plan.bits();
+    let chosen = checked(alloc, source, &old.ir, before)?;
+    Ok(chosen)
+}
