@@ -9,9 +9,9 @@ use Rattle.raster_delay.specs.Systems.{System}
 use Rattle.flow_dual.specs.declared.solution.Solution.{Solution}
 use Rattle.buffer_plan.specs.Plans.{Plan, bits_of}
 use Rattle.dk_compile.specs.Limits.{IsAcceptedAt}
-use Rattle.dk_compile.specs.Compiled.{IsPlanned}
+use Rattle.dk_compile.specs.Compiled.{IsPlanned, HasLeastBits}
 use Rattle.dk_compile.specs.Judged.{HasForm}
-use Rattle.dk_compile.specs.Narrowed.{HasLeastBits, AreNoWider, IsOneNarrower, HasNoMoreBits, IsNarrowed, IsNarrowing, NarrowsForm}
+use Rattle.dk_compile.specs.Narrowed.{AreNoWider, IsOneNarrower, HasNoMoreBits, IsNarrowed, IsNarrowing, NarrowsForm}
 use Rattle.dk_compile.proofs.Same.{same_of_forms}
 
 -- of each image by its number

@@ -2,8 +2,8 @@
 use Rattle.std.proofs.Common.{◌≡◌, ℕ, ◌*◌, ◌<◌, ◌≤◌, length, refl, ap, sym, ◌∙◌, arith}
 use Rattle.dk_base.specs.declared.TheConstants.{MAX_INPUTS, MAX_OUTPUTS}
 use Rattle.dk_types.specs.Typed.{Typing}
-use Rattle.dk_compile.specs.declared.widening.WidenFault.{WidenFault}
-use Rattle.dk_compile.specs.declared.widening.WidenFault.TheVariants.{Width, Inputs, Outputs, Limits}
+use Rattle.source_fault.specs.declared.widen.WidenFault.{WidenFault}
+use Rattle.source_fault.specs.declared.widen.WidenFault.TheVariants.{Width, Inputs, Outputs, Limits}
 use Rattle.dk_compile.specs.Widened.{IsAble, IsWidenFault}
 
 -- a number that is above a limit and within it

@@ -8,7 +8,7 @@ use Rattle.pointwise_ir.specs.Programs.{Program}
 use Rattle.raster_delay.specs.Systems.{System}
 use Rattle.flow_dual.specs.declared.solution.Solution.{Solution}
 use Rattle.flow_dual.specs.Solutions.{IsSolution}
-use Rattle.buffer_plan.specs.Plans.{Plan, IsPlan}
+use Rattle.buffer_plan.specs.Plans.{Plan, IsPlan, bits_of}
 use Rattle.verilog_text.specs.Stands.{StandsFor}
 use Rattle.verilog_layout.specs.Layout.{layout}
 use Rattle.dk_compile.specs.Limits.{HasSystem}
@@ -20,6 +20,16 @@ pub record IsPlanned (text : List ℕ) (age : ℕ) (p : Typing) (ir : Program) (
   pub solved : IsSolution system solution
   pub plan_is : plan ≡ record { system = system; delays = solution.delays }
   pub within : IsPlan plan
+
+-- the least buffer bits of the text's program at age 0
+pub record HasLeastBits (text : List ℕ) (bits : ℕ) : Type 0 where
+  pub program : Typing
+  pub ir : Program
+  pub system : System
+  pub solution : Solution
+  pub plan : Plan
+  pub planned : IsPlanned text 0 program ir system solution plan
+  pub bits_are : bits ≡ bits_of plan
 
 -- The names of the module are fixed by its netlist: `dk`, and n0, r0 and m0 on for wires, registers and arrays in order. The text is the layout of the module, and denotes it and no other.
 pub record IsTextOf (m : NamedNetlist) (text : List ℕ) : Type 0 where

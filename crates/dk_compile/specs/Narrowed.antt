@@ -5,23 +5,9 @@ use Rattle.dk_base.specs.Types.{width_of}
 use Rattle.dk_types.specs.Typed.{Typing, types_of}
 use Rattle.pointwise_ir.specs.Programs.{Program}
 use Rattle.pointwise_ir.specs.Programs as P
-use Rattle.raster_delay.specs.Systems.{System}
-use Rattle.flow_dual.specs.declared.solution.Solution.{Solution}
-use Rattle.buffer_plan.specs.Plans.{Plan, bits_of}
 use Rattle.same_pictures.specs.Same.{HaveSamePictures}
-use Rattle.dk_compile.specs.Compiled.{IsPlanned}
 use Rattle.dk_compile.specs.Cuts.{KeepsPictures}
 use Rattle.dk_compile.specs.Judged.{HasForm}
-
--- the least buffer bits of the text's program at age 0
-pub record HasLeastBits (text : List ℕ) (bits : ℕ) : Type 0 where
-  pub program : Typing
-  pub ir : Program
-  pub system : System
-  pub solution : Solution
-  pub plan : Plan
-  pub planned : IsPlanned text 0 program ir system solution plan
-  pub bits_are : bits ≡ bits_of plan
 
 -- each image is there in the new program, with no more bits than it had
 abbrev pub AreNoWider : (old new : List Ty) → Type 0

@@ -2,19 +2,15 @@
 use Rattle.std.specs.Prelude.{◌≡◌, ◌≢◌, ℕ, ◌*◌, ◌%◌, ◌<◌, ◌≤◌, List, length}
 use Rattle.dk_base.specs.declared.TheConstants.{MAX_INPUTS, MAX_OUTPUTS}
 use Rattle.dk_types.specs.Typed.{Typing}
-use Rattle.pointwise_ir.specs.Programs.{Program}
-use Rattle.raster_delay.specs.Systems.{System}
-use Rattle.flow_dual.specs.declared.solution.Solution.{Solution}
-use Rattle.buffer_plan.specs.Plans.{Plan, bits_of}
 use Rattle.same_phases.specs.Phases.{SplitPictures}
 use Rattle.dk_compile.specs.declared.widening.WideMeasures.{WideMeasures}
-use Rattle.dk_compile.specs.declared.widening.WidenFault.{WidenFault}
-use Rattle.dk_compile.specs.declared.widening.WidenFault.TheVariants.{Width, Inputs, Outputs, Limits}
+use Rattle.source_fault.specs.declared.widen.WidenFault.{WidenFault}
+use Rattle.source_fault.specs.declared.widen.WidenFault.TheVariants.{Width, Inputs, Outputs, Limits}
 use Rattle.dk_compile.specs.declared.widening.WidenError.{WidenError}
 use Rattle.dk_compile.specs.declared.widening.WidenError.TheVariants.{Source, Unable}
 use Rattle.dk_compile.specs.Sources.{IsText, IsErrorBy}
 use Rattle.dk_compile.specs.Limits.{IsAcceptedAt, IsFaultAt}
-use Rattle.dk_compile.specs.Compiled.{IsPlanned}
+use Rattle.dk_compile.specs.Compiled.{HasLeastBits}
 
 -- The text is that of a program within all limits which takes and shows the phases of the pictures of the source's program.
 pub record IsWidened (source : List ℕ) (phases : ℕ) (text : List ℕ) : Type 0 where
@@ -24,23 +20,13 @@ pub record IsWidened (source : List ℕ) (phases : ℕ) (text : List ℕ) : Type
   pub to : IsAcceptedAt text 0 new
   pub split : SplitPictures phases old new
 
--- the buffer bits of the text's plan at age 0, the least of all causal schedules
-pub record HasBits (text : List ℕ) (bits : ℕ) : Type 0 where
-  pub program : Typing
-  pub ir : Program
-  pub system : System
-  pub solution : Solution
-  pub plan : Plan
-  pub planned : IsPlanned text 0 program ir system solution plan
-  pub bits_are : bits ≡ bits_of plan
-
--- how many definitions the text's program has, and the buffer bits of the text and of the source
+-- how many definitions the text's program has, and the least buffer bits of the text and of the source
 pub record HasWideMeasures (source text : List ℕ) (m : WideMeasures) : Type 0 where
   pub program : Typing
   pub is_text : IsText text program
   pub definitions : m.definitions ≡ length program.definitions
-  pub bits : HasBits text m.bits
-  pub bits_before : HasBits source m.bits_before
+  pub bits : HasLeastBits text m.bits
+  pub bits_before : HasLeastBits source m.bits_before
 
 -- The phases divide the frame's width, and there is a port for each phase of an input and of an output.
 pub record IsAble (phases : ℕ) (p : Typing) : Type 0 where

@@ -22,5 +22,5 @@ pub use measures::{DeepBody, Measures};
 pub use narrowing::{NarrowText, narrow};
 pub use options::Options;
 pub use reading::{front, typed};
-pub use source_fault::SourceFault;
-pub use widening::{WideMeasures, WideText, WidenError, WidenFault, one_widening_law, widen};
+pub use source_fault::{SourceFault, WidenFault};
+pub use widening::{WideMeasures, WideText, WidenError, one_widening_law, widen};

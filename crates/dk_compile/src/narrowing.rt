@@ -6,7 +6,8 @@ ghost use Rattle.pointwise_ir.specs.Programs.{types_of};
 ghost use Rattle.dk_compile.specs.Sources.{IsErrorBy};
 ghost use Rattle.dk_compile.specs.Limits.{IsAcceptedAt, IsFaultAt};
 ghost use Rattle.dk_compile.specs.Judged.{HasForm};
-ghost use Rattle.dk_compile.specs.Narrowed.{HasLeastBits, AreNoWider, HasNoMoreBits, HasFewerBits, IsOneNarrower, IsNarrowed, IsNarrowing, NarrowsForm};
+ghost use Rattle.dk_compile.specs.Compiled.{HasLeastBits};
+ghost use Rattle.dk_compile.specs.Narrowed.{AreNoWider, HasNoMoreBits, HasFewerBits, IsOneNarrower, IsNarrowed, IsNarrowing, NarrowsForm};
 
 use crate::{SourceError, one_at_age_law, planned, typed};
 use dk_base::OutOfMemory;

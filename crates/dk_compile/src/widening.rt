@@ -4,7 +4,8 @@ ghost use Rattle.std.specs.Prelude.{◌≡◌, ◌≤◌, ℕ, length, IfOk, IfE
 ghost use Rattle.dk_types.specs.Typed.{Typing, typing_of};
 ghost use Rattle.dk_compile.specs.Sources.{IsErrorBy};
 ghost use Rattle.dk_compile.specs.Limits.{IsAcceptedAt, IsFaultAt};
-ghost use Rattle.dk_compile.specs.Widened.{IsWidened, HasBits, HasWideMeasures, IsAble, IsWidenFault, IsWidenErrorBy};
+ghost use Rattle.dk_compile.specs.Compiled.{HasLeastBits};
+ghost use Rattle.dk_compile.specs.Widened.{IsWidened, HasWideMeasures, IsAble, IsWidenFault, IsWidenErrorBy};
 
 use crate::{SourceError, one_at_age_law, one_source_law, planned, typed};
 use body_cuts::head_of;
@@ -12,24 +13,8 @@ use body_phases::phases_text;
 use dk_base::{MAX_INPUTS, MAX_OUTPUTS, OutOfMemory};
 use dk_types::TypedProgram;
 use same_phases::have_phases;
+use source_fault::WidenFault;
 use std::alloc::{AllocError, Global};
-
-/// Why there is no text with the phases of a program.
-#[derive(Clone, Copy, Debug, PartialEq, Eq, thiserror::Error)]
-pub enum WidenFault {
-    /// The width of the frame, which the phases do not divide.
-    #[error("Width {0}")]
-    Width(u32),
-    /// The number of inputs that the text needs, above 8.
-    #[error("Inputs {0}")]
-    Inputs(u32),
-    /// The number of outputs that the text needs, above 8.
-    #[error("Outputs {0}")]
-    Outputs(u32),
-    /// The text is over a limit of programs, or the check does not confirm it.
-    #[error("Limits")]
-    Limits,
-}
 
 /// Why a text was not widened: it was not read as a program, or its program has no text with phases.
 #[derive(Clone, Copy, Debug, PartialEq, Eq, thiserror::Error)]
@@ -105,7 +90,7 @@ struct SizedProgram {
 // The program of a text and its buffer bits, or the text's first fault at age 0.
 fn sized(alloc: Global, text: &[u8]) -> Result<SizedProgram, SourceError>
     ensures program { IfOk result (λ s. IsAcceptedAt text.now 0 (typing_of s.program)) }
-    ensures bits { IfOk result (λ s. HasBits text.now s.bits) }
+    ensures bits { IfOk result (λ s. HasLeastBits text.now s.bits) }
     ensures fault { IfErr result (IsErrorBy (IsFaultAt text.now 0)) }
 {
     one_source_law();
@@ -129,15 +114,15 @@ fn fits_phases(program: &TypedProgram, phases: u32) -> Result<(), WidenFault>
     program.law();
     let width = program.size().width;
     if width % phases != 0 {
-        return Err(WidenFault::Width(width));
+        return Err(WidenFault::Width { width });
     }
     let inputs = phases * program.inputs().len() as u32;
     if MAX_INPUTS < inputs as usize {
-        return Err(WidenFault::Inputs(inputs));
+        return Err(WidenFault::Inputs { count: inputs });
     }
     let outputs = phases * program.outputs().len() as u32;
     if MAX_OUTPUTS < outputs as usize {
-        return Err(WidenFault::Outputs(outputs));
+        return Err(WidenFault::Outputs { count: outputs });
     }
     Ok(())
 }
@@ -159,7 +144,7 @@ fn confirmed(
     requires some { 2 ≤ phases }
     requires most { phases ≤ 8 }
     requires program { IsAcceptedAt source.now 0 (typing_of old.now.program) }
-    requires bits { HasBits source.now old.now.bits }
+    requires bits { HasLeastBits source.now old.now.bits }
     ensures widened { IfOk result (λ found. IfSome found (λ w. IsWidened source.now phases w.text.items)) }
     ensures measured { IfOk result (λ found. IfSome found (λ w. HasWideMeasures source.now w.text.items w.measures)) }
 {

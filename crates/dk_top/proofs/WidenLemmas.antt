@@ -1,5 +1,5 @@
 -- How a rewriting ends: a program's text decides one ending.
-use Rattle.std.proofs.Common.{◌≡◌, ◌≢◌, ℕ, List, Option, None, Some, IfSome, refl, ap, sym, ◌∙◌, subst, arith}
+use Rattle.std.proofs.Common.{◌≡◌, ◌≢◌, ℕ, List, Option, None, Some, IfSome, refl, ap, subst}
 use Rattle.dk_types.specs.Typed.{Typing}
 use Rattle.source_fault.specs.declared.widen.WidenFault.{WidenFault}
 use Rattle.source_fault.specs.declared.widen.WidenFault.TheVariants as fault
@@ -8,31 +8,13 @@ use Rattle.dk_endings.specs.declared.ending.Ending.TheVariants as ending
 use Rattle.dk_words.specs.declared.command.Rewriting.{Rewriting}
 use Rattle.dk_words.specs.declared.command.Rewriting.TheVariants.{Cut, Narrow, Widen}
 use Rattle.dk_compile.specs.Limits.{IsFaultAt}
-use Rattle.dk_compile.specs.Widened.{IsAble, IsWidenFault}
+use Rattle.dk_compile.specs.Widened.{IsWidenFault}
+use Rattle.dk_compile.proofs.Widened.{one_reason}
 use Rattle.dk_top.specs.Verdict.{Files, bytes_of, IsJudged, IsProgramAnswer, IsRewriteAnswer, CanBeRewritten, CanBeWidened, IsUnable}
 use Rattle.dk_top.specs.Reading.{Stops, IsSourceEnding, IsUnreadText, IsRewriteEnding}
 use Rattle.dk_top.proofs.VerdictLemmas.{OneProgram, ApartAt, OneFaultAt}
 use Rattle.dk_top.proofs.PlanLemmas.{program_answer}
 use Rattle.dk_top.proofs.ReadLemmas.{unread_at}
-
--- a program has one reason to get no phases
-one_reason : (phases : ℕ) (p : Typing) (f g : WidenFault) → IsWidenFault phases p f → IsWidenFault phases p g → f ≡ g
-one_reason phases p (fault.Width w) (fault.Width v) x y = ap fault.Width (x.0 ∙ sym y.0)
-one_reason phases p (fault.Width w) (fault.Inputs n) x y = absurd (x.1 y.0)
-one_reason phases p (fault.Width w) (fault.Outputs n) x y = absurd (x.1 y.0)
-one_reason phases p (fault.Width w) fault.Limits x y = absurd (x.1 y.width)
-one_reason phases p (fault.Inputs n) (fault.Width v) x y = absurd (y.1 x.0)
-one_reason phases p (fault.Inputs n) (fault.Inputs m) x y = ap fault.Inputs (x.1.0 ∙ sym y.1.0)
-one_reason phases p (fault.Inputs n) (fault.Outputs m) x y = absurd (let is = x.1.0 in let above = x.1.1 in let few = y.1.0 in let no : ⊥ = omega (arith, is, above, few) in no)
-one_reason phases p (fault.Inputs n) fault.Limits x y = absurd (let is = x.1.0 in let above = x.1.1 in let few = y.inputs in let no : ⊥ = omega (arith, is, above, few) in no)
-one_reason phases p (fault.Outputs n) (fault.Width v) x y = absurd (y.1 x.0)
-one_reason phases p (fault.Outputs n) (fault.Inputs m) x y = absurd (let is = y.1.0 in let above = y.1.1 in let few = x.1.0 in let no : ⊥ = omega (arith, is, above, few) in no)
-one_reason phases p (fault.Outputs n) (fault.Outputs m) x y = ap fault.Outputs (x.1.1.0 ∙ sym y.1.1.0)
-one_reason phases p (fault.Outputs n) fault.Limits x y = absurd (let is = x.1.1.0 in let above = x.1.1.1 in let few = y.outputs in let no : ⊥ = omega (arith, is, above, few) in no)
-one_reason phases p fault.Limits (fault.Width v) x y = absurd (y.1 x.width)
-one_reason phases p fault.Limits (fault.Inputs m) x y = absurd (let is = y.1.0 in let above = y.1.1 in let few = x.inputs in let no : ⊥ = omega (arith, is, above, few) in no)
-one_reason phases p fault.Limits (fault.Outputs m) x y = absurd (let is = y.1.1.0 in let above = y.1.1.1 in let few = x.outputs in let no : ⊥ = omega (arith, is, above, few) in no)
-one_reason phases p fault.Limits fault.Limits x y = refl
 
 -- no reason is judged that is the last one
 not_limits : (f : WidenFault) → IsJudged (ending.Unable f) → f ≢ fault.Limits

@@ -1,6 +1,6 @@
 -- The line that `narrow` writes to Report.
 use Rattle.std.specs.Prelude.{◌≡◌, ◌≤◌, ℕ, List, ◌++◌, codes, decimal}
-use Rattle.dk_compile.specs.Narrowed.{HasLeastBits}
+use Rattle.dk_compile.specs.Compiled.{HasLeastBits}
 
 abbrev pub narrow_line : (bits before : ℕ) → List ℕ
 narrow_line bits before = codes "narrow: bits " ++ decimal bits ++ codes " from " ++ decimal before ++ codes "\n"

@@ -1,7 +1,7 @@
 use Rattle.std.proofs.Common.{ℕ, List, subst}
 use Rattle.dk_types.specs.Typed.{typing_of}
 use Rattle.dk_compile.specs.Limits.{IsAcceptedAt}
-use Rattle.dk_compile.specs.Widened.{HasBits}
+use Rattle.dk_compile.specs.Compiled.{HasLeastBits}
 use Rattle.dk_compile.proofs.widening.confirmed.Goals as goal
 
 pub returns-clause-widened : goal.returns-clause-widened
@@ -21,6 +21,6 @@ returns-clause-measured c =
       program = typing_of new.program;
       is_text = at.accepted.program;
       definitions = c.definition_count-definitions.ensures;
-      bits = subst (λ (t : List ℕ). HasBits t new.bits) c.deref.ensures.value c.in-Ok.ensures.bits;
+      bits = subst (λ (t : List ℕ). HasLeastBits t new.bits) c.deref.ensures.value c.in-Ok.ensures.bits;
       bits_before = c.requires.bits;
     }
