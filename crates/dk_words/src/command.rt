@@ -4,8 +4,8 @@ ghost use Rattle.std.specs.Prelude.{◌≡◌, Option, None, Some, option_map, o
 ghost use Rattle.clap.specs.Words.{first_of, rows_of, found_of, subcommand_rows_of};
 ghost use Rattle.dk_words.specs.Command as command;
 
-use crate::{MAX_LEVELS, MAX_PHASES};
 use crate::numbers::number_within;
+use crate::{MAX_LEVELS, MAX_PHASES};
 use clap::ArgMatches;
 use dk_base::{MAX_AGE, MAX_BUFFER_BITS, MAX_CLOCKS, MAX_HOLD, MAX_MADE};
 

@@ -11,7 +11,7 @@ ghost use Rattle.dk_compile.specs.Widened.{IsWidenErrorBy};
 use super::reported::{Rewritten, push_number};
 use crate::reading::ending_of;
 use dk_base::OutOfMemory;
-use dk_compile::{WidenError, WideMeasures, widen};
+use dk_compile::{WideMeasures, WidenError, widen};
 use dk_endings::Ending;
 use std::alloc::Global;
 
