@@ -283,6 +283,15 @@ OUT, `locked.pgm`, cannot be written: you have no permission to write it.
 end
 fi
 
+# Programs that get no phases.
+printf 'size 5 1\ninput a : u8\nlet f = im(x,y) a(x,y) end\noutput f\n' >five.dk
+ends 11 'widen: Width 5' widen 2 five.dk o.dk <<'end'
+`five.dk`: The frame is 5 columns wide, and P must divide its width; choose another P or another width.
+end
+says 11 'widen: Inputs 12' widen 4 five.dk o.dk <<'end'
+`five.dk`: The program would have 12 inputs, and eight are allowed; choose a smaller P, or split the program.
+end
+
 # Words.
 usage_fault <<'end'
 The command is missing. `./dk --help` shows the commands and options.
@@ -396,7 +405,7 @@ awk -F '|' '
     /^Of a file of images / { text = "image" }
     /^Of a Verilog text / { text = "verilog" }
     /^\| `/ && text != "" && !/^\| `stopped/ { add(text, $2) }
-    /^\|[^|]*\| `(program|image|verilog|stopped|report|widen)( S-E)?: / && $2 !~ /:/ { match($3, /[a-z]+/); add(substr($3, RSTART, RLENGTH), $3) }
+    /^\|[^|]*\| `(program|image|verilog|stopped|report|widen)( S-E)?: / && $2 !~ /[:`]/ { match($3, /[a-z]+/); add(substr($3, RSTART, RLENGTH), $3) }
     /^- The kinds of a Verilog fault are/ { sub(/ They are judged.*/, ""); add("verilog", $0) }
 ' "$top/docs/COMMANDS.md" | sort -u >listed
 sed -n 's/^    \([a-z]*\.[A-Za-z]*\)) .*/\1/p' "$top/tools/faults.sh" | sort >explained
