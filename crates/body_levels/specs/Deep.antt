@@ -1,5 +1,5 @@
 -- Bodies of many levels, and programs whose bodies have fewer.
-use Rattle.std.specs.Prelude.{◌≡◌, ℕ, ◌<◌, ◌≤◌, max, Bool, nat_lt, IsTrue, List, filter, map, Some, slice_get}
+use Rattle.std.specs.Prelude.{◌≡◌, ℕ, ◌<◌, ◌≤◌, max, Bool, nat_lt, IsTrue, List, Some, slice_get}
 use Rattle.pointwise_ir.specs.declared.program.Definition.{Definition}
 use Rattle.pointwise_ir.specs.Trees.{tree_of}
 use Rattle.pointwise_ir.specs.Programs.{Program}
@@ -12,10 +12,6 @@ image_levels d = level_of (tree_of d.body)
 -- the body has more than `most` levels
 abbrev pub is_deep : (most : ℕ) → Definition → Bool
 is_deep most d = nat_lt most (image_levels d)
-
--- the names of the images whose bodies have more than `most` levels, in order
-abbrev pub deep_names : (most : ℕ) → Program → List (List ℕ)
-deep_names most p = map (λ (d : Definition). d.name) (filter (is_deep most) p.images)
 
 -- the program has an image of this name whose body has at most this many levels
 pub record HasWithin (p : Program) (name : List ℕ) (most : ℕ) : Type 0 where

@@ -1,15 +1,16 @@
 -- Programs whose bodies are cut: what must stay, and what is measured.
-use Rattle.std.specs.Prelude.{◌≡◌, ◌⊎◌, ℕ, ◌<◌, ◌≤◌, max, ℤ, List, length, map, slice_get, slice_index, Some}
+use Rattle.std.specs.Prelude.{◌≡◌, ◌⊎◌, ℕ, ◌<◌, ◌≤◌, max, ℤ, List, filter, length, map, slice_get, slice_index, Some}
 use Rattle.dk_base.specs.Frames.{Picture, picture_at}
 use Rattle.dk_types.specs.declared.typed.TypedInput.{TypedInput}
 use Rattle.dk_types.specs.Typed.{Typing, types_of}
 use Rattle.dk_types.specs.Meaning.{meaning}
 use Rattle.pointwise_ir.specs.Meaning.{IsPicture}
+use Rattle.pointwise_ir.specs.declared.program.Definition.{Definition}
 use Rattle.pointwise_ir.specs.Programs.{Program, bodies_of}
 use Rattle.dk_inline.specs.Answers.{image_names, IsInlining}
 use Rattle.dk_compile.specs.Sources.{IsText, IsAccepted}
 use Rattle.body_levels.specs.Levels.{greatest_level}
-use Rattle.body_levels.specs.Deep.{deep_names, IsShallower}
+use Rattle.body_levels.specs.Deep.{is_deep, IsShallower}
 use Rattle.dk_compile.specs.declared.measures.Measures.{Measures}
 use Rattle.dk_compile.specs.declared.measures.DeepBody.{DeepBody}
 
@@ -45,6 +46,10 @@ pub record IsInlinedText (text : List ℕ) (form : Program) : Type 0 where
   pub program : Typing
   pub is_text : IsText text program
   pub inlined : IsInlining program form
+
+-- the names of the images whose bodies have more than `most` levels, in order
+abbrev pub deep_names : (most : ℕ) → Program → List (List ℕ)
+deep_names most p = map (λ (d : Definition). d.name) (filter (is_deep most) p.images)
 
 -- What is counted of a text: its definitions, the most levels of operators of a body, and by name, in order, the definitions of more than `most` levels.
 pub record HasMeasures (text : List ℕ) (most : ℕ) (m : Measures) : Type 0 where

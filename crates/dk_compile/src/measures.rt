@@ -4,8 +4,8 @@ ghost use Rattle.std.specs.Prelude.{◌≡◌, ◌<◌, [], ◌∷◌, ◌++◌,
 ghost use Rattle.pointwise_ir.specs.Programs.{bodies_of};
 ghost use Rattle.body_levels.specs.Levels.{greatest_level as greatest_of};
 ghost use Rattle.pointwise_ir.specs.declared.program.Definition.{Definition};
-ghost use Rattle.body_levels.specs.Deep.{deep_names, is_deep as is_deep_body};
-ghost use Rattle.dk_compile.specs.Cuts.{IsInlinedText};
+ghost use Rattle.body_levels.specs.Deep.{is_deep as is_deep_body};
+ghost use Rattle.dk_compile.specs.Cuts.{IsInlinedText, deep_names};
 
 use crate::typed;
 use body_cuts::{Reason, UncutBody};
