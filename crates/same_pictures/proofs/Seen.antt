@@ -21,7 +21,7 @@ seen_inside p program Zero dx dy x y u v (one, two, there) = there
 seen_inside p program Clamp dx dy x y u v seen =
     ap (λ r. in_frame p.size r v) seen.0 ∙ ap (in_frame p.size (clamped p.size.width (x +ℤ dx))) seen.1 ∙ clamped_inside p.size (x +ℤ dx) (y +ℤ dy) program.frame
 
--- what stands for an expression of the new program serves as well
+-- an expression of the new program may be replaced by one of the same value
 pub behind_standing : (old new : Program) → HaveSameInputs old new → IsProgram old → (edge : Edge) (dx dy : ℤ) (a b c : Tree) → StandsFor new b c → HaveSameBehind old new edge dx dy a c → HaveSameBehind old new edge dx dy a b
 behind_standing old new same program edge dx dy a b c stands has round is x y inside u v seen =
     has round is x y inside u v seen
@@ -41,7 +41,7 @@ read_behind old new same program step by other g h has pushed round is x y insid
     ∙ edged_agrees old.size other.edge (picture_at (pictures old round) g) (picture_at (pictures new round) h) (has round is) (u +ℤ other.dx) (v +ℤ other.dy)
     ∙ ap (λ (s : Size). edged s other.edge (picture_at (pictures new round) h) (u +ℤ other.dx) (v +ℤ other.dy)) (sym same.size)
 
--- a read of a definition whose body has the value behind the read
+-- a read of a definition whose body has the value at the point that the read sees
 pub behind_read : (old new : Program) → HaveSameInputs old new → IsProgram old → (h : ℕ) (edge : Edge) (dx dy : ℤ) (a e : Tree) →
     ((round : List Picture) → IsRound new round → (x y : ℤ) → picture_at (pictures new round) h x y ≡ framed new.size (value new.size (pictures new round) e) x y) →
     HaveSameBehind old new edge dx dy a e → (edge ≡ Zero → VanishesOutside dx dy a) → HaveSameValue old new a (read edge h dx dy)

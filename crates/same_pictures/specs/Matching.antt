@@ -1,11 +1,12 @@
 -- What the private functions say of expressions and of images by number.
 use Rattle.std.specs.Prelude.{◌≡◌, ◌⊎◌, ℕ, ◌^◌, false, IsTrue, ℤ, pos, ◌+ℤ◌, ◌*ℤ◌, ◌≤ℤ◌, List, Option, Some, slice_get}
 use Rattle.dk_base.specs.declared.ty.Ty.{Ty}
+use Rattle.dk_base.specs.declared.operator.Conversion.{Conversion}
 use Rattle.dk_base.specs.Types.{IsIn}
 use Rattle.dk_base.specs.Frames.{Size, IsFrame, in_frame, clamped, Picture}
 use Rattle.pointwise_ir.specs.declared.expr.Edge.{Edge}
 use Rattle.pointwise_ir.specs.declared.expr.Edge.TheVariants.{Zero, Clamp}
-use Rattle.pointwise_ir.specs.Trees.{Tree, constant, read, shifted, select}
+use Rattle.pointwise_ir.specs.Trees.{Tree, constant, read, shifted, select, convert}
 use Rattle.pointwise_ir.specs.Programs.{Program, IsProgram}
 use Rattle.pointwise_ir.specs.Meaning.{edged, value, pictures, IsRound}
 use Rattle.value_ranges.specs.declared.interval.Interval.{Interval}
@@ -31,6 +32,10 @@ StandsFor p a b = (round : List Picture) → IsRound p round → (x y : ℤ) →
 abbrev pub HoldsValues : (p : Program) → Ty → Tree → Type 0
 HoldsValues p t e = (round : List Picture) → IsRound p round → (x y : ℤ) → IsIn t (value p.size (pictures p round) e x y)
 
+-- on each round a conversion of the expression has the value of the expression, at every point
+abbrev pub ChangesNothing : (p : Program) → Conversion → Tree → Ty → Type 0
+ChangesNothing p how e t = (round : List Picture) → IsRound p round → (x y : ℤ) → value p.size (pictures p round) (convert how e t) x y ≡ value p.size (pictures p round) e x y
+
 -- At each point of the frame the whole is the low part, and the high part times 2 ^ by: so it is divided into bits.
 abbrev pub AreHalves : (p : Program) → (by : ℕ) → (low high whole : Tree) → Type 0
 AreHalves p by low high whole = (round : List Picture) → IsRound p round → (x y : ℤ) → IsTrue (in_frame p.size x y) →
@@ -45,9 +50,10 @@ pub record HaveSameInputs (old new : Program) : Type 0 where
   pub size : new.size ≡ old.size
   pub inputs : new.inputs ≡ old.inputs
 
--- what a comparison of expressions builds on
-pub record CanCompare (old new : Program) (ranges : List Interval) (pairs : List (Option ℕ)) : Type 0 where
+-- what a comparison of expressions builds on: the intervals of the old program's images, and those of the new one's
+pub record CanCompare (old new : Program) (old_ranges ranges : List Interval) (pairs : List (Option ℕ)) : Type 0 where
   pub inputs : HaveSameInputs old new
+  pub old_ranged : AreRangesOf old old_ranges
   pub ranged : AreRangesOf new ranges
   pub paired : ArePairs old new pairs
 

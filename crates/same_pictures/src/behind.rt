@@ -34,10 +34,10 @@ fn vanishes(e: &Expr, dx: i32, dy: i32) -> bool
 
 // Whether an expression of the new program reads, from the point that is seen by `step`, what the counterpart's read in the old one reads here.
 fn reads_same_behind(on: &Compared<'_>, step: Step, image: u32, by: Step, e: &Expr) -> bool
-    requires { CanCompare on.now.old.now on.now.new.program.now on.now.new.ranges.now on.now.pairs.now }
-    ensures { IsTrue result → HaveSameBehind on.now.old.now on.now.new.program.now step.edge step.dx step.dy (read by.edge image by.dx by.dy) (tree_of e.now) }
+    requires { CanCompare on.now.old.program.now on.now.new.program.now on.now.old.ranges.now on.now.new.ranges.now on.now.pairs.now }
+    ensures { IsTrue result → HaveSameBehind on.now.old.program.now on.now.new.program.now step.edge step.dx step.dy (read by.edge image by.dx by.dy) (tree_of e.now) }
 {
-    on.old.law();
+    on.old.program.law();
     let Some(other) = read_parts(e) else {
         return false;
     };
@@ -52,10 +52,10 @@ fn reads_same_behind(on: &Compared<'_>, step: Step, image: u32, by: Step, e: &Ex
 
 // Whether an expression of the new program has, at the point that is seen by the step, the value that one of the old program has here.
 fn has_same_behind(on: &Compared<'_>, step: Step, a: &Expr, b: &Expr) -> bool
-    requires { CanCompare on.now.old.now on.now.new.program.now on.now.new.ranges.now on.now.pairs.now }
-    ensures { IsTrue result → HaveSameBehind on.now.old.now on.now.new.program.now step.edge step.dx step.dy (tree_of a.now) (tree_of b.now) }
+    requires { CanCompare on.now.old.program.now on.now.new.program.now on.now.old.ranges.now on.now.new.ranges.now on.now.pairs.now }
+    ensures { IsTrue result → HaveSameBehind on.now.old.program.now on.now.new.program.now step.edge step.dx step.dy (tree_of a.now) (tree_of b.now) }
 {
-    on.old.law();
+    on.old.program.law();
     let e = unfolded(on.new.program, b);
     match a {
         Expr::Constant(value, ty) => is_constant(e, *value, *ty),
@@ -101,10 +101,10 @@ fn has_same_behind(on: &Compared<'_>, step: Step, a: &Expr, b: &Expr) -> bool
 
 // Whether an expression of the new program is a read of a definition that has, at the point that is read, the value that one of the old program has here; and where that point is outside the frame, the one of the old program is 0 too.
 pub fn reads_behind(on: &Compared<'_>, a: &Expr, b: &Expr) -> bool
-    requires { CanCompare on.now.old.now on.now.new.program.now on.now.new.ranges.now on.now.pairs.now }
-    ensures { IsTrue result → HaveSameValue on.now.old.now on.now.new.program.now (tree_of a.now) (tree_of b.now) }
+    requires { CanCompare on.now.old.program.now on.now.new.program.now on.now.old.ranges.now on.now.new.ranges.now on.now.pairs.now }
+    ensures { IsTrue result → HaveSameValue on.now.old.program.now on.now.new.program.now (tree_of a.now) (tree_of b.now) }
 {
-    on.old.law();
+    on.old.program.law();
     meaning_law(on.new.program);
     let e = unfolded(on.new.program, b);
     let Some(read) = read_parts(e) else {

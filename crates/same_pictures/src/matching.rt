@@ -9,12 +9,12 @@ ghost use Rattle.same_pictures.specs.Matching.{IsReadHere, HaveSameValue, HaveSa
 use crate::behind::reads_behind;
 use crate::moves::{HERE, Step, is_here, pushed, pushed_shift};
 use crate::operands::{
-    binary_operands, constant_type, converted_operand, is_constant, read_image, scaled_operand,
-    select_operands, shifted_body, unary_operand,
+    binary_operands, constant_type, converted_operand, read_image, scaled_operand, select_operands,
+    shifted_body, unary_operand,
 };
 use crate::products::{Factors, divided_factors};
-use crate::unneeded::{Ranged, aligned};
-use dk_base::Binary;
+use crate::unneeded::{Ranged, aligned, is_unneeded, unneeded};
+use dk_base::{Binary, MAX_INLINED_DEPTH};
 use pointwise_ir::{Edge, Expr, Program, meaning_law};
 
 // The body of an image, by its number; none if it is an input.
@@ -81,13 +81,13 @@ pub fn is_pair(pairs: &[Option<u32>], image: u32, other: u32) -> bool
     }
 }
 
-// Whether a read of the new program, or the body that it reads at the point itself, is a read by this step of the counterpart of an image of the old program.
+// Whether an expression of the new program is a read by this step of the counterpart of an image of the old program, without conversions that change nothing, and with bodies in place of what is read at the point itself.
 fn reads_pair(on: &Compared<'_>, image: u32, step: Step, b: &Expr) -> bool
-    requires { CanCompare on.now.old.now on.now.new.program.now on.now.new.ranges.now on.now.pairs.now }
-    ensures { IsTrue result → HaveSameValue on.now.old.now on.now.new.program.now (read step.edge image step.dx step.dy) (tree_of b.now) }
+    requires { CanCompare on.now.old.program.now on.now.new.program.now on.now.old.ranges.now on.now.new.ranges.now on.now.pairs.now }
+    ensures { IsTrue result → HaveSameValue on.now.old.program.now on.now.new.program.now (read step.edge image step.dx step.dy) (tree_of b.now) }
 {
     let mut now = b;
-    for _ in 0..=on.new.program.images().len() {
+    for _ in 0..MAX_INLINED_DEPTH {
         if let Some(other) = read_image(now, step.edge, step.dx, step.dy) {
             if is_pair(on.pairs, image, other) {
                 return true;
@@ -95,7 +95,10 @@ fn reads_pair(on: &Compared<'_>, image: u32, step: Step, b: &Expr) -> bool
         }
         match defining(on.new.program, now) {
             Some(body) => now = body,
-            None => return false,
+            None => match unneeded(&on.new, now) {
+                Some(operand) => now = operand,
+                None => return false,
+            },
         }
     }
     false
@@ -161,10 +164,10 @@ fn part_of<'a>(new: &'a Program, at: Step, by: Step, b: &'a Expr) -> Option<Part
     }
 }
 
-// Two programs that are compared: for images of the old one, by number, an image of the new one with the same picture, or none.
+// Two programs that are compared, with the intervals of their images: for images of the old one, by number, an image of the new one with the same picture, or none.
 #[derive(Clone, Copy)]
 pub struct Compared<'a> {
-    pub old: &'a Program,
+    pub old: Ranged<'a>,
     pub new: Ranged<'a>,
     pub pairs: &'a [Option<u32>],
 }
@@ -187,16 +190,19 @@ fn product_factors<'a>(on: &Ranged<'a>, op: Binary, e: &'a Expr) -> Option<Facto
 
 // Whether an expression of the new program has, at each point, the value that one of the old program has at the moved point, where that is seen.
 fn has_same_moved(on: &Compared<'_>, at: Step, a: &Expr, b: &Expr) -> bool
-    requires { CanCompare on.now.old.now on.now.new.program.now on.now.new.ranges.now on.now.pairs.now }
-    ensures { IsTrue result → HaveSameMoved on.now.old.now on.now.new.program.now at.edge at.dx at.dy (tree_of a.now) (tree_of b.now) }
+    requires { CanCompare on.now.old.program.now on.now.new.program.now on.now.old.ranges.now on.now.new.ranges.now on.now.pairs.now }
+    ensures { IsTrue result → HaveSameMoved on.now.old.program.now on.now.new.program.now at.edge at.dx at.dy (tree_of a.now) (tree_of b.now) }
 {
-    on.old.law();
+    on.old.program.law();
     if is_here(at) && reads_behind(on, a, b) {
         return true;
     }
     let e = aligned(&on.new, a, b);
     match a {
-        Expr::Constant(value, ty) => is_constant(e, *value, *ty),
+        Expr::Constant(value, _) => match constant_type(e, *value) {
+            Some(_) => true,
+            None => false,
+        },
         Expr::Read(edge, image, dx, dy) => match pushed(at, Step::new(*edge, *dx, *dy)) {
             Some(step) => reads_pair(on, *image, step, b),
             None => false,
@@ -246,7 +252,12 @@ fn has_same_moved(on: &Compared<'_>, at: Step, a: &Expr, b: &Expr) -> bool
         },
         Expr::Convert(how, operand, ty) => match converted_operand(e, *how, *ty) {
             Some(other) => has_same_moved(on, at, operand, other),
-            None => false,
+            None => {
+                if !is_unneeded(&on.old, *how, operand, *ty) {
+                    return false;
+                }
+                has_same_moved(on, at, operand, b)
+            }
         },
         Expr::Scale(op, operand, by) => match scaled_operand(e, *op, *by) {
             Some(other) => has_same_moved(on, at, operand, other),
@@ -257,8 +268,8 @@ fn has_same_moved(on: &Compared<'_>, at: Step, a: &Expr, b: &Expr) -> bool
 
 // Whether an expression of the new program has the value of one of the old program.
 pub fn has_same_value(on: &Compared<'_>, a: &Expr, b: &Expr) -> bool
-    requires { CanCompare on.now.old.now on.now.new.program.now on.now.new.ranges.now on.now.pairs.now }
-    ensures { IsTrue result → HaveSameValue on.now.old.now on.now.new.program.now (tree_of a.now) (tree_of b.now) }
+    requires { CanCompare on.now.old.program.now on.now.new.program.now on.now.old.ranges.now on.now.new.ranges.now on.now.pairs.now }
+    ensures { IsTrue result → HaveSameValue on.now.old.program.now on.now.new.program.now (tree_of a.now) (tree_of b.now) }
 {
     has_same_moved(on, HERE, a, b)
 }

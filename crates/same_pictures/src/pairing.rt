@@ -68,18 +68,18 @@ fn image_count(program: &Program) -> u32
 
 // Whether image h of the new program has the name of image g of the old one, and a body with the same value.
 fn is_counterpart(on: &Compared<'_>, g: u32, h: u32) -> bool
-    requires comparable { CanCompare on.now.old.now on.now.new.program.now on.now.new.ranges.now on.now.pairs.now }
-    requires old { g < length (types_of on.now.old.now) }
+    requires comparable { CanCompare on.now.old.program.now on.now.new.program.now on.now.old.ranges.now on.now.new.ranges.now on.now.pairs.now }
+    requires old { g < length (types_of on.now.old.program.now) }
     requires new { h < length (types_of on.now.new.program.now) }
-    ensures { IsTrue result → HaveSamePicture on.now.old.now on.now.new.program.now g h }
+    ensures { IsTrue result → HaveSamePicture on.now.old.program.now on.now.new.program.now g h }
 {
-    if name_of(on.new.program, h) != name_of(on.old, g) {
+    if name_of(on.new.program, h) != name_of(on.old.program, g) {
         return false;
     }
-    match body_of(on.old, g) {
+    match body_of(on.old.program, g) {
         Some(a) => match body_of(on.new.program, h) {
             Some(b) => {
-                meaning_law(on.old);
+                meaning_law(on.old.program);
                 meaning_law(on.new.program);
                 has_same_value(on, a, b)
             }
@@ -91,9 +91,9 @@ fn is_counterpart(on: &Compared<'_>, g: u32, h: u32) -> bool
 
 // The image of the new program, if there is one, that has the name of image g of the old one and the same picture.
 fn pair_of(on: &Compared<'_>, g: u32) -> Option<u32>
-    requires comparable { CanCompare on.now.old.now on.now.new.program.now on.now.new.ranges.now on.now.pairs.now }
-    requires there { g < length (types_of on.now.old.now) }
-    ensures { IfSome result (λ h. HaveSamePicture on.now.old.now on.now.new.program.now g h) }
+    requires comparable { CanCompare on.now.old.program.now on.now.new.program.now on.now.old.ranges.now on.now.new.ranges.now on.now.pairs.now }
+    requires there { g < length (types_of on.now.old.program.now) }
+    ensures { IfSome result (λ h. HaveSamePicture on.now.old.program.now on.now.new.program.now g h) }
 {
     for h in 0..image_count(on.new.program) {
         if is_counterpart(on, g, h) {
@@ -123,14 +123,18 @@ fn all_pairs(alloc: Global, old: &Program, new: &Program) -> Result<Vec<Option<u
     requires inputs { HaveSameInputs old.now new.now }
     ensures { IfOk result (λ pairs. ArePairs old.now new.now pairs.items) }
 {
-    let ranges = image_ranges(alloc, new)?;
+    let old_ranges = image_ranges(alloc, old)?;
+    let new_ranges = image_ranges(alloc, new)?;
     let mut pairs = input_pairs(alloc, old, new)?;
     for g in input_count(old)..image_count(old) {
         let on = Compared {
-            old,
+            old: Ranged {
+                program: old,
+                ranges: &old_ranges,
+            },
             new: Ranged {
                 program: new,
-                ranges: &ranges,
+                ranges: &new_ranges,
             },
             pairs: &pairs,
         };

@@ -4,11 +4,11 @@ ghost use Rattle.std.specs.Prelude.{IsTrue, IfSome};
 ghost use Rattle.dk_base.specs.Types.{IsType};
 ghost use Rattle.pointwise_ir.specs.Trees.{tree_of};
 ghost use Rattle.value_ranges.specs.Images.{AreRangesOf};
-ghost use Rattle.same_pictures.specs.Matching.{StandsFor, HoldsValues};
+ghost use Rattle.same_pictures.specs.Matching.{StandsFor, HoldsValues, ChangesNothing};
 
 use crate::matching::unfolded;
 use crate::operands::converted_operand;
-use dk_base::{MAX_INLINED_DEPTH, MAX_WIDTH, Ty};
+use dk_base::{Conversion, MAX_INLINED_DEPTH, MAX_WIDTH, Ty};
 use pointwise_ir::{Expr, Program};
 use value_ranges::{Interval, range_of};
 
@@ -39,8 +39,19 @@ fn is_held(on: &Ranged<'_>, e: &Expr, ty: Ty) -> bool
     }
 }
 
+// Whether a conversion of the expression changes no value.
+pub fn is_unneeded(on: &Ranged<'_>, how: Conversion, e: &Expr, ty: Ty) -> bool
+    requires ranges { AreRangesOf on.now.program.now on.now.ranges.now }
+    ensures { IsTrue result → ChangesNothing on.now.program.now how (tree_of e.now) ty }
+{
+    if !is_type(ty) {
+        return false;
+    }
+    is_held(on, e, ty)
+}
+
 // The operand of a conversion that changes no value.
-fn unneeded<'a>(on: &Ranged<'_>, e: &'a Expr) -> Option<&'a Expr>
+pub fn unneeded<'a>(on: &Ranged<'_>, e: &'a Expr) -> Option<&'a Expr>
     requires ranges { AreRangesOf on.now.program.now on.now.ranges.now }
     ensures { IfSome result (λ a. StandsFor on.now.program.now (tree_of e.now) (tree_of a.now)) }
 {
@@ -67,7 +78,7 @@ fn are_same_conversions(a: &Expr, e: &Expr) -> bool {
     }
 }
 
-// What stands for the expression without what changes nothing; but where a conversion is that of `a`, it stays.
+// An expression of the same value, without reads of definitions at the point itself and without conversions that change nothing. A conversion that `a` begins with too is kept.
 pub fn aligned<'a>(on: &Ranged<'a>, a: &Expr, e: &'a Expr) -> &'a Expr
     requires ranges { AreRangesOf on.now.program.now on.now.ranges.now }
     ensures { StandsFor on.now.program.now (tree_of e.now) (tree_of result.now) }
@@ -85,7 +96,7 @@ pub fn aligned<'a>(on: &Ranged<'a>, a: &Expr, e: &'a Expr) -> &'a Expr
     now
 }
 
-// What stands for the expression without what changes nothing.
+// An expression of the same value, without reads of definitions at the point itself and without conversions that change nothing.
 pub fn bare<'a>(on: &Ranged<'a>, e: &'a Expr) -> &'a Expr
     requires ranges { AreRangesOf on.now.program.now on.now.ranges.now }
     ensures { StandsFor on.now.program.now (tree_of e.now) (tree_of result.now) }

@@ -11,7 +11,7 @@ word z = to_z w32 (of_z w32 z)
 
 pub returns-in-Clamp : goal.returns-in-Clamp
 returns-in-Clamp c = λ yes.
-    let old = c.args.on.now.old.now in
+    let old = c.args.on.now.old.program.now in
     let new = c.args.on.now.new.program.now in
     let a = tree_of c.args.a.now in
     let r = c.in-Some.read in
@@ -26,7 +26,7 @@ returns-in-Clamp c = λ yes.
 
 pub returns-in-Zero : goal.returns-in-Zero
 returns-in-Zero c = λ yes.
-    let old = c.args.on.now.old.now in
+    let old = c.args.on.now.old.program.now in
     let new = c.args.on.now.new.program.now in
     let a = tree_of c.args.a.now in
     let r = c.in-Some.read in

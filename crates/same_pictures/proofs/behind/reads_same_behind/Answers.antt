@@ -7,7 +7,7 @@ use Rattle.same_pictures.proofs.behind.reads_same_behind.Goals as goal
 
 pub returns-in-Some-pushed : goal.returns-in-Some-pushed
 returns-in-Some-pushed c = λ yes.
-    let old = c.args.on.now.old.now in
+    let old = c.args.on.now.old.program.now in
     let new = c.args.on.now.new.program.now in
     let step = c.args.step in
     let by = c.args.by in

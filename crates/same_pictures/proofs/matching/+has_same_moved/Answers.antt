@@ -11,7 +11,7 @@ word z = to_z w32 (of_z w32 z)
 
 pub returns-in-Some-shifted_body : goal.returns-in-Some-shifted_body
 returns-in-Some-shifted_body t c = λ yes.
-    let old = c.args.on.now.old.now in
+    let old = c.args.on.now.old.program.now in
     let new = c.args.on.now.new.program.now in
     let at = c.args.at in
     let by = c.in-Shifted in
@@ -33,7 +33,7 @@ returns-in-Some-shifted_body t c = λ yes.
 
 pub returns-in-Some-part_of : goal.returns-in-Some-part_of
 returns-in-Some-part_of t c = λ yes.
-    let old = c.args.on.now.old.now in
+    let old = c.args.on.now.old.program.now in
     let new = c.args.on.now.new.program.now in
     let at = c.args.at in
     let by = c.in-Shifted in

@@ -4,7 +4,7 @@ use Rattle.same_pictures.proofs.pairing.is_counterpart.Goals as goal
 
 pub returns-in-Some-body_of : goal.returns-in-Some-body_of
 returns-in-Some-body_of c holds =
-    let old = c.args.on.now.old.now in
+    let old = c.args.on.now.old.program.now in
     let new = c.args.on.now.new.program.now in
     let a = tree_of c.in-Some.a.now in
     let b = tree_of c.in-Some-body_of.b.now in
