@@ -58,6 +58,22 @@ fn reason_of(form: &Program, k: usize, most: u32, uncut: &[UncutBody]) -> Reason
     }
 }
 
+// The name of the k-th image, and why its body has more levels than was asked.
+fn deep_body(
+    alloc: Global,
+    form: &Program,
+    k: usize,
+    most: u32,
+    uncut: &[UncutBody],
+) -> Result<DeepBody, OutOfMemory>
+    requires there { k < length form.now.images }
+    ensures { IfOk result (λ b. (d : Definition) → slice_get form.now.images k ≡ Some d → b.name ≡ d.name) }
+{
+    let name = Text::new(Vec::from_slice(alloc, form.images()[k].name.as_bytes())?);
+    let reason = reason_of(form, k, most, uncut);
+    Ok(DeepBody { name, reason })
+}
+
 // Adds the k-th image if its body has more than `most` levels.
 fn note_deep(
     alloc: Global,
@@ -74,9 +90,8 @@ fn note_deep(
     if !is_deep(form, k, most) {
         return Ok(());
     }
-    let name = Text::new(Vec::from_slice(alloc, form.images()[k].name.as_bytes())?);
-    let reason = reason_of(form, k, most, uncut);
-    deep.push(DeepBody { name, reason })?;
+    let body = deep_body(alloc, form, k, most, uncut)?;
+    deep.push(body)?;
     Ok(())
 }
 

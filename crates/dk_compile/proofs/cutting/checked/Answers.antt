@@ -10,5 +10,5 @@ returns-then-branch c =
 
 pub returns : goal.returns
 returns c =
-    subst (λ (text : List ℕ). KeepsPictures c.args.source.now text) (sym c.in_ok-same.ensures.items)
+    subst (λ (text : List ℕ). KeepsPictures c.args.source.now text) (sym c.in_ok-text.ensures.items)
     (keeps_itself c.args.source.now c.args.old.now c.requires.form)
