@@ -30,8 +30,8 @@ pub planned_bits : (text : List ℕ) (p : Typing) (ir : Program) (s : System) (x
 planned_bits text p ir s x plan is bits are = record { program = p; ir = ir; system = s; solution = x; plan = plan; planned = is; bits_are = are }
 
 -- a text whose program has a form that narrows the source's form
-pub narrowed_of : (source text : List ℕ) (old : Program) → HasForm source old → NarrowsForm old text → IsNarrowed source text
-narrowed_of source text old has narrows =
+narrowed_by : (source text : List ℕ) (old : Program) → HasForm source old → NarrowsForm old text → IsNarrowed source text
+narrowed_by source text old has narrows =
     let a = has.form.types in
     let b = narrows.has.form.types in
     record {
@@ -46,9 +46,12 @@ narrowed_of source text old has narrows =
       narrower = inr (subst (λ (ts : List Ty). IsOneNarrower ts (types_of narrows.has.program)) a (subst (λ (us : List Ty). IsOneNarrower (P.types_of old) us) b narrows.narrowing.narrower));
     }
 
+pub narrowed_of : (source text shown : List ℕ) (old : Program) → HasForm source old → NarrowsForm old shown → shown ≡ text → IsNarrowed source text
+narrowed_of source text shown old has narrows same = subst (λ (t : List ℕ). IsNarrowed source t) same (narrowed_by source shown old has narrows)
+
 -- a source that is returned
-pub narrowed_itself : (source : List ℕ) (old : Program) → HasForm source old → IsNarrowed source source
-narrowed_itself source old has = record {
+unchanged : (source : List ℕ) (old : Program) → HasForm source old → IsNarrowed source source
+unchanged source old has = record {
   keeps = record {
     old = has.program;
     new = has.program;
@@ -67,3 +70,10 @@ narrowed_itself source old has = record {
   no_wider = λ k t at. (t, at, (let same : width_of t ≤ width_of t = omega arith in same));
   narrower = inl refl;
 }
+
+pub narrowed_itself : (source text : List ℕ) (old : Program) → HasForm source old → text ≡ source → IsNarrowed source text
+narrowed_itself source text old has same = subst (λ (t : List ℕ). IsNarrowed source t) (sym same) (unchanged source old has)
+
+-- equal texts have the same bits
+pub same_bits : (text shown : List ℕ) (bits : ℕ) → HasLeastBits shown bits → shown ≡ text → HasLeastBits text bits
+same_bits text shown bits has same = subst (λ (t : List ℕ). HasLeastBits t bits) same has

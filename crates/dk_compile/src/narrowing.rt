@@ -1,15 +1,16 @@
 // A program whose images have the bits that their values need.
 
-ghost use Rattle.std.specs.Prelude.{◌≡◌, ◌<◌, ◌≤◌, IsTrue, IfOk, IfErr, OnOk, IfSome, length};
+ghost use Rattle.std.specs.Prelude.{◌≡◌, ◌<◌, ◌≤◌, ℕ, IsTrue, IfOk, IfErr, OnOk, IfSome, length};
 ghost use Rattle.dk_types.specs.Typed.{Typing};
 ghost use Rattle.pointwise_ir.specs.Programs.{types_of};
+ghost use Rattle.buffer_plan.specs.Plans.{bits_of};
 ghost use Rattle.dk_compile.specs.Sources.{IsErrorBy};
 ghost use Rattle.dk_compile.specs.Limits.{IsAcceptedAt, IsFaultAt};
 ghost use Rattle.dk_compile.specs.Judged.{HasForm};
 ghost use Rattle.dk_compile.specs.Compiled.{HasLeastBits};
 ghost use Rattle.dk_compile.specs.Narrowed.{AreNoWider, HasNoMoreBits, HasFewerBits, IsOneNarrower, IsNarrowed, IsNarrowing, NarrowsForm};
 
-use crate::{SourceError, one_at_age_law, planned, typed};
+use crate::{PlannedProgram, SourceError, one_at_age_law, planned, typed};
 use dk_base::OutOfMemory;
 use narrow_types::narrowed_text;
 use pointwise_ir::Program;
@@ -100,13 +101,24 @@ fn narrows(alloc: Global, old: &Program, new: &Program) -> Result<bool, OutOfMem
     Ok(same)
 }
 
+// The program of a text with its plan at age 0, or the first fault of the text.
+fn formed(alloc: Global, text: &[u8]) -> Result<PlannedProgram, SourceError>
+    ensures form { IfOk result (λ r. HasForm text.now r.ir) }
+    ensures least { IfOk result (λ r. (bits : ℕ) → bits ≡ bits_of r.plan → HasLeastBits text.now bits) }
+    ensures good { OnOk result ((p : Typing) × IsAcceptedAt text.now 0 p) }
+    ensures fault { IfErr result (IsErrorBy (IsFaultAt text.now 0)) }
+{
+    one_at_age_law();
+    let found = planned(alloc, text, 0)?;
+    Ok(found)
+}
+
 // The least buffer bits of a text at age 0, if its program narrows this one.
 fn narrower_bits(alloc: Global, old: &Program, text: &[u8]) -> Result<Option<u64>, OutOfMemory>
     ensures narrows { IfOk result (λ found. IfSome found (λ bits. NarrowsForm old.now text.now)) }
     ensures bits { IfOk result (λ found. IfSome found (λ bits. HasLeastBits text.now bits)) }
 {
-    one_at_age_law();
-    match planned(alloc, text, 0) {
+    match formed(alloc, text) {
         Ok(new) => {
             if narrows(alloc, old, &new.ir)? {
                 Ok(Some(new.plan.bits()))
@@ -120,6 +132,7 @@ fn narrower_bits(alloc: Global, old: &Program, text: &[u8]) -> Result<Option<u64
 }
 
 // The text of the program with the types that its values need, if the check confirms it and it has no more bits than the source, which has `before`; else the source as it is.
+#[tactic(auto, using(crate::proofs::Narrowed::narrowed_of, crate::proofs::Narrowed::narrowed_itself, crate::proofs::Narrowed::same_bits))]
 fn checked(
     alloc: Global,
     source: &[u8],
@@ -163,8 +176,7 @@ pub fn narrow(alloc: Global, source: &[u8]) -> Result<NarrowText, SourceError>
     ensures good { OnOk result ((p : Typing) × IsAcceptedAt source.now 0 p) }
     ensures fault { IfErr result (IsErrorBy (IsFaultAt source.now 0)) }
 {
-    one_at_age_law();
-    let old = planned(alloc, source, 0)?;
+    let old = formed(alloc, source)?;
     let before = old.plan.bits();
     let chosen = checked(alloc, source, &old.ir, before)?;
     Ok(chosen)

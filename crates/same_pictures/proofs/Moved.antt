@@ -5,16 +5,14 @@ use Rattle.std.proofs.lemmas.Bool.{cases_lt}
 use Rattle.std.proofs.lemmas.Int.{ints, to_z-of_z}
 use Rattle.dk_base.specs.Frames.{Size, in_frame, is_below, clamped}
 use Rattle.dk_base.specs.Operators.{select_value}
-use Rattle.dk_base.specs.declared.ty.Ty.{Ty}
-use Rattle.dk_base.specs.declared.operator.Conversion.{Conversion}
 use Rattle.pointwise_ir.specs.declared.expr.Edge.{Edge}
 use Rattle.pointwise_ir.specs.declared.expr.Edge.TheVariants.{Zero, Clamp}
-use Rattle.pointwise_ir.specs.Trees.{Tree, shifted, convert}
+use Rattle.pointwise_ir.specs.Trees.{Tree, shifted}
 use Rattle.pointwise_ir.specs.Programs.{Program, IsProgram}
 use Rattle.pointwise_ir.specs.Meaning.{edged, value, pictures, IsRound}
 use Rattle.dk_base.proofs.Rasters.{below_is, inside_is}
 use Rattle.same_pictures.specs.declared.moves.Step.{Step}
-use Rattle.same_pictures.specs.Matching.{HaveSameValue, HaveSameMoved, HaveSameInputs, StandsFor, ChangesNothing, IsSeen, IsJoined, IsPushed, IsSeenBehind, IsFramed, ShowsShifted}
+use Rattle.same_pictures.specs.Matching.{HaveSameValue, HaveSameMoved, HaveSameInputs, StandsFor, IsSeen, IsJoined, IsPushed, IsSeenBehind, IsFramed, ShowsShifted}
 use Rattle.same_pictures.proofs.Values.{clamped_same, round_too, same_shifted}
 
 -- the nearest number of 0 to last: below, above or inside
@@ -130,7 +128,3 @@ parts_of P s edge dx dy sx sy e u v is =
     subst (λ (k : Edge). P k dx dy) e
     (from_word (λ x. P s.edge x dy) dx sx (subst (λ (x : ℤ). P s.edge x dy) u
     (from_word (λ y. P s.edge s.dx y) dy sy (subst (λ (y : ℤ). P s.edge s.dx y) v is))))
-
--- a conversion of the old program that changes nothing, where its operand is that of the new one
-pub moved_converted : (old new : Program) (edge : Edge) (dx dy : ℤ) (how : Conversion) (a : Tree) (t : Ty) (b : Tree) → ChangesNothing old how a t → HaveSameMoved old new edge dx dy a b → HaveSameMoved old new edge dx dy (convert how a t) b
-moved_converted old new edge dx dy how a t b nothing same round is x y inside u v seen = nothing round is u v ∙ same round is x y inside u v seen

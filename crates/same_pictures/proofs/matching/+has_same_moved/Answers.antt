@@ -15,14 +15,14 @@ returns-in-Some-shifted_body t c = λ yes.
     let new = c.args.on.now.new.program.now in
     let at = c.args.at in
     let by = c.in-Shifted in
-    let to = c.in-Some-pushed.step in
+    let to = c.in-Some-pushed-2.step in
     let other = tree_of c.in-Some-shifted_body.other.now in
     let fx : FitsSigned w32 by.dx = search rules in
     let fy : FitsSigned w32 by.dy = search rules in
     let sx : FitsSigned w32 to.dx = search rules in
     let sy : FitsSigned w32 to.dy = search rules in
     let step = c.new-in-Shifted in
-    let pushed = parts_of (λ e x y. IsPushed at.edge at.dx at.dy e x y to.edge to.dx to.dy) step.result by.edge by.dx by.dy fx fy step.ensures.edge step.ensures.across step.ensures.down c.in-Some-pushed.ensures in
+    let pushed = parts_of (λ e x y. IsPushed at.edge at.dx at.dy e x y to.edge to.dx to.dy) step.result by.edge by.dx by.dy fx fy step.ensures.edge step.ensures.across step.ensures.down c.in-Some-pushed-2.ensures in
     let inner = subst (λ (e : Expr). HaveSameMoved old new Clamp (pos 0) (pos 0) (tree_of e) other) c.deref.ensures (c.has_same_moved.ensures yes) in
     let whole = moved_shifted old new c.requires.inputs c.law.ensures at.edge at.dx at.dy by.edge to.edge by.dx by.dy to.dx to.dy (tree_of by.body.value) other pushed inner in
     moved_standing old new c.requires.inputs at.edge at.dx at.dy (tree_of c.args.a.now) (tree_of c.args.b.now) (tree_of c.aligned-e.result.now) c.aligned-e.ensures
