@@ -132,7 +132,7 @@ fn narrower_bits(alloc: Global, old: &Program, text: &[u8]) -> Result<Option<u64
 }
 
 // The text of the program with the types that its values need, if the check confirms it and it has no more bits than the source, which has `before`; else the source as it is.
-#[tactic(auto, using(crate::proofs::Narrowed::narrowed_of, crate::proofs::Narrowed::narrowed_itself, crate::proofs::Narrowed::same_bits))]
+#[tactic(auto, using(crate::proofs::Narrowed::same_bits))]
 fn checked(
     alloc: Global,
     source: &[u8],
