@@ -11,7 +11,7 @@ use Rattle.buffer_plan.specs.declared.fault.PlanFault.TheVariants as plan
 use Rattle.buffer_plan.specs.Limits.{IsWithinLimits, KeepsLimits, IsPlanFault}
 use Rattle.source_fault.specs.declared.fault.SourceFault.{SourceFault}
 use Rattle.source_fault.specs.declared.fault.SourceFault.TheVariants.{TooLong, Lex, Nest, Syntax, Depth, Types, Nodes, InlineDepth, Reads, Bits, Latency}
-use Rattle.dk_compile.specs.declared.fault.SourceError.TheVariants.{Fault, OutOfMemory}
+use Rattle.dk_compile.specs.declared.fault.SourceError.TheVariants.{Fault}
 use Rattle.dk_compile.specs.Sources.{IsAccepted, IsSourceFault, IsErrorBy}
 use Rattle.dk_compile.specs.Fronts.{IsFront}
 use Rattle.dk_compile.specs.Faults.{of_plan}

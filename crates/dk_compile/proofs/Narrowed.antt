@@ -11,7 +11,7 @@ use Rattle.buffer_plan.specs.Plans.{Plan, bits_of}
 use Rattle.dk_compile.specs.Limits.{IsAcceptedAt}
 use Rattle.dk_compile.specs.Compiled.{IsPlanned, HasLeastBits}
 use Rattle.dk_compile.specs.Judged.{HasForm}
-use Rattle.dk_compile.specs.Narrowed.{AreNoWider, IsOneNarrower, HasNoMoreBits, IsNarrowed, IsNarrowing, NarrowsForm}
+use Rattle.dk_compile.specs.Narrowed.{AreNoWider, IsOneNarrower, HasNoMoreBits, IsNarrowed, NarrowsForm}
 use Rattle.dk_compile.proofs.Same.{same_of_forms}
 
 -- of each image by its number

@@ -1,6 +1,6 @@
 -- Programs whose forms show the same pictures show the same pictures.
 use Rattle.std.proofs.Common.{◌≡◌, refl, inl, inr, arith, ℕ, ℤ, ◌<◌, ◌≤◌, max, List, length, map, take, slice_get, sym, ap, subst, ◌∙◌, Some}
-use Rattle.std.specs.Prelude.{Contains, slice_index, option_map}
+use Rattle.std.specs.Prelude.{slice_index, option_map}
 use Rattle.std.proofs.lemmas.List.{length-map}
 use Rattle.std.proofs.Math.Seq.{take-append_seam}
 use Rattle.std.proofs.lemmas.List.Elements.{Contains-get_or}
@@ -8,8 +8,7 @@ use Rattle.std.proofs.lemmas.Option.{slice_get-map}
 use Rattle.dk_base.specs.declared.ty.Ty.{Ty}
 use Rattle.dk_base.specs.Frames.{Size, Picture, picture_at}
 use Rattle.dk_types.specs.declared.typed.TypedInput.{TypedInput}
-use Rattle.dk_types.specs.Typed.{Typing, Definition, types_of}
-use Rattle.dk_types.specs.Meaning.{meaning}
+use Rattle.dk_types.specs.Typed.{Typing, Definition}
 use Rattle.dk_types.specs.Reads.{output}
 use Rattle.pointwise_ir.specs.declared.program.Input.{Input}
 use Rattle.pointwise_ir.specs.Programs.{Program, names_of, bodies_of}

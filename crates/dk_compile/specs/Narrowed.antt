@@ -2,7 +2,7 @@
 use Rattle.std.specs.Prelude.{◌≡◌, ◌⊎◌, ℕ, ◌<◌, ◌≤◌, List, slice_get, Some}
 use Rattle.dk_base.specs.declared.ty.Ty.{Ty}
 use Rattle.dk_base.specs.Types.{width_of}
-use Rattle.dk_types.specs.Typed.{Typing, types_of}
+use Rattle.dk_types.specs.Typed.{types_of}
 use Rattle.pointwise_ir.specs.Programs.{Program}
 use Rattle.pointwise_ir.specs.Programs as P
 use Rattle.same_pictures.specs.Same.{HaveSamePictures}

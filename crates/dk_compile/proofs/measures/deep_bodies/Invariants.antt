@@ -1,4 +1,4 @@
-use Rattle.std.proofs.Common.{◌≡◌, List, map, take}
+use Rattle.std.proofs.Common.{◌≡◌, map, take}
 use Rattle.std.specs.Prelude.{filter}
 use Rattle.pointwise_ir.specs.declared.program.Definition.{Definition}
 use Rattle.body_levels.specs.Deep.{is_deep}
