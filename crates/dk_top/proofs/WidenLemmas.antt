@@ -85,7 +85,7 @@ rewritten_memory Narrow text = tt
 rewritten_memory (Widen phases) text = tt
 
 -- a text that is no program within its limits is not rewritten
-source_ended : (how : Rewriting) (text : List ℕ) (e : Ending) → IsSourceEnding (IsFaultAt text 0) e → IsRewriteEnding how text e
+pub source_ended : (how : Rewriting) (text : List ℕ) (e : Ending) → IsSourceEnding (IsFaultAt text 0) e → IsRewriteEnding how text e
 source_ended (Cut levels) text e h = h
 source_ended Narrow text e h = h
 source_ended (Widen phases) text (ending.Unable f) h = absurd h

@@ -1,0 +1,6 @@
+use Rattle.dk_words.specs.declared.command.Rewriting.TheVariants.{Widen}
+use Rattle.dk_top.proofs.WidenLemmas.{source_ended}
+use Rattle.dk_top.proofs.commands.widening.ending_of_widen.Goals as goal
+
+pub returns-in-Source-clause-fault : goal.returns-in-Source-clause-fault
+returns-in-Source-clause-fault c = λ source phases is. source_ended (Widen phases) source c.ending_of.result (c.ending_of.ensures.fault_at source 0 is)
