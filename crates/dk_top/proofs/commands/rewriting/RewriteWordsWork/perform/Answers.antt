@@ -1,5 +1,7 @@
-use Rattle.std.proofs.Common.{ap}
+use Rattle.std.proofs.Common.{◌≡◌, ◌⊎◌, ℕ, List, ap, subst, IfSome}
 use Rattle.dk_desk.specs.Outside.{Outside}
+use Rattle.dk_desk.specs.Calls.{IsIfTold, grown}
+use Rattle.dk_top.specs.Reading.{EndsInLine}
 use Rattle.dk_top.proofs.RewriteLemmas.{lines_whole, lines_front}
 use Rattle.dk_top.proofs.WidenLemmas.{ended_told, done_told, write_told}
 use Rattle.dk_top.proofs.commands.rewriting.RewriteWordsWork.perform.Goals as goal
@@ -7,14 +9,22 @@ use Rattle.dk_top.proofs.commands.rewriting.RewriteWordsWork.perform.Goals as go
 pub returns-in-Ok-write_both-clause-report : goal.returns-in-Ok-write_both-clause-report
 returns-in-Ok-write_both-clause-report g c =
     let outside = g.D.Desk.outside in
-    lines_whole _ c.args.self.now.how c.args.self.now.program.now c.in-Ok.rewritten.text.items c.in-Ok.rewritten.lines.items (outside c.read_rewritten.new.desk) (outside c.write_both.new.desk) (outside c.args.desk.now).report
-    (ap (λ (o : Outside). o.report) c.in-Ok.ensures.only) c.in-Ok.ensures.is c.in-Ok.ensures.lines c.in-Ok-write_both.ensures.whole c.in-Ok-write_both.ensures.line
+    let mid = outside c.read_rewritten.new.desk in
+    let new = outside c.write_both.new.desk in
+    lines_whole _ c.args.self.now.how c.args.self.now.program.now c.in-Ok.rewritten.text.items c.in-Ok.rewritten.lines.items mid new (outside c.args.desk.now).report
+    (ap (λ (o : Outside). o.report) c.in-Ok.ensures.only) c.in-Ok.ensures.is c.in-Ok.ensures.lines
+    (subst (λ (t : List ℕ). IfSome new.file.bytes (λ b. b ≡ t)) c.deref.ensures.value c.in-Ok-write_both.ensures.whole)
+    (subst (λ (l : List ℕ). IsIfTold new.report (grown mid.report l)) c.deref-2.ensures.value c.in-Ok-write_both.ensures.line)
 
 pub returns-clause-report : goal.returns-clause-report
 returns-clause-report g c =
     let outside = g.D.Desk.outside in
-    lines_front _ c.args.self.now.how c.args.self.now.program.now c.in-Ok.rewritten.text.items c.in-Ok.rewritten.lines.items (outside c.read_rewritten.new.desk) (outside c.write_both.new.desk) (outside c.args.desk.now).report
-    (ap (λ (o : Outside). o.report) c.in-Ok.ensures.only) c.in-Ok.ensures.is c.in-Ok.ensures.lines c.in-Err-write_both.ensures.front
+    let mid = outside c.read_rewritten.new.desk in
+    let new = outside c.write_both.new.desk in
+    lines_front _ c.args.self.now.how c.args.self.now.program.now c.in-Ok.rewritten.text.items c.in-Ok.rewritten.lines.items mid new (outside c.args.desk.now).report
+    (ap (λ (o : Outside). o.report) c.in-Ok.ensures.only) c.in-Ok.ensures.is c.in-Ok.ensures.lines
+    (subst (λ (t : List ℕ). (new.report ≡ mid.report) ⊎ EndsInLine t c.in-Ok.rewritten.lines.items mid new) c.deref.ensures.value
+    (subst (λ (l : List ℕ). (new.report ≡ mid.report) ⊎ EndsInLine c.deref.result.now l mid new) c.deref-2.ensures.value c.in-Err-write_both.ensures.front))
 
 pub returns-in-Err-clause-verdict : goal.returns-in-Err-clause-verdict
 returns-in-Err-clause-verdict g c = ended_told _ c.args.self.now.how c.args.self.now.program.now c.in-Err.ending c.in-Err.ensures.fault
