@@ -19,7 +19,7 @@ use Rattle.pgm_rounds.specs.Files.{FitsFile, joined}
 use Rattle.program_images.specs.Ports.{bits_of}
 use Rattle.program_images.specs.Outputs.{image_of as output_of}
 use Rattle.program_images.proofs.Written.{bits_are, port_some, greatest_small, raster_bounded}
-use Rattle.made_program.specs.Images.{image_of, picture_of as made_picture}
+use Rattle.made_program.specs.Images.{image_of}
 use Rattle.made_program.specs.Programs.{program_of}
 use Rattle.made_program.specs.Sums.{IsSummed, AreSummed}
 use Rattle.made_program.specs.Summary.{summary}

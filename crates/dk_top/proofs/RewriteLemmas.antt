@@ -1,5 +1,5 @@
 -- What a rewriting writes to File and to Report.
-use Rattle.std.proofs.Common.{◌≡◌, ◌⊎◌, inl, inr, ℕ, List, Option, None, Some, IfSome, Result, Ok, Err, OnErr, refl, sym, ◌∙◌, ap, subst}
+use Rattle.std.proofs.Common.{◌≡◌, ◌⊎◌, inl, inr, ℕ, List, Option, None, Some, IfSome, Result, Ok, Err, OnErr, sym, ◌∙◌, ap, subst}
 use Rattle.std.proofs.Math.Seq.{take-length}
 use Rattle.dk_desk.specs.Outside.{Outside, Created}
 use Rattle.dk_desk.specs.Calls.{IsIfTold, grown}

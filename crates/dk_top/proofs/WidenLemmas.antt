@@ -11,7 +11,7 @@ use Rattle.dk_compile.specs.Limits.{IsFaultAt}
 use Rattle.dk_compile.specs.Widened.{IsWidenFault}
 use Rattle.dk_compile.proofs.Widened.{one_reason}
 use Rattle.dk_top.specs.Verdict.{Files, bytes_of, IsJudged, IsProgramAnswer, IsRewriteAnswer, CanBeRewritten, CanBeWidened, IsUnable}
-use Rattle.dk_top.specs.Reading.{Stops, IsSourceEnding, IsUnreadText, IsRewriteEnding}
+use Rattle.dk_top.specs.Reading.{IsSourceEnding, IsUnreadText, IsRewriteEnding}
 use Rattle.dk_top.proofs.VerdictLemmas.{OneProgram, ApartAt, OneFaultAt}
 use Rattle.dk_top.proofs.PlanLemmas.{program_answer}
 use Rattle.dk_top.proofs.ReadLemmas.{unread_at}
