@@ -7,7 +7,7 @@
 in_folder
 unset DESTDIR
 version=$(cat "$top/VERSION")
-prefix=/opt/a\ folder
+prefix=/some/a\ folder
 bin="$work/root$prefix/bin"
 
 mkdir -p checkout/bin checkout/crates/dk/src && cp "$program" checkout/bin/dk && echo 'dk:' >checkout/crates.txt || exit 2
