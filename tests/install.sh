@@ -174,7 +174,7 @@ echo other >"root$prefix/share/man/man1/other.1"
 install_dk --dest root --prefix "$prefix" --uninstall || wrong "uninstalling: $(cat "$work/said")"
 got=$(find root -type f)
 [ "$got" = "root$prefix/share/man/man1/other.1" ] || wrong "uninstalling beside another file leaves $got"
-rm -r root/opt
+rm -r root/some
 
 # Uninstalling leaves nothing, and nothing else is touched.
 mkdir -p root/usr/local/share/man
