@@ -51,14 +51,12 @@ docs/ARCHITECTURE.md
 docs/COMMANDS.md
 docs/BUILDING.md
 docs/PROMISES.md
-crates/base_tests/README.md
 crates/batch_code/README.md
 crates/batch_guess/README.md
 crates/batch_plan/README.md
 crates/batch_rows/README.md
 crates/batch_sim/README.md
 crates/buffer_plan/README.md
-crates/circuit_tests/README.md
 crates/cycle_sim/README.md
 crates/datapath/README.md
 crates/datapath_values/README.md
@@ -81,21 +79,18 @@ crates/dk_words/README.md
 crates/edge_select/README.md
 crates/flow_dual/README.md
 crates/frame_paths/README.md
-crates/front_tests/README.md
 crates/latency_report/README.md
+crates/library_tests/README.md
 crates/made_program/README.md
 crates/circuit/README.md
 crates/line_buffer/README.md
 crates/net_build/README.md
 crates/net_build_ring/README.md
 crates/net_names/README.md
-crates/net_tests/README.md
 crates/netlist/README.md
 crates/pgm_codec/README.md
 crates/pgm_rounds/README.md
-crates/picture_tests/README.md
 crates/plan_check/README.md
-crates/plan_tests/README.md
 crates/pointwise_eval/README.md
 crates/pointwise_ir/README.md
 crates/program_images/README.md
@@ -108,7 +103,6 @@ crates/stimulus/README.md
 crates/test_bench/README.md
 crates/top_tests/README.md
 crates/trace_bench/README.md
-crates/trace_tests/README.md
 crates/value_ranges/README.md
 crates/value_rows/README.md
 crates/vcd_trace/README.md
@@ -117,9 +111,9 @@ crates/verilog_lexer/README.md
 crates/verilog_parse/README.md
 crates/verilog_print/README.md
 crates/verilog_read/README.md
-crates/verilog_tests/README.md
 crates/verilog_text/README.md
 crates/wiring/README.md
+crates/worked_tests/README.md
 """.split()
 
 

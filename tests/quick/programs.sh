@@ -22,11 +22,22 @@ done 3<"$tests/calls/programs.txt"
 
 ends 2 "$usage"
 ends 2 "$usage" run copy.dk
+ends 2 "$usage" run copy.dk gradient.pgm out.pgm --age 65
+ends 2 "$usage" eval -a copy.dk -- out.pgm
+ends 2 "$usage" compile --enable=true copy.dk out.pgm
 ends 2 "$usage" help
 ends 2 "$usage" run copy.dk gradient.pgm gradient.pgm
 is 'the input was changed' cmp -s gradient.pgm "$examples/programs/gradient.pgm"
 ends 2 "$usage" run "$(printf '\377')" gradient.pgm out.pgm
 none
+# words behind `--` are names, and numbers may begin with zeros
+cp copy.dk ./--age
+cp gradient.pgm ./-image
+ends 0 '' run -- --age -image out.pgm
+holds gradient.pgm
+"$program" compile --age 3 copy.dk --enable first.v --block 032
+"$program" compile --block 32 --age 03 --enable copy.dk second.v
+is 'the order of options counts' cmp -s first.v second.v
 
 # Faults of programs.
 printf '\001' >byte.dk
@@ -36,17 +47,78 @@ head -c 1048577 /dev/zero | tr '\0' ' ' >long.dk
 ends 3 'program: TooLong 1048576' run long.dk gradient.pgm out.pgm
 ends 3 'program: TooLong 1048576' eval long.dk gradient.pgm out.pgm
 none
-{
-    printf 'size 1 1\ninput a : u8\ninline let i1 = im(x,y) a(x,y)+a(x,y) end\n'
+# Each line of calls/repeated.txt is what `compile` says of a program, and the four parts of a body: the second is there as often as the third says. The
+# body begins at byte 34.
+while IFS='|' read -r line first again count last <&3; do
+    awk -v first="$first" -v again="$again" -v count="$count" -v last="$last" 'BEGIN {
+        printf "size 1 1 input a:u8 let f=im(x,y) %s", first
+        for (k = 0; k < count; k++) printf "%s", again
+        printf "%s end output a", last
+    }' >text.dk
+    if [ "$line" = accepted ]; then
+        ends 0 '' compile text.dk out.pgm
+    else
+        ends 3 "$line" compile text.dk out.pgm
+        none
+    fi
+done 3<"$tests/calls/repeated.txt"
+
+# Inline images of 9, 21, 45 and more nodes, each twice the one before and 3 more, with a read of it 1 more.
+doubled() {
+    printf 'size 3 1 input a:u8 inline let i1=im(x,y) a(x,y)+a(x,y) end'
     k=1
     while [ $k -lt 15 ]; do
-        printf 'inline let i%d = im(x,y) i%d(x,y)+i%d(x,y) end\n' $((k + 1)) $k $k
+        printf ' inline let i%d=im(x,y) i%d(x,y)+i%d(x,y) end' $((k + 1)) $k $k
         k=$((k + 1))
     done
-    printf 'let f = im(x,y) i15(x,y) as u8 end\noutput f\n'
-} >nodes.dk
-ends 3 'program: Nodes 98303' eval nodes.dk gradient.pgm out.pgm
-none
+}
+# nodes LINE TEXT: `compile` ends so with these images and this text
+nodes() {
+    {
+        doubled
+        printf ' %s' "$2"
+    } >text.dk
+    if [ -z "$1" ]; then
+        ends 0 '' compile text.dk out.pgm
+    else
+        ends 3 "$1" compile text.dk out.pgm
+        none
+    fi
+}
+# 65,536 nodes: 49,150 of i14, and one more than a read of each further image
+sum='i14(x,y)+i12(x,y)+i10(x,y)+i8(x,y)+i6(x,y)+i4(x,y)+i3(x,y)'
+nodes 'program: Nodes 98303' 'let f=im(x,y) i15(x,y) as u8 end output f'
+nodes '' "let f=im(x,y) $sum end output a"
+nodes 'program: Nodes 65537' "let f=im(x,y) -($sum) end output a"
+nodes 'program: Nodes 65537' "let f:u64=im(x,y) $sum end output a"
+nodes 'program: Nodes 65537' "let e=im(x,y) 1 end let f=im(x,y) $sum end output a"
+nodes '' "inline let e=im(x,y) 1 end let f=im(x,y) $sum end output a"
+nodes 'program: Nodes 65537' "inline let e=im(x,y) 1 end let f=im(x,y) $sum end output e output a"
+
+# A read that is clamped at the last pixel is one live read for each pixel. The other read is one of them, or none.
+# reads SIZE COLUMNS ROWS OTHER: a program with these reads, as moves by 64 columns at most
+reads() {
+    printf 'size %s input a:u8 inline let m0=im(x,y) a(x,y+%d) edge clamp end' "$1" "$3"
+    k=0
+    columns=$2
+    while [ "$columns" -gt 0 ]; do
+        step=$((columns < 64 ? columns : 64))
+        printf ' inline let m%d=im(x,y) m%d(x+%d,y) edge clamp end' $((k + 1)) $k $step
+        k=$((k + 1))
+        columns=$((columns - step))
+    done
+    printf ' let f=im(x,y) (m%d(x,y)+%s) as u8 end output f' $k "$4"
+}
+reads '64 64' 63 63 'a(x,y)' >text.dk
+is 'a program of 4,096 live reads is not planned' [ "$("$program" plan text.dk | grep '^reads')" = 'reads 4096' ]
+reads '64 64' 63 63 'a(x-1,y)' >text.dk
+ends 3 'program: Reads 4097' compile text.dk out.pgm
+reads '4096 16' 4095 15 'a(x,y)' >text.dk
+ends 3 'program: Reads 65536' compile text.dk out.pgm
+reads '4096 16' 4095 15 'a(x-1,y)' >text.dk
+ends 3 'program: Reads 65537' compile text.dk out.pgm
+reads '4096 17' 4095 16 'a(x,y)' >text.dk
+ends 3 'program: Reads 65537' compile text.dk out.pgm
 
 # refused LINE: the text in text.dk ends with this line, by either command
 refused() {

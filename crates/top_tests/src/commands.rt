@@ -6,7 +6,8 @@ ghost use Rattle.dk_top.specs.State.{IsFresh};
 use dk_base::OutOfMemory;
 use dk_desk::Desk;
 use dk_desk::mem_desk::MemDesk;
-use dk_top::dk_main;
+use dk_desk::never_fails::NeverFails;
+use dk_top::{Ending, dk_main};
 use std::alloc::Global;
 use std::collections::BTreeMap;
 use std::test::Fail;
@@ -43,6 +44,20 @@ pub fn words(alloc: Global, line: &str) -> Result<Vec<String>, OutOfMemory> {
     Ok(words)
 }
 
+// The files `first` and `second`.
+fn files(
+    alloc: Global,
+    first: &[u8],
+    second: &[u8],
+) -> Result<BTreeMap<String, Vec<u8>>, OutOfMemory> {
+    let mut files = BTreeMap::new(alloc);
+    let first = Vec::from_slice(alloc, first)?;
+    files.insert(String::from_str(alloc, "first")?, first)?;
+    let second = Vec::from_slice(alloc, second)?;
+    files.insert(String::from_str(alloc, "second")?, second)?;
+    Ok(files)
+}
+
 // A desk with the files `first` and `second`, on which the call of this number fails, and which takes and gives pieces of this many bytes.
 pub fn desk(
     alloc: Global,
@@ -54,11 +69,7 @@ pub fn desk(
     requires { 0 < piece }
     ensures { IfOk result (λ desk. IsFresh (⟦<MemDesk as Desk>⟧.outside desk)) }
 {
-    let mut files = BTreeMap::new(alloc);
-    let first = Vec::from_slice(alloc, first)?;
-    files.insert(String::from_str(alloc, "first")?, first)?;
-    let second = Vec::from_slice(alloc, second)?;
-    files.insert(String::from_str(alloc, "second")?, second)?;
+    let files = files(alloc, first, second)?;
     let failing = Vec::from_slice(alloc, [failing].as_slice())?;
     MemDesk::new(alloc, files, failing, piece, 4000)
 }
@@ -71,6 +82,18 @@ fn clocks_are_noted(rt: HostRuntime) -> Result<(), Fail> {
     assert_eq!(rt; dk_main(alloc, &words, &mut desk).status(), 0);
     let notes = [(false, 0), (true, 1), (true, 0), (true, 1), (true, 0)];
     assert_eq!(rt; desk.notes(), Some(notes.as_slice()));
+    Ok(())
+}
+
+// The desk on which nothing fails.
+#[test]
+fn runs_where_nothing_fails(rt: HostRuntime) -> Result<(), Fail> {
+    let alloc = rt.alloc();
+    let words = words(alloc, "dk run first second out")?;
+    let image = b"P5\n4 1\n255\n\x0a\x14\x1e\x28".as_slice();
+    let mut desk = NeverFails::new(alloc, files(alloc, COPY, image)?, 5, 300)?;
+    assert_eq!(rt; dk_main(alloc, &words, &mut desk), Ending::Done);
+    assert_eq!(rt; desk.file(), Some(image));
     Ok(())
 }
 

@@ -5,7 +5,3 @@
 mod commands;
 #[cfg(test)]
 mod failing;
-#[cfg(test)]
-mod pictures;
-#[cfg(test)]
-mod traces;
