@@ -14,7 +14,7 @@ use Rattle.dk_top.specs.Output.{output_file}
 use Rattle.dk_endings.specs.declared.ending.Ending.{Ending}
 use Rattle.dk_endings.specs.declared.ending.Ending.TheVariants as ending
 use Rattle.dk_top.specs.Verdict.{Terms, Files, bytes_of, eval_terms, OfPair, OnFiles, IsVerdict}
-use Rattle.dk_top.specs.Command.{Command, run, eval, compile, sim, trace, plan, check, make, rewrite}
+use Rattle.dk_top.specs.Command.{Command, run, eval, compile, sim, trace, plan, check, make, rewrite, explain}
 use Rattle.dk_desk.specs.declared.Stage.{Stage}
 use Rattle.dk_top.specs.State.{AsksInOrder, CreatesBy, ReadsBy, IsNoted, IsReported}
 use Rattle.dk_top.specs.Reading.{AreRead, IsRead}
@@ -52,6 +52,7 @@ same_order (trace v c i o) f mid new same h = λ asked. h (subst (λ (s : Input)
 same_order (make n) f mid new same h = tt
 same_order (sim v c i o p k) f mid new same h = λ asked. h (subst (λ (s : Input). s.stage ≢ Unasked) same asked)
 same_order (plan p a) f mid new same h = tt
+same_order (explain p) f mid new same h = tt
 same_order (check p r) f mid new same h = λ asked. h (subst (λ (s : Input). s.stage ≢ Unasked) same asked)
 
 -- what holds of all files holds on every desk
@@ -70,7 +71,9 @@ on_all (sim v c i o p h') (Some f) P h = h f
 on_all (trace v c i o) None P h = tt
 on_all (trace v c i o) (Some f) P h = h f
 on_all (plan p a) None P h = tt
+on_all (explain p) None P h = tt
 on_all (plan p a) (Some f) P h = h f
+on_all (explain p) (Some f) P h = h f
 on_all (check p r) None P h = tt
 on_all (check p r) (Some f) P h = h f
 
@@ -90,7 +93,9 @@ on_each (sim v c i o p h') (Some f) P Q g h = g f h
 on_each (trace v c i o) None P Q g h = tt
 on_each (trace v c i o) (Some f) P Q g h = g f h
 on_each (plan p a) None P Q g h = tt
+on_each (explain p) None P Q g h = tt
 on_each (plan p a) (Some f) P Q g h = g f h
+on_each (explain p) (Some f) P Q g h = g f h
 on_each (check p r) None P Q g h = tt
 on_each (check p r) (Some f) P Q g h = g f h
 
@@ -108,6 +113,7 @@ memory_verdict (trace v c i o) f = tt
 memory_verdict (make n) f = tt
 memory_verdict (sim v c i o p h) f = tt
 memory_verdict (plan p a) f = tt
+memory_verdict (explain p) f = tt
 memory_verdict (check p r) f = tt
 
 pub words_verdict : (command : Option Command) (files : Option Files) (e : Ending) → (e ≡ ending.Usage → command ≡ None) → (e ≡ ending.Usage) ⊎ (e ≡ ending.Memory) → IfSome command (λ c. OnFiles c files (λ f. IsVerdict c f e))
@@ -124,6 +130,7 @@ unasked_order (trace v c i out) f o fresh = λ asked. absurd (asked fresh)
 unasked_order (make n) f o fresh = tt
 unasked_order (sim v c i out p h) f o fresh = λ asked. absurd (asked fresh)
 unasked_order (plan p a) f o fresh = tt
+unasked_order (explain p) f o fresh = tt
 unasked_order (check p r) f o fresh = λ asked. absurd (asked fresh)
 
 pub words_order : (command : Option Command) (files : Option Files) (o : Outside) → o.image.stage ≡ Unasked → IfSome command (λ c. OnFiles c files (λ f. AsksInOrder c f o))
@@ -139,6 +146,7 @@ usage_report (trace v c i o) f stored r = refl
 usage_report (make n) f stored r = refl
 usage_report (sim v c i o p h) f stored r = refl
 usage_report (plan p a) f stored r = refl
+usage_report (explain p) f stored r = refl
 usage_report (check p t) f stored r = refl
 
 memory_report : (c : Command) (f : Files) (stored r : Option (List ℕ)) → IsReported ending.Memory c f stored r r
@@ -150,6 +158,7 @@ memory_report (trace v c i o) f stored r = refl
 memory_report (make n) f stored r = refl
 memory_report (sim v c i o p h) f stored r = refl
 memory_report (plan p a) f stored r = refl
+memory_report (explain p) f stored r = refl
 memory_report (check p t) f stored r = refl
 
 pub words_report : (command : Option Command) (files : Option Files) (e : Ending) (stored r : Option (List ℕ)) → (e ≡ ending.Usage) ⊎ (e ≡ ending.Memory) → IfSome command (λ c. OnFiles c files (λ f. IsReported e c f stored r r))
@@ -166,6 +175,7 @@ usage_notes (trace v c i o) f n = refl
 usage_notes (make k) f n = tt
 usage_notes (sim v c i o p h) f n = tt
 usage_notes (plan p a) f n = refl
+usage_notes (explain p) f n = refl
 usage_notes (check p t) f n = refl
 
 memory_notes : (c : Command) (f : Files) (n : Option (List (Bool × ℕ))) → IsNoted c ending.Memory f n n
@@ -177,6 +187,7 @@ memory_notes (trace v c i o) f n = refl
 memory_notes (make k) f n = tt
 memory_notes (sim v c i o p h) f n = tt
 memory_notes (plan p a) f n = refl
+memory_notes (explain p) f n = refl
 memory_notes (check p t) f n = refl
 
 pub words_notes : (command : Option Command) (files : Option Files) (e : Ending) (n : Option (List (Bool × ℕ))) → (e ≡ ending.Usage) ⊎ (e ≡ ending.Memory) → IfSome command (λ c. OnFiles c files (λ f. IsNoted c e f n n))
@@ -193,6 +204,7 @@ usage_begun (trace v c i o) f s = tt
 usage_begun (make k) f s = tt
 usage_begun (sim v c i o p h) f s = tt
 usage_begun (plan p a) f s = tt
+usage_begun (explain p) f s = tt
 usage_begun (check p t) f s = tt
 
 memory_begun : (c : Command) (f : Files) (s : Stage) → CreatesBy c ending.Memory f s
@@ -204,6 +216,7 @@ memory_begun (trace v c i o) f s = tt
 memory_begun (make k) f s = tt
 memory_begun (sim v c i o p h) f s = tt
 memory_begun (plan p a) f s = tt
+memory_begun (explain p) f s = tt
 memory_begun (check p t) f s = tt
 
 pub words_begun : (command : Option Command) (files : Option Files) (e : Ending) (s : Stage) → (e ≡ ending.Usage) ⊎ (e ≡ ending.Memory) → IfSome command (λ c. OnFiles c files (λ f. CreatesBy c e f s))
@@ -220,6 +233,7 @@ usage_reads (trace v c i o) f slot s = tt
 usage_reads (make k) f slot s = tt
 usage_reads (sim v c i o p h) f slot s = tt
 usage_reads (plan p a) f slot s = tt
+usage_reads (explain p) f slot s = tt
 usage_reads (check p t) f slot s = tt
 
 memory_reads : (c : Command) (f : Files) (i : Input) (s : Stage) → ReadsBy c ending.Memory f i s
@@ -231,6 +245,7 @@ memory_reads (trace v c i o) f slot s = tt
 memory_reads (make k) f slot s = tt
 memory_reads (sim v c i o p h) f slot s = tt
 memory_reads (plan p a) f slot s = tt
+memory_reads (explain p) f slot s = tt
 memory_reads (check p t) f slot s = tt
 
 pub words_reads : (command : Option Command) (files : Option Files) (e : Ending) (i : Input) (s : Stage) → (e ≡ ending.Usage) ⊎ (e ≡ ending.Memory) → IfSome command (λ c. OnFiles c files (λ f. ReadsBy c e f i s))

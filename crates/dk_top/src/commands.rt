@@ -4,6 +4,7 @@ mod checking;
 mod compiling;
 mod cutting;
 mod evaluating;
+mod explaining;
 mod making;
 mod narrowing;
 mod planning;

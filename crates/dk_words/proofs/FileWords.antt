@@ -8,11 +8,11 @@ use Rattle.clap.specs.Takes.{walk_passes}
 use Rattle.clap.specs.Walk.{Held, Row, Rule, Text, Walk, after_step, arg_by_index, finished, idle, nothing_held, option, plain_word, rows_after, settled, to_positional, value, walk_from, walked, walked_from, word_met}
 use Rattle.clap.specs.Simple.{Shape}
 use Rattle.dk_words.specs.Words.{is_like_option}
-use Rattle.dk_words.specs.Command.{Command, age_number, block_number, check, check_of_rows, clocks_of, command_of, compile, compile_of_rows, compile_on, cut_of_rows, cut_on, eval, eval_of_rows, hold_number, levels_number, made_number, make, make_of_rows, make_on, narrow_of_rows, phases_number, plan, plan_of_rows, plan_on, rewrite, run, run_of_rows, run_on, sim, sim_of_rows, sim_on, trace, trace_of_rows, trace_on, widen_of_rows, widen_on}
+use Rattle.dk_words.specs.Command.{Command, age_number, block_number, check, check_of_rows, clocks_of, command_of, compile, compile_of_rows, compile_on, cut_of_rows, cut_on, eval, eval_of_rows, explain, explain_of_rows, hold_number, levels_number, made_number, make, make_of_rows, make_on, narrow_of_rows, phases_number, plan, plan_of_rows, plan_on, rewrite, run, run_of_rows, run_on, sim, sim_of_rows, sim_on, trace, trace_of_rows, trace_on, widen_of_rows, widen_on}
 use Rattle.dk_words.specs.declared.command.PowerUp.TheVariants.{Zeros, Ones}
 use Rattle.dk_words.specs.declared.command.Rewriting.TheVariants.{Cut, Narrow, Widen}
 use Rattle.dk_words.proofs.Joined.{both}
-use Rattle.dk_words.specs.Words.{run_command, eval_command, compile_command, sim_command, trace_command, plan_command, check_command, make_command, cut_command, narrow_command, widen_command}
+use Rattle.dk_words.specs.Words.{run_command, eval_command, compile_command, sim_command, trace_command, plan_command, check_command, make_command, cut_command, narrow_command, widen_command, explain_command}
 use Rattle.dk_words.proofs.TakenLemmas.{in_program}
 
 -- ---- a word that is not like an option
@@ -477,6 +477,24 @@ module _ (name n p o : Text) (phases : ℕ) (is : phases_number n ≡ Some phase
   pub widen_reads_after : command_of (name ∷ codes "widen" ∷ codes "--" ∷ n ∷ p ∷ o ∷ []) ≡ Some (rewrite (Widen phases) p o)
   unfolding walked walk_passes
   widen_reads_after = ap (λ k. widen_on k (Some p) (Some o)) is
+
+-- ---- `explain`
+
+abbrev explain_shape : Shape
+explain_shape = in_program explain_command
+
+explain_go : (p : Text) → is_like_option p ≡ false → Goes explain_shape (walk_from nothing_held) (p ∷ []) (placed explain_shape (p ∷ []))
+explain_go p ep = goes_by_word explain_shape _ 1 _ p _ ep refl (goes_nowhere explain_shape _)
+
+pub explain_reads : (name p : Text) → is_like_option p ≡ false → command_of (name ∷ codes "explain" ∷ p ∷ []) ≡ Some (explain p)
+unfolding walked walk_passes
+explain_reads name p ep =
+    named _ _ _ (both _ _ (level explain_shape (p ∷ []) (placed explain_shape (p ∷ [])) (explain_go p ep) refl) refl)
+    (reads explain_shape (p ∷ []) (placed explain_shape (p ∷ [])) explain_of_rows _ (explain_go p ep) refl)
+
+pub explain_reads_after : (name p : Text) → command_of (name ∷ codes "explain" ∷ codes "--" ∷ p ∷ []) ≡ Some (explain p)
+unfolding walked walk_passes
+explain_reads_after name p = refl
 
 -- ---- `trace`
 

@@ -9,7 +9,7 @@ use Rattle.clap.specs.Simple.{subcommand_of}
 use Rattle.clap.specs.Takes.{takes}
 use Rattle.dk_words.specs.Words.{program}
 use Rattle.dk_words.specs.Numbers.{number_of, number_within, within}
-use Rattle.dk_words.specs.Command.{Command, IsInRange, age_number, age_of, block_number, block_of, check_of_rows, check_on, clocks_of, command_asked, command_from, command_of, compile_of_rows, compile_on, cut_of_rows, cut_on, enable_of, eval_of_rows, eval_on, fill_of, hold_number, hold_of, levels_number, made_number, make_of_rows, make_on, narrow_of_rows, narrow_on, phases_number, plan_of_rows, plan_on, run_of_rows, run_on, sim_of_rows, sim_on, trace_of_rows, trace_on, widen_of_rows, widen_on}
+use Rattle.dk_words.specs.Command.{Command, IsInRange, age_number, age_of, block_number, block_of, check_of_rows, check_on, clocks_of, command_asked, command_from, command_of, compile_of_rows, compile_on, cut_of_rows, cut_on, enable_of, eval_of_rows, eval_on, explain_of_rows, explain_on, fill_of, hold_number, hold_of, levels_number, made_number, make_of_rows, make_on, narrow_of_rows, narrow_on, phases_number, plan_of_rows, plan_on, run_of_rows, run_on, sim_of_rows, sim_on, trace_of_rows, trace_on, widen_of_rows, widen_on}
 use Rattle.dk_words.specs.declared.NoCommand.{NoCommand}
 use Rattle.dk_words.specs.declared.command.Asked.{Asked}
 use Rattle.dk_words.specs.declared.command.PowerUp.{PowerUp}
@@ -152,6 +152,10 @@ check_in None r = tt
 check_in (Some p) None = tt
 check_in (Some p) (Some r) = tt
 
+explain_in : (p : Option Text) → IfSome (explain_on p) IsInRange
+explain_in None = tt
+explain_in (Some p) = tt
+
 -- one of two commands
 one_in : (b : Bool) (x y : Option Command) → IfSome x IsInRange → IfSome y IsInRange → IfSome (cond b x y) IsInRange
 one_in true x y first second = first
@@ -177,8 +181,9 @@ from_in (Some p) =
     (one_in (bytes_eq p.0 (codes "cut")) (cut_of_rows p.1) _
     (cut_in (option_and_then levels_number (first_of (codes "N") p.1)) (first_of (codes "PROG") p.1) (first_of (codes "OUT") p.1) (levels_in (first_of (codes "N") p.1)))
     (one_in (bytes_eq p.0 (codes "narrow")) (narrow_of_rows p.1) _ (narrow_in (first_of (codes "PROG") p.1) (first_of (codes "OUT") p.1))
-    (one_in (bytes_eq p.0 (codes "widen")) (widen_of_rows p.1) None
-    (widen_in (option_and_then phases_number (first_of (codes "P") p.1)) (first_of (codes "PROG") p.1) (first_of (codes "OUT") p.1) (phases_in (first_of (codes "P") p.1))) tt))))))))))
+    (one_in (bytes_eq p.0 (codes "widen")) (widen_of_rows p.1) _
+    (widen_in (option_and_then phases_number (first_of (codes "P") p.1)) (first_of (codes "PROG") p.1) (first_of (codes "OUT") p.1) (phases_in (first_of (codes "P") p.1)))
+    (one_in (bytes_eq p.0 (codes "explain")) (explain_of_rows p.1) None (explain_in (first_of (codes "PROG") p.1)) tt)))))))))))
 
 -- the command that words name
 pub named_in : (ws : List Text) (command : Command) → command_of ws ≡ Some command → IsInRange command

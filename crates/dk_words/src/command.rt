@@ -111,6 +111,12 @@ pub struct RewriteWords<'a> {
     pub out: &'a str,
 }
 
+/// The words of `explain`.
+#[derive(Clone, Copy, Debug, PartialEq, Eq)]
+pub struct ExplainWords<'a> {
+    pub program: &'a str,
+}
+
 /// A command, with its words.
 #[derive(Clone, Copy, Debug, PartialEq, Eq)]
 pub enum Asked<'a> {
@@ -123,6 +129,7 @@ pub enum Asked<'a> {
     Check(CheckWords<'a>),
     Make(MakeWords),
     Rewrite(RewriteWords<'a>),
+    Explain(ExplainWords<'a>),
 }
 
 // The value of this word.
@@ -350,6 +357,14 @@ fn read_widen<'a>(matches: &ArgMatches<'a>) -> Option<RewriteWords<'a>>
     Some(RewriteWords { how, program, out })
 }
 
+// The words of `explain`, where each has a value.
+fn read_explain<'a>(matches: &ArgMatches<'a>) -> Option<ExplainWords<'a>>
+    ensures { option_map (λ k. command.explain k.program.now) result ≡ command.explain_of_rows (rows_of (found_of matches.now)) }
+{
+    let program = given(matches, "PROG")?;
+    Some(ExplainWords { program })
+}
+
 // The command of the matches.
 pub fn read_matches<'a>(matches: &ArgMatches<'a>) -> Option<Asked<'a>>
     ensures { option_map command.command_asked result ≡ command.command_from (subcommand_rows_of matches.now) }
@@ -367,6 +382,7 @@ pub fn read_matches<'a>(matches: &ArgMatches<'a>) -> Option<Asked<'a>>
         "cut" => Some(Asked::Rewrite(read_cut(inner)?)),
         "narrow" => Some(Asked::Rewrite(read_narrow(inner)?)),
         "widen" => Some(Asked::Rewrite(read_widen(inner)?)),
+        "explain" => Some(Asked::Explain(read_explain(inner)?)),
         _ => None,
     }
 }

@@ -208,6 +208,16 @@ fn widen_command<'a>(alloc: Global) -> Result<Command<'a>, AllocError>
     Ok(command)
 }
 
+// `explain PROG`.
+fn explain_command<'a>(alloc: Global) -> Result<Command<'a>, AllocError>
+    ensures shape { IfOk result (λ c. shape_of c ≡ words.explain_command) }
+    ensures local { IfOk result (λ c. (fields_of c).has_globals ≡ false) }
+{
+    let command = Command::new(alloc, "explain");
+    let command = command.arg(word(alloc, "PROG"))?;
+    Ok(command)
+}
+
 // The program, with `plan`, `check` and `make` too.
 fn first_commands<'a>(alloc: Global) -> Result<Command<'a>, AllocError>
     ensures { IfOk result (λ c. app_of c ≡ words.program_with words.first_commands) }
@@ -227,6 +237,7 @@ fn program_command<'a>(alloc: Global) -> Result<Command<'a>, AllocError>
     let command = command.subcommand(cut_command(alloc)?)?;
     let command = command.subcommand(narrow_command(alloc)?)?;
     let command = command.subcommand(widen_command(alloc)?)?;
+    let command = command.subcommand(explain_command(alloc)?)?;
     Ok(command)
 }
 

@@ -1,4 +1,4 @@
-use Rattle.dk_words.proofs.FileWords.{compile_reads, compile_reads_after, enable_first_reads, enable_last_reads, run_reads, run_reads_after, eval_reads, eval_reads_after, narrow_reads, narrow_reads_after, check_reads, check_reads_after, plan_reads, plan_reads_after}
+use Rattle.dk_words.proofs.FileWords.{compile_reads, compile_reads_after, enable_first_reads, enable_last_reads, run_reads, run_reads_after, eval_reads, eval_reads_after, explain_reads, explain_reads_after, narrow_reads, narrow_reads_after, check_reads, check_reads_after, plan_reads, plan_reads_after}
 use Rattle.dk_words.proofs.DecimalWords.{compile_age_first, compile_age_last, compile_block_first, compile_block_last, compile_both_first, compile_both_last, cut_after, cut_alone, make_after, make_alone, plan_age_first, plan_age_last, run_age_first, run_age_last, sim_after, sim_alone, sim_hold, sim_ones, sim_ones_hold, trace_after, trace_alone, widen_after, widen_alone}
 use Rattle.dk_words.proofs.commands_read_their_words_law.Goals as goal
 
@@ -100,6 +100,12 @@ returns-clause-narrow c = narrow_reads
 
 pub returns-clause-narrow_after_dashes : goal.returns-clause-narrow_after_dashes
 returns-clause-narrow_after_dashes c = narrow_reads_after
+
+pub returns-clause-explain : goal.returns-clause-explain
+returns-clause-explain c = explain_reads
+
+pub returns-clause-explain_after_dashes : goal.returns-clause-explain_after_dashes
+returns-clause-explain_after_dashes c = explain_reads_after
 
 pub returns-clause-widen : goal.returns-clause-widen
 returns-clause-widen c = λ name p o z n low high ep eo. widen_alone name p o z n low high ep eo

@@ -33,3 +33,6 @@ returns-in-Ok-Make-clause-performs g c = as_named _ _ _ _ _ (c.in-Ok-Make.ensure
 
 pub returns-in-Ok-Rewrite-clause-performs : goal.returns-in-Ok-Rewrite-clause-performs
 returns-in-Ok-Rewrite-clause-performs g c = as_named _ _ _ _ _ (c.in-Ok-Rewrite.ensures.ok ∙ ap (λ (a : Asked). Some (command_asked a)) c.in-Ok-Rewrite.field-0-is) c.performed-in-Ok-Rewrite.ensures.performs
+
+pub returns-in-Ok-Explain-clause-performs : goal.returns-in-Ok-Explain-clause-performs
+returns-in-Ok-Explain-clause-performs g c = as_named _ _ _ _ _ (c.in-Ok-Explain.ensures.ok ∙ ap (λ (a : Asked). Some (command_asked a)) c.in-Ok-Explain.field-0-is) c.performed-in-Ok-Explain.ensures.performs

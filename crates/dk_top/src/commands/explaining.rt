@@ -1,0 +1,98 @@
+//! `explain`: the first fault of a program, with what helps.
+
+ghost use Rattle.std.specs.Prelude.{◌≡◌, ◌⊎◌, ◌≤◌, Some, Err, IfOk, IfErr, length};
+ghost use Rattle.dk_base.specs.declared.TheConstants.{MAX_SOURCE_BYTES};
+ghost use Rattle.dk_desk.specs.Calls.{HasCauseIn, IsIfTold, OpensOnly};
+ghost use Rattle.dk_top.specs.Command.{explain as explain_command};
+ghost use Rattle.dk_top.specs.Reading.{OfFile};
+ghost use Rattle.dk_top.specs.Refusals.{IsJudgedAs, IsRefusedFor, TellsNoLength, LeavesJudged};
+
+use crate::files::{read_input, write_report};
+use crate::work::Work;
+use dk_base::MAX_SOURCE_BYTES;
+use dk_compile::{SourceError, SourceFault, one_at_age_law, planned};
+use dk_desk::transfer::ReadAll;
+use dk_desk::{Desk, InSlot, Stage};
+use dk_endings::Ending;
+use dk_words::ExplainWords;
+use fault_messages::explanation;
+use std::alloc::Global;
+
+/// The first fault of a program that is not accepted, and its explanation.
+#[derive(Drop)]
+pub(super) struct Refusal {
+    pub(super) fault: SourceFault,
+    pub(super) text: Vec<u8>,
+}
+
+/// What a program is found to be.
+#[derive(Drop)]
+pub(super) enum Judged {
+    Accepted,
+    Refused(Refusal),
+}
+
+// A fault with its explanation.
+fn refused(
+    alloc: Global,
+    name: &str,
+    text: &[u8],
+    fault: SourceFault,
+) -> Result<Judged, Ending>
+    ensures refused { IfOk result (IsRefusedFor name.now text.now fault) }
+    ensures memory { IfErr result (λ e. e ≡ Ending.Memory) }
+{
+    match explanation(alloc, name, text, fault) {
+        Ok(text) => Ok(Judged::Refused(Refusal { fault, text })),
+        Err(_) => Err(Ending::Memory),
+    }
+}
+
+// Judges a text at age 0.
+fn judged(alloc: Global, name: &str, text: &[u8]) -> Result<Judged, Ending>
+    ensures judged { IfOk result (IsJudgedAs name.now text.now) }
+    ensures untold { length text.now ≤ MAX_SOURCE_BYTES → IfOk result TellsNoLength }
+    ensures memory { IfErr result (λ e. e ≡ Ending.Memory) }
+{
+    one_at_age_law();
+    match planned(alloc, text, 0) {
+        Ok(_) => Ok(Judged::Accepted),
+        Err(SourceError::Fault(fault)) => refused(alloc, name, text, fault),
+        Err(SourceError::OutOfMemory) => Err(Ending::Memory),
+    }
+}
+
+// Reads and judges the program. Of a program that is too long no text is there.
+fn read_judged<D: Desk>(alloc: Global, desk: &mut D, name: &str) -> Result<Judged, Ending>
+    requires fresh { (D.outside desk.old).program.stage ≡ Stage.Unasked }
+    requires before_create { (D.outside desk.old).file.stage ≡ Stage.Unasked }
+    ensures judged { IfOk result (λ j. OfFile (D.outside desk.old) name.now (λ source. IsJudgedAs name.now source j)) }
+    ensures left { IfOk result (λ j. OfFile (D.outside desk.old) name.now (λ source. LeavesJudged j source (D.outside desk.new).program)) }
+    ensures failed { IfErr result (λ e. (e ≡ Ending.ReadFault) ⊎ (e ≡ Ending.Memory)) }
+    ensures name { IsIfTold (D.outside desk.new).program.name (Some name.now) }
+    ensures only { OpensOnly InSlot.Program (D.outside desk.old) (D.outside desk.new) }
+    ensures cause { HasCauseIn (result ≡ Err Ending.ReadFault) (D.outside desk.old).input_failures (D.outside desk.new).input_failures }
+{
+    match read_input(alloc, desk, InSlot::Program, name, MAX_SOURCE_BYTES) {
+        Ok(text) => judged(alloc, name, &text),
+        Err(ReadAll::TooLong) => refused(alloc, name, &[], SourceFault::TooLong),
+        Err(ReadAll::Failed) => Err(Ending::ReadFault),
+        Err(ReadAll::OutOfMemory) => Err(Ending::Memory),
+    }
+}
+
+/// Writes the explanation of the program's first fault to Report, if it has one.
+impl Work for ExplainWords<'_> {
+    ghost command = { λ words. explain_command words.program.now };
+
+    fn perform<D: Desk>(&self, alloc: Global, desk: &mut D) -> Ending {
+        match read_judged(alloc, desk, self.program) {
+            Err(ending) => ending,
+            Ok(Judged::Accepted) => Ending::Done,
+            Ok(Judged::Refused(refusal)) => match write_report(desk, &refusal.text) {
+                Ok(()) => Ending::Source(refusal.fault),
+                Err(_) => Ending::WriteFault,
+            },
+        }
+    }
+}
