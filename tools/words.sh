@@ -1,7 +1,7 @@
 # The words of a call of dk, for tools/explain.sh: what each is, and which is wrong; and the help page.
 # `called` is the script's name for its caller, and `docs` is the folder of the pages, as both are shown.
 
-commands='run compile plan sim eval make check trace cut narrow widen'
+commands='run compile plan sim eval make check trace cut narrow widen explain'
 see_help="\`${called:?} --help\` shows the commands and options."
 case ${docs:?} in
 */..*) docs=$(CDPATH='' cd -- "$docs" 2>/dev/null && pwd) || docs=docs ;;
@@ -52,6 +52,7 @@ find_command() {
     cut) names='N PROG OUT' ;;
     narrow) names='PROG OUT' ;;
     widen) names='P PROG OUT' ;;
+    explain) names='PROG' ;;
     '') note_wrong "The command is missing. $see_help" && return 1 ;;
     -*) note_wrong "The command comes first, but $(quoted "$command") begins with a hyphen. $see_help" && return 1 ;;
     *) note_wrong "There is no command $(quoted "$command"). The commands are: $commands. $see_help" && return 1 ;;
@@ -167,6 +168,7 @@ usage: $called COMMAND [OPTION..] WORD..
   cut N PROG OUT               divide bodies of more than N levels of operators
   narrow PROG OUT              give images the bits that their values need
   widen P PROG OUT             write a program of P pixels a clock
+  explain PROG                 print the faults of a program, with what helps
   make N                       make a program from a number, and run it
   help [COMMAND]               print this page, or the help of a command
   --version                    print the version, the kit and the sources

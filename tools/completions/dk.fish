@@ -19,7 +19,7 @@ function __dk_words
             set kinds .dk .pgm any
         case compile check narrow
             set kinds .dk any
-        case plan
+        case plan explain
             set kinds .dk
         case sim trace
             set kinds .v number .pgm any
@@ -68,10 +68,11 @@ complete -c dk -n __dk_command -a trace -d 'write the value change dump of a Ver
 complete -c dk -n __dk_command -a cut -d 'write a program with fewer levels of operators'
 complete -c dk -n __dk_command -a narrow -d 'write a program with narrower images'
 complete -c dk -n __dk_command -a widen -d 'write a program that takes several pixels a clock'
+complete -c dk -n __dk_command -a explain -d 'print the faults of a program, with what helps'
 complete -c dk -n __dk_command -a help -d 'print the commands and options, or the help of a command'
 complete -c dk -n __dk_command -l version -d 'print the version, the kit and the sources'
 complete -c dk -n 'not contains -- -- (commandline -opc)' -s h -l help -d 'print help'
-complete -c dk -n '__dk_command help' -a 'run compile plan sim eval make check trace cut narrow widen'
+complete -c dk -n '__dk_command help' -a 'run compile plan sim eval make check trace cut narrow widen explain'
 complete -c dk -n '__dk_command run compile plan' -x -l age -d 'least age of a live read, 0 to 64'
 complete -c dk -n '__dk_command compile' -l enable -d 'add a clock enable'
 complete -c dk -n '__dk_command compile' -x -l block -d 'fewest words of a block memory, 2 to 67108864'
