@@ -32,13 +32,17 @@ pub fn read_input<D: Desk>(
 ) -> Result<Vec<u8>, ReadAll>
     requires fresh { (input (D.outside desk.old) slot).stage ≡ Stage.Unasked }
     requires before_create { (D.outside desk.old).file.stage ≡ Stage.Unasked }
-    ensures whole { IfOk result (λ bytes. OfFile (D.outside desk.old) name.now (λ file. bytes.items ≡ file)) }
+    ensures whole { IfOk result (λ bytes. OfFile (D.outside desk.old) name.now
+        (λ file. bytes.items ≡ file)) }
     ensures within { IfOk result (λ bytes. vec_len bytes ≤ limit) }
-    ensures too_long { result ≡ Err ReadAll.TooLong → OfFile (D.outside desk.old) name.now (λ file. limit < length file) }
-    ensures taken { result ≡ Err ReadAll.TooLong → OfFile (D.outside desk.old) name.now (λ file. LeavesRest limit file (input (D.outside desk.new) slot)) }
+    ensures too_long { result ≡ Err ReadAll.TooLong → OfFile (D.outside desk.old) name.now
+        (λ file. limit < length file) }
+    ensures taken { result ≡ Err ReadAll.TooLong → OfFile (D.outside desk.old) name.now
+        (λ file. LeavesRest limit file (input (D.outside desk.new) slot)) }
     ensures name { IsIfTold (input (D.outside desk.new) slot).name (Some name.now) }
     ensures only { OpensOnly slot (D.outside desk.old) (D.outside desk.new) }
-    ensures cause { HasCauseIn (result ≡ Err ReadAll.Failed) (D.outside desk.old).input_failures (D.outside desk.new).input_failures }
+    ensures cause { HasCauseIn (result ≡ Err ReadAll.Failed) (D.outside desk.old).input_failures
+        (D.outside desk.new).input_failures }
 {
     desk.open_in(slot, name)?;
     read_all(alloc, desk, slot, limit)
@@ -53,11 +57,13 @@ fn read_to_end<D: Desk>(
 ) -> Result<Vec<u8>, ReadAll>
     requires fresh { (input (D.outside desk.old) slot).stage ≡ Stage.Unasked }
     requires before_create { (D.outside desk.old).file.stage ≡ Stage.Unasked }
-    ensures whole { IfOk result (λ bytes. OfFile (D.outside desk.old) name.now (λ file. bytes.items ≡ file)) }
+    ensures whole { IfOk result (λ bytes. OfFile (D.outside desk.old) name.now
+        (λ file. bytes.items ≡ file)) }
     ensures never { result ≢ Err ReadAll.TooLong }
     ensures name { IsIfTold (input (D.outside desk.new) slot).name (Some name.now) }
     ensures only { OpensOnly slot (D.outside desk.old) (D.outside desk.new) }
-    ensures cause { HasCauseIn (result ≡ Err ReadAll.Failed) (D.outside desk.old).input_failures (D.outside desk.new).input_failures }
+    ensures cause { HasCauseIn (result ≡ Err ReadAll.Failed) (D.outside desk.old).input_failures
+        (D.outside desk.new).input_failures }
 {
     desk.open_in(slot, name)?;
     // no list of bytes is longer
@@ -67,15 +73,18 @@ fn read_to_end<D: Desk>(
 // Begins the output and writes it whole.
 pub fn write_file<D: Desk>(desk: &mut D, name: &str, bytes: &[u8]) -> Result<(), Failed>
     requires { (D.outside desk.old).file.stage ≡ Stage.Unasked }
-    ensures whole { OnOk result (IfSome (D.outside desk.new).file.bytes (λ written. written ≡ bytes.now)) }
+    ensures whole { OnOk result (IfSome (D.outside desk.new).file.bytes
+        (λ written. written ≡ bytes.now)) }
     ensures prefix { OnErr result ((D.outside desk.new).file.stage ≡ Stage.Open
         → IfSome (D.outside desk.new).file.bytes (λ written. IsPrefix written bytes.now)) }
     ensures opened { OnOk result ((D.outside desk.new).file.stage ≡ Stage.Open) }
     ensures name { IsIfTold (D.outside desk.new).file.name (Some name.now) }
     ensures files { OthersStay name.now (D.outside desk.old).files (D.outside desk.new).files }
-    ensures files_stay { (D.outside desk.new).file.stage ≢ Stage.Open → (D.outside desk.new).files ≡ (D.outside desk.old).files }
+    ensures files_stay { (D.outside desk.new).file.stage ≢ Stage.Open → (D.outside desk.new).files
+        ≡ (D.outside desk.old).files }
     ensures only { CreatesOnly (D.outside desk.old) (D.outside desk.new) }
-    ensures cause { HasCauseIn (IsErr result) (D.outside desk.old).output_failures (D.outside desk.new).output_failures }
+    ensures cause { HasCauseIn (IsErr result) (D.outside desk.old).output_failures
+        (D.outside desk.new).output_failures }
 {
     desk.create(name)?;
     write_all(desk, OutSlot::File, bytes)
@@ -83,10 +92,13 @@ pub fn write_file<D: Desk>(desk: &mut D, name: &str, bytes: &[u8]) -> Result<(),
 
 // Writes a text to Report.
 pub fn write_report<D: Desk>(desk: &mut D, text: &[u8]) -> Result<(), Failed>
-    ensures whole { OnOk result (IsIfTold (D.outside desk.new).report (grown (D.outside desk.old).report text.now)) }
-    ensures front { OnErr result (ReportsFront text.now (D.outside desk.old).report (D.outside desk.new).report) }
+    ensures whole { OnOk result (IsIfTold (D.outside desk.new).report (grown
+        (D.outside desk.old).report text.now)) }
+    ensures front { OnErr result (ReportsFront text.now (D.outside desk.old).report
+        (D.outside desk.new).report) }
     ensures only { WritesReport (D.outside desk.old) (D.outside desk.new) }
-    ensures cause { HasCauseIn (IsErr result) (D.outside desk.old).output_failures (D.outside desk.new).output_failures }
+    ensures cause { HasCauseIn (IsErr result) (D.outside desk.old).output_failures
+        (D.outside desk.new).output_failures }
 {
     write_all(desk, OutSlot::Report, text)
 }
@@ -100,16 +112,19 @@ pub fn read_file<D: Desk>(
 ) -> Result<Vec<u8>, Ending>
     requires fresh { (D.outside desk.old).image.stage ≡ Stage.Unasked }
     requires before_create { (D.outside desk.old).file.stage ≡ Stage.Unasked }
-    ensures whole { IfOk result (λ bytes. OfFile (D.outside desk.old) name.now (λ file. bytes.items ≡ file)) }
+    ensures whole { IfOk result (λ bytes. OfFile (D.outside desk.old) name.now
+        (λ file. bytes.items ≡ file)) }
     ensures within { IfOk result (λ bytes. IfSome most (λ n. length bytes.items ≤ n)) }
-    ensures fault { IfErr result (λ e. OfFile (D.outside desk.old) name.now (λ file. IsUnread most file e)) }
+    ensures fault { IfErr result (λ e. OfFile (D.outside desk.old) name.now
+        (λ file. IsUnread most file e)) }
     ensures taken { result ≡ Err (Ending.Image ImageFault.TooLong) → OfFile (D.outside desk.old) name.now
         (λ file. IfSome most (λ n. LeavesRest n file (D.outside desk.new).image)) }
     ensures stops { IfErr result Stops }
     ensures no_text { IfErr result TellsNoText }
     ensures name { IsIfTold (D.outside desk.new).image.name (Some name.now) }
     ensures only { OpensOnly InSlot.Image (D.outside desk.old) (D.outside desk.new) }
-    ensures cause { HasCauseIn (result ≡ Err Ending.ReadFault) (D.outside desk.old).input_failures (D.outside desk.new).input_failures }
+    ensures cause { HasCauseIn (result ≡ Err Ending.ReadFault) (D.outside desk.old).input_failures
+        (D.outside desk.new).input_failures }
 {
     let read = match most {
         Some(limit) => read_input(alloc, desk, InSlot::Image, name, limit),

@@ -17,12 +17,18 @@ ghost use Rattle.dk_top.specs.Simulation.{IsSimulated};
 /// Laws: an accepted text has one list of names and one of live reads. A text that is accepted at an age has no fault at it, and any other has one fault.
 /// A report that holds has no wrong line and one claim, and any other has one first wrong line.
 pub fn one_plan_law()
-    ensures stencils { (text : List ℕ) (a b : List (List ℕ)) (s t : Stencils) → HasStencils text a s → HasStencils text b t → (a ≡ b) × (s ≡ t) }
-    ensures apart { (text : List ℕ) (age : ℕ) (f : SourceFault) → CanBeCompiled text age → IsFaultAt text age f → ⊥ }
-    ensures fault { (text : List ℕ) (age : ℕ) (f g : SourceFault) → IsFaultAt text age f → IsFaultAt text age g → f ≡ g }
-    ensures claim { (text bytes : List ℕ) (c d : TheClaim) → IsConfirmed text bytes c → IsConfirmed text bytes d → c ≡ d }
-    ensures wrong { (text bytes : List ℕ) (c : TheClaim) (line : ℕ) → IsConfirmed text bytes c → IsWrongLine text bytes line → ⊥ }
-    ensures line { (text bytes : List ℕ) (m n : ℕ) → IsWrongLine text bytes m → IsWrongLine text bytes n → m ≡ n }
+    ensures stencils { (text : List ℕ) (a b : List (List ℕ)) (s t : Stencils)
+        → HasStencils text a s → HasStencils text b t → (a ≡ b) × (s ≡ t) }
+    ensures apart { (text : List ℕ) (age : ℕ) (f : SourceFault) → CanBeCompiled text age
+        → IsFaultAt text age f → ⊥ }
+    ensures fault { (text : List ℕ) (age : ℕ) (f g : SourceFault) → IsFaultAt text age f
+        → IsFaultAt text age g → f ≡ g }
+    ensures claim { (text bytes : List ℕ) (c d : TheClaim) → IsConfirmed text bytes c
+        → IsConfirmed text bytes d → c ≡ d }
+    ensures wrong { (text bytes : List ℕ) (c : TheClaim) (line : ℕ) → IsConfirmed text bytes c
+        → IsWrongLine text bytes line → ⊥ }
+    ensures line { (text bytes : List ℕ) (m n : ℕ) → IsWrongLine text bytes m
+        → IsWrongLine text bytes n → m ≡ n }
 {
     dk_compile::one_source_law();
     dk_compile::one_at_age_law();
@@ -34,9 +40,11 @@ pub fn one_plan_law()
 /// So no failed read hides an earlier fault.
 pub fn one_rest_law()
     ensures fault { (p : Typing) (file : List ℕ) (left other : Option (List ℕ)) (xs ys : List ℕ)
-        → 0 < p.size.height → ReadsToFault p file left xs → ReadsToFault p file other ys → left ≡ other }
+        → 0 < p.size.height → ReadsToFault p file left xs → ReadsToFault p file other ys → left
+        ≡ other }
     ensures failure { (p : Typing) (file after rest xs ys : List ℕ) → 0 < p.size.height
-        → ReadsToFault p file (Some after) xs → ReadsToFailure p file (Some rest) ys → length after ≤ length rest }
+        → ReadsToFault p file (Some after) xs → ReadsToFailure p file (Some rest) ys
+        → length after ≤ length rest }
 {
     pgm_codec::one_reading_law();
 }
@@ -48,7 +56,8 @@ pub fn compile_then_sim_law()
     ensures shows { (given : CompiledInput) (fill : OnePower)
         → IsSimulated (whole_drive given fill) given.text given.file (output_file given.program given.rounds) }
     ensures only { (given : CompiledInput) (fill : OnePower) (pictures : List ℕ)
-        → IsSimulated (whole_drive given fill) given.text given.file pictures → pictures ≡ output_file given.program given.rounds }
+        → IsSimulated (whole_drive given fill) given.text given.file pictures → pictures
+        ≡ output_file given.program given.rounds }
 {
     dk_compile::one_source_law();
     dk_compile::one_at_age_law();

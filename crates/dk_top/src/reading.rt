@@ -25,15 +25,19 @@ use std::alloc::Global;
 pub fn read_text<D: Desk>(alloc: Global, desk: &mut D, name: &str) -> Result<Vec<u8>, Ending>
     requires fresh { (D.outside desk.old).program.stage ≡ Stage.Unasked }
     requires before_create { (D.outside desk.old).file.stage ≡ Stage.Unasked }
-    ensures whole { IfOk result (λ bytes. OfFile (D.outside desk.old) name.now (λ source. bytes.items ≡ source)) }
+    ensures whole { IfOk result (λ bytes. OfFile (D.outside desk.old) name.now
+        (λ source. bytes.items ≡ source)) }
     ensures within { IfOk result (λ bytes. vec_len bytes ≤ MAX_SOURCE_BYTES) }
-    ensures fault { IfErr result (λ e. OfFile (D.outside desk.old) name.now (λ source. IsUnreadText source e)) }
+    ensures fault { IfErr result (λ e. OfFile (D.outside desk.old) name.now
+        (λ source. IsUnreadText source e)) }
     ensures stops { IfErr result Stops }
-    ensures left { IfErr result (λ e. OfFile (D.outside desk.old) name.now (λ source. LeavesText e source (D.outside desk.new).program)) }
+    ensures left { IfErr result (λ e. OfFile (D.outside desk.old) name.now
+        (λ source. LeavesText e source (D.outside desk.new).program)) }
     ensures no_images { IfErr result TellsNoImages }
     ensures name { IsIfTold (D.outside desk.new).program.name (Some name.now) }
     ensures only { OpensOnly InSlot.Program (D.outside desk.old) (D.outside desk.new) }
-    ensures cause { HasCauseIn (result ≡ Err Ending.ReadFault) (D.outside desk.old).input_failures (D.outside desk.new).input_failures }
+    ensures cause { HasCauseIn (result ≡ Err Ending.ReadFault) (D.outside desk.old).input_failures
+        (D.outside desk.new).input_failures }
 {
     match read_input(alloc, desk, InSlot::Program, name, MAX_SOURCE_BYTES) {
         Ok(text) => Ok(text),
@@ -43,8 +47,10 @@ pub fn read_text<D: Desk>(alloc: Global, desk: &mut D, name: &str) -> Result<Vec
 
 // How a call ends whose text was not read as a program.
 pub fn ending_of(error: SourceError) -> Ending
-    ensures fault { (source : List ℕ) → IsErrorBy (IsSourceFault source) error → IsSourceEnding (IsSourceFault source) result }
-    ensures fault_at { (source : List ℕ) (age : ℕ) → IsErrorBy (IsFaultAt source age) error → IsSourceEnding (IsFaultAt source age) result }
+    ensures fault { (source : List ℕ) → IsErrorBy (IsSourceFault source) error
+        → IsSourceEnding (IsSourceFault source) result }
+    ensures fault_at { (source : List ℕ) (age : ℕ) → IsErrorBy (IsFaultAt source age) error
+        → IsSourceEnding (IsFaultAt source age) result }
     ensures stops { Stops result }
     ensures judged { result ≢ Ending.ReadFault }
 {
@@ -72,7 +78,8 @@ fn read_form(alloc: Global, text: &[u8]) -> Result<Program, Ending>
 
 // The rounds of a file, for the programs of this form.
 pub fn read_frames(alloc: Global, ir: &Program, file: &[u8]) -> Result<Vec<Round>, Ending>
-    ensures input { IfOk result (λ rounds. (most : Option ℕ) → IfSome most (λ n. length file.now ≤ n) → IsInputOf most ir.now file.now rounds.items) }
+    ensures input { IfOk result (λ rounds. (most : Option ℕ) → IfSome most
+        (λ n. length file.now ≤ n) → IsInputOf most ir.now file.now rounds.items) }
     ensures read { IfOk result (λ rounds. AreRead ir.now rounds.items) }
     ensures fault { IfErr result (λ e. (most : Option ℕ) → IfSome most (λ n. length file.now ≤ n)
         → (p : Typing) → IsForm p ir.now → IsImageEnding most p file.now e) }
@@ -101,16 +108,22 @@ struct Source {
 fn read_source<D: Desk>(alloc: Global, desk: &mut D, name: &str) -> Result<Source, Ending>
     requires fresh { (D.outside desk.old).program.stage ≡ Stage.Unasked }
     requires before_create { (D.outside desk.old).file.stage ≡ Stage.Unasked }
-    ensures text { IfOk result (λ source. OfFile (D.outside desk.old) name.now (λ text. source.text.items ≡ text)) }
-    ensures accepted { IfOk result (λ source. (p : Typing) × IsAcceptedAt source.text.items 0 p × IsForm p source.ir) }
-    ensures every { IfOk result (λ source. (p : Typing) → IsAcceptedAt source.text.items 0 p → IsForm p source.ir) }
-    ensures fault { IfErr result (λ e. OfFile (D.outside desk.old) name.now (λ source. IsSourceEnding (IsFaultAt source 0) e)) }
+    ensures text { IfOk result (λ source. OfFile (D.outside desk.old) name.now
+        (λ text. source.text.items ≡ text)) }
+    ensures accepted { IfOk result (λ source. (p : Typing) × IsAcceptedAt source.text.items 0 p
+        × IsForm p source.ir) }
+    ensures every { IfOk result (λ source. (p : Typing) → IsAcceptedAt source.text.items 0 p
+        → IsForm p source.ir) }
+    ensures fault { IfErr result (λ e. OfFile (D.outside desk.old) name.now
+        (λ source. IsSourceEnding (IsFaultAt source 0) e)) }
     ensures stops { IfErr result Stops }
-    ensures left { IfErr result (λ e. OfFile (D.outside desk.old) name.now (λ source. LeavesText e source (D.outside desk.new).program)) }
+    ensures left { IfErr result (λ e. OfFile (D.outside desk.old) name.now
+        (λ source. LeavesText e source (D.outside desk.new).program)) }
     ensures no_images { IfErr result TellsNoImages }
     ensures name { IsIfTold (D.outside desk.new).program.name (Some name.now) }
     ensures only { OpensOnly InSlot.Program (D.outside desk.old) (D.outside desk.new) }
-    ensures cause { HasCauseIn (result ≡ Err Ending.ReadFault) (D.outside desk.old).input_failures (D.outside desk.new).input_failures }
+    ensures cause { HasCauseIn (result ≡ Err Ending.ReadFault) (D.outside desk.old).input_failures
+        (D.outside desk.new).input_failures }
 {
     let text = match read_text(alloc, desk, name) {
         Ok(text) => text,
@@ -132,16 +145,20 @@ pub fn read_images<D: Desk>(
 ) -> Result<Vec<Round>, Ending>
     requires fresh { (D.outside desk.old).image.stage ≡ Stage.Unasked }
     requires before_create { (D.outside desk.old).file.stage ≡ Stage.Unasked }
-    ensures input { IfOk result (λ rounds. OfFile (D.outside desk.old) name.now (λ file. IsInputOf most ir.now file rounds.items)) }
+    ensures input { IfOk result (λ rounds. OfFile (D.outside desk.old) name.now
+        (λ file. IsInputOf most ir.now file rounds.items)) }
     ensures read { IfOk result (λ rounds. AreRead ir.now rounds.items) }
-    ensures fault { IfErr result (λ e. OfFile (D.outside desk.old) name.now (λ file. (p : Typing) → IsForm p ir.now → IsImageEnding most p file e)) }
+    ensures fault { IfErr result (λ e. OfFile (D.outside desk.old) name.now
+        (λ file. (p : Typing) → IsForm p ir.now → IsImageEnding most p file e)) }
     ensures stops { IfErr result Stops }
     ensures left { IfErr result (λ e. most ≡ Some MAX_PGM_BYTES
-        → OfFile (D.outside desk.old) name.now (λ file. LeavesImages e file (D.outside desk.new).image)) }
+        → OfFile (D.outside desk.old) name.now (λ file. LeavesImages e file
+        (D.outside desk.new).image)) }
     ensures no_text { IfErr result TellsNoText }
     ensures name { IsIfTold (D.outside desk.new).image.name (Some name.now) }
     ensures only { OpensOnly InSlot.Image (D.outside desk.old) (D.outside desk.new) }
-    ensures cause { HasCauseIn (result ≡ Err Ending.ReadFault) (D.outside desk.old).input_failures (D.outside desk.new).input_failures }
+    ensures cause { HasCauseIn (result ≡ Err Ending.ReadFault) (D.outside desk.old).input_failures
+        (D.outside desk.new).input_failures }
 {
     let file = match read_file(alloc, desk, name, most) {
         Ok(file) => file,
@@ -168,19 +185,27 @@ pub fn read_given<D: Desk>(
     requires program { (D.outside desk.old).program.stage ≡ Stage.Unasked }
     requires image { (D.outside desk.old).image.stage ≡ Stage.Unasked }
     requires file { (D.outside desk.old).file.stage ≡ Stage.Unasked }
-    ensures accepted { IfOk result (λ given. (p : Typing) × IsAcceptedAt given.text.items 0 p × IsForm p given.ir) }
-    ensures order { OfFile (D.outside desk.old) program.now (λ source. AsksWhere (IsAcceptedAt source 0) (D.outside desk.new)) }
-    ensures text { IfOk result (λ given. OfFile (D.outside desk.old) program.now (λ source. given.text.items ≡ source)) }
+    ensures accepted { IfOk result (λ given. (p : Typing) × IsAcceptedAt given.text.items 0 p
+        × IsForm p given.ir) }
+    ensures order { OfFile (D.outside desk.old) program.now
+        (λ source. AsksWhere (IsAcceptedAt source 0) (D.outside desk.new)) }
+    ensures text { IfOk result (λ given. OfFile (D.outside desk.old) program.now
+        (λ source. given.text.items ≡ source)) }
     ensures read { IfOk result (λ given. OfFiles (D.outside desk.old) program.now image.now
         (λ source file. IsRead eval_terms source file given.ir given.rounds.items)) }
     ensures frames { IfOk result (λ given. AreRead given.ir given.rounds.items) }
-    ensures fault { IfErr result (λ e. OfFiles (D.outside desk.old) program.now image.now (λ source file. IsAnswer eval_terms source file e)) }
+    ensures fault { IfErr result (λ e. OfFiles (D.outside desk.old) program.now image.now
+        (λ source file. IsAnswer eval_terms source file e)) }
     ensures stops { IfErr result Stops }
-    ensures left { IfErr result (λ e. LeavesInputs e program.now image.now (D.outside desk.old) (D.outside desk.new)) }
-    ensures program_name { (D.outside desk.new).program.stage ≢ Stage.Unasked → IsIfTold (D.outside desk.new).program.name (Some program.now) }
-    ensures image_name { (D.outside desk.new).image.stage ≢ Stage.Unasked → IsIfTold (D.outside desk.new).image.name (Some image.now) }
+    ensures left { IfErr result (λ e. LeavesInputs e program.now image.now (D.outside desk.old)
+        (D.outside desk.new)) }
+    ensures program_name { (D.outside desk.new).program.stage ≢ Stage.Unasked
+        → IsIfTold (D.outside desk.new).program.name (Some program.now) }
+    ensures image_name { (D.outside desk.new).image.stage ≢ Stage.Unasked
+        → IsIfTold (D.outside desk.new).image.name (Some image.now) }
     ensures only { ReadsInputs (D.outside desk.old) (D.outside desk.new) }
-    ensures cause { HasCauseIn (result ≡ Err Ending.ReadFault) (D.outside desk.old).input_failures (D.outside desk.new).input_failures }
+    ensures cause { HasCauseIn (result ≡ Err Ending.ReadFault) (D.outside desk.old).input_failures
+        (D.outside desk.new).input_failures }
 {
     let Source { text, ir } = match read_source(alloc, desk, program) {
         Ok(source) => source,

@@ -21,21 +21,32 @@ pub trait Work {
         ensures taken { result ≢ Ending.Usage }
         ensures verdict { EndsRight (Some (command self.now)) result (D.outside desk.old) }
         ensures asked { AsksOnly (Some (command self.now)) (D.outside desk.new) }
-        ensures order { AsksAfter (Some (command self.now)) (D.outside desk.old) (D.outside desk.new) }
-        ensures too_long { LeavesRestOf (Some (command self.now)) result (D.outside desk.old) (D.outside desk.new) }
+        ensures order { AsksAfter (Some (command self.now)) (D.outside desk.old)
+            (D.outside desk.new) }
+        ensures too_long { LeavesRestOf (Some (command self.now)) result (D.outside desk.old)
+            (D.outside desk.new) }
         ensures created { CreatesLast (Some (command self.now)) result (D.outside desk.new) }
-        ensures begun { HasCreated (Some (command self.now)) result (D.outside desk.old) (D.outside desk.new) }
-        ensures reads { HasRead (Some (command self.now)) result (D.outside desk.old) (D.outside desk.new) }
+        ensures begun { HasCreated (Some (command self.now)) result (D.outside desk.old)
+            (D.outside desk.new) }
+        ensures reads { HasRead (Some (command self.now)) result (D.outside desk.old)
+            (D.outside desk.new) }
         ensures written { HasWritten (Some (command self.now)) result (D.outside desk.new) }
-        ensures output { HasStored (Some (command self.now)) result (D.outside desk.old) (D.outside desk.new) }
-        ensures files { FilesStay (Some (command self.now)) (D.outside desk.old).files (D.outside desk.new).files }
+        ensures output { HasStored (Some (command self.now)) result (D.outside desk.old)
+            (D.outside desk.new) }
+        ensures files { FilesStay (Some (command self.now)) (D.outside desk.old).files
+            (D.outside desk.new).files }
         ensures files_stay { AllStay (D.outside desk.old) (D.outside desk.new) }
-        ensures report { HasReported (Some (command self.now)) result (D.outside desk.old) (D.outside desk.new) }
-        ensures report_stays { ReportStays (Some (command self.now)) result (D.outside desk.old) (D.outside desk.new) }
-        ensures notes { HasNoted (Some (command self.now)) result (D.outside desk.old) (D.outside desk.new) }
-        ensures notes_stay { NotesStay (Some (command self.now)) (D.outside desk.old) (D.outside desk.new) }
+        ensures report { HasReported (Some (command self.now)) result (D.outside desk.old)
+            (D.outside desk.new) }
+        ensures report_stays { ReportStays (Some (command self.now)) result (D.outside desk.old)
+            (D.outside desk.new) }
+        ensures notes { HasNoted (Some (command self.now)) result (D.outside desk.old)
+            (D.outside desk.new) }
+        ensures notes_stay { NotesStay (Some (command self.now)) (D.outside desk.old)
+            (D.outside desk.new) }
         ensures fault { (D.outside desk.new).fault ≡ (D.outside desk.old).fault }
-        ensures fault_count { (D.outside desk.new).fault_failures ≡ (D.outside desk.old).fault_failures }
+        ensures fault_count { (D.outside desk.new).fault_failures
+            ≡ (D.outside desk.old).fault_failures }
         ensures read_fault { ReportsRead result (D.outside desk.old) (D.outside desk.new) }
         ensures write_fault { ReportsWrite result (D.outside desk.old) (D.outside desk.new) };
 }
@@ -44,9 +55,11 @@ pub trait Work {
 pub fn performed<W: Work, D: Desk>(words: &W, alloc: Global, desk: &mut D) -> Ending
     requires ranges { IsInRange (W.command words.now) }
     requires fresh { IsFresh (D.outside desk.old) }
-    ensures performs { Performs (Some (W.command words.now)) result (D.outside desk.old) (D.outside desk.new) }
+    ensures performs { Performs (Some (W.command words.now)) result (D.outside desk.old)
+        (D.outside desk.new) }
     ensures fault { (D.outside desk.new).fault ≡ (D.outside desk.old).fault }
-    ensures fault_count { (D.outside desk.new).fault_failures ≡ (D.outside desk.old).fault_failures }
+    ensures fault_count { (D.outside desk.new).fault_failures
+        ≡ (D.outside desk.old).fault_failures }
 {
     words.perform(alloc, desk)
 }

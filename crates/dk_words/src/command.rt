@@ -221,7 +221,8 @@ fn read_phases(matches: &ArgMatches) -> Option<u8>
 
 // The words of `run`, where each has a value.
 fn read_run<'a>(matches: &ArgMatches<'a>) -> Option<RunWords<'a>>
-    ensures { option_map (λ r. command.run r.program.now r.image.now r.out.now r.age) result ≡ command.run_of_rows (rows_of (found_of matches.now)) }
+    ensures { option_map (λ r. command.run r.program.now r.image.now r.out.now r.age) result
+        ≡ command.run_of_rows (rows_of (found_of matches.now)) }
 {
     let program = given(matches, "PROG")?;
     let image = given(matches, "IN")?;
@@ -237,7 +238,8 @@ fn read_run<'a>(matches: &ArgMatches<'a>) -> Option<RunWords<'a>>
 
 // The words of `eval`, where each has a value.
 fn read_eval<'a>(matches: &ArgMatches<'a>) -> Option<FileNames<'a>>
-    ensures { option_map (λ f. command.eval f.program.now f.image.now f.out.now) result ≡ command.eval_of_rows (rows_of (found_of matches.now)) }
+    ensures { option_map (λ f. command.eval f.program.now f.image.now f.out.now) result
+        ≡ command.eval_of_rows (rows_of (found_of matches.now)) }
 {
     let program = given(matches, "PROG")?;
     let image = given(matches, "IN")?;
@@ -285,7 +287,8 @@ fn read_sim<'a>(matches: &ArgMatches<'a>) -> Option<SimWords<'a>>
 
 // The words of `trace`, where each has a value.
 fn read_trace<'a>(matches: &ArgMatches<'a>) -> Option<TraceWords<'a>>
-    ensures { option_map (λ t. command.trace t.verilog.now t.clocks t.image.now t.vcd.now) result ≡ command.trace_of_rows (rows_of (found_of matches.now)) }
+    ensures { option_map (λ t. command.trace t.verilog.now t.clocks t.image.now t.vcd.now) result
+        ≡ command.trace_of_rows (rows_of (found_of matches.now)) }
 {
     let verilog = given(matches, "VERILOG")?;
     let clocks = read_clocks(matches)?;
@@ -301,7 +304,8 @@ fn read_trace<'a>(matches: &ArgMatches<'a>) -> Option<TraceWords<'a>>
 
 // The words of `plan`, where each has a value.
 fn read_plan<'a>(matches: &ArgMatches<'a>) -> Option<PlanWords<'a>>
-    ensures { option_map (λ p. command.plan p.program.now p.age) result ≡ command.plan_of_rows (rows_of (found_of matches.now)) }
+    ensures { option_map (λ p. command.plan p.program.now p.age) result
+        ≡ command.plan_of_rows (rows_of (found_of matches.now)) }
 {
     let program = given(matches, "PROG")?;
     let age = read_age(matches)?;
@@ -310,7 +314,8 @@ fn read_plan<'a>(matches: &ArgMatches<'a>) -> Option<PlanWords<'a>>
 
 // The words of `check`, where each has a value.
 fn read_check<'a>(matches: &ArgMatches<'a>) -> Option<CheckWords<'a>>
-    ensures { option_map (λ k. command.check k.program.now k.report.now) result ≡ command.check_of_rows (rows_of (found_of matches.now)) }
+    ensures { option_map (λ k. command.check k.program.now k.report.now) result
+        ≡ command.check_of_rows (rows_of (found_of matches.now)) }
 {
     let program = given(matches, "PROG")?;
     let report = given(matches, "REPORT")?;
@@ -319,7 +324,8 @@ fn read_check<'a>(matches: &ArgMatches<'a>) -> Option<CheckWords<'a>>
 
 // The words of `make`, where each has a value.
 fn read_make(matches: &ArgMatches) -> Option<MakeWords>
-    ensures { option_map (λ m. command.make m.number) result ≡ command.make_of_rows (rows_of (found_of matches.now)) }
+    ensures { option_map (λ m. command.make m.number) result
+        ≡ command.make_of_rows (rows_of (found_of matches.now)) }
 {
     let number = read_number(matches)?;
     Some(MakeWords { number })
@@ -327,7 +333,8 @@ fn read_make(matches: &ArgMatches) -> Option<MakeWords>
 
 // The words of `cut`, where each has a value.
 fn read_cut<'a>(matches: &ArgMatches<'a>) -> Option<RewriteWords<'a>>
-    ensures { option_map (λ k. command.rewrite k.how k.program.now k.out.now) result ≡ command.cut_of_rows (rows_of (found_of matches.now)) }
+    ensures { option_map (λ k. command.rewrite k.how k.program.now k.out.now) result
+        ≡ command.cut_of_rows (rows_of (found_of matches.now)) }
 {
     let levels = read_levels(matches)?;
     let program = given(matches, "PROG")?;
@@ -338,7 +345,8 @@ fn read_cut<'a>(matches: &ArgMatches<'a>) -> Option<RewriteWords<'a>>
 
 // The words of `narrow`, where each has a value.
 fn read_narrow<'a>(matches: &ArgMatches<'a>) -> Option<RewriteWords<'a>>
-    ensures { option_map (λ k. command.rewrite k.how k.program.now k.out.now) result ≡ command.narrow_of_rows (rows_of (found_of matches.now)) }
+    ensures { option_map (λ k. command.rewrite k.how k.program.now k.out.now) result
+        ≡ command.narrow_of_rows (rows_of (found_of matches.now)) }
 {
     let program = given(matches, "PROG")?;
     let out = given(matches, "OUT")?;
@@ -348,7 +356,8 @@ fn read_narrow<'a>(matches: &ArgMatches<'a>) -> Option<RewriteWords<'a>>
 
 // The words of `widen`, where each has a value.
 fn read_widen<'a>(matches: &ArgMatches<'a>) -> Option<RewriteWords<'a>>
-    ensures { option_map (λ k. command.rewrite k.how k.program.now k.out.now) result ≡ command.widen_of_rows (rows_of (found_of matches.now)) }
+    ensures { option_map (λ k. command.rewrite k.how k.program.now k.out.now) result
+        ≡ command.widen_of_rows (rows_of (found_of matches.now)) }
 {
     let phases = read_phases(matches)?;
     let program = given(matches, "PROG")?;
@@ -359,7 +368,8 @@ fn read_widen<'a>(matches: &ArgMatches<'a>) -> Option<RewriteWords<'a>>
 
 // The words of `explain`, where each has a value.
 fn read_explain<'a>(matches: &ArgMatches<'a>) -> Option<ExplainWords<'a>>
-    ensures { option_map (λ k. command.explain k.program.now) result ≡ command.explain_of_rows (rows_of (found_of matches.now)) }
+    ensures { option_map (λ k. command.explain k.program.now) result
+        ≡ command.explain_of_rows (rows_of (found_of matches.now)) }
 {
     let program = given(matches, "PROG")?;
     Some(ExplainWords { program })
@@ -367,7 +377,8 @@ fn read_explain<'a>(matches: &ArgMatches<'a>) -> Option<ExplainWords<'a>>
 
 // The command of the matches.
 pub fn read_matches<'a>(matches: &ArgMatches<'a>) -> Option<Asked<'a>>
-    ensures { option_map command.command_asked result ≡ command.command_from (subcommand_rows_of matches.now) }
+    ensures { option_map command.command_asked result
+        ≡ command.command_from (subcommand_rows_of matches.now) }
 {
     let (name, inner) = matches.subcommand()?;
     match name {

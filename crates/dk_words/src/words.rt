@@ -176,7 +176,8 @@ fn picture_commands<'a>(alloc: Global) -> Result<Command<'a>, AllocError>
 
 // The program, with `compile`, `sim` and `trace` too.
 fn verilog_commands<'a>(alloc: Global) -> Result<Command<'a>, AllocError>
-    ensures { IfOk result (λ c. app_of c ≡ words.program_with (words.picture_commands ++ words.verilog_commands)) }
+    ensures { IfOk result (λ c. app_of c
+        ≡ words.program_with (words.picture_commands ++ words.verilog_commands)) }
 {
     let command = picture_commands(alloc)?;
     let command = command.subcommand(compile_command(alloc)?)?;
@@ -244,7 +245,8 @@ fn program_command<'a>(alloc: Global) -> Result<Command<'a>, AllocError>
 /// The matches of words that are taken.
 pub fn read_words<'a>(alloc: Global, words: &'a [String]) -> Result<ArgMatches<'a>, Error>
     ensures taken { IfOk result (λ _. IsTaken (texts words.now)) }
-    ensures refused { IfErr result (λ e. IsTaken (texts words.now) → kind_of e ≡ ErrorKind.OutOfMemory) }
+    ensures refused { IfErr result (λ e. IsTaken (texts words.now)
+        → kind_of e ≡ ErrorKind.OutOfMemory) }
     ensures matches { IfOk result (HasMatchesOf Rattle.dk_words.specs.Words.program (texts words.now)) }
 {
     program_command(alloc)?.try_get_matches_from(words)

@@ -38,15 +38,20 @@ fn accepted(alloc: Global, text: &[u8]) -> Result<Front, Ending>
 fn read_front<D: Desk>(alloc: Global, desk: &mut D, name: &str) -> Result<Front, Ending>
     requires fresh { (D.outside desk.old).program.stage ≡ Stage.Unasked }
     requires before_create { (D.outside desk.old).file.stage ≡ Stage.Unasked }
-    ensures accepted { IfOk result (λ front. OfFile (D.outside desk.old) name.now (λ source. HasFront source front.ir front.stencils)) }
-    ensures some { IfOk result (λ front. (source : List ℕ) × HasFront source front.ir front.stencils) }
-    ensures fault { IfErr result (λ e. OfFile (D.outside desk.old) name.now (λ source. IsSourceEnding (IsSourceFault source) e)) }
+    ensures accepted { IfOk result (λ front. OfFile (D.outside desk.old) name.now
+        (λ source. HasFront source front.ir front.stencils)) }
+    ensures some { IfOk result (λ front. (source : List ℕ)
+        × HasFront source front.ir front.stencils) }
+    ensures fault { IfErr result (λ e. OfFile (D.outside desk.old) name.now
+        (λ source. IsSourceEnding (IsSourceFault source) e)) }
     ensures stops { IfErr result Stops }
-    ensures left { IfErr result (λ e. OfFile (D.outside desk.old) name.now (λ source. LeavesText e source (D.outside desk.new).program)) }
+    ensures left { IfErr result (λ e. OfFile (D.outside desk.old) name.now
+        (λ source. LeavesText e source (D.outside desk.new).program)) }
     ensures no_images { IfErr result TellsNoImages }
     ensures name { IsIfTold (D.outside desk.new).program.name (Some name.now) }
     ensures only { OpensOnly InSlot.Program (D.outside desk.old) (D.outside desk.new) }
-    ensures cause { HasCauseIn (result ≡ Err Ending.ReadFault) (D.outside desk.old).input_failures (D.outside desk.new).input_failures }
+    ensures cause { HasCauseIn (result ≡ Err Ending.ReadFault) (D.outside desk.old).input_failures
+        (D.outside desk.new).input_failures }
 {
     let text = match read_text(alloc, desk, name) {
         Ok(text) => text,
@@ -59,8 +64,10 @@ fn read_front<D: Desk>(alloc: Global, desk: &mut D, name: &str) -> Result<Front,
 fn judged(alloc: Global, front: &Front, report: &[u8]) -> Result<Claim, Ending>
     requires within { length report.now ≤ MAX_REPORT_BYTES }
     requires accepted { (source : List ℕ) × HasFront source front.now.ir front.now.stencils }
-    ensures holds { IfOk result (λ claim. OfFront front.now (λ source. IsChecked source report.now claim)) }
-    ensures fault { IfErr result (λ e. OfFront front.now (λ source. IsReportEnding source report.now e)) }
+    ensures holds { IfOk result (λ claim. OfFront front.now
+        (λ source. IsChecked source report.now claim)) }
+    ensures fault { IfErr result (λ e. OfFront front.now
+        (λ source. IsReportEnding source report.now e)) }
     ensures stops { IfErr result Stops }
     ensures no_text { IfErr result TellsNoText }
     ensures no_images { IfErr result TellsNoImages }
@@ -77,15 +84,19 @@ fn judged(alloc: Global, front: &Front, report: &[u8]) -> Result<Claim, Ending>
 fn report_bytes<D: Desk>(alloc: Global, desk: &mut D, name: &str) -> Result<Vec<u8>, Ending>
     requires fresh { (D.outside desk.old).image.stage ≡ Stage.Unasked }
     requires before_create { (D.outside desk.old).file.stage ≡ Stage.Unasked }
-    ensures whole { IfOk result (λ bytes. OfFile (D.outside desk.old) name.now (λ file. bytes.items ≡ file)) }
+    ensures whole { IfOk result (λ bytes. OfFile (D.outside desk.old) name.now
+        (λ file. bytes.items ≡ file)) }
     ensures within { IfOk result (λ bytes. vec_len bytes ≤ MAX_REPORT_BYTES) }
-    ensures fault { IfErr result (λ e. OfFile (D.outside desk.old) name.now (λ file. (source : List ℕ) → IsReportEnding source file e)) }
+    ensures fault { IfErr result (λ e. OfFile (D.outside desk.old) name.now
+        (λ file. (source : List ℕ) → IsReportEnding source file e)) }
     ensures stops { IfErr result Stops }
-    ensures left { IfErr result (λ e. OfFile (D.outside desk.old) name.now (λ file. LeavesImages e file (D.outside desk.new).image)) }
+    ensures left { IfErr result (λ e. OfFile (D.outside desk.old) name.now
+        (λ file. LeavesImages e file (D.outside desk.new).image)) }
     ensures no_text { IfErr result TellsNoText }
     ensures name { IsIfTold (D.outside desk.new).image.name (Some name.now) }
     ensures only { OpensOnly InSlot.Image (D.outside desk.old) (D.outside desk.new) }
-    ensures cause { HasCauseIn (result ≡ Err Ending.ReadFault) (D.outside desk.old).input_failures (D.outside desk.new).input_failures }
+    ensures cause { HasCauseIn (result ≡ Err Ending.ReadFault) (D.outside desk.old).input_failures
+        (D.outside desk.new).input_failures }
 {
     match read_input(alloc, desk, InSlot::Image, name, MAX_REPORT_BYTES) {
         Ok(report) => Ok(report),
@@ -103,14 +114,18 @@ fn read_report<D: Desk>(
     requires fresh { (D.outside desk.old).image.stage ≡ Stage.Unasked }
     requires before_create { (D.outside desk.old).file.stage ≡ Stage.Unasked }
     requires accepted { (source : List ℕ) × HasFront source front.now.ir front.now.stencils }
-    ensures holds { IfOk result (λ claim. OfFile (D.outside desk.old) name.now (λ file. OfFront front.now (λ source. IsChecked source file claim))) }
-    ensures fault { IfErr result (λ e. OfFile (D.outside desk.old) name.now (λ file. OfFront front.now (λ source. IsReportEnding source file e))) }
+    ensures holds { IfOk result (λ claim. OfFile (D.outside desk.old) name.now
+        (λ file. OfFront front.now (λ source. IsChecked source file claim))) }
+    ensures fault { IfErr result (λ e. OfFile (D.outside desk.old) name.now
+        (λ file. OfFront front.now (λ source. IsReportEnding source file e))) }
     ensures stops { IfErr result Stops }
-    ensures left { IfErr result (λ e. OfFile (D.outside desk.old) name.now (λ file. LeavesImages e file (D.outside desk.new).image)) }
+    ensures left { IfErr result (λ e. OfFile (D.outside desk.old) name.now
+        (λ file. LeavesImages e file (D.outside desk.new).image)) }
     ensures no_text { IfErr result TellsNoText }
     ensures name { IsIfTold (D.outside desk.new).image.name (Some name.now) }
     ensures only { OpensOnly InSlot.Image (D.outside desk.old) (D.outside desk.new) }
-    ensures cause { HasCauseIn (result ≡ Err Ending.ReadFault) (D.outside desk.old).input_failures (D.outside desk.new).input_failures }
+    ensures cause { HasCauseIn (result ≡ Err Ending.ReadFault) (D.outside desk.old).input_failures
+        (D.outside desk.new).input_failures }
 {
     let report = match report_bytes(alloc, desk, name) {
         Ok(report) => report,
@@ -129,15 +144,22 @@ fn read_claim<D: Desk>(
     requires program { (D.outside desk.old).program.stage ≡ Stage.Unasked }
     requires image { (D.outside desk.old).image.stage ≡ Stage.Unasked }
     requires file { (D.outside desk.old).file.stage ≡ Stage.Unasked }
-    ensures order { OfFile (D.outside desk.old) program.now (λ source. AsksWhere (IsAccepted source) (D.outside desk.new)) }
-    ensures holds { IfOk result (λ claim. OfFiles (D.outside desk.old) program.now report.now (λ source bytes. IsChecked source bytes claim)) }
-    ensures fault { IfErr result (λ e. OfFiles (D.outside desk.old) program.now report.now (λ source bytes. IsCheckAnswer source bytes e)) }
+    ensures order { OfFile (D.outside desk.old) program.now
+        (λ source. AsksWhere (IsAccepted source) (D.outside desk.new)) }
+    ensures holds { IfOk result (λ claim. OfFiles (D.outside desk.old) program.now report.now
+        (λ source bytes. IsChecked source bytes claim)) }
+    ensures fault { IfErr result (λ e. OfFiles (D.outside desk.old) program.now report.now
+        (λ source bytes. IsCheckAnswer source bytes e)) }
     ensures stops { IfErr result Stops }
-    ensures left { IfErr result (λ e. LeavesInputs e program.now report.now (D.outside desk.old) (D.outside desk.new)) }
-    ensures program_name { (D.outside desk.new).program.stage ≢ Stage.Unasked → IsIfTold (D.outside desk.new).program.name (Some program.now) }
-    ensures image_name { (D.outside desk.new).image.stage ≢ Stage.Unasked → IsIfTold (D.outside desk.new).image.name (Some report.now) }
+    ensures left { IfErr result (λ e. LeavesInputs e program.now report.now (D.outside desk.old)
+        (D.outside desk.new)) }
+    ensures program_name { (D.outside desk.new).program.stage ≢ Stage.Unasked
+        → IsIfTold (D.outside desk.new).program.name (Some program.now) }
+    ensures image_name { (D.outside desk.new).image.stage ≢ Stage.Unasked
+        → IsIfTold (D.outside desk.new).image.name (Some report.now) }
     ensures only { ReadsInputs (D.outside desk.old) (D.outside desk.new) }
-    ensures cause { HasCauseIn (result ≡ Err Ending.ReadFault) (D.outside desk.old).input_failures (D.outside desk.new).input_failures }
+    ensures cause { HasCauseIn (result ≡ Err Ending.ReadFault) (D.outside desk.old).input_failures
+        (D.outside desk.new).input_failures }
 {
     let front = match read_front(alloc, desk, program) {
         Ok(front) => front,

@@ -47,15 +47,21 @@ pub fn read_compiled<D: Desk>(
     requires before_create { (D.outside desk.old).file.stage ≡ Stage.Unasked }
     requires age { options.age ≤ MAX_AGE }
     requires block { IfSome options.block (λ n. 2 ≤ n) }
-    ensures compiled { IfOk result (λ c. OfFile (D.outside desk.old) name.now (λ source. IsCompiledFrom source options.age options.enable options.block c)) }
-    ensures some { IfOk result (λ c. (source : List ℕ) × IsCompiledFrom source options.age options.enable options.block c) }
-    ensures good { OnOk result (OfFile (D.outside desk.old) name.now (λ source. CanBeCompiled source options.age)) }
-    ensures fault { IfErr result (λ e. OfFile (D.outside desk.old) name.now (λ source. IsSourceEnding (IsFaultAt source options.age) e)) }
+    ensures compiled { IfOk result (λ c. OfFile (D.outside desk.old) name.now
+        (λ source. IsCompiledFrom source options.age options.enable options.block c)) }
+    ensures some { IfOk result (λ c. (source : List ℕ)
+        × IsCompiledFrom source options.age options.enable options.block c) }
+    ensures good { OnOk result (OfFile (D.outside desk.old) name.now
+        (λ source. CanBeCompiled source options.age)) }
+    ensures fault { IfErr result (λ e. OfFile (D.outside desk.old) name.now
+        (λ source. IsSourceEnding (IsFaultAt source options.age) e)) }
     ensures stops { IfErr result Stops }
-    ensures left { IfErr result (λ e. OfFile (D.outside desk.old) name.now (λ source. LeavesText e source (D.outside desk.new).program)) }
+    ensures left { IfErr result (λ e. OfFile (D.outside desk.old) name.now
+        (λ source. LeavesText e source (D.outside desk.new).program)) }
     ensures name { IsIfTold (D.outside desk.new).program.name (Some name.now) }
     ensures only { OpensOnly InSlot.Program (D.outside desk.old) (D.outside desk.new) }
-    ensures cause { HasCauseIn (result ≡ Err Ending.ReadFault) (D.outside desk.old).input_failures (D.outside desk.new).input_failures }
+    ensures cause { HasCauseIn (result ≡ Err Ending.ReadFault) (D.outside desk.old).input_failures
+        (D.outside desk.new).input_failures }
 {
     let text = match read_text(alloc, desk, name) {
         Ok(text) => text,
@@ -75,14 +81,19 @@ fn verilog_of<D: Desk>(
     requires before_create { (D.outside desk.old).file.stage ≡ Stage.Unasked }
     requires age { options.age ≤ MAX_AGE }
     requires block { IfSome options.block (λ n. 2 ≤ n) }
-    ensures text { IfOk result (λ text. OfFile (D.outside desk.old) name.now (λ source. IsCompiledText source options.age options.enable options.block text.items)) }
-    ensures good { OnOk result (OfFile (D.outside desk.old) name.now (λ source. CanBeCompiled source options.age)) }
-    ensures fault { IfErr result (λ e. OfFile (D.outside desk.old) name.now (λ source. IsSourceEnding (IsFaultAt source options.age) e)) }
+    ensures text { IfOk result (λ text. OfFile (D.outside desk.old) name.now
+        (λ source. IsCompiledText source options.age options.enable options.block text.items)) }
+    ensures good { OnOk result (OfFile (D.outside desk.old) name.now
+        (λ source. CanBeCompiled source options.age)) }
+    ensures fault { IfErr result (λ e. OfFile (D.outside desk.old) name.now
+        (λ source. IsSourceEnding (IsFaultAt source options.age) e)) }
     ensures stops { IfErr result Stops }
-    ensures left { IfErr result (λ e. OfFile (D.outside desk.old) name.now (λ source. LeavesText e source (D.outside desk.new).program)) }
+    ensures left { IfErr result (λ e. OfFile (D.outside desk.old) name.now
+        (λ source. LeavesText e source (D.outside desk.new).program)) }
     ensures name { IsIfTold (D.outside desk.new).program.name (Some name.now) }
     ensures only { OpensOnly InSlot.Program (D.outside desk.old) (D.outside desk.new) }
-    ensures cause { HasCauseIn (result ≡ Err Ending.ReadFault) (D.outside desk.old).input_failures (D.outside desk.new).input_failures }
+    ensures cause { HasCauseIn (result ≡ Err Ending.ReadFault) (D.outside desk.old).input_failures
+        (D.outside desk.new).input_failures }
 {
     match read_compiled(alloc, desk, name, options) {
         Ok(compiled) => Ok(compiled.text),

@@ -33,12 +33,7 @@ pub(super) enum Judged {
 }
 
 // A fault with its explanation.
-fn refused(
-    alloc: Global,
-    name: &str,
-    text: &[u8],
-    fault: SourceFault,
-) -> Result<Judged, Ending>
+fn refused(alloc: Global, name: &str, text: &[u8], fault: SourceFault) -> Result<Judged, Ending>
     ensures refused { IfOk result (IsRefusedFor name.now text.now fault) }
     ensures memory { IfErr result (λ e. e ≡ Ending.Memory) }
 {
@@ -66,12 +61,15 @@ fn judged(alloc: Global, name: &str, text: &[u8]) -> Result<Judged, Ending>
 fn read_judged<D: Desk>(alloc: Global, desk: &mut D, name: &str) -> Result<Judged, Ending>
     requires fresh { (D.outside desk.old).program.stage ≡ Stage.Unasked }
     requires before_create { (D.outside desk.old).file.stage ≡ Stage.Unasked }
-    ensures judged { IfOk result (λ j. OfFile (D.outside desk.old) name.now (λ source. IsJudgedAs name.now source j)) }
-    ensures left { IfOk result (λ j. OfFile (D.outside desk.old) name.now (λ source. LeavesJudged j source (D.outside desk.new).program)) }
+    ensures judged { IfOk result (λ j. OfFile (D.outside desk.old) name.now
+        (λ source. IsJudgedAs name.now source j)) }
+    ensures left { IfOk result (λ j. OfFile (D.outside desk.old) name.now
+        (λ source. LeavesJudged j source (D.outside desk.new).program)) }
     ensures failed { IfErr result (λ e. (e ≡ Ending.ReadFault) ⊎ (e ≡ Ending.Memory)) }
     ensures name { IsIfTold (D.outside desk.new).program.name (Some name.now) }
     ensures only { OpensOnly InSlot.Program (D.outside desk.old) (D.outside desk.new) }
-    ensures cause { HasCauseIn (result ≡ Err Ending.ReadFault) (D.outside desk.old).input_failures (D.outside desk.new).input_failures }
+    ensures cause { HasCauseIn (result ≡ Err Ending.ReadFault) (D.outside desk.old).input_failures
+        (D.outside desk.new).input_failures }
 {
     match read_input(alloc, desk, InSlot::Program, name, MAX_SOURCE_BYTES) {
         Ok(text) => judged(alloc, name, &text),

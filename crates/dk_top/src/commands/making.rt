@@ -95,9 +95,11 @@ fn line_of(alloc: Global, n: u32, compiled: &Compiled, file: &[u8]) -> Result<Ve
 
 // The line of a number, whose program was clocked on its image.
 fn made_line<D: Desk>(alloc: Global, desk: &mut D, n: u32) -> Result<Vec<u8>, Ending>
-    ensures only { D.outside desk.new ≡ record (D.outside desk.old) { notes = (D.outside desk.new).notes } }
+    ensures only { D.outside desk.new ≡ record
+        (D.outside desk.old) { notes = (D.outside desk.new).notes } }
     ensures line { IfOk result (λ line. IsMadeLine n line.items) }
-    ensures notes { OnOk result (NotesMade n (D.outside desk.old).notes (D.outside desk.new).notes) }
+    ensures notes { OnOk result (NotesMade n (D.outside desk.old).notes
+        (D.outside desk.new).notes) }
     ensures good { OnOk result (CanBeCompiled (program_of n) 0) }
     ensures fault { IfErr result (IsSourceEnding (IsFaultAt (program_of n) 0)) }
     ensures stops { IfErr result Stops }

@@ -53,14 +53,19 @@ fn read_plan<D: Desk>(alloc: Global, desk: &mut D, name: &str, age: u8) -> Resul
     requires fresh { (D.outside desk.old).program.stage ≡ Stage.Unasked }
     requires before_create { (D.outside desk.old).file.stage ≡ Stage.Unasked }
     requires age { age ≤ MAX_AGE }
-    ensures plan { IfOk result (λ report. OfFile (D.outside desk.old) name.now (λ source. IsPlanOf source age report.items)) }
-    ensures good { OnOk result (OfFile (D.outside desk.old) name.now (λ source. CanBeCompiled source age)) }
-    ensures fault { IfErr result (λ e. OfFile (D.outside desk.old) name.now (λ source. IsSourceEnding (IsFaultAt source age) e)) }
+    ensures plan { IfOk result (λ report. OfFile (D.outside desk.old) name.now
+        (λ source. IsPlanOf source age report.items)) }
+    ensures good { OnOk result (OfFile (D.outside desk.old) name.now
+        (λ source. CanBeCompiled source age)) }
+    ensures fault { IfErr result (λ e. OfFile (D.outside desk.old) name.now
+        (λ source. IsSourceEnding (IsFaultAt source age) e)) }
     ensures stops { IfErr result Stops }
-    ensures left { IfErr result (λ e. OfFile (D.outside desk.old) name.now (λ source. LeavesText e source (D.outside desk.new).program)) }
+    ensures left { IfErr result (λ e. OfFile (D.outside desk.old) name.now
+        (λ source. LeavesText e source (D.outside desk.new).program)) }
     ensures name { IsIfTold (D.outside desk.new).program.name (Some name.now) }
     ensures only { OpensOnly InSlot.Program (D.outside desk.old) (D.outside desk.new) }
-    ensures cause { HasCauseIn (result ≡ Err Ending.ReadFault) (D.outside desk.old).input_failures (D.outside desk.new).input_failures }
+    ensures cause { HasCauseIn (result ≡ Err Ending.ReadFault) (D.outside desk.old).input_failures
+        (D.outside desk.new).input_failures }
 {
     let text = match read_text(alloc, desk, name) {
         Ok(text) => text,

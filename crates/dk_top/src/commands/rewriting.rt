@@ -47,15 +47,21 @@ fn read_rewritten<D: Desk>(
     requires ranges { IsRewriting how }
     requires fresh { (D.outside desk.old).program.stage ≡ Stage.Unasked }
     requires before_create { (D.outside desk.old).file.stage ≡ Stage.Unasked }
-    ensures is { IfOk result (λ r. OfFile (D.outside desk.old) name.now (λ source. IsRewriteOf how source r.text.items)) }
-    ensures lines { IfOk result (λ r. OfFile (D.outside desk.old) name.now (λ source. AreRewriteLines how source r.text.items r.lines.items)) }
-    ensures good { OnOk result (OfFile (D.outside desk.old) name.now (λ source. CanBeRewritten how source)) }
-    ensures fault { IfErr result (λ e. OfFile (D.outside desk.old) name.now (λ source. IsRewriteEnding how source e)) }
+    ensures is { IfOk result (λ r. OfFile (D.outside desk.old) name.now
+        (λ source. IsRewriteOf how source r.text.items)) }
+    ensures lines { IfOk result (λ r. OfFile (D.outside desk.old) name.now
+        (λ source. AreRewriteLines how source r.text.items r.lines.items)) }
+    ensures good { OnOk result (OfFile (D.outside desk.old) name.now
+        (λ source. CanBeRewritten how source)) }
+    ensures fault { IfErr result (λ e. OfFile (D.outside desk.old) name.now
+        (λ source. IsRewriteEnding how source e)) }
     ensures stops { IfErr result Stops }
-    ensures left { IfErr result (λ e. OfFile (D.outside desk.old) name.now (λ source. LeavesText e source (D.outside desk.new).program)) }
+    ensures left { IfErr result (λ e. OfFile (D.outside desk.old) name.now
+        (λ source. LeavesText e source (D.outside desk.new).program)) }
     ensures name { IsIfTold (D.outside desk.new).program.name (Some name.now) }
     ensures only { OpensOnly InSlot.Program (D.outside desk.old) (D.outside desk.new) }
-    ensures cause { HasCauseIn (result ≡ Err Ending.ReadFault) (D.outside desk.old).input_failures (D.outside desk.new).input_failures }
+    ensures cause { HasCauseIn (result ≡ Err Ending.ReadFault) (D.outside desk.old).input_failures
+        (D.outside desk.new).input_failures }
 {
     let text = match read_text(alloc, desk, name) {
         Ok(text) => text,
@@ -67,18 +73,22 @@ fn read_rewritten<D: Desk>(
 // Writes a text to File, and then lines to Report.
 fn write_both<D: Desk>(desk: &mut D, name: &str, text: &[u8], line: &[u8]) -> Result<(), Failed>
     requires { (D.outside desk.old).file.stage ≡ Stage.Unasked }
-    ensures whole { OnOk result (IfSome (D.outside desk.new).file.bytes (λ written. written ≡ text.now)) }
+    ensures whole { OnOk result (IfSome (D.outside desk.new).file.bytes
+        (λ written. written ≡ text.now)) }
     ensures prefix { OnErr result ((D.outside desk.new).file.stage ≡ Stage.Open
         → IfSome (D.outside desk.new).file.bytes (λ written. IsPrefix written text.now)) }
-    ensures line { OnOk result (IsIfTold (D.outside desk.new).report (grown (D.outside desk.old).report line.now)) }
+    ensures line { OnOk result (IsIfTold (D.outside desk.new).report (grown
+        (D.outside desk.old).report line.now)) }
     ensures front { OnErr result (((D.outside desk.new).report ≡ (D.outside desk.old).report)
         ⊎ EndsInLine text.now line.now (D.outside desk.old) (D.outside desk.new)) }
     ensures opened { OnOk result ((D.outside desk.new).file.stage ≡ Stage.Open) }
     ensures name { IsIfTold (D.outside desk.new).file.name (Some name.now) }
     ensures files { OthersStay name.now (D.outside desk.old).files (D.outside desk.new).files }
-    ensures files_stay { (D.outside desk.new).file.stage ≢ Stage.Open → (D.outside desk.new).files ≡ (D.outside desk.old).files }
+    ensures files_stay { (D.outside desk.new).file.stage ≢ Stage.Open → (D.outside desk.new).files
+        ≡ (D.outside desk.old).files }
     ensures only { WritesBoth (D.outside desk.old) (D.outside desk.new) }
-    ensures cause { HasCauseIn (IsErr result) (D.outside desk.old).output_failures (D.outside desk.new).output_failures }
+    ensures cause { HasCauseIn (IsErr result) (D.outside desk.old).output_failures
+        (D.outside desk.new).output_failures }
 {
     write_file(desk, name, text)?;
     write_report(desk, line)

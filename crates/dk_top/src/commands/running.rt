@@ -70,14 +70,18 @@ pub fn clocked<D: Desk>(
     module: &Module,
     rounds: &[Round],
 ) -> Result<Vec<u8>, OutOfMemory>
-    requires compiled { (source : List ℕ) × (age : ℕ) × IsCompiledFrom source age false None compiled.now }
+    requires compiled { (source : List ℕ) × (age : ℕ)
+        × IsCompiledFrom source age false None compiled.now }
     requires again { «module».now ≡ compiled.now.«module» }
     requires read { AreRead compiled.now.ir rounds.now }
-    ensures only { D.outside desk.new ≡ record (D.outside desk.old) { notes = (D.outside desk.new).notes } }
+    ensures only { D.outside desk.new ≡ record
+        (D.outside desk.old) { notes = (D.outside desk.new).notes } }
     ensures output { IfOk result (λ output. OfRun compiled.now rounds.now
-        (λ source file age. OfPair (run_terms age) source file (λ p rounds. output.items ≡ output_file p rounds))) }
+        (λ source file age. OfPair (run_terms age) source file
+        (λ p rounds. output.items ≡ output_file p rounds))) }
     ensures notes { OnOk result (OfRun compiled.now rounds.now (λ source file age. OfPair (run_terms age) source file
-        (λ p rounds. NotesRun source age p rounds (D.outside desk.old).notes (D.outside desk.new).notes))) }
+        (λ p rounds. NotesRun source age p rounds (D.outside desk.old).notes
+        (D.outside desk.new).notes))) }
 {
     one_source_law();
     drive_shows_law();
@@ -109,15 +113,20 @@ fn read_machine<D: Desk>(
     requires fresh { (D.outside desk.old).program.stage ≡ Stage.Unasked }
     requires before_create { (D.outside desk.old).file.stage ≡ Stage.Unasked }
     requires age { age ≤ MAX_AGE }
-    ensures compiled { IfOk result (λ m. OfFile (D.outside desk.old) program.now (λ source. IsCompiledFrom source age false None m.compiled)) }
-    ensures some { IfOk result (λ m. (source : List ℕ) × IsCompiledFrom source age false None m.compiled) }
+    ensures compiled { IfOk result (λ m. OfFile (D.outside desk.old) program.now
+        (λ source. IsCompiledFrom source age false None m.compiled)) }
+    ensures some { IfOk result (λ m. (source : List ℕ)
+        × IsCompiledFrom source age false None m.compiled) }
     ensures again { IfOk result (λ m. m.«module» ≡ m.compiled.«module») }
-    ensures fault { IfErr result (λ e. OfFile (D.outside desk.old) program.now (λ source. IsSourceEnding (IsFaultAt source age) e)) }
+    ensures fault { IfErr result (λ e. OfFile (D.outside desk.old) program.now
+        (λ source. IsSourceEnding (IsFaultAt source age) e)) }
     ensures stops { IfErr result Stops }
-    ensures left { IfErr result (λ e. OfFile (D.outside desk.old) program.now (λ source. LeavesText e source (D.outside desk.new).program)) }
+    ensures left { IfErr result (λ e. OfFile (D.outside desk.old) program.now
+        (λ source. LeavesText e source (D.outside desk.new).program)) }
     ensures name { IsIfTold (D.outside desk.new).program.name (Some program.now) }
     ensures only { OpensOnly InSlot.Program (D.outside desk.old) (D.outside desk.new) }
-    ensures cause { HasCauseIn (result ≡ Err Ending.ReadFault) (D.outside desk.old).input_failures (D.outside desk.new).input_failures }
+    ensures cause { HasCauseIn (result ≡ Err Ending.ReadFault) (D.outside desk.old).input_failures
+        (D.outside desk.new).input_failures }
 {
     let options = Options {
         enable: false,
@@ -142,14 +151,18 @@ fn ran<D: Desk>(
     module: &Module,
     image: &str,
 ) -> Result<Vec<u8>, Ending>
-    requires compiled { (source : List ℕ) × (age : ℕ) × IsCompiledFrom source age false None compiled.now }
+    requires compiled { (source : List ℕ) × (age : ℕ)
+        × IsCompiledFrom source age false None compiled.now }
     requires again { «module».now ≡ compiled.now.«module» }
     requires image { (D.outside desk.old).image.stage ≡ Stage.Unasked }
     requires file { (D.outside desk.old).file.stage ≡ Stage.Unasked }
     ensures output { IfOk result (λ output. OfCompiled compiled.now (λ source age. OfFile (D.outside desk.old) image.now
-        (λ file. OfPair (run_terms age) source file (λ p rounds. output.items ≡ output_file p rounds)))) }
+        (λ file. OfPair (run_terms age) source file
+        (λ p rounds. output.items ≡ output_file p rounds)))) }
     ensures notes { OnOk result (OfCompiled compiled.now (λ source age. OfFile (D.outside desk.old) image.now
-        (λ file. OfPair (run_terms age) source file (λ p rounds. NotesRun source age p rounds (D.outside desk.old).notes (D.outside desk.new).notes)))) }
+        (λ file. OfPair (run_terms age) source file
+        (λ p rounds. NotesRun source age p rounds (D.outside desk.old).notes
+        (D.outside desk.new).notes)))) }
     ensures fault { IfErr result (λ e. OfCompiled compiled.now (λ source age. OfFile (D.outside desk.old) image.now
         (λ file. IsAnswer (run_terms age) source file e))) }
     ensures good { OnOk result (OfCompiled compiled.now (λ source age.
@@ -157,7 +170,8 @@ fn ran<D: Desk>(
     ensures stops { IfErr result Stops }
     ensures name { IsIfTold (D.outside desk.new).image.name (Some image.now) }
     ensures only { ReadsAndNotes (D.outside desk.old) (D.outside desk.new) }
-    ensures cause { HasCauseIn (result ≡ Err Ending.ReadFault) (D.outside desk.old).input_failures (D.outside desk.new).input_failures }
+    ensures cause { HasCauseIn (result ≡ Err Ending.ReadFault) (D.outside desk.old).input_failures
+        (D.outside desk.new).input_failures }
 {
     one_at_age_law();
     let rounds = match read_images(alloc, desk, &compiled.ir, image, None) {
@@ -179,12 +193,15 @@ fn run_rounds<D: Desk>(
     image: &str,
     out: &str,
 ) -> Ending
-    requires compiled { (source : List ℕ) × (age : ℕ) × IsCompiledFrom source age false None compiled.now }
+    requires compiled { (source : List ℕ) × (age : ℕ)
+        × IsCompiledFrom source age false None compiled.now }
     requires again { «module».now ≡ compiled.now.«module» }
     requires several { (p : Typing) → IsForm p compiled.now.ir → IsOnePort p → ⊥ }
     requires image { (D.outside desk.old).image.stage ≡ Stage.Unasked }
     requires file { (D.outside desk.old).file.stage ≡ Stage.Unasked }
-    ensures runs { OfCompiled compiled.now (λ source age. RunsOn source age image.now out.now result (D.outside desk.old) (D.outside desk.new)) }
+    ensures runs { OfCompiled compiled.now
+        (λ source age. RunsOn source age image.now out.now result (D.outside desk.old)
+        (D.outside desk.new)) }
 {
     one_source_law();
     one_at_age_law();
@@ -209,8 +226,10 @@ fn run_program<D: Desk>(
 ) -> Ending
     requires fresh { IsFresh (D.outside desk.old) }
     requires age { age ≤ MAX_AGE }
-    ensures performs { PerformsRun program.now image.now out.now age result (D.outside desk.old) (D.outside desk.new) }
-    ensures left { OfFile (D.outside desk.old) program.now (λ source. LeavesText result source (D.outside desk.new).program) }
+    ensures performs { PerformsRun program.now image.now out.now age result (D.outside desk.old)
+        (D.outside desk.new) }
+    ensures left { OfFile (D.outside desk.old) program.now
+        (λ source. LeavesText result source (D.outside desk.new).program) }
 {
     one_source_law();
     one_at_age_law();

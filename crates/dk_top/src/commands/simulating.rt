@@ -34,7 +34,8 @@ use verilog_text::TextError;
 // How a call ends whose text denotes no module.
 fn ending_of(error: TextError) -> Ending
     ensures fault { (hold : Option ℕ) (text : List ℕ)
-        → length text ≤ MAX_VERILOG_BYTES → IsErrorBy (IsFault text) error → IsModuleEnding hold text result }
+        → length text ≤ MAX_VERILOG_BYTES → IsErrorBy (IsFault text) error
+        → IsModuleEnding hold text result }
     ensures stops { Stops result }
     ensures judged { result ≢ Ending.ReadFault }
 {
@@ -87,15 +88,19 @@ fn module_of(alloc: Global, text: &[u8], hold: Option<u32>) -> Result<Module, En
 fn read_text<D: Desk>(alloc: Global, desk: &mut D, name: &str) -> Result<Vec<u8>, Ending>
     requires fresh { (D.outside desk.old).program.stage ≡ Stage.Unasked }
     requires before_create { (D.outside desk.old).file.stage ≡ Stage.Unasked }
-    ensures whole { IfOk result (λ bytes. OfFile (D.outside desk.old) name.now (λ text. bytes.items ≡ text)) }
+    ensures whole { IfOk result (λ bytes. OfFile (D.outside desk.old) name.now
+        (λ text. bytes.items ≡ text)) }
     ensures within { IfOk result (λ bytes. vec_len bytes ≤ MAX_VERILOG_BYTES) }
-    ensures fault { IfErr result (λ e. OfFile (D.outside desk.old) name.now (λ text. (hold : Option ℕ) → IsModuleEnding hold text e)) }
+    ensures fault { IfErr result (λ e. OfFile (D.outside desk.old) name.now
+        (λ text. (hold : Option ℕ) → IsModuleEnding hold text e)) }
     ensures stops { IfErr result Stops }
-    ensures left { IfErr result (λ e. OfFile (D.outside desk.old) name.now (λ text. LeavesText e text (D.outside desk.new).program)) }
+    ensures left { IfErr result (λ e. OfFile (D.outside desk.old) name.now
+        (λ text. LeavesText e text (D.outside desk.new).program)) }
     ensures no_images { IfErr result TellsNoImages }
     ensures name { IsIfTold (D.outside desk.new).program.name (Some name.now) }
     ensures only { OpensOnly InSlot.Program (D.outside desk.old) (D.outside desk.new) }
-    ensures cause { HasCauseIn (result ≡ Err Ending.ReadFault) (D.outside desk.old).input_failures (D.outside desk.new).input_failures }
+    ensures cause { HasCauseIn (result ≡ Err Ending.ReadFault) (D.outside desk.old).input_failures
+        (D.outside desk.new).input_failures }
 {
     match read_input(alloc, desk, InSlot::Program, name, MAX_VERILOG_BYTES) {
         Ok(text) => Ok(text),
@@ -112,14 +117,18 @@ fn read_module<D: Desk>(
 ) -> Result<Module, Ending>
     requires fresh { (D.outside desk.old).program.stage ≡ Stage.Unasked }
     requires before_create { (D.outside desk.old).file.stage ≡ Stage.Unasked }
-    ensures made { IfOk result (λ m. OfFile (D.outside desk.old) name.now (λ text. IsModuleOf hold text m)) }
-    ensures fault { IfErr result (λ e. OfFile (D.outside desk.old) name.now (λ text. IsModuleEnding hold text e)) }
+    ensures made { IfOk result (λ m. OfFile (D.outside desk.old) name.now
+        (λ text. IsModuleOf hold text m)) }
+    ensures fault { IfErr result (λ e. OfFile (D.outside desk.old) name.now
+        (λ text. IsModuleEnding hold text e)) }
     ensures stops { IfErr result Stops }
-    ensures left { IfErr result (λ e. OfFile (D.outside desk.old) name.now (λ text. LeavesText e text (D.outside desk.new).program)) }
+    ensures left { IfErr result (λ e. OfFile (D.outside desk.old) name.now
+        (λ text. LeavesText e text (D.outside desk.new).program)) }
     ensures no_images { IfErr result TellsNoImages }
     ensures name { IsIfTold (D.outside desk.new).program.name (Some name.now) }
     ensures only { OpensOnly InSlot.Program (D.outside desk.old) (D.outside desk.new) }
-    ensures cause { HasCauseIn (result ≡ Err Ending.ReadFault) (D.outside desk.old).input_failures (D.outside desk.new).input_failures }
+    ensures cause { HasCauseIn (result ≡ Err Ending.ReadFault) (D.outside desk.old).input_failures
+        (D.outside desk.new).input_failures }
 {
     let text = match read_text(alloc, desk, name) {
         Ok(text) => text,
@@ -131,9 +140,11 @@ fn read_module<D: Desk>(
 // The rounds of a file within its limit, for a module.
 fn rounds_for(alloc: Global, module: &Module, file: &[u8]) -> Result<BenchInput, Ending>
     requires { length file.now ≤ MAX_PGM_BYTES }
-    ensures input { IfOk result (λ input. IsInput «module».now file.now (size_of input.size) input.rounds.items) }
+    ensures input { IfOk result
+        (λ input. IsInput «module».now file.now (size_of input.size) input.rounds.items) }
     ensures frame { IfOk result (λ input. IsFrame input.size.width input.size.height) }
-    ensures frames { IfOk result (λ input. AreBenchFrames (din_widths «module».now.netlist) (size_of input.size) input.rounds.items) }
+    ensures frames { IfOk result
+        (λ input. AreBenchFrames (din_widths «module».now.netlist) (size_of input.size) input.rounds.items) }
     ensures fault { IfErr result (IsFileEnding «module».now file.now) }
     ensures stops { IfErr result Stops }
     ensures no_text { IfErr result TellsNoText }
@@ -159,14 +170,18 @@ fn read_images<D: Desk>(
     ensures input { IfOk result (λ input. OfFile (D.outside desk.old) name.now
         (λ file. IsInput «module».now file (size_of input.size) input.rounds.items)) }
     ensures frame { IfOk result (λ input. IsFrame input.size.width input.size.height) }
-    ensures frames { IfOk result (λ input. AreBenchFrames (din_widths «module».now.netlist) (size_of input.size) input.rounds.items) }
-    ensures fault { IfErr result (λ e. OfFile (D.outside desk.old) name.now (λ file. IsFileEnding «module».now file e)) }
+    ensures frames { IfOk result
+        (λ input. AreBenchFrames (din_widths «module».now.netlist) (size_of input.size) input.rounds.items) }
+    ensures fault { IfErr result (λ e. OfFile (D.outside desk.old) name.now
+        (λ file. IsFileEnding «module».now file e)) }
     ensures stops { IfErr result Stops }
-    ensures left { IfErr result (λ e. OfFile (D.outside desk.old) name.now (λ file. LeavesImages e file (D.outside desk.new).image)) }
+    ensures left { IfErr result (λ e. OfFile (D.outside desk.old) name.now
+        (λ file. LeavesImages e file (D.outside desk.new).image)) }
     ensures no_text { IfErr result TellsNoText }
     ensures name { IsIfTold (D.outside desk.new).image.name (Some name.now) }
     ensures only { OpensOnly InSlot.Image (D.outside desk.old) (D.outside desk.new) }
-    ensures cause { HasCauseIn (result ≡ Err Ending.ReadFault) (D.outside desk.old).input_failures (D.outside desk.new).input_failures }
+    ensures cause { HasCauseIn (result ≡ Err Ending.ReadFault) (D.outside desk.old).input_failures
+        (D.outside desk.new).input_failures }
 {
     let file = match read_file(alloc, desk, name, Some(MAX_PGM_BYTES as usize)) {
         Ok(file) => file,
@@ -193,19 +208,26 @@ pub fn read_all<D: Desk>(
     requires program { (D.outside desk.old).program.stage ≡ Stage.Unasked }
     requires image { (D.outside desk.old).image.stage ≡ Stage.Unasked }
     requires file { (D.outside desk.old).file.stage ≡ Stage.Unasked }
-    ensures order { OfFile (D.outside desk.old) verilog.now (λ text. AsksWhereModule hold text (D.outside desk.new)) }
+    ensures order { OfFile (D.outside desk.old) verilog.now
+        (λ text. AsksWhereModule hold text (D.outside desk.new)) }
     ensures input { IfOk result (λ given. OfFiles (D.outside desk.old) verilog.now image.now
         (λ text file. IsSimInput hold text file given.«module» (size_of given.input.size) given.input.rounds.items)) }
     ensures frame { IfOk result (λ given. IsFrame given.input.size.width given.input.size.height) }
-    ensures frames { IfOk result (λ given. AreBenchFrames (din_widths given.«module».netlist) (size_of given.input.size) given.input.rounds.items) }
+    ensures frames { IfOk result
+        (λ given. AreBenchFrames (din_widths given.«module».netlist) (size_of given.input.size) given.input.rounds.items) }
     ensures fault { IfErr result (λ e. OfFiles (D.outside desk.old) verilog.now image.now
-        (λ text file. (clocks : ℕ) (power : OnePower) → IsInputEnding (drive_of clocks power hold) text file e)) }
+        (λ text file. (clocks : ℕ) (power : OnePower)
+        → IsInputEnding (drive_of clocks power hold) text file e)) }
     ensures stops { IfErr result Stops }
-    ensures left { IfErr result (λ e. LeavesInputs e verilog.now image.now (D.outside desk.old) (D.outside desk.new)) }
-    ensures program_name { (D.outside desk.new).program.stage ≢ Stage.Unasked → IsIfTold (D.outside desk.new).program.name (Some verilog.now) }
-    ensures image_name { (D.outside desk.new).image.stage ≢ Stage.Unasked → IsIfTold (D.outside desk.new).image.name (Some image.now) }
+    ensures left { IfErr result (λ e. LeavesInputs e verilog.now image.now (D.outside desk.old)
+        (D.outside desk.new)) }
+    ensures program_name { (D.outside desk.new).program.stage ≢ Stage.Unasked
+        → IsIfTold (D.outside desk.new).program.name (Some verilog.now) }
+    ensures image_name { (D.outside desk.new).image.stage ≢ Stage.Unasked
+        → IsIfTold (D.outside desk.new).image.name (Some image.now) }
     ensures only { ReadsInputs (D.outside desk.old) (D.outside desk.new) }
-    ensures cause { HasCauseIn (result ≡ Err Ending.ReadFault) (D.outside desk.old).input_failures (D.outside desk.new).input_failures }
+    ensures cause { HasCauseIn (result ≡ Err Ending.ReadFault) (D.outside desk.old).input_failures
+        (D.outside desk.new).input_failures }
 {
     let module = match read_module(alloc, desk, verilog, hold) {
         Ok(module) => module,
@@ -250,13 +272,18 @@ fn pictures<D: Desk>(
     requires clocks { drive.clocks < 2 ^ 60 }
     requires frame { IsFrame given.now.input.size.width given.now.input.size.height }
     requires frames { AreBenchFrames (din_widths given.now.«module».netlist) (size_of given.now.input.size) given.now.input.rounds.items }
-    ensures only { D.outside desk.new ≡ record (D.outside desk.old) { notes = (D.outside desk.new).notes } }
-    ensures file { IfOk result (λ file. OfInput drive.hold given.now (λ text images. IsSimulated drive text images file.items)) }
+    ensures only { D.outside desk.new ≡ record
+        (D.outside desk.old) { notes = (D.outside desk.new).notes } }
+    ensures file { IfOk result (λ file. OfInput drive.hold given.now
+        (λ text images. IsSimulated drive text images file.items)) }
     ensures only_file { IfOk result (λ file. OfInput drive.hold given.now
-        (λ text images. (pictures : List ℕ) → IsSimulated drive text images pictures → pictures ≡ file.items)) }
+        (λ text images. (pictures : List ℕ) → IsSimulated drive text images pictures → pictures
+        ≡ file.items)) }
     ensures notes { OnOk result (OfInput drive.hold given.now
-        (λ text images. NotesSim drive text images (D.outside desk.old).notes (D.outside desk.new).notes)) }
-    ensures fault { IfErr result (λ e. OfInput drive.hold given.now (λ text images. IsSimAnswer drive text images e)) }
+        (λ text images. NotesSim drive text images (D.outside desk.old).notes
+        (D.outside desk.new).notes)) }
+    ensures fault { IfErr result (λ e. OfInput drive.hold given.now
+        (λ text images. IsSimAnswer drive text images e)) }
     ensures stops { IfErr result Stops }
     ensures no_text { IfErr result TellsNoText }
     ensures no_images { IfErr result TellsNoImages }

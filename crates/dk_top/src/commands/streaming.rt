@@ -71,8 +71,10 @@ fn stream_file<D: Desk>(
     requires start { IsStart stream.old }
     ensures runs { RunsStream (kind_of stream.old.format) stream.old.sim.netlist stream.old.bits latency image.now out.now
         stream.old.sim.contents (D.outside desk.old) (D.outside desk.new) result }
-    ensures read { HasCauseIn (result ≡ Ending.ReadFault) (D.outside desk.old).input_failures (D.outside desk.new).input_failures }
-    ensures write { HasCauseIn (result ≡ Ending.WriteFault) (D.outside desk.old).output_failures (D.outside desk.new).output_failures }
+    ensures read { HasCauseIn (result ≡ Ending.ReadFault) (D.outside desk.old).input_failures
+        (D.outside desk.new).input_failures }
+    ensures write { HasCauseIn (result ≡ Ending.WriteFault) (D.outside desk.old).output_failures
+        (D.outside desk.new).output_failures }
 {
     match desk.open_in(InSlot::Image, image) {
         Err(_) => return Ending::ReadFault,
@@ -96,16 +98,20 @@ fn run_lines<D: Desk>(
     image: &str,
     out: &str,
 ) -> Ending
-    requires compiled { (source : List ℕ) × (age : ℕ) × IsCompiledFrom source age false None compiled.now }
+    requires compiled { (source : List ℕ) × (age : ℕ)
+        × IsCompiledFrom source age false None compiled.now }
     requires again { «module».now ≡ compiled.now.«module» }
     requires one { (p : Typing) → IsForm p compiled.now.ir → IsOnePort p }
     requires image { (D.outside desk.old).image.stage ≡ Stage.Unasked }
     requires file { (D.outside desk.old).file.stage ≡ Stage.Unasked }
     ensures memory { result ≡ Ending.Memory → D.outside desk.new ≡ D.outside desk.old }
     ensures runs { result ≢ Ending.Memory → (source : List ℕ) (age : ℕ) → (from : IsCompiledFrom source age false None compiled.now)
-        → StreamsFrom from.program compiled.now.plan «module».now.netlist image.now out.now (D.outside desk.old) (D.outside desk.new) result }
-    ensures read { HasCauseIn (result ≡ Ending.ReadFault) (D.outside desk.old).input_failures (D.outside desk.new).input_failures }
-    ensures write { HasCauseIn (result ≡ Ending.WriteFault) (D.outside desk.old).output_failures (D.outside desk.new).output_failures }
+        → StreamsFrom from.program compiled.now.plan «module».now.netlist image.now out.now
+        (D.outside desk.old) (D.outside desk.new) result }
+    ensures read { HasCauseIn (result ≡ Ending.ReadFault) (D.outside desk.old).input_failures
+        (D.outside desk.new).input_failures }
+    ensures write { HasCauseIn (result ≡ Ending.WriteFault) (D.outside desk.old).output_failures
+        (D.outside desk.new).output_failures }
 {
     one_source_law();
     compiled.ir.law();
@@ -128,12 +134,15 @@ pub fn run_streamed<D: Desk>(
     image: &str,
     out: &str,
 ) -> Ending
-    requires compiled { (source : List ℕ) × (age : ℕ) × IsCompiledFrom source age false None compiled.now }
+    requires compiled { (source : List ℕ) × (age : ℕ)
+        × IsCompiledFrom source age false None compiled.now }
     requires again { «module».now ≡ compiled.now.«module» }
     requires one { (p : Typing) → IsForm p compiled.now.ir → IsOnePort p }
     requires image { (D.outside desk.old).image.stage ≡ Stage.Unasked }
     requires file { (D.outside desk.old).file.stage ≡ Stage.Unasked }
-    ensures runs { OfCompiled compiled.now (λ source age. RunsOn source age image.now out.now result (D.outside desk.old) (D.outside desk.new)) }
+    ensures runs { OfCompiled compiled.now
+        (λ source age. RunsOn source age image.now out.now result (D.outside desk.old)
+        (D.outside desk.new)) }
 {
     one_source_law();
     one_at_age_law();

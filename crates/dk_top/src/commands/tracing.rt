@@ -34,22 +34,27 @@ fn write_trace<D: Desk>(
     requires unheld { drive.hold ≡ None }
     requires clocks { drive.clocks < 2 ^ 60 }
     requires frames { AreBenchFrames (din_widths given.now.«module».netlist) (size_of given.now.input.size) given.now.input.rounds.items }
-    ensures verdict { OfInput drive.hold given.now (λ text images. IsTraceAnswer drive text images result) }
+    ensures verdict { OfInput drive.hold given.now
+        (λ text images. IsTraceAnswer drive text images result) }
     ensures output { (D.outside desk.new).file.stage ≡ Stage.Open → IfSome (D.outside desk.new).file.bytes
-        (λ bytes. OfInput drive.hold given.now (λ text images. IsStoredTrace result drive text images bytes)) }
+        (λ bytes. OfInput drive.hold given.now
+        (λ text images. IsStoredTrace result drive text images bytes)) }
     ensures taken { result ≢ Ending.Usage }
     ensures judged { result ≢ Ending.ReadFault }
     ensures no_text { TellsNoText result }
     ensures no_images { TellsNoImages result }
     ensures created { (verilog image vcd : List ℕ) (clocks : ℕ)
-        → CreatesNothing (Some (trace_command verilog clocks image vcd)) result → (D.outside desk.new).file.stage ≡ Stage.Unasked }
+        → CreatesNothing (Some (trace_command verilog clocks image vcd)) result
+        → (D.outside desk.new).file.stage ≡ Stage.Unasked }
     ensures begun { CreatesTrace result (D.outside desk.new).file.stage }
     ensures written { result ≡ Ending.Done → (D.outside desk.new).file.stage ≡ Stage.Open }
     ensures name { IsIfTold (D.outside desk.new).file.name (Some name.now) }
     ensures files { OthersStay name.now (D.outside desk.old).files (D.outside desk.new).files }
-    ensures files_stay { (D.outside desk.new).file.stage ≢ Stage.Open → (D.outside desk.new).files ≡ (D.outside desk.old).files }
+    ensures files_stay { (D.outside desk.new).file.stage ≢ Stage.Open → (D.outside desk.new).files
+        ≡ (D.outside desk.old).files }
     ensures only { CreatesOnly (D.outside desk.old) (D.outside desk.new) }
-    ensures cause { HasCauseIn (result ≡ Ending.WriteFault) (D.outside desk.old).output_failures (D.outside desk.new).output_failures }
+    ensures cause { HasCauseIn (result ≡ Ending.WriteFault) (D.outside desk.old).output_failures
+        (D.outside desk.new).output_failures }
 {
     given.module.law();
     match desk.create(name) {
@@ -83,22 +88,28 @@ fn traced<D: Desk>(
     requires unheld { drive.hold ≡ None }
     requires clocks { drive.clocks < 2 ^ 60 }
     requires frames { AreBenchFrames (din_widths given.now.«module».netlist) (size_of given.now.input.size) given.now.input.rounds.items }
-    ensures verdict { OfInput drive.hold given.now (λ text images. IsTraceAnswer drive text images result) }
+    ensures verdict { OfInput drive.hold given.now
+        (λ text images. IsTraceAnswer drive text images result) }
     ensures output { (D.outside desk.new).file.stage ≡ Stage.Open → IfSome (D.outside desk.new).file.bytes
-        (λ bytes. OfInput drive.hold given.now (λ text images. IsStoredTrace result drive text images bytes)) }
+        (λ bytes. OfInput drive.hold given.now
+        (λ text images. IsStoredTrace result drive text images bytes)) }
     ensures taken { result ≢ Ending.Usage }
     ensures judged { result ≢ Ending.ReadFault }
     ensures no_text { TellsNoText result }
     ensures no_images { TellsNoImages result }
     ensures created { (verilog image vcd : List ℕ) (clocks : ℕ)
-        → CreatesNothing (Some (trace_command verilog clocks image vcd)) result → (D.outside desk.new).file.stage ≡ Stage.Unasked }
+        → CreatesNothing (Some (trace_command verilog clocks image vcd)) result
+        → (D.outside desk.new).file.stage ≡ Stage.Unasked }
     ensures begun { CreatesTrace result (D.outside desk.new).file.stage }
     ensures written { result ≡ Ending.Done → (D.outside desk.new).file.stage ≡ Stage.Open }
-    ensures name { (D.outside desk.new).file.stage ≢ Stage.Unasked → IsIfTold (D.outside desk.new).file.name (Some name.now) }
+    ensures name { (D.outside desk.new).file.stage ≢ Stage.Unasked
+        → IsIfTold (D.outside desk.new).file.name (Some name.now) }
     ensures files { OthersStay name.now (D.outside desk.old).files (D.outside desk.new).files }
-    ensures files_stay { (D.outside desk.new).file.stage ≢ Stage.Open → (D.outside desk.new).files ≡ (D.outside desk.old).files }
+    ensures files_stay { (D.outside desk.new).file.stage ≢ Stage.Open → (D.outside desk.new).files
+        ≡ (D.outside desk.old).files }
     ensures only { CreatesOnly (D.outside desk.old) (D.outside desk.new) }
-    ensures cause { HasCauseIn (result ≡ Ending.WriteFault) (D.outside desk.old).output_failures (D.outside desk.new).output_failures }
+    ensures cause { HasCauseIn (result ≡ Ending.WriteFault) (D.outside desk.old).output_failures
+        (D.outside desk.new).output_failures }
 {
     match Tracer::new(alloc, &given.module, drive.fill) {
         Ok(mut tracer) => write_trace(desk, given, &mut tracer, drive, name),

@@ -32,7 +32,8 @@ fn line_of(alloc: Global, measures: &WideMeasures) -> Result<Vec<u8>, OutOfMemor
 
 // How a call ends whose program was not widened.
 fn ending_of_widen(error: WidenError) -> Ending
-    ensures fault { (source : _) (phases : _) → IsWidenErrorBy source phases error → IsRewriteEnding (Widen phases) source result }
+    ensures fault { (source : _) (phases : _) → IsWidenErrorBy source phases error
+        → IsRewriteEnding (Widen phases) source result }
     ensures stops { Stops result }
     ensures judged { result ≢ Ending.ReadFault }
 {
