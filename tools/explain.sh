@@ -2,7 +2,7 @@
 # It uses the shell and coreutils only, so that it works wherever the program does. No loop goes over the bytes of a file.
 #
 # explain STATUS LINE WORD..    writes what helps next, to standard error; LINE is the fault line, or empty where it is not known, and the
-#                               words are those of the call
+#                               words are those of the call; the variable `said` has what the program itself says of a program's fault
 # help_page                     writes the commands and options to standard output (tools/words.sh)
 
 . "${top:?}/tools/words.sh"
@@ -102,8 +102,14 @@ why_not_written() {
 
 # Faults of texts and images.
 
-# The line is `TEXT START-STOP: FAULT`, or `TEXT: FAULT` with numbers after the fault's name.
+# A fault of a program is explained by the program itself: `said` has what its `explain` prints, or is empty where it was not asked or accepts the
+# program, as with Bits and Latency at another age. The line of other faults is `TEXT START-STOP: FAULT`, or `TEXT: FAULT` with numbers after the
+# fault's name. The first line of what is shown is of the form that editors read: FILE:LINE:COLUMN: error: KIND: SENTENCE.
 explain_fault() {
+    [ -z "${said-}" ] || {
+        put "$said"
+        return
+    }
     [ -n "$line" ] || {
         put "$docs/COMMANDS.md (\"What to do about a fault\") has the kinds of faults."
         return
@@ -111,6 +117,7 @@ explain_fault() {
     text=${line%%[ :]*}
     span=${line%%:*}
     span=${span#"$text"}
+    span=${span# }
     fault=${line#*: }
     case $text in
     program | widen) set_file PROG ;;
@@ -118,59 +125,73 @@ explain_fault() {
     image) set_file IN ;;
     report) set_file REPORT ;;
     esac
-    if [ -n "$span" ]; then
-        span=${span# }
-        [ -z "${file+set}" ] || show_place "${span%-*}" "${span#*-}"
-        meaning "$text" "$fault"
+    # The fault is split at its blanks, into its name and its numbers.
+    sentence=$(meaning "$text" $fault)
+    [ "$text" != image ] || sentence=$(with_size $fault)
+    number=
+    if [ -n "${file+set}" ]; then
+        if [ -n "$span" ]; then
+            find_place "${span%-*}"
+        else
+            case $fault in
+            line*) find_line "${fault#line }" ;;
+            esac
+        fi
+        put "$(shown_word "$file"):${number:+$number:$column:} error: ${fault%% *}: $sentence"
+        [ -z "$number" ] || show_place "${span#*-}"
     else
-        case $fault in
-        line*) show_line "${fault#line }" ;;
-        esac
-        # The fault is split at its blanks, into its name and its numbers.
-        put "${file+$(quoted "$file"): }$(meaning "$text" $fault)"
+        put "$sentence"
     fi
 }
 
-# show_place START STOP: the place of these bytes in the file, their line, and carets below them.
-show_place() {
-    [ -f "$file" ] && [ -r "$file" ] && [ "$2" -le "$(wc -c <"$file")" ] || return
-    number=$(($(head -c "$1" <"$file" | wc -l) + 1))
-    before=$(($(head -c "$1" <"$file" | tail -n "+$number" | wc -c)))
-    column=$(($(head -c "$1" <"$file" | tail -n "+$number" | tr -d '\200-\277' | wc -c) + 1))
+# with_size FAULT NUMBER..: the sentence on images; of Size it has the program's own size, which the first words of its text are
+with_size() {
+    if [ "$1" = Size ] && [ -n "${program+set}" ] && [ -f "$program" ]; then
+        size=$(head -c 4096 <"$program" | sed 's/--.*//' | tr '\n\t\r' '   ' | sed -n 's/^ *size *\([0-9]*\) *\([0-9]*\) .*/\1 by \2/p')
+        [ -z "$size" ] || {
+            put "The program wants images of $size pixels, and this one has $2 by $3."
+            return
+        }
+    fi
+    meaning image "$@"
+}
+
+# find_place START: `number` and `column` are those of this byte of the file, and `first` is the byte from which its line is shown
+find_place() {
+    start=$1
+    [ -f "$file" ] && [ -r "$file" ] && [ "$start" -le "$(wc -c <"$file")" ] || return
+    number=$(($(head -c "$start" <"$file" | wc -l) + 1))
+    before=$(($(head -c "$start" <"$file" | tail -n "+$number" | wc -c)))
+    column=$(($(head -c "$start" <"$file" | tail -n "+$number" | tr -d '\200-\277' | wc -c) + 1))
     # A long line is shown from 40 bytes before the span.
     cut=
-    first=$(($1 - before))
+    first=$((start - before))
     [ "$before" -le 80 ] || {
         cut='.. '
-        first=$(($1 - 40))
+        first=$((start - 40))
     }
-    end=
-    [ "$1" -lt "$(wc -c <"$file")" ] || end=', the end of the file'
-    put "$(shown_word "$file"):$number:$column$end"
-    show_window
-    indent=$(window | head -c "$(($1 - first))" | shown | tr -d '\200-\277' | tr -c '\t' ' ')
-    carets=$(window | tail -c "+$(($1 - first + 1))" | head -c "$(($2 - $1))" | shown | tr -d '\200-\277' | tr -c '\t' '^')
-    put "    ${cut:+   }$indent${carets:-^}"
 }
 
-# show_line NUMBER: this line of the file.
-show_line() {
-    [ -n "${file+set}" ] && [ -f "$file" ] && [ -r "$file" ] || return
-    before=$(($(head -n "$(($1 - 1))" <"$file" | wc -c)))
-    [ "$before" -lt "$(wc -c <"$file")" ] || {
-        put "$(shown_word "$file") ends before line $1."
-        return
-    }
+# find_line NUMBER: the same of this line of the file, if it has one
+find_line() {
+    [ -f "$file" ] && [ -r "$file" ] || return
+    start=$(($(head -n "$(($1 - 1))" <"$file" | wc -c)))
+    [ "$start" -lt "$(wc -c <"$file")" ] || return
+    number=$1
+    column=1
     cut=
-    first=$before
-    put "$(shown_word "$file"):$1"
-    show_window
+    first=$start
 }
 
-show_window() {
+# show_place [STOP]: the line of a place, and carets below it up to this byte
+show_place() {
     more=
     [ "$(window | wc -c)" -lt 100 ] || more=' ..'
-    put "    $cut$(window | shown)$more"
+    put "$(printf '%4d' "$number") | $cut$(window | shown)$more"
+    [ -n "$span" ] || return 0
+    indent=$(window | head -c "$((start - first))" | shown | tr -d '\200-\277' | tr -c '\t' ' ')
+    carets=$(window | tail -c "+$((start - first + 1))" | head -c "$(($1 - start))" | shown | tr -d '\200-\277' | tr -c '\t' '^')
+    put "     | ${cut:+   }$indent${carets:-^}"
 }
 
 # The bytes of the line from `first` on, 100 at most.

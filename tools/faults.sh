@@ -1,33 +1,8 @@
-# The table of faults, for tools/explain.sh. docs/COMMANDS.md lists the same faults; tests/explain.sh compares the two.
+# The table of faults, for tools/explain.sh. Faults of programs are explained by the program itself (`explain`), but for those that only an age has. docs/COMMANDS.md lists the same faults; tests/explain.sh compares the two.
 
 # meaning TEXT FAULT NUMBER..: one sentence on the fault; the numbers are those of the fault line.
 meaning() {
     case $1.$2 in
-    program.TooLong) put "The program has more than $3 bytes; split it." ;;
-    program.BadByte) put 'No token begins with this byte; only comments, from `--` to the end of the line, may contain any byte.' ;;
-    program.NumberTooGreat) put 'The number is 2^64 or more.' ;;
-    program.NameTooLong) put 'The name has more than 64 bytes.' ;;
-    program.Nest) put 'This is the 129th bracket open at once, and 128 are allowed; define a part of the expression as an image of its own.' ;;
-    program.Syntax) put 'The program cannot go on with this token, or ends too early: a missing `end` or bracket or a reserved word as a name may be why.' ;;
-    program.Depth) put 'The expression has more than 512 levels; bracket a long sum as a tree, or define an image for a part of it.' ;;
-    program.SizeRange) put 'The width and the height of the frame are numbers from 1 to 4,096.' ;;
-    program.TooManyInputs) put 'This is the ninth input, and eight are allowed.' ;;
-    program.TooManyOutputs) put 'This is the ninth output, and eight are allowed.' ;;
-    program.TooManyImages) put 'This is the 257th definition, and 256 are allowed; write an image that is used once where it is used.' ;;
-    program.DuplicateName) put 'The name is already taken, or is already an output.' ;;
-    program.InputType) put 'The type of an input is `u1` to `u16`.' ;;
-    program.OutputType) put 'The type of an output must be `u1` to `u16`; end its body with `as u8`, `sat(.., u8)` or the like.' ;;
-    program.UnknownImage) put 'No input and no earlier definition has this name; an image cannot read itself or a later one.' ;;
-    program.NotConvertible) put 'The type of the body does not fit the declared type; convert it with `as` or `sat`, or declare no type.' ;;
-    program.OffsetRange) put 'An offset is at most 64; read in two steps, through an image in between.' ;;
-    program.ZeroDivisor) put 'The divisor is 0.' ;;
-    program.ShiftRange) put 'A shift is by at most 63.' ;;
-    program.NotOneBit) put 'The operand of `!` and the first operand of `select` must be `u1`; write a comparison, such as `a(x,y) > 0`.' ;;
-    program.SignedBits) put 'The operands of `&`, `|` and `^` must be unsigned; convert this one with `as` to an unsigned type first.' ;;
-    program.WidthTooGreat) put 'The result or the common type of the operands has more than 64 bits; convert with `as` or `sat` to fewer bits first.' ;;
-    program.InlineDepth) put 'With the inline images substituted, the expression has more than 1,024 levels; remove `inline` from an image on the way.' ;;
-    program.Nodes) put "With inline images substituted, the program has $3 nodes, and 65,536 are allowed; remove \`inline\` from what is read often." ;;
-    program.Reads) put "The program has $3 live reads or more, and 4,096 are allowed; remove \`inline\` from an image that is read often." ;;
     program.Bits) put "The line buffers need $3 bits at least, and 67,108,864 are allowed; use fewer rows, narrower types, a smaller width or a smaller age." ;;
     program.Latency) put "The last output comes $3 clocks late, and 67,108,864 are allowed; read fewer rows ahead (\`y+k\`), or use a smaller width." ;;
     image.TooLong) put "The file has more than $3 bytes; split it, or use \`run\`, which has no such limit." ;;

@@ -15,6 +15,39 @@ explains() {
     { true 9<&0; } 2>/dev/null && ! { true <&9; } 2>/dev/null
 }
 
+# explain_module FILE: `explain` of a Verilog text, which the program does not have: what `trace` says of it, in the same form. IN is empty, so a
+# text in order ends with a fault of the images.
+explain_module() {
+    # shellcheck disable=SC2034
+    verilog=$1
+    answer=$(mktemp) || exit 1
+    "$built" trace -- "$verilog" 0 /dev/null /dev/./null >/dev/null 2>"$answer"
+    status=$?
+    line=
+    read -r line <"$answer"
+    rm -f "$answer"
+    [ "$status" != 4 ] || exit 0
+    printf '%s\n' "$line" >&2
+    [ "$status" != 5 ] || {
+        said=
+        . "$top/tools/explain.sh"
+        explain_fault
+    }
+    exit "$status"
+}
+
+# begins_with_module FILE: the first word of the text is `module`, behind comments of whole lines
+begins_with_module() {
+    [ -f "$1" ] && [ -r "$1" ] || return
+    case $(head -c 65536 <"$1" | sed 's:^ *//.*::; s:^ */\*.*\*/::' | tr '\000\n\t\r' '    ' | sed 's/^ *//' | head -c 7) in
+    'module ') return 0 ;;
+    esac
+    return 1
+}
+
+if [ "$# ${1-}" = '2 explain' ] && begins_with_module "$2"; then
+    explain_module "$2"
+fi
 explains || exec "$built" "$@"
 exec 9<&0
 status=
@@ -44,12 +77,26 @@ follow() {
     child=
 }
 
+# ask_to_explain: sets `said` to what `explain` prints of the program, if its text is a regular file. It has five seconds of processor time at most.
+ask_to_explain() {
+    [ -n "${program+set}" ] && [ -f "$program" ] || return 0
+    messages=$(mktemp 2>/dev/null) || return 0
+    # shellcheck disable=SC2016
+    follow sh -c 'ulimit -t 5 && exec "$0" "$@"' "$built" explain -- "$program" >"$messages" 2>/dev/null
+    [ "$status" != 3 ] || said=$(cat "$messages")
+    rm -f "$messages"
+    status=3
+}
+
 # ask_again WORD..: sets `line` to the fault line of this call. The program runs once more, on regular files only and with /dev/null as its
 # output, for five seconds of processor time at most. The line is empty where that is not possible, or ends otherwise.
 ask_again() {
     line=
+    said=
     ended=$status
     read_words "$@"
+    [ "$status" != 3 ] || ask_to_explain
+    [ -z "$said" ] || return 0
     case $status in
     3 | 5 | 11)
         # Nothing was read but the program or the Verilog text.
@@ -64,16 +111,17 @@ ask_again() {
     done
     set -- "$command" ${age+--age "$age"} ${hold+--hold "$hold"} ${fill+--fill "$fill"} -- ${count+"$count"} ${program+"$program"} \
         ${verilog+"$verilog"} ${clocks+"$clocks"} ${images+"$images"} ${report+"$report"} ${out+/dev/./null}
-    said=$(mktemp 2>/dev/null) || return
+    answer=$(mktemp 2>/dev/null) || return
     # shellcheck disable=SC2016
-    follow sh -c 'ulimit -t 5 && exec "$0" "$@"' "$built" "$@" >/dev/null 2>"$said"
-    [ "$status" != "$ended" ] || read -r line <"$said"
-    rm -f "$said"
+    follow sh -c 'ulimit -t 5 && exec "$0" "$@"' "$built" "$@" >/dev/null 2>"$answer"
+    [ "$status" != "$ended" ] || read -r line <"$answer"
+    rm -f "$answer"
     status=$ended
 }
 
 follow "$built" "$@"
-if [ -z "$signal" ] && [ "$status" != 0 ]; then
+# (what `explain` has printed of a fault is not printed again)
+if [ -z "$signal" ] && [ "$status" != 0 ] && [ "${1-} $status" != 'explain 3' ]; then
     . "$top/tools/explain.sh"
     ask_again "$@"
     [ -n "$signal" ] || explain "$status" "$line" "$@"
