@@ -70,11 +70,36 @@ follow() {
     { exec "$@"; } <&9 9<&- &
     child=$!
     [ -z "$signal" ] || pass_on "$signal"
+    begin_to_watch "$@"
     # (the shell would write how a signal ended the child)
     wait "$child" 2>/dev/null
     status=$?
     [ -z "$signal" ] || wait "$child" 2>/dev/null
+    end_to_watch
     child=
+}
+
+# begin_to_watch PROGRAM WORD..: at a terminal, and if the command may take long, a process shows how far it is
+begin_to_watch() {
+    watcher=
+    case ${2-} in run | eval | sim | trace) ;; *) return ;; esac
+    [ -t 2 ] && [ -r /proc/uptime ] || return 0
+    shift
+    read -r since _ </proc/uptime
+    (
+        . "$top/tools/progress.sh"
+        watch "$@"
+    ) 9<&- </dev/null >/dev/null &
+    watcher=$!
+}
+
+# end_to_watch: ends that process, and clears its line if it may have written one
+end_to_watch() {
+    [ -n "$watcher" ] || return 0
+    kill "$watcher" 2>/dev/null
+    wait "$watcher" 2>/dev/null
+    read -r until _ </proc/uptime
+    [ $((${until%.*} - ${since%.*})) -lt 2 ] || printf '\r\033[K' >&2
 }
 
 # ask_to_explain: sets `said` to what `explain` prints of the program, if its text is a regular file. It has five seconds of processor time at most.

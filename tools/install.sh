@@ -108,7 +108,7 @@ put_program() {
     put 755 "$built" lib/dk/bin/dk
     put 644 "$built.txt" lib/dk/bin/dk.txt
     put 644 VERSION lib/dk/VERSION
-    for name in answer.sh explain.sh faults.sh follow.sh help.awk help.sh words.sh; do
+    for name in answer.sh explain.sh faults.sh follow.sh help.awk help.sh progress.sh words.sh; do
         put 644 "tools/$name" "lib/dk/tools/$name"
     done
     put 755 tools/installed.sh bin/dk

@@ -1,0 +1,49 @@
+#!/bin/sh
+# What tools/progress.sh shows at a terminal beside a program that takes long: a script stands for the program, and `script` of util-linux for the
+# terminal. The last line is `N passed, M failed`.
+# usage: tests/progress.sh
+. "$(dirname -- "$0")/lib.sh" || exit 2
+command -v script >/dev/null || {
+    echo 'progress: script is not installed, and was passed over'
+    exit 0
+}
+in_folder
+# twenty images of 10 by 10 with headers of 12 bytes
+for image in 1 2 3 4 5 6 7 8 9 10 11 12 13 14 15 16 17 18 19 20; do
+    printf 'P5\n10 10\n99\n%0100d' "$image"
+done >in.pgm
+# It reads 700 bytes, six images and a part, writes a trace up to time 41, and takes three seconds.
+cat >program <<'end'
+#!/bin/sh
+exec 5<in.pgm
+dd bs=700 count=1 <&5 >/dev/null 2>&1
+printf '#40\n1!\n#41\n' >out.vcd
+sleep 3
+end
+cat >call <<'end'
+#!/bin/sh
+built=./program
+called=dk
+docs=docs
+. "$top/tools/follow.sh"
+end
+chmod +x program call
+export top
+
+cleared=$(printf '\r\033\\[K *$')
+# shows WANTED WORD..: at a terminal the call shows this, and at last a cleared line; nothing where standard error is no terminal
+shows() {
+    wanted=$1
+    shift
+    script -qec "./call $*" typed >/dev/null </dev/null
+    tr '\r' '\n' <typed | sed 's/\x1b\[K//' >lines
+    is "dk $* shows $(grep '^dk' lines | tail -n 1)" grep -qE "^dk: $wanted\$" lines
+    grep -v '^Script done' typed | tr '\n' ' ' >shown
+    is "dk $*: the line is not cleared" grep -q "$cleared" shown
+    ./call "$@" 2>err
+    is "dk $*: something is written that is not for a terminal" [ ! -s err ]
+}
+shows '6 of 20 images of IN, [1-3]\.[0-9] a second' run p.dk in.pgm out.pgm
+shows '41 of 100 clocks, 1?[0-9]\.[0-9] a second' trace v.v 100 in.pgm out.vcd
+shows '2 s' eval p.dk in.pgm out.pgm
+finish
