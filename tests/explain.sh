@@ -33,13 +33,7 @@ ends() {
     [ "$got" = "$status" ] && [ "$(cat stderr)" = "$line" ] || wrong "dk $*: status $got, '$(cat stderr)' where $status, '$line' was expected"
 }
 
-# source_fault SPAN-AND-FAULT TEXT: writes the program p.dk, and compares as `ends` does
-source_fault() {
-    printf '%b' "$2" >p.dk
-    ends 3 "program $1" plan p.dk
-}
-
-# verilog_fault SPAN-AND-FAULT TEXT: the same for the Verilog text v.v
+# verilog_fault SPAN-AND-FAULT TEXT: writes the Verilog text v.v, and compares as `ends` does
 verilog_fault() {
     printf '%b' "$2" >v.v
     ends 5 "verilog $1" trace v.v 3 i.pgm t.vcd
@@ -68,149 +62,79 @@ printf 'size 3 1\ninput a : u8\noutput a\n' >copy.dk
 printf 'P5\n3 1\n255\nabc' >i.pgm
 
 # Spans.
-source_fault '38-39: UnknownImage' 'size 1 1\ninput a : u8\nlet f = im(x,y) b(x,y) end\noutput f\n' <<'end'
-p.dk:3:17
-    let f = im(x,y) b(x,y) end
-                    ^
-No input and no earlier definition has this name; an image cannot read itself or a later one.
-end
-source_fault '0-0: Syntax' '' <<'end'
-p.dk:1:1, the end of the file
-    
-    ^
-The program cannot go on with this token, or ends too early: a missing `end` or bracket or a reserved word as a name may be why.
-end
-source_fault '28-28: Syntax' 'size 3 1 input a : u8 output' <<'end'
-p.dk:1:29, the end of the file
-    size 3 1 input a : u8 output
-                                ^
-The program cannot go on with this token, or ends too early: a missing `end` or bracket or a reserved word as a name may be why.
-end
-source_fault '29-29: Syntax' 'size 3 1 input a : u8 output\n' <<'end'
-p.dk:2:1, the end of the file
-    
-    ^
-The program cannot go on with this token, or ends too early: a missing `end` or bracket or a reserved word as a name may be why.
-end
-source_fault '39-65: WidthTooGreat' 'size 1 1\ninput a : u16\nlet f = im(x,y) (a(x,y)<<17)*\n(a(x,y)<<17) end\noutput f\n' <<'end'
-p.dk:3:17
-    let f = im(x,y) (a(x,y)<<17)*
-                    ^^^^^^^^^^^^^
-The result or the common type of the operands has more than 64 bits; convert with `as` or `sat` to fewer bits first.
-end
-source_fault '42-44: OffsetRange' 'size 1 1\ninput a : u8\nlet f =\tim(x,y)\ta(x+65,y) end\noutput f\n' <<end
-p.dk:3:21
-    let f =${tab}im(x,y)${tab}a(x+65,y) end
-           ${tab}       ${tab}    ^^
-An offset is at most 64; read in two steps, through an image in between.
-end
-source_fault '40-41: UnknownImage' 'size 1 1\r\ninput a : u8\r\nlet f = im(x,y) b(x,y) end\r\noutput f\r\n' <<'end'
-p.dk:3:17
-    let f = im(x,y) b(x,y) end
-                    ^
-No input and no earlier definition has this name; an image cannot read itself or a later one.
-end
-source_fault '7-8: BadByte' 'size 3 \0303\0251\n' <<'end'
-p.dk:1:8
-    size 3 é
-           ^
-No token begins with this byte; only comments, from `--` to the end of the line, may contain any byte.
-end
-source_fault '7-8: BadByte' 'size 3 \0000\n' <<'end'
-p.dk:1:8
-    size 3 ?
-           ^
-No token begins with this byte; only comments, from `--` to the end of the line, may contain any byte.
-end
-hundred='                                                                                                    '
-source_fault '1007-1008: BadByte' "size 3 $hundred$hundred$hundred$hundred$hundred$hundred$hundred$hundred$hundred$hundred@ $hundred" <<'end'
-p.dk:1:1008
-    ..                                         @                                                            ..
-                                               ^
-No token begins with this byte; only comments, from `--` to the end of the line, may contain any byte.
-end
 verilog_fault "16-22: BadConstant" "/* \0303\0251\0342\0202\0254\0360\0235\0204\0236 */ 8'd256\n" <<'end'
-v.v:1:11
-    /* é€𝄞 */ 8'd256
-              ^^^^^^
-A constant is written as `8'd255`: its size is 1 to 64 bits, and its number fits the size.
+v.v:1:11: error: BadConstant: A constant is written as `8'd255`: its size is 1 to 64 bits, and its number fits the size.
+   1 | /* é€𝄞 */ 8'd256
+     |           ^^^^^^
 end
 # Control bytes, bytes that are no UTF-8, and a mark that reorders a line.
 verilog_fault "23-29: BadConstant" "/* \0377\0001\0033[31m \0303( \0302\0233\0342\0200\0256 */ 8'd256\n" <<'end'
-v.v:1:21
-    /* ???[31m ?( ?? */ 8'd256
-                        ^^^^^^
-A constant is written as `8'd255`: its size is 1 to 64 bits, and its number fits the size.
+v.v:1:21: error: BadConstant: A constant is written as `8'd255`: its size is 1 to 64 bits, and its number fits the size.
+   1 | /* ???[31m ?( ?? */ 8'd256
+     |                     ^^^^^^
 end
 # Each character that reorders a line or is not visible is one `?`: C1 controls, U+00AD, U+061C, U+180E, U+200B to U+200F, U+202A to U+202E,
 # U+2060 to U+206F, U+FEFF, U+FFF9 to U+FFFB, U+E0000 to U+E007F. The characters next to these ranges are shown.
 verilog_fault '59-65: BadConstant' '/* \0302\0200\0302\0237\0302\0255\0330\0234\0341\0240\0216\0342\0200\0213\0342\0200\0217\0342\0200\0252\0342\0200\0256\0342\0201\0240\0342\0201\0251\0342\0201\0252\0342\0201\0257\0357\0273\0277\0357\0277\0271\0357\0277\0273\0363\0240\0200\0200\0363\0240\0201\0277 */ 8'"'"'d256\n' <<'end'
-v.v:1:26
-    /* ?????????????????? */ 8'd256
-                             ^^^^^^
-A constant is written as `8'd255`: its size is 1 to 64 bits, and its number fits the size.
+v.v:1:26: error: BadConstant: A constant is written as `8'd255`: its size is 1 to 64 bits, and its number fits the size.
+   1 | /* ?????????????????? */ 8'd256
+     |                          ^^^^^^
 end
 shown=$(printf '\302\240\302\256\330\233\342\200\212\342\200\220\342\201\237\342\201\260\357\277\274\363\241\200\200')
 verilog_fault '32-38: BadConstant' "/* $shown */ 8'd256\n" <<end
-v.v:1:17
-    /* $shown */ 8'd256
-                    ^^^^^^
-A constant is written as \`8'd255\`: its size is 1 to 64 bits, and its number fits the size.
+v.v:1:17: error: BadConstant: A constant is written as \`8'd255\`: its size is 1 to 64 bits, and its number fits the size.
+   1 | /* $shown */ 8'd256
+     |                 ^^^^^^
 end
 verilog_fault '0-1: BadByte' '/* open' <<'end'
-v.v:1:1
-    /* open
-    ^
-No token of the subset begins with this byte, or a comment does not end.
+v.v:1:1: error: BadByte: No token of the subset begins with this byte, or a comment does not end.
+   1 | /* open
+     | ^
 end
 
-# A text that is no file that can be read twice, and one that is shorter by now.
-says 3 'program 38-39: UnknownImage' plan /dev/null <<'end'
-No input and no earlier definition has this name; an image cannot read itself or a later one.
+# Faults of a program are explained by the program itself (tests/quick/explain.sh). Of one that it was not asked about there is a pointer, but for
+# Bits and Latency, which only an age may have.
+for file in /dev/null copy.dk; do
+    says 3 'program 38-39: UnknownImage' plan $file <<'end'
+docs/COMMANDS.md ("What to do about a fault") has the kinds of faults.
 end
-says 3 'program 38-39: UnknownImage' plan copy.dk <<'end'
-No input and no earlier definition has this name; an image cannot read itself or a later one.
+done
+said='p.dk:3:17: error: UnknownImage: there is no image `b`'
+says 3 '' plan copy.dk <<'end'
+p.dk:3:17: error: UnknownImage: there is no image `b`
+end
+said=
+says 3 'program: Latency 67125248' plan --age 1 copy.dk <<'end'
+copy.dk: error: Latency: The last output comes 67125248 clocks late, and 67,108,864 are allowed; read fewer rows ahead (`y+k`), or use a smaller width.
 end
 
 # Faults with numbers.
-{
-    printf 'size 1 1\ninput a : u8\ninline let i1 = im(x,y) a(x,y)+a(x,y) end\n'
-    for number in 2 3 4 5 6 7 8 9 10 11 12 13 14 15; do
-        printf 'inline let i%s = im(x,y) i%s(x,y)+i%s(x,y) end\n' "$number" $((number - 1)) $((number - 1))
-    done
-    printf 'let f = im(x,y) i15(x,y) as u8 end\noutput f\n'
-} >nodes.dk
-ends 3 'program: Nodes 98303' plan nodes.dk <<'end'
-`nodes.dk`: With inline images substituted, the program has 98303 nodes, and 65,536 are allowed; remove `inline` from what is read often.
-end
 says 3 'program: Bits 98765432' make 5 <<'end'
 The line buffers need 98765432 bits at least, and 67,108,864 are allowed; use fewer rows, narrower types, a smaller width or a smaller age.
 end
 image_fault 'Short 2 3' 'P5\n3 1\n255\nab' <<'end'
-`j.pgm`: The file ends inside a raster: it has 2 of the 3 bytes of its last image.
+j.pgm: error: Short: The file ends inside a raster: it has 2 of the 3 bytes of its last image.
 end
 image_fault 'Size 2 1' 'P5\n2 1\n255\nab' <<'end'
-`j.pgm`: The image is 2 wide and 1 high, which is not the program's size (`sim`, `trace`: the first image's, at most 4,096 by 4,096).
+j.pgm: error: Size: The program wants images of 3 by 1 pixels, and this one has 2 by 1.
 end
 image_fault 'Magic 14' 'P5\n3 1\n255\nabcd' <<'end'
-`j.pgm`: An image must begin at byte 14 (counted from 0), but there is no `P5`: it is another format, or bytes follow the last image.
+j.pgm: error: Magic: An image must begin at byte 14 (counted from 0), but there is no `P5`: it is another format, or bytes follow the last image.
 end
 printf 'size 3 1\ninput a : u8\ninput b : u8\noutput a\n' >two.dk
 ends 4 'image: Round 1 2' eval two.dk i.pgm o.pgm <<'end'
-`i.pgm`: The last round has 1 of 2 images; a round has one for each input in turn.
+i.pgm: error: Round: The last round has 1 of 2 images; a round has one for each input in turn.
 end
 image_fault 'Maxval 256' 'P5\n3 1\n256\nababab' <<'end'
-`j.pgm`: The maxval of the image is 256, which is above the greatest number of its input's type.
+j.pgm: error: Maxval: The maxval of the image is 256, which is above the greatest number of its input's type.
 end
 printf 'plan 4\n' >report.txt
 ends 10 'report: line 1' check copy.dk report.txt <<'end'
-report.txt:1
-    plan 4
-`report.txt`: Line 1 is the first wrong line of the report, in its form or in what it states (docs/REPORT.md).
+report.txt:1:1: error: line: Line 1 is the first wrong line of the report, in its form or in what it states (docs/REPORT.md).
+   1 | plan 4
 end
 says 10 'report: line 2' check copy.dk report.txt <<'end'
-report.txt ends before line 2.
-`report.txt`: Line 2 is the first wrong line of the report, in its form or in what it states (docs/REPORT.md).
+report.txt: error: line: Line 2 is the first wrong line of the report, in its form or in what it states (docs/REPORT.md).
 end
 cat >memory.v <<'end'
 module m(input clk, input rst, input [1:0] din, output valid, output [7:0] dout);
@@ -224,16 +148,15 @@ endmodule
 end
 printf 'P5\n4 1\n3\n\000\000\001\003' >four.pgm
 ends 6 'stopped: clock 3 array 0 index 3' sim memory.v 4 four.pgm o.pgm <<'end'
-`memory.v`: In clock 3 (-1 is the reset clock) array 0 of the text (counted from 0) is read or written at index 3, which is past its end.
+memory.v: error: clock: In clock 3 (-1 is the reset clock) array 0 of the text (counted from 0) is read or written at index 3, which is past its end.
 end
 ends 6 'stopped: count 3 of 4' sim memory.v 3 four.pgm o.pgm <<'end'
-`memory.v`: `valid` was 1 in 3 clocks, but the images have 4 pixels; take CLOCKS from the line `clocks` of the program's plan.
+memory.v: error: count: `valid` was 1 in 3 clocks, but the images have 4 pixels; take CLOCKS from the line `clocks` of the program's plan.
 end
 ends 5 'verilog 7-8: Ports' sim memory.v 4 four.pgm o.pgm --hold 1 <<'end'
-memory.v:1:8
-    module m(input clk, input rst, input [1:0] din, output valid, output [7:0] dout);
-           ^
-The ports must be `clk rst [en] din .. valid dout ..` (docs/VERILOG.md); `--hold` requires `en` (`compile --enable`).
+memory.v:1:8: error: Ports: The ports must be `clk rst [en] din .. valid dout ..` (docs/VERILOG.md); `--hold` requires `en` (`compile --enable`).
+   1 | module m(input clk, input rst, input [1:0] din, output valid, output [7:0] dout);
+     |        ^
 end
 
 # Files that cannot be read or written.
@@ -286,10 +209,10 @@ fi
 # Programs that get no phases.
 printf 'size 5 1\ninput a : u8\nlet f = im(x,y) a(x,y) end\noutput f\n' >five.dk
 ends 11 'widen: Width 5' widen 2 five.dk o.dk <<'end'
-`five.dk`: The frame is 5 columns wide, and P must divide its width; choose another P or another width.
+five.dk: error: Width: The frame is 5 columns wide, and P must divide its width; choose another P or another width.
 end
 says 11 'widen: Inputs 12' widen 4 five.dk o.dk <<'end'
-`five.dk`: The program would have 12 inputs, and eight are allowed; choose a smaller P, or split the program.
+five.dk: error: Inputs: The program would have 12 inputs, and eight are allowed; choose a smaller P, or split the program.
 end
 
 # Words.
@@ -297,7 +220,7 @@ usage_fault <<'end'
 The command is missing. `./dk --help` shows the commands and options.
 end
 usage_fault ru p.dk i.pgm o.pgm <<'end'
-There is no command `ru`. The commands are: run compile plan sim eval make check trace cut narrow widen. `./dk --help` shows the commands and options.
+There is no command `ru`. The commands are: run compile plan sim eval make check trace cut narrow widen explain. `./dk --help` shows the commands and options.
 end
 usage_fault -- run p.dk i.pgm o.pgm <<'end'
 The command comes first, but `--` begins with a hyphen. `./dk --help` shows the commands and options.
@@ -382,6 +305,7 @@ taken make 0000000000000000000000000000000000000000000000000000004194303
 taken cut 064 p.dk o.dk
 taken narrow p.dk o.dk
 taken widen 8 p.dk o.dk
+taken explain p.dk
 
 # The help page has a line for each command and option, of 80 columns at most.
 help_page >page
@@ -409,10 +333,12 @@ awk -F '|' '
     /^- The kinds of a Verilog fault are/ { sub(/ They are judged.*/, ""); add("verilog", $0) }
 ' "$top/docs/COMMANDS.md" | sort -u >listed
 sed -n 's/^    \([a-z]*\.[A-Za-z]*\)) .*/\1/p' "$top/tools/faults.sh" | sort >explained
-diff listed explained >difference || wrong "docs/COMMANDS.md (<) and tools/faults.sh (>) have other faults: $(cat difference)"
+grep -v '^program\.' explained >others
+grep -v '^program\.' listed >listed_others
+diff listed_others others >difference || wrong "docs/COMMANDS.md (<) and tools/faults.sh (>) have other faults: $(cat difference)"
 while read -r fault; do
     [ -n "$(meaning "${fault%.*}" "${fault#*.}" 1 2 3 4 5)" ] || wrong "no sentence on $fault"
-done <listed
+done <explained
 
 # terminal STATUS COMMAND: runs this command of the shell under a terminal; it ends so, and what is shown is standard input
 terminal() {
@@ -462,10 +388,10 @@ end
     printf 'size 1 1\ninput a : u8\nlet f = im(x,y) b(x,y) end\noutput f\n' >p.dk
     cat >place <<'end'
 program 38-39: UnknownImage
-p.dk:3:17
-    let f = im(x,y) b(x,y) end
-                    ^
-No input and no earlier definition has this name; an image cannot read itself or a later one.
+p.dk:3:17: error: UnknownImage: there is no image `b`
+   3 | let f = im(x,y) b(x,y) end
+     |                 ^
+     = help: an image reads inputs and earlier definitions
 end
     for words in 'plan p.dk' 'run --age 1 p.dk none.pgm o.pgm' 'eval p.dk - o.pgm' 'compile --enable --block 2 p.dk o.v' 'cut 1 p.dk o.dk' 'narrow p.dk o.dk' 'widen 2 p.dk o.dk' 'check p.dk none.txt'; do
         terminal 3 "'$top/dk' $words" <place
@@ -479,19 +405,18 @@ end
     for command in run eval; do
         terminal 4 "'$top/dk' $command copy.dk j.pgm o.pgm" <<'end'
 image: Short 2 3
-`j.pgm`: The file ends inside a raster: it has 2 of the 3 bytes of its last image.
+j.pgm: error: Short: The file ends inside a raster: it has 2 of the 3 bytes of its last image.
 end
     done
     printf 'module m(input clk, input rst, input en, input [1:0] din, output valid, output [1:0] dout);\n  assign valid = ~rst;\n  assign dout = din;\nendmodule\n' >enabled.v
     terminal 6 "'$top/dk' sim enabled.v 3 four.pgm o.pgm --fill zeros --hold 1" <<'end'
 stopped: count 6 of 4
-`enabled.v`: `valid` was 1 in 6 clocks, but the images have 4 pixels; take CLOCKS from the line `clocks` of the program's plan.
+enabled.v: error: count: `valid` was 1 in 6 clocks, but the images have 4 pixels; take CLOCKS from the line `clocks` of the program's plan.
 end
     terminal 10 "'$top/dk' check copy.dk report.txt" <<'end'
 report: line 1
-report.txt:1
-    plan 4
-`report.txt`: Line 1 is the first wrong line of the report, in its form or in what it states (docs/REPORT.md).
+report.txt:1:1: error: line: Line 1 is the first wrong line of the report, in its form or in what it states (docs/REPORT.md).
+   1 | plan 4
 end
     # what goes to standard error and to other descriptors
     "$program" compile copy.dk copy.v

@@ -110,10 +110,24 @@ explain_fault() {
         put "$said"
         return
     }
-    [ -n "$line" ] || {
+    sentence=
+    [ -z "$line" ] || read_fault
+    [ -n "$sentence" ] || {
         put "$docs/COMMANDS.md (\"What to do about a fault\") has the kinds of faults."
         return
     }
+    number=
+    if [ -n "${file+set}" ]; then
+        find_fault
+        put "$(shown_word "$file"):${number:+$number:$column:} error: ${fault%% *}: $sentence"
+        [ -z "$number" ] || show_place "${span#*-}"
+    else
+        put "$sentence"
+    fi
+}
+
+# read_fault: the parts of the fault line, the file that it is about, and its sentence
+read_fault() {
     text=${line%%[ :]*}
     span=${line%%:*}
     span=${span#"$text"}
@@ -128,19 +142,16 @@ explain_fault() {
     # The fault is split at its blanks, into its name and its numbers.
     sentence=$(meaning "$text" $fault)
     [ "$text" != image ] || sentence=$(with_size $fault)
-    number=
-    if [ -n "${file+set}" ]; then
-        if [ -n "$span" ]; then
-            find_place "${span%-*}"
-        else
-            case $fault in
-            line*) find_line "${fault#line }" ;;
-            esac
-        fi
-        put "$(shown_word "$file"):${number:+$number:$column:} error: ${fault%% *}: $sentence"
-        [ -z "$number" ] || show_place "${span#*-}"
+}
+
+# find_fault: the place of the fault in the file
+find_fault() {
+    if [ -n "$span" ]; then
+        find_place "${span%-*}"
     else
-        put "$sentence"
+        case $fault in
+        line*) find_line "${fault#line }" ;;
+        esac
     fi
 }
 
