@@ -153,11 +153,9 @@ def faulty(work):
     (work / "short.dk").write_text("size 3 1 input a : u8 output", encoding="utf-8")
     said = ""
     for name in ("faulty.dk", "short.dk"):
-        done = subprocess.run(
-            [TOP / "dk", "compile", name, "/dev/null"], cwd=work, env={**os.environ, "DK_EXPLAIN": "always"}, capture_output=True, text=True, check=False
-        )
-        said += done.stderr
-    return said, [("faulty.dk", 4, 17, "UnknownImage", "No input"), ("short.dk", 1, 29, "Syntax", "The program cannot go on")]
+        done = subprocess.run([TOP / "dk", "explain", name], cwd=work, capture_output=True, text=True, check=False)
+        said += done.stdout
+    return said, [("faulty.dk", 4, 17, "UnknownImage", "there is no image `b`"), ("short.dk", 1, 29, "Syntax", "expected a name")]
 
 
 def matched(said):

@@ -1,8 +1,8 @@
-" :make compiles the program of the window and lists its fault. It needs the script dk in $PATH.
+" :make lists the faults of the program of the window. It needs the script dk in $PATH.
 if exists('current_compiler')
     finish
 endif
 let current_compiler = 'dk'
-CompilerSet makeprg=DK_EXPLAIN=always\ dk\ compile\ %:S\ /dev/null
-" The line of the fault, its place, the line of the file, carets, and a sentence.
-CompilerSet errorformat=%Eprogram\ %*\\d-%*\\d:\ %m,%Everilog\ %*\\d-%*\\d:\ %m,%C%f:%l:%c\\,\ the\ end\ of\ the\ file,%C%f:%l:%c,%-C\ \ \ \ %.%#,%Z%m
+CompilerSet makeprg=dk\ explain\ %:S
+" The place, the kind and the sentence; the lines of the file, carets and help are left out.
+CompilerSet errorformat=%f:%l:%c:\ %trror:\ %m,%-G%.%#
