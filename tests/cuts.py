@@ -7,6 +7,7 @@ levels, the two of one operator. Ends with status 1 if a picture changed, a call
 usage: tests/cuts.py PROGRAM [COUNT [SEED]]
 """
 
+import os
 import random
 import subprocess
 import sys
@@ -52,7 +53,7 @@ class Calls:
     """Calls of the program in a folder of its own."""
 
     def __init__(self, path, folder):
-        self.path, self.folder = path, folder
+        self.path, self.folder = os.path.abspath(path), folder
 
     def call(self, *words):
         return subprocess.run([self.path, *words], cwd=self.folder, capture_output=True, text=True)
