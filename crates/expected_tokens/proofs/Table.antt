@@ -4,10 +4,9 @@ use Rattle.std.specs.List.{Contains}
 use Rattle.source_words.specs.declared.word.Keyword.TheVariants as word
 use Rattle.dk_lexer.specs.declared.token.Symbol.TheVariants as sign
 use Rattle.dk_parser.specs.Terminals.{terminal_of}
-use Rattle.expected_tokens.specs.declared.TheConstants.{CLASSES}
 use Rattle.expected_tokens.specs.declared.class.TokenClass.{TokenClass}
 use Rattle.expected_tokens.specs.declared.class.TokenClass.TheVariants as class
-use Rattle.expected_tokens.specs.Classes.{class_of, sample_kind}
+use Rattle.expected_tokens.specs.Classes.{class_of, sample_kind, classes}
 
 pub sampled : (c : TokenClass) → class_of (terminal_of (sample_kind c)) ≡ c
 unfolding terminal_of
@@ -34,7 +33,7 @@ sampled class.Number = refl
 sampled (class.Symbol s) = refl
 sampled class.EndOfText = refl
 
-pub in_table : (c : TokenClass) → Contains CLASSES c
+pub in_table : (c : TokenClass) → Contains classes c
 in_table (class.Keyword word.Size) = (0, omega arith, refl)
 in_table (class.Keyword word.Input) = (1, omega arith, refl)
 in_table (class.Keyword word.Let) = (2, omega arith, refl)

@@ -1,5 +1,5 @@
 -- What the judgement of the tokens that are tried says of the class.
-use Rattle.std.proofs.Common.{◌≡◌, ◌≢◌, ◌≤◌, ◌<◌, ◌⊎◌, inl, inr, ℕ, zero, suc, ◌+◌, List, [], ◌∷◌, ◌++◌, length, length-append, take, arith, refl, sym, ap, ◌∙◌, subst, append_assoc}
+use Rattle.std.proofs.Common.{◌≡◌, ◌≢◌, ◌≤◌, ◌<◌, ◌⊎◌, inl, inr, ◌↔◌, ℕ, zero, suc, ◌+◌, Bool, true, false, IsTrue, MatchBool, List, [], ◌∷◌, ◌++◌, length, length-append, take, arith, refl, sym, ap, ◌∙◌, subst, append_assoc}
 use Rattle.std.proofs.lemmas.Bool.{cases_lt}
 use Rattle.std.specs.List.{AllByRecursion}
 use Rattle.std.proofs.lemmas.List.Elements.{recursion_from_All}
@@ -12,15 +12,15 @@ use Rattle.dk_grammar.proofs.Faulty.{begins_before}
 use Rattle.dk_grammar.proofs.Clears.{append_nil}
 use Rattle.dk_parser.specs.Grammar.{Tokens}
 use Rattle.dk_parser.specs.Terminals.{terminal, terminal_of}
-use Rattle.dk_parser.specs.Judged.{IsProgram, IsFaultyAt, StandsAt}
+use Rattle.dk_parser.specs.declared.whole.ParseError.{ParseError}
+use Rattle.dk_parser.specs.declared.whole.ParseError.TheVariants.{Nest, Syntax, Depth, OutOfMemory}
+use Rattle.dk_parser.specs.Programs.{Source}
+use Rattle.dk_parser.specs.Judged.{IsProgram, IsFaultyAt, StandsAt, Accepted, Faults}
 use Rattle.dk_parser.specs.Nest.{StaysShallow, PassesAt, unclosed}
 use Rattle.dk_parser.proofs.Ending.{not_both}
 use Rattle.expected_tokens.specs.declared.class.TokenClass.{TokenClass}
 use Rattle.expected_tokens.specs.declared.class.TokenClass.TheVariants as class
 use Rattle.expected_tokens.specs.Classes.{behind_span, sample, behind}
-use Rattle.expected_tokens.proofs.Table.{sampled}
-use Rattle.expected_tokens.proofs.Alike.{Same, one_other, shallow}
-use Rattle.expected_tokens.proofs.Keeping.{begins_too}
 use Rattle.expected_tokens.specs.Expected.{IsOfAText, AreOfAText, CanFollow, tried, GoesOn, StopsBefore}
 
 abbrev AreInside : Tokens → Type 0
@@ -116,8 +116,6 @@ begun ts c a (inr f) = elim (cases_lt (length ts) f.index) [
 
 pub goes_on : (ts : Tokens) (c : TokenClass) → AreOfAText ts → GoesOn (tried ts c) → CanFollow ts c
 goes_on ts c a g = record {
-  token = sample c;
-  of_class = sampled c;
   nests = all_flatter 0 ts c g.nests;
   begins = begun ts c (recursion_from_All IsOfAText ts a) g.begins;
 }
@@ -143,15 +141,30 @@ place ts class.Number span n f = place_before ts (sample class.Number) _ span f.
 place ts (class.Symbol s) span n f = place_before ts (sample (class.Symbol s)) _ span f.index n f.stands f.faulty.inside
 place ts class.EndOfText span n f = place_alone ts f.index (sample class.EndOfText) f.faulty.inside
 
--- what follows for another token of the class
-as_sample : (ts : Tokens) (c : TokenClass) (f : CanFollow ts c) → Same f.token (sample c)
-as_sample ts c f = f.of_class ∙ sym (sampled c)
-
 pub stops_before : (ts : Tokens) (c : TokenClass) → StopsBefore (tried ts c) → CanFollow ts c → ⊥
-stops_before ts c (inl p) f =
-    let nests = shallow 0 (one_other ts f.token (sample c) [] (as_sample ts c f)) f.nests in
-    not_both 0 (tried ts c) p.0 (all_deeper 0 ts c nests) p.1
+stops_before ts c (inl p) f = not_both 0 (tried ts c) p.0 (all_deeper 0 ts c f.nests) p.1
 stops_before ts c (inr p) f =
-    let begins = begins_too ts f.token (sample c) (as_sample ts c f) f.begins in
     p.2.faulty.none (begins_before IsProgram (suc p.2.index) (suc (length ts)) (tried ts c) (omega (arith, place ts c p.0 p.1 p.2))
-    (subst (Begins IsProgram) (sym (take_sample ts (sample c) (behind c))) begins))
+    (subst (Begins IsProgram) (sym (take_sample ts (sample c) (behind c))) f.begins))
+
+-- What the parser returns.
+pub accepted : (ts : Tokens) (p : Source) → Accepted ts p → GoesOn ts
+accepted ts p a = record { nests = a.nests; begins = inl (p, a.derives) }
+
+pub deep : (ts : Tokens) (e : ParseError) (span : Span) → e ≡ Depth span → Faults ts e → GoesOn ts
+deep ts e span is f = let g : Faults ts (Depth span) = subst (Faults ts) is f in record { nests = g.0; begins = inl (g.1.program, g.1.derives) }
+
+pub faulty_behind : (ts : Tokens) (e : ParseError) (span : Span) → e ≡ Syntax span → span ≡ behind_span → Faults ts e → GoesOn ts
+faulty_behind ts e span is there f =
+    let g : Faults ts (Syntax span) = subst (Faults ts) is f in record { nests = g.0; begins = inr (subst (IsFaultyAt ts) there g.1) }
+
+pub faulty_before : (ts : Tokens) (e : ParseError) (span : Span) → e ≡ Syntax span → span ≢ behind_span → Faults ts e → StopsBefore ts
+faulty_before ts e span is other f = let g : Faults ts (Syntax span) = subst (Faults ts) is f in inr (span, other, g.1)
+
+pub nested : (ts : Tokens) (e : ParseError) (span : Span) → e ≡ Nest span → Faults ts e → StopsBefore ts
+nested ts e span is f = inl (span, subst (Faults ts) is f)
+
+-- the judgement as a truth value
+pub judged : (ts : Tokens) (c : TokenClass) (b : Bool) → AreOfAText ts → MatchBool b (GoesOn (tried ts c)) (StopsBefore (tried ts c)) → IsTrue b ↔ CanFollow ts c
+judged ts c true a g = (λ e. goes_on ts c a g, λ f. refl)
+judged ts c false a s = (λ e. absurd (cc (e)), λ f. absurd (stops_before ts c s f))

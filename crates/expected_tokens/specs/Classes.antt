@@ -1,6 +1,7 @@
 -- Classes of tokens, and a token of each.
 use Rattle.std.specs.Prelude.{ℕ, List, [], ◌∷◌, codes}
 use Rattle.dk_base.specs.declared.span.Span.{Span}
+use Rattle.dk_lexer.specs.declared.token.Symbol.TheVariants as sign
 use Rattle.dk_lexer.specs.declared.token.Token.{Token}
 use Rattle.dk_lexer.specs.declared.token.TokenKind.{TokenKind}
 use Rattle.dk_lexer.specs.declared.token.TokenKind.TheVariants as kind
@@ -63,3 +64,13 @@ sample c = record { span = tried_span; kind = sample_kind c }
 abbrev pub behind : TokenClass → List Token
 behind class.EndOfText = []
 behind _ = record { span = behind_span; kind = kind.End } ∷ []
+
+-- all classes: keywords, a type, a name, a number, symbols, the end of the text
+abbrev pub classes : List TokenClass
+classes =
+    class.Keyword Size ∷ class.Keyword Input ∷ class.Keyword Let ∷ class.Keyword Inline ∷ class.Keyword Im ∷ class.Keyword End ∷ class.Keyword Output
+    ∷ class.Keyword As ∷ class.Keyword Select ∷ class.Keyword Min ∷ class.Keyword Max ∷ class.Keyword Abs ∷ class.Keyword Sat ∷ class.Keyword X
+    ∷ class.Keyword Y ∷ class.Keyword Edge ∷ class.Keyword Clamp ∷ class.Type ∷ class.Name ∷ class.Number ∷ class.Symbol sign.Open
+    ∷ class.Symbol sign.Close ∷ class.Symbol sign.Comma ∷ class.Symbol sign.Colon ∷ class.Symbol sign.Equal ∷ class.Symbol sign.Plus ∷ class.Symbol sign.Minus ∷ class.Symbol sign.Star
+    ∷ class.Symbol sign.Slash ∷ class.Symbol sign.ShiftLeft ∷ class.Symbol sign.ShiftRight ∷ class.Symbol sign.Less ∷ class.Symbol sign.LessEqual ∷ class.Symbol sign.Greater ∷ class.Symbol sign.GreaterEqual
+    ∷ class.Symbol sign.EqualEqual ∷ class.Symbol sign.NotEqual ∷ class.Symbol sign.Ampersand ∷ class.Symbol sign.Caret ∷ class.Symbol sign.Bar ∷ class.Symbol sign.Bang ∷ class.EndOfText ∷ []

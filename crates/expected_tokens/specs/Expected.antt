@@ -5,12 +5,11 @@ use Rattle.dk_base.specs.declared.span.Span.{Span}
 use Rattle.dk_lexer.specs.declared.token.Token.{Token}
 use Rattle.dk_lexer.specs.declared.token.TokenKind.TheVariants as kind
 use Rattle.dk_grammar.specs.Reading.{Begins}
-use Rattle.dk_parser.specs.Terminals.{terminal}
 use Rattle.dk_parser.specs.Grammar.{Tokens}
 use Rattle.dk_parser.specs.Judged.{IsProgram, IsFaultyAt}
 use Rattle.dk_parser.specs.Nest.{StaysShallow, PassesAt}
 use Rattle.expected_tokens.specs.declared.class.TokenClass.{TokenClass}
-use Rattle.expected_tokens.specs.Classes.{class_of, behind_span, sample, behind}
+use Rattle.expected_tokens.specs.Classes.{behind_span, sample, behind}
 
 -- a token as a text has before its end: its span is in order
 pub record IsOfAText (t : Token) : Type 0 where
@@ -20,12 +19,10 @@ pub record IsOfAText (t : Token) : Type 0 where
 abbrev pub AreOfAText : Tokens → Type 0
 AreOfAText ts = All IsOfAText ts
 
--- The tokens and then one of the class begin a program, and no more brackets are open than may be.
+-- The tokens and then the sample of the class begin a program, and no more brackets are open than may be.
 pub record CanFollow (before : Tokens) (c : TokenClass) : Type 0 where
-  pub token : Token
-  pub of_class : class_of (terminal token) ≡ c
-  pub nests : StaysShallow 0 (before ++ token ∷ [])
-  pub begins : Begins IsProgram (before ++ token ∷ [])
+  pub nests : StaysShallow 0 (before ++ sample c ∷ [])
+  pub begins : Begins IsProgram (before ++ sample c ∷ [])
 
 -- those of a list for which P holds, in order
 pub data AreThose (P : TokenClass → Type 0) : List TokenClass → List TokenClass → Type 0 where

@@ -4,7 +4,7 @@ ghost use Rattle.std.specs.Prelude.{◌≡◌, IfOk};
 ghost use Rattle.std.specs.List.{Contains};
 ghost use Rattle.expected_tokens.specs.declared.class.TokenClass.{TokenClass};
 ghost use Rattle.dk_parser.specs.Terminals.{terminal_of};
-ghost use Rattle.expected_tokens.specs.Classes.{class_of, spelling_of, sample_kind};
+ghost use Rattle.expected_tokens.specs.Classes.{class_of, spelling_of, sample_kind, classes};
 
 use dk_base::{OutOfMemory, Text};
 use dk_lexer::{Symbol, TokenKind};
@@ -22,8 +22,8 @@ pub enum TokenClass {
     EndOfText,
 }
 
-/// All classes: keywords, a type, a name, a number, symbols, the end of the text.
-pub const CLASSES: [TokenClass; 42] = [
+// All classes: keywords, a type, a name, a number, symbols, the end of the text.
+pub(crate) const CLASSES: [TokenClass; 42] = [
     TokenClass::Keyword(Keyword::Size),
     TokenClass::Keyword(Keyword::Input),
     TokenClass::Keyword(Keyword::Let),
@@ -118,5 +118,5 @@ pub(crate) fn sample(alloc: Global, class: TokenClass) -> Result<TokenKind, OutO
 /// The token with which a class is tried is of the class. The table of classes has each class.
 pub fn samples_law()
     ensures samples { (c : TokenClass) → class_of (terminal_of (sample_kind c)) ≡ c }
-    ensures all { (c : TokenClass) → Contains CLASSES c }
+    ensures all { (c : TokenClass) → Contains classes c }
 {}

@@ -4,7 +4,7 @@ ghost use Rattle.std.specs.Prelude.{◌≡◌, ◌↔◌, ◌++◌, IsTrue, IfOk
 ghost use Rattle.std.specs.List.{Contains};
 ghost use Rattle.dk_lexer.specs.Faithful.{IsEnded};
 ghost use Rattle.expected_tokens.specs.declared.class.TokenClass.{TokenClass};
-ghost use Rattle.expected_tokens.specs.Classes.{behind};
+ghost use Rattle.expected_tokens.specs.Classes.{behind, classes};
 ghost use Rattle.expected_tokens.specs.Expected.{AreOfAText, CanFollow, AreThose, Grows, tried, GoesOn, StopsBefore};
 
 use crate::class::{CLASSES, TokenClass, sample};
@@ -99,16 +99,29 @@ fn add_class(
     Ok(())
 }
 
+// Those of some classes that can follow the tokens.
+fn those_of(
+    alloc: Global,
+    tokens: &mut Vec<Token>,
+    classes: &[TokenClass],
+) -> Result<Vec<TokenClass>, OutOfMemory>
+    requires { AreOfAText tokens.old.items }
+    ensures { IfOk result (λ found. AreThose (CanFollow tokens.old.items) classes.now found.items) }
+{
+    let mut found = Vec::new(alloc);
+    for class in classes {
+        add_class(alloc, tokens, &mut found, *class)?;
+    }
+    Ok(found)
+}
+
 /// The classes of tokens that can follow these tokens of a text, before its end. They are in the order of the table of classes.
 pub fn expected_tokens(alloc: Global, before: &[Token]) -> Result<Vec<TokenClass>, OutOfMemory>
     requires { AreOfAText before.now }
-    ensures those { IfOk result (λ found. AreThose (CanFollow before.now) CLASSES found.items) }
+    ensures those { IfOk result (λ found. AreThose (CanFollow before.now) classes found.items) }
     ensures exact { IfOk result (λ found. (c : TokenClass) → Contains found.items c ↔ CanFollow before.now c) }
 {
     let mut tokens = copied(alloc, before)?;
-    let mut found = Vec::new(alloc);
-    for class in CLASSES {
-        add_class(alloc, &mut tokens, &mut found, class)?;
-    }
+    let found = those_of(alloc, &mut tokens, &CLASSES)?;
     Ok(found)
 }
