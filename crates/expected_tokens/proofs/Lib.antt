@@ -1,0 +1,4 @@
+mod Table
+mod Tried
+mod Those
+pub mod Texts
