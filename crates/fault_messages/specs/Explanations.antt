@@ -68,7 +68,7 @@ head name line column kind =
     name ++ codes ":" ++ decimal line ++ codes ":" ++ decimal column ++ codes ": error: " ++ kind ++ codes ": "
 
 -- what follows it: lines that any terminal can show, within the limit
-record IsDetail (detail : List ℕ) : Type 0 where
+pub record IsDetail (detail : List ℕ) : Type 0 where
   pub plain : ArePlain detail
   pub ended : (front : List ℕ) × (detail ≡ front ++ 10 ∷ [])
   pub short : length detail ≤ MAX_DETAIL_BYTES
