@@ -153,7 +153,13 @@ fn push_message(
     ensures { OnOk result ((faults : List AnyFault) → AreMessages name.now source.now.text.now faults to.old.items
         → AreMessages name.now source.now.text.now (faults ++ AnyFault.Types found.fault ∷ []) to.new.items) }
 {
-    let bytes = message(alloc, name, source, SourceFault::Types(found.fault), found.types)?;
+    let bytes = message(
+        alloc,
+        name,
+        source,
+        SourceFault::Types(found.fault),
+        found.types,
+    )?;
     to.extend_from_slice(&bytes)?;
     Ok(())
 }

@@ -60,12 +60,14 @@ fn character_help(byte: u8) -> &'static str {
     match byte {
         b';' => "nothing separates definitions or ends a line: leave `;` out",
         b'?' => "write `select(c, p, q)` for `c ? p : q`",
-        b'.' => "numbers are whole: scale them, as `p/4` for 0.25 times p or `(p*77)>>8` for 0.3 times p",
+        b'.' =>
+            "numbers are whole: scale them, as `p/4` for 0.25 times p or `(p*77)>>8` for 0.3 times p",
         b'#' => "a comment begins with `--` and ends with the line",
         b'%' => "there is no remainder: `p & 3` is the remainder of p by 4, for an unsigned p",
         b'~' => "there is no `~`: write `p ^ 255` for a p of `u8`, or `!p` for a p of `u1`",
         b'[' | b']' => "reads and groups have round brackets: `a(x+1,y)`",
-        b'{' | b'}' => "a definition has no braces, and ends with `end`: `let f = im(x,y) a(x,y) end`",
+        b'{' | b'}' =>
+            "a definition has no braces, and ends with `end`: `let f = im(x,y) a(x,y) end`",
         b'\'' => "a number has decimal digits only: write 255 for `8'hff`",
         b'@' | b'$' | b'`' | b'\\' | b'"' => "names have letters, digits and `_` only",
         _ => "",

@@ -42,7 +42,12 @@ fn push_reads(to: &mut PlainText, count: u32) -> Result<(), OutOfMemory> {
 pub(crate) fn push_limit(to: &mut PlainText, fault: SourceFault) -> Result<(), OutOfMemory> {
     match fault {
         SourceFault::TooLong => {
-            push_numbered(to, "the text has more than ", MAX_SOURCE_BYTES as u64, " bytes")?
+            push_numbered(
+                to,
+                "the text has more than ",
+                MAX_SOURCE_BYTES as u64,
+                " bytes",
+            )?
         }
         SourceFault::Nest { span: _ } => push_numbered(
             to,

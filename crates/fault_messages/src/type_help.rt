@@ -1,6 +1,6 @@
 // The lines of help on faults of names and types.
 
-use crate::names::{Unknown, declaration, output, meaning_of};
+use crate::names::{Unknown, declaration, meaning_of, output};
 use crate::types::{Typed, push_type};
 use dk_base::{OutOfMemory, Span, Ty};
 use dk_types::TypeFaultKind;
@@ -38,12 +38,18 @@ fn push_declared(to: &mut PlainText, of: &Typed<'_>) -> Result<(), OutOfMemory> 
 // Adds what helps with a name that denotes no image.
 fn push_unknown_help(to: &mut PlainText, of: &Typed<'_>) -> Result<(), OutOfMemory> {
     match meaning_of(of.source, of.bytes(), of.fault.span) {
-        Unknown::Itself => push_help(to, "there is no feedback: an image reads inputs and earlier images only")?,
+        Unknown::Itself => push_help(
+            to,
+            "there is no feedback: an image reads inputs and earlier images only",
+        )?,
         Unknown::Later(span) => {
             push_place_help(to, of, "move the definition ", span)?;
             to.push(" before the one that reads it")?;
         }
-        Unknown::Nothing if of.is_output() => push_help(to, "an output is an input or a definition")?,
+        Unknown::Nothing if of.is_output() => push_help(
+            to,
+            "an output is an input or a definition",
+        )?,
         Unknown::Nothing => push_help(to, "an image reads inputs and earlier definitions")?,
     }
     Ok(())

@@ -45,6 +45,6 @@ pub within_line : (text line : List ℕ) (k : ℕ) → k < length text → is_li
 within_line text line k h e i =
     let rest : drop k text ≡ get_or text k 0 ∷ drop (k + 1) text = rw (add-one, drop-cons text k 0 h) in
     let grown : last_line (take (k + 1) text) ≡ last_line (take k text) ++ get_or text k 0 ∷ [] =
-        ap last_line (take_more text k 0 h) ∙ last_grows (take k text) (get_or text k 0) e in
+    ap last_line (take_more text k 0 h) ∙ last_grows (take k text) (get_or text k 0) e in
     i ∙ (ap (λ r. last_line (take k text) ++ r) rest
     ∙ sym (ap (λ l. l ++ drop (k + 1) text) grown ∙ append_assoc (last_line (take k text)) (get_or text k 0 ∷ []) (drop (k + 1) text)))

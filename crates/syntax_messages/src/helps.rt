@@ -9,8 +9,10 @@ use source_words::Keyword;
 fn spelling_help(mistake: Mistake) -> &'static str {
     match mistake {
         Mistake::Comment => "a comment begins with `--` and ends with the line",
-        Mistake::DoubledAnd => "write one `&`, with each comparison in brackets: `(p < q) & (r < s)`",
-        Mistake::DoubledOr => "write one `|`, with each comparison in brackets: `(p < q) | (r < s)`",
+        Mistake::DoubledAnd =>
+            "write one `&`, with each comparison in brackets: `(p < q) & (r < s)`",
+        Mistake::DoubledOr =>
+            "write one `|`, with each comparison in brackets: `(p < q) | (r < s)`",
         Mistake::Power => "there is no power: write `p*p`, or `p<<3` for p times 8",
         Mistake::Assignment => "write `==` for a comparison",
         Mistake::Radix => "numbers are decimal",
@@ -53,13 +55,16 @@ fn expression_help(mistake: Mistake) -> &'static str {
         Mistake::Coordinate => {
             "`x` and `y` are not values, and occur only in reads: pass the coordinates as an input image"
         }
-        Mistake::EdgeAfterOther => "`edge clamp` belongs to one read: write it after each, as in `a(x-1,y) edge clamp`",
+        Mistake::EdgeAfterOther =>
+            "`edge clamp` belongs to one read: write it after each, as in `a(x-1,y) edge clamp`",
         Mistake::OtherEdge => {
             "the edge is `edge clamp`, or nothing: a read outside the frame is then 0"
         }
-        Mistake::Condition => "there is no `if`: write `select(c, p, q)`, which is p where c is 1, and q elsewhere",
+        Mistake::Condition =>
+            "there is no `if`: write `select(c, p, q)`, which is p where c is 1, and q elsewhere",
         Mistake::NoOperator => "an operator is missing between two operands",
-        Mistake::NoRead => "an image is read at a point, as `a(x,y)`; there are no other names of values",
+        Mistake::NoRead =>
+            "an image is read at a point, as `a(x,y)`; there are no other names of values",
         Mistake::Unclosed => "",
         Mistake::Unopened => "no bracket is open here",
         Mistake::TooManyOperands(function) => operands_help(function, true),
@@ -78,7 +83,8 @@ fn read_help(mistake: Mistake) -> &'static str {
         Mistake::OtherCoordinate => "the coordinates are always `x` and `y`: `a(x+1,y)`",
         Mistake::OneCoordinate => "a read has both coordinates: `a(x,y)`",
         Mistake::ThirdCoordinate => "a read has two coordinates: `a(x,y)`",
-        Mistake::TwoOffsets => "an offset is one number after one sign: write `a(x+3,y)` for `a(x+1+2,y)`",
+        Mistake::TwoOffsets =>
+            "an offset is one number after one sign: write `a(x+3,y)` for `a(x+1+2,y)`",
         Mistake::NamedOffset => "an offset is a number: `a(x+1,y)`",
         Mistake::ImCoordinates => "an image function is written `im(x,y) .. end`",
         _ => "",
@@ -91,10 +97,12 @@ fn item_help(mistake: Mistake) -> &'static str {
             "the text is empty; a program is like `size 640 480 input a : u8 let f = im(x,y) a(x,y) end output f`"
         }
         Mistake::NoSize => "a program begins with its frame: `size 640 480`",
-        Mistake::SizeSides => "the frame has two numbers, with a blank between them: `size 640 480`",
+        Mistake::SizeSides =>
+            "the frame has two numbers, with a blank between them: `size 640 480`",
         Mistake::NoInput => "a program has one input or more: `input a : u8`",
         Mistake::LateInput => "inputs come first, right after the size",
-        Mistake::LateDefinition => "definitions come before the outputs: move the `output` lines to the end",
+        Mistake::LateDefinition =>
+            "definitions come before the outputs: move the `output` lines to the end",
         Mistake::InputList => "write `input` for each: `input a : u8 input b : u8`",
         Mistake::OutputList => "write `output` for each: `output f output g`",
         Mistake::ExtraEnd => "no definition is open here",
@@ -105,7 +113,8 @@ fn item_help(mistake: Mistake) -> &'static str {
 
 fn name_help(mistake: Mistake) -> &'static str {
     match mistake {
-        Mistake::NoLet => "a definition begins with `let` or `inline let`: `let f = im(x,y) a(x,y) end`",
+        Mistake::NoLet =>
+            "a definition begins with `let` or `inline let`: `let f = im(x,y) a(x,y) end`",
         Mistake::OtherItem => {
             "a definition begins with `let` or `inline let`, and an output with `output`"
         }

@@ -91,24 +91,13 @@ fn word_mistake(a: &Around<'_>) -> Mistake {
 // What stands where an input, a definition or an output could begin.
 fn item_mistake(a: &Around<'_>) -> Option<Mistake> {
     match a.found {
-        TokenClass::EndOfText if !a.expects_keyword(Keyword::Output) => Some(Mistake::NoInput),
         TokenClass::EndOfText => Some(Mistake::NoOutput),
-        TokenClass::Keyword(Keyword::Let | Keyword::Inline | Keyword::Output)
-            if !a.expects_keyword(Keyword::Output) =>
-        {
-            Some(Mistake::NoInput)
-        }
         TokenClass::Keyword(Keyword::Let | Keyword::Inline) => Some(Mistake::LateDefinition),
         TokenClass::Keyword(Keyword::Input) => Some(Mistake::LateInput),
         TokenClass::Keyword(Keyword::End) => Some(Mistake::ExtraEnd),
         TokenClass::Name if a.expects_keyword(Keyword::Let) => Some(word_mistake(a)),
         _ => None,
     }
-}
-
-// Whether an input, a definition or an output could begin there.
-fn expects_item(a: &Around<'_>) -> bool {
-    a.expects_keyword(Keyword::Output) || a.expects_keyword(Keyword::Input)
 }
 
 /// The mistake of the items of a program.
@@ -126,7 +115,11 @@ pub(crate) fn program_mistake(a: &Around<'_>) -> Option<Mistake> {
         name_mistake(a)
     } else if a.expects_only(TokenClass::Keyword(Keyword::Im)) {
         Some(Mistake::NoIm)
-    } else if expects_item(a) {
+    } else if a.expects_only(TokenClass::Keyword(Keyword::Let)) {
+        Some(Mistake::NoLet)
+    } else if a.expects_only(TokenClass::Keyword(Keyword::Input)) {
+        Some(Mistake::NoInput)
+    } else if a.expects_keyword(Keyword::Output) {
         item_mistake(a)
     } else {
         None

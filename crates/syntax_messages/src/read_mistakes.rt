@@ -58,7 +58,8 @@ fn follows_coordinate(a: &Around<'_>) -> bool {
 
 // Whether only a coordinate could stand there.
 fn expects_coordinate(a: &Around<'_>) -> bool {
-    a.expects_only(TokenClass::Keyword(Keyword::X)) || a.expects_only(TokenClass::Keyword(Keyword::Y))
+    a.expects_only(TokenClass::Keyword(Keyword::X))
+        || a.expects_only(TokenClass::Keyword(Keyword::Y))
 }
 
 /// The mistake of a read, or of the coordinates after `im`.
@@ -84,11 +85,10 @@ pub(crate) fn read_mistake(a: &Around<'_>) -> Option<Mistake> {
 // The token after the number of a division or a shift, or in its place.
 fn number_mistake(a: &Around<'_>) -> Option<Mistake> {
     match (a.second, a.first) {
-        (TokenClass::Symbol(Symbol::Slash | Symbol::ShiftLeft | Symbol::ShiftRight), TokenClass::Number)
-            if is_operator(a.found) && !is_comparison(a.found) =>
-        {
-            Some(Mistake::AfterNumber)
-        }
+        (
+            TokenClass::Symbol(Symbol::Slash | Symbol::ShiftLeft | Symbol::ShiftRight),
+            TokenClass::Number,
+        ) if is_operator(a.found) && !is_comparison(a.found) => { Some(Mistake::AfterNumber) }
         (_, TokenClass::Symbol(Symbol::Slash)) => Some(Mistake::Divisor),
         (_, TokenClass::Symbol(Symbol::ShiftLeft | Symbol::ShiftRight)) => Some(Mistake::Shift),
         _ => None,
@@ -151,7 +151,9 @@ pub(crate) fn expression_mistake(a: &Around<'_>) -> Option<Mistake> {
         operand_mistake(a)
     } else if a.expects_operator() {
         operator_mistake(a)
-    } else if a.expects_only(TokenClass::Symbol(Symbol::Open)) && matches!(a.first, TokenClass::Name) {
+    } else if a.expects_only(TokenClass::Symbol(Symbol::Open))
+        && matches!(a.first, TokenClass::Name)
+    {
         Some(if is_text(a.bytes_before(), b"if") {
             Mistake::Condition
         } else {

@@ -21,9 +21,7 @@ fn is_pair(a: &Around<'_>, before: Symbol, symbol: Symbol) -> bool {
 fn is_pair_after(a: &Around<'_>, symbol: Symbol, after: Symbol) -> bool {
     match (a.found, a.next) {
         (TokenClass::Symbol(found), TokenClass::Symbol(next)) => {
-            found == symbol
-                && next == after
-                && touches(a.source.tokens, a.place.saturating_add(1))
+            found == symbol && next == after && touches(a.source.tokens, a.place.saturating_add(1))
         }
         _ => false,
     }

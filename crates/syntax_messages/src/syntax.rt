@@ -98,9 +98,11 @@ fn push_sentence(
     expected: &[TokenClass],
 ) -> Result<(), OutOfMemory> {
     let place = token_at(source.tokens, span);
-    to.push("expected ")?;
-    push_expected(to, alloc, expected, class_at(source.tokens, place))?;
-    to.push(", ")?;
+    if !expected.is_empty() {
+        to.push("expected ")?;
+        push_expected(to, alloc, expected, class_at(source.tokens, place))?;
+        to.push(", ")?;
+    }
     push_found(to, source, place)?;
     Ok(())
 }
