@@ -6,7 +6,8 @@ ghost use Rattle.source_fault.specs.declared.fault.SourceFault.{SourceFault as A
 ghost use Rattle.source_places.specs.Places.{line_of, column_of};
 ghost use Rattle.fault_messages.specs.Explanations.{lexer_word as word_of_lexer, types_word as word_of_types, kind_word as word_of_kind, start_of, head as head_of, IsDetail, IsMessage, AreMessages, IsExplanation};
 
-use crate::detail::detail;
+use crate::MAX_MESSAGES;
+use crate::details::detail;
 use dk_base::OutOfMemory;
 use dk_lexer::{LexError, LexKind, Token, lex};
 use dk_parser::{ParseError, parse};
@@ -17,12 +18,6 @@ use source_places::{Place, place_of};
 use std::alloc::{AllocError, Global};
 use syntax_messages::Source;
 use type_faults::{FoundFault, FoundTypes, type_faults};
-
-/// The greatest number of messages of an explanation.
-pub const MAX_MESSAGES: usize = 20;
-
-/// The greatest length of what a message has after its head, in bytes.
-pub const MAX_DETAIL_BYTES: usize = 2_048;
 
 fn lexer_word(kind: LexKind) -> &'static str
     ensures { result.now ≡ word_of_lexer kind }

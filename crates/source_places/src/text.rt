@@ -3,13 +3,11 @@
 ghost use Rattle.std.specs.Prelude.{◌≡◌, ◌≤◌, [], IsTrue, ◌↔◌, length, IfOk};
 ghost use Rattle.source_places.specs.Plain.{is_plain as plain};
 
+use crate::MAX_PLAIN_BYTES;
 use dk_base::OutOfMemory;
 use itoa::Buffer;
 use std::alloc::Global;
 use std::marker::Model;
-
-/// The greatest length of a `PlainText`, in bytes.
-pub const MAX_PLAIN_BYTES: usize = 2_047;
 
 /// Text that any terminal can show: each byte is LF or printable ASCII, and there are at most `MAX_PLAIN_BYTES`. What is added and is not plain, or does not fit, is left out.
 #[derive(Drop)]

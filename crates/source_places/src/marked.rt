@@ -1,7 +1,7 @@
 // Excerpts of a text.
 
-use crate::place::{front, last_line, place_of};
-use crate::plain::PlainText;
+use crate::position::{front, last_line, place_of};
+use crate::text::PlainText;
 use dk_base::{OutOfMemory, Span};
 use std::alloc::Global;
 
