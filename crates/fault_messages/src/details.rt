@@ -1,0 +1,73 @@
+// What a message has after its head: a sentence, an excerpt and help.
+
+use crate::lexical::{push_lexical, push_lexical_help};
+use crate::limits::{push_limit, push_limit_help};
+use crate::type_help::push_type_help;
+use crate::types::{Typed, push_typed};
+use dk_base::{OutOfMemory, Span};
+use source_fault::SourceFault;
+use source_places::PlainText;
+use std::alloc::Global;
+use syntax_messages::{Source, push_excerpt, push_syntax};
+use type_faults::FoundTypes;
+
+// On a fault of types.
+fn push_typed_detail(to: &mut PlainText, alloc: Global, of: &Typed<'_>) -> Result<(), OutOfMemory> {
+    push_typed(to, of)?;
+    push_excerpt(to, alloc, of.source, of.fault.span)?;
+    push_type_help(to, of)?;
+    Ok(())
+}
+
+// The span of a fault that is over a limit.
+fn limit_span(fault: SourceFault) -> Option<Span> {
+    match fault {
+        SourceFault::Nest { span } => Some(span),
+        SourceFault::Depth { span } => Some(span),
+        SourceFault::InlineDepth { span } => Some(span),
+        _ => None,
+    }
+}
+
+// On a program over a limit.
+fn push_limit_detail(
+    to: &mut PlainText,
+    alloc: Global,
+    source: &Source<'_>,
+    fault: SourceFault,
+) -> Result<(), OutOfMemory> {
+    push_limit(to, fault)?;
+    if let Some(span) = limit_span(fault) {
+        push_excerpt(to, alloc, source, span)?;
+    }
+    push_limit_help(to, fault)?;
+    Ok(())
+}
+
+/// The sentence on a fault, the excerpt of its span, and the lines of help. `types` are those at a fault of types.
+pub(crate) fn detail(
+    alloc: Global,
+    source: &Source<'_>,
+    fault: SourceFault,
+    types: FoundTypes,
+) -> Result<PlainText, OutOfMemory> {
+    let mut to = PlainText::new(alloc);
+    match fault {
+        SourceFault::Lex(fault) => {
+            push_lexical(&mut to, source.text, fault)?;
+            push_excerpt(&mut to, alloc, source, fault.span)?;
+            push_lexical_help(&mut to, source.text, fault)?;
+        }
+        SourceFault::Syntax { span } => push_syntax(&mut to, alloc, source, span)?,
+        SourceFault::Types(fault) => {
+            let of = Typed {
+                source,
+                fault,
+                types,
+            };
+            push_typed_detail(&mut to, alloc, &of)?;
+        }
+        _ => push_limit_detail(&mut to, alloc, source, fault)?,
+    }
+    Ok(to)
+}

@@ -1,0 +1,128 @@
+// What could stand at a place, in words.
+
+use crate::classes::{begins_operand, is_operator, is_same, keyword_text, symbol_text};
+use dk_base::OutOfMemory;
+use dk_lexer::Symbol;
+use expected_tokens::TokenClass;
+use source_places::PlainText;
+use std::alloc::Global;
+
+// The most classes that a list names.
+const MOST_NAMED: usize = 8;
+
+// A part of the list.
+#[derive(Clone, Copy)]
+enum Item {
+    Expression,
+    Class(TokenClass),
+    Operator,
+    // An operator where another one was found.
+    OtherOperator,
+}
+
+fn contains(classes: &[TokenClass], class: TokenClass) -> bool {
+    for other in classes {
+        if is_same(*other, class) {
+            return true;
+        }
+    }
+    false
+}
+
+// Whether an operand may begin there.
+fn has_operand(classes: &[TokenClass]) -> bool {
+    contains(classes, TokenClass::Name) && contains(classes, TokenClass::Number)
+}
+
+// Whether an operator may stand there.
+fn has_operator(classes: &[TokenClass]) -> bool {
+    contains(classes, TokenClass::Symbol(Symbol::Bar))
+}
+
+// Whether the class is named by itself.
+fn is_named(classes: &[TokenClass], class: TokenClass) -> bool {
+    !(has_operand(classes) && begins_operand(class))
+        && !(has_operator(classes) && is_operator(class))
+}
+
+// The classes that are named by themselves, and words for the others.
+fn items(
+    alloc: Global,
+    classes: &[TokenClass],
+    found: TokenClass,
+) -> Result<Vec<Item>, OutOfMemory> {
+    let mut items = Vec::new(alloc);
+    if has_operand(classes) {
+        items.push(Item::Expression)?;
+    }
+    for class in classes {
+        if is_named(classes, *class) && items.len() < MOST_NAMED {
+            items.push(Item::Class(*class))?;
+        }
+    }
+    if has_operator(classes) {
+        items.push(if is_operator(found) {
+            Item::OtherOperator
+        } else {
+            Item::Operator
+        })?;
+    }
+    Ok(items)
+}
+
+// Adds a class.
+fn push_class(to: &mut PlainText, class: TokenClass) -> Result<(), OutOfMemory> {
+    match class {
+        TokenClass::Type => to.push("a type")?,
+        TokenClass::Name => to.push("a name")?,
+        TokenClass::Number => to.push("a number")?,
+        TokenClass::EndOfText => to.push("the end of the text")?,
+        TokenClass::Keyword(keyword) => {
+            to.push("`")?;
+            to.push(keyword_text(keyword))?;
+            to.push("`")?;
+        }
+        TokenClass::Symbol(symbol) => {
+            to.push("`")?;
+            to.push(symbol_text(symbol))?;
+            to.push("`")?;
+        }
+    }
+    Ok(())
+}
+
+fn push_item(to: &mut PlainText, item: Item) -> Result<(), OutOfMemory> {
+    match item {
+        Item::Expression => to.push("an expression")?,
+        Item::Operator => to.push("an operator")?,
+        Item::OtherOperator => to.push("another operator")?,
+        Item::Class(class) => push_class(to, class)?,
+    }
+    Ok(())
+}
+
+// What is before an item of a list of this length.
+fn separator(place: usize, length: usize) -> &'static str {
+    if place == 0 {
+        ""
+    } else if place.saturating_add(1) < length {
+        ", "
+    } else {
+        " or "
+    }
+}
+
+/// Adds what could stand at a place in place of what was found, as `a, b or c`.
+pub(crate) fn push_expected(
+    to: &mut PlainText,
+    alloc: Global,
+    classes: &[TokenClass],
+    found: TokenClass,
+) -> Result<(), OutOfMemory> {
+    let items = items(alloc, classes, found)?;
+    for (place, item) in items.iter().enumerate() {
+        to.push(separator(place, items.len()))?;
+        push_item(to, *item)?;
+    }
+    Ok(())
+}
