@@ -33,7 +33,7 @@ pub(super) enum Judged {
 }
 
 // A fault with its explanation.
-fn refused(alloc: Global, name: &str, text: &[u8], fault: SourceFault) -> Result<Judged, Ending>
+fn explained(alloc: Global, name: &str, text: &[u8], fault: SourceFault) -> Result<Judged, Ending>
     ensures refused { IfOk result (IsRefusedFor name.now text.now fault) }
     ensures memory { IfErr result (λ e. e ≡ Ending.Memory) }
 {
@@ -44,7 +44,7 @@ fn refused(alloc: Global, name: &str, text: &[u8], fault: SourceFault) -> Result
 }
 
 // Judges a text at age 0.
-fn judged(alloc: Global, name: &str, text: &[u8]) -> Result<Judged, Ending>
+fn judge_text(alloc: Global, name: &str, text: &[u8]) -> Result<Judged, Ending>
     ensures judged { IfOk result (IsJudgedAs name.now text.now) }
     ensures untold { length text.now ≤ MAX_SOURCE_BYTES → IfOk result TellsNoLength }
     ensures memory { IfErr result (λ e. e ≡ Ending.Memory) }
@@ -52,7 +52,7 @@ fn judged(alloc: Global, name: &str, text: &[u8]) -> Result<Judged, Ending>
     one_at_age_law();
     match planned(alloc, text, 0) {
         Ok(_) => Ok(Judged::Accepted),
-        Err(SourceError::Fault(fault)) => refused(alloc, name, text, fault),
+        Err(SourceError::Fault(fault)) => explained(alloc, name, text, fault),
         Err(SourceError::OutOfMemory) => Err(Ending::Memory),
     }
 }
@@ -72,8 +72,8 @@ fn read_judged<D: Desk>(alloc: Global, desk: &mut D, name: &str) -> Result<Judge
         (D.outside desk.new).input_failures }
 {
     match read_input(alloc, desk, InSlot::Program, name, MAX_SOURCE_BYTES) {
-        Ok(text) => judged(alloc, name, &text),
-        Err(ReadAll::TooLong) => refused(alloc, name, &[], SourceFault::TooLong),
+        Ok(text) => judge_text(alloc, name, &text),
+        Err(ReadAll::TooLong) => explained(alloc, name, &[], SourceFault::TooLong),
         Err(ReadAll::Failed) => Err(Ending::ReadFault),
         Err(ReadAll::OutOfMemory) => Err(Ending::Memory),
     }
