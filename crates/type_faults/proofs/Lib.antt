@@ -1,1 +1,2 @@
+mod Convert
 mod Ordered

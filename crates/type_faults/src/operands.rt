@@ -64,7 +64,8 @@ pub(crate) fn operands_of(e: Expr) -> Option<Parts> {
         Node::Unary(_, a) | Node::Scale(_, a, _) | Node::Cast(a, _) | Node::Sat(a, _) => {
             Some(Parts::One(Box::into_inner(a)))
         }
-        Node::Binary(_, a, b) | Node::Select(_, a, b) => {
+        Node::Binary(_, a, b) => Some(Parts::Two(Box::into_inner(a), Box::into_inner(b))),
+        Node::Select(_condition, a, b) => {
             Some(Parts::Two(Box::into_inner(a), Box::into_inner(b)))
         }
     }
