@@ -7,7 +7,7 @@ use Rattle.fault_messages.proofs.listing.push_message.Goals as goal
 pub returns : goal.returns
 returns c = λ faults before.
     let grown : c.extend_from_slice.new.self.items ≡ c.args.to.now.items ++ c.in_ok-bytes.bytes.items =
-        cc (c.in_ok-extend_from_slice.ensures.items, c.deref.ensures.value) in
+    cc (c.in_ok-extend_from_slice.ensures.items, c.deref.ensures.value) in
     let P : List ℕ → Type 0 = λ bytes. AreMessages c.args.name.now c.args.source.now.text.now (faults ++ fault.Types c.args.found.fault ∷ []) bytes in
     subst P (sym grown)
     (more_messages c.args.name.now c.args.source.now.text.now faults (fault.Types c.args.found.fault) c.args.to.now.items c.in_ok-bytes.bytes.items
