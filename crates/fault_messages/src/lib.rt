@@ -2,9 +2,9 @@
 #![tactic(auto)]
 
 mod details;
-mod listing;
 mod lexical;
 mod limits;
+mod listing;
 mod names;
 mod type_help;
 mod types;
