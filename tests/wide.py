@@ -10,7 +10,7 @@ definitions with that of the phases and columns that the reads of the source nee
 - Programs near a limit are at it when they are widened, or one above it and then refused: definitions, live reads, nodes, depth, bytes, buffer bits.
 - Each fault is tried once. `Limits` must not occur but for programs that are over a limit when they are widened.
 
-Ends with status 1 if something is wrong. It takes some minutes.
+Ends with status 1 if something is wrong. It takes about a minute.
 
 usage: tests/wide.py PROGRAM [COUNT [SEED]]      COUNT random programs, 200 by default
 """
@@ -108,7 +108,7 @@ def definitions(text, phases):
 
 
 def nodes(text):
-    """The nodes of a program after inlining, each operator and each read. Its text has at most one definition in a line."""
+    """The nodes of a program after inlining: each operator, number and read. No two definitions are in one line."""
     inlined, total = {}, 0
     for inline, name, body in re.findall(r"(?s)(inline )?let (\w+)[^=]*= im\(x,y\)(.*?) end\n", bare(text)):
         count = sum(1 + inlined.get(read[0], 0) for read in READ.findall(body))
@@ -184,7 +184,7 @@ class Counts:
         self.texts = self.over = 0
 
     def try_source(self, calls, source, text, what):
-        """Tries p.dk or cut.dk, which shows p.dk's pictures of in.pgm. Those of `widen` are tried in each number of phases that its frame and its ports allow."""
+        """Tries p.dk or cut.dk, which must show p.dk's pictures of in.pgm, at each number of phases that its frame and its ports allow."""
         wanted = calls.pictures(source)
         if wanted is None or wanted != calls.pictures("p.dk"):
             calls.refuse(f"{what}, {source}: it does not show the pictures of its source")
