@@ -32,9 +32,10 @@ TOP = os.path.dirname(os.path.dirname(os.path.abspath(__file__)))
 FOLDER = os.path.join(TOP, "examples", "pipelines")
 SIZE = (1920, 1080)
 OPTIONS = ["--age", "1", "--block", "32"]
-SYNTHESIS = "synth_ecp5 -noccu2 -top dk"
-KINDS = ["LUT4", "TRELLIS_FF", "DP16KD", "MULT18X18D"]
-HEADS = ["LUTs", "flip-flops", "block memories", "multipliers"]
+SYNTHESIS = "synth_ecp5 -top dk"
+# how many of each column a cell is: a carry cell takes the place of two look-up tables
+COLUMNS = {"LUTs": {"LUT4": 1, "CCU2C": 2}, "LUT RAM": {"TRELLIS_DPR16X4": 1}, "flip-flops": {"TRELLIS_FF": 1}, "block memories": {"DP16KD": 1},
+           "multipliers": {"MULT18X18D": 1}}
 CAST = re.compile(r"\s+as\s+[us][0-9]+")
 
 
@@ -105,7 +106,7 @@ def texts_of(folder, name, picture):
 
 
 def cells(text, minutes):
-    """The cells of a text of `compile` by kind, or why there are none."""
+    """The cells of a text of `compile` by column, or why there are none."""
     def limited():
         resource.setrlimit(resource.RLIMIT_CPU, (60 * minutes, 60 * minutes + 5))
 
@@ -119,7 +120,7 @@ def cells(text, minutes):
             return f"over {minutes} minutes" if said.returncode == -signal.SIGXCPU else "ended by Yosys"
         with open(f"{work}/cells.json", encoding="ascii") as file:
             found = json.load(file)["design"]["num_cells_by_type"]
-    return [found.get(kind, 0) for kind in KINDS]
+    return [sum(each * found.get(kind, 0) for kind, each in kinds.items()) for kinds in COLUMNS.values()]
 
 
 def rows(program, names, given):
@@ -140,7 +141,7 @@ def rows(program, names, given):
         texts = [text, SYNTHESIS, section.version("yosys", "-V")]
         found = kept.result(texts, lambda: cells(text, given.minutes), lambda result: isinstance(result, str))
         print("narrowing:", name, title, bits, found, file=sys.stderr, flush=True)
-        counts = [found] + ["–"] * (len(KINDS) - 1) if isinstance(found, str) else [f"{count:,}" for count in found]
+        counts = [found] + ["–"] * (len(COLUMNS) - 1) if isinstance(found, str) else [f"{count:,}" for count in found]
         return "| " + " | ".join([name, title, f"{bits:,}", *counts]) + " |"
 
     with concurrent.futures.ThreadPoolExecutor(given.jobs) as pool:
@@ -156,7 +157,7 @@ def main():
     words.add_argument("program")
     words.add_argument("names", nargs="*")
     given = words.parse_args()
-    heads = ["Program", "Text", "buffer bits", *HEADS]
+    heads = ["Program", "Text", "buffer bits", *COLUMNS]
     lines = ["| " + " | ".join(heads) + " |", "|" + "---|" * len(heads), *rows(os.path.abspath(given.program), given.names, given)]
     if not given.write:
         print("\n".join(lines))
