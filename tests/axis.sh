@@ -1,6 +1,6 @@
 #!/bin/sh
 # AXI4-Stream blocks: tools/axis of every example as it is, of some in frames of 40 by 12 with `--block 2` or `--block 32`, and of
-# programs with outputs of different latencies, whose tests have a consumer that joins the outputs.
+# programs with outputs of different latencies, whose tests have a consumer that joins the outputs. Some have several pixels in a word.
 # `make test` of each runs its cases under the simulators that are installed; most cases have random stalls.
 # The core files of some blocks are run as FuseSoC would (cores.py), if PyYAML is installed.
 # Verilator's lint must be clean but for the forms that docs/HARDWARE.md lists for the module of `compile`.
@@ -85,19 +85,21 @@ lints() {
     passed=$((passed + 1))
 }
 
-# changed PROGRAM FILE WHAT OLD NEW: the tests of the block of this program must refuse this change of a file
+# changed PROGRAM FILE WHAT OLD NEW [OPTION..]: the tests of the block of this program must refuse this change of a file
 changed() {
+    program=$1 file=$2 what=$3 old=$4 new=$5
+    shift 5
     rm -rf "$work/block"
-    "$top/tools/axis" "$work/$1.dk" "$work/block" --block 2 >/dev/null
-    grep -qF "$4" "$work/block/$2" || { wrong "$2 has no '$4'"; return; }
-    python3 - "$work/block/$2" "$4" "$5" <<'PYTHON'
+    "$top/tools/axis" "$work/$program.dk" "$work/block" --block 2 "$@" >/dev/null
+    grep -qF "$old" "$work/block/$file" || { wrong "$file has no '$old'"; return; }
+    python3 - "$work/block/$file" "$old" "$new" <<'PYTHON'
 import sys
 path, old, new = sys.argv[1:]
 text = open(path).read()
 open(path, "w").write(text.replace(old, new, 1))
 PYTHON
     if make -s -C "$work/block" test >/dev/null 2>&1; then
-        wrong "$3 is not noticed"
+        wrong "$what is not noticed"
     else
         passed=$((passed + 1))
     fi
@@ -183,6 +185,16 @@ let f = im(x,y) (a(x,y) >= 0) & (a(x,y) > 700) end
 output f
 DK
 printf 'size 1 1\ninput a : u8\noutput a\n' >"$work/dot.dk"
+# With four pixels in a word a line is one word: the first pixel of the first output comes three clocks after the others of its word.
+cat >"$work/waits.dk" <<'DK'
+size 4 6
+input a : u11
+input b : u3
+let f = im(x,y) (a(x+3,y+3) + b(x,y)) as u9 end
+let g = im(x,y) b(x+2,y) edge clamp == a(x-1,y) end
+output f
+output g
+DK
 # early, then blur of latency 9 after its second output, then the difference from its first one
 blur='im(x,y) ((g(x-1,y-1) + g(x+1,y+1)) / 2) as u8 end'
 difference='im(x,y) abs(b(x,y) - f(x,y)) as u8 end'
@@ -216,6 +228,16 @@ tried "$work/dot.dk"
 sed 's/^size .*/size -- 8 4\n640--size 2 2\n  480/' "$top/examples/programs/sobel.dk" >"$work/large.dk"
 tried "$work/large.dk" --block 32
 core
+# several pixels in a word; of the copy for tests of the large frame, a line has whole words too
+tried "$work/sobel.dk" --pixels 2
+tried "$work/sobel.dk" --pixels 4 --age 1 --block 2
+tried "$work/sobel.dk" --pixels 8 --fifo 5
+tried "$work/two_cameras.dk" --pixels 2
+tried "$work/two_cameras.dk" --pixels 4 --age 1
+tried "$work/waits.dk" --pixels 4
+tried "$work/waits.dk" --pixels 2 --age 1
+tried "$work/large.dk" --pixels 5 --block 32
+core
 
 # WORDS as docs/HARDWARE.md has it: the latency and 4; with fewer words than the latency the system must hang
 if meets 13; then
@@ -234,6 +256,11 @@ for name in point dot sobel early pairs; do
     lints "$work/$name.dk" --age 1
     lints "$work/$name.dk" --fifo 3
     lints "$work/$name.dk" --fifo 100
+done
+
+for name in sobel waits; do
+    lints "$work/$name.dk" --pixels 2
+    lints "$work/$name.dk" --pixels 4 --age 1
 done
 
 # a code of `state` that is no state resets the core and the count; a block of latency 0 has one
@@ -280,6 +307,10 @@ changed sobel sobel_pair.v 'an output that changes while it waits' 'if (take) q'
 changed early early_axis.v 'a consumer that joins the outputs waits for ever' ".LAST(4'd8)" ".LAST(4'd6)"
 changed early early_axis.v 'an early output that shows a pixel too many in a flush' 'valid0 & ~flush' 'valid0'
 changed early early_fifo.v 'a word that is put into a full FIFO' 'assign room = ~full;' "assign room = 1'b1;"
+changed sobel sobel_axis.v 'pixels of a word at the wrong places' 'dout1, early0' 'early0, dout1' --pixels 2
+changed sobel sobel_axis.v 'a pixel that does not wait for its word' 'dout1, early0' 'dout1, dout0' --pixels 2
+changed waits waits_axis.v 'a pixel that waits a clock less than its word' 'early1[26:18]' 'early1[17:9]' --pixels 4
+changed sobel sobel_axis.v 'one pixel of a cut frame that is filled up with another pixel than 0' 's_axis_tdata[15:8] & {8{~fill}}' 's_axis_tdata[15:8]' --pixels 2
 
 none=$work/none
 printf 'size 1 1\ninput a : u8\nlet f = im(x,y) b(x,y) end\noutput f\n' >"$work/unknown.dk"
@@ -296,6 +327,9 @@ refused 'a name of other letters' 1 "axis: 'müller' is not a name of Verilog: g
     "$work/early.dk" "$none" --name müller
 refused 'a FIFO of one word' 2 'tools/axis: error: argument --fifo: 1 is not a number from 2 to 16,777,216' "$work/early.dk" "$none" --fifo 1
 refused 'a FIFO of more words than a frame has pixels' 2 'tools/axis: error: argument --fifo: 16777217 is not a number from 2 to 16,777,216' "$work/early.dk" "$none" --fifo 16777217
+refused 'words that do not fill a line' 11 'widen: Width 40' "$work/sobel.dk" "$none" --pixels 3
+refused 'more pixels in a word than there are ports' 11 'widen: Inputs 16' "$work/two_cameras.dk" "$none" --pixels 8
+refused 'a word of nine pixels' 2 'tools/axis: error: argument --pixels: 9 is not a number from 1 to 8' "$work/sobel.dk" "$none" --pixels 9
 refused 'an age that no circuit has' 2 'tools/axis: error: argument --age: 65 is not a number from 0 to 64' "$work/early.dk" "$none" --age 65
 rm -rf "$work/block"
 accepted 'a name with a letter outside ASCII' "$work/block/m_ller_axis.v" "$top/tools/axis" "$work/müller.dk" "$work/block"
@@ -310,12 +344,18 @@ grep -q 'frames of 64 by 3,' "$work/block/test/small.v" || wrong 'the copy of a 
 rm -rf "$work/block"
 ln -s "$top/tools/axis" "$work/link"
 accepted 'a call by a symbolic link' "$work/block/early_axis.v" "$work/link" "$work/early.dk" "$work/block"
-for option in --age --block --name --fifo PROG OUT_DIR; do
+for option in --age --block --pixels --name --fifo PROG OUT_DIR; do
     "$top/tools/axis" --help >"$work/said"
     grep -q "^  $option.*[a-z]" "$work/said" || wrong "--help does not explain $option"
 done
 # 8 words by which the early output leads and 2, and 2 of the late one, of 8 bits, tuser and tlast; 16 words of 8 bits in line buffers
 "$top/tools/axis" "$work/early.dk" "$work/block" >"$work/said"
 grep -q '128 bits of line buffers (the plan), 120 bits of FIFOs' "$work/said" || wrong 'the bits of the FIFOs are not printed'
+cp -R "$work/block" "$work/without"
+"$top/tools/axis" "$work/early.dk" "$work/block" --pixels 1 >/dev/null
+diff -r "$work/without" "$work/block" >/dev/null || wrong 'one pixel in a word is not the block without --pixels'
+# words of two pixels: 4 by which the early output leads and 2, and 2 of the late one, of 16 bits, tuser and tlast
+"$top/tools/axis" "$work/early.dk" "$work/block" --pixels 2 >"$work/said"
+grep -q '2 pixels in a word; 128 bits of line buffers (the plan), 144 bits of FIFOs' "$work/said" || wrong "the bits of the FIFOs of two pixels are not printed: $(cat "$work/said")"
 echo "$passed passed, $failed failed"
 [ $failed = 0 ]

@@ -2,8 +2,9 @@
 """The rules of AXI4-Stream video, proved of blocks of tools/axis by tools that were not written here. Yosys reads a block together with the
 rules of tests/formal/streams.sv and writes them as an AIGER circuit. `pdr` of yosys-abc proves the rules for any number of clocks.
 
-There are three blocks with frames of 3 by 2: one input and one output, two outputs of different latencies, with a consumer for each or one
-that joins them, and two inputs. So that the proof is not of nothing, some cases must be reachable. Wrong wrappers must be refuted.
+There are four blocks with frames of 3 by 2 words: one input and one output, two outputs of different latencies, with a consumer for each or one
+that joins them, two inputs, and words of two pixels with different latencies. So that the proof is not of nothing, some cases must be reachable.
+Wrong wrappers must be refuted.
 
 usage: tests/axis_formal.py [-v] [NAME..]    -v: prints each name with its answer and its time
     NAME: a part of the name of a proof, of a case or of a wrong wrapper; without it all are tried
@@ -20,8 +21,8 @@ import time
 
 TESTS = os.path.dirname(os.path.realpath(__file__))
 RULES = f"{TESTS}/formal/streams.sv"
-# The blocks with their ages.
-BLOCKS = {"one": 2, "outputs": 1, "inputs": 1}
+# The blocks with their options.
+BLOCKS = {"one": ["--age", "2"], "outputs": ["--age", "1"], "inputs": ["--age", "1"], "wide": ["--age", "1", "--pixels", "2"]}
 # The seconds that a proof, or the search for a counterexample, may take.
 LONGEST = 1800
 
@@ -31,6 +32,8 @@ PROOFS = [
     ("two outputs", "outputs", ["OUTPUTS"], [0, 1, 2]),
     ("two outputs and a joining consumer", "outputs", ["OUTPUTS", "JOINED"], [0, 1, 2]),
     ("two inputs", "inputs", ["INPUTS"], [0, 1]),
+    ("the first pixel of two in a word", "wide", ["WIDE", "LANE=0"], [0, 1]),
+    ("the second pixel of two in a word", "wide", ["WIDE", "LANE=1"], [1]),
 ]
 PARTS = ["the inputs", "the first output", "the second output"]
 CASES = ["two frames come out without a cut", "a cut frame and the next one come out", "a block comes to rest after a cut", "a source waits after a cut"]
@@ -52,6 +55,9 @@ WRONG = [
     ("a FIFO of one word before a joining consumer", 2, "fifo", "assign room = ~full;", "assign room = ~(some | valid);"),
     ("inputs that are not in step", 3, "axis", "all_go_on = go_on0 & go_on1", "all_go_on = go_on0"),
     ("only one input drops the frame that cuts", 3, "axis", "if (cut) skip1", "if (cut & 1'b0) skip1"),
+    ("a pixel that does not wait for its word", 4, "axis", "dout1, early0", "dout1, dout0"),
+    ("the other pixel of a word", 5, "axis", "dout1, early0", "early0, early0"),
+    ("one pixel of a cut frame filled with the next one", 5, "axis", "s_axis_tdata[8:8] & {1{~fill}}", "s_axis_tdata[8:8]"),
 ]
 # Those that only the rules of the inputs refute, after many clocks of waiting: a circuit of these rules alone is searched faster.
 WAITING = ["a cut that is not seen"]
@@ -60,7 +66,7 @@ WAITING = ["a cut that is not seen"]
 def texts_of(work, block):
     """The Verilog of a block by the parts of its files' names. Each FIFO has the rule that nothing is put into it without room."""
     folder = f"{work}/{block}"
-    subprocess.run([f"{TESTS}/../tools/axis", f"{TESTS}/formal/{block}.dk", folder, "--age", str(BLOCKS[block])], check=True, stdout=subprocess.DEVNULL)
+    subprocess.run([f"{TESTS}/../tools/axis", f"{TESTS}/formal/{block}.dk", folder, *BLOCKS[block]], check=True, stdout=subprocess.DEVNULL)
     texts = {}
     for file in os.listdir(folder):
         if file.endswith(".v"):

@@ -5,11 +5,13 @@ usage: tools/memories.py [--write] [--jobs N] [--minutes M] [--keep FILE] PROGRA
                                            prints a table of the cells at 1920 by 1080, with and without `--block 32`
        tools/memories.py --packing [--write] PROGRAM [EXAMPLE..]
                                            prints a table of the block memories at 1920 by 1080, with and without packing
+       tools/memories.py --phases [--write] PROGRAM [EXAMPLE..]
+                                           prints a table of the block memories at 1920 by 1080 of one, two, four and eight pixels a clock
        tools/memories.py --check PROGRAM   says which family makes no block memory of an array of 512 words and more
 
 Without names the examples are gaussian3, sobel, median and harris. `--write` puts the table in docs/GALLERY.md, with the date and
-Yosys's version; that of `--packing` in docs/HARDWARE.md. `--packing` synthesizes as far as block memories are made, and the text without
-packing is that of tools/unpack.py. N syntheses run at a time; without `--jobs` two. A synthesis is ended after M minutes of processor time, without
+Yosys's version; that of `--packing` in docs/HARDWARE.md, and that of `--phases` in docs/WIDEN.md. These two synthesize as far as block
+memories are made. The text without packing is that of tools/unpack.py. N syntheses run at a time; without `--jobs` two. A synthesis is ended after M minutes of processor time, without
 `--minutes` ten, or at 6 GB, and then has no figures. A text whose arrays need more flip-flops than the greatest device of a family has is
 not synthesized. With `--keep` results are kept in FILE, and a text that has a result there is not synthesized again.
 """
@@ -31,9 +33,11 @@ import unpack
 
 EXAMPLES = os.path.join(os.path.dirname(os.path.abspath(__file__)), "..", "examples", "programs")
 HARDWARE = os.path.join(os.path.dirname(os.path.abspath(__file__)), "..", "docs", "HARDWARE.md")
+WIDEN = os.path.join(os.path.dirname(os.path.abspath(__file__)), "..", "docs", "WIDEN.md")
 BYTES, BLOCK = 6 << 30, 32
 SIZE = "1920 1080"
 SHOWN = ["gaussian3", "sobel", "median", "harris"]
+PHASES = [1, 2, 4, 8]
 
 # each family: its command, its cells by kind, and the most flip-flops of a device if it has no LUT RAM
 KINDS = ["LUTs", "flip-flops", "LUT RAM", "block RAM"]
@@ -50,13 +54,15 @@ BLOCKS = {"ECP5": (18432, {}), "Xilinx 7": (18432, {"RAMB36E1": 2}), "iCE40": (4
 CHECKED = [(name, "640 48", option) for name in ("gaussian3", "unsharp", "median") for option in ([], ["--enable"])]
 
 
-def compiled(program, name, size, options, work):
-    """Writes dk.v, and returns the words and the bits of a word of its arrays."""
+def compiled(program, name, size, options, work, phases=1):
+    """Writes dk.v, of the program of several pixels a clock if there are several phases, and returns the words and the bits of a word of its arrays."""
     with open(os.path.join(EXAMPLES, f"{name}.dk")) as file:
         text = re.sub(r"(?m)^size .*", f"size {size}", file.read())
     with open(f"{work}/sized.dk", "w") as file:
         file.write(text)
-    subprocess.run([program, "compile", *options, f"{work}/sized.dk", f"{work}/dk.v"], check=True)
+    if phases > 1:
+        subprocess.run([program, "widen", str(phases), f"{work}/sized.dk", f"{work}/wide.dk"], check=True, stdout=subprocess.DEVNULL)
+    subprocess.run([program, "compile", *options, f"{work}/{'wide' if phases > 1 else 'sized'}.dk", f"{work}/dk.v"], check=True)
     with open(f"{work}/dk.v") as file:
         return [(int(last) + 1, int(high or 0) + 1) for high, last in re.findall(r"(?m)^  reg (?:\[(\d+):0\] )?\w+ \[0:(\d+)\];$", file.read())]
 
@@ -129,6 +135,27 @@ def packing(program, names, jobs):
     return ["| Program | Family | bits of its long arrays | these, in blocks | blocks without packing | packed | packed, by the bits |", "|" + "---|" * 7, *lines]
 
 
+def widened(program, names, jobs):
+    """The lines of the table of `--phases`."""
+    texts = {}
+    with tempfile.TemporaryDirectory() as work:
+        for name in names:
+            for phases in PHASES:
+                compiled(program, name, SIZE, ["--age", "1", "--block", str(BLOCK)], work, phases)
+                with open(f"{work}/dk.v") as file:
+                    texts[name, phases] = file.read()
+
+    def row(wanted):
+        name, family = wanted
+        found = [blocks(family, texts[name, phases]) for phases in PHASES]
+        print("memories:", name, family, *found, file=sys.stderr, flush=True)
+        return f"| {name} | {family} | {' | '.join(map(str, found))} |"
+
+    with concurrent.futures.ThreadPoolExecutor(jobs) as pool:
+        lines = list(pool.map(row, [(name, family) for name in names for family in FAMILIES]))
+    return ["| Program | Family | " + " | ".join(f"P = {phases}" for phases in PHASES) + " |", "|" + "---|" * (len(PHASES) + 2), *lines]
+
+
 def counted(program, name, family, block, minutes, kept):
     """The four columns of an example, with or without `--block`."""
     most = FAMILIES[family][2]
@@ -160,6 +187,7 @@ def main():
     words = argparse.ArgumentParser(usage=__doc__.split("usage: ")[1].split("\n\n")[0])
     words.add_argument("--check", action="store_true")
     words.add_argument("--packing", action="store_true")
+    words.add_argument("--phases", action="store_true")
     words.add_argument("--write", action="store_true")
     words.add_argument("--jobs", type=int, default=2)
     words.add_argument("--minutes", type=int, default=10)
@@ -170,12 +198,13 @@ def main():
     program = os.path.abspath(given.program)
     if given.check:
         return check(program)
-    if given.packing:
-        lines = packing(program, given.names or SHOWN, given.jobs)
+    if given.packing or given.phases:
+        page, name, made = (HARDWARE, "packing", packing) if given.packing else (WIDEN, "blocks", widened)
+        lines = made(program, given.names or SHOWN, given.jobs)
         if not given.write:
             print("\n".join(lines))
             return 0
-        section.write(HARDWARE, "packing", [f"Made on {section.today()} with Yosys {section.version('yosys', '-V')}:", "", *lines])
+        section.write(page, name, [f"Made on {section.today()} with Yosys {section.version('yosys', '-V')}:", "", *lines])
         return 0
     begun = time.time()
     lines = table(program, given.names or SHOWN, given.jobs, given.minutes, section.Kept(given.keep))

@@ -97,4 +97,5 @@ def main(words):
         file.write(content)
 
 
-main(sys.argv[1:])
+if __name__ == "__main__":
+    main(sys.argv[1:])

@@ -2,18 +2,22 @@
 """Places and routes the Verilog of programs, by Yosys and nextpnr, and prints a table of cells and clock rates for each frame size.
 
 usage: tools/place.py [--write] [--jobs N] [--device NAME] [--size W H]... [--options "WORD.."]... [--cut N]... [--seeds N]
-                      [--path] [--keep FILE] PROGRAM [NAME..]
+                      [--phases P]... [--path] [--keep FILE] PROGRAM [NAME..]
 
 A NAME is an example, or the path of a program's file. Without names all examples are placed. The line `size` is set to each SIZE; without
 sizes these are 640 480 and 1920 1080. A table has a column for each list of options of `compile`; without lists these are none, `--age 1`,
 `--block 32` and both. `--cut N` adds a column: the program that `PROGRAM cut N` writes, compiled with `--age 1 --block 32`.
+
+With `--phases P` there is another table, with a line for each program and each P: the program that `PROGRAM cut 1` and then `PROGRAM widen P` write,
+compiled with `--age 1 --block 32`, and how many pixels pass in a second at the least rate. A P of 1 is the program before `widen`. Its
+frames are 640 480 if there is no size, and the other options of columns have no effect.
 
 Each port of the module but the clock passes a register, so that the clock rate is that of the module only. A rate is the least and the
 greatest of N seeds, in MHz; without `--seeds` of three. A text that needs more cells than the device has is not placed. If its array bits
 need more, it is not synthesized either. A synthesis is ended after ten minutes of processor time, and a seed after three, since the
 router of nextpnr 0.4 does not end on some texts. The table reports the number of seeds that have a rate if others have none.
 
-`--write` puts the tables in docs/GALLERY.md, with the date and the versions. N texts are tried at a time; without `--jobs` two. The device
+`--write` puts the tables in docs/GALLERY.md, in the section `place` or `phases`, with the date and the versions. N texts are tried at a time; without `--jobs` two. The device
 is HX8K without `--device`; ECP5-85 needs nextpnr-ecp5. Its look-up tables are the COMB that nextpnr reports, with those of carries and LUT RAM;
 of a text that is not placed they are Yosys's LUT4. `--path` reports the slowest seed's critical path of each text on standard error.
 With `--keep` results are kept in FILE, and a text that has a result there is not placed again.
@@ -157,16 +161,21 @@ def figures(text, device, what, given, work):
 
 def tried(program, device, name, size, column, given, kept):
     """A cell of a table."""
-    title, options, cut = column
+    title, options, cut, phases = column
     path = name if name.endswith(".dk") else os.path.join(EXAMPLES, name + ".dk")
     with tempfile.TemporaryDirectory() as work:
         with open(path) as file:
             text = re.sub(r"(?m)^size \d+ \d+", f"size {size[0]} {size[1]}", file.read())
         with open(f"{work}/text.dk", "w") as file:
             file.write(text)
+        source = "text.dk"
         if cut is not None:
-            run(program, "cut", str(cut), "text.dk", "cut.dk", work=work)
-        run(program, "compile", *options, "text.dk" if cut is None else "cut.dk", "dk.v", work=work)
+            run(program, "cut", str(cut), source, "cut.dk", work=work)
+            source = "cut.dk"
+        if phases > 1:
+            run(program, "widen", str(phases), source, "wide.dk", work=work)
+            source = "wide.dk"
+        run(program, "compile", *options, source, "dk.v", work=work)
         with open(f"{work}/dk.v") as file:
             text = file.read()
         reason = crowded(text, device, int(options[options.index("--block") + 1]) if "--block" in options else 0)
@@ -177,21 +186,44 @@ def tried(program, device, name, size, column, given, kept):
     return found
 
 
-def tables(program, given, columns):
-    """The lines of the tables, one table for each size."""
-    device, sizes = DEVICES[given.device], given.size or [(640, 480), (1920, 1080)]
-    names = given.names or sorted(name[:-3] for name in os.listdir(EXAMPLES) if name.endswith(".dk"))
-    wanted = [(name, tuple(size), k) for size in sizes for name in names for k in range(len(columns))]
+def cells_of_tables(program, given, sizes, columns):
+    """What was found for each program, size and number of a column."""
+    wanted = [(name, size, k) for size in sizes for name in given.names for k in range(len(columns))]
     kept = section.Kept(given.keep)
     with concurrent.futures.ThreadPoolExecutor(given.jobs) as pool:
-        found = dict(zip(wanted, pool.map(lambda row: tried(program, device, row[0], row[1], columns[row[2]], given, kept), wanted)))
+        return dict(zip(wanted, pool.map(lambda row: tried(program, DEVICES[given.device], row[0], row[1], columns[row[2]], given, kept), wanted)))
+
+
+def title_of(name):
+    return re.sub(r"\.dk$", "", os.path.basename(name))
+
+
+def tables(program, given):
+    """The lines of the tables, one table for each size."""
+    columns = [(f"`{words}`" if words else "no options", words.split(), None, 1) for words in given.options or ["", "--age 1", "--block 32", "--age 1 --block 32"]]
+    columns += [(f"cut {cut}", BOTH, cut, 1) for cut in given.cut]
+    sizes = given.size or [(640, 480), (1920, 1080)]
+    found = cells_of_tables(program, given, sizes, columns)
     lines = []
-    for size in map(tuple, sizes):
-        heads = [f"{size[0]} by {size[1]}", *(title for title, _, _ in columns)]
+    for size in sizes:
+        heads = [f"{size[0]} by {size[1]}", *(title for title, _, _, _ in columns)]
         lines += ["", "| " + " | ".join(heads) + " |", "|" + "---|" * len(heads)]
-        for name in names:
-            title = re.sub(r"\.dk$", "", os.path.basename(name))
-            lines.append("| " + " | ".join([title, *(found[name, size, k] for k in range(len(columns)))]) + " |")
+        lines += ["| " + " | ".join([title_of(name), *(found[name, size, k] for k in range(len(columns)))]) + " |" for name in given.names]
+    return lines[1:]
+
+
+def phase_tables(program, given):
+    """The lines of the tables of several pixels a clock, one table for each size."""
+    sizes = given.size or [(640, 480)]
+    found = cells_of_tables(program, given, sizes, [(f"cut 1, {phases} phases", BOTH, 1, phases) for phases in given.phases])
+    lines = []
+    for size in sizes:
+        lines += ["", f"| {size[0]} by {size[1]} | P | Cells | Clock rate | Million pixels per second |", "|" + "---|" * 5]
+        for name in given.names:
+            for k, phases in enumerate(given.phases):
+                counts, rate = found[name, size, k].rsplit(": ", 1)
+                least = re.match(r"(\d+)(?: to \d+)? MHz", rate)
+                lines.append(f"| {title_of(name)} | {phases} | {counts} | {rate} | {f'{phases * int(least.group(1)):,}' if least else '–'} |")
     return lines[1:]
 
 
@@ -202,6 +234,7 @@ def main():
     read.add_argument("--size", nargs=2, type=int, action="append")
     read.add_argument("--options", action="append")
     read.add_argument("--cut", type=int, action="append", default=[])
+    read.add_argument("--phases", type=int, choices=range(1, 9), action="append", default=[])
     read.add_argument("--seeds", type=int, default=3)
     read.add_argument("--jobs", type=int, default=2)
     read.add_argument("--device", choices=DEVICES, default="HX8K")
@@ -211,10 +244,10 @@ def main():
     given = read.parse_intermixed_args()
     program = os.path.abspath(given.program)
     given.names = [os.path.abspath(name) if name.endswith(".dk") else name for name in given.names]
-    columns = [(f"`{words}`" if words else "no options", words.split(), None) for words in given.options or ["", "--age 1", "--block 32", "--age 1 --block 32"]]
-    columns += [(f"cut {cut}", BOTH, cut) for cut in given.cut]
+    given.names = given.names or sorted(name[:-3] for name in os.listdir(EXAMPLES) if name.endswith(".dk"))
+    given.size = [tuple(size) for size in given.size or []]
     begun = time.time()
-    lines = tables(program, given, columns)
+    lines = (phase_tables if given.phases else tables)(program, given)
     took = "" if given.keep else f", in {round((time.time() - begun) / 60)} minutes with `--jobs {given.jobs}`"
     if not given.write:
         print("\n".join(lines))
@@ -222,7 +255,7 @@ def main():
     placer = DEVICES[given.device]["place"][0]
     kept = sys.argv.index("--keep") if given.keep else len(sys.argv)
     words = ["python3", *(os.path.relpath(word, TOP) if os.path.exists(word) else word for word in sys.argv[:kept] + sys.argv[kept + 2:])]
-    section.write(section.GALLERY, "place", [
+    section.write(section.GALLERY, "phases" if given.phases else "place", [
         f"The device is {given.device}. Made on {section.today()} with Yosys {section.version('yosys', '-V')} and {placer} "
         f"{section.version(placer, '--version')}, {given.seeds} seeds{took}, by",
         "",
