@@ -1,9 +1,8 @@
 -- Tokens of a text, for callers.
-use Rattle.std.proofs.Common.{◌≡◌, ◌≢◌, ◌<◌, ◌≤◌, ℕ, zero, suc, List, [], ◌∷◌, length, take, arith}
-use Rattle.std.specs.List.{All, AllByRecursion}
+use Rattle.std.proofs.Common.{◌<◌, ℕ, zero, suc, List, [], ◌∷◌, length, take, arith}
+use Rattle.std.specs.List.{AllByRecursion}
 use Rattle.std.proofs.lemmas.List.Elements.{All-from_recursion, recursion_from_All}
 use Rattle.dk_lexer.specs.declared.token.Token.{Token}
-use Rattle.dk_lexer.specs.declared.token.TokenKind.TheVariants.{End}
 use Rattle.dk_lexer.specs.Lexis.{HasTokens}
 use Rattle.dk_lexer.specs.Faithful.{Stands, IsEnded, IsFaithful}
 use Rattle.dk_lexer.proofs.Says.{faithful_tokens}
