@@ -1,4 +1,3 @@
 mod Table
 mod Tried
 mod Those
-pub mod Texts

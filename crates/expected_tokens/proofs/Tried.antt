@@ -1,22 +1,21 @@
 -- What the judgement of the tokens that are tried says of the class.
-use Rattle.std.proofs.Common.{◌≡◌, ◌≢◌, ◌≤◌, ◌<◌, ◌⊎◌, inl, inr, ◌↔◌, ℕ, zero, suc, ◌+◌, Bool, true, false, IsTrue, MatchBool, List, [], ◌∷◌, ◌++◌, length, length-append, take, arith, refl, sym, ap, ◌∙◌, subst, append_assoc}
+use Rattle.std.proofs.Common.{◌≡◌, ◌≢◌, ◌≤◌, ◌<◌, ◌⊎◌, inl, inr, ◌↔◌, ℕ, suc, Bool, true, false, IsTrue, MatchBool, [], ◌∷◌, ◌++◌, length, length-append, take, arith, refl, sym, ap, ◌∙◌, subst, append_assoc}
 use Rattle.std.proofs.lemmas.Bool.{cases_lt}
 use Rattle.std.specs.List.{AllByRecursion}
 use Rattle.std.proofs.lemmas.List.Elements.{recursion_from_All}
 use Rattle.dk_base.specs.declared.span.Span.{Span}
 use Rattle.dk_lexer.specs.declared.token.Token.{Token}
-use Rattle.dk_lexer.specs.declared.token.TokenKind.TheVariants as kind
 use Rattle.dk_lexer.specs.Faithful.{IsEnded}
-use Rattle.dk_grammar.specs.Reading.{Begins, IsFaulty}
+use Rattle.dk_grammar.specs.Reading.{Begins}
 use Rattle.dk_grammar.proofs.Faulty.{begins_before}
 use Rattle.dk_grammar.proofs.Clears.{append_nil}
 use Rattle.dk_parser.specs.Grammar.{Tokens}
 use Rattle.dk_parser.specs.Terminals.{terminal, terminal_of}
 use Rattle.dk_parser.specs.declared.whole.ParseError.{ParseError}
-use Rattle.dk_parser.specs.declared.whole.ParseError.TheVariants.{Nest, Syntax, Depth, OutOfMemory}
+use Rattle.dk_parser.specs.declared.whole.ParseError.TheVariants.{Nest, Syntax, Depth}
 use Rattle.dk_parser.specs.Programs.{Source}
 use Rattle.dk_parser.specs.Judged.{IsProgram, IsFaultyAt, StandsAt, Accepted, Faults}
-use Rattle.dk_parser.specs.Nest.{StaysShallow, PassesAt, unclosed}
+use Rattle.dk_parser.specs.Nest.{StaysShallow, unclosed}
 use Rattle.dk_parser.proofs.Ending.{not_both}
 use Rattle.expected_tokens.specs.declared.class.TokenClass.{TokenClass}
 use Rattle.expected_tokens.specs.declared.class.TokenClass.TheVariants as class

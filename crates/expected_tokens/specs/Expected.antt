@@ -19,7 +19,7 @@ pub record IsOfAText (t : Token) : Type 0 where
 abbrev pub AreOfAText : Tokens → Type 0
 AreOfAText ts = All IsOfAText ts
 
--- The tokens and then the sample of the class begin a program, and no more brackets are open than may be.
+-- The tokens and then the sample of the class begin a program, and no more brackets are open than may be. The sample stands for each token of the class: no rule of the grammar tells them apart.
 pub record CanFollow (before : Tokens) (c : TokenClass) : Type 0 where
   pub nests : StaysShallow 0 (before ++ sample c ∷ [])
   pub begins : Begins IsProgram (before ++ sample c ∷ [])

@@ -4,7 +4,7 @@ use Rattle.std.specs.List.{All, AllByRecursion}
 use Rattle.std.proofs.lemmas.List.Elements.{All-from_recursion, recursion_from_All}
 use Rattle.dk_parser.specs.declared.tree.Def.{Def}
 use Rattle.dk_parser.specs.Tree.{tree_of, ConvertsToTypes}
-use Rattle.dk_parser.specs.Programs.{Definition, definitions_as}
+use Rattle.dk_parser.specs.Programs.{definitions_as}
 
 each : (ds : List Def) → AllByRecursion (λ d. ConvertsToTypes (tree_of d.body)) ds → AllByRecursion (λ d. ConvertsToTypes d.body) (definitions_as ds)
 each [] a = tt

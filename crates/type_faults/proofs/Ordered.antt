@@ -1,5 +1,5 @@
 -- Faults that were found one after another.
-use Rattle.std.proofs.Common.{◌≡◌, ◌<◌, ◌≤◌, ℕ, suc, List, [], ◌∷◌, ◌++◌, refl, sym, ap, subst}
+use Rattle.std.proofs.Common.{◌≡◌, ◌<◌, ℕ, List, [], ◌∷◌, ◌++◌, refl, sym, ap, subst}
 use Rattle.dk_types.specs.declared.fault.TypeFault.{TypeFault}
 use Rattle.type_faults.specs.declared.found.FoundFault.{FoundFault}
 use Rattle.type_faults.specs.Faults.{BeginsWith, start_of, AreAfter, AreInOrder}
