@@ -36,7 +36,7 @@ first_message name text first message h = ([], omega arith, one_message name tex
 -- the message of a fault, with no others
 pub lone : (name text : List ℕ) (fault : SourceFault) (message : List ℕ) → IsMessage name text fault message
     → IsExplanation name text fault message
-lone name text fault message h = ([], none_beside fault, one_message name text fault message h)
+lone name text fault message h = record { others = []; few = none_beside fault; messages = one_message name text fault message h }
 
 -- one more
 pub more_messages : (name text : List ℕ) (faults : List SourceFault) (fault : SourceFault) (bytes message : List ℕ)
@@ -52,6 +52,8 @@ pub few_more : (name text : List ℕ) (first last : TypeFault) (count : ℕ) (by
     → ((faults : List SourceFault) → AreMessages name text faults bytes → AreMessages name text (faults ++ source.Types last ∷ []) new)
     → Few name text first (count + 1) new
 few_more name text first last count bytes new (others, few, messages) grows =
-    let P : List SourceFault → Type 0 = λ faults. AreMessages name text (source.Types first ∷ faults) new in
-    (others ++ last ∷ [], omega (arith, length-append others (last ∷ [])),
-    subst P (sym (map-append source.Types others (last ∷ []))) (grows (source.Types first ∷ map source.Types others) messages))
+    let P : List SourceFault → Type 0 = λ faults. AreMessages name text (source.Types first ∷ faults) new in (
+      others ++ last ∷ [],
+      omega (arith, length-append others (last ∷ [])),
+      subst P (sym (map-append source.Types others (last ∷ []))) (grows (source.Types first ∷ map source.Types others) messages),
+    )

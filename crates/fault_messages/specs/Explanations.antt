@@ -93,6 +93,7 @@ AreOthers (source.Types _) others = length others < MAX_MESSAGES
 AreOthers _ others = others ≡ []
 
 -- the message of a fault, and those of the others
-abbrev pub IsExplanation : (name text : List ℕ) → SourceFault → List ℕ → Type 0
-IsExplanation name text fault bytes =
-    (others : List TypeFault) × AreOthers fault others × AreMessages name text (fault ∷ map source.Types others) bytes
+pub record IsExplanation (name text : List ℕ) (fault : SourceFault) (bytes : List ℕ) : Type 0 where
+  pub others : List TypeFault
+  pub few : AreOthers fault others
+  pub messages : AreMessages name text (fault ∷ map source.Types others) bytes
