@@ -1,5 +1,6 @@
 -- How `explain` ends, and what it writes.
-use Rattle.std.proofs.Common.{◌≡◌, ◌⊎◌, inl, inr, ℕ, ◌<◌, ◌≤◌, List, [], length, Option, None, Some, IfSome, refl, sym, subst}
+use Rattle.std.proofs.Common.{◌≡◌, ◌⊎◌, inl, inr, ℕ, suc, ◌<◌, ◌≤◌, List, [], ◌∷◌, ◌++◌, length, map, take, Option, None, Some, IfSome, Result, Ok, Err, IfOk, refl, sym, ap, ◌∙◌, subst}
+use Rattle.std.specs.Prelude.{count_by}
 use Rattle.dk_base.specs.declared.TheConstants.{MAX_SOURCE_BYTES}
 use Rattle.dk_desk.specs.Outside.{Input}
 use Rattle.dk_desk.specs.Calls.{IsIfTold, grown}
@@ -8,7 +9,9 @@ use Rattle.source_fault.specs.declared.fault.SourceFault.TheVariants as source
 use Rattle.dk_compile.specs.Limits.{IsFaultAt}
 use Rattle.dk_endings.specs.declared.ending.Ending.{Ending}
 use Rattle.dk_endings.specs.declared.ending.Ending.TheVariants as ending
-use Rattle.fault_messages.specs.Explanations.{IsExplanation}
+use Rattle.dk_types.specs.declared.fault.TypeFault.{TypeFault}
+use Rattle.source_places.specs.Places.{is_line_end, begins_character, last_line, line_of, column_of}
+use Rattle.fault_messages.specs.Explanations.{head, kind_word, IsMessage, AreMessages, IsExplanation}
 use Rattle.dk_top.specs.declared.commands.explaining.Judged.{Judged}
 use Rattle.dk_top.specs.declared.commands.explaining.Judged.TheVariants.{Accepted, Refused}
 use Rattle.dk_top.specs.declared.commands.explaining.Refusal.{Refusal}
@@ -82,14 +85,36 @@ refused_judged name text fault Accepted is h = absurd h
 refused_judged name text fault (Refused r) is h =
     (subst (λ (x : SourceFault). IsFaultAt text 0 x) (sym h.0) is, subst (λ (x : SourceFault). IsExplanation name text x r.text.items) (sym h.0) h.1)
 
--- of a text that is too long, of which no text is needed
-pub long_judged : (told : Option Files) (name : List ℕ) (j : Judged) → IfSome told (λ f. MAX_SOURCE_BYTES < length (bytes_of f name)) → IsRefusedFor name [] source.TooLong j → IfSome told (λ f. IsJudgedAs name (bytes_of f name) j)
-long_judged None name j long h = tt
-long_judged (Some f) name j long h = refused_judged name (bytes_of f name) source.TooLong j long (of_none j h)
-  where
-    of_none : (j : Judged) → IsRefusedFor name [] source.TooLong j → IsRefusedFor name (bytes_of f name) source.TooLong j
-    of_none Accepted h = h
-    of_none (Refused r) h = h
+-- No text is needed to explain that it is too long: the place is that of its first byte.
+before_first : (text : List ℕ) → take 0 text ≡ []
+before_first [] = refl
+before_first (b ∷ bs) = refl
+
+module _ (name text : List ℕ) where
+  first_line : line_of [] 0 ≡ line_of text 0
+  first_line = ap (λ (t : List ℕ). suc (count_by is_line_end t)) (before_first [] ∙ sym (before_first text))
+
+  first_column : column_of [] 0 ≡ column_of text 0
+  first_column = ap (λ (t : List ℕ). suc (count_by begins_character (last_line t))) (before_first [] ∙ sym (before_first text))
+
+  long_message : (bytes : List ℕ) → IsMessage name [] source.TooLong bytes → IsMessage name text source.TooLong bytes
+  long_message bytes (detail, is, e) =
+      (detail, is, subst (λ c. bytes ≡ head name (line_of text 0) c (kind_word source.TooLong) ++ detail) first_column
+      (subst (λ l. bytes ≡ head name l (column_of [] 0) (kind_word source.TooLong) ++ detail) first_line e))
+
+  long_messages : (others : List TypeFault) (bytes : List ℕ) → others ≡ [] → AreMessages name [] (source.TooLong ∷ map source.Types others) bytes → AreMessages name text (source.TooLong ∷ map source.Types others) bytes
+  long_messages [] bytes none (message, rest, is, last, e) = (message, rest, long_message message is, last, e)
+  long_messages (x ∷ xs) bytes none h = absurd (cc)
+
+  long_explained : (bytes : List ℕ) → IsExplanation name [] source.TooLong bytes → IsExplanation name text source.TooLong bytes
+  long_explained bytes e = record { others = e.others; few = e.few; messages = long_messages e.others bytes e.few e.messages }
+
+pub long_judged : (told : Option Files) (name : List ℕ) (r : Result Judged Ending) → IfSome told (λ f. MAX_SOURCE_BYTES < length (bytes_of f name)) → IfOk r (IsRefusedFor name [] source.TooLong) → IfOk r (λ j. IfSome told (λ f. IsJudgedAs name (bytes_of f name) j))
+long_judged told name (Err e) long h = tt
+long_judged None name (Ok j) long h = tt
+long_judged (Some f) name (Ok Accepted) long h = absurd h
+long_judged (Some f) name (Ok (Refused r)) long h =
+    refused_judged name (bytes_of f name) source.TooLong (Refused r) long (h.0, long_explained name (bytes_of f name) r.text.items h.1)
 
 -- what is left of it
 pub long_left : (told : Option Files) (name : List ℕ) (slot : Input) (j : Judged) → IfSome told (λ f. LeavesRest MAX_SOURCE_BYTES (bytes_of f name) slot) → IsRefusedFor name [] source.TooLong j → IfSome told (λ f. LeavesJudged j (bytes_of f name) slot)

@@ -1,7 +1,8 @@
 -- Messages of the faults of a text.
-use Rattle.std.specs.Prelude.{ℕ, List, [], ◌∷◌, ◌++◌, ◌≡◌, ◌<◌, ◌≤◌, length, codes, decimal}
+use Rattle.std.specs.Prelude.{ℕ, List, [], ◌∷◌, ◌++◌, ◌≡◌, ◌<◌, ◌≤◌, length, map, codes, decimal}
 use Rattle.dk_lexer.specs.declared.fault.LexKind.{LexKind}
 use Rattle.dk_lexer.specs.declared.fault.LexKind.TheVariants as lexer
+use Rattle.dk_types.specs.declared.fault.TypeFault.{TypeFault}
 use Rattle.dk_types.specs.declared.fault.TypeFaultKind.{TypeFaultKind}
 use Rattle.dk_types.specs.declared.fault.TypeFaultKind.TheVariants as types
 use Rattle.source_fault.specs.declared.fault.SourceFault.{SourceFault}
@@ -86,7 +87,13 @@ AreMessages name text (fault ∷ faults) bytes =
     (message : List ℕ) × (others : List ℕ) × IsMessage name text fault message × AreMessages name text faults others
     × (bytes ≡ message ++ others)
 
--- the message of a fault, and those of other faults after it
-abbrev pub IsExplanation : (name text : List ℕ) → SourceFault → List ℕ → Type 0
-IsExplanation name text fault bytes =
-    (others : List SourceFault) × (length others < MAX_MESSAGES) × AreMessages name text (fault ∷ others) bytes
+-- the faults after the first one in an explanation: others of names and types after one of these, and else none
+abbrev pub AreOthers : SourceFault → List TypeFault → Type 0
+AreOthers (source.Types _) others = length others < MAX_MESSAGES
+AreOthers _ others = others ≡ []
+
+-- the message of a fault, and those of the others
+pub record IsExplanation (name text : List ℕ) (fault : SourceFault) (bytes : List ℕ) : Type 0 where
+  pub others : List TypeFault
+  pub few : AreOthers fault others
+  pub messages : AreMessages name text (fault ∷ map source.Types others) bytes

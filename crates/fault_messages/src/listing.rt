@@ -180,21 +180,35 @@ fn first_types(found: &[FoundFault]) -> FoundTypes {
     }
 }
 
-// The messages of a fault and of those found after it.
+// The messages of a fault of types and of those found after it.
 fn messages(
     alloc: Global,
     name: &str,
     source: &Source<'_>,
-    fault: SourceFault,
+    first: TypeFault,
     found: &[FoundFault],
 ) -> Result<Vec<u8>, OutOfMemory>
-    ensures { IfOk result (λ v. IsExplanation name.now source.now.text.now fault v.items) }
+    ensures { IfOk result (λ v. IsExplanation name.now source.now.text.now (AnyFault.Types first) v.items) }
 {
-    let mut bytes = message(alloc, name, source, fault, first_types(found))?;
+    let types = first_types(found);
+    let mut bytes = message(alloc, name, source, SourceFault::Types(first), types)?;
     let others = others(found);
     for other in others {
         push_message(&mut bytes, alloc, name, source, *other)?;
     }
+    Ok(bytes)
+}
+
+// The message of a fault, with no others.
+fn lone_message(
+    alloc: Global,
+    name: &str,
+    source: &Source<'_>,
+    fault: SourceFault,
+) -> Result<Vec<u8>, OutOfMemory>
+    ensures { IfOk result (λ v. IsExplanation name.now source.now.text.now fault v.items) }
+{
+    let bytes = message(alloc, name, source, fault, FoundTypes::None)?;
     Ok(bytes)
 }
 
@@ -216,23 +230,6 @@ fn type_faults_of(
     }
 }
 
-// The faults found after a fault, with that one as the first. None if it is no fault of types.
-fn all_found(
-    alloc: Global,
-    tokens: &[Token],
-    fault: SourceFault,
-) -> Result<Vec<FoundFault>, OutOfMemory>
-    requires { IsEnded tokens.now }
-{
-    match fault {
-        SourceFault::Types(first) => {
-            let found = type_faults_of(alloc, tokens, first)?;
-            Ok(found)
-        }
-        _ => Ok(Vec::new(alloc)),
-    }
-}
-
 // The messages of the faults of a text with these tokens.
 fn messages_by_tokens(
     alloc: Global,
@@ -243,9 +240,17 @@ fn messages_by_tokens(
     requires { IsEnded source.now.tokens.now }
     ensures { IfOk result (λ v. IsExplanation name.now source.now.text.now fault v.items) }
 {
-    let found = all_found(alloc, source.tokens, fault)?;
-    let bytes = messages(alloc, name, source, fault, &found)?;
-    Ok(bytes)
+    match fault {
+        SourceFault::Types(first) => {
+            let found = type_faults_of(alloc, source.tokens, first)?;
+            let bytes = messages(alloc, name, source, first, &found)?;
+            Ok(bytes)
+        }
+        _ => {
+            let bytes = lone_message(alloc, name, source, fault)?;
+            Ok(bytes)
+        }
+    }
 }
 
 // The message of the fault of a text without tokens.
@@ -258,11 +263,11 @@ fn message_by_bytes(
     ensures { IfOk result (λ v. IsExplanation name.now text.now fault v.items) }
 {
     let source = Source { text, tokens: &[] };
-    let bytes = messages(alloc, name, &source, fault, &[])?;
+    let bytes = lone_message(alloc, name, &source, fault)?;
     Ok(bytes)
 }
 
-/// The messages of the faults of a text, which has this name: that of its first fault, and if this is a fault of types, those of other definitions too. Each begins as a compiler's messages do, with the name, the line, the column and the fault's word.
+/// The messages of the faults of a text, which has this name: that of its first fault, and if this is a fault of names or types, those of others found after it. Each begins as a compiler's messages do, with the name, the line, the column and the fault's word.
 pub fn explanation(
     alloc: Global,
     name: &str,

@@ -126,16 +126,16 @@ fn push_width(to: &mut PlainText, of: &Typed<'_>) -> Result<(), OutOfMemory> {
             push_quoted_type(to, one)?;
             to.push(" and ")?;
             push_quoted_type(to, other)?;
-            to.push(", and their result or common type")?;
+            to.push(", and the operator needs")?;
         }
         FoundTypes::Operand(ty) => {
             to.push("the operand is ")?;
             push_quoted_type(to, ty)?;
-            to.push(", and the result")?;
+            to.push(", and the result has")?;
         }
-        _ => to.push("the result or the common type of the operands")?,
+        _ => to.push("the result or the common type of the operands has")?,
     }
-    push_numbered(to, " has more than ", u64::from(MAX_WIDTH), " bits")?;
+    push_numbered(to, " more than ", u64::from(MAX_WIDTH), " bits")?;
     Ok(())
 }
 

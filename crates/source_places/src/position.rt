@@ -4,7 +4,7 @@ ghost use Rattle.std.specs.Prelude.{◌≡◌, suc, take, count_by};
 ghost use Rattle.source_places.specs.Places.{is_line_end as line_end, begins_character as begins, last_line as the_last_line};
 
 /// A place in a text. Both numbers begin at 1. A column is a character of UTF-8.
-#[derive(Clone, Copy, Debug, PartialEq, Eq)]
+#[derive(Clone, Copy)]
 pub struct Place {
     pub line: u64,
     pub column: u64,

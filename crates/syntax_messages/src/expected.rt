@@ -5,15 +5,20 @@ use dk_base::OutOfMemory;
 use dk_lexer::Symbol;
 use expected_tokens::TokenClass;
 use source_places::PlainText;
+use source_words::Keyword;
 use std::alloc::Global;
 
 // The most classes that a list names.
 const MOST_NAMED: usize = 8;
 
+const EDGE: TokenClass = TokenClass::Keyword(Keyword::Edge);
+
 // A part of the list.
 #[derive(Clone, Copy)]
 enum Item {
     Expression,
+    // What a sign is followed by.
+    Unsigned,
     Class(TokenClass),
     Operator,
     // An operator where another one was found.
@@ -39,10 +44,19 @@ fn has_operator(classes: &[TokenClass]) -> bool {
     contains(classes, TokenClass::Symbol(Symbol::Bar))
 }
 
-// Whether the class is named by itself.
+// Whether the class is named by itself, in its place. `edge` comes after what may stand there whatever is before it.
 fn is_named(classes: &[TokenClass], class: TokenClass) -> bool {
     !(has_operand(classes) && begins_operand(class))
-        && !(has_operator(classes) && is_operator(class))
+        && !(has_operator(classes) && (is_operator(class) || is_same(class, EDGE)))
+}
+
+// The word of an expression.
+fn expression(classes: &[TokenClass]) -> Item {
+    if contains(classes, TokenClass::Symbol(Symbol::Minus)) {
+        Item::Expression
+    } else {
+        Item::Unsigned
+    }
 }
 
 // The classes that are named by themselves, and words for the others.
@@ -53,7 +67,7 @@ fn items(
 ) -> Result<Vec<Item>, OutOfMemory> {
     let mut items = Vec::new(alloc);
     if has_operand(classes) {
-        items.push(Item::Expression)?;
+        items.push(expression(classes))?;
     }
     for class in classes {
         if is_named(classes, *class) && items.len() < MOST_NAMED {
@@ -61,6 +75,9 @@ fn items(
         }
     }
     if has_operator(classes) {
+        if contains(classes, EDGE) {
+            items.push(Item::Class(EDGE))?;
+        }
         items.push(if is_operator(found) {
             Item::OtherOperator
         } else {
@@ -94,6 +111,7 @@ fn push_class(to: &mut PlainText, class: TokenClass) -> Result<(), OutOfMemory> 
 fn push_item(to: &mut PlainText, item: Item) -> Result<(), OutOfMemory> {
     match item {
         Item::Expression => to.push("an expression")?,
+        Item::Unsigned => to.push("an operand without a sign")?,
         Item::Operator => to.push("an operator")?,
         Item::OtherOperator => to.push("another operator")?,
         Item::Class(class) => push_class(to, class)?,

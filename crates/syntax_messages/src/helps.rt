@@ -64,7 +64,7 @@ fn expression_help(mistake: Mistake) -> &'static str {
             "there is no `if`: write `select(c, p, q)`, which is p where c is 1, and q elsewhere",
         Mistake::NoOperator => "an operator is missing between two operands",
         Mistake::NoRead =>
-            "an image is read at a point, as `a(x,y)`; there are no other names of values",
+            "a name here is an image, which is read at a point: `a(x,y)`; constants have no names",
         Mistake::Unclosed => "",
         Mistake::Unopened => "no bracket is open here",
         Mistake::TooManyOperands(function) => operands_help(function, true),

@@ -30,6 +30,7 @@ fn after_coordinate(a: &Around<'_>) -> Option<Mistake> {
         TokenClass::Symbol(Symbol::Plus | Symbol::Minus) => Some(Mistake::TwoOffsets),
         TokenClass::Symbol(Symbol::Close) => Some(Mistake::OneCoordinate),
         TokenClass::Symbol(Symbol::Comma) => Some(Mistake::ThirdCoordinate),
+        TokenClass::Keyword(_) if a.expects_symbol(Symbol::Close) => Some(Mistake::Unclosed),
         _ => None,
     }
 }
@@ -131,6 +132,7 @@ fn operator_mistake(a: &Around<'_>) -> Option<Mistake> {
     }
     match a.found {
         TokenClass::Keyword(Keyword::Edge) => Some(Mistake::EdgeAfterOther),
+        TokenClass::Keyword(Keyword::Clamp) => Some(Mistake::OtherEdge),
         TokenClass::Symbol(Symbol::Close) => Some(Mistake::Unopened),
         found if begins_operand(found) => Some(Mistake::NoOperator),
         _ => None,
