@@ -133,3 +133,8 @@ pub refused_short : (name text : List ℕ) (fault : SourceFault) (j : Judged) �
 refused_short name text fault Accepted is short h = absurd h
 refused_short name text fault (Refused r) is short h =
     short_source (IsFaultAt text 0) text (ending.Source r.fault) (λ long. long) short (subst (λ (x : SourceFault). IsFaultAt text 0 x) (sym h.0) is)
+
+-- the same of what was made of a fault of the text
+pub refused_result : (r : Result Judged Ending) (name text : List ℕ) (fault : SourceFault) → IsFaultAt text 0 fault → IfOk r (IsRefusedFor name text fault) → IfOk r (IsJudgedAs name text)
+refused_result (Ok j) name text fault is h = refused_judged name text fault j is h
+refused_result (Err e) name text fault is h = tt
