@@ -15,7 +15,7 @@ use Rattle.fault_messages.specs.Explanations.{head, kind_word, IsMessage, AreMes
 use Rattle.dk_top.specs.declared.commands.explaining.Judged.{Judged}
 use Rattle.dk_top.specs.declared.commands.explaining.Judged.TheVariants.{Accepted, Refused}
 use Rattle.dk_top.specs.declared.commands.explaining.Refusal.{Refusal}
-use Rattle.dk_top.specs.Verdict.{Files, bytes_of, IsJudged, IsFaulty, IsProgramAnswer, IsExplainAnswer}
+use Rattle.dk_top.specs.Verdict.{Files, bytes_of, IsJudged, IsProgramAnswer, IsExplainAnswer}
 use Rattle.dk_top.specs.State.{GainsText, LeavesText, LeavesRest, ReportsFront}
 use Rattle.dk_top.specs.Explaining.{ExplainsFault}
 use Rattle.dk_top.specs.Refusals.{IsJudgedAs, IsRefusedFor, TellsNoLength, LeavesJudged}
@@ -98,9 +98,12 @@ module _ (name text : List ℕ) where
   first_column = ap (λ (t : List ℕ). suc (count_by begins_character (last_line t))) (before_first [] ∙ sym (before_first text))
 
   long_message : (bytes : List ℕ) → IsMessage name [] source.TooLong bytes → IsMessage name text source.TooLong bytes
-  long_message bytes (detail, is, e) =
-      (detail, is, subst (λ c. bytes ≡ head name (line_of text 0) c (kind_word source.TooLong) ++ detail) first_column
-      (subst (λ l. bytes ≡ head name l (column_of [] 0) (kind_word source.TooLong) ++ detail) first_line e))
+  long_message bytes (detail, is, e) = (
+    detail,
+    is,
+    subst (λ c. bytes ≡ head name (line_of text 0) c (kind_word source.TooLong) ++ detail) first_column
+        (subst (λ l. bytes ≡ head name l (column_of [] 0) (kind_word source.TooLong) ++ detail) first_line e),
+  )
 
   long_messages : (others : List TypeFault) (bytes : List ℕ) → others ≡ [] → AreMessages name [] (source.TooLong ∷ map source.Types others) bytes → AreMessages name text (source.TooLong ∷ map source.Types others) bytes
   long_messages [] bytes none (message, rest, is, last, e) = (message, rest, long_message message is, last, e)

@@ -1,4 +1,4 @@
-use Rattle.std.proofs.Common.{rules, refl}
+use Rattle.std.proofs.Common.{rules}
 use Rattle.dk_top.proofs.ExplainLemmas.{long_judged}
 use Rattle.dk_top.proofs.commands.explaining.read_judged.Goals as goal
 
