@@ -1,9 +1,7 @@
 -- How `explain` ends, and what it writes.
-use Rattle.std.proofs.Common.{◌≡◌, ◌⊎◌, inl, inr, ℕ, suc, ◌<◌, ◌≤◌, List, [], ◌∷◌, ◌++◌, length, map, take, Option, None, Some, IfSome, Result, Ok, Err, IfOk, refl, sym, ap, ◌∙◌, subst}
+use Rattle.std.proofs.Common.{◌≡◌, ℕ, suc, ◌<◌, List, [], ◌∷◌, ◌++◌, length, map, take, Option, None, Some, IfSome, Result, Ok, Err, IfOk, refl, sym, ap, ◌∙◌, subst}
 use Rattle.std.specs.Prelude.{count_by}
 use Rattle.dk_base.specs.declared.TheConstants.{MAX_SOURCE_BYTES}
-use Rattle.dk_desk.specs.Outside.{Input}
-use Rattle.dk_desk.specs.Calls.{IsIfTold, grown}
 use Rattle.source_fault.specs.declared.fault.SourceFault.{SourceFault}
 use Rattle.source_fault.specs.declared.fault.SourceFault.TheVariants as source
 use Rattle.dk_compile.specs.Limits.{IsFaultAt}
@@ -16,13 +14,12 @@ use Rattle.dk_top.specs.declared.commands.explaining.Judged.{Judged}
 use Rattle.dk_top.specs.declared.commands.explaining.Judged.TheVariants.{Accepted, Refused}
 use Rattle.dk_top.specs.declared.commands.explaining.Refusal.{Refusal}
 use Rattle.dk_top.specs.Verdict.{Files, bytes_of, IsJudged, IsProgramAnswer, IsExplainAnswer}
-use Rattle.dk_top.specs.State.{GainsText, LeavesText, LeavesRest, ReportsFront}
+use Rattle.dk_top.specs.State.{GainsText, ReportsFront}
 use Rattle.dk_top.specs.Explaining.{ExplainsFault}
-use Rattle.dk_top.specs.Refusals.{IsJudgedAs, IsRefusedFor, TellsNoLength, LeavesJudged}
+use Rattle.dk_top.specs.Refusals.{IsJudgedAs, IsRefusedFor}
 use Rattle.dk_top.proofs.VerdictLemmas.{ApartAt, OneFaultAt}
 use Rattle.dk_top.proofs.PlanLemmas.{program_answer}
-use Rattle.dk_top.proofs.LongLemmas.{short_source}
-use Rattle.dk_top.proofs.ReportLemmas.{whole, front}
+use Rattle.dk_top.proofs.ReportLemmas.{front}
 
 -- but for a failed write, the answers of `explain` are those of a program
 explained_answer : (text : List ℕ) (e : Ending) → (e ≡ ending.WriteFault → ⊥) → IsExplainAnswer text e → IsProgramAnswer 0 text e
@@ -43,41 +40,12 @@ pub explain_answer : ApartAt → OneFaultAt → (text : List ℕ) (a b : Ending)
 explain_answer apart one text a b j k x y =
     program_answer apart one 0 text a b j k (explained_answer text a (λ is. subst IsJudged is j) x) (explained_answer text b (λ is. subst IsJudged is k) y)
 
--- the ending where nothing was judged
-failed_answer : (text : List ℕ) (e : Ending) → (e ≡ ending.ReadFault) ⊎ (e ≡ ending.Memory) → IsExplainAnswer text e
-failed_answer text e (inl is) = subst (IsExplainAnswer text) (sym is) tt
-failed_answer text e (inr is) = subst (IsExplainAnswer text) (sym is) tt
-
-pub failed_told : (told : Option Files) (name : List ℕ) (e : Ending) → (e ≡ ending.ReadFault) ⊎ (e ≡ ending.Memory) → IfSome told (λ f. IsExplainAnswer (bytes_of f name) e)
-failed_told None name e h = tt
-failed_told (Some f) name e h = failed_answer (bytes_of f name) e h
-
--- and of one that was refused, whether its explanation was written or not
-pub refused_told : (told : Option Files) (name : List ℕ) (r : Refusal) → IfSome told (λ f. IsJudgedAs name (bytes_of f name) (Refused r)) → IfSome told (λ f. IsExplainAnswer (bytes_of f name) (ending.Source r.fault))
-refused_told None name r h = tt
-refused_told (Some f) name r h = h.0
-
-pub unwritten_told : (told : Option Files) (name : List ℕ) (r : Refusal) → IfSome told (λ f. IsJudgedAs name (bytes_of f name) (Refused r)) → IfSome told (λ f. IsExplainAnswer (bytes_of f name) ending.WriteFault)
-unwritten_told None name r h = tt
-unwritten_told (Some f) name r h = (r.fault, h.0)
-
--- what Report gains: the whole explanation
-pub explained_whole : (told : Option Files) (name : List ℕ) (r : Refusal) (old new : Option (List ℕ)) → IfSome told (λ f. IsJudgedAs name (bytes_of f name) (Refused r)) → IsIfTold new (grown old r.text.items)
-    → IfSome told (λ f. GainsText (IsExplanation name (bytes_of f name) r.fault) old new ending.Done)
-explained_whole None name r old new h written = tt
-explained_whole (Some f) name r old new h written = whole (IsExplanation name (bytes_of f name) r.fault) r.text.items old new h.1 written
-
--- or a prefix of it
+-- where a write failed, Report gains a prefix of the explanation
 pub explained_front : (told : Option Files) (name : List ℕ) (r : Refusal) (old new : Option (List ℕ)) → IfSome told (λ f. IsJudgedAs name (bytes_of f name) (Refused r)) → ReportsFront r.text.items old new
     → IfSome told (λ f. GainsText (ExplainsFault name (bytes_of f name)) old new ending.WriteFault)
 explained_front None name r old new h written = tt
 explained_front (Some f) name r old new h written =
     front (ExplainsFault name (bytes_of f name)) r.text.items old new (record { fault = r.fault; first = h.0; explained = h.1 }) written
-
--- a text that was judged: the file is the text
-pub judged_told : (told : Option Files) (name text : List ℕ) (j : Judged) → IfSome told (λ f. text ≡ bytes_of f name) → IsJudgedAs name text j → IfSome told (λ f. IsJudgedAs name (bytes_of f name) j)
-judged_told None name text j is h = tt
-judged_told (Some f) name text j is h = subst (λ t. IsJudgedAs name t j) is h
 
 -- the explanation of a fault of the text
 pub refused_judged : (name text : List ℕ) (fault : SourceFault) (j : Judged) → IsFaultAt text 0 fault → IsRefusedFor name text fault j → IsJudgedAs name text j
@@ -118,26 +86,3 @@ long_judged None name (Ok j) long h = tt
 long_judged (Some f) name (Ok Accepted) long h = absurd h
 long_judged (Some f) name (Ok (Refused r)) long h =
     refused_judged name (bytes_of f name) source.TooLong (Refused r) long (h.0, long_explained name (bytes_of f name) r.text.items h.1)
-
--- what is left of it
-pub long_left : (told : Option Files) (name : List ℕ) (slot : Input) (j : Judged) → IfSome told (λ f. LeavesRest MAX_SOURCE_BYTES (bytes_of f name) slot) → IsRefusedFor name [] source.TooLong j → IfSome told (λ f. LeavesJudged j (bytes_of f name) slot)
-long_left None name slot j left h = tt
-long_left (Some f) name slot Accepted left h = tt
-long_left (Some f) name slot (Refused r) left h = subst (λ (x : SourceFault). LeavesText (ending.Source x) (bytes_of f name) slot) (sym h.0) left
-
--- what is left of a text that was judged
-pub short_left : (told : Option Files) (name : List ℕ) (slot : Input) (j : Judged) → TellsNoLength j → IfSome told (λ f. LeavesJudged j (bytes_of f name) slot)
-short_left None name slot j h = tt
-short_left (Some f) name slot Accepted h = tt
-short_left (Some f) name slot (Refused r) h = h (bytes_of f name) slot
-
--- its fault is not its length
-pub refused_short : (name text : List ℕ) (fault : SourceFault) (j : Judged) → IsFaultAt text 0 fault → length text ≤ MAX_SOURCE_BYTES → IsRefusedFor name text fault j → TellsNoLength j
-refused_short name text fault Accepted is short h = absurd h
-refused_short name text fault (Refused r) is short h =
-    short_source (IsFaultAt text 0) text (ending.Source r.fault) (λ long. long) short (subst (λ (x : SourceFault). IsFaultAt text 0 x) (sym h.0) is)
-
--- the same of what was made of a fault of the text
-pub refused_result : (r : Result Judged Ending) (name text : List ℕ) (fault : SourceFault) → IsFaultAt text 0 fault → IfOk r (IsRefusedFor name text fault) → IfOk r (IsJudgedAs name text)
-refused_result (Ok j) name text fault is h = refused_judged name text fault j is h
-refused_result (Err e) name text fault is h = tt
