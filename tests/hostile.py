@@ -100,7 +100,9 @@ class Calls:
             return self.wrong(words, files, f"ends with status {status}: {answer.line[:200]}")
         if not re.fullmatch(LINES[status], answer.line):
             return self.wrong(words, files, f"has status {status} and the line {answer.line[:200]!r}")
-        if status != 0 and answer.said:
+        if command == "explain" and bool(answer.said) != (status == 3):
+            return self.wrong(words, files, f"has status {status} and writes {answer.said[:80]!r}")
+        if status != 0 and answer.said and command != "explain":
             return self.wrong(words, files, f"has status {status} and writes {answer.said[:80]!r}")
         if status == 0 and (answer.file is None) == writes:
             return self.wrong(words, files, "is done and creates " + ("nothing" if writes else "something"))
@@ -138,6 +140,9 @@ class Calls:
         wide = self.call(["widen", "2", "p.dk", "out"], files)
         if wide and made and (wide.status == 3) != (made.status == 3):
             self.wrong(["widen", "2", "p.dk", "out"], files, "does not agree with compile")
+        said = self.call(["explain", "p.dk"], files)
+        if said and made and (said[:2] != made[:2] or not explains(text, said)):
+            self.wrong(["explain", "p.dk"], files, f"does not explain what compile says: {said.said[:200]!r}")
         plan = self.call(["plan", "p.dk"], files)
         if answer and made and plan and (answer.status == 3) != (made.status == 3) or plan and made and plan[:2] != made[:2]:
             self.wrong(["plan", "p.dk"], files, "does not agree with compile or eval")
@@ -160,6 +165,20 @@ class Calls:
 
     def report(self, text, report):
         self.call(["check", "p.dk", "r.txt"], {"p.dk": text, "r.txt": report})
+
+
+def explains(text, answer):
+    """Whether these are messages of a fault: the place and the kind of the line, plain bytes, at most 20 messages, and each of bounded length."""
+    if answer.status != 3:
+        return True
+    start, kind = re.match(r"program(?: (\d+)-\d+)?: (\w+)", answer.line).groups()
+    before = text[:int(start or 0)]
+    line = before[before.rfind(b"\n") + 1:]
+    column = sum(1 for byte in line if not 128 <= byte < 192) + 1
+    head = f"p.dk:{before.count(10) + 1}:{column}: error: {kind}: ".encode()
+    messages = re.split(rb"(?m)^(?=p\.dk:)", answer.said)[1:]
+    plain = all(byte == 10 or 32 <= byte < 127 for byte in answer.said)
+    return answer.said.startswith(head) and plain and len(messages) <= 20 and all(len(message) <= 2048 + 60 for message in messages)
 
 
 def read(name):
