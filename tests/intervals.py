@@ -1,5 +1,5 @@
 #!/usr/bin/env python3
-"""Compares the types that `narrow` gives to the definitions of small random programs with all values that these have, by brute force.
+"""Compares the types that `narrow` writes for the definitions of small random programs with all values that these have, by brute force.
 
 A program has two inputs of 1 to 3 bits and all operators. The values of a definition are computed from its body by the rules of docs/LANGUAGE.md, at each
 point of the frame and for each combination of the pixels that are read. A definition that reads pixels of more than 12 bits is not counted. The script

@@ -2,10 +2,10 @@ pub mod Operands
 pub mod Shown
 pub mod Marks
 pub mod Rendered
+pub mod Known
 pub mod Outputs
 pub mod Fits
 pub mod Narrows
+pub mod Lanes
 pub mod Pixels
-pub mod Spans
-pub mod Ranged
 pub mod Sides

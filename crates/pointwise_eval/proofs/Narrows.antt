@@ -22,7 +22,7 @@ all_narrow size types known ok are e (t, has, within) x y = in_wider t (Signed 6
 
 pub parts_narrow : (size : Size) (types : List Ty) (known : List Picture) → AreTypes types → AreIn types known → (e : Tree) → AreOfNarrowTypes types e → ArePartsIn (Signed 64) size known e
 parts_narrow size types known ok are (constant v s) h = all_narrow size types known ok are (constant v s) h
-parts_narrow size types known ok are (read edge g dx dy) (t, has, within) = λ x y. in_wider t (Signed 64) _ within (are g t has x y)
+parts_narrow size types known ok are (read edge g dx dy) h = (all_narrow size types known ok are (read edge g dx dy) h, λ x y. let (t, has, within) = h in in_wider t (Signed 64) _ within (are g t has x y))
 parts_narrow size types known ok are (shifted edge dx dy a) (h, p) = (all_narrow size types known ok are (shifted edge dx dy a) h, parts_narrow size types known ok are a p)
 parts_narrow size types known ok are (unary op a) (h, p) = (all_narrow size types known ok are (unary op a) h, parts_narrow size types known ok are a p)
 parts_narrow size types known ok are (binary op a b) (h, p, q) = (all_narrow size types known ok are (binary op a b) h, parts_narrow size types known ok are a p, parts_narrow size types known ok are b q)
@@ -30,15 +30,10 @@ parts_narrow size types known ok are (select c a b) (h, o, p, q) = (all_narrow s
 parts_narrow size types known ok are (convert how a s) (h, p) = (all_narrow size types known ok are (convert how a s) h, parts_narrow size types known ok are a p)
 parts_narrow size types known ok are (scale op a k) (h, p) = (all_narrow size types known ok are (scale op a k) h, parts_narrow size types known ok are a p)
 
--- a value at the side
-pub edged_in : (size : Size) (edge : Edge) (t : Ty) (p : Picture) → ((x y : ℤ) → IsIn t (p x y)) → (x y : ℤ) → IsIn t (edged size edge p x y)
-edged_in size Zero t p all x y = framed_in size t p all x y
-edged_in size Clamp t p all x y = all (clamped size.width x) (clamped size.height y)
-
 -- of the whole expression
 pub whole_in : (t : Ty) (size : Size) (known : List Picture) (e : Tree) → ArePartsIn t size known e → AreAllIn size known e t
 whole_in t size known (constant v s) h = h
-whole_in t size known (read edge g dx dy) h = λ x y. edged_in size edge t (picture_at known g) h (x +ℤ dx) (y +ℤ dy)
+whole_in t size known (read edge g dx dy) h = h.0
 whole_in t size known (shifted edge dx dy a) h = h.0
 whole_in t size known (unary op a) h = h.0
 whole_in t size known (binary op a b) h = h.0

@@ -28,7 +28,7 @@ use Rattle.pointwise_ir.proofs.Pictured.{first_pictures, reads_earlier, picture_
 use Rattle.pointwise_eval.specs.declared.plane.Plane.{Plane}
 use Rattle.dk_frames.specs.declared.frame.Frame.{Frame}
 use Rattle.pointwise_eval.specs.declared.plane.Plane.TheVariants.{Gone}
-use Rattle.pointwise_eval.specs.Planes.{values_of, shown, all_shown, IsWhole, CanEvaluate, IsPlaneOf, AreSameOrGone, ShowsNeeded}
+use Rattle.pointwise_eval.specs.Planes.{values_of, shown, all_shown, IsWhole, CanEvaluate, ArePixelsOf, IsPlaneOf, AreSameOrGone, ShowsNeeded}
 use Rattle.pointwise_eval.specs.Rounds.{IsInputFrame, AreFrames, round_of}
 use Rattle.pointwise_eval.specs.Needs.{IsNeeded, AreNeeds}
 
@@ -99,7 +99,7 @@ frame_picture size t f port is = record {
     chosen true k = sample_in t (get_or f.samples k 0) port (below_any t f.samples is.values k)
     chosen false k = zero_in t
 
-there_is : {A : Type 0} (xs : List A) (k : ℕ) → k < length xs → (x : A) × (slice_get xs k ≡ Some x)
+pub there_is : {A : Type 0} (xs : List A) (k : ℕ) → k < length xs → (x : A) × (slice_get xs k ≡ Some x)
 there_is [] k lt = absurd (omega arith)
 there_is (x ∷ xs) zero lt = (x, refl)
 there_is (x ∷ xs) (suc k) lt = there_is xs k (omega (arith, lt))
@@ -240,7 +240,7 @@ plane_in : (size : Size) (planes : List Plane) (e : Tree) (t : Ty) (wanted : Boo
     (x y : ℤ) → IsIn t (shown size (values_of q) x y)
 plane_in size planes e t true q ok is all x y =
     let P : Picture → Type 0 = λ r. IsIn t (r x y) in
-    subst P (sym (is.shown refl)) (framed_in size t (value size (all_shown size planes) e) (all refl) x y)
+    subst P (sym (is.pixels refl).shown) (framed_in size t (value size (all_shown size planes) e) (all refl) x y)
 plane_in size planes e t false q ok is all x y =
     let P : List ℤ → Type 0 = λ vs. IsIn t (shown size vs x y) in
     subst P (sym (is.empty refl)) (framed_in size t (λ _ _. pos 0) (λ _ _. zero_in t) x y)
@@ -285,7 +285,7 @@ shows_more p round until planes k d wanted q is needs one_each there does has pl
         | inl low ↦ (let w = shows.whole g (sooner g wants) low in record { plane = w.plane; there = earlier_entry planes q w.plane g w.there; whole = w.whole })
         | inr high ↦
             let here : g ≡ length planes = omega (arith, lt, longer, high) in
-            record { plane = q; there = last_is planes q g here; whole = plane.whole (has (own g (here ∙ as_many) wants)) }
+            record { plane = q; there = last_is planes q g here; whole = (plane.pixels (has (own g (here ∙ as_many) wants))).whole }
       ];
       pictures = λ g wants lt. elim (cases_lt g (length planes)) [
         | inl low ↦ earlier_shown size planes q g low ∙ shows.pictures g (sooner g wants) low
@@ -296,7 +296,7 @@ shows_more p round until planes k d wanted q is needs one_each there does has pl
             let both = each_both (IsNeeded until (length p.inputs + k)) (λ h. h < length p.inputs + k) e (needs.bodies (length p.inputs + k) e (k, refl, listed) (own g at wants)) (reads_earlier p is k e listed) in
             let same : Agree (value size (all_shown size planes) e) (value size known e) =
             value_agrees size (λ h. IsNeeded until (length p.inputs + k) h × (h < length p.inputs + k)) (all_shown size planes) known (λ h w x y. ap (λ (r : Picture). r x y) (shows.pictures h w.0 (let z = w.1 in omega (arith, z, as_many)))) e both in
-            last_shown size planes q g here ∙ plane.shown holds
+            last_shown size planes q g here ∙ (plane.pixels holds).shown
             ∙ same_picture (framed size (value size (all_shown size planes) e)) (framed size (value size known e)) (framed_agrees size (value size (all_shown size planes) e) (value size known e) same)
             ∙ sym (same_picture (picture_at known g) (framed size (value size known e)) (picture_of_body p is round one_each g e (k, here ∙ as_many, listed)))
       ];
@@ -306,12 +306,12 @@ shows_more p round until planes k d wanted q is needs one_each there does has pl
 gone_in : (size : Size) (t : Ty) (x y : ℤ) → IsIn t (shown size [] x y)
 gone_in size t x y = framed_in size t (λ _ _. pos 0) (λ _ _. zero_in t) x y
 
-entry_shown : (size : Size) (planes : List Plane) (g : ℕ) (q : Plane) → slice_get planes g ≡ Some q → picture_at (all_shown size planes) g ≡ shown size (values_of q)
+pub entry_shown : (size : Size) (planes : List Plane) (g : ℕ) (q : Plane) → slice_get planes g ≡ Some q → picture_at (all_shown size planes) g ≡ shown size (values_of q)
 entry_shown size [] g q is = absurd (let e : ⊥ = cc in e)
 entry_shown size (p ∷ planes) zero q is = let e : p ≡ q = cc in ap (λ (r : Plane). shown size (values_of r)) e
 entry_shown size (p ∷ planes) (suc g) q is = entry_shown size planes g q is
 
-same_shown : (size : Size) (old new : List Plane) (g : ℕ) → slice_get new g ≡ slice_get old g → picture_at (all_shown size new) g ≡ picture_at (all_shown size old) g
+pub same_shown : (size : Size) (old new : List Plane) (g : ℕ) → slice_get new g ≡ slice_get old g → picture_at (all_shown size new) g ≡ picture_at (all_shown size old) g
 same_shown size [] [] g same = refl
 same_shown size [] (q ∷ new) zero same = absurd (let e : ⊥ = cc in e)
 same_shown size [] (q ∷ new) (suc g) same = same_shown size [] new g same
@@ -366,7 +366,6 @@ shows_after p types known until n old new count kept each shows = record {
 }
 
 -- what `render` gives
-pub is_rendered : {E : Type 0} (size : Size) (planes : List Plane) (e : Tree) (wanted : Bool) (r : Result Plane E) → wanted ≡ true → IfOk r (λ q. length (values_of q) ≡ area size) →
-    IfOk r (λ q. shown size (values_of q) ≡ framed size (value size (all_shown size planes) e)) → IfOk r (λ q. IsPlaneOf size planes e wanted q)
-is_rendered size planes e wanted (Ok q) holds whole is = record { whole = λ _. whole; shown = λ _. is; empty = λ no. absurd (let f : true ≡ false = sym holds ∙ no in let g : ⊥ = cc in g) }
-is_rendered size planes e wanted (Err f) holds whole is = tt
+pub is_rendered : {E : Type 0} (size : Size) (planes : List Plane) (e : Tree) (wanted : Bool) (r : Result Plane E) → wanted ≡ true → IfOk r (λ q. ArePixelsOf size planes e (values_of q)) → IfOk r (λ q. IsPlaneOf size planes e wanted q)
+is_rendered size planes e wanted (Ok q) holds is = record { pixels = λ _. is; empty = λ no. absurd (let f : true ≡ false = sym holds ∙ no in let g : ⊥ = cc in g) }
+is_rendered size planes e wanted (Err f) holds is = tt

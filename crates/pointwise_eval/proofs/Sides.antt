@@ -11,13 +11,16 @@ use Rattle.pointwise_ir.specs.Meaning.{edged}
 use Rattle.value_rows.specs.Rows.{entry, beside, IsRow}
 use Rattle.pointwise_eval.specs.Steps.{LeadsToRow}
 
--- an element of a row has a value of the picture
+-- an entry of a row is a value of the picture
+pub entry_in : (t : Ty) (size : Size) (picture : Picture) (y : ℤ) (row : List ℤ) → IsRow size picture y row → ((x y : ℤ) → IsIn t (picture x y)) → (k : ℕ) → k < size.width → IsIn t (entry row k)
+entry_in t size picture y row is all k lt = subst (IsIn t) (sym (is.values k lt)) (all (pos k) y)
+
+-- so is an element
 pub row_in : {A : Type 0} (worth : A → ℤ) (t : Ty) (size : Size) (picture : Picture) (y : ℤ) (row : List A) → IsRow size picture y (map worth row) → ((x y : ℤ) → IsIn t (picture x y)) → (k : ℕ) → k < length row → IsIn t (entry (map worth row) k)
 row_in worth t size picture y row is all k lt =
     let long : length (map worth row) ≡ length row = length-map row worth in
     let whole = is.whole in
-    let within : k < size.width = omega (arith, lt, long, whole) in
-    subst (IsIn t) (sym (is.values k within)) (all (pos k) y)
+    entry_in t size picture y (map worth row) is all k (let within : k < size.width = omega (arith, lt, long, whole) in within)
 
 zero_side : (size : Size) (picture : Picture) (there n : ℕ) (row : List ℤ) → there < size.height → IsRow size picture (pos there) row → beside Zero row (pos n) ≡ edged size Zero picture (pos n) (pos there)
 zero_side size picture there n row down is = elim (cases_lt n size.width) [

@@ -3,10 +3,11 @@ use Rattle.std.specs.Prelude.{ℤ, List}
 use Rattle.dk_base.specs.declared.ty.Ty.{Ty}
 use Rattle.dk_base.specs.declared.ty.Ty.TheVariants.{Signed}
 use Rattle.dk_base.specs.Types.{IsIn, IsWithin}
-use Rattle.dk_base.specs.Frames.{Size, Picture, picture_at}
+use Rattle.dk_base.specs.Frames.{Size, Picture}
 use Rattle.pointwise_ir.specs.Trees.{Tree, constant, read, shifted, unary, binary, select, convert, scale}
 use Rattle.pointwise_ir.specs.Typing.{HasType}
 use Rattle.pointwise_ir.specs.Meaning.{value}
+use Rattle.value_ranges.specs.Parts.{EachPart}
 
 -- each value is a number of the type
 abbrev pub AreAllIn : Size → List Picture → Tree → Ty → Type 0
@@ -14,14 +15,7 @@ AreAllIn size known e t = (x y : ℤ) → IsIn t (value size known e x y)
 
 -- so is each part's, and each value of an image that is read
 abbrev pub ArePartsIn : Ty → Size → List Picture → Tree → Type 0
-ArePartsIn s size known (constant v t) = AreAllIn size known (constant v t) s
-ArePartsIn s size known (read edge g dx dy) = (x y : ℤ) → IsIn s (picture_at known g x y)
-ArePartsIn s size known (shifted edge dx dy a) = AreAllIn size known (shifted edge dx dy a) s × ArePartsIn s size known a
-ArePartsIn s size known (unary op a) = AreAllIn size known (unary op a) s × ArePartsIn s size known a
-ArePartsIn s size known (binary op a b) = AreAllIn size known (binary op a b) s × ArePartsIn s size known a × ArePartsIn s size known b
-ArePartsIn s size known (select c a b) = AreAllIn size known (select c a b) s × ArePartsIn s size known c × ArePartsIn s size known a × ArePartsIn s size known b
-ArePartsIn s size known (convert how a t) = AreAllIn size known (convert how a t) s × ArePartsIn s size known a
-ArePartsIn s size known (scale op a k) = AreAllIn size known (scale op a k) s × ArePartsIn s size known a
+ArePartsIn s size known e = EachPart (IsIn s) size known e
 
 -- the expression has a type of numbers of 64 bits, where the images have these types
 abbrev pub HasNarrowType : List Ty → Tree → Type 0

@@ -94,10 +94,14 @@ pub record LeadsTo (size : Size) (edge : Edge) (x y : ℤ) (u v : ℕ) : Type 0 
   pub down : v < size.height
   pub same : (picture : Picture) → edged size edge picture x y ≡ picture (pos u) (pos v)
 
+-- the values of the expression at all pixels, in raster order
+pub record ArePixelsOf (size : Size) (planes : List Plane) (e : Tree) (values : List ℤ) : Type 0 where
+  pub whole : length values ≡ area size
+  pub shown : shown size values ≡ framed size (value size (all_shown size planes) e)
+
 -- the plane of an image that is not an input: the expression's value at each pixel if it is needed, else empty
 pub record IsPlaneOf (size : Size) (planes : List Plane) (e : Tree) (wanted : Bool) (plane : Plane) : Type 0 where
-  pub whole : IsTrue wanted → length (values_of plane) ≡ area size
-  pub shown : IsTrue wanted → shown size (values_of plane) ≡ framed size (value size (all_shown size planes) e)
+  pub pixels : IsTrue wanted → ArePixelsOf size planes e (values_of plane)
   pub empty : IsFalse wanted → values_of plane ≡ []
 
 -- the planes of images, of which those that are needed after the first n have these pictures
@@ -117,3 +121,7 @@ pub record IsOutputPlane (size : Size) (planes : List Plane) (g : ℕ) : Type 0 
   pub ty : Ty
   pub port : IsPort ty
   pub values : (x y : ℤ) → IsIn ty (picture_at (all_shown size planes) g x y)
+
+-- each picture that the planes show is a known one, or 0 everywhere where the plane is gone or not there
+abbrev pub AreKnownOrGone : Size → List Picture → List Plane → Type 0
+AreKnownOrGone size known planes = (g : ℕ) → (picture_at (all_shown size planes) g ≡ picture_at known g) ⊎ ((x y : ℤ) → picture_at (all_shown size planes) g x y ≡ pos 0)

@@ -10,6 +10,8 @@ ghost use Rattle.pointwise_ir.specs.Trees.{tree_of, depth_of};
 ghost use Rattle.pointwise_ir.specs.Programs.{all_types, types_of};
 ghost use Rattle.dk_base.specs.Frames.{picture_at};
 ghost use Rattle.pointwise_ir.specs.Meaning.{pictures};
+ghost use Rattle.value_ranges.specs.Parts.{AreBetween};
+ghost use Rattle.value_ranges.specs.Images.{AreRangesOf};
 ghost use Rattle.pointwise_eval.specs.Needs.{IsNeeded, image_count, AreNeeds};
 ghost use Rattle.pointwise_eval.specs.Planes.{values_of, all_shown, AreValues, IsWhole, CanEvaluate, IsPlaneOf, AreSameOrGone, ShowsNeeded, IsOutputPlane};
 ghost use Rattle.pointwise_eval.specs.Rounds.{AreFrames, round_of, frame_of, output_frames};
@@ -22,6 +24,7 @@ use dk_frames::{Frame, SampleSlice, Samples};
 use pointwise_ir::{Definition, Expr, Program};
 use std::alloc::Global;
 use std::mem;
+use value_ranges::{Interval, image_ranges};
 use value_rows::Element;
 
 // The plane of an input.
@@ -55,6 +58,7 @@ fn next_plane<'a>(
     requires can { IsTrue wanted → CanEvaluate (size_of sources.now.size) sources.now.planes.now (tree_of body.now) }
     requires types { All IsType (all_types sources.now.inputs.now sources.now.images.now) }
     requires values { AreValues (size_of sources.now.size) (all_types sources.now.inputs.now sources.now.images.now) sources.now.planes.now }
+    requires ranges { AreBetween sources.now.ranges.now (all_shown (size_of sources.now.size) sources.now.planes.now) }
     requires depth { depth_of (tree_of body.now) ≤ MAX_INLINED_DEPTH }
     ensures { IfOk result (λ p. IsPlaneOf (size_of sources.now.size) sources.now.planes.now (tree_of body.now) wanted p) }
 {
@@ -113,9 +117,12 @@ fn all_planes<'a>(
     ir: &Program,
     frames: &'a [Frame],
     until: &[usize],
+    ranges: &[Interval],
 ) -> Result<Vec<Plane<'a>>, OutOfMemory>
     requires frames { AreFrames ir.now frames.now }
     requires needs { AreNeeds ir.now until.now }
+    requires count { length ranges.now ≡ image_count ir.now }
+    requires ranges { AreRangesOf ir.now ranges.now }
     ensures { IfOk result (λ planes. ShowsNeeded ir.now.size (types_of ir.now)
         (pictures ir.now (round_of ir.now.size frames.now)) until.now (image_count ir.now) planes.items) }
 {
@@ -131,6 +138,7 @@ fn all_planes<'a>(
         let sources = Sources {
             size,
             planes: planes.as_slice(),
+            ranges,
             inputs,
             images: before,
         };
@@ -260,7 +268,8 @@ pub fn evaluate(alloc: Global, ir: &Program, frames: &[Frame]) -> Result<Vec<Fra
 {
     ir.law();
     let until = needs(alloc, ir)?;
-    let mut planes = all_planes(alloc, ir, frames, &until)?;
+    let ranges = image_ranges(alloc, ir)?;
+    let mut planes = all_planes(alloc, ir, frames, &until, &ranges)?;
     let outs = frames_of_outputs(alloc, ir.size(), ir.outputs(), &mut planes)?;
     Ok(outs)
 }

@@ -3,11 +3,11 @@
 
 mod evaluation;
 mod fit;
+mod lane;
 mod narrow;
 mod need;
 mod plane;
 mod point;
-mod ranges;
 mod rows;
 mod value;
 mod walk;

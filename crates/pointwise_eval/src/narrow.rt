@@ -26,7 +26,7 @@ fn narrow(ty: Ty) -> Option<Ty>
 }
 
 // The type of image `number`, where it is one of these.
-pub fn type_at(inputs: &[Input], images: &[Definition], number: u32) -> Option<Ty>
+fn type_at(inputs: &[Input], images: &[Definition], number: u32) -> Option<Ty>
     ensures { result ≡ slice_get (all_types inputs.now images.now) number }
 {
     let number = number as usize;
@@ -41,7 +41,7 @@ pub fn type_at(inputs: &[Input], images: &[Definition], number: u32) -> Option<T
 }
 
 // The type, where it is a type of values.
-pub fn typed(ty: Ty) -> Option<Ty>
+fn typed(ty: Ty) -> Option<Ty>
     ensures { IfSome result (λ t. (t ≡ ty) × IsType ty) }
 {
     let width = ty.width();

@@ -5,24 +5,26 @@ ghost use Rattle.std.specs.List.{All};
 ghost use Rattle.dk_base.specs.declared.TheConstants.{MAX_INLINED_DEPTH};
 ghost use Rattle.dk_base.specs.Types.{IsType};
 ghost use Rattle.value_rows.specs.Rows.{IsRow};
-ghost use Rattle.dk_base.specs.Frames.{area, framed};
 ghost use Rattle.dk_base.specs.FrameSizes.{size_of};
-ghost use Rattle.pointwise_ir.specs.Trees.{tree_of, depth_of, EachImage};
+ghost use Rattle.pointwise_ir.specs.Trees.{tree_of, depth_of};
 ghost use Rattle.pointwise_ir.specs.Programs.{all_types};
 ghost use Rattle.pointwise_ir.specs.Meaning.{value};
-ghost use Rattle.pointwise_eval.specs.Narrow.{ArePartsIn, AreAllIn};
-ghost use Rattle.pointwise_eval.specs.Planes.{values_of, shown, all_shown, HasRows, AreValues, CanEvaluate};
+ghost use Rattle.value_ranges.specs.Parts.{AreBetween};
+ghost use Rattle.pointwise_eval.specs.Narrow.{AreAllIn};
+ghost use Rattle.pointwise_eval.specs.Planes.{values_of, all_shown, AreValues, ArePixelsOf, CanEvaluate};
 ghost use Rattle.pointwise_eval.specs.ElementKinds.{HoldsAll};
+ghost use Rattle.pointwise_eval.specs.Lanes.{lane_type, FitsLane};
 
+use crate::lane::{Lane, lane_of};
 use crate::narrow::{narrow_type, reads_rows};
 use crate::plane::Plane;
-use crate::ranges::fits;
 use crate::value::render_points;
 use crate::walk::value_row;
 use dk_base::{FrameSize, OutOfMemory, Ty};
 use pointwise_ir::{Definition, Expr, Input};
 use std::alloc::Global;
 use std::cmp::max;
+use value_ranges::Interval;
 use value_rows::{Element, copy_row};
 
 // The depth of an expression.
@@ -52,9 +54,7 @@ fn element_row<L: Element, T: Element>(
     to: &mut [T],
     scratch: &mut [L],
 )
-    requires can { CanEvaluate (size_of size) planes.now (tree_of e.now) }
-    requires rows { EachImage (HasRows planes.now) (tree_of e.now) }
-    requires parts { ArePartsIn L.ty (size_of size) (all_shown (size_of size) planes.now) (tree_of e.now) }
+    requires lane { FitsLane L.ty (size_of size) planes.now (tree_of e.now) }
     requires typed { AreAllIn (size_of size) (all_shown (size_of size) planes.now) (tree_of e.now) T.ty }
     requires down { y < size.height }
     requires elements { length to.old ≡ size.width }
@@ -75,15 +75,11 @@ fn elements_of_rows<L: Element, T: Element>(
     part: &mut [T],
     scratch: &mut [L],
 ) -> Result<Vec<T>, OutOfMemory>
-    requires can { CanEvaluate (size_of size) planes.now (tree_of e.now) }
-    requires rows { EachImage (HasRows planes.now) (tree_of e.now) }
-    requires parts { ArePartsIn L.ty (size_of size) (all_shown (size_of size) planes.now) (tree_of e.now) }
+    requires lane { FitsLane L.ty (size_of size) planes.now (tree_of e.now) }
     requires typed { AreAllIn (size_of size) (all_shown (size_of size) planes.now) (tree_of e.now) T.ty }
     requires part { length part.old ≡ size.width }
     requires room { size.width + depth_of (tree_of e.now) * (size.width + size.width) ≤ length scratch.old }
-    ensures whole { IfOk result (λ v. length (map T.worth v.items) ≡ area (size_of size)) }
-    ensures value { IfOk result (λ v. shown (size_of size) (map T.worth v.items)
-        ≡ framed (size_of size) (value (size_of size) (all_shown (size_of size) planes.now) (tree_of e.now))) }
+    ensures { IfOk result (λ v. ArePixelsOf (size_of size) planes.now (tree_of e.now) (map T.worth v.items)) }
 {
     let mut elements = Vec::with_capacity(alloc, size.width as usize * size.height as usize)?;
     for y in 0..size.height {
@@ -100,14 +96,10 @@ fn render_elements<L: Element, T: Element>(
     planes: &[Plane<'_>],
     e: &Expr,
 ) -> Result<Vec<T>, OutOfMemory>
-    requires can { CanEvaluate (size_of size) planes.now (tree_of e.now) }
-    requires rows { EachImage (HasRows planes.now) (tree_of e.now) }
-    requires parts { ArePartsIn L.ty (size_of size) (all_shown (size_of size) planes.now) (tree_of e.now) }
+    requires lane { FitsLane L.ty (size_of size) planes.now (tree_of e.now) }
     requires typed { AreAllIn (size_of size) (all_shown (size_of size) planes.now) (tree_of e.now) T.ty }
     requires depth { depth_of (tree_of e.now) ≤ MAX_INLINED_DEPTH }
-    ensures whole { IfOk result (λ v. length (map T.worth v.items) ≡ area (size_of size)) }
-    ensures value { IfOk result (λ v. shown (size_of size) (map T.worth v.items)
-        ≡ framed (size_of size) (value (size_of size) (all_shown (size_of size) planes.now) (tree_of e.now))) }
+    ensures { IfOk result (λ v. ArePixelsOf (size_of size) planes.now (tree_of e.now) (map T.worth v.items)) }
 {
     let width = size.width as usize;
     let mut part = vec![in alloc; T::default(); width]?;
@@ -157,14 +149,10 @@ fn render_rows<'a, L: Element>(
     e: &Expr,
     ty: Ty,
 ) -> Result<Plane<'a>, OutOfMemory>
-    requires can { CanEvaluate (size_of size) planes.now (tree_of e.now) }
-    requires rows { EachImage (HasRows planes.now) (tree_of e.now) }
-    requires parts { ArePartsIn L.ty (size_of size) (all_shown (size_of size) planes.now) (tree_of e.now) }
+    requires lane { FitsLane L.ty (size_of size) planes.now (tree_of e.now) }
     requires typed { AreAllIn (size_of size) (all_shown (size_of size) planes.now) (tree_of e.now) ty }
     requires depth { depth_of (tree_of e.now) ≤ MAX_INLINED_DEPTH }
-    ensures whole { IfOk result (λ p. length (values_of p) ≡ area (size_of size)) }
-    ensures value { IfOk result (λ p. shown (size_of size) (values_of p)
-        ≡ framed (size_of size) (value (size_of size) (all_shown (size_of size) planes.now) (tree_of e.now))) }
+    ensures { IfOk result (λ p. ArePixelsOf (size_of size) planes.now (tree_of e.now) (values_of p)) }
 {
     let _type = L::element_type();
     match kind_of(ty) {
@@ -192,25 +180,45 @@ fn render_rows<'a, L: Element>(
     }
 }
 
-// The images that a body may read: the size of the frame, their planes, and the inputs and definitions that they are.
+// The plane of an image of this type, by rows of a lane.
+fn render_lane<'a>(
+    alloc: Global,
+    size: FrameSize,
+    planes: &[Plane<'_>],
+    e: &Expr,
+    ty: Ty,
+    lane: Lane,
+) -> Result<Plane<'a>, OutOfMemory>
+    requires lane { FitsLane (lane_type lane) (size_of size) planes.now (tree_of e.now) }
+    requires typed { AreAllIn (size_of size) (all_shown (size_of size) planes.now) (tree_of e.now) ty }
+    requires depth { depth_of (tree_of e.now) ≤ MAX_INLINED_DEPTH }
+    ensures { IfOk result (λ p. ArePixelsOf (size_of size) planes.now (tree_of e.now) (values_of p)) }
+{
+    match lane {
+        Lane::Bits16 => render_rows::<i16>(alloc, size, planes, e, ty),
+        Lane::Bits32 => render_rows::<i32>(alloc, size, planes, e, ty),
+        Lane::Bits64 => render_rows::<i64>(alloc, size, planes, e, ty),
+    }
+}
+
+// The images that a body may read: the size of the frame, their planes, the intervals of their values, and the inputs and definitions that they are.
 #[derive(Clone, Copy)]
 pub struct Sources<'a> {
     pub size: FrameSize,
     pub planes: &'a [Plane<'a>],
+    pub ranges: &'a [Interval],
     pub inputs: &'a [Input],
     pub images: &'a [Definition],
 }
 
 // The values of an expression over these images at all pixels: by rows where all its parts have values of 64 bits and it reads such planes, in the lane of fewest bits that holds them; else each by itself.
-#[tactic(auto, using(crate::proofs::Narrows::planes_narrow))]
 pub fn render<'a>(alloc: Global, sources: &Sources<'_>, e: &Expr) -> Result<Plane<'a>, OutOfMemory>
     requires can { CanEvaluate (size_of sources.now.size) sources.now.planes.now (tree_of e.now) }
     requires types { All IsType (all_types sources.now.inputs.now sources.now.images.now) }
     requires values { AreValues (size_of sources.now.size) (all_types sources.now.inputs.now sources.now.images.now) sources.now.planes.now }
+    requires ranges { AreBetween sources.now.ranges.now (all_shown (size_of sources.now.size) sources.now.planes.now) }
     requires depth { depth_of (tree_of e.now) ≤ MAX_INLINED_DEPTH }
-    ensures whole { IfOk result (λ p. length (values_of p) ≡ area (size_of sources.now.size)) }
-    ensures value { IfOk result (λ p. shown (size_of sources.now.size) (values_of p)
-        ≡ framed (size_of sources.now.size) (value (size_of sources.now.size) (all_shown (size_of sources.now.size) sources.now.planes.now) (tree_of e.now))) }
+    ensures { IfOk result (λ p. ArePixelsOf (size_of sources.now.size) sources.now.planes.now (tree_of e.now) (values_of p)) }
 {
     let size = sources.size;
     let planes = sources.planes;
@@ -222,11 +230,6 @@ pub fn render<'a>(alloc: Global, sources: &Sources<'_>, e: &Expr) -> Result<Plan
     let Some(ty) = narrow_type(e, inputs, images) else {
         return render_points(alloc, size, planes, e);
     };
-    if fits::<i16>(e, inputs, images) {
-        return render_rows::<i16>(alloc, size, planes, e, ty);
-    }
-    if fits::<i32>(e, inputs, images) {
-        return render_rows::<i32>(alloc, size, planes, e, ty);
-    }
-    render_rows::<i64>(alloc, size, planes, e, ty)
+    let lane = lane_of(e, sources.ranges);
+    render_lane(alloc, size, planes, e, ty, lane)
 }

@@ -1,12 +1,11 @@
 // The value of an expression at a pixel.
 
 ghost use Rattle.std.specs.Prelude.{◌≡◌, ◌<◌, pos, IfOk, length, map, slice_index_or};
-ghost use Rattle.dk_base.specs.Frames.{area};
 ghost use Rattle.dk_base.specs.FrameSizes.{size_of};
 ghost use Rattle.pointwise_ir.specs.Trees.{tree_of};
-ghost use Rattle.dk_base.specs.Frames.{framed, picture_at};
+ghost use Rattle.dk_base.specs.Frames.{picture_at};
 ghost use Rattle.pointwise_ir.specs.Meaning.{value};
-ghost use Rattle.pointwise_eval.specs.Planes.{values_of, shown, all_shown, IsWhole, CanEvaluate};
+ghost use Rattle.pointwise_eval.specs.Planes.{values_of, all_shown, IsWhole, CanEvaluate, ArePixelsOf};
 
 use crate::plane::Plane;
 use crate::point::{Point, step};
@@ -100,9 +99,7 @@ pub fn render_points<'a>(
     e: &Expr,
 ) -> Result<Plane<'a>, OutOfMemory>
     requires can { CanEvaluate (size_of size) planes.now (tree_of e.now) }
-    ensures whole { IfOk result (λ p. length (values_of p) ≡ area (size_of size)) }
-    ensures value { IfOk result (λ p. shown (size_of size) (values_of p)
-        ≡ framed (size_of size) (value (size_of size) (all_shown (size_of size) planes.now) (tree_of e.now))) }
+    ensures { IfOk result (λ p. ArePixelsOf (size_of size) planes.now (tree_of e.now) (values_of p)) }
 {
     let mut values = Vec::new(alloc);
     for y in 0..size.height {

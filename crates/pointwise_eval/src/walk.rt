@@ -2,14 +2,14 @@
 
 ghost use Rattle.std.specs.Prelude.{◌≡◌, ℕ, map, ◌+◌, ◌*◌, ◌<◌, ◌≤◌, pos, ◌+ℤ◌, length, MatchOption};
 ghost use Rattle.dk_base.specs.FrameSizes.{size_of};
-ghost use Rattle.pointwise_ir.specs.Trees.{tree_of, depth_of, EachImage};
+ghost use Rattle.pointwise_ir.specs.Trees.{tree_of, depth_of};
 ghost use Rattle.dk_base.specs.Frames.{picture_at};
 ghost use Rattle.pointwise_ir.specs.Meaning.{value};
 ghost use Rattle.value_rows.specs.Rows.{entry, beside, IsRow, IsNarrow};
-ghost use Rattle.pointwise_eval.specs.Planes.{values_of, entries_of, IsByRows, all_shown, IsWhole, HasRows, CanEvaluate};
+ghost use Rattle.pointwise_eval.specs.Planes.{values_of, entries_of, IsByRows, all_shown, IsWhole, HasRows};
 ghost use Rattle.pointwise_eval.specs.Steps.{LeadsNowhere, LeadsToRow};
 ghost use Rattle.dk_base.specs.Types.{IsIn};
-ghost use Rattle.pointwise_eval.specs.Narrow.{ArePartsIn};
+ghost use Rattle.pointwise_eval.specs.Lanes.{FitsLane};
 
 use crate::plane::{Plane, Row};
 use crate::point::{brought, moved};
@@ -161,9 +161,7 @@ pub fn value_row<L: Element>(
     to: &mut [L],
     scratch: &mut [L],
 )
-    requires can { CanEvaluate (size_of size) planes.now (tree_of e.now) }
-    requires rows { EachImage (HasRows planes.now) (tree_of e.now) }
-    requires parts { ArePartsIn L.ty (size_of size) (all_shown (size_of size) planes.now) (tree_of e.now) }
+    requires lane { FitsLane L.ty (size_of size) planes.now (tree_of e.now) }
     requires down { y < size.height }
     requires row { length to.old ≡ size.width }
     requires room { depth_of (tree_of e.now) * (size.width + size.width) ≤ length scratch.old }

@@ -22,9 +22,9 @@ loop-y-preserved g c =
       samples = rw more (row_more size (value size (all_shown size c.args.planes.now) (tree_of c.args.e.now)) (map g.T.Element.worth c.loop-y.elements.items) (map g.T.Element.worth c.element_row.new.to) c.loop-y.y before c.element_row.ensures c.loop-y.invariant.samples);
     }
 
-pub returns-clause-value : goal.returns-clause-value
-returns-clause-value g c =
+pub returns : goal.returns
+returns g c =
     let size = size_of c.args.size in
     let rows : c.loop-y.y ≡ c.args.size.height = omega (arith, c.loop-y.auto.y-end, c.loop-y-test.false) in
     let whole : length (map g.T.Element.worth c.loop-y.elements.items) ≡ area size = c.loop-y.invariant.count ∙ ap (λ n. n * c.args.size.width) rows ∙ mul_comm c.args.size.height c.args.size.width in
-    shown_is size (value size (all_shown size c.args.planes.now) (tree_of c.args.e.now)) (map g.T.Element.worth c.loop-y.elements.items) whole c.loop-y.invariant.samples
+    record { whole = whole; shown = shown_is size (value size (all_shown size c.args.planes.now) (tree_of c.args.e.now)) (map g.T.Element.worth c.loop-y.elements.items) whole c.loop-y.invariant.samples }

@@ -16,9 +16,9 @@ loop-x-preserved c =
       samples = rw more (samples_more size (value size (all_shown size c.args.planes.now) (tree_of c.args.e.now)) c.loop-x.values.items c.loop-x.x c.loop-y.y c.value_at.result c.loop-x.invariant.so_many c.loop-x-test.true c.value_at.ensures c.loop-x.invariant.samples);
     }
 
-pub returns-clause-value : goal.returns-clause-value
-returns-clause-value c =
+pub returns : goal.returns
+returns c =
     let size = size_of c.args.size in
     let rows : c.loop-y.y ≡ c.args.size.height = omega (arith, c.loop-y.auto.y-end, c.loop-y-test.false) in
     let whole : length c.loop-y.values.items ≡ area size = c.loop-y.invariant.so_many ∙ ap (λ n. n * c.args.size.width) rows ∙ mul_comm c.args.size.height c.args.size.width in
-    shown_is size (value size (all_shown size c.args.planes.now) (tree_of c.args.e.now)) c.loop-y.values.items whole c.loop-y.invariant.samples
+    record { whole = whole; shown = shown_is size (value size (all_shown size c.args.planes.now) (tree_of c.args.e.now)) c.loop-y.values.items whole c.loop-y.invariant.samples }
