@@ -21,7 +21,7 @@ use Rattle.pointwise_eval.specs.declared.plane.Plane.{Plane}
 use Rattle.pointwise_eval.specs.declared.plane.Plane.TheVariants.{Gone}
 use Rattle.pointwise_eval.specs.Needs.{IsNeeded, image_count}
 use Rattle.pointwise_eval.specs.Planes.{values_of, shown, all_shown, IsPlaneOf, AreSameOrGone, ShowsNeeded, AreKnownOrGone}
-use Rattle.pointwise_eval.specs.Rounds.{AreFrames, round_of}
+use Rattle.pointwise_eval.specs.Rounds.{round_of}
 use Rattle.pointwise_eval.proofs.Rendered.{frames_shown, earlier_shown, last_shown, entry_shown, same_shown, there_is}
 
 past : (known : List Picture) (g : ℕ) → length known ≤ g → (x y : ℤ) → picture_at known g x y ≡ pos 0

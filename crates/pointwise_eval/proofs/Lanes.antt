@@ -1,22 +1,16 @@
 -- The lane of an expression can compute it.
-use Rattle.std.proofs.Common.{ℕ, ℤ, List}
+use Rattle.std.proofs.Common.{List}
 use Rattle.dk_base.specs.declared.ty.Ty.{Ty}
-use Rattle.dk_base.specs.declared.operator.Unary.{Unary}
-use Rattle.dk_base.specs.declared.operator.Binary.{Binary}
-use Rattle.dk_base.specs.declared.operator.Scaling.{Scaling}
-use Rattle.dk_base.specs.declared.operator.Conversion.{Conversion}
 use Rattle.dk_base.specs.declared.ty.Ty.TheVariants.{Signed}
 use Rattle.dk_base.specs.Types.{IsIn}
 use Rattle.dk_base.specs.Frames.{Size, Picture}
-use Rattle.pointwise_ir.specs.declared.expr.Edge.{Edge}
-use Rattle.pointwise_ir.specs.Trees.{Tree, shifted, unary, binary, select, convert, scale, EachImage}
-use Rattle.pointwise_ir.specs.Typing.{HasType}
+use Rattle.pointwise_ir.specs.Trees.{Tree, EachImage}
 use Rattle.value_ranges.specs.declared.interval.Interval.{Interval}
 use Rattle.value_ranges.specs.Intervals.{IsBetween, IsHeldBy}
 use Rattle.value_ranges.specs.Parts.{AreBetween, IsRangeOfParts}
 use Rattle.value_ranges.proofs.Ranged.{parts_weaker}
 use Rattle.pointwise_eval.specs.declared.plane.Plane.{Plane}
-use Rattle.pointwise_eval.specs.Planes.{all_shown, HasRows, IsWhole, CanEvaluate}
+use Rattle.pointwise_eval.specs.Planes.{all_shown, HasRows, CanEvaluate}
 use Rattle.pointwise_eval.specs.declared.lane.Lane.{Lane}
 use Rattle.pointwise_eval.specs.declared.lane.Lane.TheVariants.{Bits16, Bits32, Bits64}
 use Rattle.pointwise_eval.specs.Narrow.{ArePartsIn}

@@ -9,3 +9,4 @@ pub mod Narrows
 pub mod Lanes
 pub mod Pixels
 pub mod Sides
+pub mod Lined

@@ -1,18 +1,15 @@
 -- Expressions whose parts have types of 64 bits have values of 64 bits.
-use Rattle.std.proofs.Common.{List, subst, ℤ, ◌+ℤ◌}
+use Rattle.std.proofs.Common.{List, subst}
 use Rattle.std.specs.List.{All}
 use Rattle.std.proofs.lemmas.Option.{slice_get_within, get_or_from_slice_get}
 use Rattle.dk_base.specs.declared.ty.Ty.{Ty}
 use Rattle.dk_base.specs.declared.ty.Ty.TheVariants.{Signed}
-use Rattle.dk_base.specs.Types.{IsType, IsIn}
-use Rattle.dk_base.specs.Frames.{Size, Picture, picture_at, clamped}
+use Rattle.dk_base.specs.Types.{IsType}
+use Rattle.dk_base.specs.Frames.{Size, Picture}
 use Rattle.dk_base.proofs.Ranges.{in_wider}
 use Rattle.pointwise_ir.specs.Trees.{Tree, constant, read, shifted, unary, binary, select, convert, scale}
-use Rattle.pointwise_ir.specs.declared.expr.Edge.{Edge}
-use Rattle.pointwise_ir.specs.declared.expr.Edge.TheVariants.{Zero, Clamp}
-use Rattle.pointwise_ir.specs.Meaning.{edged}
 use Rattle.pointwise_ir.specs.Typing.{HasType}
-use Rattle.pointwise_ir.proofs.Typed.{AreTypes, AreIn, framed_in, value_in}
+use Rattle.pointwise_ir.proofs.Typed.{AreTypes, AreIn, value_in}
 use Rattle.pointwise_eval.specs.declared.plane.Plane.{Plane}
 use Rattle.pointwise_eval.specs.Planes.{all_shown, AreValues}
 use Rattle.pointwise_eval.specs.Narrow.{AreAllIn, ArePartsIn, HasNarrowType, AreOfNarrowTypes}

@@ -1,6 +1,6 @@
 -- The planes of all images, one after another.
 use Rattle.std.proofs.Common.{◌≡◌, ◌≢◌, ℕ, zero, suc, ◌+◌, ◌-◌, ◌*◌, ◌<◌, ◌≤◌, Bool, true, false, List, [], ◌∷◌, ◌++◌, length, map, take, get_or, ℤ, pos, unsigned_abs, Some, slice_get, refl, ap, sym, ◌∙◌, subst, arith, inl, inr, append-nil, append_assoc, length-append, if◌then◌else◌}
-use Rattle.std.specs.Prelude.{IsTrue, IfOk, Result, Ok, Err, Option}
+use Rattle.std.specs.Prelude.{IsTrue, IfOk, Result, Ok, Err, Option, slice_index_or}
 use Rattle.std.specs.List.{All}
 use Rattle.std.specs.Option.{option_map}
 use Rattle.std.proofs.Math.ListN.{get_or-append}
@@ -13,7 +13,8 @@ use Rattle.std.proofs.lemmas.Option.{slice_get_within, slice_get-map, get_or_fro
 use Rattle.dk_base.specs.declared.ty.Ty.{Ty}
 use Rattle.dk_base.specs.declared.ty.Ty.TheVariants.{Unsigned, Signed}
 use Rattle.dk_base.specs.Types.{IsType, IsIn, above}
-use Rattle.dk_base.specs.Frames.{Size, area, in_frame, raster_number, Picture, picture_of}
+use Rattle.dk_base.specs.Frames.{Size, in_frame, raster_number, Picture, picture_of}
+use Rattle.dk_base.proofs.Rasters.{inside}
 use Rattle.pointwise_ir.specs.declared.program.Input.{Input}
 use Rattle.pointwise_ir.specs.declared.program.Definition.{Definition}
 use Rattle.pointwise_ir.specs.Trees.{Tree, constant, read, shifted, unary, binary, select, convert, scale, tree_of, EachImage}
@@ -369,3 +370,13 @@ shows_after p types known until n old new count kept each shows = record {
 pub is_rendered : {E : Type 0} (size : Size) (planes : List Plane) (e : Tree) (wanted : Bool) (r : Result Plane E) → wanted ≡ true → IfOk r (λ q. ArePixelsOf size planes e (values_of q)) → IfOk r (λ q. IsPlaneOf size planes e wanted q)
 is_rendered size planes e wanted (Ok q) holds is = record { pixels = λ _. is; empty = λ no. absurd (let f : true ≡ false = sym holds ∙ no in let g : ⊥ = cc in g) }
 is_rendered size planes e wanted (Err f) holds is = tt
+
+-- a value of a whole plane is that of its picture
+pub plane_value : (size : Size) (planes : List Plane) (g : ℕ) (p : Plane) (x y : ℕ) (v : ℤ) → IsWhole size planes g → p ≡ get_or planes g p → x < size.width → y < size.height → v ≡ slice_index_or (values_of p) (y * size.width + x) (pos 0) →
+    v ≡ picture_at (all_shown size planes) g (pos x) (pos y)
+plane_value size planes g p x y v w there across down is =
+    let k = y * size.width + x in
+    let same : p ≡ w.plane = there ∙ get_or_from_slice_get planes g w.plane p w.there in
+    let here : picture_at (all_shown size planes) g ≡ shown size (values_of p) = entry_shown size planes g w.plane w.there ∙ ap (λ (q : Plane). shown size (values_of q)) (sym same) in
+    let framed_is : shown size (values_of p) (pos x) (pos y) ≡ slice_index_or (values_of p) k (pos 0) = ap (λ b. if b then slice_index_or (values_of p) k (pos 0) else pos 0) (inside size x y across down) in
+    is ∙ sym framed_is ∙ sym (ap (λ (q : Picture). q (pos x) (pos y)) here)

@@ -2,7 +2,7 @@
 use Rattle.std.specs.Prelude.{ℤ, List}
 use Rattle.dk_base.specs.declared.ty.Ty.{Ty}
 use Rattle.dk_base.specs.declared.ty.Ty.TheVariants.{Signed}
-use Rattle.dk_base.specs.Types.{IsIn, IsWithin}
+use Rattle.dk_base.specs.Types.{IsType, IsIn, IsWithin}
 use Rattle.dk_base.specs.Frames.{Size, Picture}
 use Rattle.pointwise_ir.specs.Trees.{Tree, constant, read, shifted, unary, binary, select, convert, scale}
 use Rattle.pointwise_ir.specs.Typing.{HasType}
@@ -31,3 +31,9 @@ AreOfNarrowTypes types (binary op a b) = HasNarrowType types (binary op a b) × 
 AreOfNarrowTypes types (select c a b) = HasNarrowType types (select c a b) × AreOfNarrowTypes types c × AreOfNarrowTypes types a × AreOfNarrowTypes types b
 AreOfNarrowTypes types (convert how a t) = HasNarrowType types (convert how a t) × AreOfNarrowTypes types a
 AreOfNarrowTypes types (scale op a k) = HasNarrowType types (scale op a k) × AreOfNarrowTypes types a
+
+-- the type of an expression whose parts have types of numbers of 64 bits
+pub record IsNarrowType (types : List Ty) (e : Tree) (t : Ty) : Type 0 where
+  pub typed : IsType t
+  pub found : HasType types e t
+  pub narrow : AreOfNarrowTypes types e

@@ -5,10 +5,9 @@ ghost use Rattle.std.specs.List.{All};
 ghost use Rattle.dk_base.specs.declared.ty.Ty.TheVariants.{Signed};
 ghost use Rattle.dk_base.specs.Types.{IsType, IsIn, IsWithin};
 ghost use Rattle.pointwise_ir.specs.Trees.{tree_of, EachImage};
-ghost use Rattle.pointwise_ir.specs.Typing.{HasType};
 ghost use Rattle.pointwise_ir.specs.Programs.{all_types};
 ghost use Rattle.pointwise_eval.specs.Planes.{HasRows};
-ghost use Rattle.pointwise_eval.specs.Narrow.{AreOfNarrowTypes};
+ghost use Rattle.pointwise_eval.specs.Narrow.{IsNarrowType};
 
 use crate::plane::Plane;
 use dk_base::{MAX_WIDTH, Ty, select_type};
@@ -63,9 +62,7 @@ fn constant_type(value: i128, ty: Ty) -> Option<Ty>
 // The type of an expression, where each part has a type of numbers of 64 bits.
 pub fn narrow_type(e: &Expr, inputs: &[Input], images: &[Definition]) -> Option<Ty>
     requires { All IsType (all_types inputs.now images.now) }
-    ensures typed { IfSome result (λ t. IsType t) }
-    ensures found { IfSome result (λ t. HasType (all_types inputs.now images.now) (tree_of e.now) t) }
-    ensures narrow { IfSome result (λ t. AreOfNarrowTypes (all_types inputs.now images.now) (tree_of e.now)) }
+    ensures { IfSome result (IsNarrowType (all_types inputs.now images.now) (tree_of e.now)) }
 {
     match e {
         Expr::Constant(value, ty) => narrow(constant_type(*value, *ty)?),

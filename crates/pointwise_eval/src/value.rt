@@ -15,7 +15,6 @@ use std::alloc::Global;
 use value_rows::Element;
 
 // An element as a value.
-#[tactic(auto, using(crate::proofs::Pixels::element_within, crate::proofs::Pixels::element_value))]
 fn element_at<T: Element>(elements: &[T], place: usize) -> i128
     requires { place < length (map T.worth elements.now) }
     ensures { result ≡ slice_index_or (map T.worth elements.now) place (pos 0) }

@@ -1,10 +1,10 @@
-use Rattle.std.proofs.Common.{◌≡◌, ◌∙◌, ℕ, ◌<◌, ◌+ℤ◌, length, map, rules, arith, pos}
+use Rattle.std.proofs.Common.{◌≡◌, ℕ, ◌<◌, ◌+ℤ◌, length, map, rules, arith, pos}
 use Rattle.std.specs.Prelude.{FitsSigned}
 use Rattle.std.proofs.lemmas.Int.{to_z-of_z}
-use Rattle.std.proofs.lemmas.List.{length-map}
 use mir.Syntax.{w128}
 use Rattle.dk_base.specs.Frames.{picture_at}
 use Rattle.dk_base.specs.FrameSizes.{size_of}
+use Rattle.dk_base.specs.Operators.{unary_value, binary_value, scaling_value, conversion_value}
 use Rattle.pointwise_ir.specs.Trees.{tree_of}
 use Rattle.pointwise_ir.specs.Meaning.{value}
 use Rattle.value_rows.specs.Rows.{entry, beside}
@@ -12,6 +12,7 @@ use Rattle.pointwise_eval.specs.Planes.{all_shown, entries_of}
 use Rattle.pointwise_eval.specs.Steps.{LeadsToRow}
 use Rattle.pointwise_eval.proofs.Narrows.{whole_in}
 use Rattle.pointwise_eval.proofs.Operands.{takes_one, takes_two, takes_scaled}
+use Rattle.pointwise_eval.proofs.Lined.{one_fits, one_row, two_fit, two_rows, chosen_row}
 use Rattle.pointwise_eval.proofs.Sides.{row_in, entry_in, side_row}
 use Rattle.pointwise_eval.proofs.walk.+value_row.Goals as goal
 
@@ -70,11 +71,6 @@ returns-in-Some-row_at g t c =
     let placed : (x : ℕ) → x < c.args.size.width → entry (map g.L.Element.worth c.shift_row.new.to) x ≡ beside c.in-Shifted.edge row (pos x +ℤ c.in-Shifted.dx) = search rules in
     rw c.in-Shifted.is (side_row g.L.Element.worth size c.in-Shifted.edge (value size known (tree_of c.in-Shifted.body.value)) c.in-Shifted.dx c.in-Shifted.dy c.args.y c.in-Some-row_at.there row c.shift_row.new.to some long leads (rw c.deref.ensures at c.value_row.ensures) placed)
 
-pub returns-in-Select : goal.returns-in-Select
-returns-in-Select g t c =
-    let long : length c.select_row.new.to ≡ c.args.size.width = search rules in
-    record { whole = length-map c.select_row.new.to g.L.Element.worth ∙ long; values = search rules }
-
 pub row_of-requires-clause-whole : goal.row_of-requires-clause-whole
 row_of-requires-clause-whole g t c = (rw c.in-Read.is at c.requires.lane).can.whole
 
@@ -86,3 +82,61 @@ read_row-requires-clause-fits g t c k lt =
     let size = size_of c.args.size in
     let parts = (rw c.in-Read.is at c.requires.lane).parts in
     entry_in g.L.Element.ty size (picture_at (all_shown size c.args.planes.now) c.in-Read.image) (pos c.in-Some.there) (entries_of c.row_of.result) c.row_of.ensures parts.1 k (let within : k < c.args.size.width = omega (arith, lt, c.requires.row) in within)
+
+pub unary_row-requires-clause-fits : goal.unary_row-requires-clause-fits
+unary_row-requires-clause-fits g t c k lt =
+    let size = size_of c.args.size in
+    let known = all_shown size c.args.planes.now in
+    let parts = (rw c.in-Unary.is at c.requires.lane).parts in
+    one_fits g.L.Element.worth size (pos c.args.y) g.L.Element.ty (unary_value c.in-Unary.op) (value size known (tree_of c.in-Unary.body.value)) c.value_row-in-Unary.new.to (rw c.deref-in-Unary.ensures at c.value_row-in-Unary.ensures) parts.0 k lt
+
+pub returns-in-Unary : goal.returns-in-Unary
+returns-in-Unary g t c =
+    let size = size_of c.args.size in
+    let known = all_shown size c.args.planes.now in
+    rw c.in-Unary.is (one_row g.L.Element.worth size (pos c.args.y) (unary_value c.in-Unary.op) (value size known (tree_of c.in-Unary.body.value)) c.value_row-in-Unary.new.to c.unary_row.new.to (rw c.deref-in-Unary.ensures at c.value_row-in-Unary.ensures) c.unary_row.auto.to c.unary_row.ensures)
+
+pub convert_row-requires-clause-fits : goal.convert_row-requires-clause-fits
+convert_row-requires-clause-fits g t c k lt =
+    let size = size_of c.args.size in
+    let known = all_shown size c.args.planes.now in
+    let parts = (rw c.in-Convert.is at c.requires.lane).parts in
+    one_fits g.L.Element.worth size (pos c.args.y) g.L.Element.ty (conversion_value c.in-Convert.how c.in-Convert.ty) (value size known (tree_of c.in-Convert.body.value)) c.value_row-in-Convert.new.to (rw c.deref-in-Convert.ensures at c.value_row-in-Convert.ensures) parts.0 k lt
+
+pub returns-in-Convert : goal.returns-in-Convert
+returns-in-Convert g t c =
+    let size = size_of c.args.size in
+    let known = all_shown size c.args.planes.now in
+    rw c.in-Convert.is (one_row g.L.Element.worth size (pos c.args.y) (conversion_value c.in-Convert.how c.in-Convert.ty) (value size known (tree_of c.in-Convert.body.value)) c.value_row-in-Convert.new.to c.convert_row.new.to (rw c.deref-in-Convert.ensures at c.value_row-in-Convert.ensures) c.convert_row.auto.to c.convert_row.ensures)
+
+pub scale_row-requires-clause-fits : goal.scale_row-requires-clause-fits
+scale_row-requires-clause-fits g t c k lt =
+    let size = size_of c.args.size in
+    let known = all_shown size c.args.planes.now in
+    let parts = (rw c.in-Scale.is at c.requires.lane).parts in
+    one_fits g.L.Element.worth size (pos c.args.y) g.L.Element.ty (λ v. scaling_value c.in-Scale.op v c.in-Scale.by) (value size known (tree_of c.in-Scale.body.value)) c.value_row-in-Scale.new.to (rw c.deref-in-Scale.ensures at c.value_row-in-Scale.ensures) parts.0 k lt
+
+pub returns-in-Scale : goal.returns-in-Scale
+returns-in-Scale g t c =
+    let size = size_of c.args.size in
+    let known = all_shown size c.args.planes.now in
+    rw c.in-Scale.is (one_row g.L.Element.worth size (pos c.args.y) (λ v. scaling_value c.in-Scale.op v c.in-Scale.by) (value size known (tree_of c.in-Scale.body.value)) c.value_row-in-Scale.new.to c.scale_row.new.to (rw c.deref-in-Scale.ensures at c.value_row-in-Scale.ensures) c.scale_row.auto.to c.scale_row.ensures)
+
+pub binary_row-requires-clause-fits : goal.binary_row-requires-clause-fits
+binary_row-requires-clause-fits g t c k lt =
+    let size = size_of c.args.size in
+    let known = all_shown size c.args.planes.now in
+    let parts = (rw c.in-Binary.is at c.requires.lane).parts in
+    two_fit g.L.Element.worth size (pos c.args.y) g.L.Element.ty (binary_value c.in-Binary.op) (value size known (tree_of c.in-Binary.left.value)) (value size known (tree_of c.in-Binary.right.value)) c.value_row-in-Binary.new.to c.value_row-in-Binary-2.new.to (rw c.deref-in-Binary.ensures at c.value_row-in-Binary.ensures) (rw c.deref-in-Binary-2.ensures at c.value_row-in-Binary-2.ensures) parts.0 k lt
+
+pub returns-in-Binary : goal.returns-in-Binary
+returns-in-Binary g t c =
+    let size = size_of c.args.size in
+    let known = all_shown size c.args.planes.now in
+    rw c.in-Binary.is (two_rows g.L.Element.worth size (pos c.args.y) (binary_value c.in-Binary.op) (value size known (tree_of c.in-Binary.left.value)) (value size known (tree_of c.in-Binary.right.value)) c.value_row-in-Binary.new.to c.value_row-in-Binary-2.new.to c.binary_row.new.to (rw c.deref-in-Binary.ensures at c.value_row-in-Binary.ensures) (rw c.deref-in-Binary-2.ensures at c.value_row-in-Binary-2.ensures) c.binary_row.auto.to c.binary_row.ensures)
+
+pub returns-in-Select : goal.returns-in-Select
+returns-in-Select g t c =
+    let size = size_of c.args.size in
+    let known = all_shown size c.args.planes.now in
+    rw c.in-Select.is (chosen_row g.L.Element.worth size (pos c.args.y) (value size known (tree_of c.in-Select.condition.value)) (value size known (tree_of c.in-Select.left.value)) (value size known (tree_of c.in-Select.right.value)) c.value_row-in-Select.new.to c.value_row-in-Select-2.new.to c.value_row-in-Select-3.new.to c.select_row.new.to (rw c.deref-in-Select.ensures at c.value_row-in-Select.ensures) (rw c.deref-in-Select-2.ensures at c.value_row-in-Select-2.ensures) (rw c.deref-in-Select-3.ensures at c.value_row-in-Select-3.ensures) c.select_row.auto.to c.select_row.ensures)
