@@ -13,7 +13,7 @@ use Rattle.std.proofs.lemmas.Option.{slice_get_within, slice_get-map, get_or_fro
 use Rattle.dk_base.specs.declared.ty.Ty.{Ty}
 use Rattle.dk_base.specs.declared.ty.Ty.TheVariants.{Unsigned, Signed}
 use Rattle.dk_base.specs.Types.{IsType, IsIn, above}
-use Rattle.dk_base.specs.Frames.{Size, in_frame, raster_number, Picture, picture_of}
+use Rattle.dk_base.specs.Frames.{area, Size, in_frame, raster_number, Picture, picture_of}
 use Rattle.dk_base.proofs.Rasters.{inside}
 use Rattle.pointwise_ir.specs.declared.program.Input.{Input}
 use Rattle.pointwise_ir.specs.declared.program.Definition.{Definition}
@@ -29,7 +29,7 @@ use Rattle.pointwise_ir.proofs.Pictured.{first_pictures, reads_earlier, picture_
 use Rattle.pointwise_eval.specs.declared.plane.Plane.{Plane}
 use Rattle.dk_frames.specs.declared.frame.Frame.{Frame}
 use Rattle.pointwise_eval.specs.declared.plane.Plane.TheVariants.{Gone}
-use Rattle.pointwise_eval.specs.Planes.{values_of, shown, all_shown, IsWhole, CanEvaluate, ArePixelsOf, IsPlaneOf, AreSameOrGone, ShowsNeeded}
+use Rattle.pointwise_eval.specs.Planes.{values_of, shown, all_shown, IsWhole, IsByRows, HasRows, CanEvaluate, ArePixelsOf, IsPlaneOf, AreSameOrGone, ShowsNeeded}
 use Rattle.pointwise_eval.specs.Rounds.{IsInputFrame, AreFrames, round_of}
 use Rattle.pointwise_eval.specs.Needs.{IsNeeded, AreNeeds}
 
@@ -121,6 +121,9 @@ round_is p frames is are = record {
       let P : Picture → Type 0 = λ q. IsPicture p.size input.ty q in
       subst P (sym (picture_of_frame p.size frames k f here)) (frame_picture p.size input.ty f port (are.each k f input here there));
 }
+
+pub same_entry : {A : Type 0} (xs : List A) (k : ℕ) (x y : A) → slice_get xs k ≡ Some x → slice_get xs k ≡ Some y → x ≡ y
+same_entry xs k x y one other = sym (get_or_from_slice_get xs k x x one) ∙ get_or_from_slice_get xs k y x other
 
 -- the planes of the inputs
 pub shows_inputs : (p : Program) (frames : List Frame) (until : List ℕ) (n : ℕ) (planes : List Plane) → IsProgram p → AreFrames p frames → map values_of planes ≡ map (λ f. map pos f.samples) frames →
@@ -371,12 +374,21 @@ pub is_rendered : {E : Type 0} (size : Size) (planes : List Plane) (e : Tree) (w
 is_rendered size planes e wanted (Ok q) holds is = record { pixels = λ _. is; empty = λ no. absurd (let f : true ≡ false = sym holds ∙ no in let g : ⊥ = cc in g) }
 is_rendered size planes e wanted (Err f) holds is = tt
 
+-- the picture of values at a pixel
+pub shown_value : (size : Size) (values : List ℤ) (x y : ℕ) → x < size.width → y < size.height → shown size values (pos x) (pos y) ≡ slice_index_or values (y * size.width + x) (pos 0)
+shown_value size values x y across down = ap (λ b. if b then slice_index_or values (y * size.width + x) (pos 0) else pos 0) (inside size x y across down)
+
 -- a value of a whole plane is that of its picture
 pub plane_value : (size : Size) (planes : List Plane) (g : ℕ) (p : Plane) (x y : ℕ) (v : ℤ) → IsWhole size planes g → p ≡ get_or planes g p → x < size.width → y < size.height → v ≡ slice_index_or (values_of p) (y * size.width + x) (pos 0) →
     v ≡ picture_at (all_shown size planes) g (pos x) (pos y)
 plane_value size planes g p x y v w there across down is =
-    let k = y * size.width + x in
     let same : p ≡ w.plane = there ∙ get_or_from_slice_get planes g w.plane p w.there in
     let here : picture_at (all_shown size planes) g ≡ shown size (values_of p) = entry_shown size planes g w.plane w.there ∙ ap (λ (q : Plane). shown size (values_of q)) (sym same) in
-    let framed_is : shown size (values_of p) (pos x) (pos y) ≡ slice_index_or (values_of p) k (pos 0) = ap (λ b. if b then slice_index_or (values_of p) k (pos 0) else pos 0) (inside size x y across down) in
-    is ∙ sym framed_is ∙ sym (ap (λ (q : Picture). q (pos x) (pos y)) here)
+    is ∙ sym (shown_value size (values_of p) x y across down) ∙ sym (ap (λ (q : Picture). q (pos x) (pos y)) here)
+
+-- the plane at a place, as what was stated of it
+pub whole_at : (size : Size) (planes : List Plane) (g : ℕ) (p : Plane) → IsWhole size planes g → slice_get planes g ≡ Some p → length (values_of p) ≡ area size
+whole_at size planes g p w there = (let e : w.plane ≡ p = same_entry planes g w.plane p w.there there in ap (λ (q : Plane). length (values_of q)) (sym e) ∙ w.whole)
+
+pub rows_at : (planes : List Plane) (g : ℕ) (p : Plane) → HasRows planes g → slice_get planes g ≡ Some p → IsByRows p
+rows_at planes g p h there = subst IsByRows (same_entry planes g h.plane p h.there there) h.rows

@@ -1,5 +1,5 @@
 -- Rows that are read at the side, as rows of expressions.
-use Rattle.std.proofs.Common.{◌≡◌, ◌∙◌, sym, ap, subst, ℕ, min, ◌-◌, ◌<◌, List, length, map, ℤ, pos, negsuc, ◌+ℤ◌, refl, arith, inl, inr}
+use Rattle.std.proofs.Common.{◌≡◌, ◌∙◌, sym, ap, subst, ℕ, min, ◌+◌, ◌-◌, ◌*◌, ◌<◌, ◌≤◌, List, length, map, ℤ, pos, negsuc, ◌+ℤ◌, refl, arith, inl, inr}
 use Rattle.std.proofs.lemmas.Bool.{cases_lt}
 use Rattle.std.proofs.lemmas.List.{length-map}
 use Rattle.dk_base.specs.declared.ty.Ty.{Ty}
@@ -9,7 +9,10 @@ use Rattle.pointwise_ir.specs.declared.expr.Edge.{Edge}
 use Rattle.pointwise_ir.specs.declared.expr.Edge.TheVariants.{Zero, Clamp}
 use Rattle.pointwise_ir.specs.Meaning.{edged}
 use Rattle.value_rows.specs.Rows.{entry, beside, IsRow}
+use Rattle.std.proofs.Math.Nat.{mul-le-mul_right}
+use Rattle.pointwise_eval.specs.Planes.{shown}
 use Rattle.pointwise_eval.specs.Steps.{LeadsToRow}
+use Rattle.pointwise_eval.proofs.Rendered.{shown_value}
 
 -- an entry of a row is a value of the picture
 pub entry_in : (t : Ty) (size : Size) (picture : Picture) (y : ℤ) (row : List ℤ) → IsRow size picture y row → ((x y : ℤ) → IsIn t (picture x y)) → (k : ℕ) → k < size.width → IsIn t (entry row k)
@@ -47,3 +50,13 @@ side_row worth size edge picture dx dy y there row new some long leads is placed
   whole = length-map new worth ∙ long;
   values = λ x lt. placed x lt ∙ side_is size edge picture there (pos x +ℤ dx) (pos y +ℤ dy) row some leads is;
 }
+
+-- a part of values in raster order that is a row of their picture
+pub part_row : (size : Size) (values part : List ℤ) (y : ℕ) → y < size.height → length part ≡ size.width → ((k : ℕ) → k < size.width → entry part k ≡ entry values (y * size.width + k)) → IsRow size (shown size values) (pos y) part
+part_row size values part y down whole at = record { whole = whole; values = λ x lt. at x lt ∙ sym (shown_value size values x y lt down) }
+
+-- row y is within the values
+pub row_within : (y w h n : ℕ) → y < h → n ≡ w * h → y * w + w ≤ n
+row_within y w h n down whole =
+    let rows : (y + 1) * w ≤ h * w = mul-le-mul_right w (let le : y + 1 ≤ h = omega (arith, down) in le) in
+    omega (arith, rows, whole)

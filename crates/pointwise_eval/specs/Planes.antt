@@ -12,8 +12,6 @@ use Rattle.pointwise_ir.specs.Meaning.{edged, value}
 use Rattle.pointwise_eval.specs.declared.plane.Plane.{Plane}
 use Rattle.pointwise_eval.specs.declared.plane.Plane.TheVariants.{Input8, Input16, Unsigned8, Unsigned16, Unsigned32, Signed8, Signed16, Signed32, Signed64, Wide, Gone}
 use Rattle.pointwise_eval.specs.Needs.{IsNeeded}
-use Rattle.pointwise_eval.specs.declared.plane.Row.{Row}
-use Rattle.pointwise_eval.specs.declared.plane.Row.TheVariants.{U8, U16, U32, I8, I16, I32, I64}
 
 -- its values
 abbrev pub values_of : Plane → List ℤ
@@ -28,15 +26,6 @@ values_of (Signed32 elements) = map (λ v. v) elements.items
 values_of (Signed64 elements) = map (λ v. v) elements.items
 values_of (Wide values) = values.items
 values_of Gone = []
-
-abbrev pub entries_of : Row → List ℤ
-entries_of (U8 elements) = map pos elements.now
-entries_of (U16 elements) = map pos elements.now
-entries_of (U32 elements) = map pos elements.now
-entries_of (I8 elements) = map (λ v. v) elements.now
-entries_of (I16 elements) = map (λ v. v) elements.now
-entries_of (I32 elements) = map (λ v. v) elements.now
-entries_of (I64 elements) = map (λ v. v) elements.now
 
 -- a plane of values of 64 bits
 abbrev pub IsByRows : Plane → Type 0

@@ -19,18 +19,6 @@ pub enum Plane<'a> {
     Gone,
 }
 
-// Values in raster order that can be read by rows.
-#[derive(Clone, Copy)]
-pub enum Row<'a> {
-    U8(&'a [u8]),
-    U16(&'a [u16]),
-    U32(&'a [u32]),
-    I8(&'a [i8]),
-    I16(&'a [i16]),
-    I32(&'a [i32]),
-    I64(&'a [i64]),
-}
-
 impl Plane<'_> {
     // Whether it can be read by rows.
     pub fn is_narrow(&self) -> bool

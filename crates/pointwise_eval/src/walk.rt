@@ -1,17 +1,17 @@
 // The values of an expression along a row of the frame.
 
-ghost use Rattle.std.specs.Prelude.{◌≡◌, ℕ, map, ◌+◌, ◌*◌, ◌<◌, ◌≤◌, pos, ◌+ℤ◌, length, MatchOption};
+ghost use Rattle.std.specs.Prelude.{◌≡◌, ℕ, ℤ, map, ◌+◌, ◌*◌, ◌<◌, ◌≤◌, pos, ◌+ℤ◌, length, Some, slice_get, MatchOption};
 ghost use Rattle.dk_base.specs.FrameSizes.{size_of};
 ghost use Rattle.pointwise_ir.specs.Trees.{tree_of, depth_of};
-ghost use Rattle.dk_base.specs.Frames.{picture_at};
+ghost use Rattle.dk_base.specs.Frames.{area};
 ghost use Rattle.pointwise_ir.specs.Meaning.{value};
-ghost use Rattle.value_rows.specs.Rows.{entry, beside, IsRow, IsNarrow};
-ghost use Rattle.pointwise_eval.specs.Planes.{values_of, entries_of, IsByRows, all_shown, IsWhole, HasRows};
-ghost use Rattle.pointwise_eval.specs.Steps.{LeadsNowhere, LeadsToRow};
+ghost use Rattle.value_rows.specs.Rows.{entry, IsRow, IsNarrow};
+ghost use Rattle.pointwise_eval.specs.Planes.{values_of, shown, all_shown, IsByRows, HasRows};
+ghost use Rattle.pointwise_eval.specs.Steps.{LeadsNowhere, LeadsToRow, ReadsRow};
 ghost use Rattle.dk_base.specs.Types.{IsIn};
 ghost use Rattle.pointwise_eval.specs.Lanes.{FitsLane};
 
-use crate::plane::{Plane, Row};
+use crate::plane::Plane;
 use crate::point::{brought, moved};
 use dk_base::FrameSize;
 use pointwise_ir::{Edge, Expr};
@@ -44,26 +44,6 @@ fn narrow(value: i128) -> i64
     value as i64
 }
 
-// The values of a plane that can be read by rows.
-fn row_values<'a>(plane: &'a Plane<'_>) -> Row<'a>
-    requires { IsByRows plane.now }
-    ensures { entries_of result ≡ values_of plane.now }
-{
-    match plane {
-        Plane::Input8(samples) => Row::U8(*samples),
-        Plane::Input16(samples) => Row::U16(*samples),
-        Plane::Unsigned8(elements) => Row::U8(elements.as_slice()),
-        Plane::Unsigned16(elements) => Row::U16(elements.as_slice()),
-        Plane::Unsigned32(elements) => Row::U32(elements.as_slice()),
-        Plane::Signed8(elements) => Row::I8(elements.as_slice()),
-        Plane::Signed16(elements) => Row::I16(elements.as_slice()),
-        Plane::Signed32(elements) => Row::I32(elements.as_slice()),
-        Plane::Signed64(elements) => Row::I64(elements.as_slice()),
-        Plane::Wide(_) => Row::I64(&[]),
-        Plane::Gone => Row::I64(&[]),
-    }
-}
-
 // This many elements from a place on.
 #[tactic(auto, using(crate::proofs::Pixels::part_length, crate::proofs::Pixels::part_entry, crate::proofs::Pixels::all_within))]
 fn elements_part<T: Element>(elements: &[T], start: usize, count: usize) -> &[T]
@@ -74,65 +54,63 @@ fn elements_part<T: Element>(elements: &[T], start: usize, count: usize) -> &[T]
     elements.split_at(start).1.split_at(count).0
 }
 
-// This many values of a row from a place on.
-fn part<'a>(row: Row<'a>, start: usize, count: usize) -> Row<'a>
-    requires { start + count ≤ length (entries_of row) }
-    ensures whole { length (entries_of result) ≡ count }
-    ensures values { (k : ℕ) → k < count → entry (entries_of result) k ≡ entry (entries_of row.entry) (start + k) }
-{
-    match row {
-        Row::U8(elements) => Row::U8(elements_part(elements, start, count)),
-        Row::U16(elements) => Row::U16(elements_part(elements, start, count)),
-        Row::U32(elements) => Row::U32(elements_part(elements, start, count)),
-        Row::I8(elements) => Row::I8(elements_part(elements, start, count)),
-        Row::I16(elements) => Row::I16(elements_part(elements, start, count)),
-        Row::I32(elements) => Row::I32(elements_part(elements, start, count)),
-        Row::I64(elements) => Row::I64(elements_part(elements, start, count)),
-    }
-}
-
-// A row of elements, read `by` columns to the right.
-#[tactic(auto, using(crate::proofs::Pixels::same_length))]
-fn read_elements<T: Element, L: Element>(edge: Edge, by: i32, elements: &[T], to: &mut [L])
-    requires same { length (map T.worth elements.now) ≡ length to.old }
-    requires some { 0 < length to.old }
-    requires fits { (k : ℕ) → k < length to.old → IsIn L.ty (entry (map T.worth elements.now) k) }
-    ensures { (x : ℕ) → x < length to.old → entry (map L.worth to.new) x ≡ beside edge (map T.worth elements.now) (pos x +ℤ by) }
-{
-    shift_row(edge, by, elements, to)
-}
-
-// The row, read `by` columns to the right.
-fn read_row<L: Element>(edge: Edge, by: i32, row: Row<'_>, to: &mut [L])
-    requires same { length (entries_of row) ≡ length to.old }
-    requires some { 0 < length to.old }
-    requires fits { (k : ℕ) → k < length to.old → IsIn L.ty (entry (entries_of row) k) }
-    ensures { (x : ℕ) → x < length to.old → entry (map L.worth to.new) x ≡ beside edge (entries_of row.entry) (pos x +ℤ by) }
-{
-    match row {
-        Row::U8(elements) => read_elements(edge, by, elements, to),
-        Row::U16(elements) => read_elements(edge, by, elements, to),
-        Row::U32(elements) => read_elements(edge, by, elements, to),
-        Row::I8(elements) => read_elements(edge, by, elements, to),
-        Row::I16(elements) => read_elements(edge, by, elements, to),
-        Row::I32(elements) => read_elements(edge, by, elements, to),
-        Row::I64(elements) => read_elements(edge, by, elements, to),
-    }
-}
-
-// Row y of an image.
-fn row_of<'a>(size: FrameSize, planes: &'a [Plane<'_>], image: u32, y: u32) -> Row<'a>
-    requires whole { IsWhole (size_of size) planes.now image }
-    requires rows { HasRows planes.now image }
+// Row y of elements in raster order, read `by` columns to the right.
+fn read_elements<T: Element, L: Element>(
+    size: FrameSize,
+    edge: Edge,
+    by: i32,
+    elements: &[T],
+    y: u32,
+    to: &mut [L],
+)
+    requires whole { length (map T.worth elements.now) ≡ area (size_of size) }
     requires down { y < size.height }
-    ensures { IsRow (size_of size) (picture_at (all_shown (size_of size) planes.now) image) (pos y) (entries_of result) }
+    requires row { length to.old ≡ size.width }
+    requires fits { (x z : ℤ) → IsIn L.ty (shown (size_of size) (map T.worth elements.now) x z) }
+    ensures { ReadsRow (size_of size) edge (shown (size_of size) (map T.worth elements.now)) y by (map L.worth to.new) }
 {
     let width = size.width as usize;
-    part(
-        row_values(&planes[image as usize]),
-        y as usize * width,
-        width,
-    )
+    let row = elements_part(elements, y as usize * width, width);
+    shift_row(edge, by, row, to);
+}
+
+// Row y of a plane that can be read by rows, read `by` columns to the right.
+fn read_plane<L: Element>(
+    size: FrameSize,
+    edge: Edge,
+    by: i32,
+    plane: &Plane<'_>,
+    y: u32,
+    to: &mut [L],
+)
+    requires whole { length (values_of plane.now) ≡ area (size_of size) }
+    requires rows { IsByRows plane.now }
+    requires down { y < size.height }
+    requires row { length to.old ≡ size.width }
+    requires fits { (x z : ℤ) → IsIn L.ty (shown (size_of size) (values_of plane.now) x z) }
+    ensures { ReadsRow (size_of size) edge (shown (size_of size) (values_of plane.now)) y by (map L.worth to.new) }
+{
+    match plane {
+        Plane::Input8(samples) => read_elements(size, edge, by, *samples, y, to),
+        Plane::Input16(samples) => read_elements(size, edge, by, *samples, y, to),
+        Plane::Unsigned8(elements) => read_elements(size, edge, by, elements, y, to),
+        Plane::Unsigned16(elements) => read_elements(size, edge, by, elements, y, to),
+        Plane::Unsigned32(elements) => read_elements(size, edge, by, elements, y, to),
+        Plane::Signed8(elements) => read_elements(size, edge, by, elements, y, to),
+        Plane::Signed16(elements) => read_elements(size, edge, by, elements, y, to),
+        Plane::Signed32(elements) => read_elements(size, edge, by, elements, y, to),
+        Plane::Signed64(elements) => read_elements(size, edge, by, elements, y, to),
+        Plane::Wide(_) => {}
+        Plane::Gone => {}
+    }
+}
+
+// The plane of an image.
+fn plane_of<'a, 'b>(planes: &'a [Plane<'b>], image: u32) -> &'a Plane<'b>
+    requires { HasRows planes.now image }
+    ensures { slice_get planes.now image ≡ Some result.now }
+{
+    &planes[image as usize]
 }
 
 // Writes a value at all places.
@@ -171,7 +149,7 @@ pub fn value_row<L: Element>(
     match e {
         Expr::Constant(value, _) => constant_row(*value, to),
         Expr::Read(edge, image, dx, dy) => match row_at(*edge, y, *dy, size.height) {
-            Some(there) => read_row(*edge, *dx, row_of(size, planes, *image, there), to),
+            Some(there) => read_plane(size, *edge, *dx, plane_of(planes, *image), there, to),
             None => zero_row(to),
         },
         Expr::Shifted(edge, dx, dy, body) => match row_at(*edge, y, *dy, size.height) {

@@ -1,19 +1,21 @@
-use Rattle.std.proofs.Common.{◌≡◌, ℕ, ◌<◌, ◌+ℤ◌, length, map, rules, arith, pos}
+use Rattle.std.proofs.Common.{◌≡◌, ◌∙◌, sym, subst, ℕ, ◌<◌, ◌+ℤ◌, length, map, rules, pos}
 use Rattle.std.specs.Prelude.{FitsSigned}
 use Rattle.std.proofs.lemmas.Int.{to_z-of_z}
 use mir.Syntax.{w128}
-use Rattle.dk_base.specs.Frames.{picture_at}
+use Rattle.dk_base.specs.Types.{IsIn}
+use Rattle.dk_base.specs.Frames.{Picture, picture_at}
 use Rattle.dk_base.specs.FrameSizes.{size_of}
 use Rattle.dk_base.specs.Operators.{unary_value, binary_value, scaling_value, conversion_value}
 use Rattle.pointwise_ir.specs.Trees.{tree_of}
 use Rattle.pointwise_ir.specs.Meaning.{value}
 use Rattle.value_rows.specs.Rows.{entry, beside}
-use Rattle.pointwise_eval.specs.Planes.{all_shown, entries_of}
-use Rattle.pointwise_eval.specs.Steps.{LeadsToRow}
+use Rattle.pointwise_eval.specs.Planes.{all_shown}
+use Rattle.pointwise_eval.specs.Steps.{LeadsToRow, ReadsRow}
 use Rattle.pointwise_eval.proofs.Narrows.{whole_in}
 use Rattle.pointwise_eval.proofs.Operands.{takes_one, takes_two, takes_scaled}
 use Rattle.pointwise_eval.proofs.Lined.{one_fits, one_row, two_fit, two_rows, chosen_row}
-use Rattle.pointwise_eval.proofs.Sides.{row_in, entry_in, side_row}
+use Rattle.pointwise_eval.proofs.Sides.{row_in, side_row}
+use Rattle.pointwise_eval.proofs.Rendered.{entry_shown, whole_at, rows_at}
 use Rattle.pointwise_eval.proofs.walk.+value_row.Goals as goal
 
 pub unary_row-requires-clause-takes : goal.unary_row-requires-clause-takes
@@ -52,13 +54,12 @@ convert_row-requires-clause-values g t c k lt =
 pub returns-in-Some : goal.returns-in-Some
 returns-in-Some g t c =
     let size = size_of c.args.size in
-    let known = all_shown size c.args.planes.now in
-    let row = entries_of c.row_of.result in
+    let reads : ReadsRow size c.in-Read.edge (picture_at (all_shown size c.args.planes.now) c.in-Read.image) c.in-Some.there c.in-Read.dx (map g.L.Element.worth c.read_plane.new.to) =
+    subst (λ (p : Picture). ReadsRow size c.in-Read.edge p c.in-Some.there c.in-Read.dx (map g.L.Element.worth c.read_plane.new.to)) (sym (entry_shown size c.args.planes.now c.in-Read.image c.plane_of.result.now c.plane_of.ensures)) (search rules) in
     let some : 0 < c.args.size.width = search rules in
-    let long : length c.read_row.new.to ≡ c.args.size.width = search rules in
+    let long : length c.read_plane.new.to ≡ c.args.size.width = c.read_plane.auto.to ∙ c.requires.row in
     let leads : LeadsToRow c.in-Read.edge (pos c.args.y +ℤ c.in-Read.dy) c.args.size.height c.in-Some.there = search rules in
-    let placed : (x : ℕ) → x < c.args.size.width → entry (map g.L.Element.worth c.read_row.new.to) x ≡ beside c.in-Read.edge row (pos x +ℤ c.in-Read.dx) = search rules in
-    rw c.in-Read.is (side_row g.L.Element.worth size c.in-Read.edge (picture_at known c.in-Read.image) c.in-Read.dx c.in-Read.dy c.args.y c.in-Some.there row c.read_row.new.to some long leads c.row_of.ensures placed)
+    rw c.in-Read.is (side_row g.L.Element.worth size c.in-Read.edge (picture_at (all_shown size c.args.planes.now) c.in-Read.image) c.in-Read.dx c.in-Read.dy c.args.y c.in-Some.there reads.row c.read_plane.new.to some long leads reads.is reads.placed)
 
 pub returns-in-Some-row_at : goal.returns-in-Some-row_at
 returns-in-Some-row_at g t c =
@@ -71,17 +72,20 @@ returns-in-Some-row_at g t c =
     let placed : (x : ℕ) → x < c.args.size.width → entry (map g.L.Element.worth c.shift_row.new.to) x ≡ beside c.in-Shifted.edge row (pos x +ℤ c.in-Shifted.dx) = search rules in
     rw c.in-Shifted.is (side_row g.L.Element.worth size c.in-Shifted.edge (value size known (tree_of c.in-Shifted.body.value)) c.in-Shifted.dx c.in-Shifted.dy c.args.y c.in-Some-row_at.there row c.shift_row.new.to some long leads (rw c.deref.ensures at c.value_row.ensures) placed)
 
-pub row_of-requires-clause-whole : goal.row_of-requires-clause-whole
-row_of-requires-clause-whole g t c = (rw c.in-Read.is at c.requires.lane).can.whole
+pub plane_of-requires : goal.plane_of-requires
+plane_of-requires g t c = (rw c.in-Read.is at c.requires.lane).rows
 
-pub row_of-requires-clause-rows : goal.row_of-requires-clause-rows
-row_of-requires-clause-rows g t c = (rw c.in-Read.is at c.requires.lane).rows
+pub read_plane-requires-clause-whole : goal.read_plane-requires-clause-whole
+read_plane-requires-clause-whole g t c = whole_at (size_of c.args.size) c.args.planes.now c.in-Read.image c.plane_of.result.now (rw c.in-Read.is at c.requires.lane).can.whole c.plane_of.ensures
 
-pub read_row-requires-clause-fits : goal.read_row-requires-clause-fits
-read_row-requires-clause-fits g t c k lt =
+pub read_plane-requires-clause-rows : goal.read_plane-requires-clause-rows
+read_plane-requires-clause-rows g t c = rows_at c.args.planes.now c.in-Read.image c.plane_of.result.now (rw c.in-Read.is at c.requires.lane).rows c.plane_of.ensures
+
+pub read_plane-requires-clause-fits : goal.read_plane-requires-clause-fits
+read_plane-requires-clause-fits g t c x z =
     let size = size_of c.args.size in
     let parts = (rw c.in-Read.is at c.requires.lane).parts in
-    entry_in g.L.Element.ty size (picture_at (all_shown size c.args.planes.now) c.in-Read.image) (pos c.in-Some.there) (entries_of c.row_of.result) c.row_of.ensures parts.1 k (let within : k < c.args.size.width = omega (arith, lt, c.requires.row) in within)
+    subst (λ (p : Picture). IsIn g.L.Element.ty (p x z)) (entry_shown size c.args.planes.now c.in-Read.image c.plane_of.result.now c.plane_of.ensures) (parts.1 x z)
 
 pub unary_row-requires-clause-fits : goal.unary_row-requires-clause-fits
 unary_row-requires-clause-fits g t c k lt =
