@@ -1,8 +1,9 @@
 -- The lanes of rows, and the expressions that they can compute.
-use Rattle.std.specs.Prelude.{List}
+use Rattle.std.specs.Prelude.{◌≡◌, ℕ, ◌<◌, ℤ, List, length}
 use Rattle.dk_base.specs.declared.ty.Ty.{Ty}
 use Rattle.dk_base.specs.declared.ty.Ty.TheVariants.{Signed}
-use Rattle.dk_base.specs.Frames.{Size, Picture}
+use Rattle.dk_base.specs.Types.{IsIn}
+use Rattle.dk_base.specs.Frames.{Size, area, Picture}
 use Rattle.pointwise_ir.specs.Trees.{Tree, EachImage}
 use Rattle.value_ranges.specs.declared.interval.Interval.{Interval}
 use Rattle.value_ranges.specs.Parts.{AreBetween}
@@ -10,7 +11,7 @@ use Rattle.pointwise_eval.specs.declared.lane.Lane.{Lane}
 use Rattle.pointwise_eval.specs.declared.lane.Lane.TheVariants.{Bits16, Bits32, Bits64}
 use Rattle.pointwise_eval.specs.declared.plane.Plane.{Plane}
 use Rattle.pointwise_eval.specs.Narrow.{ArePartsIn}
-use Rattle.pointwise_eval.specs.Planes.{all_shown, HasRows, CanEvaluate}
+use Rattle.pointwise_eval.specs.Planes.{shown, all_shown, HasRows, CanEvaluate}
 
 -- the type of a lane's elements
 abbrev pub lane_type : Lane → Ty
@@ -29,3 +30,9 @@ pub record FitsLane (lane : Ty) (size : Size) (planes : List Plane) (e : Tree) :
   pub can : CanEvaluate size planes e
   pub rows : EachImage (HasRows planes) e
   pub parts : ArePartsIn lane size (all_shown size planes) e
+
+-- a lane of this type can have row y of values in raster order
+pub record IsReadable (lane : Ty) (size : Size) (values : List ℤ) (y : ℕ) : Type 0 where
+  pub whole : length values ≡ area size
+  pub down : y < size.height
+  pub fits : (x z : ℤ) → IsIn lane (shown size values x z)

@@ -39,8 +39,7 @@ fn input_plane(samples: &Samples) -> Plane<'_>
 
 // The planes of the inputs.
 fn input_planes<'a>(alloc: Global, frames: &'a [Frame]) -> Result<Vec<Plane<'a>>, OutOfMemory>
-    ensures { IfOk result (λ planes. map values_of planes.items ≡ map
-        (λ f. map pos f.samples) frames.now) }
+    ensures { IfOk result (λ planes. map values_of planes.items ≡ map (λ f. map pos f.samples) frames.now) }
 {
     let mut planes = Vec::new(alloc);
     for frame in frames {
@@ -56,8 +55,7 @@ fn next_plane<'a>(
     body: &Expr,
     wanted: bool,
 ) -> Result<Plane<'a>, OutOfMemory>
-    requires can { IsTrue wanted
-        → CanEvaluate (size_of sources.now.size) sources.now.planes.now (tree_of body.now) }
+    requires can { IsTrue wanted → CanEvaluate (size_of sources.now.size) sources.now.planes.now (tree_of body.now) }
     requires types { All IsType (all_types sources.now.inputs.now sources.now.images.now) }
     requires values { AreValues (size_of sources.now.size) (all_types sources.now.inputs.now sources.now.images.now) sources.now.planes.now }
     requires ranges { AreBetween sources.now.ranges.now (all_shown (size_of sources.now.size) sources.now.planes.now) }
@@ -95,8 +93,7 @@ fn drop_plane(planes: &mut [Plane<'_>], image: usize, until: usize, made: usize)
 fn drop_planes(planes: &mut [Plane<'_>], until: &[usize], made: usize)
     requires { length planes.old ≤ length until.now }
     ensures count { length planes.new ≡ length planes.old }
-    ensures kept { (g : ℕ) → IsNeeded until.now made g → slice_get planes.new g
-        ≡ slice_get planes.old g }
+    ensures kept { (g : ℕ) → IsNeeded until.now made g → slice_get planes.new g ≡ slice_get planes.old g }
     ensures each { (g : ℕ) → AreSameOrGone (slice_get planes.old g) (slice_get planes.new g) }
 {
     for g in 0..planes.len() {
@@ -108,8 +105,7 @@ fn drop_planes(planes: &mut [Plane<'_>], until: &[usize], made: usize)
 fn drop_unneeded(planes: &mut Vec<Plane<'_>>, until: &[usize], made: usize)
     requires { length planes.old.items ≤ length until.now }
     ensures count { length planes.new.items ≡ length planes.old.items }
-    ensures kept { (g : ℕ) → IsNeeded until.now made g → slice_get planes.new.items g
-        ≡ slice_get planes.old.items g }
+    ensures kept { (g : ℕ) → IsNeeded until.now made g → slice_get planes.new.items g ≡ slice_get planes.old.items g }
     ensures each { (g : ℕ) → AreSameOrGone (slice_get planes.old.items g) (slice_get planes.new.items g) }
 {
     drop_planes(planes, until, made);
@@ -226,8 +222,7 @@ fn samples_of(alloc: Global, plane: Plane<'_>) -> Result<Samples, OutOfMemory>
 // The frame of values that are samples.
 fn output_frame(alloc: Global, size: FrameSize, plane: Plane<'_>) -> Result<Frame, OutOfMemory>
     requires { All (λ v. (pos 0 ≤ℤ v) × (v <ℤ pos 65536)) (values_of plane) }
-    ensures { IfOk result (λ f. f
-        ≡ record { width = size.width; height = size.height; samples = map unsigned_abs (values_of plane.entry) }) }
+    ensures { IfOk result (λ f. f ≡ record { width = size.width; height = size.height; samples = map unsigned_abs (values_of plane.entry) }) }
 {
     let samples = samples_of(alloc, plane)?;
     Ok(Frame {
@@ -255,8 +250,7 @@ fn frames_of_outputs(
 ) -> Result<Vec<Frame>, OutOfMemory>
     requires outputs { All (IsOutputPlane (size_of size) planes.old) outputs.now }
     requires distinct { IsDistinct outputs.now }
-    ensures { IfOk result (λ frames. frames.items ≡ map
-        (λ g. frame_of (size_of size) (picture_at (all_shown (size_of size) planes.old) g)) outputs.now) }
+    ensures { IfOk result (λ frames. frames.items ≡ map (λ g. frame_of (size_of size) (picture_at (all_shown (size_of size) planes.old) g)) outputs.now) }
 {
     let mut frames = Vec::new(alloc);
     for output in outputs {
@@ -270,8 +264,7 @@ fn frames_of_outputs(
 /// The pictures of the outputs in order, on one frame for each input in order, which has the size of the frame and samples in the range of the input's type. Memory is taken for the values of each image that an output needs, and given back once no later image reads it.
 pub fn evaluate(alloc: Global, ir: &Program, frames: &[Frame]) -> Result<Vec<Frame>, OutOfMemory>
     requires { AreFrames ir.now frames.now }
-    ensures { IfOk result (λ outs. outs.items
-        ≡ output_frames ir.now (pictures ir.now (round_of ir.now.size frames.now))) }
+    ensures { IfOk result (λ outs. outs.items ≡ output_frames ir.now (pictures ir.now (round_of ir.now.size frames.now))) }
 {
     ir.law();
     let until = needs(alloc, ir)?;

@@ -28,8 +28,7 @@ fn mark(e: &Expr, until: &mut [usize], behind: usize)
     requires few { behind < 2 ^ 62 }
     ensures reads { EachImage (IsNeeded until.new behind) (tree_of e.now) }
     ensures kept { (n g : ℕ) → IsNeeded until.old n g → IsNeeded until.new n g }
-    ensures others { (n : ℕ) → EachImage (λ g. g < n) (tree_of e.now) → (g : ℕ) → n ≤ g
-        → slice_get until.new g ≡ slice_get until.old g }
+    ensures others { (n : ℕ) → EachImage (λ g. g < n) (tree_of e.now) → (g : ℕ) → n ≤ g → slice_get until.new g ≡ slice_get until.old g }
 {
     match e {
         Expr::Constant(..) => {}
@@ -75,8 +74,7 @@ pub fn is_needed(until: &[usize], number: usize) -> bool
 fn mark_reads(inputs: usize, images: &[Definition], until: &mut [usize])
     requires long { length until.old ≡ inputs + length images.now }
     requires few { inputs + length images.now < 2 ^ 62 }
-    requires earlier { (k : ℕ) (e : Tree) → slice_get (map (λ d. tree_of d.body) images.now) k
-        ≡ Some e → EachImage (λ g. g < inputs + k) e }
+    requires earlier { (k : ℕ) (e : Tree) → slice_get (map (λ d. tree_of d.body) images.now) k ≡ Some e → EachImage (λ g. g < inputs + k) e }
     ensures kept { (n g : ℕ) → IsNeeded until.old n g → IsNeeded until.new n g }
     ensures closed { (k : ℕ) (e : Tree) → slice_get (map (λ d. tree_of d.body) images.now) k ≡ Some e → IsNeeded until.new (inputs + k + 1) (inputs + k)
         → EachImage (IsNeeded until.new (inputs + k)) e }

@@ -17,8 +17,7 @@ pub struct Point {
 
 // The coordinate that is `by` further, where it is below the limit.
 pub fn moved(at: u32, by: i32, limit: u32) -> Option<u32>
-    ensures { MatchOption result (IsFalse (is_below (pos at +ℤ by) limit))
-        (λ n. (pos n ≡ pos at +ℤ by) × (n < limit)) }
+    ensures { MatchOption result (IsFalse (is_below (pos at +ℤ by) limit)) (λ n. (pos n ≡ pos at +ℤ by) × (n < limit)) }
 {
     let there = i64::from(at) + i64::from(by);
     if there >= 0 && there < i64::from(limit) {

@@ -1,15 +1,14 @@
 // The values of an expression along a row of the frame.
 
-ghost use Rattle.std.specs.Prelude.{◌≡◌, ℕ, ℤ, map, ◌+◌, ◌*◌, ◌<◌, ◌≤◌, pos, ◌+ℤ◌, length, Some, slice_get, MatchOption};
+ghost use Rattle.std.specs.Prelude.{◌≡◌, ℕ, map, ◌+◌, ◌*◌, ◌<◌, ◌≤◌, pos, ◌+ℤ◌, length, Some, slice_get, MatchOption};
 ghost use Rattle.dk_base.specs.FrameSizes.{size_of};
 ghost use Rattle.pointwise_ir.specs.Trees.{tree_of, depth_of};
-ghost use Rattle.dk_base.specs.Frames.{area};
 ghost use Rattle.pointwise_ir.specs.Meaning.{value};
 ghost use Rattle.value_rows.specs.Rows.{entry, IsRow, IsNarrow};
 ghost use Rattle.pointwise_eval.specs.Planes.{values_of, shown, all_shown, IsByRows, HasRows};
 ghost use Rattle.pointwise_eval.specs.Steps.{LeadsNowhere, LeadsToRow, ReadsRow};
 ghost use Rattle.dk_base.specs.Types.{IsIn};
-ghost use Rattle.pointwise_eval.specs.Lanes.{FitsLane};
+ghost use Rattle.pointwise_eval.specs.Lanes.{FitsLane, IsReadable};
 
 use crate::plane::Plane;
 use crate::point::{brought, moved};
@@ -49,8 +48,7 @@ fn narrow(value: i128) -> i64
 fn elements_part<T: Element>(elements: &[T], start: usize, count: usize) -> &[T]
     requires { start + count ≤ length (map T.worth elements.now) }
     ensures whole { length (map T.worth result.now) ≡ count }
-    ensures values { (k : ℕ) → k < count → entry (map T.worth result.now) k
-        ≡ entry (map T.worth elements.now) (start + k) }
+    ensures values { (k : ℕ) → k < count → entry (map T.worth result.now) k ≡ entry (map T.worth elements.now) (start + k) }
 {
     elements.split_at(start).1.split_at(count).0
 }
@@ -64,10 +62,8 @@ fn read_elements<T: Element, L: Element>(
     y: u32,
     to: &mut [L],
 )
-    requires whole { length (map T.worth elements.now) ≡ area (size_of size) }
-    requires down { y < size.height }
+    requires read { IsReadable L.ty (size_of size) (map T.worth elements.now) y }
     requires row { length to.old ≡ size.width }
-    requires fits { (x z : ℤ) → IsIn L.ty (shown (size_of size) (map T.worth elements.now) x z) }
     ensures { ReadsRow (size_of size) edge (shown (size_of size) (map T.worth elements.now)) y by (map L.worth to.new) }
 {
     let width = size.width as usize;
@@ -84,11 +80,9 @@ fn read_plane<L: Element>(
     y: u32,
     to: &mut [L],
 )
-    requires whole { length (values_of plane.now) ≡ area (size_of size) }
+    requires read { IsReadable L.ty (size_of size) (values_of plane.now) y }
     requires rows { IsByRows plane.now }
-    requires down { y < size.height }
     requires row { length to.old ≡ size.width }
-    requires fits { (x z : ℤ) → IsIn L.ty (shown (size_of size) (values_of plane.now) x z) }
     ensures { ReadsRow (size_of size) edge (shown (size_of size) (values_of plane.now)) y by (map L.worth to.new) }
 {
     match plane {

@@ -75,17 +75,20 @@ returns-in-Some-row_at g t c =
 pub plane_of-requires : goal.plane_of-requires
 plane_of-requires g t c = (rw c.in-Read.is at c.requires.lane).rows
 
-pub read_plane-requires-clause-whole : goal.read_plane-requires-clause-whole
-read_plane-requires-clause-whole g t c = whole_at (size_of c.args.size) c.args.planes.now c.in-Read.image c.plane_of.result.now (rw c.in-Read.is at c.requires.lane).can.whole c.plane_of.ensures
-
 pub read_plane-requires-clause-rows : goal.read_plane-requires-clause-rows
 read_plane-requires-clause-rows g t c = rows_at c.args.planes.now c.in-Read.image c.plane_of.result.now (rw c.in-Read.is at c.requires.lane).rows c.plane_of.ensures
 
-pub read_plane-requires-clause-fits : goal.read_plane-requires-clause-fits
-read_plane-requires-clause-fits g t c x z =
+pub read_plane-requires-clause-read : goal.read_plane-requires-clause-read
+read_plane-requires-clause-read g t c =
     let size = size_of c.args.size in
-    let parts = (rw c.in-Read.is at c.requires.lane).parts in
-    subst (λ (p : Picture). IsIn g.L.Element.ty (p x z)) (entry_shown size c.args.planes.now c.in-Read.image c.plane_of.result.now c.plane_of.ensures) (parts.1 x z)
+    let plane = c.plane_of.result.now in
+    let lane = rw c.in-Read.is at c.requires.lane in
+    let row : LeadsToRow c.in-Read.edge (pos c.args.y +ℤ c.in-Read.dy) c.args.size.height c.in-Some.there = search rules in
+    record {
+      whole = whole_at size c.args.planes.now c.in-Read.image plane lane.can.whole c.plane_of.ensures;
+      down = row.below;
+      fits = λ x z. subst (λ (p : Picture). IsIn g.L.Element.ty (p x z)) (entry_shown size c.args.planes.now c.in-Read.image plane c.plane_of.ensures) (lane.parts.1 x z);
+    }
 
 pub unary_row-requires-clause-fits : goal.unary_row-requires-clause-fits
 unary_row-requires-clause-fits g t c k lt =
