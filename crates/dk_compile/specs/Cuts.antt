@@ -1,10 +1,8 @@
 -- Programs whose bodies are cut: what must stay, and what is measured.
-use Rattle.std.specs.Prelude.{◌≡◌, ◌⊎◌, ℕ, ◌<◌, ◌≤◌, max, ℤ, List, filter, length, map, slice_get, slice_index, Some}
-use Rattle.dk_base.specs.Frames.{Picture, picture_at}
-use Rattle.dk_types.specs.declared.typed.TypedInput.{TypedInput}
+use Rattle.std.specs.Prelude.{◌≡◌, ◌⊎◌, ℕ, ◌<◌, ◌≤◌, max, ℤ, List, filter, length, map, slice_get, slice_index}
+use Rattle.dk_base.specs.Frames.{Picture}
 use Rattle.dk_types.specs.Typed.{Typing, types_of}
-use Rattle.dk_types.specs.Meaning.{meaning}
-use Rattle.pointwise_ir.specs.Meaning.{IsPicture}
+pub use Rattle.same_phases.specs.Phases.{IsRound, output_picture}
 use Rattle.pointwise_ir.specs.declared.program.Definition.{Definition}
 use Rattle.pointwise_ir.specs.Programs.{Program, bodies_of}
 use Rattle.dk_inline.specs.Answers.{image_names, IsInlining}
@@ -13,15 +11,6 @@ use Rattle.body_levels.specs.Levels.{greatest_level}
 use Rattle.body_levels.specs.Deep.{is_deep, IsShallower}
 use Rattle.dk_compile.specs.declared.measures.Measures.{Measures}
 use Rattle.dk_compile.specs.declared.measures.DeepBody.{DeepBody}
-
--- one frame for each input in order: its picture
-pub record IsRound (p : Typing) (round : List Picture) : Type 0 where
-  pub one_each : length round ≡ length p.inputs
-  pub pictures : (k : ℕ) (input : TypedInput) → slice_get p.inputs k ≡ Some input → IsPicture p.size input.ty (picture_at round k)
-
--- the pictures of an output, counted from 0, on a round
-abbrev pub output_picture : Typing → List Picture → (k : ℕ) → Picture
-output_picture p round k = picture_at (meaning p round) (slice_index p.outputs k)
 
 -- The new program has the old one's size, its inputs and outputs with their names and types, and on each round the same picture of each output.
 pub record ShowSamePictures (old new : Typing) : Type 0 where
