@@ -343,8 +343,10 @@ done <explained
 # terminal STATUS COMMAND: runs this command of the shell under a terminal; it ends so, and what is shown is standard input
 terminal() {
     sed 's/$/\r/' >wanted
-    script -q -e -c "$2" /dev/null </dev/null >shown
+    script -q -e -c "$2" /dev/null </dev/null >typed
     got=$?
+    # (on a busy machine a call may be long enough to show how far it is)
+    sed 's/\r[^\r]*\x1b\[K//g' <typed >shown
     [ "$got" = "$1" ] && cmp -s shown wanted || wrong "under a terminal, $2: status $got, $(cat shown)"
 }
 

@@ -85,7 +85,6 @@ begin_to_watch() {
     case ${2-} in run | eval | sim | trace) ;; *) return ;; esac
     [ -t 2 ] && [ -r /proc/uptime ] || return 0
     shift
-    read -r since _ </proc/uptime
     (
         . "$top/tools/progress.sh"
         watch "$@"
@@ -93,13 +92,12 @@ begin_to_watch() {
     watcher=$!
 }
 
-# end_to_watch: ends that process, and clears its line if it may have written one
+# end_to_watch: ends that process, which clears its line if it has written one
 end_to_watch() {
     [ -n "$watcher" ] || return 0
     kill "$watcher" 2>/dev/null
     wait "$watcher" 2>/dev/null
-    read -r until _ </proc/uptime
-    [ $((${until%.*} - ${since%.*})) -lt 2 ] || printf '\r\033[K' >&2
+    return 0
 }
 
 # ask_to_explain: sets `said` to what `explain` prints of the program, if its text is a regular file. It has five seconds of processor time at most.

@@ -61,7 +61,7 @@ how_far() {
     printf '%s s' $((($(now) - begun) / 100))
 }
 
-# watch WORD..: after two seconds a line each half second. Whoever ends this process clears the line.
+# watch WORD..: after two seconds a line each half second. SIGTERM ends this process; it clears its line then, if it has written one.
 watch() {
     begun=$(now)
     # (the calls below are of this folder's text tools, which read bytes)
@@ -74,8 +74,11 @@ watch() {
         size=$(($(wc -c <"$images")))
         set_image
     fi
+    trap 'printf "\r\033[K" >&2; exit' TERM
     while kill -0 "$child" 2>/dev/null; do
         printf '\r%s: %s\033[K' "$called" "$(how_far)" >&2
-        sleep 0.5 2>/dev/null
+        # (a signal ends the wait, and would not end a sleep in front)
+        sleep 0.5 2>/dev/null &
+        wait "$!"
     done
 }
