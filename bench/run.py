@@ -3,13 +3,15 @@
 
 usage: python3 bench/run.py DK [WIDTH HEIGHT [NAME]] [--block N] [--enable] [--hold K] [--other DK] [--no-icarus] [--runs N]
 
-It takes the 3 by 3 Gaussian of the examples at 640 by 480 pixels, or another example of one input of 8 bits at another size.
+It takes the 3 by 3 Gaussian of the examples at 640 by 480 pixels, or another example at another size; pipelines/NAME is one of
+examples/pipelines. The pixels of all inputs are random.
 With --block or --enable the text is compiled so, and `sim` clocks it in place of `run`, with --hold K held clocks among the
 others. --other is a further program, as an earlier build. It prints the processor time of each, the least of seven runs in turn
 (Icarus runs once; compile times do not count), and the median of the ratios of the runs in turn, which a slow moment of the
 machine does not shift. It stops where two pictures differ. A tool that is not there is passed over.
 """
 import argparse
+import array
 import os
 import re
 import shutil
@@ -25,26 +27,28 @@ HARNESS = """
 #include <cstdio>
 #include <vector>
 int main() {
-    std::vector<unsigned char> in(%(pixels)d), out[%(outputs)d];
+    const long pixels = %(pixels)d;
+    std::vector<unsigned short> in(pixels * %(inputs)d);
+    std::vector<unsigned char> out[%(outputs)d];
     FILE *f = fopen("raster", "rb");
-    if (fread(in.data(), 1, in.size(), f) != in.size()) return 1;
+    if (fread(in.data(), 2, in.size(), f) != in.size()) return 1;
     fclose(f);
-    for (auto &bytes : out) bytes.reserve(2 * in.size());
+    for (auto &bytes : out) bytes.reserve(2 * pixels);
     Vm m;
-    auto clock = [&](bool rst, bool en, int din) {
+    // the inputs are those of a pixel, zeros for -1, and ones for -2
+    auto clock = [&](bool rst, bool en, long pixel) {
         m.clk = 0;
         m.rst = rst;
         %(enable)s;
-        m.din = din;
-        m.eval();
+%(dins)s        m.eval();
 %(shown)s        m.clk = 1;
         m.eval();
     };
-    clock(true, true, 0);
+    clock(true, true, -1);
     for (long k = 0, run = 0; k < %(clocks)dL; k++) {
-        clock(false, true, k < (long)in.size() ? in[k] : 0);
+        clock(false, true, k < pixels ? k : -1);
         if (++run == %(hold)d) {
-            clock(false, false, 255);
+            clock(false, false, -2);
             run = 0;
         }
     }
@@ -61,6 +65,30 @@ def shown(number, bits, pixels):
     size = 1 if bits <= 8 else 2
     high = f"out[{number}].push_back(m.dout{name} >> 8); " if size == 2 else ""
     return f"        if (m.valid{name} && out[{number}].size() < {size * pixels}) {{ {high}out[{number}].push_back(m.dout{name} & 255); }}\n"
+
+
+def taken(number, bits, inputs):
+    """The line of the harness that sets an input."""
+    name = str(number) if number else ""
+    return f"        m.din{name} = pixel >= 0 ? in[pixel * {inputs} + {number}] : pixel == -1 ? 0 : {(1 << bits) - 1};\n"
+
+
+def make_images(widths, width, height):
+    """Random images for inputs of these widths: g.pgm has them one after another, and raster the samples of each pixel in turn."""
+    pixels = width * height
+    planes = [array.array("H", os.urandom(2 * pixels)) for _ in widths]
+    planes = [array.array("H", (sample & (1 << bits) - 1 for sample in plane)) for bits, plane in zip(widths, planes)]
+    with open("raster", "wb") as file:
+        array.array("H", (sample for pixel in zip(*planes) for sample in pixel)).tofile(file)
+    with open("g.pgm", "wb") as file:
+        for bits, plane in zip(widths, planes):
+            file.write(b"P5\n%d %d\n%d\n" % (width, height, (1 << bits) - 1))
+            if bits > 8:
+                plane = array.array("H", plane)
+                plane.byteswap()
+                file.write(plane.tobytes())
+            else:
+                file.write(bytes(plane.tolist()))
 
 
 def rasters(file):
@@ -100,7 +128,9 @@ def verilate(clocks, pixels, hold, enable):
     text = open("g.v", encoding="utf-8").read()
     outputs = [int(bits or 0) + 1 for bits in re.findall(r"output (?:\[(\d+):0\] )?dout\d?", text)]
     lines = "".join(shown(k, bits, pixels) for k, bits in enumerate(outputs))
-    parts = {"pixels": pixels, "clocks": clocks, "outputs": len(outputs), "shown": lines, "hold": hold}
+    inputs = [int(bits or 0) + 1 for bits in re.findall(r"input (?:\[(\d+):0\] )?din\d?", text)]
+    dins = "".join(taken(k, bits, len(inputs)) for k, bits in enumerate(inputs))
+    parts = {"pixels": pixels, "clocks": clocks, "inputs": len(inputs), "dins": dins, "outputs": len(outputs), "shown": lines, "hold": hold}
     open("m.cpp", "w", encoding="utf-8").write(HARNESS % {**parts, "enable": "m.en = en" if enable else "(void)en"})
     name = re.search(r"module (\w+)", text)[1]
     words = ["verilator", "-O3", "--x-assign", "0", "--x-initial", "0", "--noassert", "-Wno-fatal", "--cc", "--exe", "--build"]
@@ -139,7 +169,9 @@ def main():
     dk = os.path.abspath(given.dk)
     width, height = map(int, given.size[:2] or (640, 480))
     example = given.size[2] if len(given.size) > 2 else "gaussian3"
-    text = open(f"{HERE}/../examples/programs/{example}.dk", encoding="utf-8").read()
+    folder = "examples" if "/" in example else "examples/programs"
+    text = open(f"{HERE}/../{folder}/{example}.dk", encoding="utf-8").read()
+    widths = [int(bits) for bits in re.findall(r"^input \w+ *: *u(\d+)", text, re.M)]
     pixels = width * height
     flags = ["--block", given.block] * bool(given.block) + ["--enable"] * given.enable
     held = ["--hold", str(given.hold)] * bool(given.hold)
@@ -147,9 +179,7 @@ def main():
     with tempfile.TemporaryDirectory() as room:
         os.chdir(room)
         open("g.dk", "w", encoding="utf-8").write(re.sub(r"^size .*", f"size {width} {height}", text, flags=re.M))
-        raster = os.urandom(pixels)
-        open("raster", "wb").write(raster)
-        open("g.pgm", "wb").write(b"P5\n%d %d\n255\n" % (width, height) + raster)
+        make_images(widths, width, height)
         subprocess.run([dk, "compile", *flags, "g.dk", "g.v"], check=True)
         plan = subprocess.run([dk, "plan", "g.dk"], check=True, capture_output=True, text=True).stdout
         clocks = int(re.search(r"^clocks (\d+)$", plan, re.M)[1])
@@ -167,7 +197,7 @@ def main():
             if open("verilated", "rb").read() != rasters(open("own.pgm", "rb").read()):
                 sys.exit("Verilator's picture is another one")
             print(told("Verilator -O3", own, others[-1]))
-        if shutil.which("iverilog") and pixels <= 640 * 480 and not flags and not given.no_icarus:
+        if shutil.which("iverilog") and pixels <= 640 * 480 and len(widths) == 1 and not flags and not given.no_icarus:
             icarus(clocks, min(own))
 
 
