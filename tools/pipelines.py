@@ -102,7 +102,8 @@ def rows(program, name, size):
 
 def table(heads, lines):
     """The lines of a table."""
-    return ["| " + " | ".join(map(str, line)) + " |" for line in [heads, ["---"] * len(heads), *lines]]
+    head, *rest = ("| " + " | ".join(map(str, line)) + " |" for line in [heads, *lines])
+    return [head, "|" + "---|" * len(heads), *rest]
 
 
 def main(words):
