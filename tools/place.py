@@ -12,9 +12,9 @@ With `--phases P` there is another table, with a line for each program and each 
 compiled with `--age 1 --block 32`, and how many pixels pass in a second at the least rate. A P of 1 is the program before `widen`. Its
 frames are 640 480 if there is no size, and the other options of columns have no effect.
 
-With `--pipelines` a NAME is a program of examples/pipelines, all by default, and the table has a line for each: the program that `PROGRAM narrow`
-and then `PROGRAM cut 1` write, compiled with `--age 1 --block 32`, how many pixels pass in a second at the least rate, and the buffer bits by the
-bits of a block memory. Its frames are 1920 1080 if there is no size, and the other options of columns have no effect.
+With `--pipelines` a NAME is a program of examples/pipelines, all by default, or a path, and the table has a line for each: the program that
+`PROGRAM narrow` and then `PROGRAM cut 1` write, compiled with `--age 1 --block 32`, how many pixels pass in a second at the least rate, and the
+buffer bits by the bits of a block memory. Its frames are 1920 1080 if there is no size, and the other options of columns have no effect.
 
 Each port of the module but the clock passes a register, so that the clock rate is that of the module only. A rate is the least and the
 greatest of N seeds, in MHz; without `--seeds` of three. A text that needs more cells than the device has is not placed. If its array bits
@@ -189,9 +189,8 @@ def bits_of(program, options, source, work):
 
 def tried(program, device, name, size, column, given, kept):
     """A cell of a table, and the buffer bits."""
-    path = name if name.endswith(".dk") else os.path.join(EXAMPLES, name + ".dk")
     with tempfile.TemporaryDirectory() as work:
-        with open(path) as file:
+        with open(name) as file:
             text = re.sub(r"(?m)^size \d+ \d+", f"size {size[0]} {size[1]}", file.read())
         with open(f"{work}/text.dk", "w") as file:
             file.write(text)
@@ -204,7 +203,7 @@ def tried(program, device, name, size, column, given, kept):
         with open(f"{work}/dk.v") as file:
             text = file.read()
         reason = crowded(text, device, int(column.options[column.options.index("--block") + 1]) if "--block" in column.options else 0)
-        what = f"{os.path.basename(name)} {size[0]} by {size[1]}, {column.title}"
+        what = f"{title_of(name)} {size[0]} by {size[1]}, {column.title}"
         texts = [text, given.device, str(given.seeds), section.version("yosys", "-V"), section.version(device["place"][0], "--version")]
         found = f"does not fit: {reason}" if reason else kept.result(texts, lambda: figures(text, device, what, given, work))
     print(f"place: {what}: {found}", file=sys.stderr, flush=True)
@@ -295,7 +294,7 @@ def main():
     program = os.path.abspath(given.program)
     folder = PIPELINES if given.pipelines else EXAMPLES
     names = given.names or sorted(name[:-3] for name in os.listdir(folder) if name.endswith(".dk"))
-    given.names = [os.path.join(folder, name + ".dk") if given.pipelines else os.path.abspath(name) if name.endswith(".dk") else name for name in names]
+    given.names = [os.path.abspath(name) if name.endswith(".dk") else os.path.join(folder, name + ".dk") for name in names]
     given.size = [tuple(size) for size in given.size or []]
     begun = time.time()
     lines = (pipeline_tables if given.pipelines else phase_tables if given.phases else tables)(program, given)
