@@ -7,7 +7,7 @@ program's outputs.
 usage: tests/pipelines.py PROGRAM       compares eval, run, and eval of the program after cut 1, in frames of 640 by 480
        tests/pipelines.py --write       writes the small input and output files of examples/pipelines
        tests/pipelines.py --compare     compares the references with OpenCV and scikit-image, and prints a table
-       tests/pipelines.py --pictures PROGRAM [FOLDER]   writes pictures of 320 by 240, into docs/gallery by default
+       tests/pipelines.py --pictures PROGRAM [FOLDER]   writes pictures of 320 by 240, and of stages, into docs/gallery by default
 The last line of the first is `N passed, M failed`. Without NumPy nothing is compared, and it says so.
 """
 import os
@@ -279,6 +279,8 @@ def pictures(program, folder):
                 show(folder, "isp", made, 1, True)
             else:
                 show(folder, name, seen[:1] + made, len(made) + 1)
+    import pipelines_stages
+    pipelines_stages.write(program, folder, file_of, sized, {pipeline.__name__: source for pipeline, source, _ in PIPELINES})
 
 
 def ran(program, work, name, source, given, size):

@@ -61,6 +61,7 @@ crates/cycle_sim/README.md
 crates/datapath/README.md
 crates/datapath_values/README.md
 docs/GALLERY.md
+docs/PIPELINES.md
 docs/PROVING.md
 crates/dk/README.md
 crates/dk_base/README.md

@@ -14,7 +14,7 @@ newline='
 '
 
 # The pages for users of the program.
-pages='CIRCUIT COMMANDS CUT EDITORS GALLERY HARDWARE LANGUAGE PGM PICTURES PROMISES REPORT VERILOG WIDEN'
+pages='CIRCUIT COMMANDS CUT EDITORS GALLERY HARDWARE LANGUAGE PGM PICTURES PIPELINES PROMISES REPORT VERILOG WIDEN'
 
 fail() {
     echo "install: $*" >&2
@@ -134,7 +134,7 @@ put_pages() {
     done
     put_all share/doc/dk/docs/gallery "$top"/docs/gallery/*
     put_all share/doc/dk/examples "$top"/examples/README.md "$top"/examples/bench.v
-    for folder in programs sim verilog; do
+    for folder in pipelines programs sim verilog; do
         put_all "share/doc/dk/examples/$folder" "$top/examples/$folder"/*
     done
     put_all share/doc/dk/tests/waves "$top"/tests/waves/*

@@ -1,14 +1,16 @@
 #!/usr/bin/env python3
 """Prints what the programs of examples/pipelines cost, and what three other ways to size their buffers would cost.
 
-usage: python3 tools/pipelines.py PROGRAM [NAME..]      NAME is a program of examples/pipelines; all by default
+usage: python3 tools/pipelines.py [--write] PROGRAM [NAME..]      NAME is a program of examples/pipelines; all by default
 
-Definitions, latency and bits are those of `plan`; after `cut 1` they are those of `plan --age 1`, as the text is compiled for speed. The other ways have the
-live reads and the widths of the same program:
+Each program is measured as written, after `narrow`, and after `narrow` and `cut 1`. Definitions, latency and bits are those of `plan`; after `cut 1` they
+are those of `plan --age 1`, as the text is compiled for speed. The other ways have the live reads and the widths of the same program:
 - earliest: each stage begins as soon as all pixels of its stencil are there, and an image has one buffer for all its readers;
 - earliest, each edge: the same schedule, and each reader has a buffer of its own for each image that it reads;
 - least, each edge: the schedule of `plan`, and each reader has buffers of its own.
 In each of them a buffer has the width of its image and the greatest age of its reads, as in docs/REPORT.md.
+
+`--write` puts the table of each program at 1920 by 1080 in docs/PIPELINES.md, in the section `costs NAME`. Without it the tables have 640 by 480 too.
 """
 import glob
 import os
@@ -21,9 +23,11 @@ TOP = os.path.join(os.path.dirname(os.path.abspath(__file__)), "..")
 sys.dont_write_bytecode = True
 sys.path.append(os.path.join(TOP, "tools"))
 import plan as plans  # noqa: E402
+import section  # noqa: E402
 
 FOLDER = os.path.join(TOP, "examples", "pipelines")
-SIZES = ((640, 480), (1920, 1080))
+SMALL, LARGE = (640, 480), (1920, 1080)
+WAYS = ["Definitions", "Levels", "Latency", "Least bits", "Earliest, each edge", "Earliest, shared", "Least delays, each edge"]
 
 
 def run(program, *words):
@@ -74,34 +78,47 @@ class Costs:
         if self.shared_bits(self.delays) != self.report.bits:
             sys.exit(f"pipelines: the reads of {name} do not have the bits of the plan")
         early = self.earliest()
-        counts = [self.edge_bits(early), self.shared_bits(early), self.edge_bits(self.delays), self.report.bits]
-        size = f"{self.report.width} by {self.report.height}"
-        shares = [f"{count:,} ({count / self.report.bits:.2f})" for count in counts[:3]]
-        return [name, size, self.definitions, levels, f"{max(self.report.latencies):,}", f"{counts[3]:,}", *shares]
+        counts = [self.edge_bits(early), self.shared_bits(early), self.edge_bits(self.delays)]
+        shares = [f"{count:,} ({count / self.report.bits:.2f})" for count in counts]
+        return [self.definitions, levels, f"{max(self.report.latencies):,}", f"{self.report.bits:,}", *shares]
 
 
-def main(program, names):
-    names = names or sorted(os.path.basename(path)[:-3] for path in glob.glob(os.path.join(FOLDER, "*.dk")))
-    print("| Program | Frame | Definitions | Levels | Latency | Least bits | Earliest, each edge | Earliest, shared | Least delays, each edge |")
-    print("|---|---|---|---|---|---|---|---|---|")
+def rows(program, name, size):
+    """What is done with a program, and its costs."""
     with tempfile.TemporaryDirectory() as work:
-        whole, cut = os.path.join(work, "whole.dk"), os.path.join(work, "cut.dk")
-        for name in names:
-            with open(os.path.join(FOLDER, name + ".dk"), encoding="ascii") as file:
-                text = file.read()
-            for width, height in SIZES:
-                with open(whole, "w", encoding="ascii") as file:
-                    file.write(re.sub(r"(?m)^size .*$", f"size {width} {height}", text))
-                # the levels of a program are those that `cut 64` reports of it, unless some body has more
-                levels = run(program, "cut", "64", whole, cut).split()[4]
-                rows = [Costs(program, whole, 0).row(name, levels)]
-                levels = run(program, "cut", "1", whole, cut).split()[4]
-                rows.append(Costs(program, cut, 1).row(name + ", cut 1, age 1", levels))
-                for row in rows:
-                    print("| " + " | ".join(map(str, row)) + " |", flush=True)
+        whole, narrow, cut = (os.path.join(work, text) for text in ("whole.dk", "narrow.dk", "cut.dk"))
+        with open(os.path.join(FOLDER, name + ".dk"), encoding="ascii") as file:
+            text = file.read()
+        with open(whole, "w", encoding="ascii") as file:
+            file.write(re.sub(r"(?m)^size .*$", f"size {size[0]} {size[1]}", text))
+        run(program, "narrow", whole, narrow)
+        for title, path in ("as written", whole), ("`narrow`", narrow):
+            # the levels of a program are those that `cut 64` reports of it, unless some body has more
+            levels = run(program, "cut", "64", path, cut).split()[4]
+            yield [title, *Costs(program, path, 0).row(name, levels)]
+        levels = run(program, "cut", "1", narrow, cut).split()[4]
+        yield ["`narrow`, `cut 1`, age 1", *Costs(program, cut, 1).row(name, levels)]
+
+
+def table(heads, lines):
+    """The lines of a table."""
+    head, *rest = ("| " + " | ".join(map(str, line)) + " |" for line in [heads, *lines])
+    return [head, "|" + "---|" * len(heads), *rest]
+
+
+def main(words):
+    writes = "--write" in words
+    program, *names = [word for word in words if word != "--write"]
+    program = os.path.abspath(program)
+    for name in names or sorted(os.path.basename(path)[:-3] for path in glob.glob(os.path.join(FOLDER, "*.dk"))):
+        if writes:
+            section.write(section.PIPELINES, f"costs {name}", table([f"{LARGE[0]} by {LARGE[1]}", *WAYS], rows(program, name, LARGE)))
+        else:
+            for size in SMALL, LARGE:
+                print("\n".join(table([f"{name}, {size[0]} by {size[1]}", *WAYS], rows(program, name, size))) + "\n", flush=True)
 
 
 if __name__ == "__main__":
-    if len(sys.argv) < 2:
+    if not [word for word in sys.argv[1:] if word != "--write"]:
         sys.exit(__doc__)
-    main(os.path.abspath(sys.argv[1]), sys.argv[2:])
+    main(sys.argv[1:])

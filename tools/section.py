@@ -8,7 +8,8 @@ import re
 import subprocess
 import threading
 
-GALLERY = os.path.join(os.path.dirname(os.path.abspath(__file__)), "..", "docs", "GALLERY.md")
+DOCS = os.path.join(os.path.dirname(os.path.abspath(__file__)), "..", "docs")
+GALLERY, PIPELINES = os.path.join(DOCS, "GALLERY.md"), os.path.join(DOCS, "PIPELINES.md")
 
 
 def today():
