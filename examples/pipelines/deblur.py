@@ -22,9 +22,10 @@ print("""-- Deblurring: eight steps of Landweber's method against a blur of 5 by
 size 64 48
 input seen : u8
 
--- 1 in the frame and 0 outside, as each unclamped read.
+-- 1 in the frame and 0 outside, as each unclamped read. known is 1 if the whole kernel is inside.
+-- It is inline, so no mask waits in line buffers.
 inline let inside = im(x,y) 1 end
-let known = im(x,y) inside(x-2,y-2) & inside(x+2,y+2) end
+inline let known = im(x,y) inside(x-2,y-2) & inside(x+2,y+2) end
 
 inline let sharp0 = im(x,y) 4*seen(x,y) end""")
 for step in range(1, STEPS + 1):
